@@ -1,0 +1,28 @@
+-- Where a token stands: its line from the newlines before it, its column in bytes from the newline before it.
+use Rattle.std.specs.Prelude.{ℕ, ◌+◌, List, [], ◌∷◌, count_by, ◌==◌, Bool, if◌then◌else◌}
+use Rattle.bz_token.specs.declared.token.Kind.{Kind}
+use Rattle.bz_token.specs.declared.token.Token.{Token}
+
+-- the line behind these bytes
+abbrev pub line_at : ℕ → List ℕ → ℕ
+line_at first before = first + count_by (λ b. b == 10) before
+
+abbrev pub column_from : ℕ → List ℕ → ℕ
+column_from column [] = column
+column_from column (b ∷ bs) = column_from (if b == 10 then 1 else column + 1) bs
+
+-- the column behind these bytes
+abbrev pub column_at : List ℕ → ℕ
+column_at before = column_from 1 before
+
+-- a token with its place, and whether no token begins before it on its line
+pub record Placed : Type 0 where
+  pub kind : Kind
+  pub text : List ℕ
+  pub line : ℕ
+  pub col : ℕ
+  pub fresh : Bool
+
+-- the value of a token
+abbrev pub placed : Token → Placed
+placed t = record { kind = t.kind; text = t.text.now; line = t.line; col = t.col; fresh = t.fresh }

@@ -1,0 +1,46 @@
+//! Why a text has no tokens.
+
+ghost use Rattle.std.specs.Prelude.{◌≡◌};
+
+use std::alloc::{AllocError, AllocFailed};
+
+/// The first fault of a text from left to right, or want of memory. Lines count from the text's first line, columns
+/// in bytes from 1.
+#[derive(Clone, Copy, Debug, PartialEq, Eq)]
+pub enum LexFault {
+    OutOfMemory,
+    /// No token begins with the character here.
+    BadCharacter { line: u64, col: u64 },
+    /// Letters and digits that are no number begin here.
+    BadNumber { line: u64, col: u64 },
+    /// The string that begins here has no end.
+    OpenText { line: u64, col: u64 },
+    /// A closing bracket that does not match the innermost open one, or with none open.
+    BadBracket { line: u64, col: u64 },
+    /// The innermost bracket that is open at the end of the text.
+    OpenBracket { line: u64, col: u64 },
+    /// An opening bracket beyond the greatest depth.
+    TooDeep { line: u64, col: u64 },
+    /// A backslash that continues no line.
+    BadBackslash { line: u64, col: u64 },
+}
+
+impl From<AllocError> for LexFault {
+    ghost use Rattle.bz_token.specs.declared.fault.LexFault.TheVariants.{OutOfMemory};
+
+    ghost from_gives = { λ _ e. e ≡ OutOfMemory };
+
+    fn from(_: AllocError) -> LexFault {
+        LexFault::OutOfMemory
+    }
+}
+
+impl<T: Drop> From<AllocFailed<T>> for LexFault {
+    ghost use Rattle.bz_token.specs.declared.fault.LexFault.TheVariants.{OutOfMemory};
+
+    ghost from_gives = { λ _ e. e ≡ OutOfMemory };
+
+    fn from(_: AllocFailed<T>) -> LexFault {
+        LexFault::OutOfMemory
+    }
+}

@@ -1,0 +1,36 @@
+//! Tokens and their kinds.
+
+/// What a token is.
+#[derive(Clone, Copy, Debug, PartialEq, Eq)]
+pub enum Kind {
+    /// An identifier, as `name` or `True`.
+    Ident,
+    /// A keyword, as `for`.
+    Word,
+    /// An integer literal.
+    Int,
+    /// A string literal, with its prefix and quotes.
+    Text,
+    /// An operator or a bracket.
+    Sign,
+    /// A newline outside brackets.
+    Line,
+    /// A comment, from its `#`, without trailing white space.
+    Note,
+    /// A block that is kept as it was written. No tokenizer gives it.
+    Kept,
+}
+
+/// A token of a text, with its place.
+#[derive(Clone, Copy, Debug, PartialEq, Eq)]
+pub struct Token<'a> {
+    pub kind: Kind,
+    /// The slice of the text that the token is.
+    pub text: &'a str,
+    /// The line of its first byte. Lines count from the text's first line.
+    pub line: u64,
+    /// The column of its first byte, in bytes from 1.
+    pub col: u64,
+    /// No token begins before it on its line.
+    pub fresh: bool,
+}

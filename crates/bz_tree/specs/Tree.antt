@@ -1,0 +1,75 @@
+-- What a statement is: tokens and bracket groups, split at commas, with their comments.
+use Rattle.std.specs.Prelude.{ℕ, List, [], ◌∷◌, Bool, false, Option}
+use Rattle.bz_token.specs.declared.token.Kind.{Kind}
+use Rattle.bz_tree.specs.declared.stmt.GroupKind.{GroupKind}
+use Rattle.bz_tree.specs.declared.stmt.Class.{Class}
+
+-- where a token stands
+pub record Place : Type 0 where
+  pub line : ℕ
+  pub col : ℕ
+  pub fresh : Bool
+
+mutual
+  pub data Item : Type 0 where
+    leaf : Kind → List ℕ → Place → Item
+    -- its kind, its segments, whether it is `(x,)`, its end comments
+    group : GroupKind → Segs → Bool → List (List ℕ) → Item
+
+  pub data Items : Type 0 where
+    no_items : Items
+    item : Item → Items → Items
+
+  pub data Segs : Type 0 where
+    no_segs : Segs
+    seg : List (List ℕ) → Items → Option (List ℕ) → Segs → Segs
+
+-- a segment with its comments
+pub record Segment : Type 0 where
+  pub before : List (List ℕ)
+  pub nodes : List Item
+  pub suffix : Option (List ℕ)
+
+-- a statement, with the lines on which it begins and ends
+pub record Statement : Type 0 where
+  pub before : List (List ℕ)
+  pub nodes : List Item
+  pub suffix : Option (List ℕ)
+  pub class : Class
+  pub start : ℕ
+  pub end : ℕ
+
+-- the same as lists, there and back
+abbrev pub items_of : List Item → Items
+items_of [] = no_items
+items_of (x ∷ xs) = item x (items_of xs)
+
+abbrev pub list_of : Items → List Item
+list_of no_items = []
+list_of (item x xs) = x ∷ list_of xs
+
+abbrev pub segs_of : List Segment → Segs
+segs_of [] = no_segs
+segs_of (s ∷ ss) = seg s.before (items_of s.nodes) s.suffix (segs_of ss)
+
+abbrev pub segments : Segs → List Segment
+segments no_segs = []
+segments (seg before nodes suffix ss) = record { before = before; nodes = list_of nodes; suffix = suffix } ∷ segments ss
+
+-- nowhere: the place that is left when places are forgotten
+abbrev pub nowhere : Place
+nowhere = record { line = 0; col = 0; fresh = false }
+
+-- the same without places: two statements are equal if these are
+abbrev mutual
+  pub bare : Item → Item
+  bare (leaf kind text place) = leaf kind text nowhere
+  bare (group kind segs one_comma end) = group kind (bare_segs segs) one_comma end
+
+  pub bare_items : Items → Items
+  bare_items no_items = no_items
+  bare_items (item x xs) = item (bare x) (bare_items xs)
+
+  pub bare_segs : Segs → Segs
+  bare_segs no_segs = no_segs
+  bare_segs (seg before nodes suffix ss) = seg before (bare_items nodes) suffix (bare_segs ss)

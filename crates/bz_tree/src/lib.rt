@@ -1,0 +1,6 @@
+//! The statement of a chunk: its bracket tree and the owners of its comments.
+#![tactic(auto)]
+
+mod stmt;
+
+pub use stmt::{Class, Group, GroupKind, Leaf, Node, Seg, Stmt};
