@@ -1,0 +1,6 @@
+pub mod Commands
+pub mod Flags
+pub mod Groups
+pub mod Labels
+pub mod Results
+pub mod Words
