@@ -1,0 +1,4 @@
+pub mod Values
+pub mod Same
+pub mod Effects
+pub mod Layout
