@@ -1,2 +1,3 @@
+mod Examples
 pub mod GroupSteps
 pub mod WordSteps

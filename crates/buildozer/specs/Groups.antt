@@ -1,6 +1,7 @@
 -- What a list of words asks for: its commands, for each of its targets (this project's rule).
 use Rattle.std.specs.Prelude.{ℕ, ◌+◌, List, [], ◌∷◌, map, Option, None, Some, Result, Ok, Err}
 use Rattle.std.specs.List.{filter_map}
+use Rattle.bz_engine.specs.Passes.{Pass}
 use Rattle.buildozer.specs.Commands.{command_of}
 use Rattle.buildozer.specs.Labels.{label_of}
 use Rattle.buildozer.specs.declared.command.CommandFault.{CommandFault}
@@ -8,21 +9,12 @@ use Rattle.buildozer.specs.declared.label.LabelFault.{LabelFault}
 use Rattle.buildozer.specs.declared.script.Command.{Command}
 use Rattle.buildozer.specs.declared.script.Package.{Package}
 use Rattle.buildozer.specs.declared.script.Target.{Target}
-use Rattle.buildozer.specs.declared.script.Pass.{Pass}
 use Rattle.buildozer.specs.declared.usage.UsageFault.{UsageFault}
 use Rattle.buildozer.specs.declared.usage.UsageFault.TheVariants as fault
 
--- a pass, and the package that it is for
-pub record AskedPass : Type 0 where
-  pub place : Package
-  pub target : Target
-  pub commands : List Command
-
-abbrev pub asked : Package × Pass → AskedPass
-asked (place, pass) = record { place = place; target = pass.target; commands = pass.commands.items }
-
-abbrev pub pass_for : List Command → Package × Target → AskedPass
-pass_for commands (place, target) = record { place = place; target = target; commands = commands }
+-- a pass for one label, with all the commands, and the package that it is for
+abbrev pub pass_for : List Command → Package × Target → Package × Pass Target Command
+pass_for commands (place, target) = (place, record { target = target; commands = commands })
 
 -- a word is a command where its first word is a command's name, and a label otherwise
 abbrev pub label_where : ℕ → Result (Option Command) CommandFault → Result (Package × Target) LabelFault → Result (Option (Package × Target)) UsageFault
@@ -54,11 +46,11 @@ abbrev pub commands_of : List (List ℕ) → List Command
 commands_of words = filter_map (λ word. if_command (command_of word)) words
 
 -- for each target in order one pass with all commands; faults of words come first, then a missing command, then a missing target
-abbrev pub script_from : List Command → Result (List (Package × Target)) UsageFault → Result (List AskedPass) UsageFault
+abbrev pub script_from : List Command → Result (List (Package × Target)) UsageFault → Result (List (Package × Pass Target Command)) UsageFault
 script_from commands (Err why) = Err why
 script_from [] (Ok labels) = Err (fault.NoCommand 0)
 script_from (command ∷ commands) (Ok []) = Err (fault.NoTarget 0)
 script_from (command ∷ commands) (Ok (label ∷ labels)) = Ok (map (pass_for (command ∷ commands)) (label ∷ labels))
 
-abbrev pub script_of : List (List ℕ) → Result (List AskedPass) UsageFault
+abbrev pub script_of : List (List ℕ) → Result (List (Package × Pass Target Command)) UsageFault
 script_of words = script_from (commands_of words) (labels_of 1 words)

@@ -1,6 +1,10 @@
 pub mod Commands
+pub mod Effects
 pub mod Flags
 pub mod Groups
 pub mod Labels
+pub mod Layout
 pub mod Results
+pub mod Same
+pub mod Values
 pub mod Words

@@ -97,7 +97,7 @@ fn passes_for(
     words: &[String],
     labels: Vec<(Package, Target)>,
 ) -> Result<Script, AllocError>
-    ensures { IfOk result (λ script. map spec.asked script.items
+    ensures { IfOk result (λ script. script.items
         ≡ map (spec.pass_for (spec.commands_of (map string_bytes words.now))) labels.items) }
 {
     let mut script = Vec::new(alloc);
@@ -114,7 +114,7 @@ fn passes_for(
 /// left to right, then a missing command, then a missing target.
 pub fn read_script(alloc: Global, words: &[String]) -> Result<Script, UsageFault>
     ensures { result ≢ Err UsageFault.OutOfMemory
-        → map_ok (λ script. map spec.asked script.items) result ≡ spec.script_of (map string_bytes words.now) }
+        → map_ok (λ script. script.items) result ≡ spec.script_of (map string_bytes words.now) }
 {
     let labels = read_labels(alloc, words)?;
     let commands = read_commands(alloc, words).map_err(|_| UsageFault::OutOfMemory)?;

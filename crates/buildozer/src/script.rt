@@ -1,6 +1,7 @@
 //! What a run is asked to do: commands on the statements that a target marks.
 
 use crate::list::{Seq, Text};
+use std::marker::Model;
 
 /// The place of a BUILD file. So far it is standard input and output alone.
 #[derive(Clone, Copy, Debug, PartialEq, Eq)]
@@ -27,4 +28,14 @@ pub enum Command {
 pub struct Pass {
     pub target: Target,
     pub commands: Vec<Command>,
+}
+
+impl Model for Pass {
+    ghost use Rattle.bz_engine.specs.Passes as spec;
+    ghost use Rattle.buildozer.specs.declared.script.Target.{Target};
+    ghost use Rattle.buildozer.specs.declared.script.Command.{Command};
+
+    ghost Value = { spec.Pass Target Command };
+
+    ghost view = { λ p. record { target = p.target; commands = p.commands.items } };
 }

@@ -35,3 +35,12 @@ pub enum UsageFault {
         fault: LabelFault,
     },
 }
+
+/// Why a run does not begin.
+#[derive(Debug, Drop, Error)]
+pub enum StartFault {
+    #[error("an argument is not UTF-8")]
+    NotUtf8,
+    #[error(transparent)]
+    Usage(#[from] UsageFault),
+}

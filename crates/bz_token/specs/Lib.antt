@@ -1,1 +1,6 @@
 pub mod Places
+pub mod Groups
+pub mod Munch
+pub mod Pieces
+pub mod Chunks
+pub mod CutSteps

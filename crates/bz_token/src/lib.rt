@@ -1,8 +1,10 @@
 //! The lowest layer: the tokens of a BUILD file with their places.
 #![tactic(auto)]
 
+mod cutter;
 mod fault;
 mod token;
 
+pub use cutter::{Cut, Cutter};
 pub use fault::LexFault;
 pub use token::{Kind, Token};

@@ -1,0 +1,124 @@
+//! A run from standard input to standard output, with what it tells.
+
+ghost use Rattle.std.specs.Prelude.{◌≡◌, map, IfOk};
+
+use crate::flags::Flags;
+use crate::group::Script;
+use crate::list::Text;
+use crate::report::Report;
+use crate::run::{Options, RunFault, run};
+use crate::script::{Package, Pass};
+use bz_engine::{FromRead, ToWrite};
+use std::alloc::{AllocError, Global};
+use std::io::{self, Read, Write};
+
+/// The most bytes of a statement.
+const MAX_STATEMENT: u64 = 16_777_216;
+
+/// The most brackets that stand in one another.
+const MAX_DEPTH: u8 = 100;
+
+/// The most reads of an input.
+const MAX_READS: u64 = 4_294_967_296;
+
+/// The exit status of a run that failed.
+const FAILED: u8 = 2;
+
+/// How standard input is called in messages.
+const STANDARD: &str = "-";
+
+/// The passes of a script. So far all are for standard input.
+fn passes_of(alloc: Global, script: Script) -> Result<Vec<Pass>, AllocError>
+    ensures { IfOk result (λ passes. passes.items ≡ map (λ asked. asked.1) script.items) }
+{
+    let mut passes = Vec::new(alloc);
+    for (_, pass) in script {
+        passes.push(pass)?;
+    }
+    Ok(passes)
+}
+
+/// Makes the script's passes from the input to the output.
+fn run_script<I: Read, O: Write>(
+    alloc: Global,
+    flags: Flags,
+    script: Script,
+    input: &mut I,
+    out: &mut O,
+) -> Result<Report, RunFault> {
+    let passes = passes_of(alloc, script).map_err(|_| RunFault::OutOfMemory)?;
+    let options = Options {
+        keep_going: flags.k,
+        max_statement: MAX_STATEMENT,
+        max_depth: MAX_DEPTH,
+        max_reads: MAX_READS,
+    };
+    let mut source = FromRead::new(&mut *input);
+    let mut sink = ToWrite::new(&mut *out);
+    run(
+        alloc,
+        Package::Standard,
+        passes,
+        options,
+        &mut source,
+        &mut sink,
+    )
+}
+
+fn fault_text(fault: RunFault) -> &'static str {
+    match fault {
+        RunFault::OutOfMemory => "out of memory",
+        RunFault::ReadFailed => "read failed",
+        RunFault::WriteFailed => "write failed",
+        RunFault::InputTooLong => "input too long",
+    }
+}
+
+/// Writes each printed line, with a newline behind it.
+fn write_lines<W: Write>(out: &mut W, lines: &[Text]) -> io::Result<()> {
+    for line in lines {
+        writeln!(out, "{}", line.as_str())?;
+    }
+    Ok(())
+}
+
+/// Writes each message, behind the file that it is of.
+fn write_messages<W: Write>(err: &mut W, messages: &[Text]) -> io::Result<()> {
+    for message in messages {
+        writeln!(err, "{STANDARD}: {}", message.as_str())?;
+    }
+    Ok(())
+}
+
+/// Writes what a run tells, and gives the exit status.
+fn tell<O: Write, E: Write>(report: &Report, out: &mut O, err: &mut E) -> u8 {
+    let written = write_lines(out, report.lines.as_slice());
+    let _ = write_messages(err, report.messages.as_slice());
+    match written {
+        Ok(()) => report.status(),
+        Err(_) => {
+            let _ = writeln!(err, "{STANDARD}: {}", fault_text(RunFault::WriteFailed));
+            FAILED
+        }
+    }
+}
+
+/// Runs the script from the input to the output. Printed lines follow the text, and messages go to `err`.
+///
+/// The answer is the exit status.
+pub fn edit<I: Read, O: Write, E: Write>(
+    alloc: Global,
+    flags: Flags,
+    script: Script,
+    input: &mut I,
+    out: &mut O,
+    err: &mut E,
+) -> u8 {
+    match run_script(alloc, flags, script, &mut *input, &mut *out) {
+        Ok(report) => tell(&report, out, err),
+        Err(fault) => {
+            let _ = writeln!(err, "{STANDARD}: {}", fault_text(fault));
+            FAILED
+        }
+    }
+}

@@ -1,0 +1,36 @@
+-- Devices: what a source gave and what a sink took. One piece stands for one read; an empty one is the end of the input.
+use Rattle.std.specs.Prelude.{◌≡◌, ℕ, ◌<◌, ◌≤◌, ◌-◌, ◌^◌, Bool, true, false, IsTrue, List, [], ◌∷◌, ◌++◌, Option, None, Some, ⊤}
+use Rattle.std.specs.Prelude.{length}
+use Rattle.std.specs.List.{flat_map}
+
+-- the bytes of these reads, in order
+abbrev pub joined : List (List ℕ) → List ℕ
+joined pieces = flat_map (λ piece. piece) pieces
+
+-- whether the last of these reads gave no byte, and so met the end of the input
+abbrev pub ends : List (List ℕ) → Bool
+ends [] = false
+ends ([] ∷ []) = true
+ends ((x ∷ xs) ∷ []) = false
+ends (piece ∷ (next ∷ pieces)) = ends (next ∷ pieces)
+
+-- none of these reads met the end of the input
+abbrev pub NoneEnds : List (List ℕ) → Type 0
+NoneEnds [] = ⊤
+NoneEnds (piece ∷ pieces) = (0 < length piece) × NoneEnds pieces
+
+-- a count of failures rose, or stood at its greatest value
+pub record Rises (old new : ℕ) : Type 0 where
+  pub grows : old ≤ new
+  pub rose : old < 2 ^ 64 - 1 → old < new
+
+-- a reader or writer, and how often it failed
+pub record Counted (D : Type 0) : Type 0 where
+  pub device : D
+  pub failures : ℕ
+
+-- a reader gave these pieces: the known bytes begin with them, lose them, and are at their end where the reads are
+abbrev pub Gave : Option (List ℕ) → Option (List ℕ) → List (List ℕ) → Type 0
+Gave None new pieces = ⊤
+Gave (Some xs) None pieces = ⊥
+Gave (Some xs) (Some ys) pieces = (xs ≡ joined pieces ++ ys) × (IsTrue (ends pieces) → ys ≡ [])

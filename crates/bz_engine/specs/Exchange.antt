@@ -1,0 +1,81 @@
+-- A script slot by slot: each slot by itself under the whole script, what is kept of the slots so far, and the log told of it at the end.
+use Rattle.std.specs.Prelude.{length, ◌≡◌, Bool, false, ◌||◌, List, [], ◌∷◌, ◌++◌, map}
+use Rattle.std.specs.List.{flat_map, list_any}
+use Rattle.bz_engine.specs.Passes.{Slot, Meaning, Pass, Marked, marked, executed, entries, slots_after_pass, missing, slots_after, log_of}
+
+-- What is kept of the slots so far: for each pass whether something was marked, and for each of its commands the log.
+pub record Kept (M : Type 0) : Type 0 where
+  pub found : Bool
+  pub logs : List (List M)
+
+-- the log of each command of a pass
+abbrev pub logs_of : {S T C M : Type 0} → Meaning S T C M → List C → List (Marked S) → List (List M)
+logs_of m [] xs = []
+logs_of m (c ∷ cs) xs = flat_map (entries m c) xs ∷ logs_of m cs (map (executed m c) xs)
+
+abbrev pub kept_of : {S T C M : Type 0} → Meaning S T C M → List (Pass T C) → List (Slot S) → List (Kept M)
+kept_of m [] slots = []
+kept_of m (p ∷ ps) slots =
+    record { found = list_any (m.marks p.target) slots; logs = logs_of m p.commands (map (marked m p.target) slots) }
+    ∷ kept_of m ps (slots_after_pass m p slots)
+
+-- the log that is told at the end: by pass, in a pass first what was not found, then by command
+abbrev pub told : {S T C M : Type 0} → Meaning S T C M → List (Pass T C) → List (Kept M) → List M
+told m [] ks = []
+told m (p ∷ ps) [] = []
+told m (p ∷ ps) (k ∷ ks) = missing m p.target k.found ++ flat_map (λ log. log) k.logs ++ told m ps ks
+
+-- what is kept of no slot
+abbrev pub no_slot : {T C M : Type 0} → Pass T C → Kept M
+no_slot p = record { found = false; logs = map (λ command. []) p.commands }
+
+-- one slot by itself under the whole script
+abbrev pub slot_after_commands : {S T C M : Type 0} → Meaning S T C M → List C → Marked S → Marked S
+slot_after_commands m [] x = x
+slot_after_commands m (c ∷ cs) x = slot_after_commands m cs (executed m c x)
+
+abbrev pub slot_after_pass : {S T C M : Type 0} → Meaning S T C M → Pass T C → Slot S → Slot S
+slot_after_pass m p slot = (slot_after_commands m p.commands (marked m p.target slot)).slot
+
+abbrev pub slot_after : {S T C M : Type 0} → Meaning S T C M → List (Pass T C) → Slot S → Slot S
+slot_after m [] slot = slot
+slot_after m (p ∷ ps) slot = slot_after m ps (slot_after_pass m p slot)
+
+-- and what it says there
+abbrev pub logs_alone : {S T C M : Type 0} → Meaning S T C M → List C → Marked S → List (List M)
+logs_alone m [] x = []
+logs_alone m (c ∷ cs) x = entries m c x ∷ logs_alone m cs (executed m c x)
+
+abbrev pub pass_alone : {S T C M : Type 0} → Meaning S T C M → Pass T C → Slot S → Kept M
+pass_alone m p slot = record { found = m.marks p.target slot; logs = logs_alone m p.commands (marked m p.target slot) }
+
+abbrev pub kept_alone : {S T C M : Type 0} → Meaning S T C M → List (Pass T C) → Slot S → List (Kept M)
+kept_alone m [] slot = []
+kept_alone m (p ∷ ps) slot = pass_alone m p slot ∷ kept_alone m ps (slot_after_pass m p slot)
+
+-- what is kept of some slots, and then of more behind them
+abbrev pub logs_and : {M : Type 0} → List (List M) → List (List M) → List (List M)
+logs_and [] ys = []
+logs_and (x ∷ xs) [] = []
+logs_and (x ∷ xs) (y ∷ ys) = (x ++ y) ∷ logs_and xs ys
+
+abbrev pub pass_and : {M : Type 0} → Kept M → Kept M → Kept M
+pass_and x y = record { found = x.found || y.found; logs = logs_and x.logs y.logs }
+
+abbrev pub kept_and : {M : Type 0} → List (Kept M) → List (Kept M) → List (Kept M)
+kept_and [] ys = []
+kept_and (x ∷ xs) [] = []
+kept_and (x ∷ xs) (y ∷ ys) = pass_and x y ∷ kept_and xs ys
+
+-- there is a place for each pass and each command
+abbrev pub Fits : {T C M : Type 0} → List (Kept M) → List (Pass T C) → Type 0
+Fits [] [] = Unit {0}
+Fits [] (p ∷ ps) = ⊥
+Fits (k ∷ ks) [] = ⊥
+Fits (k ∷ ks) (p ∷ ps) = (length k.logs ≡ length p.commands) × Fits ks ps
+
+-- Exchange: command by command over the whole file is the whole script over one slot after the other.
+pub record Exchange {S T C M : Type 0} (m : Meaning S T C M) (ps : List (Pass T C)) (slots : List (Slot S)) : Type 0 where
+  pub each_slot_alone : slots_after m ps slots ≡ map (slot_after m ps) slots
+  pub log_by_pass_and_command : log_of m ps slots ≡ told m ps (kept_of m ps slots)
+  pub one_slot_more : (slot : Slot S) → kept_of m ps (slots ++ slot ∷ []) ≡ kept_and (kept_of m ps slots) (kept_alone m ps slot)

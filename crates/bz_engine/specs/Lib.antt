@@ -1,0 +1,4 @@
+pub mod Device
+pub mod DeviceLaws
+pub mod Passes
+pub mod Exchange

@@ -1,0 +1,66 @@
+-- A script over the slots of a file: passes one after another, and in a pass command by command (buildozer README: commands are executed in order).
+-- It is stated for any statements S, targets T, commands C and log entries M. A log has one list of entries for lines and messages, since their order is one.
+use Rattle.std.specs.Prelude.{Bool, if◌then◌else◌, List, [], ◌∷◌, ◌++◌, map, Option}
+use Rattle.std.specs.List.{flat_map, list_any}
+
+-- a slot of a file: a statement, or nothing where it was deleted
+abbrev pub Slot : Type 0 → Type 0
+Slot S = Option S
+
+-- what the targets and the commands of a language mean, each on one slot
+pub record Meaning (S T C M : Type 0) : Type 0 where
+  pub marks : T → Slot S → Bool
+  pub must_mark : T → Bool
+  pub not_found : T → M
+  pub after : C → Slot S → Slot S
+  pub says : C → Slot S → List M
+
+-- one target, and the commands for the slots that it marks
+pub record Pass (T C : Type 0) : Type 0 where
+  pub target : T
+  pub commands : List C
+
+-- a slot, and whether the pass marked it at its start
+pub record Marked (S : Type 0) : Type 0 where
+  pub mark : Bool
+  pub slot : Slot S
+
+abbrev pub marked : {S T C M : Type 0} → Meaning S T C M → T → Slot S → Marked S
+marked m target slot = record { mark = m.marks target slot; slot = slot }
+
+-- one command on a slot: nothing happens where the slot is not marked
+abbrev pub executed : {S T C M : Type 0} → Meaning S T C M → C → Marked S → Marked S
+executed m command x = record { mark = x.mark; slot = if x.mark then m.after command x.slot else x.slot }
+
+abbrev pub entries : {S T C M : Type 0} → Meaning S T C M → C → Marked S → List M
+entries m command x = if x.mark then m.says command x.slot else []
+
+-- command by command over all slots
+abbrev pub slots_after_commands : {S T C M : Type 0} → Meaning S T C M → List C → List (Marked S) → List (Marked S)
+slots_after_commands m [] xs = xs
+slots_after_commands m (c ∷ cs) xs = slots_after_commands m cs (map (executed m c) xs)
+
+abbrev pub log_of_commands : {S T C M : Type 0} → Meaning S T C M → List C → List (Marked S) → List M
+log_of_commands m [] xs = []
+log_of_commands m (c ∷ cs) xs = flat_map (entries m c) xs ++ log_of_commands m cs (map (executed m c) xs)
+
+-- a pass resolves its target once, at its start
+abbrev pub slots_after_pass : {S T C M : Type 0} → Meaning S T C M → Pass T C → List (Slot S) → List (Slot S)
+slots_after_pass m p slots = map (λ x. x.slot) (slots_after_commands m p.commands (map (marked m p.target) slots))
+
+-- what is said of a target that has to mark something and marks nothing
+abbrev pub missing : {S T C M : Type 0} → Meaning S T C M → T → Bool → List M
+missing m target found = if m.must_mark target then (if found then [] else m.not_found target ∷ []) else []
+
+abbrev pub log_of_pass : {S T C M : Type 0} → Meaning S T C M → Pass T C → List (Slot S) → List M
+log_of_pass m p slots =
+    missing m p.target (list_any (m.marks p.target) slots) ++ log_of_commands m p.commands (map (marked m p.target) slots)
+
+-- the passes one after another
+abbrev pub slots_after : {S T C M : Type 0} → Meaning S T C M → List (Pass T C) → List (Slot S) → List (Slot S)
+slots_after m [] slots = slots
+slots_after m (p ∷ ps) slots = slots_after m ps (slots_after_pass m p slots)
+
+abbrev pub log_of : {S T C M : Type 0} → Meaning S T C M → List (Pass T C) → List (Slot S) → List M
+log_of m [] slots = []
+log_of m (p ∷ ps) slots = log_of_pass m p slots ++ log_of m ps (slots_after_pass m p slots)

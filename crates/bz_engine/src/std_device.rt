@@ -1,0 +1,113 @@
+//! Readers and writers of std as a `Source` and a `Sink`.
+
+ghost use Rattle.std.specs.Prelude.{◌≡◌, ◌++◌};
+ghost use Rattle.std.specs.Io.KnownBytes.{Appends};
+ghost use Rattle.bz_engine.specs.Device.{Gave};
+ghost use Rattle.bz_engine.specs.DeviceLaws.{gave_nothing_lem, gave_more_lem, appends_nothing, appends_more};
+
+use crate::device::{Failed, Sink, Source};
+use std::io::{Read, Write};
+use std::marker::Model;
+
+/// A `Source` over a reader of std. Each error of the reader counts as a failure.
+#[derive(Drop)]
+pub struct FromRead<R> {
+    reader: R,
+    failures: u64,
+}
+
+impl<R> Model for FromRead<R> {
+    ghost use Rattle.bz_engine.specs.Device.{Counted};
+
+    ghost Value = { Counted R };
+
+    ghost view = { λ s. record { device = s.reader; failures = s.failures } };
+}
+
+impl<R: Read> FromRead<R> {
+    /// The reader, with no failure so far.
+    pub fn new(reader: R) -> FromRead<R>
+        ensures { result ≡ record { device = reader; failures = 0 } }
+    {
+        FromRead {
+            reader,
+            failures: 0,
+        }
+    }
+}
+
+impl<R: Read> Source for FromRead<R> {
+    ghost gave = { λ old pieces new. Gave (R.remaining old.device) (R.remaining new.device) pieces };
+
+    ghost failures = { λ s. s.failures };
+
+    ghost gave_nothing = { λ s. gave_nothing_lem (R.remaining s.device) };
+
+    ghost gave_more = { λ a b c xs ys p q. gave_more_lem (R.remaining a.device) (R.remaining b.device) (R.remaining c.device) xs ys p q };
+
+    fn read(&mut self, buf: &mut [u8]) -> Result<usize, Failed> {
+        match self.reader.read(buf) {
+            Ok(n) => Ok(n),
+            Err(_) => {
+                self.failures = self.failures.saturating_add(1);
+                Err(Failed)
+            }
+        }
+    }
+
+    fn failures(&self) -> u64 {
+        self.failures
+    }
+}
+
+/// A `Sink` over a writer of std. Each error of the writer counts as a failure, and so does a
+/// write of 0 bytes.
+#[derive(Drop)]
+pub struct ToWrite<W> {
+    writer: W,
+    failures: u64,
+}
+
+impl<W> Model for ToWrite<W> {
+    ghost use Rattle.bz_engine.specs.Device.{Counted};
+
+    ghost Value = { Counted W };
+
+    ghost view = { λ s. record { device = s.writer; failures = s.failures } };
+}
+
+impl<W: Write> ToWrite<W> {
+    /// The writer, with no failure so far.
+    pub fn new(writer: W) -> ToWrite<W>
+        ensures { result ≡ record { device = writer; failures = 0 } }
+    {
+        ToWrite {
+            writer,
+            failures: 0,
+        }
+    }
+}
+
+impl<W: Write> Sink for ToWrite<W> {
+    ghost took = { λ old bytes new. Appends (W.contents old.device) (W.contents new.device) bytes };
+
+    ghost failures = { λ s. s.failures };
+
+    ghost took_nothing = { λ s. appends_nothing (W.contents s.device) };
+
+    ghost took_more = { λ a b c xs ys p q. appends_more (W.contents a.device) (W.contents b.device) (W.contents c.device) xs ys p q };
+
+    fn write(&mut self, bytes: &[u8]) -> Result<usize, Failed> {
+        match self.writer.write(bytes) {
+            Ok(0) | Err(_) => {
+                self.failures = self.failures.saturating_add(1);
+                Err(Failed)
+            }
+            Ok(n) => Ok(n),
+        }
+    }
+
+    fn failures(&self) -> u64 {
+        self.failures
+    }
+}
