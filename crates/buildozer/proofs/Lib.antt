@@ -1,3 +1,4 @@
 mod Examples
 pub mod GroupSteps
+mod WordExamples
 pub mod WordSteps

@@ -12,6 +12,8 @@ mod report;
 mod run;
 mod script;
 mod statement;
+#[cfg(test)]
+mod tests;
 mod usage;
 mod words;
 
