@@ -6,5 +6,6 @@ pub mod Labels
 pub mod Layout
 pub mod Results
 pub mod Same
+pub mod Told
 pub mod Values
 pub mod Words

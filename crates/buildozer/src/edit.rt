@@ -4,13 +4,13 @@ ghost use Rattle.std.specs.Prelude.{◌≡◌, map, IfOk};
 
 use crate::flags::Flags;
 use crate::group::Script;
-use crate::list::Text;
 use crate::report::Report;
 use crate::run::{Options, RunFault, run};
 use crate::script::{Package, Pass};
+use crate::tell::tell;
 use bz_engine::{FromRead, ToWrite};
 use std::alloc::{AllocError, Global};
-use std::io::{self, Read, Write};
+use std::io::{Read, Write};
 
 /// The most bytes of a statement.
 const MAX_STATEMENT: u64 = 16_777_216;
@@ -23,9 +23,6 @@ const MAX_READS: u64 = 4_294_967_296;
 
 /// The exit status of a run that failed.
 const FAILED: u8 = 2;
-
-/// How standard input is called in messages.
-const STANDARD: &str = "-";
 
 /// The passes of a script. So far all are for standard input.
 fn passes_of(alloc: Global, script: Script) -> Result<Vec<Pass>, AllocError>
@@ -65,6 +62,20 @@ fn run_script<I: Read, O: Write>(
     )
 }
 
+/// Makes the script's passes, and writes what they tell. The answer is the exit status.
+fn run_and_tell<I: Read, O: Write, E: Write>(
+    alloc: Global,
+    flags: Flags,
+    script: Script,
+    input: &mut I,
+    out: &mut O,
+    err: &mut E,
+) -> Result<u8, RunFault> {
+    let report = run_script(alloc, flags, script, &mut *input, &mut *out)?;
+    tell(alloc, &report, out, err)?;
+    Ok(report.status())
+}
+
 fn fault_text(fault: RunFault) -> &'static str {
     match fault {
         RunFault::OutOfMemory => "out of memory",
@@ -74,38 +85,9 @@ fn fault_text(fault: RunFault) -> &'static str {
     }
 }
 
-/// Writes each printed line, with a newline behind it.
-fn write_lines<W: Write>(out: &mut W, lines: &[Text]) -> io::Result<()> {
-    for line in lines {
-        writeln!(out, "{}", line.as_str())?;
-    }
-    Ok(())
-}
-
-/// Writes each message, behind the file that it is of.
-fn write_messages<W: Write>(err: &mut W, messages: &[Text]) -> io::Result<()> {
-    for message in messages {
-        writeln!(err, "{STANDARD}: {}", message.as_str())?;
-    }
-    Ok(())
-}
-
-/// Writes what a run tells, and gives the exit status.
-fn tell<O: Write, E: Write>(report: &Report, out: &mut O, err: &mut E) -> u8 {
-    let written = write_lines(out, report.lines.as_slice());
-    let _ = write_messages(err, report.messages.as_slice());
-    match written {
-        Ok(()) => report.status(),
-        Err(_) => {
-            let _ = writeln!(err, "{STANDARD}: {}", fault_text(RunFault::WriteFailed));
-            FAILED
-        }
-    }
-}
-
 /// Runs the script from the input to the output. Printed lines follow the text, and messages go to `err`.
 ///
-/// The answer is the exit status.
+/// The answer is the exit status: that of the report, or 2 where the run gave none.
 pub fn edit<I: Read, O: Write, E: Write>(
     alloc: Global,
     flags: Flags,
@@ -114,10 +96,10 @@ pub fn edit<I: Read, O: Write, E: Write>(
     out: &mut O,
     err: &mut E,
 ) -> u8 {
-    match run_script(alloc, flags, script, &mut *input, &mut *out) {
-        Ok(report) => tell(&report, out, err),
+    match run_and_tell(alloc, flags, script, input, out, &mut *err) {
+        Ok(status) => status,
         Err(fault) => {
-            let _ = writeln!(err, "{STANDARD}: {}", fault_text(fault));
+            let _ = writeln!(err, "-: {}", fault_text(fault));
             FAILED
         }
     }

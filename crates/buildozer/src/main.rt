@@ -12,6 +12,7 @@ mod report;
 mod run;
 mod script;
 mod statement;
+mod tell;
 #[cfg(test)]
 mod tests;
 mod usage;
