@@ -1,1 +1,3 @@
 mod Examples
+pub mod Literals
+pub mod Fresh

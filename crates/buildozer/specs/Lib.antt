@@ -2,3 +2,5 @@ pub mod Values
 pub mod Same
 pub mod Effects
 pub mod Layout
+pub mod Literal
+pub mod Fresh

@@ -3,7 +3,10 @@
 
 mod add;
 mod list;
+mod quote;
+mod same;
 mod script;
 mod statement;
+mod value;
 
 fn main() {}
