@@ -1,3 +1,4 @@
 mod Examples
 pub mod Literals
 pub mod Fresh
+pub mod First

@@ -4,3 +4,4 @@ pub mod Effects
 pub mod Layout
 pub mod Literal
 pub mod Fresh
+pub mod First

@@ -2,6 +2,7 @@
 #![tactic(auto)]
 
 mod add;
+mod arguments;
 mod list;
 mod quote;
 mod same;
