@@ -2,3 +2,4 @@ mod Examples
 pub mod Literals
 pub mod Fresh
 pub mod First
+pub mod Adds
