@@ -1,1 +1,5 @@
 mod Examples
+pub mod Literals
+pub mod Fresh
+pub mod First
+pub mod Adds

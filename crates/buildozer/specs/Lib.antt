@@ -2,3 +2,6 @@ pub mod Values
 pub mod Same
 pub mod Effects
 pub mod Layout
+pub mod Literal
+pub mod Fresh
+pub mod First

@@ -2,8 +2,12 @@
 #![tactic(auto)]
 
 mod add;
+mod arguments;
 mod list;
+mod quote;
+mod same;
 mod script;
 mod statement;
+mod value;
 
 fn main() {}
