@@ -1,0 +1,4 @@
+pub mod Longest
+pub mod Progress
+pub mod Strings
+pub mod Unique

@@ -1,1 +1,3 @@
+pub mod Lexical
 pub mod Places
+pub mod Reading

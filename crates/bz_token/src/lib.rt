@@ -2,7 +2,11 @@
 #![tactic(auto)]
 
 mod fault;
+mod lexer;
 mod token;
+mod utf8;
 
 pub use fault::LexFault;
+pub use lexer::{one_reading, tokens};
 pub use token::{Kind, Token};
+pub use utf8::check_utf8;
