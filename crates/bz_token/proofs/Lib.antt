@@ -7,3 +7,7 @@ pub mod CutLines
 pub mod CutLaws
 pub mod CutTests
 mod ChunkExamples
+pub mod Longest
+pub mod Progress
+pub mod Strings
+pub mod Unique
