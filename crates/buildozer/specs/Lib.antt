@@ -1,3 +1,4 @@
+pub mod Grammar
 pub mod Values
 pub mod Same
 pub mod Effects
@@ -5,3 +6,9 @@ pub mod Layout
 pub mod Literal
 pub mod Fresh
 pub mod First
+pub mod Messages
+pub mod Meaning
+pub mod Changes
+pub mod File
+pub mod FileRead
+pub mod Outcome

@@ -1,6 +1,6 @@
 //! The command `add`: values that are missing are appended to an attribute's list.
 
-ghost use Rattle.std.specs.Prelude.{◌≡◌, ◌≢◌, ◌↔◌, ◌++◌, ◌∷◌, [], map, IsTrue, IfOk, OnOk, OnErr};
+ghost use Rattle.std.specs.Prelude.{◌≡◌, ◌≢◌, true, false, IfSome, ◌++◌, ◌∷◌, [], map, IfOk, OnOk, OnErr};
 ghost use Rattle.std.specs.List.{list_any, filter_map};
 ghost use Rattle.std.specs.Str.{bytes_eq};
 ghost use Rattle.buildozer.specs.Values.{value_in};
@@ -41,7 +41,9 @@ pub fn add(
 ) -> Result<Done, AllocError>
     ensures statement { OnOk result (statement.new ≡ add attribute.now values.now statement.old) }
     ensures note { IfOk result (λ done. done.note ≡ add_note attribute.now statement.old) }
-    ensures changed { IfOk result (λ done. IsTrue done.changed ↔ (statement.new ≢ statement.old)) }
+    ensures changed { IfOk result (λ done. done.changed ≡ true → statement.new ≢ statement.old) }
+    ensures same { IfOk result (λ done. done.changed ≡ false → statement.new ≡ statement.old) }
+    ensures failed { IfOk result (λ done. IfSome done.note (λ _. statement.new ≡ statement.old)) }
     ensures err { OnErr result (statement.new ≡ statement.old) }
 {
     let arguments = statement.arguments.as_slice();

@@ -1,13 +1,14 @@
 //! The arguments of a statement.
 
-ghost use Rattle.std.specs.Prelude.{◌≡◌, ◌<◌, length, get_or, set, IfSome, IfNone, OnOk, OnErr, codes};
+ghost use Rattle.std.specs.Prelude.{◌≡◌, ◌<◌, length, get_or, set, IfOk, IfSome, IfNone, OnOk, OnErr, codes};
 ghost use Rattle.std.specs.List.{position};
 ghost use Rattle.buildozer.specs.Effects.{gives, is_named};
+ghost use Rattle.buildozer.specs.Effects.{name_of as rule_name};
 ghost use Rattle.buildozer.specs.First.{with_texts, with_arguments, with_more};
 
 use crate::list::{Seq, Text};
 use crate::statement::{Argument, Statement, Value};
-use crate::value::value_is;
+use crate::value::{value_is, value_text};
 use std::alloc::{AllocError, Global};
 use std::mem;
 
@@ -31,6 +32,23 @@ pub fn has_name(statement: &Statement, name: &str) -> bool
     match &arguments[at].value {
         Value::One(text) => value_is(text.as_str(), name),
         Value::List(_) => false,
+    }
+}
+
+/// The name of a rule: the value of its first attribute `name`, where that is a string.
+pub fn name_of(alloc: Global, statement: &Statement) -> Result<Option<Text>, AllocError>
+    ensures { IfOk result (λ name. name ≡ rule_name statement.now) }
+{
+    let arguments = statement.arguments.as_slice();
+    let Some(at) = position(arguments, "name") else {
+        return Ok(None);
+    };
+    match &arguments[at].value {
+        Value::One(text) => {
+            let name = value_text(alloc, text.as_str())?;
+            Ok(name)
+        }
+        Value::List(_) => Ok(None),
     }
 }
 

@@ -3,8 +3,13 @@
 
 mod add;
 mod arguments;
+mod file;
 mod list;
+mod message;
+mod parse;
+mod passes;
 mod quote;
+mod report;
 mod same;
 mod script;
 mod statement;

@@ -5,6 +5,7 @@ ghost use Rattle.buildozer.specs.Values.{escaped, said, value_in, is_exactly};
 ghost use Rattle.buildozer.specs.Literal.{read};
 ghost use Rattle.buildozer.specs.declared.value.Piece.TheVariants.{Byte};
 
+use crate::list::Text;
 use std::alloc::{AllocError, Global};
 
 /// What comes next within a literal.
@@ -110,5 +111,19 @@ pub fn value(alloc: Global, text: &str) -> Result<Option<Vec<u8>>, AllocError>
                 rest = behind;
             }
         }
+    }
+}
+
+/// The value of this literal as text, or `None` where it has none.
+pub fn value_text(alloc: Global, text: &str) -> Result<Option<Text>, AllocError>
+    ensures { IfOk result (λ v. v ≡ value_in text.now) }
+{
+    match value(alloc, text)? {
+        None => Ok(None),
+        Some(bytes) => match String::from_utf8(bytes) {
+            Ok(value) => Ok(Some(Text::from_string(value))),
+            // A text has no value that is no text.
+            Err(_) => Ok(None),
+        },
     }
 }
