@@ -2,6 +2,7 @@
 #![tactic(auto)]
 
 mod list;
+mod parse;
 mod script;
 mod statement;
 
