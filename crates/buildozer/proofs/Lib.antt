@@ -1,8 +1,11 @@
 mod Examples
-pub mod Literals
-pub mod Fresh
-pub mod First
 pub mod Adds
-pub mod Steps
+pub mod Answer
+pub mod Complete
+pub mod First
+pub mod Fresh
 pub mod Lines
+pub mod Literals
+pub mod Sound
+pub mod Steps
 pub mod ValueText

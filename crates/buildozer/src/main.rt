@@ -11,6 +11,7 @@ mod passes;
 mod quote;
 mod report;
 mod same;
+mod parse;
 mod script;
 mod statement;
 mod value;
