@@ -5,3 +5,4 @@ pub mod Layout
 pub mod Literal
 pub mod Fresh
 pub mod First
+pub mod Written

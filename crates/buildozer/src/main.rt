@@ -3,6 +3,7 @@
 
 mod add;
 mod arguments;
+mod layout;
 mod list;
 mod quote;
 mod same;
