@@ -1,5 +1,5 @@
 -- The lines of statements are the texts of their parts, one behind another.
-use Rattle.std.proofs.Common.{◌≡◌, ℕ, suc, ◌+◌, ◌*◌, List, [], ◌∷◌, ◌++◌, true, false, leb, Option, Some, None, map, length, replicate, codes, ⊎_elim, refl, ap, sym, ◌∙◌, append_assoc, arith}
+use Rattle.std.proofs.Common.{◌≡◌, ℕ, ◌+◌, ◌*◌, List, [], ◌∷◌, ◌++◌, true, false, Option, Some, None, map, length, replicate, codes, ⊎_elim, refl, ap, sym, ◌∙◌, append_assoc, arith}
 use Rattle.std.specs.List.{flat_map, filter_map, join_with_byte}
 use Rattle.std.proofs.lemmas.List.{append-nil, replicate-append-replicate}
 use Rattle.std.proofs.lemmas.Grind.{flat_map-append}
@@ -8,8 +8,8 @@ use Rattle.buildozer.specs.declared.statement.Value.{Value}
 use Rattle.buildozer.specs.declared.statement.Value.TheVariants.{One, List as Several}
 use Rattle.buildozer.specs.declared.statement.Argument.{Argument}
 use Rattle.buildozer.specs.declared.statement.Statement.{Statement}
-use Rattle.buildozer.specs.Layout.{Line, line, indent, line_text, lines_text, ahead, behind, respell, is_broken, list_lines, value_lines, argument_lines, call_lines, statement_text, slots_text}
-use Rattle.buildozer.specs.Written.{item_text, items_text, list_text, value_text, argument_text, argument_line, arguments_text, call_text, rest_text}
+use Rattle.buildozer.specs.Layout.{Line, line, indent, line_text, lines_text, ahead, behind, respell, value_lines, argument_lines, call_lines, statement_text, slots_text}
+use Rattle.buildozer.specs.Written.{item_text, items_text, list_text, value_text, argument_line, arguments_text, call_text, rest_text}
 
 ahead_nil : (lines : List Line) → ahead [] lines ≡ lines
 ahead_nil [] = refl
@@ -40,13 +40,13 @@ abbrev placed : List ℕ → List ℕ → List ℕ → ℕ → Value → List Li
 placed first name end level value = ahead first (behind end (ahead name (value_lines level value)))
 
 joined : (margin first name items end : List ℕ)
-  → ((margin ++ (first ++ (name ++ codes "["))) ++ codes "\n") ++ (items ++ (((margin ++ (codes "]" ++ end)) ++ codes "\n") ++ []))
-  ≡ margin ++ first ++ name ++ (codes "[\n" ++ items ++ margin ++ codes "]") ++ end ++ codes "\n"
+    → ((margin ++ (first ++ (name ++ codes "["))) ++ codes "\n") ++ (items ++ (((margin ++ (codes "]" ++ end)) ++ codes "\n") ++ []))
+    ≡ margin ++ first ++ name ++ (codes "[\n" ++ items ++ margin ++ codes "]") ++ end ++ codes "\n"
 joined margin first name items end = simp (append_assoc, append-nil) refl
 
 broken_is : (first name end : List ℕ) (level : ℕ) (text other : List ℕ) (texts : List (List ℕ))
-  → lines_text (ahead first (behind end (ahead name (line level (codes "[") ∷ map (item_line level) (text ∷ other ∷ texts) ++ line level (codes "]") ∷ []))))
-  ≡ indent level ++ first ++ name ++ list_text (indent level) (text ∷ other ∷ texts) ++ end ++ codes "\n"
+    → lines_text (ahead first (behind end (ahead name (line level (codes "[") ∷ map (item_line level) (text ∷ other ∷ texts) ++ line level (codes "]") ∷ []))))
+    ≡ indent level ++ first ++ name ++ list_text (indent level) (text ∷ other ∷ texts) ++ end ++ codes "\n"
 broken_is first name end level text other texts =
     let lines = map (item_line level) (text ∷ other ∷ texts) in
     ap (λ ls. lines_text (line level (first ++ (name ++ codes "[")) ∷ ls)) (behind_end end lines (line level (codes "]")))
@@ -85,8 +85,8 @@ call_is kind (a ∷ b ∷ rest) =
     let lines = flat_map (λ c. behind (codes ",") (argument_lines 1 c)) (a ∷ b ∷ rest) in
     let end = line 0 (codes ")") ∷ [] in
     sym (
-      ap (λ bytes. line_text (line 0 (kind ++ codes "(")) ++ bytes) (flat_map-append line_text lines end ∙ ap (λ bytes. bytes ++ lines_text end) (arguments_are (a ∷ b ∷ rest)))
-      ∙ called kind (arguments_text (a ∷ b ∷ rest)))
+    ap (λ bytes. line_text (line 0 (kind ++ codes "(")) ++ bytes) (flat_map-append line_text lines end ∙ ap (λ bytes. bytes ++ lines_text end) (arguments_are (a ∷ b ∷ rest)))
+    ∙ called kind (arguments_text (a ∷ b ∷ rest)))
 
 join_is : (text : List ℕ) (texts : List (List ℕ)) → join_with_byte 10 (text ∷ texts) ≡ text ++ flat_map (λ other. 10 ∷ other) texts
 join_is text [] = sym (append-nil text)

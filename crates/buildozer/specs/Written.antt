@@ -1,5 +1,5 @@
 -- The texts of the parts of a statement, as they are written one behind another, for private clauses.
-use Rattle.std.specs.Prelude.{ℕ, List, [], ◌∷◌, ◌++◌, Bool, true, false, if◌then◌else◌, Option, Some, None, codes}
+use Rattle.std.specs.Prelude.{ℕ, List, [], ◌∷◌, ◌++◌, Bool, false, if◌then◌else◌, Option, Some, None, codes}
 use Rattle.std.specs.List.{flat_map}
 use Rattle.buildozer.specs.declared.statement.Value.{Value}
 use Rattle.buildozer.specs.declared.statement.Value.TheVariants.{One, List as Several}

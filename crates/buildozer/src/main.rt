@@ -9,6 +9,8 @@ mod quote;
 mod same;
 mod script;
 mod statement;
+#[cfg(test)]
+mod statement_tests;
 mod value;
 
 fn main() {}

@@ -1,4 +1,4 @@
-use Rattle.std.proofs.Common.{◌≡◌, ◌++◌, [], string_bytes, ap, sym, ◌∙◌, arith}
+use Rattle.std.proofs.Common.{◌++◌, string_bytes, ap, sym, ◌∙◌, arith}
 use Rattle.std.proofs.lemmas.List.{append-nil, drop_all}
 use Rattle.buildozer.specs.Written.{rest_text}
 use Rattle.buildozer.proofs.Lines.{rest_is}
