@@ -1,5 +1,5 @@
 -- The first element that passes a test.
-use Rattle.std.proofs.Common.{◌≡◌, ℕ, suc, ◌+◌, ◌<◌, ◌≤◌, List, [], ◌∷◌, ◌++◌, Bool, true, false, not, cond, Option, Some, None, length, get_or, set, ⊎_elim, refl, ap, sym, ◌∙◌, arith, ◌||◌}
+use Rattle.std.proofs.Common.{◌≡◌, ℕ, suc, ◌+◌, ◌<◌, ◌≤◌, List, [], ◌∷◌, Bool, true, false, not, cond, Some, None, length, get_or, set, ⊎_elim, refl, ap, ◌∙◌, arith, ◌||◌}
 use Rattle.std.specs.List.{list_any, position, position_or_len, find}
 use Rattle.std.proofs.lemmas.Bool.Decides.{leb_tells}
 use Rattle.buildozer.specs.declared.statement.Argument.{Argument}
@@ -32,7 +32,7 @@ find_one p (x ∷ xs) d h =
     [ true ↦ λ k. refl | false ↦ λ k. rw one (find_one p xs d (omega arith)) ] h
 
 edit_one : (p : Argument → Bool) (f : Argument → Argument) (xs : List Argument) (d : Argument) → position_or_len p xs < length xs
-  → edit_first p f xs ≡ set xs (position_or_len p xs) (f (get_or xs (position_or_len p xs) d))
+    → edit_first p f xs ≡ set xs (position_or_len p xs) (f (get_or xs (position_or_len p xs) d))
 edit_one p f [] d h = absurd (omega arith)
 edit_one p f (x ∷ xs) d h =
     let n : ℕ = position_or_len p xs in

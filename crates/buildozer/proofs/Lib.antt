@@ -2,10 +2,12 @@ mod Examples
 pub mod Adds
 pub mod Answer
 pub mod Complete
+pub mod FileLines
 pub mod First
 pub mod Fresh
 pub mod Lines
 pub mod Literals
+pub mod Quotes
 pub mod Sound
 pub mod Steps
 pub mod ValueText

@@ -1,93 +1,109 @@
--- Physical lines, and chunk after chunk.
-use Rattle.std.proofs.Common.{◌≡◌, ◌≢◌, ℕ, suc, ◌<◌, ◌≤◌, ◌+◌, ◌-◌, Bool, true, false, not, ◌&&◌, ◌==◌, List, [], ◌∷◌, ◌++◌, map, length, take, drop, get_or, count_by, subst, inl, inr, lit<, IsUtf8, IsCharBoundary, take-append-drop, refl, sym, ◌∙◌, ap, append_assoc, append-nil, arith}
-use Rattle.std.specs.Prelude.{IsTrue, Option, Some, None, Result, Ok, Err, option_to_list, if◌then◌else◌}
-use Rattle.std.proofs.Math.Seq.{take-add}
-use Rattle.std.proofs.lemmas.Bool.{cases_lt}
-use Rattle.std.proofs.lemmas.Str.{IsCharBoundary-end, IsCharBoundary-after_ascii}
-use Rattle.std.specs.List.{list_all}
-use Rattle.std.proofs.lemmas.List.{drop_more, take_more, nil_from_length}
-use Rattle.std.proofs.lemmas.List.Sums.{sum_by-append}
-use Rattle.std.proofs.lemmas.Grind.{common_steps}
-use Rattle.bz_token.specs.Chunks.{chunks, is_physical_line, IsChunk}
-use Rattle.bz_token.specs.Places.{line_at}
+-- The lines of statements are the texts of their parts, one behind another.
+use Rattle.std.proofs.Common.{◌≡◌, ℕ, ◌+◌, ◌*◌, List, [], ◌∷◌, ◌++◌, true, false, Option, Some, None, map, length, replicate, codes, ⊎_elim, refl, ap, sym, ◌∙◌, append_assoc, arith}
+use Rattle.std.specs.List.{flat_map, filter_map, join_with_byte}
+use Rattle.std.proofs.lemmas.List.{append-nil, replicate-append-replicate}
+use Rattle.std.proofs.lemmas.Grind.{flat_map-append}
+use Rattle.std.proofs.lemmas.Bool.Decides.{leb_tells}
+use Rattle.buildozer.specs.declared.statement.Value.{Value}
+use Rattle.buildozer.specs.declared.statement.Value.TheVariants.{One, List as Several}
+use Rattle.buildozer.specs.declared.statement.Argument.{Argument}
 use Rattle.buildozer.specs.declared.statement.Statement.{Statement}
-use Rattle.buildozer.specs.declared.parse.ParseFault.{ParseFault}
-use Rattle.buildozer.specs.Grammar.{IsReadAs}
-use Rattle.buildozer.specs.File.{AreRead}
+use Rattle.buildozer.specs.Layout.{Line, line, indent, line_text, lines_text, ahead, behind, respell, value_lines, argument_lines, call_lines, statement_text, slots_text}
+use Rattle.buildozer.specs.Written.{item_text, items_text, list_text, value_text, argument_line, arguments_text, call_text, rest_text}
 
--- bytes without a newline, and one byte more
-pub line_of : (xs : List ℕ) (b : ℕ) → list_all (λ c. not (c == 10)) xs ≡ true → is_physical_line (xs ++ b ∷ []) ≡ true
-line_of [] b h = refl
-line_of (x ∷ []) b h = ap (λ p. p && true) (only (not (x == 10)) h)
-  where
-    only : (p : Bool) → (p && true) ≡ true → p ≡ true
-    only true h = refl
-    only false h = h
-line_of (x ∷ y ∷ xs) b h = both (not (x == 10)) (list_all (λ c. not (c == 10)) (y ∷ xs)) (is_physical_line (y ∷ xs ++ b ∷ [])) h (λ k. line_of (y ∷ xs) b k)
-  where
-    both : (p q r : Bool) → (p && q) ≡ true → (q ≡ true → r ≡ true) → (p && r) ≡ true
-    both true q r h k = k h
-    both false q r h k = h
+ahead_nil : (lines : List Line) → ahead [] lines ≡ lines
+ahead_nil [] = refl
+ahead_nil (l ∷ lines) = refl
 
--- without a newline it is a physical line too
-pub line_at_end : (xs : List ℕ) → list_all (λ c. not (c == 10)) xs ≡ true → is_physical_line xs ≡ true
-line_at_end [] h = refl
-line_at_end (x ∷ []) h = refl
-line_at_end (x ∷ y ∷ xs) h = both (not (x == 10)) (list_all (λ c. not (c == 10)) (y ∷ xs)) (is_physical_line (y ∷ xs)) h (λ k. line_at_end (y ∷ xs) k)
-  where
-    both : (p q r : Bool) → (p && q) ≡ true → (q ≡ true → r ≡ true) → (p && r) ≡ true
-    both true q r h k = k h
-    both false q r h k = h
+behind_end : (text : List ℕ) (lines : List Line) (end : Line) → behind text (lines ++ end ∷ []) ≡ lines ++ line end.level (end.text ++ text) ∷ []
+behind_end text [] end = refl
+behind_end text (l ∷ []) end = refl
+behind_end text (l ∷ m ∷ lines) end = ap (λ ls. l ∷ ls) (behind_end text (m ∷ lines) end)
 
-pub no_newline_more : (xs : List ℕ) (b : ℕ) → (b ≡ 10 → ⊥) → list_all (λ c. not (c == 10)) xs ≡ true → list_all (λ c. not (c == 10)) (xs ++ b ∷ []) ≡ true
-no_newline_more xs b n h = grind (arith, common_steps)
+deeper : (level : ℕ) → indent (level + 1) ≡ indent level ++ indent 1
+deeper level =
+    let four : 4 * (level + 1) ≡ 4 * level + 4 = omega arith in
+    ap (λ n. replicate n 32) four ∙ sym (replicate-append-replicate (4 * level) 4 32)
 
--- the bytes that were seen, and the next line
-pub seen_more : (bytes : List ℕ) (e n : ℕ) → take e bytes ++ take (e + n - e) (drop e bytes) ≡ take (e + n) bytes
-seen_more bytes e n =
-    let len : e + n - e ≡ n = omega arith in
-    rw len (sym (take-add e n bytes))
+abbrev item_line : ℕ → List ℕ → Line
+item_line level text = line (level + 1) (respell text ++ codes ",")
 
-pub chunk_here : (bytes seen line : List ℕ) (n : ℕ) → seen ++ line ≡ take n bytes → IsChunk (seen ++ line) → chunks bytes ≡ take n bytes ∷ chunks (drop n bytes)
-chunk_here bytes seen line n is chunk =
-    let here : IsChunk (take n bytes) = rw is at chunk in
-    ap chunks (sym (take-append-drop n bytes)) ∙ here (drop n bytes)
+item_is : (level : ℕ) (text : List ℕ) → line_text (item_line level text) ≡ item_text (indent level) text
+item_is level text = ap (λ margin. margin ++ (respell text ++ codes ",") ++ codes "\n") (deeper level) ∙ simp append_assoc refl
 
--- one chunk, and those behind it
-pub read_statement : (max_depth line n : ℕ) (rest : List ℕ) (statement : Option Statement) (more : List Statement) (fault : Option ParseFault)
-    → chunks rest ≡ take n rest ∷ chunks (drop n rest) → IsReadAs line max_depth (take n rest) (Ok statement)
-    → AreRead max_depth (line_at line (take n rest)) (chunks (drop n rest)) more fault
-    → AreRead max_depth line (chunks rest) (option_to_list statement ++ more) fault
-read_statement max_depth line n rest None more fault cut is behind = rw cut (Ok None, is, behind)
-read_statement max_depth line n rest (Some s) more fault cut is behind = rw cut (Ok (Some s), is, (more, refl, behind))
+items_are : (level : ℕ) (texts : List (List ℕ)) → lines_text (map (item_line level) texts) ≡ items_text (indent level) texts
+items_are level [] = refl
+items_are level (text ∷ texts) = ap (λ bytes. bytes ++ lines_text (map (item_line level) texts)) (item_is level text) ∙ ap (λ bytes. item_text (indent level) text ++ bytes) (items_are level texts)
 
-pub read_fault : (max_depth line n : ℕ) (rest : List ℕ) (f : ParseFault) → chunks rest ≡ take n rest ∷ chunks (drop n rest)
-    → IsReadAs line max_depth (take n rest) (Err f) → AreRead max_depth line (chunks rest) [] (Some f)
-read_fault max_depth line n rest f cut is = rw cut (Err f, is, (refl, refl))
+-- a value between what stands before it on its first line and behind it on its last
+abbrev placed : List ℕ → List ℕ → List ℕ → ℕ → Value → List Line
+placed first name end level value = ahead first (behind end (ahead name (value_lines level value)))
 
--- a front of a text that ends in a newline, or nowhere before the end, may be cut off
-pub chunk_boundary : (rest : List ℕ) (n : ℕ) → IsUtf8 rest → 0 < n → n ≤ length rest → (n < length rest → get_or rest (n - 1) 0 ≡ 10) → IsCharBoundary rest n
-chunk_boundary rest n utf8 some fits newline =
-    elim (cases_lt n (length rest)) [
-      | inl within ↦
-          let e : n - 1 + 1 ≡ n = omega arith in
-          let ascii : get_or rest (n - 1) 0 < 128 = rw (newline within) (lit< tt) in
-          subst (λ k. IsCharBoundary rest k) e (IsCharBoundary-after_ascii rest (n - 1) utf8 (omega arith) ascii)
-      | inr whole ↦
-          let e : length rest ≡ n = omega arith in
-          subst (λ k. IsCharBoundary rest k) e (IsCharBoundary-end rest)
-    ]
+joined : (margin first name items end : List ℕ)
+    → ((margin ++ (first ++ (name ++ codes "["))) ++ codes "\n") ++ (items ++ (((margin ++ (codes "]" ++ end)) ++ codes "\n") ++ []))
+    ≡ margin ++ first ++ name ++ (codes "[\n" ++ items ++ margin ++ codes "]") ++ end ++ codes "\n"
+joined margin first name items end = simp (append_assoc, append-nil) refl
 
--- nothing is left to read
-pub read_nothing : (max_depth line : ℕ) (rest : List ℕ) → length rest ≡ 0 → AreRead max_depth line (chunks rest) [] None
-read_nothing max_depth line rest h = rw (nil_from_length rest h) (refl, refl)
+broken_is : (first name end : List ℕ) (level : ℕ) (text other : List ℕ) (texts : List (List ℕ))
+    → lines_text (ahead first (behind end (ahead name (line level (codes "[") ∷ map (item_line level) (text ∷ other ∷ texts) ++ line level (codes "]") ∷ []))))
+    ≡ indent level ++ first ++ name ++ list_text (indent level) (text ∷ other ∷ texts) ++ end ++ codes "\n"
+broken_is first name end level text other texts =
+    let lines = map (item_line level) (text ∷ other ∷ texts) in
+    ap (λ ls. lines_text (line level (first ++ (name ++ codes "[")) ∷ ls)) (behind_end end lines (line level (codes "]")))
+    ∙ ap (λ bytes. line_text (line level (first ++ (name ++ codes "["))) ++ bytes) (flat_map-append line_text lines (line level (codes "]" ++ end) ∷ []) ∙ ap (λ bytes. bytes ++ lines_text (line level (codes "]" ++ end) ∷ [])) (items_are level (text ∷ other ∷ texts)))
+    ∙ joined (indent level) first name (items_text (indent level) (text ∷ other ∷ texts)) end
 
-pub newlines_split : (n : ℕ) (rest : List ℕ) → count_by (λ b. b == 10) rest ≡ count_by (λ b. b == 10) (take n rest) + count_by (λ b. b == 10) (drop n rest)
-newlines_split n rest = ap (count_by (λ b. b == 10)) (sym (take-append-drop n rest)) ∙ sum_by-append (λ b. if b == 10 then 1 else 0) (take n rest) (drop n rest)
+in_place : (margin first name value end : List ℕ) → ((margin ++ (first ++ (name ++ value ++ end))) ++ codes "\n") ++ [] ≡ margin ++ first ++ name ++ value ++ end ++ codes "\n"
+in_place margin first name value end = simp (append_assoc, append-nil) refl
 
-pub map_more : {A B : Type 0} (f : A → B) (xs ys : List A) → map f xs ++ map f ys ≡ map f (xs ++ ys)
-map_more f [] ys = refl
-map_more f (x ∷ xs) ys = ap (λ l. f x ∷ l) (map_more f xs ys)
+value_is : (first name end : List ℕ) (level : ℕ) (value : Value) → lines_text (placed first name end level value) ≡ indent level ++ first ++ name ++ value_text (indent level) value ++ end ++ codes "\n"
+value_is first name end level (One text) = in_place (indent level) first name (respell text) end
+value_is first name end level (Several []) = in_place (indent level) first name (codes "[]") end
+value_is first name end level (Several (text ∷ [])) =
+    ap (λ string. lines_text (ahead first (behind end (ahead name (line level (codes "[" ++ string ++ codes "]") ∷ []))))) (append-nil (respell text))
+    ∙ in_place (indent level) first name (codes "[" ++ respell text ++ codes "]") end
+value_is first name end level (Several (text ∷ other ∷ texts)) =
+    ⊎_elim (λ e. rw e.0 (broken_is first name end level text other texts)) (λ e. absurd (omega arith)) (leb_tells 2 (length (text ∷ other ∷ texts)))
 
-pub err_is : {e f : ParseFault} → (let x : Result (Option Statement) ParseFault = Err e in x) ≡ Err f → e ≡ f
-err_is h = cc
+spoken : (margin name value : List ℕ) → margin ++ [] ++ (name ++ codes " = ") ++ value ++ codes "," ++ codes "\n" ≡ margin ++ (name ++ codes " = " ++ value) ++ codes ",\n"
+spoken margin name value = simp (append_assoc, append-nil) refl
+
+called : (kind items : List ℕ) → ((kind ++ codes "(") ++ codes "\n") ++ (items ++ ((codes ")" ++ codes "\n") ++ [])) ≡ kind ++ codes "(\n" ++ items ++ codes ")\n"
+called kind items = simp (append_assoc, append-nil) refl
+
+arguments_are : (arguments : List Argument) → lines_text (flat_map (λ a. behind (codes ",") (argument_lines 1 a)) arguments) ≡ arguments_text arguments
+arguments_are [] = refl
+arguments_are (a ∷ arguments) =
+    flat_map-append line_text (behind (codes ",") (argument_lines 1 a)) (flat_map (λ b. behind (codes ",") (argument_lines 1 b)) arguments)
+    ∙ ap (λ bytes. bytes ++ lines_text (flat_map (λ b. behind (codes ",") (argument_lines 1 b)) arguments)) (ap lines_text (sym (ahead_nil (behind (codes ",") (argument_lines 1 a)))) ∙ value_is [] (a.name ++ codes " = ") (codes ",") 1 a.value ∙ spoken (indent 1) a.name (value_text (indent 1) a.value))
+    ∙ ap (λ bytes. argument_line a ++ bytes) (arguments_are arguments)
+
+call_is : (kind : List ℕ) (arguments : List Argument) → call_text kind arguments ≡ lines_text (call_lines kind arguments)
+call_is kind [] = simp (append_assoc, append-nil) refl
+call_is kind (a ∷ []) = sym (value_is (kind ++ codes "(") (a.name ++ codes " = ") (codes ")") 0 a.value ∙ simp append_assoc refl)
+call_is kind (a ∷ b ∷ rest) =
+    let lines = flat_map (λ c. behind (codes ",") (argument_lines 1 c)) (a ∷ b ∷ rest) in
+    let end = line 0 (codes ")") ∷ [] in
+    sym (
+    ap (λ bytes. line_text (line 0 (kind ++ codes "(")) ++ bytes) (flat_map-append line_text lines end ∙ ap (λ bytes. bytes ++ lines_text end) (arguments_are (a ∷ b ∷ rest)))
+    ∙ called kind (arguments_text (a ∷ b ∷ rest)))
+
+join_is : (text : List ℕ) (texts : List (List ℕ)) → join_with_byte 10 (text ∷ texts) ≡ text ++ flat_map (λ other. 10 ∷ other) texts
+join_is text [] = sym (append-nil text)
+join_is text (other ∷ texts) = ap (λ bytes. text ++ (10 ∷ bytes)) (join_is other texts)
+
+abbrev kept : List (Option Statement) → List (List ℕ)
+kept slots = map statement_text (filter_map (λ slot. slot) slots)
+
+rest_false : (slots : List (Option Statement)) → rest_text false slots ≡ flat_map (λ other. 10 ∷ other) (kept slots)
+rest_false [] = refl
+rest_false (None ∷ slots) = rest_false slots
+rest_false (Some s ∷ slots) =
+    ap (λ bytes. 10 ∷ (bytes ++ rest_text false slots)) (call_is s.kind s.arguments) ∙ ap (λ bytes. 10 ∷ (statement_text s ++ bytes)) (rest_false slots)
+
+pub rest_is : (slots : List (Option Statement)) → rest_text true slots ≡ slots_text slots
+rest_is [] = refl
+rest_is (None ∷ slots) = rest_is slots
+rest_is (Some s ∷ slots) =
+    ap (λ bytes. bytes ++ rest_text false slots) (call_is s.kind s.arguments) ∙ ap (λ bytes. statement_text s ++ bytes) (rest_false slots)
+    ∙ sym (join_is (statement_text s) (kept slots))

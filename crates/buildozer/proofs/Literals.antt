@@ -1,15 +1,15 @@
 -- Literals read one byte further, and literals of values.
-use Rattle.std.proofs.Common.{◌≡◌, ◌≢◌, ℕ, List, [], ◌∷◌, ◌++◌, Bool, true, false, cond, eqb, leb, suc, ◌+◌, ◌/◌, ◌%◌, ◌≤◌, Option, Some, None, option_map, ◌⊎◌, ⊎_elim, refl, ap, sym, ◌∙◌, append_assoc, arith, rules, tests}
-use Rattle.std.specs.List.{flat_map, list_all}
+use Rattle.std.proofs.Common.{◌≡◌, ◌≢◌, ℕ, List, [], ◌∷◌, ◌++◌, false, suc, ◌+◌, ◌/◌, ◌%◌, ◌≤◌, Option, Some, None, option_map, ⊎_elim, refl, ap, sym, ◌∙◌, append_assoc, arith}
+use Rattle.std.specs.List.{flat_map}
 use Rattle.std.proofs.lemmas.Bool.Decides.{nat_tests, eqb_tells, leb_tells}
-use Rattle.std.proofs.lemmas.Bool.{ne_eqb, false≢true}
+use Rattle.std.proofs.lemmas.Bool.{ne_eqb}
 use Rattle.std.proofs.lemmas.Grind.{flat_map-append}
 use Rattle.std.proofs.lemmas.Str.{encodes-chars}
 use Rattle.std.proofs.lemmas.List.{append-nil}
 use Rattle.std.proofs.Math.Utf8.{encode, encodes}
 use Rattle.std.specs.Str.{IsUtf8, chars}
 use Rattle.buildozer.specs.Literal.{spelled_char}
-use Rattle.buildozer.specs.Values.{cons_both, is_exactly, said, spelled, quote, value_in}
+use Rattle.buildozer.specs.Values.{cons_both, is_exactly, said, spelled}
 
 pub one_further : (bytes : List ℕ) (b : ℕ) (rest : Option (List ℕ)) → option_map (λ after. (bytes ++ b ∷ []) ++ after) rest ≡ option_map (λ after. bytes ++ after) (cons_both (Some b) rest)
 one_further bytes b None = refl

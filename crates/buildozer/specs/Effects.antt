@@ -1,5 +1,5 @@
 -- What commands do to a statement (buildozer README, "Edit commands").
-use Rattle.std.specs.Prelude.{ℕ, List, [], ◌∷◌, ◌++◌, Bool, false, if◌then◌else◌, Option, Some, None, map, codes}
+use Rattle.std.specs.Prelude.{ℕ, List, [], ◌∷◌, ◌++◌, Bool, if◌then◌else◌, Option, Some, None, map, codes}
 use Rattle.std.specs.List.{list_any, filter_map, find}
 use Rattle.std.specs.Str.{bytes_eq}
 use Rattle.buildozer.specs.declared.statement.Value.{Value}

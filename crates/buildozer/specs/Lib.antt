@@ -13,3 +13,4 @@ pub mod Outcome
 pub mod ParseSteps
 pub mod Same
 pub mod Values
+pub mod Written

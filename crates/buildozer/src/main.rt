@@ -4,6 +4,7 @@
 mod add;
 mod arguments;
 mod file;
+mod layout;
 mod list;
 mod message;
 mod parse;
@@ -11,9 +12,9 @@ mod passes;
 mod quote;
 mod report;
 mod same;
-mod parse;
 mod script;
 mod statement;
+mod statement_tests;
 mod value;
 
 fn main() {}

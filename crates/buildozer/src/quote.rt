@@ -1,7 +1,6 @@
 //! String literals of values.
 
 ghost use Rattle.std.specs.Prelude.{◌≡◌, List, ℕ, Some, IfOk, OnOk, ◌++◌, string_bytes};
-
 ghost use Rattle.buildozer.specs.Values.{quote, value_in};
 ghost use Rattle.buildozer.specs.Literal.{spelled_char};
 

@@ -1,4 +1,4 @@
-use Rattle.std.proofs.Common.{◌≡◌, ◌++◌, ◌∷◌, [], Some, ap, sym, ◌∙◌, set, get_or}
+use Rattle.std.proofs.Common.{◌++◌, ◌∷◌, [], Some, ap, sym, ◌∙◌, set, get_or}
 use Rattle.std.specs.List.{position}
 use Rattle.buildozer.specs.declared.add.Note.TheVariants.{NotAList}
 use Rattle.buildozer.specs.Effects.{gives, added}

@@ -1,10 +1,9 @@
-use Rattle.std.proofs.Common.{◌≡◌, ◌+◌, ◌++◌, [], ◌∷◌, true, false, map, drop, ap, sym, ◌∙◌, arith}
+use Rattle.std.proofs.Common.{◌+◌, ◌++◌, [], ◌∷◌, map, drop, ap, sym, ◌∙◌, arith}
 use Rattle.std.specs.List.{list_any, filter_map}
 use Rattle.std.specs.Str.{bytes_eq}
 use Rattle.std.proofs.lemmas.List.{append-nil, drop_all}
 use Rattle.buildozer.specs.Values.{quote, value_in}
 use Rattle.buildozer.specs.Same.{completed}
-use Rattle.buildozer.specs.Effects.{added}
 use Rattle.buildozer.specs.Fresh.{fresh_by_label}
 use Rattle.buildozer.proofs.Fresh.{passed, appended, fresh_is}
 use Rattle.buildozer.proofs.add.missing.Goals as goal

@@ -1,4 +1,4 @@
-use Rattle.std.proofs.Common.{◌≡◌, ℕ, List, Bool, Option, Some, codes, ap, sym, ◌∙◌}
+use Rattle.std.proofs.Common.{ℕ, List, Bool, Option, Some, codes, ap, sym, ◌∙◌}
 use Rattle.std.specs.List.{find}
 use Rattle.buildozer.specs.declared.statement.Argument.{Argument}
 use Rattle.buildozer.specs.Values.{is_exactly, value_in}

@@ -2,7 +2,7 @@ use Rattle.std.proofs.Common.{◌≡◌, ◌+◌, ◌-◌, ◌<◌, ◌∷◌, �
 use Rattle.std.proofs.lemmas.Grind.{common_steps}
 use Rattle.bz_token.specs.Chunks.{IsChunk, IsPart}
 use Rattle.bz_token.specs.CutSteps.{IsBehind}
-use Rattle.buildozer.proofs.Lines.{seen_more, chunk_here}
+use Rattle.buildozer.proofs.FileLines.{seen_more, chunk_here}
 use Rattle.buildozer.proofs.file.chunk_len.Goals as goal
 
 pub returns-in-Whole-clause-chunk : goal.returns-in-Whole-clause-chunk

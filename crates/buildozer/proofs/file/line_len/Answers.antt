@@ -2,7 +2,7 @@ use Rattle.std.proofs.Common.{◌≡◌, ◌+◌, ◌<◌, ◌∷◌, [], ◌++�
 use Rattle.std.specs.Prelude.{IsTrue}
 use Rattle.std.proofs.lemmas.List.{take_more}
 use Rattle.std.proofs.lemmas.Grind.{common_steps}
-use Rattle.buildozer.proofs.Lines.{line_of, line_at_end}
+use Rattle.buildozer.proofs.FileLines.{line_of, line_at_end}
 use Rattle.buildozer.proofs.file.line_len.Goals as goal
 
 pub returns-then-byte-eq10-clause-line : goal.returns-then-byte-eq10-clause-line

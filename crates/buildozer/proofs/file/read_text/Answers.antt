@@ -2,7 +2,7 @@ use Rattle.std.proofs.Common.{◌≡◌, ℕ, ◌+◌, ◌-◌, ◌<◌, [], ◌
 use Rattle.std.specs.Prelude.{option_to_list, Some, None}
 use Rattle.std.proofs.lemmas.Str.{IsUtf8-drop}
 use Rattle.std.proofs.lemmas.Grind.{common_steps}
-use Rattle.buildozer.proofs.Lines.{err_is, read_statement, read_fault, read_nothing, chunk_boundary, newlines_split, map_more}
+use Rattle.buildozer.proofs.FileLines.{err_is, read_statement, read_fault, read_nothing, chunk_boundary, newlines_split, map_more}
 use Rattle.buildozer.proofs.file.read_text.Goals as goal
 
 pub loop-rest-init : goal.loop-rest-init
