@@ -14,3 +14,4 @@ pub mod ParseSteps
 pub mod Same
 pub mod Values
 pub mod Written
+pub mod RunSteps

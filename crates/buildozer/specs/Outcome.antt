@@ -31,9 +31,13 @@ is_query passes = list_all (λ p. is_empty p.commands) passes
 abbrev pub slots_of : List Statement → List (Slot Statement)
 slots_of statements = map Some statements
 
--- the text: the statements as the script left them, laid out; none for a query
+-- the text of slots; none for a query
+abbrev pub shown_text : Script → List (Slot Statement) → List ℕ
+shown_text passes slots = if is_query passes then [] else slots_text slots
+
+-- the text: the statements as the script left them, laid out
 abbrev pub text_after : Script → List Statement → List ℕ
-text_after passes statements = if is_query passes then [] else slots_text (slots_after meaning passes (slots_of statements))
+text_after passes statements = shown_text passes (slots_after meaning passes (slots_of statements))
 
 -- the messages: a fault is the only one
 abbrev pub messages_after : Script → List Statement → Option SyntaxFault → List (List ℕ)

@@ -11,9 +11,11 @@ mod parse;
 mod passes;
 mod quote;
 mod report;
+mod run;
 mod same;
 mod script;
 mod statement;
+#[cfg(test)]
 mod statement_tests;
 mod value;
 

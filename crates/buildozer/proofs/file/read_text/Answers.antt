@@ -1,7 +1,8 @@
-use Rattle.std.proofs.Common.{◌≡◌, ℕ, ◌+◌, ◌-◌, ◌<◌, [], ◌∷◌, ◌++◌, ◌∙◌, ap, sym, refl, take, drop, length, count_by, ◌==◌, map, append_assoc, append-nil, arith}
-use Rattle.std.specs.Prelude.{option_to_list, Some, None}
+use Rattle.std.proofs.Common.{◌≡◌, ℕ, ◌+◌, ◌-◌, ◌<◌, [], ◌∷◌, ◌++◌, ◌∙◌, ap, sym, subst, refl, take, drop, length, count_by, ◌==◌, map, append_assoc, append-nil, arith}
+use Rattle.std.specs.Prelude.{option_to_list, Some, None, Ok, Err}
 use Rattle.std.proofs.lemmas.Str.{IsUtf8-drop}
 use Rattle.std.proofs.lemmas.Grind.{common_steps}
+use Rattle.buildozer.specs.Grammar.{IsReadAs}
 use Rattle.buildozer.proofs.FileLines.{err_is, read_statement, read_fault, read_nothing, chunk_boundary, newlines_split, map_more}
 use Rattle.buildozer.proofs.file.read_text.Goals as goal
 
@@ -20,7 +21,7 @@ returns-in-Err c =
     let cut = rw c.as_bytes.ensures.value at c.chunk_len.ensures in
     let fault = c.in_ok-syntax_fault-in-Err.ensures in
     let read = c.in-Err.ensures.answer (λ e. fault.1 (err_is e)) in
-    let here = read_fault c.args.max_depth c.loop-rest.line n rest c.in-Err.fault cut.chunk (rw c.split_at.ensures.front at read) in
+    let here = read_fault c.args.max_depth c.loop-rest.line n rest c.in-Err.fault cut.chunk (subst (λ bytes. IsReadAs c.loop-rest.line c.args.max_depth bytes (Err c.in-Err.fault)) c.split_at.ensures.front read) in
     record {
       statements = c.loop-rest.invariant.0;
       fault = Some c.in-Err.fault;
@@ -47,7 +48,7 @@ loop-rest-preserved c =
       read = λ more fault h.
           rw (append_assoc done (option_to_list statement) more)
           (before.read (option_to_list statement ++ more) fault
-            (read_statement c.args.max_depth c.loop-rest.line n rest statement more fault cut.chunk (rw front at read) (rw (lines, back) at h)));
+            (read_statement c.args.max_depth c.loop-rest.line n rest statement more fault cut.chunk (subst (λ bytes. IsReadAs c.loop-rest.line c.args.max_depth bytes (Ok statement)) front read) (rw (lines, back) at h)));
       line = rw (lines, back) (omega (arith, before.line, newlines_split n rest));
       utf8 = rw back (IsUtf8-drop rest n before.utf8 boundary);
     })
