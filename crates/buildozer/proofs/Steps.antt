@@ -71,9 +71,9 @@ either_tells false more f g h e = g h e.1
 pub tells_more : {X : Type 0} (changed more : Bool) (new old : List X) (n o : X) → length new ≡ length old → Tells changed new old → Tells more n o
     → Tells (changed || more) (new ++ n ∷ []) (old ++ o ∷ [])
 tells_more changed more new old n o l before here = record {
-    differs = λ h e. either_tells changed more before.differs here.differs h (last_of new old n o l e);
-    same = λ h. let both = or_false changed more h in λ i. before.same both.0 i ++ here.same both.1 i ∷ [];
-  }
+  differs = λ h e. either_tells changed more before.differs here.differs h (last_of new old n o l e);
+  same = λ h. let both = or_false changed more h in λ i. before.same both.0 i ++ here.same both.1 i ∷ [];
+}
 
 -- the element at i is written
 pub tells_written : {X : Type 0} (changed here : Bool) (xs ys : List X) (i : ℕ) (d y : X) → i < length xs → length xs ≡ length ys → drop i xs ≡ drop i ys
@@ -94,6 +94,7 @@ either_more {A} {B} {W} changed here differs same all = (to changed here differs
     to true here differs f (inl t) = f (inl refl)
     to false here differs f (inl t) = f (inr (inl (differs t)))
     to changed here differs f (inr b) = f (inr (inr b))
+
     from : (changed here : Bool) → (here ≡ false → A → ⊥) → IsTrue changed ⊎ (A ⊎ B) → IsTrue (changed || here) ⊎ B
     from true here same x = inl refl
     from false here same (inr (inr b)) = inr b
@@ -140,6 +141,7 @@ all_left {A} = (from, λ a. inr a)
   where
     no_true : IsTrue false → ⊥
     no_true t = cc
+
     from : IsTrue false ⊎ A → A
     from (inl t) = absurd (no_true t)
     from (inr a) = a

@@ -154,8 +154,8 @@ escape_utf8 : (q d : ℕ) (cs v : List ℕ) → said q (92 ∷ (encode d ++ enco
 escape_utf8 q d cs v h behind =
     ⊎_elim (λ small. escape_low q d (encodes cs) v (rw (encode_low d small) at h) behind)
     (λ large.
-        let high = encode_high d large in
-        absurd (escape_high q high.first (high.others ++ encodes cs) v high.high.0 (rw high.bytes at h)))
+    let high = encode_high d large in
+    absurd (escape_high q high.first (high.others ++ encodes cs) v high.high.0 (rw high.bytes at h)))
     (cases_lt d 128)
 
 low_utf8 : (q c : ℕ) (cs v : List ℕ) → c < 128 → scalar c ≡ true → said q (c ∷ encodes cs) ≡ Some v
@@ -174,11 +174,11 @@ said_utf8 q low (c ∷ d ∷ cs) v ok h =
     let oks = both_true (scalar c) (scalars (d ∷ cs)) ok in
     let behind = both_true (scalar d) (scalars cs) oks.1 in
     ⊎_elim (λ small.
-        let g : said q (c ∷ encodes (d ∷ cs)) ≡ Some v = rw (encode_low c small) at h in
-        low_utf8 q c (d ∷ cs) v small oks.0 g (λ e. escape_utf8 q d cs v (rw e at g) (λ w k. said_utf8 q low cs w behind.1 k)) (λ w k. said_utf8 q low (d ∷ cs) w oks.1 k))
+    let g : said q (c ∷ encodes (d ∷ cs)) ≡ Some v = rw (encode_low c small) at h in
+    low_utf8 q c (d ∷ cs) v small oks.0 g (λ e. escape_utf8 q d cs v (rw e at g) (λ w k. said_utf8 q low cs w behind.1 k)) (λ w k. said_utf8 q low (d ∷ cs) w oks.1 k))
     (λ large.
-        let rest = high_rest q c (d ∷ cs) v low large h in
-        subst IsUtf8 (sym rest.2) (utf8_more c rest.0 oks.0 (said_utf8 q low (d ∷ cs) rest.0 oks.1 rest.1)))
+    let rest = high_rest q c (d ∷ cs) v low large h in
+    subst IsUtf8 (sym rest.2) (utf8_more c rest.0 oks.0 (said_utf8 q low (d ∷ cs) rest.0 oks.1 rest.1)))
     (cases_lt c 128)
 
 -- the quote before it

@@ -158,7 +158,12 @@ pub fn run<S: Source, W: Sink>(
         Err(ReadFault::ReadFailed) => return Err(RunFault::ReadFailed),
         Err(ReadFault::InputTooLong) => return Err(RunFault::InputTooLong),
     };
-    let (text, report) = edit(alloc, passes.as_slice(), options.max_depth, bytes.as_slice())?;
+    let (text, report) = edit(
+        alloc,
+        passes.as_slice(),
+        options.max_depth,
+        bytes.as_slice(),
+    )?;
     match write_all(sink, text.as_slice()) {
         Ok(()) => Ok(report),
         Err(Failed) => Err(RunFault::WriteFailed),

@@ -42,16 +42,18 @@ loop-rest-preserved c =
     let back = c.split_at.ensures.back in
     let lines : c.newlines.result ≡ count_by (λ b. b == 10) (take n rest) = rw (c.newlines.ensures, c.as_bytes-in-loop-rest.ensures.value, front) refl in
     let boundary = chunk_boundary rest n before.utf8 cut.some cut.within cut.newline in
-    let read = c.in-Ok.ensures.answer (λ e. cc) in
-    (done ++ option_to_list statement, record {
-      slots = rw (c.in_ok-keep.ensures, before.slots) (map_more Some done (option_to_list statement));
-      read = λ more fault h.
-          rw (append_assoc done (option_to_list statement) more)
-          (before.read (option_to_list statement ++ more) fault
+    let read = c.in-Ok.ensures.answer (λ e. cc) in (
+      done ++ option_to_list statement,
+      record {
+        slots = rw (c.in_ok-keep.ensures, before.slots) (map_more Some done (option_to_list statement));
+        read = λ more fault h.
+            rw (append_assoc done (option_to_list statement) more)
+            (before.read (option_to_list statement ++ more) fault
             (read_statement c.args.max_depth c.loop-rest.line n rest statement more fault cut.chunk (subst (λ bytes. IsReadAs c.loop-rest.line c.args.max_depth bytes (Ok statement)) front read) (rw (lines, back) at h)));
-      line = rw (lines, back) (omega (arith, before.line, newlines_split n rest));
-      utf8 = rw back (IsUtf8-drop rest n before.utf8 boundary);
-    })
+        line = rw (lines, back) (omega (arith, before.line, newlines_split n rest));
+        utf8 = rw back (IsUtf8-drop rest n before.utf8 boundary);
+      },
+    )
 
 pub returns : goal.returns
 returns c =

@@ -1,0 +1,6 @@
+use Rattle.std.proofs.Common.{◌≡◌, ◌++◌, map, drop, string_bytes}
+use Rattle.buildozer.specs.Groups.{commands_of}
+use Rattle.buildozer.proofs.group.read_commands.Given as goal
+
+abbrev pub invariant-loop-word : goal.invariant-loop-word
+invariant-loop-word l = l.commands.items ++ commands_of (map string_bytes (drop l.word-index l.words)) ≡ commands_of (map string_bytes l.words)

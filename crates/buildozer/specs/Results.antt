@@ -1,0 +1,6 @@
+-- What was read, with its value seen in another way.
+use Rattle.std.specs.Prelude.{Result, Ok, Err}
+
+abbrev pub map_ok : {T U E : Type 0} → (T → U) → Result T E → Result U E
+map_ok f (Ok value) = Ok (f value)
+map_ok f (Err fault) = Err fault
