@@ -1,3 +1,4 @@
 pub mod Answer
 pub mod Complete
+pub mod Examples
 pub mod Sound

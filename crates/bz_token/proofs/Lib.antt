@@ -1,3 +1,4 @@
+pub mod Examples
 pub mod Longest
 pub mod Progress
 pub mod Strings
