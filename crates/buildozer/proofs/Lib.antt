@@ -1,8 +1,10 @@
 mod Examples
+mod GrammarExamples
 mod WordExamples
 pub mod Adds
 pub mod Answer
 pub mod Complete
+pub mod Examples
 pub mod FileLines
 pub mod First
 pub mod Fresh

@@ -5,7 +5,8 @@ ghost use Rattle.bz_token.specs.Places.{Placed, placed};
 ghost use Rattle.buildozer.specs.declared.statement.Statement.{Statement};
 ghost use Rattle.buildozer.specs.declared.parse.ParseFault.{ParseFault};
 ghost use Rattle.buildozer.specs.declared.parse.ParseFault.TheVariants.{OutOfMemory};
-ghost use Rattle.buildozer.specs.declared.parse.State.TheVariants.{Start};
+ghost use Rattle.buildozer.specs.declared.parse.State.TheVariants.{Start, Assigned, Item, Behind};
+ghost use Rattle.buildozer.specs.declared.statement.Value.TheVariants.{List as ListValue};
 ghost use Rattle.buildozer.specs.Grammar.{IsReadAs, is_line, lexeme, written};
 ghost use Rattle.buildozer.specs.ParseSteps.{mark_of, with_argument, next, finish, run};
 
@@ -109,7 +110,55 @@ fn with_text(texts: Seq<Text>, text: Text) -> Result<Seq<Text>, AllocError>
     Ok(texts)
 }
 
-// The step into or out of a call, or to a value.
+fn close_list(statement: Statement, name: Text, texts: Seq<Text>) -> Result<State, AllocError>
+    ensures { IfOk result (λ s. s ≡ Behind (with_argument statement name (ListValue texts))) }
+{
+    let statement = with_argument(statement, name, Value::List(texts))?;
+    Ok(State::Behind(statement))
+}
+
+// The step where the value of an argument begins.
+fn value_step(
+    alloc: Global,
+    statement: Statement,
+    name: Text,
+    token: &Token<'_>,
+) -> Result<Option<State>, AllocError>
+    ensures { IfOk result (λ o. o ≡ next (lexeme (placed token.now)) (Assigned statement name)) }
+{
+    match mark_of(token) {
+        Mark::Quoted => {
+            let value = Value::One(Text::from_str(alloc, token.text)?);
+            let statement = with_argument(statement, name, value)?;
+            Ok(Some(State::Behind(statement)))
+        }
+        Mark::ListOpen => Ok(Some(State::Item(statement, name, Seq::new(alloc)))),
+        _ => Ok(None),
+    }
+}
+
+// The step where a string of a list may begin.
+fn item_step(
+    alloc: Global,
+    statement: Statement,
+    name: Text,
+    texts: Seq<Text>,
+    token: &Token<'_>,
+) -> Result<Option<State>, AllocError>
+    ensures { IfOk result (λ o. o ≡ next (lexeme (placed token.now)) (Item statement name texts)) }
+{
+    match mark_of(token) {
+        Mark::Quoted => {
+            let text = Text::from_str(alloc, token.text)?;
+            let texts = with_text(texts, text)?;
+            Ok(Some(State::BehindItem(statement, name, texts)))
+        }
+        Mark::ListClose => Ok(Some(close_list(statement, name, texts)?)),
+        _ => Ok(None),
+    }
+}
+
+// The step by a token. None: no statement goes on with it.
 fn step(alloc: Global, state: State, token: &Token<'_>) -> Result<Option<State>, AllocError>
     ensures { IfOk result (λ o. o ≡ next (lexeme (placed token.now)) state) }
 {
@@ -135,25 +184,13 @@ fn step(alloc: Global, state: State, token: &Token<'_>) -> Result<Option<State>,
             Mark::Equals => State::Assigned(statement, name),
             _ => return Ok(None),
         },
-        State::Assigned(statement, name) => match mark {
-            Mark::Quoted => {
-                let value = Value::One(Text::from_str(alloc, token.text)?);
-                State::Behind(with_argument(statement, name, value)?)
-            }
-            Mark::ListOpen => State::Item(statement, name, Seq::new(alloc)),
-            _ => return Ok(None),
-        },
-        State::Item(statement, name, texts) => match mark {
-            Mark::Quoted => {
-                let text = Text::from_str(alloc, token.text)?;
-                State::BehindItem(statement, name, with_text(texts, text)?)
-            }
-            Mark::ListClose => State::Behind(with_argument(statement, name, Value::List(texts))?),
-            _ => return Ok(None),
-        },
+        State::Assigned(statement, name) => return value_step(alloc, statement, name, token),
+        State::Item(statement, name, texts) => {
+            return item_step(alloc, statement, name, texts, token);
+        }
         State::BehindItem(statement, name, texts) => match mark {
             Mark::Comma => State::Item(statement, name, texts),
-            Mark::ListClose => State::Behind(with_argument(statement, name, Value::List(texts))?),
+            Mark::ListClose => close_list(statement, name, texts)?,
             _ => return Ok(None),
         },
         State::Behind(statement) => match mark {
