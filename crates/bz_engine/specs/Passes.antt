@@ -1,6 +1,6 @@
 -- A script over the slots of a file: passes one after another, and in a pass command by command (buildozer README: commands are executed in order).
 -- It is stated for any statements S, targets T, commands C and log entries M. A log has one list of entries for lines and messages, since their order is one.
-use Rattle.std.specs.Prelude.{Bool, if◌then◌else◌, List, [], ◌∷◌, ◌++◌, map, Option}
+use Rattle.std.specs.Prelude.{false, ◌||◌, Bool, if◌then◌else◌, List, [], ◌∷◌, ◌++◌, map, Option}
 use Rattle.std.specs.List.{flat_map, list_any}
 
 -- a slot of a file: a statement, or nothing where it was deleted
@@ -64,3 +64,17 @@ slots_after m (p ∷ ps) slots = slots_after m ps (slots_after_pass m p slots)
 abbrev pub log_of : {S T C M : Type 0} → Meaning S T C M → List (Pass T C) → List (Slot S) → List M
 log_of m [] slots = []
 log_of m (p ∷ ps) slots = log_of_pass m p slots ++ log_of m ps (slots_after_pass m p slots)
+
+-- whether an execution meets this test of its command and of the slot that it found
+abbrev pub meets : {S C : Type 0} → (C → Slot S → Bool) → C → Marked S → Bool
+meets test command x = if x.mark then test command x.slot else false
+
+-- whether one of the executions does
+abbrev pub some_of_commands : {S T C M : Type 0} → Meaning S T C M → (C → Slot S → Bool) → List C → List (Marked S) → Bool
+some_of_commands m test [] xs = false
+some_of_commands m test (c ∷ cs) xs = list_any (meets test c) xs || some_of_commands m test cs (map (executed m c) xs)
+
+abbrev pub some_execution : {S T C M : Type 0} → Meaning S T C M → (C → Slot S → Bool) → List (Pass T C) → List (Slot S) → Bool
+some_execution m test [] slots = false
+some_execution m test (p ∷ ps) slots =
+    some_of_commands m test p.commands (map (marked m p.target) slots) || some_execution m test ps (slots_after_pass m p slots)

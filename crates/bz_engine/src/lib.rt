@@ -3,10 +3,16 @@
 
 mod device;
 mod input;
+mod language;
 mod output;
+mod pass;
+mod script;
 mod std_device;
 
 pub use device::{Failed, Sink, Source};
 pub use input::{PIECE, ReadFault, read_all, read_more};
+pub use language::{Facts, Language};
 pub use output::write_all;
+pub use pass::{Kept, Log, Pass};
+pub use script::{exchange, run_script};
 pub use std_device::{FromRead, ToWrite};
