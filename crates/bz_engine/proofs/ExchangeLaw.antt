@@ -1,8 +1,8 @@
 -- The law Exchange, by induction on commands, passes and slots.
-use Rattle.std.proofs.Common.{◌≡◌, Bool, true, false, ◌||◌, List, [], ◌∷◌, ◌++◌, map, refl, sym, ◌∙◌, ap, append_assoc, append-nil}
+use Rattle.std.proofs.Common.{◌≡◌, Bool, true, false, ◌||◌, List, [], ◌∷◌, ◌++◌, map, refl, sym, length, suc, ◌∙◌, ap, append_assoc, append-nil}
 use Rattle.std.specs.List.{flat_map, list_any}
-use Rattle.bz_engine.specs.Passes.{Slot, Meaning, Pass, Marked, marked, executed, entries, slots_after_commands, log_of_commands, slots_after_pass, missing, slots_after, log_of, meets, some_of_commands, some_execution}
-use Rattle.bz_engine.specs.Exchange.{Exchange, logs_alone, slot_after_commands, slot_after_pass, slot_after, kept_alone, logs_of, logs_and, kept_and, kept_of, told, some_of_commands_alone, some_alone}
+use Rattle.bz_engine.specs.Passes.{Slot, Meaning, Pass, Marked, marked, executed, entries, slots_after_commands, log_of_commands, slots_after_pass, missing, is_missing, some_missing, slots_after, log_of, meets, some_of_commands, some_execution}
+use Rattle.bz_engine.specs.Exchange.{Exchange, logs_alone, slot_after_commands, slot_after_pass, slot_after, kept_alone, logs_of, logs_and, kept_and, kept_of, told, some_not_found, Fits, no_slot, some_of_commands_alone, some_alone}
 
 -- a `map` of a `map`
 map_map : {A B C : Type 0} (g : B → C) (f : A → B) (xs : List A) → map g (map f xs) ≡ map (λ x. g (f x)) xs
@@ -122,5 +122,34 @@ some_alone_lem m test (p ∷ ps) slots =
     ∙ ap (λ b. list_any (λ x. some_of_commands_alone m test p.commands (marked m p.target x)) slots || b) rest
     ∙ any_or _ _ slots
 
+pub missing_lem : {S T C M : Type 0} (m : Meaning S T C M) (ps : List (Pass T C)) (slots : List (Slot S))
+    → some_missing m ps slots ≡ some_not_found m ps (kept_of m ps slots)
+missing_lem m [] slots = refl
+missing_lem m (p ∷ ps) slots =
+    ap (λ b. is_missing m p.target (list_any (m.marks p.target) slots) || b) (missing_lem m ps (slots_after_pass m p slots))
+
+-- there is a place for each pass and each command, and nothing in it before the first slot
+logs_length : {S T C M : Type 0} (m : Meaning S T C M) (cs : List C) (xs : List (Marked S)) → length (logs_of m cs xs) ≡ length cs
+logs_length m [] xs = refl
+logs_length m (c ∷ cs) xs = ap suc (logs_length m cs (map (executed m c) xs))
+
+pub kept_fits : {S T C M : Type 0} (m : Meaning S T C M) (ps : List (Pass T C)) (slots : List (Slot S)) → Fits (kept_of m ps slots) ps
+kept_fits m [] slots = tt
+kept_fits m (p ∷ ps) slots = (logs_length m p.commands _, kept_fits m ps (slots_after_pass m p slots))
+
+logs_nothing : {S T C M : Type 0} (m : Meaning S T C M) (cs : List C) → map (λ command. []) cs ≡ logs_of m cs []
+logs_nothing m [] = refl
+logs_nothing m (c ∷ cs) = ap (λ l. [] ∷ l) (logs_nothing m cs)
+
+slots_nothing : {S T C M : Type 0} (m : Meaning S T C M) (cs : List C) → slots_after_commands m cs [] ≡ []
+slots_nothing m [] = refl
+slots_nothing m (c ∷ cs) = slots_nothing m cs
+
+pub kept_nothing : {S T C M : Type 0} (m : Meaning S T C M) (ps : List (Pass T C)) → map no_slot ps ≡ kept_of m ps []
+kept_nothing m [] = refl
+kept_nothing m (p ∷ ps) =
+    let none : slots_after_pass m p [] ≡ [] = ap (map (λ x. x.slot)) (slots_nothing m p.commands) in
+    rw (none, ← logs_nothing m p.commands, ← kept_nothing m ps) refl
+
 pub exchange : {S T C M : Type 0} (m : Meaning S T C M) (ps : List (Pass T C)) (slots : List (Slot S)) → Exchange m ps slots
-exchange m ps slots = record { each_slot_alone = slots_alone m ps slots; log_by_pass_and_command = log_by_pass m ps slots; one_slot_more = kept_more m ps slots; some_slot_alone = λ test. some_alone_lem m test ps slots }
+exchange m ps slots = record { each_slot_alone = slots_alone m ps slots; log_by_pass_and_command = log_by_pass m ps slots; one_slot_more = kept_more m ps slots; some_slot_alone = λ test. some_alone_lem m test ps slots; missing_by_pass = missing_lem m ps slots; nothing_kept = sym (kept_nothing m ps); fits = kept_fits m ps slots }

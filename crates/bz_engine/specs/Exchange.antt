@@ -1,7 +1,7 @@
 -- A script slot by slot: each slot by itself under the whole script, what is kept of the slots so far, and the log told of it at the end.
 use Rattle.std.specs.Prelude.{length, ◌≡◌, Bool, false, ◌||◌, List, [], ◌∷◌, ◌++◌, map}
 use Rattle.std.specs.List.{flat_map, list_any}
-use Rattle.bz_engine.specs.Passes.{Slot, Meaning, Pass, Marked, marked, executed, entries, slots_after_pass, missing, slots_after, log_of, meets, some_execution}
+use Rattle.bz_engine.specs.Passes.{Slot, Meaning, Pass, Marked, marked, executed, entries, slots_after_pass, missing, is_missing, some_missing, slots_after, log_of, meets, some_execution}
 
 -- What is kept of the slots so far: for each pass whether something was marked, and for each of its commands the log.
 pub record Kept (M : Type 0) : Type 0 where
@@ -24,6 +24,12 @@ abbrev pub told : {S T C M : Type 0} → Meaning S T C M → List (Pass T C) →
 told m [] ks = []
 told m (p ∷ ps) [] = []
 told m (p ∷ ps) (k ∷ ks) = missing m p.target k.found ++ flat_map (λ log. log) k.logs ++ told m ps ks
+
+-- whether the target of one of the passes was not found
+abbrev pub some_not_found : {S T C M : Type 0} → Meaning S T C M → List (Pass T C) → List (Kept M) → Bool
+some_not_found m [] ks = false
+some_not_found m (p ∷ ps) [] = false
+some_not_found m (p ∷ ps) (k ∷ ks) = is_missing m p.target k.found || some_not_found m ps ks
 
 -- what is kept of no slot
 abbrev pub no_slot : {T C M : Type 0} → Pass T C → Kept M
@@ -90,3 +96,6 @@ pub record Exchange {S T C M : Type 0} (m : Meaning S T C M) (ps : List (Pass T 
   pub log_by_pass_and_command : log_of m ps slots ≡ told m ps (kept_of m ps slots)
   pub one_slot_more : (slot : Slot S) → kept_of m ps (slots ++ slot ∷ []) ≡ kept_and (kept_of m ps slots) (kept_alone m ps slot)
   pub some_slot_alone : (test : C → Slot S → Bool) → some_execution m test ps slots ≡ list_any (some_alone m test ps) slots
+  pub missing_by_pass : some_missing m ps slots ≡ some_not_found m ps (kept_of m ps slots)
+  pub nothing_kept : kept_of m ps [] ≡ map no_slot ps
+  pub fits : Fits (kept_of m ps slots) ps

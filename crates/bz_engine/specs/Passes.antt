@@ -48,9 +48,12 @@ log_of_commands m (c ∷ cs) xs = flat_map (entries m c) xs ++ log_of_commands m
 abbrev pub slots_after_pass : {S T C M : Type 0} → Meaning S T C M → Pass T C → List (Slot S) → List (Slot S)
 slots_after_pass m p slots = map (λ x. x.slot) (slots_after_commands m p.commands (map (marked m p.target) slots))
 
--- what is said of a target that has to mark something and marks nothing
+-- whether a target has to mark something and marks nothing, and what is said of it
+abbrev pub is_missing : {S T C M : Type 0} → Meaning S T C M → T → Bool → Bool
+is_missing m target found = if found then false else m.must_mark target
+
 abbrev pub missing : {S T C M : Type 0} → Meaning S T C M → T → Bool → List M
-missing m target found = if m.must_mark target then (if found then [] else m.not_found target ∷ []) else []
+missing m target found = if is_missing m target found then m.not_found target ∷ [] else []
 
 abbrev pub log_of_pass : {S T C M : Type 0} → Meaning S T C M → Pass T C → List (Slot S) → List M
 log_of_pass m p slots =
@@ -78,3 +81,9 @@ abbrev pub some_execution : {S T C M : Type 0} → Meaning S T C M → (C → Sl
 some_execution m test [] slots = false
 some_execution m test (p ∷ ps) slots =
     some_of_commands m test p.commands (map (marked m p.target) slots) || some_execution m test ps (slots_after_pass m p slots)
+
+-- whether the target of one of the passes has to mark something and marks nothing
+abbrev pub some_missing : {S T C M : Type 0} → Meaning S T C M → List (Pass T C) → List (Slot S) → Bool
+some_missing m [] slots = false
+some_missing m (p ∷ ps) slots =
+    is_missing m p.target (list_any (m.marks p.target) slots) || some_missing m ps (slots_after_pass m p slots)

@@ -3,7 +3,7 @@
 ghost use Rattle.std.specs.Prelude.{◌≡◌, ◌++◌, Bool, Option, IfOk, OnOk};
 ghost use Rattle.bz_engine.specs.Passes.{Meaning, Slot};
 
-use crate::pass::Log;
+use crate::log::Log;
 use std::alloc::AllocError;
 
 /// Whether an execution changed its statement, and whether it failed.
@@ -19,7 +19,7 @@ pub trait Language<S> {
 
     type Command;
 
-    type Entry;
+    type Entry: Drop;
 
     // What contracts see of a slot.
     ghost Seen: { Type 0 };
@@ -35,6 +35,14 @@ pub trait Language<S> {
     /// Whether the target marks what is in the slot.
     fn marks(&self, target: &Self::Target, slot: &Option<S>) -> bool
         ensures { result ≡ (meaning self.now).marks target.now (seen slot.now) };
+
+    /// Whether it is told of a pass that its target marked nothing.
+    fn must_mark(&self, target: &Self::Target) -> bool
+        ensures { result ≡ (meaning self.now).must_mark target.now };
+
+    /// What is told of such a pass.
+    fn not_found(&self, target: &Self::Target) -> Result<Self::Entry, AllocError>
+        ensures { IfOk result (λ entry. entry ≡ (meaning self.now).not_found target.now) };
 
     /// One command on a slot. What it tells goes behind the log.
     fn apply(

@@ -4,8 +4,10 @@ ghost use Rattle.std.specs.Prelude.{◌≡◌, ◌++◌, ◌||◌, [], List, len
 ghost use Rattle.bz_engine.specs.Passes.{Slot, Pass as APass, executed, entries, meets, marked};
 ghost use Rattle.bz_engine.specs.Exchange.{Exchange, Fits, slot_after_commands, slot_after_pass, slot_after, logs_alone, logs_and, pass_alone, pass_and, kept_alone, kept_and, some_of_commands_alone, some_alone};
 
+use crate::kept::Kept;
 use crate::language::{Facts, Language};
-use crate::pass::{Kept, Log, Pass};
+use crate::log::Log;
+use crate::pass::Pass;
 use std::alloc::AllocError;
 
 /// One command on a slot that may be marked.
