@@ -1,11 +1,12 @@
 -- One turn of a loop that goes over a list and writes each element.
-use Rattle.std.proofs.Common.{◌≡◌, ℕ, suc, ◌<◌, ◌+◌, Bool, true, false, ◌||◌, List, [], ◌∷◌, ◌++◌, length, take, drop, get_or, refl, sym, ◌∙◌, ap, append_assoc}
-use Rattle.std.proofs.lemmas.List.{drop_more, take_more_set}
+use Rattle.std.proofs.Common.{◌≡◌, ℕ, suc, ◌<◌, ◌+◌, Bool, true, false, ◌||◌, List, [], ◌∷◌, ◌++◌, length, map, take, drop, get_or, refl, sym, ◌∙◌, ap, append_assoc}
+use Rattle.std.proofs.lemmas.List.{drop_more, take_more_set, length-map}
+use Rattle.std.proofs.Math.Nat.{suc_inj}
 use Rattle.std.proofs.lemmas.Grind.{common_steps}
 use Rattle.std.proofs.Common.{arith}
 use Rattle.std.proofs.Math.ListN.{set}
-use Rattle.bz_engine.specs.Passes.{Slot, Meaning, Pass, marked}
-use Rattle.bz_engine.specs.Exchange.{Kept, slot_after_pass, slot_after, kept_alone, kept_and, Fits, pass_and, pass_alone, some_of_commands_alone, some_alone}
+use Rattle.bz_engine.specs.Passes.{Slot, Meaning, Pass, Marked, executed, marked}
+use Rattle.bz_engine.specs.Exchange.{Kept, logs_alone, logs_and, slot_after_pass, slot_after, kept_alone, kept_and, Fits, pass_and, pass_alone, no_slot, some_of_commands_alone, some_alone}
 
 -- the element at i is written, and the rest is still to come
 rest_after_write : {X : Type 0} (xs : List X) (i : ℕ) (y : X) → i < length xs → drop (i + 1) (set xs i y) ≡ drop (i + 1) xs
@@ -53,3 +54,23 @@ fits_here ks ps i e p h l is fits = (rw (drop_more ks i e h, rest_of ps i p l is
 pub fits_behind : {T C M : Type 0} (ks : List (Kept M)) (ps : List (Pass T C)) (i : ℕ) (e k : Kept M) (p : Pass T C) → i < length ks → i < length ps → p ≡ get_or ps i p
     → Fits (drop i ks) (drop i ps) → Fits (drop (i + 1) (set ks i k)) (drop (i + 1) ps)
 fits_behind ks ps i e k p h l is fits = rw (rest_after_write ks i k h) ((rw (drop_more ks i e h, rest_of ps i p l is) at fits).1)
+
+-- there is still a place for each pass and each command
+logs_and_length : {S T C M : Type 0} (m : Meaning S T C M) (cs : List C) (x : Marked S) (logs : List (List M)) → length logs ≡ length cs
+    → length (logs_and logs (logs_alone m cs x)) ≡ length cs
+logs_and_length m [] x [] h = refl
+logs_and_length m [] x (log ∷ logs) h = refl
+logs_and_length m (c ∷ cs) x [] h = h
+logs_and_length m (c ∷ cs) x (log ∷ logs) h = ap suc (logs_and_length m cs (executed m c x) logs (suc_inj h))
+
+pub kept_and_fits : {S T C M : Type 0} (m : Meaning S T C M) (ps : List (Pass T C)) (slot : Slot S) (ks : List (Kept M)) → Fits ks ps
+    → Fits (kept_and ks (kept_alone m ps slot)) ps
+kept_and_fits m [] slot [] h = h
+kept_and_fits m [] slot (k ∷ ks) h = absurd h
+kept_and_fits m (p ∷ ps) slot [] h = h
+kept_and_fits m (p ∷ ps) slot (k ∷ ks) h =
+    (logs_and_length m p.commands (marked m p.target slot) k.logs h.0, kept_and_fits m ps (slot_after_pass m p slot) ks h.1)
+
+pub no_slot_fits : {T C : Type 0} (M : Type 0) (ps : List (Pass T C)) → Fits {M = M} (map no_slot ps) ps
+no_slot_fits M [] = tt
+no_slot_fits M (p ∷ ps) = (length-map p.commands (λ command. []), no_slot_fits M ps)

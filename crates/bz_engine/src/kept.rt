@@ -1,9 +1,9 @@
 //! What a run keeps of the slots that are done, and what it tells of them at its end.
 
-ghost use Rattle.std.specs.Prelude.{◌≡◌, ◌++◌, [], map, length, IfOk, OnOk};
+ghost use Rattle.std.specs.Prelude.{◌≡◌, ◌++◌, [], map, IfOk, OnOk};
 ghost use Rattle.std.specs.List.{flat_map};
 ghost use Rattle.bz_engine.specs.Passes.{is_missing, missing};
-ghost use Rattle.bz_engine.specs.Exchange.{no_slot, told, some_not_found};
+ghost use Rattle.bz_engine.specs.Exchange.{Fits, no_slot, told, some_not_found};
 
 use crate::language::Language;
 use crate::log::Log;
@@ -42,7 +42,8 @@ pub fn nothing_kept<T, C, M: Drop>(
     alloc: Global,
     passes: &[Pass<T, C>],
 ) -> Result<Vec<Kept<M>>, AllocError>
-    ensures { IfOk result (λ kept. kept.items ≡ map no_slot passes.now) }
+    ensures nothing { IfOk result (λ kept. kept.items ≡ map no_slot passes.now) }
+    ensures fits { IfOk result (λ kept. Fits kept.items passes.now) }
 {
     let mut kept = Vec::with_capacity(alloc, passes.len())?;
     for pass in passes {
@@ -96,7 +97,7 @@ pub fn tell<S, L: Language<S>>(
     passes: &[Pass<L::Target, L::Command>],
     kept: &mut [Kept<L::Entry>],
 ) -> Result<Log<L::Entry>, AllocError>
-    requires { length kept.old ≡ length passes.now }
+    requires { Fits kept.old passes.now }
     ensures { IfOk result (λ log. log ≡ told (L.meaning language.now) passes.now kept.old) }
 {
     let mut log = Log::new(alloc);
@@ -112,7 +113,7 @@ pub fn is_some_missing<S, L: Language<S>>(
     passes: &[Pass<L::Target, L::Command>],
     kept: &[Kept<L::Entry>],
 ) -> bool
-    requires { length kept.now ≡ length passes.now }
+    requires { Fits kept.now passes.now }
     ensures { result ≡ some_not_found (L.meaning language.now) passes.now kept.now }
 {
     for i in 0..passes.len() {

@@ -20,3 +20,6 @@ pub use output::write_all;
 pub use pass::Pass;
 pub use script::{exchange, run_script};
 pub use std_device::{FromRead, ToWrite};
+
+#[cfg(test)]
+mod tests;

@@ -91,6 +91,7 @@ pub fn run_script<S, L: Language<S>>(
 ) -> Result<(), AllocError>
     // There is a place for each pass and each command.
     requires { Fits kept.old passes.now }
+    ensures fits { OnOk result (Fits kept.new passes.now) }
     ensures slot { OnOk result (L.seen slot.new ≡ slot_after (L.meaning language.now) passes.now (L.seen slot.old)) }
     ensures kept { OnOk result (kept.new ≡ kept_and kept.old (kept_alone (L.meaning language.now) passes.now (L.seen slot.old))) }
     ensures changed { OnOk result (facts.new.changed ≡ (facts.old.changed || some_alone (L.meaning language.now) (L.changes language.now) passes.now (L.seen slot.old))) }

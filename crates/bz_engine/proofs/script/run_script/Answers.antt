@@ -1,6 +1,7 @@
-use Rattle.std.proofs.Common.{◌∙◌, arith, refl}
+use Rattle.std.proofs.Common.{◌≡◌, ◌∙◌, arith, refl}
 use Rattle.std.proofs.lemmas.Grind.{common_steps}
-use Rattle.bz_engine.proofs.Steps.{fits_length, fits_here, fits_behind, slot_rest, kept_rest, some_rest}
+use Rattle.bz_engine.proofs.Steps.{fits_length, fits_here, fits_behind, slot_rest, kept_rest, some_rest, kept_and_fits}
+use Rattle.bz_engine.specs.Exchange.{kept_and, kept_alone}
 use Rattle.bz_engine.proofs.script.run_script.Goals as goal
 
 pub loop-i-init : goal.loop-i-init
@@ -30,3 +31,10 @@ loop-i-preserved g c =
       changed = some_rest meaning (g.L.Language.changes c.args.language.now) passes i p before after c.loop-i.facts.changed c.run_pass.new.facts.changed (omega arith) is ensures.slot ensures.changed ∙ inv.changed;
       failed = some_rest meaning (g.L.Language.fails c.args.language.now) passes i p before after c.loop-i.facts.failed c.run_pass.new.facts.failed (omega arith) is ensures.slot ensures.failed ∙ inv.failed;
     }
+
+pub returns-clause-fits : goal.returns-clause-fits
+returns-clause-fits g c =
+    let meaning = g.L.Language.meaning c.args.language.now in
+    let slot = g.L.Language.seen c.args.slot.now in
+    let all : c.loop-i.kept ≡ kept_and c.args.kept.now (kept_alone meaning c.args.passes.now slot) = grind (arith, common_steps, c.loop-i.invariant.kept) in
+    rw all (kept_and_fits meaning c.args.passes.now slot c.args.kept.now c.requires)

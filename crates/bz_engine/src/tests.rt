@@ -1,0 +1,7 @@
+//! Devices that cut and fail, and a small language of targets and commands.
+
+mod devices;
+mod drip;
+mod feed;
+mod rules;
+mod scripts;
