@@ -3,5 +3,6 @@
 mod devices;
 mod drip;
 mod feed;
+mod machine;
 mod rules;
 mod scripts;

@@ -35,12 +35,23 @@ fn reads_pieces(rt: HostRuntime) -> Result<(), Fail> {
         let bytes = read_lines(alloc, piece, None, reads)?;
         assert_eq!(rt; bytes.as_slice(), b"a\nbc\nd".as_slice());
         let short = read_lines(alloc, piece, None, reads - 1);
-        assert_eq!(rt; short.err(), Some(ReadFault::InputTooLong), "in {reads} reads");
+        assert_eq!(rt;
+            short.err(),
+            Some(ReadFault::InputTooLong),
+            "in {reads} reads"
+        );
         let failed = read_lines(alloc, piece, Some(reads), reads);
-        assert_eq!(rt; failed.err(), Some(ReadFault::ReadFailed), "at read {reads}");
+        assert_eq!(rt;
+            failed.err(),
+            Some(ReadFault::ReadFailed),
+            "at read {reads}"
+        );
     }
     let mut endless = Feed::new(Input::Endless(b'x'), Piece::Line, None);
-    assert_eq!(rt; read_all(alloc, &mut endless, 3).err(), Some(ReadFault::InputTooLong));
+    assert_eq!(rt;
+        read_all(alloc, &mut endless, 3).err(),
+        Some(ReadFault::InputTooLong)
+    );
     assert_eq!(rt; endless.reads, 3);
     Ok(())
 }
@@ -52,12 +63,18 @@ fn reads_behind(rt: HostRuntime) -> Result<(), Fail> {
     let mut feed = Feed::new(Input::Bytes(b"x = 1\ny = 2\n"), Piece::Line, Some(2));
     assert_eq!(rt; read_more(&mut feed, &mut bytes, 1), Ok(6));
     assert_eq!(rt; bytes.as_slice(), b"ahead x = 1\n".as_slice());
-    assert_eq!(rt; read_more(&mut feed, &mut bytes, 1), Err(ReadFault::ReadFailed));
+    assert_eq!(rt;
+        read_more(&mut feed, &mut bytes, 1),
+        Err(ReadFault::ReadFailed)
+    );
     assert_eq!(rt; bytes.as_slice(), b"ahead x = 1\n".as_slice());
     assert_eq!(rt; feed.failures(), 1);
     let mut endless = Feed::new(Input::Endless(b'x'), Piece::AtMost(9000), None);
     assert_eq!(rt; read_more(&mut endless, &mut bytes, 1), Ok(8192));
-    assert_eq!(rt; read_more(&mut endless, &mut bytes, 0), Err(ReadFault::InputTooLong));
+    assert_eq!(rt;
+        read_more(&mut endless, &mut bytes, 0),
+        Err(ReadFault::InputTooLong)
+    );
     assert_eq!(rt; endless.reads, 1);
     Ok(())
 }
@@ -69,7 +86,11 @@ fn writes_pieces(rt: HostRuntime) -> Result<(), Fail> {
     for (most, writes) in [(1, 10), (3, 4), (10, 1), (99, 1)] {
         let mut drip = Drip::new(alloc, most, None);
         assert_eq!(rt; write_all(&mut drip, text), Ok(()));
-        assert_eq!(rt; (drip.writes, drip.failures()), (writes, 0), "at most {most}");
+        assert_eq!(rt;
+            (drip.writes, drip.failures()),
+            (writes, 0),
+            "at most {most}"
+        );
         assert_eq!(rt; drip.taken.as_slice(), text.as_slice(), "at most {most}");
     }
     let mut drip = Drip::new(alloc, 1, Some(3));
@@ -97,7 +118,10 @@ impl Write for Full {
 fn stands_on_std(rt: HostRuntime) -> Result<(), Fail> {
     let alloc = rt.alloc();
     let mut source = FromRead::new(b"f()\n".as_slice());
-    assert_eq!(rt; read_all(alloc, &mut source, 2)?.as_slice(), b"f()\n".as_slice());
+    assert_eq!(rt;
+        read_all(alloc, &mut source, 2)?.as_slice(),
+        b"f()\n".as_slice()
+    );
     assert_eq!(rt; source.failures(), 0);
 
     let mut text: Vec<u8> = Vec::new(alloc);

@@ -41,7 +41,9 @@ impl Sink for Drip {
     fn write(&mut self, bytes: &[u8]) -> Result<usize, Failed> {
         self.writes = self.writes.saturating_add(1);
         let n = self.most.max(1).min(bytes.len());
-        if self.fails_at == Some(self.writes) || self.taken.extend_from_slice(&bytes[..n]).is_err() {
+        if self.fails_at == Some(self.writes)
+            || self.taken.extend_from_slice(&bytes[..n]).is_err()
+        {
             self.failures = self.failures.saturating_add(1);
             return Err(Failed);
         }

@@ -39,7 +39,9 @@ pub struct Rules;
 
 impl Language<Rule> for Rules {
     type Target = Target;
+
     type Command = Command;
+
     type Entry = Entry;
 
     ghost use Rattle.bz_engine.specs.declared.tests.rules.Rule.{Rule as ARule};
@@ -53,11 +55,11 @@ impl Language<Rule> for Rules {
     ghost seen = { λ slot. slot };
 
     ghost meaning = { λ _. record {
-        marks = λ target slot. elim slot as (λ _. Bool) [ None ↦ false | Some rule ↦ elim target as (λ _. Bool) [ Name n ↦ nat_eq rule.name n | All ↦ true ] ];
-        must_mark = λ target. elim target as (λ _. Bool) [ Name n ↦ true | All ↦ false ];
-        not_found = λ target. NotFound;
-        after = λ command slot. elim slot as (λ _. Option ARule) [ None ↦ None | Some rule ↦ elim command as (λ _. Option ARule) [ SetName n ↦ Some (record rule { name = n }) | Delete ↦ None | PrintName ↦ Some rule | PrintKind ↦ Some rule | Refuse ↦ Some rule ] ];
-        says = λ command slot. elim slot as (λ _. List AnEntry) [ None ↦ [] | Some rule ↦ elim command as (λ _. List AnEntry) [ SetName n ↦ [] | Delete ↦ [] | PrintName ↦ Line rule.name ∷ [] | PrintKind ↦ Line rule.kind ∷ [] | Refuse ↦ Refused rule.name ∷ [] ] ]
+      marks = λ target slot. elim slot as (λ _. Bool) [ None ↦ false | Some rule ↦ elim target as (λ _. Bool) [ Name n ↦ nat_eq rule.name n | All ↦ true ] ];
+      must_mark = λ target. elim target as (λ _. Bool) [ Name n ↦ true | All ↦ false ];
+      not_found = λ target. NotFound;
+      after = λ command slot. elim slot as (λ _. Option ARule) [ None ↦ None | Some rule ↦ elim command as (λ _. Option ARule) [ SetName n ↦ Some (record rule { name = n }) | Delete ↦ None | PrintName ↦ Some rule | PrintKind ↦ Some rule | Refuse ↦ Some rule ] ];
+      says = λ command slot. elim slot as (λ _. List AnEntry) [ None ↦ [] | Some rule ↦ elim command as (λ _. List AnEntry) [ SetName n ↦ [] | Delete ↦ [] | PrintName ↦ Line rule.name ∷ [] | PrintKind ↦ Line rule.kind ∷ [] | Refuse ↦ Refused rule.name ∷ [] ] ];
     } };
 
     ghost changes = { λ _ command slot. elim slot as (λ _. Bool) [ None ↦ false | Some rule ↦ elim command as (λ _. Bool) [ SetName n ↦ not (nat_eq rule.name n) | Delete ↦ true | PrintName ↦ false | PrintKind ↦ false | Refuse ↦ false ] ] };
@@ -96,7 +98,10 @@ impl Language<Rule> for Rules {
         match command {
             Command::SetName(name) => {
                 facts.changed = rule.name != *name;
-                *slot = Some(Rule { kind: rule.kind, name: *name });
+                *slot = Some(Rule {
+                    kind: rule.kind,
+                    name: *name,
+                });
             }
             Command::Delete => {
                 facts.changed = true;

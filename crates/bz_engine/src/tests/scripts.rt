@@ -18,11 +18,7 @@ struct Ran {
 }
 
 /// Slot by slot, with what is kept in between.
-fn run(
-    alloc: Global,
-    passes: &[Pass<Target, Command>],
-    rules: &[Rule],
-) -> Result<Ran, AllocError> {
+fn run(alloc: Global, passes: &[Pass<Target, Command>], rules: &[Rule]) -> Result<Ran, AllocError> {
     let mut kept: Vec<Kept<Entry>> = nothing_kept(alloc, passes)?;
     let mut slots = Vec::new(alloc);
     let mut facts = Facts {
@@ -44,29 +40,57 @@ fn run(
     })
 }
 
-fn pass(alloc: Global, target: Target, commands: &[Command]) -> Result<Pass<Target, Command>, AllocError> {
+fn pass(
+    alloc: Global,
+    target: Target,
+    commands: &[Command],
+) -> Result<Pass<Target, Command>, AllocError> {
     Ok(Pass {
         target,
         commands: commands.to_vec(alloc)?,
     })
 }
 
-const F: Rule = Rule { kind: b'f', name: b'a' };
-const G: Rule = Rule { kind: b'g', name: b'b' };
+const F: Rule = Rule {
+    kind: b'f',
+    name: b'a',
+};
+
+const G: Rule = Rule {
+    kind: b'g',
+    name: b'b',
+};
 
 // `set name b` does not hide the rule from the next command of its pass, but from the pass behind it.
 #[test]
 fn renames(rt: HostRuntime) -> Result<(), Fail> {
     let alloc = rt.alloc();
     let passes = vec![in alloc;
-        pass(alloc, Target::Name(b'a'), &[Command::SetName(b'b'), Command::PrintName])?,
+        pass(
+            alloc,
+            Target::Name(b'a'),
+            &[Command::SetName(b'b'), Command::PrintName]
+        )?,
         pass(alloc, Target::Name(b'b'), &[Command::PrintKind])?,
-        pass(alloc, Target::Name(b'a'), &[Command::PrintKind])?
+        pass(alloc, Target::Name(b'a'), &[Command::PrintKind])?,
     ]?;
     let ran = run(alloc, passes.as_slice(), &[F])?;
-    assert_eq!(rt; ran.slots.as_slice(), [Some(Rule { kind: b'f', name: b'b' })].as_slice());
-    assert_eq!(rt; ran.told.as_slice(), [Entry::Line(b'b'), Entry::Line(b'f'), Entry::NotFound].as_slice());
-    assert_eq!(rt; (ran.facts.changed, ran.facts.failed, ran.missing), (true, false, true));
+    assert_eq!(rt;
+        ran.slots.as_slice(),
+        [Some(Rule {
+            kind: b'f',
+            name: b'b'
+        })]
+        .as_slice()
+    );
+    assert_eq!(rt;
+        ran.told.as_slice(),
+        [Entry::Line(b'b'), Entry::Line(b'f'), Entry::NotFound].as_slice()
+    );
+    assert_eq!(rt;
+        (ran.facts.changed, ran.facts.failed, ran.missing),
+        (true, false, true)
+    );
     Ok(())
 }
 
@@ -74,11 +98,23 @@ fn renames(rt: HostRuntime) -> Result<(), Fail> {
 #[test]
 fn prints(rt: HostRuntime) -> Result<(), Fail> {
     let alloc = rt.alloc();
-    let passes = vec![in alloc; pass(alloc, Target::All, &[Command::PrintName, Command::PrintKind])?]?;
+    let passes = vec![in alloc;
+        pass(
+            alloc,
+            Target::All,
+            &[Command::PrintName, Command::PrintKind]
+        )?,
+    ]?;
     let ran = run(alloc, passes.as_slice(), &[F, G])?;
     assert_eq!(rt; ran.slots.as_slice(), [Some(F), Some(G)].as_slice());
-    assert_eq!(rt; ran.told.as_slice(), [b'a', b'b', b'f', b'g'].map(Entry::Line).as_slice());
-    assert_eq!(rt; (ran.facts.changed, ran.facts.failed, ran.missing), (false, false, false));
+    assert_eq!(rt;
+        ran.told.as_slice(),
+        [b'a', b'b', b'f', b'g'].map(Entry::Line).as_slice()
+    );
+    assert_eq!(rt;
+        (ran.facts.changed, ran.facts.failed, ran.missing),
+        (false, false, false)
+    );
     Ok(())
 }
 
@@ -87,13 +123,20 @@ fn prints(rt: HostRuntime) -> Result<(), Fail> {
 fn deletes(rt: HostRuntime) -> Result<(), Fail> {
     let alloc = rt.alloc();
     let passes = vec![in alloc;
-        pass(alloc, Target::Name(b'a'), &[Command::Delete, Command::PrintName])?,
-        pass(alloc, Target::All, &[Command::Refuse])?
+        pass(
+            alloc,
+            Target::Name(b'a'),
+            &[Command::Delete, Command::PrintName]
+        )?,
+        pass(alloc, Target::All, &[Command::Refuse])?,
     ]?;
     let ran = run(alloc, passes.as_slice(), &[F, G])?;
     assert_eq!(rt; ran.slots.as_slice(), [None, Some(G)].as_slice());
     assert_eq!(rt; ran.told.as_slice(), [Entry::Refused(b'b')].as_slice());
-    assert_eq!(rt; (ran.facts.changed, ran.facts.failed, ran.missing), (true, true, false));
+    assert_eq!(rt;
+        (ran.facts.changed, ran.facts.failed, ran.missing),
+        (true, true, false)
+    );
     exchange(&Rules);
     Ok(())
 }

@@ -1,6 +1,6 @@
-use Rattle.std.proofs.Common.{◌≡◌, map, sym, subst, take, arith}
+use Rattle.std.proofs.Common.{◌≡◌, map, arith}
 use Rattle.std.proofs.lemmas.Grind.{common_steps}
-use Rattle.bz_engine.specs.Exchange.{Fits, no_slot}
+use Rattle.bz_engine.specs.Exchange.{no_slot}
 use Rattle.bz_engine.proofs.Steps.{no_slot_fits}
 use Rattle.bz_engine.proofs.kept.nothing_kept.Goals as goal
 

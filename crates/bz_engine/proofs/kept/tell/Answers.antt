@@ -1,4 +1,4 @@
-use Rattle.std.proofs.Common.{ap, ◌++◌, refl, ◌≡◌}
+use Rattle.std.proofs.Common.{ap, ◌++◌}
 use Rattle.bz_engine.specs.Exchange.{told}
 use Rattle.bz_engine.proofs.Steps.{fits_length}
 use Rattle.bz_engine.proofs.kept.tell.Goals as goal
