@@ -7,7 +7,7 @@ use crate::input::{ReadFault, read_all, read_more};
 use crate::output::write_all;
 use crate::std_device::{FromRead, ToWrite};
 use std::alloc::Global;
-use std::io::{self, Write};
+use std::io::{self, ErrorKind, Read, Write};
 use std::test::Fail;
 
 /// What `read_all` gives of these lines.
@@ -100,6 +100,28 @@ fn writes_pieces(rt: HostRuntime) -> Result<(), Fail> {
     Ok(())
 }
 
+/// A reader whose first reads are interrupted.
+#[derive(Drop)]
+struct Shaken {
+    interruptions: u64,
+    ends: bool,
+}
+
+impl Read for Shaken {
+    fn read(&mut self, buf: &mut [u8]) -> io::Result<usize> {
+        if self.interruptions > 0 {
+            self.interruptions -= 1;
+            return Err(io::Error::from(ErrorKind::Interrupted));
+        }
+        if self.ends || buf.is_empty() {
+            return Ok(0);
+        }
+        self.ends = true;
+        buf[0] = b'x';
+        Ok(1)
+    }
+}
+
 /// A writer that takes nothing.
 #[derive(Drop)]
 struct Full;
@@ -123,6 +145,17 @@ fn stands_on_std(rt: HostRuntime) -> Result<(), Fail> {
         b"f()\n".as_slice()
     );
     assert_eq!(rt; source.failures(), 0);
+
+    // A read that was interrupted is made again and counts once.
+    let mut shaken = FromRead::new(Shaken {
+        interruptions: 3,
+        ends: false,
+    });
+    assert_eq!(rt;
+        read_all(alloc, &mut shaken, 2)?.as_slice(),
+        b"x".as_slice()
+    );
+    assert_eq!(rt; shaken.failures(), 0);
 
     let mut text: Vec<u8> = Vec::new(alloc);
     let mut sink = ToWrite::new(&mut text);
