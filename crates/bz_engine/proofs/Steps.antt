@@ -19,26 +19,32 @@ or_assoc : (a b c : Bool) → ((a || b) || c) ≡ (a || (b || c))
 or_assoc true b c = refl
 or_assoc false b c = refl
 
--- one pass on one slot
-pub slot_rest : {S T C M : Type 0} (m : Meaning S T C M) (ps : List (Pass T C)) (i : ℕ) (p : Pass T C) (x y : Slot S) → i < length ps → p ≡ get_or ps i p
-    → y ≡ slot_after_pass m p x → slot_after m (drop (i + 1) ps) y ≡ slot_after m (drop i ps) x
-slot_rest m ps i p x y h is made = rw (rest_of ps i p h is, made) refl
+-- one pass on one slot: what the rest of the passes does then is what they all do
+pub slot_rest : {S T C M : Type 0} (m : Meaning S T C M) (ps : List (Pass T C)) (i : ℕ) (p : Pass T C) (x y whole : Slot S) → i < length ps → p ≡ get_or ps i p
+    → y ≡ slot_after_pass m p x → slot_after m (drop i ps) x ≡ whole → slot_after m (drop (i + 1) ps) y ≡ whole
+slot_rest m ps i p x y whole h is made all =
+    let step : slot_after m (drop (i + 1) ps) y ≡ slot_after m (drop i ps) x = rw (rest_of ps i p h is, made) refl in
+    step ∙ all
 
-pub kept_rest : {S T C M : Type 0} (m : Meaning S T C M) (ps : List (Pass T C)) (i : ℕ) (p : Pass T C) (x y : Slot S) (ks : List (Kept M)) (e k : Kept M)
+pub kept_rest : {S T C M : Type 0} (m : Meaning S T C M) (ps : List (Pass T C)) (i : ℕ) (p : Pass T C) (x y : Slot S) (ks whole : List (Kept M)) (e k : Kept M)
     → i < length ps → p ≡ get_or ps i p → i < length ks → y ≡ slot_after_pass m p x
     → k ≡ pass_and (get_or ks i e) (pass_alone m p x)
-    → take (i + 1) (set ks i k) ++ kept_and (drop (i + 1) (set ks i k)) (kept_alone m (drop (i + 1) ps) y)
-    ≡ take i ks ++ kept_and (drop i ks) (kept_alone m (drop i ps) x)
-kept_rest m ps i p x y ks e k h is l made said =
+    → take i ks ++ kept_and (drop i ks) (kept_alone m (drop i ps) x) ≡ whole
+    → take (i + 1) (set ks i k) ++ kept_and (drop (i + 1) (set ks i k)) (kept_alone m (drop (i + 1) ps) y) ≡ whole
+kept_rest m ps i p x y ks whole e k h is l made said all =
+    let step : take (i + 1) (set ks i k) ++ kept_and (drop (i + 1) (set ks i k)) (kept_alone m (drop (i + 1) ps) y) ≡ take i ks ++ kept_and (drop i ks) (kept_alone m (drop i ps) x) =
     rw (take_more_set ks i k l, rest_after_write ks i k l, rest_of ps i p h is, drop_more ks i e l, made, said)
-    (append_assoc (take i ks) (pass_and (get_or ks i e) (pass_alone m p x) ∷ []) (kept_and (drop (i + 1) ks) (kept_alone m (drop (i + 1) ps) (slot_after_pass m p x))))
+    (append_assoc (take i ks) (pass_and (get_or ks i e) (pass_alone m p x) ∷ []) (kept_and (drop (i + 1) ks) (kept_alone m (drop (i + 1) ps) (slot_after_pass m p x)))) in
+    step ∙ all
 
-pub some_rest : {S T C M : Type 0} (m : Meaning S T C M) (test : C → Slot S → Bool) (ps : List (Pass T C)) (i : ℕ) (p : Pass T C) (x y : Slot S) (before after : Bool)
+pub some_rest : {S T C M : Type 0} (m : Meaning S T C M) (test : C → Slot S → Bool) (ps : List (Pass T C)) (i : ℕ) (p : Pass T C) (x y : Slot S) (before after whole : Bool)
     → i < length ps → p ≡ get_or ps i p → y ≡ slot_after_pass m p x
     → after ≡ (before || some_of_commands_alone m test p.commands (marked m p.target x))
-    → (after || some_alone m test (drop (i + 1) ps) y) ≡ (before || some_alone m test (drop i ps) x)
-some_rest m test ps i p x y before after h is made told =
-    rw (rest_of ps i p h is, made, told) (or_assoc before (some_of_commands_alone m test p.commands (marked m p.target x)) (some_alone m test (drop (i + 1) ps) (slot_after_pass m p x)))
+    → (before || some_alone m test (drop i ps) x) ≡ whole → (after || some_alone m test (drop (i + 1) ps) y) ≡ whole
+some_rest m test ps i p x y before after whole h is made told all =
+    let step : (after || some_alone m test (drop (i + 1) ps) y) ≡ (before || some_alone m test (drop i ps) x) =
+    rw (rest_of ps i p h is, made, told) (or_assoc before (some_of_commands_alone m test p.commands (marked m p.target x)) (some_alone m test (drop (i + 1) ps) (slot_after_pass m p x))) in
+    step ∙ all
 
 pub fits_length : {T C M : Type 0} (ks : List (Kept M)) (ps : List (Pass T C)) → Fits ks ps → length ks ≡ length ps
 fits_length [] [] h = refl

@@ -25,8 +25,11 @@ pub record Marked (S : Type 0) : Type 0 where
   pub mark : Bool
   pub slot : Slot S
 
+abbrev pub with_mark : {S : Type 0} → Bool → Slot S → Marked S
+with_mark mark slot = record { mark = mark; slot = slot }
+
 abbrev pub marked : {S T C M : Type 0} → Meaning S T C M → T → Slot S → Marked S
-marked m target slot = record { mark = m.marks target slot; slot = slot }
+marked m target slot = with_mark (m.marks target slot) slot
 
 -- one command on a slot: nothing happens where the slot is not marked
 abbrev pub executed : {S T C M : Type 0} → Meaning S T C M → C → Marked S → Marked S

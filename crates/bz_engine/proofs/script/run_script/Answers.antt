@@ -1,7 +1,7 @@
-use Rattle.std.proofs.Common.{◌≡◌, ◌∙◌, arith, refl}
+use Rattle.std.proofs.Common.{◌≡◌, ◌||◌, arith, refl}
 use Rattle.std.proofs.lemmas.Grind.{common_steps}
 use Rattle.bz_engine.proofs.Steps.{fits_length, fits_here, fits_behind, slot_rest, kept_rest, some_rest, kept_and_fits}
-use Rattle.bz_engine.specs.Exchange.{kept_and, kept_alone}
+use Rattle.bz_engine.specs.Exchange.{slot_after, kept_and, kept_alone, some_alone}
 use Rattle.bz_engine.proofs.script.run_script.Goals as goal
 
 pub loop-i-init : goal.loop-i-init
@@ -21,15 +21,19 @@ loop-i-preserved g c =
     let e = c.index-kept-i.result in
     let ensures = c.in_ok-run_pass.ensures in
     let inv = c.loop-i.invariant in
+    let first = g.L.Language.seen c.args.slot.now in
+    let changes = g.L.Language.changes c.args.language.now in
+    let fails = g.L.Language.fails c.args.language.now in
+    let facts = c.args.facts.now in
     let before = g.L.Language.seen c.loop-i.slot in
     let after = g.L.Language.seen c.run_pass.new.slot in
     record {
       size = grind (arith, common_steps);
       fits = fits_behind c.loop-i.kept passes i e c.run_pass.new.kept p (omega arith) (omega arith) is inv.fits;
-      slot = slot_rest meaning passes i p before after (omega arith) is ensures.slot ∙ inv.slot;
-      kept = kept_rest meaning passes i p before after c.loop-i.kept e c.run_pass.new.kept (omega arith) is (omega arith) ensures.slot ensures.kept ∙ inv.kept;
-      changed = some_rest meaning (g.L.Language.changes c.args.language.now) passes i p before after c.loop-i.facts.changed c.run_pass.new.facts.changed (omega arith) is ensures.slot ensures.changed ∙ inv.changed;
-      failed = some_rest meaning (g.L.Language.fails c.args.language.now) passes i p before after c.loop-i.facts.failed c.run_pass.new.facts.failed (omega arith) is ensures.slot ensures.failed ∙ inv.failed;
+      slot = slot_rest meaning passes i p before after (slot_after meaning passes first) (omega arith) is ensures.slot inv.slot;
+      kept = kept_rest meaning passes i p before after c.loop-i.kept (kept_and c.args.kept.now (kept_alone meaning passes first)) e c.run_pass.new.kept (omega arith) is (omega arith) ensures.slot ensures.kept inv.kept;
+      changed = some_rest meaning changes passes i p before after c.loop-i.facts.changed c.run_pass.new.facts.changed (facts.changed || some_alone meaning changes passes first) (omega arith) is ensures.slot ensures.changed inv.changed;
+      failed = some_rest meaning fails passes i p before after c.loop-i.facts.failed c.run_pass.new.facts.failed (facts.failed || some_alone meaning fails passes first) (omega arith) is ensures.slot ensures.failed inv.failed;
     }
 
 pub returns-clause-fits : goal.returns-clause-fits
