@@ -1,5 +1,5 @@
 -- What commands do to a statement (buildozer README, "Edit commands").
-use Rattle.std.specs.Prelude.{ℕ, List, [], ◌∷◌, ◌++◌, Bool, false, if◌then◌else◌, Option, Some, None, map, codes}
+use Rattle.std.specs.Prelude.{ℕ, List, [], ◌∷◌, ◌++◌, Bool, if◌then◌else◌, Option, Some, None, map, codes}
 use Rattle.std.specs.List.{list_any, filter_map, find}
 use Rattle.std.specs.Str.{bytes_eq}
 use Rattle.buildozer.specs.declared.statement.Value.{Value}
@@ -8,7 +8,7 @@ use Rattle.buildozer.specs.declared.statement.Argument.{Argument}
 use Rattle.buildozer.specs.declared.statement.Statement.{Statement}
 use Rattle.buildozer.specs.declared.add.Note.{Note}
 use Rattle.buildozer.specs.declared.add.Note.TheVariants.{NotAList}
-use Rattle.buildozer.specs.Values.{value_in, quote}
+use Rattle.buildozer.specs.Values.{value_in, quote, is_exactly}
 use Rattle.buildozer.specs.Same.{same}
 
 -- the argument gives this attribute
@@ -39,10 +39,6 @@ string_of (Some (Several texts)) = None
 
 abbrev pub name_of : Statement → Option (List ℕ)
 name_of s = string_of (attribute_value (codes "name") s)
-
-abbrev pub is_exactly : List ℕ → Option (List ℕ) → Bool
-is_exactly name None = false
-is_exactly name (Some other) = bytes_eq other name
 
 abbrev pub is_named : List ℕ → Statement → Bool
 is_named name s = is_exactly name (name_of s)

@@ -1,6 +1,7 @@
 -- The value of a string literal, and the literal of a value (Starlark specification, "String literals").
-use Rattle.std.specs.Prelude.{ℕ, List, [], ◌∷◌, ◌++◌, ◌||◌, ◌==◌, if◌then◌else◌, Option, Some, None, codes}
+use Rattle.std.specs.Prelude.{ℕ, List, [], ◌∷◌, ◌++◌, Bool, false, ◌||◌, ◌==◌, if◌then◌else◌, Option, Some, None, codes}
 use Rattle.std.specs.List.{flat_map}
+use Rattle.std.specs.Str.{bytes_eq}
 
 -- the byte that an escape stands for, by the letter behind its backslash
 abbrev pub escaped : ℕ → Option ℕ
@@ -31,6 +32,11 @@ said quote (b ∷ c ∷ rest) =
 abbrev pub value_in : List ℕ → Option (List ℕ)
 value_in [] = None
 value_in (b ∷ rest) = if b == 34 || b == 39 then said b rest else None
+
+-- the value is there, and it is this word
+abbrev pub is_exactly : List ℕ → Option (List ℕ) → Bool
+is_exactly word None = false
+is_exactly word (Some value) = bytes_eq value word
 
 -- a byte in a string literal: itself, or its escape
 abbrev pub spelled : ℕ → List ℕ

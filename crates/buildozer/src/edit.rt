@@ -1,6 +1,6 @@
 //! A run from standard input to standard output, with what it tells.
 
-ghost use Rattle.std.specs.Prelude.{◌≡◌, map, IfOk};
+ghost use Rattle.std.specs.Prelude.{◌≡◌, map, IfOk, IsTrue};
 
 use crate::flags::Flags;
 use crate::group::Script;
@@ -42,7 +42,9 @@ fn run_script<I: Read, O: Write>(
     script: Script,
     input: &mut I,
     out: &mut O,
-) -> Result<Report, RunFault> {
+) -> Result<Report, RunFault>
+    requires { IsTrue flags.k }
+{
     let passes = passes_of(alloc, script).map_err(|_| RunFault::OutOfMemory)?;
     let options = Options {
         keep_going: flags.k,
@@ -70,7 +72,9 @@ fn run_and_tell<I: Read, O: Write, E: Write>(
     input: &mut I,
     out: &mut O,
     err: &mut E,
-) -> Result<u8, RunFault> {
+) -> Result<u8, RunFault>
+    requires { IsTrue flags.k }
+{
     let report = run_script(alloc, flags, script, &mut *input, &mut *out)?;
     tell(alloc, &report, out, err)?;
     Ok(report.status())
@@ -95,7 +99,9 @@ pub fn edit<I: Read, O: Write, E: Write>(
     input: &mut I,
     out: &mut O,
     err: &mut E,
-) -> u8 {
+) -> u8
+    requires { IsTrue flags.k }
+{
     match run_and_tell(alloc, flags, script, input, out, &mut *err) {
         Ok(status) => status,
         Err(fault) => {

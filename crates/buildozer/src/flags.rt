@@ -1,6 +1,6 @@
 //! The flags of the command line.
 
-ghost use Rattle.std.specs.Prelude.{◌≡◌, ◌≢◌, map, string_bytes, Err, IfOk};
+ghost use Rattle.std.specs.Prelude.{◌≡◌, ◌≢◌, map, string_bytes, Err, IfOk, IsTrue};
 ghost use Rattle.buildozer.specs.Results.{map_ok};
 ghost use Rattle.buildozer.specs.Flags.{flags_of};
 
@@ -26,8 +26,9 @@ fn copy_words(alloc: Global, words: &[String]) -> Result<Vec<String>, AllocError
 
 /// Reads the flags, and gives the words behind them. So far `-k` must stand first, and is the one flag.
 pub fn read_flags(alloc: Global, words: &[String]) -> Result<(Flags, Vec<String>), UsageFault>
-    ensures { result ≢ Err UsageFault.OutOfMemory
+    ensures read { result ≢ Err UsageFault.OutOfMemory
         → map_ok (λ read. (read.0, map string_bytes read.1.items)) result ≡ flags_of (map string_bytes words.now) }
+    ensures keeps_going { IfOk result (λ read. IsTrue read.0.k) }
 {
     let Some((flag, rest)) = words.split_first() else {
         return Err(UsageFault::UnknownFlag);

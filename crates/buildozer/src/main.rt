@@ -1,21 +1,34 @@
 //! The command-line editor for BUILD files.
 #![tactic(auto)]
 
+ghost use Rattle.std.specs.Prelude.{IfOk, IsTrue};
+
 mod add;
+mod arguments;
 mod command;
 mod edit;
+mod file;
 mod flags;
 mod group;
 mod label;
+mod layout;
 mod list;
+mod message;
+mod parse;
+mod passes;
+mod quote;
 mod report;
 mod run;
+mod same;
 mod script;
 mod statement;
+#[cfg(test)]
+mod statement_tests;
 mod tell;
 #[cfg(test)]
 mod tests;
 mod usage;
+mod value;
 mod words;
 
 use flags::{Flags, read_flags};
@@ -26,7 +39,7 @@ use std::{env, io};
 use usage::{StartFault, UsageFault};
 
 /// The words of the command line behind the program's name.
-fn arguments(rt: &HostRuntime, alloc: Global) -> Result<Vec<String>, StartFault> {
+fn command_line(rt: &HostRuntime, alloc: Global) -> Result<Vec<String>, StartFault> {
     let mut words = Vec::new(alloc);
     for word in env::args(rt).map_err(start_fault)?.skip(1) {
         words.push(word).map_err(|_| UsageFault::OutOfMemory)?;
@@ -43,8 +56,10 @@ fn start_fault(error: io::Error) -> StartFault {
 }
 
 /// What the command line asks for.
-fn requested(rt: &HostRuntime, alloc: Global) -> Result<(Flags, Script), StartFault> {
-    let words = arguments(rt, alloc)?;
+fn requested(rt: &HostRuntime, alloc: Global) -> Result<(Flags, Script), StartFault>
+    ensures { IfOk result (λ asked. IsTrue asked.0.k) }
+{
+    let words = command_line(rt, alloc)?;
     let (flags, words) = read_flags(alloc, words.as_slice())?;
     let script = read_script(alloc, words.as_slice())?;
     Ok((flags, script))

@@ -10,6 +10,10 @@ use Rattle.bz_engine.specs.DeviceLaws.{ends-append}
 pub joined_more : (pieces : List (List ℕ)) (piece : List ℕ) → joined (pieces ++ piece ∷ []) ≡ joined pieces ++ piece
 joined_more pieces piece = flat_map-append (λ x. x) pieces (piece ∷ []) ∙ ap (λ l. joined pieces ++ l) (append-nil piece)
 
+pub bytes_more : (pieces : List (List ℕ)) (piece before after : List ℕ) → before ≡ joined pieces → after ≡ before ++ piece
+    → after ≡ joined (pieces ++ piece ∷ [])
+bytes_more pieces piece before after were read = read ∙ ap (λ l. l ++ piece) were ∙ sym (joined_more pieces piece)
+
 pub none_more : (pieces : List (List ℕ)) (piece : List ℕ) → NoneEnds pieces → 0 < length piece → NoneEnds (pieces ++ piece ∷ [])
 none_more [] piece h k = (k, tt)
 none_more (p ∷ pieces) piece h k = (h.0, none_more pieces piece h.1 k)

@@ -1,7 +1,8 @@
--- The laws of readers and writers over memory.
-use Rattle.std.proofs.Common.{◌≡◌, ℕ, zero, suc, ◌<◌, ◌≤◌, List, [], ◌∷◌, ◌++◌, length, take, refl, sym, ◌∙◌, ap, append_assoc, append-nil, subst, arith}
+-- The laws of readers and writers over memory: nothing, and one after another.
+use Rattle.std.proofs.Common.{◌≡◌, ℕ, List, [], ◌∷◌, ◌++◌, refl, sym, ◌∙◌, ap, append_assoc, append-nil, subst}
 use Rattle.std.specs.Prelude.{Option, None, Some, IsTrue}
-use Rattle.std.specs.Io.KnownBytes.{Consumes, Appends, IsAtEnd, Keeps}
+use Rattle.std.proofs.lemmas.Bool.{false≢true}
+use Rattle.std.specs.Io.KnownBytes.{Appends}
 use Rattle.std.proofs.KnownBytes.{Appends-nil, Appends-trans}
 use Rattle.std.proofs.lemmas.List.Concat.{flat_map-append}
 use Rattle.bz_engine.specs.Device.{joined, Gave, ends}
@@ -17,36 +18,19 @@ ends-append (p ∷ (p' ∷ ps)) q qs = ends-append (p' ∷ ps) q qs
 
 pub gave_nothing_lem : (a : Option (List ℕ)) → Gave a a []
 gave_nothing_lem None = tt
-gave_nothing_lem (Some x) = (refl, λ h. cc)
+gave_nothing_lem (Some x) = (refl, λ h. absurd (false≢true h))
 
 pub gave_more_lem : (a b c : Option (List ℕ)) (xs ys : List (List ℕ)) → Gave a b xs → Gave b c ys → Gave a c (xs ++ ys)
 gave_more_lem None b c xs ys p q = tt
 gave_more_lem (Some x) None c xs ys p q = absurd p
 gave_more_lem (Some x) (Some y) None xs ys p q = absurd q
-gave_more_lem (Some x) (Some y) (Some z) xs [] p q = rw (append-nil xs) (p.0 ∙ ap (λ l. joined xs ++ l) q.0, λ h. sym q.0 ∙ p.1 h)
+gave_more_lem (Some x) (Some y) (Some z) xs [] p q =
+    subst (λ pieces. Gave (Some x) (Some z) pieces) (sym (append-nil xs)) (p.0 ∙ ap (λ l. joined xs ++ l) q.0, λ h. sym q.0 ∙ p.1 h)
 gave_more_lem (Some x) (Some y) (Some z) xs (w ∷ ys) p q = (
   p.0 ∙ ap (λ l. joined xs ++ l) q.0 ∙ sym (append_assoc (joined xs) (joined (w ∷ ys)) z)
       ∙ ap (λ l. l ++ z) (sym (flat_map-append (λ x. x) xs (w ∷ ys))),
   λ h. q.1 (subst IsTrue (ends-append xs w ys) h),
 )
-
-ends_empty : (n : ℕ) (buf : List ℕ) → 0 < length buf → IsTrue (ends (take n buf ∷ [])) → n ≡ 0
-ends_empty zero buf room h = refl
-ends_empty (suc n) [] room h = absurd (omega arith)
-ends_empty (suc n) (b ∷ bs) room h = cc
-
--- what std's `read` says of the known bytes, as a list of one piece
-pub gave_piece : (a b : Option (List ℕ)) (n : ℕ) (buf : List ℕ) → 0 < length buf → n ≤ length buf
-    → Consumes a b (take n buf) → (n ≡ 0 → 0 < length buf → IsAtEnd b) → Gave a b (take n buf ∷ [])
-gave_piece None b n buf room fits p q = tt
-gave_piece (Some x) None n buf room fits p q = absurd p
-gave_piece (Some x) (Some y) n buf room fits p q =
-    (p ∙ ap (λ l. l ++ y) (sym (append-nil (take n buf))), λ h. q (ends_empty n buf room h) room)
-
-pub gave_kept : (a b : Option (List ℕ)) → Keeps a b → Gave a b []
-gave_kept None b p = tt
-gave_kept (Some x) None p = absurd p
-gave_kept (Some x) (Some y) p = (sym p, λ h. cc)
 
 pub appends_nothing : (a : Option (List ℕ)) → Appends a a []
 appends_nothing a = Appends-nil a

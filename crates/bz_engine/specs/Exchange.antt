@@ -1,7 +1,7 @@
 -- A script slot by slot: each slot by itself under the whole script, what is kept of the slots so far, and the log told of it at the end.
 use Rattle.std.specs.Prelude.{length, ◌≡◌, Bool, false, ◌||◌, List, [], ◌∷◌, ◌++◌, map}
 use Rattle.std.specs.List.{flat_map, list_any}
-use Rattle.bz_engine.specs.Passes.{Slot, Meaning, Pass, Marked, marked, executed, entries, slots_after_pass, missing, slots_after, log_of}
+use Rattle.bz_engine.specs.Passes.{Slot, Meaning, Pass, Marked, marked, executed, entries, slots_after_pass, missing, is_missing, some_missing, slots_after, log_of, meets, some_execution}
 
 -- What is kept of the slots so far: for each pass whether something was marked, and for each of its commands the log.
 pub record Kept (M : Type 0) : Type 0 where
@@ -24,6 +24,12 @@ abbrev pub told : {S T C M : Type 0} → Meaning S T C M → List (Pass T C) →
 told m [] ks = []
 told m (p ∷ ps) [] = []
 told m (p ∷ ps) (k ∷ ks) = missing m p.target k.found ++ flat_map (λ log. log) k.logs ++ told m ps ks
+
+-- whether the target of one of the passes was not found
+abbrev pub some_not_found : {S T C M : Type 0} → Meaning S T C M → List (Pass T C) → List (Kept M) → Bool
+some_not_found m [] ks = false
+some_not_found m (p ∷ ps) [] = false
+some_not_found m (p ∷ ps) (k ∷ ks) = is_missing m p.target k.found || some_not_found m ps ks
 
 -- what is kept of no slot
 abbrev pub no_slot : {T C M : Type 0} → Pass T C → Kept M
@@ -53,6 +59,16 @@ abbrev pub kept_alone : {S T C M : Type 0} → Meaning S T C M → List (Pass T 
 kept_alone m [] slot = []
 kept_alone m (p ∷ ps) slot = pass_alone m p slot ∷ kept_alone m ps (slot_after_pass m p slot)
 
+-- and whether one of its executions meets a test
+abbrev pub some_of_commands_alone : {S T C M : Type 0} → Meaning S T C M → (C → Slot S → Bool) → List C → Marked S → Bool
+some_of_commands_alone m test [] x = false
+some_of_commands_alone m test (c ∷ cs) x = meets test c x || some_of_commands_alone m test cs (executed m c x)
+
+abbrev pub some_alone : {S T C M : Type 0} → Meaning S T C M → (C → Slot S → Bool) → List (Pass T C) → Slot S → Bool
+some_alone m test [] slot = false
+some_alone m test (p ∷ ps) slot =
+    some_of_commands_alone m test p.commands (marked m p.target slot) || some_alone m test ps (slot_after_pass m p slot)
+
 -- what is kept of some slots, and then of more behind them
 abbrev pub logs_and : {M : Type 0} → List (List M) → List (List M) → List (List M)
 logs_and [] ys = []
@@ -79,3 +95,7 @@ pub record Exchange {S T C M : Type 0} (m : Meaning S T C M) (ps : List (Pass T 
   pub each_slot_alone : slots_after m ps slots ≡ map (slot_after m ps) slots
   pub log_by_pass_and_command : log_of m ps slots ≡ told m ps (kept_of m ps slots)
   pub one_slot_more : (slot : Slot S) → kept_of m ps (slots ++ slot ∷ []) ≡ kept_and (kept_of m ps slots) (kept_alone m ps slot)
+  pub some_slot_alone : (test : C → Slot S → Bool) → some_execution m test ps slots ≡ list_any (some_alone m test ps) slots
+  pub missing_by_pass : some_missing m ps slots ≡ some_not_found m ps (kept_of m ps slots)
+  pub nothing_kept : kept_of m ps [] ≡ map no_slot ps
+  pub fits : Fits (kept_of m ps slots) ps

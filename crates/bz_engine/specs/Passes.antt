@@ -1,6 +1,6 @@
 -- A script over the slots of a file: passes one after another, and in a pass command by command (buildozer README: commands are executed in order).
 -- It is stated for any statements S, targets T, commands C and log entries M. A log has one list of entries for lines and messages, since their order is one.
-use Rattle.std.specs.Prelude.{Bool, if◌then◌else◌, List, [], ◌∷◌, ◌++◌, map, Option}
+use Rattle.std.specs.Prelude.{false, ◌||◌, Bool, if◌then◌else◌, List, [], ◌∷◌, ◌++◌, map, Option}
 use Rattle.std.specs.List.{flat_map, list_any}
 
 -- a slot of a file: a statement, or nothing where it was deleted
@@ -25,8 +25,11 @@ pub record Marked (S : Type 0) : Type 0 where
   pub mark : Bool
   pub slot : Slot S
 
+abbrev pub with_mark : {S : Type 0} → Bool → Slot S → Marked S
+with_mark mark slot = record { mark = mark; slot = slot }
+
 abbrev pub marked : {S T C M : Type 0} → Meaning S T C M → T → Slot S → Marked S
-marked m target slot = record { mark = m.marks target slot; slot = slot }
+marked m target slot = with_mark (m.marks target slot) slot
 
 -- one command on a slot: nothing happens where the slot is not marked
 abbrev pub executed : {S T C M : Type 0} → Meaning S T C M → C → Marked S → Marked S
@@ -48,9 +51,12 @@ log_of_commands m (c ∷ cs) xs = flat_map (entries m c) xs ++ log_of_commands m
 abbrev pub slots_after_pass : {S T C M : Type 0} → Meaning S T C M → Pass T C → List (Slot S) → List (Slot S)
 slots_after_pass m p slots = map (λ x. x.slot) (slots_after_commands m p.commands (map (marked m p.target) slots))
 
--- what is said of a target that has to mark something and marks nothing
+-- whether a target has to mark something and marks nothing, and what is said of it
+abbrev pub is_missing : {S T C M : Type 0} → Meaning S T C M → T → Bool → Bool
+is_missing m target found = if found then false else m.must_mark target
+
 abbrev pub missing : {S T C M : Type 0} → Meaning S T C M → T → Bool → List M
-missing m target found = if m.must_mark target then (if found then [] else m.not_found target ∷ []) else []
+missing m target found = if is_missing m target found then m.not_found target ∷ [] else []
 
 abbrev pub log_of_pass : {S T C M : Type 0} → Meaning S T C M → Pass T C → List (Slot S) → List M
 log_of_pass m p slots =
@@ -64,3 +70,23 @@ slots_after m (p ∷ ps) slots = slots_after m ps (slots_after_pass m p slots)
 abbrev pub log_of : {S T C M : Type 0} → Meaning S T C M → List (Pass T C) → List (Slot S) → List M
 log_of m [] slots = []
 log_of m (p ∷ ps) slots = log_of_pass m p slots ++ log_of m ps (slots_after_pass m p slots)
+
+-- whether an execution meets this test of its command and of the slot that it found
+abbrev pub meets : {S C : Type 0} → (C → Slot S → Bool) → C → Marked S → Bool
+meets test command x = if x.mark then test command x.slot else false
+
+-- whether one of the executions does
+abbrev pub some_of_commands : {S T C M : Type 0} → Meaning S T C M → (C → Slot S → Bool) → List C → List (Marked S) → Bool
+some_of_commands m test [] xs = false
+some_of_commands m test (c ∷ cs) xs = list_any (meets test c) xs || some_of_commands m test cs (map (executed m c) xs)
+
+abbrev pub some_execution : {S T C M : Type 0} → Meaning S T C M → (C → Slot S → Bool) → List (Pass T C) → List (Slot S) → Bool
+some_execution m test [] slots = false
+some_execution m test (p ∷ ps) slots =
+    some_of_commands m test p.commands (map (marked m p.target) slots) || some_execution m test ps (slots_after_pass m p slots)
+
+-- whether the target of one of the passes has to mark something and marks nothing
+abbrev pub some_missing : {S T C M : Type 0} → Meaning S T C M → List (Pass T C) → List (Slot S) → Bool
+some_missing m [] slots = false
+some_missing m (p ∷ ps) slots =
+    is_missing m p.target (list_any (m.marks p.target) slots) || some_missing m ps (slots_after_pass m p slots)

@@ -1,15 +1,16 @@
 //! Readers and writers of std as a `Source` and a `Sink`.
 
-ghost use Rattle.std.specs.Prelude.{◌≡◌, ◌++◌};
+ghost use Rattle.std.specs.Prelude.{◌≡◌, ◌<◌, ◌≤◌, [], ◌∷◌, ◌++◌, length, take, IfOk, OnErr};
 ghost use Rattle.std.specs.Io.KnownBytes.{Appends};
 ghost use Rattle.bz_engine.specs.Device.{Gave};
 ghost use Rattle.bz_engine.specs.DeviceLaws.{gave_nothing_lem, gave_more_lem, appends_nothing, appends_more};
 
 use crate::device::{Failed, Sink, Source};
-use std::io::{Read, Write};
+use std::io::{ErrorKind, Read, Write};
 use std::marker::Model;
 
-/// A `Source` over a reader of std. Each error of the reader counts as a failure.
+/// A `Source` over a reader of std. Each error of the reader counts as a failure, but for a read
+/// that was interrupted: it is made again.
 #[derive(Drop)]
 pub struct FromRead<R> {
     reader: R,
@@ -36,6 +37,27 @@ impl<R: Read> FromRead<R> {
     }
 }
 
+/// Reads until the system does not interrupt the read, as std's own loops do. An interrupted read
+/// gave nothing.
+fn read_uninterrupted<R: Read>(reader: &mut R, buf: &mut [u8]) -> Result<usize, Failed>
+    requires { 0 < length buf.old }
+    ensures within { IfOk result (λ n. n ≤ length buf.new) }
+    ensures ok { IfOk result (λ n. Gave (R.remaining reader.old) (R.remaining reader.new) (take n buf.new ∷ [])) }
+    ensures err { OnErr result (Gave (R.remaining reader.old) (R.remaining reader.new) []) }
+{
+    for _attempt in 0..u64::MAX {
+        match reader.read(buf) {
+            Ok(n) => return Ok(n),
+            Err(error) => {
+                if error.kind() != ErrorKind::Interrupted {
+                    return Err(Failed);
+                }
+            }
+        }
+    }
+    Err(Failed)
+}
+
 impl<R: Read> Source for FromRead<R> {
     ghost gave = { λ old pieces new. Gave (R.remaining old.device) (R.remaining new.device) pieces };
 
@@ -46,13 +68,11 @@ impl<R: Read> Source for FromRead<R> {
     ghost gave_more = { λ a b c xs ys p q. gave_more_lem (R.remaining a.device) (R.remaining b.device) (R.remaining c.device) xs ys p q };
 
     fn read(&mut self, buf: &mut [u8]) -> Result<usize, Failed> {
-        match self.reader.read(buf) {
-            Ok(n) => Ok(n),
-            Err(_) => {
-                self.failures = self.failures.saturating_add(1);
-                Err(Failed)
-            }
+        let read = read_uninterrupted(&mut self.reader, buf);
+        if read.is_err() {
+            self.failures = self.failures.saturating_add(1);
         }
+        read
     }
 
     fn failures(&self) -> u64 {

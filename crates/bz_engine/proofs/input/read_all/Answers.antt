@@ -1,8 +1,8 @@
-use Rattle.std.proofs.Common.{◌≡◌, [], ◌∷◌, ◌++◌, length-append, append-nil, arith, ◌∙◌, sym, ap}
+use Rattle.std.proofs.Common.{◌≡◌, [], ◌∷◌, ◌++◌, length-append, append-nil, arith, ◌∙◌, ap}
 use Rattle.std.proofs.lemmas.Grind.{common_steps}
 use Rattle.std.specs.Prelude.{Err}
 use Rattle.bz_engine.specs.declared.input.ReadFault.TheVariants.{InputTooLong}
-use Rattle.bz_engine.proofs.Pieces.{joined_more, none_more, ends_more}
+use Rattle.bz_engine.proofs.Pieces.{bytes_more, none_more, ends_more}
 use Rattle.bz_engine.proofs.input.read_all.Goals as goal
 
 pub returns-in-Ok-eq0-clause-read : goal.returns-in-Ok-eq0-clause-read
@@ -16,7 +16,7 @@ returns-in-Ok-eq0-clause-read g c =
       gave,
       rw none (ends_more pieces),
       omega (arith, length-append pieces (read.0 ∷ []), inv.count, c.in-Ok-eq0.ensures.allowed),
-      read.2 ∙ ap (λ l. l ++ read.0) inv.bytes ∙ sym (joined_more pieces read.0),
+      bytes_more pieces read.0 _ _ inv.bytes read.2,
     )
 
 pub returns-in-Ok-eq0-clause-front : goal.returns-in-Ok-eq0-clause-front
@@ -36,7 +36,7 @@ loop-bytes-preserved g c =
       pieces ++ read.0 ∷ [],
       record {
         gave = gave;
-        bytes = read.2 ∙ ap (λ l. l ++ read.0) inv.bytes ∙ sym (joined_more pieces read.0);
+        bytes = bytes_more pieces read.0 _ _ inv.bytes read.2;
         count = omega (arith, length-append pieces (read.0 ∷ []), inv.count, c.in-Ok.ensures.allowed);
         none = none_more pieces read.0 inv.none (grind (arith, common_steps, read.3, c.in-Ok.field-0-test.1));
         steady = c.in-Ok.ensures.steady (λ e. cc) ∙ inv.steady;

@@ -1,0 +1,7 @@
+-- What a run answers for a file that it may not have read to its end (this project's own rule: the answer is the same whatever stands behind what was read).
+use Rattle.std.specs.Prelude.{◌≡◌, ℕ, IsTrue, List, [], ◌++◌}
+use Rattle.bz_engine.specs.Device.{joined, ends}
+
+-- The reads gave the front of some files: where the end was met, of one alone. For each of them this is the answer.
+pub record ForEveryFile (pieces : List (List ℕ)) (Answer : List ℕ → Type 0) : Type 0 where
+  pub each : (rest : List ℕ) → (IsTrue (ends pieces) → rest ≡ []) → Answer (joined pieces ++ rest)

@@ -1,0 +1,58 @@
+//! What the engine needs of a language of targets and commands.
+
+ghost use Rattle.std.specs.Prelude.{◌≡◌, ◌++◌, Bool, Option, IfOk, OnOk};
+ghost use Rattle.bz_engine.specs.Passes.{Meaning, Slot};
+
+use crate::log::Log;
+use std::alloc::AllocError;
+
+/// Whether an execution changed its statement, and whether it failed.
+#[derive(Clone, Copy, Debug, PartialEq, Eq)]
+pub struct Facts {
+    pub changed: bool,
+    pub failed: bool,
+}
+
+/// What targets and commands mean on one statement.
+pub trait Language<S> {
+    type Target;
+
+    type Command;
+
+    type Entry: Drop;
+
+    // What contracts see of a slot.
+    ghost Seen: { Type 0 };
+
+    ghost seen: { Option S → Slot Seen };
+
+    ghost meaning: { Self → Meaning Seen Self.Target Self.Command Self.Entry };
+
+    ghost changes: { Self → Self.Command → Slot Seen → Bool };
+
+    ghost fails: { Self → Self.Command → Slot Seen → Bool };
+
+    /// Whether the target marks what is in the slot.
+    fn marks(&self, target: &Self::Target, slot: &Option<S>) -> bool
+        ensures { result ≡ (meaning self.now).marks target.now (seen slot.now) };
+
+    /// Whether it is told of a pass that its target marked nothing.
+    fn must_mark(&self, target: &Self::Target) -> bool
+        ensures { result ≡ (meaning self.now).must_mark target.now };
+
+    /// What is told of such a pass.
+    fn not_found(&self, target: &Self::Target) -> Result<Self::Entry, AllocError>
+        ensures { IfOk result (λ entry. entry ≡ (meaning self.now).not_found target.now) };
+
+    /// One command on a slot. What it tells goes behind the log.
+    fn apply(
+        &self,
+        command: &Self::Command,
+        slot: &mut Option<S>,
+        log: &mut Log<Self::Entry>,
+    ) -> Result<Facts, AllocError>
+        ensures slot { OnOk result (seen slot.new ≡ (meaning self.now).after command.now (seen slot.old)) }
+        ensures log { OnOk result (log.new ≡ log.old ++ (meaning self.now).says command.now (seen slot.old)) }
+        ensures changed { IfOk result (λ facts. facts.changed ≡ changes self.now command.now (seen slot.old)) }
+        ensures failed { IfOk result (λ facts. facts.failed ≡ fails self.now command.now (seen slot.old)) };
+}

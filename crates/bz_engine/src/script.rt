@@ -1,0 +1,129 @@
+//! A whole script on one slot.
+
+ghost use Rattle.std.specs.Prelude.{◌≡◌, ◌++◌, ◌||◌, [], List, length, OnOk};
+ghost use Rattle.bz_engine.specs.Passes.{Slot, Pass as APass, executed, entries, meets, with_mark, marked};
+ghost use Rattle.bz_engine.specs.Exchange.{Exchange, Fits, slot_after_commands, slot_after_pass, slot_after, logs_alone, logs_and, pass_alone, pass_and, kept_alone, kept_and, some_of_commands_alone, some_alone};
+
+use crate::kept::Kept;
+use crate::language::{Facts, Language};
+use crate::log::Log;
+use crate::pass::Pass;
+use std::alloc::AllocError;
+
+/// One command on a slot that may be marked.
+fn execute<S, L: Language<S>>(
+    language: &L,
+    command: &L::Command,
+    mark: bool,
+    slot: &mut Option<S>,
+    log: &mut Log<L::Entry>,
+    facts: &mut Facts,
+) -> Result<(), AllocError>
+    ensures slot { OnOk result (with_mark mark (L.seen slot.new)
+        ≡ executed (L.meaning language.now) command.now (with_mark mark (L.seen slot.old))) }
+    ensures log { OnOk result (log.new
+        ≡ log.old ++ entries (L.meaning language.now) command.now (with_mark mark (L.seen slot.old))) }
+    ensures changed { OnOk result (facts.new.changed
+        ≡ (facts.old.changed || meets (L.changes language.now) command.now (with_mark mark (L.seen slot.old)))) }
+    ensures failed { OnOk result (facts.new.failed
+        ≡ (facts.old.failed || meets (L.fails language.now) command.now (with_mark mark (L.seen slot.old)))) }
+{
+    if !mark {
+        return Ok(());
+    }
+    let done = language.apply(command, slot, log)?;
+    facts.changed = facts.changed || done.changed;
+    facts.failed = facts.failed || done.failed;
+    Ok(())
+}
+
+/// The commands of a pass on one slot.
+fn run_commands<S, L: Language<S>>(
+    language: &L,
+    commands: &[L::Command],
+    mark: bool,
+    slot: &mut Option<S>,
+    logs: &mut [Log<L::Entry>],
+    facts: &mut Facts,
+) -> Result<(), AllocError>
+    requires { length logs.old ≡ length commands.now }
+    ensures slot { OnOk result (L.seen slot.new
+        ≡ (slot_after_commands (L.meaning language.now) commands.now (with_mark mark (L.seen slot.old))).slot) }
+    ensures logs { OnOk result (logs.new
+        ≡ logs_and logs.old (logs_alone (L.meaning language.now) commands.now (with_mark mark (L.seen slot.old)))) }
+    ensures changed { OnOk result (facts.new.changed ≡ (facts.old.changed || some_of_commands_alone
+        (L.meaning language.now) (L.changes language.now) commands.now (with_mark mark (L.seen slot.old)))) }
+    ensures failed { OnOk result (facts.new.failed ≡ (facts.old.failed || some_of_commands_alone
+        (L.meaning language.now) (L.fails language.now) commands.now (with_mark mark (L.seen slot.old)))) }
+{
+    for i in 0..commands.len() {
+        execute(language, &commands[i], mark, slot, &mut logs[i], facts)?;
+    }
+    Ok(())
+}
+
+/// One pass on a slot. The target is resolved once, before the first command.
+fn run_pass<S, L: Language<S>>(
+    language: &L,
+    pass: &Pass<L::Target, L::Command>,
+    slot: &mut Option<S>,
+    kept: &mut Kept<L::Entry>,
+    facts: &mut Facts,
+) -> Result<(), AllocError>
+    requires { length kept.old.logs ≡ length pass.now.commands }
+    ensures slot { OnOk result (L.seen slot.new ≡ slot_after_pass (L.meaning language.now) pass.now (L.seen slot.old)) }
+    ensures kept { OnOk result (kept.new
+        ≡ pass_and kept.old (pass_alone (L.meaning language.now) pass.now (L.seen slot.old))) }
+    ensures changed { OnOk result (facts.new.changed ≡ (facts.old.changed || some_of_commands_alone
+        (L.meaning language.now) (L.changes language.now) pass.now.commands
+        (marked (L.meaning language.now) pass.now.target (L.seen slot.old)))) }
+    ensures failed { OnOk result (facts.new.failed ≡ (facts.old.failed || some_of_commands_alone
+        (L.meaning language.now) (L.fails language.now) pass.now.commands
+        (marked (L.meaning language.now) pass.now.target (L.seen slot.old)))) }
+{
+    let mark = language.marks(&pass.target, slot);
+    kept.found = kept.found || mark;
+    run_commands(
+        language,
+        pass.commands.as_slice(),
+        mark,
+        slot,
+        kept.logs.as_mut_slice(),
+        facts,
+    )
+}
+
+/// The whole script on one slot, pass by pass. What it tells goes behind what was kept of the
+/// slots before, and what it did is added to the facts. After a refusal neither the slot nor what
+/// is kept is of use.
+pub fn run_script<S, L: Language<S>>(
+    language: &L,
+    passes: &[Pass<L::Target, L::Command>],
+    slot: &mut Option<S>,
+    kept: &mut [Kept<L::Entry>],
+    facts: &mut Facts,
+) -> Result<(), AllocError>
+    // There is a place for each pass and each command, before and after.
+    requires { Fits kept.old passes.now }
+    ensures fits { OnOk result (Fits kept.new passes.now) }
+    ensures slot { OnOk result (L.seen slot.new ≡ slot_after (L.meaning language.now) passes.now (L.seen slot.old)) }
+    ensures kept { OnOk result (kept.new
+        ≡ kept_and kept.old (kept_alone (L.meaning language.now) passes.now (L.seen slot.old))) }
+    // Some execution changed its statement, or some failed: before, or on this slot.
+    ensures changed { OnOk result (facts.new.changed ≡ (facts.old.changed
+        || some_alone (L.meaning language.now) (L.changes language.now) passes.now (L.seen slot.old))) }
+    ensures failed { OnOk result (facts.new.failed ≡ (facts.old.failed
+        || some_alone (L.meaning language.now) (L.fails language.now) passes.now (L.seen slot.old))) }
+{
+    for i in 0..passes.len() {
+        run_pass(language, &passes[i], slot, &mut kept[i], facts)?;
+    }
+    Ok(())
+}
+
+/// The law that lets a run go slot by slot: command by command over the whole file is the whole
+/// script over one slot after the other, and the log is by pass, by command and by slot.
+pub fn exchange<S, L: Language<S>>(language: &L)
+    ensures { (ps : List (APass L.Target L.Command)) (slots : List (Slot L.Seen))
+        → Exchange (L.meaning language.now) ps slots }
+{}
