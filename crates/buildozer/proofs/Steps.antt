@@ -1,11 +1,11 @@
 -- One turn of a loop that goes over a list and writes each element, and what it changed.
-use Rattle.std.proofs.Common.{◌≡◌, ◌≢◌, ℕ, suc, ◌<◌, ◌+◌, ◌⊎◌, inl, inr, Bool, true, false, ◌||◌, List, [], ◌∷◌, ◌++◌, map, length, take, drop, get_or, refl, sym, ◌∙◌, ap, append_assoc, arith}
+use Rattle.std.proofs.Common.{◌≡◌, ◌≢◌, ℕ, ◌<◌, ◌+◌, ◌⊎◌, inl, inr, Bool, true, false, ◌||◌, List, [], ◌∷◌, ◌++◌, map, length, take, drop, get_or, refl, sym, ◌∙◌, ap, append_assoc, arith}
 use Rattle.std.specs.Prelude.{IsTrue, ◌↔◌}
 use Rattle.std.proofs.lemmas.List.{drop_more, take_more, take_more_set}
 use Rattle.std.proofs.lemmas.Grind.{common_steps}
 use Rattle.std.proofs.Math.ListN.{set}
 use Rattle.std.specs.List.{flat_map}
-use Rattle.bz_engine.specs.Passes.{Slot, Meaning, Pass, Marked, executed, entries, marked, log_of_commands, slots_after, slots_after_pass, slots_after_commands, log_of, log_of_pass}
+use Rattle.bz_engine.specs.Passes.{Slot, Meaning, Pass, Marked, executed, entries, log_of_commands, slots_after, slots_after_pass, slots_after_commands, log_of, log_of_pass}
 use Rattle.buildozer.specs.Changes.{CommandsChange, PassChanges, Changes}
 
 -- the element at i is written, and the rest is still to come

@@ -15,6 +15,7 @@ pub mod Meaning
 pub mod Messages
 pub mod Outcome
 pub mod ParseSteps
+pub mod Program
 pub mod Results
 pub mod RunSteps
 pub mod Same

@@ -1,5 +1,5 @@
 -- What the functions of a run answer, for private clauses.
-use Rattle.std.specs.Prelude.{ℕ, Bool, true, not, List, [], ◌∷◌, Option, None, Some}
+use Rattle.std.specs.Prelude.{ℕ, Bool, not, List, [], ◌∷◌, Option, None, Some}
 use Rattle.buildozer.specs.declared.report.SyntaxFault.{SyntaxFault}
 use Rattle.buildozer.specs.declared.report.Report.{Report}
 use Rattle.buildozer.specs.Messages.{fault_text}

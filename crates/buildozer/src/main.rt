@@ -6,7 +6,7 @@ ghost use Rattle.std.specs.Prelude.{IfOk, IsTrue};
 mod add;
 mod arguments;
 mod command;
-mod edit;
+mod editing;
 mod file;
 mod flags;
 mod group;
@@ -31,6 +31,8 @@ mod usage;
 mod value;
 mod words;
 
+use bz_engine::{FromRead, ToWrite};
+use editing::{edit, fault_text};
 use flags::{Flags, read_flags};
 use group::{Script, read_script};
 use std::alloc::Global;
@@ -69,10 +71,16 @@ fn main(rt: HostRuntime) -> ExitCode {
     let alloc = rt.alloc();
     match requested(&rt, alloc) {
         Ok((flags, script)) => {
-            let mut input = rt.stdin();
-            let mut out = rt.stdout();
-            let mut err = rt.stderr();
-            ExitCode::from(edit::edit(alloc, flags, script, &mut input, &mut out, &mut err))
+            let mut input = FromRead::new(rt.stdin());
+            let mut out = ToWrite::new(rt.stdout());
+            let mut err = ToWrite::new(rt.stderr());
+            match edit(alloc, flags, script, &mut input, &mut out, &mut err) {
+                Ok(status) => ExitCode::from(status),
+                Err(fault) => {
+                    let _ = eprintln!(rt; "-: {}", fault_text(fault));
+                    ExitCode::from(2)
+                }
+            }
         }
         Err(fault) => {
             let _ = eprintln!(rt; "buildozer: {fault}");

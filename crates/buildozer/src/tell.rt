@@ -1,14 +1,13 @@
 //! What a run tells beside its text: printed lines on standard output, messages on standard error.
 
 ghost use Rattle.std.specs.Prelude.{◌≡◌, ◌++◌, string_bytes, IfOk, OnOk};
-ghost use Rattle.std.specs.Io.KnownBytes.{Appends};
 ghost use Rattle.buildozer.specs.Told.{lines_text, messages_text, texts_behind};
 
 use crate::list::Text;
 use crate::report::Report;
 use crate::run::RunFault;
+use bz_engine::{Sink, write_all};
 use std::alloc::{AllocError, Global};
-use std::io::Write;
 
 /// How standard input is called in messages.
 const STANDARD: &str = "-: ";
@@ -26,29 +25,28 @@ fn lines_behind(alloc: Global, words: &str, texts: &[Text]) -> Result<String, Al
     Ok(all)
 }
 
-/// Appends each text as a line behind the same words, in one write.
-fn write_lines<W: Write>(
+/// Writes each text as a line behind the same words.
+fn write_lines<W: Sink>(
     alloc: Global,
     words: &str,
     texts: &[Text],
     out: &mut W,
 ) -> Result<(), RunFault>
-    ensures { OnOk result (Appends (W.contents out.old) (W.contents out.new) (texts_behind words.now texts.now)) }
+    ensures { OnOk result (W.took out.old (texts_behind words.now texts.now) out.new) }
 {
     let all = lines_behind(alloc, words, texts).map_err(|_| RunFault::OutOfMemory)?;
-    out.write_all(all.as_bytes())
-        .map_err(|_| RunFault::WriteFailed)
+    write_all(out, all.as_bytes()).map_err(|_| RunFault::WriteFailed)
 }
 
 /// Writes what a run tells: each printed line to `out`, and each message to `err`, behind `-: `.
-pub fn tell<O: Write, E: Write>(
+pub fn tell_report<O: Sink, E: Sink>(
     alloc: Global,
     report: &Report,
     out: &mut O,
     err: &mut E,
 ) -> Result<(), RunFault>
-    ensures lines { OnOk result (Appends (O.contents out.old) (O.contents out.new) (lines_text report.now.lines)) }
-    ensures messages { OnOk result (Appends (E.contents err.old) (E.contents err.new) (messages_text report.now.messages)) }
+    ensures lines { OnOk result (O.took out.old (lines_text report.now.lines) out.new) }
+    ensures messages { OnOk result (E.took err.old (messages_text report.now.messages) err.new) }
 {
     write_lines(alloc, "", report.lines.as_slice(), out)?;
     write_lines(alloc, STANDARD, report.messages.as_slice(), err)

@@ -1,5 +1,4 @@
-use Rattle.std.proofs.Common.{◌≡◌, ℕ, List, Option, Some, None, codes, ap, sym, ◌∙◌}
-use Rattle.std.specs.Prelude.{IfOk, Result, Ok, Err}
+use Rattle.std.proofs.Common.{ℕ, List, Option, Some, codes, ap, sym, ◌∙◌}
 use Rattle.std.specs.List.{find}
 use Rattle.buildozer.specs.declared.statement.Argument.{Argument}
 use Rattle.buildozer.specs.Values.{value_in}

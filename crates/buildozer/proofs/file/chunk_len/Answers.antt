@@ -1,7 +1,5 @@
-use Rattle.std.proofs.Common.{◌≡◌, ◌+◌, ◌-◌, ◌<◌, ◌∷◌, ◌++◌, take, drop, length, arith}
+use Rattle.std.proofs.Common.{◌+◌, ◌-◌, take, drop, arith}
 use Rattle.std.proofs.lemmas.Grind.{common_steps}
-use Rattle.bz_token.specs.Chunks.{IsChunk, IsPart}
-use Rattle.bz_token.specs.CutSteps.{IsBehind}
 use Rattle.buildozer.proofs.FileLines.{seen_more, chunk_here}
 use Rattle.buildozer.proofs.file.chunk_len.Goals as goal
 

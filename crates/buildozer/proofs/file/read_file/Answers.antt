@@ -1,5 +1,5 @@
-use Rattle.std.proofs.Common.{[], ap, refl, take, length}
-use Rattle.std.specs.Prelude.{Some, None}
+use Rattle.std.proofs.Common.{[], ap, refl}
+use Rattle.std.specs.Prelude.{Some}
 use Rattle.buildozer.proofs.file.read_file.Goals as goal
 
 pub returns-in-Err : goal.returns-in-Err

@@ -1,4 +1,4 @@
-use Rattle.std.proofs.Common.{◌≡◌, ℕ, ◌+◌, ◌-◌, ◌<◌, [], ◌∷◌, ◌++◌, ◌∙◌, ap, sym, subst, refl, take, drop, length, count_by, ◌==◌, map, append_assoc, append-nil, arith}
+use Rattle.std.proofs.Common.{◌≡◌, [], ◌++◌, ap, subst, refl, take, length, count_by, ◌==◌, append_assoc, append-nil, arith}
 use Rattle.std.specs.Prelude.{option_to_list, Some, None, Ok, Err}
 use Rattle.std.proofs.lemmas.Str.{IsUtf8-drop}
 use Rattle.std.proofs.lemmas.Grind.{common_steps}

@@ -1,4 +1,4 @@
-use Rattle.std.proofs.Common.{◌≡◌, ℕ, ◌+◌, ◌==◌, ◌++◌, List, map, length, count_by}
+use Rattle.std.proofs.Common.{◌≡◌, ◌+◌, ◌==◌, ◌++◌, List, map, length, count_by}
 use Rattle.std.specs.Prelude.{Option, Some, IsUtf8}
 use Rattle.bz_token.specs.Chunks.{chunks}
 use Rattle.buildozer.specs.declared.statement.Statement.{Statement}
