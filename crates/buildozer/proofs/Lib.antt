@@ -4,7 +4,6 @@ mod WordExamples
 pub mod Adds
 pub mod Answer
 pub mod Complete
-pub mod Examples
 pub mod FileLines
 pub mod First
 pub mod Fresh
