@@ -1,4 +1,4 @@
 pub mod Answer
 pub mod Complete
-pub mod Examples
+mod Examples
 pub mod Sound

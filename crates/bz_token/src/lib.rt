@@ -1,11 +1,13 @@
 //! The lowest layer: the tokens of a BUILD file with their places.
 #![tactic(auto)]
 
+mod cutter;
 mod fault;
 mod lexer;
 mod token;
 mod utf8;
 
+pub use cutter::{Cut, Cutter};
 pub use fault::LexFault;
 pub use lexer::{one_reading, tokens};
 pub use token::{Kind, Token};
