@@ -1,8 +1,8 @@
-pub mod Lexical
-pub mod Places
-pub mod Groups
-pub mod Munch
-pub mod Pieces
 pub mod Chunks
 pub mod CutSteps
+pub mod Groups
+pub mod Lexical
+pub mod Munch
+pub mod Pieces
+pub mod Places
 pub mod Reading
