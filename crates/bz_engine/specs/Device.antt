@@ -1,5 +1,5 @@
 -- Devices: what a source gave and what a sink took. One piece stands for one read; an empty one is the end of the input.
-use Rattle.std.specs.Prelude.{◌≡◌, ℕ, ◌<◌, ◌≤◌, ◌-◌, ◌^◌, Bool, true, false, IsTrue, List, [], ◌∷◌, ◌++◌, Option, None, Some, ⊤}
+use Rattle.std.specs.Prelude.{◌≡◌, ℕ, ◌+◌, ◌<◌, ◌≤◌, ◌-◌, ◌^◌, Bool, true, false, IsTrue, List, [], ◌∷◌, ◌++◌, Option, None, Some, ⊤}
 use Rattle.std.specs.Prelude.{length}
 use Rattle.std.specs.List.{flat_map}
 
@@ -24,9 +24,15 @@ pub record Rises (old new : ℕ) : Type 0 where
   pub grows : old ≤ new
   pub rose : old < 2 ^ 64 - 1 → old < new
 
--- a reader or writer, and how often it failed
+-- a count of bytes grew by n, or stands at its greatest value
+pub record Counts (old new n : ℕ) : Type 0 where
+  pub grows : old ≤ new
+  pub exact : new < 2 ^ 64 - 1 → new ≡ old + n
+
+-- a reader or writer, how many bytes it gave or took, and how often it failed
 pub record Counted (D : Type 0) : Type 0 where
   pub device : D
+  pub bytes : ℕ
   pub failures : ℕ
 
 -- a reader gave these pieces: the known bytes begin with them, lose them, and are at their end where the reads are

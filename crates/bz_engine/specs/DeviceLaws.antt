@@ -1,11 +1,12 @@
 -- The laws of readers and writers over memory: nothing, and one after another.
-use Rattle.std.proofs.Common.{◌≡◌, ℕ, List, [], ◌∷◌, ◌++◌, refl, sym, ◌∙◌, ap, append_assoc, append-nil, subst}
+use Rattle.std.proofs.Common.{◌≡◌, ℕ, ◌+◌, List, [], ◌∷◌, ◌++◌, length, length-append, refl, sym, ◌∙◌, ap, append_assoc, append-nil, subst}
 use Rattle.std.specs.Prelude.{Option, None, Some, IsTrue}
+use Rattle.std.proofs.Math.Nat.{le_refl, le_trans, lt_of_le_of_lt, add-zero, add_assoc}
 use Rattle.std.proofs.lemmas.Bool.{false≢true}
 use Rattle.std.specs.Io.KnownBytes.{Appends}
 use Rattle.std.proofs.KnownBytes.{Appends-nil, Appends-trans}
 use Rattle.std.proofs.lemmas.List.Concat.{flat_map-append}
-use Rattle.bz_engine.specs.Device.{joined, Gave, ends}
+use Rattle.bz_engine.specs.Device.{joined, Gave, ends, Counts}
 
 pub ends-append : (ps : List (List ℕ)) (q : List ℕ) (qs : List (List ℕ)) → ends (ps ++ q ∷ qs) ≡ ends (q ∷ qs)
 ends-append [] q qs = refl
@@ -37,3 +38,22 @@ appends_nothing a = Appends-nil a
 
 pub appends_more : (a b c : Option (List ℕ)) (xs ys : List ℕ) → Appends a b xs → Appends b c ys → Appends a c (xs ++ ys)
 appends_more a b c xs ys p q = Appends-trans a b c xs ys p q
+
+-- what a count says of nothing, and of one run of reads or writes after another
+pub counts_nothing : (a : ℕ) → Counts a a 0
+counts_nothing a = record { grows = le_refl a; exact = λ h. sym (add-zero a) }
+
+counts_more : (a b c m n : ℕ) → Counts a b m → Counts b c n → Counts a c (m + n)
+counts_more a b c m n p q = record {
+  grows = le_trans p.grows q.grows;
+  exact = λ h. q.exact h ∙ ap (λ x. x + n) (p.exact (lt_of_le_of_lt q.grows h)) ∙ add_assoc a m n;
+}
+
+pub counts_pieces : (a b c : ℕ) (xs ys : List (List ℕ)) → Counts a b (length (joined xs)) → Counts b c (length (joined ys))
+    → Counts a c (length (joined (xs ++ ys)))
+counts_pieces a b c xs ys p q =
+    subst (Counts a c) (sym (ap length (flat_map-append (λ x. x) xs ys) ∙ length-append (joined xs) (joined ys)))
+    (counts_more a b c (length (joined xs)) (length (joined ys)) p q)
+
+pub counts_bytes : (a b c : ℕ) (xs ys : List ℕ) → Counts a b (length xs) → Counts b c (length ys) → Counts a c (length (xs ++ ys))
+counts_bytes a b c xs ys p q = subst (Counts a c) (sym (length-append xs ys)) (counts_more a b c (length xs) (length ys) p q)

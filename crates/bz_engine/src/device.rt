@@ -10,7 +10,7 @@ pub struct Failed;
 /// Where bytes come from.
 ///
 /// What reads gave is a relation of the states before and after. Over memory it names the bytes,
-/// over a file it is open which they were.
+/// over a file their count alone.
 pub trait Source {
     // From the first state, reads gave these pieces, one for each read, and left the second state. An empty piece is the end of the input.
     ghost gave: { Self → List (List ℕ) → Self → Type 0 };
@@ -39,7 +39,7 @@ pub trait Source {
 /// Where bytes go.
 ///
 /// What writes appended is a relation of the states before and after. Over memory it names the
-/// bytes, over a file it is open which of them were kept.
+/// bytes, over a file their count alone.
 pub trait Sink {
     // The first state took these bytes and became the second.
     ghost took: { Self → List ℕ → Self → Type 0 };

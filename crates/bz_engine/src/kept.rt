@@ -64,7 +64,7 @@ fn append_all<M>(logs: &mut [Log<M>], log: &mut Log<M>) -> Result<(), AllocError
 }
 
 /// Whether the target of a pass had to mark something and marked nothing.
-fn target_is_missing<S, L: Language<S>>(
+fn target_is_missing<L: Language>(
     language: &L,
     pass: &Pass<L::Target, L::Command>,
     kept: &Kept<L::Entry>,
@@ -75,7 +75,7 @@ fn target_is_missing<S, L: Language<S>>(
 }
 
 /// What is told of one pass: first that its target was not found, then what its commands told.
-fn tell_pass<S, L: Language<S>>(
+fn tell_pass<L: Language>(
     language: &L,
     pass: &Pass<L::Target, L::Command>,
     kept: &mut Kept<L::Entry>,
@@ -91,7 +91,7 @@ fn tell_pass<S, L: Language<S>>(
 
 /// The log of a whole run, from what was kept of it: by pass, in a pass by command, for a command
 /// by slot. The entries are moved out of `kept`.
-pub fn tell<S, L: Language<S>>(
+pub fn tell<L: Language>(
     alloc: Global,
     language: &L,
     passes: &[Pass<L::Target, L::Command>],
@@ -108,7 +108,7 @@ pub fn tell<S, L: Language<S>>(
 }
 
 /// Whether the target of some pass had to mark something and marked nothing.
-pub fn is_some_missing<S, L: Language<S>>(
+pub fn is_some_missing<L: Language>(
     language: &L,
     passes: &[Pass<L::Target, L::Command>],
     kept: &[Kept<L::Entry>],

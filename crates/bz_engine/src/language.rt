@@ -14,7 +14,9 @@ pub struct Facts {
 }
 
 /// What targets and commands mean on one statement.
-pub trait Language<S> {
+pub trait Language {
+    type Statement;
+
     type Target;
 
     type Command;
@@ -24,7 +26,7 @@ pub trait Language<S> {
     // What contracts see of a slot.
     ghost Seen: { Type 0 };
 
-    ghost seen: { Option S → Slot Seen };
+    ghost seen: { Option Self.Statement → Slot Seen };
 
     ghost meaning: { Self → Meaning Seen Self.Target Self.Command Self.Entry };
 
@@ -33,7 +35,7 @@ pub trait Language<S> {
     ghost fails: { Self → Self.Command → Slot Seen → Bool };
 
     /// Whether the target marks what is in the slot.
-    fn marks(&self, target: &Self::Target, slot: &Option<S>) -> bool
+    fn marks(&self, target: &Self::Target, slot: &Option<Self::Statement>) -> bool
         ensures { result ≡ (meaning self.now).marks target.now (seen slot.now) };
 
     /// Whether it is told of a pass that its target marked nothing.
@@ -48,7 +50,7 @@ pub trait Language<S> {
     fn apply(
         &self,
         command: &Self::Command,
-        slot: &mut Option<S>,
+        slot: &mut Option<Self::Statement>,
         log: &mut Log<Self::Entry>,
     ) -> Result<Facts, AllocError>
         ensures slot { OnOk result (seen slot.new ≡ (meaning self.now).after command.now (seen slot.old)) }

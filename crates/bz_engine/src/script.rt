@@ -11,11 +11,11 @@ use crate::pass::Pass;
 use std::alloc::AllocError;
 
 /// One command on a slot that may be marked.
-fn execute<S, L: Language<S>>(
+fn execute<L: Language>(
     language: &L,
     command: &L::Command,
     mark: bool,
-    slot: &mut Option<S>,
+    slot: &mut Option<L::Statement>,
     log: &mut Log<L::Entry>,
     facts: &mut Facts,
 ) -> Result<(), AllocError>
@@ -38,11 +38,11 @@ fn execute<S, L: Language<S>>(
 }
 
 /// The commands of a pass on one slot.
-fn run_commands<S, L: Language<S>>(
+fn run_commands<L: Language>(
     language: &L,
     commands: &[L::Command],
     mark: bool,
-    slot: &mut Option<S>,
+    slot: &mut Option<L::Statement>,
     logs: &mut [Log<L::Entry>],
     facts: &mut Facts,
 ) -> Result<(), AllocError>
@@ -63,10 +63,10 @@ fn run_commands<S, L: Language<S>>(
 }
 
 /// One pass on a slot. The target is resolved once, before the first command.
-fn run_pass<S, L: Language<S>>(
+fn run_pass<L: Language>(
     language: &L,
     pass: &Pass<L::Target, L::Command>,
-    slot: &mut Option<S>,
+    slot: &mut Option<L::Statement>,
     kept: &mut Kept<L::Entry>,
     facts: &mut Facts,
 ) -> Result<(), AllocError>
@@ -96,10 +96,10 @@ fn run_pass<S, L: Language<S>>(
 /// The whole script on one slot, pass by pass. What it tells goes behind what was kept of the
 /// slots before, and what it did is added to the facts. After a refusal neither the slot nor what
 /// is kept is of use.
-pub fn run_script<S, L: Language<S>>(
+pub fn run_script<L: Language>(
     language: &L,
     passes: &[Pass<L::Target, L::Command>],
-    slot: &mut Option<S>,
+    slot: &mut Option<L::Statement>,
     kept: &mut [Kept<L::Entry>],
     facts: &mut Facts,
 ) -> Result<(), AllocError>
@@ -123,7 +123,7 @@ pub fn run_script<S, L: Language<S>>(
 
 /// The law that lets a run go slot by slot: command by command over the whole file is the whole
 /// script over one slot after the other, and the log is by pass, by command and by slot.
-pub fn exchange<S, L: Language<S>>(language: &L)
+pub fn exchange<L: Language>(language: &L)
     ensures { (ps : List (APass L.Target L.Command)) (slots : List (Slot L.Seen))
         → Exchange (L.meaning language.now) ps slots }
 {}

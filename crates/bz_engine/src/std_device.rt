@@ -2,8 +2,8 @@
 
 ghost use Rattle.std.specs.Prelude.{◌≡◌, ◌<◌, ◌≤◌, [], ◌∷◌, ◌++◌, length, take, IfOk, OnErr};
 ghost use Rattle.std.specs.Io.KnownBytes.{Appends};
-ghost use Rattle.bz_engine.specs.Device.{Gave};
-ghost use Rattle.bz_engine.specs.DeviceLaws.{gave_nothing_lem, gave_more_lem, appends_nothing, appends_more};
+ghost use Rattle.bz_engine.specs.Device.{joined, Counts, Gave};
+ghost use Rattle.bz_engine.specs.DeviceLaws.{gave_nothing_lem, gave_more_lem, appends_nothing, appends_more, counts_nothing, counts_pieces, counts_bytes};
 
 use crate::device::{Failed, Sink, Source};
 use std::io::{ErrorKind, Read, Write};
@@ -14,6 +14,8 @@ use std::marker::Model;
 #[derive(Drop)]
 pub struct FromRead<R> {
     reader: R,
+    /// How many bytes the reads gave. It stays at its greatest value.
+    bytes: u64,
     failures: u64,
 }
 
@@ -22,16 +24,17 @@ impl<R> Model for FromRead<R> {
 
     ghost Value = { Counted R };
 
-    ghost view = { λ s. record { device = s.reader; failures = s.failures } };
+    ghost view = { λ s. record { device = s.reader; bytes = s.bytes; failures = s.failures } };
 }
 
 impl<R: Read> FromRead<R> {
     /// The reader, with no failure so far.
     pub fn new(reader: R) -> FromRead<R>
-        ensures { result ≡ record { device = reader; failures = 0 } }
+        ensures { result ≡ record { device = reader; bytes = 0; failures = 0 } }
     {
         FromRead {
             reader,
+            bytes: 0,
             failures: 0,
         }
     }
@@ -59,20 +62,30 @@ fn read_uninterrupted<R: Read>(reader: &mut R, buf: &mut [u8]) -> Result<usize, 
 }
 
 impl<R: Read> Source for FromRead<R> {
-    ghost gave = { λ old pieces new. Gave (R.remaining old.device) (R.remaining new.device) pieces };
+    // By the bytes that are left, where they are known, and by their count.
+    ghost gave = { λ old pieces new. Gave (R.remaining old.device) (R.remaining new.device) pieces
+        × Counts old.bytes new.bytes (length (joined pieces)) };
 
     ghost failures = { λ s. s.failures };
 
-    ghost gave_nothing = { λ s. gave_nothing_lem (R.remaining s.device) };
+    ghost gave_nothing = { λ s. (gave_nothing_lem (R.remaining s.device), counts_nothing s.bytes) };
 
-    ghost gave_more = { λ a b c xs ys p q. gave_more_lem (R.remaining a.device) (R.remaining b.device) (R.remaining c.device) xs ys p q };
+    ghost gave_more = { λ a b c xs ys p q. (
+      gave_more_lem (R.remaining a.device) (R.remaining b.device) (R.remaining c.device) xs ys p.0 q.0,
+      counts_pieces a.bytes b.bytes c.bytes xs ys p.1 q.1,
+    ) };
 
     fn read(&mut self, buf: &mut [u8]) -> Result<usize, Failed> {
-        let read = read_uninterrupted(&mut self.reader, buf);
-        if read.is_err() {
-            self.failures = self.failures.saturating_add(1);
+        match read_uninterrupted(&mut self.reader, buf) {
+            Ok(n) => {
+                self.bytes = self.bytes.saturating_add(n as u64);
+                Ok(n)
+            }
+            Err(failed) => {
+                self.failures = self.failures.saturating_add(1);
+                Err(failed)
+            }
         }
-        read
     }
 
     fn failures(&self) -> u64 {
@@ -85,6 +98,8 @@ impl<R: Read> Source for FromRead<R> {
 #[derive(Drop)]
 pub struct ToWrite<W> {
     writer: W,
+    /// How many bytes the writes appended. It stays at its greatest value.
+    bytes: u64,
     failures: u64,
 }
 
@@ -93,37 +108,46 @@ impl<W> Model for ToWrite<W> {
 
     ghost Value = { Counted W };
 
-    ghost view = { λ s. record { device = s.writer; failures = s.failures } };
+    ghost view = { λ s. record { device = s.writer; bytes = s.bytes; failures = s.failures } };
 }
 
 impl<W: Write> ToWrite<W> {
     /// The writer, with no failure so far.
     pub fn new(writer: W) -> ToWrite<W>
-        ensures { result ≡ record { device = writer; failures = 0 } }
+        ensures { result ≡ record { device = writer; bytes = 0; failures = 0 } }
     {
         ToWrite {
             writer,
+            bytes: 0,
             failures: 0,
         }
     }
 }
 
 impl<W: Write> Sink for ToWrite<W> {
-    ghost took = { λ old bytes new. Appends (W.contents old.device) (W.contents new.device) bytes };
+    // By the bytes that were written, where they are known, and by their count.
+    ghost took = { λ old bytes new. Appends (W.contents old.device) (W.contents new.device) bytes
+        × Counts old.bytes new.bytes (length bytes) };
 
     ghost failures = { λ s. s.failures };
 
-    ghost took_nothing = { λ s. appends_nothing (W.contents s.device) };
+    ghost took_nothing = { λ s. (appends_nothing (W.contents s.device), counts_nothing s.bytes) };
 
-    ghost took_more = { λ a b c xs ys p q. appends_more (W.contents a.device) (W.contents b.device) (W.contents c.device) xs ys p q };
+    ghost took_more = { λ a b c xs ys p q. (
+      appends_more (W.contents a.device) (W.contents b.device) (W.contents c.device) xs ys p.0 q.0,
+      counts_bytes a.bytes b.bytes c.bytes xs ys p.1 q.1,
+    ) };
 
     fn write(&mut self, bytes: &[u8]) -> Result<usize, Failed> {
         match self.writer.write(bytes) {
-            Ok(0) | Err(_) => {
+            Ok(n) if n > 0 => {
+                self.bytes = self.bytes.saturating_add(n as u64);
+                Ok(n)
+            }
+            _ => {
                 self.failures = self.failures.saturating_add(1);
                 Err(Failed)
             }
-            Ok(n) => Ok(n),
         }
     }
 

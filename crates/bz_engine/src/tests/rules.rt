@@ -1,14 +1,15 @@
-//! A small language: rules with a kind and a name.
+//! A small language: rules with a name, and a kind that they borrow from the file.
 
-ghost use Rattle.std.specs.Prelude.{Bool, true, false, not, nat_eq, Option, None, Some, List, [], ◌∷◌};
+ghost use Rattle.std.specs.Prelude.{ℕ, option_map, Bool, true, false, not, nat_eq, Option, None, Some, List, [], ◌∷◌};
 
 use crate::language::{Facts, Language};
 use crate::log::Log;
 use std::alloc::AllocError;
 
-#[derive(Clone, Copy, Debug, PartialEq, Eq)]
-pub struct Rule {
-    pub kind: u8,
+#[derive(Clone, Copy)]
+pub struct Rule<'a> {
+    /// A byte of the file.
+    pub kind: &'a u8,
     pub name: u8,
 }
 
@@ -35,38 +36,43 @@ pub enum Entry {
 }
 
 /// The language of these targets and commands.
-pub struct Rules;
+#[derive(Clone, Copy)]
+pub struct Rules<'a> {
+    pub file: &'a [u8],
+}
 
-impl Language<Rule> for Rules {
+impl<'a> Language for Rules<'a> {
+    type Statement = Rule<'a>;
+
     type Target = Target;
 
     type Command = Command;
 
     type Entry = Entry;
 
-    ghost use Rattle.bz_engine.specs.declared.tests.rules.Rule.{Rule as ARule};
     ghost use Rattle.bz_engine.specs.declared.tests.rules.Entry.{Entry as AnEntry};
     ghost use Rattle.bz_engine.specs.declared.tests.rules.Target.TheVariants.{Name, All};
     ghost use Rattle.bz_engine.specs.declared.tests.rules.Command.TheVariants.{SetName, Delete, PrintName, PrintKind, Refuse};
     ghost use Rattle.bz_engine.specs.declared.tests.rules.Entry.TheVariants.{Line, Refused, NotFound};
 
-    ghost Seen = { ARule };
+    // The kind and the name.
+    ghost Seen = { ℕ × ℕ };
 
-    ghost seen = { λ slot. slot };
+    ghost seen = { λ slot. option_map (λ r. (r.kind.now, r.name)) slot };
 
     ghost meaning = { λ _. record {
-      marks = λ target slot. elim slot as (λ _. Bool) [ None ↦ false | Some rule ↦ elim target as (λ _. Bool) [ Name n ↦ nat_eq rule.name n | All ↦ true ] ];
+      marks = λ target slot. elim slot as (λ _. Bool) [ None ↦ false | Some rule ↦ elim target as (λ _. Bool) [ Name n ↦ nat_eq rule.1 n | All ↦ true ] ];
       must_mark = λ target. elim target as (λ _. Bool) [ Name n ↦ true | All ↦ false ];
       not_found = λ target. NotFound;
-      after = λ command slot. elim slot as (λ _. Option ARule) [ None ↦ None | Some rule ↦ elim command as (λ _. Option ARule) [ SetName n ↦ Some (record rule { name = n }) | Delete ↦ None | PrintName ↦ Some rule | PrintKind ↦ Some rule | Refuse ↦ Some rule ] ];
-      says = λ command slot. elim slot as (λ _. List AnEntry) [ None ↦ [] | Some rule ↦ elim command as (λ _. List AnEntry) [ SetName n ↦ [] | Delete ↦ [] | PrintName ↦ Line rule.name ∷ [] | PrintKind ↦ Line rule.kind ∷ [] | Refuse ↦ Refused rule.name ∷ [] ] ];
+      after = λ command slot. elim slot as (λ _. Option (ℕ × ℕ)) [ None ↦ None | Some rule ↦ elim command as (λ _. Option (ℕ × ℕ)) [ SetName n ↦ Some (rule.0, n) | Delete ↦ None | PrintName ↦ Some rule | PrintKind ↦ Some rule | Refuse ↦ Some rule ] ];
+      says = λ command slot. elim slot as (λ _. List AnEntry) [ None ↦ [] | Some rule ↦ elim command as (λ _. List AnEntry) [ SetName n ↦ [] | Delete ↦ [] | PrintName ↦ Line rule.1 ∷ [] | PrintKind ↦ Line rule.0 ∷ [] | Refuse ↦ Refused rule.1 ∷ [] ] ];
     } };
 
-    ghost changes = { λ _ command slot. elim slot as (λ _. Bool) [ None ↦ false | Some rule ↦ elim command as (λ _. Bool) [ SetName n ↦ not (nat_eq rule.name n) | Delete ↦ true | PrintName ↦ false | PrintKind ↦ false | Refuse ↦ false ] ] };
+    ghost changes = { λ _ command slot. elim slot as (λ _. Bool) [ None ↦ false | Some rule ↦ elim command as (λ _. Bool) [ SetName n ↦ not (nat_eq rule.1 n) | Delete ↦ true | PrintName ↦ false | PrintKind ↦ false | Refuse ↦ false ] ] };
 
     ghost fails = { λ _ command slot. elim slot as (λ _. Bool) [ None ↦ false | Some rule ↦ elim command as (λ _. Bool) [ SetName n ↦ false | Delete ↦ false | PrintName ↦ false | PrintKind ↦ false | Refuse ↦ true ] ] };
 
-    fn marks(&self, target: &Target, slot: &Option<Rule>) -> bool {
+    fn marks(&self, target: &Target, slot: &Option<Rule<'a>>) -> bool {
         match (target, slot) {
             (_, None) => false,
             (Target::Name(name), Some(rule)) => rule.name == *name,
@@ -85,7 +91,7 @@ impl Language<Rule> for Rules {
     fn apply(
         &self,
         command: &Command,
-        slot: &mut Option<Rule>,
+        slot: &mut Option<Rule<'a>>,
         log: &mut Log<Entry>,
     ) -> Result<Facts, AllocError> {
         let mut facts = Facts {
@@ -108,7 +114,7 @@ impl Language<Rule> for Rules {
                 *slot = None;
             }
             Command::PrintName => log.push(Entry::Line(rule.name))?,
-            Command::PrintKind => log.push(Entry::Line(rule.kind))?,
+            Command::PrintKind => log.push(Entry::Line(*rule.kind))?,
             Command::Refuse => {
                 facts.failed = true;
                 log.push(Entry::Refused(rule.name))?;

@@ -8,30 +8,34 @@ use crate::script::{exchange, run_script};
 use std::alloc::{AllocError, Global};
 use std::test::Fail;
 
-/// What a whole run leaves and tells.
+/// What a whole run leaves, as kinds and names, and what it tells.
 #[derive(Drop)]
 struct Ran {
-    slots: Vec<Option<Rule>>,
+    slots: Vec<Option<(u8, u8)>>,
     told: Vec<Entry>,
     facts: Facts,
     missing: bool,
 }
 
-/// Slot by slot, with what is kept in between.
-fn run(alloc: Global, passes: &[Pass<Target, Command>], rules: &[Rule]) -> Result<Ran, AllocError> {
+/// Slot by slot, with what is kept in between. A file is rules of two bytes, kind and name.
+fn run(alloc: Global, passes: &[Pass<Target, Command>], file: &[u8]) -> Result<Ran, AllocError> {
+    let rules = Rules { file };
     let mut kept: Vec<Kept<Entry>> = nothing_kept(alloc, passes)?;
     let mut slots = Vec::new(alloc);
     let mut facts = Facts {
         changed: false,
         failed: false,
     };
-    for rule in rules {
-        let mut slot = Some(*rule);
-        run_script(&Rules, passes, &mut slot, kept.as_mut_slice(), &mut facts)?;
-        slots.push(slot)?;
+    for rule in file.chunks_exact(2) {
+        let mut slot = Some(Rule {
+            kind: &rule[0],
+            name: rule[1],
+        });
+        run_script(&rules, passes, &mut slot, kept.as_mut_slice(), &mut facts)?;
+        slots.push(slot.map(|rule| (*rule.kind, rule.name)))?;
     }
-    let missing = is_some_missing(&Rules, passes, kept.as_slice());
-    let told = tell(alloc, &Rules, passes, kept.as_mut_slice())?;
+    let missing = is_some_missing(&rules, passes, kept.as_slice());
+    let told = tell(alloc, &rules, passes, kept.as_mut_slice())?;
     Ok(Ran {
         slots,
         told: told.into_entries(),
@@ -51,16 +55,6 @@ fn pass(
     })
 }
 
-const F: Rule = Rule {
-    kind: b'f',
-    name: b'a',
-};
-
-const G: Rule = Rule {
-    kind: b'g',
-    name: b'b',
-};
-
 // `set name b` does not hide the rule from the next command of its pass, but from the pass behind it.
 #[test]
 fn renames(rt: HostRuntime) -> Result<(), Fail> {
@@ -74,15 +68,8 @@ fn renames(rt: HostRuntime) -> Result<(), Fail> {
         pass(alloc, Target::Name(b'b'), &[Command::PrintKind])?,
         pass(alloc, Target::Name(b'a'), &[Command::PrintKind])?,
     ]?;
-    let ran = run(alloc, passes.as_slice(), &[F])?;
-    assert_eq!(rt;
-        ran.slots.as_slice(),
-        [Some(Rule {
-            kind: b'f',
-            name: b'b'
-        })]
-        .as_slice()
-    );
+    let ran = run(alloc, passes.as_slice(), b"fa")?;
+    assert_eq!(rt; ran.slots.as_slice(), [Some((b'f', b'b'))].as_slice());
     assert_eq!(rt;
         ran.told.as_slice(),
         [Entry::Line(b'b'), Entry::Line(b'f'), Entry::NotFound].as_slice()
@@ -105,8 +92,11 @@ fn prints(rt: HostRuntime) -> Result<(), Fail> {
             &[Command::PrintName, Command::PrintKind]
         )?,
     ]?;
-    let ran = run(alloc, passes.as_slice(), &[F, G])?;
-    assert_eq!(rt; ran.slots.as_slice(), [Some(F), Some(G)].as_slice());
+    let ran = run(alloc, passes.as_slice(), b"fagb")?;
+    assert_eq!(rt;
+        ran.slots.as_slice(),
+        [Some((b'f', b'a')), Some((b'g', b'b'))].as_slice()
+    );
     assert_eq!(rt;
         ran.told.as_slice(),
         [b'a', b'b', b'f', b'g'].map(Entry::Line).as_slice()
@@ -130,13 +120,13 @@ fn deletes(rt: HostRuntime) -> Result<(), Fail> {
         )?,
         pass(alloc, Target::All, &[Command::Refuse])?,
     ]?;
-    let ran = run(alloc, passes.as_slice(), &[F, G])?;
-    assert_eq!(rt; ran.slots.as_slice(), [None, Some(G)].as_slice());
+    let ran = run(alloc, passes.as_slice(), b"fagb")?;
+    assert_eq!(rt; ran.slots.as_slice(), [None, Some((b'g', b'b'))].as_slice());
     assert_eq!(rt; ran.told.as_slice(), [Entry::Refused(b'b')].as_slice());
     assert_eq!(rt;
         (ran.facts.changed, ran.facts.failed, ran.missing),
         (true, true, false)
     );
-    exchange(&Rules);
+    exchange(&Rules { file: b"" });
     Ok(())
 }
