@@ -5,5 +5,8 @@ pub mod CutPasses
 pub mod CutMachine
 pub mod CutLines
 pub mod CutLaws
-pub mod CutTests
+pub mod CutHeads
+pub mod CutBehind
+pub mod CutAnswers
+pub mod CutWords
 mod ChunkExamples

@@ -5,6 +5,6 @@ mod cutter;
 mod fault;
 mod token;
 
-pub use cutter::{Cut, Cutter};
+pub use cutter::{Cut, Cutter, Next};
 pub use fault::LexFault;
 pub use token::{Kind, Token};

@@ -1,8 +1,7 @@
 //! The walk over the bytes of a file that finds where its logical lines end.
 
 ghost use Rattle.std.specs.Prelude.{◌≡◌, ◌+◌, ◌-◌, ◌≤◌, ◌<◌, ◌^◌, ◌==◌, true, false, length, drop};
-ghost use Rattle.bz_token.specs.CutSteps.{is_ended, is_whole, byte_of, with_note, outside, in_short, in_long, next, start, run};
-ghost use Rattle.bz_token.specs.Chunks.{is_note};
+ghost use Rattle.bz_token.specs.CutSteps.{is_ended, byte_of, with_note, outside, in_short, in_long, next, start, run};
 
 /// What a logical line holds.
 #[derive(Clone, Copy, Debug, PartialEq, Eq)]
@@ -23,7 +22,10 @@ pub enum Quote {
 #[derive(Clone, Copy, Debug, PartialEq, Eq)]
 pub enum Inside {
     Plain,
+    /// Behind the newline that ended the line.
     Ended,
+    /// Behind the newline that broke off a string and ended the line.
+    BrokenOff,
     Backslash,
     BackslashReturn,
     Comment,
@@ -127,7 +129,7 @@ fn in_short(quote: Quote, depth: u64, kind: LineKind, b: u8) -> Scan
     let inside = if b == byte_of(quote) {
         Inside::Plain
     } else if b == b'\n' {
-        Inside::Ended
+        Inside::BrokenOff
     } else if b == b'\\' {
         Inside::ShortEscape(quote)
     } else {
@@ -170,7 +172,7 @@ fn advance(scan: Scan, b: u8) -> Scan
     } = scan;
     match inside {
         Inside::Plain => outside(depth, kind, b),
-        Inside::Ended => outside(0, LineKind::Blank, b),
+        Inside::Ended | Inside::BrokenOff => outside(0, LineKind::Blank, b),
         Inside::Backslash => match b {
             b'\n' => Scan {
                 inside: Inside::Plain,
@@ -276,9 +278,9 @@ pub fn read(scan: Scan, bytes: &[u8]) -> Scan
     scan
 }
 
-/// Whether a chunk ends here.
-pub fn is_whole(scan: Scan) -> bool
-    ensures { result ≡ is_whole scan }
+/// Whether the logical line has ended.
+pub fn is_ended(inside: Inside) -> bool
+    ensures { result ≡ is_ended inside }
 {
-    matches!(scan.inside, Inside::Ended) && !matches!(scan.kind, LineKind::Note)
+    matches!(inside, Inside::Ended | Inside::BrokenOff)
 }
