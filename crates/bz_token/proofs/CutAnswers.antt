@@ -27,10 +27,10 @@ abbrev after_line : List ℕ → List ℕ
 after_line [] = []
 after_line (b ∷ bs) = elim (b == 10) [ true ↦ bs | false ↦ after_line bs ]
 
-first_newline : (b : ℕ) (bs : List ℕ) → (b == 10) ≡ true → first_line (b ∷ bs) ≡ b ∷ []
+pub first_newline : (b : ℕ) (bs : List ℕ) → (b == 10) ≡ true → first_line (b ∷ bs) ≡ b ∷ []
 first_newline b bs h = rw (h, first_line) refl
 
-first_other : (b : ℕ) (bs : List ℕ) → (b == 10) ≡ false → first_line (b ∷ bs) ≡ b ∷ first_line bs
+pub first_other : (b : ℕ) (bs : List ℕ) → (b == 10) ≡ false → first_line (b ∷ bs) ≡ b ∷ first_line bs
 first_other b bs h = rw (h, first_line) refl
 
 line_split : (text : List ℕ) → first_line text ++ after_line text ≡ text
@@ -44,7 +44,7 @@ longer_line : (b : ℕ) (line : List ℕ) → (b == 10) ≡ false → is_physica
 longer_line b [] n h = refl
 longer_line b (c ∷ cs) n h = rw n h
 
-line_physical : (text : List ℕ) → is_physical_line (first_line text) ≡ true
+pub line_physical : (text : List ℕ) → is_physical_line (first_line text) ≡ true
 line_physical [] = refl
 line_physical (b ∷ bs) = elim (cases_Bool (b == 10)) [
   | inl is ↦ ap is_physical_line (first_newline b bs is)
@@ -235,3 +235,6 @@ pub behind_next : (c : Cutter) (next : Next) → (next ≡ Ends → ⊥) → (se
 behind_next c Goes other seen b = b
 behind_next c Ends other seen b = absurd (other refl)
 behind_next c Short other seen b = b
+
+pub nothing_yet : IsPart []
+nothing_yet = part_of fresh [] fresh_behind (λ text e. absurd (false≢true e))

@@ -9,4 +9,5 @@ pub mod CutHeads
 pub mod CutBehind
 pub mod CutAnswers
 pub mod CutWords
+pub mod CutTests
 mod ChunkExamples

@@ -1,4 +1,5 @@
--- What a cutter has read, and what it can be asked next.
+-- What a cutter has read, and what it can be asked next. What these words mean to a caller is what `new`, `line` and
+-- `goes_on` say of them: each answer gives the ones that the next call asks for.
 use Rattle.std.specs.Prelude.{◌≡◌, ◌<◌, ◌≤◌, ◌++◌, length, ℕ, List, [], ◌∷◌, Bool, true, false}
 use Rattle.bz_token.specs.declared.cutter.Cut.{Cut}
 use Rattle.bz_token.specs.declared.cutter.Cut.TheVariants.{Whole, More, Block}
@@ -53,3 +54,7 @@ abbrev pub AwaitsNext : Next → Bool → List ℕ → Cutter → Type 0
 AwaitsNext Goes at_end ahead cutter = (rest : List ℕ) → (at_end ≡ true → rest ≡ []) → Takes cutter (first_line (ahead ++ rest))
 AwaitsNext Ends at_end ahead cutter = (line : List ℕ) → Takes cutter line
 AwaitsNext Short at_end ahead cutter = IsAtBlock cutter
+
+-- it has read at most so many bytes since the last chunk's end
+abbrev pub IsWithin : Cutter → ℕ → Type 0
+IsWithin cutter most = (seen : List ℕ) × IsBehind cutter seen × (length seen ≤ most)

@@ -2,12 +2,14 @@
 
 mod block;
 mod scan;
+#[cfg(test)]
+mod tests;
 
 ghost use Rattle.std.specs.Prelude.{◌≡◌, ◌+◌, ◌<◌, ◌^◌, ◌++◌, ◌↔◌, [], List, ℕ, false, length, IsTrue};
 ghost use Rattle.bz_token.specs.CutSteps.{start, fresh, moved, stage_now, cut_at, cutter_at};
 ghost use Rattle.bz_token.specs.CutterState.{IsBehind, IsAtBlock, Takes, Awaits, AwaitsNext};
 ghost use Rattle.bz_token.specs.Chunks.{chunks};
-ghost use Rattle.bz_token.specs.Cuts.{IsChunk, IsBlock, IsCut, IsNext, left, left_next, IsLast, is_physical_line, ends_in_newline};
+ghost use Rattle.bz_token.specs.Cuts.{IsChunk, IsPart, IsBlock, IsCut, IsNext, left, left_next, IsLast, is_physical_line, ends_in_newline};
 
 use block::{Opener, Stage, block_goes_on, opener_at, stage_step};
 use scan::{Inside, LineKind, Scan, is_ended, read};
@@ -50,8 +52,9 @@ pub struct Cutter {
 impl Cutter {
     /// A cutter at the beginning of a file.
     pub fn new() -> Self
+        ensures part { IsPart [] }
         ensures behind { IsBehind result [] }
-        ensures awaits { (text : List ℕ) → Takes result text }
+        ensures awaits { (line : List ℕ) → Takes result line }
     {
         Cutter::fresh()
     }
@@ -87,6 +90,7 @@ impl Cutter {
         ensures awaits { AwaitsNext result at_end ahead.now self.new }
     {
         let Stage::InBlock(word) = self.stage else {
+            // No chunk is a block here; the condition rules it out.
             return Next::Ends;
         };
         match block_goes_on(word, ahead, at_end) {
@@ -159,58 +163,5 @@ fn cut_at(stage: Stage) -> Cut
         Stage::Notes => Cut::More,
         Stage::InBlock(_) => Cut::Block,
         Stage::Done => Cut::Whole,
-    }
-}
-
-#[cfg(test)]
-mod tests {
-    use super::*;
-    use std::test::Fail;
-
-    // The answer behind a line that begins a block.
-    fn behind(header: &[u8], ahead: &[u8], at_end: bool) -> Option<Next>
-        requires { IsTrue (is_physical_line header.now) }
-    {
-        let mut cutter = Cutter::new();
-        match cutter.line(header) {
-            Cut::Block => Some(cutter.goes_on(ahead, at_end)),
-            Cut::More | Cut::Whole => None,
-        }
-    }
-
-    #[test]
-    fn a_block_goes_on(rt: HostRuntime) -> Result<(), Fail> {
-        let behind_if: [(&[u8], bool, Next); 12] = [
-            (b"els", false, Next::Short),
-            (b"else", true, Next::Goes),
-            (b"else:", false, Next::Goes),
-            (b"elsewhere", false, Next::Ends),
-            (b"else", false, Next::Short),
-            (b"el", true, Next::Ends),
-            (b"e", false, Next::Short),
-            (b"elif", true, Next::Goes),
-            (b"elif ", false, Next::Goes),
-            (b"\r\n", false, Next::Goes),
-            (b"# c\n", false, Next::Ends),
-            (b"\\\n", false, Next::Ends),
-        ];
-        for (ahead, at_end, want) in behind_if {
-            assert_eq!(rt; behind(b"if a:\n", ahead, at_end), Some(want));
-        }
-        let behind_def: [(&[u8], bool, Next); 5] = [
-            (b"else:", false, Next::Ends),
-            (b" x", false, Next::Goes),
-            (b"\n", false, Next::Goes),
-            (b"", true, Next::Ends),
-            (b"", false, Next::Short),
-        ];
-        for (ahead, at_end, want) in behind_def {
-            assert_eq!(rt; behind(b"def f():\n", ahead, at_end), Some(want));
-        }
-        assert_eq!(rt; behind(b"for x in y:\n", b"x", false), Some(Next::Ends));
-        assert_eq!(rt; behind(b" if a:\n", b" ", false), None);
-        assert_eq!(rt; behind(b"iff = 1\n", b" ", false), None);
-        assert_eq!(rt; behind(b"def f('\n", b" ", false), None);
-        Ok(())
     }
 }
