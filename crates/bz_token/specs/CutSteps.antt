@@ -54,11 +54,11 @@ in_short quote depth kind b =
     else (if b == 92 then at (ShortEscape quote) depth kind
     else at (Short quote) depth kind))
 
-abbrev pub in_long : Inside → Inside → Quote → ℕ → LineKind → ℕ → Scan
-in_long quoted plain quote depth kind b =
+abbrev pub in_long : Inside → Quote → ℕ → LineKind → ℕ → Scan
+in_long quoted quote depth kind b =
     if b == byte_of quote then at quoted depth kind
     else (if b == 92 then at (LongEscape quote) depth kind
-    else at plain depth kind)
+    else at (Long quote) depth kind)
 
 abbrev pub next_in : Inside → ℕ → LineKind → ℕ → Scan
 next_in Plain depth kind b = outside depth kind b
@@ -72,9 +72,9 @@ next_in (OpenedTwice quote) depth kind b = if b == byte_of quote then at (Long q
 next_in (Short quote) depth kind b = in_short quote depth kind b
 next_in (ShortEscape quote) depth kind b = if b == 13 then at (ShortEscapeReturn quote) depth kind else at (Short quote) depth kind
 next_in (ShortEscapeReturn quote) depth kind b = if b == 10 then at (Short quote) depth kind else in_short quote depth kind b
-next_in (Long quote) depth kind b = in_long (LongQuote quote) (Long quote) quote depth kind b
-next_in (LongQuote quote) depth kind b = in_long (LongTwoQuotes quote) (Long quote) quote depth kind b
-next_in (LongTwoQuotes quote) depth kind b = in_long Plain (Long quote) quote depth kind b
+next_in (Long quote) depth kind b = in_long (LongQuote quote) quote depth kind b
+next_in (LongQuote quote) depth kind b = in_long (LongTwoQuotes quote) quote depth kind b
+next_in (LongTwoQuotes quote) depth kind b = in_long Plain quote depth kind b
 next_in (LongEscape quote) depth kind b = at (Long quote) depth kind
 
 abbrev pub next : Scan → ℕ → Scan

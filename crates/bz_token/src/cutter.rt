@@ -107,11 +107,7 @@ impl Cutter {
         ensures { result ≡ fresh }
     {
         Cutter {
-            scan: Scan {
-                inside: Inside::Plain,
-                depth: 0,
-                kind: LineKind::Blank,
-            },
+            scan: Scan::start(),
             stage: Stage::Notes,
             opener: None,
         }
@@ -126,8 +122,7 @@ impl Cutter {
             Stage::InBlock(_) => Cutter {
                 scan: Scan {
                     inside: Inside::Ended,
-                    depth: 0,
-                    kind: LineKind::Blank,
+                    ..Scan::start()
                 },
                 stage,
                 opener: None,
