@@ -1,4 +1,7 @@
 mod ChunkExamples
+pub mod CutAnswers
+pub mod CutBehind
+pub mod CutHeads
 pub mod CutLaws
 pub mod CutLines
 pub mod CutMachine
@@ -7,6 +10,7 @@ pub mod CutPasses
 pub mod CutSeen
 pub mod CutStrings
 pub mod CutTests
+pub mod CutWords
 pub mod Examples
 pub mod Longest
 pub mod Progress

@@ -1,7 +1,12 @@
+pub mod Blocks
 pub mod Chunks
 pub mod CutSteps
+pub mod Cuts
+pub mod CutterState
+pub mod Decided
 pub mod Groups
 pub mod Lexical
+pub mod LogicalLines
 pub mod Munch
 pub mod Pieces
 pub mod Places

@@ -7,7 +7,7 @@ mod lexer;
 mod token;
 mod utf8;
 
-pub use cutter::{Cut, Cutter};
+pub use cutter::{Cut, Cutter, Next};
 pub use fault::LexFault;
 pub use lexer::{one_reading, tokens};
 pub use token::{Kind, Token};
