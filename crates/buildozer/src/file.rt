@@ -1,14 +1,16 @@
 //! The statements of a file.
 
-ghost use Rattle.std.specs.Prelude.{◌≡◌, ◌≢◌, ◌≤◌, ◌<◌, ◌+◌, ◌-◌, ◌^◌, ◌∷◌, ◌==◌, length, take, drop, count_by, slice_index, map, option_to_list, ◌++◌, IfOk, OnOk, IsTrue};
-ghost use Rattle.bz_token.specs.Chunks.{chunks, is_physical_line};
+ghost use Rattle.std.specs.Prelude.{ℕ, List, [], true, false, ◌≡◌, ◌≢◌, ◌≤◌, ◌<◌, ◌+◌, ◌-◌, ◌^◌, ◌∷◌, ◌==◌, length, take, drop, count_by, slice_index, map, option_to_list, ◌++◌, IfOk, OnOk, IsTrue};
+ghost use Rattle.bz_token.specs.Chunks.{chunks};
+ghost use Rattle.bz_token.specs.CutterState.{IsBehind, Takes};
+ghost use Rattle.bz_token.specs.Cuts.{EndsBefore, first_line, is_physical_line, ends_in_newline};
 ghost use Rattle.bz_token.specs.Places.{line_at, column_from, column_at};
-ghost use Rattle.buildozer.specs.FileRead.{IsText, HoldsFile};
+ghost use Rattle.buildozer.specs.FileRead.{GoesOn, IsText, HoldsFile};
 
 use crate::parse::{ParseFault, parse};
 use crate::report::SyntaxFault;
 use crate::statement::Statement;
-use bz_token::{Cut, Cutter, check_utf8};
+use bz_token::{Cut, Cutter, Next, check_utf8};
 use std::alloc::{AllocError, Global};
 
 /// The statements of a file before its first fault, and the fault.
@@ -106,19 +108,39 @@ fn chunk_len(bytes: &[u8]) -> usize
     let mut end = 0usize;
     while end < bytes.len() {
         let next = end + line_len(&bytes[end..]);
-        match cutter.line(&bytes[end..next]) {
-            Cut::Whole => return next,
-            Cut::More => end = next,
+        if ends_chunk(&mut cutter, &bytes[end..next], &bytes[next..]) {
+            return next;
         }
+        end = next;
     }
     end
+}
+
+/// Whether a chunk ends with this line, where all that follows is known.
+fn ends_chunk(cutter: &mut Cutter, line: &[u8], behind: &[u8]) -> bool
+    requires one_line { IsTrue (is_physical_line line.now) }
+    requires whole_line { ends_in_newline line.now ≡ false → behind.now ≡ [] }
+    requires room { (seen : List ℕ) × IsBehind cutter.old seen × (length seen + length line.now < 2 ^ 64) }
+    requires takes { Takes cutter.old line.now }
+    ensures ends { result ≡ true → (seen : List ℕ) → IsBehind cutter.old seen → EndsBefore (seen ++ line.now) behind.now }
+    ensures goes { result ≡ false → (seen : List ℕ) → IsBehind cutter.old seen → GoesOn cutter.new (seen ++ line.now) behind.now }
+{
+    match cutter.line(line) {
+        Cut::Whole => true,
+        Cut::More => false,
+        Cut::Block => match cutter.goes_on(behind, true) {
+            Next::Ends => true,
+            Next::Goes => false,
+            Next::Short => false,
+        },
+    }
 }
 
 /// The length in bytes of the first physical line, with its newline.
 fn line_len(bytes: &[u8]) -> usize
     ensures within { result ≤ length bytes.now }
     ensures some { 0 < length bytes.now → 0 < result }
-    ensures line { IsTrue (is_physical_line (take result bytes.now)) }
+    ensures line { take result bytes.now ≡ first_line bytes.now }
     ensures newline { result < length bytes.now → slice_index bytes.now (result - 1) ≡ 10 }
 {
     for (i, byte) in bytes.iter().enumerate() {

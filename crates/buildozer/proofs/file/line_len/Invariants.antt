@@ -1,7 +1,7 @@
-use Rattle.std.proofs.Common.{◌≡◌, ◌==◌, not, true, take}
-use Rattle.std.specs.List.{list_all}
+use Rattle.std.proofs.Common.{◌≡◌, ◌++◌, take, drop}
+use Rattle.bz_token.specs.Cuts.{first_line}
 use Rattle.buildozer.proofs.file.line_len.Given as goal
 
--- no newline so far
+-- the line is what was passed, and the line of the rest
 abbrev pub invariant-loop-i : goal.invariant-loop-i
-invariant-loop-i l = list_all (λ c. not (c == 10)) (take l.i l.bytes) ≡ true
+invariant-loop-i l = first_line l.bytes ≡ take l.i l.bytes ++ first_line (drop l.i l.bytes)
