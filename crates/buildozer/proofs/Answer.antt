@@ -6,8 +6,9 @@ use Rattle.bz_token.specs.declared.token.Token.{Token}
 use Rattle.bz_token.specs.declared.fault.LexFault.{LexFault}
 use Rattle.bz_token.specs.declared.fault.LexFault.TheVariants as lex
 use Rattle.bz_token.specs.Places.{Placed, placed}
-use Rattle.bz_token.specs.Reading.{AreTokensOf, IsFault}
-use Rattle.bz_token.proofs.Unique.{one_tokens, one_fault, not_both}
+use Rattle.bz_token.specs.Reading.{AreTokensOf}
+use Rattle.bz_token.specs.Faults.{IsFault}
+use Rattle.bz_token.proofs.OneFault.{one_tokens, one_fault, no_fault_but_memory}
 use Rattle.buildozer.specs.declared.statement.Statement.{Statement}
 use Rattle.buildozer.specs.declared.parse.ParseFault.{ParseFault}
 use Rattle.buildozer.specs.declared.parse.ParseFault.TheVariants as fault
@@ -73,8 +74,8 @@ one_answer first depth bytes a b h k = same (canonical first depth bytes a h) (c
   where
     same : IsOfTokens first depth bytes a ⊎ IsOfFault first depth bytes a → IsOfTokens first depth bytes b ⊎ IsOfFault first depth bytes b → a ≡ b
     same (inl x) (inl y) = x.2 ∙ ap (λ all. answer_of (written all)) (one_tokens first depth bytes x.0 y.0 x.1 y.1) ∙ sym y.2
-    same (inl x) (inr y) = absurd (not_both first depth bytes x.0 y.0 y.3 x.1 y.2)
-    same (inr x) (inl y) = absurd (not_both first depth bytes y.0 x.0 x.3 y.1 x.2)
+    same (inl x) (inr y) = absurd (y.3 (no_fault_but_memory first depth bytes x.0 y.0 x.1 y.2))
+    same (inr x) (inl y) = absurd (x.3 (no_fault_but_memory first depth bytes y.0 x.0 y.1 x.2))
     same (inr x) (inr y) = x.1 ∙ ap (λ f. Err (fault.Lex f)) (one_fault first depth bytes x.0 y.0 x.3 y.3 x.2 y.2) ∙ sym y.1
 
 -- the first token is that of the answer

@@ -1,11 +1,14 @@
 -- The first grammar: a statement is a call whose arguments are named, with strings or lists of strings as values
 -- (Starlark specification, "Function and method calls"); and what a chunk is read as.
-use Rattle.std.specs.Prelude.{codes, ◌≡◌, ℕ, List, [], ◌∷◌, ◌++◌, map, Bool, true, false, if◌then◌else◌, Option, Some, None, Result, Ok, Err}
+use Rattle.std.specs.List.{list_all, starts_with}
+use Rattle.std.specs.Prelude.{codes, nat_eq, not, ◌&&◌, ◌||◌, ◌==◌, ◌≡◌, ℕ, List, [], ◌∷◌, ◌++◌, map, Bool, true, false, if◌then◌else◌, Option, Some, None, Result, Ok, Err}
 use Rattle.bz_token.specs.declared.token.Kind.{Kind}
-use Rattle.bz_token.specs.declared.token.Kind.TheVariants.{Ident, Text, Sign, Line}
+use Rattle.bz_token.specs.declared.token.Kind.TheVariants.{Ident, Text, Sign, Line, Kept}
 use Rattle.bz_token.specs.declared.fault.LexFault.TheVariants as lex
 use Rattle.bz_token.specs.Places.{Placed}
-use Rattle.bz_token.specs.Reading.{AreTokensOf, IsFault}
+use Rattle.bz_token.specs.Lexical.{begins, is_quote}
+use Rattle.bz_token.specs.Reading.{AreTokensOf}
+use Rattle.bz_token.specs.Faults.{IsFault}
 use Rattle.buildozer.specs.declared.statement.Value.{Value}
 use Rattle.buildozer.specs.declared.statement.Value.TheVariants as value
 use Rattle.buildozer.specs.declared.statement.Argument.{Argument}
@@ -13,13 +16,26 @@ use Rattle.buildozer.specs.declared.statement.Statement.{Statement}
 use Rattle.buildozer.specs.declared.parse.ParseFault.{ParseFault}
 use Rattle.buildozer.specs.declared.parse.ParseFault.TheVariants as fault
 
+-- three equal quotes, which open a long string
+abbrev pub is_long : List ℕ → Bool
+is_long text = starts_with nat_eq text (34 ∷ 34 ∷ 34 ∷ []) || starts_with nat_eq text (39 ∷ 39 ∷ 39 ∷ [])
+
+-- a string without prefix that is short and holds no backslash
+abbrev pub is_plain_string : List ℕ → Bool
+is_plain_string text = begins is_quote text && not (is_long text) && list_all (λ b. not (b == 92)) text
+
+-- the kinds of the first grammar: other strings are none of its tokens
+abbrev pub kind_here : Kind → List ℕ → Kind
+kind_here Text text = if is_plain_string text then Text else Kept
+kind_here kind text = kind
+
 -- a token without its place
 pub record Lexeme : Type 0 where
   pub kind : Kind
   pub text : List ℕ
 
 abbrev pub lexeme : Placed → Lexeme
-lexeme t = record { kind = t.kind; text = t.text }
+lexeme t = record { kind = kind_here t.kind t.text; text = t.text }
 
 abbrev pub ident : List ℕ → Lexeme
 ident text = record { kind = Ident; text = text }

@@ -1,13 +1,15 @@
 //! What a chunk is in the first grammar: blank, a statement, or a fault.
 
-ghost use Rattle.std.specs.Prelude.{◌≡◌, ◌++◌, ◌+◌, ◌<◌, ◌^◌, ◌==◌, ◌∷◌, [], List, ℕ, Option, Result, Err, count_by, map, option_map, IfOk, IfErr, IfSome, IfNone};
+ghost use Rattle.std.specs.Prelude.{not, ◌≡◌, ◌++◌, ◌+◌, ◌<◌, ◌^◌, ◌==◌, ◌∷◌, [], List, ℕ, Option, Result, Err, count_by, map, option_map, IfOk, IfErr, IfSome, IfNone};
 ghost use Rattle.bz_token.specs.Places.{Placed, placed};
 ghost use Rattle.buildozer.specs.declared.statement.Statement.{Statement};
 ghost use Rattle.buildozer.specs.declared.parse.ParseFault.{ParseFault};
 ghost use Rattle.buildozer.specs.declared.parse.ParseFault.TheVariants.{OutOfMemory};
 ghost use Rattle.buildozer.specs.declared.parse.State.TheVariants.{Start, Assigned, Item, Behind};
 ghost use Rattle.buildozer.specs.declared.statement.Value.TheVariants.{List as ListValue};
-ghost use Rattle.buildozer.specs.Grammar.{IsReadAs, is_line, lexeme, written};
+ghost use Rattle.buildozer.specs.Grammar.{IsReadAs, is_line, is_long, is_plain_string, lexeme, written};
+ghost use Rattle.bz_token.specs.Lexical.{begins, is_quote};
+ghost use Rattle.std.specs.List.{list_all};
 ghost use Rattle.buildozer.specs.ParseSteps.{mark_of, with_argument, next, finish, run};
 
 use crate::list::{Seq, Text};
@@ -51,12 +53,40 @@ enum Mark {
     Other,
 }
 
+// Whether a string has no prefix and no backslash, and one quote at each end.
+fn is_plain_string(text: &[u8]) -> bool
+    ensures { result ≡ is_plain_string text.now }
+{
+    begins_with_quote(text) && !is_long(text) && has_no_backslash(text)
+}
+
+fn begins_with_quote(text: &[u8]) -> bool
+    ensures { result ≡ begins is_quote text.now }
+{
+    match text.first() {
+        Some(byte) => *byte == b'"' || *byte == b'\'',
+        None => false,
+    }
+}
+
+fn is_long(text: &[u8]) -> bool
+    ensures { result ≡ is_long text.now }
+{
+    text.starts_with(b"\"\"\"") || text.starts_with(b"'''")
+}
+
+fn has_no_backslash(text: &[u8]) -> bool
+    ensures { result ≡ list_all (λ b. not (b == 92)) text.now }
+{
+    text.iter().all(|byte| *byte != b'\\')
+}
+
 fn mark_of(token: &Token<'_>) -> Mark
     ensures { result ≡ mark_of (lexeme (placed token.now)) }
 {
     match token.kind {
         Kind::Ident => Mark::Name,
-        Kind::Text => Mark::Quoted,
+        Kind::Text if is_plain_string(token.text.as_bytes()) => Mark::Quoted,
         Kind::Sign => match token.text {
             "(" => Mark::Open,
             ")" => Mark::Close,

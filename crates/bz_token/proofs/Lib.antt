@@ -1,18 +1,29 @@
-mod ChunkExamples
-pub mod CutAnswers
-pub mod CutBehind
-pub mod CutHeads
-pub mod CutLaws
-pub mod CutLines
-pub mod CutMachine
+mod TokenExamples
+pub mod Strings
+pub mod Gaps
+pub mod Stack
+pub mod Classes
+pub mod Openings
+pub mod Ends
+pub mod Signs
+pub mod Scanning
+pub mod Progress
+pub mod Innermost
+pub mod Fitting
+pub mod Unique
+pub mod OneFault
+pub mod Stops
 pub mod CutMunch
-pub mod CutPasses
 pub mod CutSeen
 pub mod CutStrings
-pub mod CutTests
+pub mod CutPasses
+pub mod CutMachine
+pub mod CutLines
+pub mod CutLaws
+pub mod CutHeads
+pub mod CutBehind
+pub mod CutAnswers
 pub mod CutWords
-pub mod Examples
-pub mod Longest
-pub mod Progress
-pub mod Strings
-pub mod Unique
+pub mod CutTests
+pub mod ChunkLaws
+mod ChunkExamples

@@ -1,8 +1,10 @@
 -- Where a string closes.
-use Rattle.std.proofs.Common.{◌≡◌, ℕ, zero, suc, ◌<◌, ◌≤◌, ◌==◌, Bool, ◌||◌, List, [], ◌∷◌, ◌++◌, length, take, get_or, true, false, IsTrue, refl, ap, arith, inl, inr}
-use Rattle.std.proofs.lemmas.Bool.{cases_lt, cases_Bool}
-use Rattle.std.proofs.lemmas.Bool.Decides.{nat_tests}
-use Rattle.bz_token.specs.Lexical.{ends_here, is_quote}
+use Rattle.std.proofs.Common.{◌≡◌, ℕ, zero, suc, ◌<◌, ◌≤◌, ◌==◌, List, [], ◌∷◌, ◌++◌, length, take, get_or, false, refl, sym, ap, arith, inl, inr}
+use Rattle.std.proofs.lemmas.Bool.{cases_lt, false≢true}
+use Rattle.bz_token.specs.declared.scan_string.Quotes.{Quotes}
+use Rattle.bz_token.specs.declared.scan_string.Escape.{Escape}
+use Rattle.bz_token.specs.declared.scan_string.Escape.TheVariants.{Unescaped, BehindBackslash, BehindReturn}
+use Rattle.bz_token.specs.Lexical.{is_escaped, closes}
 
 -- a longer front has a byte more
 pub longer_front : (bytes : List ℕ) (i n : ℕ) → i < n → i < length bytes → (more : List ℕ) × (take n bytes ≡ take i bytes ++ get_or bytes i 0 ∷ more)
@@ -13,27 +15,18 @@ longer_front (x ∷ xs) (suc i) (suc n) h l =
     let r = longer_front xs i n (omega arith) (omega arith) in
     (r.0, ap (λ ys. x ∷ ys) r.1)
 
--- a byte that breaks a string off
-abbrev pub breaks : ℕ → Bool
-breaks b = b == 10 || b == 92
+-- an unescaped newline closes no short string
+newline_breaks : (q : Quotes) (row : ℕ) (e : Escape) (ys : List ℕ) → is_escaped e 10 ≡ false → (10 == q.byte) ≡ false → q.long ≡ false → closes q row e (10 ∷ ys) ≡ false
+newline_breaks q row Unescaped ys plain other short = rw (other, short, closes) refl
+newline_breaks q row BehindBackslash ys plain other short = absurd (false≢true (sym plain))
+newline_breaks q row BehindReturn ys plain other short = absurd (false≢true (sym plain))
 
-quote_differs : (q b : ℕ) → IsTrue (is_quote q) → breaks b ≡ true → (b == q) ≡ false
-quote_differs q b h g = grind (arith, nat_tests)
-
-pub ends_broken : (q b : ℕ) (ys : List ℕ) → (b == q) ≡ false → breaks b ≡ true → ends_here q (b ∷ ys) ≡ false
-ends_broken q b [] other hit = other
-ends_broken q b (c ∷ ys) other hit =
-    elim (cases_Bool (b == 10)) [
-      | inl line ↦ rw (other, line) refl
-      | inr word ↦ rw (other, word, rw word at hit) refl
-    ]
-
--- a newline or backslash before any closing quote leaves no front that is closed
-pub broken_off : (q : ℕ) (bytes : List ℕ) (i : ℕ) → i < length bytes → breaks (get_or bytes i 0) ≡ true → IsTrue (is_quote q) → ((ys : List ℕ) → ends_here q (take i bytes ++ ys) ≡ ends_here q ys) → ((n : ℕ) → n ≤ i → ends_here q (take n bytes) ≡ false) → (n : ℕ) → ends_here q (take n bytes) ≡ false
-broken_off q bytes i within hit quote unclosed shorter n =
+pub broken_off : (q : Quotes) (bytes : List ℕ) (i row : ℕ) (e : Escape) → i < length bytes → get_or bytes i 0 ≡ 10 → is_escaped e (get_or bytes i 0) ≡ false → (get_or bytes i 0 == q.byte) ≡ false → q.long ≡ false
+    → ((ys : List ℕ) → closes q 0 Unescaped (take i bytes ++ ys) ≡ closes q row e ys) → ((n : ℕ) → n ≤ i → closes q 0 Unescaped (take n bytes) ≡ false) → (n : ℕ) → closes q 0 Unescaped (take n bytes) ≡ false
+broken_off q bytes i row e within newline plain other short rest shorter n =
     elim (cases_lt i n) [
       | inl more ↦
           let front = longer_front bytes i n more within in
-          rw (front.1, unclosed (get_or bytes i 0 ∷ front.0)) (ends_broken q (get_or bytes i 0) front.0 (quote_differs q (get_or bytes i 0) quote hit) hit)
+          rw (front.1, rest (get_or bytes i 0 ∷ front.0), newline) (newline_breaks q row e front.0 (rw newline at plain) (rw newline at other) short)
       | inr less ↦ shorter n less
     ]

@@ -1,21 +1,28 @@
--- A text has one reading.
-use Rattle.std.proofs.Common.{◌≡◌, ℕ, ◌≤◌, ◌==◌, ◌&&◌, List, [], ◌∷◌, ◌++◌, Bool, length, cond, true, false, not, refl, sym, ap, ap₂, ◌∙◌, subst, arith, inl, inr, length-append, append-nil}
-use Rattle.std.specs.List.{list_all, prefix_len}
+-- A text is read in one way only.
+use Rattle.std.proofs.Common.{◌≡◌, ℕ, zero, suc, ◌+◌, ◌-◌, ◌<◌, ◌≤◌, ◌==◌, ◌&&◌, ◌||◌, List, [], ◌∷◌, ◌++◌, length, take, drop, get_or, Bool, true, false, not, refl, sym, ap, ap₂, subst, ◌∙◌, arith, inl, inr, length-append, append_assoc, append-nil, ◌⊎◌}
+use Rattle.std.specs.Prelude.{Option, Some, None, is_some, nat_lt, if◌then◌else◌}
+use Rattle.std.specs.List.{list_all, list_any}
 use Rattle.std.specs.Char.{is_ascii_digit}
-use Rattle.std.proofs.lemmas.Bool.{and_parts, false≢true, cases_lt}
+use Rattle.std.proofs.lemmas.Bool.{cases_Bool, cases_lt, and_parts, or_cases, false≢true, eqb-true}
 use Rattle.std.proofs.lemmas.Bool.Decides.{nat_tests}
+use Rattle.bz_token.specs.declared.fault.LexFault.{LexFault}
+use Rattle.bz_token.specs.declared.fault.LexFault.TheVariants as faults
+use Rattle.bz_token.specs.declared.scan_string.Opening.{Opening}
 use Rattle.bz_token.specs.declared.token.Kind.{Kind}
 use Rattle.bz_token.specs.declared.token.Kind.TheVariants.{Ident, Word, Int, Text, Sign, Line, Note, Kept}
-use Rattle.bz_token.specs.declared.fault.LexFault.{LexFault}
-use Rattle.bz_token.specs.declared.fault.LexFault.TheVariants.{OutOfMemory, BadCharacter, BadNumber, OpenText, BadBracket, OpenBracket, TooDeep, BadBackslash}
-use Rattle.bz_token.specs.Lexical.{is_blank, is_word, is_quote, is_sign, is_keyword, is_ident, is_text, begins_three, depth_behind}
 use Rattle.bz_token.specs.Places.{Placed, line_at, column_at}
-use Rattle.bz_token.specs.Reading.{Piece, IsGap, IsToken, HasNoToken, IsReading, IsFaultAt, IsFault, AreTokensOf, depth_after, tokens_behind, bytes_of}
-use Rattle.bz_token.proofs.Longest.{begins, text_begins, empty_no_text}
-use Rattle.bz_token.proofs.Progress.{reading_bytes}
+use Rattle.bz_token.specs.Lexical.{begins, is_blank, is_keyword, is_name, is_sign, signs, is_string, opening, is_text, is_string_kind, counts, IsToken, HasNoToken}
+use Rattle.bz_token.specs.Brackets.{is_inside, is_line, is_opening_bracket, is_closing_bracket, closes_innermost, bracket_fits, fits, open_behind, open_tokens}
+use Rattle.bz_token.specs.Reading.{is_white, is_gap, continues_gap, feeds_gap, continues, begins_gap, Piece, IsPiece, IsReading, open_after, bytes_of, tokens_of, AreTokensOf}
+use Rattle.bz_token.specs.Faults.{IsOpenText, IsBadNumber, IsBadBackslash, IsBadCharacter, IsBadBracket, IsTooDeep, IsFaultAt, IsOpenBracket, IsFault}
+use Rattle.bz_token.proofs.Classes.{Class, letter, digit, quote, newline, hash, mark, unknown, class_of, can_start, text_class, empty_no_text, digit_class, same_bytes}
+use Rattle.bz_token.proofs.Openings.{no_opening}
+use Rattle.bz_token.proofs.Ends.{no_string, counts_free}
+use Rattle.bz_token.proofs.Fitting.{is_bracket_byte, bracket_class, no_bracket}
+use Rattle.bz_token.proofs.Progress.{open_lengths}
 
 -- the longer of two fronts goes on from the shorter
-longer_front : (xs ys a b : List ℕ) → xs ++ a ≡ ys ++ b → length xs ≤ length ys → (more : List ℕ) × (ys ≡ xs ++ more) × (a ≡ more ++ b)
+pub longer_front : (xs ys a b : List ℕ) → xs ++ a ≡ ys ++ b → length xs ≤ length ys → (more : List ℕ) × (ys ≡ xs ++ more) × (a ≡ more ++ b)
 longer_front [] ys a b same h = (ys, refl, same)
 longer_front (x ∷ xs) [] a b same h = absurd (omega arith)
 longer_front (x ∷ xs) (y ∷ ys) a b same h =
@@ -24,7 +31,7 @@ longer_front (x ∷ xs) (y ∷ ys) a b same h =
     let r = longer_front xs ys a b tails (omega arith) in
     (r.0, ap₂ (λ u v. u ∷ v) (sym heads) r.1, r.2)
 
-same_fronts : (xs ys a b : List ℕ) → xs ++ a ≡ ys ++ b → length xs ≡ length ys → (xs ≡ ys) × (a ≡ b)
+pub same_fronts : (xs ys a b : List ℕ) → xs ++ a ≡ ys ++ b → length xs ≡ length ys → (xs ≡ ys) × (a ≡ b)
 same_fronts [] [] a b same h = (refl, same)
 same_fronts [] (y ∷ ys) a b same h = absurd (omega arith)
 same_fronts (x ∷ xs) [] a b same h = absurd (omega arith)
@@ -34,209 +41,300 @@ same_fronts (x ∷ xs) (y ∷ ys) a b same h =
     let r = same_fronts xs ys a b tails (omega arith) in
     (ap₂ (λ u v. u ∷ v) heads r.0, r.1)
 
-begins_no_blank : (depth : ℕ) (kind : Kind) (b : ℕ) → begins depth kind b ≡ true → is_blank depth b ≡ false
-begins_no_blank depth Ident b h = grind (arith, nat_tests)
-begins_no_blank depth Word b h = grind (arith, nat_tests)
-begins_no_blank depth Int b h = absurd (false≢true h)
-begins_no_blank depth Text b h = grind (arith, nat_tests)
-begins_no_blank depth Sign b h = grind (arith, nat_tests)
-begins_no_blank depth Line b h = grind (arith, nat_tests)
-begins_no_blank depth Note b h = absurd (false≢true h)
-begins_no_blank depth Kept b h = absurd (false≢true h)
+-- what is left of a gap behind a gap is one
+mutual
+  pub gap_tail : (inside : Bool) (g more : List ℕ) → is_gap inside (g ++ more) ≡ true → is_gap inside g ≡ true → is_gap inside more ≡ true
+  gap_tail inside [] more h g = h
+  gap_tail inside (b ∷ bs) more h g = elim (cases_Bool (is_white inside b)) [
+    | inl white ↦ gap_tail inside bs more (rw (white, is_gap) at h) (rw (white, is_gap) at g)
+    | inr other ↦
+        let h' = rw (other, is_gap) at h in
+        let g' = rw (other, is_gap) at g in
+        continues_tail inside bs more (and_parts (b == 92) (continues_gap inside (bs ++ more)) h').1 (and_parts (b == 92) (continues_gap inside bs) g').1
+  ]
 
--- no gap goes on into a token
-token_stops : (depth : ℕ) (kind : Kind) (text after : List ℕ) → is_text depth kind text ≡ true → prefix_len (is_blank depth) (text ++ after) ≡ 0
-token_stops depth kind [] after is = absurd (false≢true (sym (empty_no_text depth kind) ∙ is))
-token_stops depth kind (x ∷ text) after is =
-    rw (begins_no_blank depth kind x (text_begins depth kind x text is)) refl
+  continues_tail : (inside : Bool) (g more : List ℕ) → continues_gap inside (g ++ more) ≡ true → continues_gap inside g ≡ true → is_gap inside more ≡ true
+  continues_tail inside [] more h g = absurd (false≢true g)
+  continues_tail inside (b ∷ bs) more h g = elim (cases_Bool (b == 13)) [
+    | inl return ↦ feeds_tail inside bs more (rw (return, continues_gap) at h) (rw (return, continues_gap) at g)
+    | inr other ↦
+        let h' = rw (other, continues_gap) at h in
+        let g' = rw (other, continues_gap) at g in
+        gap_tail inside bs more (and_parts (b == 10) (is_gap inside (bs ++ more)) h').1 (and_parts (b == 10) (is_gap inside bs) g').1
+  ]
 
-gap_len : (p : ℕ → Bool) (g x : List ℕ) → list_all p g ≡ true → prefix_len p x ≡ 0 → prefix_len p (g ++ x) ≡ length g
-gap_len p [] x all none = none
-gap_len p (b ∷ g) x all none =
-    let parts = and_parts (p b) (list_all p g) all in
-    rw parts.0 (omega (arith, gap_len p g x parts.1 none))
+  feeds_tail : (inside : Bool) (g more : List ℕ) → feeds_gap inside (g ++ more) ≡ true → feeds_gap inside g ≡ true → is_gap inside more ≡ true
+  feeds_tail inside [] more h g = absurd (false≢true g)
+  feeds_tail inside (b ∷ bs) more h g = gap_tail inside bs more (and_parts (b == 10) (is_gap inside (bs ++ more)) h).1 (and_parts (b == 10) (is_gap inside bs) g).1
 
-same_gaps : (p : ℕ → Bool) (g x h y : List ℕ) → list_all p g ≡ true → prefix_len p x ≡ 0 → list_all p h ≡ true → prefix_len p y ≡ 0 → g ++ x ≡ h ++ y → (g ≡ h) × (x ≡ y)
-same_gaps p g x h y a s b t same =
-    same_fronts g h x y same (sym (gap_len p g x a s) ∙ ap (prefix_len p) same ∙ gap_len p h y b t)
+-- a gap begins with white space or a backslash
+gap_first : (inside : Bool) (b : ℕ) (bs : List ℕ) → is_gap inside (b ∷ bs) ≡ true → (is_white inside b || b == 92) ≡ true
+gap_first inside b bs h = elim (cases_Bool (is_white inside b)) [
+  | inl white ↦ rw white refl
+  | inr other ↦ let p = and_parts (b == 92) (continues_gap inside bs) (rw (other, is_gap) at h) in rw (other, p.0) refl
+]
 
--- the kind of a token's text
-abbrev kind_of : List ℕ → Kind
-kind_of [] = Kept
-kind_of (x ∷ text) = cond (is_quote x) Text (cond (is_sign x) Sign (cond (x == 10) Line (cond (is_keyword (x ∷ text)) Word Ident)))
+-- a gap that is not empty begins one
+pub gap_begins : (inside : Bool) (b : ℕ) (bs rest : List ℕ) → is_gap inside (b ∷ bs) ≡ true → begins_gap inside (b ∷ bs ++ rest) ≡ true
+gap_begins inside b bs rest h = elim (cases_Bool (is_white inside b)) [
+  | inl white ↦ rw white refl
+  | inr other ↦
+      let p = and_parts (b == 92) (continues_gap inside bs) (rw (other, is_gap) at h) in
+      rw other (line bs p.0 p.1)
+]
+  where
+    line : (bs : List ℕ) → (b == 92) ≡ true → continues_gap inside bs ≡ true → continues (b ∷ bs ++ rest) ≡ true
+    line [] slash h = absurd (false≢true h)
+    line (c ∷ bs) slash h = elim (cases_Bool (c == 13)) [
+      | inr other ↦
+          let same : b ≡ 92 = eqb-true b 92 slash in
+          let next : c ≡ 10 = eqb-true c 10 (and_parts (c == 10) (is_gap inside bs) (rw (other, continues_gap) at h)).0 in
+          rw (same, next) refl
+      | inl return ↦
+          let same : b ≡ 92 = eqb-true b 92 slash in
+          let next : c ≡ 13 = eqb-true c 13 return in
+          rw (same, next) (feeds bs (rw (return, continues_gap) at h))
+    ]
+      where
+        feeds : (ds : List ℕ) → feeds_gap inside ds ≡ true → continues (92 ∷ 13 ∷ ds ++ rest) ≡ true
+        feeds [] h = absurd (false≢true h)
+        feeds (d ∷ ds) h = let third : d ≡ 10 = eqb-true d 10 (and_parts (d == 10) (is_gap inside ds) h).0 in rw third refl
 
-letter_no_quote : (x : ℕ) → (is_word x && not (is_ascii_digit x)) ≡ true → is_quote x ≡ false
-letter_no_quote x h = grind (arith, nat_tests)
+blank_class : (b : ℕ) → is_blank b ≡ true → class_of b ≡ unknown
+blank_class b h =
+    elim (or_cases (b == 32 || b == 9) (b == 13) h) [
+      | inr third ↦ let same : b ≡ 13 = eqb-true b 13 third in rw same refl
+      | inl two ↦ elim (or_cases (b == 32) (b == 9) two) [
+        | inl first ↦ let same : b ≡ 32 = eqb-true b 32 first in rw same refl
+        | inr second ↦ let same : b ≡ 9 = eqb-true b 9 second in rw same refl
+      ]
+    ]
 
-letter_no_sign : (x : ℕ) → (is_word x && not (is_ascii_digit x)) ≡ true → is_sign x ≡ false
-letter_no_sign x h = grind (arith, nat_tests)
+nothing_unknown : (kind : Kind) → can_start kind unknown ≡ true → ⊥
+nothing_unknown Ident h = false≢true h
+nothing_unknown Word h = false≢true h
+nothing_unknown Int h = false≢true h
+nothing_unknown Text h = false≢true h
+nothing_unknown Sign h = false≢true h
+nothing_unknown Line h = false≢true h
+nothing_unknown Note h = false≢true h
+nothing_unknown Kept h = false≢true h
 
-letter_no_line : (x : ℕ) → (is_word x && not (is_ascii_digit x)) ≡ true → (x == 10) ≡ false
-letter_no_line x h = grind (arith, nat_tests)
+only_line : (kind : Kind) → can_start kind newline ≡ true → kind ≡ Line
+only_line Line h = refl
+only_line Ident h = absurd (false≢true h)
+only_line Word h = absurd (false≢true h)
+only_line Int h = absurd (false≢true h)
+only_line Text h = absurd (false≢true h)
+only_line Sign h = absurd (false≢true h)
+only_line Note h = absurd (false≢true h)
+only_line Kept h = absurd (false≢true h)
 
-sign_no_quote : (x : ℕ) → is_sign x ≡ true → is_quote x ≡ false
-sign_no_quote x h = grind (arith, nat_tests)
+-- a token that fits begins with no byte of a gap
+token_no_gap : (depth : ℕ) (opened : List ℕ) (kind : Kind) (b : ℕ) (bs : List ℕ) → is_text kind (b ∷ bs) ≡ true → fits depth opened kind (b ∷ bs) ≡ true → (is_white (is_inside opened) b || b == 92) ≡ true → ⊥
+token_no_gap depth opened kind b bs is fit h =
+    elim (or_cases (is_white (is_inside opened) b) (b == 92) h) [
+      | inr slash ↦
+          let same : b ≡ 92 = eqb-true b 92 slash in
+          nothing_unknown kind (ap (λ x. can_start kind (class_of x)) (sym same) ∙ text_class kind b bs is)
+      | inl white ↦ elim (or_cases (is_blank b) (is_inside opened && b == 10) white) [
+        | inl blank ↦ nothing_unknown kind (ap (can_start kind) (sym (blank_class b blank)) ∙ text_class kind b bs is)
+        | inr line ↦
+            let parts = and_parts (is_inside opened) (b == 10) line in
+            let same : b ≡ 10 = eqb-true b 10 parts.1 in
+            let kind_is : kind ≡ Line = only_line kind (ap (λ x. can_start kind (class_of x)) (sym same) ∙ text_class kind b bs is) in
+            lines opened bs (subst (λ k. is_text k (b ∷ bs) ≡ true) kind_is is) (subst (λ k. fits depth opened k (b ∷ bs) ≡ true) kind_is fit) parts.0
+      ]
+    ]
+  where
+    lines : (opened bs : List ℕ) → is_text Line (b ∷ bs) ≡ true → fits depth opened Line (b ∷ bs) ≡ true → is_inside opened ≡ true → ⊥
+    lines [] bs is fit inside = false≢true inside
+    lines (a ∷ opened) [] is fit inside = false≢true fit
+    lines (a ∷ opened) (c ∷ bs) is fit inside = more (same_bytes (b ∷ c ∷ bs) (10 ∷ []) is)
+      where
+        more : b ∷ c ∷ bs ≡ 10 ∷ [] → ⊥
+        more e = cc
 
-line_no_quote : (x : ℕ) → (x == 10) ≡ true → is_quote x ≡ false
-line_no_quote x h = grind (arith, nat_tests)
+-- in a gap no token stands
+pub no_token_in_gap : (depth : ℕ) (opened : List ℕ) (kind : Kind) (text x more y : List ℕ) → is_text kind text ≡ true → fits depth opened kind text ≡ true → text ++ x ≡ more ++ y → is_gap (is_inside opened) more ≡ true → 0 < length more → ⊥
+no_token_in_gap depth opened kind text x [] y is fit same gap some = absurd (omega arith)
+no_token_in_gap depth opened kind [] x (m ∷ more) y is fit same gap some = empty_no_text kind is
+no_token_in_gap depth opened kind (t ∷ text) x (m ∷ more) y is fit same gap some =
+    let heads : m ≡ t = cc in
+    token_no_gap depth opened kind t text is fit (ap (λ b. is_white (is_inside opened) b || b == 92) (sym heads) ∙ gap_first (is_inside opened) m more gap)
 
-line_no_sign : (x : ℕ) → (x == 10) ≡ true → is_sign x ≡ false
-line_no_sign x h = grind (arith, nat_tests)
-
-not_false : (b : Bool) → not b ≡ true → b ≡ false
-not_false true h = sym h
-not_false false h = refl
-
-kind_is : (depth : ℕ) (kind : Kind) (text : List ℕ) → is_text depth kind text ≡ true → kind ≡ kind_of text
-kind_is depth kind [] is = absurd (false≢true (sym (empty_no_text depth kind) ∙ is))
-kind_is depth Ident (x ∷ text) is =
-    let first = text_begins depth Ident x text is in
-    let word = not_false (is_keyword (x ∷ text)) (and_parts (is_ident (x ∷ text)) (not (is_keyword (x ∷ text))) is).1 in
-    rw (letter_no_quote x first, letter_no_sign x first, letter_no_line x first, word) refl
-kind_is depth Word (x ∷ text) is =
-    let first = text_begins depth Word x text is in
-    let word = (and_parts (is_ident (x ∷ text)) (is_keyword (x ∷ text)) is).1 in
-    rw (letter_no_quote x first, letter_no_sign x first, letter_no_line x first, word) refl
-kind_is depth Int (x ∷ text) is = absurd (false≢true is)
-kind_is depth Text (x ∷ text) is = rw (text_begins depth Text x text is) refl
-kind_is depth Sign (x ∷ text) is =
-    let first = text_begins depth Sign x text is in
-    rw (sign_no_quote x first, first) refl
-kind_is depth Line (x ∷ text) is =
-    let first = (and_parts (x == 10) (depth == 0) (text_begins depth Line x text is)).0 in
-    rw (line_no_quote x first, line_no_sign x first, first) refl
-kind_is depth Note (x ∷ text) is = absurd (false≢true is)
-kind_is depth Kept (x ∷ text) is = absurd (false≢true is)
+-- of two gaps before tokens neither is longer
+gap_shorter : (depth : ℕ) (opened g h x y : List ℕ) (kind : Kind) (text : List ℕ) → is_gap (is_inside opened) g ≡ true → is_gap (is_inside opened) h ≡ true → g ++ (text ++ x) ≡ h ++ y → is_text kind text ≡ true → fits depth opened kind text ≡ true → length h ≤ length g
+gap_shorter depth opened g h x y kind text gap gap2 same is fit =
+    elim (cases_lt (length g) (length h)) [
+      | inr more ↦ more
+      | inl less ↦
+          let r = longer_front g h (text ++ x) y same (omega arith) in
+          absurd (no_token_in_gap depth opened kind text x r.0 y is fit r.2 (gap_tail (is_inside opened) g r.0 (ap (is_gap (is_inside opened)) (sym r.1) ∙ gap2) gap) (omega (arith, ap length r.1, length-append g r.0)))
+    ]
 
 -- of two tokens at a place neither is longer
-token_shorter : (depth : ℕ) (k l : Kind) (s t a b : List ℕ) → IsToken depth k s a → is_text depth l t ≡ true → s ++ a ≡ t ++ b → length t ≤ length s
-token_shorter depth k l s t a b token is same =
+token_shorter : (k l : Kind) (s t a b : List ℕ) → IsToken k s a → IsToken l t b → s ++ a ≡ t ++ b → length t ≤ length s
+token_shorter k l s t a b longest other same =
     elim (cases_lt (length s) (length t)) [
+      | inr more ↦ more
       | inl less ↦
           let r = longer_front s t a b same (omega arith) in
-          let none = token.longest l r.0 b r.2 (rw r.1 at is) in
+          let none = longest.longest l r.0 b r.2 (ap (is_text l) (sym r.1) ∙ other.whole) (ap₂ (λ p x. counts p l x) same (sym r.1) ∙ other.counted) in
           absurd (omega (arith, ap length r.1, length-append s r.0, ap length none))
-      | inr more ↦ more
     ]
+
+is_strings : (kind : Kind) → is_string_kind kind ≡ true → kind ≡ Text
+is_strings Text h = refl
+is_strings Ident h = absurd (false≢true h)
+is_strings Word h = absurd (false≢true h)
+is_strings Int h = absurd (false≢true h)
+is_strings Sign h = absurd (false≢true h)
+is_strings Line h = absurd (false≢true h)
+is_strings Note h = absurd (false≢true h)
+is_strings Kept h = absurd (false≢true h)
+
+only_int : (kind : Kind) → can_start kind digit ≡ true → kind ≡ Int
+only_int Int h = refl
+only_int Ident h = absurd (false≢true h)
+only_int Word h = absurd (false≢true h)
+only_int Text h = absurd (false≢true h)
+only_int Sign h = absurd (false≢true h)
+only_int Line h = absurd (false≢true h)
+only_int Note h = absurd (false≢true h)
+only_int Kept h = absurd (false≢true h)
+
+only_text : (kind : Kind) → can_start kind quote ≡ true → kind ≡ Text
+only_text Text h = refl
+only_text Ident h = absurd (false≢true h)
+only_text Word h = absurd (false≢true h)
+only_text Int h = absurd (false≢true h)
+only_text Sign h = absurd (false≢true h)
+only_text Line h = absurd (false≢true h)
+only_text Note h = absurd (false≢true h)
+only_text Kept h = absurd (false≢true h)
+
+only_note : (kind : Kind) → can_start kind hash ≡ true → kind ≡ Note
+only_note Note h = refl
+only_note Ident h = absurd (false≢true h)
+only_note Word h = absurd (false≢true h)
+only_note Int h = absurd (false≢true h)
+only_note Text h = absurd (false≢true h)
+only_note Sign h = absurd (false≢true h)
+only_note Line h = absurd (false≢true h)
+only_note Kept h = absurd (false≢true h)
+
+only_sign : (kind : Kind) → can_start kind mark ≡ true → kind ≡ Sign
+only_sign Sign h = refl
+only_sign Ident h = absurd (false≢true h)
+only_sign Word h = absurd (false≢true h)
+only_sign Int h = absurd (false≢true h)
+only_sign Text h = absurd (false≢true h)
+only_sign Line h = absurd (false≢true h)
+only_sign Note h = absurd (false≢true h)
+only_sign Kept h = absurd (false≢true h)
+
+name_kind : (kind : Kind) (text : List ℕ) → can_start kind letter ≡ true → is_text kind text ≡ true → (is_string text ≡ true → ⊥) → (kind ≡ Ident) ⊎ (kind ≡ Word)
+name_kind Ident text h is none = inl refl
+name_kind Word text h is none = inr refl
+name_kind Text text h is none = absurd (none is)
+name_kind Int text h is none = absurd (false≢true h)
+name_kind Sign text h is none = absurd (false≢true h)
+name_kind Line text h is none = absurd (false≢true h)
+name_kind Note text h is none = absurd (false≢true h)
+name_kind Kept text h is none = absurd (false≢true h)
+
+-- a text that counts at a place has one kind
+kinds_same : (k l : Kind) (text rest : List ℕ) → is_text k text ≡ true → is_text l text ≡ true → counts (text ++ rest) k text ≡ true → counts (text ++ rest) l text ≡ true → k ≡ l
+kinds_same k l [] rest a b ca cb = absurd (empty_no_text k a)
+kinds_same k l (x ∷ text) rest a b ca cb = by_place (opening (x ∷ text ++ rest)) refl
+  where
+    apart : is_text Ident (x ∷ text) ≡ true → is_text Word (x ∷ text) ≡ true → ⊥
+    apart i w = false≢true (sym (not_true _ (and_parts (is_name (x ∷ text)) (not (is_keyword (x ∷ text))) i).1) ∙ w)
+      where
+        not_true : (x : Bool) → not x ≡ true → x ≡ false
+        not_true true h = absurd (false≢true h)
+        not_true false h = refl
+
+    by_class : (c : Class) → can_start k c ≡ true → can_start l c ≡ true → (is_string (x ∷ text) ≡ true → ⊥) → k ≡ l
+    by_class letter p q none = elim (name_kind k (x ∷ text) p a none) [
+      | inl i ↦ elim (name_kind l (x ∷ text) q b none) [
+        | inl j ↦ i ∙ sym j
+        | inr w ↦ absurd (apart (subst (λ z. is_text z (x ∷ text) ≡ true) i a) (subst (λ z. is_text z (x ∷ text) ≡ true) w b))
+      ]
+      | inr v ↦ elim (name_kind l (x ∷ text) q b none) [
+        | inl j ↦ absurd (apart (subst (λ z. is_text z (x ∷ text) ≡ true) j b) (subst (λ z. is_text z (x ∷ text) ≡ true) v a))
+        | inr w ↦ v ∙ sym w
+      ]
+    ]
+    by_class digit p q none = only_int k p ∙ sym (only_int l q)
+    by_class quote p q none = only_text k p ∙ sym (only_text l q)
+    by_class newline p q none = only_line k p ∙ sym (only_line l q)
+    by_class hash p q none = only_note k p ∙ sym (only_note l q)
+    by_class mark p q none = only_sign k p ∙ sym (only_sign l q)
+    by_class unknown p q none = absurd (nothing_unknown k p)
+
+    by_place : (o : Option Opening) → opening (x ∷ text ++ rest) ≡ o → k ≡ l
+    by_place (Some o) e =
+        let s = and_parts (is_string_kind k) _ (rw (e, counts) at ca) in
+        let t = and_parts (is_string_kind l) _ (rw (e, counts) at cb) in
+        is_strings k s.0 ∙ sym (is_strings l t.0)
+    by_place None e = by_class (class_of x) (text_class k x text a) (text_class l x text b) (λ s. no_string (x ∷ text ++ rest) (x ∷ text) rest e refl s)
 
 piece_same : (p q : Piece) → p.gap ≡ q.gap → p.kind ≡ q.kind → p.text ≡ q.text → p ≡ q
 piece_same p q g k t = λ i. record { gap = g i; kind = k i; text = t i }
 
--- a gap, and behind it no token
-record Ends (depth : ℕ) (rest : List ℕ) : Type 0 where
-  pub gap : List ℕ
-  pub place : List ℕ
-  pub split : rest ≡ gap ++ place
-  pub is_gap : IsGap depth gap
-  pub stops : prefix_len (is_blank depth) place ≡ 0
-  pub none : HasNoToken depth place
+-- at a place stands one piece
+pub one_piece : (depth : ℕ) (opened : List ℕ) (p q : Piece) (bytes a b : List ℕ) → IsPiece depth opened p bytes a → IsPiece depth opened q bytes b → (p ≡ q) × (a ≡ b)
+one_piece depth opened p q bytes a b x y =
+    let both : p.gap ++ (p.text ++ a) ≡ q.gap ++ (q.text ++ b) = sym x.bytes_are ∙ y.bytes_are in
+    let gaps : length p.gap ≡ length q.gap = omega (arith, gap_shorter depth opened p.gap q.gap a (q.text ++ b) p.kind p.text x.gap y.gap both x.token.whole x.fits, gap_shorter depth opened q.gap p.gap b (p.text ++ a) q.kind q.text y.gap x.gap (sym both) y.token.whole y.fits) in
+    let behind = same_fronts p.gap q.gap (p.text ++ a) (q.text ++ b) both gaps in
+    let texts : length p.text ≡ length q.text = omega (arith, token_shorter p.kind q.kind p.text q.text a b x.token y.token behind.1, token_shorter q.kind p.kind q.text p.text b a y.token x.token (sym behind.1)) in
+    let after = same_fronts p.text q.text a b behind.1 texts in
+    let kind : p.kind ≡ q.kind = kinds_same p.kind q.kind p.text a x.token.whole (ap (is_text q.kind) after.0 ∙ y.token.whole) x.token.counted (ap₂ (λ u v. counts u q.kind v) behind.1 after.0 ∙ y.token.counted) in
+    (piece_same p q behind.0 kind after.0, after.1)
 
--- where a reading ends, none goes on
-no_piece : (depth : ℕ) (r : List ℕ) (q : Piece) (after : List ℕ) → Ends depth r → r ≡ q.gap ++ (q.text ++ after) → IsGap depth q.gap → IsToken depth q.kind q.text after → ⊥
-no_piece depth r q after e split gap token =
-    let same = same_gaps (is_blank depth) e.gap e.place q.gap (q.text ++ after) e.is_gap e.stops gap (token_stops depth q.kind q.text after token.whole) (sym e.split ∙ split) in
-    false≢true (sym token.single ∙ ap begins_three (sym same.1) ∙ e.none q.kind q.text after same.1 token.whole)
+-- no piece stands here
+abbrev pub IsStuck : ℕ → List ℕ → List ℕ → Type 0
+IsStuck depth opened rest = (p : Piece) (after : List ℕ) → IsPiece depth opened p rest after → ⊥
 
-one_pieces : (depth : ℕ) (ps qs : List Piece) (r s bytes : List ℕ) → IsReading depth ps r bytes → Ends (depth_after depth ps) r → IsReading depth qs s bytes → Ends (depth_after depth qs) s → ps ≡ qs
-one_pieces depth [] [] r s bytes a e b f = refl
-one_pieces depth [] (q ∷ qs) r s bytes a e b f = absurd (no_piece depth r q b.0 e (sym a ∙ b.1) b.2 b.3)
-one_pieces depth (p ∷ ps) [] r s bytes a e b f = absurd (no_piece depth s p a.0 f (sym b ∙ a.1) a.2 a.3)
-one_pieces depth (p ∷ ps) (q ∷ qs) r s bytes a e b f =
-    let gaps = same_gaps (is_blank depth) p.gap (p.text ++ a.0) q.gap (q.text ++ b.0) a.2 (token_stops depth p.kind p.text a.0 a.3.whole) b.2 (token_stops depth q.kind q.text b.0 b.3.whole) (sym a.1 ∙ b.1) in
-    let texts : length p.text ≡ length q.text = omega (arith, token_shorter depth p.kind q.kind p.text q.text a.0 b.0 a.3 b.3.whole gaps.1, token_shorter depth q.kind p.kind q.text p.text b.0 a.0 b.3 a.3.whole (sym gaps.1)) in
-    let after = same_fronts p.text q.text a.0 b.0 gaps.1 texts in
-    let kind : p.kind ≡ q.kind = kind_is depth p.kind p.text a.3.whole ∙ ap kind_of after.0 ∙ sym (kind_is depth q.kind q.text b.3.whole) in
-    let back : depth_behind depth q.text ≡ depth_behind depth p.text = ap (depth_behind depth) (sym after.0) in
-    let rest : IsReading (depth_behind depth p.text) qs s a.0 = subst (λ z. IsReading (depth_behind depth p.text) qs s z) (sym after.1) (subst (λ d. IsReading d qs s b.0) back b.4) in
-    let end : Ends (depth_after (depth_behind depth p.text) qs) s = subst (λ d. Ends (depth_after d qs) s) back f in
-    ap₂ (λ x xs. x ∷ xs) (piece_same p q gaps.0 kind after.0) (one_pieces (depth_behind depth p.text) ps qs r s a.0 a.4 e rest end)
+-- a reading that cannot go on is the only one
+pub one_reading : (depth : ℕ) (opened : List ℕ) (ps qs : List Piece) (r s bytes : List ℕ) → IsReading depth opened ps r bytes → IsStuck depth (open_after opened ps) r → IsReading depth opened qs s bytes → IsStuck depth (open_after opened qs) s → (ps ≡ qs) × (r ≡ s)
+one_reading depth opened [] [] r s bytes a x b y = (refl, sym a ∙ b)
+one_reading depth opened [] (q ∷ qs) r s bytes a x b y = absurd (x q b.0 (subst (λ z. IsPiece depth opened q z b.0) a b.1))
+one_reading depth opened (p ∷ ps) [] r s bytes a x b y = absurd (y p a.0 (subst (λ z. IsPiece depth opened p z a.0) b a.1))
+one_reading depth opened (p ∷ ps) (q ∷ qs) r s bytes a x b y =
+    let one = one_piece depth opened p q bytes a.0 b.0 a.1 b.1 in
+    let opens : open_behind opened q.text ≡ open_behind opened p.text = ap (λ z. open_behind opened z.text) (sym one.0) in
+    let more = one_reading depth (open_behind opened p.text) ps qs r s a.0 a.2 x
+      (subst (λ z. IsReading depth z qs s a.0) opens (subst (λ z. IsReading depth (open_behind opened q.text) qs s z) (sym one.1) b.2))
+      (subst (λ z. IsStuck depth (open_after z qs) s) opens y) in
+    (ap₂ (λ u us. u ∷ us) one.0 more.0, more.1)
 
--- where tokens end, and where a fault stands
-nothing_here : (depth : ℕ) → HasNoToken depth []
-nothing_here depth kind [] rest split is = absurd (false≢true (sym (empty_no_text depth kind) ∙ is))
-nothing_here depth kind (x ∷ text) rest split is = absurd (omega (arith, ap length split))
+-- in a gap no piece stands
+pub gap_stuck : (depth : ℕ) (opened rest : List ℕ) → is_gap (is_inside opened) rest ≡ true → IsStuck depth opened rest
+gap_stuck depth opened rest gap p after piece =
+    let tail = gap_tail (is_inside opened) p.gap (p.text ++ after) (ap (is_gap (is_inside opened)) (sym piece.bytes_are) ∙ gap) piece.gap in
+    no_token_in_gap depth opened p.kind p.text after (p.text ++ after) [] piece.token.whole piece.fits (sym (append-nil (p.text ++ after))) tail (text_some p.kind p.text after piece.token.whole)
+  where
+    text_some : (kind : Kind) (text after : List ℕ) → is_text kind text ≡ true → 0 < length (text ++ after)
+    text_some kind [] after is = absurd (empty_no_text kind is)
+    text_some kind (t ∷ text) after is = omega arith
 
-tokens_end : (depth : ℕ) (rest : List ℕ) → IsGap depth rest → Ends depth rest
-tokens_end depth rest gap = record {
-  gap = rest;
-  place = [];
-  split = sym (append-nil rest);
-  is_gap = gap;
-  stops = refl;
-  none = nothing_here depth;
-}
-
-byte_stops : (depth b : ℕ) (bs : List ℕ) → is_blank depth b ≡ false → prefix_len (is_blank depth) (b ∷ bs) ≡ 0
-byte_stops depth b bs miss = rw miss refl
-
-fault_ends : (first : ℕ) (bytes : List ℕ) (line col : ℕ) (f : IsFaultAt first bytes line col) → Ends (depth_after 0 f.pieces) (f.gap ++ f.byte ∷ f.behind)
-fault_ends first bytes line col f = record {
-  gap = f.gap;
-  place = f.byte ∷ f.behind;
-  split = refl;
-  is_gap = f.is_gap;
-  stops = byte_stops (depth_after 0 f.pieces) f.byte f.behind f.no_gap;
-  none = f.none;
-}
-
-pub one_tokens : (first max_depth : ℕ) (bytes : List ℕ) (ts us : List Placed) → AreTokensOf first max_depth bytes ts → AreTokensOf first max_depth bytes us → ts ≡ us
-one_tokens first max_depth bytes ts us a b =
-    a.4 ∙ ap (tokens_behind first [] []) (one_pieces 0 a.0 b.0 a.1 b.1 bytes a.2 (tokens_end (depth_after 0 a.0) a.1 a.3) b.2 (tokens_end (depth_after 0 b.0) b.1 b.3)) ∙ sym b.4
-
--- what is left behind the same pieces
-same_rest : (ps qs : List Piece) (r s bytes : List ℕ) → ps ≡ qs → IsReading 0 ps r bytes → IsReading 0 qs s bytes → r ≡ s
-same_rest ps qs r s bytes same a b =
-    (same_fronts (bytes_of ps) (bytes_of qs) r s (sym (reading_bytes 0 ps r bytes a) ∙ reading_bytes 0 qs s bytes b) (ap (λ xs. length (bytes_of xs)) same)).1
-
-same_fault : (first : ℕ) (bytes : List ℕ) (l c m d : ℕ) → IsFaultAt first bytes l c → IsFaultAt first bytes m d → (l ≡ m) × (c ≡ d)
-same_fault first bytes l c m d a b =
-    let pieces = one_pieces 0 a.pieces b.pieces (a.gap ++ a.byte ∷ a.behind) (b.gap ++ b.byte ∷ b.behind) bytes a.reading (fault_ends first bytes l c a) b.reading (fault_ends first bytes m d b) in
-    let rest = same_rest a.pieces b.pieces (a.gap ++ a.byte ∷ a.behind) (b.gap ++ b.byte ∷ b.behind) bytes pieces a.reading b.reading in
-    let depth : depth_after 0 b.pieces ≡ depth_after 0 a.pieces = ap (depth_after 0) (sym pieces) in
-    let blank : ℕ → Bool = is_blank (depth_after 0 a.pieces) in
-    let gap_b : list_all blank b.gap ≡ true = subst (λ k. list_all (is_blank k) b.gap ≡ true) depth b.is_gap in
-    let stops_b : prefix_len blank (b.byte ∷ b.behind) ≡ 0 = subst (λ k. prefix_len (is_blank k) (b.byte ∷ b.behind) ≡ 0) depth (byte_stops (depth_after 0 b.pieces) b.byte b.behind b.no_gap) in
-    let gaps = same_gaps blank a.gap (a.byte ∷ a.behind) b.gap (b.byte ∷ b.behind) a.is_gap (byte_stops (depth_after 0 a.pieces) a.byte a.behind a.no_gap) gap_b stops_b rest in
-    let before : bytes_of a.pieces ++ a.gap ≡ bytes_of b.pieces ++ b.gap = ap₂ (λ ps g. bytes_of ps ++ g) pieces gaps.0 in
-    (a.line_is ∙ ap (line_at first) before ∙ sym b.line_is, a.col_is ∙ ap column_at before ∙ sym b.col_is)
-
-pub one_fault : (first max_depth : ℕ) (bytes : List ℕ) (f g : LexFault) → ¬ (f ≡ OutOfMemory) → ¬ (g ≡ OutOfMemory) → IsFault first max_depth bytes f → IsFault first max_depth bytes g → f ≡ g
-one_fault first max_depth bytes OutOfMemory g nf ng a b = absurd (nf refl)
-one_fault first max_depth bytes (BadCharacter l c) OutOfMemory nf ng a b = absurd (ng refl)
-one_fault first max_depth bytes (BadCharacter l c) (BadCharacter m d) nf ng a b =
-    let same = same_fault first bytes l c m d a b in ap₂ (λ x y. BadCharacter x y) same.0 same.1
-one_fault first max_depth bytes (BadCharacter l c) (BadNumber m d) nf ng a b = absurd b
-one_fault first max_depth bytes (BadCharacter l c) (OpenText m d) nf ng a b = absurd b
-one_fault first max_depth bytes (BadCharacter l c) (BadBracket m d) nf ng a b = absurd b
-one_fault first max_depth bytes (BadCharacter l c) (OpenBracket m d) nf ng a b = absurd b
-one_fault first max_depth bytes (BadCharacter l c) (TooDeep m d) nf ng a b = absurd b
-one_fault first max_depth bytes (BadCharacter l c) (BadBackslash m d) nf ng a b = absurd b
-one_fault first max_depth bytes (BadNumber l c) g nf ng a b = absurd a
-one_fault first max_depth bytes (OpenText l c) g nf ng a b = absurd a
-one_fault first max_depth bytes (BadBracket l c) g nf ng a b = absurd a
-one_fault first max_depth bytes (OpenBracket l c) g nf ng a b = absurd a
-one_fault first max_depth bytes (TooDeep l c) g nf ng a b = absurd a
-one_fault first max_depth bytes (BadBackslash l c) g nf ng a b = absurd a
-
--- the byte of a fault stands in no gap
-no_gap_there : (p : ℕ → Bool) (g : List ℕ) (b : ℕ) (bs : List ℕ) → list_all p (g ++ b ∷ bs) ≡ true → p b ≡ true
-no_gap_there p [] b bs h = (and_parts (p b) (list_all p bs) h).0
-no_gap_there p (x ∷ g) b bs h = no_gap_there p g b bs (and_parts (p x) (list_all p (g ++ b ∷ bs)) h).1
-
-tokens_no_fault : (first max_depth : ℕ) (bytes : List ℕ) (ts : List Placed) (l c : ℕ) → AreTokensOf first max_depth bytes ts → IsFaultAt first bytes l c → ⊥
-tokens_no_fault first max_depth bytes ts l c a f =
-    let pieces = one_pieces 0 a.0 f.pieces a.1 (f.gap ++ f.byte ∷ f.behind) bytes a.2 (tokens_end (depth_after 0 a.0) a.1 a.3) f.reading (fault_ends first bytes l c f) in
-    let rest = same_rest a.0 f.pieces a.1 (f.gap ++ f.byte ∷ f.behind) bytes pieces a.2 f.reading in
-    let all : list_all (is_blank (depth_after 0 a.0)) (f.gap ++ f.byte ∷ f.behind) ≡ true = subst (λ xs. list_all (is_blank (depth_after 0 a.0)) xs ≡ true) rest a.3 in
-    let hit = no_gap_there (is_blank (depth_after 0 a.0)) f.gap f.byte f.behind all in
-    false≢true (sym f.no_gap ∙ ap (λ ps. is_blank (depth_after 0 ps) f.byte) (sym pieces) ∙ hit)
-
-pub not_both : (first max_depth : ℕ) (bytes : List ℕ) (ts : List Placed) (f : LexFault) → ¬ (f ≡ OutOfMemory) → AreTokensOf first max_depth bytes ts → IsFault first max_depth bytes f → ⊥
-not_both first max_depth bytes ts OutOfMemory nf a b = nf refl
-not_both first max_depth bytes ts (BadCharacter l c) nf a b = tokens_no_fault first max_depth bytes ts l c a b
-not_both first max_depth bytes ts (BadNumber l c) nf a b = b
-not_both first max_depth bytes ts (OpenText l c) nf a b = b
-not_both first max_depth bytes ts (BadBracket l c) nf a b = b
-not_both first max_depth bytes ts (OpenBracket l c) nf a b = b
-not_both first max_depth bytes ts (TooDeep l c) nf a b = b
-not_both first max_depth bytes ts (BadBackslash l c) nf a b = b
+-- behind a gap that does not go on no piece stands where no token does
+pub place_stuck : (depth : ℕ) (opened gap place : List ℕ) → is_gap (is_inside opened) gap ≡ true → begins_gap (is_inside opened) place ≡ false
+    → ((kind : Kind) (text after : List ℕ) → place ≡ text ++ after → IsToken kind text after → fits depth opened kind text ≡ true → ⊥) → IsStuck depth opened (gap ++ place)
+place_stuck depth opened gap place is none never p after piece =
+    elim (cases_lt (length p.gap) (length gap)) [
+      | inl less ↦
+          let r = longer_front p.gap gap (p.text ++ after) place (sym piece.bytes_are) (omega arith) in
+          no_token_in_gap depth opened p.kind p.text after r.0 place piece.token.whole piece.fits r.2 (gap_tail (is_inside opened) p.gap r.0 (ap (is_gap (is_inside opened)) (sym r.1) ∙ is) piece.gap) (omega (arith, ap length r.1, length-append p.gap r.0))
+      | inr more ↦
+          let r = longer_front gap p.gap place (p.text ++ after) piece.bytes_are more in
+          at_place r.0 r.2 (gap_tail (is_inside opened) gap r.0 (ap (is_gap (is_inside opened)) (sym r.1) ∙ piece.gap) is)
+    ]
+  where
+    at_place : (more : List ℕ) → place ≡ more ++ (p.text ++ after) → is_gap (is_inside opened) more ≡ true → ⊥
+    at_place [] same gap = never p.kind p.text after same piece.token piece.fits
+    at_place (m ∷ more) same gap = false≢true (sym none ∙ ap (begins_gap (is_inside opened)) same ∙ gap_begins (is_inside opened) m more (p.text ++ after) gap)

@@ -1,11 +1,39 @@
--- What a text is read as: gaps of white space and tokens in turn, each token the longest at its place.
-use Rattle.std.specs.Prelude.{◌≡◌, ℕ, List, [], ◌∷◌, ◌++◌, ◌==◌, not, true, false, IsTrue}
-use Rattle.std.specs.List.{list_all}
+-- What a text is read as: gaps and tokens in turn, each token the longest at its place (Starlark specification, "Lexical
+-- elements").
+use Rattle.std.specs.Prelude.{◌≡◌, ℕ, List, [], ◌∷◌, ◌++◌, take, Bool, true, false, not, ◌&&◌, ◌||◌, ◌==◌, bytes_eq}
+use Rattle.std.specs.List.{list_any}
 use Rattle.bz_token.specs.declared.token.Kind.{Kind}
-use Rattle.bz_token.specs.declared.fault.LexFault.{LexFault}
-use Rattle.bz_token.specs.declared.fault.LexFault.TheVariants.{OutOfMemory, BadCharacter, BadNumber, OpenText, BadBracket, OpenBracket, TooDeep, BadBackslash}
-use Rattle.bz_token.specs.Lexical.{is_blank, is_text, begins_three, depth_behind}
-use Rattle.bz_token.specs.Places.{Placed, line_at, column_at}
+use Rattle.bz_token.specs.Lexical.{is_blank, begins, IsToken}
+use Rattle.bz_token.specs.Brackets.{is_inside, fits, open_behind}
+use Rattle.bz_token.specs.Places.{line_at, column_at, Placed}
+
+-- white space: blanks, and newlines inside brackets
+abbrev pub is_white : Bool → ℕ → Bool
+is_white inside b = is_blank b || (inside && b == 10)
+
+-- A gap is white space and continued lines: a backslash directly before a newline, or before a carriage return and a newline.
+abbrev mutual
+  pub is_gap : Bool → List ℕ → Bool
+  is_gap inside [] = true
+  is_gap inside (b ∷ bs) = elim (is_white inside b) [ true ↦ is_gap inside bs | false ↦ b == 92 && continues_gap inside bs ]
+
+  -- behind a backslash
+  pub continues_gap : Bool → List ℕ → Bool
+  continues_gap inside [] = false
+  continues_gap inside (b ∷ bs) = elim (b == 13) [ true ↦ feeds_gap inside bs | false ↦ b == 10 && is_gap inside bs ]
+
+  -- behind a backslash and a carriage return
+  pub feeds_gap : Bool → List ℕ → Bool
+  feeds_gap inside [] = false
+  feeds_gap inside (b ∷ bs) = b == 10 && is_gap inside bs
+
+-- a continued line stands here
+abbrev pub continues : List ℕ → Bool
+continues place = bytes_eq (take 2 place) (92 ∷ 10 ∷ []) || bytes_eq (take 3 place) (92 ∷ 13 ∷ 10 ∷ [])
+
+-- a gap stands here
+abbrev pub begins_gap : Bool → List ℕ → Bool
+begins_gap inside place = begins (is_white inside) place || continues place
 
 -- a gap, and the token behind it
 pub record Piece : Type 0 where
@@ -13,75 +41,48 @@ pub record Piece : Type 0 where
   pub kind : Kind
   pub text : List ℕ
 
-abbrev pub IsGap : ℕ → List ℕ → Type 0
-IsGap depth bytes = IsTrue (list_all (is_blank depth) bytes)
+-- Where these brackets are open, the bytes begin with a gap and the token that stands behind it.
+pub record IsPiece (depth : ℕ) (opened : List ℕ) (piece : Piece) (bytes after : List ℕ) : Type 0 where
+  pub bytes_are : bytes ≡ piece.gap ++ (piece.text ++ after)
+  pub gap : is_gap (is_inside opened) piece.gap ≡ true
+  pub token : IsToken piece.kind piece.text after
+  pub fits : fits depth opened piece.kind piece.text ≡ true
 
--- the text is one of this kind, and no longer text at its place is one of any kind
-pub record IsToken (depth : ℕ) (kind : Kind) (text after : List ℕ) : Type 0 where
-  pub whole : is_text depth kind text ≡ true
-  pub longest : (other : Kind) (more rest : List ℕ) → after ≡ more ++ rest → is_text depth other (text ++ more) ≡ true → more ≡ []
-  pub single : begins_three (text ++ after) ≡ false
+-- the bytes are these pieces and then the rest
+abbrev pub IsReading : ℕ → List ℕ → List Piece → List ℕ → List ℕ → Type 0
+IsReading depth opened [] rest bytes = bytes ≡ rest
+IsReading depth opened (p ∷ ps) rest bytes = (after : List ℕ) × IsPiece depth opened p bytes after × IsReading depth (open_behind opened p.text) ps rest after
 
--- no token begins at this place
-abbrev pub HasNoToken : ℕ → List ℕ → Type 0
-HasNoToken depth place = (kind : Kind) (text rest : List ℕ) → place ≡ text ++ rest → is_text depth kind text ≡ true → begins_three place ≡ true
-
--- at this depth of brackets the bytes are these pieces and then the rest
-abbrev pub IsReading : ℕ → List Piece → List ℕ → List ℕ → Type 0
-IsReading depth [] rest bytes = bytes ≡ rest
-IsReading depth (p ∷ ps) rest bytes = (after : List ℕ) × (bytes ≡ p.gap ++ (p.text ++ after)) × IsGap depth p.gap × IsToken depth p.kind p.text after × IsReading (depth_behind depth p.text) ps rest after
-
--- the depth of brackets behind the pieces
-abbrev pub depth_after : ℕ → List Piece → ℕ
-depth_after depth [] = depth
-depth_after depth (p ∷ ps) = depth_after (depth_behind depth p.text) ps
+-- the brackets that are open behind pieces
+abbrev pub open_after : List ℕ → List Piece → List ℕ
+open_after opened [] = opened
+open_after opened (p ∷ ps) = open_after (open_behind opened p.text) ps
 
 -- the bytes that the pieces stand for
 abbrev pub bytes_of : List Piece → List ℕ
 bytes_of [] = []
 bytes_of (p ∷ ps) = p.gap ++ (p.text ++ bytes_of ps)
 
--- the token of a piece, behind these bytes and these tokens
-abbrev pub placed_behind : ℕ → List ℕ → List Placed → Piece → Placed
-placed_behind first before earlier p = record {
+-- a piece's token behind the bytes before it, where earlier tokens begin on these lines
+abbrev pub token_of : ℕ → List ℕ → List ℕ → Piece → Placed
+token_of first before lines p = record {
   kind = p.kind;
   text = p.text;
   line = line_at first before;
   col = column_at before;
-  fresh = list_all (λ e. not (e.line == line_at first before)) earlier;
+  fresh = not (list_any (λ line. line == line_at first before) lines);
 }
 
--- the tokens of the pieces, behind these bytes and these tokens
-abbrev pub tokens_behind : ℕ → List ℕ → List Placed → List Piece → List Placed
-tokens_behind first before earlier [] = []
-tokens_behind first before earlier (p ∷ ps) =
-    let token = placed_behind first (before ++ p.gap) earlier p in
-    token ∷ tokens_behind first (before ++ p.gap ++ p.text) (earlier ++ token ∷ []) ps
+-- the tokens of pieces behind the bytes before them
+abbrev pub tokens_of : ℕ → List ℕ → List ℕ → List Piece → List Placed
+tokens_of first before lines [] = []
+tokens_of first before lines (p ∷ ps) =
+    token_of first (before ++ p.gap) lines p
+    ∷ tokens_of first (before ++ (p.gap ++ p.text)) (line_at first (before ++ p.gap) ∷ lines) ps
 
--- the whole text is gaps and these tokens; this grammar has no greatest depth
+-- The whole text is gaps and these tokens, and every bracket is closed. Lines count from `first`, and at most `depth` brackets
+-- are open at once.
 abbrev pub AreTokensOf : ℕ → ℕ → List ℕ → List Placed → Type 0
-AreTokensOf first max_depth bytes tokens = (pieces : List Piece) × (rest : List ℕ) × IsReading 0 pieces rest bytes × IsGap (depth_after 0 pieces) rest × (tokens ≡ tokens_behind first [] [] pieces)
-
--- behind the pieces and a gap stands a byte with which no token begins
-pub record IsFaultAt (first : ℕ) (bytes : List ℕ) (line col : ℕ) : Type 0 where
-  pub pieces : List Piece
-  pub gap : List ℕ
-  pub byte : ℕ
-  pub behind : List ℕ
-  pub reading : IsReading 0 pieces (gap ++ byte ∷ behind) bytes
-  pub is_gap : IsGap (depth_after 0 pieces) gap
-  pub no_gap : is_blank (depth_after 0 pieces) byte ≡ false
-  pub none : HasNoToken (depth_after 0 pieces) (byte ∷ behind)
-  pub line_is : line ≡ line_at first (bytes_of pieces ++ gap)
-  pub col_is : col ≡ column_at (bytes_of pieces ++ gap)
-
--- the first place where no token begins; of want of memory nothing is said
-abbrev pub IsFault : ℕ → ℕ → List ℕ → LexFault → Type 0
-IsFault first max_depth bytes OutOfMemory = Unit {0}
-IsFault first max_depth bytes (BadCharacter line col) = IsFaultAt first bytes line col
-IsFault first max_depth bytes (BadNumber line col) = ⊥
-IsFault first max_depth bytes (OpenText line col) = ⊥
-IsFault first max_depth bytes (BadBracket line col) = ⊥
-IsFault first max_depth bytes (OpenBracket line col) = ⊥
-IsFault first max_depth bytes (TooDeep line col) = ⊥
-IsFault first max_depth bytes (BadBackslash line col) = ⊥
+AreTokensOf first depth bytes tokens =
+    (pieces : List Piece) × (rest : List ℕ) × IsReading depth [] pieces rest bytes × (is_gap false rest ≡ true)
+    × (open_after [] pieces ≡ []) × (tokens ≡ tokens_of first [] [] pieces)

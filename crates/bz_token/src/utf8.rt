@@ -1,25 +1,11 @@
-//! The check that bytes are text.
+//! Whether bytes are text.
 
-ghost use Rattle.std.specs.Prelude.{◌≡◌, MatchResult};
-ghost use Rattle.std.specs.Str.{IsUtf8, IsValidUpTo};
+ghost use Rattle.std.specs.Prelude.{◌≡◌, IsUtf8, MatchResult};
+ghost use Rattle.std.specs.Str.{IsValidUpTo};
 
-/// The bytes as text. The error is the length in bytes of their longest front that is UTF-8.
+/// The bytes as text, or the length of their longest front that is UTF-8.
 pub fn check_utf8(bytes: &[u8]) -> Result<&str, usize>
-    ensures { MatchResult result (λ text. (text.now ≡ bytes.now) × IsUtf8 bytes.now) (λ n. ¬ (IsUtf8 bytes.now) × IsValidUpTo bytes.now n) }
+    ensures { MatchResult result (λ s. (s.now ≡ bytes.now) × IsUtf8 bytes.now) (λ n. (IsUtf8 bytes.now → ⊥) × IsValidUpTo bytes.now n) }
 {
-    match simdutf8::compat::from_utf8(bytes) {
-        Ok(text) => Ok(text),
-        Err(fault) => Err(fault.valid_up_to()),
-    }
-}
-
-#[cfg(test)]
-mod tests {
-    use super::*;
-
-    #[test]
-    fn checks_bytes(rt: HostRuntime) {
-        assert_eq!(rt; check_utf8("aé".as_bytes()), Ok("aé"));
-        assert_eq!(rt; check_utf8(&[97, 255]), Err(1));
-    }
+    simdutf8::compat::from_utf8(bytes).map_err(|fault| fault.valid_up_to())
 }
