@@ -81,7 +81,9 @@ fn tell_pass<L: Language>(
     kept: &mut Kept<L::Entry>,
     log: &mut Log<L::Entry>,
 ) -> Result<(), AllocError>
-    ensures { OnOk result (log.new ≡ log.old ++ (missing (L.meaning language.now) pass.now.target kept.old.found ++ flat_map (λ said. said) kept.old.logs)) }
+    ensures { OnOk result (log.new ≡ log.old
+        ++ (missing (L.meaning language.now) pass.now.target kept.old.found
+        ++ flat_map (λ said. said) kept.old.logs)) }
 {
     if target_is_missing(language, pass, kept) {
         log.push(language.not_found(&pass.target)?)?;
