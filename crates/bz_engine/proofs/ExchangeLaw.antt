@@ -52,7 +52,7 @@ flat_map_more : {A B : Type 0} (f : A → List B) (xs : List A) (x : A) → flat
 flat_map_more f [] x = append-nil (f x)
 flat_map_more f (y ∷ xs) x = ap (λ l. f y ++ l) (flat_map_more f xs x) ∙ sym (append_assoc (f y) (flat_map f xs) (f x))
 
-map_more : {A B : Type 0} (f : A → B) (xs : List A) (x : A) → map f (xs ++ x ∷ []) ≡ map f xs ++ f x ∷ []
+pub map_more : {A B : Type 0} (f : A → B) (xs : List A) (x : A) → map f (xs ++ x ∷ []) ≡ map f xs ++ f x ∷ []
 map_more f [] x = refl
 map_more f (y ∷ xs) x = ap (λ l. f y ∷ l) (map_more f xs x)
 
