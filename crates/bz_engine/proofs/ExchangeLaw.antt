@@ -166,5 +166,14 @@ nothing_left m ps changes fails = record {
   failed = sym (some_alone_lem m fails ps []);
 }
 
+-- what is told of what these slots left, and what is missing in it
+pub told_left : {S T C M : Type 0} (m : Meaning S T C M) (ps : List (Pass T C)) (slots : List (Slot S)) (ks : List (Kept M)) → ks ≡ kept_of m ps slots
+    → told m ps ks ≡ log_of m ps slots
+told_left m ps slots ks left = ap (told m ps) left ∙ sym (log_by_pass m ps slots)
+
+pub missing_left : {S T C M : Type 0} (m : Meaning S T C M) (ps : List (Pass T C)) (slots : List (Slot S)) (ks : List (Kept M)) → ks ≡ kept_of m ps slots
+    → some_not_found m ps ks ≡ some_missing m ps slots
+missing_left m ps slots ks left = ap (some_not_found m ps) left ∙ sym (missing_lem m ps slots)
+
 pub exchange : {S T C M : Type 0} (m : Meaning S T C M) (ps : List (Pass T C)) (slots : List (Slot S)) → Exchange m ps slots
 exchange m ps slots = record { each_slot_alone = slots_alone m ps slots; log_by_pass_and_command = log_by_pass m ps slots; one_slot_more = kept_more m ps slots; some_slot_alone = λ test. some_alone_lem m test ps slots; missing_by_pass = missing_lem m ps slots; nothing_left = nothing_left m ps }

@@ -1,11 +1,12 @@
-use Rattle.std.proofs.Common.{◌++◌, ◌∙◌, sym, ap}
+use Rattle.std.proofs.Common.{◌≡◌, ◌++◌, ◌∙◌, ap}
 use Rattle.bz_engine.specs.Exchange.{told}
-use Rattle.bz_engine.proofs.ExchangeLaw.{log_by_pass}
+use Rattle.bz_engine.proofs.ExchangeLaw.{told_left}
 use Rattle.bz_engine.proofs.kept.tell.Goals as goal
 
 pub returns : goal.returns
-returns g c slots kept =
+returns g c slots left =
     let meaning = g.L.Language.meaning c.args.language.now in
-    let passes = c.args.passes.now in
-    c.in_ok-tell_passes.ensures ∙ ap (λ log. log ++ told meaning passes c.args.kept.now) c.new-log.ensures
-    ∙ ap (told meaning passes) kept ∙ sym (log_by_pass meaning passes slots)
+    let kept = c.args.kept.now in
+    let log : c.tell_passes.new.log ≡ told meaning c.args.passes.now kept =
+    c.in_ok-tell_passes.ensures ∙ ap (λ log. log ++ told meaning c.args.passes.now kept) c.new-log.ensures in
+    log ∙ told_left meaning c.args.passes.now slots kept left
