@@ -1,8 +1,8 @@
 -- The law Exchange, by induction on commands, passes and slots.
-use Rattle.std.proofs.Common.{◌≡◌, Bool, true, false, ◌||◌, List, [], ◌∷◌, ◌++◌, map, refl, sym, length, suc, ◌∙◌, ap, append_assoc, append-nil}
+use Rattle.std.proofs.Common.{◌≡◌, Bool, true, false, ◌||◌, List, [], ◌∷◌, ◌++◌, map, refl, sym, ◌∙◌, ap, append_assoc, append-nil}
 use Rattle.std.specs.List.{flat_map, list_any}
 use Rattle.bz_engine.specs.Passes.{Slot, Meaning, Pass, Marked, marked, executed, entries, slots_after_commands, log_of_commands, slots_after_pass, missing, is_missing, some_missing, slots_after, log_of, meets, some_of_commands, some_execution}
-use Rattle.bz_engine.specs.Exchange.{Exchange, logs_alone, slot_after_commands, slot_after_pass, slot_after, kept_alone, logs_of, logs_and, kept_and, kept_of, told, some_not_found, Fits, no_slot, some_of_commands_alone, some_alone}
+use Rattle.bz_engine.specs.Exchange.{Exchange, Kept, IsLeftBy, logs_alone, slot_after_commands, slot_after_pass, slot_after, kept_alone, logs_of, logs_and, kept_and, kept_of, told, some_not_found, no_slot, some_of_commands_alone, some_alone}
 
 -- a `map` of a `map`
 map_map : {A B C : Type 0} (g : B → C) (f : A → B) (xs : List A) → map g (map f xs) ≡ map (λ x. g (f x)) xs
@@ -52,7 +52,7 @@ flat_map_more : {A B : Type 0} (f : A → List B) (xs : List A) (x : A) → flat
 flat_map_more f [] x = append-nil (f x)
 flat_map_more f (y ∷ xs) x = ap (λ l. f y ++ l) (flat_map_more f xs x) ∙ sym (append_assoc (f y) (flat_map f xs) (f x))
 
-map_more : {A B : Type 0} (f : A → B) (xs : List A) (x : A) → map f (xs ++ x ∷ []) ≡ map f xs ++ f x ∷ []
+pub map_more : {A B : Type 0} (f : A → B) (xs : List A) (x : A) → map f (xs ++ x ∷ []) ≡ map f xs ++ f x ∷ []
 map_more f [] x = refl
 map_more f (y ∷ xs) x = ap (λ l. f y ∷ l) (map_more f xs x)
 
@@ -128,15 +128,7 @@ missing_lem m [] slots = refl
 missing_lem m (p ∷ ps) slots =
     ap (λ b. is_missing m p.target (list_any (m.marks p.target) slots) || b) (missing_lem m ps (slots_after_pass m p slots))
 
--- there is a place for each pass and each command, and nothing in it before the first slot
-logs_length : {S T C M : Type 0} (m : Meaning S T C M) (cs : List C) (xs : List (Marked S)) → length (logs_of m cs xs) ≡ length cs
-logs_length m [] xs = refl
-logs_length m (c ∷ cs) xs = ap suc (logs_length m cs (map (executed m c) xs))
-
-pub kept_fits : {S T C M : Type 0} (m : Meaning S T C M) (ps : List (Pass T C)) (slots : List (Slot S)) → Fits (kept_of m ps slots) ps
-kept_fits m [] slots = tt
-kept_fits m (p ∷ ps) slots = (logs_length m p.commands _, kept_fits m ps (slots_after_pass m p slots))
-
+-- before the first slot
 logs_nothing : {S T C M : Type 0} (m : Meaning S T C M) (cs : List C) → map (λ command. []) cs ≡ logs_of m cs []
 logs_nothing m [] = refl
 logs_nothing m (c ∷ cs) = ap (λ l. [] ∷ l) (logs_nothing m cs)
@@ -151,5 +143,37 @@ kept_nothing m (p ∷ ps) =
     let none : slots_after_pass m p [] ≡ [] = ap (map (λ x. x.slot)) (slots_nothing m p.commands) in
     rw (none, ← logs_nothing m p.commands, ← kept_nothing m ps) refl
 
+-- one slot more, for what is kept and for what was done
+pub left_more : {S T C M : Type 0} (m : Meaning S T C M) (changes fails : C → Slot S → Bool) (ps : List (Pass T C)) (slots : List (Slot S)) (slot : Slot S)
+    (ks ks' : List (Kept M)) (some_changed some_changed' some_failed some_failed' : Bool)
+    → ks' ≡ kept_and ks (kept_alone m ps slot) → some_changed' ≡ (some_changed || some_alone m changes ps slot) → some_failed' ≡ (some_failed || some_alone m fails ps slot)
+    → IsLeftBy m changes fails ps slots ks some_changed some_failed → IsLeftBy m changes fails ps (slots ++ slot ∷ []) ks' some_changed' some_failed'
+left_more m changes fails ps slots slot ks ks' some_changed some_changed' some_failed some_failed' kept changed failed left = record {
+  kept = kept ∙ ap (λ k. kept_and k (kept_alone m ps slot)) left.kept ∙ sym (kept_more m ps slots slot);
+  changed = changed ∙ ap (λ b. b || some_alone m changes ps slot) left.changed ∙ sym (some_more changes);
+  failed = failed ∙ ap (λ b. b || some_alone m fails ps slot) left.failed ∙ sym (some_more fails);
+}
+  where
+    some_more : (test : _) → some_execution m test ps (slots ++ slot ∷ []) ≡ (some_execution m test ps slots || some_alone m test ps slot)
+    some_more test =
+        some_alone_lem m test ps (slots ++ slot ∷ []) ∙ any_more (some_alone m test ps) slots slot
+        ∙ ap (λ b. b || some_alone m test ps slot) (sym (some_alone_lem m test ps slots))
+
+nothing_left : {S T C M : Type 0} (m : Meaning S T C M) (ps : List (Pass T C)) (changes fails : C → Slot S → Bool) → IsLeftBy m changes fails ps [] (map no_slot ps) false false
+nothing_left m ps changes fails = record {
+  kept = kept_nothing m ps;
+  changed = sym (some_alone_lem m changes ps []);
+  failed = sym (some_alone_lem m fails ps []);
+}
+
+-- what is told of what these slots left, and what is missing in it
+pub told_left : {S T C M : Type 0} (m : Meaning S T C M) (ps : List (Pass T C)) (slots : List (Slot S)) (ks : List (Kept M)) → ks ≡ kept_of m ps slots
+    → told m ps ks ≡ log_of m ps slots
+told_left m ps slots ks left = ap (told m ps) left ∙ sym (log_by_pass m ps slots)
+
+pub missing_left : {S T C M : Type 0} (m : Meaning S T C M) (ps : List (Pass T C)) (slots : List (Slot S)) (ks : List (Kept M)) → ks ≡ kept_of m ps slots
+    → some_not_found m ps ks ≡ some_missing m ps slots
+missing_left m ps slots ks left = ap (some_not_found m ps) left ∙ sym (missing_lem m ps slots)
+
 pub exchange : {S T C M : Type 0} (m : Meaning S T C M) (ps : List (Pass T C)) (slots : List (Slot S)) → Exchange m ps slots
-exchange m ps slots = record { each_slot_alone = slots_alone m ps slots; log_by_pass_and_command = log_by_pass m ps slots; one_slot_more = kept_more m ps slots; some_slot_alone = λ test. some_alone_lem m test ps slots; missing_by_pass = missing_lem m ps slots; nothing_kept = sym (kept_nothing m ps); fits = kept_fits m ps slots }
+exchange m ps slots = record { each_slot_alone = slots_alone m ps slots; log_by_pass_and_command = log_by_pass m ps slots; one_slot_more = kept_more m ps slots; some_slot_alone = λ test. some_alone_lem m test ps slots; missing_by_pass = missing_lem m ps slots; nothing_left = nothing_left m ps }

@@ -9,7 +9,7 @@ use Rattle.bz_engine.specs.Passes.{Slot, Meaning, Pass, Marked, executed, marked
 use Rattle.bz_engine.specs.Exchange.{Kept, logs_alone, logs_and, slot_after_pass, slot_after, kept_alone, kept_and, Fits, pass_and, pass_alone, no_slot, some_of_commands_alone, some_alone}
 
 -- the element at i is written, and the rest is still to come
-rest_after_write : {X : Type 0} (xs : List X) (i : ℕ) (y : X) → i < length xs → drop (i + 1) (set xs i y) ≡ drop (i + 1) xs
+pub rest_after_write : {X : Type 0} (xs : List X) (i : ℕ) (y : X) → i < length xs → drop (i + 1) (set xs i y) ≡ drop (i + 1) xs
 rest_after_write xs i y h = grind (arith, common_steps)
 
 rest_of : {X : Type 0} (xs : List X) (i : ℕ) (x : X) → i < length xs → x ≡ get_or xs i x → drop i xs ≡ x ∷ drop (i + 1) xs

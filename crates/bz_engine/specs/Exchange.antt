@@ -90,6 +90,13 @@ Fits [] (p ∷ ps) = ⊥
 Fits (k ∷ ks) [] = ⊥
 Fits (k ∷ ks) (p ∷ ps) = (length k.logs ≡ length p.commands) × Fits ks ps
 
+-- What is kept, and whether something was changed and failed, is what these slots leave.
+pub record IsLeftBy {S T C M : Type 0} (m : Meaning S T C M) (changes fails : C → Slot S → Bool) (ps : List (Pass T C)) (slots : List (Slot S))
+    (ks : List (Kept M)) (some_changed some_failed : Bool) : Type 0 where
+  pub kept : ks ≡ kept_of m ps slots
+  pub changed : some_changed ≡ some_execution m changes ps slots
+  pub failed : some_failed ≡ some_execution m fails ps slots
+
 -- Exchange: command by command over the whole file is the whole script over one slot after the other.
 pub record Exchange {S T C M : Type 0} (m : Meaning S T C M) (ps : List (Pass T C)) (slots : List (Slot S)) : Type 0 where
   pub each_slot_alone : slots_after m ps slots ≡ map (slot_after m ps) slots
@@ -97,5 +104,4 @@ pub record Exchange {S T C M : Type 0} (m : Meaning S T C M) (ps : List (Pass T 
   pub one_slot_more : (slot : Slot S) → kept_of m ps (slots ++ slot ∷ []) ≡ kept_and (kept_of m ps slots) (kept_alone m ps slot)
   pub some_slot_alone : (test : C → Slot S → Bool) → some_execution m test ps slots ≡ list_any (some_alone m test ps) slots
   pub missing_by_pass : some_missing m ps slots ≡ some_not_found m ps (kept_of m ps slots)
-  pub nothing_kept : kept_of m ps [] ≡ map no_slot ps
-  pub fits : Fits (kept_of m ps slots) ps
+  pub nothing_left : (changes fails : C → Slot S → Bool) → IsLeftBy m changes fails ps [] (map no_slot ps) false false

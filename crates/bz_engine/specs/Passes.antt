@@ -1,4 +1,4 @@
--- A script over the slots of a file: passes one after another, and in a pass command by command (buildozer README: commands are executed in order).
+-- A script over the slots of a file: passes one after another, and in a pass command by command (the order is this project's own rule).
 -- It is stated for any statements S, targets T, commands C and log entries M. A log has one list of entries for lines and messages, since their order is one.
 use Rattle.std.specs.Prelude.{false, ◌||◌, Bool, if◌then◌else◌, List, [], ◌∷◌, ◌++◌, map, Option}
 use Rattle.std.specs.List.{flat_map, list_any}

@@ -12,9 +12,11 @@ pub struct Failed;
 /// What reads gave is a relation of the states before and after. Over memory it names the bytes,
 /// over a file their count alone.
 pub trait Source {
-    // From the first state, reads gave these pieces, one for each read, and left the second state. An empty piece is the end of the input.
+    // From the first state, reads gave these pieces, one for each read, and left the second state.
+    // An empty piece is the end of the input.
     ghost gave: { Self → List (List ℕ) → Self → Type 0 };
 
+    // How many reads failed.
     ghost failures: { Self → ℕ };
 
     /// Reads the next bytes into the front of `buf` and answers how many. 0 is the end of the
@@ -33,7 +35,8 @@ pub trait Source {
 
     ghost gave_nothing: { (s : Self) → gave s [] s };
 
-    ghost gave_more: { (a b c : Self) (xs ys : List (List ℕ)) → gave a xs b → gave b ys c → gave a (xs ++ ys) c };
+    ghost gave_more: { (a b c : Self) (xs ys : List (List ℕ))
+        → gave a xs b → gave b ys c → gave a (xs ++ ys) c };
 }
 
 /// Where bytes go.
@@ -44,6 +47,7 @@ pub trait Sink {
     // The first state took these bytes and became the second.
     ghost took: { Self → List ℕ → Self → Type 0 };
 
+    // How many writes failed.
     ghost failures: { Self → ℕ };
 
     /// Appends a front of `bytes` and answers how many, at least 1. An `Err` appended nothing.
@@ -61,5 +65,6 @@ pub trait Sink {
 
     ghost took_nothing: { (s : Self) → took s [] s };
 
-    ghost took_more: { (a b c : Self) (xs ys : List ℕ) → took a xs b → took b ys c → took a (xs ++ ys) c };
+    ghost took_more: { (a b c : Self) (xs ys : List ℕ)
+        → took a xs b → took b ys c → took a (xs ++ ys) c };
 }

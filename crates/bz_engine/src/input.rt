@@ -72,8 +72,10 @@ pub fn read_all<S: Source>(
 ) -> Result<Vec<u8>, ReadFault>
     ensures read { IfOk result (λ bytes. (pieces : List (List ℕ)) × S.gave source.old pieces source.new
         × IsTrue (ends pieces) × (length pieces ≤ max_reads) × (bytes.items ≡ joined pieces)) }
+    // At most that many reads were made, however it ended.
     ensures front { (pieces : List (List ℕ)) × S.gave source.old pieces source.new × (length pieces ≤ max_reads) }
-    ensures too_long { IsErrOf result ReadFault.InputTooLong → (pieces : List (List ℕ)) × S.gave source.old pieces source.new
+    ensures too_long { IsErrOf result ReadFault.InputTooLong
+        → (pieces : List (List ℕ)) × S.gave source.old pieces source.new
         × (length pieces ≡ max_reads) × NoneEnds pieces }
     ensures failed { IsErrOf result ReadFault.ReadFailed → Rises (S.failures source.old) (S.failures source.new) }
     ensures steady { result ≢ Err ReadFault.ReadFailed → S.failures source.new ≡ S.failures source.old }

@@ -1,9 +1,9 @@
 //! What a run keeps of the slots that are done, and what it tells of them at its end.
 
-ghost use Rattle.std.specs.Prelude.{◌≡◌, ◌++◌, [], map, IfOk, OnOk};
+ghost use Rattle.std.specs.Prelude.{◌≡◌, ◌++◌, [], List, map, IfOk, OnOk};
 ghost use Rattle.std.specs.List.{flat_map};
-ghost use Rattle.bz_engine.specs.Passes.{is_missing, missing};
-ghost use Rattle.bz_engine.specs.Exchange.{Fits, no_slot, told, some_not_found};
+ghost use Rattle.bz_engine.specs.Passes.{Slot, is_missing, missing, log_of, some_missing};
+ghost use Rattle.bz_engine.specs.Exchange.{Fits, no_slot, kept_of, told, some_not_found};
 
 use crate::language::Language;
 use crate::log::Log;
@@ -81,12 +81,30 @@ fn tell_pass<L: Language>(
     kept: &mut Kept<L::Entry>,
     log: &mut Log<L::Entry>,
 ) -> Result<(), AllocError>
-    ensures { OnOk result (log.new ≡ log.old ++ (missing (L.meaning language.now) pass.now.target kept.old.found ++ flat_map (λ said. said) kept.old.logs)) }
+    ensures { OnOk result (log.new ≡ log.old
+        ++ (missing (L.meaning language.now) pass.now.target kept.old.found
+        ++ flat_map (λ said. said) kept.old.logs)) }
 {
     if target_is_missing(language, pass, kept) {
         log.push(language.not_found(&pass.target)?)?;
     }
     append_all(kept.logs.as_mut_slice(), log)
+}
+
+/// What is told of the passes, one after another.
+fn tell_passes<L: Language>(
+    language: &L,
+    passes: &[Pass<L::Target, L::Command>],
+    kept: &mut [Kept<L::Entry>],
+    log: &mut Log<L::Entry>,
+) -> Result<(), AllocError>
+    requires { Fits kept.old passes.now }
+    ensures { OnOk result (log.new ≡ log.old ++ told (L.meaning language.now) passes.now kept.old) }
+{
+    for i in 0..passes.len() {
+        tell_pass(language, &passes[i], &mut kept[i], log)?;
+    }
+    Ok(())
 }
 
 /// The log of a whole run, from what was kept of it: by pass, in a pass by command, for a command
@@ -98,17 +116,17 @@ pub fn tell<L: Language>(
     kept: &mut [Kept<L::Entry>],
 ) -> Result<Log<L::Entry>, AllocError>
     requires { Fits kept.old passes.now }
-    ensures { IfOk result (λ log. log ≡ told (L.meaning language.now) passes.now kept.old) }
+    ensures { IfOk result (λ log. (slots : List (Slot L.Seen))
+        → kept.old ≡ kept_of (L.meaning language.now) passes.now slots
+        → log ≡ log_of (L.meaning language.now) passes.now slots) }
 {
     let mut log = Log::new(alloc);
-    for i in 0..passes.len() {
-        tell_pass(language, &passes[i], &mut kept[i], &mut log)?;
-    }
+    tell_passes(language, passes, kept, &mut log)?;
     Ok(log)
 }
 
-/// Whether the target of some pass had to mark something and marked nothing.
-pub fn is_some_missing<L: Language>(
+/// Whether the target of some pass was not found, by what was kept.
+fn is_some_not_found<L: Language>(
     language: &L,
     passes: &[Pass<L::Target, L::Command>],
     kept: &[Kept<L::Entry>],
@@ -122,4 +140,18 @@ pub fn is_some_missing<L: Language>(
         }
     }
     false
+}
+
+/// Whether the target of some pass had to mark something and marked nothing.
+pub fn is_some_missing<L: Language>(
+    language: &L,
+    passes: &[Pass<L::Target, L::Command>],
+    kept: &[Kept<L::Entry>],
+) -> bool
+    requires { Fits kept.now passes.now }
+    ensures { (slots : List (Slot L.Seen))
+        → kept.now ≡ kept_of (L.meaning language.now) passes.now slots
+        → result ≡ some_missing (L.meaning language.now) passes.now slots }
+{
+    is_some_not_found(language, passes, kept)
 }

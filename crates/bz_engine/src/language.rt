@@ -14,6 +14,9 @@ pub struct Facts {
 }
 
 /// What targets and commands mean on one statement.
+///
+/// A language may hold what its commands need, as a package and an allocator, and its statements
+/// may borrow from the file.
 pub trait Language {
     type Statement;
 
@@ -28,8 +31,10 @@ pub trait Language {
 
     ghost seen: { Option Self.Statement → Slot Seen };
 
+    // What each target marks, and what each command does to a slot and tells of it.
     ghost meaning: { Self → Meaning Seen Self.Target Self.Command Self.Entry };
 
+    // Whether a command changes what it finds in a slot, and whether it fails there.
     ghost changes: { Self → Self.Command → Slot Seen → Bool };
 
     ghost fails: { Self → Self.Command → Slot Seen → Bool };

@@ -1,4 +1,11 @@
 //! The engine: a script's passes over the statements between a source and a sink.
+//!
+//! A `Source` gives bytes in pieces and a `Sink` takes them; both may fail at any call. A script is
+//! passes, one after another: each resolves its target once and then runs its commands. What targets
+//! and commands mean is a `Language`. `run_script` takes one statement through the whole script, and
+//! what is told waits in `Kept` until the end, since lines and messages stand by pass and command
+//! and not by statement. `exchange` is the law that makes this the same as each command over the
+//! whole file.
 #![tactic(auto)]
 
 mod device;

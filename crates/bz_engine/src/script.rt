@@ -1,8 +1,8 @@
 //! A whole script on one slot.
 
-ghost use Rattle.std.specs.Prelude.{◌≡◌, ◌++◌, ◌||◌, [], List, length, OnOk};
+ghost use Rattle.std.specs.Prelude.{◌≡◌, ◌++◌, ◌||◌, [], ◌∷◌, List, length, OnOk};
 ghost use Rattle.bz_engine.specs.Passes.{Slot, Pass as APass, executed, entries, meets, with_mark, marked};
-ghost use Rattle.bz_engine.specs.Exchange.{Exchange, Fits, slot_after_commands, slot_after_pass, slot_after, logs_alone, logs_and, pass_alone, pass_and, kept_alone, kept_and, some_of_commands_alone, some_alone};
+ghost use Rattle.bz_engine.specs.Exchange.{Exchange, Fits, IsLeftBy, slot_after_commands, slot_after_pass, slot_after, logs_alone, logs_and, pass_alone, pass_and, kept_alone, kept_and, some_of_commands_alone, some_alone};
 
 use crate::kept::Kept;
 use crate::language::{Facts, Language};
@@ -93,9 +93,34 @@ fn run_pass<L: Language>(
     )
 }
 
-/// The whole script on one slot, pass by pass. What it tells goes behind what was kept of the
-/// slots before, and what it did is added to the facts. After a refusal neither the slot nor what
-/// is kept is of use.
+/// The passes one after another on one slot. What they tell goes behind what was kept of the slots
+/// before, and what they did is added to the facts.
+fn run_passes<L: Language>(
+    language: &L,
+    passes: &[Pass<L::Target, L::Command>],
+    slot: &mut Option<L::Statement>,
+    kept: &mut [Kept<L::Entry>],
+    facts: &mut Facts,
+) -> Result<(), AllocError>
+    requires { Fits kept.old passes.now }
+    ensures fits { OnOk result (Fits kept.new passes.now) }
+    ensures slot { OnOk result (L.seen slot.new ≡ slot_after (L.meaning language.now) passes.now (L.seen slot.old)) }
+    ensures kept { OnOk result (kept.new
+        ≡ kept_and kept.old (kept_alone (L.meaning language.now) passes.now (L.seen slot.old))) }
+    ensures changed { OnOk result (facts.new.changed ≡ (facts.old.changed
+        || some_alone (L.meaning language.now) (L.changes language.now) passes.now (L.seen slot.old))) }
+    ensures failed { OnOk result (facts.new.failed ≡ (facts.old.failed
+        || some_alone (L.meaning language.now) (L.fails language.now) passes.now (L.seen slot.old))) }
+{
+    for i in 0..passes.len() {
+        run_pass(language, &passes[i], slot, &mut kept[i], facts)?;
+    }
+    Ok(())
+}
+
+/// The whole script on one slot. Where what is kept and the facts are those of the slots before, they
+/// are then those of the slots with this one. After a refusal neither the slot nor what is kept is
+/// of use.
 pub fn run_script<L: Language>(
     language: &L,
     passes: &[Pass<L::Target, L::Command>],
@@ -107,17 +132,16 @@ pub fn run_script<L: Language>(
     requires { Fits kept.old passes.now }
     ensures fits { OnOk result (Fits kept.new passes.now) }
     ensures slot { OnOk result (L.seen slot.new ≡ slot_after (L.meaning language.now) passes.now (L.seen slot.old)) }
-    ensures kept { OnOk result (kept.new
-        ≡ kept_and kept.old (kept_alone (L.meaning language.now) passes.now (L.seen slot.old))) }
-    // Some execution changed its statement, or some failed: before, or on this slot.
-    ensures changed { OnOk result (facts.new.changed ≡ (facts.old.changed
-        || some_alone (L.meaning language.now) (L.changes language.now) passes.now (L.seen slot.old))) }
+    // Some execution failed on this slot, or before.
     ensures failed { OnOk result (facts.new.failed ≡ (facts.old.failed
         || some_alone (L.meaning language.now) (L.fails language.now) passes.now (L.seen slot.old))) }
+    ensures left { OnOk result ((slots : List (Slot L.Seen))
+        → IsLeftBy (L.meaning language.now) (L.changes language.now) (L.fails language.now) passes.now
+        slots kept.old facts.old.changed facts.old.failed
+        → IsLeftBy (L.meaning language.now) (L.changes language.now) (L.fails language.now) passes.now
+        (slots ++ L.seen slot.old ∷ []) kept.new facts.new.changed facts.new.failed) }
 {
-    for i in 0..passes.len() {
-        run_pass(language, &passes[i], slot, &mut kept[i], facts)?;
-    }
+    run_passes(language, passes, slot, kept, facts)?;
     Ok(())
 }
 

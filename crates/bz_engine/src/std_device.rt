@@ -1,4 +1,7 @@
 //! Readers and writers of std as a `Source` and a `Sink`.
+//!
+//! That none of them gives or takes more than it was handed is in the contracts of `Read` and
+//! `Write`.
 
 ghost use Rattle.std.specs.Prelude.{◌≡◌, ◌<◌, ◌≤◌, [], ◌∷◌, ◌++◌, length, take, IfOk, OnErr};
 ghost use Rattle.std.specs.Io.KnownBytes.{Appends};

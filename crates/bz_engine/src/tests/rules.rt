@@ -61,16 +61,55 @@ impl<'a> Language for Rules<'a> {
     ghost seen = { λ slot. option_map (λ r. (r.kind.now, r.name)) slot };
 
     ghost meaning = { λ _. record {
-      marks = λ target slot. elim slot as (λ _. Bool) [ None ↦ false | Some rule ↦ elim target as (λ _. Bool) [ Name n ↦ nat_eq rule.1 n | All ↦ true ] ];
+      marks = λ target slot. elim slot as (λ _. Bool) [
+        | None ↦ false
+        | Some rule ↦ elim target as (λ _. Bool) [ Name n ↦ nat_eq rule.1 n | All ↦ true ]
+      ];
       must_mark = λ target. elim target as (λ _. Bool) [ Name n ↦ true | All ↦ false ];
       not_found = λ target. NotFound;
-      after = λ command slot. elim slot as (λ _. Option (ℕ × ℕ)) [ None ↦ None | Some rule ↦ elim command as (λ _. Option (ℕ × ℕ)) [ SetName n ↦ Some (rule.0, n) | Delete ↦ None | PrintName ↦ Some rule | PrintKind ↦ Some rule | Refuse ↦ Some rule ] ];
-      says = λ command slot. elim slot as (λ _. List AnEntry) [ None ↦ [] | Some rule ↦ elim command as (λ _. List AnEntry) [ SetName n ↦ [] | Delete ↦ [] | PrintName ↦ Line rule.1 ∷ [] | PrintKind ↦ Line rule.0 ∷ [] | Refuse ↦ Refused rule.1 ∷ [] ] ];
+      after = λ command slot. elim slot as (λ _. Option (ℕ × ℕ)) [
+        | None ↦ None
+        | Some rule ↦ elim command as (λ _. Option (ℕ × ℕ)) [
+          | SetName n ↦ Some (rule.0, n)
+          | Delete ↦ None
+          | PrintName ↦ Some rule
+          | PrintKind ↦ Some rule
+          | Refuse ↦ Some rule
+        ]
+      ];
+      says = λ command slot. elim slot as (λ _. List AnEntry) [
+        | None ↦ []
+        | Some rule ↦ elim command as (λ _. List AnEntry) [
+          | SetName n ↦ []
+          | Delete ↦ []
+          | PrintName ↦ Line rule.1 ∷ []
+          | PrintKind ↦ Line rule.0 ∷ []
+          | Refuse ↦ Refused rule.1 ∷ []
+        ]
+      ];
     } };
 
-    ghost changes = { λ _ command slot. elim slot as (λ _. Bool) [ None ↦ false | Some rule ↦ elim command as (λ _. Bool) [ SetName n ↦ not (nat_eq rule.1 n) | Delete ↦ true | PrintName ↦ false | PrintKind ↦ false | Refuse ↦ false ] ] };
+    ghost changes = { λ _ command slot. elim slot as (λ _. Bool) [
+      | None ↦ false
+      | Some rule ↦ elim command as (λ _. Bool) [
+        | SetName n ↦ not (nat_eq rule.1 n)
+        | Delete ↦ true
+        | PrintName ↦ false
+        | PrintKind ↦ false
+        | Refuse ↦ false
+      ]
+    ] };
 
-    ghost fails = { λ _ command slot. elim slot as (λ _. Bool) [ None ↦ false | Some rule ↦ elim command as (λ _. Bool) [ SetName n ↦ false | Delete ↦ false | PrintName ↦ false | PrintKind ↦ false | Refuse ↦ true ] ] };
+    ghost fails = { λ _ command slot. elim slot as (λ _. Bool) [
+      | None ↦ false
+      | Some rule ↦ elim command as (λ _. Bool) [
+        | SetName n ↦ false
+        | Delete ↦ false
+        | PrintName ↦ false
+        | PrintKind ↦ false
+        | Refuse ↦ true
+      ]
+    ] };
 
     fn marks(&self, target: &Target, slot: &Option<Rule<'a>>) -> bool {
         match (target, slot) {

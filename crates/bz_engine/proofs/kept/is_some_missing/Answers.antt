@@ -1,6 +1,8 @@
-use Rattle.std.proofs.Common.{refl}
-use Rattle.bz_engine.proofs.Steps.{fits_length}
+use Rattle.std.proofs.Common.{◌∙◌}
+use Rattle.bz_engine.proofs.ExchangeLaw.{missing_left}
 use Rattle.bz_engine.proofs.kept.is_some_missing.Goals as goal
 
-pub loop-i-init : goal.loop-i-init
-loop-i-init g c = record { size = fits_length _ _ c.requires; rest = refl }
+pub returns : goal.returns
+returns g c slots left =
+    let meaning = g.L.Language.meaning c.args.language.now in
+    c.is_some_not_found.ensures ∙ missing_left meaning c.args.passes.now slots c.args.kept.now left

@@ -1,7 +1,12 @@
-use Rattle.std.proofs.Common.{ap, ◌++◌}
+use Rattle.std.proofs.Common.{◌≡◌, ◌++◌, ◌∙◌, ap}
 use Rattle.bz_engine.specs.Exchange.{told}
-use Rattle.bz_engine.proofs.Steps.{fits_length}
+use Rattle.bz_engine.proofs.ExchangeLaw.{told_left}
 use Rattle.bz_engine.proofs.kept.tell.Goals as goal
 
-pub loop-i-init : goal.loop-i-init
-loop-i-init g c = record { size = fits_length _ _ c.requires; log = ap (λ l. l ++ told (g.L.Language.meaning c.args.language.now) c.args.passes.now c.args.kept.now) c.new-log.ensures }
+pub returns : goal.returns
+returns g c slots left =
+    let meaning = g.L.Language.meaning c.args.language.now in
+    let kept = c.args.kept.now in
+    let log : c.tell_passes.new.log ≡ told meaning c.args.passes.now kept =
+    c.in_ok-tell_passes.ensures ∙ ap (λ log. log ++ told meaning c.args.passes.now kept) c.new-log.ensures in
+    log ∙ told_left meaning c.args.passes.now slots kept left

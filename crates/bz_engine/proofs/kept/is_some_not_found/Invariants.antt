@@ -1,6 +1,6 @@
 use Rattle.std.proofs.Common.{◌≡◌, drop, length}
 use Rattle.bz_engine.specs.Exchange.{some_not_found}
-use Rattle.bz_engine.proofs.kept.is_some_missing.Given as goal
+use Rattle.bz_engine.proofs.kept.is_some_not_found.Given as goal
 
 abbrev pub invariant-loop-i : goal.invariant-loop-i
 invariant-loop-i g l = record {
