@@ -308,8 +308,8 @@ one_reading depth opened (p ∷ ps) (q ∷ qs) r s bytes a x b y =
     let one = one_piece depth opened p q bytes a.0 b.0 a.1 b.1 in
     let opens : open_behind opened q.text ≡ open_behind opened p.text = ap (λ z. open_behind opened z.text) (sym one.0) in
     let more = one_reading depth (open_behind opened p.text) ps qs r s a.0 a.2 x
-      (subst (λ z. IsReading depth z qs s a.0) opens (subst (λ z. IsReading depth (open_behind opened q.text) qs s z) (sym one.1) b.2))
-      (subst (λ z. IsStuck depth (open_after z qs) s) opens y) in
+    (subst (λ z. IsReading depth z qs s a.0) opens (subst (λ z. IsReading depth (open_behind opened q.text) qs s z) (sym one.1) b.2))
+    (subst (λ z. IsStuck depth (open_after z qs) s) opens y) in
     (ap₂ (λ u us. u ∷ us) one.0 more.0, more.1)
 
 -- in a gap no piece stands

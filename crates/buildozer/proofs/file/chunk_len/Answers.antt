@@ -26,7 +26,7 @@ returns-then-ends_chunk-clause-chunk c =
     let e = c.loop-end.end in
     let n = c.line_len.result in
     ends_here bytes (take (e + n - e) (drop e bytes)) (take (length bytes - (e + n)) (drop (e + n) bytes)) e n (seen_more bytes e n) (tail_is bytes (e + n))
-        (c.ends_chunk.ensures.ends c.if-ends_chunk.true (take e bytes) (c.loop-end.invariant.behind c.loop-end-test.true))
+    (c.ends_chunk.ensures.ends c.if-ends_chunk.true (take e bytes) (c.loop-end.invariant.behind c.loop-end-test.true))
 
 pub loop-end-preserved : goal.loop-end-preserved
 loop-end-preserved c =
@@ -34,7 +34,7 @@ loop-end-preserved c =
     let e = c.loop-end.end in
     let n = c.line_len.result in
     let goes = goes_there c.ends_chunk.new.cutter bytes (take (e + n - e) (drop e bytes)) (take (length bytes - (e + n)) (drop (e + n) bytes)) e n (seen_more bytes e n) (tail_is bytes (e + n))
-        (c.ends_chunk.ensures.goes c.if-ends_chunk.false (take e bytes) (c.loop-end.invariant.behind c.loop-end-test.true)) in
+    (c.ends_chunk.ensures.goes c.if-ends_chunk.false (take e bytes) (c.loop-end.invariant.behind c.loop-end-test.true)) in
     record {
       within = grind (arith, common_steps);
       behind = λ h. goes.read (rest_some bytes (e + n) h);

@@ -8,7 +8,7 @@ returns-in-More-clause-goes c _ seen behind =
     let line = c.args.line.now in
     let more = c.in-More.ensures in
     more_goes c.line.new.self line c.args.behind.now seen (ends_in_newline line) c.requires.whole_line
-        (λ t. more.cut t seen behind) (λ t. more.behind t seen behind) more.awaits (λ f. (more.last f seen behind).1)
+    (λ t. more.cut t seen behind) (λ t. more.behind t seen behind) more.awaits (λ f. (more.last f seen behind).1)
 
 pub returns-in-Ends-clause-ends : goal.returns-in-Ends-clause-ends
 returns-in-Ends-clause-ends c _ seen behind =
@@ -23,7 +23,7 @@ returns-in-Goes-clause-goes c _ seen behind =
     let block = c.in-Block.ensures in
     let newline = block_line (ends_in_newline line) (λ f. (block.last f seen behind).0) in
     block_goes c.goes_on.new.self (seen ++ line) c.args.behind.now (block.cut newline seen behind)
-        (c.in-Goes.ensures.behind (seen ++ line) (block.behind newline seen behind)) (c.in-Goes.ensures.awaits [] (λ _ i. []))
+    (c.in-Goes.ensures.behind (seen ++ line) (block.behind newline seen behind)) (c.in-Goes.ensures.awaits [] (λ _ i. []))
 
 pub returns-in-Short-clause-goes : goal.returns-in-Short-clause-goes
 returns-in-Short-clause-goes c _ seen behind =
