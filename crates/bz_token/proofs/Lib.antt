@@ -1,0 +1,12 @@
+pub mod Examples
+pub mod Strings
+pub mod Gaps
+pub mod Stack
+pub mod Classes
+pub mod Openings
+pub mod Ends
+pub mod Signs
+pub mod Scanning
+pub mod Progress
+pub mod Innermost
+pub mod Fitting

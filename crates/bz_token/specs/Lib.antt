@@ -1,1 +1,7 @@
 pub mod Places
+pub mod Lexical
+pub mod Brackets
+pub mod Reading
+pub mod Faults
+pub mod Ends
+pub mod Scans
