@@ -5,3 +5,8 @@ pub mod Reading
 pub mod Faults
 pub mod Ends
 pub mod Scans
+pub mod Groups
+pub mod Munch
+pub mod Pieces
+pub mod Chunks
+pub mod CutSteps

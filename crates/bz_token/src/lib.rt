@@ -2,6 +2,7 @@
 #![tactic(auto)]
 
 mod brackets;
+mod cutter;
 mod fault;
 mod gap;
 mod lexer;
@@ -11,6 +12,7 @@ mod scan_token;
 mod token;
 mod utf8;
 
+pub use cutter::{Cut, Cutter};
 pub use fault::LexFault;
 pub use lexer::tokens;
 pub use token::{Kind, Token};
