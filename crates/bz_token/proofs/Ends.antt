@@ -38,7 +38,7 @@ pub stops_first : (kind : Kind) (text after : List ℕ) (m : ℕ) (more rest : L
 stops_first kind text after m more rest h split = rw split at h
 
 -- at a place where no string and no number begins all texts count
-counts_free : (place text : List ℕ) (kind : Kind) → opening place ≡ None → begins is_ascii_digit place ≡ false → counts place kind text ≡ true
+pub counts_free : (place text : List ℕ) (kind : Kind) → opening place ≡ None → begins is_ascii_digit place ≡ false → counts place kind text ≡ true
 counts_free place text kind unquoted plain = rw (unquoted, plain, counts) refl
 
 not_true : (x : Bool) → not x ≡ true → x ≡ false
@@ -202,7 +202,7 @@ free : (kind : Kind) (b : ℕ) (bs after : List ℕ) → is_text kind (b ∷ bs)
 free kind b bs after whole unquoted plain never =
     token_from kind (b ∷ bs) after whole (counts_free ((b ∷ bs) ++ after) (b ∷ bs) kind (no_opening b (bs ++ after) unquoted) plain) never
 
-no_digit : (b : ℕ) (c : Class) → class_of b ≡ c → can_start Int c ≡ false → is_ascii_digit b ≡ false
+pub no_digit : (b : ℕ) (c : Class) → class_of b ≡ c → can_start Int c ≡ false → is_ascii_digit b ≡ false
 no_digit b c is never = elim (cases_Bool (is_ascii_digit b)) [
   | inl hit ↦ absurd (false≢true (sym never ∙ ap (can_start Int) (sym is ∙ digit_class b hit)))
   | inr miss ↦ miss

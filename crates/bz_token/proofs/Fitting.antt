@@ -42,7 +42,7 @@ closing_class b h =
       ]
     ]
 
-bracket_class : (b : ℕ) → is_bracket_byte b ≡ true → class_of b ≡ mark
+pub bracket_class : (b : ℕ) → is_bracket_byte b ≡ true → class_of b ≡ mark
 bracket_class b h = elim (or_cases (is_opening_bracket b) (is_closing_bracket b) h) [
   | inl opens ↦ opening_class b opens
   | inr closes ↦ closing_class b closes

@@ -10,6 +10,8 @@ pub mod Scanning
 pub mod Progress
 pub mod Innermost
 pub mod Fitting
+pub mod Unique
+pub mod OneFault
 pub mod CutMunch
 pub mod CutSeen
 pub mod CutStrings

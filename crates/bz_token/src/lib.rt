@@ -5,6 +5,7 @@ mod brackets;
 mod cutter;
 mod fault;
 mod gap;
+pub mod laws;
 mod lexer;
 mod scan;
 mod scan_string;
