@@ -209,7 +209,7 @@ no_digit b c is never = elim (cases_Bool (is_ascii_digit b)) [
 ]
 
 -- the sign byte's class is mark
-mark_of : (b : ℕ) → can_start Sign (class_of b) ≡ true → class_of b ≡ mark
+pub mark_of : (b : ℕ) → can_start Sign (class_of b) ≡ true → class_of b ≡ mark
 mark_of b h = only (class_of b) h
   where
     only : (c : Class) → can_start Sign c ≡ true → c ≡ mark

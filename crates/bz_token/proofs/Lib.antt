@@ -12,6 +12,7 @@ pub mod Innermost
 pub mod Fitting
 pub mod Unique
 pub mod OneFault
+pub mod Stops
 pub mod CutMunch
 pub mod CutSeen
 pub mod CutStrings

@@ -1,6 +1,11 @@
 //! Laws on tokens: what a text is read as is determined.
 
-ghost use Rattle.std.specs.Prelude.{◌≡◌, ℕ, List};
+ghost use Rattle.std.specs.Prelude.{◌≡◌, ◌==◌, ◌∷◌, [], ℕ, List, true, false, codes};
+ghost use Rattle.std.specs.List.{list_any};
+ghost use Rattle.bz_token.specs.Ends.{stops, ends, is_note};
+ghost use Rattle.bz_token.specs.Lexical.{is_text, IsToken};
+ghost use Rattle.bz_token.specs.declared.token.Kind.{Kind};
+ghost use Rattle.bz_token.specs.declared.token.Kind.TheVariants.{Sign};
 ghost use Rattle.bz_token.specs.Places.{Placed};
 ghost use Rattle.bz_token.specs.Reading.{AreTokensOf};
 ghost use Rattle.bz_token.specs.Faults.{IsFault};
@@ -20,4 +25,19 @@ pub fn one_first_fault()
 /// A text that has tokens has no fault of its own.
 pub fn tokens_or_a_fault()
     ensures { (first depth : ℕ) (bytes : List ℕ) (ts : List Placed) (f : LexFault) → AreTokensOf first depth bytes ts → IsFault first depth bytes f → f ≡ OutOfMemory }
+{}
+
+/// What follows a text tells whether it is the token at its place.
+pub fn what_ends_a_token()
+    ensures ended { (kind : Kind) (text after : List ℕ) → is_text kind text ≡ true → ends kind text after ≡ true → IsToken kind text after }
+    ensures stopped { (kind : Kind) (text : List ℕ) (b : ℕ) (rest : List ℕ) → stops kind text b ≡ true → ends kind text (b ∷ rest) ≡ true }
+    ensures some { (kind : Kind) → is_text kind [] ≡ true → ⊥ }
+{}
+
+/// Bytes that end the texts before them: newlines all texts, white space and marks all but comments, and most bytes signs.
+pub fn bytes_that_end_tokens()
+    ensures newline { (kind : Kind) (text : List ℕ) → is_text kind text ≡ true → stops kind text 10 ≡ true }
+    ensures space { (kind : Kind) (text : List ℕ) → is_text kind text ≡ true → is_note kind ≡ false → stops kind text 32 ≡ true }
+    ensures mark { (kind : Kind) (text : List ℕ) (b : ℕ) → is_text kind text ≡ true → is_note kind ≡ false → list_any (λ c. b == c) (codes ".,:)]}") ≡ true → stops kind text b ≡ true }
+    ensures sign { (text : List ℕ) (b : ℕ) → is_text Sign text ≡ true → list_any (λ c. b == c) (codes "/*<>=") ≡ false → stops Sign text b ≡ true }
 {}

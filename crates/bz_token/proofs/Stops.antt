@@ -1,0 +1,229 @@
+-- What follows a text and ends it, exactly.
+use Rattle.std.proofs.Common.{◌≡◌, ℕ, zero, suc, ◌+◌, ◌<◌, ◌≤◌, ◌==◌, ◌&&◌, ◌||◌, List, [], ◌∷◌, ◌++◌, length, take, drop, Bool, true, false, not, refl, sym, ap, ap₂, subst, ◌∙◌, arith, inl, inr, length-append, length-drop, append_assoc, one-add}
+use Rattle.std.specs.Prelude.{Option, Some, None, is_some, bytes_eq, codes}
+use Rattle.std.specs.List.{list_all, list_any, prefix_len}
+use Rattle.std.specs.Char.{is_ascii_digit}
+use Rattle.std.proofs.lemmas.Bool.{cases_Bool, cases_lt, and_parts, or_cases, false≢true, eqb-true}
+use Rattle.std.proofs.lemmas.Bool.Decides.{nat_tests, Decides-eqb}
+use Rattle.std.proofs.lemmas.List.{drop-append-le}
+use Rattle.std.proofs.lemmas.List.Folds.{list_any-append}
+use Rattle.bz_token.specs.declared.scan_string.Opening.{Opening}
+use Rattle.bz_token.specs.declared.scan_string.Quotes.{Quotes}
+use Rattle.bz_token.specs.declared.scan_string.Escape.TheVariants.{Unescaped}
+use Rattle.bz_token.specs.declared.token.Kind.{Kind}
+use Rattle.bz_token.specs.declared.token.Kind.TheVariants.{Ident, Word, Int, Text, Sign, Line, Note, Kept}
+use Rattle.bz_token.specs.Lexical.{is_word_byte, is_quote, is_blank, is_newline, is_one_of, signs, is_sign, keywords, is_keyword, is_name, is_number, is_string, is_comment, ends_blank, closes, closing_row, are_two, opens_behind, opening, opening_length, is_long, is_text, begins, counts, is_number_kind, is_string_kind, IsToken}
+use Rattle.bz_token.specs.Ends.{is_prefix, is_empty_string, stops, stops_at, is_note, ends}
+use Rattle.bz_token.proofs.Classes.{Class, letter, digit, quote, newline, hash, mark, unknown, class_of, can_start, text_class, digit_class, name_parts, keyword_name, number_starts, one_of, same_bytes, empty_no_text}
+use Rattle.bz_token.proofs.Openings.{opens_r, opens_b, opens_rb, opens_br, OpensMore, opening_more, opening_facts, no_opening, ends_name}
+use Rattle.bz_token.proofs.Ends.{name_token, number_token, sign_token, line_token, note_token, string_token, string_opens, stops_run, number_words, run_length, counts_free, no_digit, mark_of, comment_parts}
+
+keyword_no_prefix : (text : List ℕ) → is_keyword text ≡ true → not (is_prefix text) ≡ true
+unfolding keywords
+keyword_no_prefix text is = one_of (λ s. not (is_prefix s)) keywords text refl is
+
+not_true : (x : Bool) → not x ≡ true → x ≡ false
+not_true true h = absurd (false≢true h)
+not_true false h = refl
+
+not_false : (x : Bool) → x ≡ false → not x ≡ true
+not_false x h = rw h refl
+
+-- a text is the token where what follows ends it
+pub token_ended : (kind : Kind) (text after : List ℕ) → is_text kind text ≡ true → ends kind text after ≡ true → IsToken kind text after
+token_ended kind [] after is end = absurd (empty_no_text kind is)
+token_ended Ident (b ∷ bs) after is end = name_token Ident b bs after is (and_parts (is_name (b ∷ bs)) (not (is_keyword (b ∷ bs))) is).0 (named after end)
+  where
+    named : (after : List ℕ) → stops_at Ident (b ∷ bs) after ≡ true → ends_name (b ∷ bs) after ≡ true
+    named [] h = refl
+    named (c ∷ cs) h = h
+token_ended Word (b ∷ bs) after is end = name_token Word b bs after is (keyword_name (b ∷ bs) is) (named after end)
+  where
+    named : (after : List ℕ) → stops_at Word (b ∷ bs) after ≡ true → ends_name (b ∷ bs) after ≡ true
+    named [] h = refl
+    named (c ∷ cs) h = both (is_word_byte c) (is_quote c) (is_prefix (b ∷ bs)) h (not_true (is_prefix (b ∷ bs)) (keyword_no_prefix (b ∷ bs) is))
+      where
+        both : (x y z : Bool) → not x ≡ true → z ≡ false → (not x && not (y && z)) ≡ true
+        both x true z h none = rw (h, none) refl
+        both x false z h none = rw h refl
+token_ended Int (b ∷ bs) after is end = number_token b bs after is (stops_run after (first after end))
+  where
+    first : (after : List ℕ) → stops_at Int (b ∷ bs) after ≡ true → stops_at Int [] after ≡ true
+    first [] h = refl
+    first (c ∷ cs) h = h
+token_ended Text (b ∷ bs) after is end = let s = string_opens (b ∷ bs) is in string_token (b ∷ bs) after s.0 s.1 s.2 end
+token_ended Sign (b ∷ bs) after is end = sign_token b bs after is end
+token_ended Line (b ∷ bs) after is end = subst (λ t. IsToken Line t after) (sym (same_bytes (b ∷ bs) (10 ∷ []) is)) (line_token after)
+token_ended Note (b ∷ bs) after is end = note_token b bs after is end
+token_ended Kept (b ∷ bs) after is end = absurd (false≢true is)
+
+-- bytes that stand second or later in a sign
+abbrev pub is_later : ℕ → Bool
+is_later b = list_any (λ c. b == c) (codes "/*<>=")
+
+sign_later : (text : List ℕ) → is_sign text ≡ true → list_all is_later (drop 1 text) ≡ true
+unfolding signs
+sign_later text is = one_of (λ s. list_all is_later (drop 1 s)) signs text refl is
+
+all_last : (p : ℕ → Bool) (bs : List ℕ) (m : ℕ) → list_all p (bs ++ m ∷ []) ≡ true → p m ≡ true
+all_last p [] m h = (and_parts (p m) true h).0
+all_last p (b ∷ bs) m h = all_last p bs m (and_parts (p b) (list_all p (bs ++ m ∷ [])) h).1
+
+-- another byte stops every sign
+pub sign_stops : (text : List ℕ) (b : ℕ) → is_text Sign text ≡ true → is_later b ≡ false → stops Sign text b ≡ true
+sign_stops [] b is later = absurd (empty_no_text Sign is)
+sign_stops (a ∷ bs) b is later = elim (cases_Bool (is_sign ((a ∷ bs) ++ b ∷ []))) [
+  | inr miss ↦ not_false _ miss
+  | inl hit ↦ absurd (false≢true (sym later ∙ all_last is_later bs b (sign_later ((a ∷ bs) ++ b ∷ []) hit)))
+]
+
+-- a byte that is no letter, digit, underscore, quote nor a later byte of a sign stops every text but a comment's
+pub plain_stops : (kind : Kind) (text : List ℕ) (b : ℕ) → is_text kind text ≡ true → is_note kind ≡ false → is_word_byte b ≡ false → is_quote b ≡ false → is_later b ≡ false → stops kind text b ≡ true
+plain_stops Ident text b is note word quoted later = rw (word, quoted) refl
+plain_stops Word text b is note word quoted later = rw word refl
+plain_stops Int text b is note word quoted later = rw word refl
+plain_stops Text text b is note word quoted later =
+    let s = string_opens text is in
+    not_false _ (ap (λ o. is_empty_string o text b) s.1 ∙ apart (not s.0.quotes.long && (length text == s.0.prefix + 2)) (b == s.0.quotes.byte) (other s.0.quotes.byte (opening_facts text s.0 s.1).quoted))
+  where
+    apart : (x y : Bool) → y ≡ false → (x && y) ≡ false
+    apart true y h = h
+    apart false y h = refl
+
+    other : (q : ℕ) → is_quote q ≡ true → (b == q) ≡ false
+    other q h = elim (cases_Bool (b == q)) [
+      | inr miss ↦ miss
+      | inl hit ↦ absurd (false≢true (sym quoted ∙ ap is_quote (eqb-true b q hit) ∙ h))
+    ]
+plain_stops Sign text b is note word quoted later = sign_stops text b is later
+plain_stops Line text b is note word quoted later = refl
+plain_stops Note text b is note word quoted later = absurd (false≢true (sym note))
+plain_stops Kept text b is note word quoted later = refl
+
+-- one byte that stops a text ends it, whatever follows
+pub stopped_ends : (kind : Kind) (text : List ℕ) (b : ℕ) (rest : List ℕ) → stops kind text b ≡ true → ends kind text (b ∷ rest) ≡ true
+stopped_ends Note text b rest h = let same : b ≡ 10 = eqb-true b 10 h in rw same refl
+stopped_ends Ident text b rest h = h
+stopped_ends Word text b rest h = h
+stopped_ends Int text b rest h = h
+stopped_ends Text text b rest h = h
+stopped_ends Sign text b rest h = h
+stopped_ends Line text b rest h = h
+stopped_ends Kept text b rest h = h
+
+pub newline_stops : (kind : Kind) (text : List ℕ) → is_text kind text ≡ true → stops kind text 10 ≡ true
+newline_stops Note text is = refl
+newline_stops Ident text is = plain_stops Ident text 10 is refl refl refl refl
+newline_stops Word text is = plain_stops Word text 10 is refl refl refl refl
+newline_stops Int text is = plain_stops Int text 10 is refl refl refl refl
+newline_stops Text text is = plain_stops Text text 10 is refl refl refl refl
+newline_stops Sign text is = plain_stops Sign text 10 is refl refl refl refl
+newline_stops Line text is = refl
+newline_stops Kept text is = refl
+
+pub space_stops : (kind : Kind) (text : List ℕ) → is_text kind text ≡ true → is_note kind ≡ false → stops kind text 32 ≡ true
+space_stops kind text is note = plain_stops kind text 32 is note refl refl refl
+
+abbrev is_end_mark : ℕ → Bool
+is_end_mark b = list_any (λ c. b == c) (codes ".,:)]}")
+
+mark_word : (b : ℕ) → is_end_mark b ≡ true → is_word_byte b ≡ false
+mark_word b h = grind (arith, nat_tests)
+
+mark_quote : (b : ℕ) → is_end_mark b ≡ true → is_quote b ≡ false
+mark_quote b h = grind (arith, nat_tests)
+
+mark_later : (b : ℕ) → is_end_mark b ≡ true → is_later b ≡ false
+mark_later b h = grind (arith, nat_tests)
+
+pub mark_stops : (kind : Kind) (text : List ℕ) (b : ℕ) → is_text kind text ≡ true → is_note kind ≡ false → list_any (λ c. b == c) (codes ".,:)]}") ≡ true → stops kind text b ≡ true
+mark_stops kind text b is note h = plain_stops kind text b is note (mark_word b h) (mark_quote b h) (mark_later b h)
+
+-- a prefix before a quote opens a string
+prefix_opens : (text : List ℕ) (b : ℕ) (bs : List ℕ) → is_prefix text ≡ true → is_quote b ≡ true → is_some (opening (text ++ b ∷ bs)) ≡ true
+prefix_opens text b bs is quoted =
+    elim (or_cases (bytes_eq text (codes "r")) (is_one_of (codes "b" ∷ codes "rb" ∷ codes "br" ∷ []) text) is) [
+      | inl r ↦ at (codes "r") (same_bytes text (codes "r") r) (ap is_some (opens_r 114 (b ∷ bs) refl (no_letter b 98 quoted refl)) ∙ behind 1)
+      | inr two ↦ elim (or_cases (bytes_eq text (codes "b")) (is_one_of (codes "rb" ∷ codes "br" ∷ []) text) two) [
+        | inl p ↦ at (codes "b") (same_bytes text (codes "b") p) (ap is_some (opens_b 98 (b ∷ bs) refl refl (no_letter b 114 quoted refl)) ∙ behind 1)
+        | inr three ↦ elim (or_cases (bytes_eq text (codes "rb")) (is_one_of (codes "br" ∷ []) text) three) [
+          | inl p ↦ at (codes "rb") (same_bytes text (codes "rb") p) (ap is_some (opens_rb 114 98 (b ∷ bs) refl refl) ∙ behind 2)
+          | inr four ↦ elim (or_cases (bytes_eq text (codes "br")) false four) [
+            | inl p ↦ at (codes "br") (same_bytes text (codes "br") p) (ap is_some (opens_br 98 114 (b ∷ bs) refl refl refl) ∙ behind 2)
+            | inr none ↦ absurd (false≢true none)
+          ]
+        ]
+      ]
+    ]
+  where
+    no_letter : (b c : ℕ) → is_quote b ≡ true → is_quote c ≡ false → (b == c) ≡ false
+    no_letter b c quoted none = elim (cases_Bool (b == c)) [
+      | inr miss ↦ miss
+      | inl hit ↦ absurd (false≢true (sym none ∙ ap is_quote (sym (eqb-true b c hit)) ∙ quoted))
+    ]
+
+    behind : (n : ℕ) → is_some (opens_behind n (b ∷ bs)) ≡ true
+    behind n = rw quoted refl
+
+    at : (t : List ℕ) → text ≡ t → is_some (opening (t ++ b ∷ bs)) ≡ true → is_some (opening (text ++ b ∷ bs)) ≡ true
+    at t same h = ap (λ x. is_some (opening (x ++ b ∷ bs))) same ∙ h
+
+-- where a kind of its own counts no string opens
+no_string_opens : (place text : List ℕ) (kind : Kind) → is_string_kind kind ≡ false → counts place kind text ≡ true → opening place ≡ None
+no_string_opens place text kind no_text counted = by (opening place) refl
+  where
+    by : (o : Option Opening) → opening place ≡ o → opening place ≡ None
+    by None e = e
+    by (Some o) e = absurd (false≢true (sym no_text ∙ (and_parts (is_string_kind kind) (is_long (opening text) || not o.quotes.long) (rw (e, counts) at counted)).0))
+
+not_nil : (b : ℕ) (bs : List ℕ) → b ∷ bs ≡ [] → ⊥
+not_nil b bs e = cc
+
+-- a name with one byte more
+name_more : (b : ℕ) (bs : List ℕ) (c : ℕ) → is_name (b ∷ bs) ≡ true → is_word_byte c ≡ true → is_name ((b ∷ bs) ++ c ∷ []) ≡ true
+name_more b bs c name word =
+    let parts = name_parts b bs name in
+    let first = parts.1 in
+    let plain = parts.0 in
+    let more = all_more bs parts.2 in
+    rw (first, plain, more) refl
+  where
+    all_more : (xs : List ℕ) → list_all is_word_byte xs ≡ true → list_all is_word_byte (xs ++ c ∷ []) ≡ true
+    all_more [] h = rw word refl
+    all_more (x ∷ xs) h =
+        let p = and_parts (is_word_byte x) (list_all is_word_byte xs) h in
+        let here = p.0 in
+        let rest = all_more xs p.1 in
+        rw (here, rest) refl
+
+-- what follows a name that is a token is no letter, digit or underscore, nor a quote behind a prefix
+name_ends : (kind : Kind) (b : ℕ) (bs after : List ℕ) → is_string_kind kind ≡ false → is_name (b ∷ bs) ≡ true → IsToken kind (b ∷ bs) after → ends_name (b ∷ bs) after ≡ true
+name_ends kind b bs [] no_text name token = refl
+name_ends kind b bs (c ∷ cs) no_text name token = both (is_word_byte c) (is_quote c && is_prefix (b ∷ bs)) no_word no_quote
+  where
+    both : (x y : Bool) → x ≡ false → y ≡ false → (not x && not y) ≡ true
+    both x y p q = rw (p, q) refl
+
+    unquoted : opening ((b ∷ bs) ++ c ∷ cs) ≡ None
+    unquoted = no_string_opens ((b ∷ bs) ++ c ∷ cs) (b ∷ bs) kind no_text token.counted
+
+    no_quote : (is_quote c && is_prefix (b ∷ bs)) ≡ false
+    no_quote = elim (cases_Bool (is_quote c && is_prefix (b ∷ bs))) [
+      | inr miss ↦ miss
+      | inl hit ↦
+          let p = and_parts (is_quote c) (is_prefix (b ∷ bs)) hit in
+          absurd (false≢true (sym (ap is_some unquoted) ∙ prefix_opens (b ∷ bs) c cs p.1 p.0))
+    ]
+
+    no_word : is_word_byte c ≡ false
+    no_word = elim (cases_Bool (is_word_byte c)) [
+      | inr miss ↦ miss
+      | inl hit ↦
+          let longer = name_more b bs c name hit in
+          let free = counts_free ((b ∷ bs) ++ c ∷ cs) ((b ∷ bs) ++ c ∷ []) in
+          let plain = (name_parts b bs name).0 in
+          absurd (elim (cases_Bool (is_keyword ((b ∷ bs) ++ c ∷ []))) [
+            | inl word ↦ not_nil c [] (token.longest Word (c ∷ []) cs refl word (free Word unquoted plain))
+            | inr none ↦ not_nil c [] (token.longest Ident (c ∷ []) cs refl (rw (longer, none) refl) (free Ident unquoted plain))
+          ])
+    ]
