@@ -30,6 +30,7 @@ pub fn tokens_or_a_fault()
 /// What follows a text tells whether it is the token at its place.
 pub fn what_ends_a_token()
     ensures ended { (kind : Kind) (text after : List ℕ) → is_text kind text ≡ true → ends kind text after ≡ true → IsToken kind text after }
+    ensures exactly { (kind : Kind) (text after : List ℕ) → IsToken kind text after → ends kind text after ≡ true }
     ensures stopped { (kind : Kind) (text : List ℕ) (b : ℕ) (rest : List ℕ) → stops kind text b ≡ true → ends kind text (b ∷ rest) ≡ true }
     ensures some { (kind : Kind) → is_text kind [] ≡ true → ⊥ }
 {}
