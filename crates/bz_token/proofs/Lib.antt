@@ -13,6 +13,7 @@ pub mod Fitting
 pub mod Unique
 pub mod OneFault
 pub mod Stops
+pub mod Joins
 pub mod CutMunch
 pub mod CutSeen
 pub mod CutStrings
