@@ -1,8 +1,8 @@
 -- Readings that follow one another.
-use Rattle.std.proofs.Common.{◌≡◌, ℕ, zero, suc, ◌+◌, ◌<◌, ◌≤◌, ◌==◌, ◌&&◌, ◌||◌, List, [], ◌∷◌, ◌++◌, length, take, drop, cond, Bool, true, false, not, refl, sym, ap, ap₂, subst, ◌∙◌, arith, inl, inr, length-append, append_assoc, append-nil, one-add}
-use Rattle.std.specs.Prelude.{count_by, nat_lt}
+use Rattle.std.proofs.Common.{◌≡◌, ℕ, ◌<◌, ◌≤◌, ◌==◌, ◌||◌, List, [], ◌∷◌, ◌++◌, length, take, Bool, true, false, not, refl, sym, ap, ap₂, subst, ◌∙◌, arith, inl, inr, append_assoc, append-nil, one-add}
+use Rattle.std.specs.Prelude.{nat_lt}
 use Rattle.std.specs.List.{list_all, list_any, prefix_len}
-use Rattle.std.proofs.lemmas.Bool.{cases_Bool, and_parts, or_cases, false≢true, eqb-true}
+use Rattle.std.proofs.lemmas.Bool.{cases_Bool, and_parts, false≢true}
 use Rattle.std.proofs.lemmas.Bool.Decides.{nat_tests}
 use Rattle.std.proofs.lemmas.List.Folds.{list_any-append}
 use Rattle.bz_token.specs.declared.token.Kind.{Kind}
@@ -10,14 +10,14 @@ use Rattle.bz_token.specs.declared.token.Kind.TheVariants.{Ident, Word, Int, Tex
 use Rattle.bz_token.specs.Places.{Placed, line_at, column_from, column_at}
 use Rattle.bz_token.specs.Lexical.{is_newline, is_blank, is_text, IsToken}
 use Rattle.bz_token.specs.Ends.{ends, stops_at}
-use Rattle.bz_token.specs.Brackets.{is_inside, is_line, open_behind, open_tokens}
-use Rattle.bz_token.specs.Reading.{is_gap, begins_gap, Piece, IsPiece, IsReading, open_after, bytes_of, token_of, tokens_of, AreTokensOf}
+use Rattle.bz_token.specs.Brackets.{is_inside, is_line, open_behind}
+use Rattle.bz_token.specs.Reading.{is_gap, Piece, IsPiece, IsReading, open_after, bytes_of, token_of, tokens_of, AreTokensOf}
 use Rattle.bz_token.specs.FreshStart.{ends_in_line, AreLinesOf}
 use Rattle.bz_token.proofs.Classes.{same_bytes}
 use Rattle.bz_token.proofs.Ends.{line_token}
 use Rattle.bz_token.proofs.Stops.{token_ended, token_ends}
 use Rattle.bz_token.proofs.Progress.{newlines, newlines-append, column_from-append, reading_bytes, lines_of}
-use Rattle.bz_token.proofs.Unique.{one_piece, one_reading, IsStuck, gap_stuck, same_fronts}
+use Rattle.bz_token.proofs.Unique.{one_piece, IsStuck, gap_stuck, same_fronts}
 
 -- white space up to a newline stays so, whatever follows
 note_more : (after b : List ℕ) → list_any is_newline after ≡ true → take (prefix_len (λ c. not (is_newline c)) (after ++ b)) (after ++ b) ≡ take (prefix_len (λ c. not (is_newline c)) after) after
@@ -193,9 +193,9 @@ joined_tokens first depth ps qs a r line =
     let below = lines_before depth [] first [] [] ps a (line_at first (bytes_of ps)) r line refl refl in
     tokens_of-append first [] [] ps qs
     ∙ ap (λ ts. tokens_of first [] [] ps ++ ts)
-      (ap (λ x. tokens_of first x (lines_of first [] [] ps) qs) (sym (append-nil (bytes_of ps)))
-      ∙ tokens_shift first (bytes_of ps) [] [] (lines_of first [] [] ps) qs (column_behind depth ps a r line) below
-      ∙ ap (λ x. tokens_of (line_at first x) [] [] qs) (sym whole))
+    (ap (λ x. tokens_of first x (lines_of first [] [] ps) qs) (sym (append-nil (bytes_of ps)))
+    ∙ tokens_shift first (bytes_of ps) [] [] (lines_of first [] [] ps) qs (column_behind depth ps a r line) below
+    ∙ ap (λ x. tokens_of (line_at first x) [] [] qs) (sym whole))
 
 -- the tokens of lines, and of the text behind them
 pub tokens_behind_lines : (first depth : ℕ) (a b : List ℕ) (ts us : List Placed) → AreLinesOf first depth a ts → AreTokensOf (line_at first a) depth b us → AreTokensOf first depth (a ++ b) (ts ++ us)

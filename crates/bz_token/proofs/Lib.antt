@@ -14,6 +14,7 @@ pub mod Unique
 pub mod OneFault
 pub mod Stops
 pub mod Joins
+pub mod FaultJoins
 pub mod CutMunch
 pub mod CutSeen
 pub mod CutStrings

@@ -1,23 +1,21 @@
 -- What follows a text and ends it, exactly.
-use Rattle.std.proofs.Common.{◌≡◌, ℕ, zero, suc, ◌+◌, ◌<◌, ◌≤◌, ◌==◌, ◌&&◌, ◌||◌, List, [], ◌∷◌, ◌++◌, length, take, drop, Bool, true, false, not, refl, sym, ap, ap₂, subst, ◌∙◌, arith, inl, inr, length-append, length-drop, append_assoc, one-add, take-append-drop}
+use Rattle.std.proofs.Common.{◌≡◌, ℕ, ◌+◌, ◌<◌, ◌==◌, ◌&&◌, ◌||◌, List, [], ◌∷◌, ◌++◌, length, take, drop, Bool, true, false, not, refl, sym, ap, subst, ◌∙◌, arith, inl, inr, length-drop, append_assoc, one-add, take-append-drop}
 use Rattle.std.specs.Prelude.{Option, Some, None, is_some, bytes_eq, codes}
 use Rattle.std.specs.List.{list_all, list_any, prefix_len}
-use Rattle.std.specs.Char.{is_ascii_digit}
-use Rattle.std.proofs.lemmas.Bool.{cases_Bool, cases_lt, and_parts, or_cases, false≢true, eqb-true}
-use Rattle.std.proofs.lemmas.Bool.Decides.{nat_tests, Decides-eqb}
+use Rattle.std.proofs.lemmas.Bool.{cases_Bool, and_parts, or_cases, false≢true, eqb-true}
+use Rattle.std.proofs.lemmas.Bool.Decides.{nat_tests}
 use Rattle.std.proofs.lemmas.List.{drop-append-le}
 use Rattle.std.proofs.lemmas.List.Folds.{list_any-append}
 use Rattle.bz_token.specs.declared.scan_string.Opening.{Opening}
-use Rattle.bz_token.specs.declared.scan_string.Quotes.{Quotes}
 use Rattle.bz_token.specs.declared.scan_string.Escape.TheVariants.{Unescaped}
 use Rattle.bz_token.specs.declared.token.Kind.{Kind}
 use Rattle.bz_token.specs.declared.token.Kind.TheVariants.{Ident, Word, Int, Text, Sign, Line, Note, Kept}
-use Rattle.bz_token.specs.Lexical.{is_word_byte, is_quote, is_blank, is_newline, is_one_of, signs, is_sign, keywords, is_keyword, is_name, is_number, is_string, is_comment, ends_blank, closes, closing_row, are_two, opens_behind, opening, opening_length, is_long, is_text, begins, counts, is_number_kind, is_string_kind, IsToken}
+use Rattle.bz_token.specs.Lexical.{is_word_byte, is_quote, is_blank, is_newline, is_one_of, signs, is_sign, keywords, is_keyword, is_name, is_comment, ends_blank, closes, closing_row, are_two, opens_behind, opening, opening_length, is_long, is_text, counts, is_string_kind, IsToken}
 use Rattle.bz_token.specs.Ends.{is_prefix, is_empty_string, stops, stops_at, is_note, ends}
 use Rattle.bz_token.proofs.Classes.{hash as hash_class}
-use Rattle.bz_token.proofs.Classes.{Class, letter, digit, quote, newline, mark, unknown, class_of, can_start, text_class, digit_class, name_parts, keyword_name, number_starts, one_of, same_bytes, empty_no_text}
-use Rattle.bz_token.proofs.Openings.{opens_r, opens_b, opens_rb, opens_br, OpensMore, opening_more, opening_facts, no_opening, ends_name}
-use Rattle.bz_token.proofs.Ends.{name_token, number_token, sign_token, line_token, note_token, string_token, string_opens, stops_run, number_words, run_length, counts_free, no_digit, mark_of, comment_parts}
+use Rattle.bz_token.proofs.Classes.{mark, class_of, can_start, text_class, digit_class, name_parts, keyword_name, number_starts, one_of, same_bytes, empty_no_text}
+use Rattle.bz_token.proofs.Openings.{opens_r, opens_b, opens_rb, opens_br, opening_more, opening_facts, no_opening, ends_name}
+use Rattle.bz_token.proofs.Ends.{name_token, number_token, sign_token, line_token, note_token, string_token, string_opens, stops_run, number_words, counts_free, no_digit, mark_of, comment_parts}
 
 keyword_no_prefix : (text : List ℕ) → is_keyword text ≡ true → not (is_prefix text) ≡ true
 unfolding keywords
@@ -282,13 +280,13 @@ string_ends text (b ∷ bs) token =
           let size = eqb-true (length text) (o.prefix + 2) front.1 in
           let quotes : o.quotes ≡ record { byte = o.quotes.byte; long = false } = λ i. record { byte = o.quotes.byte; long = short i } in
           let closed' : closes (record { byte = o.quotes.byte; long = false }) 0 Unescaped (drop (o.prefix + 1) text) ≡ true =
-            sym (ap (λ x. closes x 0 Unescaped (drop (o.prefix + closing_row x.long) text)) quotes) ∙ closed in
+          sym (ap (λ x. closes x 0 Unescaped (drop (o.prefix + closing_row x.long) text)) quotes) ∙ closed in
           let more = opening_more text (b ∷ bs) o opens in
           let facts = opening_facts (text ++ b ∷ bs) more.more more.opens in
           let tail = drop-append-le (o.prefix + 1) text (b ∷ bs) (omega (arith, size)) in
           let two = last (drop (o.prefix + 1) text) (omega (arith, size, length-drop (o.prefix + 1) text)) closed' parts.1 in
           let long : more.more.quotes.long ≡ true =
-            facts.long ∙ ap (λ n. are_two more.more.quotes.byte (drop (n + 1) (text ++ b ∷ bs))) more.prefix ∙ ap (λ q. are_two q (drop (o.prefix + 1) (text ++ b ∷ bs))) more.byte ∙ ap (are_two o.quotes.byte) tail ∙ two in
+          facts.long ∙ ap (λ n. are_two more.more.quotes.byte (drop (n + 1) (text ++ b ∷ bs))) more.prefix ∙ ap (λ q. are_two q (drop (o.prefix + 1) (text ++ b ∷ bs))) more.byte ∙ ap (are_two o.quotes.byte) tail ∙ two in
           let both = and_parts true (is_long (opening text) || not more.more.quotes.long) (rw (more.opens, counts) at token.counted) in
           absurd (false≢true (sym (none (is_long (opening text)) more.more.quotes.long (ap is_long opens ∙ short) long) ∙ both.1))
     ]

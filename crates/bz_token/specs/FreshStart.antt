@@ -1,6 +1,6 @@
 -- Reading starts afresh behind a newline outside brackets: a text that such a newline ends leaves nothing to what follows
 -- but its number of lines.
-use Rattle.std.specs.Prelude.{◌≡◌, ℕ, List, [], ◌∷◌, Bool, true, false}
+use Rattle.std.specs.Prelude.{◌≡◌, ℕ, List, [], ◌∷◌, Bool, true}
 use Rattle.bz_token.specs.Brackets.{is_line}
 use Rattle.bz_token.specs.Places.{Placed}
 use Rattle.bz_token.specs.Reading.{Piece, IsReading, open_after, tokens_of}

@@ -1,12 +1,13 @@
 //! Laws on tokens: what a text is read as is determined.
 
-ghost use Rattle.std.specs.Prelude.{◌≡◌, ◌==◌, ◌∷◌, [], ℕ, List, true, false, codes};
+ghost use Rattle.std.specs.Prelude.{◌≡◌, ◌↔◌, ◌==◌, ◌∷◌, ◌++◌, [], ℕ, List, true, false, codes};
 ghost use Rattle.std.specs.List.{list_any};
 ghost use Rattle.bz_token.specs.Ends.{stops, ends, is_note};
 ghost use Rattle.bz_token.specs.Lexical.{is_text, IsToken};
 ghost use Rattle.bz_token.specs.declared.token.Kind.{Kind};
 ghost use Rattle.bz_token.specs.declared.token.Kind.TheVariants.{Sign};
-ghost use Rattle.bz_token.specs.Places.{Placed};
+ghost use Rattle.bz_token.specs.Places.{Placed, line_at};
+ghost use Rattle.bz_token.specs.FreshStart.{AreLinesOf};
 ghost use Rattle.bz_token.specs.Reading.{AreTokensOf};
 ghost use Rattle.bz_token.specs.Faults.{IsFault};
 ghost use Rattle.bz_token.specs.declared.fault.LexFault.{LexFault};
@@ -41,4 +42,12 @@ pub fn bytes_that_end_tokens()
     ensures space { (kind : Kind) (text : List ℕ) → is_text kind text ≡ true → is_note kind ≡ false → stops kind text 32 ≡ true }
     ensures mark { (kind : Kind) (text : List ℕ) (b : ℕ) → is_text kind text ≡ true → is_note kind ≡ false → list_any (λ c. b == c) (codes ".,:)]}") ≡ true → stops kind text b ≡ true }
     ensures sign { (text : List ℕ) (b : ℕ) → is_text Sign text ≡ true → list_any (λ c. b == c) (codes "/*<>=") ≡ false → stops Sign text b ≡ true }
+{}
+
+/// Behind a text that a newline outside brackets ends, reading starts afresh: what follows has the tokens, or the first
+/// fault, that it has as a text of its own with its first line.
+pub fn reading_starts_afresh()
+    ensures tokens { (first depth : ℕ) (a b : List ℕ) (ts us : List Placed) → AreLinesOf first depth a ts → AreTokensOf (line_at first a) depth b us → AreTokensOf first depth (a ++ b) (ts ++ us) }
+    ensures only { (first depth : ℕ) (a b : List ℕ) (ts vs : List Placed) → AreLinesOf first depth a ts → AreTokensOf first depth (a ++ b) vs → (us : List Placed) × AreTokensOf (line_at first a) depth b us × (vs ≡ ts ++ us) }
+    ensures fault { (first depth : ℕ) (a b : List ℕ) (ts : List Placed) (f : LexFault) → AreLinesOf first depth a ts → (IsFault first depth (a ++ b) f ↔ IsFault (line_at first a) depth b f) }
 {}
