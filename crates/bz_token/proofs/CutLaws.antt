@@ -31,10 +31,10 @@ line_cut : (s : Scan) (seen : List ℕ) (b : ℕ) (bs : List ℕ) → is_ended s
 line_cut s seen b bs h = rw (h, seen_lines) refl
 
 -- a line that has ended has its newline
-abbrev EndsRight : Scan → List ℕ → Type 0
+abbrev pub EndsRight : Scan → List ℕ → Type 0
 EndsRight s seen = is_ended s.inside ≡ true → (xs : List ℕ) × (seen ≡ xs ++ 10 ∷ [])
 
-ends_right : (s : Scan) (seen : List ℕ) (b : ℕ) → EndsRight (next s b) (seen ++ b ∷ [])
+pub ends_right : (s : Scan) (seen : List ℕ) (b : ℕ) → EndsRight (next s b) (seen ++ b ∷ [])
 ends_right s seen b ended = elim (cases_Bool (b == 10)) [
   | inl is ↦ (seen, ap (λ c. seen ++ c ∷ []) (eqb-true b 10 is))
   | inr differs ↦ absurd (both_ways _ (next_inside s.inside s.depth s.kind b differs) ended)
@@ -105,7 +105,7 @@ same_takes Notes b xs ys e = refl
 same_takes Done b xs ys e = refl
 same_takes (InBlock word) b xs ys e = ap (λ t. is_white b || t) (same_branch word (b ∷ xs) (b ∷ ys) e)
 
-first_word : (b : ℕ) (more rest : List ℕ) → ((rest ≡ []) ⊎ ((xs : List ℕ) × (b ∷ more ≡ xs ++ 10 ∷ []))) → word_at (b ∷ more) ≡ word_at (b ∷ (more ++ rest))
+pub first_word : (b : ℕ) (more rest : List ℕ) → ((rest ≡ []) ⊎ ((xs : List ℕ) × (b ∷ more ≡ xs ++ 10 ∷ []))) → word_at (b ∷ more) ≡ word_at (b ∷ (more ++ rest))
 first_word b more rest (inl none) = rw (none, append-nil) refl
 first_word b more rest (inr e) =
     let whole : b ∷ (more ++ rest) ≡ e.0 ++ 10 ∷ rest = ap (λ t. t ++ rest) e.1 ∙ append_assoc e.0 (10 ∷ []) rest in

@@ -10,4 +10,5 @@ pub mod CutBehind
 pub mod CutAnswers
 pub mod CutWords
 pub mod CutTests
+pub mod ChunkLaws
 mod ChunkExamples
