@@ -1,5 +1,5 @@
 -- Laws of the definition of chunks: a text is its chunks, the first is cut off alone, and a newline stands between two.
-use Rattle.std.proofs.Common.{◌≡◌, ℕ, ◌<◌, ◌⊎◌, List, [], ◌∷◌, ◌++◌, Bool, true, false, length, refl, sym, ap, ◌∙◌, arith, inl, inr, append_assoc, append-nil}
+use Rattle.std.proofs.Common.{◌≡◌, ℕ, ◌<◌, ◌⊎◌, List, [], ◌∷◌, ◌++◌, true, length, refl, sym, ap, ◌∙◌, arith, inl, inr, append_assoc, append-nil}
 use Rattle.std.proofs.lemmas.Bool.{cases_Bool}
 use Rattle.std.specs.List.{concat}
 use Rattle.bz_token.specs.declared.cutter.scan.LineKind.TheVariants.{Blank}
@@ -23,7 +23,9 @@ record FirstCut (s : Scan) (stage : Stage) (before part bytes : List ℕ) : Type
 
 first_cut : (bytes : List ℕ) (s : Scan) (stage : Stage) (before part : List ℕ) → EndsRight s part → FirstCut s stage before part bytes
 first_cut [] s stage before part right = record {
-  front = []; rest = []; bytes_are = refl;
+  front = [];
+  rest = [];
+  bytes_are = refl;
   chunks_are = ap (λ c. c ∷ []) (sym (append-nil (before ++ part)));
   alone = ap (λ c. c ∷ []) (sym (append-nil (before ++ part)));
   ends = inl refl;
@@ -33,7 +35,9 @@ first_cut (b ∷ bs) s stage before part right = elim (cases_Bool (is_ended s.in
       let f = first_cut bs (next s b) stage before (part ++ b ∷ []) (ends_right s part b) in
       let whole : (before ++ (part ++ b ∷ [])) ++ f.front ≡ (before ++ part) ++ b ∷ f.front = simp append_assoc in
       record {
-        front = b ∷ f.front; rest = f.rest; bytes_are = ap (λ t. b ∷ t) f.bytes_are;
+        front = b ∷ f.front;
+        rest = f.rest;
+        bytes_are = ap (λ t. b ∷ t) f.bytes_are;
         chunks_are = chunk_step s stage before part b bs inside ∙ f.chunks_are ∙ ap (λ c. c ∷ chunks_seen f.rest) whole;
         alone = chunk_step s stage before part b f.front inside ∙ f.alone ∙ ap (λ c. c ∷ []) whole;
         ends = elim f.ends [ inl none ↦ inl none | inr e ↦ inr (e.0, sym (append_assoc part (b ∷ []) f.front) ∙ e.1) ];
@@ -43,10 +47,12 @@ first_cut (b ∷ bs) s stage before part right = elim (cases_Bool (is_ended s.in
         let f = first_cut bs (next s b) (stage_behind stage (line_here s part)) (before ++ part) (b ∷ []) (ends_right s [] b) in
         let whole : ((before ++ part) ++ b ∷ []) ++ f.front ≡ (before ++ part) ++ b ∷ f.front = append_assoc (before ++ part) (b ∷ []) f.front in
         let here : takes (stage_behind stage (line_here s part)) (b ∷ f.front) ≡ true =
-            same_takes (stage_behind stage (line_here s part)) b f.front (f.front ++ f.rest) (first_word b f.front f.rest f.ends)
-            ∙ ap (λ t. takes (stage_behind stage (line_here s part)) (b ∷ t)) (sym f.bytes_are) ∙ goes in
+        same_takes (stage_behind stage (line_here s part)) b f.front (f.front ++ f.rest) (first_word b f.front f.rest f.ends)
+        ∙ ap (λ t. takes (stage_behind stage (line_here s part)) (b ∷ t)) (sym f.bytes_are) ∙ goes in
         record {
-          front = b ∷ f.front; rest = f.rest; bytes_are = ap (λ t. b ∷ t) f.bytes_are;
+          front = b ∷ f.front;
+          rest = f.rest;
+          bytes_are = ap (λ t. b ∷ t) f.bytes_are;
           chunks_are = chunk_goes s stage before part b bs ended goes ∙ f.chunks_are ∙ ap (λ c. c ∷ chunks_seen f.rest) whole;
           alone = chunk_goes s stage before part b f.front ended here ∙ f.alone ∙ ap (λ c. c ∷ []) whole;
           ends = elim f.ends [ inl none ↦ inl none | inr e ↦ inr (part ++ e.0, ap (λ t. part ++ t) e.1 ∙ sym (append_assoc part e.0 (10 ∷ []))) ];
@@ -54,10 +60,12 @@ first_cut (b ∷ bs) s stage before part right = elim (cases_Bool (is_ended s.in
     | inr stops ↦
         let r = right ended in
         record {
-          front = []; rest = b ∷ bs; bytes_are = refl;
+          front = [];
+          rest = b ∷ bs;
+          bytes_are = refl;
           chunks_are =
-            chunk_cut s stage before part b bs ended stops
-            ∙ (λ i. sym (append-nil (before ++ part)) i ∷ seen_chunks (ended_restarts s.inside s.depth s.kind b ended i) Notes [] (b ∷ []) bs);
+              chunk_cut s stage before part b bs ended stops
+              ∙ (λ i. sym (append-nil (before ++ part)) i ∷ seen_chunks (ended_restarts s.inside s.depth s.kind b ended i) Notes [] (b ∷ []) bs);
           alone = ap (λ c. c ∷ []) (sym (append-nil (before ++ part)));
           ends = inr (r.0, append-nil part ∙ r.1);
         }
@@ -83,7 +91,10 @@ pub first_chunk : (b : ℕ) (bs : List ℕ) → FirstChunk (b ∷ bs)
 first_chunk b bs =
     let f = first_cut bs (outside 0 Blank b) Notes [] (b ∷ []) (ends_right start [] b) in
     record {
-      chunk = b ∷ f.front; rest = f.rest; bytes_are = ap (λ t. b ∷ t) f.bytes_are; some = omega arith;
+      chunk = b ∷ f.front;
+      rest = f.rest;
+      bytes_are = ap (λ t. b ∷ t) f.bytes_are;
+      some = omega arith;
       chunks_are = chunks_are (b ∷ bs) ∙ f.chunks_are ∙ ap (λ cs. (b ∷ f.front) ∷ cs) (sym (chunks_are f.rest));
       alone = chunks_are (b ∷ f.front) ∙ f.alone;
       ends = elim f.ends [ inl none ↦ inl none | inr e ↦ inr (ap ends_in_newline e.1 ∙ snoc_newline e.0) ];

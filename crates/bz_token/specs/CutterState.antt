@@ -54,7 +54,3 @@ abbrev pub AwaitsNext : Next → Bool → List ℕ → Cutter → Type 0
 AwaitsNext Goes at_end ahead cutter = (rest : List ℕ) → (at_end ≡ true → rest ≡ []) → Takes cutter (first_line (ahead ++ rest))
 AwaitsNext Ends at_end ahead cutter = (line : List ℕ) → Takes cutter line
 AwaitsNext Short at_end ahead cutter = IsAtBlock cutter
-
--- it has read at most so many bytes since the last chunk's end
-abbrev pub IsWithin : Cutter → ℕ → Type 0
-IsWithin cutter most = (seen : List ℕ) × IsBehind cutter seen × (length seen ≤ most)

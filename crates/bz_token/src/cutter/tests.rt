@@ -1,8 +1,9 @@
 // The chunks of whole texts, and what goes on with a block.
 
-ghost use Rattle.std.specs.Prelude.{◌≡◌, ◌+◌, ◌<◌, ◌≤◌, ◌^◌, List, ℕ, length, take, IsTrue};
-ghost use Rattle.bz_token.specs.Cuts.{is_physical_line, ends_in_newline, first_line};
-ghost use Rattle.bz_token.specs.CutterState.{IsBehind, IsWithin, Takes};
+ghost use Rattle.std.specs.Prelude.{◌≡◌, ◌+◌, ◌<◌, ◌≤◌, ◌^◌, ◌++◌, ◌∷◌, [], List, ℕ, true, false, length, map, take, if◌then◌else◌, IsTrue, IfOk};
+ghost use Rattle.bz_token.specs.Chunks.{chunks};
+ghost use Rattle.bz_token.specs.Cuts.{is_physical_line, ends_in_newline, first_line, EndsBefore};
+ghost use Rattle.bz_token.specs.CutterState.{IsBehind, Takes};
 
 use super::{Cut, Cutter, Next};
 use std::alloc::{AllocError, Global};
@@ -40,7 +41,9 @@ fn ends_chunk(cutter: &mut Cutter, line: &[u8], behind: &[u8]) -> bool
     requires room { (seen : List ℕ) × IsBehind cutter.old seen × (length seen + length line.now < 2 ^ 64) }
     requires takes { Takes cutter.old line.now }
     requires newline { 0 < length behind.now → IsTrue (ends_in_newline line.now) }
-    ensures behind { 0 < length behind.now → (seen : List ℕ) → IsBehind cutter.old seen → IsWithin cutter.new (length seen + length line.now) }
+    ensures ends { result ≡ true → (seen : List ℕ) → IsBehind cutter.old seen → EndsBefore (seen ++ line.now) behind.now }
+    ensures last { result ≡ false → behind.now ≡ [] → (seen : List ℕ) → IsBehind cutter.old seen → 0 < length (seen ++ line.now) → chunks (seen ++ line.now) ≡ (seen ++ line.now) ∷ [] }
+    ensures behind { 0 < length behind.now → (seen : List ℕ) → IsBehind cutter.old seen → IsBehind cutter.new (if result then [] else seen ++ line.now) }
     ensures takes { 0 < length behind.now → Takes cutter.new (first_line behind.now) }
 {
     match cutter.line(line) {
@@ -51,7 +54,9 @@ fn ends_chunk(cutter: &mut Cutter, line: &[u8], behind: &[u8]) -> bool
 }
 
 // The lengths of the chunks of a text.
-fn chunk_lengths(alloc: Global, text: &[u8]) -> Result<Vec<usize>, AllocError> {
+fn chunk_lengths(alloc: Global, text: &[u8]) -> Result<Vec<usize>, AllocError>
+    ensures { IfOk result (λ lengths. lengths.items ≡ map length (chunks text.now)) }
+{
     let mut lengths = Vec::new(alloc);
     let mut cutter = Cutter::new();
     let mut rest = text;
