@@ -1,178 +1,171 @@
 -- Where the steps find the end of a chunk.
-use Rattle.std.proofs.Common.{◌≡◌, ℕ, ◌<◌, ◌≤◌, ◌&&◌, List, [], ◌∷◌, ◌++◌, Bool, true, false, not, map, length, refl, sym, ap, ◌∙◌, arith, inl, inr, append_assoc, append-nil, length-append}
-use Rattle.std.proofs.lemmas.Bool.{cases_Bool, and_parts, not-true}
-use Rattle.std.proofs.lemmas.List.Folds.{list_all-append}
-use Rattle.std.specs.List.{list_all}
-use Rattle.bz_token.specs.declared.cutter.scan.LineKind.{LineKind}
+use Rattle.std.proofs.Common.{◌≡◌, ℕ, ◌==◌, ◌||◌, ◌⊎◌, List, [], ◌∷◌, ◌++◌, true, false, cond, map, refl, sym, ap, ◌∙◌, inl, inr, append_assoc, append-nil, eqb-true}
+use Rattle.std.proofs.lemmas.Bool.{cases_Bool, both_ways}
+use Rattle.std.proofs.lemmas.List.Sums.{take_while-cons}
 use Rattle.bz_token.specs.declared.cutter.scan.LineKind.TheVariants.{Blank}
+use Rattle.bz_token.specs.declared.cutter.block.Opener.{Opener}
+use Rattle.bz_token.specs.declared.cutter.block.Opener.TheVariants.{Def, For, If}
+use Rattle.bz_token.specs.declared.cutter.block.Stage.{Stage}
+use Rattle.bz_token.specs.declared.cutter.block.Stage.TheVariants.{Notes, InBlock, Done}
 use Rattle.bz_token.specs.declared.cutter.scan.Scan.{Scan}
-use Rattle.bz_token.specs.declared.cutter.Cutter.{Cutter}
 use Rattle.bz_token.specs.Groups.{grouped, grouped_from}
-use Rattle.bz_token.specs.Chunks.{Line, is_note, chunk_goes_on, text_of, chunks, IsChunk, IsPart, is_physical_line}
-use Rattle.bz_token.specs.CutSteps.{is_ended, is_whole, outside, next, start, run, IsBehind}
-use Rattle.bz_token.proofs.CutSeen.{seen_lines, line_at, final_kind}
+use Rattle.bz_token.specs.LogicalLines.{Line}
+use Rattle.bz_token.specs.Blocks.{is_white, is_word_byte, word_at, has_branch}
+use Rattle.bz_token.specs.Chunks.{stage_behind, stage_from, takes, chunk_goes_on, text_of, chunks}
+use Rattle.bz_token.specs.CutSteps.{is_ended, is_broken, line_at, line_here, seen_chunks, outside, next, start}
+use Rattle.bz_token.proofs.CutSeen.{seen_lines, final_kind}
 use Rattle.bz_token.proofs.CutStrings.{grouped_joins, grouped_apart, seen_step}
-use Rattle.bz_token.proofs.CutMachine.{ended_restarts, quiet_before, run_append, run_depth, line_quiet, quiet_append, quiet_end, quiet_all}
+use Rattle.bz_token.proofs.CutMachine.{next_inside}
 use Rattle.bz_token.proofs.CutLines.{lines_are}
 
-abbrev pub seen_chunks : Scan → List ℕ → List ℕ → List (List ℕ)
-seen_chunks s seen [] = seen ∷ []
-seen_chunks s seen (b ∷ bs) = elim (is_whole s) [
-  | true ↦ seen ∷ seen_chunks (next s b) (b ∷ []) bs
-  | false ↦ seen_chunks (next s b) (seen ++ b ∷ []) bs
+pub chunk_step : (s : Scan) (stage : Stage) (before part : List ℕ) (b : ℕ) (bs : List ℕ) → is_ended s.inside ≡ false → seen_chunks s stage before part (b ∷ bs) ≡ seen_chunks (next s b) stage before (part ++ b ∷ []) bs
+chunk_step s stage before part b bs h = rw (h, seen_chunks) refl
+
+pub chunk_goes : (s : Scan) (stage : Stage) (before part : List ℕ) (b : ℕ) (bs : List ℕ) → is_ended s.inside ≡ true → takes (stage_behind stage (line_here s part)) (b ∷ bs) ≡ true → seen_chunks s stage before part (b ∷ bs) ≡ seen_chunks (next s b) (stage_behind stage (line_here s part)) (before ++ part) (b ∷ []) bs
+chunk_goes s stage before part b bs h g = rw (h, seen_chunks) (rw g refl)
+
+pub chunk_cut : (s : Scan) (stage : Stage) (before part : List ℕ) (b : ℕ) (bs : List ℕ) → is_ended s.inside ≡ true → takes (stage_behind stage (line_here s part)) (b ∷ bs) ≡ false → seen_chunks s stage before part (b ∷ bs) ≡ (before ++ part) ∷ seen_chunks (next s b) Notes [] (b ∷ []) bs
+chunk_cut s stage before part b bs h g = rw (h, seen_chunks) (rw g refl)
+
+line_cut : (s : Scan) (seen : List ℕ) (b : ℕ) (bs : List ℕ) → is_ended s.inside ≡ true → seen_lines s seen (b ∷ bs) ≡ line_here s seen ∷ seen_lines (next s b) (b ∷ []) bs
+line_cut s seen b bs h = rw (h, seen_lines) refl
+
+-- a line that has ended has its newline
+abbrev pub EndsRight : Scan → List ℕ → Type 0
+EndsRight s seen = is_ended s.inside ≡ true → (xs : List ℕ) × (seen ≡ xs ++ 10 ∷ [])
+
+pub ends_right : (s : Scan) (seen : List ℕ) (b : ℕ) → EndsRight (next s b) (seen ++ b ∷ [])
+ends_right s seen b ended = elim (cases_Bool (b == 10)) [
+  | inl is ↦ (seen, ap (λ c. seen ++ c ∷ []) (eqb-true b 10 is))
+  | inr differs ↦ absurd (both_ways _ (next_inside s.inside s.depth s.kind b differs) ended)
 ]
 
-pub chunk_step : (s : Scan) (seen : List ℕ) (b : ℕ) (bs : List ℕ) → is_whole s ≡ false → seen_chunks s seen (b ∷ bs) ≡ seen_chunks (next s b) (seen ++ b ∷ []) bs
-chunk_step s seen b bs h = rw (h, seen_chunks) refl
+record First (lines : List Line) (seen bytes : List ℕ) : Type 0 where
+  line : Line
+  lines_behind : List Line
+  more : List ℕ
+  rest : List ℕ
+  lines_are : lines ≡ line ∷ lines_behind
+  text_is : line.text ≡ seen ++ more
+  bytes_are : bytes ≡ more ++ rest
+  ends : (rest ≡ []) ⊎ ((xs : List ℕ) × (seen ++ more ≡ xs ++ 10 ∷ []))
 
-pub chunk_cut : (s : Scan) (seen : List ℕ) (b : ℕ) (bs : List ℕ) → is_whole s ≡ true → seen_chunks s seen (b ∷ bs) ≡ seen ∷ seen_chunks (next s b) (b ∷ []) bs
-chunk_cut s seen b bs h = rw (h, seen_chunks) refl
+first_of_lines : (bytes : List ℕ) (s : Scan) (seen : List ℕ) → EndsRight s seen → First (seen_lines s seen bytes) seen bytes
+first_of_lines [] s seen right = record {
+  line = line_at seen (final_kind s.inside s.kind) (is_broken s.inside);
+  lines_behind = [];
+  more = [];
+  rest = [];
+  lines_are = refl;
+  text_is = sym (append-nil seen);
+  bytes_are = refl;
+  ends = inl refl;
+}
+first_of_lines (b ∷ bs) s seen right = elim (cases_Bool (is_ended s.inside)) [
+  | inl ended ↦
+      let r = right ended in
+      record {
+        line = line_here s seen;
+        lines_behind = seen_lines (next s b) (b ∷ []) bs;
+        more = [];
+        rest = b ∷ bs;
+        lines_are = line_cut s seen b bs ended;
+        text_is = sym (append-nil seen);
+        bytes_are = refl;
+        ends = inr (r.0, append-nil seen ∙ r.1);
+      }
+  | inr inside ↦
+      let f = first_of_lines bs (next s b) (seen ++ b ∷ []) (ends_right s seen b) in
+      record {
+        line = f.line;
+        lines_behind = f.lines_behind;
+        more = b ∷ f.more;
+        rest = f.rest;
+        lines_are = seen_step s seen b bs inside ∙ f.lines_are;
+        text_is = f.text_is ∙ append_assoc seen (b ∷ []) f.more;
+        bytes_are = ap (λ xs. b ∷ xs) f.bytes_are;
+        ends = elim f.ends [ inl none ↦ inl none | inr e ↦ inr (e.0, sym (append_assoc seen (b ∷ []) f.more) ∙ e.1) ];
+      }
+]
 
-line_cut : (s : Scan) (seen : List ℕ) (b : ℕ) (bs : List ℕ) → is_ended s.inside ≡ true → seen_lines s seen (b ∷ bs) ≡ line_at seen s.kind ∷ seen_lines (next s b) (b ∷ []) bs
-line_cut s seen b bs h = rw (h, seen_lines) refl
+-- a newline ends a word
+pub word_stop : (xs rest : List ℕ) → word_at (xs ++ 10 ∷ rest) ≡ word_at (xs ++ 10 ∷ [])
+word_stop [] rest = refl
+word_stop (x ∷ xs) rest =
+    take_while-cons is_word_byte x (xs ++ 10 ∷ rest) ∙ ap (λ ys. cond (is_word_byte x) (x ∷ ys) []) (word_stop xs rest) ∙ sym (take_while-cons is_word_byte x (xs ++ 10 ∷ []))
+
+same_branch : (word : Opener) (xs ys : List ℕ) → word_at xs ≡ word_at ys → has_branch word xs ≡ has_branch word ys
+same_branch Def xs ys e = refl
+same_branch For xs ys e = refl
+same_branch If xs ys e = rw e refl
+
+-- what the next line begins with decides, and it is what the rest begins with
+pub same_takes : (stage : Stage) (b : ℕ) (xs ys : List ℕ) → word_at (b ∷ xs) ≡ word_at (b ∷ ys) → takes stage (b ∷ xs) ≡ takes stage (b ∷ ys)
+same_takes Notes b xs ys e = refl
+same_takes Done b xs ys e = refl
+same_takes (InBlock word) b xs ys e = ap (λ t. is_white b || t) (same_branch word (b ∷ xs) (b ∷ ys) e)
+
+pub first_word : (b : ℕ) (more rest : List ℕ) → ((rest ≡ []) ⊎ ((xs : List ℕ) × (b ∷ more ≡ xs ++ 10 ∷ []))) → word_at (b ∷ more) ≡ word_at (b ∷ (more ++ rest))
+first_word b more rest (inl none) = rw (none, append-nil) refl
+first_word b more rest (inr e) =
+    let whole : b ∷ (more ++ rest) ≡ e.0 ++ 10 ∷ rest = ap (λ t. t ++ rest) e.1 ∙ append_assoc e.0 (10 ∷ []) rest in
+    ap word_at e.1 ∙ sym (word_stop e.0 rest) ∙ sym (ap word_at whole)
 
 -- the first line joins the lines of the chunk
 abbrev grouped_with : List Line → List Line → List (List Line)
 grouped_with done [] = done ∷ []
 grouped_with done (l ∷ ls) = grouped_from chunk_goes_on (done ++ l ∷ []) ls
 
-abbrev is_some : List Line → Bool
-is_some [] = false
-is_some (l ∷ ls) = true
+joined : (done ls : List Line) (l : Line) (rest : List Line) → ls ≡ l ∷ rest → takes (stage_from Notes done) l.text ≡ true → grouped_from chunk_goes_on done ls ≡ grouped_with done ls
+joined done ls l rest e h = rw e (grouped_joins chunk_goes_on done l rest h)
 
-some_lines : (s : Scan) (seen bytes : List ℕ) → is_some (seen_lines s seen bytes) ≡ true
-some_lines s seen [] = refl
-some_lines s seen (b ∷ bs) = elim (cases_Bool (is_ended s.inside)) [
-  | inl is ↦ ap is_some (line_cut s seen b bs is)
-  | inr differs ↦ ap is_some (seen_step s seen b bs differs) ∙ some_lines (next s b) (seen ++ b ∷ []) bs
-]
+is_apart : (done ls : List Line) (l : Line) (rest : List Line) → ls ≡ l ∷ rest → takes (stage_from Notes done) l.text ≡ false → grouped_from chunk_goes_on done ls ≡ done ∷ grouped_with [] ls
+is_apart done ls l rest e h = rw e (grouped_apart chunk_goes_on done l rest h)
 
-goes_on : (done ls : List Line) → is_some ls ≡ true → list_all (λ l. is_note l.kind) done ≡ true → grouped_from chunk_goes_on done ls ≡ grouped_with done ls
-goes_on done [] some notes = absurd (cc)
-goes_on done (l ∷ ls) some notes = grouped_joins chunk_goes_on done l ls notes
+text_snoc : (done : List Line) (l : Line) → text_of (done ++ l ∷ []) ≡ text_of done ++ l.text
+text_snoc [] l = append-nil l.text
+text_snoc (m ∷ ls) l = ap (λ t. m.text ++ t) (text_snoc ls l) ∙ sym (append_assoc m.text (text_of ls) l.text)
 
-is_apart : (done ls : List Line) → is_some ls ≡ true → list_all (λ l. is_note l.kind) done ≡ false → grouped_from chunk_goes_on done ls ≡ done ∷ grouped_with [] ls
-is_apart done [] some notes = absurd (cc)
-is_apart done (l ∷ ls) some notes = grouped_apart chunk_goes_on done l ls notes
+stage_snoc : (done : List Line) (stage : Stage) (l : Line) → stage_from stage (done ++ l ∷ []) ≡ stage_behind (stage_from stage done) l
+stage_snoc [] stage l = refl
+stage_snoc (m ∷ ls) stage l = stage_snoc ls (stage_behind stage m) l
 
-text_snoc : (done : List Line) (part : List ℕ) (k : LineKind) → text_of (done ++ line_at part k ∷ []) ≡ text_of done ++ part
-text_snoc [] part k = append-nil part
-text_snoc (l ∷ ls) part k = ap (λ t. l.text ++ t) (text_snoc ls part k) ∙ sym (append_assoc l.text (text_of ls) part)
-
-chunks_from : (bytes : List ℕ) (s : Scan) (done : List Line) (part : List ℕ) → list_all (λ l. is_note l.kind) done ≡ true → map text_of (grouped_with done (seen_lines s part bytes)) ≡ seen_chunks s (text_of done ++ part) bytes
-chunks_from [] s done part notes = ap (λ t. t ∷ []) (text_snoc done part (final_kind s.inside s.kind))
-chunks_from (b ∷ bs) s done part notes = elim (cases_Bool (is_ended s.inside)) [
+pub chunks_from : (bytes : List ℕ) (s : Scan) (done : List Line) (part : List ℕ) → EndsRight s part → map text_of (grouped_with done (seen_lines s part bytes)) ≡ seen_chunks s (stage_from Notes done) (text_of done) part bytes
+chunks_from [] s done part right = ap (λ t. t ∷ []) (text_snoc done (line_at part (final_kind s.inside s.kind) (is_broken s.inside)))
+chunks_from (b ∷ bs) s done part right = elim (cases_Bool (is_ended s.inside)) [
   | inr inside ↦
-      let open_ : is_whole s ≡ false = rw inside refl in
-      rw (seen_step s part b bs inside, chunk_step s (text_of done ++ part) b bs open_) (chunks_from bs (next s b) done (part ++ b ∷ []) notes
-      ∙ ap (λ t. seen_chunks (next s b) t bs) (sym (append_assoc (text_of done) part (b ∷ []))))
+      rw (seen_step s part b bs inside, chunk_step s (stage_from Notes done) (text_of done) part b bs inside) (chunks_from bs (next s b) done (part ++ b ∷ []) (ends_right s part b))
   | inl ended ↦
-      let line = line_at part s.kind in
-      let cut = line_cut s part b bs ended in
-      let all : list_all (λ l. is_note l.kind) (done ++ line ∷ []) ≡ is_note s.kind = rw (list_all-append (λ (l : Line). is_note l.kind) done (line ∷ []), notes) (and_true (is_note s.kind)) in
-      let some = some_lines (next s b) (b ∷ []) bs in
-      elim (cases_Bool (is_note s.kind)) [
-        | inl note ↦
-            let open_ : is_whole s ≡ false = rw (ended, note) refl in
-            rw (cut, chunk_step s (text_of done ++ part) b bs open_) (
-            ap (map text_of) (goes_on (done ++ line ∷ []) (seen_lines (next s b) (b ∷ []) bs) some (all ∙ note))
-            ∙ chunks_from bs (next s b) (done ++ line ∷ []) (b ∷ []) (all ∙ note)
-            ∙ ap (λ t. seen_chunks (next s b) (t ++ b ∷ []) bs) (text_snoc done part s.kind))
-        | inr other ↦
-            let whole : is_whole s ≡ true = rw (ended, other) refl in
-            rw (cut, chunk_cut s (text_of done ++ part) b bs whole) (
-            ap (map text_of) (is_apart (done ++ line ∷ []) (seen_lines (next s b) (b ∷ []) bs) some (all ∙ other))
-            ∙ (λ i. text_snoc done part s.kind i ∷ chunks_from bs (next s b) [] (b ∷ []) refl i))
+      let line = line_here s part in
+      let f = first_of_lines bs (next s b) (b ∷ []) (ends_right s [] b) in
+      let stage = stage_behind (stage_from Notes done) line in
+      let here : takes (stage_from Notes (done ++ line ∷ [])) f.line.text ≡ takes stage (b ∷ bs) =
+      (λ i. takes (stage_snoc done Notes line i) (f.text_is i)) ∙ same_takes stage b f.more (f.more ++ f.rest) (first_word b f.more f.rest f.ends) ∙ ap (λ t. takes stage (b ∷ t)) (sym f.bytes_are) in
+      elim (cases_Bool (takes stage (b ∷ bs))) [
+        | inl goes ↦
+            rw (line_cut s part b bs ended, chunk_goes s (stage_from Notes done) (text_of done) part b bs ended goes) (
+            ap (map text_of) (joined (done ++ line ∷ []) (seen_lines (next s b) (b ∷ []) bs) f.line f.lines_behind f.lines_are (here ∙ goes))
+            ∙ chunks_from bs (next s b) (done ++ line ∷ []) (b ∷ []) (ends_right s [] b)
+            ∙ (λ i. seen_chunks (next s b) (stage_snoc done Notes line i) (text_snoc done line i) (b ∷ []) bs))
+        | inr stops ↦
+            rw (line_cut s part b bs ended, chunk_cut s (stage_from Notes done) (text_of done) part b bs ended stops) (
+            ap (map text_of) (is_apart (done ++ line ∷ []) (seen_lines (next s b) (b ∷ []) bs) f.line f.lines_behind f.lines_are (here ∙ stops))
+            ∙ (λ i. text_snoc done line i ∷ chunks_from bs (next s b) [] (b ∷ []) (ends_right s [] b) i))
       ]
-] where
-  and_true : (b : Bool) → (true && (b && true)) ≡ b
-  and_true true = refl
-  and_true false = refl
+]
 
 abbrev pub chunks_seen : List ℕ → List (List ℕ)
 chunks_seen [] = []
-chunks_seen (b ∷ bs) = seen_chunks (outside 0 Blank b) (b ∷ []) bs
+chunks_seen (b ∷ bs) = seen_chunks (outside 0 Blank b) Notes [] (b ∷ []) bs
+
+grouped_first : (ls : List Line) (l : Line) (rest : List Line) → ls ≡ l ∷ rest → grouped chunk_goes_on ls ≡ grouped_with [] ls
+grouped_first ls l rest e = rw e refl
 
 -- the second law: the chunks of a text
-grouped_first : (ls : List Line) → is_some ls ≡ true → grouped chunk_goes_on ls ≡ grouped_with [] ls
-grouped_first [] some = absurd (cc)
-grouped_first (l ∷ ls) some = refl
-
 pub chunks_are : (bytes : List ℕ) → chunks bytes ≡ chunks_seen bytes
 chunks_are [] = refl
 chunks_are (b ∷ bs) =
+    let f = first_of_lines bs (outside 0 Blank b) (b ∷ []) (ends_right start [] b) in
     ap (λ ls. map text_of (grouped chunk_goes_on ls)) (lines_are (b ∷ bs))
-    ∙ ap (map text_of) (grouped_first (seen_lines (outside 0 Blank b) (b ∷ []) bs) (some_lines (outside 0 Blank b) (b ∷ []) bs))
-    ∙ chunks_from bs (outside 0 Blank b) [] (b ∷ []) refl
-
--- over bytes that end no chunk before their end
-pub over : (bs rest : List ℕ) (s : Scan) (seen : List ℕ) → quiet_before s bs ≡ true → seen_chunks s seen (bs ++ rest) ≡ seen_chunks (run s bs) (seen ++ bs) rest
-over [] rest s seen h = ap (λ t. seen_chunks s t rest) (sym (append-nil seen))
-over (b ∷ bs) rest s seen h =
-    let parts = and_parts (not (is_whole s)) (quiet_before (next s b) bs) h in
-    chunk_step s seen b (bs ++ rest) (not-true _ parts.0) ∙ over bs rest (next s b) (seen ++ b ∷ []) parts.1
-    ∙ ap (λ t. seen_chunks (run (next s b) bs) t rest) (append_assoc seen (b ∷ []) bs)
-
--- the first chunk begins with what was seen
-pub begins : (bs : List ℕ) (s : Scan) (seen : List ℕ) → (more : List ℕ) × (cs : List (List ℕ)) × (seen_chunks s seen bs ≡ (seen ++ more) ∷ cs)
-begins [] s seen = ([], [], ap (λ t. t ∷ []) (sym (append-nil seen)))
-begins (b ∷ bs) s seen = elim (cases_Bool (is_whole s)) [
-  | inl is ↦ ([], seen_chunks (next s b) (b ∷ []) bs, chunk_cut s seen b bs is ∙ ap (λ t. t ∷ seen_chunks (next s b) (b ∷ []) bs) (sym (append-nil seen)))
-  | inr differs ↦
-      let r = begins bs (next s b) (seen ++ b ∷ []) in
-      (b ∷ r.0, r.1, chunk_step s seen b bs differs ∙ r.2 ∙ ap (λ t. t ∷ r.1) (append_assoc seen (b ∷ []) r.0))
-]
-
-from_start : (bytes : List ℕ) → 0 < length bytes → chunks bytes ≡ seen_chunks start [] bytes
-from_start [] h = absurd (omega arith)
-from_start (b ∷ bs) h = chunks_are (b ∷ bs)
-
-after_ended : (s : Scan) (b : ℕ) → is_ended s.inside ≡ true → next s b ≡ outside 0 Blank b
-after_ended s b h = ended_restarts s.inside s.depth s.kind b h
-
-some_append : (bs : List ℕ) (b : ℕ) (rest : List ℕ) → 0 < length (bs ++ b ∷ rest)
-some_append bs b rest = simp length-append (omega arith)
-
-pub whole_chunk : (bytes : List ℕ) → quiet_before start bytes ≡ true → is_whole (run start bytes) ≡ true → IsChunk bytes
-whole_chunk [] h whole rest = absurd (cc)
-whole_chunk (b ∷ bs) h whole [] = from_start ((b ∷ bs) ++ []) (omega arith) ∙ over (b ∷ bs) [] start [] h
-whole_chunk (b ∷ bs) h whole (x ∷ xs) =
-    let s = run start (b ∷ bs) in
-    let ended = (and_parts (is_ended s.inside) (not (is_note s.kind)) whole).0 in
-    from_start ((b ∷ bs) ++ x ∷ xs) (some_append (b ∷ bs) x xs) ∙ over (b ∷ bs) (x ∷ xs) start [] h
-    ∙ chunk_cut s (b ∷ bs) x xs whole
-    ∙ ap (λ cs. (b ∷ bs) ∷ cs) (ap (λ t. seen_chunks t (x ∷ []) xs) (after_ended s x ended) ∙ sym (chunks_are (x ∷ xs)))
-
-pub part_chunk : (bytes : List ℕ) → quiet_before start bytes ≡ true → is_whole (run start bytes) ≡ false → IsPart bytes
-part_chunk bytes h whole = record {
-  last = λ some. ap chunks (sym (append-nil bytes)) ∙ from_start (bytes ++ []) (rw append-nil some) ∙ over bytes [] start [] h;
-  longer = λ b rest.
-      let r = begins rest (next (run start bytes) b) (bytes ++ b ∷ []) in (
-        r.0,
-        r.1,
-        from_start (bytes ++ b ∷ rest) (some_append bytes b rest) ∙ over bytes (b ∷ rest) start [] h
-            ∙ chunk_step (run start bytes) bytes b rest whole ∙ r.2 ∙ ap (λ t. t ∷ r.1) (append_assoc bytes (b ∷ []) r.0),
-      );
-}
-
--- The cutter, behind a line.
-pub behind_line : (cutter : Cutter) (seen line : List ℕ) → IsBehind cutter seen → run cutter.scan line ≡ run start (seen ++ line)
-behind_line cutter seen line b = ap (λ s. run s line) b.scan_is ∙ sym (run_append seen line start)
-
-quiet_line : (cutter : Cutter) (seen line : List ℕ) → IsBehind cutter seen → is_physical_line line ≡ true → quiet_before start (seen ++ line) ≡ true
-quiet_line cutter seen line b one = quiet_append seen line start b.no_chunk (line_quiet line (run start seen) one (quiet_end seen start b.no_chunk))
-
-pub whole_line : (cutter : Cutter) (line : List ℕ) → is_physical_line line ≡ true → is_whole (run cutter.scan line) ≡ true → (seen : List ℕ) → IsBehind cutter seen → IsChunk (seen ++ line)
-whole_line cutter line one whole seen b = whole_chunk (seen ++ line) (quiet_line cutter seen line b one) (rw (behind_line cutter seen line b) at whole)
-
-pub part_line : (cutter : Cutter) (line : List ℕ) → is_physical_line line ≡ true → is_whole (run cutter.scan line) ≡ false → (seen : List ℕ) → IsBehind cutter seen → IsPart (seen ++ line)
-part_line cutter line one open_ seen b = part_chunk (seen ++ line) (quiet_line cutter seen line b one) (rw (behind_line cutter seen line b) at open_)
-
-pub still_behind : (cutter : Cutter) (line : List ℕ) → is_physical_line line ≡ true → is_whole (run cutter.scan line) ≡ false → (seen : List ℕ) → IsBehind cutter seen → IsBehind (record { scan = run cutter.scan line }) (seen ++ line)
-still_behind cutter line one open_ seen b = record {
-  scan_is = behind_line cutter seen line b;
-  no_chunk = quiet_all (seen ++ line) start (quiet_line cutter seen line b one) (rw (behind_line cutter seen line b) at open_);
-}
-
-pub room : (cutter : Cutter) (seen : List ℕ) → IsBehind cutter seen → cutter.scan.depth ≤ length seen
-room cutter seen b = rw b.scan_is (omega (arith, run_depth seen start))
+    ∙ ap (map text_of) (grouped_first (seen_lines (outside 0 Blank b) (b ∷ []) bs) f.line f.lines_behind f.lines_are)
+    ∙ chunks_from bs (outside 0 Blank b) [] (b ∷ []) (ends_right start [] b)

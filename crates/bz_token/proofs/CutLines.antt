@@ -5,15 +5,16 @@ use Rattle.std.proofs.lemmas.List.Folds.{list_all-append, concat-append}
 use Rattle.std.specs.List.{list_all, concat}
 use Rattle.bz_token.specs.declared.cutter.scan.LineKind.{LineKind}
 use Rattle.bz_token.specs.declared.cutter.scan.LineKind.TheVariants.{Blank, Note, Statement}
-use Rattle.bz_token.specs.declared.cutter.scan.Inside.TheVariants.{Plain, Ended}
+use Rattle.bz_token.specs.declared.cutter.scan.Inside.{Inside}
+use Rattle.bz_token.specs.declared.cutter.scan.Inside.TheVariants.{Plain, Ended, BrokenOff}
 use Rattle.bz_token.specs.declared.cutter.scan.Scan.{Scan}
 use Rattle.bz_token.specs.Groups.{grouped, grouped_from}
 use Rattle.bz_token.specs.Munch.{IsLongest, AreMunched}
 use Rattle.bz_token.specs.Pieces.{is_byte, is_comment, is_broken_off, is_piece, pieces}
-use Rattle.bz_token.specs.Chunks.{Line, count, ends_line, line_goes_on, is_gap, kind_of, line_of, lines}
-use Rattle.bz_token.specs.CutSteps.{at, with_note, outside}
+use Rattle.bz_token.specs.LogicalLines.{Line, count, ends_line, breaks_off, line_goes_on, is_gap, kind_of, line_of, lines}
+use Rattle.bz_token.specs.CutSteps.{is_broken, line_at, at, with_note, outside}
 use Rattle.bz_token.proofs.CutMunch.{munched_are}
-use Rattle.bz_token.proofs.CutSeen.{seen_lines, line_at, final_kind, kind_with, behind}
+use Rattle.bz_token.proofs.CutSeen.{seen_lines, final_kind, kind_with, behind}
 use Rattle.bz_token.proofs.CutStrings.{grouped_joins, grouped_apart}
 use Rattle.bz_token.proofs.CutPasses.{passes}
 
@@ -25,10 +26,15 @@ depth_snoc : (n : ℕ) (line : List (List ℕ)) (p : List ℕ) → depth_after n
 depth_snoc n [] p = refl
 depth_snoc n (q ∷ qs) p = depth_snoc (count n q) qs p
 
-ends_snoc : (n : ℕ) (line : List (List ℕ)) (p : List ℕ) → ends_line n (line ++ p ∷ []) ≡ (is_broken_off p || (is_byte 10 p && depth_after n line == 0))
+ends_snoc : (n : ℕ) (line : List (List ℕ)) (p : List ℕ) → ends_line n (line ++ p ∷ []) ≡ (is_byte 10 p && depth_after n line == 0)
 ends_snoc n [] p = refl
 ends_snoc n (q ∷ []) p = refl
 ends_snoc n (q ∷ r ∷ rs) p = ends_snoc (count n q) (r ∷ rs) p
+
+breaks_snoc : (line : List (List ℕ)) (p : List ℕ) → breaks_off (line ++ p ∷ []) ≡ is_broken_off p
+breaks_snoc [] p = refl
+breaks_snoc (q ∷ []) p = refl
+breaks_snoc (q ∷ r ∷ rs) p = breaks_snoc (r ∷ rs) p
 
 kinds : (a b g c : Bool) → (a ≡ true → b ≡ true) → cond (a && (g && true)) Blank (cond (b && ((g || c) && true)) Note Statement) ≡ cond g (cond a Blank (cond b Note Statement)) (cond c (with_note (cond a Blank (cond b Note Statement))) Statement)
 kinds true true true true h = refl
@@ -59,39 +65,50 @@ kind_snoc line p =
     rw (list_all-append is_gap line (p ∷ []), list_all-append noted line (p ∷ [])) (kinds (list_all is_gap line) (list_all noted line) (is_gap p) (is_comment p) (gaps_noted line))
 
 -- where the steps are behind a part of a line
+abbrev pub inside_of : Bool → Bool → Inside
+inside_of broken ended = cond broken BrokenOff (cond ended Ended Plain)
+
 abbrev pub at_line : List (List ℕ) → Scan
-at_line line = at (cond (ends_line 0 line) Ended Plain) (depth_after 0 line) (kind_of line)
+at_line line = at (inside_of (breaks_off line) (ends_line 0 line)) (depth_after 0 line) (kind_of line)
 
 at_snoc : (line : List (List ℕ)) (p : List ℕ) → behind (depth_after 0 line) (kind_of line) p ≡ at_line (line ++ p ∷ [])
-at_snoc line p = λ i. at (cond (sym (ends_snoc 0 line p) i) Ended Plain) (sym (depth_snoc 0 line p) i) (sym (kind_snoc line p) i)
+at_snoc line p = λ i. at (inside_of (sym (breaks_snoc line p) i) (sym (ends_snoc 0 line p) i)) (sym (depth_snoc 0 line p) i) (sym (kind_snoc line p) i)
 
-line_final : (e : Bool) (k : LineKind) → final_kind (cond e Ended Plain) k ≡ k
-line_final true k = refl
-line_final false k = refl
+line_final : (broken ended : Bool) (text : List ℕ) (k : LineKind) → line_at text (final_kind (inside_of broken ended) k) (is_broken (inside_of broken ended)) ≡ line_at text k broken
+line_final true ended text k = refl
+line_final false true text k = refl
+line_final false false text k = refl
 
 concat_snoc : (line : List (List ℕ)) (p : List ℕ) → concat (line ++ p ∷ []) ≡ concat line ++ p
 concat_snoc line p = concat-append line (p ∷ []) ∙ ap (λ x. concat line ++ x) (append-nil p)
 
 -- a line that has ended, and the next byte
-ended_next : (line : List (List ℕ)) (seen : List ℕ) (b : ℕ) (bs : List ℕ) → ends_line 0 line ≡ true → seen_lines (at_line line) seen (b ∷ bs) ≡ line_at seen (kind_of line) ∷ seen_lines (outside 0 Blank b) (b ∷ []) bs
-ended_next line seen b bs h = ap (λ e. seen_lines (at (cond e Ended Plain) (depth_after 0 line) (kind_of line)) seen (b ∷ bs)) h
+ended_at : (broken ended : Bool) (d : ℕ) (k : LineKind) (seen : List ℕ) (b : ℕ) (bs : List ℕ) → (broken || ended) ≡ true → seen_lines (at (inside_of broken ended) d k) seen (b ∷ bs) ≡ line_at seen k broken ∷ seen_lines (outside 0 Blank b) (b ∷ []) bs
+ended_at true ended d k seen b bs h = refl
+ended_at false true d k seen b bs h = refl
+ended_at false false d k seen b bs h = absurd (both_ways _ refl h)
+
+inside_at : (broken ended : Bool) → (broken || ended) ≡ false → inside_of broken ended ≡ Plain
+inside_at false false h = refl
+inside_at true ended h = absurd (both_ways _ h refl)
+inside_at false true h = absurd (both_ways _ h refl)
 
 -- the first piece of a line
-first_piece : (p after : List ℕ) → IsLongest is_piece p after → (before : List (List ℕ)) → ends_line 0 before ≡ true → (seen : List ℕ) → seen_lines (at_line before) seen (p ++ after) ≡ line_at seen (kind_of before) ∷ seen_lines (at_line (p ∷ [])) p after
+first_piece : (p after : List ℕ) → IsLongest is_piece p after → (before : List (List ℕ)) → (breaks_off before || ends_line 0 before) ≡ true → (seen : List ℕ) → seen_lines (at_line before) seen (p ++ after) ≡ line_at seen (kind_of before) (breaks_off before) ∷ seen_lines (at_line (p ∷ [])) p after
 first_piece [] after l before h seen = let e = l.whole in cc
 first_piece (b ∷ bs) after l before h seen =
-    ended_next before seen b (bs ++ after) h
-    ∙ ap (λ ls. line_at seen (kind_of before) ∷ ls) (passes (b ∷ bs) after 0 Blank [] l ∙ ap (λ s. seen_lines s (b ∷ bs) after) (at_snoc [] (b ∷ bs)))
+    ended_at (breaks_off before) (ends_line 0 before) (depth_after 0 before) (kind_of before) seen b (bs ++ after) h
+    ∙ ap (λ ls. line_at seen (kind_of before) (breaks_off before) ∷ ls) (passes (b ∷ bs) after 0 Blank [] l ∙ ap (λ s. seen_lines s (b ∷ bs) after) (at_snoc [] (b ∷ bs)))
 
-next_piece : (p after : List ℕ) → IsLongest is_piece p after → (line : List (List ℕ)) → ends_line 0 line ≡ false → (seen : List ℕ) → seen_lines (at_line line) seen (p ++ after) ≡ seen_lines (at_line (line ++ p ∷ [])) (seen ++ p) after
+next_piece : (p after : List ℕ) → IsLongest is_piece p after → (line : List (List ℕ)) → (breaks_off line || ends_line 0 line) ≡ false → (seen : List ℕ) → seen_lines (at_line line) seen (p ++ after) ≡ seen_lines (at_line (line ++ p ∷ [])) (seen ++ p) after
 next_piece p after l line h seen =
-    ap (λ e. seen_lines (at (cond e Ended Plain) (depth_after 0 line) (kind_of line)) seen (p ++ after)) h
+    ap (λ e. seen_lines (at e (depth_after 0 line) (kind_of line)) seen (p ++ after)) (inside_at (breaks_off line) (ends_line 0 line) h)
     ∙ passes p after (depth_after 0 line) (kind_of line) seen l
     ∙ ap (λ s. seen_lines s (seen ++ p) after) (at_snoc line p)
 
 pub lines_from : (ps : List (List ℕ)) (bytes : List ℕ) → AreMunched is_piece ps bytes → (line : List (List ℕ)) → seen_lines (at_line line) (concat line) bytes ≡ map line_of (grouped_from line_goes_on line ps)
-lines_from [] bytes e line = rw (e, line_final (ends_line 0 line) (kind_of line)) refl
-lines_from (p ∷ ps) bytes m line = elim (cases_Bool (ends_line 0 line)) [
+lines_from [] bytes e line = rw e (ap (λ l. l ∷ []) (line_final (breaks_off line) (ends_line 0 line) (concat line) (kind_of line)))
+lines_from (p ∷ ps) bytes m line = elim (cases_Bool (breaks_off line || ends_line 0 line)) [
   | inl ended ↦
       let apart : line_goes_on line p ≡ false = ap not ended in
       rw m.1 (first_piece p m.0 m.2 line ended (concat line)

@@ -1,15 +1,15 @@
 -- The logical lines that the steps find.
-use Rattle.std.proofs.Common.{◌≡◌, ℕ, ◌==◌, ◌||◌, ◌&&◌, List, [], ◌∷◌, ◌++◌, true, false, cond, refl, sym, ap, subst, ◌∙◌, inl, inr, append_assoc, append-nil, eqb-true}
+use Rattle.std.proofs.Common.{◌≡◌, ℕ, ◌==◌, ◌&&◌, List, [], ◌∷◌, ◌++◌, true, false, cond, refl, sym, ap, subst, ◌∙◌, inl, inr, append_assoc, append-nil, eqb-true}
 use Rattle.std.proofs.lemmas.Bool.{cases_Bool, or_parts}
 use Rattle.std.specs.List.{list_any}
 use Rattle.bz_token.specs.declared.cutter.scan.LineKind.{LineKind}
 use Rattle.bz_token.specs.declared.cutter.scan.LineKind.TheVariants.{Statement}
 use Rattle.bz_token.specs.declared.cutter.scan.Inside.{Inside}
-use Rattle.bz_token.specs.declared.cutter.scan.Inside.TheVariants.{Plain, Ended, Backslash, BackslashReturn, Comment}
+use Rattle.bz_token.specs.declared.cutter.scan.Inside.TheVariants.{Plain, Ended, BrokenOff, Backslash, BackslashReturn, Comment}
 use Rattle.bz_token.specs.declared.cutter.scan.Scan.{Scan}
 use Rattle.bz_token.specs.Pieces.{is_byte, is_comment, is_broken_off}
-use Rattle.bz_token.specs.Chunks.{Line, is_gap, count}
-use Rattle.bz_token.specs.CutSteps.{is_ended, at, with_note, outside, next}
+use Rattle.bz_token.specs.LogicalLines.{Line, is_gap, count}
+use Rattle.bz_token.specs.CutSteps.{is_ended, is_broken, line_at, at, with_note, outside, next}
 
 -- a backslash that is still open continues no line at the end
 abbrev pub final_kind : Inside → LineKind → LineKind
@@ -17,13 +17,10 @@ final_kind Backslash kind = Statement
 final_kind BackslashReturn kind = Statement
 final_kind _ kind = kind
 
-abbrev pub line_at : List ℕ → LineKind → Line
-line_at text kind = record { text = text; kind = kind }
-
 abbrev pub seen_lines : Scan → List ℕ → List ℕ → List Line
-seen_lines s seen [] = line_at seen (final_kind s.inside s.kind) ∷ []
+seen_lines s seen [] = line_at seen (final_kind s.inside s.kind) (is_broken s.inside) ∷ []
 seen_lines s seen (b ∷ bs) = elim (is_ended s.inside) [
-  | true ↦ line_at seen s.kind ∷ seen_lines (next s b) (b ∷ []) bs
+  | true ↦ line_at seen s.kind (is_broken s.inside) ∷ seen_lines (next s b) (b ∷ []) bs
   | false ↦ seen_lines (next s b) (seen ++ b ∷ []) bs
 ]
 
@@ -32,7 +29,7 @@ abbrev pub kind_with : LineKind → List ℕ → LineKind
 kind_with k p = cond (is_gap p) k (cond (is_comment p) (with_note k) Statement)
 
 abbrev pub behind : ℕ → LineKind → List ℕ → Scan
-behind d k p = at (cond (is_broken_off p || (is_byte 10 p && d == 0)) Ended Plain) (count d p) (kind_with k p)
+behind d k p = at (cond (is_broken_off p) BrokenOff (cond (is_byte 10 p && d == 0) Ended Plain)) (count d p) (kind_with k p)
 
 -- what holds at c and elsewhere
 pub by_byte : (P : ℕ → Type 0) (c b : ℕ) → P c → ((b == c) ≡ false → P b) → P b

@@ -8,11 +8,11 @@ use Rattle.bz_token.specs.declared.cutter.scan.LineKind.{LineKind}
 use Rattle.bz_token.specs.declared.cutter.scan.Quote.{Quote}
 use Rattle.bz_token.specs.declared.cutter.scan.Quote.TheVariants.{Single, Double}
 use Rattle.bz_token.specs.declared.cutter.scan.Inside.{Inside}
-use Rattle.bz_token.specs.declared.cutter.scan.Inside.TheVariants.{Plain, Ended, Short, ShortEscape, ShortEscapeReturn, Long, LongQuote, LongTwoQuotes, LongEscape}
+use Rattle.bz_token.specs.declared.cutter.scan.Inside.TheVariants.{Plain, BrokenOff, Short, ShortEscape, ShortEscapeReturn, Long, LongQuote, LongTwoQuotes, LongEscape}
 use Rattle.bz_token.specs.declared.cutter.scan.Scan.{Scan}
 use Rattle.bz_token.specs.Groups.{grouped_from}
 use Rattle.bz_token.specs.Pieces.{is_byte, escape_takes, but_last, stops_short, three_in_a_row}
-use Rattle.bz_token.specs.CutSteps.{is_ended, byte_of, at, in_short, next}
+use Rattle.bz_token.specs.CutSteps.{is_ended, is_broken, byte_of, at, in_short, next}
 use Rattle.bz_token.proofs.CutSeen.{seen_lines, final_kind, by_byte}
 
 pub grouped_joins : {A : Type 0} (joins : List A → A → Bool) (g : List A) (x : A) (xs : List A) → joins g x ≡ true → grouped_from joins g (x ∷ xs) ≡ grouped_from joins (g ++ x ∷ []) xs
@@ -55,6 +55,12 @@ short_final quote u k = elim (cases_Bool (is_byte 92 u)) [
   | inr differs ↦ elim (cases_Bool (bytes_eq u (92 ∷ 13 ∷ []))) [ inl is ↦ rw (differs, is) refl | inr other ↦ rw (differs, other) refl ]
 ]
 
+short_broken : (quote : Quote) (u : List ℕ) → is_broken (short_state quote u) ≡ false
+short_broken quote u = elim (cases_Bool (is_byte 92 u)) [
+  | inl is ↦ rw is refl
+  | inr differs ↦ elim (cases_Bool (bytes_eq u (92 ∷ 13 ∷ []))) [ inl is ↦ rw (differs, is) refl | inr other ↦ rw (differs, other) refl ]
+]
+
 short_next : (quote : Quote) (u : List ℕ) (b d : ℕ) (k : LineKind) → escape_takes u b ≡ false → next (at (short_state quote u) d k) b ≡ in_short quote d k b
 short_next quote u b d k h =
     let parts = or_parts (is_byte 92 u) (bytes_eq u (92 ∷ 13 ∷ []) && b == 10) h in
@@ -74,7 +80,7 @@ takes_no_stop Single u b h = elim (takes_cases u b h) [ inl one ↦ rw one refl 
 takes_no_stop Double u b h = elim (takes_cases u b h) [ inl one ↦ rw one refl | inr two ↦ rw two.0 refl ]
 
 abbrev pub short_end : Bool → ℕ → LineKind → Scan
-short_end broken d k = at (cond broken Ended Plain) d k
+short_end broken d k = at (cond broken BrokenOff Plain) d k
 
 abbrev pub G : List ℕ → List ℕ → List (List ℕ)
 G u bs = grouped_from escape_takes u bs
@@ -119,7 +125,7 @@ short_run quote [] u after d k seen open_ early closed = elim closed [
   | inl stop ↦ absurd (both_ways _ (rw open_ refl) stop)
   | inr end ↦
       let parts = or_parts (is_byte (byte_of quote) u) (is_byte 10 u) open_ in
-      rw (end, append-nil, short_final quote u k, parts.1) refl
+      rw (end, append-nil, short_final quote u k, short_broken quote u, parts.1) refl
 ]
 short_run quote (b ∷ bs) u after d k seen open_ early closed = elim (cases_Bool (escape_takes u b)) [
   | inl takes ↦
@@ -163,6 +169,11 @@ at_final quote zero k = refl
 at_final quote (suc zero) k = refl
 at_final quote (suc (suc n)) k = refl
 
+at_broken : (quote : Quote) (n : ℕ) → is_broken (long_at quote n) ≡ false
+at_broken quote zero = refl
+at_broken quote (suc zero) = refl
+at_broken quote (suc (suc n)) = refl
+
 long_open : (quote : Quote) (n : ℕ) (u : List ℕ) → is_ended (long_state quote n u) ≡ false
 long_open quote n u = elim (cases_Bool (is_byte 92 u)) [
   | inl is ↦ rw is refl
@@ -173,6 +184,12 @@ long_final : (quote : Quote) (n : ℕ) (u : List ℕ) (k : LineKind) → final_k
 long_final quote n u k = elim (cases_Bool (is_byte 92 u)) [
   | inl is ↦ rw is refl
   | inr differs ↦ rw differs (at_final quote (row (byte_of quote) n u) k)
+]
+
+long_broken : (quote : Quote) (n : ℕ) (u : List ℕ) → is_broken (long_state quote n u) ≡ false
+long_broken quote n u = elim (cases_Bool (is_byte 92 u)) [
+  | inl is ↦ rw is refl
+  | inr differs ↦ rw differs (at_broken quote (row (byte_of quote) n u))
 ]
 
 long_takes : (quote : Quote) (n : ℕ) (u : List ℕ) (b d : ℕ) (k : LineKind) → escape_takes u b ≡ true → next (at (long_state quote n u) d k) b ≡ at (long_state quote n (u ++ b ∷ [])) d k
@@ -252,7 +269,7 @@ pub long_run : (quote : Quote) (bs u after : List ℕ) (n d : ℕ) (k : LineKind
     → seen_lines (at (long_state quote n u) d k) seen (bs ++ after) ≡ seen_lines (at Plain d k) (seen ++ bs) after
 long_run quote [] u after n d k seen small open_ early closed = elim closed [
   | inl stop ↦ absurd (both_ways _ (three_step (byte_of quote) n u [] open_) stop)
-  | inr end ↦ rw (end, append-nil, long_final quote n u k) refl
+  | inr end ↦ rw (end, append-nil, long_final quote n u k, long_broken quote n u) refl
 ]
 long_run quote (b ∷ bs) u after n d k seen small open_ early closed = elim (cases_Bool (escape_takes u b)) [
   | inl takes ↦

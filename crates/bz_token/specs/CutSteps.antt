@@ -1,17 +1,25 @@
 -- For private clauses: a byte at a time.
-use Rattle.std.specs.Prelude.{◌≡◌, ℕ, ◌+◌, ◌-◌, List, [], ◌∷◌, Bool, true, false, not, ◌&&◌, ◌||◌, ◌==◌, if◌then◌else◌}
+use Rattle.std.specs.Prelude.{ℕ, ◌+◌, ◌-◌, List, [], ◌∷◌, ◌++◌, Bool, true, false, Option, None, cond, ◌||◌, ◌==◌, if◌then◌else◌}
 use Rattle.bz_token.specs.declared.cutter.scan.Quote.{Quote}
 use Rattle.bz_token.specs.declared.cutter.scan.Quote.TheVariants.{Single, Double}
 use Rattle.bz_token.specs.declared.cutter.scan.LineKind.{LineKind}
 use Rattle.bz_token.specs.declared.cutter.scan.LineKind.TheVariants.{Blank, Note, Statement}
 use Rattle.bz_token.specs.declared.cutter.scan.Inside.{Inside}
-use Rattle.bz_token.specs.declared.cutter.scan.Inside.TheVariants.{Plain, Ended, Backslash, BackslashReturn, Comment, Opened, OpenedTwice, Short, ShortEscape, ShortEscapeReturn, Long, LongQuote, LongTwoQuotes, LongEscape}
+use Rattle.bz_token.specs.declared.cutter.scan.Inside.TheVariants.{Plain, Ended, BrokenOff, Backslash, BackslashReturn, Comment, Opened, OpenedTwice, Short, ShortEscape, ShortEscapeReturn, Long, LongQuote, LongTwoQuotes, LongEscape}
 use Rattle.bz_token.specs.declared.cutter.scan.Scan.{Scan}
 use Rattle.bz_token.specs.declared.cutter.Cutter.{Cutter}
-use Rattle.bz_token.specs.Chunks.{is_note}
+use Rattle.bz_token.specs.declared.cutter.block.Opener.{Opener}
+use Rattle.bz_token.specs.declared.cutter.block.Stage.{Stage}
+use Rattle.bz_token.specs.declared.cutter.block.Stage.TheVariants.{Notes, InBlock, Done}
+use Rattle.bz_token.specs.LogicalLines.{Line}
+use Rattle.bz_token.specs.declared.cutter.Cut.{Cut}
+use Rattle.bz_token.specs.declared.cutter.Cut.TheVariants.{Whole, More, Block}
+use Rattle.bz_token.specs.Blocks.{word_at, opener_of}
+use Rattle.bz_token.specs.Chunks.{stage_step, stage_behind, takes}
 
 abbrev pub is_ended : Inside → Bool
 is_ended Ended = true
+is_ended BrokenOff = true
 is_ended _ = false
 
 abbrev pub byte_of : Quote → ℕ
@@ -42,19 +50,20 @@ outside depth kind b =
 abbrev pub in_short : Quote → ℕ → LineKind → ℕ → Scan
 in_short quote depth kind b =
     if b == byte_of quote then at Plain depth kind
-    else (if b == 10 then at Ended depth kind
+    else (if b == 10 then at BrokenOff depth kind
     else (if b == 92 then at (ShortEscape quote) depth kind
     else at (Short quote) depth kind))
 
-abbrev pub in_long : Inside → Inside → Quote → ℕ → LineKind → ℕ → Scan
-in_long quoted plain quote depth kind b =
+abbrev pub in_long : Inside → Quote → ℕ → LineKind → ℕ → Scan
+in_long quoted quote depth kind b =
     if b == byte_of quote then at quoted depth kind
     else (if b == 92 then at (LongEscape quote) depth kind
-    else at plain depth kind)
+    else at (Long quote) depth kind)
 
 abbrev pub next_in : Inside → ℕ → LineKind → ℕ → Scan
 next_in Plain depth kind b = outside depth kind b
 next_in Ended depth kind b = outside 0 Blank b
+next_in BrokenOff depth kind b = outside 0 Blank b
 next_in Backslash depth kind b = if b == 10 then at Plain depth kind else (if b == 13 then at BackslashReturn depth kind else outside depth Statement b)
 next_in BackslashReturn depth kind b = if b == 10 then at Plain depth kind else outside depth Statement b
 next_in Comment depth kind b = if b == 10 then outside depth kind b else at Comment depth kind
@@ -63,9 +72,9 @@ next_in (OpenedTwice quote) depth kind b = if b == byte_of quote then at (Long q
 next_in (Short quote) depth kind b = in_short quote depth kind b
 next_in (ShortEscape quote) depth kind b = if b == 13 then at (ShortEscapeReturn quote) depth kind else at (Short quote) depth kind
 next_in (ShortEscapeReturn quote) depth kind b = if b == 10 then at (Short quote) depth kind else in_short quote depth kind b
-next_in (Long quote) depth kind b = in_long (LongQuote quote) (Long quote) quote depth kind b
-next_in (LongQuote quote) depth kind b = in_long (LongTwoQuotes quote) (Long quote) quote depth kind b
-next_in (LongTwoQuotes quote) depth kind b = in_long Plain (Long quote) quote depth kind b
+next_in (Long quote) depth kind b = in_long (LongQuote quote) quote depth kind b
+next_in (LongQuote quote) depth kind b = in_long (LongTwoQuotes quote) quote depth kind b
+next_in (LongTwoQuotes quote) depth kind b = in_long Plain quote depth kind b
 next_in (LongEscape quote) depth kind b = at (Long quote) depth kind
 
 abbrev pub next : Scan → ℕ → Scan
@@ -78,16 +87,58 @@ abbrev pub run : Scan → List ℕ → Scan
 run s [] = s
 run s (b ∷ bs) = run (next s b) bs
 
--- a chunk ends here
-abbrev pub is_whole : Scan → Bool
-is_whole s = is_ended s.inside && not (is_note s.kind)
+-- The chunks that the steps find, behind the bytes of whole lines and a part of a line.
+abbrev pub is_broken : Inside → Bool
+is_broken BrokenOff = true
+is_broken _ = false
 
--- and none before
-abbrev pub quiet : Scan → List ℕ → Bool
-quiet s [] = not (is_whole s)
-quiet s (b ∷ bs) = not (is_whole s) && quiet (next s b) bs
+abbrev pub line_at : List ℕ → LineKind → Bool → Line
+line_at text kind broken = record { text = text; kind = kind; broken = broken }
 
--- the cutter has read these bytes since the last chunk's end
-pub record IsBehind (cutter : Cutter) (seen : List ℕ) : Type 0 where
-  pub scan_is : cutter.scan ≡ run start seen
-  pub no_chunk : quiet start seen ≡ true
+abbrev pub line_here : Scan → List ℕ → Line
+line_here s part = line_at part s.kind (is_broken s.inside)
+
+abbrev pub seen_chunks : Scan → Stage → List ℕ → List ℕ → List ℕ → List (List ℕ)
+seen_chunks s stage before part [] = (before ++ part) ∷ []
+seen_chunks s stage before part (b ∷ bs) = elim (is_ended s.inside) [
+  | false ↦ seen_chunks (next s b) stage before (part ++ b ∷ []) bs
+  | true ↦ elim (takes (stage_behind stage (line_here s part)) (b ∷ bs)) [
+    | true ↦ seen_chunks (next s b) (stage_behind stage (line_here s part)) (before ++ part) (b ∷ []) bs
+    | false ↦ (before ++ part) ∷ seen_chunks (next s b) Notes [] (b ∷ []) bs
+  ]
+]
+
+abbrev pub is_blank_kind : LineKind → Bool
+is_blank_kind Blank = true
+is_blank_kind Note = false
+is_blank_kind Statement = false
+
+-- the word of a block that a logical line begins with, as far as it is known behind a physical line
+abbrev pub head_behind : Cutter → List ℕ → Option Opener
+head_behind cutter line = cond (is_blank_kind cutter.scan.kind) (opener_of (word_at line)) cutter.opener
+
+-- the cutter behind a physical line, before it is asked whether the logical line has ended
+abbrev pub moved : Cutter → List ℕ → Cutter
+moved cutter line = record { scan = run cutter.scan line; stage = cutter.stage; opener = head_behind cutter line }
+
+-- what the chunk is behind a logical line that has ended
+abbrev pub stage_now : Cutter → Stage
+stage_now cutter = stage_step cutter.stage cutter.scan.kind cutter.opener (is_broken cutter.scan.inside)
+
+-- the cutter at the beginning of a line in no block, and behind a line of a block
+abbrev pub fresh : Cutter
+fresh = record { scan = start; stage = Notes; opener = None }
+
+abbrev pub between : Opener → Cutter
+between word = record { scan = at Ended 0 Blank; stage = InBlock word; opener = None }
+
+-- the answer and the cutter behind a logical line that has ended
+abbrev pub cut_at : Stage → Cut
+cut_at Notes = More
+cut_at (InBlock word) = Block
+cut_at Done = Whole
+
+abbrev pub cutter_at : Stage → Cutter
+cutter_at Notes = fresh
+cutter_at (InBlock word) = between word
+cutter_at Done = fresh

@@ -9,5 +9,10 @@ pub mod Scans
 pub mod Groups
 pub mod Munch
 pub mod Pieces
+pub mod LogicalLines
+pub mod Blocks
 pub mod Chunks
+pub mod Cuts
 pub mod CutSteps
+pub mod Decided
+pub mod CutterState

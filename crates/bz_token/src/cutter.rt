@@ -1,12 +1,18 @@
 //! Where the chunks of a file end.
 
+mod block;
 mod scan;
+#[cfg(test)]
+mod tests;
 
-ghost use Rattle.std.specs.Prelude.{◌≡◌, ◌+◌, ◌<◌, ◌^◌, ◌++◌, [], List, ℕ, length, IsTrue};
-ghost use Rattle.bz_token.specs.CutSteps.{IsBehind};
-ghost use Rattle.bz_token.specs.Chunks.{IsCut, left, is_physical_line};
+ghost use Rattle.std.specs.Prelude.{◌≡◌, ◌+◌, ◌<◌, ◌^◌, ◌++◌, ◌↔◌, [], List, ℕ, false, length, IsTrue};
+ghost use Rattle.bz_token.specs.CutSteps.{start, fresh, moved, stage_now, cut_at, cutter_at};
+ghost use Rattle.bz_token.specs.CutterState.{IsBehind, IsAtBlock, Takes, Awaits, AwaitsNext};
+ghost use Rattle.bz_token.specs.Chunks.{chunks};
+ghost use Rattle.bz_token.specs.Cuts.{IsChunk, IsPart, IsBlock, IsCut, IsNext, left, left_next, IsLast, is_physical_line, ends_in_newline};
 
-use scan::{Inside, LineKind, Scan, is_whole, read};
+use block::{Opener, Stage, block_goes_on, opener_at, stage_step};
+use scan::{Inside, LineKind, Scan, is_ended, read};
 
 /// What a line says of its chunk.
 #[derive(Clone, Copy, Debug, PartialEq, Eq)]
@@ -15,59 +21,142 @@ pub enum Cut {
     More,
     /// The lines since the last chunk's end are a chunk.
     Whole,
+    /// The lines since the last chunk's end are a chunk unless the next line goes on with their block.
+    Block,
+}
+
+/// Whether a block goes on.
+#[derive(Clone, Copy, Debug, PartialEq, Eq)]
+pub enum Next {
+    /// The next line belongs to the block.
+    Goes,
+    /// The lines since the last chunk's end are a chunk.
+    Ends,
+    /// More bytes are needed, at most 5 in all.
+    Short,
 }
 
 /// Finds where the chunks of a file end, a physical line at a time. This project's own rule: a chunk is a blank line,
-/// or comment lines with the blank line behind them, or comment lines, if any, with a statement.
+/// or comment lines with the blank line behind them, or comment lines, if any, with a statement. A statement that
+/// begins with `def`, `for` or `if` in column 1 is a block and takes the indented and empty lines behind it.
 #[derive(Clone, Copy, Debug, PartialEq, Eq)]
 pub struct Cutter {
+    // The logical line that is being read. It has ended only behind a line of a block.
     scan: Scan,
+    // The chunk, by the logical lines before this one.
+    stage: Stage,
+    // The word of a block that this logical line begins with.
+    opener: Option<Opener>,
 }
 
 impl Cutter {
     /// A cutter at the beginning of a file.
     pub fn new() -> Self
-        ensures { IsBehind result [] }
+        ensures part { IsPart [] }
+        ensures behind { IsBehind result [] }
+        ensures awaits { (line : List ℕ) → Takes result line }
+    {
+        Cutter::fresh()
+    }
+
+    /// Reads one physical line with its newline, or the last line without one, which answers `More`. Behind `Block` it
+    /// asks for an answer of `goes_on` first. At most 2^64 - 1 bytes stand between two ends of chunks.
+    pub fn line(&mut self, line: &[u8]) -> Cut
+        requires one_line { IsTrue (is_physical_line line.now) }
+        requires room { (seen : List ℕ) × IsBehind self.old seen × (length seen + length line.now < 2 ^ 64) }
+        requires takes { Takes self.old line.now }
+        ensures cut { IsTrue (ends_in_newline line.now) → (seen : List ℕ) → IsBehind self.old seen → IsCut result (seen ++ line.now) }
+        ensures whole { (seen : List ℕ) → IsBehind self.old seen → (result ≡ Cut.Whole) ↔ IsChunk (seen ++ line.now) }
+        ensures block { (seen : List ℕ) → IsBehind self.old seen → (result ≡ Cut.Block) ↔ IsBlock (seen ++ line.now) }
+        ensures last { ends_in_newline line.now ≡ false → (seen : List ℕ) → IsBehind self.old seen → IsLast result (seen ++ line.now) }
+        ensures behind { IsTrue (ends_in_newline line.now) → (seen : List ℕ) → IsBehind self.old seen → IsBehind self.new (left result (seen ++ line.now)) }
+        ensures awaits { Awaits result self.new }
+    {
+        self.read_line(line);
+        if !is_ended(self.scan.inside) {
+            return Cut::More;
+        }
+        let stage = self.stage_now();
+        *self = Cutter::at(stage);
+        cut_at(stage)
+    }
+
+    /// Whether the block goes on, behind an answer of `Block`: `ahead` is what follows, and `at_end` says that nothing
+    /// comes behind it. Behind `Short` it is asked again with more bytes.
+    pub fn goes_on(&mut self, ahead: &[u8], at_end: bool) -> Next
+        requires at_block { IsAtBlock self.old }
+        ensures next { (seen : List ℕ) → IsBehind self.old seen → IsNext result at_end seen ahead.now }
+        ensures behind { (seen : List ℕ) → IsBehind self.old seen → IsBehind self.new (left_next result seen) }
+        ensures awaits { AwaitsNext result at_end ahead.now self.new }
+    {
+        let Stage::InBlock(word) = self.stage else {
+            // No chunk is a block here; the condition rules it out.
+            return Next::Ends;
+        };
+        match block_goes_on(word, ahead, at_end) {
+            Next::Ends => {
+                *self = Cutter::fresh();
+                Next::Ends
+            }
+            next => next,
+        }
+    }
+
+    // At the beginning of a line in no block.
+    fn fresh() -> Cutter
+        ensures { result ≡ fresh }
     {
         Cutter {
-            scan: Scan {
-                inside: Inside::Plain,
-                depth: 0,
-                kind: LineKind::Blank,
+            scan: Scan::start(),
+            stage: Stage::Notes,
+            opener: None,
+        }
+    }
+
+    // Behind a logical line that has ended.
+    fn at(stage: Stage) -> Cutter
+        ensures { result ≡ cutter_at stage }
+    {
+        match stage {
+            Stage::Notes | Stage::Done => Cutter::fresh(),
+            Stage::InBlock(_) => Cutter {
+                scan: Scan {
+                    inside: Inside::Ended,
+                    ..Scan::start()
+                },
+                stage,
+                opener: None,
             },
         }
     }
 
-    /// Reads one physical line with its newline, or the last line without one, which answers `More`. At most 2^64 - 1
-    /// bytes stand between two answers of `Whole`.
-    pub fn line(&mut self, line: &[u8]) -> Cut
-        requires one_line { IsTrue (is_physical_line line.now) }
-        requires room { (seen : List ℕ) × IsBehind self.old seen × (length seen + length line.now < 2 ^ 64) }
-        ensures cut { (seen : List ℕ) → IsBehind self.old seen → IsCut result (seen ++ line.now) }
-        ensures behind { (seen : List ℕ) → IsBehind self.old seen → IsBehind self.new (left result (seen ++ line.now)) }
+    // Reads a physical line; the first that is not blank tells whether a block begins.
+    fn read_line(&mut self, line: &[u8])
+        requires { self.old.scan.depth + length line.now < 2 ^ 64 }
+        ensures { self.new ≡ moved self.old line.now }
     {
-        self.scan = read(self.scan, line);
-        if is_whole(self.scan) {
-            *self = Cutter::new();
-            return Cut::Whole;
+        if matches!(self.scan.kind, LineKind::Blank) {
+            self.opener = opener_at(line);
         }
-        Cut::More
+        self.scan = read(self.scan, line);
+    }
+
+    // What the chunk is behind the logical line, which has ended.
+    fn stage_now(&self) -> Stage
+        ensures { result ≡ stage_now self.now }
+    {
+        let broken = matches!(self.scan.inside, Inside::BrokenOff);
+        stage_step(self.stage, self.scan.kind, self.opener, broken)
     }
 }
 
-#[cfg(test)]
-mod tests {
-    use super::*;
-    use std::test::Fail;
-
-    #[test]
-    fn a_chunk_ends_behind_its_statement(rt: HostRuntime) -> Result<(), Fail> {
-        let mut cutter = Cutter::new();
-        assert_eq!(rt; cutter.line(b"# a\n"), Cut::More);
-        assert_eq!(rt; cutter.line(b"x = [\n"), Cut::More);
-        assert_eq!(rt; cutter.line(b"]\n"), Cut::Whole);
-        assert_eq!(rt; cutter.line(b"\n"), Cut::Whole);
-        assert_eq!(rt; cutter.line(b"x = \"a\n"), Cut::Whole);
-        Ok(())
+// What the end of a logical line says of its chunk.
+fn cut_at(stage: Stage) -> Cut
+    ensures { result ≡ cut_at stage }
+{
+    match stage {
+        Stage::Notes => Cut::More,
+        Stage::InBlock(_) => Cut::Block,
+        Stage::Done => Cut::Whole,
     }
 }

@@ -13,7 +13,7 @@ mod scan_token;
 mod token;
 mod utf8;
 
-pub use cutter::{Cut, Cutter};
+pub use cutter::{Cut, Cutter, Next};
 pub use fault::LexFault;
 pub use lexer::tokens;
 pub use token::{Kind, Token};

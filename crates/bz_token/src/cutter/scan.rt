@@ -1,14 +1,16 @@
 //! The walk over the bytes of a file that finds where its logical lines end.
 
 ghost use Rattle.std.specs.Prelude.{◌≡◌, ◌+◌, ◌-◌, ◌≤◌, ◌<◌, ◌^◌, ◌==◌, true, false, length, drop};
-ghost use Rattle.bz_token.specs.CutSteps.{is_ended, is_whole, byte_of, with_note, outside, in_short, in_long, next, start, run};
-ghost use Rattle.bz_token.specs.Chunks.{is_note};
+ghost use Rattle.bz_token.specs.CutSteps.{is_ended, byte_of, with_note, at, outside, in_short, in_long, next, start, run};
 
 /// What a logical line holds.
 #[derive(Clone, Copy, Debug, PartialEq, Eq)]
 pub enum LineKind {
+    /// White space and continued lines.
     Blank,
+    /// A comment beside these.
     Note,
+    /// Anything else.
     Statement,
 }
 
@@ -22,19 +24,32 @@ pub enum Quote {
 /// What the next byte stands in.
 #[derive(Clone, Copy, Debug, PartialEq, Eq)]
 pub enum Inside {
+    /// No string and no comment.
     Plain,
+    /// Nothing: the newline that ends the line was read.
     Ended,
+    /// Nothing: the newline that was read breaks off a string, and so ends the line.
+    BrokenOff,
+    /// A continued line, if a newline follows, or a carriage return and a newline.
     Backslash,
+    /// A continued line, if a newline follows.
     BackslashReturn,
     Comment,
+    /// A string, behind its first quote.
     Opened(Quote),
+    /// A long string, if a third quote follows; else an empty string has ended.
     OpenedTwice(Quote),
     Short(Quote),
+    /// A short string, behind a backslash.
     ShortEscape(Quote),
+    /// A short string, behind a backslash and a carriage return.
     ShortEscapeReturn(Quote),
     Long(Quote),
+    /// A long string, behind one quote.
     LongQuote(Quote),
+    /// A long string, behind two quotes.
     LongTwoQuotes(Quote),
+    /// A long string, behind a backslash.
     LongEscape(Quote),
 }
 
@@ -42,8 +57,40 @@ pub enum Inside {
 #[derive(Clone, Copy, Debug, PartialEq, Eq)]
 pub struct Scan {
     pub inside: Inside,
+    /// The brackets that are open. A closing one closes any.
     pub depth: u64,
     pub kind: LineKind,
+}
+
+impl Scan {
+    /// The beginning of a logical line.
+    pub fn start() -> Scan
+        ensures { result ≡ start }
+    {
+        Scan {
+            inside: Inside::Plain,
+            depth: 0,
+            kind: LineKind::Blank,
+        }
+    }
+
+    fn within(self, inside: Inside) -> Scan
+        ensures { result ≡ at inside self.depth self.kind }
+    {
+        Scan { inside, ..self }
+    }
+
+    fn at_depth(self, depth: u64) -> Scan
+        ensures { result ≡ at self.inside depth self.kind }
+    {
+        Scan { depth, ..self }
+    }
+
+    fn of_kind(self, kind: LineKind) -> Scan
+        ensures { result ≡ at self.inside self.depth kind }
+    {
+        Scan { kind, ..self }
+    }
 }
 
 fn byte_of(quote: Quote) -> u8
@@ -65,96 +112,53 @@ fn with_note(kind: LineKind) -> LineKind
 }
 
 // A byte outside strings and comments.
-fn outside(depth: u64, kind: LineKind, b: u8) -> Scan
-    requires { depth + 1 < 2 ^ 64 }
-    ensures scan { result ≡ outside depth kind b }
-    ensures depth { result.depth ≤ depth + 1 }
+fn outside(scan: Scan, b: u8) -> Scan
+    requires { scan.depth + 1 < 2 ^ 64 }
+    ensures scan { result ≡ outside scan.depth scan.kind b }
+    ensures depth { result.depth ≤ scan.depth + 1 }
 {
-    let statement = LineKind::Statement;
+    let plain = scan.within(Inside::Plain);
+    let statement = plain.of_kind(LineKind::Statement);
     match b {
-        b'\n' if depth == 0 => Scan {
-            inside: Inside::Ended,
-            depth,
-            kind,
-        },
-        b'\n' | b' ' | b'\t' | b'\r' => Scan {
-            inside: Inside::Plain,
-            depth,
-            kind,
-        },
-        b'#' => Scan {
-            inside: Inside::Comment,
-            depth,
-            kind: with_note(kind),
-        },
-        b'\\' => Scan {
-            inside: Inside::Backslash,
-            depth,
-            kind,
-        },
-        b'"' => Scan {
-            inside: Inside::Opened(Quote::Double),
-            depth,
-            kind: statement,
-        },
-        b'\'' => Scan {
-            inside: Inside::Opened(Quote::Single),
-            depth,
-            kind: statement,
-        },
-        b'(' | b'[' | b'{' => Scan {
-            inside: Inside::Plain,
-            depth: depth + 1,
-            kind: statement,
-        },
-        b')' | b']' | b'}' => Scan {
-            inside: Inside::Plain,
-            depth: depth.saturating_sub(1),
-            kind: statement,
-        },
-        _ => Scan {
-            inside: Inside::Plain,
-            depth,
-            kind: statement,
-        },
+        b'\n' if scan.depth == 0 => plain.within(Inside::Ended),
+        b'\n' | b' ' | b'\t' | b'\r' => plain,
+        b'#' => plain.of_kind(with_note(scan.kind)).within(Inside::Comment),
+        b'\\' => plain.within(Inside::Backslash),
+        b'"' => statement.within(Inside::Opened(Quote::Double)),
+        b'\'' => statement.within(Inside::Opened(Quote::Single)),
+        b'(' | b'[' | b'{' => statement.at_depth(scan.depth + 1),
+        b')' | b']' | b'}' => statement.at_depth(scan.depth.saturating_sub(1)),
+        _ => statement,
     }
 }
 
-fn in_short(quote: Quote, depth: u64, kind: LineKind, b: u8) -> Scan
-    ensures scan { result ≡ in_short quote depth kind b }
-    ensures depth { result.depth ≡ depth }
+// A byte in a short string that no backslash stands before.
+fn in_short(scan: Scan, quote: Quote, b: u8) -> Scan
+    ensures scan { result ≡ in_short quote scan.depth scan.kind b }
+    ensures depth { result.depth ≡ scan.depth }
 {
-    let inside = if b == byte_of(quote) {
-        Inside::Plain
+    if b == byte_of(quote) {
+        scan.within(Inside::Plain)
     } else if b == b'\n' {
-        Inside::Ended
+        scan.within(Inside::BrokenOff)
     } else if b == b'\\' {
-        Inside::ShortEscape(quote)
+        scan.within(Inside::ShortEscape(quote))
     } else {
-        Inside::Short(quote)
-    };
-    Scan {
-        inside,
-        depth,
-        kind,
+        scan.within(Inside::Short(quote))
     }
 }
 
-fn in_long(quoted: Inside, plain: Inside, quote: Quote, depth: u64, kind: LineKind, b: u8) -> Scan
-    ensures scan { result ≡ in_long quoted plain quote depth kind b }
-    ensures depth { result.depth ≡ depth }
+// A byte in a long string that no backslash stands before; a quote leads to `quoted`.
+fn in_long(scan: Scan, quote: Quote, quoted: Inside, b: u8) -> Scan
+    ensures scan { result ≡ in_long quoted quote scan.depth scan.kind b }
+    ensures depth { result.depth ≡ scan.depth }
 {
-    let inside = if b == byte_of(quote) {
-        quoted
+    if b == byte_of(quote) {
+        scan.within(quoted)
     } else if b == b'\\' {
-        Inside::LongEscape(quote)
+        scan.within(Inside::LongEscape(quote))
     } else {
-        plain
-    };
-    Scan {
-        inside,
-        depth,
-        kind,
+        scan.within(Inside::Long(quote))
     }
 }
 
@@ -163,104 +167,34 @@ fn advance(scan: Scan, b: u8) -> Scan
     ensures scan { result ≡ next scan b }
     ensures depth { result.depth ≤ scan.depth + 1 }
 {
-    let Scan {
-        inside,
-        depth,
-        kind,
-    } = scan;
-    match inside {
-        Inside::Plain => outside(depth, kind, b),
-        Inside::Ended => outside(0, LineKind::Blank, b),
+    match scan.inside {
+        Inside::Plain => outside(scan, b),
+        Inside::Ended | Inside::BrokenOff => outside(Scan::start(), b),
         Inside::Backslash => match b {
-            b'\n' => Scan {
-                inside: Inside::Plain,
-                depth,
-                kind,
-            },
-            b'\r' => Scan {
-                inside: Inside::BackslashReturn,
-                depth,
-                kind,
-            },
-            _ => outside(depth, LineKind::Statement, b),
+            b'\n' => scan.within(Inside::Plain),
+            b'\r' => scan.within(Inside::BackslashReturn),
+            _ => outside(scan.of_kind(LineKind::Statement), b),
         },
         Inside::BackslashReturn => match b {
-            b'\n' => Scan {
-                inside: Inside::Plain,
-                depth,
-                kind,
-            },
-            _ => outside(depth, LineKind::Statement, b),
+            b'\n' => scan.within(Inside::Plain),
+            _ => outside(scan.of_kind(LineKind::Statement), b),
         },
         Inside::Comment => match b {
-            b'\n' => outside(depth, kind, b),
+            b'\n' => outside(scan, b),
             _ => scan,
         },
-        Inside::Opened(quote) => {
-            if b == byte_of(quote) {
-                Scan {
-                    inside: Inside::OpenedTwice(quote),
-                    depth,
-                    kind,
-                }
-            } else {
-                in_short(quote, depth, kind, b)
-            }
-        }
-        Inside::OpenedTwice(quote) => {
-            if b == byte_of(quote) {
-                Scan {
-                    inside: Inside::Long(quote),
-                    depth,
-                    kind,
-                }
-            } else {
-                outside(depth, kind, b)
-            }
-        }
-        Inside::Short(quote) => in_short(quote, depth, kind, b),
-        Inside::ShortEscape(quote) => match b {
-            b'\r' => Scan {
-                inside: Inside::ShortEscapeReturn(quote),
-                depth,
-                kind,
-            },
-            _ => Scan {
-                inside: Inside::Short(quote),
-                depth,
-                kind,
-            },
-        },
-        Inside::ShortEscapeReturn(quote) => match b {
-            b'\n' => Scan {
-                inside: Inside::Short(quote),
-                depth,
-                kind,
-            },
-            _ => in_short(quote, depth, kind, b),
-        },
-        Inside::Long(quote) => in_long(Inside::LongQuote(quote), inside, quote, depth, kind, b),
-        Inside::LongQuote(quote) => in_long(
-            Inside::LongTwoQuotes(quote),
-            Inside::Long(quote),
-            quote,
-            depth,
-            kind,
-            b,
-        ),
-        Inside::LongTwoQuotes(quote) => in_long(
-            Inside::Plain,
-            Inside::Long(quote),
-            quote,
-            depth,
-            kind,
-            b,
-        ),
-        Inside::LongEscape(quote) => Scan {
-            inside: Inside::Long(quote),
-            depth,
-            kind,
-        },
+        Inside::Opened(quote) if b == byte_of(quote) => scan.within(Inside::OpenedTwice(quote)),
+        Inside::OpenedTwice(quote) if b == byte_of(quote) => scan.within(Inside::Long(quote)),
+        Inside::OpenedTwice(_) => outside(scan, b),
+        Inside::Opened(quote) | Inside::Short(quote) => in_short(scan, quote, b),
+        Inside::ShortEscape(quote) if b == b'\r' => scan.within(Inside::ShortEscapeReturn(quote)),
+        Inside::ShortEscape(quote) => scan.within(Inside::Short(quote)),
+        Inside::ShortEscapeReturn(quote) if b == b'\n' => scan.within(Inside::Short(quote)),
+        Inside::ShortEscapeReturn(quote) => in_short(scan, quote, b),
+        Inside::Long(quote) => in_long(scan, quote, Inside::LongQuote(quote), b),
+        Inside::LongQuote(quote) => in_long(scan, quote, Inside::LongTwoQuotes(quote), b),
+        Inside::LongTwoQuotes(quote) => in_long(scan, quote, Inside::Plain, b),
+        Inside::LongEscape(quote) => scan.within(Inside::Long(quote)),
     }
 }
 
@@ -276,9 +210,9 @@ pub fn read(scan: Scan, bytes: &[u8]) -> Scan
     scan
 }
 
-/// Whether a chunk ends here.
-pub fn is_whole(scan: Scan) -> bool
-    ensures { result ≡ is_whole scan }
+/// Whether the logical line has ended.
+pub fn is_ended(inside: Inside) -> bool
+    ensures { result ≡ is_ended inside }
 {
-    matches!(scan.inside, Inside::Ended) && !matches!(scan.kind, LineKind::Note)
+    matches!(inside, Inside::Ended | Inside::BrokenOff)
 }

@@ -1,19 +1,74 @@
-use Rattle.std.proofs.Common.{sym, ap, ◌∙◌, arith}
-use Rattle.bz_token.specs.CutSteps.{is_whole}
-use Rattle.bz_token.proofs.CutLaws.{whole_line, part_line, still_behind, room}
+use Rattle.std.proofs.Common.{◌≡◌, ◌∙◌, true, false, sym, ap}
+use Rattle.std.proofs.lemmas.Bool.{both_ways}
+use Rattle.bz_token.specs.declared.cutter.Cut.TheVariants.{More}
+use Rattle.bz_token.specs.CutSteps.{is_ended, run, moved, stage_now, cut_at, cutter_at}
+use Rattle.bz_token.proofs.CutAnswers.{exactly_whole, exactly_block, open_cut, open_part, open_answers, open_last, ended_newline, ended_line, answers_of}
 use Rattle.bz_token.proofs.cutter.Cutter.line.Goals as goal
 
-pub read-self-requires : goal.read-self-requires
-read-self-requires c = omega (arith, room c.args.self.now c.requires.room.0 c.requires.room.1, c.requires.room.2)
+pub returns-then-not-is_ended-clause-cut : goal.returns-then-not-is_ended-clause-cut
+returns-then-not-is_ended-clause-cut c n seen b =
+    let inside : is_ended (run c.args.self.now.scan c.args.line.now).inside ≡ false =
+    sym (ap (λ s. is_ended s.scan.inside) c.read_line.ensures) ∙ sym c.is_ended.ensures ∙ c.if-not-is_ended.true in
+    open_part c.args.self.now c.args.line.now c.requires.one_line c.requires.takes inside n seen b
 
-pub returns-then-is_whole-clause-cut : goal.returns-then-is_whole-clause-cut
-returns-then-is_whole-clause-cut c =
-    whole_line c.args.self.now c.args.line.now c.requires.one_line (sym (ap is_whole c.read-self.ensures) ∙ sym c.is_whole.ensures ∙ c.if-is_whole.true)
+pub returns-then-not-is_ended-clause-whole : goal.returns-then-not-is_ended-clause-whole
+returns-then-not-is_ended-clause-whole c seen b =
+    let inside : is_ended (run c.args.self.now.scan c.args.line.now).inside ≡ false =
+    sym (ap (λ s. is_ended s.scan.inside) c.read_line.ensures) ∙ sym c.is_ended.ensures ∙ c.if-not-is_ended.true in
+    exactly_whole More _ (open_answers c.args.self.now c.args.line.now c.requires.one_line c.requires.takes inside seen b)
+
+pub returns-then-not-is_ended-clause-block : goal.returns-then-not-is_ended-clause-block
+returns-then-not-is_ended-clause-block c seen b =
+    let inside : is_ended (run c.args.self.now.scan c.args.line.now).inside ≡ false =
+    sym (ap (λ s. is_ended s.scan.inside) c.read_line.ensures) ∙ sym c.is_ended.ensures ∙ c.if-not-is_ended.true in
+    exactly_block More _ (open_answers c.args.self.now c.args.line.now c.requires.one_line c.requires.takes inside seen b)
+
+pub returns-then-not-is_ended-clause-last : goal.returns-then-not-is_ended-clause-last
+returns-then-not-is_ended-clause-last c n seen b =
+    open_last c.args.self.now c.args.line.now c.requires.one_line c.requires.takes seen b
+
+pub returns-then-not-is_ended-clause-behind : goal.returns-then-not-is_ended-clause-behind
+returns-then-not-is_ended-clause-behind c n seen b =
+    let inside : is_ended (run c.args.self.now.scan c.args.line.now).inside ≡ false =
+    sym (ap (λ s. is_ended s.scan.inside) c.read_line.ensures) ∙ sym c.is_ended.ensures ∙ c.if-not-is_ended.true in
+    rw c.read_line.ensures (open_cut c.args.self.now c.args.line.now c.requires.one_line c.requires.takes inside n seen b)
 
 pub returns-clause-cut : goal.returns-clause-cut
-returns-clause-cut c =
-    part_line c.args.self.now c.args.line.now c.requires.one_line (sym (ap is_whole c.read-self.ensures) ∙ sym c.is_whole.ensures ∙ c.if-is_whole.false)
+returns-clause-cut c n seen b =
+    let ended : is_ended (run c.args.self.now.scan c.args.line.now).inside ≡ true =
+    sym (ap (λ s. is_ended s.scan.inside) c.read_line.ensures) ∙ sym c.is_ended.ensures ∙ c.if-not-is_ended.false in
+    let is : c.cut_at.result ≡ cut_at (stage_now (moved c.args.self.now c.args.line.now)) =
+    c.cut_at.ensures ∙ ap cut_at (c.stage_now-stage.ensures ∙ ap stage_now c.read_line.ensures) in
+    rw is (ended_line c.args.self.now c.args.line.now c.requires.one_line c.requires.takes ended seen b).0
+
+pub returns-clause-whole : goal.returns-clause-whole
+returns-clause-whole c seen b =
+    let ended : is_ended (run c.args.self.now.scan c.args.line.now).inside ≡ true =
+    sym (ap (λ s. is_ended s.scan.inside) c.read_line.ensures) ∙ sym c.is_ended.ensures ∙ c.if-not-is_ended.false in
+    let is : c.cut_at.result ≡ cut_at (stage_now (moved c.args.self.now c.args.line.now)) =
+    c.cut_at.ensures ∙ ap cut_at (c.stage_now-stage.ensures ∙ ap stage_now c.read_line.ensures) in
+    rw is (exactly_whole _ _ (answers_of _ _ (ended_line c.args.self.now c.args.line.now c.requires.one_line c.requires.takes ended seen b).0))
+
+pub returns-clause-block : goal.returns-clause-block
+returns-clause-block c seen b =
+    let ended : is_ended (run c.args.self.now.scan c.args.line.now).inside ≡ true =
+    sym (ap (λ s. is_ended s.scan.inside) c.read_line.ensures) ∙ sym c.is_ended.ensures ∙ c.if-not-is_ended.false in
+    let is : c.cut_at.result ≡ cut_at (stage_now (moved c.args.self.now c.args.line.now)) =
+    c.cut_at.ensures ∙ ap cut_at (c.stage_now-stage.ensures ∙ ap stage_now c.read_line.ensures) in
+    rw is (exactly_block _ _ (answers_of _ _ (ended_line c.args.self.now c.args.line.now c.requires.one_line c.requires.takes ended seen b).0))
+
+pub returns-clause-last : goal.returns-clause-last
+returns-clause-last c n seen b =
+    let ended : is_ended (run c.args.self.now.scan c.args.line.now).inside ≡ true =
+    sym (ap (λ s. is_ended s.scan.inside) c.read_line.ensures) ∙ sym c.is_ended.ensures ∙ c.if-not-is_ended.false in
+    absurd (both_ways _ n (ended_newline c.args.self.now c.args.line.now c.requires.takes ended seen b))
 
 pub returns-clause-behind : goal.returns-clause-behind
-returns-clause-behind c =
-    rw c.read-self.ensures (still_behind c.args.self.now c.args.line.now c.requires.one_line (sym (ap is_whole c.read-self.ensures) ∙ sym c.is_whole.ensures ∙ c.if-is_whole.false))
+returns-clause-behind c n seen b =
+    let ended : is_ended (run c.args.self.now.scan c.args.line.now).inside ≡ true =
+    sym (ap (λ s. is_ended s.scan.inside) c.read_line.ensures) ∙ sym c.is_ended.ensures ∙ c.if-not-is_ended.false in
+    let is : c.cut_at.result ≡ cut_at (stage_now (moved c.args.self.now c.args.line.now)) =
+    c.cut_at.ensures ∙ ap cut_at (c.stage_now-stage.ensures ∙ ap stage_now c.read_line.ensures) in
+    let now : c.at.result ≡ cutter_at (stage_now (moved c.args.self.now c.args.line.now)) =
+    c.at.ensures ∙ ap cutter_at (c.stage_now-stage.ensures ∙ ap stage_now c.read_line.ensures) in
+    rw (is, now) (ended_line c.args.self.now c.args.line.now c.requires.one_line c.requires.takes ended seen b).1

@@ -1,0 +1,139 @@
+//! The words that begin a block, and the lines that go on with it.
+
+ghost use Rattle.std.specs.Prelude.{◌≡◌, ◌<◌, ◌++◌, [], List, ℕ, true, false, length, bytes_eq};
+ghost use Rattle.std.specs.List.{list_all};
+ghost use Rattle.bz_token.specs.Blocks.{is_white, is_word_byte, word_at, opener_of, has_branch, goes_on};
+ghost use Rattle.bz_token.specs.Chunks.{stage_of, stage_step};
+ghost use Rattle.bz_token.specs.Decided.{DecidesAhead, is_branch_front};
+
+use super::Next;
+use super::scan::LineKind;
+
+/// The words that begin a block.
+#[derive(Clone, Copy, Debug, PartialEq, Eq)]
+pub enum Opener {
+    Def,
+    For,
+    If,
+}
+
+/// What a chunk is, as far as its logical lines were read.
+#[derive(Clone, Copy, Debug, PartialEq, Eq)]
+pub enum Stage {
+    /// Comment lines alone.
+    Notes,
+    /// A block, with the word that begins it.
+    InBlock(Opener),
+    /// Whole.
+    Done,
+}
+
+fn is_white(b: u8) -> bool
+    ensures { result ≡ is_white b }
+{
+    matches!(b, b' ' | b'\t' | b'\r' | b'\n')
+}
+
+fn is_word_byte(b: u8) -> bool
+    ensures { result ≡ is_word_byte b }
+{
+    b.is_ascii_alphabetic() || b.is_ascii_digit() || b == b'_'
+}
+
+// Whether this is the first word of the text.
+fn begins_with_word(text: &[u8], word: &[u8]) -> bool
+    requires { list_all is_word_byte word.now ≡ true }
+    ensures { result ≡ bytes_eq (word_at text.now) word.now }
+{
+    match text.strip_prefix(word) {
+        Some([b, ..]) => !is_word_byte(*b),
+        Some([]) => true,
+        None => false,
+    }
+}
+
+/// The word that the text begins with, if it begins a block.
+pub fn opener_at(text: &[u8]) -> Option<Opener>
+    ensures { result ≡ opener_of (word_at text.now) }
+{
+    if begins_with_word(text, b"def") {
+        Some(Opener::Def)
+    } else if begins_with_word(text, b"for") {
+        Some(Opener::For)
+    } else if begins_with_word(text, b"if") {
+        Some(Opener::If)
+    } else {
+        None
+    }
+}
+
+fn stage_of(word: Option<Opener>, broken: bool) -> Stage
+    ensures { result ≡ stage_of word broken }
+{
+    match word {
+        Some(word) if !broken => Stage::InBlock(word),
+        _ => Stage::Done,
+    }
+}
+
+/// What the chunk is behind one logical line more: its kind, the word of a block that it begins with, and whether its
+/// newline broke off a string.
+pub fn stage_step(stage: Stage, kind: LineKind, word: Option<Opener>, broken: bool) -> Stage
+    ensures { result ≡ stage_step stage kind word broken }
+{
+    match stage {
+        Stage::Notes => match kind {
+            LineKind::Note => Stage::Notes,
+            LineKind::Blank => Stage::Done,
+            LineKind::Statement => stage_of(word, broken),
+        },
+        Stage::InBlock(_) if !broken => stage,
+        Stage::InBlock(_) | Stage::Done => Stage::Done,
+    }
+}
+
+// Whether the first word begins a branch of an `if`.
+fn is_branch(text: &[u8]) -> bool
+    ensures { result ≡ has_branch Opener.If text.now }
+{
+    begins_with_word(text, b"elif") || begins_with_word(text, b"else")
+}
+
+// Whether such a word begins so.
+fn is_branch_front(ahead: &[u8]) -> bool
+    ensures { result ≡ is_branch_front ahead.now }
+{
+    b"elif".starts_with(ahead) || b"else".starts_with(ahead)
+}
+
+// Whether a branch of an `if` follows.
+fn branch_ahead(ahead: &[u8], at_end: bool) -> Next
+    ensures { DecidesAhead (has_branch Opener.If) result at_end ahead.now }
+{
+    if at_end || ahead.len() > 4 {
+        if is_branch(ahead) {
+            Next::Goes
+        } else {
+            Next::Ends
+        }
+    } else if is_branch_front(ahead) {
+        Next::Short
+    } else {
+        Next::Ends
+    }
+}
+
+/// Whether the block goes on with what is ahead; `at_end`: nothing comes behind it.
+pub fn block_goes_on(word: Opener, ahead: &[u8], at_end: bool) -> Next
+    ensures { DecidesAhead (goes_on word) result at_end ahead.now }
+{
+    match ahead {
+        [] if at_end => Next::Ends,
+        [] => Next::Short,
+        [b, ..] if is_white(*b) => Next::Goes,
+        _ => match word {
+            Opener::Def | Opener::For => Next::Ends,
+            Opener::If => branch_ahead(ahead, at_end),
+        },
+    }
+}
