@@ -15,6 +15,7 @@ pub mod OneFault
 pub mod Stops
 pub mod Joins
 pub mod FaultJoins
+pub mod Agree
 pub mod CutMunch
 pub mod CutSeen
 pub mod CutStrings

@@ -90,7 +90,7 @@ gap_begins inside b bs rest h = elim (cases_Bool (is_white inside b)) [
         feeds [] h = absurd (false≢true h)
         feeds (d ∷ ds) h = let third : d ≡ 10 = eqb-true d 10 (and_parts (d == 10) (is_gap inside ds) h).0 in rw third refl
 
-blank_class : (b : ℕ) → is_blank b ≡ true → class_of b ≡ unknown
+pub blank_class : (b : ℕ) → is_blank b ≡ true → class_of b ≡ unknown
 blank_class b h =
     elim (or_cases (b == 32 || b == 9) (b == 13) h) [
       | inr third ↦ let same : b ≡ 13 = eqb-true b 13 third in rw same refl
@@ -100,7 +100,7 @@ blank_class b h =
       ]
     ]
 
-nothing_unknown : (kind : Kind) → can_start kind unknown ≡ true → ⊥
+pub nothing_unknown : (kind : Kind) → can_start kind unknown ≡ true → ⊥
 nothing_unknown Ident h = false≢true h
 nothing_unknown Word h = false≢true h
 nothing_unknown Int h = false≢true h

@@ -1,0 +1,495 @@
+-- The cutter and the tokens agree: where the tokens of a text can be read, the cutter's steps are where they are.
+use Rattle.std.proofs.Common.{◌≡◌, ℕ, zero, suc, ◌+◌, ◌-◌, ◌<◌, ◌≤◌, ◌==◌, ◌&&◌, ◌||◌, List, [], ◌∷◌, ◌++◌, length, take, drop, cond, Bool, true, false, not, refl, sym, ap, ap₂, subst, ◌∙◌, arith, inl, inr, length-append, append_assoc, append-nil, one-add, take-append-drop, add-one}
+use Rattle.std.specs.Prelude.{Option, Some, None, nat_lt, if◌then◌else◌}
+use Rattle.std.specs.List.{list_all, list_any, prefix_len}
+use Rattle.std.specs.Char.{is_ascii_digit}
+use Rattle.std.proofs.lemmas.Bool.{cases_Bool, and_parts, or_cases, false≢true, eqb-true}
+use Rattle.std.proofs.lemmas.Bool.Decides.{nat_tests}
+use Rattle.bz_token.specs.declared.token.Kind.{Kind}
+use Rattle.bz_token.specs.declared.token.Kind.TheVariants.{Ident, Word, Int, Text, Sign, Line, Note, Kept}
+use Rattle.bz_token.specs.declared.scan_string.Escape.{Escape}
+use Rattle.bz_token.specs.declared.scan_string.Escape.TheVariants.{Unescaped, BehindBackslash, BehindReturn}
+use Rattle.bz_token.specs.declared.cutter.scan.Quote.{Quote}
+use Rattle.bz_token.specs.declared.cutter.scan.Quote.TheVariants.{Single, Double}
+use Rattle.bz_token.specs.declared.cutter.scan.LineKind.{LineKind}
+use Rattle.bz_token.specs.declared.cutter.scan.LineKind.TheVariants.{Blank, Statement}
+use Rattle.bz_token.specs.declared.cutter.scan.Inside.{Inside}
+use Rattle.bz_token.specs.declared.cutter.scan.Inside.TheVariants.{Plain, Ended, BrokenOff, Backslash, BackslashReturn, Comment, Opened, OpenedTwice, Short, ShortEscape, ShortEscapeReturn, Long, LongQuote, LongTwoQuotes, LongEscape}
+use Rattle.bz_token.specs.declared.cutter.scan.Scan.{Scan}
+use Rattle.bz_token.specs.CutSteps.{is_ended, byte_of, at, outside, in_short, in_long, next_in, next, start, run, with_note}
+use Rattle.bz_token.specs.Lexical.{is_word_byte, is_blank, is_newline, is_quote, closes, is_empty, signs, is_sign, is_text, IsToken}
+use Rattle.bz_token.specs.Brackets.{is_inside, is_line, is_opening_bracket, is_closing_bracket, fits, open_behind}
+use Rattle.bz_token.proofs.Classes.{Class, class_of, can_start, text_class, one_of, same_bytes, empty_no_text}
+use Rattle.bz_token.proofs.Fitting.{is_bracket_byte, no_bracket}
+use Rattle.bz_token.proofs.Unique.{blank_class, nothing_unknown}
+use Rattle.bz_token.specs.Reading.{is_white, is_gap, continues_gap, feeds_gap, Piece, IsPiece, IsReading, open_after}
+
+-- the cutter stands here, whatever line it is in
+pub record IsAt (s : Scan) (inside : Inside) (depth : ℕ) : Type 0 where
+  pub inside_is : s.inside ≡ inside
+  pub depth_is : s.depth ≡ depth
+
+pub stands : (inside : Inside) (depth : ℕ) (kind : LineKind) → IsAt (at inside depth kind) inside depth
+stands inside depth kind = record { inside_is = refl; depth_is = refl }
+
+-- a step from where it stands
+pub step_from : (s : Scan) (inside : Inside) (depth : ℕ) (b : ℕ) → IsAt s inside depth → (kind : LineKind) × (next s b ≡ next_in inside depth kind b)
+step_from s inside depth b h = (s.kind, λ i. next_in (h.inside_is i) (h.depth_is i) s.kind b)
+
+-- letters, digits and underscores
+word_step : (d : ℕ) (k : LineKind) (b : ℕ) → is_word_byte b ≡ true → outside d k b ≡ at Plain d Statement
+word_step d k b h =
+    let n10 = apart b 10 h refl in
+    let n32 = apart b 32 h refl in
+    let n9 = apart b 9 h refl in
+    let n13 = apart b 13 h refl in
+    let n35 = apart b 35 h refl in
+    let n92 = apart b 92 h refl in
+    let n34 = apart b 34 h refl in
+    let n39 = apart b 39 h refl in
+    let n40 = apart b 40 h refl in
+    let n91 = apart b 91 h refl in
+    let n123 = apart b 123 h refl in
+    let n41 = apart b 41 h refl in
+    let n93 = apart b 93 h refl in
+    let n125 = apart b 125 h refl in
+    simp (n10, n32, n9, n13, n35, n92, n34, n39, n40, n91, n123, n41, n93, n125)
+  where
+    apart : (b c : ℕ) → is_word_byte b ≡ true → is_word_byte c ≡ false → (b == c) ≡ false
+    apart b c h none = elim (cases_Bool (b == c)) [
+      | inr miss ↦ miss
+      | inl hit ↦ absurd (false≢true (sym none ∙ ap is_word_byte (sym (eqb-true b c hit)) ∙ h))
+    ]
+
+pub words_run : (xs : List ℕ) (s : Scan) (d : ℕ) → IsAt s Plain d → list_all is_word_byte xs ≡ true → IsAt (run s xs) Plain d
+words_run [] s d h all = h
+words_run (x ∷ xs) s d h all =
+    let parts = and_parts (is_word_byte x) (list_all is_word_byte xs) all in
+    let moved = step_from s Plain d x h in
+    words_run xs (next s x) d (subst (λ t. IsAt t Plain d) (sym (moved.1 ∙ word_step d moved.0 x parts.0)) (stands Plain d Statement)) parts.1
+
+-- where a long string's scan stands
+abbrev long_state : Quote → ℕ → Escape → Inside
+long_state q row BehindBackslash = LongEscape q
+long_state q row BehindReturn = Long q
+long_state q zero Unescaped = Long q
+long_state q (suc zero) Unescaped = LongQuote q
+long_state q (suc (suc row)) Unescaped = LongTwoQuotes q
+
+abbrev pub long_quotes : Quote → Bool → Rattle.bz_token.specs.declared.scan_string.Quotes.Quotes
+long_quotes q long = record { byte = byte_of q; long = long }
+
+no_backslash : (q : Quote) → (byte_of q == 92) ≡ false
+no_backslash Single = refl
+no_backslash Double = refl
+
+no_newline : (q : Quote) → (10 == byte_of q) ≡ false
+no_newline Single = refl
+no_newline Double = refl
+
+-- a quote escapes nothing
+quote_plain : (q : Quote) (x : ℕ) → (x == byte_of q) ≡ true → (x == 92) ≡ false
+quote_plain q x hit = ap (λ y. y == 92) (eqb-true x (byte_of q) hit) ∙ no_backslash q
+
+-- where the next quote of a long string leads
+abbrev row_target : Quote → ℕ → Inside
+row_target q zero = LongQuote q
+row_target q (suc zero) = LongTwoQuotes q
+row_target q (suc (suc row)) = Plain
+
+long_next : (q : Quote) (row d : ℕ) (k : LineKind) (x : ℕ) → next_in (long_state q row Unescaped) d k x ≡ in_long (row_target q row) q d k x
+long_next q zero d k x = refl
+long_next q (suc zero) d k x = refl
+long_next q (suc (suc row)) d k x = refl
+
+in_long_quote : (t : Inside) (q : Quote) (d : ℕ) (k : LineKind) (x : ℕ) → (x == byte_of q) ≡ true → in_long t q d k x ≡ at t d k
+in_long_quote t q d k x h = rw h refl
+
+in_long_escape : (t : Inside) (q : Quote) (d : ℕ) (k : LineKind) (x : ℕ) → (x == byte_of q) ≡ false → (x == 92) ≡ true → in_long t q d k x ≡ at (LongEscape q) d k
+in_long_escape t q d k x h e = rw (h, e) refl
+
+in_long_plain : (t : Inside) (q : Quote) (d : ℕ) (k : LineKind) (x : ℕ) → (x == byte_of q) ≡ false → (x == 92) ≡ false → in_long t q d k x ≡ at (Long q) d k
+in_long_plain t q d k x h e = rw (h, e) refl
+
+moves : (s : Scan) (from to : Inside) (d x : ℕ) → IsAt s from d → ((k : LineKind) → next_in from d k x ≡ at to d k) → IsAt (next s x) to d
+moves s from to d x h step = let m = step_from s from d x h in subst (λ t. IsAt t to d) (sym (m.1 ∙ step m.0)) (stands to d m.0)
+
+empty_run : (xs : List ℕ) (s : Scan) (i : Inside) (d : ℕ) → is_empty xs ≡ true → IsAt s i d → IsAt (run s xs) i d
+empty_run [] s i d e h = h
+empty_run (x ∷ xs) s i d e h = absurd (false≢true e)
+
+mutual
+  -- over the inside of a long string
+  pub long_run : (q : Quote) (row d : ℕ) (xs : List ℕ) (s : Scan) → row ≤ 2 → IsAt s (long_state q row Unescaped) d → closes (long_quotes q true) row Unescaped xs ≡ true → IsAt (run s xs) Plain d
+  long_run q row d [] s fits h closed = absurd (false≢true closed)
+  long_run q row d (x ∷ xs) s fits h closed =
+      elim (cases_Bool (x == byte_of q)) [
+        | inl hit ↦
+            let slash = quote_plain q x hit in
+            elim (cases_Bool (row + 1 == 3)) [
+              | inl done ↦
+                  empty_run xs (next s x) Plain d (rw (hit, done, closes) at closed)
+                  (moves s (long_state q row Unescaped) Plain d x h (λ k. long_next q row d k x ∙ in_long_quote (row_target q row) q d k x hit ∙ ap (λ t. at t d k) (last_row row (eqb-true (row + 1) 3 done))))
+              | inr more ↦
+                  long_run q (row + 1) d xs (next s x) (room row fits more)
+                  (moves s (long_state q row Unescaped) (long_state q (row + 1) Unescaped) d x h (λ k. long_next q row d k x ∙ in_long_quote (row_target q row) q d k x hit ∙ ap (λ t. at t d k) (next_row row fits more)))
+                  (rw (hit, more, slash, closes) at closed)
+            ]
+        | inr miss ↦ elim (cases_Bool (x == 92)) [
+          | inl slash ↦
+              long_escaped q d xs (next s x) (moves s (long_state q row Unescaped) (LongEscape q) d x h (λ k. long_next q row d k x ∙ in_long_escape (row_target q row) q d k x miss slash)) (rw (miss, slash, closes) at closed)
+          | inr plain ↦
+              long_run q 0 d xs (next s x) (omega arith) (moves s (long_state q row Unescaped) (Long q) d x h (λ k. long_next q row d k x ∙ in_long_plain (row_target q row) q d k x miss plain)) (rw (miss, plain, closes) at closed)
+        ]
+      ]
+    where
+      last_row : (row : ℕ) → row + 1 ≡ 3 → row_target q row ≡ Plain
+      last_row zero e = absurd (omega arith)
+      last_row (suc zero) e = absurd (omega arith)
+      last_row (suc (suc row)) e = refl
+
+      next_row : (row : ℕ) → row ≤ 2 → (row + 1 == 3) ≡ false → row_target q row ≡ long_state q (row + 1) Unescaped
+      next_row zero fits e = refl
+      next_row (suc zero) fits e = refl
+      next_row (suc (suc zero)) fits e = absurd (false≢true (sym e))
+      next_row (suc (suc (suc row))) fits e = absurd (omega arith)
+
+      room : (row : ℕ) → row ≤ 2 → (row + 1 == 3) ≡ false → row + 1 ≤ 2
+      room row fits e = grind (arith, nat_tests)
+
+  long_escaped : (q : Quote) (d : ℕ) (xs : List ℕ) (s : Scan) → IsAt s (LongEscape q) d → closes (long_quotes q true) 0 BehindBackslash xs ≡ true → IsAt (run s xs) Plain d
+  long_escaped q d [] s h closed = absurd (false≢true closed)
+  long_escaped q d (x ∷ xs) s h closed = elim (cases_Bool (x == 13)) [
+    | inl return ↦ long_returned q d xs (next s x) (moves s (LongEscape q) (Long q) d x h (λ k. refl)) (rw (return, closes) at closed)
+    | inr other ↦ long_run q 0 d xs (next s x) (omega arith) (moves s (LongEscape q) (Long q) d x h (λ k. refl)) (rw (other, closes) at closed)
+  ]
+
+  long_returned : (q : Quote) (d : ℕ) (xs : List ℕ) (s : Scan) → IsAt s (Long q) d → closes (long_quotes q true) 0 BehindReturn xs ≡ true → IsAt (run s xs) Plain d
+  long_returned q d [] s h closed = absurd (false≢true closed)
+  long_returned q d (x ∷ xs) s h closed = elim (cases_Bool (x == 10)) [
+    | inl feed ↦
+        let same : x ≡ 10 = eqb-true x 10 feed in
+        let miss : (x == byte_of q) ≡ false = ap (λ y. y == byte_of q) same ∙ no_newline q in
+        let plain : (x == 92) ≡ false = ap (λ y. y == 92) same in
+        long_run q 0 d xs (next s x) (omega arith) (moves s (Long q) (Long q) d x h (λ k. in_long_plain (LongQuote q) q d k x miss plain)) (rw (feed, plain, closes) at closed)
+    | inr other ↦ elim (cases_Bool (x == byte_of q)) [
+      | inl hit ↦
+          let slash = quote_plain q x hit in
+          long_run q 1 d xs (next s x) (omega arith) (moves s (Long q) (LongQuote q) d x h (λ k. in_long_quote (LongQuote q) q d k x hit)) (rw (other, hit, slash, closes) at closed)
+      | inr miss ↦ elim (cases_Bool (x == 92)) [
+        | inl slash ↦ long_escaped q d xs (next s x) (moves s (Long q) (LongEscape q) d x h (λ k. in_long_escape (LongQuote q) q d k x miss slash)) (rw (other, miss, slash, closes) at closed)
+        | inr plain ↦ long_run q 0 d xs (next s x) (omega arith) (moves s (Long q) (Long q) d x h (λ k. in_long_plain (LongQuote q) q d k x miss plain)) (rw (other, miss, plain, closes) at closed)
+      ]
+    ]
+  ]
+
+not_true : (x : Bool) → not x ≡ true → x ≡ false
+not_true true h = absurd (false≢true h)
+not_true false h = refl
+
+-- behind a carriage return another byte than a newline is not escaped
+unescaped : (q : Quote) (x : ℕ) (xs : List ℕ) → (x == 10) ≡ false → closes (long_quotes q false) 0 BehindReturn (x ∷ xs) ≡ true → closes (long_quotes q false) 0 Unescaped (x ∷ xs) ≡ true
+unescaped q x xs other h = elim (cases_Bool (x == byte_of q)) [
+  | inl hit ↦ rw (hit, closes) (rw (other, hit, closes) at h)
+  | inr miss ↦ rw (miss, closes) (rw (other, miss, closes) at h)
+]
+
+-- what a byte of a short string that no backslash escapes leads to
+pub data Outcome (q : Quote) (d : ℕ) (xs : List ℕ) (s : Scan) : Type 0 where
+  done : is_empty xs ≡ true → IsAt s Plain d → Outcome q d xs s
+  escape : IsAt s (ShortEscape q) d → closes (long_quotes q false) 0 BehindBackslash xs ≡ true → Outcome q d xs s
+  goes : IsAt s (Short q) d → closes (long_quotes q false) 0 Unescaped xs ≡ true → Outcome q d xs s
+
+short_step : (q : Quote) (d x : ℕ) (xs : List ℕ) (s : Scan) (k : LineKind) → s ≡ in_short q d k x → closes (long_quotes q false) 0 Unescaped (x ∷ xs) ≡ true → Outcome q d xs s
+short_step q d x xs s k step closed = elim (cases_Bool (x == byte_of q)) [
+  | inl hit ↦
+      let quoted : in_short q d k x ≡ at Plain d k = rw hit refl in
+      done (rw (hit, closes) at closed) (subst (λ t. IsAt t Plain d) (sym (step ∙ quoted)) (stands Plain d k))
+  | inr miss ↦
+      let parts = and_parts (not (x == 10)) (closes (long_quotes q false) 0 (if x == 92 then BehindBackslash else Unescaped) xs) (rw (miss, closes) at closed) in
+      let line = not_true (x == 10) parts.0 in
+      elim (cases_Bool (x == 92)) [
+        | inl slash ↦
+            let escaped : in_short q d k x ≡ at (ShortEscape q) d k = rw (miss, line, slash) refl in
+            escape (subst (λ t. IsAt t (ShortEscape q) d) (sym (step ∙ escaped)) (stands (ShortEscape q) d k)) (rw slash at parts.1)
+        | inr plain ↦
+            let short : in_short q d k x ≡ at (Short q) d k = rw (miss, line, plain) refl in
+            goes (subst (λ t. IsAt t (Short q) d) (sym (step ∙ short)) (stands (Short q) d k)) (rw plain at parts.1)
+      ]
+]
+
+mutual
+  -- over the inside of a short string
+  pub short_run : (q : Quote) (d : ℕ) (xs : List ℕ) (s : Scan) → IsAt s (Short q) d → closes (long_quotes q false) 0 Unescaped xs ≡ true → IsAt (run s xs) Plain d
+  short_run q d [] s h closed = absurd (false≢true closed)
+  short_run q d (x ∷ xs) s h closed =
+      let m = step_from s (Short q) d x h in
+      elim (short_step q d x xs (next s x) m.0 m.1 closed) [
+        | done e i ↦ empty_run xs (next s x) Plain d e i
+        | escape i c ↦ short_escaped q d xs (next s x) i c
+        | goes i c ↦ short_run q d xs (next s x) i c
+      ]
+
+  pub short_escaped : (q : Quote) (d : ℕ) (xs : List ℕ) (s : Scan) → IsAt s (ShortEscape q) d → closes (long_quotes q false) 0 BehindBackslash xs ≡ true → IsAt (run s xs) Plain d
+  short_escaped q d [] s h closed = absurd (false≢true closed)
+  short_escaped q d (x ∷ xs) s h closed = elim (cases_Bool (x == 13)) [
+    | inl return ↦ short_returned q d xs (next s x) (moves s (ShortEscape q) (ShortEscapeReturn q) d x h (λ k. rw return refl)) (rw (return, closes) at closed)
+    | inr other ↦ short_run q d xs (next s x) (moves s (ShortEscape q) (Short q) d x h (λ k. rw other refl)) (rw (other, closes) at closed)
+  ]
+
+  short_returned : (q : Quote) (d : ℕ) (xs : List ℕ) (s : Scan) → IsAt s (ShortEscapeReturn q) d → closes (long_quotes q false) 0 BehindReturn xs ≡ true → IsAt (run s xs) Plain d
+  short_returned q d [] s h closed = absurd (false≢true closed)
+  short_returned q d (x ∷ xs) s h closed = elim (cases_Bool (x == 10)) [
+    | inl feed ↦
+        let same : x ≡ 10 = eqb-true x 10 feed in
+        let plain : (x == 92) ≡ false = ap (λ y. y == 92) same in
+        short_run q d xs (next s x) (moves s (ShortEscapeReturn q) (Short q) d x h (λ k. rw feed refl)) (rw (feed, plain, closes) at closed)
+    | inr other ↦
+        let m = step_from s (ShortEscapeReturn q) d x h in
+        let step : next_in (ShortEscapeReturn q) d m.0 x ≡ in_short q d m.0 x = rw other refl in
+        elim (short_step q d x xs (next s x) m.0 (m.1 ∙ step) (unescaped q x xs other closed)) [
+          | done e i ↦ empty_run xs (next s x) Plain d e i
+          | escape i c ↦ short_escaped q d xs (next s x) i c
+          | goes i c ↦ short_run q d xs (next s x) i c
+        ]
+  ]
+
+-- a quote that begins a string
+quote_of : (x : ℕ) → is_quote x ≡ true → (q : Quote) × (x ≡ byte_of q)
+quote_of x h = elim (or_cases (x == 34) (x == 39) h) [
+  | inl double ↦ (Double, eqb-true x 34 double)
+  | inr single ↦ (Single, eqb-true x 39 single)
+]
+
+quote_step : (q : Quote) (d : ℕ) (k : LineKind) → outside d k (byte_of q) ≡ at (Opened q) d Statement
+quote_step Single d k = refl
+quote_step Double d k = refl
+
+-- what the cutter is ready for: bytes outside strings and comments, or what is left of a comment's line
+pub data Ready (s : Scan) (d : ℕ) (after : List ℕ) : Type 0 where
+  acts : ((b : ℕ) (bs : List ℕ) → after ≡ b ∷ bs → (k : LineKind) × (next s b ≡ outside d k b)) → Ready s d after
+  comments : IsAt s Comment d → list_all is_blank (take (prefix_len (λ c. not (is_newline c)) after) after) ≡ true → Ready s d after
+
+pub ready_plain : (s : Scan) (d : ℕ) (after : List ℕ) → IsAt s Plain d → Ready s d after
+ready_plain s d after h = acts (λ b bs e. step_from s Plain d b h)
+
+-- at a byte that is no white space the cutter is outside
+pub ready_first : (s : Scan) (d b : ℕ) (bs : List ℕ) → Ready s d (b ∷ bs) → is_blank b ≡ false → (k : LineKind) × (next s b ≡ outside d k b)
+ready_first s d b bs (acts f) visible = f b bs refl
+ready_first s d b bs (comments h blank) visible = elim (cases_Bool (is_newline b)) [
+  | inl line ↦
+      let m = step_from s Comment d b h in
+      let step : next_in Comment d m.0 b ≡ outside d m.0 b = rw line refl in
+      (m.0, m.1 ∙ step)
+  | inr other ↦ absurd (false≢true (sym visible ∙ (and_parts (is_blank b) (list_all is_blank (take (prefix_len (λ c. not (is_newline c)) bs) bs)) (rw (other, one-add) at blank)).0))
+]
+
+not_ended : (s : Scan) (i : Inside) (d : ℕ) → IsAt s i d → is_ended i ≡ false → is_ended s.inside ≡ true → ⊥
+not_ended s i d h none ended = false≢true (sym none ∙ ap is_ended (sym h.inside_is) ∙ ended)
+
+blank_step : (d : ℕ) (k : LineKind) (b : ℕ) → is_blank b ≡ true → outside d k b ≡ at Plain d k
+blank_step d k b h =
+    elim (or_cases (b == 32 || b == 9) (b == 13) h) [
+      | inr third ↦ let same : b ≡ 13 = eqb-true b 13 third in rw same refl
+      | inl two ↦ elim (or_cases (b == 32) (b == 9) two) [
+        | inl first ↦ let same : b ≡ 32 = eqb-true b 32 first in rw same refl
+        | inr second ↦ let same : b ≡ 9 = eqb-true b 9 second in rw same refl
+      ]
+    ]
+
+blank_no_newline : (b : ℕ) → is_blank b ≡ true → is_newline b ≡ false
+blank_no_newline b h = grind (arith, nat_tests)
+
+-- behind a byte of white space
+blank_ready : (s : Scan) (d b : ℕ) (bs : List ℕ) → Ready s d (b ∷ bs) → is_blank b ≡ true → Ready (next s b) d bs × (is_ended (next s b).inside ≡ true → ⊥)
+blank_ready s d b bs (acts f) h =
+    let m = f b bs refl in
+    let here : IsAt (next s b) Plain d = subst (λ t. IsAt t Plain d) (sym (m.1 ∙ blank_step d m.0 b h)) (stands Plain d m.0) in
+    (ready_plain (next s b) d bs here, not_ended (next s b) Plain d here refl)
+blank_ready s d b bs (comments i blank) h =
+    let other = blank_no_newline b h in
+    let here : IsAt (next s b) Comment d = moves s Comment Comment d b i (λ k. rw other refl) in
+    (comments here (and_parts (is_blank b) (list_all is_blank (take (prefix_len (λ c. not (is_newline c)) bs) bs)) (rw (other, one-add) at blank)).1, not_ended (next s b) Comment d here refl)
+
+inner_newline : (d : ℕ) (k : LineKind) → 0 < d → outside d k 10 ≡ at Plain d k
+inner_newline d k h = let some = not_zero d h in rw some refl
+  where
+    not_zero : (d : ℕ) → 0 < d → (d == 0) ≡ false
+    not_zero d h = grind (arith, nat_tests)
+
+-- what is known behind a gap
+pub record BehindGap (s : Scan) (d : ℕ) (rest g : List ℕ) : Type 0 where
+  pub ready : Ready s d rest
+  pub ended : is_ended s.inside ≡ true → g ≡ []
+
+run_none : (g : List ℕ) (s : Scan) → g ≡ [] → s ≡ run s g
+run_none [] s e = refl
+run_none (b ∷ bs) s e = absurd (not_nil e)
+  where
+    not_nil : b ∷ bs ≡ [] → ⊥
+    not_nil e = cc
+
+mutual
+  -- over a gap
+  pub gap_run : (inside : Bool) (g rest : List ℕ) (s : Scan) (d : ℕ) → (inside ≡ true → 0 < d) → is_gap inside g ≡ true → Ready s d (g ++ rest) → BehindGap (run s g) d rest g
+  gap_run inside [] rest s d deep h ready = record { ready = ready; ended = λ e. refl }
+  gap_run inside (b ∷ bs) rest s d deep h ready = elim (cases_Bool (is_white inside b)) [
+    | inl white ↦
+        let more = rw (white, is_gap) at h in
+        elim (or_cases (is_blank b) (inside && b == 10) white) [
+          | inl blank ↦
+              let here = blank_ready s d b (bs ++ rest) ready blank in
+              let r = gap_run inside bs rest (next s b) d deep more here.0 in
+              record { ready = r.ready; ended = λ e. absurd (here.1 (ap (λ t. is_ended t.inside) (run_none bs (next s b) (r.ended e)) ∙ e)) }
+          | inr line ↦
+              let parts = and_parts inside (b == 10) line in
+              let same : b ≡ 10 = eqb-true b 10 parts.1 in
+              let visible : is_blank b ≡ false = ap is_blank same in
+              let m = ready_first s d b (bs ++ rest) ready visible in
+              let here : IsAt (next s b) Plain d = subst (λ t. IsAt t Plain d) (sym (m.1 ∙ ap (outside d m.0) same ∙ inner_newline d m.0 (deep parts.0))) (stands Plain d m.0) in
+              let r = gap_run inside bs rest (next s b) d deep more (ready_plain (next s b) d (bs ++ rest) here) in
+              record { ready = r.ready; ended = λ e. absurd (not_ended (next s b) Plain d here refl (ap (λ t. is_ended t.inside) (run_none bs (next s b) (r.ended e)) ∙ e)) }
+        ]
+    | inr other ↦
+        let parts = and_parts (b == 92) (continues_gap inside bs) (rw (other, is_gap) at h) in
+        let same : b ≡ 92 = eqb-true b 92 parts.0 in
+        let visible : is_blank b ≡ false = ap is_blank same in
+        let m = ready_first s d b (bs ++ rest) ready visible in
+        let here : IsAt (next s b) Backslash d = subst (λ t. IsAt t Backslash d) (sym (m.1 ∙ ap (outside d m.0) same)) (stands Backslash d m.0) in
+        let r = continued_run inside bs rest (next s b) d deep parts.1 here in
+        record { ready = r.0; ended = λ e. absurd (r.1 e) }
+  ]
+
+  continued_run : (inside : Bool) (g rest : List ℕ) (s : Scan) (d : ℕ) → (inside ≡ true → 0 < d) → continues_gap inside g ≡ true → IsAt s Backslash d → Ready (run s g) d rest × (is_ended (run s g).inside ≡ true → ⊥)
+  continued_run inside [] rest s d deep h i = absurd (false≢true h)
+  continued_run inside (b ∷ bs) rest s d deep h i = elim (cases_Bool (b == 13)) [
+    | inl return ↦
+        let same : b ≡ 13 = eqb-true b 13 return in
+        fed_run inside bs rest (next s b) d deep (rw (return, continues_gap) at h) (moves s Backslash BackslashReturn d b i (λ k. rw same refl))
+    | inr other ↦
+        let parts = and_parts (b == 10) (is_gap inside bs) (rw (other, continues_gap) at h) in
+        let same : b ≡ 10 = eqb-true b 10 parts.0 in
+        let here = moves s Backslash Plain d b i (λ k. rw same refl) in
+        let r = gap_run inside bs rest (next s b) d deep parts.1 (ready_plain (next s b) d (bs ++ rest) here) in
+        (r.ready, λ e. not_ended (next s b) Plain d here refl (ap (λ t. is_ended t.inside) (run_none bs (next s b) (r.ended e)) ∙ e))
+  ]
+
+  fed_run : (inside : Bool) (g rest : List ℕ) (s : Scan) (d : ℕ) → (inside ≡ true → 0 < d) → feeds_gap inside g ≡ true → IsAt s BackslashReturn d → Ready (run s g) d rest × (is_ended (run s g).inside ≡ true → ⊥)
+  fed_run inside [] rest s d deep h i = absurd (false≢true h)
+  fed_run inside (b ∷ bs) rest s d deep h i =
+      let parts = and_parts (b == 10) (is_gap inside bs) h in
+      let same : b ≡ 10 = eqb-true b 10 parts.0 in
+      let here = moves s BackslashReturn Plain d b i (λ k. rw same refl) in
+      let r = gap_run inside bs rest (next s b) d deep parts.1 (ready_plain (next s b) d (bs ++ rest) here) in
+      (r.ready, λ e. not_ended (next s b) Plain d here refl (ap (λ t. is_ended t.inside) (run_none bs (next s b) (r.ended e)) ∙ e))
+
+-- a token's first byte is no white space
+visible_first : (c : Class) (b : ℕ) → class_of b ≡ c → (kind : Kind) → can_start kind c ≡ true → is_blank b ≡ false
+visible_first c b is kind h = elim (cases_Bool (is_blank b)) [
+  | inr miss ↦ miss
+  | inl hit ↦ absurd (nothing_unknown kind (ap (can_start kind) (sym (blank_class b hit)) ∙ ap (can_start kind) is ∙ h))
+]
+
+pub visible : (kind : Kind) (b : ℕ) (bs : List ℕ) → is_text kind (b ∷ bs) ≡ true → is_blank b ≡ false
+visible kind b bs is = visible_first (class_of b) b refl kind (text_class kind b bs is)
+
+open_same : (opened : List ℕ) (b : ℕ) (bs : List ℕ) → is_opening_bracket b ≡ false → is_closing_bracket b ≡ false → open_behind opened (b ∷ bs) ≡ opened
+open_same opened b [] o c = rw (o, c) refl
+open_same opened b (d ∷ bs) o c = refl
+
+word_no_opening : (b : ℕ) → is_word_byte b ≡ true → is_opening_bracket b ≡ false
+word_no_opening b h = grind (arith, nat_tests)
+
+word_no_closing : (b : ℕ) → is_word_byte b ≡ true → is_closing_bracket b ≡ false
+word_no_closing b h = grind (arith, nat_tests)
+
+-- what is known behind a token
+pub record BehindToken (s : Scan) (d : ℕ) (kind : Kind) (after : List ℕ) : Type 0 where
+  pub ready : Ready s d after
+  pub ended : is_ended s.inside ≡ true → is_line kind ≡ true
+
+behind_plain : (s : Scan) (d : ℕ) (kind : Kind) (after : List ℕ) → IsAt s Plain d → BehindToken s d kind after
+behind_plain s d kind after h = record { ready = ready_plain s d after h; ended = λ e. absurd (not_ended s Plain d h refl e) }
+
+same_depth : (s : Scan) (d e : ℕ) (kind : Kind) (after : List ℕ) → d ≡ e → BehindToken s d kind after → BehindToken s e kind after
+same_depth s d e kind after same h = subst (λ n. BehindToken s n kind after) same h
+
+-- over letters, digits and underscores
+words_token : (kind : Kind) (s : Scan) (opened : List ℕ) (b : ℕ) (bs after : List ℕ) → list_all is_word_byte (b ∷ bs) ≡ true → (k : LineKind) × (next s b ≡ outside (length opened) k b) → BehindToken (run s (b ∷ bs)) (length (open_behind opened (b ∷ bs))) kind after
+words_token kind s opened b bs after all m =
+    let parts = and_parts (is_word_byte b) (list_all is_word_byte bs) all in
+    let here : IsAt (next s b) Plain (length opened) = subst (λ t. IsAt t Plain (length opened)) (sym (m.1 ∙ word_step (length opened) m.0 b parts.0)) (stands Plain (length opened) Statement) in
+    same_depth (run s (b ∷ bs)) (length opened) _ kind after (ap length (sym (open_same opened b bs (word_no_opening b parts.0) (word_no_closing b parts.0))))
+    (behind_plain (run s (b ∷ bs)) (length opened) kind after (words_run bs (next s b) (length opened) here parts.1))
+
+-- bytes of signs
+abbrev pub is_sign_plain : ℕ → Bool
+is_sign_plain b = not (b == 10 || b == 32 || b == 9 || b == 13 || b == 35 || b == 92 || b == 34 || b == 39)
+
+abbrev pub is_plain_sign : List ℕ → Bool
+is_plain_sign text = list_all is_sign_plain text && list_all (λ b. not (is_bracket_byte b)) (drop 1 text)
+
+sign_plain : (text : List ℕ) → is_sign text ≡ true → is_plain_sign text ≡ true
+unfolding signs
+sign_plain text is = one_of is_plain_sign signs text refl is
+
+or_none : (x y : Bool) → (x || y) ≡ false → (x ≡ false) × (y ≡ false)
+or_none true y h = absurd (false≢true (sym h))
+or_none false y h = (refl, h)
+
+-- a bracket, or another byte of a sign
+sign_step : (d : ℕ) (k : LineKind) (b : ℕ) → is_sign_plain b ≡ true → outside d k b ≡ (if is_opening_bracket b then at Plain (d + 1) Statement else (if is_closing_bracket b then at Plain (d - 1) Statement else at Plain d Statement))
+sign_step d k b h =
+    let p39 = or_none (b == 10 || b == 32 || b == 9 || b == 13 || b == 35 || b == 92 || b == 34) (b == 39) (not_true _ h) in
+    let p34 = or_none (b == 10 || b == 32 || b == 9 || b == 13 || b == 35 || b == 92) (b == 34) p39.0 in
+    let p92 = or_none (b == 10 || b == 32 || b == 9 || b == 13 || b == 35) (b == 92) p34.0 in
+    let p35 = or_none (b == 10 || b == 32 || b == 9 || b == 13) (b == 35) p92.0 in
+    let p13 = or_none (b == 10 || b == 32 || b == 9) (b == 13) p35.0 in
+    let p9 = or_none (b == 10 || b == 32) (b == 9) p13.0 in
+    let p32 = or_none (b == 10) (b == 32) p9.0 in
+    let n39 = p39.1 in
+    let n34 = p34.1 in
+    let n92 = p92.1 in
+    let n35 = p35.1 in
+    let n13 = p13.1 in
+    let n9 = p9.1 in
+    let n32 = p32.1 in
+    let n10 = p32.0 in
+    simp (n10, n32, n9, n13, n35, n92, n34, n39)
+
+signs_run : (xs : List ℕ) (s : Scan) (d : ℕ) → IsAt s Plain d → list_all is_sign_plain xs ≡ true → list_all (λ b. not (is_bracket_byte b)) xs ≡ true → IsAt (run s xs) Plain d
+signs_run [] s d h all none = h
+signs_run (x ∷ xs) s d h all none =
+    let p = and_parts (is_sign_plain x) (list_all is_sign_plain xs) all in
+    let q = and_parts (not (is_bracket_byte x)) (list_all (λ b. not (is_bracket_byte b)) xs) none in
+    let brackets = or_none (is_opening_bracket x) (is_closing_bracket x) (not_true _ q.0) in
+    let o = brackets.0 in
+    let c = brackets.1 in
+    let m = step_from s Plain d x h in
+    let plain : (if is_opening_bracket x then at Plain (d + 1) Statement else (if is_closing_bracket x then at Plain (d - 1) Statement else at Plain d Statement)) ≡ at Plain d Statement = rw (o, c) refl in
+    signs_run xs (next s x) d (subst (λ t. IsAt t Plain d) (sym (m.1 ∙ sign_step d m.0 x p.0 ∙ plain)) (stands Plain d Statement)) p.1 q.1
+
+dropped : (xs : List ℕ) → length (drop 1 xs) ≡ length xs - 1
+dropped [] = omega arith
+dropped (x ∷ xs) = omega arith
+
+sign_token_run : (s : Scan) (opened : List ℕ) (b : ℕ) (bs after : List ℕ) → is_sign (b ∷ bs) ≡ true → (k : LineKind) × (next s b ≡ outside (length opened) k b) → BehindToken (run s (b ∷ bs)) (length (open_behind opened (b ∷ bs))) Sign after
+sign_token_run s opened b bs after is m =
+    let parts = and_parts (list_all is_sign_plain (b ∷ bs)) (list_all (λ x. not (is_bracket_byte x)) bs) (sign_plain (b ∷ bs) is) in
+    let plain = and_parts (is_sign_plain b) (list_all is_sign_plain bs) parts.0 in
+    let step = m.1 ∙ sign_step (length opened) m.0 b plain.0 in
+    behind_plain (run s (b ∷ bs)) (length (open_behind opened (b ∷ bs))) Sign after (signs_run bs (next s b) (length (open_behind opened (b ∷ bs))) (first bs is step) plain.1 parts.1)
+  where
+    first : (bs : List ℕ) → is_sign (b ∷ bs) ≡ true → next s b ≡ (if is_opening_bracket b then at Plain (length opened + 1) Statement else (if is_closing_bracket b then at Plain (length opened - 1) Statement else at Plain (length opened) Statement)) → IsAt (next s b) Plain (length (open_behind opened (b ∷ bs)))
+    first [] is step = elim (cases_Bool (is_opening_bracket b)) [
+      | inl o ↦ rw o (subst (λ t. IsAt t Plain (suc (length opened))) (sym (step ∙ rw (o, add-one) refl)) (stands Plain (suc (length opened)) Statement))
+      | inr n ↦ elim (cases_Bool (is_closing_bracket b)) [
+        | inl c ↦ rw (n, c) (subst (λ t. IsAt t Plain (length (drop 1 opened))) (sym (step ∙ rw (n, c, ← dropped opened) refl)) (stands Plain (length (drop 1 opened)) Statement))
+        | inr o ↦ rw (n, o) (subst (λ t. IsAt t Plain (length opened)) (sym (step ∙ rw (n, o) refl)) (stands Plain (length opened) Statement))
+      ]
+    ]
+    first (c ∷ cs) is step =
+        let none = or_none (is_opening_bracket b) (is_closing_bracket b) (no_bracket Sign b c cs is) in
+        let n = none.0 in
+        let o = none.1 in
+        subst (λ t. IsAt t Plain (length opened)) (sym (step ∙ rw (n, o) refl)) (stands Plain (length opened) Statement)
