@@ -17,9 +17,13 @@ use Rattle.bz_token.specs.declared.cutter.scan.Inside.{Inside}
 use Rattle.bz_token.specs.declared.cutter.scan.Inside.TheVariants.{Plain, Ended, BrokenOff, Backslash, BackslashReturn, Comment, Opened, OpenedTwice, Short, ShortEscape, ShortEscapeReturn, Long, LongQuote, LongTwoQuotes, LongEscape}
 use Rattle.bz_token.specs.declared.cutter.scan.Scan.{Scan}
 use Rattle.bz_token.specs.CutSteps.{is_ended, byte_of, at, outside, in_short, in_long, next_in, next, start, run, with_note}
-use Rattle.bz_token.specs.Lexical.{is_word_byte, is_blank, is_newline, is_quote, closes, is_empty, signs, is_sign, is_text, IsToken}
+use Rattle.bz_token.specs.Lexical.{is_word_byte, is_blank, is_newline, is_quote, closes, closing_row, are_two, opens_behind, opening, opening_length, is_empty, signs, is_sign,  is_text, IsToken}
 use Rattle.bz_token.specs.Brackets.{is_inside, is_line, is_opening_bracket, is_closing_bracket, fits, open_behind}
 use Rattle.bz_token.proofs.Classes.{Class, class_of, can_start, text_class, one_of, same_bytes, empty_no_text}
+use Rattle.bz_token.specs.declared.scan_string.Opening.{Opening}
+use Rattle.bz_token.proofs.Openings.{none_some, opens_r, opens_rb, opens_b, opens_br, opens_plain, opening_facts}
+use Rattle.bz_token.proofs.Ends.{string_opens, comment_parts, number_words}
+use Rattle.bz_token.proofs.Stops.{token_ends}
 use Rattle.bz_token.proofs.Fitting.{is_bracket_byte, no_bracket}
 use Rattle.bz_token.proofs.Unique.{blank_class, nothing_unknown}
 use Rattle.bz_token.specs.Reading.{is_white, is_gap, continues_gap, feeds_gap, Piece, IsPiece, IsReading, open_after}
@@ -493,3 +497,137 @@ sign_token_run s opened b bs after is m =
         let n = none.0 in
         let o = none.1 in
         subst (λ t. IsAt t Plain (length opened)) (sym (step ∙ rw (n, o) refl)) (stands Plain (length opened) Statement)
+
+comment_run : (xs : List ℕ) (s : Scan) (d : ℕ) → IsAt s Comment d → list_any is_newline xs ≡ false → IsAt (run s xs) Comment d
+comment_run [] s d h none = h
+comment_run (x ∷ xs) s d h none =
+    let p = or_none (is_newline x) (list_any is_newline xs) none in
+    let other = p.0 in
+    comment_run xs (next s x) d (moves s Comment Comment d x h (λ k. rw other refl)) p.1
+
+comment_token_run : (s : Scan) (opened : List ℕ) (b : ℕ) (bs after : List ℕ) → IsToken Note (b ∷ bs) after → (k : LineKind) × (next s b ≡ outside (length opened) k b) → BehindToken (run s (b ∷ bs)) (length (open_behind opened (b ∷ bs))) Note after
+comment_token_run s opened b bs after token m =
+    let parts = comment_parts (b ∷ bs) token.whole in
+    let same : b ≡ 35 = eqb-true b 35 parts.0 in
+    let here : IsAt (next s b) Comment (length opened) = subst (λ t. IsAt t Comment (length opened)) (sym (m.1 ∙ ap (outside (length opened) m.0) same)) (stands Comment (length opened) (with_note m.0)) in
+    let end = comment_run bs (next s b) (length opened) here (or_none (is_newline b) (list_any is_newline bs) parts.1).1 in
+    same_depth (run s (b ∷ bs)) (length opened) _ Note after (ap length (sym (open_same opened b bs (ap is_opening_bracket same) (ap is_closing_bracket same))))
+    (record { ready = comments end (token_ends Note (b ∷ bs) after token); ended = λ e. absurd (not_ended (run s (b ∷ bs)) Comment (length opened) end refl e) })
+
+line_token_run : (depth : ℕ) (s : Scan) (opened : List ℕ) (b : ℕ) (bs after : List ℕ) → is_text Line (b ∷ bs) ≡ true → fits depth opened Line (b ∷ bs) ≡ true → (k : LineKind) × (next s b ≡ outside (length opened) k b) → BehindToken (run s (b ∷ bs)) (length (open_behind opened (b ∷ bs))) Line after
+line_token_run depth s opened b bs after is fit m =
+    let whole = same_bytes (b ∷ bs) (10 ∷ []) is in
+    subst (λ t. BehindToken (run s t) (length (open_behind opened t)) Line after) (sym whole) (at_line opened (subst (λ t. fits depth opened Line t ≡ true) whole fit) (m.0, first b whole m.1))
+  where
+    first : (b : ℕ) → b ∷ bs ≡ 10 ∷ [] → next s b ≡ outside (length opened) m.0 b → next s 10 ≡ outside (length opened) m.0 10
+    first b e h = let same : b ≡ 10 = cc in subst (λ x. next s x ≡ outside (length opened) m.0 x) same h
+
+    at_line : (opened : List ℕ) → fits depth opened Line (10 ∷ []) ≡ true → (k : LineKind) × (next s 10 ≡ outside (length opened) k 10) → BehindToken (next s 10) (length (open_behind opened (10 ∷ []))) Line after
+    at_line (a ∷ opened) fit m = absurd (false≢true fit)
+    at_line [] fit m =
+        let here : IsAt (next s 10) Ended 0 = subst (λ t. IsAt t Ended 0) (sym m.1) (stands Ended 0 m.0) in
+        record { ready = acts (λ b bs e. (Blank, (step_from (next s 10) Ended 0 b here).1)); ended = λ e. refl }
+
+-- what the cutter finds behind the opening quote of a string
+pub data Found (q : Quote) (d : ℕ) (inside : List ℕ) (long : Bool) (s : Scan) : Type 0 where
+  plainly : IsAt s Plain d → Found q d inside long s
+  twice : IsAt s (OpenedTwice q) d → length inside ≡ 1 → long ≡ false → Found q d inside long s
+
+quoted_run : (q : Quote) (d : ℕ) (qs : List ℕ) (long : Bool) (s : Scan) → IsAt s (Opened q) d → are_two (byte_of q) qs ≡ long → closes (long_quotes q long) 0 Unescaped (drop (closing_row long - 1) qs) ≡ true → Found q d qs long (run s qs)
+quoted_run q d [] true s h two closed = absurd (false≢true two)
+quoted_run q d (a ∷ []) true s h two closed = absurd (false≢true (sym (and_none (a == byte_of q)) ∙ two))
+  where
+    and_none : (x : Bool) → (x && false) ≡ false
+    and_none true = refl
+    and_none false = refl
+quoted_run q d (a ∷ b ∷ qs) true s h two closed =
+    let p = and_parts (a == byte_of q) (b == byte_of q) two in
+    let first = p.0 in
+    let second = p.1 in
+    let h1 = moves s (Opened q) (OpenedTwice q) d a h (λ k. rw first refl) in
+    let h2 = moves (next s a) (OpenedTwice q) (Long q) d b h1 (λ k. rw second refl) in
+    plainly (long_run q 0 d qs (next (next s a) b) (omega arith) h2 closed)
+quoted_run q d [] false s h two closed = absurd (false≢true closed)
+quoted_run q d (a ∷ qs) false s h two closed = elim (cases_Bool (a == byte_of q)) [
+  | inl hit ↦
+      let h1 = moves s (Opened q) (OpenedTwice q) d a h (λ k. rw hit refl) in
+      ends qs (rw (hit, closes) at closed) h1
+  | inr miss ↦
+      let m = step_from s (Opened q) d a h in
+      let step : next_in (Opened q) d m.0 a ≡ in_short q d m.0 a = rw (miss, next_in) refl in
+      elim (short_step q d a qs (next s a) m.0 (m.1 ∙ step) closed) [
+        | done e i ↦ plainly (empty_run qs (next s a) Plain d e i)
+        | escape i c ↦ plainly (short_escaped q d qs (next s a) i c)
+        | goes i c ↦ plainly (short_run q d qs (next s a) i c)
+      ]
+]
+  where
+    ends : (qs : List ℕ) → is_empty qs ≡ true → IsAt (next s a) (OpenedTwice q) d → Found q d (a ∷ qs) false (run (next s a) qs)
+    ends [] e h = twice h refl refl
+    ends (b ∷ bs) e h = absurd (false≢true e)
+
+-- the prefix of a string, its quote and what is inside
+pub record Parts (text : List ℕ) (o : Opening) : Type 0 where
+  pub letters : List ℕ
+  pub inside : List ℕ
+  pub text_is : text ≡ letters ++ o.quotes.byte ∷ inside
+  pub words : list_all is_word_byte letters ≡ true
+  pub prefix : o.prefix ≡ length letters
+  pub long : are_two o.quotes.byte inside ≡ o.quotes.long
+
+parts_behind : (n : ℕ) (letters ys : List ℕ) (o : Opening) → opens_behind n ys ≡ Some o → length letters ≡ n → list_all is_word_byte letters ≡ true → Parts (letters ++ ys) o
+parts_behind n letters [] o h size words = absurd (none_some o h)
+parts_behind n letters (q ∷ qs) o h size words = elim (cases_Bool (is_quote q)) [
+  | inr none ↦ absurd (none_some o (rw none at h))
+  | inl is ↦
+      let same : record { prefix = n; quotes = record { byte = q; long = are_two q qs } } ≡ o = some_same _ o (rw is at h) in
+      subst (λ x. Parts (letters ++ q ∷ qs) x) same (record { letters = letters; inside = qs; text_is = refl; words = words; prefix = sym size; long = refl })
+]
+  where
+    some_same : (a b : Opening) → Some a ≡ Some b → a ≡ b
+    some_same a b e = cc
+
+string_parts : (text : List ℕ) (o : Opening) → opening text ≡ Some o → Parts text o
+string_parts [] o h = absurd (none_some o h)
+string_parts (a ∷ bs) o h =
+    elim (cases_Bool (a == 114)) [
+      | inl r ↦ prefixed_r bs r h
+      | inr no_r ↦ elim (cases_Bool (a == 98)) [
+        | inl b ↦ prefixed_b bs no_r b h
+        | inr no_b ↦ parts_behind 0 [] (a ∷ bs) o (sym (opens_plain a bs no_r no_b) ∙ h) refl refl
+      ]
+    ]
+  where
+    is_word : (c e : ℕ) → (c == e) ≡ true → is_word_byte e ≡ true → is_word_byte c ≡ true
+    is_word c e same w = ap is_word_byte (eqb-true c e same) ∙ w
+
+    one_word : is_word_byte a ≡ true → list_all is_word_byte (a ∷ []) ≡ true
+    one_word w = rw w refl
+
+    two_words : (c : ℕ) → is_word_byte a ≡ true → is_word_byte c ≡ true → list_all is_word_byte (a ∷ c ∷ []) ≡ true
+    two_words c w v = rw (w, v) refl
+
+    prefixed_r : (bs : List ℕ) → (a == 114) ≡ true → opening (a ∷ bs) ≡ Some o → Parts (a ∷ bs) o
+    prefixed_r [] r h = absurd (none_some o (sym (opens_r a [] r refl) ∙ h))
+    prefixed_r (c ∷ cs) r h = elim (cases_Bool (c == 98)) [
+      | inl b ↦ parts_behind 2 (a ∷ c ∷ []) cs o (sym (opens_rb a c cs r b) ∙ h) refl (two_words c (is_word a 114 r refl) (is_word c 98 b refl))
+      | inr no_b ↦ parts_behind 1 (a ∷ []) (c ∷ cs) o (sym (opens_r a (c ∷ cs) r no_b) ∙ h) refl (one_word (is_word a 114 r refl))
+    ]
+
+    prefixed_b : (bs : List ℕ) → (a == 114) ≡ false → (a == 98) ≡ true → opening (a ∷ bs) ≡ Some o → Parts (a ∷ bs) o
+    prefixed_b [] no_r b h = absurd (none_some o (sym (opens_b a [] no_r b refl) ∙ h))
+    prefixed_b (c ∷ cs) no_r b h = elim (cases_Bool (c == 114)) [
+      | inl r ↦ parts_behind 2 (a ∷ c ∷ []) cs o (sym (opens_br a c cs no_r b r) ∙ h) refl (two_words c (is_word a 98 b refl) (is_word c 114 r refl))
+      | inr none ↦ parts_behind 1 (a ∷ []) (c ∷ cs) o (sym (opens_b a (c ∷ cs) no_r b none) ∙ h) refl (one_word (is_word a 98 b refl))
+    ]
+
+-- over a string's prefix
+letters_run : (letters : List ℕ) (q : Quote) (s : Scan) (d : ℕ) → list_all is_word_byte letters ≡ true → ((b : ℕ) (bs : List ℕ) → letters ++ byte_of q ∷ [] ≡ b ∷ bs → (k : LineKind) × (next s b ≡ outside d k b)) → IsAt (run s (letters ++ byte_of q ∷ [])) (Opened q) d
+letters_run [] q s d words first =
+    let m = first (byte_of q) [] refl in
+    subst (λ t. IsAt t (Opened q) d) (sym (m.1 ∙ quote_step q d m.0)) (stands (Opened q) d Statement)
+letters_run (a ∷ letters) q s d words first =
+    let p = and_parts (is_word_byte a) (list_all is_word_byte letters) words in
+    let m = first a (letters ++ byte_of q ∷ []) refl in
+    let here : IsAt (next s a) Plain d = subst (λ t. IsAt t Plain d) (sym (m.1 ∙ word_step d m.0 a p.0)) (stands Plain d Statement) in
+    letters_run letters q (next s a) d p.1 (λ b bs e. step_from (next s a) Plain d b here)
