@@ -4,7 +4,8 @@ use Rattle.std.specs.Prelude.{Option, Some, None, nat_lt, if◌then◌else◌}
 use Rattle.std.specs.List.{list_all, list_any, prefix_len}
 use Rattle.std.specs.Char.{is_ascii_digit}
 use Rattle.std.proofs.lemmas.Bool.{cases_Bool, and_parts, or_cases, false≢true, eqb-true}
-use Rattle.std.proofs.lemmas.Bool.Decides.{nat_tests}
+use Rattle.std.proofs.Math.Seq.{drop-append-add}
+use Rattle.std.proofs.lemmas.Bool.Decides.{nat_tests, Decides-eqb}
 use Rattle.bz_token.specs.declared.token.Kind.{Kind}
 use Rattle.bz_token.specs.declared.token.Kind.TheVariants.{Ident, Word, Int, Text, Sign, Line, Note, Kept}
 use Rattle.bz_token.specs.declared.scan_string.Escape.{Escape}
@@ -17,16 +18,20 @@ use Rattle.bz_token.specs.declared.cutter.scan.Inside.{Inside}
 use Rattle.bz_token.specs.declared.cutter.scan.Inside.TheVariants.{Plain, Ended, BrokenOff, Backslash, BackslashReturn, Comment, Opened, OpenedTwice, Short, ShortEscape, ShortEscapeReturn, Long, LongQuote, LongTwoQuotes, LongEscape}
 use Rattle.bz_token.specs.declared.cutter.scan.Scan.{Scan}
 use Rattle.bz_token.specs.CutSteps.{is_ended, byte_of, at, outside, in_short, in_long, next_in, next, start, run, with_note}
-use Rattle.bz_token.specs.Lexical.{is_word_byte, is_blank, is_newline, is_quote, closes, closing_row, are_two, opens_behind, opening, opening_length, is_empty, signs, is_sign,  is_text, IsToken}
+use Rattle.bz_token.specs.Lexical.{is_word_byte, is_blank, is_newline, is_quote, closes, closing_row, are_two, opens_behind, opening, opening_length, is_empty, is_name, is_keyword, signs, is_sign,  is_text, IsToken}
 use Rattle.bz_token.specs.Brackets.{is_inside, is_line, is_opening_bracket, is_closing_bracket, fits, open_behind}
-use Rattle.bz_token.proofs.Classes.{Class, class_of, can_start, text_class, one_of, same_bytes, empty_no_text}
+use Rattle.bz_token.proofs.Classes.{Class, class_of, keyword_name, can_start, text_class, one_of, same_bytes, empty_no_text}
 use Rattle.bz_token.specs.declared.scan_string.Opening.{Opening}
 use Rattle.bz_token.proofs.Openings.{none_some, opens_r, opens_rb, opens_b, opens_br, opens_plain, opening_facts}
 use Rattle.bz_token.proofs.Ends.{string_opens, comment_parts, number_words}
 use Rattle.bz_token.proofs.Stops.{token_ends}
-use Rattle.bz_token.proofs.Fitting.{is_bracket_byte, no_bracket}
+use Rattle.bz_token.proofs.CutMachine.{run_append}
+use Rattle.bz_token.specs.Ends.{stops_at, is_empty_string}
+use Rattle.bz_token.specs.Places.{Placed}
+use Rattle.bz_token.specs.FreshStart.{ends_in_line, AreLinesOf}
+use Rattle.bz_token.proofs.Fitting.{is_bracket_byte, bracket_class, no_bracket}
 use Rattle.bz_token.proofs.Unique.{blank_class, nothing_unknown}
-use Rattle.bz_token.specs.Reading.{is_white, is_gap, continues_gap, feeds_gap, Piece, IsPiece, IsReading, open_after}
+use Rattle.bz_token.specs.Reading.{is_white, is_gap, continues_gap, feeds_gap, Piece, IsPiece, IsReading, open_after, AreTokensOf}
 
 -- the cutter stands here, whatever line it is in
 pub record IsAt (s : Scan) (inside : Inside) (depth : ℕ) : Type 0 where
@@ -631,3 +636,115 @@ letters_run (a ∷ letters) q s d words first =
     let m = first a (letters ++ byte_of q ∷ []) refl in
     let here : IsAt (next s a) Plain d = subst (λ t. IsAt t Plain d) (sym (m.1 ∙ word_step d m.0 a p.0)) (stands Plain d Statement) in
     letters_run letters q (next s a) d p.1 (λ b bs e. step_from (next s a) Plain d b here)
+
+text_no_bracket : (b : ℕ) (bs : List ℕ) → is_text Text (b ∷ bs) ≡ true → is_bracket_byte b ≡ false
+text_no_bracket b bs is = elim (cases_Bool (is_bracket_byte b)) [
+  | inr miss ↦ miss
+  | inl hit ↦ absurd (false≢true (ap (can_start Text) (sym (bracket_class b hit)) ∙ text_class Text b bs is))
+]
+
+-- behind an empty short string no third quote stands
+no_third : (q : Quote) (text after : List ℕ) (o : Opening) → IsToken Text text after → opening text ≡ Some o → o.quotes.byte ≡ byte_of q → o.quotes.long ≡ false → length text ≡ o.prefix + 2 → (b : ℕ) (bs : List ℕ) → after ≡ b ∷ bs → (b == byte_of q) ≡ false
+no_third q text after o token opens byte short size b bs e = elim (cases_Bool (b == byte_of q)) [
+  | inr miss ↦ miss
+  | inl hit ↦
+      let stop = subst (λ x. stops_at Text text x ≡ true) e (token_ends Text text after token) in
+      let here = (Decides-eqb (length text) (o.prefix + 2)).1 size in
+      let same : (b == o.quotes.byte) ≡ true = ap (λ x. b == x) byte ∙ hit in
+      let third : is_empty_string (opening text) text b ≡ true = ap (λ x. is_empty_string x text b) opens ∙ rw (short, here, same) refl in
+      absurd (false≢true (sym (rw third refl) ∙ stop))
+]
+
+string_token_run : (s : Scan) (opened : List ℕ) (b : ℕ) (bs after : List ℕ) → IsToken Text (b ∷ bs) after → (k : LineKind) × (next s b ≡ outside (length opened) k b) → BehindToken (run s (b ∷ bs)) (length (open_behind opened (b ∷ bs))) Text after
+string_token_run s opened b bs after token m =
+    let text = b ∷ bs in
+    let d = length opened in
+    let found = string_opens text token.whole in
+    let o = found.0 in
+    let parts = string_parts text o found.1 in
+    let quote = quote_of o.quotes.byte (opening_facts text o found.1).quoted in
+    let q = quote.0 in
+    let whole : text ≡ (parts.letters ++ byte_of q ∷ []) ++ parts.inside = parts.text_is ∙ ap (λ x. parts.letters ++ x ∷ parts.inside) quote.1 ∙ sym (append_assoc parts.letters (byte_of q ∷ []) parts.inside) in
+    let quotes : o.quotes ≡ long_quotes q o.quotes.long = λ i. record { byte = quote.1 i; long = o.quotes.long } in
+    let s1 = run s (parts.letters ++ byte_of q ∷ []) in
+    let opened_at : IsAt s1 (Opened q) d = letters_run parts.letters q s d parts.words (λ c cs e. first c (parts.letters ++ byte_of q ∷ []) parts.inside (sym whole) cs e) in
+    let tail : drop (opening_length o) text ≡ drop (closing_row o.quotes.long - 1) parts.inside = ap (λ n. drop (n + closing_row o.quotes.long) text) parts.prefix ∙ ap (drop (length parts.letters + closing_row o.quotes.long)) parts.text_is ∙ drop-append-add parts.letters (o.quotes.byte ∷ parts.inside) (closing_row o.quotes.long) ∙ behind_quote o.quotes.long o.quotes.byte parts.inside in
+    let closed : closes (long_quotes q o.quotes.long) 0 Unescaped (drop (closing_row o.quotes.long - 1) parts.inside) ≡ true = ap₂ (λ x y. closes x 0 Unescaped y) (sym quotes) (sym tail) ∙ found.2 in
+    let end : Found q d parts.inside o.quotes.long (run s1 parts.inside) = quoted_run q d parts.inside o.quotes.long s1 opened_at (ap (λ x. are_two x parts.inside) (sym quote.1) ∙ parts.long) closed in
+    let brackets = or_none (is_opening_bracket b) (is_closing_bracket b) (text_no_bracket b bs token.whole) in
+    same_depth (run s text) d _ Text after (ap length (sym (open_same opened b bs brackets.0 brackets.1)))
+    (subst (λ t. BehindToken t d Text after) (sym (ap (run s) whole ∙ run_append (parts.letters ++ byte_of q ∷ []) parts.inside s))
+    (elim end [
+      | plainly h ↦ behind_plain (run s1 parts.inside) d Text after h
+      | twice h one short ↦
+          let size : length text ≡ o.prefix + 2 = omega (arith, ap length parts.text_is, length-append parts.letters (o.quotes.byte ∷ parts.inside), one, parts.prefix) in
+          record {
+            ready = acts (λ c cs e.
+              let m2 = step_from (run s1 parts.inside) (OpenedTwice q) d c h in
+              let other = no_third q text after o token found.1 quote.1 short size c cs e in
+              let step : next_in (OpenedTwice q) d m2.0 c ≡ outside d m2.0 c = rw (other, next_in) refl in
+              (m2.0, m2.1 ∙ step));
+            ended = λ e. absurd (not_ended (run s1 parts.inside) (OpenedTwice q) d h refl e);
+          }
+    ]))
+  where
+    first : (c : ℕ) (ys inside : List ℕ) → ys ++ inside ≡ b ∷ bs → (cs : List ℕ) → ys ≡ c ∷ cs → (k : LineKind) × (next s c ≡ outside (length opened) k c)
+    first c ys inside whole cs e =
+        let head : (c ∷ cs) ++ inside ≡ b ∷ bs = ap (λ x. x ++ inside) (sym e) ∙ whole in
+        let same : b ≡ c = cc in
+        (m.0, subst (λ x. next s x ≡ outside (length opened) m.0 x) same m.1)
+
+    behind_quote : (long : Bool) (x : ℕ) (xs : List ℕ) → drop (closing_row long) (x ∷ xs) ≡ drop (closing_row long - 1) xs
+    behind_quote true x xs = refl
+    behind_quote false x xs = refl
+
+-- over a token
+token_run : (depth : ℕ) (s : Scan) (opened : List ℕ) (kind : Kind) (text after : List ℕ) → IsToken kind text after → fits depth opened kind text ≡ true → Ready s (length opened) (text ++ after) → BehindToken (run s text) (length (open_behind opened text)) kind after
+token_run depth s opened kind [] after token fit ready = absurd (empty_no_text kind token.whole)
+token_run depth s opened kind (b ∷ bs) after token fit ready = by_kind kind token fit (ready_first s (length opened) b (bs ++ after) ready (visible kind b bs token.whole))
+  where
+    name_words : is_name (b ∷ bs) ≡ true → list_all is_word_byte (b ∷ bs) ≡ true
+    name_words name = (and_parts (not (is_ascii_digit b)) (list_all is_word_byte (b ∷ bs)) name).1
+
+    by_kind : (kind : Kind) → IsToken kind (b ∷ bs) after → fits depth opened kind (b ∷ bs) ≡ true → (k : LineKind) × (next s b ≡ outside (length opened) k b) → BehindToken (run s (b ∷ bs)) (length (open_behind opened (b ∷ bs))) kind after
+    by_kind Ident token fit m = words_token Ident s opened b bs after (name_words (and_parts (is_name (b ∷ bs)) (not (is_keyword (b ∷ bs))) token.whole).0) m
+    by_kind Word token fit m = words_token Word s opened b bs after (name_words (keyword_name (b ∷ bs) token.whole)) m
+    by_kind Int token fit m = words_token Int s opened b bs after (number_words (b ∷ bs) token.whole) m
+    by_kind Text token fit m = string_token_run s opened b bs after token m
+    by_kind Sign token fit m = sign_token_run s opened b bs after token.whole m
+    by_kind Line token fit m = line_token_run depth s opened b bs after token.whole fit m
+    by_kind Note token fit m = comment_token_run s opened b bs after token m
+    by_kind Kept token fit m = absurd (false≢true token.whole)
+
+some_open : (opened : List ℕ) → is_inside opened ≡ true → 0 < length opened
+some_open [] h = absurd (false≢true h)
+some_open (a ∷ opened) h = omega arith
+
+-- Where the cutter stands at the end of a logical line, and the tokens of the bytes can be read, the last of them is a Line
+-- token that ends the bytes.
+pub reading_run : (depth : ℕ) (opened : List ℕ) (ps : List Piece) (rest bytes : List ℕ) (s : Scan) → IsReading depth opened ps rest bytes → is_gap (is_inside (open_after opened ps)) rest ≡ true → Ready s (length opened) bytes → is_ended (run s bytes).inside ≡ true
+    → (rest ≡ []) × (ends_in_line ps ≡ true) × (ps ≡ [] → is_ended s.inside ≡ true)
+reading_run depth opened [] rest bytes s r gap ready ended =
+    let g = gap_run (is_inside opened) rest [] s (length opened) (some_open opened) gap (subst (λ x. Ready s (length opened) x) (r ∙ sym (append-nil rest)) ready) in
+    let none = g.ended (subst (λ x. is_ended (run s x).inside ≡ true) r ended) in
+    (none, refl, λ e. subst (λ x. is_ended (run s x).inside ≡ true) (r ∙ none) ended)
+reading_run depth opened (p ∷ ps) rest bytes s r gap ready ended =
+    let piece = r.1 in
+    let after = r.0 in
+    let g = gap_run (is_inside opened) p.gap (p.text ++ after) s (length opened) (some_open opened) piece.gap (subst (λ x. Ready s (length opened) x) piece.bytes_are ready) in
+    let t = token_run depth (run s p.gap) opened p.kind p.text after piece.token piece.fits g.ready in
+    let all : run s bytes ≡ run (run (run s p.gap) p.text) after = ap (run s) piece.bytes_are ∙ run_append p.gap (p.text ++ after) s ∙ run_append p.text after (run s p.gap) in
+    let more = reading_run depth (open_behind opened p.text) ps rest after (run (run s p.gap) p.text) r.2 gap t.ready (ap (λ x. is_ended x.inside) (sym all) ∙ ended) in
+    (more.0, last ps more.1 (λ e. t.ended (more.2 e)), λ e. absurd (not_nil e))
+  where
+    not_nil : p ∷ ps ≡ [] → ⊥
+    not_nil e = cc
+
+    last : (ps : List Piece) → ends_in_line ps ≡ true → (ps ≡ [] → is_line p.kind ≡ true) → ends_in_line (p ∷ ps) ≡ true
+    last [] h line = line refl
+    last (q ∷ qs) h line = h
+
+pub lines_from : (first depth : ℕ) (bytes : List ℕ) (ts : List Placed) → AreTokensOf first depth bytes ts → is_ended (run start bytes).inside ≡ true → AreLinesOf first depth bytes ts
+lines_from first depth bytes ts a ended =
+    let end = reading_run depth [] a.0 a.1 bytes start a.2 (ap (λ o. is_gap (is_inside o) a.1) a.4 ∙ a.3) (ready_plain start 0 bytes (stands Plain 0 Blank)) ended in
+    (a.0, subst (λ x. IsReading depth [] a.0 x bytes) end.0 a.2, a.4, end.1, a.5)

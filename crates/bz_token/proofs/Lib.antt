@@ -16,6 +16,7 @@ pub mod Stops
 pub mod Joins
 pub mod FaultJoins
 pub mod Agree
+pub mod FreshChunks
 pub mod CutMunch
 pub mod CutSeen
 pub mod CutStrings
