@@ -1,6 +1,6 @@
 -- The cutter and the tokens agree: where the tokens of a text can be read, the cutter's steps are where they are.
-use Rattle.std.proofs.Common.{◌≡◌, ℕ, zero, suc, ◌+◌, ◌-◌, ◌<◌, ◌≤◌, ◌==◌, ◌&&◌, ◌||◌, List, [], ◌∷◌, ◌++◌, length, take, drop, cond, Bool, true, false, not, refl, sym, ap, ap₂, subst, ◌∙◌, arith, inl, inr, length-append, append_assoc, append-nil, one-add, take-append-drop, add-one}
-use Rattle.std.specs.Prelude.{Option, Some, None, nat_lt, if◌then◌else◌}
+use Rattle.std.proofs.Common.{◌≡◌, ℕ, zero, suc, ◌+◌, ◌-◌, ◌<◌, ◌≤◌, ◌==◌, ◌&&◌, ◌||◌, List, [], ◌∷◌, ◌++◌, length, take, drop, Bool, true, false, not, refl, sym, ap, ap₂, subst, ◌∙◌, arith, inl, inr, length-append, append_assoc, append-nil, one-add, add-one}
+use Rattle.std.specs.Prelude.{Some, if◌then◌else◌}
 use Rattle.std.specs.List.{list_all, list_any, prefix_len}
 use Rattle.std.specs.Char.{is_ascii_digit}
 use Rattle.std.proofs.lemmas.Bool.{cases_Bool, and_parts, or_cases, false≢true, eqb-true}
@@ -15,10 +15,10 @@ use Rattle.bz_token.specs.declared.cutter.scan.Quote.TheVariants.{Single, Double
 use Rattle.bz_token.specs.declared.cutter.scan.LineKind.{LineKind}
 use Rattle.bz_token.specs.declared.cutter.scan.LineKind.TheVariants.{Blank, Statement}
 use Rattle.bz_token.specs.declared.cutter.scan.Inside.{Inside}
-use Rattle.bz_token.specs.declared.cutter.scan.Inside.TheVariants.{Plain, Ended, BrokenOff, Backslash, BackslashReturn, Comment, Opened, OpenedTwice, Short, ShortEscape, ShortEscapeReturn, Long, LongQuote, LongTwoQuotes, LongEscape}
+use Rattle.bz_token.specs.declared.cutter.scan.Inside.TheVariants.{Plain, Ended, Backslash, BackslashReturn, Comment, Opened, OpenedTwice, Short, ShortEscape, ShortEscapeReturn, Long, LongQuote, LongTwoQuotes, LongEscape}
 use Rattle.bz_token.specs.declared.cutter.scan.Scan.{Scan}
 use Rattle.bz_token.specs.CutSteps.{is_ended, byte_of, at, outside, in_short, in_long, next_in, next, start, run, with_note}
-use Rattle.bz_token.specs.Lexical.{is_word_byte, is_blank, is_newline, is_quote, closes, closing_row, are_two, opens_behind, opening, opening_length, is_empty, is_name, is_keyword, signs, is_sign,  is_text, IsToken}
+use Rattle.bz_token.specs.Lexical.{is_word_byte, is_blank, is_newline, is_quote, closes, closing_row, are_two, opens_behind, opening, opening_length, is_empty, is_name, is_keyword, signs, is_sign, is_text, IsToken}
 use Rattle.bz_token.specs.Brackets.{is_inside, is_line, is_opening_bracket, is_closing_bracket, fits, open_behind}
 use Rattle.bz_token.proofs.Classes.{Class, class_of, keyword_name, can_start, text_class, one_of, same_bytes, empty_no_text}
 use Rattle.bz_token.specs.declared.scan_string.Opening.{Opening}
@@ -31,7 +31,7 @@ use Rattle.bz_token.specs.Places.{Placed}
 use Rattle.bz_token.specs.FreshStart.{ends_in_line, AreLinesOf}
 use Rattle.bz_token.proofs.Fitting.{is_bracket_byte, bracket_class, no_bracket}
 use Rattle.bz_token.proofs.Unique.{blank_class, nothing_unknown}
-use Rattle.bz_token.specs.Reading.{is_white, is_gap, continues_gap, feeds_gap, Piece, IsPiece, IsReading, open_after, AreTokensOf}
+use Rattle.bz_token.specs.Reading.{is_white, is_gap, continues_gap, feeds_gap, Piece, IsReading, open_after, AreTokensOf}
 
 -- the cutter stands here, whatever line it is in
 pub record IsAt (s : Scan) (inside : Inside) (depth : ℕ) : Type 0 where
@@ -680,10 +680,10 @@ string_token_run s opened b bs after token m =
           let size : length text ≡ o.prefix + 2 = omega (arith, ap length parts.text_is, length-append parts.letters (o.quotes.byte ∷ parts.inside), one, parts.prefix) in
           record {
             ready = acts (λ c cs e.
-              let m2 = step_from (run s1 parts.inside) (OpenedTwice q) d c h in
-              let other = no_third q text after o token found.1 quote.1 short size c cs e in
-              let step : next_in (OpenedTwice q) d m2.0 c ≡ outside d m2.0 c = rw (other, next_in) refl in
-              (m2.0, m2.1 ∙ step));
+                let m2 = step_from (run s1 parts.inside) (OpenedTwice q) d c h in
+                let other = no_third q text after o token found.1 quote.1 short size c cs e in
+                let step : next_in (OpenedTwice q) d m2.0 c ≡ outside d m2.0 c = rw (other, next_in) refl in
+                (m2.0, m2.1 ∙ step));
             ended = λ e. absurd (not_ended (run s1 parts.inside) (OpenedTwice q) d h refl e);
           }
     ]))
