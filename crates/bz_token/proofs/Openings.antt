@@ -77,7 +77,7 @@ opens_br a c cs no_r b r = rw (no_r, b, r) refl
 pub opens_plain : (a : ℕ) (bs : List ℕ) → (a == 114) ≡ false → (a == 98) ≡ false → opening (a ∷ bs) ≡ opens_behind 0 (a ∷ bs)
 opens_plain a bs no_r no_b = rw (no_r, no_b) refl
 
-none_some : (b : Opening) → None ≡ Some b → ⊥
+pub none_some : (b : Opening) → None ≡ Some b → ⊥
 none_some b e = cc
 
 pub opening_more : (text xs : List ℕ) (o : Opening) → opening text ≡ Some o → OpensMore o (text ++ xs)

@@ -1,22 +1,21 @@
 -- What follows a text and ends it, exactly.
-use Rattle.std.proofs.Common.{◌≡◌, ℕ, zero, suc, ◌+◌, ◌<◌, ◌≤◌, ◌==◌, ◌&&◌, ◌||◌, List, [], ◌∷◌, ◌++◌, length, take, drop, Bool, true, false, not, refl, sym, ap, ap₂, subst, ◌∙◌, arith, inl, inr, length-append, length-drop, append_assoc, one-add}
+use Rattle.std.proofs.Common.{◌≡◌, ℕ, ◌+◌, ◌<◌, ◌==◌, ◌&&◌, ◌||◌, List, [], ◌∷◌, ◌++◌, length, take, drop, Bool, true, false, not, refl, sym, ap, subst, ◌∙◌, arith, inl, inr, length-drop, append_assoc, one-add, take-append-drop}
 use Rattle.std.specs.Prelude.{Option, Some, None, is_some, bytes_eq, codes}
 use Rattle.std.specs.List.{list_all, list_any, prefix_len}
-use Rattle.std.specs.Char.{is_ascii_digit}
-use Rattle.std.proofs.lemmas.Bool.{cases_Bool, cases_lt, and_parts, or_cases, false≢true, eqb-true}
-use Rattle.std.proofs.lemmas.Bool.Decides.{nat_tests, Decides-eqb}
+use Rattle.std.proofs.lemmas.Bool.{cases_Bool, and_parts, or_cases, false≢true, eqb-true}
+use Rattle.std.proofs.lemmas.Bool.Decides.{nat_tests}
 use Rattle.std.proofs.lemmas.List.{drop-append-le}
 use Rattle.std.proofs.lemmas.List.Folds.{list_any-append}
 use Rattle.bz_token.specs.declared.scan_string.Opening.{Opening}
-use Rattle.bz_token.specs.declared.scan_string.Quotes.{Quotes}
 use Rattle.bz_token.specs.declared.scan_string.Escape.TheVariants.{Unescaped}
 use Rattle.bz_token.specs.declared.token.Kind.{Kind}
 use Rattle.bz_token.specs.declared.token.Kind.TheVariants.{Ident, Word, Int, Text, Sign, Line, Note, Kept}
-use Rattle.bz_token.specs.Lexical.{is_word_byte, is_quote, is_blank, is_newline, is_one_of, signs, is_sign, keywords, is_keyword, is_name, is_number, is_string, is_comment, ends_blank, closes, closing_row, are_two, opens_behind, opening, opening_length, is_long, is_text, begins, counts, is_number_kind, is_string_kind, IsToken}
+use Rattle.bz_token.specs.Lexical.{is_word_byte, is_quote, is_blank, is_newline, is_one_of, signs, is_sign, keywords, is_keyword, is_name, is_comment, ends_blank, closes, closing_row, are_two, opens_behind, opening, opening_length, is_long, is_text, counts, is_string_kind, IsToken}
 use Rattle.bz_token.specs.Ends.{is_prefix, is_empty_string, stops, stops_at, is_note, ends}
-use Rattle.bz_token.proofs.Classes.{Class, letter, digit, quote, newline, hash, mark, unknown, class_of, can_start, text_class, digit_class, name_parts, keyword_name, number_starts, one_of, same_bytes, empty_no_text}
-use Rattle.bz_token.proofs.Openings.{opens_r, opens_b, opens_rb, opens_br, OpensMore, opening_more, opening_facts, no_opening, ends_name}
-use Rattle.bz_token.proofs.Ends.{name_token, number_token, sign_token, line_token, note_token, string_token, string_opens, stops_run, number_words, run_length, counts_free, no_digit, mark_of, comment_parts}
+use Rattle.bz_token.proofs.Classes.{hash as hash_class}
+use Rattle.bz_token.proofs.Classes.{mark, class_of, can_start, text_class, digit_class, name_parts, keyword_name, number_starts, one_of, same_bytes, empty_no_text}
+use Rattle.bz_token.proofs.Openings.{opens_r, opens_b, opens_rb, opens_br, opening_more, opening_facts, no_opening, ends_name}
+use Rattle.bz_token.proofs.Ends.{name_token, number_token, sign_token, line_token, note_token, string_token, string_opens, stops_run, number_words, counts_free, no_digit, mark_of, comment_parts}
 
 keyword_no_prefix : (text : List ℕ) → is_keyword text ≡ true → not (is_prefix text) ≡ true
 unfolding keywords
@@ -227,3 +226,157 @@ name_ends kind b bs (c ∷ cs) no_text name token = both (is_word_byte c) (is_qu
             | inr none ↦ not_nil c [] (token.longest Ident (c ∷ []) cs refl (rw (longer, none) refl) (free Ident unquoted plain))
           ])
     ]
+
+or_none : (x y : Bool) → (x || y) ≡ false → (x ≡ false) × (y ≡ false)
+or_none true y h = absurd (false≢true (sym h))
+or_none false y h = (refl, h)
+
+-- how far a run goes beyond a part of it
+run_more : (p : ℕ → Bool) (xs ys : List ℕ) → list_all p xs ≡ true → prefix_len p (xs ++ ys) ≡ length xs + prefix_len p ys
+run_more p [] ys h = omega arith
+run_more p (x ∷ xs) ys h =
+    let parts = and_parts (p x) (list_all p xs) h in
+    let first = parts.0 in
+    rw first (omega (arith, run_more p xs ys parts.1))
+
+number_ends : (b : ℕ) (bs after : List ℕ) → IsToken Int (b ∷ bs) after → stops_at Int (b ∷ bs) after ≡ true
+number_ends b bs [] token = refl
+number_ends b bs (c ∷ cs) token = elim (cases_Bool (is_word_byte c)) [
+  | inr miss ↦ not_false (is_word_byte c) miss
+  | inl hit ↦
+      let first = number_starts b bs token.whole in
+      let unquoted = no_opening b (bs ++ c ∷ cs) (ap (can_start Text) (digit_class b first)) in
+      let test = rw (unquoted, first, counts) at token.counted in
+      let same = eqb-true (length (b ∷ bs)) (prefix_len is_word_byte ((b ∷ bs) ++ c ∷ cs)) test in
+      let run = run_more is_word_byte (b ∷ bs) (c ∷ cs) (number_words (b ∷ bs) token.whole) in
+      let some : 0 < prefix_len is_word_byte (c ∷ cs) = rw hit (omega arith) in
+      absurd (omega (arith, same, run, some))
+]
+
+sign_ends : (b : ℕ) (bs after : List ℕ) → IsToken Sign (b ∷ bs) after → stops_at Sign (b ∷ bs) after ≡ true
+sign_ends b bs [] token = refl
+sign_ends b bs (c ∷ cs) token = elim (cases_Bool (is_sign ((b ∷ bs) ++ c ∷ []))) [
+  | inr miss ↦ not_false (is_sign ((b ∷ bs) ++ c ∷ [])) miss
+  | inl hit ↦
+      let class = mark_of b (text_class Sign b bs token.whole) in
+      absurd (not_nil c [] (token.longest Sign (c ∷ []) cs refl hit
+      (counts_free ((b ∷ bs) ++ c ∷ cs) ((b ∷ bs) ++ c ∷ []) Sign (no_opening b (bs ++ c ∷ cs) (ap (can_start Text) class)) (no_digit b mark class refl))))
+]
+
+-- a string that is empty is followed by no third quote
+string_ends : (text after : List ℕ) → IsToken Text text after → stops_at Text text after ≡ true
+string_ends text [] token = refl
+string_ends text (b ∷ bs) token =
+    let s = string_opens text token.whole in
+    not_false _ (ap (λ o. is_empty_string o text b) s.1 ∙ third s.0 s.1 s.2)
+  where
+    third : (o : Opening) → opening text ≡ Some o → closes o.quotes 0 Unescaped (drop (opening_length o) text) ≡ true → is_empty_string (Some o) text b ≡ false
+    third o opens closed = elim (cases_Bool (is_empty_string (Some o) text b)) [
+      | inr miss ↦ miss
+      | inl hit ↦
+          let parts = and_parts (not o.quotes.long && (length text == o.prefix + 2)) (b == o.quotes.byte) hit in
+          let front = and_parts (not o.quotes.long) (length text == o.prefix + 2) parts.0 in
+          let short = not_true o.quotes.long front.0 in
+          let size = eqb-true (length text) (o.prefix + 2) front.1 in
+          let quotes : o.quotes ≡ record { byte = o.quotes.byte; long = false } = λ i. record { byte = o.quotes.byte; long = short i } in
+          let closed' : closes (record { byte = o.quotes.byte; long = false }) 0 Unescaped (drop (o.prefix + 1) text) ≡ true =
+          sym (ap (λ x. closes x 0 Unescaped (drop (o.prefix + closing_row x.long) text)) quotes) ∙ closed in
+          let more = opening_more text (b ∷ bs) o opens in
+          let facts = opening_facts (text ++ b ∷ bs) more.more more.opens in
+          let tail = drop-append-le (o.prefix + 1) text (b ∷ bs) (omega (arith, size)) in
+          let two = last (drop (o.prefix + 1) text) (omega (arith, size, length-drop (o.prefix + 1) text)) closed' parts.1 in
+          let long : more.more.quotes.long ≡ true =
+          facts.long ∙ ap (λ n. are_two more.more.quotes.byte (drop (n + 1) (text ++ b ∷ bs))) more.prefix ∙ ap (λ q. are_two q (drop (o.prefix + 1) (text ++ b ∷ bs))) more.byte ∙ ap (are_two o.quotes.byte) tail ∙ two in
+          let both = and_parts true (is_long (opening text) || not more.more.quotes.long) (rw (more.opens, counts) at token.counted) in
+          absurd (false≢true (sym (none (is_long (opening text)) more.more.quotes.long (ap is_long opens ∙ short) long) ∙ both.1))
+    ]
+      where
+        none : (x y : Bool) → x ≡ false → y ≡ true → (x || not y) ≡ false
+        none x y p q = rw (p, q) refl
+
+        last : (qs : List ℕ) → length qs ≡ 1 → closes (record { byte = o.quotes.byte; long = false }) 0 Unescaped qs ≡ true → (b == o.quotes.byte) ≡ true → are_two o.quotes.byte (qs ++ b ∷ bs) ≡ true
+        last [] size closed hit = absurd (omega arith)
+        last (c ∷ d ∷ qs) size closed hit = absurd (omega arith)
+        last (c ∷ []) size closed hit = elim (cases_Bool (c == o.quotes.byte)) [
+          | inl same ↦ rw (same, hit) refl
+          | inr other ↦ absurd (false≢true (sym (open_byte c other) ∙ closed))
+        ]
+          where
+            open_byte : (c : ℕ) → (c == o.quotes.byte) ≡ false → closes (record { byte = o.quotes.byte; long = false }) 0 Unescaped (c ∷ []) ≡ false
+            open_byte c other = rw (other, closes) (and_false (not (c == 10)))
+              where
+                and_false : (x : Bool) → (x && false) ≡ false
+                and_false true = refl
+                and_false false = refl
+
+-- bytes that are not all white space go up to one that is none
+up_to_last : (text xs : List ℕ) → list_all is_blank xs ≡ false → (m : ℕ) × (more rest : List ℕ) × (xs ≡ (m ∷ more) ++ rest) × (ends_blank (text ++ m ∷ more) ≡ false)
+up_to_last text [] h = absurd (false≢true (sym h))
+up_to_last text (x ∷ xs) h = elim (cases_Bool (list_all is_blank xs)) [
+  | inr later ↦
+      let r = up_to_last (text ++ x ∷ []) xs later in
+      (x, r.0 ∷ r.1, r.2, ap (λ ys. x ∷ ys) r.3, ap ends_blank (sym (append_assoc text (x ∷ []) (r.0 ∷ r.1))) ∙ r.4)
+  | inl rest ↦ (x, [], xs, refl, last text (here (is_blank x) rest h))
+]
+  where
+    here : (y : Bool) → list_all is_blank xs ≡ true → (y && list_all is_blank xs) ≡ false → y ≡ false
+    here true rest h = absurd (false≢true (sym h ∙ rest))
+    here false rest h = refl
+
+    last : (text : List ℕ) → is_blank x ≡ false → ends_blank (text ++ x ∷ []) ≡ false
+    last [] b = b
+    last (t ∷ []) b = b
+    last (t ∷ u ∷ text) b = last (u ∷ text) b
+
+line_part : (xs : List ℕ) → list_any is_newline (take (prefix_len (λ b. not (is_newline b)) xs) xs) ≡ false
+line_part [] = refl
+line_part (x ∷ xs) = elim (cases_Bool (is_newline x)) [
+  | inl hit ↦ rw hit refl
+  | inr miss ↦ let more = line_part xs in rw (miss, one-add, miss) more
+]
+
+note_ends : (b : ℕ) (bs after : List ℕ) → IsToken Note (b ∷ bs) after → list_all is_blank (take (prefix_len (λ c. not (is_newline c)) after) after) ≡ true
+note_ends b bs after token = elim (cases_Bool (list_all is_blank (take (prefix_len (λ c. not (is_newline c)) after) after))) [
+  | inl hit ↦ hit
+  | inr miss ↦
+      let n = prefix_len (λ c. not (is_newline c)) after in
+      let r = up_to_last (b ∷ bs) (take n after) miss in
+      let parts = comment_parts (b ∷ bs) token.whole in
+      let one_line = or_none (list_any is_newline (r.0 ∷ r.1)) (list_any is_newline r.2) (sym (list_any-append is_newline (r.0 ∷ r.1) r.2) ∙ ap (list_any is_newline) (sym r.3) ∙ line_part after) in
+      let clean : list_any is_newline ((b ∷ bs) ++ r.0 ∷ r.1) ≡ false = list_any-append is_newline (b ∷ bs) (r.0 ∷ r.1) ∙ neither (list_any is_newline (b ∷ bs)) (list_any is_newline (r.0 ∷ r.1)) parts.1 one_line.0 in
+      let hash = parts.0 in
+      let unblank = r.4 in
+      let longer : is_comment ((b ∷ bs) ++ r.0 ∷ r.1) ≡ true = all_three (b == 35) (list_any is_newline ((b ∷ bs) ++ r.0 ∷ r.1)) (ends_blank ((b ∷ bs) ++ r.0 ∷ r.1)) hash clean unblank in
+      let same : b ≡ 35 = eqb-true b 35 hash in
+      let class : class_of b ≡ hash_class = rw same refl in
+      let split : after ≡ (r.0 ∷ r.1) ++ (r.2 ++ drop n after) = sym (take-append-drop n after) ∙ ap (λ x. x ++ drop n after) r.3 ∙ append_assoc (r.0 ∷ r.1) r.2 (drop n after) in
+      absurd (not_nil r.0 r.1 (token.longest Note (r.0 ∷ r.1) (r.2 ++ drop n after) split longer
+      (counts_free ((b ∷ bs) ++ after) ((b ∷ bs) ++ r.0 ∷ r.1) Note (no_opening b (bs ++ after) (ap (can_start Text) class)) (no_digit b hash_class class refl))))
+]
+  where
+    neither : (x y : Bool) → x ≡ false → y ≡ false → (x || y) ≡ false
+    neither x y p q = rw (p, q) refl
+
+    all_three : (x y z : Bool) → x ≡ true → y ≡ false → z ≡ false → (x && not y && not z) ≡ true
+    all_three x y z p q r = rw (p, q, r) refl
+
+-- what follows a token ends it
+pub token_ends : (kind : Kind) (text after : List ℕ) → IsToken kind text after → ends kind text after ≡ true
+token_ends kind [] after token = absurd (empty_no_text kind token.whole)
+token_ends Ident (b ∷ bs) after token = as_stops after (name_ends Ident b bs after refl (and_parts (is_name (b ∷ bs)) (not (is_keyword (b ∷ bs))) token.whole).0 token)
+  where
+    as_stops : (after : List ℕ) → ends_name (b ∷ bs) after ≡ true → stops_at Ident (b ∷ bs) after ≡ true
+    as_stops [] h = refl
+    as_stops (c ∷ cs) h = h
+token_ends Word (b ∷ bs) after token = as_stops after (name_ends Word b bs after refl (keyword_name (b ∷ bs) token.whole) token)
+  where
+    as_stops : (after : List ℕ) → ends_name (b ∷ bs) after ≡ true → stops_at Word (b ∷ bs) after ≡ true
+    as_stops [] h = refl
+    as_stops (c ∷ cs) h = (and_parts (not (is_word_byte c)) (not (is_quote c && is_prefix (b ∷ bs))) h).0
+token_ends Int (b ∷ bs) after token = number_ends b bs after token
+token_ends Text (b ∷ bs) after token = string_ends (b ∷ bs) after token
+token_ends Sign (b ∷ bs) after token = sign_ends b bs after token
+token_ends Line (b ∷ bs) [] token = refl
+token_ends Line (b ∷ bs) (c ∷ cs) token = refl
+token_ends Note (b ∷ bs) after token = note_ends b bs after token
+token_ends Kept (b ∷ bs) after token = absurd (false≢true token.whole)

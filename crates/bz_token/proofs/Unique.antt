@@ -1,25 +1,15 @@
 -- A text is read in one way only.
-use Rattle.std.proofs.Common.{◌≡◌, ℕ, zero, suc, ◌+◌, ◌-◌, ◌<◌, ◌≤◌, ◌==◌, ◌&&◌, ◌||◌, List, [], ◌∷◌, ◌++◌, length, take, drop, get_or, Bool, true, false, not, refl, sym, ap, ap₂, subst, ◌∙◌, arith, inl, inr, length-append, append_assoc, append-nil, ◌⊎◌}
-use Rattle.std.specs.Prelude.{Option, Some, None, is_some, nat_lt, if◌then◌else◌}
-use Rattle.std.specs.List.{list_all, list_any}
-use Rattle.std.specs.Char.{is_ascii_digit}
+use Rattle.std.proofs.Common.{◌≡◌, ℕ, ◌<◌, ◌≤◌, ◌==◌, ◌&&◌, ◌||◌, List, [], ◌∷◌, ◌++◌, length, Bool, true, false, not, refl, sym, ap, ap₂, subst, ◌∙◌, arith, inl, inr, length-append, append-nil, ◌⊎◌}
+use Rattle.std.specs.Prelude.{Option, Some, None}
 use Rattle.std.proofs.lemmas.Bool.{cases_Bool, cases_lt, and_parts, or_cases, false≢true, eqb-true}
-use Rattle.std.proofs.lemmas.Bool.Decides.{nat_tests}
-use Rattle.bz_token.specs.declared.fault.LexFault.{LexFault}
-use Rattle.bz_token.specs.declared.fault.LexFault.TheVariants as faults
 use Rattle.bz_token.specs.declared.scan_string.Opening.{Opening}
 use Rattle.bz_token.specs.declared.token.Kind.{Kind}
 use Rattle.bz_token.specs.declared.token.Kind.TheVariants.{Ident, Word, Int, Text, Sign, Line, Note, Kept}
-use Rattle.bz_token.specs.Places.{Placed, line_at, column_at}
-use Rattle.bz_token.specs.Lexical.{begins, is_blank, is_keyword, is_name, is_sign, signs, is_string, opening, is_text, is_string_kind, counts, IsToken, HasNoToken}
-use Rattle.bz_token.specs.Brackets.{is_inside, is_line, is_opening_bracket, is_closing_bracket, closes_innermost, bracket_fits, fits, open_behind, open_tokens}
-use Rattle.bz_token.specs.Reading.{is_white, is_gap, continues_gap, feeds_gap, continues, begins_gap, Piece, IsPiece, IsReading, open_after, bytes_of, tokens_of, AreTokensOf}
-use Rattle.bz_token.specs.Faults.{IsOpenText, IsBadNumber, IsBadBackslash, IsBadCharacter, IsBadBracket, IsTooDeep, IsFaultAt, IsOpenBracket, IsFault}
-use Rattle.bz_token.proofs.Classes.{Class, letter, digit, quote, newline, hash, mark, unknown, class_of, can_start, text_class, empty_no_text, digit_class, same_bytes}
-use Rattle.bz_token.proofs.Openings.{no_opening}
-use Rattle.bz_token.proofs.Ends.{no_string, counts_free}
-use Rattle.bz_token.proofs.Fitting.{is_bracket_byte, bracket_class, no_bracket}
-use Rattle.bz_token.proofs.Progress.{open_lengths}
+use Rattle.bz_token.specs.Lexical.{is_blank, is_keyword, is_name, is_string, opening, is_text, is_string_kind, counts, IsToken}
+use Rattle.bz_token.specs.Brackets.{is_inside, fits, open_behind}
+use Rattle.bz_token.specs.Reading.{is_white, is_gap, continues_gap, feeds_gap, continues, begins_gap, Piece, IsPiece, IsReading, open_after}
+use Rattle.bz_token.proofs.Classes.{Class, letter, digit, quote, newline, hash, mark, unknown, class_of, can_start, text_class, empty_no_text, same_bytes}
+use Rattle.bz_token.proofs.Ends.{no_string}
 
 -- the longer of two fronts goes on from the shorter
 pub longer_front : (xs ys a b : List ℕ) → xs ++ a ≡ ys ++ b → length xs ≤ length ys → (more : List ℕ) × (ys ≡ xs ++ more) × (a ≡ more ++ b)
@@ -100,7 +90,7 @@ gap_begins inside b bs rest h = elim (cases_Bool (is_white inside b)) [
         feeds [] h = absurd (false≢true h)
         feeds (d ∷ ds) h = let third : d ≡ 10 = eqb-true d 10 (and_parts (d == 10) (is_gap inside ds) h).0 in rw third refl
 
-blank_class : (b : ℕ) → is_blank b ≡ true → class_of b ≡ unknown
+pub blank_class : (b : ℕ) → is_blank b ≡ true → class_of b ≡ unknown
 blank_class b h =
     elim (or_cases (b == 32 || b == 9) (b == 13) h) [
       | inr third ↦ let same : b ≡ 13 = eqb-true b 13 third in rw same refl
@@ -110,7 +100,7 @@ blank_class b h =
       ]
     ]
 
-nothing_unknown : (kind : Kind) → can_start kind unknown ≡ true → ⊥
+pub nothing_unknown : (kind : Kind) → can_start kind unknown ≡ true → ⊥
 nothing_unknown Ident h = false≢true h
 nothing_unknown Word h = false≢true h
 nothing_unknown Int h = false≢true h

@@ -1,12 +1,15 @@
 //! Laws on tokens: what a text is read as is determined.
 
-ghost use Rattle.std.specs.Prelude.{◌≡◌, ◌==◌, ◌∷◌, [], ℕ, List, true, false, codes};
-ghost use Rattle.std.specs.List.{list_any};
+ghost use Rattle.std.specs.Prelude.{◌≡◌, ◌↔◌, ◌==◌, ◌∷◌, ◌++◌, ◌<◌, length, [], ℕ, List, true, false, codes};
+ghost use Rattle.std.specs.List.{list_any, concat};
 ghost use Rattle.bz_token.specs.Ends.{stops, ends, is_note};
 ghost use Rattle.bz_token.specs.Lexical.{is_text, IsToken};
 ghost use Rattle.bz_token.specs.declared.token.Kind.{Kind};
 ghost use Rattle.bz_token.specs.declared.token.Kind.TheVariants.{Sign};
-ghost use Rattle.bz_token.specs.Places.{Placed};
+ghost use Rattle.bz_token.specs.Places.{Placed, line_at};
+ghost use Rattle.bz_token.specs.FreshStart.{AreLinesOf, AreTokensOfChunks};
+ghost use Rattle.bz_token.specs.Chunks.{chunks};
+ghost use Rattle.bz_token.specs.Cuts.{EndsBefore};
 ghost use Rattle.bz_token.specs.Reading.{AreTokensOf};
 ghost use Rattle.bz_token.specs.Faults.{IsFault};
 ghost use Rattle.bz_token.specs.declared.fault.LexFault.{LexFault};
@@ -30,6 +33,7 @@ pub fn tokens_or_a_fault()
 /// What follows a text tells whether it is the token at its place.
 pub fn what_ends_a_token()
     ensures ended { (kind : Kind) (text after : List ℕ) → is_text kind text ≡ true → ends kind text after ≡ true → IsToken kind text after }
+    ensures exactly { (kind : Kind) (text after : List ℕ) → IsToken kind text after → ends kind text after ≡ true }
     ensures stopped { (kind : Kind) (text : List ℕ) (b : ℕ) (rest : List ℕ) → stops kind text b ≡ true → ends kind text (b ∷ rest) ≡ true }
     ensures some { (kind : Kind) → is_text kind [] ≡ true → ⊥ }
 {}
@@ -40,4 +44,23 @@ pub fn bytes_that_end_tokens()
     ensures space { (kind : Kind) (text : List ℕ) → is_text kind text ≡ true → is_note kind ≡ false → stops kind text 32 ≡ true }
     ensures mark { (kind : Kind) (text : List ℕ) (b : ℕ) → is_text kind text ≡ true → is_note kind ≡ false → list_any (λ c. b == c) (codes ".,:)]}") ≡ true → stops kind text b ≡ true }
     ensures sign { (text : List ℕ) (b : ℕ) → is_text Sign text ≡ true → list_any (λ c. b == c) (codes "/*<>=") ≡ false → stops Sign text b ≡ true }
+{}
+
+/// Behind a text that a newline outside brackets ends, reading starts afresh: what follows has the tokens, or the first
+/// fault, that it has as a text of its own with its first line.
+pub fn reading_starts_afresh()
+    ensures tokens { (first depth : ℕ) (a b : List ℕ) (ts us : List Placed) → AreLinesOf first depth a ts → AreTokensOf (line_at first a) depth b us → AreTokensOf first depth (a ++ b) (ts ++ us) }
+    ensures only { (first depth : ℕ) (a b : List ℕ) (ts vs : List Placed) → AreLinesOf first depth a ts → AreTokensOf first depth (a ++ b) vs → (us : List Placed) × AreTokensOf (line_at first a) depth b us × (vs ≡ ts ++ us) }
+    ensures fault { (first depth : ℕ) (a b : List ℕ) (ts : List Placed) (f : LexFault) → AreLinesOf first depth a ts → (IsFault first depth (a ++ b) f ↔ IsFault (line_at first a) depth b f) }
+{}
+
+/// Chunks may be read one by one: where the chunks before have tokens, the tokens and the first fault of a file behind
+/// them are those of what is left of it, with its first line; and a chunk that something follows ends with its newline.
+pub fn chunks_start_afresh()
+    ensures lines { (first depth : ℕ) (c : List ℕ) (b : ℕ) (rest : List ℕ) (ts : List Placed) → EndsBefore c (b ∷ rest) → 0 < length c → AreTokensOf first depth c ts → AreLinesOf first depth c ts }
+    ensures whole { (first depth : ℕ) (cs : List (List ℕ)) (bytes : List ℕ) (ts : List Placed) → chunks bytes ≡ cs → AreTokensOfChunks first depth cs ts → AreTokensOf first depth bytes ts }
+    ensures tokens { (first depth : ℕ) (cs ds : List (List ℕ)) (d bytes rest : List ℕ) (ts vs : List Placed) → chunks bytes ≡ cs ++ d ∷ ds → AreTokensOfChunks first depth cs ts → bytes ≡ concat cs ++ rest
+        → AreTokensOf first depth bytes vs → (us : List Placed) × AreTokensOf (line_at first (concat cs)) depth rest us × (vs ≡ ts ++ us) }
+    ensures fault { (first depth : ℕ) (cs ds : List (List ℕ)) (d bytes rest : List ℕ) (ts : List Placed) (f : LexFault) → chunks bytes ≡ cs ++ d ∷ ds → AreTokensOfChunks first depth cs ts → bytes ≡ concat cs ++ rest
+        → (IsFault first depth bytes f ↔ IsFault (line_at first (concat cs)) depth rest f) }
 {}
