@@ -1,6 +1,7 @@
 //! The statement of a chunk: its bracket tree and the owners of its comments.
 #![tactic(auto)]
 
+mod copy;
 mod stmt;
 
 pub use stmt::{Class, Group, GroupKind, Leaf, Node, Seg, Stmt};
