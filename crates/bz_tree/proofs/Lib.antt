@@ -1,1 +1,4 @@
 pub mod Views
+pub mod OneBracket
+pub mod Complete
+pub mod Sound

@@ -1,7 +1,11 @@
 //! The statement of a chunk: its bracket tree and the owners of its comments.
 #![tactic(auto)]
 
+mod build;
+mod class;
 mod copy;
+mod kinds;
+mod owners;
 mod stmt;
 
 pub use stmt::{Class, Group, GroupKind, Leaf, Node, Seg, Stmt};
