@@ -2,3 +2,6 @@ pub mod Views
 pub mod OneBracket
 pub mod Complete
 pub mod Sound
+pub mod Accepted
+pub mod Meant
+pub mod Recognized

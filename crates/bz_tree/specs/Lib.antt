@@ -5,3 +5,5 @@ pub mod Owners
 pub mod Brackets
 pub mod Statement
 pub mod Steps
+pub mod Grammar
+pub mod Machine

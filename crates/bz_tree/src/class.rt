@@ -111,7 +111,7 @@ fn has_assign(nodes: &[Node<'_>]) -> bool
     false
 }
 
-fn is_load_word(node: &Node<'_>) -> bool
+pub(crate) fn is_load_word(node: &Node<'_>) -> bool
     ensures { result ≡ is_load_word (node_view node.now) }
 {
     match node {

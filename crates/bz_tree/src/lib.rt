@@ -4,8 +4,11 @@
 mod build;
 mod class;
 mod copy;
+mod grammar;
 mod kinds;
 mod owners;
+mod role;
+mod stage;
 mod stmt;
 
 pub use stmt::{Class, Group, GroupKind, Leaf, Node, Seg, Stmt};
