@@ -5,3 +5,4 @@ pub mod Sound
 pub mod Accepted
 pub mod Meant
 pub mod Recognized
+pub mod Plain

@@ -6,4 +6,5 @@ pub mod Brackets
 pub mod Statement
 pub mod Steps
 pub mod Grammar
+pub mod Chunk
 pub mod Machine

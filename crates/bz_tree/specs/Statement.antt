@@ -1,5 +1,5 @@
 -- The statement that a list of tokens is: its tree, its class and its lines.
-use Rattle.std.specs.Prelude.{codes, ℕ, List, [], ◌∷◌, ◌++◌, Bool, true, false, if◌then◌else◌, ◌≡◌, ◌&&◌, ◌||◌, None}
+use Rattle.std.specs.Prelude.{codes, ℕ, List, [], ◌∷◌, ◌++◌, Bool, true, false, if◌then◌else◌, ◌≡◌, ◌<◌, ◌^◌, ◌&&◌, ◌||◌, None, Option, Some, ◌<◌, ◌^◌}
 use Rattle.std.specs.Str.{bytes_eq}
 use Rattle.bz_token.specs.declared.token.Kind.{Kind}
 use Rattle.bz_token.specs.declared.token.Kind.TheVariants.{Ident, Word, Sign, Note, Line, Kept}
@@ -113,25 +113,49 @@ abbrev pub bare_tokens : List Placed → List Placed
 bare_tokens [] = []
 bare_tokens (t ∷ ts) = if is_aside t.kind then bare_tokens ts else t ∷ bare_tokens ts
 
-abbrev pub first_line : List Placed → ℕ
-first_line [] = 0
-first_line (t ∷ ts) = t.line
+abbrev pub first_of : List Placed → Option Placed
+first_of [] = None
+first_of (t ∷ ts) = Some t
 
-abbrev pub last_line : List Placed → ℕ
-last_line [] = 0
-last_line (t ∷ []) = end_line t
-last_line (t ∷ u ∷ ts) = last_line (u ∷ ts)
+-- the last of these, or what stood before
+abbrev pub last_of : Option Placed → List Placed → Option Placed
+last_of found [] = found
+last_of found (t ∷ ts) = last_of (Some t) ts
 
--- the tokens that say on which lines a statement stands: comments only where nothing else is there
-abbrev pub counted : List Placed → List Placed → List Placed
-counted [] ts = without_lines ts
-counted (b ∷ bs) ts = b ∷ bs
+-- the first and the last token of a statement, comments not counted
+abbrev pub first_token : List Placed → Option Placed
+first_token tokens = first_of (bare_tokens tokens)
 
+abbrev pub last_token : List Placed → Option Placed
+last_token tokens = last_of None (bare_tokens tokens)
+
+-- with comments
+abbrev pub first_seen : List Placed → Option Placed
+first_seen tokens = first_of (without_lines tokens)
+
+abbrev pub last_seen : List Placed → Option Placed
+last_seen tokens = last_of None (without_lines tokens)
+
+-- comments count only where nothing else is there
+abbrev pub either : Option Placed → Option Placed → Option Placed
+either None other = other
+either (Some t) other = Some t
+
+abbrev pub line_of : Option Placed → ℕ
+line_of None = 0
+line_of (Some t) = t.line
+
+abbrev pub end_line_of : Option Placed → ℕ
+end_line_of None = 0
+end_line_of (Some t) = end_line t
+
+-- the line of the first token
 abbrev pub start_of : List Placed → ℕ
-start_of tokens = first_line (counted (bare_tokens tokens) tokens)
+start_of tokens = line_of (either (first_token tokens) (first_seen tokens))
 
+-- the line on which the last token ends
 abbrev pub end_of : List Placed → ℕ
-end_of tokens = last_line (counted (bare_tokens tokens) tokens)
+end_of tokens = end_line_of (either (last_token tokens) (last_seen tokens))
 
 abbrev pub statement_with : List Placed → Segment → Statement
 statement_with tokens s = record { before = s.before; nodes = s.nodes; suffix = s.suffix; class = class_of s.nodes; start = start_of tokens; end = end_of tokens }
@@ -142,3 +166,8 @@ pub record IsStatementOf (tokens : List Placed) (s : Statement) : Type 0 where
   pub tokens_are : without_lines tokens ≡ elems_tokens elems
   pub well : AreWell Elsewhere elems  -- brackets match, no segment is empty
   pub is : s ≡ statement_with tokens (segment_of (elems_own Elsewhere elems))
+
+-- each token ends on a line that can be counted
+abbrev pub EndsFit : List Placed → Type 0
+EndsFit [] = Unit {0}
+EndsFit (t ∷ ts) = (end_line t < 2 ^ 64) × EndsFit ts

@@ -1,6 +1,6 @@
 //! The walk over the tokens of a statement, with a stack of open brackets.
 
-ghost use Rattle.std.specs.Prelude.{◌≡◌, ◌+◌, ◌==◌, true, false, map, IfOk, Some, None, [], option_map, count_by};
+ghost use Rattle.std.specs.Prelude.{◌≡◌, ◌+◌, ◌==◌, true, false, map, IfOk, Some, None, [], option_map};
 ghost use Rattle.bz_token.specs.Places.{placed};
 ghost use Rattle.bz_tree.specs.View.{text_of, node_view, group_view, seg_view};
 ghost use Rattle.bz_tree.specs.Owners.{node};
@@ -13,6 +13,7 @@ use crate::kinds::{
     Behind, Mark, Shape, behind_leaf, group_kind, is_for_leaf, is_one, mark_of, same_shape,
 };
 use crate::owners::{Content, Own, inside_of};
+use crate::span::newlines;
 use crate::stmt::{Group, GroupKind, Leaf, Node, Seg};
 use bz_token::Token;
 use std::alloc::{AllocError, Global};
@@ -123,12 +124,6 @@ fn leaf_of<'a>(token: &Token<'a>) -> Leaf<'a>
         col: token.col,
         fresh: token.fresh,
     }
-}
-
-fn newlines(text: &str) -> u64
-    ensures { result ≡ count_by (λ b. b == 10) text.now }
-{
-    text.as_bytes().iter().filter(|b| **b == b'\n').count() as u64
 }
 
 fn step<'a>(

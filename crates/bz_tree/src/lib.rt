@@ -7,7 +7,9 @@ mod copy;
 mod grammar;
 mod kinds;
 mod owners;
+mod parse;
 mod role;
+mod span;
 mod stage;
 mod stmt;
 
