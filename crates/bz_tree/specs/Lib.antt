@@ -6,5 +6,6 @@ pub mod Brackets
 pub mod Statement
 pub mod Steps
 pub mod Grammar
+pub mod Blocks
 pub mod Chunk
 pub mod Machine

@@ -12,5 +12,7 @@ mod role;
 mod span;
 mod stage;
 mod stmt;
+#[cfg(test)]
+mod tests;
 
 pub use stmt::{Class, Group, GroupKind, Leaf, Node, Seg, Stmt};
