@@ -6,3 +6,5 @@ pub mod Accepted
 pub mod Meant
 pub mod Recognized
 pub mod Plain
+pub mod BlockLines
+pub mod KeptText

@@ -1,10 +1,12 @@
 //! The statement of a chunk: its bracket tree and the owners of its comments.
 #![tactic(auto)]
 
+mod block;
 mod build;
 mod class;
 mod copy;
 mod grammar;
+mod kept;
 mod kinds;
 mod owners;
 mod parse;
