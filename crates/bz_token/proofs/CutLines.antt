@@ -1,0 +1,125 @@
+-- The lines that the steps find are the logical lines.
+use Rattle.std.proofs.Common.{◌≡◌, ℕ, ◌==◌, ◌||◌, ◌&&◌, List, [], ◌∷◌, ◌++◌, Bool, true, false, not, cond, map, refl, sym, ap, ◌∙◌, inl, inr, append-nil}
+use Rattle.std.proofs.lemmas.Bool.{cases_Bool, both_ways, and_parts}
+use Rattle.std.proofs.lemmas.List.Folds.{list_all-append, concat-append}
+use Rattle.std.specs.List.{list_all, concat}
+use Rattle.bz_token.specs.declared.cutter.scan.LineKind.{LineKind}
+use Rattle.bz_token.specs.declared.cutter.scan.LineKind.TheVariants.{Blank, Note, Statement}
+use Rattle.bz_token.specs.declared.cutter.scan.Inside.TheVariants.{Plain, Ended}
+use Rattle.bz_token.specs.declared.cutter.scan.Scan.{Scan}
+use Rattle.bz_token.specs.Groups.{grouped, grouped_from}
+use Rattle.bz_token.specs.Munch.{IsLongest, AreMunched}
+use Rattle.bz_token.specs.Pieces.{is_byte, is_comment, is_broken_off, is_piece, pieces}
+use Rattle.bz_token.specs.Chunks.{Line, count, ends_line, line_goes_on, is_gap, kind_of, line_of, lines}
+use Rattle.bz_token.specs.CutSteps.{at, with_note, outside}
+use Rattle.bz_token.proofs.CutMunch.{munched_are}
+use Rattle.bz_token.proofs.CutSeen.{seen_lines, line_at, final_kind, kind_with, behind}
+use Rattle.bz_token.proofs.CutStrings.{grouped_joins, grouped_apart}
+use Rattle.bz_token.proofs.CutPasses.{passes}
+
+abbrev pub depth_after : ℕ → List (List ℕ) → ℕ
+depth_after n [] = n
+depth_after n (p ∷ ps) = depth_after (count n p) ps
+
+depth_snoc : (n : ℕ) (line : List (List ℕ)) (p : List ℕ) → depth_after n (line ++ p ∷ []) ≡ count (depth_after n line) p
+depth_snoc n [] p = refl
+depth_snoc n (q ∷ qs) p = depth_snoc (count n q) qs p
+
+ends_snoc : (n : ℕ) (line : List (List ℕ)) (p : List ℕ) → ends_line n (line ++ p ∷ []) ≡ (is_broken_off p || (is_byte 10 p && depth_after n line == 0))
+ends_snoc n [] p = refl
+ends_snoc n (q ∷ []) p = refl
+ends_snoc n (q ∷ r ∷ rs) p = ends_snoc (count n q) (r ∷ rs) p
+
+kinds : (a b g c : Bool) → (a ≡ true → b ≡ true) → cond (a && (g && true)) Blank (cond (b && ((g || c) && true)) Note Statement) ≡ cond g (cond a Blank (cond b Note Statement)) (cond c (with_note (cond a Blank (cond b Note Statement))) Statement)
+kinds true true true true h = refl
+kinds true true true false h = refl
+kinds true true false true h = refl
+kinds true true false false h = refl
+kinds true false g c h = absurd (both_ways _ refl (h refl))
+kinds false true true true h = refl
+kinds false true true false h = refl
+kinds false true false true h = refl
+kinds false true false false h = refl
+kinds false false true true h = refl
+kinds false false true false h = refl
+kinds false false false true h = refl
+kinds false false false false h = refl
+
+abbrev noted : List ℕ → Bool
+noted p = is_gap p || is_comment p
+
+gaps_noted : (line : List (List ℕ)) → list_all is_gap line ≡ true → list_all noted line ≡ true
+gaps_noted [] h = refl
+gaps_noted (p ∷ ps) h =
+    let parts = and_parts (is_gap p) (list_all is_gap ps) h in
+    rw (parts.0) (gaps_noted ps parts.1)
+
+kind_snoc : (line : List (List ℕ)) (p : List ℕ) → kind_of (line ++ p ∷ []) ≡ kind_with (kind_of line) p
+kind_snoc line p =
+    rw (list_all-append is_gap line (p ∷ []), list_all-append noted line (p ∷ [])) (kinds (list_all is_gap line) (list_all noted line) (is_gap p) (is_comment p) (gaps_noted line))
+
+-- where the steps are behind a part of a line
+abbrev pub at_line : List (List ℕ) → Scan
+at_line line = at (cond (ends_line 0 line) Ended Plain) (depth_after 0 line) (kind_of line)
+
+at_snoc : (line : List (List ℕ)) (p : List ℕ) → behind (depth_after 0 line) (kind_of line) p ≡ at_line (line ++ p ∷ [])
+at_snoc line p = λ i. at (cond (sym (ends_snoc 0 line p) i) Ended Plain) (sym (depth_snoc 0 line p) i) (sym (kind_snoc line p) i)
+
+line_final : (e : Bool) (k : LineKind) → final_kind (cond e Ended Plain) k ≡ k
+line_final true k = refl
+line_final false k = refl
+
+concat_snoc : (line : List (List ℕ)) (p : List ℕ) → concat (line ++ p ∷ []) ≡ concat line ++ p
+concat_snoc line p = concat-append line (p ∷ []) ∙ ap (λ x. concat line ++ x) (append-nil p)
+
+-- a line that has ended, and the next byte
+ended_next : (line : List (List ℕ)) (seen : List ℕ) (b : ℕ) (bs : List ℕ) → ends_line 0 line ≡ true → seen_lines (at_line line) seen (b ∷ bs) ≡ line_at seen (kind_of line) ∷ seen_lines (outside 0 Blank b) (b ∷ []) bs
+ended_next line seen b bs h = ap (λ e. seen_lines (at (cond e Ended Plain) (depth_after 0 line) (kind_of line)) seen (b ∷ bs)) h
+
+-- the first piece of a line
+first_piece : (p after : List ℕ) → IsLongest is_piece p after → (before : List (List ℕ)) → ends_line 0 before ≡ true → (seen : List ℕ) → seen_lines (at_line before) seen (p ++ after) ≡ line_at seen (kind_of before) ∷ seen_lines (at_line (p ∷ [])) p after
+first_piece [] after l before h seen = let e = l.whole in cc
+first_piece (b ∷ bs) after l before h seen =
+    ended_next before seen b (bs ++ after) h
+    ∙ ap (λ ls. line_at seen (kind_of before) ∷ ls) (passes (b ∷ bs) after 0 Blank [] l ∙ ap (λ s. seen_lines s (b ∷ bs) after) (at_snoc [] (b ∷ bs)))
+
+next_piece : (p after : List ℕ) → IsLongest is_piece p after → (line : List (List ℕ)) → ends_line 0 line ≡ false → (seen : List ℕ) → seen_lines (at_line line) seen (p ++ after) ≡ seen_lines (at_line (line ++ p ∷ [])) (seen ++ p) after
+next_piece p after l line h seen =
+    ap (λ e. seen_lines (at (cond e Ended Plain) (depth_after 0 line) (kind_of line)) seen (p ++ after)) h
+    ∙ passes p after (depth_after 0 line) (kind_of line) seen l
+    ∙ ap (λ s. seen_lines s (seen ++ p) after) (at_snoc line p)
+
+pub lines_from : (ps : List (List ℕ)) (bytes : List ℕ) → AreMunched is_piece ps bytes → (line : List (List ℕ)) → seen_lines (at_line line) (concat line) bytes ≡ map line_of (grouped_from line_goes_on line ps)
+lines_from [] bytes e line = rw (e, line_final (ends_line 0 line) (kind_of line)) refl
+lines_from (p ∷ ps) bytes m line = elim (cases_Bool (ends_line 0 line)) [
+  | inl ended ↦
+      let apart : line_goes_on line p ≡ false = ap not ended in
+      rw m.1 (first_piece p m.0 m.2 line ended (concat line)
+      ∙ ap (λ ls. line_of line ∷ ls) (ap (λ s. seen_lines (at_line (p ∷ [])) s m.0) (sym (append-nil p)) ∙ lines_from ps m.0 m.3 (p ∷ []))
+      ∙ sym (ap (map line_of) (grouped_apart line_goes_on line p ps apart)))
+  | inr inside ↦
+      let joins : line_goes_on line p ≡ true = ap not inside in
+      rw m.1 (next_piece p m.0 m.2 line inside (concat line)
+      ∙ ap (λ s. seen_lines (at_line (line ++ p ∷ [])) s m.0) (sym (concat_snoc line p))
+      ∙ lines_from ps m.0 m.3 (line ++ p ∷ [])
+      ∙ sym (ap (map line_of) (grouped_joins line_goes_on line p ps joins)))
+]
+
+abbrev pub lines_seen : List ℕ → List Line
+lines_seen [] = []
+lines_seen (b ∷ bs) = seen_lines (outside 0 Blank b) (b ∷ []) bs
+
+pub lines_of : (bytes : List ℕ) (ps : List (List ℕ)) → AreMunched is_piece ps bytes → lines_seen bytes ≡ map line_of (grouped line_goes_on ps)
+lines_of [] [] m = refl
+lines_of (b ∷ bs) [] m = cc
+lines_of bytes ([] ∷ ps) m = let e = m.2.whole in cc
+lines_of bytes ((c ∷ p) ∷ ps) m =
+    ap lines_seen m.1
+    ∙ passes (c ∷ p) m.0 0 Blank [] m.2
+    ∙ ap (λ s. seen_lines s (c ∷ p) m.0) (at_snoc [] (c ∷ p))
+    ∙ ap (λ s. seen_lines (at_line ((c ∷ p) ∷ [])) s m.0) (sym (append-nil (c ∷ p)))
+    ∙ lines_from ps m.0 m.3 ((c ∷ p) ∷ [])
+
+-- the first law: the logical lines of a text
+pub lines_are : (bytes : List ℕ) → lines bytes ≡ lines_seen bytes
+lines_are bytes = sym (lines_of bytes (pieces bytes) (munched_are is_piece (λ b. refl) bytes))
