@@ -8,3 +8,4 @@ pub mod Recognized
 pub mod Plain
 pub mod BlockLines
 pub mod KeptText
+pub mod Standing

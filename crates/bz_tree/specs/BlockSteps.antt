@@ -5,7 +5,8 @@ use Rattle.bz_tree.specs.declared.kinds.Mark.{Mark}
 use Rattle.bz_tree.specs.declared.kinds.Mark.TheVariants.{Comment, NewLine}
 use Rattle.bz_tree.specs.declared.block.Indents.{Indents}
 use Rattle.bz_tree.specs.Kinds.{mark_of}
-use Rattle.bz_tree.specs.Blocks.{is_colon, indented, depth_behind, IsAt}
+use Rattle.bz_tree.specs.Blocks.{is_colon, indented, depth_behind, IsAt, is_block_word}
+use Rattle.bz_tree.specs.Statement.{first_token, last_seen}
 
 -- the columns of the open lines, the innermost first; whether the last token is `:`; whether a line has begun
 pub record Lines : Type 0 where
@@ -78,3 +79,7 @@ pub record AreIn (first : ℕ) (bytes : List ℕ) (header last : Placed) : Type 
   pub ends : IsAt first (before ++ front) last
   pub at_front : IsAsciiFront ((front ++ last.text) ++ after)
   pub at_end : IsAsciiFront after
+
+-- the header and the last token of a block stand in the bytes
+abbrev pub AreStanding : ℕ → List ℕ → List Placed → Type 0
+AreStanding first bytes tokens = (header last : Placed) → first_token tokens ≡ Some header → last_seen tokens ≡ Some last → is_block_word header ≡ true → AreIn first bytes header last
