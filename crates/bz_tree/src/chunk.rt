@@ -43,10 +43,7 @@ fn with_class<'a>(seg: Seg<'a>, tokens: &[Token<'a>]) -> Stmt<'a>
 }
 
 // The statement of the tokens, which are no block. None: they have none.
-pub(crate) fn plain_statement<'a>(
-    alloc: Global,
-    tokens: &[Token<'a>],
-) -> Result<Option<Stmt<'a>>, AllocError>
+fn plain_statement<'a>(alloc: Global, tokens: &[Token<'a>]) -> Result<Option<Stmt<'a>>, AllocError>
     requires { EndsFit (map placed tokens.now) }
     ensures statement { IfOk result (λ o. IfSome o (λ s. IsPlain (map placed tokens.now) (view s))) }
     ensures only { IfOk result (λ o. IfSome o (λ s. (t : Statement) → IsPlain (map placed tokens.now) t → view s ≡ t)) }

@@ -1,101 +1,19 @@
-//! Trees, owners of comments and the grammar, by tables.
+//! Trees, owners of comments, the grammar, blocks and faults, by tables.
 
-ghost use Rattle.std.specs.Prelude.{◌≡◌, ◌<◌, ◌^◌, IsTrue, map};
-ghost use Rattle.bz_token.specs.Places.{placed};
-ghost use Rattle.bz_tree.specs.Brackets.{end_line};
-ghost use Rattle.bz_tree.specs.Statement.{EndsFit};
-
-use crate::chunk::plain_statement;
+use crate::chunk::parse;
+use crate::fault::ParseFault;
 use crate::stmt::{Class, Group, GroupKind, Node, Seg, Stmt};
-use bz_token::{Kind, Token};
+use bz_token::LexFault;
 use std::alloc::{AllocError, Global};
 use std::borrow::CowStr;
 use std::test::Fail;
 
-// The kind of a word that stands between spaces. A word that begins with a number sign is a comment.
-fn kind_of(word: &str) -> Kind {
-    match word.as_bytes().first() {
-        Some(b'"') | Some(b'\'') => Kind::Text,
-        Some(b'#') => Kind::Note,
-        Some(b'0'..=b'9') => Kind::Int,
-        Some(b'a'..=b'z') | Some(b'A'..=b'Z') => match word {
-            "for" | "in" | "load" | "if" | "else" | "not" | "and" | "or" | "def" | "lambda" => {
-                Kind::Word
-            }
-            _ => Kind::Ident,
-        },
-        _ => Kind::Sign,
+// The statement of a short chunk.
+fn read<'a>(alloc: Global, text: &'a str) -> Result<Option<Stmt<'a>>, ParseFault> {
+    if text.len() > 1000 {
+        return Err(ParseFault::OutOfMemory);
     }
-}
-
-fn depth_behind(depth: u64, word: &str) -> u64 {
-    match word {
-        "(" | "[" | "{" => u64::wrapping_add(depth, 1),
-        ")" | "]" | "}" => u64::wrapping_sub(depth, 1),
-        _ => depth,
-    }
-}
-
-// The tokens of words apart by spaces.
-fn read<'a>(alloc: Global, text: &'a str) -> Result<Vec<Token<'a>>, AllocError> {
-    let mut tokens = Vec::new(alloc);
-    let mut line = 1;
-    let mut depth = 0;
-    for row in text.lines() {
-        let mut col = 1;
-        let mut fresh = true;
-        for word in row.split(' ') {
-            if !word.is_empty() {
-                tokens.push(Token {
-                    kind: kind_of(word),
-                    text: word,
-                    line,
-                    col,
-                    fresh,
-                })?;
-                depth = depth_behind(depth, word);
-                fresh = false;
-            }
-            col = u64::wrapping_add(col, u64::wrapping_add(word.len() as u64, 1));
-        }
-        if depth == 0 {
-            tokens.push(Token {
-                kind: Kind::Line,
-                text: "\n",
-                line,
-                col,
-                fresh,
-            })?;
-        }
-        line = u64::wrapping_add(line, 1);
-    }
-    Ok(tokens)
-}
-
-fn fits(token: &Token<'_>) -> bool
-    ensures { IsTrue result → end_line (placed token.now) < 2 ^ 64 }
-{
-    token.line < 1000 && token.text.len() < 1000
-}
-
-// Whether the lines are few.
-fn all_fit(tokens: &[Token<'_>]) -> bool
-    ensures { IsTrue result → EndsFit (map placed tokens.now) }
-{
-    for token in tokens {
-        if !fits(token) {
-            return false;
-        }
-    }
-    true
-}
-
-// The statement of a text.
-fn statement_of<'a>(alloc: Global, tokens: &[Token<'a>]) -> Result<Option<Stmt<'a>>, AllocError> {
-    if !all_fit(tokens) {
-        return Ok(None);
-    }
-    plain_statement(alloc, tokens)
+    parse(alloc, text, 1, 100)
 }
 
 fn put_texts(texts: &[CowStr<'_>], out: &mut String) -> Result<(), AllocError> {
@@ -182,9 +100,10 @@ fn put_stmt(stmt: &Stmt<'_>, out: &mut String) -> Result<(), AllocError> {
 // The tree of a text, and of its copy.
 fn shown(alloc: Global, text: &str) -> Result<String, AllocError> {
     let mut out = String::new(alloc);
-    match statement_of(alloc, &read(alloc, text)?)? {
-        None => out.push_str("none")?,
-        Some(stmt) => put_stmt(&stmt.copy(alloc)?, &mut out)?,
+    match read(alloc, text) {
+        Ok(None) => out.push_str("blank")?,
+        Ok(Some(stmt)) => put_stmt(&stmt.copy(alloc)?, &mut out)?,
+        Err(_) => out.push_str("fault")?,
     }
     Ok(out)
 }
@@ -286,8 +205,11 @@ fn kinds(rt: HostRuntime) -> Result<(), Fail> {
     Ok(())
 }
 
-fn is_accepted(alloc: Global, text: &str) -> Result<bool, AllocError> {
-    Ok(statement_of(alloc, &read(alloc, text)?)?.is_some())
+fn is_accepted(alloc: Global, text: &str) -> bool {
+    match read(alloc, text) {
+        Ok(stmt) => stmt.is_some(),
+        Err(_) => false,
+    }
 }
 
 #[test]
@@ -349,8 +271,8 @@ fn grammar(rt: HostRuntime) -> Result<(), Fail> {
         ("x = ( )", "("),
         ("x = [ ]", "x = ]"),
     ] {
-        assert!(rt; is_accepted(rt.alloc(), accepted)?, "{accepted}");
-        assert!(rt; !is_accepted(rt.alloc(), refused)?, "{refused}");
+        assert!(rt; is_accepted(rt.alloc(), accepted), "{accepted}");
+        assert!(rt; !is_accepted(rt.alloc(), refused), "{refused}");
     }
     Ok(())
 }
@@ -364,26 +286,98 @@ fn nesting(rt: HostRuntime) -> Result<(), Fail> {
     for _ in 0..100 {
         text.push_str(" ]")?;
     }
-    assert!(rt; is_accepted(rt.alloc(), text.as_str())?);
+    assert!(rt; is_accepted(rt.alloc(), text.as_str()));
     text.push_str(" ]")?;
-    assert!(rt; !is_accepted(rt.alloc(), text.as_str())?);
+    assert!(rt; !is_accepted(rt.alloc(), text.as_str()));
     Ok(())
 }
 
 #[test]
 fn lines(rt: HostRuntime) -> Result<(), Fail> {
     for (text, start, end) in [
-        ("#c\nf (\n    name = \"a\" ,\n)", 2, 4),
-        ("f ( ) #c\n", 1, 1),
-        ("\n#c\n#d\n", 2, 3),
+        ("# c\nf(\n    name = \"a\",\n)\n", 2, 4),
+        ("g(name = \"b\") # c\n", 1, 1),
+        ("x = \"\"\"a\nb\"\"\"\n", 1, 2),
+        ("# c\n# d\n", 1, 2),
+        ("# c\nif a:\n  b # d\n  # e\n\n", 2, 4),
     ] {
-        let tokens = read(rt.alloc(), text)?;
-        let stmt = statement_of(rt.alloc(), &tokens)?;
-        let found = match &stmt {
-            Some(stmt) => (stmt.start, stmt.end),
-            None => (0, 0),
+        let found = match &read(rt.alloc(), text) {
+            Ok(Some(stmt)) => (stmt.start, stmt.end),
+            _ => (0, 0),
         };
         assert_eq!(rt; found, (start, end));
+    }
+    Ok(())
+}
+
+#[test]
+fn blocks(rt: HostRuntime) -> Result<(), Fail> {
+    for (text, want) in [
+        (
+            "if a:\n    def = \"\"\"\n# in the text\n\"\"\"\nelse:\n    y  =  2\n\n  # tail\n\n",
+            "Block :if a:\n    def = \"\"\"\n# in the text\n\"\"\"\nelse:\n    y  =  2\n\n  # tail :",
+        ),
+        (
+            "# a\n  # b\ndef f(x):\n  return x \\\n\n",
+            "Block # a # b :def f(x):\n  return x :",
+        ),
+        ("for x in y: pass\n", "Block :for x in y: pass :"),
+        ("if : x", "Block :if : x :"),
+        (
+            "if a:\n  if b:\n    c\n  d\n",
+            "Block :if a:\n  if b:\n    c\n  d :",
+        ),
+    ] {
+        assert_eq!(rt; shown(rt.alloc(), text)?.as_str(), want);
+    }
+    Ok(())
+}
+
+fn fault_of(alloc: Global, text: &str) -> Option<ParseFault> {
+    match read(alloc, text) {
+        Ok(_stmt) => None,
+        Err(fault) => Some(fault),
+    }
+}
+
+#[test]
+fn faults(rt: HostRuntime) -> Result<(), Fail> {
+    for (text, fault) in [
+        (" \n", None),
+        ("f(a b)\n", Some(ParseFault::NotAStatement { line: 1 })),
+        ("f(,)\n", Some(ParseFault::NotAStatement { line: 1 })),
+        ("x = \n", Some(ParseFault::NotAStatement { line: 1 })),
+        ("1.5\n", Some(ParseFault::NotAStatement { line: 1 })),
+        ("\"a\" \"b\"\n", Some(ParseFault::NotAStatement { line: 1 })),
+        (
+            "# c\nx = {a}\n",
+            Some(ParseFault::NotAStatement { line: 2 }),
+        ),
+        (
+            "x = 1 \r y = 2\n",
+            Some(ParseFault::NotAStatement { line: 1 }),
+        ),
+        ("  y = 2\n", Some(ParseFault::Indented { line: 1 })),
+        ("# c\n y = \n", Some(ParseFault::Indented { line: 2 })),
+        (
+            "def f():\n  x\n y\n",
+            Some(ParseFault::Indented { line: 3 }),
+        ),
+        ("def f(): x\n  y\n", Some(ParseFault::Indented { line: 2 })),
+        ("def f():\n# c\nx\n", Some(ParseFault::Indented { line: 3 })),
+        ("def f():\n", Some(ParseFault::NotAStatement { line: 1 })),
+        ("def f(a: b)\n  c\n", Some(ParseFault::Indented { line: 2 })),
+        ("if (a: b)\n", Some(ParseFault::NotAStatement { line: 1 })),
+        (
+            "x = )\n",
+            Some(ParseFault::Lex(LexFault::BadBracket { line: 1, col: 5 })),
+        ),
+        (
+            " x = \"\n",
+            Some(ParseFault::Lex(LexFault::OpenText { line: 1, col: 6 })),
+        ),
+    ] {
+        assert_eq!(rt; fault_of(rt.alloc(), text), fault);
     }
     Ok(())
 }
@@ -392,11 +386,9 @@ fn lines(rt: HostRuntime) -> Result<(), Fail> {
 fn borrowed(rt: HostRuntime) -> Result<(), Fail> {
     let mut buffer = String::from_str(rt.alloc(), "x = 1 #c")?;
     let is_borrowed = {
-        let tokens = read(rt.alloc(), buffer.as_str())?;
-        let stmt = statement_of(rt.alloc(), &tokens)?;
-        match &stmt {
-            Some(stmt) => matches!(stmt.suffix, Some(CowStr::Borrowed("#c"))),
-            None => false,
+        match &read(rt.alloc(), buffer.as_str()) {
+            Ok(Some(stmt)) => matches!(stmt.suffix, Some(CowStr::Borrowed("#c"))),
+            _ => false,
         }
     };
     buffer.clear();
