@@ -9,3 +9,5 @@ pub mod Plain
 pub mod BlockLines
 pub mod KeptText
 pub mod Standing
+pub mod ChunkLaws
+pub mod KeptComments

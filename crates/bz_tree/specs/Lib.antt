@@ -9,4 +9,5 @@ pub mod Grammar
 pub mod Blocks
 pub mod Chunk
 pub mod BlockSteps
+pub mod Comments
 pub mod Machine
