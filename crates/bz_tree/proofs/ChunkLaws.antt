@@ -1,10 +1,9 @@
 -- The laws of trees and statements.
-use Rattle.std.proofs.Common.{◌≡◌, ℕ, List, [], Bool, true, false, Some, option_map, sym, ap, ◌∙◌}
+use Rattle.std.proofs.Common.{◌≡◌, ℕ, List, Bool, true, false, sym, ap, ◌∙◌}
 use Rattle.bz_token.specs.Places.{Placed}
-use Rattle.bz_tree.specs.Tree.{Segment, Statement}
-use Rattle.bz_tree.specs.Statement.{IsStatementOf, class_of, first_token, statement_with}
+use Rattle.bz_tree.specs.Tree.{Statement}
+use Rattle.bz_tree.specs.Statement.{IsStatementOf, class_of, first_token}
 use Rattle.bz_tree.specs.Chunk.{begins_block, IsOneOf, IsChunkOf}
-use Rattle.bz_tree.specs.Steps.{new_level, run}
 use Rattle.bz_tree.proofs.Sound.{some_injective}
 use Rattle.bz_tree.proofs.Complete.{statement_found}
 use Rattle.bz_tree.proofs.KeptText.{block_same}
