@@ -11,3 +11,4 @@ pub mod KeptText
 pub mod Standing
 pub mod ChunkLaws
 pub mod KeptComments
+pub mod Examples

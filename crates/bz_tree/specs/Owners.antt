@@ -11,7 +11,8 @@ pub data Own : Type 0 where
   -- a comment: its line and its text
   note : ℕ → List ℕ → Own
 
--- what stands directly before a comment: nothing or a comment, or a node or a comma that ends on a line
+-- What stands directly before a comment: nothing or a comment, or a node or a comma that ends on a line. A comment ends its line, so
+-- nothing before another comment is on the line of the next.
 pub data Last : Type 0 where
   no_token : Last
   end_of_node : ℕ → Last

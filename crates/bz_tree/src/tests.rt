@@ -382,12 +382,55 @@ fn faults(rt: HostRuntime) -> Result<(), Fail> {
     Ok(())
 }
 
+fn are_borrowed(texts: &[CowStr<'_>]) -> bool {
+    for text in texts {
+        if !matches!(text, CowStr::Borrowed(_)) {
+            return false;
+        }
+    }
+    true
+}
+
+#[cycle(borrowed)]
+fn are_nodes_borrowed(nodes: &[Node<'_>]) -> bool {
+    for node in nodes {
+        let is_borrowed = match node {
+            Node::Token(leaf) => matches!(leaf.text, CowStr::Borrowed(_)),
+            Node::Group(group) => are_borrowed(&group.end) && are_segs_borrowed(&group.segs),
+        };
+        if !is_borrowed {
+            return false;
+        }
+    }
+    true
+}
+
+#[cycle(borrowed)]
+fn are_segs_borrowed(segs: &[Seg<'_>]) -> bool {
+    for seg in segs {
+        let is_borrowed = match &seg.suffix {
+            None => true,
+            Some(text) => matches!(text, CowStr::Borrowed(_)),
+        };
+        if !is_borrowed || !are_borrowed(&seg.before) || !are_nodes_borrowed(&seg.nodes) {
+            return false;
+        }
+    }
+    true
+}
+
+fn is_stmt_borrowed(stmt: &Stmt<'_>) -> bool {
+    are_borrowed(&stmt.before) && are_nodes_borrowed(&stmt.nodes)
+}
+
 #[test]
 fn borrowed(rt: HostRuntime) -> Result<(), Fail> {
-    let mut buffer = String::from_str(rt.alloc(), "x = 1 #c")?;
+    let text =
+        "# a\nf(  # b\n    x = [1, # c\n    # d\n    ],\n    # e\n    y = {}, # f\n    # g\n)\n";
+    let mut buffer = String::from_str(rt.alloc(), text)?;
     let is_borrowed = {
         match &read(rt.alloc(), buffer.as_str()) {
-            Ok(Some(stmt)) => matches!(stmt.suffix, Some(CowStr::Borrowed("#c"))),
+            Ok(Some(stmt)) => is_stmt_borrowed(stmt),
             _ => false,
         }
     };
