@@ -1,14 +1,13 @@
 -- Worked examples of the definitions.
-use Rattle.std.proofs.Common.{◌≡◌, ℕ, List, [], ◌∷◌, Bool, true, false, Option, Some, None, refl}
+use Rattle.std.proofs.Common.{◌≡◌, ℕ, List, [], ◌∷◌, true, false, Some, None, refl}
 use Rattle.std.specs.Prelude.{codes}
 use Rattle.bz_token.specs.declared.token.Kind.{Kind}
-use Rattle.bz_token.specs.declared.token.Kind.TheVariants.{Ident, Word, Int, Sign, Line, Note}
+use Rattle.bz_token.specs.declared.token.Kind.TheVariants.{Ident, Word, Sign, Line, Note}
 use Rattle.bz_token.specs.Places.{Placed}
-use Rattle.bz_tree.specs.declared.stmt.Class.TheVariants.{Load, Assign, Other, Comment}
-use Rattle.bz_tree.specs.Tree.{Item}
+use Rattle.bz_tree.specs.declared.stmt.Class.TheVariants.{Comment}
 use Rattle.bz_tree.specs.Brackets.{leaf_of}
-use Rattle.bz_tree.specs.Owners.{node, comma, note, Inside, inside, no_empty}
-use Rattle.bz_tree.specs.Statement.{class_of, start_of, end_of}
+use Rattle.bz_tree.specs.Owners.{node, comma, note, inside, no_empty}
+use Rattle.bz_tree.specs.Statement.{class_of, start_of}
 use Rattle.bz_tree.specs.Blocks.{block_indent, is_block}
 use Rattle.bz_tree.specs.Chunk.{indent_fault}
 

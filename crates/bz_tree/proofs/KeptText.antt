@@ -7,10 +7,8 @@ use Rattle.std.proofs.Math.Seq.{get_or-append_seam}
 use Rattle.std.specs.Str.{IsCharBoundary}
 use Rattle.std.proofs.lemmas.Str.{IsCharBoundary-end, IsCharBoundary-before_ascii}
 use Rattle.bz_token.specs.Places.{Placed, column_from}
-use Rattle.std.specs.Prelude.{IfSome, Option, Some, None}
-use Rattle.bz_tree.specs.declared.stmt.Stmt.{Stmt}
+use Rattle.std.specs.Prelude.{Some}
 use Rattle.bz_tree.specs.Tree.{Statement}
-use Rattle.bz_tree.specs.View.{view}
 use Rattle.bz_tree.specs.Brackets.{end_line}
 use Rattle.bz_tree.specs.Blocks.{IsAt, IsKeptText, IsBlockOf, kept_statement, above}
 use Rattle.bz_tree.specs.BlockSteps.{offset_run, IsAsciiFront, AreIn}
@@ -155,7 +153,3 @@ block_same first bytes tokens s t a b =
     let kept : a.kept ≡ b.kept = kept_of first bytes a.header a.last a.kept a.is_kept ∙ (λ i. text_between first bytes (header i) (last i)) ∙ sym (kept_of first bytes b.header b.last b.kept b.is_kept) in
     let same : kept_statement (above tokens) a.kept a.header (end_line a.last) ≡ kept_statement (above tokens) b.kept b.header (end_line b.last) = λ i. kept_statement (above tokens) (kept i) (header i) (end_line (last i)) in
     a.is ∙ same ∙ sym b.is
-
-pub only_block : (o : Option Stmt) (first : ℕ) (bytes : List ℕ) (tokens : List Placed) → IfSome o (λ s. IsBlockOf first bytes tokens (view s)) → IfSome o (λ s. (t : Statement) → IsBlockOf first bytes tokens t → view s ≡ t)
-only_block None first bytes tokens h = tt
-only_block (Some s) first bytes tokens h = λ t is. block_same first bytes tokens (view s) t h is

@@ -36,9 +36,6 @@ seen_fits (t ∷ ts) o all here = at_mark (is_line (mark_of t)) (seen_fits ts o 
 pub plain_is : (ts : List Placed) (s : Segment) (w : Statement) → run (new_level None) [] ts ≡ Some s → is_statement (items_of s.nodes) ≡ true → w ≡ statement_with ts s → IsPlain ts w
 plain_is ts s w same accepted is = subst (IsPlain ts) (sym is) (record { tree = answer_is_statement ts s same; grammar = accepted_statement (items_of s.nodes) accepted })
 
-pub plain_only : (ts : List Placed) (s : Segment) (w : Statement) → run (new_level None) [] ts ≡ Some s → w ≡ statement_with ts s → (t : Statement) → IsPlain ts t → w ≡ t
-plain_only ts s w same is t p = is ∙ answer_is_only ts s same t p.tree
-
 pub no_plain_tree : (ts : List Placed) → run (new_level None) [] ts ≡ None → (t : Statement) → IsPlain ts t → ⊥
 no_plain_tree ts same t p = no_answer ts same t p.tree
 

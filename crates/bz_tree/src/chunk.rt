@@ -46,7 +46,6 @@ fn with_class<'a>(seg: Seg<'a>, tokens: &[Token<'a>]) -> Stmt<'a>
 fn plain_statement<'a>(alloc: Global, tokens: &[Token<'a>]) -> Result<Option<Stmt<'a>>, AllocError>
     requires { EndsFit (map placed tokens.now) }
     ensures statement { IfOk result (λ o. IfSome o (λ s. IsPlain (map placed tokens.now) (view s))) }
-    ensures only { IfOk result (λ o. IfSome o (λ s. (t : Statement) → IsPlain (map placed tokens.now) t → view s ≡ t)) }
     ensures none { IfOk result (λ o. IfNone o ((t : Statement) → IsPlain (map placed tokens.now) t → ⊥)) }
 {
     let Some(seg) = run(alloc, tokens)? else {
@@ -87,7 +86,7 @@ fn kept_statement<'a>(
 }
 
 // The block that the tokens are. None: they are none.
-fn block_of<'a>(
+fn block_statement<'a>(
     alloc: Global,
     text: &'a str,
     first_line: u64,
@@ -114,24 +113,6 @@ fn block_of<'a>(
     Ok(Some(kept_statement(alloc, before, kept, &header, end_line(&last))?))
 }
 
-// The same, and the only one.
-fn block_statement<'a>(
-    alloc: Global,
-    text: &'a str,
-    first_line: u64,
-    tokens: &[Token<'a>],
-) -> Result<Option<Stmt<'a>>, AllocError>
-    requires lines { first_line + count_by (λ b. b == 10) text.now < 2 ^ 64 }
-    requires ends { EndsFit (map placed tokens.now) }
-    requires standing { AreStanding first_line text.now (map placed tokens.now) }
-    requires block { begins_block (first_token (map placed tokens.now)) ≡ true }
-    ensures statement { IfOk result (λ o. IfSome o (λ s. IsBlockOf first_line text.now (map placed tokens.now) (view s))) }
-    ensures only { IfOk result (λ o. IfSome o (λ s. (t : Statement) → IsBlockOf first_line text.now (map placed tokens.now) t → view s ≡ t)) }
-    ensures none { IfOk result (λ o. IfNone o ((t : Statement) → IsBlockOf first_line text.now (map placed tokens.now) t → ⊥)) }
-{
-    block_of(alloc, text, first_line, tokens)
-}
-
 fn begins_block(tokens: &[Token<'_>]) -> bool
     ensures { result ≡ begins_block (first_token (map placed tokens.now)) }
 {
@@ -152,7 +133,6 @@ fn chunk_statement<'a>(
     requires ends { EndsFit (map placed tokens.now) }
     requires standing { AreStanding first_line text.now (map placed tokens.now) }
     ensures statement { IfOk result (λ o. IfSome o (λ s. IsChunkOf first_line text.now (map placed tokens.now) (view s))) }
-    ensures only { IfOk result (λ o. IfSome o (λ s. (t : Statement) → IsChunkOf first_line text.now (map placed tokens.now) t → view s ≡ t)) }
     ensures none { IfOk result (λ o. IfNone o ((t : Statement) → IsChunkOf first_line text.now (map placed tokens.now) t → ⊥)) }
 {
     if begins_block(tokens) {
