@@ -1,0 +1,14 @@
+pub mod Views
+pub mod OneBracket
+pub mod Complete
+pub mod Sound
+pub mod Accepted
+pub mod Meant
+pub mod Recognized
+pub mod Plain
+pub mod BlockLines
+pub mod KeptText
+pub mod Standing
+pub mod ChunkLaws
+pub mod KeptComments
+pub mod Examples

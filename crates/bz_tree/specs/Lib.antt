@@ -1,2 +1,13 @@
 pub mod Tree
 pub mod View
+pub mod Kinds
+pub mod Owners
+pub mod Brackets
+pub mod Statement
+pub mod Steps
+pub mod Grammar
+pub mod Blocks
+pub mod Chunk
+pub mod BlockSteps
+pub mod Comments
+pub mod Machine

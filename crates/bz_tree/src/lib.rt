@@ -1,6 +1,24 @@
 //! The statement of a chunk: its bracket tree and the owners of its comments.
 #![tactic(auto)]
 
+mod block;
+mod build;
+mod chunk;
+mod class;
+mod copy;
+mod fault;
+mod grammar;
+mod kept;
+mod kinds;
+pub mod laws;
+mod owners;
+mod role;
+mod span;
+mod stage;
 mod stmt;
+#[cfg(test)]
+mod tests;
 
+pub use chunk::parse;
+pub use fault::ParseFault;
 pub use stmt::{Class, Group, GroupKind, Leaf, Node, Seg, Stmt};

@@ -1,0 +1,62 @@
+-- Worked examples of the definitions.
+use Rattle.std.proofs.Common.{◌≡◌, ℕ, List, [], ◌∷◌, true, false, Some, None, refl}
+use Rattle.std.specs.Prelude.{codes}
+use Rattle.bz_token.specs.declared.token.Kind.{Kind}
+use Rattle.bz_token.specs.declared.token.Kind.TheVariants.{Ident, Word, Sign, Line, Note}
+use Rattle.bz_token.specs.Places.{Placed}
+use Rattle.bz_tree.specs.declared.stmt.Class.TheVariants.{Comment}
+use Rattle.bz_tree.specs.Brackets.{leaf_of}
+use Rattle.bz_tree.specs.Owners.{node, comma, note, inside, no_empty}
+use Rattle.bz_tree.specs.Statement.{class_of, start_of}
+use Rattle.bz_tree.specs.Blocks.{block_indent, is_block}
+use Rattle.bz_tree.specs.Chunk.{indent_fault}
+
+abbrev x : Placed
+x = record { kind = Ident; text = codes "x"; line = 1; col = 1; fresh = true }
+
+abbrev at : Kind → List ℕ → ℕ → ℕ → Placed
+at kind text line col = record { kind = kind; text = text; line = line; col = col; fresh = false }
+
+abbrev a : List ℕ
+a = codes "# a"
+
+abbrev b : List ℕ
+b = codes "# b"
+
+-- behind the last comma on its line: the last segment's suffix; on the next line: an end comment
+behind_last_comma : inside (node 1 (leaf_of x) ∷ comma (at Sign (codes ",") 1 2) ∷ note 1 a ∷ note 2 b ∷ []) ≡ record { segs = record { before = []; nodes = leaf_of x ∷ []; suffix = Some a } ∷ []; trailing = true; end = b ∷ [] }
+behind_last_comma = refl
+
+-- between a node and its comma on the next line: the suffix of its segment
+before_comma : inside (node 1 (leaf_of x) ∷ note 1 a ∷ comma (at Sign (codes ",") 2 1) ∷ node 2 (leaf_of x) ∷ [])
+    ≡ record { segs = record { before = []; nodes = leaf_of x ∷ []; suffix = Some a } ∷ record { before = []; nodes = leaf_of x ∷ []; suffix = None } ∷ []; trailing = false; end = [] }
+before_comma = refl
+
+-- above a node: before its segment
+above_node : inside (note 1 a ∷ node 2 (leaf_of x) ∷ []) ≡ record { segs = record { before = a ∷ []; nodes = leaf_of x ∷ []; suffix = None } ∷ []; trailing = false; end = [] }
+above_node = refl
+
+-- no segment is empty
+two_commas : no_empty false (node 1 (leaf_of x) ∷ comma (at Sign (codes ",") 1 2) ∷ comma (at Sign (codes ",") 1 3) ∷ []) ≡ false
+two_commas = refl
+
+-- `x = 1` and a comment
+lines_of_one : start_of (at Note a 1 1 ∷ at Line (10 ∷ []) 1 4 ∷ at Ident (codes "x") 2 1 ∷ at Note b 2 3 ∷ []) ≡ 2
+lines_of_one = refl
+
+-- `def f:`, two columns on `x`, one column on `y`
+wrong_indent : block_indent (at Word (codes "def") 1 1 ∷ at Ident (codes "f") 1 5 ∷ at Sign (codes ":") 1 6 ∷ at Line (10 ∷ []) 1 7 ∷ at Ident (codes "x") 2 3 ∷ at Line (10 ∷ []) 2 4 ∷ at Ident (codes "y") 3 2 ∷ []) ≡ Some 3
+wrong_indent = refl
+
+right_indent : block_indent (at Word (codes "def") 1 1 ∷ at Ident (codes "f") 1 5 ∷ at Sign (codes ":") 1 6 ∷ at Line (10 ∷ []) 1 7 ∷ at Ident (codes "x") 2 3 ∷ at Line (10 ∷ []) 2 4 ∷ at Ident (codes "y") 3 3 ∷ []) ≡ None
+right_indent = refl
+
+-- a header without anything behind its colon
+open_block : is_block (at Word (codes "def") 1 1 ∷ at Ident (codes "f") 1 5 ∷ at Sign (codes ":") 1 6 ∷ at Line (10 ∷ []) 1 7 ∷ []) ≡ false
+open_block = refl
+
+second_column : indent_fault (at Ident (codes "x") 4 2 ∷ []) ≡ Some 4
+second_column = refl
+
+nothing_there : class_of [] ≡ Comment
+nothing_there = refl
