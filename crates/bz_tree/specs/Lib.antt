@@ -1,2 +1,11 @@
 pub mod Tree
 pub mod View
+pub mod Kinds
+pub mod Owners
+pub mod Brackets
+pub mod Statement
+pub mod Steps
+pub mod Grammar
+pub mod Blocks
+pub mod Chunk
+pub mod Machine

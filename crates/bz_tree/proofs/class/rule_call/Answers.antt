@@ -1,0 +1,7 @@
+use Rattle.std.proofs.Common.{arith}
+use Rattle.std.proofs.lemmas.Grind.{common_steps}
+use Rattle.bz_tree.proofs.OneBracket.{rule_call-push}
+use Rattle.bz_tree.proofs.class.rule_call.Goals as goal
+
+pub returns : goal.returns
+returns c = grind (arith, common_steps, rule_call-push)

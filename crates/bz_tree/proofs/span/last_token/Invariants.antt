@@ -1,0 +1,7 @@
+use Rattle.std.proofs.Common.{◌≡◌, drop, map, option_map, None}
+use Rattle.bz_token.specs.Places.{placed}
+use Rattle.bz_tree.specs.Statement.{bare_tokens, last_of}
+use Rattle.bz_tree.proofs.span.last_token.Given as goal
+
+abbrev pub invariant-loop-token : goal.invariant-loop-token
+invariant-loop-token l = last_of (option_map placed l.last) (bare_tokens (map placed (drop l.token-index l.tokens))) ≡ last_of None (bare_tokens (map placed l.tokens))

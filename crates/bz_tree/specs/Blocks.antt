@@ -1,0 +1,139 @@
+-- Blocks: a statement that begins with `def`, `for` or `if` is kept as it was written (this project's own rule).
+use Rattle.std.specs.Prelude.{codes, ℕ, ◌+◌, ◌-◌, List, [], ◌∷◌, ◌++◌, Bool, true, false, not, if◌then◌else◌, ◌≡◌, ◌==◌, ◌&&◌, ◌||◌, nat_lt, Option, Some, None}
+use Rattle.std.specs.Str.{bytes_eq}
+use Rattle.bz_token.specs.declared.token.Kind.{Kind}
+use Rattle.bz_token.specs.declared.token.Kind.TheVariants.{Word, Sign, Kept}
+use Rattle.bz_token.specs.Places.{Placed, line_at, column_at}
+use Rattle.bz_tree.specs.declared.stmt.Class.TheVariants.{Block}
+use Rattle.bz_tree.specs.declared.kinds.Mark.{Mark}
+use Rattle.bz_tree.specs.declared.kinds.Mark.TheVariants.{Open, Close, Comment, NewLine}
+use Rattle.bz_tree.specs.Tree.{Item, leaf, Statement}
+use Rattle.bz_tree.specs.Kinds.{mark_of}
+use Rattle.bz_tree.specs.Brackets.{end_line}
+use Rattle.bz_tree.specs.Statement.{first_token, last_token, last_seen}
+
+-- the words that begin a block
+abbrev pub is_block_word_at : Kind → List ℕ → Bool
+is_block_word_at Word text = bytes_eq text (codes "def") || bytes_eq text (codes "for") || bytes_eq text (codes "if")
+is_block_word_at _ text = false
+
+abbrev pub is_block_word : Placed → Bool
+is_block_word t = is_block_word_at t.kind t.text
+
+abbrev pub is_colon_at : Kind → List ℕ → Bool
+is_colon_at Sign text = bytes_eq text (codes ":")
+is_colon_at _ text = false
+
+abbrev pub is_colon : Placed → Bool
+is_colon t = is_colon_at t.kind t.text
+
+-- The tokens of each logical line, without comments. A line without tokens is an empty list.
+abbrev pub in_front : Placed → List (List Placed) → List (List Placed)
+in_front t [] = (t ∷ []) ∷ []
+in_front t (line ∷ lines) = (t ∷ line) ∷ lines
+
+abbrev pub with_token : Mark → Placed → List (List Placed) → List (List Placed)
+with_token NewLine t lines = [] ∷ lines
+with_token Comment t lines = lines
+with_token _ t lines = in_front t lines
+
+abbrev pub logical_lines : List Placed → List (List Placed)
+logical_lines [] = [] ∷ []
+logical_lines (t ∷ ts) = with_token (mark_of t) t (logical_lines ts)
+
+-- The columns of the lines that are still open are a stack, the innermost first. It is popped down to this column, if it holds it.
+abbrev pub popped : ℕ → List ℕ → Option (List ℕ)
+popped column [] = None
+popped column (c ∷ columns) = if c == column then Some (c ∷ columns) else popped column columns
+
+abbrev pub pushed : ℕ → List ℕ → Option (List ℕ)
+pushed column [] = Some (column ∷ [])
+pushed column (c ∷ columns) = if nat_lt c column then Some (column ∷ c ∷ columns) else None
+
+-- The stack behind the first token of a line: behind a line that ends with `:` it stands deeper than the innermost line, else on a
+-- column of the stack. None: it is indented wrongly.
+abbrev pub indented : Bool → ℕ → List ℕ → Option (List ℕ)
+indented true column columns = pushed column columns
+indented false column columns = popped column columns
+
+-- the line ends with `:`; an empty one changes nothing
+abbrev pub ends_open : Bool → List Placed → Bool
+ends_open opens [] = opens
+ends_open opens (t ∷ ts) = ends_open (is_colon t) ts
+
+-- The line of the first logical line that is indented wrongly. `opens`: the line before ends with `:`. Blank lines and comment
+-- lines do not count.
+abbrev pub bad_line : List ℕ → Bool → List (List Placed) → Option ℕ
+bad_line columns opens [] = None
+bad_line columns opens ([] ∷ lines) = bad_line columns opens lines
+bad_line columns opens ((t ∷ ts) ∷ lines) = elim (indented opens t.col columns) [
+  | None ↦ Some t.line
+  | Some inner ↦ bad_line inner (ends_open (is_colon t) ts) lines
+]
+
+-- the line of the first logical line of a block, whose header stands in column 1, that is indented wrongly
+abbrev pub block_indent : List Placed → Option ℕ
+block_indent tokens = bad_line (1 ∷ []) false (logical_lines tokens)
+
+-- the first logical line with a token
+abbrev pub header_line : List (List Placed) → List Placed
+header_line [] = []
+header_line ([] ∷ lines) = header_line lines
+header_line ((t ∷ ts) ∷ lines) = t ∷ ts
+
+abbrev pub depth_behind : Mark → ℕ → ℕ
+depth_behind (Open shape) depth = depth + 1
+depth_behind (Close shape) depth = depth - 1
+depth_behind _ depth = depth
+
+-- `:` stands among these tokens outside brackets, so many of which are open
+abbrev pub has_colon : ℕ → List Placed → Bool
+has_colon depth [] = false
+has_colon depth (t ∷ ts) = (depth == 0 && is_colon t) || has_colon (depth_behind (mark_of t) depth) ts
+
+abbrev pub is_open_end : Option Placed → Bool
+is_open_end None = false
+is_open_end (Some t) = is_colon t
+
+-- A block of the grammar: `:` stands outside brackets in its header line, and its last line does not end with `:`.
+abbrev pub is_block : List Placed → Bool
+is_block tokens = has_colon 0 (header_line (logical_lines tokens)) && not (is_open_end (last_token tokens))
+
+-- the comments above the first token
+abbrev pub above_at : Mark → List ℕ → List (List ℕ) → List (List ℕ)
+above_at Comment text later = text ∷ later
+above_at NewLine text later = later
+above_at _ text later = []
+
+abbrev pub above : List Placed → List (List ℕ)
+above [] = []
+above (t ∷ ts) = above_at (mark_of t) t.text (above ts)
+
+-- Behind these bytes a token begins at its place.
+pub record IsAt (first : ℕ) (before : List ℕ) (t : Placed) : Type 0 where
+  pub line : line_at first before ≡ t.line
+  pub col : column_at before ≡ t.col
+
+-- The bytes from a token's place to the end of a later one.
+pub record IsKeptText (first : ℕ) (bytes : List ℕ) (header last : Placed) (kept : List ℕ) : Type 0 where
+  pub before : List ℕ
+  pub front : List ℕ
+  pub after : List ℕ
+  pub kept_is : kept ≡ front ++ last.text
+  pub bytes_are : bytes ≡ before ++ (kept ++ after)
+  pub begins : IsAt first before header
+  pub ends : IsAt first (before ++ front) last
+
+abbrev pub kept_leaf : List ℕ → Placed → Item
+kept_leaf kept t = leaf Kept kept (record { line = t.line; col = t.col; fresh = t.fresh })
+
+-- The block that the tokens are: its text from the header's first token to the end of its last token, comments counted.
+pub record IsBlockOf (first : ℕ) (bytes : List ℕ) (tokens : List Placed) (s : Statement) : Type 0 where
+  pub header : Placed
+  pub last : Placed
+  pub kept : List ℕ
+  pub is_header : first_token tokens ≡ Some header
+  pub is_last : last_seen tokens ≡ Some last
+  pub is_kept : IsKeptText first bytes header last kept
+  pub is_block : is_block tokens ≡ true
+  pub is : s ≡ record { before = above tokens; nodes = kept_leaf kept header ∷ []; suffix = None; class = Block; start = header.line; end = end_line last }

@@ -1,0 +1,70 @@
+-- What a token is to the brackets, and what kind of group a bracket is (Starlark's grammar: calls, indexes, lists, dicts, comprehensions).
+use Rattle.std.specs.Prelude.{codes, ℕ, List, Bool, true, false, if◌then◌else◌, Option, Some}
+use Rattle.std.specs.Str.{bytes_eq}
+use Rattle.bz_token.specs.declared.token.Kind.{Kind}
+use Rattle.bz_token.specs.declared.token.Kind.TheVariants.{Ident, Word, Int, Text, Sign, Line, Note}
+use Rattle.bz_token.specs.Places.{Placed}
+use Rattle.bz_tree.specs.declared.stmt.GroupKind.{GroupKind}
+use Rattle.bz_tree.specs.declared.stmt.GroupKind.TheVariants.{Call, Load, Paren, List as ListKind, Index, Dict, ListComp, DictComp}
+use Rattle.bz_tree.specs.declared.kinds.Shape.{Shape}
+use Rattle.bz_tree.specs.declared.kinds.Shape.TheVariants.{Round, Square, Curly}
+use Rattle.bz_tree.specs.declared.kinds.Mark.{Mark}
+use Rattle.bz_tree.specs.declared.kinds.Mark.TheVariants.{Open, Close, Comma, Comment, NewLine, Plain}
+use Rattle.bz_tree.specs.declared.kinds.Behind.{Behind}
+use Rattle.bz_tree.specs.declared.kinds.Behind.TheVariants.{Operand, LoadWord, Other}
+
+abbrev pub sign_mark : List ℕ → Mark
+sign_mark text =
+    if bytes_eq text (codes "(") then Open Round
+    else (if bytes_eq text (codes "[") then Open Square
+    else (if bytes_eq text (codes "{") then Open Curly
+    else (if bytes_eq text (codes ")") then Close Round
+    else (if bytes_eq text (codes "]") then Close Square
+    else (if bytes_eq text (codes "}") then Close Curly
+    else (if bytes_eq text (codes ",") then Comma
+    else Plain))))))
+
+-- what a token is to the brackets
+abbrev pub kind_mark : Kind → List ℕ → Mark
+kind_mark Sign text = sign_mark text
+kind_mark Note text = Comment
+kind_mark Line text = NewLine
+kind_mark _ text = Plain
+
+abbrev pub mark_of : Placed → Mark
+mark_of t = kind_mark t.kind t.text
+
+abbrev pub same_shape : Option Shape → Shape → Bool
+same_shape (Some Round) Round = true
+same_shape (Some Square) Square = true
+same_shape (Some Curly) Curly = true
+same_shape _ _ = false
+
+-- what a bracket may stand behind: an operand (then it is a call or an index), the keyword `load`, anything else
+abbrev pub kind_behind : Kind → List ℕ → Behind
+kind_behind Ident text = Operand
+kind_behind Int text = Operand
+kind_behind Text text = Operand
+kind_behind Word text = if bytes_eq text (codes "load") then LoadWord else Other
+kind_behind _ text = Other
+
+-- the keyword `for`
+abbrev pub is_for_at : Kind → List ℕ → Bool
+is_for_at Word text = bytes_eq text (codes "for")
+is_for_at _ text = false
+
+-- the kind of a bracket, by its shape, what it stands behind, and whether `for` stands directly in it
+abbrev pub group_kind : Shape → Behind → Bool → GroupKind
+group_kind Round Operand comp = Call
+group_kind Round LoadWord comp = Load
+group_kind Round Other comp = Paren
+group_kind Square Operand comp = Index
+group_kind Square _ comp = if comp then ListComp else ListKind
+group_kind Curly b comp = if comp then DictComp else Dict
+
+-- these have one segment, whose commas are nodes
+abbrev pub is_one : GroupKind → Bool
+is_one Index = true
+is_one ListComp = true
+is_one DictComp = true
+is_one _ = false

@@ -1,0 +1,173 @@
+-- The statement that a list of tokens is: its tree, its class and its lines.
+use Rattle.std.specs.Prelude.{codes, ℕ, List, [], ◌∷◌, ◌++◌, Bool, true, false, if◌then◌else◌, ◌≡◌, ◌<◌, ◌^◌, ◌&&◌, ◌||◌, None, Option, Some, ◌<◌, ◌^◌}
+use Rattle.std.specs.Str.{bytes_eq}
+use Rattle.bz_token.specs.declared.token.Kind.{Kind}
+use Rattle.bz_token.specs.declared.token.Kind.TheVariants.{Ident, Word, Sign, Note, Line, Kept}
+use Rattle.bz_token.specs.Places.{Placed}
+use Rattle.bz_tree.specs.declared.stmt.GroupKind.{GroupKind}
+use Rattle.bz_tree.specs.declared.stmt.GroupKind.TheVariants.{Call, RuleCall}
+use Rattle.bz_tree.specs.declared.stmt.Class.{Class}
+use Rattle.bz_tree.specs.declared.stmt.Class.TheVariants.{Load, Assign, Rule, Other, Comment, Block}
+use Rattle.bz_tree.specs.declared.kinds.Behind.TheVariants.{Other as Elsewhere}
+use Rattle.bz_tree.specs.Tree.{Item, leaf, group, Segment, Statement}
+use Rattle.bz_tree.specs.Owners.{Own, Inside, inside}
+use Rattle.bz_tree.specs.Brackets.{Elems, elems_tokens, elems_own, own_items, AreWell, end_line, without_lines}
+
+-- At depth 0 a statement is one segment, and every comment but the suffix stands before it.
+abbrev pub one_segment : List Segment → List (List ℕ) → Segment
+one_segment [] end = record { before = end; nodes = []; suffix = None }
+one_segment (s ∷ ss) end = record { before = s.before ++ end; nodes = s.nodes; suffix = s.suffix }
+
+abbrev pub is_ident : Kind → Bool
+is_ident Ident = true
+is_ident _ = false
+
+abbrev pub is_dot : Kind → List ℕ → Bool
+is_dot Sign text = bytes_eq text (codes ".")
+is_dot _ text = false
+
+abbrev pub is_call : GroupKind → Bool
+is_call Call = true
+is_call RuleCall = true
+is_call _ = false
+
+abbrev pub is_nothing : List Item → Bool
+is_nothing [] = true
+is_nothing (x ∷ xs) = false
+
+-- a rule: Ident {`.` Ident} and a call
+abbrev mutual
+  pub is_rule : List Item → Bool
+  is_rule [] = false
+  is_rule (leaf kind text place ∷ xs) = is_ident kind && is_rule_behind xs
+  is_rule (group kind segs one_comma end ∷ xs) = false
+
+  -- behind an identifier
+  pub is_rule_behind : List Item → Bool
+  is_rule_behind [] = false
+  is_rule_behind (leaf kind text place ∷ xs) = is_dot kind text && is_rule xs
+  is_rule_behind (group kind segs one_comma end ∷ xs) = is_call kind && is_nothing xs
+
+abbrev pub as_rule_call : Item → Item
+as_rule_call (leaf kind text place) = leaf kind text place
+as_rule_call (group kind segs one_comma end) = group RuleCall segs one_comma end
+
+abbrev pub rule_call : List Item → List Item
+rule_call [] = []
+rule_call (x ∷ []) = as_rule_call x ∷ []
+rule_call (x ∷ y ∷ ys) = x ∷ rule_call (y ∷ ys)
+
+-- the call of a rule is a RuleCall
+abbrev pub with_rule_call : Segment → Segment
+with_rule_call s = record { before = s.before; nodes = (if is_rule s.nodes then rule_call s.nodes else s.nodes); suffix = s.suffix }
+
+abbrev pub segment_with : Inside → Segment
+segment_with i = with_rule_call (one_segment i.segs i.end)
+
+-- nodes and comments of a statement in which these stand at depth 0
+abbrev pub segment_of : List Own → Segment
+segment_of owns = segment_with (inside (own_items true owns))
+
+abbrev pub is_one_of : List ℕ → List (List ℕ) → Bool
+is_one_of text [] = false
+is_one_of text (word ∷ words) = bytes_eq text word || is_one_of text words
+
+-- `=` and the augmented assignments (Starlark specification, "Assignments")
+abbrev pub is_assign_sign : List ℕ → Bool
+is_assign_sign text = is_one_of text (codes "=" ∷ codes "+=" ∷ codes "-=" ∷ codes "*=" ∷ codes "/=" ∷ codes "//=" ∷ codes "%=" ∷ codes "&=" ∷ codes "|=" ∷ codes "^=" ∷ codes "<<=" ∷ codes ">>=" ∷ [])
+
+abbrev pub is_assign : Item → Bool
+is_assign (leaf Sign text place) = is_assign_sign text
+is_assign _ = false
+
+abbrev pub has_assign : List Item → Bool
+has_assign [] = false
+has_assign (x ∷ xs) = is_assign x || has_assign xs
+
+abbrev pub is_load_word : Item → Bool
+is_load_word (leaf Word text place) = bytes_eq text (codes "load")
+is_load_word _ = false
+
+abbrev pub is_kept : Item → Bool
+is_kept (leaf Kept text place) = true
+is_kept _ = false
+
+-- The class of a statement, by its nodes. None: comment lines alone.
+abbrev pub class_of : List Item → Class
+class_of [] = Comment
+class_of (x ∷ xs) =
+    if is_kept x then Block
+    else (if is_load_word x then Load
+    else (if has_assign (x ∷ xs) then Assign
+    else (if is_rule (x ∷ xs) then Rule
+    else Other)))
+
+-- a comment or a newline
+abbrev pub is_aside : Kind → Bool
+is_aside Note = true
+is_aside Line = true
+is_aside _ = false
+
+-- the tokens without comments and newlines
+abbrev pub bare_tokens : List Placed → List Placed
+bare_tokens [] = []
+bare_tokens (t ∷ ts) = if is_aside t.kind then bare_tokens ts else t ∷ bare_tokens ts
+
+abbrev pub first_of : List Placed → Option Placed
+first_of [] = None
+first_of (t ∷ ts) = Some t
+
+-- the last of these, or what stood before
+abbrev pub last_of : Option Placed → List Placed → Option Placed
+last_of found [] = found
+last_of found (t ∷ ts) = last_of (Some t) ts
+
+-- the first and the last token of a statement, comments not counted
+abbrev pub first_token : List Placed → Option Placed
+first_token tokens = first_of (bare_tokens tokens)
+
+abbrev pub last_token : List Placed → Option Placed
+last_token tokens = last_of None (bare_tokens tokens)
+
+-- with comments
+abbrev pub first_seen : List Placed → Option Placed
+first_seen tokens = first_of (without_lines tokens)
+
+abbrev pub last_seen : List Placed → Option Placed
+last_seen tokens = last_of None (without_lines tokens)
+
+-- comments count only where nothing else is there
+abbrev pub either : Option Placed → Option Placed → Option Placed
+either None other = other
+either (Some t) other = Some t
+
+abbrev pub line_of : Option Placed → ℕ
+line_of None = 0
+line_of (Some t) = t.line
+
+abbrev pub end_line_of : Option Placed → ℕ
+end_line_of None = 0
+end_line_of (Some t) = end_line t
+
+-- the line of the first token
+abbrev pub start_of : List Placed → ℕ
+start_of tokens = line_of (either (first_token tokens) (first_seen tokens))
+
+-- the line on which the last token ends
+abbrev pub end_of : List Placed → ℕ
+end_of tokens = end_line_of (either (last_token tokens) (last_seen tokens))
+
+abbrev pub statement_with : List Placed → Segment → Statement
+statement_with tokens s = record { before = s.before; nodes = s.nodes; suffix = s.suffix; class = class_of s.nodes; start = start_of tokens; end = end_of tokens }
+
+-- The statement of the tokens: the only tree of brackets whose tokens in order are these, its comments with their owners.
+pub record IsStatementOf (tokens : List Placed) (s : Statement) : Type 0 where
+  pub elems : Elems
+  pub tokens_are : without_lines tokens ≡ elems_tokens elems
+  pub well : AreWell Elsewhere elems  -- brackets match, no segment is empty
+  pub is : s ≡ statement_with tokens (segment_of (elems_own Elsewhere elems))
+
+-- each token ends on a line that can be counted
+abbrev pub EndsFit : List Placed → Type 0
+EndsFit [] = Unit {0}
+EndsFit (t ∷ ts) = (end_line t < 2 ^ 64) × EndsFit ts

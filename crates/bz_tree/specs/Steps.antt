@@ -1,0 +1,179 @@
+-- For private clauses: the walk over what stands in one bracket, and the walk over the tokens with a stack of open brackets.
+use Rattle.std.specs.Prelude.{ℕ, ◌+◌, List, [], ◌∷◌, ◌++◌, map, reverse, Bool, true, false, if◌then◌else◌, Option, Some, None, option_map, option_and_then}
+use Rattle.bz_tree.specs.declared.kinds.Shape.{Shape}
+use Rattle.bz_tree.specs.declared.kinds.Mark.{Mark}
+use Rattle.bz_tree.specs.declared.kinds.Mark.TheVariants.{Open, Close, NewLine}
+use Rattle.bz_tree.specs.declared.kinds.Behind.{Behind}
+use Rattle.bz_tree.specs.declared.kinds.Behind.TheVariants.{Other}
+use Rattle.bz_tree.specs.declared.owners.Before.{Before}
+use Rattle.bz_tree.specs.declared.owners.Before.TheVariants.{Nothing, Node as BeforeNode, Comma as BeforeComma}
+use Rattle.bz_tree.specs.declared.owners.Own.{Own as OwnValue}
+use Rattle.bz_tree.specs.declared.owners.Own.TheVariants.{Node as OwnNode, Comma as OwnComma, Note as OwnNote}
+use Rattle.bz_tree.specs.declared.owners.Walk.{Walk}
+use Rattle.bz_tree.specs.declared.class.Phase.{Phase}
+use Rattle.bz_tree.specs.declared.class.Phase.TheVariants.{Name, Join, End}
+use Rattle.bz_tree.specs.declared.owners.Content.{Content}
+use Rattle.bz_tree.specs.declared.build.Frame.{Frame}
+use Rattle.bz_tree.specs.declared.build.State.{State}
+use Rattle.bz_token.specs.Places.{Placed}
+use Rattle.bz_tree.specs.declared.stmt.Leaf.{Leaf}
+use Rattle.bz_tree.specs.Tree.{Item, Segment}
+use Rattle.bz_tree.specs.View.{text_of, texts, node_view, seg_view}
+use Rattle.bz_tree.specs.Kinds.{mark_of, is_one, group_kind, same_shape}
+use Rattle.bz_tree.specs.Owners.{Own, node, comma, note, Last, no_token, end_of_node, end_of_comma, is_on, Inside}
+use Rattle.bz_tree.specs.Brackets.{own_items, own_of, behind, has_for, group_with}
+use Rattle.bz_tree.specs.Statement.{segment_with, is_rule, is_rule_behind, is_nothing}
+
+-- One bracket: the segments that are done, and of the segment here its nodes, the comments before its last node, its suffix so far, the comments behind that.
+pub record Walked : Type 0 where
+  pub segs : List Segment
+  pub before : List (List ℕ)
+  pub nodes : List Item
+  pub suffix : Option (List ℕ)
+  pub behind : List (List ℕ)
+  pub last : Last
+  pub trailing : Bool
+
+abbrev pub texts_of : Option (List ℕ) → List (List ℕ)
+texts_of None = []
+texts_of (Some text) = text ∷ []
+
+-- the value of a leaf
+abbrev pub leaf_view : Leaf → Placed
+leaf_view t = record { kind = t.kind; text = text_of t.text; line = t.line; col = t.col; fresh = t.fresh }
+
+abbrev pub last_view : Before → Last
+last_view Nothing = no_token
+last_view (BeforeNode line newlines) = end_of_node (line + newlines)
+last_view (BeforeComma line) = end_of_comma line
+
+abbrev pub walked : Walk → Walked
+walked w = record { segs = map seg_view w.segs.items; before = texts w.before.items; nodes = map node_view w.nodes.items; suffix = option_map text_of w.suffix; behind = texts w.behind.items; last = last_view w.last; trailing = w.trailing }
+
+abbrev pub own_view : OwnValue → Own
+own_view (OwnNode n line newlines) = node (line + newlines) (node_view n)
+own_view (OwnComma t) = comma (leaf_view t)
+own_view (OwnNote line text) = note line (text_of text)
+
+abbrev pub owns_view : List OwnValue → List Own
+owns_view os = map own_view os
+
+abbrev pub content_view : Content → Inside
+content_view c = record { segs = map seg_view c.segs.items; trailing = c.trailing; end = texts c.end.items }
+
+abbrev pub at_start : Walked
+at_start = record { segs = []; before = []; nodes = []; suffix = None; behind = []; last = no_token; trailing = false }
+
+abbrev pub after_node : ℕ → Item → Walked → Walked
+after_node line x w = record { segs = w.segs; before = w.before ++ (texts_of w.suffix ++ w.behind); nodes = w.nodes ++ x ∷ []; suffix = None; behind = []; last = end_of_node line; trailing = false }
+
+abbrev pub after_comma : ℕ → Walked → Option Walked
+after_comma line w = behind_nodes w.nodes
+  where
+    behind_nodes : List Item → Option Walked
+    behind_nodes [] = None
+    behind_nodes (x ∷ xs) = Some (record { segs = w.segs ++ record { before = w.before ++ w.behind; nodes = x ∷ xs; suffix = w.suffix } ∷ []; before = []; nodes = []; suffix = None; behind = []; last = end_of_comma line; trailing = true })
+
+-- one more comment behind a segment's comma
+abbrev pub add_beside : List ℕ → Segment → Segment
+add_beside text s = beside s.suffix
+  where
+    beside : Option (List ℕ) → Segment
+    beside None = record { before = s.before; nodes = s.nodes; suffix = Some text }
+    beside (Some other) = record { before = s.before ++ text ∷ []; nodes = s.nodes; suffix = Some other }
+
+abbrev pub to_last : List ℕ → List Segment → List Segment
+to_last text [] = []
+to_last text (s ∷ []) = add_beside text s ∷ []
+to_last text (s ∷ r ∷ ss) = s ∷ to_last text (r ∷ ss)
+
+abbrev pub on_comma : List ℕ → Walked → Walked
+on_comma text w = record { segs = to_last text w.segs; before = w.before; nodes = w.nodes; suffix = w.suffix; behind = w.behind; last = no_token; trailing = w.trailing }
+
+abbrev pub on_node : List ℕ → Walked → Walked
+on_node text w = record { segs = w.segs; before = w.before; nodes = w.nodes; suffix = Some text; behind = w.behind; last = no_token; trailing = w.trailing }
+
+abbrev pub alone : List ℕ → Walked → Walked
+alone text w = record { segs = w.segs; before = w.before; nodes = w.nodes; suffix = w.suffix; behind = w.behind ++ text ∷ []; last = no_token; trailing = w.trailing }
+
+abbrev pub noted : Last → Bool → List ℕ → Walked → Walked
+noted (end_of_node end) true text w = on_node text w
+noted (end_of_comma end) true text w = on_comma text w
+noted last on text w = alone text w
+
+abbrev pub after_note : ℕ → List ℕ → Walked → Walked
+after_note line text w = noted w.last (is_on w.last line) text w
+
+abbrev pub after : Own → Walked → Option Walked
+after (node line x) w = Some (after_node line x w)
+after (comma t) w = after_comma t.line w
+after (note line text) w = Some (after_note line text w)
+
+abbrev pub done : Walked → Inside
+done w = at_end w.nodes
+  where
+    at_end : List Item → Inside
+    at_end [] = record { segs = w.segs; trailing = w.trailing; end = w.behind }
+    at_end (x ∷ xs) = record { segs = w.segs ++ record { before = w.before; nodes = x ∷ xs; suffix = w.suffix } ∷ []; trailing = w.trailing; end = w.behind }
+
+abbrev pub walk : Walked → List Own → Option Inside
+walk w [] = Some (done w)
+walk w (x ∷ xs) = option_and_then (λ v. walk v xs) (after x w)
+
+-- the inside of a bracket, unless a segment is empty
+abbrev pub content : Bool → List Own → Option Inside
+content one owns = walk at_start (own_items one owns)
+
+-- The stack of open brackets.
+pub record Level : Type 0 where
+  pub shape : Option Shape
+  pub owns : List Own
+  pub at : Behind
+
+abbrev pub level : Frame → Level
+level f = record { shape = f.shape; owns = owns_view f.owns.items; at = f.at }
+
+-- the innermost first
+abbrev pub levels : List Frame → List Level
+levels fs = reverse (map level fs)
+
+abbrev pub Levels : Type 0
+Levels = Level × List Level
+
+abbrev pub with_own : Level → Own → Level
+with_own l own = record { shape = l.shape; owns = l.owns ++ own ∷ []; at = behind l.at own }
+
+abbrev pub new_level : Option Shape → Level
+new_level shape = record { shape = shape; owns = []; at = Other }
+
+-- the group of a bracket that is closed
+abbrev pub closed : Shape → Behind → List Own → Option Item
+closed shape b owns = let kind = group_kind shape b (has_for owns) in option_map (group_with kind) (content (is_one kind) owns)
+
+abbrev pub next_at : Mark → Placed → Level → List Level → Option Levels
+next_at NewLine t top outer = Some (top, outer)
+next_at (Open shape) t top outer = Some (new_level (Some shape), top ∷ outer)
+next_at (Close shape) t top [] = None
+next_at (Close shape) t top (below ∷ outer) =
+    if same_shape top.shape shape then option_map (λ g. (with_own below (node t.line g), outer)) (closed shape below.at top.owns) else None
+next_at m t top outer = Some (with_own top (own_of m t), outer)
+
+abbrev pub next : Placed → Levels → Option Levels
+next t ls = next_at (mark_of t) t ls.0 ls.1
+
+abbrev pub finish : Option Shape → List Own → List Level → Option Segment
+finish None owns [] = option_map segment_with (content true owns)
+finish _ owns outer = None
+
+abbrev pub run : Level → List Level → List Placed → Option Segment
+run top outer [] = finish top.shape top.owns outer
+run top outer (t ∷ ts) = option_and_then (λ ls. run ls.0 ls.1 ts) (next t (top, outer))
+
+abbrev pub state : State → Levels
+state s = (level s.top, levels s.outer.items)
+
+-- a rule, from some node on
+abbrev pub rule_from : Phase → List Item → Bool
+rule_from Name xs = is_rule xs
+rule_from Join xs = is_rule_behind xs
+rule_from End xs = is_nothing xs

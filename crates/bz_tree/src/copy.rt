@@ -1,0 +1,105 @@
+//! Copies of statements.
+
+ghost use Rattle.std.specs.Prelude.{◌≡◌, IfOk, map, option_map};
+ghost use Rattle.bz_tree.specs.View.{text_of, texts, view, node_view, group_view, seg_view};
+
+use crate::stmt::{Group, Leaf, Node, Seg, Stmt};
+use std::alloc::{AllocError, Global};
+use std::borrow::CowStr;
+
+impl<'a> Stmt<'a> {
+    ghost use Rattle.bz_tree.specs.View.{view};
+
+    /// An equal statement, places and line numbers included. A text that is borrowed stays borrowed.
+    pub fn copy(&self, alloc: Global) -> Result<Stmt<'a>, AllocError>
+        ensures equal { IfOk result (λ s. view s ≡ view self.now) }
+    {
+        let before = copy_texts(alloc, &self.before)?;
+        let nodes = copy_nodes(alloc, &self.nodes)?;
+        let suffix = copy_suffix(&self.suffix)?;
+        Ok(Stmt {
+            before,
+            nodes,
+            suffix,
+            class: self.class,
+            start: self.start,
+            end: self.end,
+        })
+    }
+}
+
+fn copy_texts<'a>(alloc: Global, comments: &[CowStr<'a>]) -> Result<Vec<CowStr<'a>>, AllocError>
+    ensures { IfOk result (λ v. texts v.items ≡ texts comments.now) }
+{
+    let mut copies = Vec::with_capacity(alloc, comments.len())?;
+    for text in comments {
+        copies.push(text.clone()?)?;
+    }
+    Ok(copies)
+}
+
+fn copy_suffix<'a>(suffix: &Option<CowStr<'a>>) -> Result<Option<CowStr<'a>>, AllocError>
+    ensures { IfOk result (λ o. option_map text_of o ≡ option_map text_of suffix.now) }
+{
+    match suffix {
+        None => Ok(None),
+        Some(text) => Ok(Some(text.clone()?)),
+    }
+}
+
+#[cycle(copy)]
+fn copy_node<'a>(alloc: Global, node: &Node<'a>) -> Result<Node<'a>, AllocError>
+    ensures { IfOk result (λ n. node_view n ≡ node_view node.now) }
+{
+    match node {
+        Node::Token(leaf) => Ok(Node::Token(Leaf {
+            kind: leaf.kind,
+            text: leaf.text.clone()?,
+            line: leaf.line,
+            col: leaf.col,
+            fresh: leaf.fresh,
+        })),
+        Node::Group(group) => Ok(Node::Group(copy_group(alloc, group)?)),
+    }
+}
+
+#[cycle(copy)]
+fn copy_group<'a>(alloc: Global, group: &Group<'a>) -> Result<Group<'a>, AllocError>
+    ensures { IfOk result (λ g. group_view g ≡ group_view group.now) }
+{
+    Ok(Group {
+        kind: group.kind,
+        segs: copy_segs(alloc, &group.segs)?,
+        one_comma: group.one_comma,
+        end: copy_texts(alloc, &group.end)?,
+    })
+}
+
+#[cycle(copy)]
+fn copy_nodes<'a>(alloc: Global, nodes: &[Node<'a>]) -> Result<Vec<Node<'a>>, AllocError>
+    ensures { IfOk result (λ v. map node_view v.items ≡ map node_view nodes.now) }
+{
+    let mut copies = Vec::with_capacity(alloc, nodes.len())?;
+    for node in nodes {
+        copies.push(copy_node(alloc, node)?)?;
+    }
+    Ok(copies)
+}
+
+#[cycle(copy)]
+fn copy_segs<'a>(alloc: Global, segs: &[Seg<'a>]) -> Result<Vec<Seg<'a>>, AllocError>
+    ensures { IfOk result (λ v. map seg_view v.items ≡ map seg_view segs.now) }
+{
+    let mut copies = Vec::with_capacity(alloc, segs.len())?;
+    for seg in segs {
+        let before = copy_texts(alloc, &seg.before)?;
+        let nodes = copy_nodes(alloc, &seg.nodes)?;
+        let suffix = copy_suffix(&seg.suffix)?;
+        copies.push(Seg {
+            before,
+            nodes,
+            suffix,
+        })?;
+    }
+    Ok(copies)
+}

@@ -1,0 +1,108 @@
+//! What a token is to the brackets, and what kind of group a bracket is.
+
+ghost use Rattle.std.specs.Prelude.{◌≡◌};
+ghost use Rattle.bz_token.specs.Places.{placed};
+ghost use Rattle.bz_tree.specs.View.{text_of};
+ghost use Rattle.bz_tree.specs.Kinds.{mark_of, kind_behind, is_for_at, group_kind, is_one, same_shape};
+
+use crate::stmt::{GroupKind, Leaf};
+use bz_token::{Kind, Token};
+
+/// The shape of a bracket.
+#[derive(Clone, Copy, Debug, PartialEq, Eq)]
+pub(crate) enum Shape {
+    Round,
+    Square,
+    Curly,
+}
+
+/// What a token is to the brackets.
+#[derive(Clone, Copy, Debug, PartialEq, Eq)]
+pub(crate) enum Mark {
+    Open(Shape),
+    Close(Shape),
+    Comma,
+    Comment,
+    NewLine,
+    Plain,
+}
+
+/// What a bracket may stand behind: an operand (then it is a call or an index), the keyword `load`, anything else.
+#[derive(Clone, Copy, Debug, PartialEq, Eq)]
+pub(crate) enum Behind {
+    Operand,
+    LoadWord,
+    Other,
+}
+
+pub(crate) fn mark_of(token: &Token<'_>) -> Mark
+    ensures { result ≡ mark_of (placed token.now) }
+{
+    match token.kind {
+        Kind::Note => Mark::Comment,
+        Kind::Line => Mark::NewLine,
+        Kind::Sign => match token.text {
+            "(" => Mark::Open(Shape::Round),
+            "[" => Mark::Open(Shape::Square),
+            "{" => Mark::Open(Shape::Curly),
+            ")" => Mark::Close(Shape::Round),
+            "]" => Mark::Close(Shape::Square),
+            "}" => Mark::Close(Shape::Curly),
+            "," => Mark::Comma,
+            _ => Mark::Plain,
+        },
+        _ => Mark::Plain,
+    }
+}
+
+pub(crate) fn same_shape(opened: Option<Shape>, shape: Shape) -> bool
+    ensures { result ≡ same_shape opened shape }
+{
+    match (opened, shape) {
+        (Some(Shape::Round), Shape::Round) => true,
+        (Some(Shape::Square), Shape::Square) => true,
+        (Some(Shape::Curly), Shape::Curly) => true,
+        _ => false,
+    }
+}
+
+pub(crate) fn behind_leaf(leaf: &Leaf<'_>) -> Behind
+    ensures { result ≡ kind_behind leaf.now.kind (text_of leaf.now.text) }
+{
+    match leaf.kind {
+        Kind::Ident | Kind::Int | Kind::Text => Behind::Operand,
+        Kind::Word if leaf.text.as_str() == "load" => Behind::LoadWord,
+        _ => Behind::Other,
+    }
+}
+
+pub(crate) fn is_for_leaf(leaf: &Leaf<'_>) -> bool
+    ensures { result ≡ is_for_at leaf.now.kind (text_of leaf.now.text) }
+{
+    leaf.kind == Kind::Word && leaf.text.as_str() == "for"
+}
+
+pub(crate) fn group_kind(shape: Shape, at: Behind, comprehension: bool) -> GroupKind
+    ensures { result ≡ group_kind shape at comprehension }
+{
+    match (shape, at) {
+        (Shape::Round, Behind::Operand) => GroupKind::Call,
+        (Shape::Round, Behind::LoadWord) => GroupKind::Load,
+        (Shape::Round, Behind::Other) => GroupKind::Paren,
+        (Shape::Square, Behind::Operand) => GroupKind::Index,
+        (Shape::Square, _) if comprehension => GroupKind::ListComp,
+        (Shape::Square, _) => GroupKind::List,
+        (Shape::Curly, _) if comprehension => GroupKind::DictComp,
+        (Shape::Curly, _) => GroupKind::Dict,
+    }
+}
+
+/// Whether groups of this kind have one segment, whose commas are nodes.
+pub(crate) fn is_one(kind: GroupKind) -> bool
+    ensures { result ≡ is_one kind }
+{
+    matches!(
+        kind,
+        GroupKind::Index | GroupKind::ListComp | GroupKind::DictComp
+    )
+}

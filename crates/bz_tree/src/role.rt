@@ -1,0 +1,89 @@
+//! What a token is to the grammar.
+
+ghost use Rattle.std.specs.Prelude.{◌≡◌};
+ghost use Rattle.bz_tree.specs.View.{text_of};
+ghost use Rattle.bz_tree.specs.Grammar.{word_role, sign_role, leaf_role};
+
+use crate::stmt::Leaf;
+use bz_token::Kind;
+
+/// What a node is to the grammar.
+#[derive(Clone, Copy, Debug, PartialEq, Eq)]
+pub(crate) enum Role {
+    /// An identifier.
+    Name,
+    Number,
+    /// A string, or a bracket that is an operand.
+    Value,
+    /// A call or an index.
+    Suffix,
+    Dot,
+    Comma,
+    Colon,
+    Equals,
+    /// An augmented assignment.
+    Augmented,
+    If,
+    Else,
+    For,
+    In,
+    Not,
+    Tilde,
+    /// `+` or `-`.
+    Sum,
+    /// `*`.
+    Star,
+    /// `**`.
+    Stars,
+    /// Any other binary operator.
+    Operator,
+    /// What stands nowhere in an expression.
+    Stray,
+}
+
+fn word_role(text: &str) -> Role
+    ensures { result ≡ word_role text.now }
+{
+    match text {
+        "if" => Role::If,
+        "else" => Role::Else,
+        "for" => Role::For,
+        "in" => Role::In,
+        "not" => Role::Not,
+        "and" | "or" => Role::Operator,
+        _ => Role::Stray,
+    }
+}
+
+fn sign_role(text: &str) -> Role
+    ensures { result ≡ sign_role text.now }
+{
+    match text {
+        "." => Role::Dot,
+        "," => Role::Comma,
+        ":" => Role::Colon,
+        "=" => Role::Equals,
+        "~" => Role::Tilde,
+        "*" => Role::Star,
+        "**" => Role::Stars,
+        "+" | "-" => Role::Sum,
+        "+=" | "-=" | "*=" | "/=" | "//=" | "%=" | "&=" | "|=" | "^=" | "<<=" | ">>=" =>
+            Role::Augmented,
+        "==" | "!=" | "<" | ">" | "<=" | ">=" | "|" | "^" | "&" | "<<" | ">>" | "/" | "//" | "%" =>
+            Role::Operator,
+        _ => Role::Stray,
+    }
+}
+
+pub(crate) fn leaf_role(leaf: &Leaf<'_>) -> Role
+    ensures { result ≡ leaf_role leaf.now.kind (text_of leaf.now.text) }
+{
+    match leaf.kind {
+        Kind::Ident => Role::Name,
+        Kind::Int => Role::Number,
+        Kind::Text => Role::Value,
+        Kind::Word => word_role(leaf.text.as_str()),
+        Kind::Sign => sign_role(leaf.text.as_str()),
+        _ => Role::Stray,
+    }
+}

@@ -1,0 +1,326 @@
+//! The recognizer of the grammar: what may come next in a segment.
+
+ghost use Rattle.std.specs.Prelude.{◌≡◌, true, false};
+ghost use Rattle.bz_tree.specs.Machine.{ends, may_be_empty, may_end, behind_left, behind_right, behind_element, behind_target, behind_clause, at_colon, at_end, behind_part, behind_condition, leaves, in_chain, next_wanted, next_behind, next_behind_number, next_name, next_excluded, next_begun, next_argument, next_keyword, next, begin, group_role};
+
+use crate::role::Role;
+use crate::stmt::GroupKind;
+
+/// What is being read: a Test with what may follow it, or (Target) a Primary, or (Clause) a Chain.
+#[derive(Clone, Copy, Debug, PartialEq, Eq)]
+pub(crate) enum Part {
+    /// The tests of a statement, before an assignment sign too.
+    Left,
+    /// The tests behind an assignment sign.
+    Right,
+    /// A test and nothing more.
+    Alone,
+    /// The key of an entry.
+    Key,
+    /// The element of a list comprehension, or the value of a dict comprehension.
+    Element,
+    /// The key of a dict comprehension.
+    EntryKey,
+    /// An index, or where a slice begins.
+    From,
+    /// Where a slice ends.
+    To,
+    /// The step of a slice.
+    Step,
+    /// A variable of a comprehension.
+    Target,
+    /// The sequence or a condition of a comprehension.
+    Clause,
+}
+
+/// What may come next. The flag says that the condition of a conditional is being read.
+#[derive(Clone, Copy, Debug, PartialEq, Eq)]
+pub(crate) enum Stage {
+    /// Nothing: this is no part of the grammar.
+    Refused,
+    /// An operand, or a prefix.
+    Wants(Part, bool),
+    /// What may stand behind an operand.
+    Has(Part, bool),
+    /// The same, directly behind a number.
+    HasNumber(Part, bool),
+    /// The name behind a dot.
+    Names(Part, bool),
+    /// The `in` of `not in`.
+    Excludes(Part, bool),
+    /// The start of a part that may be empty.
+    Begins(Part),
+    /// The start of an argument.
+    Argument,
+    /// What may stand behind the name that begins an argument.
+    Keyword,
+}
+
+fn ends(part: Part) -> bool
+    ensures { result ≡ ends part }
+{
+    !matches!(
+        part,
+        Part::Key | Part::Element | Part::EntryKey | Part::Target
+    )
+}
+
+fn may_be_empty(part: Part) -> bool
+    ensures { result ≡ may_be_empty part }
+{
+    matches!(part, Part::To | Part::Step)
+}
+
+/// Whether a segment may end here.
+pub(crate) fn may_end(stage: Stage) -> bool
+    ensures { result ≡ may_end stage }
+{
+    match stage {
+        Stage::Has(part, asked) | Stage::HasNumber(part, asked) => !asked && ends(part),
+        Stage::Begins(part) => may_be_empty(part),
+        Stage::Keyword => true,
+        _ => false,
+    }
+}
+
+fn behind_left(role: Role) -> Stage
+    ensures { result ≡ behind_left role }
+{
+    match role {
+        Role::Comma => Stage::Wants(Part::Left, false),
+        Role::Equals | Role::Augmented => Stage::Wants(Part::Right, false),
+        Role::If => Stage::Wants(Part::Left, true),
+        _ => Stage::Refused,
+    }
+}
+
+fn behind_right(role: Role) -> Stage
+    ensures { result ≡ behind_right role }
+{
+    match role {
+        Role::Comma => Stage::Wants(Part::Right, false),
+        Role::If => Stage::Wants(Part::Right, true),
+        _ => Stage::Refused,
+    }
+}
+
+fn behind_element(role: Role) -> Stage
+    ensures { result ≡ behind_element role }
+{
+    match role {
+        Role::For => Stage::Wants(Part::Target, false),
+        Role::If => Stage::Wants(Part::Element, true),
+        _ => Stage::Refused,
+    }
+}
+
+fn behind_target(role: Role) -> Stage
+    ensures { result ≡ behind_target role }
+{
+    match role {
+        Role::Comma => Stage::Wants(Part::Target, false),
+        Role::In => Stage::Wants(Part::Clause, false),
+        _ => Stage::Refused,
+    }
+}
+
+fn behind_clause(role: Role) -> Stage
+    ensures { result ≡ behind_clause role }
+{
+    match role {
+        Role::For => Stage::Wants(Part::Target, false),
+        Role::If => Stage::Wants(Part::Clause, false),
+        _ => Stage::Refused,
+    }
+}
+
+// A part that ends at a colon.
+fn at_colon(part: Part, next: Stage, role: Role) -> Stage
+    ensures { result ≡ at_colon part next role }
+{
+    match role {
+        Role::Colon => next,
+        Role::If => Stage::Wants(part, true),
+        _ => Stage::Refused,
+    }
+}
+
+// Nothing but a condition may follow.
+fn at_end(part: Part, role: Role) -> Stage
+    ensures { result ≡ at_end part role }
+{
+    match role {
+        Role::If => Stage::Wants(part, true),
+        _ => Stage::Refused,
+    }
+}
+
+fn behind_part(part: Part, role: Role) -> Stage
+    ensures { result ≡ behind_part part role }
+{
+    match part {
+        Part::Left => behind_left(role),
+        Part::Right => behind_right(role),
+        Part::Alone => at_end(Part::Alone, role),
+        Part::Key => at_colon(Part::Key, Stage::Wants(Part::Alone, false), role),
+        Part::Element => behind_element(role),
+        Part::EntryKey => at_colon(Part::EntryKey, Stage::Wants(Part::Element, false), role),
+        Part::From => at_colon(Part::From, Stage::Begins(Part::To), role),
+        Part::To => at_colon(Part::To, Stage::Begins(Part::Step), role),
+        Part::Step => at_end(Part::Step, role),
+        Part::Target => behind_target(role),
+        Part::Clause => behind_clause(role),
+    }
+}
+
+fn behind_condition(part: Part, role: Role) -> Stage
+    ensures { result ≡ behind_condition part role }
+{
+    match role {
+        Role::Else => Stage::Wants(part, false),
+        _ => Stage::Refused,
+    }
+}
+
+fn leaves(part: Part, asked: bool, role: Role) -> Stage
+    ensures { result ≡ leaves part asked role }
+{
+    if asked {
+        behind_condition(part, role)
+    } else {
+        behind_part(part, role)
+    }
+}
+
+// A stage of chains: a Target has none.
+fn in_chain(part: Part, next: Stage) -> Stage
+    ensures { result ≡ in_chain part next }
+{
+    match part {
+        Part::Target => Stage::Refused,
+        _ => next,
+    }
+}
+
+fn next_wanted(part: Part, asked: bool, role: Role) -> Stage
+    ensures { result ≡ next_wanted part asked role }
+{
+    match role {
+        Role::Name | Role::Value => Stage::Has(part, asked),
+        Role::Number => Stage::HasNumber(part, asked),
+        Role::Sum | Role::Tilde | Role::Not => in_chain(part, Stage::Wants(part, asked)),
+        _ => Stage::Refused,
+    }
+}
+
+fn next_behind(part: Part, asked: bool, role: Role) -> Stage
+    ensures { result ≡ next_behind part asked role }
+{
+    match role {
+        Role::Dot => Stage::Names(part, asked),
+        Role::Suffix => Stage::Has(part, asked),
+        Role::Sum | Role::Star | Role::Operator => in_chain(part, Stage::Wants(part, asked)),
+        Role::In if part == Part::Target => leaves(part, asked, role),
+        Role::In => Stage::Wants(part, asked),
+        Role::Not => in_chain(part, Stage::Excludes(part, asked)),
+        _ => leaves(part, asked, role),
+    }
+}
+
+fn next_behind_number(part: Part, asked: bool, role: Role) -> Stage
+    ensures { result ≡ next_behind_number part asked role }
+{
+    match role {
+        Role::Dot => Stage::Refused,
+        _ => next_behind(part, asked, role),
+    }
+}
+
+fn next_name(part: Part, asked: bool, role: Role) -> Stage
+    ensures { result ≡ next_name part asked role }
+{
+    match role {
+        Role::Name => Stage::Has(part, asked),
+        _ => Stage::Refused,
+    }
+}
+
+fn next_excluded(part: Part, asked: bool, role: Role) -> Stage
+    ensures { result ≡ next_excluded part asked role }
+{
+    match role {
+        Role::In => Stage::Wants(part, asked),
+        _ => Stage::Refused,
+    }
+}
+
+fn next_begun(part: Part, role: Role) -> Stage
+    ensures { result ≡ next_begun part role }
+{
+    match role {
+        Role::Colon => behind_part(part, role),
+        _ => next_wanted(part, false, role),
+    }
+}
+
+fn next_argument(role: Role) -> Stage
+    ensures { result ≡ next_argument role }
+{
+    match role {
+        Role::Star | Role::Stars => Stage::Wants(Part::Alone, false),
+        Role::Name => Stage::Keyword,
+        _ => next_wanted(Part::Alone, false, role),
+    }
+}
+
+fn next_keyword(role: Role) -> Stage
+    ensures { result ≡ next_keyword role }
+{
+    match role {
+        Role::Equals => Stage::Wants(Part::Alone, false),
+        _ => next_behind(Part::Alone, false, role),
+    }
+}
+
+/// The stage behind a node of this role.
+pub(crate) fn next(stage: Stage, role: Role) -> Stage
+    ensures { result ≡ next stage role }
+{
+    match stage {
+        Stage::Refused => Stage::Refused,
+        Stage::Wants(part, asked) => next_wanted(part, asked, role),
+        Stage::Has(part, asked) => next_behind(part, asked, role),
+        Stage::HasNumber(part, asked) => next_behind_number(part, asked, role),
+        Stage::Names(part, asked) => next_name(part, asked, role),
+        Stage::Excludes(part, asked) => next_excluded(part, asked, role),
+        Stage::Begins(part) => next_begun(part, role),
+        Stage::Argument => next_argument(role),
+        Stage::Keyword => next_keyword(role),
+    }
+}
+
+/// The stage in which a segment of a group begins.
+pub(crate) fn begin(kind: GroupKind) -> Stage
+    ensures { result ≡ begin kind }
+{
+    match kind {
+        GroupKind::Call | GroupKind::RuleCall => Stage::Argument,
+        GroupKind::Load => Stage::Refused,
+        GroupKind::Paren | GroupKind::List => Stage::Wants(Part::Alone, false),
+        GroupKind::Index => Stage::Begins(Part::From),
+        GroupKind::Dict => Stage::Wants(Part::Key, false),
+        GroupKind::ListComp => Stage::Wants(Part::Element, false),
+        GroupKind::DictComp => Stage::Wants(Part::EntryKey, false),
+    }
+}
+
+/// What a group whose segments are in the grammar is.
+pub(crate) fn group_role(kind: GroupKind) -> Role
+    ensures { result ≡ group_role kind }
+{
+    match kind {
+        GroupKind::Call | GroupKind::RuleCall | GroupKind::Index => Role::Suffix,
+        GroupKind::Load => Role::Stray,
+        _ => Role::Value,
+    }
+}
