@@ -1,0 +1,4 @@
+pub mod Views
+pub mod Pieces
+pub mod Fronts
+pub mod Quotes
