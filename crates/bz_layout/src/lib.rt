@@ -8,6 +8,7 @@
 mod broken;
 mod flat_text;
 mod gaps;
+pub mod laws;
 mod marks;
 mod respell;
 mod spacing;
