@@ -1,4 +1,10 @@
 pub mod Places
+pub mod Lexical
+pub mod Brackets
+pub mod Reading
+pub mod Faults
+pub mod Ends
+pub mod Scans
 pub mod Groups
 pub mod Munch
 pub mod Pieces

@@ -1,10 +1,22 @@
 //! The lowest layer: the tokens of a BUILD file with their places.
 #![tactic(auto)]
 
+mod brackets;
 mod cutter;
 mod fault;
+mod gap;
+mod lexer;
+mod scan;
+mod scan_string;
+mod scan_token;
 mod token;
+mod utf8;
 
 pub use cutter::{Cut, Cutter};
 pub use fault::LexFault;
+pub use lexer::tokens;
 pub use token::{Kind, Token};
+pub use utf8::check_utf8;
+
+#[cfg(test)]
+mod tests;

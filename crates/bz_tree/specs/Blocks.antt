@@ -127,6 +127,9 @@ pub record IsKeptText (first : ℕ) (bytes : List ℕ) (header last : Placed) (k
 abbrev pub kept_leaf : List ℕ → Placed → Item
 kept_leaf kept t = leaf Kept kept (record { line = t.line; col = t.col; fresh = t.fresh })
 
+abbrev pub kept_statement : List (List ℕ) → List ℕ → Placed → ℕ → Statement
+kept_statement before kept header end = record { before = before; nodes = kept_leaf kept header ∷ []; suffix = None; class = Block; start = header.line; end = end }
+
 -- The block that the tokens are: its text from the header's first token to the end of its last token, comments counted.
 pub record IsBlockOf (first : ℕ) (bytes : List ℕ) (tokens : List Placed) (s : Statement) : Type 0 where
   pub header : Placed
@@ -136,4 +139,4 @@ pub record IsBlockOf (first : ℕ) (bytes : List ℕ) (tokens : List Placed) (s 
   pub is_last : last_seen tokens ≡ Some last
   pub is_kept : IsKeptText first bytes header last kept
   pub is_block : is_block tokens ≡ true
-  pub is : s ≡ record { before = above tokens; nodes = kept_leaf kept header ∷ []; suffix = None; class = Block; start = header.line; end = end_line last }
+  pub is : s ≡ kept_statement (above tokens) kept header (end_line last)

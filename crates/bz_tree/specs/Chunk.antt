@@ -1,8 +1,14 @@
 -- The statement of a chunk, or its fault, by the chunk's tokens.
-use Rattle.std.specs.Prelude.{ℕ, List, Bool, true, false, if◌then◌else◌, ◌==◌, Option, Some, None}
+use Rattle.std.specs.Prelude.{ℕ, List, Bool, true, false, if◌then◌else◌, ◌≡◌, ◌==◌, Option, Some, None, IsSome, IsNone}
+use Rattle.bz_token.specs.declared.fault.LexFault.{LexFault}
+use Rattle.bz_token.specs.declared.fault.LexFault.TheVariants.{OutOfMemory as NoMemory}
 use Rattle.bz_token.specs.Places.{Placed}
+use Rattle.bz_token.specs.Reading.{AreTokensOf}
+use Rattle.bz_token.specs.Faults.{IsFault}
+use Rattle.bz_tree.specs.declared.fault.ParseFault.{ParseFault}
+use Rattle.bz_tree.specs.declared.fault.ParseFault.TheVariants.{OutOfMemory, Lex, Indented, NotAStatement}
 use Rattle.bz_tree.specs.Tree.{Statement, items_of}
-use Rattle.bz_tree.specs.Statement.{IsStatementOf, first_token}
+use Rattle.bz_tree.specs.Statement.{IsStatementOf, first_token, first_seen, start_of}
 use Rattle.bz_tree.specs.Grammar.{IsStatement}
 use Rattle.bz_tree.specs.Blocks.{is_block_word, block_indent, IsBlockOf}
 
@@ -31,3 +37,51 @@ IsOneOf false first bytes tokens s = IsPlain tokens s
 -- The statement of a chunk of these bytes with these tokens.
 abbrev pub IsChunkOf : ℕ → List ℕ → List Placed → Statement → Type 0
 IsChunkOf first bytes tokens s = IsOneOf (begins_block (first_token tokens)) first bytes tokens s
+
+-- These tokens are read as the statement: it begins on its column, and is no blank chunk.
+pub record IsReadAs (first : ℕ) (bytes : List ℕ) (tokens : List Placed) (s : Statement) : Type 0 where
+  pub upright : indent_fault tokens ≡ None
+  pub some : IsSome (first_seen tokens)
+  pub chunk : IsChunkOf first bytes tokens s
+
+-- no statement has these tokens, and it is not that it is indented; the line is that of the first token
+pub record IsNoStatement (first : ℕ) (bytes : List ℕ) (tokens : List Placed) (line : ℕ) : Type 0 where
+  pub upright : indent_fault tokens ≡ None
+  pub none : (s : Statement) → IsChunkOf first bytes tokens s → ⊥
+  pub line_is : line ≡ start_of tokens
+
+-- the fault of a chunk with these tokens
+abbrev pub IsTokenFault : ℕ → List ℕ → List Placed → ParseFault → Type 0
+IsTokenFault first bytes tokens OutOfMemory = Unit {0}
+IsTokenFault first bytes tokens (Lex fault) = ⊥
+IsTokenFault first bytes tokens (Indented line) = indent_fault tokens ≡ Some line
+IsTokenFault first bytes tokens (NotAStatement line) = IsNoStatement first bytes tokens line
+
+-- The statement of a chunk's bytes. Lines count from `first`, and at most `depth` brackets are open at once.
+pub record IsStatementIn (first depth : ℕ) (bytes : List ℕ) (s : Statement) : Type 0 where
+  pub tokens : List Placed
+  pub are : AreTokensOf first depth bytes tokens
+  pub reads : IsReadAs first bytes tokens s
+
+-- a chunk of white space alone
+pub record IsBlank (first depth : ℕ) (bytes : List ℕ) : Type 0 where
+  pub tokens : List Placed
+  pub are : AreTokensOf first depth bytes tokens
+  pub none : IsNone (first_seen tokens)
+
+-- a fault of a chunk that has tokens
+pub record HasTokenFault (first depth : ℕ) (bytes : List ℕ) (fault : ParseFault) : Type 0 where
+  pub tokens : List Placed
+  pub are : AreTokensOf first depth bytes tokens
+  pub is : IsTokenFault first bytes tokens fault
+
+abbrev pub IsLexical : LexFault → Type 0
+IsLexical NoMemory = ⊥
+IsLexical fault = Unit {0}
+
+-- The first fault of a chunk: lexical faults come before wrong indents, and these before the grammar. Want of memory is none of the
+-- chunk's.
+abbrev pub IsFaultIn : ℕ → ℕ → List ℕ → ParseFault → Type 0
+IsFaultIn first depth bytes OutOfMemory = Unit {0}
+IsFaultIn first depth bytes (Lex fault) = IsFault first depth bytes fault × IsLexical fault
+IsFaultIn first depth bytes fault = HasTokenFault first depth bytes fault

@@ -8,4 +8,5 @@ pub mod Steps
 pub mod Grammar
 pub mod Blocks
 pub mod Chunk
+pub mod BlockSteps
 pub mod Machine

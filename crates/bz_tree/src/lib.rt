@@ -1,13 +1,16 @@
 //! The statement of a chunk: its bracket tree and the owners of its comments.
 #![tactic(auto)]
 
+mod block;
 mod build;
+mod chunk;
 mod class;
 mod copy;
+mod fault;
 mod grammar;
+mod kept;
 mod kinds;
 mod owners;
-mod parse;
 mod role;
 mod span;
 mod stage;
@@ -15,4 +18,6 @@ mod stmt;
 #[cfg(test)]
 mod tests;
 
+pub use chunk::parse;
+pub use fault::ParseFault;
 pub use stmt::{Class, Group, GroupKind, Leaf, Node, Seg, Stmt};

@@ -45,7 +45,7 @@ pub(crate) fn first_seen<'a>(tokens: &[Token<'a>]) -> Option<Token<'a>>
     None
 }
 
-fn last_token<'a>(tokens: &[Token<'a>]) -> Option<Token<'a>>
+pub(crate) fn last_token<'a>(tokens: &[Token<'a>]) -> Option<Token<'a>>
     ensures { option_map placed result ≡ last_token (map placed tokens.now) }
 {
     let mut last = None;

@@ -5,7 +5,7 @@ ghost use Rattle.bz_token.specs.Places.{placed};
 ghost use Rattle.bz_tree.specs.Brackets.{end_line};
 ghost use Rattle.bz_tree.specs.Statement.{EndsFit};
 
-use crate::parse::plain_statement;
+use crate::chunk::plain_statement;
 use crate::stmt::{Class, Group, GroupKind, Node, Seg, Stmt};
 use bz_token::{Kind, Token};
 use std::alloc::{AllocError, Global};

@@ -5,7 +5,7 @@ use Rattle.bz_tree.specs.View.{seg_view, nodes_view}
 use Rattle.bz_tree.specs.Machine.{is_statement}
 use Rattle.bz_tree.proofs.Views.{view-seg}
 use Rattle.bz_tree.proofs.Plain.{plain_is, plain_only, no_plain_tree, no_plain_grammar}
-use Rattle.bz_tree.proofs.parse.plain_statement.Goals as goal
+use Rattle.bz_tree.proofs.chunk.plain_statement.Goals as goal
 
 pub returns-in_default-clause-none : goal.returns-in_default-clause-none
 returns-in_default-clause-none c = no_plain_tree (map placed c.args.tokens.now) (sym c.in_ok-seg.ensures ∙ ap (option_map seg_view) c.in_default.is)

@@ -1,0 +1,112 @@
+-- Tokens and the brackets that are open where they stand.
+use Rattle.std.proofs.Common.{◌≡◌, ℕ, zero, suc, ◌<◌, ◌≤◌, ◌==◌, ◌&&◌, ◌||◌, List, [], ◌∷◌, ◌++◌, length, take, get_or, Bool, true, false, not, refl, sym, ap, subst, ◌∙◌, arith, inl, inr}
+use Rattle.std.proofs.lemmas.Bool.{cases_Bool, or_cases, false≢true, eqb-true}
+use Rattle.bz_token.specs.declared.token.Kind.{Kind}
+use Rattle.bz_token.specs.declared.token.Kind.TheVariants.{Ident, Word, Int, Text, Sign, Line, Note, Kept}
+use Rattle.bz_token.specs.Lexical.{signs, is_sign, is_text}
+use Rattle.bz_token.specs.Brackets.{is_inside, is_opening_bracket, is_closing_bracket, is_line, bracket_fits, fits, open_behind_byte, open_behind}
+use Rattle.bz_token.specs.Reading.{begins_gap, is_white, continues}
+use Rattle.bz_token.proofs.Classes.{mark, class_of, can_start, text_class, one_of, same_bytes}
+use Rattle.bz_token.proofs.Scanning.{marks}
+
+abbrev pub is_bracket_byte : ℕ → Bool
+is_bracket_byte b = is_opening_bracket b || is_closing_bracket b
+
+-- a bracket is a sign of its own
+abbrev stands_alone : List ℕ → Bool
+stands_alone [] = true
+stands_alone (b ∷ []) = true
+stands_alone (b ∷ c ∷ bs) = not (is_bracket_byte b)
+
+sign_alone : (text : List ℕ) → is_sign text ≡ true → stands_alone text ≡ true
+unfolding signs
+sign_alone text is = one_of stands_alone signs text refl is
+
+opening_class : (b : ℕ) → is_opening_bracket b ≡ true → class_of b ≡ mark
+opening_class b h =
+    elim (or_cases (b == 40 || b == 91) (b == 123) h) [
+      | inr third ↦ let same : b ≡ 123 = eqb-true b 123 third in rw same refl
+      | inl two ↦ elim (or_cases (b == 40) (b == 91) two) [
+        | inl first ↦ let same : b ≡ 40 = eqb-true b 40 first in rw same refl
+        | inr second ↦ let same : b ≡ 91 = eqb-true b 91 second in rw same refl
+      ]
+    ]
+
+closing_class : (b : ℕ) → is_closing_bracket b ≡ true → class_of b ≡ mark
+closing_class b h =
+    elim (or_cases (b == 41 || b == 93) (b == 125) h) [
+      | inr third ↦ let same : b ≡ 125 = eqb-true b 125 third in rw same refl
+      | inl two ↦ elim (or_cases (b == 41) (b == 93) two) [
+        | inl first ↦ let same : b ≡ 41 = eqb-true b 41 first in rw same refl
+        | inr second ↦ let same : b ≡ 93 = eqb-true b 93 second in rw same refl
+      ]
+    ]
+
+bracket_class : (b : ℕ) → is_bracket_byte b ≡ true → class_of b ≡ mark
+bracket_class b h = elim (or_cases (is_opening_bracket b) (is_closing_bracket b) h) [
+  | inl opens ↦ opening_class b opens
+  | inr closes ↦ closing_class b closes
+]
+
+-- a longer text begins with no bracket
+pub no_bracket : (kind : Kind) (b c : ℕ) (bs : List ℕ) → is_text kind (b ∷ c ∷ bs) ≡ true → is_bracket_byte b ≡ false
+no_bracket kind b c bs is = elim (cases_Bool (is_bracket_byte b)) [
+  | inr miss ↦ miss
+  | inl hit ↦
+      let sign : kind ≡ Sign = marks kind (ap (can_start kind) (sym (bracket_class b hit)) ∙ text_class kind b (c ∷ bs) is) in
+      absurd (false≢true (sym (ap not hit) ∙ sign_alone (b ∷ c ∷ bs) (subst (λ k. is_text k (b ∷ c ∷ bs) ≡ true) sign is)))
+]
+
+or_none : (x y : Bool) → (x || y) ≡ false → (x ≡ false) × (y ≡ false)
+or_none true y h = absurd (false≢true (sym h))
+or_none false y h = (refl, h)
+
+-- the open brackets behind a token are those behind its first byte
+pub open_behind_first : (kind : Kind) (opened : List ℕ) (b : ℕ) (bs : List ℕ) → is_text kind (b ∷ bs) ≡ true → open_behind_byte opened b ≡ open_behind opened (b ∷ bs)
+open_behind_first kind opened b [] is = refl
+open_behind_first kind opened b (c ∷ bs) is =
+    let none = or_none (is_opening_bracket b) (is_closing_bracket b) (no_bracket kind b c bs is) in
+    plain none.0 none.1
+  where
+    plain : is_opening_bracket b ≡ false → is_closing_bracket b ≡ false → open_behind_byte opened b ≡ opened
+    plain o c = rw (o, c) refl
+
+-- no newline is a token within brackets, since it is white space there
+pub fits_first : (depth : ℕ) (kind : Kind) (opened : List ℕ) (b : ℕ) (bs behind : List ℕ) → is_text kind (b ∷ bs) ≡ true → begins_gap (is_inside opened) (b ∷ bs ++ behind) ≡ false → bracket_fits depth opened b ≡ true → fits depth opened kind (b ∷ bs) ≡ true
+fits_first depth kind opened b (c ∷ bs) behind is gap fit = refl
+fits_first depth kind opened b [] behind is gap fit = both _ _ (outside kind is) fit
+  where
+    both : (x y : Bool) → x ≡ true → y ≡ true → (x && y) ≡ true
+    both x y p q = rw (p, q) refl
+
+    newline : (opened : List ℕ) → b ≡ 10 → is_white (is_inside opened) b ≡ false → not (is_inside opened) ≡ true
+    newline [] same none = refl
+    newline (a ∷ opened) same none = absurd (false≢true (sym none ∙ rw same refl))
+
+    outside : (kind : Kind) → is_text kind (b ∷ []) ≡ true → not (is_line kind && is_inside opened) ≡ true
+    outside Line is = newline opened (first_same (same_bytes (b ∷ []) (10 ∷ []) is)) (or_none (is_white (is_inside opened) b) (continues (b ∷ behind)) gap).0
+      where
+        first_same : b ∷ [] ≡ 10 ∷ [] → b ≡ 10
+        first_same e = cc
+    outside Ident is = refl
+    outside Word is = refl
+    outside Int is = refl
+    outside Text is = refl
+    outside Sign is = refl
+    outside Note is = refl
+    outside Kept is = refl
+
+-- the same of the front of some bytes
+pub token_fits : (depth : ℕ) (kind : Kind) (opened after text behind : List ℕ) (n : ℕ) → 0 < n → n ≤ length after → text ≡ take n after → after ≡ text ++ behind → is_text kind text ≡ true → begins_gap (is_inside opened) after ≡ false
+    → bracket_fits depth opened (get_or after 0 0) ≡ true → (fits depth opened kind text ≡ true) × (open_behind_byte opened (get_or after 0 0) ≡ open_behind opened text)
+token_fits depth kind opened after [] behind n some within front split is gap fit = absurd (nothing after n some within front)
+  where
+    nothing : (after : List ℕ) (n : ℕ) → 0 < n → n ≤ length after → [] ≡ take n after → ⊥
+    nothing [] n some within front = omega arith
+    nothing (a ∷ after) zero some within front = omega arith
+    nothing (a ∷ after) (suc n) some within front = cc
+token_fits depth kind opened after (b ∷ bs) behind n some within front split is gap fit =
+    let first : get_or after 0 0 ≡ b = ap (λ xs. get_or xs 0 0) split in (
+      fits_first depth kind opened b bs behind is (ap (begins_gap (is_inside opened)) (sym split) ∙ gap) (ap (bracket_fits depth opened) (sym first) ∙ fit),
+      ap (open_behind_byte opened) first ∙ open_behind_first kind opened b bs is,
+    )

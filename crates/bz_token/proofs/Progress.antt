@@ -1,0 +1,322 @@
+-- How far a text has been read.
+use Rattle.std.proofs.Common.{◌≡◌, ℕ, zero, suc, ◌+◌, ◌-◌, ◌<◌, ◌≤◌, ◌==◌, List, [], ◌∷◌, ◌++◌, length, take, drop, get_or, cond, Bool, true, false, not, refl, sym, ap, ap₂, subst, ◌∙◌, arith, inl, inr, IsUtf8, append_assoc, append-nil, length-append, take-append-drop}
+use Rattle.std.specs.Prelude.{count_by, nat_eq, Option, Some, None}
+use Rattle.std.specs.Option.{option_eq}
+use Rattle.std.specs.List.{list_any}
+use Rattle.std.specs.Str.{IsCharBoundary}
+use Rattle.std.proofs.lemmas.Bool.{cases_Bool, false≢true}
+use Rattle.std.proofs.lemmas.Bool.Decides.{nat_tests}
+use Rattle.std.proofs.lemmas.Grind.{common_steps}
+use Rattle.std.proofs.lemmas.Str.{IsCharBoundary-start, IsUtf8-drop}
+use Rattle.bz_token.specs.declared.token.Kind.{Kind}
+use Rattle.bz_token.specs.Places.{Placed, line_at, column_from, column_at}
+use Rattle.bz_token.specs.Lexical.{begins, is_newline, IsToken}
+use Rattle.bz_token.specs.Brackets.{is_inside, is_opening_bracket, is_closing_bracket, fits, open_behind, open_tokens}
+use Rattle.bz_token.specs.Reading.{is_gap, begins_gap, Piece, IsPiece, IsReading, open_after, bytes_of, token_of, tokens_of, AreTokensOf}
+use Rattle.bz_token.specs.Faults.{IsFaultAt, IsOpenBracket}
+use Rattle.bz_token.proofs.Innermost.{step}
+use Rattle.bz_token.proofs.Scanning.{boundary_behind}
+
+abbrev pub newlines : List ℕ → ℕ
+newlines bytes = count_by (λ b. b == 10) bytes
+
+pub newlines-append : (xs ys : List ℕ) → newlines (xs ++ ys) ≡ newlines xs + newlines ys
+newlines-append xs ys = grind (arith, common_steps)
+
+pub column_from-append : (c : ℕ) (xs ys : List ℕ) → column_from c (xs ++ ys) ≡ column_from (column_from c xs) ys
+column_from-append c [] ys = refl
+column_from-append c (x ∷ xs) ys = column_from-append (cond (x == 10) 1 (c + 1)) xs ys
+
+pub column_from-bounds : (c : ℕ) (xs : List ℕ) → 0 < c → (0 < column_from c xs) × (column_from c xs ≤ c + length xs)
+column_from-bounds c [] h = (h, omega arith)
+column_from-bounds c (x ∷ xs) h =
+    elim (cases_Bool (x == 10)) [
+      | inl hit ↦ let r = column_from-bounds 1 xs (omega arith) in rw hit (r.0, omega (arith, r.1))
+      | inr miss ↦ let r = column_from-bounds (c + 1) xs (omega arith) in rw miss (r.0, omega (arith, r.1))
+    ]
+
+-- bytes without a newline
+pub one_line_newlines : (xs : List ℕ) → list_any is_newline xs ≡ false → newlines xs ≡ 0
+one_line_newlines [] h = refl
+one_line_newlines (x ∷ xs) h = elim (cases_Bool (x == 10)) [
+  | inl hit ↦ absurd (false≢true (sym h ∙ rw hit refl))
+  | inr miss ↦ rw miss (one_line_newlines xs (rw miss at h))
+]
+
+pub one_line_column : (c : ℕ) (xs : List ℕ) → list_any is_newline xs ≡ false → column_from c xs ≡ c + length xs
+one_line_column c [] h = omega arith
+one_line_column c (x ∷ xs) h = elim (cases_Bool (x == 10)) [
+  | inl hit ↦ absurd (false≢true (sym h ∙ rw hit refl))
+  | inr miss ↦ rw miss (one_line_column (c + 1) xs (rw miss at h) ∙ omega arith)
+]
+
+pub reading_bytes : (depth : ℕ) (opened : List ℕ) (ps : List Piece) (rest bytes : List ℕ) → IsReading depth opened ps rest bytes → bytes ≡ bytes_of ps ++ rest
+reading_bytes depth opened [] rest bytes r = r
+reading_bytes depth opened (p ∷ ps) rest bytes r =
+    r.1.bytes_are ∙ ap (λ x. p.gap ++ (p.text ++ x)) (reading_bytes depth (open_behind opened p.text) ps rest r.0 r.2) ∙ simp append_assoc
+
+pub reading_push : (depth : ℕ) (opened : List ℕ) (ps : List Piece) (p : Piece) (rest after bytes : List ℕ) → IsReading depth opened ps rest bytes → IsPiece depth (open_after opened ps) p rest after → IsReading depth opened (ps ++ p ∷ []) after bytes
+reading_push depth opened [] p rest after bytes r piece = (after, subst (λ x. IsPiece depth opened p x after) (sym r) piece, refl)
+reading_push depth opened (q ∷ ps) p rest after bytes r piece = (r.0, r.1, reading_push depth (open_behind opened q.text) ps p rest after r.0 r.2 piece)
+
+pub open_after-push : (opened : List ℕ) (ps : List Piece) (p : Piece) → open_after opened (ps ++ p ∷ []) ≡ open_behind (open_after opened ps) p.text
+open_after-push opened [] p = refl
+open_after-push opened (q ∷ ps) p = open_after-push (open_behind opened q.text) ps p
+
+pub bytes_of-push : (ps : List Piece) (p : Piece) → bytes_of (ps ++ p ∷ []) ≡ bytes_of ps ++ (p.gap ++ p.text)
+bytes_of-push [] p = ap (λ x. p.gap ++ x) (append-nil p.text)
+bytes_of-push (q ∷ ps) p = rw (bytes_of-push ps p) (simp append_assoc)
+
+-- the lines on which tokens of pieces begin, the newest first
+abbrev pub lines_of : ℕ → List ℕ → List ℕ → List Piece → List ℕ
+lines_of first before lines [] = lines
+lines_of first before lines (p ∷ ps) = lines_of first (before ++ (p.gap ++ p.text)) (line_at first (before ++ p.gap) ∷ lines) ps
+
+pub tokens_of-push : (first : ℕ) (before lines : List ℕ) (ps : List Piece) (p : Piece)
+    → tokens_of first before lines (ps ++ p ∷ []) ≡ tokens_of first before lines ps ++ token_of first (before ++ (bytes_of ps ++ p.gap)) (lines_of first before lines ps) p ∷ []
+tokens_of-push first before lines [] p = refl
+tokens_of-push first before lines (q ∷ ps) p =
+    let same : (before ++ (q.gap ++ q.text)) ++ (bytes_of ps ++ p.gap) ≡ before ++ ((q.gap ++ (q.text ++ bytes_of ps)) ++ p.gap) = simp append_assoc in
+    let more = line_at first (before ++ q.gap) ∷ lines in
+    ap (λ ts. token_of first (before ++ q.gap) lines q ∷ ts)
+    (tokens_of-push first (before ++ (q.gap ++ q.text)) more ps p
+    ∙ ap (λ b. tokens_of first (before ++ (q.gap ++ q.text)) more ps ++ token_of first b (lines_of first (before ++ (q.gap ++ q.text)) more ps) p ∷ []) same)
+
+pub lines_of-push : (first : ℕ) (before lines : List ℕ) (ps : List Piece) (p : Piece)
+    → lines_of first before lines (ps ++ p ∷ []) ≡ line_at first (before ++ (bytes_of ps ++ p.gap)) ∷ lines_of first before lines ps
+lines_of-push first before lines [] p = refl
+lines_of-push first before lines (q ∷ ps) p =
+    let same : (before ++ (q.gap ++ q.text)) ++ (bytes_of ps ++ p.gap) ≡ before ++ ((q.gap ++ (q.text ++ bytes_of ps)) ++ p.gap) = simp append_assoc in
+    let more = line_at first (before ++ q.gap) ∷ lines in
+    lines_of-push first (before ++ (q.gap ++ q.text)) more ps p
+    ∙ ap (λ b. line_at first b ∷ lines_of first (before ++ (q.gap ++ q.text)) more ps) same
+
+-- lines that never fall, the newest first
+abbrev pub Descends : ℕ → List ℕ → Type 0
+Descends bound [] = Unit {0}
+Descends bound (l ∷ ls) = (l ≤ bound) × Descends l ls
+
+pub descends_more : (a b : ℕ) (ls : List ℕ) → a ≤ b → Descends a ls → Descends b ls
+descends_more a b [] h d = tt
+descends_more a b (l ∷ ls) h d = (omega (arith, d.0), d.1)
+
+below : (bound line : ℕ) (ls : List ℕ) → Descends bound ls → bound < line → list_any (λ l. l == line) ls ≡ false
+below bound line [] d h = refl
+below bound line (l ∷ ls) d h =
+    let apart : (l == line) ≡ false = differs l line (omega (arith, d.0)) in
+    rw apart (below l line ls d.1 (omega (arith, d.0)))
+  where
+    differs : (a b : ℕ) → a < b → (a == b) ≡ false
+    differs a b h = grind (arith, nat_tests)
+
+-- the newest line
+abbrev pub newest : List ℕ → Option ℕ
+newest [] = None
+newest (l ∷ ls) = Some l
+
+abbrev pub same_line : Option ℕ → ℕ → Bool
+same_line None line = false
+same_line (Some l) line = l == line
+
+-- a line is new where the newest is another
+pub new_line : (line : ℕ) (ls : List ℕ) → Descends line ls → (fresh : Bool) → fresh ≡ not (same_line (newest ls) line) → fresh ≡ not (list_any (λ l. l == line) ls)
+new_line line ls d fresh is = is ∙ ap not (found line ls d)
+  where
+    less : (l line : ℕ) → l ≤ line → (l == line) ≡ false → l < line
+    less l line h apart = grind (arith, nat_tests)
+
+    found : (line : ℕ) (ls : List ℕ) → Descends line ls → same_line (newest ls) line ≡ list_any (λ l. l == line) ls
+    found line [] d = refl
+    found line (l ∷ ls) d = elim (cases_Bool (l == line)) [
+      | inl hit ↦ rw hit refl
+      | inr miss ↦ rw miss (sym (below l line ls d.1 (less l line d.0 miss)))
+    ]
+
+-- the loop's invariant: what the tokens so far stand for
+pub record Progress (first depth : ℕ) (bytes : List ℕ) (tokens : List Placed) (opened : List ℕ) (last : Option ℕ) (rest : List ℕ) (line col : ℕ) : Type 0 where
+  pub pieces : List Piece
+  pub reading : IsReading depth [] pieces rest bytes
+  pub opened_are : opened ≡ open_after [] pieces
+  pub tokens_are : tokens ≡ tokens_of first [] [] pieces
+  pub last_is : last ≡ newest (lines_of first [] [] pieces)
+  pub descends : Descends (line_at first (bytes_of pieces)) (lines_of first [] [] pieces)
+  pub line_is : line ≡ line_at first (bytes_of pieces)
+  pub col_is : col ≡ column_at (bytes_of pieces)
+  pub utf8 : IsUtf8 rest
+
+-- the place behind a gap
+pub record BehindGap (first depth : ℕ) (bytes : List ℕ) (tokens : List Placed) (opened : List ℕ) (last : Option ℕ) (gap after : List ℕ) (line col : ℕ) : Type 0 where
+  pub pieces : List Piece
+  pub reading : IsReading depth [] pieces (gap ++ after) bytes
+  pub is_gap : is_gap (is_inside (open_after [] pieces)) gap ≡ true
+  pub behind_gap : begins_gap (is_inside (open_after [] pieces)) after ≡ false
+  pub opened_are : opened ≡ open_after [] pieces
+  pub tokens_are : tokens ≡ tokens_of first [] [] pieces
+  pub last_is : last ≡ newest (lines_of first [] [] pieces)
+  pub descends : Descends (line_at first (bytes_of pieces)) (lines_of first [] [] pieces)
+  pub line_is : line ≡ line_at first (bytes_of pieces ++ gap)
+  pub col_is : col ≡ column_at (bytes_of pieces ++ gap)
+  pub utf8 : IsUtf8 after
+
+-- the places that are still to come fit
+pub places_fit : (first depth : ℕ) (bytes : List ℕ) (ps : List Piece) (rest : List ℕ) → IsReading depth [] ps rest bytes
+    → (line_at first (bytes_of ps) + newlines rest ≡ first + newlines bytes) × (column_at (bytes_of ps) + length rest ≤ length bytes + 1) × (0 < column_at (bytes_of ps))
+places_fit first depth bytes ps rest r =
+    let whole = reading_bytes depth [] ps rest bytes r in
+    let bounds = column_from-bounds 1 (bytes_of ps) (omega arith) in (
+      omega (arith, ap newlines whole, newlines-append (bytes_of ps) rest),
+      omega (arith, ap length whole, length-append (bytes_of ps) rest, bounds.1),
+      bounds.0,
+    )
+
+-- reading goes on behind a gap
+pub behind_gap : (first depth : ℕ) (bytes : List ℕ) (tokens : List Placed) (opened : List ℕ) (last : Option ℕ) (rest gap after : List ℕ) (line col l c n : ℕ) → Progress first depth bytes tokens opened last rest line col
+    → is_gap (is_inside opened) (take n rest) ≡ true → begins_gap (is_inside opened) (drop n rest) ≡ false → IsCharBoundary rest n
+    → gap ≡ take n rest → after ≡ drop n rest → l ≡ line + newlines gap → c ≡ column_from col gap
+    → BehindGap first depth bytes tokens opened last gap after l c
+behind_gap first depth bytes tokens opened last rest gap after line col l c n before white none cut gap_is_front after_is line_moves col_moves =
+    let whole : rest ≡ gap ++ after = rw (gap_is_front, after_is, take-append-drop) refl in
+    record {
+      pieces = before.pieces;
+      reading = rw whole at before.reading;
+      is_gap = rw gap_is_front (subst (λ o. is_gap (is_inside o) (take n rest) ≡ true) before.opened_are white);
+      behind_gap = rw after_is (subst (λ o. begins_gap (is_inside o) (drop n rest) ≡ false) before.opened_are none);
+      opened_are = before.opened_are;
+      tokens_are = before.tokens_are;
+      last_is = before.last_is;
+      descends = before.descends;
+      line_is = omega (arith, before.line_is, newlines-append (bytes_of before.pieces) gap);
+      col_is = rw (column_from-append, ← before.col_is) col_moves;
+      utf8 = rw after_is (IsUtf8-drop rest n before.utf8 cut);
+    }
+
+-- what a place behind a gap says of the whole text
+pub behind_fits : (first depth : ℕ) (bytes : List ℕ) (tokens : List Placed) (opened : List ℕ) (last : Option ℕ) (gap after : List ℕ) (line col : ℕ) → BehindGap first depth bytes tokens opened last gap after line col
+    → (line + newlines after ≡ first + newlines bytes) × (col + length after ≤ length bytes + 1) × (0 < col)
+behind_fits first depth bytes tokens opened last gap after line col b =
+    let whole : bytes ≡ (bytes_of b.pieces ++ gap) ++ after = reading_bytes depth [] b.pieces (gap ++ after) bytes b.reading ∙ sym (append_assoc (bytes_of b.pieces) gap after) in
+    let bounds = column_from-bounds 1 (bytes_of b.pieces ++ gap) (omega arith) in (
+      omega (arith, ap newlines whole, newlines-append (bytes_of b.pieces ++ gap) after, b.line_is),
+      omega (arith, ap length whole, length-append (bytes_of b.pieces ++ gap) after, bounds.1, b.col_is),
+      omega (arith, bounds.0, b.col_is),
+    )
+
+pub newlines_split : (xs front back : List ℕ) (n : ℕ) → front ≡ take n xs → back ≡ drop n xs → (newlines front + newlines back ≡ newlines xs) × (length front + length back ≡ length xs)
+newlines_split xs front back n is_front is_back =
+    let whole : xs ≡ front ++ back = rw (is_front, is_back, take-append-drop) refl in
+    (omega (arith, ap newlines whole, newlines-append front back), omega (arith, ap length whole, length-append front back))
+
+-- reading goes on behind a token
+pub behind_token : (first depth : ℕ) (bytes : List ℕ) (tokens : List Placed) (opened opened' : List ℕ) (last : Option ℕ) (gap after text behind : List ℕ) (kind : Kind) (line col l c : ℕ) (fresh : Bool)
+    → BehindGap first depth bytes tokens opened last gap after line col → after ≡ text ++ behind → IsToken kind text behind → fits depth opened kind text ≡ true → opened' ≡ open_behind opened text
+    → fresh ≡ not (same_line last line) → IsUtf8 behind → l ≡ line + newlines text → c ≡ column_from col text
+    → Progress first depth bytes (tokens ++ record { kind = kind; text = text; line = line; col = col; fresh = fresh } ∷ []) opened' (Some line) behind l c
+behind_token first depth bytes tokens opened opened' last gap after text behind kind line col l c fresh before split token fit opens is_fresh utf8 line_moves col_moves =
+    let p : Piece = record { gap = gap; kind = kind; text = text } in
+    let ps = before.pieces in
+    let whole : bytes_of (ps ++ p ∷ []) ≡ (bytes_of ps ++ gap) ++ text = bytes_of-push ps p ∙ sym (append_assoc (bytes_of ps) gap text) in
+    let lines = lines_of first [] [] ps in
+    let here : Descends line lines = descends_more (line_at first (bytes_of ps)) line lines (omega (arith, before.line_is, newlines-append (bytes_of ps) gap)) before.descends in
+    let is_new : fresh ≡ not (list_any (λ x. x == line) lines) = new_line line lines here fresh (is_fresh ∙ ap (λ o. not (same_line o line)) before.last_is) in
+    let push : lines_of first [] [] (ps ++ p ∷ []) ≡ line ∷ lines = lines_of-push first [] [] ps p ∙ ap (λ x. x ∷ lines) (sym before.line_is) in
+    let now : l ≡ line_at first (bytes_of (ps ++ p ∷ [])) = omega (arith, before.line_is, ap newlines whole, newlines-append (bytes_of ps ++ gap) text) in
+    record {
+      pieces = ps ++ p ∷ [];
+      reading = reading_push depth [] ps p (gap ++ after) behind bytes before.reading
+          (record { bytes_are = ap (λ x. gap ++ x) split; gap = before.is_gap; token = token; fits = subst (λ o. fits depth o kind text ≡ true) before.opened_are fit });
+      opened_are = opens ∙ ap (λ o. open_behind o text) before.opened_are ∙ sym (open_after-push [] ps p);
+      tokens_are = ap₂ (λ ts t. ts ++ t ∷ []) before.tokens_are (λ i. record { kind = kind; text = text; line = before.line_is i; col = before.col_is i; fresh = (is_new ∙ ap (λ y. not (list_any (λ x. x == y) lines)) before.line_is) i }) ∙ sym (tokens_of-push first [] [] ps p);
+      last_is = ap newest (sym push);
+      descends = rw push (omega (arith, now), here);
+      line_is = now;
+      col_is = col_moves ∙ ap (λ k. column_from k text) before.col_is ∙ sym (column_from-append 1 (bytes_of ps ++ gap) text) ∙ ap column_at (sym whole);
+      utf8 = utf8;
+    }
+
+-- a fault behind a gap
+pub fault_at : (first depth : ℕ) (bytes : List ℕ) (tokens : List Placed) (opened : List ℕ) (last : Option ℕ) (gap after : List ℕ) (line col : ℕ) (IsBad : List ℕ → List ℕ → Type 0) → BehindGap first depth bytes tokens opened last gap after line col → IsBad opened after
+    → IsFaultAt first depth bytes IsBad line col
+fault_at first depth bytes tokens opened last gap after line col IsBad b bad = record {
+  pieces = b.pieces;
+  gap = gap;
+  place = after;
+  reading = b.reading;
+  is_gap = b.is_gap;
+  behind_gap = b.behind_gap;
+  bad = subst (λ o. IsBad o after) b.opened_are bad;
+  line_is = b.line_is;
+  col_is = b.col_is;
+}
+
+-- as many tokens as bytes of open brackets
+pub open_lengths : (first : ℕ) (before lines : List ℕ) (opened : List Placed) (brackets : List ℕ) (ps : List Piece) → length opened ≡ length brackets → length (open_tokens opened (tokens_of first before lines ps)) ≡ length (open_after brackets ps)
+open_lengths first before lines opened brackets [] same = same
+open_lengths first before lines opened brackets (p ∷ ps) same =
+    let t = token_of first (before ++ p.gap) lines p in
+    open_lengths first (before ++ (p.gap ++ p.text)) (line_at first (before ++ p.gap) ∷ lines) (step opened t) (open_behind brackets p.text) ps (stepped (token_of first (before ++ p.gap) lines p) p.text refl)
+  where
+    dropped : (xs : List Placed) (ys : List ℕ) → length xs ≡ length ys → length (drop 1 xs) ≡ length (drop 1 ys)
+    dropped [] [] e = refl
+    dropped [] (y ∷ ys) e = absurd (omega arith)
+    dropped (x ∷ xs) [] e = absurd (omega arith)
+    dropped (x ∷ xs) (y ∷ ys) e = omega arith
+
+    stepped : (t : Placed) (text : List ℕ) → t.text ≡ text → length (step opened t) ≡ length (open_behind brackets text)
+    stepped t [] e = rw e same
+    stepped t (b ∷ c ∷ bs) e = rw e same
+    stepped t (b ∷ []) e = rw e (elim (cases_Bool (is_opening_bracket b)) [
+      | inl opens ↦ rw opens (ap suc same)
+      | inr none ↦ elim (cases_Bool (is_closing_bracket b)) [
+        | inl closes ↦ rw (none, closes) (dropped opened brackets same)
+        | inr other ↦ rw (none, other) same
+      ]
+    ])
+
+none_left : (xs : List ℕ) → length xs ≡ 0 → xs ≡ []
+none_left [] e = refl
+none_left (x ∷ xs) e = absurd (omega arith)
+
+-- the whole text was read
+pub all_read : (first depth : ℕ) (bytes : List ℕ) (tokens : List Placed) (opened : List ℕ) (last : Option ℕ) (gap after : List ℕ) (line col : ℕ) → BehindGap first depth bytes tokens opened last gap after line col → after ≡ [] → open_tokens [] tokens ≡ []
+    → AreTokensOf first depth bytes tokens
+all_read first depth bytes tokens opened last gap after line col b done closed =
+    let empty : open_after [] b.pieces ≡ [] = none_left (open_after [] b.pieces) (sym (open_lengths first [] [] [] [] b.pieces refl) ∙ ap (λ ts. length (open_tokens [] ts)) (sym b.tokens_are) ∙ ap length closed) in
+    let end : gap ++ after ≡ gap = ap (λ r. gap ++ r) done ∙ append-nil gap in
+    (b.pieces, gap, subst (λ x. IsReading depth [] b.pieces x bytes) end b.reading, subst (λ o. is_gap (is_inside o) gap ≡ true) empty b.is_gap, empty, b.tokens_are)
+
+-- the whole text was read, and a bracket is open
+pub left_open : (first depth : ℕ) (bytes : List ℕ) (tokens : List Placed) (opened : List ℕ) (last : Option ℕ) (gap after : List ℕ) (line col l c : ℕ) (t : Placed) (outer : List Placed) → BehindGap first depth bytes tokens opened last gap after line col → after ≡ []
+    → open_tokens [] tokens ≡ t ∷ outer → l ≡ t.line → c ≡ t.col → IsOpenBracket first depth bytes l c
+left_open first depth bytes tokens opened last gap after line col l c t outer b done found line_is col_is =
+    let end : gap ++ after ≡ gap = ap (λ r. gap ++ r) done ∙ append-nil gap in
+    record {
+      pieces = b.pieces;
+      rest = gap;
+      reading = subst (λ x. IsReading depth [] b.pieces x bytes) end b.reading;
+      is_gap = b.is_gap;
+      bracket = t;
+      outer = outer;
+      opened = ap (open_tokens []) (sym b.tokens_are) ∙ found;
+      line_is = line_is;
+      col_is = col_is;
+    }
+
+pub gap_boundary : (rest : List ℕ) (n : ℕ) → IsUtf8 rest → n ≤ length rest → (0 < n → get_or rest (n - 1) 0 < 128) → IsCharBoundary rest n
+gap_boundary rest zero utf8 within ascii = IsCharBoundary-start rest utf8
+gap_boundary rest (suc n) utf8 within ascii = boundary_behind rest (suc n) (omega arith) within (ascii (omega arith)) utf8
+
+pub empty_from_test : (xs : List ℕ) → (length xs == 0) ≡ true → xs ≡ []
+empty_from_test [] h = refl
+empty_from_test (x ∷ xs) h = grind (arith, nat_tests)
+
+pub some_from_test : (xs : List ℕ) → (length xs == 0) ≡ false → 0 < length xs
+some_from_test [] h = grind (arith, nat_tests)
+some_from_test (x ∷ xs) h = omega arith
+
+pub begins_at : (p : ℕ → Bool) (xs : List ℕ) → 0 < length xs → p (get_or xs 0 0) ≡ true → begins p xs ≡ true
+begins_at p [] some h = absurd (omega arith)
+begins_at p (x ∷ xs) some h = h
+
+pub same_as : (o : Option ℕ) (line : ℕ) → option_eq nat_eq o (Some line) ≡ same_line o line
+same_as None line = refl
+same_as (Some l) line = refl

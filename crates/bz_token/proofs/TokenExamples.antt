@@ -1,0 +1,116 @@
+-- The definitions on small texts.
+use Rattle.std.proofs.Common.{◌≡◌, ℕ, List, [], ◌∷◌, true, false, refl}
+use Rattle.std.specs.Prelude.{codes}
+use Rattle.bz_token.specs.declared.token.Kind.TheVariants.{Ident, Word, Int, Text, Sign, Line, Note}
+use Rattle.bz_token.specs.Lexical.{keywords, signs, is_text, counts}
+use Rattle.bz_token.specs.Brackets.{fits}
+use Rattle.bz_token.specs.Reading.{is_gap, begins_gap, Piece, bytes_of, tokens_of}
+
+abbrev newline : List ℕ
+newline = 10 ∷ []
+
+names : is_text Ident (codes "x1_") ≡ true
+unfolding keywords
+names = refl
+
+keyword : is_text Ident (codes "for") ≡ false
+unfolding keywords
+keyword = refl
+
+word : is_text Word (codes "for") ≡ true
+unfolding keywords
+word = refl
+
+binary : is_text Int (codes "0b1") ≡ false
+binary = refl
+
+hexadecimal : is_text Int (codes "0X1f") ≡ true
+hexadecimal = refl
+
+no_front_of_a_number : counts (codes "0b1") Int (codes "0") ≡ false
+no_front_of_a_number = refl
+
+short_string : is_text Text (codes "rb'a\\'b'") ≡ true
+short_string = refl
+
+escaped_quote : is_text Text (codes "r'a\\'") ≡ false
+escaped_quote = refl
+
+empty_string : is_text Text (codes "\"\"") ≡ true
+empty_string = refl
+
+long_string : is_text Text (codes "\"\"\"a\n\"\"b\"\"\"") ≡ true
+long_string = refl
+
+three_quotes : counts (codes "\"\"\"") Text (codes "\"\"") ≡ false
+three_quotes = refl
+
+no_identifier_before_a_quote : counts (codes "b\"\"") Ident (codes "b") ≡ false
+no_identifier_before_a_quote = refl
+
+broken_string : is_text Text (codes "\"a\nb\"") ≡ false
+broken_string = refl
+
+continued_string : is_text Text (codes "\"a\\\r\nb\"") ≡ true
+continued_string = refl
+
+broken_by_second_newline : is_text Text (codes "\"a\\\n\nb\"") ≡ false
+broken_by_second_newline = refl
+
+comment : is_text Note (codes "# a\rb") ≡ true
+comment = refl
+
+comment_with_blank : is_text Note (codes "# a ") ≡ false
+comment_with_blank = refl
+
+sign : is_text Sign (codes "//=") ≡ true
+unfolding signs
+sign = refl
+
+gap : is_gap false (codes " \t\r\\\n\\\r\n") ≡ true
+gap = refl
+
+no_gap : is_gap false (codes " \n") ≡ false
+no_gap = refl
+
+inner_gap : is_gap true (codes " \n") ≡ true
+inner_gap = refl
+
+bad_backslash : begins_gap true (codes "\\ y") ≡ false
+bad_backslash = refl
+
+mismatch : fits 100 (40 ∷ []) Sign (codes "]") ≡ false
+mismatch = refl
+
+deep : fits 1 (40 ∷ []) Sign (codes "(") ≡ false
+deep = refl
+
+-- `x=1` and a newline
+abbrev assignment : List Piece
+assignment =
+    record { gap = []; kind = Ident; text = codes "x" }
+    ∷ record { gap = []; kind = Sign; text = codes "=" }
+    ∷ record { gap = []; kind = Int; text = codes "1" }
+    ∷ record { gap = []; kind = Line; text = newline }
+    ∷ []
+
+assignment_bytes : bytes_of assignment ≡ codes "x=1\n"
+assignment_bytes = refl
+
+assignment_tokens : tokens_of 1 [] [] assignment
+    ≡ record { kind = Ident; text = codes "x"; line = 1; col = 1; fresh = true }
+    ∷ record { kind = Sign; text = codes "="; line = 1; col = 2; fresh = false }
+    ∷ record { kind = Int; text = codes "1"; line = 1; col = 3; fresh = false }
+    ∷ record { kind = Line; text = newline; line = 1; col = 4; fresh = false }
+    ∷ []
+assignment_tokens = refl
+
+-- a long string over two lines, and a token behind it
+abbrev strings : List Piece
+strings = record { gap = codes "\\\n "; kind = Text; text = codes "'''\n'''" } ∷ record { gap = codes " "; kind = Ident; text = codes "x" } ∷ []
+
+string_tokens : tokens_of 7 [] [] strings
+    ≡ record { kind = Text; text = codes "'''\n'''"; line = 8; col = 2; fresh = true }
+    ∷ record { kind = Ident; text = codes "x"; line = 9; col = 5; fresh = true }
+    ∷ []
+string_tokens = refl

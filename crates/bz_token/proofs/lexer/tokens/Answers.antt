@@ -1,0 +1,142 @@
+use Rattle.std.proofs.Common.{true, false, ◌≡◌, ◌++◌, take, drop, map, is_ok, sym, refl, ap, subst, ◌∙◌, arith, take-append-drop, not, Bool, ◌&&◌}
+use Rattle.std.proofs.ResultArms.{chosen}
+use Rattle.std.proofs.lemmas.Str.{IsUtf8-drop}
+use Rattle.bz_token.specs.Places.{placed}
+use Rattle.bz_token.specs.Brackets.{is_inside, is_opening_bracket, is_closing_bracket, closes_innermost}
+use Rattle.bz_token.specs.Reading.{is_gap, begins_gap}
+use Rattle.bz_token.specs.Faults.{IsBadCharacter, IsBadNumber, IsOpenText, IsBadBackslash, IsBadBracket, IsTooDeep}
+use Rattle.bz_token.specs.Scans.{opened, IsScanned}
+use Rattle.bz_token.proofs.Progress.{BehindGap, places_fit, behind_gap, behind_token, behind_fits, newlines_split, fault_at, all_read, gap_boundary, empty_from_test, some_from_test, begins_at, same_as}
+use Rattle.bz_token.proofs.Innermost.{map_push}
+use Rattle.bz_token.proofs.Fitting.{token_fits}
+use Rattle.bz_token.proofs.lexer.tokens.Goals as goal
+use Rattle.bz_token.proofs.lexer.tokens.Goals.{After-advance-place, After-gap_len}
+
+pub split_at-requires : goal.split_at-requires
+split_at-requires c =
+    let value = c.as_bytes.ensures.value in
+    let ascii = rw value at c.gap_len.ensures.ascii in
+    let within = rw value at c.gap_len.ensures.in_range in
+    gap_boundary c.loop-after.rest.now c.gap_len.result c.loop-after.invariant.utf8 within ascii
+
+pub advance-place-requires-clause-line_fits : goal.advance-place-requires-clause-line_fits
+advance-place-requires-clause-line_fits c =
+    let i = c.loop-after.invariant in
+    let fits = places_fit c.args.first_line c.args.max_depth c.args.text.now i.pieces c.loop-after.rest.now i.reading in
+    let parts = newlines_split c.loop-after.rest.now c.as_bytes-in-loop-after.result.now _ _ (c.as_bytes-in-loop-after.ensures.value ∙ c.split_at.ensures.front) c.split_at.ensures.back in
+    omega (arith, fits.0, parts.0, i.line_is, c.requires)
+
+pub advance-place-requires-clause-col_fits : goal.advance-place-requires-clause-col_fits
+advance-place-requires-clause-col_fits c =
+    let i = c.loop-after.invariant in
+    let fits = places_fit c.args.first_line c.args.max_depth c.args.text.now i.pieces c.loop-after.rest.now i.reading in
+    let parts = newlines_split c.loop-after.rest.now c.as_bytes-in-loop-after.result.now _ _ (c.as_bytes-in-loop-after.ensures.value ∙ c.split_at.ensures.front) c.split_at.ensures.back in
+    omega (arith, fits.1, parts.1, i.col_is)
+
+pub advance-place-requires-clause-col_counts : goal.advance-place-requires-clause-col_counts
+advance-place-requires-clause-col_counts c =
+    let i = c.loop-after.invariant in
+    let fits = places_fit c.args.first_line c.args.max_depth c.args.text.now i.pieces c.loop-after.rest.now i.reading in
+    omega (arith, fits.2, i.col_is)
+
+-- the place behind the gap
+behind : (c : After-advance-place) → BehindGap c.args.first_line c.args.max_depth c.args.text.now (map placed c.loop-after.out.items) (opened c.loop-after.brackets) c.loop-after.last_line c.split_at.result.0.now c.split_at.result.1.now c.advance-place.result.line c.advance-place.result.col
+behind c =
+    let value = c.as_bytes.ensures.value in
+    let inside = c.is_inside.ensures in
+    let rest = c.loop-after.rest.now in
+    let n = c.gap_len.result in
+    let ascii = rw value at c.gap_len.ensures.ascii in
+    let within = rw value at c.gap_len.ensures.in_range in
+    let white : is_gap (is_inside (opened c.loop-after.brackets)) (take n rest) ≡ true = rw (inside, value) at c.gap_len.ensures.gap in
+    let none : begins_gap (is_inside (opened c.loop-after.brackets)) (drop n rest) ≡ false = rw (inside, value) at c.gap_len.ensures.all in
+    behind_gap c.args.first_line c.args.max_depth c.args.text.now (map placed c.loop-after.out.items) (opened c.loop-after.brackets) c.loop-after.last_line rest c.split_at.result.0.now c.split_at.result.1.now
+    c.loop-after.place.line c.loop-after.place.col c.advance-place.result.line c.advance-place.result.col n c.loop-after.invariant white none
+    (gap_boundary rest n c.loop-after.invariant.utf8 within ascii)
+    c.split_at.ensures.front c.split_at.ensures.back
+    (rw c.as_bytes-in-loop-after.ensures.value at c.advance-place.ensures.line)
+    (rw c.as_bytes-in-loop-after.ensures.value at c.advance-place.ensures.col)
+
+pub returns-then-is_empty-clause-tokens : goal.returns-then-is_empty-clause-tokens
+returns-then-is_empty-clause-tokens c =
+    let closed = rw c.deref.ensures.value at c.in_default.ensures.none in
+    all_read _ _ _ _ _ _ _ _ _ _ (behind (goal.at.returns-then-is_empty-clause-tokens c).After-advance-place) (empty_from_test c.split_at.result.1.now (sym c.if-is_empty.ensures)) closed
+
+pub returns-in-Err-Character-clause-fault : goal.returns-in-Err-Character-clause-fault
+returns-in-Err-Character-clause-fault c =
+    let bad = rw c.as_bytes-in-loop-after-2.ensures.value at (rw c.in-Err-Character.field-0-is at c.in-Err-Character.ensures.bad) in
+    fault_at _ _ _ _ _ _ _ _ _ _ (λ opened. IsBadCharacter) (behind (goal.at.returns-in-Err-Character-clause-fault c).After-advance-place) bad
+
+pub returns-in-Err-Number-clause-fault : goal.returns-in-Err-Number-clause-fault
+returns-in-Err-Number-clause-fault c =
+    let bad = rw c.as_bytes-in-loop-after-2.ensures.value at (rw c.in-Err-Number.field-0-is at c.in-Err-Number.ensures.bad) in
+    fault_at _ _ _ _ _ _ _ _ _ _ (λ opened. IsBadNumber) (behind (goal.at.returns-in-Err-Number-clause-fault c).After-advance-place) bad
+
+pub returns-in-Err-OpenText-clause-fault : goal.returns-in-Err-OpenText-clause-fault
+returns-in-Err-OpenText-clause-fault c =
+    let bad = rw c.as_bytes-in-loop-after-2.ensures.value at (rw c.in-Err-OpenText.field-0-is at c.in-Err-OpenText.ensures.bad) in
+    fault_at _ _ _ _ _ _ _ _ _ _ (λ opened. IsOpenText) (behind (goal.at.returns-in-Err-OpenText-clause-fault c).After-advance-place) bad
+
+pub returns-in-Err-Backslash-clause-fault : goal.returns-in-Err-Backslash-clause-fault
+returns-in-Err-Backslash-clause-fault c =
+    let bad = rw c.as_bytes-in-loop-after-2.ensures.value at (rw c.in-Err-Backslash.field-0-is at c.in-Err-Backslash.ensures.bad) in
+    fault_at _ _ _ _ _ _ _ _ _ _ (λ opened. IsBadBackslash) (behind (goal.at.returns-in-Err-Backslash-clause-fault c).After-advance-place) bad
+
+pub returns-in-Err-TooDeep-clause-fault : goal.returns-in-Err-TooDeep-clause-fault
+returns-in-Err-TooDeep-clause-fault c =
+    let value = c.as_bytes-in-loop-after-3.ensures.value in
+    let some = some_from_test c.split_at.result.1.now (sym c.if-is_empty.ensures) in
+    let deep = rw value at (rw c.in-Err-TooDeep.field-0-is at c.in-Err-TooDeep.ensures.deep) in
+    fault_at _ _ _ _ _ _ _ _ _ _ (IsTooDeep c.args.max_depth) (behind (goal.at.returns-in-Err-TooDeep-clause-fault c).After-advance-place)
+    (record { bracket = begins_at is_opening_bracket c.split_at.result.1.now some (deep refl).0; deep = (deep refl).1 })
+
+pub returns-in-Err-NoMatch-clause-fault : goal.returns-in-Err-NoMatch-clause-fault
+returns-in-Err-NoMatch-clause-fault c =
+    let value = c.as_bytes-in-loop-after-3.ensures.value in
+    let some = some_from_test c.split_at.result.1.now (sym c.if-is_empty.ensures) in
+    let none = rw value at (rw c.in-Err-NoMatch.field-0-is at c.in-Err-NoMatch.ensures.mismatch) in
+    fault_at _ _ _ _ _ _ _ _ _ _ IsBadBracket (behind (goal.at.returns-in-Err-NoMatch-clause-fault c).After-advance-place)
+    (begins_at (λ b. is_closing_bracket b && not (closes_innermost (opened c.loop-after.brackets) b)) c.split_at.result.1.now some (both _ _ (none refl).0 (none refl).1))
+  where
+    both : (x y : Bool) → x ≡ true → y ≡ false → (x && not y) ≡ true
+    both x y p q = rw (p, q) refl
+
+pub pass-place-requires-clause-line_fits : goal.pass-place-requires-clause-line_fits
+pass-place-requires-clause-line_fits c =
+    let fits = behind_fits _ _ _ _ _ _ _ _ _ _ (behind (goal.at.pass-place-requires-clause-line_fits c).After-advance-place) in
+    let parts = newlines_split c.split_at.result.1.now c.as_bytes-in-loop-after-4.result.now _ _ (c.as_bytes-in-loop-after-4.ensures.value ∙ c.split_at-in-loop-after.ensures.front) c.split_at-in-loop-after.ensures.back in
+    omega (arith, fits.0, parts.0, c.requires)
+
+pub pass-place-requires-clause-col_fits : goal.pass-place-requires-clause-col_fits
+pass-place-requires-clause-col_fits c =
+    let fits = behind_fits _ _ _ _ _ _ _ _ _ _ (behind (goal.at.pass-place-requires-clause-col_fits c).After-advance-place) in
+    let parts = newlines_split c.split_at.result.1.now c.as_bytes-in-loop-after-4.result.now _ _ (c.as_bytes-in-loop-after-4.ensures.value ∙ c.split_at-in-loop-after.ensures.front) c.split_at-in-loop-after.ensures.back in
+    omega (arith, fits.1, parts.1)
+
+pub pass-place-requires-clause-col_counts : goal.pass-place-requires-clause-col_counts
+pass-place-requires-clause-col_counts c = (behind_fits _ _ _ _ _ _ _ _ _ _ (behind (goal.at.pass-place-requires-clause-col_counts c).After-advance-place)).2
+
+pub loop-after-preserved : goal.loop-after-preserved
+loop-after-preserved c =
+    let b = behind (goal.at.loop-after-preserved c).After-advance-place in
+    let after = c.split_at.result.1.now in
+    let value = c.as_bytes-in-loop-after-2.ensures.value in
+    let found : IsScanned after c.in-Ok.scanned = rw value at c.in-Ok.ensures.token in
+    let cut = c.split_at-in-loop-after.ensures in
+    let token = c.split_at-in-loop-after.result.0.now in
+    let rest = c.split_at-in-loop-after.result.1.now in
+    let split : after ≡ token ++ rest = rw (cut.front, cut.back, take-append-drop) refl in
+    let first = c.as_bytes-in-loop-after-3.ensures.value in
+    let fit = rw first at c.in-Ok-take.ensures.fits in
+    let opens = rw first at c.in-Ok-take.ensures.opened in
+    let whole = rw (← cut.front) at found.token.whole in
+    let none = subst (λ o. begins_gap (is_inside o) after ≡ false) (sym b.opened_are) b.behind_gap in
+    let fitting = token_fits c.args.max_depth c.in-Ok.scanned.kind (opened c.loop-after.brackets) after token rest c.in-Ok.scanned.len found.some found.within cut.front split whole none fit in
+    let pushed = chosen _ _ _ _ c.push.ensures.items (ap is_ok c.in_ok-push.was) in
+    let utf8 = IsUtf8-drop after c.in-Ok.scanned.len b.utf8 (found.boundary b.utf8) in
+    let ne = c.ne.ensures in
+    rw (ap (map placed) pushed ∙ map_push c.loop-after.out.items _)
+    (behind_token c.args.first_line c.args.max_depth c.args.text.now _ (opened c.loop-after.brackets) (opened c.take.new.self) c.loop-after.last_line c.split_at.result.0.now after token rest c.in-Ok.scanned.kind
+    _ _ c.pass-place.result.line c.pass-place.result.col c.ne.result b split (rw (← cut.front, ← cut.back) at found.token) fitting.0 (opens ∙ fitting.1) (ne ∙ ap not (same_as c.loop-after.last_line c.advance-place.result.line)) (rw (← cut.back) at utf8)
+    (rw c.as_bytes-in-loop-after-4.ensures.value at c.pass-place.ensures.line)
+    (rw c.as_bytes-in-loop-after-4.ensures.value at c.pass-place.ensures.col))

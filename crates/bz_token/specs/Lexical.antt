@@ -1,0 +1,190 @@
+-- The texts of each kind of token (Starlark specification, "Lexical elements"), each a test of a whole text, and which of
+-- them count at a place.
+use Rattle.std.specs.Prelude.{ℕ, ◌+◌, ◌≡◌, List, [], ◌∷◌, ◌++◌, length, drop, Bool, true, false, not, ◌&&◌, ◌||◌, ◌==◌, if◌then◌else◌, nat_le, codes, bytes_eq, Option, Some, None}
+use Rattle.std.specs.List.{list_all, list_any, prefix_len}
+use Rattle.std.specs.Char.{is_ascii_digit, is_ascii_hexdigit, is_ascii_alphabetic}
+use Rattle.bz_token.specs.declared.token.Kind.{Kind}
+use Rattle.bz_token.specs.declared.scan_string.Escape.{Escape}
+use Rattle.bz_token.specs.declared.scan_string.Escape.TheVariants.{Unescaped, BehindBackslash, BehindReturn}
+use Rattle.bz_token.specs.declared.scan_string.Quotes.{Quotes}
+use Rattle.bz_token.specs.declared.scan_string.Opening.{Opening}
+use Rattle.bz_token.specs.declared.token.Kind.TheVariants.{Ident, Word, Int, Text, Sign, Line, Note, Kept}
+
+-- ASCII letters, digits and underscores
+abbrev pub is_word_byte : ℕ → Bool
+is_word_byte b = is_ascii_alphabetic b || is_ascii_digit b || b == 95
+
+-- white space within a line: space, tab and carriage return
+abbrev pub is_blank : ℕ → Bool
+is_blank b = b == 32 || b == 9 || b == 13
+
+abbrev pub is_quote : ℕ → Bool
+is_quote b = b == 34 || b == 39
+
+abbrev pub is_newline : ℕ → Bool
+is_newline b = b == 10
+
+-- the first byte passes the test
+abbrev pub begins : (ℕ → Bool) → List ℕ → Bool
+begins test [] = false
+begins test (b ∷ bs) = test b
+
+abbrev pub is_empty : List ℕ → Bool
+is_empty [] = true
+is_empty (b ∷ bs) = false
+
+abbrev pub is_one_of : List (List ℕ) → List ℕ → Bool
+is_one_of texts text = list_any (bytes_eq text) texts
+
+-- letters, digits and underscores, not beginning with a digit
+abbrev pub is_name : List ℕ → Bool
+is_name text = not (is_empty text) && not (begins is_ascii_digit text) && list_all is_word_byte text
+
+unfoldable pub keywords : List (List ℕ)
+keywords =
+    codes "and" ∷ codes "break" ∷ codes "continue" ∷ codes "def" ∷ codes "elif" ∷ codes "else" ∷ codes "for" ∷ codes "if"
+    ∷ codes "in" ∷ codes "lambda" ∷ codes "load" ∷ codes "not" ∷ codes "or" ∷ codes "pass" ∷ codes "return" ∷ []
+
+abbrev pub is_keyword : List ℕ → Bool
+is_keyword text = is_one_of keywords text
+
+abbrev pub is_octal_digit : ℕ → Bool
+is_octal_digit b = nat_le 48 b && nat_le b 55
+
+-- digits behind the letter of a base, at least one
+abbrev pub are_based : List ℕ → Bool
+are_based [] = false
+are_based (x ∷ digits) =
+    not (is_empty digits)
+    && (((x == 120 || x == 88) && list_all is_ascii_hexdigit digits) || ((x == 111 || x == 79) && list_all is_octal_digit digits))
+
+-- decimal digits, or a 0, x or X and hexadecimal digits, or a 0, o or O and octal digits
+abbrev pub is_number : List ℕ → Bool
+is_number [] = false
+is_number (b ∷ bs) = list_all is_ascii_digit (b ∷ bs) || (b == 48 && are_based bs)
+
+unfoldable pub signs : List (List ℕ)
+signs =
+    codes "+" ∷ codes "-" ∷ codes "*" ∷ codes "/" ∷ codes "//" ∷ codes "%" ∷ codes "**" ∷ codes "~" ∷ codes "&" ∷ codes "|"
+    ∷ codes "^" ∷ codes "<<" ∷ codes ">>" ∷ codes "." ∷ codes "," ∷ codes "=" ∷ codes ";" ∷ codes ":" ∷ codes "(" ∷ codes ")"
+    ∷ codes "[" ∷ codes "]" ∷ codes "{" ∷ codes "}" ∷ codes "<" ∷ codes ">" ∷ codes ">=" ∷ codes "<=" ∷ codes "==" ∷ codes "!="
+    ∷ codes "+=" ∷ codes "-=" ∷ codes "*=" ∷ codes "/=" ∷ codes "//=" ∷ codes "%=" ∷ codes "&=" ∷ codes "|=" ∷ codes "^="
+    ∷ codes "<<=" ∷ codes ">>=" ∷ []
+
+abbrev pub is_sign : List ℕ → Bool
+is_sign text = is_one_of signs text
+
+-- a backslash takes the byte behind it along, and a newline behind that where it is a carriage return
+abbrev pub is_escaped : Escape → ℕ → Bool
+is_escaped Unescaped b = false
+is_escaped BehindBackslash b = true
+is_escaped BehindReturn b = b == 10
+
+abbrev pub starts_escape : ℕ → Escape
+starts_escape b = if b == 92 then BehindBackslash else Unescaped
+
+abbrev pub escape_behind : Escape → ℕ → Escape
+escape_behind Unescaped b = starts_escape b
+escape_behind BehindBackslash b = if b == 13 then BehindReturn else Unescaped
+escape_behind BehindReturn b = starts_escape b
+
+-- so many quotes in a row close a string
+abbrev pub closing_row : Bool → ℕ
+closing_row false = 1
+closing_row true = 3
+
+-- The closing quotes stand unescaped once, at the end; no unescaped newline stands in a short string. `row` quotes stand before.
+abbrev pub closes : Quotes → ℕ → Escape → List ℕ → Bool
+closes quotes row escape [] = false
+closes quotes row escape (b ∷ bs) = elim (is_escaped escape b) [
+  | true ↦ closes quotes 0 (escape_behind escape b) bs
+  | false ↦ elim (b == quotes.byte) [
+    | true ↦ elim (row + 1 == closing_row quotes.long) [
+      | true ↦ is_empty bs
+      | false ↦ closes quotes (row + 1) (escape_behind escape b) bs
+    ]
+    | false ↦ (quotes.long || not (b == 10)) && closes quotes 0 (escape_behind escape b) bs
+  ]
+]
+
+abbrev pub are_two : ℕ → List ℕ → Bool
+are_two q [] = false
+are_two q (a ∷ bs) = a == q && begins (λ b. b == q) bs
+
+abbrev pub opens_behind : ℕ → List ℕ → Option Opening
+opens_behind prefix [] = None
+opens_behind prefix (q ∷ bs) = if is_quote q then Some (record { prefix = prefix; quotes = record { byte = q; long = are_two q bs } }) else None
+
+-- `r`, `b`, `rb` and `br`
+abbrev pub prefix_letters : List ℕ → ℕ
+prefix_letters [] = 0
+prefix_letters (a ∷ bs) =
+    if a == 114 then (if begins (λ b. b == 98) bs then 2 else 1) else (if a == 98 then (if begins (λ b. b == 114) bs then 2 else 1) else 0)
+
+-- the string that begins at a place, by its first bytes
+abbrev pub opening : List ℕ → Option Opening
+opening place = opens_behind (prefix_letters place) (drop (prefix_letters place) place)
+
+abbrev pub opening_length : Opening → ℕ
+opening_length o = o.prefix + closing_row o.quotes.long
+
+abbrev pub is_closed : Option Opening → List ℕ → Bool
+is_closed None text = false
+is_closed (Some o) text = closes o.quotes 0 Unescaped (drop (opening_length o) text)
+
+abbrev pub is_string : List ℕ → Bool
+is_string text = is_closed (opening text) text
+
+-- a number sign and what follows it on its line, without trailing white space
+abbrev pub ends_blank : List ℕ → Bool
+ends_blank [] = false
+ends_blank (b ∷ []) = is_blank b
+ends_blank (b ∷ c ∷ bs) = ends_blank (c ∷ bs)
+
+abbrev pub is_comment : List ℕ → Bool
+is_comment text = begins (λ b. b == 35) text && not (list_any is_newline text) && not (ends_blank text)
+
+-- a text of this kind
+abbrev pub is_text : Kind → List ℕ → Bool
+is_text Ident text = is_name text && not (is_keyword text)
+is_text Word text = is_keyword text
+is_text Int text = is_number text
+is_text Text text = is_string text
+is_text Sign text = is_sign text
+is_text Line text = bytes_eq text (10 ∷ [])
+is_text Note text = is_comment text
+is_text Kept text = false
+
+-- whether three quotes open a string
+abbrev pub is_long : Option Opening → Bool
+is_long None = false
+is_long (Some o) = o.quotes.long
+
+abbrev pub is_number_kind : Kind → Bool
+is_number_kind Int = true
+is_number_kind _ = false
+
+abbrev pub is_string_kind : Kind → Bool
+is_string_kind Text = true
+is_string_kind _ = false
+
+-- At a string's opening quotes only strings count, at three quotes only long ones; at a digit only all letters, digits and
+-- underscores that stand there; anywhere else every text counts.
+abbrev pub counts : List ℕ → Kind → List ℕ → Bool
+counts place kind text = elim (opening place) [
+  | Some o ↦ is_string_kind kind && (is_long (opening text) || not o.quotes.long)
+  | None ↦ elim (begins is_ascii_digit place) [
+    | true ↦ is_number_kind kind && (length text == prefix_len is_word_byte place)
+    | false ↦ true
+  ]
+]
+
+-- A text of this kind is the token at its place, before these bytes: it counts there, and no longer text of any kind does.
+pub record IsToken (kind : Kind) (text after : List ℕ) : Type 0 where
+  pub whole : is_text kind text ≡ true
+  pub counted : counts (text ++ after) kind text ≡ true
+  pub longest : (other : Kind) (more rest : List ℕ) → after ≡ more ++ rest → is_text other (text ++ more) ≡ true → counts (text ++ after) other (text ++ more) ≡ true → more ≡ []
+
+-- no text of any kind counts at this place
+abbrev pub HasNoToken : List ℕ → Type 0
+HasNoToken place = (kind : Kind) (text rest : List ℕ) → place ≡ text ++ rest → is_text kind text ≡ true → counts place kind text ≡ true → ⊥

@@ -1,0 +1,90 @@
+//! The tokens of a text.
+
+ghost use Rattle.std.specs.Prelude.{◌≡◌, ◌≤◌, ◌<◌, ◌+◌, ◌^◌, ◌==◌, ◌∷◌, [], List, ℕ, true, false, not, length, take, drop, count_by, map, IfOk, IfErr, IfSome, IfNone};
+ghost use Rattle.std.specs.List.{list_any};
+ghost use Rattle.bz_token.specs.Places.{Placed, placed, column_from};
+ghost use Rattle.bz_token.specs.Brackets.{open_tokens};
+ghost use Rattle.bz_token.specs.Reading.{AreTokensOf};
+ghost use Rattle.bz_token.specs.Faults.{IsFault};
+ghost use Rattle.bz_token.specs.Lexical.{is_newline};
+
+use crate::brackets::{Brackets, Misfit, innermost};
+use crate::fault::LexFault;
+use crate::gap::{Place, advance, gap_len};
+use crate::scan_token::{Bad, scan_token};
+use crate::token::Token;
+use std::alloc::Global;
+
+/// The place behind a token.
+fn pass(place: Place, text: &[u8], has_newline: bool) -> Place
+    requires line_fits { place.line + count_by (λ b. b == 10) text.now < 2 ^ 64 }
+    requires col_fits { place.col + length text.now < 2 ^ 64 }
+    requires col_counts { 0 < place.col }
+    requires one_line { has_newline ≡ false → list_any is_newline text.now ≡ false }
+    ensures line { result.line ≡ place.line + count_by (λ b. b == 10) text.now }
+    ensures col { result.col ≡ column_from place.col text.now }
+{
+    if has_newline {
+        return advance(place, text);
+    }
+    Place {
+        line: place.line,
+        col: place.col + text.len() as u64,
+    }
+}
+
+/// The tokens of a text, whose first line has this number, with at most so many brackets open at once; else the first
+/// fault from left to right. Tokens are those of the Starlark specification, and comments.
+pub fn tokens<'a>(
+    alloc: Global,
+    text: &'a str,
+    first_line: u64,
+    max_depth: u8,
+) -> Result<Vec<Token<'a>>, LexFault>
+    requires { first_line + count_by (λ b. b == 10) text.now < 2 ^ 64 }
+    ensures tokens { IfOk result (λ v. AreTokensOf first_line max_depth text.now (map placed v.items)) }
+    ensures fault { IfErr result (IsFault first_line max_depth text.now) }
+{
+    let mut out = Vec::new(alloc);
+    let mut brackets = Brackets::new();
+    let mut last_line = None;
+    let mut place = Place {
+        line: first_line,
+        col: 1,
+    };
+    let mut rest = text;
+    loop {
+        let (gap, after) = rest.split_at(gap_len(brackets.is_inside(), rest.as_bytes()));
+        place = advance(place, gap.as_bytes());
+        let Place { line, col } = place;
+        if after.is_empty() {
+            if let Some(Place { line, col }) = innermost(&out) {
+                return Err(LexFault::OpenBracket { line, col });
+            }
+            return Ok(out);
+        }
+        let scanned = match scan_token(after.as_bytes()) {
+            Ok(scanned) => scanned,
+            Err(Bad::Character) => return Err(LexFault::BadCharacter { line, col }),
+            Err(Bad::Number) => return Err(LexFault::BadNumber { line, col }),
+            Err(Bad::OpenText) => return Err(LexFault::OpenText { line, col }),
+            Err(Bad::Backslash) => return Err(LexFault::BadBackslash { line, col }),
+        };
+        match brackets.take(after.as_bytes()[0], max_depth) {
+            Ok(()) => {}
+            Err(Misfit::TooDeep) => return Err(LexFault::TooDeep { line, col }),
+            Err(Misfit::NoMatch) => return Err(LexFault::BadBracket { line, col }),
+        }
+        let (token, behind) = after.split_at(scanned.len);
+        out.push(Token {
+            kind: scanned.kind,
+            text: token,
+            line,
+            col,
+            fresh: last_line != Some(line),
+        })?;
+        last_line = Some(line);
+        place = pass(place, token.as_bytes(), scanned.has_newline);
+        rest = behind;
+    }
+}

@@ -1,0 +1,171 @@
+//! How long the token at the front of some bytes is.
+
+ghost use Rattle.std.specs.Prelude.{◌≡◌, ◌≤◌, ◌<◌, ◌+◌, ◌-◌, ◌++◌, ◌==◌, ◌∷◌, [], ℕ, true, false, not, length, take, drop, slice_index, map, IfOk, IfErr, IfSome, IfNone, IsTrue};
+ghost use Rattle.std.specs.Char.{is_ascii_digit, is_ascii_hexdigit};
+ghost use Rattle.std.specs.List.{list_all, list_any, prefix_len};
+ghost use Rattle.bz_token.specs.declared.token.Kind.TheVariants.{Sign};
+ghost use Rattle.bz_token.specs.Ends.{stops_at};
+ghost use Rattle.bz_token.specs.Lexical.{signs, keywords, begins, is_blank, is_word_byte, is_octal_digit, are_based, is_number, is_keyword, is_sign, is_comment, is_newline};
+
+pub fn is_blank(b: u8) -> bool
+    ensures { result ≡ is_blank b }
+{
+    matches!(b, b' ' | b'\t' | b'\r')
+}
+
+pub fn is_word_byte(b: u8) -> bool
+    ensures { result ≡ is_word_byte b }
+{
+    b.is_ascii_alphabetic() || b.is_ascii_digit() || b == b'_'
+}
+
+/// The number of letters, digits and underscores here.
+pub fn word_len(bytes: &[u8]) -> usize
+    ensures { result ≡ prefix_len is_word_byte bytes.now }
+{
+    bytes.iter().take_while(|b| is_word_byte(**b)).count()
+}
+
+fn is_octal_digit(b: u8) -> bool
+    ensures { result ≡ is_octal_digit b }
+{
+    b'0' <= b && b <= b'7'
+}
+
+fn are_decimal(bytes: &[u8]) -> bool
+    ensures { result ≡ list_all is_ascii_digit bytes.now }
+{
+    bytes.iter().all(|b| b.is_ascii_digit())
+}
+
+fn are_hexadecimal(bytes: &[u8]) -> bool
+    ensures { result ≡ list_all is_ascii_hexdigit bytes.now }
+{
+    bytes.iter().all(|b| b.is_ascii_hexdigit())
+}
+
+fn are_octal(bytes: &[u8]) -> bool
+    ensures { result ≡ list_all is_octal_digit bytes.now }
+{
+    bytes.iter().all(|b| is_octal_digit(*b))
+}
+
+/// Whether these are digits behind the letter of a base.
+fn are_based(bytes: &[u8]) -> bool
+    ensures { result ≡ are_based bytes.now }
+{
+    match bytes {
+        [b'x' | b'X', digits @ ..] => !digits.is_empty() && are_hexadecimal(digits),
+        [b'o' | b'O', digits @ ..] => !digits.is_empty() && are_octal(digits),
+        _ => false,
+    }
+}
+
+/// Whether the bytes are a number's text.
+pub fn is_number(bytes: &[u8]) -> bool
+    ensures { result ≡ is_number bytes.now }
+{
+    match bytes.split_first() {
+        None => false,
+        Some((b, behind)) => are_decimal(bytes) || *b == b'0' && are_based(behind),
+    }
+}
+
+/// Whether the bytes are a keyword.
+#[tactic(auto, unfolding(crate::specs::Lexical::keywords))]
+pub fn is_keyword(bytes: &[u8]) -> bool
+    ensures { result ≡ is_keyword bytes.now }
+{
+    bytes == b"and".as_slice()
+        || bytes == b"break".as_slice()
+        || bytes == b"continue".as_slice()
+        || bytes == b"def".as_slice()
+        || bytes == b"elif".as_slice()
+        || bytes == b"else".as_slice()
+        || bytes == b"for".as_slice()
+        || bytes == b"if".as_slice()
+        || bytes == b"in".as_slice()
+        || bytes == b"lambda".as_slice()
+        || bytes == b"load".as_slice()
+        || bytes == b"not".as_slice()
+        || bytes == b"or".as_slice()
+        || bytes == b"pass".as_slice()
+        || bytes == b"return".as_slice()
+}
+
+/// The length of the sign that begins with the first of these bytes, or 0.
+#[tactic(auto, unfolding(crate::specs::Lexical::signs))]
+fn sign_of(a: u8, b: u8, c: u8) -> usize
+    ensures at_most { result ≤ 3 }
+    ensures sign { 0 < result → is_sign (take result (a ∷ b ∷ c ∷ [])) ≡ true }
+    ensures longer_1 { result < 1 → is_sign (a ∷ []) ≡ false }
+    ensures longer_2 { result < 2 → is_sign (a ∷ b ∷ []) ≡ false }
+    ensures longer_3 { result < 3 → is_sign (a ∷ b ∷ c ∷ []) ≡ false }
+{
+    match a {
+        b'~' | b'.' | b',' | b';' | b':' | b'(' | b')' | b'[' | b']' | b'{' | b'}' => 1,
+        b'+' | b'-' | b'%' | b'&' | b'|' | b'^' | b'=' => { if b == b'=' { 2 } else { 1 } }
+        b'*' => { if b == b'=' || b == b'*' { 2 } else { 1 } }
+        b'/' | b'<' | b'>' => {
+            if b == b'=' {
+                2
+            } else if b != a {
+                1
+            } else if c == b'=' {
+                3
+            } else {
+                2
+            }
+        }
+        b'!' => { if b == b'=' { 2 } else { 0 } }
+        _ => 0,
+    }
+}
+
+/// The number of bytes before the first newline.
+fn line_len(bytes: &[u8]) -> usize
+    ensures { result ≡ prefix_len (λ b. not (is_newline b)) bytes.now }
+{
+    bytes.iter().take_while(|b| **b != b'\n').count()
+}
+
+/// The length without trailing white space, at least 1.
+fn trimmed_len(line: &[u8]) -> usize
+    requires { 0 < length line.now }
+    ensures in_range { (0 < result) × (result ≤ length line.now) }
+    ensures trimmed { 1 < result → is_blank (slice_index line.now (result - 1)) ≡ false }
+    ensures blank { list_all is_blank (drop result line.now) ≡ true }
+{
+    let mut len = line.len();
+    while len > 1 && is_blank(line[len - 1]) {
+        len -= 1;
+    }
+    len
+}
+
+/// The length of the comment here: the line's, without trailing white space.
+pub fn comment_len(bytes: &[u8]) -> usize
+    requires { begins (λ b. b == 35) bytes.now ≡ true }
+    ensures in_range { (0 < result) × (result ≤ length bytes.now) }
+    ensures in_line { result ≤ prefix_len (λ b. not (is_newline b)) bytes.now }
+    ensures comment { is_comment (take result bytes.now) ≡ true }
+    ensures longest { list_all is_blank (drop result (take (prefix_len (λ b. not (is_newline b)) bytes.now) bytes.now)) ≡ true }
+{
+    trimmed_len(&bytes[..line_len(bytes)])
+}
+
+fn byte_at(bytes: &[u8], at: usize) -> u8
+    ensures { result ≡ slice_index bytes.now at }
+{
+    bytes.get(at).copied().unwrap_or(0)
+}
+
+/// The length of the sign here, or 0.
+pub fn sign_len(bytes: &[u8]) -> usize
+    ensures in_range { result ≤ length bytes.now }
+    ensures sign { 0 < result → is_sign (take result bytes.now) ≡ true }
+    ensures stops { 0 < result → stops_at Sign (take result bytes.now) (drop result bytes.now) ≡ true }
+    ensures none { result ≡ 0 → (n : ℕ) → is_sign (take n bytes.now) ≡ false }
+{
+    sign_of(byte_at(bytes, 0), byte_at(bytes, 1), byte_at(bytes, 2))
+}

@@ -1,0 +1,138 @@
+//! Where a string literal opens and closes.
+
+ghost use Rattle.std.specs.Prelude.{◌≡◌, ◌≤◌, ◌<◌, ◌-◌, ℕ, true, false, length, take, slice_index, IfSome, IfNone};
+ghost use Rattle.std.specs.List.{list_any};
+ghost use Rattle.bz_token.specs.Lexical.{is_newline, is_quote, is_escaped, escape_behind, closing_row, prefix_letters, are_two, closes, opening};
+ghost use Rattle.bz_token.specs.declared.scan_string.Escape.TheVariants.{Unescaped};
+
+/// What stands before a byte of a string: nothing that escapes it, a backslash, or a backslash and a carriage return.
+#[derive(Clone, Copy, Debug, PartialEq, Eq)]
+pub enum Escape {
+    Unescaped,
+    BehindBackslash,
+    BehindReturn,
+}
+
+/// The quotes of a string.
+#[derive(Clone, Copy, Debug, PartialEq, Eq)]
+pub struct Quotes {
+    pub byte: u8,
+    /// Three of them.
+    pub long: bool,
+}
+
+/// What opens a string: so many prefix letters, and quotes.
+#[derive(Clone, Copy, Debug, PartialEq, Eq)]
+pub struct Opening {
+    pub prefix: usize,
+    pub quotes: Quotes,
+}
+
+/// What stands behind a string's opening quotes, up to its closing ones.
+#[derive(Clone, Copy, Debug, PartialEq, Eq)]
+pub struct Inside {
+    pub len: usize,
+    pub has_newline: bool,
+}
+
+pub fn is_quote(b: u8) -> bool
+    ensures { result ≡ is_quote b }
+{
+    b == b'"' || b == b'\''
+}
+
+fn is_escaped(escape: Escape, b: u8) -> bool
+    ensures { result ≡ is_escaped escape b }
+{
+    match escape {
+        Escape::Unescaped => false,
+        Escape::BehindBackslash => true,
+        Escape::BehindReturn => b == b'\n',
+    }
+}
+
+fn escape_behind(escape: Escape, b: u8) -> Escape
+    ensures { result ≡ escape_behind escape b }
+{
+    match (escape, b) {
+        (Escape::BehindBackslash, b'\r') => Escape::BehindReturn,
+        (Escape::BehindBackslash, _) => Escape::Unescaped,
+        (_, b'\\') => Escape::BehindBackslash,
+        _ => Escape::Unescaped,
+    }
+}
+
+pub fn closing_row(long: bool) -> usize
+    ensures { result ≡ closing_row long }
+{
+    if long { 3 } else { 1 }
+}
+
+fn prefix_letters(bytes: &[u8]) -> usize
+    ensures value { result ≡ prefix_letters bytes.now }
+    ensures in_range { result ≤ length bytes.now }
+{
+    match bytes {
+        [b'r', b'b', ..] | [b'b', b'r', ..] => 2,
+        [b'r' | b'b', ..] => 1,
+        _ => 0,
+    }
+}
+
+fn are_two(quote: u8, bytes: &[u8]) -> bool
+    ensures { result ≡ are_two quote bytes.now }
+{
+    match bytes {
+        [a, b, ..] => *a == quote && *b == quote,
+        _ => false,
+    }
+}
+
+/// What opens the string that begins here, if one does.
+pub fn opening_at(bytes: &[u8]) -> Option<Opening>
+    ensures { result ≡ opening bytes.now }
+{
+    let prefix = prefix_letters(bytes);
+    let (byte, behind) = bytes[prefix..].split_first()?;
+    if !is_quote(*byte) {
+        return None;
+    }
+    let quotes = Quotes {
+        byte: *byte,
+        long: are_two(*byte, behind),
+    };
+    Some(Opening { prefix, quotes })
+}
+
+/// What stands behind these opening quotes, up to the closing ones, if there are any.
+pub fn inside_at(quotes: Quotes, bytes: &[u8]) -> Option<Inside>
+    requires { is_quote quotes.byte ≡ true }
+    ensures in_range { IfSome result (λ r. (0 < r.len) × (r.len ≤ length bytes.now)) }
+    ensures closed { IfSome result (λ r. closes quotes 0 Unescaped (take r.len bytes.now) ≡ true) }
+    ensures one_line { IfSome result (λ r. r.has_newline ≡ false → list_any is_newline (take r.len bytes.now) ≡ false) }
+    ensures none { IfNone result ((n : ℕ) → closes quotes 0 Unescaped (take n bytes.now) ≡ false) }
+{
+    let mut escape = Escape::Unescaped;
+    let mut row = 0;
+    let mut has_newline = false;
+    for (i, b) in bytes.iter().enumerate() {
+        if is_escaped(escape, *b) {
+            row = 0;
+        } else if *b == quotes.byte {
+            row += 1;
+            if row == closing_row(quotes.long) {
+                return Some(Inside {
+                    len: i + 1,
+                    has_newline,
+                });
+            }
+        } else if *b == b'\n' && !quotes.long {
+            return None;
+        } else {
+            row = 0;
+        }
+        has_newline = has_newline || *b == b'\n';
+        escape = escape_behind(escape, *b);
+    }
+    None
+}

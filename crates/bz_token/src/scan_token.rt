@@ -1,0 +1,123 @@
+//! The token at a place.
+
+ghost use Rattle.std.specs.Prelude.{◌≡◌, ◌<◌, ◌≤◌, ◌==◌, ℕ, List, Some, None, true, false, length, IfOk, IfErr};
+ghost use Rattle.std.specs.Char.{is_ascii_digit};
+ghost use Rattle.bz_token.specs.Lexical.{begins, opening, is_word_byte};
+ghost use Rattle.bz_token.specs.Scans.{IsScanned, IsBadPlace};
+
+use crate::scan::{comment_len, is_keyword, is_number, is_word_byte, sign_len, word_len};
+use crate::scan_string::{Opening, closing_row, inside_at, opening_at};
+use crate::token::Kind;
+
+/// A token's kind and length.
+#[derive(Clone, Copy, Debug, PartialEq, Eq)]
+pub struct Scanned {
+    pub kind: Kind,
+    pub len: usize,
+    /// False only if no newline is in it.
+    pub has_newline: bool,
+}
+
+/// Why no token stands at a place.
+#[derive(Clone, Copy, Debug, PartialEq, Eq)]
+pub enum Bad {
+    Character,
+    Number,
+    OpenText,
+    Backslash,
+}
+
+fn on_one_line(kind: Kind, len: usize) -> Scanned
+    ensures kind { result.kind ≡ kind }
+    ensures len { result.len ≡ len }
+    ensures newline { result.has_newline ≡ false }
+{
+    Scanned {
+        kind,
+        len,
+        has_newline: false,
+    }
+}
+
+fn scan_string(opened: Opening, bytes: &[u8]) -> Result<Scanned, Bad>
+    requires { opening bytes.now ≡ Some opened }
+    ensures token { IfOk result (λ s. IsScanned bytes.now s) }
+    ensures bad { IfErr result (λ bad. IsBadPlace bytes.now bad) }
+{
+    let start = opened.prefix + closing_row(opened.quotes.long);
+    let Some(inside) = inside_at(opened.quotes, &bytes[start..]) else {
+        return Err(Bad::OpenText);
+    };
+    Ok(Scanned {
+        kind: Kind::Text,
+        len: start + inside.len,
+        has_newline: inside.has_newline,
+    })
+}
+
+fn scan_number(bytes: &[u8]) -> Result<Scanned, Bad>
+    requires digit { begins is_ascii_digit bytes.now ≡ true }
+    ensures token { IfOk result (λ s. IsScanned bytes.now s) }
+    ensures bad { IfErr result (λ bad. IsBadPlace bytes.now bad) }
+{
+    let len = word_len(bytes);
+    if !is_number(&bytes[..len]) {
+        return Err(Bad::Number);
+    }
+    Ok(on_one_line(Kind::Int, len))
+}
+
+fn scan_name(bytes: &[u8]) -> Scanned
+    requires unquoted { opening bytes.now ≡ None }
+    requires word { begins is_word_byte bytes.now ≡ true }
+    requires no_digit { begins is_ascii_digit bytes.now ≡ false }
+    ensures { IsScanned bytes.now result }
+{
+    let len = word_len(bytes);
+    if is_keyword(&bytes[..len]) {
+        on_one_line(Kind::Word, len)
+    } else {
+        on_one_line(Kind::Ident, len)
+    }
+}
+
+fn scan_mark(bytes: &[u8]) -> Result<Scanned, Bad>
+    requires some { 0 < length bytes.now }
+    requires unquoted { opening bytes.now ≡ None }
+    requires no_word { begins is_word_byte bytes.now ≡ false }
+    ensures token { IfOk result (λ s. IsScanned bytes.now s) }
+    ensures bad { IfErr result (λ bad. IsBadPlace bytes.now bad) }
+{
+    match bytes[0] {
+        b'\n' => Ok(Scanned {
+            kind: Kind::Line,
+            len: 1,
+            has_newline: true,
+        }),
+        b'#' => Ok(on_one_line(Kind::Note, comment_len(bytes))),
+        b'\\' => Err(Bad::Backslash),
+        _ => match sign_len(bytes) {
+            0 => Err(Bad::Character),
+            len => Ok(on_one_line(Kind::Sign, len)),
+        },
+    }
+}
+
+/// The token here.
+pub fn scan_token(bytes: &[u8]) -> Result<Scanned, Bad>
+    requires { 0 < length bytes.now }
+    ensures token { IfOk result (λ s. IsScanned bytes.now s) }
+    ensures bad { IfErr result (λ bad. IsBadPlace bytes.now bad) }
+{
+    if let Some(opened) = opening_at(bytes) {
+        return scan_string(opened, bytes);
+    }
+    let b = bytes[0];
+    if b.is_ascii_digit() {
+        scan_number(bytes)
+    } else if is_word_byte(b) {
+        Ok(scan_name(bytes))
+    } else {
+        scan_mark(bytes)
+    }
+}

@@ -1,0 +1,214 @@
+//! Blocks: statements that begin with `def`, `for` or `if`, kept as they were written.
+
+ghost use Rattle.std.specs.Prelude.{◌≡◌, ◌<◌, ◌^◌, IfOk, false, map, option_map, reverse};
+ghost use Rattle.bz_token.specs.Places.{placed};
+ghost use Rattle.bz_tree.specs.View.{texts};
+ghost use Rattle.bz_tree.specs.Kinds.{mark_of};
+ghost use Rattle.bz_tree.specs.Blocks.{is_block_word, is_colon, popped, pushed, indented, block_indent, depth_behind, has_colon, header_line, logical_lines, is_open_end, is_block, above};
+ghost use Rattle.bz_tree.specs.Statement.{last_token};
+ghost use Rattle.bz_tree.specs.BlockSteps.{lines_view, begun, next_counted, next_indent, indent_run, first_lines, ends_header, begins_header, colon_run};
+
+use crate::kinds::{Mark, mark_of};
+use crate::span::last_token;
+use bz_token::{Kind, Token};
+use std::alloc::{AllocError, Global};
+use std::borrow::CowStr;
+
+/// Whether the token begins a block.
+pub(crate) fn is_block_word(token: &Token<'_>) -> bool
+    ensures { result ≡ is_block_word (placed token.now) }
+{
+    token.kind == Kind::Word && matches!(token.text, "def" | "for" | "if")
+}
+
+fn is_colon(token: &Token<'_>) -> bool
+    ensures { result ≡ is_colon (placed token.now) }
+{
+    token.kind == Kind::Sign && token.text == ":"
+}
+
+// The lines of a block that are still open, by the columns of their first tokens.
+#[derive(Drop)]
+pub(crate) struct Indents {
+    pub(crate) columns: Vec<u64>,
+    // The last token is `:`.
+    pub(crate) opens: bool,
+    // A line has begun.
+    pub(crate) inside: bool,
+}
+
+fn popped(columns: Vec<u64>, column: u64) -> Result<Option<Vec<u64>>, AllocError>
+    ensures { IfOk result (λ o. option_map (λ v. reverse v.items) o ≡ popped column (reverse columns.items)) }
+{
+    let mut columns = columns;
+    while let Some(last) = columns.pop() {
+        if last == column {
+            columns.push(last)?;
+            return Ok(Some(columns));
+        }
+    }
+    Ok(None)
+}
+
+fn pushed(columns: Vec<u64>, column: u64) -> Result<Option<Vec<u64>>, AllocError>
+    ensures { IfOk result (λ o. option_map (λ v. reverse v.items) o ≡ pushed column (reverse columns.items)) }
+{
+    let mut columns = columns;
+    if let Some(last) = columns.last() {
+        if *last >= column {
+            return Ok(None);
+        }
+    }
+    columns.push(column)?;
+    Ok(Some(columns))
+}
+
+fn indented(opens: bool, column: u64, columns: Vec<u64>) -> Result<Option<Vec<u64>>, AllocError>
+    ensures { IfOk result (λ o. option_map (λ v. reverse v.items) o ≡ indented opens column (reverse columns.items)) }
+{
+    if opens {
+        pushed(columns, column)
+    } else {
+        popped(columns, column)
+    }
+}
+
+fn next_counted(lines: Indents, token: &Token<'_>) -> Result<Option<Indents>, AllocError>
+    ensures { IfOk result (λ o. option_map lines_view o ≡ next_counted lines.inside (placed token.now) (lines_view lines)) }
+{
+    let opens = is_colon(token);
+    let columns = if lines.inside {
+        Some(lines.columns)
+    } else {
+        indented(lines.opens, token.col, lines.columns)?
+    };
+    match columns {
+        None => Ok(None),
+        Some(columns) => Ok(Some(Indents {
+            columns,
+            opens,
+            inside: true,
+        })),
+    }
+}
+
+// The lines behind a token. None: it is indented wrongly.
+fn next_indent(lines: Indents, token: &Token<'_>) -> Result<Option<Indents>, AllocError>
+    ensures { IfOk result (λ o. option_map lines_view o ≡ next_indent (mark_of (placed token.now)) (placed token.now) (lines_view lines)) }
+{
+    match mark_of(token) {
+        Mark::NewLine => Ok(Some(Indents {
+            columns: lines.columns,
+            opens: lines.opens,
+            inside: false,
+        })),
+        Mark::Comment => Ok(Some(lines)),
+        _ => next_counted(lines, token),
+    }
+}
+
+fn first_lines(alloc: Global) -> Result<Indents, AllocError>
+    ensures { IfOk result (λ i. lines_view i ≡ first_lines) }
+{
+    let mut columns = Vec::new(alloc);
+    columns.push(1)?;
+    Ok(Indents {
+        columns,
+        opens: false,
+        inside: false,
+    })
+}
+
+fn indent_walk(alloc: Global, tokens: &[Token<'_>]) -> Result<Option<u64>, AllocError>
+    ensures { IfOk result (λ o. o ≡ indent_run first_lines (map placed tokens.now)) }
+{
+    let mut lines = first_lines(alloc)?;
+    for token in tokens {
+        match next_indent(lines, token)? {
+            None => return Ok(Some(token.line)),
+            Some(next) => lines = next,
+        }
+    }
+    Ok(None)
+}
+
+/// The line of the first logical line of a block that is indented wrongly.
+pub(crate) fn block_indent(alloc: Global, tokens: &[Token<'_>]) -> Result<Option<u64>, AllocError>
+    ensures { IfOk result (λ o. o ≡ block_indent (map placed tokens.now)) }
+{
+    indent_walk(alloc, tokens)
+}
+
+fn depth_behind(mark: Mark, depth: usize) -> usize
+    requires { depth < 2 ^ 63 }
+    ensures { result ≡ depth_behind mark depth }
+{
+    match mark {
+        Mark::Open(_) => depth + 1,
+        Mark::Close(_) => usize::saturating_sub(depth, 1),
+        _ => depth,
+    }
+}
+
+fn colon_walk(tokens: &[Token<'_>]) -> bool
+    ensures { result ≡ colon_run 0 false (map placed tokens.now) }
+{
+    let mut depth = 0;
+    let mut inside = false;
+    for token in tokens {
+        match mark_of(token) {
+            Mark::NewLine if inside => return false,
+            Mark::NewLine | Mark::Comment => {}
+            mark => {
+                if depth == 0 && is_colon(token) {
+                    return true;
+                }
+                depth = depth_behind(mark, depth);
+                inside = true;
+            }
+        }
+    }
+    false
+}
+
+// Whether `:` stands outside brackets in the header line.
+fn has_header_colon(tokens: &[Token<'_>]) -> bool
+    ensures { result ≡ has_colon 0 (header_line (logical_lines (map placed tokens.now))) }
+{
+    colon_walk(tokens)
+}
+
+// Whether the last line ends with `:`.
+fn is_open_end(tokens: &[Token<'_>]) -> bool
+    ensures { result ≡ is_open_end (last_token (map placed tokens.now)) }
+{
+    match last_token(tokens) {
+        Some(token) => is_colon(&token),
+        None => false,
+    }
+}
+
+/// Whether the tokens are those of a block.
+pub(crate) fn is_block(tokens: &[Token<'_>]) -> bool
+    ensures { result ≡ is_block (map placed tokens.now) }
+{
+    has_header_colon(tokens) && !is_open_end(tokens)
+}
+
+/// The comments above the first token.
+pub(crate) fn comments_above<'a>(
+    alloc: Global,
+    tokens: &[Token<'a>],
+) -> Result<Vec<CowStr<'a>>, AllocError>
+    ensures { IfOk result (λ v. texts v.items ≡ above (map placed tokens.now)) }
+{
+    let mut comments = Vec::new(alloc);
+    for token in tokens {
+        match mark_of(token) {
+            Mark::Comment => comments.push(CowStr::Borrowed(token.text))?,
+            Mark::NewLine => {}
+            _ => return Ok(comments),
+        }
+    }
+    Ok(comments)
+}

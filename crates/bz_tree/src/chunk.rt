@@ -1,0 +1,226 @@
+//! The statement of a chunk.
+
+ghost use Rattle.std.specs.Prelude.{◌≡◌, ◌+◌, ◌<◌, ◌^◌, ◌==◌, true, false, IfOk, IfErr, IfSome, IfNone, IsSome, IsNone, map, option_map, count_by};
+ghost use Rattle.bz_token.specs.Places.{placed};
+ghost use Rattle.bz_tree.specs.Tree.{Statement};
+ghost use Rattle.bz_tree.specs.View.{texts, view, seg_view};
+ghost use Rattle.bz_tree.specs.Statement.{EndsFit, statement_with, first_token, first_seen, last_seen};
+ghost use Rattle.bz_tree.specs.Blocks.{IsBlockOf, kept_statement};
+ghost use Rattle.bz_tree.specs.Chunk.{IsPlain, begins_block, indent_fault, IsChunkOf, IsReadAs, IsTokenFault, IsStatementIn, IsBlank, IsFaultIn};
+ghost use Rattle.bz_tree.specs.BlockSteps.{AreStanding};
+
+use crate::block::{block_indent, comments_above, is_block, is_block_word};
+use crate::build::run;
+use crate::class::class_of;
+use crate::fault::ParseFault;
+use crate::grammar::is_statement;
+use crate::kept::kept_text;
+use crate::span::{end_line, end_of, first_seen, first_token, last_seen, start_of};
+use crate::stmt::{Class, Leaf, Node, Seg, Stmt};
+use bz_token::{Kind, LexFault, Token, tokens};
+use std::alloc::{AllocError, Global};
+use std::borrow::CowStr;
+
+// The statement of these nodes and comments.
+fn with_class<'a>(seg: Seg<'a>, tokens: &[Token<'a>]) -> Stmt<'a>
+    requires { EndsFit (map placed tokens.now) }
+    ensures { view result ≡ statement_with (map placed tokens.now) (seg_view seg.entry) }
+{
+    let class = class_of(&seg.nodes);
+    let Seg {
+        before,
+        nodes,
+        suffix,
+    } = seg;
+    Stmt {
+        before,
+        nodes,
+        suffix,
+        class,
+        start: start_of(tokens),
+        end: end_of(tokens),
+    }
+}
+
+// The statement of the tokens, which are no block. None: they have none.
+pub(crate) fn plain_statement<'a>(
+    alloc: Global,
+    tokens: &[Token<'a>],
+) -> Result<Option<Stmt<'a>>, AllocError>
+    requires { EndsFit (map placed tokens.now) }
+    ensures statement { IfOk result (λ o. IfSome o (λ s. IsPlain (map placed tokens.now) (view s))) }
+    ensures only { IfOk result (λ o. IfSome o (λ s. (t : Statement) → IsPlain (map placed tokens.now) t → view s ≡ t)) }
+    ensures none { IfOk result (λ o. IfNone o ((t : Statement) → IsPlain (map placed tokens.now) t → ⊥)) }
+{
+    let Some(seg) = run(alloc, tokens)? else {
+        return Ok(None);
+    };
+    if !is_statement(&seg.nodes) {
+        return Ok(None);
+    }
+    Ok(Some(with_class(seg, tokens)))
+}
+
+// The statement that a block is.
+fn kept_statement<'a>(
+    alloc: Global,
+    before: Vec<CowStr<'a>>,
+    kept: &'a str,
+    header: &Token<'a>,
+    end: u64,
+) -> Result<Stmt<'a>, AllocError>
+    ensures { IfOk result (λ s. view s ≡ kept_statement (texts before.entry.items) kept.now (placed header.now) end) }
+{
+    let mut nodes = Vec::new(alloc);
+    nodes.push(Node::Token(Leaf {
+        kind: Kind::Kept,
+        text: CowStr::Borrowed(kept),
+        line: header.line,
+        col: header.col,
+        fresh: header.fresh,
+    }))?;
+    Ok(Stmt {
+        before,
+        nodes,
+        suffix: None,
+        class: Class::Block,
+        start: header.line,
+        end,
+    })
+}
+
+// The block that the tokens are. None: they are none.
+fn block_of<'a>(
+    alloc: Global,
+    text: &'a str,
+    first_line: u64,
+    tokens: &[Token<'a>],
+) -> Result<Option<Stmt<'a>>, AllocError>
+    requires lines { first_line + count_by (λ b. b == 10) text.now < 2 ^ 64 }
+    requires ends { EndsFit (map placed tokens.now) }
+    requires standing { AreStanding first_line text.now (map placed tokens.now) }
+    requires block { begins_block (first_token (map placed tokens.now)) ≡ true }
+    ensures statement { IfOk result (λ o. IfSome o (λ s. IsBlockOf first_line text.now (map placed tokens.now) (view s))) }
+    ensures none { IfOk result (λ o. IfNone o ((t : Statement) → IsBlockOf first_line text.now (map placed tokens.now) t → ⊥)) }
+{
+    if !is_block(tokens) {
+        return Ok(None);
+    }
+    let Some(header) = first_token(tokens) else {
+        return Ok(None);
+    };
+    let Some(last) = last_seen(tokens) else {
+        return Ok(None);
+    };
+    let kept = kept_text(text, first_line, &header, &last);
+    let before = comments_above(alloc, tokens)?;
+    Ok(Some(kept_statement(alloc, before, kept, &header, end_line(&last))?))
+}
+
+// The same, and the only one.
+fn block_statement<'a>(
+    alloc: Global,
+    text: &'a str,
+    first_line: u64,
+    tokens: &[Token<'a>],
+) -> Result<Option<Stmt<'a>>, AllocError>
+    requires lines { first_line + count_by (λ b. b == 10) text.now < 2 ^ 64 }
+    requires ends { EndsFit (map placed tokens.now) }
+    requires standing { AreStanding first_line text.now (map placed tokens.now) }
+    requires block { begins_block (first_token (map placed tokens.now)) ≡ true }
+    ensures statement { IfOk result (λ o. IfSome o (λ s. IsBlockOf first_line text.now (map placed tokens.now) (view s))) }
+    ensures only { IfOk result (λ o. IfSome o (λ s. (t : Statement) → IsBlockOf first_line text.now (map placed tokens.now) t → view s ≡ t)) }
+    ensures none { IfOk result (λ o. IfNone o ((t : Statement) → IsBlockOf first_line text.now (map placed tokens.now) t → ⊥)) }
+{
+    block_of(alloc, text, first_line, tokens)
+}
+
+fn begins_block(tokens: &[Token<'_>]) -> bool
+    ensures { result ≡ begins_block (first_token (map placed tokens.now)) }
+{
+    match first_token(tokens) {
+        Some(token) => is_block_word(&token),
+        None => false,
+    }
+}
+
+// The statement of a chunk's tokens. None: they have none.
+fn chunk_statement<'a>(
+    alloc: Global,
+    text: &'a str,
+    first_line: u64,
+    tokens: &[Token<'a>],
+) -> Result<Option<Stmt<'a>>, AllocError>
+    requires lines { first_line + count_by (λ b. b == 10) text.now < 2 ^ 64 }
+    requires ends { EndsFit (map placed tokens.now) }
+    requires standing { AreStanding first_line text.now (map placed tokens.now) }
+    ensures statement { IfOk result (λ o. IfSome o (λ s. IsChunkOf first_line text.now (map placed tokens.now) (view s))) }
+    ensures only { IfOk result (λ o. IfSome o (λ s. (t : Statement) → IsChunkOf first_line text.now (map placed tokens.now) t → view s ≡ t)) }
+    ensures none { IfOk result (λ o. IfNone o ((t : Statement) → IsChunkOf first_line text.now (map placed tokens.now) t → ⊥)) }
+{
+    if begins_block(tokens) {
+        block_statement(alloc, text, first_line, tokens)
+    } else {
+        plain_statement(alloc, tokens)
+    }
+}
+
+// The line at which a chunk is indented wrongly.
+fn indent_fault(alloc: Global, tokens: &[Token<'_>]) -> Result<Option<u64>, AllocError>
+    ensures { IfOk result (λ o. o ≡ indent_fault (map placed tokens.now)) }
+{
+    match first_token(tokens) {
+        None => Ok(None),
+        Some(token) if token.col != 1 => Ok(Some(token.line)),
+        Some(token) if is_block_word(&token) => block_indent(alloc, tokens),
+        Some(_) => Ok(None),
+    }
+}
+
+// The statement of a chunk with these tokens. None: it is blank.
+fn read_tokens<'a>(
+    alloc: Global,
+    text: &'a str,
+    first_line: u64,
+    tokens: &[Token<'a>],
+) -> Result<Option<Stmt<'a>>, ParseFault>
+    requires lines { first_line + count_by (λ b. b == 10) text.now < 2 ^ 64 }
+    requires ends { EndsFit (map placed tokens.now) }
+    requires standing { AreStanding first_line text.now (map placed tokens.now) }
+    ensures statement { IfOk result (λ o. IfSome o (λ s. IsReadAs first_line text.now (map placed tokens.now) (view s))) }
+    ensures blank { IfOk result (λ o. IfNone o (IsNone (first_seen (map placed tokens.now)))) }
+    ensures fault { IfErr result (IsTokenFault first_line text.now (map placed tokens.now)) }
+{
+    if first_seen(tokens).is_none() {
+        return Ok(None);
+    }
+    if let Some(line) = indent_fault(alloc, tokens)? {
+        return Err(ParseFault::Indented { line });
+    }
+    match chunk_statement(alloc, text, first_line, tokens)? {
+        Some(stmt) => Ok(Some(stmt)),
+        None => Err(ParseFault::NotAStatement {
+            line: start_of(tokens),
+        }),
+    }
+}
+
+/// The statement of a chunk, whose first line has this number, with at most so many brackets open at once. None: the chunk is
+/// blank. The rules are those of the Starlark specification; blocks and the owners of comments are this project's own.
+pub fn parse<'a>(
+    alloc: Global,
+    text: &'a str,
+    first_line: u64,
+    max_depth: u8,
+) -> Result<Option<Stmt<'a>>, ParseFault>
+    requires { first_line + count_by (λ b. b == 10) text.now < 2 ^ 64 }
+    ensures statement { IfOk result (λ o. IfSome o (λ s. IsStatementIn first_line max_depth text.now (view s))) }
+    ensures blank { IfOk result (λ o. IfNone o (IsBlank first_line max_depth text.now)) }
+    ensures fault { IfErr result (IsFaultIn first_line max_depth text.now) }
+{
+    match tokens(alloc, text, first_line, max_depth) {
+        Ok(tokens) => read_tokens(alloc, text, first_line, &tokens),
+        Err(LexFault::OutOfMemory) => Err(ParseFault::OutOfMemory),
+        Err(fault) => Err(ParseFault::Lex(fault)),
+    }
+}
