@@ -3,7 +3,7 @@
 
 use crate::{blank_between, flat, put_stmt};
 use bz_token::Kind;
-use bz_tree::{Class, Group, GroupKind, Leaf, Node, Seg, Stmt};
+use bz_tree::{Class, Group, GroupKind, Leaf, Node, ParseFault, Seg, Stmt, parse};
 use std::alloc::{AllocError, Global};
 use std::borrow::CowStr;
 use std::mem;
@@ -421,6 +421,84 @@ fn blocks(rt: HostRuntime) -> Result<(), Fail> {
     let mut out = Vec::new(a);
     put_stmt(a, &stmt, &mut out)?;
     assert!(rt; out.as_slice() == wanted.as_bytes());
+    Ok(())
+}
+
+// The statement of a chunk.
+fn parsed<'a>(alloc: Global, text: &'a str) -> Result<Option<Stmt<'a>>, ParseFault> {
+    parse(alloc, text, 1, 100)
+}
+
+// What is written for a chunk, nothing for a blank one.
+fn rewritten(alloc: Global, text: &str) -> Result<String, ParseFault> {
+    let mut out = Vec::new(alloc);
+    if let Some(stmt) = parsed(alloc, text)? {
+        put_stmt(alloc, &stmt, &mut out)?;
+    }
+    let mut text = String::new(alloc);
+    if let Ok(written) = std::str::from_utf8(&out) {
+        text.push_str(written)?;
+    }
+    Ok(text)
+}
+
+#[test]
+fn read_and_written(rt: HostRuntime) -> Result<(), Fail> {
+    for (text, wanted) in [
+        ("f(name='a')\n", "f(name = \"a\")\n"),
+        (
+            "f(\n    name = \"a\",\n    deps = [ # c1\n        \"x\", # c2\n        \"y\" # c3\n        , \"z\"\n        # c4\n    ],\n)\n",
+            "f(\n    name = \"a\",\n    deps = [\n        # c1\n        \"x\",  # c2\n        \"y\",  # c3\n        \"z\",\n        # c4\n    ],\n)\n",
+        ),
+        (
+            "f(name = \"a\", deps = [\"a\",\"d\"] + select({\"c\": [\"b\"]}))\n",
+            "f(\n    name = \"a\",\n    deps = [\n        \"a\",\n        \"d\",\n    ] + select({\n        \"c\": [\"b\"],\n    }),\n)\n",
+        ),
+        (
+            "x = [k+v for k,v in d.items()]\n",
+            "x = [k + v for k, v in d.items()]\n",
+        ),
+        ("x=(1)\n", "x = (1)\n"),
+        ("y=(1,)\n", "y = (1,)\n"),
+        (
+            "f(\n    name = \"a\",\n    # d\n    deps = [\n        # one\n        \"x\",\n        \"y\",  # two\n    ],\n    data = [\"x\"],\n)\n",
+            "f(\n    name = \"a\",\n    # d\n    deps = [\n        # one\n        \"x\",\n        \"y\",  # two\n    ],\n    data = [\"x\"],\n)\n",
+        ),
+        (
+            "f( # note\nname = \"a\")\n",
+            "f(\n    # note\n    name = \"a\",\n)\n",
+        ),
+        ("# top\n\n", "# top\n"),
+        ("# of x\nx = 1 # s\n", "# of x\nx = 1  # s\n"),
+        ("# end", "# end\n"),
+        (
+            "f(name = \"a\", deps = [\":x\", \":y\"])\n",
+            "f(\n    name = \"a\",\n    deps = [\n        \":x\",\n        \":y\",\n    ],\n)\n",
+        ),
+        (
+            "f(name = \"a\", deps = [\"x y\", \"z\"], n = 1+2)\n",
+            "f(\n    name = \"a\",\n    deps = [\n        \"x y\",\n        \"z\",\n    ],\n    n = 1 + 2,\n)\n",
+        ),
+        ("x = not -f(*a, **k)\n", "x = not -f(*a, **k)\n"),
+        (
+            "x={'a':[1,2]}\n",
+            "x = {\n    \"a\": [\n        1,\n        2,\n    ],\n}\n",
+        ),
+        ("x[1 : - 2]\n", "x[1:-2]\n"),
+        (
+            "x = [ ':a', \"b\"[ : : ], a not in b ]\n",
+            "x = [\n    \":a\",\n    \"b\"[::],\n    a not in b,\n]\n",
+        ),
+        (
+            "if a:\n    def = \"\"\"\n# in the text\n\"\"\"\nelse:\n    y  =  2\n\n  # tail\n\n",
+            "if a:\n    def = \"\"\"\n# in the text\n\"\"\"\nelse:\n    y  =  2\n\n  # tail\n",
+        ),
+    ] {
+        let once = rewritten(rt.alloc(), text)?;
+        assert_eq!(rt; once.as_str(), wanted);
+        // read again as the same statement, written as the same bytes
+        assert_eq!(rt; rewritten(rt.alloc(), once.as_str())?.as_str(), wanted);
+    }
     Ok(())
 }
 
