@@ -1,10 +1,10 @@
 -- The definitions compute.
-use Rattle.std.specs.Prelude.{◌≡◌, ℕ, List, [], ◌∷◌, Bool, true, false, codes, refl}
+use Rattle.std.specs.Prelude.{◌≡◌, ℕ, List, [], ◌∷◌, true, false, codes, refl}
 use Rattle.std.specs.Prelude.Option.{Some, None}
 use Rattle.bz_token.specs.declared.token.Kind.TheVariants.{Ident, Word, Int, Text, Sign, Kept}
-use Rattle.bz_tree.specs.declared.stmt.GroupKind.TheVariants.{Call, RuleCall, Paren, List as ListKind, Index, Dict, ListComp}
+use Rattle.bz_tree.specs.declared.stmt.GroupKind.TheVariants.{Call, Paren, List as ListKind, Index, Dict}
 use Rattle.bz_tree.specs.declared.stmt.Class.TheVariants.{Load, Assign, Rule, Comment, Block}
-use Rattle.bz_tree.specs.Tree.{Item, leaf, group, Items, no_items, item, Segs, no_segs, seg, Segment, Statement, items_of, segs_of, nowhere}
+use Rattle.bz_tree.specs.Tree.{Item, leaf, group, Segment, Statement, segs_of, nowhere}
 use Rattle.bz_layout.specs.Layout.{layout, layout_text, flat_text}
 use Rattle.bz_layout.specs.Lines.{text_line, lines_of}
 use Rattle.bz_layout.specs.Gaps.{blank_between}

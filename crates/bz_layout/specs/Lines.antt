@@ -4,7 +4,7 @@ use Rattle.std.specs.Str.{bytes_eq}
 use Rattle.bz_token.specs.declared.token.Kind.{Kind}
 use Rattle.bz_token.specs.declared.token.Kind.TheVariants.{Line as LineKind}
 use Rattle.bz_layout.specs.declared.spacing.Gap.{Gap}
-use Rattle.bz_layout.specs.declared.spacing.Gap.TheVariants.{Closed, Space, Apart, Line}
+use Rattle.bz_layout.specs.declared.spacing.Gap.TheVariants.{Line}
 use Rattle.bz_layout.specs.Pieces.{Piece, indent, gap_bytes}
 
 pub record TextLine : Type 0 where
