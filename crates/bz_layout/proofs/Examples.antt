@@ -1,0 +1,82 @@
+-- The definitions compute.
+use Rattle.std.specs.Prelude.{◌≡◌, ℕ, List, [], ◌∷◌, true, false, codes, refl}
+use Rattle.std.specs.Prelude.Option.{Some, None}
+use Rattle.bz_token.specs.declared.token.Kind.TheVariants.{Ident, Word, Int, Text, Sign, Kept}
+use Rattle.bz_tree.specs.declared.stmt.GroupKind.TheVariants.{Call, Paren, List as ListKind, Index, Dict}
+use Rattle.bz_tree.specs.declared.stmt.Class.TheVariants.{Load, Assign, Rule, Comment, Block}
+use Rattle.bz_tree.specs.Tree.{Item, leaf, group, Segment, Statement, segs_of, nowhere}
+use Rattle.bz_layout.specs.Layout.{layout, layout_text, flat_text}
+use Rattle.bz_layout.specs.Lines.{text_line, lines_of}
+use Rattle.bz_layout.specs.Gaps.{blank_between}
+
+abbrev pub name : List ℕ → Item
+name text = leaf Ident text nowhere
+
+abbrev pub int : List ℕ → Item
+int text = leaf Int text nowhere
+
+abbrev pub text : List ℕ → Item
+text t = leaf Text t nowhere
+
+abbrev pub sign : List ℕ → Item
+sign t = leaf Sign t nowhere
+
+abbrev pub plain : List Item → Segment
+plain xs = record { before = []; nodes = xs; suffix = None }
+
+-- `x[1:-2]`
+slice : flat_text None (name (codes "x") ∷ group Index (segs_of (plain (int (codes "1") ∷ sign (codes ":") ∷ sign (codes "-") ∷ int (codes "2") ∷ []) ∷ [])) false [] ∷ []) ≡ codes "x[1:-2]"
+slice = refl
+
+-- `not -f(*a, **k)`
+prefixes : flat_text None (leaf Word (codes "not") nowhere ∷ sign (codes "-") ∷ name (codes "f") ∷ group Call (segs_of (plain (sign (codes "*") ∷ name (codes "a") ∷ []) ∷ plain (sign (codes "**") ∷ name (codes "k") ∷ []) ∷ [])) false [] ∷ []) ≡ codes "not -f(*a, **k)"
+prefixes = refl
+
+-- `['a', b'x']` within a dict behind its colon
+strings : flat_text (Some Dict) (text (codes "'k'") ∷ sign (codes ":") ∷ group ListKind (segs_of (plain (text (codes "'a'") ∷ []) ∷ plain (text (codes "b'x'") ∷ []) ∷ [])) false [] ∷ []) ≡ codes "\"k\": [\"a\", b'x']"
+strings = refl
+
+-- `x = [..]` with a comment in each place
+abbrev pub commented : Statement
+commented = record {
+  before = codes "# top" ∷ [];
+  nodes = name (codes "x") ∷ sign (codes "=") ∷ group ListKind (segs_of (record { before = codes "# a" ∷ []; nodes = int (codes "1") ∷ []; suffix = Some (codes "# b") } ∷ [])) false (codes "# c" ∷ []) ∷ [];
+  suffix = Some (codes "# d");
+  class = Assign;
+  start = 2;
+  end = 6;
+}
+
+places : layout_text commented ≡ codes "# top\nx = [\n    # a\n    1,  # b\n    # c\n]  # d\n"
+places = refl
+
+lines : lines_of (layout commented) ≡ text_line 0 (codes "# top") ∷ text_line 0 (codes "x = [") ∷ text_line 1 (codes "# a") ∷ text_line 1 (codes "1,  # b") ∷ text_line 1 (codes "# c") ∷ text_line 0 (codes "]  # d") ∷ []
+lines = refl
+
+-- `f({"a": [1, 2]})`: a dict breaks in place, and the list in it one level deeper
+nested : layout_text (record { before = []; nodes = name (codes "f") ∷ group Call (segs_of (plain (group Dict (segs_of (plain (text (codes "'a'") ∷ sign (codes ":") ∷ group ListKind (segs_of (plain (int (codes "1") ∷ []) ∷ plain (int (codes "2") ∷ []) ∷ [])) false [] ∷ []) ∷ [])) false [] ∷ []) ∷ [])) false [] ∷ []; suffix = None; class = Rule; start = 1; end = 1 }) ≡ codes "f({\n    \"a\": [\n        1,\n        2,\n    ],\n})\n"
+nested = refl
+
+-- `(1)` and `(1,)`
+one : flat_text None (group Paren (segs_of (plain (int (codes "1") ∷ []) ∷ [])) false [] ∷ []) ≡ codes "(1)"
+one = refl
+
+one_comma : flat_text None (group Paren (segs_of (plain (int (codes "1") ∷ []) ∷ [])) true [] ∷ []) ≡ codes "(1,)"
+one_comma = refl
+
+-- a block stands as it is
+kept : layout_text (record { before = codes "# a" ∷ []; nodes = leaf Kept (codes "if a:\n  b  =  'c'") nowhere ∷ []; suffix = None; class = Block; start = 2; end = 3 }) ≡ codes "# a\nif a:\n  b  =  'c'\n"
+kept = refl
+
+-- empty lines
+first : blank_between None Rule ≡ false
+first = refl
+
+loads : blank_between (Some Load) Load ≡ false
+loads = refl
+
+load_and_assignment : blank_between (Some Load) Assign ≡ true
+load_and_assignment = refl
+
+comments : blank_between (Some Comment) Comment ≡ true
+comments = refl

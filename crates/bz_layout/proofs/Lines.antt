@@ -1,0 +1,80 @@
+-- The text of a statement is that of its lines.
+use Rattle.std.proofs.Common.{◌≡◌, ℕ, List, [], ◌∷◌, ◌++◌, Bool, true, false, refl, ◌∙◌, append_assoc, append-nil, inl, inr}
+use Rattle.std.specs.Prelude.{codes}
+use Rattle.std.specs.Prelude.Option.{None}
+use Rattle.std.specs.Str.{bytes_eq}
+use Rattle.std.proofs.lemmas.Bool.{cases_Bool, and_parts, false≢true}
+use Rattle.std.proofs.lemmas.Slice.Eq.{bytes_eq-Decides}
+use Rattle.bz_tree.specs.Tree.{Statement, items_of}
+use Rattle.bz_token.specs.declared.token.Kind.TheVariants.{Line as LineKind}
+use Rattle.bz_layout.specs.declared.spacing.Edge.TheVariants.{Start}
+use Rattle.bz_layout.specs.declared.spacing.Gap.{Gap}
+use Rattle.bz_layout.specs.declared.spacing.Gap.TheVariants.{Closed, Space, Apart, Line}
+use Rattle.bz_layout.specs.declared.broken.Style.TheVariants.{Broken}
+use Rattle.bz_layout.specs.Pieces.{Piece, piece, indent, gap_bytes, bytes_of, comment_lines, suffix_piece}
+use Rattle.bz_layout.specs.Layout.{items_pieces, statement_line, is_comment, layout, layout_text}
+use Rattle.bz_layout.specs.Lines.{TextLine, text_line, lines_text, is_line_kind, is_newline, ended_by, level_behind, text_behind, lines_from, lines_of}
+
+lines_append : (a b : List TextLine) → lines_text (a ++ b) ≡ lines_text a ++ lines_text b
+lines_append [] b = refl
+lines_append (l ∷ a) b = rw (lines_append a b) (simp append_assoc)
+
+behind_gap : (gap : Gap) (level : ℕ) (text rest : List ℕ) → indent level ++ (text ++ (gap_bytes gap ++ rest)) ≡ lines_text (ended_by gap level text) ++ (indent (level_behind gap level) ++ (text_behind gap text ++ rest))
+behind_gap Closed level text rest = simp append_assoc
+behind_gap Space level text rest = simp append_assoc
+behind_gap Apart level text rest = simp append_assoc
+behind_gap (Line n) level text rest = simp append_assoc
+
+-- the last piece is a newline
+abbrev pub ends_line : List Piece → Bool
+ends_line [] = false
+ends_line (p ∷ []) = is_newline p
+ends_line (p ∷ q ∷ ps) = ends_line (q ∷ ps)
+
+newline_text : (p : Piece) → is_newline p ≡ true → p.text ≡ codes "\n"
+newline_text p h = (bytes_eq-Decides p.text (codes "\n")).0 (and_parts (is_line_kind p.kind) (bytes_eq p.text (codes "\n")) h).1
+
+pub from_lines : (ps : List Piece) (level : ℕ) (text : List ℕ) → ends_line ps ≡ true → indent level ++ (text ++ bytes_of ps) ≡ lines_text (lines_from level text ps)
+from_lines [] level text h = absurd (false≢true h)
+from_lines (p ∷ []) level text h =
+    let l = level_behind p.gap level in
+    let t = text_behind p.gap text in
+    let is = newline_text p h in
+    rw (h, lines_append (ended_by p.gap level text) (text_line l t ∷ [])) (behind_gap p.gap level text (p.text ++ []) ∙ rw is refl)
+from_lines (p ∷ q ∷ ps) level text h =
+    let l = level_behind p.gap level in
+    let t = text_behind p.gap text in
+    elim (cases_Bool (is_newline p)) [
+      | inl hit ↦
+          let is = newline_text p hit in
+          let next = from_lines (q ∷ ps) 0 [] h in
+          rw (hit, lines_append (ended_by p.gap level text) (text_line l t ∷ lines_from 0 [] (q ∷ ps)), ← next) (behind_gap p.gap level text (p.text ++ bytes_of (q ∷ ps)) ∙ rw is refl)
+      | inr miss ↦
+          let next = from_lines (q ∷ ps) l (t ++ p.text) h in
+          rw (miss, lines_append (ended_by p.gap level text) (lines_from l (t ++ p.text) (q ∷ ps)), ← next, append_assoc t p.text (bytes_of (q ∷ ps))) (behind_gap p.gap level text (p.text ++ bytes_of (q ∷ ps)))
+    ]
+
+ends_behind : (ps : List Piece) (qs : List Piece) → ends_line qs ≡ true → ends_line (ps ++ qs) ≡ true
+ends_behind [] qs h = h
+ends_behind (p ∷ []) [] h = absurd (false≢true h)
+ends_behind (p ∷ []) (q ∷ qs) h = h
+ends_behind (p ∷ r ∷ ps) qs h = ends_behind (r ∷ ps) qs h
+
+statement_ends : (s : Statement) → ends_line (statement_line s) ≡ true
+statement_ends s =
+    let newline = piece Closed LineKind (codes "\n") ∷ [] in
+    ends_behind (items_pieces Broken 0 None Closed Start (items_of s.nodes)) (suffix_piece s.suffix ++ newline) (ends_behind (suffix_piece s.suffix) newline refl)
+
+comments_end : (note : List ℕ) (notes : List (List ℕ)) → ends_line (comment_lines (note ∷ notes)) ≡ true
+comments_end note [] = refl
+comments_end note (n ∷ notes) = comments_end n notes
+
+comments_read : (notes : List (List ℕ)) → bytes_of (comment_lines notes) ≡ lines_text (lines_of (comment_lines notes))
+comments_read [] = refl
+comments_read (n ∷ notes) = from_lines (comment_lines (n ∷ notes)) 0 [] (comments_end n notes)
+
+pub text_is_lines : (s : Statement) → layout_text s ≡ lines_text (lines_of (layout s))
+text_is_lines s = elim (cases_Bool (is_comment s.class)) [
+  | inl hit ↦ rw (hit, append-nil (comment_lines s.before)) (comments_read s.before)
+  | inr miss ↦ rw miss (from_lines (comment_lines s.before ++ statement_line s) 0 [] (ends_behind (comment_lines s.before) (statement_line s) (statement_ends s)))
+]

@@ -1,0 +1,51 @@
+-- A written text as pieces: tokens and comments, each behind its gap (this project's own form of a layout).
+use Rattle.std.specs.Prelude.{codes, ℕ, zero, suc, List, [], ◌∷◌, ◌++◌, Bool, if◌then◌else◌, Option}
+use Rattle.std.specs.Prelude.Option.{Some, None}
+use Rattle.bz_token.specs.declared.token.Kind.{Kind}
+use Rattle.bz_token.specs.declared.token.Kind.TheVariants.{Sign, Line as LineKind, Note}
+use Rattle.bz_layout.specs.declared.spacing.Gap.{Gap}
+use Rattle.bz_layout.specs.declared.spacing.Gap.TheVariants.{Closed, Space, Apart, Line}
+
+-- a token or comment behind its gap
+pub record Piece : Type 0 where
+  pub gap : Gap
+  pub kind : Kind
+  pub text : List ℕ
+
+abbrev pub piece : Gap → Kind → List ℕ → Piece
+piece gap kind text = record { gap = gap; kind = kind; text = text }
+
+-- four spaces a level
+abbrev pub indent : ℕ → List ℕ
+indent zero = []
+indent (suc n) = 32 ∷ 32 ∷ 32 ∷ 32 ∷ indent n
+
+-- nothing, one space, two spaces, or a new line at a level
+abbrev pub gap_bytes : Gap → List ℕ
+gap_bytes Closed = []
+gap_bytes Space = 32 ∷ []
+gap_bytes Apart = 32 ∷ 32 ∷ []
+gap_bytes (Line level) = 10 ∷ indent level
+
+-- what is written
+abbrev pub bytes_of : List Piece → List ℕ
+bytes_of [] = []
+bytes_of (p ∷ ps) = gap_bytes p.gap ++ (p.text ++ bytes_of ps)
+
+abbrev pub comma_if : Bool → List Piece
+comma_if b = if b then piece Closed Sign (codes ",") ∷ [] else []
+
+-- comments in a broken group, each on a line of its own
+abbrev pub comments : ℕ → List (List ℕ) → List Piece
+comments level [] = []
+comments level (note ∷ notes) = piece (Line level) Note note ∷ comments level notes
+
+-- comments above a statement, each with its newline
+abbrev pub comment_lines : List (List ℕ) → List Piece
+comment_lines [] = []
+comment_lines (note ∷ notes) = piece Closed Note note ∷ piece Closed LineKind (codes "\n") ∷ comment_lines notes
+
+-- two spaces and the comment behind a segment or statement
+abbrev pub suffix_piece : Option (List ℕ) → List Piece
+suffix_piece None = []
+suffix_piece (Some note) = piece Apart Note note ∷ []

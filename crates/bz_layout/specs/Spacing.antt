@@ -1,0 +1,78 @@
+-- Where a space stands between two neighbouring nodes (this project's own rule).
+use Rattle.std.specs.Prelude.{codes, ℕ, List, Bool, true, false, ◌&&◌, ◌||◌, if◌then◌else◌, Option}
+use Rattle.std.specs.Prelude.Option.{Some}
+use Rattle.std.specs.Str.{bytes_eq}
+use Rattle.bz_token.specs.declared.token.Kind.TheVariants.{Word, Sign}
+use Rattle.bz_tree.specs.declared.stmt.GroupKind.{GroupKind}
+use Rattle.bz_tree.specs.declared.stmt.GroupKind.TheVariants.{Call, RuleCall, Load, Index}
+use Rattle.bz_layout.specs.declared.spacing.Edge.{Edge}
+use Rattle.bz_layout.specs.declared.spacing.Edge.TheVariants.{Start, Joined, Dotted, Operator, Operand}
+use Rattle.bz_layout.specs.declared.spacing.Gap.{Gap}
+use Rattle.bz_layout.specs.declared.spacing.Gap.TheVariants.{Closed, Space}
+use Rattle.bz_tree.specs.Tree.{Item, leaf, group}
+
+-- a group that stands directly behind what comes before it
+abbrev pub hugs : GroupKind → Bool
+hugs Call = true
+hugs RuleCall = true
+hugs Load = true
+hugs Index = true
+hugs _ = false
+
+-- no space stands before `.`, `,`, `:` and a group that hugs
+abbrev pub closes_up : Item → Bool
+closes_up (leaf Sign text place) = bytes_eq text (codes ".") || bytes_eq text (codes ",") || bytes_eq text (codes ":")
+closes_up (leaf _ text place) = false
+closes_up (group kind segs one_comma end) = hugs kind
+
+abbrev pub is_index : Option GroupKind → Bool
+is_index (Some Index) = true
+is_index _ = false
+
+abbrev pub is_call : Option GroupKind → Bool
+is_call (Some Call) = true
+is_call (Some RuleCall) = true
+is_call _ = false
+
+-- at the start, behind a sign other than `.` and behind a keyword a sign begins an operand
+abbrev pub awaits_operand : Edge → Bool
+awaits_operand Dotted = false
+awaits_operand Operand = false
+awaits_operand _ = true
+
+abbrev pub is_start : Edge → Bool
+is_start Start = true
+is_start _ = false
+
+abbrev pub is_prefix : Edge → List ℕ → Bool
+is_prefix left text = awaits_operand left && (bytes_eq text (codes "+") || bytes_eq text (codes "-") || bytes_eq text (codes "~"))
+
+-- the `*` or `**` that begins an argument
+abbrev pub begins_argument : Option GroupKind → Edge → List ℕ → Bool
+begins_argument within left text = is_call within && is_start left && (bytes_eq text (codes "*") || bytes_eq text (codes "**"))
+
+abbrev pub is_index_colon : Option GroupKind → List ℕ → Bool
+is_index_colon within text = is_index within && bytes_eq text (codes ":")
+
+abbrev pub sign_edge : Option GroupKind → Edge → List ℕ → Edge
+sign_edge within left text =
+    if bytes_eq text (codes ".") then Dotted else
+    (if is_prefix left text || begins_argument within left text || is_index_colon within text then Joined else Operator)
+
+-- what a node leaves to the one behind it
+abbrev pub edge_behind : Option GroupKind → Edge → Item → Edge
+edge_behind within left (leaf Sign text place) = sign_edge within left text
+edge_behind within left (leaf Word text place) = Operator
+edge_behind within left (leaf _ text place) = Operand
+edge_behind within left (group kind segs one_comma end) = Operand
+
+-- the next node stands directly behind `.`, a prefix, the star of an argument and the colon of an index
+abbrev pub holds_on : Edge → Bool
+holds_on Dotted = true
+holds_on Joined = true
+holds_on _ = false
+
+-- the gap before a node: at the start that of the nodes, else a space where neither neighbour closes up
+abbrev pub gap_before : Gap → Edge → Item → Gap
+gap_before first Start x = first
+gap_before first left x = if holds_on left || closes_up x then Closed else Space

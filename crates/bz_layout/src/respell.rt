@@ -1,0 +1,57 @@
+//! How a string is written.
+
+ghost use Rattle.std.specs.Prelude.{◌≡◌, ◌++◌, ◌∷◌, [], List, ℕ, true, false, IfSome, IfNone, OnOk, string_bytes};
+ghost use Rattle.std.specs.List.{list_all};
+ghost use Rattle.bz_layout.specs.Respell.{is_plain, respell};
+
+use bz_token::Kind;
+use std::alloc::AllocError;
+
+fn is_plain(b: u8) -> bool
+    ensures { result ≡ is_plain b }
+{
+    b != b'"' && b != b'\'' && b != b'\\'
+}
+
+fn are_plain(bytes: &[u8]) -> bool
+    ensures { result ≡ list_all is_plain bytes.now }
+{
+    for b in bytes {
+        if !is_plain(*b) {
+            return false;
+        }
+    }
+    true
+}
+
+// The content of a string without prefix in single quotes that holds neither a quote nor a backslash.
+fn single_content(text: &str) -> Option<&str>
+    ensures some { IfSome result (λ inner. (text.now ≡ 39 ∷ (inner.now ++ 39 ∷ [])) × (list_all is_plain inner.now ≡ true)) }
+    ensures none { IfNone result ((inner : List ℕ) → text.now ≡ 39 ∷ (inner ++ 39 ∷ []) → list_all is_plain inner ≡ false) }
+{
+    let Some(rest) = text.strip_prefix('\'') else {
+        return None;
+    };
+    let Some(inner) = rest.strip_suffix('\'') else {
+        return None;
+    };
+    if are_plain(inner.as_bytes()) {
+        Some(inner)
+    } else {
+        None
+    }
+}
+
+// Appends the written form of a token.
+pub(crate) fn put_written(kind: Kind, text: &str, out: &mut String) -> Result<(), AllocError>
+    ensures ok { OnOk result (string_bytes out.new ≡ string_bytes out.old ++ respell kind text.now) }
+{
+    if matches!(kind, Kind::Text) {
+        if let Some(inner) = single_content(text) {
+            out.push_str("\"")?;
+            out.push_str(inner)?;
+            return out.push_str("\"");
+        }
+    }
+    out.push_str(text)
+}

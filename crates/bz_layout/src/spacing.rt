@@ -1,0 +1,136 @@
+//! Where a space stands between two neighbouring nodes.
+
+ghost use Rattle.std.specs.Prelude.{◌≡◌};
+ghost use Rattle.bz_tree.specs.View.{node_view};
+ghost use Rattle.bz_layout.specs.Spacing.{hugs, closes_up, is_index, is_call, awaits_operand, is_prefix, begins_argument, is_index_colon, sign_edge, edge_behind, gap_before};
+
+use bz_token::Kind;
+use bz_tree::{GroupKind, Node};
+
+/// What the nodes so far leave to the next one.
+#[derive(Clone, Copy, Debug, PartialEq, Eq)]
+pub(crate) enum Edge {
+    /// No node stands before it.
+    Start,
+    /// A prefix, an argument's star or an index's colon, which holds on to what is next.
+    Joined,
+    /// A `.`.
+    Dotted,
+    /// Any other sign, or a keyword.
+    Operator,
+    /// A name, a literal or a group.
+    Operand,
+}
+
+/// What stands before a token or comment.
+#[derive(Clone, Copy, Debug, PartialEq, Eq)]
+pub(crate) enum Gap {
+    Closed,
+    Space,
+    /// Two spaces, before a comment on the same line.
+    Apart,
+    /// A new line at this level, four spaces each.
+    Line(usize),
+}
+
+fn hugs(kind: GroupKind) -> bool
+    ensures { result ≡ hugs kind }
+{
+    matches!(
+        kind,
+        GroupKind::Call | GroupKind::RuleCall | GroupKind::Load | GroupKind::Index
+    )
+}
+
+fn closes_up(node: &Node<'_>) -> bool
+    ensures { result ≡ closes_up (node_view node.now) }
+{
+    match node {
+        Node::Token(leaf) => {
+            let text = leaf.text.as_str();
+            matches!(leaf.kind, Kind::Sign) && (text == "." || text == "," || text == ":")
+        }
+        Node::Group(group) => hugs(group.kind),
+    }
+}
+
+fn is_index(within: Option<GroupKind>) -> bool
+    ensures { result ≡ is_index within }
+{
+    matches!(within, Some(GroupKind::Index))
+}
+
+fn is_call(within: Option<GroupKind>) -> bool
+    ensures { result ≡ is_call within }
+{
+    matches!(within, Some(GroupKind::Call | GroupKind::RuleCall))
+}
+
+fn awaits_operand(left: Edge) -> bool
+    ensures { result ≡ awaits_operand left }
+{
+    !matches!(left, Edge::Dotted | Edge::Operand)
+}
+
+fn is_prefix(left: Edge, text: &str) -> bool
+    ensures { result ≡ is_prefix left text.now }
+{
+    awaits_operand(left) && (text == "+" || text == "-" || text == "~")
+}
+
+fn begins_argument(within: Option<GroupKind>, left: Edge, text: &str) -> bool
+    ensures { result ≡ begins_argument within left text.now }
+{
+    is_call(within) && matches!(left, Edge::Start) && (text == "*" || text == "**")
+}
+
+fn is_index_colon(within: Option<GroupKind>, text: &str) -> bool
+    ensures { result ≡ is_index_colon within text.now }
+{
+    is_index(within) && text == ":"
+}
+
+fn sign_edge(within: Option<GroupKind>, left: Edge, text: &str) -> Edge
+    ensures { result ≡ sign_edge within left text.now }
+{
+    if text == "." {
+        Edge::Dotted
+    } else if is_prefix(left, text)
+        || begins_argument(within, left, text)
+        || is_index_colon(within, text)
+    {
+        Edge::Joined
+    } else {
+        Edge::Operator
+    }
+}
+
+pub(crate) fn edge_behind(within: Option<GroupKind>, left: Edge, node: &Node<'_>) -> Edge
+    ensures { result ≡ edge_behind within left (node_view node.now) }
+{
+    match node {
+        Node::Token(leaf) => match leaf.kind {
+            Kind::Sign => sign_edge(within, left, leaf.text.as_str()),
+            Kind::Word => Edge::Operator,
+            _ => Edge::Operand,
+        },
+        Node::Group(_) => Edge::Operand,
+    }
+}
+
+// The gap before a node, where that before the first one is given.
+pub(crate) fn gap_before(first: Gap, left: Edge, node: &Node<'_>) -> Gap
+    ensures { result ≡ gap_before first left (node_view node.now) }
+{
+    match left {
+        Edge::Start => first,
+        Edge::Joined | Edge::Dotted => Gap::Closed,
+        Edge::Operator | Edge::Operand => {
+            if closes_up(node) {
+                Gap::Closed
+            } else {
+                Gap::Space
+            }
+        }
+    }
+}

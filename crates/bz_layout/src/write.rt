@@ -1,0 +1,107 @@
+//! Gaps, comments and brackets, appended to a text.
+
+ghost use Rattle.std.specs.Prelude.{◌≡◌, ◌++◌, OnOk, option_map, string_bytes};
+ghost use Rattle.bz_tree.specs.View.{text_of, texts};
+ghost use Rattle.bz_layout.specs.Pieces.{indent, gap_bytes, bytes_of, comments, comment_lines, suffix_piece};
+ghost use Rattle.bz_layout.specs.Layout.{opening, closing, has_commas};
+
+use crate::spacing::Gap;
+use bz_tree::GroupKind;
+use std::alloc::AllocError;
+use std::borrow::CowStr;
+
+pub(crate) fn opening(kind: GroupKind) -> &'static str
+    ensures { result.now ≡ opening kind }
+{
+    match kind {
+        GroupKind::Call | GroupKind::RuleCall | GroupKind::Load | GroupKind::Paren => "(",
+        GroupKind::List | GroupKind::Index | GroupKind::ListComp => "[",
+        GroupKind::Dict | GroupKind::DictComp => "{",
+    }
+}
+
+pub(crate) fn closing(kind: GroupKind) -> &'static str
+    ensures { result.now ≡ closing kind }
+{
+    match kind {
+        GroupKind::Call | GroupKind::RuleCall | GroupKind::Load | GroupKind::Paren => ")",
+        GroupKind::List | GroupKind::Index | GroupKind::ListComp => "]",
+        GroupKind::Dict | GroupKind::DictComp => "}",
+    }
+}
+
+// Whether a broken group of `n` segments has a comma behind each.
+pub(crate) fn has_commas(kind: GroupKind, one_comma: bool, n: usize) -> bool
+    ensures { result ≡ has_commas kind one_comma n }
+{
+    match kind {
+        GroupKind::ListComp | GroupKind::DictComp | GroupKind::Index => false,
+        GroupKind::Paren => one_comma || n >= 2,
+        _ => true,
+    }
+}
+
+#[tactic(auto, using(crate::proofs::Pieces::indent_step))]
+fn put_indent(level: usize, out: &mut String) -> Result<(), AllocError>
+    ensures ok { OnOk result (string_bytes out.new ≡ string_bytes out.old ++ indent level) }
+{
+    for _ in 0..level {
+        out.push_str("    ")?;
+    }
+    Ok(())
+}
+
+pub(crate) fn put_gap(gap: Gap, out: &mut String) -> Result<(), AllocError>
+    ensures ok { OnOk result (string_bytes out.new ≡ string_bytes out.old ++ gap_bytes gap) }
+{
+    match gap {
+        Gap::Closed => Ok(()),
+        Gap::Space => out.push_str(" "),
+        Gap::Apart => out.push_str("  "),
+        Gap::Line(level) => {
+            out.push_str("\n")?;
+            put_indent(level, out)
+        }
+    }
+}
+
+pub(crate) fn put(gap: Gap, text: &str, out: &mut String) -> Result<(), AllocError>
+    ensures ok { OnOk result (string_bytes out.new ≡ string_bytes out.old ++ (gap_bytes gap ++ text.now)) }
+{
+    put_gap(gap, out)?;
+    out.push_str(text)
+}
+
+// Comments in a broken group, each on a line of its own.
+pub(crate) fn put_comments(
+    level: usize,
+    notes: &[CowStr<'_>],
+    out: &mut String,
+) -> Result<(), AllocError>
+    ensures ok { OnOk result (string_bytes out.new ≡ string_bytes out.old ++ bytes_of (comments level (texts notes.now))) }
+{
+    for note in notes {
+        put(Gap::Line(level), note.as_str(), out)?;
+    }
+    Ok(())
+}
+
+// Comments above a statement, each with its newline.
+pub(crate) fn put_comment_lines(notes: &[CowStr<'_>], out: &mut String) -> Result<(), AllocError>
+    ensures ok { OnOk result (string_bytes out.new ≡ string_bytes out.old ++ bytes_of (comment_lines (texts notes.now))) }
+{
+    for note in notes {
+        out.push_str(note.as_str())?;
+        out.push_str("\n")?;
+    }
+    Ok(())
+}
+
+pub(crate) fn put_suffix(suffix: &Option<CowStr<'_>>, out: &mut String) -> Result<(), AllocError>
+    ensures ok { OnOk result (string_bytes out.new ≡ string_bytes out.old ++ bytes_of (suffix_piece (option_map text_of suffix.now))) }
+{
+    match suffix {
+        None => Ok(()),
+        Some(note) => put(Gap::Apart, note.as_str(), out),
+    }
+}
