@@ -1,0 +1,4 @@
+mod Examples
+mod Literals
+mod Quoting
+mod ReadBack
