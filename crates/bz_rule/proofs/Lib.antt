@@ -1,4 +1,6 @@
+mod Cuts
 mod Examples
 mod Literals
+mod Numbers
 mod Quoting
 mod ReadBack

@@ -67,13 +67,13 @@ units_first b (c ∷ []) = elim (cases_Bool (b == 92 || b == 13 && c == 10)) [
 units_first b (c ∷ d ∷ bs) = elim (cases_Bool (b == 92)) [
   | inl is ↦ let e : b ≡ 92 = eqb-true b 92 is in rw e (escape_first c d bs)
   | inr other ↦ elim (cases_Bool (b == 13 && c == 10)) [
-      | inl pair ↦
-          let parts = and_parts (b == 13) (c == 10) pair in
-          let e : b ≡ 13 = eqb-true b 13 parts.0 in
-          let f : c ≡ 10 = eqb-true c 10 parts.1 in
-          rw (e, f) refl
-      | inr single ↦ rw (byte_apart b c other single, other, single) refl
-    ]
+    | inl pair ↦
+        let parts = and_parts (b == 13) (c == 10) pair in
+        let e : b ≡ 13 = eqb-true b 13 parts.0 in
+        let f : c ≡ 10 = eqb-true c 10 parts.1 in
+        rw (e, f) refl
+    | inr single ↦ rw (byte_apart b c other single, other, single) refl
+  ]
 ]
 
 grouped_joined : (g xs : List ℕ) → joined (grouped_from takes g xs) ≡ g ++ xs
@@ -107,7 +107,7 @@ values_more raw u (Some us) = refl
 
 -- a step over the first unit
 pub step : (raw : Bool) (quotes rest : List ℕ) → 0 < length rest → starts_with nat_eq rest quotes ≡ false
-  → inner_value raw quotes rest ≡ and_then (value_in raw (length quotes == 1) (take (first_len rest) rest)) (inner_value raw quotes (drop (first_len rest) rest))
+    → inner_value raw quotes rest ≡ and_then (value_in raw (length quotes == 1) (take (first_len rest) rest)) (inner_value raw quotes (drop (first_len rest) rest))
 step raw quotes [] some h = absurd (omega arith)
 step raw quotes (b ∷ bs) some h =
     let u : List ℕ = take (first_len (b ∷ bs)) (b ∷ bs) in
@@ -115,28 +115,28 @@ step raw quotes (b ∷ bs) some h =
     let open_ : content quotes (units (b ∷ bs)) ≡ (if length quotes == 1 && is_newline u then None else option_map (λ inner. u ∷ inner) (content quotes us)) = content_first quotes b bs ∙ rw h refl in
     ap (values_in raw) open_
     ∙ elim (cases_Bool (length quotes == 1 && is_newline u)) [
-        | inl is ↦ rw is refl
-        | inr other ↦ rw other (values_more raw u (content quotes us))
-      ]
+      | inl is ↦ rw is refl
+      | inr other ↦ rw other (values_more raw u (content quotes us))
+    ]
 
 -- the closing quotes
 pub closed : (raw : Bool) (quotes rest : List ℕ) → 0 < length rest → starts_with nat_eq rest quotes ≡ true
-  → inner_value raw quotes rest ≡ (if length rest == length quotes then Some [] else None)
+    → inner_value raw quotes rest ≡ (if length rest == length quotes then Some [] else None)
 closed raw quotes [] some h = absurd (omega arith)
 closed raw quotes (b ∷ bs) some h =
     let shut : content quotes (units (b ∷ bs)) ≡ (if bytes_eq (b ∷ bs) quotes then Some [] else None) = content_first quotes b bs ∙ rw h refl in
     ap (values_in raw) shut
     ∙ elim (cases_Bool (length (b ∷ bs) == length quotes)) [
-        | inl is ↦
-            let e : length (b ∷ bs) ≡ length quotes = eqb-true (length (b ∷ bs)) (length quotes) is in
-            let all : take (length quotes) (b ∷ bs) ≡ b ∷ bs = take_all (length quotes) (b ∷ bs) (omega arith) in
-            let same : quotes ≡ b ∷ bs = (bytes_eq-Decides quotes (b ∷ bs)).0 (rw all at h) in
-            let equal : bytes_eq (b ∷ bs) quotes ≡ true = (bytes_eq-Decides (b ∷ bs) quotes).1 (sym same) in
-            rw (equal, is) refl
-        | inr other ↦
-            let differ : bytes_eq (b ∷ bs) quotes ≡ false = false_from_ne_true (bytes_eq (b ∷ bs) quotes) (λ k. eqb-false (length (b ∷ bs)) (length quotes) other (ap length ((bytes_eq-Decides (b ∷ bs) quotes).0 k))) in
-            rw (differ, other) refl
-      ]
+      | inl is ↦
+          let e : length (b ∷ bs) ≡ length quotes = eqb-true (length (b ∷ bs)) (length quotes) is in
+          let all : take (length quotes) (b ∷ bs) ≡ b ∷ bs = take_all (length quotes) (b ∷ bs) (omega arith) in
+          let same : quotes ≡ b ∷ bs = (bytes_eq-Decides quotes (b ∷ bs)).0 (rw all at h) in
+          let equal : bytes_eq (b ∷ bs) quotes ≡ true = (bytes_eq-Decides (b ∷ bs) quotes).1 (sym same) in
+          rw (equal, is) refl
+      | inr other ↦
+          let differ : bytes_eq (b ∷ bs) quotes ≡ false = false_from_ne_true (bytes_eq (b ∷ bs) quotes) (λ k. eqb-false (length (b ∷ bs)) (length quotes) other (ap length ((bytes_eq-Decides (b ∷ bs) quotes).0 k))) in
+          rw (differ, other) refl
+    ]
 
 value_more : (v : List ℕ) (b c : ℕ) (o : Option (List ℕ)) → is_value (b ∷ v) (and_then (Some c) o) ≡ (b == c) && is_value v o
 value_more v b c None = elim (b == c) as (λ t. false ≡ (t && false)) [ true ↦ refl | false ↦ refl ]
@@ -174,16 +174,16 @@ is_value-iff v (Some w) = ((λ h. ap (λ (x : List ℕ). Some x) (sym ((bytes_eq
 
 -- the same for the answer at a place, with what the code found there
 pub at_end : (raw : Bool) (quotes rest left : List ℕ) → 0 < length rest → starts_with nat_eq rest quotes ≡ true
-  → is_value left (inner_value raw quotes rest) ≡ (length rest == length quotes) && (length left == 0)
+    → is_value left (inner_value raw quotes rest) ≡ (length rest == length quotes) && (length left == 0)
 at_end raw quotes rest left some h = ap (is_value left) (closed raw quotes rest some h) ∙ value_closed left quotes rest
 
 pub at_unit : (raw : Bool) (quotes rest left : List ℕ) (n : ℕ) (x : Option ℕ) → 0 < length rest → starts_with nat_eq rest quotes ≡ false → n ≡ first_len rest → x ≡ value_in raw (length quotes == 1) (take n rest)
-  → is_value left (inner_value raw quotes rest) ≡ is_value left (and_then x (inner_value raw quotes (drop n rest)))
+    → is_value left (inner_value raw quotes rest) ≡ is_value left (and_then x (inner_value raw quotes (drop n rest)))
 at_unit raw quotes rest left n x some h e f = rw (f, e) (ap (is_value left) (step raw quotes rest some h))
 
 pub past_unit : (raw : Bool) (quotes rest left : List ℕ) (n b : ℕ) (x : Option ℕ) → 0 < length rest → starts_with nat_eq rest quotes ≡ false → n ≡ first_len rest → x ≡ value_in raw (length quotes == 1) (take n rest)
-  → x ≡ Some b → 0 < length left → slice_index_or left 0 0 ≡ b
-  → is_value (take (length left - 1) (drop 1 left)) (inner_value raw quotes (take (length rest - n) (drop n rest))) ≡ is_value left (inner_value raw quotes rest)
+    → x ≡ Some b → 0 < length left → slice_index_or left 0 0 ≡ b
+    → is_value (take (length left - 1) (drop 1 left)) (inner_value raw quotes (take (length rest - n) (drop n rest))) ≡ is_value left (inner_value raw quotes rest)
 past_unit raw quotes rest left n b x some h e f is more same =
     ap (λ (v : List ℕ). is_value v (inner_value raw quotes (take (length rest - n) (drop n rest)))) (take_rest left 1)
     ∙ ap (λ (bs : List ℕ). is_value (drop 1 left) (inner_value raw quotes bs)) (take_rest rest n)

@@ -28,18 +28,18 @@ unit_read : (b : ℕ) (r v : List ℕ) → inner_value false (34 ∷ []) r ≡ S
 unit_read b r v rest = elim (cases_Bool (b == 92)) [
   | inl is ↦ let e : b ≡ 92 = eqb-true b 92 is in rw e (escape_read 92 92 r v refl refl rest)
   | inr back ↦ elim (cases_Bool (b == 34)) [
-      | inl is ↦ let e : b ≡ 34 = eqb-true b 34 is in rw e (escape_read 34 34 r v refl refl rest)
-      | inr quote ↦ elim (cases_Bool (b == 10)) [
-          | inl is ↦ let e : b ≡ 10 = eqb-true b 10 is in rw e (escape_read 110 10 r v refl refl rest)
-          | inr line ↦ elim (cases_Bool (b == 13)) [
-              | inl is ↦ let e : b ≡ 13 = eqb-true b 13 is in rw e (escape_read 114 13 r v refl refl rest)
-              | inr return ↦ elim (cases_Bool (b == 9)) [
-                  | inl is ↦ let e : b ≡ 9 = eqb-true b 9 is in rw e (escape_read 116 9 r v refl refl rest)
-                  | inr tab ↦ rw (back, quote, line, return, tab) (byte_read b r v back quote line return rest)
-                ]
-            ]
+    | inl is ↦ let e : b ≡ 34 = eqb-true b 34 is in rw e (escape_read 34 34 r v refl refl rest)
+    | inr quote ↦ elim (cases_Bool (b == 10)) [
+      | inl is ↦ let e : b ≡ 10 = eqb-true b 10 is in rw e (escape_read 110 10 r v refl refl rest)
+      | inr line ↦ elim (cases_Bool (b == 13)) [
+        | inl is ↦ let e : b ≡ 13 = eqb-true b 13 is in rw e (escape_read 114 13 r v refl refl rest)
+        | inr return ↦ elim (cases_Bool (b == 9)) [
+          | inl is ↦ let e : b ≡ 9 = eqb-true b 9 is in rw e (escape_read 116 9 r v refl refl rest)
+          | inr tab ↦ rw (back, quote, line, return, tab) (byte_read b r v back quote line return rest)
         ]
+      ]
     ]
+  ]
 ]
 
 inner_read : (v : List ℕ) → inner_value false (34 ∷ []) (flat_map written v ++ 34 ∷ []) ≡ Some v
@@ -51,18 +51,18 @@ first_written : (b : ℕ) (r : List ℕ) → starts_with nat_eq (written b ++ r)
 first_written b r = elim (cases_Bool (b == 92)) [
   | inl is ↦ rw is refl
   | inr back ↦ elim (cases_Bool (b == 34)) [
-      | inl is ↦ rw (back, is) refl
-      | inr quote ↦ elim (cases_Bool (b == 10)) [
-          | inl is ↦ rw (back, quote, is) refl
-          | inr line ↦ elim (cases_Bool (b == 13)) [
-              | inl is ↦ rw (back, quote, line, is) refl
-              | inr return ↦ elim (cases_Bool (b == 9)) [
-                  | inl is ↦ rw (back, quote, line, return, is) refl
-                  | inr tab ↦ rw (back, quote, line, return, tab, ne_eqb 34 b (λ e. eqb-false b 34 quote (sym e))) refl
-                ]
-            ]
+    | inl is ↦ rw (back, is) refl
+    | inr quote ↦ elim (cases_Bool (b == 10)) [
+      | inl is ↦ rw (back, quote, is) refl
+      | inr line ↦ elim (cases_Bool (b == 13)) [
+        | inl is ↦ rw (back, quote, line, is) refl
+        | inr return ↦ elim (cases_Bool (b == 9)) [
+          | inl is ↦ rw (back, quote, line, return, is) refl
+          | inr tab ↦ rw (back, quote, line, return, tab, ne_eqb 34 b (λ e. eqb-false b 34 quote (sym e))) refl
         ]
+      ]
     ]
+  ]
 ]
 
 one_quote : (v : List ℕ) → opening (quoted v) ≡ 34 ∷ []

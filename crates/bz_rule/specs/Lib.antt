@@ -1,2 +1,7 @@
-pub mod Values
+pub mod LabelViews
+pub mod Labels
+pub mod Names
+pub mod Same
+pub mod SameSteps
 pub mod ValueSteps
+pub mod Values
