@@ -1,12 +1,12 @@
 -- A text in parts.
-use Rattle.std.proofs.Common.{◌≡◌, ℕ, zero, suc, ◌+◌, ◌<◌, ◌≤◌, ◌==◌, ◌&&◌, not, List, [], ◌∷◌, ◌++◌, length, take, drop, Bool, true, false, cond, refl, sym, ap, ◌∙◌, arith, inl, inr}
+use Rattle.std.proofs.Common.{◌≡◌, ℕ, zero, suc, ◌+◌, ◌<◌, ◌&&◌, not, List, [], ◌∷◌, length, drop, Bool, true, false, refl, arith, inl, inr}
 use Rattle.std.specs.Prelude.{bytes_eq}
-use Rattle.std.specs.List.{list_all, slice_split, onto_first, position_or_len, prefix_len}
-use Rattle.std.proofs.lemmas.Bool.{cases_Bool, and_parts, and_from, or_parts, not-true, not_from_false}
+use Rattle.std.specs.List.{list_all, slice_split, onto_first, position_or_len}
+use Rattle.std.proofs.lemmas.Bool.{cases_Bool, and_parts, or_parts, not-true}
 use Rattle.std.proofs.lemmas.List.Splits.{length-slice_split}
-use Rattle.std.specs.Prelude.{◌||◌, nat_eq, codes, Option, Some, None, Result, Ok, Err, IsTrue}
-use Rattle.std.specs.List.{starts_with, list_any}
-use Rattle.bz_rule.specs.Labels.{Package, last_of, is_part, parts_of, path_of, package_of, is_slash, is_colon, is_plain, is_target, is_path}
+use Rattle.std.specs.Prelude.{◌||◌, nat_eq, codes, Some, None, Ok, Err}
+use Rattle.std.specs.List.{starts_with}
+use Rattle.bz_rule.specs.Labels.{last_of, is_part, parts_of, path_of, package_of, is_slash, is_colon, is_plain, is_target, is_path}
 use Rattle.bz_rule.specs.declared.labels.LabelFault.{LabelFault}
 
 onto_one : {X : Type 0} (p : X → Bool) (x : X) (xs : List X) → p x ≡ false → slice_split p xs ≡ xs ∷ [] → slice_split p (x ∷ xs) ≡ (x ∷ xs) ∷ []

@@ -1,11 +1,11 @@
 -- A literal read unit by unit.
-use Rattle.std.proofs.Common.{◌≡◌, ℕ, suc, ◌+◌, ◌<◌, ◌≤◌, ◌-◌, ◌==◌, ◌&&◌, ◌||◌, not, List, [], ◌∷◌, ◌++◌, length, take, drop, Bool, true, false, Option, Some, None, nat_eq, refl, sym, ap, ◌∙◌, arith, inl, inr, append_assoc, eqb-true, slice_index_or}
+use Rattle.std.proofs.Common.{◌≡◌, ℕ, suc, ◌+◌, ◌<◌, ◌-◌, ◌==◌, ◌&&◌, ◌||◌, not, List, [], ◌∷◌, ◌++◌, length, take, drop, Bool, true, false, Option, Some, None, nat_eq, refl, sym, ap, ◌∙◌, arith, inl, inr, append_assoc, eqb-true, slice_index_or}
 use Rattle.std.specs.Prelude.{if◌then◌else◌, option_map, bytes_eq}
-use Rattle.std.specs.List.{flat_map, starts_with, prefix_len}
+use Rattle.std.specs.List.{starts_with, prefix_len}
 use Rattle.std.proofs.lemmas.Bool.{cases_Bool, and_parts, or_parts, eqb-false, eq-eqb, ne_eqb, false_from_ne_true}
 use Rattle.std.proofs.lemmas.List.{take_all, take_rest}
 use Rattle.std.proofs.lemmas.Slice.Eq.{bytes_eq-Decides}
-use Rattle.bz_rule.specs.Values.{grouped_from, takes, units, joined, content, is_newline, unit_value, values, values_in, and_then, is_quote, prefix_of, value_of}
+use Rattle.bz_rule.specs.Values.{grouped_from, takes, units, joined, content, is_newline, unit_value, values_in, and_then, is_quote, prefix_of, value_of}
 use Rattle.bz_rule.specs.ValueSteps.{first_len, is_value, inner_value, value_in}
 
 -- nothing more joins a group

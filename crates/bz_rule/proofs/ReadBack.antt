@@ -1,9 +1,9 @@
 -- The literal that is written for a value has this value.
-use Rattle.std.proofs.Common.{◌≡◌, ℕ, ◌<◌, ◌==◌, ◌&&◌, List, [], ◌∷◌, ◌++◌, length, take, drop, Bool, true, false, Option, Some, None, nat_eq, refl, sym, ap, ◌∙◌, arith, inl, inr, append_assoc, eqb-true}
+use Rattle.std.proofs.Common.{◌≡◌, ℕ, ◌==◌, List, [], ◌∷◌, ◌++◌, false, Some, nat_eq, refl, sym, ◌∙◌, arith, inl, inr, append_assoc, eqb-true}
 use Rattle.std.specs.List.{flat_map, starts_with}
 use Rattle.std.proofs.lemmas.Bool.{cases_Bool, eqb-false, ne_eqb}
-use Rattle.bz_rule.specs.Values.{written, quoted, escapes, meant, and_then, value_of, values_in, inner_of, opening}
-use Rattle.bz_rule.specs.ValueSteps.{first_len, inner_value, value_in}
+use Rattle.bz_rule.specs.Values.{written, quoted, escapes, meant, value_of, opening}
+use Rattle.bz_rule.specs.ValueSteps.{first_len, inner_value}
 use Rattle.bz_rule.proofs.Literals.{step}
 
 escape_len : (x : ℕ) (r : List ℕ) → x == 13 ≡ false → first_len (92 ∷ x ∷ r) ≡ 2

@@ -1,3 +1,5 @@
+pub mod CommandViews
+pub mod Commands
 pub mod LabelViews
 pub mod Labels
 pub mod Names
@@ -5,3 +7,5 @@ pub mod Same
 pub mod SameSteps
 pub mod ValueSteps
 pub mod Values
+pub mod WordSteps
+pub mod Words

@@ -1,5 +1,5 @@
 -- String literals (Starlark specification, lexical elements): which texts are one, what value one has, and how a value is written as one.
-use Rattle.std.specs.Prelude.{ℕ, nat_eq, ◌==◌, List, [], ◌∷◌, ◌++◌, Bool, true, false, ◌&&◌, ◌||◌, not, if◌then◌else◌, Option, Some, None, option_map, is_some, codes, length, take, drop, bytes_eq}
+use Rattle.std.specs.Prelude.{ℕ, nat_eq, ◌==◌, List, [], ◌∷◌, ◌++◌, Bool, true, false, ◌&&◌, ◌||◌, if◌then◌else◌, Option, Some, None, option_map, is_some, codes, length, drop, bytes_eq}
 use Rattle.std.specs.List.{before_first, starts_with, list_any, flat_map}
 use Rattle.bz_token.specs.declared.token.Kind.{Kind}
 use Rattle.bz_token.specs.declared.token.Kind.TheVariants.{Text}

@@ -1,20 +1,25 @@
 //! Labels, targets and commands on one rule.
 #![tactic(auto)]
 
+mod command;
 mod labels;
 pub mod laws;
 pub mod list;
 mod names;
 mod package;
 mod parts;
+mod reader;
 mod sameness;
 mod target;
 #[cfg(test)]
 mod tests;
 mod value;
+mod words;
 
+pub use command::{Command, CommandFault};
 pub use labels::{LabelFault, read_label};
 pub use package::Package;
+pub use reader::read_command;
 pub use sameness::same;
 pub use target::Target;
 pub use value::{quote, value_is};

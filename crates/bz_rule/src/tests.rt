@@ -1,7 +1,11 @@
 //! Worked examples.
 
+use crate::command::{Action, Attributes, Commented, Field, Moved, Setting};
+use crate::list::{Seq, Text};
 use crate::target::Marked;
-use crate::{LabelFault, Package, Target, quote, read_label, same, value_is};
+use crate::{
+    Command, CommandFault, LabelFault, Package, quote, read_command, read_label, same, value_is,
+};
 use bz_token::{Kind, Token};
 use std::alloc::Global;
 use std::test::Fail;
@@ -142,5 +146,141 @@ fn same_labels(rt: HostRuntime) -> Result<(), Fail> {
     let home = package(rt.alloc(), "-:a")?;
     assert!(rt; same("x", ":x", &home));
     assert!(rt; !same("x", "//-:x", &home));
+    Ok(())
+}
+
+fn command(alloc: Global, text: &str) -> Result<Command, Fail> {
+    let command = read_command(alloc, text)?.ok_or("no command")?;
+    Ok(command)
+}
+
+fn are(words: &Seq<Text>, expected: &[&str]) -> bool {
+    words.as_slice().len() == expected.len()
+        && words
+            .as_slice()
+            .iter()
+            .zip(expected)
+            .all(|(word, expected)| word.as_str() == *expected)
+}
+
+#[test]
+fn commands(rt: HostRuntime) -> Result<(), Fail> {
+    let alloc = rt.alloc();
+    let read = command(alloc, "add deps //b:c  a\\ b ")?;
+    assert!(rt;
+        matches!(&read.action, Action::Add(attr, values) if attr.as_str() == "deps" && are(values, &["//b:c", "a b"]))
+    );
+    assert!(rt; !read.is_print());
+    let read = command(alloc, "remove *")?;
+    assert!(rt;
+        matches!(&read.action, Action::Remove(Attributes::Every, values) if are(values, &[]))
+    );
+    let read = command(alloc, "remove deps x")?;
+    assert!(rt;
+        matches!(&read.action, Action::Remove(Attributes::Named(attr), values) if attr.as_str() == "deps" && are(values, &["x"]))
+    );
+    let read = command(alloc, "set kind a.b")?;
+    assert!(rt;
+        matches!(&read.action, Action::Set(Setting::ToKind(kind)) if kind.as_str() == "a.b")
+    );
+    let read = command(alloc, "set l a b")?;
+    assert!(rt;
+        matches!(&read.action, Action::Set(Setting::ToValues(attr, values)) if attr.as_str() == "l" && are(values, &["a", "b"]))
+    );
+    let read = command(alloc, "set_if_absent kind 1 2")?;
+    assert!(rt;
+        matches!(&read.action, Action::SetIfAbsent(attr, values) if attr.as_str() == "kind" && are(values, &["1", "2"]))
+    );
+    let read = command(alloc, "delete")?;
+    assert!(rt; matches!(&read.action, Action::Delete));
+    let read = command(alloc, "rename a a")?;
+    assert!(rt;
+        matches!(&read.action, Action::Rename(old, new) if old.as_str() == "a" && new.as_str() == "a")
+    );
+    Ok(())
+}
+
+#[test]
+fn more_commands(rt: HostRuntime) -> Result<(), Fail> {
+    let alloc = rt.alloc();
+    let read = command(alloc, "move a b *")?;
+    assert!(rt;
+        matches!(&read.action, Action::Move(old, new, Moved::All) if old.as_str() == "a" && new.as_str() == "b")
+    );
+    let read = command(alloc, "move a b * x")?;
+    assert!(rt;
+        matches!(&read.action, Action::Move(_, _, Moved::Values(values)) if are(values, &["*", "x"]))
+    );
+    let read = command(alloc, "replace * x y")?;
+    assert!(rt;
+        matches!(&read.action, Action::Replace(Attributes::Every, old, new) if old.as_str() == "x" && new.as_str() == "y")
+    );
+    let read = command(alloc, "comment hello\\ world")?;
+    assert!(rt;
+        matches!(&read.action, Action::Comment(Commented::Rule, text) if text.as_str() == "hello world")
+    );
+    let read = command(alloc, "comment name note")?;
+    assert!(rt;
+        matches!(&read.action, Action::Comment(Commented::Attribute(attr), text) if attr.as_str() == "name" && text.as_str() == "note")
+    );
+    let read = command(alloc, "comment deps x why")?;
+    assert!(rt;
+        matches!(&read.action, Action::Comment(Commented::Value(attr, value), text) if attr.as_str() == "deps" && value.as_str() == "x" && text.as_str() == "why")
+    );
+    let read = command(alloc, "print name label kind startline endline")?;
+    assert!(rt; read.is_print());
+    let Action::Print(fields) = &read.action else {
+        return Err("no print")?;
+    };
+    assert!(rt;
+        matches!(fields.as_slice(), [Field::ValueOf(attr), Field::Label, Field::Kind, Field::StartLine, Field::EndLine] if attr.as_str() == "name")
+    );
+    Ok(())
+}
+
+#[test]
+fn no_commands(rt: HostRuntime) -> Result<(), Fail> {
+    for text in ["//p:a", "", "  ", "new f x", "Add deps x"] {
+        assert!(rt; read_command(rt.alloc(), text)?.is_none(), "{text:?}");
+    }
+    Ok(())
+}
+
+#[test]
+fn bad_commands(rt: HostRuntime) -> Result<(), Fail> {
+    for (text, fault) in [
+        ("add deps", CommandFault::WrongCount),
+        ("remove", CommandFault::WrongCount),
+        ("set a", CommandFault::WrongCount),
+        ("set name a b", CommandFault::WrongCount),
+        ("set kind a b", CommandFault::WrongCount),
+        ("set_if_absent name a b", CommandFault::WrongCount),
+        ("delete x", CommandFault::WrongCount),
+        ("rename a", CommandFault::WrongCount),
+        ("move a b", CommandFault::WrongCount),
+        ("replace a b", CommandFault::WrongCount),
+        ("comment", CommandFault::WrongCount),
+        ("comment a b c d", CommandFault::WrongCount),
+        ("add * x", CommandFault::BadAttribute),
+        ("remove 1 x", CommandFault::BadAttribute),
+        ("set a-b c", CommandFault::BadAttribute),
+        ("set_if_absent for c", CommandFault::BadAttribute),
+        ("rename a 1", CommandFault::BadAttribute),
+        ("move * a x", CommandFault::BadAttribute),
+        ("replace a.b x y", CommandFault::BadAttribute),
+        ("comment * note", CommandFault::BadAttribute),
+        ("print name rule", CommandFault::BadAttribute),
+        ("set kind 1x", CommandFault::BadKind),
+        ("comment a\nb", CommandFault::CommentLine),
+        ("comment a b\r", CommandFault::CommentLine),
+        ("comment 1 b\r", CommandFault::BadAttribute),
+        ("move a a *", CommandFault::SameAttribute),
+    ] {
+        let told = match read_command(rt.alloc(), text) {
+            Ok(_) => None,
+            Err(told) => Some(told),
+        };
+        assert_eq!(rt; told, Some(fault), "{text:?}");
+    }
     Ok(())
 }

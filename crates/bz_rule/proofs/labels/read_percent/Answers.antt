@@ -1,5 +1,4 @@
-use Rattle.std.proofs.Common.{rules, ◌≡◌, true, false, sym, ◌∙◌, refl, arith}
-use Rattle.std.specs.Prelude.{nat_lt}
+use Rattle.std.proofs.Common.{rules, ◌≡◌, true, refl}
 use Rattle.bz_rule.proofs.Numbers.{too_large}
 use Rattle.bz_rule.specs.Labels.{is_number}
 use Rattle.bz_rule.proofs.labels.read_percent.Goals as goal

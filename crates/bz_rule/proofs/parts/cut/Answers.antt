@@ -1,5 +1,5 @@
-use Rattle.std.proofs.Common.{rules, ◌≡◌, ◌==◌, ◌<◌, length, ◌∷◌}
-use Rattle.std.specs.List.{slice_split, position_or_len, before_first, after_first}
+use Rattle.std.proofs.Common.{rules, ◌≡◌, ◌==◌, ◌<◌, length}
+use Rattle.std.specs.List.{position_or_len, before_first, after_first}
 use Rattle.std.proofs.lemmas.List.Splits.{slice_split_first}
 use Rattle.bz_rule.proofs.Cuts.{uncut}
 use Rattle.bz_rule.proofs.parts.cut.Goals as goal

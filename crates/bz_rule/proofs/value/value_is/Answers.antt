@@ -1,4 +1,4 @@
-use Rattle.std.proofs.Common.{◌≡◌, rules, arith}
+use Rattle.std.proofs.Common.{rules}
 use Rattle.bz_rule.proofs.Literals.{is_value-iff}
 use Rattle.bz_rule.proofs.value.value_is.Goals as goal
 
