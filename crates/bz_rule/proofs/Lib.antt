@@ -1,3 +1,4 @@
+mod Calls
 mod Cuts
 mod Examples
 mod Fields
@@ -6,3 +7,4 @@ mod Mended
 mod Numbers
 mod Quoting
 mod ReadBack
+mod Views

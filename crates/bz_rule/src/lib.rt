@@ -5,10 +5,12 @@ mod command;
 mod labels;
 pub mod laws;
 pub mod list;
+mod marks;
 mod names;
 mod package;
 mod parts;
 mod reader;
+mod rule;
 mod sameness;
 mod target;
 #[cfg(test)]
@@ -18,6 +20,7 @@ mod words;
 
 pub use command::{Command, CommandFault};
 pub use labels::{LabelFault, read_label};
+pub use marks::matches;
 pub use package::Package;
 pub use reader::read_command;
 pub use sameness::same;

@@ -4,10 +4,13 @@ use crate::command::{Action, Attributes, Commented, Field, Moved, Setting};
 use crate::list::{Seq, Text};
 use crate::target::Marked;
 use crate::{
-    Command, CommandFault, LabelFault, Package, quote, read_command, read_label, same, value_is,
+    Command, CommandFault, LabelFault, Package, Target, matches, quote, read_command, read_label,
+    same, value_is,
 };
 use bz_token::{Kind, Token};
-use std::alloc::Global;
+use bz_tree::{Class, Group, GroupKind, Leaf, Node, Seg, Stmt};
+use std::alloc::{AllocError, Global};
+use std::borrow::CowStr;
 use std::test::Fail;
 
 fn token<'a>(kind: Kind, text: &'a str) -> Token<'a> {
@@ -282,5 +285,94 @@ fn bad_commands(rt: HostRuntime) -> Result<(), Fail> {
         };
         assert_eq!(rt; told, Some(fault), "{text:?}");
     }
+    Ok(())
+}
+
+fn leaf<'a>(kind: Kind, text: &'a str) -> Node<'a> {
+    Node::Token(Leaf {
+        kind,
+        text: CowStr::Borrowed(text),
+        line: 1,
+        col: 1,
+        fresh: false,
+    })
+}
+
+fn segment<'a>(alloc: Global, nodes: Vec<Node<'a>>) -> Seg<'a> {
+    Seg {
+        before: Vec::new(alloc),
+        nodes,
+        suffix: None,
+    }
+}
+
+fn call<'a>(alloc: Global, segs: Vec<Seg<'a>>) -> Node<'a> {
+    Node::Group(Group {
+        kind: GroupKind::RuleCall,
+        segs,
+        one_comma: false,
+        end: Vec::new(alloc),
+    })
+}
+
+fn statement<'a>(alloc: Global, nodes: Vec<Node<'a>>, class: Class) -> Stmt<'a> {
+    Stmt {
+        before: Vec::new(alloc),
+        nodes,
+        suffix: None,
+        class,
+        start: 3,
+        end: 3,
+    }
+}
+
+/// `f()`, and with a name's literal `f(name = "..")`.
+fn rule<'a>(alloc: Global, name: Option<&'a str>) -> Result<Stmt<'a>, AllocError> {
+    let mut segs = Vec::new(alloc);
+    if let Some(name) = name {
+        let nodes = vec![in alloc;
+            leaf(Kind::Ident, "name"),
+            leaf(Kind::Sign, "="),
+            leaf(Kind::Text, name),
+        ]?;
+        segs.push(segment(alloc, nodes))?;
+    }
+    let nodes = vec![in alloc; leaf(Kind::Ident, "f"), call(alloc, segs)]?;
+    Ok(statement(alloc, nodes, Class::Rule))
+}
+
+/// `x = 1`.
+fn assignment<'a>(alloc: Global) -> Result<Stmt<'a>, AllocError> {
+    let nodes = vec![in alloc;
+        leaf(Kind::Ident, "x"),
+        leaf(Kind::Sign, "="),
+        leaf(Kind::Int, "1"),
+    ]?;
+    Ok(statement(alloc, nodes, Class::Assign))
+}
+
+fn target(alloc: Global, label: &str) -> Result<Target, Fail> {
+    let (_, target) = read_label(alloc, label)?;
+    Ok(target)
+}
+
+#[test]
+fn marks(rt: HostRuntime) -> Result<(), Fail> {
+    let alloc = rt.alloc();
+    let nameless = rule(alloc, None)?;
+    let named = rule(alloc, Some("'a'"))?;
+    let other = assignment(alloc)?;
+    assert!(rt; matches(&target(alloc, "//p:%f")?, &nameless));
+    assert!(rt; matches(&target(alloc, "//p:*")?, &nameless));
+    assert!(rt; !matches(&target(alloc, "//p:*")?, &other));
+    assert!(rt; matches(&target(alloc, "//p:a")?, &named));
+    assert!(rt; !matches(&target(alloc, "//p:a")?, &nameless));
+    assert!(rt; !matches(&target(alloc, "//p:a")?, &rule(alloc, Some("r'a\\b'"))?));
+    assert!(rt; !matches(&target(alloc, "//p:b")?, &named));
+    assert!(rt; !matches(&target(alloc, "//p:%g")?, &named));
+    assert!(rt; !matches(&target(alloc, "//p:__pkg__")?, &named));
+    assert!(rt; matches(&target(alloc, "//p:%3")?, &named));
+    assert!(rt; !matches(&target(alloc, "//p:%1")?, &named));
+    assert!(rt; !matches(&target(alloc, "//p:%3")?, &other));
     Ok(())
 }

@@ -44,7 +44,7 @@ fn push_written(text: &mut String, c: char) -> Result<(), AllocError>
     }
 }
 
-fn has_value(text: &[u8], value: &[u8]) -> bool
+pub(crate) fn has_value(text: &[u8], value: &[u8]) -> bool
     ensures { result ≡ is_value value.now (spec.value_of text.now) }
 {
     let [first, rest @ ..] = text else {
@@ -69,7 +69,7 @@ fn raw_has_value(literal: &[u8], value: &[u8]) -> bool
     is_quote(*first) && literal_is(true, literal, value)
 }
 
-fn is_quote(b: u8) -> bool
+pub(crate) fn is_quote(b: u8) -> bool
     ensures { result ≡ spec.is_quote b }
 {
     b == b'"' || b == b'\''
@@ -85,7 +85,7 @@ fn literal_is(raw: bool, literal: &[u8], value: &[u8]) -> bool
 }
 
 // How many opening quotes there are.
-fn opening_len(literal: &[u8]) -> usize
+pub(crate) fn opening_len(literal: &[u8]) -> usize
     requires { 0 < length literal.now }
     ensures some { 0 < result }
     ensures fits { result ≤ length literal.now }
@@ -124,7 +124,7 @@ fn inner_is(raw: bool, quotes: &[u8], inner: &[u8], value: &[u8]) -> bool
 }
 
 // The length of the first unit: an escape, a carriage return and a newline, or a byte.
-fn first_len(bytes: &[u8]) -> usize
+pub(crate) fn first_len(bytes: &[u8]) -> usize
     ensures len { result ≡ first_len bytes.now }
     ensures fits { result ≤ length bytes.now }
     ensures some { 0 < length bytes.now → 0 < result }
@@ -153,7 +153,7 @@ fn first_len(bytes: &[u8]) -> usize
     }
 }
 
-fn value_in(raw: bool, short: bool, unit: &[u8]) -> Option<u8>
+pub(crate) fn value_in(raw: bool, short: bool, unit: &[u8]) -> Option<u8>
     ensures { result ≡ value_in raw short unit.now }
 {
     if short && is_newline(unit) {
