@@ -1,5 +1,6 @@
 mod Calls
 mod Cuts
+mod Decoding
 mod Examples
 mod Fields
 mod Literals

@@ -2,6 +2,7 @@
 #![tactic(auto)]
 
 mod command;
+mod decode;
 mod labels;
 pub mod laws;
 pub mod list;
@@ -15,6 +16,7 @@ mod sameness;
 mod target;
 #[cfg(test)]
 mod tests;
+mod texts;
 mod value;
 mod words;
 
@@ -25,4 +27,5 @@ pub use package::Package;
 pub use reader::read_command;
 pub use sameness::same;
 pub use target::Target;
+pub use texts::{label, shown};
 pub use value::{quote, value_is};
