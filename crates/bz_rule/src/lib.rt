@@ -5,7 +5,7 @@ mod command;
 mod decode;
 mod labels;
 pub mod laws;
-pub mod list;
+mod list;
 mod marks;
 mod names;
 mod package;

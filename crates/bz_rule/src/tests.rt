@@ -11,6 +11,7 @@ use bz_token::{Kind, Token};
 use bz_tree::{Class, Group, GroupKind, Leaf, Node, Seg, Stmt};
 use std::alloc::{AllocError, Global};
 use std::borrow::CowStr;
+use std::collections::HashMap;
 use std::test::Fail;
 
 fn token<'a>(kind: Kind, text: &'a str) -> Token<'a> {
@@ -85,6 +86,17 @@ fn packages(rt: HostRuntime) -> Result<(), Fail> {
     }
     assert!(rt; package(rt.alloc(), "//a:b")? == package(rt.alloc(), "a:c")?);
     assert!(rt; package(rt.alloc(), "//-:b")? != package(rt.alloc(), "-:b")?);
+    Ok(())
+}
+
+#[test]
+fn packages_as_keys(rt: HostRuntime) -> Result<(), Fail> {
+    let mut seen = HashMap::new(rt.alloc());
+    seen.insert(package(rt.alloc(), "//a:b")?, 1)?;
+    seen.insert(package(rt.alloc(), "-:b")?, 2)?;
+    assert_eq!(rt; seen.get(&package(rt.alloc(), "a:c")?).copied(), Some(1));
+    assert_eq!(rt; seen.get(&package(rt.alloc(), "-:c")?).copied(), Some(2));
+    assert_eq!(rt; seen.get(&package(rt.alloc(), "//-:c")?).copied(), None);
     Ok(())
 }
 
