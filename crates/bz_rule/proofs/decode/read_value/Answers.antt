@@ -1,4 +1,4 @@
-use Rattle.std.proofs.Common.{◌≡◌, ◌<◌, false, length, slice_index_or, sym, ◌∙◌, refl, arith}
+use Rattle.std.proofs.Common.{◌≡◌, ◌<◌, false, length, slice_index_or, sym, ◌∙◌, refl}
 use Rattle.bz_rule.specs.Values.{is_quote}
 use Rattle.bz_rule.proofs.Literals.{no_value}
 use Rattle.bz_rule.proofs.Decoding.{behind_first}
