@@ -1,0 +1,11 @@
+mod Calls
+mod Cuts
+mod Decoding
+mod Examples
+mod Fields
+mod Literals
+mod Mended
+mod Numbers
+mod Quoting
+mod ReadBack
+mod Views

@@ -1,0 +1,15 @@
+pub mod CommandViews
+pub mod Commands
+pub mod LabelViews
+pub mod Labels
+pub mod Marks
+pub mod Names
+pub mod RuleViews
+pub mod Rules
+pub mod Same
+pub mod SameSteps
+pub mod Texts
+pub mod ValueSteps
+pub mod Values
+pub mod WordSteps
+pub mod Words

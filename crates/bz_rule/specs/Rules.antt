@@ -1,0 +1,119 @@
+-- A rule: identifiers joined by dots, one call and nothing more (buildozer README). Its kind is what stands before the call, its
+-- attributes are the keyword arguments.
+use Rattle.std.specs.Prelude.{ℕ, List, [], ◌∷◌, ◌++◌, Bool, true, false, ◌&&◌, if◌then◌else◌, Option, Some, None, codes, drop, bytes_eq}
+use Rattle.std.specs.List.{flat_map}
+use Rattle.bz_token.specs.declared.token.Kind.TheVariants.{Ident, Text, Sign}
+use Rattle.bz_tree.specs.declared.stmt.GroupKind.TheVariants.{RuleCall}
+use Rattle.bz_tree.specs.Tree.{Item, leaf, group, Segment, segments}
+use Rattle.bz_rule.specs.Values.{value_of}
+
+abbrev pub is_sign : List ℕ → Item → Bool
+is_sign sign (leaf Sign text place) = bytes_eq text sign
+is_sign sign _ = false
+
+-- the text of an identifier
+abbrev pub ident_of : Item → Option (List ℕ)
+ident_of (leaf Ident text place) = Some text
+ident_of _ = None
+
+abbrev pub is_text : List ℕ → Option (List ℕ) → Bool
+is_text text None = false
+is_text text (Some other) = bytes_eq text other
+
+-- the name of an argument `name = value`
+abbrev pub name_of : List Item → Option (List ℕ)
+name_of [] = None
+name_of (x ∷ []) = None
+name_of (x ∷ y ∷ value) = if is_sign (codes "=") y then ident_of x else None
+
+abbrev pub is_named : List ℕ → Segment → Bool
+is_named name s = is_text name (name_of s.nodes)
+
+-- the value of a named argument
+abbrev pub value : Segment → List Item
+value s = drop 2 s.nodes
+
+abbrev pub text_of : Item → Option (List ℕ)
+text_of (leaf Text text place) = Some text
+text_of _ = None
+
+-- the text of what is one string token
+abbrev pub only_text : List Item → Option (List ℕ)
+only_text [] = None
+only_text (x ∷ []) = text_of x
+only_text (x ∷ y ∷ xs) = None
+
+abbrev pub value_in : Option (List ℕ) → Option (List ℕ)
+value_in None = None
+value_in (Some text) = value_of text
+
+-- the value of what is one string token with a value
+abbrev pub string_value : List Item → Option (List ℕ)
+string_value nodes = value_in (only_text nodes)
+
+-- what stands before the call, and the call
+pub record Rule : Type 0 where
+  pub kind : List Item
+  pub args : List Segment
+  pub one_comma : Bool
+  pub end : List (List ℕ)
+
+-- an identifier comes next, or with `false` a dot
+abbrev pub dotted : Bool → List Item → Bool
+dotted true [] = false
+dotted false [] = true
+dotted true (leaf Ident text place ∷ xs) = dotted false xs
+dotted true (x ∷ xs) = false
+dotted false (x ∷ xs) = is_sign (codes ".") x && dotted true xs
+
+abbrev pub is_call : Item → Bool
+is_call (group RuleCall segs one_comma end) = true
+is_call _ = false
+
+abbrev pub elements : Item → List Segment
+elements (leaf kind text place) = []
+elements (group kind segs one_comma end) = segments segs
+
+abbrev pub comma_of : Item → Bool
+comma_of (leaf kind text place) = false
+comma_of (group kind segs one_comma end) = one_comma
+
+abbrev pub end_of : Item → List (List ℕ)
+end_of (leaf kind text place) = []
+end_of (group kind segs one_comma end) = end
+
+-- the nodes `kind` and then x
+abbrev pub call_at : List Item → Item → Option Rule
+call_at kind x = if is_call x && dotted true kind then Some (record { kind = kind; args = elements x; one_comma = comma_of x; end = end_of x }) else None
+
+-- `kind` was read, and xs comes
+abbrev pub rule_from : List Item → List Item → Option Rule
+rule_from kind [] = None
+rule_from kind (x ∷ []) = call_at kind x
+rule_from kind (x ∷ y ∷ xs) = rule_from (kind ++ x ∷ []) (y ∷ xs)
+
+-- the rule that some nodes are
+abbrev pub rule_of : List Item → Option Rule
+rule_of nodes = rule_from [] nodes
+
+-- the text of a token
+abbrev pub written : Item → List ℕ
+written (leaf kind text place) = text
+written (group kind segs one_comma end) = []
+
+-- the text of a kind, without what stands between its identifiers and dots
+abbrev pub kind_text : List Item → List ℕ
+kind_text kind = flat_map written kind
+
+-- the first argument of a name
+abbrev pub first_named : List ℕ → List Segment → Option Segment
+first_named name [] = None
+first_named name (a ∷ args) = if is_named name a then Some a else first_named name args
+
+abbrev pub string_in : Option Segment → Option (List ℕ)
+string_in None = None
+string_in (Some a) = string_value (value a)
+
+-- the name of a rule: the value of its first attribute `name`, where that is one string with a value
+abbrev pub name_in : List Segment → Option (List ℕ)
+name_in args = string_in (first_named (codes "name") args)

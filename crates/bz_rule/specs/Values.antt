@@ -1,0 +1,108 @@
+-- String literals (Starlark specification, lexical elements): which texts are one, what value one has, and how a value is written as one.
+use Rattle.std.specs.Prelude.{ℕ, nat_eq, ◌==◌, List, [], ◌∷◌, ◌++◌, Bool, true, false, ◌&&◌, ◌||◌, if◌then◌else◌, Option, Some, None, option_map, is_some, codes, length, drop, bytes_eq}
+use Rattle.std.specs.List.{before_first, starts_with, list_any, flat_map}
+use Rattle.bz_token.specs.declared.token.Kind.{Kind}
+use Rattle.bz_token.specs.declared.token.Kind.TheVariants.{Text}
+use Rattle.bz_token.specs.declared.token.Token.{Token}
+
+-- A list in groups: an element joins the group before it where the test holds of both.
+abbrev pub grouped_from : (List ℕ → ℕ → Bool) → List ℕ → List ℕ → List (List ℕ)
+grouped_from joins group [] = group ∷ []
+grouped_from joins group (x ∷ xs) = if joins group x then grouped_from joins (group ++ x ∷ []) xs else group ∷ grouped_from joins (x ∷ []) xs
+
+-- What stands between a literal's quotes is units. An escape is one: a backslash takes the byte behind it, and a carriage
+-- return also the newline behind that. A carriage return and a newline are one. Any other byte is one.
+abbrev pub takes : List ℕ → ℕ → Bool
+takes unit b = bytes_eq unit (92 ∷ []) || (bytes_eq unit (92 ∷ 13 ∷ []) || bytes_eq unit (13 ∷ [])) && b == 10
+
+abbrev pub units : List ℕ → List (List ℕ)
+units [] = []
+units (b ∷ bs) = grouped_from takes (b ∷ []) bs
+
+abbrev pub joined : List (List ℕ) → List ℕ
+joined us = flat_map (λ u. u) us
+
+-- a newline that no backslash escapes
+abbrev pub is_newline : List ℕ → Bool
+is_newline unit = bytes_eq unit (10 ∷ []) || bytes_eq unit (13 ∷ 10 ∷ [])
+
+-- The units before the closing quotes, which are as the opening ones and stand once, at the end. A string in one quote
+-- holds no newline.
+abbrev pub content : List ℕ → List (List ℕ) → Option (List (List ℕ))
+content quotes [] = None
+content quotes (u ∷ us) =
+    if starts_with nat_eq (joined (u ∷ us)) quotes then (if bytes_eq (joined (u ∷ us)) quotes then Some [] else None)
+    else (if length quotes == 1 && is_newline u then None else option_map (λ inner. u ∷ inner) (content quotes us))
+
+abbrev pub is_quote : ℕ → Bool
+is_quote b = b == 34 || b == 39
+
+-- the prefix of a literal stands before its first quote
+abbrev pub prefix_of : List ℕ → List ℕ
+prefix_of text = before_first is_quote text
+
+abbrev pub is_prefix : List ℕ → Bool
+is_prefix text = list_any (bytes_eq text) (codes "" ∷ codes "r" ∷ codes "b" ∷ codes "rb" ∷ codes "br" ∷ [])
+
+-- three opening quotes where there are three, else one
+abbrev pub opening : List ℕ → List ℕ
+opening [] = []
+opening (q ∷ bs) = if starts_with nat_eq bs (q ∷ q ∷ []) then q ∷ q ∷ q ∷ [] else q ∷ []
+
+-- the units of a text that begins with its opening quotes
+abbrev pub inner_of : List ℕ → Option (List (List ℕ))
+inner_of text = content (opening text) (units (drop (length (opening text)) text))
+
+-- the text is one whole string literal
+abbrev pub is_string : List ℕ → Bool
+is_string text = is_prefix (prefix_of text) && is_some (inner_of (drop (length (prefix_of text)) text))
+
+-- the escapes that have a value: what stands behind the backslash, and the value
+abbrev pub escapes : List (ℕ × ℕ)
+escapes = (97, 7) ∷ (98, 8) ∷ (102, 12) ∷ (110, 10) ∷ (114, 13) ∷ (116, 9) ∷ (118, 11) ∷ (92, 92) ∷ (39, 39) ∷ (34, 34) ∷ []
+
+abbrev pub meant : ℕ → List (ℕ × ℕ) → Option ℕ
+meant b [] = None
+meant b (e ∷ es) = if b == e.0 then Some e.1 else meant b es
+
+-- the value of a unit: in a raw string no escape has one, and a carriage return before a newline is left out
+abbrev pub unit_value : Bool → List ℕ → Option ℕ
+unit_value raw [] = None
+unit_value raw (b ∷ []) = if b == 92 then None else Some b
+unit_value raw (b ∷ c ∷ []) = if b == 92 then (if raw then None else meant c escapes) else Some c
+unit_value raw (b ∷ c ∷ d ∷ bs) = None
+
+abbrev pub and_then : Option ℕ → Option (List ℕ) → Option (List ℕ)
+and_then None rest = None
+and_then (Some b) rest = option_map (λ bs. b ∷ bs) rest
+
+abbrev pub values : Bool → List (List ℕ) → Option (List ℕ)
+values raw [] = Some []
+values raw (u ∷ us) = and_then (unit_value raw u) (values raw us)
+
+abbrev pub values_in : Bool → Option (List (List ℕ)) → Option (List ℕ)
+values_in raw None = None
+values_in raw (Some us) = values raw us
+
+-- The value of a text. One that is no whole literal has none, and no bytes literal has one.
+abbrev pub value_of : List ℕ → Option (List ℕ)
+value_of text =
+    if bytes_eq (prefix_of text) [] then values_in false (inner_of text)
+    else (if bytes_eq (prefix_of text) (codes "r") then values_in true (inner_of (drop 1 text)) else None)
+
+-- the value of a token: only a string has one
+abbrev pub value_at : Kind → List ℕ → Option (List ℕ)
+value_at Text text = value_of text
+value_at _ text = None
+
+abbrev pub token_value : Token → Option (List ℕ)
+token_value t = value_at t.kind t.text.now
+
+-- how a byte of a value is written
+abbrev pub written : ℕ → List ℕ
+written b =
+    if b == 92 then codes "\\\\" else (if b == 34 then codes "\\\"" else (if b == 10 then codes "\\n" else (if b == 13 then codes "\\r" else (if b == 9 then codes "\\t" else b ∷ []))))
+
+-- the literal that is written for a value
+abbrev pub quoted : List ℕ → List ℕ
+quoted value = 34 ∷ (flat_map written value ++ 34 ∷ [])
