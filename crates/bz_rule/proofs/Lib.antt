@@ -1,10 +1,16 @@
+mod CallEdits
 mod Calls
 mod Cuts
 mod Examples
 mod Fields
+mod First
+mod Groups
+mod LastParts
 mod Literals
+mod Mapped
 mod Mended
 mod Numbers
 mod Quoting
+mod Reading
 mod ReadBack
 mod Views

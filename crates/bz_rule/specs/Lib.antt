@@ -1,9 +1,13 @@
+pub mod ByteSteps
 pub mod CommandViews
 pub mod Commands
+pub mod Effects
 pub mod LabelViews
 pub mod Labels
+pub mod Lists
 pub mod Marks
 pub mod Names
+pub mod Places
 pub mod RuleViews
 pub mod Rules
 pub mod Same

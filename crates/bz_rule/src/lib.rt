@@ -1,10 +1,16 @@
 //! Labels, targets and commands on one rule.
 #![tactic(auto)]
 
+mod bytes;
 mod command;
+mod done;
+mod effects;
+mod equals;
+mod find;
 mod labels;
 pub mod laws;
 pub mod list;
+mod make;
 mod marks;
 mod names;
 mod package;
@@ -12,6 +18,7 @@ mod parts;
 mod reader;
 mod rule;
 mod sameness;
+mod slot;
 mod target;
 #[cfg(test)]
 mod tests;
@@ -19,10 +26,12 @@ mod value;
 mod words;
 
 pub use command::{Command, CommandFault};
+pub use done::{Done, Note};
 pub use labels::{LabelFault, read_label};
 pub use marks::matches;
 pub use package::Package;
 pub use reader::read_command;
 pub use sameness::same;
+pub use slot::apply;
 pub use target::Target;
 pub use value::{quote, value_is};

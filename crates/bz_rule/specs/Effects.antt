@@ -1,0 +1,113 @@
+-- What each command does to the arguments of a rule (buildozer README, edit commands; the failures are this project's own rule).
+use Rattle.std.specs.Prelude.{ℕ, List, [], ◌∷◌, ◌++◌, Bool, true, false, ◌&&◌, ◌||◌, not, if◌then◌else◌, Option, Some, None, option_map, map, is_some, filter, codes, bytes_eq}
+use Rattle.std.specs.List.{list_any, list_all, flat_map, slice_split}
+use Rattle.bz_token.specs.declared.token.Kind.TheVariants.{Ident, Sign, Text, Int}
+use Rattle.bz_tree.specs.declared.stmt.GroupKind.TheVariants.{RuleCall, List as ListKind}
+use Rattle.bz_tree.specs.Tree.{Item, leaf, group, Segment, Statement, segs_of, nowhere}
+use Rattle.bz_rule.specs.Labels.{Package}
+use Rattle.bz_rule.specs.Commands.{Command, Add, Remove, Set, SetIfAbsent, Delete, Rename, Move, Replace, Comment, Print, Attributes, Every, Named, Setting, ToKind, ToValues}
+use Rattle.bz_rule.specs.Rules.{Rule, rule_of, is_named, value, kind_text}
+use Rattle.bz_rule.specs.Lists.{is_attribute, with_value, parts, edit_parts, edit_first_part, is_list, equals, equals_any, without, same}
+use Rattle.bz_rule.specs.declared.done.Done.{Done}
+use Rattle.bz_rule.specs.declared.done.Note.{Note}
+use Rattle.bz_rule.specs.declared.done.Note.TheVariants.{NoAttribute, AttributeExists}
+
+abbrev pub failed : Note → Done
+failed note = record { changed = false; line = None; note = Some note }
+
+-- where there is a note, nothing is changed
+abbrev pub done : Option Note → Bool → Done
+done None changed = record { changed = changed; line = None; note = None }
+done (Some note) changed = failed note
+
+abbrev pub has : List ℕ → List Segment → Bool
+has attr args = list_any (is_named attr) args
+
+-- the first argument that passes is edited, into none or more
+abbrev pub edit_first : (Segment → Bool) → (Segment → List Segment) → List Segment → List Segment
+edit_first p f [] = []
+edit_first p f (a ∷ rest) = if p a then f a ++ rest else a ∷ edit_first p f rest
+
+-- `remove <attr>`
+abbrev pub remove_attribute : List ℕ → List Segment → List Segment
+remove_attribute attr args = filter (λ a. not (is_named attr a)) args
+
+-- `remove *`: each keyword argument but `name`
+abbrev pub goes_with_all : Segment → Bool
+goes_with_all a = is_attribute a && not (is_named (codes "name") a)
+
+abbrev pub remove_all : List Segment → List Segment
+remove_all args = filter (λ a. not (goes_with_all a)) args
+
+-- `rename <old> <new>`
+abbrev pub rename_note : List ℕ → List ℕ → List Segment → Option Note
+rename_note old new args = if has old args then (if has new args then Some (AttributeExists new) else None) else Some (NoAttribute old)
+
+abbrev pub renamed : List ℕ → List Item → List Item
+renamed name [] = []
+renamed name (x ∷ xs) = leaf Ident name nowhere ∷ xs
+
+abbrev pub rename_to : List ℕ → Segment → Segment
+rename_to name a = record a { nodes = renamed name a.nodes }
+
+abbrev pub rename : List ℕ → List ℕ → List Segment → List Segment
+rename old new args = if is_some (rename_note old new args) then args else edit_first (is_named old) (λ a. rename_to new a ∷ []) args
+
+abbrev pub nodes_of : Rule → List Item
+nodes_of r = r.kind ++ group RuleCall (segs_of r.args) r.one_comma r.end ∷ []
+
+-- The commands that this version has.
+abbrev pub stands : Command → Bool
+stands (Remove attrs values) = list_all (λ v. false) values
+stands Delete = true
+stands (Rename old new) = true
+stands _ = false
+
+abbrev pub removed : Attributes → List (List ℕ) → Package → List Segment → List Segment
+removed Every values home args = remove_all args
+removed (Named attr) values home args = remove_attribute attr args
+
+abbrev pub removes : Attributes → List (List ℕ) → Package → List Segment → Bool
+removes Every values home args = list_any goes_with_all args
+removes (Named attr) values home args = has attr args
+
+-- the arguments after a command on them
+abbrev pub args_after : Command → Package → List Segment → List Segment
+args_after (Remove attrs values) home args = removed attrs values home args
+args_after (Rename old new) home args = rename old new args
+args_after _ home args = args
+
+abbrev pub args_done : Command → Package → List Segment → Done
+args_done (Remove attrs values) home args = done None (removes attrs values home args)
+args_done (Rename old new) home args = done (rename_note old new args) true
+args_done _ home args = done None false
+
+-- what is no rule stays, and so does the rest of a rule
+abbrev pub nodes_after : (List Segment → List Segment) → List Item → Option Rule → List Item
+nodes_after f nodes None = nodes
+nodes_after f nodes (Some r) = nodes_of (record r { args = f r.args })
+
+abbrev pub with_args : (List Segment → List Segment) → Statement → Statement
+with_args f s = record s { nodes = nodes_after f s.nodes (rule_of s.nodes) }
+
+abbrev pub done_in : (List Segment → Done) → Option Rule → Done
+done_in f None = done None false
+done_in f (Some r) = f r.args
+
+abbrev pub slot_done : (List Segment → Done) → Option Statement → Done
+slot_done f None = done None false
+slot_done f (Some s) = done_in f (rule_of s.nodes)
+
+abbrev pub holds_rule : Option Statement → Bool
+holds_rule None = false
+holds_rule (Some s) = is_some (rule_of s.nodes)
+
+-- What stands in a slot after a command.
+abbrev pub after : Command → Package → Option Statement → Option Statement
+after Delete home slot = if holds_rule slot then None else slot
+after command home slot = option_map (with_args (args_after command home)) slot
+
+-- What the command tells of it.
+abbrev pub done_of : Command → Package → Option Statement → Done
+done_of Delete home slot = done None (holds_rule slot)
+done_of command home slot = slot_done (args_done command home) slot

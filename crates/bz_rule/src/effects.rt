@@ -1,0 +1,4 @@
+//! The commands on the arguments of a rule.
+
+pub(crate) mod remove;
+pub(crate) mod rename;
