@@ -5,8 +5,8 @@ use Rattle.bz_token.specs.declared.token.Kind.TheVariants.{Ident, Sign, Text, In
 use Rattle.bz_tree.specs.declared.stmt.GroupKind.TheVariants.{RuleCall, List as ListKind}
 use Rattle.bz_tree.specs.Tree.{Item, leaf, group, Segment, Statement, segs_of, nowhere}
 use Rattle.bz_rule.specs.Labels.{Package}
-use Rattle.bz_rule.specs.Commands.{Command, Add, Remove, Set, SetIfAbsent, Delete, Rename, Move, Replace, Comment, Print, Attributes, Every, Named, Setting, ToKind, ToValues}
-use Rattle.bz_rule.specs.Rules.{Rule, rule_of, is_named, value, kind_text}
+use Rattle.bz_rule.specs.Commands.{Command, Add, Remove, Set, SetIfAbsent, Delete, Rename, Move, Replace, Comment, Print, Attributes, Every, Named, Setting, ToKind, ToValues, Moved, All, Values}
+use Rattle.bz_rule.specs.Rules.{Rule, rule_of, elements, is_named, first_named, value, kind_text}
 use Rattle.bz_rule.specs.Lists.{is_attribute, with_value, parts, edit_parts, edit_first_part, is_list, equals, equals_any, without, same}
 use Rattle.bz_rule.specs.declared.done.Done.{Done}
 use Rattle.bz_rule.specs.declared.done.Note.{Note}
@@ -39,6 +39,47 @@ goes_with_all a = is_attribute a && not (is_named (codes "name") a)
 abbrev pub remove_all : List Segment → List Segment
 remove_all args = filter (λ a. not (goes_with_all a)) args
 
+-- the elements that a command means: all, or those that equal one of its values
+abbrev pub is_chosen : Package → Moved → Segment → Bool
+is_chosen home All s = true
+is_chosen home (Values values) s = equals_any home values s
+
+abbrev pub unchosen : Package → Moved → List Segment → List Segment
+unchosen home chosen ss = filter (λ s. not (is_chosen home chosen s)) ss
+
+-- an element of a list part is chosen
+abbrev pub chooses : Package → Moved → Segment → Bool
+chooses home chosen a = list_any (list_any (is_chosen home chosen)) (parts (value a))
+
+abbrev pub is_nil : List Segment → Bool
+is_nil [] = true
+is_nil (x ∷ xs) = false
+
+-- the whole value is one list, and f leaves nothing of it
+abbrev pub loses_all : (List Segment → List Segment) → List Item → Bool
+loses_all f [] = false
+loses_all f (x ∷ []) = is_list x && not (is_nil (elements x)) && is_nil (f (elements x))
+loses_all f (x ∷ y ∷ ys) = false
+
+-- an argument whose elements f filters: it goes where its whole value was one list that lost its last element
+abbrev pub filtered : (List Segment → List Segment) → Segment → List Segment
+filtered f a = if loses_all f (value a) then [] else with_value (edit_parts f (value a)) a ∷ []
+
+-- `remove <attr> <v>..`
+abbrev pub remove_values : Package → List ℕ → List (List ℕ) → List Segment → List Segment
+remove_values home attr values args = edit_first (is_named attr) (filtered (unchosen home (Values values))) args
+
+abbrev pub chooses_in : Package → Moved → Option Segment → Bool
+chooses_in home chosen None = false
+chooses_in home chosen (Some a) = chooses home chosen a
+
+-- `remove * <v>..`
+abbrev pub filtered_everywhere : (List Segment → List Segment) → List Segment → List Segment
+filtered_everywhere f args = flat_map (λ a. if is_attribute a then filtered f a else a ∷ []) args
+
+abbrev pub chooses_anywhere : Package → Moved → List Segment → Bool
+chooses_anywhere home chosen args = list_any (λ a. is_attribute a && chooses home chosen a) args
+
 -- `rename <old> <new>`
 abbrev pub rename_note : List ℕ → List ℕ → List Segment → Option Note
 rename_note old new args = if has old args then (if has new args then Some (AttributeExists new) else None) else Some (NoAttribute old)
@@ -58,27 +99,31 @@ nodes_of r = r.kind ++ group RuleCall (segs_of r.args) r.one_comma r.end ∷ []
 
 -- The commands that this version has.
 abbrev pub stands : Command → Bool
-stands (Remove attrs values) = list_all (λ v. false) values
+stands (Remove attrs values) = true
 stands Delete = true
 stands (Rename old new) = true
 stands _ = false
 
-abbrev pub removed : Attributes → List (List ℕ) → Package → List Segment → List Segment
-removed Every values home args = remove_all args
-removed (Named attr) values home args = remove_attribute attr args
+abbrev pub remove : Package → Attributes → List (List ℕ) → List Segment → List Segment
+remove home Every [] args = remove_all args
+remove home Every (v ∷ values) args = filtered_everywhere (unchosen home (Values (v ∷ values))) args
+remove home (Named attr) [] args = remove_attribute attr args
+remove home (Named attr) (v ∷ values) args = remove_values home attr (v ∷ values) args
 
-abbrev pub removes : Attributes → List (List ℕ) → Package → List Segment → Bool
-removes Every values home args = list_any goes_with_all args
-removes (Named attr) values home args = has attr args
+abbrev pub removes : Package → Attributes → List (List ℕ) → List Segment → Bool
+removes home Every [] args = list_any goes_with_all args
+removes home Every (v ∷ values) args = chooses_anywhere home (Values (v ∷ values)) args
+removes home (Named attr) [] args = has attr args
+removes home (Named attr) (v ∷ values) args = chooses_in home (Values (v ∷ values)) (first_named attr args)
 
 -- the arguments after a command on them
 abbrev pub args_after : Command → Package → List Segment → List Segment
-args_after (Remove attrs values) home args = removed attrs values home args
+args_after (Remove attrs values) home args = remove home attrs values args
 args_after (Rename old new) home args = rename old new args
 args_after _ home args = args
 
 abbrev pub args_done : Command → Package → List Segment → Done
-args_done (Remove attrs values) home args = done None (removes attrs values home args)
+args_done (Remove attrs values) home args = done None (removes home attrs values args)
 args_done (Rename old new) home args = done (rename_note old new args) true
 args_done _ home args = done None false
 

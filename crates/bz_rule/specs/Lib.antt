@@ -1,6 +1,8 @@
 pub mod ByteSteps
+pub mod ChosenViews
 pub mod CommandViews
 pub mod Commands
+pub mod EditSteps
 pub mod Effects
 pub mod LabelViews
 pub mod Labels

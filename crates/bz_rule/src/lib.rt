@@ -2,6 +2,7 @@
 #![tactic(auto)]
 
 mod bytes;
+mod chosen;
 mod command;
 mod done;
 mod effects;
@@ -10,6 +11,7 @@ mod find;
 mod labels;
 pub mod laws;
 pub mod list;
+mod lists;
 mod make;
 mod marks;
 mod names;

@@ -8,9 +8,9 @@ ghost use Rattle.bz_rule.specs.Lists.{edit_list};
 ghost use Rattle.bz_rule.specs.Commands as commands;
 ghost use Rattle.bz_rule.specs.Effects as spec;
 
-use crate::command::{Action, Attributes, Command};
+use crate::command::{Action, Command};
 use crate::done::Done;
-use crate::effects::remove::{remove_all, remove_attribute};
+use crate::effects::remove::remove;
 use crate::effects::rename::rename;
 use crate::find::call_at;
 use crate::package::Package;
@@ -164,10 +164,7 @@ fn in_args(
     ensures err { OnErr result (segs_view args.new.items ≡ segs_view args.old.items) }
 {
     match action {
-        Action::Remove(attributes, _) => match attributes {
-            Attributes::Every => Ok(remove_all(args)),
-            Attributes::Named(attr) => Ok(remove_attribute(args, attr.as_str())),
-        },
+        Action::Remove(attributes, values) => Ok(remove(home, attributes, values.as_slice(), args)),
         Action::Rename(old, new) => rename(alloc, old.as_str(), new.as_str(), args),
         _ => Ok(Done::quiet(false)),
     }
