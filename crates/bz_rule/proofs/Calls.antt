@@ -1,5 +1,5 @@
 -- The call of a rule, at the end of the nodes.
-use Rattle.std.proofs.Common.{◌≡◌, ℕ, ◌+◌, ◌-◌, ◌<◌, ◌≤◌, List, [], ◌∷◌, ◌++◌, Bool, true, false, ◌&&◌, length, get_or, take, refl, ap, sym, ◌∙◌, arith, Option, Some, None, append_assoc, append-nil}
+use Rattle.std.proofs.Common.{◌≡◌, ℕ, ◌+◌, ◌-◌, List, [], ◌∷◌, ◌++◌, true, false, length, get_or, take, refl, ap, sym, ◌∙◌, arith, Some, None, append_assoc, append-nil}
 use Rattle.std.proofs.lemmas.List.{take_more, take_all, map-append}
 use Rattle.std.proofs.lemmas.Bool.{and_right}
 use Rattle.bz_tree.specs.declared.stmt.Node.{Node, Group}
@@ -9,7 +9,7 @@ use Rattle.bz_rule.proofs.Views.{segments_of, view_of_group}
 use Rattle.bz_tree.specs.View.{node_view, nodes_view, segs_view, texts}
 use Rattle.bz_tree.specs.declared.stmt.Group.{Group as GroupValue, out-Group}
 use Rattle.bz_rule.specs.RuleViews.{IsCall}
-use Rattle.bz_rule.specs.Rules.{Rule, rule_of, rule_from, call_at, is_call, dotted, elements, comma_of, end_of}
+use Rattle.bz_rule.specs.Rules.{rule_of, rule_from, call_at, is_call, dotted, elements, comma_of, end_of}
 
 rule_from_more : (kind : List Item) (y : Item) (ys : List Item) (x : Item) → rule_from kind (y ∷ (ys ++ x ∷ [])) ≡ rule_from (kind ++ y ∷ []) (ys ++ x ∷ [])
 rule_from_more kind y [] x = refl

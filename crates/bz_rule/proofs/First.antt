@@ -1,12 +1,12 @@
 -- The first argument of a name.
-use Rattle.std.proofs.Common.{◌≡◌, ℕ, zero, suc, ◌+◌, ◌<◌, ◌≤◌, List, [], ◌∷◌, ◌++◌, Bool, true, false, not, cond, length, get_or, set, refl, ap, sym, ◌∙◌, arith, if◌then◌else◌, ◌||◌}
+use Rattle.std.proofs.Common.{◌≡◌, ℕ, zero, suc, ◌+◌, ◌<◌, ◌≤◌, List, [], ◌∷◌, ◌++◌, Bool, true, false, not, cond, length, get_or, set, refl, ap, sym, ◌∙◌, arith, if◌then◌else◌, ◌||◌, Some, None}
 use Rattle.std.specs.List.{list_any, position_or_len}
-use Rattle.std.proofs.lemmas.List.{map-set, get_or-map, length-map}
+use Rattle.std.proofs.lemmas.List.{map-set, get_or-map, length-map, set-get_or}
 use Rattle.std.proofs.lemmas.List.Sums.{passes_at_first}
 use Rattle.bz_tree.specs.declared.stmt.Seg.{Seg}
 use Rattle.bz_tree.specs.Tree.{Item, Segment}
 use Rattle.bz_tree.specs.View.{seg_view, segs_view, node_view}
-use Rattle.bz_rule.specs.Rules.{is_named, name_of, is_text}
+use Rattle.bz_rule.specs.Rules.{is_named, first_named, name_of, is_text}
 use Rattle.bz_rule.specs.Effects.{edit_first, has}
 use Rattle.bz_rule.specs.Places.{IsFirst, IsAbsent}
 use Rattle.std.specs.List.{remove}
@@ -23,6 +23,26 @@ has_one p [] h = absurd (omega arith)
 has_one p (x ∷ xs) h =
     elim (p x) as (λ b. cond (not b) (1 + position_or_len p xs) 0 < suc (length xs) → b || list_any p xs ≡ true)
     [ true ↦ λ k. refl | false ↦ λ k. has_one p xs (omega arith) ] h
+
+first_at : (name : List ℕ) (xs : List Segment) (d : Segment) → position_or_len (is_named name) xs < length xs → first_named name xs ≡ Some (get_or xs (position_or_len (is_named name) xs) d)
+first_at name [] d h = absurd (omega arith)
+first_at name (x ∷ xs) d h =
+    let n : ℕ = position_or_len (is_named name) xs in
+    let one : 1 + n ≡ suc n = omega arith in
+    elim (is_named name x) as (λ b. cond (not b) (1 + n) 0 < suc (length xs) → (if b then Some x else first_named name xs) ≡ Some (get_or (x ∷ xs) (cond (not b) (1 + n) 0) d))
+    [ true ↦ λ k. refl | false ↦ λ k. rw one (first_at name xs d (omega arith)) ] h
+
+first_none : (name : List ℕ) (xs : List Segment) → length xs ≤ position_or_len (is_named name) xs → first_named name xs ≡ None
+first_none name [] h = refl
+first_none name (x ∷ xs) h =
+    elim (is_named name x) as (λ b. suc (length xs) ≤ cond (not b) (1 + position_or_len (is_named name) xs) 0 → (if b then Some x else first_named name xs) ≡ None)
+    [ true ↦ λ k. absurd (omega arith) | false ↦ λ k. first_none name xs (omega arith) ] h
+
+first_read : (name : List ℕ) (args : List Seg) (i : ℕ) (d : Seg) → i ≡ position_or_len (is_named name) (segs_view args) → i < length args → first_named name (segs_view args) ≡ Some (seg_view (get_or args i d))
+first_read name args i d at h =
+    let long : position_or_len (is_named name) (segs_view args) < length (segs_view args) = omega (arith, length-map args seg_view) in
+    let read : get_or (segs_view args) i (seg_view d) ≡ seg_view (get_or args i d) = get_or-map seg_view args i d (seg_view d) h in
+    first_at name (segs_view args) (seg_view d) long ∙ ap (λ (n : ℕ). Some (get_or (segs_view args) n (seg_view d))) (sym at) ∙ ap (λ (s : Segment). Some s) read
 
 -- the first that passes becomes y
 pub edit_first_put : (p : Segment → Bool) (f : Segment → List Segment) (xs : List Segment) (y d : Segment) → position_or_len p xs < length xs → f (get_or xs (position_or_len p xs) d) ≡ y ∷ [] → edit_first p f xs ≡ set xs (position_or_len p xs) y
@@ -85,8 +105,10 @@ pub is_first : (name : List ℕ) (args : List Seg) (i : ℕ) → i ≡ position_
 is_first name args i at h = record {
   within = h;
   there = has_one (is_named name) (segs_view args) (omega (arith, length-map args seg_view));
+  first = λ d. first_read name args i d at h;
   nodes = λ d. omega (arith, first_nodes name args i d at h, ap (λ (s : Segment). length s.nodes) (view_of_seg (get_or args i d)), length-map (get_or args i d).nodes.items node_view);
   put = λ f s d made. put_first (is_named name) f args i s d at h made;
+  same = λ s d kept. map-set seg_view args i s ∙ ap (set (segs_view args) i) (kept ∙ sym (get_or-map seg_view args i d (seg_view d) h)) ∙ set-get_or (segs_view args) i (seg_view d);
   gone = λ f d made. gone_first (is_named name) f args i d at h made;
 }
 
@@ -99,4 +121,4 @@ edit_first_none p f (x ∷ xs) h =
 pub is_absent : (name : List ℕ) (args : List Seg) → length args ≤ position_or_len (is_named name) (segs_view args) → IsAbsent name args
 is_absent name args h =
     let none : has name (segs_view args) ≡ false = has_none (is_named name) (segs_view args) (omega (arith, length-map args seg_view)) in
-    record { absent = none; stay = λ f. edit_first_none (is_named name) f (segs_view args) none }
+    record { absent = none; none = first_none name (segs_view args) (omega (arith, length-map args seg_view)); stay = λ f. edit_first_none (is_named name) f (segs_view args) none }

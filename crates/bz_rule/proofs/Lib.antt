@@ -2,10 +2,12 @@ mod ArgEdits
 mod CallEdits
 mod Calls
 mod Cuts
+mod Decoding
 mod Examples
 mod Fields
 mod First
 mod FirstPart
+mod Fresh
 mod Groups
 mod LastParts
 mod Literals

@@ -1,6 +1,6 @@
 -- The view of a group, level by level.
 use Rattle.std.proofs.Common.{◌≡◌, List, [], ◌∷◌, refl, ap, ◌∙◌, rules}
-use Rattle.bz_tree.specs.declared.stmt.Node.{Node, Group, the_lemmas}
+use Rattle.bz_tree.specs.declared.stmt.Node.{Group, the_lemmas}
 use Rattle.bz_tree.specs.declared.stmt.Group.{Group as GroupValue, out-Group}
 use Rattle.bz_tree.specs.Tree.{Item, group, Segment, items_of, list_of, segs_of, segments}
 use Rattle.bz_tree.specs.View.{node_view, group_view, segs_view, texts}

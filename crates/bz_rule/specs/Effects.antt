@@ -5,12 +5,13 @@ use Rattle.bz_token.specs.declared.token.Kind.TheVariants.{Ident, Sign, Text, In
 use Rattle.bz_tree.specs.declared.stmt.GroupKind.TheVariants.{RuleCall, List as ListKind}
 use Rattle.bz_tree.specs.Tree.{Item, leaf, group, Segment, Statement, segs_of, nowhere}
 use Rattle.bz_rule.specs.Labels.{Package}
+use Rattle.bz_rule.specs.Values.{quoted}
 use Rattle.bz_rule.specs.Commands.{Command, Add, Remove, Set, SetIfAbsent, Delete, Rename, Move, Replace, Comment, Print, Attributes, Every, Named, Setting, ToKind, ToValues, Moved, All, Values}
 use Rattle.bz_rule.specs.Rules.{Rule, rule_of, elements, is_named, first_named, value, kind_text}
 use Rattle.bz_rule.specs.Lists.{is_attribute, with_value, parts, edit_parts, edit_first_part, is_list, equals, equals_any, without, same}
 use Rattle.bz_rule.specs.declared.done.Done.{Done}
 use Rattle.bz_rule.specs.declared.done.Note.{Note}
-use Rattle.bz_rule.specs.declared.done.Note.TheVariants.{NoAttribute, AttributeExists}
+use Rattle.bz_rule.specs.declared.done.Note.TheVariants.{NoAttribute, AttributeExists, NotAList}
 
 abbrev pub failed : Note → Done
 failed note = record { changed = false; line = None; note = Some note }
@@ -80,6 +81,54 @@ filtered_everywhere f args = flat_map (λ a. if is_attribute a then filtered f a
 abbrev pub chooses_anywhere : Package → Moved → List Segment → Bool
 chooses_anywhere home chosen args = list_any (λ a. is_attribute a && chooses home chosen a) args
 
+-- the literal of a new string
+abbrev pub string_item : List ℕ → Item
+string_item v = leaf Text (quoted v) nowhere
+
+-- a new element
+abbrev pub string : List ℕ → Segment
+string v = record { before = []; nodes = string_item v ∷ []; suffix = None }
+
+abbrev pub list_item : List Segment → Item
+list_item ss = group ListKind (segs_of ss) false []
+
+-- a new argument
+abbrev pub argument : List ℕ → List Item → Segment
+argument attr nodes = record { before = []; nodes = leaf Ident attr nowhere ∷ leaf Sign (codes "=") nowhere ∷ nodes; suffix = None }
+
+abbrev pub no_parts : List (List Segment) → Bool
+no_parts [] = true
+no_parts (ss ∷ lists) = false
+
+-- the attribute is there and has no list part
+abbrev pub not_a_list : List ℕ → Option Segment → Option Note
+not_a_list attr None = None
+not_a_list attr (Some a) = if no_parts (parts (value a)) then Some (NotAList attr) else None
+
+-- `add <attr> <v>..`: the values that no element of a list part equals and no earlier value is the same as
+abbrev pub is_fresh : Package → List (List Segment) → List (List ℕ) → List ℕ → Bool
+is_fresh home lists earlier v = not (list_any (list_any (is_chosen home (Values (v ∷ [])))) lists || list_any (same home v) earlier)
+
+abbrev pub fresh : Package → List (List Segment) → List (List ℕ) → List (List ℕ) → List (List ℕ)
+fresh home lists earlier [] = []
+fresh home lists earlier (v ∷ values) = (if is_fresh home lists earlier v then v ∷ [] else []) ++ fresh home lists (earlier ++ v ∷ []) values
+
+abbrev pub new_elements : Package → List (List Segment) → List (List ℕ) → List Segment
+new_elements home lists values = map string (fresh home lists [] values)
+
+-- they go to the end of the first list part
+abbrev pub with_added : Package → List (List ℕ) → Segment → Segment
+with_added home values a = if no_parts (parts (value a)) then a else with_value (edit_first_part (λ ss. ss ++ new_elements home (parts (value a)) values) (value a)) a
+
+abbrev pub add : Package → List ℕ → List (List ℕ) → List Segment → List Segment
+add home attr values args =
+    if has attr args then edit_first (is_named attr) (λ a. with_added home values a ∷ []) args
+    else args ++ argument attr (list_item (new_elements home [] values) ∷ []) ∷ []
+
+abbrev pub adds : Package → List (List ℕ) → Option Segment → Bool
+adds home values None = true
+adds home values (Some a) = not (is_nil (new_elements home (parts (value a)) values))
+
 -- `rename <old> <new>`
 abbrev pub rename_note : List ℕ → List ℕ → List Segment → Option Note
 rename_note old new args = if has old args then (if has new args then Some (AttributeExists new) else None) else Some (NoAttribute old)
@@ -100,6 +149,7 @@ nodes_of r = r.kind ++ group RuleCall (segs_of r.args) r.one_comma r.end ∷ []
 -- The commands that this version has.
 abbrev pub stands : Command → Bool
 stands (Remove attrs values) = true
+stands (Add attr values) = true
 stands Delete = true
 stands (Rename old new) = true
 stands _ = false
@@ -118,11 +168,13 @@ removes home (Named attr) (v ∷ values) args = chooses_in home (Values (v ∷ v
 
 -- the arguments after a command on them
 abbrev pub args_after : Command → Package → List Segment → List Segment
+args_after (Add attr values) home args = add home attr values args
 args_after (Remove attrs values) home args = remove home attrs values args
 args_after (Rename old new) home args = rename old new args
 args_after _ home args = args
 
 abbrev pub args_done : Command → Package → List Segment → Done
+args_done (Add attr values) home args = done (not_a_list attr (first_named attr args)) (adds home values (first_named attr args))
 args_done (Remove attrs values) home args = done None (removes home attrs values args)
 args_done (Rename old new) home args = done (rename_note old new args) true
 args_done _ home args = done None false

@@ -14,6 +14,7 @@ pub mod RuleViews
 pub mod Rules
 pub mod Same
 pub mod SameSteps
+pub mod Texts
 pub mod ValueSteps
 pub mod Values
 pub mod WordSteps

@@ -8,7 +8,7 @@ ghost use Rattle.bz_rule.specs.Lists.{edit_list, edit_parts, parts, with_value};
 ghost use Rattle.bz_rule.specs.ChosenViews.{chosen_view};
 ghost use Rattle.bz_rule.specs.Effects as spec;
 
-use crate::equals::equals_any;
+use crate::equals::{equals, equals_any};
 use crate::list::Text;
 use crate::lists::{are_joints, is_list, is_part};
 use crate::package::Package;
@@ -20,6 +20,7 @@ use bz_tree::{Node, Seg};
 pub(crate) enum Chosen<'c> {
     All,
     Values(&'c [Text]),
+    Value(&'c str),
 }
 
 pub(crate) fn is_chosen(home: &Package, chosen: Chosen<'_>, element: &Seg<'_>) -> bool
@@ -28,6 +29,7 @@ pub(crate) fn is_chosen(home: &Package, chosen: Chosen<'_>, element: &Seg<'_>) -
     match chosen {
         Chosen::All => true,
         Chosen::Values(words) => equals_any(home, element, words),
+        Chosen::Value(word) => equals(home, element, word),
     }
 }
 
@@ -51,7 +53,7 @@ fn any_chosen_in(home: &Package, chosen: Chosen<'_>, node: &Node<'_>) -> bool
     }
 }
 
-fn is_any_chosen(home: &Package, chosen: Chosen<'_>, value: &[Node<'_>]) -> bool
+pub(crate) fn is_any_chosen(home: &Package, chosen: Chosen<'_>, value: &[Node<'_>]) -> bool
     ensures { result ≡ list_any (list_any (spec.is_chosen home.now (chosen_view chosen.entry))) (parts (nodes_view value.now)) }
 {
     if !are_joints(value) {

@@ -4,13 +4,14 @@
 mod bytes;
 mod chosen;
 mod command;
+mod decode;
 mod done;
 mod effects;
 mod equals;
 mod find;
 mod labels;
 pub mod laws;
-pub mod list;
+mod list;
 mod lists;
 mod make;
 mod marks;
@@ -24,16 +25,19 @@ mod slot;
 mod target;
 #[cfg(test)]
 mod tests;
+mod texts;
 mod value;
 mod words;
 
 pub use command::{Command, CommandFault};
 pub use done::{Done, Note};
 pub use labels::{LabelFault, read_label};
+pub use list::Text;
 pub use marks::matches;
 pub use package::Package;
 pub use reader::read_command;
 pub use sameness::same;
 pub use slot::apply;
 pub use target::Target;
+pub use texts::{label, shown};
 pub use value::{quote, value_is};

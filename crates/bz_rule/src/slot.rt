@@ -10,6 +10,7 @@ ghost use Rattle.bz_rule.specs.Effects as spec;
 
 use crate::command::{Action, Command};
 use crate::done::Done;
+use crate::effects::add::add;
 use crate::effects::remove::remove;
 use crate::effects::rename::rename;
 use crate::find::call_at;
@@ -164,6 +165,7 @@ fn in_args(
     ensures err { OnErr result (segs_view args.new.items ≡ segs_view args.old.items) }
 {
     match action {
+        Action::Add(attr, values) => add(alloc, home, attr.as_str(), values.as_slice(), args),
         Action::Remove(attributes, values) => Ok(remove(home, attributes, values.as_slice(), args)),
         Action::Rename(old, new) => rename(alloc, old.as_str(), new.as_str(), args),
         _ => Ok(Done::quiet(false)),

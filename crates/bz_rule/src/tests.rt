@@ -4,13 +4,14 @@ use crate::command::{Action, Attributes, Commented, Field, Moved, Setting};
 use crate::list::{Seq, Text};
 use crate::target::Marked;
 use crate::{
-    Command, CommandFault, LabelFault, Package, Target, matches, quote, read_command, read_label,
-    same, value_is,
+    Command, CommandFault, LabelFault, Package, Target, label, matches, quote, read_command,
+    read_label, same, shown, value_is,
 };
 use bz_token::{Kind, Token};
 use bz_tree::{Class, Group, GroupKind, Leaf, Node, Seg, Stmt};
 use std::alloc::{AllocError, Global};
 use std::borrow::CowStr;
+use std::collections::HashMap;
 use std::test::Fail;
 
 fn token<'a>(kind: Kind, text: &'a str) -> Token<'a> {
@@ -85,6 +86,17 @@ fn packages(rt: HostRuntime) -> Result<(), Fail> {
     }
     assert!(rt; package(rt.alloc(), "//a:b")? == package(rt.alloc(), "a:c")?);
     assert!(rt; package(rt.alloc(), "//-:b")? != package(rt.alloc(), "-:b")?);
+    Ok(())
+}
+
+#[test]
+fn packages_as_keys(rt: HostRuntime) -> Result<(), Fail> {
+    let mut seen = HashMap::new(rt.alloc());
+    seen.insert(package(rt.alloc(), "//a:b")?, 1)?;
+    seen.insert(package(rt.alloc(), "-:b")?, 2)?;
+    assert_eq!(rt; seen.get(&package(rt.alloc(), "a:c")?).copied(), Some(1));
+    assert_eq!(rt; seen.get(&package(rt.alloc(), "-:c")?).copied(), Some(2));
+    assert_eq!(rt; seen.get(&package(rt.alloc(), "//-:c")?).copied(), None);
     Ok(())
 }
 
@@ -374,5 +386,45 @@ fn marks(rt: HostRuntime) -> Result<(), Fail> {
     assert!(rt; matches(&target(alloc, "//p:%3")?, &named));
     assert!(rt; !matches(&target(alloc, "//p:%1")?, &named));
     assert!(rt; !matches(&target(alloc, "//p:%3")?, &other));
+    Ok(())
+}
+
+#[test]
+fn shown_rules(rt: HostRuntime) -> Result<(), Fail> {
+    let alloc = rt.alloc();
+    let home = package(alloc, "//p:a")?;
+    let text = shown(alloc, &home, &rule(alloc, None)?)?;
+    assert_eq!(rt; text.as_str(), "//p:%f");
+    let text = shown(alloc, &home, &assignment(alloc)?)?;
+    assert_eq!(rt; text.as_str(), "");
+    let text = shown(alloc, &home, &rule(alloc, Some("'é\\tb'"))?)?;
+    assert_eq!(rt; text.as_str(), "//p:é\tb");
+    let text = shown(alloc, &home, &rule(alloc, Some("\"\"\"a\r\nb\"\"\""))?)?;
+    assert_eq!(rt; text.as_str(), "//p:a\nb");
+    let text = shown(alloc, &home, &rule(alloc, Some("r'a'"))?)?;
+    assert_eq!(rt; text.as_str(), "//p:a");
+    let text = shown(alloc, &home, &rule(alloc, Some("b'a'"))?)?;
+    assert_eq!(rt; text.as_str(), "//p:%f");
+    let home = package(alloc, "-:a")?;
+    let text = shown(alloc, &home, &rule(alloc, Some("''"))?)?;
+    assert_eq!(rt; text.as_str(), "-:");
+    Ok(())
+}
+
+#[test]
+fn shown_labels(rt: HostRuntime) -> Result<(), Fail> {
+    let alloc = rt.alloc();
+    for (text, expected) in [
+        ("//:a", "//:a"),
+        ("//a/b", "//a/b:b"),
+        ("p:%007", "//p:%7"),
+        ("-:*", "-:*"),
+        ("//p:__pkg__", "//p:__pkg__"),
+        ("//p:%a.b", "//p:%a.b"),
+    ] {
+        let (package, target) = read_label(alloc, text)?;
+        let text = label(alloc, &package, &target)?;
+        assert_eq!(rt; text.as_str(), expected);
+    }
     Ok(())
 }
