@@ -22,7 +22,7 @@ rule_from_end kind (y ∷ ys) x = rule_from_more kind y ys x ∙ rule_from_end (
 last_split : (ns : List Node) (d : Node) (i : ℕ) → i + 1 ≡ length ns → ns ≡ take i ns ++ get_or ns i d ∷ []
 last_split ns d i h = sym (take_all (i + 1) ns (omega arith)) ∙ take_more ns i d (omega arith)
 
-views_split : (ns : List Node) (d : Node) (i : ℕ) → i + 1 ≡ length ns → nodes_view ns ≡ nodes_view (take i ns) ++ node_view (get_or ns i d) ∷ []
+pub views_split : (ns : List Node) (d : Node) (i : ℕ) → i + 1 ≡ length ns → nodes_view ns ≡ nodes_view (take i ns) ++ node_view (get_or ns i d) ∷ []
 views_split ns d i h = ap nodes_view (last_split ns d i h) ∙ map-append node_view (take i ns) (get_or ns i d ∷ [])
 
 -- the last node decides

@@ -1,9 +1,15 @@
+pub mod ByteSteps
+pub mod ChosenViews
 pub mod CommandViews
 pub mod Commands
+pub mod EditSteps
+pub mod Effects
 pub mod LabelViews
 pub mod Labels
+pub mod Lists
 pub mod Marks
 pub mod Names
+pub mod Places
 pub mod RuleViews
 pub mod Rules
 pub mod Same

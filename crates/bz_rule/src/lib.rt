@@ -1,11 +1,19 @@
 //! Labels, targets and commands on one rule.
 #![tactic(auto)]
 
+mod bytes;
+mod chosen;
 mod command;
 mod decode;
+mod done;
+mod effects;
+mod equals;
+mod find;
 mod labels;
 pub mod laws;
 mod list;
+mod lists;
+mod make;
 mod marks;
 mod names;
 mod package;
@@ -13,6 +21,7 @@ mod parts;
 mod reader;
 mod rule;
 mod sameness;
+mod slot;
 mod target;
 #[cfg(test)]
 mod tests;
@@ -21,11 +30,14 @@ mod value;
 mod words;
 
 pub use command::{Command, CommandFault};
+pub use done::{Done, Note};
 pub use labels::{LabelFault, read_label};
+pub use list::Text;
 pub use marks::matches;
 pub use package::Package;
 pub use reader::read_command;
 pub use sameness::same;
+pub use slot::apply;
 pub use target::Target;
 pub use texts::{label, shown};
 pub use value::{quote, value_is};

@@ -47,7 +47,7 @@ fn call_of<'n, 'a>(node: &'n Node<'a>) -> Option<&'n Group<'a>>
 }
 
 // Identifiers joined by dots.
-fn are_dotted(kind: &[Node<'_>]) -> bool
+pub(crate) fn are_dotted(kind: &[Node<'_>]) -> bool
     ensures { result ≡ spec.dotted true (nodes_view kind.now) }
 {
     let mut wants_name = true;
@@ -76,7 +76,7 @@ pub(crate) fn is_sign(node: &Node<'_>, sign: &str) -> bool
     }
 }
 
-fn ident_of<'n>(node: &'n Node<'_>) -> Option<&'n str>
+pub(crate) fn ident_of<'n>(node: &'n Node<'_>) -> Option<&'n str>
     ensures { option_map (λ text. text.now) result ≡ spec.ident_of (node_view node.now) }
 {
     match node {
@@ -89,7 +89,7 @@ fn ident_of<'n>(node: &'n Node<'_>) -> Option<&'n str>
 }
 
 // The name of an argument `name = value`.
-fn name_of<'n>(nodes: &'n [Node<'_>]) -> Option<&'n str>
+pub(crate) fn name_of<'n>(nodes: &'n [Node<'_>]) -> Option<&'n str>
     ensures { option_map (λ text. text.now) result ≡ spec.name_of (nodes_view nodes.now) }
 {
     match nodes {

@@ -1,0 +1,7 @@
+use Rattle.bz_rule.proofs.slot.apply.Goals as goal
+
+pub returns-in-Delete-clause-slot : goal.returns-in-Delete-clause-slot
+returns-in-Delete-clause-slot c = rw (← c.command.view_is, c.in-Delete.is) (c.delete.ensures.slot c.args.home.now)
+
+pub returns-in-Delete-clause-done : goal.returns-in-Delete-clause-done
+returns-in-Delete-clause-done c = rw (← c.command.view_is, c.in-Delete.is) (c.delete.ensures.done c.args.home.now)

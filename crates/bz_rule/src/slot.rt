@@ -1,0 +1,173 @@
+//! A command applied to what a slot holds.
+
+ghost use Rattle.std.specs.Prelude.{◌≡◌, IfOk, OnOk, OnErr, IsTrue, is_some, option_map, []};
+ghost use Rattle.bz_tree.specs.View.{node_view, nodes_view, segs_view, view, slot_view};
+ghost use Rattle.bz_rule.specs.CommandViews.{command_view};
+ghost use Rattle.bz_rule.specs.Rules.{rule_of, elements};
+ghost use Rattle.bz_rule.specs.Lists.{edit_list};
+ghost use Rattle.bz_rule.specs.Commands as commands;
+ghost use Rattle.bz_rule.specs.Effects as spec;
+
+use crate::command::{Action, Command};
+use crate::done::Done;
+use crate::effects::add::add;
+use crate::effects::remove::remove;
+use crate::effects::rename::rename;
+use crate::find::call_at;
+use crate::package::Package;
+use bz_tree::{Node, Seg, Stmt};
+use std::alloc::{AllocError, Global};
+
+/// Applies a command to what a slot holds, in the package of its file. A slot that holds no rule stays as it is, and so
+/// does each statement where the answer has a note that is a failure. An `Err` leaves the slot as it was.
+pub fn apply(
+    alloc: Global,
+    command: &Command,
+    home: &Package,
+    slot: &mut Option<Stmt<'_>>,
+) -> Result<Done, AllocError>
+    requires { IsTrue (spec.stands command.now) }
+    ensures slot { OnOk result (slot_view slot.new ≡ spec.after command.now home.now (slot_view slot.old)) }
+    ensures done { IfOk result (λ done. done ≡ spec.done_of command.now home.now (slot_view slot.old)) }
+    ensures err { OnErr result (slot_view slot.new ≡ slot_view slot.old) }
+{
+    match &command.action {
+        Action::Delete => Ok(delete(slot)),
+        _ => {
+            let done = on_args(alloc, &command.action, home, slot)?;
+            Ok(done)
+        }
+    }
+}
+
+// Takes a rule out of its slot.
+fn delete(slot: &mut Option<Stmt<'_>>) -> Done
+    ensures slot { (home : _) → slot_view slot.new ≡ spec.after commands.Delete home (slot_view slot.old) }
+    ensures done { (home : _) → result ≡ spec.done_of commands.Delete home (slot_view slot.old) }
+{
+    if holds_rule(slot) {
+        *slot = None;
+        return Done::quiet(true);
+    }
+    Done::quiet(false)
+}
+
+fn holds_rule(slot: &Option<Stmt<'_>>) -> bool
+    ensures { result ≡ spec.holds_rule (slot_view slot.now) }
+{
+    match slot {
+        None => false,
+        Some(stmt) => is_rule(&stmt.nodes),
+    }
+}
+
+fn is_rule(nodes: &[Node<'_>]) -> bool
+    ensures { result ≡ is_some (rule_of (nodes_view nodes.now)) }
+{
+    match call_at(nodes) {
+        None => false,
+        Some(_) => true,
+    }
+}
+
+// Edits the arguments of a rule in a slot, and nothing else.
+fn on_args(
+    alloc: Global,
+    action: &Action,
+    home: &Package,
+    slot: &mut Option<Stmt<'_>>,
+) -> Result<Done, AllocError>
+    requires { IsTrue (spec.stands (command_view action.now)) }
+    ensures slot { OnOk result (slot_view slot.new ≡ option_map (spec.with_args (spec.args_after (command_view action.now) home.now)) (slot_view slot.old)) }
+    ensures done { IfOk result (λ done. done ≡ spec.slot_done (spec.args_done (command_view action.now) home.now) (slot_view slot.old)) }
+    ensures err { OnErr result (slot_view slot.new ≡ slot_view slot.old) }
+{
+    match slot {
+        None => Ok(Done::quiet(false)),
+        Some(stmt) => {
+            let done = in_statement(alloc, action, home, stmt)?;
+            Ok(done)
+        }
+    }
+}
+
+fn in_statement(
+    alloc: Global,
+    action: &Action,
+    home: &Package,
+    stmt: &mut Stmt<'_>,
+) -> Result<Done, AllocError>
+    requires { IsTrue (spec.stands (command_view action.now)) }
+    ensures stmt { OnOk result (view stmt.new ≡ spec.with_args (spec.args_after (command_view action.now) home.now) (view stmt.old)) }
+    ensures done { IfOk result (λ done. done ≡ spec.done_in (spec.args_done (command_view action.now) home.now) (rule_of (nodes_view stmt.old.nodes.items))) }
+    ensures err { OnErr result (view stmt.new ≡ view stmt.old) }
+{
+    let done = in_nodes(alloc, action, home, &mut stmt.nodes)?;
+    Ok(done)
+}
+
+fn in_nodes(
+    alloc: Global,
+    action: &Action,
+    home: &Package,
+    nodes: &mut [Node<'_>],
+) -> Result<Done, AllocError>
+    requires { IsTrue (spec.stands (command_view action.now)) }
+    ensures nodes { OnOk result (nodes_view nodes.new ≡ spec.nodes_after (spec.args_after (command_view action.now) home.now) (nodes_view nodes.old) (rule_of (nodes_view nodes.old))) }
+    ensures done { IfOk result (λ done. done ≡ spec.done_in (spec.args_done (command_view action.now) home.now) (rule_of (nodes_view nodes.old))) }
+    ensures err { OnErr result (nodes_view nodes.new ≡ nodes_view nodes.old) }
+{
+    let Some(call) = call_at(nodes) else {
+        return Ok(Done::quiet(false));
+    };
+    let done = in_call(alloc, action, home, &mut nodes[call])?;
+    Ok(done)
+}
+
+fn in_call(
+    alloc: Global,
+    action: &Action,
+    home: &Package,
+    call: &mut Node<'_>,
+) -> Result<Done, AllocError>
+    requires { IsTrue (spec.stands (command_view action.now)) }
+    ensures call { OnOk result (node_view call.new ≡ edit_list (spec.args_after (command_view action.now) home.now) (node_view call.old)) }
+    ensures done { IfOk result (λ done. done ≡ spec.args_done (command_view action.now) home.now (elements (node_view call.old))) }
+    ensures err { OnErr result (node_view call.new ≡ node_view call.old) }
+{
+    match call {
+        Node::Token(_) => without_args(alloc, action, home),
+        Node::Group(group) => {
+            let done = in_args(alloc, action, home, &mut group.segs)?;
+            Ok(done)
+        }
+    }
+}
+
+// What a command tells of no arguments.
+fn without_args(alloc: Global, action: &Action, home: &Package) -> Result<Done, AllocError>
+    requires { IsTrue (spec.stands (command_view action.now)) }
+    ensures { IfOk result (λ done. done ≡ spec.args_done (command_view action.now) home.now []) }
+{
+    let mut args = Vec::new(alloc);
+    in_args(alloc, action, home, &mut args)
+}
+
+fn in_args(
+    alloc: Global,
+    action: &Action,
+    home: &Package,
+    args: &mut Vec<Seg<'_>>,
+) -> Result<Done, AllocError>
+    requires { IsTrue (spec.stands (command_view action.now)) }
+    ensures args { OnOk result (segs_view args.new.items ≡ spec.args_after (command_view action.now) home.now (segs_view args.old.items)) }
+    ensures done { IfOk result (λ done. done ≡ spec.args_done (command_view action.now) home.now (segs_view args.old.items)) }
+    ensures err { OnErr result (segs_view args.new.items ≡ segs_view args.old.items) }
+{
+    match action {
+        Action::Add(attr, values) => add(alloc, home, attr.as_str(), values.as_slice(), args),
+        Action::Remove(attributes, values) => Ok(remove(home, attributes, values.as_slice(), args)),
+        Action::Rename(old, new) => rename(alloc, old.as_str(), new.as_str(), args),
+        _ => Ok(Done::quiet(false)),
+    }
+}
