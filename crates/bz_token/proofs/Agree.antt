@@ -78,7 +78,7 @@ words_run (x ∷ xs) s d h all =
     words_run xs (next s x) d (subst (λ t. IsAt t Plain d) (sym (moved.1 ∙ word_step d moved.0 x parts.0)) (stands Plain d Statement)) parts.1
 
 -- where a long string's scan stands
-abbrev long_state : Quote → ℕ → Escape → Inside
+abbrev pub long_state : Quote → ℕ → Escape → Inside
 long_state q row BehindBackslash = LongEscape q
 long_state q row BehindReturn = Long q
 long_state q zero Unescaped = Long q
@@ -92,35 +92,35 @@ no_backslash : (q : Quote) → (byte_of q == 92) ≡ false
 no_backslash Single = refl
 no_backslash Double = refl
 
-no_newline : (q : Quote) → (10 == byte_of q) ≡ false
+pub no_newline : (q : Quote) → (10 == byte_of q) ≡ false
 no_newline Single = refl
 no_newline Double = refl
 
 -- a quote escapes nothing
-quote_plain : (q : Quote) (x : ℕ) → (x == byte_of q) ≡ true → (x == 92) ≡ false
+pub quote_plain : (q : Quote) (x : ℕ) → (x == byte_of q) ≡ true → (x == 92) ≡ false
 quote_plain q x hit = ap (λ y. y == 92) (eqb-true x (byte_of q) hit) ∙ no_backslash q
 
 -- where the next quote of a long string leads
-abbrev row_target : Quote → ℕ → Inside
+abbrev pub row_target : Quote → ℕ → Inside
 row_target q zero = LongQuote q
 row_target q (suc zero) = LongTwoQuotes q
 row_target q (suc (suc row)) = Plain
 
-long_next : (q : Quote) (row d : ℕ) (k : LineKind) (x : ℕ) → next_in (long_state q row Unescaped) d k x ≡ in_long (row_target q row) q d k x
+pub long_next : (q : Quote) (row d : ℕ) (k : LineKind) (x : ℕ) → next_in (long_state q row Unescaped) d k x ≡ in_long (row_target q row) q d k x
 long_next q zero d k x = refl
 long_next q (suc zero) d k x = refl
 long_next q (suc (suc row)) d k x = refl
 
-in_long_quote : (t : Inside) (q : Quote) (d : ℕ) (k : LineKind) (x : ℕ) → (x == byte_of q) ≡ true → in_long t q d k x ≡ at t d k
+pub in_long_quote : (t : Inside) (q : Quote) (d : ℕ) (k : LineKind) (x : ℕ) → (x == byte_of q) ≡ true → in_long t q d k x ≡ at t d k
 in_long_quote t q d k x h = rw h refl
 
-in_long_escape : (t : Inside) (q : Quote) (d : ℕ) (k : LineKind) (x : ℕ) → (x == byte_of q) ≡ false → (x == 92) ≡ true → in_long t q d k x ≡ at (LongEscape q) d k
+pub in_long_escape : (t : Inside) (q : Quote) (d : ℕ) (k : LineKind) (x : ℕ) → (x == byte_of q) ≡ false → (x == 92) ≡ true → in_long t q d k x ≡ at (LongEscape q) d k
 in_long_escape t q d k x h e = rw (h, e) refl
 
-in_long_plain : (t : Inside) (q : Quote) (d : ℕ) (k : LineKind) (x : ℕ) → (x == byte_of q) ≡ false → (x == 92) ≡ false → in_long t q d k x ≡ at (Long q) d k
+pub in_long_plain : (t : Inside) (q : Quote) (d : ℕ) (k : LineKind) (x : ℕ) → (x == byte_of q) ≡ false → (x == 92) ≡ false → in_long t q d k x ≡ at (Long q) d k
 in_long_plain t q d k x h e = rw (h, e) refl
 
-moves : (s : Scan) (from to : Inside) (d x : ℕ) → IsAt s from d → ((k : LineKind) → next_in from d k x ≡ at to d k) → IsAt (next s x) to d
+pub moves : (s : Scan) (from to : Inside) (d x : ℕ) → IsAt s from d → ((k : LineKind) → next_in from d k x ≡ at to d k) → IsAt (next s x) to d
 moves s from to d x h step = let m = step_from s from d x h in subst (λ t. IsAt t to d) (sym (m.1 ∙ step m.0)) (stands to d m.0)
 
 empty_run : (xs : List ℕ) (s : Scan) (i : Inside) (d : ℕ) → is_empty xs ≡ true → IsAt s i d → IsAt (run s xs) i d
@@ -197,7 +197,7 @@ not_true true h = absurd (false≢true h)
 not_true false h = refl
 
 -- behind a carriage return another byte than a newline is not escaped
-unescaped : (q : Quote) (x : ℕ) (xs : List ℕ) → (x == 10) ≡ false → closes (long_quotes q false) 0 BehindReturn (x ∷ xs) ≡ true → closes (long_quotes q false) 0 Unescaped (x ∷ xs) ≡ true
+pub unescaped : (q : Quote) (x : ℕ) (xs : List ℕ) → (x == 10) ≡ false → closes (long_quotes q false) 0 BehindReturn (x ∷ xs) ≡ true → closes (long_quotes q false) 0 Unescaped (x ∷ xs) ≡ true
 unescaped q x xs other h = elim (cases_Bool (x == byte_of q)) [
   | inl hit ↦ rw (hit, closes) (rw (other, hit, closes) at h)
   | inr miss ↦ rw (miss, closes) (rw (other, miss, closes) at h)
@@ -209,7 +209,7 @@ pub data Outcome (q : Quote) (d : ℕ) (xs : List ℕ) (s : Scan) : Type 0 where
   escape : IsAt s (ShortEscape q) d → closes (long_quotes q false) 0 BehindBackslash xs ≡ true → Outcome q d xs s
   goes : IsAt s (Short q) d → closes (long_quotes q false) 0 Unescaped xs ≡ true → Outcome q d xs s
 
-short_step : (q : Quote) (d x : ℕ) (xs : List ℕ) (s : Scan) (k : LineKind) → s ≡ in_short q d k x → closes (long_quotes q false) 0 Unescaped (x ∷ xs) ≡ true → Outcome q d xs s
+pub short_step : (q : Quote) (d x : ℕ) (xs : List ℕ) (s : Scan) (k : LineKind) → s ≡ in_short q d k x → closes (long_quotes q false) 0 Unescaped (x ∷ xs) ≡ true → Outcome q d xs s
 short_step q d x xs s k step closed = elim (cases_Bool (x == byte_of q)) [
   | inl hit ↦
       let quoted : in_short q d k x ≡ at Plain d k = rw hit refl in
@@ -264,7 +264,7 @@ mutual
   ]
 
 -- a quote that begins a string
-quote_of : (x : ℕ) → is_quote x ≡ true → (q : Quote) × (x ≡ byte_of q)
+pub quote_of : (x : ℕ) → is_quote x ≡ true → (q : Quote) × (x ≡ byte_of q)
 quote_of x h = elim (or_cases (x == 34) (x == 39) h) [
   | inl double ↦ (Double, eqb-true x 34 double)
   | inr single ↦ (Single, eqb-true x 39 single)
@@ -293,7 +293,7 @@ ready_first s d b bs (comments h blank) visible = elim (cases_Bool (is_newline b
   | inr other ↦ absurd (false≢true (sym visible ∙ (and_parts (is_blank b) (list_all is_blank (take (prefix_len (λ c. not (is_newline c)) bs) bs)) (rw (other, one-add) at blank)).0))
 ]
 
-not_ended : (s : Scan) (i : Inside) (d : ℕ) → IsAt s i d → is_ended i ≡ false → is_ended s.inside ≡ true → ⊥
+pub not_ended : (s : Scan) (i : Inside) (d : ℕ) → IsAt s i d → is_ended i ≡ false → is_ended s.inside ≡ true → ⊥
 not_ended s i d h none ended = false≢true (sym none ∙ ap is_ended (sym h.inside_is) ∙ ended)
 
 blank_step : (d : ℕ) (k : LineKind) (b : ℕ) → is_blank b ≡ true → outside d k b ≡ at Plain d k
@@ -438,7 +438,7 @@ is_sign_plain b = not (b == 10 || b == 32 || b == 9 || b == 13 || b == 35 || b =
 abbrev pub is_plain_sign : List ℕ → Bool
 is_plain_sign text = list_all is_sign_plain text && list_all (λ b. not (is_bracket_byte b)) (drop 1 text)
 
-sign_plain : (text : List ℕ) → is_sign text ≡ true → is_plain_sign text ≡ true
+pub sign_plain : (text : List ℕ) → is_sign text ≡ true → is_plain_sign text ≡ true
 unfolding signs
 sign_plain text is = one_of is_plain_sign signs text refl is
 
@@ -592,7 +592,7 @@ parts_behind n letters (q ∷ qs) o h size words = elim (cases_Bool (is_quote q)
     some_same : (a b : Opening) → Some a ≡ Some b → a ≡ b
     some_same a b e = cc
 
-string_parts : (text : List ℕ) (o : Opening) → opening text ≡ Some o → Parts text o
+pub string_parts : (text : List ℕ) (o : Opening) → opening text ≡ Some o → Parts text o
 string_parts [] o h = absurd (none_some o h)
 string_parts (a ∷ bs) o h =
     elim (cases_Bool (a == 114)) [
@@ -627,7 +627,7 @@ string_parts (a ∷ bs) o h =
     ]
 
 -- over a string's prefix
-letters_run : (letters : List ℕ) (q : Quote) (s : Scan) (d : ℕ) → list_all is_word_byte letters ≡ true → ((b : ℕ) (bs : List ℕ) → letters ++ byte_of q ∷ [] ≡ b ∷ bs → (k : LineKind) × (next s b ≡ outside d k b)) → IsAt (run s (letters ++ byte_of q ∷ [])) (Opened q) d
+pub letters_run : (letters : List ℕ) (q : Quote) (s : Scan) (d : ℕ) → list_all is_word_byte letters ≡ true → ((b : ℕ) (bs : List ℕ) → letters ++ byte_of q ∷ [] ≡ b ∷ bs → (k : LineKind) × (next s b ≡ outside d k b)) → IsAt (run s (letters ++ byte_of q ∷ [])) (Opened q) d
 letters_run [] q s d words first =
     let m = first (byte_of q) [] refl in
     subst (λ t. IsAt t (Opened q) d) (sym (m.1 ∙ quote_step q d m.0)) (stands (Opened q) d Statement)
@@ -699,7 +699,7 @@ string_token_run s opened b bs after token m =
     behind_quote false x xs = refl
 
 -- over a token
-token_run : (depth : ℕ) (s : Scan) (opened : List ℕ) (kind : Kind) (text after : List ℕ) → IsToken kind text after → fits depth opened kind text ≡ true → Ready s (length opened) (text ++ after) → BehindToken (run s text) (length (open_behind opened text)) kind after
+pub token_run : (depth : ℕ) (s : Scan) (opened : List ℕ) (kind : Kind) (text after : List ℕ) → IsToken kind text after → fits depth opened kind text ≡ true → Ready s (length opened) (text ++ after) → BehindToken (run s text) (length (open_behind opened text)) kind after
 token_run depth s opened kind [] after token fit ready = absurd (empty_no_text kind token.whole)
 token_run depth s opened kind (b ∷ bs) after token fit ready = by_kind kind token fit (ready_first s (length opened) b (bs ++ after) ready (visible kind b bs token.whole))
   where

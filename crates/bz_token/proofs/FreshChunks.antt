@@ -105,14 +105,14 @@ lines_behind_lines first depth a b ts us x y = (
 )
 
 -- a chunk, and those behind it
-record Cut (bytes c : List ℕ) (cs : List (List ℕ)) : Type 0 where
+pub record Cut (bytes c : List ℕ) (cs : List (List ℕ)) : Type 0 where
   pub rest : List ℕ
   pub bytes_are : bytes ≡ c ++ rest
   pub some : 0 < length c
   pub behind : chunks rest ≡ cs
   pub first_is : chunks (c ++ rest) ≡ c ∷ chunks rest
 
-first_cut : (bytes c : List ℕ) (cs : List (List ℕ)) → chunks bytes ≡ c ∷ cs → Cut bytes c cs
+pub first_cut : (bytes c : List ℕ) (cs : List (List ℕ)) → chunks bytes ≡ c ∷ cs → Cut bytes c cs
 first_cut [] c cs e = absurd (nothing e)
   where
     nothing : [] ≡ c ∷ cs → ⊥

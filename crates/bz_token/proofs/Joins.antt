@@ -44,10 +44,10 @@ ends_more Sign text after b h stop = first_more Sign text after b h stop
 ends_more Line text after b h stop = first_more Line text after b h stop
 ends_more Kept text after b h stop = first_more Kept text after b h stop
 
-token_more : (kind : Kind) (text after b : List ℕ) → IsToken kind text after → list_any is_newline after ≡ true → IsToken kind text (after ++ b)
+pub token_more : (kind : Kind) (text after b : List ℕ) → IsToken kind text after → list_any is_newline after ≡ true → IsToken kind text (after ++ b)
 token_more kind text after b token h = token_ended kind text (after ++ b) token.whole (ends_more kind text after b h (token_ends kind text after token))
 
-line_kind : (kind : Kind) → is_line kind ≡ true → kind ≡ Line
+pub line_kind : (kind : Kind) → is_line kind ≡ true → kind ≡ Line
 line_kind Line h = refl
 line_kind Ident h = absurd (false≢true h)
 line_kind Word h = absurd (false≢true h)
@@ -57,17 +57,17 @@ line_kind Sign h = absurd (false≢true h)
 line_kind Note h = absurd (false≢true h)
 line_kind Kept h = absurd (false≢true h)
 
-line_text : (kind : Kind) (text : List ℕ) → is_line kind ≡ true → is_text kind text ≡ true → text ≡ 10 ∷ []
+pub line_text : (kind : Kind) (text : List ℕ) → is_line kind ≡ true → is_text kind text ≡ true → text ≡ 10 ∷ []
 line_text kind text line is = same_bytes text (10 ∷ []) (subst (λ k. is_text k text ≡ true) (line_kind kind line) is)
 
 or_right : (x y : Bool) → y ≡ true → (x || y) ≡ true
 or_right true y h = refl
 or_right false y h = h
 
-any_right : (p : ℕ → Bool) (xs ys : List ℕ) → list_any p ys ≡ true → list_any p (xs ++ ys) ≡ true
+pub any_right : (p : ℕ → Bool) (xs ys : List ℕ) → list_any p ys ≡ true → list_any p (xs ++ ys) ≡ true
 any_right p xs ys h = list_any-append p xs ys ∙ or_right (list_any p xs) (list_any p ys) h
 
-any_left : (p : ℕ → Bool) (xs ys : List ℕ) → list_any p xs ≡ true → list_any p (xs ++ ys) ≡ true
+pub any_left : (p : ℕ → Bool) (xs ys : List ℕ) → list_any p xs ≡ true → list_any p (xs ++ ys) ≡ true
 any_left p xs ys h = list_any-append p xs ys ∙ rw h refl
 
 -- lines that are not empty hold a newline

@@ -15,8 +15,11 @@ pub mod OneFault
 pub mod Stops
 pub mod Joins
 pub mod FaultJoins
+pub mod FaultFronts
 pub mod Agree
 pub mod FreshChunks
+pub mod OpenStrings
+pub mod ChunkFaults
 pub mod CutMunch
 pub mod CutSeen
 pub mod CutStrings

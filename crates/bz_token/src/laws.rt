@@ -64,3 +64,11 @@ pub fn chunks_start_afresh()
     ensures fault { (first depth : ℕ) (cs ds : List (List ℕ)) (d bytes rest : List ℕ) (ts : List Placed) (f : LexFault) → chunks bytes ≡ cs ++ d ∷ ds → AreTokensOfChunks first depth cs ts → bytes ≡ concat cs ++ rest
         → (IsFault first depth bytes f ↔ IsFault (line_at first (concat cs)) depth rest f) }
 {}
+
+/// A fault is told where a chunk is read alone: where the chunks before have tokens, the first fault of a chunk, read as a
+/// text of its own with its first line, is the first fault of the file, and the file has no other.
+pub fn chunks_tell_their_faults()
+    ensures first { (first depth : ℕ) (cs ds : List (List ℕ)) (d bytes : List ℕ) (ts : List Placed) (f : LexFault) → chunks bytes ≡ cs ++ d ∷ ds → AreTokensOfChunks first depth cs ts → IsFault (line_at first (concat cs)) depth d f → IsFault first depth bytes f }
+    ensures only { (first depth : ℕ) (cs ds : List (List ℕ)) (d bytes : List ℕ) (ts : List Placed) (f g : LexFault) → chunks bytes ≡ cs ++ d ∷ ds → AreTokensOfChunks first depth cs ts → (f ≡ OutOfMemory → ⊥) → (g ≡ OutOfMemory → ⊥)
+        → IsFault (line_at first (concat cs)) depth d f → IsFault first depth bytes g → g ≡ f }
+{}

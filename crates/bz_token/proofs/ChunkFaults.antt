@@ -1,0 +1,256 @@
+-- The first fault of a chunk alone is that of the chunk and what follows it.
+use Rattle.std.proofs.Common.{◌≡◌, ℕ, ◌<◌, ◌==◌, ◌&&◌, ◌||◌, List, [], ◌∷◌, ◌++◌, length, Bool, true, false, not, refl, sym, ap, ap₂, subst, ◌∙◌, arith, inl, inr, append_assoc, append-nil}
+use Rattle.std.specs.Prelude.{Option, Some, None, is_some}
+use Rattle.std.specs.List.{concat}
+use Rattle.std.specs.Char.{is_ascii_digit}
+use Rattle.std.proofs.lemmas.Bool.{cases_Bool, false≢true}
+use Rattle.bz_token.specs.declared.fault.LexFault.{LexFault}
+use Rattle.bz_token.specs.declared.fault.LexFault.TheVariants as faults
+use Rattle.bz_token.specs.declared.scan_string.Opening.{Opening}
+use Rattle.bz_token.specs.declared.token.Kind.TheVariants.{Text}
+use Rattle.bz_token.specs.declared.cutter.scan.Scan.{Scan}
+use Rattle.bz_token.specs.declared.cutter.scan.LineKind.{LineKind}
+use Rattle.bz_token.specs.declared.cutter.scan.LineKind.TheVariants.{Blank}
+use Rattle.bz_token.specs.declared.cutter.scan.Inside.TheVariants.{Plain}
+use Rattle.bz_token.specs.CutSteps.{is_ended, outside, next, start, run}
+use Rattle.bz_token.specs.Chunks.{chunks}
+use Rattle.bz_token.specs.Cuts.{EndsBefore, ends_in_newline}
+use Rattle.bz_token.specs.Places.{Placed, line_at}
+use Rattle.bz_token.specs.Lexical.{is_blank, is_newline, begins, opening, is_string}
+use Rattle.bz_token.specs.Brackets.{is_inside, is_line, is_opening_bracket, is_closing_bracket, closes_innermost, fits, open_behind}
+use Rattle.bz_token.specs.Reading.{is_white, continues, begins_gap, Piece, IsReading, open_after, bytes_of}
+use Rattle.bz_token.specs.Faults.{IsOpenText, IsBadNumber, IsBadBackslash, IsBadCharacter, IsBadBracket, IsTooDeep, IsFaultAt, IsOpenBracket, IsFault}
+use Rattle.bz_token.specs.FreshStart.{ends_in_line, AreTokensOfChunks}
+use Rattle.bz_token.proofs.Classes.{can_start, digit_class}
+use Rattle.bz_token.proofs.CutMachine.{next_inside, run_append}
+use Rattle.bz_token.proofs.Ends.{string_opens}
+use Rattle.bz_token.proofs.Openings.{no_opening, none_some}
+use Rattle.bz_token.proofs.Progress.{reading_bytes, open_lengths}
+use Rattle.bz_token.proofs.Joins.{token_more, any_right, line_text}
+use Rattle.bz_token.proofs.OneFault.{one_fault}
+use Rattle.bz_token.proofs.FaultJoins.{fault_behind_lines}
+use Rattle.bz_token.proofs.Agree.{Ready, ready_plain, ready_first, gap_run, token_run, reading_run, stands}
+use Rattle.bz_token.proofs.FreshChunks.{chunk_ends_line, first_cut, lines_of_chunks}
+use Rattle.bz_token.proofs.FaultFronts.{has_newline, begins_more, continues_more, opening_same_more, none_more}
+use Rattle.bz_token.proofs.OpenStrings.{string_within}
+
+-- a logical line ends with a newline
+ended_newline : (b : ℕ) (bs : List ℕ) (s : Scan) → is_ended (run s (b ∷ bs)).inside ≡ true → ends_in_newline (b ∷ bs) ≡ true
+ended_newline b [] s ended = elim (cases_Bool (b == 10)) [
+  | inl hit ↦ hit
+  | inr miss ↦ absurd (false≢true (sym (next_inside s.inside s.depth s.kind b miss) ∙ ended))
+]
+ended_newline b (c ∷ cs) s ended = ended_newline c cs (next s b) ended
+
+newline_there : (xs : List ℕ) → ends_in_newline xs ≡ true → has_newline xs ≡ true
+newline_there [] h = absurd (false≢true h)
+newline_there (b ∷ []) h = rw h refl
+newline_there (b ∷ c ∷ cs) h = either (b == 10) (has_newline (c ∷ cs)) (newline_there (c ∷ cs) h)
+  where
+    either : (x y : Bool) → y ≡ true → (x || y) ≡ true
+    either true y h = refl
+    either false y h = h
+
+-- the end of a text that a newline ends holds the newline
+last_newline : (xs : List ℕ) (y : ℕ) (ys : List ℕ) → ends_in_newline (xs ++ y ∷ ys) ≡ true → has_newline (y ∷ ys) ≡ true
+last_newline [] y ys h = newline_there (y ∷ ys) h
+last_newline (x ∷ []) y ys h = newline_there (y ∷ ys) h
+last_newline (x ∷ z ∷ xs) y ys h = last_newline (z ∷ xs) y ys h
+
+-- what was read stays read where more follows a newline
+reading_more : (depth : ℕ) (opened : List ℕ) (ps : List Piece) (rest bytes r : List ℕ) → IsReading depth opened ps rest bytes → has_newline rest ≡ true → IsReading depth opened ps (rest ++ r) (bytes ++ r)
+reading_more depth opened [] rest bytes r reading h = ap (λ x. x ++ r) reading
+reading_more depth opened (p ∷ ps) rest bytes r reading h =
+    let after = reading.0 in
+    let piece = reading.1 in
+    let held : has_newline after ≡ true = ap has_newline (reading_bytes depth (open_behind opened p.text) ps rest after reading.2) ∙ any_right is_newline (bytes_of ps) rest h in (
+      after ++ r,
+      record {
+        bytes_are = ap (λ x. x ++ r) piece.bytes_are ∙ simp append_assoc;
+        gap = piece.gap;
+        token = token_more p.kind p.text after r piece.token held;
+        fits = piece.fits;
+      },
+      reading_more depth (open_behind opened p.text) ps rest after r reading.2 h,
+    )
+
+-- a fault at a place before a newline stays the first, whatever follows
+fault_more : (first depth : ℕ) (c r : List ℕ) (IsBad : List ℕ → List ℕ → Type 0) (line col : ℕ) (f : IsFaultAt first depth c IsBad line col) → has_newline f.place ≡ true → IsBad (open_after [] f.pieces) (f.place ++ r) → IsFaultAt first depth (c ++ r) IsBad line col
+fault_more first depth c r IsBad line col f h bad = record {
+  pieces = f.pieces;
+  gap = f.gap;
+  place = f.place ++ r;
+  reading = subst (λ x. IsReading depth [] f.pieces x (c ++ r)) (append_assoc f.gap f.place r) (reading_more depth [] f.pieces (f.gap ++ f.place) c r f.reading (any_right is_newline f.gap f.place h));
+  is_gap = f.is_gap;
+  behind_gap = ap₂ (λ x y. x || y) (begins_more (is_white (is_inside (open_after [] f.pieces))) f.place r h) (continues_more f.place r h) ∙ f.behind_gap;
+  bad = bad;
+  line_is = f.line_is;
+  col_is = f.col_is;
+}
+
+begun : (p : ℕ → Bool) (place : List ℕ) → begins p place ≡ true → 0 < length place
+begun p [] h = absurd (false≢true h)
+begun p (b ∷ bs) h = omega arith
+
+-- the newline behind a fault's place
+place_newline : (first depth : ℕ) (c : List ℕ) (IsBad : List ℕ → List ℕ → Type 0) (line col : ℕ) (f : IsFaultAt first depth c IsBad line col) → ends_in_newline c ≡ true → 0 < length f.place → has_newline f.place ≡ true
+place_newline first depth c IsBad line col f ends some = there f.place some (ap ends_in_newline (sym (reading_bytes depth [] f.pieces (f.gap ++ f.place) c f.reading ∙ sym (append_assoc (bytes_of f.pieces) f.gap f.place))) ∙ ends)
+  where
+    there : (place : List ℕ) → 0 < length place → ends_in_newline ((bytes_of f.pieces ++ f.gap) ++ place) ≡ true → has_newline place ≡ true
+    there [] some h = absurd (omega arith)
+    there (b ∷ bs) some h = last_newline (bytes_of f.pieces ++ f.gap) b bs h
+
+none_of : (o : Option Opening) → is_some o ≡ false → o ≡ None
+none_of None h = refl
+none_of (Some o) h = absurd (false≢true (sym h))
+
+some_of : (o : Option Opening) → is_some o ≡ true → (x : Opening) × (o ≡ Some x)
+some_of None h = absurd (false≢true h)
+some_of (Some o) h = (o, refl)
+
+-- where no string opens, none closes later
+no_longer : (place : List ℕ) → has_newline place ≡ true → opening place ≡ None → (more : List ℕ) → 0 < length more → is_string (place ++ more) ≡ true → ⊥
+no_longer place h unquoted more some string =
+    let found = string_opens (place ++ more) string in
+    none_some found.0 (sym unquoted ∙ sym (opening_same_more place more h) ∙ found.1)
+
+number_more : (place r : List ℕ) → has_newline place ≡ true → IsBadNumber place → IsBadNumber (place ++ r)
+number_more place r h bad = record {
+  digit = begins_more is_ascii_digit place r h ∙ bad.digit;
+  none = none_more place r h bad.none (no_longer place h (unquoted place bad.digit));
+}
+  where
+    unquoted : (place : List ℕ) → begins is_ascii_digit place ≡ true → opening place ≡ None
+    unquoted [] d = absurd (false≢true d)
+    unquoted (b ∷ bs) d = no_opening b bs (ap (can_start Text) (digit_class b d))
+
+character_more : (place r : List ℕ) → has_newline place ≡ true → IsBadCharacter place → IsBadCharacter (place ++ r)
+character_more place r h bad = record {
+  some = longer place bad.some;
+  unquoted = ap is_some (opening_same_more place r h) ∙ bad.unquoted;
+  no_digit = begins_more is_ascii_digit place r h ∙ bad.no_digit;
+  no_backslash = begins_more (λ b. b == 92) place r h ∙ bad.no_backslash;
+  none = none_more place r h bad.none (no_longer place h (none_of (opening place) bad.unquoted));
+}
+  where
+    longer : (place : List ℕ) → 0 < length place → 0 < length (place ++ r)
+    longer [] h = absurd (omega arith)
+    longer (b ∷ bs) h = omega arith
+
+some_open : (opened : List ℕ) → is_inside opened ≡ true → 0 < length opened
+some_open [] h = absurd (false≢true h)
+some_open (a ∷ opened) h = omega arith
+
+-- the cutter behind what was read
+ready_behind : (depth : ℕ) (opened : List ℕ) (ps : List Piece) (rest bytes : List ℕ) (s : Scan) → IsReading depth opened ps rest bytes → Ready s (length opened) bytes → Ready (run s (bytes_of ps)) (length (open_after opened ps)) rest
+ready_behind depth opened [] rest bytes s r ready = subst (λ x. Ready s (length opened) x) r ready
+ready_behind depth opened (p ∷ ps) rest bytes s r ready =
+    let after = r.0 in
+    let piece = r.1 in
+    let g = gap_run (is_inside opened) p.gap (p.text ++ after) s (length opened) (some_open opened) piece.gap (subst (λ x. Ready s (length opened) x) piece.bytes_are ready) in
+    let t = token_run depth (run s p.gap) opened p.kind p.text after piece.token piece.fits g.ready in
+    let all : run s (p.gap ++ (p.text ++ bytes_of ps)) ≡ run (run (run s p.gap) p.text) (bytes_of ps) = run_append p.gap (p.text ++ bytes_of ps) s ∙ run_append p.text (bytes_of ps) (run s p.gap) in
+    subst (λ x. Ready x (length (open_after (open_behind opened p.text) ps)) rest) (sym all) (ready_behind depth (open_behind opened p.text) ps rest after (run (run s p.gap) p.text) r.2 t.ready)
+
+or_none : (x y : Bool) → (x || y) ≡ false → (x ≡ false) × (y ≡ false)
+or_none true y h = absurd (false≢true (sym h))
+or_none false y h = (refl, h)
+
+-- a string that no quotes close in a chunk is not closed by what follows
+text_more : (first depth : ℕ) (c r : List ℕ) (line col : ℕ) (f : IsFaultAt first depth c (λ opened. IsOpenText) line col) → is_ended (run start c).inside ≡ true → has_newline f.place ≡ true → IsOpenText (f.place ++ r)
+text_more first depth c r line col f ended h =
+    let opened = open_after [] f.pieces in
+    let place = f.place in
+    let before = run (run start (bytes_of f.pieces)) f.gap in
+    let g = gap_run (is_inside opened) f.gap place (run start (bytes_of f.pieces)) (length opened) (some_open opened) f.is_gap
+    (ready_behind depth [] f.pieces (f.gap ++ place) c start f.reading (ready_plain start 0 c (stands Plain 0 Blank))) in
+    let whole : run start c ≡ run before place = ap (run start) (reading_bytes depth [] f.pieces (f.gap ++ place) c f.reading) ∙ run_append (bytes_of f.pieces) (f.gap ++ place) start ∙ run_append f.gap place (run start (bytes_of f.pieces)) in
+    let o = some_of (opening place) f.bad.quoted in
+    record {
+      quoted = ap is_some (opening_same_more place r h) ∙ f.bad.quoted;
+      none = none_more place r h f.bad.none (later o.0 o.1 before (length opened) (at_first place before (length opened) (is_inside opened) g.ready f.behind_gap) (ap (λ t. is_ended t.inside) (sym whole) ∙ ended));
+    }
+  where
+    at_first : (place : List ℕ) (s : Scan) (d : ℕ) (inside : Bool) → Ready s d place → begins_gap inside place ≡ false → (b : ℕ) (bs : List ℕ) → place ≡ b ∷ bs → (k : LineKind) × (next s b ≡ outside d k b)
+    at_first place s d inside ready none b bs e =
+        let white = (or_none (is_white inside b) (continues (b ∷ bs)) (subst (λ x. begins_gap inside x ≡ false) e none)).0 in
+        let visible = (or_none (is_blank b) (inside && b == 10) white).0 in
+        ready_first s d b bs (subst (λ x. Ready s d x) e ready) visible
+
+    later : (o : Opening) → opening f.place ≡ Some o → (s : Scan) (d : ℕ) → ((b : ℕ) (bs : List ℕ) → f.place ≡ b ∷ bs → (k : LineKind) × (next s b ≡ outside d k b)) → is_ended (run s f.place).inside ≡ true → (more : List ℕ) → 0 < length more → is_string (f.place ++ more) ≡ true → ⊥
+    later o opens s d step ended [] some string = omega arith
+    later o opens s d step ended (m ∷ more) some string = string_within f.place o m more s d opens (opening_same_more f.place (m ∷ more) h ∙ opens) string step ended
+
+-- behind lines no bracket is open
+lines_close : (depth : ℕ) (opened : List ℕ) (p : Piece) (ps : List Piece) (rest bytes : List ℕ) → IsReading depth opened (p ∷ ps) rest bytes → ends_in_line (p ∷ ps) ≡ true → open_after opened (p ∷ ps) ≡ []
+lines_close depth opened p [] rest bytes r line = ap (open_behind opened) text ∙ closed opened (subst (λ t. fits depth opened p.kind t ≡ true) text r.1.fits)
+  where
+    text : p.text ≡ 10 ∷ []
+    text = line_text p.kind p.text line r.1.token.whole
+
+    closed : (opened : List ℕ) → fits depth opened p.kind (10 ∷ []) ≡ true → open_behind opened (10 ∷ []) ≡ []
+    closed [] fit = refl
+    closed (a ∷ opened) fit = absurd (false≢true (sym (none line) ∙ fit))
+      where
+        none : is_line p.kind ≡ true → fits depth (a ∷ opened) p.kind (10 ∷ []) ≡ false
+        none line = rw line refl
+lines_close depth opened p (q ∷ ps) rest bytes r line = lines_close depth (open_behind opened p.text) q ps rest r.0 r.2 line
+
+-- at the end of a logical line no bracket is left open behind tokens
+none_unclosed : (first depth : ℕ) (c : List ℕ) (line col : ℕ) → IsOpenBracket first depth c line col → is_ended (run start c).inside ≡ true → ⊥
+none_unclosed first depth c line col f ended =
+    let end = reading_run depth [] f.pieces f.rest c start f.reading f.is_gap (ready_plain start 0 c (stands Plain 0 Blank)) ended in
+    omega (arith, open_lengths first [] [] [] [] f.pieces refl, ap length f.opened, ap length (closed f.pieces f.reading end.1))
+  where
+    closed : (ps : List Piece) → IsReading depth [] ps f.rest c → ends_in_line ps ≡ true → open_after [] ps ≡ []
+    closed [] r line = refl
+    closed (p ∷ ps) r line = lines_close depth [] p ps f.rest c r line
+
+-- the first fault of logical lines is that of a text that begins with them
+fault_at_front : (first depth : ℕ) (c r : List ℕ) (f : LexFault) → is_ended (run start c).inside ≡ true → ends_in_newline c ≡ true → IsFault first depth c f → IsFault first depth (c ++ r) f
+fault_at_front first depth c r faults.OutOfMemory ended ends is = is
+fault_at_front first depth c r (faults.BadCharacter line col) ended ends is =
+    let h = place_newline first depth c (λ opened. IsBadCharacter) line col is ends is.bad.some in
+    fault_more first depth c r (λ opened. IsBadCharacter) line col is h (character_more is.place r h is.bad)
+fault_at_front first depth c r (faults.BadNumber line col) ended ends is =
+    let h = place_newline first depth c (λ opened. IsBadNumber) line col is ends (begun is_ascii_digit is.place is.bad.digit) in
+    fault_more first depth c r (λ opened. IsBadNumber) line col is h (number_more is.place r h is.bad)
+fault_at_front first depth c r (faults.OpenText line col) ended ends is =
+    let h = place_newline first depth c (λ opened. IsOpenText) line col is ends (quoted is.place is.bad.quoted) in
+    fault_more first depth c r (λ opened. IsOpenText) line col is h (text_more first depth c r line col is ended h)
+  where
+    quoted : (place : List ℕ) → is_some (opening place) ≡ true → 0 < length place
+    quoted [] h = absurd (false≢true h)
+    quoted (b ∷ bs) h = omega arith
+fault_at_front first depth c r (faults.BadBracket line col) ended ends is =
+    let test : ℕ → Bool = λ b. is_closing_bracket b && not (closes_innermost (open_after [] is.pieces) b) in
+    let h = place_newline first depth c IsBadBracket line col is ends (begun test is.place is.bad) in
+    fault_more first depth c r IsBadBracket line col is h (begins_more test is.place r h ∙ is.bad)
+fault_at_front first depth c r (faults.OpenBracket line col) ended ends is = absurd (none_unclosed first depth c line col is ended)
+fault_at_front first depth c r (faults.TooDeep line col) ended ends is =
+    let h = place_newline first depth c (IsTooDeep depth) line col is ends (begun is_opening_bracket is.place is.bad.bracket) in
+    fault_more first depth c r (IsTooDeep depth) line col is h (record { bracket = begins_more is_opening_bracket is.place r h ∙ is.bad.bracket; deep = is.bad.deep })
+fault_at_front first depth c r (faults.BadBackslash line col) ended ends is =
+    let h = place_newline first depth c (λ opened. IsBadBackslash) line col is ends (begun (λ b. b == 92) is.place is.bad) in
+    fault_more first depth c r (λ opened. IsBadBackslash) line col is h (begins_more (λ b. b == 92) is.place r h ∙ is.bad)
+
+-- the first fault of a chunk is that of the chunk and what follows it
+pub chunk_fault : (first depth : ℕ) (c rest : List ℕ) (f : LexFault) → EndsBefore c rest → 0 < length c → IsFault first depth c f → IsFault first depth (c ++ rest) f
+chunk_fault first depth c [] f cut some is = subst (λ x. IsFault first depth x f) (sym (append-nil c)) is
+chunk_fault first depth [] (b ∷ rest) f cut some is = absurd (omega arith)
+chunk_fault first depth (x ∷ xs) (b ∷ rest) f cut some is =
+    let ended = chunk_ends_line (x ∷ xs) b rest cut some in
+    fault_at_front first depth (x ∷ xs) (b ∷ rest) f ended (ended_newline x xs start ended) is
+
+-- behind chunks with tokens the first fault of a chunk is the first of the file
+pub first_fault : (first depth : ℕ) (cs ds : List (List ℕ)) (d bytes : List ℕ) (ts : List Placed) (f : LexFault) → chunks bytes ≡ cs ++ d ∷ ds → AreTokensOfChunks first depth cs ts → IsFault (line_at first (concat cs)) depth d f → IsFault first depth bytes f
+first_fault first depth cs ds d bytes ts f e t is =
+    let l = lines_of_chunks first depth cs ds d bytes ts e t in
+    let cut = first_cut l.0 d ds l.2 in
+    let here : IsFault (line_at first (concat cs)) depth l.0 f = subst (λ x. IsFault (line_at first (concat cs)) depth x f) (sym cut.bytes_are) (chunk_fault (line_at first (concat cs)) depth d cut.rest f cut.first_is cut.some is) in
+    subst (λ x. IsFault first depth x f) (sym l.1) (fault_behind_lines first depth (concat cs) l.0 ts f l.3 here)
+
+-- and the only one
+pub only_fault : (first depth : ℕ) (cs ds : List (List ℕ)) (d bytes : List ℕ) (ts : List Placed) (f g : LexFault) → chunks bytes ≡ cs ++ d ∷ ds → AreTokensOfChunks first depth cs ts → (f ≡ faults.OutOfMemory → ⊥) → (g ≡ faults.OutOfMemory → ⊥) → IsFault (line_at first (concat cs)) depth d f
+    → IsFault first depth bytes g → g ≡ f
+only_fault first depth cs ds d bytes ts f g e t some some2 is other = one_fault first depth bytes g f some2 some other (first_fault first depth cs ds d bytes ts f e t is)
