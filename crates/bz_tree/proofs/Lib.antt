@@ -1,4 +1,5 @@
 pub mod Views
+pub mod Borrowed
 pub mod OneBracket
 pub mod Complete
 pub mod Sound

@@ -1,10 +1,12 @@
 pub mod Tree
 pub mod View
+pub mod Borrowed
 pub mod Kinds
 pub mod Owners
 pub mod Brackets
 pub mod Statement
 pub mod Steps
+pub mod BorrowedSteps
 pub mod Grammar
 pub mod Blocks
 pub mod Chunk

@@ -7,6 +7,7 @@ ghost use Rattle.bz_tree.specs.Kinds.{mark_of};
 ghost use Rattle.bz_tree.specs.Blocks.{is_block_word, is_colon, popped, pushed, indented, block_indent, depth_behind, has_colon, header_line, logical_lines, is_open_end, is_block, above};
 ghost use Rattle.bz_tree.specs.Statement.{last_token};
 ghost use Rattle.bz_tree.specs.BlockSteps.{lines_view, begun, next_counted, next_indent, indent_run, first_lines, ends_header, begins_header, colon_run};
+ghost use Rattle.bz_tree.specs.Borrowed.{owned_in};
 
 use crate::kinds::{Mark, mark_of};
 use crate::span::last_token;
@@ -200,7 +201,8 @@ pub(crate) fn comments_above<'a>(
     alloc: Global,
     tokens: &[Token<'a>],
 ) -> Result<Vec<CowStr<'a>>, AllocError>
-    ensures { IfOk result (λ v. texts v.items ≡ above (map placed tokens.now)) }
+    ensures value { IfOk result (λ v. texts v.items ≡ above (map placed tokens.now)) }
+    ensures borrowed { IfOk result (λ v. owned_in v.items ≡ 0) }
 {
     let mut comments = Vec::new(alloc);
     for token in tokens {

@@ -1,12 +1,14 @@
 //! The walk over the tokens of a statement, with a stack of open brackets.
 
-ghost use Rattle.std.specs.Prelude.{◌≡◌, ◌+◌, ◌==◌, true, false, map, IfOk, Some, None, [], option_map};
+ghost use Rattle.std.specs.Prelude.{◌≡◌, ◌+◌, ◌==◌, true, false, map, IfOk, Some, None, [], option_map, ◌≤◌, IfSome};
 ghost use Rattle.bz_token.specs.Places.{placed};
 ghost use Rattle.bz_tree.specs.View.{text_of, node_view, group_view, seg_view};
 ghost use Rattle.bz_tree.specs.Owners.{node};
 ghost use Rattle.bz_tree.specs.Brackets.{behind, is_for, has_for};
 ghost use Rattle.bz_tree.specs.Statement.{one_segment, segment_with};
 ghost use Rattle.bz_tree.specs.Steps.{own_view, owns_view, leaf_view, content_view, content, level, with_own, new_level, closed, next, run, state};
+ghost use Rattle.bz_tree.specs.Borrowed.{owned, group_owned, seg_owned};
+ghost use Rattle.bz_tree.specs.BorrowedSteps.{own_owned, owns_owned, content_owned, frame_owned, state_owned};
 
 use crate::class::with_rule_call;
 use crate::kinds::{
@@ -34,7 +36,8 @@ pub(crate) struct State<'a> {
 }
 
 fn new_frame<'a>(alloc: Global, shape: Option<Shape>) -> Frame<'a>
-    ensures { level result ≡ new_level shape }
+    ensures value { level result ≡ new_level shape }
+    ensures borrowed { frame_owned result ≡ 0 }
 {
     Frame {
         shape,
@@ -75,7 +78,8 @@ fn has_for(owns: &[Own<'_>]) -> bool
 }
 
 fn with_own<'a>(frame: Frame<'a>, own: Own<'a>) -> Result<Frame<'a>, AllocError>
-    ensures { IfOk result (λ f. level f ≡ with_own (level frame.entry) (own_view own.entry)) }
+    ensures value { IfOk result (λ f. level f ≡ with_own (level frame.entry) (own_view own.entry)) }
+    ensures borrowed { IfOk result (λ f. frame_owned f ≤ frame_owned frame.entry + own_owned own.entry) }
 {
     let Frame {
         shape,
@@ -93,7 +97,8 @@ fn closed<'a>(
     at: Behind,
     owns: Vec<Own<'a>>,
 ) -> Result<Option<Group<'a>>, AllocError>
-    ensures { IfOk result (λ o. option_map group_view o ≡ closed shape at (owns_view owns.entry.items)) }
+    ensures value { IfOk result (λ o. option_map group_view o ≡ closed shape at (owns_view owns.entry.items)) }
+    ensures borrowed { IfOk result (λ o. IfSome o (λ g. group_owned g ≤ owns_owned owns.entry.items)) }
 {
     let kind = group_kind(shape, at, has_for(&owns));
     let Some(content) = inside_of(alloc, is_one(kind), owns)? else {
@@ -109,13 +114,15 @@ fn closed<'a>(
 }
 
 fn with_group<'a>(frame: Frame<'a>, group: Group<'a>, line: u64) -> Result<Frame<'a>, AllocError>
-    ensures { IfOk result (λ f. level f ≡ with_own (level frame.entry) (node line (group_view group.entry))) }
+    ensures value { IfOk result (λ f. level f ≡ with_own (level frame.entry) (node line (group_view group.entry))) }
+    ensures borrowed { IfOk result (λ f. frame_owned f ≤ frame_owned frame.entry + group_owned group.entry) }
 {
     with_own(frame, Own::Node(Node::Group(group), line, 0))
 }
 
 fn leaf_of<'a>(token: &Token<'a>) -> Leaf<'a>
-    ensures { leaf_view result ≡ placed token.now }
+    ensures value { leaf_view result ≡ placed token.now }
+    ensures borrowed { owned result.text ≡ 0 }
 {
     Leaf {
         kind: token.kind,
@@ -131,7 +138,8 @@ fn step<'a>(
     before: State<'a>,
     token: &Token<'a>,
 ) -> Result<Option<State<'a>>, AllocError>
-    ensures { IfOk result (λ o. option_map state o ≡ next (placed token.now) (state before.entry)) }
+    ensures value { IfOk result (λ o. option_map state o ≡ next (placed token.now) (state before.entry)) }
+    ensures borrowed { IfOk result (λ o. IfSome o (λ s. state_owned s ≤ state_owned before.entry)) }
 {
     let State { mut outer, top } = before;
     match mark_of(token) {
@@ -176,7 +184,8 @@ fn step<'a>(
 
 // At depth 0 a statement is one segment, and all comments but its suffix stand before it.
 fn one_segment<'a>(alloc: Global, content: Content<'a>) -> Result<Seg<'a>, AllocError>
-    ensures { IfOk result (λ s. seg_view s ≡ one_segment (content_view content.entry).segs (content_view content.entry).end) }
+    ensures value { IfOk result (λ s. seg_view s ≡ one_segment (content_view content.entry).segs (content_view content.entry).end) }
+    ensures borrowed { IfOk result (λ s. seg_owned s ≤ content_owned content.entry) }
 {
     let Content {
         segs,
@@ -204,7 +213,8 @@ fn one_segment<'a>(alloc: Global, content: Content<'a>) -> Result<Seg<'a>, Alloc
 }
 
 fn statement<'a>(alloc: Global, owns: Vec<Own<'a>>) -> Result<Option<Seg<'a>>, AllocError>
-    ensures { IfOk result (λ o. option_map seg_view o ≡ option_map segment_with (content true (owns_view owns.entry.items))) }
+    ensures value { IfOk result (λ o. option_map seg_view o ≡ option_map segment_with (content true (owns_view owns.entry.items))) }
+    ensures borrowed { IfOk result (λ o. IfSome o (λ s. seg_owned s ≤ owns_owned owns.entry.items)) }
 {
     let Some(content) = inside_of(alloc, true, owns)? else {
         return Ok(None);
@@ -215,7 +225,8 @@ fn statement<'a>(alloc: Global, owns: Vec<Own<'a>>) -> Result<Option<Seg<'a>>, A
 
 // The steps over all tokens.
 pub(crate) fn run<'a>(alloc: Global, tokens: &[Token<'a>]) -> Result<Option<Seg<'a>>, AllocError>
-    ensures { IfOk result (λ o. option_map seg_view o ≡ run (new_level None) [] (map placed tokens.now)) }
+    ensures value { IfOk result (λ o. option_map seg_view o ≡ run (new_level None) [] (map placed tokens.now)) }
+    ensures borrowed { IfOk result (λ o. IfSome o (λ s. seg_owned s ≡ 0)) }
 {
     let mut state = State {
         outer: Vec::new(alloc),

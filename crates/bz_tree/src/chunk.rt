@@ -8,6 +8,7 @@ ghost use Rattle.bz_tree.specs.Statement.{EndsFit, statement_with, first_token, 
 ghost use Rattle.bz_tree.specs.Blocks.{IsBlockOf, kept_statement};
 ghost use Rattle.bz_tree.specs.Chunk.{IsPlain, begins_block, indent_fault, IsChunkOf, IsReadAs, IsTokenFault, IsStatementIn, IsBlank, IsFaultIn};
 ghost use Rattle.bz_tree.specs.BlockSteps.{AreStanding};
+ghost use Rattle.bz_tree.specs.Borrowed.{owned_in, owned_texts, seg_owned};
 
 use crate::block::{block_indent, comments_above, is_block, is_block_word};
 use crate::build::run;
@@ -24,7 +25,8 @@ use std::borrow::CowStr;
 // The statement of these nodes and comments.
 fn with_class<'a>(seg: Seg<'a>, tokens: &[Token<'a>]) -> Stmt<'a>
     requires { EndsFit (map placed tokens.now) }
-    ensures { view result ≡ statement_with (map placed tokens.now) (seg_view seg.entry) }
+    ensures value { view result ≡ statement_with (map placed tokens.now) (seg_view seg.entry) }
+    ensures borrowed { owned_texts result ≡ seg_owned seg.entry }
 {
     let class = class_of(&seg.nodes);
     let Seg {
@@ -47,6 +49,7 @@ fn plain_statement<'a>(alloc: Global, tokens: &[Token<'a>]) -> Result<Option<Stm
     requires { EndsFit (map placed tokens.now) }
     ensures statement { IfOk result (λ o. IfSome o (λ s. IsPlain (map placed tokens.now) (view s))) }
     ensures none { IfOk result (λ o. IfNone o ((t : Statement) → IsPlain (map placed tokens.now) t → ⊥)) }
+    ensures borrowed { IfOk result (λ o. IfSome o (λ s. owned_texts s ≡ 0)) }
 {
     let Some(seg) = run(alloc, tokens)? else {
         return Ok(None);
@@ -65,7 +68,8 @@ fn kept_statement<'a>(
     header: &Token<'a>,
     end: u64,
 ) -> Result<Stmt<'a>, AllocError>
-    ensures { IfOk result (λ s. view s ≡ kept_statement (texts before.entry.items) kept.now (placed header.now) end) }
+    ensures value { IfOk result (λ s. view s ≡ kept_statement (texts before.entry.items) kept.now (placed header.now) end) }
+    ensures borrowed { IfOk result (λ s. owned_texts s ≡ owned_in before.entry.items) }
 {
     let mut nodes = Vec::new(alloc);
     nodes.push(Node::Token(Leaf {
@@ -98,6 +102,7 @@ fn block_statement<'a>(
     requires block { begins_block (first_token (map placed tokens.now)) ≡ true }
     ensures statement { IfOk result (λ o. IfSome o (λ s. IsBlockOf first_line text.now (map placed tokens.now) (view s))) }
     ensures none { IfOk result (λ o. IfNone o ((t : Statement) → IsBlockOf first_line text.now (map placed tokens.now) t → ⊥)) }
+    ensures borrowed { IfOk result (λ o. IfSome o (λ s. owned_texts s ≡ 0)) }
 {
     if !is_block(tokens) {
         return Ok(None);
@@ -134,6 +139,7 @@ fn chunk_statement<'a>(
     requires standing { AreStanding first_line text.now (map placed tokens.now) }
     ensures statement { IfOk result (λ o. IfSome o (λ s. IsChunkOf first_line text.now (map placed tokens.now) (view s))) }
     ensures none { IfOk result (λ o. IfNone o ((t : Statement) → IsChunkOf first_line text.now (map placed tokens.now) t → ⊥)) }
+    ensures borrowed { IfOk result (λ o. IfSome o (λ s. owned_texts s ≡ 0)) }
 {
     if begins_block(tokens) {
         block_statement(alloc, text, first_line, tokens)
@@ -167,6 +173,7 @@ fn read_tokens<'a>(
     ensures statement { IfOk result (λ o. IfSome o (λ s. IsReadAs first_line text.now (map placed tokens.now) (view s))) }
     ensures blank { IfOk result (λ o. IfNone o (IsNone (first_seen (map placed tokens.now)))) }
     ensures fault { IfErr result (IsTokenFault first_line text.now (map placed tokens.now)) }
+    ensures borrowed { IfOk result (λ o. IfSome o (λ s. owned_texts s ≡ 0)) }
 {
     if first_seen(tokens).is_none() {
         return Ok(None);
@@ -192,6 +199,7 @@ pub fn parse<'a>(
 ) -> Result<Option<Stmt<'a>>, ParseFault>
     requires { first_line + count_by (λ b. b == 10) text.now < 2 ^ 64 }
     ensures statement { IfOk result (λ o. IfSome o (λ s. IsStatementIn first_line max_depth text.now (view s))) }
+    ensures borrowed { IfOk result (λ o. IfSome o (λ s. owned_texts s ≡ 0)) }
     ensures blank { IfOk result (λ o. IfNone o (IsBlank first_line max_depth text.now)) }
     ensures fault { IfErr result (IsFaultIn first_line max_depth text.now) }
 {

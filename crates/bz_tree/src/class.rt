@@ -1,9 +1,11 @@
 //! What a statement is to the layout and to the commands.
 
-ghost use Rattle.std.specs.Prelude.{◌≡◌, map, IfOk};
+ghost use Rattle.std.specs.Prelude.{◌≡◌, map, IfOk, ◌≤◌, ◌+◌};
 ghost use Rattle.bz_tree.specs.View.{text_of, node_view, nodes_view, seg_view};
 ghost use Rattle.bz_tree.specs.Statement.{is_rule, is_dot, is_call, as_rule_call, rule_call, with_rule_call, is_assign_sign, is_assign, has_assign, is_kept, is_load_word, class_of};
 ghost use Rattle.bz_tree.specs.Steps.{rule_from};
+ghost use Rattle.bz_tree.specs.Borrowed.{node_owned, seg_owned};
+ghost use Rattle.bz_tree.specs.BorrowedSteps.{nodes_owned};
 
 use crate::stmt::{Class, Group, GroupKind, Leaf, Node, Seg};
 use bz_token::Kind;
@@ -45,7 +47,8 @@ fn is_call(kind: GroupKind) -> bool
 }
 
 fn as_rule_call(node: Node<'_>) -> Node<'_>
-    ensures { node_view result ≡ as_rule_call (node_view node.entry) }
+    ensures value { node_view result ≡ as_rule_call (node_view node.entry) }
+    ensures borrowed { node_owned result ≤ node_owned node.entry }
 {
     match node {
         Node::Token(leaf) => Node::Token(leaf),
@@ -59,7 +62,8 @@ fn as_rule_call(node: Node<'_>) -> Node<'_>
 }
 
 fn rule_call(nodes: Vec<Node<'_>>) -> Result<Vec<Node<'_>>, AllocError>
-    ensures { IfOk result (λ v. nodes_view v.items ≡ rule_call (nodes_view nodes.entry.items)) }
+    ensures value { IfOk result (λ v. nodes_view v.items ≡ rule_call (nodes_view nodes.entry.items)) }
+    ensures borrowed { IfOk result (λ v. nodes_owned v.items ≤ nodes_owned nodes.entry.items) }
 {
     let mut nodes = nodes;
     if let Some(node) = nodes.pop() {
@@ -70,7 +74,8 @@ fn rule_call(nodes: Vec<Node<'_>>) -> Result<Vec<Node<'_>>, AllocError>
 
 /// The segment, its call marked where it is a rule.
 pub(crate) fn with_rule_call(seg: Seg<'_>) -> Result<Seg<'_>, AllocError>
-    ensures { IfOk result (λ s. seg_view s ≡ with_rule_call (seg_view seg.entry)) }
+    ensures value { IfOk result (λ s. seg_view s ≡ with_rule_call (seg_view seg.entry)) }
+    ensures borrowed { IfOk result (λ s. seg_owned s ≤ seg_owned seg.entry) }
 {
     if !is_rule(&seg.nodes) {
         return Ok(seg);

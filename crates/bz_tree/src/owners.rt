@@ -1,9 +1,11 @@
 //! The segments of one bracket, and the owners of the comments that stand in it.
 
-ghost use Rattle.std.specs.Prelude.{◌≡◌, ◌+◌, ◌==◌, true, false, map, IfOk, Some, None, option_map};
+ghost use Rattle.std.specs.Prelude.{◌≡◌, ◌+◌, ◌==◌, true, false, map, IfOk, Some, None, option_map, ◌≤◌, IfSome};
 ghost use Rattle.bz_tree.specs.View.{text_of, node_view, seg_view};
 ghost use Rattle.bz_tree.specs.Brackets.{own_item};
 ghost use Rattle.bz_tree.specs.Steps.{walked, own_view, owns_view, content_view, at_start, after_node, after_comma, after_note, after, done, content, add_beside, to_last};
+ghost use Rattle.bz_tree.specs.Borrowed.{owned, node_owned, seg_owned};
+ghost use Rattle.bz_tree.specs.BorrowedSteps.{segs_owned, own_owned, owns_owned, walk_owned, content_owned};
 
 use crate::stmt::{Leaf, Node, Seg};
 use std::alloc::{AllocError, Global};
@@ -46,7 +48,8 @@ pub(crate) struct Content<'a> {
 }
 
 fn new_walk<'a>(alloc: Global) -> Walk<'a>
-    ensures { walked result ≡ at_start }
+    ensures value { walked result ≡ at_start }
+    ensures borrowed { walk_owned result ≡ 0 }
 {
     Walk {
         segs: Vec::new(alloc),
@@ -65,7 +68,8 @@ fn after_node<'a>(
     line: u64,
     newlines: u64,
 ) -> Result<Walk<'a>, AllocError>
-    ensures { IfOk result (λ w. walked w ≡ after_node (line + newlines) (node_view node.entry) (walked walk.entry)) }
+    ensures value { IfOk result (λ w. walked w ≡ after_node (line + newlines) (node_view node.entry) (walked walk.entry)) }
+    ensures borrowed { IfOk result (λ w. walk_owned w ≤ walk_owned walk.entry + node_owned node.entry) }
 {
     let Walk {
         segs,
@@ -93,7 +97,8 @@ fn after_node<'a>(
 }
 
 fn after_comma<'a>(alloc: Global, walk: Walk<'a>, line: u64) -> Result<Option<Walk<'a>>, AllocError>
-    ensures { IfOk result (λ o. option_map walked o ≡ after_comma line (walked walk.entry)) }
+    ensures value { IfOk result (λ o. option_map walked o ≡ after_comma line (walked walk.entry)) }
+    ensures borrowed { IfOk result (λ o. IfSome o (λ w. walk_owned w ≤ walk_owned walk.entry)) }
 {
     let Walk {
         mut segs,
@@ -126,7 +131,8 @@ fn after_comma<'a>(alloc: Global, walk: Walk<'a>, line: u64) -> Result<Option<Wa
 
 // One more comment behind a segment's comma.
 fn add_beside<'a>(seg: Seg<'a>, text: CowStr<'a>) -> Result<Seg<'a>, AllocError>
-    ensures { IfOk result (λ s. seg_view s ≡ add_beside (text_of text.entry) (seg_view seg.entry)) }
+    ensures value { IfOk result (λ s. seg_view s ≡ add_beside (text_of text.entry) (seg_view seg.entry)) }
+    ensures borrowed { IfOk result (λ s. seg_owned s ≤ seg_owned seg.entry + owned text.entry) }
 {
     let Seg {
         mut before,
@@ -148,7 +154,8 @@ fn add_beside<'a>(seg: Seg<'a>, text: CowStr<'a>) -> Result<Seg<'a>, AllocError>
 }
 
 fn to_last<'a>(segs: Vec<Seg<'a>>, text: CowStr<'a>) -> Result<Vec<Seg<'a>>, AllocError>
-    ensures { IfOk result (λ v. map seg_view v.items ≡ to_last (text_of text.entry) (map seg_view segs.entry.items)) }
+    ensures value { IfOk result (λ v. map seg_view v.items ≡ to_last (text_of text.entry) (map seg_view segs.entry.items)) }
+    ensures borrowed { IfOk result (λ v. segs_owned v.items ≤ segs_owned segs.entry.items + owned text.entry) }
 {
     let mut segs = segs;
     if let Some(seg) = segs.pop() {
@@ -165,7 +172,8 @@ fn ends_on(line: u64, newlines: u64, at: u64) -> bool
 }
 
 fn after_note<'a>(walk: Walk<'a>, line: u64, text: CowStr<'a>) -> Result<Walk<'a>, AllocError>
-    ensures { IfOk result (λ w. walked w ≡ after_note line (text_of text.entry) (walked walk.entry)) }
+    ensures value { IfOk result (λ w. walked w ≡ after_note line (text_of text.entry) (walked walk.entry)) }
+    ensures borrowed { IfOk result (λ w. walk_owned w ≤ walk_owned walk.entry + owned text.entry) }
 {
     let Walk {
         segs,
@@ -201,7 +209,8 @@ fn after<'a>(
     own: Own<'a>,
     one: bool,
 ) -> Result<Option<Walk<'a>>, AllocError>
-    ensures { IfOk result (λ o. option_map walked o ≡ after (own_item one (own_view own.entry)) (walked walk.entry)) }
+    ensures value { IfOk result (λ o. option_map walked o ≡ after (own_item one (own_view own.entry)) (walked walk.entry)) }
+    ensures borrowed { IfOk result (λ o. IfSome o (λ w. walk_owned w ≤ walk_owned walk.entry + own_owned own.entry)) }
 {
     match own {
         Own::Node(node, line, newlines) => Ok(Some(after_node(walk, node, line, newlines)?)),
@@ -217,7 +226,8 @@ fn after<'a>(
 }
 
 fn done(walk: Walk<'_>) -> Result<Content<'_>, AllocError>
-    ensures { IfOk result (λ c. content_view c ≡ done (walked walk.entry)) }
+    ensures value { IfOk result (λ c. content_view c ≡ done (walked walk.entry)) }
+    ensures borrowed { IfOk result (λ c. content_owned c ≤ walk_owned walk.entry) }
 {
     let Walk {
         mut segs,
@@ -248,7 +258,8 @@ pub(crate) fn inside_of<'a>(
     one: bool,
     owns: Vec<Own<'a>>,
 ) -> Result<Option<Content<'a>>, AllocError>
-    ensures { IfOk result (λ o. option_map content_view o ≡ content one (owns_view owns.entry.items)) }
+    ensures value { IfOk result (λ o. option_map content_view o ≡ content one (owns_view owns.entry.items)) }
+    ensures borrowed { IfOk result (λ o. IfSome o (λ c. content_owned c ≤ owns_owned owns.entry.items)) }
 {
     let mut walk = new_walk(alloc);
     for own in owns {

@@ -1,7 +1,11 @@
 use Rattle.std.proofs.Common.{◌≡◌, [], drop, map, None}
 use Rattle.bz_token.specs.Places.{placed}
 use Rattle.bz_tree.specs.Steps.{run, state, new_level}
+use Rattle.bz_tree.specs.BorrowedSteps.{state_owned}
 use Rattle.bz_tree.proofs.build.run.Given as goal
 
 abbrev pub invariant-loop-token : goal.invariant-loop-token
-invariant-loop-token l = run (state l.state).0 (state l.state).1 (map placed (drop l.token-index l.tokens)) ≡ run (new_level None) [] (map placed l.tokens)
+invariant-loop-token l = record {
+  same : run (state l.state).0 (state l.state).1 (map placed (drop l.token-index l.tokens)) ≡ run (new_level None) [] (map placed l.tokens);
+  borrowed : state_owned l.state ≡ 0;
+}

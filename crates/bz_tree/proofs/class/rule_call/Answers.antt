@@ -1,7 +1,11 @@
 use Rattle.std.proofs.Common.{arith}
 use Rattle.std.proofs.lemmas.Grind.{common_steps}
+use Rattle.bz_tree.proofs.Borrowed.{total_append}
 use Rattle.bz_tree.proofs.OneBracket.{rule_call-push}
 use Rattle.bz_tree.proofs.class.rule_call.Goals as goal
 
-pub returns : goal.returns
-returns c = grind (arith, common_steps, rule_call-push)
+pub returns-clause-value : goal.returns-clause-value
+returns-clause-value c = grind (arith, common_steps, rule_call-push)
+
+pub returns-clause-borrowed : goal.returns-clause-borrowed
+returns-clause-borrowed c = grind (arith, common_steps, total_append)
