@@ -171,3 +171,14 @@ fn in_args(
         _ => Ok(Done::quiet(false)),
     }
 }
+
+/// This version has the command.
+#[cfg(test)]
+pub(crate) fn stands(command: &Command) -> bool
+    ensures { result ≡ spec.stands command.now }
+{
+    match &command.action {
+        Action::Add(_, _) | Action::Remove(_, _) | Action::Delete | Action::Rename(_, _) => true,
+        _ => false,
+    }
+}
