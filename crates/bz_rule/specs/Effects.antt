@@ -11,7 +11,7 @@ use Rattle.bz_rule.specs.Rules.{Rule, rule_of, elements, is_named, first_named, 
 use Rattle.bz_rule.specs.Lists.{is_attribute, with_value, parts, edit_parts, edit_first_part, is_list, equals_any, same}
 use Rattle.bz_rule.specs.declared.done.Done.{Done}
 use Rattle.bz_rule.specs.declared.done.Note.{Note}
-use Rattle.bz_rule.specs.declared.done.Note.TheVariants.{NoAttribute, AttributeExists, NotAList}
+use Rattle.bz_rule.specs.declared.done.Note.TheVariants.{Missing, NoAttribute, AttributeExists, NotAList}
 
 abbrev pub failed : Note → Done
 failed note = record { changed = false; line = None; note = Some note }
@@ -20,6 +20,12 @@ failed note = record { changed = false; line = None; note = Some note }
 abbrev pub done : Option Note → Bool → Done
 done None changed = record { changed = changed; line = None; note = None }
 done (Some note) changed = failed note
+
+-- a note with which nothing was done
+abbrev pub fails : Option Note → Bool
+fails None = false
+fails (Some (Missing field)) = false
+fails (Some note) = true
 
 abbrev pub has : List ℕ → List Segment → Bool
 has attr args = list_any (is_named attr) args
