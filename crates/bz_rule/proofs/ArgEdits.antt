@@ -1,13 +1,12 @@
 -- Arguments that are edited one by one.
-use Rattle.std.proofs.Common.{◌≡◌, ℕ, ◌+◌, ◌<◌, List, [], ◌∷◌, ◌++◌, Bool, true, false, not, ◌&&◌, cond, length, get_or, drop, take, set, map, filter, refl, ap, sym, ◌∙◌, arith, inl, inr, if◌then◌else◌, append_assoc}
-use Rattle.std.specs.List.{flat_map}
+use Rattle.std.proofs.Common.{◌≡◌, ℕ, ◌+◌, ◌<◌, List, [], ◌∷◌, ◌++◌, true, false, not, length, get_or, drop, take, set, map, filter, refl, ap, sym, ◌∙◌, arith, inl, inr, if◌then◌else◌, append_assoc}
 use Rattle.std.proofs.lemmas.Bool.{cases_Bool}
 use Rattle.std.proofs.lemmas.List.{drop_more, take_more_set, drop-set-lt, map-set, get_or-map, length-map}
 use Rattle.bz_tree.specs.declared.stmt.Seg.{Seg}
 use Rattle.bz_tree.specs.View.{seg_view, segs_view}
 use Rattle.bz_tree.specs.Tree.{Segment}
 use Rattle.bz_rule.specs.Rules.{value}
-use Rattle.bz_rule.specs.Lists.{is_attribute, with_value, edit_parts}
+use Rattle.bz_rule.specs.Lists.{is_attribute}
 use Rattle.bz_rule.specs.Effects.{filtered, filtered_everywhere, loses_all}
 use Rattle.bz_rule.specs.EditSteps.{is_lost, edit_attribute}
 

@@ -1,11 +1,11 @@
 -- The call of a rule, at the end of the nodes, edited.
-use Rattle.std.proofs.Common.{◌≡◌, ℕ, suc, ◌+◌, List, [], ◌∷◌, ◌++◌, Bool, true, false, ◌&&◌, length, get_or, set, take, refl, ap, sym, ◌∙◌, arith, Option, None, is_some}
+use Rattle.std.proofs.Common.{◌≡◌, ℕ, suc, ◌+◌, List, [], ◌∷◌, ◌++◌, true, length, get_or, set, take, refl, ap, sym, ◌∙◌, arith, is_some}
 use Rattle.std.proofs.lemmas.List.{map-append, set_split, drop_all, get_or_default}
 use Rattle.bz_tree.specs.declared.stmt.Node.{Node}
 use Rattle.bz_tree.specs.declared.stmt.GroupKind.TheVariants.{Call, RuleCall, Load, Paren, List as ListKind, Index, Dict, ListComp, DictComp}
 use Rattle.bz_tree.specs.Tree.{Item, leaf, group, Segment}
 use Rattle.bz_tree.specs.View.{node_view, nodes_view}
-use Rattle.bz_rule.specs.Rules.{call_at, is_call, dotted, elements, rule_of}
+use Rattle.bz_rule.specs.Rules.{call_at, is_call, dotted, elements}
 use Rattle.bz_rule.specs.Lists.{edit_list}
 use Rattle.bz_rule.specs.declared.done.Done.{Done}
 use Rattle.bz_rule.specs.Effects.{nodes_after, done_in}

@@ -1,11 +1,11 @@
 -- A group whose segments are edited.
 use Rattle.std.specs.Cow.{cow_str_bytes}
-use Rattle.std.proofs.Common.{◌≡◌, List, option_map, refl, ap, ◌∙◌, rules}
+use Rattle.std.proofs.Common.{◌≡◌, List, option_map, refl, ◌∙◌, rules}
 use Rattle.bz_tree.specs.declared.stmt.Node.{Node, Group, the_lemmas}
 use Rattle.bz_tree.specs.declared.stmt.Node.TheOpen.{Group-F}
 use Rattle.bz_tree.specs.declared.stmt.Group.{Group as GroupValue, out-Group, roll-Group}
 use Rattle.bz_tree.specs.declared.stmt.Seg.{Seg}
-use Rattle.bz_tree.specs.Tree.{Item, group, Segment, segs_of}
+use Rattle.bz_tree.specs.Tree.{group, Segment, segs_of}
 use Rattle.bz_tree.specs.View.{node_view, seg_view, nodes_view, segs_view, texts}
 use Rattle.bz_rule.specs.Lists.{edit_list}
 use Rattle.bz_rule.specs.Rules.{elements}

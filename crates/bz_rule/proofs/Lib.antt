@@ -18,4 +18,5 @@ mod PartEdits
 mod Quoting
 mod Reading
 mod ReadBack
+mod Stays
 mod Views

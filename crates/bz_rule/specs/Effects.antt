@@ -1,17 +1,17 @@
 -- What each command does to the arguments of a rule (buildozer README, edit commands; the failures are this project's own rule).
-use Rattle.std.specs.Prelude.{ℕ, List, [], ◌∷◌, ◌++◌, Bool, true, false, ◌&&◌, ◌||◌, not, if◌then◌else◌, Option, Some, None, option_map, map, is_some, filter, codes, bytes_eq}
-use Rattle.std.specs.List.{list_any, list_all, flat_map, slice_split}
-use Rattle.bz_token.specs.declared.token.Kind.TheVariants.{Ident, Sign, Text, Int}
+use Rattle.std.specs.Prelude.{ℕ, List, [], ◌∷◌, ◌++◌, Bool, true, false, ◌&&◌, ◌||◌, not, if◌then◌else◌, Option, Some, None, option_map, map, is_some, filter, codes}
+use Rattle.std.specs.List.{list_any, flat_map}
+use Rattle.bz_token.specs.declared.token.Kind.TheVariants.{Ident, Sign, Text}
 use Rattle.bz_tree.specs.declared.stmt.GroupKind.TheVariants.{RuleCall, List as ListKind}
 use Rattle.bz_tree.specs.Tree.{Item, leaf, group, Segment, Statement, segs_of, nowhere}
 use Rattle.bz_rule.specs.Labels.{Package}
 use Rattle.bz_rule.specs.Values.{quoted}
-use Rattle.bz_rule.specs.Commands.{Command, Add, Remove, Set, SetIfAbsent, Delete, Rename, Move, Replace, Comment, Print, Attributes, Every, Named, Setting, ToKind, ToValues, Moved, All, Values}
-use Rattle.bz_rule.specs.Rules.{Rule, rule_of, elements, is_named, first_named, value, kind_text}
-use Rattle.bz_rule.specs.Lists.{is_attribute, with_value, parts, edit_parts, edit_first_part, is_list, equals, equals_any, without, same}
+use Rattle.bz_rule.specs.Commands.{Command, Add, Remove, Delete, Rename, Attributes, Every, Named, Moved, All, Values}
+use Rattle.bz_rule.specs.Rules.{Rule, rule_of, elements, is_named, first_named, value}
+use Rattle.bz_rule.specs.Lists.{is_attribute, with_value, parts, edit_parts, edit_first_part, is_list, equals_any, same}
 use Rattle.bz_rule.specs.declared.done.Done.{Done}
 use Rattle.bz_rule.specs.declared.done.Note.{Note}
-use Rattle.bz_rule.specs.declared.done.Note.TheVariants.{NoAttribute, AttributeExists, NotAList}
+use Rattle.bz_rule.specs.declared.done.Note.TheVariants.{Missing, NoAttribute, AttributeExists, NotAList}
 
 abbrev pub failed : Note → Done
 failed note = record { changed = false; line = None; note = Some note }
@@ -20,6 +20,12 @@ failed note = record { changed = false; line = None; note = Some note }
 abbrev pub done : Option Note → Bool → Done
 done None changed = record { changed = changed; line = None; note = None }
 done (Some note) changed = failed note
+
+-- a note with which nothing was done
+abbrev pub fails : Option Note → Bool
+fails None = false
+fails (Some (Missing field)) = false
+fails (Some note) = true
 
 abbrev pub has : List ℕ → List Segment → Bool
 has attr args = list_any (is_named attr) args

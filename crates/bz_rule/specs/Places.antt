@@ -1,6 +1,6 @@
 -- For private clauses alone: where an argument, a list part and the call of a rule stand, and what becomes of the whole where
 -- they are edited.
-use Rattle.std.specs.Prelude.{◌≡◌, ℕ, ◌<◌, ◌≤◌, List, [], ◌∷◌, length, get_or, set, true, false, remove, Option, Some, None, is_some}
+use Rattle.std.specs.Prelude.{◌≡◌, ℕ, ◌<◌, ◌≤◌, List, [], ◌∷◌, length, get_or, set, true, false, remove, Some, None, is_some}
 use Rattle.bz_tree.specs.declared.stmt.Seg.{Seg}
 use Rattle.bz_tree.specs.declared.stmt.Node.{Node}
 use Rattle.bz_tree.specs.Tree.{Segment}

@@ -1,6 +1,8 @@
 //! Labels, targets and commands on one rule.
 #![tactic(auto)]
 
+#[cfg(test)]
+mod apply_tests;
 mod bytes;
 mod chosen;
 mod command;

@@ -1,6 +1,6 @@
 //! A command applied to what a slot holds.
 
-ghost use Rattle.std.specs.Prelude.{◌≡◌, IfOk, OnOk, OnErr, IsTrue, is_some, option_map, []};
+ghost use Rattle.std.specs.Prelude.{◌≡◌, IfOk, IsOk, OnOk, OnErr, IsTrue, None, false, is_some, option_map, true, []};
 ghost use Rattle.bz_tree.specs.View.{node_view, nodes_view, segs_view, view, slot_view};
 ghost use Rattle.bz_rule.specs.CommandViews.{command_view};
 ghost use Rattle.bz_rule.specs.Rules.{rule_of, elements};
@@ -29,6 +29,8 @@ pub fn apply(
     requires { IsTrue (spec.stands command.now) }
     ensures slot { OnOk result (slot_view slot.new ≡ spec.after command.now home.now (slot_view slot.old)) }
     ensures done { IfOk result (λ done. done ≡ spec.done_of command.now home.now (slot_view slot.old)) }
+    ensures failed { IfOk result (λ done. spec.fails done.note ≡ true → slot_view slot.new ≡ slot_view slot.old) }
+    ensures no_rule { spec.holds_rule (slot_view slot.old) ≡ false → IsOk result }
     ensures err { OnErr result (slot_view slot.new ≡ slot_view slot.old) }
 {
     match &command.action {
@@ -80,6 +82,7 @@ fn on_args(
     requires { IsTrue (spec.stands (command_view action.now)) }
     ensures slot { OnOk result (slot_view slot.new ≡ option_map (spec.with_args (spec.args_after (command_view action.now) home.now)) (slot_view slot.old)) }
     ensures done { IfOk result (λ done. done ≡ spec.slot_done (spec.args_done (command_view action.now) home.now) (slot_view slot.old)) }
+    ensures no_rule { spec.holds_rule (slot_view slot.old) ≡ false → IsOk result }
     ensures err { OnErr result (slot_view slot.new ≡ slot_view slot.old) }
 {
     match slot {
@@ -100,6 +103,7 @@ fn in_statement(
     requires { IsTrue (spec.stands (command_view action.now)) }
     ensures stmt { OnOk result (view stmt.new ≡ spec.with_args (spec.args_after (command_view action.now) home.now) (view stmt.old)) }
     ensures done { IfOk result (λ done. done ≡ spec.done_in (spec.args_done (command_view action.now) home.now) (rule_of (nodes_view stmt.old.nodes.items))) }
+    ensures no_rule { rule_of (nodes_view stmt.old.nodes.items) ≡ None → IsOk result }
     ensures err { OnErr result (view stmt.new ≡ view stmt.old) }
 {
     let done = in_nodes(alloc, action, home, &mut stmt.nodes)?;
@@ -115,6 +119,7 @@ fn in_nodes(
     requires { IsTrue (spec.stands (command_view action.now)) }
     ensures nodes { OnOk result (nodes_view nodes.new ≡ spec.nodes_after (spec.args_after (command_view action.now) home.now) (nodes_view nodes.old) (rule_of (nodes_view nodes.old))) }
     ensures done { IfOk result (λ done. done ≡ spec.done_in (spec.args_done (command_view action.now) home.now) (rule_of (nodes_view nodes.old))) }
+    ensures no_rule { rule_of (nodes_view nodes.old) ≡ None → IsOk result }
     ensures err { OnErr result (nodes_view nodes.new ≡ nodes_view nodes.old) }
 {
     let Some(call) = call_at(nodes) else {
@@ -169,5 +174,16 @@ fn in_args(
         Action::Remove(attributes, values) => Ok(remove(home, attributes, values.as_slice(), args)),
         Action::Rename(old, new) => rename(alloc, old.as_str(), new.as_str(), args),
         _ => Ok(Done::quiet(false)),
+    }
+}
+
+/// This version has the command.
+#[cfg(test)]
+pub(crate) fn stands(command: &Command) -> bool
+    ensures { result ≡ spec.stands command.now }
+{
+    match &command.action {
+        Action::Add(_, _) | Action::Remove(_, _) | Action::Delete | Action::Rename(_, _) => true,
+        _ => false,
     }
 }

@@ -1,4 +1,4 @@
-use Rattle.std.proofs.Common.{◌≡◌, ◌∙◌, ap, sym, arith, rules, is_some, true, false}
+use Rattle.std.proofs.Common.{◌≡◌, ◌∙◌, ap, sym, arith, is_some, true, false}
 use Rattle.bz_rule.specs.ValueSteps.{inner_value}
 use Rattle.bz_rule.proofs.Reading.{end_left, none_at, next_left, next_good}
 use Rattle.bz_rule.proofs.bytes.next_value.Goals as goal
