@@ -190,7 +190,8 @@ fn read_tokens<'a>(
 }
 
 /// The statement of a chunk, whose first line has this number, with at most so many brackets open at once. None: the chunk is
-/// blank. The rules are those of the Starlark specification; blocks and the owners of comments are this project's own.
+/// blank. Every text of the statement is borrowed from the chunk. The rules are those of the Starlark specification; blocks
+/// and the owners of comments are this project's own.
 pub fn parse<'a>(
     alloc: Global,
     text: &'a str,

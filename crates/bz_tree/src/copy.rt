@@ -2,6 +2,7 @@
 
 ghost use Rattle.std.specs.Prelude.{◌≡◌, IfOk, map, option_map};
 ghost use Rattle.bz_tree.specs.View.{text_of, texts, view, node_view, group_view, seg_view};
+ghost use Rattle.bz_tree.specs.Borrowed.{owned, owned_of, node_owned, group_owned, seg_owned};
 
 use crate::stmt::{Group, Leaf, Node, Seg, Stmt};
 use std::alloc::{AllocError, Global};
@@ -9,10 +10,13 @@ use std::borrow::CowStr;
 
 impl<'a> Stmt<'a> {
     ghost use Rattle.bz_tree.specs.View.{view};
+    ghost use Rattle.bz_tree.specs.Borrowed.{owned_texts};
 
-    /// An equal statement, places and line numbers included. A text that is borrowed stays borrowed.
+    /// An equal statement, places and line numbers included. It owns as many texts as this one, so a copy of a statement that
+    /// borrows all its texts borrows them all.
     pub fn copy(&self, alloc: Global) -> Result<Stmt<'a>, AllocError>
         ensures equal { IfOk result (λ s. view s ≡ view self.now) }
+        ensures borrowed { IfOk result (λ s. owned_texts s ≡ owned_texts self.now) }
     {
         let before = copy_texts(alloc, &self.before)?;
         let nodes = copy_nodes(alloc, &self.nodes)?;
@@ -28,33 +32,47 @@ impl<'a> Stmt<'a> {
     }
 }
 
+// A slice of the same text where it is borrowed, a string of its own where it is owned.
+fn copy_text<'a>(text: &CowStr<'a>) -> Result<CowStr<'a>, AllocError>
+    ensures value { IfOk result (λ t. text_of t ≡ text_of text.now) }
+    ensures borrowed { IfOk result (λ t. owned t ≡ owned text.now) }
+{
+    match text {
+        CowStr::Borrowed(slice) => Ok(CowStr::Borrowed(*slice)),
+        CowStr::Owned(string) => Ok(CowStr::Owned(string.clone()?)),
+    }
+}
+
 fn copy_texts<'a>(alloc: Global, comments: &[CowStr<'a>]) -> Result<Vec<CowStr<'a>>, AllocError>
-    ensures { IfOk result (λ v. texts v.items ≡ texts comments.now) }
+    ensures value { IfOk result (λ v. texts v.items ≡ texts comments.now) }
+    ensures borrowed { IfOk result (λ v. map owned v.items ≡ map owned comments.now) }
 {
     let mut copies = Vec::with_capacity(alloc, comments.len())?;
     for text in comments {
-        copies.push(text.clone()?)?;
+        copies.push(copy_text(text)?)?;
     }
     Ok(copies)
 }
 
 fn copy_suffix<'a>(suffix: &Option<CowStr<'a>>) -> Result<Option<CowStr<'a>>, AllocError>
-    ensures { IfOk result (λ o. option_map text_of o ≡ option_map text_of suffix.now) }
+    ensures value { IfOk result (λ o. option_map text_of o ≡ option_map text_of suffix.now) }
+    ensures borrowed { IfOk result (λ o. owned_of o ≡ owned_of suffix.now) }
 {
     match suffix {
         None => Ok(None),
-        Some(text) => Ok(Some(text.clone()?)),
+        Some(text) => Ok(Some(copy_text(text)?)),
     }
 }
 
 #[cycle(copy)]
 fn copy_node<'a>(alloc: Global, node: &Node<'a>) -> Result<Node<'a>, AllocError>
-    ensures { IfOk result (λ n. node_view n ≡ node_view node.now) }
+    ensures value { IfOk result (λ n. node_view n ≡ node_view node.now) }
+    ensures borrowed { IfOk result (λ n. node_owned n ≡ node_owned node.now) }
 {
     match node {
         Node::Token(leaf) => Ok(Node::Token(Leaf {
             kind: leaf.kind,
-            text: leaf.text.clone()?,
+            text: copy_text(&leaf.text)?,
             line: leaf.line,
             col: leaf.col,
             fresh: leaf.fresh,
@@ -65,7 +83,8 @@ fn copy_node<'a>(alloc: Global, node: &Node<'a>) -> Result<Node<'a>, AllocError>
 
 #[cycle(copy)]
 fn copy_group<'a>(alloc: Global, group: &Group<'a>) -> Result<Group<'a>, AllocError>
-    ensures { IfOk result (λ g. group_view g ≡ group_view group.now) }
+    ensures value { IfOk result (λ g. group_view g ≡ group_view group.now) }
+    ensures borrowed { IfOk result (λ g. group_owned g ≡ group_owned group.now) }
 {
     Ok(Group {
         kind: group.kind,
@@ -77,7 +96,8 @@ fn copy_group<'a>(alloc: Global, group: &Group<'a>) -> Result<Group<'a>, AllocEr
 
 #[cycle(copy)]
 fn copy_nodes<'a>(alloc: Global, nodes: &[Node<'a>]) -> Result<Vec<Node<'a>>, AllocError>
-    ensures { IfOk result (λ v. map node_view v.items ≡ map node_view nodes.now) }
+    ensures value { IfOk result (λ v. map node_view v.items ≡ map node_view nodes.now) }
+    ensures borrowed { IfOk result (λ v. map node_owned v.items ≡ map node_owned nodes.now) }
 {
     let mut copies = Vec::with_capacity(alloc, nodes.len())?;
     for node in nodes {
@@ -88,7 +108,8 @@ fn copy_nodes<'a>(alloc: Global, nodes: &[Node<'a>]) -> Result<Vec<Node<'a>>, Al
 
 #[cycle(copy)]
 fn copy_segs<'a>(alloc: Global, segs: &[Seg<'a>]) -> Result<Vec<Seg<'a>>, AllocError>
-    ensures { IfOk result (λ v. map seg_view v.items ≡ map seg_view segs.now) }
+    ensures value { IfOk result (λ v. map seg_view v.items ≡ map seg_view segs.now) }
+    ensures borrowed { IfOk result (λ v. map seg_owned v.items ≡ map seg_owned segs.now) }
 {
     let mut copies = Vec::with_capacity(alloc, segs.len())?;
     for seg in segs {
