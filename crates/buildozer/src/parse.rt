@@ -370,11 +370,11 @@ mod tests {
             "f(a b)",
             "x = \"a\"",
             "f(a = [\"b\" \"c\"])",
-            "f(a = \"b\"",
             "def(a = \"b\")",
             "f(a \"b\")",
             "f(a = [,])",
-            "f(a = \"b\"])",
+            "f(a = r\"b\")",
+            "f() # c",
             "f() f()",
             "f(a = b)",
             "f",
@@ -391,11 +391,15 @@ mod tests {
 
     #[test]
     fn places_of_faults(rt: HostRuntime) {
-        let lex = LexFault::BadCharacter { line: 8, col: 5 };
+        let open_text = LexFault::OpenText { line: 8, col: 5 };
+        let open_bracket = LexFault::OpenBracket { line: 7, col: 2 };
+        let bad_bracket = LexFault::BadBracket { line: 7, col: 10 };
         let table = [
             ("\nf(,\n)", ParseFault::NotAStatement { line: 8 }),
             ("\n\n f(,)", ParseFault::Indented { line: 9 }),
-            (" f(\na = \"b\n)", ParseFault::Lex(lex)),
+            (" f(\na = \"b\n)", ParseFault::Lex(open_text)),
+            ("f(a = \"b\"", ParseFault::Lex(open_bracket)),
+            ("f(a = \"b\"])", ParseFault::Lex(bad_bracket)),
         ];
         for (text, expected) in table {
             match parse(rt.alloc(), text, 7, 100) {
