@@ -1,14 +1,18 @@
 -- A command that fails leaves what it found.
-use Rattle.std.proofs.Common.{◌≡◌, ℕ, List, [], ◌∷◌, ◌++◌, Bool, true, false, ◌||◌, Option, None, Some, option_map, refl, ap, sym, ◌∙◌, if◌then◌else◌, append_assoc}
+use Rattle.std.proofs.Common.{◌≡◌, ℕ, List, [], ◌∷◌, ◌++◌, Bool, true, false, ◌||◌, Option, None, Some, option_map, refl, ap, sym, ◌∙◌, if◌then◌else◌, append_assoc, is_some}
 use Rattle.bz_tree.specs.declared.stmt.GroupKind.TheVariants.{Call, RuleCall, Load, Paren, List as ListKind, Index, Dict, ListComp, DictComp}
 use Rattle.bz_tree.specs.Tree.{Item, leaf, group, Items, no_items, item, Segs, no_segs, seg, Segment, Statement, items_of, list_of, segs_of, segments}
 use Rattle.bz_rule.specs.Labels.{Package}
-use Rattle.bz_rule.specs.Commands.{Command, Add, Remove, Set, SetIfAbsent, Delete, Rename, Move, Replace, Comment, Print}
+use Rattle.bz_rule.specs.Commands.{Command, Add, Remove, Set, SetIfAbsent, Delete, Rename, Move, Replace, Comment, Print, ToKind, ToValues, Rule as OfRule, Attribute, Value}
 use Rattle.bz_rule.specs.Rules.{Rule, rule_of, rule_from, call_at, dotted, is_named, first_named, value}
 use Rattle.bz_rule.specs.Lists.{parts}
 use Rattle.bz_rule.specs.declared.done.Done.{Done}
 use Rattle.bz_rule.specs.declared.done.Note.{Note}
-use Rattle.bz_rule.specs.Effects.{adds, args_after, args_done, done, done_in, nodes_after, slot_done, edit_first, fails, has, no_parts, nodes_of, not_a_list, rename, rename_note, with_added, with_args}
+use Rattle.bz_rule.specs.declared.done.Note.TheVariants.{NoAttribute}
+use Rattle.bz_rule.specs.Effects.{adds, done, done_in, nodes_after, slot_done, edit_first, fails, has, no_parts, nodes_of, not_a_list, is_absent, rename, rename_note, with_added, with_args}
+use Rattle.bz_rule.specs.Moving.{move, moves, moved, move_note}
+use Rattle.bz_rule.specs.Commenting.{comment_attribute, comment_value, comment_note, comment_element, comment_line, with_comment}
+use Rattle.bz_rule.specs.Applied.{args_after, args_done}
 
 items_back : (xs : Items) → items_of (list_of xs) ≡ xs
 items_back no_items = refl
@@ -62,23 +66,35 @@ note_of : (n : Option Note) (b : Bool) → (done n b).note ≡ n
 note_of None b = refl
 note_of (Some n) b = refl
 
-rename_stays : (old new : List ℕ) (args : List Segment) → fails (rename_note old new args) ≡ true → rename old new args ≡ args
-rename_stays old new args h =
-    elim (rename_note old new args) as (λ n. rename_note old new args ≡ n → fails n ≡ true → rename old new args ≡ args)
-    [ None ↦ λ e k. absurd cc | Some n ↦ λ e k. rw e refl ] refl h
+-- an effect that is left out where there is a note
+guarded_stays : (n : Option Note) (b : Bool) (new args : List Segment) → fails (done n b).note ≡ true → (if is_some n then args else new) ≡ args
+guarded_stays None b new args h = absurd cc
+guarded_stays (Some n) b new args h = refl
+
+comment_stays : (attr text : List ℕ) (args : List Segment) → fails (done (is_absent attr args) true).note ≡ true → comment_attribute attr text args ≡ args
+comment_stays attr text args h =
+    elim (has attr args) as (λ b. fails (done (if b then None else Some (NoAttribute attr)) true).note ≡ true
+      → (if b then edit_first (is_named attr) (λ a. with_comment (comment_line text) a ∷ []) args else args) ≡ args) [
+      | true ↦ λ k. absurd cc
+      | false ↦ λ k. refl
+    ] h
 
 args_stay : (c : Command) (home : Package) (args : List Segment) → fails (args_done c home args).note ≡ true → args_after c home args ≡ args
 args_stay (Add attr values) home args h =
     let failed : fails (not_a_list attr (first_named attr args)) ≡ true = ap fails (sym (note_of (not_a_list attr (first_named attr args)) (adds home values (first_named attr args)))) ∙ h in
     rw (has_first attr args failed) (add_stays home attr values args failed)
 args_stay (Remove attrs values) home args h = absurd cc
-args_stay (Set setting) home args h = absurd cc
+args_stay (Set (ToKind kind)) home args h = absurd cc
+args_stay (Set (ToValues attr values)) home args h = absurd cc
 args_stay (SetIfAbsent attr values) home args h = absurd cc
 args_stay Delete home args h = absurd cc
-args_stay (Rename old new) home args h = rename_stays old new args (ap fails (sym (note_of (rename_note old new args) true)) ∙ h)
-args_stay (Move old new moved) home args h = absurd cc
+args_stay (Rename old new) home args h = guarded_stays (rename_note old new args) true _ args h
+args_stay (Move old new chosen) home args h =
+    guarded_stays (move_note old new args) (moves home old chosen args) (if moves home old chosen args then moved home old new chosen args else args) args h
 args_stay (Replace attrs old new) home args h = absurd cc
-args_stay (Comment place text) home args h = absurd cc
+args_stay (Comment OfRule text) home args h = absurd cc
+args_stay (Comment (Attribute attr) text) home args h = comment_stays attr text args h
+args_stay (Comment (Value attr value) text) home args h = guarded_stays (comment_note home attr value args) true _ args h
 args_stay (Print fields) home args h = absurd cc
 
 statement_stays : (f : List Segment → List Segment) (g : List Segment → Done) → ((args : List Segment) → fails (g args).note ≡ true → f args ≡ args)

@@ -1,12 +1,12 @@
 -- What each command does to the arguments of a rule (buildozer README, edit commands; the failures are this project's own rule).
-use Rattle.std.specs.Prelude.{ℕ, List, [], ◌∷◌, ◌++◌, Bool, true, false, ◌&&◌, ◌||◌, not, if◌then◌else◌, Option, Some, None, option_map, map, is_some, filter, codes}
+use Rattle.std.specs.Prelude.{ℕ, List, [], ◌∷◌, ◌++◌, Bool, true, false, ◌&&◌, ◌||◌, not, if◌then◌else◌, Option, Some, None, map, is_some, filter, codes}
 use Rattle.std.specs.List.{list_any, flat_map}
 use Rattle.bz_token.specs.declared.token.Kind.TheVariants.{Ident, Sign, Text}
 use Rattle.bz_tree.specs.declared.stmt.GroupKind.TheVariants.{RuleCall, List as ListKind}
 use Rattle.bz_tree.specs.Tree.{Item, leaf, group, Segment, Statement, segs_of, nowhere}
 use Rattle.bz_rule.specs.Labels.{Package}
 use Rattle.bz_rule.specs.Values.{quoted}
-use Rattle.bz_rule.specs.Commands.{Command, Add, Remove, Delete, Rename, Attributes, Every, Named, Moved, All, Values}
+use Rattle.bz_rule.specs.Commands.{Attributes, Every, Named, Moved, All, Values}
 use Rattle.bz_rule.specs.Rules.{Rule, rule_of, elements, is_named, first_named, value}
 use Rattle.bz_rule.specs.Lists.{is_attribute, with_value, parts, edit_parts, edit_first_part, is_list, equals_any, same}
 use Rattle.bz_rule.specs.declared.done.Done.{Done}
@@ -20,6 +20,11 @@ failed note = record { changed = false; line = None; note = Some note }
 abbrev pub done : Option Note → Bool → Done
 done None changed = record { changed = changed; line = None; note = None }
 done (Some note) changed = failed note
+
+-- a note of the first of two conditions that is not met
+abbrev pub first_note : Option Note → Option Note → Option Note
+first_note None other = other
+first_note (Some note) other = Some note
 
 -- a note with which nothing was done
 abbrev pub fails : Option Note → Bool
@@ -135,6 +140,9 @@ abbrev pub adds : Package → List (List ℕ) → Option Segment → Bool
 adds home values None = true
 adds home values (Some a) = not (is_nil (new_elements home (parts (value a)) values))
 
+abbrev pub is_absent : List ℕ → List Segment → Option Note
+is_absent attr args = if has attr args then None else Some (NoAttribute attr)
+
 -- `rename <old> <new>`
 abbrev pub rename_note : List ℕ → List ℕ → List Segment → Option Note
 rename_note old new args = if has old args then (if has new args then Some (AttributeExists new) else None) else Some (NoAttribute old)
@@ -152,14 +160,6 @@ rename old new args = if is_some (rename_note old new args) then args else edit_
 abbrev pub nodes_of : Rule → List Item
 nodes_of r = r.kind ++ group RuleCall (segs_of r.args) r.one_comma r.end ∷ []
 
--- The commands that this version has.
-abbrev pub stands : Command → Bool
-stands (Remove attrs values) = true
-stands (Add attr values) = true
-stands Delete = true
-stands (Rename old new) = true
-stands _ = false
-
 abbrev pub remove : Package → Attributes → List (List ℕ) → List Segment → List Segment
 remove home Every [] args = remove_all args
 remove home Every (v ∷ values) args = filtered_everywhere (unchosen home (Values (v ∷ values))) args
@@ -171,19 +171,6 @@ removes home Every [] args = list_any goes_with_all args
 removes home Every (v ∷ values) args = chooses_anywhere home (Values (v ∷ values)) args
 removes home (Named attr) [] args = has attr args
 removes home (Named attr) (v ∷ values) args = chooses_in home (Values (v ∷ values)) (first_named attr args)
-
--- the arguments after a command on them
-abbrev pub args_after : Command → Package → List Segment → List Segment
-args_after (Add attr values) home args = add home attr values args
-args_after (Remove attrs values) home args = remove home attrs values args
-args_after (Rename old new) home args = rename old new args
-args_after _ home args = args
-
-abbrev pub args_done : Command → Package → List Segment → Done
-args_done (Add attr values) home args = done (not_a_list attr (first_named attr args)) (adds home values (first_named attr args))
-args_done (Remove attrs values) home args = done None (removes home attrs values args)
-args_done (Rename old new) home args = done (rename_note old new args) true
-args_done _ home args = done None false
 
 -- what is no rule stays, and so does the rest of a rule
 abbrev pub nodes_after : (List Segment → List Segment) → List Item → Option Rule → List Item
@@ -204,13 +191,3 @@ slot_done f (Some s) = done_in f (rule_of s.nodes)
 abbrev pub holds_rule : Option Statement → Bool
 holds_rule None = false
 holds_rule (Some s) = is_some (rule_of s.nodes)
-
--- What stands in a slot after a command.
-abbrev pub after : Command → Package → Option Statement → Option Statement
-after Delete home slot = if holds_rule slot then None else slot
-after command home slot = option_map (with_args (args_after command home)) slot
-
--- What the command tells of it.
-abbrev pub done_of : Command → Package → Option Statement → Done
-done_of Delete home slot = done None (holds_rule slot)
-done_of command home slot = slot_done (args_done command home) slot

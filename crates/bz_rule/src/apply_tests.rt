@@ -1,5 +1,6 @@
 //! Worked examples of commands on one statement.
 
+use crate::edited::edited;
 use crate::slot::stands;
 use crate::{Done, Note, apply, read_command, read_label};
 use bz_token::Kind;
@@ -222,5 +223,13 @@ fn failures(rt: HostRuntime) -> Result<(), Fail> {
     let mut empty: Option<Stmt<'_>> = None;
     let done = run(rt, "add deps x", &mut empty)?;
     assert!(rt; !done.changed && done.note.is_none() && done.line.is_none());
+    Ok(())
+}
+
+#[test]
+fn statements(rt: HostRuntime) -> Result<(), Fail> {
+    let (text, done) = edited(rt, "add deps //p:x", "f(name = \"a\", deps = [\":x\"])\n")?;
+    assert_eq!(rt; text.as_str(), "f(\n    name = \"a\",\n    deps = [\":x\"],\n)\n");
+    assert!(rt; !done.changed);
     Ok(())
 }

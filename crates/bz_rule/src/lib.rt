@@ -8,6 +8,8 @@ mod chosen;
 mod command;
 mod decode;
 mod done;
+#[cfg(test)]
+mod edited;
 mod effects;
 mod equals;
 mod find;

@@ -7,6 +7,7 @@ ghost use Rattle.bz_rule.specs.Rules.{rule_of, elements};
 ghost use Rattle.bz_rule.specs.Lists.{edit_list};
 ghost use Rattle.bz_rule.specs.Commands as commands;
 ghost use Rattle.bz_rule.specs.Effects as spec;
+ghost use Rattle.bz_rule.specs.Applied as applied;
 
 use crate::command::{Action, Command};
 use crate::done::Done;
@@ -26,9 +27,9 @@ pub fn apply(
     home: &Package,
     slot: &mut Option<Stmt<'_>>,
 ) -> Result<Done, AllocError>
-    requires { IsTrue (spec.stands command.now) }
-    ensures slot { OnOk result (slot_view slot.new ≡ spec.after command.now home.now (slot_view slot.old)) }
-    ensures done { IfOk result (λ done. done ≡ spec.done_of command.now home.now (slot_view slot.old)) }
+    requires { IsTrue (applied.stands command.now) }
+    ensures slot { OnOk result (slot_view slot.new ≡ applied.after command.now home.now (slot_view slot.old)) }
+    ensures done { IfOk result (λ done. done ≡ applied.done_of command.now home.now (slot_view slot.old)) }
     ensures failed { IfOk result (λ done. spec.fails done.note ≡ true → slot_view slot.new ≡ slot_view slot.old) }
     ensures no_rule { spec.holds_rule (slot_view slot.old) ≡ false → IsOk result }
     ensures err { OnErr result (slot_view slot.new ≡ slot_view slot.old) }
@@ -44,8 +45,8 @@ pub fn apply(
 
 // Takes a rule out of its slot.
 fn delete(slot: &mut Option<Stmt<'_>>) -> Done
-    ensures slot { (home : _) → slot_view slot.new ≡ spec.after commands.Delete home (slot_view slot.old) }
-    ensures done { (home : _) → result ≡ spec.done_of commands.Delete home (slot_view slot.old) }
+    ensures slot { (home : _) → slot_view slot.new ≡ applied.after commands.Delete home (slot_view slot.old) }
+    ensures done { (home : _) → result ≡ applied.done_of commands.Delete home (slot_view slot.old) }
 {
     if holds_rule(slot) {
         *slot = None;
@@ -79,9 +80,9 @@ fn on_args(
     home: &Package,
     slot: &mut Option<Stmt<'_>>,
 ) -> Result<Done, AllocError>
-    requires { IsTrue (spec.stands (command_view action.now)) }
-    ensures slot { OnOk result (slot_view slot.new ≡ option_map (spec.with_args (spec.args_after (command_view action.now) home.now)) (slot_view slot.old)) }
-    ensures done { IfOk result (λ done. done ≡ spec.slot_done (spec.args_done (command_view action.now) home.now) (slot_view slot.old)) }
+    requires { IsTrue (applied.stands (command_view action.now)) }
+    ensures slot { OnOk result (slot_view slot.new ≡ option_map (spec.with_args (applied.args_after (command_view action.now) home.now)) (slot_view slot.old)) }
+    ensures done { IfOk result (λ done. done ≡ spec.slot_done (applied.args_done (command_view action.now) home.now) (slot_view slot.old)) }
     ensures no_rule { spec.holds_rule (slot_view slot.old) ≡ false → IsOk result }
     ensures err { OnErr result (slot_view slot.new ≡ slot_view slot.old) }
 {
@@ -100,9 +101,9 @@ fn in_statement(
     home: &Package,
     stmt: &mut Stmt<'_>,
 ) -> Result<Done, AllocError>
-    requires { IsTrue (spec.stands (command_view action.now)) }
-    ensures stmt { OnOk result (view stmt.new ≡ spec.with_args (spec.args_after (command_view action.now) home.now) (view stmt.old)) }
-    ensures done { IfOk result (λ done. done ≡ spec.done_in (spec.args_done (command_view action.now) home.now) (rule_of (nodes_view stmt.old.nodes.items))) }
+    requires { IsTrue (applied.stands (command_view action.now)) }
+    ensures stmt { OnOk result (view stmt.new ≡ spec.with_args (applied.args_after (command_view action.now) home.now) (view stmt.old)) }
+    ensures done { IfOk result (λ done. done ≡ spec.done_in (applied.args_done (command_view action.now) home.now) (rule_of (nodes_view stmt.old.nodes.items))) }
     ensures no_rule { rule_of (nodes_view stmt.old.nodes.items) ≡ None → IsOk result }
     ensures err { OnErr result (view stmt.new ≡ view stmt.old) }
 {
@@ -116,9 +117,9 @@ fn in_nodes(
     home: &Package,
     nodes: &mut [Node<'_>],
 ) -> Result<Done, AllocError>
-    requires { IsTrue (spec.stands (command_view action.now)) }
-    ensures nodes { OnOk result (nodes_view nodes.new ≡ spec.nodes_after (spec.args_after (command_view action.now) home.now) (nodes_view nodes.old) (rule_of (nodes_view nodes.old))) }
-    ensures done { IfOk result (λ done. done ≡ spec.done_in (spec.args_done (command_view action.now) home.now) (rule_of (nodes_view nodes.old))) }
+    requires { IsTrue (applied.stands (command_view action.now)) }
+    ensures nodes { OnOk result (nodes_view nodes.new ≡ spec.nodes_after (applied.args_after (command_view action.now) home.now) (nodes_view nodes.old) (rule_of (nodes_view nodes.old))) }
+    ensures done { IfOk result (λ done. done ≡ spec.done_in (applied.args_done (command_view action.now) home.now) (rule_of (nodes_view nodes.old))) }
     ensures no_rule { rule_of (nodes_view nodes.old) ≡ None → IsOk result }
     ensures err { OnErr result (nodes_view nodes.new ≡ nodes_view nodes.old) }
 {
@@ -135,9 +136,9 @@ fn in_call(
     home: &Package,
     call: &mut Node<'_>,
 ) -> Result<Done, AllocError>
-    requires { IsTrue (spec.stands (command_view action.now)) }
-    ensures call { OnOk result (node_view call.new ≡ edit_list (spec.args_after (command_view action.now) home.now) (node_view call.old)) }
-    ensures done { IfOk result (λ done. done ≡ spec.args_done (command_view action.now) home.now (elements (node_view call.old))) }
+    requires { IsTrue (applied.stands (command_view action.now)) }
+    ensures call { OnOk result (node_view call.new ≡ edit_list (applied.args_after (command_view action.now) home.now) (node_view call.old)) }
+    ensures done { IfOk result (λ done. done ≡ applied.args_done (command_view action.now) home.now (elements (node_view call.old))) }
     ensures err { OnErr result (node_view call.new ≡ node_view call.old) }
 {
     match call {
@@ -151,8 +152,8 @@ fn in_call(
 
 // What a command tells of no arguments.
 fn without_args(alloc: Global, action: &Action, home: &Package) -> Result<Done, AllocError>
-    requires { IsTrue (spec.stands (command_view action.now)) }
-    ensures { IfOk result (λ done. done ≡ spec.args_done (command_view action.now) home.now []) }
+    requires { IsTrue (applied.stands (command_view action.now)) }
+    ensures { IfOk result (λ done. done ≡ applied.args_done (command_view action.now) home.now []) }
 {
     let mut args = Vec::new(alloc);
     in_args(alloc, action, home, &mut args)
@@ -164,9 +165,9 @@ fn in_args(
     home: &Package,
     args: &mut Vec<Seg<'_>>,
 ) -> Result<Done, AllocError>
-    requires { IsTrue (spec.stands (command_view action.now)) }
-    ensures args { OnOk result (segs_view args.new.items ≡ spec.args_after (command_view action.now) home.now (segs_view args.old.items)) }
-    ensures done { IfOk result (λ done. done ≡ spec.args_done (command_view action.now) home.now (segs_view args.old.items)) }
+    requires { IsTrue (applied.stands (command_view action.now)) }
+    ensures args { OnOk result (segs_view args.new.items ≡ applied.args_after (command_view action.now) home.now (segs_view args.old.items)) }
+    ensures done { IfOk result (λ done. done ≡ applied.args_done (command_view action.now) home.now (segs_view args.old.items)) }
     ensures err { OnErr result (segs_view args.new.items ≡ segs_view args.old.items) }
 {
     match action {
@@ -180,7 +181,7 @@ fn in_args(
 /// This version has the command.
 #[cfg(test)]
 pub(crate) fn stands(command: &Command) -> bool
-    ensures { result ≡ spec.stands command.now }
+    ensures { result ≡ applied.stands command.now }
 {
     match &command.action {
         Action::Add(_, _) | Action::Remove(_, _) | Action::Delete | Action::Rename(_, _) => true,
