@@ -1,5 +1,5 @@
--- No comment is lost, and none is there twice.
-use Rattle.std.proofs.Common.{◌≡◌, ℕ, ◌+◌, List, [], ◌∷◌, ◌++◌, Bool, true, false, cond, Option, Some, None, refl, sym, ap, ◌∙◌, arith}
+-- No comment is lost, none is there twice, and each owner has its comments in their order.
+use Rattle.std.proofs.Common.{◌≡◌, ℕ, List, [], ◌∷◌, ◌++◌, Bool, true, false, cond, Option, Some, None, refl, sym, ap, subst, ◌∙◌, append_assoc, append-nil}
 use Rattle.std.proofs.lemmas.Bool.{false≢true}
 use Rattle.bz_token.specs.Places.{Placed}
 use Rattle.bz_tree.specs.declared.stmt.GroupKind.{GroupKind}
@@ -10,62 +10,58 @@ use Rattle.bz_tree.specs.declared.kinds.Behind.{Behind}
 use Rattle.bz_tree.specs.declared.kinds.Behind.TheVariants.{Other}
 use Rattle.bz_tree.specs.Tree.{Item, leaf, group, Segment, Statement, items_of, segs_of}
 use Rattle.bz_tree.specs.Kinds.{mark_of, group_kind, is_one}
-use Rattle.bz_tree.specs.Owners.{Own, node, comma, note, Last, no_token, end_of_node, end_of_comma, is_on, Owner, the_end, segment_before, segment_here, owner, is_beside, Comment, before_of, first_segment, Part, with_comment, part, Inside, inside, no_empty}
+use Rattle.bz_tree.specs.Owners.{Own, node, comma, note, Last, no_token, end_of_node, end_of_comma, is_on, Inside, inside, no_empty}
 use Rattle.bz_tree.specs.Brackets.{own_item, own_items, has_for, group_of, Elem, single, bracket, Elems, no_elems, elem, elem_tokens, elems_tokens, elem_own, elems_own, behind, own_of, is_single, IsWell, AreWell, is_line, without_lines}
 use Rattle.bz_tree.specs.Statement.{one_segment, as_rule_call, rule_call, is_rule, segment_of, statement_with, IsStatementOf}
 use Rattle.bz_tree.specs.Steps.{Walked, texts_of, at_start, after_node, add_beside, to_last, noted, after_note, done, walk}
-use Rattle.bz_tree.specs.Comments.{beside, item_comments, items_comments, segs_comments, comments_of, note_of, notes, times}
+use Rattle.bz_tree.specs.Comments.{Lists, beside, item_owners, items_owners, segs_owners, owners_of, comments_of, note_of, notes, AreDealt, times}
+use Rattle.bz_tree.proofs.Dealt.{Mixed, mixed_swap, mixed_left, mixed_right, mixed_after, mixed_more, left_more, right_more, AreMixed, one_mixed, one_alone, both_mixed, mixed_behind, to_end, list_more, lists_more, dealt_of, times_all}
 use Rattle.bz_tree.proofs.OneBracket.{inside_found, nodes_alone}
 
-times_append : (c : List ℕ) (xs ys : List (List ℕ)) → times c (xs ++ ys) ≡ times c xs + times c ys
-times_append c [] ys = omega arith
-times_append c (x ∷ xs) ys = let more = times_append c xs ys in omega (arith, more)
+-- the owners in a list of nodes, and in segments
+abbrev nodes_owners : List Item → Lists
+nodes_owners xs = items_owners (items_of xs)
 
--- the comments of a list of nodes, of segments, of what stands in a bracket
-abbrev in_nodes : List ℕ → List Item → ℕ
-in_nodes c [] = 0
-in_nodes c (x ∷ xs) = times c (item_comments x) + in_nodes c xs
+abbrev segment_owners : Segment → Lists
+segment_owners s = s.before ∷ beside s.suffix ∷ nodes_owners s.nodes
 
-abbrev in_segment : List ℕ → Segment → ℕ
-in_segment c s = times c s.before + (in_nodes c s.nodes + times c (beside s.suffix))
+abbrev segments_owners : List Segment → Lists
+segments_owners ss = segs_owners (segs_of ss)
 
-abbrev in_segments : List ℕ → List Segment → ℕ
-in_segments c [] = 0
-in_segments c (s ∷ ss) = in_segment c s + in_segments c ss
+abbrev own_owners : Own → Lists
+own_owners (node line x) = item_owners x
+own_owners (comma t) = []
+own_owners (note line text) = (text ∷ []) ∷ []
 
-abbrev in_own : List ℕ → Own → ℕ
-in_own c (node line x) = times c (item_comments x)
-in_own c (comma t) = 0
-in_own c (note line text) = times c (text ∷ [])
+abbrev inside_owners : Inside → Lists
+inside_owners i = segments_owners i.segs ++ i.end ∷ []
 
-abbrev in_owns : List ℕ → List Own → ℕ
-in_owns c [] = 0
-in_owns c (o ∷ os) = in_own c o + in_owns c os
+nodes_append : (xs ys : List Item) → nodes_owners (xs ++ ys) ≡ nodes_owners xs ++ nodes_owners ys
+nodes_append [] ys = refl
+nodes_append (x ∷ xs) ys = ap (λ l. item_owners x ++ l) (nodes_append xs ys) ∙ sym (append_assoc (item_owners x) (nodes_owners xs) (nodes_owners ys))
 
-abbrev in_inside : List ℕ → Inside → ℕ
-in_inside c i = in_segments c i.segs + times c i.end
+segments_append : (ss rs : List Segment) → segments_owners (ss ++ rs) ≡ segments_owners ss ++ segments_owners rs
+segments_append [] rs = refl
+segments_append (s ∷ ss) rs = ap (λ l. segment_owners s ++ l) (segments_append ss rs) ∙ sym (append_assoc (segment_owners s) (segments_owners ss) (segments_owners rs))
 
-nodes_append : (c : List ℕ) (xs ys : List Item) → in_nodes c (xs ++ ys) ≡ in_nodes c xs + in_nodes c ys
-nodes_append c [] ys = omega arith
-nodes_append c (x ∷ xs) ys = let more = nodes_append c xs ys in omega (arith, more)
+-- The comments of what stands in a bracket, one thing after another.
+abbrev AreSpelled : List Own → List (List ℕ) → Type 0
+AreSpelled [] texts = texts ≡ []
+AreSpelled (o ∷ os) texts = (here : List (List ℕ)) × (more : List (List ℕ)) × (texts ≡ here ++ more) × AreMixed here (own_owners o) × AreSpelled os more
 
-segments_append : (c : List ℕ) (xs ys : List Segment) → in_segments c (xs ++ ys) ≡ in_segments c xs + in_segments c ys
-segments_append c [] ys = omega arith
-segments_append c (x ∷ xs) ys = let more = segments_append c xs ys in omega (arith, more)
+-- what the walk holds of the segment here, its nodes aside
+abbrev here : Walked → List (List ℕ)
+here w = w.before ++ (texts_of w.suffix ++ w.behind)
 
-items_are : (c : List ℕ) (xs : List Item) → times c (items_comments (items_of xs)) ≡ in_nodes c xs
-items_are c [] = refl
-items_are c (x ∷ xs) = let more = items_are c xs in omega (arith, times_append c (item_comments x) (items_comments (items_of xs)), more)
-
-segs_are : (c : List ℕ) (ss : List Segment) → times c (segs_comments (segs_of ss)) ≡ in_segments c ss
-segs_are c [] = refl
-segs_are c (s ∷ ss) =
-    let more = segs_are c ss in
-    omega (arith, times_append c (s.before ++ (items_comments (items_of s.nodes) ++ beside s.suffix)) (segs_comments (segs_of ss)), times_append c s.before (items_comments (items_of s.nodes) ++ beside s.suffix), times_append c (items_comments (items_of s.nodes)) (beside s.suffix), items_are c s.nodes, more)
-
--- what the walk holds
-abbrev held : List ℕ → Walked → ℕ
-held c w = in_segments c w.segs + (times c w.before + (in_nodes c w.nodes + (times c (beside w.suffix) + times c w.behind)))
+-- What the walk holds: the comments of the finished segments, those of the segment here, and those in its nodes.
+record Holds (w : Walked) (texts : List (List ℕ)) : Type 0 where
+  finished : List (List ℕ)
+  rest : List (List ℕ)
+  inner : List (List ℕ)
+  all : Mixed finished rest texts
+  those : Mixed (here w) inner rest
+  segs : AreMixed finished (segments_owners w.segs)
+  nodes : AreMixed inner (nodes_owners w.nodes)
 
 abbrev NoNodes : List Item → List (List ℕ) → Option (List ℕ) → Type 0
 NoNodes [] before suffix = (before ≡ []) × (suffix ≡ None)
@@ -79,28 +75,17 @@ abbrev HasSegment : List Segment → Type 0
 HasSegment [] = ⊥
 HasSegment (s ∷ ss) = Unit {0}
 
-abbrev Behind-last : Last → List Segment → List Item → Option (List ℕ) → Type 0
-Behind-last no_token segs nodes suffix = Unit {0}
-Behind-last (end_of_node line) segs nodes suffix = (suffix ≡ None) × HasNode nodes
-Behind-last (end_of_comma line) segs nodes suffix = HasSegment segs
+abbrev BehindLast : Last → List Segment → List Item → Option (List ℕ) → List (List ℕ) → Type 0
+BehindLast no_token segs nodes suffix behind = Unit {0}
+BehindLast (end_of_node line) segs nodes suffix behind = (suffix ≡ None) × (behind ≡ []) × HasNode nodes
+BehindLast (end_of_comma line) segs nodes suffix behind = HasSegment segs
 
-record Holds (w : Walked) : Type 0 where
+record Fits (w : Walked) : Type 0 where
   nodes : NoNodes w.nodes w.before w.suffix
-  last : Behind-last w.last w.segs w.nodes w.suffix
+  last : BehindLast w.last w.segs w.nodes w.suffix w.behind
 
-texts_beside : (c : List ℕ) (o : Option (List ℕ)) → times c (texts_of o) ≡ times c (beside o)
-texts_beside c None = refl
-texts_beside c (Some t) = refl
-
--- one more comment behind a segment's comma
-beside_more : (c text : List ℕ) (before : List (List ℕ)) (nodes : List Item) (suffix : Option (List ℕ))
-    → in_segment c (add_beside text (record { before = before; nodes = nodes; suffix = suffix })) ≡ in_segment c (record { before = before; nodes = nodes; suffix = suffix }) + times c (text ∷ [])
-beside_more c text before nodes None = omega arith
-beside_more c text before nodes (Some other) = omega (arith, times_append c before (text ∷ []))
-
-last_more : (c text : List ℕ) (s : Segment) (ss : List Segment) → in_segments c (to_last text (s ∷ ss)) ≡ in_segments c (s ∷ ss) + times c (text ∷ [])
-last_more c text s [] = let e = beside_more c text s.before s.nodes s.suffix in omega (arith, e)
-last_more c text s (r ∷ ss) = let e = last_more c text r ss in omega (arith, e)
+abbrev walked_of : List Segment → List (List ℕ) → List Item → Option (List ℕ) → List (List ℕ) → Last → Bool → Walked
+walked_of segs before nodes suffix behind last trailing = record { segs = segs; before = before; nodes = nodes; suffix = suffix; behind = behind; last = last; trailing = trailing }
 
 nodes_push : (xs : List Item) (x : Item) (before : List (List ℕ)) (suffix : Option (List ℕ)) → NoNodes (xs ++ x ∷ []) before suffix
 nodes_push [] x before suffix = tt
@@ -114,212 +99,332 @@ segment_push : (segs : List Segment) (s : Segment) → HasSegment (segs ++ s ∷
 segment_push [] s = tt
 segment_push (r ∷ segs) s = tt
 
--- a step keeps the comments
-node_held : (c : List ℕ) (line : ℕ) (x : Item) (w : Walked) → held c (after_node line x w) ≡ held c w + times c (item_comments x)
-node_held c line x w =
-    omega (arith, times_append c w.before (texts_of w.suffix ++ w.behind), times_append c (texts_of w.suffix) w.behind, texts_beside c w.suffix, nodes_append c w.nodes (x ∷ []))
-
-abbrev walked_of : List Segment → List (List ℕ) → List Item → Option (List ℕ) → List (List ℕ) → Last → Bool → Walked
-walked_of segs before nodes suffix behind last trailing = record { segs = segs; before = before; nodes = nodes; suffix = suffix; behind = behind; last = last; trailing = trailing }
-
-noted_held : (c : List ℕ) (last : Last) (on : Bool) (text : List ℕ) (segs : List Segment) (before : List (List ℕ)) (nodes : List Item) (suffix : Option (List ℕ)) (behind : List (List ℕ)) (trailing : Bool)
-    → Behind-last last segs nodes suffix → held c (noted last on text (walked_of segs before nodes suffix behind last trailing)) ≡ held c (walked_of segs before nodes suffix behind last trailing) + times c (text ∷ [])
-noted_held c no_token true text segs before nodes suffix behind trailing fits = omega (arith, times_append c behind (text ∷ []))
-noted_held c no_token false text segs before nodes suffix behind trailing fits = omega (arith, times_append c behind (text ∷ []))
-noted_held c (end_of_node line) true text segs before nodes suffix behind trailing fits = let e : times c (beside suffix) ≡ 0 = ap (λ o. times c (beside o)) fits.0 in omega (arith, e)
-noted_held c (end_of_node line) false text segs before nodes suffix behind trailing fits = omega (arith, times_append c behind (text ∷ []))
-noted_held c (end_of_comma line) true text [] before nodes suffix behind trailing fits = absurd fits
-noted_held c (end_of_comma line) true text (s ∷ ss) before nodes suffix behind trailing fits = let e = last_more c text s ss in omega (arith, e)
-noted_held c (end_of_comma line) false text segs before nodes suffix behind trailing fits = omega (arith, times_append c behind (text ∷ []))
-
 with_suffix : (nodes : List Item) (before : List (List ℕ)) (suffix : Option (List ℕ)) → HasNode nodes → NoNodes nodes before suffix
 with_suffix [] before suffix has = absurd has
 with_suffix (x ∷ xs) before suffix has = tt
 
-noted_holds : (last : Last) (on : Bool) (text : List ℕ) (segs : List Segment) (before : List (List ℕ)) (nodes : List Item) (suffix : Option (List ℕ)) (behind : List (List ℕ)) (trailing : Bool)
-    → NoNodes nodes before suffix → Behind-last last segs nodes suffix → Holds (noted last on text (walked_of segs before nodes suffix behind last trailing))
-noted_holds no_token true text segs before nodes suffix behind trailing none fits = record { nodes = none; last = tt }
-noted_holds no_token false text segs before nodes suffix behind trailing none fits = record { nodes = none; last = tt }
-noted_holds (end_of_node line) true text segs before nodes suffix behind trailing none fits = record { nodes = with_suffix nodes before (Some text) fits.1; last = tt }
-noted_holds (end_of_node line) false text segs before nodes suffix behind trailing none fits = record { nodes = none; last = tt }
-noted_holds (end_of_comma line) true text segs before nodes suffix behind trailing none fits = record { nodes = none; last = tt }
-noted_holds (end_of_comma line) false text segs before nodes suffix behind trailing none fits = record { nodes = none; last = tt }
+-- a node
+node_holds : (line : ℕ) (x : Item) (w : Walked) (texts more : List (List ℕ)) → Holds w texts → AreMixed more (item_owners x) → Holds (after_node line x w) (texts ++ more)
+node_holds line x w texts more h mixed =
+    let same : here w ++ [] ≡ here w = append-nil (here w) in
+    let nodes : AreMixed (h.inner ++ more) (nodes_owners w.nodes ++ (item_owners x ++ [])) =
+    mixed_behind (nodes_owners w.nodes) (item_owners x ++ []) h.inner more h.nodes (subst (AreMixed more) (sym (append-nil (item_owners x))) mixed) in
+    record {
+      finished = h.finished;
+      rest = h.rest ++ more;
+      inner = h.inner ++ more;
+      all = right_more texts h.finished h.rest more h.all;
+      those = subst (λ l. Mixed l (h.inner ++ more) (h.rest ++ more)) (sym same) (right_more h.rest (here w) h.inner more h.those);
+      segs = h.segs;
+      nodes = subst (AreMixed (h.inner ++ more)) (sym (nodes_append w.nodes (x ∷ []))) nodes;
+    }
 
-done_held : (c : List ℕ) (segs : List Segment) (before : List (List ℕ)) (nodes : List Item) (suffix : Option (List ℕ)) (behind : List (List ℕ)) (last : Last) (trailing : Bool)
-    → NoNodes nodes before suffix → in_inside c (done (walked_of segs before nodes suffix behind last trailing)) ≡ held c (walked_of segs before nodes suffix behind last trailing)
-done_held c segs before [] suffix behind last trailing none =
-    let b : times c before ≡ 0 = ap (times c) none.0 in
-    let s : times c (beside suffix) ≡ 0 = ap (λ o. times c (beside o)) none.1 in
-    omega (arith, b, s)
-done_held c segs before (x ∷ xs) suffix behind last trailing none = omega (arith, segments_append c segs (record { before = before; nodes = x ∷ xs; suffix = suffix } ∷ []))
+-- the comments of a segment are those before it and its suffix
+segment_split : (before : List (List ℕ)) (suffix : Option (List ℕ)) (behind : List (List ℕ)) → Mixed (before ++ behind) (beside suffix) (before ++ (texts_of suffix ++ behind))
+segment_split before None behind = mixed_left (before ++ behind)
+segment_split before (Some text) behind = mixed_more before before [] behind (text ∷ []) (text ∷ behind) (mixed_left before) (mixed_swap (text ∷ behind) (text ∷ []) behind (mixed_after (text ∷ []) behind))
+
+closed_mixed : (segs : List Segment) (before : List (List ℕ)) (nodes : List Item) (suffix : Option (List ℕ)) (behind : List (List ℕ)) (last : Last) (trailing : Bool) (texts : List (List ℕ))
+    → Holds (walked_of segs before nodes suffix behind last trailing) texts → AreMixed texts (segments_owners segs ++ ((before ++ behind) ∷ beside suffix ∷ nodes_owners nodes))
+closed_mixed segs before nodes suffix behind last trailing texts h =
+    let own : AreMixed (before ++ (texts_of suffix ++ behind)) ((before ++ behind) ∷ beside suffix ∷ []) = (beside suffix, segment_split before suffix behind, one_mixed (beside suffix)) in
+    let rest = both_mixed ((before ++ behind) ∷ beside suffix ∷ []) (nodes_owners nodes) (before ++ (texts_of suffix ++ behind)) h.inner h.rest h.those own h.nodes in
+    both_mixed (segments_owners segs) ((before ++ behind) ∷ beside suffix ∷ nodes_owners nodes) h.finished h.rest texts h.all h.segs rest
+
+-- a comma
+comma_holds : (line : ℕ) (segs : List Segment) (before : List (List ℕ)) (nodes : List Item) (suffix : Option (List ℕ)) (behind : List (List ℕ)) (last : Last) (trailing : Bool) (texts : List (List ℕ))
+    → Holds (walked_of segs before nodes suffix behind last trailing) texts
+    → Holds (walked_of (segs ++ record { before = before ++ behind; nodes = nodes; suffix = suffix } ∷ []) [] [] None [] (end_of_comma line) true) texts
+comma_holds line segs before nodes suffix behind last trailing texts h =
+    let s : Segment = record { before = before ++ behind; nodes = nodes; suffix = suffix } in
+    let closed : AreMixed texts (segments_owners segs ++ segment_owners s) = closed_mixed segs before nodes suffix behind last trailing texts h in
+    let owners : segments_owners (segs ++ s ∷ []) ≡ segments_owners segs ++ segment_owners s = segments_append segs (s ∷ []) ∙ ap (λ l. segments_owners segs ++ l) (append-nil (segment_owners s)) in
+    record {
+      finished = texts;
+      rest = [];
+      inner = [];
+      all = mixed_left texts;
+      those = (refl, refl);
+      segs = subst (AreMixed texts) (sym owners) closed;
+      nodes = refl;
+    }
+
+-- one more comment behind a segment's comma
+beside_more : (text : List ℕ) (before : List (List ℕ)) (nodes : List Item) (suffix : Option (List ℕ)) (back : Lists) (texts : List (List ℕ))
+    → AreMixed texts (segment_owners (record { before = before; nodes = nodes; suffix = suffix }) ++ back)
+    → AreMixed (texts ++ text ∷ []) (segment_owners (add_beside text (record { before = before; nodes = nodes; suffix = suffix })) ++ back)
+beside_more text before nodes None back texts m = list_more (before ∷ []) [] (nodes_owners nodes ++ back) texts (text ∷ []) m
+beside_more text before nodes (Some other) back texts m = list_more [] before ((other ∷ []) ∷ (nodes_owners nodes ++ back)) texts (text ∷ []) m
+
+last_more : (text : List ℕ) (s : Segment) (ss : List Segment) (texts : List (List ℕ)) → AreMixed texts (segments_owners (s ∷ ss)) → AreMixed (texts ++ text ∷ []) (segments_owners (to_last text (s ∷ ss)))
+last_more text s [] texts m = beside_more text s.before s.nodes s.suffix [] texts m
+last_more text s (r ∷ ss) texts m = lists_more (segment_owners s) (segments_owners (r ∷ ss)) (segments_owners (to_last text (r ∷ ss))) (text ∷ []) (λ ts k. last_more text r ss ts k) texts m
+
+comma_note_holds : (text : List ℕ) (s : Segment) (ss : List Segment) (before : List (List ℕ)) (nodes : List Item) (suffix : Option (List ℕ)) (behind : List (List ℕ)) (last : Last) (trailing : Bool) (texts : List (List ℕ))
+    → Holds (walked_of (s ∷ ss) before nodes suffix behind last trailing) texts → Holds (walked_of (to_last text (s ∷ ss)) before nodes suffix behind no_token trailing) (texts ++ text ∷ [])
+comma_note_holds text s ss before nodes suffix behind last trailing texts h = record {
+  finished = h.finished ++ text ∷ [];
+  rest = h.rest;
+  inner = h.inner;
+  all = left_more texts h.finished h.rest (text ∷ []) h.all;
+  those = h.those;
+  segs = last_more text s ss h.finished h.segs;
+  nodes = h.nodes;
+}
+
+-- one more comment of the segment here
+here_more : (w v : Walked) (text : List ℕ) (texts : List (List ℕ)) → v.segs ≡ w.segs → v.nodes ≡ w.nodes → here v ≡ here w ++ text ∷ [] → Holds w texts → Holds v (texts ++ text ∷ [])
+here_more w v text texts segs nodes grown h = record {
+  finished = h.finished;
+  rest = h.rest ++ text ∷ [];
+  inner = h.inner;
+  all = right_more texts h.finished h.rest (text ∷ []) h.all;
+  those = subst (λ l. Mixed l h.inner (h.rest ++ text ∷ [])) (sym grown) (left_more h.rest (here w) h.inner (text ∷ []) h.those);
+  segs = subst (λ ss. AreMixed h.finished (segments_owners ss)) (sym segs) h.segs;
+  nodes = subst (λ xs. AreMixed h.inner (nodes_owners xs)) (sym nodes) h.nodes;
+}
+
+alone_grown : (text : List ℕ) (before : List (List ℕ)) (suffix : Option (List ℕ)) (behind : List (List ℕ)) → before ++ (texts_of suffix ++ (behind ++ text ∷ [])) ≡ (before ++ (texts_of suffix ++ behind)) ++ text ∷ []
+alone_grown text before suffix behind = simp append_assoc
+
+suffix_grown : (text : List ℕ) (before : List (List ℕ)) (suffix : Option (List ℕ)) (behind : List (List ℕ)) → suffix ≡ None → behind ≡ [] → before ++ (text ∷ behind) ≡ (before ++ (texts_of suffix ++ behind)) ++ text ∷ []
+suffix_grown text before suffix behind none empty = rw (none, empty) (sym (append_assoc before [] (text ∷ [])))
+
+noted_holds : (last : Last) (on : Bool) (text : List ℕ) (segs : List Segment) (before : List (List ℕ)) (nodes : List Item) (suffix : Option (List ℕ)) (behind : List (List ℕ)) (trailing : Bool) (texts : List (List ℕ))
+    → BehindLast last segs nodes suffix behind → Holds (walked_of segs before nodes suffix behind last trailing) texts
+    → Holds (noted last on text (walked_of segs before nodes suffix behind last trailing)) (texts ++ text ∷ [])
+noted_holds no_token true text segs before nodes suffix behind trailing texts fits h = here_more _ _ text texts refl refl (alone_grown text before suffix behind) h
+noted_holds no_token false text segs before nodes suffix behind trailing texts fits h = here_more _ _ text texts refl refl (alone_grown text before suffix behind) h
+noted_holds (end_of_node line) true text segs before nodes suffix behind trailing texts fits h = here_more _ _ text texts refl refl (suffix_grown text before suffix behind fits.0 fits.1) h
+noted_holds (end_of_node line) false text segs before nodes suffix behind trailing texts fits h = here_more _ _ text texts refl refl (alone_grown text before suffix behind) h
+noted_holds (end_of_comma line) true text [] before nodes suffix behind trailing texts fits h = absurd fits
+noted_holds (end_of_comma line) true text (s ∷ ss) before nodes suffix behind trailing texts fits h = comma_note_holds text s ss before nodes suffix behind (end_of_comma line) trailing texts h
+noted_holds (end_of_comma line) false text segs before nodes suffix behind trailing texts fits h = here_more _ _ text texts refl refl (alone_grown text before suffix behind) h
+
+noted_fits : (last : Last) (on : Bool) (text : List ℕ) (segs : List Segment) (before : List (List ℕ)) (nodes : List Item) (suffix : Option (List ℕ)) (behind : List (List ℕ)) (trailing : Bool)
+    → NoNodes nodes before suffix → BehindLast last segs nodes suffix behind → Fits (noted last on text (walked_of segs before nodes suffix behind last trailing))
+noted_fits no_token true text segs before nodes suffix behind trailing none fits = record { nodes = none; last = tt }
+noted_fits no_token false text segs before nodes suffix behind trailing none fits = record { nodes = none; last = tt }
+noted_fits (end_of_node line) true text segs before nodes suffix behind trailing none fits = record { nodes = with_suffix nodes before (Some text) fits.2; last = tt }
+noted_fits (end_of_node line) false text segs before nodes suffix behind trailing none fits = record { nodes = none; last = tt }
+noted_fits (end_of_comma line) true text segs before nodes suffix behind trailing none fits = record { nodes = none; last = tt }
+noted_fits (end_of_comma line) false text segs before nodes suffix behind trailing none fits = record { nodes = none; last = tt }
+
+-- without commas no segment is finished
+abbrev has_comma : List Own → Bool
+has_comma [] = false
+has_comma (comma t ∷ os) = true
+has_comma (node line x ∷ os) = has_comma os
+has_comma (note line text ∷ os) = has_comma os
+
+noted_alone : (last : Last) (on : Bool) (text : List ℕ) (w : Walked) → w.segs ≡ [] → (noted last on text w).segs ≡ []
+noted_alone no_token true text w none = none
+noted_alone no_token false text w none = none
+noted_alone (end_of_node line) true text w none = none
+noted_alone (end_of_node line) false text w none = none
+noted_alone (end_of_comma line) true text w none = ap (to_last text) none
+noted_alone (end_of_comma line) false text w none = none
+
+-- the end of a walk
+record Ended (w : Walked) (os : List Own) (texts : List (List ℕ)) (i : Inside) : Type 0 where
+  last : Walked
+  holds : Holds last texts
+  fits : Fits last
+  is : done last ≡ i
+  alone : has_comma os ≡ false → w.segs ≡ [] → last.segs ≡ []
 
 some_same : (x y : Inside) → Some x ≡ Some y → x ≡ y
 some_same x y e = cc
 
-walk_held : (c : List ℕ) (os : List Own) (w : Walked) (i : Inside) → Holds w → walk w os ≡ Some i → in_inside c i ≡ held c w + in_owns c os
-walk_held c [] w i h is =
-    let e = done_held c w.segs w.before w.nodes w.suffix w.behind w.last w.trailing h.nodes in
-    let same : in_inside c i ≡ in_inside c (done w) = ap (in_inside c) (sym (some_same (done w) i is)) in
-    omega (arith, e, same)
-walk_held c (node line x ∷ os) w i h is =
-    let holds : Holds (after_node line x w) = record { nodes = nodes_push w.nodes x (w.before ++ (texts_of w.suffix ++ w.behind)) None; last = (refl, node_push w.nodes x) } in
-    let more = walk_held c os (after_node line x w) i holds is in
-    let e = node_held c line x w in
-    omega (arith, more, e)
-walk_held c (comma t ∷ os) w i h is = at_nodes w.nodes (λ v holds e. walk_held c os v i holds e) is
+walk_ends : (os : List Own) (w : Walked) (i : Inside) (texts more all : List (List ℕ)) → all ≡ texts ++ more → Fits w → Holds w texts → AreSpelled os more → walk w os ≡ Some i → Ended w os all i
+walk_ends [] w i texts more all all_is fits h spelled is = record {
+  last = w;
+  holds = subst (Holds w) (sym (all_is ∙ ap (λ l. texts ++ l) spelled ∙ append-nil texts)) h;
+  fits = fits;
+  is = some_same (done w) i is;
+  alone = λ one none. none;
+}
+walk_ends (node line x ∷ os) w i texts more all all_is fits h spelled is =
+    let now : Fits (after_node line x w) = record { nodes = nodes_push w.nodes x (w.before ++ (texts_of w.suffix ++ w.behind)) None; last = (refl, refl, node_push w.nodes x) } in
+    let split : all ≡ (texts ++ spelled.0) ++ spelled.1 = all_is ∙ ap (λ l. texts ++ l) spelled.2 ∙ sym (append_assoc texts spelled.0 spelled.1) in
+    let e = walk_ends os (after_node line x w) i (texts ++ spelled.0) spelled.1 all split now (node_holds line x w texts spelled.0 h spelled.3) spelled.4 is in
+    record { last = e.last; holds = e.holds; fits = e.fits; is = e.is; alone = e.alone }
+walk_ends (comma t ∷ os) w i texts more all all_is fits h spelled is =
+    let split : all ≡ texts ++ spelled.1 = all_is ∙ ap (λ l. texts ++ l) spelled.2 ∙ ap (λ l. texts ++ (l ++ spelled.1)) spelled.3 in
+    at_nodes w.nodes (λ v f k found. walk_ends os v i texts spelled.1 all split f k spelled.4 found) h is
   where
-    at_nodes : (nodes : List Item) → ((v : Walked) → Holds v → walk v os ≡ Some i → in_inside c i ≡ held c v + in_owns c os) → walk (walked_of w.segs w.before nodes w.suffix w.behind w.last w.trailing) (comma t ∷ os) ≡ Some i
-        → in_inside c i ≡ held c (walked_of w.segs w.before nodes w.suffix w.behind w.last w.trailing) + in_owns c (comma t ∷ os)
-    at_nodes [] more is = absurd (nothing i is)
-      where
-        nothing : (i : Inside) → None ≡ Some i → ⊥
-        nothing i e = cc
-    at_nodes (x ∷ xs) more is =
+    none_some : (i : Inside) → None ≡ Some i → ⊥
+    none_some i e = cc
+
+    at_nodes : (nodes : List Item) → ((v : Walked) → Fits v → Holds v texts → walk v os ≡ Some i → Ended v os all i) → Holds (walked_of w.segs w.before nodes w.suffix w.behind w.last w.trailing) texts → walk (walked_of w.segs w.before nodes w.suffix w.behind w.last w.trailing) (comma t ∷ os) ≡ Some i → Ended w (comma t ∷ os) all i
+    at_nodes [] ends h is = absurd (none_some i is)
+    at_nodes (x ∷ xs) ends h is =
         let s : Segment = record { before = w.before ++ w.behind; nodes = x ∷ xs; suffix = w.suffix } in
-        let v = walked_of (w.segs ++ s ∷ []) [] [] None [] (end_of_comma t.line) true in
-        let e = more v (record { nodes = (refl, refl); last = segment_push w.segs s }) is in
-        omega (arith, e, segments_append c w.segs (s ∷ []), times_append c w.before w.behind)
-walk_held c (note line text ∷ os) w i h is =
-    let holds = noted_holds w.last (is_on w.last line) text w.segs w.before w.nodes w.suffix w.behind w.trailing h.nodes h.last in
-    let more = walk_held c os (after_note line text w) i holds is in
-    let e = noted_held c w.last (is_on w.last line) text w.segs w.before w.nodes w.suffix w.behind w.trailing h.last in
-    omega (arith, more, e)
+        let v : Walked = walked_of (w.segs ++ s ∷ []) [] [] None [] (end_of_comma t.line) true in
+        let e = ends v (record { nodes = (refl, refl); last = segment_push w.segs s }) (comma_holds t.line w.segs w.before (x ∷ xs) w.suffix w.behind w.last w.trailing texts h) is in
+        record { last = e.last; holds = e.holds; fits = e.fits; is = e.is; alone = λ one none. absurd (false≢true (sym one)) }
+walk_ends (note line text ∷ os) w i texts more all all_is fits h spelled is =
+    let now = noted_fits w.last (is_on w.last line) text w.segs w.before w.nodes w.suffix w.behind w.trailing fits.nodes fits.last in
+    let noted_now = noted_holds w.last (is_on w.last line) text w.segs w.before w.nodes w.suffix w.behind w.trailing texts fits.last h in
+    let one : spelled.0 ≡ text ∷ [] = one_alone (text ∷ []) spelled.0 spelled.3 in
+    let split : all ≡ (texts ++ text ∷ []) ++ spelled.1 = all_is ∙ ap (λ l. texts ++ l) (spelled.2 ∙ ap (λ l. l ++ spelled.1) one) ∙ sym (append_assoc texts (text ∷ []) spelled.1) in
+    let e = walk_ends os (after_note line text w) i (texts ++ text ∷ []) spelled.1 all split now noted_now spelled.4 is in
+    record { last = e.last; holds = e.holds; fits = e.fits; is = e.is; alone = λ one none. e.alone one (noted_alone w.last (is_on w.last line) text w none) }
 
 -- the inside of a bracket
-inside_held : (c : List ℕ) (os : List Own) → no_empty false os ≡ true → in_inside c (inside os) ≡ in_owns c os
-inside_held c os full =
+done_mixed : (segs : List Segment) (before : List (List ℕ)) (nodes : List Item) (suffix : Option (List ℕ)) (behind : List (List ℕ)) (last : Last) (trailing : Bool) (texts : List (List ℕ))
+    → NoNodes nodes before suffix → Holds (walked_of segs before nodes suffix behind last trailing) texts
+    → AreMixed texts (inside_owners (done (walked_of segs before nodes suffix behind last trailing)))
+done_mixed segs before [] suffix behind last trailing texts none h =
+    let own : before ++ (texts_of suffix ++ behind) ≡ behind = rw (none.0, none.1) refl in
+    let those : Mixed behind h.inner h.rest = subst (λ l. Mixed l h.inner h.rest) own h.those in
+    let rest : AreMixed h.rest (behind ∷ []) = both_mixed (behind ∷ []) [] behind h.inner h.rest those (one_mixed behind) h.nodes in
+    both_mixed (segments_owners segs) (behind ∷ []) h.finished h.rest texts h.all h.segs rest
+done_mixed segs before (x ∷ xs) suffix behind last trailing texts none h =
+    let nodes : List Item = x ∷ xs in
+    let s : Segment = record { before = before; nodes = nodes; suffix = suffix } in
+    let own : AreMixed (before ++ (texts_of suffix ++ behind)) (before ∷ beside suffix ∷ behind ∷ []) = (texts_of suffix ++ behind, mixed_after before (texts_of suffix ++ behind), (behind, at_suffix suffix, one_mixed behind)) in
+    let rest = both_mixed (before ∷ beside suffix ∷ behind ∷ []) (nodes_owners nodes) (before ++ (texts_of suffix ++ behind)) h.inner h.rest h.those own h.nodes in
+    let all = both_mixed (segments_owners segs) (before ∷ beside suffix ∷ behind ∷ nodes_owners nodes) h.finished h.rest texts h.all h.segs rest in
+    let front : Lists = segments_owners segs ++ (before ∷ beside suffix ∷ []) in
+    let split : segments_owners segs ++ (before ∷ beside suffix ∷ behind ∷ nodes_owners nodes) ≡ front ++ behind ∷ nodes_owners nodes = sym (append_assoc (segments_owners segs) (before ∷ beside suffix ∷ []) (behind ∷ nodes_owners nodes)) in
+    let turned = to_end front behind (nodes_owners nodes) texts (subst (AreMixed texts) split all) in
+    let owners : front ++ (nodes_owners nodes ++ behind ∷ []) ≡ segments_owners (segs ++ s ∷ []) ++ behind ∷ [] = rw (segments_append segs (s ∷ [])) (simp append_assoc) in
+    subst (AreMixed texts) owners turned
+  where
+    at_suffix : (o : Option (List ℕ)) → Mixed (beside o) behind (texts_of o ++ behind)
+    at_suffix None = mixed_right behind
+    at_suffix (Some text) = mixed_after (text ∷ []) behind
+
+start_fits : Fits at_start
+start_fits = record { nodes = (refl, refl); last = tt }
+
+start_holds : Holds at_start []
+start_holds = record { finished = []; rest = []; inner = []; all = (refl, refl); those = (refl, refl); segs = refl; nodes = refl }
+
+inside_ends : (os : List Own) (texts : List (List ℕ)) → no_empty false os ≡ true → AreSpelled os texts → Ended at_start os texts (inside os)
+inside_ends os texts full spelled =
     let found : walk at_start os ≡ Some (inside os) = inside_found os ∙ ap (λ b. cond b (Some (inside os)) None) full in
-    let e = walk_held c os at_start (inside os) (record { nodes = (refl, refl); last = tt }) found in
-    omega (arith, e)
+    walk_ends os at_start (inside os) [] texts texts refl start_fits start_holds spelled found
 
-own_held : (c : List ℕ) (one : Bool) (o : Own) → in_own c (own_item one o) ≡ in_own c o
-own_held c true (node line x) = refl
-own_held c true (comma t) = refl
-own_held c true (note line text) = refl
-own_held c false o = refl
+inside_mixed : (os : List Own) (texts : List (List ℕ)) → no_empty false os ≡ true → AreSpelled os texts → AreMixed texts (inside_owners (inside os))
+inside_mixed os texts full spelled =
+    let e = inside_ends os texts full spelled in
+    let w = e.last in
+    subst (λ i. AreMixed texts (inside_owners i)) e.is (done_mixed w.segs w.before w.nodes w.suffix w.behind w.last w.trailing texts e.fits.nodes e.holds)
 
-owns_held : (c : List ℕ) (one : Bool) (os : List Own) → in_owns c (own_items one os) ≡ in_owns c os
-owns_held c one [] = refl
-owns_held c one (o ∷ os) = let e = own_held c one o in let more = owns_held c one os in omega (arith, e, more)
+-- commas as nodes have no comments either
+own_item_owners : (one : Bool) (o : Own) → own_owners (own_item one o) ≡ own_owners o
+own_item_owners true (node line x) = refl
+own_item_owners true (comma t) = refl
+own_item_owners true (note line text) = refl
+own_item_owners false o = refl
 
-notes_append : (c : List ℕ) (xs ys : List Placed) → times c (notes (xs ++ ys)) ≡ times c (notes xs) + times c (notes ys)
-notes_append c [] ys = omega arith
-notes_append c (t ∷ xs) ys = let more = notes_append c xs ys in omega (arith, more, times_append c (note_of (mark_of t) t.text) (notes (xs ++ ys)), times_append c (note_of (mark_of t) t.text) (notes xs))
+items_spelled : (one : Bool) (os : List Own) (texts : List (List ℕ)) → AreSpelled os texts → AreSpelled (own_items one os) texts
+items_spelled one [] texts s = s
+items_spelled one (o ∷ os) texts s = (s.0, s.1, s.2, subst (AreMixed s.0) (sym (own_item_owners one o)) s.3, items_spelled one os s.1 s.4)
 
-single_held : (c : List ℕ) (m : Mark) (t : Placed) → is_single m ≡ true → in_own c (own_of m t) ≡ times c (note_of m t.text)
-single_held c Comma t alone = refl
-single_held c Remark t alone = refl
-single_held c Plain t alone = refl
-single_held c NewLine t alone = absurd (false≢true alone)
-single_held c (Open s) t alone = absurd (false≢true alone)
-single_held c (Close s) t alone = absurd (false≢true alone)
+notes_append : (xs ys : List Placed) → notes (xs ++ ys) ≡ notes xs ++ notes ys
+notes_append [] ys = refl
+notes_append (t ∷ xs) ys = ap (λ l. note_of (mark_of t) t.text ++ l) (notes_append xs ys) ∙ sym (append_assoc (note_of (mark_of t) t.text) (notes xs) (notes ys))
 
-group_held : (c : List ℕ) (kind : GroupKind) (owns : List Own) → no_empty false (own_items (is_one kind) owns) ≡ true → times c (item_comments (group_of kind owns)) ≡ in_owns c owns
-group_held c kind owns full =
-    let i = inside (own_items (is_one kind) owns) in
-    let e = inside_held c (own_items (is_one kind) owns) full in
-    omega (arith, times_append c (segs_comments (segs_of i.segs)) i.end, segs_are c i.segs, e, owns_held c (is_one kind) owns)
+single_mixed : (m : Mark) (t : Placed) → is_single m ≡ true → AreMixed (note_of m t.text) (own_owners (own_of m t))
+single_mixed Comma t alone = refl
+single_mixed Remark t alone = one_mixed (t.text ∷ [])
+single_mixed Plain t alone = refl
+single_mixed NewLine t alone = absurd (false≢true alone)
+single_mixed (Open s) t alone = absurd (false≢true alone)
+single_mixed (Close s) t alone = absurd (false≢true alone)
 
-note_none : (c : List ℕ) (m : Mark) (s : Shape) (text : List ℕ) → m ≡ Open s → times c (note_of m text) ≡ 0
-note_none c m s text e = ap (λ k. times c (note_of k text)) e
+group_mixed : (kind : GroupKind) (owns : List Own) (texts : List (List ℕ)) → no_empty false (own_items (is_one kind) owns) ≡ true → AreSpelled owns texts → AreMixed texts (item_owners (group_of kind owns))
+group_mixed kind owns texts full spelled = inside_mixed (own_items (is_one kind) owns) texts full (items_spelled (is_one kind) owns texts spelled)
 
-note_none_closed : (c : List ℕ) (m : Mark) (s : Shape) (text : List ℕ) → m ≡ Close s → times c (note_of m text) ≡ 0
-note_none_closed c m s text e = ap (λ k. times c (note_of k text)) e
+-- brackets are no comments
+bracket_notes : (s : Shape) (opening : Placed) (inner : List Placed) (closing : Placed) → mark_of opening ≡ Open s → mark_of closing ≡ Close s → notes (opening ∷ inner ++ closing ∷ []) ≡ notes inner
+bracket_notes s opening inner closing opens closes =
+    let front : note_of (mark_of opening) opening.text ≡ [] = ap (λ m. note_of m opening.text) opens in
+    let end : notes (closing ∷ []) ≡ [] = ap (λ m. note_of m closing.text ++ []) closes in
+    ap (λ l. l ++ notes (inner ++ closing ∷ [])) front ∙ notes_append inner (closing ∷ []) ∙ ap (λ l. notes inner ++ l) end ∙ append-nil (notes inner)
 
 mutual
-  elem_held : (c : List ℕ) (x : Elem) (b : Behind) → IsWell b x → in_own c (elem_own b x) ≡ times c (notes (elem_tokens x))
-  elem_held c (single t) b well = let e = single_held c (mark_of t) t well in omega (arith, e, times_append c (note_of (mark_of t) t.text) [])
-  elem_held c (bracket s opening inner closing) b well =
+  elem_mixed : (x : Elem) (b : Behind) → IsWell b x → AreMixed (notes (elem_tokens x)) (own_owners (elem_own b x))
+  elem_mixed (single t) b well = subst (λ l. AreMixed l (own_owners (elem_own b (single t)))) (sym (append-nil (note_of (mark_of t) t.text))) (single_mixed (mark_of t) t well)
+  elem_mixed (bracket s opening inner closing) b well =
       let owns = elems_own Other inner in
-      let e = group_held c (group_kind s b (has_for owns)) owns well.3 in
-      let more = elems_held c inner Other well.2 in
-      omega (
-        arith,
-        e,
-        more,
-        times_append c (note_of (mark_of opening) opening.text) (notes (elems_tokens inner ++ closing ∷ [])),
-        notes_append c (elems_tokens inner) (closing ∷ []),
-        times_append c (note_of (mark_of closing) closing.text) [],
-        note_none c (mark_of opening) s opening.text well.0,
-        note_none_closed c (mark_of closing) s closing.text well.1,
-      )
+      let mixed = group_mixed (group_kind s b (has_for owns)) owns (notes (elems_tokens inner)) well.3 (elems_spelled inner Other well.2) in
+      subst (λ l. AreMixed l (own_owners (elem_own b (bracket s opening inner closing)))) (sym (bracket_notes s opening (elems_tokens inner) closing well.0 well.1)) mixed
 
-  elems_held : (c : List ℕ) (xs : Elems) (b : Behind) → AreWell b xs → in_owns c (elems_own b xs) ≡ times c (notes (elems_tokens xs))
-  elems_held c no_elems b well = refl
-  elems_held c (elem x xs) b well =
-      let e = elem_held c x b well.0 in
-      let more = elems_held c xs (behind b (elem_own b x)) well.1 in
-      omega (arith, e, more, notes_append c (elem_tokens x) (elems_tokens xs))
+  elems_spelled : (xs : Elems) (b : Behind) → AreWell b xs → AreSpelled (elems_own b xs) (notes (elems_tokens xs))
+  elems_spelled no_elems b well = refl
+  elems_spelled (elem x xs) b well =
+      (notes (elem_tokens x), notes (elems_tokens xs), notes_append (elem_tokens x) (elems_tokens xs), elem_mixed x b well.0, elems_spelled xs (behind b (elem_own b x)) well.1)
 
--- without commas there is one segment
-later_none : (last : Last) (os : List Own) → (part last (own_items true os)).later ≡ []
-later_none last [] = refl
-later_none last (node line x ∷ os) = later_none (end_of_node line) os
-later_none last (comma t ∷ os) = later_none (end_of_node t.line) os
-later_none last (note line text ∷ os) = kept_later (owner last line (own_items true os)) (is_beside last line (own_items true os), text) (part no_token (own_items true os)) ∙ later_none no_token os
-  where
-    kept_later : (o : Owner) (c : Comment) (p : Part) → (with_comment o c p).later ≡ p.later
-    kept_later the_end c p = refl
-    kept_later segment_before c p = refl
-    kept_later segment_here c p = refl
+-- At depth 0 there is one segment, and the end comments stand above it.
+no_commas : (os : List Own) → has_comma (own_items true os) ≡ false
+no_commas [] = refl
+no_commas (node line x ∷ os) = no_commas os
+no_commas (comma t ∷ os) = no_commas os
+no_commas (note line text ∷ os) = no_commas os
 
-alone_held : (c : List ℕ) (nodes : List Item) (cs : List Comment) (later : List Segment) (end : List (List ℕ)) → later ≡ [] → in_segment c (one_segment (first_segment nodes cs later) end) ≡ in_segments c (first_segment nodes cs later) + times c end
-alone_held c [] cs [] end none = omega arith
-alone_held c [] cs (s ∷ ss) end none = absurd (some_none s ss none)
+alone_mixed : (segs : List Segment) (before : List (List ℕ)) (nodes : List Item) (suffix : Option (List ℕ)) (behind : List (List ℕ)) (last : Last) (trailing : Bool) (texts : List (List ℕ))
+    → segs ≡ [] → NoNodes nodes before suffix → Holds (walked_of segs before nodes suffix behind last trailing) texts
+    → (let i = done (walked_of segs before nodes suffix behind last trailing) in AreMixed texts (segment_owners (one_segment i.segs i.end)))
+alone_mixed (s ∷ ss) before nodes suffix behind last trailing texts alone none h = absurd (some_none s ss alone)
   where
     some_none : (s : Segment) (ss : List Segment) → s ∷ ss ≡ [] → ⊥
     some_none s ss e = cc
-alone_held c (x ∷ xs) cs later end none =
-    let e : in_segments c later ≡ 0 = ap (in_segments c) none in
-    omega (arith, e, times_append c (before_of cs) end)
+alone_mixed [] before [] suffix behind last trailing texts alone none h =
+    let closed = closed_mixed [] before [] suffix behind last trailing texts h in
+    subst (λ b. AreMixed texts ((b ++ behind) ∷ [] ∷ [])) none.0 (subst (λ o. AreMixed texts ((before ++ behind) ∷ beside o ∷ [])) none.1 closed)
+alone_mixed [] before (x ∷ xs) suffix behind last trailing texts alone none h = closed_mixed [] before (x ∷ xs) suffix behind last trailing texts h
 
 -- the call of a rule has the same comments
-call_held : (c : List ℕ) (x : Item) → times c (item_comments (as_rule_call x)) ≡ times c (item_comments x)
-call_held c (leaf kind text place) = refl
-call_held c (group kind segs one_comma end) = refl
+call_owners : (x : Item) → item_owners (as_rule_call x) ≡ item_owners x
+call_owners (leaf kind text place) = refl
+call_owners (group kind segs one_comma end) = refl
 
-calls_held : (c : List ℕ) (xs : List Item) → in_nodes c (rule_call xs) ≡ in_nodes c xs
-calls_held c [] = refl
-calls_held c (x ∷ []) = let e = call_held c x in omega (arith, e)
-calls_held c (x ∷ y ∷ ys) = let more = calls_held c (y ∷ ys) in omega (arith, more)
+calls_owners : (xs : List Item) → nodes_owners (rule_call xs) ≡ nodes_owners xs
+calls_owners [] = refl
+calls_owners (x ∷ []) = ap (λ l. l ++ []) (call_owners x)
+calls_owners (x ∷ y ∷ ys) = ap (λ l. item_owners x ++ l) (calls_owners (y ∷ ys))
 
-marked_held : (c : List ℕ) (b : Bool) (xs : List Item) → in_nodes c (cond b (rule_call xs) xs) ≡ in_nodes c xs
-marked_held c true xs = calls_held c xs
-marked_held c false xs = refl
+marked_owners : (b : Bool) (xs : List Item) → nodes_owners (cond b (rule_call xs) xs) ≡ nodes_owners xs
+marked_owners true xs = calls_owners xs
+marked_owners false xs = refl
 
-segment_held : (c : List ℕ) (owns : List Own) → in_segment c (segment_of owns) ≡ in_owns c owns
-segment_held c owns =
+segment_mixed : (owns : List Own) (texts : List (List ℕ)) → AreSpelled owns texts → AreMixed texts (segment_owners (segment_of owns))
+segment_mixed owns texts spelled =
     let os = own_items true owns in
+    let e = inside_ends os texts (nodes_alone false owns) (items_spelled true owns texts spelled) in
+    let w = e.last in
+    let one = alone_mixed w.segs w.before w.nodes w.suffix w.behind w.last w.trailing texts (e.alone (no_commas owns) refl) e.fits.nodes e.holds in
     let i = inside os in
-    let p = part no_token os in
     let s = one_segment i.segs i.end in
-    let one = alone_held c p.nodes p.comments p.later p.end (later_none no_token owns) in
-    let all = inside_held c os (nodes_alone false owns) in
-    omega (arith, one, all, owns_held c true owns, marked_held c (is_rule s.nodes) s.nodes)
+    let here : AreMixed texts (segment_owners s) = subst (λ (i : Inside). AreMixed texts (segment_owners (one_segment i.segs i.end))) e.is one in
+    subst (λ l. AreMixed texts (s.before ∷ beside s.suffix ∷ l)) (sym (marked_owners (is_rule s.nodes) s.nodes)) here
 
-line_held : (c : List ℕ) (m : Mark) (t : Placed) (ts : List Placed) → mark_of t ≡ m → times c (notes (cond (is_line m) ts (t ∷ ts))) ≡ times c (note_of m t.text) + times c (notes ts)
-line_held c NewLine t ts e = omega arith
-line_held c Comma t ts e = let h : times c (note_of (mark_of t) t.text) ≡ times c (note_of Comma t.text) = ap (λ k. times c (note_of k t.text)) e in omega (arith, h, times_append c (note_of (mark_of t) t.text) (notes ts))
-line_held c Remark t ts e = let h : times c (note_of (mark_of t) t.text) ≡ times c (note_of Remark t.text) = ap (λ k. times c (note_of k t.text)) e in omega (arith, h, times_append c (note_of (mark_of t) t.text) (notes ts))
-line_held c Plain t ts e = let h : times c (note_of (mark_of t) t.text) ≡ times c (note_of Plain t.text) = ap (λ k. times c (note_of k t.text)) e in omega (arith, h, times_append c (note_of (mark_of t) t.text) (notes ts))
-line_held c (Open s) t ts e = let h : times c (note_of (mark_of t) t.text) ≡ times c (note_of (Open s) t.text) = ap (λ k. times c (note_of k t.text)) e in omega (arith, h, times_append c (note_of (mark_of t) t.text) (notes ts))
-line_held c (Close s) t ts e = let h : times c (note_of (mark_of t) t.text) ≡ times c (note_of (Close s) t.text) = ap (λ k. times c (note_of k t.text)) e in omega (arith, h, times_append c (note_of (mark_of t) t.text) (notes ts))
+-- newlines are no comments
+line_notes : (m : Mark) (t : Placed) (ts : List Placed) → mark_of t ≡ m → notes (cond (is_line m) ts (t ∷ ts)) ≡ note_of m t.text ++ notes ts
+line_notes NewLine t ts e = refl
+line_notes Comma t ts e = ap (λ k. note_of k t.text ++ notes ts) e
+line_notes Remark t ts e = ap (λ k. note_of k t.text ++ notes ts) e
+line_notes Plain t ts e = ap (λ k. note_of k t.text ++ notes ts) e
+line_notes (Open s) t ts e = ap (λ k. note_of k t.text ++ notes ts) e
+line_notes (Close s) t ts e = ap (λ k. note_of k t.text ++ notes ts) e
 
-lines_held : (c : List ℕ) (ts : List Placed) → times c (notes (without_lines ts)) ≡ times c (notes ts)
-lines_held c [] = refl
-lines_held c (t ∷ ts) =
-    let e = line_held c (mark_of t) t (without_lines ts) refl in
-    let more = lines_held c ts in
-    omega (arith, e, more, times_append c (note_of (mark_of t) t.text) (notes ts))
+pub lines_notes : (ts : List Placed) → notes (without_lines ts) ≡ notes ts
+lines_notes [] = refl
+lines_notes (t ∷ ts) = line_notes (mark_of t) t (without_lines ts) refl ∙ ap (λ l. note_of (mark_of t) t.text ++ l) (lines_notes ts)
+
+statement_mixed : (tokens : List Placed) (s : Statement) → IsStatementOf tokens s → AreMixed (notes tokens) (owners_of s)
+statement_mixed tokens s is =
+    let owns = elems_own Other is.elems in
+    let mixed : AreMixed (notes (elems_tokens is.elems)) (owners_of (statement_with tokens (segment_of owns))) = segment_mixed owns (notes (elems_tokens is.elems)) (elems_spelled is.elems Other is.well) in
+    let same : notes (elems_tokens is.elems) ≡ notes tokens = sym (ap notes is.tokens_are) ∙ lines_notes tokens in
+    subst (λ l. AreMixed l (owners_of s)) same (subst (λ (x : Statement). AreMixed (notes (elems_tokens is.elems)) (owners_of x)) (sym is.is) mixed)
+
+pub comments_in_order : (tokens : List Placed) (s : Statement) → IsStatementOf tokens s → AreDealt (notes tokens) (owners_of s)
+comments_in_order tokens s is = dealt_of (notes tokens) (owners_of s) (statement_mixed tokens s is)
 
 pub comments_kept : (tokens : List Placed) (s : Statement) (c : List ℕ) → IsStatementOf tokens s → times c (comments_of s) ≡ times c (notes tokens)
-comments_kept tokens s c is =
-    let owns = elems_own Other is.elems in
-    let g = segment_of owns in
-    let e = segment_held c owns in
-    let all = elems_held c is.elems Other is.well in
-    let spread : times c (comments_of (statement_with tokens g)) ≡ in_segment c g =
-    omega (arith, times_append c g.before (items_comments (items_of g.nodes) ++ beside g.suffix), times_append c (items_comments (items_of g.nodes)) (beside g.suffix), items_are c g.nodes) in
-    let same : times c (comments_of s) ≡ times c (comments_of (statement_with tokens g)) = ap (λ (x : Statement). times c (comments_of x)) is.is in
-    let spelled : times c (notes (without_lines tokens)) ≡ times c (notes (elems_tokens is.elems)) = ap (λ ts. times c (notes ts)) is.tokens_are in
-    omega (arith, e, all, spread, same, spelled, lines_held c tokens)
+comments_kept tokens s c is = times_all c (owners_of s) (notes tokens) (statement_mixed tokens s is)

@@ -11,5 +11,6 @@ pub mod BlockLines
 pub mod KeptText
 pub mod Standing
 pub mod ChunkLaws
+pub mod Dealt
 pub mod KeptComments
 pub mod Examples

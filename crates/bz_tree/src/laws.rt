@@ -4,7 +4,7 @@ ghost use Rattle.std.specs.Prelude.{◌≡◌, ℕ, List};
 ghost use Rattle.bz_token.specs.Places.{Placed};
 ghost use Rattle.bz_tree.specs.Tree.{Statement};
 ghost use Rattle.bz_tree.specs.Statement.{IsStatementOf, class_of};
-ghost use Rattle.bz_tree.specs.Comments.{comments_of, notes, times};
+ghost use Rattle.bz_tree.specs.Comments.{owners_of, comments_of, notes, AreDealt, times};
 ghost use Rattle.bz_tree.specs.Chunk.{IsChunkOf};
 
 /// A list of tokens has one tree at most.
@@ -20,6 +20,12 @@ pub fn one_statement()
 /// The class of a statement is determined by its nodes.
 pub fn class_by_nodes()
     ensures { (first : ℕ) (bytes : List ℕ) (tokens : List Placed) (s : Statement) → IsChunkOf first bytes tokens s → s.class ≡ class_of s.nodes }
+{}
+
+/// The comments of the tokens, as they stand in the text, are dealt to the owners in the statement: none is lost, none is there
+/// twice, and each owner has its comments in their order.
+pub fn comments_in_order()
+    ensures { (tokens : List Placed) (s : Statement) → IsStatementOf tokens s → AreDealt (notes tokens) (owners_of s) }
 {}
 
 /// No comment of the tokens is lost, and none is in the statement twice: each text is as often among the comments of the one
