@@ -142,6 +142,10 @@ kept_of first bytes header last kept k =
     let whole : place + length last.text ≡ length k.before + length kept = omega (arith, e, size, length-append k.before k.front, length-append k.front last.text) in
     sym (ap (λ bs. take ((place + length last.text) - begin) (drop begin bs)) k.bytes_are ∙ middle k.before kept k.after begin (place + length last.text) b whole)
 
+-- the text between two tokens is one
+pub kept_same : (first : ℕ) (bytes : List ℕ) (header last : Placed) (kept other : List ℕ) → IsKeptText first bytes header last kept → IsKeptText first bytes header last other → kept ≡ other
+kept_same first bytes header last kept other k o = kept_of first bytes header last kept k ∙ sym (kept_of first bytes header last other o)
+
 some_same : (x y : Placed) → Some x ≡ Some y → x ≡ y
 some_same x y e = cc
 

@@ -13,4 +13,5 @@ pub mod Standing
 pub mod ChunkLaws
 pub mod Dealt
 pub mod KeptComments
+pub mod BlockComments
 pub mod Examples

@@ -101,11 +101,11 @@ blank_front first (p ∷ ps) depth before lines opened bs rest reading gap none 
     subst IsAsciiFront (sym reading.1.bytes_are) (front_of p.gap (p.text ++ reading.0) (gap_front (is_inside opened) p.gap reading.1.gap) (line_front p.kind p.text reading.0 line reading.1.token.whole))
 
 -- the last of these tokens
-abbrev or_else : Option Placed → Option Placed → Option Placed
+abbrev pub or_else : Option Placed → Option Placed → Option Placed
 or_else o None = o
 or_else o (Some u) = Some u
 
-last_or : (o : Option Placed) (xs : List Placed) → last_of o xs ≡ or_else o (last_of None xs)
+pub last_or : (o : Option Placed) (xs : List Placed) → last_of o xs ≡ or_else o (last_of None xs)
 last_or o [] = refl
 last_or o (t ∷ ts) = last_or (Some t) ts ∙ at_last (last_of None ts) ∙ ap (or_else o) (sym (last_or (Some t) ts))
   where
@@ -113,7 +113,7 @@ last_or o (t ∷ ts) = last_or (Some t) ts ∙ at_last (last_of None ts) ∙ ap 
     at_last None = refl
     at_last (Some u) = refl
 
-none_empty : (xs : List Placed) → last_of None xs ≡ None → xs ≡ []
+pub none_empty : (xs : List Placed) → last_of None xs ≡ None → xs ≡ []
 none_empty [] e = refl
 none_empty (t ∷ ts) e = absurd (some_last t (last_of None ts) (sym (last_or (Some t) ts) ∙ e))
   where
@@ -188,7 +188,7 @@ bare_empty (t ∷ ts) e =
     let rest : without_lines ts ≡ [] = ap (λ b. cond b (without_lines ts) (t ∷ without_lines ts)) (sym line) ∙ e in
     ap (λ b. cond b (bare_tokens ts) (t ∷ bare_tokens ts)) (line_aside t.kind t.text line) ∙ bare_empty ts rest
 
-later_last : (b : Bool) (t : Placed) (ts : List Placed) (header last : Placed) → first_of (bare_tokens ts) ≡ Some header → last_of None (cond b (without_lines ts) (t ∷ without_lines ts)) ≡ Some last → last_of None (without_lines ts) ≡ Some last
+pub later_last : (b : Bool) (t : Placed) (ts : List Placed) (header last : Placed) → first_of (bare_tokens ts) ≡ Some header → last_of None (cond b (without_lines ts) (t ∷ without_lines ts)) ≡ Some last → last_of None (without_lines ts) ≡ Some last
 later_last true t ts header last some is = is
 later_last false t ts header last some is = at_last (last_of None (without_lines ts)) refl (sym (last_or (Some t) (without_lines ts)) ∙ is)
   where

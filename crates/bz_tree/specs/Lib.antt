@@ -12,4 +12,5 @@ pub mod Blocks
 pub mod Chunk
 pub mod BlockSteps
 pub mod Comments
+pub mod BlockComments
 pub mod Machine

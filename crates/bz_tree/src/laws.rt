@@ -5,6 +5,9 @@ ghost use Rattle.bz_token.specs.Places.{Placed};
 ghost use Rattle.bz_tree.specs.Tree.{Statement};
 ghost use Rattle.bz_tree.specs.Statement.{IsStatementOf, class_of};
 ghost use Rattle.bz_tree.specs.Comments.{owners_of, comments_of, notes, AreDealt, times};
+ghost use Rattle.bz_token.specs.Reading.{AreTokensOf};
+ghost use Rattle.bz_tree.specs.Blocks.{IsBlockOf};
+ghost use Rattle.bz_tree.specs.BlockComments.{AreKept};
 ghost use Rattle.bz_tree.specs.Chunk.{IsChunkOf};
 
 /// A list of tokens has one tree at most.
@@ -32,4 +35,10 @@ pub fn comments_in_order()
 /// as of the other.
 pub fn comments_kept()
     ensures { (tokens : List Placed) (s : Statement) (text : List ℕ) → IsStatementOf tokens s → times text (comments_of s) ≡ times text (notes tokens) }
+{}
+
+/// No comment of a block is lost, and none is there twice: those above its first token are the statement's, in their order, and all
+/// others stand at their places in the text that is kept.
+pub fn block_comments_kept()
+    ensures { (first depth : ℕ) (bytes : List ℕ) (tokens : List Placed) (s : Statement) → AreTokensOf first depth bytes tokens → IsBlockOf first bytes tokens s → AreKept first bytes tokens s }
 {}
