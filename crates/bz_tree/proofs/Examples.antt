@@ -1,5 +1,7 @@
 -- Worked examples of the definitions.
-use Rattle.std.proofs.Common.{◌≡◌, ℕ, List, [], ◌∷◌, true, false, Some, None, refl, Bor}
+use Rattle.std.proofs.Common.{◌≡◌, ℕ, List, [], ◌∷◌, ◌++◌, Bool, true, false, Some, None, refl, sym, ap, Bor}
+use Rattle.std.specs.Str.{bytes_eq}
+use Rattle.std.proofs.lemmas.Bool.{false≢true}
 use Rattle.std.specs.Prelude.{codes}
 use Rattle.std.specs.declared.borrow.CowStr.TheVariants.{Borrowed, Owned}
 use Rattle.std.specs.declared.string.String.{String}
@@ -7,13 +9,16 @@ use Rattle.std.specs.declared.alloc.Global.{Global}
 use Rattle.bz_token.specs.declared.token.Kind.{Kind}
 use Rattle.bz_token.specs.declared.token.Kind.TheVariants.{Ident, Word, Sign, Line, Note}
 use Rattle.bz_token.specs.Places.{Placed}
-use Rattle.bz_tree.specs.declared.stmt.Class.TheVariants.{Comment}
+use Rattle.bz_tree.specs.declared.stmt.Class.TheVariants.{Comment, Other}
+use Rattle.bz_tree.specs.declared.stmt.GroupKind.TheVariants.{Call}
+use Rattle.bz_tree.specs.Tree.{group, no_items, item, no_segs, seg, Statement}
 use Rattle.bz_tree.specs.Borrowed.{owned_in}
 use Rattle.bz_tree.specs.Brackets.{leaf_of}
 use Rattle.bz_tree.specs.Owners.{node, comma, note, inside, no_empty}
 use Rattle.bz_tree.specs.Statement.{class_of, start_of}
 use Rattle.bz_tree.specs.Blocks.{block_indent, is_block}
 use Rattle.bz_tree.specs.Chunk.{indent_fault}
+use Rattle.bz_tree.specs.Comments.{Lists, owners_of, AreDealt}
 
 abbrev x : Placed
 x = record { kind = Ident; text = codes "x"; line = 1; col = 1; fresh = true }
@@ -39,6 +44,27 @@ before_comma = refl
 -- above a node: before its segment
 above_node : inside (note 1 a ∷ node 2 (leaf_of x) ∷ []) ≡ record { segs = record { before = a ∷ []; nodes = leaf_of x ∷ []; suffix = None } ∷ []; trailing = false; end = [] }
 above_node = refl
+
+-- `# b` above `(x # a`, and `# b` before the closing bracket: the comments above and behind the statement, those above and behind the
+-- segment, those at the bracket's end
+abbrev in_brackets : Statement
+in_brackets = record { before = b ∷ []; nodes = group Call (seg [] (item (leaf_of x) no_items) (Some a) no_segs) false (b ∷ []) ∷ []; suffix = None; class = Other; start = 2; end = 4 }
+
+five_owners : owners_of in_brackets ≡ (b ∷ []) ∷ [] ∷ [] ∷ (a ∷ []) ∷ (b ∷ []) ∷ []
+five_owners = refl
+
+-- `# a` and `# b` of one owner are not dealt to it the other way round
+abbrev begins_with_b : Lists → Bool
+begins_with_b ((text ∷ texts) ∷ lists) = bytes_eq text b
+begins_with_b _ = false
+
+not_first : (front back : Lists) (rest : List (List ℕ)) → (b ∷ a ∷ []) ∷ [] ≡ front ++ (a ∷ rest) ∷ back → ⊥
+not_first [] back rest e = absurd (false≢true (sym (ap begins_with_b e)))
+not_first (list ∷ []) back rest e = cc
+not_first (list ∷ other ∷ front) back rest e = cc
+
+not_turned : AreDealt (a ∷ b ∷ []) ((b ∷ a ∷ []) ∷ []) → ⊥
+not_turned d = not_first d.1.front d.1.back d.1.rest d.1.lists_are
 
 -- no segment is empty
 two_commas : no_empty false (node 1 (leaf_of x) ∷ comma (at Sign (codes ",") 1 2) ∷ comma (at Sign (codes ",") 1 3) ∷ []) ≡ false
