@@ -121,6 +121,7 @@ record FromHeader (tokens : List Placed) (header last : Placed) : Type 0 where
   front : List Placed
   more : List Placed
   tokens_are : tokens ≡ front ++ (header ∷ more)
+  asides : bare_tokens front ≡ []
   comments : above tokens ≡ notes front
   is_last : last_of None (without_lines (header ∷ more)) ≡ Some last
 
@@ -136,6 +137,7 @@ from_header (t ∷ ts) header last some is = at_kind (is_aside t.kind) refl (λ 
           front = t ∷ h.front;
           more = h.more;
           tokens_are = ap (λ l. t ∷ l) h.tokens_are;
+          asides = ap (λ b. cond b (bare_tokens h.front) (t ∷ bare_tokens h.front)) e ∙ h.asides;
           comments = above_aside t.kind t.text (above ts) e ∙ ap (λ l. note_of (mark_of t) t.text ++ l) h.comments;
           is_last = h.is_last;
         }
@@ -145,6 +147,7 @@ from_header (t ∷ ts) header last some is = at_kind (is_aside t.kind) refl (λ 
           front = [];
           more = ts;
           tokens_are = ap (λ x. x ∷ ts) same;
+          asides = refl;
           comments = above_counted t.kind t.text (above ts) e;
           is_last = ap (λ x. last_of None (without_lines (x ∷ ts))) (sym same) ∙ is;
         }
@@ -208,6 +211,10 @@ at_last first front last before kept w =
       ends = subst (λ b. IsAt first b last) (append_assoc before s.front l.0) l.4;
     }
 
+first_in : (front : List Placed) (last : Placed) (behind : List Placed) → first_of ((front ++ last ∷ []) ++ behind) ≡ first_of (front ++ last ∷ [])
+first_in [] last behind = refl
+first_in (t ∷ front) last behind = refl
+
 pub block_comments_kept : (first depth : ℕ) (bytes : List ℕ) (tokens : List Placed) (s : Statement) → AreTokensOf first depth bytes tokens → IsBlockOf first bytes tokens s → AreKept first bytes tokens s
 block_comments_kept first depth bytes tokens s are a =
     let w = tokens_written first are.0 depth [] [] [] bytes are.1 are.2 in
@@ -225,6 +232,8 @@ block_comments_kept first depth bytes tokens s are a =
       inside = l.front ++ a.last ∷ [];
       newlines = l.newlines;
       tokens_are = h.tokens_are ∙ ap (λ x. h.front ++ x) l.tokens_are;
+      only_aside = h.asides;
+      begins = sym (first_in l.front a.last l.newlines) ∙ sym (ap first_of l.tokens_are) ∙ sym a.is_header;
       only_newlines = l.only;
       comments_are = ap (λ (x : Statement). x.before) a.is ∙ h.comments;
       no_suffix = ap (λ (x : Statement). x.suffix) a.is;
