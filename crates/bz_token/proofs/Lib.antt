@@ -12,6 +12,9 @@ pub mod Innermost
 pub mod Fitting
 pub mod Unique
 pub mod OneFault
+pub mod SomeToken
+pub mod SomeReading
+pub mod OneReading
 pub mod Stops
 pub mod Joins
 pub mod FaultJoins

@@ -4,6 +4,7 @@ pub mod Brackets
 pub mod Reading
 pub mod Faults
 pub mod Ends
+pub mod UpToFault
 pub mod FreshStart
 pub mod Scans
 pub mod Groups

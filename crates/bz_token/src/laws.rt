@@ -1,6 +1,6 @@
 //! Laws on tokens: what a text is read as is determined.
 
-ghost use Rattle.std.specs.Prelude.{◌≡◌, ◌↔◌, ◌==◌, ◌∷◌, ◌++◌, ◌<◌, length, [], ℕ, List, true, false, codes};
+ghost use Rattle.std.specs.Prelude.{◌≡◌, ◌↔◌, ◌==◌, ◌∷◌, ◌++◌, ◌<◌, ◌⊎◌, length, [], ℕ, List, Option, Some, None, true, false, codes};
 ghost use Rattle.std.specs.List.{list_any, concat};
 ghost use Rattle.bz_token.specs.Ends.{stops, ends, is_note};
 ghost use Rattle.bz_token.specs.Lexical.{is_text, IsToken};
@@ -12,6 +12,7 @@ ghost use Rattle.bz_token.specs.Chunks.{chunks};
 ghost use Rattle.bz_token.specs.Cuts.{EndsBefore};
 ghost use Rattle.bz_token.specs.Reading.{AreTokensOf};
 ghost use Rattle.bz_token.specs.Faults.{IsFault};
+ghost use Rattle.bz_token.specs.UpToFault.{IsReadAs};
 ghost use Rattle.bz_token.specs.declared.fault.LexFault.{LexFault};
 ghost use Rattle.bz_token.specs.declared.fault.LexFault.TheVariants.{OutOfMemory};
 
@@ -25,9 +26,18 @@ pub fn one_first_fault()
     ensures { (first depth : ℕ) (bytes : List ℕ) (f g : LexFault) → (f ≡ OutOfMemory → ⊥) → (g ≡ OutOfMemory → ⊥) → IsFault first depth bytes f → IsFault first depth bytes g → f ≡ g }
 {}
 
-/// A text that has tokens has no fault of its own.
+/// A text has tokens or a first fault of its own, and not both.
 pub fn tokens_or_a_fault()
-    ensures { (first depth : ℕ) (bytes : List ℕ) (ts : List Placed) (f : LexFault) → AreTokensOf first depth bytes ts → IsFault first depth bytes f → f ≡ OutOfMemory }
+    ensures some { (first depth : ℕ) (bytes : List ℕ) → ((ts : List Placed) × AreTokensOf first depth bytes ts) ⊎ ((f : LexFault) × (f ≡ OutOfMemory → ⊥) × IsFault first depth bytes f) }
+    ensures not_both { (first depth : ℕ) (bytes : List ℕ) (ts : List Placed) (f : LexFault) → AreTokensOf first depth bytes ts → IsFault first depth bytes f → f ≡ OutOfMemory }
+{}
+
+/// A text is read in one way: as its tokens up to its first fault, and that fault, if it has one.
+pub fn one_reading_up_to_a_fault()
+    ensures some { (first depth : ℕ) (bytes : List ℕ) → (ts : List Placed) × (fault : Option LexFault) × IsReadAs first depth bytes ts fault }
+    ensures only { (first depth : ℕ) (bytes : List ℕ) (ts us : List Placed) (f g : Option LexFault) → IsReadAs first depth bytes ts f → IsReadAs first depth bytes us g → (ts ≡ us) × (f ≡ g) }
+    ensures whole { (first depth : ℕ) (bytes : List ℕ) (ts : List Placed) → (AreTokensOf first depth bytes ts ↔ IsReadAs first depth bytes ts None) }
+    ensures fault { (first depth : ℕ) (bytes : List ℕ) (f : LexFault) → (f ≡ OutOfMemory → ⊥) → (IsFault first depth bytes f ↔ ((ts : List Placed) × IsReadAs first depth bytes ts (Some f))) }
 {}
 
 /// What follows a text tells whether it is the token at its place.
