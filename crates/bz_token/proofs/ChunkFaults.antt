@@ -18,9 +18,10 @@ use Rattle.bz_token.specs.Cuts.{EndsBefore, ends_in_newline}
 use Rattle.bz_token.specs.Places.{Placed, line_at}
 use Rattle.bz_token.specs.Lexical.{is_blank, is_newline, begins, opening, is_string}
 use Rattle.bz_token.specs.Brackets.{is_inside, is_line, is_opening_bracket, is_closing_bracket, closes_innermost, fits, open_behind}
-use Rattle.bz_token.specs.Reading.{is_white, continues, begins_gap, Piece, IsReading, open_after, bytes_of}
+use Rattle.bz_token.specs.Reading.{is_white, continues, begins_gap, Piece, IsReading, open_after, bytes_of, tokens_of}
 use Rattle.bz_token.specs.Faults.{IsOpenText, IsBadNumber, IsBadBackslash, IsBadCharacter, IsBadBracket, IsTooDeep, IsFaultAt, IsOpenBracket, IsFault}
-use Rattle.bz_token.specs.FreshStart.{ends_in_line, AreTokensOfChunks}
+use Rattle.bz_token.specs.UpToFault.{read_before, IsReadAs}
+use Rattle.bz_token.specs.FreshStart.{ends_in_line}
 use Rattle.bz_token.proofs.Classes.{can_start, digit_class}
 use Rattle.bz_token.proofs.CutMachine.{next_inside, run_append}
 use Rattle.bz_token.proofs.Ends.{string_opens}
@@ -52,7 +53,7 @@ newline_there (b ∷ c ∷ cs) h = either (b == 10) (has_newline (c ∷ cs)) (ne
     either false y h = h
 
 -- the end of a text that a newline ends holds the newline
-last_newline : (xs : List ℕ) (y : ℕ) (ys : List ℕ) → ends_in_newline (xs ++ y ∷ ys) ≡ true → has_newline (y ∷ ys) ≡ true
+pub last_newline : (xs : List ℕ) (y : ℕ) (ys : List ℕ) → ends_in_newline (xs ++ y ∷ ys) ≡ true → has_newline (y ∷ ys) ≡ true
 last_newline [] y ys h = newline_there (y ∷ ys) h
 last_newline (x ∷ []) y ys h = newline_there (y ∷ ys) h
 last_newline (x ∷ z ∷ xs) y ys h = last_newline (z ∷ xs) y ys h
@@ -74,19 +75,22 @@ reading_more depth opened (p ∷ ps) rest bytes r reading h =
       reading_more depth (open_behind opened p.text) ps rest after r reading.2 h,
     )
 
--- a fault at a place before a newline stays the first, whatever follows
-fault_more : (first depth : ℕ) (c r : List ℕ) (IsBad : List ℕ → List ℕ → Type 0) (line col : ℕ) (f : IsFaultAt first depth c IsBad line col) → has_newline f.place ≡ true → IsBad (open_after [] f.pieces) (f.place ++ r) → IsFaultAt first depth (c ++ r) IsBad line col
-fault_more first depth c r IsBad line col f h bad = record {
-  pieces = f.pieces;
-  gap = f.gap;
-  place = f.place ++ r;
-  reading = subst (λ x. IsReading depth [] f.pieces x (c ++ r)) (append_assoc f.gap f.place r) (reading_more depth [] f.pieces (f.gap ++ f.place) c r f.reading (any_right is_newline f.gap f.place h));
-  is_gap = f.is_gap;
-  behind_gap = ap₂ (λ x y. x || y) (begins_more (is_white (is_inside (open_after [] f.pieces))) f.place r h) (continues_more f.place r h) ∙ f.behind_gap;
-  bad = bad;
-  line_is = f.line_is;
-  col_is = f.col_is;
-}
+-- a fault at a place before a newline stays the first, behind the same pieces, whatever follows
+fault_more : (first depth : ℕ) (c r : List ℕ) (IsBad : List ℕ → List ℕ → Type 0) (line col : ℕ) (f : IsFaultAt first depth c IsBad line col) → has_newline f.place ≡ true → IsBad (open_after [] f.pieces) (f.place ++ r) → (g : IsFaultAt first depth (c ++ r) IsBad line col) × (g.pieces ≡ f.pieces)
+fault_more first depth c r IsBad line col f h bad = (
+  record {
+    pieces = f.pieces;
+    gap = f.gap;
+    place = f.place ++ r;
+    reading = subst (λ x. IsReading depth [] f.pieces x (c ++ r)) (append_assoc f.gap f.place r) (reading_more depth [] f.pieces (f.gap ++ f.place) c r f.reading (any_right is_newline f.gap f.place h));
+    is_gap = f.is_gap;
+    behind_gap = ap₂ (λ x y. x || y) (begins_more (is_white (is_inside (open_after [] f.pieces))) f.place r h) (continues_more f.place r h) ∙ f.behind_gap;
+    bad = bad;
+    line_is = f.line_is;
+    col_is = f.col_is;
+  },
+  refl,
+)
 
 begun : (p : ℕ → Bool) (place : List ℕ) → begins p place ≡ true → 0 < length place
 begun p [] h = absurd (false≢true h)
@@ -206,9 +210,9 @@ none_unclosed first depth c line col f ended =
     closed [] r line = refl
     closed (p ∷ ps) r line = lines_close depth [] p ps f.rest c r line
 
--- the first fault of logical lines is that of a text that begins with them
-fault_at_front : (first depth : ℕ) (c r : List ℕ) (f : LexFault) → is_ended (run start c).inside ≡ true → ends_in_newline c ≡ true → IsFault first depth c f → IsFault first depth (c ++ r) f
-fault_at_front first depth c r faults.OutOfMemory ended ends is = is
+-- the first fault of logical lines is that of a text that begins with them, behind the same pieces
+fault_at_front : (first depth : ℕ) (c r : List ℕ) (f : LexFault) → is_ended (run start c).inside ≡ true → ends_in_newline c ≡ true → (is : IsFault first depth c f) → (more : IsFault first depth (c ++ r) f) × (read_before first depth (c ++ r) f more ≡ read_before first depth c f is)
+fault_at_front first depth c r faults.OutOfMemory ended ends is = (is, refl)
 fault_at_front first depth c r (faults.BadCharacter line col) ended ends is =
     let h = place_newline first depth c (λ opened. IsBadCharacter) line col is ends is.bad.some in
     fault_more first depth c r (λ opened. IsBadCharacter) line col is h (character_more is.place r h is.bad)
@@ -234,23 +238,16 @@ fault_at_front first depth c r (faults.BadBackslash line col) ended ends is =
     let h = place_newline first depth c (λ opened. IsBadBackslash) line col is ends (begun (λ b. b == 92) is.place is.bad) in
     fault_more first depth c r (λ opened. IsBadBackslash) line col is h (begins_more (λ b. b == 92) is.place r h ∙ is.bad)
 
--- the first fault of a chunk is that of the chunk and what follows it
-pub chunk_fault : (first depth : ℕ) (c rest : List ℕ) (f : LexFault) → EndsBefore c rest → 0 < length c → IsFault first depth c f → IsFault first depth (c ++ rest) f
-chunk_fault first depth c [] f cut some is = subst (λ x. IsFault first depth x f) (sym (append-nil c)) is
-chunk_fault first depth [] (b ∷ rest) f cut some is = absurd (omega arith)
-chunk_fault first depth (x ∷ xs) (b ∷ rest) f cut some is =
+-- what a chunk is read as that has a fault is what the chunk and what follows it are read as
+pub chunk_read : (first depth : ℕ) (c rest : List ℕ) (us : List Placed) (f : LexFault) → EndsBefore c rest → 0 < length c → IsReadAs first depth c us (Some f) → IsReadAs first depth (c ++ rest) us (Some f)
+chunk_read first depth c [] us f cut some r = subst (λ x. IsReadAs first depth x us (Some f)) (sym (append-nil c)) r
+chunk_read first depth [] (b ∷ rest) us f cut some r = absurd (omega arith)
+chunk_read first depth (x ∷ xs) (b ∷ rest) us f cut some r =
     let ended = chunk_ends_line (x ∷ xs) b rest cut some in
-    fault_at_front first depth (x ∷ xs) (b ∷ rest) f ended (ended_newline x xs start ended) is
+    let more = fault_at_front first depth (x ∷ xs) (b ∷ rest) f ended (ended_newline x xs start ended) r.1 in
+    (r.0, more.0, r.2 ∙ ap (tokens_of first [] []) (sym more.1))
 
--- behind chunks with tokens the first fault of a chunk is the first of the file
-pub first_fault : (first depth : ℕ) (cs ds : List (List ℕ)) (d bytes : List ℕ) (ts : List Placed) (f : LexFault) → chunks bytes ≡ cs ++ d ∷ ds → AreTokensOfChunks first depth cs ts → IsFault (line_at first (concat cs)) depth d f → IsFault first depth bytes f
-first_fault first depth cs ds d bytes ts f e t is =
-    let l = lines_of_chunks first depth cs ds d bytes ts e t in
-    let cut = first_cut l.0 d ds l.2 in
-    let here : IsFault (line_at first (concat cs)) depth l.0 f = subst (λ x. IsFault (line_at first (concat cs)) depth x f) (sym cut.bytes_are) (chunk_fault (line_at first (concat cs)) depth d cut.rest f cut.first_is cut.some is) in
-    subst (λ x. IsFault first depth x f) (sym l.1) (fault_behind_lines first depth (concat cs) l.0 ts f l.3 here)
-
--- and the only one
-pub only_fault : (first depth : ℕ) (cs ds : List (List ℕ)) (d bytes : List ℕ) (ts : List Placed) (f g : LexFault) → chunks bytes ≡ cs ++ d ∷ ds → AreTokensOfChunks first depth cs ts → (f ≡ faults.OutOfMemory → ⊥) → (g ≡ faults.OutOfMemory → ⊥) → IsFault (line_at first (concat cs)) depth d f
-    → IsFault first depth bytes g → g ≡ f
-only_fault first depth cs ds d bytes ts f g e t some some2 is other = one_fault first depth bytes g f some2 some other (first_fault first depth cs ds d bytes ts f e t is)
+-- a chunk that something follows ends with a newline
+pub chunk_newline : (c : List ℕ) (b : ℕ) (rest : List ℕ) → EndsBefore c (b ∷ rest) → 0 < length c → ends_in_newline c ≡ true
+chunk_newline [] b rest cut some = absurd (omega arith)
+chunk_newline (x ∷ xs) b rest cut some = ended_newline x xs start (chunk_ends_line (x ∷ xs) b rest cut some)

@@ -71,7 +71,7 @@ pub any_left : (p : ℕ → Bool) (xs ys : List ℕ) → list_any p xs ≡ true 
 any_left p xs ys h = list_any-append p xs ys ∙ rw h refl
 
 -- lines that are not empty hold a newline
-lines_newline : (depth : ℕ) (opened : List ℕ) (p : Piece) (ps : List Piece) (bytes : List ℕ) → IsReading depth opened (p ∷ ps) [] bytes → ends_in_line (p ∷ ps) ≡ true → list_any is_newline (p.text ++ bytes_of ps) ≡ true
+pub lines_newline : (depth : ℕ) (opened : List ℕ) (p : Piece) (ps : List Piece) (bytes : List ℕ) → IsReading depth opened (p ∷ ps) [] bytes → ends_in_line (p ∷ ps) ≡ true → list_any is_newline (p.text ++ bytes_of ps) ≡ true
 lines_newline depth opened p [] bytes r line = any_left is_newline p.text [] (ap (list_any is_newline) (line_text p.kind p.text line r.1.token.whole))
 lines_newline depth opened p (q ∷ qs) bytes r line =
     any_right is_newline p.text (bytes_of (q ∷ qs)) (any_right is_newline q.gap (q.text ++ bytes_of qs) (lines_newline depth (open_behind opened p.text) q qs r.0 r.2 line))
@@ -160,7 +160,7 @@ pub column_behind : (depth : ℕ) (ps : List Piece) (bytes : List ℕ) → IsRea
 column_behind depth [] bytes r line = refl
 column_behind depth (p ∷ ps) bytes r line = lines_column depth [] 1 (p ∷ ps) bytes r line (omega arith)
 
-some_newlines : (xs : List ℕ) → list_any is_newline xs ≡ true → 0 < newlines xs
+pub some_newlines : (xs : List ℕ) → list_any is_newline xs ≡ true → 0 < newlines xs
 some_newlines [] h = absurd (false≢true h)
 some_newlines (x ∷ xs) h = elim (cases_Bool (x == 10)) [
   | inl hit ↦ let one : newlines (x ∷ []) ≡ 1 = rw hit refl in omega (arith, newlines-append (x ∷ []) xs, one)

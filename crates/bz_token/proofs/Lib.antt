@@ -23,6 +23,9 @@ pub mod Agree
 pub mod FreshChunks
 pub mod OpenStrings
 pub mod ChunkFaults
+pub mod FreshReading
+pub mod OnLines
+pub mod FreshStart
 pub mod CutMunch
 pub mod CutSeen
 pub mod CutStrings

@@ -7,7 +7,7 @@ ghost use Rattle.bz_token.specs.Lexical.{is_text, IsToken};
 ghost use Rattle.bz_token.specs.declared.token.Kind.{Kind};
 ghost use Rattle.bz_token.specs.declared.token.Kind.TheVariants.{Sign};
 ghost use Rattle.bz_token.specs.Places.{Placed, line_at};
-ghost use Rattle.bz_token.specs.FreshStart.{AreLinesOf, AreTokensOfChunks};
+ghost use Rattle.bz_token.specs.FreshStart.{AreLinesOf, AreTokensOfChunks, tokens_on_lines, fault_on_lines};
 ghost use Rattle.bz_token.specs.Chunks.{chunks};
 ghost use Rattle.bz_token.specs.Cuts.{EndsBefore};
 ghost use Rattle.bz_token.specs.Reading.{AreTokensOf};
@@ -56,29 +56,32 @@ pub fn bytes_that_end_tokens()
     ensures sign { (text : List ℕ) (b : ℕ) → is_text Sign text ≡ true → list_any (λ c. b == c) (codes "/*<>=") ≡ false → stops Sign text b ≡ true }
 {}
 
-/// Behind a text that a newline outside brackets ends, reading starts afresh: what follows has the tokens, or the first
-/// fault, that it has as a text of its own with its first line.
+/// Behind a text that a newline outside brackets ends, reading starts afresh: what follows is read as it is as a text of
+/// its own with its first line.
 pub fn reading_starts_afresh()
-    ensures tokens { (first depth : ℕ) (a b : List ℕ) (ts us : List Placed) → AreLinesOf first depth a ts → AreTokensOf (line_at first a) depth b us → AreTokensOf first depth (a ++ b) (ts ++ us) }
-    ensures only { (first depth : ℕ) (a b : List ℕ) (ts vs : List Placed) → AreLinesOf first depth a ts → AreTokensOf first depth (a ++ b) vs → (us : List Placed) × AreTokensOf (line_at first a) depth b us × (vs ≡ ts ++ us) }
-    ensures fault { (first depth : ℕ) (a b : List ℕ) (ts : List Placed) (f : LexFault) → AreLinesOf first depth a ts → (IsFault first depth (a ++ b) f ↔ IsFault (line_at first a) depth b f) }
+    ensures joined { (first depth : ℕ) (a b : List ℕ) (ts us : List Placed) (fault : Option LexFault) → AreLinesOf first depth a ts → IsReadAs (line_at first a) depth b us fault → IsReadAs first depth (a ++ b) (ts ++ us) fault }
+    ensures only { (first depth : ℕ) (a b : List ℕ) (ts vs : List Placed) (fault : Option LexFault) → AreLinesOf first depth a ts → IsReadAs first depth (a ++ b) vs fault → (us : List Placed) × IsReadAs (line_at first a) depth b us fault × (vs ≡ ts ++ us) }
 {}
 
-/// Chunks may be read one by one: where the chunks before have tokens, the tokens and the first fault of a file behind
-/// them are those of what is left of it, with its first line; and a chunk that something follows ends with its newline.
+/// Chunks may be read one by one: where the chunks before have tokens, what is left of a file is read as it is as a text of
+/// its own with its first line; and a chunk that something follows ends with its newline.
 pub fn chunks_start_afresh()
     ensures lines { (first depth : ℕ) (c : List ℕ) (b : ℕ) (rest : List ℕ) (ts : List Placed) → EndsBefore c (b ∷ rest) → 0 < length c → AreTokensOf first depth c ts → AreLinesOf first depth c ts }
     ensures whole { (first depth : ℕ) (cs : List (List ℕ)) (bytes : List ℕ) (ts : List Placed) → chunks bytes ≡ cs → AreTokensOfChunks first depth cs ts → AreTokensOf first depth bytes ts }
-    ensures tokens { (first depth : ℕ) (cs ds : List (List ℕ)) (d bytes rest : List ℕ) (ts vs : List Placed) → chunks bytes ≡ cs ++ d ∷ ds → AreTokensOfChunks first depth cs ts → bytes ≡ concat cs ++ rest
-        → AreTokensOf first depth bytes vs → (us : List Placed) × AreTokensOf (line_at first (concat cs)) depth rest us × (vs ≡ ts ++ us) }
-    ensures fault { (first depth : ℕ) (cs ds : List (List ℕ)) (d bytes rest : List ℕ) (ts : List Placed) (f : LexFault) → chunks bytes ≡ cs ++ d ∷ ds → AreTokensOfChunks first depth cs ts → bytes ≡ concat cs ++ rest
-        → (IsFault first depth bytes f ↔ IsFault (line_at first (concat cs)) depth rest f) }
+    ensures joined { (first depth : ℕ) (cs ds : List (List ℕ)) (d bytes rest : List ℕ) (ts us : List Placed) (fault : Option LexFault) → chunks bytes ≡ cs ++ d ∷ ds → AreTokensOfChunks first depth cs ts → bytes ≡ concat cs ++ rest
+        → IsReadAs (line_at first (concat cs)) depth rest us fault → IsReadAs first depth bytes (ts ++ us) fault }
+    ensures only { (first depth : ℕ) (cs ds : List (List ℕ)) (d bytes rest : List ℕ) (ts vs : List Placed) (fault : Option LexFault) → chunks bytes ≡ cs ++ d ∷ ds → AreTokensOfChunks first depth cs ts → bytes ≡ concat cs ++ rest
+        → IsReadAs first depth bytes vs fault → (us : List Placed) × IsReadAs (line_at first (concat cs)) depth rest us fault × (vs ≡ ts ++ us) }
 {}
 
-/// A fault is told where a chunk is read alone: where the chunks before have tokens, the first fault of a chunk, read as a
-/// text of its own with its first line, is the first fault of the file, and the file has no other.
-pub fn chunks_tell_their_faults()
-    ensures first { (first depth : ℕ) (cs ds : List (List ℕ)) (d bytes : List ℕ) (ts : List Placed) (f : LexFault) → chunks bytes ≡ cs ++ d ∷ ds → AreTokensOfChunks first depth cs ts → IsFault (line_at first (concat cs)) depth d f → IsFault first depth bytes f }
-    ensures only { (first depth : ℕ) (cs ds : List (List ℕ)) (d bytes : List ℕ) (ts : List Placed) (f g : LexFault) → chunks bytes ≡ cs ++ d ∷ ds → AreTokensOfChunks first depth cs ts → (f ≡ OutOfMemory → ⊥) → (g ≡ OutOfMemory → ⊥)
-        → IsFault (line_at first (concat cs)) depth d f → IsFault first depth bytes g → g ≡ f }
+/// Fresh start: where the chunks before have tokens, what a chunk is read as, by itself with its first line, is exactly what
+/// the file is read as on the chunk's lines. A chunk's fault is the file's, behind the tokens of the chunks before and the
+/// chunk's own; the tokens of a chunk without a fault stand in the file behind those of the chunks before.
+pub fn fresh_start()
+    ensures on_its_lines { (first depth : ℕ) (cs ds : List (List ℕ)) (d bytes : List ℕ) (ts us vs : List Placed) (f g : Option LexFault) → chunks bytes ≡ cs ++ d ∷ ds → AreTokensOfChunks first depth cs ts → IsReadAs first depth bytes vs g
+        → (IsReadAs (line_at first (concat cs)) depth d us f ↔ ((us ≡ tokens_on_lines (line_at first (concat cs)) d vs) × (f ≡ fault_on_lines (line_at first (concat cs)) d g))) }
+    ensures fault { (first depth : ℕ) (cs ds : List (List ℕ)) (d bytes : List ℕ) (ts us : List Placed) (f : LexFault) → chunks bytes ≡ cs ++ d ∷ ds → AreTokensOfChunks first depth cs ts
+        → IsReadAs (line_at first (concat cs)) depth d us (Some f) → IsReadAs first depth bytes (ts ++ us) (Some f) }
+    ensures tokens { (first depth : ℕ) (cs ds : List (List ℕ)) (d bytes : List ℕ) (ts us vs : List Placed) (g : Option LexFault) → chunks bytes ≡ cs ++ d ∷ ds → AreTokensOfChunks first depth cs ts
+        → IsReadAs (line_at first (concat cs)) depth d us None → IsReadAs first depth bytes vs g → (ws : List Placed) × (vs ≡ ts ++ (us ++ ws)) }
 {}

@@ -1,12 +1,8 @@
-use Rattle.bz_token.proofs.Joins.{tokens_behind_lines, tokens_split}
-use Rattle.bz_token.proofs.FaultJoins.{fault_behind_lines, fault_of_the_rest}
+use Rattle.bz_token.proofs.FreshReading.{read_behind_lines, read_split}
 use Rattle.bz_token.proofs.laws.reading_starts_afresh.Goals as goal
 
-pub returns-clause-tokens : goal.returns-clause-tokens
-returns-clause-tokens c = tokens_behind_lines
+pub returns-clause-joined : goal.returns-clause-joined
+returns-clause-joined c = read_behind_lines
 
 pub returns-clause-only : goal.returns-clause-only
-returns-clause-only c = tokens_split
-
-pub returns-clause-fault : goal.returns-clause-fault
-returns-clause-fault c = λ first depth a b ts f x. (fault_of_the_rest first depth a b ts f x, fault_behind_lines first depth a b ts f x)
+returns-clause-only c = read_split
