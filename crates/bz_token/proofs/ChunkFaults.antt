@@ -1,7 +1,6 @@
 -- The first fault of a chunk alone is that of the chunk and what follows it.
 use Rattle.std.proofs.Common.{◌≡◌, ℕ, ◌<◌, ◌==◌, ◌&&◌, ◌||◌, List, [], ◌∷◌, ◌++◌, length, Bool, true, false, not, refl, sym, ap, ap₂, subst, ◌∙◌, arith, inl, inr, append_assoc, append-nil}
 use Rattle.std.specs.Prelude.{Option, Some, None, is_some}
-use Rattle.std.specs.List.{concat}
 use Rattle.std.specs.Char.{is_ascii_digit}
 use Rattle.std.proofs.lemmas.Bool.{cases_Bool, false≢true}
 use Rattle.bz_token.specs.declared.fault.LexFault.{LexFault}
@@ -13,9 +12,8 @@ use Rattle.bz_token.specs.declared.cutter.scan.LineKind.{LineKind}
 use Rattle.bz_token.specs.declared.cutter.scan.LineKind.TheVariants.{Blank}
 use Rattle.bz_token.specs.declared.cutter.scan.Inside.TheVariants.{Plain}
 use Rattle.bz_token.specs.CutSteps.{is_ended, outside, next, start, run}
-use Rattle.bz_token.specs.Chunks.{chunks}
 use Rattle.bz_token.specs.Cuts.{EndsBefore, ends_in_newline}
-use Rattle.bz_token.specs.Places.{Placed, line_at}
+use Rattle.bz_token.specs.Places.{Placed}
 use Rattle.bz_token.specs.Lexical.{is_blank, is_newline, begins, opening, is_string}
 use Rattle.bz_token.specs.Brackets.{is_inside, is_line, is_opening_bracket, is_closing_bracket, closes_innermost, fits, open_behind}
 use Rattle.bz_token.specs.Reading.{is_white, continues, begins_gap, Piece, IsReading, open_after, bytes_of, tokens_of}
@@ -28,10 +26,8 @@ use Rattle.bz_token.proofs.Ends.{string_opens}
 use Rattle.bz_token.proofs.Openings.{no_opening, none_some}
 use Rattle.bz_token.proofs.Progress.{reading_bytes, open_lengths}
 use Rattle.bz_token.proofs.Joins.{token_more, any_right, line_text}
-use Rattle.bz_token.proofs.OneFault.{one_fault}
-use Rattle.bz_token.proofs.FaultJoins.{fault_behind_lines}
 use Rattle.bz_token.proofs.Agree.{Ready, ready_plain, ready_first, gap_run, token_run, reading_run, stands}
-use Rattle.bz_token.proofs.FreshChunks.{chunk_ends_line, first_cut, lines_of_chunks}
+use Rattle.bz_token.proofs.FreshChunks.{chunk_ends_line}
 use Rattle.bz_token.proofs.FaultFronts.{has_newline, begins_more, continues_more, opening_same_more, none_more}
 use Rattle.bz_token.proofs.OpenStrings.{string_within}
 

@@ -8,9 +8,7 @@ use Rattle.bz_token.specs.Reading.{is_gap, begins_gap, Piece, IsReading, open_af
 use Rattle.bz_token.specs.Faults.{IsOpenText, IsBadNumber, IsBadBackslash, IsBadCharacter, IsBadBracket, IsTooDeep, IsFaultAt, IsOpenBracket, IsFault}
 use Rattle.bz_token.specs.FreshStart.{ends_in_line, AreLinesOf}
 use Rattle.bz_token.proofs.Progress.{newlines, newlines-append, column_from-append, reading_bytes, open_lengths}
-use Rattle.bz_token.proofs.Unique.{gap_stuck, place_stuck}
-use Rattle.bz_token.proofs.OneFault.{Sort, open_text, bad_number, bad_backslash, bad_bracket, too_deep, bad_character, IsBadSort, open_text_sort, number_sort, backslash_sort, bracket_sort, deep_sort, character_sort}
-use Rattle.bz_token.proofs.Joins.{join_reading, split_reading, open_after-append, bytes_of-append, joined_tokens, column_behind}
+use Rattle.bz_token.proofs.Joins.{join_reading, open_after-append, bytes_of-append, joined_tokens, column_behind}
 
 -- places behind lines
 line_joined : (first depth : ℕ) (ps qs : List Piece) (a gap : List ℕ) → IsReading depth [] ps [] a → line_at (line_at first a) (bytes_of qs ++ gap) ≡ line_at first (bytes_of (ps ++ qs) ++ gap)
@@ -39,26 +37,6 @@ fault_joined first depth a b ts IsBad line col x f =
       bad = subst (λ o. IsBad o f.place) opens f.bad;
       line_is = f.line_is ∙ line_joined first depth ps qs a f.gap x.1;
       col_is = f.col_is ∙ column_joined depth ps qs a f.gap x.1 x.3;
-    }
-
-pub fault_split : (first depth : ℕ) (a b : List ℕ) (ts : List Placed) (IsBad : List ℕ → List ℕ → Type 0) (line col : ℕ) (sort : Sort) → ((opened place : List ℕ) → IsBad opened place → IsBadSort depth opened place sort)
-    → AreLinesOf first depth a ts → IsFaultAt first depth (a ++ b) IsBad line col → IsFaultAt (line_at first a) depth b IsBad line col
-fault_split first depth a b ts IsBad line col sort sorted x f =
-    let bad = sorted (open_after [] f.pieces) f.place f.bad in
-    let stuck = place_stuck depth (open_after [] f.pieces) f.gap f.place f.is_gap f.behind_gap bad.never in
-    let parts = split_reading depth [] x.0 f.pieces a b (f.gap ++ f.place) x.1 x.3 f.reading stuck in
-    let qs = parts.0 in
-    let opens : open_after [] f.pieces ≡ open_after [] qs = ap (open_after []) parts.1 ∙ open_after-append [] x.0 qs ∙ ap (λ o. open_after o qs) x.2 in
-    record {
-      pieces = qs;
-      gap = f.gap;
-      place = f.place;
-      reading = subst (λ o. IsReading depth o qs (f.gap ++ f.place) b) x.2 parts.2;
-      is_gap = subst (λ o. is_gap (is_inside o) f.gap ≡ true) opens f.is_gap;
-      behind_gap = subst (λ o. begins_gap (is_inside o) f.place ≡ false) opens f.behind_gap;
-      bad = subst (λ o. IsBad o f.place) opens f.bad;
-      line_is = f.line_is ∙ ap (λ vs. line_at first (bytes_of vs ++ f.gap)) parts.1 ∙ sym (line_joined first depth x.0 qs a f.gap x.1);
-      col_is = f.col_is ∙ ap (λ vs. column_at (bytes_of vs ++ f.gap)) parts.1 ∙ sym (column_joined depth x.0 qs a f.gap x.1 x.3);
     }
 
 open_tokens-append : (opened ts us : List Placed) → open_tokens opened (ts ++ us) ≡ open_tokens (open_tokens opened ts) us
@@ -94,24 +72,6 @@ unclosed_joined first depth a b ts line col x f =
       col_is = f.col_is;
     }
 
-pub unclosed_split : (first depth : ℕ) (a b : List ℕ) (ts : List Placed) (line col : ℕ) → AreLinesOf first depth a ts → IsOpenBracket first depth (a ++ b) line col → IsOpenBracket (line_at first a) depth b line col
-unclosed_split first depth a b ts line col x f =
-    let stuck = gap_stuck depth (open_after [] f.pieces) f.rest f.is_gap in
-    let parts = split_reading depth [] x.0 f.pieces a b f.rest x.1 x.3 f.reading stuck in
-    let qs = parts.0 in
-    let opens : open_after [] f.pieces ≡ open_after [] qs = ap (open_after []) parts.1 ∙ open_after-append [] x.0 qs ∙ ap (λ o. open_after o qs) x.2 in
-    record {
-      pieces = qs;
-      rest = f.rest;
-      reading = subst (λ o. IsReading depth o qs f.rest b) x.2 parts.2;
-      is_gap = subst (λ o. is_gap (is_inside o) f.rest ≡ true) opens f.is_gap;
-      bracket = f.bracket;
-      outer = f.outer;
-      opened = sym (open_joined first depth x.0 qs a x.1 x.3 x.2) ∙ ap (λ vs. open_tokens [] (tokens_of first [] [] vs)) (sym parts.1) ∙ f.opened;
-      line_is = f.line_is;
-      col_is = f.col_is;
-    }
-
 -- the first fault of a text behind lines is that of the whole
 pub fault_behind_lines : (first depth : ℕ) (a b : List ℕ) (ts : List Placed) (f : LexFault) → AreLinesOf first depth a ts → IsFault (line_at first a) depth b f → IsFault first depth (a ++ b) f
 fault_behind_lines first depth a b ts faults.OutOfMemory x is = is
@@ -122,14 +82,3 @@ fault_behind_lines first depth a b ts (faults.BadBracket line col) x is = fault_
 fault_behind_lines first depth a b ts (faults.OpenBracket line col) x is = unclosed_joined first depth a b ts line col x is
 fault_behind_lines first depth a b ts (faults.TooDeep line col) x is = fault_joined first depth a b ts (IsTooDeep depth) line col x is
 fault_behind_lines first depth a b ts (faults.BadBackslash line col) x is = fault_joined first depth a b ts (λ opened. IsBadBackslash) line col x is
-
--- and the other way round
-pub fault_of_the_rest : (first depth : ℕ) (a b : List ℕ) (ts : List Placed) (f : LexFault) → AreLinesOf first depth a ts → IsFault first depth (a ++ b) f → IsFault (line_at first a) depth b f
-fault_of_the_rest first depth a b ts faults.OutOfMemory x is = is
-fault_of_the_rest first depth a b ts (faults.BadCharacter line col) x is = fault_split first depth a b ts (λ opened. IsBadCharacter) line col bad_character (character_sort depth) x is
-fault_of_the_rest first depth a b ts (faults.BadNumber line col) x is = fault_split first depth a b ts (λ opened. IsBadNumber) line col bad_number (number_sort depth) x is
-fault_of_the_rest first depth a b ts (faults.OpenText line col) x is = fault_split first depth a b ts (λ opened. IsOpenText) line col open_text (open_text_sort depth) x is
-fault_of_the_rest first depth a b ts (faults.BadBracket line col) x is = fault_split first depth a b ts IsBadBracket line col bad_bracket (bracket_sort depth) x is
-fault_of_the_rest first depth a b ts (faults.OpenBracket line col) x is = unclosed_split first depth a b ts line col x is
-fault_of_the_rest first depth a b ts (faults.TooDeep line col) x is = fault_split first depth a b ts (IsTooDeep depth) line col too_deep (deep_sort depth) x is
-fault_of_the_rest first depth a b ts (faults.BadBackslash line col) x is = fault_split first depth a b ts (λ opened. IsBadBackslash) line col bad_backslash (backslash_sort depth) x is

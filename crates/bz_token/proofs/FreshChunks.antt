@@ -8,15 +8,11 @@ use Rattle.bz_token.specs.declared.cutter.scan.LineKind.TheVariants.{Blank}
 use Rattle.bz_token.specs.Chunks.{chunks, takes, stage_behind}
 use Rattle.bz_token.specs.Cuts.{EndsBefore}
 use Rattle.bz_token.specs.CutSteps.{is_ended, outside, next, start, run, line_here, seen_chunks}
-use Rattle.std.specs.Prelude.{◌↔◌}
 use Rattle.std.specs.List.{concat}
-use Rattle.bz_token.specs.declared.fault.LexFault.{LexFault}
-use Rattle.bz_token.specs.Faults.{IsFault}
 use Rattle.bz_token.specs.Places.{Placed, line_at}
 use Rattle.bz_token.specs.Reading.{Piece, IsReading, open_after, AreTokensOf}
 use Rattle.bz_token.specs.FreshStart.{ends_in_line, AreLinesOf, AreTokensOfChunks}
-use Rattle.bz_token.proofs.Joins.{join_reading, open_after-append, joined_tokens, tokens_behind_lines, tokens_split}
-use Rattle.bz_token.proofs.FaultJoins.{fault_behind_lines, fault_of_the_rest}
+use Rattle.bz_token.proofs.Joins.{join_reading, open_after-append, joined_tokens, tokens_behind_lines}
 use Rattle.bz_token.proofs.ChunkLaws.{first_chunk as file_first}
 use Rattle.bz_token.proofs.CutLaws.{chunks_are}
 use Rattle.bz_token.proofs.Agree.{lines_from}
@@ -187,18 +183,3 @@ tokens_of_chunks first depth (c ∷ d ∷ ds) bytes ts e t =
     let rest = tokens_of_chunks (line_at first c) depth (d ∷ ds) cut.rest t.1 cut.behind t.3 in
     let lines = cut_lines first depth c cut.rest ds d t.0 cut.behind cut.first_is cut.some t.2 in
     subst (λ x. AreTokensOf first depth x ts) (sym cut.bytes_are) (subst (λ x. AreTokensOf first depth (c ++ cut.rest) x) (sym t.4) (tokens_behind_lines first depth c cut.rest t.0 t.1 lines rest))
-
--- what stands behind chunks with tokens is read as a text of its own, with its first line
-pub fresh_tokens : (first depth : ℕ) (cs ds : List (List ℕ)) (d bytes rest : List ℕ) (ts vs : List Placed) → chunks bytes ≡ cs ++ d ∷ ds → AreTokensOfChunks first depth cs ts → bytes ≡ concat cs ++ rest → AreTokensOf first depth bytes vs
-    → (us : List Placed) × AreTokensOf (line_at first (concat cs)) depth rest us × (vs ≡ ts ++ us)
-fresh_tokens first depth cs ds d bytes rest ts vs e t whole a =
-    let l = lines_of_chunks first depth cs ds d bytes ts e t in
-    tokens_split first depth (concat cs) rest ts vs l.3 (subst (λ x. AreTokensOf first depth x vs) whole a)
-
-pub fresh_fault : (first depth : ℕ) (cs ds : List (List ℕ)) (d bytes rest : List ℕ) (ts : List Placed) (f : LexFault) → chunks bytes ≡ cs ++ d ∷ ds → AreTokensOfChunks first depth cs ts → bytes ≡ concat cs ++ rest
-    → (IsFault first depth bytes f ↔ IsFault (line_at first (concat cs)) depth rest f)
-fresh_fault first depth cs ds d bytes rest ts f e t whole =
-    let l = lines_of_chunks first depth cs ds d bytes ts e t in (
-      λ h. fault_of_the_rest first depth (concat cs) rest ts f l.3 (subst (λ x. IsFault first depth x f) whole h),
-      λ h. subst (λ x. IsFault first depth x f) (sym whole) (fault_behind_lines first depth (concat cs) rest ts f l.3 h),
-    )

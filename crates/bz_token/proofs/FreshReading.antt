@@ -1,19 +1,22 @@
 -- What stands behind lines is read as a text of its own.
-use Rattle.std.proofs.Common.{◌≡◌, ℕ, List, [], ◌∷◌, ◌++◌, sym, ap, ap₂, subst, ◌∙◌}
+use Rattle.std.proofs.Common.{◌≡◌, ℕ, List, [], ◌∷◌, ◌++◌, refl, sym, ap, ap₂, subst, ◌∙◌, arith, inl, inr}
 use Rattle.std.specs.Prelude.{Option, Some, None}
 use Rattle.std.specs.List.{concat}
 use Rattle.bz_token.specs.declared.fault.LexFault.{LexFault}
+use Rattle.bz_token.specs.declared.fault.LexFault.TheVariants.{OutOfMemory}
 use Rattle.bz_token.specs.Places.{Placed, line_at}
-use Rattle.bz_token.specs.Reading.{IsReading, open_after, tokens_of}
+use Rattle.bz_token.specs.Reading.{IsReading, open_after}
+use Rattle.bz_token.specs.Faults.{IsFault}
 use Rattle.bz_token.specs.Chunks.{chunks}
 use Rattle.bz_token.specs.UpToFault.{read_before, IsReadAs}
 use Rattle.bz_token.specs.FreshStart.{AreLinesOf, AreTokensOfChunks}
+use Rattle.bz_token.proofs.Progress.{newlines-append}
 use Rattle.bz_token.proofs.Unique.{IsStuck}
 use Rattle.bz_token.proofs.Joins.{join_reading, open_after-append, joined_tokens, tokens_behind_lines}
 use Rattle.bz_token.proofs.FaultJoins.{fault_behind_lines}
 use Rattle.bz_token.proofs.FreshChunks.{lines_of_chunks}
 use Rattle.bz_token.proofs.SomeReading.{some_reading}
-use Rattle.bz_token.proofs.OneReading.{StopsBehind, read_stops, tokens_before, one_way}
+use Rattle.bz_token.proofs.OneReading.{StopsBehind, read_stops, tokens_before, one_way, tokens_or_fault}
 
 pub read_behind_lines : (first depth : ℕ) (a b : List ℕ) (ts us : List Placed) (fault : Option LexFault) → AreLinesOf first depth a ts → IsReadAs (line_at first a) depth b us fault → IsReadAs first depth (a ++ b) (ts ++ us) fault
 read_behind_lines first depth a b ts us None x y = tokens_behind_lines first depth a b ts us x y
@@ -48,3 +51,19 @@ pub rest_split : (first depth : ℕ) (cs ds : List (List ℕ)) (d bytes rest : L
 rest_split first depth cs ds d bytes rest ts vs fault e t whole r =
     let l = lines_of_chunks first depth cs ds d bytes ts e t in
     read_split first depth (concat cs) rest ts vs fault l.3 (subst (λ x. IsReadAs first depth x vs fault) whole r)
+
+-- where no chunk has a fault, all have tokens
+pub chunks_without_fault : (first depth : ℕ) (cs : List (List ℕ)) → ((before after : List (List ℕ)) (c : List ℕ) (f : LexFault) → cs ≡ before ++ c ∷ after → IsFault (line_at first (concat before)) depth c f → f ≡ OutOfMemory) → (ts : List Placed) × AreTokensOfChunks first depth cs ts
+chunks_without_fault first depth [] none = ([], refl)
+chunks_without_fault first depth (c ∷ cs) none = elim (tokens_or_fault first depth c) [
+  | inr f ↦ absurd (f.1 (none [] cs c f.0 refl (subst (λ line. IsFault line depth c f.0) (no_line first) f.2)))
+  | inl ts ↦
+      let more = chunks_without_fault (line_at first c) depth cs (λ before after d f e is. none (c ∷ before) after d f (ap (λ ds. c ∷ ds) e) (subst (λ line. IsFault line depth d f) (lines c (concat before)) is)) in
+      (ts.0 ++ more.0, (ts.0, more.0, ts.1, more.1, refl))
+]
+  where
+    no_line : (first : ℕ) → first ≡ line_at first []
+    no_line first = omega arith
+
+    lines : (c more : List ℕ) → line_at (line_at first c) more ≡ line_at first (c ++ more)
+    lines c more = omega (arith, newlines-append c more)

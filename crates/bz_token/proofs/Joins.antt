@@ -10,14 +10,13 @@ use Rattle.bz_token.specs.declared.token.Kind.TheVariants.{Ident, Word, Int, Tex
 use Rattle.bz_token.specs.Places.{Placed, line_at, column_from, column_at}
 use Rattle.bz_token.specs.Lexical.{is_newline, is_blank, is_text, IsToken}
 use Rattle.bz_token.specs.Ends.{ends, stops_at}
-use Rattle.bz_token.specs.Brackets.{is_inside, is_line, open_behind}
-use Rattle.bz_token.specs.Reading.{is_gap, Piece, IsPiece, IsReading, open_after, bytes_of, token_of, tokens_of, AreTokensOf}
+use Rattle.bz_token.specs.Brackets.{is_line, open_behind}
+use Rattle.bz_token.specs.Reading.{Piece, IsPiece, IsReading, open_after, bytes_of, token_of, tokens_of, AreTokensOf}
 use Rattle.bz_token.specs.FreshStart.{ends_in_line, AreLinesOf}
 use Rattle.bz_token.proofs.Classes.{same_bytes}
 use Rattle.bz_token.proofs.Ends.{line_token}
 use Rattle.bz_token.proofs.Stops.{token_ended, token_ends}
 use Rattle.bz_token.proofs.Progress.{newlines, newlines-append, column_from-append, reading_bytes, lines_of}
-use Rattle.bz_token.proofs.Unique.{one_piece, IsStuck, gap_stuck, same_fronts}
 
 -- white space up to a newline stays so, whatever follows
 note_more : (after b : List ℕ) → list_any is_newline after ≡ true → take (prefix_len (λ c. not (is_newline c)) (after ++ b)) (after ++ b) ≡ take (prefix_len (λ c. not (is_newline c)) after) after
@@ -210,36 +209,3 @@ tokens_behind_lines first depth a b ts us x y =
       open_after-append [] ps qs ∙ ap (λ o. open_after o qs) x.2 ∙ y.4,
       ap₂ (λ s t. s ++ t) x.4 y.5 ∙ sym (joined_tokens first depth ps qs a x.1 x.3),
     )
-
--- a reading of a text that begins with lines begins with theirs
-pub split_reading : (depth : ℕ) (opened : List ℕ) (ps vs : List Piece) (a b s : List ℕ) → IsReading depth opened ps [] a → ends_in_line ps ≡ true → IsReading depth opened vs s (a ++ b) → IsStuck depth (open_after opened vs) s
-    → (qs : List Piece) × (vs ≡ ps ++ qs) × IsReading depth (open_after opened ps) qs s b
-split_reading depth opened [] vs a b s r line v stuck = (vs, refl, subst (λ x. IsReading depth opened vs s (x ++ b)) r v)
-split_reading depth opened (p ∷ ps) [] a b s r line v stuck =
-    let joined = join_reading depth opened (p ∷ ps) [] a b b r line refl in
-    absurd (stuck p joined.0 (subst (λ x. IsPiece depth opened p x joined.0) v joined.1))
-split_reading depth opened (p ∷ ps) (v ∷ vs) a b s r line w stuck =
-    let joined = join_reading depth opened (p ∷ ps) [] a b b r line refl in
-    let one = one_piece depth opened p v (a ++ b) joined.0 w.0 joined.1 w.1 in
-    let opens : open_behind opened v.text ≡ open_behind opened p.text = ap (λ z. open_behind opened z.text) (sym one.0) in
-    let next : IsReading depth (open_behind opened p.text) vs s (r.0 ++ b) = subst (λ o. IsReading depth o vs s (r.0 ++ b)) opens (subst (λ x. IsReading depth (open_behind opened v.text) vs s x) (sym one.1 ∙ the_rest ps line r joined) w.2) in
-    let more = split_reading depth (open_behind opened p.text) ps vs r.0 b s r.2 (behind ps line) next (subst (λ o. IsStuck depth (open_after o vs) s) opens stuck) in
-    (more.0, ap₂ (λ x xs. x ∷ xs) (sym one.0) more.1, more.2)
-  where
-    behind : (ps : List Piece) → ends_in_line (p ∷ ps) ≡ true → ends_in_line ps ≡ true
-    behind [] h = refl
-    behind (q ∷ qs) h = h
-
-    the_rest : (ps : List Piece) (line : ends_in_line (p ∷ ps) ≡ true) (r : IsReading depth opened (p ∷ ps) [] a) (joined : IsReading depth opened ((p ∷ ps) ++ []) b (a ++ b)) → joined.0 ≡ r.0 ++ b
-    the_rest ps line r joined =
-        let e : p.gap ++ (p.text ++ joined.0) ≡ p.gap ++ (p.text ++ (r.0 ++ b)) = sym joined.1.bytes_are ∙ ap (λ x. x ++ b) r.1.bytes_are ∙ simp append_assoc in
-        (same_fronts p.text p.text joined.0 (r.0 ++ b) (same_fronts p.gap p.gap (p.text ++ joined.0) (p.text ++ (r.0 ++ b)) e refl).1 refl).1
-
-pub tokens_split : (first depth : ℕ) (a b : List ℕ) (ts vs : List Placed) → AreLinesOf first depth a ts → AreTokensOf first depth (a ++ b) vs → (us : List Placed) × AreTokensOf (line_at first a) depth b us × (vs ≡ ts ++ us)
-tokens_split first depth a b ts vs x y =
-    let stuck = gap_stuck depth (open_after [] y.0) y.1 (ap (λ o. is_gap (is_inside o) y.1) y.4 ∙ y.3) in
-    let parts = split_reading depth [] x.0 y.0 a b y.1 x.1 x.3 y.2 stuck in
-    let qs = parts.0 in
-    let reading = subst (λ o. IsReading depth o qs y.1 b) x.2 parts.2 in
-    let closed : open_after [] qs ≡ [] = ap (λ o. open_after o qs) (sym x.2) ∙ sym (open_after-append [] x.0 qs) ∙ ap (open_after []) (sym parts.1) ∙ y.4 in
-    (tokens_of (line_at first a) [] [] qs, (qs, y.1, reading, y.3, closed, refl), y.5 ∙ ap (tokens_of first [] []) parts.1 ∙ joined_tokens first depth x.0 qs a x.1 x.3 ∙ ap (λ t. t ++ tokens_of (line_at first a) [] [] qs) (sym x.4))

@@ -1,10 +1,14 @@
 -- The definitions on small texts.
 use Rattle.std.proofs.Common.{◌≡◌, ℕ, List, [], ◌∷◌, true, false, refl}
-use Rattle.std.specs.Prelude.{codes}
+use Rattle.std.specs.Prelude.{codes, Some, None}
+use Rattle.bz_token.specs.declared.fault.LexFault.TheVariants.{BadBracket, OpenBracket}
 use Rattle.bz_token.specs.declared.token.Kind.TheVariants.{Ident, Word, Int, Text, Sign, Line, Note}
 use Rattle.bz_token.specs.Lexical.{keywords, signs, is_text, counts}
 use Rattle.bz_token.specs.Brackets.{fits}
-use Rattle.bz_token.specs.Reading.{is_gap, begins_gap, Piece, bytes_of, tokens_of}
+use Rattle.bz_token.specs.Reading.{is_gap, begins_gap, Piece, IsReading, bytes_of, tokens_of}
+use Rattle.bz_token.specs.UpToFault.{IsReadAs}
+use Rattle.bz_token.specs.FreshStart.{line_behind, tokens_on_lines, fault_on_lines}
+use Rattle.bz_token.proofs.Stops.{token_ended}
 
 abbrev newline : List ℕ
 newline = 10 ∷ []
@@ -114,3 +118,61 @@ string_tokens : tokens_of 7 [] [] strings
     ∷ record { kind = Ident; text = codes "x"; line = 9; col = 5; fresh = true }
     ∷ []
 string_tokens = refl
+
+-- `x)`: the token before the fault
+abbrev name : Piece
+name = record { gap = []; kind = Ident; text = codes "x" }
+
+abbrev closing : List ℕ
+closing = codes ")"
+
+name_read : IsReading 100 [] (name ∷ []) closing (codes "x)")
+unfolding keywords
+name_read = (closing, record { bytes_are = refl; gap = refl; token = token_ended Ident (codes "x") closing refl refl; fits = refl }, refl)
+
+before_bad_bracket : IsReadAs 1 100 (codes "x)") (record { kind = Ident; text = codes "x"; line = 1; col = 1; fresh = true } ∷ []) (Some (BadBracket 1 2))
+before_bad_bracket = (λ e. cc, record { pieces = name ∷ []; gap = []; place = closing; reading = name_read; is_gap = refl; behind_gap = refl; bad = refl; line_is = refl; col_is = refl }, refl)
+
+-- ` (` and a newline: all tokens stand before the open bracket's fault
+abbrev bracket : Piece
+bracket = record { gap = codes " "; kind = Sign; text = codes "(" }
+
+bracket_read : IsReading 100 [] (bracket ∷ []) newline (codes " (\n")
+unfolding signs
+bracket_read = (newline, record { bytes_are = refl; gap = refl; token = token_ended Sign (codes "(") newline refl refl; fits = refl }, refl)
+
+before_open_bracket : IsReadAs 7 100 (codes " (\n") (record { kind = Sign; text = codes "("; line = 7; col = 2; fresh = true } ∷ []) (Some (OpenBracket 7 2))
+before_open_bracket = (
+  λ e. cc,
+  record {
+    pieces = bracket ∷ [];
+    rest = newline;
+    reading = bracket_read;
+    is_gap = refl;
+    bracket = record { kind = Sign; text = codes "("; line = 7; col = 2; fresh = true };
+    outer = [];
+    opened = refl;
+    line_is = refl;
+    col_is = refl;
+  },
+  refl,
+)
+
+-- two lines, the last of which lacks its newline
+last_line : line_behind 3 (codes "x\ny") ≡ 5
+last_line = refl
+
+ended_line : line_behind 3 (codes "x\n") ≡ 4
+ended_line = refl
+
+on_second_line : tokens_on_lines 2 (codes "y\n") (tokens_of 1 [] [] assignment) ≡ []
+on_second_line = refl
+
+on_first_line : tokens_on_lines 1 (codes "x=1\n") (tokens_of 1 [] [] assignment) ≡ tokens_of 1 [] [] assignment
+on_first_line = refl
+
+fault_elsewhere : fault_on_lines 1 (codes "x\n") (Some (BadBracket 2 1)) ≡ None
+fault_elsewhere = refl
+
+fault_here : fault_on_lines 2 (codes ")") (Some (BadBracket 2 1)) ≡ Some (BadBracket 2 1)
+fault_here = refl

@@ -1,6 +1,6 @@
 -- Reading starts afresh behind a newline outside brackets: a text that such a newline ends leaves nothing to what follows
 -- but its number of lines. So what a file is read as on the lines of a chunk can be told from the chunk.
-use Rattle.std.specs.Prelude.{◌≡◌, ℕ, ◌+◌, List, [], ◌∷◌, ◌++◌, filter, Bool, true, false, ◌&&◌, if◌then◌else◌, nat_le, nat_lt, Option, Some, None}
+use Rattle.std.specs.Prelude.{◌≡◌, ℕ, ◌+◌, List, [], ◌∷◌, ◌++◌, filter, Bool, true, ◌&&◌, if◌then◌else◌, nat_le, nat_lt, Option, Some, None}
 use Rattle.bz_token.specs.declared.fault.LexFault.{LexFault}
 use Rattle.bz_token.specs.declared.fault.LexFault.TheVariants.{OutOfMemory, BadCharacter, BadNumber, OpenText, BadBracket, OpenBracket, TooDeep, BadBackslash}
 use Rattle.bz_token.specs.Cuts.{ends_in_newline}

@@ -63,10 +63,11 @@ pub fn reading_starts_afresh()
     ensures only { (first depth : ℕ) (a b : List ℕ) (ts vs : List Placed) (fault : Option LexFault) → AreLinesOf first depth a ts → IsReadAs first depth (a ++ b) vs fault → (us : List Placed) × IsReadAs (line_at first a) depth b us fault × (vs ≡ ts ++ us) }
 {}
 
-/// Chunks may be read one by one: where the chunks before have tokens, what is left of a file is read as it is as a text of
-/// its own with its first line; and a chunk that something follows ends with its newline.
+/// Chunks may be read one by one: where no chunk before has a fault, all have tokens, and what is left of a file is read as
+/// it is as a text of its own with its first line; and a chunk that something follows ends with its newline.
 pub fn chunks_start_afresh()
     ensures lines { (first depth : ℕ) (c : List ℕ) (b : ℕ) (rest : List ℕ) (ts : List Placed) → EndsBefore c (b ∷ rest) → 0 < length c → AreTokensOf first depth c ts → AreLinesOf first depth c ts }
+    ensures some { (first depth : ℕ) (cs : List (List ℕ)) → ((before after : List (List ℕ)) (c : List ℕ) (f : LexFault) → cs ≡ before ++ c ∷ after → IsFault (line_at first (concat before)) depth c f → f ≡ OutOfMemory) → (ts : List Placed) × AreTokensOfChunks first depth cs ts }
     ensures whole { (first depth : ℕ) (cs : List (List ℕ)) (bytes : List ℕ) (ts : List Placed) → chunks bytes ≡ cs → AreTokensOfChunks first depth cs ts → AreTokensOf first depth bytes ts }
     ensures joined { (first depth : ℕ) (cs ds : List (List ℕ)) (d bytes rest : List ℕ) (ts us : List Placed) (fault : Option LexFault) → chunks bytes ≡ cs ++ d ∷ ds → AreTokensOfChunks first depth cs ts → bytes ≡ concat cs ++ rest
         → IsReadAs (line_at first (concat cs)) depth rest us fault → IsReadAs first depth bytes (ts ++ us) fault }
