@@ -15,6 +15,7 @@ mod Mapped
 mod Mended
 mod Numbers
 mod PartEdits
+mod Printed
 mod Quoting
 mod Reading
 mod ReadBack

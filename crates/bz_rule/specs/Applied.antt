@@ -18,6 +18,7 @@ stands (Remove attrs values) = true
 stands (Add attr values) = true
 stands Delete = true
 stands (Rename old new) = true
+stands (Print fields) = true
 stands _ = false
 
 -- the arguments after a command on them

@@ -14,6 +14,7 @@ pub mod Moving
 pub mod Names
 pub mod Places
 pub mod Printing
+pub mod PrintSteps
 pub mod Replacing
 pub mod Rules
 pub mod RuleViews

@@ -1,5 +1,6 @@
-//! The commands on the arguments of a rule.
+//! The commands, one a file.
 
 pub(crate) mod add;
+pub(crate) mod print;
 pub(crate) mod remove;
 pub(crate) mod rename;

@@ -12,6 +12,7 @@ ghost use Rattle.bz_rule.specs.Applied as applied;
 use crate::command::{Action, Command};
 use crate::done::Done;
 use crate::effects::add::add;
+use crate::effects::print::print;
 use crate::effects::remove::remove;
 use crate::effects::rename::rename;
 use crate::find::call_at;
@@ -36,6 +37,10 @@ pub fn apply(
 {
     match &command.action {
         Action::Delete => Ok(delete(slot)),
+        Action::Print(fields) => {
+            let done = print(alloc, home, fields.as_slice(), slot)?;
+            Ok(done)
+        }
         _ => {
             let done = on_args(alloc, &command.action, home, slot)?;
             Ok(done)
@@ -184,7 +189,11 @@ pub(crate) fn stands(command: &Command) -> bool
     ensures { result ≡ applied.stands command.now }
 {
     match &command.action {
-        Action::Add(_, _) | Action::Remove(_, _) | Action::Delete | Action::Rename(_, _) => true,
+        Action::Add(_, _)
+        | Action::Remove(_, _)
+        | Action::Delete
+        | Action::Rename(_, _)
+        | Action::Print(_) => true,
         _ => false,
     }
 }

@@ -35,7 +35,8 @@ pub fn shown(alloc: Global, home: &Package, stmt: &Stmt<'_>) -> Result<String, A
     Ok(text)
 }
 
-fn push_home(text: &mut String, home: &Package) -> Result<(), AllocError>
+/// Writes a package and the colon behind it.
+pub(crate) fn push_home(text: &mut String, home: &Package) -> Result<(), AllocError>
     ensures { OnOk result (string_bytes text.new ≡ string_bytes text.old ++ spec.home_text home.now) }
 {
     let Some(path) = home.path() else {
@@ -86,8 +87,8 @@ fn push_name(
     Ok(())
 }
 
-// The name of a rule.
-fn read_name(alloc: Global, args: &[Seg<'_>]) -> Result<Option<String>, AllocError>
+/// The name of a rule.
+pub(crate) fn read_name(alloc: Global, args: &[Seg<'_>]) -> Result<Option<String>, AllocError>
     ensures { IfOk result (λ name. option_map (λ text. string_bytes text) name ≡ name_in (segs_view args.now)) }
 {
     let Some(text) = name_text(args) else {
@@ -97,7 +98,8 @@ fn read_name(alloc: Global, args: &[Seg<'_>]) -> Result<Option<String>, AllocErr
     Ok(name)
 }
 
-fn push_kind(text: &mut String, kind: &[Node<'_>]) -> Result<(), AllocError>
+/// Writes a kind, without what stands between its identifiers and dots.
+pub(crate) fn push_kind(text: &mut String, kind: &[Node<'_>]) -> Result<(), AllocError>
     ensures { OnOk result (string_bytes text.new ≡ string_bytes text.old ++ kind_text (nodes_view kind.now)) }
 {
     for node in kind {

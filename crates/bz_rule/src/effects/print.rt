@@ -1,0 +1,338 @@
+//! `print`: a line with the texts of a rule's fields.
+
+ghost use Rattle.std.specs.Prelude.{◌≡◌, ◌++◌, ◌∷◌, [], codes, map, option_map, is_some, IfNone, IfOk, IfSome, IsOk, OnOk, string_bytes, false, true};
+ghost use Rattle.std.specs.Fmt.{decimal};
+ghost use Rattle.std.specs.List.{list_all};
+ghost use Rattle.bz_tree.specs.View.{node_view, nodes_view, seg_view, segs_view, slot_view, view};
+ghost use Rattle.bz_rule.specs.CommandViews.{field_view};
+ghost use Rattle.bz_rule.specs.RuleViews.{rule_view};
+ghost use Rattle.bz_rule.specs.Rules.{string_value, value};
+ghost use Rattle.bz_rule.specs.Effects.{holds_rule};
+ghost use Rattle.bz_rule.specs.PrintSteps.{attribute_in, element_word, label_in, missing_as};
+ghost use Rattle.bz_rule.specs.declared.done.Note.TheVariants.{Missing};
+ghost use Rattle.bz_rule.specs.Printing as spec;
+
+use crate::bytes::value_of;
+use crate::command::Field;
+use crate::decode::read_value;
+use crate::done::{Done, Note};
+use crate::list::Text;
+use crate::lists::is_list;
+use crate::package::Package;
+use crate::rule::{Rule, first_named, only_text, rule_of};
+use crate::texts::{push_home, push_kind, read_name};
+use crate::value::quote;
+use bz_layout::flat;
+use bz_tree::{GroupKind, Node, Seg, Stmt};
+use std::alloc::{AllocError, Global};
+
+/// Prints fields of the rule that a slot holds; the note names the first that is missing. Where there is no rule nothing
+/// is printed, and no memory is asked for.
+pub(crate) fn print(
+    alloc: Global,
+    home: &Package,
+    fields: &[Field],
+    slot: &Option<Stmt<'_>>,
+) -> Result<Done, AllocError>
+    ensures done { IfOk result (λ done. done ≡ spec.prints home.now (map field_view fields.now) (slot_view slot.now)) }
+    ensures no_rule { holds_rule (slot_view slot.now) ≡ false → IsOk result }
+{
+    let Some(stmt) = slot else {
+        return Ok(Done::quiet(false));
+    };
+    let Some(rule) = rule_of(&stmt.nodes) else {
+        return Ok(Done::quiet(false));
+    };
+    let done = print_rule(alloc, home, stmt, rule, fields)?;
+    Ok(done)
+}
+
+// Without fields the name and the kind.
+fn print_rule(
+    alloc: Global,
+    home: &Package,
+    stmt: &Stmt<'_>,
+    rule: Rule<'_, '_>,
+    fields: &[Field],
+) -> Result<Done, AllocError>
+    ensures { IfOk result (λ done. done ≡ spec.printed home.now (view stmt.now) (rule_view rule.entry) (spec.fields_of (map field_view fields.now))) }
+{
+    match fields {
+        [] => {
+            let name = Field::ValueOf(Text::from_str(alloc, "name")?);
+            let done = print_fields(alloc, home, stmt, rule, &name, &[Field::Kind])?;
+            Ok(done)
+        }
+        [first, others @ ..] => {
+            let done = print_fields(alloc, home, stmt, rule, first, others)?;
+            Ok(done)
+        }
+    }
+}
+
+fn print_fields(
+    alloc: Global,
+    home: &Package,
+    stmt: &Stmt<'_>,
+    rule: Rule<'_, '_>,
+    first: &Field,
+    others: &[Field],
+) -> Result<Done, AllocError>
+    ensures { IfOk result (λ done. done ≡ spec.printed home.now (view stmt.now) (rule_view rule.entry) (field_view first.now ∷ map field_view others.now)) }
+{
+    let mut line = String::new(alloc);
+    let mut missing = push_field(alloc, home, stmt, rule, first, &mut line)?;
+    for field in others {
+        line.push(' ')?;
+        let other = push_field(alloc, home, stmt, rule, field, &mut line)?;
+        missing = missing.or(other);
+    }
+    Ok(Done {
+        changed: false,
+        line: Some(Text::from_string(line)),
+        note: missing,
+    })
+}
+
+// Writes a field. The note tells that it is missing.
+fn push_field(
+    alloc: Global,
+    home: &Package,
+    stmt: &Stmt<'_>,
+    rule: Rule<'_, '_>,
+    field: &Field,
+    line: &mut String,
+) -> Result<Option<Note>, AllocError>
+    ensures line { OnOk result (string_bytes line.new ≡ string_bytes line.old ++ spec.shown_field (spec.field_text home.now (view stmt.now) (rule_view rule.entry) (field_view field.now))) }
+    ensures missing { IfOk result (λ missing. missing ≡ spec.missing home.now (view stmt.now) (rule_view rule.entry) (field_view field.now ∷ [])) }
+{
+    match field {
+        Field::Label => {
+            let missing = push_label(alloc, home, &rule.call.segs, line)?;
+            Ok(missing)
+        }
+        Field::Kind => {
+            push_kind(line, rule.kind)?;
+            Ok(None)
+        }
+        Field::StartLine => {
+            push_number(alloc, stmt.start, line)?;
+            Ok(None)
+        }
+        Field::EndLine => {
+            push_number(alloc, stmt.end, line)?;
+            Ok(None)
+        }
+        Field::ValueOf(attr) => {
+            let missing = push_attribute(alloc, attr.as_str(), &rule.call.segs, line)?;
+            Ok(missing)
+        }
+    }
+}
+
+fn push_label(
+    alloc: Global,
+    home: &Package,
+    args: &[Seg<'_>],
+    line: &mut String,
+) -> Result<Option<Note>, AllocError>
+    ensures line { OnOk result (string_bytes line.new ≡ string_bytes line.old ++ spec.shown_field (label_in home.now (segs_view args.now))) }
+    ensures missing { IfOk result (λ missing. missing ≡ missing_as (codes "label") (is_some (label_in home.now (segs_view args.now)))) }
+{
+    let Some(name) = read_name(alloc, args)? else {
+        let missing = push_missing(alloc, "label", line)?;
+        return Ok(Some(missing));
+    };
+    push_home(line, home)?;
+    line.push_str(name.as_str())?;
+    Ok(None)
+}
+
+fn push_attribute(
+    alloc: Global,
+    attr: &str,
+    args: &[Seg<'_>],
+    line: &mut String,
+) -> Result<Option<Note>, AllocError>
+    ensures line { OnOk result (string_bytes line.new ≡ string_bytes line.old ++ spec.shown_field (attribute_in attr.now (segs_view args.now))) }
+    ensures missing { IfOk result (λ missing. missing ≡ missing_as attr.now (is_some (attribute_in attr.now (segs_view args.now)))) }
+{
+    let Some(arg) = first_named(args, attr) else {
+        let missing = push_missing(alloc, attr, line)?;
+        return Ok(Some(missing));
+    };
+    push_argument(alloc, arg, line)?;
+    Ok(None)
+}
+
+fn push_missing(alloc: Global, name: &str, line: &mut String) -> Result<Note, AllocError>
+    ensures line { OnOk result (string_bytes line.new ≡ string_bytes line.old ++ codes "(missing)") }
+    ensures note { IfOk result (λ note. note ≡ Missing name.now) }
+{
+    line.push_str("(missing)")?;
+    let name = Text::from_str(alloc, name)?;
+    Ok(Note::Missing(name))
+}
+
+// Writes the value of a named argument.
+fn push_argument(alloc: Global, arg: &Seg<'_>, line: &mut String) -> Result<(), AllocError>
+    ensures { OnOk result (string_bytes line.new ≡ string_bytes line.old ++ spec.value_text (value (seg_view arg.now))) }
+{
+    if arg.nodes.len() < 2 {
+        push_value(alloc, &[], line)?;
+        return Ok(());
+    }
+    push_value(alloc, &arg.nodes[2..], line)?;
+    Ok(())
+}
+
+fn push_value(alloc: Global, value: &[Node<'_>], line: &mut String) -> Result<(), AllocError>
+    ensures { OnOk result (string_bytes line.new ≡ string_bytes line.old ++ spec.value_text (nodes_view value.now)) }
+{
+    match read_string(alloc, value)? {
+        Some(word) => push_word(alloc, word.as_str(), line)?,
+        None => push_list(alloc, value, line)?,
+    }
+    Ok(())
+}
+
+fn read_string(alloc: Global, nodes: &[Node<'_>]) -> Result<Option<String>, AllocError>
+    ensures { IfOk result (λ value. option_map (λ text. string_bytes text) value ≡ string_value (nodes_view nodes.now)) }
+{
+    let Some(text) = only_text(nodes) else {
+        return Ok(None);
+    };
+    let value = read_value(alloc, text)?;
+    Ok(value)
+}
+
+fn push_list(alloc: Global, value: &[Node<'_>], line: &mut String) -> Result<(), AllocError>
+    ensures { OnOk result (string_bytes line.new ≡ string_bytes line.old ++ spec.list_text (nodes_view value.now)) }
+{
+    match words_in(value) {
+        Some(elements) => {
+            line.push('[')?;
+            push_elements(alloc, elements, line)?;
+            line.push(']')?;
+        }
+        None => {
+            let text = flat(alloc, value, Some(GroupKind::RuleCall))?;
+            line.push_str(text.as_str())?;
+        }
+    }
+    Ok(())
+}
+
+// The elements of what is one list of strings with values.
+fn words_in<'n, 'a>(value: &'n [Node<'a>]) -> Option<&'n [Seg<'a>]>
+    ensures none { IfNone result (spec.is_words (nodes_view value.now) ≡ false) }
+    ensures words { IfSome result (λ elements. spec.is_words (nodes_view value.now) ≡ true) }
+    ensures some { IfSome result (λ elements. spec.first_elements (nodes_view value.now) ≡ segs_view elements.now) }
+{
+    match value {
+        [node] => words_at(node),
+        _ => None,
+    }
+}
+
+fn words_at<'n, 'a>(node: &'n Node<'a>) -> Option<&'n [Seg<'a>]>
+    ensures none { IfNone result (spec.is_words (node_view node.now ∷ []) ≡ false) }
+    ensures words { IfSome result (λ elements. spec.is_words (node_view node.now ∷ []) ≡ true) }
+    ensures some { IfSome result (λ elements. spec.first_elements (node_view node.now ∷ []) ≡ segs_view elements.now) }
+{
+    if !is_list(node) {
+        return None;
+    }
+    match node {
+        Node::Token(_) => None,
+        Node::Group(group) => {
+            if !have_strings(&group.segs) {
+                return None;
+            }
+            Some(&group.segs)
+        }
+    }
+}
+
+fn have_strings(elements: &[Seg<'_>]) -> bool
+    ensures { result ≡ list_all spec.has_string (segs_view elements.now) }
+{
+    for element in elements {
+        if !has_string(&element.nodes) {
+            return false;
+        }
+    }
+    true
+}
+
+fn has_string(nodes: &[Node<'_>]) -> bool
+    ensures { result ≡ is_some (string_value (nodes_view nodes.now)) }
+{
+    match only_text(nodes) {
+        None => false,
+        Some(text) => value_of(text).is_some(),
+    }
+}
+
+// Writes strings with a space between them.
+fn push_elements(
+    alloc: Global,
+    elements: &[Seg<'_>],
+    line: &mut String,
+) -> Result<(), AllocError>
+    ensures { OnOk result (string_bytes line.new ≡ string_bytes line.old ++ spec.spaced (map element_word (segs_view elements.now))) }
+{
+    let [first, others @ ..] = elements else {
+        return Ok(());
+    };
+    push_element(alloc, first, line)?;
+    for element in others {
+        line.push(' ')?;
+        push_element(alloc, element, line)?;
+    }
+    Ok(())
+}
+
+fn push_element(alloc: Global, element: &Seg<'_>, line: &mut String) -> Result<(), AllocError>
+    ensures { OnOk result (string_bytes line.new ≡ string_bytes line.old ++ element_word (seg_view element.now)) }
+{
+    match read_string(alloc, &element.nodes)? {
+        None => Ok(()),
+        Some(word) => push_word(alloc, word.as_str(), line),
+    }
+}
+
+// Writes a value as a word.
+fn push_word(alloc: Global, word: &str, line: &mut String) -> Result<(), AllocError>
+    ensures { OnOk result (string_bytes line.new ≡ string_bytes line.old ++ spec.word_form word.now) }
+{
+    if is_plain(word.as_bytes()) {
+        line.push_str(word)?;
+        return Ok(());
+    }
+    let text = quote(alloc, word)?;
+    line.push_str(text.as_str())?;
+    Ok(())
+}
+
+fn is_plain(word: &[u8]) -> bool
+    ensures { result ≡ spec.is_plain word.now }
+{
+    if word.len() == 0 {
+        return false;
+    }
+    for b in word {
+        if *b == b'"' || *b <= b' ' {
+            return false;
+        }
+    }
+    true
+}
+
+fn push_number(alloc: Global, number: u64, line: &mut String) -> Result<(), AllocError>
+    ensures { OnOk result (string_bytes line.new ≡ string_bytes line.old ++ decimal number) }
+{
+    let digits = number.to_string(alloc)?;
+    line.push_str(digits.as_str())?;
+    Ok(())
+}
