@@ -47,7 +47,7 @@ note_first : (home : Package) (s : Statement) (r : Rule) (field : Field) (fields
     → first_note (missing home s r (field ∷ [])) (missing home s r fields) ≡ missing home s r (field ∷ fields)
 note_first home s r field fields =
     elim (is_some (field_text home s r field)) as (λ b.
-      first_note (if b then None else Some (Missing (field_name field))) (missing home s r fields) ≡ (if b then missing home s r fields else Some (Missing (field_name field))))
+    first_note (if b then None else Some (Missing (field_name field))) (missing home s r fields) ≡ (if b then missing home s r fields else Some (Missing (field_name field))))
     [ true ↦ refl | false ↦ refl ]
 
 pub first_missing : (told : Option Note) (home : Package) (s : Statement) (r : Rule) (field : Field) (fields : List Field)

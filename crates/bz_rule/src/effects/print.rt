@@ -275,11 +275,7 @@ fn has_string(nodes: &[Node<'_>]) -> bool
 }
 
 // Writes strings with a space between them.
-fn push_elements(
-    alloc: Global,
-    elements: &[Seg<'_>],
-    line: &mut String,
-) -> Result<(), AllocError>
+fn push_elements(alloc: Global, elements: &[Seg<'_>], line: &mut String) -> Result<(), AllocError>
     ensures { OnOk result (string_bytes line.new ≡ string_bytes line.old ++ spec.spaced (map element_word (segs_view elements.now))) }
 {
     let [first, others @ ..] = elements else {

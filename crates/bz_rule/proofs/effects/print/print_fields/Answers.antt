@@ -15,11 +15,11 @@ loop-field-init c = record {
 pub loop-field-preserved : goal.loop-field-preserved
 loop-field-preserved c = record {
   line =
-    next_word _ field_view c.args.others.now c.field-item.result c.loop-field.field-index _ _ _ c.loop-field-test.true c.field-item.is
+      next_word _ field_view c.args.others.now c.field-item.result c.loop-field.field-index _ _ _ c.loop-field-test.true c.field-item.is
       (c.in_ok-push.ensures.bytes ∙ ap (λ (w : List ℕ). string_bytes c.loop-field.line ++ w) (encode_ascii 32 (omega arith))) c.in_ok-other.ensures.line
-    ∙ c.loop-field.invariant.line;
+      ∙ c.loop-field.invariant.line;
   missing =
-    next_missing field_view c.args.others.now c.field-item.result c.loop-field.field-index _ _ _ c.args.home.now (view c.args.stmt.now) (rule_view c.args.rule)
+      next_missing field_view c.args.others.now c.field-item.result c.loop-field.field-index _ _ _ c.args.home.now (view c.args.stmt.now) (rule_view c.args.rule)
       c.loop-field-test.true c.field-item.is c.or-missing.ensures c.in_ok-other.ensures.missing
-    ∙ c.loop-field.invariant.missing;
+      ∙ c.loop-field.invariant.missing;
 }

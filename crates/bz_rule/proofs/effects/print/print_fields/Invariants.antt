@@ -10,9 +10,9 @@ use Rattle.bz_rule.proofs.effects.print.print_fields.Given as goal
 abbrev pub invariant-loop-field : goal.invariant-loop-field
 invariant-loop-field l = record {
   line :
-    string_bytes l.line ++ spaced_behind (map (λ f. shown_field (field_text l.home (view l.stmt) (rule_view l.rule) f)) (map field_view (drop l.field-index l.others)))
-    ≡ line_of l.home (view l.stmt) (rule_view l.rule) (field_view l.first ∷ map field_view l.others);
+      string_bytes l.line ++ spaced_behind (map (λ f. shown_field (field_text l.home (view l.stmt) (rule_view l.rule) f)) (map field_view (drop l.field-index l.others)))
+      ≡ line_of l.home (view l.stmt) (rule_view l.rule) (field_view l.first ∷ map field_view l.others);
   missing :
-    first_note l.missing (missing l.home (view l.stmt) (rule_view l.rule) (map field_view (drop l.field-index l.others)))
-    ≡ missing l.home (view l.stmt) (rule_view l.rule) (field_view l.first ∷ map field_view l.others)
+      first_note l.missing (missing l.home (view l.stmt) (rule_view l.rule) (map field_view (drop l.field-index l.others)))
+      ≡ missing l.home (view l.stmt) (rule_view l.rule) (field_view l.first ∷ map field_view l.others);
 }

@@ -1,5 +1,5 @@
-use Rattle.std.proofs.Common.{◌≡◌, ◌++◌, ◌∷◌, drop, map, string_bytes}
-use Rattle.bz_tree.specs.View.{seg_view, segs_view}
+use Rattle.std.proofs.Common.{◌≡◌, ◌++◌, drop, map, string_bytes}
+use Rattle.bz_tree.specs.View.{segs_view}
 use Rattle.bz_rule.specs.Printing.{spaced}
 use Rattle.bz_rule.specs.PrintSteps.{element_word, spaced_behind}
 use Rattle.bz_rule.proofs.effects.print.push_elements.Given as goal

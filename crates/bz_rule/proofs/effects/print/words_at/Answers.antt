@@ -12,14 +12,14 @@ use Rattle.bz_rule.proofs.effects.print.words_at.Goals as goal
 pub returns-then-not-have_strings-clause-none : goal.returns-then-not-have_strings-clause-none
 returns-then-not-have_strings-clause-none c =
     let strings : list_all has_string (elements (node_view c.args.node.now)) ≡ false =
-      rw (c.in-Group.is, elements_group c.in-Group.group) (ap (λ (es : List Seg). list_all has_string (segs_view es)) (sym c.deref.ensures.value) ∙ sym c.have_strings.ensures ∙ c.if-not-have_strings.true) in
+    rw (c.in-Group.is, elements_group c.in-Group.group) (ap (λ (es : List Seg). list_all has_string (segs_view es)) (sym c.deref.ensures.value) ∙ sym c.have_strings.ensures ∙ c.if-not-have_strings.true) in
     and_right (is_list (node_view c.args.node.now)) _ strings
 
 pub returns-else-not-have_strings-clause-words : goal.returns-else-not-have_strings-clause-words
 returns-else-not-have_strings-clause-words c =
     let list : is_list (node_view c.args.node.now) ≡ true = sym c.is_list.ensures ∙ c.if-not-is_list.false in
     let strings : list_all has_string (elements (node_view c.args.node.now)) ≡ true =
-      rw (c.in-Group.is, elements_group c.in-Group.group) (ap (λ (es : List Seg). list_all has_string (segs_view es)) (sym c.deref.ensures.value) ∙ sym c.have_strings.ensures ∙ c.if-not-have_strings.false) in
+    rw (c.in-Group.is, elements_group c.in-Group.group) (ap (λ (es : List Seg). list_all has_string (segs_view es)) (sym c.deref.ensures.value) ∙ sym c.have_strings.ensures ∙ c.if-not-have_strings.false) in
     rw (list, strings) refl
 
 pub returns-else-not-have_strings-clause-some : goal.returns-else-not-have_strings-clause-some
