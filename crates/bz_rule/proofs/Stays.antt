@@ -12,7 +12,8 @@ use Rattle.bz_rule.specs.declared.done.Note.TheVariants.{NoAttribute}
 use Rattle.bz_rule.specs.Effects.{adds, done, done_in, nodes_after, slot_done, edit_first, fails, has, no_parts, nodes_of, not_a_list, is_absent, rename, rename_note, with_added, with_args}
 use Rattle.bz_rule.specs.Moving.{move, moves, moved, move_note}
 use Rattle.bz_rule.specs.Commenting.{comment_attribute, comment_value, comment_note, comment_element, comment_line, with_comment}
-use Rattle.bz_rule.specs.Applied.{args_after, args_done}
+use Rattle.bz_rule.specs.Setting.{with_kind, sets_kind}
+use Rattle.bz_rule.specs.Applied.{args_after, args_done, after, done_of, sets_kind_of}
 
 items_back : (xs : Items) → items_of (list_of xs) ≡ xs
 items_back no_items = refl
@@ -112,6 +113,30 @@ slot_stays : (f : List Segment → List Segment) (g : List Segment → Done) →
 slot_stays f g keep None h = refl
 slot_stays f g keep (Some s) h = ap (λ (z : Statement). Some z) (statement_stays f g keep s h)
 
+on_args_stays : (c : Command) (home : Package) (slot : Option Statement) → fails (slot_done (args_done c home) slot).note ≡ true → option_map (with_args (args_after c home)) slot ≡ slot
+on_args_stays c home slot h = slot_stays (args_after c home) (args_done c home) (args_stay c home) slot h
+
+kind_stays : (kind : List ℕ) (slot : Option Statement) → fails (sets_kind_of kind slot).note ≡ true → option_map (with_kind kind) slot ≡ slot
+kind_stays kind None h = absurd cc
+kind_stays kind (Some s) h =
+    elim (rule_of s.nodes) as (λ r. fails (sets_kind kind r).note ≡ true → Some (with_kind kind s) ≡ Some s)
+    [ None ↦ λ k. absurd cc | Some r ↦ λ k. absurd cc ] h
+
+after_stays : (c : Command) (home : Package) (slot : Option Statement) → fails (done_of c home slot).note ≡ true → after c home slot ≡ slot
+after_stays (Add attr values) home slot h = on_args_stays (Add attr values) home slot h
+after_stays (Remove attrs values) home slot h = on_args_stays (Remove attrs values) home slot h
+after_stays (Set (ToKind kind)) home slot h = kind_stays kind slot h
+after_stays (Set (ToValues attr values)) home slot h = on_args_stays (Set (ToValues attr values)) home slot h
+after_stays (SetIfAbsent attr values) home slot h = on_args_stays (SetIfAbsent attr values) home slot h
+after_stays Delete home slot h = absurd cc
+after_stays (Rename old new) home slot h = on_args_stays (Rename old new) home slot h
+after_stays (Move old new chosen) home slot h = on_args_stays (Move old new chosen) home slot h
+after_stays (Replace attrs old new) home slot h = on_args_stays (Replace attrs old new) home slot h
+after_stays (Comment OfRule text) home slot h = absurd cc
+after_stays (Comment (Attribute attr) text) home slot h = on_args_stays (Comment (Attribute attr) text) home slot h
+after_stays (Comment (Value attr value) text) home slot h = on_args_stays (Comment (Value attr value) text) home slot h
+after_stays (Print fields) home slot h = refl
+
 -- after a note with which nothing was done
-pub failure_stays : (c : Command) (home : Package) (slot new : Option Statement) (d : Done) → new ≡ option_map (with_args (args_after c home)) slot → d ≡ slot_done (args_done c home) slot → fails d.note ≡ true → new ≡ slot
-failure_stays c home slot new d is told h = is ∙ slot_stays (args_after c home) (args_done c home) (args_stay c home) slot (ap (λ (z : Done). fails z.note) (sym told) ∙ h)
+pub failure_stays : (c : Command) (home : Package) (slot new : Option Statement) (d : Done) → new ≡ after c home slot → d ≡ done_of c home slot → fails d.note ≡ true → new ≡ slot
+failure_stays c home slot new d is told h = is ∙ after_stays c home slot (ap (λ (z : Done). fails z.note) (sym told) ∙ h)

@@ -35,14 +35,30 @@ pub fn apply(
     ensures no_rule { spec.holds_rule (slot_view slot.old) ≡ false → IsOk result }
     ensures err { OnErr result (slot_view slot.new ≡ slot_view slot.old) }
 {
-    match &command.action {
+    let done = carry_out(alloc, &command.action, home, slot)?;
+    Ok(done)
+}
+
+fn carry_out(
+    alloc: Global,
+    action: &Action,
+    home: &Package,
+    slot: &mut Option<Stmt<'_>>,
+) -> Result<Done, AllocError>
+    requires { IsTrue (applied.stands (command_view action.now)) }
+    ensures slot { OnOk result (slot_view slot.new ≡ applied.after (command_view action.now) home.now (slot_view slot.old)) }
+    ensures done { IfOk result (λ done. done ≡ applied.done_of (command_view action.now) home.now (slot_view slot.old)) }
+    ensures no_rule { spec.holds_rule (slot_view slot.old) ≡ false → IsOk result }
+    ensures err { OnErr result (slot_view slot.new ≡ slot_view slot.old) }
+{
+    match action {
         Action::Delete => Ok(delete(slot)),
         Action::Print(fields) => {
             let done = print(alloc, home, fields.as_slice(), slot)?;
             Ok(done)
         }
         _ => {
-            let done = on_args(alloc, &command.action, home, slot)?;
+            let done = on_args(alloc, action, home, slot)?;
             Ok(done)
         }
     }
