@@ -9,6 +9,7 @@ mod First
 mod FirstPart
 mod Fresh
 mod Groups
+mod KindEdits
 mod LastParts
 mod Literals
 mod Mapped

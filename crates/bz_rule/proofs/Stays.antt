@@ -41,7 +41,7 @@ call_nodes kind (group Dict segs one_comma end) r h = absurd cc
 call_nodes kind (group ListComp segs one_comma end) r h = absurd cc
 call_nodes kind (group DictComp segs one_comma end) r h = absurd cc
 
-rule_nodes : (kind nodes : List Item) (r : Rule) → rule_from kind nodes ≡ Some r → nodes_of r ≡ kind ++ nodes
+pub rule_nodes : (kind nodes : List Item) (r : Rule) → rule_from kind nodes ≡ Some r → nodes_of r ≡ kind ++ nodes
 rule_nodes kind [] r h = absurd cc
 rule_nodes kind (x ∷ []) r h = call_nodes kind x r h
 rule_nodes kind (x ∷ y ∷ xs) r h = rule_nodes (kind ++ x ∷ []) (y ∷ xs) r h ∙ append_assoc kind (x ∷ []) (y ∷ xs)
@@ -75,7 +75,7 @@ guarded_stays (Some n) b new args h = refl
 comment_stays : (attr text : List ℕ) (args : List Segment) → fails (done (is_absent attr args) true).note ≡ true → comment_attribute attr text args ≡ args
 comment_stays attr text args h =
     elim (has attr args) as (λ b. fails (done (if b then None else Some (NoAttribute attr)) true).note ≡ true
-      → (if b then edit_first (is_named attr) (λ a. with_comment (comment_line text) a ∷ []) args else args) ≡ args) [
+    → (if b then edit_first (is_named attr) (λ a. with_comment (comment_line text) a ∷ []) args else args) ≡ args) [
       | true ↦ λ k. absurd cc
       | false ↦ λ k. refl
     ] h

@@ -16,6 +16,8 @@ use Rattle.bz_rule.specs.declared.done.Done.{Done}
 abbrev pub stands : Command → Bool
 stands (Remove attrs values) = true
 stands (Add attr values) = true
+stands (Set setting) = true
+stands (SetIfAbsent attr values) = true
 stands Delete = true
 stands (Rename old new) = true
 stands (Print fields) = true

@@ -21,6 +21,7 @@ pub mod RuleViews
 pub mod Same
 pub mod SameSteps
 pub mod Setting
+pub mod SettingViews
 pub mod Texts
 pub mod Values
 pub mod ValueSteps

@@ -4,3 +4,5 @@ pub(crate) mod add;
 pub(crate) mod print;
 pub(crate) mod remove;
 pub(crate) mod rename;
+pub(crate) mod set;
+pub(crate) mod set_kind;

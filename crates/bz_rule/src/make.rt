@@ -1,10 +1,11 @@
 //! New tokens, elements and arguments. What cannot be made for want of memory leaves nothing behind.
 
-ghost use Rattle.std.specs.Prelude.{◌≡◌, IfOk, string_bytes, ◌∷◌, []};
+ghost use Rattle.std.specs.Prelude.{◌≡◌, IfOk, map, string_bytes, ◌∷◌, []};
 ghost use Rattle.bz_tree.specs.View.{node_view, seg_view, segs_view};
 ghost use Rattle.bz_tree.specs.Tree.{leaf, nowhere};
 ghost use Rattle.bz_rule.specs.Effects as spec;
 
+use crate::list::Text;
 use crate::value::quote;
 use bz_token::Kind;
 use bz_tree::{Group, GroupKind, Leaf, Node, Seg};
@@ -30,12 +31,61 @@ fn leaf<'a>(kind: Kind, text: String) -> Node<'a>
     })
 }
 
+/// The literal of a new string.
+pub(crate) fn literal<'a>(alloc: Global, value: &str) -> Result<Node<'a>, AllocError>
+    ensures { IfOk result (λ node. node_view node ≡ spec.string_item value.now) }
+{
+    Ok(leaf(Kind::Text, quote(alloc, value)?))
+}
+
 /// An element that is a new string.
 pub(crate) fn string<'a>(alloc: Global, value: &str) -> Result<Seg<'a>, AllocError>
     ensures { IfOk result (λ seg. seg_view seg ≡ spec.string value.now) }
 {
     let mut nodes = Vec::with_capacity(alloc, 1)?;
-    nodes.push(leaf(Kind::Text, quote(alloc, value)?))?;
+    nodes.push(literal(alloc, value)?)?;
+    Ok(Seg {
+        before: Vec::new(alloc),
+        nodes,
+        suffix: None,
+    })
+}
+
+/// Elements that are new strings.
+pub(crate) fn strings<'a>(alloc: Global, values: &[Text]) -> Result<Vec<Seg<'a>>, AllocError>
+    ensures { IfOk result (λ segs. segs_view segs.items ≡ map spec.string values.now) }
+{
+    let mut segs = Vec::with_capacity(alloc, values.len())?;
+    for value in values {
+        segs.push(string(alloc, value.as_str())?)?;
+    }
+    Ok(segs)
+}
+
+/// A new list. It takes no memory.
+pub(crate) fn list<'a>(alloc: Global, elements: Vec<Seg<'a>>) -> Node<'a>
+    ensures { node_view result ≡ spec.list_item (segs_view elements.entry.items) }
+{
+    Node::Group(Group {
+        kind: GroupKind::List,
+        segs: elements,
+        one_comma: false,
+        end: Vec::new(alloc),
+    })
+}
+
+/// A new argument whose value is one node.
+pub(crate) fn argument<'a>(
+    alloc: Global,
+    attr: &str,
+    value: Node<'a>,
+) -> Result<Seg<'a>, AllocError>
+    ensures { IfOk result (λ seg. seg_view seg ≡ spec.argument attr.now (node_view value.entry ∷ [])) }
+{
+    let mut nodes = Vec::with_capacity(alloc, 3)?;
+    nodes.push(token(alloc, Kind::Ident, attr)?)?;
+    nodes.push(token(alloc, Kind::Sign, "=")?)?;
+    nodes.push(value)?;
     Ok(Seg {
         before: Vec::new(alloc),
         nodes,
@@ -51,18 +101,5 @@ pub(crate) fn list_argument<'a>(
 ) -> Result<Seg<'a>, AllocError>
     ensures { IfOk result (λ seg. seg_view seg ≡ spec.argument attr.now (spec.list_item (segs_view elements.entry.items) ∷ [])) }
 {
-    let mut nodes = Vec::with_capacity(alloc, 3)?;
-    nodes.push(token(alloc, Kind::Ident, attr)?)?;
-    nodes.push(token(alloc, Kind::Sign, "=")?)?;
-    nodes.push(Node::Group(Group {
-        kind: GroupKind::List,
-        segs: elements,
-        one_comma: false,
-        end: Vec::new(alloc),
-    }))?;
-    Ok(Seg {
-        before: Vec::new(alloc),
-        nodes,
-        suffix: None,
-    })
+    argument(alloc, attr, list(alloc, elements))
 }

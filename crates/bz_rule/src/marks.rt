@@ -35,7 +35,8 @@ fn has_name(args: &[Seg<'_>], name: &str) -> bool
     has_value(text.as_bytes(), name.as_bytes())
 }
 
-fn is_kind(kind: &[Node<'_>], text: &str) -> bool
+/// The nodes before the call have this text.
+pub(crate) fn is_kind(kind: &[Node<'_>], text: &str) -> bool
     ensures { result ≡ bytes_eq (kind_text (nodes_view kind.now)) text.now }
 {
     let mut left = text.as_bytes();

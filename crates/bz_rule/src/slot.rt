@@ -9,12 +9,14 @@ ghost use Rattle.bz_rule.specs.Commands as commands;
 ghost use Rattle.bz_rule.specs.Effects as spec;
 ghost use Rattle.bz_rule.specs.Applied as applied;
 
-use crate::command::{Action, Command};
+use crate::command::{Action, Command, Setting};
 use crate::done::Done;
 use crate::effects::add::add;
 use crate::effects::print::print;
 use crate::effects::remove::remove;
 use crate::effects::rename::rename;
+use crate::effects::set::{set, set_if_absent};
+use crate::effects::set_kind::set_kind;
 use crate::find::call_at;
 use crate::package::Package;
 use bz_tree::{Node, Seg, Stmt};
@@ -53,6 +55,10 @@ fn carry_out(
 {
     match action {
         Action::Delete => Ok(delete(slot)),
+        Action::Set(Setting::ToKind(kind)) => {
+            let done = set_kind(alloc, kind.as_str(), slot)?;
+            Ok(done)
+        }
         Action::Print(fields) => {
             let done = print(alloc, home, fields.as_slice(), slot)?;
             Ok(done)
@@ -194,6 +200,12 @@ fn in_args(
     match action {
         Action::Add(attr, values) => add(alloc, home, attr.as_str(), values.as_slice(), args),
         Action::Remove(attributes, values) => Ok(remove(home, attributes, values.as_slice(), args)),
+        Action::Set(Setting::ToValues(attr, values)) => {
+            set(alloc, attr.as_str(), values.as_slice(), args)
+        }
+        Action::SetIfAbsent(attr, values) => {
+            set_if_absent(alloc, attr.as_str(), values.as_slice(), args)
+        }
         Action::Rename(old, new) => rename(alloc, old.as_str(), new.as_str(), args),
         _ => Ok(Done::quiet(false)),
     }
@@ -207,6 +219,8 @@ pub(crate) fn stands(command: &Command) -> bool
     match &command.action {
         Action::Add(_, _)
         | Action::Remove(_, _)
+        | Action::Set(_)
+        | Action::SetIfAbsent(_, _)
         | Action::Delete
         | Action::Rename(_, _)
         | Action::Print(_) => true,
