@@ -6,3 +6,5 @@ pub(crate) mod remove;
 pub(crate) mod rename;
 pub(crate) mod set;
 pub(crate) mod set_kind;
+#[cfg(test)]
+mod set_tests;
