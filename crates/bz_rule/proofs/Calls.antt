@@ -15,7 +15,7 @@ rule_from_more : (kind : List Item) (y : Item) (ys : List Item) (x : Item) → r
 rule_from_more kind y [] x = refl
 rule_from_more kind y (z ∷ zs) x = refl
 
-rule_from_end : (kind xs : List Item) (x : Item) → rule_from kind (xs ++ x ∷ []) ≡ call_at (kind ++ xs) x
+pub rule_from_end : (kind xs : List Item) (x : Item) → rule_from kind (xs ++ x ∷ []) ≡ call_at (kind ++ xs) x
 rule_from_end kind [] x = ap (λ (k : List Item). call_at k x) (sym (append-nil kind))
 rule_from_end kind (y ∷ ys) x = rule_from_more kind y ys x ∙ rule_from_end (kind ++ y ∷ []) ys x ∙ ap (λ (k : List Item). call_at k x) (append_assoc kind (y ∷ []) ys)
 

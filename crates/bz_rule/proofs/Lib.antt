@@ -20,5 +20,6 @@ mod Printed
 mod Quoting
 mod Reading
 mod ReadBack
+mod SetLaws
 mod Stays
 mod Views
