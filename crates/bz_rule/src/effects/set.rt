@@ -1,6 +1,6 @@
 //! `set` and `set_if_absent`: an attribute gets a value.
 
-ghost use Rattle.std.specs.Prelude.{◌≡◌, ◌≤◌, ◌++◌, ◌∷◌, ◌&&◌, [], None, Some, length, not, take, true, IfOk, OnOk, OnErr};
+ghost use Rattle.std.specs.Prelude.{◌≡◌, ◌≤◌, ◌++◌, ◌∷◌, ◌&&◌, [], None, Some, length, not, take, true, false, IfOk, IsOk, OnOk, OnErr};
 ghost use Rattle.std.specs.List.{list_all};
 ghost use Rattle.bz_tree.specs.View.{node_view, nodes_view, seg_view, segs_view};
 ghost use Rattle.bz_rule.specs.Rules.{elements, first_named, is_named, is_text, string_value};
@@ -32,7 +32,8 @@ pub(crate) enum New<'w> {
     Strings(&'w [Text]),
 }
 
-/// Sets the first argument of a name, or adds one. An `Err` leaves all as it was.
+/// Sets the first argument of a name, or adds one. Where the value is there already no memory is taken. An `Err` leaves all
+/// as it was.
 pub(crate) fn set(
     alloc: Global,
     attr: &str,
@@ -41,13 +42,15 @@ pub(crate) fn set(
 ) -> Result<Done, AllocError>
     ensures args { OnOk result (segs_view args.new.items ≡ spec.set attr.now words.now (segs_view args.old.items)) }
     ensures done { IfOk result (λ done. done ≡ effects.done None (spec.sets attr.now words.now (first_named attr.now (segs_view args.old.items)))) }
+    ensures unchanged { spec.sets attr.now words.now (first_named attr.now (segs_view args.old.items)) ≡ false → IsOk result }
     ensures err { OnErr result (segs_view args.new.items ≡ segs_view args.old.items) }
 {
-    if find(args, attr).is_some() {
-        return set_first(alloc, attr, words, args);
+    if find(args, attr).is_none() {
+        add_argument(alloc, attr, words, args)?;
+        return Ok(Done::quiet(true));
     }
-    add_argument(alloc, attr, words, args)?;
-    Ok(Done::quiet(true))
+    let done = set_first(alloc, attr, words, args)?;
+    Ok(done)
 }
 
 /// Adds an argument where there is none of the name. An `Err` leaves all as it was.
@@ -59,6 +62,7 @@ pub(crate) fn set_if_absent(
 ) -> Result<Done, AllocError>
     ensures args { OnOk result (segs_view args.new.items ≡ spec.set_if_absent attr.now words.now (segs_view args.old.items)) }
     ensures done { IfOk result (λ done. done ≡ effects.done None (not (effects.has attr.now (segs_view args.old.items)))) }
+    ensures unchanged { effects.has attr.now (segs_view args.old.items) ≡ true → IsOk result }
     ensures err { OnErr result (segs_view args.new.items ≡ segs_view args.old.items) }
 {
     if find(args, attr).is_some() {
@@ -91,6 +95,7 @@ fn set_first(
     requires { effects.has attr.now (segs_view args.old) ≡ true }
     ensures args { OnOk result (segs_view args.new ≡ effects.edit_first (is_named attr.now) (λ a. spec.set_in (spec.new_of attr.now words.now (first_named attr.now (segs_view args.old))) a ∷ []) (segs_view args.old)) }
     ensures done { IfOk result (λ done. done ≡ effects.done None (spec.sets attr.now words.now (first_named attr.now (segs_view args.old)))) }
+    ensures unchanged { spec.sets attr.now words.now (first_named attr.now (segs_view args.old)) ≡ false → IsOk result }
     ensures err { OnErr result (segs_view args.new ≡ segs_view args.old) }
 {
     let Some(i) = find(args, attr) else {
@@ -104,6 +109,7 @@ fn set_in(alloc: Global, attr: &str, words: &[Text], arg: &mut Seg<'_>) -> Resul
     requires { 2 ≤ length arg.old.nodes.items }
     ensures arg { OnOk result (seg_view arg.new ≡ spec.set_in (spec.new_of attr.now words.now (Some (seg_view arg.old))) (seg_view arg.old)) }
     ensures done { IfOk result (λ done. done ≡ effects.done None (spec.sets attr.now words.now (Some (seg_view arg.old)))) }
+    ensures unchanged { spec.sets attr.now words.now (Some (seg_view arg.old)) ≡ false → IsOk result }
     ensures err { OnErr result (seg_view arg.new ≡ seg_view arg.old) }
 {
     let new = new_of(attr, words, &arg.nodes[2..]);

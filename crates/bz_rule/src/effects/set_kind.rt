@@ -17,7 +17,7 @@ use bz_token::Kind;
 use bz_tree::{Node, Stmt};
 use std::alloc::{AllocError, Global};
 
-/// Sets the kind of a rule. An `Err` leaves the slot as it was.
+/// Sets the kind of a rule. Where it is the kind already no memory is taken. An `Err` leaves the slot as it was.
 pub(crate) fn set_kind(
     alloc: Global,
     kind: &str,
@@ -26,6 +26,7 @@ pub(crate) fn set_kind(
     ensures slot { OnOk result (slot_view slot.new ≡ option_map (spec.with_kind kind.now) (slot_view slot.old)) }
     ensures done { IfOk result (λ done. done ≡ sets_kind_of kind.now (slot_view slot.old)) }
     ensures no_rule { holds_rule (slot_view slot.old) ≡ false → IsOk result }
+    ensures unchanged { (sets_kind_of kind.now (slot_view slot.old)).changed ≡ false → IsOk result }
     ensures err { OnErr result (slot_view slot.new ≡ slot_view slot.old) }
 {
     match slot {
@@ -41,6 +42,7 @@ fn in_statement(alloc: Global, kind: &str, stmt: &mut Stmt<'_>) -> Result<Done, 
     ensures stmt { OnOk result (view stmt.new ≡ spec.with_kind kind.now (view stmt.old)) }
     ensures done { IfOk result (λ done. done ≡ spec.sets_kind kind.now (rule_of (nodes_view stmt.old.nodes.items))) }
     ensures no_rule { rule_of (nodes_view stmt.old.nodes.items) ≡ None → IsOk result }
+    ensures unchanged { (spec.sets_kind kind.now (rule_of (nodes_view stmt.old.nodes.items))).changed ≡ false → IsOk result }
     ensures err { OnErr result (view stmt.new ≡ view stmt.old) }
 {
     let done = in_nodes(alloc, kind, &mut stmt.nodes)?;
@@ -51,6 +53,7 @@ fn in_nodes(alloc: Global, kind: &str, nodes: &mut Vec<Node<'_>>) -> Result<Done
     ensures nodes { OnOk result (nodes_view nodes.new.items ≡ spec.kind_after kind.now (nodes_view nodes.old.items) (rule_of (nodes_view nodes.old.items))) }
     ensures done { IfOk result (λ done. done ≡ spec.sets_kind kind.now (rule_of (nodes_view nodes.old.items))) }
     ensures no_rule { rule_of (nodes_view nodes.old.items) ≡ None → IsOk result }
+    ensures unchanged { (spec.sets_kind kind.now (rule_of (nodes_view nodes.old.items))).changed ≡ false → IsOk result }
     ensures err { OnErr result (nodes_view nodes.new.items ≡ nodes_view nodes.old.items) }
 {
     let Some(rule) = rule_of(nodes) else {
