@@ -112,7 +112,7 @@ is_first name args i at h = record {
   gone = λ f d made. gone_first (is_named name) f args i d at h made;
 }
 
-edit_first_none : (p : Segment → Bool) (f : Segment → List Segment) (xs : List Segment) → list_any p xs ≡ false → edit_first p f xs ≡ xs
+pub edit_first_none : (p : Segment → Bool) (f : Segment → List Segment) (xs : List Segment) → list_any p xs ≡ false → edit_first p f xs ≡ xs
 edit_first_none p f [] h = refl
 edit_first_none p f (x ∷ xs) h =
     elim (p x) as (λ b. b || list_any p xs ≡ false → (if b then f x ++ xs else x ∷ edit_first p f xs) ≡ x ∷ xs)

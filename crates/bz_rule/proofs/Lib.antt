@@ -1,6 +1,7 @@
 mod ArgEdits
 mod CallEdits
 mod Calls
+mod CommentEdits
 mod Cuts
 mod Decoding
 mod Examples

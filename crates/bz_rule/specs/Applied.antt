@@ -2,7 +2,7 @@
 use Rattle.std.specs.Prelude.{ℕ, List, Bool, true, false, if◌then◌else◌, not, Option, Some, None, option_map}
 use Rattle.bz_tree.specs.Tree.{Segment, Statement}
 use Rattle.bz_rule.specs.Labels.{Package}
-use Rattle.bz_rule.specs.Commands.{Command, Add, Remove, Set, SetIfAbsent, Delete, Rename, Move, Replace, Comment, Print, Setting, ToKind, ToValues, Commented, Rule, Attribute, Value}
+use Rattle.bz_rule.specs.Commands.{Command, Add, Remove, Set, SetIfAbsent, Delete, Rename, Move, Replace, Comment, Print, ToKind, ToValues, Rule, Attribute, Value}
 use Rattle.bz_rule.specs.Rules.{first_named, rule_of}
 use Rattle.bz_rule.specs.Effects.{has, done, add, adds, not_a_list, remove, removes, rename, rename_note, is_absent, with_args, slot_done, holds_rule}
 use Rattle.bz_rule.specs.Setting.{set, sets, set_if_absent, with_kind, sets_kind}
@@ -20,6 +20,7 @@ stands (Set setting) = true
 stands (SetIfAbsent attr values) = true
 stands Delete = true
 stands (Rename old new) = true
+stands (Comment place text) = true
 stands (Print fields) = true
 stands _ = false
 

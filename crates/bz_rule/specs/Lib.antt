@@ -4,6 +4,7 @@ pub mod ChosenViews
 pub mod Commands
 pub mod CommandViews
 pub mod Commenting
+pub mod CommentPlaces
 pub mod EditSteps
 pub mod Effects
 pub mod Labels

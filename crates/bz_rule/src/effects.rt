@@ -1,6 +1,7 @@
 //! The commands, one a file.
 
 pub(crate) mod add;
+pub(crate) mod comment;
 pub(crate) mod print;
 pub(crate) mod remove;
 pub(crate) mod rename;

@@ -9,9 +9,10 @@ ghost use Rattle.bz_rule.specs.Commands as commands;
 ghost use Rattle.bz_rule.specs.Effects as spec;
 ghost use Rattle.bz_rule.specs.Applied as applied;
 
-use crate::command::{Action, Command, Setting};
+use crate::command::{Action, Command, Commented, Setting};
 use crate::done::Done;
 use crate::effects::add::add;
+use crate::effects::comment::{comment, comment_rule};
 use crate::effects::print::print;
 use crate::effects::remove::remove;
 use crate::effects::rename::rename;
@@ -57,6 +58,10 @@ fn carry_out(
         Action::Delete => Ok(delete(slot)),
         Action::Set(Setting::ToKind(kind)) => {
             let done = set_kind(alloc, kind.as_str(), slot)?;
+            Ok(done)
+        }
+        Action::Comment(Commented::Rule, text) => {
+            let done = comment_rule(alloc, text.as_str(), slot)?;
             Ok(done)
         }
         Action::Print(fields) => {
@@ -207,6 +212,7 @@ fn in_args(
             set_if_absent(alloc, attr.as_str(), values.as_slice(), args)
         }
         Action::Rename(old, new) => rename(alloc, old.as_str(), new.as_str(), args),
+        Action::Comment(commented, text) => comment(alloc, home, commented, text.as_str(), args),
         _ => Ok(Done::quiet(false)),
     }
 }
@@ -223,6 +229,7 @@ pub(crate) fn stands(command: &Command) -> bool
         | Action::SetIfAbsent(_, _)
         | Action::Delete
         | Action::Rename(_, _)
+        | Action::Comment(_, _)
         | Action::Print(_) => true,
         _ => false,
     }
