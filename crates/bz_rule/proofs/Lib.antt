@@ -1,4 +1,5 @@
 mod ArgEdits
+mod Arguments
 mod CallEdits
 mod Calls
 mod CommentEdits
@@ -11,6 +12,7 @@ mod FirstPart
 mod Fresh
 mod Groups
 mod KindEdits
+mod Kept
 mod LastParts
 mod Literals
 mod Mapped
@@ -18,9 +20,12 @@ mod Mended
 mod Numbers
 mod PartEdits
 mod Printed
+mod PartLaws
 mod Quoting
-mod Reading
 mod ReadBack
 mod SetLaws
+mod Reading
+mod Removal
+mod Renaming
 mod Stays
 mod Views

@@ -19,7 +19,7 @@ items_back : (xs : Items) → items_of (list_of xs) ≡ xs
 items_back no_items = refl
 items_back (item x xs) = ap (λ (ys : Items). item x ys) (items_back xs)
 
-segs_back : (ss : Segs) → segs_of (segments ss) ≡ ss
+pub segs_back : (ss : Segs) → segs_of (segments ss) ≡ ss
 segs_back no_segs = refl
 segs_back (seg before nodes suffix ss) = λ i. seg before (items_back nodes i) suffix (segs_back ss i)
 

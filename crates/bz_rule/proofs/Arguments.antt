@@ -1,0 +1,73 @@
+-- Arguments with another value, and the first of a name.
+use Rattle.std.proofs.Common.{◌≡◌, ℕ, List, [], ◌∷◌, ◌++◌, Bool, true, false, ◌||◌, if◌then◌else◌, Option, Some, None, option_map, is_some, drop, take, length, refl, ap, sym, ◌∙◌, arith, codes}
+use Rattle.std.proofs.lemmas.List.{append_cancel_right}
+use Rattle.bz_tree.specs.Tree.{Item, Segment}
+use Rattle.bz_rule.specs.Rules.{is_named, is_text, first_named, name_of, value}
+use Rattle.bz_rule.specs.Lists.{is_attribute, with_value}
+use Rattle.bz_rule.specs.Effects.{edit_first, has}
+
+pub attribute_named : (attr : List ℕ) (a : Segment) → is_named attr a ≡ true → is_attribute a ≡ true
+attribute_named attr a h = elim (name_of a.nodes) as (λ n. is_text attr n ≡ true → is_some n ≡ true) [ None ↦ λ k. absurd cc | Some n ↦ λ k. refl ] h
+
+dropped : (xs nodes : List Item) → is_some (name_of xs) ≡ true → drop 2 (take 2 xs ++ nodes) ≡ nodes
+dropped [] nodes h = absurd cc
+dropped (x ∷ []) nodes h = absurd cc
+dropped (x ∷ y ∷ xs) nodes h = refl
+
+pub value_put : (nodes : List Item) (a : Segment) → is_attribute a ≡ true → value (with_value nodes a) ≡ nodes
+value_put nodes a h = dropped a.nodes nodes h
+
+name_taken : (xs nodes : List Item) → is_some (name_of xs) ≡ true → name_of (take 2 xs ++ nodes) ≡ name_of xs
+name_taken [] nodes h = absurd cc
+name_taken (x ∷ []) nodes h = absurd cc
+name_taken (x ∷ y ∷ xs) nodes h = refl
+
+pub name_put : (nodes : List Item) (a : Segment) → is_attribute a ≡ true → name_of (with_value nodes a).nodes ≡ name_of a.nodes
+name_put nodes a h = name_taken a.nodes nodes h
+
+rejoined : (xs : List Item) → take 2 xs ++ drop 2 xs ≡ xs
+rejoined [] = refl
+rejoined (x ∷ []) = refl
+rejoined (x ∷ y ∷ xs) = refl
+
+pub value_back : (a : Segment) → with_value (value a) a ≡ a
+value_back a = ap (λ (nodes : List Item). record a { nodes = nodes }) (rejoined a.nodes)
+
+pub is_first_named : (attr : List ℕ) (args : List Segment) (a : Segment) → first_named attr args ≡ Some a → is_named attr a ≡ true
+is_first_named attr [] a h = absurd cc
+is_first_named attr (b ∷ args) a h =
+    elim (is_named attr b) as (λ t. is_named attr b ≡ t → (if t then Some b else first_named attr args) ≡ Some a → is_named attr a ≡ true) [
+      | true ↦ λ e k. let is : b ≡ a = cc in ap (is_named attr) (sym is) ∙ e
+      | false ↦ λ e k. is_first_named attr args a k
+    ] refl h
+
+pub has_first : (attr : List ℕ) (args : List Segment) → has attr args ≡ is_some (first_named attr args)
+has_first attr [] = refl
+has_first attr (a ∷ args) =
+    elim (is_named attr a) as (λ b. b || has attr args ≡ is_some (if b then Some a else first_named attr args)) [ true ↦ refl | false ↦ has_first attr args ]
+
+-- where all stay, the first does
+pub first_same : (attr : List ℕ) (f : Segment → List Segment) (args : List Segment) (a : Segment) → first_named attr args ≡ Some a → edit_first (is_named attr) f args ≡ args → f a ≡ a ∷ []
+first_same attr f [] a h same = absurd cc
+first_same attr f (b ∷ args) a h same =
+    elim (is_named attr b) as (λ t. (if t then Some b else first_named attr args) ≡ Some a → (if t then f b ++ args else b ∷ edit_first (is_named attr) f args) ≡ b ∷ args → f a ≡ a ∷ []) [
+      | true ↦ λ k s. let is : b ≡ a = cc in ap f (sym is) ∙ append_cancel_right (f b) (b ∷ []) args s ∙ ap (λ (z : Segment). z ∷ []) is
+      | false ↦ λ k s. let rest : edit_first (is_named attr) f args ≡ args = cc in first_same attr f args a k rest
+    ] h same
+
+-- where the first stays, all do
+pub rest_same : (attr : List ℕ) (f : Segment → List Segment) (args : List Segment) → ((a : Segment) → first_named attr args ≡ Some a → f a ≡ a ∷ []) → edit_first (is_named attr) f args ≡ args
+rest_same attr f [] keep = refl
+rest_same attr f (b ∷ args) keep =
+    elim (is_named attr b) as (λ t. ((a : Segment) → (if t then Some b else first_named attr args) ≡ Some a → f a ≡ a ∷ []) → (if t then f b ++ args else b ∷ edit_first (is_named attr) f args) ≡ b ∷ args) [
+      | true ↦ λ k. ap (λ (zs : List Segment). zs ++ args) (k b refl)
+      | false ↦ λ k. ap (λ (zs : List Segment). b ∷ zs) (rest_same attr f args k)
+    ] keep
+
+-- the first of a name, after an edit that leaves the name
+pub first_after : (attr : List ℕ) (g : Segment → Segment) (args : List Segment) → ((a : Segment) → is_named attr a ≡ true → is_named attr (g a) ≡ true)
+    → first_named attr (edit_first (is_named attr) (λ a. g a ∷ []) args) ≡ option_map g (first_named attr args)
+first_after attr g [] named = refl
+first_after attr g (a ∷ args) named =
+    elim (is_named attr a) as (λ t. is_named attr a ≡ t → first_named attr (if t then g a ∷ args else a ∷ edit_first (is_named attr) (λ z. g z ∷ []) args) ≡ option_map g (if t then Some a else first_named attr args))
+    [ true ↦ λ e. rw (named a e) refl | false ↦ λ e. rw e (first_after attr g args named) ] refl

@@ -1,0 +1,110 @@
+-- `remove`: it changes something exactly where it says so, and leaves none of what it removes.
+use Rattle.std.proofs.Common.{◌≡◌, ℕ, List, [], ◌∷◌, ◌++◌, Bool, true, false, ◌&&◌, ◌||◌, not, if◌then◌else◌, Option, Some, None, map, filter, refl, ap, sym, ◌∙◌}
+use Rattle.std.specs.List.{list_any, flat_map}
+use Rattle.std.proofs.lemmas.Bool.{or_parts, and_right}
+use Rattle.std.proofs.lemmas.List.Folds.{list_any-append}
+use Rattle.bz_tree.specs.declared.stmt.GroupKind.TheVariants.{Call, RuleCall, Load, Paren, List as ListKind, Index, Dict, ListComp, DictComp}
+use Rattle.bz_tree.specs.Tree.{Item, leaf, group, Segment, segments}
+use Rattle.bz_rule.specs.Labels.{Package}
+use Rattle.bz_rule.specs.Commands.{Attributes, Every, Named, Moved, Values}
+use Rattle.bz_rule.specs.Rules.{is_named, first_named, value}
+use Rattle.bz_rule.specs.Lists.{edit_parts, is_attribute, parts, with_value}
+use Rattle.bz_rule.specs.Effects.{chooses, chooses_anywhere, chooses_in, edit_first, filtered, filtered_everywhere, goes_with_all, has, is_chosen, is_nil, loses_all, remove, remove_values, removes, unchosen}
+use Rattle.bz_rule.proofs.Kept.{all_stay, all_stay_in, none_left, none_left_in, none_passes, none_passes_in}
+use Rattle.bz_rule.proofs.PartLaws.{parts_edited, parts_stay}
+use Rattle.bz_rule.proofs.Arguments.{attribute_named, first_same, is_first_named, rest_same, value_back, value_put}
+
+empty_or_not : (ss : List Segment) → not (is_nil ss) && is_nil ss ≡ false
+empty_or_not [] = refl
+empty_or_not (s ∷ ss) = refl
+
+none_lost : (p : Segment → Bool) (nodes : List Item) → list_any (list_any p) (parts nodes) ≡ false → loses_all (λ ss. filter (λ s. not (p s)) ss) nodes ≡ false
+none_lost p [] h = refl
+none_lost p (x ∷ y ∷ ys) h = refl
+none_lost p (leaf kind text place ∷ []) h = refl
+none_lost p (group Call segs one_comma end ∷ []) h = refl
+none_lost p (group RuleCall segs one_comma end ∷ []) h = refl
+none_lost p (group Load segs one_comma end ∷ []) h = refl
+none_lost p (group Paren segs one_comma end ∷ []) h = refl
+none_lost p (group ListKind segs one_comma end ∷ []) h = rw (all_stay p (segments segs) (or_parts (list_any p (segments segs)) false h).0) (empty_or_not (segments segs))
+none_lost p (group Index segs one_comma end ∷ []) h = refl
+none_lost p (group Dict segs one_comma end ∷ []) h = refl
+none_lost p (group ListComp segs one_comma end ∷ []) h = refl
+none_lost p (group DictComp segs one_comma end ∷ []) h = refl
+
+pub filtered_stays : (home : Package) (chosen : Moved) (a : Segment) → chooses home chosen a ≡ false → filtered (unchosen home chosen) a ≡ a ∷ []
+filtered_stays home chosen a h =
+    let edited : edit_parts (unchosen home chosen) (value a) ≡ value a = parts_stay (unchosen home chosen) (value a) (all_stay_in (is_chosen home chosen) (parts (value a)) h) in
+    let kept : loses_all (unchosen home chosen) (value a) ≡ false = none_lost (is_chosen home chosen) (value a) h in
+    rw (kept, edited) (ap (λ (z : Segment). z ∷ []) (value_back a))
+
+parts_put : (home : Package) (chosen : Moved) (a : Segment) → is_attribute a ≡ true → parts (value (with_value (edit_parts (unchosen home chosen) (value a)) a)) ≡ map (unchosen home chosen) (parts (value a))
+parts_put home chosen a h = ap parts (value_put (edit_parts (unchosen home chosen) (value a)) a h) ∙ parts_edited (unchosen home chosen) (value a)
+
+pub filtered_same : (home : Package) (chosen : Moved) (a : Segment) → is_attribute a ≡ true → filtered (unchosen home chosen) a ≡ a ∷ [] → chooses home chosen a ≡ false
+filtered_same home chosen a h same =
+    elim (loses_all (unchosen home chosen) (value a)) as (λ b. (if b then [] else with_value (edit_parts (unchosen home chosen) (value a)) a ∷ []) ≡ a ∷ [] → chooses home chosen a ≡ false) [
+      | true ↦ λ k. absurd cc
+      | false ↦ λ k.
+          let is : with_value (edit_parts (unchosen home chosen) (value a)) a ≡ a = cc in
+          none_passes_in (is_chosen home chosen) (parts (value a)) (sym (parts_put home chosen a h) ∙ ap (λ (z : Segment). parts (value z)) is)
+    ] same
+
+-- what is left of an argument has no chosen element
+pub filtered_left : (home : Package) (chosen : Moved) (a : Segment) → is_attribute a ≡ true → list_any (chooses home chosen) (filtered (unchosen home chosen) a) ≡ false
+filtered_left home chosen a h =
+    elim (loses_all (unchosen home chosen) (value a)) as (λ b. list_any (chooses home chosen) (if b then [] else with_value (edit_parts (unchosen home chosen) (value a)) a ∷ []) ≡ false) [
+      | true ↦ refl
+      | false ↦ rw (parts_put home chosen a h, none_left_in (is_chosen home chosen) (parts (value a))) refl
+    ]
+
+-- a test that passes less
+less : (p q : Segment → Bool) (ss : List Segment) → list_any q ss ≡ false → list_any (λ s. p s && q s) ss ≡ false
+less p q [] h = refl
+less p q (s ∷ ss) h =
+    let both = or_parts (q s) (list_any q ss) h in
+    rw (and_right (p s) (q s) both.0) (less p q ss both.1)
+
+pub everywhere_left : (home : Package) (chosen : Moved) (args : List Segment) → chooses_anywhere home chosen (filtered_everywhere (unchosen home chosen) args) ≡ false
+everywhere_left home chosen [] = refl
+everywhere_left home chosen (a ∷ args) =
+    let p : Segment → Bool = λ z. is_attribute z && chooses home chosen z in
+    let rest : list_any p (filtered_everywhere (unchosen home chosen) args) ≡ false = everywhere_left home chosen args in
+    let here : list_any p (if is_attribute a then filtered (unchosen home chosen) a else a ∷ []) ≡ false =
+        elim (is_attribute a) as (λ b. is_attribute a ≡ b → list_any p (if b then filtered (unchosen home chosen) a else a ∷ []) ≡ false)
+        [ true ↦ λ e. less is_attribute (chooses home chosen) (filtered (unchosen home chosen) a) (filtered_left home chosen a e) | false ↦ λ e. rw e refl ] refl in
+    list_any-append p (if is_attribute a then filtered (unchosen home chosen) a else a ∷ []) (filtered_everywhere (unchosen home chosen) args) ∙ rw (here, rest) refl
+
+pub everywhere_stays : (home : Package) (chosen : Moved) (args : List Segment) → chooses_anywhere home chosen args ≡ false → filtered_everywhere (unchosen home chosen) args ≡ args
+everywhere_stays home chosen [] h = refl
+everywhere_stays home chosen (a ∷ args) h =
+    let both = or_parts (is_attribute a && chooses home chosen a) (chooses_anywhere home chosen args) h in
+    let here : (if is_attribute a then filtered (unchosen home chosen) a else a ∷ []) ≡ a ∷ [] =
+        elim (is_attribute a) as (λ b. b && chooses home chosen a ≡ false → (if b then filtered (unchosen home chosen) a else a ∷ []) ≡ a ∷ [])
+        [ true ↦ λ k. filtered_stays home chosen a k | false ↦ λ k. refl ] both.0 in
+    rw here (ap (λ (zs : List Segment). a ∷ zs) (everywhere_stays home chosen args both.1))
+
+values_stay : (home : Package) (attr : List ℕ) (values : List (List ℕ)) (args : List Segment) → chooses_in home (Values values) (first_named attr args) ≡ false → remove_values home attr values args ≡ args
+values_stay home attr values args h =
+    rest_same attr (filtered (unchosen home (Values values))) args (λ a first.
+      filtered_stays home (Values values) a (ap (chooses_in home (Values values)) (sym first) ∙ h))
+
+values_differ : (home : Package) (attr : List ℕ) (values : List (List ℕ)) (args : List Segment) (first : Option Segment) → first_named attr args ≡ first → chooses_in home (Values values) first ≡ true → remove_values home attr values args ≡ args → ⊥
+values_differ home attr values args None e h same = cc
+values_differ home attr values args (Some a) e h same =
+    let attribute : is_attribute a ≡ true = attribute_named attr a (is_first_named attr args a e) in
+    let none : chooses home (Values values) a ≡ false = filtered_same home (Values values) a attribute (first_same attr (filtered (unchosen home (Values values))) args a e same) in
+    cc
+
+pub remove_stays : (home : Package) (attrs : Attributes) (values : List (List ℕ)) (args : List Segment) → removes home attrs values args ≡ false → remove home attrs values args ≡ args
+remove_stays home Every [] args h = all_stay goes_with_all args h
+remove_stays home Every (v ∷ values) args h = everywhere_stays home (Values (v ∷ values)) args h
+remove_stays home (Named attr) [] args h = all_stay (is_named attr) args h
+remove_stays home (Named attr) (v ∷ values) args h = values_stay home attr (v ∷ values) args h
+
+pub remove_differs : (home : Package) (attrs : Attributes) (values : List (List ℕ)) (args : List Segment) → removes home attrs values args ≡ true → remove home attrs values args ≡ args → ⊥
+remove_differs home Every [] args h same = let none : list_any goes_with_all args ≡ false = none_passes goes_with_all args same in cc
+remove_differs home Every (v ∷ values) args h same =
+    let none : chooses_anywhere home (Values (v ∷ values)) args ≡ false = ap (chooses_anywhere home (Values (v ∷ values))) (sym same) ∙ everywhere_left home (Values (v ∷ values)) args in cc
+remove_differs home (Named attr) [] args h same = let none : has attr args ≡ false = none_passes (is_named attr) args same in cc
+remove_differs home (Named attr) (v ∷ values) args h same = values_differ home attr (v ∷ values) args (first_named attr args) refl h same

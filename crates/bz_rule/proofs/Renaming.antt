@@ -1,0 +1,41 @@
+-- `rename` changes something exactly where it tells nothing.
+use Rattle.std.proofs.Common.{◌≡◌, ℕ, List, [], ◌∷◌, Bool, true, false, ◌||◌, Option, Some, None, refl, ap, sym, ◌∙◌, if◌then◌else◌, codes, bytes_eq, rules}
+use Rattle.std.proofs.lemmas.Bool.{or_right}
+use Rattle.bz_tree.specs.Tree.{Item, Segment}
+use Rattle.bz_rule.specs.Rules.{ident_of, is_named, is_sign, is_text, name_of}
+use Rattle.bz_rule.specs.Effects.{edit_first, done, has, rename, rename_note, rename_to, renamed}
+use Rattle.bz_rule.specs.declared.done.Note.{Note}
+use Rattle.bz_rule.specs.declared.done.Note.TheVariants.{AttributeExists, NoAttribute}
+
+bytes_same : (name : List ℕ) → bytes_eq name name ≡ true
+bytes_same name = search rules
+
+named_now : (old new : List ℕ) (xs : List Item) → is_text old (name_of xs) ≡ true → is_text new (name_of (renamed new xs)) ≡ true
+named_now old new [] h = absurd cc
+named_now old new (x ∷ []) h = absurd cc
+named_now old new (x ∷ y ∷ xs) h =
+    elim (is_sign (codes "=") y) as (λ b. is_text old (if b then ident_of x else None) ≡ true → is_text new (if b then Some new else None) ≡ true)
+    [ true ↦ λ k. bytes_same new | false ↦ λ k. absurd cc ] h
+
+renamed_has : (old new : List ℕ) (args : List Segment) → has old args ≡ true → has new (edit_first (is_named old) (λ a. rename_to new a ∷ []) args) ≡ true
+renamed_has old new [] h = absurd cc
+renamed_has old new (a ∷ args) h =
+    elim (is_named old a) as (λ b. is_named old a ≡ b → b || has old args ≡ true → has new (if b then rename_to new a ∷ args else a ∷ edit_first (is_named old) (λ z. rename_to new z ∷ []) args) ≡ true) [
+      | true ↦ λ e k. rw (named_now old new a.nodes e) refl
+      | false ↦ λ e k. or_right (is_named new a) _ (renamed_has old new args k)
+    ] refl h
+
+-- the new name is there afterwards, and was not before
+pub rename_differs : (old new : List ℕ) (args : List Segment) → rename_note old new args ≡ None → rename old new args ≡ args → ⊥
+rename_differs old new args quiet same =
+    elim (has old args) as (λ h. has old args ≡ h → (if h then (if has new args then Some (AttributeExists new) else None) else Some (NoAttribute old)) ≡ None → ⊥) [
+      | true ↦ λ here q.
+          elim (has new args) as (λ n. has new args ≡ n → (if n then Some (AttributeExists new) else None) ≡ None → ⊥) [
+            | true ↦ λ taken k. cc
+            | false ↦ λ free k.
+                let now : has new (rename old new args) ≡ true = rw (here, free) (renamed_has old new args here) in
+                let before : has new (rename old new args) ≡ false = ap (has new) same ∙ free in
+                cc
+          ] refl q
+      | false ↦ λ absent q. cc
+    ] refl quiet
