@@ -1,3 +1,4 @@
+mod Adding
 mod ArgEdits
 mod Arguments
 mod CallEdits
@@ -5,6 +6,7 @@ mod Calls
 mod CommentEdits
 mod Cuts
 mod Decoding
+mod Differences
 mod Examples
 mod Fields
 mod First
@@ -14,6 +16,7 @@ mod Groups
 mod KindEdits
 mod Kept
 mod LastParts
+mod Likeness
 mod Literals
 mod Mapped
 mod Mended
