@@ -1,4 +1,5 @@
 mod Adding
+mod Again
 mod ArgEdits
 mod Arguments
 mod CallEdits

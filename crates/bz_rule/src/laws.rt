@@ -1,11 +1,16 @@
 //! Laws of the definitions that the contracts cite. Each function does nothing: its contract is the law.
 
-ghost use Rattle.std.specs.Prelude.{◌≡◌, ◌↔◌, ℕ, List, Some, is_some, true};
-ghost use Rattle.bz_tree.specs.Tree.{Statement};
+ghost use Rattle.std.specs.Prelude.{◌≡◌, ◌↔◌, ◌≤◌, ◌++◌, ◌∷◌, ℕ, List, [], None, Option, Some, filter, is_some, length, false, true};
+ghost use Rattle.std.specs.List.{list_all, list_any};
+ghost use Rattle.bz_tree.specs.Tree.{Segment, Statement};
+ghost use Rattle.bz_rule.specs.Applied.{after, done_of, stands};
+ghost use Rattle.bz_rule.specs.Commands.{Add, Command, Every, Named, Values};
+ghost use Rattle.bz_rule.specs.Effects as effects;
 ghost use Rattle.bz_rule.specs.Labels.{Package};
 ghost use Rattle.bz_rule.specs.Labels as spec;
 ghost use Rattle.bz_rule.specs.Marks.{marks};
-ghost use Rattle.bz_rule.specs.Rules.{Rule, rule_of, name_in, kind_text};
+ghost use Rattle.bz_rule.specs.Lists.{is_attribute};
+ghost use Rattle.bz_rule.specs.Rules.{Rule, first_named, is_named, rule_of, name_in, kind_text};
 ghost use Rattle.bz_rule.specs.Same.{IsSame, IsEquivalence};
 ghost use Rattle.bz_rule.specs.Values.{value_of, quoted};
 
@@ -25,4 +30,30 @@ pub fn marks_are_of_rules()
     ensures name { (name : List ℕ) (s : Statement) (r : Rule) → rule_of s.nodes ≡ Some r → (marks (spec.Name name) s ≡ true) ↔ (name_in r.args ≡ Some name) }
     ensures kind { (kind : List ℕ) (s : Statement) (r : Rule) → rule_of s.nodes ≡ Some r → (marks (spec.Kind kind) s ≡ true) ↔ (kind_text r.kind ≡ kind) }
     ensures all { (s : Statement) → is_some (rule_of s.nodes) ≡ true → marks spec.All s ≡ true }
+{}
+
+/// A command tells that it changed something exactly where what stands in the slot is another than before.
+pub fn changed_tells_a_difference()
+    ensures { (c : Command) (home : Package) (slot : Option Statement) → stands c ≡ true → ((done_of c home slot).changed ≡ true) ↔ (after c home slot ≡ slot → ⊥) }
+{}
+
+/// Where `add` does not fail, an element equals each of its values afterwards, so `remove` finds them.
+pub fn added_values_are_found()
+    ensures { (home : Package) (attr : List ℕ) (values : List (List ℕ)) (args : List Segment) → effects.not_a_list attr (first_named attr args) ≡ None → list_all (λ v. effects.chooses_in home (Values (v ∷ [])) (first_named attr (effects.add home attr values args))) values ≡ true }
+{}
+
+/// A second `add` of the same values does nothing.
+pub fn add_twice_is_add_once()
+    ensures { (home : Package) (attr : List ℕ) (values : List (List ℕ)) (slot : Option Statement) → after (Add attr values) home (after (Add attr values) home slot) ≡ after (Add attr values) home slot }
+{}
+
+/// What `remove` removes is not there afterwards: attributes; the values, where there is one argument of the name at most;
+/// the values in all attributes. Where there are more of the name, the first is edited and all else stays.
+pub fn removed_is_gone()
+    ensures attribute { (home : Package) (attr : List ℕ) (args : List Segment) → effects.has attr (effects.remove home (Named attr) [] args) ≡ false }
+    ensures all { (home : Package) (args : List Segment) → list_any effects.goes_with_all (effects.remove home Every [] args) ≡ false }
+    ensures values { (home : Package) (attr : List ℕ) (values : List (List ℕ)) (args : List Segment) → length (filter (is_named attr) args) ≤ 1 → effects.chooses_in home (Values values) (first_named attr (effects.remove home (Named attr) values args)) ≡ false }
+    ensures everywhere { (home : Package) (values : List (List ℕ)) (args : List Segment) → effects.chooses_anywhere home (Values values) (effects.remove home Every values args) ≡ false }
+    ensures edited { (home : Package) (values : List (List ℕ)) (a : Segment) → is_attribute a ≡ true → list_any (effects.chooses home (Values values)) (effects.filtered (effects.unchosen home (Values values)) a) ≡ false }
+    ensures rest { (home : Package) (attr : List ℕ) (values : List (List ℕ)) (front rest : List Segment) (a : Segment) → effects.has attr front ≡ false → is_named attr a ≡ true → effects.remove_values home attr values (front ++ a ∷ rest) ≡ front ++ (effects.filtered (effects.unchosen home (Values values)) a ++ rest) }
 {}

@@ -1,0 +1,43 @@
+-- A statement whose arguments were edited, read and edited again.
+use Rattle.std.proofs.Common.{◌≡◌, List, [], ◌∷◌, ◌++◌, Bool, true, false, ◌&&◌, Option, Some, None, option_map, if◌then◌else◌, refl, ap, sym, ◌∙◌}
+use Rattle.std.proofs.lemmas.Bool.{and_parts}
+use Rattle.bz_tree.specs.declared.stmt.GroupKind.TheVariants.{RuleCall}
+use Rattle.bz_tree.specs.Tree.{Item, group, Segment, Statement, segs_of}
+use Rattle.bz_rule.specs.Rules.{Rule, call_at, comma_of, dotted, elements, end_of, is_call, rule_from, rule_of}
+use Rattle.bz_rule.specs.Effects.{nodes_after, nodes_of, with_args}
+use Rattle.bz_rule.proofs.Views.{segments_of}
+use Rattle.bz_rule.proofs.Calls.{rule_from_end}
+
+call_dotted : (kind : List Item) (x : Item) (r : Rule) → call_at kind x ≡ Some r → dotted true r.kind ≡ true
+call_dotted kind x r h =
+    elim (is_call x && dotted true kind) as (λ b. is_call x && dotted true kind ≡ b → (if b then Some (record { kind = kind; args = elements x; one_comma = comma_of x; end = end_of x }) else None) ≡ Some r → dotted true r.kind ≡ true) [
+      | true ↦ λ e k.
+          let is : record { kind = kind; args = elements x; one_comma = comma_of x; end = end_of x } ≡ r = cc in
+          ap (λ (z : Rule). dotted true z.kind) (sym is) ∙ (and_parts (is_call x) (dotted true kind) e).1
+      | false ↦ λ e k. absurd cc
+    ] refl h
+
+rule_dotted : (kind nodes : List Item) (r : Rule) → rule_from kind nodes ≡ Some r → dotted true r.kind ≡ true
+rule_dotted kind [] r h = absurd cc
+rule_dotted kind (x ∷ []) r h = call_dotted kind x r h
+rule_dotted kind (x ∷ y ∷ xs) r h = rule_dotted (kind ++ x ∷ []) (y ∷ xs) r h
+
+-- with other arguments it is the same rule with these
+pub rule_back : (nodes : List Item) (r : Rule) (args : List Segment) → rule_of nodes ≡ Some r → rule_of (nodes_of (record r { args = args })) ≡ Some (record r { args = args })
+rule_back nodes r args h =
+    let dots : dotted true r.kind ≡ true = rule_dotted [] nodes r h in
+    rule_from_end [] r.kind (group RuleCall (segs_of args) r.one_comma r.end) ∙ rw (dots, segments_of args) refl
+
+nodes_twice : (f : List Segment → List Segment) → ((args : List Segment) → f (f args) ≡ f args) → (nodes : List Item)
+    → nodes_after f (nodes_after f nodes (rule_of nodes)) (rule_of (nodes_after f nodes (rule_of nodes))) ≡ nodes_after f nodes (rule_of nodes)
+nodes_twice f once nodes =
+    elim (rule_of nodes) as (λ o. rule_of nodes ≡ o → nodes_after f (nodes_after f nodes o) (rule_of (nodes_after f nodes o)) ≡ nodes_after f nodes o) [
+      | None ↦ λ e. rw e refl
+      | Some r ↦ λ e. rw (rule_back nodes r (f r.args) e) (ap (λ (args : List Segment). nodes_of (record r { args = args })) (once r.args))
+    ] refl
+
+-- an effect that is the same twice as once is so on statements
+pub slot_twice : (f : List Segment → List Segment) → ((args : List Segment) → f (f args) ≡ f args) → (slot : Option Statement)
+    → option_map (with_args f) (option_map (with_args f) slot) ≡ option_map (with_args f) slot
+slot_twice f once None = refl
+slot_twice f once (Some s) = ap (λ (nodes : List Item). Some (record s { nodes = nodes })) (nodes_twice f once s.nodes)

@@ -1,0 +1,5 @@
+use Rattle.bz_rule.proofs.Differences.{changed_tells}
+use Rattle.bz_rule.proofs.laws.changed_tells_a_difference.Goals as goal
+
+pub returns : goal.returns
+returns c = changed_tells
