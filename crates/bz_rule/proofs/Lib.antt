@@ -1,5 +1,6 @@
 mod Adding
 mod Again
+mod AllComments
 mod ArgEdits
 mod Arguments
 mod CallEdits
@@ -22,6 +23,7 @@ mod Literals
 mod Mapped
 mod Mended
 mod Numbers
+mod OwnComments
 mod PartEdits
 mod Printed
 mod PartLaws

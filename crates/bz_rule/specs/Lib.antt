@@ -13,6 +13,7 @@ pub mod Lists
 pub mod Marks
 pub mod Moving
 pub mod Names
+pub mod OwnComments
 pub mod Places
 pub mod Printing
 pub mod PrintSteps
