@@ -87,7 +87,7 @@ any_head : (p : Segment → Bool) (new : List Segment) (lists : List (List Segme
 any_head p new [] h = absurd cc
 any_head p new (ss ∷ lists) h = rw (list_any-append p ss new) (grouped (list_any p ss) (list_any (list_any p) lists) (list_any p new))
 
-parts_with : (home : Package) (values : List (List ℕ)) (a : Segment) → is_attribute a ≡ true → no_parts (parts (value a)) ≡ false
+pub parts_with : (home : Package) (values : List (List ℕ)) (a : Segment) → is_attribute a ≡ true → no_parts (parts (value a)) ≡ false
     → parts (value (with_added home values a)) ≡ edit_head (λ ss. ss ++ new_elements home (parts (value a)) values) (parts (value a))
 parts_with home values a h some =
     rw some (ap parts (value_put (edit_first_part (λ ss. ss ++ new_elements home (parts (value a)) values) (value a)) a h) ∙ parts_first_edited (λ ss. ss ++ new_elements home (parts (value a)) values) (value a))
@@ -259,3 +259,9 @@ add_differs home attr values args h same =
           elim (no_parts (parts (value a))) as (λ b. no_parts (parts (value a)) ≡ b → (done (if b then Some (NotAList attr) else None) (adds home values (Some a))).changed ≡ true → ⊥)
           [ true ↦ λ n m. cc | false ↦ λ n m. added_differs home values a attribute n m is ] refl k
     ] refl h
+
+-- the new elements stand at the end of the first list, and all others stay
+pub added_elements : (home : Package) (values : List (List ℕ)) (a : Segment) (ss : List Segment) (lists : List (List Segment)) → is_attribute a ≡ true → parts (value a) ≡ ss ∷ lists
+    → parts (value (with_added home values a)) ≡ (ss ++ new_elements home (ss ∷ lists) values) ∷ lists
+added_elements home values a ss lists h is =
+    parts_with home values a h (ap no_parts is) ∙ ap (λ (ls : List (List Segment)). edit_head (λ zs. zs ++ new_elements home ls values) ls) is

@@ -1,19 +1,20 @@
 -- All comments of a statement, where an edit leaves them.
-use Rattle.std.proofs.Common.{◌≡◌, ℕ, List, [], ◌∷◌, ◌++◌, Bool, true, false, ◌&&◌, ◌||◌, not, if◌then◌else◌, Option, Some, None, option_map, is_some, map, take, drop, codes, refl, ap, sym, ◌∙◌, append_assoc, append-nil}
-use Rattle.std.specs.List.{list_all}
+use Rattle.std.proofs.Common.{◌≡◌, ℕ, List, [], ◌∷◌, ◌++◌, Bool, true, false, ◌&&◌, ◌||◌, not, if◌then◌else◌, Option, Some, None, option_map, is_some, map, take, codes, bytes_eq, ◌==◌, refl, ap, sym, ◌∙◌, append_assoc, append-nil}
+use Rattle.std.specs.List.{list_all, slice_split}
 use Rattle.std.proofs.lemmas.Bool.{and_parts}
-use Rattle.bz_token.specs.declared.token.Kind.TheVariants.{Ident, Word, Int, Text, Sign, Line, Note as NoteKind}
+use Rattle.bz_token.specs.declared.token.Kind.TheVariants.{Ident, Word, Int, Text, Sign, Line, Note as NoteKind, Kept}
 use Rattle.bz_tree.specs.declared.stmt.GroupKind.TheVariants.{RuleCall}
 use Rattle.bz_tree.specs.Tree.{Item, leaf, group, Segs, Segment, Statement, items_of, segs_of, segments, nowhere}
 use Rattle.bz_tree.specs.Comments.{beside, comments_of, item_comments, items_comments, segs_comments}
 use Rattle.bz_rule.specs.Labels.{Package}
 use Rattle.bz_rule.specs.Commands.{Attributes, Every, Named}
-use Rattle.bz_rule.specs.Rules.{Rule, first_named, ident_of, is_named, is_sign, is_text, name_of, only_text, rule_of, string_value, text_of, value, value_in}
+use Rattle.bz_rule.specs.Rules.{Rule, dotted, first_named, ident_of, kind_text, is_named, is_sign, is_text, name_of, only_text, rule_of, string_value, text_of, value, value_in}
 use Rattle.bz_rule.specs.Lists.{edit_first_part, edit_from, edit_list, edit_one_from, edit_parts, equals, is_attribute, is_joint, is_part, is_plus, parts, same_value, with_value}
 use Rattle.bz_rule.specs.Effects.{add, argument, edit_first, fresh, has, list_item, new_elements, no_parts, nodes_after, nodes_of, rename, rename_note, rename_to, renamed, string, string_item, with_added, with_args}
-use Rattle.bz_rule.specs.Setting.{New, NewConstant, NewNumber, NewString, NewStrings, new_of, new_value, set_if_absent}
+use Rattle.bz_rule.specs.Setting.{New, NewConstant, NewNumber, NewString, NewStrings, joined_by_dots, kind_after, kind_items, new_of, new_value, set_if_absent, with_kind}
 use Rattle.bz_rule.specs.Replacing.{is_replaced, replace, replaced, replaced_in}
 use Rattle.bz_rule.proofs.Stays.{rule_nodes, segs_back}
+use Rattle.bz_rule.proofs.Again.{rule_dotted}
 use Rattle.bz_rule.proofs.Arguments.{value_back}
 
 -- the comments of nodes, of an argument or element, of some of these
@@ -180,3 +181,40 @@ pub slot_comments : (f : List Segment → List Segment) → ((args : List Segmen
     → option_map comments_of (option_map (with_args f) slot) ≡ option_map comments_of slot
 slot_comments f keep None = refl
 slot_comments f keep (Some s) = ap (λ (cs : List (List ℕ)). Some cs) (statement_comments f keep s)
+
+-- the identifiers and dots of a kind have no comments
+kind_none : (ident : Bool) (kind : List Item) → dotted ident kind ≡ true → in_nodes kind ≡ []
+kind_none true [] h = absurd cc
+kind_none false [] h = refl
+kind_none true (leaf Ident text place ∷ xs) h = kind_none false xs h
+kind_none true (leaf Word text place ∷ xs) h = absurd cc
+kind_none true (leaf Int text place ∷ xs) h = absurd cc
+kind_none true (leaf Text text place ∷ xs) h = absurd cc
+kind_none true (leaf Sign text place ∷ xs) h = absurd cc
+kind_none true (leaf Line text place ∷ xs) h = absurd cc
+kind_none true (leaf NoteKind text place ∷ xs) h = absurd cc
+kind_none true (leaf Kept text place ∷ xs) h = absurd cc
+kind_none true (group kind segs one_comma end ∷ xs) h = absurd cc
+kind_none false (leaf kind text place ∷ xs) h = kind_none true xs (and_parts (is_sign (codes ".") (leaf kind text place)) (dotted true xs) h).1
+kind_none false (group kind segs one_comma end ∷ xs) h = absurd cc
+
+names_none : (names : List (List ℕ)) → in_nodes (joined_by_dots names) ≡ []
+names_none [] = refl
+names_none (name ∷ []) = refl
+names_none (name ∷ other ∷ names) = names_none (other ∷ names)
+
+kind_keeps : (kind : List ℕ) (nodes : List Item) (o : Option Rule) → rule_of nodes ≡ o → in_nodes (kind_after kind nodes o) ≡ in_nodes nodes
+kind_keeps kind nodes None e = refl
+kind_keeps kind nodes (Some r) e =
+    elim (bytes_eq (kind_text r.kind) kind) as (λ b. in_nodes (if b then nodes else nodes_of (record r { kind = kind_items kind })) ≡ in_nodes nodes) [
+      | true ↦ refl
+      | false ↦
+          let call : List Item = group RuleCall (segs_of r.args) r.one_comma r.end ∷ [] in
+          let now : in_nodes (kind_items kind ++ call) ≡ in_nodes call = nodes_joined (kind_items kind) call ∙ ap (λ (cs : List (List ℕ)). cs ++ in_nodes call) (names_none (slice_split (λ b. b == 46) kind)) in
+          let was : in_nodes (r.kind ++ call) ≡ in_nodes call = nodes_joined r.kind call ∙ ap (λ (cs : List (List ℕ)). cs ++ in_nodes call) (kind_none true r.kind (rule_dotted [] nodes r e)) in
+          now ∙ sym was ∙ ap in_nodes (rule_nodes [] nodes r e)
+    ]
+
+pub kind_comments : (kind : List ℕ) (slot : Option Statement) → option_map comments_of (option_map (with_kind kind) slot) ≡ option_map comments_of slot
+kind_comments kind None = refl
+kind_comments kind (Some s) = ap (λ (cs : List (List ℕ)). Some (s.before ++ (cs ++ beside s.suffix))) (kind_keeps kind s.nodes (rule_of s.nodes) refl)
