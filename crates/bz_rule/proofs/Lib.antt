@@ -17,6 +17,7 @@ mod Fresh
 mod Groups
 mod KindEdits
 mod Kept
+mod LabelSets
 mod LastParts
 mod Likeness
 mod Literals

@@ -8,6 +8,7 @@ pub mod CommentPlaces
 pub mod EditSteps
 pub mod Effects
 pub mod Labels
+pub mod LabelSets
 pub mod LabelViews
 pub mod Lists
 pub mod Marks

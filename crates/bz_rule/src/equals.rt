@@ -48,7 +48,8 @@ pub(crate) fn same(home: &Package, a: Bytes<'_>, b: Bytes<'_>) -> bool
     equal(completed(home, a), completed(home, b))
 }
 
-fn completed<'a>(home: &'a Package, text: Bytes<'a>) -> Chain<'a>
+/// A label in full.
+pub(crate) fn completed<'a>(home: &'a Package, text: Bytes<'a>) -> Chain<'a>
     requires { IsTrue (is_good text) }
     ensures bytes { chain_bytes result ≡ same.completed home.now (left text.entry) }
     ensures good { IsTrue (is_good_chain result) }
@@ -169,7 +170,8 @@ fn last_part<'a>(path: Bytes<'a>) -> Bytes<'a>
     last
 }
 
-fn equal(a: Chain<'_>, b: Chain<'_>) -> bool
+/// The two have the same bytes.
+pub(crate) fn equal(a: Chain<'_>, b: Chain<'_>) -> bool
     requires a { IsTrue (is_good_chain a) }
     requires b { IsTrue (is_good_chain b) }
     ensures { result ≡ bytes_eq (chain_bytes a.entry) (chain_bytes b.entry) }
@@ -189,8 +191,8 @@ fn equal(a: Chain<'_>, b: Chain<'_>) -> bool
     next_in(b).is_none()
 }
 
-// The next byte, and what is left behind it.
-fn next_in<'a>(chain: Chain<'a>) -> Option<(u8, Chain<'a>)>
+/// The next byte, and what is left behind it.
+pub(crate) fn next_in<'a>(chain: Chain<'a>) -> Option<(u8, Chain<'a>)>
     requires { IsTrue (is_good_chain chain) }
     ensures next { MatchOption result (chain_bytes chain.entry ≡ []) (λ p. chain_bytes chain.entry ≡ p.0 ∷ chain_bytes p.1) }
     ensures good { IfSome result (λ p. IsTrue (is_good_chain p.1)) }

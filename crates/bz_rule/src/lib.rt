@@ -13,6 +13,7 @@ mod edited;
 mod effects;
 mod equals;
 mod find;
+mod label_set;
 mod labels;
 pub mod laws;
 mod list;

@@ -1,0 +1,9 @@
+-- For private clauses alone: the labels that a set has.
+use Rattle.std.specs.Prelude.{ℕ, List, Bool, bytes_eq}
+use Rattle.std.specs.List.{list_any}
+use Rattle.bz_rule.specs.Same.{completed}
+use Rattle.bz_rule.specs.declared.label_set.LabelSet.{LabelSet}
+
+-- a label of the set is the same as the text
+abbrev pub has : LabelSet → List ℕ → Bool
+has set text = list_any (bytes_eq (completed set.home.now text)) set.labels.keys
