@@ -1,7 +1,17 @@
 -- Labels in a set.
-use Rattle.std.proofs.Common.{◌≡◌, ℕ, List, Bool, true, false, ◌||◌, cond, refl, ap, ◌∙◌}
+use Rattle.std.proofs.Common.{◌≡◌, ℕ, ◌+◌, ◌<◌, List, [], ◌∷◌, Bool, true, false, ◌||◌, cond, if◌then◌else◌, length, drop, get_or, refl, ap, sym, ◌∙◌}
 use Rattle.std.specs.Prelude.{bytes_eq}
+use Rattle.std.specs.List.{list_any}
 use Rattle.std.proofs.lemmas.Cmp.{nat_list_eq_equiv}
+use Rattle.std.proofs.lemmas.List.{drop_more, get_or_default}
+use Rattle.bz_tree.specs.declared.stmt.Node.{Node}
+use Rattle.bz_tree.specs.declared.stmt.Seg.{Seg}
+use Rattle.bz_tree.specs.View.{node_view, nodes_view, seg_view, segs_view}
+use Rattle.bz_tree.specs.Tree.{Item, Segment}
+use Rattle.bz_rule.specs.Rules.{elements}
+use Rattle.bz_rule.specs.Labels.{Package}
+use Rattle.bz_rule.specs.Same.{completed}
+use Rattle.bz_rule.specs.Lists.{is_part, is_plus, parts_from, same}
 
 or_is : (a b : Bool) → cond a true b ≡ (a || b)
 or_is true b = refl
@@ -10,3 +20,42 @@ or_is false b = refl
 -- whether q is there once k was added
 pub one_more : (k q : List ℕ) (b : Bool) → cond (bytes_eq k q) true b ≡ (bytes_eq q k || b)
 one_more k q b = ap (λ (z : Bool). cond z true b) (nat_list_eq_equiv.symm k q) ∙ or_is (bytes_eq q k) b
+
+pub same_back : (home : Package) (a b : List ℕ) → same home a b ≡ same home b a
+same_back home a b = nat_list_eq_equiv.symm (completed home a) (completed home b)
+
+pub or_false : (a : Bool) → (a || false) ≡ a
+or_false true = refl
+or_false false = refl
+
+or_swap : (a b c : Bool) → (b || (a || c)) ≡ ((a || b) || c)
+or_swap true true c = refl
+or_swap true false c = refl
+or_swap false b c = refl
+
+-- one element on
+pub element_step : (p : Segment → Bool) (xs : List Seg) (i : ℕ) (x d : Seg) (before after : Bool) → i < length xs → x ≡ get_or xs i d → after ≡ (p (seg_view x) || before)
+    → (list_any p (segs_view (drop (i + 1) xs)) || after) ≡ (list_any p (segs_view (drop i xs)) || before)
+element_step p xs i x d before after h at made =
+    let rest : Bool = list_any p (segs_view (drop (i + 1) xs)) in
+    let here : drop i xs ≡ x ∷ drop (i + 1) xs = drop_more xs i d h ∙ ap (λ (z : Seg). z ∷ drop (i + 1) xs) (sym at) in
+    ap (λ (z : Bool). rest || z) made ∙ or_swap (p (seg_view x)) rest before ∙ ap (λ (zs : List Seg). list_any p (segs_view zs) || before) (sym here)
+
+some_part : (f : List Segment → Bool) (start b : Bool) (x : Item) (xs : List Item) (before after : Bool) → is_part start x xs ≡ b → after ≡ ((if b then f (elements x) else false) || before)
+    → (list_any f (parts_from (is_plus x) xs) || after) ≡ (list_any f (parts_from start (x ∷ xs)) || before)
+some_part f start true x xs before after part made = rw (part, made) (or_swap (f (elements x)) (list_any f (parts_from (is_plus x) xs)) before)
+some_part f start false x xs before after part made = rw (part, made) refl
+
+-- one node on, which is a part where b is true
+pub part_step : (f : List Segment → Bool) (start next b : Bool) (xs : List Node) (i : ℕ) (x y d e : Node) (before after : Bool) → i < length xs → x ≡ get_or xs i d → y ≡ get_or xs i e → next ≡ is_plus (node_view y)
+    → is_part start (node_view (get_or xs i d)) (nodes_view (drop (i + 1) xs)) ≡ b
+    → after ≡ ((if b then f (elements (node_view x)) else false) || before)
+    → (list_any f (parts_from next (nodes_view (drop (i + 1) xs))) || after) ≡ (list_any f (parts_from start (nodes_view (drop i xs))) || before)
+part_step f start next b xs i x y d e before after h at read then_next part made =
+    let rest : List Item = nodes_view (drop (i + 1) xs) in
+    let here : drop i xs ≡ x ∷ drop (i + 1) xs = drop_more xs i d h ∙ ap (λ (z : Node). z ∷ drop (i + 1) xs) (sym at) in
+    let same : y ≡ x = read ∙ get_or_default xs i e d h ∙ sym at in
+    let is : is_part start (node_view x) rest ≡ b = ap (λ (z : Node). is_part start (node_view z) rest) at ∙ part in
+    ap (λ (z : Bool). list_any f (parts_from z rest) || after) (then_next ∙ ap (λ (z : Node). is_plus (node_view z)) same)
+    ∙ some_part f start b (node_view x) rest before after is made
+    ∙ ap (λ (zs : List Node). list_any f (parts_from start (nodes_view zs)) || before) (sym here)

@@ -1,8 +1,9 @@
 //! Which elements equal a word: the completed forms are compared byte by byte.
 
-ghost use Rattle.std.specs.Prelude.{◌≡◌, IsTrue, MatchOption, IfSome, [], ◌∷◌, ◌++◌, bytes_eq};
+ghost use Rattle.std.specs.Prelude.{◌≡◌, IsTrue, MatchOption, IfSome, IfNone, None, Some, [], ◌∷◌, ◌++◌, bytes_eq};
 ghost use Rattle.std.specs.List.{list_any};
 ghost use Rattle.bz_tree.specs.View.{seg_view};
+ghost use Rattle.bz_rule.specs.Rules.{string_value};
 ghost use Rattle.bz_rule.specs.Labels.{is_colon, last_of, parts_of};
 ghost use Rattle.bz_rule.specs.Same as same;
 ghost use Rattle.bz_rule.specs.Lists as spec;
@@ -14,17 +15,27 @@ use crate::package::Package;
 use crate::rule::only_text;
 use bz_tree::Seg;
 
+/// The value of an element that is one string.
+pub(crate) fn string_of<'n>(element: &'n Seg<'_>) -> Option<Bytes<'n>>
+    ensures none { IfNone result (string_value (seg_view element.now).nodes ≡ None) }
+    ensures some { IfSome result (λ bytes. string_value (seg_view element.now).nodes ≡ Some (left bytes)) }
+    ensures good { IfSome result (λ bytes. IsTrue (is_good bytes)) }
+{
+    let Some(text) = only_text(&element.nodes) else {
+        return None;
+    };
+    let value = value_of(text);
+    value
+}
+
 /// The element is one string whose value is the same label as the word.
 pub(crate) fn equals(home: &Package, element: &Seg<'_>, word: &str) -> bool
     ensures { result ≡ spec.equals home.now word.now (seg_view element.now) }
 {
-    let Some(text) = only_text(&element.nodes) else {
-        return false;
-    };
-    let Some(value) = value_of(text) else {
-        return false;
-    };
-    same(home, Bytes::Plain(word.as_bytes()), value)
+    match string_of(element) {
+        None => false,
+        Some(value) => same(home, Bytes::Plain(word.as_bytes()), value),
+    }
 }
 
 /// The element equals one of the words.

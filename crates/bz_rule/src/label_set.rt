@@ -1,6 +1,6 @@
 //! Labels of one package, found by hashing: each is hashed and compared in full, byte by byte.
 
-ghost use Rattle.std.specs.Prelude.{◌≡◌, ◌||◌, ℕ, List, [], ◌∷◌, map, fold, false, not, IsTrue, IfOk, OnOk, OnErr};
+ghost use Rattle.std.specs.Prelude.{◌≡◌, ℕ, List, [], ◌∷◌, map, fold, false, not, IsTrue, IfOk, OnOk, OnErr};
 ghost use Rattle.std.specs.Str.{bytes_eq};
 ghost use Rattle.std.proofs.Common.{rules};
 ghost use Rattle.std.specs.Cmp.Rules.{hashing};
@@ -96,7 +96,7 @@ impl<'a> LabelSet<'a> {
     pub(crate) fn insert(&mut self, text: Bytes<'a>) -> Result<bool, AllocError>
         requires { IsTrue (is_good text) }
         ensures new { IfOk result (λ new. new ≡ not (spec.has self.old (left text.entry))) }
-        ensures ok { OnOk result ((other : List ℕ) → spec.has self.new other ≡ (same self.old.home.now other (left text.entry) || spec.has self.old other)) }
+        ensures ok { OnOk result (spec.Gains (λ other. same self.old.home.now other (left text.entry)) self.old self.new) }
         ensures err { OnErr result ((other : List ℕ) → spec.has self.new other ≡ spec.has self.old other) }
         ensures home { self.new.home.now ≡ self.old.home.now }
     {

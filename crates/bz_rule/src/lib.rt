@@ -17,6 +17,7 @@ mod label_set;
 mod labels;
 pub mod laws;
 mod list;
+mod list_labels;
 mod lists;
 mod make;
 mod marks;
