@@ -1,19 +1,19 @@
 //! `add`: values that are missing go to the end of a list.
 
-ghost use Rattle.std.specs.Prelude.{◌≡◌, ◌≤◌, ◌++◌, ◌∷◌, [], map, Some, length, if◌then◌else◌, true, IfOk, OnOk, OnErr};
-ghost use Rattle.std.specs.List.{list_any};
+ghost use Rattle.std.specs.Prelude.{◌≡◌, ◌≤◌, ◌++◌, ◌∷◌, [], map, Some, length, if◌then◌else◌, not, true, IfOk, OnOk, OnErr};
 ghost use Rattle.bz_tree.specs.View.{node_view, nodes_view, seg_view, segs_view};
 ghost use Rattle.bz_rule.specs.Rules.{first_named, is_named, value};
 ghost use Rattle.bz_rule.specs.Lists.{edit_first_part, edit_list, parts, same};
+ghost use Rattle.bz_rule.specs.LabelSets.{Gains, has};
 ghost use Rattle.bz_rule.specs.Places.{IsFirstPart};
 ghost use Rattle.bz_rule.specs.Effects as spec;
 
 use crate::bytes::Bytes;
-use crate::chosen::{Chosen, is_any_chosen};
 use crate::done::{Done, Note};
-use crate::equals::same;
 use crate::find::find;
+use crate::label_set::LabelSet;
 use crate::list::Text;
+use crate::list_labels::labels_in;
 use crate::lists::first_part;
 use crate::make::{list_argument, string};
 use crate::package::Package;
@@ -100,50 +100,29 @@ fn new_elements<'a>(
 ) -> Result<Vec<Seg<'a>>, AllocError>
     ensures { IfOk result (λ new. segs_view new.items ≡ spec.new_elements home.now (parts (nodes_view value.now)) values.now) }
 {
+    let mut there = labels_in(alloc, home, value)?;
     let mut new = Vec::new(alloc);
     for i in 0..values.len() {
-        push_fresh(
-            alloc,
-            home,
-            value,
-            &values[..i],
-            values[i].as_str(),
-            &mut new,
-        )?;
+        push_new(alloc, values[i].as_str(), &mut there, &mut new)?;
     }
     Ok(new)
 }
 
-fn push_fresh<'a>(
+// Adds an element for the text, where the set does not have it yet, and the text to the set.
+fn push_new<'t, 'a>(
     alloc: Global,
-    home: &Package,
-    value: &[Node<'_>],
-    earlier: &[Text],
-    word: &str,
+    text: &'t str,
+    there: &mut LabelSet<'t>,
     new: &mut Vec<Seg<'a>>,
 ) -> Result<(), AllocError>
-    ensures { OnOk result (segs_view new.new.items ≡ segs_view new.old.items ++ map spec.string (if spec.is_fresh home.now (parts (nodes_view value.now)) earlier.now word.now then word.now ∷ [] else [])) }
+    ensures new { OnOk result (segs_view new.new.items ≡ segs_view new.old.items ++ map spec.string (if not (has there.old text.now) then text.now ∷ [] else [])) }
+    ensures there { OnOk result (Gains (λ other. same there.old.home.now other text.now) there.old there.new) }
+    ensures home { there.new.home.now ≡ there.old.home.now }
 {
-    if is_any_chosen(home, Chosen::Value(word), value) || is_any_same(home, word, earlier) {
-        return Ok(());
+    if there.insert(Bytes::Plain(text.as_bytes()))? {
+        new.push(string(alloc, text)?)?;
     }
-    new.push(string(alloc, word)?)?;
     Ok(())
-}
-
-fn is_any_same(home: &Package, word: &str, others: &[Text]) -> bool
-    ensures { result ≡ list_any (same home.now word.now) others.now }
-{
-    for other in others {
-        if same(
-            home,
-            Bytes::Plain(word.as_bytes()),
-            Bytes::Plain(other.as_str().as_bytes()),
-        ) {
-            return true;
-        }
-    }
-    false
 }
 
 // Adds elements at the end of a list. An `Err` leaves the node as it was.

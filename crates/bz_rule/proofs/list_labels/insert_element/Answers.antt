@@ -11,4 +11,4 @@ returns-in_ok-insert-in-Some-clause-ok c = λ text.
     let value = left c.in-Some.value in
     c.in_ok-insert-in-Some.ensures.ok text
     ∙ ap (λ (z : Bool). z || has c.args.set.now text)
-      (same_back home text value ∙ sym (or_false (same home value text)) ∙ ap (λ (z : Option (List ℕ)). same_value home text z || false) (sym c.in-Some.ensures.some))
+    (same_back home text value ∙ sym (or_false (same home value text)) ∙ ap (λ (z : Option (List ℕ)). same_value home text z || false) (sym c.in-Some.ensures.some))

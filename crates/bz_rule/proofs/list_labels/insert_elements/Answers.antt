@@ -13,10 +13,10 @@ pub loop-element-preserved : goal.loop-element-preserved
 loop-element-preserved c = record {
   home = c.in_ok-insert_element.ensures.home ∙ c.loop-element.invariant.home;
   same = λ text.
-    element_step (is_chosen c.args.set.now.home.now (Values (text ∷ []))) c.args.elements.now c.loop-element.element-index c.element-item.result _ (has c.loop-element.set text) (has c.insert_element.new.set text)
+      element_step (is_chosen c.args.set.now.home.now (Values (text ∷ []))) c.args.elements.now c.loop-element.element-index c.element-item.result _ (has c.loop-element.set text) (has c.insert_element.new.set text)
       (omega (arith, c.loop-element-test.true)) c.element-item.is
       (c.in_ok-insert_element.ensures.ok text ∙ ap (λ (home : Package). is_chosen home (Values (text ∷ [])) (seg_view c.element-item.result) || has c.loop-element.set text) c.loop-element.invariant.home)
-    ∙ c.loop-element.invariant.same text;
+      ∙ c.loop-element.invariant.same text;
 }
 
 pub returns-clause-ok : goal.returns-clause-ok

@@ -6,5 +6,5 @@ use Rattle.bz_rule.proofs.list_labels.insert_elements.Given as goal
 abbrev pub invariant-loop-element : goal.invariant-loop-element
 invariant-loop-element l = record {
   home : l.set.home.now ≡ l.initial.set.home.now;
-  same : (text : List ℕ) → (is_among l.initial.set.home.now (segs_view (drop l.element-index l.elements)) text || has l.set text) ≡ (is_among l.initial.set.home.now (segs_view l.elements) text || has l.initial.set text)
+  same : (text : List ℕ) → (is_among l.initial.set.home.now (segs_view (drop l.element-index l.elements)) text || has l.set text) ≡ (is_among l.initial.set.home.now (segs_view l.elements) text || has l.initial.set text);
 }

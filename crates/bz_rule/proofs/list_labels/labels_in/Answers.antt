@@ -22,8 +22,8 @@ pub loop-i-init : goal.loop-i-init
 loop-i-init c = record {
   home = c.new-set.ensures.home;
   same = λ text.
-    ap (λ (b : Bool). is_in c.args.home.now (parts_from true (nodes_view c.args.value.now)) text || b) (c.new-set.ensures.empty text)
-    ∙ or_false (is_in c.args.home.now (parts_from true (nodes_view c.args.value.now)) text);
+      ap (λ (b : Bool). is_in c.args.home.now (parts_from true (nodes_view c.args.value.now)) text || b) (c.new-set.ensures.empty text)
+      ∙ or_false (is_in c.args.home.now (parts_from true (nodes_view c.args.value.now)) text);
 }
 
 pub returns-clause-all : goal.returns-clause-all
@@ -37,19 +37,19 @@ pub loop-i-preserved : goal.loop-i-preserved
 loop-i-preserved c =
     elim c.if-is_part.branch [
       | then-is_part+in_ok-insert_list w ↦ record {
-          home = ap (λ (s : LabelSet). s.home.now) w.set-is ∙ w.in_ok-insert_list.ensures.home ∙ c.loop-i.invariant.home;
-          same = λ text.
+        home = ap (λ (s : LabelSet). s.home.now) w.set-is ∙ w.in_ok-insert_list.ensures.home ∙ c.loop-i.invariant.home;
+        same = λ text.
             part_step (λ ss. is_among c.args.home.now ss text) c.loop-i.start _ true c.args.value.now c.loop-i.i w.index-value-i.result c.index-value-i-in-loop-i.result _ _ (has c.loop-i.set text) (has c.if-is_part.set text)
-              (omega (arith, c.loop-i-test.true)) w.index-value-i.is c.index-value-i-in-loop-i.is c.is_sign-start.ensures (sym (c.is_part.ensures _) ∙ w.if-is_part.true)
-              (ap (λ (s : LabelSet). has s text) w.set-is ∙ w.in_ok-insert_list.ensures.ok text ∙ ap (λ (home : Package). is_among home (elements (node_view w.index-value-i.result)) text || has c.loop-i.set text) c.loop-i.invariant.home)
+            (omega (arith, c.loop-i-test.true)) w.index-value-i.is c.index-value-i-in-loop-i.is c.is_sign-start.ensures (sym (c.is_part.ensures _) ∙ w.if-is_part.true)
+            (ap (λ (s : LabelSet). has s text) w.set-is ∙ w.in_ok-insert_list.ensures.ok text ∙ ap (λ (home : Package). is_among home (elements (node_view w.index-value-i.result)) text || has c.loop-i.set text) c.loop-i.invariant.home)
             ∙ c.loop-i.invariant.same text;
-        }
+      }
       | else-is_part w ↦ record {
-          home = ap (λ (s : LabelSet). s.home.now) w.set-is ∙ c.loop-i.invariant.home;
-          same = λ text.
+        home = ap (λ (s : LabelSet). s.home.now) w.set-is ∙ c.loop-i.invariant.home;
+        same = λ text.
             part_step (λ ss. is_among c.args.home.now ss text) c.loop-i.start _ false c.args.value.now c.loop-i.i c.index-value-i-in-loop-i.result c.index-value-i-in-loop-i.result _ _ (has c.loop-i.set text) (has c.if-is_part.set text)
-              (omega (arith, c.loop-i-test.true)) c.index-value-i-in-loop-i.is c.index-value-i-in-loop-i.is c.is_sign-start.ensures (sym (c.is_part.ensures _) ∙ w.if-is_part.false)
-              (ap (λ (s : LabelSet). has s text) w.set-is)
+            (omega (arith, c.loop-i-test.true)) c.index-value-i-in-loop-i.is c.index-value-i-in-loop-i.is c.is_sign-start.ensures (sym (c.is_part.ensures _) ∙ w.if-is_part.false)
+            (ap (λ (s : LabelSet). has s text) w.set-is)
             ∙ c.loop-i.invariant.same text;
-        }
+      }
     ]

@@ -7,5 +7,5 @@ use Rattle.bz_rule.proofs.list_labels.labels_in.Given as goal
 abbrev pub invariant-loop-i : goal.invariant-loop-i
 invariant-loop-i l = record {
   home : l.set.home.now ≡ l.home;
-  same : (text : List ℕ) → (is_in l.home (parts_from l.start (nodes_view (drop l.i l.value))) text || has l.set text) ≡ is_in l.home (parts_from true (nodes_view l.value)) text
+  same : (text : List ℕ) → (is_in l.home (parts_from l.start (nodes_view (drop l.i l.value))) text || has l.set text) ≡ is_in l.home (parts_from true (nodes_view l.value)) text;
 }
