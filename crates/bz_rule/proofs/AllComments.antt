@@ -4,8 +4,8 @@ use Rattle.std.specs.List.{list_all, slice_split}
 use Rattle.std.proofs.lemmas.Bool.{and_parts}
 use Rattle.bz_token.specs.declared.token.Kind.TheVariants.{Ident, Word, Int, Text, Sign, Line, Note as NoteKind, Kept}
 use Rattle.bz_tree.specs.declared.stmt.GroupKind.TheVariants.{RuleCall}
-use Rattle.bz_tree.specs.Tree.{Item, leaf, group, Segs, Segment, Statement, items_of, segs_of, segments, nowhere}
-use Rattle.bz_tree.specs.Comments.{beside, comments_of, item_comments, items_comments, segs_comments}
+use Rattle.bz_tree.specs.Tree.{Item, leaf, group, Items, no_items, item, Segs, no_segs, seg, Segment, Statement, items_of, segs_of, segments, nowhere}
+use Rattle.bz_tree.specs.Comments.{Lists, beside, comments_of, joined, item_owners, items_owners, segs_owners}
 use Rattle.bz_rule.specs.Labels.{Package}
 use Rattle.bz_rule.specs.Commands.{Attributes, Every, Named}
 use Rattle.bz_rule.specs.Rules.{Rule, dotted, first_named, ident_of, kind_text, is_named, is_sign, is_text, name_of, only_text, rule_of, string_value, text_of, value, value_in}
@@ -17,12 +17,46 @@ use Rattle.bz_rule.proofs.Stays.{rule_nodes, segs_back}
 use Rattle.bz_rule.proofs.Again.{rule_dotted}
 use Rattle.bz_rule.proofs.Arguments.{value_back}
 
+-- all comments, owner by owner
+abbrev mutual
+  item_comments : Item → List (List ℕ)
+  item_comments (leaf kind text place) = []
+  item_comments (group kind segs one_comma end) = segs_comments segs ++ end
+
+  items_comments : Items → List (List ℕ)
+  items_comments no_items = []
+  items_comments (item x xs) = item_comments x ++ items_comments xs
+
+  segs_comments : Segs → List (List ℕ)
+  segs_comments no_segs = []
+  segs_comments (seg before nodes suffix segs) = (before ++ (beside suffix ++ items_comments nodes)) ++ segs_comments segs
+
+owners_joined : (xs ys : Lists) → joined (xs ++ ys) ≡ joined xs ++ joined ys
+owners_joined [] ys = refl
+owners_joined (x ∷ xs) ys = rw (owners_joined xs ys) (sym (append_assoc x (joined xs) (joined ys)))
+
+mutual
+  item_is : (x : Item) → joined (item_owners x) ≡ item_comments x
+  item_is (leaf kind text place) = refl
+  item_is (group kind segs one_comma end) = rw (owners_joined (segs_owners segs) (end ∷ []), append-nil end, segs_are segs) refl
+
+  items_are : (xs : Items) → joined (items_owners xs) ≡ items_comments xs
+  items_are no_items = refl
+  items_are (item x xs) = rw (owners_joined (item_owners x) (items_owners xs), item_is x, items_are xs) refl
+
+  segs_are : (ss : Segs) → joined (segs_owners ss) ≡ segs_comments ss
+  segs_are no_segs = refl
+  segs_are (seg before nodes suffix segs) = rw (owners_joined (before ∷ beside suffix ∷ items_owners nodes) (segs_owners segs), items_are nodes, segs_are segs) refl
+
+statement_is : (s : Statement) → comments_of s ≡ s.before ++ (beside s.suffix ++ items_comments (items_of s.nodes))
+statement_is s = rw (items_are (items_of s.nodes)) refl
+
 -- the comments of nodes, of an argument or element, of some of these
 abbrev pub in_nodes : List Item → List (List ℕ)
 in_nodes nodes = items_comments (items_of nodes)
 
 abbrev pub in_one : Segment → List (List ℕ)
-in_one s = s.before ++ (in_nodes s.nodes ++ beside s.suffix)
+in_one s = s.before ++ (beside s.suffix ++ in_nodes s.nodes)
 
 abbrev pub in_all : List Segment → List (List ℕ)
 in_all ss = segs_comments (segs_of ss)
@@ -63,7 +97,7 @@ first_part_keeps f keep nodes =
 value_keeps : (nodes : List Item) (a : Segment) → in_nodes nodes ≡ in_nodes (value a) → in_one (with_value nodes a) ≡ in_one a
 value_keeps nodes a h =
     let all : in_nodes (take 2 a.nodes ++ nodes) ≡ in_nodes (take 2 a.nodes ++ value a) = nodes_joined (take 2 a.nodes) nodes ∙ ap (λ (cs : List (List ℕ)). in_nodes (take 2 a.nodes) ++ cs) h ∙ sym (nodes_joined (take 2 a.nodes) (value a)) in
-    ap (λ (cs : List (List ℕ)). a.before ++ (cs ++ beside a.suffix)) all ∙ ap in_one (value_back a)
+    ap (λ (cs : List (List ℕ)). a.before ++ (beside a.suffix ++ cs)) all ∙ ap in_one (value_back a)
 
 first_keeps : (attr : List ℕ) (g : Segment → Segment) → ((a : Segment) → is_named attr a ≡ true → in_one (g a) ≡ in_one a) → (args : List Segment) → in_all (edit_first (is_named attr) (λ a. g a ∷ []) args) ≡ in_all args
 first_keeps attr g keep [] = refl
@@ -130,7 +164,7 @@ pub rename_comments : (old new : List ℕ) (args : List Segment) → in_all (ren
 rename_comments old new args =
     elim (is_some (rename_note old new args)) as (λ b. in_all (if b then args else edit_first (is_named old) (λ a. rename_to new a ∷ []) args) ≡ in_all args) [
       | true ↦ refl
-      | false ↦ first_keeps old (rename_to new) (λ a h. ap (λ (cs : List (List ℕ)). a.before ++ (cs ++ beside a.suffix)) (name_keeps old new a.nodes h)) args
+      | false ↦ first_keeps old (rename_to new) (λ a h. ap (λ (cs : List (List ℕ)). a.before ++ (beside a.suffix ++ cs)) (name_keeps old new a.nodes h)) args
     ]
 
 -- a string is a token
@@ -150,7 +184,7 @@ replaced_keeps home old new s =
     elim (is_replaced home old new s) as (λ b. is_replaced home old new s ≡ b → in_one (if b then record s { nodes = string_item new ∷ [] } else s) ≡ in_one s) [
       | true ↦ λ e.
           let none : in_nodes s.nodes ≡ [] = equal_none home old s (and_parts (equals home old s) (not (is_text new (string_value s.nodes))) e).0 in
-          ap (λ (cs : List (List ℕ)). s.before ++ (cs ++ beside s.suffix)) (sym none)
+          ap (λ (cs : List (List ℕ)). s.before ++ (beside s.suffix ++ cs)) (sym none)
       | false ↦ λ e. refl
     ] refl
 
@@ -175,7 +209,7 @@ statement_comments f keep s =
             ∙ sym (nodes_joined r.kind (group RuleCall (segs_of r.args) r.one_comma r.end ∷ []))
             ∙ ap in_nodes (rule_nodes [] s.nodes r e)
       ] refl in
-    ap (λ (cs : List (List ℕ)). s.before ++ (cs ++ beside s.suffix)) nodes
+    statement_is (with_args f s) ∙ ap (λ (cs : List (List ℕ)). s.before ++ (beside s.suffix ++ cs)) nodes ∙ sym (statement_is s)
 
 pub slot_comments : (f : List Segment → List Segment) → ((args : List Segment) → in_all (f args) ≡ in_all args) → (slot : Option Statement)
     → option_map comments_of (option_map (with_args f) slot) ≡ option_map comments_of slot
@@ -217,4 +251,6 @@ kind_keeps kind nodes (Some r) e =
 
 pub kind_comments : (kind : List ℕ) (slot : Option Statement) → option_map comments_of (option_map (with_kind kind) slot) ≡ option_map comments_of slot
 kind_comments kind None = refl
-kind_comments kind (Some s) = ap (λ (cs : List (List ℕ)). Some (s.before ++ (cs ++ beside s.suffix))) (kind_keeps kind s.nodes (rule_of s.nodes) refl)
+kind_comments kind (Some s) =
+    ap (λ (cs : List (List ℕ)). Some cs)
+      (statement_is (with_kind kind s) ∙ ap (λ (cs : List (List ℕ)). s.before ++ (beside s.suffix ++ cs)) (kind_keeps kind s.nodes (rule_of s.nodes) refl) ∙ sym (statement_is s))
