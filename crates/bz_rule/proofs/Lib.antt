@@ -28,6 +28,7 @@ mod OwnComments
 mod PartEdits
 mod Printed
 mod PartLaws
+mod Pool
 mod Quoting
 mod ReadBack
 mod SetLaws

@@ -18,6 +18,7 @@ pub mod OwnComments
 pub mod Places
 pub mod Printing
 pub mod PrintSteps
+pub mod ReplaceSteps
 pub mod Replacing
 pub mod Rules
 pub mod RuleViews

@@ -9,3 +9,4 @@ pub(crate) mod set;
 pub(crate) mod set_kind;
 #[cfg(test)]
 mod set_tests;
+pub(crate) mod replace;

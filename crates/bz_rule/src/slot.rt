@@ -16,6 +16,7 @@ use crate::effects::comment::{comment, comment_rule};
 use crate::effects::print::print;
 use crate::effects::remove::remove;
 use crate::effects::rename::rename;
+use crate::effects::replace::replace;
 use crate::effects::set::{set, set_if_absent};
 use crate::effects::set_kind::set_kind;
 use crate::find::call_at;
@@ -212,6 +213,9 @@ fn in_args(
             set_if_absent(alloc, attr.as_str(), values.as_slice(), args)
         }
         Action::Rename(old, new) => rename(alloc, old.as_str(), new.as_str(), args),
+        Action::Replace(attributes, old, new) => {
+            replace(alloc, home, attributes, old.as_str(), new.as_str(), args)
+        }
         Action::Comment(commented, text) => comment(alloc, home, commented, text.as_str(), args),
         _ => Ok(Done::quiet(false)),
     }
@@ -229,6 +233,7 @@ pub(crate) fn stands(command: &Command) -> bool
         | Action::SetIfAbsent(_, _)
         | Action::Delete
         | Action::Rename(_, _)
+        | Action::Replace(_, _, _)
         | Action::Comment(_, _)
         | Action::Print(_) => true,
         _ => false,
