@@ -4,7 +4,8 @@ use Rattle.std.proofs.lemmas.Bool.{and_parts}
 use Rattle.bz_tree.specs.declared.stmt.GroupKind.TheVariants.{RuleCall}
 use Rattle.bz_tree.specs.Tree.{Item, group, Segment, Statement, segs_of}
 use Rattle.bz_rule.specs.Rules.{Rule, call_at, comma_of, dotted, elements, end_of, is_call, rule_from, rule_of}
-use Rattle.bz_rule.specs.Effects.{nodes_after, nodes_of, with_args}
+use Rattle.bz_rule.specs.declared.done.Done.{Done}
+use Rattle.bz_rule.specs.Effects.{done_in, nodes_after, nodes_of, slot_done, with_args}
 use Rattle.bz_rule.proofs.Views.{segments_of}
 use Rattle.bz_rule.proofs.Calls.{rule_from_end}
 
@@ -41,3 +42,13 @@ pub slot_twice : (f : List Segment → List Segment) → ((args : List Segment) 
     → option_map (with_args f) (option_map (with_args f) slot) ≡ option_map (with_args f) slot
 slot_twice f once None = refl
 slot_twice f once (Some s) = ap (λ (nodes : List Item). Some (record s { nodes = nodes })) (nodes_twice f once s.nodes)
+
+-- an effect that would change nothing more on arguments would change nothing more on statements
+pub slot_again : (f : List Segment → List Segment) (g : List Segment → Done) → ((args : List Segment) → (g (f args)).changed ≡ false) → (slot : Option Statement)
+    → (slot_done g (option_map (with_args f) slot)).changed ≡ false
+slot_again f g quiet None = refl
+slot_again f g quiet (Some s) =
+    elim (rule_of s.nodes) as (λ o. rule_of s.nodes ≡ o → (done_in g (rule_of (nodes_after f s.nodes o))).changed ≡ false) [
+      | None ↦ λ e. rw e refl
+      | Some r ↦ λ e. rw (rule_back s.nodes r (f r.args) e) (quiet r.args)
+    ] refl

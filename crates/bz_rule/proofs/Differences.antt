@@ -4,17 +4,20 @@ use Rattle.std.proofs.lemmas.List.{append_cancel_left}
 use Rattle.bz_tree.specs.declared.stmt.GroupKind.TheVariants.{RuleCall}
 use Rattle.bz_tree.specs.Tree.{Item, group, Segs, Segment, Statement, segs_of, segments}
 use Rattle.bz_rule.specs.Labels.{Package}
-use Rattle.bz_rule.specs.Commands.{Command, Add, Remove, Set, SetIfAbsent, Delete, Rename, Move, Replace, Comment, Print, ToKind, ToValues, Rule as OfRule, Attribute, Value}
+use Rattle.bz_rule.specs.Commands.{Command, Add, Remove, Set, SetIfAbsent, Delete, Rename, Move, Replace, Comment, Print, ToKind, ToValues, Rule as OfRule, Attribute, Value, Field}
 use Rattle.bz_rule.specs.Rules.{Rule, rule_of, first_named}
 use Rattle.bz_rule.specs.declared.done.Done.{Done}
 use Rattle.bz_rule.specs.declared.done.Note.{Note}
 use Rattle.bz_rule.specs.Effects.{done, done_in, holds_rule, nodes_after, nodes_of, rename, rename_note, slot_done, with_args}
-use Rattle.bz_rule.specs.Applied.{after, args_after, args_done, done_of, stands}
+use Rattle.bz_rule.specs.Setting.{with_kind}
+use Rattle.bz_rule.specs.Printing.{printed_of, prints}
+use Rattle.bz_rule.specs.Applied.{after, args_after, args_done, done_of, sets_kind_of, stands}
 use Rattle.bz_rule.proofs.Views.{segments_of}
 use Rattle.bz_rule.proofs.Stays.{rule_nodes}
 use Rattle.bz_rule.proofs.Adding.{add_differs, add_stays}
 use Rattle.bz_rule.proofs.Removal.{remove_differs, remove_stays}
 use Rattle.bz_rule.proofs.Renaming.{rename_differs}
+use Rattle.bz_rule.proofs.SetLaws.{set_differs, set_if_absent_differs, set_if_absent_stays, set_kind_differs, set_kind_stays, set_stays}
 
 -- what an effect on arguments and its mark of change owe each other
 pub record Tells (f : List Segment → List Segment) (g : List Segment → Done) : Type 0 where
@@ -80,12 +83,27 @@ delete_tells home (Some s) =
     elim (is_some (rule_of s.nodes)) as (λ b. (b ≡ true) ↔ ((if b then None else Some s) ≡ Some s → ⊥))
     [ true ↦ both_ways true (None ≡ Some s) (λ h. absurd cc) (λ h same. cc) | false ↦ both_ways false (Some s ≡ Some s) (λ h. refl) (λ h same. cc) ]
 
+set_tells : (home : Package) (attr : List ℕ) (words : List (List ℕ)) → Tells (args_after (Set (ToValues attr words)) home) (args_done (Set (ToValues attr words)) home)
+set_tells home attr words = record { stays = λ args h. set_stays attr words args h; differs = λ args h same. set_differs attr words args h same }
+
+set_if_absent_tells : (home : Package) (attr : List ℕ) (words : List (List ℕ)) → Tells (args_after (SetIfAbsent attr words) home) (args_done (SetIfAbsent attr words) home)
+set_if_absent_tells home attr words = record { stays = λ args h. set_if_absent_stays attr words args h; differs = λ args h same. set_if_absent_differs attr words args h same }
+
+print_quiet : (home : Package) (fields : List Field) (slot : Option Statement) → (prints home fields slot).changed ≡ false
+print_quiet home fields None = refl
+print_quiet home fields (Some s) = elim (rule_of s.nodes) as (λ r. (printed_of home s fields r).changed ≡ false) [ None ↦ refl | Some r ↦ refl ]
+
+print_tells : (home : Package) (fields : List Field) (slot : Option Statement) → ((prints home fields slot).changed ≡ true) ↔ (slot ≡ slot → ⊥)
+print_tells home fields slot =
+    let quiet : (prints home fields slot).changed ≡ false = print_quiet home fields slot in
+    both_ways (prints home fields slot).changed (slot ≡ slot) (λ h. refl) (λ h same. let no : false ≡ true = sym quiet ∙ h in absurd cc)
+
 pub changed_tells : (c : Command) (home : Package) (slot : Option Statement) → stands c ≡ true → ((done_of c home slot).changed ≡ true) ↔ (after c home slot ≡ slot → ⊥)
 changed_tells (Add attr values) home slot h = slot_tells (args_after (Add attr values) home) (args_done (Add attr values) home) (add_tells home attr values) slot
 changed_tells (Remove attrs values) home slot h = slot_tells (args_after (Remove attrs values) home) (args_done (Remove attrs values) home) (remove_tells home attrs values) slot
-changed_tells (Set (ToKind kind)) home slot h = absurd cc
-changed_tells (Set (ToValues attr values)) home slot h = absurd cc
-changed_tells (SetIfAbsent attr values) home slot h = absurd cc
+changed_tells (Set (ToKind kind)) home slot h = both_ways (sets_kind_of kind slot).changed (option_map (with_kind kind) slot ≡ slot) (set_kind_stays kind slot) (set_kind_differs kind slot)
+changed_tells (Set (ToValues attr values)) home slot h = slot_tells (args_after (Set (ToValues attr values)) home) (args_done (Set (ToValues attr values)) home) (set_tells home attr values) slot
+changed_tells (SetIfAbsent attr values) home slot h = slot_tells (args_after (SetIfAbsent attr values) home) (args_done (SetIfAbsent attr values) home) (set_if_absent_tells home attr values) slot
 changed_tells Delete home slot h = delete_tells home slot
 changed_tells (Rename old new) home slot h = slot_tells (args_after (Rename old new) home) (args_done (Rename old new) home) (rename_tells home old new) slot
 changed_tells (Move old new chosen) home slot h = absurd cc
@@ -93,4 +111,4 @@ changed_tells (Replace attrs old new) home slot h = absurd cc
 changed_tells (Comment OfRule text) home slot h = absurd cc
 changed_tells (Comment (Attribute attr) text) home slot h = absurd cc
 changed_tells (Comment (Value attr value) text) home slot h = absurd cc
-changed_tells (Print fields) home slot h = absurd cc
+changed_tells (Print fields) home slot h = print_tells home fields slot

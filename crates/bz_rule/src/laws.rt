@@ -5,7 +5,7 @@ ghost use Rattle.std.specs.List.{list_all, list_any};
 ghost use Rattle.bz_tree.specs.Comments.{comments_of};
 ghost use Rattle.bz_tree.specs.Tree.{Segment, Statement};
 ghost use Rattle.bz_rule.specs.Applied.{after, done_of, stands};
-ghost use Rattle.bz_rule.specs.Commands.{Add, Attributes, Command, Every, Moved, Named, Rename, Replace, Set, SetIfAbsent, ToKind, Values};
+ghost use Rattle.bz_rule.specs.Commands.{Add, Attributes, Command, Every, Moved, Named, Rename, Replace, Set, SetIfAbsent, ToKind, ToValues, Values};
 ghost use Rattle.bz_rule.specs.Effects as effects;
 ghost use Rattle.bz_rule.specs.Labels.{Package};
 ghost use Rattle.bz_rule.specs.Labels as spec;
@@ -49,6 +49,12 @@ pub fn added_values_are_found()
 /// A second `add` of the same values does nothing.
 pub fn add_twice_is_add_once()
     ensures { (home : Package) (attr : List ℕ) (values : List (List ℕ)) (slot : Option Statement) → after (Add attr values) home (after (Add attr values) home slot) ≡ after (Add attr values) home slot }
+{}
+
+/// A second `set` of the same changes nothing.
+pub fn set_twice_changes_nothing()
+    ensures values { (home : Package) (attr : List ℕ) (values : List (List ℕ)) (slot : Option Statement) → (done_of (Set (ToValues attr values)) home (after (Set (ToValues attr values)) home slot)).changed ≡ false }
+    ensures kind { (home : Package) (kind : List ℕ) (slot : Option Statement) → (done_of (Set (ToKind kind)) home (after (Set (ToKind kind)) home slot)).changed ≡ false }
 {}
 
 /// What `remove` removes is not there afterwards: attributes; the values, where there is one argument of the name at most;
