@@ -7,7 +7,8 @@ use Rattle.bz_tree.specs.Tree.{Item, Segment}
 use Rattle.bz_tree.specs.View.{node_view, nodes_view}
 use Rattle.bz_rule.specs.Lists.{edit_one_from, edit_first_part, edit_list, is_part, is_joint, parts_from, parts}
 use Rattle.bz_rule.specs.Effects.{no_parts}
-use Rattle.bz_rule.specs.Places.{IsFirstPart}
+use Rattle.bz_rule.specs.Rules.{elements}
+use Rattle.bz_rule.specs.Places.{IsFirstPart, first_list}
 
 -- nothing before i is a part, and a piece begins at i where `start`
 pub record NoPartYet (ns : List Node) (i : ℕ) (start : Bool) : Type 0 where
@@ -27,6 +28,11 @@ pub found : (ns : List Node) (i : ℕ) (start : Bool) → list_all is_joint (nod
 found ns i start joints h before told = record {
   within = h;
   some = some_parts ns i start joints h before told;
+  list = λ d.
+      let rest : nodes_view (drop i ns) ≡ node_view (get_or ns i d) ∷ nodes_view (drop (i + 1) ns) = ap nodes_view (drop_more ns i d h) in
+      let step : first_list (parts_from start (node_view (get_or ns i d) ∷ nodes_view (drop (i + 1) ns))) ≡ elements (node_view (get_or ns i d)) = rw (told d) refl in
+      let whole : parts (nodes_view ns) ≡ parts_from true (nodes_view ns) = rw joints refl in
+      ap first_list (whole ∙ sym before.lists ∙ ap (parts_from start) rest) ∙ step;
   same = λ m d kept. map-set node_view ns i m ∙ ap (set (nodes_view ns) i) (kept ∙ sym (get_or-map node_view ns i d (node_view d) h)) ∙ set-get_or (nodes_view ns) i (node_view d);
   put = λ f m d edited.
       let part : is_part start (node_view (get_or ns i d)) (nodes_view (drop (i + 1) ns)) ≡ true = told d in

@@ -3,6 +3,7 @@ mod Again
 mod AllComments
 mod ArgEdits
 mod Arguments
+mod Arriving
 mod CallEdits
 mod Calls
 mod CommentEdits
@@ -20,6 +21,7 @@ mod Kept
 mod LabelSets
 mod LastParts
 mod Likeness
+mod Leaving
 mod Literals
 mod Mapped
 mod Mended

@@ -1,6 +1,6 @@
 -- What `move` does (buildozer README, edit commands; the failures and what becomes of repeats are this project's own rule).
 use Rattle.std.specs.Prelude.{ℕ, List, [], ◌∷◌, ◌++◌, Bool, true, false, not, if◌then◌else◌, Option, Some, None, is_some, filter}
-use Rattle.std.specs.List.{list_any, flat_map}
+use Rattle.std.specs.List.{list_any}
 use Rattle.bz_tree.specs.Tree.{Segment}
 use Rattle.bz_rule.specs.Labels.{Package}
 use Rattle.bz_rule.specs.Commands.{Moved}
@@ -13,10 +13,14 @@ use Rattle.bz_rule.specs.declared.done.Note.{Note}
 abbrev pub move_note : List ℕ → List ℕ → List Segment → Option Note
 move_note old new args = first_note (is_absent old args) (first_note (not_a_list old (first_named old args)) (not_a_list new (first_named new args)))
 
--- the elements of all list parts, one after another
+-- the elements of all lists, one after another
+abbrev pub joined : List (List Segment) → List Segment
+joined [] = []
+joined (ss ∷ lists) = ss ++ joined lists
+
 abbrev pub elements_of : Option Segment → List Segment
 elements_of None = []
-elements_of (Some a) = flat_map (λ (ss : List Segment). ss) (parts (value a))
+elements_of (Some a) = joined (parts (value a))
 
 -- those that are chosen
 abbrev pub chosen_of : Package → Moved → Option Segment → List Segment

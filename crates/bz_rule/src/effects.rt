@@ -3,6 +3,7 @@
 pub(crate) mod add;
 pub(crate) mod comment;
 pub(crate) mod print;
+pub(crate) mod moving;
 pub(crate) mod remove;
 pub(crate) mod rename;
 pub(crate) mod set;

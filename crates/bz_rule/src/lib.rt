@@ -28,6 +28,7 @@ mod reader;
 mod rule;
 mod sameness;
 mod slot;
+mod taking;
 mod target;
 #[cfg(test)]
 mod tests;

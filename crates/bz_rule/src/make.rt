@@ -1,7 +1,9 @@
 //! New tokens, elements and arguments. What cannot be made for want of memory leaves nothing behind.
 
-ghost use Rattle.std.specs.Prelude.{◌≡◌, IfOk, map, string_bytes, ◌∷◌, []};
-ghost use Rattle.bz_tree.specs.View.{node_view, seg_view, segs_view};
+ghost use Rattle.std.specs.Prelude.{◌≡◌, ◌<◌, IfOk, map, string_bytes, codes, ◌∷◌, []};
+ghost use Rattle.std.specs.Vec.{vec_len, vec_capacity};
+ghost use Rattle.bz_token.specs.declared.token.Kind.TheVariants.{Ident, Sign};
+ghost use Rattle.bz_tree.specs.View.{node_view, nodes_view, seg_view, segs_view};
 ghost use Rattle.bz_tree.specs.Tree.{leaf, nowhere};
 ghost use Rattle.bz_rule.specs.Effects as spec;
 
@@ -102,4 +104,28 @@ pub(crate) fn list_argument<'a>(
     ensures { IfOk result (λ seg. seg_view seg ≡ spec.argument attr.now (spec.list_item (segs_view elements.entry.items) ∷ [])) }
 {
     argument(alloc, attr, list(alloc, elements))
+}
+
+/// The name and the sign of a new argument, with room for a value.
+pub(crate) fn argument_head<'a>(alloc: Global, attr: &str) -> Result<Vec<Node<'a>>, AllocError>
+    ensures nodes { IfOk result (λ head. nodes_view head.items ≡ leaf Ident attr.now nowhere ∷ leaf Sign (codes "=") nowhere ∷ []) }
+    ensures room { IfOk result (λ head. vec_len head < vec_capacity head) }
+{
+    let mut nodes = Vec::with_capacity(alloc, 3)?;
+    nodes.push_reserved(token(alloc, Kind::Ident, attr)?);
+    nodes.push_reserved(token(alloc, Kind::Sign, "=")?);
+    Ok(nodes)
+}
+
+/// A new argument with this head, whose value is a list. Takes no memory.
+pub(crate) fn list_with<'a>(alloc: Global, mut head: Vec<Node<'a>>, elements: Vec<Seg<'a>>) -> Seg<'a>
+    requires { vec_len head < vec_capacity head }
+    ensures { (attr : _) → nodes_view head.entry.items ≡ leaf Ident attr nowhere ∷ leaf Sign (codes "=") nowhere ∷ [] → seg_view result ≡ spec.argument attr (spec.list_item (segs_view elements.entry.items) ∷ []) }
+{
+    head.push_reserved(list(alloc, elements));
+    Seg {
+        before: Vec::new(alloc),
+        nodes: head,
+        suffix: None,
+    }
 }

@@ -90,7 +90,8 @@ fn remove_values(home: &Package, attr: &str, values: &[Text], args: &mut Vec<Seg
     Done::quiet(changed)
 }
 
-fn chooses_first(home: &Package, attr: &str, chosen: Chosen<'_>, args: &[Seg<'_>]) -> bool
+/// An element of the first argument of a name is chosen.
+pub(crate) fn chooses_first(home: &Package, attr: &str, chosen: Chosen<'_>, args: &[Seg<'_>]) -> bool
     ensures { result ≡ spec.chooses_in home.now (chosen_view chosen.entry) (first_named attr.now (segs_view args.now)) }
 {
     match first_named(args, attr) {
