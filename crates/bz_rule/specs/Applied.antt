@@ -20,6 +20,7 @@ stands (Set setting) = true
 stands (SetIfAbsent attr values) = true
 stands Delete = true
 stands (Rename old new) = true
+stands (Move old new chosen) = true
 stands (Replace attrs old new) = true
 stands (Comment place text) = true
 stands (Print fields) = true

@@ -13,6 +13,7 @@ use crate::command::{Action, Command, Commented, Setting};
 use crate::done::Done;
 use crate::effects::add::add;
 use crate::effects::comment::{comment, comment_rule};
+use crate::effects::moving::move_elements;
 use crate::effects::print::print;
 use crate::effects::remove::remove;
 use crate::effects::rename::rename;
@@ -113,7 +114,8 @@ fn on_args(
     home: &Package,
     slot: &mut Option<Stmt<'_>>,
 ) -> Result<Done, AllocError>
-    requires { IsTrue (applied.stands (command_view action.now)) }
+    requires stands { IsTrue (applied.stands (command_view action.now)) }
+    requires command { IsTrue (commands.is_command (command_view action.now)) }
     ensures slot { OnOk result (slot_view slot.new ≡ option_map (spec.with_args (applied.args_after (command_view action.now) home.now)) (slot_view slot.old)) }
     ensures done { IfOk result (λ done. done ≡ spec.slot_done (applied.args_done (command_view action.now) home.now) (slot_view slot.old)) }
     ensures no_rule { spec.holds_rule (slot_view slot.old) ≡ false → IsOk result }
@@ -134,7 +136,8 @@ fn in_statement(
     home: &Package,
     stmt: &mut Stmt<'_>,
 ) -> Result<Done, AllocError>
-    requires { IsTrue (applied.stands (command_view action.now)) }
+    requires stands { IsTrue (applied.stands (command_view action.now)) }
+    requires command { IsTrue (commands.is_command (command_view action.now)) }
     ensures stmt { OnOk result (view stmt.new ≡ spec.with_args (applied.args_after (command_view action.now) home.now) (view stmt.old)) }
     ensures done { IfOk result (λ done. done ≡ spec.done_in (applied.args_done (command_view action.now) home.now) (rule_of (nodes_view stmt.old.nodes.items))) }
     ensures no_rule { rule_of (nodes_view stmt.old.nodes.items) ≡ None → IsOk result }
@@ -150,7 +153,8 @@ fn in_nodes(
     home: &Package,
     nodes: &mut [Node<'_>],
 ) -> Result<Done, AllocError>
-    requires { IsTrue (applied.stands (command_view action.now)) }
+    requires stands { IsTrue (applied.stands (command_view action.now)) }
+    requires command { IsTrue (commands.is_command (command_view action.now)) }
     ensures nodes { OnOk result (nodes_view nodes.new ≡ spec.nodes_after (applied.args_after (command_view action.now) home.now) (nodes_view nodes.old) (rule_of (nodes_view nodes.old))) }
     ensures done { IfOk result (λ done. done ≡ spec.done_in (applied.args_done (command_view action.now) home.now) (rule_of (nodes_view nodes.old))) }
     ensures no_rule { rule_of (nodes_view nodes.old) ≡ None → IsOk result }
@@ -169,7 +173,8 @@ fn in_call(
     home: &Package,
     call: &mut Node<'_>,
 ) -> Result<Done, AllocError>
-    requires { IsTrue (applied.stands (command_view action.now)) }
+    requires stands { IsTrue (applied.stands (command_view action.now)) }
+    requires command { IsTrue (commands.is_command (command_view action.now)) }
     ensures call { OnOk result (node_view call.new ≡ edit_list (applied.args_after (command_view action.now) home.now) (node_view call.old)) }
     ensures done { IfOk result (λ done. done ≡ applied.args_done (command_view action.now) home.now (elements (node_view call.old))) }
     ensures err { OnErr result (node_view call.new ≡ node_view call.old) }
@@ -185,7 +190,8 @@ fn in_call(
 
 // What a command tells of no arguments.
 fn without_args(alloc: Global, action: &Action, home: &Package) -> Result<Done, AllocError>
-    requires { IsTrue (applied.stands (command_view action.now)) }
+    requires stands { IsTrue (applied.stands (command_view action.now)) }
+    requires command { IsTrue (commands.is_command (command_view action.now)) }
     ensures { IfOk result (λ done. done ≡ applied.args_done (command_view action.now) home.now []) }
 {
     let mut args = Vec::new(alloc);
@@ -198,7 +204,8 @@ fn in_args(
     home: &Package,
     args: &mut Vec<Seg<'_>>,
 ) -> Result<Done, AllocError>
-    requires { IsTrue (applied.stands (command_view action.now)) }
+    requires stands { IsTrue (applied.stands (command_view action.now)) }
+    requires command { IsTrue (commands.is_command (command_view action.now)) }
     ensures args { OnOk result (segs_view args.new.items ≡ applied.args_after (command_view action.now) home.now (segs_view args.old.items)) }
     ensures done { IfOk result (λ done. done ≡ applied.args_done (command_view action.now) home.now (segs_view args.old.items)) }
     ensures err { OnErr result (segs_view args.new.items ≡ segs_view args.old.items) }
@@ -213,6 +220,9 @@ fn in_args(
             set_if_absent(alloc, attr.as_str(), values.as_slice(), args)
         }
         Action::Rename(old, new) => rename(alloc, old.as_str(), new.as_str(), args),
+        Action::Move(old, new, moved) => {
+            move_elements(alloc, home, old.as_str(), new.as_str(), moved, args)
+        }
         Action::Replace(attributes, old, new) => {
             replace(alloc, home, attributes, old.as_str(), new.as_str(), args)
         }
@@ -233,6 +243,7 @@ pub(crate) fn stands(command: &Command) -> bool
         | Action::SetIfAbsent(_, _)
         | Action::Delete
         | Action::Rename(_, _)
+        | Action::Move(_, _, _)
         | Action::Replace(_, _, _)
         | Action::Comment(_, _)
         | Action::Print(_) => true,
