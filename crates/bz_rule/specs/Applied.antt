@@ -12,20 +12,6 @@ use Rattle.bz_rule.specs.Commenting.{comment_rule, comment_attribute, comment_va
 use Rattle.bz_rule.specs.Printing.{prints}
 use Rattle.bz_rule.specs.declared.done.Done.{Done}
 
--- The commands that this version has.
-abbrev pub stands : Command → Bool
-stands (Remove attrs values) = true
-stands (Add attr values) = true
-stands (Set setting) = true
-stands (SetIfAbsent attr values) = true
-stands Delete = true
-stands (Rename old new) = true
-stands (Move old new chosen) = true
-stands (Replace attrs old new) = true
-stands (Comment place text) = true
-stands (Print fields) = true
-stands _ = false
-
 -- the arguments after a command on them
 abbrev pub args_after : Command → Package → List Segment → List Segment
 args_after (Add attr values) home args = add home attr values args

@@ -1,7 +1,6 @@
 //! Worked examples of commands on one statement.
 
 use crate::edited::edited;
-use crate::slot::stands;
 use crate::{Done, Note, apply, read_command, read_label};
 use bz_token::Kind;
 use bz_tree::{Class, Group, GroupKind, Leaf, Node, Seg, Stmt};
@@ -129,9 +128,6 @@ fn run<'a>(rt: HostRuntime, words: &str, slot: &mut Option<Stmt<'a>>) -> Result<
     let alloc = rt.alloc();
     let (package, _) = read_label(alloc, "//p:a")?;
     let command = read_command(alloc, words)?.ok_or("no command")?;
-    if !stands(&command) {
-        return Err(Fail::from("not a command of this version"));
-    }
     let done = apply(alloc, &command, &package, slot)?;
     Ok(done)
 }

@@ -2,7 +2,6 @@
 
 use crate::command::Command;
 use crate::package::Package;
-use crate::slot::stands;
 use crate::{Done, apply, read_command, read_label};
 use bz_layout::put_stmt;
 use bz_tree::{Stmt, parse};
@@ -39,9 +38,6 @@ fn applied(
     home: &Package,
     slot: &mut Option<Stmt<'_>>,
 ) -> Result<Done, Fail> {
-    if !stands(command) {
-        return Err(Fail::from("not a command of this version"));
-    }
     let done = apply(alloc, command, home, slot)?;
     Ok(done)
 }

@@ -33,7 +33,6 @@ pub fn apply(
     home: &Package,
     slot: &mut Option<Stmt<'_>>,
 ) -> Result<Done, AllocError>
-    requires { IsTrue (applied.stands command.now) }
     ensures slot { OnOk result (slot_view slot.new ≡ applied.after command.now home.now (slot_view slot.old)) }
     ensures done { IfOk result (λ done. done ≡ applied.done_of command.now home.now (slot_view slot.old)) }
     ensures failed { IfOk result (λ done. spec.fails done.note ≡ true → slot_view slot.new ≡ slot_view slot.old) }
@@ -50,7 +49,7 @@ fn carry_out(
     home: &Package,
     slot: &mut Option<Stmt<'_>>,
 ) -> Result<Done, AllocError>
-    requires { IsTrue (applied.stands (command_view action.now)) }
+    requires { IsTrue (commands.is_command (command_view action.now)) }
     ensures slot { OnOk result (slot_view slot.new ≡ applied.after (command_view action.now) home.now (slot_view slot.old)) }
     ensures done { IfOk result (λ done. done ≡ applied.done_of (command_view action.now) home.now (slot_view slot.old)) }
     ensures no_rule { spec.holds_rule (slot_view slot.old) ≡ false → IsOk result }
@@ -114,8 +113,7 @@ fn on_args(
     home: &Package,
     slot: &mut Option<Stmt<'_>>,
 ) -> Result<Done, AllocError>
-    requires stands { IsTrue (applied.stands (command_view action.now)) }
-    requires command { IsTrue (commands.is_command (command_view action.now)) }
+    requires { IsTrue (commands.is_command (command_view action.now)) }
     ensures slot { OnOk result (slot_view slot.new ≡ option_map (spec.with_args (applied.args_after (command_view action.now) home.now)) (slot_view slot.old)) }
     ensures done { IfOk result (λ done. done ≡ spec.slot_done (applied.args_done (command_view action.now) home.now) (slot_view slot.old)) }
     ensures no_rule { spec.holds_rule (slot_view slot.old) ≡ false → IsOk result }
@@ -136,8 +134,7 @@ fn in_statement(
     home: &Package,
     stmt: &mut Stmt<'_>,
 ) -> Result<Done, AllocError>
-    requires stands { IsTrue (applied.stands (command_view action.now)) }
-    requires command { IsTrue (commands.is_command (command_view action.now)) }
+    requires { IsTrue (commands.is_command (command_view action.now)) }
     ensures stmt { OnOk result (view stmt.new ≡ spec.with_args (applied.args_after (command_view action.now) home.now) (view stmt.old)) }
     ensures done { IfOk result (λ done. done ≡ spec.done_in (applied.args_done (command_view action.now) home.now) (rule_of (nodes_view stmt.old.nodes.items))) }
     ensures no_rule { rule_of (nodes_view stmt.old.nodes.items) ≡ None → IsOk result }
@@ -153,8 +150,7 @@ fn in_nodes(
     home: &Package,
     nodes: &mut [Node<'_>],
 ) -> Result<Done, AllocError>
-    requires stands { IsTrue (applied.stands (command_view action.now)) }
-    requires command { IsTrue (commands.is_command (command_view action.now)) }
+    requires { IsTrue (commands.is_command (command_view action.now)) }
     ensures nodes { OnOk result (nodes_view nodes.new ≡ spec.nodes_after (applied.args_after (command_view action.now) home.now) (nodes_view nodes.old) (rule_of (nodes_view nodes.old))) }
     ensures done { IfOk result (λ done. done ≡ spec.done_in (applied.args_done (command_view action.now) home.now) (rule_of (nodes_view nodes.old))) }
     ensures no_rule { rule_of (nodes_view nodes.old) ≡ None → IsOk result }
@@ -173,8 +169,7 @@ fn in_call(
     home: &Package,
     call: &mut Node<'_>,
 ) -> Result<Done, AllocError>
-    requires stands { IsTrue (applied.stands (command_view action.now)) }
-    requires command { IsTrue (commands.is_command (command_view action.now)) }
+    requires { IsTrue (commands.is_command (command_view action.now)) }
     ensures call { OnOk result (node_view call.new ≡ edit_list (applied.args_after (command_view action.now) home.now) (node_view call.old)) }
     ensures done { IfOk result (λ done. done ≡ applied.args_done (command_view action.now) home.now (elements (node_view call.old))) }
     ensures err { OnErr result (node_view call.new ≡ node_view call.old) }
@@ -190,8 +185,7 @@ fn in_call(
 
 // What a command tells of no arguments.
 fn without_args(alloc: Global, action: &Action, home: &Package) -> Result<Done, AllocError>
-    requires stands { IsTrue (applied.stands (command_view action.now)) }
-    requires command { IsTrue (commands.is_command (command_view action.now)) }
+    requires { IsTrue (commands.is_command (command_view action.now)) }
     ensures { IfOk result (λ done. done ≡ applied.args_done (command_view action.now) home.now []) }
 {
     let mut args = Vec::new(alloc);
@@ -204,8 +198,7 @@ fn in_args(
     home: &Package,
     args: &mut Vec<Seg<'_>>,
 ) -> Result<Done, AllocError>
-    requires stands { IsTrue (applied.stands (command_view action.now)) }
-    requires command { IsTrue (commands.is_command (command_view action.now)) }
+    requires { IsTrue (commands.is_command (command_view action.now)) }
     ensures args { OnOk result (segs_view args.new.items ≡ applied.args_after (command_view action.now) home.now (segs_view args.old.items)) }
     ensures done { IfOk result (λ done. done ≡ applied.args_done (command_view action.now) home.now (segs_view args.old.items)) }
     ensures err { OnErr result (segs_view args.new.items ≡ segs_view args.old.items) }
@@ -228,25 +221,5 @@ fn in_args(
         }
         Action::Comment(commented, text) => comment(alloc, home, commented, text.as_str(), args),
         _ => Ok(Done::quiet(false)),
-    }
-}
-
-/// This version has the command.
-#[cfg(test)]
-pub(crate) fn stands(command: &Command) -> bool
-    ensures { result ≡ applied.stands command.now }
-{
-    match &command.action {
-        Action::Add(_, _)
-        | Action::Remove(_, _)
-        | Action::Set(_)
-        | Action::SetIfAbsent(_, _)
-        | Action::Delete
-        | Action::Rename(_, _)
-        | Action::Move(_, _, _)
-        | Action::Replace(_, _, _)
-        | Action::Comment(_, _)
-        | Action::Print(_) => true,
-        _ => false,
     }
 }
