@@ -4,6 +4,8 @@ mod AllComments
 mod ArgEdits
 mod Arguments
 mod Arriving
+mod BareEffects
+mod BareParts
 mod CallEdits
 mod Calls
 mod CommentEdits

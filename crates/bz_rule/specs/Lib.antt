@@ -1,4 +1,5 @@
 pub mod Applied
+pub mod Bare
 pub mod ByteSteps
 pub mod ChosenViews
 pub mod Commands
