@@ -34,18 +34,18 @@ not_a_list_bare attr None = refl
 not_a_list_bare attr (Some a) = ap (λ (b : Bool). if b then Some (NotAList attr) else None) (lists_bare a)
 
 -- a new argument, and a new element
-strings_bare : (words : List (List ℕ)) → map bare_segment (map string words) ≡ map string words
+pub strings_bare : (words : List (List ℕ)) → map bare_segment (map string words) ≡ map string words
 strings_bare [] = refl
 strings_bare (w ∷ words) = ap (λ (ss : List Segment). string w ∷ ss) (strings_bare words)
 
-list_item_bare : (ss : List Segment) → bare (list_item ss) ≡ list_item (map bare_segment ss)
+pub list_item_bare : (ss : List Segment) → bare (list_item ss) ≡ list_item (map bare_segment ss)
 list_item_bare ss = ap (λ (z : Segs). group ListKind z false []) (bare_segs_of ss)
 
 argument_bare : (attr : List ℕ) (nodes : List Item) → bare_segment (argument attr nodes) ≡ argument attr (map bare nodes)
 argument_bare attr nodes = refl
 
 -- at the end
-behind_bare : (args : List Segment) (attr : List ℕ) (nodes others : List Item) → map bare nodes ≡ others → map bare_segment (args ++ argument attr nodes ∷ []) ≡ map bare_segment args ++ argument attr others ∷ []
+pub behind_bare : (args : List Segment) (attr : List ℕ) (nodes others : List Item) → map bare nodes ≡ others → map bare_segment (args ++ argument attr nodes ∷ []) ≡ map bare_segment args ++ argument attr others ∷ []
 behind_bare args attr nodes others same = map-append bare_segment args (argument attr nodes ∷ []) ∙ ap (λ (xs : List Item). map bare_segment args ++ argument attr xs ∷ []) same
 
 -- `remove`
@@ -101,7 +101,7 @@ fresh_bare home lists earlier (v ∷ values) = rw (is_fresh_bare home lists earl
 new_bare : (home : Package) (values : List (List ℕ)) (a : Segment) → new_elements home (parts (value (bare_segment a))) values ≡ new_elements home (parts (value a)) values
 new_bare home values a = ap (λ (ls : List (List Segment)). new_elements home ls values) (value_parts_bare a) ∙ ap (map string) (fresh_bare home (parts (value a)) [] values)
 
-appended_bare : (new others : List Segment) → map bare_segment new ≡ others → (ss : List Segment) → map bare_segment (ss ++ new) ≡ map bare_segment ss ++ others
+pub appended_bare : (new others : List Segment) → map bare_segment new ≡ others → (ss : List Segment) → map bare_segment (ss ++ new) ≡ map bare_segment ss ++ others
 appended_bare new others same ss = map-append bare_segment ss new ∙ ap (λ (zs : List Segment). map bare_segment ss ++ zs) same
 
 with_added_bare : (home : Package) (values : List (List ℕ)) (a : Segment) → bare_segment (with_added home values a) ≡ with_added home values (bare_segment a)

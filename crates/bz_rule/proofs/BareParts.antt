@@ -134,7 +134,7 @@ ends_bare : (xs : List Item) → ends (map bare xs) ≡ ends xs
 ends_bare [] = refl
 ends_bare (x ∷ xs) = sign_bare (codes "+") x
 
-joints_bare : (xs : List Item) → list_all is_joint (map bare xs) ≡ list_all is_joint xs
+pub joints_bare : (xs : List Item) → list_all is_joint (map bare xs) ≡ list_all is_joint xs
 joints_bare [] = refl
 joints_bare (x ∷ xs) = rw (joint_bare x, joints_bare xs) refl
 

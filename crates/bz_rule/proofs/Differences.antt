@@ -1,22 +1,32 @@
 -- The mark of change tells a difference.
-use Rattle.std.proofs.Common.{◌≡◌, ◌↔◌, ℕ, List, [], ◌∷◌, ◌++◌, Bool, true, false, Option, Some, None, option_map, is_some, if◌then◌else◌, refl, ap, sym, ◌∙◌}
+use Rattle.std.proofs.Common.{◌≡◌, ◌↔◌, ℕ, List, [], ◌∷◌, ◌++◌, Bool, true, false, Option, Some, None, option_map, is_some, if◌then◌else◌, not, ◌&&◌, bytes_eq, refl, ap, sym, ◌∙◌}
 use Rattle.std.proofs.lemmas.List.{append_cancel_left}
+use Rattle.std.proofs.lemmas.Bool.{and_parts}
 use Rattle.bz_tree.specs.declared.stmt.GroupKind.TheVariants.{RuleCall}
 use Rattle.bz_tree.specs.Tree.{Item, group, Segs, Segment, Statement, segs_of, segments}
 use Rattle.bz_rule.specs.Labels.{Package}
-use Rattle.bz_rule.specs.Commands.{Command, Add, Remove, Set, SetIfAbsent, Delete, Rename, Move, Replace, Comment, Print, ToKind, ToValues, Rule as OfRule, Attribute, Value, Field}
-use Rattle.bz_rule.specs.Rules.{Rule, rule_of, first_named}
+use Rattle.bz_rule.specs.Commands.{Command, Add, Remove, Set, SetIfAbsent, Delete, Rename, Move, Replace, Comment, Print, ToKind, ToValues, Rule as OfRule, Attribute, Value, Field, Attributes, Moved, is_command, is_moved}
+use Rattle.bz_rule.specs.Rules.{Rule, rule_of, first_named, is_named}
 use Rattle.bz_rule.specs.declared.done.Done.{Done}
 use Rattle.bz_rule.specs.declared.done.Note.{Note}
-use Rattle.bz_rule.specs.Effects.{done, done_in, holds_rule, nodes_after, nodes_of, rename, rename_note, slot_done, with_args}
+use Rattle.bz_rule.specs.declared.done.Note.TheVariants.{NoAttribute}
+use Rattle.bz_rule.specs.Names.{is_identifier}
+use Rattle.bz_rule.specs.Effects.{done, done_in, edit_first, has, holds_rule, is_absent, nodes_after, nodes_of, rename, rename_note, slot_done, with_args}
+use Rattle.bz_rule.specs.Moving.{moved, moves, move_note}
+use Rattle.bz_rule.specs.Commenting.{comment_attribute, comment_line, comment_note, comment_rule, with_comment}
 use Rattle.bz_rule.specs.Setting.{with_kind}
 use Rattle.bz_rule.specs.Printing.{printed_of, prints}
-use Rattle.bz_rule.specs.Applied.{after, args_after, args_done, done_of, sets_kind_of, stands}
+use Rattle.bz_rule.specs.Applied.{after, args_after, args_done, done_of, sets_kind_of}
+use Rattle.bz_rule.specs.Bare.{bare_statement}
+use Rattle.bz_rule.proofs.BareStatements.{after_bare, changed_bare}
 use Rattle.bz_rule.proofs.Views.{segments_of}
 use Rattle.bz_rule.proofs.Stays.{rule_nodes}
 use Rattle.bz_rule.proofs.Adding.{add_differs, add_stays}
 use Rattle.bz_rule.proofs.Removal.{remove_differs, remove_stays}
 use Rattle.bz_rule.proofs.Renaming.{rename_differs}
+use Rattle.bz_rule.proofs.CommentDiffers.{comment_attribute_differs, comment_rule_differs, comment_rule_stays, comment_value_differs}
+use Rattle.bz_rule.proofs.MoveDiffers.{move_differs}
+use Rattle.bz_rule.proofs.ReplaceDiffers.{replace_differs, replace_stays}
 use Rattle.bz_rule.proofs.SetLaws.{set_differs, set_if_absent_differs, set_if_absent_stays, set_kind_differs, set_kind_stays, set_stays}
 
 -- what an effect on arguments and its mark of change owe each other
@@ -98,7 +108,44 @@ print_tells home fields slot =
     let quiet : (prints home fields slot).changed ≡ false = print_quiet home fields slot in
     both_ways (prints home fields slot).changed (slot ≡ slot) (λ h. refl) (λ h same. let no : false ≡ true = sym quiet ∙ h in absurd cc)
 
-pub changed_tells : (c : Command) (home : Package) (slot : Option Statement) → stands c ≡ true → ((done_of c home slot).changed ≡ true) ↔ (after c home slot ≡ slot → ⊥)
+replace_tells : (home : Package) (attrs : Attributes) (old new : List ℕ) → Tells (args_after (Replace attrs old new) home) (args_done (Replace attrs old new) home)
+replace_tells home attrs old new = record { stays = λ args h. replace_stays home attrs old new args h; differs = λ args h same. replace_differs home attrs old new args h same }
+
+move_tells : (home : Package) (old new : List ℕ) (chosen : Moved) → bytes_eq old new ≡ false → Tells (args_after (Move old new chosen) home) (args_done (Move old new chosen) home)
+move_tells home old new chosen other = record {
+  stays = λ args h. guarded_same (move_note old new args) (moves home old chosen args) (if moves home old chosen args then moved home old new chosen args else args) args (λ k. rw k refl) h;
+  differs = λ args h same. let told = done_changed (move_note old new args) (moves home old chosen args) h in move_differs home old new chosen args other told.0 told.1 same;
+}
+
+absent_same : (attr text : List ℕ) (args : List Segment) → (done (is_absent attr args) true).changed ≡ false → comment_attribute attr text args ≡ args
+absent_same attr text args h =
+    elim (has attr args) as (λ b. (done (if b then None else Some (NoAttribute attr)) true).changed ≡ false
+      → (if b then edit_first (is_named attr) (λ a. with_comment (comment_line text) a ∷ []) args else args) ≡ args)
+    [ true ↦ λ k. absurd cc | false ↦ λ k. refl ] h
+
+comment_attribute_tells : (home : Package) (attr text : List ℕ) → Tells (args_after (Comment (Attribute attr) text) home) (args_done (Comment (Attribute attr) text) home)
+comment_attribute_tells home attr text = record {
+  stays = λ args h. absent_same attr text args h;
+  differs = λ args h same. comment_attribute_differs attr text args (done_changed (is_absent attr args) true h).0 same;
+}
+
+comment_value_tells : (home : Package) (attr v text : List ℕ) → Tells (args_after (Comment (Value attr v) text) home) (args_done (Comment (Value attr v) text) home)
+comment_value_tells home attr v text = record {
+  stays = λ args h. guarded_same (comment_note home attr v args) true _ args (λ k. absurd cc) h;
+  differs = λ args h same. comment_value_differs home attr v text args (done_changed (comment_note home attr v args) true h).0 same;
+}
+
+not_true : (b : Bool) → not b ≡ true → b ≡ false
+not_true true h = absurd cc
+not_true false h = refl
+
+others : (old new : List ℕ) (chosen : Moved) → is_command (Move old new chosen) ≡ true → bytes_eq old new ≡ false
+others old new chosen h =
+    let names = and_parts (is_identifier old) (is_identifier new && (not (bytes_eq old new) && is_moved chosen)) h in
+    let rest = and_parts (is_identifier new) (not (bytes_eq old new) && is_moved chosen) names.1 in
+    not_true (bytes_eq old new) (and_parts (not (bytes_eq old new)) (is_moved chosen) rest.1).0
+
+pub changed_tells : (c : Command) (home : Package) (slot : Option Statement) → is_command c ≡ true → ((done_of c home slot).changed ≡ true) ↔ (after c home slot ≡ slot → ⊥)
 changed_tells (Add attr values) home slot h = slot_tells (args_after (Add attr values) home) (args_done (Add attr values) home) (add_tells home attr values) slot
 changed_tells (Remove attrs values) home slot h = slot_tells (args_after (Remove attrs values) home) (args_done (Remove attrs values) home) (remove_tells home attrs values) slot
 changed_tells (Set (ToKind kind)) home slot h = both_ways (sets_kind_of kind slot).changed (option_map (with_kind kind) slot ≡ slot) (set_kind_stays kind slot) (set_kind_differs kind slot)
@@ -106,9 +153,20 @@ changed_tells (Set (ToValues attr values)) home slot h = slot_tells (args_after 
 changed_tells (SetIfAbsent attr values) home slot h = slot_tells (args_after (SetIfAbsent attr values) home) (args_done (SetIfAbsent attr values) home) (set_if_absent_tells home attr values) slot
 changed_tells Delete home slot h = delete_tells home slot
 changed_tells (Rename old new) home slot h = slot_tells (args_after (Rename old new) home) (args_done (Rename old new) home) (rename_tells home old new) slot
-changed_tells (Move old new chosen) home slot h = absurd cc
-changed_tells (Replace attrs old new) home slot h = absurd cc
-changed_tells (Comment OfRule text) home slot h = absurd cc
-changed_tells (Comment (Attribute attr) text) home slot h = absurd cc
-changed_tells (Comment (Value attr value) text) home slot h = absurd cc
+changed_tells (Move old new chosen) home slot h = slot_tells (args_after (Move old new chosen) home) (args_done (Move old new chosen) home) (move_tells home old new chosen (others old new chosen h)) slot
+changed_tells (Replace attrs old new) home slot h = slot_tells (args_after (Replace attrs old new) home) (args_done (Replace attrs old new) home) (replace_tells home attrs old new) slot
+changed_tells (Comment OfRule text) home slot h = both_ways (holds_rule slot) (option_map (comment_rule text) slot ≡ slot) (comment_rule_stays text slot) (comment_rule_differs text slot)
+changed_tells (Comment (Attribute attr) text) home slot h = slot_tells (args_after (Comment (Attribute attr) text) home) (args_done (Comment (Attribute attr) text) home) (comment_attribute_tells home attr text) slot
+changed_tells (Comment (Value attr value) text) home slot h = slot_tells (args_after (Comment (Value attr value) text) home) (args_done (Comment (Value attr value) text) home) (comment_value_tells home attr value text) slot
 changed_tells (Print fields) home slot h = print_tells home fields slot
+
+-- what a command tells of a slot is so of what it made of it
+pub told_of_slot : (c : Command) (home : Package) (slot new : Option Statement) (d : Done) → is_command c ≡ true → new ≡ after c home slot → d ≡ done_of c home slot → (d.changed ≡ true) ↔ (new ≡ slot → ⊥)
+told_of_slot c home slot new d h is told = rw (told, is) (changed_tells c home slot h)
+
+-- the same where places of tokens do not count
+pub changed_tells_bare : (c : Command) (home : Package) (slot : Option Statement) → is_command c ≡ true
+    → ((done_of c home slot).changed ≡ true) ↔ (option_map bare_statement (after c home slot) ≡ option_map bare_statement slot → ⊥)
+changed_tells_bare c home slot h =
+    ( λ told same. (changed_tells c home (option_map bare_statement slot) h).0 (changed_bare c home slot ∙ told) (sym (after_bare c home slot) ∙ same)
+    , λ differ. (changed_tells c home slot h).1 (λ same. differ (ap (option_map bare_statement) same)))

@@ -6,6 +6,8 @@ mod Arguments
 mod Arriving
 mod BareEffects
 mod BareParts
+mod BareSettings
+mod BareStatements
 mod CallEdits
 mod Calls
 mod CommentEdits

@@ -4,8 +4,9 @@ ghost use Rattle.std.specs.Prelude.{◌≡◌, ◌↔◌, ◌≤◌, ◌++◌, �
 ghost use Rattle.std.specs.List.{list_all, list_any};
 ghost use Rattle.bz_tree.specs.Comments.{comments_of};
 ghost use Rattle.bz_tree.specs.Tree.{Segment, Statement};
-ghost use Rattle.bz_rule.specs.Applied.{after, done_of, stands};
-ghost use Rattle.bz_rule.specs.Commands.{Add, Attributes, Command, Every, Moved, Named, Rename, Replace, Set, SetIfAbsent, ToKind, ToValues, Values};
+ghost use Rattle.bz_rule.specs.Applied.{after, done_of};
+ghost use Rattle.bz_rule.specs.Bare.{bare_statement};
+ghost use Rattle.bz_rule.specs.Commands.{is_command, Add, Attributes, Command, Every, Moved, Named, Rename, Replace, Set, SetIfAbsent, ToKind, ToValues, Values};
 ghost use Rattle.bz_rule.specs.Effects as effects;
 ghost use Rattle.bz_rule.specs.Labels.{Package};
 ghost use Rattle.bz_rule.specs.Labels as spec;
@@ -36,9 +37,17 @@ pub fn marks_are_of_rules()
     ensures all { (s : Statement) → is_some (rule_of s.nodes) ≡ true → marks spec.All s ≡ true }
 {}
 
-/// A command tells that it changed something exactly where what stands in the slot is another than before.
+/// A command as [`read_command`](crate::read_command) makes it tells that it changed something exactly where what stands in the slot is another than before, also if the
+/// places of tokens do not count.
 pub fn changed_tells_a_difference()
-    ensures { (c : Command) (home : Package) (slot : Option Statement) → stands c ≡ true → ((done_of c home slot).changed ≡ true) ↔ (after c home slot ≡ slot → ⊥) }
+    ensures whole { (c : Command) (home : Package) (slot : Option Statement) → is_command c ≡ true → ((done_of c home slot).changed ≡ true) ↔ (after c home slot ≡ slot → ⊥) }
+    ensures bare { (c : Command) (home : Package) (slot : Option Statement) → is_command c ≡ true → ((done_of c home slot).changed ≡ true) ↔ (option_map bare_statement (after c home slot) ≡ option_map bare_statement slot → ⊥) }
+{}
+
+/// What a command does, and whether it changes something, does not depend on where tokens stand.
+pub fn places_do_not_matter()
+    ensures after { (c : Command) (home : Package) (slot : Option Statement) → option_map bare_statement (after c home slot) ≡ after c home (option_map bare_statement slot) }
+    ensures changed { (c : Command) (home : Package) (slot : Option Statement) → (done_of c home (option_map bare_statement slot)).changed ≡ (done_of c home slot).changed }
 {}
 
 /// Where `add` does not fail, an element equals each of its values afterwards, so `remove` finds them.

@@ -1,6 +1,6 @@
 //! A command applied to what a slot holds.
 
-ghost use Rattle.std.specs.Prelude.{◌≡◌, IfOk, IsOk, OnOk, OnErr, IsTrue, None, false, is_some, option_map, true, []};
+ghost use Rattle.std.specs.Prelude.{◌≡◌, ◌↔◌, IfOk, IsOk, OnOk, OnErr, IsTrue, None, false, is_some, option_map, true, []};
 ghost use Rattle.bz_tree.specs.View.{node_view, nodes_view, segs_view, view, slot_view};
 ghost use Rattle.bz_rule.specs.CommandViews.{command_view};
 ghost use Rattle.bz_rule.specs.Rules.{rule_of, elements};
@@ -35,6 +35,7 @@ pub fn apply(
 ) -> Result<Done, AllocError>
     ensures slot { OnOk result (slot_view slot.new ≡ applied.after command.now home.now (slot_view slot.old)) }
     ensures done { IfOk result (λ done. done ≡ applied.done_of command.now home.now (slot_view slot.old)) }
+    ensures changed { IfOk result (λ done. (done.changed ≡ true) ↔ (slot_view slot.new ≡ slot_view slot.old → ⊥)) }
     ensures failed { IfOk result (λ done. spec.fails done.note ≡ true → slot_view slot.new ≡ slot_view slot.old) }
     ensures no_rule { spec.holds_rule (slot_view slot.old) ≡ false → IsOk result }
     ensures err { OnErr result (slot_view slot.new ≡ slot_view slot.old) }
