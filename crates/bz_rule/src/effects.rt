@@ -4,6 +4,8 @@ pub(crate) mod add;
 pub(crate) mod comment;
 pub(crate) mod print;
 pub(crate) mod moving;
+#[cfg(test)]
+mod print_tests;
 pub(crate) mod remove;
 pub(crate) mod rename;
 pub(crate) mod set;

@@ -81,10 +81,10 @@ fn print_fields(
     ensures { IfOk result (λ done. done ≡ spec.printed home.now (view stmt.now) (rule_view rule.entry) (field_view first.now ∷ map field_view others.now)) }
 {
     let mut line = String::new(alloc);
-    let mut missing = push_field(alloc, home, stmt, rule, first, &mut line)?;
+    let mut missing = push_field(alloc, &mut line, home, stmt, rule, first)?;
     for field in others {
         line.push(' ')?;
-        let other = push_field(alloc, home, stmt, rule, field, &mut line)?;
+        let other = push_field(alloc, &mut line, home, stmt, rule, field)?;
         missing = missing.or(other);
     }
     Ok(Done {
@@ -97,34 +97,34 @@ fn print_fields(
 // Writes a field. The note tells that it is missing.
 fn push_field(
     alloc: Global,
+    text: &mut String,
     home: &Package,
     stmt: &Stmt<'_>,
     rule: Rule<'_, '_>,
     field: &Field,
-    line: &mut String,
 ) -> Result<Option<Note>, AllocError>
-    ensures line { OnOk result (string_bytes line.new ≡ string_bytes line.old ++ spec.shown_field (spec.field_text home.now (view stmt.now) (rule_view rule.entry) (field_view field.now))) }
+    ensures line { OnOk result (string_bytes text.new ≡ string_bytes text.old ++ spec.shown_field (spec.field_text home.now (view stmt.now) (rule_view rule.entry) (field_view field.now))) }
     ensures missing { IfOk result (λ missing. missing ≡ spec.missing home.now (view stmt.now) (rule_view rule.entry) (field_view field.now ∷ [])) }
 {
     match field {
         Field::Label => {
-            let missing = push_label(alloc, home, &rule.call.segs, line)?;
+            let missing = push_label(alloc, text, home, &rule.call.segs)?;
             Ok(missing)
         }
         Field::Kind => {
-            push_kind(line, rule.kind)?;
+            push_kind(text, rule.kind)?;
             Ok(None)
         }
         Field::StartLine => {
-            push_number(alloc, stmt.start, line)?;
+            push_number(alloc, text, stmt.start)?;
             Ok(None)
         }
         Field::EndLine => {
-            push_number(alloc, stmt.end, line)?;
+            push_number(alloc, text, stmt.end)?;
             Ok(None)
         }
         Field::ValueOf(attr) => {
-            let missing = push_attribute(alloc, attr.as_str(), &rule.call.segs, line)?;
+            let missing = push_attribute(alloc, text, attr.as_str(), &rule.call.segs)?;
             Ok(missing)
         }
     }
@@ -132,66 +132,66 @@ fn push_field(
 
 fn push_label(
     alloc: Global,
+    text: &mut String,
     home: &Package,
     args: &[Seg<'_>],
-    line: &mut String,
 ) -> Result<Option<Note>, AllocError>
-    ensures line { OnOk result (string_bytes line.new ≡ string_bytes line.old ++ spec.shown_field (label_in home.now (segs_view args.now))) }
+    ensures line { OnOk result (string_bytes text.new ≡ string_bytes text.old ++ spec.shown_field (label_in home.now (segs_view args.now))) }
     ensures missing { IfOk result (λ missing. missing ≡ missing_as (codes "label") (is_some (label_in home.now (segs_view args.now)))) }
 {
     let Some(name) = read_name(alloc, args)? else {
-        let missing = push_missing(alloc, "label", line)?;
+        let missing = push_missing(alloc, text, "label")?;
         return Ok(Some(missing));
     };
-    push_home(line, home)?;
-    line.push_str(name.as_str())?;
+    push_home(text, home)?;
+    text.push_str(name.as_str())?;
     Ok(None)
 }
 
 fn push_attribute(
     alloc: Global,
+    text: &mut String,
     attr: &str,
     args: &[Seg<'_>],
-    line: &mut String,
 ) -> Result<Option<Note>, AllocError>
-    ensures line { OnOk result (string_bytes line.new ≡ string_bytes line.old ++ spec.shown_field (attribute_in attr.now (segs_view args.now))) }
+    ensures line { OnOk result (string_bytes text.new ≡ string_bytes text.old ++ spec.shown_field (attribute_in attr.now (segs_view args.now))) }
     ensures missing { IfOk result (λ missing. missing ≡ missing_as attr.now (is_some (attribute_in attr.now (segs_view args.now)))) }
 {
     let Some(arg) = first_named(args, attr) else {
-        let missing = push_missing(alloc, attr, line)?;
+        let missing = push_missing(alloc, text, attr)?;
         return Ok(Some(missing));
     };
-    push_argument(alloc, arg, line)?;
+    push_argument(alloc, text, arg)?;
     Ok(None)
 }
 
-fn push_missing(alloc: Global, name: &str, line: &mut String) -> Result<Note, AllocError>
-    ensures line { OnOk result (string_bytes line.new ≡ string_bytes line.old ++ codes "(missing)") }
+fn push_missing(alloc: Global, text: &mut String, name: &str) -> Result<Note, AllocError>
+    ensures line { OnOk result (string_bytes text.new ≡ string_bytes text.old ++ codes "(missing)") }
     ensures note { IfOk result (λ note. note ≡ Missing name.now) }
 {
-    line.push_str("(missing)")?;
+    text.push_str("(missing)")?;
     let name = Text::from_str(alloc, name)?;
     Ok(Note::Missing(name))
 }
 
 // Writes the value of a named argument.
-fn push_argument(alloc: Global, arg: &Seg<'_>, line: &mut String) -> Result<(), AllocError>
-    ensures { OnOk result (string_bytes line.new ≡ string_bytes line.old ++ spec.value_text (value (seg_view arg.now))) }
+fn push_argument(alloc: Global, text: &mut String, arg: &Seg<'_>) -> Result<(), AllocError>
+    ensures { OnOk result (string_bytes text.new ≡ string_bytes text.old ++ spec.value_text (value (seg_view arg.now))) }
 {
     if arg.nodes.len() < 2 {
-        push_value(alloc, &[], line)?;
+        push_value(alloc, text, &[])?;
         return Ok(());
     }
-    push_value(alloc, &arg.nodes[2..], line)?;
+    push_value(alloc, text, &arg.nodes[2..])?;
     Ok(())
 }
 
-fn push_value(alloc: Global, value: &[Node<'_>], line: &mut String) -> Result<(), AllocError>
-    ensures { OnOk result (string_bytes line.new ≡ string_bytes line.old ++ spec.value_text (nodes_view value.now)) }
+fn push_value(alloc: Global, text: &mut String, value: &[Node<'_>]) -> Result<(), AllocError>
+    ensures { OnOk result (string_bytes text.new ≡ string_bytes text.old ++ spec.value_text (nodes_view value.now)) }
 {
     match read_string(alloc, value)? {
-        Some(word) => push_word(alloc, word.as_str(), line)?,
-        None => push_list(alloc, value, line)?,
+        Some(word) => push_word(alloc, text, word.as_str())?,
+        None => push_list(alloc, text, value)?,
     }
     Ok(())
 }
@@ -199,25 +199,25 @@ fn push_value(alloc: Global, value: &[Node<'_>], line: &mut String) -> Result<()
 fn read_string(alloc: Global, nodes: &[Node<'_>]) -> Result<Option<String>, AllocError>
     ensures { IfOk result (λ value. option_map (λ text. string_bytes text) value ≡ string_value (nodes_view nodes.now)) }
 {
-    let Some(text) = only_text(nodes) else {
+    let Some(literal) = only_text(nodes) else {
         return Ok(None);
     };
-    let value = read_value(alloc, text)?;
+    let value = read_value(alloc, literal)?;
     Ok(value)
 }
 
-fn push_list(alloc: Global, value: &[Node<'_>], line: &mut String) -> Result<(), AllocError>
-    ensures { OnOk result (string_bytes line.new ≡ string_bytes line.old ++ spec.list_text (nodes_view value.now)) }
+fn push_list(alloc: Global, text: &mut String, value: &[Node<'_>]) -> Result<(), AllocError>
+    ensures { OnOk result (string_bytes text.new ≡ string_bytes text.old ++ spec.list_text (nodes_view value.now)) }
 {
     match words_in(value) {
         Some(elements) => {
-            line.push('[')?;
-            push_elements(alloc, elements, line)?;
-            line.push(']')?;
+            text.push('[')?;
+            push_elements(alloc, text, elements)?;
+            text.push(']')?;
         }
         None => {
-            let text = flat(alloc, value, Some(GroupKind::RuleCall))?;
-            line.push_str(text.as_str())?;
+            let line = flat(alloc, value, Some(GroupKind::RuleCall))?;
+            text.push_str(line.as_str())?;
         }
     }
     Ok(())
@@ -275,39 +275,39 @@ fn has_string(nodes: &[Node<'_>]) -> bool
 }
 
 // Writes strings with a space between them.
-fn push_elements(alloc: Global, elements: &[Seg<'_>], line: &mut String) -> Result<(), AllocError>
-    ensures { OnOk result (string_bytes line.new ≡ string_bytes line.old ++ spec.spaced (map element_word (segs_view elements.now))) }
+fn push_elements(alloc: Global, text: &mut String, elements: &[Seg<'_>]) -> Result<(), AllocError>
+    ensures { OnOk result (string_bytes text.new ≡ string_bytes text.old ++ spec.spaced (map element_word (segs_view elements.now))) }
 {
     let [first, others @ ..] = elements else {
         return Ok(());
     };
-    push_element(alloc, first, line)?;
+    push_element(alloc, text, first)?;
     for element in others {
-        line.push(' ')?;
-        push_element(alloc, element, line)?;
+        text.push(' ')?;
+        push_element(alloc, text, element)?;
     }
     Ok(())
 }
 
-fn push_element(alloc: Global, element: &Seg<'_>, line: &mut String) -> Result<(), AllocError>
-    ensures { OnOk result (string_bytes line.new ≡ string_bytes line.old ++ element_word (seg_view element.now)) }
+fn push_element(alloc: Global, text: &mut String, element: &Seg<'_>) -> Result<(), AllocError>
+    ensures { OnOk result (string_bytes text.new ≡ string_bytes text.old ++ element_word (seg_view element.now)) }
 {
     match read_string(alloc, &element.nodes)? {
         None => Ok(()),
-        Some(word) => push_word(alloc, word.as_str(), line),
+        Some(word) => push_word(alloc, text, word.as_str()),
     }
 }
 
 // Writes a value as a word.
-fn push_word(alloc: Global, word: &str, line: &mut String) -> Result<(), AllocError>
-    ensures { OnOk result (string_bytes line.new ≡ string_bytes line.old ++ spec.word_form word.now) }
+fn push_word(alloc: Global, text: &mut String, word: &str) -> Result<(), AllocError>
+    ensures { OnOk result (string_bytes text.new ≡ string_bytes text.old ++ spec.word_form word.now) }
 {
     if is_plain(word.as_bytes()) {
-        line.push_str(word)?;
+        text.push_str(word)?;
         return Ok(());
     }
-    let text = quote(alloc, word)?;
-    line.push_str(text.as_str())?;
+    let literal = quote(alloc, word)?;
+    text.push_str(literal.as_str())?;
     Ok(())
 }
 
@@ -325,10 +325,10 @@ fn is_plain(word: &[u8]) -> bool
     true
 }
 
-fn push_number(alloc: Global, number: u64, line: &mut String) -> Result<(), AllocError>
-    ensures { OnOk result (string_bytes line.new ≡ string_bytes line.old ++ decimal number) }
+fn push_number(alloc: Global, text: &mut String, number: u64) -> Result<(), AllocError>
+    ensures { OnOk result (string_bytes text.new ≡ string_bytes text.old ++ decimal number) }
 {
     let digits = number.to_string(alloc)?;
-    line.push_str(digits.as_str())?;
+    text.push_str(digits.as_str())?;
     Ok(())
 }

@@ -6,5 +6,5 @@ use Rattle.bz_rule.proofs.effects.print.push_elements.Given as goal
 
 abbrev pub invariant-loop-element : goal.invariant-loop-element
 invariant-loop-element l =
-    string_bytes l.line ++ spaced_behind (map element_word (segs_view (drop l.element-index l.others)))
-    ≡ string_bytes l.fn.line ++ spaced (map element_word (segs_view l.elements))
+    string_bytes l.text ++ spaced_behind (map element_word (segs_view (drop l.element-index l.others)))
+    ≡ string_bytes l.fn.text ++ spaced (map element_word (segs_view l.elements))
