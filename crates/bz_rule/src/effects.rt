@@ -6,6 +6,8 @@ pub(crate) mod print;
 pub(crate) mod moving;
 #[cfg(test)]
 mod print_tests;
+#[cfg(test)]
+mod comment_tests;
 pub(crate) mod remove;
 pub(crate) mod rename;
 pub(crate) mod set;
@@ -13,3 +15,5 @@ pub(crate) mod set_kind;
 #[cfg(test)]
 mod set_tests;
 pub(crate) mod replace;
+#[cfg(test)]
+mod replace_tests;
