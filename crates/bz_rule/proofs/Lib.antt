@@ -10,6 +10,7 @@ mod BareSettings
 mod BareStatements
 mod CallEdits
 mod Calls
+mod CommentDiffers
 mod CommentEdits
 mod Cuts
 mod Decoding
@@ -41,5 +42,6 @@ mod SetLaws
 mod Reading
 mod Removal
 mod Renaming
+mod ReplaceDiffers
 mod Stays
 mod Views

@@ -1,0 +1,137 @@
+-- A comment changes what it stands before: a list of comment lines gets longer.
+use Rattle.std.proofs.Common.{◌≡◌, ℕ, ◌+◌, List, [], ◌∷◌, ◌++◌, Bool, true, false, Option, None, Some, length, take, drop, option_map, is_some, refl, ap, sym, ◌∙◌, arith, inl, inr}
+use Rattle.std.specs.List.{list_any, list_all}
+use Rattle.std.proofs.lemmas.Bool.{cases_Bool}
+use Rattle.std.proofs.lemmas.List.{length_push}
+use Rattle.bz_tree.specs.Tree.{Item, leaf, group, Segment, Statement}
+use Rattle.bz_rule.specs.Labels.{Package}
+use Rattle.bz_rule.specs.Rules.{rule_of, is_named, is_text, name_of, first_named, value, elements}
+use Rattle.bz_rule.specs.Lists.{edit_list, equals, is_joint, is_part, is_plus, parts, parts_from}
+use Rattle.bz_rule.specs.declared.done.Note.{Note}
+use Rattle.bz_rule.specs.declared.done.Note.TheVariants.{NoAttribute, NoValue}
+use Rattle.bz_rule.specs.Effects.{edit_first, first_note, has, holds_rule, is_absent, not_a_list}
+use Rattle.bz_rule.specs.Commenting.{comment_attribute, comment_element, comment_line, comment_note, comment_rule, comment_value, comments_above, edit_element, edit_element_from, is_missing, with_comment}
+use Rattle.bz_rule.proofs.Views.{segments_of}
+
+push_longer : (xs : List (List ℕ)) (y : List ℕ) → xs ++ y ∷ [] ≡ xs → ⊥
+push_longer xs y h = let long : length xs + 1 ≡ length xs = sym (length_push xs y) ∙ ap length h in absurd (omega arith)
+
+commented : (line : List ℕ) (s : Segment) → with_comment line s ≡ s → ⊥
+commented line s h = push_longer s.before line (ap (λ (z : Segment). z.before) h)
+
+-- the first that passes differs
+first_differs : (p : Segment → Bool) (f : Segment → Segment) (ss : List Segment) → ((s : Segment) → f s ≡ s → ⊥) → list_any p ss ≡ true → edit_first p (λ s. f s ∷ []) ss ≡ ss → ⊥
+first_differs p f [] differs any h = absurd cc
+first_differs p f (s ∷ ss) differs any h = elim (cases_Bool (p s)) [
+  | inl is ↦ let e : f s ∷ ss ≡ s ∷ ss = rw is at h in differs s cc
+  | inr other ↦
+      let e : s ∷ edit_first p (λ s. f s ∷ []) ss ≡ s ∷ ss = rw other at h in
+      let rest : list_any p ss ≡ true = rw other at any in
+      first_differs p f ss differs rest cc
+]
+
+-- what became of the first argument of a name
+pub record IsKept (attr : List ℕ) (f : Segment → Segment) (args : List Segment) (a : Segment) : Type 0 where
+  pub first : first_named attr args ≡ Some a
+  pub named : is_named attr a ≡ true
+  pub kept : f a ≡ a
+
+first_kept : (attr : List ℕ) (f : Segment → Segment) (args : List Segment) → has attr args ≡ true → edit_first (is_named attr) (λ a. f a ∷ []) args ≡ args → (a : Segment) × IsKept attr f args a
+first_kept attr f [] any h = absurd cc
+first_kept attr f (a ∷ args) any h = elim (cases_Bool (is_named attr a)) [
+  | inl is ↦ let e : f a ∷ args ≡ a ∷ args = rw is at h in (a, record { first = rw is refl; named = is; kept = cc })
+  | inr other ↦
+      let e : a ∷ edit_first (is_named attr) (λ a. f a ∷ []) args ≡ a ∷ args = rw other at h in
+      let rest : has attr args ≡ true = rw other at any in
+      let found = first_kept attr f args rest cc in
+      (found.0, record { first = rw other found.1.first; named = found.1.named; kept = found.1.kept })
+]
+
+-- `comment <text>`
+pub comment_rule_stays : (text : List ℕ) (slot : Option Statement) → holds_rule slot ≡ false → option_map (comment_rule text) slot ≡ slot
+comment_rule_stays text None h = refl
+comment_rule_stays text (Some s) h =
+    elim (rule_of s.nodes) as (λ r. is_some r ≡ false → Some (record s { before = comments_above s.before text r }) ≡ Some s)
+    [ None ↦ λ k. refl | Some r ↦ λ k. absurd cc ] h
+
+lines_of : Option Statement → List (List ℕ)
+lines_of None = []
+lines_of (Some s) = s.before
+
+pub comment_rule_differs : (text : List ℕ) (slot : Option Statement) → holds_rule slot ≡ true → option_map (comment_rule text) slot ≡ slot → ⊥
+unfolding lines_of
+comment_rule_differs text None h same = absurd cc
+comment_rule_differs text (Some s) h same =
+    let lines : comments_above s.before text (rule_of s.nodes) ≡ s.before = ap lines_of same in
+    elim (rule_of s.nodes) as (λ r. is_some r ≡ true → comments_above s.before text r ≡ s.before → ⊥)
+    [ None ↦ λ k l. absurd cc | Some r ↦ λ k l. push_longer s.before (comment_line text) l ] h lines
+
+-- `comment <attr> <text>`
+present : (attr : List ℕ) (args : List Segment) → is_absent attr args ≡ None → has attr args ≡ true
+present attr args h = elim (cases_Bool (has attr args)) [
+  | inl is ↦ is
+  | inr other ↦ let note : Some (NoAttribute attr) ≡ None = rw other at h in absurd cc
+]
+
+pub comment_attribute_differs : (attr text : List ℕ) (args : List Segment) → is_absent attr args ≡ None → comment_attribute attr text args ≡ args → ⊥
+comment_attribute_differs attr text args h same =
+    let is : has attr args ≡ true = present attr args h in
+    let edited : edit_first (is_named attr) (λ a. with_comment (comment_line text) a ∷ []) args ≡ args = rw is at same in
+    first_differs (is_named attr) (with_comment (comment_line text)) args (commented (comment_line text)) is edited
+
+-- `comment <attr> <v> <text>`
+elements_edited : (p : Segment → Bool) (f : Segment → Segment) (x : Item) → elements (edit_list (edit_first p (λ s. f s ∷ [])) x) ≡ edit_first p (λ s. f s ∷ []) (elements x)
+elements_edited p f (leaf kind text place) = refl
+elements_edited p f (group kind segs one_comma end) = segments_of _
+
+element_from : (p : Segment → Bool) (f : Segment → Segment) (start : Bool) (xs : List Item) → ((s : Segment) → f s ≡ s → ⊥) → list_any (list_any p) (parts_from start xs) ≡ true → edit_element_from p f start xs ≡ xs → ⊥
+element_from p f start [] differs any h = absurd cc
+element_from p f start (x ∷ xs) differs any h = elim (cases_Bool (is_part start x xs)) [
+  | inl part ↦ elim (cases_Bool (list_any p (elements x))) [
+    | inl is ↦
+        let e : edit_list (edit_first p (λ s. f s ∷ [])) x ∷ xs ≡ x ∷ xs = rw (part, is) at h in
+        let same : edit_list (edit_first p (λ s. f s ∷ [])) x ≡ x = cc in
+        first_differs p f (elements x) differs is (sym (elements_edited p f x) ∙ ap elements same)
+    | inr other ↦
+        let e : x ∷ edit_element_from p f (is_plus x) xs ≡ x ∷ xs = rw (part, other) at h in
+        let rest : list_any (list_any p) (parts_from (is_plus x) xs) ≡ true = rw (part, other) at any in
+        element_from p f (is_plus x) xs differs rest cc
+  ]
+  | inr piece ↦
+      let e : x ∷ edit_element_from p f (is_plus x) xs ≡ x ∷ xs = rw piece at h in
+      let rest : list_any (list_any p) (parts_from (is_plus x) xs) ≡ true = rw piece at any in
+      element_from p f (is_plus x) xs differs rest cc
+]
+
+element_differs : (p : Segment → Bool) (f : Segment → Segment) (nodes : List Item) → ((s : Segment) → f s ≡ s → ⊥) → list_any (list_any p) (parts nodes) ≡ true → edit_element p f nodes ≡ nodes → ⊥
+element_differs p f nodes differs any h = elim (cases_Bool (list_all is_joint nodes)) [
+  | inl is ↦
+      let some : list_any (list_any p) (parts_from true nodes) ≡ true = rw is at any in
+      let same : edit_element_from p f true nodes ≡ nodes = rw is at h in
+      element_from p f true nodes differs some same
+  | inr other ↦ let none : false ≡ true = rw other at any in absurd cc
+]
+
+new_value : (attr : List ℕ) (nodes v : List Item) → is_text attr (name_of nodes) ≡ true → drop 2 (take 2 nodes ++ v) ≡ v
+new_value attr [] v h = absurd cc
+new_value attr (x ∷ []) v h = absurd cc
+new_value attr (x ∷ y ∷ xs) v h = refl
+
+both_none : (a b : Option Note) → first_note a b ≡ None → (a ≡ None) × (b ≡ None)
+both_none None b h = (refl, h)
+both_none (Some note) b h = absurd cc
+
+pub comment_value_differs : (home : Package) (attr v text : List ℕ) (args : List Segment) → comment_note home attr v args ≡ None → comment_value home attr v text args ≡ args → ⊥
+comment_value_differs home attr v text args h same =
+    let edited : edit_first (is_named attr) (λ a. comment_element home v text a ∷ []) args ≡ args = rw h at same in
+    let outer = both_none _ _ h in
+    let inner = both_none (not_a_list attr (first_named attr args)) (is_missing home attr v (first_named attr args)) outer.1 in
+    let found = first_kept attr (comment_element home v text) args (present attr args outer.0) edited in
+    let a : Segment = found.0 in
+    let here : is_missing home attr v (Some a) ≡ None = ap (is_missing home attr v) (sym found.1.first) ∙ inner.1 in
+    let some : list_any (list_any (equals home v)) (parts (value a)) ≡ true = elim (cases_Bool (list_any (list_any (equals home v)) (parts (value a)))) [
+      | inl is ↦ is
+      | inr other ↦ let note : Some (NoValue attr v) ≡ None = rw other at here in absurd cc
+    ] in
+    let put : edit_element (equals home v) (with_comment (comment_line text)) (value a) ≡ value a = sym (new_value attr a.nodes (edit_element (equals home v) (with_comment (comment_line text)) (value a)) found.1.named) ∙ ap value found.1.kept in
+    element_differs (equals home v) (with_comment (comment_line text)) (value a) (commented (comment_line text)) some put
