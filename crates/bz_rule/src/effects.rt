@@ -8,6 +8,7 @@ pub(crate) mod moving;
 mod print_tests;
 #[cfg(test)]
 mod comment_tests;
+mod moving_tests;
 pub(crate) mod remove;
 pub(crate) mod rename;
 pub(crate) mod set;
