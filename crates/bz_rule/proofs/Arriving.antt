@@ -76,7 +76,7 @@ no_part_stays f xs h =
     [ true ↦ λ k. one_stays f true xs k | false ↦ λ k. refl ] h
 
 -- an argument has one name
-text_of_one : (old new : List ℕ) (name : Option (List ℕ)) → bytes_eq old new ≡ false → is_text old name ≡ true → is_text new name ≡ false
+pub text_of_one : (old new : List ℕ) (name : Option (List ℕ)) → bytes_eq old new ≡ false → is_text old name ≡ true → is_text new name ≡ false
 text_of_one old new None other h = absurd cc
 text_of_one old new (Some text) other h = elim (cases_Bool (bytes_eq new text)) [
   | inl is ↦

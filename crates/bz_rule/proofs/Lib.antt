@@ -29,6 +29,7 @@ mod Likeness
 mod Leaving
 mod Literals
 mod Mapped
+mod MoveDiffers
 mod Mended
 mod Numbers
 mod OwnComments

@@ -1,0 +1,91 @@
+-- A move changes something exactly where an element is chosen: afterwards it does not stand in the arguments of the old name.
+use Rattle.std.proofs.Common.{◌≡◌, ℕ, List, [], ◌∷◌, ◌++◌, Bool, true, false, cond, filter, Option, Some, None, is_some, if◌then◌else◌, refl, ap, sym, ◌∙◌, inl, inr, bytes_eq}
+use Rattle.std.proofs.lemmas.Bool.{cases_Bool}
+use Rattle.std.proofs.lemmas.List.{append-nil, append_cancel_right}
+use Rattle.bz_tree.specs.Tree.{Item, Segment}
+use Rattle.bz_rule.specs.Labels.{Package}
+use Rattle.bz_rule.specs.Commands.{Moved}
+use Rattle.bz_rule.specs.Rules.{first_named, is_named, is_text, name_of, value}
+use Rattle.bz_rule.specs.Lists.{edit_first_part, edit_parts, is_attribute, with_value}
+use Rattle.bz_rule.specs.Effects.{argument, chooses, chooses_in, edit_first, filtered, has, list_item, loses_all, unchosen}
+use Rattle.bz_rule.specs.Moving.{arrivals, chosen_of, elements_of, move, move_note, moved, moves, put_in}
+use Rattle.bz_rule.proofs.Arguments.{attribute_named, is_first_named, name_put}
+use Rattle.bz_rule.proofs.Arriving.{text_of_one}
+use Rattle.bz_rule.proofs.Leaving.{filter-append}
+use Rattle.bz_rule.proofs.Removal.{filtered_same}
+
+-- an argument of the new name has not the old one
+not_old : (old new : List ℕ) (name : Option (List ℕ)) → bytes_eq old new ≡ false → is_text new name ≡ true → is_text old name ≡ false
+not_old old new name other is = elim (cases_Bool (is_text old name)) [
+  | inl both ↦ let clash : true ≡ false = sym is ∙ text_of_one old new name other both in absurd cc
+  | inr differs ↦ differs
+]
+
+others_kept : (old new : List ℕ) (g : Segment → List Item) (args : List Segment) → bytes_eq old new ≡ false
+    → filter (is_named old) (edit_first (is_named new) (λ a. with_value (g a) a ∷ []) args) ≡ filter (is_named old) args
+others_kept old new g [] other = refl
+others_kept old new g (a ∷ args) other = elim (cases_Bool (is_named new a)) [
+  | inl is ↦
+      let before : is_named old a ≡ false = not_old old new (name_of a.nodes) other is in
+      let now : is_named old (with_value (g a) a) ≡ false = ap (is_text old) (name_put (g a) a (attribute_named new a is)) ∙ before in
+      rw (is, before, now) refl
+  | inr differs ↦ rw differs (ap (λ (zs : List Segment). cond (is_named old a) (a ∷ zs) zs) (others_kept old new g args other))
+]
+
+named_put : (old new : List ℕ) (ss args : List Segment) → bytes_eq old new ≡ false → filter (is_named old) (put_in new ss args) ≡ filter (is_named old) args
+named_put old new ss args other =
+    let arg : Segment = argument new (list_item ss ∷ []) in
+    let lone : filter (is_named old) (arg ∷ []) ≡ [] = ap (λ (b : Bool). cond b (arg ∷ []) []) other in
+    elim (has new args) as (λ b. filter (is_named old) (if b then edit_first (is_named new) (λ a. with_value (edit_first_part (λ there. there ++ ss) (value a)) a ∷ []) args else args ++ arg ∷ []) ≡ filter (is_named old) args) [
+      | true ↦ others_kept old new (λ a. edit_first_part (λ there. there ++ ss) (value a)) args other
+      | false ↦ filter-append (is_named old) args (arg ∷ []) ∙ ap (λ (zs : List Segment). filter (is_named old) args ++ zs) lone ∙ append-nil (filter (is_named old) args)
+    ]
+
+filtered_named : (old : List ℕ) (f : List Segment → List Segment) (a : Segment) → is_named old a ≡ true → filter (is_named old) (filtered f a) ≡ filtered f a
+filtered_named old f a is =
+    let now : is_named old (with_value (edit_parts f (value a)) a) ≡ true = ap (is_text old) (name_put (edit_parts f (value a)) a (attribute_named old a is)) ∙ is in
+    elim (loses_all f (value a)) as (λ b. filter (is_named old) (if b then [] else with_value (edit_parts f (value a)) a ∷ []) ≡ (if b then [] else with_value (edit_parts f (value a)) a ∷ []))
+    [ true ↦ refl | false ↦ rw now refl ]
+
+-- where all arguments of the name stay, the first does
+first_left : (old : List ℕ) (f : List Segment → List Segment) (args : List Segment) (a : Segment) → first_named old args ≡ Some a
+    → filter (is_named old) (edit_first (is_named old) (filtered f) args) ≡ filter (is_named old) args → filtered f a ≡ a ∷ []
+first_left old f [] a h same = absurd cc
+first_left old f (b ∷ args) a h same = elim (cases_Bool (is_named old b)) [
+  | inl is ↦
+      let found : Some b ≡ Some a = rw is at h in
+      let here : b ≡ a = cc in
+      let stays : filter (is_named old) (filtered f b ++ args) ≡ b ∷ filter (is_named old) args = rw is at same in
+      let front : filtered f b ++ filter (is_named old) args ≡ (b ∷ []) ++ filter (is_named old) args =
+          ap (λ (zs : List Segment). zs ++ filter (is_named old) args) (sym (filtered_named old f b is)) ∙ sym (filter-append (is_named old) (filtered f b) args) ∙ stays in
+      ap (filtered f) (sym here) ∙ append_cancel_right (filtered f b) (b ∷ []) (filter (is_named old) args) front ∙ ap (λ (z : Segment). z ∷ []) here
+  | inr differs ↦
+      let found : first_named old args ≡ Some a = rw differs at h in
+      let rest : List Segment = edit_first (is_named old) (filtered f) args in
+      let left : edit_first (is_named old) (filtered f) (b ∷ args) ≡ b ∷ rest = rw differs refl in
+      let front : filter (is_named old) (b ∷ rest) ≡ filter (is_named old) rest = rw differs refl in
+      let back : filter (is_named old) (b ∷ args) ≡ filter (is_named old) args = rw differs refl in
+      let stays : filter (is_named old) rest ≡ filter (is_named old) args = sym front ∙ ap (filter (is_named old)) (sym left) ∙ same ∙ back in
+      first_left old f args a found stays
+]
+
+first_chosen : (home : Package) (old new : List ℕ) (chosen : Moved) (args : List Segment) (first : Option Segment) → first_named old args ≡ first → bytes_eq old new ≡ false
+    → moved home old new chosen args ≡ args → chooses_in home chosen first ≡ false
+first_chosen home old new chosen args None e other same = refl
+first_chosen home old new chosen args (Some a) e other same =
+    let left : List Segment = edit_first (is_named old) (filtered (unchosen home chosen)) args in
+    let named : filter (is_named old) left ≡ filter (is_named old) args =
+        sym (named_put old new (arrivals home (elements_of (first_named new args)) (chosen_of home chosen (first_named old args))) left other) ∙ ap (filter (is_named old)) same in
+    filtered_same home chosen a (attribute_named old a (is_first_named old args a e)) (first_left old (unchosen home chosen) args a e named)
+
+pub move_stays : (home : Package) (old new : List ℕ) (chosen : Moved) (args : List Segment) → moves home old chosen args ≡ false → move home old new chosen args ≡ args
+move_stays home old new chosen args none =
+    elim (is_some (move_note old new args)) as (λ b. (if b then args else (if moves home old chosen args then moved home old new chosen args else args)) ≡ args)
+    [ true ↦ refl | false ↦ rw none refl ]
+
+pub move_differs : (home : Package) (old new : List ℕ) (chosen : Moved) (args : List Segment) → bytes_eq old new ≡ false → move_note old new args ≡ None
+    → moves home old chosen args ≡ true → move home old new chosen args ≡ args → ⊥
+move_differs home old new chosen args other noted some same =
+    let made : moved home old new chosen args ≡ args = rw (noted, some) at same in
+    let clash : true ≡ false = sym some ∙ first_chosen home old new chosen args (first_named old args) refl other made in
+    absurd cc
