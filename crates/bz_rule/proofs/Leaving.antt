@@ -1,5 +1,5 @@
 -- Elements that are taken out of a list one by one, and the others brought to the front.
-use Rattle.std.proofs.Common.{◌≡◌, ℕ, zero, suc, ◌+◌, ◌<◌, ◌≤◌, List, [], ◌∷◌, ◌++◌, Bool, true, false, not, cond, length, get_or, set, take, drop, filter, map, refl, ap, sym, ◌∙◌, arith, append_assoc, if◌then◌else◌}
+use Rattle.std.proofs.Common.{◌≡◌, ℕ, zero, suc, ◌+◌, ◌<◌, ◌≤◌, List, [], ◌∷◌, ◌++◌, Bool, true, false, not, cond, length, get_or, set, take, drop, filter, refl, ap, sym, ◌∙◌, arith, append_assoc}
 use Rattle.std.specs.List.{SwappedAt, remove}
 use Rattle.std.proofs.lemmas.List.{drop_more, drop_all, take_more, take-set-le, drop-set-lt, map-append, append-nil, length-append, length-set, get_or_default}
 use Rattle.bz_tree.specs.declared.stmt.Node.{Node}

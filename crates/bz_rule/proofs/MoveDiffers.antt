@@ -6,8 +6,8 @@ use Rattle.bz_tree.specs.Tree.{Item, Segment}
 use Rattle.bz_rule.specs.Labels.{Package}
 use Rattle.bz_rule.specs.Commands.{Moved}
 use Rattle.bz_rule.specs.Rules.{first_named, is_named, is_text, name_of, value}
-use Rattle.bz_rule.specs.Lists.{edit_first_part, edit_parts, is_attribute, with_value}
-use Rattle.bz_rule.specs.Effects.{argument, chooses, chooses_in, edit_first, filtered, has, list_item, loses_all, unchosen}
+use Rattle.bz_rule.specs.Lists.{edit_first_part, edit_parts, with_value}
+use Rattle.bz_rule.specs.Effects.{argument, chooses_in, edit_first, filtered, has, list_item, loses_all, unchosen}
 use Rattle.bz_rule.specs.Moving.{arrivals, chosen_of, elements_of, move, move_note, moved, moves, put_in}
 use Rattle.bz_rule.proofs.Arguments.{attribute_named, is_first_named, name_put}
 use Rattle.bz_rule.proofs.Arriving.{text_of_one}

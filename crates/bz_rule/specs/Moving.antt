@@ -1,5 +1,5 @@
 -- What `move` does (buildozer README, edit commands; the failures and what becomes of repeats are this project's own rule).
-use Rattle.std.specs.Prelude.{ℕ, List, [], ◌∷◌, ◌++◌, Bool, true, false, not, if◌then◌else◌, Option, Some, None, is_some, filter}
+use Rattle.std.specs.Prelude.{ℕ, List, [], ◌∷◌, ◌++◌, Bool, false, if◌then◌else◌, Option, Some, None, is_some, filter}
 use Rattle.std.specs.List.{list_any}
 use Rattle.bz_tree.specs.Tree.{Segment}
 use Rattle.bz_rule.specs.Labels.{Package}
