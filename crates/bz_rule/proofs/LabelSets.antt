@@ -1,5 +1,5 @@
 -- Labels in a set.
-use Rattle.std.proofs.Common.{◌≡◌, ℕ, ◌+◌, ◌<◌, List, [], ◌∷◌, Bool, true, false, ◌||◌, cond, if◌then◌else◌, length, drop, get_or, refl, ap, sym, ◌∙◌}
+use Rattle.std.proofs.Common.{◌≡◌, ℕ, ◌+◌, ◌<◌, List, [], ◌∷◌, Bool, true, false, None, ◌||◌, cond, if◌then◌else◌, length, drop, get_or, refl, ap, sym, ◌∙◌}
 use Rattle.std.specs.Prelude.{bytes_eq}
 use Rattle.std.specs.List.{list_any}
 use Rattle.std.proofs.lemmas.Cmp.{nat_list_eq_equiv}
@@ -11,7 +11,7 @@ use Rattle.bz_tree.specs.Tree.{Item, Segment}
 use Rattle.bz_rule.specs.Rules.{elements}
 use Rattle.bz_rule.specs.Labels.{Package}
 use Rattle.bz_rule.specs.Same.{completed}
-use Rattle.bz_rule.specs.Lists.{is_part, is_plus, parts_from, same}
+use Rattle.bz_rule.specs.Lists.{is_part, is_plus, parts_from, same, same_value}
 
 or_is : (a b : Bool) → cond a true b ≡ (a || b)
 or_is true b = refl
@@ -23,6 +23,11 @@ one_more k q b = ap (λ (z : Bool). cond z true b) (nat_list_eq_equiv.symm k q) 
 
 pub same_back : (home : Package) (a b : List ℕ) → same home a b ≡ same home b a
 same_back home a b = nat_list_eq_equiv.symm (completed home a) (completed home b)
+
+-- what is no string is the same as no word
+pub none_same : (home : Package) (words : List (List ℕ)) → list_any (λ w. same_value home w None) words ≡ false
+none_same home [] = refl
+none_same home (w ∷ words) = none_same home words
 
 pub or_false : (a : Bool) → (a || false) ≡ a
 or_false true = refl

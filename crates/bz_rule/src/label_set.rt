@@ -1,6 +1,6 @@
 //! Labels of one package, found by hashing: each is hashed and compared in full, byte by byte.
 
-ghost use Rattle.std.specs.Prelude.{◌≡◌, ℕ, List, [], ◌∷◌, map, fold, false, not, IsTrue, IfOk, OnOk, OnErr};
+ghost use Rattle.std.specs.Prelude.{◌≡◌, ℕ, List, [], ◌∷◌, map, fold, true, false, not, IsTrue, IfOk, OnOk, OnErr};
 ghost use Rattle.std.specs.Str.{bytes_eq};
 ghost use Rattle.std.proofs.Common.{rules};
 ghost use Rattle.std.specs.Cmp.Rules.{hashing};
@@ -89,6 +89,17 @@ impl<'a> LabelSet<'a> {
         LabelSet {
             home,
             labels: HashSet::new(alloc),
+        }
+    }
+
+    /// The set is of this package.
+    pub(crate) fn is_of(&self, home: &Package) -> bool
+        ensures { result ≡ true → self.now.home.now ≡ home.now }
+    {
+        match (self.home.path(), home.path()) {
+            (None, None) => true,
+            (Some(path), Some(other)) => path == other,
+            _ => false,
         }
     }
 

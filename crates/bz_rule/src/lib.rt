@@ -34,6 +34,7 @@ mod target;
 mod tests;
 mod texts;
 mod value;
+mod word_set;
 mod words;
 
 pub use command::{Command, CommandFault};

@@ -206,7 +206,13 @@ fn in_args(
 {
     match action {
         Action::Add(attr, values) => add(alloc, home, attr.as_str(), values.as_slice(), args),
-        Action::Remove(attributes, values) => Ok(remove(home, attributes, values.as_slice(), args)),
+        Action::Remove(attributes, values) => remove(
+            alloc,
+            home,
+            attributes,
+            values.as_slice(),
+            args,
+        ),
         Action::Set(Setting::ToValues(attr, values)) => {
             set(alloc, attr.as_str(), values.as_slice(), args)
         }

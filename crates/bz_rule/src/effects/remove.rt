@@ -1,6 +1,6 @@
 //! `remove`: attributes go, or elements of them.
 
-ghost use Rattle.std.specs.Prelude.{◌≡◌, None, map, filter, not, IfSome, IfNone, ◌<◌, length, remove};
+ghost use Rattle.std.specs.Prelude.{◌≡◌, None, map, filter, not, IfSome, IfNone, IfOk, OnOk, OnErr, ◌<◌, length, remove};
 ghost use Rattle.std.specs.List.{list_any};
 ghost use Rattle.bz_tree.specs.View.{seg_view, segs_view};
 ghost use Rattle.bz_rule.specs.Effects as spec;
@@ -19,26 +19,33 @@ use crate::list::Text;
 use crate::lists::is_attribute;
 use crate::package::Package;
 use crate::rule::{first_named, is_named};
+use crate::word_set::{WordSet, word_set};
 use bz_tree::Seg;
+use std::alloc::{AllocError, Global};
 
-/// Drops attributes, or the elements of them that equal a value.
+// Up to so many words are compared with each element: no set is made.
+const FEW: usize = 8;
+
+/// Drops attributes, or the elements of them that equal a value. An `Err` leaves all as it was.
 pub(crate) fn remove(
+    alloc: Global,
     home: &Package,
     attributes: &Attributes,
     values: &[Text],
     args: &mut Vec<Seg<'_>>,
-) -> Done
-    ensures args { segs_view args.new.items ≡ spec.remove home.now (attributes_view attributes.now) values.now (segs_view args.old.items) }
-    ensures done { result ≡ spec.done None (spec.removes home.now (attributes_view attributes.now) values.now (segs_view args.old.items)) }
+) -> Result<Done, AllocError>
+    ensures args { OnOk result (segs_view args.new.items ≡ spec.remove home.now (attributes_view attributes.now) values.now (segs_view args.old.items)) }
+    ensures done { IfOk result (λ done. done ≡ spec.done None (spec.removes home.now (attributes_view attributes.now) values.now (segs_view args.old.items))) }
+    ensures err { OnErr result (segs_view args.new.items ≡ segs_view args.old.items) }
 {
     match attributes {
         Attributes::Every => match values {
-            [] => remove_all(args),
-            _ => remove_everywhere(home, values, args),
+            [] => Ok(remove_all(args)),
+            _ => remove_everywhere(alloc, home, values, args),
         },
         Attributes::Named(attr) => match values {
-            [] => remove_attribute(args, attr.as_str()),
-            _ => remove_values(home, attr.as_str(), values, args),
+            [] => Ok(remove_attribute(args, attr.as_str())),
+            _ => remove_values(alloc, home, attr.as_str(), values, args),
         },
     }
 }
@@ -81,12 +88,37 @@ fn goes_with_all(arg: &Seg<'_>) -> bool
 }
 
 // Drops from the first argument of the name the elements that equal a value, and the argument where none is left.
-fn remove_values(home: &Package, attr: &str, values: &[Text], args: &mut Vec<Seg<'_>>) -> Done
-    ensures args { segs_view args.new.items ≡ spec.remove_values home.now attr.now values.now (segs_view args.old.items) }
-    ensures done { result ≡ spec.done None (spec.chooses_in home.now (Values values.now) (first_named attr.now (segs_view args.old.items))) }
+fn remove_values(
+    alloc: Global,
+    home: &Package,
+    attr: &str,
+    values: &[Text],
+    args: &mut Vec<Seg<'_>>,
+) -> Result<Done, AllocError>
+    ensures args { OnOk result (segs_view args.new.items ≡ spec.remove_values home.now attr.now values.now (segs_view args.old.items)) }
+    ensures done { IfOk result (λ done. done ≡ spec.done None (spec.chooses_in home.now (Values values.now) (first_named attr.now (segs_view args.old.items)))) }
+    ensures err { OnErr result (segs_view args.new.items ≡ segs_view args.old.items) }
 {
-    let changed = chooses_first(home, attr, Chosen::Values(values), args);
-    drop_from(home, attr, Chosen::Values(values), args);
+    if values.len() <= FEW {
+        return Ok(remove_chosen(home, attr, Chosen::Values(values), args));
+    }
+    let words = word_set(alloc, home, values)?;
+    Ok(remove_many(home, attr, &words, args))
+}
+
+fn remove_many(home: &Package, attr: &str, words: &WordSet<'_>, args: &mut Vec<Seg<'_>>) -> Done
+    ensures args { segs_view args.new.items ≡ spec.remove_values home.now attr.now words.now.words.now (segs_view args.old.items) }
+    ensures done { result ≡ spec.done None (spec.chooses_in home.now (Values words.now.words.now) (first_named attr.now (segs_view args.old.items))) }
+{
+    remove_chosen(home, attr, Chosen::Many(words), args)
+}
+
+fn remove_chosen(home: &Package, attr: &str, chosen: Chosen<'_>, args: &mut Vec<Seg<'_>>) -> Done
+    ensures args { segs_view args.new.items ≡ edit_first (is_named attr.now) (spec.filtered (spec.unchosen home.now (chosen_view chosen.entry))) (segs_view args.old.items) }
+    ensures done { result ≡ spec.done None (spec.chooses_in home.now (chosen_view chosen.entry) (first_named attr.now (segs_view args.old.items))) }
+{
+    let changed = chooses_first(home, attr, chosen, args);
+    drop_from(home, attr, chosen, args);
     Done::quiet(changed)
 }
 
@@ -130,11 +162,34 @@ fn drop_in_first(
 }
 
 // Drops the elements that equal a value from each attribute, and each attribute where none is left.
-fn remove_everywhere(home: &Package, values: &[Text], args: &mut Vec<Seg<'_>>) -> Done
-    ensures args { segs_view args.new.items ≡ spec.filtered_everywhere (spec.unchosen home.now (Values values.now)) (segs_view args.old.items) }
-    ensures done { result ≡ spec.done None (spec.chooses_anywhere home.now (Values values.now) (segs_view args.old.items)) }
+fn remove_everywhere(
+    alloc: Global,
+    home: &Package,
+    values: &[Text],
+    args: &mut Vec<Seg<'_>>,
+) -> Result<Done, AllocError>
+    ensures args { OnOk result (segs_view args.new.items ≡ spec.filtered_everywhere (spec.unchosen home.now (Values values.now)) (segs_view args.old.items)) }
+    ensures done { IfOk result (λ done. done ≡ spec.done None (spec.chooses_anywhere home.now (Values values.now) (segs_view args.old.items))) }
+    ensures err { OnErr result (segs_view args.new.items ≡ segs_view args.old.items) }
 {
-    let chosen = Chosen::Values(values);
+    if values.len() <= FEW {
+        return Ok(remove_chosen_everywhere(home, Chosen::Values(values), args));
+    }
+    let words = word_set(alloc, home, values)?;
+    Ok(remove_many_everywhere(home, &words, args))
+}
+
+fn remove_many_everywhere(home: &Package, words: &WordSet<'_>, args: &mut Vec<Seg<'_>>) -> Done
+    ensures args { segs_view args.new.items ≡ spec.filtered_everywhere (spec.unchosen home.now (Values words.now.words.now)) (segs_view args.old.items) }
+    ensures done { result ≡ spec.done None (spec.chooses_anywhere home.now (Values words.now.words.now) (segs_view args.old.items)) }
+{
+    remove_chosen_everywhere(home, Chosen::Many(words), args)
+}
+
+fn remove_chosen_everywhere(home: &Package, chosen: Chosen<'_>, args: &mut Vec<Seg<'_>>) -> Done
+    ensures args { segs_view args.new.items ≡ spec.filtered_everywhere (spec.unchosen home.now (chosen_view chosen.entry)) (segs_view args.old.items) }
+    ensures done { result ≡ spec.done None (spec.chooses_anywhere home.now (chosen_view chosen.entry) (segs_view args.old.items)) }
+{
     let changed = chooses_anywhere(home, chosen, args);
     drop_lost(home, chosen, args);
     drop_in_attributes(home, chosen, args);
