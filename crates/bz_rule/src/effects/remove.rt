@@ -102,6 +102,9 @@ fn remove_values(
     if values.len() <= FEW {
         return Ok(remove_chosen(home, attr, Chosen::Values(values), args));
     }
+    let Some(_) = find(args, attr) else {
+        return Ok(Done::quiet(false));
+    };
     let words = word_set(alloc, home, values)?;
     Ok(remove_many(home, attr, &words, args))
 }
