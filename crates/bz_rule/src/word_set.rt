@@ -14,6 +14,9 @@ use crate::package::Package;
 use bz_tree::Seg;
 use std::alloc::{AllocError, Global};
 
+/// So many words are compared one by one, and more are looked up in a set.
+pub(crate) const FEW: usize = 8;
+
 /// Words, and the set of them as labels of a package.
 #[derive(Drop)]
 pub(crate) struct WordSet<'a> {

@@ -7,6 +7,7 @@ ghost use Rattle.bz_tree.specs.View.{node_view, nodes_view, seg_view, segs_view}
 ghost use Rattle.bz_rule.specs.Rules.{elements, first_named, is_named, value};
 ghost use Rattle.bz_rule.specs.Rules as rules;
 ghost use Rattle.bz_rule.specs.Lists.{edit_first_part, edit_list, equals, parts, with_value};
+ghost use Rattle.bz_rule.specs.Commands.{Values};
 ghost use Rattle.bz_rule.specs.CommandViews.{moved_view};
 ghost use Rattle.bz_rule.specs.ChosenViews.{chosen_view};
 ghost use Rattle.bz_rule.specs.ByteSteps.{left, is_good};
@@ -27,6 +28,7 @@ use crate::make::{argument_head, list_with};
 use crate::package::Package;
 use crate::rule::{is_sign, only_text};
 use crate::taking::{count_chosen, take_from};
+use crate::word_set::{FEW, WordSet, word_set};
 use bz_tree::{Node, Seg};
 use std::alloc::{AllocError, Global};
 
@@ -48,21 +50,67 @@ pub(crate) fn move_elements(
     if let Some(note) = move_note(alloc, old, new, args)? {
         return Ok(Done::failure(note));
     }
-    let chosen = chosen(moved);
+    match moved {
+        Moved::All => move_those(alloc, home, old, new, Chosen::All, args),
+        Moved::Values(values) => move_values(alloc, home, old, new, values.as_slice(), args),
+    }
+}
+
+fn move_values(
+    alloc: Global,
+    home: &Package,
+    old: &str,
+    new: &str,
+    values: &[Text],
+    args: &mut Vec<Seg<'_>>,
+) -> Result<Done, AllocError>
+    requires { bytes_eq old.now new.now ≡ false }
+    ensures args { OnOk result (segs_view args.new.items ≡ spec.moved_where home.now old.now new.now (Values values.now) (segs_view args.old.items)) }
+    ensures done { IfOk result (λ done. done ≡ effects.done None (spec.moves home.now old.now (Values values.now) (segs_view args.old.items))) }
+    ensures err { OnErr result (segs_view args.new.items ≡ segs_view args.old.items) }
+{
+    if values.len() <= FEW {
+        return move_those(alloc, home, old, new, Chosen::Values(values), args);
+    }
+    let words = word_set(alloc, home, values)?;
+    let done = move_many(alloc, home, old, new, &words, args)?;
+    Ok(done)
+}
+
+fn move_many(
+    alloc: Global,
+    home: &Package,
+    old: &str,
+    new: &str,
+    words: &WordSet<'_>,
+    args: &mut Vec<Seg<'_>>,
+) -> Result<Done, AllocError>
+    requires { bytes_eq old.now new.now ≡ false }
+    ensures args { OnOk result (segs_view args.new.items ≡ spec.moved_where home.now old.now new.now (Values words.now.words.now) (segs_view args.old.items)) }
+    ensures done { IfOk result (λ done. done ≡ effects.done None (spec.moves home.now old.now (Values words.now.words.now) (segs_view args.old.items))) }
+    ensures err { OnErr result (segs_view args.new.items ≡ segs_view args.old.items) }
+{
+    move_those(alloc, home, old, new, Chosen::Many(words), args)
+}
+
+fn move_those(
+    alloc: Global,
+    home: &Package,
+    old: &str,
+    new: &str,
+    chosen: Chosen<'_>,
+    args: &mut Vec<Seg<'_>>,
+) -> Result<Done, AllocError>
+    requires { bytes_eq old.now new.now ≡ false }
+    ensures args { OnOk result (segs_view args.new.items ≡ spec.moved_where home.now old.now new.now (chosen_view chosen.entry) (segs_view args.old.items)) }
+    ensures done { IfOk result (λ done. done ≡ effects.done None (spec.moves home.now old.now (chosen_view chosen.entry) (segs_view args.old.items))) }
+    ensures err { OnErr result (segs_view args.new.items ≡ segs_view args.old.items) }
+{
     if !chooses_first(home, old, chosen, args) {
         return Ok(Done::quiet(false));
     }
     move_chosen(alloc, home, old, new, chosen, args)?;
     Ok(Done::quiet(true))
-}
-
-fn chosen(moved: &Moved) -> Chosen<'_>
-    ensures { chosen_view result ≡ moved_view moved.now }
-{
-    match moved {
-        Moved::All => Chosen::All,
-        Moved::Values(values) => Chosen::Values(values.as_slice()),
-    }
 }
 
 fn move_note(

@@ -19,12 +19,9 @@ use crate::list::Text;
 use crate::lists::is_attribute;
 use crate::package::Package;
 use crate::rule::{first_named, is_named};
-use crate::word_set::{WordSet, word_set};
+use crate::word_set::{FEW, WordSet, word_set};
 use bz_tree::Seg;
 use std::alloc::{AllocError, Global};
-
-// Up to so many words are compared with each element: no set is made.
-const FEW: usize = 8;
 
 /// Drops attributes, or the elements of them that equal a value. An `Err` leaves all as it was.
 pub(crate) fn remove(
