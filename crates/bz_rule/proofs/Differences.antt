@@ -141,9 +141,8 @@ not_true false h = refl
 
 others : (old new : List ℕ) (chosen : Moved) → is_command (Move old new chosen) ≡ true → bytes_eq old new ≡ false
 others old new chosen h =
-    let names = and_parts (is_identifier old) (is_identifier new && (not (bytes_eq old new) && is_moved chosen)) h in
-    let rest = and_parts (is_identifier new) (not (bytes_eq old new) && is_moved chosen) names.1 in
-    not_true (bytes_eq old new) (and_parts (not (bytes_eq old new)) (is_moved chosen) rest.1).0
+    let parts = and_parts ((is_identifier old && is_identifier new) && not (bytes_eq old new)) (is_moved chosen) h in
+    not_true (bytes_eq old new) (and_parts (is_identifier old && is_identifier new) (not (bytes_eq old new)) parts.0).1
 
 pub changed_tells : (c : Command) (home : Package) (slot : Option Statement) → is_command c ≡ true → ((done_of c home slot).changed ≡ true) ↔ (after c home slot ≡ slot → ⊥)
 changed_tells (Add attr values) home slot h = slot_tells (args_after (Add attr values) home) (args_done (Add attr values) home) (add_tells home attr values) slot
