@@ -158,4 +158,4 @@ arrived_in home attr args i d e s es later first is made =
     let came : later ≡ arrivals home (elements_of (first_named attr (segs_view args))) es = is ∙ ap (λ (o : Option Segment). arrivals home (elements_of o) es) (sym (first.first d)) in
     let a : Segment = seg_view (get_or args i e) in
     first.put (λ a. with_value (edit_first_part (λ there. there ++ arrivals home (elements_of (first_named attr (segs_view args))) es) (value a)) a ∷ []) s e
-      (sym (ap (λ (z : Segment). z ∷ []) (made ∙ ap (λ (ss : List Segment). with_value (edit_first_part (λ there. there ++ ss) (value a)) a) came)))
+    (sym (ap (λ (z : Segment). z ∷ []) (made ∙ ap (λ (ss : List Segment). with_value (edit_first_part (λ there. there ++ ss) (value a)) a) came)))

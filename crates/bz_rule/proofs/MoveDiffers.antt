@@ -57,7 +57,7 @@ first_left old f (b ∷ args) a h same = elim (cases_Bool (is_named old b)) [
       let here : b ≡ a = cc in
       let stays : filter (is_named old) (filtered f b ++ args) ≡ b ∷ filter (is_named old) args = rw is at same in
       let front : filtered f b ++ filter (is_named old) args ≡ (b ∷ []) ++ filter (is_named old) args =
-          ap (λ (zs : List Segment). zs ++ filter (is_named old) args) (sym (filtered_named old f b is)) ∙ sym (filter-append (is_named old) (filtered f b) args) ∙ stays in
+      ap (λ (zs : List Segment). zs ++ filter (is_named old) args) (sym (filtered_named old f b is)) ∙ sym (filter-append (is_named old) (filtered f b) args) ∙ stays in
       ap (filtered f) (sym here) ∙ append_cancel_right (filtered f b) (b ∷ []) (filter (is_named old) args) front ∙ ap (λ (z : Segment). z ∷ []) here
   | inr differs ↦
       let found : first_named old args ≡ Some a = rw differs at h in
@@ -75,7 +75,7 @@ first_chosen home old new chosen args None e other same = refl
 first_chosen home old new chosen args (Some a) e other same =
     let left : List Segment = edit_first (is_named old) (filtered (unchosen home chosen)) args in
     let named : filter (is_named old) left ≡ filter (is_named old) args =
-        sym (named_put old new (arrivals home (elements_of (first_named new args)) (chosen_of home chosen (first_named old args))) left other) ∙ ap (filter (is_named old)) same in
+    sym (named_put old new (arrivals home (elements_of (first_named new args)) (chosen_of home chosen (first_named old args))) left other) ∙ ap (filter (is_named old)) same in
     filtered_same home chosen a (attribute_named old a (is_first_named old args a e)) (first_left old (unchosen home chosen) args a e named)
 
 pub move_stays : (home : Package) (old new : List ℕ) (chosen : Moved) (args : List Segment) → moves home old chosen args ≡ false → move home old new chosen args ≡ args

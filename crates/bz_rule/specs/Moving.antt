@@ -49,7 +49,7 @@ put_in new ss args =
 abbrev pub moved : Package → List ℕ → List ℕ → Moved → List Segment → List Segment
 moved home old new chosen args =
     put_in new (arrivals home (elements_of (first_named new args)) (chosen_of home chosen (first_named old args)))
-      (edit_first (is_named old) (filtered (unchosen home chosen)) args)
+    (edit_first (is_named old) (filtered (unchosen home chosen)) args)
 
 abbrev pub moves : Package → List ℕ → Moved → List Segment → Bool
 moves home old chosen args = chooses_in home chosen (first_named old args)

@@ -118,7 +118,11 @@ pub(crate) fn argument_head<'a>(alloc: Global, attr: &str) -> Result<Vec<Node<'a
 }
 
 /// A new argument with this head, whose value is a list. Takes no memory.
-pub(crate) fn list_with<'a>(alloc: Global, mut head: Vec<Node<'a>>, elements: Vec<Seg<'a>>) -> Seg<'a>
+pub(crate) fn list_with<'a>(
+    alloc: Global,
+    mut head: Vec<Node<'a>>,
+    elements: Vec<Seg<'a>>,
+) -> Seg<'a>
     requires { vec_len head < vec_capacity head }
     ensures { (attr : _) → nodes_view head.entry.items ≡ leaf Ident attr nowhere ∷ leaf Sign (codes "=") nowhere ∷ [] → seg_view result ≡ spec.argument attr (spec.list_item (segs_view elements.entry.items) ∷ []) }
 {

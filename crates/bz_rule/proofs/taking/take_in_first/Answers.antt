@@ -7,8 +7,9 @@ use Rattle.bz_rule.proofs.Leaving.{remove-set, lost_goes}
 use Rattle.bz_rule.proofs.taking.take_in_first.Goals as goal
 
 pub returns-then-goes-clause-goes : goal.returns-then-goes-clause-goes
-returns-then-goes-clause-goes c =
-    (omega (arith, length-set c.args.args.now c.in-Some.i c.take_in.new.arg, c.in-Some.ensures.some.within),
-     ap segs_view (remove-set c.args.args.now c.in-Some.i c.take_in.new.arg)
-     ∙ c.in-Some.ensures.some.gone (filtered (unchosen c.args.home.now (chosen_view c.args.chosen))) c.index-args-i.result
-         (lost_goes (unchosen c.args.home.now (chosen_view c.args.chosen)) (seg_view (get_or c.args.args.now c.in-Some.i c.index-args-i.result)) (sym c.loses_all-goes.ensures ∙ c.if-goes.true)))
+returns-then-goes-clause-goes c = (
+  omega (arith, length-set c.args.args.now c.in-Some.i c.take_in.new.arg, c.in-Some.ensures.some.within),
+  ap segs_view (remove-set c.args.args.now c.in-Some.i c.take_in.new.arg)
+      ∙ c.in-Some.ensures.some.gone (filtered (unchosen c.args.home.now (chosen_view c.args.chosen))) c.index-args-i.result
+      (lost_goes (unchosen c.args.home.now (chosen_view c.args.chosen)) (seg_view (get_or c.args.args.now c.in-Some.i c.index-args-i.result)) (sym c.loses_all-goes.ensures ∙ c.if-goes.true)),
+)
