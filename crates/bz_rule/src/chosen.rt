@@ -8,7 +8,7 @@ ghost use Rattle.bz_rule.specs.Lists.{edit_list, edit_parts, parts, with_value};
 ghost use Rattle.bz_rule.specs.ChosenViews.{chosen_view};
 ghost use Rattle.bz_rule.specs.Effects as spec;
 
-use crate::equals::equals_any;
+use crate::equals::{equals, equals_any};
 use crate::list::Text;
 use crate::lists::{are_joints, is_list, is_part};
 use crate::package::Package;
@@ -22,6 +22,8 @@ pub(crate) enum Chosen<'c> {
     All,
     /// Those that equal one of a few words.
     Values(&'c [Text]),
+    /// Those that equal a word.
+    Value(&'c str),
     /// Those that equal one of many words.
     Many(&'c WordSet<'c>),
 }
@@ -32,6 +34,7 @@ pub(crate) fn is_chosen(home: &Package, chosen: Chosen<'_>, element: &Seg<'_>) -
     match chosen {
         Chosen::All => true,
         Chosen::Values(words) => equals_any(home, element, words),
+        Chosen::Value(word) => equals(home, element, word),
         Chosen::Many(words) => words.equals_any(home, element),
     }
 }

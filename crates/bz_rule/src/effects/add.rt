@@ -1,6 +1,7 @@
 //! `add`: values that are missing go to the end of a list.
 
 ghost use Rattle.std.specs.Prelude.{◌≡◌, ◌≤◌, ◌++◌, ◌∷◌, [], map, Some, length, if◌then◌else◌, not, true, IfOk, OnOk, OnErr};
+ghost use Rattle.std.specs.List.{list_any};
 ghost use Rattle.bz_tree.specs.View.{node_view, nodes_view, seg_view, segs_view};
 ghost use Rattle.bz_rule.specs.Rules.{first_named, is_named, value};
 ghost use Rattle.bz_rule.specs.Lists.{edit_first_part, edit_list, parts, same};
@@ -9,7 +10,9 @@ ghost use Rattle.bz_rule.specs.Places.{IsFirstPart};
 ghost use Rattle.bz_rule.specs.Effects as spec;
 
 use crate::bytes::Bytes;
+use crate::chosen::{Chosen, is_any_chosen};
 use crate::done::{Done, Note};
+use crate::equals::same;
 use crate::find::find;
 use crate::label_set::LabelSet;
 use crate::list::Text;
@@ -17,6 +20,7 @@ use crate::list_labels::labels_in;
 use crate::lists::first_part;
 use crate::make::{list_argument, string};
 use crate::package::Package;
+use crate::word_set::FEW;
 use bz_tree::{Node, Seg};
 use std::alloc::{AllocError, Global};
 
@@ -93,6 +97,76 @@ fn are_none(elements: &[Seg<'_>]) -> bool
 
 // The elements for the values that are missing in a value's list parts.
 fn new_elements<'a>(
+    alloc: Global,
+    home: &Package,
+    value: &[Node<'_>],
+    values: &[Text],
+) -> Result<Vec<Seg<'a>>, AllocError>
+    ensures { IfOk result (λ new. segs_view new.items ≡ spec.new_elements home.now (parts (nodes_view value.now)) values.now) }
+{
+    if values.len() <= FEW {
+        return compared(alloc, home, value, values);
+    }
+    looked_up(alloc, home, value, values)
+}
+
+// The same for a few values, each compared with the elements and with the values before it.
+fn compared<'a>(
+    alloc: Global,
+    home: &Package,
+    value: &[Node<'_>],
+    values: &[Text],
+) -> Result<Vec<Seg<'a>>, AllocError>
+    ensures { IfOk result (λ new. segs_view new.items ≡ spec.new_elements home.now (parts (nodes_view value.now)) values.now) }
+{
+    let mut new = Vec::new(alloc);
+    for i in 0..values.len() {
+        push_fresh(
+            alloc,
+            home,
+            value,
+            &values[..i],
+            values[i].as_str(),
+            &mut new,
+        )?;
+    }
+    Ok(new)
+}
+
+fn push_fresh<'a>(
+    alloc: Global,
+    home: &Package,
+    value: &[Node<'_>],
+    earlier: &[Text],
+    word: &str,
+    new: &mut Vec<Seg<'a>>,
+) -> Result<(), AllocError>
+    ensures { OnOk result (segs_view new.new.items ≡ segs_view new.old.items ++ map spec.string (if spec.is_fresh home.now (parts (nodes_view value.now)) earlier.now word.now then word.now ∷ [] else [])) }
+{
+    if is_any_chosen(home, Chosen::Value(word), value) || is_any_same(home, word, earlier) {
+        return Ok(());
+    }
+    new.push(string(alloc, word)?)?;
+    Ok(())
+}
+
+fn is_any_same(home: &Package, word: &str, others: &[Text]) -> bool
+    ensures { result ≡ list_any (same home.now word.now) others.now }
+{
+    for other in others {
+        if same(
+            home,
+            Bytes::Plain(word.as_bytes()),
+            Bytes::Plain(other.as_str().as_bytes()),
+        ) {
+            return true;
+        }
+    }
+    false
+}
+
+// The same for many values, each looked up in a set of the elements and of the values before it.
+fn looked_up<'a>(
     alloc: Global,
     home: &Package,
     value: &[Node<'_>],

@@ -4,7 +4,7 @@ use Rattle.bz_tree.specs.View.{segs_view, nodes_view}
 use Rattle.bz_rule.specs.Lists.{parts, same}
 use Rattle.bz_rule.specs.LabelSets.{has, is_in}
 use Rattle.bz_rule.specs.Effects.{string, fresh, new_elements}
-use Rattle.bz_rule.proofs.effects.add.new_elements.Given as goal
+use Rattle.bz_rule.proofs.effects.add.looked_up.Given as goal
 
 abbrev pub invariant-loop-i : goal.invariant-loop-i
 invariant-loop-i l = record {

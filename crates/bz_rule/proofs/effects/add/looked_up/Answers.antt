@@ -7,7 +7,7 @@ use Rattle.bz_rule.specs.LabelSets.{has, is_in}
 use Rattle.bz_rule.specs.Effects.{string}
 use Rattle.bz_rule.proofs.Fresh.{fresh_step, there_step}
 use Rattle.bz_rule.proofs.LabelSets.{or_false}
-use Rattle.bz_rule.proofs.effects.add.new_elements.Goals as goal
+use Rattle.bz_rule.proofs.effects.add.looked_up.Goals as goal
 
 pub loop-i-init : goal.loop-i-init
 loop-i-init c = record {
