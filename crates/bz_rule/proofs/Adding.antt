@@ -4,14 +4,13 @@ use Rattle.std.specs.List.{list_any, list_all}
 use Rattle.std.proofs.lemmas.Bool.{or_left, or_right, and_parts}
 use Rattle.std.proofs.lemmas.List.{append_cancel_left}
 use Rattle.std.proofs.lemmas.List.Folds.{list_any-append}
-use Rattle.bz_tree.specs.Tree.{Item, Segment}
+use Rattle.bz_tree.specs.Tree.{Segment}
 use Rattle.bz_rule.specs.Labels.{Package}
 use Rattle.bz_rule.specs.Same.{completed}
 use Rattle.bz_rule.specs.Commands.{Values}
 use Rattle.bz_rule.specs.Rules.{is_named, is_text, first_named, value}
 use Rattle.bz_rule.specs.Lists.{edit_first_part, is_attribute, parts, same, with_value}
 use Rattle.bz_rule.specs.Effects.{add, adds, argument, chooses, chooses_in, done, edit_first, fresh, has, is_chosen, is_fresh, is_nil, list_item, new_elements, no_parts, not_a_list, string, with_added}
-use Rattle.bz_rule.specs.declared.done.Note.{Note}
 use Rattle.bz_rule.specs.declared.done.Note.TheVariants.{NotAList}
 use Rattle.bz_rule.proofs.Views.{segments_of}
 use Rattle.bz_rule.proofs.PartLaws.{edit_head, first_part_stays, parts_first_edited}
@@ -58,22 +57,22 @@ fresh_covers home lists earlier (v ∷ values) =
     let later : List (List ℕ) = fresh home lists (earlier ++ v ∷ []) values in
     let rest : list_all (λ w. stands_in home lists w || list_any (same home w) ((earlier ++ v ∷ []) ++ later)) values ≡ true = fresh_covers home lists (earlier ++ v ∷ []) values in
     elim (is_fresh home lists earlier v) as (λ b. is_fresh home lists earlier v ≡ b
-      → list_all (λ w. stands_in home lists w || list_any (same home w) (earlier ++ ((if b then v ∷ [] else []) ++ later))) (v ∷ values) ≡ true) [
+    → list_all (λ w. stands_in home lists w || list_any (same home w) (earlier ++ ((if b then v ∷ [] else []) ++ later))) (v ∷ values) ≡ true) [
       | true ↦ λ e.
           let here : list_any (same home v) (earlier ++ v ∷ later) ≡ true =
-            list_any-append (same home v) earlier (v ∷ later) ∙ or_right (list_any (same home v) earlier) _ (or_left (same home v v) (list_any (same home v) later) (same_self home v)) in
+          list_any-append (same home v) earlier (v ∷ later) ∙ or_right (list_any (same home v) earlier) _ (or_left (same home v v) (list_any (same home v) later) (same_self home v)) in
           let all : list_all (λ w. stands_in home lists w || list_any (same home w) (earlier ++ v ∷ later)) values ≡ true =
-            ap (λ (ws : List (List ℕ)). list_all (λ w. stands_in home lists w || list_any (same home w) ws) values) (sym (append_assoc earlier (v ∷ []) later)) ∙ rest in
+          ap (λ (ws : List (List ℕ)). list_all (λ w. stands_in home lists w || list_any (same home w) ws) values) (sym (append_assoc earlier (v ∷ []) later)) ∙ rest in
           rw (or_right (stands_in home lists v) _ here) all
       | false ↦ λ e.
           let known : stands_in home lists v || list_any (same home v) earlier ≡ true = not_false _ e in
           let here : stands_in home lists v || list_any (same home v) (earlier ++ later) ≡ true =
-            rw (list_any-append (same home v) earlier later) (or_grouped (stands_in home lists v) (list_any (same home v) earlier) (list_any (same home v) later) known) in
+          rw (list_any-append (same home v) earlier later) (or_grouped (stands_in home lists v) (list_any (same home v) earlier) (list_any (same home v) later) known) in
           rw here (all_follow (λ w. stands_in home lists w || list_any (same home w) ((earlier ++ v ∷ []) ++ later)) (λ w. stands_in home lists w || list_any (same home w) (earlier ++ later)) (λ w k.
-            rw (list_any-append (same home w) earlier later)
-              (weaken (stands_in home lists w) (list_any (same home w) earlier) (list_any (same home w) later) (same home w v)
-                (λ t. sym (alike home lists earlier v w t) ∙ known)
-                (rw (list_any-append (same home w) (earlier ++ v ∷ []) later, list_any-append (same home w) earlier (v ∷ [])) at k))) values rest)
+          rw (list_any-append (same home w) earlier later)
+          (weaken (stands_in home lists w) (list_any (same home w) earlier) (list_any (same home w) later) (same home w v)
+          (λ t. sym (alike home lists earlier v w t) ∙ known)
+          (rw (list_any-append (same home w) (earlier ++ v ∷ []) later, list_any-append (same home w) earlier (v ∷ [])) at k))) values rest)
     ] refl
 
 grouped : (x y z : Bool) → x || z || y ≡ (x || y || z)
@@ -99,9 +98,9 @@ found_in_added home values a h some =
     let lists : List (List Segment) = parts (value a) in
     let new : List (List ℕ) = fresh home lists [] values in
     all_follow (λ v. stands_in home lists v || list_any (same home v) new) (λ v. chooses home (Values (v ∷ [])) (with_added home values a)) (λ v k.
-      ap (λ (ls : List (List Segment)). stands_in home ls v) (parts_with home values a h some)
-      ∙ any_head (is_chosen home (Values (v ∷ []))) (map string new) lists some
-      ∙ ap (λ (b : Bool). stands_in home lists v || b) (strings_chosen home v new) ∙ k) values (fresh_covers home lists [] values)
+    ap (λ (ls : List (List Segment)). stands_in home ls v) (parts_with home values a h some)
+    ∙ any_head (is_chosen home (Values (v ∷ []))) (map string new) lists some
+    ∙ ap (λ (b : Bool). stands_in home lists v || b) (strings_chosen home v new) ∙ k) values (fresh_covers home lists [] values)
 
 abbrev new_argument : Package → List ℕ → List (List ℕ) → Segment
 new_argument home attr values = argument attr (list_item (new_elements home [] values) ∷ [])
@@ -117,9 +116,9 @@ pub found_in_new : (home : Package) (attr : List ℕ) (values : List (List ℕ))
 found_in_new home attr values =
     let new : List (List ℕ) = fresh home [] [] values in
     all_follow (λ v. stands_in home [] v || list_any (same home v) new) (λ v. chooses home (Values (v ∷ [])) (new_argument home attr values)) (λ v k.
-      ap (λ (ls : List (List Segment)). stands_in home ls v) (parts_new home attr values)
-      ∙ or_none (list_any (is_chosen home (Values (v ∷ []))) (map string new))
-      ∙ strings_chosen home v new ∙ k) values (fresh_covers home [] [] values)
+    ap (λ (ls : List (List Segment)). stands_in home ls v) (parts_new home attr values)
+    ∙ or_none (list_any (is_chosen home (Values (v ∷ []))) (map string new))
+    ∙ strings_chosen home v new ∙ k) values (fresh_covers home [] [] values)
 
 new_named : (home : Package) (attr : List ℕ) (values : List (List ℕ)) → is_named attr (new_argument home attr values) ≡ true
 new_named home attr values = bytes_same attr
@@ -200,8 +199,8 @@ add_kept : (home : Package) (attr : List ℕ) (values : List (List ℕ)) (args :
 add_kept home attr values args a e h =
     let there : has attr args ≡ true = has_first attr args ∙ ap is_some e in
     rw there (rest_same attr (λ z. with_added home values z ∷ []) args (λ z first.
-      let is : z ≡ a = some_same (sym first ∙ e) in
-      ap (λ (y : Segment). with_added home values y ∷ []) is ∙ ap (λ (y : Segment). y ∷ []) (h ∙ sym is)))
+    let is : z ≡ a = some_same (sym first ∙ e) in
+    ap (λ (y : Segment). with_added home values y ∷ []) is ∙ ap (λ (y : Segment). y ∷ []) (h ∙ sym is)))
   where
     some_same : {x y : Segment} → Some x ≡ Some y → x ≡ y
     some_same h = cc
@@ -210,10 +209,10 @@ add_kept home attr values args a e h =
 pub add_twice : (home : Package) (attr : List ℕ) (values : List (List ℕ)) (args : List Segment) → add home attr values (add home attr values args) ≡ add home attr values args
 add_twice home attr values args =
     add_kept home attr values (add home attr values args) (first_added home attr values (first_named attr args)) (first_after_add home attr values args)
-      (elim (first_named attr args) as (λ o. first_named attr args ≡ o → with_added home values (first_added home attr values o) ≡ first_added home attr values o) [
-        | None ↦ λ e. added_found home values (new_argument home attr values) (found_in_new home attr values)
-        | Some a ↦ λ e. added_twice home values a (attribute_named attr a (is_first_named attr args a e))
-      ] refl)
+    (elim (first_named attr args) as (λ o. first_named attr args ≡ o → with_added home values (first_added home attr values o) ≡ first_added home attr values o) [
+      | None ↦ λ e. added_found home values (new_argument home attr values) (found_in_new home attr values)
+      | Some a ↦ λ e. added_twice home values a (attribute_named attr a (is_first_named attr args a e))
+    ] refl)
 
 nothing_new : (ss : List Segment) → not (is_nil ss) ≡ false → ss ≡ []
 nothing_new [] h = refl

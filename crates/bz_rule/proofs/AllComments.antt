@@ -1,14 +1,14 @@
 -- All comments of a statement, where an edit leaves them.
-use Rattle.std.proofs.Common.{◌≡◌, ℕ, List, [], ◌∷◌, ◌++◌, Bool, true, false, ◌&&◌, ◌||◌, not, if◌then◌else◌, Option, Some, None, option_map, is_some, map, take, codes, bytes_eq, ◌==◌, refl, ap, sym, ◌∙◌, append_assoc, append-nil}
+use Rattle.std.proofs.Common.{◌≡◌, ℕ, List, [], ◌∷◌, ◌++◌, Bool, true, false, not, if◌then◌else◌, Option, Some, None, option_map, is_some, map, take, codes, bytes_eq, ◌==◌, refl, ap, sym, ◌∙◌, append_assoc, append-nil}
 use Rattle.std.specs.List.{list_all, slice_split}
 use Rattle.std.proofs.lemmas.Bool.{and_parts}
 use Rattle.bz_token.specs.declared.token.Kind.TheVariants.{Ident, Word, Int, Text, Sign, Line, Note as NoteKind, Kept}
 use Rattle.bz_tree.specs.declared.stmt.GroupKind.TheVariants.{RuleCall}
-use Rattle.bz_tree.specs.Tree.{Item, leaf, group, Items, no_items, item, Segs, no_segs, seg, Segment, Statement, items_of, segs_of, segments, nowhere}
+use Rattle.bz_tree.specs.Tree.{Item, leaf, group, Items, no_items, item, Segs, no_segs, seg, Segment, Statement, items_of, segs_of, segments}
 use Rattle.bz_tree.specs.Comments.{Lists, beside, comments_of, joined, item_owners, items_owners, segs_owners}
 use Rattle.bz_rule.specs.Labels.{Package}
 use Rattle.bz_rule.specs.Commands.{Attributes, Every, Named}
-use Rattle.bz_rule.specs.Rules.{Rule, dotted, first_named, ident_of, kind_text, is_named, is_sign, is_text, name_of, only_text, rule_of, string_value, text_of, value, value_in}
+use Rattle.bz_rule.specs.Rules.{Rule, dotted, ident_of, kind_text, is_named, is_sign, is_text, name_of, rule_of, string_value, value}
 use Rattle.bz_rule.specs.Lists.{edit_first_part, edit_from, edit_list, edit_one_from, edit_parts, equals, is_attribute, is_joint, is_part, is_plus, parts, same_value, with_value}
 use Rattle.bz_rule.specs.Effects.{add, argument, edit_first, fresh, has, list_item, new_elements, no_parts, nodes_after, nodes_of, rename, rename_note, rename_to, renamed, string, string_item, with_added, with_args}
 use Rattle.bz_rule.specs.Setting.{New, NewConstant, NewNumber, NewString, NewStrings, joined_by_dots, kind_after, kind_items, new_of, new_value, set_if_absent, with_kind}
@@ -201,14 +201,14 @@ replace_comments home Every old new args = map_keeps (λ a. if is_attribute a th
 statement_comments : (f : List Segment → List Segment) → ((args : List Segment) → in_all (f args) ≡ in_all args) → (s : Statement) → comments_of (with_args f s) ≡ comments_of s
 statement_comments f keep s =
     let nodes : in_nodes (nodes_after f s.nodes (rule_of s.nodes)) ≡ in_nodes s.nodes =
-      elim (rule_of s.nodes) as (λ o. rule_of s.nodes ≡ o → in_nodes (nodes_after f s.nodes o) ≡ in_nodes s.nodes) [
-        | None ↦ λ e. refl
-        | Some r ↦ λ e.
-            nodes_joined r.kind (group RuleCall (segs_of (f r.args)) r.one_comma r.end ∷ [])
-            ∙ ap (λ (cs : List (List ℕ)). in_nodes r.kind ++ ((cs ++ r.end) ++ [])) (keep r.args)
-            ∙ sym (nodes_joined r.kind (group RuleCall (segs_of r.args) r.one_comma r.end ∷ []))
-            ∙ ap in_nodes (rule_nodes [] s.nodes r e)
-      ] refl in
+    elim (rule_of s.nodes) as (λ o. rule_of s.nodes ≡ o → in_nodes (nodes_after f s.nodes o) ≡ in_nodes s.nodes) [
+      | None ↦ λ e. refl
+      | Some r ↦ λ e.
+          nodes_joined r.kind (group RuleCall (segs_of (f r.args)) r.one_comma r.end ∷ [])
+          ∙ ap (λ (cs : List (List ℕ)). in_nodes r.kind ++ ((cs ++ r.end) ++ [])) (keep r.args)
+          ∙ sym (nodes_joined r.kind (group RuleCall (segs_of r.args) r.one_comma r.end ∷ []))
+          ∙ ap in_nodes (rule_nodes [] s.nodes r e)
+    ] refl in
     statement_is (with_args f s) ∙ ap (λ (cs : List (List ℕ)). s.before ++ (beside s.suffix ++ cs)) nodes ∙ sym (statement_is s)
 
 pub slot_comments : (f : List Segment → List Segment) → ((args : List Segment) → in_all (f args) ≡ in_all args) → (slot : Option Statement)
@@ -253,4 +253,4 @@ pub kind_comments : (kind : List ℕ) (slot : Option Statement) → option_map c
 kind_comments kind None = refl
 kind_comments kind (Some s) =
     ap (λ (cs : List (List ℕ)). Some cs)
-      (statement_is (with_kind kind s) ∙ ap (λ (cs : List (List ℕ)). s.before ++ (beside s.suffix ++ cs)) (kind_keeps kind s.nodes (rule_of s.nodes) refl) ∙ sym (statement_is s))
+    (statement_is (with_kind kind s) ∙ ap (λ (cs : List (List ℕ)). s.before ++ (beside s.suffix ++ cs)) (kind_keeps kind s.nodes (rule_of s.nodes) refl) ∙ sym (statement_is s))

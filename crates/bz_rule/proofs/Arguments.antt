@@ -1,5 +1,5 @@
 -- Arguments with another value, and the first of a name.
-use Rattle.std.proofs.Common.{◌≡◌, ℕ, List, [], ◌∷◌, ◌++◌, Bool, true, false, ◌||◌, if◌then◌else◌, Option, Some, None, option_map, is_some, drop, take, length, refl, ap, sym, ◌∙◌, arith, codes}
+use Rattle.std.proofs.Common.{◌≡◌, ℕ, List, [], ◌∷◌, ◌++◌, true, false, ◌||◌, if◌then◌else◌, Some, None, option_map, is_some, drop, take, refl, ap, sym, ◌∙◌}
 use Rattle.std.proofs.lemmas.List.{append_cancel_right}
 use Rattle.bz_tree.specs.Tree.{Item, Segment}
 use Rattle.bz_rule.specs.Rules.{is_named, is_text, first_named, name_of, value}

@@ -1,22 +1,17 @@
 -- No effect of a command depends on where tokens stand: arguments.
-use Rattle.std.proofs.Common.{◌≡◌, ℕ, List, [], ◌∷◌, ◌++◌, Bool, true, false, ◌&&◌, ◌||◌, not, if◌then◌else◌, Option, Some, None, option_map, is_some, map, filter, refl, ap, sym, ◌∙◌}
-use Rattle.std.specs.List.{list_any, list_all, flat_map}
+use Rattle.std.proofs.Common.{◌≡◌, ℕ, List, [], ◌∷◌, ◌++◌, Bool, true, false, ◌&&◌, not, if◌then◌else◌, Option, Some, None, option_map, is_some, map, refl, ap, sym, ◌∙◌}
+use Rattle.std.specs.List.{list_any}
 use Rattle.std.proofs.lemmas.List.{map-append}
-use Rattle.bz_token.specs.declared.token.Kind.TheVariants.{Ident, Word, Int, Text, Sign, Line, Note, Kept}
 use Rattle.bz_tree.specs.declared.stmt.GroupKind.TheVariants.{List as ListKind}
-use Rattle.bz_tree.specs.Tree.{Item, leaf, group, Segs, Segment, segs_of, segments, nowhere, bare, bare_segs}
+use Rattle.bz_tree.specs.Tree.{Item, group, Segs, Segment, bare}
 use Rattle.bz_rule.specs.Labels.{Package}
 use Rattle.bz_rule.specs.Commands.{Attributes, Every, Named, Moved, Values}
-use Rattle.bz_rule.specs.Rules.{elements, first_named, is_named, is_text, string_value, value}
-use Rattle.bz_rule.specs.Lists.{edit_first_part, edit_list, edit_parts, equals, is_attribute, is_joint, is_list, is_part, is_plus, parts, with_value}
-use Rattle.bz_rule.specs.Effects.{add, adds, argument, chooses, chooses_in, chooses_anywhere, edit_first, filtered, filtered_everywhere, fresh, goes_with_all, has, is_absent, is_chosen, is_fresh, is_nil, list_item, loses_all, new_elements, no_parts, not_a_list, remove, removes, rename, rename_note, rename_to, renamed, string, string_item, unchosen, with_added}
-use Rattle.bz_rule.specs.Setting.{New, NewConstant, NewNumber, NewString, NewStrings, are_strings, holds_list, is_ident, is_int, is_only, is_one_list, is_string, is_value, new_of, new_value, set, set_if_absent, set_in, sets}
-use Rattle.bz_rule.specs.Moving.{arrivals, chosen_of, elements_of, is_among, joined, move, move_note, moved, moves, put_in}
-use Rattle.bz_rule.specs.Replacing.{is_replaced, replace, replaced, replaced_in, replaces, replaces_first, replaces_in}
-use Rattle.bz_rule.specs.Commenting.{comment_attribute, comment_element, comment_line, comment_note, comment_value, edit_element, edit_element_from, is_missing, with_comment}
-use Rattle.bz_rule.specs.declared.done.Note.TheVariants.{NoValue, NotAList}
+use Rattle.bz_rule.specs.Rules.{elements, first_named, is_named, value}
+use Rattle.bz_rule.specs.Lists.{edit_first_part, edit_parts, is_attribute, parts, with_value}
+use Rattle.bz_rule.specs.Effects.{add, adds, argument, chooses, chooses_in, edit_first, filtered, fresh, goes_with_all, has, is_chosen, is_fresh, is_nil, list_item, loses_all, new_elements, no_parts, not_a_list, remove, removes, rename, rename_note, rename_to, renamed, string, unchosen, with_added}
+use Rattle.bz_rule.specs.declared.done.Note.TheVariants.{NotAList}
 use Rattle.bz_rule.specs.Bare.{bare_segment}
-use Rattle.bz_rule.proofs.BareParts.{any_bare, any_bare_in, attribute_bare, bare_segs_of, chosen_bare, edit_first_bare, edit_list_bare, edit_parts_bare, elements_bare, equals_bare, filter_bare, first_bare, first_part_bare, flat_map_bare, has_bare, is_list_bare, joint_bare, map_bare, named_bare, part_bare, parts_bare, segs_bare, sign_bare, string_bare, value_bare, value_edit_bare, value_parts_bare, with_value_bare}
+use Rattle.bz_rule.proofs.BareParts.{any_bare, any_bare_in, attribute_bare, bare_segs_of, chosen_bare, edit_first_bare, edit_parts_bare, elements_bare, filter_bare, first_bare, first_part_bare, flat_map_bare, has_bare, is_list_bare, named_bare, value_bare, value_edit_bare, value_parts_bare}
 
 no_parts_bare : (lists : List (List Segment)) → no_parts (map (map bare_segment) lists) ≡ no_parts lists
 no_parts_bare [] = refl
@@ -78,8 +73,8 @@ remove_bare home Every [] args = filter_bare (λ a. not (goes_with_all a)) (λ a
 remove_bare home Every (v ∷ values) args =
     let f : List Segment → List Segment = unchosen home (Values (v ∷ values)) in
     flat_map_bare (λ a. if is_attribute a then filtered f a else a ∷ []) (λ a.
-      rw (attribute_bare a) (elim (is_attribute a) as (λ b. map bare_segment (if b then filtered f a else a ∷ []) ≡ (if b then filtered f (bare_segment a) else bare_segment a ∷ []))
-      [ true ↦ filtered_bare f (unchosen_bare home (Values (v ∷ values))) a | false ↦ refl ])) args
+    rw (attribute_bare a) (elim (is_attribute a) as (λ b. map bare_segment (if b then filtered f a else a ∷ []) ≡ (if b then filtered f (bare_segment a) else bare_segment a ∷ []))
+    [ true ↦ filtered_bare f (unchosen_bare home (Values (v ∷ values))) a | false ↦ refl ])) args
 remove_bare home (Named attr) [] args = filter_bare (λ a. not (is_named attr a)) (λ a. ap not (named_bare attr a)) args
 remove_bare home (Named attr) (v ∷ values) args =
     edit_first_bare attr (filtered (unchosen home (Values (v ∷ values)))) (filtered (unchosen home (Values (v ∷ values)))) (filtered_bare (unchosen home (Values (v ∷ values))) (unchosen_bare home (Values (v ∷ values)))) args
@@ -108,11 +103,11 @@ with_added_bare : (home : Package) (values : List (List ℕ)) (a : Segment) → 
 with_added_bare home values a =
     let new : List Segment = new_elements home (parts (value a)) values in
     rw (lists_bare a, new_bare home values a)
-      (elim (no_parts (parts (value a))) as (λ b. bare_segment (if b then a else with_value (edit_first_part (λ ss. ss ++ new) (value a)) a) ≡ (if b then bare_segment a else with_value (edit_first_part (λ ss. ss ++ new) (value (bare_segment a))) (bare_segment a))) [
-        | true ↦ refl
-        | false ↦ value_edit_bare (edit_first_part (λ ss. ss ++ new)) (edit_first_part (λ ss. ss ++ new))
-            (first_part_bare (λ ss. ss ++ new) (λ ss. ss ++ new) (appended_bare new new (strings_bare (fresh home (parts (value a)) [] values)))) a
-      ])
+    (elim (no_parts (parts (value a))) as (λ b. bare_segment (if b then a else with_value (edit_first_part (λ ss. ss ++ new) (value a)) a) ≡ (if b then bare_segment a else with_value (edit_first_part (λ ss. ss ++ new) (value (bare_segment a))) (bare_segment a))) [
+      | true ↦ refl
+      | false ↦ value_edit_bare (edit_first_part (λ ss. ss ++ new)) (edit_first_part (λ ss. ss ++ new))
+          (first_part_bare (λ ss. ss ++ new) (λ ss. ss ++ new) (appended_bare new new (strings_bare (fresh home (parts (value a)) [] values)))) a
+    ])
 
 pub add_bare : (home : Package) (attr : List ℕ) (values : List (List ℕ)) (args : List Segment) → map bare_segment (add home attr values args) ≡ add home attr values (map bare_segment args)
 add_bare home attr values args =

@@ -1,5 +1,5 @@
 -- Arguments, elements and list parts without the places of tokens.
-use Rattle.std.proofs.Common.{◌≡◌, ℕ, List, [], ◌∷◌, ◌++◌, Bool, true, false, ◌&&◌, ◌||◌, not, if◌then◌else◌, Option, Some, None, option_map, is_some, map, filter, cond, take, drop, codes, refl, ap, sym, ◌∙◌}
+use Rattle.std.proofs.Common.{◌≡◌, ℕ, List, [], ◌∷◌, ◌++◌, Bool, true, false, if◌then◌else◌, Option, Some, option_map, is_some, map, filter, cond, take, codes, refl, ap, sym, ◌∙◌}
 use Rattle.std.specs.List.{list_any, list_all, flat_map, drop-map, take-map}
 use Rattle.std.proofs.lemmas.List.{map-append}
 use Rattle.bz_token.specs.declared.token.Kind.TheVariants.{Ident, Word, Int, Text, Sign, Line, Note, Kept}
@@ -145,8 +145,8 @@ parts_from_bare : (start : Bool) (xs : List Item) → parts_from start (map bare
 parts_from_bare start [] = refl
 parts_from_bare start (x ∷ xs) =
     rw (part_bare start x xs, sign_bare (codes "+") x, elements_bare x, parts_from_bare (is_plus x) xs)
-      (elim (is_part start x xs) as (λ b. (if b then map bare_segment (elements x) ∷ [] else []) ++ map (map bare_segment) (parts_from (is_plus x) xs) ≡ map (map bare_segment) ((if b then elements x ∷ [] else []) ++ parts_from (is_plus x) xs))
-      [ true ↦ refl | false ↦ refl ])
+    (elim (is_part start x xs) as (λ b. (if b then map bare_segment (elements x) ∷ [] else []) ++ map (map bare_segment) (parts_from (is_plus x) xs) ≡ map (map bare_segment) ((if b then elements x ∷ [] else []) ++ parts_from (is_plus x) xs))
+    [ true ↦ refl | false ↦ refl ])
 
 pub parts_bare : (nodes : List Item) → parts (map bare nodes) ≡ map (map bare_segment) (parts nodes)
 parts_bare nodes =
@@ -166,8 +166,8 @@ edit_from_bare : (f g : List Segment → List Segment) → ((ss : List Segment) 
 edit_from_bare f g same start [] = refl
 edit_from_bare f g same start (x ∷ xs) =
     rw (part_bare start x xs, sign_bare (codes "+") x, sym (edit_from_bare f g same (is_plus x) xs))
-      (elim (is_part start x xs) as (λ b. bare (if b then edit_list f x else x) ∷ map bare (edit_from f (is_plus x) xs) ≡ (if b then edit_list g (bare x) else bare x) ∷ map bare (edit_from f (is_plus x) xs))
-      [ true ↦ ap (λ (z : Item). z ∷ map bare (edit_from f (is_plus x) xs)) (edit_list_bare f g same x) | false ↦ refl ])
+    (elim (is_part start x xs) as (λ b. bare (if b then edit_list f x else x) ∷ map bare (edit_from f (is_plus x) xs) ≡ (if b then edit_list g (bare x) else bare x) ∷ map bare (edit_from f (is_plus x) xs))
+    [ true ↦ ap (λ (z : Item). z ∷ map bare (edit_from f (is_plus x) xs)) (edit_list_bare f g same x) | false ↦ refl ])
 
 pub edit_parts_bare : (f g : List Segment → List Segment) → ((ss : List Segment) → map bare_segment (f ss) ≡ g (map bare_segment ss)) → (nodes : List Item) → map bare (edit_parts f nodes) ≡ edit_parts g (map bare nodes)
 edit_parts_bare f g same nodes =
@@ -178,8 +178,8 @@ edit_one_bare : (f g : List Segment → List Segment) → ((ss : List Segment) �
 edit_one_bare f g same start [] = refl
 edit_one_bare f g same start (x ∷ xs) =
     rw (part_bare start x xs, sign_bare (codes "+") x)
-      (elim (is_part start x xs) as (λ b. map bare (if b then edit_list f x ∷ xs else x ∷ edit_one_from f (is_plus x) xs) ≡ (if b then edit_list g (bare x) ∷ map bare xs else bare x ∷ edit_one_from g (is_plus x) (map bare xs)))
-      [ true ↦ ap (λ (z : Item). z ∷ map bare xs) (edit_list_bare f g same x) | false ↦ ap (λ (zs : List Item). bare x ∷ zs) (edit_one_bare f g same (is_plus x) xs) ])
+    (elim (is_part start x xs) as (λ b. map bare (if b then edit_list f x ∷ xs else x ∷ edit_one_from f (is_plus x) xs) ≡ (if b then edit_list g (bare x) ∷ map bare xs else bare x ∷ edit_one_from g (is_plus x) (map bare xs)))
+    [ true ↦ ap (λ (z : Item). z ∷ map bare xs) (edit_list_bare f g same x) | false ↦ ap (λ (zs : List Item). bare x ∷ zs) (edit_one_bare f g same (is_plus x) xs) ])
 
 pub first_part_bare : (f g : List Segment → List Segment) → ((ss : List Segment) → map bare_segment (f ss) ≡ g (map bare_segment ss)) → (nodes : List Item) → map bare (edit_first_part f nodes) ≡ edit_first_part g (map bare nodes)
 first_part_bare f g same nodes =

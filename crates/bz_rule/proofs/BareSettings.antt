@@ -1,5 +1,5 @@
 -- No effect of a command depends on where tokens stand: arguments that are set, moved, replaced and commented.
-use Rattle.std.proofs.Common.{◌≡◌, ℕ, List, [], ◌∷◌, ◌++◌, Bool, true, false, ◌&&◌, ◌||◌, not, if◌then◌else◌, Option, Some, None, option_map, is_some, map, filter, refl, ap, sym, ◌∙◌}
+use Rattle.std.proofs.Common.{◌≡◌, ℕ, List, [], ◌∷◌, ◌++◌, Bool, true, false, ◌&&◌, not, if◌then◌else◌, Option, Some, None, option_map, is_some, map, filter, refl, ap, sym, ◌∙◌}
 use Rattle.std.specs.List.{list_any, list_all}
 use Rattle.std.proofs.lemmas.List.{map-append}
 use Rattle.bz_token.specs.declared.token.Kind.TheVariants.{Ident, Word, Int, Text, Sign, Line, Note, Kept}
@@ -15,7 +15,7 @@ use Rattle.bz_rule.specs.Replacing.{is_replaced, replace, replaced, replaced_in,
 use Rattle.bz_rule.specs.Commenting.{comment_attribute, comment_element, comment_line, comment_note, comment_value, edit_element, edit_element_from, is_missing, with_comment}
 use Rattle.bz_rule.specs.declared.done.Note.TheVariants.{NoValue}
 use Rattle.bz_rule.specs.Bare.{bare_segment}
-use Rattle.bz_rule.proofs.BareParts.{any_bare, any_bare_in, attribute_bare, chosen_bare, edit_first_bare, edit_list_bare, edit_parts_bare, elements_bare, equals_bare, filter_bare, first_bare, first_part_bare, has_bare, is_list_bare, joints_bare, map_bare, named_bare, part_bare, sign_bare, string_bare, value_bare, value_edit_bare, value_parts_bare, with_value_bare}
+use Rattle.bz_rule.proofs.BareParts.{any_bare, any_bare_in, attribute_bare, chosen_bare, edit_first_bare, edit_list_bare, edit_parts_bare, elements_bare, equals_bare, filter_bare, first_bare, first_part_bare, has_bare, is_list_bare, joints_bare, map_bare, part_bare, sign_bare, string_bare, value_bare, value_edit_bare, value_parts_bare, with_value_bare}
 use Rattle.bz_rule.proofs.BareEffects.{appended_bare, behind_bare, chooses_in_bare, filtered_bare, list_item_bare, not_a_list_bare, strings_bare, unchosen_bare}
 
 -- `set`
@@ -123,19 +123,19 @@ arrivals_bare home there [] = refl
 arrivals_bare home there (s ∷ ss) =
     let known : is_among home (map bare_segment there) (string_value (bare_segment s).nodes) ≡ is_among home there (string_value s.nodes) = ap (is_among home (map bare_segment there)) (string_bare s.nodes) ∙ among_bare home there (string_value s.nodes) in
     let later : arrivals home (map bare_segment there ++ bare_segment s ∷ []) (map bare_segment ss) ≡ map bare_segment (arrivals home (there ++ s ∷ []) ss) =
-      ap (λ (zs : List Segment). arrivals home zs (map bare_segment ss)) (sym (map-append bare_segment there (s ∷ []))) ∙ arrivals_bare home (there ++ s ∷ []) ss in
+    ap (λ (zs : List Segment). arrivals home zs (map bare_segment ss)) (sym (map-append bare_segment there (s ∷ []))) ∙ arrivals_bare home (there ++ s ∷ []) ss in
     rw (known, later) (elim (is_among home there (string_value s.nodes)) as (λ b. (if b then arrivals home (map bare_segment there) (map bare_segment ss) else bare_segment s ∷ map bare_segment (arrivals home (there ++ s ∷ []) ss)) ≡ map bare_segment (if b then arrivals home there ss else s ∷ arrivals home (there ++ s ∷ []) ss))
     [ true ↦ arrivals_bare home there ss | false ↦ refl ])
 
 put_in_bare : (new : List ℕ) (ss args : List Segment) → map bare_segment (put_in new ss args) ≡ put_in new (map bare_segment ss) (map bare_segment args)
 put_in_bare new ss args =
     rw (has_bare new args) (elim (has new args) as (λ b. map bare_segment (if b then edit_first (is_named new) (λ a. with_value (edit_first_part (λ there. there ++ ss) (value a)) a ∷ []) args else args ++ argument new (list_item ss ∷ []) ∷ [])
-      ≡ (if b then edit_first (is_named new) (λ a. with_value (edit_first_part (λ there. there ++ map bare_segment ss) (value a)) a ∷ []) (map bare_segment args) else map bare_segment args ++ argument new (list_item (map bare_segment ss) ∷ []) ∷ [])) [
-        | true ↦ edit_first_bare new (λ a. with_value (edit_first_part (λ there. there ++ ss) (value a)) a ∷ []) (λ a. with_value (edit_first_part (λ there. there ++ map bare_segment ss) (value a)) a ∷ []) (λ a.
-            ap (λ (z : Segment). z ∷ []) (value_edit_bare (edit_first_part (λ there. there ++ ss)) (edit_first_part (λ there. there ++ map bare_segment ss))
-              (first_part_bare (λ there. there ++ ss) (λ there. there ++ map bare_segment ss) (appended_bare ss (map bare_segment ss) refl)) a)) args
-        | false ↦ behind_bare args new (list_item ss ∷ []) (list_item (map bare_segment ss) ∷ []) (ap (λ (x : Item). x ∷ []) (list_item_bare ss))
-      ])
+    ≡ (if b then edit_first (is_named new) (λ a. with_value (edit_first_part (λ there. there ++ map bare_segment ss) (value a)) a ∷ []) (map bare_segment args) else map bare_segment args ++ argument new (list_item (map bare_segment ss) ∷ []) ∷ [])) [
+      | true ↦ edit_first_bare new (λ a. with_value (edit_first_part (λ there. there ++ ss) (value a)) a ∷ []) (λ a. with_value (edit_first_part (λ there. there ++ map bare_segment ss) (value a)) a ∷ []) (λ a.
+          ap (λ (z : Segment). z ∷ []) (value_edit_bare (edit_first_part (λ there. there ++ ss)) (edit_first_part (λ there. there ++ map bare_segment ss))
+          (first_part_bare (λ there. there ++ ss) (λ there. there ++ map bare_segment ss) (appended_bare ss (map bare_segment ss) refl)) a)) args
+      | false ↦ behind_bare args new (list_item ss ∷ []) (list_item (map bare_segment ss) ∷ []) (ap (λ (x : Item). x ∷ []) (list_item_bare ss))
+    ])
 
 pub move_note_bare : (old new : List ℕ) (args : List Segment) → move_note old new (map bare_segment args) ≡ move_note old new args
 move_note_bare old new args =
@@ -153,17 +153,17 @@ moved_bare home old new chosen args =
     let there : elements_of (first_named new (map bare_segment args)) ≡ map bare_segment (elements_of (first_named new args)) = ap elements_of (first_bare new args) ∙ elements_of_bare (first_named new args) in
     let leaving : chosen_of home chosen (first_named old (map bare_segment args)) ≡ map bare_segment (chosen_of home chosen (first_named old args)) = ap (chosen_of home chosen) (first_bare old args) ∙ chosen_of_bare home chosen (first_named old args) in
     let arriving : arrivals home (elements_of (first_named new (map bare_segment args))) (chosen_of home chosen (first_named old (map bare_segment args))) ≡ map bare_segment (arrivals home (elements_of (first_named new args)) (chosen_of home chosen (first_named old args))) =
-      (λ i. arrivals home (there i) (leaving i)) ∙ arrivals_bare home (elements_of (first_named new args)) (chosen_of home chosen (first_named old args)) in
+    (λ i. arrivals home (there i) (leaving i)) ∙ arrivals_bare home (elements_of (first_named new args)) (chosen_of home chosen (first_named old args)) in
     put_in_bare new (arrivals home (elements_of (first_named new args)) (chosen_of home chosen (first_named old args))) (edit_first (is_named old) f args)
     ∙ (λ i. put_in new (sym arriving i) (left i))
 
 pub move_bare : (home : Package) (old new : List ℕ) (chosen : Moved) (args : List Segment) → map bare_segment (move home old new chosen args) ≡ move home old new chosen (map bare_segment args)
 move_bare home old new chosen args =
     rw (move_note_bare old new args, moves_bare home old chosen args, sym (moved_bare home old new chosen args))
-      (elim (is_some (move_note old new args)) as (λ b. map bare_segment (if b then args else (if moves home old chosen args then moved home old new chosen args else args)) ≡ (if b then map bare_segment args else (if moves home old chosen args then map bare_segment (moved home old new chosen args) else map bare_segment args))) [
-        | true ↦ refl
-        | false ↦ elim (moves home old chosen args) as (λ b. map bare_segment (if b then moved home old new chosen args else args) ≡ (if b then map bare_segment (moved home old new chosen args) else map bare_segment args)) [ true ↦ refl | false ↦ refl ]
-      ])
+    (elim (is_some (move_note old new args)) as (λ b. map bare_segment (if b then args else (if moves home old chosen args then moved home old new chosen args else args)) ≡ (if b then map bare_segment args else (if moves home old chosen args then map bare_segment (moved home old new chosen args) else map bare_segment args))) [
+      | true ↦ refl
+      | false ↦ elim (moves home old chosen args) as (λ b. map bare_segment (if b then moved home old new chosen args else args) ≡ (if b then map bare_segment (moved home old new chosen args) else map bare_segment args)) [ true ↦ refl | false ↦ refl ]
+    ])
 
 -- `replace`
 is_replaced_bare : (home : Package) (old new : List ℕ) (s : Segment) → is_replaced home old new (bare_segment s) ≡ is_replaced home old new s
@@ -177,7 +177,7 @@ replaced_bare home old new s =
 replaced_in_bare : (home : Package) (old new : List ℕ) (a : Segment) → bare_segment (replaced_in home old new a) ≡ replaced_in home old new (bare_segment a)
 replaced_in_bare home old new a =
     value_edit_bare (edit_parts (map (replaced home old new))) (edit_parts (map (replaced home old new)))
-      (edit_parts_bare (map (replaced home old new)) (map (replaced home old new)) (map_bare (replaced home old new) (replaced_bare home old new))) a
+    (edit_parts_bare (map (replaced home old new)) (map (replaced home old new)) (map_bare (replaced home old new) (replaced_bare home old new))) a
 
 pub replace_bare : (home : Package) (attrs : Attributes) (old new : List ℕ) (args : List Segment) → map bare_segment (replace home attrs old new args) ≡ replace home attrs old new (map bare_segment args)
 replace_bare home (Named attr) old new args =
@@ -221,8 +221,8 @@ element_from_bare p same line start [] = refl
 element_from_bare p same line start (x ∷ xs) =
     let f : List Segment → List Segment = edit_first p (λ s. with_comment line s ∷ []) in
     rw (part_bare start x xs, sign_bare _ x, elements_bare x, any_bare p same (elements x))
-      (elim (is_part start x xs && list_any p (elements x)) as (λ b. map bare (if b then edit_list f x ∷ xs else x ∷ edit_element_from p (with_comment line) (is_plus x) xs) ≡ (if b then edit_list f (bare x) ∷ map bare xs else bare x ∷ edit_element_from p (with_comment line) (is_plus x) (map bare xs)))
-      [ true ↦ ap (λ (z : Item). z ∷ map bare xs) (edit_list_bare f f (one_element_bare p same line) x) | false ↦ ap (λ (zs : List Item). bare x ∷ zs) (element_from_bare p same line (is_plus x) xs) ])
+    (elim (is_part start x xs && list_any p (elements x)) as (λ b. map bare (if b then edit_list f x ∷ xs else x ∷ edit_element_from p (with_comment line) (is_plus x) xs) ≡ (if b then edit_list f (bare x) ∷ map bare xs else bare x ∷ edit_element_from p (with_comment line) (is_plus x) (map bare xs)))
+    [ true ↦ ap (λ (z : Item). z ∷ map bare xs) (edit_list_bare f f (one_element_bare p same line) x) | false ↦ ap (λ (zs : List Item). bare x ∷ zs) (element_from_bare p same line (is_plus x) xs) ])
 
 element_bare : (p : Segment → Bool) → ((s : Segment) → p (bare_segment s) ≡ p s) → (line : List ℕ) (nodes : List Item)
     → map bare (edit_element p (with_comment line) nodes) ≡ edit_element p (with_comment line) (map bare nodes)

@@ -1,18 +1,16 @@
 -- No effect of a command depends on where tokens stand: statements.
 use Rattle.std.proofs.Common.{◌≡◌, ℕ, List, [], ◌∷◌, ◌++◌, Bool, true, false, ◌&&◌, if◌then◌else◌, not, Option, Some, None, option_map, is_some, map, codes, bytes_eq, ◌==◌, refl, ap, sym, ◌∙◌}
-use Rattle.std.specs.List.{flat_map, slice_split}
+use Rattle.std.specs.List.{slice_split}
 use Rattle.std.proofs.lemmas.List.{map-append}
 use Rattle.bz_token.specs.declared.token.Kind.TheVariants.{Ident, Word, Int, Text, Sign, Line, Note, Kept}
 use Rattle.bz_tree.specs.declared.stmt.GroupKind.TheVariants.{Call, RuleCall, Load, Paren, List as ListKind, Index, Dict, ListComp, DictComp}
 use Rattle.bz_tree.specs.Tree.{Item, leaf, group, Segs, Segment, Statement, segs_of, nowhere, bare, bare_segs}
 use Rattle.bz_rule.specs.Labels.{Package}
 use Rattle.bz_rule.specs.Commands.{Command, Add, Remove, Set, SetIfAbsent, Delete, Rename, Move, Replace, Comment, Print, ToKind, ToValues, Rule as OfRule, Attribute, Value, Field}
-use Rattle.bz_rule.specs.Rules.{Rule, call_at, comma_of, dotted, elements, end_of, first_named, is_call, is_sign, kind_text, rule_from, rule_of, written}
-use Rattle.bz_rule.specs.Effects.{adds, done, done_in, has, holds_rule, is_absent, nodes_after, nodes_of, not_a_list, removes, rename_note, slot_done, with_args}
+use Rattle.bz_rule.specs.Rules.{Rule, call_at, comma_of, dotted, elements, end_of, first_named, is_call, kind_text, rule_from, rule_of, written}
+use Rattle.bz_rule.specs.Effects.{adds, done, done_in, holds_rule, nodes_after, nodes_of, not_a_list, slot_done, with_args}
 use Rattle.bz_rule.specs.Setting.{joined_by_dots, kind_after, kind_items, sets, sets_kind, with_kind}
-use Rattle.bz_rule.specs.Moving.{move_note, moves}
-use Rattle.bz_rule.specs.Replacing.{replaces}
-use Rattle.bz_rule.specs.Commenting.{comment_line, comment_note, comment_rule, comments_above}
+use Rattle.bz_rule.specs.Commenting.{comment_rule, comments_above}
 use Rattle.bz_rule.specs.Printing.{printed_of}
 use Rattle.bz_rule.specs.Applied.{after, args_after, args_done, done_of, sets_kind_of}
 use Rattle.bz_rule.specs.declared.done.Done.{Done}
@@ -57,8 +55,8 @@ dotted_bare false (x ∷ xs) = rw (sign_bare (codes ".") x, dotted_bare true xs)
 call_at_bare : (kind : List Item) (x : Item) → call_at (map bare kind) (bare x) ≡ option_map bare_rule (call_at kind x)
 call_at_bare kind x =
     rw (call_bare x, dotted_bare true kind, elements_bare x, comma_bare x, end_bare x)
-      (elim (is_call x && dotted true kind) as (λ b. (if b then Some (record { kind = map bare kind; args = map bare_segment (elements x); one_comma = comma_of x; end = end_of x }) else None) ≡ option_map bare_rule (if b then Some (record { kind = kind; args = elements x; one_comma = comma_of x; end = end_of x }) else None))
-      [ true ↦ refl | false ↦ refl ])
+    (elim (is_call x && dotted true kind) as (λ b. (if b then Some (record { kind = map bare kind; args = map bare_segment (elements x); one_comma = comma_of x; end = end_of x }) else None) ≡ option_map bare_rule (if b then Some (record { kind = kind; args = elements x; one_comma = comma_of x; end = end_of x }) else None))
+    [ true ↦ refl | false ↦ refl ])
 
 rule_from_bare : (kind nodes : List Item) → rule_from (map bare kind) (map bare nodes) ≡ option_map bare_rule (rule_from kind nodes)
 rule_from_bare kind [] = refl
@@ -110,7 +108,7 @@ kind_after_bare : (kind : List ℕ) (nodes : List Item) (o : Option Rule) → ma
 kind_after_bare kind nodes None = refl
 kind_after_bare kind nodes (Some r) =
     let new : map bare (nodes_of (record r { kind = kind_items kind })) ≡ nodes_of (record (bare_rule r) { kind = kind_items kind }) =
-      nodes_bare (record r { kind = kind_items kind }) ∙ ap (λ (k : List Item). nodes_of (record (bare_rule r) { kind = k })) (names_bare (slice_split (λ b. b == 46) kind)) in
+    nodes_bare (record r { kind = kind_items kind }) ∙ ap (λ (k : List Item). nodes_of (record (bare_rule r) { kind = k })) (names_bare (slice_split (λ b. b == 46) kind)) in
     rw (kind_bare r.kind) (elim (bytes_eq (kind_text r.kind) kind) as (λ b. map bare (if b then nodes else nodes_of (record r { kind = kind_items kind })) ≡ (if b then map bare nodes else nodes_of (record (bare_rule r) { kind = kind_items kind }))) [ true ↦ refl | false ↦ new ])
 
 with_kind_bare : (kind : List ℕ) (slot : Option Statement) → option_map bare_statement (option_map (with_kind kind) slot) ≡ option_map (with_kind kind) (option_map bare_statement slot)

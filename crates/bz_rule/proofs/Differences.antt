@@ -1,17 +1,17 @@
 -- The mark of change tells a difference.
-use Rattle.std.proofs.Common.{◌≡◌, ◌↔◌, ℕ, List, [], ◌∷◌, ◌++◌, Bool, true, false, Option, Some, None, option_map, is_some, if◌then◌else◌, not, ◌&&◌, bytes_eq, refl, ap, sym, ◌∙◌}
+use Rattle.std.proofs.Common.{◌≡◌, ◌↔◌, ℕ, List, [], ◌∷◌, Bool, true, false, Option, Some, None, option_map, is_some, if◌then◌else◌, not, ◌&&◌, bytes_eq, refl, ap, sym, ◌∙◌}
 use Rattle.std.proofs.lemmas.List.{append_cancel_left}
 use Rattle.std.proofs.lemmas.Bool.{and_parts}
 use Rattle.bz_tree.specs.declared.stmt.GroupKind.TheVariants.{RuleCall}
-use Rattle.bz_tree.specs.Tree.{Item, group, Segs, Segment, Statement, segs_of, segments}
+use Rattle.bz_tree.specs.Tree.{Item, group, Segment, Statement, segs_of, segments}
 use Rattle.bz_rule.specs.Labels.{Package}
 use Rattle.bz_rule.specs.Commands.{Command, Add, Remove, Set, SetIfAbsent, Delete, Rename, Move, Replace, Comment, Print, ToKind, ToValues, Rule as OfRule, Attribute, Value, Field, Attributes, Moved, is_command, is_moved}
-use Rattle.bz_rule.specs.Rules.{Rule, rule_of, first_named, is_named}
+use Rattle.bz_rule.specs.Rules.{Rule, rule_of, is_named}
 use Rattle.bz_rule.specs.declared.done.Done.{Done}
 use Rattle.bz_rule.specs.declared.done.Note.{Note}
 use Rattle.bz_rule.specs.declared.done.Note.TheVariants.{NoAttribute}
 use Rattle.bz_rule.specs.Names.{is_identifier}
-use Rattle.bz_rule.specs.Effects.{done, done_in, edit_first, has, holds_rule, is_absent, nodes_after, nodes_of, rename, rename_note, slot_done, with_args}
+use Rattle.bz_rule.specs.Effects.{done, done_in, edit_first, has, holds_rule, is_absent, nodes_after, nodes_of, rename_note, slot_done, with_args}
 use Rattle.bz_rule.specs.Moving.{moved, moves, move_note}
 use Rattle.bz_rule.specs.Commenting.{comment_attribute, comment_line, comment_note, comment_rule, with_comment}
 use Rattle.bz_rule.specs.Setting.{with_kind}
@@ -46,7 +46,7 @@ guarded_same (Some n) b new args keep h = refl
 call_same : (r : Rule) (args : List Segment) → nodes_of (record r { args = args }) ≡ nodes_of r → args ≡ r.args
 call_same r args h =
     let calls : group RuleCall (segs_of args) r.one_comma r.end ∷ [] ≡ group RuleCall (segs_of r.args) r.one_comma r.end ∷ [] =
-      append_cancel_left r.kind (group RuleCall (segs_of args) r.one_comma r.end ∷ []) (group RuleCall (segs_of r.args) r.one_comma r.end ∷ []) h in
+    append_cancel_left r.kind (group RuleCall (segs_of args) r.one_comma r.end ∷ []) (group RuleCall (segs_of r.args) r.one_comma r.end ∷ []) h in
     let segs : segs_of args ≡ segs_of r.args = cc in
     sym (segments_of args) ∙ ap segments segs ∙ segments_of r.args
 
@@ -54,12 +54,13 @@ statement_tells : (f : List Segment → List Segment) (g : List Segment → Done
     → ((done_in g (rule_of s.nodes)).changed ≡ false → with_args f s ≡ s) × ((done_in g (rule_of s.nodes)).changed ≡ true → with_args f s ≡ s → ⊥)
 statement_tells f g tells s =
     elim (rule_of s.nodes) as (λ r. rule_of s.nodes ≡ r
-      → ((done_in g r).changed ≡ false → record s { nodes = nodes_after f s.nodes r } ≡ s) × ((done_in g r).changed ≡ true → record s { nodes = nodes_after f s.nodes r } ≡ s → ⊥)) [
+    → ((done_in g r).changed ≡ false → record s { nodes = nodes_after f s.nodes r } ≡ s) × ((done_in g r).changed ≡ true → record s { nodes = nodes_after f s.nodes r } ≡ s → ⊥)) [
       | None ↦ λ e. (λ h. refl, λ h same. cc)
       | Some r ↦ λ e.
-          let here : nodes_of r ≡ s.nodes = rule_nodes [] s.nodes r e in
-          ( λ h. ap (λ (nodes : List Item). record s { nodes = nodes }) (ap (λ (args : List Segment). nodes_of (record r { args = args })) (tells.stays r.args h) ∙ here)
-          , λ h same. tells.differs r.args h (call_same r (f r.args) (ap (λ (z : Statement). z.nodes) same ∙ sym here)))
+          let here : nodes_of r ≡ s.nodes = rule_nodes [] s.nodes r e in (
+            λ h. ap (λ (nodes : List Item). record s { nodes = nodes }) (ap (λ (args : List Segment). nodes_of (record r { args = args })) (tells.stays r.args h) ∙ here),
+            λ h same. tells.differs r.args h (call_same r (f r.args) (ap (λ (z : Statement). z.nodes) same ∙ sym here)),
+          )
     ] refl
 
 both_ways : (b : Bool) (A : Type 0) → (b ≡ false → A) → (b ≡ true → A → ⊥) → (b ≡ true) ↔ (A → ⊥)
@@ -72,8 +73,8 @@ slot_tells f g tells None = both_ways false (None ≡ None) (λ h. refl) (λ h s
 slot_tells f g tells (Some s) =
     let told = statement_tells f g tells s in
     both_ways (done_in g (rule_of s.nodes)).changed (Some (with_args f s) ≡ Some s)
-      (λ h. ap (λ (z : Statement). Some z) (told.0 h))
-      (λ h same. told.1 h (let is : with_args f s ≡ s = cc in is))
+    (λ h. ap (λ (z : Statement). Some z) (told.0 h))
+    (λ h same. told.1 h (let is : with_args f s ≡ s = cc in is))
 
 add_tells : (home : Package) (attr : List ℕ) (values : List (List ℕ)) → Tells (args_after (Add attr values) home) (args_done (Add attr values) home)
 add_tells home attr values = record { stays = λ args h. add_stays home attr values args h; differs = λ args h same. add_differs home attr values args h same }
@@ -120,7 +121,7 @@ move_tells home old new chosen other = record {
 absent_same : (attr text : List ℕ) (args : List Segment) → (done (is_absent attr args) true).changed ≡ false → comment_attribute attr text args ≡ args
 absent_same attr text args h =
     elim (has attr args) as (λ b. (done (if b then None else Some (NoAttribute attr)) true).changed ≡ false
-      → (if b then edit_first (is_named attr) (λ a. with_comment (comment_line text) a ∷ []) args else args) ≡ args)
+    → (if b then edit_first (is_named attr) (λ a. with_comment (comment_line text) a ∷ []) args else args) ≡ args)
     [ true ↦ λ k. absurd cc | false ↦ λ k. refl ] h
 
 comment_attribute_tells : (home : Package) (attr text : List ℕ) → Tells (args_after (Comment (Attribute attr) text) home) (args_done (Comment (Attribute attr) text) home)
@@ -166,6 +167,7 @@ told_of_slot c home slot new d h is told = rw (told, is) (changed_tells c home s
 -- the same where places of tokens do not count
 pub changed_tells_bare : (c : Command) (home : Package) (slot : Option Statement) → is_command c ≡ true
     → ((done_of c home slot).changed ≡ true) ↔ (option_map bare_statement (after c home slot) ≡ option_map bare_statement slot → ⊥)
-changed_tells_bare c home slot h =
-    ( λ told same. (changed_tells c home (option_map bare_statement slot) h).0 (changed_bare c home slot ∙ told) (sym (after_bare c home slot) ∙ same)
-    , λ differ. (changed_tells c home slot h).1 (λ same. differ (ap (option_map bare_statement) same)))
+changed_tells_bare c home slot h = (
+  λ told same. (changed_tells c home (option_map bare_statement slot) h).0 (changed_bare c home slot ∙ told) (sym (after_bare c home slot) ∙ same),
+  λ differ. (changed_tells c home slot h).1 (λ same. differ (ap (option_map bare_statement) same)),
+)

@@ -5,7 +5,7 @@ use Rattle.std.specs.List.{slice_split}
 use Rattle.bz_tree.specs.declared.stmt.GroupKind.TheVariants.{RuleCall}
 use Rattle.bz_tree.specs.Tree.{Item, group, Statement, segs_of}
 use Rattle.bz_rule.specs.Rules.{Rule, rule_of, kind_text}
-use Rattle.bz_rule.specs.Effects.{nodes_of, fails}
+use Rattle.bz_rule.specs.Effects.{fails}
 use Rattle.bz_rule.specs.Applied.{sets_kind_of}
 use Rattle.bz_rule.specs.Setting.{joined_by_dots, ident_item, dot_item, kind_items, kind_after, sets_kind}
 use Rattle.bz_rule.proofs.Cuts.{some_part}

@@ -8,7 +8,7 @@ use Rattle.bz_rule.specs.Labels.{Package}
 use Rattle.bz_rule.specs.Same.{completed}
 use Rattle.bz_rule.specs.Commands.{Values}
 use Rattle.bz_rule.specs.Rules.{string_value}
-use Rattle.bz_rule.specs.Lists.{equals, same, same_value}
+use Rattle.bz_rule.specs.Lists.{same, same_value}
 use Rattle.bz_rule.specs.Effects.{is_chosen, string}
 use Rattle.bz_rule.proofs.ReadBack.{quoted_value}
 

@@ -1,7 +1,6 @@
 -- The list parts of a value whose list parts are edited.
-use Rattle.std.proofs.Common.{◌≡◌, ℕ, List, [], ◌∷◌, ◌++◌, Bool, true, false, ◌&&◌, ◌||◌, if◌then◌else◌, map, filter, not, refl, ap, sym, ◌∙◌}
-use Rattle.std.specs.List.{list_any, list_all}
-use Rattle.bz_token.specs.declared.token.Kind.TheVariants.{Word, Sign}
+use Rattle.std.proofs.Common.{◌≡◌, List, [], ◌∷◌, ◌++◌, Bool, true, false, ◌&&◌, if◌then◌else◌, map, refl, ap, ◌∙◌}
+use Rattle.std.specs.List.{list_all}
 use Rattle.bz_tree.specs.declared.stmt.GroupKind.TheVariants.{Call, RuleCall, Load, Paren, List as ListKind, Index, Dict, ListComp, DictComp}
 use Rattle.bz_tree.specs.Tree.{Item, leaf, group, Segs, Segment, segs_of, segments}
 use Rattle.bz_rule.specs.Rules.{elements}

@@ -1,6 +1,6 @@
 -- `remove`: it changes something exactly where it says so, and leaves none of what it removes.
 use Rattle.std.proofs.Common.{◌≡◌, ℕ, List, [], ◌∷◌, ◌++◌, Bool, true, false, ◌&&◌, ◌||◌, not, if◌then◌else◌, Option, Some, None, map, filter, cond, length, ◌≤◌, arith, refl, ap, sym, ◌∙◌}
-use Rattle.std.specs.List.{list_any, flat_map}
+use Rattle.std.specs.List.{list_any}
 use Rattle.std.proofs.lemmas.Bool.{or_parts, and_right}
 use Rattle.std.proofs.lemmas.List.Folds.{list_any-append}
 use Rattle.bz_tree.specs.declared.stmt.GroupKind.TheVariants.{Call, RuleCall, Load, Paren, List as ListKind, Index, Dict, ListComp, DictComp}
@@ -10,7 +10,7 @@ use Rattle.bz_rule.specs.Commands.{Attributes, Every, Named, Moved, Values}
 use Rattle.bz_rule.specs.Rules.{is_named, is_text, first_named, value}
 use Rattle.bz_rule.specs.Lists.{edit_parts, is_attribute, parts, with_value}
 use Rattle.bz_rule.specs.Effects.{chooses, chooses_anywhere, chooses_in, edit_first, filtered, filtered_everywhere, goes_with_all, has, is_chosen, is_nil, loses_all, remove, remove_all, remove_attribute, remove_values, removes, unchosen}
-use Rattle.bz_rule.proofs.Kept.{all_stay, all_stay_in, none_left, none_left_in, none_passes, none_passes_in}
+use Rattle.bz_rule.proofs.Kept.{all_stay, all_stay_in, none_left_in, none_passes, none_passes_in}
 use Rattle.bz_rule.proofs.PartLaws.{parts_edited, parts_stay}
 use Rattle.bz_rule.proofs.Arguments.{attribute_named, first_same, is_first_named, name_put, rest_same, value_back, value_put}
 
@@ -71,8 +71,8 @@ everywhere_left home chosen (a ∷ args) =
     let p : Segment → Bool = λ z. is_attribute z && chooses home chosen z in
     let rest : list_any p (filtered_everywhere (unchosen home chosen) args) ≡ false = everywhere_left home chosen args in
     let here : list_any p (if is_attribute a then filtered (unchosen home chosen) a else a ∷ []) ≡ false =
-        elim (is_attribute a) as (λ b. is_attribute a ≡ b → list_any p (if b then filtered (unchosen home chosen) a else a ∷ []) ≡ false)
-        [ true ↦ λ e. less is_attribute (chooses home chosen) (filtered (unchosen home chosen) a) (filtered_left home chosen a e) | false ↦ λ e. rw e refl ] refl in
+    elim (is_attribute a) as (λ b. is_attribute a ≡ b → list_any p (if b then filtered (unchosen home chosen) a else a ∷ []) ≡ false)
+    [ true ↦ λ e. less is_attribute (chooses home chosen) (filtered (unchosen home chosen) a) (filtered_left home chosen a e) | false ↦ λ e. rw e refl ] refl in
     list_any-append p (if is_attribute a then filtered (unchosen home chosen) a else a ∷ []) (filtered_everywhere (unchosen home chosen) args) ∙ rw (here, rest) refl
 
 pub everywhere_stays : (home : Package) (chosen : Moved) (args : List Segment) → chooses_anywhere home chosen args ≡ false → filtered_everywhere (unchosen home chosen) args ≡ args
@@ -80,14 +80,14 @@ everywhere_stays home chosen [] h = refl
 everywhere_stays home chosen (a ∷ args) h =
     let both = or_parts (is_attribute a && chooses home chosen a) (chooses_anywhere home chosen args) h in
     let here : (if is_attribute a then filtered (unchosen home chosen) a else a ∷ []) ≡ a ∷ [] =
-        elim (is_attribute a) as (λ b. b && chooses home chosen a ≡ false → (if b then filtered (unchosen home chosen) a else a ∷ []) ≡ a ∷ [])
-        [ true ↦ λ k. filtered_stays home chosen a k | false ↦ λ k. refl ] both.0 in
+    elim (is_attribute a) as (λ b. b && chooses home chosen a ≡ false → (if b then filtered (unchosen home chosen) a else a ∷ []) ≡ a ∷ [])
+    [ true ↦ λ k. filtered_stays home chosen a k | false ↦ λ k. refl ] both.0 in
     rw here (ap (λ (zs : List Segment). a ∷ zs) (everywhere_stays home chosen args both.1))
 
 values_stay : (home : Package) (attr : List ℕ) (values : List (List ℕ)) (args : List Segment) → chooses_in home (Values values) (first_named attr args) ≡ false → remove_values home attr values args ≡ args
 values_stay home attr values args h =
     rest_same attr (filtered (unchosen home (Values values))) args (λ a first.
-      filtered_stays home (Values values) a (ap (chooses_in home (Values values)) (sym first) ∙ h))
+    filtered_stays home (Values values) a (ap (chooses_in home (Values values)) (sym first) ∙ h))
 
 values_differ : (home : Package) (attr : List ℕ) (values : List (List ℕ)) (args : List Segment) (first : Option Segment) → first_named attr args ≡ first → chooses_in home (Values values) first ≡ true → remove_values home attr values args ≡ args → ⊥
 values_differ home attr values args None e h same = cc
@@ -138,7 +138,7 @@ values_gone home attr chosen [] h = refl
 values_gone home attr chosen (a ∷ args) h =
     let f : List Segment → List Segment = unchosen home chosen in
     elim (is_named attr a) as (λ b. is_named attr a ≡ b → length (cond b (a ∷ filter (is_named attr) args) (filter (is_named attr) args)) ≤ 1
-      → chooses_in home chosen (first_named attr (if b then filtered f a ++ args else a ∷ edit_first (is_named attr) (filtered f) args)) ≡ false) [
+    → chooses_in home chosen (first_named attr (if b then filtered f a ++ args else a ∷ edit_first (is_named attr) (filtered f) args)) ≡ false) [
       | true ↦ λ e k.
           let attribute : is_attribute a ≡ true = attribute_named attr a e in
           let none : first_named attr args ≡ None = no_more attr args (omega arith) in

@@ -1,16 +1,14 @@
 -- What `set`, `set_if_absent` and `set kind` change, and that a second time changes nothing.
-use Rattle.std.proofs.Common.{◌≡◌, ℕ, ◌+◌, ◌<◌, ◌≤◌, ◌==◌, List, [], ◌∷◌, ◌++◌, ◌||◌, Bool, true, false, not, Option, None, Some, option_map, length, drop, take, map, refl, ap, sym, ◌∙◌, arith, inl, inr, if◌then◌else◌, length-append, append-nil, append_assoc}
+use Rattle.std.proofs.Common.{◌≡◌, ℕ, ◌<◌, ◌==◌, List, [], ◌∷◌, ◌++◌, ◌||◌, true, false, not, Option, None, Some, option_map, length, drop, take, map, refl, ap, sym, ◌∙◌, arith, inl, inr, if◌then◌else◌, length-append, append-nil}
 use Rattle.std.specs.Prelude.{bytes_eq, codes}
-use Rattle.std.specs.List.{flat_map, slice_split, join_with_byte}
+use Rattle.std.specs.List.{slice_split, join_with_byte}
 use Rattle.std.proofs.lemmas.Bool.{cases_Bool, not-true, not-false, or_parts, or_from, or_right}
 use Rattle.std.proofs.lemmas.Grind.{flat_map-append}
 use Rattle.std.proofs.lemmas.List.Splits.{join_with_byte-slice_split}
 use Rattle.std.proofs.lemmas.Slice.Eq.{bytes_eq-Decides}
 use Rattle.bz_tree.specs.declared.stmt.GroupKind.TheVariants.{RuleCall}
 use Rattle.bz_tree.specs.Tree.{Item, group, Segment, Statement, segs_of}
-use Rattle.bz_rule.specs.Values.{quoted}
-use Rattle.bz_rule.specs.Rules.{Rule, rule_of, call_at, dotted, written, kind_text, is_named, is_text, name_of, value_in, first_named, value}
-use Rattle.bz_rule.specs.Lists.{with_value}
+use Rattle.bz_rule.specs.Rules.{Rule, rule_of, call_at, dotted, written, kind_text, is_named, is_text, name_of, first_named, value}
 use Rattle.bz_rule.specs.Effects.{argument, edit_first, has, nodes_of, string}
 use Rattle.bz_rule.specs.Applied.{sets_kind_of}
 use Rattle.bz_rule.specs.Setting.{New, NewString, NewNumber, NewConstant, NewStrings, is_list_attribute, is_number, is_constant, new_word, is_one_list, holds_list, new_of, new_value, are_strings, is_value, set_in, set, sets, set_if_absent, joined_by_dots, kind_items, kind_after, with_kind, sets_kind}

@@ -9,9 +9,9 @@ use Rattle.bz_rule.specs.Lists.{parts}
 use Rattle.bz_rule.specs.declared.done.Done.{Done}
 use Rattle.bz_rule.specs.declared.done.Note.{Note}
 use Rattle.bz_rule.specs.declared.done.Note.TheVariants.{NoAttribute}
-use Rattle.bz_rule.specs.Effects.{adds, done, done_in, nodes_after, slot_done, edit_first, fails, has, no_parts, nodes_of, not_a_list, is_absent, rename, rename_note, with_added, with_args}
-use Rattle.bz_rule.specs.Moving.{move, moves, moved, move_note}
-use Rattle.bz_rule.specs.Commenting.{comment_attribute, comment_value, comment_note, comment_element, comment_line, with_comment}
+use Rattle.bz_rule.specs.Effects.{adds, done, done_in, nodes_after, slot_done, edit_first, fails, has, no_parts, nodes_of, not_a_list, is_absent, rename_note, with_added, with_args}
+use Rattle.bz_rule.specs.Moving.{moves, moved, move_note}
+use Rattle.bz_rule.specs.Commenting.{comment_attribute, comment_note, comment_line, with_comment}
 use Rattle.bz_rule.specs.Setting.{with_kind, sets_kind}
 use Rattle.bz_rule.specs.Applied.{args_after, args_done, after, done_of, sets_kind_of}
 

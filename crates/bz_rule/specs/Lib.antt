@@ -9,7 +9,7 @@ pub mod CommentPlaces
 pub mod EditSteps
 pub mod Effects
 pub mod Labels
-pub mod LabelSets
+pub mod LabelSetViews
 pub mod LabelViews
 pub mod Lists
 pub mod Marks

@@ -2,8 +2,7 @@
 use Rattle.std.specs.Prelude.{ℕ, ◌==◌, List, [], ◌∷◌, ◌++◌, Bool, true, false, ◌&&◌, ◌||◌, not, if◌then◌else◌, Option, Some, None, map, codes, nat_le, bytes_eq}
 use Rattle.std.specs.List.{list_any, list_all, slice_split}
 use Rattle.bz_token.specs.declared.token.Kind.TheVariants.{Ident, Int, Sign}
-use Rattle.bz_tree.specs.Tree.{Item, leaf, group, Segment, Statement, nowhere, segs_of}
-use Rattle.bz_tree.specs.declared.stmt.GroupKind.TheVariants.{RuleCall}
+use Rattle.bz_tree.specs.Tree.{Item, leaf, Segment, Statement, nowhere}
 use Rattle.bz_rule.specs.Rules.{Rule, rule_of, kind_text, is_named, is_text, first_named, value, string_value, elements}
 use Rattle.bz_rule.specs.Lists.{is_list, with_value}
 use Rattle.bz_rule.specs.Effects.{has, edit_first, argument, list_item, string, string_item, nodes_of, done}

@@ -225,7 +225,10 @@ fn failures(rt: HostRuntime) -> Result<(), Fail> {
 #[test]
 fn statements(rt: HostRuntime) -> Result<(), Fail> {
     let (text, done) = edited(rt, "add deps //p:x", "f(name = \"a\", deps = [\":x\"])\n")?;
-    assert_eq!(rt; text.as_str(), "f(\n    name = \"a\",\n    deps = [\":x\"],\n)\n");
+    assert_eq!(rt;
+        text.as_str(),
+        "f(\n    name = \"a\",\n    deps = [\":x\"],\n)\n"
+    );
     assert!(rt; !done.changed);
     Ok(())
 }

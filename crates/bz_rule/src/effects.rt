@@ -19,3 +19,5 @@ pub(crate) mod set;
 pub(crate) mod set_kind;
 #[cfg(test)]
 mod set_tests;
+#[cfg(test)]
+mod word_set_tests;

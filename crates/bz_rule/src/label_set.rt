@@ -6,7 +6,7 @@ ghost use Rattle.std.proofs.Common.{rules};
 ghost use Rattle.std.specs.Cmp.Rules.{hashing};
 ghost use Rattle.bz_rule.specs.ByteSteps.{left, is_good, chain_bytes, is_good_chain};
 ghost use Rattle.bz_rule.specs.Lists.{same};
-ghost use Rattle.bz_rule.specs.LabelSets as spec;
+ghost use Rattle.bz_rule.specs.LabelSetViews as spec;
 
 use crate::bytes::{Bytes, Chain};
 use crate::equals::{completed, equal, next_in};

@@ -6,7 +6,7 @@ ghost use Rattle.bz_rule.specs.Rules.{elements};
 ghost use Rattle.bz_rule.specs.Lists.{parts};
 ghost use Rattle.bz_rule.specs.Commands.{Values};
 ghost use Rattle.bz_rule.specs.Effects.{is_chosen};
-ghost use Rattle.bz_rule.specs.LabelSets.{Gains, has, is_among, is_in};
+ghost use Rattle.bz_rule.specs.LabelSetViews.{Gains, has, is_among, is_in};
 
 use crate::equals::string_of;
 use crate::label_set::LabelSet;

@@ -4,7 +4,7 @@ ghost use Rattle.std.specs.Prelude.{◌≡◌, ℕ, List, true, IfOk};
 ghost use Rattle.std.specs.List.{list_any};
 ghost use Rattle.bz_tree.specs.View.{seg_view};
 ghost use Rattle.bz_rule.specs.Lists.{equals_any, same};
-ghost use Rattle.bz_rule.specs.LabelSets.{has};
+ghost use Rattle.bz_rule.specs.LabelSetViews.{has};
 
 use crate::bytes::Bytes;
 use crate::equals::{equals_any, string_of};

@@ -5,7 +5,7 @@ ghost use Rattle.std.specs.List.{list_any};
 ghost use Rattle.bz_tree.specs.View.{node_view, nodes_view, seg_view, segs_view};
 ghost use Rattle.bz_rule.specs.Rules.{first_named, is_named, value};
 ghost use Rattle.bz_rule.specs.Lists.{edit_first_part, edit_list, parts, same};
-ghost use Rattle.bz_rule.specs.LabelSets.{Gains, has};
+ghost use Rattle.bz_rule.specs.LabelSetViews.{Gains, has};
 ghost use Rattle.bz_rule.specs.Places.{IsFirstPart};
 ghost use Rattle.bz_rule.specs.Effects as spec;
 

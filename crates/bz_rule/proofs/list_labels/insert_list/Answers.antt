@@ -1,9 +1,9 @@
-use Rattle.std.proofs.Common.{◌≡◌, List, Bool, ◌||◌, ap, sym, ◌∙◌}
+use Rattle.std.proofs.Common.{◌≡◌, List, ◌||◌, ap, sym, ◌∙◌}
 use Rattle.bz_tree.specs.declared.stmt.Node.{Node}
 use Rattle.bz_tree.specs.View.{node_view, segs_view}
 use Rattle.bz_tree.specs.Tree.{Segment}
 use Rattle.bz_rule.specs.Rules.{elements}
-use Rattle.bz_rule.specs.LabelSets.{has, is_among}
+use Rattle.bz_rule.specs.LabelSetViews.{has, is_among}
 use Rattle.bz_rule.proofs.Groups.{elements_group}
 use Rattle.bz_rule.proofs.list_labels.insert_list.Goals as goal
 

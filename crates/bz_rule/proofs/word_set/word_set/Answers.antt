@@ -3,7 +3,7 @@ use Rattle.std.specs.List.{list_any}
 use Rattle.std.proofs.lemmas.List.{take_all}
 use Rattle.bz_rule.specs.Labels.{Package}
 use Rattle.bz_rule.specs.Lists.{same}
-use Rattle.bz_rule.specs.LabelSets.{has}
+use Rattle.bz_rule.specs.LabelSetViews.{has}
 use Rattle.bz_rule.proofs.Fresh.{there_step}
 use Rattle.bz_rule.proofs.word_set.word_set.Goals as goal
 

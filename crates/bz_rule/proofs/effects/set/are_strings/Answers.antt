@@ -1,6 +1,5 @@
 use Rattle.std.proofs.Common.{◌≡◌, ℕ, ◌≤◌, List, [], ◌∷◌, false, length, drop, refl, ap, sym, ◌∙◌, arith}
 use Rattle.std.proofs.lemmas.List.{drop_all}
-use Rattle.bz_tree.specs.Tree.{Segment}
 use Rattle.bz_tree.specs.View.{segs_view}
 use Rattle.bz_rule.specs.Setting.{are_strings}
 use Rattle.bz_rule.proofs.effects.set.are_strings.Goals as goal

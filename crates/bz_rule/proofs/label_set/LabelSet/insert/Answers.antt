@@ -1,7 +1,7 @@
 use Rattle.std.proofs.Common.{◌∙◌}
 use Rattle.bz_rule.specs.ByteSteps.{left}
 use Rattle.bz_rule.specs.Same.{completed}
-use Rattle.bz_rule.specs.LabelSets.{has}
+use Rattle.bz_rule.specs.LabelSetViews.{has}
 use Rattle.bz_rule.proofs.LabelSets.{one_more}
 use Rattle.bz_rule.proofs.label_set.LabelSet.insert.Goals as goal
 
