@@ -224,11 +224,71 @@ fn failures(rt: HostRuntime) -> Result<(), Fail> {
 
 #[test]
 fn statements(rt: HostRuntime) -> Result<(), Fail> {
-    let (text, done) = edited(rt, "add deps //p:x", "f(name = \"a\", deps = [\":x\"])\n")?;
-    assert_eq!(rt;
-        text.as_str(),
-        "f(\n    name = \"a\",\n    deps = [\":x\"],\n)\n"
-    );
-    assert!(rt; !done.changed);
+    let one = "f(name = \"a\", deps = [\":x\"])\n";
+    let select = "f(name = \"a\", deps = [\"a\"] + select({\"c\": [\"b\"]}))\n";
+    let empty = "f(name = \"a\", copts = [])\n";
+    for (words, before, after, changed) in [
+        (
+            "add deps //p:x",
+            one,
+            "f(\n    name = \"a\",\n    deps = [\":x\"],\n)\n",
+            false,
+        ),
+        ("remove deps //p:x", one, "f(name = \"a\")\n", true),
+        ("delete", one, "", true),
+        (
+            "add deps d",
+            select,
+            "f(\n    name = \"a\",\n    deps = [\n        \"a\",\n        \"d\",\n    ] + select({\n        \"c\": [\"b\"],\n    }),\n)\n",
+            true,
+        ),
+        (
+            "remove copts x",
+            empty,
+            "f(\n    name = \"a\",\n    copts = [],\n)\n",
+            false,
+        ),
+        (
+            "add copts -g -g",
+            empty,
+            "f(\n    name = \"a\",\n    copts = [\"-g\"],\n)\n",
+            true,
+        ),
+        ("remove *", empty, "f(name = \"a\")\n", true),
+        (
+            "add srcs x",
+            "f(srcs = glob([\"x\"]) + [\"y\"])\n",
+            "f(srcs = glob([\"x\"]) + [\n    \"y\",\n    \"x\",\n])\n",
+            true,
+        ),
+        (
+            "remove * x",
+            "f(name = \"a\", srcs = [\"x\"], deps = [\"x\", \"y\"])\n",
+            "f(\n    name = \"a\",\n    deps = [\"y\"],\n)\n",
+            true,
+        ),
+        (
+            "rename x y",
+            "f(x = 1, y = 2)\n",
+            "f(\n    x = 1,\n    y = 2,\n)\n",
+            false,
+        ),
+        (
+            "add deps w",
+            "f(\n    name = \"a\",\n    deps = [ # c1\n        \"x\", # c2\n        \"y\" # c3\n        , \"z\"\n        # c4\n    ],\n)\n",
+            "f(\n    name = \"a\",\n    deps = [\n        # c1\n        \"x\",  # c2\n        \"y\",  # c3\n        \"z\",\n        \"w\",\n        # c4\n    ],\n)\n",
+            true,
+        ),
+        (
+            "remove deps x y z",
+            "f(\n    # d\n    deps = [\n        # one\n        \"x\",\n        \"y\",  # two\n    ] + [\"z\"],  # three\n)\n",
+            "f(\n    # d\n    deps = [] + [],  # three\n)\n",
+            true,
+        ),
+    ] {
+        let (text, done) = edited(rt, words, before)?;
+        assert_eq!(rt; text.as_str(), after, "{words:?}");
+        assert_eq!(rt; done.changed, changed, "{words:?}");
+    }
     Ok(())
 }
