@@ -19,6 +19,7 @@ mod Examples
 mod Fields
 mod First
 mod FirstPart
+mod Flags
 mod Fresh
 mod Groups
 mod KindEdits

@@ -14,6 +14,7 @@ pub mod LabelViews
 pub mod Lists
 pub mod Marks
 pub mod Moving
+pub mod MovingSteps
 pub mod Names
 pub mod OwnComments
 pub mod Places

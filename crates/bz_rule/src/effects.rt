@@ -1,6 +1,7 @@
 //! The commands, one a file.
 
 pub(crate) mod add;
+pub(crate) mod arrivals;
 pub(crate) mod comment;
 #[cfg(test)]
 mod comment_tests;

@@ -1,32 +1,27 @@
 //! `move`: elements go from one attribute to another, each with its comments.
 
-ghost use Rattle.std.specs.Prelude.{◌≡◌, ◌≤◌, ◌<◌, ◌+◌, ◌++◌, ◌∷◌, [], true, false, length, bytes_eq, take, IsTrue, IfNone, IfSome, None, Some, IfOk, OnOk, OnErr};
-ghost use Rattle.std.specs.List.{list_any};
+ghost use Rattle.std.specs.Prelude.{◌≡◌, ◌≤◌, ◌<◌, ◌+◌, ◌++◌, ◌∷◌, [], true, false, length, bytes_eq, None, Some, IfOk, OnOk, OnErr};
 ghost use Rattle.std.specs.Vec.{vec_len, vec_capacity};
 ghost use Rattle.bz_tree.specs.View.{node_view, nodes_view, seg_view, segs_view};
 ghost use Rattle.bz_rule.specs.Rules.{elements, first_named, is_named, value};
-ghost use Rattle.bz_rule.specs.Rules as rules;
-ghost use Rattle.bz_rule.specs.Lists.{edit_first_part, edit_list, equals, parts, with_value};
+ghost use Rattle.bz_rule.specs.Lists.{edit_first_part, edit_list, parts, with_value};
 ghost use Rattle.bz_rule.specs.Commands.{Values};
 ghost use Rattle.bz_rule.specs.CommandViews.{moved_view};
 ghost use Rattle.bz_rule.specs.ChosenViews.{chosen_view};
-ghost use Rattle.bz_rule.specs.ByteSteps.{left, is_good};
 ghost use Rattle.bz_rule.specs.Places.{first_length, first_list};
 ghost use Rattle.bz_rule.specs.Effects as effects;
 ghost use Rattle.bz_rule.specs.Moving as spec;
 
-use crate::bytes::{Bytes, value_of};
 use crate::chosen::Chosen;
 use crate::command::Moved;
 use crate::done::{Done, Note};
+use crate::effects::arrivals::keep_arrivals;
 use crate::effects::remove::chooses_first;
-use crate::equals::same;
 use crate::find::find;
 use crate::list::Text;
-use crate::lists::{are_joints, first_part, is_part};
+use crate::lists::first_part;
 use crate::make::{argument_head, list_with};
 use crate::package::Package;
-use crate::rule::{is_sign, only_text};
 use crate::taking::{count_chosen, take_from};
 use crate::word_set::{FEW, WordSet, word_set};
 use bz_tree::{Node, Seg};
@@ -182,7 +177,7 @@ fn move_to_new(
     let head = argument_head(alloc, new)?;
     args.reserve(1)?;
     take_from(alloc, home, old, chosen, args, &mut elements);
-    keep_arrivals(home, &[], &mut elements);
+    keep_arrivals(alloc, home, &[], &mut elements);
     args.push_reserved(list_with(alloc, head, elements));
     Ok(())
 }
@@ -207,7 +202,7 @@ fn move_to_list(
     };
     let mut elements = Vec::with_capacity(alloc, room)?;
     take_from(alloc, home, old, chosen, args, &mut elements);
-    arrive(home, new, args, elements);
+    arrive(alloc, home, new, args, elements);
     Ok(())
 }
 
@@ -240,24 +235,30 @@ fn count_elements(node: &Node<'_>) -> usize
 }
 
 // Of the elements, those that are not there yet go to the end of the first list part.
-fn arrive<'a>(home: &Package, attr: &str, args: &mut [Seg<'a>], mut elements: Vec<Seg<'a>>)
+fn arrive<'a>(
+    alloc: Global,
+    home: &Package,
+    attr: &str,
+    args: &mut [Seg<'a>],
+    mut elements: Vec<Seg<'a>>,
+)
     requires { first_length (first_named attr.now (segs_view args.old)) + vec_len elements ≤ vec_capacity elements }
     ensures { segs_view args.new ≡ effects.edit_first (is_named attr.now) (λ a. with_value (edit_first_part (λ there. there ++ spec.arrivals home.now (spec.elements_of (first_named attr.now (segs_view args.old))) (segs_view elements.entry.items)) (value a)) a ∷ []) (segs_view args.old) }
 {
     let Some(i) = find(args, attr) else {
         return;
     };
-    keep_new(home, &args[i], &mut elements);
+    keep_new(alloc, home, &args[i], &mut elements);
     put_in(&mut args[i], elements);
 }
 
-fn keep_new(home: &Package, arg: &Seg<'_>, elements: &mut Vec<Seg<'_>>)
+fn keep_new(alloc: Global, home: &Package, arg: &Seg<'_>, elements: &mut Vec<Seg<'_>>)
     requires { 2 ≤ length arg.now.nodes.items }
     ensures items { segs_view elements.new.items ≡ spec.arrivals home.now (spec.joined (parts (value (seg_view arg.now)))) (segs_view elements.old.items) }
     ensures shorter { vec_len elements.new ≤ vec_len elements.old }
     ensures capacity { vec_capacity elements.new ≡ vec_capacity elements.old }
 {
-    keep_arrivals(home, &arg.nodes[2..], elements);
+    keep_arrivals(alloc, home, &arg.nodes[2..], elements);
 }
 
 fn put_in<'a>(arg: &mut Seg<'a>, later: Vec<Seg<'a>>)
@@ -295,100 +296,4 @@ fn put_behind<'a>(elements: &mut Vec<Seg<'a>>, mut later: Vec<Seg<'a>>)
     let _ = later.append(elements);
     later.rotate_left(count);
     *elements = later;
-}
-
-// Drops the strings that are in the list parts of a value, or stand earlier.
-fn keep_arrivals(home: &Package, value: &[Node<'_>], elements: &mut Vec<Seg<'_>>)
-    ensures items { segs_view elements.new.items ≡ spec.arrivals home.now (spec.joined (parts (nodes_view value.now))) (segs_view elements.old.items) }
-    ensures shorter { vec_len elements.new ≤ vec_len elements.old }
-    ensures capacity { vec_capacity elements.new ≡ vec_capacity elements.old }
-{
-    let kept = arrivals_first(home, value, elements);
-    elements.truncate(kept);
-}
-
-// Brings the others to the front and answers how many they are.
-fn arrivals_first(home: &Package, value: &[Node<'_>], elements: &mut [Seg<'_>]) -> usize
-    ensures { take result (segs_view elements.new) ≡ spec.arrivals home.now (spec.joined (parts (nodes_view value.now))) (segs_view elements.old) }
-{
-    let mut kept = 0;
-    for i in 0..elements.len() {
-        let seen = &elements[..];
-        if !is_among(home, value, &seen[..kept], &seen[i]) {
-            elements.swap(kept, i);
-            kept += 1;
-        }
-    }
-    kept
-}
-
-// It is a string that is the same label as an element of a value's list parts, or one that arrived before.
-fn is_among(home: &Package, value: &[Node<'_>], arrived: &[Seg<'_>], element: &Seg<'_>) -> bool
-    ensures { result ≡ spec.is_among home.now (spec.joined (parts (nodes_view value.now)) ++ segs_view arrived.now) (rules.string_value (seg_view element.now).nodes) }
-{
-    let Some(word) = string_value(element) else {
-        return false;
-    };
-    is_in_value(home, word, value) || is_in(home, word, arrived)
-}
-
-fn is_in_value(home: &Package, word: Bytes<'_>, value: &[Node<'_>]) -> bool
-    requires { IsTrue (is_good word) }
-    ensures { result ≡ list_any (list_any (equals home.now (left word.entry))) (parts (nodes_view value.now)) }
-{
-    if !are_joints(value) {
-        return false;
-    }
-    let mut start = true;
-    for i in 0..value.len() {
-        if is_part(start, value, i) && is_in_list(home, word, &value[i]) {
-            return true;
-        }
-        start = is_sign(&value[i], "+");
-    }
-    false
-}
-
-fn is_in_list(home: &Package, word: Bytes<'_>, node: &Node<'_>) -> bool
-    requires { IsTrue (is_good word) }
-    ensures { result ≡ list_any (equals home.now (left word.entry)) (elements (node_view node.now)) }
-{
-    match node {
-        Node::Token(_) => false,
-        Node::Group(group) => is_in(home, word, &group.segs),
-    }
-}
-
-fn is_in(home: &Package, word: Bytes<'_>, others: &[Seg<'_>]) -> bool
-    requires { IsTrue (is_good word) }
-    ensures { result ≡ list_any (equals home.now (left word.entry)) (segs_view others.now) }
-{
-    for other in others {
-        if is_same(home, word, other) {
-            return true;
-        }
-    }
-    false
-}
-
-fn is_same(home: &Package, word: Bytes<'_>, element: &Seg<'_>) -> bool
-    requires { IsTrue (is_good word) }
-    ensures { result ≡ equals home.now (left word.entry) (seg_view element.now) }
-{
-    let Some(value) = string_value(element) else {
-        return false;
-    };
-    same(home, word, value)
-}
-
-// The value of an element that is one string with a value.
-fn string_value<'n>(element: &'n Seg<'_>) -> Option<Bytes<'n>>
-    ensures none { IfNone result (rules.string_value (seg_view element.now).nodes ≡ None) }
-    ensures some { IfSome result (λ value. rules.string_value (seg_view element.now).nodes ≡ Some (left value)) }
-    ensures good { IfSome result (λ value. IsTrue (is_good value)) }
-{
-    let Some(text) = only_text(&element.nodes) else {
-        return None;
-    };
-    value_of(text)
 }

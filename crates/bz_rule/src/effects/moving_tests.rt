@@ -45,6 +45,12 @@ fn elements_move(rt: HostRuntime) -> Result<(), Fail> {
         ),
         (
             "move deps data *",
+            "f(name = \"a\", deps = [\"a\", \":b\", \"//p:b\", \"c\", A, A, \"//p:a\", \"d\", \"e\", \"//p:e\", \"//q:e\"], data = [\":c\", \"z\"])\n",
+            "f(\n    name = \"a\",\n    data = [\n        \":c\",\n        \"z\",\n        \"a\",\n        \":b\",\n        A,\n        A,\n        \"d\",\n        \"e\",\n        \"//q:e\",\n    ],\n)\n",
+            true,
+        ),
+        (
+            "move deps data *",
             "f(name = \"a\", deps = [\"x\"] + g() + [\"y\"], data = [\"z\"] + [\":y\"])\n",
             "f(\n    name = \"a\",\n    deps = [] + g() + [],\n    data = [\n        \"z\",\n        \"x\",\n    ] + [\":y\"],\n)\n",
             true,

@@ -3,7 +3,7 @@ use Rattle.bz_tree.specs.View.{nodes_view, segs_view}
 use Rattle.bz_rule.specs.Lists.{equals, parts}
 use Rattle.bz_rule.specs.ByteSteps.{left}
 use Rattle.bz_rule.proofs.Arriving.{any_there}
-use Rattle.bz_rule.proofs.effects.moving.is_among.Goals as goal
+use Rattle.bz_rule.proofs.effects.arrivals.is_among.Goals as goal
 
 pub returns-then-is_in_value : goal.returns-then-is_in_value
 returns-then-is_in_value c =

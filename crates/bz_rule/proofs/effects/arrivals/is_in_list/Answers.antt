@@ -3,7 +3,7 @@ use Rattle.bz_tree.specs.declared.stmt.Node.{Node}
 use Rattle.bz_tree.specs.View.{node_view, segs_view}
 use Rattle.bz_rule.specs.Rules.{elements}
 use Rattle.bz_rule.proofs.Groups.{elements_group}
-use Rattle.bz_rule.proofs.effects.moving.is_in_list.Goals as goal
+use Rattle.bz_rule.proofs.effects.arrivals.is_in_list.Goals as goal
 
 pub returns-in-Group : goal.returns-in-Group
 returns-in-Group c =

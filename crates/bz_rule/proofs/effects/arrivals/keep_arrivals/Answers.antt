@@ -4,7 +4,7 @@ use Rattle.bz_tree.specs.declared.stmt.Seg.{Seg}
 use Rattle.bz_tree.specs.View.{seg_view, segs_view, nodes_view}
 use Rattle.bz_rule.specs.Lists.{parts}
 use Rattle.bz_rule.specs.Moving.{arrivals, joined}
-use Rattle.bz_rule.proofs.effects.moving.keep_arrivals.Goals as goal
+use Rattle.bz_rule.proofs.effects.arrivals.keep_arrivals.Goals as goal
 
 pub returns-clause-items : goal.returns-clause-items
 returns-clause-items c =
