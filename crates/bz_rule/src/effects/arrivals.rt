@@ -103,7 +103,8 @@ fn flagged_first(arrive: &[bool], elements: &mut [Seg<'_>]) -> usize
     kept
 }
 
-// The same for a few elements, each compared with those that are there and with those that arrived before it.
+// Brings those that arrive to the front, each compared with those that are there and with those that arrived before it: for
+// a few elements, or where memory is refused.
 fn compared_first(home: &Package, value: &[Node<'_>], elements: &mut [Seg<'_>]) -> usize
     ensures { take result (segs_view elements.new) ≡ spec.arrivals home.now (spec.joined (parts (nodes_view value.now))) (segs_view elements.old) }
 {
