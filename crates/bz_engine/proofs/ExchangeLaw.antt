@@ -159,7 +159,7 @@ left_more m changes fails ps slots slot ks ks' some_changed some_changed' some_f
         some_alone_lem m test ps (slots ++ slot ∷ []) ∙ any_more (some_alone m test ps) slots slot
         ∙ ap (λ b. b || some_alone m test ps slot) (sym (some_alone_lem m test ps slots))
 
-nothing_left : {S T C M : Type 0} (m : Meaning S T C M) (ps : List (Pass T C)) (changes fails : C → Slot S → Bool) → IsLeftBy m changes fails ps [] (map no_slot ps) false false
+pub nothing_left : {S T C M : Type 0} (m : Meaning S T C M) (ps : List (Pass T C)) (changes fails : C → Slot S → Bool) → IsLeftBy m changes fails ps [] (map no_slot ps) false false
 nothing_left m ps changes fails = record {
   kept = kept_nothing m ps;
   changed = sym (some_alone_lem m changes ps []);

@@ -1,6 +1,17 @@
+pub mod Ahead
+pub mod ChunkRead
+pub mod AheadSteps
+pub mod Changes
 pub mod Device
 pub mod DeviceLaws
+pub mod Edits
 pub mod Passes
+pub mod Progress
+pub mod SessionValue
 pub mod Exchange
 pub mod EveryFile
+pub mod File
 pub mod Machine
+pub mod Meaning
+pub mod Messages
+pub mod Outcome

@@ -47,11 +47,32 @@ pub fn read_more<S: Source>(
     ensures failed { IsErrOf result ReadFault.ReadFailed → Rises (S.failures source.old) (S.failures source.new) }
     ensures steady { result ≢ Err ReadFault.ReadFailed → S.failures source.new ≡ S.failures source.old }
 {
+    read_at_most(source, bytes, PIECE, reads_left)
+}
+
+/// The same, at most `most` bytes.
+pub(crate) fn read_at_most<S: Source>(
+    source: &mut S,
+    bytes: &mut Vec<u8>,
+    most: usize,
+    reads_left: u64,
+) -> Result<usize, ReadFault>
+    requires some { 0 < most }
+    requires few { most ≤ 8192 }
+    ensures read { IfOk result (λ n. (piece : List ℕ) × S.gave source.old (piece ∷ []) source.new
+        × (bytes.new.items ≡ bytes.old.items ++ piece) × (n ≡ length piece) × (n ≤ most)) }
+    ensures err { OnErr result (S.gave source.old [] source.new × (bytes.new.items ≡ bytes.old.items)) }
+    ensures allowed { OnOk result (0 < reads_left) }
+    ensures too_long { IsErrOf result ReadFault.InputTooLong → reads_left ≡ 0 }
+    ensures none_left { reads_left ≡ 0 → result ≡ Err ReadFault.InputTooLong }
+    ensures failed { IsErrOf result ReadFault.ReadFailed → Rises (S.failures source.old) (S.failures source.new) }
+    ensures steady { result ≢ Err ReadFault.ReadFailed → S.failures source.new ≡ S.failures source.old }
+{
     if reads_left == 0 {
         return Err(ReadFault::InputTooLong);
     }
     let start = bytes.len();
-    bytes.resize(start + PIECE, 0)?;
+    bytes.resize(start + most, 0)?;
     match source.read(&mut bytes[start..]) {
         Ok(n) => {
             bytes.truncate(start + n);

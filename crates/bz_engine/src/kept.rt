@@ -116,7 +116,8 @@ pub fn tell<L: Language>(
     kept: &mut [Kept<L::Entry>],
 ) -> Result<Log<L::Entry>, AllocError>
     requires { Fits kept.old passes.now }
-    ensures { IfOk result (λ log. (slots : List (Slot L.Seen))
+    ensures told { IfOk result (λ log. log ≡ told (L.meaning language.now) passes.now kept.old) }
+    ensures whole { IfOk result (λ log. (slots : List (Slot L.Seen))
         → kept.old ≡ kept_of (L.meaning language.now) passes.now slots
         → log ≡ log_of (L.meaning language.now) passes.now slots) }
 {
@@ -126,7 +127,7 @@ pub fn tell<L: Language>(
 }
 
 /// Whether the target of some pass was not found, by what was kept.
-fn is_some_not_found<L: Language>(
+pub(crate) fn is_some_not_found<L: Language>(
     language: &L,
     passes: &[Pass<L::Target, L::Command>],
     kept: &[Kept<L::Entry>],

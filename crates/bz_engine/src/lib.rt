@@ -8,24 +8,44 @@
 //! whole file.
 #![tactic(auto)]
 
+mod ahead;
+mod chunk;
 mod device;
+mod edit;
+mod entry;
 mod input;
 mod kept;
 mod language;
+pub mod laws;
 mod log;
+mod message;
+mod options;
 mod output;
 mod pass;
+mod progress;
+mod report;
+mod rules;
+mod run_fault;
+mod runner;
 mod script;
+mod session;
 mod std_device;
+mod telling;
 
 pub use device::{Failed, Sink, Source};
+pub use entry::Entry;
 pub use input::{PIECE, ReadFault, read_all, read_more};
 pub use kept::{Kept, is_some_missing, nothing_kept, tell};
 pub use language::{Facts, Language};
 pub use log::Log;
+pub use options::Options;
 pub use output::write_all;
 pub use pass::Pass;
+pub use report::{End, Report, SyntaxFault};
+pub use run_fault::RunFault;
+pub use runner::run;
 pub use script::{exchange, run_script};
+pub use session::{Session, Step};
 pub use std_device::{FromRead, ToWrite};
 
 #[cfg(test)]

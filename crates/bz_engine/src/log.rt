@@ -41,6 +41,13 @@ impl<M> Log<M> {
         self.entries.append(&mut other.entries)
     }
 
+    /// The entries in order.
+    pub fn as_slice(&self) -> &[M]
+        ensures { result.now ≡ self.now }
+    {
+        self.entries.as_slice()
+    }
+
     /// The entries in order. Takes no memory.
     pub fn into_entries(self) -> Vec<M>
         ensures { result.items ≡ self }

@@ -124,7 +124,7 @@ impl Read for Shaken {
 
 /// A writer that takes nothing.
 #[derive(Drop)]
-struct Full;
+pub struct Full;
 
 impl Write for Full {
     fn write(&mut self, _bytes: &[u8]) -> io::Result<usize> {

@@ -3,8 +3,12 @@ use Rattle.bz_engine.specs.Exchange.{told}
 use Rattle.bz_engine.proofs.ExchangeLaw.{told_left}
 use Rattle.bz_engine.proofs.kept.tell.Goals as goal
 
-pub returns : goal.returns
-returns g c slots left =
+pub returns-clause-told : goal.returns-clause-told
+returns-clause-told g c =
+    c.in_ok-tell_passes.ensures ∙ ap (λ log. log ++ told (g.L.Language.meaning c.args.language.now) c.args.passes.now c.args.kept.now) c.new-log.ensures
+
+pub returns-clause-whole : goal.returns-clause-whole
+returns-clause-whole g c slots left =
     let meaning = g.L.Language.meaning c.args.language.now in
     let kept = c.args.kept.now in
     let log : c.tell_passes.new.log ≡ told meaning c.args.passes.now kept =

@@ -1,0 +1,143 @@
+-- A chunk that a session takes: it is done, it has a fault, or the run ends at its failure.
+use Rattle.std.proofs.Common.{◌≡◌, ℕ, ◌<◌, ◌≤◌, Bool, true, false, List, [], ◌∷◌, ◌++◌, length, take, drop, refl, sym, ◌∙◌, ap, subst}
+use Rattle.std.specs.Prelude.{IsTrue, Option, None, Some, Result, Ok, Err, IfSome, IfNone}
+use Rattle.std.proofs.lemmas.Bool.{false≢true}
+use Rattle.std.proofs.lemmas.List.{length-take-le}
+use Rattle.bz_tree.specs.Tree.{Statement}
+use Rattle.bz_engine.specs.declared.run_fault.RunFault.{RunFault}
+use Rattle.bz_engine.specs.declared.session.Stage.{Stage}
+use Rattle.bz_engine.specs.declared.session.Step.{Step}
+use Rattle.bz_engine.specs.declared.session.Step.TheVariants.{More}
+use Rattle.bz_engine.specs.declared.session.Step.TheVariants as step
+use Rattle.bz_engine.specs.declared.session.Stage.TheVariants.{Going, Ended, Stopped}
+use Rattle.bz_engine.specs.declared.report.SyntaxFault.{SyntaxFault}
+use Rattle.bz_engine.specs.declared.report.End.{End}
+use Rattle.bz_engine.specs.declared.report.End.TheVariants.{Whole, Syntax, FirstFailure}
+use Rattle.bz_engine.specs.declared.edit.Edited.{Edited}
+use Rattle.bz_engine.specs.declared.edit.Edited.TheVariants.{Done, Faulty, Failed}
+use Rattle.bz_engine.specs.Ahead.{Ahead, IsReadOn, IsNextChunk}
+use Rattle.bz_engine.specs.Progress.{Progress, IsKeptOf}
+use Rattle.bz_engine.specs.Edits.{IsEdited}
+use Rattle.bz_engine.specs.SessionValue.{SessionValue, HasDone, HasEnded}
+use Rattle.bz_engine.proofs.Sessions.{went_on, ended_whole, ended_fault, ended_failure}
+
+-- what the script made of the chunk
+abbrev EditsChunk : SessionValue → Ahead → ℕ → Progress → List ℕ → List ℕ → Edited → Type 0
+EditsChunk v mid n after before behind edited = (cs : List (List ℕ)) (ss : List Statement) → IsKeptOf v.home v.passes v.options.max_depth cs ss v.progress
+    → IsEdited v.home v.passes v.options.keep_going v.options.max_depth cs ss (take n mid.bytes) v.progress after before behind edited
+
+edits_as : (v : SessionValue) (mid : Ahead) (n : ℕ) (after : Progress) (before behind : List ℕ) (edited kind : Edited)
+    → EditsChunk v mid n after before behind edited → before ≡ [] → edited ≡ kind → EditsChunk v mid n after [] behind kind
+edits_as v mid n after before behind edited kind edits none is =
+    subst (EditsChunk v mid n after [] behind) is (subst (λ b. EditsChunk v mid n after b behind edited) none edits)
+
+pub chunk_done : (v e f : SessionValue) (mid : Ahead) (before behind : List ℕ) (edited : Edited) (max_reads most n : ℕ) (pieces cs read : List (List ℕ)) (text : List ℕ)
+    → HasDone v pieces cs text → IsReadOn max_reads v.ahead mid read → IsNextChunk most mid n → before ≡ []
+    → (let after : SessionValue = record v { ahead = mid; progress = e.progress } in e ≡ after)
+    → EditsChunk v mid n e.progress before behind edited → edited ≡ Done
+    → (let taken : SessionValue = record e { ahead = record e.ahead { bytes = drop n e.ahead.bytes } } in f ≡ taken)
+    → HasDone f (pieces ++ read) (cs ++ take n mid.bytes ∷ []) (text ++ behind)
+chunk_done v e f mid before behind edited max_reads most n pieces cs read text done on next none at edits is taken =
+    let takes : SessionValue → SessionValue = λ x. record x { ahead = record x.ahead { bytes = drop n x.ahead.bytes } } in
+    subst (λ x. HasDone x (pieces ++ read) (cs ++ take n mid.bytes ∷ []) (text ++ behind)) (sym (taken ∙ ap takes at))
+    (went_on v mid e.progress max_reads most n pieces cs read text behind done on next
+    (edits_as v mid n e.progress before behind edited Done edits none is cs done.statements done.kept))
+
+pub chunk_faulty : (v e : SessionValue) (mid : Ahead) (before behind : List ℕ) (edited : Edited) (fault : SyntaxFault) (max_reads most n : ℕ) (pieces cs read : List (List ℕ)) (text : List ℕ)
+    → HasDone v pieces cs text → IsReadOn max_reads v.ahead mid read → IsNextChunk most mid n → before ≡ []
+    → (let after : SessionValue = record v { ahead = mid; progress = e.progress } in e ≡ after)
+    → EditsChunk v mid n e.progress before behind edited → edited ≡ Faulty fault
+    → HasEnded e (Syntax fault) (pieces ++ read) text
+chunk_faulty v e mid before behind edited fault max_reads most n pieces cs read text done on next none at edits is =
+    let faulty = edits_as v mid n e.progress before behind edited (Faulty fault) edits none is cs done.statements done.kept in
+    let with_progress : Progress → SessionValue = λ p. record v { ahead = mid; progress = p } in
+    subst (λ x. HasEnded x (Syntax fault) (pieces ++ read) text) (sym (at ∙ ap with_progress faulty.same))
+    (ended_fault v mid fault max_reads most n pieces cs read text done on next faulty.fault_is)
+
+pub chunk_failed : (v e f : SessionValue) (mid : Ahead) (before behind : List ℕ) (edited : Edited) (message : Option (List ℕ)) (max_reads most n : ℕ) (pieces cs read : List (List ℕ)) (text : List ℕ)
+    → HasDone v pieces cs text → IsReadOn max_reads v.ahead mid read → IsNextChunk most mid n → before ≡ []
+    → (let after : SessionValue = record v { ahead = mid; progress = e.progress } in e ≡ after)
+    → EditsChunk v mid n e.progress before behind edited → edited ≡ Failed message
+    → (let told : SessionValue = record e { failure = message } in f ≡ told)
+    → HasEnded f FirstFailure (pieces ++ read) text
+chunk_failed v e f mid before behind edited message max_reads most n pieces cs read text done on next none at edits is told =
+    let tells : SessionValue → SessionValue = λ x. record x { failure = message } in
+    subst (λ x. HasEnded x FirstFailure (pieces ++ read) text) (sym (told ∙ ap tells at))
+    (ended_failure v mid e.progress message behind max_reads most n pieces cs read text done on next
+    (edits_as v mid n e.progress before behind edited (Failed message) edits none is cs done.statements done.kept))
+
+-- which stage an answer tells
+abbrev stage_in : Result Stage RunFault → Stage
+stage_in (Ok stage) = stage
+stage_in (Err fault) = Stopped
+
+abbrev end_in : Stage → End
+end_in Going = Whole
+end_in (Ended end) = end
+end_in Stopped = Whole
+
+abbrev has_ended : Stage → Bool
+has_ended Going = false
+has_ended (Ended end) = true
+has_ended Stopped = false
+
+pub goes_not_on : {X : Type 0} (s : Stage) (end : End) → (let answer : Result Stage RunFault = Ok s in answer) ≡ Ok Going → s ≡ Ended end → X
+goes_not_on s end told is = absurd (false≢true (sym (ap has_ended (ap stage_in told)) ∙ ap has_ended is))
+
+pub has_not_ended : {X : Type 0} (s : Stage) (end : End) → (let answer : Result Stage RunFault = Ok s in answer) ≡ Ok (Ended end) → s ≡ Going → X
+has_not_ended s end told is = absurd (false≢true (sym (ap has_ended is) ∙ ap has_ended (ap stage_in told)))
+
+pub same_end : (s : Stage) (end e : End) → (let answer : Result Stage RunFault = Ok s in answer) ≡ Ok (Ended end) → s ≡ Ended e → e ≡ end
+same_end s end e told is = ap end_in (sym is ∙ ap stage_in told)
+
+pub some_chunk : (found : Option ℕ) (most n : ℕ) (mid : Ahead) → IfSome found (IsNextChunk most mid) → found ≡ Some n → IsNextChunk most mid n
+some_chunk found most n mid h is = subst (λ o. IfSome o (IsNextChunk most mid)) is h
+
+pub no_chunk : (found : Option ℕ) (mid : Ahead) → IfNone found ((mid.bytes ≡ []) × IsTrue mid.ended) → found ≡ None → (mid.bytes ≡ []) × IsTrue mid.ended
+no_chunk found mid h is = subst (λ o. IfNone o ((mid.bytes ≡ []) × IsTrue mid.ended)) is h
+
+-- a chunk has bytes
+pub take_some : (n : ℕ) (bytes : List ℕ) → 0 < n → n ≤ length bytes → 0 < length (take n bytes)
+take_some n bytes some within = subst (λ l. 0 < l) (sym (length-take-le n bytes within)) some
+
+-- the input has ended
+pub whole_end : (v : SessionValue) (mid : Ahead) (end : End) (max_reads : ℕ) (pieces cs read : List (List ℕ)) (text : List ℕ)
+    → HasDone v pieces cs text → IsReadOn max_reads v.ahead mid read → (mid.bytes ≡ []) × IsTrue mid.ended
+    → (let answer : Result Stage RunFault = Ok (Ended Whole) in answer) ≡ Ok (Ended end)
+    → HasEnded (record v { ahead = mid }) end (pieces ++ read) text
+whole_end v mid end max_reads pieces cs read text done on over told =
+    let at_end : SessionValue = record v { ahead = mid } in
+    subst (λ e. HasEnded at_end e (pieces ++ read) text) (same_end (Ended Whole) end Whole told refl)
+    (ended_whole v mid max_reads pieces cs read text done on over.0 over.1)
+
+-- what was done does not depend on the stage
+pub restaged : (v : SessionValue) (stage : Stage) (pieces cs : List (List ℕ)) (text : List ℕ) → HasDone v pieces cs text → HasDone (record v { stage = stage }) pieces cs text
+restaged v stage pieces cs text done = record {
+  bytes = done.bytes;
+  reads = done.reads;
+  ended = done.ended;
+  none_ends = done.none_ends;
+  few = done.few;
+  first = done.first;
+  statements = done.statements;
+  kept = done.kept;
+  text_is = done.text_is;
+  calm = done.calm;
+}
+
+pub which_end : (s : Stage) → (s ≡ Going → ⊥) → (s ≡ Stopped → ⊥) → (e : End) × (s ≡ Ended e)
+which_end Going h k = absurd (h refl)
+which_end (Ended e) h k = (e, refl)
+which_end Stopped h k = absurd (k refl)
+
+-- which step an answer tells
+abbrev is_more : Result Step RunFault → Bool
+is_more (Ok More) = true
+is_more (Ok step.End) = false
+is_more (Err fault) = false
+
+pub more_is_no_end : {X : Type 0} (r : Result Step RunFault) → r ≡ Ok More → r ≡ Ok step.End → X
+more_is_no_end r more end = absurd (false≢true (sym (ap is_more end) ∙ ap is_more more))
+
+pub end_is_not_more : {X : Type 0} (r : Result Step RunFault) → r ≡ Ok step.End → r ≡ Ok More → X
+end_is_not_more r end more = absurd (false≢true (sym (ap is_more end) ∙ ap is_more more))

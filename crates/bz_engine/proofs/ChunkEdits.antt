@@ -1,0 +1,99 @@
+-- What is kept of the chunks that are done, with one chunk more.
+use Rattle.std.proofs.Common.{◌≡◌, ℕ, ◌+◌, ◌==◌, count_by, Bool, List, [], ◌∷◌, ◌++◌, sym, ◌∙◌, ap, subst, append-nil}
+use Rattle.std.specs.Prelude.{None, Some, Ok, if◌then◌else◌}
+use Rattle.bz_token.specs.Places.{line_at}
+use Rattle.bz_tree.specs.Tree.{Statement}
+use Rattle.bz_rule.specs.Labels.{Package}
+use Rattle.bz_engine.specs.Exchange.{IsLeftBy, slot_after}
+use Rattle.bz_engine.specs.Meaning.{meaning, changes, fails_on}
+use Rattle.bz_engine.specs.File.{Gives}
+use Rattle.bz_engine.specs.Outcome.{Script, slots_of, is_query, text_behind}
+use Rattle.bz_engine.specs.Passes.{slots_after}
+use Rattle.bz_engine.specs.Progress.{Progress, IsKeptOf, last_class}
+use Rattle.bz_engine.specs.declared.edit.Edited.{Edited}
+use Rattle.bz_engine.specs.declared.edit.Edited.TheVariants.{Done, Faulty, Failed}
+use Rattle.bz_engine.specs.Edits.{IsDone, IsLaidOut, IsScripted, IsEdited}
+use Rattle.bz_engine.proofs.ExchangeLaw.{map_more}
+use Rattle.bz_engine.proofs.Given.{give_blank, give_statement, line_behind}
+use Rattle.bz_engine.proofs.MoreText.{text_after_more, last_after_more, text_after_none}
+
+-- a blank chunk
+pub blank_done : (home : Package) (passes : Script) (keep_going : Bool) (depth : ℕ) (cs : List (List ℕ)) (ss : List Statement) (chunk : List ℕ)
+    (old new : Progress) (before : List ℕ)
+    → IsKeptOf home passes depth cs ss old → Gives depth old.line chunk (Ok None)
+    → new ≡ record old { line = line_at old.line chunk }
+    → IsDone home passes keep_going depth cs ss chunk old new before before
+blank_done home passes keep_going depth cs ss chunk old new before kept gives is = record {
+  more = [];
+  kept = record {
+    read = give_blank depth old.line cs ss chunk kept.read kept.line gives;
+    line = ap (λ p. p.line) is ∙ line_behind old.line cs chunk kept.line;
+    left = subst (λ p. IsLeftBy (meaning home) (changes home) (fails_on home) passes (slots_of (ss ++ [])) p.kept p.changed p.failed) (sym is)
+        (subst (λ l. IsLeftBy (meaning home) (changes home) (fails_on home) passes (slots_of l) old.kept old.changed old.failed) (sym (append-nil ss)) kept.left);
+    last = ap (λ p. p.last) is ∙ kept.last ∙ ap (λ l. last_class None (slots_after (meaning home) passes (slots_of l))) (sym (append-nil ss));
+  };
+  shown = [];
+  appended = sym (append-nil before);
+  text = text_after_none home passes ss;
+  calm = λ h calm. ap (λ p. p.failed) is ∙ calm;
+}
+
+-- a statement, which the script left as `laid` says
+pub statement_done : (home : Package) (passes : Script) (keep_going : Bool) (depth : ℕ) (cs : List (List ℕ)) (ss : List Statement) (chunk : List ℕ) (s : Statement)
+    (old mid new : Progress) (before behind : List ℕ)
+    → IsKeptOf home passes depth cs ss old → Gives depth old.line chunk (Ok (Some s))
+    → IsLaidOut home passes keep_going s old mid before behind
+    → new ≡ record mid { line = line_at mid.line chunk }
+    → IsDone home passes keep_going depth cs ss chunk old new before behind
+statement_done home passes keep_going depth cs ss chunk s old mid new before behind kept gives laid is = record {
+  more = s ∷ [];
+  kept = record {
+    read = give_statement depth old.line cs ss chunk s kept.read kept.line gives;
+    line = ap (λ p. p.line) is ∙ ap (λ n. line_at n chunk) laid.line ∙ line_behind old.line cs chunk kept.line;
+    left = subst (λ p. IsLeftBy (meaning home) (changes home) (fails_on home) passes (slots_of (ss ++ s ∷ [])) p.kept p.changed p.failed) (sym is)
+        (subst (λ l. IsLeftBy (meaning home) (changes home) (fails_on home) passes l mid.kept mid.changed mid.failed) (sym (map_more Some ss s)) (laid.left (slots_of ss) kept.left));
+    last = ap (λ p. p.last) is ∙ last_after_more home passes ss s old.last mid.last kept.last laid.last;
+  };
+  shown = if is_query passes then [] else text_behind old.last (slot_after (meaning home) passes (Some s) ∷ []);
+  appended = laid.text;
+  text = text_after_more home passes ss s old.last kept.last;
+  calm = λ h calm. ap (λ p. p.failed) is ∙ laid.calm h;
+}
+
+-- what the script on a statement made of its chunk
+pub scripted_edited : (home : Package) (passes : Script) (keep_going : Bool) (depth : ℕ) (cs : List (List ℕ)) (ss : List Statement) (chunk : List ℕ) (s : Statement)
+    (old mid new : Progress) (before behind : List ℕ) (edited : Edited)
+    → IsKeptOf home passes depth cs ss old → Gives depth old.line chunk (Ok (Some s))
+    → IsScripted home passes keep_going s old mid before behind edited
+    → new ≡ record mid { line = line_at mid.line chunk }
+    → IsEdited home passes keep_going depth cs ss chunk old new before behind edited
+scripted_edited home passes keep_going depth cs ss chunk s old mid new before behind Done kept gives laid is =
+    statement_done home passes keep_going depth cs ss chunk s old mid new before behind kept gives laid is
+scripted_edited home passes keep_going depth cs ss chunk s old mid new before behind (Faulty fault) kept gives none is = absurd none
+scripted_edited home passes keep_going depth cs ss chunk s old mid new before behind (Failed message) kept gives ended is = record {
+  ends = ended.ends;
+  statement = s;
+  read = gives;
+  fails = ended.fails;
+  message_is = λ calm. ended.message_is calm (slots_of ss) kept.left;
+  changed = ap (λ p. p.changed) is ∙ ended.changed;
+  nothing = ended.nothing;
+}
+
+pub blank_edited : (home : Package) (passes : Script) (keep_going : Bool) (depth : ℕ) (cs : List (List ℕ)) (ss : List Statement) (chunk : List ℕ)
+    (old new : Progress) (before behind : List ℕ) (edited : Edited)
+    → IsKeptOf home passes depth cs ss old → Gives depth old.line chunk (Ok None)
+    → new ≡ record old { line = line_at old.line chunk } → behind ≡ before → edited ≡ Done
+    → IsEdited home passes keep_going depth cs ss chunk old new before behind edited
+blank_edited home passes keep_going depth cs ss chunk old new before behind edited kept gives is same done =
+    subst (IsEdited home passes keep_going depth cs ss chunk old new before behind) (sym done)
+    (subst (λ b. IsDone home passes keep_going depth cs ss chunk old new before b) (sym same)
+    (blank_done home passes keep_going depth cs ss chunk old new before kept gives is))
+
+-- the line behind the chunk
+pub line_moved : (p q : Progress) (n : ℕ) (chunk : List ℕ) → p ≡ q → n ≡ count_by (λ b. b == 10) chunk
+    → (let moved : Progress = record p { line = p.line + n } in moved) ≡ record q { line = line_at q.line chunk }
+line_moved p q n chunk same is =
+    let at : ℕ → Progress = λ m. record p { line = p.line + m } in
+    let behind : Progress → Progress = λ r. record r { line = line_at r.line chunk } in
+    ap at is ∙ ap behind same

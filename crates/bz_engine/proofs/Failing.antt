@@ -1,0 +1,60 @@
+-- Where an execution fails, and failures end the run.
+use Rattle.std.proofs.Common.{◌≡◌, ℕ, Bool, true, false, ◌||◌, List, [], ◌∷◌, ◌++◌, refl, sym, ◌∙◌, ap}
+use Rattle.std.specs.Prelude.{Option, None, Some, option_to_list}
+use Rattle.std.specs.List.{flat_map}
+use Rattle.std.proofs.lemmas.Bool.{false≢true}
+use Rattle.bz_tree.specs.Tree.{Statement}
+use Rattle.bz_rule.specs.Labels.{Package}
+use Rattle.bz_rule.specs.Commands.{Command}
+use Rattle.bz_rule.specs.Effects.{fails}
+use Rattle.bz_rule.specs.Applied.{done_of}
+use Rattle.bz_rule.specs.declared.done.Note.{Note}
+use Rattle.bz_rule.specs.declared.done.Note.TheVariants.{Missing, NoAttribute, AttributeExists, NotAList, NoValue}
+use Rattle.bz_engine.specs.declared.entry.Entry.{Entry}
+use Rattle.bz_engine.specs.Passes.{Slot}
+use Rattle.bz_engine.specs.Exchange.{Kept, IsLeftBy}
+use Rattle.bz_engine.specs.Meaning.{meaning, changes, fails_on, says, line_told, note_told, shown_slot}
+use Rattle.bz_engine.specs.Outcome.{Script, failure_text, first_of, log_alone, fails_at}
+use Rattle.bz_engine.specs.Progress.{Progress}
+use Rattle.bz_engine.specs.Edits.{IsEnded}
+use Rattle.bz_engine.proofs.Failures.{failures_alone}
+
+-- a note that is no failure tells of none
+no_failure : (rule : List ℕ) (line : Option (List ℕ)) (note : Option Note) → fails note ≡ false → flat_map failure_text (line_told line ++ note_told rule note) ≡ []
+no_failure rule None None h = refl
+no_failure rule (Some line) None h = refl
+no_failure rule None (Some (Missing field)) h = refl
+no_failure rule (Some line) (Some (Missing field)) h = refl
+no_failure rule line (Some (NoAttribute attr)) h = absurd (false≢true (sym h))
+no_failure rule line (Some (AttributeExists attr)) h = absurd (false≢true (sym h))
+no_failure rule line (Some (NotAList attr)) h = absurd (false≢true (sym h))
+no_failure rule line (Some (NoValue attr value)) h = absurd (false≢true (sym h))
+
+-- an execution that does not fail tells of no failure
+quiet : (home : Package) (c : Command) (slot : Slot Statement) → fails_on home c slot ≡ false → flat_map failure_text (says home c slot) ≡ []
+quiet home c slot h = no_failure (shown_slot home slot) (done_of c home slot).line (done_of c home slot).note h
+
+or_then : (a b f : Bool) → f ≡ (a || b) → f ≡ true → a ≡ false → b ≡ true
+or_then true b f is h none = absurd (false≢true (sym none))
+or_then false b f is h none = sym is ∙ h
+
+-- the run ends at a statement
+pub ends_there : (home : Package) (passes : Script) (keep_going : Bool) (s : Statement) (message : Option (List ℕ)) (old new : Progress)
+    (kept : List (Kept Entry)) (changed failed : Bool) (text : List ℕ)
+    → keep_going ≡ false → failed ≡ true → failed ≡ (old.failed || fails_at home passes s)
+    → ((slots : List (Slot Statement)) → IsLeftBy (meaning home) (changes home) (fails_on home) passes slots old.kept old.changed old.failed
+    → IsLeftBy (meaning home) (changes home) (fails_on home) passes (slots ++ Some s ∷ []) kept changed failed)
+    → option_to_list message ≡ first_of (flat_map failure_text (log_alone kept))
+    → new.changed ≡ old.changed → new.line ≡ old.line
+    → IsEnded home passes keep_going s message old new text text
+ends_there home passes keep_going s message old new kept changed failed text ends bad here left told same_changed same_line = record {
+  ends = ends;
+  fails = λ none. or_then old.failed (fails_at home passes s) failed here bad none;
+  message_is = λ none slots before.
+      told
+      ∙ ap (λ k. first_of (flat_map failure_text (log_alone k))) (left slots before).kept
+      ∙ ap first_of (failures_alone (meaning home) failure_text (fails_on home) (quiet home) passes slots (Some s) (sym before.failed ∙ none));
+  changed = same_changed;
+  line = same_line;
+  nothing = refl;
+}

@@ -1,0 +1,56 @@
+-- Worked examples that compute: texts of messages, the outcome of an empty file, and the exit status.
+use Rattle.std.specs.Prelude.{◌≡◌, ℕ, Bool, true, false, List, [], ◌∷◌, None, Some, codes}
+use Rattle.std.proofs.Common.{refl, inl}
+use Rattle.bz_rule.specs.Labels.{Package, Target, Name, All}
+use Rattle.bz_rule.specs.Commands.{Delete}
+use Rattle.bz_rule.specs.declared.done.Note.TheVariants.{Missing, NoAttribute, AttributeExists, NotAList, NoValue}
+use Rattle.bz_engine.specs.declared.report.End.TheVariants.{Whole}
+use Rattle.bz_engine.specs.declared.report.Report.{Report}
+use Rattle.bz_engine.specs.Messages.{not_found_text, note_text}
+use Rattle.bz_engine.specs.Outcome.{Script, Told, IsOutcome, status_of}
+
+abbrev home : Package
+home = Some (codes "p")
+
+no_rule : not_found_text home (Name (codes "a")) ≡ codes "//p:a: no such rule"
+no_rule = refl
+
+missing_field : note_text (codes "//p:a") (Missing (codes "q")) ≡ codes "//p:a: no attribute 'q' to print"
+missing_field = refl
+
+no_attribute : note_text (codes "//p:a") (NoAttribute (codes "q")) ≡ codes "//p:a: no attribute 'q'"
+no_attribute = refl
+
+attribute_exists : note_text (codes "//p:b") (AttributeExists (codes "y")) ≡ codes "//p:b: attribute 'y' is already there"
+attribute_exists = refl
+
+no_list : note_text (codes "//p:a") (NotAList (codes "name")) ≡ codes "//p:a: attribute 'name' has no list"
+no_list = refl
+
+no_value : note_text (codes "//p:a") (NoValue (codes "deps") (codes "y")) ≡ codes "//p:a: no value 'y' in attribute 'deps'"
+no_value = refl
+
+-- an empty file under a name, and under a target that need not mark anything
+abbrev deleting : Target → Script
+deleting target = record { target = target; commands = Delete ∷ [] } ∷ []
+
+abbrev told : List (List ℕ) → Bool → Told
+told messages failed = record { lines = []; messages = messages; changed = false; failed = failed; end = Whole }
+
+nothing_there : IsOutcome home (deleting (Name (codes "a"))) false 100 [] [] (told (codes "//p:a: no such rule" ∷ []) true)
+nothing_there = inl (record { statements = []; fault = None; read = (refl, refl); calm = λ h. refl; text_is = refl; told_is = refl })
+
+all_of_nothing : IsOutcome home (deleting All) false 100 [] [] (told [] false)
+all_of_nothing = inl (record { statements = []; fault = None; read = (refl, refl); calm = λ h. refl; text_is = refl; told_is = refl })
+
+abbrev report : Bool → Bool → Report
+report changed failed = record { lines = []; messages = []; changed = changed; failed = failed; end = Whole }
+
+failed_run : status_of (report true true) ≡ 2
+failed_run = refl
+
+changed_run : status_of (report true false) ≡ 0
+changed_run = refl
+
+idle_run : status_of (report false false) ≡ 3
+idle_run = refl

@@ -1,0 +1,82 @@
+-- A whole run: its start, and why it ends.
+use Rattle.std.proofs.Common.{◌≡◌, ℕ, ◌+◌, ◌-◌, ◌*◌, ◌<◌, ◌≤◌, Bool, true, false, List, [], ◌∷◌, ◌++◌, length, length-append, refl, sym, ◌∙◌, ap, subst, append-nil, arith}
+use Rattle.std.specs.Prelude.{None, if◌then◌else◌, Result, Ok, Err, IfOk}
+use Rattle.std.proofs.lemmas.Bool.{false≢true}
+use Rattle.std.specs.List.{concat}
+use Rattle.std.proofs.lemmas.List.Folds.{concat-append}
+use Rattle.bz_rule.specs.Labels.{Package}
+use Rattle.bz_engine.specs.declared.options.Options.{Options}
+use Rattle.bz_engine.specs.Device.{joined}
+use Rattle.bz_engine.specs.Meaning.{meaning, changes, fails_on}
+use Rattle.bz_engine.specs.declared.report.End.{End}
+use Rattle.bz_engine.specs.EveryFile.{ForEveryFile}
+use Rattle.bz_engine.specs.Outcome.{Script, Told, is_query, shown_text, IsOutcome}
+use Rattle.bz_engine.specs.Progress.{last_class}
+use Rattle.bz_engine.specs.SessionValue.{SessionValue, HasDone, HasEnded, at_start, told_at}
+use Rattle.bz_engine.proofs.ExchangeLaw.{slots_alone, nothing_left}
+use Rattle.bz_engine.proofs.MoreReads.{joined_more}
+
+nothing_shown : (query : Bool) → (let nothing : List ℕ = [] in nothing) ≡ (if query then [] else [])
+nothing_shown true = refl
+nothing_shown false = refl
+
+-- before the first chunk
+pub started : (home : Package) (passes : Script) (options : Options) → HasDone (at_start home passes options) [] [] []
+started home passes options = record {
+  bytes = refl;
+  reads = refl;
+  ended = refl;
+  none_ends = λ h. tt;
+  few = omega arith;
+  first = λ rest over. refl;
+  statements = [];
+  kept = record {
+    read = (refl, refl);
+    line = refl;
+    left = nothing_left (meaning home) passes (changes home) (fails_on home);
+    last = ap (last_class None) (sym (slots_alone (meaning home) passes []));
+  };
+  text_is = nothing_shown (is_query passes) ∙ ap (shown_text passes) (sym (slots_alone (meaning home) passes []));
+  calm = λ h. refl;
+}
+
+-- each chunk has bytes, and each read gives at most 8,192
+pub shorter : (v w : SessionValue) (max_reads : ℕ) (pieces cs read : List (List ℕ)) (chunk text more : List ℕ)
+    → HasDone v pieces cs text → HasDone w (pieces ++ read) (cs ++ chunk ∷ []) more
+    → 0 < length chunk → length (joined read) ≤ 8192 * length read → w.ahead.reads ≤ max_reads
+    → 8193 * (max_reads - w.ahead.reads) + length w.ahead.bytes < 8193 * (max_reads - v.ahead.reads) + length v.ahead.bytes
+shorter v w max_reads pieces cs read chunk text more before after some few within =
+    let given : length (joined (pieces ++ read)) ≡ length (joined pieces) + length (joined read) = ap length (joined_more pieces read) ∙ length-append (joined pieces) (joined read) in
+    let was : length (joined pieces) ≡ length (concat cs) + length v.ahead.bytes = ap length before.bytes ∙ length-append (concat cs) v.ahead.bytes in
+    let now : length (joined (pieces ++ read)) ≡ length (concat (cs ++ chunk ∷ [])) + length w.ahead.bytes = ap length after.bytes ∙ length-append (concat (cs ++ chunk ∷ [])) w.ahead.bytes in
+    let taken : length (concat (cs ++ chunk ∷ [])) ≡ length (concat cs) + length chunk =
+    ap length (concat-append cs (chunk ∷ []) ∙ ap (λ l. concat cs ++ l) (append-nil chunk)) ∙ length-append (concat cs) chunk in
+    let made : w.ahead.reads ≡ length pieces + length read = after.reads ∙ length-append pieces read in
+    count (length (joined (pieces ++ read))) (length (joined pieces)) (length (joined read)) (length (concat cs)) (length (concat (cs ++ chunk ∷ []))) (length chunk)
+    (length v.ahead.bytes) (length w.ahead.bytes) v.ahead.reads w.ahead.reads (length pieces) (length read) max_reads
+    given was now taken made before.reads some few within
+  where
+    count : (jpr jp jr cc ccc ch vb wb vr wr p r m : ℕ) → jpr ≡ jp + jr → jp ≡ cc + vb → jpr ≡ ccc + wb → ccc ≡ cc + ch → wr ≡ p + r → vr ≡ p → 0 < ch → jr ≤ 8192 * r → wr ≤ m
+        → 8193 * (m - wr) + wb < 8193 * (m - vr) + vb
+    count jpr jp jr cc ccc ch vb wb vr wr p r m a b c d e f g h i = omega arith
+
+-- the session's answer is the outcome of the run that it was made for
+pub outcome_is : (v : SessionValue) (home : Package) (passes : Script) (options : Options) (end : End) (told : Told) (pieces : List (List ℕ)) (text : List ℕ)
+    → v.home ≡ home → v.passes ≡ passes → v.options ≡ options → told ≡ told_at v end → HasEnded v end pieces text
+    → ForEveryFile pieces (λ file. IsOutcome home passes options.keep_going options.max_depth file text told)
+outcome_is v home passes options end told pieces text h p o is ended =
+    subst (λ x. ForEveryFile pieces (λ file. IsOutcome x passes options.keep_going options.max_depth file text told)) h
+    (subst (λ x. ForEveryFile pieces (λ file. IsOutcome v.home x options.keep_going options.max_depth file text told)) p
+    (subst (λ x. ForEveryFile pieces (λ file. IsOutcome v.home v.passes x.keep_going x.max_depth file text told)) o
+    (subst (λ x. ForEveryFile pieces (λ file. IsOutcome v.home v.passes v.options.keep_going v.options.max_depth file text x)) (sym is) ended)))
+
+pub where_ok : {T E : Type 0} {P Q : T → Type 0} (r : Result T E) → ((x : T) → P x → Q x) → IfOk r P → IfOk r Q
+where_ok (Ok x) f h = f x h
+where_ok (Err e) f h = h
+
+pub ok_is_no_err : {T E : Type 0} (r : Result T E) (t : T) (e : E) → r ≡ Ok t → r ≡ Err e → ⊥
+ok_is_no_err r t e is err = false≢true (sym (ap is_ok_answer err) ∙ ap is_ok_answer is)
+  where
+    is_ok_answer : {T E : Type 0} → Result T E → Bool
+    is_ok_answer (Ok x) = true
+    is_ok_answer (Err e) = false

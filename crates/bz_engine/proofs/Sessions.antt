@@ -1,0 +1,179 @@
+-- What a session has done, with one chunk more, and where it ends.
+use Rattle.std.proofs.Common.{◌≡◌, ℕ, ◌+◌, ◌≤◌, ◌^◌, Bool, true, false, List, [], ◌∷◌, ◌++◌, length, take, drop, length-append, take-append-drop, refl, sym, ◌∙◌, ap, subst, append-nil, inl, inr}
+use Rattle.std.specs.Prelude.{IsTrue, Option, None, Some, Err}
+use Rattle.bz_token.specs.Chunks.{chunks}
+use Rattle.bz_tree.specs.Tree.{Statement}
+use Rattle.bz_rule.specs.Labels.{Package}
+use Rattle.bz_engine.specs.declared.report.SyntaxFault.{SyntaxFault}
+use Rattle.std.proofs.lemmas.Bool.{false≢true}
+use Rattle.bz_engine.specs.declared.session.Stage.{Stage}
+use Rattle.bz_engine.specs.declared.session.Stage.TheVariants.{Going, Ended, Stopped}
+use Rattle.bz_engine.specs.declared.report.End.{End}
+use Rattle.bz_engine.specs.declared.report.End.TheVariants.{Whole, Syntax, FirstFailure}
+use Rattle.bz_engine.specs.Device.{joined, ends, NoneEnds}
+use Rattle.bz_engine.specs.Ahead.{Ahead, IsReadOn, IsNextChunk}
+use Rattle.bz_engine.specs.Meaning.{meaning}
+use Rattle.bz_engine.specs.File.{Give, Gives}
+use Rattle.bz_engine.specs.Messages.{fault_text}
+use Rattle.bz_engine.specs.Outcome.{Script, slots_of, text_after, told_of_all, failures_at, first_of}
+use Rattle.bz_engine.specs.Progress.{Progress, IsKeptOf}
+use Rattle.bz_engine.specs.Edits.{IsDone, IsFailed}
+use Rattle.bz_engine.specs.SessionValue.{SessionValue, IsSession, HasDone, HasEnded, told_of_progress, told_alone}
+use Rattle.bz_engine.proofs.ExchangeLaw.{log_by_pass, missing_lem}
+use Rattle.bz_engine.proofs.MoreReads.{ends_more, open_more, bytes_more, chunks_more, chunk_taken, one_more}
+use Rattle.bz_engine.proofs.Given.{give_fault, give_statement}
+
+-- the chunks of the file behind more reads
+read_on : (v : SessionValue) (mid : Ahead) (max_reads : ℕ) (pieces cs read : List (List ℕ)) (text : List ℕ)
+    → HasDone v pieces cs text → IsReadOn max_reads v.ahead mid read
+    → (rest : List ℕ) → (IsTrue mid.ended → rest ≡ []) → chunks (joined (pieces ++ read) ++ rest) ≡ cs ++ chunks (mid.bytes ++ rest)
+read_on v mid max_reads pieces cs read text done on =
+    chunks_more pieces read cs v.ahead.bytes mid.bytes v.ahead.ended mid.ended done.first on.bytes on.ended on.stays
+
+ended_on : (v : SessionValue) (mid : Ahead) (max_reads : ℕ) (pieces cs read : List (List ℕ)) (text : List ℕ)
+    → HasDone v pieces cs text → IsReadOn max_reads v.ahead mid read → mid.ended ≡ ends (pieces ++ read)
+ended_on v mid max_reads pieces cs read text done on = on.ended ∙ ends_more v.ahead.ended pieces read done.ended on.stays
+
+reads_on : (v : SessionValue) (mid : Ahead) (max_reads : ℕ) (pieces cs read : List (List ℕ)) (text : List ℕ)
+    → HasDone v pieces cs text → IsReadOn max_reads v.ahead mid read → mid.reads ≡ length (pieces ++ read)
+reads_on v mid max_reads pieces cs read text done on =
+    on.reads ∙ ap (λ n. n + length read) done.reads ∙ sym (length-append pieces read)
+
+pub reads_within : (v : SessionValue) (mid : Ahead) (max_reads : ℕ) (pieces cs read : List (List ℕ)) (text : List ℕ)
+    → HasDone v pieces cs text → IsReadOn max_reads v.ahead mid read → length (pieces ++ read) ≤ max_reads
+reads_within v mid max_reads pieces cs read text done on = subst (λ n. n ≤ max_reads) (reads_on v mid max_reads pieces cs read text done on) on.within
+
+-- a chunk was done
+pub went_on : (v : SessionValue) (mid : Ahead) (progress : Progress) (max_reads most n : ℕ) (pieces cs read : List (List ℕ)) (text behind : List ℕ)
+    → (done : HasDone v pieces cs text) → IsReadOn max_reads v.ahead mid read → IsNextChunk most mid n
+    → (edited : IsDone v.home v.passes v.options.keep_going v.options.max_depth cs done.statements (take n mid.bytes) v.progress progress [] behind)
+    → HasDone (record v { ahead = record mid { bytes = drop n mid.bytes }; progress = progress }) (pieces ++ read) (cs ++ take n mid.bytes ∷ []) (text ++ behind)
+went_on v mid progress max_reads most n pieces cs read text behind done on next edited = record {
+  bytes = bytes_more pieces read cs v.ahead.bytes mid.bytes (take n mid.bytes) (drop n mid.bytes) done.bytes on.bytes (sym (take-append-drop n mid.bytes));
+  reads = reads_on v mid max_reads pieces cs read text done on;
+  ended = ended_on v mid max_reads pieces cs read text done on;
+  none_ends = open_more v.ahead.ended mid.ended pieces read on.ended done.none_ends on.none_ends;
+  few = next.left;
+  first = λ rest over.
+      chunk_taken cs mid.bytes rest (joined (pieces ++ read) ++ rest) n (read_on v mid max_reads pieces cs read text done on rest over) (next.ends rest over)
+      ∙ one_more cs (chunks (drop n mid.bytes ++ rest)) (take n mid.bytes);
+  statements = done.statements ++ edited.more;
+  kept = edited.kept;
+  text_is = ap (λ l. l ++ behind) done.text_is ∙ ap (λ l. text_after v.home v.passes done.statements ++ l) edited.appended ∙ sym edited.text;
+  calm = λ h. edited.calm h (done.calm h);
+}
+
+-- what is told at the end of the file
+told_whole : (home : Package) (passes : Script) (cs : List (List ℕ)) (depth : ℕ) (ss : List Statement) (p : Progress)
+    → IsKeptOf home passes depth cs ss p → told_of_progress home passes p ≡ told_of_all home passes ss
+told_whole home passes cs depth ss p kept =
+    rw (kept.left.kept, kept.left.changed, kept.left.failed, ← log_by_pass (meaning home) passes (slots_of ss), ← missing_lem (meaning home) passes (slots_of ss)) refl
+
+-- the input has ended
+pub ended_whole : (v : SessionValue) (mid : Ahead) (max_reads : ℕ) (pieces cs read : List (List ℕ)) (text : List ℕ)
+    → HasDone v pieces cs text → IsReadOn max_reads v.ahead mid read → mid.bytes ≡ [] → IsTrue mid.ended
+    → HasEnded (record v { ahead = mid }) Whole (pieces ++ read) text
+ended_whole v mid max_reads pieces cs read text done on nothing over = record {
+  each = λ rest last.
+      let none : rest ≡ [] = last (subst IsTrue (ended_on v mid max_reads pieces cs read text done on) over) in
+      let all : chunks (joined (pieces ++ read) ++ rest) ≡ cs =
+      read_on v mid max_reads pieces cs read text done on rest (λ h. none) ∙ ap (λ l. cs ++ chunks (l ++ rest)) nothing ∙ ap (λ l. cs ++ chunks l) none ∙ append-nil cs in
+      inl (record {
+        statements = done.statements;
+        fault = None;
+        read = subst (λ l. Give v.options.max_depth 1 l done.statements None) (sym all) done.kept.read;
+        calm = λ h. sym done.kept.left.failed ∙ done.calm h;
+        text_is = done.text_is;
+        told_is = told_whole v.home v.passes cs v.options.max_depth done.statements v.progress done.kept;
+      });
+}
+
+-- a chunk has a fault
+pub ended_fault : (v : SessionValue) (mid : Ahead) (fault : SyntaxFault) (max_reads most n : ℕ) (pieces cs read : List (List ℕ)) (text : List ℕ)
+    → HasDone v pieces cs text → IsReadOn max_reads v.ahead mid read → IsNextChunk most mid n
+    → Gives v.options.max_depth v.progress.line (take n mid.bytes) (Err fault)
+    → HasEnded (record v { ahead = mid }) (Syntax fault) (pieces ++ read) text
+ended_fault v mid fault max_reads most n pieces cs read text done on next gives = record {
+  each = λ rest last.
+      let over : IsTrue mid.ended → rest ≡ [] = λ h. last (subst IsTrue (ended_on v mid max_reads pieces cs read text done on) h) in
+      let all : chunks (joined (pieces ++ read) ++ rest) ≡ cs ++ take n mid.bytes ∷ chunks (drop n mid.bytes ++ rest) =
+      chunk_taken cs mid.bytes rest (joined (pieces ++ read) ++ rest) n (read_on v mid max_reads pieces cs read text done on rest over) (next.ends rest over) in
+      inl (record {
+        statements = done.statements;
+        fault = Some fault;
+        read = subst (λ l. Give v.options.max_depth 1 l done.statements (Some fault)) (sym all)
+            (give_fault v.options.max_depth v.progress.line cs done.statements (take n mid.bytes) (chunks (drop n mid.bytes ++ rest)) fault done.kept.read done.kept.line gives);
+        calm = λ h. sym done.kept.left.failed ∙ done.calm h;
+        text_is = done.text_is;
+        told_is = ap (λ b. told_alone (fault_text fault ∷ []) b (Syntax fault)) done.kept.left.changed;
+      });
+}
+
+-- an execution fails on a chunk's statement, and failures end the run
+pub ended_failure : (v : SessionValue) (mid : Ahead) (progress : Progress) (message : Option (List ℕ)) (behind : List ℕ) (max_reads most n : ℕ) (pieces cs read : List (List ℕ)) (text : List ℕ)
+    → HasDone v pieces cs text → IsReadOn max_reads v.ahead mid read → IsNextChunk most mid n
+    → IsFailed v.home v.passes v.options.keep_going v.options.max_depth (take n mid.bytes) message v.progress progress [] behind
+    → HasEnded (record v { ahead = mid; progress = progress; failure = message }) FirstFailure (pieces ++ read) text
+ended_failure v mid progress message behind max_reads most n pieces cs read text done on next failed = record {
+  each = λ rest last.
+      let over : IsTrue mid.ended → rest ≡ [] = λ h. last (subst IsTrue (ended_on v mid max_reads pieces cs read text done on) h) in
+      let all : chunks (joined (pieces ++ read) ++ rest) ≡ cs ++ take n mid.bytes ∷ chunks (drop n mid.bytes ++ rest) =
+      chunk_taken cs mid.bytes rest (joined (pieces ++ read) ++ rest) n (read_on v mid max_reads pieces cs read text done on rest over) (next.ends rest over) in
+      let calm : v.progress.failed ≡ false = done.calm failed.ends in
+      inr (record {
+        ends = failed.ends;
+        before = done.statements;
+        statement = failed.statement;
+        read = record {
+          front = cs ++ take n mid.bytes ∷ [];
+          behind = chunks (drop n mid.bytes ++ rest);
+          chunks_are = all ∙ one_more cs (chunks (drop n mid.bytes ++ rest)) (take n mid.bytes);
+          read = give_statement v.options.max_depth v.progress.line cs done.statements (take n mid.bytes) failed.statement done.kept.read done.kept.line failed.read;
+        };
+        calm = sym done.kept.left.failed ∙ calm;
+        fails = failed.fails calm;
+        text_is = done.text_is;
+        told_is = ap (λ l. told_alone l progress.changed FirstFailure) (failed.message_is calm)
+            ∙ ap (λ b. told_alone (first_of (failures_at v.home v.passes failed.statement)) b FirstFailure) (failed.changed ∙ done.kept.left.changed);
+      });
+}
+
+-- a stopped session keeps to little
+going_not_stopped : (s : Stage) → s ≡ Stopped → s ≡ Going → ⊥
+going_not_stopped s h i = stopped_going (sym h ∙ i)
+  where
+    is_stopped : Stage → Bool
+    is_stopped Going = false
+    is_stopped (Ended end) = false
+    is_stopped Stopped = true
+
+    stopped_going : Stopped ≡ Going → ⊥
+    stopped_going k = false≢true (sym (ap is_stopped k))
+
+ended_not_stopped : (s : Stage) (end : End) → s ≡ Stopped → s ≡ Ended end → ⊥
+ended_not_stopped s end h i = stopped_ended (sym h ∙ i)
+  where
+    is_stopped : Stage → Bool
+    is_stopped Going = false
+    is_stopped (Ended end) = false
+    is_stopped Stopped = true
+
+    stopped_ended : Stopped ≡ Ended end → ⊥
+    stopped_ended k = false≢true (sym (ap is_stopped k))
+
+pub stopped_session : (v : SessionValue) → v.stage ≡ Stopped → v.options.max_reads ≤ 2 ^ 50 → v.ahead.reads ≤ v.options.max_reads → IsSession v
+stopped_session v stopped limit made = record {
+  limit = limit;
+  made = made;
+  ready = λ h. absurd (going_not_stopped v.stage stopped h);
+  fits = λ end h. absurd (ended_not_stopped v.stage end stopped h);
+}
+
+-- the input is too long
+pub too_long_there : (v : SessionValue) (mid : Ahead) (max_reads : ℕ) (pieces cs read : List (List ℕ)) (text : List ℕ)
+    → HasDone v pieces cs text → IsReadOn max_reads v.ahead mid read → mid.reads ≡ max_reads → mid.ended ≡ false
+    → (length (pieces ++ read) ≡ max_reads) × NoneEnds (pieces ++ read)
+too_long_there v mid max_reads pieces cs read text done on all going = (
+  sym (reads_on v mid max_reads pieces cs read text done on) ∙ all,
+  open_more v.ahead.ended mid.ended pieces read on.ended done.none_ends on.none_ends going,
+)

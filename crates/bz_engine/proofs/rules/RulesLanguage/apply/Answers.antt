@@ -1,0 +1,10 @@
+use Rattle.std.proofs.Common.{◌∙◌, ◌++◌, ap}
+use Rattle.bz_tree.specs.View.{slot_view}
+use Rattle.bz_engine.proofs.Noted.{says_found}
+use Rattle.bz_engine.proofs.rules.RulesLanguage.apply.Goals as goal
+
+pub returns-clause-log : goal.returns-clause-log
+returns-clause-log c =
+    let done = c.in_ok-done.ensures in
+    c.in_ok-tell_done.ensures
+    ∙ ap (λ told. c.args.log.now ++ told) (says_found c.args.command.now c.args.self.now.home.now (slot_view c.args.slot.now) (slot_view c.apply.new.slot) c.in_ok-done.done done.slot done.done done.failed)

@@ -1,0 +1,89 @@
+use Rattle.std.proofs.Common.{◌≡◌, ◌+◌, ◌-◌, ◌*◌, ◌<◌, ◌≤◌, [], ◌∷◌, ◌++◌, refl, ◌∙◌, ap, sym, subst, length, append-nil}
+use Rattle.std.specs.Prelude.{IsErrAnd, Ok, Err}
+use Rattle.bz_engine.specs.declared.run_fault.RunFault.{RunFault}
+use Rattle.bz_engine.specs.declared.run_fault.RunFault.TheVariants.{InputTooLong, Stopped, ReadFailed, WriteFailed}
+use Rattle.bz_engine.specs.Outcome.{told_by}
+use Rattle.bz_engine.specs.SessionValue.{HasDone}
+use Rattle.bz_engine.proofs.Runs.{started, shorter, outcome_is, where_ok, ok_is_no_err}
+use Rattle.bz_engine.proofs.runner.run.Goals as goal
+
+pub loop-session-init : goal.loop-session-init
+loop-session-init g c =
+    let new = c.in_ok-session.ensures in
+    record {
+      home = ap (λ s. s.home) new;
+      passes = ap (λ s. s.passes) new;
+      options = ap (λ s. s.options) new;
+      goes = ap (λ s. s.stage) new;
+      pieces = [];
+      cs = [];
+      text = [];
+      gave = g.met.S.Source.gave_nothing _;
+      took = g.met.W.Sink.took_nothing _;
+      done = subst (λ s. HasDone s [] [] []) (sym new) (started c.args.home c.args.passes.items c.args.options);
+      read_steady = refl;
+      write_steady = refl;
+    }
+
+pub loop-session-preserved : goal.loop-session-preserved
+loop-session-preserved g c =
+    let inv = c.loop-session.invariant in
+    let same = c.step.ensures.same in
+    let answer = c.in_ok-step.was ∙ ap Ok c.in-More.is in
+    let more = c.step.ensures.more answer in
+    let done = more.1 inv.pieces inv.cs inv.text inv.done in
+    record {
+      home = same.home ∙ inv.home;
+      passes = same.passes ∙ inv.passes;
+      options = same.options ∙ inv.options;
+      goes = more.0;
+      pieces = inv.pieces ++ done.0;
+      cs = inv.cs ++ done.1 ∷ [];
+      text = inv.text ++ done.2;
+      gave = g.met.S.Source.gave_more _ _ _ _ _ inv.gave done.3;
+      took = g.met.W.Sink.took_more _ _ _ _ _ inv.took done.4;
+      done = done.7;
+      read_steady = c.step.ensures.steady.0 (λ h. ok_is_no_err _ _ ReadFailed answer h) ∙ inv.read_steady;
+      write_steady = c.step.ensures.steady.1 (λ h. ok_is_no_err _ _ WriteFailed answer h) ∙ inv.write_steady;
+    }
+
+pub loop-session-smaller : goal.loop-session-smaller
+loop-session-smaller g c =
+    let inv = c.loop-session.invariant in
+    let old = c.loop-session.session in
+    let new = c.step.new.self in
+    let more = c.step.ensures.more (c.in_ok-step.was ∙ ap Ok c.in-More.is) in
+    let done = more.1 inv.pieces inv.cs inv.text inv.done in
+    let within : new.ahead.reads ≤ old.options.max_reads =
+    subst (λ o. new.ahead.reads ≤ o.max_reads) c.step.ensures.same.options (subst (λ v. v.ahead.reads ≤ v.options.max_reads) c.session.view_is c.session.invariant.made) in
+    subst (λ o. 8193 * (o.max_reads - new.ahead.reads) + length new.ahead.bytes < 8193 * (old.options.max_reads - old.ahead.reads) + length old.ahead.bytes) (sym c.step.ensures.same.options)
+    (shorter old new old.options.max_reads inv.pieces inv.cs done.0 done.1 inv.text (inv.text ++ done.2) inv.done done.7 done.5 done.6 within)
+
+pub returns-in_err-step-clause-too_long : goal.returns-in_err-step-clause-too_long
+returns-in_err-step-clause-too_long g c told =
+    let inv = c.loop-session.invariant in
+    let same : (let fault : RunFault = InputTooLong in fault) ≡ c.in_err-step.field-0.0 = subst (λ r. IsErrAnd r (λ e. e ≡ c.in_err-step.field-0.0)) told c.from_residual-in_err-step.ensures.1 in
+    let all = c.step.ensures.too_long (c.in_err-step.was ∙ ap Err (sym same)) inv.pieces inv.cs inv.text inv.done in
+    (inv.pieces ++ all.0, g.met.S.Source.gave_more _ _ _ _ _ inv.gave all.1, all.2 ∙ ap (λ o. o.max_reads) (c.step.ensures.same.options ∙ inv.options), all.3)
+
+pub returns-in_err-step-clause-going : goal.returns-in_err-step-clause-going
+returns-in_err-step-clause-going g c told =
+    let same : (let fault : RunFault = Stopped in fault) ≡ c.in_err-step.field-0.0 = subst (λ r. IsErrAnd r (λ e. e ≡ c.in_err-step.field-0.0)) told c.from_residual-in_err-step.ensures.1 in
+    c.step.ensures.runs c.loop-session.invariant.goes (c.in_err-step.was ∙ ap Err (sym same))
+
+pub returns-in-End-clause-outcome : goal.returns-in-End-clause-outcome
+returns-in-End-clause-outcome g c =
+    let inv = c.loop-session.invariant in
+    let same = c.step.ensures.same in
+    let end = c.step.ensures.end (c.in_ok-step.was ∙ ap Ok c.in-End.is) inv.goes in
+    let over = end.2 inv.pieces inv.cs inv.text inv.done in
+    where_ok c.finish.result (λ report told. (
+      inv.pieces ++ over.0,
+      inv.text,
+      g.met.S.Source.gave_more _ _ _ _ _ inv.gave over.1,
+      subst (λ t. g.W.Sink.took c.args.sink.now t c.step.new.sink) (append-nil inv.text) (g.met.W.Sink.took_more _ _ _ _ _ inv.took over.2),
+      subst (λ o. length (inv.pieces ++ over.0) ≤ o.max_reads) (same.options ∙ inv.options) over.3,
+      outcome_is c.step.new.self c.args.home c.args.passes.items c.args.options end.0 (told_by report) (inv.pieces ++ over.0) inv.text
+          (same.home ∙ inv.home) (same.passes ∙ inv.passes) (same.options ∙ inv.options) told over.4,
+    ))
+    (c.finish.ensures.report end.0 end.1)

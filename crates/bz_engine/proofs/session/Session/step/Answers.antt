@@ -1,0 +1,57 @@
+use Rattle.std.proofs.Common.{◌≡◌, [], ◌∷◌, ◌++◌, ◌∙◌, ap, sym, subst, length, ◌≤◌}
+use Rattle.std.specs.Prelude.{IsErrAnd, Ok, Err}
+use Rattle.bz_engine.specs.declared.run_fault.RunFault.{RunFault}
+use Rattle.bz_engine.specs.declared.run_fault.RunFault.TheVariants.{InputTooLong}
+use Rattle.bz_engine.specs.declared.session.Stage.TheVariants.{Stopped}
+use Rattle.bz_engine.specs.SessionValue.{HasDone, HasEnded}
+use Rattle.bz_engine.proofs.Advances.{restaged, which_end, more_is_no_end, end_is_not_more}
+use Rattle.bz_engine.proofs.session.Session.step.Goals as goal
+use Rattle.bz_engine.proofs.session.Session.step.Goals.{in-Going-stage, in_default}
+
+pub returns-in_err-self-inside-clause-too_long : goal.returns-in_err-self-inside-clause-too_long
+returns-in_err-self-inside-clause-too_long g c told pieces cs text before =
+    let done = restaged _ Stopped pieces cs text (subst (λ v. HasDone v pieces cs text) (sym c.self.view_is) before) in
+    let same : (let fault : RunFault = InputTooLong in fault) ≡ c.in_err-self-inside.field-0.0 = subst (λ r. IsErrAnd r (λ e. e ≡ c.in_err-self-inside.field-0.0)) told c.from_residual.ensures.1 in
+    c.advance.ensures.too_long (c.in_err-self-inside.was ∙ ap Err (sym same)) pieces cs text done
+
+pub returns-clause-more : goal.returns-clause-more
+returns-clause-more g c told =
+    elim c.match-self-2.branch [
+      | in-Going-stage w ↦ (
+        w.in-Going-stage.is,
+        λ pieces cs text before.
+            let done = restaged _ Stopped pieces cs text (subst (λ v. HasDone v pieces cs text) (sym c.self.view_is) before) in
+            let more = c.advance.ensures.more (c.in_ok-self-inside.was ∙ ap Ok w.in-Going-stage.is) pieces cs text done in (
+              more.0,
+              more.1,
+              more.2,
+              more.3,
+              more.4,
+              more.5,
+              more.6,
+              restaged _ c.in_ok-self-inside.field-0 (pieces ++ more.0) (cs ++ more.1 ∷ []) (text ++ more.2)
+                  (subst (λ v. HasDone v (pieces ++ more.0) (cs ++ more.1 ∷ []) (text ++ more.2)) (sym c.self-2.view_is) more.7),
+            ),
+      )
+      | in_default w ↦ more_is_no_end c.match-self-2.result told w.result-is
+    ]
+
+pub returns-clause-end : goal.returns-clause-end
+returns-clause-end g c told going =
+    elim c.match-self-2.branch [
+      | in-Going-stage w ↦ end_is_not_more c.match-self-2.result told w.result-is
+      | in_default w ↦
+          let last = which_end c.in_ok-self-inside.field-0 w.in_default.not-Going (λ h. c.advance.ensures.runs.1 (c.in_ok-self-inside.was ∙ ap Ok h)) in (
+            last.0,
+            last.1,
+            λ pieces cs text before.
+                let done = restaged _ Stopped pieces cs text (subst (λ v. HasDone v pieces cs text) (sym c.self.view_is) before) in
+                let over = c.advance.ensures.end last.0 (c.in_ok-self-inside.was ∙ ap Ok last.1) pieces cs text done in (
+                  over.0,
+                  over.1,
+                  over.2,
+                  subst (λ v. length (pieces ++ over.0) ≤ v.options.max_reads) (sym c.self-2.view_is) over.3,
+                  subst (λ v. HasEnded v last.0 (pieces ++ over.0) text) (sym c.self-2.view_is) over.4,
+                ),
+          )
+    ]

@@ -1,0 +1,61 @@
+-- What targets mark and what commands do to the statement in a slot, and what is told of it: the language of passes over BUILD files.
+use Rattle.std.specs.Prelude.{ℕ, Bool, false, List, [], ◌∷◌, ◌++◌, Option, None, Some}
+use Rattle.bz_tree.specs.Tree.{Statement}
+use Rattle.bz_rule.specs.Labels.{Package, Target, must_mark}
+use Rattle.bz_rule.specs.Commands.{Command}
+use Rattle.bz_rule.specs.Marks.{marks}
+use Rattle.bz_rule.specs.Texts.{shown_text}
+use Rattle.bz_rule.specs.Effects.{fails}
+use Rattle.bz_rule.specs.Applied.{after, done_of}
+use Rattle.bz_rule.specs.declared.done.Done.{Done}
+use Rattle.bz_rule.specs.declared.done.Note.{Note}
+use Rattle.bz_rule.specs.declared.done.Note.TheVariants.{Missing}
+use Rattle.bz_engine.specs.declared.entry.Entry.{Entry}
+use Rattle.bz_engine.specs.declared.entry.Entry.TheVariants.{Line, Warning, Failure}
+use Rattle.bz_engine.specs.Messages.{not_found_text, note_text}
+use Rattle.bz_engine.specs.Passes.{Meaning, Slot}
+
+-- an empty slot is never marked
+abbrev pub marks_slot : Target → Slot Statement → Bool
+marks_slot target None = false
+marks_slot target (Some s) = marks target s
+
+-- what is printed of a rule
+abbrev pub line_told : Option (List ℕ) → List Entry
+line_told None = []
+line_told (Some line) = Line line ∷ []
+
+-- a missing field is a warning, each other note a failure
+abbrev pub note_told : List ℕ → Option Note → List Entry
+note_told rule None = []
+note_told rule (Some (Missing field)) = Warning (note_text rule (Missing field)) ∷ []
+note_told rule (Some note) = Failure (note_text rule note) ∷ []
+
+abbrev pub done_told : List ℕ → Done → List Entry
+done_told rule done = line_told done.line ++ note_told rule done.note
+
+-- the slot's rule, as it is shown
+abbrev pub shown_slot : Package → Slot Statement → List ℕ
+shown_slot home None = []
+shown_slot home (Some s) = shown_text home s
+
+-- the rule is shown as the command finds it
+abbrev pub says : Package → Command → Slot Statement → List Entry
+says home command slot = done_told (shown_slot home slot) (done_of command home slot)
+
+abbrev pub meaning : Package → Meaning Statement Target Command Entry
+meaning home = record {
+  marks = marks_slot;
+  must_mark = must_mark;
+  not_found = λ target. Failure (not_found_text home target);
+  after = λ command slot. after command home slot;
+  says = says home;
+}
+
+-- whether the command makes the slot another than it was
+abbrev pub changes : Package → Command → Slot Statement → Bool
+changes home command slot = (done_of command home slot).changed
+
+-- whether it fails there
+abbrev pub fails_on : Package → Command → Slot Statement → Bool
+fails_on home command slot = fails (done_of command home slot).note

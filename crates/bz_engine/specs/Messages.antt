@@ -1,0 +1,53 @@
+-- The texts of messages (this project's own rule): a rule is shown by its label, a fault by its line and column.
+use Rattle.std.specs.Prelude.{ℕ, List, ◌++◌, codes}
+use Rattle.std.specs.Fmt.{decimal}
+use Rattle.bz_token.specs.declared.fault.LexFault.{LexFault}
+use Rattle.bz_token.specs.declared.fault.LexFault.TheVariants.{OutOfMemory, BadCharacter, BadNumber, OpenText, BadBracket, OpenBracket, TooDeep, BadBackslash}
+use Rattle.bz_tree.specs.declared.fault.ParseFault.{ParseFault}
+use Rattle.bz_tree.specs.declared.fault.ParseFault.TheVariants as parse
+use Rattle.bz_rule.specs.declared.done.Note.{Note}
+use Rattle.bz_rule.specs.declared.done.Note.TheVariants.{Missing, NoAttribute, AttributeExists, NotAList, NoValue}
+use Rattle.bz_rule.specs.Labels.{Package, Target}
+use Rattle.bz_rule.specs.Texts.{label_text}
+use Rattle.bz_engine.specs.declared.report.SyntaxFault.{SyntaxFault}
+use Rattle.bz_engine.specs.declared.report.SyntaxFault.TheVariants.{NotUtf8, Parse}
+
+-- a target that had to mark something and marked nothing
+abbrev pub not_found_text : Package → Target → List ℕ
+not_found_text home target = label_text home target ++ codes ": no such rule"
+
+-- a note on a rule, which is shown as the command found it
+abbrev pub note_text : List ℕ → Note → List ℕ
+note_text rule (Missing attr) = rule ++ codes ": no attribute '" ++ attr ++ codes "' to print"
+note_text rule (NoAttribute attr) = rule ++ codes ": no attribute '" ++ attr ++ codes "'"
+note_text rule (AttributeExists attr) = rule ++ codes ": attribute '" ++ attr ++ codes "' is already there"
+note_text rule (NotAList attr) = rule ++ codes ": attribute '" ++ attr ++ codes "' has no list"
+note_text rule (NoValue attr value) = rule ++ codes ": no value '" ++ value ++ codes "' in attribute '" ++ attr ++ codes "'"
+
+-- a fault at a line and a column
+abbrev pub placed : ℕ → ℕ → List ℕ → List ℕ
+placed line col what = decimal line ++ codes ":" ++ decimal col ++ codes ": " ++ what
+
+-- a fault of a line
+abbrev pub lined : ℕ → List ℕ → List ℕ
+lined line what = decimal line ++ codes ": " ++ what
+
+abbrev pub lex_text : LexFault → List ℕ
+lex_text OutOfMemory = codes "out of memory"
+lex_text (BadCharacter line col) = placed line col (codes "bad character")
+lex_text (BadNumber line col) = placed line col (codes "bad number")
+lex_text (OpenText line col) = placed line col (codes "string is not closed")
+lex_text (BadBracket line col) = placed line col (codes "bracket does not match")
+lex_text (OpenBracket line col) = placed line col (codes "bracket is not closed")
+lex_text (TooDeep line col) = placed line col (codes "brackets too deep")
+lex_text (BadBackslash line col) = placed line col (codes "bad backslash")
+
+abbrev pub parse_text : ParseFault → List ℕ
+parse_text parse.OutOfMemory = codes "out of memory"
+parse_text (parse.Lex fault) = lex_text fault
+parse_text (parse.Indented line) = lined line (codes "indented statement")
+parse_text (parse.NotAStatement line) = lined line (codes "not a statement")
+
+abbrev pub fault_text : SyntaxFault → List ℕ
+fault_text (NotUtf8 line col) = placed line col (codes "not UTF-8")
+fault_text (Parse fault) = parse_text fault

@@ -1,0 +1,167 @@
+-- What a run over a file gives: the passes one after another on the whole list of its statements, and the result laid out.
+use Rattle.std.specs.Prelude.{◌≡◌, ◌⊎◌, ℕ, Bool, true, false, ◌||◌, if◌then◌else◌, List, [], ◌∷◌, ◌++◌, map, Option, None, Some, codes}
+use Rattle.std.specs.List.{list_all, flat_map}
+use Rattle.bz_token.specs.Chunks.{chunks}
+use Rattle.bz_tree.specs.Tree.{Statement}
+use Rattle.bz_tree.specs.declared.stmt.Class.{Class}
+use Rattle.bz_layout.specs.Layout.{layout_text}
+use Rattle.bz_layout.specs.Gaps.{blank_between}
+use Rattle.bz_rule.specs.Labels.{Package, Target}
+use Rattle.bz_rule.specs.Commands.{Command, is_print}
+use Rattle.bz_engine.specs.declared.entry.Entry.{Entry}
+use Rattle.bz_engine.specs.declared.entry.Entry.TheVariants.{Line, Warning, Failure}
+use Rattle.bz_engine.specs.declared.report.SyntaxFault.{SyntaxFault}
+use Rattle.bz_engine.specs.declared.report.End.{End}
+use Rattle.bz_engine.specs.declared.report.End.TheVariants.{Whole, Syntax, FirstFailure}
+use Rattle.bz_engine.specs.declared.report.Report.{Report}
+use Rattle.bz_engine.specs.Passes.{Pass, Slot, slots_after, log_of, some_execution, some_missing}
+use Rattle.bz_engine.specs.Exchange.{Kept, kept_alone, some_alone}
+use Rattle.bz_engine.specs.Messages.{fault_text}
+use Rattle.bz_engine.specs.Meaning.{meaning, changes, fails_on}
+use Rattle.bz_engine.specs.File.{Give, IsFile}
+
+abbrev pub Script : Type 0
+Script = List (Pass Target Command)
+
+-- a script whose commands all print only asks
+abbrev pub is_query : Script → Bool
+is_query passes = list_all (λ p. list_all is_print p.commands) passes
+
+-- the statements as slots
+abbrev pub slots_of : List Statement → List (Slot Statement)
+slots_of statements = map Some statements
+
+abbrev pub gap_text : Bool → List ℕ
+gap_text blank = if blank then codes "\n" else []
+
+-- the text of slots behind a statement of this class, or at the start
+abbrev pub text_behind : Option Class → List (Slot Statement) → List ℕ
+text_behind last [] = []
+text_behind last (None ∷ slots) = text_behind last slots
+text_behind last (Some s ∷ slots) = gap_text (blank_between last s.class) ++ (layout_text s ++ text_behind (Some s.class) slots)
+
+-- the text of slots; none for a query
+abbrev pub shown_text : Script → List (Slot Statement) → List ℕ
+shown_text passes slots = if is_query passes then [] else text_behind None slots
+
+-- the text of the statements as the script left them
+abbrev pub text_after : Package → Script → List Statement → List ℕ
+text_after home passes statements = shown_text passes (slots_after (meaning home) passes (slots_of statements))
+
+-- the text of an entry where it is a line, where it is a message, and where it is the message of a failure
+abbrev pub line_text : Entry → List (List ℕ)
+line_text (Line text) = text ∷ []
+line_text (Warning text) = []
+line_text (Failure text) = []
+
+abbrev pub message_text : Entry → List (List ℕ)
+message_text (Line text) = []
+message_text (Warning text) = text ∷ []
+message_text (Failure text) = text ∷ []
+
+abbrev pub failure_text : Entry → List (List ℕ)
+failure_text (Line text) = []
+failure_text (Warning text) = []
+failure_text (Failure text) = text ∷ []
+
+-- what a run tells beside its text
+pub record Told : Type 0 where
+  pub lines : List (List ℕ)
+  pub messages : List (List ℕ)
+  pub changed : Bool
+  pub failed : Bool
+  pub end : End
+
+-- whether some execution changed the statement that it found, and whether some failed there
+abbrev pub some_change : Package → Script → List Statement → Bool
+some_change home passes statements = some_execution (meaning home) (changes home) passes (slots_of statements)
+
+abbrev pub some_failure : Package → Script → List Statement → Bool
+some_failure home passes statements = some_execution (meaning home) (fails_on home) passes (slots_of statements)
+
+-- what is told of a file without fault: the whole log
+abbrev pub told_of_all : Package → Script → List Statement → Told
+told_of_all home passes statements = record {
+  lines = flat_map line_text (log_of (meaning home) passes (slots_of statements));
+  messages = flat_map message_text (log_of (meaning home) passes (slots_of statements));
+  changed = some_change home passes statements;
+  failed = some_failure home passes statements || some_missing (meaning home) passes (slots_of statements);
+  end = Whole;
+}
+
+-- a fault of the file is the only message
+abbrev pub told_of_fault : Package → Script → List Statement → SyntaxFault → Told
+told_of_fault home passes statements fault = record {
+  lines = [];
+  messages = fault_text fault ∷ [];
+  changed = some_change home passes statements;
+  failed = true;
+  end = Syntax fault;
+}
+
+abbrev pub told_of : Package → Script → List Statement → Option SyntaxFault → Told
+told_of home passes statements None = told_of_all home passes statements
+told_of home passes statements (Some fault) = told_of_fault home passes statements fault
+
+-- whether some execution fails on a statement, and the messages of those that do, in pass and command order
+abbrev pub fails_at : Package → Script → Statement → Bool
+fails_at home passes s = some_alone (meaning home) (fails_on home) passes (Some s)
+
+abbrev pub log_alone : {M : Type 0} → List (Kept M) → List M
+log_alone kept = flat_map (λ k. flat_map (λ log. log) k.logs) kept
+
+abbrev pub failures_at : Package → Script → Statement → List (List ℕ)
+failures_at home passes s = flat_map failure_text (log_alone (kept_alone (meaning home) passes (Some s)))
+
+abbrev pub first_of : List (List ℕ) → List (List ℕ)
+first_of [] = []
+first_of (text ∷ texts) = text ∷ []
+
+-- what is told where the run ends at a statement: the first failure there is the only message
+abbrev pub told_of_failure : Package → Script → List Statement → Statement → Told
+told_of_failure home passes before s = record {
+  lines = [];
+  messages = first_of (failures_at home passes s);
+  changed = some_change home passes before;
+  failed = true;
+  end = FirstFailure;
+}
+
+abbrev pub told_by : Report → Told
+told_by r = record { lines = r.lines; messages = r.messages; changed = r.changed; failed = r.failed; end = r.end }
+
+-- The file begins with these statements: its first chunks have them, and no fault.
+pub record BeginsWith (max_depth : ℕ) (file : List ℕ) (statements : List Statement) : Type 0 where
+  pub front : List (List ℕ)
+  pub behind : List (List ℕ)
+  pub chunks_are : chunks file ≡ front ++ behind
+  pub read : Give max_depth 1 front statements None
+
+-- All executions take place, up to the first fault of the file: failures do not end the run, or there is none.
+pub record IsWholeRun (home : Package) (passes : Script) (keep_going : Bool) (max_depth : ℕ) (file text : List ℕ) (told : Told) : Type 0 where
+  pub statements : List Statement
+  pub fault : Option SyntaxFault
+  pub read : IsFile max_depth file statements fault
+  pub calm : keep_going ≡ false → some_failure home passes statements ≡ false
+  pub text_is : text ≡ text_after home passes statements
+  pub told_is : told ≡ told_of home passes statements fault
+
+-- The run ends at the first statement on which an execution fails: what stands before it is edited and written.
+pub record EndsAtFailure (home : Package) (passes : Script) (keep_going : Bool) (max_depth : ℕ) (file text : List ℕ) (told : Told) : Type 0 where
+  pub ends : keep_going ≡ false
+  pub before : List Statement
+  pub statement : Statement
+  pub read : BeginsWith max_depth file (before ++ statement ∷ [])
+  pub calm : some_failure home passes before ≡ false
+  pub fails : fails_at home passes statement ≡ true
+  pub text_is : text ≡ text_after home passes before
+  pub told_is : told ≡ told_of_failure home passes before statement
+
+-- The text that is written for a file, and what is told.
+abbrev pub IsOutcome : Package → Script → Bool → ℕ → List ℕ → List ℕ → Told → Type 0
+IsOutcome home passes keep_going max_depth file text told =
+    IsWholeRun home passes keep_going max_depth file text told ⊎ EndsAtFailure home passes keep_going max_depth file text told
+
+-- 2 if the run failed, else 0 if it changed something, else 3
+abbrev pub status_of : Report → ℕ
+status_of report = if report.failed then 2 else (if report.changed then 0 else 3)

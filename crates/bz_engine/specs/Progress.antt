@@ -1,0 +1,40 @@
+-- What a run keeps of the chunks that are done.
+use Rattle.std.specs.Prelude.{◌≡◌, ℕ, Bool, if◌then◌else◌, List, [], ◌∷◌, Option, None, Some}
+use Rattle.std.specs.List.{concat}
+use Rattle.bz_token.specs.Places.{line_at}
+use Rattle.bz_tree.specs.Tree.{Statement}
+use Rattle.bz_tree.specs.declared.stmt.Class.{Class}
+use Rattle.bz_rule.specs.Labels.{Package}
+use Rattle.bz_engine.specs.declared.entry.Entry.{Entry}
+use Rattle.bz_engine.specs.Passes.{Slot, slots_after}
+use Rattle.bz_engine.specs.Exchange.{Kept, IsLeftBy, slot_after}
+use Rattle.bz_engine.specs.Meaning.{meaning, changes, fails_on}
+use Rattle.bz_engine.specs.File.{Give}
+use Rattle.bz_engine.specs.Outcome.{Script, slots_of, is_query, text_behind}
+
+-- For each pass and command what was told, whether something changed and failed, the class of the last statement that is left, and the
+-- line on which the next chunk begins.
+pub record Progress : Type 0 where
+  pub kept : List (Kept Entry)
+  pub changed : Bool
+  pub failed : Bool
+  pub last : Option Class
+  pub line : ℕ
+
+-- the class of the last statement in these slots
+abbrev pub last_class : Option Class → List (Slot Statement) → Option Class
+last_class last [] = last
+last_class last (None ∷ slots) = last_class last slots
+last_class last (Some s ∷ slots) = last_class (Some s.class) slots
+
+-- This is kept of these chunks, whose statements these are.
+pub record IsKeptOf (home : Package) (passes : Script) (max_depth : ℕ) (cs : List (List ℕ)) (statements : List Statement) (p : Progress) : Type 0 where
+  pub read : Give max_depth 1 cs statements None
+  pub line : p.line ≡ line_at 1 (concat cs)
+  pub left : IsLeftBy (meaning home) (changes home) (fails_on home) passes (slots_of statements) p.kept p.changed p.failed
+  pub last : p.last ≡ last_class None (slots_after (meaning home) passes (slots_of statements))
+
+-- what one statement more, as the script leaves it, adds to the text
+abbrev pub added : Package → Script → Option Class → List Statement → List ℕ
+added home passes last [] = []
+added home passes last (s ∷ ss) = if is_query passes then [] else text_behind last (slot_after (meaning home) passes (Some s) ∷ [])

@@ -1,0 +1,66 @@
+//! The statement of a chunk.
+
+ghost use Rattle.std.specs.Prelude.{◌≡◌, ℕ, ◌+◌, ◌<◌, ◌≤◌, ◌^◌, ◌==◌, List, count_by, length, IfOk};
+ghost use Rattle.bz_token.specs.Places.{line_at, column_at};
+ghost use Rattle.bz_engine.specs.File.{Gives};
+ghost use Rattle.bz_engine.specs.ChunkRead.{answer_of};
+
+use crate::report::SyntaxFault;
+use bz_token::check_utf8;
+use bz_tree::{ParseFault, Stmt, parse};
+use std::alloc::{AllocError, Global};
+
+/// What a chunk is read as.
+#[derive(Drop)]
+pub(crate) enum ChunkRead<'a> {
+    Blank,
+    Statement(Stmt<'a>),
+    Faulty(SyntaxFault),
+}
+
+/// Reads a chunk by itself. Its first line has this number.
+pub(crate) fn read_chunk<'a>(
+    alloc: Global,
+    chunk: &'a [u8],
+    first_line: u64,
+    max_depth: u8,
+) -> Result<ChunkRead<'a>, AllocError>
+    requires { first_line + length chunk.now < 2 ^ 64 }
+    ensures { IfOk result (λ read. Gives max_depth first_line chunk.now (answer_of read)) }
+{
+    let text = match check_utf8(chunk) {
+        Ok(text) => text,
+        Err(valid) => return Ok(ChunkRead::Faulty(not_utf8(first_line, &chunk[..valid]))),
+    };
+    match parse(alloc, text, first_line, max_depth) {
+        Ok(None) => Ok(ChunkRead::Blank),
+        Ok(Some(stmt)) => Ok(ChunkRead::Statement(stmt)),
+        Err(ParseFault::OutOfMemory) => Err(AllocError),
+        Err(fault) => Ok(ChunkRead::Faulty(SyntaxFault::Parse(fault))),
+    }
+}
+
+/// The fault behind the bytes of a chunk that are UTF-8.
+fn not_utf8(first_line: u64, valid: &[u8]) -> SyntaxFault
+    requires { first_line + length valid.now < 2 ^ 64 }
+    ensures { result ≡ SyntaxFault.NotUtf8 (line_at first_line valid.now) (column_at valid.now) }
+{
+    let mut line = first_line;
+    let mut col = 1u64;
+    for byte in valid {
+        if *byte == b'\n' {
+            line += 1;
+            col = 1;
+        } else {
+            col += 1;
+        }
+    }
+    SyntaxFault::NotUtf8 { line, col }
+}
+
+/// How many newlines are in the bytes.
+pub(crate) fn newlines(bytes: &[u8]) -> u64
+    ensures { result ≡ count_by (λ b. b == 10) bytes.now }
+{
+    bytes.iter().filter(|byte| **byte == b'\n').count() as u64
+}

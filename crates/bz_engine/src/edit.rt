@@ -1,0 +1,215 @@
+//! A whole script on one chunk.
+
+ghost use Rattle.std.specs.Prelude.{◌≡◌, ℕ, ◌+◌, ◌<◌, ◌≤◌, ◌^◌, ◌++◌, Bool, true, false, if◌then◌else◌, List, [], ◌∷◌, Option, None, Some, length, IfOk, OnOk, OnErr, option_map, option_to_list};
+ghost use Rattle.std.specs.List.{flat_map, list_all};
+ghost use Rattle.bz_tree.specs.Tree.{Statement};
+ghost use Rattle.bz_tree.specs.View.{view, slot_view};
+ghost use Rattle.bz_layout.specs.Gaps.{blank_between as is_gap};
+ghost use Rattle.bz_layout.specs.Layout.{layout_text};
+ghost use Rattle.bz_rule.specs.Commands.{is_print};
+ghost use Rattle.bz_engine.specs.Exchange.{Fits};
+ghost use Rattle.bz_engine.specs.Outcome.{is_query, text_behind, gap_text, failure_text, first_of, log_alone};
+ghost use Rattle.bz_engine.specs.Progress.{IsKeptOf, last_class};
+ghost use Rattle.bz_engine.specs.Edits.{IsEdited, IsScripted};
+
+use crate::chunk::{ChunkRead, newlines, read_chunk};
+use crate::entry::Entry;
+use crate::kept::Kept;
+use crate::language::Facts;
+use crate::log::Log;
+use crate::pass::Pass;
+use crate::progress::Progress;
+use crate::report::SyntaxFault;
+use crate::rules::Rules;
+use crate::script::run_script;
+use bz_layout::{blank_between, put_stmt};
+use bz_rule::{Command, Package, Target, Text};
+use bz_tree::{Class, Stmt};
+use std::alloc::{AllocError, Global};
+
+/// What a run is to do with each chunk.
+#[derive(Clone, Copy)]
+pub(crate) struct Script<'a> {
+    pub(crate) alloc: Global,
+    pub(crate) home: &'a Package,
+    pub(crate) passes: &'a [Pass<Target, Command>],
+    /// A failure does not end the run.
+    pub(crate) keep_going: bool,
+    pub(crate) max_depth: u8,
+}
+
+/// What the script made of a chunk.
+#[derive(Drop)]
+pub(crate) enum Edited {
+    /// It is done.
+    Done,
+    /// It could not be read.
+    Faulty(SyntaxFault),
+    /// An execution failed, and failures end the run: the message of the first.
+    Failed(Option<Text>),
+}
+
+/// The script on the next chunk: what it leaves goes behind the text, and what is kept is then that of the chunks with this one.
+/// After a refusal neither the text nor what is kept is of use.
+pub(crate) fn edit_chunk(
+    script: Script<'_>,
+    chunk: &[u8],
+    progress: &mut Progress,
+    text: &mut Vec<u8>,
+) -> Result<Edited, AllocError>
+    requires fits { Fits progress.old.kept script.passes.now }
+    requires lines { progress.old.line + length chunk.now < 2 ^ 64 }
+    ensures fits { OnOk result (Fits progress.new.kept script.entry.passes.now) }
+    ensures lines { OnOk result (progress.new.line ≤ progress.old.line + length chunk.now) }
+    ensures edited { IfOk result (λ edited. (cs : List (List ℕ)) (statements : List Statement)
+        → IsKeptOf script.entry.home.now script.entry.passes.now script.entry.max_depth cs statements progress.old
+        → IsEdited script.entry.home.now script.entry.passes.now script.entry.keep_going script.entry.max_depth cs statements chunk.now
+        progress.old progress.new text.old.items text.new.items edited) }
+{
+    let edited = match read_chunk(script.alloc, chunk, progress.line, script.max_depth)? {
+        ChunkRead::Faulty(fault) => return Ok(Edited::Faulty(fault)),
+        ChunkRead::Blank => Edited::Done,
+        ChunkRead::Statement(stmt) => edit_statement(script, stmt, progress, text)?,
+    };
+    progress.line += newlines(chunk);
+    Ok(edited)
+}
+
+/// The script on one statement.
+fn edit_statement<'a>(
+    script: Script<'a>,
+    stmt: Stmt<'a>,
+    progress: &mut Progress,
+    text: &mut Vec<u8>,
+) -> Result<Edited, AllocError>
+    requires { Fits progress.old.kept script.passes.now }
+    ensures fits { OnOk result (Fits progress.new.kept script.entry.passes.now) }
+    ensures scripted { IfOk result (IsScripted script.entry.home.now script.entry.passes.now script.entry.keep_going (view stmt.entry)
+        progress.old progress.new text.old.items text.new.items) }
+{
+    let rules = Rules {
+        alloc: script.alloc,
+        home: script.home,
+    };
+    let mut slot = Some(stmt);
+    let mut facts = Facts {
+        changed: progress.changed,
+        failed: progress.failed,
+    };
+    let kept = progress.kept.as_mut_slice();
+    run_script(&rules, script.passes, &mut slot, &mut *kept, &mut facts)?;
+    if facts.failed && !script.keep_going {
+        let failure = first_failure(script.alloc, kept)?;
+        return Ok(Edited::Failed(failure));
+    }
+    progress.changed = facts.changed;
+    progress.failed = facts.failed;
+    put_slot(script, progress.last, &slot, text)?;
+    progress.last = last_class(progress.last, &slot);
+    Ok(Edited::Done)
+}
+
+/// The class of the last statement that is left, where this slot is the last.
+fn last_class(last: Option<Class>, slot: &Option<Stmt<'_>>) -> Option<Class>
+    ensures { result ≡ last_class last (slot_view slot.now ∷ []) }
+{
+    match slot {
+        None => last,
+        Some(stmt) => Some(stmt.class),
+    }
+}
+
+/// Whether all commands of a script print: then it only asks, and no text is written.
+pub(crate) fn is_query(passes: &[Pass<Target, Command>]) -> bool
+    ensures { result ≡ is_query passes.now }
+{
+    for pass in passes {
+        if !all_print(pass.commands.as_slice()) {
+            return false;
+        }
+    }
+    true
+}
+
+fn all_print(commands: &[Command]) -> bool
+    ensures { result ≡ list_all is_print commands.now }
+{
+    for command in commands {
+        if !command.is_print() {
+            return false;
+        }
+    }
+    true
+}
+
+/// Writes what is in a slot behind the statement of class `last`.
+fn put_slot(
+    script: Script<'_>,
+    last: Option<Class>,
+    slot: &Option<Stmt<'_>>,
+    text: &mut Vec<u8>,
+) -> Result<(), AllocError>
+    ensures { OnOk result (text.new.items ≡ text.old.items
+        ++ (if is_query script.entry.passes.now then [] else text_behind last (slot_view slot.now ∷ []))) }
+{
+    let Some(stmt) = slot else {
+        return Ok(());
+    };
+    if is_query(script.passes) {
+        return Ok(());
+    }
+    put_behind(script.alloc, last, stmt, text)?;
+    Ok(())
+}
+
+/// Writes a statement behind another.
+fn put_behind(
+    alloc: Global,
+    last: Option<Class>,
+    stmt: &Stmt<'_>,
+    text: &mut Vec<u8>,
+) -> Result<(), AllocError>
+    ensures { OnOk result (text.new.items ≡ text.old.items
+        ++ (gap_text (is_gap last stmt.now.class) ++ layout_text (view stmt.now))) }
+{
+    if blank_between(last, stmt.class) {
+        text.push(b'\n')?;
+    }
+    put_stmt(alloc, stmt, text)?;
+    Ok(())
+}
+
+/// The message of the first failure that was told, by pass and command.
+fn first_failure(alloc: Global, kept: &[Kept<Entry>]) -> Result<Option<Text>, AllocError>
+    ensures { IfOk result (λ message. option_to_list message ≡ first_of (flat_map failure_text (log_alone kept.now))) }
+{
+    for pass in kept {
+        if let Some(message) = first_in_pass(pass) {
+            let message = Text::from_str(alloc, message.as_str())?;
+            return Ok(Some(message));
+        }
+    }
+    Ok(None)
+}
+
+fn first_in_pass(pass: &Kept<Entry>) -> Option<&Text>
+    ensures { option_to_list (option_map (λ text. text.now) result) ≡ first_of (flat_map failure_text (flat_map (λ log. log) pass.now.logs)) }
+{
+    for log in &pass.logs {
+        if let Some(message) = first_in_log(log) {
+            return Some(message);
+        }
+    }
+    None
+}
+
+fn first_in_log(log: &Log<Entry>) -> Option<&Text>
+    ensures { option_to_list (option_map (λ text. text.now) result) ≡ first_of (flat_map failure_text log.now) }
+{
+    for entry in log.as_slice() {
+        if let Entry::Failure(message) = entry {
+            return Some(message);
+        }
+    }
+    None
+}

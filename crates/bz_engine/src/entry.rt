@@ -1,0 +1,14 @@
+//! What a run tells.
+
+use bz_rule::Text;
+
+/// Something that a run tells, with its text.
+#[derive(Drop)]
+pub enum Entry {
+    /// What `print` printed of a rule.
+    Line(Text),
+    /// A message that is no failure: a field that was not there to print.
+    Warning(Text),
+    /// The message of a failure.
+    Failure(Text),
+}

@@ -1,0 +1,17 @@
+//! Laws of the definitions that the contracts cite. Each function does nothing: its contract is the law.
+
+ghost use Rattle.std.specs.Prelude.{◌≡◌, ◌↔◌, List, true};
+ghost use Rattle.bz_tree.specs.Tree.{Statement};
+ghost use Rattle.bz_rule.specs.Labels.{Package, Target};
+ghost use Rattle.bz_rule.specs.Commands.{Command};
+ghost use Rattle.bz_engine.specs.Passes.{Pass, Slot, some_execution};
+ghost use Rattle.bz_engine.specs.Changes.{AreCommands, Changes};
+ghost use Rattle.bz_engine.specs.Meaning.{meaning, changes};
+
+/// A run tells that it changed something exactly where some command of the script, when it ran, left some statement
+/// different from what it found.
+pub fn changed_is_a_difference()
+    ensures { (home : Package) (ps : List (Pass Target Command)) (slots : List (Slot Statement)) → AreCommands ps → (some_execution (meaning home) (changes home) ps slots ≡ true) ↔ Changes (meaning home) ps slots }
+{
+    bz_rule::laws::changed_tells_a_difference();
+}

@@ -1,0 +1,119 @@
+//! The texts of messages.
+
+ghost use Rattle.std.specs.Prelude.{◌≡◌, IfOk};
+ghost use Rattle.bz_engine.specs.Messages.{not_found_text, note_text, lex_text, parse_text, fault_text, placed, lined};
+
+use crate::report::SyntaxFault;
+use bz_rule::{Note, Package, Target, Text, label};
+use bz_token::LexFault;
+use bz_tree::ParseFault;
+use std::alloc::{AllocError, Global};
+
+/// A target that had to mark something and marked nothing.
+pub(crate) fn not_found(alloc: Global, home: &Package, target: &Target) -> Result<Text, AllocError>
+    ensures { IfOk result (λ t. t ≡ not_found_text home.now target.now) }
+{
+    let mut text = label(alloc, home, target)?;
+    text.push_str(": no such rule")?;
+    Ok(Text::from_string(text))
+}
+
+/// A note on a rule, which is shown as `rule`.
+pub(crate) fn note_text(alloc: Global, rule: &str, note: &Note) -> Result<Text, AllocError>
+    ensures { IfOk result (λ t. t ≡ note_text rule.now note.now) }
+{
+    match note {
+        Note::Missing(attr) => missing(alloc, rule, attr.as_str()),
+        Note::NoAttribute(attr) => no_attribute(alloc, rule, attr.as_str()),
+        Note::AttributeExists(attr) => attribute_exists(alloc, rule, attr.as_str()),
+        Note::NotAList(attr) => no_list(alloc, rule, attr.as_str()),
+        Note::NoValue { attr, value } => no_value(alloc, rule, attr.as_str(), value.as_str()),
+    }
+}
+
+fn missing(alloc: Global, rule: &str, attr: &str) -> Result<Text, AllocError>
+    ensures { IfOk result (λ t. t ≡ note_text rule.now (Note.Missing attr.now)) }
+{
+    let text = format!(in alloc; "{rule}: no attribute '{attr}' to print")?;
+    Ok(Text::from_string(text))
+}
+
+fn no_attribute(alloc: Global, rule: &str, attr: &str) -> Result<Text, AllocError>
+    ensures { IfOk result (λ t. t ≡ note_text rule.now (Note.NoAttribute attr.now)) }
+{
+    let text = format!(in alloc; "{rule}: no attribute '{attr}'")?;
+    Ok(Text::from_string(text))
+}
+
+fn attribute_exists(alloc: Global, rule: &str, attr: &str) -> Result<Text, AllocError>
+    ensures { IfOk result (λ t. t ≡ note_text rule.now (Note.AttributeExists attr.now)) }
+{
+    let text = format!(in alloc; "{rule}: attribute '{attr}' is already there")?;
+    Ok(Text::from_string(text))
+}
+
+fn no_list(alloc: Global, rule: &str, attr: &str) -> Result<Text, AllocError>
+    ensures { IfOk result (λ t. t ≡ note_text rule.now (Note.NotAList attr.now)) }
+{
+    let text = format!(in alloc; "{rule}: attribute '{attr}' has no list")?;
+    Ok(Text::from_string(text))
+}
+
+fn no_value(alloc: Global, rule: &str, attr: &str, value: &str) -> Result<Text, AllocError>
+    ensures { IfOk result (λ t. t ≡ note_text rule.now (Note.NoValue attr.now value.now)) }
+{
+    let text = format!(in alloc; "{rule}: no value '{value}' in attribute '{attr}'")?;
+    Ok(Text::from_string(text))
+}
+
+/// A fault at a line and a column.
+fn placed(alloc: Global, line: u64, col: u64, what: &str) -> Result<Text, AllocError>
+    ensures { IfOk result (λ t. t ≡ placed line col what.now) }
+{
+    let text = format!(in alloc; "{line}:{col}: {what}")?;
+    Ok(Text::from_string(text))
+}
+
+/// A fault of a line.
+fn lined(alloc: Global, line: u64, what: &str) -> Result<Text, AllocError>
+    ensures { IfOk result (λ t. t ≡ lined line what.now) }
+{
+    let text = format!(in alloc; "{line}: {what}")?;
+    Ok(Text::from_string(text))
+}
+
+fn lex_text(alloc: Global, fault: LexFault) -> Result<Text, AllocError>
+    ensures { IfOk result (λ t. t ≡ lex_text fault) }
+{
+    match fault {
+        LexFault::OutOfMemory => Text::from_str(alloc, "out of memory"),
+        LexFault::BadCharacter { line, col } => placed(alloc, line, col, "bad character"),
+        LexFault::BadNumber { line, col } => placed(alloc, line, col, "bad number"),
+        LexFault::OpenText { line, col } => placed(alloc, line, col, "string is not closed"),
+        LexFault::BadBracket { line, col } => placed(alloc, line, col, "bracket does not match"),
+        LexFault::OpenBracket { line, col } => placed(alloc, line, col, "bracket is not closed"),
+        LexFault::TooDeep { line, col } => placed(alloc, line, col, "brackets too deep"),
+        LexFault::BadBackslash { line, col } => placed(alloc, line, col, "bad backslash"),
+    }
+}
+
+fn parse_text(alloc: Global, fault: ParseFault) -> Result<Text, AllocError>
+    ensures { IfOk result (λ t. t ≡ parse_text fault) }
+{
+    match fault {
+        ParseFault::OutOfMemory => Text::from_str(alloc, "out of memory"),
+        ParseFault::Lex(fault) => lex_text(alloc, fault),
+        ParseFault::Indented { line } => lined(alloc, line, "indented statement"),
+        ParseFault::NotAStatement { line } => lined(alloc, line, "not a statement"),
+    }
+}
+
+/// Why a statement could not be read.
+pub(crate) fn fault_text(alloc: Global, fault: SyntaxFault) -> Result<Text, AllocError>
+    ensures { IfOk result (λ t. t ≡ fault_text fault) }
+{
+    match fault {
+        SyntaxFault::NotUtf8 { line, col } => placed(alloc, line, col, "not UTF-8"),
+        SyntaxFault::Parse(fault) => parse_text(alloc, fault),
+    }
+}

@@ -1,0 +1,29 @@
+//! What a run keeps of the chunks that are done.
+
+use crate::entry::Entry;
+use crate::kept::Kept;
+use bz_tree::Class;
+use std::marker::Model;
+
+/// What a run keeps of the chunks that are done.
+#[derive(Drop)]
+pub(crate) struct Progress {
+    /// For each pass whether it marked something, and for each of its commands what was told.
+    pub(crate) kept: Vec<Kept<Entry>>,
+    /// Some execution changed its statement.
+    pub(crate) changed: bool,
+    /// Some execution failed.
+    pub(crate) failed: bool,
+    /// The class of the last statement that is left.
+    pub(crate) last: Option<Class>,
+    /// The line on which the next chunk begins, from 1.
+    pub(crate) line: u64,
+}
+
+impl Model for Progress {
+    ghost use Rattle.bz_engine.specs.Progress as spec;
+
+    ghost Value = { spec.Progress };
+
+    ghost view = { λ p. record { kept = p.kept.items; changed = p.changed; failed = p.failed; last = p.last; line = p.line } };
+}

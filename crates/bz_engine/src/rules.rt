@@ -1,0 +1,157 @@
+//! The language of passes over BUILD files: targets and commands on the rules of a package.
+
+ghost use Rattle.std.specs.Prelude.{◌≡◌, [], ◌∷◌, ◌++◌, Some, Option, IfOk, OnOk, string_bytes};
+ghost use Rattle.bz_tree.specs.Tree.{Statement};
+ghost use Rattle.bz_tree.specs.View.{slot_view};
+ghost use Rattle.bz_rule.specs.Effects.{fails};
+ghost use Rattle.bz_engine.specs.Meaning.{line_told, note_told, done_told, shown_slot};
+
+use crate::entry::Entry;
+use crate::language::{Facts, Language};
+use crate::log::Log;
+use crate::message;
+use bz_rule::{Command, Done, Note, Package, Target, Text, apply, matches, shown};
+use bz_tree::Stmt;
+use std::alloc::{AllocError, Global};
+
+/// Targets and commands on the rules of a package, whose statements borrow from the file.
+#[derive(Clone, Copy)]
+pub(crate) struct Rules<'a> {
+    pub(crate) alloc: Global,
+    pub(crate) home: &'a Package,
+}
+
+impl<'a> Language for Rules<'a> {
+    type Statement = Stmt<'a>;
+
+    type Target = Target;
+
+    type Command = Command;
+
+    type Entry = Entry;
+
+    ghost use Rattle.bz_engine.specs.Meaning.{meaning, changes, fails_on};
+
+    ghost Seen = { Statement };
+
+    ghost seen = { slot_view };
+
+    ghost meaning = { λ rules. meaning rules.home.now };
+
+    ghost changes = { λ rules. changes rules.home.now };
+
+    ghost fails = { λ rules. fails_on rules.home.now };
+
+    fn marks(&self, target: &Target, slot: &Option<Stmt<'a>>) -> bool {
+        match slot {
+            None => false,
+            Some(stmt) => matches(target, stmt),
+        }
+    }
+
+    fn must_mark(&self, target: &Target) -> bool {
+        target.must_mark()
+    }
+
+    fn not_found(&self, target: &Target) -> Result<Entry, AllocError> {
+        let text = message::not_found(self.alloc, self.home, target)?;
+        Ok(Entry::Failure(text))
+    }
+
+    fn apply(
+        &self,
+        command: &Command,
+        slot: &mut Option<Stmt<'a>>,
+        log: &mut Log<Entry>,
+    ) -> Result<Facts, AllocError> {
+        let done = apply(self.alloc, command, self.home, slot)?;
+        let facts = facts_of(&done);
+        // Where there is a note, the slot is as the command found it.
+        tell_done(self.alloc, self.home, slot, done, log)?;
+        Ok(facts)
+    }
+}
+
+fn facts_of(done: &Done) -> Facts
+    ensures changed { result.changed ≡ done.now.changed }
+    ensures failed { result.failed ≡ fails done.now.note }
+{
+    Facts {
+        changed: done.changed,
+        failed: is_failure(&done.note),
+    }
+}
+
+/// A note with which nothing was done.
+fn is_failure(note: &Option<Note>) -> bool
+    ensures { result ≡ fails note.now }
+{
+    match note {
+        None | Some(Note::Missing(_)) => false,
+        Some(_) => true,
+    }
+}
+
+/// Puts what an execution told behind the log: what it printed, then its note on the rule in the slot.
+fn tell_done(
+    alloc: Global,
+    home: &Package,
+    slot: &Option<Stmt<'_>>,
+    done: Done,
+    log: &mut Log<Entry>,
+) -> Result<(), AllocError>
+    ensures { OnOk result (log.new ≡ log.old ++ done_told (shown_slot home.now (slot_view slot.now)) done) }
+{
+    let Done { line, note, .. } = done;
+    tell_line(line, log)?;
+    tell_note(alloc, home, slot, note, log)?;
+    Ok(())
+}
+
+fn tell_line(line: Option<Text>, log: &mut Log<Entry>) -> Result<(), AllocError>
+    ensures { OnOk result (log.new ≡ log.old ++ line_told line) }
+{
+    if let Some(text) = line {
+        log.push(Entry::Line(text))?;
+    }
+    Ok(())
+}
+
+fn tell_note(
+    alloc: Global,
+    home: &Package,
+    slot: &Option<Stmt<'_>>,
+    note: Option<Note>,
+    log: &mut Log<Entry>,
+) -> Result<(), AllocError>
+    ensures { OnOk result (log.new ≡ log.old ++ note_told (shown_slot home.now (slot_view slot.now)) note) }
+{
+    let Some(note) = note else {
+        return Ok(());
+    };
+    let rule = shown_slot(alloc, home, slot)?;
+    let entry = note_entry(alloc, rule.as_str(), &note)?;
+    log.push(entry)?;
+    Ok(())
+}
+
+/// The rule in a slot, as it is shown; empty where there is none.
+fn shown_slot(alloc: Global, home: &Package, slot: &Option<Stmt<'_>>) -> Result<String, AllocError>
+    ensures { IfOk result (λ text. string_bytes text ≡ shown_slot home.now (slot_view slot.now)) }
+{
+    match slot {
+        None => Ok(String::new(alloc)),
+        Some(stmt) => shown(alloc, home, stmt),
+    }
+}
+
+/// What is told of a note on a rule, which is shown as `rule`: a field that is missing is a warning.
+fn note_entry(alloc: Global, rule: &str, note: &Note) -> Result<Entry, AllocError>
+    ensures { IfOk result (λ entry. entry ∷ [] ≡ note_told rule.now (Some note.now)) }
+{
+    let text = message::note_text(alloc, rule, note)?;
+    match note {
+        Note::Missing(_) => Ok(Entry::Warning(text)),
+        _ => Ok(Entry::Failure(text)),
+    }
+}

@@ -1,0 +1,29 @@
+//! Why a run ended before its report.
+
+ghost use Rattle.std.specs.Prelude.{◌≡◌};
+
+use std::alloc::{AllocError, AllocFailed};
+
+/// Why a run ended before its report.
+#[derive(Clone, Copy, Debug, PartialEq, Eq)]
+pub enum RunFault {
+    OutOfMemory,
+    ReadFailed,
+    WriteFailed,
+    /// All the reads that may be made were made without the end, and another is needed.
+    InputTooLong,
+    /// The chunk that starts at this line has more bytes than it may.
+    StatementTooLong { line: u64 },
+    /// The session was stopped by a fault before, or has not ended yet.
+    Stopped,
+}
+
+impl From<AllocError> for RunFault {
+    ghost use Rattle.bz_engine.specs.declared.run_fault.RunFault.TheVariants.{OutOfMemory};
+
+    ghost from_gives = { λ _ e. e ≡ OutOfMemory };
+
+    fn from(_: AllocError) -> RunFault {
+        RunFault::OutOfMemory
+    }
+}

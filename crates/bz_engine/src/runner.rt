@@ -1,0 +1,50 @@
+//! A run from a source to a sink.
+
+ghost use Rattle.std.specs.Prelude.{◌≡◌, ◌≢◌, ℕ, ◌≤◌, ◌^◌, List, length, IfOk, OnOk, IsTrue, IsErrOf};
+ghost use Rattle.bz_engine.specs.Device.{joined, ends, NoneEnds, Rises};
+ghost use Rattle.bz_engine.specs.EveryFile.{ForEveryFile};
+ghost use Rattle.bz_engine.specs.Outcome.{IsOutcome, told_by};
+
+use crate::device::{Sink, Source};
+use crate::options::Options;
+use crate::pass::Pass;
+use crate::report::Report;
+use crate::run_fault::RunFault;
+use crate::session::{Session, Step};
+use bz_rule::{Command, Package, Target};
+use std::alloc::Global;
+
+/// Makes the passes, one after another, over the whole list of the statements of the input, and writes what they leave.
+///
+/// One statement is held at a time. With `keep_going` every execution takes place; without, the run ends at the first
+/// statement on which one fails. A fault of the file ends its statements, and is then the only message.
+pub fn run<S: Source, W: Sink>(
+    alloc: Global,
+    home: Package,
+    passes: Vec<Pass<Target, Command>>,
+    options: Options,
+    source: &mut S,
+    sink: &mut W,
+) -> Result<Report, RunFault>
+    requires { options.max_reads ≤ 2 ^ 50 }
+    // For every file that begins with what the source gave (once its end was met, for that file), the bytes that were appended and
+    // the report are the outcome of the passes over its statements.
+    ensures outcome { IfOk result (λ report. (pieces : List (List ℕ)) × (text : List ℕ)
+        × S.gave source.old pieces source.new × W.took sink.old text sink.new × (length pieces ≤ options.max_reads)
+        × ForEveryFile pieces (λ file. IsOutcome home passes.items options.keep_going options.max_depth file text (told_by report))) }
+    ensures steady { OnOk result ((S.failures source.new ≡ S.failures source.old) × (W.failures sink.new ≡ W.failures sink.old)) }
+    ensures read_failed { IsErrOf result RunFault.ReadFailed → Rises (S.failures source.old) (S.failures source.new) }
+    ensures write_failed { IsErrOf result RunFault.WriteFailed → Rises (W.failures sink.old) (W.failures sink.new) }
+    // That many reads were made, none of them the end.
+    ensures too_long { IsErrOf result RunFault.InputTooLong → (pieces : List (List ℕ)) × S.gave source.old pieces source.new
+        × (length pieces ≡ options.max_reads) × NoneEnds pieces }
+    ensures going { result ≢ Err RunFault.Stopped }
+{
+    let mut session = Session::new(alloc, home, passes, options)?;
+    loop {
+        match session.step(source, sink)? {
+            Step::More => {}
+            Step::End => return session.finish(),
+        }
+    }
+}

@@ -1,0 +1,332 @@
+//! A run, a chunk at a time.
+
+ghost use Rattle.std.specs.Prelude.{◌≡◌, ◌≢◌, ℕ, ◌+◌, ◌*◌, ◌<◌, ◌≤◌, ◌^◌, ◌++◌, false, List, [], ◌∷◌, length, take, drop, IfOk, OnOk, OnErr, IfSome, IfNone, IsTrue, option_to_list};
+ghost use Rattle.bz_tree.specs.Tree.{Statement};
+ghost use Rattle.bz_engine.specs.Device.{joined, NoneEnds, Rises};
+ghost use Rattle.bz_engine.specs.Exchange.{Fits};
+ghost use Rattle.bz_engine.specs.Ahead.{IsReadOn, IsNextChunk};
+ghost use Rattle.bz_engine.specs.Messages.{fault_text};
+ghost use Rattle.bz_engine.specs.Outcome.{told_by};
+ghost use Rattle.bz_engine.specs.Progress.{IsKeptOf};
+ghost use Rattle.bz_engine.specs.Edits.{IsEdited};
+ghost use Rattle.bz_engine.specs.SessionValue.{at_start, IsSameRun, IsReady, HasDone, HasEnded, told_at, told_of_progress, told_alone};
+ghost use Rattle.bz_engine.specs.declared.session.Stage.TheVariants.{Going, Ended, Stopped};
+
+use crate::ahead::{Ahead, ChunkFault, next_chunk};
+use crate::device::{Failed, Sink, Source};
+use crate::edit::{Edited, Script, edit_chunk};
+use crate::entry::Entry;
+use crate::kept::nothing_kept;
+use crate::options::Options;
+use crate::output::write_all;
+use crate::pass::Pass;
+use crate::progress::Progress;
+use crate::report::{End, Report};
+use crate::rules::Rules;
+use crate::run_fault::RunFault;
+use crate::telling::{report_of_all, report_of_failure, report_of_fault};
+use bz_rule::{Command, Package, Target, Text};
+use std::alloc::{AllocError, Global};
+use std::marker::Model;
+use std::mem;
+
+#[cfg(test)]
+mod session_tests;
+
+/// Whether a session goes on.
+#[derive(Clone, Copy, Debug, PartialEq, Eq)]
+pub(crate) enum Stage {
+    Going,
+    Ended(End),
+    /// A fault ended it before its report.
+    Stopped,
+}
+
+/// What a step did.
+#[derive(Clone, Copy, Debug, PartialEq, Eq)]
+pub enum Step {
+    /// One chunk was taken and is done.
+    More,
+    /// The input ended, or a syntax fault or, where failures end the run, a failure was met.
+    End,
+}
+
+/// A run, a chunk at a time. It keeps the bytes that it works on, and what it is to tell at its end.
+#[derive(Drop)]
+pub struct Session {
+    alloc: Global,
+    home: Package,
+    passes: Vec<Pass<Target, Command>>,
+    options: Options,
+    progress: Progress,
+    ahead: Ahead,
+    stage: Stage,
+    /// The message of the failure that ended the run.
+    failure: Option<Text>,
+    /// The text of one chunk; used again for each.
+    text: Vec<u8>,
+}
+
+impl Model for Session {
+    ghost use Rattle.bz_engine.specs.SessionValue as spec;
+
+    ghost Value = { spec.SessionValue };
+
+    ghost view = { λ s. record { home = s.home; passes = s.passes.items; options = s.options; progress = s.progress; ahead = s.ahead; stage = s.stage; failure = s.failure } };
+
+    ghost invariant = { λ s. spec.IsSession (record { home = s.home; passes = s.passes.items; options = s.options; progress = s.progress; ahead = s.ahead; stage = s.stage; failure = s.failure }) };
+}
+
+impl Session {
+    /// A session before its first chunk.
+    pub fn new(
+        alloc: Global,
+        home: Package,
+        passes: Vec<Pass<Target, Command>>,
+        options: Options,
+    ) -> Result<Session, AllocError>
+        requires { options.max_reads ≤ 2 ^ 50 }
+        ensures { IfOk result (λ session. session ≡ at_start home passes.items options) }
+    {
+        let kept = nothing_kept(alloc, passes.as_slice())?;
+        Ok(Session {
+            alloc,
+            home,
+            passes,
+            options,
+            progress: Progress {
+                kept,
+                changed: false,
+                failed: false,
+                last: None,
+                line: 1,
+            },
+            ahead: Ahead::new(alloc),
+            stage: Stage::Going,
+            failure: None,
+            text: Vec::new(alloc),
+        })
+    }
+
+    /// Takes one chunk of the input, runs the script on it and writes what it leaves.
+    pub fn step<S: Source, W: Sink>(
+        &mut self,
+        source: &mut S,
+        sink: &mut W,
+    ) -> Result<Step, RunFault>
+        ensures same { IsSameRun self.old self.new }
+        // Once the session was stopped, nothing is read or written.
+        ensures stopped { self.old.stage ≡ Stopped → (result ≡ Err RunFault.Stopped) × S.gave source.old [] source.new × W.took sink.old [] sink.new }
+        // Nor once it has ended, and it stays as it is.
+        ensures ended { (end : _) → self.old.stage ≡ Ended end → (result ≡ Ok Step.End) × (self.new ≡ self.old) × S.gave source.old [] source.new × W.took sink.old [] sink.new }
+        // Behind `More` one chunk is done: its text was written.
+        ensures more { result ≡ Ok Step.More → (self.new.stage ≡ Going) × ((pieces cs : List (List ℕ)) (text : List ℕ) → HasDone self.old pieces cs text
+            → (read : List (List ℕ)) × (chunk : List ℕ) × (shown : List ℕ)
+            × S.gave source.old read source.new × W.took sink.old shown sink.new
+            × (0 < length chunk) × (length (joined read) ≤ 8192 * length read)
+            × HasDone self.new (pieces ++ read) (cs ++ chunk ∷ []) (text ++ shown)) }
+        // At the end nothing is written, and what the session tells is the outcome.
+        ensures end { result ≡ Ok Step.End → self.old.stage ≡ Going → (end : _) × (self.new.stage ≡ Ended end)
+            × ((pieces cs : List (List ℕ)) (text : List ℕ) → HasDone self.old pieces cs text
+            → (read : List (List ℕ)) × S.gave source.old read source.new × W.took sink.old [] sink.new
+            × (length (pieces ++ read) ≤ self.new.options.max_reads) × HasEnded self.new end (pieces ++ read) text) }
+        // So many reads were made, none of them the end.
+        ensures too_long { result ≡ Err RunFault.InputTooLong → (pieces cs : List (List ℕ)) (text : List ℕ) → HasDone self.old pieces cs text
+            → (read : List (List ℕ)) × S.gave source.old read source.new
+            × (length (pieces ++ read) ≡ self.new.options.max_reads) × NoneEnds (pieces ++ read) }
+        ensures read_failed { result ≡ Err RunFault.ReadFailed → Rises (S.failures source.old) (S.failures source.new) }
+        ensures write_failed { result ≡ Err RunFault.WriteFailed → Rises (W.failures sink.old) (W.failures sink.new) }
+        ensures steady { (result ≢ Err RunFault.ReadFailed → S.failures source.new ≡ S.failures source.old)
+            × (result ≢ Err RunFault.WriteFailed → W.failures sink.new ≡ W.failures sink.old) }
+        ensures stops { OnErr result (self.new.stage ≡ Stopped) }
+        ensures runs { self.old.stage ≡ Going → result ≢ Err RunFault.Stopped }
+    {
+        match self.stage {
+            Stage::Stopped => return Err(RunFault::Stopped),
+            Stage::Ended(_) => return Ok(Step::End),
+            Stage::Going => {}
+        }
+        // Behind a fault what is kept is of no use.
+        self.stage = Stage::Stopped;
+        self.stage = self.advance(source, sink)?;
+        match self.stage {
+            Stage::Going => Ok(Step::More),
+            _ => Ok(Step::End),
+        }
+    }
+
+    /// What the run tells, once it has ended.
+    pub fn finish(self) -> Result<Report, RunFault>
+        ensures report { (end : _) → self.stage ≡ Ended end → IfOk result (λ report. told_by report ≡ told_at self end) }
+        // Where it has ended, only a lack of memory keeps the report back; else it is refused.
+        ensures memory { (end : _) → self.stage ≡ Ended end → OnErr result (result ≡ Err RunFault.OutOfMemory) }
+        ensures stopped { ((end : _) → self.stage ≢ Ended end) → result ≡ Err RunFault.Stopped }
+    {
+        let Stage::Ended(end) = self.stage else {
+            return Err(RunFault::Stopped);
+        };
+        let Session {
+            alloc,
+            home,
+            passes,
+            progress,
+            failure,
+            ..
+        } = self;
+        let report = report_at(alloc, &home, passes.as_slice(), progress, failure, end)?;
+        Ok(report)
+    }
+
+    /// Takes the next chunk, and answers whether the session goes on. What is kept is of no use behind a fault.
+    fn advance<S: Source, W: Sink>(
+        &mut self,
+        source: &mut S,
+        sink: &mut W,
+    ) -> Result<Stage, RunFault>
+        requires stopped { self.old.stage ≡ Stopped }
+        requires ready { IsReady self.old }
+        ensures same { IsSameRun self.old self.new }
+        ensures stage { self.new.stage ≡ self.old.stage }
+        ensures ready { result ≡ Ok Going → IsReady self.new }
+        ensures fits { OnOk result (Fits self.new.progress.kept self.new.passes) }
+        ensures more { result ≡ Ok Going → (pieces cs : List (List ℕ)) (text : List ℕ) → HasDone self.old pieces cs text
+            → (read : List (List ℕ)) × (chunk : List ℕ) × (shown : List ℕ)
+            × S.gave source.old read source.new × W.took sink.old shown sink.new
+            × (0 < length chunk) × (length (joined read) ≤ 8192 * length read)
+            × HasDone self.new (pieces ++ read) (cs ++ chunk ∷ []) (text ++ shown) }
+        ensures end { (end : _) → result ≡ Ok (Ended end) → (pieces cs : List (List ℕ)) (text : List ℕ) → HasDone self.old pieces cs text
+            → (read : List (List ℕ)) × S.gave source.old read source.new × W.took sink.old [] sink.new
+            × (length (pieces ++ read) ≤ self.new.options.max_reads) × HasEnded self.new end (pieces ++ read) text }
+        // So many reads were made, none of them the end.
+        ensures too_long { result ≡ Err RunFault.InputTooLong → (pieces cs : List (List ℕ)) (text : List ℕ) → HasDone self.old pieces cs text
+            → (read : List (List ℕ)) × S.gave source.old read source.new
+            × (length (pieces ++ read) ≡ self.new.options.max_reads) × NoneEnds (pieces ++ read) }
+        ensures read_failed { result ≡ Err RunFault.ReadFailed → Rises (S.failures source.old) (S.failures source.new) }
+        ensures write_failed { result ≡ Err RunFault.WriteFailed → Rises (W.failures sink.old) (W.failures sink.new) }
+        ensures steady { (result ≢ Err RunFault.ReadFailed → S.failures source.new ≡ S.failures source.old)
+            × (result ≢ Err RunFault.WriteFailed → W.failures sink.new ≡ W.failures sink.old) }
+        ensures runs { result ≢ Err RunFault.Stopped × (result ≢ Ok Stopped) }
+    {
+        let line = self.progress.line;
+        let Some(len) = find_chunk(&mut self.ahead, source, self.options, line)? else {
+            return Ok(Stage::Ended(End::Whole));
+        };
+        let mut text = mem::replace(&mut self.text, Vec::new(self.alloc));
+        text.clear();
+        let edited = self.edit(len, &mut text)?;
+        let stage = match edited {
+            Edited::Done => {
+                self.write(len, text.as_slice(), sink)?;
+                Stage::Going
+            }
+            Edited::Faulty(fault) => Stage::Ended(End::Syntax(fault)),
+            Edited::Failed(message) => {
+                self.failure = message;
+                Stage::Ended(End::FirstFailure)
+            }
+        };
+        self.text = text;
+        Ok(stage)
+    }
+
+    /// The script on the chunk of the first bytes ahead.
+    fn edit(&mut self, len: usize, text: &mut Vec<u8>) -> Result<Edited, AllocError>
+        requires stopped { self.old.stage ≡ Stopped }
+        requires within { len ≤ length self.old.ahead.bytes }
+        requires fits { Fits self.old.progress.kept self.old.passes }
+        requires lines { self.old.progress.line + len < 2 ^ 64 }
+        ensures same { self.new ≡ record self.old { progress = self.new.progress } }
+        ensures fits { OnOk result (Fits self.new.progress.kept self.new.passes) }
+        ensures lines { OnOk result (self.new.progress.line ≤ self.old.progress.line + len) }
+        ensures edited { IfOk result (λ edited. (cs : List (List ℕ)) (statements : List Statement)
+            → IsKeptOf self.old.home self.old.passes self.old.options.max_depth cs statements self.old.progress
+            → IsEdited self.old.home self.old.passes self.old.options.keep_going self.old.options.max_depth cs statements (take len self.old.ahead.bytes)
+            self.old.progress self.new.progress text.old.items text.new.items edited) }
+    {
+        let script = Script {
+            alloc: self.alloc,
+            home: &self.home,
+            passes: self.passes.as_slice(),
+            keep_going: self.options.keep_going,
+            max_depth: self.options.max_depth,
+        };
+        let edited = edit_chunk(script, &self.ahead.bytes()[..len], &mut self.progress, text)?;
+        Ok(edited)
+    }
+
+    /// Writes the text of the chunk, which is then taken.
+    fn write<W: Sink>(&mut self, len: usize, text: &[u8], sink: &mut W) -> Result<(), RunFault>
+        requires stopped { self.old.stage ≡ Stopped }
+        requires within { len ≤ length self.old.ahead.bytes }
+        ensures taken { OnOk result (self.new ≡ record self.old { ahead = record self.old.ahead { bytes = drop len self.old.ahead.bytes } }) }
+        ensures same { OnErr result (self.new ≡ self.old) }
+        ensures ok { OnOk result (W.took sink.old text.now sink.new) }
+        ensures steady { OnOk result (W.failures sink.new ≡ W.failures sink.old) }
+        ensures fault { OnErr result (result ≡ Err RunFault.WriteFailed) }
+        ensures failed { OnErr result (Rises (W.failures sink.old) (W.failures sink.new)) }
+    {
+        match write_all(sink, text) {
+            Ok(()) => {
+                self.ahead.take(len);
+                Ok(())
+            }
+            Err(Failed) => Err(RunFault::WriteFailed),
+        }
+    }
+}
+
+/// The report of a session that ended in this way.
+fn report_at(
+    alloc: Global,
+    home: &Package,
+    passes: &[Pass<Target, Command>],
+    progress: Progress,
+    failure: Option<Text>,
+    end: End,
+) -> Result<Report, AllocError>
+    requires { Fits progress.kept passes.now }
+    ensures whole { end ≡ End.Whole → IfOk result (λ report. told_by report ≡ told_of_progress home.now passes.now progress) }
+    ensures fault { (fault : _) → end ≡ End.Syntax fault → IfOk result (λ report. told_by report ≡ told_alone (fault_text fault ∷ []) progress.changed end) }
+    ensures failure { end ≡ End.FirstFailure → IfOk result (λ report. told_by report ≡ told_alone (option_to_list failure) progress.changed end) }
+{
+    let Progress {
+        mut kept,
+        changed,
+        failed,
+        ..
+    } = progress;
+    let rules = Rules { alloc, home };
+    let report = match end {
+        End::Whole => report_of_all(rules, passes, kept.as_mut_slice(), changed, failed)?,
+        End::Syntax(fault) => report_of_fault(alloc, fault, changed)?,
+        End::FirstFailure => report_of_failure(alloc, failure, changed)?,
+    };
+    Ok(report)
+}
+
+/// The length of the next chunk in bytes, which begins on this line; none where the input has ended.
+fn find_chunk<S: Source>(
+    ahead: &mut Ahead,
+    source: &mut S,
+    options: Options,
+    line: u64,
+) -> Result<Option<usize>, RunFault>
+    requires made { ahead.old.reads ≤ options.max_reads }
+    requires few { length ahead.old.bytes ≤ 8192 }
+    ensures read { (pieces : List (List ℕ)) × S.gave source.old pieces source.new
+        × IsReadOn options.max_reads ahead.old ahead.new pieces }
+    ensures chunk { IfOk result (λ found. IfSome found (IsNextChunk options.max_statement ahead.new)) }
+    ensures none { IfOk result (λ found. IfNone found ((ahead.new.bytes ≡ []) × IsTrue ahead.new.ended)) }
+    ensures too_long { result ≡ Err RunFault.InputTooLong → (ahead.new.reads ≡ options.max_reads) × (ahead.new.ended ≡ false) }
+    ensures failed { result ≡ Err RunFault.ReadFailed → Rises (S.failures source.old) (S.failures source.new) }
+    ensures steady { result ≢ Err RunFault.ReadFailed → S.failures source.new ≡ S.failures source.old }
+    ensures runs { (result ≢ Err RunFault.Stopped) × (result ≢ Err RunFault.WriteFailed) }
+{
+    match next_chunk(ahead, source, options.max_statement, options.max_reads) {
+        Ok(found) => Ok(found),
+        Err(ChunkFault::OutOfMemory) => Err(RunFault::OutOfMemory),
+        Err(ChunkFault::ReadFailed) => Err(RunFault::ReadFailed),
+        Err(ChunkFault::InputTooLong) => Err(RunFault::InputTooLong),
+        Err(ChunkFault::StatementTooLong) => Err(RunFault::StatementTooLong { line }),
+    }
+}
