@@ -10,8 +10,8 @@ use super::example::{
 };
 use super::feed::{Feed, Input, Piece};
 use crate::options::Options;
-use crate::runner::run;
 use crate::run_fault::RunFault;
+use crate::runner::run;
 use crate::std_device::{FromRead, ToWrite};
 use std::alloc::{AllocError, Global};
 use std::process::Abort;
