@@ -1,17 +1,15 @@
-mod Examples
-mod GrammarExamples
-mod WordExamples
-pub mod Adds
-pub mod Answer
-pub mod Complete
+mod CommandFileExamples
+mod CommandWords
+pub mod Edited
+mod FlagExamples
+mod FlagSteps
+mod GroupSteps
+mod InputsExamples
+mod Loops
+mod PackagesExamples
+mod StatusesExamples
 pub mod FileLines
-pub mod First
-pub mod Fresh
-pub mod GroupSteps
-pub mod Lines
-pub mod Literals
-pub mod Quotes
-pub mod Sound
-pub mod Steps
-pub mod ValueText
-pub mod WordSteps
+pub mod LineEnds
+pub mod Mentions
+pub mod OneMore
+pub mod Trimming

@@ -1,56 +1,68 @@
--- What a list of words asks for: its commands, for each of its targets (this project's rule).
-use Rattle.std.specs.Prelude.{ℕ, ◌+◌, List, [], ◌∷◌, map, Option, None, Some, Result, Ok, Err}
+-- What a group of words asks for: its commands, for each of its targets (buildozer README, "Usage"; the order of faults is this project's rule).
+use Rattle.std.specs.Prelude.{ℕ, ◌+◌, Bool, List, [], ◌∷◌, map, Option, None, Some, Result, Ok, Err}
 use Rattle.std.specs.List.{filter_map}
+use Rattle.std.specs.Option.{is_some}
 use Rattle.bz_engine.specs.Passes.{Pass}
-use Rattle.buildozer.specs.Commands.{command_of}
-use Rattle.buildozer.specs.Labels.{label_of}
-use Rattle.buildozer.specs.declared.command.CommandFault.{CommandFault}
-use Rattle.buildozer.specs.declared.label.LabelFault.{LabelFault}
-use Rattle.buildozer.specs.declared.script.Command.{Command}
-use Rattle.buildozer.specs.declared.script.Package.{Package}
-use Rattle.buildozer.specs.declared.script.Target.{Target}
+use Rattle.bz_rule.specs.Commands.{Command, command_of}
+use Rattle.bz_rule.specs.Labels.{Package, Target, label_of}
+use Rattle.bz_rule.specs.declared.command.CommandFault.{CommandFault}
+use Rattle.bz_rule.specs.declared.labels.LabelFault.{LabelFault}
 use Rattle.buildozer.specs.declared.usage.UsageFault.{UsageFault}
 use Rattle.buildozer.specs.declared.usage.UsageFault.TheVariants as fault
 
--- a pass for one label, with all the commands, and the package that it is for
-abbrev pub pass_for : List Command → Package × Target → Package × Pass Target Command
-pass_for commands (place, target) = (place, record { target = target; commands = commands })
+-- a label is a package and a target in it
+abbrev pub Label : Type 0
+Label = Package × Target
 
--- a word is a command where its first word is a command's name, and a label otherwise
-abbrev pub label_where : ℕ → Result (Option Command) CommandFault → Result (Package × Target) LabelFault → Result (Option (Package × Target)) UsageFault
-label_where number (Err why) label = Err (fault.Command 0 number why)
-label_where number (Ok (Some command)) label = Ok None
-label_where number (Ok None) (Err why) = Err (fault.Label 0 number why)
-label_where number (Ok None) (Ok label) = Ok (Some label)
+-- a pass, and the package that it is for
+abbrev pub Step : Type 0
+Step = Package × Pass Target Command
 
-abbrev pub label_in : ℕ → List ℕ → Result (Option (Package × Target)) UsageFault
-label_in number word = label_where number (command_of word) (label_of word)
+abbrev pub pass_for : List Command → Label → Step
+pass_for commands (home, target) = (home, record { target = target; commands = commands })
 
-abbrev pub label_and : Result (Option (Package × Target)) UsageFault → Result (List (Package × Target)) UsageFault → Result (List (Package × Target)) UsageFault
+-- A word is a command where its own first word is a command's name, and a label otherwise; here the label, if it is one.
+abbrev pub label_where : ℕ → ℕ → Result (Option Command) CommandFault → Result Label LabelFault → Result (Option Label) UsageFault
+label_where line number (Err why) label = Err (fault.Command line number why)
+label_where line number (Ok (Some command)) label = Ok None
+label_where line number (Ok None) (Err why) = Err (fault.Label line number why)
+label_where line number (Ok None) (Ok label) = Ok (Some label)
+
+abbrev pub label_in : ℕ → ℕ → List ℕ → Result (Option Label) UsageFault
+label_in line number word = label_where line number (command_of word) (label_of word)
+
+abbrev pub label_and : Result (Option Label) UsageFault → Result (List Label) UsageFault → Result (List Label) UsageFault
 label_and (Err why) labels = Err why
 label_and (Ok label) (Err why) = Err why
 label_and (Ok None) (Ok labels) = Ok labels
 label_and (Ok (Some label)) (Ok labels) = Ok (label ∷ labels)
 
 -- the labels among words that are counted from a number, or the fault of the first word that has one
-abbrev pub labels_of : ℕ → List (List ℕ) → Result (List (Package × Target)) UsageFault
-labels_of number [] = Ok []
-labels_of number (word ∷ words) = label_and (label_in number word) (labels_of (number + 1) words)
+abbrev pub labels_of : ℕ → ℕ → List (List ℕ) → Result (List Label) UsageFault
+labels_of line number [] = Ok []
+labels_of line number (word ∷ words) = label_and (label_in line number word) (labels_of line (number + 1) words)
 
 abbrev pub if_command : Result (Option Command) CommandFault → Option Command
 if_command (Ok command) = command
 if_command (Err why) = None
 
+abbrev pub command_in : List ℕ → Option Command
+command_in word = if_command (command_of word)
+
+abbrev pub is_command : List ℕ → Bool
+is_command word = is_some (command_in word)
+
 -- the commands among words
 abbrev pub commands_of : List (List ℕ) → List Command
-commands_of words = filter_map (λ word. if_command (command_of word)) words
+commands_of words = filter_map command_in words
 
--- for each target in order one pass with all commands; faults of words come first, then a missing command, then a missing target
-abbrev pub script_from : List Command → Result (List (Package × Target)) UsageFault → Result (List (Package × Pass Target Command)) UsageFault
-script_from commands (Err why) = Err why
-script_from [] (Ok labels) = Err (fault.NoCommand 0)
-script_from (command ∷ commands) (Ok []) = Err (fault.NoTarget 0)
-script_from (command ∷ commands) (Ok (label ∷ labels)) = Ok (map (pass_for (command ∷ commands)) (label ∷ labels))
+-- For each target in order one pass with all commands. Faults of words come first, then a missing command, then a missing target.
+abbrev pub steps_from : ℕ → List Command → Result (List Label) UsageFault → Result (List Step) UsageFault
+steps_from line commands (Err why) = Err why
+steps_from line [] (Ok labels) = Err (fault.NoCommand line)
+steps_from line (command ∷ commands) (Ok []) = Err (fault.NoTarget line)
+steps_from line (command ∷ commands) (Ok (label ∷ labels)) = Ok (map (pass_for (command ∷ commands)) (label ∷ labels))
 
-abbrev pub script_of : List (List ℕ) → Result (List (Package × Pass Target Command)) UsageFault
-script_of words = script_from (commands_of words) (labels_of 1 words)
+-- the passes that the words of a line ask for
+abbrev pub group_of : ℕ → List (List ℕ) → Result (List Step) UsageFault
+group_of line words = steps_from line (commands_of words) (labels_of line 1 words)

@@ -1,29 +1,47 @@
-//! Groups: commands, and the targets that each of them is for.
+//! Groups: commands, and the labels of the rules that they are for.
 
-ghost use Rattle.std.specs.Prelude.{◌≡◌, ◌≢◌, ◌++◌, map, string_bytes, Err, IfOk, OnOk, OnErr};
+ghost use Rattle.std.specs.Prelude.{◌≡◌, ◌≢◌, ◌++◌, map, Err, IfOk, OnOk};
+ghost use Rattle.std.specs.List.{filter};
 ghost use Rattle.std.specs.Option.{option_to_list};
 ghost use Rattle.buildozer.specs.Results.{map_ok};
 ghost use Rattle.buildozer.specs.Groups as spec;
 
-use crate::command::{CommandFault, read_command};
-use crate::label::{LabelFault, read_label};
-use crate::script::{Command, Package, Pass, Target};
 use crate::usage::UsageFault;
+use bz_engine::Pass;
+use bz_rule::{Command, CommandFault, LabelFault, Package, Target, read_command, read_label};
 use std::alloc::{AllocError, Global};
 
 /// Passes in the order in which they are made, each with the package that it is for.
-pub type Script = Vec<(Package, Pass)>;
+pub type Script = Vec<(Package, Pass<Target, Command>)>;
 
-/// The line that stands for the command line in faults.
-const COMMAND_LINE: u64 = 0;
+/// Reads the words of a group, whose line is told in faults: for each target in order, one pass with all commands.
+///
+/// A word whose own first word is a command's name is a command, and any other is a label. Faults of words come first,
+/// from left to right, then a missing command, then a missing target.
+pub fn read_group(alloc: Global, line: u64, words: &[&str]) -> Result<Script, UsageFault>
+    ensures { result ≢ Err UsageFault.OutOfMemory
+        → map_ok (λ script. script.items) result ≡ spec.group_of line (map (λ word. word.now) words.now) }
+{
+    let labels = read_labels(alloc, line, words)?;
+    let commands = command_words(alloc, words)?;
+    if commands.is_empty() {
+        return Err(UsageFault::NoCommand { line });
+    }
+    if labels.is_empty() {
+        return Err(UsageFault::NoTarget { line });
+    }
+    let script = passes_for(alloc, commands.as_slice(), labels)?;
+    Ok(script)
+}
 
 /// Reads one word of a group: nothing of a command, or a label. `number` counts the words from 1.
 fn read_word(
     alloc: Global,
+    line: u64,
     number: u64,
     word: &str,
 ) -> Result<Option<(Package, Target)>, UsageFault>
-    ensures { result ≢ Err UsageFault.OutOfMemory → result ≡ spec.label_in number word.now }
+    ensures { result ≢ Err UsageFault.OutOfMemory → result ≡ spec.label_in line number word.now }
 {
     match read_command(alloc, word) {
         Ok(Some(_)) => return Ok(None),
@@ -31,7 +49,7 @@ fn read_word(
         Err(CommandFault::OutOfMemory) => return Err(UsageFault::OutOfMemory),
         Err(fault) => {
             return Err(UsageFault::Command {
-                line: COMMAND_LINE,
+                line,
                 word: number,
                 fault,
             });
@@ -41,7 +59,7 @@ fn read_word(
         Ok(label) => Ok(Some(label)),
         Err(LabelFault::OutOfMemory) => Err(UsageFault::OutOfMemory),
         Err(fault) => Err(UsageFault::Label {
-            line: COMMAND_LINE,
+            line,
             word: number,
             fault,
         }),
@@ -51,24 +69,27 @@ fn read_word(
 fn keep_label(
     label: Option<(Package, Target)>,
     labels: &mut Vec<(Package, Target)>,
-) -> Result<(), UsageFault>
-    ensures ok { OnOk result (labels.new.items ≡ labels.old.items ++ option_to_list label) }
-    ensures err { OnErr result (result ≡ Err UsageFault.OutOfMemory) }
+) -> Result<(), AllocError>
+    ensures { OnOk result (labels.new.items ≡ labels.old.items ++ option_to_list label) }
 {
     match label {
-        Some(label) => labels.push(label).map_err(|_| UsageFault::OutOfMemory),
+        Some(label) => Ok(labels.push(label)?),
         None => Ok(()),
     }
 }
 
 /// Reads each word, and gives the labels.
-fn read_labels(alloc: Global, words: &[String]) -> Result<Vec<(Package, Target)>, UsageFault>
+fn read_labels(
+    alloc: Global,
+    line: u64,
+    words: &[&str],
+) -> Result<Vec<(Package, Target)>, UsageFault>
     ensures { result ≢ Err UsageFault.OutOfMemory
-        → map_ok (λ labels. labels.items) result ≡ spec.labels_of 1 (map string_bytes words.now) }
+        → map_ok (λ labels. labels.items) result ≡ spec.labels_of line 1 (map (λ word. word.now) words.now) }
 {
     let mut labels = Vec::new(alloc);
     for (index, word) in words.iter().enumerate() {
-        match read_word(alloc, index as u64 + 1, word.as_str()) {
+        match read_word(alloc, line, index as u64 + 1, *word) {
             Ok(label) => keep_label(label, &mut labels)?,
             Err(fault) => return Err(fault),
         }
@@ -76,53 +97,57 @@ fn read_labels(alloc: Global, words: &[String]) -> Result<Vec<(Package, Target)>
     Ok(labels)
 }
 
-/// The commands among the words. Other words are passed over.
-fn read_commands(alloc: Global, words: &[String]) -> Result<Vec<Command>, AllocError>
-    ensures { IfOk result (λ commands. commands.items ≡ spec.commands_of (map string_bytes words.now)) }
+/// The command that a word is, where it is one without a fault.
+fn command_in(alloc: Global, word: &str) -> Result<Option<Command>, AllocError>
+    ensures { IfOk result (λ command. command ≡ spec.command_in word.now) }
+{
+    match read_command(alloc, word) {
+        Ok(command) => Ok(command),
+        Err(CommandFault::OutOfMemory) => Err(AllocError),
+        Err(_) => Ok(None),
+    }
+}
+
+/// The words that are commands.
+fn command_words<'a>(alloc: Global, words: &[&'a str]) -> Result<Vec<&'a str>, AllocError>
+    ensures { IfOk result (λ commands. map (λ word. word.now) commands.items
+        ≡ filter spec.is_command (map (λ word. word.now) words.now)) }
 {
     let mut commands = Vec::new(alloc);
-    for word in words {
-        match read_command(alloc, word.as_str()) {
-            Ok(Some(command)) => commands.push(command)?,
-            Err(CommandFault::OutOfMemory) => return Err(AllocError),
-            Ok(None) | Err(_) => {}
+    for &word in words {
+        if command_in(alloc, word)?.is_some() {
+            commands.push(word)?;
         }
     }
     Ok(commands)
 }
 
-/// One pass for each label, each with all commands of the words. A command has no copy, so the words are read again.
+/// The commands among the words. Other words are passed over.
+fn read_commands(alloc: Global, words: &[&str]) -> Result<Vec<Command>, AllocError>
+    ensures { IfOk result (λ commands. commands.items ≡ spec.commands_of (map (λ word. word.now) words.now)) }
+{
+    let mut commands = Vec::with_capacity(alloc, words.len())?;
+    for word in words {
+        if let Some(command) = command_in(alloc, *word)? {
+            commands.push(command)?;
+        }
+    }
+    Ok(commands)
+}
+
+/// One pass for each label, each with all commands. A command has no copy, so its word is read again for each label.
 fn passes_for(
     alloc: Global,
-    words: &[String],
+    commands: &[&str],
     labels: Vec<(Package, Target)>,
 ) -> Result<Script, AllocError>
     ensures { IfOk result (λ script. script.items
-        ≡ map (spec.pass_for (spec.commands_of (map string_bytes words.now))) labels.items) }
+        ≡ map (spec.pass_for (spec.commands_of (map (λ word. word.now) commands.now))) labels.items) }
 {
-    let mut script = Vec::new(alloc);
+    let mut script = Vec::with_capacity(alloc, labels.len())?;
     for (package, target) in labels {
-        let commands = read_commands(alloc, words)?;
+        let commands = read_commands(alloc, commands)?;
         script.push((package, Pass { target, commands }))?;
     }
     Ok(script)
-}
-
-/// Reads the words behind the flags as one group: for each target in order, one pass with all commands.
-///
-/// A word that begins with a command's name is a command, and any other is a label. Faults of words come first, from
-/// left to right, then a missing command, then a missing target.
-pub fn read_script(alloc: Global, words: &[String]) -> Result<Script, UsageFault>
-    ensures { result ≢ Err UsageFault.OutOfMemory
-        → map_ok (λ script. script.items) result ≡ spec.script_of (map string_bytes words.now) }
-{
-    let labels = read_labels(alloc, words)?;
-    let commands = read_commands(alloc, words).map_err(|_| UsageFault::OutOfMemory)?;
-    if commands.is_empty() {
-        return Err(UsageFault::NoCommand { line: COMMAND_LINE });
-    }
-    if labels.is_empty() {
-        return Err(UsageFault::NoTarget { line: COMMAND_LINE });
-    }
-    passes_for(alloc, words, labels).map_err(|_| UsageFault::OutOfMemory)
 }

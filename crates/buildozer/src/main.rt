@@ -1,46 +1,42 @@
 //! The command-line editor for BUILD files.
 #![tactic(auto)]
 
-ghost use Rattle.std.specs.Prelude.{IfOk, IsTrue};
-
-mod add;
-mod arguments;
-mod command;
-mod editing;
-mod file;
+mod buffered;
+mod command_file;
+mod console;
+mod edit_all;
+mod edit_file;
+mod edit_stream;
+mod file_run;
 mod flags;
 mod group;
-mod label;
-mod layout;
-mod list;
-mod message;
-mod parse;
-mod passes;
-mod quote;
-mod report;
+mod help;
+mod inputs;
+mod names;
+mod package;
+mod packages;
 mod run;
-mod same;
-mod script;
-mod statement;
-#[cfg(test)]
-mod statement_tests;
-mod tell;
-#[cfg(test)]
-mod tests;
+mod start;
+mod status;
 mod usage;
-mod value;
-mod words;
 
 use bz_engine::{FromRead, ToWrite};
-use editing::{edit, fault_text};
-use flags::{Flags, read_flags};
-use group::{Script, read_script};
-use std::alloc::Global;
+use bz_folder::{Draft, OnDisk};
+use console::Console;
+use edit_all::edit_all;
+use flags::Flags;
+use group::Script;
+use package::Devices;
+use start::requested;
+use std::alloc::{AllocError, Global};
 use std::process::ExitCode;
 use std::{env, io};
 use usage::{StartFault, UsageFault};
 
-/// The words of the command line behind the program's name.
+/// The exit status where the words ask for nothing (buildozer README, "Error codes").
+const USAGE: u8 = 1;
+
+/// The words of the command line after the program's name.
 fn command_line(rt: &HostRuntime, alloc: Global) -> Result<Vec<String>, StartFault> {
     let mut words = Vec::new(alloc);
     for word in env::args(rt).map_err(start_fault)?.skip(1) {
@@ -57,34 +53,53 @@ fn start_fault(error: io::Error) -> StartFault {
     }
 }
 
-/// What the command line asks for.
-fn requested(rt: &HostRuntime, alloc: Global) -> Result<(Flags, Script), StartFault>
-    ensures { IfOk result (λ asked. IsTrue asked.0.k) }
-{
-    let words = command_line(rt, alloc)?;
-    let (flags, words) = read_flags(alloc, words.as_slice())?;
-    let script = read_script(alloc, words.as_slice())?;
-    Ok((flags, script))
+/// Edits what the script asks for, and gives the exit status.
+fn edit(rt: &HostRuntime, alloc: Global, flags: &Flags, script: Script) -> Result<u8, AllocError> {
+    let mut devices = Devices {
+        draft: Draft::new(alloc, OnDisk::new(alloc, rt))?,
+        input: FromRead::new(rt.stdin()),
+        console: Console::new(alloc, ToWrite::new(rt.stdout()), ToWrite::new(rt.stderr()))?,
+    };
+    edit_all(alloc, flags, script, &mut devices)
+}
+
+/// Tells why the words ask for nothing.
+fn tell_usage(rt: &HostRuntime, fault: &StartFault, words: &[String]) {
+    if help::is_wanted(fault, words) {
+        let _ = eprint!(rt; "{}", help::PAGE);
+        return;
+    }
+    let _ = eprintln!(rt; "buildozer: {fault}");
+    for word in words {
+        if let Some(command) = help::left_out(word) {
+            let _ = eprintln!(rt;
+                "buildozer: {command} is a command of Bazel's buildozer that this one does not have"
+            );
+        }
+    }
 }
 
 fn main(rt: HostRuntime) -> ExitCode {
     let alloc = rt.alloc();
-    match requested(&rt, alloc) {
-        Ok((flags, script)) => {
-            let mut input = FromRead::new(rt.stdin());
-            let mut out = ToWrite::new(rt.stdout());
-            let mut err = ToWrite::new(rt.stderr());
-            match edit(alloc, flags, script, &mut input, &mut out, &mut err) {
-                Ok(status) => ExitCode::from(status),
-                Err(fault) => {
-                    let _ = eprintln!(rt; "-: {}", fault_text(fault));
-                    ExitCode::from(2)
-                }
-            }
-        }
+    let words = match command_line(&rt, alloc) {
+        Ok(words) => words,
         Err(fault) => {
-            let _ = eprintln!(rt; "buildozer: {fault}");
-            ExitCode::from(1)
+            tell_usage(&rt, &fault, &[]);
+            return ExitCode::from(USAGE);
+        }
+    };
+    let (flags, script) = match requested(&rt, alloc, words.as_slice()) {
+        Ok(asked) => asked,
+        Err(fault) => {
+            tell_usage(&rt, &fault, words.as_slice());
+            return ExitCode::from(USAGE);
+        }
+    };
+    match edit(&rt, alloc, &flags, script) {
+        Ok(status) => ExitCode::from(status),
+        Err(_) => {
+            let _ = eprintln!(rt; "buildozer: out of memory");
+            ExitCode::from(USAGE)
         }
     }
 }

@@ -11,7 +11,6 @@ pub mod SessionValue
 pub mod Exchange
 pub mod EveryFile
 pub mod File
-pub mod Machine
 pub mod Meaning
 pub mod Messages
 pub mod Outcome

@@ -120,7 +120,7 @@ fn last_class(last: Option<Class>, slot: &Option<Stmt<'_>>) -> Option<Class>
 }
 
 /// Whether all commands of a script print: then it only asks, and no text is written.
-pub(crate) fn is_query(passes: &[Pass<Target, Command>]) -> bool
+pub fn is_query(passes: &[Pass<Target, Command>]) -> bool
     ensures { result ≡ is_query passes.now }
 {
     for pass in passes {

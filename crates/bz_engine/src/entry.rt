@@ -4,7 +4,7 @@ use bz_rule::Text;
 
 /// Something that a run tells, with its text.
 #[derive(Drop)]
-pub enum Entry {
+pub(crate) enum Entry {
     /// What `print` printed of a rule.
     Line(Text),
     /// A message that is no failure: a field that was not there to print.

@@ -8,11 +8,11 @@ use crate::device::{Failed, Source};
 use std::alloc::{AllocError, Global};
 
 /// The greatest number of bytes that one read asks for.
-pub const PIECE: usize = 8192;
+pub(crate) const PIECE: usize = 8192;
 
 /// Why bytes could not be read.
 #[derive(Clone, Copy, Debug, PartialEq, Eq)]
-pub enum ReadFault {
+pub(crate) enum ReadFault {
     /// A growth of memory was refused.
     OutOfMemory,
     /// The source failed.
@@ -29,28 +29,10 @@ impl From<AllocError> for ReadFault {
     }
 }
 
-/// Reads once, at most `PIECE` bytes, and puts them behind the bytes that are there. Answers how
-/// many came; 0 is the end of the input. A refusal leaves the bytes as they were.
+/// Reads once, at most `most` bytes, and puts them behind the bytes that are there. Answers how many
+/// came; 0 is the end of the input. A refusal leaves the bytes as they were.
 ///
 /// `reads_left` is how many reads may still be made: without one, none is made.
-pub fn read_more<S: Source>(
-    source: &mut S,
-    bytes: &mut Vec<u8>,
-    reads_left: u64,
-) -> Result<usize, ReadFault>
-    ensures read { IfOk result (λ n. (piece : List ℕ) × S.gave source.old (piece ∷ []) source.new
-        × (bytes.new.items ≡ bytes.old.items ++ piece) × (n ≡ length piece) × (n ≤ 8192)) }
-    ensures err { OnErr result (S.gave source.old [] source.new × (bytes.new.items ≡ bytes.old.items)) }
-    ensures allowed { OnOk result (0 < reads_left) }
-    ensures too_long { IsErrOf result ReadFault.InputTooLong → reads_left ≡ 0 }
-    ensures none_left { reads_left ≡ 0 → result ≡ Err ReadFault.InputTooLong }
-    ensures failed { IsErrOf result ReadFault.ReadFailed → Rises (S.failures source.old) (S.failures source.new) }
-    ensures steady { result ≢ Err ReadFault.ReadFailed → S.failures source.new ≡ S.failures source.old }
-{
-    read_at_most(source, bytes, PIECE, reads_left)
-}
-
-/// The same, at most `most` bytes.
 pub(crate) fn read_at_most<S: Source>(
     source: &mut S,
     bytes: &mut Vec<u8>,
@@ -81,33 +63,6 @@ pub(crate) fn read_at_most<S: Source>(
         Err(Failed) => {
             bytes.truncate(start);
             Err(ReadFault::ReadFailed)
-        }
-    }
-}
-
-/// Reads the source to its end, in at most `max_reads` reads.
-pub fn read_all<S: Source>(
-    alloc: Global,
-    source: &mut S,
-    max_reads: u64,
-) -> Result<Vec<u8>, ReadFault>
-    ensures read { IfOk result (λ bytes. (pieces : List (List ℕ)) × S.gave source.old pieces source.new
-        × IsTrue (ends pieces) × (length pieces ≤ max_reads) × (bytes.items ≡ joined pieces)) }
-    // At most that many reads were made, however it ended.
-    ensures front { (pieces : List (List ℕ)) × S.gave source.old pieces source.new × (length pieces ≤ max_reads) }
-    ensures too_long { IsErrOf result ReadFault.InputTooLong
-        → (pieces : List (List ℕ)) × S.gave source.old pieces source.new
-        × (length pieces ≡ max_reads) × NoneEnds pieces }
-    ensures failed { IsErrOf result ReadFault.ReadFailed → Rises (S.failures source.old) (S.failures source.new) }
-    ensures steady { result ≢ Err ReadFault.ReadFailed → S.failures source.new ≡ S.failures source.old }
-{
-    let mut bytes = Vec::new(alloc);
-    let mut reads_left = max_reads;
-    loop {
-        match read_more(source, &mut bytes, reads_left) {
-            Ok(0) => return Ok(bytes),
-            Ok(_) => reads_left -= 1,
-            Err(fault) => return Err(fault),
         }
     }
 }

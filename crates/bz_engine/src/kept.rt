@@ -2,7 +2,7 @@
 
 ghost use Rattle.std.specs.Prelude.{◌≡◌, ◌++◌, [], List, map, IfOk, OnOk};
 ghost use Rattle.std.specs.List.{flat_map};
-ghost use Rattle.bz_engine.specs.Passes.{Slot, is_missing, missing, log_of, some_missing};
+ghost use Rattle.bz_engine.specs.Passes.{Slot, is_missing, missing, log_of};
 ghost use Rattle.bz_engine.specs.Exchange.{Fits, no_slot, kept_of, told, some_not_found};
 
 use crate::language::Language;
@@ -13,9 +13,9 @@ use std::marker::Model;
 
 /// Of one pass: whether its target marked something so far, and what each of its commands told.
 #[derive(Drop)]
-pub struct Kept<M> {
-    pub found: bool,
-    pub logs: Vec<Log<M>>,
+pub(crate) struct Kept<M> {
+    pub(crate) found: bool,
+    pub(crate) logs: Vec<Log<M>>,
 }
 
 impl<M> Model for Kept<M> {
@@ -38,7 +38,7 @@ fn nothing_told<C, M: Drop>(alloc: Global, commands: &[C]) -> Result<Vec<Log<M>>
 }
 
 /// Before the first slot: a place for each pass and each command, with nothing in it.
-pub fn nothing_kept<T, C, M: Drop>(
+pub(crate) fn nothing_kept<T, C, M: Drop>(
     alloc: Global,
     passes: &[Pass<T, C>],
 ) -> Result<Vec<Kept<M>>, AllocError>
@@ -109,7 +109,7 @@ fn tell_passes<L: Language>(
 
 /// The log of a whole run, from what was kept of it: by pass, in a pass by command, for a command
 /// by slot. The entries are moved out of `kept`.
-pub fn tell<L: Language>(
+pub(crate) fn tell<L: Language>(
     alloc: Global,
     language: &L,
     passes: &[Pass<L::Target, L::Command>],
@@ -141,18 +141,4 @@ pub(crate) fn is_some_not_found<L: Language>(
         }
     }
     false
-}
-
-/// Whether the target of some pass had to mark something and marked nothing.
-pub fn is_some_missing<L: Language>(
-    language: &L,
-    passes: &[Pass<L::Target, L::Command>],
-    kept: &[Kept<L::Entry>],
-) -> bool
-    requires { Fits kept.now passes.now }
-    ensures { (slots : List (Slot L.Seen))
-        → kept.now ≡ kept_of (L.meaning language.now) passes.now slots
-        → result ≡ some_missing (L.meaning language.now) passes.now slots }
-{
-    is_some_not_found(language, passes, kept)
 }

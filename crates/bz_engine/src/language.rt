@@ -8,16 +8,16 @@ use std::alloc::AllocError;
 
 /// Whether an execution changed its statement, and whether it failed.
 #[derive(Clone, Copy, Debug, PartialEq, Eq)]
-pub struct Facts {
-    pub changed: bool,
-    pub failed: bool,
+pub(crate) struct Facts {
+    pub(crate) changed: bool,
+    pub(crate) failed: bool,
 }
 
 /// What targets and commands mean on one statement.
 ///
 /// A language may hold what its commands need, as a package and an allocator, and its statements
 /// may borrow from the file.
-pub trait Language {
+pub(crate) trait Language {
     type Statement;
 
     type Target;

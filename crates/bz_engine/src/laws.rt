@@ -4,7 +4,8 @@ ghost use Rattle.std.specs.Prelude.{◌≡◌, ◌↔◌, List, true};
 ghost use Rattle.bz_tree.specs.Tree.{Statement};
 ghost use Rattle.bz_rule.specs.Labels.{Package, Target};
 ghost use Rattle.bz_rule.specs.Commands.{Command};
-ghost use Rattle.bz_engine.specs.Passes.{Pass, Slot, some_execution};
+ghost use Rattle.bz_engine.specs.Passes.{Meaning, Pass, Slot, some_execution};
+ghost use Rattle.bz_engine.specs.Exchange.{Exchange};
 ghost use Rattle.bz_engine.specs.Changes.{AreCommands, Changes};
 ghost use Rattle.bz_engine.specs.Meaning.{meaning, changes};
 
@@ -15,3 +16,9 @@ pub fn changed_is_a_difference()
 {
     bz_rule::laws::changed_tells_a_difference();
 }
+
+/// The law that lets a run go statement by statement, whatever targets and commands mean: command by command over the whole file
+/// is the whole script over one statement after the other, and the log is by pass, by command and by statement.
+pub fn exchange<S, T, C, M>()
+    ensures { (m : Meaning S T C M) (ps : List (Pass T C)) (slots : List (Slot S)) → Exchange m ps slots }
+{}

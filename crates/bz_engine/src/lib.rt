@@ -4,8 +4,8 @@
 //! passes, one after another: each resolves its target once and then runs its commands. What targets
 //! and commands mean is a `Language`. `run_script` takes one statement through the whole script, and
 //! what is told waits in `Kept` until the end, since lines and messages stand by pass and command
-//! and not by statement. `exchange` is the law that makes this the same as each command over the
-//! whole file.
+//! and not by statement. `laws::exchange` is the law that makes this the same as each command over
+//! the whole file.
 #![tactic(auto)]
 
 mod ahead;
@@ -33,10 +33,7 @@ mod std_device;
 mod telling;
 
 pub use device::{Failed, Sink, Source};
-pub use entry::Entry;
-pub use input::{PIECE, ReadFault, read_all, read_more};
-pub use kept::{Kept, is_some_missing, nothing_kept, tell};
-pub use language::{Facts, Language};
+pub use edit::is_query;
 pub use log::Log;
 pub use options::Options;
 pub use output::write_all;
@@ -44,9 +41,5 @@ pub use pass::Pass;
 pub use report::{End, Report, SyntaxFault};
 pub use run_fault::RunFault;
 pub use runner::run;
-pub use script::{exchange, run_script};
 pub use session::{Session, Step};
 pub use std_device::{FromRead, ToWrite};
-
-#[cfg(test)]
-mod tests;

@@ -19,7 +19,7 @@ impl<M> Model for Log<M> {
 
 impl<M> Log<M> {
     /// A log without entries. Takes no memory.
-    pub fn new(alloc: Global) -> Log<M>
+    pub(crate) fn new(alloc: Global) -> Log<M>
         ensures { result ≡ [] }
     {
         Log {
@@ -28,14 +28,14 @@ impl<M> Log<M> {
     }
 
     /// Puts an entry at the end.
-    pub fn push(&mut self, entry: M) -> Result<(), AllocFailed<M>>
+    pub(crate) fn push(&mut self, entry: M) -> Result<(), AllocFailed<M>>
         ensures { OnOk result (self.new ≡ self.old ++ entry ∷ []) }
     {
         self.entries.push(entry)
     }
 
     /// Moves the entries of another log to the end.
-    pub fn append(&mut self, other: &mut Log<M>) -> Result<(), AllocError>
+    pub(crate) fn append(&mut self, other: &mut Log<M>) -> Result<(), AllocError>
         ensures { OnOk result (self.new ≡ self.old ++ other.old) }
     {
         self.entries.append(&mut other.entries)

@@ -32,6 +32,9 @@ pub fn run<S: Source, W: Sink>(
     ensures outcome { IfOk result (λ report. (pieces : List (List ℕ)) × (text : List ℕ)
         × S.gave source.old pieces source.new × W.took sink.old text sink.new × (length pieces ≤ options.max_reads)
         × ForEveryFile pieces (λ file. IsOutcome home passes.items options.keep_going options.max_depth file text (told_by report))) }
+    // Whatever is answered, the devices gave and took what reads and writes gave and took.
+    ensures devices { (pieces : List (List ℕ)) × (text : List ℕ)
+        × S.gave source.old pieces source.new × W.took sink.old text sink.new }
     ensures steady { OnOk result ((S.failures source.new ≡ S.failures source.old) × (W.failures sink.new ≡ W.failures sink.old)) }
     ensures read_failed { IsErrOf result RunFault.ReadFailed → Rises (S.failures source.old) (S.failures source.new) }
     ensures write_failed { IsErrOf result RunFault.WriteFailed → Rises (W.failures sink.old) (W.failures sink.new) }

@@ -1,8 +1,8 @@
 //! A whole script on one slot.
 
 ghost use Rattle.std.specs.Prelude.{◌≡◌, ◌++◌, ◌||◌, [], ◌∷◌, List, length, OnOk};
-ghost use Rattle.bz_engine.specs.Passes.{Slot, Pass as APass, executed, entries, meets, with_mark, marked};
-ghost use Rattle.bz_engine.specs.Exchange.{Exchange, Fits, IsLeftBy, slot_after_commands, slot_after_pass, slot_after, logs_alone, logs_and, pass_alone, pass_and, kept_alone, kept_and, some_of_commands_alone, some_alone};
+ghost use Rattle.bz_engine.specs.Passes.{Slot, executed, entries, meets, with_mark, marked};
+ghost use Rattle.bz_engine.specs.Exchange.{Fits, IsLeftBy, slot_after_commands, slot_after_pass, slot_after, logs_alone, logs_and, pass_alone, pass_and, kept_alone, kept_and, some_of_commands_alone, some_alone};
 
 use crate::kept::Kept;
 use crate::language::{Facts, Language};
@@ -121,7 +121,7 @@ fn run_passes<L: Language>(
 /// The whole script on one slot. Where what is kept and the facts are those of the slots before, they
 /// are then those of the slots with this one. After a refusal neither the slot nor what is kept is
 /// of use.
-pub fn run_script<L: Language>(
+pub(crate) fn run_script<L: Language>(
     language: &L,
     passes: &[Pass<L::Target, L::Command>],
     slot: &mut Option<L::Statement>,
@@ -144,10 +144,3 @@ pub fn run_script<L: Language>(
     run_passes(language, passes, slot, kept, facts)?;
     Ok(())
 }
-
-/// The law that lets a run go slot by slot: command by command over the whole file is the whole
-/// script over one slot after the other, and the log is by pass, by command and by slot.
-pub fn exchange<L: Language>(language: &L)
-    ensures { (ps : List (APass L.Target L.Command)) (slots : List (Slot L.Seen))
-        → Exchange (L.meaning language.now) ps slots }
-{}

@@ -138,6 +138,9 @@ impl Session {
         ensures write_failed { result ≡ Err RunFault.WriteFailed → Rises (W.failures sink.old) (W.failures sink.new) }
         ensures steady { (result ≢ Err RunFault.ReadFailed → S.failures source.new ≡ S.failures source.old)
             × (result ≢ Err RunFault.WriteFailed → W.failures sink.new ≡ W.failures sink.old) }
+        // Whatever is answered, the devices gave and took what reads and writes gave and took.
+        ensures devices { (read : List (List ℕ)) × (shown : List ℕ)
+            × S.gave source.old read source.new × W.took sink.old shown sink.new }
         ensures stops { OnErr result (self.new.stage ≡ Stopped) }
         ensures runs { self.old.stage ≡ Going → result ≢ Err RunFault.Stopped }
     {
@@ -205,6 +208,9 @@ impl Session {
         ensures write_failed { result ≡ Err RunFault.WriteFailed → Rises (W.failures sink.old) (W.failures sink.new) }
         ensures steady { (result ≢ Err RunFault.ReadFailed → S.failures source.new ≡ S.failures source.old)
             × (result ≢ Err RunFault.WriteFailed → W.failures sink.new ≡ W.failures sink.old) }
+        // Whatever is answered, the devices gave and took what reads and writes gave and took.
+        ensures devices { (read : List (List ℕ)) × (shown : List ℕ)
+            × S.gave source.old read source.new × W.took sink.old shown sink.new }
         ensures runs { result ≢ Err RunFault.Stopped × (result ≢ Ok Stopped) }
     {
         let line = self.progress.line;
@@ -261,6 +267,7 @@ impl Session {
         ensures taken { OnOk result (self.new ≡ record self.old { ahead = record self.old.ahead { bytes = drop len self.old.ahead.bytes } }) }
         ensures same { OnErr result (self.new ≡ self.old) }
         ensures ok { OnOk result (W.took sink.old text.now sink.new) }
+        ensures devices { (shown : List ℕ) × W.took sink.old shown sink.new }
         ensures steady { OnOk result (W.failures sink.new ≡ W.failures sink.old) }
         ensures fault { OnErr result (result ≡ Err RunFault.WriteFailed) }
         ensures failed { OnErr result (Rises (W.failures sink.old) (W.failures sink.new)) }

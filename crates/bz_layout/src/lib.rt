@@ -27,12 +27,8 @@ mod gaps;
 pub mod laws;
 mod marks;
 mod respell;
-#[cfg(test)]
-mod shown;
 mod spacing;
 mod statement;
-#[cfg(test)]
-mod tests;
 mod walk;
 mod write;
 

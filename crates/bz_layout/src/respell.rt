@@ -7,12 +7,14 @@ ghost use Rattle.bz_layout.specs.Respell.{is_plain, respell};
 use bz_token::Kind;
 use std::alloc::AllocError;
 
+#[inline(always)]
 fn is_plain(b: u8) -> bool
     ensures { result ≡ is_plain b }
 {
     b != b'"' && b != b'\'' && b != b'\\'
 }
 
+#[inline(always)]
 fn are_plain(bytes: &[u8]) -> bool
     ensures { result ≡ list_all is_plain bytes.now }
 {
@@ -43,6 +45,7 @@ fn single_content(text: &str) -> Option<&str>
 }
 
 // Appends the written form of a token.
+#[inline(always)]
 pub(crate) fn put_written(kind: Kind, text: &str, out: &mut String) -> Result<(), AllocError>
     ensures ok { OnOk result (string_bytes out.new ≡ string_bytes out.old ++ respell kind text.now) }
 {

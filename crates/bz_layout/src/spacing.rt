@@ -42,6 +42,7 @@ fn hugs(kind: GroupKind) -> bool
     )
 }
 
+#[inline(always)]
 fn closes_up(node: &Node<'_>) -> bool
     ensures { result ≡ closes_up (node_view node.now) }
 {
@@ -90,6 +91,7 @@ fn is_index_colon(within: Option<GroupKind>, text: &str) -> bool
     is_index(within) && text == ":"
 }
 
+#[inline(always)]
 fn sign_edge(within: Option<GroupKind>, left: Edge, text: &str) -> Edge
     ensures { result ≡ sign_edge within left text.now }
 {
@@ -105,6 +107,7 @@ fn sign_edge(within: Option<GroupKind>, left: Edge, text: &str) -> Edge
     }
 }
 
+#[inline(always)]
 pub(crate) fn edge_behind(within: Option<GroupKind>, left: Edge, node: &Node<'_>) -> Edge
     ensures { result ≡ edge_behind within left (node_view node.now) }
 {
@@ -119,6 +122,7 @@ pub(crate) fn edge_behind(within: Option<GroupKind>, left: Edge, node: &Node<'_>
 }
 
 // The gap before a node, where that before the first one is given.
+#[inline(always)]
 pub(crate) fn gap_before(first: Gap, left: Edge, node: &Node<'_>) -> Gap
     ensures { result ≡ gap_before first left (node_view node.now) }
 {

@@ -1,15 +1,11 @@
 //! Labels, targets and commands on one rule.
 #![tactic(auto)]
 
-#[cfg(test)]
-mod apply_tests;
 mod bytes;
 mod chosen;
 mod command;
 mod decode;
 mod done;
-#[cfg(test)]
-mod edited;
 mod effects;
 mod equals;
 mod find;
@@ -30,8 +26,6 @@ mod sameness;
 mod slot;
 mod taking;
 mod target;
-#[cfg(test)]
-mod tests;
 mod texts;
 mod value;
 mod word_set;

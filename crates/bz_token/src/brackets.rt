@@ -24,18 +24,21 @@ pub enum Misfit {
     NoMatch,
 }
 
+#[inline(always)]
 pub fn is_opening_bracket(b: u8) -> bool
     ensures { result ≡ is_opening_bracket b }
 {
     matches!(b, b'(' | b'[' | b'{')
 }
 
+#[inline(always)]
 pub fn is_closing_bracket(b: u8) -> bool
     ensures { result ≡ is_closing_bracket b }
 {
     matches!(b, b')' | b']' | b'}')
 }
 
+#[inline(always)]
 fn is_pair(a: u8, b: u8) -> bool
     ensures { result ≡ is_pair a b }
 {
@@ -55,12 +58,14 @@ impl Brackets {
         }
     }
 
+    #[inline(always)]
     pub fn is_inside(&self) -> bool
         ensures { result ≡ is_inside (opened self.now) }
     {
         self.top < 255
     }
 
+    #[inline(always)]
     fn closes_innermost(&self, b: u8) -> bool
         ensures { result ≡ closes_innermost (opened self.now) b }
     {
@@ -68,6 +73,7 @@ impl Brackets {
     }
 
     /// Takes the first byte of a token, a bracket or not.
+    #[inline(always)]
     pub fn take(&mut self, b: u8, max_depth: u8) -> Result<(), Misfit>
         ensures fits { OnOk result (bracket_fits max_depth (opened self.old) b ≡ true) }
         ensures opened { OnOk result (opened self.new ≡ open_behind_byte (opened self.old) b) }

@@ -2,8 +2,6 @@
 
 mod block;
 mod scan;
-#[cfg(test)]
-mod tests;
 
 ghost use Rattle.std.specs.Prelude.{◌≡◌, ◌+◌, ◌<◌, ◌^◌, ◌++◌, ◌↔◌, [], List, ℕ, false, length, IsTrue};
 ghost use Rattle.bz_token.specs.CutSteps.{start, fresh, moved, stage_now, cut_at, cutter_at};

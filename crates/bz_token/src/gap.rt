@@ -12,6 +12,7 @@ pub struct Place {
 }
 
 /// The place behind some bytes.
+#[inline(always)]
 pub fn advance(place: Place, bytes: &[u8]) -> Place
     requires line_fits { place.line + count_by (λ b. b == 10) bytes.now < 2 ^ 64 }
     requires col_fits { place.col + length bytes.now < 2 ^ 64 }
@@ -33,6 +34,7 @@ pub fn advance(place: Place, bytes: &[u8]) -> Place
 }
 
 /// The length of the white space or the continued line here, or 0.
+#[inline(always)]
 fn step_len(inside: bool, bytes: &[u8]) -> usize
     ensures in_range { result ≤ length bytes.now }
     ensures gap { (ys : List ℕ) → is_gap inside (take result bytes.now ++ ys) ≡ is_gap inside ys }
@@ -49,6 +51,7 @@ fn step_len(inside: bool, bytes: &[u8]) -> usize
 }
 
 /// The length of the gap here; inside brackets newlines are white space.
+#[inline(always)]
 pub fn gap_len(inside: bool, bytes: &[u8]) -> usize
     ensures in_range { result ≤ length bytes.now }
     ensures gap { is_gap inside (take result bytes.now) ≡ true }

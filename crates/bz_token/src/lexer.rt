@@ -16,6 +16,7 @@ use crate::token::Token;
 use std::alloc::Global;
 
 /// The place behind a token.
+#[inline(always)]
 fn pass(place: Place, text: &[u8], has_newline: bool) -> Place
     requires line_fits { place.line + count_by (λ b. b == 10) text.now < 2 ^ 64 }
     requires col_fits { place.col + length text.now < 2 ^ 64 }

@@ -18,6 +18,3 @@ pub use fault::LexFault;
 pub use lexer::tokens;
 pub use token::{Kind, Token};
 pub use utf8::check_utf8;
-
-#[cfg(test)]
-mod tests;

@@ -7,12 +7,14 @@ ghost use Rattle.bz_token.specs.declared.token.Kind.TheVariants.{Sign};
 ghost use Rattle.bz_token.specs.Ends.{stops_at};
 ghost use Rattle.bz_token.specs.Lexical.{signs, keywords, begins, is_blank, is_word_byte, is_octal_digit, are_based, is_number, is_keyword, is_sign, is_comment, is_newline};
 
+#[inline(always)]
 pub fn is_blank(b: u8) -> bool
     ensures { result ≡ is_blank b }
 {
     matches!(b, b' ' | b'\t' | b'\r')
 }
 
+#[inline(always)]
 pub fn is_word_byte(b: u8) -> bool
     ensures { result ≡ is_word_byte b }
 {
@@ -20,6 +22,7 @@ pub fn is_word_byte(b: u8) -> bool
 }
 
 /// The number of letters, digits and underscores here.
+#[inline(always)]
 pub fn word_len(bytes: &[u8]) -> usize
     ensures { result ≡ prefix_len is_word_byte bytes.now }
 {
@@ -73,6 +76,7 @@ pub fn is_number(bytes: &[u8]) -> bool
 
 /// Whether the bytes are a keyword.
 #[tactic(auto, unfolding(crate::specs::Lexical::keywords))]
+#[inline(always)]
 pub fn is_keyword(bytes: &[u8]) -> bool
     ensures { result ≡ is_keyword bytes.now }
 {
@@ -95,6 +99,7 @@ pub fn is_keyword(bytes: &[u8]) -> bool
 
 /// The length of the sign that begins with the first of these bytes, or 0.
 #[tactic(auto, unfolding(crate::specs::Lexical::signs))]
+#[inline(always)]
 fn sign_of(a: u8, b: u8, c: u8) -> usize
     ensures at_most { result ≤ 3 }
     ensures sign { 0 < result → is_sign (take result (a ∷ b ∷ c ∷ [])) ≡ true }
@@ -123,6 +128,7 @@ fn sign_of(a: u8, b: u8, c: u8) -> usize
 }
 
 /// The number of bytes before the first newline.
+#[inline(always)]
 fn line_len(bytes: &[u8]) -> usize
     ensures { result ≡ prefix_len (λ b. not (is_newline b)) bytes.now }
 {
@@ -130,6 +136,7 @@ fn line_len(bytes: &[u8]) -> usize
 }
 
 /// The length without trailing white space, at least 1.
+#[inline(always)]
 fn trimmed_len(line: &[u8]) -> usize
     requires { 0 < length line.now }
     ensures in_range { (0 < result) × (result ≤ length line.now) }
@@ -144,6 +151,7 @@ fn trimmed_len(line: &[u8]) -> usize
 }
 
 /// The length of the comment here: the line's, without trailing white space.
+#[inline(always)]
 pub fn comment_len(bytes: &[u8]) -> usize
     requires { begins (λ b. b == 35) bytes.now ≡ true }
     ensures in_range { (0 < result) × (result ≤ length bytes.now) }
@@ -154,6 +162,7 @@ pub fn comment_len(bytes: &[u8]) -> usize
     trimmed_len(&bytes[..line_len(bytes)])
 }
 
+#[inline(always)]
 fn byte_at(bytes: &[u8], at: usize) -> u8
     ensures { result ≡ slice_index bytes.now at }
 {
@@ -161,6 +170,7 @@ fn byte_at(bytes: &[u8], at: usize) -> u8
 }
 
 /// The length of the sign here, or 0.
+#[inline(always)]
 pub fn sign_len(bytes: &[u8]) -> usize
     ensures in_range { result ≤ length bytes.now }
     ensures sign { 0 < result → is_sign (take result bytes.now) ≡ true }

@@ -35,12 +35,14 @@ pub struct Inside {
     pub has_newline: bool,
 }
 
+#[inline(always)]
 pub fn is_quote(b: u8) -> bool
     ensures { result ≡ is_quote b }
 {
     b == b'"' || b == b'\''
 }
 
+#[inline(always)]
 fn is_escaped(escape: Escape, b: u8) -> bool
     ensures { result ≡ is_escaped escape b }
 {
@@ -51,6 +53,7 @@ fn is_escaped(escape: Escape, b: u8) -> bool
     }
 }
 
+#[inline(always)]
 fn escape_behind(escape: Escape, b: u8) -> Escape
     ensures { result ≡ escape_behind escape b }
 {
@@ -62,12 +65,14 @@ fn escape_behind(escape: Escape, b: u8) -> Escape
     }
 }
 
+#[inline(always)]
 pub fn closing_row(long: bool) -> usize
     ensures { result ≡ closing_row long }
 {
     if long { 3 } else { 1 }
 }
 
+#[inline(always)]
 fn prefix_letters(bytes: &[u8]) -> usize
     ensures value { result ≡ prefix_letters bytes.now }
     ensures in_range { result ≤ length bytes.now }
@@ -79,6 +84,7 @@ fn prefix_letters(bytes: &[u8]) -> usize
     }
 }
 
+#[inline(always)]
 fn are_two(quote: u8, bytes: &[u8]) -> bool
     ensures { result ≡ are_two quote bytes.now }
 {
@@ -89,6 +95,7 @@ fn are_two(quote: u8, bytes: &[u8]) -> bool
 }
 
 /// What opens the string that begins here, if one does.
+#[inline(always)]
 pub fn opening_at(bytes: &[u8]) -> Option<Opening>
     ensures { result ≡ opening bytes.now }
 {
@@ -105,6 +112,7 @@ pub fn opening_at(bytes: &[u8]) -> Option<Opening>
 }
 
 /// What stands behind these opening quotes, up to the closing ones, if there are any.
+#[inline(always)]
 pub fn inside_at(quotes: Quotes, bytes: &[u8]) -> Option<Inside>
     requires { is_quote quotes.byte ≡ true }
     ensures in_range { IfSome result (λ r. (0 < r.len) × (r.len ≤ length bytes.now)) }

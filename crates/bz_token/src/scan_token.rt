@@ -27,6 +27,7 @@ pub enum Bad {
     Backslash,
 }
 
+#[inline(always)]
 fn on_one_line(kind: Kind, len: usize) -> Scanned
     ensures kind { result.kind ≡ kind }
     ensures len { result.len ≡ len }
@@ -39,6 +40,7 @@ fn on_one_line(kind: Kind, len: usize) -> Scanned
     }
 }
 
+#[inline(always)]
 fn scan_string(opened: Opening, bytes: &[u8]) -> Result<Scanned, Bad>
     requires { opening bytes.now ≡ Some opened }
     ensures token { IfOk result (λ s. IsScanned bytes.now s) }
@@ -55,6 +57,7 @@ fn scan_string(opened: Opening, bytes: &[u8]) -> Result<Scanned, Bad>
     })
 }
 
+#[inline(always)]
 fn scan_number(bytes: &[u8]) -> Result<Scanned, Bad>
     requires digit { begins is_ascii_digit bytes.now ≡ true }
     ensures token { IfOk result (λ s. IsScanned bytes.now s) }
@@ -67,6 +70,7 @@ fn scan_number(bytes: &[u8]) -> Result<Scanned, Bad>
     Ok(on_one_line(Kind::Int, len))
 }
 
+#[inline(always)]
 fn scan_name(bytes: &[u8]) -> Scanned
     requires unquoted { opening bytes.now ≡ None }
     requires word { begins is_word_byte bytes.now ≡ true }
@@ -81,6 +85,7 @@ fn scan_name(bytes: &[u8]) -> Scanned
     }
 }
 
+#[inline(always)]
 fn scan_mark(bytes: &[u8]) -> Result<Scanned, Bad>
     requires some { 0 < length bytes.now }
     requires unquoted { opening bytes.now ≡ None }
@@ -104,6 +109,7 @@ fn scan_mark(bytes: &[u8]) -> Result<Scanned, Bad>
 }
 
 /// The token here.
+#[inline(always)]
 pub fn scan_token(bytes: &[u8]) -> Result<Scanned, Bad>
     requires { 0 < length bytes.now }
     ensures token { IfOk result (λ s. IsScanned bytes.now s) }

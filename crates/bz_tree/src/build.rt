@@ -35,6 +35,7 @@ pub(crate) struct State<'a> {
     pub(crate) top: Frame<'a>,
 }
 
+#[inline(always)]
 fn new_frame<'a>(alloc: Global, shape: Option<Shape>) -> Frame<'a>
     ensures value { level result ≡ new_level shape }
     ensures borrowed { frame_owned result ≡ 0 }
@@ -46,6 +47,7 @@ fn new_frame<'a>(alloc: Global, shape: Option<Shape>) -> Frame<'a>
     }
 }
 
+#[inline(always)]
 fn behind_own(at: Behind, own: &Own<'_>) -> Behind
     ensures { result ≡ behind at (own_view own.now) }
 {
@@ -57,6 +59,7 @@ fn behind_own(at: Behind, own: &Own<'_>) -> Behind
     }
 }
 
+#[inline(always)]
 fn is_for(own: &Own<'_>) -> bool
     ensures { result ≡ is_for (own_view own.now) }
 {
@@ -77,6 +80,7 @@ fn has_for(owns: &[Own<'_>]) -> bool
     false
 }
 
+#[inline(always)]
 fn with_own<'a>(frame: Frame<'a>, own: Own<'a>) -> Result<Frame<'a>, AllocError>
     ensures value { IfOk result (λ f. level f ≡ with_own (level frame.entry) (own_view own.entry)) }
     ensures borrowed { IfOk result (λ f. frame_owned f ≤ frame_owned frame.entry + own_owned own.entry) }
@@ -113,6 +117,7 @@ fn closed<'a>(
     }))
 }
 
+#[inline(always)]
 fn with_group<'a>(frame: Frame<'a>, group: Group<'a>, line: u64) -> Result<Frame<'a>, AllocError>
     ensures value { IfOk result (λ f. level f ≡ with_own (level frame.entry) (node line (group_view group.entry))) }
     ensures borrowed { IfOk result (λ f. frame_owned f ≤ frame_owned frame.entry + group_owned group.entry) }
@@ -120,6 +125,7 @@ fn with_group<'a>(frame: Frame<'a>, group: Group<'a>, line: u64) -> Result<Frame
     with_own(frame, Own::Node(Node::Group(group), line, 0))
 }
 
+#[inline(always)]
 fn leaf_of<'a>(token: &Token<'a>) -> Leaf<'a>
     ensures value { leaf_view result ≡ placed token.now }
     ensures borrowed { owned result.text ≡ 0 }
@@ -133,6 +139,7 @@ fn leaf_of<'a>(token: &Token<'a>) -> Leaf<'a>
     }
 }
 
+#[inline(always)]
 fn step<'a>(
     alloc: Global,
     before: State<'a>,

@@ -35,6 +35,7 @@ pub(crate) enum Behind {
     Other,
 }
 
+#[inline(always)]
 pub(crate) fn mark_of(token: &Token<'_>) -> Mark
     ensures { result ≡ mark_of (placed token.now) }
 {
@@ -55,6 +56,7 @@ pub(crate) fn mark_of(token: &Token<'_>) -> Mark
     }
 }
 
+#[inline(always)]
 pub(crate) fn same_shape(opened: Option<Shape>, shape: Shape) -> bool
     ensures { result ≡ same_shape opened shape }
 {
@@ -66,6 +68,7 @@ pub(crate) fn same_shape(opened: Option<Shape>, shape: Shape) -> bool
     }
 }
 
+#[inline(always)]
 pub(crate) fn behind_leaf(leaf: &Leaf<'_>) -> Behind
     ensures { result ≡ kind_behind leaf.now.kind (text_of leaf.now.text) }
 {
@@ -76,6 +79,7 @@ pub(crate) fn behind_leaf(leaf: &Leaf<'_>) -> Behind
     }
 }
 
+#[inline(always)]
 pub(crate) fn is_for_leaf(leaf: &Leaf<'_>) -> bool
     ensures { result ≡ is_for_at leaf.now.kind (text_of leaf.now.text) }
 {

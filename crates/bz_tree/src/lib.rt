@@ -16,8 +16,6 @@ mod role;
 mod span;
 mod stage;
 mod stmt;
-#[cfg(test)]
-mod tests;
 
 pub use chunk::parse;
 pub use fault::ParseFault;

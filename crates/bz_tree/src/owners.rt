@@ -47,6 +47,7 @@ pub(crate) struct Content<'a> {
     pub(crate) end: Vec<CowStr<'a>>,
 }
 
+#[inline(always)]
 fn new_walk<'a>(alloc: Global) -> Walk<'a>
     ensures value { walked result ≡ at_start }
     ensures borrowed { walk_owned result ≡ 0 }
@@ -62,6 +63,7 @@ fn new_walk<'a>(alloc: Global) -> Walk<'a>
     }
 }
 
+#[inline(always)]
 fn after_node<'a>(
     walk: Walk<'a>,
     node: Node<'a>,
@@ -96,6 +98,7 @@ fn after_node<'a>(
     })
 }
 
+#[inline(always)]
 fn after_comma<'a>(alloc: Global, walk: Walk<'a>, line: u64) -> Result<Option<Walk<'a>>, AllocError>
     ensures value { IfOk result (λ o. option_map walked o ≡ after_comma line (walked walk.entry)) }
     ensures borrowed { IfOk result (λ o. IfSome o (λ w. walk_owned w ≤ walk_owned walk.entry)) }
@@ -165,12 +168,14 @@ fn to_last<'a>(segs: Vec<Seg<'a>>, text: CowStr<'a>) -> Result<Vec<Seg<'a>>, All
 }
 
 // Whether what begins on a line and ends some lines later ends on that other line.
+#[inline(always)]
 fn ends_on(line: u64, newlines: u64, at: u64) -> bool
     ensures { result ≡ (line + newlines == at) }
 {
     line <= at && at - line == newlines
 }
 
+#[inline(always)]
 fn after_note<'a>(walk: Walk<'a>, line: u64, text: CowStr<'a>) -> Result<Walk<'a>, AllocError>
     ensures value { IfOk result (λ w. walked w ≡ after_note line (text_of text.entry) (walked walk.entry)) }
     ensures borrowed { IfOk result (λ w. walk_owned w ≤ walk_owned walk.entry + owned text.entry) }
@@ -203,6 +208,7 @@ fn after_note<'a>(walk: Walk<'a>, line: u64, text: CowStr<'a>) -> Result<Walk<'a
     })
 }
 
+#[inline(always)]
 fn after<'a>(
     alloc: Global,
     walk: Walk<'a>,
@@ -225,6 +231,7 @@ fn after<'a>(
     }
 }
 
+#[inline(always)]
 fn done(walk: Walk<'_>) -> Result<Content<'_>, AllocError>
     ensures value { IfOk result (λ c. content_view c ≡ done (walked walk.entry)) }
     ensures borrowed { IfOk result (λ c. content_owned c ≤ walk_owned walk.entry) }

@@ -75,6 +75,7 @@ fn sign_role(text: &str) -> Role
     }
 }
 
+#[inline(always)]
 pub(crate) fn leaf_role(leaf: &Leaf<'_>) -> Role
     ensures { result ≡ leaf_role leaf.now.kind (text_of leaf.now.text) }
 {

@@ -9,12 +9,14 @@ ghost use Rattle.bz_tree.specs.Statement.{is_aside, first_token, first_seen, las
 use crate::kinds::{Mark, mark_of};
 use bz_token::{Kind, Token};
 
+#[inline(always)]
 fn is_aside(kind: Kind) -> bool
     ensures { result ≡ is_aside kind }
 {
     matches!(kind, Kind::Note | Kind::Line)
 }
 
+#[inline(always)]
 fn is_line(token: &Token<'_>) -> bool
     ensures { result ≡ is_line (mark_of (placed token.now)) }
 {
@@ -84,6 +86,7 @@ pub(crate) fn start_of(tokens: &[Token<'_>]) -> u64
 }
 
 /// The number of newlines in a text.
+#[inline(always)]
 pub(crate) fn newlines(text: &str) -> u64
     ensures { result ≡ count_by (λ b. b == 10) text.now }
 {

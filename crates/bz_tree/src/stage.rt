@@ -155,6 +155,7 @@ fn at_end(part: Part, role: Role) -> Stage
     }
 }
 
+#[inline(always)]
 fn behind_part(part: Part, role: Role) -> Stage
     ensures { result ≡ behind_part part role }
 {
@@ -182,6 +183,7 @@ fn behind_condition(part: Part, role: Role) -> Stage
     }
 }
 
+#[inline(always)]
 fn leaves(part: Part, asked: bool, role: Role) -> Stage
     ensures { result ≡ leaves part asked role }
 {
@@ -202,6 +204,7 @@ fn in_chain(part: Part, next: Stage) -> Stage
     }
 }
 
+#[inline(always)]
 fn next_wanted(part: Part, asked: bool, role: Role) -> Stage
     ensures { result ≡ next_wanted part asked role }
 {
@@ -213,6 +216,7 @@ fn next_wanted(part: Part, asked: bool, role: Role) -> Stage
     }
 }
 
+#[inline(always)]
 fn next_behind(part: Part, asked: bool, role: Role) -> Stage
     ensures { result ≡ next_behind part asked role }
 {
@@ -283,6 +287,7 @@ fn next_keyword(role: Role) -> Stage
 }
 
 /// The stage behind a node of this role.
+#[inline(always)]
 pub(crate) fn next(stage: Stage, role: Role) -> Stage
     ensures { result ≡ next stage role }
 {

@@ -4,10 +4,11 @@ use super::{Session, Stage, Step};
 use crate::ahead::ahead_tests::held_len;
 use crate::entry::Entry;
 use crate::kept::Kept;
+use crate::options::Options;
+use crate::pass::Pass;
 use crate::progress::Progress;
-use crate::tests::drip::Drip;
-use crate::tests::example::{program, read_script};
-use crate::tests::feed::{Feed, Input, Piece};
+use crate::std_device::{FromRead, ToWrite};
+use bz_rule::{read_command, read_label};
 use std::alloc::{AllocError, Global};
 use std::process::Abort;
 use std::test::Fail;
@@ -51,11 +52,27 @@ fn check_fields(rt: &impl Abort, session: &Session) {
     assert!(rt; held <= 16_384, "{held} bytes");
 }
 
-/// Two rules, so many times over.
+/// A session that sets an attribute of each rule.
+fn begin(alloc: Global) -> Result<Session, Fail> {
+    let (home, target) = read_label(alloc, "//p:*")?;
+    let command = read_command(alloc, "set n 7")?.ok_or("no command")?;
+    let commands = vec![in alloc; command]?;
+    let passes = vec![in alloc; Pass { target, commands }]?;
+    let options = Options {
+        keep_going: true,
+        max_statement: 99,
+        max_depth: 9,
+        max_reads: 99,
+    };
+    let session = Session::new(alloc, home, passes, options)?;
+    Ok(session)
+}
+
+/// A rule, so many times over.
 fn rules(alloc: Global, times: u64) -> Result<Vec<u8>, AllocError> {
     let mut input = Vec::new(alloc);
     for _ in 0..times {
-        input.extend_from_slice(b"f(name = \"a\")\ng(name = \"b\")\n")?;
+        input.extend_from_slice(b"f(name = \"a\")\n")?;
     }
     Ok(input)
 }
@@ -64,20 +81,15 @@ fn rules(alloc: Global, times: u64) -> Result<Vec<u8>, AllocError> {
 #[test]
 fn keeps_no_chunk(rt: HostRuntime) -> Result<(), Fail> {
     let alloc = rt.alloc();
-    let input = rules(alloc, 1000)?;
-    let mut feed = Feed::new(Input::Bytes(input.as_slice()), Piece::AtMost(9000), None);
-    let mut drip = Drip::new(alloc, 9000, None);
-    let (home, passes) = read_script(alloc, &[&["set n 7", "//p:*"]])?;
-    let mut session = Session::new(alloc, home, passes, program(true))?;
+    let input = rules(alloc, 2000)?;
+    let mut source = FromRead::new(input.as_slice());
+    let mut sink = ToWrite::new(Vec::new(alloc));
+    let mut session = begin(alloc)?;
     for chunk in 0..2000 {
-        let step = session.step(&mut feed, &mut drip);
+        let step = session.step(&mut source, &mut sink);
         assert_eq!(rt; step, Ok(Step::More), "chunk {chunk}");
         check_fields(&rt, &session);
     }
-    assert_eq!(rt; session.step(&mut feed, &mut drip), Ok(Step::End));
-    let report = session.finish()?;
-    assert_eq!(rt; report.status(), 0);
-    assert!(rt; report.lines.as_slice().is_empty());
-    assert!(rt; report.messages.as_slice().is_empty());
+    assert_eq!(rt; session.step(&mut source, &mut sink), Ok(Step::End));
     Ok(())
 }

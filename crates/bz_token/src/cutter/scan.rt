@@ -74,18 +74,21 @@ impl Scan {
         }
     }
 
+    #[inline(always)]
     fn within(self, inside: Inside) -> Scan
         ensures { result ≡ at inside self.depth self.kind }
     {
         Scan { inside, ..self }
     }
 
+    #[inline(always)]
     fn at_depth(self, depth: u64) -> Scan
         ensures { result ≡ at self.inside depth self.kind }
     {
         Scan { depth, ..self }
     }
 
+    #[inline(always)]
     fn of_kind(self, kind: LineKind) -> Scan
         ensures { result ≡ at self.inside self.depth kind }
     {
@@ -93,6 +96,7 @@ impl Scan {
     }
 }
 
+#[inline(always)]
 fn byte_of(quote: Quote) -> u8
     ensures { result ≡ byte_of quote }
 {
@@ -102,6 +106,7 @@ fn byte_of(quote: Quote) -> u8
     }
 }
 
+#[inline(always)]
 fn with_note(kind: LineKind) -> LineKind
     ensures { result ≡ with_note kind }
 {
@@ -112,6 +117,7 @@ fn with_note(kind: LineKind) -> LineKind
 }
 
 // A byte outside strings and comments.
+#[inline(always)]
 fn outside(scan: Scan, b: u8) -> Scan
     requires { scan.depth + 1 < 2 ^ 64 }
     ensures scan { result ≡ outside scan.depth scan.kind b }
@@ -133,6 +139,7 @@ fn outside(scan: Scan, b: u8) -> Scan
 }
 
 // A byte in a short string that no backslash stands before.
+#[inline(always)]
 fn in_short(scan: Scan, quote: Quote, b: u8) -> Scan
     ensures scan { result ≡ in_short quote scan.depth scan.kind b }
     ensures depth { result.depth ≡ scan.depth }
@@ -149,6 +156,7 @@ fn in_short(scan: Scan, quote: Quote, b: u8) -> Scan
 }
 
 // A byte in a long string that no backslash stands before; a quote leads to `quoted`.
+#[inline(always)]
 fn in_long(scan: Scan, quote: Quote, quoted: Inside, b: u8) -> Scan
     ensures scan { result ≡ in_long quoted quote scan.depth scan.kind b }
     ensures depth { result.depth ≡ scan.depth }
@@ -162,6 +170,7 @@ fn in_long(scan: Scan, quote: Quote, quoted: Inside, b: u8) -> Scan
     }
 }
 
+#[inline(always)]
 fn advance(scan: Scan, b: u8) -> Scan
     requires { scan.depth + 1 < 2 ^ 64 }
     ensures scan { result ≡ next scan b }
@@ -199,6 +208,7 @@ fn advance(scan: Scan, b: u8) -> Scan
 }
 
 /// The line behind some more bytes.
+#[inline(always)]
 pub fn read(scan: Scan, bytes: &[u8]) -> Scan
     requires { scan.depth + length bytes.now < 2 ^ 64 }
     ensures { result ≡ run scan bytes.now }
@@ -211,6 +221,7 @@ pub fn read(scan: Scan, bytes: &[u8]) -> Scan
 }
 
 /// Whether the logical line has ended.
+#[inline(always)]
 pub fn is_ended(inside: Inside) -> bool
     ensures { result ≡ is_ended inside }
 {

@@ -1,4 +1,4 @@
-use Rattle.std.proofs.Common.{rules, ◌≡◌, ◌+◌, string_bytes, Err, ap, ◌∙◌, map, drop}
+use Rattle.std.proofs.Common.{◌≡◌, ◌+◌, Err, ap, ◌∙◌, map, drop}
 use Rattle.buildozer.specs.Groups as spec
 use Rattle.buildozer.specs.declared.usage.UsageFault.TheVariants.{OutOfMemory}
 use Rattle.buildozer.proofs.GroupSteps.{labels_and, labels-step, labels-fault}
@@ -6,18 +6,18 @@ use Rattle.buildozer.proofs.group.read_labels.Goals as goal
 
 pub returns-in-Err : goal.returns-in-Err
 returns-in-Err c = λ sound.
-    labels-fault string_bytes c.loop-index.labels.items _ c.args.words.now c.loop-index.index c.index-words-index.result c.in-Err.fault
-    (search rules) c.index-words-index.is
+    labels-fault c.args.line (λ word. word.now) c.loop-index.labels.items _ c.args.words.now c.loop-index.index _ c.in-Err.fault
+    c.loop-index-test.true
     (c.in-Err.ensures (λ e. sound (let same : c.in-Err.fault ≡ OutOfMemory = cc in ap Err same))
-    ∙ ap (spec.label_in (c.loop-index.index + 1)) c.as_str.ensures.value)
+    )
     c.loop-index.invariant
 
 pub loop-index-preserved : goal.loop-index-preserved
 loop-index-preserved c =
     let index = c.loop-index.index in
-    let left = spec.labels_of ((index + 1) + 1) (map string_bytes (drop (index + 1) c.args.words.now)) in
-    ap (λ labels. labels_and labels left) c.in_ok-keep_label-in-Ok.ensures.ok
-    ∙ labels-step string_bytes c.loop-index.labels.items _ c.args.words.now index c.index-words-index.result c.in-Ok.label
-    (search rules) c.index-words-index.is
-    (c.in-Ok.ensures (λ e. cc) ∙ ap (spec.label_in (index + 1)) c.as_str.ensures.value)
+    let left = spec.labels_of c.args.line ((index + 1) + 1) (map (λ word. word.now) (drop (index + 1) c.args.words.now)) in
+    ap (λ labels. labels_and labels left) c.in_ok-keep_label-in-Ok.ensures
+    ∙ labels-step c.args.line (λ word. word.now) c.loop-index.labels.items _ c.args.words.now index _ c.in-Ok.label
+    c.loop-index-test.true
+    (c.in-Ok.ensures (λ e. cc))
     c.loop-index.invariant

@@ -87,3 +87,18 @@ returns-in-End-clause-outcome g c =
           (same.home ∙ inv.home) (same.passes ∙ inv.passes) (same.options ∙ inv.options) told over.4,
     ))
     (c.finish.ensures.report end.0 end.1)
+
+pub returns-in_err-session-clause-devices : goal.returns-in_err-session-clause-devices
+returns-in_err-session-clause-devices g c = ([], [], g.met.S.Source.gave_nothing _, g.met.W.Sink.took_nothing _)
+
+pub returns-in_err-step-clause-devices : goal.returns-in_err-step-clause-devices
+returns-in_err-step-clause-devices g c =
+    let inv = c.loop-session.invariant in
+    let more = c.step.ensures.devices in
+    (inv.pieces ++ more.0, inv.text ++ more.1, g.met.S.Source.gave_more _ _ _ _ _ inv.gave more.2, g.met.W.Sink.took_more _ _ _ _ _ inv.took more.3)
+
+pub returns-in-End-clause-devices : goal.returns-in-End-clause-devices
+returns-in-End-clause-devices g c =
+    let inv = c.loop-session.invariant in
+    let more = c.step.ensures.devices in
+    (inv.pieces ++ more.0, inv.text ++ more.1, g.met.S.Source.gave_more _ _ _ _ _ inv.gave more.2, g.met.W.Sink.took_more _ _ _ _ _ inv.took more.3)

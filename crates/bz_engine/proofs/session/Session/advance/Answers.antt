@@ -85,3 +85,14 @@ returns-in_default-clause-end g c end ended pieces cs text before =
       reads_within _ c.find_chunk.new.ahead _ pieces cs read.0 text done read.2,
       whole_end _ c.find_chunk.new.ahead end _ pieces cs read.0 text done read.2 none ended,
     )
+
+pub returns-clause-devices : goal.returns-clause-devices
+returns-clause-devices g c =
+    let read = c.find_chunk.ensures.read in
+    elim c.match-edited.branch [
+      | in-Done+in_ok-write-in-Done w ↦
+          let shown = w.write.ensures.devices in
+          (read.0, shown.0, read.1, subst (λ s. g.W.Sink.took c.args.sink.now shown.0 s) (sym w.sink-is) shown.1)
+      | in-Faulty w ↦ (read.0, [], read.1, subst (λ s. g.W.Sink.took c.args.sink.now [] s) (sym w.sink-is) (g.met.W.Sink.took_nothing _))
+      | in-Failed w ↦ (read.0, [], read.1, subst (λ s. g.W.Sink.took c.args.sink.now [] s) (sym w.sink-is) (g.met.W.Sink.took_nothing _))
+    ]

@@ -55,3 +55,9 @@ returns-clause-end g c told going =
                 ),
           )
     ]
+
+pub returns-in-Stopped-clause-devices : goal.returns-in-Stopped-clause-devices
+returns-in-Stopped-clause-devices g c = ([], [], g.met.S.Source.gave_nothing _, g.met.W.Sink.took_nothing _)
+
+pub returns-in-Ended-clause-devices : goal.returns-in-Ended-clause-devices
+returns-in-Ended-clause-devices g c = ([], [], g.met.S.Source.gave_nothing _, g.met.W.Sink.took_nothing _)

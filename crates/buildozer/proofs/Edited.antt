@@ -1,0 +1,84 @@
+-- A file that is edited holds what it held, or the whole text of a run that is kept.
+use Rattle.std.proofs.Common.{◌≡◌, ℕ, Bool, true, false, List, [], ◌∷◌, Option, None, Some, Result, Ok, sym, ◌∙◌, ap, subst}
+use Rattle.bz_folder.specs.Files.{Content, Event}
+use Rattle.bz_folder.specs.Replace.{Replacement}
+use Rattle.bz_folder.specs.Sequence.{SafeRun, Wanted, EachMay}
+use Rattle.bz_folder.specs.SequenceLaws.{run_nothing, run_one}
+use Rattle.bz_folder.specs.declared.trouble.Trouble.{Trouble}
+use Rattle.bz_engine.specs.declared.report.Report.{Report}
+use Rattle.buildozer.specs.declared.file_run.Ended.{Ended}
+use Rattle.buildozer.specs.declared.file_run.Ended.TheVariants.{Told, Failed, NotYet}
+use Rattle.buildozer.specs.Runs.{Asked, IsRun, IsKeptText, is_kept}
+use Rattle.buildozer.specs.FileRuns.{GaveText, Gives}
+use Rattle.buildozer.specs.Files.{MayHold, IsEdited}
+use Rattle.buildozer.specs.Program.{MayHold as MayHoldAny}
+use Rattle.buildozer.specs.declared.file_run.FileRun.{FileRun}
+
+abbrev or_else : {A : Type 0} → Option A → A → A
+or_else (Some x) y = x
+or_else None y = y
+
+abbrev report_in : Ended → Report → Report
+report_in (Told r) s = r
+report_in (Failed e) s = s
+report_in NotYet s = s
+
+module _ {S : Type 0} (gave : S → List (List ℕ) → S → Type 0) (before after : FileRun S) (asked : Asked) (is : before.asked ≡ Some asked) where
+  -- what was asked is what the run did
+  same_asked : (text : List ℕ) (kept : Bool) (g : GaveText gave before.asked before.source text kept after.source after.ended) → g.was ≡ asked
+  same_asked text kept g = ap (λ o. or_else o g.was) (sym g.asked_is ∙ is)
+
+  kept_text : (text : List ℕ) → GaveText gave before.asked before.source text true after.source after.ended → IsKeptText asked text
+  kept_text text g = record {
+    read = g.read;
+    report = g.report;
+    outcome = subst (λ a. IsRun a g.read text g.report) (same_asked text true g) g.outcome;
+    kept = subst (λ a. is_kept a.keep_going g.report ≡ true) (same_asked text true g) (sym g.kept_is);
+  }
+
+  pub safe_edit : {D : Type 0} (did : D → List Event → D → Type 0) (a b : D) (file : List ℕ) (mode : ℕ) (result : Result Bool Trouble)
+      → Replacement did (λ old text answer new. Gives gave old.asked old.source text answer new.source new.ended) a b before after file mode result
+      → SafeRun did (MayHold asked) a b
+  safe_edit did a b file mode result r =
+      run_one did (MayHold asked) (λ old text answer new. Gives gave old.asked old.source text answer new.source new.ended) a b before after file mode result r
+      (λ text g. kept_text text g)
+
+  -- what the run told is a run's report, and what it answered is whether its text is kept
+  pub edited : (text : List ℕ) (kept : Bool) (report : Report) → GaveText gave before.asked before.source text kept after.source after.ended
+      → after.ended ≡ Told report → IsEdited asked report kept
+  edited text kept report g ended =
+      let same : g.report ≡ report = ap (λ o. report_in o g.report) (sym g.ended_is ∙ ended) in
+      record {
+        read = g.read;
+        text = text;
+        outcome = subst (λ r. IsRun asked g.read text r) same (subst (λ a. IsRun a g.read text g.report) (same_asked text kept g) g.outcome);
+        replaced_is = subst (λ r. kept ≡ is_kept asked.keep_going r) same (subst (λ a. kept ≡ is_kept a.keep_going g.report) (same_asked text kept g) g.kept_is);
+      }
+
+  -- the same, as the file was replaced or not
+  pub edited_as : (result : Result Bool Trouble) (kept : Bool) (report : Report) → result ≡ Ok kept
+      → (result ≡ Ok true → (text : List ℕ) × Gives gave before.asked before.source text (Ok true) after.source after.ended)
+      → (result ≡ Ok false → (text : List ℕ) × Gives gave before.asked before.source text (Ok false) after.source after.ended)
+      → after.ended ≡ Told report → IsEdited asked report kept
+  edited_as result true report e wanted unwanted ended = edited (wanted e).0 true report (wanted e).1 ended
+  edited_as result false report e wanted unwanted ended = edited (unwanted e).0 false report (unwanted e).1 ended
+
+-- a folder of which no call was made
+pub untouched : {D : Type 0} (did : D → List Event → D → Type 0) (May : List ℕ → Content → Type 0) → ((s : D) → did s [] s) → (s : D) → SafeRun did May s s
+untouched did May nothing s = run_nothing did May nothing s
+
+each_weaker : (May More : List ℕ → Content → Type 0) → ((file : List ℕ) (content : Content) → May file content → More file content)
+    → (wants : List Wanted) → EachMay May wants → EachMay More wants
+each_weaker May More f [] h = tt
+each_weaker May More f ((file, None) ∷ wants) h = (tt, each_weaker May More f wants h.1)
+each_weaker May More f ((file, Some content) ∷ wants) h = (f file content h.0, each_weaker May More f wants h.1)
+
+-- what a file may hold, said of more
+pub safe_weaker : {D : Type 0} (did : D → List Event → D → Type 0) (May More : List ℕ → Content → Type 0)
+    → ((file : List ℕ) (content : Content) → May file content → More file content) → (a b : D) → SafeRun did May a b → SafeRun did More a b
+safe_weaker did May More f a b r = record { wants = r.wants; events = r.events; made = r.made; may = each_weaker May More f r.wants r.may; whole = r.whole }
+
+-- a package's run is a run of the program
+pub of_package : {D : Type 0} (did : D → List Event → D → Type 0) (asked : Asked) (keep_going : Bool) → asked.keep_going ≡ keep_going
+    → (a b : D) → SafeRun did (MayHold asked) a b → SafeRun did (MayHoldAny keep_going) a b
+of_package did asked keep_going is a b r = safe_weaker did (MayHold asked) (MayHoldAny keep_going) (λ file content kept. (asked, is, kept)) a b r

@@ -1,0 +1,11 @@
+use Rattle.std.proofs.Common.{◌≡◌, ℕ, List, ◌++◌, drop}
+use Rattle.buildozer.specs.Buffer.{Took}
+use Rattle.buildozer.specs.Texts.{lines_text}
+use Rattle.buildozer.proofs.console.put_lines.Given as goal
+
+abbrev pub invariant-loop-line : goal.invariant-loop-line
+invariant-loop-line g l = record {
+  done : List ℕ;
+  took : Took g.W.Sink.took l.initial.sink done l.sink;
+  rest : done ++ lines_text (drop l.line-index l.lines) ≡ lines_text l.lines;
+}

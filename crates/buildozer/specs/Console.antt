@@ -1,0 +1,10 @@
+-- What standard output and standard error are handed.
+use Rattle.std.specs.Prelude.{ℕ, List}
+use Rattle.buildozer.specs.Buffer.{Took}
+use Rattle.buildozer.specs.declared.console.Console.{Console}
+
+-- standard output is handed the first bytes, and standard error the second ones
+pub record Shows {O E : Type 0} (out_took : O → List ℕ → O → Type 0) (err_took : E → List ℕ → E → Type 0)
+    (old : Console O E) (shown told : List ℕ) (new : Console O E) : Type 0 where
+  pub out : Took out_took old.out shown new.out
+  pub err : Took err_took old.err told new.err

@@ -1,0 +1,45 @@
+-- A run over the statements of one file, and when what it wrote is kept (buildozer README, "Error codes"; this project's own rule).
+use Rattle.std.specs.Prelude.{◌≡◌, ℕ, Bool, true, false, ◌&&◌, ◌||◌, not, List}
+use Rattle.bz_engine.specs.EveryFile.{ForEveryFile}
+use Rattle.bz_engine.specs.Outcome.{Script, IsOutcome, told_by}
+use Rattle.bz_engine.specs.declared.report.Report.{Report}
+use Rattle.bz_engine.specs.declared.report.End.{End}
+use Rattle.bz_engine.specs.declared.report.End.TheVariants.{Whole, Syntax, FirstFailure}
+use Rattle.bz_rule.specs.Labels.{Package}
+
+-- what is asked of a package
+pub record Asked : Type 0 where
+  pub home : Package
+  pub passes : Script
+  -- whether a failure does not end the run
+  pub keep_going : Bool
+
+-- For every file that begins with these reads (where their end was met, for that file), this text and this report are the outcome
+-- of the passes over its statements.
+abbrev pub IsRun : Asked → List (List ℕ) → List ℕ → Report → Type 0
+IsRun asked read text report = ForEveryFile read (λ file. IsOutcome asked.home asked.passes asked.keep_going 100 file text (told_by report))
+
+-- a run read from a source and wrote to a sink, and ended with a report
+pub record Ran {S W : Type 0} (gave : S → List (List ℕ) → S → Type 0) (took : W → List ℕ → W → Type 0)
+    (asked : Asked) (source source_after : S) (sink sink_after : W) (report : Report) : Type 0 where
+  pub read : List (List ℕ)
+  pub text : List ℕ
+  pub outcome : IsRun asked read text report
+  pub gave_is : gave source read source_after
+  pub took_is : took sink text sink_after
+
+abbrev pub is_whole : End → Bool
+is_whole Whole = true
+is_whole (Syntax fault) = false
+is_whole FirstFailure = false
+
+-- the file was read whole, something changed, and nothing failed or failures do not count
+abbrev pub is_kept : Bool → Report → Bool
+is_kept keep_going report = is_whole report.end && (report.changed && (keep_going || not report.failed))
+
+-- a text that a run wrote and that is kept
+pub record IsKeptText (asked : Asked) (text : List ℕ) : Type 0 where
+  pub read : List (List ℕ)
+  pub report : Report
+  pub outcome : IsRun asked read text report
+  pub kept : is_kept asked.keep_going report ≡ true

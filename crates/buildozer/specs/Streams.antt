@@ -1,0 +1,20 @@
+-- A run whose text goes to standard output.
+use Rattle.std.specs.Prelude.{◌≡◌, ℕ, List, ◌++◌}
+use Rattle.bz_engine.specs.Outcome.{status_of}
+use Rattle.bz_engine.specs.declared.report.Report.{Report}
+use Rattle.buildozer.specs.Console.{Shows}
+use Rattle.buildozer.specs.Runs.{Asked, IsRun}
+use Rattle.buildozer.specs.Texts.{lines_text, messages_text}
+use Rattle.buildozer.specs.declared.console.Console.{Console}
+
+-- the text and the printed lines of the run went to standard output, its messages to standard error, and the status is its own
+pub record IsStreamed {S O E : Type 0} (gave : S → List (List ℕ) → S → Type 0) (out_took : O → List ℕ → O → Type 0)
+    (err_took : E → List ℕ → E → Type 0) (asked : Asked) (file : List ℕ)
+    (source source_after : S) (console console_after : Console O E) (status : ℕ) : Type 0 where
+  pub read : List (List ℕ)
+  pub text : List ℕ
+  pub report : Report
+  pub gave_is : gave source read source_after
+  pub outcome : IsRun asked read text report
+  pub shows : Shows out_took err_took console (text ++ lines_text report.lines) (messages_text file report.messages) console_after
+  pub status_is : status ≡ status_of report

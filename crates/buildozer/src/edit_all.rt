@@ -1,0 +1,46 @@
+//! What is done for all packages of a script.
+
+ghost use Rattle.std.specs.Prelude.{◌≡◌, OnErr};
+ghost use Rattle.bz_folder.specs.Sequence.{SafeRun};
+ghost use Rattle.buildozer.specs.Program as spec;
+
+use crate::flags::Flags;
+use crate::group::Script;
+use crate::package::{Devices, FAILED, edit_package};
+use crate::packages::by_package;
+use crate::run::Asked;
+use crate::status::whole_status;
+use bz_engine::{Sink, Source};
+use bz_folder::Folder;
+use std::alloc::{AllocError, Global};
+
+/// Edits each package of the script, in the order of their first mention, and gives the exit status. Without `-k` no package
+/// comes after one that failed.
+///
+/// At each moment each BUILD file has the bytes that it had, or the whole text of a run that is kept. An `Err` has touched no
+/// package.
+pub fn edit_all<D: Folder, S: Source, O: Sink, E: Sink>(
+    alloc: Global,
+    flags: &Flags,
+    script: Script,
+    devices: &mut Devices<D, S, O, E>,
+) -> Result<u8, AllocError>
+    ensures safe { SafeRun D.did (spec.MayHold flags.now.k) devices.old.draft.folder devices.new.draft.folder }
+    ensures err { OnErr result (devices.new ≡ devices.old) }
+{
+    let packages = by_package(alloc, script)?;
+    let mut whole = whole_status(&[]);
+    for (home, passes) in packages {
+        let asked = Asked {
+            home,
+            passes,
+            keep_going: flags.k,
+        };
+        let status = edit_package(alloc, flags, asked, devices);
+        whole = whole_status(&[whole, status]);
+        if status == FAILED && !flags.k {
+            break;
+        }
+    }
+    Ok(whole)
+}

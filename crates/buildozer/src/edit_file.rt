@@ -1,0 +1,66 @@
+//! A run that edits a file in place.
+
+ghost use Rattle.std.specs.Prelude.{◌≡◌, Ok, IfOk};
+ghost use Rattle.bz_folder.specs.Sequence.{SafeRun};
+ghost use Rattle.buildozer.specs.Files as spec;
+
+use crate::file_run::{Ended, FileRun};
+use crate::run::Asked;
+use bz_engine::{Report, RunFault};
+use bz_folder::{Draft, Folder, Opened, Trouble, replace_file};
+use std::alloc::Global;
+
+/// Why a file was not edited.
+#[derive(Clone, Copy, Debug, PartialEq, Eq)]
+pub enum FileFault {
+    Run(RunFault),
+    /// The new file could not be made, written, flushed or put in the old one's place.
+    CannotWrite,
+}
+
+/// Edits a file: what the run writes replaces it where it is kept. Gives what the run tells, and whether the file was
+/// replaced.
+///
+/// At each moment the file has its old bytes, or the whole text of the run if that is kept.
+pub fn edit_file<D: Folder>(
+    alloc: Global,
+    asked: Asked,
+    opened: Opened<D::File>,
+    draft: &mut Draft<D>,
+) -> Result<(Report, bool), FileFault>
+    ensures safe { SafeRun D.did (spec.MayHold asked) draft.old.folder draft.new.folder }
+    ensures edited { IfOk result (λ edited. spec.IsEdited asked edited.0 edited.1) }
+{
+    let mut author = FileRun::new(alloc, opened.source, asked);
+    let replaced = replace_file(draft, &opened.path, opened.mode, &mut author);
+    match author.ended() {
+        Ended::Told(report) => told(report, replaced),
+        Ended::Failed(fault) => Err(FileFault::Run(fault)),
+        Ended::NotYet => Err(not_begun(replaced)),
+    }
+}
+
+/// What a run told, and whether the file was replaced.
+fn told(report: Report, replaced: Result<bool, Trouble>) -> Result<(Report, bool), FileFault>
+    ensures { IfOk result (λ told. (told.0 ≡ report) × (replaced ≡ Ok told.1)) }
+{
+    match replaced {
+        Ok(kept) => Ok((report, kept)),
+        Err(trouble) => Err(fault_of(trouble)),
+    }
+}
+
+/// Why a run did not begin.
+fn not_begun(replaced: Result<bool, Trouble>) -> FileFault {
+    match replaced {
+        Ok(_) => FileFault::CannotWrite,
+        Err(trouble) => fault_of(trouble),
+    }
+}
+
+fn fault_of(trouble: Trouble) -> FileFault {
+    match trouble {
+        Trouble::OutOfMemory => FileFault::Run(RunFault::OutOfMemory),
+        Trouble::Clean | Trouble::LeftBehind => FileFault::CannotWrite,
+    }
+}

@@ -1,0 +1,172 @@
+//! What is done for one package.
+
+ghost use Rattle.std.specs.Prelude.{◌≡◌, ℕ, List, [], string_bytes};
+ghost use Rattle.bz_folder.specs.Sequence.{SafeRun};
+ghost use Rattle.buildozer.specs.Files.{MayHold};
+
+use crate::console::Console;
+use crate::edit_file::{FileFault, edit_file};
+use crate::edit_stream::edit_stream;
+use crate::flags::Flags;
+use crate::names::BuildFiles;
+use crate::run::Asked;
+use bz_engine::{RunFault, Sink, Source, is_query};
+use bz_folder::{CannotOpen, Draft, Folder, Opened};
+use std::alloc::Global;
+
+/// The exit status of a package that failed (buildozer README, "Error codes").
+pub const FAILED: u8 = 2;
+
+/// Where the program reads and writes.
+#[derive(Drop)]
+pub struct Devices<D, S, O, E> {
+    /// The files of the packages, and the draft of the one that is edited.
+    pub draft: Draft<D>,
+    /// Standard input.
+    pub input: S,
+    pub console: Console<O, E>,
+}
+
+/// Edits a package, shows what that tells, and gives the exit status of the package.
+///
+/// A file that cannot be opened or written, a lack of memory, and a failed read or write are told after the name of the file
+/// and are status 2.
+pub fn edit_package<D: Folder, S: Source, O: Sink, E: Sink>(
+    alloc: Global,
+    flags: &Flags,
+    asked: Asked,
+    devices: &mut Devices<D, S, O, E>,
+) -> u8
+    ensures safe { SafeRun D.did (MayHold asked) devices.old.draft.folder devices.new.draft.folder }
+{
+    let status = edit_home(alloc, flags, asked, devices);
+    match devices.console.flush() {
+        Ok(()) => status,
+        Err(_) => FAILED,
+    }
+}
+
+/// Edits standard input, or the package's file.
+fn edit_home<D: Folder, S: Source, O: Sink, E: Sink>(
+    alloc: Global,
+    flags: &Flags,
+    asked: Asked,
+    devices: &mut Devices<D, S, O, E>,
+) -> u8
+    ensures safe { SafeRun D.did (MayHold asked) devices.old.draft.folder devices.new.draft.folder }
+{
+    let Some(folder) = asked.home.path() else {
+        return edit_shown(alloc, asked, "-", &mut devices.input, &mut devices.console);
+    };
+    match BuildFiles::of(alloc, folder) {
+        Ok(files) => edit_found(alloc, flags, asked, &files, devices),
+        Err(_) => {
+            devices.console.put_message(folder, "out of memory");
+            FAILED
+        }
+    }
+}
+
+/// Edits what a source gives, and writes the text to standard output.
+fn edit_shown<S: Source, O: Sink, E: Sink>(
+    alloc: Global,
+    asked: Asked,
+    name: &str,
+    source: &mut S,
+    console: &mut Console<O, E>,
+) -> u8 {
+    match edit_stream(alloc, asked, name, source, console) {
+        Ok(status) => status,
+        Err(fault) => put_fault(alloc, name, fault, console),
+    }
+}
+
+/// Edits the first of the files that is there.
+fn edit_found<D: Folder, S, O: Sink, E: Sink>(
+    alloc: Global,
+    flags: &Flags,
+    asked: Asked,
+    files: &BuildFiles,
+    devices: &mut Devices<D, S, O, E>,
+) -> u8
+    ensures safe { SafeRun D.did (MayHold asked) devices.old.draft.folder devices.new.draft.folder }
+{
+    match open_first(devices.draft.folder(), files) {
+        Ok((opened, name)) => edit_opened(alloc, flags, asked, name, opened, devices),
+        Err(name) => {
+            devices.console.put_message(name, "cannot open");
+            FAILED
+        }
+    }
+}
+
+/// Opens the first of the files that is there, and gives its name. An `Err` names the one that was tried last.
+fn open_first<'a, D: Folder>(
+    folder: &D,
+    files: &'a BuildFiles,
+) -> Result<(Opened<D::File>, &'a str), &'a str> {
+    match folder.open(&files.first) {
+        Ok(opened) => Ok((opened, files.first.as_str())),
+        Err(CannotOpen::Failed) => Err(files.first.as_str()),
+        Err(CannotOpen::Absent) => match folder.open(&files.second) {
+            Ok(opened) => Ok((opened, files.second.as_str())),
+            Err(_) => Err(files.second.as_str()),
+        },
+    }
+}
+
+/// Edits a file that is open: in place, or to standard output where the flags say so or the script only asks.
+fn edit_opened<D: Folder, S, O: Sink, E: Sink>(
+    alloc: Global,
+    flags: &Flags,
+    asked: Asked,
+    name: &str,
+    opened: Opened<D::File>,
+    devices: &mut Devices<D, S, O, E>,
+) -> u8
+    ensures safe { SafeRun D.did (MayHold asked) devices.old.draft.folder devices.new.draft.folder }
+{
+    if flags.stdout || is_query(asked.passes.as_slice()) {
+        let mut source = opened.source;
+        return edit_shown(alloc, asked, name, &mut source, &mut devices.console);
+    }
+    match edit_file(alloc, asked, opened, &mut devices.draft) {
+        Ok((report, replaced)) => {
+            if replaced && !flags.quiet {
+                devices.console.put_fixed(name);
+            }
+            devices.console.put_report(name, &report);
+            report.status()
+        }
+        Err(FileFault::Run(fault)) => put_fault(alloc, name, fault, &mut devices.console),
+        Err(FileFault::CannotWrite) => {
+            devices.console.put_message(name, "cannot write");
+            FAILED
+        }
+    }
+}
+
+/// Tells why a run ended before its report.
+fn put_fault<O: Sink, E: Sink>(
+    alloc: Global,
+    name: &str,
+    fault: RunFault,
+    console: &mut Console<O, E>,
+) -> u8
+    ensures { result ≡ 2 }
+{
+    match fault {
+        RunFault::OutOfMemory => console.put_message(name, "out of memory"),
+        RunFault::ReadFailed => console.put_message(name, "read failed"),
+        RunFault::WriteFailed => console.put_message(name, "write failed"),
+        RunFault::InputTooLong => console.put_message(name, "input too long"),
+        RunFault::StatementTooLong { line } => match format!(in alloc;
+            "{line}: statement too long"
+        ) {
+            Ok(text) => console.put_message(name, &text),
+            Err(_) => console.put_message(name, "statement too long"),
+        },
+        RunFault::Stopped => console.put_message(name, "stopped"),
+    }
+    FAILED
+}

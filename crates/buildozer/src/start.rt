@@ -1,0 +1,81 @@
+//! What the command line and the command file ask for.
+
+ghost use Rattle.std.specs.Prelude.{◌≡◌, map, string_bytes, IfOk};
+
+use crate::command_file::read_command_file;
+use crate::flags::{Flags, read_flags};
+use crate::group::{Script, read_group};
+use crate::inputs::check_inputs;
+use crate::usage::{StartFault, UsageFault};
+use std::alloc::{AllocError, Global};
+use std::fs::File;
+use std::io;
+use std::io::Read;
+
+/// The most bytes of a command file.
+const MAX_COMMANDS: u64 = 16_777_216;
+
+/// The line that stands for the command line in faults.
+const COMMAND_LINE: u64 = 0;
+
+/// What the words of the command line ask for.
+///
+/// Faults of flags come first, then those of the command file or of the words, then standard input that is to be read twice.
+pub fn requested(
+    rt: &HostRuntime,
+    alloc: Global,
+    words: &[String],
+) -> Result<(Flags, Script), StartFault> {
+    let (flags, words) = read_flags(alloc, words)?;
+    let script = match &flags.file {
+        Some(file) => {
+            let bytes = command_bytes(rt, alloc, file.as_str())?;
+            read_command_file(alloc, bytes.as_slice())?
+        }
+        None => {
+            let words = texts(alloc, words).map_err(|_| UsageFault::OutOfMemory)?;
+            read_group(alloc, COMMAND_LINE, words.as_slice())?
+        }
+    };
+    check_inputs(&flags, script.as_slice())?;
+    Ok((flags, script))
+}
+
+/// The bytes of a command file; `-` is standard input.
+fn command_bytes(rt: &HostRuntime, alloc: Global, path: &str) -> Result<Vec<u8>, StartFault> {
+    if path == "-" {
+        return read_commands(alloc, rt.stdin());
+    }
+    match File::open(rt, path) {
+        Ok(file) => read_commands(alloc, file),
+        Err(error) => Err(read_fault(error)),
+    }
+}
+
+/// All bytes of a command file.
+fn read_commands<R: Read + Drop>(alloc: Global, reader: R) -> Result<Vec<u8>, StartFault> {
+    let mut bytes = Vec::new(alloc);
+    match reader.take(MAX_COMMANDS + 1).read_to_end(&mut bytes) {
+        Ok(n) if n as u64 > MAX_COMMANDS => Err(StartFault::LongCommands),
+        Ok(_) => Ok(bytes),
+        Err(error) => Err(read_fault(error)),
+    }
+}
+
+fn read_fault(error: io::Error) -> StartFault {
+    match error.kind() {
+        io::ErrorKind::OutOfMemory => StartFault::Usage(UsageFault::OutOfMemory),
+        _ => StartFault::UnreadCommands,
+    }
+}
+
+/// The words as texts.
+fn texts<'a>(alloc: Global, words: &'a [String]) -> Result<Vec<&'a str>, AllocError>
+    ensures { IfOk result (λ texts. map (λ text. text.now) texts.items ≡ map string_bytes words.now) }
+{
+    let mut texts = Vec::with_capacity(alloc, words.len())?;
+    for word in words {
+        texts.push(word.as_str())?;
+    }
+    Ok(texts)
+}

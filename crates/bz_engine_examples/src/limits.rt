@@ -1,0 +1,115 @@
+//! How much is read, and which limit is met first.
+
+use crate::drip::Drip;
+use crate::feed::{Feed, Input, Piece};
+use crate::script::{limited, plain, read_script};
+use bz_engine::{RunFault, Session, run};
+use std::alloc::{AllocError, Global};
+use std::process::Abort;
+use std::test::Fail;
+
+/// An input, the most bytes of a chunk and the most reads; what the first step answers, and behind how many reads of a line each.
+const BY_LINES: &str = "␄ 5 1 End 1
+␄ 5 0 InputTooLong 0
+x␊y␊ 2 1 More 1
+x(1)␊y␊ 4 1 StatementTooLong 1
+x(1) 4 2 More 2
+x(1) 4 1 InputTooLong 1
+x(1) 3 1 StatementTooLong 1
+#a␊#b␊ 2 9 StatementTooLong 1
+if␉a:␊␉b␊c␊ 5 9 StatementTooLong 1
+if␉a:␊␉b␊c␊ 9 9 More 3
+if␉a:␊␉b␊c␊ 9 2 InputTooLong 2
+if␉a:␊␉b 9 9 More 3
+∞x 10000 9 StatementTooLong 2
+∞\\ 99999 3 InputTooLong 3";
+
+/// The same, of reads of a byte each.
+const BY_BYTES: &str = "x=1234␊ 7 99 More 7
+x=12345␊ 7 99 StatementTooLong 8
+x=12345␊ 7 7 InputTooLong 7
+∞x 8 9 StatementTooLong 9
+∞x 8 8 InputTooLong 8
+∞␊ 8 1 More 1";
+
+/// What the first step answers, and how many reads it made.
+fn first_step(
+    alloc: Global,
+    input: Input<'_>,
+    piece: Piece,
+    max_statement: u64,
+    max_reads: u32,
+) -> Result<String, Fail> {
+    let mut feed = Feed::new(input, piece, None);
+    let mut drip = Drip::new(alloc, 99, None);
+    let (home, passes) = read_script(alloc, "set a 1 ! -:*")?;
+    let options = limited(max_statement, 100, max_reads);
+    let mut session = Session::new(alloc, home, passes, options)?;
+    let step = session.step(&mut feed, &mut drip);
+    let reads = feed.reads;
+    let answer = match step {
+        Ok(step) => format!(in alloc; "{step:?} {reads}")?,
+        Err(RunFault::StatementTooLong { line: 1 }) => format!(in alloc;
+            "StatementTooLong {reads}"
+        )?,
+        Err(fault) => format!(in alloc; "{fault:?} {reads}")?,
+    };
+    Ok(answer)
+}
+
+fn check(rt: &impl Abort, alloc: Global, table: &str, piece: Piece) -> Result<(), Fail> {
+    for row in table.lines() {
+        let (input, rest) = row.split_once(' ').ok_or("a row without limits")?;
+        let (bytes, rest) = rest.split_once(' ').ok_or("a row without limits")?;
+        let (reads, wanted) = rest.split_once(' ').ok_or("a row without an answer")?;
+        let max_statement = bytes.parse::<u64>()?;
+        let max_reads = reads.parse::<u32>()?;
+        let text = plain(alloc, input.trim_start_matches('∞'))?;
+        let input = match (input.starts_with('∞'), text.as_bytes().first()) {
+            (true, Some(byte)) => Input::Endless(*byte),
+            _ => Input::Bytes(text.as_bytes()),
+        };
+        let found = first_step(alloc, input, piece, max_statement, max_reads)?;
+        assert_eq!(rt; found.as_str(), wanted, "{row}");
+    }
+    Ok(())
+}
+
+#[test]
+fn reads_what_is_needed(rt: HostRuntime) -> Result<(), Fail> {
+    check(&rt, rt.alloc(), BY_LINES, Piece::Line)?;
+    check(&rt, rt.alloc(), BY_BYTES, Piece::AtMost(1))
+}
+
+/// So many brackets in one another.
+fn nested(alloc: Global, depth: usize) -> Result<String, AllocError> {
+    let mut text = String::from_str(alloc, "x = ")?;
+    for bracket in ['[', ']'] {
+        for _ in 0..depth {
+            text.push(bracket)?;
+        }
+    }
+    text.push('\n')?;
+    Ok(text)
+}
+
+/// How many messages a run tells, byte by byte.
+fn messages(alloc: Global, input: &[u8], max_depth: u8) -> Result<usize, Fail> {
+    let mut feed = Feed::new(Input::Bytes(input), Piece::AtMost(1), None);
+    let mut drip = Drip::new(alloc, 1, None);
+    let (home, passes) = read_script(alloc, "set a 1 ! -:*")?;
+    let options = limited(999, max_depth, 999);
+    let report = run(alloc, home, passes, options, &mut feed, &mut drip)?;
+    Ok(report.messages.as_slice().len())
+}
+
+#[test]
+fn keeps_to_the_depth(rt: HostRuntime) -> Result<(), Fail> {
+    let alloc = rt.alloc();
+    let most = nested(alloc, 100)?;
+    let more = nested(alloc, 101)?;
+    assert_eq!(rt; messages(alloc, most.as_bytes(), 100)?, 0);
+    assert_eq!(rt; messages(alloc, more.as_bytes(), 100)?, 1);
+    assert_eq!(rt; messages(alloc, b"f()\n", 0)?, 1);
+    Ok(())
+}

@@ -1,0 +1,300 @@
+//! Runs whose source gives a byte at a time and whose sink takes one, over each front of an input, and over what was written.
+
+use crate::drip::Drip;
+use crate::feed::{Feed, Input, Piece};
+use crate::script::{plain, program, read_script};
+use bz_engine::{End, Report, run};
+use std::alloc::{AllocError, Global};
+use std::process::Abort;
+use std::test::Fail;
+
+/// A script and an input; the text that is written; and what is told.
+const RUNS: &str = r#"
+---
+add deps //b:c ! -:a
+cc_library(name="a",srcs=["a.cc"])
+->
+cc_library(
+    name = "a",
+    srcs = ["a.cc"],
+    deps = ["//b:c"],
+)
+=>
+status 0
+---
+add deps //p:x ! //p:a
+f(name = "a", deps = [":x"])
+->
+f(
+    name = "a",
+    deps = [":x"],
+)
+=>
+status 3
+---
+remove deps //p:x ! //p:a
+f(name = "a", deps = [":x"])
+->
+f(name = "a")
+=>
+status 0
+---
+set name b ! print name ! //p:a ; print kind ! //p:b ; print kind ! //p:a
+f(name = "a")
+->
+f(name = "b")
+=>
+line: b
+line: f
+message: //p:a: no such rule
+status 2
+---
+print name ! print kind ! //p:*
+f(name = "a")
+g(name = "b")
+->
+=>
+line: a
+line: b
+line: f
+line: g
+status 3
+---
+delete ! -:a ; print kind ! -:%5
+# c
+f(
+    name = "a",
+)
+g(name = "b")
+->
+g(name = "b")
+=>
+line: g
+status 0
+---
+add deps w ! -:a
+f(
+    name = "a",
+    deps = [ # c1
+        "x", # c2
+        "y" # c3
+        , "z"
+        # c4
+    ],
+)
+->
+f(
+    name = "a",
+    deps = [
+        # c1
+        "x",  # c2
+        "y",  # c3
+        "z",
+        "w",
+        # c4
+    ],
+)
+=>
+status 0
+---
+add deps q ! print kind ! -:a
+x = 1
+f(name = "a")
+x = )
+->
+x = 1
+
+f(
+    name = "a",
+    deps = ["q"],
+)
+=>
+message: 3:5: bracket does not match
+status 2
+---
+move deps data * ! -:a
+f(
+    name = "a",
+    # d
+    deps = [
+        # one
+        "x",
+        "y",  # two
+    ],
+    data = ["x"],
+)
+->
+f(
+    name = "a",
+    data = [
+        "x",
+        "y",  # two
+    ],
+)
+=>
+status 0
+---
+set a 1 ! -:*
+# top
+
+# of x
+x = 1 # s
+# end␄
+->
+# top
+
+# of x
+x = 1  # s
+
+# end
+=>
+status 3
+---
+set a 1 ! -:*
+if a:
+    def = """
+# in the text
+"""
+else:
+    y  =  2
+
+  # tail
+
+# c
+z=1
+->
+if a:
+    def = """
+# in the text
+"""
+else:
+    y  =  2
+
+  # tail
+
+# c
+z = 1
+=>
+status 3
+---
+add deps z ! -:*
+x = 'a'␍
+y = 'b"'␄
+->
+x = "a"
+y = 'b"'
+=>
+status 3
+---
+print label deps n q ! //p:a
+f(name = "a", deps = ["x y", "z"], n = 1+2)
+->
+=>
+line: //p:a ["x y" z] 1 + 2 (missing)
+message: //p:a: no attribute 'q' to print
+status 3
+"#;
+
+/// What a run wrote, and how it ended.
+#[derive(Drop)]
+struct Outcome {
+    text: Vec<u8>,
+    report: Report,
+}
+
+/// A run that goes on after failures, so many bytes at a time.
+fn run_all(alloc: Global, script: &str, input: &[u8], most: usize) -> Result<Outcome, Fail> {
+    let mut feed = Feed::new(Input::Bytes(input), Piece::AtMost(most), None);
+    let mut drip = Drip::new(alloc, most, None);
+    let (home, passes) = read_script(alloc, script)?;
+    let report = run(alloc, home, passes, program(true), &mut feed, &mut drip)?;
+    Ok(Outcome {
+        text: drip.taken,
+        report,
+    })
+}
+
+/// What a report tells.
+fn told(alloc: Global, report: &Report) -> Result<String, AllocError> {
+    let mut out = String::new(alloc);
+    for line in report.lines.as_slice() {
+        out.push_str("line: ")?;
+        out.push_str(line.as_str())?;
+        out.push('\n')?;
+    }
+    for message in report.messages.as_slice() {
+        out.push_str("message: ")?;
+        out.push_str(message.as_str())?;
+        out.push('\n')?;
+    }
+    let status = report.status();
+    let last = format!(in alloc; "status {status}\n")?;
+    out.push_str(last.as_str())?;
+    Ok(out)
+}
+
+/// A run writes and tells this, and so it does all at once and byte by byte.
+fn check(
+    rt: &impl Abort,
+    alloc: Global,
+    script: &str,
+    input: &[u8],
+    text: &str,
+    wanted: &str,
+) -> Result<(), Fail> {
+    for most in [1, 9000] {
+        let outcome = run_all(alloc, script, input, most)?;
+        assert!(rt; outcome.text.as_slice() == text.as_bytes(), "{script}");
+        let told = told(alloc, &outcome.report)?;
+        assert_eq!(rt; told.as_str(), wanted, "{script}");
+    }
+    Ok(())
+}
+
+/// Each front of an input has an outcome, and what was written for it can be read again.
+fn check_fronts(rt: &impl Abort, alloc: Global, script: &str, input: &[u8]) -> Result<(), Fail> {
+    for len in 0..input.len() {
+        let first = run_all(alloc, script, &input[..len], 9000)?;
+        let again = run_all(alloc, script, first.text.as_slice(), 9000)?;
+        let is_read = !matches!(again.report.end, End::Syntax(_));
+        assert!(rt; is_read, "{script}, {len} bytes");
+    }
+    Ok(())
+}
+
+// The text of a run is written again as it stands, and nothing is told of it.
+#[test]
+fn runs_byte_by_byte(rt: HostRuntime) -> Result<(), Fail> {
+    let alloc = rt.alloc();
+    for row in RUNS.split("---\n").skip(1) {
+        let (asked, answer) = row.split_once("->\n").ok_or("a row without an answer")?;
+        let (script, input) = asked.split_once('\n').ok_or("a row without an input")?;
+        let (text, wanted) = answer.split_once("=>\n").ok_or("a row without a status")?;
+        let input = plain(alloc, input)?;
+        check(&rt, alloc, script, input.as_bytes(), text, wanted)?;
+        let same = "set_if_absent name z ! -:*";
+        check(&rt, alloc, same, text.as_bytes(), text, "status 3\n")?;
+    }
+    Ok(())
+}
+
+#[test]
+fn fronts_of_inputs(rt: HostRuntime) -> Result<(), Fail> {
+    let alloc = rt.alloc();
+    for row in RUNS.split("---\n").skip(1) {
+        let (asked, _) = row.split_once("->\n").ok_or("a row without an answer")?;
+        let (script, input) = asked.split_once('\n').ok_or("a row without an input")?;
+        let input = plain(alloc, input)?;
+        check_fronts(&rt, alloc, script, input.as_bytes())?;
+    }
+    let bad = b"x = \"\xff\"\n";
+    check(
+        &rt,
+        alloc,
+        "set a 1 ! -:*",
+        bad,
+        "",
+        "message: 1:6: not UTF-8\nstatus 2\n",
+    )?;
+    check_fronts(&rt, alloc, "set a 1 ! -:*", bad)
+}

@@ -1,0 +1,10 @@
+pub mod Files
+pub mod Paths
+pub mod Replace
+pub mod Sequence
+pub mod SequenceLaws
+pub mod DraftValue
+pub mod Steps
+pub mod Moments
+pub mod DraftLaws
+pub mod Tally

@@ -1,0 +1,59 @@
+//! The calls of a replacement, one after another.
+
+ghost use Rattle.std.specs.Prelude.{◌≡◌, ◌≢◌, List, [], Ok, Err};
+ghost use Rattle.bz_folder.specs.Files.{Event, HasBytes};
+ghost use Rattle.bz_folder.specs.Paths.{temporary_path};
+ghost use Rattle.bz_folder.specs.Steps.{IsSent, IsPut};
+ghost use Rattle.bz_folder.specs.declared.draft.Stage.TheVariants.{Unmade};
+
+use crate::draft::Stage;
+use crate::folder::Folder;
+use bz_engine::Failed;
+
+/// Makes an empty file, in place of what lies there.
+fn make_empty<D: Folder>(folder: &mut D, path: &str) -> Result<(), Failed>
+    ensures { (events : List Event) × D.did folder.old events folder.new × IsSent Unmade path.now [] result events }
+{
+    folder.remove(path)?;
+    folder.make(path)
+}
+
+/// Makes the temporary file where it is not made.
+fn ready<D: Folder>(folder: &mut D, stage: Stage, path: &str) -> Result<(), Failed>
+    ensures { (events : List Event) × D.did folder.old events folder.new × IsSent stage path.now [] result events }
+{
+    match stage {
+        Stage::Unmade => make_empty(folder, path),
+        Stage::Made => Ok(()),
+        Stage::Broken => Err(Failed),
+    }
+}
+
+/// Writes bytes at the end of the temporary file, which is made first if need be.
+pub(crate) fn send<D: Folder>(
+    folder: &mut D,
+    stage: Stage,
+    path: &str,
+    bytes: &[u8],
+) -> Result<(), Failed>
+    ensures { (events : List Event) × D.did folder.old events folder.new
+        × IsSent stage path.now bytes.now result events }
+{
+    ready(folder, stage, path)?;
+    folder.write(path, bytes)
+}
+
+/// Puts the temporary file, with these permission bits, in the place of the file.
+pub(crate) fn install<D: Folder>(
+    folder: &mut D,
+    temporary: &str,
+    file: &str,
+    mode: u32,
+) -> Result<(), Failed>
+    requires { temporary.now ≡ temporary_path file.now }
+    ensures { (events : List Event) × D.did folder.old events folder.new
+        × IsPut (HasBytes temporary.now) ⊥ file.now mode result events }
+{
+    folder.set_mode(temporary, mode)?;
+    folder.rename(temporary, file)
+}

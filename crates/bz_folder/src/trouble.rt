@@ -1,0 +1,12 @@
+//! Why a file was not replaced.
+
+/// Why a file was not replaced. It is as it was.
+#[derive(Clone, Copy, Debug, PartialEq, Eq)]
+pub enum Trouble {
+    /// There was no memory for the path of the temporary file. No call was made.
+    OutOfMemory,
+    /// A call failed, or the author did. No temporary file is left.
+    Clean,
+    /// A call failed, and the temporary file, or what lay there before, could not be removed.
+    LeftBehind,
+}

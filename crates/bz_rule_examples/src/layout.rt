@@ -1,0 +1,488 @@
+//! Canonical texts, texts on one line, and empty lines.
+
+use crate::table::{plain, read};
+use crate::trees;
+use bz_layout::{blank_between, flat, put_stmt};
+use bz_tree::{Class, Group, Node, ParseFault};
+use std::alloc::{AllocError, Global};
+use std::test::Fail;
+
+/// A chunk, and the canonical text of its statement.
+const TEXTS: &str = r##"
+---
+f(name='a')
+->
+f(name = "a")
+---
+f(
+    name = "a",
+    deps = [ # c1
+        "x", # c2
+        "y" # c3
+        , "z"
+        # c4
+    ],
+)
+->
+f(
+    name = "a",
+    deps = [
+        # c1
+        "x",  # c2
+        "y",  # c3
+        "z",
+        # c4
+    ],
+)
+---
+f(name = "a", deps = ["a","d"] + select({"c": ["b"]}))
+->
+f(
+    name = "a",
+    deps = [
+        "a",
+        "d",
+    ] + select({
+        "c": ["b"],
+    }),
+)
+---
+x = [k+v for k,v in d.items()]
+->
+x = [k + v for k, v in d.items()]
+---
+x=(1)
+->
+x = (1)
+---
+y=(1,)
+->
+y = (1,)
+---
+f(
+    name = "a",
+    # d
+    deps = [
+        # one
+        "x",
+        "y",  # two
+    ],
+    data = ["x"],
+)
+->
+f(
+    name = "a",
+    # d
+    deps = [
+        # one
+        "x",
+        "y",  # two
+    ],
+    data = ["x"],
+)
+---
+f( # note
+name = "a")
+->
+f(
+    # note
+    name = "a",
+)
+---
+# top
+
+->
+# top
+---
+# of x
+x = 1 # s
+->
+# of x
+x = 1  # s
+---
+# end␄
+->
+# end
+---
+f(name = "a", deps = [":x", ":y"])
+->
+f(
+    name = "a",
+    deps = [
+        ":x",
+        ":y",
+    ],
+)
+---
+f(name = "a", deps = ["x y", "z"], n = 1+2)
+->
+f(
+    name = "a",
+    deps = [
+        "x y",
+        "z",
+    ],
+    n = 1 + 2,
+)
+---
+x = not -f(*a, **k)
+->
+x = not -f(*a, **k)
+---
+x={'a':[1,2]}
+->
+x = {
+    "a": [
+        1,
+        2,
+    ],
+}
+---
+x[1 : - 2]
+->
+x[1:-2]
+---
+x = [ ':a', "b"[ : : ], a not in b ]
+->
+x = [
+    ":a",
+    "b"[::],
+    a not in b,
+]
+---
+if a:
+    def = """
+# in the text
+"""
+else:
+    y  =  2
+
+  # tail
+
+->
+if a:
+    def = """
+# in the text
+"""
+else:
+    y  =  2
+
+  # tail
+---
+f ( name = "a" , deps = [ "x" ] , n = 1 + 2 , l = [ "a" , "b" ] )␄
+->
+f(
+    name = "a",
+    deps = ["x"],
+    n = 1 + 2,
+    l = [
+        "a",
+        "b",
+    ],
+)
+---
+f ( [ a , b ] ) . c␄
+->
+f([
+    a,
+    b,
+]).c
+---
+x = f ( [ a , b ] , c )␄
+->
+x = f(
+    [
+        a,
+        b,
+    ],
+    c,
+)
+---
+[ [ a , b ] ]␄
+->
+[[
+    a,
+    b,
+]]
+---
+[ [ a ] ]␄
+->
+[[a]]
+---
+f ( x = { } )␄
+->
+f(x = {})
+---
+f ( a = g ( [ 1 , 2 ] ) , b = 1 )␄
+->
+f(
+    a = g([
+        1,
+        2,
+    ]),
+    b = 1,
+)
+---
+x = ( a , b )␄
+->
+x = (a, b)
+---
+x = ( a , [ 1 , 2 ] )␄
+->
+x = (
+    a,
+    [
+        1,
+        2,
+    ],
+)
+---
+load ( "m" , a = 'b' )␄
+->
+load("m", a = "b")
+---
+load(
+    "m",  # a
+    "b",
+)
+->
+load(
+    "m",  # a
+    "b",
+)
+---
+x = f(
+    # a
+)
+->
+x = f(
+    # a
+)
+---
+(
+    # a
+    # b
+    x  # c
+    # d
+    # e
+)
+->
+(
+    # a
+    # b
+    x  # c
+    # d
+    # e
+)
+---
+(
+    # a
+    x,
+)
+->
+(
+    # a
+    x,
+)
+---
+(
+    x,
+    y,  # a
+)
+->
+(
+    x,
+    y,  # a
+)
+---
+x[
+    # a
+    1:2  # b
+]
+->
+x[
+    # a
+    1:2  # b
+]
+---
+[
+    a for a in b
+    # c
+]
+->
+[
+    a for a in b
+    # c
+]
+---
+{
+    # c
+    a: b for a, b in c
+}
+->
+{
+    # c
+    a: b for a, b in c
+}
+---
+{
+    a: 1,  # b
+}
+->
+{
+    a: 1,  # b
+}
+"##;
+
+/// The canonical text of the copy of a chunk's statement, behind a comment.
+fn written(alloc: Global, text: &str) -> Result<Vec<u8>, ParseFault> {
+    let mut out = b"# above\n".to_vec(alloc)?;
+    if let Some(stmt) = read(alloc, text)? {
+        put_stmt(alloc, &stmt.copy(alloc)?, &mut out)?;
+    }
+    Ok(out)
+}
+
+/// Whether these bytes are written for the statement of a chunk.
+fn is_written(alloc: Global, text: &str, wanted: &str) -> Result<bool, ParseFault> {
+    let all = format!(in alloc; "# above\n{wanted}")?;
+    Ok(written(alloc, text)?.as_slice() == all.as_bytes())
+}
+
+/// Whether two chunks have one statement, but where strings may be respelled.
+fn is_same_statement(alloc: Global, a: &str, b: &str) -> Result<bool, AllocError> {
+    Ok(a.contains('\'') || trees::shown(alloc, a)? == trees::shown(alloc, b)?)
+}
+
+// What is written is the same statement, and is written again as it stands.
+#[test]
+fn canonical_texts(rt: HostRuntime) -> Result<(), Fail> {
+    let alloc = rt.alloc();
+    for row in TEXTS.split("---\n").skip(1) {
+        let (text, wanted) = row.split_once("->\n").ok_or("a row without an answer")?;
+        let text = plain(alloc, text)?;
+        let text = text.as_str();
+        assert!(rt; is_written(alloc, text, wanted)?, "{text}");
+        assert!(rt; is_written(alloc, wanted, wanted)?, "{wanted}");
+        assert!(rt; is_same_statement(alloc, text, wanted)?, "{text}");
+    }
+    Ok(())
+}
+
+/// A statement, and its text on one line.
+const FLAT: &str = r##"- x ! -x
++ 1 ! +1
+~ ( x ) ! ~(x)
+- - x ! --x
+- not - x ! -not -x
+not - x ! not -x
+a or + x ! a or +x
+a - x ! a - x
+1 - x ! 1 - x
+"a" + x ! "a" + x
+( a ) - x ! (a) - x
+f ( ) - x ! f() - x
+[ a ] + [ b ] ! [a] + [b]
+a * - x ! a * -x
+a - ~ x ! a - ~x
+a == - x ! a == -x
+a , - x ! a, -x
+x = - y ! x = -y
+x -= y ! x -= y
+{ a : - x } ! {a: -x}
+x = not - f ( * a , ** k ) ! x = not -f(*a, **k)
+f ( * a , ** k ) ! f(*a, **k)
+f ( a * b ) ! f(a * b)
+f ( * - a ) ! f(*-a)
+a . b . c ( ) ! a.b.c()
+"a" ( b ) ! "a"(b)
+"a" . f ( b ) ! "a".f(b)
+"a" [ 1 ] ! "a"[1]
+f ( ) ( a ) [ b ] ! f()(a)[b]
+load ( "m" , "a" ) ! load("m", "a")
+not ( a ) ! not (a)
+a in [ b ] ! a in [b]
+a not in b ! a not in b
+a if b else c ! a if b else c
+x [ : ] ! x[:]
+x [ : : ] ! x[::]
+x [ a : b : c ] ! x[a:b:c]
+x [ 1 : - 2 ] ! x[1:-2]
+x [ a + b : not c ] ! x[a + b:not c]
+x [ { a : b } ] ! x[{a: b}]
+{ a [ 1 : 2 ] : b } ! {a[1:2]: b}
+{ a : b for a , b in c } ! {a: b for a, b in c}
+( ) ! ()
+( x ) ! (x)
+( x ,) ! (x,)
+( x , y ) ! (x, y)
+[ ] ! []
+[ k + v for k , v in d . items ( ) ] ! [k + v for k, v in d.items()]
+[ 'a' , b'x' ] ! ["a", b'x']
+'' ! ""
+'a"b' ! 'a"b'
+'a\n' ! 'a\n'
+r'a' ! r'a'
+'''a''' ! '''a'''
+"a" ! "a""##;
+
+/// A statement, and the text of the first segment of its first bracket on one line.
+const FLAT_SEGMENTS: &str = r##"x[1 : - 2] ! 1:-2
+{a : b} ! a: b
+{a : b for c in d} ! a: b for c in d
+x = f(* a) ! *a
+f(** a) ! **a"##;
+
+/// The first bracket.
+fn first_group<'s, 'a>(nodes: &'s [Node<'a>]) -> Option<&'s Group<'a>> {
+    for node in nodes {
+        if let Node::Group(group) = node {
+            return Some(group);
+        }
+    }
+    None
+}
+
+fn flat_text(alloc: Global, text: &str) -> Result<String, Fail> {
+    let stmt = read(alloc, text)?.ok_or("no statement")?;
+    let text = flat(alloc, &stmt.nodes, None)?;
+    Ok(text)
+}
+
+fn flat_segment(alloc: Global, text: &str) -> Result<String, Fail> {
+    let stmt = read(alloc, text)?.ok_or("no statement")?;
+    let group = first_group(&stmt.nodes).ok_or("no bracket")?;
+    let segment = group.segs.first().ok_or("no segment")?;
+    let text = flat(alloc, &segment.nodes, Some(group.kind))?;
+    Ok(text)
+}
+
+#[test]
+fn texts_on_one_line(rt: HostRuntime) -> Result<(), Fail> {
+    for row in FLAT.lines() {
+        let (text, wanted) = row.split_once(" ! ").ok_or("a row without an answer")?;
+        assert_eq!(rt; flat_text(rt.alloc(), text)?.as_str(), wanted, "{text}");
+    }
+    for row in FLAT_SEGMENTS.lines() {
+        let (text, wanted) = row.split_once(" ! ").ok_or("a row without an answer")?;
+        assert_eq!(rt; flat_segment(rt.alloc(), text)?.as_str(), wanted, "{text}");
+    }
+    Ok(())
+}
+
+#[test]
+fn empty_lines(rt: HostRuntime) -> Result<(), Fail> {
+    for (before, after, wanted) in [
+        (None, Class::Rule, false),
+        (Some(Class::Load), Class::Load, false),
+        (Some(Class::Load), Class::Assign, true),
+        (Some(Class::Comment), Class::Comment, true),
+        (Some(Class::Assign), Class::Assign, false),
+        (Some(Class::Rule), Class::Rule, true),
+        (Some(Class::Block), Class::Block, true),
+        (Some(Class::Assign), Class::Load, true),
+    ] {
+        assert_eq!(rt; blank_between(before, after), wanted);
+    }
+    Ok(())
+}

@@ -1,0 +1,201 @@
+//! Tokens and their places, first faults, what is UTF-8, and what goes on with a block.
+
+ghost use Rattle.std.specs.Prelude.{IsTrue};
+ghost use Rattle.bz_token.specs.Cuts.{is_physical_line};
+
+use crate::table::plain;
+use bz_token::{Cut, Cutter, LexFault, Next, Token, check_utf8, tokens};
+use std::alloc::{AllocError, Global};
+use std::test::Fail;
+
+/// A text, and its tokens or its first fault.
+const TOKENS: &str = r##"
+---
+x=1
+->
+Ident "x" 1:1 first
+Sign "=" 1:2
+Int "1" 1:3
+Line "\n" 1:4
+---
+x = 0X1f␄
+->
+Ident "x" 1:1 first
+Sign "=" 1:3
+Int "0X1f" 1:5
+---
+for\␍
+ rb'\''# a ␉␍
+->
+Word "for" 1:1 first
+Text "rb'\\''" 2:2 first
+Note "# a" 2:8
+Line "\n" 2:14
+---
+(␍
+#
+'\␍
+')␍
+->
+Sign "(" 1:1 first
+Note "#" 2:1 first
+Text "'\\\r\n'" 3:1 first
+Sign ")" 4:2 first
+Line "\n" 4:4
+---
+"""#
+""
+\""""//=x
+->
+Text "\"\"\"#\n\"\"\n\\\"\"\"\"" 1:1 first
+Sign "//=" 3:6 first
+Ident "x" 3:9
+Line "\n" 3:10
+---
+xr"é""" != y␄
+->
+Ident "xr" 1:1 first
+Text "\"é\"" 1:3
+Text "\"\"" 1:7
+Sign "!=" 1:10
+Ident "y" 1:13
+---
+x = $
+->
+BadCharacter { line: 1, col: 5 }
+---
+1é␄
+->
+BadCharacter { line: 1, col: 2 }
+---
+0b1
+->
+BadNumber { line: 1, col: 1 }
+---
+x \ y
+->
+BadBackslash { line: 1, col: 3 }
+---
+x\␍␄
+->
+BadBackslash { line: 1, col: 2 }
+---
+f(
+->
+OpenBracket { line: 1, col: 2 }
+---
+([]{␄
+->
+OpenBracket { line: 1, col: 4 }
+---
+x = r'a\'
+->
+OpenText { line: 1, col: 5 }
+---
+
+"""""␄
+->
+OpenText { line: 2, col: 1 }
+---
+(]␄
+->
+BadBracket { line: 1, col: 2 }
+"##;
+
+fn put_token(alloc: Global, token: &Token<'_>, out: &mut String) -> Result<(), AllocError> {
+    let Token {
+        kind,
+        text,
+        line,
+        col,
+        fresh,
+    } = *token;
+    let first = if fresh { " first" } else { "" };
+    let shown = format!(in alloc; "{kind:?} {text:?} {line}:{col}{first}\n")?;
+    out.push_str(shown.as_str())
+}
+
+fn shown(alloc: Global, text: &str) -> Result<String, AllocError> {
+    let mut out = String::new(alloc);
+    if text.len() > 1000 {
+        return Ok(out);
+    }
+    match tokens(alloc, text, 1, 100) {
+        Ok(found) => {
+            for token in &found {
+                put_token(alloc, token, &mut out)?;
+            }
+            Ok(out)
+        }
+        Err(fault) => format!(in alloc; "{fault:?}\n"),
+    }
+}
+
+#[test]
+fn tokens_of_texts(rt: HostRuntime) -> Result<(), Fail> {
+    let alloc = rt.alloc();
+    for row in TOKENS.split("---\n").skip(1) {
+        let (text, wanted) = row.split_once("->\n").ok_or("a row without an answer")?;
+        let text = plain(alloc, text)?;
+        assert_eq!(rt; shown(alloc, text.as_str())?.as_str(), wanted, "{text}");
+    }
+    for (text, max_depth, fault) in [
+        (")", 0, LexFault::BadBracket { line: 1, col: 1 }),
+        ("((", 1, LexFault::TooDeep { line: 1, col: 2 }),
+        ("(", 0, LexFault::TooDeep { line: 1, col: 1 }),
+    ] {
+        assert_eq!(rt; tokens(alloc, text, 1, max_depth).err(), Some(fault));
+    }
+    assert_eq!(rt; check_utf8(&[97, 255]), Err(1));
+    assert_eq!(rt; check_utf8(b"\xc3\xa9"), Ok("é"));
+    Ok(())
+}
+
+/// What ends a block that begins with this line.
+fn behind(header: &[u8], ahead: &str, at_end: bool) -> Option<Next>
+    requires { IsTrue (is_physical_line header.now) }
+{
+    let mut cutter = Cutter::new();
+    match cutter.line(header) {
+        Cut::Block => Some(cutter.goes_on(ahead.as_bytes(), at_end)),
+        Cut::More | Cut::Whole => None,
+    }
+}
+
+/// What follows an `if`, whether that is all, and whether it goes on with the block.
+const BEHIND_IF: &str = "els more Short
+else end Goes
+else: more Goes
+elsewhere more Ends
+else more Short
+el end Ends
+e more Short
+elif end Goes
+elif: more Goes
+␍␊ more Goes
+# more Ends
+\\ more Ends";
+
+#[test]
+fn blocks_go_on(rt: HostRuntime) -> Result<(), Fail> {
+    let alloc = rt.alloc();
+    for row in BEHIND_IF.lines() {
+        let (ahead, rest) = row.split_once(' ').ok_or("a row without an answer")?;
+        let (end, wanted) = rest.split_once(' ').ok_or("a row without an answer")?;
+        let ahead = plain(alloc, ahead)?;
+        let next = behind(b"if a:\n", ahead.as_str(), end == "end").ok_or("no block")?;
+        let next = format!(in alloc; "{next:?}")?;
+        assert_eq!(rt; next.as_str(), wanted, "{row}");
+    }
+    let def = b"def f():\n";
+    assert_eq!(rt; behind(def, "else:", false), Some(Next::Ends));
+    assert_eq!(rt; behind(def, " x", false), Some(Next::Goes));
+    assert_eq!(rt; behind(def, "\n", false), Some(Next::Goes));
+    assert_eq!(rt; behind(def, "", true), Some(Next::Ends));
+    assert_eq!(rt; behind(def, "", false), Some(Next::Short));
+    assert_eq!(rt; behind(b"for x in y:\n", "x", false), Some(Next::Ends));
+    assert_eq!(rt; behind(b" if a:\n", " ", false), None);
+    assert_eq!(rt; behind(b"iff = 1\n", " ", false), None);
+    assert_eq!(rt; behind(b"def f('\n", " ", false), None);
+    Ok(())
+}

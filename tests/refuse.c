@@ -1,0 +1,97 @@
+/* A library that is loaded before a program's own, and refuses one call: the one numbered REFUSE_NUMBER, from 1, of the
+   function REFUSE_CALL. With REFUSE_LOG it writes there, at the program's end, "1" if a call was refused, else "0".
+
+   A refused call does nothing, and answers as the system would: no memory, a full disk, a fault of the device. A read that is
+   interrupted, and a read or write of one byte where more were wanted, are no faults.  */
+#define _GNU_SOURCE
+#include <dlfcn.h>
+#include <errno.h>
+#include <fcntl.h>
+#include <stdarg.h>
+#include <stdio.h>
+#include <stdlib.h>
+#include <string.h>
+#include <sys/stat.h>
+#include <sys/types.h>
+#include <unistd.h>
+
+static const char *refused_name;
+static long refused_number;
+static long made;
+static int refused;
+
+__attribute__((constructor)) static void begin(void) {
+    const char *number = getenv("REFUSE_NUMBER");
+    refused_number = number ? strtol(number, NULL, 10) : 0;
+    made = 0;
+    refused_name = getenv("REFUSE_CALL");
+}
+
+__attribute__((destructor)) static void end(void) {
+    const char *path = getenv("REFUSE_LOG");
+    refused_name = NULL;
+    if (path == NULL) return;
+    FILE *log = fopen(path, "w");
+    if (log == NULL) return;
+    fputc(refused ? '1' : '0', log);
+    fclose(log);
+}
+
+static int is_refused(const char *name, int error) {
+    if (refused_name == NULL || strcmp(refused_name, name) != 0) return 0;
+    if (++made != refused_number) return 0;
+    refused = 1;
+    errno = error;
+    return 1;
+}
+
+/* The function of this name that stands after this library. */
+#define NEXT(name) ((__typeof__(&name))dlsym(RTLD_NEXT, #name))
+
+extern void *__libc_malloc(size_t);
+extern void *__libc_realloc(void *, size_t);
+
+void *malloc(size_t size) { return is_refused("malloc", ENOMEM) ? NULL : __libc_malloc(size); }
+
+void *realloc(void *old, size_t size) { return is_refused("realloc", ENOMEM) ? NULL : __libc_realloc(old, size); }
+
+ssize_t read(int file, void *bytes, size_t size) {
+    if (is_refused("read", EIO) || is_refused("interrupted read", EINTR)) return -1;
+    return NEXT(read)(file, bytes, size > 1 && is_refused("short read", 0) ? 1 : size);
+}
+
+ssize_t write(int file, const void *bytes, size_t size) {
+    if (is_refused("write", ENOSPC)) return -1;
+    return NEXT(write)(file, bytes, size > 1 && is_refused("short write", 0) ? 1 : size);
+}
+
+ssize_t __write(int file, const void *bytes, size_t size) { return write(file, bytes, size); }
+
+int open(const char *path, int flags, ...) {
+    va_list rest;
+    va_start(rest, flags);
+    mode_t mode = flags & O_CREAT ? va_arg(rest, mode_t) : 0;
+    va_end(rest);
+    return is_refused("open", EACCES) ? -1 : NEXT(open)(path, flags, mode);
+}
+
+int statx(int folder, const char *restrict path, int flags, unsigned mask, struct statx *restrict answer) {
+    return is_refused("statx", EIO) ? -1 : NEXT(statx)(folder, path, flags, mask, answer);
+}
+
+char *realpath(const char *restrict path, char *restrict answer) {
+    return is_refused("realpath", EIO) ? NULL : NEXT(realpath)(path, answer);
+}
+
+int fchmod(int file, mode_t mode) { return is_refused("fchmod", EPERM) ? -1 : NEXT(fchmod)(file, mode); }
+
+int rename(const char *from, const char *to) { return is_refused("rename", EXDEV) ? -1 : NEXT(rename)(from, to); }
+
+int unlink(const char *path) { return is_refused("unlink", EPERM) ? -1 : NEXT(unlink)(path); }
+
+int close(int file) {
+    if (!is_refused("close", EIO)) return NEXT(close)(file);
+    NEXT(close)(file);
+    errno = EIO;
+    return -1;
+}
