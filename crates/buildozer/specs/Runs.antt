@@ -5,7 +5,7 @@ use Rattle.bz_engine.specs.Outcome.{Script, IsOutcome, told_by}
 use Rattle.bz_engine.specs.declared.report.Report.{Report}
 use Rattle.bz_engine.specs.declared.report.End.{End}
 use Rattle.bz_engine.specs.declared.report.End.TheVariants.{Whole, Syntax, FirstFailure}
-use Rattle.bz_rule.specs.Labels.{Package}
+use Rattle.bz_command.specs.Labels.{Package}
 
 -- what is asked of a package
 pub record Asked : Type 0 where

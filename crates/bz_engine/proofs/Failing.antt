@@ -4,8 +4,8 @@ use Rattle.std.specs.Prelude.{Option, None, Some, option_to_list}
 use Rattle.std.specs.List.{flat_map}
 use Rattle.std.proofs.lemmas.Bool.{false≢true}
 use Rattle.bz_tree.specs.Tree.{Statement}
-use Rattle.bz_rule.specs.Labels.{Package}
-use Rattle.bz_rule.specs.Commands.{Command}
+use Rattle.bz_command.specs.Labels.{Package}
+use Rattle.bz_command.specs.Commands.{Command}
 use Rattle.bz_rule.specs.Effects.{fails}
 use Rattle.bz_rule.specs.Applied.{done_of}
 use Rattle.bz_rule.specs.declared.done.Note.{Note}

@@ -5,7 +5,7 @@ use Rattle.bz_tree.specs.Tree.{Statement}
 use Rattle.bz_tree.specs.declared.stmt.Class.{Class}
 use Rattle.bz_layout.specs.Layout.{layout_text}
 use Rattle.bz_layout.specs.Gaps.{blank_between}
-use Rattle.bz_rule.specs.Labels.{Package}
+use Rattle.bz_command.specs.Labels.{Package}
 use Rattle.bz_engine.specs.Passes.{Slot, slots_after}
 use Rattle.bz_engine.specs.Exchange.{slot_after}
 use Rattle.bz_engine.specs.Meaning.{meaning}

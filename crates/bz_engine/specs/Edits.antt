@@ -1,7 +1,7 @@
 -- What the script on one chunk answers, for private clauses.
 use Rattle.std.specs.Prelude.{◌≡◌, ℕ, Bool, true, false, if◌then◌else◌, List, [], ◌∷◌, ◌++◌, Option, Some, Ok, Err, option_to_list}
 use Rattle.bz_tree.specs.Tree.{Statement}
-use Rattle.bz_rule.specs.Labels.{Package}
+use Rattle.bz_command.specs.Labels.{Package}
 use Rattle.bz_engine.specs.declared.edit.Edited.{Edited}
 use Rattle.bz_engine.specs.declared.edit.Edited.TheVariants.{Done, Faulty, Failed}
 use Rattle.bz_engine.specs.declared.report.SyntaxFault.{SyntaxFault}

@@ -1,8 +1,8 @@
 -- What targets mark and what commands do to the statement in a slot, and what is told of it: the language of passes over BUILD files.
 use Rattle.std.specs.Prelude.{ℕ, Bool, false, List, [], ◌∷◌, ◌++◌, Option, None, Some}
 use Rattle.bz_tree.specs.Tree.{Statement}
-use Rattle.bz_rule.specs.Labels.{Package, Target, must_mark}
-use Rattle.bz_rule.specs.Commands.{Command}
+use Rattle.bz_command.specs.Labels.{Package, Target, must_mark}
+use Rattle.bz_command.specs.Commands.{Command}
 use Rattle.bz_rule.specs.Marks.{marks}
 use Rattle.bz_rule.specs.Texts.{shown_text}
 use Rattle.bz_rule.specs.Effects.{fails}

@@ -6,8 +6,8 @@ use Rattle.bz_tree.specs.Tree.{Statement}
 use Rattle.bz_tree.specs.declared.stmt.Class.{Class}
 use Rattle.bz_layout.specs.Layout.{layout_text}
 use Rattle.bz_layout.specs.Gaps.{blank_between}
-use Rattle.bz_rule.specs.Labels.{Package, Target}
-use Rattle.bz_rule.specs.Commands.{Command, is_print}
+use Rattle.bz_command.specs.Labels.{Package, Target}
+use Rattle.bz_command.specs.Commands.{Command, is_print}
 use Rattle.bz_engine.specs.declared.entry.Entry.{Entry}
 use Rattle.bz_engine.specs.declared.entry.Entry.TheVariants.{Line, Warning, Failure}
 use Rattle.bz_engine.specs.declared.report.SyntaxFault.{SyntaxFault}

@@ -4,7 +4,7 @@ use Rattle.std.specs.List.{concat}
 use Rattle.bz_token.specs.Places.{line_at}
 use Rattle.bz_tree.specs.Tree.{Statement}
 use Rattle.bz_tree.specs.declared.stmt.Class.{Class}
-use Rattle.bz_rule.specs.Labels.{Package}
+use Rattle.bz_command.specs.Labels.{Package}
 use Rattle.bz_engine.specs.declared.entry.Entry.{Entry}
 use Rattle.bz_engine.specs.Passes.{Slot, slots_after}
 use Rattle.bz_engine.specs.Exchange.{Kept, IsLeftBy, slot_after}

@@ -13,9 +13,6 @@ use bz_token::{Cut, Cutter, Next};
 use std::alloc::Global;
 use std::marker::Model;
 
-#[cfg(test)]
-pub(crate) mod ahead_tests;
-
 /// What was read of an input and not yet taken.
 #[derive(Drop)]
 pub(crate) struct Ahead {

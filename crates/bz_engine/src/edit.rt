@@ -6,7 +6,7 @@ ghost use Rattle.bz_tree.specs.Tree.{Statement};
 ghost use Rattle.bz_tree.specs.View.{view, slot_view};
 ghost use Rattle.bz_layout.specs.Gaps.{blank_between as is_gap};
 ghost use Rattle.bz_layout.specs.Layout.{layout_text};
-ghost use Rattle.bz_rule.specs.Commands.{is_print};
+ghost use Rattle.bz_command.specs.Commands.{is_print};
 ghost use Rattle.bz_engine.specs.Exchange.{Fits};
 ghost use Rattle.bz_engine.specs.Outcome.{is_query, text_behind, gap_text, failure_text, first_of, log_alone};
 ghost use Rattle.bz_engine.specs.Progress.{IsKeptOf, last_class};

@@ -5,9 +5,9 @@ use Rattle.std.proofs.lemmas.Bool.{or_left, or_right, and_parts}
 use Rattle.std.proofs.lemmas.List.{append_cancel_left}
 use Rattle.std.proofs.lemmas.List.Folds.{list_any-append}
 use Rattle.bz_tree.specs.Tree.{Segment}
-use Rattle.bz_rule.specs.Labels.{Package}
-use Rattle.bz_rule.specs.Same.{completed}
-use Rattle.bz_rule.specs.Commands.{Values}
+use Rattle.bz_command.specs.Labels.{Package}
+use Rattle.bz_command.specs.Same.{completed}
+use Rattle.bz_command.specs.Commands.{Values}
 use Rattle.bz_rule.specs.Rules.{is_named, is_text, first_named, value}
 use Rattle.bz_rule.specs.Lists.{edit_first_part, is_attribute, parts, same, with_value}
 use Rattle.bz_rule.specs.Effects.{add, adds, argument, chooses, chooses_in, done, edit_first, fresh, has, is_chosen, is_fresh, is_nil, list_item, new_elements, no_parts, not_a_list, string, with_added}

@@ -6,8 +6,8 @@ use Rattle.bz_token.specs.declared.token.Kind.TheVariants.{Ident, Word, Int, Tex
 use Rattle.bz_tree.specs.declared.stmt.GroupKind.TheVariants.{RuleCall}
 use Rattle.bz_tree.specs.Tree.{Item, leaf, group, Items, no_items, item, Segs, no_segs, seg, Segment, Statement, items_of, segs_of, segments}
 use Rattle.bz_tree.specs.Comments.{Lists, beside, comments_of, joined, item_owners, items_owners, segs_owners}
-use Rattle.bz_rule.specs.Labels.{Package}
-use Rattle.bz_rule.specs.Commands.{Attributes, Every, Named}
+use Rattle.bz_command.specs.Labels.{Package}
+use Rattle.bz_command.specs.Commands.{Attributes, Every, Named}
 use Rattle.bz_rule.specs.Rules.{Rule, dotted, ident_of, kind_text, is_named, is_sign, is_text, name_of, rule_of, string_value, value}
 use Rattle.bz_rule.specs.Lists.{edit_first_part, edit_from, edit_list, edit_one_from, edit_parts, equals, is_attribute, is_joint, is_part, is_plus, parts, same_value, with_value}
 use Rattle.bz_rule.specs.Effects.{add, argument, edit_first, fresh, has, list_item, new_elements, no_parts, nodes_after, nodes_of, rename, rename_note, rename_to, renamed, string, string_item, with_added, with_args}

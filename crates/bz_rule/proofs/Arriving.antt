@@ -8,8 +8,8 @@ use Rattle.bz_token.proofs.Classes.{same_bytes}
 use Rattle.bz_tree.specs.declared.stmt.Seg.{Seg}
 use Rattle.bz_tree.specs.Tree.{Item, Segment}
 use Rattle.bz_tree.specs.View.{seg_view, segs_view}
-use Rattle.bz_rule.specs.Labels.{Package}
-use Rattle.bz_rule.specs.Commands.{Moved}
+use Rattle.bz_command.specs.Labels.{Package}
+use Rattle.bz_command.specs.Commands.{Moved}
 use Rattle.bz_rule.specs.Rules.{elements, is_named, is_text, name_of, first_named, string_value, value}
 use Rattle.bz_rule.specs.Lists.{with_value, parts, parts_from, is_part, is_plus, is_joint, edit_list, edit_one_from, edit_first_part, edit_parts}
 use Rattle.bz_rule.specs.Effects.{has, edit_first, filtered, unchosen, loses_all, argument, list_item}

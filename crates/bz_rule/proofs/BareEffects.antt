@@ -4,8 +4,8 @@ use Rattle.std.specs.List.{list_any}
 use Rattle.std.proofs.lemmas.List.{map-append}
 use Rattle.bz_tree.specs.declared.stmt.GroupKind.TheVariants.{List as ListKind}
 use Rattle.bz_tree.specs.Tree.{Item, group, Segs, Segment, bare}
-use Rattle.bz_rule.specs.Labels.{Package}
-use Rattle.bz_rule.specs.Commands.{Attributes, Every, Named, Moved, Values}
+use Rattle.bz_command.specs.Labels.{Package}
+use Rattle.bz_command.specs.Commands.{Attributes, Every, Named, Moved, Values}
 use Rattle.bz_rule.specs.Rules.{elements, first_named, is_named, value}
 use Rattle.bz_rule.specs.Lists.{edit_first_part, edit_parts, is_attribute, parts, with_value}
 use Rattle.bz_rule.specs.Effects.{add, adds, argument, chooses, chooses_in, edit_first, filtered, fresh, goes_with_all, has, is_chosen, is_fresh, is_nil, list_item, loses_all, new_elements, no_parts, not_a_list, remove, removes, rename, rename_note, rename_to, renamed, string, unchosen, with_added}

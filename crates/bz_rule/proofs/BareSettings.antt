@@ -4,8 +4,8 @@ use Rattle.std.specs.List.{list_any, list_all}
 use Rattle.std.proofs.lemmas.List.{map-append}
 use Rattle.bz_token.specs.declared.token.Kind.TheVariants.{Ident, Word, Int, Text, Sign, Line, Note, Kept}
 use Rattle.bz_tree.specs.Tree.{Item, leaf, group, Segment, nowhere, bare}
-use Rattle.bz_rule.specs.Labels.{Package}
-use Rattle.bz_rule.specs.Commands.{Attributes, Every, Named, Moved}
+use Rattle.bz_command.specs.Labels.{Package}
+use Rattle.bz_command.specs.Commands.{Attributes, Every, Named, Moved}
 use Rattle.bz_rule.specs.Rules.{elements, first_named, is_named, is_text, string_value, value}
 use Rattle.bz_rule.specs.Lists.{edit_first_part, edit_list, edit_parts, equals, is_attribute, is_joint, is_list, is_part, is_plus, parts, with_value}
 use Rattle.bz_rule.specs.Effects.{argument, chooses_in, edit_first, filtered, has, is_absent, is_chosen, list_item, not_a_list, string, string_item, unchosen}

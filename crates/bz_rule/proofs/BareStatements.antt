@@ -5,8 +5,8 @@ use Rattle.std.proofs.lemmas.List.{map-append}
 use Rattle.bz_token.specs.declared.token.Kind.TheVariants.{Ident, Word, Int, Text, Sign, Line, Note, Kept}
 use Rattle.bz_tree.specs.declared.stmt.GroupKind.TheVariants.{Call, RuleCall, Load, Paren, List as ListKind, Index, Dict, ListComp, DictComp}
 use Rattle.bz_tree.specs.Tree.{Item, leaf, group, Segs, Segment, Statement, segs_of, nowhere, bare, bare_segs}
-use Rattle.bz_rule.specs.Labels.{Package}
-use Rattle.bz_rule.specs.Commands.{Command, Add, Remove, Set, SetIfAbsent, Delete, Rename, Move, Replace, Comment, Print, ToKind, ToValues, Rule as OfRule, Attribute, Value, Field}
+use Rattle.bz_command.specs.Labels.{Package}
+use Rattle.bz_command.specs.Commands.{Command, Add, Remove, Set, SetIfAbsent, Delete, Rename, Move, Replace, Comment, Print, ToKind, ToValues, Rule as OfRule, Attribute, Value, Field}
 use Rattle.bz_rule.specs.Rules.{Rule, call_at, comma_of, dotted, elements, end_of, first_named, is_call, kind_text, rule_from, rule_of, written}
 use Rattle.bz_rule.specs.Effects.{adds, done, done_in, holds_rule, nodes_after, nodes_of, not_a_list, slot_done, with_args}
 use Rattle.bz_rule.specs.Setting.{joined_by_dots, kind_after, kind_items, sets, sets_kind, with_kind}

@@ -4,7 +4,7 @@ use Rattle.std.specs.List.{list_any, list_all}
 use Rattle.std.proofs.lemmas.Bool.{cases_Bool}
 use Rattle.std.proofs.lemmas.List.{length_push}
 use Rattle.bz_tree.specs.Tree.{Item, leaf, group, Segment, Statement}
-use Rattle.bz_rule.specs.Labels.{Package}
+use Rattle.bz_command.specs.Labels.{Package}
 use Rattle.bz_rule.specs.Rules.{rule_of, is_named, is_text, name_of, first_named, value, elements}
 use Rattle.bz_rule.specs.Lists.{edit_list, equals, is_joint, is_part, is_plus, parts, parts_from}
 use Rattle.bz_rule.specs.declared.done.Note.{Note}

@@ -4,13 +4,13 @@ use Rattle.std.proofs.lemmas.List.{append_cancel_left}
 use Rattle.std.proofs.lemmas.Bool.{and_parts}
 use Rattle.bz_tree.specs.declared.stmt.GroupKind.TheVariants.{RuleCall}
 use Rattle.bz_tree.specs.Tree.{Item, group, Segment, Statement, segs_of, segments}
-use Rattle.bz_rule.specs.Labels.{Package}
-use Rattle.bz_rule.specs.Commands.{Command, Add, Remove, Set, SetIfAbsent, Delete, Rename, Move, Replace, Comment, Print, ToKind, ToValues, Rule as OfRule, Attribute, Value, Field, Attributes, Moved, is_command, is_moved}
+use Rattle.bz_command.specs.Labels.{Package}
+use Rattle.bz_command.specs.Commands.{Command, Add, Remove, Set, SetIfAbsent, Delete, Rename, Move, Replace, Comment, Print, ToKind, ToValues, Rule as OfRule, Attribute, Value, Field, Attributes, Moved, is_command, is_moved}
 use Rattle.bz_rule.specs.Rules.{Rule, rule_of, is_named}
 use Rattle.bz_rule.specs.declared.done.Done.{Done}
 use Rattle.bz_rule.specs.declared.done.Note.{Note}
 use Rattle.bz_rule.specs.declared.done.Note.TheVariants.{NoAttribute}
-use Rattle.bz_rule.specs.Names.{is_identifier}
+use Rattle.bz_command.specs.Names.{is_identifier}
 use Rattle.bz_rule.specs.Effects.{done, done_in, edit_first, has, holds_rule, is_absent, nodes_after, nodes_of, rename_note, slot_done, with_args}
 use Rattle.bz_rule.specs.Moving.{moved, moves, move_note}
 use Rattle.bz_rule.specs.Commenting.{comment_attribute, comment_line, comment_note, comment_rule, with_comment}

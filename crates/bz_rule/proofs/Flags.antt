@@ -8,11 +8,11 @@ use Rattle.bz_token.proofs.Classes.{same_bytes}
 use Rattle.bz_tree.specs.declared.stmt.Seg.{Seg}
 use Rattle.bz_tree.specs.Tree.{Segment}
 use Rattle.bz_tree.specs.View.{seg_view, segs_view}
-use Rattle.bz_rule.specs.Labels.{Package}
-use Rattle.bz_rule.specs.Same.{completed}
+use Rattle.bz_command.specs.Labels.{Package}
+use Rattle.bz_command.specs.Same.{completed}
 use Rattle.bz_rule.specs.Rules.{string_value}
 use Rattle.bz_rule.specs.Lists.{equals, same, same_value}
-use Rattle.bz_rule.specs.LabelSetViews.{is_in}
+use Rattle.bz_rule.specs.ElementSets.{is_in}
 use Rattle.bz_rule.specs.Moving.{arrivals, is_among, joined}
 use Rattle.bz_rule.specs.MovingSteps.{flags, flagged, has_value}
 use Rattle.bz_rule.proofs.Arriving.{any-joined}

@@ -4,7 +4,7 @@ use Rattle.std.specs.List.{list_any}
 use Rattle.std.proofs.lemmas.List.{drop_more, take_more, map-append}
 use Rattle.std.proofs.lemmas.List.Folds.{list_any_more}
 use Rattle.bz_tree.specs.Tree.{Segment}
-use Rattle.bz_rule.specs.Labels.{Package}
+use Rattle.bz_command.specs.Labels.{Package}
 use Rattle.bz_rule.specs.Effects.{is_fresh, fresh, string}
 
 pub fresh_step : (home : Package) (lists : List (List Segment)) (values : List (List ℕ)) (i : ℕ) (w d : List ℕ) (new added : List Segment) → i < length values → w ≡ get_or values i d

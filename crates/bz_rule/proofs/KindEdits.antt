@@ -8,7 +8,7 @@ use Rattle.bz_rule.specs.Rules.{Rule, rule_of, kind_text}
 use Rattle.bz_rule.specs.Effects.{fails}
 use Rattle.bz_rule.specs.Applied.{sets_kind_of}
 use Rattle.bz_rule.specs.Setting.{joined_by_dots, ident_item, dot_item, kind_items, kind_after, sets_kind}
-use Rattle.bz_rule.proofs.Cuts.{some_part}
+use Rattle.bz_command.proofs.Cuts.{some_part}
 use Rattle.bz_rule.proofs.Stays.{rule_nodes}
 
 joined_more : (name : List ℕ) (names : List (List ℕ)) → 0 < length names → joined_by_dots (name ∷ names) ≡ ident_item name ∷ dot_item ∷ joined_by_dots names

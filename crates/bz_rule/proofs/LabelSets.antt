@@ -9,17 +9,9 @@ use Rattle.bz_tree.specs.declared.stmt.Seg.{Seg}
 use Rattle.bz_tree.specs.View.{node_view, nodes_view, seg_view, segs_view}
 use Rattle.bz_tree.specs.Tree.{Item, Segment}
 use Rattle.bz_rule.specs.Rules.{elements}
-use Rattle.bz_rule.specs.Labels.{Package}
-use Rattle.bz_rule.specs.Same.{completed}
+use Rattle.bz_command.specs.Labels.{Package}
+use Rattle.bz_command.specs.Same.{completed}
 use Rattle.bz_rule.specs.Lists.{is_part, is_plus, parts_from, same, same_value}
-
-or_is : (a b : Bool) → cond a true b ≡ (a || b)
-or_is true b = refl
-or_is false b = refl
-
--- whether q is there once k was added
-pub one_more : (k q : List ℕ) (b : Bool) → cond (bytes_eq k q) true b ≡ (bytes_eq q k || b)
-one_more k q b = ap (λ (z : Bool). cond z true b) (nat_list_eq_equiv.symm k q) ∙ or_is (bytes_eq q k) b
 
 pub same_back : (home : Package) (a b : List ℕ) → same home a b ≡ same home b a
 same_back home a b = nat_list_eq_equiv.symm (completed home a) (completed home b)

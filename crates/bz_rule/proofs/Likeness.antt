@@ -4,13 +4,13 @@ use Rattle.std.specs.List.{list_any, list_all}
 use Rattle.std.proofs.lemmas.Bool.{and_from, and_parts, cases_Bool}
 use Rattle.std.proofs.lemmas.Slice.Eq.{bytes_eq-Decides}
 use Rattle.bz_tree.specs.Tree.{Segment}
-use Rattle.bz_rule.specs.Labels.{Package}
-use Rattle.bz_rule.specs.Same.{completed}
-use Rattle.bz_rule.specs.Commands.{Values}
+use Rattle.bz_command.specs.Labels.{Package}
+use Rattle.bz_command.specs.Same.{completed}
+use Rattle.bz_command.specs.Commands.{Values}
 use Rattle.bz_rule.specs.Rules.{string_value}
 use Rattle.bz_rule.specs.Lists.{same, same_value}
 use Rattle.bz_rule.specs.Effects.{is_chosen, string}
-use Rattle.bz_rule.proofs.ReadBack.{quoted_value}
+use Rattle.bz_command.proofs.ReadBack.{quoted_value}
 
 pub bytes_same : (bs : List ℕ) → bytes_eq bs bs ≡ true
 bytes_same bs = search rules

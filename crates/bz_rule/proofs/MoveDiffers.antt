@@ -3,8 +3,8 @@ use Rattle.std.proofs.Common.{◌≡◌, ℕ, List, [], ◌∷◌, ◌++◌, Boo
 use Rattle.std.proofs.lemmas.Bool.{cases_Bool}
 use Rattle.std.proofs.lemmas.List.{append-nil, append_cancel_right}
 use Rattle.bz_tree.specs.Tree.{Item, Segment}
-use Rattle.bz_rule.specs.Labels.{Package}
-use Rattle.bz_rule.specs.Commands.{Moved}
+use Rattle.bz_command.specs.Labels.{Package}
+use Rattle.bz_command.specs.Commands.{Moved}
 use Rattle.bz_rule.specs.Rules.{first_named, is_named, is_text, name_of, value}
 use Rattle.bz_rule.specs.Lists.{edit_first_part, edit_parts, with_value}
 use Rattle.bz_rule.specs.Effects.{argument, chooses_in, edit_first, filtered, has, list_item, loses_all, unchosen}

@@ -2,8 +2,8 @@
 use Rattle.std.proofs.Common.{◌≡◌, ℕ, List, [], ◌∷◌, ◌++◌, true, false, if◌then◌else◌, None, is_some, map, refl, ap, sym, ◌∙◌, append-nil}
 use Rattle.std.proofs.lemmas.List.{map-append}
 use Rattle.bz_tree.specs.Tree.{Item, Segment}
-use Rattle.bz_rule.specs.Labels.{Package}
-use Rattle.bz_rule.specs.Commands.{Attributes, Every, Named, Moved}
+use Rattle.bz_command.specs.Labels.{Package}
+use Rattle.bz_command.specs.Commands.{Attributes, Every, Named, Moved}
 use Rattle.bz_rule.specs.Rules.{is_named, first_named, value}
 use Rattle.bz_rule.specs.Lists.{edit_first_part, edit_parts, is_attribute, parts, with_value}
 use Rattle.bz_rule.specs.Effects.{add, argument, edit_first, filtered, has, list_item, loses_all, new_elements, no_parts, rename, rename_note, rename_to, string_item, unchosen, with_added}

@@ -5,8 +5,8 @@ use Rattle.std.proofs.lemmas.Bool.{or_parts, and_right}
 use Rattle.std.proofs.lemmas.List.Folds.{list_any-append}
 use Rattle.bz_tree.specs.declared.stmt.GroupKind.TheVariants.{Call, RuleCall, Load, Paren, List as ListKind, Index, Dict, ListComp, DictComp}
 use Rattle.bz_tree.specs.Tree.{Item, leaf, group, Segment, segments}
-use Rattle.bz_rule.specs.Labels.{Package}
-use Rattle.bz_rule.specs.Commands.{Attributes, Every, Named, Moved, Values}
+use Rattle.bz_command.specs.Labels.{Package}
+use Rattle.bz_command.specs.Commands.{Attributes, Every, Named, Moved, Values}
 use Rattle.bz_rule.specs.Rules.{is_named, is_text, first_named, value}
 use Rattle.bz_rule.specs.Lists.{edit_parts, is_attribute, parts, with_value}
 use Rattle.bz_rule.specs.Effects.{chooses, chooses_anywhere, chooses_in, edit_first, filtered, filtered_everywhere, goes_with_all, has, is_chosen, is_nil, loses_all, remove, remove_all, remove_attribute, remove_values, removes, unchosen}

@@ -13,9 +13,9 @@ use Rattle.bz_rule.specs.Effects.{argument, edit_first, has, nodes_of, string}
 use Rattle.bz_rule.specs.Applied.{sets_kind_of}
 use Rattle.bz_rule.specs.Setting.{New, NewString, NewNumber, NewConstant, NewStrings, is_list_attribute, is_number, is_constant, new_word, is_one_list, holds_list, new_of, new_value, are_strings, is_value, set_in, set, sets, set_if_absent, joined_by_dots, kind_items, kind_after, with_kind, sets_kind}
 use Rattle.bz_rule.proofs.Views.{segments_of}
-use Rattle.bz_rule.proofs.ReadBack.{quoted_value}
+use Rattle.bz_command.proofs.ReadBack.{quoted_value}
 use Rattle.bz_rule.proofs.Calls.{rule_from_end}
-use Rattle.bz_rule.proofs.Cuts.{some_part}
+use Rattle.bz_command.proofs.Cuts.{some_part}
 use Rattle.bz_rule.proofs.Stays.{rule_nodes}
 
 same_bytes : (bytes : List ℕ) → bytes_eq bytes bytes ≡ true

@@ -1,8 +1,8 @@
 -- The ten commands on what a slot holds: the statement after a command, and what the command tells (buildozer README, edit commands).
 use Rattle.std.specs.Prelude.{ℕ, List, true, false, if◌then◌else◌, not, Option, Some, None, option_map}
 use Rattle.bz_tree.specs.Tree.{Segment, Statement}
-use Rattle.bz_rule.specs.Labels.{Package}
-use Rattle.bz_rule.specs.Commands.{Command, Add, Remove, Set, SetIfAbsent, Delete, Rename, Move, Replace, Comment, Print, ToKind, ToValues, Rule, Attribute, Value}
+use Rattle.bz_command.specs.Labels.{Package}
+use Rattle.bz_command.specs.Commands.{Command, Add, Remove, Set, SetIfAbsent, Delete, Rename, Move, Replace, Comment, Print, ToKind, ToValues, Rule, Attribute, Value}
 use Rattle.bz_rule.specs.Rules.{first_named, rule_of}
 use Rattle.bz_rule.specs.Effects.{has, done, add, adds, not_a_list, remove, removes, rename, rename_note, is_absent, with_args, slot_done, holds_rule}
 use Rattle.bz_rule.specs.Setting.{set, sets, set_if_absent, with_kind, sets_kind}

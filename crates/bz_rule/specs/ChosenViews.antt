@@ -1,6 +1,6 @@
 -- For private clauses alone: the elements that a command means.
 use Rattle.std.specs.Prelude.{[], ◌∷◌}
-use Rattle.bz_rule.specs.Commands.{Moved, All, Values}
+use Rattle.bz_command.specs.Commands.{Moved, All, Values}
 use Rattle.bz_rule.specs.declared.chosen.Chosen.{Chosen}
 use Rattle.bz_rule.specs.declared.chosen.Chosen.TheVariants as chosen
 

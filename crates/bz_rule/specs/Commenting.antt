@@ -2,7 +2,7 @@
 use Rattle.std.specs.Prelude.{ℕ, ◌==◌, List, [], ◌∷◌, ◌++◌, Bool, true, ◌&&◌, ◌||◌, if◌then◌else◌, Option, Some, None, is_some}
 use Rattle.std.specs.List.{list_any, list_all}
 use Rattle.bz_tree.specs.Tree.{Item, Segment, Statement}
-use Rattle.bz_rule.specs.Labels.{Package}
+use Rattle.bz_command.specs.Labels.{Package}
 use Rattle.bz_rule.specs.Rules.{Rule, rule_of, is_named, first_named, value, elements}
 use Rattle.bz_rule.specs.Lists.{with_value, parts, edit_list, is_part, is_plus, is_joint, equals}
 use Rattle.bz_rule.specs.Effects.{edit_first, has, is_absent, not_a_list, first_note}

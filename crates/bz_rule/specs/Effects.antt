@@ -4,9 +4,9 @@ use Rattle.std.specs.List.{list_any, flat_map}
 use Rattle.bz_token.specs.declared.token.Kind.TheVariants.{Ident, Sign, Text}
 use Rattle.bz_tree.specs.declared.stmt.GroupKind.TheVariants.{RuleCall, List as ListKind}
 use Rattle.bz_tree.specs.Tree.{Item, leaf, group, Segment, Statement, segs_of, nowhere}
-use Rattle.bz_rule.specs.Labels.{Package}
-use Rattle.bz_rule.specs.Values.{quoted}
-use Rattle.bz_rule.specs.Commands.{Attributes, Every, Named, Moved, All, Values}
+use Rattle.bz_command.specs.Labels.{Package}
+use Rattle.bz_command.specs.Values.{quoted}
+use Rattle.bz_command.specs.Commands.{Attributes, Every, Named, Moved, All, Values}
 use Rattle.bz_rule.specs.Rules.{Rule, rule_of, elements, is_named, first_named, value}
 use Rattle.bz_rule.specs.Lists.{is_attribute, with_value, parts, edit_parts, edit_first_part, is_list, equals_any, same}
 use Rattle.bz_rule.specs.declared.done.Done.{Done}

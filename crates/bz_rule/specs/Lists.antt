@@ -4,8 +4,8 @@ use Rattle.std.specs.List.{list_any, list_all}
 use Rattle.bz_token.specs.declared.token.Kind.TheVariants.{Word, Sign}
 use Rattle.bz_tree.specs.declared.stmt.GroupKind.TheVariants.{List as ListKind}
 use Rattle.bz_tree.specs.Tree.{Item, leaf, group, Segment, segs_of, segments}
-use Rattle.bz_rule.specs.Labels.{Package}
-use Rattle.bz_rule.specs.Same.{completed}
+use Rattle.bz_command.specs.Labels.{Package}
+use Rattle.bz_command.specs.Same.{completed}
 use Rattle.bz_rule.specs.Rules.{is_sign, elements, value, name_of, string_value}
 
 -- the two are the same label

@@ -2,8 +2,8 @@
 use Rattle.std.specs.Prelude.{ℕ, List, [], ◌∷◌, ◌++◌, Bool, false, if◌then◌else◌, Option, Some, None, is_some, filter}
 use Rattle.std.specs.List.{list_any}
 use Rattle.bz_tree.specs.Tree.{Segment}
-use Rattle.bz_rule.specs.Labels.{Package}
-use Rattle.bz_rule.specs.Commands.{Moved}
+use Rattle.bz_command.specs.Labels.{Package}
+use Rattle.bz_command.specs.Commands.{Moved}
 use Rattle.bz_rule.specs.Rules.{is_named, first_named, value, string_value}
 use Rattle.bz_rule.specs.Lists.{with_value, parts, edit_first_part, equals}
 use Rattle.bz_rule.specs.Effects.{has, edit_first, argument, list_item, filtered, unchosen, is_chosen, chooses_in, not_a_list, is_absent, first_note}

@@ -1,7 +1,7 @@
 -- For private clauses alone: which of the elements that leave arrive.
 use Rattle.std.specs.Prelude.{ℕ, List, [], ◌∷◌, ◌++◌, Bool, true, false, if◌then◌else◌, Option, Some, None}
 use Rattle.bz_tree.specs.Tree.{Segment}
-use Rattle.bz_rule.specs.Labels.{Package}
+use Rattle.bz_command.specs.Labels.{Package}
 use Rattle.bz_rule.specs.Rules.{string_value}
 use Rattle.bz_rule.specs.Moving.{is_among}
 

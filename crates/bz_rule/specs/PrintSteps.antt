@@ -1,7 +1,7 @@
 -- For private clauses alone: a field with its note, and words behind one another.
 use Rattle.std.specs.Prelude.{ℕ, List, [], ◌∷◌, ◌++◌, Bool, if◌then◌else◌, Option, Some, None, option_map}
 use Rattle.bz_tree.specs.Tree.{Segment}
-use Rattle.bz_rule.specs.Labels.{Package}
+use Rattle.bz_command.specs.Labels.{Package}
 use Rattle.bz_rule.specs.Rules.{first_named, name_in, string_value, value}
 use Rattle.bz_rule.specs.Texts.{home_text}
 use Rattle.bz_rule.specs.Printing.{value_text, word_of}

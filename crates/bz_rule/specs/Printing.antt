@@ -5,9 +5,9 @@ use Rattle.std.specs.Fmt.{decimal}
 use Rattle.bz_tree.specs.declared.stmt.GroupKind.TheVariants.{RuleCall}
 use Rattle.bz_tree.specs.Tree.{Item, Segment, Statement}
 use Rattle.bz_layout.specs.Layout.{flat_text}
-use Rattle.bz_rule.specs.Labels.{Package}
-use Rattle.bz_rule.specs.Values.{quoted}
-use Rattle.bz_rule.specs.Commands.{Field, Label, Kind, StartLine, EndLine, ValueOf}
+use Rattle.bz_command.specs.Labels.{Package}
+use Rattle.bz_command.specs.Values.{quoted}
+use Rattle.bz_command.specs.Commands.{Field, Label, Kind, StartLine, EndLine, ValueOf}
 use Rattle.bz_rule.specs.Rules.{Rule, rule_of, kind_text, name_in, first_named, value, string_value, elements}
 use Rattle.bz_rule.specs.Lists.{is_list}
 use Rattle.bz_rule.specs.Texts.{home_text}

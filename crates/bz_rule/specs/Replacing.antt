@@ -2,8 +2,8 @@
 use Rattle.std.specs.Prelude.{ℕ, List, [], ◌∷◌, Bool, false, ◌&&◌, not, if◌then◌else◌, Option, Some, None, map}
 use Rattle.std.specs.List.{list_any}
 use Rattle.bz_tree.specs.Tree.{Segment}
-use Rattle.bz_rule.specs.Labels.{Package}
-use Rattle.bz_rule.specs.Commands.{Attributes, Every, Named}
+use Rattle.bz_command.specs.Labels.{Package}
+use Rattle.bz_command.specs.Commands.{Attributes, Every, Named}
 use Rattle.bz_rule.specs.Rules.{is_named, is_text, first_named, value, string_value}
 use Rattle.bz_rule.specs.Lists.{is_attribute, with_value, parts, edit_parts, equals}
 use Rattle.bz_rule.specs.Effects.{edit_first, string_item}

@@ -5,7 +5,7 @@ use Rattle.std.specs.List.{flat_map}
 use Rattle.bz_token.specs.declared.token.Kind.TheVariants.{Ident, Text, Sign}
 use Rattle.bz_tree.specs.declared.stmt.GroupKind.TheVariants.{RuleCall}
 use Rattle.bz_tree.specs.Tree.{Item, leaf, group, Segment, segments}
-use Rattle.bz_rule.specs.Values.{value_of}
+use Rattle.bz_command.specs.Values.{value_of}
 
 abbrev pub is_sign : List ℕ → Item → Bool
 is_sign sign (leaf Sign text place) = bytes_eq text sign

@@ -2,7 +2,7 @@
 use Rattle.std.specs.Prelude.{ℕ, List, [], ◌∷◌, ◌++◌, Option, Some, None, codes}
 use Rattle.std.specs.Fmt.{decimal}
 use Rattle.bz_tree.specs.Tree.{Statement, Item}
-use Rattle.bz_rule.specs.Labels.{Package, Target, Name, Pkg, All, Kind, Line}
+use Rattle.bz_command.specs.Labels.{Package, Target, Name, Pkg, All, Kind, Line}
 use Rattle.bz_rule.specs.Rules.{Rule, rule_of, kind_text, name_in}
 
 -- a package and the colon behind it

@@ -9,11 +9,10 @@ ghost use Rattle.bz_rule.specs.ChosenViews.{chosen_view};
 ghost use Rattle.bz_rule.specs.Effects as spec;
 
 use crate::equals::{equals, equals_any};
-use crate::list::Text;
 use crate::lists::{are_joints, is_list, is_part};
-use crate::package::Package;
 use crate::rule::is_sign;
 use crate::word_set::WordSet;
+use bz_command::{Package, Text};
 use bz_tree::{Node, Seg};
 
 /// Which elements a command means.

@@ -3,7 +3,7 @@
 ghost use Rattle.std.specs.Prelude.{◌≡◌, None};
 ghost use Rattle.bz_rule.specs.Effects as spec;
 
-use crate::list::Text;
+use bz_command::Text;
 
 /// What an execution of a command did.
 #[derive(Drop)]

@@ -6,28 +6,18 @@ ghost use Rattle.bz_tree.specs.Comments.{comments_of};
 ghost use Rattle.bz_tree.specs.Tree.{Segment, Statement};
 ghost use Rattle.bz_rule.specs.Applied.{after, done_of};
 ghost use Rattle.bz_rule.specs.Bare.{bare_statement};
-ghost use Rattle.bz_rule.specs.Commands.{is_command, Add, Attributes, Command, Every, Moved, Named, Rename, Replace, Set, SetIfAbsent, ToKind, ToValues, Values};
+ghost use Rattle.bz_command.specs.Commands.{is_command, Add, Attributes, Command, Every, Moved, Named, Rename, Replace, Set, SetIfAbsent, ToKind, ToValues, Values};
 ghost use Rattle.bz_rule.specs.Effects as effects;
-ghost use Rattle.bz_rule.specs.Labels.{Package};
-ghost use Rattle.bz_rule.specs.Labels as spec;
+ghost use Rattle.bz_command.specs.Labels.{Package};
+ghost use Rattle.bz_command.specs.Labels as spec;
 ghost use Rattle.bz_rule.specs.Marks.{marks};
 ghost use Rattle.bz_rule.specs.Lists.{is_attribute, parts};
 ghost use Rattle.bz_rule.specs.OwnComments.{no_comments, own_comments};
 ghost use Rattle.bz_rule.specs.Replacing as replacing;
 ghost use Rattle.bz_rule.specs.Setting as setting;
 ghost use Rattle.bz_rule.specs.Rules.{Rule, first_named, is_named, rule_of, name_in, kind_text, value};
-ghost use Rattle.bz_rule.specs.Same.{IsSame, IsEquivalence};
-ghost use Rattle.bz_rule.specs.Values.{value_of, quoted};
 
-/// The literal that is written for a value has this value.
-pub fn quoted_reads_back()
-    ensures { (value : List ℕ) → value_of (quoted value) ≡ Some value }
-{}
-
-/// In each package, to be the same label is an equivalence.
-pub fn sameness_is_an_equivalence()
-    ensures { (home : Package) → IsEquivalence (IsSame home) }
-{}
+pub use bz_command::laws::{quoted_reads_back, sameness_is_an_equivalence};
 
 /// Only a rule is marked: by its name, by its kind, or as every rule is.
 pub fn marks_are_of_rules()

@@ -4,15 +4,15 @@ ghost use Rattle.std.specs.Prelude.{◌≡◌, ℕ, List, [], ◌∷◌, IfOk, O
 ghost use Rattle.bz_tree.specs.View.{node_view, nodes_view, seg_view, segs_view};
 ghost use Rattle.bz_rule.specs.Rules.{elements};
 ghost use Rattle.bz_rule.specs.Lists.{parts};
-ghost use Rattle.bz_rule.specs.Commands.{Values};
+ghost use Rattle.bz_command.specs.Commands.{Values};
 ghost use Rattle.bz_rule.specs.Effects.{is_chosen};
-ghost use Rattle.bz_rule.specs.LabelSetViews.{Gains, has, is_among, is_in};
+ghost use Rattle.bz_command.specs.LabelSetViews.{Gains, has};
+ghost use Rattle.bz_rule.specs.ElementSets.{is_among, is_in};
 
 use crate::equals::string_of;
-use crate::label_set::LabelSet;
 use crate::lists::{are_joints, is_part};
-use crate::package::Package;
 use crate::rule::is_sign;
+use bz_command::{LabelSet, Package};
 use bz_tree::{Node, Seg};
 use std::alloc::{AllocError, Global};
 

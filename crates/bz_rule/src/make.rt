@@ -7,8 +7,7 @@ ghost use Rattle.bz_tree.specs.View.{node_view, nodes_view, seg_view, segs_view}
 ghost use Rattle.bz_tree.specs.Tree.{leaf, nowhere};
 ghost use Rattle.bz_rule.specs.Effects as spec;
 
-use crate::list::Text;
-use crate::value::quote;
+use bz_command::{Text, quote};
 use bz_token::Kind;
 use bz_tree::{Group, GroupKind, Leaf, Node, Seg};
 use std::alloc::{AllocError, Global};

@@ -6,8 +6,7 @@ ghost use Rattle.bz_rule.specs.Marks as spec;
 ghost use Rattle.bz_rule.specs.Rules.{is_text, name_in, kind_text};
 
 use crate::rule::{name_text, rule_of};
-use crate::target::{Marked, Target};
-use crate::value::has_value;
+use bz_command::{Marked, Target, has_value};
 use bz_tree::{Node, Seg, Stmt};
 
 /// The target marks the statement: it is a rule that has the name, the kind or the first line that is meant.

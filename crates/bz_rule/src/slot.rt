@@ -2,14 +2,13 @@
 
 ghost use Rattle.std.specs.Prelude.{◌≡◌, ◌↔◌, IfOk, IsOk, OnOk, OnErr, IsTrue, None, false, is_some, option_map, true, []};
 ghost use Rattle.bz_tree.specs.View.{node_view, nodes_view, segs_view, view, slot_view};
-ghost use Rattle.bz_rule.specs.CommandViews.{command_view};
+ghost use Rattle.bz_command.specs.CommandViews.{command_view};
 ghost use Rattle.bz_rule.specs.Rules.{rule_of, elements};
 ghost use Rattle.bz_rule.specs.Lists.{edit_list};
-ghost use Rattle.bz_rule.specs.Commands as commands;
+ghost use Rattle.bz_command.specs.Commands as commands;
 ghost use Rattle.bz_rule.specs.Effects as spec;
 ghost use Rattle.bz_rule.specs.Applied as applied;
 
-use crate::command::{Action, Command, Commented, Setting};
 use crate::done::Done;
 use crate::effects::add::add;
 use crate::effects::comment::{comment, comment_rule};
@@ -21,7 +20,7 @@ use crate::effects::replace::replace;
 use crate::effects::set::{set, set_if_absent};
 use crate::effects::set_kind::set_kind;
 use crate::find::call_at;
-use crate::package::Package;
+use bz_command::{Action, Command, Commented, Package, Setting};
 use bz_tree::{Node, Seg, Stmt};
 use std::alloc::{AllocError, Global};
 

@@ -5,10 +5,8 @@ ghost use Rattle.bz_tree.specs.View.{nodes_view, segs_view, view};
 ghost use Rattle.bz_rule.specs.Rules.{kind_text, name_in, value_in};
 ghost use Rattle.bz_rule.specs.Texts as spec;
 
-use crate::decode::read_value;
-use crate::package::Package;
 use crate::rule::{name_text, rule_of};
-use crate::target::{Marked, Target};
+use bz_command::{Marked, Package, Target, read_value};
 use bz_tree::{Node, Seg, Stmt};
 use std::alloc::{AllocError, Global};
 

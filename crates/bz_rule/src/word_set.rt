@@ -4,13 +4,10 @@ ghost use Rattle.std.specs.Prelude.{◌≡◌, ℕ, List, true, IfOk};
 ghost use Rattle.std.specs.List.{list_any};
 ghost use Rattle.bz_tree.specs.View.{seg_view};
 ghost use Rattle.bz_rule.specs.Lists.{equals_any, same};
-ghost use Rattle.bz_rule.specs.LabelSetViews.{has};
+ghost use Rattle.bz_command.specs.LabelSetViews.{has};
 
-use crate::bytes::Bytes;
 use crate::equals::{equals_any, string_of};
-use crate::label_set::LabelSet;
-use crate::list::Text;
-use crate::package::Package;
+use bz_command::{Bytes, LabelSet, Package, Text};
 use bz_tree::Seg;
 use std::alloc::{AllocError, Global};
 

@@ -5,22 +5,18 @@ ghost use Rattle.std.specs.List.{list_any};
 ghost use Rattle.bz_tree.specs.View.{node_view, nodes_view, seg_view, segs_view};
 ghost use Rattle.bz_rule.specs.Rules.{first_named, is_named, value};
 ghost use Rattle.bz_rule.specs.Lists.{edit_first_part, edit_list, parts, same};
-ghost use Rattle.bz_rule.specs.LabelSetViews.{Gains, has};
+ghost use Rattle.bz_command.specs.LabelSetViews.{Gains, has};
 ghost use Rattle.bz_rule.specs.Places.{IsFirstPart};
 ghost use Rattle.bz_rule.specs.Effects as spec;
 
-use crate::bytes::Bytes;
 use crate::chosen::{Chosen, is_any_chosen};
 use crate::done::{Done, Note};
-use crate::equals::same;
 use crate::find::find;
-use crate::label_set::LabelSet;
-use crate::list::Text;
 use crate::list_labels::labels_in;
 use crate::lists::first_part;
 use crate::make::{list_argument, string};
-use crate::package::Package;
 use crate::word_set::FEW;
+use bz_command::{Bytes, LabelSet, Package, Text, same_label};
 use bz_tree::{Node, Seg};
 use std::alloc::{AllocError, Global};
 
@@ -154,7 +150,7 @@ fn is_any_same(home: &Package, word: &str, others: &[Text]) -> bool
     ensures { result ≡ list_any (same home.now word.now) others.now }
 {
     for other in others {
-        if same(
+        if same_label(
             home,
             Bytes::Plain(word.as_bytes()),
             Bytes::Plain(other.as_str().as_bytes()),

@@ -7,19 +7,17 @@ ghost use Rattle.bz_tree.specs.View.{node_view, nodes_view, seg_view, segs_view}
 ghost use Rattle.bz_rule.specs.Rules.{elements};
 ghost use Rattle.bz_rule.specs.Rules as rules;
 ghost use Rattle.bz_rule.specs.Lists.{equals, parts};
-ghost use Rattle.bz_rule.specs.ByteSteps.{left, is_good};
-ghost use Rattle.bz_rule.specs.LabelSetViews.{Gains, has};
+ghost use Rattle.bz_command.specs.ByteSteps.{left, is_good};
+ghost use Rattle.bz_command.specs.LabelSetViews.{Gains, has};
 ghost use Rattle.bz_rule.specs.Moving as spec;
 ghost use Rattle.bz_rule.specs.MovingSteps.{flags, has_value, flagged};
 
-use crate::bytes::Bytes;
-use crate::equals::{same, string_of};
-use crate::label_set::LabelSet;
+use crate::equals::string_of;
 use crate::list_labels::labels_in;
 use crate::lists::{are_joints, is_part};
-use crate::package::Package;
 use crate::rule::is_sign;
 use crate::word_set::FEW;
+use bz_command::{Bytes, LabelSet, Package, same_label};
 use bz_tree::{Node, Seg};
 use std::alloc::{AllocError, Global};
 
@@ -175,5 +173,5 @@ fn is_same(home: &Package, word: Bytes<'_>, element: &Seg<'_>) -> bool
     let Some(value) = string_of(element) else {
         return false;
     };
-    same(home, word, value)
+    same_label(home, word, value)
 }

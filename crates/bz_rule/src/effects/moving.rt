@@ -5,25 +5,23 @@ ghost use Rattle.std.specs.Vec.{vec_len, vec_capacity};
 ghost use Rattle.bz_tree.specs.View.{node_view, nodes_view, seg_view, segs_view};
 ghost use Rattle.bz_rule.specs.Rules.{elements, first_named, is_named, value};
 ghost use Rattle.bz_rule.specs.Lists.{edit_first_part, edit_list, parts, with_value};
-ghost use Rattle.bz_rule.specs.Commands.{Values};
-ghost use Rattle.bz_rule.specs.CommandViews.{moved_view};
+ghost use Rattle.bz_command.specs.Commands.{Values};
+ghost use Rattle.bz_command.specs.CommandViews.{moved_view};
 ghost use Rattle.bz_rule.specs.ChosenViews.{chosen_view};
 ghost use Rattle.bz_rule.specs.Places.{first_length, first_list};
 ghost use Rattle.bz_rule.specs.Effects as effects;
 ghost use Rattle.bz_rule.specs.Moving as spec;
 
 use crate::chosen::Chosen;
-use crate::command::Moved;
 use crate::done::{Done, Note};
 use crate::effects::arrivals::keep_arrivals;
 use crate::effects::remove::chooses_first;
 use crate::find::find;
-use crate::list::Text;
 use crate::lists::first_part;
 use crate::make::{argument_head, list_with};
-use crate::package::Package;
 use crate::taking::{count_chosen, take_from};
 use crate::word_set::{FEW, WordSet, word_set};
+use bz_command::{Moved, Package, Text};
 use bz_tree::{Node, Seg};
 use std::alloc::{AllocError, Global};
 

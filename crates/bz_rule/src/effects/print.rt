@@ -4,7 +4,7 @@ ghost use Rattle.std.specs.Prelude.{◌≡◌, ◌++◌, ◌∷◌, [], codes, m
 ghost use Rattle.std.specs.Fmt.{decimal};
 ghost use Rattle.std.specs.List.{list_all};
 ghost use Rattle.bz_tree.specs.View.{node_view, nodes_view, seg_view, segs_view, slot_view, view};
-ghost use Rattle.bz_rule.specs.CommandViews.{field_view};
+ghost use Rattle.bz_command.specs.CommandViews.{field_view};
 ghost use Rattle.bz_rule.specs.RuleViews.{rule_view};
 ghost use Rattle.bz_rule.specs.Rules.{string_value, value};
 ghost use Rattle.bz_rule.specs.Effects.{holds_rule};
@@ -12,16 +12,11 @@ ghost use Rattle.bz_rule.specs.PrintSteps.{attribute_in, element_word, label_in,
 ghost use Rattle.bz_rule.specs.declared.done.Note.TheVariants.{Missing};
 ghost use Rattle.bz_rule.specs.Printing as spec;
 
-use crate::bytes::value_of;
-use crate::command::Field;
-use crate::decode::read_value;
 use crate::done::{Done, Note};
-use crate::list::Text;
 use crate::lists::is_list;
-use crate::package::Package;
 use crate::rule::{Rule, first_named, only_text, rule_of};
 use crate::texts::{push_home, push_kind, read_name};
-use crate::value::quote;
+use bz_command::{Field, Package, Text, quote, read_value, value_of};
 use bz_layout::flat;
 use bz_tree::{GroupKind, Node, Seg, Stmt};
 use std::alloc::{AllocError, Global};

@@ -4,22 +4,20 @@ ghost use Rattle.std.specs.Prelude.{◌≡◌, None, map, filter, not, IfSome, I
 ghost use Rattle.std.specs.List.{list_any};
 ghost use Rattle.bz_tree.specs.View.{seg_view, segs_view};
 ghost use Rattle.bz_rule.specs.Effects as spec;
-ghost use Rattle.bz_rule.specs.CommandViews.{attributes_view};
+ghost use Rattle.bz_command.specs.CommandViews.{attributes_view};
 ghost use Rattle.bz_rule.specs.ChosenViews.{chosen_view};
-ghost use Rattle.bz_rule.specs.Commands.{Values};
+ghost use Rattle.bz_command.specs.Commands.{Values};
 ghost use Rattle.bz_rule.specs.Rules.{first_named, is_named};
 ghost use Rattle.bz_rule.specs.Effects.{edit_first};
 ghost use Rattle.bz_rule.specs.EditSteps.{is_lost, edit_attribute};
 
 use crate::chosen::{Chosen, chooses, drop_in, loses_all};
-use crate::command::Attributes;
 use crate::done::Done;
 use crate::find::find;
-use crate::list::Text;
 use crate::lists::is_attribute;
-use crate::package::Package;
 use crate::rule::{first_named, is_named};
 use crate::word_set::{FEW, WordSet, word_set};
+use bz_command::{Attributes, Package, Text};
 use bz_tree::Seg;
 use std::alloc::{AllocError, Global};
 

@@ -8,8 +8,8 @@ ghost use Rattle.bz_rule.specs.Effects as spec;
 
 use crate::done::{Done, Note};
 use crate::find::find;
-use crate::list::Text;
 use crate::make::token;
+use bz_command::Text;
 use bz_token::Kind;
 use bz_tree::{Node, Seg};
 use std::alloc::{AllocError, Global};

@@ -3,8 +3,8 @@
 ghost use Rattle.std.specs.Prelude.{◌≡◌, ◌+◌, ◌≤◌, ◌<◌, None, map, length, get_or, drop, if◌then◌else◌, IfOk, OnOk, OnErr};
 ghost use Rattle.std.specs.List.{list_any};
 ghost use Rattle.bz_tree.specs.View.{node_view, nodes_view, seg_view, segs_view};
-ghost use Rattle.bz_rule.specs.CommandViews.{attributes_view};
-ghost use Rattle.bz_rule.specs.Commands.{Every, Named};
+ghost use Rattle.bz_command.specs.CommandViews.{attributes_view};
+ghost use Rattle.bz_command.specs.Commands.{Every, Named};
 ghost use Rattle.bz_rule.specs.Rules.{elements, is_text, string_value};
 ghost use Rattle.bz_rule.specs.Lists.{edit_list, edit_parts, is_part};
 ghost use Rattle.bz_rule.specs.Effects.{done};
@@ -12,15 +12,13 @@ ghost use Rattle.bz_rule.specs.EditSteps.{edit_attribute};
 ghost use Rattle.bz_rule.specs.Replacing as spec;
 ghost use Rattle.bz_rule.specs.ReplaceSteps.{AreStrings, count, count_at, count_everywhere, count_from, count_in, goes, put};
 
-use crate::command::Attributes;
 use crate::done::Done;
 use crate::equals::equals;
 use crate::find::find;
 use crate::lists::{are_joints, is_attribute, is_part};
 use crate::make::string;
-use crate::package::Package;
 use crate::rule::{is_sign, only_text};
-use crate::value::has_value;
+use bz_command::{Attributes, Package, has_value};
 use bz_tree::{Node, Seg};
 use std::alloc::{AllocError, Global};
 

@@ -11,11 +11,10 @@ ghost use Rattle.bz_rule.specs.Setting as spec;
 
 use crate::done::Done;
 use crate::find::find;
-use crate::list::Text;
 use crate::lists::is_list;
 use crate::make::{argument, list, literal, strings, token};
 use crate::rule::{ident_of, only_text};
-use crate::value::has_value;
+use bz_command::{Text, has_value};
 use bz_token::Kind;
 use bz_tree::{Node, Seg};
 use std::alloc::{AllocError, Global};

@@ -1,4 +1,4 @@
-use Rattle.bz_rule.specs.Commands.{Values}
+use Rattle.bz_command.specs.Commands.{Values}
 use Rattle.bz_rule.specs.Rules.{is_named}
 use Rattle.bz_rule.specs.Effects.{filtered, goes_with_all, unchosen}
 use Rattle.bz_rule.proofs.Kept.{none_left}

@@ -1,4 +1,4 @@
-use Rattle.bz_rule.specs.Commands.{Set, ToValues}
+use Rattle.bz_command.specs.Commands.{Set, ToValues}
 use Rattle.bz_rule.specs.Applied.{args_after, args_done}
 use Rattle.bz_rule.proofs.Again.{slot_again}
 use Rattle.bz_rule.proofs.SetLaws.{set_again, set_kind_again}

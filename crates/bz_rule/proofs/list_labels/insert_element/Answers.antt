@@ -1,7 +1,7 @@
 use Rattle.std.proofs.Common.{List, ℕ, Option, Bool, false, ◌||◌, ap, sym, ◌∙◌}
-use Rattle.bz_rule.specs.ByteSteps.{left}
+use Rattle.bz_command.specs.ByteSteps.{left}
 use Rattle.bz_rule.specs.Lists.{same, same_value}
-use Rattle.bz_rule.specs.LabelSetViews.{has}
+use Rattle.bz_command.specs.LabelSetViews.{has}
 use Rattle.bz_rule.proofs.LabelSets.{or_false, same_back}
 use Rattle.bz_rule.proofs.list_labels.insert_element.Goals as goal
 

@@ -2,10 +2,11 @@ use Rattle.std.proofs.Common.{List, [], ◌∷◌, ◌||◌, ap, sym, ◌∙◌,
 use Rattle.std.proofs.lemmas.List.{at_drop_all}
 use Rattle.bz_tree.specs.declared.stmt.Seg.{Seg}
 use Rattle.bz_tree.specs.View.{seg_view, segs_view}
-use Rattle.bz_rule.specs.Labels.{Package}
-use Rattle.bz_rule.specs.Commands.{Values}
+use Rattle.bz_command.specs.Labels.{Package}
+use Rattle.bz_command.specs.Commands.{Values}
 use Rattle.bz_rule.specs.Effects.{is_chosen}
-use Rattle.bz_rule.specs.LabelSetViews.{has, is_among}
+use Rattle.bz_command.specs.LabelSetViews.{has}
+use Rattle.bz_rule.specs.ElementSets.{is_among}
 use Rattle.bz_rule.proofs.LabelSets.{element_step}
 use Rattle.bz_rule.proofs.list_labels.insert_elements.Goals as goal
 

@@ -1,6 +1,7 @@
 use Rattle.std.proofs.Common.{◌≡◌, ℕ, List, ◌||◌, drop}
 use Rattle.bz_tree.specs.View.{segs_view}
-use Rattle.bz_rule.specs.LabelSetViews.{has, is_among}
+use Rattle.bz_command.specs.LabelSetViews.{has}
+use Rattle.bz_rule.specs.ElementSets.{is_among}
 use Rattle.bz_rule.proofs.list_labels.insert_elements.Given as goal
 
 abbrev pub invariant-loop-element : goal.invariant-loop-element

@@ -3,7 +3,8 @@ use Rattle.bz_tree.specs.declared.stmt.Node.{Node}
 use Rattle.bz_tree.specs.View.{node_view, segs_view}
 use Rattle.bz_tree.specs.Tree.{Segment}
 use Rattle.bz_rule.specs.Rules.{elements}
-use Rattle.bz_rule.specs.LabelSetViews.{has, is_among}
+use Rattle.bz_command.specs.LabelSetViews.{has}
+use Rattle.bz_rule.specs.ElementSets.{is_among}
 use Rattle.bz_rule.proofs.Groups.{elements_group}
 use Rattle.bz_rule.proofs.list_labels.insert_list.Goals as goal
 

@@ -3,11 +3,12 @@ use Rattle.std.specs.List.{list_all}
 use Rattle.std.proofs.lemmas.List.{at_drop_all}
 use Rattle.bz_tree.specs.declared.stmt.Node.{Node}
 use Rattle.bz_tree.specs.View.{node_view, nodes_view}
-use Rattle.bz_rule.specs.Labels.{Package}
+use Rattle.bz_command.specs.Labels.{Package}
 use Rattle.bz_rule.specs.Lists.{is_joint, parts_from}
 use Rattle.bz_rule.specs.Rules.{elements}
-use Rattle.bz_rule.specs.declared.label_set.LabelSet.{LabelSet}
-use Rattle.bz_rule.specs.LabelSetViews.{has, is_among, is_in}
+use Rattle.bz_command.specs.declared.label_set.LabelSet.{LabelSet}
+use Rattle.bz_command.specs.LabelSetViews.{has}
+use Rattle.bz_rule.specs.ElementSets.{is_among, is_in}
 use Rattle.bz_rule.proofs.LabelSets.{or_false, part_step}
 use Rattle.bz_rule.proofs.list_labels.labels_in.Goals as goal
 use Rattle.bz_rule.proofs.list_labels.labels_in.Goals.{then-is_part+in_ok-insert_list, else-is_part}

@@ -1,7 +1,8 @@
 use Rattle.std.proofs.Common.{◌≡◌, ℕ, List, ◌||◌, drop, true}
 use Rattle.bz_tree.specs.View.{nodes_view}
 use Rattle.bz_rule.specs.Lists.{parts_from}
-use Rattle.bz_rule.specs.LabelSetViews.{has, is_in}
+use Rattle.bz_command.specs.LabelSetViews.{has}
+use Rattle.bz_rule.specs.ElementSets.{is_in}
 use Rattle.bz_rule.proofs.list_labels.labels_in.Given as goal
 
 abbrev pub invariant-loop-i : goal.invariant-loop-i

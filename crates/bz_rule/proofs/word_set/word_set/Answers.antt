@@ -1,9 +1,9 @@
 use Rattle.std.proofs.Common.{List, ℕ, Bool, false, ◌||◌, ap, sym, ◌∙◌, arith}
 use Rattle.std.specs.List.{list_any}
 use Rattle.std.proofs.lemmas.List.{take_all}
-use Rattle.bz_rule.specs.Labels.{Package}
+use Rattle.bz_command.specs.Labels.{Package}
 use Rattle.bz_rule.specs.Lists.{same}
-use Rattle.bz_rule.specs.LabelSetViews.{has}
+use Rattle.bz_command.specs.LabelSetViews.{has}
 use Rattle.bz_rule.proofs.Fresh.{there_step}
 use Rattle.bz_rule.proofs.word_set.word_set.Goals as goal
 

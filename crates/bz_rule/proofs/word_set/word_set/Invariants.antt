@@ -1,7 +1,7 @@
 use Rattle.std.proofs.Common.{◌≡◌, ℕ, List, take}
 use Rattle.std.specs.List.{list_any}
 use Rattle.bz_rule.specs.Lists.{same}
-use Rattle.bz_rule.specs.LabelSetViews.{has}
+use Rattle.bz_command.specs.LabelSetViews.{has}
 use Rattle.bz_rule.proofs.word_set.word_set.Given as goal
 
 abbrev pub invariant-loop-i : goal.invariant-loop-i

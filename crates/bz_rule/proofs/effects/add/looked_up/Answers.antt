@@ -1,8 +1,9 @@
 use Rattle.std.proofs.Common.{ℕ, List, [], ◌∷◌, ◌++◌, Bool, not, ◌||◌, map, ap, sym, ◌∙◌, arith, rules, if◌then◌else◌}
 use Rattle.bz_tree.specs.View.{nodes_view, segs_view}
-use Rattle.bz_rule.specs.Labels.{Package}
+use Rattle.bz_command.specs.Labels.{Package}
 use Rattle.bz_rule.specs.Lists.{parts, same}
-use Rattle.bz_rule.specs.LabelSetViews.{has, is_in}
+use Rattle.bz_command.specs.LabelSetViews.{has}
+use Rattle.bz_rule.specs.ElementSets.{is_in}
 use Rattle.bz_rule.specs.Effects.{string}
 use Rattle.bz_rule.proofs.Fresh.{fresh_step, there_step}
 use Rattle.bz_rule.proofs.LabelSets.{or_false}

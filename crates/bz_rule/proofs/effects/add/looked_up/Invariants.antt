@@ -2,7 +2,8 @@ use Rattle.std.proofs.Common.{◌≡◌, ℕ, List, ◌++◌, ◌||◌, take, dr
 use Rattle.std.specs.List.{list_any}
 use Rattle.bz_tree.specs.View.{segs_view, nodes_view}
 use Rattle.bz_rule.specs.Lists.{parts, same}
-use Rattle.bz_rule.specs.LabelSetViews.{has, is_in}
+use Rattle.bz_command.specs.LabelSetViews.{has}
+use Rattle.bz_rule.specs.ElementSets.{is_in}
 use Rattle.bz_rule.specs.Effects.{string, fresh, new_elements}
 use Rattle.bz_rule.proofs.effects.add.looked_up.Given as goal
 

@@ -1,8 +1,8 @@
 use Rattle.std.proofs.Common.{List, ◌++◌, Bool, ◌||◌, ap, ◌∙◌, arith}
 use Rattle.bz_tree.specs.View.{nodes_view, seg_view, segs_view}
-use Rattle.bz_rule.specs.Labels.{Package}
+use Rattle.bz_command.specs.Labels.{Package}
 use Rattle.bz_rule.specs.Lists.{equals, parts}
-use Rattle.bz_rule.specs.LabelSetViews.{has}
+use Rattle.bz_command.specs.LabelSetViews.{has}
 use Rattle.bz_rule.specs.Moving.{joined}
 use Rattle.bz_rule.proofs.Flags.{flags_by, flags_step, in_joined, told}
 use Rattle.bz_rule.proofs.effects.arrivals.arriving.Goals as goal

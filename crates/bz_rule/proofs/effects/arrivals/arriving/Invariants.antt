@@ -1,7 +1,7 @@
 use Rattle.std.proofs.Common.{◌≡◌, ◌++◌, drop}
 use Rattle.bz_tree.specs.View.{segs_view, nodes_view}
 use Rattle.bz_rule.specs.Lists.{parts}
-use Rattle.bz_rule.specs.LabelSetViews.{has}
+use Rattle.bz_command.specs.LabelSetViews.{has}
 use Rattle.bz_rule.specs.Moving.{joined}
 use Rattle.bz_rule.specs.MovingSteps.{flags}
 use Rattle.bz_rule.proofs.Flags.{flags_by}

@@ -1,7 +1,7 @@
 use Rattle.std.proofs.Common.{refl}
 use Rattle.bz_tree.specs.View.{nodes_view, segs_view}
 use Rattle.bz_rule.specs.Lists.{equals, parts}
-use Rattle.bz_rule.specs.ByteSteps.{left}
+use Rattle.bz_command.specs.ByteSteps.{left}
 use Rattle.bz_rule.proofs.Arriving.{any_there}
 use Rattle.bz_rule.proofs.effects.arrivals.is_among.Goals as goal
 

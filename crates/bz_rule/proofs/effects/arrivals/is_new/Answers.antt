@@ -1,7 +1,7 @@
 use Rattle.std.proofs.Common.{ℕ, List, Option, Bool, ◌||◌, ap, sym, ◌∙◌}
-use Rattle.bz_rule.specs.ByteSteps.{left}
+use Rattle.bz_command.specs.ByteSteps.{left}
 use Rattle.bz_rule.specs.Lists.{same_value}
-use Rattle.bz_rule.specs.LabelSetViews.{has}
+use Rattle.bz_command.specs.LabelSetViews.{has}
 use Rattle.bz_rule.proofs.LabelSets.{same_back}
 use Rattle.bz_rule.proofs.effects.arrivals.is_new.Goals as goal
 

@@ -1,7 +1,7 @@
 use Rattle.std.proofs.Common.{ℕ, List, ◌++◌, map, string_bytes, ap, ◌∙◌, arith}
 use Rattle.std.proofs.lemmas.Str.{encode_ascii}
 use Rattle.bz_tree.specs.View.{view}
-use Rattle.bz_rule.specs.CommandViews.{field_view}
+use Rattle.bz_command.specs.CommandViews.{field_view}
 use Rattle.bz_rule.specs.RuleViews.{rule_view}
 use Rattle.bz_rule.proofs.Printed.{first_word, next_word, first_missing, next_missing}
 use Rattle.bz_rule.proofs.effects.print.print_fields.Goals as goal

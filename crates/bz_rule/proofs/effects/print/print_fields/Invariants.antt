@@ -1,6 +1,6 @@
 use Rattle.std.proofs.Common.{◌≡◌, ◌++◌, ◌∷◌, drop, map, string_bytes}
 use Rattle.bz_tree.specs.View.{view}
-use Rattle.bz_rule.specs.CommandViews.{field_view}
+use Rattle.bz_command.specs.CommandViews.{field_view}
 use Rattle.bz_rule.specs.RuleViews.{rule_view}
 use Rattle.bz_rule.specs.Effects.{first_note}
 use Rattle.bz_rule.specs.Printing.{line_of, missing, shown_field, field_text}

@@ -1,7 +1,7 @@
 use Rattle.std.proofs.Common.{List, ℕ, Option, ap, sym, ◌∙◌}
 use Rattle.std.specs.List.{list_any}
-use Rattle.bz_rule.specs.ByteSteps.{left}
-use Rattle.bz_rule.specs.Labels.{Package}
+use Rattle.bz_command.specs.ByteSteps.{left}
+use Rattle.bz_command.specs.Labels.{Package}
 use Rattle.bz_rule.specs.Lists.{same, same_value}
 use Rattle.bz_rule.proofs.LabelSets.{none_same}
 use Rattle.bz_rule.proofs.word_set.WordSet.equals_any.Goals as goal

@@ -1,0 +1,12 @@
+pub mod Cuts
+mod Decoding
+mod Examples
+mod Fields
+pub mod LabelSets
+mod LastParts
+pub mod Literals
+mod Mended
+mod Numbers
+mod Quoting
+pub mod ReadBack
+mod Reading

@@ -1,0 +1,12 @@
+use Rattle.std.proofs.Common.{◌≡◌, length}
+use Rattle.std.specs.Prelude.{IsTrue}
+use Rattle.std.specs.List.{list_any}
+use Rattle.bz_command.specs.Labels.{is_colon}
+use Rattle.bz_command.specs.ByteSteps.{left, is_good}
+use Rattle.bz_command.proofs.completed.has_colon.Given as goal
+
+abbrev pub invariant-loop-b : goal.invariant-loop-b
+invariant-loop-b l = record { good : IsTrue (is_good l.rest); same : list_any is_colon (left l.rest) ≡ list_any is_colon (left l.text) }
+
+abbrev pub decreases-loop-b : goal.decreases-loop-b
+decreases-loop-b l = length (left l.rest)

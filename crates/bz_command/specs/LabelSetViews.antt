@@ -1,0 +1,13 @@
+-- The labels that a set has.
+use Rattle.std.specs.Prelude.{◌≡◌, ℕ, List, Bool, ◌||◌, bytes_eq}
+use Rattle.std.specs.List.{list_any}
+use Rattle.bz_command.specs.Same.{completed}
+use Rattle.bz_command.specs.declared.label_set.LabelSet.{LabelSet}
+
+-- a label of the set is the same as the text
+abbrev pub has : LabelSet → List ℕ → Bool
+has set text = list_any (bytes_eq (completed set.home.now text)) set.labels.keys
+
+-- the set has these labels more, and what it had
+abbrev pub Gains : (List ℕ → Bool) → LabelSet → LabelSet → Type 0
+Gains more old new = (text : List ℕ) → has new text ≡ (more text || has old text)

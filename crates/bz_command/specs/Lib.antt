@@ -1,0 +1,12 @@
+pub mod ByteSteps
+pub mod CommandViews
+pub mod Commands
+pub mod LabelSetViews
+pub mod LabelViews
+pub mod Labels
+pub mod Names
+pub mod Same
+pub mod ValueSteps
+pub mod Values
+pub mod WordSteps
+pub mod Words

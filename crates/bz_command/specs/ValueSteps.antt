@@ -1,0 +1,23 @@
+-- For private clauses alone: a literal read unit by unit.
+use Rattle.std.specs.Prelude.{ℕ, ◌==◌, List, [], ◌∷◌, Bool, false, ◌&&◌, ◌||◌, if◌then◌else◌, Option, Some, None, bytes_eq}
+use Rattle.bz_command.specs.Values.{units, content, values_in, unit_value, is_newline}
+
+-- the length of the first unit
+abbrev pub first_len : List ℕ → ℕ
+first_len [] = 0
+first_len (b ∷ []) = 1
+first_len (b ∷ c ∷ []) = if b == 92 || b == 13 && c == 10 then 2 else 1
+first_len (b ∷ c ∷ d ∷ bs) = if b == 92 then (if c == 13 && d == 10 then 3 else 2) else (if b == 13 && c == 10 then 2 else 1)
+
+-- the value is this one
+abbrev pub is_value : List ℕ → Option (List ℕ) → Bool
+is_value value None = false
+is_value value (Some other) = bytes_eq value other
+
+-- the value of what stands behind the opening quotes
+abbrev pub inner_value : Bool → List ℕ → List ℕ → Option (List ℕ)
+inner_value raw quotes inner = values_in raw (content quotes (units inner))
+
+-- the value of a unit that may stand in a literal with one quote, or with three
+abbrev pub value_in : Bool → Bool → List ℕ → Option ℕ
+value_in raw short unit = if short && is_newline unit then None else unit_value raw unit

@@ -1,0 +1,34 @@
+//! Labels, targets and commands: what the words of a command line say. None of it needs a tree.
+//!
+//! The value of a string literal stands here too, since labels are compared by it.
+#![tactic(auto)]
+
+mod bytes;
+mod command;
+mod completed;
+mod decode;
+mod label_set;
+mod labels;
+pub mod laws;
+mod list;
+mod names;
+mod package;
+mod parts;
+mod reader;
+mod sameness;
+mod target;
+mod value;
+mod words;
+
+pub use bytes::{Bytes, Literal, value_of};
+pub use command::{Action, Attributes, Command, CommandFault, Commented, Field, Moved, Setting};
+pub use decode::read_value;
+pub use label_set::LabelSet;
+pub use labels::{LabelFault, read_label};
+pub use list::{Seq, Text};
+pub use package::Package;
+pub use parts::cut;
+pub use reader::read_command;
+pub use sameness::{same, same_label};
+pub use target::{Marked, Target};
+pub use value::{has_value, quote, value_is};

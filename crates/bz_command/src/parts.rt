@@ -1,0 +1,19 @@
+//! The parts of a text between the places where a character stands.
+
+ghost use Rattle.std.specs.Prelude.{◌≡◌, ◌==◌, ◌<◌, length, MatchOption, IfSome, [], ◌∷◌};
+ghost use Rattle.std.specs.List.{slice_split};
+ghost use Rattle.std.specs.Str.{IsUtf8};
+
+/// The first part and what follows the character behind it; `None` where there is one part alone.
+pub fn cut(text: &str, at: char) -> Option<(&str, &str)>
+    requires { at < 128 }
+    ensures parts { MatchOption result (slice_split (λ b. b == at) text.now ≡ text.now ∷ []) (λ x. slice_split (λ b. b == at) text.now ≡ x.0.now ∷ slice_split (λ b. b == at) x.1.now) }
+    ensures shorter { IfSome result (λ x. length x.1.now < length text.now) }
+    ensures front { IfSome result (λ x. IsUtf8 x.0.now) }
+    ensures back { IfSome result (λ x. IsUtf8 x.1.now) }
+{
+    let Some((part, rest)) = text.split_once(at) else {
+        return None;
+    };
+    Some((part, rest))
+}

@@ -1,0 +1,65 @@
+//! The words of a command.
+
+ghost use Rattle.std.specs.Prelude.{◌≡◌, ◌==◌, ◌∷◌, ◌++◌, [], IfOk, OnOk, true, false, MatchOption, string_bytes, filter, if◌then◌else◌};
+ghost use Rattle.bz_command.specs.Words as spec;
+ghost use Rattle.bz_command.specs.WordSteps.{kept};
+
+use crate::list::Text;
+use crate::parts::cut;
+use std::alloc::{AllocError, Global};
+
+/// The words of a text: it is split at runs of spaces, and a space behind a backslash is one of the word.
+pub(crate) fn read_words(alloc: Global, text: &str) -> Result<Vec<Text>, AllocError>
+    ensures { IfOk result (λ words. words.items ≡ spec.words_of text.now) }
+{
+    let mut words = Vec::new(alloc);
+    let mut word = String::new(alloc);
+    let mut left = text;
+    while let Some((part, rest)) = cut(left, ' ') {
+        match going_on(part) {
+            Some(front) => {
+                word.push_str(front)?;
+                word.push(' ')?;
+            }
+            None => {
+                word.push_str(part)?;
+                keep(&mut words, word)?;
+                word = String::new(alloc);
+            }
+        }
+        left = rest;
+    }
+    word.push_str(left)?;
+    keep(&mut words, word)?;
+    Ok(words)
+}
+
+// What stands before the backslash at the end.
+fn going_on(part: &str) -> Option<&str>
+    ensures { MatchOption result (spec.goes_on part.now ≡ false) (λ front. (spec.goes_on part.now ≡ true) × (spec.with_space part.now ≡ front.now ++ 32 ∷ [])) }
+{
+    let Some(front) = part.strip_suffix("\\") else {
+        return None;
+    };
+    Some(front)
+}
+
+fn keep(words: &mut Vec<Text>, word: String) -> Result<(), AllocError>
+    ensures { OnOk result (words.new.items ≡ words.old.items ++ kept (string_bytes word)) }
+{
+    if word.len() == 0 {
+        return Ok(());
+    }
+    words.push(Text::from_string(word))?;
+    Ok(())
+}
+
+/// Takes the first word off.
+pub(crate) fn take_word(words: &mut Vec<Text>) -> Option<Text>
+    ensures { MatchOption result ((words.old.items ≡ []) × (words.new.items ≡ [])) (λ word. words.old.items ≡ word ∷ words.new.items) }
+{
+    if words.len() == 0 {
+        return None;
+    }
+    Some(words.remove(0))
+}

@@ -1,6 +1,0 @@
-use Rattle.std.proofs.Common.{sym, ◌∙◌, refl, arith}
-use Rattle.bz_rule.proofs.Literals.{no_value}
-use Rattle.bz_rule.proofs.value.has_value.Goals as goal
-
-pub returns-then-first-ne114 : goal.returns-then-first-ne114
-returns-then-first-ne114 c = rw (no_value c.args.text.now (omega arith) (sym c.is_quote.ensures ∙ c.if-is_quote.false) c.if-first-ne114.true) refl

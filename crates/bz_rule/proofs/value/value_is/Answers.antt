@@ -1,6 +1,0 @@
-use Rattle.std.proofs.Common.{rules}
-use Rattle.bz_rule.proofs.Literals.{is_value-iff}
-use Rattle.bz_rule.proofs.value.value_is.Goals as goal
-
-pub returns-in-Text : goal.returns-in-Text
-returns-in-Text c = search (rules, is_value-iff)
