@@ -25,6 +25,12 @@ word_role text =
     else (if is_among text (codes "and" ∷ codes "or" ∷ []) then Operator
     else Stray)))))
 
+abbrev pub is_augmented : List ℕ → Bool
+is_augmented text = is_among text (codes "+=" ∷ codes "-=" ∷ codes "*=" ∷ codes "/=" ∷ codes "//=" ∷ codes "%=" ∷ codes "&=" ∷ codes "|=" ∷ codes "^=" ∷ codes "<<=" ∷ codes ">>=" ∷ [])
+
+abbrev pub is_infix : List ℕ → Bool
+is_infix text = is_among text (codes "==" ∷ codes "!=" ∷ codes "<" ∷ codes ">" ∷ codes "<=" ∷ codes ">=" ∷ codes "|" ∷ codes "^" ∷ codes "&" ∷ codes "<<" ∷ codes ">>" ∷ codes "/" ∷ codes "//" ∷ codes "%" ∷ [])
+
 abbrev pub sign_role : List ℕ → Role
 sign_role text =
     if bytes_eq text (codes ".") then Dot
@@ -35,8 +41,8 @@ sign_role text =
     else (if bytes_eq text (codes "*") then Star
     else (if bytes_eq text (codes "**") then Stars
     else (if is_among text (codes "+" ∷ codes "-" ∷ []) then Sum
-    else (if is_among text (codes "+=" ∷ codes "-=" ∷ codes "*=" ∷ codes "/=" ∷ codes "//=" ∷ codes "%=" ∷ codes "&=" ∷ codes "|=" ∷ codes "^=" ∷ codes "<<=" ∷ codes ">>=" ∷ []) then Augmented
-    else (if is_among text (codes "==" ∷ codes "!=" ∷ codes "<" ∷ codes ">" ∷ codes "<=" ∷ codes ">=" ∷ codes "|" ∷ codes "^" ∷ codes "&" ∷ codes "<<" ∷ codes ">>" ∷ codes "/" ∷ codes "//" ∷ codes "%" ∷ []) then Operator
+    else (if is_augmented text then Augmented
+    else (if is_infix text then Operator
     else Stray)))))))))
 
 -- what a token is to the grammar

@@ -2,7 +2,7 @@
 
 ghost use Rattle.std.specs.Prelude.{◌≡◌};
 ghost use Rattle.bz_tree.specs.View.{text_of};
-ghost use Rattle.bz_tree.specs.Grammar.{word_role, sign_role, leaf_role};
+ghost use Rattle.bz_tree.specs.Grammar.{word_role, sign_role, is_augmented, is_infix, leaf_role};
 
 use crate::stmt::Leaf;
 use bz_token::Kind;
@@ -67,11 +67,30 @@ fn sign_role(text: &str) -> Role
         "*" => Role::Star,
         "**" => Role::Stars,
         "+" | "-" => Role::Sum,
-        "+=" | "-=" | "*=" | "/=" | "//=" | "%=" | "&=" | "|=" | "^=" | "<<=" | ">>=" =>
-            Role::Augmented,
-        "==" | "!=" | "<" | ">" | "<=" | ">=" | "|" | "^" | "&" | "<<" | ">>" | "/" | "//" | "%" =>
-            Role::Operator,
+        _ if is_augmented(text) => Role::Augmented,
+        _ if is_infix(text) => Role::Operator,
         _ => Role::Stray,
+    }
+}
+
+// An operator that assigns, but for `=`.
+fn is_augmented(text: &str) -> bool
+    ensures { result ≡ is_augmented text.now }
+{
+    match text {
+        "+=" | "-=" | "*=" | "/=" | "//=" | "%=" | "&=" | "|=" | "^=" | "<<=" | ">>=" => true,
+        _ => false,
+    }
+}
+
+// An operator that stands between operands alone.
+fn is_infix(text: &str) -> bool
+    ensures { result ≡ is_infix text.now }
+{
+    match text {
+        "==" | "!=" | "<" | ">" | "<=" | ">=" | "|" | "^" | "&" | "<<" | ">>" | "/" | "//" | "%" =>
+            { true }
+        _ => false,
     }
 }
 
