@@ -1,5 +1,5 @@
 -- A file that is edited holds what it held, or the whole text of a run that is kept.
-use Rattle.std.proofs.Common.{◌≡◌, ℕ, Bool, true, false, List, [], ◌∷◌, Option, None, Some, Result, Ok, sym, ◌∙◌, ap, subst}
+use Rattle.std.proofs.Common.{◌≡◌, ℕ, Bool, true, false, List, [], ◌∷◌, Option, None, Some, Result, Ok, sym, ◌∙◌, ap, subst, Contains}
 use Rattle.bz_folder.specs.Files.{Content, Event}
 use Rattle.bz_folder.specs.Replace.{Replacement}
 use Rattle.bz_folder.specs.Sequence.{SafeRun, Wanted, EachMay}
@@ -11,7 +11,9 @@ use Rattle.buildozer.specs.declared.file_run.Ended.TheVariants.{Told, Failed, No
 use Rattle.buildozer.specs.Runs.{Asked, IsRun, IsKeptText, is_kept}
 use Rattle.buildozer.specs.FileRuns.{GaveText, Gives}
 use Rattle.buildozer.specs.Files.{MayHold, IsEdited}
-use Rattle.buildozer.specs.Program.{MayHold as MayHoldAny}
+use Rattle.buildozer.specs.Groups.{Step}
+use Rattle.buildozer.specs.Packages.{by_package}
+use Rattle.buildozer.specs.Program.{MayHold as MayHoldAny, Task, asked_for}
 use Rattle.buildozer.specs.declared.file_run.FileRun.{FileRun}
 
 abbrev or_else : {A : Type 0} → Option A → A → A
@@ -79,6 +81,7 @@ pub safe_weaker : {D : Type 0} (did : D → List Event → D → Type 0) (May Mo
 safe_weaker did May More f a b r = record { wants = r.wants; events = r.events; made = r.made; may = each_weaker May More f r.wants r.may; whole = r.whole }
 
 -- a package's run is a run of the program
-pub of_package : {D : Type 0} (did : D → List Event → D → Type 0) (asked : Asked) (keep_going : Bool) → asked.keep_going ≡ keep_going
-    → (a b : D) → SafeRun did (MayHold asked) a b → SafeRun did (MayHoldAny keep_going) a b
-of_package did asked keep_going is a b r = safe_weaker did (MayHold asked) (MayHoldAny keep_going) (λ file content kept. (asked, is, kept)) a b r
+pub of_package : {D : Type 0} (did : D → List Event → D → Type 0) (keep_going : Bool) (script : List Step) (task : Task) → Contains (by_package script) task
+    → (a b : D) → SafeRun did (MayHold (asked_for keep_going task)) a b → SafeRun did (MayHoldAny keep_going script) a b
+of_package did keep_going script task is_asked a b r =
+    safe_weaker did (MayHold (asked_for keep_going task)) (MayHoldAny keep_going script) (λ file content may. record { task = task; is_asked = is_asked; may = may }) a b r

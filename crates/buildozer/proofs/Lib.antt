@@ -13,3 +13,4 @@ pub mod LineEnds
 pub mod Mentions
 pub mod OneMore
 pub mod Trimming
+pub mod Turns

@@ -1,8 +1,23 @@
 -- What the program may put into the files of the packages.
-use Rattle.std.specs.Prelude.{◌≡◌, ℕ, Bool, List}
+use Rattle.std.specs.Prelude.{ℕ, Bool, List, Contains}
+use Rattle.bz_engine.specs.Outcome.{Script}
 use Rattle.bz_folder.specs.Files.{Content}
-use Rattle.buildozer.specs.Runs.{Asked, IsKeptText}
+use Rattle.bz_rule.specs.Labels.{Package}
+use Rattle.buildozer.specs.Files as files
+use Rattle.buildozer.specs.Groups.{Step}
+use Rattle.buildozer.specs.Packages.{by_package}
+use Rattle.buildozer.specs.Runs.{Asked}
 
--- a file may hold the whole text of a run, with these flags, that is kept
-abbrev pub MayHold : Bool → List ℕ → Content → Type 0
-MayHold keep_going file content = (asked : Asked) × (asked.keep_going ≡ keep_going) × IsKeptText asked content.0
+-- a package, and the passes that are for it
+abbrev pub Task : Type 0
+Task = Package × Script
+
+-- what is asked of a package, where failures end the run or not
+abbrev pub asked_for : Bool → Task → Asked
+asked_for keep_going (home, passes) = record { home = home; passes = passes; keep_going = keep_going }
+
+-- a file may hold the whole text of a run for a package of the script, with all its passes, that is kept
+pub record MayHold (keep_going : Bool) (script : List Step) (file : List ℕ) (content : Content) : Type 0 where
+  pub task : Task
+  pub is_asked : Contains (by_package script) task
+  pub may : files.MayHold (asked_for keep_going task) file content

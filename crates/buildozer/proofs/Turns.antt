@@ -1,0 +1,33 @@
+-- A loop over the entries of a map, by value, each of them seen in another way.
+use Rattle.std.proofs.Common.{◌≡◌, List, [], ◌∷◌, ◌++◌, map, Option, None, Some, refl, sym, ◌∙◌, ap, subst, append-nil, Contains, arith}
+use Rattle.std.specs.Iterator.{Yields}
+use Rattle.std.specs.Map.Iter.{TakesFirst}
+use Rattle.std.proofs.lemmas.List.Elements.{Contains-append_right}
+use Rattle.std.proofs.lemmas.Map.Iter.{rest_more, rest_all}
+
+so_far : {E T : Type 0} (view : E → T) (yielded before left : List E) → Yields (TakesFirst (λ entry. entry)) before yielded left
+    → map view before ≡ map view yielded ++ map view left
+so_far view [] before left y = ap (map view) y
+so_far view (entry ∷ yielded) before left y = ap (map view) y.1 ∙ ap (λ views. view entry ∷ views) (so_far view yielded y.0 left y.2)
+
+module _ {E T : Type 0} (view : E → T) (entries : List E) (all : List T) (are : map view entries ≡ all) (yielded before left after : List E)
+    (start : before ≡ entries) (y : Yields (TakesFirst (λ entry. entry)) before yielded left)
+    (next : Option E) (step : TakesFirst (λ entry. entry) left next after) where
+  by_now : all ≡ map view yielded ++ map view left
+  by_now = sym (ap (map view) start ∙ are) ∙ so_far view yielded before left y
+
+  -- behind what was yielded stands the entry that comes next
+  pub turn : (entry : E) → next ≡ Some entry → all ≡ map view yielded ++ view entry ∷ map view after
+  turn entry is = by_now ∙ ap (λ es. map view yielded ++ map view es) (rest_more (λ e. e) left after next entry is step)
+
+  -- all was yielded
+  pub end : next ≡ None → all ≡ map view yielded
+  end is = by_now ∙ ap (λ es. map view yielded ++ map view es) (rest_all (λ e. e) left after next is step) ∙ append-nil (map view yielded)
+
+contains_first : {T : Type 0} (x : T) (xs : List T) → Contains (x ∷ xs) x
+contains_first x xs = (0, omega arith, refl)
+
+-- what stands behind a front of a list is in it
+pub contains_next : {T : Type 0} (front : List T) (x : T) (behind all : List T) → all ≡ front ++ x ∷ behind → Contains all x
+contains_next front x behind all is =
+    subst (λ whole. Contains whole x) (sym is) (Contains-append_right front (x ∷ behind) x (contains_first x behind))
