@@ -9,6 +9,7 @@ mod Loops
 mod PackagesExamples
 mod StatusesExamples
 pub mod FileLines
+pub mod Handling
 pub mod LineEnds
 pub mod Mentions
 pub mod OneMore

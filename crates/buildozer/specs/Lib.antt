@@ -6,6 +6,7 @@ pub mod Files
 pub mod FlagViews
 pub mod Flags
 pub mod Groups
+pub mod Handled
 pub mod Inputs
 pub mod Names
 pub mod Packages

@@ -1,7 +1,8 @@
 //! What is done for all packages of a script.
 
-ghost use Rattle.std.specs.Prelude.{◌≡◌, OnErr};
+ghost use Rattle.std.specs.Prelude.{◌≡◌, IfOk, OnErr};
 ghost use Rattle.bz_folder.specs.Sequence.{SafeRun};
+ghost use Rattle.buildozer.specs.Handled.{IsStatusOfAll};
 ghost use Rattle.buildozer.specs.Program as spec;
 
 use crate::flags::Flags;
@@ -25,7 +26,10 @@ pub fn edit_all<D: Folder, S: Source, O: Sink, E: Sink>(
     script: Script,
     devices: &mut Devices<D, S, O, E>,
 ) -> Result<u8, AllocError>
-    ensures safe { SafeRun D.did (spec.MayHold flags.now.k script.items) devices.old.draft.folder devices.new.draft.folder }
+    ensures safe { SafeRun D.did (spec.MayHold flags.now.k script.items)
+        devices.old.draft.folder devices.new.draft.folder }
+    // Each package that comes has a status, and without `-k` none comes after one that failed.
+    ensures status { IfOk result (IsStatusOfAll flags.now.k script.items) }
     ensures err { OnErr result (devices.new ≡ devices.old) }
 {
     let packages = by_package(alloc, script)?;

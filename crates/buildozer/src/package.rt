@@ -3,6 +3,7 @@
 ghost use Rattle.std.specs.Prelude.{◌≡◌, ℕ, List, [], string_bytes};
 ghost use Rattle.bz_folder.specs.Sequence.{SafeRun};
 ghost use Rattle.buildozer.specs.Files.{MayHold};
+ghost use Rattle.buildozer.specs.Handled.{IsStatusOf};
 
 use crate::console::Console;
 use crate::edit_file::{FileFault, edit_file};
@@ -38,6 +39,7 @@ pub fn edit_package<D: Folder, S: Source, O: Sink, E: Sink>(
     devices: &mut Devices<D, S, O, E>,
 ) -> u8
     ensures safe { SafeRun D.did (MayHold asked) devices.old.draft.folder devices.new.draft.folder }
+    ensures status { IsStatusOf asked result }
 {
     let status = edit_home(alloc, flags, asked, devices);
     match devices.console.flush() {
@@ -54,6 +56,7 @@ fn edit_home<D: Folder, S: Source, O: Sink, E: Sink>(
     devices: &mut Devices<D, S, O, E>,
 ) -> u8
     ensures safe { SafeRun D.did (MayHold asked) devices.old.draft.folder devices.new.draft.folder }
+    ensures status { IsStatusOf asked result }
 {
     let Some(folder) = asked.home.path() else {
         return edit_shown(alloc, asked, "-", &mut devices.input, &mut devices.console);
@@ -74,7 +77,9 @@ fn edit_shown<S: Source, O: Sink, E: Sink>(
     name: &str,
     source: &mut S,
     console: &mut Console<O, E>,
-) -> u8 {
+) -> u8
+    ensures { IsStatusOf asked result }
+{
     match edit_stream(alloc, asked, name, source, console) {
         Ok(status) => status,
         Err(fault) => put_fault(alloc, name, fault, console),
@@ -90,6 +95,7 @@ fn edit_found<D: Folder, S, O: Sink, E: Sink>(
     devices: &mut Devices<D, S, O, E>,
 ) -> u8
     ensures safe { SafeRun D.did (MayHold asked) devices.old.draft.folder devices.new.draft.folder }
+    ensures status { IsStatusOf asked result }
 {
     match open_first(devices.draft.folder(), files) {
         Ok((opened, name)) => edit_opened(alloc, flags, asked, name, opened, devices),
@@ -125,6 +131,7 @@ fn edit_opened<D: Folder, S, O: Sink, E: Sink>(
     devices: &mut Devices<D, S, O, E>,
 ) -> u8
     ensures safe { SafeRun D.did (MayHold asked) devices.old.draft.folder devices.new.draft.folder }
+    ensures status { IsStatusOf asked result }
 {
     if flags.stdout || is_query(asked.passes.as_slice()) {
         let mut source = opened.source;
