@@ -2,7 +2,7 @@
 use Rattle.std.specs.Prelude.{ℕ, Bool, List, Contains}
 use Rattle.bz_engine.specs.Outcome.{Script}
 use Rattle.bz_folder.specs.Files.{Content}
-use Rattle.bz_rule.specs.Labels.{Package}
+use Rattle.bz_command.specs.Labels.{Package}
 use Rattle.buildozer.specs.Files as files
 use Rattle.buildozer.specs.Groups.{Step}
 use Rattle.buildozer.specs.Packages.{by_package}
