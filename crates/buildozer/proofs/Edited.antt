@@ -1,17 +1,19 @@
 -- A file that is edited holds what it held, or the whole text of a run that is kept.
-use Rattle.std.proofs.Common.{◌≡◌, ℕ, Bool, true, false, List, [], ◌∷◌, Option, None, Some, Result, Ok, sym, ◌∙◌, ap, subst, Contains}
+use Rattle.std.proofs.Common.{◌≡◌, ℕ, Bool, true, false, List, [], ◌∷◌, Option, None, Some, Result, Ok, sym, ◌∙◌, ap, subst, refl, Contains, ⊎_elim, ◌⊎◌}
 use Rattle.bz_folder.specs.Files.{Content, Event}
 use Rattle.bz_folder.specs.Replace.{Replacement}
 use Rattle.bz_folder.specs.Sequence.{SafeRun, Wanted, EachMay}
 use Rattle.bz_folder.specs.SequenceLaws.{run_nothing, run_one}
 use Rattle.bz_folder.specs.declared.trouble.Trouble.{Trouble}
 use Rattle.bz_engine.specs.declared.report.Report.{Report}
+use Rattle.bz_rule.specs.Labels.{Package}
 use Rattle.buildozer.specs.declared.file_run.Ended.{Ended}
 use Rattle.buildozer.specs.declared.file_run.Ended.TheVariants.{Told, Failed, NotYet}
 use Rattle.buildozer.specs.Runs.{Asked, IsRun, IsKeptText, is_kept}
 use Rattle.buildozer.specs.FileRuns.{GaveText, Gives}
-use Rattle.buildozer.specs.Files.{MayHold, IsEdited}
+use Rattle.buildozer.specs.Files.{IsFileOf, MayBe, MayHold, IsEdited}
 use Rattle.buildozer.specs.Groups.{Step}
+use Rattle.buildozer.specs.Names.{IsBuildPath}
 use Rattle.buildozer.specs.Packages.{by_package}
 use Rattle.buildozer.specs.Program.{MayHold as MayHoldAny, Task, asked_for}
 use Rattle.buildozer.specs.declared.file_run.FileRun.{FileRun}
@@ -40,10 +42,10 @@ module _ {S : Type 0} (gave : S → List (List ℕ) → S → Type 0) (before af
 
   pub safe_edit : {D : Type 0} (did : D → List Event → D → Type 0) (a b : D) (file : List ℕ) (mode : ℕ) (result : Result Bool Trouble)
       → Replacement did (λ old text answer new. Gives gave old.asked old.source text answer new.source new.ended) a b before after file mode result
-      → SafeRun did (MayHold asked) a b
+      → SafeRun did (MayBe asked file) a b
   safe_edit did a b file mode result r =
-      run_one did (MayHold asked) (λ old text answer new. Gives gave old.asked old.source text answer new.source new.ended) a b before after file mode result r
-      (λ text g. kept_text text g)
+      run_one did (MayBe asked file) (λ old text answer new. Gives gave old.asked old.source text answer new.source new.ended) a b before after file mode result r
+      (λ text g. record { is_it = refl; kept = kept_text text g })
 
   -- what the run told is a run's report, and what it answered is whether its text is kept
   pub edited : (text : List ℕ) (kept : Bool) (report : Report) → GaveText gave before.asked before.source text kept after.source after.ended
@@ -80,8 +82,22 @@ pub safe_weaker : {D : Type 0} (did : D → List Event → D → Type 0) (May Mo
     → ((file : List ℕ) (content : Content) → May file content → More file content) → (a b : D) → SafeRun did May a b → SafeRun did More a b
 safe_weaker did May More f a b r = record { wants = r.wants; events = r.events; made = r.made; may = each_weaker May More f r.wants r.may; whole = r.whole }
 
+-- a file's run is one of its package
+pub of_file : {D : Type 0} (did : D → List Event → D → Type 0) (leads : List ℕ → List ℕ → Type 0) (asked : Asked) (edited : List ℕ)
+    → IsFileOf leads asked.home edited → (a b : D) → SafeRun did (MayBe asked edited) a b → SafeRun did (MayHold leads asked) a b
+of_file did leads asked edited is_its a b r =
+    safe_weaker did (MayBe asked edited) (MayHold leads asked)
+    (λ file content may. record { is_its = subst (IsFileOf leads asked.home) (sym may.is_it) is_its; kept = may.kept }) a b r
+
+-- the file that was opened at one of two paths of a package's BUILD file
+pub file_of : (leads : List ℕ → List ℕ → Type 0) (home : Package) (first second file : List ℕ) → IsBuildPath home first → IsBuildPath home second
+    → leads first file ⊎ leads second file → IsFileOf leads home file
+file_of leads home first second file is_first is_second found =
+    ⊎_elim (λ l. record { path = first; is_its = is_first; leads_to = l }) (λ l. record { path = second; is_its = is_second; leads_to = l }) found
+
 -- a package's run is a run of the program
-pub of_package : {D : Type 0} (did : D → List Event → D → Type 0) (keep_going : Bool) (script : List Step) (task : Task) → Contains (by_package script) task
-    → (a b : D) → SafeRun did (MayHold (asked_for keep_going task)) a b → SafeRun did (MayHoldAny keep_going script) a b
-of_package did keep_going script task is_asked a b r =
-    safe_weaker did (MayHold (asked_for keep_going task)) (MayHoldAny keep_going script) (λ file content may. record { task = task; is_asked = is_asked; may = may }) a b r
+pub of_package : {D : Type 0} (did : D → List Event → D → Type 0) (leads : List ℕ → List ℕ → Type 0) (keep_going : Bool) (script : List Step) (task : Task) → Contains (by_package script) task
+    → (a b : D) → SafeRun did (MayHold leads (asked_for keep_going task)) a b → SafeRun did (MayHoldAny leads keep_going script) a b
+of_package did leads keep_going script task is_asked a b r =
+    safe_weaker did (MayHold leads (asked_for keep_going task)) (MayHoldAny leads keep_going script)
+    (λ file content may. record { task = task; is_asked = is_asked; may = may }) a b r

@@ -16,8 +16,8 @@ Task = Package × Script
 abbrev pub asked_for : Bool → Task → Asked
 asked_for keep_going (home, passes) = record { home = home; passes = passes; keep_going = keep_going }
 
--- a file may hold the whole text of a run for a package of the script, with all its passes, that is kept
-pub record MayHold (keep_going : Bool) (script : List Step) (file : List ℕ) (content : Content) : Type 0 where
+-- the file of a package of the script may hold the whole text of a run with all its passes that is kept
+pub record MayHold (leads : List ℕ → List ℕ → Type 0) (keep_going : Bool) (script : List Step) (file : List ℕ) (content : Content) : Type 0 where
   pub task : Task
   pub is_asked : Contains (by_package script) task
-  pub may : files.MayHold (asked_for keep_going task) file content
+  pub may : files.MayHold leads (asked_for keep_going task) file content

@@ -18,15 +18,15 @@ use std::alloc::{AllocError, Global};
 /// Edits each package of the script, in the order of their first mention, and gives the exit status. Without `-k` no package
 /// comes after one that failed.
 ///
-/// At each moment each BUILD file has the bytes that it had, or the whole text of a run that is kept: one for a package of the
-/// script, with all its passes. An `Err` has touched no package.
+/// At each moment each file has the bytes that it had, or, where it is the BUILD file of a package of the script, the whole text
+/// of a run for that package, with all its passes, that is kept. An `Err` has touched no package.
 pub fn edit_all<D: Folder, S: Source, O: Sink, E: Sink>(
     alloc: Global,
     flags: &Flags,
     script: Script,
     devices: &mut Devices<D, S, O, E>,
 ) -> Result<u8, AllocError>
-    ensures safe { SafeRun D.did (spec.MayHold flags.now.k script.items)
+    ensures safe { SafeRun D.did (spec.MayHold D.leads flags.now.k script.items)
         devices.old.draft.folder devices.new.draft.folder }
     // Each package that comes has a status, and without `-k` none comes after one that failed.
     ensures status { IfOk result (IsStatusOfAll flags.now.k script.items) }

@@ -1,6 +1,6 @@
 //! A run that edits a file in place.
 
-ghost use Rattle.std.specs.Prelude.{◌≡◌, Ok, IfOk};
+ghost use Rattle.std.specs.Prelude.{◌≡◌, Ok, IfOk, string_bytes};
 ghost use Rattle.bz_folder.specs.Sequence.{SafeRun};
 ghost use Rattle.buildozer.specs.Files as spec;
 
@@ -28,7 +28,7 @@ pub fn edit_file<D: Folder>(
     opened: Opened<D::File>,
     draft: &mut Draft<D>,
 ) -> Result<(Report, bool), FileFault>
-    ensures safe { SafeRun D.did (spec.MayHold asked) draft.old.folder draft.new.folder }
+    ensures safe { SafeRun D.did (spec.MayBe asked (string_bytes opened.path)) draft.old.folder draft.new.folder }
     ensures edited { IfOk result (λ edited. spec.IsEdited asked edited.0 edited.1) }
 {
     let mut author = FileRun::new(alloc, opened.source, asked);

@@ -1,9 +1,10 @@
 //! What is done for one package.
 
-ghost use Rattle.std.specs.Prelude.{◌≡◌, ℕ, List, [], string_bytes};
+ghost use Rattle.std.specs.Prelude.{◌≡◌, ◌⊎◌, IfOk, string_bytes};
 ghost use Rattle.bz_folder.specs.Sequence.{SafeRun};
-ghost use Rattle.buildozer.specs.Files.{MayHold};
+ghost use Rattle.buildozer.specs.Files.{IsFileOf, MayHold};
 ghost use Rattle.buildozer.specs.Handled.{IsStatusOf};
+ghost use Rattle.buildozer.specs.Names.{IsBuildPath};
 
 use crate::console::Console;
 use crate::edit_file::{FileFault, edit_file};
@@ -38,7 +39,7 @@ pub fn edit_package<D: Folder, S: Source, O: Sink, E: Sink>(
     asked: Asked,
     devices: &mut Devices<D, S, O, E>,
 ) -> u8
-    ensures safe { SafeRun D.did (MayHold asked) devices.old.draft.folder devices.new.draft.folder }
+    ensures safe { SafeRun D.did (MayHold D.leads asked) devices.old.draft.folder devices.new.draft.folder }
     ensures status { IsStatusOf asked result }
 {
     let status = edit_home(alloc, flags, asked, devices);
@@ -55,7 +56,7 @@ fn edit_home<D: Folder, S: Source, O: Sink, E: Sink>(
     asked: Asked,
     devices: &mut Devices<D, S, O, E>,
 ) -> u8
-    ensures safe { SafeRun D.did (MayHold asked) devices.old.draft.folder devices.new.draft.folder }
+    ensures safe { SafeRun D.did (MayHold D.leads asked) devices.old.draft.folder devices.new.draft.folder }
     ensures status { IsStatusOf asked result }
 {
     let Some(folder) = asked.home.path() else {
@@ -94,7 +95,9 @@ fn edit_found<D: Folder, S, O: Sink, E: Sink>(
     files: &BuildFiles,
     devices: &mut Devices<D, S, O, E>,
 ) -> u8
-    ensures safe { SafeRun D.did (MayHold asked) devices.old.draft.folder devices.new.draft.folder }
+    requires first { IsBuildPath asked.home (string_bytes files.now.first) }
+    requires second { IsBuildPath asked.home (string_bytes files.now.second) }
+    ensures safe { SafeRun D.did (MayHold D.leads asked) devices.old.draft.folder devices.new.draft.folder }
     ensures status { IsStatusOf asked result }
 {
     match open_first(devices.draft.folder(), files) {
@@ -110,7 +113,10 @@ fn edit_found<D: Folder, S, O: Sink, E: Sink>(
 fn open_first<'a, D: Folder>(
     folder: &D,
     files: &'a BuildFiles,
-) -> Result<(Opened<D::File>, &'a str), &'a str> {
+) -> Result<(Opened<D::File>, &'a str), &'a str>
+    ensures { IfOk result (λ found. D.leads (string_bytes files.now.first) (string_bytes found.0.path)
+        ⊎ D.leads (string_bytes files.now.second) (string_bytes found.0.path)) }
+{
     match folder.open(&files.first) {
         Ok(opened) => Ok((opened, files.first.as_str())),
         Err(CannotOpen::Failed) => Err(files.first.as_str()),
@@ -130,7 +136,8 @@ fn edit_opened<D: Folder, S, O: Sink, E: Sink>(
     opened: Opened<D::File>,
     devices: &mut Devices<D, S, O, E>,
 ) -> u8
-    ensures safe { SafeRun D.did (MayHold asked) devices.old.draft.folder devices.new.draft.folder }
+    requires { IsFileOf D.leads asked.home (string_bytes opened.path) }
+    ensures safe { SafeRun D.did (MayHold D.leads asked) devices.old.draft.folder devices.new.draft.folder }
     ensures status { IsStatusOf asked result }
 {
     if flags.stdout || is_query(asked.passes.as_slice()) {

@@ -1,6 +1,6 @@
 //! The calls that are made of a file system.
 
-ghost use Rattle.std.specs.Prelude.{◌≡◌, List, [], ◌∷◌, ◌++◌, is_ok};
+ghost use Rattle.std.specs.Prelude.{◌≡◌, ℕ, List, [], ◌∷◌, ◌++◌, is_ok, IfOk, string_bytes};
 ghost use Rattle.bz_folder.specs.Files.{Event, Make, Write, SetMode, Rename, Remove};
 
 use bz_engine::{Failed, Source};
@@ -34,8 +34,12 @@ pub trait Folder {
     // The first state made these calls, each with whether it succeeded, and became the second.
     ghost did: { Self → List Event → Self → Type 0 };
 
+    // What is opened at the first path may be the file at the second, to which a link leads.
+    ghost leads: { List ℕ → List ℕ → Type 0 };
+
     /// Opens a file to read it. This changes no file.
-    fn open(&self, path: &str) -> Result<Opened<Self::File>, CannotOpen>;
+    fn open(&self, path: &str) -> Result<Opened<Self::File>, CannotOpen>
+        ensures { IfOk result (λ opened. leads path.now (string_bytes opened.path)) };
 
     /// Makes an empty file, open to be written, where nothing is: a link at the path is not
     /// followed.

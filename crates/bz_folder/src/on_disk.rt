@@ -1,6 +1,6 @@
 //! The folder of a program: the calls of std, and a count of them.
 
-ghost use Rattle.std.specs.Prelude.{◌≡◌};
+ghost use Rattle.std.specs.Prelude.{◌≡◌, ⊤};
 ghost use Rattle.bz_folder.specs.Tally.{no_calls, Tallies, tallies_nothing, tallies_more};
 
 use crate::folder::{CannotOpen, Folder, Opened};
@@ -86,6 +86,9 @@ impl<R: Files> Folder for OnDisk<R> {
     type File = FromRead<R::File>;
 
     ghost did = { λ old events new. Tallies old new events };
+
+    // No clause of std tells where a link leads.
+    ghost leads = { λ path file. ⊤ };
 
     ghost did_nothing = { λ s. tallies_nothing s };
 

@@ -50,6 +50,8 @@ impl Folder for Notes {
 
     ghost did = { λ old events new. ⊤ };
 
+    ghost leads = { λ path file. ⊤ };
+
     ghost did_nothing = { λ s. tt };
 
     ghost did_more = { λ a b c es fs p q. tt };

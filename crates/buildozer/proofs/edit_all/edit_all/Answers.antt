@@ -10,19 +10,19 @@ use Rattle.buildozer.proofs.edit_all.edit_all.Goals as goal
 use Rattle.buildozer.proofs.edit_all.edit_all.Goals.{in-None, else-status-eq-FAILED-via-then-status-eq-FAILED+else-not-flags, else-status-eq-FAILED-via-else-status-eq-FAILED, in-Some+then-status-eq-FAILED+then-not-flags}
 
 pub returns-in_err-packages-clause-safe : goal.returns-in_err-packages-clause-safe
-returns-in_err-packages-clause-safe g c = untouched g.D.Folder.did (MayHold c.args.flags.now.k c.args.script.items) g.met.D.Folder.did_nothing c.args.devices.now.draft.folder
+returns-in_err-packages-clause-safe g c = untouched g.D.Folder.did (MayHold g.D.Folder.leads c.args.flags.now.k c.args.script.items) g.met.D.Folder.did_nothing c.args.devices.now.draft.folder
 
 pub loop-home-init : goal.loop-home-init
 loop-home-init g c = (
-  untouched g.D.Folder.did (MayHold c.args.flags.now.k c.args.script.items) g.met.D.Folder.did_nothing c.args.devices.now.draft.folder,
+  untouched g.D.Folder.did (MayHold g.D.Folder.leads c.args.flags.now.k c.args.script.items) g.met.D.Folder.did_nothing c.args.devices.now.draft.folder,
   handled_none c.args.flags.now.k c.args.script.items _ c.whole_status-whole.ensures,
 )
 
 pub loop-home-preserved : goal.loop-home-preserved
 loop-home-preserved g c = (
-  run_more g.D.Folder.did (MayHold c.args.flags.now.k c.args.script.items) g.met.D.Folder.did_more c.args.devices.now.draft.folder c.loop-home.devices.draft.folder
+  run_more g.D.Folder.did (MayHold g.D.Folder.leads c.args.flags.now.k c.args.script.items) g.met.D.Folder.did_more c.args.devices.now.draft.folder c.loop-home.devices.draft.folder
       c.edit_package-status.new.devices.draft.folder c.loop-home.invariant.0
-      (of_package g.D.Folder.did c.args.flags.now.k c.args.script.items _
+      (of_package g.D.Folder.did g.D.Folder.leads c.args.flags.now.k c.args.script.items _
       (contains_next _ _ _ _ (turn _ _ _ c.in_ok-packages.ensures c.loop-home.yielded _ _ _ c.into_iter-home-iterator.ensures.into_iter_gives.0 c.loop-home.yielded_by _ c.next.ensures.steps (c.in-Some.home, c.in-Some.passes) c.in-Some.is))
       _ _ c.edit_package-status.ensures.safe),
   handled_more c.args.flags.now.k c.args.script.items _ c.loop-home.yielded (c.in-Some.home, c.in-Some.passes) c.loop-home.whole _ c.edit_package-status.result
@@ -38,12 +38,12 @@ pub returns-clause-safe : goal.returns-clause-safe
 returns-clause-safe g c =
     elim c.match-next.branch [
       | in-None w ↦
-          subst (λ d. SafeRun g.D.Folder.did (MayHold c.args.flags.now.k c.args.script.items) c.args.devices.now.draft.folder d.draft.folder) (sym w.devices-is) c.loop-home.invariant.0
+          subst (λ d. SafeRun g.D.Folder.did (MayHold g.D.Folder.leads c.args.flags.now.k c.args.script.items) c.args.devices.now.draft.folder d.draft.folder) (sym w.devices-is) c.loop-home.invariant.0
       | in-Some+then-status-eq-FAILED+then-not-flags w ↦
-          subst (λ d. SafeRun g.D.Folder.did (MayHold c.args.flags.now.k c.args.script.items) c.args.devices.now.draft.folder d.draft.folder) (sym w.devices-is)
-          (run_more g.D.Folder.did (MayHold c.args.flags.now.k c.args.script.items) g.met.D.Folder.did_more c.args.devices.now.draft.folder c.loop-home.devices.draft.folder
+          subst (λ d. SafeRun g.D.Folder.did (MayHold g.D.Folder.leads c.args.flags.now.k c.args.script.items) c.args.devices.now.draft.folder d.draft.folder) (sym w.devices-is)
+          (run_more g.D.Folder.did (MayHold g.D.Folder.leads c.args.flags.now.k c.args.script.items) g.met.D.Folder.did_more c.args.devices.now.draft.folder c.loop-home.devices.draft.folder
           w.edit_package-status.new.devices.draft.folder c.loop-home.invariant.0
-          (of_package g.D.Folder.did c.args.flags.now.k c.args.script.items _
+          (of_package g.D.Folder.did g.D.Folder.leads c.args.flags.now.k c.args.script.items _
           (contains_next _ _ _ _ (turn _ _ _ c.in_ok-packages.ensures c.loop-home.yielded _ _ _ c.into_iter-home-iterator.ensures.into_iter_gives.0 c.loop-home.yielded_by _ c.next.ensures.steps (w.in-Some.home, w.in-Some.passes) w.in-Some.is))
           _ _ w.edit_package-status.ensures.safe))
     ]

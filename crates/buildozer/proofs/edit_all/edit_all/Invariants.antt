@@ -6,5 +6,5 @@ use Rattle.buildozer.proofs.edit_all.edit_all.Given as goal
 
 abbrev pub invariant-loop-home : goal.invariant-loop-home
 invariant-loop-home g l =
-    SafeRun g.D.Folder.did (MayHold l.flags.k l.fn.script.items) l.initial.devices.draft.folder l.devices.draft.folder
+    SafeRun g.D.Folder.did (MayHold g.D.Folder.leads l.flags.k l.fn.script.items) l.initial.devices.draft.folder l.devices.draft.folder
     × HandledTo l.flags.k l.fn.script.items (map (λ e. (e.0, e.1.items)) l.yielded) l.whole

@@ -1,4 +1,6 @@
-use Rattle.std.proofs.Common.{sym, ◌∙◌, ap}
+use Rattle.std.proofs.Common.{sym, ◌∙◌, ap, subst}
+use Rattle.bz_folder.specs.Sequence.{SafeRun}
+use Rattle.buildozer.specs.Files.{MayBe}
 use Rattle.buildozer.specs.declared.file_run.Ended.TheVariants.{Told}
 use Rattle.buildozer.proofs.Edited.{safe_edit, edited_as}
 use Rattle.buildozer.proofs.Loops.{if_ok}
@@ -12,15 +14,18 @@ returns-in-Told-clause-edited g c =
 
 pub returns-in-Told-clause-safe : goal.returns-in-Told-clause-safe
 returns-in-Told-clause-safe g c =
-    safe_edit _ c.new-author.result c.replace_file-replaced.new.author c.args.asked c.new-author.ensures.0 g.D.Folder.did c.args.draft.now.folder c.replace_file-replaced.new.draft.folder
-    _ _ _ c.replace_file-replaced.ensures.safe
+    subst (λ edited. SafeRun g.D.Folder.did (MayBe c.args.asked edited) c.args.draft.now.folder c.replace_file-replaced.new.draft.folder) c.deref.ensures
+    (safe_edit _ c.new-author.result c.replace_file-replaced.new.author c.args.asked c.new-author.ensures.0 g.D.Folder.did c.args.draft.now.folder c.replace_file-replaced.new.draft.folder
+    _ _ _ c.replace_file-replaced.ensures.safe)
 
 pub returns-in-Failed-clause-safe : goal.returns-in-Failed-clause-safe
 returns-in-Failed-clause-safe g c =
-    safe_edit _ c.new-author.result c.replace_file-replaced.new.author c.args.asked c.new-author.ensures.0 g.D.Folder.did c.args.draft.now.folder c.replace_file-replaced.new.draft.folder
-    _ _ _ c.replace_file-replaced.ensures.safe
+    subst (λ edited. SafeRun g.D.Folder.did (MayBe c.args.asked edited) c.args.draft.now.folder c.replace_file-replaced.new.draft.folder) c.deref.ensures
+    (safe_edit _ c.new-author.result c.replace_file-replaced.new.author c.args.asked c.new-author.ensures.0 g.D.Folder.did c.args.draft.now.folder c.replace_file-replaced.new.draft.folder
+    _ _ _ c.replace_file-replaced.ensures.safe)
 
 pub returns-clause-safe : goal.returns-clause-safe
 returns-clause-safe g c =
-    safe_edit _ c.new-author.result c.replace_file-replaced.new.author c.args.asked c.new-author.ensures.0 g.D.Folder.did c.args.draft.now.folder c.replace_file-replaced.new.draft.folder
-    _ _ _ c.replace_file-replaced.ensures.safe
+    subst (λ edited. SafeRun g.D.Folder.did (MayBe c.args.asked edited) c.args.draft.now.folder c.replace_file-replaced.new.draft.folder) c.deref.ensures
+    (safe_edit _ c.new-author.result c.replace_file-replaced.new.author c.args.asked c.new-author.ensures.0 g.D.Folder.did c.args.draft.now.folder c.replace_file-replaced.new.draft.folder
+    _ _ _ c.replace_file-replaced.ensures.safe)
