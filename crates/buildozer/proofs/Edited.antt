@@ -6,7 +6,7 @@ use Rattle.bz_folder.specs.Sequence.{SafeRun, Wanted, EachMay}
 use Rattle.bz_folder.specs.SequenceLaws.{run_nothing, run_one}
 use Rattle.bz_folder.specs.declared.trouble.Trouble.{Trouble}
 use Rattle.bz_engine.specs.declared.report.Report.{Report}
-use Rattle.bz_rule.specs.Labels.{Package}
+use Rattle.bz_command.specs.Labels.{Package}
 use Rattle.buildozer.specs.declared.file_run.Ended.{Ended}
 use Rattle.buildozer.specs.declared.file_run.Ended.TheVariants.{Told, Failed, NotYet}
 use Rattle.buildozer.specs.Runs.{Asked, IsRun, IsKeptText, is_kept}

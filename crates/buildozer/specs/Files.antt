@@ -2,7 +2,7 @@
 use Rattle.std.specs.Prelude.{◌≡◌, ℕ, Bool, List}
 use Rattle.bz_folder.specs.Files.{Content}
 use Rattle.bz_engine.specs.declared.report.Report.{Report}
-use Rattle.bz_rule.specs.Labels.{Package}
+use Rattle.bz_command.specs.Labels.{Package}
 use Rattle.buildozer.specs.Names.{IsBuildPath}
 use Rattle.buildozer.specs.Runs.{Asked, IsRun, is_kept, IsKeptText}
 

@@ -35,7 +35,7 @@ pub fn edit_file<D: Folder>(
     let replaced = replace_file(draft, &opened.path, opened.mode, &mut author);
     match author.ended() {
         Ended::Told(report) => told(report, replaced),
-        Ended::Failed(fault) => Err(FileFault::Run(fault)),
+        Ended::Failed(fault) => Err(unwritten(fault)),
         Ended::NotYet => Err(not_begun(replaced)),
     }
 }
@@ -47,6 +47,14 @@ fn told(report: Report, replaced: Result<bool, Trouble>) -> Result<(Report, bool
     match replaced {
         Ok(kept) => Ok((report, kept)),
         Err(trouble) => Err(fault_of(trouble)),
+    }
+}
+
+/// Why a run failed that wrote a file: what it could not write is the file.
+fn unwritten(fault: RunFault) -> FileFault {
+    match fault {
+        RunFault::WriteFailed => FileFault::CannotWrite,
+        _ => FileFault::Run(fault),
     }
 }
 
