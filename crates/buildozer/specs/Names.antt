@@ -1,5 +1,5 @@
 -- The paths of a package's BUILD file (buildozer README: `BUILD.bazel` and `BUILD`).
-use Rattle.std.specs.Prelude.{◌≡◌, ◌⊎◌, ℕ, if◌then◌else◌, List, [], ◌++◌, Option, None, Some, codes, bytes_eq}
+use Rattle.std.specs.Prelude.{◌≡◌, ◌⊎◌, ℕ, if◌then◌else◌, List, [], ◌++◌, None, Some, codes, bytes_eq}
 use Rattle.bz_command.specs.Labels.{Package}
 
 -- the path of a file in a package's folder; the root has the empty path
