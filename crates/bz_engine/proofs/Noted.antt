@@ -4,16 +4,16 @@ use Rattle.std.specs.List.{list_any}
 use Rattle.bz_tree.specs.Tree.{Segment, Statement}
 use Rattle.bz_command.specs.Labels.{Package}
 use Rattle.bz_command.specs.Commands.{Command, Add, Remove, Set, SetIfAbsent, Delete, Rename, Move, Replace, Comment, Print, ToKind, ToValues, Rule as OfRule, Attribute, Value}
-use Rattle.bz_rule.specs.Rules.{Rule, rule_of, first_named, value}
-use Rattle.bz_rule.specs.Lists.{parts, equals}
-use Rattle.bz_rule.specs.declared.done.Done.{Done}
-use Rattle.bz_rule.specs.declared.done.Note.{Note}
-use Rattle.bz_rule.specs.declared.done.Note.TheVariants.{Missing, NoAttribute, AttributeExists, NotAList, NoValue}
-use Rattle.bz_rule.specs.Effects.{done, done_in, slot_done, fails, has, no_parts, not_a_list, is_absent, first_note, rename_note}
-use Rattle.bz_rule.specs.Moving.{move_note}
-use Rattle.bz_rule.specs.Commenting.{is_missing, comment_note}
-use Rattle.bz_rule.specs.Setting.{sets_kind}
-use Rattle.bz_rule.specs.Applied.{args_done, after, done_of, sets_kind_of}
+use Rattle.bz_attribute.specs.Rules.{Rule, rule_of, first_named, value}
+use Rattle.bz_attribute.specs.Lists.{parts, equals}
+use Rattle.bz_attribute.specs.declared.done.Done.{Done}
+use Rattle.bz_attribute.specs.declared.done.Note.{Note}
+use Rattle.bz_attribute.specs.declared.done.Note.TheVariants.{Missing, NoAttribute, AttributeExists, NotAList, NoValue}
+use Rattle.bz_attribute.specs.Effects.{done, done_in, slot_done, fails, has, no_parts, not_a_list, is_absent, first_note, rename_note}
+use Rattle.bz_attribute.specs.Moving.{move_note}
+use Rattle.bz_attribute.specs.Commenting.{is_missing, comment_note}
+use Rattle.bz_attribute.specs.Setting.{sets_kind}
+use Rattle.bz_attribute.specs.Applied.{args_done, after, done_of, sets_kind_of}
 use Rattle.bz_engine.specs.declared.entry.Entry.{Entry}
 use Rattle.bz_engine.specs.Meaning.{done_told, line_told, note_told, says, shown_slot}
 

@@ -3,13 +3,13 @@ use Rattle.std.specs.Prelude.{ℕ, Bool, false, List, [], ◌∷◌, ◌++◌, O
 use Rattle.bz_tree.specs.Tree.{Statement}
 use Rattle.bz_command.specs.Labels.{Package, Target, must_mark}
 use Rattle.bz_command.specs.Commands.{Command}
-use Rattle.bz_rule.specs.Marks.{marks}
-use Rattle.bz_rule.specs.Texts.{shown_text}
-use Rattle.bz_rule.specs.Effects.{fails}
-use Rattle.bz_rule.specs.Applied.{after, done_of}
-use Rattle.bz_rule.specs.declared.done.Done.{Done}
-use Rattle.bz_rule.specs.declared.done.Note.{Note}
-use Rattle.bz_rule.specs.declared.done.Note.TheVariants.{Missing}
+use Rattle.bz_attribute.specs.Marks.{marks}
+use Rattle.bz_attribute.specs.Texts.{shown_text}
+use Rattle.bz_attribute.specs.Effects.{fails}
+use Rattle.bz_attribute.specs.Applied.{after, done_of}
+use Rattle.bz_attribute.specs.declared.done.Done.{Done}
+use Rattle.bz_attribute.specs.declared.done.Note.{Note}
+use Rattle.bz_attribute.specs.declared.done.Note.TheVariants.{Missing}
 use Rattle.bz_engine.specs.declared.entry.Entry.{Entry}
 use Rattle.bz_engine.specs.declared.entry.Entry.TheVariants.{Line, Warning, Failure}
 use Rattle.bz_engine.specs.Messages.{not_found_text, note_text}

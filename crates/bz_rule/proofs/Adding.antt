@@ -8,11 +8,11 @@ use Rattle.bz_tree.specs.Tree.{Segment}
 use Rattle.bz_command.specs.Labels.{Package}
 use Rattle.bz_command.specs.Same.{completed}
 use Rattle.bz_command.specs.Commands.{Values}
-use Rattle.bz_rule.specs.Rules.{is_named, is_text, first_named, value}
-use Rattle.bz_rule.specs.Lists.{edit_first_part, is_attribute, parts, same, with_value}
-use Rattle.bz_rule.specs.Effects.{add, adds, argument, chooses, chooses_in, done, edit_first, fresh, has, is_chosen, is_fresh, is_nil, list_item, new_elements, no_parts, not_a_list, string, with_added}
-use Rattle.bz_rule.specs.declared.done.Note.TheVariants.{NotAList}
-use Rattle.bz_rule.proofs.Views.{segments_of}
+use Rattle.bz_attribute.specs.Rules.{is_named, is_text, first_named, value}
+use Rattle.bz_attribute.specs.Lists.{edit_first_part, is_attribute, parts, same, with_value}
+use Rattle.bz_attribute.specs.Effects.{add, adds, argument, chooses, chooses_in, done, edit_first, fresh, has, is_chosen, is_fresh, is_nil, list_item, new_elements, no_parts, not_a_list, string, with_added}
+use Rattle.bz_attribute.specs.declared.done.Note.TheVariants.{NotAList}
+use Rattle.bz_attribute.proofs.Views.{segments_of}
 use Rattle.bz_rule.proofs.PartLaws.{edit_head, first_part_stays, parts_first_edited}
 use Rattle.bz_rule.proofs.Arguments.{attribute_named, first_after, first_same, has_first, is_first_named, name_put, rest_same, value_back, value_put}
 use Rattle.bz_rule.proofs.Likeness.{all_follow, bytes_same, chosen_alike, in_full, same_self, strings_chosen}

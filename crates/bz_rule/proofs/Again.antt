@@ -3,11 +3,11 @@ use Rattle.std.proofs.Common.{◌≡◌, List, [], ◌∷◌, ◌++◌, true, fa
 use Rattle.std.proofs.lemmas.Bool.{and_parts}
 use Rattle.bz_tree.specs.declared.stmt.GroupKind.TheVariants.{RuleCall}
 use Rattle.bz_tree.specs.Tree.{Item, group, Segment, Statement, segs_of}
-use Rattle.bz_rule.specs.Rules.{Rule, call_at, comma_of, dotted, elements, end_of, is_call, rule_from, rule_of}
-use Rattle.bz_rule.specs.declared.done.Done.{Done}
-use Rattle.bz_rule.specs.Effects.{done_in, nodes_after, nodes_of, slot_done, with_args}
-use Rattle.bz_rule.proofs.Views.{segments_of}
-use Rattle.bz_rule.proofs.Calls.{rule_from_end}
+use Rattle.bz_attribute.specs.Rules.{Rule, call_at, comma_of, dotted, elements, end_of, is_call, rule_from, rule_of}
+use Rattle.bz_attribute.specs.declared.done.Done.{Done}
+use Rattle.bz_attribute.specs.Effects.{done_in, nodes_after, nodes_of, slot_done, with_args}
+use Rattle.bz_attribute.proofs.Views.{segments_of}
+use Rattle.bz_attribute.proofs.Calls.{rule_from_end}
 
 call_dotted : (kind : List Item) (x : Item) (r : Rule) → call_at kind x ≡ Some r → dotted true r.kind ≡ true
 call_dotted kind x r h =

@@ -8,12 +8,12 @@ use Rattle.bz_tree.specs.Tree.{Item, leaf, group, Items, no_items, item, Segs, n
 use Rattle.bz_tree.specs.Comments.{Lists, beside, comments_of, joined, item_owners, items_owners, segs_owners}
 use Rattle.bz_command.specs.Labels.{Package}
 use Rattle.bz_command.specs.Commands.{Attributes, Every, Named}
-use Rattle.bz_rule.specs.Rules.{Rule, dotted, ident_of, kind_text, is_named, is_sign, is_text, name_of, rule_of, string_value, value}
-use Rattle.bz_rule.specs.Lists.{edit_first_part, edit_from, edit_list, edit_one_from, edit_parts, equals, is_attribute, is_joint, is_part, is_plus, parts, same_value, with_value}
-use Rattle.bz_rule.specs.Effects.{add, argument, edit_first, fresh, has, list_item, new_elements, no_parts, nodes_after, nodes_of, rename, rename_note, rename_to, renamed, string, string_item, with_added, with_args}
-use Rattle.bz_rule.specs.Setting.{New, NewConstant, NewNumber, NewString, NewStrings, joined_by_dots, kind_after, kind_items, new_of, new_value, set_if_absent, with_kind}
-use Rattle.bz_rule.specs.Replacing.{is_replaced, replace, replaced, replaced_in}
-use Rattle.bz_rule.proofs.Stays.{rule_nodes, segs_back}
+use Rattle.bz_attribute.specs.Rules.{Rule, dotted, ident_of, kind_text, is_named, is_sign, is_text, name_of, rule_of, string_value, value}
+use Rattle.bz_attribute.specs.Lists.{edit_first_part, edit_from, edit_list, edit_one_from, edit_parts, equals, is_attribute, is_joint, is_part, is_plus, parts, same_value, with_value}
+use Rattle.bz_attribute.specs.Effects.{add, argument, edit_first, fresh, has, list_item, new_elements, no_parts, nodes_after, nodes_of, rename, rename_note, rename_to, renamed, string, string_item, with_added, with_args}
+use Rattle.bz_attribute.specs.Setting.{New, NewConstant, NewNumber, NewString, NewStrings, joined_by_dots, kind_after, kind_items, new_of, new_value, set_if_absent, with_kind}
+use Rattle.bz_attribute.specs.Replacing.{is_replaced, replace, replaced, replaced_in}
+use Rattle.bz_attribute.proofs.Stays.{rule_nodes, segs_back}
 use Rattle.bz_rule.proofs.Again.{rule_dotted}
 use Rattle.bz_rule.proofs.Arguments.{value_back}
 

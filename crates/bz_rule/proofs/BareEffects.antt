@@ -6,10 +6,10 @@ use Rattle.bz_tree.specs.declared.stmt.GroupKind.TheVariants.{List as ListKind}
 use Rattle.bz_tree.specs.Tree.{Item, group, Segs, Segment, bare}
 use Rattle.bz_command.specs.Labels.{Package}
 use Rattle.bz_command.specs.Commands.{Attributes, Every, Named, Moved, Values}
-use Rattle.bz_rule.specs.Rules.{elements, first_named, is_named, value}
-use Rattle.bz_rule.specs.Lists.{edit_first_part, edit_parts, is_attribute, parts, with_value}
-use Rattle.bz_rule.specs.Effects.{add, adds, argument, chooses, chooses_in, edit_first, filtered, fresh, goes_with_all, has, is_chosen, is_fresh, is_nil, list_item, loses_all, new_elements, no_parts, not_a_list, remove, removes, rename, rename_note, rename_to, renamed, string, unchosen, with_added}
-use Rattle.bz_rule.specs.declared.done.Note.TheVariants.{NotAList}
+use Rattle.bz_attribute.specs.Rules.{elements, first_named, is_named, value}
+use Rattle.bz_attribute.specs.Lists.{edit_first_part, edit_parts, is_attribute, parts, with_value}
+use Rattle.bz_attribute.specs.Effects.{add, adds, argument, chooses, chooses_in, edit_first, filtered, fresh, goes_with_all, has, is_chosen, is_fresh, is_nil, list_item, loses_all, new_elements, no_parts, not_a_list, remove, removes, rename, rename_note, rename_to, renamed, string, unchosen, with_added}
+use Rattle.bz_attribute.specs.declared.done.Note.TheVariants.{NotAList}
 use Rattle.bz_rule.specs.Bare.{bare_segment}
 use Rattle.bz_rule.proofs.BareParts.{any_bare, any_bare_in, attribute_bare, bare_segs_of, chosen_bare, edit_first_bare, edit_parts_bare, elements_bare, filter_bare, first_bare, first_part_bare, flat_map_bare, has_bare, is_list_bare, named_bare, value_bare, value_edit_bare, value_parts_bare}
 

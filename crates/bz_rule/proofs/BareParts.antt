@@ -7,9 +7,9 @@ use Rattle.bz_tree.specs.declared.stmt.GroupKind.TheVariants.{Call, RuleCall, Lo
 use Rattle.bz_tree.specs.Tree.{Item, leaf, group, Items, no_items, item, Segs, no_segs, seg, Segment, items_of, list_of, segs_of, segments, nowhere, bare, bare_items, bare_segs}
 use Rattle.bz_command.specs.Labels.{Package}
 use Rattle.bz_command.specs.Commands.{Moved, All, Values}
-use Rattle.bz_rule.specs.Rules.{elements, first_named, ident_of, is_named, is_sign, is_text, name_of, only_text, string_value, text_of, value, value_in}
-use Rattle.bz_rule.specs.Lists.{edit_first_part, edit_from, edit_list, edit_one_from, edit_parts, ends, equals, equals_any, is_attribute, is_joint, is_list, is_part, is_plus, parts, parts_from, same_value, with_value}
-use Rattle.bz_rule.specs.Effects.{edit_first, has, is_chosen}
+use Rattle.bz_attribute.specs.Rules.{elements, first_named, ident_of, is_named, is_sign, is_text, name_of, only_text, string_value, text_of, value, value_in}
+use Rattle.bz_attribute.specs.Lists.{edit_first_part, edit_from, edit_list, edit_one_from, edit_parts, ends, equals, equals_any, is_attribute, is_joint, is_list, is_part, is_plus, parts, parts_from, same_value, with_value}
+use Rattle.bz_attribute.specs.Effects.{edit_first, has, is_chosen}
 use Rattle.bz_rule.specs.Bare.{bare_segment}
 
 pub list_bare : (xs : Items) → list_of (bare_items xs) ≡ map bare (list_of xs)

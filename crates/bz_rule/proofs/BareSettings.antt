@@ -6,14 +6,14 @@ use Rattle.bz_token.specs.declared.token.Kind.TheVariants.{Ident, Word, Int, Tex
 use Rattle.bz_tree.specs.Tree.{Item, leaf, group, Segment, nowhere, bare}
 use Rattle.bz_command.specs.Labels.{Package}
 use Rattle.bz_command.specs.Commands.{Attributes, Every, Named, Moved}
-use Rattle.bz_rule.specs.Rules.{elements, first_named, is_named, is_text, string_value, value}
-use Rattle.bz_rule.specs.Lists.{edit_first_part, edit_list, edit_parts, equals, is_attribute, is_joint, is_list, is_part, is_plus, parts, with_value}
-use Rattle.bz_rule.specs.Effects.{argument, chooses_in, edit_first, filtered, has, is_absent, is_chosen, list_item, not_a_list, string, string_item, unchosen}
-use Rattle.bz_rule.specs.Setting.{New, NewConstant, NewNumber, NewString, NewStrings, are_strings, holds_list, is_ident, is_int, is_only, is_one_list, is_string, is_value, new_of, new_value, set, set_if_absent, set_in, sets}
-use Rattle.bz_rule.specs.Moving.{arrivals, chosen_of, elements_of, is_among, joined, move, move_note, moved, moves, put_in}
-use Rattle.bz_rule.specs.Replacing.{is_replaced, replace, replaced, replaced_in, replaces, replaces_first, replaces_in}
-use Rattle.bz_rule.specs.Commenting.{comment_attribute, comment_element, comment_line, comment_note, comment_value, edit_element, edit_element_from, is_missing, with_comment}
-use Rattle.bz_rule.specs.declared.done.Note.TheVariants.{NoValue}
+use Rattle.bz_attribute.specs.Rules.{elements, first_named, is_named, is_text, string_value, value}
+use Rattle.bz_attribute.specs.Lists.{edit_first_part, edit_list, edit_parts, equals, is_attribute, is_joint, is_list, is_part, is_plus, parts, with_value}
+use Rattle.bz_attribute.specs.Effects.{argument, chooses_in, edit_first, filtered, has, is_absent, is_chosen, list_item, not_a_list, string, string_item, unchosen}
+use Rattle.bz_attribute.specs.Setting.{New, NewConstant, NewNumber, NewString, NewStrings, are_strings, holds_list, is_ident, is_int, is_only, is_one_list, is_string, is_value, new_of, new_value, set, set_if_absent, set_in, sets}
+use Rattle.bz_attribute.specs.Moving.{arrivals, chosen_of, elements_of, is_among, joined, move, move_note, moved, moves, put_in}
+use Rattle.bz_attribute.specs.Replacing.{is_replaced, replace, replaced, replaced_in, replaces, replaces_first, replaces_in}
+use Rattle.bz_attribute.specs.Commenting.{comment_attribute, comment_element, comment_line, comment_note, comment_value, edit_element, edit_element_from, is_missing, with_comment}
+use Rattle.bz_attribute.specs.declared.done.Note.TheVariants.{NoValue}
 use Rattle.bz_rule.specs.Bare.{bare_segment}
 use Rattle.bz_rule.proofs.BareParts.{any_bare, any_bare_in, attribute_bare, chosen_bare, edit_first_bare, edit_list_bare, edit_parts_bare, elements_bare, equals_bare, filter_bare, first_bare, first_part_bare, has_bare, is_list_bare, joints_bare, map_bare, part_bare, sign_bare, string_bare, value_bare, value_edit_bare, value_parts_bare, with_value_bare}
 use Rattle.bz_rule.proofs.BareEffects.{appended_bare, behind_bare, chooses_in_bare, filtered_bare, list_item_bare, not_a_list_bare, strings_bare, unchosen_bare}

@@ -7,13 +7,13 @@ use Rattle.bz_tree.specs.declared.stmt.GroupKind.TheVariants.{Call, RuleCall, Lo
 use Rattle.bz_tree.specs.Tree.{Item, leaf, group, Segs, Segment, Statement, segs_of, nowhere, bare, bare_segs}
 use Rattle.bz_command.specs.Labels.{Package}
 use Rattle.bz_command.specs.Commands.{Command, Add, Remove, Set, SetIfAbsent, Delete, Rename, Move, Replace, Comment, Print, ToKind, ToValues, Rule as OfRule, Attribute, Value, Field}
-use Rattle.bz_rule.specs.Rules.{Rule, call_at, comma_of, dotted, elements, end_of, first_named, is_call, kind_text, rule_from, rule_of, written}
-use Rattle.bz_rule.specs.Effects.{adds, done, done_in, holds_rule, nodes_after, nodes_of, not_a_list, slot_done, with_args}
-use Rattle.bz_rule.specs.Setting.{joined_by_dots, kind_after, kind_items, sets, sets_kind, with_kind}
-use Rattle.bz_rule.specs.Commenting.{comment_rule, comments_above}
-use Rattle.bz_rule.specs.Printing.{printed_of}
-use Rattle.bz_rule.specs.Applied.{after, args_after, args_done, done_of, sets_kind_of}
-use Rattle.bz_rule.specs.declared.done.Done.{Done}
+use Rattle.bz_attribute.specs.Rules.{Rule, call_at, comma_of, dotted, elements, end_of, first_named, is_call, kind_text, rule_from, rule_of, written}
+use Rattle.bz_attribute.specs.Effects.{adds, done, done_in, holds_rule, nodes_after, nodes_of, not_a_list, slot_done, with_args}
+use Rattle.bz_attribute.specs.Setting.{joined_by_dots, kind_after, kind_items, sets, sets_kind, with_kind}
+use Rattle.bz_attribute.specs.Commenting.{comment_rule, comments_above}
+use Rattle.bz_attribute.specs.Printing.{printed_of}
+use Rattle.bz_attribute.specs.Applied.{after, args_after, args_done, done_of, sets_kind_of}
+use Rattle.bz_attribute.specs.declared.done.Done.{Done}
 use Rattle.bz_rule.specs.Bare.{bare_segment, bare_statement}
 use Rattle.bz_rule.proofs.BareParts.{bare_segs_of, elements_bare, first_bare, has_bare, sign_bare}
 use Rattle.bz_rule.proofs.BareEffects.{add_bare, adds_bare, not_a_list_bare, remove_bare, removes_bare, rename_bare, rename_note_bare}

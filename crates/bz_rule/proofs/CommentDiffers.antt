@@ -5,13 +5,13 @@ use Rattle.std.proofs.lemmas.Bool.{cases_Bool}
 use Rattle.std.proofs.lemmas.List.{length_push}
 use Rattle.bz_tree.specs.Tree.{Item, leaf, group, Segment, Statement}
 use Rattle.bz_command.specs.Labels.{Package}
-use Rattle.bz_rule.specs.Rules.{rule_of, is_named, is_text, name_of, first_named, value, elements}
-use Rattle.bz_rule.specs.Lists.{edit_list, equals, is_joint, is_part, is_plus, parts, parts_from}
-use Rattle.bz_rule.specs.declared.done.Note.{Note}
-use Rattle.bz_rule.specs.declared.done.Note.TheVariants.{NoAttribute, NoValue}
-use Rattle.bz_rule.specs.Effects.{edit_first, first_note, has, holds_rule, is_absent, not_a_list}
-use Rattle.bz_rule.specs.Commenting.{comment_attribute, comment_element, comment_line, comment_note, comment_rule, comment_value, comments_above, edit_element, edit_element_from, is_missing, with_comment}
-use Rattle.bz_rule.proofs.Views.{segments_of}
+use Rattle.bz_attribute.specs.Rules.{rule_of, is_named, is_text, name_of, first_named, value, elements}
+use Rattle.bz_attribute.specs.Lists.{edit_list, equals, is_joint, is_part, is_plus, parts, parts_from}
+use Rattle.bz_attribute.specs.declared.done.Note.{Note}
+use Rattle.bz_attribute.specs.declared.done.Note.TheVariants.{NoAttribute, NoValue}
+use Rattle.bz_attribute.specs.Effects.{edit_first, first_note, has, holds_rule, is_absent, not_a_list}
+use Rattle.bz_attribute.specs.Commenting.{comment_attribute, comment_element, comment_line, comment_note, comment_rule, comment_value, comments_above, edit_element, edit_element_from, is_missing, with_comment}
+use Rattle.bz_attribute.proofs.Views.{segments_of}
 
 push_longer : (xs : List (List ℕ)) (y : List ℕ) → xs ++ y ∷ [] ≡ xs → ⊥
 push_longer xs y h = let long : length xs + 1 ≡ length xs = sym (length_push xs y) ∙ ap length h in absurd (omega arith)

@@ -6,21 +6,21 @@ use Rattle.bz_tree.specs.declared.stmt.GroupKind.TheVariants.{RuleCall}
 use Rattle.bz_tree.specs.Tree.{Item, group, Segment, Statement, segs_of, segments}
 use Rattle.bz_command.specs.Labels.{Package}
 use Rattle.bz_command.specs.Commands.{Command, Add, Remove, Set, SetIfAbsent, Delete, Rename, Move, Replace, Comment, Print, ToKind, ToValues, Rule as OfRule, Attribute, Value, Field, Attributes, Moved, is_command, is_moved}
-use Rattle.bz_rule.specs.Rules.{Rule, rule_of, is_named}
-use Rattle.bz_rule.specs.declared.done.Done.{Done}
-use Rattle.bz_rule.specs.declared.done.Note.{Note}
-use Rattle.bz_rule.specs.declared.done.Note.TheVariants.{NoAttribute}
+use Rattle.bz_attribute.specs.Rules.{Rule, rule_of, is_named}
+use Rattle.bz_attribute.specs.declared.done.Done.{Done}
+use Rattle.bz_attribute.specs.declared.done.Note.{Note}
+use Rattle.bz_attribute.specs.declared.done.Note.TheVariants.{NoAttribute}
 use Rattle.bz_command.specs.Names.{is_identifier}
-use Rattle.bz_rule.specs.Effects.{done, done_in, edit_first, has, holds_rule, is_absent, nodes_after, nodes_of, rename_note, slot_done, with_args}
-use Rattle.bz_rule.specs.Moving.{moved, moves, move_note}
-use Rattle.bz_rule.specs.Commenting.{comment_attribute, comment_line, comment_note, comment_rule, with_comment}
-use Rattle.bz_rule.specs.Setting.{with_kind}
-use Rattle.bz_rule.specs.Printing.{printed_of, prints}
-use Rattle.bz_rule.specs.Applied.{after, args_after, args_done, done_of, sets_kind_of}
+use Rattle.bz_attribute.specs.Effects.{done, done_in, edit_first, has, holds_rule, is_absent, nodes_after, nodes_of, rename_note, slot_done, with_args}
+use Rattle.bz_attribute.specs.Moving.{moved, moves, move_note}
+use Rattle.bz_attribute.specs.Commenting.{comment_attribute, comment_line, comment_note, comment_rule, with_comment}
+use Rattle.bz_attribute.specs.Setting.{with_kind}
+use Rattle.bz_attribute.specs.Printing.{printed_of, prints}
+use Rattle.bz_attribute.specs.Applied.{after, args_after, args_done, done_of, sets_kind_of}
 use Rattle.bz_rule.specs.Bare.{bare_statement}
 use Rattle.bz_rule.proofs.BareStatements.{after_bare, changed_bare}
-use Rattle.bz_rule.proofs.Views.{segments_of}
-use Rattle.bz_rule.proofs.Stays.{rule_nodes}
+use Rattle.bz_attribute.proofs.Views.{segments_of}
+use Rattle.bz_attribute.proofs.Stays.{rule_nodes}
 use Rattle.bz_rule.proofs.Adding.{add_differs, add_stays}
 use Rattle.bz_rule.proofs.Removal.{remove_differs, remove_stays}
 use Rattle.bz_rule.proofs.Renaming.{rename_differs}

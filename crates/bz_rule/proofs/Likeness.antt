@@ -7,9 +7,9 @@ use Rattle.bz_tree.specs.Tree.{Segment}
 use Rattle.bz_command.specs.Labels.{Package}
 use Rattle.bz_command.specs.Same.{completed}
 use Rattle.bz_command.specs.Commands.{Values}
-use Rattle.bz_rule.specs.Rules.{string_value}
-use Rattle.bz_rule.specs.Lists.{same, same_value}
-use Rattle.bz_rule.specs.Effects.{is_chosen, string}
+use Rattle.bz_attribute.specs.Rules.{string_value}
+use Rattle.bz_attribute.specs.Lists.{same, same_value}
+use Rattle.bz_attribute.specs.Effects.{is_chosen, string}
 use Rattle.bz_command.proofs.ReadBack.{quoted_value}
 
 pub bytes_same : (bs : List ℕ) → bytes_eq bs bs ≡ true

@@ -5,13 +5,13 @@ use Rattle.std.proofs.lemmas.List.{append-nil, append_cancel_right}
 use Rattle.bz_tree.specs.Tree.{Item, Segment}
 use Rattle.bz_command.specs.Labels.{Package}
 use Rattle.bz_command.specs.Commands.{Moved}
-use Rattle.bz_rule.specs.Rules.{first_named, is_named, is_text, name_of, value}
-use Rattle.bz_rule.specs.Lists.{edit_first_part, edit_parts, with_value}
-use Rattle.bz_rule.specs.Effects.{argument, chooses_in, edit_first, filtered, has, list_item, loses_all, unchosen}
-use Rattle.bz_rule.specs.Moving.{arrivals, chosen_of, elements_of, move, move_note, moved, moves, put_in}
+use Rattle.bz_attribute.specs.Rules.{first_named, is_named, is_text, name_of, value}
+use Rattle.bz_attribute.specs.Lists.{edit_first_part, edit_parts, with_value}
+use Rattle.bz_attribute.specs.Effects.{argument, chooses_in, edit_first, filtered, has, list_item, loses_all, unchosen}
+use Rattle.bz_attribute.specs.Moving.{arrivals, chosen_of, elements_of, move, move_note, moved, moves, put_in}
 use Rattle.bz_rule.proofs.Arguments.{attribute_named, is_first_named, name_put}
-use Rattle.bz_rule.proofs.Arriving.{text_of_one}
-use Rattle.bz_rule.proofs.Leaving.{filter-append}
+use Rattle.bz_list_commands.proofs.Arriving.{text_of_one}
+use Rattle.bz_list_commands.proofs.Leaving.{filter-append}
 use Rattle.bz_rule.proofs.Removal.{filtered_same}
 
 -- an argument of the new name has not the old one

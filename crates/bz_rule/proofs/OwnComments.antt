@@ -4,11 +4,11 @@ use Rattle.std.proofs.lemmas.List.{map-append}
 use Rattle.bz_tree.specs.Tree.{Item, Segment}
 use Rattle.bz_command.specs.Labels.{Package}
 use Rattle.bz_command.specs.Commands.{Attributes, Every, Named, Moved}
-use Rattle.bz_rule.specs.Rules.{is_named, first_named, value}
-use Rattle.bz_rule.specs.Lists.{edit_first_part, edit_parts, is_attribute, parts, with_value}
-use Rattle.bz_rule.specs.Effects.{add, argument, edit_first, filtered, has, list_item, loses_all, new_elements, no_parts, rename, rename_note, rename_to, string_item, unchosen, with_added}
-use Rattle.bz_rule.specs.Setting.{is_value, new_of, new_value, set, set_if_absent, set_in}
-use Rattle.bz_rule.specs.Replacing.{is_replaced, replace, replaced, replaced_in}
+use Rattle.bz_attribute.specs.Rules.{is_named, first_named, value}
+use Rattle.bz_attribute.specs.Lists.{edit_first_part, edit_parts, is_attribute, parts, with_value}
+use Rattle.bz_attribute.specs.Effects.{add, argument, edit_first, filtered, has, list_item, loses_all, new_elements, no_parts, rename, rename_note, rename_to, string_item, unchosen, with_added}
+use Rattle.bz_attribute.specs.Setting.{is_value, new_of, new_value, set, set_if_absent, set_in}
+use Rattle.bz_attribute.specs.Replacing.{is_replaced, replace, replaced, replaced_in}
 use Rattle.bz_rule.specs.OwnComments.{Comments, no_comments, own_comments}
 use Rattle.bz_rule.proofs.Arguments.{value_put}
 use Rattle.bz_rule.proofs.PartLaws.{parts_edited}

@@ -7,9 +7,9 @@ use Rattle.bz_tree.specs.declared.stmt.GroupKind.TheVariants.{Call, RuleCall, Lo
 use Rattle.bz_tree.specs.Tree.{Item, leaf, group, Segment, segments}
 use Rattle.bz_command.specs.Labels.{Package}
 use Rattle.bz_command.specs.Commands.{Attributes, Every, Named, Moved, Values}
-use Rattle.bz_rule.specs.Rules.{is_named, is_text, first_named, value}
-use Rattle.bz_rule.specs.Lists.{edit_parts, is_attribute, parts, with_value}
-use Rattle.bz_rule.specs.Effects.{chooses, chooses_anywhere, chooses_in, edit_first, filtered, filtered_everywhere, goes_with_all, has, is_chosen, is_nil, loses_all, remove, remove_all, remove_attribute, remove_values, removes, unchosen}
+use Rattle.bz_attribute.specs.Rules.{is_named, is_text, first_named, value}
+use Rattle.bz_attribute.specs.Lists.{edit_parts, is_attribute, parts, with_value}
+use Rattle.bz_attribute.specs.Effects.{chooses, chooses_anywhere, chooses_in, edit_first, filtered, filtered_everywhere, goes_with_all, has, is_chosen, is_nil, loses_all, remove, remove_all, remove_attribute, remove_values, removes, unchosen}
 use Rattle.bz_rule.proofs.Kept.{all_stay, all_stay_in, none_left_in, none_passes, none_passes_in}
 use Rattle.bz_rule.proofs.PartLaws.{parts_edited, parts_stay}
 use Rattle.bz_rule.proofs.Arguments.{attribute_named, first_same, is_first_named, name_put, rest_same, value_back, value_put}

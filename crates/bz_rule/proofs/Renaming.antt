@@ -3,9 +3,9 @@ use Rattle.std.proofs.Common.{◌≡◌, ℕ, List, [], ◌∷◌, true, false, 
 use Rattle.std.proofs.lemmas.Bool.{or_right}
 use Rattle.bz_tree.specs.Tree.{Item, Segment}
 use Rattle.bz_rule.proofs.Likeness.{bytes_same}
-use Rattle.bz_rule.specs.Rules.{ident_of, is_named, is_sign, is_text, name_of}
-use Rattle.bz_rule.specs.Effects.{edit_first, has, rename, rename_note, rename_to, renamed}
-use Rattle.bz_rule.specs.declared.done.Note.TheVariants.{AttributeExists, NoAttribute}
+use Rattle.bz_attribute.specs.Rules.{ident_of, is_named, is_sign, is_text, name_of}
+use Rattle.bz_attribute.specs.Effects.{edit_first, has, rename, rename_note, rename_to, renamed}
+use Rattle.bz_attribute.specs.declared.done.Note.TheVariants.{AttributeExists, NoAttribute}
 
 named_now : (old new : List ℕ) (xs : List Item) → is_text old (name_of xs) ≡ true → is_text new (name_of (renamed new xs)) ≡ true
 named_now old new [] h = absurd cc

@@ -8,13 +8,13 @@ use Rattle.bz_tree.specs.declared.stmt.GroupKind.TheVariants.{Call, RuleCall, Lo
 use Rattle.bz_tree.specs.Tree.{Item, leaf, group, Segment, Segs, segments, segs_of}
 use Rattle.bz_command.specs.Labels.{Package}
 use Rattle.bz_command.specs.Commands.{Attributes, Every, Named}
-use Rattle.bz_rule.specs.Rules.{is_named, is_text, name_of, first_named, string_value, value, elements}
-use Rattle.bz_rule.specs.Lists.{edit_from, edit_list, edit_parts, ends, equals, is_attribute, is_joint, is_list, is_part, is_plus, parts, parts_from, with_value}
-use Rattle.bz_rule.specs.Effects.{edit_first, string_item}
-use Rattle.bz_rule.specs.Replacing.{is_replaced, replaced, replaced_in, replace, replaces, replaces_first, replaces_in}
+use Rattle.bz_attribute.specs.Rules.{is_named, is_text, name_of, first_named, string_value, value, elements}
+use Rattle.bz_attribute.specs.Lists.{edit_from, edit_list, edit_parts, ends, equals, is_attribute, is_joint, is_list, is_part, is_plus, parts, parts_from, with_value}
+use Rattle.bz_attribute.specs.Effects.{edit_first, string_item}
+use Rattle.bz_attribute.specs.Replacing.{is_replaced, replaced, replaced_in, replace, replaces, replaces_first, replaces_in}
 use Rattle.bz_command.proofs.ReadBack.{quoted_value}
-use Rattle.bz_rule.proofs.Stays.{segs_back}
-use Rattle.bz_rule.proofs.Views.{segments_of}
+use Rattle.bz_attribute.proofs.Stays.{segs_back}
+use Rattle.bz_attribute.proofs.Views.{segments_of}
 
 -- an element that was replaced is exactly `new`
 settled : (home : Package) (old new : List ℕ) (s : Segment) → is_replaced home old new (replaced home old new s) ≡ false

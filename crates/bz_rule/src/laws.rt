@@ -4,18 +4,18 @@ ghost use Rattle.std.specs.Prelude.{◌≡◌, ◌↔◌, ◌≤◌, ◌++◌, �
 ghost use Rattle.std.specs.List.{list_all, list_any};
 ghost use Rattle.bz_tree.specs.Comments.{comments_of};
 ghost use Rattle.bz_tree.specs.Tree.{Segment, Statement};
-ghost use Rattle.bz_rule.specs.Applied.{after, done_of};
+ghost use Rattle.bz_attribute.specs.Applied.{after, done_of};
 ghost use Rattle.bz_rule.specs.Bare.{bare_statement};
 ghost use Rattle.bz_command.specs.Commands.{is_command, Add, Attributes, Command, Every, Moved, Named, Rename, Replace, Set, SetIfAbsent, ToKind, ToValues, Values};
-ghost use Rattle.bz_rule.specs.Effects as effects;
+ghost use Rattle.bz_attribute.specs.Effects as effects;
 ghost use Rattle.bz_command.specs.Labels.{Package};
 ghost use Rattle.bz_command.specs.Labels as spec;
-ghost use Rattle.bz_rule.specs.Marks.{marks};
-ghost use Rattle.bz_rule.specs.Lists.{is_attribute, parts};
+ghost use Rattle.bz_attribute.specs.Marks.{marks};
+ghost use Rattle.bz_attribute.specs.Lists.{is_attribute, parts};
 ghost use Rattle.bz_rule.specs.OwnComments.{no_comments, own_comments};
-ghost use Rattle.bz_rule.specs.Replacing as replacing;
-ghost use Rattle.bz_rule.specs.Setting as setting;
-ghost use Rattle.bz_rule.specs.Rules.{Rule, first_named, is_named, rule_of, name_in, kind_text, value};
+ghost use Rattle.bz_attribute.specs.Replacing as replacing;
+ghost use Rattle.bz_attribute.specs.Setting as setting;
+ghost use Rattle.bz_attribute.specs.Rules.{Rule, first_named, is_named, rule_of, name_in, kind_text, value};
 
 pub use bz_command::laws::{quoted_reads_back, sameness_is_an_equivalence};
 

@@ -1,4 +1,4 @@
-use Rattle.bz_rule.specs.Effects.{add}
+use Rattle.bz_attribute.specs.Effects.{add}
 use Rattle.bz_rule.proofs.Adding.{add_twice}
 use Rattle.bz_rule.proofs.Again.{slot_twice}
 use Rattle.bz_rule.proofs.laws.add_twice_is_add_once.Goals as goal

@@ -1,6 +1,6 @@
-use Rattle.bz_rule.specs.Effects.{add, rename}
-use Rattle.bz_rule.specs.Replacing.{replace}
-use Rattle.bz_rule.specs.Setting.{set_if_absent}
+use Rattle.bz_attribute.specs.Effects.{add, rename}
+use Rattle.bz_attribute.specs.Replacing.{replace}
+use Rattle.bz_attribute.specs.Setting.{set_if_absent}
 use Rattle.bz_rule.proofs.AllComments.{add_comments, kind_comments, rename_comments, replace_comments, set_if_absent_comments, slot_comments}
 use Rattle.bz_rule.proofs.laws.comments_stay.Goals as goal
 

@@ -1,6 +1,6 @@
 use Rattle.bz_command.specs.Commands.{Values}
-use Rattle.bz_rule.specs.Rules.{is_named}
-use Rattle.bz_rule.specs.Effects.{filtered, goes_with_all, unchosen}
+use Rattle.bz_attribute.specs.Rules.{is_named}
+use Rattle.bz_attribute.specs.Effects.{filtered, goes_with_all, unchosen}
 use Rattle.bz_rule.proofs.Kept.{none_left}
 use Rattle.bz_rule.proofs.Removal.{edited_at, filtered_left, removed_everywhere, removed_named}
 use Rattle.bz_rule.proofs.laws.removed_is_gone.Goals as goal

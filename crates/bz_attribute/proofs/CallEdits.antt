@@ -1,0 +1,49 @@
+-- The call of a rule, at the end of the nodes, edited.
+use Rattle.std.proofs.Common.{◌≡◌, ℕ, suc, ◌+◌, List, [], ◌∷◌, ◌++◌, true, length, get_or, set, take, refl, ap, sym, ◌∙◌, arith, is_some}
+use Rattle.std.proofs.lemmas.List.{map-append, set_split, drop_all, get_or_default}
+use Rattle.bz_tree.specs.declared.stmt.Node.{Node}
+use Rattle.bz_tree.specs.declared.stmt.GroupKind.TheVariants.{Call, RuleCall, Load, Paren, List as ListKind, Index, Dict, ListComp, DictComp}
+use Rattle.bz_tree.specs.Tree.{Item, leaf, group, Segment}
+use Rattle.bz_tree.specs.View.{node_view, nodes_view}
+use Rattle.bz_attribute.specs.Rules.{call_at, is_call, dotted, elements}
+use Rattle.bz_attribute.specs.Lists.{edit_list}
+use Rattle.bz_attribute.specs.declared.done.Done.{Done}
+use Rattle.bz_attribute.specs.Effects.{nodes_after, done_in}
+use Rattle.bz_attribute.specs.Places.{IsCallAt}
+use Rattle.bz_attribute.proofs.Calls.{views_split, rule_at}
+
+call_edited : (f : List Segment → List Segment) (kind : List Item) (x : Item) → is_call x ≡ true → dotted true kind ≡ true → nodes_after f (kind ++ x ∷ []) (call_at kind x) ≡ kind ++ edit_list f x ∷ []
+call_edited f kind (leaf k text place) a b = absurd cc
+call_edited f kind (group RuleCall segs one_comma end) a b = rw b refl
+call_edited f kind (group Call segs one_comma end) a b = absurd cc
+call_edited f kind (group Load segs one_comma end) a b = absurd cc
+call_edited f kind (group Paren segs one_comma end) a b = absurd cc
+call_edited f kind (group ListKind segs one_comma end) a b = absurd cc
+call_edited f kind (group Index segs one_comma end) a b = absurd cc
+call_edited f kind (group Dict segs one_comma end) a b = absurd cc
+call_edited f kind (group ListComp segs one_comma end) a b = absurd cc
+call_edited f kind (group DictComp segs one_comma end) a b = absurd cc
+
+call_read : (g : List Segment → Done) (kind : List Item) (x : Item) → is_call x ≡ true → dotted true kind ≡ true → done_in g (call_at kind x) ≡ g (elements x)
+call_read g kind x a b = rw (a, b) refl
+
+set_last : (ns : List Node) (i : ℕ) (m : Node) → i + 1 ≡ length ns → set ns i m ≡ take i ns ++ m ∷ []
+set_last ns i m h = set_split ns i m (omega arith) ∙ ap (λ (zs : List Node). take i ns ++ m ∷ zs) (drop_all (suc i) ns (omega arith))
+
+pub is_call_at : (ns : List Node) (i : ℕ) (e : Node) → i + 1 ≡ length ns → is_call (node_view (get_or ns i e)) ≡ true → dotted true (nodes_view (take i ns)) ≡ true → IsCallAt ns i
+is_call_at ns i e h a b =
+    let calls : (d : Node) → is_call (node_view (get_or ns i d)) ≡ true = λ d. ap (λ (z : Node). is_call (node_view z)) (get_or_default ns i d e (omega arith)) ∙ a in
+    record {
+      within = omega arith;
+      rule = ap is_some (rule_at ns e i h) ∙ rw (a, b) refl;
+      put = λ f m d edited.
+          ap nodes_view (set_last ns i m h) ∙ map-append node_view (take i ns) (m ∷ [])
+          ∙ ap (λ (z : Item). nodes_view (take i ns) ++ z ∷ []) edited
+          ∙ sym (call_edited f (nodes_view (take i ns)) (node_view (get_or ns i d)) (calls d) b)
+          ∙ sym (λ j. nodes_after f (views_split ns d i h j) (rule_at ns d i h j));
+      same = λ m d kept.
+          ap nodes_view (set_last ns i m h) ∙ map-append node_view (take i ns) (m ∷ [])
+          ∙ ap (λ (z : Item). nodes_view (take i ns) ++ z ∷ []) kept
+          ∙ sym (views_split ns d i h);
+      read = λ g d. ap (done_in g) (rule_at ns d i h) ∙ call_read g (nodes_view (take i ns)) (node_view (get_or ns i d)) (calls d) b;
+    }

@@ -1,0 +1,11 @@
+pub mod CallEdits
+pub mod Calls
+pub mod First
+pub mod FirstPart
+pub mod Fresh
+pub mod Groups
+pub mod LabelSets
+pub mod Mapped
+pub mod PartEdits
+pub mod Stays
+pub mod Views

@@ -1,0 +1,10 @@
+use Rattle.std.proofs.Common.{◌≡◌, drop, true}
+use Rattle.std.specs.List.{list_any}
+use Rattle.bz_tree.specs.View.{nodes_view}
+use Rattle.bz_attribute.specs.ChosenViews.{chosen_view}
+use Rattle.bz_attribute.specs.Effects.{is_chosen}
+use Rattle.bz_attribute.specs.Lists.{parts_from}
+use Rattle.bz_attribute.proofs.chosen.is_any_chosen.Given as goal
+
+abbrev pub invariant-loop-i : goal.invariant-loop-i
+invariant-loop-i l = list_any (list_any (is_chosen l.home (chosen_view l.chosen))) (parts_from l.start (nodes_view (drop l.i l.value))) ≡ list_any (list_any (is_chosen l.home (chosen_view l.chosen))) (parts_from true (nodes_view l.value))

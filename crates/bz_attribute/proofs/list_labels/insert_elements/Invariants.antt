@@ -1,0 +1,11 @@
+use Rattle.std.proofs.Common.{◌≡◌, ℕ, List, ◌||◌, drop}
+use Rattle.bz_tree.specs.View.{segs_view}
+use Rattle.bz_command.specs.LabelSetViews.{has}
+use Rattle.bz_attribute.specs.ElementSets.{is_among}
+use Rattle.bz_attribute.proofs.list_labels.insert_elements.Given as goal
+
+abbrev pub invariant-loop-element : goal.invariant-loop-element
+invariant-loop-element l = record {
+  home : l.set.home.now ≡ l.initial.set.home.now;
+  same : (text : List ℕ) → (is_among l.initial.set.home.now (segs_view (drop l.element-index l.elements)) text || has l.set text) ≡ (is_among l.initial.set.home.now (segs_view l.elements) text || has l.initial.set text);
+}

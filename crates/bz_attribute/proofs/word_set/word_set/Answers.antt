@@ -1,0 +1,29 @@
+use Rattle.std.proofs.Common.{List, ℕ, Bool, false, ◌||◌, ap, sym, ◌∙◌, arith}
+use Rattle.std.specs.List.{list_any}
+use Rattle.std.proofs.lemmas.List.{take_all}
+use Rattle.bz_command.specs.Labels.{Package}
+use Rattle.bz_attribute.specs.Lists.{same}
+use Rattle.bz_command.specs.LabelSetViews.{has}
+use Rattle.bz_attribute.proofs.Fresh.{there_step}
+use Rattle.bz_attribute.proofs.word_set.word_set.Goals as goal
+
+pub loop-i-preserved : goal.loop-i-preserved
+loop-i-preserved c =
+    let home = c.args.home.now in
+    let word : List ℕ = c.as_bytes.result.now in
+    record {
+      home = c.in_ok-insert.ensures.home ∙ c.loop-i.invariant.home;
+      all = λ text.
+          c.in_ok-insert.ensures.ok text
+          ∙ ap (λ (p : Package). same p text word || has c.loop-i.labels text) c.loop-i.invariant.home
+          ∙ ap (λ (b : Bool). same home text word || b) (c.loop-i.invariant.all text)
+          ∙ there_step (same home text) c.args.words.now c.loop-i.i word _ false (omega (arith, c.loop-i-test.true)) (c.as_bytes.ensures.value ∙ c.as_str.ensures ∙ c.index-words-i.is);
+    }
+
+pub invariant_of-result : goal.invariant_of-result
+invariant_of-result c = record {
+  all = λ text.
+      c.loop-i.invariant.all text
+      ∙ ap (list_any (same c.args.home.now text)) (take_all c.loop-i.i c.args.words.now (omega (arith, c.loop-i-test.false)))
+      ∙ ap (λ (p : Package). list_any (same p text) c.args.words.now) (sym c.loop-i.invariant.home);
+}

@@ -1,0 +1,64 @@
+-- What `comment` does (buildozer README, edit commands; where the line stands is this project's own rule).
+use Rattle.std.specs.Prelude.{ℕ, ◌==◌, List, [], ◌∷◌, ◌++◌, Bool, true, ◌&&◌, ◌||◌, if◌then◌else◌, Option, Some, None, is_some}
+use Rattle.std.specs.List.{list_any, list_all}
+use Rattle.bz_tree.specs.Tree.{Item, Segment, Statement}
+use Rattle.bz_command.specs.Labels.{Package}
+use Rattle.bz_attribute.specs.Rules.{Rule, rule_of, is_named, first_named, value, elements}
+use Rattle.bz_attribute.specs.Lists.{with_value, parts, edit_list, is_part, is_plus, is_joint, equals}
+use Rattle.bz_attribute.specs.Effects.{edit_first, has, is_absent, not_a_list, first_note}
+use Rattle.bz_attribute.specs.declared.done.Note.{Note}
+use Rattle.bz_attribute.specs.declared.done.Note.TheVariants.{NoValue}
+
+-- spaces and tabs
+abbrev pub is_blank : ℕ → Bool
+is_blank b = b == 32 || b == 9
+
+-- without the blanks at its end
+abbrev pub trimmed : List ℕ → List ℕ
+trimmed [] = []
+trimmed (b ∷ bs) = if list_all is_blank (b ∷ bs) then [] else b ∷ trimmed bs
+
+-- the comment line of a text
+abbrev pub comment_line : List ℕ → List ℕ
+comment_line text = trimmed (35 ∷ 32 ∷ text)
+
+-- it becomes the last of the comment lines before the thing
+abbrev pub with_comment : List ℕ → Segment → Segment
+with_comment line s = record s { before = s.before ++ line ∷ [] }
+
+-- `comment <text>`
+abbrev pub comments_above : List (List ℕ) → List ℕ → Option Rule → List (List ℕ)
+comments_above before text None = before
+comments_above before text (Some r) = before ++ comment_line text ∷ []
+
+abbrev pub comment_rule : List ℕ → Statement → Statement
+comment_rule text s = record s { before = comments_above s.before text (rule_of s.nodes) }
+
+-- `comment <attr> <text>`
+abbrev pub comment_attribute : List ℕ → List ℕ → List Segment → List Segment
+comment_attribute attr text args = if has attr args then edit_first (is_named attr) (λ a. with_comment (comment_line text) a ∷ []) args else args
+
+-- in the list parts of a value, the first element that passes is edited
+abbrev pub edit_element_from : (Segment → Bool) → (Segment → Segment) → Bool → List Item → List Item
+edit_element_from p f start [] = []
+edit_element_from p f start (x ∷ xs) =
+    if is_part start x xs && list_any p (elements x) then edit_list (edit_first p (λ s. f s ∷ [])) x ∷ xs
+    else x ∷ edit_element_from p f (is_plus x) xs
+
+abbrev pub edit_element : (Segment → Bool) → (Segment → Segment) → List Item → List Item
+edit_element p f nodes = if list_all is_joint nodes then edit_element_from p f true nodes else nodes
+
+abbrev pub comment_element : Package → List ℕ → List ℕ → Segment → Segment
+comment_element home v text a = with_value (edit_element (equals home v) (with_comment (comment_line text)) (value a)) a
+
+abbrev pub is_missing : Package → List ℕ → List ℕ → Option Segment → Option Note
+is_missing home attr v None = None
+is_missing home attr v (Some a) = if list_any (list_any (equals home v)) (parts (value a)) then None else Some (NoValue attr v)
+
+-- the attribute absent, without list part, without such an element: the first of these
+abbrev pub comment_note : Package → List ℕ → List ℕ → List Segment → Option Note
+comment_note home attr v args = first_note (is_absent attr args) (first_note (not_a_list attr (first_named attr args)) (is_missing home attr v (first_named attr args)))
+
+-- `comment <attr> <v> <text>`
+abbrev pub comment_value : Package → List ℕ → List ℕ → List ℕ → List Segment → List Segment
+comment_value home attr v text args = if is_some (comment_note home attr v args) then args else edit_first (is_named attr) (λ a. comment_element home v text a ∷ []) args

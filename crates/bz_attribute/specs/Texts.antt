@@ -1,0 +1,34 @@
+-- How labels and rules are shown (this project's own rule).
+use Rattle.std.specs.Prelude.{ℕ, List, [], ◌∷◌, ◌++◌, Option, Some, None, codes}
+use Rattle.std.specs.Fmt.{decimal}
+use Rattle.bz_tree.specs.Tree.{Statement, Item}
+use Rattle.bz_command.specs.Labels.{Package, Target, Name, Pkg, All, Kind, Line}
+use Rattle.bz_attribute.specs.Rules.{Rule, rule_of, kind_text, name_in}
+
+-- a package and the colon behind it
+abbrev pub home_text : Package → List ℕ
+home_text None = codes "-:"
+home_text (Some path) = 47 ∷ 47 ∷ (path ++ 58 ∷ [])
+
+abbrev pub target_text : Target → List ℕ
+target_text (Name name) = name
+target_text Pkg = codes "__pkg__"
+target_text All = codes "*"
+target_text (Kind kind) = 37 ∷ kind
+target_text (Line line) = 37 ∷ decimal line
+
+abbrev pub label_text : Package → Target → List ℕ
+label_text home target = home_text home ++ target_text target
+
+-- a rule by its name, or by its kind
+abbrev pub name_or_kind : Option (List ℕ) → List Item → List ℕ
+name_or_kind (Some name) kind = name
+name_or_kind None kind = 37 ∷ kind_text kind
+
+-- what is no rule is not shown
+abbrev pub rule_text : Package → Option Rule → List ℕ
+rule_text home None = []
+rule_text home (Some r) = home_text home ++ name_or_kind (name_in r.args) r.kind
+
+abbrev pub shown_text : Package → Statement → List ℕ
+shown_text home s = rule_text home (rule_of s.nodes)

@@ -1,0 +1,176 @@
+//! The elements of an attribute that a command chooses, and what is left without them.
+
+ghost use Rattle.std.specs.Prelude.{◌≡◌, ◌≤◌, length, not, ◌&&◌, ◌∷◌, []};
+ghost use Rattle.std.specs.List.{list_any};
+ghost use Rattle.bz_tree.specs.View.{node_view, nodes_view, seg_view, segs_view};
+ghost use Rattle.bz_attribute.specs.Rules.{elements, value};
+ghost use Rattle.bz_attribute.specs.Lists.{edit_list, edit_parts, parts, with_value};
+ghost use Rattle.bz_attribute.specs.ChosenViews.{chosen_view};
+ghost use Rattle.bz_attribute.specs.Effects as spec;
+
+use crate::equals::{equals, equals_any};
+use crate::lists::{are_joints, is_list, is_part};
+use crate::rule::is_sign;
+use crate::word_set::WordSet;
+use bz_command::{Package, Text};
+use bz_tree::{Node, Seg};
+
+/// Which elements a command means.
+#[derive(Clone, Copy)]
+pub enum Chosen<'c> {
+    All,
+    /// Those that equal one of a few words.
+    Values(&'c [Text]),
+    /// Those that equal a word.
+    Value(&'c str),
+    /// Those that equal one of many words.
+    Many(&'c WordSet<'c>),
+}
+
+pub fn is_chosen(home: &Package, chosen: Chosen<'_>, element: &Seg<'_>) -> bool
+    ensures { result ≡ spec.is_chosen home.now (chosen_view chosen.entry) (seg_view element.now) }
+{
+    match chosen {
+        Chosen::All => true,
+        Chosen::Values(words) => equals_any(home, element, words),
+        Chosen::Value(word) => equals(home, element, word),
+        Chosen::Many(words) => words.equals_any(home, element),
+    }
+}
+
+fn any_chosen(home: &Package, chosen: Chosen<'_>, elements: &[Seg<'_>]) -> bool
+    ensures { result ≡ list_any (spec.is_chosen home.now (chosen_view chosen.entry)) (segs_view elements.now) }
+{
+    for element in elements {
+        if is_chosen(home, chosen, element) {
+            return true;
+        }
+    }
+    false
+}
+
+fn any_chosen_in(home: &Package, chosen: Chosen<'_>, node: &Node<'_>) -> bool
+    ensures { result ≡ list_any (spec.is_chosen home.now (chosen_view chosen.entry)) (elements (node_view node.now)) }
+{
+    match node {
+        Node::Token(_) => false,
+        Node::Group(group) => any_chosen(home, chosen, &group.segs),
+    }
+}
+
+pub fn is_any_chosen(home: &Package, chosen: Chosen<'_>, value: &[Node<'_>]) -> bool
+    ensures { result ≡ list_any (list_any (spec.is_chosen home.now (chosen_view chosen.entry))) (parts (nodes_view value.now)) }
+{
+    if !are_joints(value) {
+        return false;
+    }
+    let mut start = true;
+    for i in 0..value.len() {
+        if is_part(start, value, i) && any_chosen_in(home, chosen, &value[i]) {
+            return true;
+        }
+        start = is_sign(&value[i], "+");
+    }
+    false
+}
+
+/// An element of the argument's list parts is chosen.
+pub fn chooses(home: &Package, chosen: Chosen<'_>, arg: &Seg<'_>) -> bool
+    ensures { result ≡ spec.chooses home.now (chosen_view chosen.entry) (seg_view arg.now) }
+{
+    if arg.nodes.len() < 2 {
+        return false;
+    }
+    is_any_chosen(home, chosen, &arg.nodes[2..])
+}
+
+// Drops the chosen elements.
+fn drop_chosen(home: &Package, chosen: Chosen<'_>, elements: &mut Vec<Seg<'_>>)
+    ensures { segs_view elements.new.items ≡ spec.unchosen home.now (chosen_view chosen.entry) (segs_view elements.old.items) }
+{
+    elements.retain(|element| !is_chosen(home, chosen, element));
+}
+
+fn drop_in_list(home: &Package, chosen: Chosen<'_>, node: &mut Node<'_>)
+    ensures { node_view node.new ≡ edit_list (spec.unchosen home.now (chosen_view chosen.entry)) (node_view node.old) }
+{
+    if let Node::Group(group) = node {
+        drop_chosen(home, chosen, &mut group.segs);
+    }
+}
+
+fn drop_in_value(home: &Package, chosen: Chosen<'_>, value: &mut [Node<'_>])
+    ensures { nodes_view value.new ≡ edit_parts (spec.unchosen home.now (chosen_view chosen.entry)) (nodes_view value.old) }
+{
+    if !are_joints(value) {
+        return;
+    }
+    let mut start = true;
+    for i in 0..value.len() {
+        let next = is_sign(&value[i], "+");
+        if is_part(start, value, i) {
+            drop_in_list(home, chosen, &mut value[i]);
+        }
+        start = next;
+    }
+}
+
+/// Drops the chosen elements of the argument's list parts.
+pub fn drop_in(home: &Package, chosen: Chosen<'_>, arg: &mut Seg<'_>)
+    requires { 2 ≤ length arg.old.nodes.items }
+    ensures { seg_view arg.new ≡ with_value (edit_parts (spec.unchosen home.now (chosen_view chosen.entry)) (value (seg_view arg.old))) (seg_view arg.old) }
+{
+    drop_in_value(home, chosen, &mut arg.nodes[2..]);
+}
+
+// No element is left.
+fn are_chosen(home: &Package, chosen: Chosen<'_>, elements: &[Seg<'_>]) -> bool
+    ensures { result ≡ spec.is_nil (spec.unchosen home.now (chosen_view chosen.entry) (segs_view elements.now)) }
+{
+    for element in elements {
+        if !is_chosen(home, chosen, element) {
+            return false;
+        }
+    }
+    true
+}
+
+fn loses_elements(home: &Package, chosen: Chosen<'_>, elements: &[Seg<'_>]) -> bool
+    ensures { result ≡ (not (spec.is_nil (segs_view elements.now)) && spec.is_nil (spec.unchosen home.now (chosen_view chosen.entry) (segs_view elements.now))) }
+{
+    match elements {
+        [] => false,
+        _ => are_chosen(home, chosen, elements),
+    }
+}
+
+fn loses_list(home: &Package, chosen: Chosen<'_>, node: &Node<'_>) -> bool
+    ensures { result ≡ spec.loses_all (spec.unchosen home.now (chosen_view chosen.entry)) (node_view node.now ∷ []) }
+{
+    if !is_list(node) {
+        return false;
+    }
+    match node {
+        Node::Token(_) => false,
+        Node::Group(group) => loses_elements(home, chosen, &group.segs),
+    }
+}
+
+fn loses_value(home: &Package, chosen: Chosen<'_>, value: &[Node<'_>]) -> bool
+    ensures { result ≡ spec.loses_all (spec.unchosen home.now (chosen_view chosen.entry)) (nodes_view value.now) }
+{
+    match value {
+        [node] => loses_list(home, chosen, node),
+        _ => false,
+    }
+}
+
+/// The argument's value is one list, all of whose elements are chosen, and there are some.
+pub fn loses_all(home: &Package, chosen: Chosen<'_>, arg: &Seg<'_>) -> bool
+    ensures { result ≡ spec.loses_all (spec.unchosen home.now (chosen_view chosen.entry)) (value (seg_view arg.now)) }
+{
+    if arg.nodes.len() < 2 {
+        return false;
+    }
+    loses_value(home, chosen, &arg.nodes[2..])
+}

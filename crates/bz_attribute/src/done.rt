@@ -1,0 +1,53 @@
+//! What a command did to a statement.
+
+ghost use Rattle.std.specs.Prelude.{◌≡◌, None};
+ghost use Rattle.bz_attribute.specs.Effects as spec;
+
+use bz_command::Text;
+
+/// What an execution of a command did.
+#[derive(Drop)]
+pub struct Done {
+    /// The statement differs from what it was.
+    pub changed: bool,
+    /// What `print` printed.
+    pub line: Option<Text>,
+    pub note: Option<Note>,
+}
+
+/// Why a command did nothing, or, for `Missing`, what it could not print.
+#[derive(PartialEq, Eq, Drop)]
+pub enum Note {
+    /// The first field of `print` that is missing.
+    Missing(Text),
+    /// The attribute is absent.
+    NoAttribute(Text),
+    /// There is an attribute of the new name.
+    AttributeExists(Text),
+    /// The attribute has no list part.
+    NotAList(Text),
+    /// No element of the attribute equals the value.
+    NoValue { attr: Text, value: Text },
+}
+
+impl Done {
+    pub fn quiet(changed: bool) -> Done
+        ensures { result ≡ spec.done None changed }
+    {
+        Done {
+            changed,
+            line: None,
+            note: None,
+        }
+    }
+
+    pub fn failure(note: Note) -> Done
+        ensures { result ≡ spec.failed note }
+    {
+        Done {
+            changed: false,
+            line: None,
+            note: Some(note),
+        }
+    }
+}

@@ -1,0 +1,49 @@
+//! Which elements equal a word.
+
+ghost use Rattle.std.specs.Prelude.{◌≡◌, IsTrue, MatchOption, IfSome, IfNone, None, Some, [], ◌∷◌, ◌++◌, bytes_eq};
+ghost use Rattle.std.specs.List.{list_any};
+ghost use Rattle.bz_tree.specs.View.{seg_view};
+ghost use Rattle.bz_attribute.specs.Rules.{string_value};
+ghost use Rattle.bz_command.specs.Labels.{is_colon, last_of, parts_of};
+ghost use Rattle.bz_command.specs.Same as same;
+ghost use Rattle.bz_attribute.specs.Lists as spec;
+ghost use Rattle.bz_command.specs.ByteSteps.{left, is_good, chain_bytes, is_good_chain, begins, is_bare_path};
+
+use crate::rule::only_text;
+use bz_command::{Bytes, Package, Text, same_label, value_of};
+use bz_tree::Seg;
+
+/// The value of an element that is one string.
+pub fn string_of<'n>(element: &'n Seg<'_>) -> Option<Bytes<'n>>
+    ensures none { IfNone result (string_value (seg_view element.now).nodes ≡ None) }
+    ensures some { IfSome result (λ bytes. string_value (seg_view element.now).nodes ≡ Some (left bytes)) }
+    ensures good { IfSome result (λ bytes. IsTrue (is_good bytes)) }
+{
+    let Some(text) = only_text(&element.nodes) else {
+        return None;
+    };
+    let value = value_of(text);
+    value
+}
+
+/// The element is one string whose value is the same label as the word.
+pub fn equals(home: &Package, element: &Seg<'_>, word: &str) -> bool
+    ensures { result ≡ spec.equals home.now word.now (seg_view element.now) }
+{
+    match string_of(element) {
+        None => false,
+        Some(value) => same_label(home, Bytes::Plain(word.as_bytes()), value),
+    }
+}
+
+/// The element equals one of the words.
+pub fn equals_any(home: &Package, element: &Seg<'_>, words: &[Text]) -> bool
+    ensures { result ≡ spec.equals_any home.now words.now (seg_view element.now) }
+{
+    for word in words {
+        if equals(home, element, word.as_str()) {
+            return true;
+        }
+    }
+    false
+}

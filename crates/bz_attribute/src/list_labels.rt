@@ -1,0 +1,76 @@
+//! The labels of the elements that a value's list parts have.
+
+ghost use Rattle.std.specs.Prelude.{◌≡◌, ℕ, List, [], ◌∷◌, IfOk, OnOk};
+ghost use Rattle.bz_tree.specs.View.{node_view, nodes_view, seg_view, segs_view};
+ghost use Rattle.bz_attribute.specs.Rules.{elements};
+ghost use Rattle.bz_attribute.specs.Lists.{parts};
+ghost use Rattle.bz_command.specs.Commands.{Values};
+ghost use Rattle.bz_attribute.specs.Effects.{is_chosen};
+ghost use Rattle.bz_command.specs.LabelSetViews.{Gains, has};
+ghost use Rattle.bz_attribute.specs.ElementSets.{is_among, is_in};
+
+use crate::equals::string_of;
+use crate::lists::{are_joints, is_part};
+use crate::rule::is_sign;
+use bz_command::{LabelSet, Package};
+use bz_tree::{Node, Seg};
+use std::alloc::{AllocError, Global};
+
+/// The labels of the elements of a value's list parts, as far as these are strings with a value.
+pub fn labels_in<'s>(
+    alloc: Global,
+    home: &'s Package,
+    value: &'s [Node<'_>],
+) -> Result<LabelSet<'s>, AllocError>
+    ensures home { IfOk result (λ set. set.home.now ≡ home.now) }
+    ensures all { IfOk result (λ set. (text : List ℕ) → has set text ≡ is_in home.now (parts (nodes_view value.now)) text) }
+{
+    let mut set = LabelSet::new(alloc, home);
+    if !are_joints(value) {
+        return Ok(set);
+    }
+    let mut start = true;
+    for i in 0..value.len() {
+        if is_part(start, value, i) {
+            insert_list(&value[i], &mut set)?;
+        }
+        start = is_sign(&value[i], "+");
+    }
+    Ok(set)
+}
+
+fn insert_list<'s>(node: &'s Node<'_>, set: &mut LabelSet<'s>) -> Result<(), AllocError>
+    ensures home { set.new.home.now ≡ set.old.home.now }
+    ensures ok { OnOk result (Gains (is_among set.old.home.now (elements (node_view node.now))) set.old set.new) }
+{
+    match node {
+        Node::Token(_) => Ok(()),
+        Node::Group(group) => {
+            insert_elements(&group.segs, set)?;
+            Ok(())
+        }
+    }
+}
+
+fn insert_elements<'s>(elements: &'s [Seg<'_>], set: &mut LabelSet<'s>) -> Result<(), AllocError>
+    ensures home { set.new.home.now ≡ set.old.home.now }
+    ensures ok { OnOk result (Gains (is_among set.old.home.now (segs_view elements.now)) set.old set.new) }
+{
+    for element in elements {
+        insert_element(element, set)?;
+    }
+    Ok(())
+}
+
+fn insert_element<'s>(element: &'s Seg<'_>, set: &mut LabelSet<'s>) -> Result<(), AllocError>
+    ensures home { set.new.home.now ≡ set.old.home.now }
+    ensures ok { OnOk result (Gains (λ text. is_chosen set.old.home.now (Values (text ∷ [])) (seg_view element.now)) set.old set.new) }
+{
+    match string_of(element) {
+        None => Ok(()),
+        Some(value) => {
+            let _ = set.insert(value)?;
+            Ok(())
+        }
+    }
+}

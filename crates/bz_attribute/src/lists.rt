@@ -1,0 +1,77 @@
+//! The list parts of a value: reading only, no memory.
+
+ghost use Rattle.std.specs.Prelude.{◌≡◌, ◌<◌, ◌+◌, length, get_or, drop, IfSome, IfNone, []};
+ghost use Rattle.std.specs.List.{list_all};
+ghost use Rattle.bz_tree.specs.View.{node_view, nodes_view, seg_view};
+ghost use Rattle.bz_attribute.specs.Lists as spec;
+ghost use Rattle.bz_attribute.specs.Places.{IsFirstPart};
+
+use crate::rule::{is_sign, name_of};
+use bz_token::Kind;
+use bz_tree::{GroupKind, Node, Seg};
+
+/// The segment is a keyword argument.
+pub fn is_attribute(arg: &Seg<'_>) -> bool
+    ensures { result ≡ spec.is_attribute (seg_view arg.now) }
+{
+    name_of(&arg.nodes).is_some()
+}
+
+fn is_joint(node: &Node<'_>) -> bool
+    ensures { result ≡ spec.is_joint (node_view node.now) }
+{
+    match node {
+        Node::Token(leaf) => match leaf.kind {
+            Kind::Word => false,
+            Kind::Sign => leaf.text.as_str() == "+" || leaf.text.as_str() == ".",
+            _ => true,
+        },
+        Node::Group(_) => true,
+    }
+}
+
+pub fn are_joints(value: &[Node<'_>]) -> bool
+    ensures { result ≡ list_all spec.is_joint (nodes_view value.now) }
+{
+    for node in value {
+        if !is_joint(node) {
+            return false;
+        }
+    }
+    true
+}
+
+pub fn is_list(node: &Node<'_>) -> bool
+    ensures { result ≡ spec.is_list (node_view node.now) }
+{
+    match node {
+        Node::Token(_) => false,
+        Node::Group(group) => group.kind == GroupKind::List,
+    }
+}
+
+/// The node at `i` is a list part, where a piece begins with it.
+pub fn is_part(start: bool, value: &[Node<'_>], i: usize) -> bool
+    requires { i < length value.now }
+    ensures { (d : _) → result ≡ spec.is_part start (node_view (get_or value.now i d)) (nodes_view (drop (i + 1) value.now)) }
+{
+    start && is_list(&value[i]) && (i + 1 == value.len() || is_sign(&value[i + 1], "+"))
+}
+
+/// Where the first list part of a value stands.
+pub fn first_part(value: &[Node<'_>]) -> Option<usize>
+    ensures some { IfSome result (IsFirstPart value.now) }
+    ensures none { IfNone result (spec.parts (nodes_view value.now) ≡ []) }
+{
+    if !are_joints(value) {
+        return None;
+    }
+    let mut start = true;
+    for i in 0..value.len() {
+        if is_part(start, value, i) {
+            return Some(i);
+        }
+        start = is_sign(&value[i], "+");
+    }
+    None
+}

@@ -1,0 +1,109 @@
+//! How labels and rules are shown.
+
+ghost use Rattle.std.specs.Prelude.{◌≡◌, ◌++◌, IfOk, OnOk, option_map, string_bytes};
+ghost use Rattle.bz_tree.specs.View.{nodes_view, segs_view, view};
+ghost use Rattle.bz_attribute.specs.Rules.{kind_text, name_in, value_in};
+ghost use Rattle.bz_attribute.specs.Texts as spec;
+
+use crate::rule::{name_text, rule_of};
+use bz_command::{Marked, Package, Target, read_value};
+use bz_tree::{Node, Seg, Stmt};
+use std::alloc::{AllocError, Global};
+
+/// A label, `//PATH:TARGET`; standard input is `-:TARGET`.
+pub fn label(alloc: Global, home: &Package, target: &Target) -> Result<String, AllocError>
+    ensures { IfOk result (λ text. string_bytes text ≡ spec.label_text home.now target.now) }
+{
+    let mut text = String::new(alloc);
+    push_home(&mut text, home)?;
+    push_target(alloc, &mut text, target)?;
+    Ok(text)
+}
+
+/// A rule of a package, by its name or by `%` and its kind; empty for a statement that is no rule.
+pub fn shown(alloc: Global, home: &Package, stmt: &Stmt<'_>) -> Result<String, AllocError>
+    ensures { IfOk result (λ text. string_bytes text ≡ spec.shown_text home.now (view stmt.now)) }
+{
+    let mut text = String::new(alloc);
+    let Some(rule) = rule_of(&stmt.nodes) else {
+        return Ok(text);
+    };
+    push_home(&mut text, home)?;
+    push_name(alloc, &mut text, &rule.call.segs, rule.kind)?;
+    Ok(text)
+}
+
+/// Writes a package and the colon behind it.
+pub fn push_home(text: &mut String, home: &Package) -> Result<(), AllocError>
+    ensures { OnOk result (string_bytes text.new ≡ string_bytes text.old ++ spec.home_text home.now) }
+{
+    let Some(path) = home.path() else {
+        text.push_str("-:")?;
+        return Ok(());
+    };
+    text.push_str("//")?;
+    text.push_str(path)?;
+    text.push_str(":")?;
+    Ok(())
+}
+
+fn push_target(alloc: Global, text: &mut String, target: &Target) -> Result<(), AllocError>
+    ensures { OnOk result (string_bytes text.new ≡ string_bytes text.old ++ spec.target_text target.now) }
+{
+    match &target.marked {
+        Marked::Name(name) => text.push_str(name.as_str())?,
+        Marked::Pkg => text.push_str("__pkg__")?,
+        Marked::All => text.push_str("*")?,
+        Marked::Kind(kind) => {
+            text.push_str("%")?;
+            text.push_str(kind.as_str())?;
+        }
+        Marked::Line(line) => {
+            let digits = line.to_string(alloc)?;
+            text.push_str("%")?;
+            text.push_str(digits.as_str())?;
+        }
+    }
+    Ok(())
+}
+
+fn push_name(
+    alloc: Global,
+    text: &mut String,
+    args: &[Seg<'_>],
+    kind: &[Node<'_>],
+) -> Result<(), AllocError>
+    ensures { OnOk result (string_bytes text.new ≡ string_bytes text.old ++ spec.name_or_kind (name_in (segs_view args.now)) (nodes_view kind.now)) }
+{
+    match read_name(alloc, args)? {
+        Some(name) => text.push_str(name.as_str())?,
+        None => {
+            text.push_str("%")?;
+            push_kind(text, kind)?;
+        }
+    }
+    Ok(())
+}
+
+/// The name of a rule.
+pub fn read_name(alloc: Global, args: &[Seg<'_>]) -> Result<Option<String>, AllocError>
+    ensures { IfOk result (λ name. option_map (λ text. string_bytes text) name ≡ name_in (segs_view args.now)) }
+{
+    let Some(text) = name_text(args) else {
+        return Ok(None);
+    };
+    let name = read_value(alloc, text)?;
+    Ok(name)
+}
+
+/// Writes a kind, without what stands between its identifiers and dots.
+pub fn push_kind(text: &mut String, kind: &[Node<'_>]) -> Result<(), AllocError>
+    ensures { OnOk result (string_bytes text.new ≡ string_bytes text.old ++ kind_text (nodes_view kind.now)) }
+{
+    for node in kind {
+        if let Node::Token(leaf) = node {
+            text.push_str(leaf.text.as_str())?;
+        }
+    }
+    Ok(())
+}

@@ -1,0 +1,102 @@
+-- Steps to a comment: the line without the blanks at its end, and the element that it goes to.
+use Rattle.std.proofs.Common.{◌≡◌, ℕ, suc, ◌+◌, ◌-◌, ◌<◌, ◌≤◌, List, [], ◌∷◌, ◌++◌, Bool, true, false, ◌&&◌, if◌then◌else◌, length, get_or, set, take, drop, refl, ap, sym, ◌∙◌, arith, add-one, is_some, Option, Some, None, IfSome, IfNone}
+use Rattle.std.specs.List.{list_all, list_any, position_or_len}
+use Rattle.std.proofs.lemmas.List.{drop_more, set_split, map-append, map-set, get_or-map, set-get_or, length-map, get_or_default, take_more, take_all}
+use Rattle.std.proofs.lemmas.Bool.Decides.{nat_tests}
+use Rattle.bz_tree.specs.declared.stmt.Node.{Node}
+use Rattle.bz_tree.specs.declared.stmt.Seg.{Seg}
+use Rattle.bz_tree.specs.Tree.{Item, Segment}
+use Rattle.bz_tree.specs.View.{node_view, nodes_view, seg_view, segs_view}
+use Rattle.bz_attribute.specs.Rules.{elements, is_named}
+use Rattle.bz_attribute.specs.Lists.{edit_list, is_part, is_joint, parts_from, parts}
+use Rattle.bz_attribute.specs.Effects.{edit_first}
+use Rattle.bz_attribute.specs.Places.{IsFirst}
+use Rattle.bz_attribute.specs.Commenting.{is_blank, trimmed, edit_element, edit_element_from}
+use Rattle.bz_attribute_commands.specs.CommentPlaces.{IsFirstOf, IsNowhere, IsPartWith, ends_blank}
+use Rattle.bz_attribute.proofs.First.{has_one, has_none, put_first, edit_first_none}
+
+-- a blank at the end
+all_blank : (xs : List ℕ) (b : ℕ) → is_blank b ≡ true → list_all is_blank (xs ++ b ∷ []) ≡ list_all is_blank xs
+all_blank [] b h = rw h refl
+all_blank (x ∷ xs) b h = ap (λ (t : Bool). is_blank x && t) (all_blank xs b h)
+
+trimmed_blank : (xs : List ℕ) (b : ℕ) → is_blank b ≡ true → trimmed (xs ++ b ∷ []) ≡ trimmed xs
+trimmed_blank [] b h = rw h refl
+trimmed_blank (x ∷ xs) b h = rw (all_blank xs b h, trimmed_blank xs b h) refl
+
+-- another byte at the end
+not_blank : (xs : List ℕ) (b : ℕ) → is_blank b ≡ false → list_all is_blank (xs ++ b ∷ []) ≡ false
+not_blank [] b h = rw h refl
+not_blank (x ∷ xs) b h = ap (λ (t : Bool). is_blank x && t) (not_blank xs b h) ∙ elim (is_blank x) as (λ t. (t && false) ≡ false) [ true ↦ refl | false ↦ refl ]
+
+trimmed_other : (xs : List ℕ) (b : ℕ) → is_blank b ≡ false → trimmed (xs ++ b ∷ []) ≡ xs ++ b ∷ []
+trimmed_other [] b h = rw h refl
+trimmed_other (x ∷ xs) b h =
+    ap (λ (t : Bool). if t then [] else x ∷ trimmed (xs ++ b ∷ [])) (not_blank (x ∷ xs) b h) ∙ ap (λ (ys : List ℕ). x ∷ ys) (trimmed_other xs b h)
+
+last_split : (bs : List ℕ) → 0 < length bs → bs ≡ take (length bs - 1) bs ++ get_or bs (length bs - 1) 0 ∷ []
+last_split bs h = sym (take_all (length bs - 1 + 1) bs (omega arith)) ∙ take_more bs (length bs - 1) 0 (omega arith)
+
+blank_low : (b : ℕ) → is_blank b ≡ true → b < 128
+blank_low b h = grind (arith, nat_tests)
+
+-- the last byte goes, where it is a blank
+pub trim_step : (bs new : List ℕ) (n : ℕ) → n ≡ length bs → ends_blank bs ≡ true → (0 < n → get_or bs (n - 1) 0 < 128 → new ≡ take (n - 1) bs) → trimmed new ≡ trimmed bs
+trim_step [] new n long h goes = absurd cc
+trim_step (b ∷ bs) new n long h goes =
+    let last : ℕ = get_or (b ∷ bs) (length (b ∷ bs) - 1) 0 in
+    let same : get_or (b ∷ bs) (n - 1) 0 ≡ last = ap (λ (k : ℕ). get_or (b ∷ bs) (k - 1) 0) long in
+    let made : new ≡ take (length (b ∷ bs) - 1) (b ∷ bs) = goes (omega arith) (omega (arith, same, blank_low last h)) ∙ ap (λ (k : ℕ). take (k - 1) (b ∷ bs)) long in
+    ap trimmed made ∙ sym (trimmed_blank (take (length (b ∷ bs) - 1) (b ∷ bs)) last h) ∙ ap trimmed (sym (last_split (b ∷ bs) (omega arith)))
+
+pub trim_end : (bs : List ℕ) → ends_blank bs ≡ false → trimmed bs ≡ bs
+trim_end [] h = refl
+trim_end (b ∷ bs) h =
+    let split = last_split (b ∷ bs) (omega arith) in
+    ap trimmed split ∙ trimmed_other (take (length (b ∷ bs) - 1) (b ∷ bs)) (get_or (b ∷ bs) (length (b ∷ bs) - 1) 0) h ∙ sym split
+
+pub is_first_of : (p : Segment → Bool) (segs : List Seg) (i : ℕ) → i ≡ position_or_len p (segs_view segs) → i < length segs → IsFirstOf p segs i
+is_first_of p segs i at h = record {
+  within = h;
+  there = has_one p (segs_view segs) (omega (arith, length-map segs seg_view));
+  put = λ f s d made. put_first p f segs i s d at h made;
+  same = λ s d kept. map-set seg_view segs i s ∙ ap (set (segs_view segs) i) (kept ∙ sym (get_or-map seg_view segs i d (seg_view d) h)) ∙ set-get_or (segs_view segs) i (seg_view d);
+}
+
+pub is_nowhere : (p : Segment → Bool) (segs : List Seg) → length segs ≤ position_or_len p (segs_view segs) → IsNowhere p segs
+is_nowhere p segs h =
+    let none : list_any p (segs_view segs) ≡ false = has_none p (segs_view segs) (omega (arith, length-map segs seg_view)) in
+    record { none = none; stay = λ f. edit_first_none p f (segs_view segs) none }
+
+pub found_any : (p : Segment → Bool) (segs : List Seg) (r : Option ℕ) → IfSome r (IsFirstOf p segs) → IfNone r (IsNowhere p segs) → is_some r ≡ list_any p (segs_view segs)
+found_any p segs (Some i) found none = sym found.there
+found_any p segs None found none = sym none.none
+
+-- no list part before i has an element that passes, and a piece begins at i where `start`
+pub record NoneYet (p : Segment → Bool) (ns : List Node) (i : ℕ) (start : Bool) : Type 0 where
+  pub one : (f : Segment → Segment) → nodes_view (take i ns) ++ edit_element_from p f start (nodes_view (drop i ns)) ≡ edit_element_from p f true (nodes_view ns)
+  pub lists : list_any (list_any p) (parts_from start (nodes_view (drop i ns))) ≡ list_any (list_any p) (parts_from true (nodes_view ns))
+
+pub part_with : (p : Segment → Bool) (ns : List Node) (i : ℕ) (start : Bool) (n : Node) → list_all is_joint (nodes_view ns) ≡ true → i < length ns → NoneYet p ns i start → ((d : Node) → is_part start (node_view (get_or ns i d)) (nodes_view (drop (i + 1) ns)) ≡ true) → n ≡ get_or ns i n → list_any p (elements (node_view n)) ≡ true → IsPartWith p ns i
+part_with p ns i start n joints h before told at has =
+    let rest : (d : Node) → nodes_view (drop i ns) ≡ node_view (get_or ns i d) ∷ nodes_view (drop (i + 1) ns) = λ d. ap nodes_view (drop_more ns i d h) in
+    let passes : (d : Node) → list_any p (elements (node_view (get_or ns i d))) ≡ true = λ d. ap (λ (z : Node). list_any p (elements (node_view z))) (get_or_default ns i d n h ∙ sym at) ∙ has in
+    record {
+      within = h;
+      there =
+          let whole : parts (nodes_view ns) ≡ parts_from true (nodes_view ns) = rw joints refl in
+          let step : list_any (list_any p) (parts_from start (node_view (get_or ns i n) ∷ nodes_view (drop (i + 1) ns))) ≡ true = rw (told n, passes n) refl in
+          ap (list_any (list_any p)) whole ∙ sym before.lists ∙ ap (λ (xs : List Item). list_any (list_any p) (parts_from start xs)) (rest n) ∙ step;
+      same = λ m d kept. map-set node_view ns i m ∙ ap (set (nodes_view ns) i) (kept ∙ sym (get_or-map node_view ns i d (node_view d) h)) ∙ set-get_or (nodes_view ns) i (node_view d);
+      put = λ f m d edited.
+          let step : edit_element_from p f start (node_view (get_or ns i d) ∷ nodes_view (drop (i + 1) ns)) ≡ edit_list (edit_first p (λ s. f s ∷ [])) (node_view (get_or ns i d)) ∷ nodes_view (drop (i + 1) ns) = rw (told d, passes d) refl in
+          let whole : edit_element p f (nodes_view ns) ≡ edit_element_from p f true (nodes_view ns) = rw joints refl in
+          let made : nodes_view (set ns i m) ≡ nodes_view (take i ns) ++ node_view m ∷ nodes_view (drop (suc i) ns) = ap nodes_view (set_split ns i m h) ∙ map-append node_view (take i ns) (m ∷ drop (suc i) ns) in
+          let next : drop (suc i) ns ≡ drop (i + 1) ns = ap (λ (k : ℕ). drop k ns) (sym (add-one i)) in
+          made ∙ ap (λ (zs : List Node). nodes_view (take i ns) ++ node_view m ∷ nodes_view zs) next ∙ ap (λ (z : Item). nodes_view (take i ns) ++ z ∷ nodes_view (drop (i + 1) ns)) edited ∙ ap (λ (zs : List Item). nodes_view (take i ns) ++ zs) (sym step ∙ ap (edit_element_from p f start) (sym (rest d))) ∙ before.one f ∙ sym whole;
+    }
+
+-- the first argument of a name edited, where there is no note
+pub in_first : (name : List ℕ) (args : List Seg) (i : ℕ) (g : Segment → Segment) (b : Bool) (s d : Seg) → IsFirst name args i → seg_view s ≡ (if b then seg_view (get_or args i d) else g (seg_view (get_or args i d))) → segs_view (set args i s) ≡ (if b then segs_view args else edit_first (is_named name) (λ a. g a ∷ []) (segs_view args))
+in_first name args i g true s d first made = first.same s d made
+in_first name args i g false s d first made = first.put (λ a. g a ∷ []) s d (ap (λ (z : Segment). z ∷ []) (sym made))

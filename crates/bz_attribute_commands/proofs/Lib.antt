@@ -1,0 +1,3 @@
+pub mod CommentEdits
+pub mod KindEdits
+pub mod Printed

@@ -1,0 +1,14 @@
+use Rattle.std.proofs.Common.{◌≡◌, true, false, string_bytes, string_len, ap, sym, ◌∙◌, arith}
+use Rattle.bz_attribute_commands.specs.CommentPlaces.{ends_blank}
+use Rattle.bz_attribute_commands.proofs.CommentEdits.{trim_step, trim_end}
+use Rattle.bz_attribute_commands.proofs.comment.trim.Goals as goal
+
+pub loop-line-preserved : goal.loop-line-preserved
+loop-line-preserved c =
+    let blank : ends_blank (string_bytes c.loop-line.line) ≡ true = ap ends_blank (sym c.as_bytes.ensures.value) ∙ sym c.ends_blank.ensures ∙ c.loop-line-test.true in
+    trim_step (string_bytes c.loop-line.line) (string_bytes c.pop.new.self) (string_len c.loop-line.line) (omega arith) blank c.pop.ensures.ascii_bytes ∙ c.loop-line.invariant
+
+pub returns : goal.returns
+returns c =
+    let other : ends_blank (string_bytes c.loop-line.line) ≡ false = ap ends_blank (sym c.as_bytes.ensures.value) ∙ sym c.ends_blank.ensures ∙ c.loop-line-test.false in
+    sym (trim_end (string_bytes c.loop-line.line) other) ∙ c.loop-line.invariant

@@ -1,0 +1,23 @@
+use Rattle.std.proofs.Common.{◌≡◌, ℕ, ◌-◌, ◌++◌, List, false, Some, length, drop, ap, sym, ◌∙◌}
+use Rattle.std.specs.Prelude.{bytes_eq}
+use Rattle.std.proofs.lemmas.List.{drop-map, length-map}
+use Rattle.bz_tree.specs.declared.stmt.Node.{Node}
+use Rattle.bz_tree.specs.Tree.{Item}
+use Rattle.bz_tree.specs.View.{node_view, nodes_view}
+use Rattle.bz_attribute.specs.Rules.{rule_of, kind_text}
+use Rattle.bz_attribute.specs.RuleViews.{rule_view}
+use Rattle.bz_attribute.specs.Setting.{kind_items}
+use Rattle.bz_attribute_commands.proofs.KindEdits.{kind_put}
+use Rattle.bz_attribute_commands.proofs.set_kind.in_nodes.Goals as goal
+
+pub returns-clause-nodes : goal.returns-clause-nodes
+returns-clause-nodes c =
+    let old = c.args.nodes.now.items in
+    let is : rule_of (nodes_view old) ≡ Some (rule_view c.in-Some.rule) = ap (λ (ns : List Node). rule_of (nodes_view ns)) (sym c.deref.ensures.value) ∙ sym c.in-Some.ensures in
+    let differs : bytes_eq (kind_text (rule_view c.in-Some.rule).kind) c.args.kind.now ≡ false = sym c.is_kind.ensures ∙ c.if-is_kind.false in
+    let last : nodes_view (drop (length old - 1) old) ≡ drop (length (nodes_view old) - 1) (nodes_view old) =
+    sym (drop-map node_view (length old - 1) old) ∙ ap (λ (n : ℕ). drop (n - 1) (nodes_view old)) (sym (length-map old node_view)) in
+    c.in_ok-put_kind.ensures.nodes
+    ∙ ap (λ (ns : List Item). ns ++ nodes_view (drop (length old - 1) old)) c.in_ok-kind_nodes.ensures
+    ∙ ap (λ (ns : List Item). kind_items c.args.kind.now ++ ns) last
+    ∙ kind_put c.args.kind.now (nodes_view old) (rule_view c.in-Some.rule) is differs

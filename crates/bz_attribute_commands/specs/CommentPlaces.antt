@@ -1,0 +1,43 @@
+-- For private clauses alone: where the first segment that passes a test stands, where the first list part with one stands,
+-- and what becomes of the whole where they are edited.
+use Rattle.std.specs.Prelude.{◌≡◌, ℕ, ◌<◌, ◌-◌, List, [], ◌∷◌, Bool, length, get_or, set, true, false, if◌then◌else◌, Option, Some, is_some}
+use Rattle.std.specs.List.{list_any}
+use Rattle.bz_tree.specs.declared.stmt.Seg.{Seg}
+use Rattle.bz_tree.specs.declared.stmt.Node.{Node}
+use Rattle.bz_tree.specs.Tree.{Segment}
+use Rattle.bz_tree.specs.View.{seg_view, segs_view, node_view, nodes_view}
+use Rattle.bz_command.specs.Labels.{Package}
+use Rattle.bz_attribute.specs.Lists.{edit_list, parts}
+use Rattle.bz_attribute.specs.declared.done.Note.{Note}
+use Rattle.bz_attribute.specs.Effects.{edit_first, first_note, not_a_list}
+use Rattle.bz_attribute.specs.Commenting.{edit_element, is_missing, comment_element, is_blank}
+
+pub record IsFirstOf (p : Segment → Bool) (segs : List Seg) (i : ℕ) : Type 0 where
+  pub within : i < length segs
+  pub there : list_any p (segs_view segs) ≡ true
+  pub put : (f : Segment → List Segment) (s d : Seg) → f (seg_view (get_or segs i d)) ≡ seg_view s ∷ [] → segs_view (set segs i s) ≡ edit_first p f (segs_view segs)
+  pub same : (s d : Seg) → seg_view s ≡ seg_view (get_or segs i d) → segs_view (set segs i s) ≡ segs_view segs
+
+-- no segment passes
+pub record IsNowhere (p : Segment → Bool) (segs : List Seg) : Type 0 where
+  pub none : list_any p (segs_view segs) ≡ false
+  pub stay : (f : Segment → List Segment) → edit_first p f (segs_view segs) ≡ segs_view segs
+
+-- the first list part with an element that passes
+pub record IsPartWith (p : Segment → Bool) (value : List Node) (i : ℕ) : Type 0 where
+  pub within : i < length value
+  pub there : list_any (list_any p) (parts (nodes_view value)) ≡ true
+  pub put : (f : Segment → Segment) (m d : Node) → node_view m ≡ edit_list (edit_first p (λ s. f s ∷ [])) (node_view (get_or value i d)) → nodes_view (set value i m) ≡ edit_element p f (nodes_view value)
+  pub same : (m d : Node) → node_view m ≡ node_view (get_or value i d) → nodes_view (set value i m) ≡ nodes_view value
+
+-- the note of an argument that is there
+abbrev pub note_in : Package → List ℕ → List ℕ → Segment → Option Note
+note_in home attr v a = first_note (not_a_list attr (Some a)) (is_missing home attr v (Some a))
+
+abbrev pub comment_in : Package → List ℕ → List ℕ → List ℕ → Segment → Segment
+comment_in home attr v text a = if is_some (note_in home attr v a) then a else comment_element home v text a
+
+-- the last byte is a space or a tab
+abbrev pub ends_blank : List ℕ → Bool
+ends_blank [] = false
+ends_blank (b ∷ bs) = is_blank (get_or (b ∷ bs) (length (b ∷ bs) - 1) 0)

@@ -1,0 +1,27 @@
+-- For private clauses alone: a field with its note, and words behind one another.
+use Rattle.std.specs.Prelude.{ℕ, List, [], ◌∷◌, ◌++◌, Bool, if◌then◌else◌, Option, Some, None, option_map}
+use Rattle.bz_tree.specs.Tree.{Segment}
+use Rattle.bz_command.specs.Labels.{Package}
+use Rattle.bz_attribute.specs.Rules.{first_named, name_in, string_value, value}
+use Rattle.bz_attribute.specs.Texts.{home_text}
+use Rattle.bz_attribute.specs.Printing.{value_text, word_of}
+use Rattle.bz_attribute.specs.declared.done.Note.{Note}
+use Rattle.bz_attribute.specs.declared.done.Note.TheVariants.{Missing}
+
+-- the note of a name, unless the field is there
+abbrev pub missing_as : List ℕ → Bool → Option Note
+missing_as name there = if there then None else Some (Missing name)
+
+abbrev pub label_in : Package → List Segment → Option (List ℕ)
+label_in home args = option_map (λ name. home_text home ++ name) (name_in args)
+
+abbrev pub attribute_in : List ℕ → List Segment → Option (List ℕ)
+attribute_in attr args = option_map (λ a. value_text (value a)) (first_named attr args)
+
+abbrev pub element_word : Segment → List ℕ
+element_word s = word_of (string_value s.nodes)
+
+-- words behind another one, each with a space before it
+abbrev pub spaced_behind : List (List ℕ) → List ℕ
+spaced_behind [] = []
+spaced_behind (word ∷ words) = 32 ∷ (word ++ spaced_behind words)

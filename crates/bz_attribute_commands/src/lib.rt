@@ -1,0 +1,8 @@
+//! The commands on attributes and rules: `set`, `set_if_absent`, `set kind`, `rename`, `comment` and `print`.
+#![tactic(auto)]
+
+pub mod comment;
+pub mod print;
+pub mod rename;
+pub mod set;
+pub mod set_kind;

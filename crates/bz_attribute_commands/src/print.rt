@@ -1,0 +1,329 @@
+//! `print`: a line with the texts of a rule's fields.
+
+ghost use Rattle.std.specs.Prelude.{◌≡◌, ◌++◌, ◌∷◌, [], codes, map, option_map, is_some, IfNone, IfOk, IfSome, IsOk, OnOk, string_bytes, false, true};
+ghost use Rattle.std.specs.Fmt.{decimal};
+ghost use Rattle.std.specs.List.{list_all};
+ghost use Rattle.bz_tree.specs.View.{node_view, nodes_view, seg_view, segs_view, slot_view, view};
+ghost use Rattle.bz_command.specs.CommandViews.{field_view};
+ghost use Rattle.bz_attribute.specs.RuleViews.{rule_view};
+ghost use Rattle.bz_attribute.specs.Rules.{string_value, value};
+ghost use Rattle.bz_attribute.specs.Effects.{holds_rule};
+ghost use Rattle.bz_attribute_commands.specs.PrintSteps.{attribute_in, element_word, label_in, missing_as};
+ghost use Rattle.bz_attribute.specs.declared.done.Note.TheVariants.{Missing};
+ghost use Rattle.bz_attribute.specs.Printing as spec;
+
+use bz_attribute::done::{Done, Note};
+use bz_attribute::lists::is_list;
+use bz_attribute::rule::{Rule, first_named, only_text, rule_of};
+use bz_attribute::texts::{push_home, push_kind, read_name};
+use bz_command::{Field, Package, Text, quote, read_value, value_of};
+use bz_layout::flat;
+use bz_tree::{GroupKind, Node, Seg, Stmt};
+use std::alloc::{AllocError, Global};
+
+/// Prints fields of the rule that a slot holds; the note names the first that is missing. Where there is no rule nothing
+/// is printed, and no memory is asked for.
+pub fn print(
+    alloc: Global,
+    home: &Package,
+    fields: &[Field],
+    slot: &Option<Stmt<'_>>,
+) -> Result<Done, AllocError>
+    ensures done { IfOk result (λ done. done ≡ spec.prints home.now (map field_view fields.now) (slot_view slot.now)) }
+    ensures no_rule { holds_rule (slot_view slot.now) ≡ false → IsOk result }
+{
+    let Some(stmt) = slot else {
+        return Ok(Done::quiet(false));
+    };
+    let Some(rule) = rule_of(&stmt.nodes) else {
+        return Ok(Done::quiet(false));
+    };
+    let done = print_rule(alloc, home, stmt, rule, fields)?;
+    Ok(done)
+}
+
+// Without fields the name and the kind.
+fn print_rule(
+    alloc: Global,
+    home: &Package,
+    stmt: &Stmt<'_>,
+    rule: Rule<'_, '_>,
+    fields: &[Field],
+) -> Result<Done, AllocError>
+    ensures { IfOk result (λ done. done ≡ spec.printed home.now (view stmt.now) (rule_view rule.entry) (spec.fields_of (map field_view fields.now))) }
+{
+    match fields {
+        [] => {
+            let name = Field::ValueOf(Text::from_str(alloc, "name")?);
+            let done = print_fields(alloc, home, stmt, rule, &name, &[Field::Kind])?;
+            Ok(done)
+        }
+        [first, others @ ..] => {
+            let done = print_fields(alloc, home, stmt, rule, first, others)?;
+            Ok(done)
+        }
+    }
+}
+
+fn print_fields(
+    alloc: Global,
+    home: &Package,
+    stmt: &Stmt<'_>,
+    rule: Rule<'_, '_>,
+    first: &Field,
+    others: &[Field],
+) -> Result<Done, AllocError>
+    ensures { IfOk result (λ done. done ≡ spec.printed home.now (view stmt.now) (rule_view rule.entry) (field_view first.now ∷ map field_view others.now)) }
+{
+    let mut line = String::new(alloc);
+    let mut missing = push_field(alloc, &mut line, home, stmt, rule, first)?;
+    for field in others {
+        line.push(' ')?;
+        let other = push_field(alloc, &mut line, home, stmt, rule, field)?;
+        missing = missing.or(other);
+    }
+    Ok(Done {
+        changed: false,
+        line: Some(Text::from_string(line)),
+        note: missing,
+    })
+}
+
+// Writes a field. The note tells that it is missing.
+fn push_field(
+    alloc: Global,
+    text: &mut String,
+    home: &Package,
+    stmt: &Stmt<'_>,
+    rule: Rule<'_, '_>,
+    field: &Field,
+) -> Result<Option<Note>, AllocError>
+    ensures line { OnOk result (string_bytes text.new ≡ string_bytes text.old ++ spec.shown_field (spec.field_text home.now (view stmt.now) (rule_view rule.entry) (field_view field.now))) }
+    ensures missing { IfOk result (λ missing. missing ≡ spec.missing home.now (view stmt.now) (rule_view rule.entry) (field_view field.now ∷ [])) }
+{
+    match field {
+        Field::Label => {
+            let missing = push_label(alloc, text, home, &rule.call.segs)?;
+            Ok(missing)
+        }
+        Field::Kind => {
+            push_kind(text, rule.kind)?;
+            Ok(None)
+        }
+        Field::StartLine => {
+            push_number(alloc, text, stmt.start)?;
+            Ok(None)
+        }
+        Field::EndLine => {
+            push_number(alloc, text, stmt.end)?;
+            Ok(None)
+        }
+        Field::ValueOf(attr) => {
+            let missing = push_attribute(alloc, text, attr.as_str(), &rule.call.segs)?;
+            Ok(missing)
+        }
+    }
+}
+
+fn push_label(
+    alloc: Global,
+    text: &mut String,
+    home: &Package,
+    args: &[Seg<'_>],
+) -> Result<Option<Note>, AllocError>
+    ensures line { OnOk result (string_bytes text.new ≡ string_bytes text.old ++ spec.shown_field (label_in home.now (segs_view args.now))) }
+    ensures missing { IfOk result (λ missing. missing ≡ missing_as (codes "label") (is_some (label_in home.now (segs_view args.now)))) }
+{
+    let Some(name) = read_name(alloc, args)? else {
+        let missing = push_missing(alloc, text, "label")?;
+        return Ok(Some(missing));
+    };
+    push_home(text, home)?;
+    text.push_str(name.as_str())?;
+    Ok(None)
+}
+
+fn push_attribute(
+    alloc: Global,
+    text: &mut String,
+    attr: &str,
+    args: &[Seg<'_>],
+) -> Result<Option<Note>, AllocError>
+    ensures line { OnOk result (string_bytes text.new ≡ string_bytes text.old ++ spec.shown_field (attribute_in attr.now (segs_view args.now))) }
+    ensures missing { IfOk result (λ missing. missing ≡ missing_as attr.now (is_some (attribute_in attr.now (segs_view args.now)))) }
+{
+    let Some(arg) = first_named(args, attr) else {
+        let missing = push_missing(alloc, text, attr)?;
+        return Ok(Some(missing));
+    };
+    push_argument(alloc, text, arg)?;
+    Ok(None)
+}
+
+fn push_missing(alloc: Global, text: &mut String, name: &str) -> Result<Note, AllocError>
+    ensures line { OnOk result (string_bytes text.new ≡ string_bytes text.old ++ codes "(missing)") }
+    ensures note { IfOk result (λ note. note ≡ Missing name.now) }
+{
+    text.push_str("(missing)")?;
+    let name = Text::from_str(alloc, name)?;
+    Ok(Note::Missing(name))
+}
+
+// Writes the value of a named argument.
+fn push_argument(alloc: Global, text: &mut String, arg: &Seg<'_>) -> Result<(), AllocError>
+    ensures { OnOk result (string_bytes text.new ≡ string_bytes text.old ++ spec.value_text (value (seg_view arg.now))) }
+{
+    if arg.nodes.len() < 2 {
+        push_value(alloc, text, &[])?;
+        return Ok(());
+    }
+    push_value(alloc, text, &arg.nodes[2..])?;
+    Ok(())
+}
+
+fn push_value(alloc: Global, text: &mut String, value: &[Node<'_>]) -> Result<(), AllocError>
+    ensures { OnOk result (string_bytes text.new ≡ string_bytes text.old ++ spec.value_text (nodes_view value.now)) }
+{
+    match read_string(alloc, value)? {
+        Some(word) => push_word(alloc, text, word.as_str())?,
+        None => push_list(alloc, text, value)?,
+    }
+    Ok(())
+}
+
+fn read_string(alloc: Global, nodes: &[Node<'_>]) -> Result<Option<String>, AllocError>
+    ensures { IfOk result (λ value. option_map (λ text. string_bytes text) value ≡ string_value (nodes_view nodes.now)) }
+{
+    let Some(literal) = only_text(nodes) else {
+        return Ok(None);
+    };
+    let value = read_value(alloc, literal)?;
+    Ok(value)
+}
+
+fn push_list(alloc: Global, text: &mut String, value: &[Node<'_>]) -> Result<(), AllocError>
+    ensures { OnOk result (string_bytes text.new ≡ string_bytes text.old ++ spec.list_text (nodes_view value.now)) }
+{
+    match words_in(value) {
+        Some(elements) => {
+            text.push('[')?;
+            push_elements(alloc, text, elements)?;
+            text.push(']')?;
+        }
+        None => {
+            let line = flat(alloc, value, Some(GroupKind::RuleCall))?;
+            text.push_str(line.as_str())?;
+        }
+    }
+    Ok(())
+}
+
+// The elements of what is one list of strings with values.
+fn words_in<'n, 'a>(value: &'n [Node<'a>]) -> Option<&'n [Seg<'a>]>
+    ensures none { IfNone result (spec.is_words (nodes_view value.now) ≡ false) }
+    ensures words { IfSome result (λ elements. spec.is_words (nodes_view value.now) ≡ true) }
+    ensures some { IfSome result (λ elements. spec.first_elements (nodes_view value.now) ≡ segs_view elements.now) }
+{
+    match value {
+        [node] => words_at(node),
+        _ => None,
+    }
+}
+
+fn words_at<'n, 'a>(node: &'n Node<'a>) -> Option<&'n [Seg<'a>]>
+    ensures none { IfNone result (spec.is_words (node_view node.now ∷ []) ≡ false) }
+    ensures words { IfSome result (λ elements. spec.is_words (node_view node.now ∷ []) ≡ true) }
+    ensures some { IfSome result (λ elements. spec.first_elements (node_view node.now ∷ []) ≡ segs_view elements.now) }
+{
+    if !is_list(node) {
+        return None;
+    }
+    match node {
+        Node::Token(_) => None,
+        Node::Group(group) => {
+            if !have_strings(&group.segs) {
+                return None;
+            }
+            Some(&group.segs)
+        }
+    }
+}
+
+fn have_strings(elements: &[Seg<'_>]) -> bool
+    ensures { result ≡ list_all spec.has_string (segs_view elements.now) }
+{
+    for element in elements {
+        if !has_string(&element.nodes) {
+            return false;
+        }
+    }
+    true
+}
+
+fn has_string(nodes: &[Node<'_>]) -> bool
+    ensures { result ≡ is_some (string_value (nodes_view nodes.now)) }
+{
+    match only_text(nodes) {
+        None => false,
+        Some(text) => value_of(text).is_some(),
+    }
+}
+
+// Writes strings with a space between them.
+fn push_elements(alloc: Global, text: &mut String, elements: &[Seg<'_>]) -> Result<(), AllocError>
+    ensures { OnOk result (string_bytes text.new ≡ string_bytes text.old ++ spec.spaced (map element_word (segs_view elements.now))) }
+{
+    let [first, others @ ..] = elements else {
+        return Ok(());
+    };
+    push_element(alloc, text, first)?;
+    for element in others {
+        text.push(' ')?;
+        push_element(alloc, text, element)?;
+    }
+    Ok(())
+}
+
+fn push_element(alloc: Global, text: &mut String, element: &Seg<'_>) -> Result<(), AllocError>
+    ensures { OnOk result (string_bytes text.new ≡ string_bytes text.old ++ element_word (seg_view element.now)) }
+{
+    match read_string(alloc, &element.nodes)? {
+        None => Ok(()),
+        Some(word) => push_word(alloc, text, word.as_str()),
+    }
+}
+
+// Writes a value as a word.
+fn push_word(alloc: Global, text: &mut String, word: &str) -> Result<(), AllocError>
+    ensures { OnOk result (string_bytes text.new ≡ string_bytes text.old ++ spec.word_form word.now) }
+{
+    if is_plain(word.as_bytes()) {
+        text.push_str(word)?;
+        return Ok(());
+    }
+    let literal = quote(alloc, word)?;
+    text.push_str(literal.as_str())?;
+    Ok(())
+}
+
+fn is_plain(word: &[u8]) -> bool
+    ensures { result ≡ spec.is_plain word.now }
+{
+    if word.len() == 0 {
+        return false;
+    }
+    for b in word {
+        if *b == b'"' || *b <= b' ' {
+            return false;
+        }
+    }
+    true
+}
+
+fn push_number(alloc: Global, text: &mut String, number: u64) -> Result<(), AllocError>
+    ensures { OnOk result (string_bytes text.new ≡ string_bytes text.old ++ decimal number) }
+{
+    let digits = number.to_string(alloc)?;
+    text.push_str(digits.as_str())?;
+    Ok(())
+}

@@ -1,0 +1,107 @@
+//! `set kind`: other tokens before the call of a rule.
+
+ghost use Rattle.std.specs.Prelude.{◌≡◌, ◌-◌, ◌++◌, ◌∷◌, [], None, false, length, drop, option_map, IfOk, IsOk, OnOk, OnErr};
+ghost use Rattle.bz_tree.specs.Tree.{leaf, nowhere};
+ghost use Rattle.bz_tree.specs.View.{node_view, nodes_view, view, slot_view};
+ghost use Rattle.bz_attribute.specs.Rules.{rule_of};
+ghost use Rattle.bz_attribute.specs.Effects.{holds_rule};
+ghost use Rattle.bz_attribute.specs.Applied.{sets_kind_of};
+ghost use Rattle.bz_attribute.specs.Setting as spec;
+
+use bz_attribute::done::Done;
+use bz_attribute::make::token;
+use bz_attribute::marks::is_kind;
+use bz_attribute::rule::rule_of;
+use bz_command::cut;
+use bz_token::Kind;
+use bz_tree::{Node, Stmt};
+use std::alloc::{AllocError, Global};
+
+/// Sets the kind of a rule. Where it is the kind already no memory is taken. An `Err` leaves the slot as it was.
+pub fn set_kind(
+    alloc: Global,
+    kind: &str,
+    slot: &mut Option<Stmt<'_>>,
+) -> Result<Done, AllocError>
+    ensures slot { OnOk result (slot_view slot.new ≡ option_map (spec.with_kind kind.now) (slot_view slot.old)) }
+    ensures done { IfOk result (λ done. done ≡ sets_kind_of kind.now (slot_view slot.old)) }
+    ensures no_rule { holds_rule (slot_view slot.old) ≡ false → IsOk result }
+    ensures unchanged { (sets_kind_of kind.now (slot_view slot.old)).changed ≡ false → IsOk result }
+    ensures err { OnErr result (slot_view slot.new ≡ slot_view slot.old) }
+{
+    match slot {
+        None => Ok(Done::quiet(false)),
+        Some(stmt) => {
+            let done = in_statement(alloc, kind, stmt)?;
+            Ok(done)
+        }
+    }
+}
+
+fn in_statement(alloc: Global, kind: &str, stmt: &mut Stmt<'_>) -> Result<Done, AllocError>
+    ensures stmt { OnOk result (view stmt.new ≡ spec.with_kind kind.now (view stmt.old)) }
+    ensures done { IfOk result (λ done. done ≡ spec.sets_kind kind.now (rule_of (nodes_view stmt.old.nodes.items))) }
+    ensures no_rule { rule_of (nodes_view stmt.old.nodes.items) ≡ None → IsOk result }
+    ensures unchanged { (spec.sets_kind kind.now (rule_of (nodes_view stmt.old.nodes.items))).changed ≡ false → IsOk result }
+    ensures err { OnErr result (view stmt.new ≡ view stmt.old) }
+{
+    let done = in_nodes(alloc, kind, &mut stmt.nodes)?;
+    Ok(done)
+}
+
+fn in_nodes(alloc: Global, kind: &str, nodes: &mut Vec<Node<'_>>) -> Result<Done, AllocError>
+    ensures nodes { OnOk result (nodes_view nodes.new.items ≡ spec.kind_after kind.now (nodes_view nodes.old.items) (rule_of (nodes_view nodes.old.items))) }
+    ensures done { IfOk result (λ done. done ≡ spec.sets_kind kind.now (rule_of (nodes_view nodes.old.items))) }
+    ensures no_rule { rule_of (nodes_view nodes.old.items) ≡ None → IsOk result }
+    ensures unchanged { (spec.sets_kind kind.now (rule_of (nodes_view nodes.old.items))).changed ≡ false → IsOk result }
+    ensures err { OnErr result (nodes_view nodes.new.items ≡ nodes_view nodes.old.items) }
+{
+    let Some(rule) = rule_of(nodes) else {
+        return Ok(Done::quiet(false));
+    };
+    if is_kind(rule.kind, kind) {
+        return Ok(Done::quiet(false));
+    }
+    put_kind(nodes, kind_nodes(alloc, kind)?)?;
+    Ok(Done::quiet(true))
+}
+
+// Puts nodes in place of all but the last. An `Err` leaves all as it was.
+fn put_kind<'a>(nodes: &mut Vec<Node<'a>>, mut kind: Vec<Node<'a>>) -> Result<(), AllocError>
+    ensures nodes { OnOk result (nodes_view nodes.new.items ≡ nodes_view kind.entry.items ++ nodes_view (drop (length nodes.old.items - 1) nodes.old.items)) }
+    ensures err { OnErr result (nodes_view nodes.new.items ≡ nodes_view nodes.old.items) }
+{
+    kind.reserve(1)?;
+    if let Some(call) = nodes.pop() {
+        kind.push_reserved(call);
+    }
+    *nodes = kind;
+    Ok(())
+}
+
+// The tokens of a kind.
+fn kind_nodes<'a>(alloc: Global, kind: &str) -> Result<Vec<Node<'a>>, AllocError>
+    ensures { IfOk result (λ nodes. nodes_view nodes.items ≡ spec.kind_items kind.now) }
+{
+    let mut nodes = Vec::new(alloc);
+    let mut left = kind;
+    while let Some((name, rest)) = cut(left, '.') {
+        push_token(alloc, Kind::Ident, name, &mut nodes)?;
+        push_token(alloc, Kind::Sign, ".", &mut nodes)?;
+        left = rest;
+    }
+    push_token(alloc, Kind::Ident, left, &mut nodes)?;
+    Ok(nodes)
+}
+
+fn push_token(
+    alloc: Global,
+    kind: Kind,
+    text: &str,
+    nodes: &mut Vec<Node<'_>>,
+) -> Result<(), AllocError>
+    ensures { OnOk result (nodes_view nodes.new.items ≡ nodes_view nodes.old.items ++ leaf kind text.now nowhere ∷ []) }
+{
+    nodes.push(token(alloc, kind, text)?)?;
+    Ok(())
+}

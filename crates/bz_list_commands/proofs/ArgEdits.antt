@@ -1,0 +1,46 @@
+-- Arguments that are edited one by one.
+use Rattle.std.proofs.Common.{◌≡◌, ℕ, ◌+◌, ◌<◌, List, [], ◌∷◌, ◌++◌, true, false, not, length, get_or, drop, take, set, map, filter, refl, ap, sym, ◌∙◌, arith, inl, inr, if◌then◌else◌, append_assoc}
+use Rattle.std.proofs.lemmas.Bool.{cases_Bool}
+use Rattle.std.proofs.lemmas.List.{drop_more, take_more_set, drop-set-lt, map-set, get_or-map, length-map}
+use Rattle.bz_tree.specs.declared.stmt.Seg.{Seg}
+use Rattle.bz_tree.specs.View.{seg_view, segs_view}
+use Rattle.bz_tree.specs.Tree.{Segment}
+use Rattle.bz_attribute.specs.Rules.{value}
+use Rattle.bz_attribute.specs.Lists.{is_attribute}
+use Rattle.bz_attribute.specs.Effects.{filtered, filtered_everywhere, loses_all}
+use Rattle.bz_list_commands.specs.EditSteps.{is_lost, edit_attribute}
+
+-- one on: y stands where its like stood
+map_step : (e : Segment → Segment) (xs : List Segment) (i : ℕ) (y d : Segment) → i < length xs → y ≡ e (get_or xs i d) → take (i + 1) (set xs i y) ++ map e (drop (i + 1) (set xs i y)) ≡ take i xs ++ map e (drop i xs)
+map_step e xs i y d h made =
+    let front = take_more_set xs i y h in
+    let behind : drop (i + 1) (set xs i y) ≡ drop (i + 1) xs = drop-set-lt (i + 1) xs i y (omega arith) in
+    let here : drop i xs ≡ get_or xs i d ∷ drop (i + 1) xs = drop_more xs i d h in
+    rw (front, behind, here, append_assoc, made) refl
+
+pub edit_step : (e : Segment → Segment) (ss : List Seg) (i : ℕ) (s d : Seg) → i < length ss → seg_view s ≡ e (seg_view (get_or ss i d))
+    → take (i + 1) (segs_view (set ss i s)) ++ map e (drop (i + 1) (segs_view (set ss i s))) ≡ take i (segs_view ss) ++ map e (drop i (segs_view ss))
+edit_step e ss i s d h made =
+    let long : i < length (segs_view ss) = omega (arith, length-map ss seg_view) in
+    let read : get_or (segs_view ss) i (seg_view d) ≡ seg_view (get_or ss i d) = get_or-map seg_view ss i d (seg_view d) h in
+    rw (map-set seg_view ss i s) (map_step e (segs_view ss) i (seg_view s) (seg_view d) long (made ∙ ap e (sym read)))
+
+-- first those go that lose all, then the others are edited
+kept_one : (f : List Segment → List Segment) (a : Segment) (rest : List Segment) → is_lost f a ≡ false → (if is_attribute a then filtered f a else a ∷ []) ++ rest ≡ edit_attribute f a ∷ rest
+kept_one f a rest h = elim (cases_Bool (is_attribute a)) [
+  | inl is ↦ let stays : loses_all f (value a) ≡ false = rw is at h in rw (is, stays) refl
+  | inr other ↦ rw other refl
+]
+
+lost_one : (f : List Segment → List Segment) (a : Segment) → is_lost f a ≡ true → (if is_attribute a then filtered f a else a ∷ []) ≡ []
+lost_one f a h = elim (cases_Bool (is_attribute a)) [
+  | inl is ↦ let goes : loses_all f (value a) ≡ true = rw is at h in rw (is, goes) refl
+  | inr other ↦ let clash : false ≡ true = rw other at h in cc
+]
+
+pub in_two_steps : (f : List Segment → List Segment) (args : List Segment) → map (edit_attribute f) (filter (λ a. not (is_lost f a)) args) ≡ filtered_everywhere f args
+in_two_steps f [] = refl
+in_two_steps f (a ∷ args) = elim (cases_Bool (is_lost f a)) [
+  | inl is ↦ rw (is, lost_one f a is) (in_two_steps f args)
+  | inr other ↦ rw (other, kept_one f a (filtered_everywhere f args) other) (ap (λ (xs : List Segment). edit_attribute f a ∷ xs) (in_two_steps f args))
+]

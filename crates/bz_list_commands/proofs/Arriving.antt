@@ -1,0 +1,161 @@
+-- Elements that arrive in a list one by one, and two arguments of different names that are edited.
+use Rattle.std.proofs.Common.{◌≡◌, ℕ, ◌+◌, ◌<◌, ◌≤◌, List, [], ◌∷◌, ◌++◌, Bool, true, false, ◌||◌, Option, None, Some, length, get_or, set, take, drop, refl, ap, sym, ◌∙◌, arith, append_assoc, if◌then◌else◌, inl, inr, bytes_eq}
+use Rattle.std.specs.List.{SwappedAt, list_any, list_all}
+use Rattle.std.proofs.lemmas.Bool.{cases_Bool}
+use Rattle.std.proofs.lemmas.List.{drop_more, drop_all, map-append, append-nil}
+use Rattle.std.proofs.lemmas.List.Folds.{list_any-append}
+use Rattle.bz_token.proofs.Classes.{same_bytes}
+use Rattle.bz_tree.specs.declared.stmt.Seg.{Seg}
+use Rattle.bz_tree.specs.Tree.{Item, Segment}
+use Rattle.bz_tree.specs.View.{seg_view, segs_view}
+use Rattle.bz_command.specs.Labels.{Package}
+use Rattle.bz_command.specs.Commands.{Moved}
+use Rattle.bz_attribute.specs.Rules.{elements, is_named, is_text, name_of, first_named, string_value, value}
+use Rattle.bz_attribute.specs.Lists.{with_value, parts, parts_from, is_part, is_plus, is_joint, edit_list, edit_one_from, edit_first_part, edit_parts}
+use Rattle.bz_attribute.specs.Effects.{has, edit_first, filtered, unchosen, loses_all, argument, list_item}
+use Rattle.bz_attribute.specs.Places.{IsFirst}
+use Rattle.bz_attribute.specs.Moving.{arrivals, chosen_of, elements_of, is_among, joined, moved}
+use Rattle.bz_list_commands.proofs.Leaving.{swapped_front, swapped_rest}
+
+pub any-joined : (p : Segment → Bool) (lists : List (List Segment)) → list_any p (joined lists) ≡ list_any (list_any p) lists
+any-joined p [] = refl
+any-joined p (ss ∷ lists) = list_any-append p ss (joined lists) ∙ ap (λ (b : Bool). list_any p ss || b) (any-joined p lists)
+
+-- `now` began as `old`. From i on it is as it was; of the first i those that arrive stand in the first k places.
+pub record Arrived (home : Package) (there : List Segment) (old now : List Seg) (k i : ℕ) : Type 0 where
+  pub behind : k ≤ i
+  pub same : segs_view (take k now) ++ arrivals home (there ++ segs_view (take k now)) (segs_view (drop i now)) ≡ arrivals home there (segs_view old)
+
+pub arrived_start : (home : Package) (there : List Segment) (old : List Seg) → Arrived home there old old 0 0
+arrived_start home there old = record { behind = omega arith; same = ap (λ (zs : List Segment). arrivals home zs (segs_view old)) (append-nil there) }
+
+pub arrived_more : (home : Package) (there : List Segment) (old now zs : List Seg) (k i : ℕ) (x : Seg) → Arrived home there old now k i → i < length now → x ≡ get_or now i x
+    → is_among home (there ++ segs_view (take k now)) (string_value (seg_view x).nodes) ≡ false → SwappedAt now zs k i → Arrived home there old zs (k + 1) (i + 1)
+arrived_more home there old now zs k i x h lt at among s =
+    let front : segs_view (take (k + 1) zs) ≡ segs_view (take k now) ++ seg_view x ∷ [] = ap segs_view (swapped_front now zs k i x h.behind lt at s) ∙ map-append seg_view (take k now) (x ∷ []) in
+    let rest : drop (i + 1) zs ≡ drop (i + 1) now = swapped_rest now zs k i x h.behind s in
+    let here : drop i now ≡ x ∷ drop (i + 1) now = drop_more now i x lt ∙ ap (λ (z : Seg). z ∷ drop (i + 1) now) (sym at) in
+    let first : List Segment = segs_view (take k now) in
+    let one : arrivals home (there ++ first) (seg_view x ∷ segs_view (drop (i + 1) now)) ≡ seg_view x ∷ arrivals home ((there ++ first) ++ seg_view x ∷ []) (segs_view (drop (i + 1) now)) = rw among refl in
+    record {
+      behind = omega (arith, h.behind);
+      same =
+          (λ j. front j ++ arrivals home (there ++ front j) (segs_view (rest j)))
+          ∙ append_assoc first (seg_view x ∷ []) (arrivals home (there ++ (first ++ seg_view x ∷ [])) (segs_view (drop (i + 1) now)))
+          ∙ ap (λ (ys : List Segment). first ++ seg_view x ∷ arrivals home ys (segs_view (drop (i + 1) now))) (sym (append_assoc there first (seg_view x ∷ [])))
+          ∙ ap (λ (ys : List Segment). first ++ ys) (sym one ∙ ap (λ (ys : List Seg). arrivals home (there ++ first) (segs_view ys)) (sym here))
+          ∙ h.same;
+    }
+
+pub arrived_not : (home : Package) (there : List Segment) (old now : List Seg) (k i : ℕ) (x : Seg) → Arrived home there old now k i → i < length now → x ≡ get_or now i x
+    → is_among home (there ++ segs_view (take k now)) (string_value (seg_view x).nodes) ≡ true → Arrived home there old now k (i + 1)
+arrived_not home there old now k i x h lt at among =
+    let here : drop i now ≡ x ∷ drop (i + 1) now = drop_more now i x lt ∙ ap (λ (z : Seg). z ∷ drop (i + 1) now) (sym at) in
+    let first : List Segment = segs_view (take k now) in
+    let one : arrivals home (there ++ first) (seg_view x ∷ segs_view (drop (i + 1) now)) ≡ arrivals home (there ++ first) (segs_view (drop (i + 1) now)) = rw among refl in
+    record {
+      behind = omega (arith, h.behind);
+      same = ap (λ (ys : List Segment). first ++ ys) (sym one ∙ ap (λ (ys : List Seg). arrivals home (there ++ first) (segs_view ys)) (sym here)) ∙ h.same;
+    }
+
+pub arrived_all : (home : Package) (there : List Segment) (old now : List Seg) (k i : ℕ) → Arrived home there old now k i → length now ≤ i → segs_view (take k now) ≡ arrivals home there (segs_view old)
+arrived_all home there old now k i h end =
+    let first : List Segment = segs_view (take k now) in
+    sym (append-nil first) ∙ ap (λ (ys : List Seg). first ++ arrivals home (there ++ first) (segs_view ys)) (sym (drop_all i now end)) ∙ h.same
+
+-- no list part: nothing is edited
+one_stays : (f : List Segment → List Segment) (start : Bool) (xs : List Item) → parts_from start xs ≡ [] → edit_one_from f start xs ≡ xs
+one_stays f start [] h = refl
+one_stays f start (x ∷ xs) h =
+    elim (is_part start x xs) as (λ b. (if b then elements x ∷ [] else []) ++ parts_from (is_plus x) xs ≡ [] → (if b then edit_list f x ∷ xs else x ∷ edit_one_from f (is_plus x) xs) ≡ x ∷ xs)
+    [ true ↦ λ k. absurd cc | false ↦ λ k. ap (λ (ys : List Item). x ∷ ys) (one_stays f (is_plus x) xs k) ] h
+
+pub no_part_stays : (f : List Segment → List Segment) (xs : List Item) → parts xs ≡ [] → edit_first_part f xs ≡ xs
+no_part_stays f xs h =
+    elim (list_all is_joint xs) as (λ b. (if b then parts_from true xs else []) ≡ [] → (if b then edit_one_from f true xs else xs) ≡ xs)
+    [ true ↦ λ k. one_stays f true xs k | false ↦ λ k. refl ] h
+
+-- an argument has one name
+pub text_of_one : (old new : List ℕ) (name : Option (List ℕ)) → bytes_eq old new ≡ false → is_text old name ≡ true → is_text new name ≡ false
+text_of_one old new None other h = absurd cc
+text_of_one old new (Some text) other h = elim (cases_Bool (bytes_eq new text)) [
+  | inl is ↦
+      let clash : true ≡ false = sym h ∙ ap (bytes_eq old) (sym (same_bytes new text is)) ∙ other in
+      absurd cc
+  | inr differs ↦ differs
+]
+
+name_kept : (nodes v : List Item) (old : List ℕ) → is_text old (name_of nodes) ≡ true → name_of (take 2 nodes ++ v) ≡ name_of nodes
+name_kept [] v old h = absurd cc
+name_kept (x ∷ []) v old h = absurd cc
+name_kept (x ∷ y ∷ rest) v old h = refl
+
+-- the argument that an argument becomes has the same name
+kept_has : (old new : List ℕ) (f : List Segment → List Segment) (a : Segment) (rest : List Segment) → bytes_eq old new ≡ false → is_named old a ≡ true → has new (filtered f a ++ rest) ≡ has new rest
+kept_has old new f a rest other is =
+    let name : is_named new (with_value (edit_parts f (value a)) a) ≡ false = ap (is_text new) (name_kept a.nodes (edit_parts f (value a)) old is) ∙ text_of_one old new (name_of a.nodes) other is in
+    elim (loses_all f (value a)) as (λ b. has new ((if b then [] else with_value (edit_parts f (value a)) a ∷ []) ++ rest) ≡ has new rest)
+    [ true ↦ refl | false ↦ rw name refl ]
+
+kept_first : (old new : List ℕ) (f : List Segment → List Segment) (a : Segment) (rest : List Segment) → bytes_eq old new ≡ false → is_named old a ≡ true → first_named new (filtered f a ++ rest) ≡ first_named new rest
+kept_first old new f a rest other is =
+    let name : is_named new (with_value (edit_parts f (value a)) a) ≡ false = ap (is_text new) (name_kept a.nodes (edit_parts f (value a)) old is) ∙ text_of_one old new (name_of a.nodes) other is in
+    elim (loses_all f (value a)) as (λ b. first_named new ((if b then [] else with_value (edit_parts f (value a)) a ∷ []) ++ rest) ≡ first_named new rest)
+    [ true ↦ refl | false ↦ rw name refl ]
+
+pub has_still : (old new : List ℕ) (f : List Segment → List Segment) (args : List Segment) → bytes_eq old new ≡ false → has new (edit_first (is_named old) (filtered f) args) ≡ has new args
+has_still old new f [] other = refl
+has_still old new f (a ∷ args) other = elim (cases_Bool (is_named old a)) [
+  | inl is ↦ rw (is, text_of_one old new (name_of a.nodes) other is) (kept_has old new f a args other is)
+  | inr differs ↦ rw differs (ap (λ (b : Bool). is_named new a || b) (has_still old new f args other))
+]
+
+pub first_still : (old new : List ℕ) (f : List Segment → List Segment) (args : List Segment) → bytes_eq old new ≡ false → first_named new (edit_first (is_named old) (filtered f) args) ≡ first_named new args
+first_still old new f [] other = refl
+first_still old new f (a ∷ args) other = elim (cases_Bool (is_named old a)) [
+  | inl is ↦ rw (is, text_of_one old new (name_of a.nodes) other is) (kept_first old new f a args other is)
+  | inr differs ↦ rw differs (ap (λ (o : Option Segment). if is_named new a then Some a else o) (first_still old new f args other))
+]
+
+none_first : (name : List ℕ) (args : List Segment) → has name args ≡ false → first_named name args ≡ None
+none_first name [] h = refl
+none_first name (a ∷ args) h =
+    elim (is_named name a) as (λ b. b || has name args ≡ false → (if b then Some a else first_named name args) ≡ None)
+    [ true ↦ λ k. absurd cc | false ↦ λ k. none_first name args k ] h
+
+-- the elements that left arrive in a list that is there
+pub moved_to_list : (home : Package) (old new : List ℕ) (chosen : Moved) (args left now ts : List Segment) → bytes_eq old new ≡ false → has new args ≡ true
+    → left ≡ edit_first (is_named old) (filtered (unchosen home chosen)) args → ts ≡ chosen_of home chosen (first_named old args)
+    → now ≡ edit_first (is_named new) (λ a. with_value (edit_first_part (λ there. there ++ arrivals home (elements_of (first_named new left)) ts) (value a)) a ∷ []) left
+    → now ≡ moved home old new chosen args
+moved_to_list home old new chosen args left now ts other there is took made =
+    let has_new : has new (edit_first (is_named old) (filtered (unchosen home chosen)) args) ≡ true = has_still old new (unchosen home chosen) args other ∙ there in
+    let first : first_named new left ≡ first_named new args = ap (first_named new) is ∙ first_still old new (unchosen home chosen) args other in
+    made
+    ∙ (λ j. edit_first (is_named new) (λ a. with_value (edit_first_part (λ there. there ++ arrivals home (elements_of (first j)) (took j)) (value a)) a ∷ []) (is j))
+    ∙ rw has_new refl
+
+-- or in a new attribute
+pub moved_to_new : (home : Package) (old new : List ℕ) (chosen : Moved) (args left now ts : List Segment) → bytes_eq old new ≡ false → has new args ≡ false
+    → left ≡ edit_first (is_named old) (filtered (unchosen home chosen)) args → ts ≡ chosen_of home chosen (first_named old args)
+    → now ≡ left ++ argument new (list_item (arrivals home [] ts) ∷ []) ∷ []
+    → now ≡ moved home old new chosen args
+moved_to_new home old new chosen args left now ts other absent is took made =
+    let has_new : has new (edit_first (is_named old) (filtered (unchosen home chosen)) args) ≡ false = has_still old new (unchosen home chosen) args other ∙ absent in
+    made
+    ∙ (λ j. is j ++ argument new (list_item (arrivals home [] (took j)) ∷ []) ∷ [])
+    ∙ rw (has_new, none_first new args absent) refl
+
+pub any_there : (p : Segment → Bool) (lists : List (List Segment)) (ys : List Segment) → list_any p (joined lists ++ ys) ≡ list_any (list_any p) lists || list_any p ys
+any_there p lists ys = list_any-append p (joined lists) ys ∙ ap (λ (b : Bool). b || list_any p ys) (any-joined p lists)
+
+-- those that arrive are put into the first argument of the name
+pub arrived_in : (home : Package) (attr : List ℕ) (args : List Seg) (i : ℕ) (d e s : Seg) (es later : List Segment) → IsFirst attr args i
+    → later ≡ arrivals home (elements_of (Some (seg_view (get_or args i d)))) es
+    → seg_view s ≡ with_value (edit_first_part (λ there. there ++ later) (value (seg_view (get_or args i e)))) (seg_view (get_or args i e))
+    → segs_view (set args i s) ≡ edit_first (is_named attr) (λ a. with_value (edit_first_part (λ there. there ++ arrivals home (elements_of (first_named attr (segs_view args))) es) (value a)) a ∷ []) (segs_view args)
+arrived_in home attr args i d e s es later first is made =
+    let came : later ≡ arrivals home (elements_of (first_named attr (segs_view args))) es = is ∙ ap (λ (o : Option Segment). arrivals home (elements_of o) es) (sym (first.first d)) in
+    let a : Segment = seg_view (get_or args i e) in
+    first.put (λ a. with_value (edit_first_part (λ there. there ++ arrivals home (elements_of (first_named attr (segs_view args))) es) (value a)) a ∷ []) s e
+    (sym (ap (λ (z : Segment). z ∷ []) (made ∙ ap (λ (ss : List Segment). with_value (edit_first_part (λ there. there ++ ss) (value a)) a) came)))

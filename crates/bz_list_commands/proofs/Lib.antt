@@ -1,0 +1,5 @@
+pub mod ArgEdits
+pub mod Arriving
+pub mod Flags
+pub mod Leaving
+pub mod Pool

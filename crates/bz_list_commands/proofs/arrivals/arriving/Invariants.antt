@@ -1,0 +1,14 @@
+use Rattle.std.proofs.Common.{◌≡◌, ◌++◌, drop}
+use Rattle.bz_tree.specs.View.{segs_view, nodes_view}
+use Rattle.bz_attribute.specs.Lists.{parts}
+use Rattle.bz_command.specs.LabelSetViews.{has}
+use Rattle.bz_attribute.specs.Moving.{joined}
+use Rattle.bz_list_commands.specs.MovingSteps.{flags}
+use Rattle.bz_list_commands.proofs.Flags.{flags_by}
+use Rattle.bz_list_commands.proofs.arrivals.arriving.Given as goal
+
+abbrev pub invariant-loop-i : goal.invariant-loop-i
+invariant-loop-i l = record {
+  home : l.there.home.now ≡ l.home;
+  made : l.arrive.items ++ flags_by l.home (has l.there) (segs_view (drop l.i l.fn.elements)) ≡ flags l.home (joined (parts (nodes_view l.fn.value))) (segs_view l.fn.elements);
+}

@@ -1,0 +1,11 @@
+use Rattle.std.proofs.Common.{◌≡◌, ap, sym, ◌∙◌}
+use Rattle.bz_tree.specs.declared.stmt.Node.{Node}
+use Rattle.bz_tree.specs.View.{node_view, segs_view}
+use Rattle.bz_attribute.specs.Rules.{elements}
+use Rattle.bz_attribute.proofs.Groups.{elements_group}
+use Rattle.bz_list_commands.proofs.arrivals.is_in_list.Goals as goal
+
+pub returns-in-Group : goal.returns-in-Group
+returns-in-Group c =
+    let inside : elements (node_view c.args.node.now) ≡ segs_view c.deref.result.now = ap (λ (z : Node). elements (node_view z)) c.in-Group.is ∙ elements_group c.in-Group.group ∙ ap segs_view (sym c.deref.ensures.value) in
+    rw inside c.is_in.ensures

@@ -1,0 +1,3 @@
+pub mod EditSteps
+pub mod MovingSteps
+pub mod ReplaceSteps

@@ -1,0 +1,24 @@
+-- For private clauses alone: which of the elements that leave arrive.
+use Rattle.std.specs.Prelude.{ℕ, List, [], ◌∷◌, ◌++◌, Bool, true, false, if◌then◌else◌, Option, Some, None}
+use Rattle.bz_tree.specs.Tree.{Segment}
+use Rattle.bz_command.specs.Labels.{Package}
+use Rattle.bz_attribute.specs.Rules.{string_value}
+use Rattle.bz_attribute.specs.Moving.{is_among}
+
+-- for each element whether it arrives, where `there` are the elements of the new list
+abbrev pub flags : Package → List Segment → List Segment → List Bool
+flags home there [] = []
+flags home there (s ∷ ss) =
+    if is_among home there (string_value s.nodes) then false ∷ flags home there ss
+    else true ∷ flags home (there ++ s ∷ []) ss
+
+-- the elements whose flag is set
+abbrev pub flagged : List Bool → List Segment → List Segment
+flagged [] ss = []
+flagged (b ∷ bs) [] = []
+flagged (b ∷ bs) (s ∷ ss) = if b then s ∷ flagged bs ss else flagged bs ss
+
+-- it is a text that passes
+abbrev pub has_value : (List ℕ → Bool) → Option (List ℕ) → Bool
+has_value p None = false
+has_value p (Some text) = p text

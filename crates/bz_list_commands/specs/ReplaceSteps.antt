@@ -1,0 +1,42 @@
+-- For private clauses alone: which elements a replacement changes, and how many new literals it takes.
+use Rattle.std.specs.Prelude.{◌≡◌, ℕ, ◌+◌, List, [], ◌∷◌, Bool, true, if◌then◌else◌, length, map, replicate}
+use Rattle.std.specs.List.{list_all}
+use Rattle.bz_tree.specs.declared.stmt.Seg.{Seg}
+use Rattle.bz_tree.specs.Tree.{Item, Segment}
+use Rattle.bz_tree.specs.View.{segs_view}
+use Rattle.bz_attribute.specs.Rules.{elements, value}
+use Rattle.bz_attribute.specs.Lists.{is_attribute, is_joint, is_part, is_plus}
+use Rattle.bz_attribute.specs.Effects.{string}
+use Rattle.bz_attribute.specs.Replacing.{is_replaced, replaced}
+use Rattle.bz_list_commands.specs.declared.replace.Change.{Change}
+
+abbrev pub goes : Change → Segment → Bool
+goes c = is_replaced c.home.now c.old.now c.new.now
+
+abbrev pub put : Change → List Segment → List Segment
+put c ss = map (replaced c.home.now c.old.now c.new.now) ss
+
+-- how many segments pass
+abbrev pub count : (Segment → Bool) → List Segment → ℕ
+count p [] = 0
+count p (s ∷ ss) = (if p s then 1 else 0) + count p ss
+
+abbrev pub count_from : (Segment → Bool) → Bool → List Item → ℕ
+count_from p start [] = 0
+count_from p start (x ∷ xs) = (if is_part start x xs then count p (elements x) else 0) + count_from p (is_plus x) xs
+
+-- how many elements of the list parts of a value pass
+abbrev pub count_in : (Segment → Bool) → List Item → ℕ
+count_in p nodes = if list_all is_joint nodes then count_from p true nodes else 0
+
+-- of an argument, where it is an attribute
+abbrev pub count_at : (Segment → Bool) → Segment → ℕ
+count_at p a = if is_attribute a then count_in p (value a) else 0
+
+abbrev pub count_everywhere : (Segment → Bool) → List Segment → ℕ
+count_everywhere p [] = 0
+count_everywhere p (a ∷ args) = count_at p a + count_everywhere p args
+
+-- each is a new string of this value
+abbrev pub AreStrings : List ℕ → List Seg → Type 0
+AreStrings v pool = segs_view pool ≡ replicate (length pool) (string v)

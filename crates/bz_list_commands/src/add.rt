@@ -1,0 +1,224 @@
+//! `add`: values that are missing go to the end of a list.
+
+ghost use Rattle.std.specs.Prelude.{◌≡◌, ◌≤◌, ◌++◌, ◌∷◌, [], map, Some, length, if◌then◌else◌, not, true, IfOk, OnOk, OnErr};
+ghost use Rattle.std.specs.List.{list_any};
+ghost use Rattle.bz_tree.specs.View.{node_view, nodes_view, seg_view, segs_view};
+ghost use Rattle.bz_attribute.specs.Rules.{first_named, is_named, value};
+ghost use Rattle.bz_attribute.specs.Lists.{edit_first_part, edit_list, parts, same};
+ghost use Rattle.bz_command.specs.LabelSetViews.{Gains, has};
+ghost use Rattle.bz_attribute.specs.Places.{IsFirstPart};
+ghost use Rattle.bz_attribute.specs.Effects as spec;
+
+use bz_attribute::chosen::{Chosen, is_any_chosen};
+use bz_attribute::done::{Done, Note};
+use bz_attribute::find::find;
+use bz_attribute::list_labels::labels_in;
+use bz_attribute::lists::first_part;
+use bz_attribute::make::{list_argument, string};
+use bz_attribute::word_set::FEW;
+use bz_command::{Bytes, LabelSet, Package, Text, same_label};
+use bz_tree::{Node, Seg};
+use std::alloc::{AllocError, Global};
+
+/// Adds the values that are missing to the first argument of a name, or a new one. An `Err` leaves all as it was.
+pub fn add(
+    alloc: Global,
+    home: &Package,
+    attr: &str,
+    values: &[Text],
+    args: &mut Vec<Seg<'_>>,
+) -> Result<Done, AllocError>
+    ensures args { OnOk result (segs_view args.new.items ≡ spec.add home.now attr.now values.now (segs_view args.old.items)) }
+    ensures done { IfOk result (λ done. done ≡ spec.done (spec.not_a_list attr.now (first_named attr.now (segs_view args.old.items))) (spec.adds home.now values.now (first_named attr.now (segs_view args.old.items)))) }
+    ensures err { OnErr result (segs_view args.new.items ≡ segs_view args.old.items) }
+{
+    if find(args, attr).is_some() {
+        return add_to_first(alloc, home, attr, values, args);
+    }
+    let elements = new_elements(alloc, home, &[], values)?;
+    let arg = list_argument(alloc, attr, elements)?;
+    args.push(arg)?;
+    Ok(Done::quiet(true))
+}
+
+fn add_to_first(
+    alloc: Global,
+    home: &Package,
+    attr: &str,
+    values: &[Text],
+    args: &mut [Seg<'_>],
+) -> Result<Done, AllocError>
+    requires { spec.has attr.now (segs_view args.old) ≡ true }
+    ensures args { OnOk result (segs_view args.new ≡ spec.edit_first (is_named attr.now) (λ a. spec.with_added home.now values.now a ∷ []) (segs_view args.old)) }
+    ensures done { IfOk result (λ done. done ≡ spec.done (spec.not_a_list attr.now (first_named attr.now (segs_view args.old))) (spec.adds home.now values.now (first_named attr.now (segs_view args.old)))) }
+    ensures err { OnErr result (segs_view args.new ≡ segs_view args.old) }
+{
+    let Some(i) = find(args, attr) else {
+        return Ok(Done::quiet(false));
+    };
+    let done = add_in(alloc, home, attr, values, &mut args[i])?;
+    Ok(done)
+}
+
+fn add_in(
+    alloc: Global,
+    home: &Package,
+    attr: &str,
+    values: &[Text],
+    arg: &mut Seg<'_>,
+) -> Result<Done, AllocError>
+    requires { 2 ≤ length arg.old.nodes.items }
+    ensures arg { OnOk result (seg_view arg.new ≡ spec.with_added home.now values.now (seg_view arg.old)) }
+    ensures done { IfOk result (λ done. done ≡ spec.done (spec.not_a_list attr.now (Some (seg_view arg.old))) (spec.adds home.now values.now (Some (seg_view arg.old)))) }
+    ensures err { OnErr result (seg_view arg.new ≡ seg_view arg.old) }
+{
+    let Some(part) = first_part(&arg.nodes[2..]) else {
+        let attr = Text::from_str(alloc, attr)?;
+        return Ok(Done::failure(Note::NotAList(attr)));
+    };
+    let new = new_elements(alloc, home, &arg.nodes[2..], values)?;
+    let changed = !are_none(&new);
+    append_at(&mut arg.nodes[2..], part, new)?;
+    Ok(Done::quiet(changed))
+}
+
+fn are_none(elements: &[Seg<'_>]) -> bool
+    ensures { result ≡ spec.is_nil (segs_view elements.now) }
+{
+    match elements {
+        [] => true,
+        _ => false,
+    }
+}
+
+// The elements for the values that are missing in a value's list parts.
+fn new_elements<'a>(
+    alloc: Global,
+    home: &Package,
+    value: &[Node<'_>],
+    values: &[Text],
+) -> Result<Vec<Seg<'a>>, AllocError>
+    ensures { IfOk result (λ new. segs_view new.items ≡ spec.new_elements home.now (parts (nodes_view value.now)) values.now) }
+{
+    if values.len() <= FEW {
+        return compared(alloc, home, value, values);
+    }
+    looked_up(alloc, home, value, values)
+}
+
+// The same for a few values, each compared with the elements and with the values before it.
+fn compared<'a>(
+    alloc: Global,
+    home: &Package,
+    value: &[Node<'_>],
+    values: &[Text],
+) -> Result<Vec<Seg<'a>>, AllocError>
+    ensures { IfOk result (λ new. segs_view new.items ≡ spec.new_elements home.now (parts (nodes_view value.now)) values.now) }
+{
+    let mut new = Vec::new(alloc);
+    for i in 0..values.len() {
+        push_fresh(
+            alloc,
+            home,
+            value,
+            &values[..i],
+            values[i].as_str(),
+            &mut new,
+        )?;
+    }
+    Ok(new)
+}
+
+fn push_fresh<'a>(
+    alloc: Global,
+    home: &Package,
+    value: &[Node<'_>],
+    earlier: &[Text],
+    word: &str,
+    new: &mut Vec<Seg<'a>>,
+) -> Result<(), AllocError>
+    ensures { OnOk result (segs_view new.new.items ≡ segs_view new.old.items ++ map spec.string (if spec.is_fresh home.now (parts (nodes_view value.now)) earlier.now word.now then word.now ∷ [] else [])) }
+{
+    if is_any_chosen(home, Chosen::Value(word), value) || is_any_same(home, word, earlier) {
+        return Ok(());
+    }
+    new.push(string(alloc, word)?)?;
+    Ok(())
+}
+
+fn is_any_same(home: &Package, word: &str, others: &[Text]) -> bool
+    ensures { result ≡ list_any (same home.now word.now) others.now }
+{
+    for other in others {
+        if same_label(
+            home,
+            Bytes::Plain(word.as_bytes()),
+            Bytes::Plain(other.as_str().as_bytes()),
+        ) {
+            return true;
+        }
+    }
+    false
+}
+
+// The same for many values, each looked up in a set of the elements and of the values before it.
+fn looked_up<'a>(
+    alloc: Global,
+    home: &Package,
+    value: &[Node<'_>],
+    values: &[Text],
+) -> Result<Vec<Seg<'a>>, AllocError>
+    ensures { IfOk result (λ new. segs_view new.items ≡ spec.new_elements home.now (parts (nodes_view value.now)) values.now) }
+{
+    let mut there = labels_in(alloc, home, value)?;
+    let mut new = Vec::new(alloc);
+    for i in 0..values.len() {
+        push_new(alloc, values[i].as_str(), &mut there, &mut new)?;
+    }
+    Ok(new)
+}
+
+// Adds an element for the text, where the set does not have it yet, and the text to the set.
+fn push_new<'t, 'a>(
+    alloc: Global,
+    text: &'t str,
+    there: &mut LabelSet<'t>,
+    new: &mut Vec<Seg<'a>>,
+) -> Result<(), AllocError>
+    ensures new { OnOk result (segs_view new.new.items ≡ segs_view new.old.items ++ map spec.string (if not (has there.old text.now) then text.now ∷ [] else [])) }
+    ensures there { OnOk result (Gains (λ other. same there.old.home.now other text.now) there.old there.new) }
+    ensures home { there.new.home.now ≡ there.old.home.now }
+{
+    if there.insert(Bytes::Plain(text.as_bytes()))? {
+        new.push(string(alloc, text)?)?;
+    }
+    Ok(())
+}
+
+// Adds elements at the end of a list. An `Err` leaves the node as it was.
+fn append_in<'a>(node: &mut Node<'a>, mut new: Vec<Seg<'a>>) -> Result<(), AllocError>
+    ensures ok { OnOk result (node_view node.new ≡ edit_list (λ ss. ss ++ segs_view new.entry.items) (node_view node.old)) }
+    ensures err { OnErr result (node_view node.new ≡ node_view node.old) }
+{
+    match node {
+        Node::Token(_) => Ok(()),
+        Node::Group(group) => {
+            group.segs.append(&mut new)?;
+            Ok(())
+        }
+    }
+}
+
+/// Adds elements at the end of the first list part. An `Err` leaves the value as it was.
+pub fn append_at<'a>(
+    value: &mut [Node<'a>],
+    part: usize,
+    new: Vec<Seg<'a>>,
+) -> Result<(), AllocError>
+    requires { IsFirstPart value.old part }
+    ensures ok { OnOk result (nodes_view value.new ≡ edit_first_part (λ ss. ss ++ segs_view new.entry.items) (nodes_view value.old)) }
+    ensures err { OnErr result (nodes_view value.new ≡ nodes_view value.old) }
+{
+    append_in(&mut value[part], new)?;
+    Ok(())
+}

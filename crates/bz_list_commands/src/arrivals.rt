@@ -1,0 +1,177 @@
+//! Of the elements that leave a list, those that arrive in another: no string arrives that is there already.
+
+ghost use Rattle.std.specs.Prelude.{◌≡◌, ◌≤◌, ◌++◌, length, take, not, IsTrue, IfOk, OnOk};
+ghost use Rattle.std.specs.List.{list_any};
+ghost use Rattle.std.specs.Vec.{vec_len, vec_capacity};
+ghost use Rattle.bz_tree.specs.View.{node_view, nodes_view, seg_view, segs_view};
+ghost use Rattle.bz_attribute.specs.Rules.{elements};
+ghost use Rattle.bz_attribute.specs.Rules as rules;
+ghost use Rattle.bz_attribute.specs.Lists.{equals, parts};
+ghost use Rattle.bz_command.specs.ByteSteps.{left, is_good};
+ghost use Rattle.bz_command.specs.LabelSetViews.{Gains, has};
+ghost use Rattle.bz_attribute.specs.Moving as spec;
+ghost use Rattle.bz_list_commands.specs.MovingSteps.{flags, has_value, flagged};
+
+use bz_attribute::equals::string_of;
+use bz_attribute::list_labels::labels_in;
+use bz_attribute::lists::{are_joints, is_part};
+use bz_attribute::rule::is_sign;
+use bz_attribute::word_set::FEW;
+use bz_command::{Bytes, LabelSet, Package, same_label};
+use bz_tree::{Node, Seg};
+use std::alloc::{AllocError, Global};
+
+/// Drops the strings that are in the list parts of a value, or stand earlier. It cannot fail: memory makes it faster alone.
+pub fn keep_arrivals(
+    alloc: Global,
+    home: &Package,
+    value: &[Node<'_>],
+    elements: &mut Vec<Seg<'_>>,
+)
+    ensures items { segs_view elements.new.items ≡ spec.arrivals home.now (spec.joined (parts (nodes_view value.now))) (segs_view elements.old.items) }
+    ensures shorter { vec_len elements.new ≤ vec_len elements.old }
+    ensures capacity { vec_capacity elements.new ≡ vec_capacity elements.old }
+{
+    let kept = arrivals_first(alloc, home, value, elements);
+    elements.truncate(kept);
+}
+
+// Brings the others to the front and answers how many they are.
+fn arrivals_first(
+    alloc: Global,
+    home: &Package,
+    value: &[Node<'_>],
+    elements: &mut [Seg<'_>],
+) -> usize
+    ensures { take result (segs_view elements.new) ≡ spec.arrivals home.now (spec.joined (parts (nodes_view value.now))) (segs_view elements.old) }
+{
+    if elements.len() <= FEW {
+        return compared_first(home, value, elements);
+    }
+    match arriving(alloc, home, value, elements) {
+        Ok(flags) => flagged_first(&flags, elements),
+        Err(_) => compared_first(home, value, elements),
+    }
+}
+
+// Which of many elements arrive, each looked up in a set of the labels that are there or came before it.
+fn arriving(
+    alloc: Global,
+    home: &Package,
+    value: &[Node<'_>],
+    elements: &[Seg<'_>],
+) -> Result<Vec<bool>, AllocError>
+    ensures { IfOk result (λ arrive. arrive.items ≡ flags home.now (spec.joined (parts (nodes_view value.now))) (segs_view elements.now)) }
+{
+    let mut there = labels_in(alloc, home, value)?;
+    let mut arrive = Vec::with_capacity(alloc, elements.len())?;
+    for i in 0..elements.len() {
+        arrive.push(is_new(&elements[i], &mut there)?)?;
+    }
+    Ok(arrive)
+}
+
+// It is no string that the set has. Its label goes into the set.
+fn is_new<'s>(element: &'s Seg<'_>, there: &mut LabelSet<'s>) -> Result<bool, AllocError>
+    ensures new { IfOk result (λ new. new ≡ not (has_value (has there.old) (rules.string_value (seg_view element.now).nodes))) }
+    ensures there { OnOk result (Gains (λ text. equals there.old.home.now text (seg_view element.now)) there.old there.new) }
+    ensures home { there.new.home.now ≡ there.old.home.now }
+{
+    match string_of(element) {
+        None => Ok(true),
+        Some(value) => {
+            let new = there.insert(value)?;
+            Ok(new)
+        }
+    }
+}
+
+// Brings the elements whose flag is set to the front and answers how many they are.
+fn flagged_first(arrive: &[bool], elements: &mut [Seg<'_>]) -> usize
+    requires { length arrive.now ≡ length elements.old }
+    ensures { take result (segs_view elements.new) ≡ flagged arrive.now (segs_view elements.old) }
+{
+    let mut kept = 0;
+    for i in 0..elements.len() {
+        if arrive[i] {
+            elements.swap(kept, i);
+            kept += 1;
+        }
+    }
+    kept
+}
+
+// Brings those that arrive to the front, each compared with those that are there and with those that arrived before it: for
+// a few elements, or where memory is refused.
+fn compared_first(home: &Package, value: &[Node<'_>], elements: &mut [Seg<'_>]) -> usize
+    ensures { take result (segs_view elements.new) ≡ spec.arrivals home.now (spec.joined (parts (nodes_view value.now))) (segs_view elements.old) }
+{
+    let mut kept = 0;
+    for i in 0..elements.len() {
+        let seen = &elements[..];
+        if !is_among(home, value, &seen[..kept], &seen[i]) {
+            elements.swap(kept, i);
+            kept += 1;
+        }
+    }
+    kept
+}
+
+// It is a string that is the same label as an element of a value's list parts, or one that arrived before.
+fn is_among(home: &Package, value: &[Node<'_>], arrived: &[Seg<'_>], element: &Seg<'_>) -> bool
+    ensures { result ≡ spec.is_among home.now (spec.joined (parts (nodes_view value.now)) ++ segs_view arrived.now) (rules.string_value (seg_view element.now).nodes) }
+{
+    let Some(word) = string_of(element) else {
+        return false;
+    };
+    is_in_value(home, word, value) || is_in(home, word, arrived)
+}
+
+fn is_in_value(home: &Package, word: Bytes<'_>, value: &[Node<'_>]) -> bool
+    requires { IsTrue (is_good word) }
+    ensures { result ≡ list_any (list_any (equals home.now (left word.entry))) (parts (nodes_view value.now)) }
+{
+    if !are_joints(value) {
+        return false;
+    }
+    let mut start = true;
+    for i in 0..value.len() {
+        if is_part(start, value, i) && is_in_list(home, word, &value[i]) {
+            return true;
+        }
+        start = is_sign(&value[i], "+");
+    }
+    false
+}
+
+fn is_in_list(home: &Package, word: Bytes<'_>, node: &Node<'_>) -> bool
+    requires { IsTrue (is_good word) }
+    ensures { result ≡ list_any (equals home.now (left word.entry)) (elements (node_view node.now)) }
+{
+    match node {
+        Node::Token(_) => false,
+        Node::Group(group) => is_in(home, word, &group.segs),
+    }
+}
+
+fn is_in(home: &Package, word: Bytes<'_>, others: &[Seg<'_>]) -> bool
+    requires { IsTrue (is_good word) }
+    ensures { result ≡ list_any (equals home.now (left word.entry)) (segs_view others.now) }
+{
+    for other in others {
+        if is_same(home, word, other) {
+            return true;
+        }
+    }
+    false
+}
+
+fn is_same(home: &Package, word: Bytes<'_>, element: &Seg<'_>) -> bool
+    requires { IsTrue (is_good word) }
+    ensures { result ≡ equals home.now (left word.entry) (seg_view element.now) }
+{
+    let Some(value) = string_of(element) else {
+        return false;
+    };
+    same_label(home, word, value)
+}

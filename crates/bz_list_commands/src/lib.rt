@@ -1,0 +1,9 @@
+//! The commands on elements of lists: `add`, `remove`, `move` and `replace`, over the arguments of one rule.
+#![tactic(auto)]
+
+pub mod add;
+pub mod arrivals;
+pub mod moving;
+pub mod remove;
+pub mod replace;
+pub mod taking;

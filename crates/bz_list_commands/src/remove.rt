@@ -1,0 +1,250 @@
+//! `remove`: attributes go, or elements of them.
+
+ghost use Rattle.std.specs.Prelude.{◌≡◌, None, map, filter, not, IfSome, IfNone, IfOk, OnOk, OnErr, ◌<◌, length, remove};
+ghost use Rattle.std.specs.List.{list_any};
+ghost use Rattle.bz_tree.specs.View.{seg_view, segs_view};
+ghost use Rattle.bz_attribute.specs.Effects as spec;
+ghost use Rattle.bz_command.specs.CommandViews.{attributes_view};
+ghost use Rattle.bz_attribute.specs.ChosenViews.{chosen_view};
+ghost use Rattle.bz_command.specs.Commands.{Values};
+ghost use Rattle.bz_attribute.specs.Rules.{first_named, is_named};
+ghost use Rattle.bz_attribute.specs.Effects.{edit_first};
+ghost use Rattle.bz_list_commands.specs.EditSteps.{is_lost, edit_attribute};
+
+use bz_attribute::chosen::{Chosen, chooses, drop_in, loses_all};
+use bz_attribute::done::Done;
+use bz_attribute::find::find;
+use bz_attribute::lists::is_attribute;
+use bz_attribute::rule::{first_named, is_named};
+use bz_attribute::word_set::{FEW, WordSet, word_set};
+use bz_command::{Attributes, Package, Text};
+use bz_tree::Seg;
+use std::alloc::{AllocError, Global};
+
+/// Drops attributes, or the elements of them that equal a value. An `Err` leaves all as it was.
+pub fn remove(
+    alloc: Global,
+    home: &Package,
+    attributes: &Attributes,
+    values: &[Text],
+    args: &mut Vec<Seg<'_>>,
+) -> Result<Done, AllocError>
+    ensures args { OnOk result (segs_view args.new.items ≡ spec.remove home.now (attributes_view attributes.now) values.now (segs_view args.old.items)) }
+    ensures done { IfOk result (λ done. done ≡ spec.done None (spec.removes home.now (attributes_view attributes.now) values.now (segs_view args.old.items))) }
+    ensures err { OnErr result (segs_view args.new.items ≡ segs_view args.old.items) }
+{
+    match attributes {
+        Attributes::Every => match values {
+            [] => Ok(remove_all(args)),
+            _ => remove_everywhere(alloc, home, values, args),
+        },
+        Attributes::Named(attr) => match values {
+            [] => Ok(remove_attribute(args, attr.as_str())),
+            _ => remove_values(alloc, home, attr.as_str(), values, args),
+        },
+    }
+}
+
+// Drops each argument of the name.
+fn remove_attribute(args: &mut Vec<Seg<'_>>, attr: &str) -> Done
+    ensures args { segs_view args.new.items ≡ spec.remove_attribute attr.now (segs_view args.old.items) }
+    ensures done { result ≡ spec.done None (spec.has attr.now (segs_view args.old.items)) }
+{
+    let changed = find(args, attr).is_some();
+    args.retain(|seg| !is_named(seg, attr));
+    Done::quiet(changed)
+}
+
+// Drops each keyword argument but `name`.
+fn remove_all(args: &mut Vec<Seg<'_>>) -> Done
+    ensures args { segs_view args.new.items ≡ spec.remove_all (segs_view args.old.items) }
+    ensures done { result ≡ spec.done None (list_any spec.goes_with_all (segs_view args.old.items)) }
+{
+    let changed = any_goes(args);
+    args.retain(|seg| !goes_with_all(seg));
+    Done::quiet(changed)
+}
+
+fn any_goes(args: &[Seg<'_>]) -> bool
+    ensures { result ≡ list_any spec.goes_with_all (segs_view args.now) }
+{
+    for arg in args {
+        if goes_with_all(arg) {
+            return true;
+        }
+    }
+    false
+}
+
+fn goes_with_all(arg: &Seg<'_>) -> bool
+    ensures { result ≡ spec.goes_with_all (seg_view arg.now) }
+{
+    is_attribute(arg) && !is_named(arg, "name")
+}
+
+// Drops from the first argument of the name the elements that equal a value, and the argument where none is left.
+fn remove_values(
+    alloc: Global,
+    home: &Package,
+    attr: &str,
+    values: &[Text],
+    args: &mut Vec<Seg<'_>>,
+) -> Result<Done, AllocError>
+    ensures args { OnOk result (segs_view args.new.items ≡ spec.remove_values home.now attr.now values.now (segs_view args.old.items)) }
+    ensures done { IfOk result (λ done. done ≡ spec.done None (spec.chooses_in home.now (Values values.now) (first_named attr.now (segs_view args.old.items)))) }
+    ensures err { OnErr result (segs_view args.new.items ≡ segs_view args.old.items) }
+{
+    if values.len() <= FEW {
+        return Ok(remove_chosen(home, attr, Chosen::Values(values), args));
+    }
+    let Some(_) = find(args, attr) else {
+        return Ok(Done::quiet(false));
+    };
+    let words = word_set(alloc, home, values)?;
+    Ok(remove_many(home, attr, &words, args))
+}
+
+fn remove_many(home: &Package, attr: &str, words: &WordSet<'_>, args: &mut Vec<Seg<'_>>) -> Done
+    ensures args { segs_view args.new.items ≡ spec.remove_values home.now attr.now words.now.words.now (segs_view args.old.items) }
+    ensures done { result ≡ spec.done None (spec.chooses_in home.now (Values words.now.words.now) (first_named attr.now (segs_view args.old.items))) }
+{
+    remove_chosen(home, attr, Chosen::Many(words), args)
+}
+
+fn remove_chosen(home: &Package, attr: &str, chosen: Chosen<'_>, args: &mut Vec<Seg<'_>>) -> Done
+    ensures args { segs_view args.new.items ≡ edit_first (is_named attr.now) (spec.filtered (spec.unchosen home.now (chosen_view chosen.entry))) (segs_view args.old.items) }
+    ensures done { result ≡ spec.done None (spec.chooses_in home.now (chosen_view chosen.entry) (first_named attr.now (segs_view args.old.items))) }
+{
+    let changed = chooses_first(home, attr, chosen, args);
+    drop_from(home, attr, chosen, args);
+    Done::quiet(changed)
+}
+
+/// An element of the first argument of a name is chosen.
+pub fn chooses_first(
+    home: &Package,
+    attr: &str,
+    chosen: Chosen<'_>,
+    args: &[Seg<'_>],
+) -> bool
+    ensures { result ≡ spec.chooses_in home.now (chosen_view chosen.entry) (first_named attr.now (segs_view args.now)) }
+{
+    match first_named(args, attr) {
+        None => false,
+        Some(arg) => chooses(home, chosen, arg),
+    }
+}
+
+/// Drops the chosen elements of the first argument of a name, and the argument where none is left.
+pub fn drop_from(home: &Package, attr: &str, chosen: Chosen<'_>, args: &mut Vec<Seg<'_>>)
+    ensures { segs_view args.new.items ≡ edit_first (is_named attr.now) (spec.filtered (spec.unchosen home.now (chosen_view chosen.entry))) (segs_view args.old.items) }
+{
+    if let Some(i) = drop_in_first(home, attr, chosen, args) {
+        let _ = args.remove(i);
+    }
+}
+
+// Drops them in place, or answers where the argument stands that has to go.
+fn drop_in_first(
+    home: &Package,
+    attr: &str,
+    chosen: Chosen<'_>,
+    args: &mut [Seg<'_>],
+) -> Option<usize>
+    ensures edited { IfNone result (segs_view args.new ≡ edit_first (is_named attr.now) (spec.filtered (spec.unchosen home.now (chosen_view chosen.entry))) (segs_view args.old)) }
+    ensures goes { IfSome result (λ i. (i < length args.new) × (segs_view (remove args.new i) ≡ edit_first (is_named attr.now) (spec.filtered (spec.unchosen home.now (chosen_view chosen.entry))) (segs_view args.old))) }
+{
+    let Some(i) = find(args, attr) else {
+        return None;
+    };
+    if loses_all(home, chosen, &args[i]) {
+        return Some(i);
+    }
+    drop_in(home, chosen, &mut args[i]);
+    None
+}
+
+// Drops the elements that equal a value from each attribute, and each attribute where none is left.
+fn remove_everywhere(
+    alloc: Global,
+    home: &Package,
+    values: &[Text],
+    args: &mut Vec<Seg<'_>>,
+) -> Result<Done, AllocError>
+    ensures args { OnOk result (segs_view args.new.items ≡ spec.filtered_everywhere (spec.unchosen home.now (Values values.now)) (segs_view args.old.items)) }
+    ensures done { IfOk result (λ done. done ≡ spec.done None (spec.chooses_anywhere home.now (Values values.now) (segs_view args.old.items))) }
+    ensures err { OnErr result (segs_view args.new.items ≡ segs_view args.old.items) }
+{
+    if values.len() <= FEW {
+        return Ok(remove_chosen_everywhere(home, Chosen::Values(values), args));
+    }
+    let words = word_set(alloc, home, values)?;
+    Ok(remove_many_everywhere(home, &words, args))
+}
+
+fn remove_many_everywhere(home: &Package, words: &WordSet<'_>, args: &mut Vec<Seg<'_>>) -> Done
+    ensures args { segs_view args.new.items ≡ spec.filtered_everywhere (spec.unchosen home.now (Values words.now.words.now)) (segs_view args.old.items) }
+    ensures done { result ≡ spec.done None (spec.chooses_anywhere home.now (Values words.now.words.now) (segs_view args.old.items)) }
+{
+    remove_chosen_everywhere(home, Chosen::Many(words), args)
+}
+
+fn remove_chosen_everywhere(home: &Package, chosen: Chosen<'_>, args: &mut Vec<Seg<'_>>) -> Done
+    ensures args { segs_view args.new.items ≡ spec.filtered_everywhere (spec.unchosen home.now (chosen_view chosen.entry)) (segs_view args.old.items) }
+    ensures done { result ≡ spec.done None (spec.chooses_anywhere home.now (chosen_view chosen.entry) (segs_view args.old.items)) }
+{
+    let changed = chooses_anywhere(home, chosen, args);
+    drop_lost(home, chosen, args);
+    drop_in_attributes(home, chosen, args);
+    Done::quiet(changed)
+}
+
+// Drops each attribute of which no element would be left.
+fn drop_lost(home: &Package, chosen: Chosen<'_>, args: &mut Vec<Seg<'_>>)
+    ensures { segs_view args.new.items ≡ filter (λ a. not (is_lost (spec.unchosen home.now (chosen_view chosen.entry)) a)) (segs_view args.old.items) }
+{
+    args.retain(|arg| !is_lost(home, chosen, arg));
+}
+
+fn chooses_anywhere(home: &Package, chosen: Chosen<'_>, args: &[Seg<'_>]) -> bool
+    ensures { result ≡ spec.chooses_anywhere home.now (chosen_view chosen.entry) (segs_view args.now) }
+{
+    for arg in args {
+        if is_attribute(arg) && chooses(home, chosen, arg) {
+            return true;
+        }
+    }
+    false
+}
+
+fn is_lost(home: &Package, chosen: Chosen<'_>, arg: &Seg<'_>) -> bool
+    ensures { result ≡ is_lost (spec.unchosen home.now (chosen_view chosen.entry)) (seg_view arg.now) }
+{
+    is_attribute(arg) && loses_all(home, chosen, arg)
+}
+
+fn drop_in_attributes(home: &Package, chosen: Chosen<'_>, args: &mut Vec<Seg<'_>>)
+    ensures { segs_view args.new.items ≡ map (edit_attribute (spec.unchosen home.now (chosen_view chosen.entry))) (segs_view args.old.items) }
+{
+    drop_everywhere(home, chosen, args);
+}
+
+fn drop_everywhere(home: &Package, chosen: Chosen<'_>, args: &mut [Seg<'_>])
+    ensures { segs_view args.new ≡ map (edit_attribute (spec.unchosen home.now (chosen_view chosen.entry))) (segs_view args.old) }
+{
+    for i in 0..args.len() {
+        drop_in_attribute(home, chosen, &mut args[i]);
+    }
+}
+
+fn drop_in_attribute(home: &Package, chosen: Chosen<'_>, arg: &mut Seg<'_>)
+    ensures { seg_view arg.new ≡ edit_attribute (spec.unchosen home.now (chosen_view chosen.entry)) (seg_view arg.old) }
+{
+    if !is_attribute(arg) {
+        return;
+    }
+    if arg.nodes.len() < 2 {
+        return;
+    }
+    drop_in(home, chosen, arg);
+}

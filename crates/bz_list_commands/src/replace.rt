@@ -1,0 +1,326 @@
+//! `replace`: elements that equal a value become another. The new literals are made before the first is put in place.
+
+ghost use Rattle.std.specs.Prelude.{◌≡◌, ◌+◌, ◌≤◌, ◌<◌, None, map, length, get_or, drop, if◌then◌else◌, IfOk, OnOk, OnErr};
+ghost use Rattle.std.specs.List.{list_any};
+ghost use Rattle.bz_tree.specs.View.{node_view, nodes_view, seg_view, segs_view};
+ghost use Rattle.bz_command.specs.CommandViews.{attributes_view};
+ghost use Rattle.bz_command.specs.Commands.{Every, Named};
+ghost use Rattle.bz_attribute.specs.Rules.{elements, is_text, string_value};
+ghost use Rattle.bz_attribute.specs.Lists.{edit_list, edit_parts, is_part};
+ghost use Rattle.bz_attribute.specs.Effects.{done};
+ghost use Rattle.bz_list_commands.specs.EditSteps.{edit_attribute};
+ghost use Rattle.bz_attribute.specs.Replacing as spec;
+ghost use Rattle.bz_list_commands.specs.ReplaceSteps.{AreStrings, count, count_at, count_everywhere, count_from, count_in, goes, put};
+
+use bz_attribute::done::Done;
+use bz_attribute::equals::equals;
+use bz_attribute::find::find;
+use bz_attribute::lists::{are_joints, is_attribute, is_part};
+use bz_attribute::make::string;
+use bz_attribute::rule::{is_sign, only_text};
+use bz_command::{Attributes, Package, has_value};
+use bz_tree::{Node, Seg};
+use std::alloc::{AllocError, Global};
+
+/// The elements that equal `old` and are not exactly `new` become `new`.
+#[derive(Clone, Copy)]
+pub struct Change<'c> {
+    pub home: &'c Package,
+    pub old: &'c str,
+    pub new: &'c str,
+}
+
+/// Replaces elements of the list parts of an attribute, or of all. An `Err` leaves all as it was.
+pub fn replace(
+    alloc: Global,
+    home: &Package,
+    attributes: &Attributes,
+    old: &str,
+    new: &str,
+    args: &mut [Seg<'_>],
+) -> Result<Done, AllocError>
+    ensures args { OnOk result (segs_view args.new ≡ spec.replace home.now (attributes_view attributes.now) old.now new.now (segs_view args.old)) }
+    ensures done { IfOk result (λ d. d ≡ done None (spec.replaces home.now (attributes_view attributes.now) old.now new.now (segs_view args.old))) }
+    ensures err { OnErr result (segs_view args.new ≡ segs_view args.old) }
+{
+    let change = Change { home, old, new };
+    match attributes {
+        Attributes::Every => replace_everywhere(alloc, change, args),
+        Attributes::Named(attr) => replace_in_first(alloc, change, attr.as_str(), args),
+    }
+}
+
+fn replace_in_first(
+    alloc: Global,
+    change: Change<'_>,
+    attr: &str,
+    args: &mut [Seg<'_>],
+) -> Result<Done, AllocError>
+    ensures args { OnOk result (segs_view args.new ≡ spec.replace change.entry.home.now (Named attr.now) change.entry.old.now change.entry.new.now (segs_view args.old)) }
+    ensures done { IfOk result (λ d. d ≡ done None (spec.replaces change.entry.home.now (Named attr.now) change.entry.old.now change.entry.new.now (segs_view args.old))) }
+    ensures err { OnErr result (segs_view args.new ≡ segs_view args.old) }
+{
+    let Some(i) = find(args, attr) else {
+        return Ok(Done::quiet(false));
+    };
+    let done = replace_in(alloc, change, &mut args[i])?;
+    Ok(done)
+}
+
+fn replace_in(alloc: Global, change: Change<'_>, arg: &mut Seg<'_>) -> Result<Done, AllocError>
+    requires { 2 ≤ length arg.old.nodes.items }
+    ensures arg { OnOk result (seg_view arg.new ≡ spec.replaced_in change.entry.home.now change.entry.old.now change.entry.new.now (seg_view arg.old)) }
+    ensures done { IfOk result (λ d. d ≡ done None (spec.replaces_in change.entry.home.now change.entry.old.now change.entry.new.now (seg_view arg.old))) }
+    ensures err { OnErr result (seg_view arg.new ≡ seg_view arg.old) }
+{
+    let mut pool = Vec::new(alloc);
+    make_for_value(alloc, change, &arg.nodes[2..], &mut pool)?;
+    let changed = pool.len() > 0;
+    put_in_value(change, &mut arg.nodes[2..], &mut pool);
+    Ok(Done::quiet(changed))
+}
+
+fn replace_everywhere(
+    alloc: Global,
+    change: Change<'_>,
+    args: &mut [Seg<'_>],
+) -> Result<Done, AllocError>
+    ensures args { OnOk result (segs_view args.new ≡ spec.replace change.entry.home.now Every change.entry.old.now change.entry.new.now (segs_view args.old)) }
+    ensures done { IfOk result (λ d. d ≡ done None (spec.replaces change.entry.home.now Every change.entry.old.now change.entry.new.now (segs_view args.old))) }
+    ensures err { OnErr result (segs_view args.new ≡ segs_view args.old) }
+{
+    let mut pool = Vec::new(alloc);
+    make_for_args(alloc, change, args, &mut pool)?;
+    let changed = pool.len() > 0;
+    put_in_args(change, args, &mut pool);
+    Ok(Done::quiet(changed))
+}
+
+fn is_replaced(change: Change<'_>, element: &Seg<'_>) -> bool
+    ensures { result ≡ goes change.entry (seg_view element.now) }
+{
+    equals(change.home, element, change.old) && !is_exactly(element, change.new)
+}
+
+fn is_exactly(element: &Seg<'_>, word: &str) -> bool
+    ensures { result ≡ is_text word.now (string_value (nodes_view element.now.nodes.items)) }
+{
+    match only_text(&element.nodes) {
+        None => false,
+        Some(text) => has_value(text.as_bytes(), word.as_bytes()),
+    }
+}
+
+// Makes a new string for each element that is replaced in the attributes.
+fn make_for_args<'a>(
+    alloc: Global,
+    change: Change<'_>,
+    args: &[Seg<'_>],
+    pool: &mut Vec<Seg<'a>>,
+) -> Result<(), AllocError>
+    requires { AreStrings change.new.now pool.old.items }
+    ensures strings { OnOk result (AreStrings change.entry.new.now pool.new.items) }
+    ensures count { OnOk result (length pool.new.items ≡ length pool.old.items + count_everywhere (goes change.entry) (segs_view args.now)) }
+{
+    for arg in args {
+        make_for_attribute(alloc, change, arg, pool)?;
+    }
+    Ok(())
+}
+
+fn make_for_attribute<'a>(
+    alloc: Global,
+    change: Change<'_>,
+    arg: &Seg<'_>,
+    pool: &mut Vec<Seg<'a>>,
+) -> Result<(), AllocError>
+    requires { AreStrings change.new.now pool.old.items }
+    ensures strings { OnOk result (AreStrings change.entry.new.now pool.new.items) }
+    ensures count { OnOk result (length pool.new.items ≡ length pool.old.items + count_at (goes change.entry) (seg_view arg.now)) }
+{
+    if !is_attribute(arg) {
+        return Ok(());
+    }
+    if arg.nodes.len() < 2 {
+        return Ok(());
+    }
+    make_for_value(alloc, change, &arg.nodes[2..], pool)
+}
+
+// The same in the list parts of a value.
+fn make_for_value<'a>(
+    alloc: Global,
+    change: Change<'_>,
+    value: &[Node<'_>],
+    pool: &mut Vec<Seg<'a>>,
+) -> Result<(), AllocError>
+    requires { AreStrings change.new.now pool.old.items }
+    ensures strings { OnOk result (AreStrings change.entry.new.now pool.new.items) }
+    ensures count { OnOk result (length pool.new.items ≡ length pool.old.items + count_in (goes change.entry) (nodes_view value.now)) }
+{
+    if !are_joints(value) {
+        return Ok(());
+    }
+    let mut start = true;
+    for i in 0..value.len() {
+        make_at(alloc, change, start, value, i, pool)?;
+        start = is_sign(&value[i], "+");
+    }
+    Ok(())
+}
+
+// The same in the node at `i`, where it is a list part.
+fn make_at<'a>(
+    alloc: Global,
+    change: Change<'_>,
+    start: bool,
+    value: &[Node<'_>],
+    i: usize,
+    pool: &mut Vec<Seg<'a>>,
+) -> Result<(), AllocError>
+    requires strings { AreStrings change.new.now pool.old.items }
+    requires within { i < length value.now }
+    ensures strings { OnOk result (AreStrings change.entry.new.now pool.new.items) }
+    ensures count { (d : _) → OnOk result (length pool.new.items ≡ length pool.old.items + (if is_part start (node_view (get_or value.now i d)) (nodes_view (drop (i + 1) value.now)) then count (goes change.entry) (elements (node_view (get_or value.now i d))) else 0)) }
+{
+    if !is_part(start, value, i) {
+        return Ok(());
+    }
+    make_for_list(alloc, change, &value[i], pool)
+}
+
+fn make_for_list<'a>(
+    alloc: Global,
+    change: Change<'_>,
+    node: &Node<'_>,
+    pool: &mut Vec<Seg<'a>>,
+) -> Result<(), AllocError>
+    requires { AreStrings change.new.now pool.old.items }
+    ensures strings { OnOk result (AreStrings change.entry.new.now pool.new.items) }
+    ensures count { OnOk result (length pool.new.items ≡ length pool.old.items + count (goes change.entry) (elements (node_view node.now))) }
+{
+    match node {
+        Node::Token(_) => Ok(()),
+        Node::Group(group) => make_for_elements(alloc, change, &group.segs, pool),
+    }
+}
+
+fn make_for_elements<'a>(
+    alloc: Global,
+    change: Change<'_>,
+    elements: &[Seg<'_>],
+    pool: &mut Vec<Seg<'a>>,
+) -> Result<(), AllocError>
+    requires { AreStrings change.new.now pool.old.items }
+    ensures strings { OnOk result (AreStrings change.entry.new.now pool.new.items) }
+    ensures count { OnOk result (length pool.new.items ≡ length pool.old.items + count (goes change.entry) (segs_view elements.now)) }
+{
+    for element in elements {
+        make_for(alloc, change, element, pool)?;
+    }
+    Ok(())
+}
+
+fn make_for<'a>(
+    alloc: Global,
+    change: Change<'_>,
+    element: &Seg<'_>,
+    pool: &mut Vec<Seg<'a>>,
+) -> Result<(), AllocError>
+    requires { AreStrings change.new.now pool.old.items }
+    ensures strings { OnOk result (AreStrings change.entry.new.now pool.new.items) }
+    ensures count { OnOk result (length pool.new.items ≡ length pool.old.items + (if goes change.entry (seg_view element.now) then 1 else 0)) }
+{
+    if !is_replaced(change, element) {
+        return Ok(());
+    }
+    pool.push(string(alloc, change.new)?)?;
+    Ok(())
+}
+
+// Puts strings of the pool into the attributes.
+fn put_in_args<'a>(change: Change<'_>, args: &mut [Seg<'a>], pool: &mut Vec<Seg<'a>>)
+    requires strings { AreStrings change.new.now pool.old.items }
+    requires enough { count_everywhere (goes change) (segs_view args.old) ≤ length pool.old.items }
+    ensures { segs_view args.new ≡ map (edit_attribute (put change.entry)) (segs_view args.old) }
+{
+    for i in 0..args.len() {
+        put_in_attribute(change, &mut args[i], pool);
+    }
+}
+
+fn put_in_attribute<'a>(change: Change<'_>, arg: &mut Seg<'a>, pool: &mut Vec<Seg<'a>>)
+    requires strings { AreStrings change.new.now pool.old.items }
+    requires enough { count_at (goes change) (seg_view arg.old) ≤ length pool.old.items }
+    ensures arg { seg_view arg.new ≡ edit_attribute (put change.entry) (seg_view arg.old) }
+    ensures strings { AreStrings change.entry.new.now pool.new.items }
+    ensures left { length pool.new.items + count_at (goes change.entry) (seg_view arg.old) ≡ length pool.old.items }
+{
+    if !is_attribute(arg) {
+        return;
+    }
+    if arg.nodes.len() < 2 {
+        return;
+    }
+    put_in_value(change, &mut arg.nodes[2..], pool);
+}
+
+// The same in the list parts of a value.
+fn put_in_value<'a>(change: Change<'_>, value: &mut [Node<'a>], pool: &mut Vec<Seg<'a>>)
+    requires strings { AreStrings change.new.now pool.old.items }
+    requires enough { count_in (goes change) (nodes_view value.old) ≤ length pool.old.items }
+    ensures value { nodes_view value.new ≡ edit_parts (put change.entry) (nodes_view value.old) }
+    ensures strings { AreStrings change.entry.new.now pool.new.items }
+    ensures left { length pool.new.items + count_in (goes change.entry) (nodes_view value.old) ≡ length pool.old.items }
+{
+    if !are_joints(value) {
+        return;
+    }
+    let mut start = true;
+    for i in 0..value.len() {
+        let next = is_sign(&value[i], "+");
+        if is_part(start, value, i) {
+            put_in_list(change, &mut value[i], pool);
+        }
+        start = next;
+    }
+}
+
+fn put_in_list<'a>(change: Change<'_>, node: &mut Node<'a>, pool: &mut Vec<Seg<'a>>)
+    requires strings { AreStrings change.new.now pool.old.items }
+    requires enough { count (goes change) (elements (node_view node.old)) ≤ length pool.old.items }
+    ensures node { node_view node.new ≡ edit_list (put change.entry) (node_view node.old) }
+    ensures strings { AreStrings change.entry.new.now pool.new.items }
+    ensures left { length pool.new.items + count (goes change.entry) (elements (node_view node.old)) ≡ length pool.old.items }
+{
+    if let Node::Group(group) = node {
+        put_in_elements(change, &mut group.segs, pool);
+    }
+}
+
+fn put_in_elements<'a>(change: Change<'_>, elements: &mut [Seg<'a>], pool: &mut Vec<Seg<'a>>)
+    requires strings { AreStrings change.new.now pool.old.items }
+    requires enough { count (goes change) (segs_view elements.old) ≤ length pool.old.items }
+    ensures elements { segs_view elements.new ≡ put change.entry (segs_view elements.old) }
+    ensures strings { AreStrings change.entry.new.now pool.new.items }
+    ensures left { length pool.new.items + count (goes change.entry) (segs_view elements.old) ≡ length pool.old.items }
+{
+    for i in 0..elements.len() {
+        put_in_element(change, &mut elements[i], pool);
+    }
+}
+
+fn put_in_element<'a>(change: Change<'_>, element: &mut Seg<'a>, pool: &mut Vec<Seg<'a>>)
+    requires strings { AreStrings change.new.now pool.old.items }
+    requires enough { (if goes change (seg_view element.old) then 1 else 0) ≤ length pool.old.items }
+    ensures element { seg_view element.new ≡ spec.replaced change.entry.home.now change.entry.old.now change.entry.new.now (seg_view element.old) }
+    ensures strings { AreStrings change.entry.new.now pool.new.items }
+    ensures left { length pool.new.items + (if goes change.entry (seg_view element.old) then 1 else 0) ≡ length pool.old.items }
+{
+    if !is_replaced(change, element) {
+        return;
+    }
+    if let Some(string) = pool.pop() {
+        element.nodes = string.nodes;
+    }
+}

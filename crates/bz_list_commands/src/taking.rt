@@ -1,0 +1,234 @@
+//! Chosen elements that leave the list parts of an attribute, in order and as they stand.
+
+ghost use Rattle.std.specs.Prelude.{◌≡◌, ◌≤◌, ◌<◌, ◌+◌, ◌++◌, ◌∷◌, [], length, filter, take, remove, IfOk, IfSome, IfNone};
+ghost use Rattle.std.specs.Vec.{vec_len, vec_capacity};
+ghost use Rattle.bz_tree.specs.View.{node_view, nodes_view, seg_view, segs_view};
+ghost use Rattle.bz_attribute.specs.Rules.{elements, first_named, is_named, value};
+ghost use Rattle.bz_attribute.specs.Lists.{edit_list, edit_parts, parts, with_value};
+ghost use Rattle.bz_attribute.specs.ChosenViews.{chosen_view};
+ghost use Rattle.bz_attribute.specs.Effects as spec;
+ghost use Rattle.bz_attribute.specs.Moving.{chosen_of, joined};
+
+use bz_attribute::chosen::{Chosen, is_chosen, loses_all};
+use bz_attribute::find::find;
+use bz_attribute::lists::{are_joints, is_part};
+use bz_attribute::rule::is_sign;
+use bz_command::Package;
+use bz_tree::{Node, Seg};
+use std::alloc::{AllocError, Global};
+use std::mem;
+
+/// How many elements of the first argument of a name are chosen.
+pub fn count_chosen(
+    home: &Package,
+    attr: &str,
+    chosen: Chosen<'_>,
+    args: &[Seg<'_>],
+) -> Result<usize, AllocError>
+    ensures { IfOk result (λ n. n ≡ length (chosen_of home.now (chosen_view chosen.entry) (first_named attr.now (segs_view args.now)))) }
+{
+    let Some(i) = find(args, attr) else {
+        return Ok(0);
+    };
+    count_in_value(home, chosen, &args[i].nodes[2..])
+}
+
+fn count_in_value(
+    home: &Package,
+    chosen: Chosen<'_>,
+    value: &[Node<'_>],
+) -> Result<usize, AllocError>
+    ensures { IfOk result (λ n. n ≡ length (filter (spec.is_chosen home.now (chosen_view chosen.entry)) (joined (parts (nodes_view value.now))))) }
+{
+    if !are_joints(value) {
+        return Ok(0);
+    }
+    let mut count: usize = 0;
+    let mut start = true;
+    for i in 0..value.len() {
+        if is_part(start, value, i) {
+            let Some(sum) = count.checked_add(count_in_list(home, chosen, &value[i])) else {
+                return Err(AllocError);
+            };
+            count = sum;
+        }
+        start = is_sign(&value[i], "+");
+    }
+    Ok(count)
+}
+
+fn count_in_list(home: &Package, chosen: Chosen<'_>, node: &Node<'_>) -> usize
+    ensures { result ≡ length (filter (spec.is_chosen home.now (chosen_view chosen.entry)) (elements (node_view node.now))) }
+{
+    match node {
+        Node::Token(_) => 0,
+        Node::Group(group) => count_elements(home, chosen, &group.segs),
+    }
+}
+
+fn count_elements(home: &Package, chosen: Chosen<'_>, elements: &[Seg<'_>]) -> usize
+    ensures { result ≡ length (filter (spec.is_chosen home.now (chosen_view chosen.entry)) (segs_view elements.now)) }
+{
+    let mut count = 0;
+    for element in elements {
+        if is_chosen(home, chosen, element) {
+            count += 1;
+        }
+    }
+    count
+}
+
+/// Moves the chosen elements of the first argument of a name to the end of `taken`. The argument goes where none is left.
+pub fn take_from<'a>(
+    alloc: Global,
+    home: &Package,
+    attr: &str,
+    chosen: Chosen<'_>,
+    args: &mut Vec<Seg<'a>>,
+    taken: &mut Vec<Seg<'a>>,
+)
+    requires { vec_len taken.old + length (chosen_of home.now (chosen_view chosen) (first_named attr.now (segs_view args.old.items))) ≤ vec_capacity taken.old }
+    ensures left { segs_view args.new.items ≡ spec.edit_first (is_named attr.now) (spec.filtered (spec.unchosen home.now (chosen_view chosen.entry))) (segs_view args.old.items) }
+    ensures taken { segs_view taken.new.items ≡ segs_view taken.old.items ++ chosen_of home.now (chosen_view chosen.entry) (first_named attr.now (segs_view args.old.items)) }
+    ensures capacity { vec_capacity taken.new ≡ vec_capacity taken.old }
+    ensures shorter { vec_len args.new ≤ vec_len args.old }
+    ensures same_capacity { vec_capacity args.new ≡ vec_capacity args.old }
+{
+    if let Some(i) = take_in_first(alloc, home, attr, chosen, args, taken) {
+        let _ = args.remove(i);
+    }
+}
+
+// Moves them, or answers where the argument stands that has to go.
+fn take_in_first<'a>(
+    alloc: Global,
+    home: &Package,
+    attr: &str,
+    chosen: Chosen<'_>,
+    args: &mut [Seg<'a>],
+    taken: &mut Vec<Seg<'a>>,
+) -> Option<usize>
+    requires { vec_len taken.old + length (chosen_of home.now (chosen_view chosen) (first_named attr.now (segs_view args.old))) ≤ vec_capacity taken.old }
+    ensures edited { IfNone result (segs_view args.new ≡ spec.edit_first (is_named attr.now) (spec.filtered (spec.unchosen home.now (chosen_view chosen.entry))) (segs_view args.old)) }
+    ensures goes { IfSome result (λ i. (i < length args.new) × (segs_view (remove args.new i) ≡ spec.edit_first (is_named attr.now) (spec.filtered (spec.unchosen home.now (chosen_view chosen.entry))) (segs_view args.old))) }
+    ensures taken { segs_view taken.new.items ≡ segs_view taken.old.items ++ chosen_of home.now (chosen_view chosen.entry) (first_named attr.now (segs_view args.old)) }
+    ensures capacity { vec_capacity taken.new ≡ vec_capacity taken.old }
+{
+    let Some(i) = find(args, attr) else {
+        return None;
+    };
+    let goes = loses_all(home, chosen, &args[i]);
+    take_in(alloc, home, chosen, &mut args[i], taken);
+    if goes {
+        return Some(i);
+    }
+    None
+}
+
+fn take_in<'a>(
+    alloc: Global,
+    home: &Package,
+    chosen: Chosen<'_>,
+    arg: &mut Seg<'a>,
+    taken: &mut Vec<Seg<'a>>,
+)
+    requires value { 2 ≤ length arg.old.nodes.items }
+    requires room { vec_len taken.old + length (filter (spec.is_chosen home.now (chosen_view chosen)) (joined (parts (value (seg_view arg.old))))) ≤ vec_capacity taken.old }
+    ensures left { seg_view arg.new ≡ with_value (edit_parts (spec.unchosen home.now (chosen_view chosen.entry)) (value (seg_view arg.old))) (seg_view arg.old) }
+    ensures taken { segs_view taken.new.items ≡ segs_view taken.old.items ++ filter (spec.is_chosen home.now (chosen_view chosen.entry)) (joined (parts (value (seg_view arg.old)))) }
+    ensures capacity { vec_capacity taken.new ≡ vec_capacity taken.old }
+{
+    take_in_value(alloc, home, chosen, &mut arg.nodes[2..], taken);
+}
+
+fn take_in_value<'a>(
+    alloc: Global,
+    home: &Package,
+    chosen: Chosen<'_>,
+    value: &mut [Node<'a>],
+    taken: &mut Vec<Seg<'a>>,
+)
+    requires { vec_len taken.old + length (filter (spec.is_chosen home.now (chosen_view chosen)) (joined (parts (nodes_view value.old)))) ≤ vec_capacity taken.old }
+    ensures left { nodes_view value.new ≡ edit_parts (spec.unchosen home.now (chosen_view chosen.entry)) (nodes_view value.old) }
+    ensures taken { segs_view taken.new.items ≡ segs_view taken.old.items ++ filter (spec.is_chosen home.now (chosen_view chosen.entry)) (joined (parts (nodes_view value.old))) }
+    ensures capacity { vec_capacity taken.new ≡ vec_capacity taken.old }
+{
+    if !are_joints(value) {
+        return;
+    }
+    let mut start = true;
+    for i in 0..value.len() {
+        let next = is_sign(&value[i], "+");
+        if is_part(start, value, i) {
+            take_in_list(alloc, home, chosen, &mut value[i], taken);
+        }
+        start = next;
+    }
+}
+
+fn take_in_list<'a>(
+    alloc: Global,
+    home: &Package,
+    chosen: Chosen<'_>,
+    node: &mut Node<'a>,
+    taken: &mut Vec<Seg<'a>>,
+)
+    requires { vec_len taken.old + length (filter (spec.is_chosen home.now (chosen_view chosen)) (elements (node_view node.old))) ≤ vec_capacity taken.old }
+    ensures left { node_view node.new ≡ edit_list (spec.unchosen home.now (chosen_view chosen.entry)) (node_view node.old) }
+    ensures taken { segs_view taken.new.items ≡ segs_view taken.old.items ++ filter (spec.is_chosen home.now (chosen_view chosen.entry)) (elements (node_view node.old)) }
+    ensures capacity { vec_capacity taken.new ≡ vec_capacity taken.old }
+{
+    if let Node::Group(group) = node {
+        take_chosen(alloc, home, chosen, &mut group.segs, taken);
+    }
+}
+
+fn take_chosen<'a>(
+    alloc: Global,
+    home: &Package,
+    chosen: Chosen<'_>,
+    elements: &mut Vec<Seg<'a>>,
+    taken: &mut Vec<Seg<'a>>,
+)
+    requires { vec_len taken.old + length (filter (spec.is_chosen home.now (chosen_view chosen)) (segs_view elements.old.items)) ≤ vec_capacity taken.old }
+    ensures left { segs_view elements.new.items ≡ spec.unchosen home.now (chosen_view chosen.entry) (segs_view elements.old.items) }
+    ensures taken { segs_view taken.new.items ≡ segs_view taken.old.items ++ filter (spec.is_chosen home.now (chosen_view chosen.entry)) (segs_view elements.old.items) }
+    ensures capacity { vec_capacity taken.new ≡ vec_capacity taken.old }
+{
+    let kept = part_elements(alloc, home, chosen, elements, taken);
+    elements.truncate(kept);
+}
+
+// Moves the chosen elements, brings the others to the front and answers how many they are.
+fn part_elements<'a>(
+    alloc: Global,
+    home: &Package,
+    chosen: Chosen<'_>,
+    elements: &mut [Seg<'a>],
+    taken: &mut Vec<Seg<'a>>,
+) -> usize
+    requires { vec_len taken.old + length (filter (spec.is_chosen home.now (chosen_view chosen)) (segs_view elements.old)) ≤ vec_capacity taken.old }
+    ensures left { take result (segs_view elements.new) ≡ spec.unchosen home.now (chosen_view chosen.entry) (segs_view elements.old) }
+    ensures taken { segs_view taken.new.items ≡ segs_view taken.old.items ++ filter (spec.is_chosen home.now (chosen_view chosen.entry)) (segs_view elements.old) }
+    ensures capacity { vec_capacity taken.new ≡ vec_capacity taken.old }
+{
+    let mut kept = 0;
+    for i in 0..elements.len() {
+        if is_chosen(home, chosen, &elements[i]) {
+            taken.push_reserved(mem::replace(&mut elements[i], nothing(alloc)));
+        } else {
+            elements.swap(kept, i);
+            kept += 1;
+        }
+    }
+    kept
+}
+
+// What stands where an element was taken.
+fn nothing<'a>(alloc: Global) -> Seg<'a> {
+    Seg {
+        before: Vec::new(alloc),
+        nodes: Vec::new(alloc),
+        suffix: None,
+    }
+}

@@ -1,6 +1,0 @@
-use Rattle.bz_rule.specs.Lists.{equals}
-use Rattle.bz_rule.proofs.CommentEdits.{NoneYet}
-use Rattle.bz_rule.proofs.effects.comment.part_with.Given as goal
-
-abbrev pub invariant-loop-i : goal.invariant-loop-i
-invariant-loop-i l = NoneYet (equals l.home l.value) l.nodes l.i l.start

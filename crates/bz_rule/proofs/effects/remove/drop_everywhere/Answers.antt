@@ -1,9 +1,0 @@
-use Rattle.std.proofs.Common.{◌∙◌, arith}
-use Rattle.bz_rule.specs.ChosenViews.{chosen_view}
-use Rattle.bz_rule.specs.Effects.{unchosen}
-use Rattle.bz_rule.specs.EditSteps.{edit_attribute}
-use Rattle.bz_rule.proofs.ArgEdits.{edit_step}
-use Rattle.bz_rule.proofs.effects.remove.drop_everywhere.Goals as goal
-
-pub loop-i-preserved : goal.loop-i-preserved
-loop-i-preserved c = edit_step (edit_attribute (unchosen c.args.home.now (chosen_view c.args.chosen))) c.loop-i.args c.loop-i.i c.drop_in_attribute.new.arg c.index-args-i.result (omega (arith, c.loop-i-test.true)) c.drop_in_attribute.ensures ∙ c.loop-i.invariant
