@@ -3,11 +3,11 @@ use Rattle.std.proofs.Common.{◌≡◌, ℕ, ◌==◌, Bool, true, false, ◌||
 use Rattle.std.proofs.lemmas.Bool.{false≢true, eqb-true}
 use Rattle.std.proofs.lemmas.List.{map-append}
 use Rattle.std.proofs.lemmas.List.Folds.{list_any-append}
-use Rattle.buildozer.specs.Groups.{Step}
+use Rattle.bz_script.specs.Groups.{Step}
 use Rattle.buildozer.specs.Handled.{IsStatusOf, is_last, Handled, IsStatusOfAll}
-use Rattle.buildozer.specs.Packages.{by_package}
+use Rattle.bz_script.specs.Packages.{by_package}
 use Rattle.buildozer.specs.Program.{Task, asked_for}
-use Rattle.buildozer.specs.Statuses.{some_is, whole_status}
+use Rattle.bz_script.specs.Statuses.{some_is, whole_status}
 
 abbrev status_from : Bool → Bool → ℕ
 status_from failed changed = if failed then 2 else (if changed then 0 else 3)

@@ -2,11 +2,11 @@
 use Rattle.std.specs.Prelude.{◌≡◌, ◌⊎◌, ℕ, ◌==◌, Bool, true, false, ◌&&◌, not, List, [], ◌∷◌}
 use Rattle.bz_engine.specs.Outcome.{status_of}
 use Rattle.bz_engine.specs.declared.report.Report.{Report}
-use Rattle.buildozer.specs.Groups.{Step}
-use Rattle.buildozer.specs.Packages.{by_package}
+use Rattle.bz_script.specs.Groups.{Step}
+use Rattle.bz_script.specs.Packages.{by_package}
 use Rattle.buildozer.specs.Program.{Task, asked_for}
 use Rattle.buildozer.specs.Runs.{Asked, IsRun}
-use Rattle.buildozer.specs.Statuses.{whole_status}
+use Rattle.bz_script.specs.Statuses.{whole_status}
 
 -- the status is the one of a run of what is asked
 pub record IsRunStatus (asked : Asked) (status : ℕ) : Type 0 where

@@ -4,8 +4,8 @@ use Rattle.bz_engine.specs.Outcome.{Script}
 use Rattle.bz_folder.specs.Files.{Content}
 use Rattle.bz_command.specs.Labels.{Package}
 use Rattle.buildozer.specs.Files as files
-use Rattle.buildozer.specs.Groups.{Step}
-use Rattle.buildozer.specs.Packages.{by_package}
+use Rattle.bz_script.specs.Groups.{Step}
+use Rattle.bz_script.specs.Packages.{by_package}
 use Rattle.buildozer.specs.Runs.{Asked}
 
 -- a package, and the passes that are for it

@@ -5,12 +5,12 @@ ghost use Rattle.bz_folder.specs.Sequence.{SafeRun};
 ghost use Rattle.buildozer.specs.Handled.{IsStatusOfAll};
 ghost use Rattle.buildozer.specs.Program as spec;
 
-use crate::flags::Flags;
-use crate::group::Script;
+use bz_script::flags::Flags;
+use bz_script::group::Script;
 use crate::package::{Devices, FAILED, edit_package};
-use crate::packages::by_package;
+use bz_script::packages::by_package;
 use crate::run::Asked;
-use crate::status::whole_status;
+use bz_script::status::whole_status;
 use bz_engine::{Sink, Source};
 use bz_folder::Folder;
 use std::alloc::{AllocError, Global};

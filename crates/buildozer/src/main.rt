@@ -2,36 +2,29 @@
 #![tactic(auto)]
 
 mod buffered;
-mod command_file;
 mod console;
 mod edit_all;
 mod edit_file;
 mod edit_stream;
 mod file_run;
-mod flags;
-mod group;
-mod help;
-mod inputs;
 mod names;
 mod package;
-mod packages;
 mod run;
 mod start;
-mod status;
-mod usage;
 
 use bz_engine::{FromRead, ToWrite};
 use bz_folder::{Draft, OnDisk};
 use console::Console;
 use edit_all::edit_all;
-use flags::Flags;
-use group::Script;
+use bz_script::flags::Flags;
+use bz_script::group::Script;
 use package::Devices;
 use start::requested;
 use std::alloc::{AllocError, Global};
 use std::process::ExitCode;
 use std::{env, io};
-use usage::{StartFault, UsageFault};
+use bz_script::help;
+use bz_script::usage::{StartFault, UsageFault};
 
 /// The exit status where the words ask for nothing (buildozer README, "Error codes").
 const USAGE: u8 = 1;

@@ -9,7 +9,7 @@ ghost use Rattle.buildozer.specs.Names.{IsBuildPath};
 use crate::console::Console;
 use crate::edit_file::{FileFault, edit_file};
 use crate::edit_stream::edit_stream;
-use crate::flags::Flags;
+use bz_script::flags::Flags;
 use crate::names::BuildFiles;
 use crate::run::Asked;
 use bz_engine::{RunFault, Sink, Source, is_query};

@@ -2,11 +2,11 @@
 
 ghost use Rattle.std.specs.Prelude.{◌≡◌, map, string_bytes, IfOk};
 
-use crate::command_file::read_command_file;
-use crate::flags::{Flags, read_flags};
-use crate::group::{Script, read_group};
-use crate::inputs::check_inputs;
-use crate::usage::{StartFault, UsageFault};
+use bz_script::command_file::read_command_file;
+use bz_script::flags::{Flags, read_flags};
+use bz_script::group::{Script, read_group};
+use bz_script::inputs::check_inputs;
+use bz_script::usage::{StartFault, UsageFault};
 use std::alloc::{AllocError, Global};
 use std::fs::File;
 use std::io;

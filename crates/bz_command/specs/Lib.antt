@@ -10,3 +10,4 @@ pub mod ValueSteps
 pub mod Values
 pub mod WordSteps
 pub mod Words
+pub mod Passes

@@ -1,6 +1,7 @@
 //! Labels, targets and commands: what the words of a command line say. None of it needs a tree.
 //!
-//! The value of a string literal stands here too, since labels are compared by it.
+//! The value of a string literal stands here too, since labels are compared by it; and so does a pass: a target with
+//! its commands.
 #![tactic(auto)]
 
 mod bytes;
@@ -14,6 +15,7 @@ mod list;
 mod names;
 mod package;
 mod parts;
+mod pass;
 mod reader;
 mod sameness;
 mod target;
@@ -28,6 +30,7 @@ pub use labels::{LabelFault, read_label};
 pub use list::{Seq, Text};
 pub use package::Package;
 pub use parts::cut;
+pub use pass::Pass;
 pub use reader::read_command;
 pub use sameness::{same, same_label};
 pub use target::{Marked, Target};

@@ -11,7 +11,7 @@ use Rattle.bz_attribute.specs.Applied.{done_of}
 use Rattle.bz_attribute.specs.declared.done.Note.{Note}
 use Rattle.bz_attribute.specs.declared.done.Note.TheVariants.{Missing, NoAttribute, AttributeExists, NotAList, NoValue}
 use Rattle.bz_engine.specs.declared.entry.Entry.{Entry}
-use Rattle.bz_engine.specs.Passes.{Slot}
+use Rattle.bz_command.specs.Passes.{Slot}
 use Rattle.bz_engine.specs.Exchange.{Kept, IsLeftBy}
 use Rattle.bz_engine.specs.Meaning.{meaning, changes, fails_on, says, line_told, note_told, shown_slot}
 use Rattle.bz_engine.specs.Outcome.{Script, failure_text, first_of, log_alone, fails_at}

@@ -6,7 +6,7 @@ use Rattle.bz_tree.specs.declared.stmt.Class.{Class}
 use Rattle.bz_layout.specs.Layout.{layout_text}
 use Rattle.bz_layout.specs.Gaps.{blank_between}
 use Rattle.bz_command.specs.Labels.{Package}
-use Rattle.bz_engine.specs.Passes.{Slot, slots_after}
+use Rattle.bz_command.specs.Passes.{Slot, slots_after}
 use Rattle.bz_engine.specs.Exchange.{slot_after}
 use Rattle.bz_engine.specs.Meaning.{meaning}
 use Rattle.bz_engine.specs.Outcome.{Script, slots_of, is_query, gap_text, text_behind, shown_text, text_after}

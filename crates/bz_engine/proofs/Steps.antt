@@ -5,7 +5,7 @@ use Rattle.std.proofs.Math.Nat.{suc_inj}
 use Rattle.std.proofs.lemmas.Grind.{common_steps}
 use Rattle.std.proofs.Common.{arith}
 use Rattle.std.proofs.Math.ListN.{set}
-use Rattle.bz_engine.specs.Passes.{Slot, Meaning, Pass, Marked, executed, marked}
+use Rattle.bz_command.specs.Passes.{Slot, Meaning, Pass, Marked, executed, marked}
 use Rattle.bz_engine.specs.Exchange.{Kept, logs_alone, logs_and, slot_after_pass, slot_after, kept_alone, kept_and, Fits, pass_and, pass_alone, no_slot, some_of_commands_alone, some_alone}
 
 -- the element at i is written, and the rest is still to come

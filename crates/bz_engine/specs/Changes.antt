@@ -3,7 +3,7 @@ use Rattle.std.specs.Prelude.{◌≢◌, ◌⊎◌, IsTrue, List, [], ◌∷◌,
 use Rattle.std.specs.List.{list_all}
 use Rattle.bz_command.specs.Labels.{Target}
 use Rattle.bz_command.specs.Commands.{Command, is_command}
-use Rattle.bz_engine.specs.Passes.{Meaning, Slot, Pass, Marked, marked, executed, slots_after_pass}
+use Rattle.bz_command.specs.Passes.{Meaning, Slot, Pass, Marked, marked, executed, slots_after_pass}
 
 abbrev pub CommandsChange : {S T C M : Type 0} → Meaning S T C M → List C → List (Marked S) → Type 0
 CommandsChange m [] xs = ⊥

@@ -6,7 +6,7 @@ use Rattle.bz_engine.specs.declared.edit.Edited.{Edited}
 use Rattle.bz_engine.specs.declared.edit.Edited.TheVariants.{Done, Faulty, Failed}
 use Rattle.bz_engine.specs.declared.report.SyntaxFault.{SyntaxFault}
 use Rattle.bz_engine.specs.File.{Gives}
-use Rattle.bz_engine.specs.Passes.{Slot}
+use Rattle.bz_command.specs.Passes.{Slot}
 use Rattle.bz_engine.specs.Exchange.{IsLeftBy, slot_after}
 use Rattle.bz_engine.specs.Meaning.{meaning, changes, fails_on}
 use Rattle.bz_engine.specs.Outcome.{Script, is_query, text_after, text_behind, fails_at, failures_at, first_of}

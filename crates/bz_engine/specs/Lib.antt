@@ -5,7 +5,6 @@ pub mod Changes
 pub mod Device
 pub mod DeviceLaws
 pub mod Edits
-pub mod Passes
 pub mod Progress
 pub mod SessionValue
 pub mod Exchange

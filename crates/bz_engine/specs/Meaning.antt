@@ -13,7 +13,7 @@ use Rattle.bz_attribute.specs.declared.done.Note.TheVariants.{Missing}
 use Rattle.bz_engine.specs.declared.entry.Entry.{Entry}
 use Rattle.bz_engine.specs.declared.entry.Entry.TheVariants.{Line, Warning, Failure}
 use Rattle.bz_engine.specs.Messages.{not_found_text, note_text}
-use Rattle.bz_engine.specs.Passes.{Meaning, Slot}
+use Rattle.bz_command.specs.Passes.{Meaning, Slot}
 
 -- an empty slot is never marked
 abbrev pub marks_slot : Target → Slot Statement → Bool

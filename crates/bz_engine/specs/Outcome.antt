@@ -14,7 +14,7 @@ use Rattle.bz_engine.specs.declared.report.SyntaxFault.{SyntaxFault}
 use Rattle.bz_engine.specs.declared.report.End.{End}
 use Rattle.bz_engine.specs.declared.report.End.TheVariants.{Whole, Syntax, FirstFailure}
 use Rattle.bz_engine.specs.declared.report.Report.{Report}
-use Rattle.bz_engine.specs.Passes.{Pass, Slot, slots_after, log_of, some_execution, some_missing}
+use Rattle.bz_command.specs.Passes.{Pass, Slot, slots_after, log_of, some_execution, some_missing}
 use Rattle.bz_engine.specs.Exchange.{Kept, kept_alone, some_alone}
 use Rattle.bz_engine.specs.Messages.{fault_text}
 use Rattle.bz_engine.specs.Meaning.{meaning, changes, fails_on}

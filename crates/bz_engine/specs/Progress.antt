@@ -6,7 +6,7 @@ use Rattle.bz_tree.specs.Tree.{Statement}
 use Rattle.bz_tree.specs.declared.stmt.Class.{Class}
 use Rattle.bz_command.specs.Labels.{Package}
 use Rattle.bz_engine.specs.declared.entry.Entry.{Entry}
-use Rattle.bz_engine.specs.Passes.{Slot, slots_after}
+use Rattle.bz_command.specs.Passes.{Slot, slots_after}
 use Rattle.bz_engine.specs.Exchange.{Kept, IsLeftBy, slot_after}
 use Rattle.bz_engine.specs.Meaning.{meaning, changes, fails_on}
 use Rattle.bz_engine.specs.File.{Give}

@@ -17,7 +17,7 @@ use crate::entry::Entry;
 use crate::kept::Kept;
 use crate::language::Facts;
 use crate::log::Log;
-use crate::pass::Pass;
+use bz_command::Pass;
 use crate::progress::Progress;
 use crate::report::SyntaxFault;
 use crate::rules::Rules;

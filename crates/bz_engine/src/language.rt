@@ -1,7 +1,7 @@
 //! What the engine needs of a language of targets and commands.
 
 ghost use Rattle.std.specs.Prelude.{◌≡◌, ◌++◌, Bool, Option, IfOk, OnOk};
-ghost use Rattle.bz_engine.specs.Passes.{Meaning, Slot};
+ghost use Rattle.bz_command.specs.Passes.{Meaning, Slot};
 
 use crate::log::Log;
 use std::alloc::AllocError;

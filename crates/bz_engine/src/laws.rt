@@ -4,7 +4,7 @@ ghost use Rattle.std.specs.Prelude.{◌≡◌, ◌↔◌, List, true};
 ghost use Rattle.bz_tree.specs.Tree.{Statement};
 ghost use Rattle.bz_command.specs.Labels.{Package, Target};
 ghost use Rattle.bz_command.specs.Commands.{Command};
-ghost use Rattle.bz_engine.specs.Passes.{Meaning, Pass, Slot, some_execution};
+ghost use Rattle.bz_command.specs.Passes.{Meaning, Pass, Slot, some_execution};
 ghost use Rattle.bz_engine.specs.Exchange.{Exchange};
 ghost use Rattle.bz_engine.specs.Changes.{AreCommands, Changes};
 ghost use Rattle.bz_engine.specs.Meaning.{meaning, changes};

@@ -7,7 +7,7 @@ ghost use Rattle.bz_engine.specs.Outcome.{IsOutcome, told_by};
 
 use crate::device::{Sink, Source};
 use crate::options::Options;
-use crate::pass::Pass;
+use bz_command::Pass;
 use crate::report::Report;
 use crate::run_fault::RunFault;
 use crate::session::{Session, Step};

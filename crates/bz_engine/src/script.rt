@@ -1,13 +1,13 @@
 //! A whole script on one slot.
 
 ghost use Rattle.std.specs.Prelude.{◌≡◌, ◌++◌, ◌||◌, [], ◌∷◌, List, length, OnOk};
-ghost use Rattle.bz_engine.specs.Passes.{Slot, executed, entries, meets, with_mark, marked};
+ghost use Rattle.bz_command.specs.Passes.{Slot, executed, entries, meets, with_mark, marked};
 ghost use Rattle.bz_engine.specs.Exchange.{Fits, IsLeftBy, slot_after_commands, slot_after_pass, slot_after, logs_alone, logs_and, pass_alone, pass_and, kept_alone, kept_and, some_of_commands_alone, some_alone};
 
 use crate::kept::Kept;
 use crate::language::{Facts, Language};
 use crate::log::Log;
-use crate::pass::Pass;
+use bz_command::Pass;
 use std::alloc::AllocError;
 
 /// One command on a slot that may be marked.

@@ -19,7 +19,7 @@ use crate::entry::Entry;
 use crate::kept::nothing_kept;
 use crate::options::Options;
 use crate::output::write_all;
-use crate::pass::Pass;
+use bz_command::Pass;
 use crate::progress::Progress;
 use crate::report::{End, Report};
 use crate::rules::Rules;

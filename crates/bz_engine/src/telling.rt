@@ -11,7 +11,7 @@ use crate::entry::Entry;
 use crate::kept::{Kept, is_some_not_found, tell};
 use crate::log::Log;
 use crate::message;
-use crate::pass::Pass;
+use bz_command::Pass;
 use crate::report::{End, Report, SyntaxFault};
 use crate::rules::Rules;
 use bz_rule::{Command, Target, Text};

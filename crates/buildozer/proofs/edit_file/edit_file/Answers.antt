@@ -3,7 +3,7 @@ use Rattle.bz_folder.specs.Sequence.{SafeRun}
 use Rattle.buildozer.specs.Files.{MayBe}
 use Rattle.buildozer.specs.declared.file_run.Ended.TheVariants.{Told}
 use Rattle.buildozer.proofs.Edited.{safe_edit, edited_as}
-use Rattle.buildozer.proofs.Loops.{if_ok}
+use Rattle.bz_script.proofs.Loops.{if_ok}
 use Rattle.buildozer.proofs.edit_file.edit_file.Goals as goal
 
 pub returns-in-Told-clause-edited : goal.returns-in-Told-clause-edited

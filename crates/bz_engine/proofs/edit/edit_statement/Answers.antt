@@ -2,7 +2,7 @@ use Rattle.std.proofs.Common.{◌||◌, ◌++◌, ◌∷◌, [], List, ◌∙◌
 use Rattle.std.specs.Prelude.{Some}
 use Rattle.bz_tree.specs.Tree.{Statement}
 use Rattle.bz_tree.specs.View.{view}
-use Rattle.bz_engine.specs.Passes.{Slot}
+use Rattle.bz_command.specs.Passes.{Slot}
 use Rattle.bz_engine.specs.Exchange.{IsLeftBy}
 use Rattle.bz_engine.specs.Meaning.{meaning, changes, fails_on}
 use Rattle.bz_engine.specs.Outcome.{fails_at}

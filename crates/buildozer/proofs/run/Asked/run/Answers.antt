@@ -1,6 +1,6 @@
 use Rattle.std.proofs.Common.{subst}
 use Rattle.buildozer.specs.Runs.{Asked, Ran}
-use Rattle.buildozer.proofs.Loops.{if_ok}
+use Rattle.bz_script.proofs.Loops.{if_ok}
 use Rattle.buildozer.proofs.run.Asked.run.Goals as goal
 
 pub returns-clause-ran : goal.returns-clause-ran

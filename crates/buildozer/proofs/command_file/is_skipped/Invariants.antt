@@ -1,8 +1,0 @@
-use Rattle.std.proofs.Common.{◌≡◌, drop}
-use Rattle.std.specs.Prelude.{not}
-use Rattle.std.specs.List.{find}
-use Rattle.buildozer.specs.CommandFiles.{is_blank}
-use Rattle.buildozer.proofs.command_file.is_skipped.Given as goal
-
-abbrev pub invariant-loop-byte : goal.invariant-loop-byte
-invariant-loop-byte l = find (λ b. not (is_blank b)) (drop l.byte-index l.line) ≡ find (λ b. not (is_blank b)) l.line

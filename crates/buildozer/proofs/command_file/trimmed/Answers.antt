@@ -1,5 +1,0 @@
-use Rattle.buildozer.proofs.Trimming.{trimmed_is}
-use Rattle.buildozer.proofs.command_file.trimmed.Goals as goal
-
-pub returns : goal.returns
-returns c = trimmed_is _ _ c.trim_matches.ensures.matches

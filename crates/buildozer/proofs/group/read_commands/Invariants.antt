@@ -1,6 +1,0 @@
-use Rattle.std.proofs.Common.{◌≡◌, ◌++◌, map, drop}
-use Rattle.buildozer.specs.Groups.{commands_of}
-use Rattle.buildozer.proofs.group.read_commands.Given as goal
-
-abbrev pub invariant-loop-word : goal.invariant-loop-word
-invariant-loop-word l = l.commands.items ++ commands_of (map (λ word. word.now) (drop l.word-index l.words)) ≡ commands_of (map (λ word. word.now) l.words)

@@ -1,0 +1,68 @@
+-- What a group of words asks for: its commands, for each of its targets (buildozer README, "Usage"; the order of faults is this project's rule).
+use Rattle.std.specs.Prelude.{ℕ, ◌+◌, Bool, List, [], ◌∷◌, map, Option, None, Some, Result, Ok, Err}
+use Rattle.std.specs.List.{filter_map}
+use Rattle.std.specs.Option.{is_some}
+use Rattle.bz_command.specs.Passes.{Pass}
+use Rattle.bz_command.specs.Commands.{Command, command_of}
+use Rattle.bz_command.specs.Labels.{Package, Target, label_of}
+use Rattle.bz_command.specs.declared.command.CommandFault.{CommandFault}
+use Rattle.bz_command.specs.declared.labels.LabelFault.{LabelFault}
+use Rattle.bz_script.specs.declared.usage.UsageFault.{UsageFault}
+use Rattle.bz_script.specs.declared.usage.UsageFault.TheVariants as fault
+
+-- a label is a package and a target in it
+abbrev pub Label : Type 0
+Label = Package × Target
+
+-- a pass, and the package that it is for
+abbrev pub Step : Type 0
+Step = Package × Pass Target Command
+
+abbrev pub pass_for : List Command → Label → Step
+pass_for commands (home, target) = (home, record { target = target; commands = commands })
+
+-- A word is a command where its own first word is a command's name, and a label otherwise; here the label, if it is one.
+abbrev pub label_where : ℕ → ℕ → Result (Option Command) CommandFault → Result Label LabelFault → Result (Option Label) UsageFault
+label_where line number (Err why) label = Err (fault.Command line number why)
+label_where line number (Ok (Some command)) label = Ok None
+label_where line number (Ok None) (Err why) = Err (fault.Label line number why)
+label_where line number (Ok None) (Ok label) = Ok (Some label)
+
+abbrev pub label_in : ℕ → ℕ → List ℕ → Result (Option Label) UsageFault
+label_in line number word = label_where line number (command_of word) (label_of word)
+
+abbrev pub label_and : Result (Option Label) UsageFault → Result (List Label) UsageFault → Result (List Label) UsageFault
+label_and (Err why) labels = Err why
+label_and (Ok label) (Err why) = Err why
+label_and (Ok None) (Ok labels) = Ok labels
+label_and (Ok (Some label)) (Ok labels) = Ok (label ∷ labels)
+
+-- the labels among words that are counted from a number, or the fault of the first word that has one
+abbrev pub labels_of : ℕ → ℕ → List (List ℕ) → Result (List Label) UsageFault
+labels_of line number [] = Ok []
+labels_of line number (word ∷ words) = label_and (label_in line number word) (labels_of line (number + 1) words)
+
+abbrev pub if_command : Result (Option Command) CommandFault → Option Command
+if_command (Ok command) = command
+if_command (Err why) = None
+
+abbrev pub command_in : List ℕ → Option Command
+command_in word = if_command (command_of word)
+
+abbrev pub is_command : List ℕ → Bool
+is_command word = is_some (command_in word)
+
+-- the commands among words
+abbrev pub commands_of : List (List ℕ) → List Command
+commands_of words = filter_map command_in words
+
+-- For each target in order one pass with all commands. Faults of words come first, then a missing command, then a missing target.
+abbrev pub steps_from : ℕ → List Command → Result (List Label) UsageFault → Result (List Step) UsageFault
+steps_from line commands (Err why) = Err why
+steps_from line [] (Ok labels) = Err (fault.NoCommand line)
+steps_from line (command ∷ commands) (Ok []) = Err (fault.NoTarget line)
+steps_from line (command ∷ commands) (Ok (label ∷ labels)) = Ok (map (pass_for (command ∷ commands)) (label ∷ labels))
+
+-- the passes that the words of a line ask for
+abbrev pub group_of : ℕ → List (List ℕ) → Result (List Step) UsageFault
+group_of line words = steps_from line (commands_of words) (labels_of line 1 words)
