@@ -134,17 +134,34 @@ fn comment_in(
     ensures done { IfOk result (λ d. d ≡ done (place.note_in home.now attr.now value.now (seg_view arg.old)) true) }
     ensures err { OnErr result (seg_view arg.new ≡ seg_view arg.old) }
 {
-    if first_part(&arg.nodes[2..]).is_none() {
+    let done = comment_in_nodes(alloc, home, attr, value, text, &mut arg.nodes[2..])?;
+    Ok(done)
+}
+
+// The same on the nodes of the argument's value.
+fn comment_in_nodes(
+    alloc: Global,
+    home: &Package,
+    attr: &str,
+    value: &str,
+    text: &str,
+    nodes: &mut [Node<'_>],
+) -> Result<Done, AllocError>
+    ensures nodes { OnOk result (nodes_view nodes.new ≡ place.comment_in_nodes home.now attr.now value.now text.now (nodes_view nodes.old)) }
+    ensures done { IfOk result (λ d. d ≡ done (place.note_in_nodes home.now attr.now value.now (nodes_view nodes.old)) true) }
+    ensures err { OnErr result (nodes_view nodes.new ≡ nodes_view nodes.old) }
+{
+    if first_part(nodes).is_none() {
         let attr = Text::from_str(alloc, attr)?;
         return Ok(Done::failure(Note::NotAList(attr)));
     }
-    let Some(part) = part_with(home, value, &arg.nodes[2..]) else {
+    let Some(part) = part_with(home, value, nodes) else {
         let attr = Text::from_str(alloc, attr)?;
         let value = Text::from_str(alloc, value)?;
         return Ok(Done::failure(Note::NoValue { attr, value }));
     };
     let line = comment_line(alloc, text)?;
-    comment_at(home, value, line, &mut arg.nodes[2..], part)?;
+    comment_at(home, value, line, nodes, part)?;
     Ok(Done::quiet(true))
 }
 

@@ -1,3 +1,4 @@
 pub mod EditSteps
 pub mod MovingSteps
 pub mod ReplaceSteps
+pub mod AddingSteps

@@ -7,6 +7,7 @@ ghost use Rattle.bz_attribute.specs.Rules.{first_named, is_named, value};
 ghost use Rattle.bz_attribute.specs.Lists.{edit_first_part, edit_list, parts, same};
 ghost use Rattle.bz_command.specs.LabelSetViews.{Gains, has};
 ghost use Rattle.bz_attribute.specs.Places.{IsFirstPart};
+ghost use Rattle.bz_list_commands.specs.AddingSteps.{value_with_added, done_in_value};
 ghost use Rattle.bz_attribute.specs.Effects as spec;
 
 use bz_attribute::chosen::{Chosen, is_any_chosen};
@@ -72,13 +73,28 @@ fn add_in(
     ensures done { IfOk result (λ done. done ≡ spec.done (spec.not_a_list attr.now (Some (seg_view arg.old))) (spec.adds home.now values.now (Some (seg_view arg.old)))) }
     ensures err { OnErr result (seg_view arg.new ≡ seg_view arg.old) }
 {
-    let Some(part) = first_part(&arg.nodes[2..]) else {
+    let done = add_in_value(alloc, home, attr, values, &mut arg.nodes[2..])?;
+    Ok(done)
+}
+
+fn add_in_value(
+    alloc: Global,
+    home: &Package,
+    attr: &str,
+    values: &[Text],
+    value: &mut [Node<'_>],
+) -> Result<Done, AllocError>
+    ensures value { OnOk result (nodes_view value.new ≡ value_with_added home.now values.now (nodes_view value.old)) }
+    ensures done { IfOk result (λ done. done ≡ done_in_value home.now attr.now values.now (nodes_view value.old)) }
+    ensures err { OnErr result (nodes_view value.new ≡ nodes_view value.old) }
+{
+    let Some(part) = first_part(value) else {
         let attr = Text::from_str(alloc, attr)?;
         return Ok(Done::failure(Note::NotAList(attr)));
     };
-    let new = new_elements(alloc, home, &arg.nodes[2..], values)?;
+    let new = new_elements(alloc, home, value, values)?;
     let changed = !are_none(&new);
-    append_at(&mut arg.nodes[2..], part, new)?;
+    append_at(value, part, new)?;
     Ok(Done::quiet(changed))
 }
 
