@@ -1,6 +1,6 @@
 -- How far a text has been read.
-use Rattle.std.proofs.Common.{◌≡◌, ℕ, zero, suc, ◌+◌, ◌-◌, ◌<◌, ◌≤◌, ◌==◌, List, [], ◌∷◌, ◌++◌, length, take, drop, get_or, cond, Bool, true, false, not, refl, sym, ap, ap₂, subst, ◌∙◌, arith, inl, inr, IsUtf8, append_assoc, append-nil, length-append, take-append-drop}
-use Rattle.std.specs.Prelude.{count_by, nat_eq, Option, Some, None}
+use Rattle.std.proofs.Common.{◌≡◌, ℕ, zero, suc, ◌+◌, ◌-◌, ◌<◌, ◌≤◌, ◌==◌, ◌&&◌, List, [], ◌∷◌, ◌++◌, length, take, drop, get_or, cond, Bool, true, false, not, refl, sym, ap, ap₂, subst, ◌∙◌, arith, inl, inr, IsUtf8, append_assoc, append-nil, length-append, take-append-drop}
+use Rattle.std.specs.Prelude.{count_by, nat_eq, Option, Some, None, Result, Ok, Err, IfOk, IfErr}
 use Rattle.std.specs.Option.{option_eq}
 use Rattle.std.specs.List.{list_any}
 use Rattle.std.specs.Str.{IsCharBoundary}
@@ -11,9 +11,15 @@ use Rattle.std.proofs.lemmas.Str.{IsCharBoundary-start, IsUtf8-drop}
 use Rattle.bz_token.specs.declared.token.Kind.{Kind}
 use Rattle.bz_token.specs.Places.{Placed, line_at, column_from, column_at}
 use Rattle.bz_token.specs.Lexical.{begins, is_newline, IsToken}
-use Rattle.bz_token.specs.Brackets.{is_inside, is_opening_bracket, is_closing_bracket, fits, open_behind, open_tokens}
+use Rattle.bz_token.specs.Brackets.{is_inside, is_opening_bracket, is_closing_bracket, closes_innermost, fits, open_behind, open_tokens}
 use Rattle.bz_token.specs.Reading.{is_gap, begins_gap, Piece, IsPiece, IsReading, open_after, bytes_of, token_of, tokens_of, AreTokensOf}
-use Rattle.bz_token.specs.Faults.{IsFaultAt, IsOpenBracket}
+use Rattle.bz_token.specs.declared.fault.LexFault.{LexFault}
+use Rattle.bz_token.specs.declared.scan_token.Bad.{Bad}
+use Rattle.bz_token.specs.declared.scan_token.Bad.TheVariants.{Character, Number, OpenText, Backslash}
+use Rattle.bz_token.specs.declared.brackets.Misfit.{Misfit}
+use Rattle.bz_token.specs.declared.brackets.Misfit.TheVariants.{TooDeep, NoMatch}
+use Rattle.bz_token.specs.Faults.{IsFault, IsFaultAt, IsOpenBracket, IsBadCharacter, IsBadNumber, IsOpenText, IsBadBackslash, IsBadBracket, IsTooDeep}
+use Rattle.bz_token.specs.Scans.{IsBadPlace, bad_fault, IsMisfit, misfit_fault, IsLeftOpen}
 use Rattle.bz_token.proofs.Innermost.{step}
 use Rattle.bz_token.proofs.Scanning.{boundary_behind}
 
@@ -284,23 +290,6 @@ all_read first depth bytes tokens opened last gap after line col b done closed =
     let end : gap ++ after ≡ gap = ap (λ r. gap ++ r) done ∙ append-nil gap in
     (b.pieces, gap, subst (λ x. IsReading depth [] b.pieces x bytes) end b.reading, subst (λ o. is_gap (is_inside o) gap ≡ true) empty b.is_gap, empty, b.tokens_are)
 
--- the whole text was read, and a bracket is open
-pub left_open : (first depth : ℕ) (bytes : List ℕ) (tokens : List Placed) (opened : List ℕ) (last : Option ℕ) (gap after : List ℕ) (line col l c : ℕ) (t : Placed) (outer : List Placed) → BehindGap first depth bytes tokens opened last gap after line col → after ≡ []
-    → open_tokens [] tokens ≡ t ∷ outer → l ≡ t.line → c ≡ t.col → IsOpenBracket first depth bytes l c
-left_open first depth bytes tokens opened last gap after line col l c t outer b done found line_is col_is =
-    let end : gap ++ after ≡ gap = ap (λ r. gap ++ r) done ∙ append-nil gap in
-    record {
-      pieces = b.pieces;
-      rest = gap;
-      reading = subst (λ x. IsReading depth [] b.pieces x bytes) end b.reading;
-      is_gap = b.is_gap;
-      bracket = t;
-      outer = outer;
-      opened = ap (open_tokens []) (sym b.tokens_are) ∙ found;
-      line_is = line_is;
-      col_is = col_is;
-    }
-
 pub gap_boundary : (rest : List ℕ) (n : ℕ) → IsUtf8 rest → n ≤ length rest → (0 < n → get_or rest (n - 1) 0 < 128) → IsCharBoundary rest n
 gap_boundary rest zero utf8 within ascii = IsCharBoundary-start rest utf8
 gap_boundary rest (suc n) utf8 within ascii = boundary_behind rest (suc n) (omega arith) within (ascii (omega arith)) utf8
@@ -316,6 +305,49 @@ some_from_test (x ∷ xs) h = omega arith
 pub begins_at : (p : ℕ → Bool) (xs : List ℕ) → 0 < length xs → p (get_or xs 0 0) ≡ true → begins p xs ≡ true
 begins_at p [] some h = absurd (omega arith)
 begins_at p (x ∷ xs) some h = h
+
+pub if_ok : {V E : Type 0} (P Q : V → Type 0) (r : Result V E) → ((v : V) → P v → Q v) → IfOk r P → IfOk r Q
+if_ok P Q (Ok v) f h = f v h
+if_ok P Q (Err e) f h = tt
+
+pub if_err : {V E : Type 0} (P Q : E → Type 0) (r : Result V E) → ((e : E) → P e → Q e) → IfErr r P → IfErr r Q
+if_err P Q (Ok v) f h = tt
+if_err P Q (Err e) f h = f e h
+
+both : (x y : Bool) → x ≡ true → y ≡ false → (x && not y) ≡ true
+both x y p q = rw (p, q) refl
+
+-- the faults that end a reading
+pub bad_at : (first depth : ℕ) (bytes : List ℕ) (tokens : List Placed) (opened : List ℕ) (last : Option ℕ) (gap after : List ℕ) (line col : ℕ) (bad : Bad) → BehindGap first depth bytes tokens opened last gap after line col → IsBadPlace after bad
+    → IsFault first depth bytes (bad_fault bad line col)
+bad_at first depth bytes tokens opened last gap after line col Character b is = fault_at first depth bytes tokens opened last gap after line col (λ opened. IsBadCharacter) b is
+bad_at first depth bytes tokens opened last gap after line col Number b is = fault_at first depth bytes tokens opened last gap after line col (λ opened. IsBadNumber) b is
+bad_at first depth bytes tokens opened last gap after line col OpenText b is = fault_at first depth bytes tokens opened last gap after line col (λ opened. IsOpenText) b is
+bad_at first depth bytes tokens opened last gap after line col Backslash b is = fault_at first depth bytes tokens opened last gap after line col (λ opened. IsBadBackslash) b is
+
+pub misfit_at : (first depth : ℕ) (bytes : List ℕ) (tokens : List Placed) (opened : List ℕ) (last : Option ℕ) (gap after : List ℕ) (line col : ℕ) (misfit : Misfit) → BehindGap first depth bytes tokens opened last gap after line col → 0 < length after → IsMisfit depth opened (get_or after 0 0) misfit
+    → IsFault first depth bytes (misfit_fault misfit line col)
+misfit_at first depth bytes tokens opened last gap after line col TooDeep b some is =
+    fault_at first depth bytes tokens opened last gap after line col (IsTooDeep depth) b (record { bracket = begins_at is_opening_bracket after some is.0; deep = is.1 })
+misfit_at first depth bytes tokens opened last gap after line col NoMatch b some is =
+    fault_at first depth bytes tokens opened last gap after line col IsBadBracket b (begins_at (λ x. is_closing_bracket x && not (closes_innermost opened x)) after some (both _ _ is.0 is.1))
+
+pub left_open : (first depth : ℕ) (bytes : List ℕ) (tokens : List Placed) (opened : List ℕ) (last : Option ℕ) (gap after : List ℕ) (line col : ℕ) (fault : LexFault) → BehindGap first depth bytes tokens opened last gap after line col → after ≡ [] → IsLeftOpen tokens fault
+    → IsFault first depth bytes fault
+left_open first depth bytes tokens opened last gap after line col fault b done (t, outer, found, is) =
+    let end : gap ++ after ≡ gap = ap (λ r. gap ++ r) done ∙ append-nil gap in
+    let told : IsOpenBracket first depth bytes t.line t.col = record {
+      pieces = b.pieces;
+      rest = gap;
+      reading = subst (λ x. IsReading depth [] b.pieces x bytes) end b.reading;
+      is_gap = b.is_gap;
+      bracket = t;
+      outer = outer;
+      opened = ap (open_tokens []) (sym b.tokens_are) ∙ found;
+      line_is = refl;
+      col_is = refl;
+    } in
+    rw is told
 
 pub same_as : (o : Option ℕ) (line : ℕ) → option_eq nat_eq o (Some line) ≡ same_line o line
 same_as None line = refl

@@ -9,7 +9,7 @@ use crate::gap::Place;
 use crate::token::Token;
 
 /// The open brackets, the innermost first, at the end of an array.
-#[derive(Clone, Copy, Debug)]
+#[derive(Clone, Copy)]
 pub struct Brackets {
     bytes: [u8; 255],
     top: usize,
@@ -18,7 +18,7 @@ pub struct Brackets {
 }
 
 /// Why a bracket does not fit.
-#[derive(Clone, Copy, Debug, PartialEq, Eq)]
+#[derive(Clone, Copy)]
 pub enum Misfit {
     TooDeep,
     NoMatch,
@@ -46,8 +46,7 @@ fn is_pair(a: u8, b: u8) -> bool
 }
 
 impl Brackets {
-    ghost use Rattle.bz_token.specs.Scans.{opened};
-    ghost use Rattle.bz_token.specs.declared.brackets.Misfit.TheVariants.{TooDeep, NoMatch};
+    ghost use Rattle.bz_token.specs.Scans.{opened, IsMisfit};
 
     pub fn new() -> Brackets
         ensures { opened result ≡ [] }
@@ -77,8 +76,7 @@ impl Brackets {
     pub fn take(&mut self, b: u8, max_depth: u8) -> Result<(), Misfit>
         ensures fits { OnOk result (bracket_fits max_depth (opened self.old) b ≡ true) }
         ensures opened { OnOk result (opened self.new ≡ open_behind_byte (opened self.old) b) }
-        ensures deep { result ≡ Err TooDeep → (is_opening_bracket b ≡ true) × (max_depth ≤ length (opened self.old)) }
-        ensures mismatch { result ≡ Err NoMatch → (is_closing_bracket b ≡ true) × (closes_innermost (opened self.old) b ≡ false) }
+        ensures misfit { IfErr result (IsMisfit max_depth (opened self.old) b) }
     {
         if is_opening_bracket(b) {
             if 255 - self.top >= usize::from(max_depth) {
@@ -97,7 +95,7 @@ impl Brackets {
 }
 
 /// What a token's text is among brackets.
-#[derive(Clone, Copy, Debug, PartialEq, Eq)]
+#[derive(Clone, Copy)]
 enum Bracket {
     Opening,
     Closing,

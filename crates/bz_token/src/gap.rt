@@ -5,7 +5,7 @@ ghost use Rattle.bz_token.specs.Places.{column_from};
 ghost use Rattle.bz_token.specs.Reading.{is_gap, begins_gap};
 
 /// A place in a text: its line, and its column in bytes from 1.
-#[derive(Clone, Copy, Debug, PartialEq, Eq)]
+#[derive(Clone, Copy)]
 pub struct Place {
     pub line: u64,
     pub col: u64,

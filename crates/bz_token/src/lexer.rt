@@ -7,6 +7,7 @@ ghost use Rattle.bz_token.specs.Brackets.{open_tokens};
 ghost use Rattle.bz_token.specs.Reading.{AreTokensOf};
 ghost use Rattle.bz_token.specs.Faults.{IsFault};
 ghost use Rattle.bz_token.specs.Lexical.{is_newline};
+ghost use Rattle.bz_token.specs.Scans.{bad_fault, misfit_fault, IsLeftOpen};
 
 use crate::brackets::{Brackets, Misfit, innermost};
 use crate::fault::LexFault;
@@ -34,6 +35,41 @@ fn pass(place: Place, text: &[u8], has_newline: bool) -> Place
     }
 }
 
+// The fault of a place where no token stands.
+fn bad_fault(bad: Bad, place: Place) -> LexFault
+    ensures { result ≡ bad_fault bad place.line place.col }
+{
+    let Place { line, col } = place;
+    match bad {
+        Bad::Character => LexFault::BadCharacter { line, col },
+        Bad::Number => LexFault::BadNumber { line, col },
+        Bad::OpenText => LexFault::OpenText { line, col },
+        Bad::Backslash => LexFault::BadBackslash { line, col },
+    }
+}
+
+// The fault of a bracket that does not fit.
+fn misfit_fault(misfit: Misfit, place: Place) -> LexFault
+    ensures { result ≡ misfit_fault misfit place.line place.col }
+{
+    let Place { line, col } = place;
+    match misfit {
+        Misfit::TooDeep => LexFault::TooDeep { line, col },
+        Misfit::NoMatch => LexFault::BadBracket { line, col },
+    }
+}
+
+// The tokens of a text that has ended, where no bracket is open.
+fn closed(tokens: Vec<Token<'_>>) -> Result<Vec<Token<'_>>, LexFault>
+    ensures tokens { IfOk result (λ v. (v.items ≡ tokens.entry.items) × (open_tokens [] (map placed tokens.entry.items) ≡ [])) }
+    ensures fault { IfErr result (IsLeftOpen (map placed tokens.entry.items)) }
+{
+    match innermost(&tokens) {
+        None => Ok(tokens),
+        Some(Place { line, col }) => Err(LexFault::OpenBracket { line, col }),
+    }
+}
+
 /// The tokens of a text, whose first line has this number, with at most so many brackets open at once; else the first
 /// fault from left to right. Tokens are those of the Starlark specification, and comments.
 pub fn tokens<'a>(
@@ -57,25 +93,19 @@ pub fn tokens<'a>(
     loop {
         let (gap, after) = rest.split_at(gap_len(brackets.is_inside(), rest.as_bytes()));
         place = advance(place, gap.as_bytes());
-        let Place { line, col } = place;
         if after.is_empty() {
-            if let Some(Place { line, col }) = innermost(&out) {
-                return Err(LexFault::OpenBracket { line, col });
-            }
-            return Ok(out);
+            return closed(out);
         }
-        let scanned = match scan_token(after.as_bytes()) {
+        let bytes = after.as_bytes();
+        let scanned = match scan_token(bytes) {
             Ok(scanned) => scanned,
-            Err(Bad::Character) => return Err(LexFault::BadCharacter { line, col }),
-            Err(Bad::Number) => return Err(LexFault::BadNumber { line, col }),
-            Err(Bad::OpenText) => return Err(LexFault::OpenText { line, col }),
-            Err(Bad::Backslash) => return Err(LexFault::BadBackslash { line, col }),
+            Err(bad) => return Err(bad_fault(bad, place)),
         };
-        match brackets.take(after.as_bytes()[0], max_depth) {
+        match brackets.take(bytes[0], max_depth) {
             Ok(()) => {}
-            Err(Misfit::TooDeep) => return Err(LexFault::TooDeep { line, col }),
-            Err(Misfit::NoMatch) => return Err(LexFault::BadBracket { line, col }),
+            Err(misfit) => return Err(misfit_fault(misfit, place)),
         }
+        let Place { line, col } = place;
         let (token, behind) = after.split_at(scanned.len);
         out.push(Token {
             kind: scanned.kind,

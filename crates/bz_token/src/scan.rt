@@ -1,11 +1,11 @@
 //! How long the token at the front of some bytes is.
 
-ghost use Rattle.std.specs.Prelude.{◌≡◌, ◌≤◌, ◌<◌, ◌+◌, ◌-◌, ◌++◌, ◌==◌, ◌∷◌, [], ℕ, true, false, not, length, take, drop, slice_index, map, IfOk, IfErr, IfSome, IfNone, IsTrue};
+ghost use Rattle.std.specs.Prelude.{◌≡◌, ◌≤◌, ◌<◌, ◌+◌, ◌-◌, ◌++◌, ◌==◌, ◌∷◌, [], ℕ, true, false, not, length, take, drop, slice_index, map, IfOk, IfErr, IfSome, IfNone, IsTrue, bytes_eq};
 ghost use Rattle.std.specs.Char.{is_ascii_digit, is_ascii_hexdigit};
 ghost use Rattle.std.specs.List.{list_all, list_any, prefix_len};
 ghost use Rattle.bz_token.specs.declared.token.Kind.TheVariants.{Sign};
 ghost use Rattle.bz_token.specs.Ends.{stops_at};
-ghost use Rattle.bz_token.specs.Lexical.{signs, keywords, begins, is_blank, is_word_byte, is_octal_digit, are_based, is_number, is_keyword, is_sign, is_comment, is_newline};
+ghost use Rattle.bz_token.specs.Lexical.{signs, keywords, begins, is_blank, is_word_byte, is_octal_digit, are_based, is_number, is_keyword, is_one_of, is_sign, is_comment, is_newline};
 
 #[inline(always)]
 pub fn is_blank(b: u8) -> bool
@@ -38,13 +38,13 @@ fn is_octal_digit(b: u8) -> bool
 fn are_decimal(bytes: &[u8]) -> bool
     ensures { result ≡ list_all is_ascii_digit bytes.now }
 {
-    bytes.iter().all(|b| b.is_ascii_digit())
+    bytes.iter().all(u8::is_ascii_digit)
 }
 
 fn are_hexadecimal(bytes: &[u8]) -> bool
     ensures { result ≡ list_all is_ascii_hexdigit bytes.now }
 {
-    bytes.iter().all(|b| b.is_ascii_hexdigit())
+    bytes.iter().all(u8::is_ascii_hexdigit)
 }
 
 fn are_octal(bytes: &[u8]) -> bool
@@ -74,27 +74,55 @@ pub fn is_number(bytes: &[u8]) -> bool
     }
 }
 
+#[inline(always)]
+fn are(bytes: &[u8], word: &[u8]) -> bool
+    ensures { result ≡ bytes_eq bytes.now word.now }
+{
+    bytes == word
+}
+
 /// Whether the bytes are a keyword.
-#[tactic(auto, unfolding(crate::specs::Lexical::keywords))]
 #[inline(always)]
 pub fn is_keyword(bytes: &[u8]) -> bool
     ensures { result ≡ is_keyword bytes.now }
 {
-    bytes == b"and".as_slice()
-        || bytes == b"break".as_slice()
-        || bytes == b"continue".as_slice()
-        || bytes == b"def".as_slice()
-        || bytes == b"elif".as_slice()
-        || bytes == b"else".as_slice()
-        || bytes == b"for".as_slice()
-        || bytes == b"if".as_slice()
-        || bytes == b"in".as_slice()
-        || bytes == b"lambda".as_slice()
-        || bytes == b"load".as_slice()
-        || bytes == b"not".as_slice()
-        || bytes == b"or".as_slice()
-        || bytes == b"pass".as_slice()
-        || bytes == b"return".as_slice()
+    is_keyword_to_e(bytes) || is_keyword_to_l(bytes) || is_keyword_to_r(bytes)
+}
+
+#[tactic(auto, unfolding(crate::specs::Lexical::keywords))]
+#[inline(always)]
+fn is_keyword_to_e(bytes: &[u8]) -> bool
+    ensures { result ≡ is_one_of (take 5 keywords) bytes.now }
+{
+    are(bytes, b"and")
+        || are(bytes, b"break")
+        || are(bytes, b"continue")
+        || are(bytes, b"def")
+        || are(bytes, b"elif")
+}
+
+#[tactic(auto, unfolding(crate::specs::Lexical::keywords))]
+#[inline(always)]
+fn is_keyword_to_l(bytes: &[u8]) -> bool
+    ensures { result ≡ is_one_of (take 5 (drop 5 keywords)) bytes.now }
+{
+    are(bytes, b"else")
+        || are(bytes, b"for")
+        || are(bytes, b"if")
+        || are(bytes, b"in")
+        || are(bytes, b"lambda")
+}
+
+#[tactic(auto, unfolding(crate::specs::Lexical::keywords))]
+#[inline(always)]
+fn is_keyword_to_r(bytes: &[u8]) -> bool
+    ensures { result ≡ is_one_of (drop 10 keywords) bytes.now }
+{
+    are(bytes, b"load")
+        || are(bytes, b"not")
+        || are(bytes, b"or")
+        || are(bytes, b"pass")
+        || are(bytes, b"return")
 }
 
 /// The length of the sign that begins with the first of these bytes, or 0.

@@ -6,7 +6,7 @@ ghost use Rattle.bz_token.specs.Lexical.{is_newline, is_quote, is_escaped, escap
 ghost use Rattle.bz_token.specs.declared.scan_string.Escape.TheVariants.{Unescaped};
 
 /// What stands before a byte of a string: nothing that escapes it, a backslash, or a backslash and a carriage return.
-#[derive(Clone, Copy, Debug, PartialEq, Eq)]
+#[derive(Clone, Copy)]
 pub enum Escape {
     Unescaped,
     BehindBackslash,
@@ -14,7 +14,7 @@ pub enum Escape {
 }
 
 /// The quotes of a string.
-#[derive(Clone, Copy, Debug, PartialEq, Eq)]
+#[derive(Clone, Copy)]
 pub struct Quotes {
     pub byte: u8,
     /// Three of them.
@@ -22,14 +22,14 @@ pub struct Quotes {
 }
 
 /// What opens a string: so many prefix letters, and quotes.
-#[derive(Clone, Copy, Debug, PartialEq, Eq)]
+#[derive(Clone, Copy)]
 pub struct Opening {
     pub prefix: usize,
     pub quotes: Quotes,
 }
 
 /// What stands behind a string's opening quotes, up to its closing ones.
-#[derive(Clone, Copy, Debug, PartialEq, Eq)]
+#[derive(Clone, Copy)]
 pub struct Inside {
     pub len: usize,
     pub has_newline: bool,

@@ -10,7 +10,7 @@ use crate::scan_string::{Opening, closing_row, inside_at, opening_at};
 use crate::token::Kind;
 
 /// A token's kind and length.
-#[derive(Clone, Copy, Debug, PartialEq, Eq)]
+#[derive(Clone, Copy)]
 pub struct Scanned {
     pub kind: Kind,
     pub len: usize,
@@ -19,7 +19,7 @@ pub struct Scanned {
 }
 
 /// Why no token stands at a place.
-#[derive(Clone, Copy, Debug, PartialEq, Eq)]
+#[derive(Clone, Copy)]
 pub enum Bad {
     Character,
     Number,

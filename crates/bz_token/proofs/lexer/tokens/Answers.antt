@@ -1,12 +1,11 @@
-use Rattle.std.proofs.Common.{true, false, ◌≡◌, ◌++◌, take, drop, map, is_ok, sym, refl, ap, subst, ◌∙◌, arith, take-append-drop, not, Bool, ◌&&◌}
+use Rattle.std.proofs.Common.{true, false, ◌≡◌, ◌++◌, take, drop, map, is_ok, sym, refl, ap, subst, ◌∙◌, arith, take-append-drop, not}
 use Rattle.std.proofs.ResultArms.{chosen}
 use Rattle.std.proofs.lemmas.Str.{IsUtf8-drop}
 use Rattle.bz_token.specs.Places.{placed}
-use Rattle.bz_token.specs.Brackets.{is_inside, is_opening_bracket, is_closing_bracket, closes_innermost}
-use Rattle.bz_token.specs.Reading.{is_gap, begins_gap}
-use Rattle.bz_token.specs.Faults.{IsBadCharacter, IsBadNumber, IsOpenText, IsBadBackslash, IsBadBracket, IsTooDeep}
+use Rattle.bz_token.specs.Brackets.{is_inside}
+use Rattle.bz_token.specs.Reading.{is_gap, begins_gap, AreTokensOf}
 use Rattle.bz_token.specs.Scans.{opened, IsScanned}
-use Rattle.bz_token.proofs.Progress.{BehindGap, places_fit, behind_gap, behind_token, behind_fits, newlines_split, fault_at, all_read, gap_boundary, empty_from_test, some_from_test, begins_at, same_as}
+use Rattle.bz_token.proofs.Progress.{BehindGap, places_fit, behind_gap, behind_token, behind_fits, newlines_split, bad_at, misfit_at, left_open, if_ok, if_err, all_read, gap_boundary, empty_from_test, some_from_test, same_as}
 use Rattle.bz_token.proofs.Innermost.{map_push}
 use Rattle.bz_token.proofs.Fitting.{token_fits}
 use Rattle.bz_token.proofs.lexer.tokens.Goals as goal
@@ -59,58 +58,40 @@ behind c =
 
 pub returns-then-is_empty-clause-tokens : goal.returns-then-is_empty-clause-tokens
 returns-then-is_empty-clause-tokens c =
-    let closed = rw c.deref.ensures.value at c.in_default.ensures.none in
-    all_read _ _ _ _ _ _ _ _ _ _ (behind (goal.at.returns-then-is_empty-clause-tokens c).After-advance-place) (empty_from_test c.split_at.result.1.now (sym c.if-is_empty.ensures)) closed
+    let b = behind (goal.at.returns-then-is_empty-clause-tokens c).After-advance-place in
+    let done = empty_from_test c.split_at.result.1.now (sym c.if-is_empty.ensures) in
+    if_ok _ _ c.closed.result
+    (λ v h. subst (λ ts. AreTokensOf c.args.first_line c.args.max_depth c.args.text.now (map placed ts)) (sym h.0) (all_read _ _ _ _ _ _ _ _ _ _ b done h.1)) c.closed.ensures.tokens
 
-pub returns-in-Err-Character-clause-fault : goal.returns-in-Err-Character-clause-fault
-returns-in-Err-Character-clause-fault c =
-    let bad = rw c.as_bytes-in-loop-after-2.ensures.value at (rw c.in-Err-Character.field-0-is at c.in-Err-Character.ensures.bad) in
-    fault_at _ _ _ _ _ _ _ _ _ _ (λ opened. IsBadCharacter) (behind (goal.at.returns-in-Err-Character-clause-fault c).After-advance-place) bad
+pub returns-then-is_empty-clause-fault : goal.returns-then-is_empty-clause-fault
+returns-then-is_empty-clause-fault c =
+    let b = behind (goal.at.returns-then-is_empty-clause-fault c).After-advance-place in
+    let done = empty_from_test c.split_at.result.1.now (sym c.if-is_empty.ensures) in
+    if_err _ _ c.closed.result (λ fault h. left_open _ _ _ _ _ _ _ _ _ _ fault b done h) c.closed.ensures.fault
 
-pub returns-in-Err-Number-clause-fault : goal.returns-in-Err-Number-clause-fault
-returns-in-Err-Number-clause-fault c =
-    let bad = rw c.as_bytes-in-loop-after-2.ensures.value at (rw c.in-Err-Number.field-0-is at c.in-Err-Number.ensures.bad) in
-    fault_at _ _ _ _ _ _ _ _ _ _ (λ opened. IsBadNumber) (behind (goal.at.returns-in-Err-Number-clause-fault c).After-advance-place) bad
+pub returns-in-Err-clause-fault : goal.returns-in-Err-clause-fault
+returns-in-Err-clause-fault c =
+    let b = behind (goal.at.returns-in-Err-clause-fault c).After-advance-place in
+    let bad = rw c.as_bytes-bytes.ensures.value at c.in-Err.ensures.bad in
+    rw c.bad_fault.ensures (bad_at _ _ _ _ _ _ _ _ _ _ c.in-Err.bad b bad)
 
-pub returns-in-Err-OpenText-clause-fault : goal.returns-in-Err-OpenText-clause-fault
-returns-in-Err-OpenText-clause-fault c =
-    let bad = rw c.as_bytes-in-loop-after-2.ensures.value at (rw c.in-Err-OpenText.field-0-is at c.in-Err-OpenText.ensures.bad) in
-    fault_at _ _ _ _ _ _ _ _ _ _ (λ opened. IsOpenText) (behind (goal.at.returns-in-Err-OpenText-clause-fault c).After-advance-place) bad
-
-pub returns-in-Err-Backslash-clause-fault : goal.returns-in-Err-Backslash-clause-fault
-returns-in-Err-Backslash-clause-fault c =
-    let bad = rw c.as_bytes-in-loop-after-2.ensures.value at (rw c.in-Err-Backslash.field-0-is at c.in-Err-Backslash.ensures.bad) in
-    fault_at _ _ _ _ _ _ _ _ _ _ (λ opened. IsBadBackslash) (behind (goal.at.returns-in-Err-Backslash-clause-fault c).After-advance-place) bad
-
-pub returns-in-Err-TooDeep-clause-fault : goal.returns-in-Err-TooDeep-clause-fault
-returns-in-Err-TooDeep-clause-fault c =
-    let value = c.as_bytes-in-loop-after-3.ensures.value in
+pub returns-in-Err-take-clause-fault : goal.returns-in-Err-take-clause-fault
+returns-in-Err-take-clause-fault c =
+    let b = behind (goal.at.returns-in-Err-take-clause-fault c).After-advance-place in
     let some = some_from_test c.split_at.result.1.now (sym c.if-is_empty.ensures) in
-    let deep = rw value at (rw c.in-Err-TooDeep.field-0-is at c.in-Err-TooDeep.ensures.deep) in
-    fault_at _ _ _ _ _ _ _ _ _ _ (IsTooDeep c.args.max_depth) (behind (goal.at.returns-in-Err-TooDeep-clause-fault c).After-advance-place)
-    (record { bracket = begins_at is_opening_bracket c.split_at.result.1.now some (deep refl).0; deep = (deep refl).1 })
-
-pub returns-in-Err-NoMatch-clause-fault : goal.returns-in-Err-NoMatch-clause-fault
-returns-in-Err-NoMatch-clause-fault c =
-    let value = c.as_bytes-in-loop-after-3.ensures.value in
-    let some = some_from_test c.split_at.result.1.now (sym c.if-is_empty.ensures) in
-    let none = rw value at (rw c.in-Err-NoMatch.field-0-is at c.in-Err-NoMatch.ensures.mismatch) in
-    fault_at _ _ _ _ _ _ _ _ _ _ IsBadBracket (behind (goal.at.returns-in-Err-NoMatch-clause-fault c).After-advance-place)
-    (begins_at (λ b. is_closing_bracket b && not (closes_innermost (opened c.loop-after.brackets) b)) c.split_at.result.1.now some (both _ _ (none refl).0 (none refl).1))
-  where
-    both : (x y : Bool) → x ≡ true → y ≡ false → (x && not y) ≡ true
-    both x y p q = rw (p, q) refl
+    let misfit = rw c.as_bytes-bytes.ensures.value at c.in-Err-take.ensures.misfit in
+    rw c.misfit_fault.ensures (misfit_at _ _ _ _ _ _ _ _ _ _ c.in-Err-take.misfit b some misfit)
 
 pub pass-place-requires-clause-line_fits : goal.pass-place-requires-clause-line_fits
 pass-place-requires-clause-line_fits c =
     let fits = behind_fits _ _ _ _ _ _ _ _ _ _ (behind (goal.at.pass-place-requires-clause-line_fits c).After-advance-place) in
-    let parts = newlines_split c.split_at.result.1.now c.as_bytes-in-loop-after-4.result.now _ _ (c.as_bytes-in-loop-after-4.ensures.value ∙ c.split_at-in-loop-after.ensures.front) c.split_at-in-loop-after.ensures.back in
+    let parts = newlines_split c.split_at.result.1.now c.as_bytes-in-loop-after-2.result.now _ _ (c.as_bytes-in-loop-after-2.ensures.value ∙ c.split_at-in-loop-after.ensures.front) c.split_at-in-loop-after.ensures.back in
     omega (arith, fits.0, parts.0, c.requires)
 
 pub pass-place-requires-clause-col_fits : goal.pass-place-requires-clause-col_fits
 pass-place-requires-clause-col_fits c =
     let fits = behind_fits _ _ _ _ _ _ _ _ _ _ (behind (goal.at.pass-place-requires-clause-col_fits c).After-advance-place) in
-    let parts = newlines_split c.split_at.result.1.now c.as_bytes-in-loop-after-4.result.now _ _ (c.as_bytes-in-loop-after-4.ensures.value ∙ c.split_at-in-loop-after.ensures.front) c.split_at-in-loop-after.ensures.back in
+    let parts = newlines_split c.split_at.result.1.now c.as_bytes-in-loop-after-2.result.now _ _ (c.as_bytes-in-loop-after-2.ensures.value ∙ c.split_at-in-loop-after.ensures.front) c.split_at-in-loop-after.ensures.back in
     omega (arith, fits.1, parts.1)
 
 pub pass-place-requires-clause-col_counts : goal.pass-place-requires-clause-col_counts
@@ -120,15 +101,14 @@ pub loop-after-preserved : goal.loop-after-preserved
 loop-after-preserved c =
     let b = behind (goal.at.loop-after-preserved c).After-advance-place in
     let after = c.split_at.result.1.now in
-    let value = c.as_bytes-in-loop-after-2.ensures.value in
+    let value = c.as_bytes-bytes.ensures.value in
     let found : IsScanned after c.in-Ok.scanned = rw value at c.in-Ok.ensures.token in
     let cut = c.split_at-in-loop-after.ensures in
     let token = c.split_at-in-loop-after.result.0.now in
     let rest = c.split_at-in-loop-after.result.1.now in
     let split : after ≡ token ++ rest = rw (cut.front, cut.back, take-append-drop) refl in
-    let first = c.as_bytes-in-loop-after-3.ensures.value in
-    let fit = rw first at c.in-Ok-take.ensures.fits in
-    let opens = rw first at c.in-Ok-take.ensures.opened in
+    let fit = rw value at c.in-Ok-take.ensures.fits in
+    let opens = rw value at c.in-Ok-take.ensures.opened in
     let whole = rw (← cut.front) at found.token.whole in
     let none = subst (λ o. begins_gap (is_inside o) after ≡ false) (sym b.opened_are) b.behind_gap in
     let fitting = token_fits c.args.max_depth c.in-Ok.scanned.kind (opened c.loop-after.brackets) after token rest c.in-Ok.scanned.len found.some found.within cut.front split whole none fit in
@@ -138,5 +118,5 @@ loop-after-preserved c =
     rw (ap (map placed) pushed ∙ map_push c.loop-after.out.items _)
     (behind_token c.args.first_line c.args.max_depth c.args.text.now _ (opened c.loop-after.brackets) (opened c.take.new.self) c.loop-after.last_line c.split_at.result.0.now after token rest c.in-Ok.scanned.kind
     _ _ c.pass-place.result.line c.pass-place.result.col c.ne.result b split (rw (← cut.front, ← cut.back) at found.token) fitting.0 (opens ∙ fitting.1) (ne ∙ ap not (same_as c.loop-after.last_line c.advance-place.result.line)) (rw (← cut.back) at utf8)
-    (rw c.as_bytes-in-loop-after-4.ensures.value at c.pass-place.ensures.line)
-    (rw c.as_bytes-in-loop-after-4.ensures.value at c.pass-place.ensures.col))
+    (rw c.as_bytes-in-loop-after-2.ensures.value at c.pass-place.ensures.line)
+    (rw c.as_bytes-in-loop-after-2.ensures.value at c.pass-place.ensures.col))
