@@ -6,6 +6,7 @@ pub mod LabelSets
 mod LastParts
 pub mod Literals
 mod Mended
+mod Moves
 mod Numbers
 mod Quoting
 pub mod ReadBack

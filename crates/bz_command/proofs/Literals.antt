@@ -1,11 +1,11 @@
 -- A literal read unit by unit.
 use Rattle.std.proofs.Common.{◌≡◌, ℕ, suc, ◌+◌, ◌<◌, ◌-◌, ◌==◌, ◌&&◌, ◌||◌, not, List, [], ◌∷◌, ◌++◌, length, take, drop, Bool, true, false, Option, Some, None, nat_eq, refl, sym, ap, ◌∙◌, arith, inl, inr, append_assoc, eqb-true, slice_index_or}
-use Rattle.std.specs.Prelude.{if◌then◌else◌, option_map, bytes_eq}
+use Rattle.std.specs.Prelude.{if◌then◌else◌, option_map, bytes_eq, codes}
 use Rattle.std.specs.List.{starts_with, prefix_len}
 use Rattle.std.proofs.lemmas.Bool.{cases_Bool, and_parts, or_parts, eqb-false, eq-eqb, ne_eqb, false_from_ne_true}
 use Rattle.std.proofs.lemmas.List.{take_all, take_rest}
 use Rattle.std.proofs.lemmas.Slice.Eq.{bytes_eq-Decides}
-use Rattle.bz_command.specs.Values.{grouped_from, takes, units, joined, content, is_newline, unit_value, values_in, and_then, is_quote, prefix_of, value_of}
+use Rattle.bz_command.specs.Values.{grouped_from, takes, units, joined, content, is_newline, unit_value, values_in, and_then, is_quote, prefix_of, inner_of, value_of}
 use Rattle.bz_command.specs.ValueSteps.{first_len, is_value, inner_value, value_in}
 
 -- nothing more joins a group
@@ -199,3 +199,19 @@ prefix_more b bs h = rw (h, one_more (prefix_len (λ x. not (is_quote x)) bs)) r
 pub no_value : (text : List ℕ) → 0 < length text → is_quote (slice_index_or text 0 0) ≡ false → (slice_index_or text 0 0 ≡ 114 → ⊥) → value_of text ≡ None
 no_value [] some h k = absurd (omega arith)
 no_value (b ∷ bs) some h k = rw (prefix_more b bs h, ne_eqb b 114 k) refl
+
+-- what begins with an `r` has a value only where a quote follows
+pub raw_other : (bs : List ℕ) → 0 < length bs → is_quote (slice_index_or bs 0 0) ≡ false → value_of (114 ∷ bs) ≡ None
+raw_other [] some h = absurd (omega arith)
+raw_other (b ∷ bs) some h =
+    let text : List ℕ = 114 ∷ b ∷ bs in
+    let front : prefix_of (114 ∷ b ∷ bs) ≡ 114 ∷ b ∷ prefix_of bs = prefix_more 114 (b ∷ bs) refl ∙ ap (λ (xs : List ℕ). 114 ∷ xs) (prefix_more b bs h) in
+    ap (λ (p : List ℕ). if bytes_eq p [] then values_in false (inner_of text) else (if bytes_eq p (codes "r") then values_in true (inner_of (drop 1 text)) else None)) front
+
+pub raw_quoted : (bs : List ℕ) → 0 < length bs → is_quote (slice_index_or bs 0 0) ≡ true → value_of (114 ∷ bs) ≡ values_in true (inner_of bs)
+raw_quoted [] some h = absurd (omega arith)
+raw_quoted (b ∷ bs) some h = rw h refl
+
+pub quoted_value : (bs : List ℕ) → 0 < length bs → is_quote (slice_index_or bs 0 0) ≡ true → value_of bs ≡ values_in false (inner_of bs)
+quoted_value [] some h = absurd (omega arith)
+quoted_value (b ∷ bs) some h = rw h refl

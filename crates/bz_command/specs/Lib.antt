@@ -1,4 +1,5 @@
 pub mod ByteSteps
+pub mod CommandSteps
 pub mod CommandViews
 pub mod Commands
 pub mod LabelSetViews

@@ -158,55 +158,28 @@ pub(crate) fn next_in<'a>(chain: Chain<'a>) -> Option<(u8, Chain<'a>)>
     ensures next { MatchOption result (chain_bytes chain.entry ≡ []) (λ p. chain_bytes chain.entry ≡ p.0 ∷ chain_bytes p.1) }
     ensures good { IfSome result (λ p. IsTrue (is_good_chain p.1)) }
 {
-    let Chain {
-        first,
-        second,
-        third,
-        fourth,
-    } = chain;
-    if let Some((b, first)) = next(first) {
-        return Some((
-            b,
-            Chain {
-                first,
-                second,
-                third,
-                fourth,
-            },
-        ));
+    if let Some((b, first)) = next(chain.first) {
+        return Some((b, Chain { first, ..chain }));
     }
-    if let Some((b, second)) = next(second) {
-        return Some((
-            b,
-            Chain {
-                first,
-                second,
-                third,
-                fourth,
-            },
-        ));
+    if let Some((b, second)) = next(chain.second) {
+        return Some((b, Chain { second, ..chain }));
     }
-    if let Some((b, third)) = next(third) {
-        return Some((
-            b,
-            Chain {
-                first,
-                second,
-                third,
-                fourth,
-            },
-        ));
+    next_behind(chain)
+}
+
+// The next byte, where the first two texts are at their end.
+fn next_behind<'a>(chain: Chain<'a>) -> Option<(u8, Chain<'a>)>
+    requires good { IsTrue (is_good_chain chain) }
+    requires first { left chain.first ≡ [] }
+    requires second { left chain.second ≡ [] }
+    ensures next { MatchOption result (chain_bytes chain.entry ≡ []) (λ p. chain_bytes chain.entry ≡ p.0 ∷ chain_bytes p.1) }
+    ensures good { IfSome result (λ p. IsTrue (is_good_chain p.1)) }
+{
+    if let Some((b, third)) = next(chain.third) {
+        return Some((b, Chain { third, ..chain }));
     }
-    if let Some((b, fourth)) = next(fourth) {
-        return Some((
-            b,
-            Chain {
-                first,
-                second,
-                third,
-                fourth,
-            },
-        ));
+    if let Some((b, fourth)) = next(chain.fourth) {
+        return Some((b, Chain { fourth, ..chain }));
     }
     None
 }

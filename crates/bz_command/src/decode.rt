@@ -15,14 +15,12 @@ pub fn read_value(alloc: Global, text: &str) -> Result<Option<String>, AllocErro
         return Ok(None);
     };
     if is_quote(*first) {
-        let value = read_literal(alloc, false, text)?;
-        return Ok(value);
+        return read_literal(alloc, false, text);
     }
     if *first != b'r' {
         return Ok(None);
     }
-    let value = read_raw(alloc, &text[1..])?;
-    Ok(value)
+    read_raw(alloc, &text[1..])
 }
 
 // What stands behind an `r`.
@@ -35,8 +33,7 @@ fn read_raw(alloc: Global, literal: &str) -> Result<Option<String>, AllocError>
     if !is_quote(*first) {
         return Ok(None);
     }
-    let value = read_literal(alloc, true, literal)?;
-    Ok(value)
+    read_literal(alloc, true, literal)
 }
 
 // The literal without its prefix.
@@ -46,8 +43,7 @@ fn read_literal(alloc: Global, raw: bool, literal: &str) -> Result<Option<String
     ensures { IfOk result (λ value. option_map (λ text. string_bytes text) value ≡ spec.values_in raw (spec.inner_of literal.now)) }
 {
     let n = opening_len(literal.as_bytes());
-    let value = read_inner(alloc, raw, &literal[..n], &literal[n..])?;
-    Ok(value)
+    read_inner(alloc, raw, &literal[..n], &literal[n..])
 }
 
 // What stands behind the opening quotes. Bytes that stand for themselves are taken over in runs.

@@ -10,6 +10,7 @@ ghost use Rattle.bz_command.specs.LabelSetViews as spec;
 
 use crate::bytes::{Bytes, Chain};
 use crate::completed::{completed, equal, next_in};
+use crate::names::is;
 use crate::package::Package;
 use std::alloc::{AllocError, Global};
 use std::collections::HashSet;
@@ -98,7 +99,7 @@ impl<'a> LabelSet<'a> {
     {
         match (self.home.path(), home.path()) {
             (None, None) => true,
-            (Some(path), Some(other)) => path == other,
+            (Some(path), Some(other)) => is(path, other),
             _ => false,
         }
     }

@@ -6,7 +6,7 @@ ghost use Rattle.std.specs.Char.{is_ascii_digit};
 ghost use Rattle.bz_command.specs.Labels as spec;
 
 use crate::list::Text;
-use crate::names::is_kind;
+use crate::names::{is, is_kind};
 use crate::package::{Package, Place};
 use crate::parts::cut;
 use crate::target::{Marked, Target};
@@ -79,7 +79,7 @@ pub(crate) fn last_part(path: &str) -> &str
 fn read_package(alloc: Global, text: &str) -> Result<Package, LabelFault>
     ensures { result ≢ Err LabelFault.OutOfMemory → result ≡ spec.package_of text.now }
 {
-    if text == "-" {
+    if is(text, "-") {
         return Ok(Package {
             place: Place::Standard,
         });
@@ -131,7 +131,7 @@ fn are_parts(path: &str) -> bool
 fn is_part(part: &str) -> bool
     ensures { result ≡ spec.is_part part.now }
 {
-    !(part == "" || part == "." || part == ".." || part == "...")
+    !(part.len() == 0 || is(part, ".") || is(part, "..") || is(part, "..."))
 }
 
 fn read_target(alloc: Global, text: &str) -> Result<Target, LabelFault>
@@ -140,12 +140,12 @@ fn read_target(alloc: Global, text: &str) -> Result<Target, LabelFault>
     if !is_target(text.as_bytes()) {
         return Err(LabelFault::BadTarget);
     }
-    if text == "__pkg__" {
+    if is(text, "__pkg__") {
         return Ok(Target {
             marked: Marked::Pkg,
         });
     }
-    if text == "*" {
+    if is(text, "*") {
         return Ok(Target {
             marked: Marked::All,
         });
@@ -201,5 +201,5 @@ fn is_number(text: &[u8]) -> bool
 fn are_digits(text: &[u8]) -> bool
     ensures { result ≡ list_all is_ascii_digit text.now }
 {
-    text.iter().all(|b| b.is_ascii_digit())
+    text.iter().all(u8::is_ascii_digit)
 }

@@ -1,7 +1,7 @@
 //! Identifiers and kinds.
 
-ghost use Rattle.std.specs.Prelude.{◌≡◌, ◌==◌};
-ghost use Rattle.std.specs.List.{list_all};
+ghost use Rattle.std.specs.Prelude.{◌≡◌, ◌==◌, bytes_eq, drop, take};
+ghost use Rattle.std.specs.List.{list_all, list_any};
 ghost use Rattle.bz_command.specs.Names as spec;
 
 use crate::parts::cut;
@@ -40,25 +40,42 @@ fn is_name(bytes: &[u8]) -> bool
     }
 }
 
-#[tactic(auto, unfolding(crate::specs::Names::keywords))]
+/// The text is this word.
+pub(crate) fn is(text: &str, word: &str) -> bool
+    ensures { result ≡ bytes_eq text.now word.now }
+{
+    text == word
+}
+
 fn is_keyword(text: &str) -> bool
     ensures { result ≡ spec.is_keyword text.now }
 {
-    text == "and"
-        || text == "break"
-        || text == "continue"
-        || text == "def"
-        || text == "elif"
-        || text == "else"
-        || text == "for"
-        || text == "if"
-        || text == "in"
-        || text == "lambda"
-        || text == "load"
-        || text == "not"
-        || text == "or"
-        || text == "pass"
-        || text == "return"
+    is_keyword_to_e(text) || is_keyword_to_l(text) || is_keyword_to_r(text)
+}
+
+#[tactic(auto, unfolding(crate::specs::Names::keywords))]
+fn is_keyword_to_e(text: &str) -> bool
+    ensures { result ≡ list_any (bytes_eq text.now) (take 5 spec.keywords) }
+{
+    is(text, "and")
+        || is(text, "break")
+        || is(text, "continue")
+        || is(text, "def")
+        || is(text, "elif")
+}
+
+#[tactic(auto, unfolding(crate::specs::Names::keywords))]
+fn is_keyword_to_l(text: &str) -> bool
+    ensures { result ≡ list_any (bytes_eq text.now) (take 5 (drop 5 spec.keywords)) }
+{
+    is(text, "else") || is(text, "for") || is(text, "if") || is(text, "in") || is(text, "lambda")
+}
+
+#[tactic(auto, unfolding(crate::specs::Names::keywords))]
+fn is_keyword_to_r(text: &str) -> bool
+    ensures { result ≡ list_any (bytes_eq text.now) (drop 10 spec.keywords) }
+{
+    is(text, "load") || is(text, "not") || is(text, "or") || is(text, "pass") || is(text, "return")
 }
 
 /// The text is identifiers joined by `.`, none of them a keyword.

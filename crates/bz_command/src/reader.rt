@@ -1,13 +1,15 @@
 //! How a command is read from its words.
 
-ghost use Rattle.std.specs.Prelude.{◌≡◌, ◌≢◌, ◌<◌, Err, IfOk, IsTrue, length, map};
+ghost use Rattle.std.specs.Prelude.{◌≡◌, ◌≢◌, ◌<◌, ◌&&◌, ◌∷◌, Err, IfOk, IsTrue, length, map};
 ghost use Rattle.std.specs.List.{list_all, list_any};
 ghost use Rattle.bz_command.specs.Commands as spec;
+ghost use Rattle.bz_command.specs.CommandSteps.{later_command};
 ghost use Rattle.bz_command.specs.CommandViews.{commented_view, field_view, moved_view};
+ghost use Rattle.bz_command.specs.Names.{is_identifier};
 
 use crate::command::{Action, Attributes, Command, CommandFault, Commented, Field, Moved, Setting};
 use crate::list::{Seq, Text};
-use crate::names::{is_identifier, is_kind};
+use crate::names::{is, is_identifier, is_kind};
 use crate::words::{read_words, take_word};
 use std::alloc::{AllocError, Global};
 
@@ -26,20 +28,37 @@ pub fn read_command(alloc: Global, text: &str) -> Result<Option<Command>, Comman
 fn read_named(alloc: Global, name: &str, words: Vec<Text>) -> Result<Option<Command>, CommandFault>
     ensures { result ≢ Err CommandFault.OutOfMemory → result ≡ spec.named_command name.now words.items }
 {
-    let command = match name {
-        "add" => read_add(words)?,
-        "remove" => read_remove(words)?,
-        "set" => read_set(words)?,
-        "set_if_absent" => read_set_if_absent(words)?,
-        "delete" => read_delete(words)?,
-        "rename" => read_rename(words)?,
-        "move" => read_move(words)?,
-        "replace" => read_replace(words)?,
-        "comment" => read_comment(words)?,
-        "print" => read_print(alloc, words)?,
-        _ => return Ok(None),
-    };
-    Ok(Some(command))
+    match name {
+        "add" => a_command(read_add(words)),
+        "remove" => a_command(read_remove(words)),
+        "set" => a_command(read_set(words)),
+        "set_if_absent" => a_command(read_set_if_absent(words)),
+        "delete" => a_command(read_delete(words)),
+        _ => read_later(alloc, name, words),
+    }
+}
+
+// The commands from `rename` on.
+fn read_later(alloc: Global, name: &str, words: Vec<Text>) -> Result<Option<Command>, CommandFault>
+    ensures { result ≢ Err CommandFault.OutOfMemory → result ≡ later_command name.now words.items }
+{
+    match name {
+        "rename" => a_command(read_rename(words)),
+        "move" => a_command(read_move(words)),
+        "replace" => a_command(read_replace(words)),
+        "comment" => a_command(read_comment(words)),
+        "print" => a_command(read_print(alloc, words)),
+        _ => Ok(None),
+    }
+}
+
+fn a_command(command: Result<Command, CommandFault>) -> Result<Option<Command>, CommandFault>
+    ensures { result ≡ spec.a_command command }
+{
+    match command {
+        Ok(command) => Ok(Some(command)),
+        Err(fault) => Err(fault),
+    }
 }
 
 fn read_add(mut words: Vec<Text>) -> Result<Command, CommandFault>
@@ -61,7 +80,7 @@ fn read_add(mut words: Vec<Text>) -> Result<Command, CommandFault>
 fn is_star(word: &str) -> bool
     ensures { result ≡ spec.is_star word.now }
 {
-    word == "*"
+    is(word, "*")
 }
 
 fn read_remove(mut words: Vec<Text>) -> Result<Command, CommandFault>
@@ -93,7 +112,7 @@ fn read_set(mut words: Vec<Text>) -> Result<Command, CommandFault>
     if takes_one(attr.as_str()) && words.len() != 1 {
         return Err(CommandFault::WrongCount);
     }
-    if attr.as_str() == "kind" {
+    if is(attr.as_str(), "kind") {
         return read_set_kind(words);
     }
     if !is_identifier(attr.as_str()) {
@@ -106,7 +125,7 @@ fn read_set(mut words: Vec<Text>) -> Result<Command, CommandFault>
 fn takes_one(attr: &str) -> bool
     ensures { result ≡ spec.takes_one attr.now }
 {
-    attr == "name" || attr == "kind"
+    is(attr, "name") || is(attr, "kind")
 }
 
 fn read_set_kind(mut words: Vec<Text>) -> Result<Command, CommandFault>
@@ -131,7 +150,7 @@ fn read_set_if_absent(mut words: Vec<Text>) -> Result<Command, CommandFault>
     if words.len() == 0 {
         return Err(CommandFault::WrongCount);
     }
-    if attr.as_str() == "name" && words.len() != 1 {
+    if is(attr.as_str(), "name") && words.len() != 1 {
         return Err(CommandFault::WrongCount);
     }
     if !is_identifier(attr.as_str()) {
@@ -164,7 +183,7 @@ fn read_rename(mut words: Vec<Text>) -> Result<Command, CommandFault>
     if words.len() != 0 {
         return Err(CommandFault::WrongCount);
     }
-    if !is_identifier(old.as_str()) || !is_identifier(new.as_str()) {
+    if !are_identifiers(old.as_str(), new.as_str()) {
         return Err(CommandFault::BadAttribute);
     }
     Ok(Command {
@@ -181,17 +200,30 @@ fn read_move(mut words: Vec<Text>) -> Result<Command, CommandFault>
     let Some(new) = take_word(&mut words) else {
         return Err(CommandFault::WrongCount);
     };
+    move_between(old, new, words)
+}
+
+// What stands behind the two names.
+fn move_between(old: Text, new: Text, words: Vec<Text>) -> Result<Command, CommandFault>
+    ensures { result ≡ spec.move_of (old ∷ new ∷ words.items) }
+{
     if words.len() == 0 {
         return Err(CommandFault::WrongCount);
     }
-    if !is_identifier(old.as_str()) || !is_identifier(new.as_str()) {
+    if !are_identifiers(old.as_str(), new.as_str()) {
         return Err(CommandFault::BadAttribute);
     }
-    if old.as_str() == new.as_str() {
+    if is(old.as_str(), new.as_str()) {
         return Err(CommandFault::SameAttribute);
     }
     let action = Action::Move(old, new, moved(words));
     Ok(Command { action })
+}
+
+fn are_identifiers(old: &str, new: &str) -> bool
+    ensures { result ≡ (is_identifier old.now && is_identifier new.now) }
+{
+    is_identifier(old) && is_identifier(new)
 }
 
 // One star means all elements.
@@ -313,7 +345,7 @@ fn is_field(word: &str) -> bool
 fn is_left_out(word: &str) -> bool
     ensures { result ≡ spec.is_left_out word.now }
 {
-    word == "rule" || word == "attrs" || word == "path"
+    is(word, "rule") || is(word, "attrs") || is(word, "path")
 }
 
 fn field(word: Text) -> Field

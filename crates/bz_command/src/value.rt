@@ -66,7 +66,10 @@ fn raw_has_value(literal: &[u8], value: &[u8]) -> bool
     let [first, ..] = literal else {
         return false;
     };
-    is_quote(*first) && literal_is(true, literal, value)
+    if !is_quote(*first) {
+        return false;
+    }
+    literal_is(true, literal, value)
 }
 
 pub(crate) fn is_quote(b: u8) -> bool

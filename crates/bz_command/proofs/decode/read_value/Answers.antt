@@ -1,6 +1,6 @@
-use Rattle.std.proofs.Common.{◌≡◌, ◌<◌, false, length, slice_index_or, sym, ◌∙◌, refl}
+use Rattle.std.proofs.Common.{◌≡◌, ◌<◌, true, false, length, slice_index_or, sym, ◌∙◌, refl}
 use Rattle.bz_command.specs.Values.{is_quote}
-use Rattle.bz_command.proofs.Literals.{no_value}
+use Rattle.bz_command.proofs.Literals.{no_value, quoted_value}
 use Rattle.bz_command.proofs.Decoding.{behind_first}
 use Rattle.bz_command.proofs.decode.read_value.Goals as goal
 
@@ -14,3 +14,9 @@ pub range_from-requires : goal.range_from-requires
 range_from-requires c = λ _.
     let some : 0 < length c.args.text.now = rw c.as_bytes.ensures.value at c.in-len1-up.len_at_least in
     behind_first c.args.text.now c.utf8.text some (rw c.as_bytes.ensures.value at c.if-first-ne114.false)
+
+pub returns-then-is_quote : goal.returns-then-is_quote
+returns-then-is_quote c =
+    let some : 0 < length c.args.text.now = rw c.as_bytes.ensures.value at c.in-len1-up.len_at_least in
+    let quote : is_quote (slice_index_or c.args.text.now 0 0) ≡ true = rw c.as_bytes.ensures.value at (sym c.is_quote.ensures ∙ c.if-is_quote.true) in
+    rw (quoted_value c.args.text.now some quote) c.read_literal.ensures
