@@ -1,8 +1,10 @@
 -- Sums over lists that are joined, and the count of a segment's owned texts by its parts.
-use Rattle.std.proofs.Common.{◌≡◌, ℕ, ◌+◌, List, [], ◌∷◌, ◌++◌, map, arith, rules, ap, ◌∙◌}
+use Rattle.std.proofs.Common.{◌≡◌, ℕ, ◌+◌, ◌≤◌, List, [], ◌∷◌, ◌++◌, map, Option, Some, arith, rules, ap, ◌∙◌}
+use Rattle.std.specs.Option.{option_to_list}
 use Rattle.bz_tree.specs.declared.stmt.Node.{the_lemmas}
 use Rattle.bz_tree.specs.declared.stmt.Seg.{Seg}
-use Rattle.bz_tree.specs.Borrowed.{total, owned_in, owned_of, node_owned, seg_owned}
+use Rattle.bz_tree.specs.Borrowed.{total, owned_in, owned_of, seg_owned}
+use Rattle.bz_tree.specs.BorrowedSteps.{nodes_owned, segs_owned}
 
 plus_assoc : (a b c : ℕ) → a + (b + c) ≡ (a + b) + c
 plus_assoc a b c = search (arith)
@@ -10,9 +12,34 @@ plus_assoc a b c = search (arith)
 plus_zero : (a : ℕ) → a ≡ 0 + a
 plus_zero a = search (arith)
 
+zero_plus : (a : ℕ) → a + 0 ≡ a
+zero_plus a = search (arith)
+
 pub total_append : (xs ys : List ℕ) → total (xs ++ ys) ≡ total xs + total ys
 total_append [] ys = plus_zero (total ys)
 total_append (x ∷ xs) ys = ap (λ n. x + n) (total_append xs ys) ∙ plus_assoc x (total xs) (total ys)
 
-pub owned_seg : (s : Seg) → seg_owned s ≡ owned_in s.before.items + total (map node_owned s.nodes.items) + owned_of s.suffix
+pub owned_more : {A : Type 0} → (f : A → ℕ) (xs ys : List A) → total (map f (xs ++ ys)) ≡ total (map f xs) + total (map f ys)
+owned_more f [] ys = plus_zero (total (map f ys))
+owned_more f (x ∷ xs) ys = ap (λ n. f x + n) (owned_more f xs ys) ∙ plus_assoc (f x) (total (map f xs)) (total (map f ys))
+
+pub owned_push : {A : Type 0} → (f : A → ℕ) (xs : List A) (x : A) → total (map f (xs ++ x ∷ [])) ≡ total (map f xs) + f x
+owned_push f xs x = owned_more f xs (x ∷ []) ∙ ap (λ n. total (map f xs) + n) (zero_plus (f x))
+
+pub owned_pop : {A : Type 0} → (f : A → ℕ) (xs : List A) (o : Option A) (x : A) → o ≡ Some x → total (map f (xs ++ option_to_list o)) ≡ total (map f xs) + f x
+owned_pop f xs o x e = ap (λ p. total (map f (xs ++ option_to_list p))) e ∙ owned_push f xs x
+
+pub owned_seg : (s : Seg) → seg_owned s ≡ owned_in s.before.items + nodes_owned s.nodes.items + owned_of s.suffix
 owned_seg s = search (rules, the_lemmas)
+
+pub seg_at_most : (s : Seg) (n : ℕ) → owned_in s.before.items + nodes_owned s.nodes.items + owned_of s.suffix ≤ n → seg_owned s ≤ n
+seg_at_most s n h = omega (arith, owned_seg s, h)
+
+pub seg_push : (ss : List Seg) (s : Seg) → segs_owned (ss ++ s ∷ []) ≡ segs_owned ss + (owned_in s.before.items + nodes_owned s.nodes.items + owned_of s.suffix)
+seg_push ss s = owned_push seg_owned ss s ∙ ap (λ n. segs_owned ss + n) (owned_seg s)
+
+pub owned_first : {A : Type 0} → (f : A → ℕ) (xs ys : List A) (o : Option A) (x : A) → xs ≡ option_to_list o ++ ys → o ≡ Some x → f x ≤ total (map f xs)
+owned_first f xs ys o x e s =
+    let all = ap (λ l. total (map f l)) e in
+    let first = ap (λ p. total (map f (option_to_list p ++ ys))) s in
+    omega (arith, all, first)

@@ -1,5 +1,6 @@
 pub mod Views
 pub mod Borrowed
+pub mod Closing
 pub mod OneBracket
 pub mod Complete
 pub mod Sound

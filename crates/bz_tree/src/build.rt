@@ -1,12 +1,14 @@
 //! The walk over the tokens of a statement, with a stack of open brackets.
 
-ghost use Rattle.std.specs.Prelude.{◌≡◌, ◌+◌, ◌==◌, true, false, map, IfOk, Some, None, [], option_map, ◌≤◌, IfSome};
+ghost use Rattle.std.specs.Prelude.{◌≡◌, ◌+◌, ◌==◌, true, false, map, IfOk, OnOk, Some, None, [], ◌∷◌, option_map, ◌≤◌, IfSome};
+ghost use Rattle.std.specs.Bool.{then_some};
 ghost use Rattle.bz_token.specs.Places.{placed};
 ghost use Rattle.bz_tree.specs.View.{text_of, node_view, group_view, seg_view};
 ghost use Rattle.bz_tree.specs.Owners.{node};
+ghost use Rattle.bz_tree.specs.declared.kinds.Mark.TheVariants.{Close};
 ghost use Rattle.bz_tree.specs.Brackets.{behind, is_for, has_for};
 ghost use Rattle.bz_tree.specs.Statement.{one_segment, segment_with};
-ghost use Rattle.bz_tree.specs.Steps.{own_view, owns_view, leaf_view, content_view, content, level, with_own, new_level, closed, next, run, state};
+ghost use Rattle.bz_tree.specs.Steps.{own_view, owns_view, leaf_view, content_view, content, level, levels, with_own, new_level, closed, next, next_at, run, state};
 ghost use Rattle.bz_tree.specs.Borrowed.{owned, group_owned, seg_owned};
 ghost use Rattle.bz_tree.specs.BorrowedSteps.{own_owned, owns_owned, content_owned, frame_owned, state_owned};
 
@@ -20,6 +22,7 @@ use crate::stmt::{Group, GroupKind, Leaf, Node, Seg};
 use bz_token::Token;
 use std::alloc::{AllocError, Global};
 use std::borrow::CowStr;
+use std::mem;
 
 // A bracket that is still open, or the top.
 #[derive(Drop)]
@@ -33,18 +36,6 @@ pub(crate) struct Frame<'a> {
 pub(crate) struct State<'a> {
     pub(crate) outer: Vec<Frame<'a>>,
     pub(crate) top: Frame<'a>,
-}
-
-#[inline(always)]
-fn new_frame<'a>(alloc: Global, shape: Option<Shape>) -> Frame<'a>
-    ensures value { level result ≡ new_level shape }
-    ensures borrowed { frame_owned result ≡ 0 }
-{
-    Frame {
-        shape,
-        owns: Vec::new(alloc),
-        at: Behind::Other,
-    }
 }
 
 #[inline(always)]
@@ -80,21 +71,6 @@ fn has_for(owns: &[Own<'_>]) -> bool
     false
 }
 
-#[inline(always)]
-fn with_own<'a>(frame: Frame<'a>, own: Own<'a>) -> Result<Frame<'a>, AllocError>
-    ensures value { IfOk result (λ f. level f ≡ with_own (level frame.entry) (own_view own.entry)) }
-    ensures borrowed { IfOk result (λ f. frame_owned f ≤ frame_owned frame.entry + own_owned own.entry) }
-{
-    let Frame {
-        shape,
-        mut owns,
-        at,
-    } = frame;
-    let at = behind_own(at, &own);
-    owns.push(own)?;
-    Ok(Frame { shape, owns, at })
-}
-
 fn closed<'a>(
     alloc: Global,
     shape: Shape,
@@ -118,14 +94,6 @@ fn closed<'a>(
 }
 
 #[inline(always)]
-fn with_group<'a>(frame: Frame<'a>, group: Group<'a>, line: u64) -> Result<Frame<'a>, AllocError>
-    ensures value { IfOk result (λ f. level f ≡ with_own (level frame.entry) (node line (group_view group.entry))) }
-    ensures borrowed { IfOk result (λ f. frame_owned f ≤ frame_owned frame.entry + group_owned group.entry) }
-{
-    with_own(frame, Own::Node(Node::Group(group), line, 0))
-}
-
-#[inline(always)]
 fn leaf_of<'a>(token: &Token<'a>) -> Leaf<'a>
     ensures value { leaf_view result ≡ placed token.now }
     ensures borrowed { owned result.text ≡ 0 }
@@ -139,53 +107,93 @@ fn leaf_of<'a>(token: &Token<'a>) -> Leaf<'a>
     }
 }
 
-#[inline(always)]
-fn step<'a>(
-    alloc: Global,
-    before: State<'a>,
-    token: &Token<'a>,
-) -> Result<Option<State<'a>>, AllocError>
-    ensures value { IfOk result (λ o. option_map state o ≡ next (placed token.now) (state before.entry)) }
-    ensures borrowed { IfOk result (λ o. IfSome o (λ s. state_owned s ≤ state_owned before.entry)) }
-{
-    let State { mut outer, top } = before;
-    match mark_of(token) {
-        Mark::NewLine => Ok(Some(State { outer, top })),
-        Mark::Plain => {
-            let own = Own::Node(
-                Node::Token(leaf_of(token)),
-                token.line,
-                newlines(token.text),
-            );
-            let top = with_own(top, own)?;
-            Ok(Some(State { outer, top }))
+impl<'a> Frame<'a> {
+    #[inline(always)]
+    fn new(alloc: Global, shape: Option<Shape>) -> Frame<'a>
+        ensures value { level result ≡ new_level shape }
+        ensures borrowed { frame_owned result ≡ 0 }
+    {
+        Frame {
+            shape,
+            owns: Vec::new(alloc),
+            at: Behind::Other,
         }
-        Mark::Comma => {
-            let top = with_own(top, Own::Comma(leaf_of(token)))?;
-            Ok(Some(State { outer, top }))
+    }
+
+    #[inline(always)]
+    fn add(&mut self, own: Own<'a>) -> Result<(), AllocError>
+        ensures value { OnOk result (level self.new ≡ with_own (level self.old) (own_view own.entry)) }
+        ensures borrowed { OnOk result (frame_owned self.new ≤ frame_owned self.old + own_owned own.entry) }
+    {
+        self.at = behind_own(self.at, &own);
+        self.owns.push(own)?;
+        Ok(())
+    }
+
+    #[inline(always)]
+    fn add_group(&mut self, group: Group<'a>, line: u64) -> Result<(), AllocError>
+        ensures value { OnOk result (level self.new ≡ with_own (level self.old) (node line (group_view group.entry))) }
+        ensures borrowed { OnOk result (frame_owned self.new ≤ frame_owned self.old + group_owned group.entry) }
+    {
+        self.add(Own::Node(Node::Group(group), line, 0))
+    }
+}
+
+impl<'a> State<'a> {
+    #[inline(always)]
+    fn open(&mut self, alloc: Global, shape: Shape) -> Result<(), AllocError>
+        ensures value { OnOk result (state self.new
+            ≡ (new_level (Some shape), level self.old.top ∷ levels self.old.outer.items)) }
+        ensures borrowed { OnOk result (state_owned self.new ≤ state_owned self.old) }
+    {
+        let frame = Frame::new(alloc, Some(shape));
+        self.outer.push(mem::replace(&mut self.top, frame))?;
+        Ok(())
+    }
+
+    // False: no bracket of this shape is open, or a segment is empty.
+    fn close(&mut self, alloc: Global, shape: Shape, token: &Token<'a>) -> Result<bool, AllocError>
+        ensures value { IfOk result (λ some. then_some some (state self.new)
+            ≡ next_at (Close shape) (placed token.now) (level self.old.top) (levels self.old.outer.items)) }
+        ensures borrowed { OnOk result (state_owned self.new ≤ state_owned self.old) }
+    {
+        let Some(mut below) = self.outer.pop() else {
+            return Ok(false);
+        };
+        if !same_shape(self.top.shape, shape) {
+            return Ok(false);
         }
-        Mark::Comment => {
-            let top = with_own(top, Own::Note(token.line, CowStr::Borrowed(token.text)))?;
-            Ok(Some(State { outer, top }))
-        }
-        Mark::Open(shape) => {
-            outer.push(top)?;
-            let top = new_frame(alloc, Some(shape));
-            Ok(Some(State { outer, top }))
-        }
-        Mark::Close(shape) => {
-            let Some(below) = outer.pop() else {
-                return Ok(None);
-            };
-            if !same_shape(top.shape, shape) {
-                return Ok(None);
+        let owns = mem::replace(&mut self.top.owns, Vec::new(alloc));
+        let Some(group) = closed(alloc, shape, below.at, owns)? else {
+            return Ok(false);
+        };
+        below.add_group(group, token.line)?;
+        self.top = below;
+        Ok(true)
+    }
+
+    // False: there is no tree.
+    #[inline(always)]
+    fn step(&mut self, alloc: Global, token: &Token<'a>) -> Result<bool, AllocError>
+        ensures value { IfOk result (λ some. then_some some (state self.new)
+            ≡ next (placed token.now) (state self.old)) }
+        ensures borrowed { OnOk result (state_owned self.new ≤ state_owned self.old) }
+    {
+        match mark_of(token) {
+            Mark::NewLine => {}
+            Mark::Plain => {
+                let node = Node::Token(leaf_of(token));
+                self.top
+                    .add(Own::Node(node, token.line, newlines(token.text)))?;
             }
-            let Some(group) = closed(alloc, shape, below.at, top.owns)? else {
-                return Ok(None);
-            };
-            let top = with_group(below, group, token.line)?;
-            Ok(Some(State { outer, top }))
+            Mark::Comma => self.top.add(Own::Comma(leaf_of(token)))?,
+            Mark::Comment => self
+                .top
+                .add(Own::Note(token.line, CowStr::Borrowed(token.text)))?,
+            Mark::Open(shape) => self.open(alloc, shape)?,
+            Mark::Close(shape) => return self.close(alloc, shape, token),
         }
+        Ok(true)
     }
 }
 
@@ -199,24 +207,15 @@ fn one_segment<'a>(alloc: Global, content: Content<'a>) -> Result<Seg<'a>, Alloc
         trailing: _,
         mut end,
     } = content;
-    let Some(seg) = segs.into_iter().next() else {
+    let Some(mut seg) = segs.into_iter().next() else {
         return Ok(Seg {
             before: end,
             nodes: Vec::new(alloc),
             suffix: None,
         });
     };
-    let Seg {
-        mut before,
-        nodes,
-        suffix,
-    } = seg;
-    before.append(&mut end)?;
-    Ok(Seg {
-        before,
-        nodes,
-        suffix,
-    })
+    seg.before.append(&mut end)?;
+    Ok(seg)
 }
 
 fn statement<'a>(alloc: Global, owns: Vec<Own<'a>>) -> Result<Option<Seg<'a>>, AllocError>
@@ -237,12 +236,11 @@ pub(crate) fn run<'a>(alloc: Global, tokens: &[Token<'a>]) -> Result<Option<Seg<
 {
     let mut state = State {
         outer: Vec::new(alloc),
-        top: new_frame(alloc, None),
+        top: Frame::new(alloc, None),
     };
     for token in tokens {
-        match step(alloc, state, token)? {
-            Some(after) => state = after,
-            None => return Ok(None),
+        if !state.step(alloc, token)? {
+            return Ok(None);
         }
     }
     let State { outer, top } = state;

@@ -1,15 +1,17 @@
 //! The segments of one bracket, and the owners of the comments that stand in it.
 
-ghost use Rattle.std.specs.Prelude.{◌≡◌, ◌+◌, ◌==◌, true, false, map, IfOk, Some, None, option_map, ◌≤◌, IfSome};
-ghost use Rattle.bz_tree.specs.View.{text_of, node_view, seg_view};
+ghost use Rattle.std.specs.Prelude.{◌≡◌, ◌+◌, ◌++◌, ◌==◌, true, false, map, IfOk, OnOk, Some, None, option_map, ◌≤◌, IfSome};
+ghost use Rattle.std.specs.Bool.{then_some};
+ghost use Rattle.bz_tree.specs.View.{text_of, texts, node_view, seg_view};
 ghost use Rattle.bz_tree.specs.Brackets.{own_item};
-ghost use Rattle.bz_tree.specs.Steps.{walked, own_view, owns_view, content_view, at_start, after_node, after_comma, after_note, after, done, content, add_beside, to_last};
-ghost use Rattle.bz_tree.specs.Borrowed.{owned, node_owned, seg_owned};
+ghost use Rattle.bz_tree.specs.Steps.{walked, texts_of, own_view, owns_view, content_view, at_start, after_node, after_comma, after_note, after, done, content, add_beside, to_last};
+ghost use Rattle.bz_tree.specs.Borrowed.{owned, owned_in, owned_of, node_owned, seg_owned};
 ghost use Rattle.bz_tree.specs.BorrowedSteps.{segs_owned, own_owned, owns_owned, walk_owned, content_owned};
 
 use crate::stmt::{Leaf, Node, Seg};
 use std::alloc::{AllocError, Global};
 use std::borrow::CowStr;
+use std::mem;
 
 // What stands in a bracket itself. A node has the line on which it begins, and how many lines later it ends.
 #[derive(Drop)]
@@ -47,124 +49,53 @@ pub(crate) struct Content<'a> {
     pub(crate) end: Vec<CowStr<'a>>,
 }
 
-#[inline(always)]
-fn new_walk<'a>(alloc: Global) -> Walk<'a>
-    ensures value { walked result ≡ at_start }
-    ensures borrowed { walk_owned result ≡ 0 }
+// One more comment behind a segment's comma.
+fn add_beside<'a>(seg: &mut Seg<'a>, text: CowStr<'a>) -> Result<(), AllocError>
+    ensures value { OnOk result (seg_view seg.new ≡ add_beside (text_of text.entry) (seg_view seg.old)) }
+    ensures borrowed { OnOk result (seg_owned seg.new ≤ seg_owned seg.old + owned text.entry) }
 {
-    Walk {
-        segs: Vec::new(alloc),
-        before: Vec::new(alloc),
-        nodes: Vec::new(alloc),
-        suffix: None,
-        behind: Vec::new(alloc),
-        last: Before::Nothing,
-        trailing: false,
+    if seg.suffix.is_some() {
+        seg.before.push(text)?;
+    } else {
+        seg.suffix = Some(text);
     }
+    Ok(())
 }
 
-#[inline(always)]
-fn after_node<'a>(
-    walk: Walk<'a>,
-    node: Node<'a>,
-    line: u64,
-    newlines: u64,
-) -> Result<Walk<'a>, AllocError>
-    ensures value { IfOk result (λ w. walked w ≡ after_node (line + newlines) (node_view node.entry) (walked walk.entry)) }
-    ensures borrowed { IfOk result (λ w. walk_owned w ≤ walk_owned walk.entry + node_owned node.entry) }
+fn add_to_last<'a>(segs: &mut Vec<Seg<'a>>, text: CowStr<'a>) -> Result<(), AllocError>
+    ensures value { OnOk result (map seg_view segs.new.items
+        ≡ to_last (text_of text.entry) (map seg_view segs.old.items)) }
+    ensures borrowed { OnOk result (segs_owned segs.new.items ≤ segs_owned segs.old.items + owned text.entry) }
 {
-    let Walk {
-        segs,
-        mut before,
-        mut nodes,
-        suffix,
-        mut behind,
-        last: _,
-        trailing: _,
-    } = walk;
-    if let Some(text) = suffix {
+    if let Some(mut seg) = segs.pop() {
+        add_beside(&mut seg, text)?;
+        segs.push(seg)?;
+    }
+    Ok(())
+}
+
+// A suffix so far is none once a node stands behind it.
+#[inline(always)]
+fn put_before<'a>(
+    suffix: &mut Option<CowStr<'a>>,
+    before: &mut Vec<CowStr<'a>>,
+) -> Result<(), AllocError>
+    ensures taken { suffix.new ≡ None }
+    ensures value { OnOk result (texts before.new.items
+        ≡ texts before.old.items ++ texts_of (option_map text_of suffix.old)) }
+    ensures borrowed { OnOk result (owned_in before.new.items ≡ owned_in before.old.items + owned_of suffix.old) }
+{
+    if let Some(text) = suffix.take() {
         before.push(text)?;
     }
-    before.append(&mut behind)?;
-    nodes.push(node)?;
-    Ok(Walk {
-        segs,
-        before,
-        nodes,
-        suffix: None,
-        behind,
-        last: Before::Node(line, newlines),
-        trailing: false,
-    })
+    Ok(())
 }
 
 #[inline(always)]
-fn after_comma<'a>(alloc: Global, walk: Walk<'a>, line: u64) -> Result<Option<Walk<'a>>, AllocError>
-    ensures value { IfOk result (λ o. option_map walked o ≡ after_comma line (walked walk.entry)) }
-    ensures borrowed { IfOk result (λ o. IfSome o (λ w. walk_owned w ≤ walk_owned walk.entry)) }
+fn put_suffix<'a>(suffix: &mut Option<CowStr<'a>>, text: CowStr<'a>)
+    ensures { suffix.new ≡ Some text.entry }
 {
-    let Walk {
-        mut segs,
-        mut before,
-        nodes,
-        suffix,
-        mut behind,
-        last: _,
-        trailing: _,
-    } = walk;
-    if nodes.is_empty() {
-        return Ok(None);
-    }
-    before.append(&mut behind)?;
-    segs.push(Seg {
-        before,
-        nodes,
-        suffix,
-    })?;
-    Ok(Some(Walk {
-        segs,
-        before: Vec::new(alloc),
-        nodes: Vec::new(alloc),
-        suffix: None,
-        behind,
-        last: Before::Comma(line),
-        trailing: true,
-    }))
-}
-
-// One more comment behind a segment's comma.
-fn add_beside<'a>(seg: Seg<'a>, text: CowStr<'a>) -> Result<Seg<'a>, AllocError>
-    ensures value { IfOk result (λ s. seg_view s ≡ add_beside (text_of text.entry) (seg_view seg.entry)) }
-    ensures borrowed { IfOk result (λ s. seg_owned s ≤ seg_owned seg.entry + owned text.entry) }
-{
-    let Seg {
-        mut before,
-        nodes,
-        suffix,
-    } = seg;
-    let suffix = match suffix {
-        None => text,
-        Some(other) => {
-            before.push(text)?;
-            other
-        }
-    };
-    Ok(Seg {
-        before,
-        nodes,
-        suffix: Some(suffix),
-    })
-}
-
-fn to_last<'a>(segs: Vec<Seg<'a>>, text: CowStr<'a>) -> Result<Vec<Seg<'a>>, AllocError>
-    ensures value { IfOk result (λ v. map seg_view v.items ≡ to_last (text_of text.entry) (map seg_view segs.entry.items)) }
-    ensures borrowed { IfOk result (λ v. segs_owned v.items ≤ segs_owned segs.entry.items + owned text.entry) }
-{
-    let mut segs = segs;
-    if let Some(seg) = segs.pop() {
-        segs.push(add_beside(seg, text)?)?;
-    }
-    Ok(segs)
+    *suffix = Some(text);
 }
 
 // Whether what begins on a line and ends some lines later ends on that other line.
@@ -175,88 +106,123 @@ fn ends_on(line: u64, newlines: u64, at: u64) -> bool
     line <= at && at - line == newlines
 }
 
-#[inline(always)]
-fn after_note<'a>(walk: Walk<'a>, line: u64, text: CowStr<'a>) -> Result<Walk<'a>, AllocError>
-    ensures value { IfOk result (λ w. walked w ≡ after_note line (text_of text.entry) (walked walk.entry)) }
-    ensures borrowed { IfOk result (λ w. walk_owned w ≤ walk_owned walk.entry + owned text.entry) }
-{
-    let Walk {
-        segs,
-        before,
-        nodes,
-        suffix,
-        mut behind,
-        last,
-        trailing,
-    } = walk;
-    let (segs, suffix) = match last {
-        Before::Node(begin, newlines) if ends_on(begin, newlines, line) => (segs, Some(text)),
-        Before::Comma(end) if end == line => (to_last(segs, text)?, suffix),
-        _ => {
-            behind.push(text)?;
-            (segs, suffix)
-        }
-    };
-    Ok(Walk {
-        segs,
-        before,
-        nodes,
-        suffix,
-        behind,
-        last: Before::Nothing,
-        trailing,
-    })
-}
-
-#[inline(always)]
-fn after<'a>(
-    alloc: Global,
-    walk: Walk<'a>,
-    own: Own<'a>,
-    one: bool,
-) -> Result<Option<Walk<'a>>, AllocError>
-    ensures value { IfOk result (λ o. option_map walked o ≡ after (own_item one (own_view own.entry)) (walked walk.entry)) }
-    ensures borrowed { IfOk result (λ o. IfSome o (λ w. walk_owned w ≤ walk_owned walk.entry + own_owned own.entry)) }
-{
-    match own {
-        Own::Node(node, line, newlines) => Ok(Some(after_node(walk, node, line, newlines)?)),
-        Own::Note(line, text) => Ok(Some(after_note(walk, line, text)?)),
-        Own::Comma(leaf) => {
-            let line = leaf.line;
-            if one {
-                return Ok(Some(after_node(walk, Node::Token(leaf), line, 0)?));
-            }
-            after_comma(alloc, walk, line)
+impl<'a> Walk<'a> {
+    #[inline(always)]
+    fn new(alloc: Global) -> Walk<'a>
+        ensures value { walked result ≡ at_start }
+        ensures borrowed { walk_owned result ≡ 0 }
+    {
+        Walk {
+            segs: Vec::new(alloc),
+            before: Vec::new(alloc),
+            nodes: Vec::new(alloc),
+            suffix: None,
+            behind: Vec::new(alloc),
+            last: Before::Nothing,
+            trailing: false,
         }
     }
-}
 
-#[inline(always)]
-fn done(walk: Walk<'_>) -> Result<Content<'_>, AllocError>
-    ensures value { IfOk result (λ c. content_view c ≡ done (walked walk.entry)) }
-    ensures borrowed { IfOk result (λ c. content_owned c ≤ walk_owned walk.entry) }
-{
-    let Walk {
-        mut segs,
-        before,
-        nodes,
-        suffix,
-        behind,
-        last: _,
-        trailing,
-    } = walk;
-    if !nodes.is_empty() {
+    #[inline(always)]
+    fn add_node(&mut self, node: Node<'a>, line: u64, newlines: u64) -> Result<(), AllocError>
+        ensures value { OnOk result (walked self.new
+            ≡ after_node (line + newlines) (node_view node.entry) (walked self.old)) }
+        ensures borrowed { OnOk result (walk_owned self.new ≤ walk_owned self.old + node_owned node.entry) }
+    {
+        put_before(&mut self.suffix, &mut self.before)?;
+        self.before.append(&mut self.behind)?;
+        self.nodes.push(node)?;
+        self.last = Before::Node(line, newlines);
+        self.trailing = false;
+        Ok(())
+    }
+
+    // False: the segment is empty.
+    fn add_comma(&mut self, alloc: Global, line: u64) -> Result<bool, AllocError>
+        ensures value { IfOk result (λ some. then_some some (walked self.new) ≡ after_comma line (walked self.old)) }
+        ensures borrowed { OnOk result (walk_owned self.new ≤ walk_owned self.old) }
+    {
+        if self.nodes.is_empty() {
+            return Ok(false);
+        }
+        self.before.append(&mut self.behind)?;
+        self.segs.push(Seg {
+            before: mem::replace(&mut self.before, Vec::new(alloc)),
+            nodes: mem::replace(&mut self.nodes, Vec::new(alloc)),
+            suffix: self.suffix.take(),
+        })?;
+        self.last = Before::Comma(line);
+        self.trailing = true;
+        Ok(true)
+    }
+
+    fn add_comment(&mut self, line: u64, text: CowStr<'a>) -> Result<(), AllocError>
+        ensures value { OnOk result (walked self.new ≡ after_note line (text_of text.entry) (walked self.old)) }
+        ensures borrowed { OnOk result (walk_owned self.new ≤ walk_owned self.old + owned text.entry) }
+    {
+        match mem::replace(&mut self.last, Before::Nothing) {
+            Before::Node(begin, newlines) if ends_on(begin, newlines, line) => {
+                put_suffix(&mut self.suffix, text);
+                Ok(())
+            }
+            Before::Comma(end) if end == line => add_to_last(&mut self.segs, text),
+            _ => {
+                self.behind.push(text)?;
+                Ok(())
+            }
+        }
+    }
+
+    // A comma where all is one segment is a node. False: a segment is empty.
+    #[inline(always)]
+    fn add(&mut self, alloc: Global, own: Own<'a>, one: bool) -> Result<bool, AllocError>
+        ensures value { IfOk result (λ some. then_some some (walked self.new)
+            ≡ after (own_item one (own_view own.entry)) (walked self.old)) }
+        ensures borrowed { OnOk result (walk_owned self.new ≤ walk_owned self.old + own_owned own.entry) }
+    {
+        match own {
+            Own::Node(node, line, newlines) => self.add_node(node, line, newlines)?,
+            Own::Note(line, text) => self.add_comment(line, text)?,
+            Own::Comma(leaf) if one => {
+                let line = leaf.line;
+                self.add_node(Node::Token(leaf), line, 0)?;
+            }
+            Own::Comma(leaf) => return self.add_comma(alloc, leaf.line),
+        }
+        Ok(true)
+    }
+
+    fn finish(self) -> Result<Content<'a>, AllocError>
+        ensures value { IfOk result (λ c. content_view c ≡ done (walked self.entry)) }
+        ensures borrowed { IfOk result (λ c. content_owned c ≤ walk_owned self.entry) }
+    {
+        let Walk {
+            mut segs,
+            before,
+            nodes,
+            suffix,
+            behind,
+            last: _,
+            trailing,
+        } = self;
+        if nodes.is_empty() {
+            return Ok(Content {
+                segs,
+                trailing,
+                end: behind,
+            });
+        }
         segs.push(Seg {
             before,
             nodes,
             suffix,
         })?;
+        Ok(Content {
+            segs,
+            trailing,
+            end: behind,
+        })
     }
-    Ok(Content {
-        segs,
-        trailing,
-        end: behind,
-    })
 }
 
 // The inside of a bracket. None: a segment is empty.
@@ -268,12 +234,11 @@ pub(crate) fn inside_of<'a>(
     ensures value { IfOk result (λ o. option_map content_view o ≡ content one (owns_view owns.entry.items)) }
     ensures borrowed { IfOk result (λ o. IfSome o (λ c. content_owned c ≤ owns_owned owns.entry.items)) }
 {
-    let mut walk = new_walk(alloc);
+    let mut walk = Walk::new(alloc);
     for own in owns {
-        match after(alloc, walk, own, one)? {
-            Some(next) => walk = next,
-            None => return Ok(None),
+        if !walk.add(alloc, own, one)? {
+            return Ok(None);
         }
     }
-    Ok(Some(done(walk)?))
+    Ok(Some(walk.finish()?))
 }

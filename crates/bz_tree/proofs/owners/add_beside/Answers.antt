@@ -1,7 +1,9 @@
-use Rattle.std.proofs.Common.{arith}
-use Rattle.std.proofs.lemmas.Grind.{common_steps}
-use Rattle.bz_tree.proofs.Borrowed.{total_append, owned_seg}
+use Rattle.std.proofs.Common.{ap, ◌∙◌, arith}
+use Rattle.bz_tree.specs.Borrowed.{owned, owned_in}
+use Rattle.bz_tree.proofs.Borrowed.{owned_push, owned_seg, seg_at_most}
 use Rattle.bz_tree.proofs.owners.add_beside.Goals as goal
 
-pub returns-clause-borrowed : goal.returns-clause-borrowed
-returns-clause-borrowed c = grind (arith, common_steps, total_append, owned_seg)
+pub returns-in_ok-push-clause-borrowed : goal.returns-in_ok-push-clause-borrowed
+returns-in_ok-push-clause-borrowed c =
+    let before = ap owned_in c.in_ok-push.ensures.items ∙ owned_push owned c.args.seg.now.before.items c.args.text in
+    seg_at_most _ _ (omega (arith, before, owned_seg c.args.seg.now))
