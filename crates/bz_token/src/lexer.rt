@@ -1,6 +1,7 @@
 //! The tokens of a text.
 
-ghost use Rattle.std.specs.Prelude.{◌≡◌, ◌≤◌, ◌<◌, ◌+◌, ◌^◌, ◌==◌, ◌∷◌, [], List, ℕ, true, false, not, length, take, drop, count_by, map, IfOk, IfErr, IfSome, IfNone};
+ghost use Rattle.std.specs.Prelude.{◌≡◌, ◌≤◌, ◌<◌, ◌+◌, ◌^◌, ◌==◌, ◌∷◌, [], List, ℕ, true, false, not, length, take, drop, count_by, map, IfOk, IfErr, IfSome, IfNone, Some, nat_eq};
+ghost use Rattle.std.specs.Option.{option_eq};
 ghost use Rattle.std.specs.List.{list_any};
 ghost use Rattle.bz_token.specs.Places.{Placed, placed, column_from};
 ghost use Rattle.bz_token.specs.Brackets.{open_tokens};
@@ -33,6 +34,14 @@ fn pass(place: Place, text: &[u8], has_newline: bool) -> Place
         line: place.line,
         col: place.col + text.len() as u64,
     }
+}
+
+// Whether the last token begins on no such line.
+#[inline(always)]
+fn is_fresh(last_line: Option<u64>, line: u64) -> bool
+    ensures { result ≡ not (option_eq nat_eq last_line (Some line)) }
+{
+    last_line != Some(line)
 }
 
 // The fault of a place where no token stands.
@@ -112,7 +121,7 @@ pub fn tokens<'a>(
             text: token,
             line,
             col,
-            fresh: last_line != Some(line),
+            fresh: is_fresh(last_line, line),
         })?;
         last_line = Some(line);
         place = pass(place, token.as_bytes(), scanned.has_newline);

@@ -114,9 +114,9 @@ loop-after-preserved c =
     let fitting = token_fits c.args.max_depth c.in-Ok.scanned.kind (opened c.loop-after.brackets) after token rest c.in-Ok.scanned.len found.some found.within cut.front split whole none fit in
     let pushed = chosen _ _ _ _ c.push.ensures.items (ap is_ok c.in_ok-push.was) in
     let utf8 = IsUtf8-drop after c.in-Ok.scanned.len b.utf8 (found.boundary b.utf8) in
-    let ne = c.ne.ensures in
+    let fresh = c.is_fresh.ensures in
     rw (ap (map placed) pushed ∙ map_push c.loop-after.out.items _)
     (behind_token c.args.first_line c.args.max_depth c.args.text.now _ (opened c.loop-after.brackets) (opened c.take.new.self) c.loop-after.last_line c.split_at.result.0.now after token rest c.in-Ok.scanned.kind
-    _ _ c.pass-place.result.line c.pass-place.result.col c.ne.result b split (rw (← cut.front, ← cut.back) at found.token) fitting.0 (opens ∙ fitting.1) (ne ∙ ap not (same_as c.loop-after.last_line c.advance-place.result.line)) (rw (← cut.back) at utf8)
+    _ _ c.pass-place.result.line c.pass-place.result.col c.is_fresh.result b split (rw (← cut.front, ← cut.back) at found.token) fitting.0 (opens ∙ fitting.1) (fresh ∙ ap not (same_as c.loop-after.last_line c.advance-place.result.line)) (rw (← cut.back) at utf8)
     (rw c.as_bytes-in-loop-after-2.ensures.value at c.pass-place.ensures.line)
     (rw c.as_bytes-in-loop-after-2.ensures.value at c.pass-place.ensures.col))
