@@ -215,3 +215,8 @@ raw_quoted (b ∷ bs) some h = rw h refl
 pub quoted_value : (bs : List ℕ) → 0 < length bs → is_quote (slice_index_or bs 0 0) ≡ true → value_of bs ≡ values_in false (inner_of bs)
 quoted_value [] some h = absurd (omega arith)
 quoted_value (b ∷ bs) some h = rw h refl
+
+-- a text behind its `r`
+pub behind_r : (text : List ℕ) → 0 < length text → slice_index_or text 0 0 ≡ 114 → text ≡ 114 ∷ take (length text - 1) (drop 1 text)
+behind_r [] some e = absurd (omega arith)
+behind_r (b ∷ bs) some e = ap (λ (x : ℕ). x ∷ bs) e ∙ ap (λ (xs : List ℕ). 114 ∷ xs) (sym (take_rest (b ∷ bs) 1))
