@@ -1,4 +1,6 @@
 use Rattle.std.proofs.Common.{ap, ◌∙◌, arith}
+use Rattle.std.proofs.lemmas.Grind.{common_steps}
+use Rattle.bz_tree.specs.declared.stmt.Node.{the_lemmas}
 use Rattle.bz_tree.specs.Borrowed.{owned, owned_in, owned_of}
 use Rattle.bz_tree.specs.BorrowedSteps.{nodes_owned, segs_owned}
 use Rattle.bz_tree.proofs.Borrowed.{owned_more, seg_push}
@@ -17,3 +19,6 @@ returns-clause-borrowed c =
     let suffix_left = ap owned_of c.take.ensures.after in
     let segs = ap segs_owned c.in_ok-push.ensures.items ∙ seg_push w.segs.items _ in
     omega (arith, before, behind, before_moved, before_left, nodes_moved, nodes_left, suffix_moved, suffix_left, segs)
+
+pub returns-clause-value : goal.returns-clause-value
+returns-clause-value c = grind (arith, common_steps, the_lemmas)

@@ -1,4 +1,5 @@
 use Rattle.std.proofs.Common.{ap, ◌∙◌, arith}
+use Rattle.std.proofs.lemmas.Grind.{common_steps}
 use Rattle.bz_tree.specs.Borrowed.{owned, owned_in, owned_of, node_owned}
 use Rattle.bz_tree.specs.BorrowedSteps.{nodes_owned}
 use Rattle.bz_tree.proofs.Borrowed.{owned_more, owned_push}
@@ -12,3 +13,6 @@ returns-clause-borrowed c =
     let suffix = ap owned_of c.put_before.ensures.taken in
     let nodes = ap nodes_owned c.in_ok-push.ensures.items ∙ owned_push node_owned w.nodes.items c.args.node in
     omega (arith, before, behind, suffix, nodes, c.in_ok-put_before.ensures.borrowed)
+
+pub returns-clause-value : goal.returns-clause-value
+returns-clause-value c = grind (arith, common_steps)
