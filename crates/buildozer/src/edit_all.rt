@@ -5,14 +5,14 @@ ghost use Rattle.bz_folder.specs.Sequence.{SafeRun};
 ghost use Rattle.buildozer.specs.Handled.{IsStatusOfAll};
 ghost use Rattle.buildozer.specs.Program as spec;
 
-use bz_script::flags::Flags;
-use bz_script::group::Script;
 use crate::package::{Devices, FAILED, edit_package};
-use bz_script::packages::by_package;
 use crate::run::Asked;
-use bz_script::status::whole_status;
 use bz_engine::{Sink, Source};
 use bz_folder::Folder;
+use bz_script::flags::Flags;
+use bz_script::group::Script;
+use bz_script::packages::by_package;
+use bz_script::status::whole_status;
 use std::alloc::{AllocError, Global};
 
 /// Edits each package of the script, in the order of their first mention, and gives the exit status. Without `-k` no package

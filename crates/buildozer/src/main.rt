@@ -14,17 +14,17 @@ mod start;
 
 use bz_engine::{FromRead, ToWrite};
 use bz_folder::{Draft, OnDisk};
-use console::Console;
-use edit_all::edit_all;
 use bz_script::flags::Flags;
 use bz_script::group::Script;
+use bz_script::help;
+use bz_script::usage::{StartFault, UsageFault};
+use console::Console;
+use edit_all::edit_all;
 use package::Devices;
 use start::requested;
 use std::alloc::{AllocError, Global};
 use std::process::ExitCode;
 use std::{env, io};
-use bz_script::help;
-use bz_script::usage::{StartFault, UsageFault};
 
 /// The exit status where the words ask for nothing (buildozer README, "Error codes").
 const USAGE: u8 = 1;

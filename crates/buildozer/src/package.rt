@@ -9,11 +9,11 @@ ghost use Rattle.buildozer.specs.Names.{IsBuildPath};
 use crate::console::Console;
 use crate::edit_file::{FileFault, edit_file};
 use crate::edit_stream::edit_stream;
-use bz_script::flags::Flags;
 use crate::names::BuildFiles;
 use crate::run::Asked;
 use bz_engine::{RunFault, Sink, Source, is_query};
 use bz_folder::{CannotOpen, Draft, Folder, Opened};
+use bz_script::flags::Flags;
 use std::alloc::Global;
 
 /// The exit status of a package that failed (buildozer README, "Error codes").

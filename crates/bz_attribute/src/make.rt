@@ -76,11 +76,7 @@ pub fn list<'a>(alloc: Global, elements: Vec<Seg<'a>>) -> Node<'a>
 }
 
 /// A new argument whose value is one node.
-pub fn argument<'a>(
-    alloc: Global,
-    attr: &str,
-    value: Node<'a>,
-) -> Result<Seg<'a>, AllocError>
+pub fn argument<'a>(alloc: Global, attr: &str, value: Node<'a>) -> Result<Seg<'a>, AllocError>
     ensures { IfOk result (λ seg. seg_view seg ≡ spec.argument attr.now (node_view value.entry ∷ [])) }
 {
     let mut nodes = Vec::with_capacity(alloc, 3)?;
@@ -117,11 +113,7 @@ pub fn argument_head<'a>(alloc: Global, attr: &str) -> Result<Vec<Node<'a>>, All
 }
 
 /// A new argument with this head, whose value is a list. Takes no memory.
-pub fn list_with<'a>(
-    alloc: Global,
-    mut head: Vec<Node<'a>>,
-    elements: Vec<Seg<'a>>,
-) -> Seg<'a>
+pub fn list_with<'a>(alloc: Global, mut head: Vec<Node<'a>>, elements: Vec<Seg<'a>>) -> Seg<'a>
     requires { vec_len head < vec_capacity head }
     ensures { (attr : _) → nodes_view head.entry.items ≡ leaf Ident attr nowhere ∷ leaf Sign (codes "=") nowhere ∷ [] → seg_view result ≡ spec.argument attr (spec.list_item (segs_view elements.entry.items) ∷ []) }
 {

@@ -36,7 +36,7 @@ pub record IsPartWith (p : Segment → Bool) (value : List Node) (i : ℕ) : Typ
 abbrev pub note_in_nodes : Package → List ℕ → List ℕ → List Item → Option Note
 note_in_nodes home attr v nodes =
     first_note (if no_parts (parts nodes) then Some (NotAList attr) else None)
-        (if list_any (list_any (equals home v)) (parts nodes) then None else Some (NoValue attr v))
+    (if list_any (list_any (equals home v)) (parts nodes) then None else Some (NoValue attr v))
 
 abbrev pub comment_in_nodes : Package → List ℕ → List ℕ → List ℕ → List Item → List Item
 comment_in_nodes home attr v text nodes =

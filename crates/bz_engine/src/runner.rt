@@ -7,10 +7,10 @@ ghost use Rattle.bz_engine.specs.Outcome.{IsOutcome, told_by};
 
 use crate::device::{Sink, Source};
 use crate::options::Options;
-use bz_command::Pass;
 use crate::report::Report;
 use crate::run_fault::RunFault;
 use crate::session::{Session, Step};
+use bz_command::Pass;
 use bz_rule::{Command, Package, Target};
 use std::alloc::Global;
 

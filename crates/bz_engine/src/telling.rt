@@ -11,9 +11,9 @@ use crate::entry::Entry;
 use crate::kept::{Kept, is_some_not_found, tell};
 use crate::log::Log;
 use crate::message;
-use bz_command::Pass;
 use crate::report::{End, Report, SyntaxFault};
 use crate::rules::Rules;
+use bz_command::Pass;
 use bz_rule::{Command, Target, Text};
 use std::alloc::{AllocError, Global};
 

@@ -12,14 +12,14 @@ ghost use Rattle.bz_attribute.specs.Places.{first_length, first_list};
 ghost use Rattle.bz_attribute.specs.Effects as effects;
 ghost use Rattle.bz_attribute.specs.Moving as spec;
 
-use bz_attribute::chosen::Chosen;
-use bz_attribute::done::{Done, Note};
 use crate::arrivals::keep_arrivals;
 use crate::remove::chooses_first;
+use crate::taking::{count_chosen, take_from};
+use bz_attribute::chosen::Chosen;
+use bz_attribute::done::{Done, Note};
 use bz_attribute::find::find;
 use bz_attribute::lists::first_part;
 use bz_attribute::make::{argument_head, list_with};
-use crate::taking::{count_chosen, take_from};
 use bz_attribute::word_set::{FEW, WordSet, word_set};
 use bz_command::{Moved, Package, Text};
 use bz_tree::{Node, Seg};

@@ -10,17 +10,17 @@ ghost use Rattle.bz_attribute.specs.Effects as spec;
 ghost use Rattle.bz_attribute.specs.Applied as applied;
 
 use bz_attribute::done::Done;
-use bz_list_commands::add::add;
+use bz_attribute::find::call_at;
 use bz_attribute_commands::comment::{comment, comment_rule};
-use bz_list_commands::moving::move_elements;
 use bz_attribute_commands::print::print;
-use bz_list_commands::remove::remove;
 use bz_attribute_commands::rename::rename;
-use bz_list_commands::replace::replace;
 use bz_attribute_commands::set::{set, set_if_absent};
 use bz_attribute_commands::set_kind::set_kind;
-use bz_attribute::find::call_at;
 use bz_command::{Action, Command, Commented, Package, Setting};
+use bz_list_commands::add::add;
+use bz_list_commands::moving::move_elements;
+use bz_list_commands::remove::remove;
+use bz_list_commands::replace::replace;
 use bz_tree::{Node, Seg, Stmt};
 use std::alloc::{AllocError, Global};
 

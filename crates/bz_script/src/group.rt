@@ -7,8 +7,9 @@ ghost use Rattle.bz_script.specs.Results.{map_ok};
 ghost use Rattle.bz_script.specs.Groups as spec;
 
 use crate::usage::UsageFault;
-use bz_command::Pass;
-use bz_command::{Command, CommandFault, LabelFault, Package, Target, read_command, read_label};
+use bz_command::{
+    Command, CommandFault, LabelFault, Package, Pass, Target, read_command, read_label,
+};
 use std::alloc::{AllocError, Global};
 
 /// Passes in the order in which they are made, each with the package that it is for.
