@@ -37,7 +37,7 @@ pub fn equals(home: &Package, element: &Seg<'_>, word: &str) -> bool
 }
 
 /// The element equals one of the words.
-pub fn equals_any(home: &Package, element: &Seg<'_>, words: &[Text]) -> bool
+pub(crate) fn equals_any(home: &Package, element: &Seg<'_>, words: &[Text]) -> bool
     ensures { result ≡ spec.equals_any home.now words.now (seg_view element.now) }
 {
     for word in words {

@@ -47,7 +47,7 @@ fn call_of<'n, 'a>(node: &'n Node<'a>) -> Option<&'n Group<'a>>
 }
 
 // Identifiers joined by dots.
-pub fn are_dotted(kind: &[Node<'_>]) -> bool
+pub(crate) fn are_dotted(kind: &[Node<'_>]) -> bool
     ensures { result ≡ spec.dotted true (nodes_view kind.now) }
 {
     let mut wants_name = true;
@@ -89,7 +89,7 @@ pub fn ident_of<'n>(node: &'n Node<'_>) -> Option<&'n str>
 }
 
 // The name of an argument `name = value`.
-pub fn name_of<'n>(nodes: &'n [Node<'_>]) -> Option<&'n str>
+pub(crate) fn name_of<'n>(nodes: &'n [Node<'_>]) -> Option<&'n str>
     ensures { option_map (λ text. text.now) result ≡ spec.name_of (nodes_view nodes.now) }
 {
     match nodes {
@@ -147,7 +147,7 @@ fn text_of<'n>(node: &'n Node<'_>) -> Option<&'n str>
 }
 
 /// The text of the string token that the first argument `name` of a rule is.
-pub fn name_text<'n>(args: &'n [Seg<'_>]) -> Option<&'n str>
+pub(crate) fn name_text<'n>(args: &'n [Seg<'_>]) -> Option<&'n str>
     ensures { spec.value_in (option_map (λ text. text.now) result) ≡ spec.name_in (segs_view args.now) }
 {
     let Some(arg) = first_named(args, "name") else {

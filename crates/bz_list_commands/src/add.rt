@@ -226,7 +226,7 @@ fn append_in<'a>(node: &mut Node<'a>, mut new: Vec<Seg<'a>>) -> Result<(), Alloc
 }
 
 /// Adds elements at the end of the first list part. An `Err` leaves the value as it was.
-pub fn append_at<'a>(
+pub(crate) fn append_at<'a>(
     value: &mut [Node<'a>],
     part: usize,
     new: Vec<Seg<'a>>,

@@ -2,8 +2,8 @@
 #![tactic(auto)]
 
 pub mod add;
-pub mod arrivals;
+mod arrivals;
 pub mod moving;
 pub mod remove;
 pub mod replace;
-pub mod taking;
+mod taking;

@@ -121,7 +121,7 @@ fn remove_chosen(home: &Package, attr: &str, chosen: Chosen<'_>, args: &mut Vec<
 }
 
 /// An element of the first argument of a name is chosen.
-pub fn chooses_first(home: &Package, attr: &str, chosen: Chosen<'_>, args: &[Seg<'_>]) -> bool
+pub(crate) fn chooses_first(home: &Package, attr: &str, chosen: Chosen<'_>, args: &[Seg<'_>]) -> bool
     ensures { result ≡ spec.chooses_in home.now (chosen_view chosen.entry) (first_named attr.now (segs_view args.now)) }
 {
     match first_named(args, attr) {
@@ -131,7 +131,7 @@ pub fn chooses_first(home: &Package, attr: &str, chosen: Chosen<'_>, args: &[Seg
 }
 
 /// Drops the chosen elements of the first argument of a name, and the argument where none is left.
-pub fn drop_from(home: &Package, attr: &str, chosen: Chosen<'_>, args: &mut Vec<Seg<'_>>)
+pub(crate) fn drop_from(home: &Package, attr: &str, chosen: Chosen<'_>, args: &mut Vec<Seg<'_>>)
     ensures { segs_view args.new.items ≡ edit_first (is_named attr.now) (spec.filtered (spec.unchosen home.now (chosen_view chosen.entry))) (segs_view args.old.items) }
 {
     if let Some(i) = drop_in_first(home, attr, chosen, args) {

@@ -19,7 +19,7 @@ use std::alloc::{AllocError, Global};
 use std::mem;
 
 /// How many elements of the first argument of a name are chosen.
-pub fn count_chosen(
+pub(crate) fn count_chosen(
     home: &Package,
     attr: &str,
     chosen: Chosen<'_>,
@@ -79,7 +79,7 @@ fn count_elements(home: &Package, chosen: Chosen<'_>, elements: &[Seg<'_>]) -> u
 }
 
 /// Moves the chosen elements of the first argument of a name to the end of `taken`. The argument goes where none is left.
-pub fn take_from<'a>(
+pub(crate) fn take_from<'a>(
     alloc: Global,
     home: &Package,
     attr: &str,
