@@ -1,0 +1,63 @@
+-- The premises are met, and what the words say, computed.
+use Rattle.std.proofs.Common.{◌≡◌, ℕ, List, [], ◌∷◌, true, false, refl}
+use Rattle.std.specs.Prelude.{codes}
+use Rattle.bz_token.specs.declared.token.Kind.{Kind}
+use Rattle.bz_token.specs.declared.token.Kind.TheVariants.{Ident, Int, Sign, Line as LineToken, Note as NoteToken}
+use Rattle.bz_token.specs.declared.cutter.scan.LineKind.TheVariants.{Note, Statement}
+use Rattle.bz_token.specs.Lexical.{keywords, signs}
+use Rattle.bz_token.specs.FreshStart.{ends_in_line}
+use Rattle.bz_token.specs.Reading.{Piece, open_after}
+use Rattle.bz_token_laws.specs.Readable.{are_texts, are_ended, are_fitting}
+use Rattle.bz_token_laws.specs.TokenLines.{lines_of}
+use Rattle.bz_token_laws.specs.ChunkForms.{are_comments, ends_chunk}
+
+abbrev piece : List ℕ → Kind → List ℕ → Piece
+piece gap kind text = record { gap = gap; kind = kind; text = text }
+
+-- a comment line, and a call over two lines with a comment inside and one after it
+abbrev example : List Piece
+example =
+    piece [] NoteToken (codes "# a") ∷ piece [] LineToken (codes "\n")
+    ∷ piece [] Ident (codes "x") ∷ piece (codes " ") Sign (codes "=") ∷ piece (codes " ") Ident (codes "f") ∷ piece [] Sign (codes "(")
+    ∷ piece (codes "  ") NoteToken (codes "# b") ∷ piece (codes "\n    ") Sign (codes "-") ∷ piece [] Int (codes "1") ∷ piece [] Sign (codes ",")
+    ∷ piece (codes "\n") Sign (codes ")") ∷ piece (codes "  ") NoteToken (codes "# c") ∷ piece [] LineToken (codes "\n") ∷ []
+
+texts : are_texts example ≡ true
+unfolding keywords signs
+texts = refl
+
+ended : are_ended example [] ≡ true
+unfolding signs
+ended = refl
+
+fitting : are_fitting 1 [] example ≡ true
+fitting = refl
+
+too_deep : are_fitting 0 [] example ≡ false
+too_deep = refl
+
+closed : open_after [] example ≡ []
+closed = refl
+
+last : ends_in_line example ≡ true
+last = refl
+
+cut : lines_of example [] ≡ record { text = codes "# a\n"; kind = Note; broken = false } ∷ record { text = codes "x = f(  # b\n    -1,\n)  # c\n"; kind = Statement; broken = false } ∷ []
+cut = refl
+
+comment : are_comments (record { text = codes "# a\n"; kind = Note; broken = false } ∷ []) ≡ true
+comment = refl
+
+statement : ends_chunk (record { text = codes "x = f(  # b\n    -1,\n)  # c\n"; kind = Statement; broken = false }) ≡ true
+statement = refl
+
+block : ends_chunk (record { text = codes "def f():\n"; kind = Statement; broken = false }) ≡ false
+block = refl
+
+-- a newline outside brackets is no gap
+unfitting : are_fitting 1 [] (piece [] Ident (codes "x") ∷ piece (codes "\n") Ident (codes "y") ∷ []) ≡ false
+unfitting = refl
+
+-- two names with nothing between them are one
+joined : are_ended (piece [] Ident (codes "x") ∷ piece [] Ident (codes "y") ∷ []) [] ≡ false
+joined = refl

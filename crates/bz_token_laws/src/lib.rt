@@ -1,0 +1,6 @@
+//! Laws on tokens and lines that are written: what they are read as.
+#![tactic(auto)]
+
+pub mod chunks;
+pub mod lines;
+pub mod tokens;
