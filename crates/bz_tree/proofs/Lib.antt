@@ -1,6 +1,7 @@
 pub mod Views
 pub mod Borrowed
 pub mod Closing
+pub mod ByLines
 pub mod OneBracket
 pub mod Complete
 pub mod Sound
@@ -16,3 +17,7 @@ pub mod Dealt
 pub mod KeptComments
 pub mod BlockComments
 pub mod Examples
+pub mod CellExamples
+pub mod ReadBack
+pub mod Nodes
+pub mod WrittenBack

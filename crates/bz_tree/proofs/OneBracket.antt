@@ -2,7 +2,8 @@
 use Rattle.std.proofs.Common.{◌≡◌, ℕ, ◌==◌, List, [], ◌∷◌, ◌++◌, map, Bool, true, false, not, cond, Option, Some, None, refl, sym, ap, ◌∙◌, append_assoc, append-nil}
 use Rattle.bz_token.specs.Places.{Placed}
 use Rattle.bz_tree.specs.Tree.{Item, Segment}
-use Rattle.bz_tree.specs.Owners.{Own, node, comma, note, Last, no_token, end_of_node, end_of_comma, is_on, is_behind_comma, the_end, segment_here, with_comment, has_token, goes_on, Comment, beside_comma, suffix_of, before_of, first_segment, segments, part, no_empty, is_trailing, Inside, inside}
+use Rattle.bz_tree.specs.Owners.{Own, node, comma, note, Last, no_token, end_of_node, end_of_comma, is_on, no_empty, Inside, inside}
+use Rattle.bz_tree.proofs.ByLines.{is_after_comma, the_end, segment_here, with_comment, has_token, goes_on, Comment, beside_comma, suffix_of, before_of, first_segment, segments, part, is_trailing, inside_by_lines, inside_is}
 use Rattle.bz_tree.specs.Brackets.{own_items}
 use Rattle.bz_tree.specs.Statement.{as_rule_call, rule_call}
 use Rattle.bz_tree.specs.Steps.{Walked, texts_of, at_start, after_node, add_beside, to_last, noted, after_note, done, walk}
@@ -166,7 +167,7 @@ at_note-comma : (end line : ℕ) (text : List ℕ) (os : List Own) (segs : List 
 at_note-comma end line text os segs before nodes suffix behind trailing on = rw on refl
 
 -- any other comment
-at_note-alone : (last : Last) (line : ℕ) (text : List ℕ) (os : List Own) (w : Walked) → is_on last line ≡ false → is_behind_comma last line ≡ false
+at_note-alone : (last : Last) (line : ℕ) (text : List ℕ) (os : List Own) (w : Walked) → is_on last line ≡ false → is_after_comma last line ≡ false
     → joined (walked_of w.segs w.before w.nodes w.suffix (w.behind ++ text ∷ []) no_token w.trailing) os ≡ joined (walked_of w.segs w.before w.nodes w.suffix w.behind last w.trailing) (note line text ∷ os)
 at_note-alone last line text os w off apart = rw (off, apart) (at_rest (has_token os) refl)
   where
@@ -228,11 +229,11 @@ walk_is (note line text ∷ os) w fits =
     let more : whole (after_note line text w) os ≡ whole w (note line text ∷ os) = λ i. cond (no_empty (has_nodes (nodes i)) os) (Some (same i)) None in
     walk_is os (after_note line text w) (noted_fits w.last (is_on w.last line) text w) ∙ more
 
-at_start_is : (os : List Own) → joined at_start os ≡ inside os
+at_start_is : (os : List Own) → joined at_start os ≡ inside_by_lines os
 at_start_is os = rw (same_either {A = List Comment} (has_token os) [], same_either {A = List (List ℕ)} (has_token os) [], add_all-none (part no_token os).earlier) refl
 
 pub inside_found : (os : List Own) → walk at_start os ≡ cond (no_empty false os) (Some (inside os)) None
-inside_found os = walk_is os at_start tt ∙ rw (at_start_is os) refl
+inside_found os = walk_is os at_start tt ∙ ap (λ i. cond (no_empty false os) (Some i) None) (at_start_is os ∙ inside_is os)
 
 -- where no comma stands, no segment is empty
 pub nodes_alone : (b : Bool) (os : List Own) → no_empty b (own_items true os) ≡ true

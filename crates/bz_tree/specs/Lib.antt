@@ -3,6 +3,8 @@ pub mod View
 pub mod Borrowed
 pub mod Kinds
 pub mod Owners
+pub mod Written
+pub mod Nodes
 pub mod Brackets
 pub mod Statement
 pub mod Steps

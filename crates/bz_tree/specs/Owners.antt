@@ -1,5 +1,5 @@
 -- The segments of one bracket, and whose each of its comments is. Only what stands in the bracket itself counts: an inner bracket is one node.
-use Rattle.std.specs.Prelude.{ℕ, List, [], ◌∷◌, map, Bool, true, false, not, if◌then◌else◌, ◌==◌, ◌&&◌, Option, Some, None}
+use Rattle.std.specs.Prelude.{ℕ, List, [], ◌∷◌, ◌++◌, Bool, true, false, not, if◌then◌else◌, ◌==◌, ◌&&◌, Option, Some, None}
 use Rattle.bz_token.specs.Places.{Placed}
 use Rattle.bz_tree.specs.Tree.{Item, Segment}
 
@@ -23,114 +23,135 @@ is_on no_token line = false
 is_on (end_of_node end) line = end == line
 is_on (end_of_comma end) line = end == line
 
-abbrev pub is_behind_comma : Last → ℕ → Bool
-is_behind_comma (end_of_comma end) line = end == line
-is_behind_comma _ line = false
-
--- a node or a comma is among these
-abbrev pub has_token : List Own → Bool
-has_token [] = false
-has_token (note line text ∷ rest) = has_token rest
-has_token (_ ∷ rest) = true
-
--- a node stands among these before a comma does
-abbrev pub goes_on : List Own → Bool
-goes_on [] = false
-goes_on (note line text ∷ rest) = goes_on rest
-goes_on (comma t ∷ rest) = false
-goes_on (node line x ∷ rest) = true
-
-pub data Owner : Type 0 where
-  -- the bracket: an end comment
-  the_end : Owner
-  -- the segment before the last comma
-  segment_before : Owner
-  -- the segment between whose commas it stands
-  segment_here : Owner
-
--- The owner of a comment on this line, by what stands directly before it and what stands behind it in its bracket.
--- (1) In a bracket without segments it is an end comment: there the second line applies.
--- (2) Directly behind a comma, on that comma's line: the segment before that comma.
--- (3) No node and no comma follows, and it is not on the line on which what stands before it ends: an end comment.
--- (4) Else the segment between whose commas it stands.
-abbrev pub owner : Last → ℕ → List Own → Owner
-owner last line behind =
-    if is_behind_comma last line then segment_before
-    else (if not (is_on last line) && not (has_token behind) then the_end
-    else segment_here)
-
--- It stands behind its segment's last node, on the line on which that node ends.
-abbrev pub is_beside : Last → ℕ → List Own → Bool
-is_beside last line behind = is_on last line && not (goes_on behind)
-
--- a comment of a segment: whether it stands behind the last node, on the line on which that node or the comma behind it ends; its text
-abbrev pub Comment : Type 0
-Comment = Bool × List ℕ
-
-abbrev pub beside_comma : List ℕ → Comment
-beside_comma text = (true, text)
-
--- of a segment's comments the first such one is its suffix
-abbrev pub suffix_of : List Comment → Option (List ℕ)
-suffix_of [] = None
-suffix_of ((beside, text) ∷ cs) = if beside then Some text else suffix_of cs
-
--- all others stand before it, in the order of the text
-abbrev pub before_of : List Comment → List (List ℕ)
-before_of [] = []
-before_of ((beside, text) ∷ cs) = if beside then map (λ c. c.1) cs else text ∷ before_of cs
-
--- what a part of a bracket holds, from some place on: the comments on the line of the comma directly before that place,
--- comments and nodes of the segment of that place, the segments behind it, the end comments
-pub record Part : Type 0 where
-  pub earlier : List (List ℕ)
-  pub comments : List Comment
-  pub nodes : List Item
-  pub later : List Segment
+pub record Inside : Type 0 where
+  pub segs : List Segment
+  pub trailing : Bool
   pub end : List (List ℕ)
 
+-- What stands in a bracket, without lines: a comment says whether it is on the line on which the node or comma directly before it
+-- ends. The bracket is cut at its commas into cells. A cell's nodes make a segment, if it has any; a comment of a cell stands above
+-- its last node, beside it or below it.
+pub data Entry : Type 0 where
+  a_node : Item → Entry
+  a_comma : Entry
+  a_note : Bool → List ℕ → Entry
+
+-- what stands before the first comma
+abbrev pub first_cell : List Entry → List Entry
+first_cell [] = []
+first_cell (a_comma ∷ es) = []
+first_cell (e ∷ es) = e ∷ first_cell es
+
+-- of each comma, what stands between it and the next
+abbrev pub other_cells : List Entry → List (List Entry)
+other_cells [] = []
+other_cells (a_comma ∷ es) = first_cell es ∷ other_cells es
+other_cells (e ∷ es) = other_cells es
+
+-- a comment that stands first, on the line on which what stands before it ends
+abbrev pub same_line : List Entry → List (List ℕ)
+same_line (a_note true text ∷ es) = text ∷ []
+same_line es = []
+
+-- what stands after that comment; everything, where there is none
+abbrev pub later_lines : List Entry → List Entry
+later_lines (a_note true text ∷ es) = es
+later_lines es = es
+
+abbrev pub nodes_in : List Entry → List Item
+nodes_in [] = []
+nodes_in (a_node x ∷ es) = x ∷ nodes_in es
+nodes_in (e ∷ es) = nodes_in es
+
+abbrev pub is_filled {ℓ} : {A : Type ℓ} → List A → Bool
+is_filled [] = false
+is_filled (x ∷ xs) = true
+
+abbrev pub has_node : List Entry → Bool
+has_node es = is_filled (nodes_in es)
+
+abbrev pub notes_in : List Entry → List (List ℕ)
+notes_in [] = []
+notes_in (a_note on text ∷ es) = text ∷ notes_in es
+notes_in (e ∷ es) = notes_in es
+
+-- a cell's comments before its last node
+abbrev pub above_last : List Entry → List (List ℕ)
+above_last [] = []
+above_last (a_note on text ∷ es) = if has_node es then text ∷ above_last es else []
+above_last (e ∷ es) = above_last es
+
+-- the comment directly after its last node, on the line on which that node ends
+abbrev pub beside_last : List Entry → List (List ℕ)
+beside_last [] = []
+beside_last (a_node x ∷ es) = if has_node es then beside_last es else same_line es
+beside_last (e ∷ es) = beside_last es
+
+-- its other comments after its last node
+abbrev pub below_last : List Entry → List (List ℕ)
+below_last [] = []
+below_last (a_node x ∷ es) = if has_node es then below_last es else notes_in (later_lines es)
+below_last (a_note on text ∷ es) = if has_node es then below_last es else text ∷ notes_in es
+below_last (a_comma ∷ es) = below_last es
+
+abbrev pub first : List (List ℕ) → Option (List ℕ)
+first [] = None
+first (text ∷ texts) = Some text
+
+abbrev pub others : List (List ℕ) → List (List ℕ)
+others [] = []
+others (text ∷ texts) = texts
+
+-- The segment of a cell, of those comments below its last node that are the segment's, and of the comment on the line of the comma
+-- after it. Of the comment beside the last node and this one the first is the suffix. All others stand before the segment, in
+-- their order.
+abbrev pub cell_segment : List Entry → List (List ℕ) → List (List ℕ) → Segment
+cell_segment cell below_it comment =
+    let shown = beside_last cell ++ comment in
+    record { before = above_last cell ++ (below_it ++ others shown); nodes = nodes_in cell; suffix = first shown }
+
 -- a segment, if it has a node
-abbrev pub first_segment : List Item → List Comment → List Segment → List Segment
-first_segment [] comments later = later
-first_segment (x ∷ xs) comments later = record { before = before_of comments; nodes = x ∷ xs; suffix = suffix_of comments } ∷ later
+abbrev pub with_segment : Segment → List Segment → List Segment
+with_segment s ss = if is_filled s.nodes then s ∷ ss else ss
 
-abbrev pub segments : Part → List Segment
-segments p = first_segment p.nodes p.comments p.later
+-- The segments of a cell and of the cells after it. Where a comma follows, the comments below the cell's last node are its segment's, as
+-- is the comment on the line of that comma; those below the last cell's last node are no segment's.
+abbrev pub segments_from : List Entry → List (List Entry) → List Segment
+segments_from cell [] = with_segment (cell_segment cell [] []) []
+segments_from cell (next ∷ cells) = with_segment (cell_segment cell (below_last cell) (same_line next)) (segments_from (later_lines next) cells)
 
-abbrev pub with_comment : Owner → Comment → Part → Part
-with_comment the_end c p = record { earlier = p.earlier; comments = p.comments; nodes = p.nodes; later = p.later; end = c.1 ∷ p.end }
-with_comment segment_before c p = record { earlier = c.1 ∷ p.earlier; comments = p.comments; nodes = p.nodes; later = p.later; end = p.end }
-with_comment segment_here c p = record { earlier = p.earlier; comments = c ∷ p.comments; nodes = p.nodes; later = p.later; end = p.end }
+-- the end comments: those of the last cell that stand below its last node; where it has no node, all but the one on its comma's line
+abbrev pub end_from : List Entry → List (List Entry) → List (List ℕ)
+end_from cell [] = below_last cell
+end_from cell (next ∷ cells) = end_from (later_lines next) cells
 
-abbrev pub part : Last → List Own → Part
-part last [] = record { earlier = []; comments = []; nodes = []; later = []; end = [] }
-part last (node line x ∷ behind) =
-    let p = part (end_of_node line) behind in
-    record { earlier = p.earlier; comments = p.comments; nodes = x ∷ p.nodes; later = p.later; end = p.end }
-part last (comma t ∷ behind) =
-    let p = part (end_of_comma t.line) behind in
-    record { earlier = []; comments = map beside_comma p.earlier; nodes = []; later = segments p; end = p.end }
-part last (note line text ∷ behind) = with_comment (owner last line behind) (is_beside last line behind, text) (part no_token behind)
+-- a comma stands after the last node
+abbrev pub has_trailing_comma : List (List Entry) → Bool
+has_trailing_comma [] = false
+has_trailing_comma (cell ∷ []) = not (has_node cell)
+has_trailing_comma (cell ∷ next ∷ cells) = has_trailing_comma (next ∷ cells)
 
--- no segment is empty: a node stands before each comma, behind the comma before
+abbrev pub inside_by_cells : List Entry → Inside
+inside_by_cells es = record {
+  segs = segments_from (first_cell es) (other_cells es);
+  trailing = has_trailing_comma (other_cells es);
+  end = end_from (first_cell es) (other_cells es);
+}
+
+-- the entries of what stands in a bracket, after what ends on this line
+abbrev pub entries_of : Last → List Own → List Entry
+entries_of last [] = []
+entries_of last (node line x ∷ os) = a_node x ∷ entries_of (end_of_node line) os
+entries_of last (comma t ∷ os) = a_comma ∷ entries_of (end_of_comma t.line) os
+entries_of last (note line text ∷ os) = a_note (is_on last line) text ∷ entries_of no_token os
+
+-- no segment is empty: a node stands before each comma, after the comma before
 abbrev pub no_empty : Bool → List Own → Bool
 no_empty has_node [] = true
 no_empty has_node (node line x ∷ rest) = no_empty true rest
 no_empty has_node (comma t ∷ rest) = has_node && no_empty false rest
 no_empty has_node (note line text ∷ rest) = no_empty has_node rest
 
--- a comma stands behind the last segment
-abbrev pub is_trailing : Bool → List Own → Bool
-is_trailing behind_comma [] = behind_comma
-is_trailing behind_comma (node line x ∷ rest) = is_trailing false rest
-is_trailing behind_comma (comma t ∷ rest) = is_trailing true rest
-is_trailing behind_comma (note line text ∷ rest) = is_trailing behind_comma rest
-
-pub record Inside : Type 0 where
-  pub segs : List Segment
-  pub trailing : Bool
-  pub end : List (List ℕ)
-
 -- the inside of a bracket
 abbrev pub inside : List Own → Inside
-inside owns = let p = part no_token owns in record { segs = segments p; trailing = is_trailing false owns; end = p.end }
+inside owns = inside_by_cells (entries_of no_token owns)
