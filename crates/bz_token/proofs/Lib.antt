@@ -31,6 +31,7 @@ pub mod CutSeen
 pub mod CutStrings
 pub mod CutPasses
 pub mod CutMachine
+pub mod CutQuiet
 pub mod CutLines
 pub mod CutLaws
 pub mod CutHeads

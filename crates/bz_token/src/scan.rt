@@ -157,7 +157,7 @@ fn sign_of(a: u8, b: u8, c: u8) -> usize
 
 /// The number of bytes before the first newline.
 #[inline(always)]
-fn line_len(bytes: &[u8]) -> usize
+pub fn line_len(bytes: &[u8]) -> usize
     ensures { result ≡ prefix_len (λ b. not (is_newline b)) bytes.now }
 {
     bytes.iter().take_while(|b| **b != b'\n').count()

@@ -1,7 +1,10 @@
 //! The walk over the bytes of a file that finds where its logical lines end.
 
-ghost use Rattle.std.specs.Prelude.{◌≡◌, ◌+◌, ◌-◌, ◌≤◌, ◌<◌, ◌^◌, ◌==◌, true, false, length, drop};
-ghost use Rattle.bz_token.specs.CutSteps.{is_ended, byte_of, with_note, at, outside, in_short, in_long, next, start, run};
+ghost use Rattle.std.specs.Prelude.{◌≡◌, ◌+◌, ◌-◌, ◌≤◌, ◌<◌, ◌^◌, ◌==◌, true, false, not, length, take, drop};
+ghost use Rattle.std.specs.List.{prefix_len};
+ghost use Rattle.bz_token.specs.CutSteps.{is_ended, is_quiet, is_quiet_in_short, byte_of, with_note, at, outside, in_short, in_long, next, start, run};
+
+use crate::scan::line_len;
 
 /// What a logical line holds.
 #[derive(Clone, Copy, Debug, PartialEq, Eq)]
@@ -207,15 +210,73 @@ fn advance(scan: Scan, b: u8) -> Scan
     }
 }
 
-/// The line behind some more bytes.
+// A byte that changes nothing in a statement outside strings and comments.
+#[inline(always)]
+fn is_quiet(b: u8) -> bool
+    ensures { result ≡ is_quiet b }
+{
+    !matches!(
+        b,
+        b'\n' | b'#' | b'\\' | b'"' | b'\'' | b'(' | b'[' | b'{' | b')' | b']' | b'}'
+    )
+}
+
+// A byte that changes nothing in a short string.
+#[inline(always)]
+fn is_quiet_in_short(quote: Quote, b: u8) -> bool
+    ensures { result ≡ is_quiet_in_short quote b }
+{
+    b != byte_of(quote) && b != b'\n' && b != b'\\'
+}
+
+#[inline(always)]
+fn quiet_in_statement(bytes: &[u8]) -> usize
+    ensures { result ≡ prefix_len is_quiet bytes.now }
+{
+    bytes.iter().take_while(|b| is_quiet(**b)).count()
+}
+
+#[inline(always)]
+fn quiet_in_short(quote: Quote, bytes: &[u8]) -> usize
+    ensures { result ≡ prefix_len (is_quiet_in_short quote) bytes.now }
+{
+    bytes
+        .iter()
+        .take_while(|b| is_quiet_in_short(quote, **b))
+        .count()
+}
+
+// How many bytes here change nothing. Most do not, and these are passed at once.
+#[inline(always)]
+fn quiet_len(scan: Scan, bytes: &[u8]) -> usize
+    ensures in_range { result ≤ length bytes.now }
+    ensures quiet { run scan (take result bytes.now) ≡ scan }
+{
+    match scan.inside {
+        Inside::Plain => match scan.kind {
+            LineKind::Statement => quiet_in_statement(bytes),
+            _ => 0,
+        },
+        Inside::Short(quote) => quiet_in_short(quote, bytes),
+        Inside::Comment => line_len(bytes),
+        _ => 0,
+    }
+}
+
+/// The line after some more bytes.
 #[inline(always)]
 pub fn read(scan: Scan, bytes: &[u8]) -> Scan
     requires { scan.depth + length bytes.now < 2 ^ 64 }
     ensures { result ≡ run scan bytes.now }
 {
     let mut scan = scan;
-    for b in bytes {
-        scan = advance(scan, *b);
+    let mut at = 0;
+    while at < bytes.len() {
+        at += quiet_len(scan, &bytes[at..]);
+        if at < bytes.len() {
+            scan = advance(scan, bytes[at]);
+            at += 1;
+        }
     }
     scan
 }

@@ -1,0 +1,93 @@
+-- Bytes that leave the walk where it is.
+use Rattle.std.proofs.Common.{◌≡◌, ℕ, ◌+◌, ◌<◌, ◌==◌, ◌||◌, ◌&&◌, List, [], ◌∷◌, Bool, true, false, not, cond, take, drop, length, get_or, refl, sym, ap, ◌∙◌, arith, drop-drop, drop-cons, suc, true≢false}
+use Rattle.std.specs.Prelude.{if◌then◌else◌}
+use Rattle.std.specs.List.{prefix_len}
+use Rattle.std.proofs.lemmas.Bool.{or_parts, and_parts, not-true}
+use Rattle.std.proofs.lemmas.List.{take-append-drop}
+use Rattle.bz_token.specs.Lexical.{is_newline}
+use Rattle.bz_token.specs.declared.cutter.scan.LineKind.{LineKind}
+use Rattle.bz_token.specs.declared.cutter.scan.LineKind.TheVariants.{Statement}
+use Rattle.bz_token.specs.declared.cutter.scan.Quote.{Quote}
+use Rattle.bz_token.specs.declared.cutter.scan.Inside.{Inside}
+use Rattle.bz_token.specs.declared.cutter.scan.Inside.TheVariants.{Plain, Comment, Short}
+use Rattle.bz_token.specs.declared.cutter.scan.Scan.{Scan}
+use Rattle.bz_token.specs.CutSteps.{is_quiet, is_quiet_in_short, byte_of, at, outside, in_short, next, run}
+use Rattle.bz_token.proofs.CutMachine.{run_append}
+
+-- a run of bytes of which each leaves the walk as it is
+run_same : (s : Scan) (p : ℕ → Bool) → ((b : ℕ) → p b ≡ true → next s b ≡ s) → (bs : List ℕ) → run s (take (prefix_len p bs) bs) ≡ s
+run_same s p same [] = refl
+run_same s p same (b ∷ bs) = by (p b) refl (run_same s p same bs)
+  where
+    by : (t : Bool) → p b ≡ t → run s (take (prefix_len p bs) bs) ≡ s → run s (take (cond t (1 + prefix_len p bs) 0) (b ∷ bs)) ≡ s
+    by true e rest =
+        let one : 1 + prefix_len p bs ≡ suc (prefix_len p bs) = omega arith in
+        ap (λ n. run s (take n (b ∷ bs))) one ∙ ap (λ t. run t (take (prefix_len p bs) bs)) (same b e) ∙ rest
+    by false e rest = refl
+
+-- the branch of a test that fails, and a test of which both branches are the same
+past : (t : Bool) (s u v : Scan) → t ≡ false → v ≡ s → (if t then u else v) ≡ s
+past true s u v e h = absurd (true≢false e)
+past false s u v e h = h
+
+both_same : (t : Bool) (s u v : Scan) → u ≡ s → v ≡ s → (if t then u else v) ≡ s
+both_same true s u v h k = h
+both_same false s u v h k = k
+
+quiet_same : (d b : ℕ) → is_quiet b ≡ true → outside d Statement b ≡ at Plain d Statement
+quiet_same d b h =
+    let s : Scan = at Plain d Statement in
+    let closing = or_parts (b == 10 || b == 35 || b == 92 || b == 34 || b == 39 || (b == 40 || b == 91 || b == 123)) (b == 41 || b == 93 || b == 125) (not-true _ h) in
+    let opening = or_parts (b == 10 || b == 35 || b == 92 || b == 34 || b == 39) (b == 40 || b == 91 || b == 123) closing.0 in
+    let single = or_parts (b == 10 || b == 35 || b == 92 || b == 34) (b == 39) opening.0 in
+    let double = or_parts (b == 10 || b == 35 || b == 92) (b == 34) single.0 in
+    let backslash = or_parts (b == 10 || b == 35) (b == 92) double.0 in
+    let hash = or_parts (b == 10) (b == 35) backslash.0 in
+    past (b == 10) s _ _ hash.0
+    (both_same (b == 32 || b == 9 || b == 13) s _ _ refl
+    (past (b == 35) s _ _ hash.1
+    (past (b == 92) s _ _ backslash.1
+    (past (b == 34) s _ _ double.1
+    (past (b == 39) s _ _ single.1
+    (past (b == 40 || b == 91 || b == 123) s _ _ opening.1
+    (past (b == 41 || b == 93 || b == 125) s _ _ closing.1 refl)))))))
+
+short_same : (q : Quote) (d : ℕ) (k : LineKind) (b : ℕ) → is_quiet_in_short q b ≡ true → in_short q d k b ≡ at (Short q) d k
+short_same q d k b h =
+    let s : Scan = at (Short q) d k in
+    let backslash = and_parts (not (b == byte_of q) && not (b == 10)) (not (b == 92)) h in
+    let newline = and_parts (not (b == byte_of q)) (not (b == 10)) backslash.0 in
+    past (b == byte_of q) s _ _ (not-true _ newline.0) (past (b == 10) s _ _ (not-true _ newline.1) (past (b == 92) s _ _ (not-true _ backslash.1) refl))
+
+comment_same : (d : ℕ) (k : LineKind) (b : ℕ) → not (is_newline b) ≡ true → next (at Comment d k) b ≡ at Comment d k
+comment_same d k b h = past (b == 10) (at Comment d k) _ _ (not-true _ h) refl
+
+-- in a statement outside strings, in a short string and in a comment
+pub statement_run : (s : Scan) (bs : List ℕ) → s.inside ≡ Plain → s.kind ≡ Statement → run s (take (prefix_len is_quiet bs) bs) ≡ s
+statement_run s bs e f = by s.inside s.depth s.kind e f
+  where
+    by : (i : Inside) (d : ℕ) (k : LineKind) → i ≡ Plain → k ≡ Statement → run (at i d k) (take (prefix_len is_quiet bs) bs) ≡ at i d k
+    by i d k e f = rw (e, f) (run_same (at Plain d Statement) is_quiet (quiet_same d) bs)
+
+pub short_run : (s : Scan) (q : Quote) (bs : List ℕ) → s.inside ≡ Short q → run s (take (prefix_len (is_quiet_in_short q) bs) bs) ≡ s
+short_run s q bs e = by s.inside s.depth s.kind e
+  where
+    by : (i : Inside) (d : ℕ) (k : LineKind) → i ≡ Short q → run (at i d k) (take (prefix_len (is_quiet_in_short q) bs) bs) ≡ at i d k
+    by i d k e = rw e (run_same (at (Short q) d k) (is_quiet_in_short q) (short_same q d k) bs)
+
+pub comment_run : (s : Scan) (bs : List ℕ) → s.inside ≡ Comment → run s (take (prefix_len (λ b. not (is_newline b)) bs) bs) ≡ s
+comment_run s bs e = by s.inside s.depth s.kind e
+  where
+    by : (i : Inside) (d : ℕ) (k : LineKind) → i ≡ Comment → run (at i d k) (take (prefix_len (λ b. not (is_newline b)) bs) bs) ≡ at i d k
+    by i d k e = rw e (run_same (at Comment d k) (λ b. not (is_newline b)) (comment_same d k) bs)
+
+-- some bytes that change nothing, and one byte more
+pub read_step : (s t : Scan) (bytes : List ℕ) (i q : ℕ) → i + q < length bytes → run s (take q (drop i bytes)) ≡ s → t ≡ next s (get_or bytes (i + q) 0) → run t (drop (i + q + 1) bytes) ≡ run s (drop i bytes)
+read_step s t bytes i q within quiet stepped =
+    let rest : run s (drop i bytes) ≡ run s (drop (i + q) bytes) =
+    ap (run s) (sym (take-append-drop q (drop i bytes))) ∙ run_append (take q (drop i bytes)) (drop q (drop i bytes)) s
+    ∙ ap (λ u. run u (drop q (drop i bytes))) quiet ∙ ap (run s) (drop-drop q i bytes) in
+    let more : suc (i + q) ≡ i + q + 1 = omega arith in
+    let one : drop (i + q) bytes ≡ get_or bytes (i + q) 0 ∷ drop (i + q + 1) bytes =
+    drop-cons bytes (i + q) 0 within ∙ ap (λ n. get_or bytes (i + q) 0 ∷ drop n bytes) more in
+    ap (λ u. run u (drop (i + q + 1) bytes)) stepped ∙ sym (ap (run s) one) ∙ sym rest
