@@ -1,5 +1,6 @@
 mod TokenExamples
 pub mod Strings
+pub mod PlainStrings
 pub mod Gaps
 pub mod Stack
 pub mod Classes

@@ -1,5 +1,5 @@
 -- For private clauses: what the parts of the scan find.
-use Rattle.std.specs.Prelude.{◌≡◌, ◌≤◌, ◌<◌, List, [], ◌∷◌, ℕ, true, false, length, take, drop, IsUtf8}
+use Rattle.std.specs.Prelude.{◌≡◌, ◌≤◌, ◌<◌, List, [], ◌∷◌, ℕ, Bool, true, false, not, ◌&&◌, ◌==◌, length, take, drop, IsUtf8}
 use Rattle.std.specs.List.{list_any}
 use Rattle.std.specs.Str.{IsCharBoundary}
 use Rattle.bz_token.specs.declared.brackets.Brackets.{Brackets}
@@ -50,3 +50,7 @@ misfit_fault NoMatch line col = LexFault.BadBracket line col
 -- the place of the innermost bracket that is open behind these tokens
 abbrev pub IsLeftOpen : List Placed → LexFault → Type 0
 IsLeftOpen tokens fault = (t : Placed) × (outer : List Placed) × (open_tokens [] tokens ≡ t ∷ outer) × (fault ≡ LexFault.OpenBracket t.line t.col)
+
+-- a byte that neither ends a short string with this quote nor escapes the next byte
+abbrev pub is_plain : ℕ → ℕ → Bool
+is_plain quote b = not (b == quote) && not (b == 10) && not (b == 92)

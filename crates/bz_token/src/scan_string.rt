@@ -1,8 +1,9 @@
 //! Where a string literal opens and closes.
 
 ghost use Rattle.std.specs.Prelude.{◌≡◌, ◌≤◌, ◌<◌, ◌-◌, ℕ, true, false, length, take, slice_index, IfSome, IfNone};
-ghost use Rattle.std.specs.List.{list_any};
+ghost use Rattle.std.specs.List.{list_any, prefix_len};
 ghost use Rattle.bz_token.specs.Lexical.{is_newline, is_quote, is_escaped, escape_behind, closing_row, prefix_letters, are_two, closes, opening};
+ghost use Rattle.bz_token.specs.Scans.{is_plain};
 ghost use Rattle.bz_token.specs.declared.scan_string.Escape.TheVariants.{Unescaped};
 
 /// What stands before a byte of a string: nothing that escapes it, a backslash, or a backslash and a carriage return.
@@ -111,9 +112,45 @@ pub fn opening_at(bytes: &[u8]) -> Option<Opening>
     Some(Opening { prefix, quotes })
 }
 
-/// What stands behind these opening quotes, up to the closing ones, if there are any.
+// A byte that neither ends a short string nor escapes the next byte.
+#[inline(always)]
+fn is_plain(quote: u8, b: u8) -> bool
+    ensures { result ≡ is_plain quote b }
+{
+    b != quote && b != b'\n' && b != b'\\'
+}
+
+#[inline(always)]
+fn plain_len(quote: u8, bytes: &[u8]) -> usize
+    ensures { result ≡ prefix_len (is_plain quote) bytes.now }
+{
+    bytes.iter().take_while(|b| is_plain(quote, **b)).count()
+}
+
+/// What stands after these opening quotes, up to the closing ones, if there are any.
 #[inline(always)]
 pub fn inside_at(quotes: Quotes, bytes: &[u8]) -> Option<Inside>
+    requires { is_quote quotes.byte ≡ true }
+    ensures in_range { IfSome result (λ r. (0 < r.len) × (r.len ≤ length bytes.now)) }
+    ensures closed { IfSome result (λ r. closes quotes 0 Unescaped (take r.len bytes.now) ≡ true) }
+    ensures one_line { IfSome result (λ r. r.has_newline ≡ false → list_any is_newline (take r.len bytes.now) ≡ false) }
+    ensures none { IfNone result ((n : ℕ) → closes quotes 0 Unescaped (take n bytes.now) ≡ false) }
+{
+    // Most strings are short and have no backslash.
+    if !quotes.long {
+        let len = plain_len(quotes.byte, bytes);
+        if len < bytes.len() && bytes[len] == quotes.byte {
+            return Some(Inside {
+                len: len + 1,
+                has_newline: false,
+            });
+        }
+    }
+    inside_by_bytes(quotes, bytes)
+}
+
+// What stands after these opening quotes, byte by byte.
+fn inside_by_bytes(quotes: Quotes, bytes: &[u8]) -> Option<Inside>
     requires { is_quote quotes.byte ≡ true }
     ensures in_range { IfSome result (λ r. (0 < r.len) × (r.len ≤ length bytes.now)) }
     ensures closed { IfSome result (λ r. closes quotes 0 Unescaped (take r.len bytes.now) ≡ true) }

@@ -2,7 +2,7 @@ use Rattle.std.proofs.Common.{◌≡◌, ◌≤◌, ◌<◌, ℕ, List, ◌++◌
 use Rattle.std.specs.List.{list_any}
 use Rattle.bz_token.specs.Lexical.{is_newline, closing_row, closes}
 use Rattle.bz_token.specs.declared.scan_string.Escape.TheVariants.{Unescaped}
-use Rattle.bz_token.proofs.scan_string.inside_at.Given as goal
+use Rattle.bz_token.proofs.scan_string.inside_by_bytes.Given as goal
 
 abbrev pub invariant-loop-i : goal.invariant-loop-i
 invariant-loop-i l = record {
