@@ -22,7 +22,12 @@ use bz_tree::{Node, Seg};
 use std::alloc::{AllocError, Global};
 
 /// Drops the strings that are in the list parts of a value, or stand earlier. It cannot fail: memory makes it faster alone.
-pub(crate) fn keep_arrivals(alloc: Global, home: &Package, value: &[Node<'_>], elements: &mut Vec<Seg<'_>>)
+pub(crate) fn keep_arrivals(
+    alloc: Global,
+    home: &Package,
+    value: &[Node<'_>],
+    elements: &mut Vec<Seg<'_>>,
+)
     ensures items { segs_view elements.new.items ≡ spec.arrivals home.now (spec.joined (parts (nodes_view value.now))) (segs_view elements.old.items) }
     ensures shorter { vec_len elements.new ≤ vec_len elements.old }
     ensures capacity { vec_capacity elements.new ≡ vec_capacity elements.old }

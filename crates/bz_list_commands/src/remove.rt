@@ -121,7 +121,12 @@ fn remove_chosen(home: &Package, attr: &str, chosen: Chosen<'_>, args: &mut Vec<
 }
 
 /// An element of the first argument of a name is chosen.
-pub(crate) fn chooses_first(home: &Package, attr: &str, chosen: Chosen<'_>, args: &[Seg<'_>]) -> bool
+pub(crate) fn chooses_first(
+    home: &Package,
+    attr: &str,
+    chosen: Chosen<'_>,
+    args: &[Seg<'_>],
+) -> bool
     ensures { result ≡ spec.chooses_in home.now (chosen_view chosen.entry) (first_named attr.now (segs_view args.now)) }
 {
     match first_named(args, attr) {
