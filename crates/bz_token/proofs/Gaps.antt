@@ -1,14 +1,14 @@
 -- Gaps, a step at a time.
-use Rattle.std.proofs.Common.{◌≡◌, ℕ, zero, suc, ◌+◌, ◌-◌, ◌<◌, ◌≤◌, ◌==◌, List, [], ◌∷◌, ◌++◌, length, take, drop, get_or, true, false, not, refl, sym, ap, ◌∙◌, arith, append_assoc, append-nil, Bool, inl, inr, sub-one, subst, get_or-drop}
+use Rattle.std.proofs.Common.{◌≡◌, ℕ, zero, suc, ◌+◌, ◌-◌, ◌<◌, ◌≤◌, ◌==◌, ◌&&◌, List, [], ◌∷◌, ◌++◌, length, take, drop, get_or, true, false, not, cond, refl, sym, ap, ◌∙◌, arith, append_assoc, append-nil, Bool, inl, inr, sub-one, subst, get_or-drop}
 use Rattle.std.proofs.lemmas.Bool.{cases_Bool, false≢true}
 use Rattle.std.proofs.Math.Seq.{take-add}
 use Rattle.std.proofs.lemmas.List.{length-take-le, get_or-take}
-use Rattle.std.proofs.lemmas.List.Sums.{prefix_len-le-length}
+use Rattle.std.proofs.lemmas.List.Sums.{prefix_len-le-length, prefix_len_passes}
 use Rattle.std.proofs.lemmas.Grind.{common_steps}
 use Rattle.std.proofs.lemmas.Bool.Decides.{nat_tests}
 use Rattle.std.specs.List.{list_any, prefix_len}
 use Rattle.bz_token.specs.Lexical.{is_blank, is_newline, begins, ends_blank, is_comment}
-use Rattle.bz_token.specs.Reading.{is_gap}
+use Rattle.bz_token.specs.Reading.{is_white, is_gap, continues_gap}
 
 pub gap_goes_on : (inside : Bool) (bytes : List ℕ) (n m : ℕ) → ((ys : List ℕ) → is_gap inside (take n bytes ++ ys) ≡ is_gap inside ys)
     → ((ys : List ℕ) → is_gap inside (take m (drop n bytes) ++ ys) ≡ is_gap inside ys) → (ys : List ℕ) → is_gap inside (take (n + m) bytes ++ ys) ≡ is_gap inside ys
@@ -25,6 +25,33 @@ pub ascii_goes_on : (bytes : List ℕ) (n m : ℕ) → n + m ≤ length bytes �
 ascii_goes_on bytes n m fits some ascii =
     let e : n + (m - 1) ≡ n + m - 1 = omega arith in
     subst (λ x. x < 128) (get_or-drop n bytes (m - 1) 0 ∙ ap (λ k. get_or bytes k 0) e) ascii
+
+-- a run of white space
+white_step : (inside : Bool) (b : ℕ) (ys : List ℕ) → is_white inside b ≡ true → is_gap inside (b ∷ ys) ≡ is_gap inside ys
+white_step inside b ys h = by (is_white inside b) h
+  where
+    by : (t : Bool) → t ≡ true → elim t [ true ↦ is_gap inside ys | false ↦ b == 92 && continues_gap inside ys ] ≡ is_gap inside ys
+    by true h = refl
+    by false h = absurd (false≢true h)
+
+pub white_run : (inside : Bool) (bs ys : List ℕ) → is_gap inside (take (prefix_len (is_white inside) bs) bs ++ ys) ≡ is_gap inside ys
+white_run inside [] ys = refl
+white_run inside (b ∷ bs) ys = by (is_white inside b) refl (white_run inside bs ys)
+  where
+    by : (t : Bool) → is_white inside b ≡ t → is_gap inside (take (prefix_len (is_white inside) bs) bs ++ ys) ≡ is_gap inside ys
+        → is_gap inside (take (cond t (1 + prefix_len (is_white inside) bs) 0) (b ∷ bs) ++ ys) ≡ is_gap inside ys
+    by true e rest =
+        let one : 1 + prefix_len (is_white inside) bs ≡ suc (prefix_len (is_white inside) bs) = omega arith in
+        ap (λ n. is_gap inside (take n (b ∷ bs) ++ ys)) one ∙ white_step inside b (take (prefix_len (is_white inside) bs) bs ++ ys) e ∙ rest
+    by false e rest = refl
+
+white_small : (inside : Bool) (b : ℕ) → is_white inside b ≡ true → b < 128
+white_small true b h = grind (arith, nat_tests)
+white_small false b h = grind (arith, nat_tests)
+
+pub white_ascii : (inside : Bool) (bs : List ℕ) (n : ℕ) → n ≡ prefix_len (is_white inside) bs → 0 < n → get_or bs (n - 1) 0 < 128
+white_ascii inside bs n counted some =
+    white_small inside (get_or bs (n - 1) 0) (prefix_len_passes (is_white inside) bs (n - 1) 0 (omega (arith, counted)))
 
 last_blank : (x : ℕ) (xs : List ℕ) → ends_blank (x ∷ xs) ≡ is_blank (get_or (x ∷ xs) (length xs) 0)
 last_blank x [] = refl

@@ -2,7 +2,10 @@
 
 ghost use Rattle.std.specs.Prelude.{◌≡◌, ◌≤◌, ◌<◌, ◌+◌, ◌^◌, ◌==◌, ◌-◌, ◌++◌, slice_index, List, ℕ, true, false, length, take, drop, count_by};
 ghost use Rattle.bz_token.specs.Places.{column_from};
-ghost use Rattle.bz_token.specs.Reading.{is_gap, begins_gap};
+ghost use Rattle.std.specs.List.{prefix_len};
+ghost use Rattle.bz_token.specs.Reading.{is_white, is_gap, begins_gap};
+
+use crate::scan::is_blank;
 
 /// A place in a text: its line, and its column in bytes from 1.
 #[derive(Clone, Copy)]
@@ -33,6 +36,20 @@ pub fn advance(place: Place, bytes: &[u8]) -> Place
     Place { line, col }
 }
 
+#[inline(always)]
+fn is_white(inside: bool, b: u8) -> bool
+    ensures { result ≡ is_white inside b }
+{
+    is_blank(b) || inside && b == b'\n'
+}
+
+#[inline(always)]
+fn white_len(inside: bool, bytes: &[u8]) -> usize
+    ensures { result ≡ prefix_len (is_white inside) bytes.now }
+{
+    bytes.iter().take_while(|b| is_white(inside, **b)).count()
+}
+
 /// The length of the white space or the continued line here, or 0.
 #[inline(always)]
 fn step_len(inside: bool, bytes: &[u8]) -> usize
@@ -42,11 +59,9 @@ fn step_len(inside: bool, bytes: &[u8]) -> usize
     ensures none { result ≡ 0 → begins_gap inside bytes.now ≡ false }
 {
     match bytes {
-        [b' ' | b'\t' | b'\r', ..] => 1,
-        [b'\n', ..] => usize::from(inside),
         [b'\\', b'\n', ..] => 2,
         [b'\\', b'\r', b'\n', ..] => 3,
-        _ => 0,
+        _ => white_len(inside, bytes),
     }
 }
 
