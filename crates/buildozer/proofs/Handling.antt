@@ -30,11 +30,11 @@ not_two false status is other = refl
 not_two true status is other = absurd (other (eqb-true status 2 is))
 
 -- a package that did not fail is not the last
-pub goes_on_behind : (keep_going : Bool) (status : ℕ) → (status ≡ 2 → ⊥) → is_last keep_going status ≡ false
-goes_on_behind true status other = refl
-goes_on_behind false status other = not_two (status == 2) status refl other
+pub goes_on_after : (keep_going : Bool) (status : ℕ) → (status ≡ 2 → ⊥) → is_last keep_going status ≡ false
+goes_on_after true status other = refl
+goes_on_after false status other = not_two (status == 2) status refl other
 
--- the statuses of the packages that come first: with those of the packages behind them, they are the statuses of all
+-- the statuses of the packages that come first: with those of the packages after them, they are the statuses of all
 pub record HandledTo (keep_going : Bool) (script : List Step) (done : List Task) (whole : ℕ) : Type 0 where
   pub statuses : List ℕ
   pub whole_is : whole ≡ whole_status statuses
@@ -66,7 +66,7 @@ module _ (keep_going : Bool) (script : List Step) where
         (is_status, λ last. absurd (false≢true (sym not_last ∙ last)), λ _. h));
   }
 
-  -- the same behind a turn of a loop over entries, each of them seen as a task
+  -- the same after a turn of a loop over entries, each of them seen as a task
   pub handled_more : {E : Type 0} (view : E → Task) (yielded : List E) (entry : E) (whole next status : ℕ) → HandledTo keep_going script (map view yielded) whole
       → IsStatusOf (asked_for keep_going (view entry)) status → is_last keep_going status ≡ false → next ≡ whole_status (whole ∷ status ∷ [])
       → HandledTo keep_going script (map view (yielded ++ entry ∷ [])) next

@@ -16,7 +16,7 @@ module _ {E T : Type 0} (view : E → T) (entries : List E) (all : List T) (are 
   by_now : all ≡ map view yielded ++ map view left
   by_now = sym (ap (map view) start ∙ are) ∙ so_far view yielded before left y
 
-  -- behind what was yielded stands the entry that comes next
+  -- after what was yielded stands the entry that comes next
   pub turn : (entry : E) → next ≡ Some entry → all ≡ map view yielded ++ view entry ∷ map view after
   turn entry is = by_now ∙ ap (λ es. map view yielded ++ map view es) (rest_more (λ e. e) left after next entry is step)
 
@@ -27,7 +27,7 @@ module _ {E T : Type 0} (view : E → T) (entries : List E) (all : List T) (are 
 contains_first : {T : Type 0} (x : T) (xs : List T) → Contains (x ∷ xs) x
 contains_first x xs = (0, omega arith, refl)
 
--- what stands behind a front of a list is in it
-pub contains_next : {T : Type 0} (front : List T) (x : T) (behind all : List T) → all ≡ front ++ x ∷ behind → Contains all x
-contains_next front x behind all is =
-    subst (λ whole. Contains whole x) (sym is) (Contains-append_right front (x ∷ behind) x (contains_first x behind))
+-- what stands after a front of a list is in it
+pub contains_next : {T : Type 0} (front : List T) (x : T) (following all : List T) → all ≡ front ++ x ∷ following → Contains all x
+contains_next front x following all is =
+    subst (λ whole. Contains whole x) (sym is) (Contains-append_right front (x ∷ following) x (contains_first x following))

@@ -20,7 +20,7 @@ pub record IsRunStatus (asked : Asked) (status : ℕ) : Type 0 where
 abbrev pub IsStatusOf : Asked → ℕ → Type 0
 IsStatusOf asked status = (status ≡ 2) ⊎ IsRunStatus asked status
 
--- whether no package comes behind one with this status
+-- whether no package comes after one with this status
 abbrev pub is_last : Bool → ℕ → Bool
 is_last keep_going status = not keep_going && status == 2
 

@@ -9,7 +9,7 @@ use Rattle.bz_attribute.specs.Rules.{call_at, is_call, dotted, elements}
 use Rattle.bz_attribute.specs.Lists.{edit_list}
 use Rattle.bz_attribute.specs.declared.done.Done.{Done}
 use Rattle.bz_attribute.specs.Effects.{nodes_after, done_in}
-use Rattle.bz_attribute.specs.Places.{IsCallAt}
+use Rattle.bz_attribute.specs.private.Places.{IsCallAt}
 use Rattle.bz_attribute.proofs.Calls.{views_split, rule_at}
 
 call_edited : (f : List Segment → List Segment) (kind : List Item) (x : Item) → is_call x ≡ true → dotted true kind ≡ true → nodes_after f (kind ++ x ∷ []) (call_at kind x) ≡ kind ++ edit_list f x ∷ []

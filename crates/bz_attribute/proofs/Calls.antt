@@ -35,7 +35,7 @@ no_call kind x a = rw a refl
 pub no_dots : (kind : List Item) (x : Item) → dotted true kind ≡ false → call_at kind x ≡ None
 no_dots kind x a = rw (and_right (is_call x) (dotted true kind) a) refl
 
--- a call behind a kind is a rule
+-- a call after a kind is a rule
 pub a_rule : (kind : List Item) (x : Item) (g : GroupValue) → IsCall x g → dotted true kind ≡ true
     → call_at kind x ≡ Some (record { kind = kind; args = segs_view (out-Group g).segs.items; one_comma = (out-Group g).one_comma; end = texts (out-Group g).end.items })
 a_rule kind x g call dots = rw (call.is, dots, call.args, call.comma, call.end) refl

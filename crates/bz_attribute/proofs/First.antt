@@ -8,7 +8,7 @@ use Rattle.bz_tree.specs.Tree.{Item, Segment}
 use Rattle.bz_tree.specs.View.{seg_view, segs_view, node_view}
 use Rattle.bz_attribute.specs.Rules.{is_named, first_named, name_of, is_text}
 use Rattle.bz_attribute.specs.Effects.{edit_first, has}
-use Rattle.bz_attribute.specs.Places.{IsFirst, IsAbsent}
+use Rattle.bz_attribute.specs.private.Places.{IsFirst, IsAbsent}
 use Rattle.std.specs.List.{remove}
 use Rattle.bz_attribute.proofs.Groups.{view_of_seg}
 

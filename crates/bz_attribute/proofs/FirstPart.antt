@@ -8,7 +8,7 @@ use Rattle.bz_tree.specs.View.{node_view, nodes_view}
 use Rattle.bz_attribute.specs.Lists.{edit_one_from, edit_first_part, edit_list, is_part, is_joint, parts_from, parts}
 use Rattle.bz_attribute.specs.Effects.{no_parts}
 use Rattle.bz_attribute.specs.Rules.{elements}
-use Rattle.bz_attribute.specs.Places.{IsFirstPart, first_list}
+use Rattle.bz_attribute.specs.private.Places.{IsFirstPart, first_list}
 
 -- nothing before i is a part, and a piece begins at i where `start`
 pub record NoPartYet (ns : List Node) (i : ℕ) (start : Bool) : Type 0 where

@@ -10,9 +10,9 @@ use Rattle.bz_attribute.specs.Lists.{edit_from, edit_list, is_part, is_plus}
 pub edit_step : (f : List Segment → List Segment) (start : Bool) (xs : List Item) (i : ℕ) (x y d : Item) → i < length xs → x ≡ get_or xs i d → y ≡ (if is_part start x (drop (i + 1) xs) then edit_list f x else x) → take (i + 1) (set xs i y) ++ edit_from f (is_plus x) (drop (i + 1) (set xs i y)) ≡ take i xs ++ edit_from f start (drop i xs)
 edit_step f start xs i x y d h at made =
     let front = take_more_set xs i y h in
-    let behind : drop (i + 1) (set xs i y) ≡ drop (i + 1) xs = drop-set-lt (i + 1) xs i y (omega arith) in
+    let following : drop (i + 1) (set xs i y) ≡ drop (i + 1) xs = drop-set-lt (i + 1) xs i y (omega arith) in
     let here : drop i xs ≡ x ∷ drop (i + 1) xs = drop_more xs i d h ∙ ap (λ z. z ∷ drop (i + 1) xs) (sym at) in
-    rw (front, behind, here, append_assoc, made) refl
+    rw (front, following, here, append_assoc, made) refl
 
 -- the same over nodes, where the node at i was edited and is now m
 pub edit_node_step : (f : List Segment → List Segment) (start next : Bool) (ns ms : List Node) (i : ℕ) (n m d e : Node) → i < length ns → ms ≡ set ns i m → next ≡ is_plus (node_view (get_or ns i n)) → is_part start (node_view (get_or ns i e)) (nodes_view (drop (i + 1) ns)) ≡ true → node_view m ≡ edit_list f (node_view (get_or ns i d)) → take (i + 1) (nodes_view ms) ++ edit_from f next (drop (i + 1) (nodes_view ms)) ≡ take i (nodes_view ns) ++ edit_from f start (drop i (nodes_view ns))

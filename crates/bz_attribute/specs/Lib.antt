@@ -1,15 +1,13 @@
 pub mod Applied
-pub mod ChosenViews
 pub mod Commenting
 pub mod Effects
-pub mod ElementSets
 pub mod Lists
 pub mod Marks
 pub mod Moving
-pub mod Places
 pub mod Printing
 pub mod Replacing
 pub mod Rules
 pub mod RuleViews
 pub mod Setting
 pub mod Texts
+pub mod private

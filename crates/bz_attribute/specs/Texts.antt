@@ -5,7 +5,7 @@ use Rattle.bz_tree.specs.Tree.{Statement, Item}
 use Rattle.bz_command.specs.Labels.{Package, Target, Name, Pkg, All, Kind, Line}
 use Rattle.bz_attribute.specs.Rules.{Rule, rule_of, kind_text, name_in}
 
--- a package and the colon behind it
+-- a package and the colon after it
 abbrev pub home_text : Package → List ℕ
 home_text None = codes "-:"
 home_text (Some path) = 47 ∷ 47 ∷ (path ++ 58 ∷ [])

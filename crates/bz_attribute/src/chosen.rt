@@ -5,7 +5,7 @@ ghost use Rattle.std.specs.List.{list_any};
 ghost use Rattle.bz_tree.specs.View.{node_view, nodes_view, seg_view, segs_view};
 ghost use Rattle.bz_attribute.specs.Rules.{elements, value};
 ghost use Rattle.bz_attribute.specs.Lists.{edit_list, edit_parts, parts, with_value};
-ghost use Rattle.bz_attribute.specs.ChosenViews.{chosen_view};
+ghost use Rattle.bz_attribute.specs.private.ChosenViews.{chosen_view};
 ghost use Rattle.bz_attribute.specs.Effects as spec;
 
 use crate::equals::{equals, equals_any};

@@ -7,7 +7,7 @@ ghost use Rattle.bz_attribute.specs.Rules.{string_value};
 ghost use Rattle.bz_command.specs.Labels.{is_colon, last_of, parts_of};
 ghost use Rattle.bz_command.specs.Same as same;
 ghost use Rattle.bz_attribute.specs.Lists as spec;
-ghost use Rattle.bz_command.specs.ByteSteps.{left, is_good, chain_bytes, is_good_chain, begins, is_bare_path};
+ghost use Rattle.bz_command.specs.private.ByteSteps.{left, is_good, chain_bytes, is_good_chain, begins, is_bare_path};
 
 use crate::rule::only_text;
 use bz_command::{Bytes, Package, Text, same_label, value_of};

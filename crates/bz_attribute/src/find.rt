@@ -4,7 +4,7 @@ ghost use Rattle.std.specs.Prelude.{◌≡◌, IfSome, IfNone, None, true};
 ghost use Rattle.std.specs.List.{position_or_len};
 ghost use Rattle.bz_tree.specs.View.{nodes_view, node_view, segs_view};
 ghost use Rattle.bz_attribute.specs.Rules as spec;
-ghost use Rattle.bz_attribute.specs.Places.{IsFirst, IsAbsent, IsCallAt};
+ghost use Rattle.bz_attribute.specs.private.Places.{IsFirst, IsAbsent, IsCallAt};
 
 use crate::rule::{are_dotted, is_named};
 use bz_tree::{GroupKind, Node, Seg};

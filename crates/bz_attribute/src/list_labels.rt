@@ -7,7 +7,7 @@ ghost use Rattle.bz_attribute.specs.Lists.{parts};
 ghost use Rattle.bz_command.specs.Commands.{Values};
 ghost use Rattle.bz_attribute.specs.Effects.{is_chosen};
 ghost use Rattle.bz_command.specs.LabelSetViews.{Gains, has};
-ghost use Rattle.bz_attribute.specs.ElementSets.{is_among, is_in};
+ghost use Rattle.bz_attribute.specs.private.ElementSets.{is_among, is_in};
 
 use crate::equals::string_of;
 use crate::lists::{are_joints, is_part};

@@ -4,7 +4,7 @@ ghost use Rattle.std.specs.Prelude.{◌≡◌, ◌<◌, ◌+◌, length, get_or,
 ghost use Rattle.std.specs.List.{list_all};
 ghost use Rattle.bz_tree.specs.View.{node_view, nodes_view, seg_view};
 ghost use Rattle.bz_attribute.specs.Lists as spec;
-ghost use Rattle.bz_attribute.specs.Places.{IsFirstPart};
+ghost use Rattle.bz_attribute.specs.private.Places.{IsFirstPart};
 
 use crate::rule::{is_sign, name_of};
 use bz_token::Kind;

@@ -1,4 +1,4 @@
-//! New tokens, elements and arguments. What cannot be made for want of memory leaves nothing behind.
+//! New tokens, elements and arguments. What cannot be made for want of memory leaves nothing after.
 
 ghost use Rattle.std.specs.Prelude.{◌≡◌, ◌<◌, IfOk, map, string_bytes, codes, ◌∷◌, []};
 ghost use Rattle.std.specs.Vec.{vec_len, vec_capacity};

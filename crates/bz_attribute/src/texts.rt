@@ -33,7 +33,7 @@ pub fn shown(alloc: Global, home: &Package, stmt: &Stmt<'_>) -> Result<String, A
     Ok(text)
 }
 
-/// Writes a package and the colon behind it.
+/// Writes a package and the colon after it.
 pub fn push_home(text: &mut String, home: &Package) -> Result<(), AllocError>
     ensures { OnOk result (string_bytes text.new ≡ string_bytes text.old ++ spec.home_text home.now) }
 {

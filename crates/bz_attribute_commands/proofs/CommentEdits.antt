@@ -10,9 +10,9 @@ use Rattle.bz_tree.specs.View.{node_view, nodes_view, seg_view, segs_view}
 use Rattle.bz_attribute.specs.Rules.{elements, is_named}
 use Rattle.bz_attribute.specs.Lists.{edit_list, is_part, is_joint, parts_from, parts}
 use Rattle.bz_attribute.specs.Effects.{edit_first}
-use Rattle.bz_attribute.specs.Places.{IsFirst}
+use Rattle.bz_attribute.specs.private.Places.{IsFirst}
 use Rattle.bz_attribute.specs.Commenting.{is_blank, trimmed, edit_element, edit_element_from}
-use Rattle.bz_attribute_commands.specs.CommentPlaces.{IsFirstOf, IsNowhere, IsPartWith, ends_blank}
+use Rattle.bz_attribute_commands.specs.private.CommentPlaces.{IsFirstOf, IsNowhere, IsPartWith, ends_blank}
 use Rattle.bz_attribute.proofs.First.{has_one, has_none, put_first, edit_first_none}
 
 -- a blank at the end

@@ -15,7 +15,7 @@ joined_more : (name : List ℕ) (names : List (List ℕ)) → 0 < length names �
 joined_more name [] h = absurd (omega arith)
 joined_more name (other ∷ names) h = refl
 
--- one name and the dot behind it
+-- one name and the dot after it
 pub kind_step : (nodes : List Item) (left name rest : List ℕ) → slice_split (λ b. b == 46) left ≡ name ∷ slice_split (λ b. b == 46) rest
     → ((nodes ++ ident_item name ∷ []) ++ dot_item ∷ []) ++ kind_items rest ≡ nodes ++ kind_items left
 kind_step nodes left name rest h =

@@ -10,21 +10,21 @@ use Rattle.bz_command.specs.Commands.{Field}
 use Rattle.bz_attribute.specs.Rules.{Rule}
 use Rattle.bz_attribute.specs.Effects.{first_note}
 use Rattle.bz_attribute.specs.Printing.{spaced, missing, field_text, field_name}
-use Rattle.bz_attribute_commands.specs.PrintSteps.{element_word, spaced_behind}
+use Rattle.bz_attribute_commands.specs.private.PrintSteps.{element_word, spaced_after}
 use Rattle.bz_attribute.specs.declared.done.Note.{Note}
 use Rattle.bz_attribute.specs.declared.done.Note.TheVariants.{Missing}
 
-spaced_first : (word : List ℕ) (words : List (List ℕ)) → spaced (word ∷ words) ≡ word ++ spaced_behind words
+spaced_first : (word : List ℕ) (words : List (List ℕ)) → spaced (word ∷ words) ≡ word ++ spaced_after words
 spaced_first word [] = sym (append-nil word)
 spaced_first word (other ∷ words) = ap (λ (z : List ℕ). word ++ 32 ∷ z) (spaced_first other words)
 
 -- the first word is written
-pub first_word : (old new word : List ℕ) (words : List (List ℕ)) → old ≡ [] → new ≡ old ++ word → new ++ spaced_behind words ≡ spaced (word ∷ words)
+pub first_word : (old new word : List ℕ) (words : List (List ℕ)) → old ≡ [] → new ≡ old ++ word → new ++ spaced_after words ≡ spaced (word ∷ words)
 first_word old new word words empty pushed = rw (pushed, empty) (sym (spaced_first word words))
 
 -- a space and the next one
 pub next_word : {X Y : Type 0} (f : Y → List ℕ) (g : X → Y) (xs : List X) (x : X) (i : ℕ) (old mid new : List ℕ) → i < length xs → x ≡ get_or xs i x → mid ≡ old ++ 32 ∷ [] → new ≡ mid ++ f (g x)
-    → new ++ spaced_behind (map f (map g (drop (i + 1) xs))) ≡ old ++ spaced_behind (map f (map g (drop i xs)))
+    → new ++ spaced_after (map f (map g (drop (i + 1) xs))) ≡ old ++ spaced_after (map f (map g (drop i xs)))
 next_word f g xs x i old mid new h is space pushed =
     rw (pushed, space, drop-cons xs i x, ← is, add-one, append_assoc, append_assoc) refl
 
@@ -34,11 +34,11 @@ first_and_others (x ∷ es) e some is =
     ap (λ (z : Seg). z ∷ es) (sym is) ∙ ap (λ (zs : List Seg). e ∷ zs) (sym (take_all (length (x ∷ es) - 1) es (omega arith)))
 
 pub first_element : (old new : List ℕ) (es : List Seg) (e : Seg) → 1 ≤ length es → e ≡ get_or es 0 e → new ≡ old ++ element_word (seg_view e)
-    → new ++ spaced_behind (map element_word (segs_view (take (length es - 1) (drop 1 es)))) ≡ old ++ spaced (map element_word (segs_view es))
+    → new ++ spaced_after (map element_word (segs_view (take (length es - 1) (drop 1 es)))) ≡ old ++ spaced (map element_word (segs_view es))
 first_element old new es e some is pushed =
     let others : List Seg = take (length es - 1) (drop 1 es) in
-    ap (λ (z : List ℕ). z ++ spaced_behind (map element_word (segs_view others))) pushed
-    ∙ append_assoc old (element_word (seg_view e)) (spaced_behind (map element_word (segs_view others)))
+    ap (λ (z : List ℕ). z ++ spaced_after (map element_word (segs_view others))) pushed
+    ∙ append_assoc old (element_word (seg_view e)) (spaced_after (map element_word (segs_view others)))
     ∙ ap (λ (z : List ℕ). old ++ z) (sym (spaced_first (element_word (seg_view e)) (map element_word (segs_view others))))
     ∙ ap (λ (z : List Seg). old ++ spaced (map element_word (segs_view z))) (sym (first_and_others es e some is))
 

@@ -10,8 +10,8 @@ ghost use Rattle.bz_command.specs.Commands.{Comment};
 ghost use Rattle.bz_attribute.specs.Rules.{elements, rule_of};
 ghost use Rattle.bz_attribute.specs.Lists.{edit_list, equals, parts};
 ghost use Rattle.bz_attribute.specs.Effects.{done, edit_first, holds_rule, is_absent};
-ghost use Rattle.bz_attribute_commands.specs.CommentPlaces.{IsFirstOf, IsNowhere, IsPartWith};
-ghost use Rattle.bz_attribute_commands.specs.CommentPlaces as place;
+ghost use Rattle.bz_attribute_commands.specs.private.CommentPlaces.{IsFirstOf, IsNowhere, IsPartWith};
+ghost use Rattle.bz_attribute_commands.specs.private.CommentPlaces as place;
 ghost use Rattle.bz_attribute.specs.Commenting as spec;
 
 use bz_attribute::done::{Done, Note};

@@ -8,7 +8,7 @@ ghost use Rattle.bz_command.specs.CommandViews.{field_view};
 ghost use Rattle.bz_attribute.specs.RuleViews.{rule_view};
 ghost use Rattle.bz_attribute.specs.Rules.{string_value, value};
 ghost use Rattle.bz_attribute.specs.Effects.{holds_rule};
-ghost use Rattle.bz_attribute_commands.specs.PrintSteps.{attribute_in, element_word, label_in, missing_as};
+ghost use Rattle.bz_attribute_commands.specs.private.PrintSteps.{attribute_in, element_word, label_in, missing_as};
 ghost use Rattle.bz_attribute.specs.declared.done.Note.TheVariants.{Missing};
 ghost use Rattle.bz_attribute.specs.Printing as spec;
 

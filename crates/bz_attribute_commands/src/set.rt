@@ -6,7 +6,7 @@ ghost use Rattle.bz_tree.specs.View.{node_view, nodes_view, seg_view, segs_view}
 ghost use Rattle.bz_attribute.specs.Rules.{elements, first_named, is_named, is_text, string_value};
 ghost use Rattle.bz_attribute.specs.Lists.{is_list};
 ghost use Rattle.bz_attribute.specs.Effects as effects;
-ghost use Rattle.bz_attribute_commands.specs.SettingViews.{new_view};
+ghost use Rattle.bz_attribute_commands.specs.private.SettingViews.{new_view};
 ghost use Rattle.bz_attribute.specs.Setting as spec;
 
 use bz_attribute::done::Done;
@@ -119,7 +119,7 @@ fn set_in(alloc: Global, attr: &str, words: &[Text], arg: &mut Seg<'_>) -> Resul
     Ok(Done::quiet(true))
 }
 
-// Puts a value in place of the one behind a name and its sign. An `Err` leaves the nodes as they were.
+// Puts a value in place of the one after a name and its sign. An `Err` leaves the nodes as they were.
 fn put_value<'a>(nodes: &mut Vec<Node<'a>>, value: Node<'a>) -> Result<(), AllocError>
     ensures nodes { OnOk result (nodes_view nodes.new.items ≡ take 2 (nodes_view nodes.old.items) ++ node_view value.entry ∷ []) }
     ensures err { OnErr result (nodes_view nodes.new.items ≡ nodes_view nodes.old.items) }

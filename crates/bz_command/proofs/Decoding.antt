@@ -7,57 +7,57 @@ use Rattle.std.proofs.lemmas.Bool.{cases_Bool, and_parts, or_left, or_right, or_
 use Rattle.std.proofs.lemmas.List.{drop-drop, take_more, get_or-drop, length-drop, get_or-take, length-take-le}
 use Rattle.std.proofs.lemmas.Str.{IsCharBoundary-start, IsCharBoundary-after_ascii, IsCharBoundary-before_ascii}
 use Rattle.bz_command.specs.Values.{opening, is_quote, escapes, meant, unit_value, is_newline, and_then}
-use Rattle.bz_command.specs.ValueSteps.{first_len, inner_value, value_in}
+use Rattle.bz_command.specs.private.ValueSteps.{first_len, inner_value, value_in}
 use Rattle.bz_command.proofs.Literals.{step, closed}
 
 -- the bytes that are to be taken over
 abbrev pub run : ℕ → ℕ → List ℕ → List ℕ
 run from at inner = take (at - from) (drop from inner)
 
-abbrev pub behind : List ℕ → Option (List ℕ) → Option (List ℕ)
-behind done o = option_map (λ v. done ++ v) o
+abbrev pub after : List ℕ → Option (List ℕ) → Option (List ℕ)
+after done o = option_map (λ v. done ++ v) o
 
 -- where the walk stands: `done` is written, the bytes from `from` to `at` are to be, and the rest is to be read
 pub record Decoded (raw : Bool) (quotes inner done : List ℕ) (from at : ℕ) : Type 0 where
   pub within : at ≤ length inner
   pub before : from ≤ at
   pub boundary : IsCharBoundary inner from
-  pub same : behind (done ++ run from at inner) (inner_value raw quotes (drop at inner)) ≡ inner_value raw quotes inner
+  pub same : after (done ++ run from at inner) (inner_value raw quotes (drop at inner)) ≡ inner_value raw quotes inner
 
-behind_nothing : (o : Option (List ℕ)) → behind [] o ≡ o
-behind_nothing None = refl
-behind_nothing (Some v) = refl
+after_nothing : (o : Option (List ℕ)) → after [] o ≡ o
+after_nothing None = refl
+after_nothing (Some v) = refl
 
-behind_more : (a b : List ℕ) (o : Option (List ℕ)) → behind a (behind b o) ≡ behind (a ++ b) o
-behind_more a b None = refl
-behind_more a b (Some v) = ap (λ (x : List ℕ). Some x) (sym (append_assoc a b v))
+after_more : (a b : List ℕ) (o : Option (List ℕ)) → after a (after b o) ≡ after (a ++ b) o
+after_more a b None = refl
+after_more a b (Some v) = ap (λ (x : List ℕ). Some x) (sym (append_assoc a b v))
 
-behind_one : (v : ℕ) (o : Option (List ℕ)) → and_then (Some v) o ≡ behind (v ∷ []) o
-behind_one v None = refl
-behind_one v (Some w) = refl
+after_one : (v : ℕ) (o : Option (List ℕ)) → and_then (Some v) o ≡ after (v ∷ []) o
+after_one v None = refl
+after_one v (Some w) = refl
 
 pub start : (raw : Bool) (quotes inner : List ℕ) → IsUtf8 inner → Decoded raw quotes inner [] 0 0
 start raw quotes inner utf8 = record {
   within = omega arith;
   before = omega arith;
   boundary = IsCharBoundary-start inner utf8;
-  same = behind_nothing (inner_value raw quotes inner);
+  same = after_nothing (inner_value raw quotes inner);
 }
 
 pub some_left : (inner : List ℕ) (at : ℕ) → at < length inner → 0 < length (drop at inner)
 some_left inner at h = omega (arith, length-drop at inner)
 
-behind_end : (w : List ℕ) (t : Bool) → behind w (if t then Some [] else None) ≡ (if t then Some w else None)
-behind_end w true = ap (λ (x : List ℕ). Some x) (append-nil w)
-behind_end w false = refl
+after_end : (w : List ℕ) (t : Bool) → after w (if t then Some [] else None) ≡ (if t then Some w else None)
+after_end w true = ap (λ (x : List ℕ). Some x) (append-nil w)
+after_end w false = refl
 
 -- at the closing quotes
 pub at_closing : (raw : Bool) (quotes inner done : List ℕ) (from at : ℕ) → Decoded raw quotes inner done from at → at < length inner → starts_with nat_eq (drop at inner) quotes ≡ true
     → inner_value raw quotes inner ≡ (if length (drop at inner) == length quotes then Some (done ++ run from at inner) else None)
 at_closing raw quotes inner done from at d some h =
     sym d.same
-    ∙ ap (behind (done ++ run from at inner)) (closed raw quotes (drop at inner) (some_left inner at some) h)
-    ∙ behind_end (done ++ run from at inner) (length (drop at inner) == length quotes)
+    ∙ ap (after (done ++ run from at inner)) (closed raw quotes (drop at inner) (some_left inner at some) h)
+    ∙ after_end (done ++ run from at inner) (length (drop at inner) == length quotes)
 
 stepped : (raw : Bool) (quotes rest : List ℕ) (n : ℕ) (x : Option ℕ) → 0 < length rest → starts_with nat_eq rest quotes ≡ false → n ≡ first_len rest → value_in raw (length quotes == 1) (take n rest) ≡ x
     → inner_value raw quotes rest ≡ and_then x (inner_value raw quotes (drop n rest))
@@ -69,7 +69,7 @@ stepped raw quotes rest n x some h e is =
 pub at_fault : (raw : Bool) (quotes inner done : List ℕ) (from at n : ℕ) → Decoded raw quotes inner done from at → at < length inner → starts_with nat_eq (drop at inner) quotes ≡ false
     → n ≡ first_len (drop at inner) → value_in raw (length quotes == 1) (take n (drop at inner)) ≡ None → inner_value raw quotes inner ≡ None
 at_fault raw quotes inner done from at n d some h e none =
-    sym d.same ∙ ap (behind (done ++ run from at inner)) (stepped raw quotes (drop at inner) n None (some_left inner at some) h e none)
+    sym d.same ∙ ap (after (done ++ run from at inner)) (stepped raw quotes (drop at inner) n None (some_left inner at some) h e none)
 
 use_value : (raw short : Bool) (u : List ℕ) (v : ℕ) → value_in raw short u ≡ Some v → unit_value raw u ≡ Some v
 use_value raw short u v h = elim (cases_Bool (short && is_newline u)) [
@@ -94,12 +94,12 @@ run_more from at inner h some =
     ∙ ap (λ (b : ℕ). run from at inner ++ b ∷ []) (get_or-drop from inner (at - from) 0 ∙ ap (λ k. get_or inner k 0) place)
 
 -- what one value more says
-one_more : (raw : Bool) (quotes inner w : List ℕ) (at n v : ℕ) → behind w (inner_value raw quotes (drop at inner)) ≡ inner_value raw quotes inner → inner_value raw quotes (drop at inner) ≡ and_then (Some v) (inner_value raw quotes (drop n (drop at inner)))
-    → behind (w ++ v ∷ []) (inner_value raw quotes (drop (at + n) inner)) ≡ inner_value raw quotes inner
+one_more : (raw : Bool) (quotes inner w : List ℕ) (at n v : ℕ) → after w (inner_value raw quotes (drop at inner)) ≡ inner_value raw quotes inner → inner_value raw quotes (drop at inner) ≡ and_then (Some v) (inner_value raw quotes (drop n (drop at inner)))
+    → after (w ++ v ∷ []) (inner_value raw quotes (drop (at + n) inner)) ≡ inner_value raw quotes inner
 one_more raw quotes inner w at n v h e =
-    ap (λ (bs : List ℕ). behind (w ++ v ∷ []) (inner_value raw quotes bs)) (sym (drop-drop n at inner))
-    ∙ sym (behind_more w (v ∷ []) (inner_value raw quotes (drop n (drop at inner))))
-    ∙ ap (behind w) (sym (e ∙ behind_one v (inner_value raw quotes (drop n (drop at inner)))))
+    ap (λ (bs : List ℕ). after (w ++ v ∷ []) (inner_value raw quotes bs)) (sym (drop-drop n at inner))
+    ∙ sym (after_more w (v ∷ []) (inner_value raw quotes (drop n (drop at inner))))
+    ∙ ap (after w) (sym (e ∙ after_one v (inner_value raw quotes (drop n (drop at inner)))))
     ∙ h
 
 pub past_byte : (raw : Bool) (quotes inner done : List ℕ) (from at v : ℕ) → Decoded raw quotes inner done from at → at < length inner → starts_with nat_eq (drop at inner) quotes ≡ false
@@ -116,7 +116,7 @@ past_byte raw quotes inner done from at v d some h e is =
       before = omega (arith, d.before);
       boundary = d.boundary;
       same =
-          ap (λ (w : List ℕ). behind w (inner_value raw quotes (drop (at + 1) inner))) more
+          ap (λ (w : List ℕ). after w (inner_value raw quotes (drop (at + 1) inner))) more
           ∙ one_more raw quotes inner (done ++ run from at inner) at 1 v d.same (stepped raw quotes (drop at inner) 1 (Some v) (some_left inner at some) h e is);
     }
 
@@ -215,8 +215,8 @@ past_escape raw quotes inner done from at n v utf8 d some h e is more =
       before = omega arith;
       boundary = boundary_after inner (at + (n - 1)) (at + n) utf8 (omega arith) last (omega arith);
       same =
-          ap (λ (w : List ℕ). behind (done ++ run from at inner ++ v ∷ [] ++ w) (inner_value raw quotes (drop (at + n) inner))) (run_none (at + n) inner)
-          ∙ ap (λ (w : List ℕ). behind w (inner_value raw quotes (drop (at + n) inner))) (append-nil (done ++ run from at inner ++ v ∷ []))
+          ap (λ (w : List ℕ). after (done ++ run from at inner ++ v ∷ [] ++ w) (inner_value raw quotes (drop (at + n) inner))) (run_none (at + n) inner)
+          ∙ ap (λ (w : List ℕ). after w (inner_value raw quotes (drop (at + n) inner))) (append-nil (done ++ run from at inner ++ v ∷ []))
           ∙ one_more raw quotes inner (done ++ run from at inner) at n v d.same (stepped raw quotes (drop at inner) n (Some v) (some_left inner at some) h e is);
     }
 
@@ -253,7 +253,7 @@ escape_boundary raw short inner rest at n v some is e value more = boundary_at i
 pub value_ascii : (raw short : Bool) (rest : List ℕ) (n v : ℕ) → n ≡ first_len rest → value_in raw short (take n rest) ≡ Some v → 1 < n → v < 128
 value_ascii raw short rest n v e value more = (ascii_at raw short rest n v e value more).worth
 
--- the places behind the opening quotes, and behind the first byte
+-- the places after the opening quotes, and after the first byte
 last_quote : (q : ℕ) (bs : List ℕ) (n : ℕ) → length (opening (q ∷ bs)) ≡ n → get_or (opening (q ∷ bs)) (n - 1) 0 ≡ q
 last_quote q bs n e = elim (cases_Bool (starts_with nat_eq bs (q ∷ q ∷ []))) [
   | inl long ↦ let three : 3 ≡ n = rw long at e in rw (long, sym three) refl
@@ -266,13 +266,13 @@ quote_low q h = elim (or_cases (q == 34) (q == 39) h) [
   | inr is ↦ let e : q ≡ 39 = eqb-true q 39 is in omega arith
 ]
 
-pub behind_quotes : (literal : List ℕ) (n : ℕ) → IsUtf8 literal → 0 < length literal → is_quote (slice_index_or literal 0 0) ≡ true → 0 < n → n ≤ length literal → opening literal ≡ take n literal → IsCharBoundary literal n
-behind_quotes [] n utf8 some q low fits e = absurd (omega arith)
-behind_quotes (b ∷ bs) n utf8 some q low fits e =
+pub after_quotes : (literal : List ℕ) (n : ℕ) → IsUtf8 literal → 0 < length literal → is_quote (slice_index_or literal 0 0) ≡ true → 0 < n → n ≤ length literal → opening literal ≡ take n literal → IsCharBoundary literal n
+after_quotes [] n utf8 some q low fits e = absurd (omega arith)
+after_quotes (b ∷ bs) n utf8 some q low fits e =
     let count : length (opening (b ∷ bs)) ≡ n = ap length e ∙ length-take-le n (b ∷ bs) fits in
     let same : get_or (b ∷ bs) (n - 1) 0 ≡ b = sym (get_or-take n (b ∷ bs) (n - 1) 0 (omega arith)) ∙ ap (λ (xs : List ℕ). get_or xs (n - 1) 0) (sym e) ∙ last_quote b bs n count in
     let small : b < 128 = quote_low b q in
     boundary_after (b ∷ bs) (n - 1) n utf8 (omega arith) (omega arith) (omega arith)
 
-pub behind_first : (text : List ℕ) → IsUtf8 text → 0 < length text → slice_index_or text 0 0 ≡ 114 → IsCharBoundary text 1
-behind_first text utf8 some e = boundary_after text 0 1 utf8 some (omega arith) (omega arith)
+pub after_first : (text : List ℕ) → IsUtf8 text → 0 < length text → slice_index_or text 0 0 ≡ 114 → IsCharBoundary text 1
+after_first text utf8 some e = boundary_after text 0 1 utf8 some (omega arith) (omega arith)

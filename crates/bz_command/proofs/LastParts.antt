@@ -3,7 +3,7 @@ use Rattle.std.proofs.Common.{◌≡◌, ℕ, ◌<◌, List, [], ◌∷◌, leng
 use Rattle.std.specs.List.{list_any, onto_first}
 use Rattle.std.proofs.lemmas.Bool.{cases_Bool}
 use Rattle.bz_command.specs.Labels.{is_slash, last_of, parts_of}
-use Rattle.bz_command.specs.ByteSteps.{last_from}
+use Rattle.bz_command.specs.private.ByteSteps.{last_from}
 use Rattle.bz_command.proofs.Cuts.{last_cons, some_part}
 
 -- a text without a slash is its only part

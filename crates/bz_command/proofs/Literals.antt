@@ -6,7 +6,7 @@ use Rattle.std.proofs.lemmas.Bool.{cases_Bool, and_parts, or_parts, eqb-false, e
 use Rattle.std.proofs.lemmas.List.{take_all, take_rest}
 use Rattle.std.proofs.lemmas.Slice.Eq.{bytes_eq-Decides}
 use Rattle.bz_command.specs.Values.{grouped_from, takes, units, joined, content, is_newline, unit_value, values_in, and_then, is_quote, prefix_of, inner_of, value_of}
-use Rattle.bz_command.specs.ValueSteps.{first_len, is_value, inner_value, value_in}
+use Rattle.bz_command.specs.private.ValueSteps.{first_len, is_value, inner_value, value_in}
 
 -- nothing more joins a group
 apart : (g xs : List ℕ) → ((x : ℕ) → takes g x ≡ false) → grouped_from takes g xs ≡ g ∷ units xs
@@ -216,7 +216,7 @@ pub quoted_value : (bs : List ℕ) → 0 < length bs → is_quote (slice_index_o
 quoted_value [] some h = absurd (omega arith)
 quoted_value (b ∷ bs) some h = rw h refl
 
--- a text behind its `r`
-pub behind_r : (text : List ℕ) → 0 < length text → slice_index_or text 0 0 ≡ 114 → text ≡ 114 ∷ take (length text - 1) (drop 1 text)
-behind_r [] some e = absurd (omega arith)
-behind_r (b ∷ bs) some e = ap (λ (x : ℕ). x ∷ bs) e ∙ ap (λ (xs : List ℕ). 114 ∷ xs) (sym (take_rest (b ∷ bs) 1))
+-- a text after its `r`
+pub after_r : (text : List ℕ) → 0 < length text → slice_index_or text 0 0 ≡ 114 → text ≡ 114 ∷ take (length text - 1) (drop 1 text)
+after_r [] some e = absurd (omega arith)
+after_r (b ∷ bs) some e = ap (λ (x : ℕ). x ∷ bs) e ∙ ap (λ (xs : List ℕ). 114 ∷ xs) (sym (take_rest (b ∷ bs) 1))

@@ -9,9 +9,9 @@ pub moved_between : (old new : List ℕ) (words : List (List ℕ)) → 0 < lengt
 moved_between old new [] some both differ = absurd (omega arith)
 moved_between old new (value ∷ values) some both differ = rw (both, differ) refl
 
-pub renamed : (words behind left : List (List ℕ)) (old new : List ℕ) → words ≡ old ∷ behind → behind ≡ new ∷ left → length left ≡ 0 → (is_identifier old && is_identifier new) ≡ true → rename_of words ≡ Ok (Rename old new)
-renamed words behind [] old new first second none both = rw (first, second, both) refl
-renamed words behind (word ∷ left) old new first second none both = absurd (omega arith)
+pub renamed : (words after left : List (List ℕ)) (old new : List ℕ) → words ≡ old ∷ after → after ≡ new ∷ left → length left ≡ 0 → (is_identifier old && is_identifier new) ≡ true → rename_of words ≡ Ok (Rename old new)
+renamed words after [] old new first second none both = rw (first, second, both) refl
+renamed words after (word ∷ left) old new first second none both = absurd (omega arith)
 
 -- what a `move` that was read keeps
 pub kept_move : (old new : List ℕ) (words : List (List ℕ)) → 0 < length words → (is_identifier old && is_identifier new) ≡ true → bytes_eq old new ≡ false → is_command (Move old new (moved_of words)) ≡ true

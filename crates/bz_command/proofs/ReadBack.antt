@@ -3,7 +3,7 @@ use Rattle.std.proofs.Common.{◌≡◌, ℕ, ◌==◌, List, [], ◌∷◌, ◌
 use Rattle.std.specs.List.{flat_map, starts_with}
 use Rattle.std.proofs.lemmas.Bool.{cases_Bool, eqb-false, ne_eqb}
 use Rattle.bz_command.specs.Values.{written, quoted, escapes, meant, value_of, opening}
-use Rattle.bz_command.specs.ValueSteps.{first_len, inner_value}
+use Rattle.bz_command.specs.private.ValueSteps.{first_len, inner_value}
 use Rattle.bz_command.proofs.Literals.{step}
 
 escape_len : (x : ℕ) (r : List ℕ) → x == 13 ≡ false → first_len (92 ∷ x ∷ r) ≡ 2

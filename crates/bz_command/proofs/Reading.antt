@@ -4,8 +4,8 @@ use Rattle.std.specs.Prelude.{if◌then◌else◌, nat_eq}
 use Rattle.std.specs.List.{starts_with}
 use Rattle.std.proofs.lemmas.List.{take_rest}
 use Rattle.bz_command.specs.Values.{and_then}
-use Rattle.bz_command.specs.ValueSteps.{first_len, inner_value, value_in}
-use Rattle.bz_command.specs.ByteSteps.{or_nothing}
+use Rattle.bz_command.specs.private.ValueSteps.{first_len, inner_value, value_in}
+use Rattle.bz_command.specs.private.ByteSteps.{or_nothing}
 use Rattle.bz_command.proofs.Literals.{step, closed}
 
 abbrev nothing : List ℕ
@@ -42,14 +42,14 @@ first_of : (b : ℕ) (o : Option (List ℕ)) → is_some o ≡ true → or_nothi
 first_of b None h = absurd cc
 first_of b (Some bs) h = refl
 
--- the first byte of a value, and what is left behind it
+-- the first byte of a value, and what is left after it
 pub next_left : (raw : Bool) (quotes rest : List ℕ) (n b : ℕ) (x : Option ℕ) → 0 < length rest → starts_with nat_eq rest quotes ≡ false → n ≡ first_len rest → x ≡ value_in raw (length quotes == 1) (take n rest) → x ≡ Some b
     → is_some (inner_value raw quotes rest) ≡ true
     → or_nothing (inner_value raw quotes rest) ≡ b ∷ or_nothing (inner_value raw quotes (take (length rest - n) (drop n rest)))
 next_left raw quotes rest n b x some h e f is good =
     let at : inner_value raw quotes rest ≡ and_then (Some b) (inner_value raw quotes (drop n rest)) = step raw quotes rest some h ∙ rw (← e, ← f, is) refl in
-    let behind : is_some (inner_value raw quotes (drop n rest)) ≡ true = sym (more_some b (inner_value raw quotes (drop n rest))) ∙ ap is_some (sym at) ∙ good in
-    ap or_nothing at ∙ first_of b (inner_value raw quotes (drop n rest)) behind ∙ ap (λ (bs : List ℕ). b ∷ or_nothing (inner_value raw quotes bs)) (sym (take_rest rest n))
+    let after : is_some (inner_value raw quotes (drop n rest)) ≡ true = sym (more_some b (inner_value raw quotes (drop n rest))) ∙ ap is_some (sym at) ∙ good in
+    ap or_nothing at ∙ first_of b (inner_value raw quotes (drop n rest)) after ∙ ap (λ (bs : List ℕ). b ∷ or_nothing (inner_value raw quotes bs)) (sym (take_rest rest n))
 
 pub next_good : (raw : Bool) (quotes rest : List ℕ) (n b : ℕ) (x : Option ℕ) → 0 < length rest → starts_with nat_eq rest quotes ≡ false → n ≡ first_len rest → x ≡ value_in raw (length quotes == 1) (take n rest) → x ≡ Some b
     → is_some (inner_value raw quotes rest) ≡ true

@@ -154,7 +154,7 @@ abbrev pub a_command : Result Command CommandFault → Result (Option Command) C
 a_command (Ok command) = Ok (Some command)
 a_command (Err fault) = Err fault
 
--- the words behind a command's name; another name is no command
+-- the words after a command's name; another name is no command
 abbrev pub named_command : List ℕ → List (List ℕ) → Result (Option Command) CommandFault
 named_command name words =
     if bytes_eq name (codes "add") then a_command (add_of words)

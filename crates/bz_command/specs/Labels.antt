@@ -62,7 +62,7 @@ is_target text = not (bytes_eq text []) && list_all (λ b. is_plain b && not (is
 abbrev pub is_number : List ℕ → Bool
 is_number text = not (bytes_eq text []) && list_all is_ascii_digit text
 
--- behind a percent sign stands a line number or a kind
+-- after a percent sign stands a line number or a kind
 abbrev pub percent_of : List ℕ → Result Target LabelFault
 percent_of text =
     if is_number text then (if nat_lt (digits_value 10 text) (2 ^ 64) then Ok (Line (digits_value 10 text)) else Err BadTarget)

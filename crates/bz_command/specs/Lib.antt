@@ -1,5 +1,3 @@
-pub mod ByteSteps
-pub mod CommandSteps
 pub mod CommandViews
 pub mod Commands
 pub mod LabelSetViews
@@ -7,8 +5,7 @@ pub mod LabelViews
 pub mod Labels
 pub mod Names
 pub mod Same
-pub mod ValueSteps
 pub mod Values
-pub mod WordSteps
 pub mod Words
 pub mod Passes
+pub mod private

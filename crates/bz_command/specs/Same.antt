@@ -18,7 +18,7 @@ in_package (Some path) text = 47 ∷ 47 ∷ (path ++ text)
 abbrev pub with_path : Package → List ℕ → List ℕ
 with_path package_ text = if starts_with nat_eq text (codes ":") then in_package package_ text else text
 
--- a name behind a path, where it has one
+-- a name after a path, where it has one
 abbrev pub named : List ℕ → List ℕ → List ℕ
 named path name = if bytes_eq name [] then path else path ++ 58 ∷ name
 

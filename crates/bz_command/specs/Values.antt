@@ -10,8 +10,8 @@ abbrev pub grouped_from : (List ℕ → ℕ → Bool) → List ℕ → List ℕ 
 grouped_from joins group [] = group ∷ []
 grouped_from joins group (x ∷ xs) = if joins group x then grouped_from joins (group ++ x ∷ []) xs else group ∷ grouped_from joins (x ∷ []) xs
 
--- What stands between a literal's quotes is units. An escape is one: a backslash takes the byte behind it, and a carriage
--- return also the newline behind that. A carriage return and a newline are one. Any other byte is one.
+-- What stands between a literal's quotes is units. An escape is one: a backslash takes the byte after it, and a carriage
+-- return also the newline after that. A carriage return and a newline are one. Any other byte is one.
 abbrev pub takes : List ℕ → ℕ → Bool
 takes unit b = bytes_eq unit (92 ∷ []) || (bytes_eq unit (92 ∷ 13 ∷ []) || bytes_eq unit (13 ∷ [])) && b == 10
 
@@ -57,7 +57,7 @@ inner_of text = content (opening text) (units (drop (length (opening text)) text
 abbrev pub is_string : List ℕ → Bool
 is_string text = is_prefix (prefix_of text) && is_some (inner_of (drop (length (prefix_of text)) text))
 
--- the escapes that have a value: what stands behind the backslash, and the value
+-- the escapes that have a value: what stands after the backslash, and the value
 abbrev pub escapes : List (ℕ × ℕ)
 escapes = (97, 7) ∷ (98, 8) ∷ (102, 12) ∷ (110, 10) ∷ (114, 13) ∷ (116, 9) ∷ (118, 11) ∷ (92, 92) ∷ (39, 39) ∷ (34, 34) ∷ []
 

@@ -1,11 +1,11 @@
--- The words of a command (this project's own rule): a text is split at runs of spaces, and a space behind a backslash is one of the word.
+-- The words of a command (this project's own rule): a text is split at runs of spaces, and a space after a backslash is one of the word.
 use Rattle.std.specs.Prelude.{ℕ, nat_eq, ◌-◌, ◌==◌, List, [], ◌∷◌, ◌++◌, Bool, not, if◌then◌else◌, filter, length, take, codes, bytes_eq}
 use Rattle.std.specs.List.{ends_with, slice_split}
 
 abbrev pub is_space : ℕ → Bool
 is_space b = b == 32
 
--- the space behind it does not split
+-- the space after it does not split
 abbrev pub goes_on : List ℕ → Bool
 goes_on part = ends_with nat_eq part (codes "\\")
 

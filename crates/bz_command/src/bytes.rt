@@ -2,12 +2,12 @@
 
 ghost use Rattle.std.specs.Prelude.{◌≡◌, ◌<◌, length, IsTrue, IfNone, IfSome, MatchOption, Some, None, [], ◌∷◌, is_some};
 ghost use Rattle.bz_command.specs.Values as spec;
-ghost use Rattle.bz_command.specs.ValueSteps.{inner_value};
-ghost use Rattle.bz_command.specs.ByteSteps.{left, is_good, value_left, inner_of};
+ghost use Rattle.bz_command.specs.private.ValueSteps.{inner_value};
+ghost use Rattle.bz_command.specs.private.ByteSteps.{left, is_good, value_left, inner_of};
 
 use crate::value::{first_len, is_quote, opening_len, value_in};
 
-/// What is left to read of a literal behind its opening quotes.
+/// What is left to read of a literal after its opening quotes.
 #[derive(Clone, Copy)]
 pub struct Literal<'a> {
     raw: bool,
@@ -41,7 +41,7 @@ pub fn value_of(text: &str) -> Option<Bytes<'_>>
     raw_value(rest)
 }
 
-// What stands behind an `r`.
+// What stands after an `r`.
 fn raw_value(literal: &[u8]) -> Option<Bytes<'_>>
     ensures none { IfNone result (spec.value_of (114 ∷ literal.now) ≡ None) }
     ensures some { IfSome result (λ bytes. spec.value_of (114 ∷ literal.now) ≡ Some (left bytes)) }
@@ -94,7 +94,7 @@ fn has_value(literal: Literal<'_>) -> bool
     false
 }
 
-/// The next byte, and what is left behind it.
+/// The next byte, and what is left after it.
 pub(crate) fn next<'a>(bytes: Bytes<'a>) -> Option<(u8, Bytes<'a>)>
     requires { IsTrue (is_good bytes) }
     ensures next { MatchOption result (left bytes.entry ≡ []) (λ p. left bytes.entry ≡ p.0 ∷ left p.1) }

@@ -4,7 +4,7 @@ ghost use Rattle.std.specs.Prelude.{◌≡◌, IsTrue, MatchOption, IfSome, IfNo
 ghost use Rattle.std.specs.List.{list_any};
 ghost use Rattle.bz_command.specs.Labels.{is_colon, last_of, parts_of};
 ghost use Rattle.bz_command.specs.Same as same;
-ghost use Rattle.bz_command.specs.ByteSteps.{left, is_good, chain_bytes, is_good_chain, begins, is_bare_path};
+ghost use Rattle.bz_command.specs.private.ByteSteps.{left, is_good, chain_bytes, is_good_chain, begins, is_bare_path};
 
 use crate::bytes::{Bytes, Chain, next};
 use crate::package::Package;
@@ -114,7 +114,7 @@ fn has_colon(text: Bytes<'_>) -> bool
     false
 }
 
-// What stands behind the last slash.
+// What stands after the last slash.
 fn last_part<'a>(path: Bytes<'a>) -> Bytes<'a>
     requires { IsTrue (is_good path) }
     ensures last { left result ≡ last_of (parts_of (left path.entry)) }
@@ -140,19 +140,19 @@ pub(crate) fn equal(a: Chain<'_>, b: Chain<'_>) -> bool
     let mut a = a;
     let mut b = b;
     while let Some((byte, after)) = next_in(a) {
-        let Some((other, behind)) = next_in(b) else {
+        let Some((other, following)) = next_in(b) else {
             return false;
         };
         if byte != other {
             return false;
         }
         a = after;
-        b = behind;
+        b = following;
     }
     next_in(b).is_none()
 }
 
-/// The next byte, and what is left behind it.
+/// The next byte, and what is left after it.
 pub(crate) fn next_in<'a>(chain: Chain<'a>) -> Option<(u8, Chain<'a>)>
     requires { IsTrue (is_good_chain chain) }
     ensures next { MatchOption result (chain_bytes chain.entry ≡ []) (λ p. chain_bytes chain.entry ≡ p.0 ∷ chain_bytes p.1) }
@@ -164,11 +164,11 @@ pub(crate) fn next_in<'a>(chain: Chain<'a>) -> Option<(u8, Chain<'a>)>
     if let Some((b, second)) = next(chain.second) {
         return Some((b, Chain { second, ..chain }));
     }
-    next_behind(chain)
+    next_after(chain)
 }
 
 // The next byte, where the first two texts are at their end.
-fn next_behind<'a>(chain: Chain<'a>) -> Option<(u8, Chain<'a>)>
+fn next_after<'a>(chain: Chain<'a>) -> Option<(u8, Chain<'a>)>
     requires good { IsTrue (is_good_chain chain) }
     requires first { left chain.first ≡ [] }
     requires second { left chain.second ≡ [] }

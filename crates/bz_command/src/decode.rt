@@ -2,7 +2,7 @@
 
 ghost use Rattle.std.specs.Prelude.{◌≡◌, ◌<◌, ◌≤◌, drop, IfOk, length, option_map, slice_index_or, string_bytes, true, ◌∷◌};
 ghost use Rattle.bz_command.specs.Values as spec;
-ghost use Rattle.bz_command.specs.ValueSteps.{inner_value};
+ghost use Rattle.bz_command.specs.private.ValueSteps.{inner_value};
 
 use crate::value::{first_len, is_quote, opening_len, value_in};
 use std::alloc::{AllocError, Global};
@@ -23,7 +23,7 @@ pub fn read_value(alloc: Global, text: &str) -> Result<Option<String>, AllocErro
     read_raw(alloc, &text[1..])
 }
 
-// What stands behind an `r`.
+// What stands after an `r`.
 fn read_raw(alloc: Global, literal: &str) -> Result<Option<String>, AllocError>
     ensures { IfOk result (λ value. option_map (λ text. string_bytes text) value ≡ spec.value_of (114 ∷ literal.now)) }
 {
@@ -46,7 +46,7 @@ fn read_literal(alloc: Global, raw: bool, literal: &str) -> Result<Option<String
     read_inner(alloc, raw, &literal[..n], &literal[n..])
 }
 
-// What stands behind the opening quotes. Bytes that stand for themselves are taken over in runs.
+// What stands after the opening quotes. Bytes that stand for themselves are taken over in runs.
 fn read_inner(
     alloc: Global,
     raw: bool,

@@ -4,7 +4,7 @@ ghost use Rattle.std.specs.Prelude.{◌≡◌, ℕ, List, [], ◌∷◌, map, fo
 ghost use Rattle.std.specs.Str.{bytes_eq};
 ghost use Rattle.std.proofs.Common.{rules};
 ghost use Rattle.std.specs.Cmp.Rules.{hashing};
-ghost use Rattle.bz_command.specs.ByteSteps.{left, is_good, chain_bytes, is_good_chain};
+ghost use Rattle.bz_command.specs.private.ByteSteps.{left, is_good, chain_bytes, is_good_chain};
 ghost use Rattle.bz_command.specs.Same.{completed};
 ghost use Rattle.bz_command.specs.LabelSetViews as spec;
 
@@ -26,7 +26,7 @@ struct Label<'a> {
 
 impl<'a> Model for Label<'a> {
     ghost use Rattle.std.specs.Prelude.{ℕ, List, IsTrue};
-    ghost use Rattle.bz_command.specs.ByteSteps.{left, is_good};
+    ghost use Rattle.bz_command.specs.private.ByteSteps.{left, is_good};
     ghost use Rattle.bz_command.specs.Same as same;
 
     ghost Value = { List ℕ };

@@ -18,7 +18,7 @@ pub enum LabelFault {
     OutOfMemory,
     /// What stands before the colon is no package.
     BadPackage,
-    /// What stands behind the colon is no target, or there is no colon and the package has no last part.
+    /// What stands after the colon is no target, or there is no colon and the package has no last part.
     BadTarget,
 }
 
@@ -79,7 +79,7 @@ fn read_named(alloc: Global, text: &str) -> Result<(Package, Target), LabelFault
     Ok((package, target))
 }
 
-// What stands behind the last slash.
+// What stands after the last slash.
 pub(crate) fn last_part(path: &str) -> &str
     ensures { result.now ≡ spec.last_of (spec.parts_of path.now) }
 {
@@ -185,7 +185,7 @@ fn are_target_bytes(text: &[u8]) -> bool
     text.iter().all(|b| is_plain(*b) && *b != b':')
 }
 
-// What stands behind a percent sign.
+// What stands after a percent sign.
 fn read_percent(alloc: Global, text: &str) -> Result<Target, LabelFault>
     ensures { result ≢ Err LabelFault.OutOfMemory → result ≡ spec.percent_of text.now }
 {

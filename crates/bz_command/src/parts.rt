@@ -4,7 +4,7 @@ ghost use Rattle.std.specs.Prelude.{◌≡◌, ◌==◌, ◌<◌, length, MatchO
 ghost use Rattle.std.specs.List.{slice_split};
 ghost use Rattle.std.specs.Str.{IsUtf8};
 
-/// The first part and what follows the character behind it; `None` where there is one part alone.
+/// The first part and what follows the character after it; `None` where there is one part alone.
 pub fn cut(text: &str, at: char) -> Option<(&str, &str)>
     requires { at < 128 }
     ensures parts { MatchOption result (slice_split (λ b. b == at) text.now ≡ text.now ∷ []) (λ x. slice_split (λ b. b == at) text.now ≡ x.0.now ∷ slice_split (λ b. b == at) x.1.now) }

@@ -3,7 +3,7 @@
 ghost use Rattle.std.specs.Prelude.{◌≡◌, ◌≢◌, ◌<◌, ◌&&◌, ◌∷◌, Err, IfOk, IsTrue, length, map};
 ghost use Rattle.std.specs.List.{list_all, list_any};
 ghost use Rattle.bz_command.specs.Commands as spec;
-ghost use Rattle.bz_command.specs.CommandSteps.{later_command};
+ghost use Rattle.bz_command.specs.private.CommandSteps.{later_command};
 ghost use Rattle.bz_command.specs.CommandViews.{commented_view, field_view, moved_view};
 ghost use Rattle.bz_command.specs.Names.{is_identifier};
 
@@ -203,7 +203,7 @@ fn read_move(mut words: Vec<Text>) -> Result<Command, CommandFault>
     move_between(old, new, words)
 }
 
-// What stands behind the two names.
+// What stands after the two names.
 fn move_between(old: Text, new: Text, words: Vec<Text>) -> Result<Command, CommandFault>
     ensures { result ≡ spec.move_of (old ∷ new ∷ words.items) }
 {

@@ -1,7 +1,7 @@
 //! Which labels are the same in a package.
 
 ghost use Rattle.std.specs.Prelude.{◌≡◌, ◌↔◌, IsTrue, bytes_eq};
-ghost use Rattle.bz_command.specs.ByteSteps.{left, is_good};
+ghost use Rattle.bz_command.specs.private.ByteSteps.{left, is_good};
 ghost use Rattle.bz_command.specs.Same as spec;
 
 use crate::bytes::Bytes;

@@ -3,7 +3,7 @@
 ghost use Rattle.std.specs.Prelude.{◌≡◌, ◌==◌, ◌+◌, ◌<◌, ◌≤◌, ◌↔◌, length, take, drop, OnOk, IfOk, IsTrue, Some, string_bytes, ◌∷◌, ◌++◌, encode_utf8};
 ghost use Rattle.std.specs.List.{flat_map};
 ghost use Rattle.bz_command.specs.Values as spec;
-ghost use Rattle.bz_command.specs.ValueSteps.{first_len, is_value, inner_value, value_in};
+ghost use Rattle.bz_command.specs.private.ValueSteps.{first_len, is_value, inner_value, value_in};
 
 use bz_token::{Kind, Token};
 use std::alloc::{AllocError, Global};
@@ -59,7 +59,7 @@ pub fn has_value(text: &[u8], value: &[u8]) -> bool
     raw_has_value(rest, value)
 }
 
-// What stands behind an `r`.
+// What stands after an `r`.
 fn raw_has_value(literal: &[u8], value: &[u8]) -> bool
     ensures { result ≡ is_value value.now (spec.value_of (114 ∷ literal.now)) }
 {
@@ -100,7 +100,7 @@ pub(crate) fn opening_len(literal: &[u8]) -> usize
     }
 }
 
-// What stands behind the opening quotes.
+// What stands after the opening quotes.
 fn inner_is(raw: bool, quotes: &[u8], inner: &[u8], value: &[u8]) -> bool
     requires { 0 < length quotes.now }
     ensures { result ≡ is_value value.now (inner_value raw quotes.now inner.now) }

@@ -2,13 +2,13 @@
 
 ghost use Rattle.std.specs.Prelude.{◌≡◌, ◌==◌, ◌∷◌, ◌++◌, [], IfOk, OnOk, true, false, MatchOption, string_bytes, filter, if◌then◌else◌};
 ghost use Rattle.bz_command.specs.Words as spec;
-ghost use Rattle.bz_command.specs.WordSteps.{kept};
+ghost use Rattle.bz_command.specs.private.WordSteps.{kept};
 
 use crate::list::Text;
 use crate::parts::cut;
 use std::alloc::{AllocError, Global};
 
-/// The words of a text: it is split at runs of spaces, and a space behind a backslash is one of the word.
+/// The words of a text: it is split at runs of spaces, and a space after a backslash is one of the word.
 pub(crate) fn read_words(alloc: Global, text: &str) -> Result<Vec<Text>, AllocError>
     ensures { IfOk result (λ words. words.items ≡ spec.words_of text.now) }
 {

@@ -17,54 +17,54 @@ use Rattle.bz_engine.specs.declared.edit.Edited.{Edited}
 use Rattle.bz_engine.specs.declared.edit.Edited.TheVariants.{Done, Faulty, Failed}
 use Rattle.bz_engine.specs.Ahead.{Ahead, IsReadOn, IsNextChunk}
 use Rattle.bz_engine.specs.Progress.{Progress, IsKeptOf}
-use Rattle.bz_engine.specs.Edits.{IsEdited}
+use Rattle.bz_engine.specs.private.Edits.{IsEdited}
 use Rattle.bz_engine.specs.SessionValue.{SessionValue, HasDone, HasEnded}
 use Rattle.bz_engine.proofs.Sessions.{went_on, ended_whole, ended_fault, ended_failure}
 
 -- what the script made of the chunk
 abbrev EditsChunk : SessionValue → Ahead → ℕ → Progress → List ℕ → List ℕ → Edited → Type 0
-EditsChunk v mid n after before behind edited = (cs : List (List ℕ)) (ss : List Statement) → IsKeptOf v.home v.passes v.options.max_depth cs ss v.progress
-    → IsEdited v.home v.passes v.options.keep_going v.options.max_depth cs ss (take n mid.bytes) v.progress after before behind edited
+EditsChunk v mid n after before following edited = (cs : List (List ℕ)) (ss : List Statement) → IsKeptOf v.home v.passes v.options.max_depth cs ss v.progress
+    → IsEdited v.home v.passes v.options.keep_going v.options.max_depth cs ss (take n mid.bytes) v.progress after before following edited
 
-edits_as : (v : SessionValue) (mid : Ahead) (n : ℕ) (after : Progress) (before behind : List ℕ) (edited kind : Edited)
-    → EditsChunk v mid n after before behind edited → before ≡ [] → edited ≡ kind → EditsChunk v mid n after [] behind kind
-edits_as v mid n after before behind edited kind edits none is =
-    subst (EditsChunk v mid n after [] behind) is (subst (λ b. EditsChunk v mid n after b behind edited) none edits)
+edits_as : (v : SessionValue) (mid : Ahead) (n : ℕ) (after : Progress) (before following : List ℕ) (edited kind : Edited)
+    → EditsChunk v mid n after before following edited → before ≡ [] → edited ≡ kind → EditsChunk v mid n after [] following kind
+edits_as v mid n after before following edited kind edits none is =
+    subst (EditsChunk v mid n after [] following) is (subst (λ b. EditsChunk v mid n after b following edited) none edits)
 
-pub chunk_done : (v e f : SessionValue) (mid : Ahead) (before behind : List ℕ) (edited : Edited) (max_reads most n : ℕ) (pieces cs read : List (List ℕ)) (text : List ℕ)
+pub chunk_done : (v e f : SessionValue) (mid : Ahead) (before following : List ℕ) (edited : Edited) (max_reads most n : ℕ) (pieces cs read : List (List ℕ)) (text : List ℕ)
     → HasDone v pieces cs text → IsReadOn max_reads v.ahead mid read → IsNextChunk most mid n → before ≡ []
     → (let after : SessionValue = record v { ahead = mid; progress = e.progress } in e ≡ after)
-    → EditsChunk v mid n e.progress before behind edited → edited ≡ Done
+    → EditsChunk v mid n e.progress before following edited → edited ≡ Done
     → (let taken : SessionValue = record e { ahead = record e.ahead { bytes = drop n e.ahead.bytes } } in f ≡ taken)
-    → HasDone f (pieces ++ read) (cs ++ take n mid.bytes ∷ []) (text ++ behind)
-chunk_done v e f mid before behind edited max_reads most n pieces cs read text done on next none at edits is taken =
+    → HasDone f (pieces ++ read) (cs ++ take n mid.bytes ∷ []) (text ++ following)
+chunk_done v e f mid before following edited max_reads most n pieces cs read text done on next none at edits is taken =
     let takes : SessionValue → SessionValue = λ x. record x { ahead = record x.ahead { bytes = drop n x.ahead.bytes } } in
-    subst (λ x. HasDone x (pieces ++ read) (cs ++ take n mid.bytes ∷ []) (text ++ behind)) (sym (taken ∙ ap takes at))
-    (went_on v mid e.progress max_reads most n pieces cs read text behind done on next
-    (edits_as v mid n e.progress before behind edited Done edits none is cs done.statements done.kept))
+    subst (λ x. HasDone x (pieces ++ read) (cs ++ take n mid.bytes ∷ []) (text ++ following)) (sym (taken ∙ ap takes at))
+    (went_on v mid e.progress max_reads most n pieces cs read text following done on next
+    (edits_as v mid n e.progress before following edited Done edits none is cs done.statements done.kept))
 
-pub chunk_faulty : (v e : SessionValue) (mid : Ahead) (before behind : List ℕ) (edited : Edited) (fault : SyntaxFault) (max_reads most n : ℕ) (pieces cs read : List (List ℕ)) (text : List ℕ)
+pub chunk_faulty : (v e : SessionValue) (mid : Ahead) (before following : List ℕ) (edited : Edited) (fault : SyntaxFault) (max_reads most n : ℕ) (pieces cs read : List (List ℕ)) (text : List ℕ)
     → HasDone v pieces cs text → IsReadOn max_reads v.ahead mid read → IsNextChunk most mid n → before ≡ []
     → (let after : SessionValue = record v { ahead = mid; progress = e.progress } in e ≡ after)
-    → EditsChunk v mid n e.progress before behind edited → edited ≡ Faulty fault
+    → EditsChunk v mid n e.progress before following edited → edited ≡ Faulty fault
     → HasEnded e (Syntax fault) (pieces ++ read) text
-chunk_faulty v e mid before behind edited fault max_reads most n pieces cs read text done on next none at edits is =
-    let faulty = edits_as v mid n e.progress before behind edited (Faulty fault) edits none is cs done.statements done.kept in
+chunk_faulty v e mid before following edited fault max_reads most n pieces cs read text done on next none at edits is =
+    let faulty = edits_as v mid n e.progress before following edited (Faulty fault) edits none is cs done.statements done.kept in
     let with_progress : Progress → SessionValue = λ p. record v { ahead = mid; progress = p } in
     subst (λ x. HasEnded x (Syntax fault) (pieces ++ read) text) (sym (at ∙ ap with_progress faulty.same))
     (ended_fault v mid fault max_reads most n pieces cs read text done on next faulty.fault_is)
 
-pub chunk_failed : (v e f : SessionValue) (mid : Ahead) (before behind : List ℕ) (edited : Edited) (message : Option (List ℕ)) (max_reads most n : ℕ) (pieces cs read : List (List ℕ)) (text : List ℕ)
+pub chunk_failed : (v e f : SessionValue) (mid : Ahead) (before following : List ℕ) (edited : Edited) (message : Option (List ℕ)) (max_reads most n : ℕ) (pieces cs read : List (List ℕ)) (text : List ℕ)
     → HasDone v pieces cs text → IsReadOn max_reads v.ahead mid read → IsNextChunk most mid n → before ≡ []
     → (let after : SessionValue = record v { ahead = mid; progress = e.progress } in e ≡ after)
-    → EditsChunk v mid n e.progress before behind edited → edited ≡ Failed message
+    → EditsChunk v mid n e.progress before following edited → edited ≡ Failed message
     → (let told : SessionValue = record e { failure = message } in f ≡ told)
     → HasEnded f FirstFailure (pieces ++ read) text
-chunk_failed v e f mid before behind edited message max_reads most n pieces cs read text done on next none at edits is told =
+chunk_failed v e f mid before following edited message max_reads most n pieces cs read text done on next none at edits is told =
     let tells : SessionValue → SessionValue = λ x. record x { failure = message } in
     subst (λ x. HasEnded x FirstFailure (pieces ++ read) text) (sym (told ∙ ap tells at))
-    (ended_failure v mid e.progress message behind max_reads most n pieces cs read text done on next
-    (edits_as v mid n e.progress before behind edited (Failed message) edits none is cs done.statements done.kept))
+    (ended_failure v mid e.progress message following max_reads most n pieces cs read text done on next
+    (edits_as v mid n e.progress before following edited (Failed message) edits none is cs done.statements done.kept))
 
 -- which stage an answer tells
 abbrev stage_in : Result Stage RunFault → Stage

@@ -7,14 +7,14 @@ use Rattle.std.proofs.lemmas.Grind.{common_steps}
 use Rattle.bz_token.specs.Blocks.{goes_on}
 use Rattle.bz_token.specs.Chunks.{chunks}
 use Rattle.bz_token.specs.Cuts.{EndsBefore, IsLonger, IsPart, IsBlock, IsNext, first_line, is_physical_line, ends_in_newline}
-use Rattle.bz_token.specs.CutterState.{IsBehind, Takes}
+use Rattle.bz_token.specs.CutterState.{IsAfter, Takes}
 use Rattle.bz_token.specs.declared.cutter.Cutter.{Cutter}
 use Rattle.bz_token.specs.declared.cutter.Cut.{Cut}
 use Rattle.bz_token.specs.declared.cutter.Cut.TheVariants.{More, Block}
 use Rattle.bz_token.specs.declared.cutter.Next.TheVariants.{Goes, Ends, Short}
 use Rattle.bz_engine.specs.Device.{joined}
 use Rattle.bz_engine.specs.Ahead.{Ahead, IsReadOn, MayFollow, BeginsTooLong, IsTooLong, IsUncertain, IsUndecided}
-use Rattle.bz_engine.specs.AheadSteps.{IsOpen, IsLineAt, GoesBehind, IsBegun, GoesOn, EndsAt, IsEnd}
+use Rattle.bz_engine.specs.private.AheadSteps.{IsOpen, IsLineAt, GoesAfter, IsBegun, GoesOn, EndsAt, IsEnd}
 use Rattle.bz_engine.proofs.ChunkLines.{line_is_physical, tail_is}
 use Rattle.bz_engine.proofs.ReadOn.{front_stays, back_grows, follows_read, ended_on}
 
@@ -81,7 +81,7 @@ line_too_long max e bytes rest over last longer is within =
           begins max n bytes rest [] [] over (omega arith) (ap chunks same ∙ is_last ∙ ap (λ l. l ∷ []) (sym (append-nil (take n bytes) ∙ all)))
     ]
 
--- all that is ahead belongs to the chunk, since no line has ended behind its last whole line
+-- all that is ahead belongs to the chunk, since no line has ended after its last whole line
 pub too_long_line : (max e : ℕ) (ahead : Ahead) → max < length ahead.bytes → e ≤ length ahead.bytes → IsBegun ahead e → IsOpen (drop e ahead.bytes) → IsTooLong max ahead
 too_long_line max e ahead over within begun is rest may = line_too_long max e ahead.bytes rest over begun.last (begun.longer rest may) is within
 
@@ -152,56 +152,56 @@ block_ends n ahead slice at_end same ended next rest may =
     subst (λ l. EndsBefore (take n ahead.bytes) (l ++ rest)) same (next rest (λ h. may (sym ended ∙ h)))
 
 pub block_goes : (n : ℕ) (cutter : Cutter) (ahead : Ahead) (slice : List ℕ) (at_end : Bool) → slice ≡ drop n ahead.bytes → at_end ≡ ahead.ended → IsBlock (take n ahead.bytes)
-    → IsNext Goes at_end (take n ahead.bytes) slice → IsBehind cutter (take n ahead.bytes) → ((rest : List ℕ) → (at_end ≡ true → rest ≡ []) → Takes cutter (first_line (slice ++ rest))) → GoesOn cutter ahead n
-block_goes n cutter ahead slice at_end same ended block next behind takes =
+    → IsNext Goes at_end (take n ahead.bytes) slice → IsAfter cutter (take n ahead.bytes) → ((rest : List ℕ) → (at_end ≡ true → rest ≡ []) → Takes cutter (first_line (slice ++ rest))) → GoesOn cutter ahead n
+block_goes n cutter ahead slice at_end same ended block next after takes =
     let front = take n ahead.bytes in
     record {
       begun = record {
         last = λ _. subst (λ l. chunks l ≡ front ∷ []) (append-nil front) (block.ends [] refl);
         longer = λ rest may _. subst (λ l. IsLonger front (l ++ rest)) same (next rest (λ h. may (sym ended ∙ h)));
       };
-      behind = λ _. behind;
+      after = λ _. after;
       takes = λ _ rest may. subst (λ l. Takes cutter (first_line (l ++ rest))) same (takes rest (λ h. may (sym ended ∙ h)));
     }
 
 -- the next line, whatever follows what is ahead
 next_line : (ahead : Ahead) (e n : ℕ) → IsLineAt ahead e n → (rest : List ℕ) → MayFollow ahead rest → first_line (drop e ahead.bytes ++ rest) ≡ take (n - e) (drop e ahead.bytes)
 next_line ahead e n at rest may =
-    let behind = drop e ahead.bytes in
+    let after = drop e ahead.bytes in
     elim at.line [
       | inl line ↦
-          ap (λ l. first_line (l ++ rest)) (sym (take-append-drop (n - e) behind))
-          ∙ ap first_line (append_assoc (take (n - e) behind) (drop (n - e) behind) rest)
-          ∙ line.first (drop (n - e) behind ++ rest)
+          ap (λ l. first_line (l ++ rest)) (sym (take-append-drop (n - e) after))
+          ∙ ap first_line (append_assoc (take (n - e) after) (drop (n - e) after) rest)
+          ∙ line.first (drop (n - e) after ++ rest)
       | inr (all, last) ↦
-          ap (λ r. first_line (behind ++ r)) (may last.ended)
+          ap (λ r. first_line (after ++ r)) (may last.ended)
           ∙ last.rest_is_open []
-          ∙ append-nil behind
-          ∙ sym (ap (λ k. take (k - e) behind) all ∙ tail_is ahead.bytes e)
+          ∙ append-nil after
+          ∙ sym (ap (λ k. take (k - e) after) all ∙ tail_is ahead.bytes e)
     ]
 
 pub line_physical : (ahead : Ahead) (e n : ℕ) (line : List ℕ) → line ≡ take (n - e) (drop e ahead.bytes) → IsLineAt ahead e n → is_physical_line line ≡ true
 line_physical ahead e n line is at =
     ap is_physical_line (is ∙ sym (next_line ahead e n at [] (λ _. refl))) ∙ line_is_physical (drop e ahead.bytes ++ [])
 
-pub some_behind : (ahead : Ahead) (e n : ℕ) → e < n → IsLineAt ahead e n → GoesBehind ahead e
-some_behind ahead e n some at _ = omega (arith, at.within, length-drop e ahead.bytes)
+pub some_after : (ahead : Ahead) (e n : ℕ) → e < n → IsLineAt ahead e n → GoesAfter ahead e
+some_after ahead e n some at _ = omega (arith, at.within, length-drop e ahead.bytes)
 
 pub takes_line : (cutter : Cutter) (ahead : Ahead) (e n : ℕ) (line : List ℕ) → line ≡ take (n - e) (drop e ahead.bytes) → e < n → IsLineAt ahead e n → GoesOn cutter ahead e → Takes cutter line
 takes_line cutter ahead e n line is some at goes =
-    subst (λ l. Takes cutter l) (next_line ahead e n at [] (λ _. refl) ∙ sym is) (goes.takes (some_behind ahead e n some at) [] (λ _. refl))
+    subst (λ l. Takes cutter l) (next_line ahead e n at [] (λ _. refl) ∙ sym is) (goes.takes (some_after ahead e n some at) [] (λ _. refl))
 
--- the chunk goes on behind a line that is no block's end
+-- the chunk goes on after a line that is no block's end
 pub more_goes : (new : Cutter) (ahead : Ahead) (e n : ℕ) (t : Bool) → ends_in_newline (take (n - e) (drop e ahead.bytes)) ≡ t → e < n → IsLineAt ahead e n
-    → (t ≡ true → IsPart (take n ahead.bytes)) → (t ≡ true → IsBehind new (take n ahead.bytes)) → ((next : List ℕ) → Takes new next)
+    → (t ≡ true → IsPart (take n ahead.bytes)) → (t ≡ true → IsAfter new (take n ahead.bytes)) → ((next : List ℕ) → Takes new next)
     → (t ≡ false → 0 < length (take n ahead.bytes) → chunks (take n ahead.bytes) ≡ take n ahead.bytes ∷ []) → GoesOn new ahead n
-more_goes new ahead e n true newline some at part behind takes last =
+more_goes new ahead e n true newline some at part after takes last =
     record {
       begun = record { last = λ _. (part refl).last (omega (arith, at.within, length-take n ahead.bytes)); longer = λ rest _ more. (part refl).longer (drop n ahead.bytes ++ rest) more };
-      behind = λ _. behind refl;
+      after = λ _. after refl;
       takes = λ _ rest _. takes (first_line (drop n ahead.bytes ++ rest));
     }
-more_goes new ahead e n false newline some at part behind takes last =
+more_goes new ahead e n false newline some at part after takes last =
     elim at.line [
       | inl line ↦ absurd (false≢true (sym newline ∙ line.newline))
       | inr (all, end) ↦
@@ -210,7 +210,7 @@ more_goes new ahead e n false newline some at part behind takes last =
               last = λ _. last refl (omega (arith, at.within, length-take n ahead.bytes));
               longer = λ rest may more. absurd (omega (arith, more, all, length-append (drop n ahead.bytes) rest, ap length (may end.ended), length-drop n ahead.bytes));
             };
-            behind = λ more. absurd (omega (arith, more end.ended, all, length-drop n ahead.bytes));
+            after = λ more. absurd (omega (arith, more end.ended, all, length-drop n ahead.bytes));
             takes = λ more _ _. absurd (omega (arith, more end.ended, all, length-drop n ahead.bytes));
           }
     ]
@@ -224,11 +224,11 @@ block_line false h = absurd (no_more (h refl))
     no_more h = cc
 
 -- nothing is known of the chunk yet
-pub goes_first : (cutter : Cutter) (ahead : Ahead) → IsPart [] → IsBehind cutter [] → ((line : List ℕ) → Takes cutter line) → GoesOn cutter ahead 0
-goes_first cutter ahead part behind takes =
+pub goes_first : (cutter : Cutter) (ahead : Ahead) → IsPart [] → IsAfter cutter [] → ((line : List ℕ) → Takes cutter line) → GoesOn cutter ahead 0
+goes_first cutter ahead part after takes =
     record {
       begun = record { last = λ h. absurd (omega (arith, h)); longer = λ rest _ more. part.longer (ahead.bytes ++ rest) more };
-      behind = λ _. behind;
+      after = λ _. after;
       takes = λ _ rest _. takes (first_line (ahead.bytes ++ rest));
     }
 
@@ -256,13 +256,13 @@ goes_read max cutter old new pieces e read within goes =
     let front : take e new.bytes ≡ take e old.bytes = front_stays max old new pieces e read within in
     let back : drop e new.bytes ≡ drop e old.bytes ++ joined pieces = back_grows max old new pieces e read within in
     let there = read_before max old new pieces e read within in
-    let behind : GoesBehind new e → GoesBehind old e = λ some ended.
+    let after : GoesAfter new e → GoesAfter old e = λ some ended.
     let none : drop e new.bytes ≡ drop e old.bytes = back ∙ ap (λ ps. drop e old.bytes ++ joined ps) (read.stays ended) ∙ append-nil (drop e old.bytes) in
     subst (λ l. 0 < length l) none (some (ended_on max old new pieces read ended)) in
     record {
       begun = begun_read max old new pieces e read within goes.begun;
-      behind = λ some. subst (λ l. IsBehind cutter l) (sym front) (goes.behind (behind some));
-      takes = λ some rest may. subst (λ l. Takes cutter (first_line l)) (there rest) (goes.takes (behind some) (joined pieces ++ rest) (follows_read max old new pieces rest read may));
+      after = λ some. subst (λ l. IsAfter cutter l) (sym front) (goes.after (after some));
+      takes = λ some rest may. subst (λ l. Takes cutter (first_line l)) (there rest) (goes.takes (after some) (joined pieces ++ rest) (follows_read max old new pieces rest read may));
     }
 
 -- no line follows the last one

@@ -7,14 +7,14 @@ use Rattle.bz_command.specs.Labels.{Package}
 use Rattle.bz_engine.specs.Exchange.{IsLeftBy, slot_after}
 use Rattle.bz_engine.specs.Meaning.{meaning, changes, fails_on}
 use Rattle.bz_engine.specs.File.{Gives}
-use Rattle.bz_engine.specs.Outcome.{Script, slots_of, is_query, text_behind}
+use Rattle.bz_engine.specs.Outcome.{Script, slots_of, is_query, text_following}
 use Rattle.bz_command.specs.Passes.{slots_after}
 use Rattle.bz_engine.specs.Progress.{Progress, IsKeptOf, last_class}
 use Rattle.bz_engine.specs.declared.edit.Edited.{Edited}
 use Rattle.bz_engine.specs.declared.edit.Edited.TheVariants.{Done, Faulty, Failed}
-use Rattle.bz_engine.specs.Edits.{IsDone, IsLaidOut, IsScripted, IsEdited}
+use Rattle.bz_engine.specs.private.Edits.{IsDone, IsLaidOut, IsScripted, IsEdited}
 use Rattle.bz_engine.proofs.ExchangeLaw.{map_more}
-use Rattle.bz_engine.proofs.Given.{give_blank, give_statement, line_behind}
+use Rattle.bz_engine.proofs.Given.{give_blank, give_statement, line_following}
 use Rattle.bz_engine.proofs.MoreText.{text_after_more, last_after_more, text_after_none}
 
 -- a blank chunk
@@ -27,7 +27,7 @@ blank_done home passes keep_going depth cs ss chunk old new before kept gives is
   more = [];
   kept = record {
     read = give_blank depth old.line cs ss chunk kept.read kept.line gives;
-    line = ap (λ p. p.line) is ∙ line_behind old.line cs chunk kept.line;
+    line = ap (λ p. p.line) is ∙ line_following old.line cs chunk kept.line;
     left = subst (λ p. IsLeftBy (meaning home) (changes home) (fails_on home) passes (slots_of (ss ++ [])) p.kept p.changed p.failed) (sym is)
         (subst (λ l. IsLeftBy (meaning home) (changes home) (fails_on home) passes (slots_of l) old.kept old.changed old.failed) (sym (append-nil ss)) kept.left);
     last = ap (λ p. p.last) is ∙ kept.last ∙ ap (λ l. last_class None (slots_after (meaning home) passes (slots_of l))) (sym (append-nil ss));
@@ -40,21 +40,21 @@ blank_done home passes keep_going depth cs ss chunk old new before kept gives is
 
 -- a statement, which the script left as `laid` says
 pub statement_done : (home : Package) (passes : Script) (keep_going : Bool) (depth : ℕ) (cs : List (List ℕ)) (ss : List Statement) (chunk : List ℕ) (s : Statement)
-    (old mid new : Progress) (before behind : List ℕ)
+    (old mid new : Progress) (before after : List ℕ)
     → IsKeptOf home passes depth cs ss old → Gives depth old.line chunk (Ok (Some s))
-    → IsLaidOut home passes keep_going s old mid before behind
+    → IsLaidOut home passes keep_going s old mid before after
     → new ≡ record mid { line = line_at mid.line chunk }
-    → IsDone home passes keep_going depth cs ss chunk old new before behind
-statement_done home passes keep_going depth cs ss chunk s old mid new before behind kept gives laid is = record {
+    → IsDone home passes keep_going depth cs ss chunk old new before after
+statement_done home passes keep_going depth cs ss chunk s old mid new before after kept gives laid is = record {
   more = s ∷ [];
   kept = record {
     read = give_statement depth old.line cs ss chunk s kept.read kept.line gives;
-    line = ap (λ p. p.line) is ∙ ap (λ n. line_at n chunk) laid.line ∙ line_behind old.line cs chunk kept.line;
+    line = ap (λ p. p.line) is ∙ ap (λ n. line_at n chunk) laid.line ∙ line_following old.line cs chunk kept.line;
     left = subst (λ p. IsLeftBy (meaning home) (changes home) (fails_on home) passes (slots_of (ss ++ s ∷ [])) p.kept p.changed p.failed) (sym is)
         (subst (λ l. IsLeftBy (meaning home) (changes home) (fails_on home) passes l mid.kept mid.changed mid.failed) (sym (map_more Some ss s)) (laid.left (slots_of ss) kept.left));
     last = ap (λ p. p.last) is ∙ last_after_more home passes ss s old.last mid.last kept.last laid.last;
   };
-  shown = if is_query passes then [] else text_behind old.last (slot_after (meaning home) passes (Some s) ∷ []);
+  shown = if is_query passes then [] else text_following old.last (slot_after (meaning home) passes (Some s) ∷ []);
   appended = laid.text;
   text = text_after_more home passes ss s old.last kept.last;
   calm = λ h calm. ap (λ p. p.failed) is ∙ laid.calm h;
@@ -62,15 +62,15 @@ statement_done home passes keep_going depth cs ss chunk s old mid new before beh
 
 -- what the script on a statement made of its chunk
 pub scripted_edited : (home : Package) (passes : Script) (keep_going : Bool) (depth : ℕ) (cs : List (List ℕ)) (ss : List Statement) (chunk : List ℕ) (s : Statement)
-    (old mid new : Progress) (before behind : List ℕ) (edited : Edited)
+    (old mid new : Progress) (before after : List ℕ) (edited : Edited)
     → IsKeptOf home passes depth cs ss old → Gives depth old.line chunk (Ok (Some s))
-    → IsScripted home passes keep_going s old mid before behind edited
+    → IsScripted home passes keep_going s old mid before after edited
     → new ≡ record mid { line = line_at mid.line chunk }
-    → IsEdited home passes keep_going depth cs ss chunk old new before behind edited
-scripted_edited home passes keep_going depth cs ss chunk s old mid new before behind Done kept gives laid is =
-    statement_done home passes keep_going depth cs ss chunk s old mid new before behind kept gives laid is
-scripted_edited home passes keep_going depth cs ss chunk s old mid new before behind (Faulty fault) kept gives none is = absurd none
-scripted_edited home passes keep_going depth cs ss chunk s old mid new before behind (Failed message) kept gives ended is = record {
+    → IsEdited home passes keep_going depth cs ss chunk old new before after edited
+scripted_edited home passes keep_going depth cs ss chunk s old mid new before after Done kept gives laid is =
+    statement_done home passes keep_going depth cs ss chunk s old mid new before after kept gives laid is
+scripted_edited home passes keep_going depth cs ss chunk s old mid new before after (Faulty fault) kept gives none is = absurd none
+scripted_edited home passes keep_going depth cs ss chunk s old mid new before after (Failed message) kept gives ended is = record {
   ends = ended.ends;
   statement = s;
   read = gives;
@@ -81,19 +81,19 @@ scripted_edited home passes keep_going depth cs ss chunk s old mid new before be
 }
 
 pub blank_edited : (home : Package) (passes : Script) (keep_going : Bool) (depth : ℕ) (cs : List (List ℕ)) (ss : List Statement) (chunk : List ℕ)
-    (old new : Progress) (before behind : List ℕ) (edited : Edited)
+    (old new : Progress) (before after : List ℕ) (edited : Edited)
     → IsKeptOf home passes depth cs ss old → Gives depth old.line chunk (Ok None)
-    → new ≡ record old { line = line_at old.line chunk } → behind ≡ before → edited ≡ Done
-    → IsEdited home passes keep_going depth cs ss chunk old new before behind edited
-blank_edited home passes keep_going depth cs ss chunk old new before behind edited kept gives is same done =
-    subst (IsEdited home passes keep_going depth cs ss chunk old new before behind) (sym done)
+    → new ≡ record old { line = line_at old.line chunk } → after ≡ before → edited ≡ Done
+    → IsEdited home passes keep_going depth cs ss chunk old new before after edited
+blank_edited home passes keep_going depth cs ss chunk old new before after edited kept gives is same done =
+    subst (IsEdited home passes keep_going depth cs ss chunk old new before after) (sym done)
     (subst (λ b. IsDone home passes keep_going depth cs ss chunk old new before b) (sym same)
     (blank_done home passes keep_going depth cs ss chunk old new before kept gives is))
 
--- the line behind the chunk
+-- the line after the chunk
 pub line_moved : (p q : Progress) (n : ℕ) (chunk : List ℕ) → p ≡ q → n ≡ count_by (λ b. b == 10) chunk
     → (let moved : Progress = record p { line = p.line + n } in moved) ≡ record q { line = line_at q.line chunk }
 line_moved p q n chunk same is =
     let at : ℕ → Progress = λ m. record p { line = p.line + m } in
-    let behind : Progress → Progress = λ r. record r { line = line_at r.line chunk } in
-    ap at is ∙ ap behind same
+    let after : Progress → Progress = λ r. record r { line = line_at r.line chunk } in
+    ap at is ∙ ap after same

@@ -5,7 +5,7 @@ use Rattle.std.proofs.lemmas.Bool.{ne_eqb, false≢true}
 use Rattle.std.proofs.lemmas.List.{take_more}
 use Rattle.std.proofs.lemmas.Grind.{common_steps}
 use Rattle.bz_token.specs.Cuts.{first_line, is_physical_line, ends_in_newline}
-use Rattle.bz_engine.specs.AheadSteps.{IsOpen, IsLine}
+use Rattle.bz_engine.specs.private.AheadSteps.{IsOpen, IsLine}
 
 first_more : (b : ℕ) (rest : List ℕ) → (b == 10) ≡ false → first_line (b ∷ rest) ≡ b ∷ first_line rest
 first_more b rest h = ap (λ t. b ∷ elim t [ true ↦ [] | false ↦ first_line rest ]) h

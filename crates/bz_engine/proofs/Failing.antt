@@ -16,7 +16,7 @@ use Rattle.bz_engine.specs.Exchange.{Kept, IsLeftBy}
 use Rattle.bz_engine.specs.Meaning.{meaning, changes, fails_on, says, line_told, note_told, shown_slot}
 use Rattle.bz_engine.specs.Outcome.{Script, failure_text, first_of, log_alone, fails_at}
 use Rattle.bz_engine.specs.Progress.{Progress}
-use Rattle.bz_engine.specs.Edits.{IsEnded}
+use Rattle.bz_engine.specs.private.Edits.{IsEnded}
 use Rattle.bz_engine.proofs.Failures.{failures_alone}
 
 -- a note that is no failure tells of none

@@ -1,4 +1,4 @@
--- The statements of chunks, and of more chunks behind them.
+-- The statements of chunks, and of more chunks after them.
 use Rattle.std.proofs.Common.{◌≡◌, ℕ, ◌+◌, List, [], ◌∷◌, ◌++◌, refl, sym, ◌∙◌, ap, subst, append-nil, count_by, ◌==◌}
 use Rattle.std.proofs.Math.Nat.{add-zero, add_assoc}
 use Rattle.std.proofs.lemmas.List.Sums.{sum_by-append}
@@ -11,14 +11,14 @@ use Rattle.bz_tree.specs.Tree.{Statement}
 use Rattle.bz_engine.specs.declared.report.SyntaxFault.{SyntaxFault}
 use Rattle.bz_engine.specs.File.{Gives, Follows, Give}
 
--- the line behind two texts
+-- the line after two texts
 line_more : (first : ℕ) (xs ys : List ℕ) → line_at first (xs ++ ys) ≡ line_at (line_at first xs) ys
 line_more first xs ys = ap (λ n. first + n) (sum_by-append (λ b. if b == 10 then 1 else 0) xs ys) ∙ sym (add_assoc first (count_by (λ b. b == 10) xs) (count_by (λ b. b == 10) ys))
 
 none_is_some : {A X : Type 0} (a : A) → None ≡ Some a → X
 none_is_some a h = absurd (none-some a h)
 
--- what follows an answer, with more behind it
+-- what follows an answer, with more after it
 follows_more : (answer : Result (Option Statement) SyntaxFault) (ss ts : List Statement) (f : Option SyntaxFault)
     (Near Far : List Statement → Option SyntaxFault → Type 0)
     → ((more : List Statement) → Near more None → Far (more ++ ts) f)
@@ -60,7 +60,7 @@ give_fault depth line cs ss chunk others f near at gives =
 concat_more : (cs : List (List ℕ)) (chunk : List ℕ) → concat (cs ++ chunk ∷ []) ≡ concat cs ++ chunk
 concat_more cs chunk = concat-append cs (chunk ∷ []) ∙ ap (λ l. concat cs ++ l) (append-nil chunk)
 
--- the line behind the chunks, with one more
-pub line_behind : (line : ℕ) (cs : List (List ℕ)) (chunk : List ℕ) → line ≡ line_at 1 (concat cs) → line_at line chunk ≡ line_at 1 (concat (cs ++ chunk ∷ []))
-line_behind line cs chunk at =
+-- the line after the chunks, with one more
+pub line_following : (line : ℕ) (cs : List (List ℕ)) (chunk : List ℕ) → line ≡ line_at 1 (concat cs) → line_at line chunk ≡ line_at 1 (concat (cs ++ chunk ∷ []))
+line_following line cs chunk at =
     ap (λ n. line_at n chunk) at ∙ sym (line_more 1 (concat cs) chunk) ∙ ap (line_at 1) (sym (concat_more cs chunk))

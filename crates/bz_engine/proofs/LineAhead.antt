@@ -4,7 +4,7 @@ use Rattle.std.specs.Prelude.{IsTrue}
 use Rattle.std.proofs.lemmas.Grind.{common_steps}
 use Rattle.bz_engine.specs.Device.{joined}
 use Rattle.bz_engine.specs.Ahead.{Ahead, IsReadOn}
-use Rattle.bz_engine.specs.AheadSteps.{IsOpen, IsLine, IsLineAt}
+use Rattle.bz_engine.specs.private.AheadSteps.{IsOpen, IsLine, IsLineAt}
 use Rattle.bz_engine.proofs.ChunkLines.{open_then, line_then, slice_more, slice_all, tail_is}
 use Rattle.bz_engine.proofs.ReadOn.{back_grows, grows}
 

@@ -1,4 +1,4 @@
--- What reads gave, with more reads behind them.
+-- What reads gave, with more reads after them.
 use Rattle.std.proofs.Common.{◌≡◌, ℕ, Bool, true, false, ◌||◌, List, [], ◌∷◌, ◌++◌, take, drop, take-append-drop, refl, sym, ◌∙◌, ap, append_assoc, append-nil}
 use Rattle.std.specs.Prelude.{IsTrue}
 use Rattle.std.specs.List.{concat}
@@ -59,7 +59,7 @@ file_more ps qs rest = ap (λ l. l ++ rest) (joined_more ps qs) ∙ append_assoc
 joined_nothing : (qs : List (List ℕ)) (rest : List ℕ) → qs ≡ [] → rest ≡ [] → joined qs ++ rest ≡ []
 joined_nothing qs rest none over = ap (λ l. joined l ++ rest) none ∙ over
 
--- the chunks of the file behind more reads: those that are done, and those of the bytes ahead with the rest
+-- the chunks of the file after more reads: those that are done, and those of the bytes ahead with the rest
 pub chunks_more : (ps qs cs : List (List ℕ)) (a b : List ℕ) (old new : Bool)
     → ((rest : List ℕ) → (IsTrue old → rest ≡ []) → chunks (joined ps ++ rest) ≡ cs ++ chunks (a ++ rest))
     → b ≡ a ++ joined qs → new ≡ (old || ends qs) → (IsTrue old → qs ≡ [])

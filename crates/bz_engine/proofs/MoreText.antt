@@ -1,4 +1,4 @@
--- The text of statements, with one more behind them.
+-- The text of statements, with one more after them.
 use Rattle.std.proofs.Common.{◌≡◌, ℕ, Bool, true, false, List, [], ◌∷◌, ◌++◌, refl, sym, ◌∙◌, ap, append_assoc, append-nil}
 use Rattle.std.specs.Prelude.{Option, None, Some, if◌then◌else◌}
 use Rattle.bz_tree.specs.Tree.{Statement}
@@ -9,21 +9,21 @@ use Rattle.bz_command.specs.Labels.{Package}
 use Rattle.bz_command.specs.Passes.{Slot, slots_after}
 use Rattle.bz_engine.specs.Exchange.{slot_after}
 use Rattle.bz_engine.specs.Meaning.{meaning}
-use Rattle.bz_engine.specs.Outcome.{Script, slots_of, is_query, gap_text, text_behind, shown_text, text_after}
+use Rattle.bz_engine.specs.Outcome.{Script, slots_of, is_query, gap_text, text_following, shown_text, text_after}
 use Rattle.bz_engine.specs.Progress.{last_class}
 use Rattle.bz_engine.proofs.ExchangeLaw.{map_more}
 use Rattle.bz_engine.proofs.Failures.{slots_more}
 
 text_more : (last : Option Class) (xs : List (Slot Statement)) (x : Slot Statement)
-    → text_behind last (xs ++ x ∷ []) ≡ text_behind last xs ++ text_behind (last_class last xs) (x ∷ [])
+    → text_following last (xs ++ x ∷ []) ≡ text_following last xs ++ text_following (last_class last xs) (x ∷ [])
 text_more last [] x = refl
 text_more last (None ∷ xs) x = text_more last xs x
 text_more last (Some s ∷ xs) x =
     let gap = gap_text (blank_between last s.class) in
-    let more = text_behind (last_class (Some s.class) xs) (x ∷ []) in
+    let more = text_following (last_class (Some s.class) xs) (x ∷ []) in
     ap (λ l. gap ++ (layout_text s ++ l)) (text_more (Some s.class) xs x)
-    ∙ ap (λ l. gap ++ l) (sym (append_assoc (layout_text s) (text_behind (Some s.class) xs) more))
-    ∙ sym (append_assoc gap (layout_text s ++ text_behind (Some s.class) xs) more)
+    ∙ ap (λ l. gap ++ l) (sym (append_assoc (layout_text s) (text_following (Some s.class) xs) more))
+    ∙ sym (append_assoc gap (layout_text s ++ text_following (Some s.class) xs) more)
 
 last_more : (last : Option Class) (xs : List (Slot Statement)) (x : Slot Statement)
     → last_class last (xs ++ x ∷ []) ≡ last_class (last_class last xs) (x ∷ [])
@@ -37,8 +37,8 @@ shown_if true before more all h = refl
 shown_if false before more all h = h
 
 shown_more : (passes : Script) (xs : List (Slot Statement)) (x : Slot Statement)
-    → shown_text passes (xs ++ x ∷ []) ≡ shown_text passes xs ++ (if is_query passes then [] else text_behind (last_class None xs) (x ∷ []))
-shown_more passes xs x = shown_if (is_query passes) (text_behind None xs) (text_behind (last_class None xs) (x ∷ [])) (text_behind None (xs ++ x ∷ [])) (text_more None xs x)
+    → shown_text passes (xs ++ x ∷ []) ≡ shown_text passes xs ++ (if is_query passes then [] else text_following (last_class None xs) (x ∷ []))
+shown_more passes xs x = shown_if (is_query passes) (text_following None xs) (text_following (last_class None xs) (x ∷ [])) (text_following None (xs ++ x ∷ [])) (text_more None xs x)
 
 pub slots_after_more : (home : Package) (passes : Script) (ss : List Statement) (s : Statement)
     → slots_after (meaning home) passes (slots_of (ss ++ s ∷ [])) ≡ slots_after (meaning home) passes (slots_of ss) ++ slot_after (meaning home) passes (Some s) ∷ []
@@ -48,11 +48,11 @@ slots_after_more home passes ss s =
 -- the text with one statement more; `last` is the class of the last one that is left before it
 pub text_after_more : (home : Package) (passes : Script) (ss : List Statement) (s : Statement) (last : Option Class)
     → last ≡ last_class None (slots_after (meaning home) passes (slots_of ss))
-    → text_after home passes (ss ++ s ∷ []) ≡ text_after home passes ss ++ (if is_query passes then [] else text_behind last (slot_after (meaning home) passes (Some s) ∷ []))
+    → text_after home passes (ss ++ s ∷ []) ≡ text_after home passes ss ++ (if is_query passes then [] else text_following last (slot_after (meaning home) passes (Some s) ∷ []))
 text_after_more home passes ss s last at =
     ap (shown_text passes) (slots_after_more home passes ss s)
     ∙ shown_more passes (slots_after (meaning home) passes (slots_of ss)) (slot_after (meaning home) passes (Some s))
-    ∙ ap (λ l. text_after home passes ss ++ (if is_query passes then [] else text_behind l (slot_after (meaning home) passes (Some s) ∷ []))) (sym at)
+    ∙ ap (λ l. text_after home passes ss ++ (if is_query passes then [] else text_following l (slot_after (meaning home) passes (Some s) ∷ []))) (sym at)
 
 pub last_after_more : (home : Package) (passes : Script) (ss : List Statement) (s : Statement) (last now : Option Class)
     → last ≡ last_class None (slots_after (meaning home) passes (slots_of ss))

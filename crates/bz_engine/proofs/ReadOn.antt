@@ -62,7 +62,7 @@ read_then max a b c xs ys first second =
       few = omega (arith, first.few, second.few, ap length all, length-append (joined xs) (joined ys), length-append xs ys);
     }
 
--- what may follow the bytes behind the reads may follow the first with them
+-- what may follow the bytes after the reads may follow the first with them
 pub follows_read : (max : ℕ) (old new : Ahead) (pieces : List (List ℕ)) (rest : List ℕ) → IsReadOn max old new pieces → MayFollow new rest → MayFollow old (joined pieces ++ rest)
 follows_read max old new pieces rest read may ended =
     let none : pieces ≡ [] = read.stays ended in

@@ -17,13 +17,13 @@ use Rattle.bz_engine.specs.File.{Give, Gives}
 use Rattle.bz_engine.specs.Messages.{fault_text}
 use Rattle.bz_engine.specs.Outcome.{Script, slots_of, text_after, told_of_all, failures_at, first_of}
 use Rattle.bz_engine.specs.Progress.{Progress, IsKeptOf}
-use Rattle.bz_engine.specs.Edits.{IsDone, IsFailed}
+use Rattle.bz_engine.specs.private.Edits.{IsDone, IsFailed}
 use Rattle.bz_engine.specs.SessionValue.{SessionValue, IsSession, HasDone, HasEnded, told_of_progress, told_alone}
 use Rattle.bz_engine.proofs.ExchangeLaw.{log_by_pass, missing_lem}
 use Rattle.bz_engine.proofs.MoreReads.{ends_more, open_more, bytes_more, chunks_more, chunk_taken, one_more}
 use Rattle.bz_engine.proofs.Given.{give_fault, give_statement}
 
--- the chunks of the file behind more reads
+-- the chunks of the file after more reads
 read_on : (v : SessionValue) (mid : Ahead) (max_reads : ℕ) (pieces cs read : List (List ℕ)) (text : List ℕ)
     → HasDone v pieces cs text → IsReadOn max_reads v.ahead mid read
     → (rest : List ℕ) → (IsTrue mid.ended → rest ≡ []) → chunks (joined (pieces ++ read) ++ rest) ≡ cs ++ chunks (mid.bytes ++ rest)
@@ -44,11 +44,11 @@ pub reads_within : (v : SessionValue) (mid : Ahead) (max_reads : ℕ) (pieces cs
 reads_within v mid max_reads pieces cs read text done on = subst (λ n. n ≤ max_reads) (reads_on v mid max_reads pieces cs read text done on) on.within
 
 -- a chunk was done
-pub went_on : (v : SessionValue) (mid : Ahead) (progress : Progress) (max_reads most n : ℕ) (pieces cs read : List (List ℕ)) (text behind : List ℕ)
+pub went_on : (v : SessionValue) (mid : Ahead) (progress : Progress) (max_reads most n : ℕ) (pieces cs read : List (List ℕ)) (text after : List ℕ)
     → (done : HasDone v pieces cs text) → IsReadOn max_reads v.ahead mid read → IsNextChunk most mid n
-    → (edited : IsDone v.home v.passes v.options.keep_going v.options.max_depth cs done.statements (take n mid.bytes) v.progress progress [] behind)
-    → HasDone (record v { ahead = record mid { bytes = drop n mid.bytes }; progress = progress }) (pieces ++ read) (cs ++ take n mid.bytes ∷ []) (text ++ behind)
-went_on v mid progress max_reads most n pieces cs read text behind done on next edited = record {
+    → (edited : IsDone v.home v.passes v.options.keep_going v.options.max_depth cs done.statements (take n mid.bytes) v.progress progress [] after)
+    → HasDone (record v { ahead = record mid { bytes = drop n mid.bytes }; progress = progress }) (pieces ++ read) (cs ++ take n mid.bytes ∷ []) (text ++ after)
+went_on v mid progress max_reads most n pieces cs read text after done on next edited = record {
   bytes = bytes_more pieces read cs v.ahead.bytes mid.bytes (take n mid.bytes) (drop n mid.bytes) done.bytes on.bytes (sym (take-append-drop n mid.bytes));
   reads = reads_on v mid max_reads pieces cs read text done on;
   ended = ended_on v mid max_reads pieces cs read text done on;
@@ -59,7 +59,7 @@ went_on v mid progress max_reads most n pieces cs read text behind done on next 
       ∙ one_more cs (chunks (drop n mid.bytes ++ rest)) (take n mid.bytes);
   statements = done.statements ++ edited.more;
   kept = edited.kept;
-  text_is = ap (λ l. l ++ behind) done.text_is ∙ ap (λ l. text_after v.home v.passes done.statements ++ l) edited.appended ∙ sym edited.text;
+  text_is = ap (λ l. l ++ after) done.text_is ∙ ap (λ l. text_after v.home v.passes done.statements ++ l) edited.appended ∙ sym edited.text;
   calm = λ h. edited.calm h (done.calm h);
 }
 
@@ -110,11 +110,11 @@ ended_fault v mid fault max_reads most n pieces cs read text done on next gives 
 }
 
 -- an execution fails on a chunk's statement, and failures end the run
-pub ended_failure : (v : SessionValue) (mid : Ahead) (progress : Progress) (message : Option (List ℕ)) (behind : List ℕ) (max_reads most n : ℕ) (pieces cs read : List (List ℕ)) (text : List ℕ)
+pub ended_failure : (v : SessionValue) (mid : Ahead) (progress : Progress) (message : Option (List ℕ)) (after : List ℕ) (max_reads most n : ℕ) (pieces cs read : List (List ℕ)) (text : List ℕ)
     → HasDone v pieces cs text → IsReadOn max_reads v.ahead mid read → IsNextChunk most mid n
-    → IsFailed v.home v.passes v.options.keep_going v.options.max_depth (take n mid.bytes) message v.progress progress [] behind
+    → IsFailed v.home v.passes v.options.keep_going v.options.max_depth (take n mid.bytes) message v.progress progress [] after
     → HasEnded (record v { ahead = mid; progress = progress; failure = message }) FirstFailure (pieces ++ read) text
-ended_failure v mid progress message behind max_reads most n pieces cs read text done on next failed = record {
+ended_failure v mid progress message after max_reads most n pieces cs read text done on next failed = record {
   each = λ rest last.
       let over : IsTrue mid.ended → rest ≡ [] = λ h. last (subst IsTrue (ended_on v mid max_reads pieces cs read text done on) h) in
       let all : chunks (joined (pieces ++ read) ++ rest) ≡ cs ++ take n mid.bytes ∷ chunks (drop n mid.bytes ++ rest) =
@@ -126,7 +126,7 @@ ended_failure v mid progress message behind max_reads most n pieces cs read text
         statement = failed.statement;
         read = record {
           front = cs ++ take n mid.bytes ∷ [];
-          behind = chunks (drop n mid.bytes ++ rest);
+          after = chunks (drop n mid.bytes ++ rest);
           chunks_are = all ∙ one_more cs (chunks (drop n mid.bytes ++ rest)) (take n mid.bytes);
           read = give_statement v.options.max_depth v.progress.line cs done.statements (take n mid.bytes) failed.statement done.kept.read done.kept.line failed.read;
         };

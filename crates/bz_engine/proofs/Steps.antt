@@ -52,14 +52,14 @@ fits_length [] (p ∷ ps) h = absurd h
 fits_length (k ∷ ks) [] h = absurd h
 fits_length (k ∷ ks) (p ∷ ps) h = ap suc (fits_length ks ps h.1)
 
--- the place of a pass, and the places behind it
+-- the place of a pass, and the places after it
 pub fits_here : {T C M : Type 0} (ks : List (Kept M)) (ps : List (Pass T C)) (i : ℕ) (e : Kept M) (p : Pass T C) → i < length ks → i < length ps → p ≡ get_or ps i p
     → Fits (drop i ks) (drop i ps) → length (get_or ks i e).logs ≡ length p.commands
 fits_here ks ps i e p h l is fits = (rw (drop_more ks i e h, rest_of ps i p l is) at fits).0
 
-pub fits_behind : {T C M : Type 0} (ks : List (Kept M)) (ps : List (Pass T C)) (i : ℕ) (e k : Kept M) (p : Pass T C) → i < length ks → i < length ps → p ≡ get_or ps i p
+pub fits_after : {T C M : Type 0} (ks : List (Kept M)) (ps : List (Pass T C)) (i : ℕ) (e k : Kept M) (p : Pass T C) → i < length ks → i < length ps → p ≡ get_or ps i p
     → Fits (drop i ks) (drop i ps) → Fits (drop (i + 1) (set ks i k)) (drop (i + 1) ps)
-fits_behind ks ps i e k p h l is fits = rw (rest_after_write ks i k h) ((rw (drop_more ks i e h, rest_of ps i p l is) at fits).1)
+fits_after ks ps i e k p h l is fits = rw (rest_after_write ks i k h) ((rw (drop_more ks i e h, rest_of ps i p l is) at fits).1)
 
 -- there is still a place for each pass and each command
 logs_and_length : {S T C M : Type 0} (m : Meaning S T C M) (cs : List C) (x : Marked S) (logs : List (List M)) → length logs ≡ length cs

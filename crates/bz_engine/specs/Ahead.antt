@@ -10,7 +10,7 @@ pub record Ahead : Type 0 where
   pub reads : ℕ
   pub ended : Bool
 
--- Reads gave these pieces, each of at most 8,192 bytes: they stand behind the bytes ahead. Behind the end nothing is read.
+-- Reads gave these pieces, each of at most 8,192 bytes: they stand after the bytes ahead. After the end nothing is read.
 pub record IsReadOn (max_reads : ℕ) (old new : Ahead) (pieces : List (List ℕ)) : Type 0 where
   pub bytes : new.bytes ≡ old.bytes ++ joined pieces
   pub reads : new.reads ≡ old.reads + length pieces

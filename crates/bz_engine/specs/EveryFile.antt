@@ -1,4 +1,4 @@
--- What a run answers for a file that it may not have read to its end: the same, whatever stands behind what was read (this project's own rule).
+-- What a run answers for a file that it may not have read to its end: the same, whatever stands after what was read (this project's own rule).
 use Rattle.std.specs.Prelude.{◌≡◌, ℕ, IsTrue, List, [], ◌++◌}
 use Rattle.bz_engine.specs.Device.{joined, ends}
 

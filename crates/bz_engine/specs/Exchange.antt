@@ -69,7 +69,7 @@ some_alone m test [] slot = false
 some_alone m test (p ∷ ps) slot =
     some_of_commands_alone m test p.commands (marked m p.target slot) || some_alone m test ps (slot_after_pass m p slot)
 
--- what is kept of some slots, and then of more behind them
+-- what is kept of some slots, and then of more after them
 abbrev pub logs_and : {M : Type 0} → List (List M) → List (List M) → List (List M)
 logs_and [] ys = []
 logs_and (x ∷ xs) [] = []

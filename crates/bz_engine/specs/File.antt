@@ -9,7 +9,7 @@ use Rattle.bz_tree.specs.declared.fault.ParseFault.TheVariants.{OutOfMemory}
 use Rattle.bz_engine.specs.declared.report.SyntaxFault.{SyntaxFault}
 use Rattle.bz_engine.specs.declared.report.SyntaxFault.TheVariants.{NotUtf8, Parse}
 
--- the place of the first byte that belongs to no UTF-8, behind n bytes that do
+-- the place of the first byte that belongs to no UTF-8, after n bytes that do
 abbrev pub not_utf8 : ℕ → ℕ → List ℕ → SyntaxFault
 not_utf8 line n bytes = NotUtf8 (line_at line (take n bytes)) (column_at (take n bytes))
 
@@ -20,11 +20,11 @@ Gives max_depth line chunk (Ok None) = IsUtf8 chunk × IsBlank line max_depth ch
 Gives max_depth line chunk (Err (NotUtf8 l c)) = ¬ (IsUtf8 chunk) × ((n : ℕ) × IsValidUpTo chunk n × (NotUtf8 l c ≡ not_utf8 line n chunk))
 Gives max_depth line chunk (Err (Parse fault)) = IsUtf8 chunk × IsFaultIn line max_depth chunk fault × (fault ≢ OutOfMemory)
 
--- and then what the chunks behind it give: a fault ends the list
+-- and then what the chunks after it give: a fault ends the list
 abbrev pub Follows : Result (Option Statement) SyntaxFault → (List Statement → Option SyntaxFault → Type 0) → List Statement → Option SyntaxFault → Type 0
-Follows (Err f) Behind statements fault = (statements ≡ []) × (fault ≡ Some f)
-Follows (Ok None) Behind statements fault = Behind statements fault
-Follows (Ok (Some s)) Behind statements fault = (more : List Statement) × (statements ≡ s ∷ more) × Behind more fault
+Follows (Err f) After statements fault = (statements ≡ []) × (fault ≡ Some f)
+Follows (Ok None) After statements fault = After statements fault
+Follows (Ok (Some s)) After statements fault = (more : List Statement) × (statements ≡ s ∷ more) × After more fault
 
 -- The chunks, of which the first begins at this line, have these statements before the first fault.
 abbrev pub Give : ℕ → ℕ → List (List ℕ) → List Statement → Option SyntaxFault → Type 0

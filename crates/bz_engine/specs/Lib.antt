@@ -1,10 +1,7 @@
 pub mod Ahead
-pub mod ChunkRead
-pub mod AheadSteps
 pub mod Changes
 pub mod Device
 pub mod DeviceLaws
-pub mod Edits
 pub mod Progress
 pub mod SessionValue
 pub mod Exchange
@@ -13,3 +10,4 @@ pub mod File
 pub mod Meaning
 pub mod Messages
 pub mod Outcome
+pub mod private

@@ -34,15 +34,15 @@ slots_of statements = map Some statements
 abbrev pub gap_text : Bool → List ℕ
 gap_text blank = if blank then codes "\n" else []
 
--- the text of slots behind a statement of this class, or at the start
-abbrev pub text_behind : Option Class → List (Slot Statement) → List ℕ
-text_behind last [] = []
-text_behind last (None ∷ slots) = text_behind last slots
-text_behind last (Some s ∷ slots) = gap_text (blank_between last s.class) ++ (layout_text s ++ text_behind (Some s.class) slots)
+-- the text of slots after a statement of this class, or at the start
+abbrev pub text_following : Option Class → List (Slot Statement) → List ℕ
+text_following last [] = []
+text_following last (None ∷ slots) = text_following last slots
+text_following last (Some s ∷ slots) = gap_text (blank_between last s.class) ++ (layout_text s ++ text_following (Some s.class) slots)
 
 -- the text of slots; none for a query
 abbrev pub shown_text : Script → List (Slot Statement) → List ℕ
-shown_text passes slots = if is_query passes then [] else text_behind None slots
+shown_text passes slots = if is_query passes then [] else text_following None slots
 
 -- the text of the statements as the script left them
 abbrev pub text_after : Package → Script → List Statement → List ℕ
@@ -133,8 +133,8 @@ told_by r = record { lines = r.lines; messages = r.messages; changed = r.changed
 -- The file begins with these statements: its first chunks have them, and no fault.
 pub record BeginsWith (max_depth : ℕ) (file : List ℕ) (statements : List Statement) : Type 0 where
   pub front : List (List ℕ)
-  pub behind : List (List ℕ)
-  pub chunks_are : chunks file ≡ front ++ behind
+  pub after : List (List ℕ)
+  pub chunks_are : chunks file ≡ front ++ after
   pub read : Give max_depth 1 front statements None
 
 -- All executions take place, up to the first fault of the file: failures do not end the run, or there is none.

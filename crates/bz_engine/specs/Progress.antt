@@ -10,7 +10,7 @@ use Rattle.bz_command.specs.Passes.{Slot, slots_after}
 use Rattle.bz_engine.specs.Exchange.{Kept, IsLeftBy, slot_after}
 use Rattle.bz_engine.specs.Meaning.{meaning, changes, fails_on}
 use Rattle.bz_engine.specs.File.{Give}
-use Rattle.bz_engine.specs.Outcome.{Script, slots_of, is_query, text_behind}
+use Rattle.bz_engine.specs.Outcome.{Script, slots_of, is_query, text_following}
 
 -- For each pass and command what was told, whether something changed and failed, the class of the last statement that is left, and the
 -- line on which the next chunk begins.
@@ -37,4 +37,4 @@ pub record IsKeptOf (home : Package) (passes : Script) (max_depth : ℕ) (cs : L
 -- what one statement more, as the script leaves it, adds to the text
 abbrev pub added : Package → Script → Option Class → List Statement → List ℕ
 added home passes last [] = []
-added home passes last (s ∷ ss) = if is_query passes then [] else text_behind last (slot_after (meaning home) passes (Some s) ∷ [])
+added home passes last (s ∷ ss) = if is_query passes then [] else text_following last (slot_after (meaning home) passes (Some s) ∷ [])

@@ -3,9 +3,9 @@
 ghost use Rattle.std.specs.Prelude.{◌≡◌, ◌≢◌, ℕ, ◌+◌, ◌<◌, ◌≤◌, false, List, [], length, take, drop, IfOk, OnOk, OnErr, IfSome, IfNone, IsErrOf, IsTrue};
 ghost use Rattle.bz_engine.specs.Device.{joined, Rises};
 ghost use Rattle.bz_token.specs.Cuts.{IsBlock};
-ghost use Rattle.bz_token.specs.CutterState.{IsBehind, IsAtBlock};
+ghost use Rattle.bz_token.specs.CutterState.{IsAfter, IsAtBlock};
 ghost use Rattle.bz_engine.specs.Ahead.{IsReadOn, AreNeeded, IsNextChunk, IsTooLong, IsUncertain};
-ghost use Rattle.bz_engine.specs.AheadSteps.{IsOpen, IsLine, IsLineAt, IsBegun, GoesOn, EndsAt, IsEnd};
+ghost use Rattle.bz_engine.specs.private.AheadSteps.{IsOpen, IsLine, IsLineAt, IsBegun, GoesOn, EndsAt, IsEnd};
 
 use crate::device::Source;
 use crate::input::{PIECE, ReadFault, read_at_most};
@@ -48,7 +48,7 @@ pub(crate) enum ChunkFault {
 }
 
 impl From<ReadFault> for ChunkFault {
-    ghost use Rattle.bz_engine.specs.AheadSteps.{chunk_fault};
+    ghost use Rattle.bz_engine.specs.private.AheadSteps.{chunk_fault};
 
     ghost from_gives = { λ fault e. e ≡ chunk_fault fault };
 
@@ -141,7 +141,7 @@ fn drop_front(bytes: &mut Vec<u8>, n: usize)
     bytes.drain(..n);
 }
 
-/// Where the first line ends, behind its newline.
+/// Where the first line ends, after its newline.
 fn line_end(bytes: &[u8]) -> Option<usize>
     ensures within { IfSome result (λ n. (0 < n) × (n ≤ length bytes.now)) }
     ensures line { IfSome result (λ n. IsLine (take n bytes.now)) }
@@ -155,7 +155,7 @@ fn line_end(bytes: &[u8]) -> Option<usize>
     None
 }
 
-/// Reads on until the line that begins behind the first `from` bytes has its newline, or the input
+/// Reads on until the line that begins after the first `from` bytes has its newline, or the input
 /// has ended. Answers where the line ends. Before each read all bytes ahead belong to its chunk.
 fn read_line<S: Source>(
     ahead: &mut Ahead,
@@ -193,7 +193,7 @@ fn read_line<S: Source>(
     }
 }
 
-/// Whether the chunk ends with its block, behind the first `end` bytes.
+/// Whether the chunk ends with its block, after the first `end` bytes.
 fn ends_block<S: Source>(
     cutter: &mut Cutter,
     ahead: &mut Ahead,
@@ -203,7 +203,7 @@ fn ends_block<S: Source>(
     max_reads: u64,
 ) -> Result<bool, ChunkFault>
     requires at_block { IsAtBlock cutter.old }
-    requires behind { IsBehind cutter.old (take end ahead.old.bytes) }
+    requires after { IsAfter cutter.old (take end ahead.old.bytes) }
     requires block { IsBlock (take end ahead.old.bytes) }
     requires made { ahead.old.reads ≤ max_reads }
     requires within { end ≤ length ahead.old.bytes }
@@ -234,7 +234,7 @@ fn ends_block<S: Source>(
     }
 }
 
-/// Whether the chunk ends with the line that ends behind the first `end` bytes.
+/// Whether the chunk ends with the line that ends after the first `end` bytes.
 fn ends_chunk<S: Source>(
     cutter: &mut Cutter,
     ahead: &mut Ahead,

@@ -3,7 +3,7 @@
 ghost use Rattle.std.specs.Prelude.{◌≡◌, ℕ, ◌+◌, ◌<◌, ◌≤◌, ◌^◌, ◌==◌, List, count_by, length, IfOk};
 ghost use Rattle.bz_token.specs.Places.{line_at, column_at};
 ghost use Rattle.bz_engine.specs.File.{Gives};
-ghost use Rattle.bz_engine.specs.ChunkRead.{answer_of};
+ghost use Rattle.bz_engine.specs.private.ChunkRead.{answer_of};
 
 use crate::report::SyntaxFault;
 use bz_token::check_utf8;
@@ -40,7 +40,7 @@ pub(crate) fn read_chunk<'a>(
     }
 }
 
-/// The fault behind the bytes of a chunk that are UTF-8.
+/// The fault after the bytes of a chunk that are UTF-8.
 fn not_utf8(first_line: u64, valid: &[u8]) -> SyntaxFault
     requires { first_line + length valid.now < 2 ^ 64 }
     ensures { result ≡ SyntaxFault.NotUtf8 (line_at first_line valid.now) (column_at valid.now) }

@@ -8,9 +8,9 @@ ghost use Rattle.bz_layout.specs.Gaps.{blank_between as is_gap};
 ghost use Rattle.bz_layout.specs.Layout.{layout_text};
 ghost use Rattle.bz_command.specs.Commands.{is_print};
 ghost use Rattle.bz_engine.specs.Exchange.{Fits};
-ghost use Rattle.bz_engine.specs.Outcome.{is_query, text_behind, gap_text, failure_text, first_of, log_alone};
+ghost use Rattle.bz_engine.specs.Outcome.{is_query, text_following, gap_text, failure_text, first_of, log_alone};
 ghost use Rattle.bz_engine.specs.Progress.{IsKeptOf, last_class};
-ghost use Rattle.bz_engine.specs.Edits.{IsEdited, IsScripted};
+ghost use Rattle.bz_engine.specs.private.Edits.{IsEdited, IsScripted};
 
 use crate::chunk::{ChunkRead, newlines, read_chunk};
 use crate::entry::Entry;
@@ -49,7 +49,7 @@ pub(crate) enum Edited {
     Failed(Option<Text>),
 }
 
-/// The script on the next chunk: what it leaves goes behind the text, and what is kept is then that of the chunks with this one.
+/// The script on the next chunk: what it leaves goes after the text, and what is kept is then that of the chunks with this one.
 /// After a refusal neither the text nor what is kept is of use.
 pub(crate) fn edit_chunk(
     script: Script<'_>,
@@ -142,7 +142,7 @@ fn all_print(commands: &[Command]) -> bool
     true
 }
 
-/// Writes what is in a slot behind the statement of class `last`.
+/// Writes what is in a slot after the statement of class `last`.
 fn put_slot(
     script: Script<'_>,
     last: Option<Class>,
@@ -150,7 +150,7 @@ fn put_slot(
     text: &mut Vec<u8>,
 ) -> Result<(), AllocError>
     ensures { OnOk result (text.new.items ≡ text.old.items
-        ++ (if is_query script.entry.passes.now then [] else text_behind last (slot_view slot.now ∷ []))) }
+        ++ (if is_query script.entry.passes.now then [] else text_following last (slot_view slot.now ∷ []))) }
 {
     let Some(stmt) = slot else {
         return Ok(());
@@ -158,12 +158,12 @@ fn put_slot(
     if is_query(script.passes) {
         return Ok(());
     }
-    put_behind(script.alloc, last, stmt, text)?;
+    put_after(script.alloc, last, stmt, text)?;
     Ok(())
 }
 
-/// Writes a statement behind another.
-fn put_behind(
+/// Writes a statement after another.
+fn put_after(
     alloc: Global,
     last: Option<Class>,
     stmt: &Stmt<'_>,

@@ -29,7 +29,7 @@ impl From<AllocError> for ReadFault {
     }
 }
 
-/// Reads once, at most `most` bytes, and puts them behind the bytes that are there. Answers how many
+/// Reads once, at most `most` bytes, and puts them after the bytes that are there. Answers how many
 /// came; 0 is the end of the input. A refusal leaves the bytes as they were.
 ///
 /// `reads_left` is how many reads may still be made: without one, none is made.

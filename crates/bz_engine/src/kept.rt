@@ -53,7 +53,7 @@ pub(crate) fn nothing_kept<T, C, M: Drop>(
     Ok(kept)
 }
 
-/// Moves what the commands of a pass told behind the log, command by command.
+/// Moves what the commands of a pass told after the log, command by command.
 fn append_all<M>(logs: &mut [Log<M>], log: &mut Log<M>) -> Result<(), AllocError>
     ensures { OnOk result (log.new ≡ log.old ++ flat_map (λ said. said) logs.old) }
 {

@@ -51,7 +51,7 @@ pub(crate) trait Language {
     fn not_found(&self, target: &Self::Target) -> Result<Self::Entry, AllocError>
         ensures { IfOk result (λ entry. entry ≡ (meaning self.now).not_found target.now) };
 
-    /// One command on a slot. What it tells goes behind the log.
+    /// One command on a slot. What it tells goes after the log.
     fn apply(
         &self,
         command: &Self::Command,

@@ -92,7 +92,7 @@ fn is_failure(note: &Option<Note>) -> bool
     }
 }
 
-/// Puts what an execution told behind the log: what it printed, then its note on the rule in the slot.
+/// Puts what an execution told after the log: what it printed, then its note on the rule in the slot.
 fn tell_done(
     alloc: Global,
     home: &Package,

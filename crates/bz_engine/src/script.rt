@@ -93,7 +93,7 @@ fn run_pass<L: Language>(
     )
 }
 
-/// The passes one after another on one slot. What they tell goes behind what was kept of the slots
+/// The passes one after another on one slot. What they tell goes after what was kept of the slots
 /// before, and what they did is added to the facts.
 fn run_passes<L: Language>(
     language: &L,

@@ -8,7 +8,7 @@ ghost use Rattle.bz_engine.specs.Ahead.{IsReadOn, IsNextChunk};
 ghost use Rattle.bz_engine.specs.Messages.{fault_text};
 ghost use Rattle.bz_engine.specs.Outcome.{told_by};
 ghost use Rattle.bz_engine.specs.Progress.{IsKeptOf};
-ghost use Rattle.bz_engine.specs.Edits.{IsEdited};
+ghost use Rattle.bz_engine.specs.private.Edits.{IsEdited};
 ghost use Rattle.bz_engine.specs.SessionValue.{at_start, IsSameRun, IsReady, HasDone, HasEnded, told_at, told_of_progress, told_alone};
 ghost use Rattle.bz_engine.specs.declared.session.Stage.TheVariants.{Going, Ended, Stopped};
 
@@ -116,7 +116,7 @@ impl Session {
         ensures stopped { self.old.stage ≡ Stopped → (result ≡ Err RunFault.Stopped) × S.gave source.old [] source.new × W.took sink.old [] sink.new }
         // Nor once it has ended, and it stays as it is.
         ensures ended { (end : _) → self.old.stage ≡ Ended end → (result ≡ Ok Step.End) × (self.new ≡ self.old) × S.gave source.old [] source.new × W.took sink.old [] sink.new }
-        // Behind `More` one chunk is done: its text was written.
+        // After `More` one chunk is done: its text was written.
         ensures more { result ≡ Ok Step.More → (self.new.stage ≡ Going) × ((pieces cs : List (List ℕ)) (text : List ℕ) → HasDone self.old pieces cs text
             → (read : List (List ℕ)) × (chunk : List ℕ) × (shown : List ℕ)
             × S.gave source.old read source.new × W.took sink.old shown sink.new
@@ -146,7 +146,7 @@ impl Session {
             Stage::Ended(_) => return Ok(Step::End),
             Stage::Going => {}
         }
-        // Behind a fault what is kept is of no use.
+        // After a fault what is kept is of no use.
         self.stage = Stage::Stopped;
         self.stage = self.advance(source, sink)?;
         match self.stage {
@@ -177,7 +177,7 @@ impl Session {
         Ok(report)
     }
 
-    /// Takes the next chunk, and answers whether the session goes on. What is kept is of no use behind a fault.
+    /// Takes the next chunk, and answers whether the session goes on. What is kept is of no use after a fault.
     fn advance<S: Source, W: Sink>(
         &mut self,
         source: &mut S,

@@ -26,7 +26,7 @@ fn begin(alloc: Global, script: &str, options: Options) -> Result<Session, Fail>
     Ok(session)
 }
 
-/// A step answers this; behind it the source has given so many bytes, in one read each, and the sink holds this text.
+/// A step answers this; after it the source has given so many bytes, in one read each, and the sink holds this text.
 fn check_step(
     rt: &impl Abort,
     session: &mut Session,
@@ -46,7 +46,7 @@ fn check_step(
     );
 }
 
-// Each step reads its chunk and nothing behind it, where that takes a read of its own.
+// Each step reads its chunk and nothing after it, where that takes a read of its own.
 #[test]
 fn takes_a_chunk_each(rt: HostRuntime) -> Result<(), Fail> {
     let alloc = rt.alloc();
@@ -268,7 +268,7 @@ fn stops_at_a_long_statement(rt: HostRuntime) -> Result<(), Fail> {
     Ok(())
 }
 
-/// An input, and the text of each step that takes a chunk, with a line `|` behind it.
+/// An input, and the text of each step that takes a chunk, with a line `|` after it.
 const CHUNKS: &str = r#"
 ---
 ␄
@@ -416,7 +416,7 @@ y
 |
 "#;
 
-/// The texts of the steps, with a line `|` behind each.
+/// The texts of the steps, with a line `|` after each.
 fn steps(alloc: Global, input: &[u8], piece: Piece) -> Result<Vec<u8>, Fail> {
     let mut feed = Feed::new(Input::Bytes(input), piece, None);
     let mut drip = Drip::new(alloc, 9000, None);

@@ -5,7 +5,7 @@ use Rattle.bz_folder.specs.Files.{Content, Files, SetMode, Rename, Event, SameBu
 use Rattle.bz_folder.specs.Paths.{temporary_path}
 use Rattle.bz_folder.specs.Moments.{along_append, along_weaker, along_one, changes_there, same_trans, any_right}
 use Rattle.bz_folder.specs.Replace.{IsSafe}
-use Rattle.bz_folder.specs.Steps.{IsPut, IsPutEnd}
+use Rattle.bz_folder.specs.private.Steps.{IsPut, IsPutEnd}
 use Rattle.bz_folder.specs.DraftValue.{DraftValue, IsTextAt, IsText, Sent}
 use Rattle.bz_folder.specs.declared.draft.Stage.TheVariants.{Made, Broken}
 use Rattle.bz_engine.specs.declared.device.Failed.{Failed}

@@ -6,7 +6,7 @@ use Rattle.bz_folder.specs.Files.{Content, Files, Remove, Event, SameBut, Done, 
 use Rattle.bz_folder.specs.Paths.{temporary_path}
 use Rattle.bz_folder.specs.Moments.{along_append, along_weaker, along_one, changes_there, same_trans, any_left, any_right}
 use Rattle.bz_folder.specs.Replace.{IsSafe, IsEnd, IsUndone}
-use Rattle.bz_folder.specs.Steps.{IsPut, IsPutEnd, IsFinished, IsFinishCaused, abandon_calls, abandon_answer, wanted_of}
+use Rattle.bz_folder.specs.private.Steps.{IsPut, IsPutEnd, IsFinished, IsFinishCaused, abandon_calls, abandon_answer, wanted_of}
 use Rattle.bz_folder.specs.DraftValue.{DraftValue, IsText}
 use Rattle.bz_folder.proofs.Ends.{safe_of, temporary_differs}
 use Rattle.bz_folder.specs.declared.draft.Stage.{Stage}

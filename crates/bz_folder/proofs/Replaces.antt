@@ -6,7 +6,7 @@ use Rattle.bz_folder.specs.Files.{Files, Event, SameBut, Along, AnyFails}
 use Rattle.bz_folder.specs.Paths.{temporary_path}
 use Rattle.bz_folder.specs.Moments.{along_append, along_where, any_left, any_right}
 use Rattle.bz_folder.specs.Replace.{IsSafe, IsEnd, IsCaused, ReplacesSafely, Replacement}
-use Rattle.bz_folder.specs.Steps.{IsFinished, IsFinishCaused, wanted_of}
+use Rattle.bz_folder.specs.private.Steps.{IsFinished, IsFinishCaused, wanted_of}
 use Rattle.bz_folder.specs.DraftValue.{DraftValue, IsTextAt, IsText, Took, capacity}
 use Rattle.bz_folder.proofs.Ends.{safe_of}
 use Rattle.bz_folder.specs.declared.draft.Stage.{Stage}

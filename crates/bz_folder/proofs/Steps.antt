@@ -3,7 +3,7 @@ use Rattle.std.proofs.Common.{◌≡◌, ◌≢◌, ◌⊎◌, ℕ, false, List,
 use Rattle.std.specs.Prelude.{⊤}
 use Rattle.bz_folder.specs.Files.{Files, Make, Write, Remove, Event, SameBut, HasBytes, After, Along, AnyFails}
 use Rattle.bz_folder.specs.Moments.{along_weaker, at_one, at_append, any_right}
-use Rattle.bz_folder.specs.Steps.{IsSent}
+use Rattle.bz_folder.specs.private.Steps.{IsSent}
 use Rattle.bz_folder.specs.DraftValue.{DraftValue, HasSent, IsTextAt, IsText, Sent}
 use Rattle.bz_folder.specs.declared.draft.Stage.{Stage}
 use Rattle.bz_folder.specs.declared.draft.Stage.TheVariants.{Unmade, Made, Broken}

@@ -4,7 +4,7 @@ pub mod Replace
 pub mod Sequence
 pub mod SequenceLaws
 pub mod DraftValue
-pub mod Steps
 pub mod Moments
 pub mod DraftLaws
 pub mod Tally
+pub mod private

@@ -3,7 +3,7 @@
 ghost use Rattle.std.specs.Prelude.{◌≡◌, ◌≢◌, List, [], Ok, Err};
 ghost use Rattle.bz_folder.specs.Files.{Event, HasBytes};
 ghost use Rattle.bz_folder.specs.Paths.{temporary_path};
-ghost use Rattle.bz_folder.specs.Steps.{IsSent, IsPut};
+ghost use Rattle.bz_folder.specs.private.Steps.{IsSent, IsPut};
 ghost use Rattle.bz_folder.specs.declared.draft.Stage.TheVariants.{Unmade};
 
 use crate::draft::Stage;

@@ -6,7 +6,7 @@ ghost use Rattle.bz_folder.specs.Files.{Event};
 ghost use Rattle.bz_folder.specs.Paths.{temporary_path};
 ghost use Rattle.bz_folder.specs.DraftValue.{capacity, Sent, Took, IsText};
 ghost use Rattle.bz_folder.specs.DraftLaws.{took_nothing_lem, took_more_lem};
-ghost use Rattle.bz_folder.specs.Steps.{IsPut, IsFinished, abandon_calls, abandon_answer};
+ghost use Rattle.bz_folder.specs.private.Steps.{IsPut, IsFinished, abandon_calls, abandon_answer};
 ghost use Rattle.bz_folder.specs.declared.draft.Stage.TheVariants.{Unmade, Made, Broken};
 
 use crate::calls::{install, send};

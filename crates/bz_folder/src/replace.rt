@@ -5,7 +5,7 @@ ghost use Rattle.bz_folder.specs.Files.{Event};
 ghost use Rattle.bz_folder.specs.Paths.{temporary_path};
 ghost use Rattle.bz_folder.specs.DraftValue.{capacity};
 ghost use Rattle.bz_folder.specs.Replace.{Replacement};
-ghost use Rattle.bz_folder.specs.Steps.{IsFinished};
+ghost use Rattle.bz_folder.specs.private.Steps.{IsFinished};
 
 use crate::author::Author;
 use crate::draft::Draft;

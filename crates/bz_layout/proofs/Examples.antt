@@ -32,7 +32,7 @@ slice = refl
 prefixes : flat_text None (leaf Word (codes "not") nowhere ∷ sign (codes "-") ∷ name (codes "f") ∷ group Call (segs_of (plain (sign (codes "*") ∷ name (codes "a") ∷ []) ∷ plain (sign (codes "**") ∷ name (codes "k") ∷ []) ∷ [])) false [] ∷ []) ≡ codes "not -f(*a, **k)"
 prefixes = refl
 
--- `['a', b'x']` within a dict behind its colon
+-- `['a', b'x']` within a dict after its colon
 strings : flat_text (Some Dict) (text (codes "'k'") ∷ sign (codes ":") ∷ group ListKind (segs_of (plain (text (codes "'a'") ∷ []) ∷ plain (text (codes "b'x'") ∷ []) ∷ [])) false [] ∷ []) ≡ codes "\"k\": [\"a\", b'x']"
 strings = refl
 

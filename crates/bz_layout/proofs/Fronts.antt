@@ -2,7 +2,7 @@
 use Rattle.std.proofs.Common.{◌≡◌, ℕ, List, [], ◌∷◌, ◌++◌, length, take, drop, set, Bool, false, append_assoc, refl, ap}
 use Rattle.bz_layout.specs.declared.broken.Style.TheVariants.{Flat}
 use Rattle.bz_tree.specs.Tree.{Item, leaf, group, Items, no_items, item, Segs, no_segs, seg}
-use Rattle.bz_layout.specs.Marks.{item_marks, items_marks, segs_marks, IsFront}
+use Rattle.bz_layout.specs.private.Marks.{item_marks, items_marks, segs_marks, IsFront}
 
 pub front_left : (a b xs : List Bool) → IsFront (a ++ b) xs → IsFront a xs
 front_left [] b xs h = refl
@@ -20,20 +20,20 @@ front_right (x ∷ a) b (y ∷ xs) h =
     let more : take (length (a ++ b)) xs ≡ a ++ b = cc in
     front_right a b xs more
 
-pub front_behind : (a b xs : List Bool) → drop (length b) (drop (length a) xs) ≡ drop (length (a ++ b)) xs
-front_behind [] b xs = refl
-front_behind (x ∷ a) [] [] = refl
-front_behind (x ∷ a) (y ∷ b) [] = refl
-front_behind (x ∷ a) b (y ∷ xs) = front_behind a b xs
+pub front_after : (a b xs : List Bool) → drop (length b) (drop (length a) xs) ≡ drop (length (a ++ b)) xs
+front_after [] b xs = refl
+front_after (x ∷ a) [] [] = refl
+front_after (x ∷ a) (y ∷ b) [] = refl
+front_after (x ∷ a) b (y ∷ xs) = front_after a b xs
 
 pub front_own : (a : List Bool) → IsFront a a
 front_own [] = refl
 front_own (x ∷ a) = ap (λ xs. x ∷ xs) (front_own a)
 
 -- the mark that was left open
-pub set_behind : (a b : List Bool) (x y : Bool) → set (a ++ (x ∷ b)) (length a) y ≡ a ++ (y ∷ b)
-set_behind [] b x y = refl
-set_behind (z ∷ a) b x y = ap (λ xs. z ∷ xs) (set_behind a b x y)
+pub set_after : (a b : List Bool) (x y : Bool) → set (a ++ (x ∷ b)) (length a) y ≡ a ++ (y ∷ b)
+set_after [] b x y = refl
+set_after (z ∷ a) b x y = ap (λ xs. z ∷ xs) (set_after a b x y)
 
 -- flat text takes no marks
 mutual
@@ -53,4 +53,4 @@ pub flat_front : (xs : Items) (marks : List Bool) → IsFront (items_marks Flat 
 flat_front xs marks = rw (flat_items xs) refl
 
 pub own_mark : (old new ms : List Bool) (b : Bool) (at : ℕ) → new ≡ (old ++ (false ∷ [])) ++ ms → at ≡ length old → set new at b ≡ old ++ (b ∷ ms)
-own_mark old new ms b at e is = rw (e, is, append_assoc old (false ∷ []) ms) (set_behind old ms false b)
+own_mark old new ms b at e is = rw (e, is, append_assoc old (false ∷ []) ms) (set_after old ms false b)

@@ -13,17 +13,17 @@ use Rattle.bz_layout.specs.declared.spacing.Gap.TheVariants.{Closed, Space, Apar
 use Rattle.bz_layout.specs.declared.broken.Style.TheVariants.{Broken}
 use Rattle.bz_layout.specs.Pieces.{Piece, piece, indent, gap_bytes, bytes_of, comment_lines, suffix_piece}
 use Rattle.bz_layout.specs.Layout.{items_pieces, statement_line, is_comment, layout, layout_text}
-use Rattle.bz_layout.specs.Lines.{TextLine, text_line, lines_text, is_line_kind, is_newline, ended_by, level_behind, text_behind, lines_from, lines_of}
+use Rattle.bz_layout.specs.Lines.{TextLine, text_line, lines_text, is_line_kind, is_newline, ended_by, level_after, text_following, lines_from, lines_of}
 
 lines_append : (a b : List TextLine) → lines_text (a ++ b) ≡ lines_text a ++ lines_text b
 lines_append [] b = refl
 lines_append (l ∷ a) b = rw (lines_append a b) (simp append_assoc)
 
-behind_gap : (gap : Gap) (level : ℕ) (text rest : List ℕ) → indent level ++ (text ++ (gap_bytes gap ++ rest)) ≡ lines_text (ended_by gap level text) ++ (indent (level_behind gap level) ++ (text_behind gap text ++ rest))
-behind_gap Closed level text rest = simp append_assoc
-behind_gap Space level text rest = simp append_assoc
-behind_gap Apart level text rest = simp append_assoc
-behind_gap (Line n) level text rest = simp append_assoc
+after_gap : (gap : Gap) (level : ℕ) (text rest : List ℕ) → indent level ++ (text ++ (gap_bytes gap ++ rest)) ≡ lines_text (ended_by gap level text) ++ (indent (level_after gap level) ++ (text_following gap text ++ rest))
+after_gap Closed level text rest = simp append_assoc
+after_gap Space level text rest = simp append_assoc
+after_gap Apart level text rest = simp append_assoc
+after_gap (Line n) level text rest = simp append_assoc
 
 -- the last piece is a newline
 abbrev pub ends_line : List Piece → Bool
@@ -37,33 +37,33 @@ newline_text p h = (bytes_eq-Decides p.text (codes "\n")).0 (and_parts (is_line_
 pub from_lines : (ps : List Piece) (level : ℕ) (text : List ℕ) → ends_line ps ≡ true → indent level ++ (text ++ bytes_of ps) ≡ lines_text (lines_from level text ps)
 from_lines [] level text h = absurd (false≢true h)
 from_lines (p ∷ []) level text h =
-    let l = level_behind p.gap level in
-    let t = text_behind p.gap text in
+    let l = level_after p.gap level in
+    let t = text_following p.gap text in
     let is = newline_text p h in
-    rw (h, lines_append (ended_by p.gap level text) (text_line l t ∷ [])) (behind_gap p.gap level text (p.text ++ []) ∙ rw is refl)
+    rw (h, lines_append (ended_by p.gap level text) (text_line l t ∷ [])) (after_gap p.gap level text (p.text ++ []) ∙ rw is refl)
 from_lines (p ∷ q ∷ ps) level text h =
-    let l = level_behind p.gap level in
-    let t = text_behind p.gap text in
+    let l = level_after p.gap level in
+    let t = text_following p.gap text in
     elim (cases_Bool (is_newline p)) [
       | inl hit ↦
           let is = newline_text p hit in
           let next = from_lines (q ∷ ps) 0 [] h in
-          rw (hit, lines_append (ended_by p.gap level text) (text_line l t ∷ lines_from 0 [] (q ∷ ps)), ← next) (behind_gap p.gap level text (p.text ++ bytes_of (q ∷ ps)) ∙ rw is refl)
+          rw (hit, lines_append (ended_by p.gap level text) (text_line l t ∷ lines_from 0 [] (q ∷ ps)), ← next) (after_gap p.gap level text (p.text ++ bytes_of (q ∷ ps)) ∙ rw is refl)
       | inr miss ↦
           let next = from_lines (q ∷ ps) l (t ++ p.text) h in
-          rw (miss, lines_append (ended_by p.gap level text) (lines_from l (t ++ p.text) (q ∷ ps)), ← next, append_assoc t p.text (bytes_of (q ∷ ps))) (behind_gap p.gap level text (p.text ++ bytes_of (q ∷ ps)))
+          rw (miss, lines_append (ended_by p.gap level text) (lines_from l (t ++ p.text) (q ∷ ps)), ← next, append_assoc t p.text (bytes_of (q ∷ ps))) (after_gap p.gap level text (p.text ++ bytes_of (q ∷ ps)))
     ]
 
-ends_behind : (ps : List Piece) (qs : List Piece) → ends_line qs ≡ true → ends_line (ps ++ qs) ≡ true
-ends_behind [] qs h = h
-ends_behind (p ∷ []) [] h = absurd (false≢true h)
-ends_behind (p ∷ []) (q ∷ qs) h = h
-ends_behind (p ∷ r ∷ ps) qs h = ends_behind (r ∷ ps) qs h
+ends_after : (ps : List Piece) (qs : List Piece) → ends_line qs ≡ true → ends_line (ps ++ qs) ≡ true
+ends_after [] qs h = h
+ends_after (p ∷ []) [] h = absurd (false≢true h)
+ends_after (p ∷ []) (q ∷ qs) h = h
+ends_after (p ∷ r ∷ ps) qs h = ends_after (r ∷ ps) qs h
 
 statement_ends : (s : Statement) → ends_line (statement_line s) ≡ true
 statement_ends s =
     let newline = piece Closed LineKind (codes "\n") ∷ [] in
-    ends_behind (items_pieces Broken 0 None Closed Start (items_of s.nodes)) (suffix_piece s.suffix ++ newline) (ends_behind (suffix_piece s.suffix) newline refl)
+    ends_after (items_pieces Broken 0 None Closed Start (items_of s.nodes)) (suffix_piece s.suffix ++ newline) (ends_after (suffix_piece s.suffix) newline refl)
 
 comments_end : (note : List ℕ) (notes : List (List ℕ)) → ends_line (comment_lines (note ∷ notes)) ≡ true
 comments_end note [] = refl
@@ -76,5 +76,5 @@ comments_read (n ∷ notes) = from_lines (comment_lines (n ∷ notes)) 0 [] (com
 pub text_is_lines : (s : Statement) → layout_text s ≡ lines_text (lines_of (layout s))
 text_is_lines s = elim (cases_Bool (is_comment s.class)) [
   | inl hit ↦ rw (hit, append-nil (comment_lines s.before)) (comments_read s.before)
-  | inr miss ↦ rw miss (from_lines (comment_lines s.before ++ statement_line s) 0 [] (ends_behind (comment_lines s.before) (statement_line s) (statement_ends s)))
+  | inr miss ↦ rw miss (from_lines (comment_lines s.before ++ statement_line s) 0 [] (ends_after (comment_lines s.before) (statement_line s) (statement_ends s)))
 ]

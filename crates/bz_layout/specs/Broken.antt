@@ -12,7 +12,7 @@ abbrev pub has_some : List (List ℕ) → Bool
 has_some [] = false
 has_some (note ∷ notes) = true
 
--- a segment has a comment above it or behind it
+-- a segment has a comment above it or after it
 abbrev pub have_comments : Segs → Bool
 have_comments no_segs = false
 have_comments (seg before nodes suffix ss) = has_some before || is_some suffix || have_comments ss

@@ -1,4 +1,4 @@
--- The canonical text of a statement (this project's own layout): its tokens and comments in order, each behind its gap.
+-- The canonical text of a statement (this project's own layout): its tokens and comments in order, each after its gap.
 use Rattle.std.specs.Prelude.{codes, ℕ, ◌+◌, List, [], ◌∷◌, ◌++◌, Bool, true, false, ◌||◌, if◌then◌else◌, Option, nat_le}
 use Rattle.std.specs.Prelude.Option.{Some, None}
 use Rattle.bz_token.specs.declared.token.Kind.TheVariants.{Sign, Line as LineKind}
@@ -14,7 +14,7 @@ use Rattle.bz_layout.specs.declared.spacing.Gap.TheVariants.{Closed, Space, Line
 use Rattle.bz_layout.specs.declared.broken.Style.{Style}
 use Rattle.bz_layout.specs.declared.broken.Style.TheVariants.{Flat, Broken}
 use Rattle.bz_layout.specs.Respell.{respell}
-use Rattle.bz_layout.specs.Spacing.{edge_behind, gap_before}
+use Rattle.bz_layout.specs.Spacing.{edge_after, gap_before}
 use Rattle.bz_layout.specs.Broken.{count, is_broken, segs_hold}
 use Rattle.bz_layout.specs.Pieces.{Piece, piece, bytes_of, comma_if, comments, comment_lines, suffix_piece}
 
@@ -40,7 +40,7 @@ closing ListComp = codes "]"
 closing Dict = codes "}"
 closing DictComp = codes "}"
 
--- a broken group has a comma behind each segment, but for these
+-- a broken group has a comma after each segment, but for these
 abbrev pub has_commas : GroupKind → Bool → ℕ → Bool
 has_commas ListComp one_comma n = false
 has_commas DictComp one_comma n = false
@@ -66,9 +66,9 @@ abbrev mutual
   -- the nodes of a segment or statement
   pub items_pieces : Style → ℕ → Option GroupKind → Gap → Edge → Items → List Piece
   items_pieces style level within first left no_items = []
-  items_pieces style level within first left (item x xs) = item_pieces style level (gap_before first left x) x ++ items_pieces style level within first (edge_behind within left x) xs
+  items_pieces style level within first left (item x xs) = item_pieces style level (gap_before first left x) x ++ items_pieces style level within first (edge_after within left x) xs
 
-  -- segments on lines of their own, a comma behind each
+  -- segments on lines of their own, a comma after each
   pub broken_segs : Style → ℕ → GroupKind → Bool → Segs → List Piece
   broken_segs style level kind comma no_segs = []
   broken_segs style level kind comma (seg before nodes suffix ss) =

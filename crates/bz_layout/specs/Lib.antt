@@ -5,4 +5,4 @@ pub mod Pieces
 pub mod Lines
 pub mod Layout
 pub mod Gaps
-pub mod Marks
+pub mod private

@@ -14,7 +14,7 @@ pub record TextLine : Type 0 where
 abbrev pub text_line : ℕ → List ℕ → TextLine
 text_line level text = record { level = level; text = text }
 
--- each line behind its indent, with its newline
+-- each line after its indent, with its newline
 abbrev pub lines_text : List TextLine → List ℕ
 lines_text [] = []
 lines_text (l ∷ ls) = indent l.level ++ (l.text ++ (10 ∷ lines_text ls))
@@ -23,7 +23,7 @@ abbrev pub is_line_kind : Kind → Bool
 is_line_kind LineKind = true
 is_line_kind _ = false
 
--- the newline behind a statement or a comment above it
+-- the newline after a statement or a comment above it
 abbrev pub is_newline : Piece → Bool
 is_newline p = is_line_kind p.kind && bytes_eq p.text (codes "\n")
 
@@ -32,14 +32,14 @@ abbrev pub ended_by : Gap → ℕ → List ℕ → List TextLine
 ended_by (Line n) level text = text_line level text ∷ []
 ended_by _ level text = []
 
--- the level and the text of the line behind a gap
-abbrev pub level_behind : Gap → ℕ → ℕ
-level_behind (Line n) level = n
-level_behind _ level = level
+-- the level and the text of the line after a gap
+abbrev pub level_after : Gap → ℕ → ℕ
+level_after (Line n) level = n
+level_after _ level = level
 
-abbrev pub text_behind : Gap → List ℕ → List ℕ
-text_behind (Line n) text = []
-text_behind gap text = text ++ gap_bytes gap
+abbrev pub text_following : Gap → List ℕ → List ℕ
+text_following (Line n) text = []
+text_following gap text = text ++ gap_bytes gap
 
 -- the lines of pieces, where a line of this level is begun with this text
 abbrev pub lines_from : ℕ → List ℕ → List Piece → List TextLine
@@ -47,8 +47,8 @@ lines_from level text [] = []
 lines_from level text (p ∷ ps) =
     ended_by p.gap level text ++
     (if is_newline p
-    then text_line (level_behind p.gap level) (text_behind p.gap text) ∷ lines_from 0 [] ps
-    else lines_from (level_behind p.gap level) (text_behind p.gap text ++ p.text) ps)
+    then text_line (level_after p.gap level) (text_following p.gap text) ∷ lines_from 0 [] ps
+    else lines_from (level_after p.gap level) (text_following p.gap text ++ p.text) ps)
 
 abbrev pub lines_of : List Piece → List TextLine
 lines_of ps = lines_from 0 [] ps

@@ -1,4 +1,4 @@
--- A written text as pieces: tokens and comments, each behind its gap (this project's own form of a layout).
+-- A written text as pieces: tokens and comments, each after its gap (this project's own form of a layout).
 use Rattle.std.specs.Prelude.{codes, ℕ, zero, suc, List, [], ◌∷◌, ◌++◌, Bool, if◌then◌else◌, Option}
 use Rattle.std.specs.Prelude.Option.{Some, None}
 use Rattle.bz_token.specs.declared.token.Kind.{Kind}
@@ -6,7 +6,7 @@ use Rattle.bz_token.specs.declared.token.Kind.TheVariants.{Sign, Line as LineKin
 use Rattle.bz_layout.specs.declared.spacing.Gap.{Gap}
 use Rattle.bz_layout.specs.declared.spacing.Gap.TheVariants.{Closed, Space, Apart, Line}
 
--- a token or comment behind its gap
+-- a token or comment after its gap
 pub record Piece : Type 0 where
   pub gap : Gap
   pub kind : Kind
@@ -45,7 +45,7 @@ abbrev pub comment_lines : List (List ℕ) → List Piece
 comment_lines [] = []
 comment_lines (note ∷ notes) = piece Closed Note note ∷ piece Closed LineKind (codes "\n") ∷ comment_lines notes
 
--- two spaces and the comment behind a segment or statement
+-- two spaces and the comment after a segment or statement
 abbrev pub suffix_piece : Option (List ℕ) → List Piece
 suffix_piece None = []
 suffix_piece (Some note) = piece Apart Note note ∷ []

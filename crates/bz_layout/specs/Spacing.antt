@@ -11,7 +11,7 @@ use Rattle.bz_layout.specs.declared.spacing.Gap.{Gap}
 use Rattle.bz_layout.specs.declared.spacing.Gap.TheVariants.{Closed, Space}
 use Rattle.bz_tree.specs.Tree.{Item, leaf, group}
 
--- a group that stands directly behind what comes before it
+-- a group that stands directly after what comes before it
 abbrev pub hugs : GroupKind → Bool
 hugs Call = true
 hugs RuleCall = true
@@ -34,7 +34,7 @@ is_call (Some Call) = true
 is_call (Some RuleCall) = true
 is_call _ = false
 
--- at the start, behind a sign other than `.` and behind a keyword a sign begins an operand
+-- at the start, after a sign other than `.` and after a keyword a sign begins an operand
 abbrev pub awaits_operand : Edge → Bool
 awaits_operand Dotted = false
 awaits_operand Operand = false
@@ -59,14 +59,14 @@ sign_edge within left text =
     if bytes_eq text (codes ".") then Dotted else
     (if is_prefix left text || begins_argument within left text || is_index_colon within text then Joined else Operator)
 
--- what a node leaves to the one behind it
-abbrev pub edge_behind : Option GroupKind → Edge → Item → Edge
-edge_behind within left (leaf Sign text place) = sign_edge within left text
-edge_behind within left (leaf Word text place) = Operator
-edge_behind within left (leaf _ text place) = Operand
-edge_behind within left (group kind segs one_comma end) = Operand
+-- what a node leaves to the one after it
+abbrev pub edge_after : Option GroupKind → Edge → Item → Edge
+edge_after within left (leaf Sign text place) = sign_edge within left text
+edge_after within left (leaf Word text place) = Operator
+edge_after within left (leaf _ text place) = Operand
+edge_after within left (group kind segs one_comma end) = Operand
 
--- the next node stands directly behind `.`, a prefix, the star of an argument and the colon of an index
+-- the next node stands directly after `.`, a prefix, the star of an argument and the colon of an index
 abbrev pub holds_on : Edge → Bool
 holds_on Dotted = true
 holds_on Joined = true

@@ -6,7 +6,7 @@ ghost use Rattle.bz_tree.specs.Tree.{items_of, segs_of};
 ghost use Rattle.bz_tree.specs.View.{node_view, group_view, nodes_view, segs_view};
 ghost use Rattle.bz_layout.specs.Broken.{holds_broken, items_hold, segs_hold};
 ghost use Rattle.bz_layout.specs.Layout.{breaks};
-ghost use Rattle.bz_layout.specs.Marks.{mark, item_marks, items_marks, segs_marks, IsFront};
+ghost use Rattle.bz_layout.specs.private.Marks.{mark, item_marks, items_marks, segs_marks, IsFront};
 ghost use Rattle.bz_layout.specs.declared.broken.Style.TheVariants.{Broken};
 
 use crate::broken::{Style, is_broken};
@@ -26,7 +26,7 @@ fn mark_node(node: &Node<'_>, marks: &mut Vec<bool>) -> Result<bool, AllocError>
 }
 
 #[cycle(marks)]
-#[tactic(auto, using(crate::proofs::Fronts::set_behind))]
+#[tactic(auto, using(crate::proofs::Fronts::set_after))]
 fn mark_group(group: &Group<'_>, marks: &mut Vec<bool>) -> Result<bool, AllocError>
     ensures marks { OnOk result (marks.new.items ≡ marks.old.items ++ item_marks Broken (group_view group.now)) }
     ensures holds { IfOk result (λ b. b ≡ holds_broken (group_view group.now)) }
@@ -65,7 +65,7 @@ fn mark_segs(segs: &[Seg<'_>], marks: &mut Vec<bool>) -> Result<bool, AllocError
     Ok(holds)
 }
 
-// Whether the next group is broken, and the marks behind its own.
+// Whether the next group is broken, and the marks after its own.
 pub(crate) fn next_mark<'m>(style: Style, marks: &'m [bool]) -> (bool, &'m [bool])
     ensures { (b : Bool) → IsFront (mark style b) marks.now → (result.0 ≡ breaks style b) × (result.1.now ≡ drop (length (mark style b)) marks.now) }
 {

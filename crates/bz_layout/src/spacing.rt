@@ -2,7 +2,7 @@
 
 ghost use Rattle.std.specs.Prelude.{◌≡◌};
 ghost use Rattle.bz_tree.specs.View.{node_view};
-ghost use Rattle.bz_layout.specs.Spacing.{hugs, closes_up, is_index, is_call, awaits_operand, is_prefix, begins_argument, is_index_colon, sign_edge, edge_behind, gap_before};
+ghost use Rattle.bz_layout.specs.Spacing.{hugs, closes_up, is_index, is_call, awaits_operand, is_prefix, begins_argument, is_index_colon, sign_edge, edge_after, gap_before};
 
 use bz_token::Kind;
 use bz_tree::{GroupKind, Node};
@@ -108,8 +108,8 @@ fn sign_edge(within: Option<GroupKind>, left: Edge, text: &str) -> Edge
 }
 
 #[inline(always)]
-pub(crate) fn edge_behind(within: Option<GroupKind>, left: Edge, node: &Node<'_>) -> Edge
-    ensures { result ≡ edge_behind within left (node_view node.now) }
+pub(crate) fn edge_after(within: Option<GroupKind>, left: Edge, node: &Node<'_>) -> Edge
+    ensures { result ≡ edge_after within left (node_view node.now) }
 {
     match node {
         Node::Token(leaf) => match leaf.kind {

@@ -1,4 +1,4 @@
-//! The walk that writes: each token behind its gap, each group broken or in place by its mark.
+//! The walk that writes: each token after its gap, each group broken or in place by its mark.
 
 ghost use Rattle.std.specs.Prelude.{◌≡◌, ◌≤◌, ◌++◌, true, length, drop, IfOk, OnOk, string_bytes};
 ghost use Rattle.std.specs.Prelude.Option.{Some};
@@ -6,19 +6,19 @@ ghost use Rattle.bz_tree.specs.Tree.{items_of, segs_of};
 ghost use Rattle.bz_tree.specs.View.{node_view, group_view, nodes_view, segs_view};
 ghost use Rattle.bz_layout.specs.Pieces.{bytes_of};
 ghost use Rattle.bz_layout.specs.Layout.{item_pieces, items_pieces, broken_segs, flat_segs};
-ghost use Rattle.bz_layout.specs.Marks.{item_marks, items_marks, segs_marks, IsFront};
+ghost use Rattle.bz_layout.specs.private.Marks.{item_marks, items_marks, segs_marks, IsFront};
 ghost use Rattle.bz_layout.specs.declared.spacing.Edge.TheVariants.{Start};
 
 use crate::broken::Style;
 use crate::marks::next_mark;
 use crate::respell::put_written;
-use crate::spacing::{Edge, Gap, edge_behind, gap_before};
+use crate::spacing::{Edge, Gap, edge_after, gap_before};
 use crate::write::{closing, has_commas, opening, put, put_comments, put_gap, put_suffix};
 use bz_tree::{Group, GroupKind, Node, Seg};
 use std::alloc::AllocError;
 
 #[cycle(put)]
-#[tactic(auto, using(crate::proofs::Pieces::bytes_append, crate::proofs::Fronts::front_left, crate::proofs::Fronts::front_right, crate::proofs::Fronts::front_behind))]
+#[tactic(auto, using(crate::proofs::Pieces::bytes_append, crate::proofs::Fronts::front_left, crate::proofs::Fronts::front_right, crate::proofs::Fronts::front_after))]
 fn put_node<'m>(
     node: &Node<'_>,
     style: Style,
@@ -43,7 +43,7 @@ fn put_node<'m>(
 }
 
 #[cycle(put)]
-#[tactic(auto, using(crate::proofs::Pieces::bytes_append, crate::proofs::Fronts::front_left, crate::proofs::Fronts::front_right, crate::proofs::Fronts::front_behind))]
+#[tactic(auto, using(crate::proofs::Pieces::bytes_append, crate::proofs::Fronts::front_left, crate::proofs::Fronts::front_right, crate::proofs::Fronts::front_after))]
 fn put_group<'m>(
     group: &Group<'_>,
     style: Style,
@@ -76,7 +76,7 @@ fn put_group<'m>(
 }
 
 #[cycle(put)]
-#[tactic(auto, using(crate::proofs::Pieces::bytes_append, crate::proofs::Fronts::front_left, crate::proofs::Fronts::front_right, crate::proofs::Fronts::front_behind))]
+#[tactic(auto, using(crate::proofs::Pieces::bytes_append, crate::proofs::Fronts::front_left, crate::proofs::Fronts::front_right, crate::proofs::Fronts::front_after))]
 pub(crate) fn put_nodes<'m>(
     nodes: &[Node<'_>],
     style: Style,
@@ -96,13 +96,13 @@ pub(crate) fn put_nodes<'m>(
     for node in nodes {
         let gap = gap_before(first, left, node);
         rest = put_node(node, style, level, gap, rest, out)?;
-        left = edge_behind(within, left, node);
+        left = edge_after(within, left, node);
     }
     Ok(rest)
 }
 
 #[cycle(put)]
-#[tactic(auto, using(crate::proofs::Pieces::bytes_append, crate::proofs::Fronts::front_left, crate::proofs::Fronts::front_right, crate::proofs::Fronts::front_behind))]
+#[tactic(auto, using(crate::proofs::Pieces::bytes_append, crate::proofs::Fronts::front_left, crate::proofs::Fronts::front_right, crate::proofs::Fronts::front_after))]
 fn put_broken_segs<'m>(
     segs: &[Seg<'_>],
     style: Style,
@@ -138,7 +138,7 @@ fn put_broken_segs<'m>(
 }
 
 #[cycle(put)]
-#[tactic(auto, using(crate::proofs::Pieces::bytes_append, crate::proofs::Fronts::front_left, crate::proofs::Fronts::front_right, crate::proofs::Fronts::front_behind))]
+#[tactic(auto, using(crate::proofs::Pieces::bytes_append, crate::proofs::Fronts::front_left, crate::proofs::Fronts::front_right, crate::proofs::Fronts::front_after))]
 fn put_flat_segs<'m>(
     segs: &[Seg<'_>],
     style: Style,

@@ -30,7 +30,7 @@ pub(crate) fn closing(kind: GroupKind) -> &'static str
     }
 }
 
-// Whether a broken group of `n` segments has a comma behind each.
+// Whether a broken group of `n` segments has a comma after each.
 pub(crate) fn has_commas(kind: GroupKind, one_comma: bool, n: usize) -> bool
     ensures { result ≡ has_commas kind one_comma n }
 {

@@ -8,15 +8,15 @@ use Rattle.bz_tree.specs.Tree.{Segment}
 use Rattle.bz_attribute.specs.Rules.{value}
 use Rattle.bz_attribute.specs.Lists.{is_attribute}
 use Rattle.bz_attribute.specs.Effects.{filtered, filtered_everywhere, loses_all}
-use Rattle.bz_list_commands.specs.EditSteps.{is_lost, edit_attribute}
+use Rattle.bz_list_commands.specs.private.EditSteps.{is_lost, edit_attribute}
 
 -- one on: y stands where its like stood
 map_step : (e : Segment → Segment) (xs : List Segment) (i : ℕ) (y d : Segment) → i < length xs → y ≡ e (get_or xs i d) → take (i + 1) (set xs i y) ++ map e (drop (i + 1) (set xs i y)) ≡ take i xs ++ map e (drop i xs)
 map_step e xs i y d h made =
     let front = take_more_set xs i y h in
-    let behind : drop (i + 1) (set xs i y) ≡ drop (i + 1) xs = drop-set-lt (i + 1) xs i y (omega arith) in
+    let after : drop (i + 1) (set xs i y) ≡ drop (i + 1) xs = drop-set-lt (i + 1) xs i y (omega arith) in
     let here : drop i xs ≡ get_or xs i d ∷ drop (i + 1) xs = drop_more xs i d h in
-    rw (front, behind, here, append_assoc, made) refl
+    rw (front, after, here, append_assoc, made) refl
 
 pub edit_step : (e : Segment → Segment) (ss : List Seg) (i : ℕ) (s d : Seg) → i < length ss → seg_view s ≡ e (seg_view (get_or ss i d))
     → take (i + 1) (segs_view (set ss i s)) ++ map e (drop (i + 1) (segs_view (set ss i s))) ≡ take i (segs_view ss) ++ map e (drop i (segs_view ss))

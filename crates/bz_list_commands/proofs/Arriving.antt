@@ -13,7 +13,7 @@ use Rattle.bz_command.specs.Commands.{Moved}
 use Rattle.bz_attribute.specs.Rules.{elements, is_named, is_text, name_of, first_named, string_value, value}
 use Rattle.bz_attribute.specs.Lists.{with_value, parts, parts_from, is_part, is_plus, is_joint, edit_list, edit_one_from, edit_first_part, edit_parts}
 use Rattle.bz_attribute.specs.Effects.{has, edit_first, filtered, unchosen, loses_all, argument, list_item}
-use Rattle.bz_attribute.specs.Places.{IsFirst}
+use Rattle.bz_attribute.specs.private.Places.{IsFirst}
 use Rattle.bz_attribute.specs.Moving.{arrivals, chosen_of, elements_of, is_among, joined, moved}
 use Rattle.bz_list_commands.proofs.Leaving.{swapped_front, swapped_rest}
 
@@ -23,22 +23,22 @@ any-joined p (ss ∷ lists) = list_any-append p ss (joined lists) ∙ ap (λ (b 
 
 -- `now` began as `old`. From i on it is as it was; of the first i those that arrive stand in the first k places.
 pub record Arrived (home : Package) (there : List Segment) (old now : List Seg) (k i : ℕ) : Type 0 where
-  pub behind : k ≤ i
+  pub after : k ≤ i
   pub same : segs_view (take k now) ++ arrivals home (there ++ segs_view (take k now)) (segs_view (drop i now)) ≡ arrivals home there (segs_view old)
 
 pub arrived_start : (home : Package) (there : List Segment) (old : List Seg) → Arrived home there old old 0 0
-arrived_start home there old = record { behind = omega arith; same = ap (λ (zs : List Segment). arrivals home zs (segs_view old)) (append-nil there) }
+arrived_start home there old = record { after = omega arith; same = ap (λ (zs : List Segment). arrivals home zs (segs_view old)) (append-nil there) }
 
 pub arrived_more : (home : Package) (there : List Segment) (old now zs : List Seg) (k i : ℕ) (x : Seg) → Arrived home there old now k i → i < length now → x ≡ get_or now i x
     → is_among home (there ++ segs_view (take k now)) (string_value (seg_view x).nodes) ≡ false → SwappedAt now zs k i → Arrived home there old zs (k + 1) (i + 1)
 arrived_more home there old now zs k i x h lt at among s =
-    let front : segs_view (take (k + 1) zs) ≡ segs_view (take k now) ++ seg_view x ∷ [] = ap segs_view (swapped_front now zs k i x h.behind lt at s) ∙ map-append seg_view (take k now) (x ∷ []) in
-    let rest : drop (i + 1) zs ≡ drop (i + 1) now = swapped_rest now zs k i x h.behind s in
+    let front : segs_view (take (k + 1) zs) ≡ segs_view (take k now) ++ seg_view x ∷ [] = ap segs_view (swapped_front now zs k i x h.after lt at s) ∙ map-append seg_view (take k now) (x ∷ []) in
+    let rest : drop (i + 1) zs ≡ drop (i + 1) now = swapped_rest now zs k i x h.after s in
     let here : drop i now ≡ x ∷ drop (i + 1) now = drop_more now i x lt ∙ ap (λ (z : Seg). z ∷ drop (i + 1) now) (sym at) in
     let first : List Segment = segs_view (take k now) in
     let one : arrivals home (there ++ first) (seg_view x ∷ segs_view (drop (i + 1) now)) ≡ seg_view x ∷ arrivals home ((there ++ first) ++ seg_view x ∷ []) (segs_view (drop (i + 1) now)) = rw among refl in
     record {
-      behind = omega (arith, h.behind);
+      after = omega (arith, h.after);
       same =
           (λ j. front j ++ arrivals home (there ++ front j) (segs_view (rest j)))
           ∙ append_assoc first (seg_view x ∷ []) (arrivals home (there ++ (first ++ seg_view x ∷ [])) (segs_view (drop (i + 1) now)))
@@ -54,7 +54,7 @@ arrived_not home there old now k i x h lt at among =
     let first : List Segment = segs_view (take k now) in
     let one : arrivals home (there ++ first) (seg_view x ∷ segs_view (drop (i + 1) now)) ≡ arrivals home (there ++ first) (segs_view (drop (i + 1) now)) = rw among refl in
     record {
-      behind = omega (arith, h.behind);
+      after = omega (arith, h.after);
       same = ap (λ (ys : List Segment). first ++ ys) (sym one ∙ ap (λ (ys : List Seg). arrivals home (there ++ first) (segs_view ys)) (sym here)) ∙ h.same;
     }
 

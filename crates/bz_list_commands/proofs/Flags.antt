@@ -12,9 +12,9 @@ use Rattle.bz_command.specs.Labels.{Package}
 use Rattle.bz_command.specs.Same.{completed}
 use Rattle.bz_attribute.specs.Rules.{string_value}
 use Rattle.bz_attribute.specs.Lists.{equals, same, same_value}
-use Rattle.bz_attribute.specs.ElementSets.{is_in}
+use Rattle.bz_attribute.specs.private.ElementSets.{is_in}
 use Rattle.bz_attribute.specs.Moving.{arrivals, is_among, joined}
-use Rattle.bz_list_commands.specs.MovingSteps.{flags, flagged, has_value}
+use Rattle.bz_list_commands.specs.private.MovingSteps.{flags, flagged, has_value}
 use Rattle.bz_list_commands.proofs.Arriving.{any-joined}
 use Rattle.bz_attribute.proofs.LabelSets.{or_false}
 use Rattle.bz_list_commands.proofs.Leaving.{swapped_front, swapped_rest}
@@ -99,19 +99,19 @@ flags_all home p xs i made all end h = sym (append-nil made) ∙ ap (λ (ys : Li
 
 -- `now` began as `old`. From i on it is as it was; of the first i those whose flag is set stand in the first k places.
 pub record Flagged (arrive : List Bool) (old now : List Seg) (k i : ℕ) : Type 0 where
-  pub behind : k ≤ i
+  pub after : k ≤ i
   pub same : segs_view (take k now) ++ flagged (drop i arrive) (segs_view (drop i now)) ≡ flagged arrive (segs_view old)
 
 flagged_at : (arrive : List Bool) (old now zs : List Seg) (k i : ℕ) (x : Seg) (d : Bool) → Flagged arrive old now k i → i < length now → i < length arrive → x ≡ get_or now i x → get_or arrive i d ≡ true → SwappedAt now zs k i
     → Flagged arrive old zs (k + 1) (i + 1)
 flagged_at arrive old now zs k i x d h lt within at set s =
-    let front : segs_view (take (k + 1) zs) ≡ segs_view (take k now) ++ seg_view x ∷ [] = ap segs_view (swapped_front now zs k i x h.behind lt at s) ∙ map-append seg_view (take k now) (x ∷ []) in
-    let rest : drop (i + 1) zs ≡ drop (i + 1) now = swapped_rest now zs k i x h.behind s in
+    let front : segs_view (take (k + 1) zs) ≡ segs_view (take k now) ++ seg_view x ∷ [] = ap segs_view (swapped_front now zs k i x h.after lt at s) ∙ map-append seg_view (take k now) (x ∷ []) in
+    let rest : drop (i + 1) zs ≡ drop (i + 1) now = swapped_rest now zs k i x h.after s in
     let here : x ∷ drop (i + 1) now ≡ drop i now = sym (drop_more now i x lt ∙ ap (λ (z : Seg). z ∷ drop (i + 1) now) (sym at)) in
     let flag : true ∷ drop (i + 1) arrive ≡ drop i arrive = sym (drop_more arrive i d within ∙ ap (λ (z : Bool). z ∷ drop (i + 1) arrive) set) in
     let first : List Segment = segs_view (take k now) in
     record {
-      behind = omega (arith, h.behind);
+      after = omega (arith, h.after);
       same =
           (λ j. front j ++ flagged (drop (i + 1) arrive) (segs_view (rest j)))
           ∙ append_assoc first (seg_view x ∷ []) (flagged (drop (i + 1) arrive) (segs_view (drop (i + 1) now)))
@@ -128,7 +128,7 @@ not_at arrive old now k i x d h lt within set =
     let here : get_or now i x ∷ drop (i + 1) now ≡ drop i now = sym (drop_more now i x lt) in
     let flag : false ∷ drop (i + 1) arrive ≡ drop i arrive = sym (drop_more arrive i d within ∙ ap (λ (z : Bool). z ∷ drop (i + 1) arrive) set) in
     record {
-      behind = omega (arith, h.behind);
+      after = omega (arith, h.after);
       same = (λ j. segs_view (take k now) ++ flagged (flag j) (segs_view (here j))) ∙ h.same;
     }
 

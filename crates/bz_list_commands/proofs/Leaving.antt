@@ -27,12 +27,12 @@ fails_at p ss i d h is = ap (λ (zs : List Seg). filter p (segs_view zs)) (drop_
 -- `now` began as `old` and `taken` as `before`. From i on `now` is as it was; of the first i those that pass were taken,
 -- and the others stand in the first k places.
 pub record Parted (p : Segment → Bool) (old before now taken : List Seg) (k i : ℕ) : Type 0 where
-  pub behind : k ≤ i
+  pub after : k ≤ i
   pub out : segs_view taken ++ filter p (segs_view (drop i now)) ≡ segs_view before ++ filter p (segs_view old)
   pub left : segs_view (take k now) ++ filter (λ s. not (p s)) (segs_view (drop i now)) ≡ filter (λ s. not (p s)) (segs_view old)
 
 pub parted_start : (p : Segment → Bool) (old before : List Seg) → Parted p old before old before 0 0
-parted_start p old before = record { behind = omega arith; out = refl; left = refl }
+parted_start p old before = record { after = omega arith; out = refl; left = refl }
 
 pub parted_take : (p : Segment → Bool) (old before now taken : List Seg) (k i : ℕ) (x b : Seg) → Parted p old before now taken k i → i < length now → x ≡ get_or now i x → p (seg_view x) ≡ true
     → Parted p old before (set now i b) (taken ++ x ∷ []) k (i + 1)
@@ -40,9 +40,9 @@ parted_take p old before now taken k i x b h lt at is =
     let here : p (seg_view (get_or now i x)) ≡ true = ap (λ (z : Seg). p (seg_view z)) (sym at) ∙ is in
     let other : not (p (seg_view (get_or now i x))) ≡ false = rw here refl in
     let rest : drop (i + 1) (set now i b) ≡ drop (i + 1) now = drop-set-lt (i + 1) now i b (omega arith) in
-    let front : take k (set now i b) ≡ take k now = take-set-le k now i b h.behind in
+    let front : take k (set now i b) ≡ take k now = take-set-le k now i b h.after in
     record {
-      behind = omega (arith, h.behind);
+      after = omega (arith, h.after);
       out =
           ap (λ (zs : List Seg). segs_view (taken ++ x ∷ []) ++ filter p (segs_view zs)) rest
           ∙ ap (λ (zs : List Segment). zs ++ filter p (segs_view (drop (i + 1) now))) (map-append seg_view taken (x ∷ []))
@@ -58,13 +58,13 @@ parted_take p old before now taken k i x b h lt at is =
 
 -- the element at i comes to the place k
 pub swapped_front : (now zs : List Seg) (k i : ℕ) (x : Seg) → k ≤ i → i < length now → x ≡ get_or now i x → SwappedAt now zs k i → take (k + 1) zs ≡ take k now ++ x ∷ []
-swapped_front now zs k i x behind lt at s =
+swapped_front now zs k i x following lt at s =
     let long : length zs ≡ length now = ap length (s.3 x) ∙ length-set (set now k (get_or now i x)) i (get_or now k x) ∙ length-set now k (get_or now i x) in
-    let front : take k zs ≡ take k now = ap (take k) (s.3 x) ∙ take-set-le k (set now k (get_or now i x)) i (get_or now k x) behind ∙ take-set-le k now k (get_or now i x) (omega arith) in
+    let front : take k zs ≡ take k now = ap (take k) (s.3 x) ∙ take-set-le k (set now k (get_or now i x)) i (get_or now k x) following ∙ take-set-le k now k (get_or now i x) (omega arith) in
     take_more zs k x (omega arith) ∙ (λ j. front j ++ (s.0 x ∙ sym at) j ∷ [])
 
 pub swapped_rest : (now zs : List Seg) (k i : ℕ) (x : Seg) → k ≤ i → SwappedAt now zs k i → drop (i + 1) zs ≡ drop (i + 1) now
-swapped_rest now zs k i x behind s =
+swapped_rest now zs k i x following s =
     ap (drop (i + 1)) (s.3 x) ∙ drop-set-lt (i + 1) (set now k (get_or now i x)) i (get_or now k x) (omega arith) ∙ drop-set-lt (i + 1) now k (get_or now i x) (omega arith)
 
 pub parted_keep : (p : Segment → Bool) (old before now taken zs : List Seg) (k i : ℕ) (x : Seg) → Parted p old before now taken k i → i < length now → x ≡ get_or now i x → p (seg_view x) ≡ false
@@ -72,11 +72,11 @@ pub parted_keep : (p : Segment → Bool) (old before now taken zs : List Seg) (k
 parted_keep p old before now taken zs k i x h lt at is s =
     let here : p (seg_view (get_or now i x)) ≡ false = ap (λ (z : Seg). p (seg_view z)) (sym at) ∙ is in
     let other : not (p (seg_view (get_or now i x))) ≡ true = rw here refl in
-    let rest : drop (i + 1) zs ≡ drop (i + 1) now = swapped_rest now zs k i x h.behind s in
-    let front : segs_view (take (k + 1) zs) ≡ segs_view (take k now) ++ seg_view x ∷ [] = ap segs_view (swapped_front now zs k i x h.behind lt at s) ∙ map-append seg_view (take k now) (x ∷ []) in
+    let rest : drop (i + 1) zs ≡ drop (i + 1) now = swapped_rest now zs k i x h.after s in
+    let front : segs_view (take (k + 1) zs) ≡ segs_view (take k now) ++ seg_view x ∷ [] = ap segs_view (swapped_front now zs k i x h.after lt at s) ∙ map-append seg_view (take k now) (x ∷ []) in
     let u : Segment → Bool = λ s. not (p s) in
     record {
-      behind = omega (arith, h.behind);
+      after = omega (arith, h.after);
       out = ap (λ (ys : List Seg). segs_view taken ++ filter p (segs_view ys)) rest ∙ ap (λ (ys : List Segment). segs_view taken ++ ys) (sym (fails_at p now i x lt here)) ∙ h.out;
       left =
           (λ j. front j ++ filter u (segs_view (rest j)))
@@ -111,9 +111,9 @@ taken_step p start next ns ms i n m d e taken more h now after told took =
     let e_is : get_or ns i e ≡ get_or ns i n = get_or_default ns i e n h in
     let d_is : get_or ns i d ≡ get_or ns i n = get_or_default ns i d n h in
     let part : is_part start (node_view (get_or ns i n)) (nodes_view (drop (i + 1) ns)) ≡ true = ap (λ (z : Node). is_part start (node_view z) (nodes_view (drop (i + 1) ns))) (sym e_is) ∙ told in
-    let behind : drop (i + 1) ms ≡ drop (i + 1) ns = ap (drop (i + 1)) now ∙ drop-set-lt (i + 1) ns i m (omega arith) in
+    let following : drop (i + 1) ms ≡ drop (i + 1) ns = ap (drop (i + 1)) now ∙ drop-set-lt (i + 1) ns i m (omega arith) in
     let rest : List Segment = joined (parts_from (is_plus (node_view (get_or ns i n))) (nodes_view (drop (i + 1) ns))) in
-    (λ j. took j ++ filter p (joined (parts_from (after j) (nodes_view (behind j)))))
+    (λ j. took j ++ filter p (joined (parts_from (after j) (nodes_view (following j)))))
     ∙ append_assoc (segs_view taken) (filter p (elements (node_view (get_or ns i d)))) (filter p rest)
     ∙ ap (λ (z : Node). segs_view taken ++ (filter p (elements (node_view z)) ++ filter p rest)) d_is
     ∙ ap (λ (zs : List Segment). segs_view taken ++ zs) (sym (filter-append p (elements (node_view (get_or ns i n))) rest))

@@ -9,7 +9,7 @@ use Rattle.bz_tree.specs.Tree.{Item, Segment}
 use Rattle.bz_tree.specs.View.{node_view, nodes_view, seg_view, segs_view}
 use Rattle.bz_attribute.specs.Rules.{elements, value}
 use Rattle.bz_attribute.specs.Lists.{is_attribute, is_joint, is_part, is_plus, parts, parts_from}
-use Rattle.bz_list_commands.specs.ReplaceSteps.{count, count_at, count_everywhere, count_from, count_in}
+use Rattle.bz_list_commands.specs.private.ReplaceSteps.{count, count_at, count_everywhere, count_from, count_in}
 
 -- what is left to count, one on
 pub count_here : (p : Segment → Bool) (ss : List Seg) (i : ℕ) (d : Seg) → i < length ss → count p (segs_view (drop i ss)) ≡ (if p (seg_view (get_or ss i d)) then 1 else 0) + count p (segs_view (drop (i + 1) ss))
@@ -40,8 +40,8 @@ pub part_taken : (p : Segment → Bool) (start next : Bool) (ns ms : List Node) 
     → (count_from p next (nodes_view (drop (i + 1) ms)) ≤ left) × (left + all ≡ first + count_from p next (nodes_view (drop (i + 1) ms)))
 part_taken p start next ns ms i n m d e held left all first h now after told took enough sum =
     let here = node_taken p start next ns i n d e (count p (elements (node_view (get_or ns i d)))) h after (rw told refl) in
-    let behind : drop (i + 1) ms ≡ drop (i + 1) ns = ap (drop (i + 1)) now ∙ drop-set-lt (i + 1) ns i m (omega arith) in
-    taken _ _ _ _ held left all first here (ap (λ (z : List Node). count_from p next (nodes_view z)) behind) took enough sum
+    let following : drop (i + 1) ms ≡ drop (i + 1) ns = ap (drop (i + 1)) now ∙ drop-set-lt (i + 1) ns i m (omega arith) in
+    taken _ _ _ _ held left all first here (ap (λ (z : List Node). count_from p next (nodes_view z)) following) took enough sum
 
 -- the node at i is no list part
 pub part_passed : (p : Segment → Bool) (start next : Bool) (ns ms : List Node) (i : ℕ) (n e : Node) (held all first : ℕ) → i < length ns → ms ≡ ns → next ≡ is_plus (node_view (get_or ns i n)) → is_part start (node_view (get_or ns i e)) (nodes_view (drop (i + 1) ns)) ≡ false

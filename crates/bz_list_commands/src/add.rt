@@ -6,8 +6,8 @@ ghost use Rattle.bz_tree.specs.View.{node_view, nodes_view, seg_view, segs_view}
 ghost use Rattle.bz_attribute.specs.Rules.{first_named, is_named, value};
 ghost use Rattle.bz_attribute.specs.Lists.{edit_first_part, edit_list, parts, same};
 ghost use Rattle.bz_command.specs.LabelSetViews.{Gains, has};
-ghost use Rattle.bz_attribute.specs.Places.{IsFirstPart};
-ghost use Rattle.bz_list_commands.specs.AddingSteps.{value_with_added, done_in_value};
+ghost use Rattle.bz_attribute.specs.private.Places.{IsFirstPart};
+ghost use Rattle.bz_list_commands.specs.private.AddingSteps.{value_with_added, done_in_value};
 ghost use Rattle.bz_attribute.specs.Effects as spec;
 
 use bz_attribute::chosen::{Chosen, is_any_chosen};

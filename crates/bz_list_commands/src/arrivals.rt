@@ -7,10 +7,10 @@ ghost use Rattle.bz_tree.specs.View.{node_view, nodes_view, seg_view, segs_view}
 ghost use Rattle.bz_attribute.specs.Rules.{elements};
 ghost use Rattle.bz_attribute.specs.Rules as rules;
 ghost use Rattle.bz_attribute.specs.Lists.{equals, parts};
-ghost use Rattle.bz_command.specs.ByteSteps.{left, is_good};
+ghost use Rattle.bz_command.specs.private.ByteSteps.{left, is_good};
 ghost use Rattle.bz_command.specs.LabelSetViews.{Gains, has};
 ghost use Rattle.bz_attribute.specs.Moving as spec;
-ghost use Rattle.bz_list_commands.specs.MovingSteps.{flags, has_value, flagged};
+ghost use Rattle.bz_list_commands.specs.private.MovingSteps.{flags, has_value, flagged};
 
 use bz_attribute::equals::string_of;
 use bz_attribute::list_labels::labels_in;

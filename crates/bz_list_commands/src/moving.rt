@@ -7,8 +7,8 @@ ghost use Rattle.bz_attribute.specs.Rules.{elements, first_named, is_named, valu
 ghost use Rattle.bz_attribute.specs.Lists.{edit_first_part, edit_list, parts, with_value};
 ghost use Rattle.bz_command.specs.Commands.{Values};
 ghost use Rattle.bz_command.specs.CommandViews.{moved_view};
-ghost use Rattle.bz_attribute.specs.ChosenViews.{chosen_view};
-ghost use Rattle.bz_attribute.specs.Places.{first_length, first_list};
+ghost use Rattle.bz_attribute.specs.private.ChosenViews.{chosen_view};
+ghost use Rattle.bz_attribute.specs.private.Places.{first_length, first_list};
 ghost use Rattle.bz_attribute.specs.Effects as effects;
 ghost use Rattle.bz_attribute.specs.Moving as spec;
 
@@ -281,12 +281,12 @@ fn put_in_list<'a>(node: &mut Node<'a>, later: Vec<Seg<'a>>)
     ensures { node_view node.new ≡ edit_list (λ there. there ++ segs_view later.entry.items) (node_view node.old) }
 {
     if let Node::Group(group) = node {
-        put_behind(&mut group.segs, later);
+        put_after(&mut group.segs, later);
     }
 }
 
 // The later elements have room for all: so nothing can fail.
-fn put_behind<'a>(elements: &mut Vec<Seg<'a>>, mut later: Vec<Seg<'a>>)
+fn put_after<'a>(elements: &mut Vec<Seg<'a>>, mut later: Vec<Seg<'a>>)
     requires { vec_len elements.old + vec_len later ≤ vec_capacity later }
     ensures { elements.new.items ≡ elements.old.items ++ later.entry.items }
 {

@@ -5,11 +5,11 @@ ghost use Rattle.std.specs.List.{list_any};
 ghost use Rattle.bz_tree.specs.View.{seg_view, segs_view};
 ghost use Rattle.bz_attribute.specs.Effects as spec;
 ghost use Rattle.bz_command.specs.CommandViews.{attributes_view};
-ghost use Rattle.bz_attribute.specs.ChosenViews.{chosen_view};
+ghost use Rattle.bz_attribute.specs.private.ChosenViews.{chosen_view};
 ghost use Rattle.bz_command.specs.Commands.{Values};
 ghost use Rattle.bz_attribute.specs.Rules.{first_named, is_named};
 ghost use Rattle.bz_attribute.specs.Effects.{edit_first};
-ghost use Rattle.bz_list_commands.specs.EditSteps.{is_lost, edit_attribute};
+ghost use Rattle.bz_list_commands.specs.private.EditSteps.{is_lost, edit_attribute};
 
 use bz_attribute::chosen::{Chosen, chooses, drop_in, loses_all};
 use bz_attribute::done::Done;

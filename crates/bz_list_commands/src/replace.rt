@@ -8,9 +8,9 @@ ghost use Rattle.bz_command.specs.Commands.{Every, Named};
 ghost use Rattle.bz_attribute.specs.Rules.{elements, is_text, string_value};
 ghost use Rattle.bz_attribute.specs.Lists.{edit_list, edit_parts, is_part};
 ghost use Rattle.bz_attribute.specs.Effects.{done};
-ghost use Rattle.bz_list_commands.specs.EditSteps.{edit_attribute};
+ghost use Rattle.bz_list_commands.specs.private.EditSteps.{edit_attribute};
 ghost use Rattle.bz_attribute.specs.Replacing as spec;
-ghost use Rattle.bz_list_commands.specs.ReplaceSteps.{AreStrings, count, count_at, count_everywhere, count_from, count_in, goes, put};
+ghost use Rattle.bz_list_commands.specs.private.ReplaceSteps.{AreStrings, count, count_at, count_everywhere, count_from, count_in, goes, put};
 
 use bz_attribute::done::Done;
 use bz_attribute::equals::equals;

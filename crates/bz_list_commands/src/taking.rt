@@ -5,7 +5,7 @@ ghost use Rattle.std.specs.Vec.{vec_len, vec_capacity};
 ghost use Rattle.bz_tree.specs.View.{node_view, nodes_view, seg_view, segs_view};
 ghost use Rattle.bz_attribute.specs.Rules.{elements, first_named, is_named, value};
 ghost use Rattle.bz_attribute.specs.Lists.{edit_list, edit_parts, parts, with_value};
-ghost use Rattle.bz_attribute.specs.ChosenViews.{chosen_view};
+ghost use Rattle.bz_attribute.specs.private.ChosenViews.{chosen_view};
 ghost use Rattle.bz_attribute.specs.Effects as spec;
 ghost use Rattle.bz_attribute.specs.Moving.{chosen_of, joined};
 

@@ -123,11 +123,11 @@ found_in_new home attr values =
 new_named : (home : Package) (attr : List ℕ) (values : List (List ℕ)) → is_named attr (new_argument home attr values) ≡ true
 new_named home attr values = bytes_same attr
 
-first_behind : (attr : List ℕ) (args : List Segment) (x : Segment) → first_named attr args ≡ None → is_named attr x ≡ true → first_named attr (args ++ x ∷ []) ≡ Some x
-first_behind attr [] x h named = rw named refl
-first_behind attr (a ∷ args) x h named =
+first_at_end : (attr : List ℕ) (args : List Segment) (x : Segment) → first_named attr args ≡ None → is_named attr x ≡ true → first_named attr (args ++ x ∷ []) ≡ Some x
+first_at_end attr [] x h named = rw named refl
+first_at_end attr (a ∷ args) x h named =
     elim (is_named attr a) as (λ b. (if b then Some a else first_named attr args) ≡ None → (if b then Some a else first_named attr (args ++ x ∷ [])) ≡ Some x)
-    [ true ↦ λ k. absurd cc | false ↦ λ k. first_behind attr args x k named ] h
+    [ true ↦ λ k. absurd cc | false ↦ λ k. first_at_end attr args x k named ] h
 
 pub added_named : (home : Package) (attr : List ℕ) (values : List (List ℕ)) (a : Segment) → is_named attr a ≡ true → is_named attr (with_added home values a) ≡ true
 added_named home attr values a h =
@@ -146,7 +146,7 @@ first_after_add home attr values args =
     elim (first_named attr args) as (λ o. first_named attr args ≡ o → first_named attr (add home attr values args) ≡ Some (first_added home attr values o)) [
       | None ↦ λ e.
           let absent : has attr args ≡ false = has_first attr args ∙ ap is_some e in
-          rw absent (first_behind attr args (new_argument home attr values) e (new_named home attr values))
+          rw absent (first_at_end attr args (new_argument home attr values) e (new_named home attr values))
       | Some a ↦ λ e.
           let there : has attr args ≡ true = has_first attr args ∙ ap is_some e in
           rw there (first_after attr (with_added home values) args (added_named home attr values) ∙ ap (option_map (with_added home values)) e)

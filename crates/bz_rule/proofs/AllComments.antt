@@ -113,12 +113,12 @@ no_comment : (words : List (List ℕ)) → in_all (map string words) ≡ []
 no_comment [] = refl
 no_comment (w ∷ words) = no_comment words
 
-behind_none : (ss : List Segment) (words : List (List ℕ)) → in_all (ss ++ map string words) ≡ in_all ss
-behind_none ss words = all_joined ss (map string words) ∙ ap (λ (cs : List (List ℕ)). in_all ss ++ cs) (no_comment words) ∙ append-nil (in_all ss)
+after_none : (ss : List Segment) (words : List (List ℕ)) → in_all (ss ++ map string words) ≡ in_all ss
+after_none ss words = all_joined ss (map string words) ∙ ap (λ (cs : List (List ℕ)). in_all ss ++ cs) (no_comment words) ∙ append-nil (in_all ss)
 
 -- a new argument without comments, at the end
-behind_new : (args : List Segment) (attr : List ℕ) (nodes : List Item) → in_nodes nodes ≡ [] → in_all (args ++ argument attr nodes ∷ []) ≡ in_all args
-behind_new args attr nodes h =
+after_new : (args : List Segment) (attr : List ℕ) (nodes : List Item) → in_nodes nodes ≡ [] → in_all (args ++ argument attr nodes ∷ []) ≡ in_all args
+after_new args attr nodes h =
     let none : in_all (argument attr nodes ∷ []) ≡ [] = rw h refl in
     all_joined args (argument attr nodes ∷ []) ∙ ap (λ (cs : List (List ℕ)). in_all args ++ cs) none ∙ append-nil (in_all args)
 
@@ -136,20 +136,20 @@ added_keeps home values a =
     elim (no_parts (parts (value a))) as (λ b. in_one (if b then a else with_value (edit_first_part (λ ss. ss ++ new_elements home (parts (value a)) values) (value a)) a) ≡ in_one a) [
       | true ↦ refl
       | false ↦ value_keeps (edit_first_part (λ ss. ss ++ new_elements home (parts (value a)) values) (value a)) a
-          (first_part_keeps (λ ss. ss ++ new_elements home (parts (value a)) values) (λ ss. behind_none ss (fresh home (parts (value a)) [] values)) (value a))
+          (first_part_keeps (λ ss. ss ++ new_elements home (parts (value a)) values) (λ ss. after_none ss (fresh home (parts (value a)) [] values)) (value a))
     ]
 
 pub add_comments : (home : Package) (attr : List ℕ) (values : List (List ℕ)) (args : List Segment) → in_all (add home attr values args) ≡ in_all args
 add_comments home attr values args =
     elim (has attr args) as (λ b. in_all (if b then edit_first (is_named attr) (λ a. with_added home values a ∷ []) args else args ++ argument attr (list_item (new_elements home [] values) ∷ []) ∷ []) ≡ in_all args) [
       | true ↦ first_keeps attr (with_added home values) (λ a h. added_keeps home values a) args
-      | false ↦ behind_new args attr (list_item (new_elements home [] values) ∷ []) (list_none (fresh home [] [] values))
+      | false ↦ after_new args attr (list_item (new_elements home [] values) ∷ []) (list_none (fresh home [] [] values))
     ]
 
 pub set_if_absent_comments : (attr : List ℕ) (words : List (List ℕ)) (args : List Segment) → in_all (set_if_absent attr words args) ≡ in_all args
 set_if_absent_comments attr words args =
     elim (has attr args) as (λ b. in_all (if b then args else args ++ argument attr (new_value (new_of attr words None)) ∷ []) ≡ in_all args)
-    [ true ↦ refl | false ↦ behind_new args attr (new_value (new_of attr words None)) (new_none (new_of attr words None)) ]
+    [ true ↦ refl | false ↦ after_new args attr (new_value (new_of attr words None)) (new_none (new_of attr words None)) ]
 
 -- a name is a token
 name_keeps : (old new : List ℕ) (xs : List Item) → is_text old (name_of xs) ≡ true → in_nodes (renamed new xs) ≡ in_nodes xs

@@ -40,8 +40,8 @@ argument_bare : (attr : List ℕ) (nodes : List Item) → bare_segment (argument
 argument_bare attr nodes = refl
 
 -- at the end
-pub behind_bare : (args : List Segment) (attr : List ℕ) (nodes others : List Item) → map bare nodes ≡ others → map bare_segment (args ++ argument attr nodes ∷ []) ≡ map bare_segment args ++ argument attr others ∷ []
-behind_bare args attr nodes others same = map-append bare_segment args (argument attr nodes ∷ []) ∙ ap (λ (xs : List Item). map bare_segment args ++ argument attr xs ∷ []) same
+pub after_bare : (args : List Segment) (attr : List ℕ) (nodes others : List Item) → map bare nodes ≡ others → map bare_segment (args ++ argument attr nodes ∷ []) ≡ map bare_segment args ++ argument attr others ∷ []
+after_bare args attr nodes others same = map-append bare_segment args (argument attr nodes ∷ []) ∙ ap (λ (xs : List Item). map bare_segment args ++ argument attr xs ∷ []) same
 
 -- `remove`
 pub unchosen_bare : (home : Package) (chosen : Moved) (ss : List Segment) → map bare_segment (unchosen home chosen ss) ≡ unchosen home chosen (map bare_segment ss)
@@ -115,7 +115,7 @@ add_bare home attr values args =
     let same : map bare new ≡ new = ap (λ (x : Item). x ∷ []) (list_item_bare (new_elements home [] values) ∙ ap list_item (strings_bare (fresh home [] [] values))) in
     rw (has_bare attr args) (elim (has attr args) as (λ b. map bare_segment (if b then edit_first (is_named attr) (λ a. with_added home values a ∷ []) args else args ++ argument attr new ∷ []) ≡ (if b then edit_first (is_named attr) (λ a. with_added home values a ∷ []) (map bare_segment args) else map bare_segment args ++ argument attr new ∷ [])) [
       | true ↦ edit_first_bare attr (λ a. with_added home values a ∷ []) (λ a. with_added home values a ∷ []) (λ a. ap (λ (z : Segment). z ∷ []) (with_added_bare home values a)) args
-      | false ↦ behind_bare args attr new new same
+      | false ↦ after_bare args attr new new same
     ])
 
 pub adds_bare : (home : Package) (values : List (List ℕ)) (o : Option Segment) → adds home values (option_map bare_segment o) ≡ adds home values o

@@ -16,7 +16,7 @@ use Rattle.bz_attribute.specs.Commenting.{comment_attribute, comment_element, co
 use Rattle.bz_attribute.specs.declared.done.Note.TheVariants.{NoValue}
 use Rattle.bz_rule.specs.Bare.{bare_segment}
 use Rattle.bz_rule.proofs.BareParts.{any_bare, any_bare_in, attribute_bare, chosen_bare, edit_first_bare, edit_list_bare, edit_parts_bare, elements_bare, equals_bare, filter_bare, first_bare, first_part_bare, has_bare, is_list_bare, joints_bare, map_bare, part_bare, sign_bare, string_bare, value_bare, value_edit_bare, value_parts_bare, with_value_bare}
-use Rattle.bz_rule.proofs.BareEffects.{appended_bare, behind_bare, chooses_in_bare, filtered_bare, list_item_bare, not_a_list_bare, strings_bare, unchosen_bare}
+use Rattle.bz_rule.proofs.BareEffects.{appended_bare, after_bare, chooses_in_bare, filtered_bare, list_item_bare, not_a_list_bare, strings_bare, unchosen_bare}
 
 -- `set`
 is_string_bare : (word : List ℕ) (s : Segment) → is_string word (bare_segment s) ≡ is_string word s
@@ -81,7 +81,7 @@ set_new_bare : (attr : List ℕ) (new : New) (args : List Segment)
 set_new_bare attr new args =
     rw (has_bare attr args) (elim (has attr args) as (λ b. map bare_segment (if b then edit_first (is_named attr) (λ a. set_in new a ∷ []) args else args ++ argument attr (new_value new) ∷ []) ≡ (if b then edit_first (is_named attr) (λ a. set_in new a ∷ []) (map bare_segment args) else map bare_segment args ++ argument attr (new_value new) ∷ [])) [
       | true ↦ edit_first_bare attr (λ a. set_in new a ∷ []) (λ a. set_in new a ∷ []) (λ a. ap (λ (z : Segment). z ∷ []) (set_in_bare new a)) args
-      | false ↦ behind_bare args attr (new_value new) (new_value new) (new_value_bare new)
+      | false ↦ after_bare args attr (new_value new) (new_value new) (new_value_bare new)
     ])
 
 pub set_bare : (attr : List ℕ) (words : List (List ℕ)) (args : List Segment) → map bare_segment (set attr words args) ≡ set attr words (map bare_segment args)
@@ -100,7 +100,7 @@ pub set_if_absent_bare : (attr : List ℕ) (words : List (List ℕ)) (args : Lis
 set_if_absent_bare attr words args =
     let new : New = new_of attr words None in
     rw (has_bare attr args) (elim (has attr args) as (λ b. map bare_segment (if b then args else args ++ argument attr (new_value new) ∷ []) ≡ (if b then map bare_segment args else map bare_segment args ++ argument attr (new_value new) ∷ []))
-    [ true ↦ refl | false ↦ behind_bare args attr (new_value new) (new_value new) (new_value_bare new) ])
+    [ true ↦ refl | false ↦ after_bare args attr (new_value new) (new_value new) (new_value_bare new) ])
 
 -- `move`
 joined_bare : (lists : List (List Segment)) → joined (map (map bare_segment) lists) ≡ map bare_segment (joined lists)
@@ -134,7 +134,7 @@ put_in_bare new ss args =
       | true ↦ edit_first_bare new (λ a. with_value (edit_first_part (λ there. there ++ ss) (value a)) a ∷ []) (λ a. with_value (edit_first_part (λ there. there ++ map bare_segment ss) (value a)) a ∷ []) (λ a.
           ap (λ (z : Segment). z ∷ []) (value_edit_bare (edit_first_part (λ there. there ++ ss)) (edit_first_part (λ there. there ++ map bare_segment ss))
           (first_part_bare (λ there. there ++ ss) (λ there. there ++ map bare_segment ss) (appended_bare ss (map bare_segment ss) refl)) a)) args
-      | false ↦ behind_bare args new (list_item ss ∷ []) (list_item (map bare_segment ss) ∷ []) (ap (λ (x : Item). x ∷ []) (list_item_bare ss))
+      | false ↦ after_bare args new (list_item ss ∷ []) (list_item (map bare_segment ss) ∷ []) (ap (λ (x : Item). x ∷ []) (list_item_bare ss))
     ])
 
 pub move_note_bare : (old new : List ℕ) (args : List Segment) → move_note old new (map bare_segment args) ≡ move_note old new args

@@ -1,4 +1,4 @@
--- The comments that belong to an argument or an element itself: those before it, and the one behind it.
+-- The comments that belong to an argument or an element itself: those before it, and the one after it.
 use Rattle.std.specs.Prelude.{ℕ, List, [], Option, None}
 use Rattle.bz_tree.specs.Tree.{Segment}
 

@@ -516,7 +516,7 @@ f(
         # inside
         "a",
         # end
-    ],  # behind
+    ],  # after
 )
 ->
 changed
@@ -525,7 +525,7 @@ f(
     l = [
         "x",
         "y",
-    ],  # behind
+    ],  # after
 )
 ---
 set l a
@@ -535,7 +535,7 @@ f(
         # inside
         "a",
         # end
-    ],  # behind
+    ],  # after
 )
 ->
 unchanged
@@ -545,7 +545,7 @@ f(
         # inside
         "a",
         # end
-    ],  # behind
+    ],  # after
 )
 ---
 set kind a.b
@@ -625,12 +625,12 @@ f(name = "a")
 ---
 comment last
 # first
-f(name = "a")  # behind
+f(name = "a")  # after
 ->
 changed
 # first
 # last
-f(name = "a")  # behind
+f(name = "a")  # after
 ---
 comment name note
 f(name = "a")
@@ -1337,7 +1337,7 @@ fn put_done(done: &Done, out: &mut String) -> Result<(), AllocError> {
     Ok(())
 }
 
-/// What a command tells, and the text of the statement behind it, if it is no `print`.
+/// What a command tells, and the text of the statement after it, if it is no `print`.
 fn edited(alloc: Global, words: &str, text: &str) -> Result<String, Fail> {
     let command = read_command(alloc, words)?.ok_or("no command")?;
     let (home, _) = read_label(alloc, "//p:a")?;

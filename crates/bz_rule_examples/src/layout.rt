@@ -334,7 +334,7 @@ x[
 }
 "##;
 
-/// The canonical text of the copy of a chunk's statement, behind a comment.
+/// The canonical text of the copy of a chunk's statement, after a comment.
 fn written(alloc: Global, text: &str) -> Result<Vec<u8>, ParseFault> {
     let mut out = b"# above\n".to_vec(alloc)?;
     if let Some(stmt) = read(alloc, text)? {

@@ -152,7 +152,7 @@ fn tokens_of_texts(rt: HostRuntime) -> Result<(), Fail> {
 }
 
 /// What ends a block that begins with this line.
-fn behind(header: &[u8], ahead: &str, at_end: bool) -> Option<Next>
+fn after(header: &[u8], ahead: &str, at_end: bool) -> Option<Next>
     requires { IsTrue (is_physical_line header.now) }
 {
     let mut cutter = Cutter::new();
@@ -183,19 +183,19 @@ fn blocks_go_on(rt: HostRuntime) -> Result<(), Fail> {
         let (ahead, rest) = row.split_once(' ').ok_or("a row without an answer")?;
         let (end, wanted) = rest.split_once(' ').ok_or("a row without an answer")?;
         let ahead = plain(alloc, ahead)?;
-        let next = behind(b"if a:\n", ahead.as_str(), end == "end").ok_or("no block")?;
+        let next = after(b"if a:\n", ahead.as_str(), end == "end").ok_or("no block")?;
         let next = format!(in alloc; "{next:?}")?;
         assert_eq!(rt; next.as_str(), wanted, "{row}");
     }
     let def = b"def f():\n";
-    assert_eq!(rt; behind(def, "else:", false), Some(Next::Ends));
-    assert_eq!(rt; behind(def, " x", false), Some(Next::Goes));
-    assert_eq!(rt; behind(def, "\n", false), Some(Next::Goes));
-    assert_eq!(rt; behind(def, "", true), Some(Next::Ends));
-    assert_eq!(rt; behind(def, "", false), Some(Next::Short));
-    assert_eq!(rt; behind(b"for x in y:\n", "x", false), Some(Next::Ends));
-    assert_eq!(rt; behind(b" if a:\n", " ", false), None);
-    assert_eq!(rt; behind(b"iff = 1\n", " ", false), None);
-    assert_eq!(rt; behind(b"def f('\n", " ", false), None);
+    assert_eq!(rt; after(def, "else:", false), Some(Next::Ends));
+    assert_eq!(rt; after(def, " x", false), Some(Next::Goes));
+    assert_eq!(rt; after(def, "\n", false), Some(Next::Goes));
+    assert_eq!(rt; after(def, "", true), Some(Next::Ends));
+    assert_eq!(rt; after(def, "", false), Some(Next::Short));
+    assert_eq!(rt; after(b"for x in y:\n", "x", false), Some(Next::Ends));
+    assert_eq!(rt; after(b" if a:\n", " ", false), None);
+    assert_eq!(rt; after(b"iff = 1\n", " ", false), None);
+    assert_eq!(rt; after(b"def f('\n", " ", false), None);
     Ok(())
 }

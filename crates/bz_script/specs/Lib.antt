@@ -1,8 +1,8 @@
 pub mod CommandFiles
-pub mod FlagViews
 pub mod Flags
 pub mod Groups
 pub mod Inputs
 pub mod Packages
 pub mod Results
 pub mod Statuses
+pub mod private

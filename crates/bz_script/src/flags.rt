@@ -1,7 +1,7 @@
 //! The flags of the command line, in the syntax of Go's `flag` package.
 
 ghost use Rattle.std.specs.Prelude.{◌≡◌, ◌≢◌, ◌+◌, ◌∷◌, [], map, string_bytes, length, Err, None, IfOk, IfSome, MatchOption, option_map};
-ghost use Rattle.bz_script.specs.FlagViews.{argument_view};
+ghost use Rattle.bz_script.specs.private.FlagViews.{argument_view};
 ghost use Rattle.bz_script.specs.Flags as spec;
 ghost use Rattle.bz_script.specs.Results.{map_ok};
 

@@ -9,7 +9,7 @@ use Rattle.std.proofs.lemmas.Bool.Decides.{nat_tests, Decides-eqb}
 use Rattle.bz_token.specs.declared.token.Kind.{Kind}
 use Rattle.bz_token.specs.declared.token.Kind.TheVariants.{Ident, Word, Int, Text, Sign, Line, Note, Kept}
 use Rattle.bz_token.specs.declared.scan_string.Escape.{Escape}
-use Rattle.bz_token.specs.declared.scan_string.Escape.TheVariants.{Unescaped, BehindBackslash, BehindReturn}
+use Rattle.bz_token.specs.declared.scan_string.Escape.TheVariants.{Unescaped, AfterBackslash, AfterReturn}
 use Rattle.bz_token.specs.declared.cutter.scan.Quote.{Quote}
 use Rattle.bz_token.specs.declared.cutter.scan.Quote.TheVariants.{Single, Double}
 use Rattle.bz_token.specs.declared.cutter.scan.LineKind.{LineKind}
@@ -17,9 +17,9 @@ use Rattle.bz_token.specs.declared.cutter.scan.LineKind.TheVariants.{Blank, Stat
 use Rattle.bz_token.specs.declared.cutter.scan.Inside.{Inside}
 use Rattle.bz_token.specs.declared.cutter.scan.Inside.TheVariants.{Plain, Ended, Backslash, BackslashReturn, Comment, Opened, OpenedTwice, Short, ShortEscape, ShortEscapeReturn, Long, LongQuote, LongTwoQuotes, LongEscape}
 use Rattle.bz_token.specs.declared.cutter.scan.Scan.{Scan}
-use Rattle.bz_token.specs.CutSteps.{is_ended, byte_of, at, outside, in_short, in_long, next_in, next, start, run, with_note}
-use Rattle.bz_token.specs.Lexical.{is_word_byte, is_blank, is_newline, is_quote, closes, closing_row, are_two, opens_behind, opening, opening_length, is_empty, is_name, is_keyword, signs, is_sign, is_text, IsToken}
-use Rattle.bz_token.specs.Brackets.{is_inside, is_line, is_opening_bracket, is_closing_bracket, fits, open_behind}
+use Rattle.bz_token.specs.private.CutSteps.{is_ended, byte_of, at, outside, in_short, in_long, next_in, next, start, run, with_note}
+use Rattle.bz_token.specs.Lexical.{is_word_byte, is_blank, is_newline, is_quote, closes, closing_row, are_two, opens_after, opening, opening_length, is_empty, is_name, is_keyword, signs, is_sign, is_text, IsToken}
+use Rattle.bz_token.specs.Brackets.{is_inside, is_line, is_opening_bracket, is_closing_bracket, fits, open_after_token}
 use Rattle.bz_token.proofs.Classes.{Class, class_of, keyword_name, can_start, text_class, one_of, same_bytes, empty_no_text}
 use Rattle.bz_token.specs.declared.scan_string.Opening.{Opening}
 use Rattle.bz_token.proofs.Openings.{none_some, opens_r, opens_rb, opens_b, opens_br, opens_plain, opening_facts}
@@ -79,8 +79,8 @@ words_run (x ∷ xs) s d h all =
 
 -- where a long string's scan stands
 abbrev pub long_state : Quote → ℕ → Escape → Inside
-long_state q row BehindBackslash = LongEscape q
-long_state q row BehindReturn = Long q
+long_state q row AfterBackslash = LongEscape q
+long_state q row AfterReturn = Long q
 long_state q zero Unescaped = Long q
 long_state q (suc zero) Unescaped = LongQuote q
 long_state q (suc (suc row)) Unescaped = LongTwoQuotes q
@@ -166,14 +166,14 @@ mutual
       room : (row : ℕ) → row ≤ 2 → (row + 1 == 3) ≡ false → row + 1 ≤ 2
       room row fits e = grind (arith, nat_tests)
 
-  long_escaped : (q : Quote) (d : ℕ) (xs : List ℕ) (s : Scan) → IsAt s (LongEscape q) d → closes (long_quotes q true) 0 BehindBackslash xs ≡ true → IsAt (run s xs) Plain d
+  long_escaped : (q : Quote) (d : ℕ) (xs : List ℕ) (s : Scan) → IsAt s (LongEscape q) d → closes (long_quotes q true) 0 AfterBackslash xs ≡ true → IsAt (run s xs) Plain d
   long_escaped q d [] s h closed = absurd (false≢true closed)
   long_escaped q d (x ∷ xs) s h closed = elim (cases_Bool (x == 13)) [
     | inl return ↦ long_returned q d xs (next s x) (moves s (LongEscape q) (Long q) d x h (λ k. refl)) (rw (return, closes) at closed)
     | inr other ↦ long_run q 0 d xs (next s x) (omega arith) (moves s (LongEscape q) (Long q) d x h (λ k. refl)) (rw (other, closes) at closed)
   ]
 
-  long_returned : (q : Quote) (d : ℕ) (xs : List ℕ) (s : Scan) → IsAt s (Long q) d → closes (long_quotes q true) 0 BehindReturn xs ≡ true → IsAt (run s xs) Plain d
+  long_returned : (q : Quote) (d : ℕ) (xs : List ℕ) (s : Scan) → IsAt s (Long q) d → closes (long_quotes q true) 0 AfterReturn xs ≡ true → IsAt (run s xs) Plain d
   long_returned q d [] s h closed = absurd (false≢true closed)
   long_returned q d (x ∷ xs) s h closed = elim (cases_Bool (x == 10)) [
     | inl feed ↦
@@ -196,8 +196,8 @@ not_true : (x : Bool) → not x ≡ true → x ≡ false
 not_true true h = absurd (false≢true h)
 not_true false h = refl
 
--- behind a carriage return another byte than a newline is not escaped
-pub unescaped : (q : Quote) (x : ℕ) (xs : List ℕ) → (x == 10) ≡ false → closes (long_quotes q false) 0 BehindReturn (x ∷ xs) ≡ true → closes (long_quotes q false) 0 Unescaped (x ∷ xs) ≡ true
+-- after a carriage return another byte than a newline is not escaped
+pub unescaped : (q : Quote) (x : ℕ) (xs : List ℕ) → (x == 10) ≡ false → closes (long_quotes q false) 0 AfterReturn (x ∷ xs) ≡ true → closes (long_quotes q false) 0 Unescaped (x ∷ xs) ≡ true
 unescaped q x xs other h = elim (cases_Bool (x == byte_of q)) [
   | inl hit ↦ rw (hit, closes) (rw (other, hit, closes) at h)
   | inr miss ↦ rw (miss, closes) (rw (other, miss, closes) at h)
@@ -206,7 +206,7 @@ unescaped q x xs other h = elim (cases_Bool (x == byte_of q)) [
 -- what a byte of a short string that no backslash escapes leads to
 pub data Outcome (q : Quote) (d : ℕ) (xs : List ℕ) (s : Scan) : Type 0 where
   done : is_empty xs ≡ true → IsAt s Plain d → Outcome q d xs s
-  escape : IsAt s (ShortEscape q) d → closes (long_quotes q false) 0 BehindBackslash xs ≡ true → Outcome q d xs s
+  escape : IsAt s (ShortEscape q) d → closes (long_quotes q false) 0 AfterBackslash xs ≡ true → Outcome q d xs s
   goes : IsAt s (Short q) d → closes (long_quotes q false) 0 Unescaped xs ≡ true → Outcome q d xs s
 
 pub short_step : (q : Quote) (d x : ℕ) (xs : List ℕ) (s : Scan) (k : LineKind) → s ≡ in_short q d k x → closes (long_quotes q false) 0 Unescaped (x ∷ xs) ≡ true → Outcome q d xs s
@@ -215,7 +215,7 @@ short_step q d x xs s k step closed = elim (cases_Bool (x == byte_of q)) [
       let quoted : in_short q d k x ≡ at Plain d k = rw hit refl in
       done (rw (hit, closes) at closed) (subst (λ t. IsAt t Plain d) (sym (step ∙ quoted)) (stands Plain d k))
   | inr miss ↦
-      let parts = and_parts (not (x == 10)) (closes (long_quotes q false) 0 (if x == 92 then BehindBackslash else Unescaped) xs) (rw (miss, closes) at closed) in
+      let parts = and_parts (not (x == 10)) (closes (long_quotes q false) 0 (if x == 92 then AfterBackslash else Unescaped) xs) (rw (miss, closes) at closed) in
       let line = not_true (x == 10) parts.0 in
       elim (cases_Bool (x == 92)) [
         | inl slash ↦
@@ -239,14 +239,14 @@ mutual
         | goes i c ↦ short_run q d xs (next s x) i c
       ]
 
-  pub short_escaped : (q : Quote) (d : ℕ) (xs : List ℕ) (s : Scan) → IsAt s (ShortEscape q) d → closes (long_quotes q false) 0 BehindBackslash xs ≡ true → IsAt (run s xs) Plain d
+  pub short_escaped : (q : Quote) (d : ℕ) (xs : List ℕ) (s : Scan) → IsAt s (ShortEscape q) d → closes (long_quotes q false) 0 AfterBackslash xs ≡ true → IsAt (run s xs) Plain d
   short_escaped q d [] s h closed = absurd (false≢true closed)
   short_escaped q d (x ∷ xs) s h closed = elim (cases_Bool (x == 13)) [
     | inl return ↦ short_returned q d xs (next s x) (moves s (ShortEscape q) (ShortEscapeReturn q) d x h (λ k. rw return refl)) (rw (return, closes) at closed)
     | inr other ↦ short_run q d xs (next s x) (moves s (ShortEscape q) (Short q) d x h (λ k. rw other refl)) (rw (other, closes) at closed)
   ]
 
-  short_returned : (q : Quote) (d : ℕ) (xs : List ℕ) (s : Scan) → IsAt s (ShortEscapeReturn q) d → closes (long_quotes q false) 0 BehindReturn xs ≡ true → IsAt (run s xs) Plain d
+  short_returned : (q : Quote) (d : ℕ) (xs : List ℕ) (s : Scan) → IsAt s (ShortEscapeReturn q) d → closes (long_quotes q false) 0 AfterReturn xs ≡ true → IsAt (run s xs) Plain d
   short_returned q d [] s h closed = absurd (false≢true closed)
   short_returned q d (x ∷ xs) s h closed = elim (cases_Bool (x == 10)) [
     | inl feed ↦
@@ -309,7 +309,7 @@ blank_step d k b h =
 blank_no_newline : (b : ℕ) → is_blank b ≡ true → is_newline b ≡ false
 blank_no_newline b h = grind (arith, nat_tests)
 
--- behind a byte of white space
+-- after a byte of white space
 blank_ready : (s : Scan) (d b : ℕ) (bs : List ℕ) → Ready s d (b ∷ bs) → is_blank b ≡ true → Ready (next s b) d bs × (is_ended (next s b).inside ≡ true → ⊥)
 blank_ready s d b bs (acts f) h =
     let m = f b bs refl in
@@ -326,8 +326,8 @@ inner_newline d k h = let some = not_zero d h in rw some refl
     not_zero : (d : ℕ) → 0 < d → (d == 0) ≡ false
     not_zero d h = grind (arith, nat_tests)
 
--- what is known behind a gap
-pub record BehindGap (s : Scan) (d : ℕ) (rest g : List ℕ) : Type 0 where
+-- what is known after a gap
+pub record AfterGap (s : Scan) (d : ℕ) (rest g : List ℕ) : Type 0 where
   pub ready : Ready s d rest
   pub ended : is_ended s.inside ≡ true → g ≡ []
 
@@ -340,7 +340,7 @@ run_none (b ∷ bs) s e = absurd (not_nil e)
 
 mutual
   -- over a gap
-  pub gap_run : (inside : Bool) (g rest : List ℕ) (s : Scan) (d : ℕ) → (inside ≡ true → 0 < d) → is_gap inside g ≡ true → Ready s d (g ++ rest) → BehindGap (run s g) d rest g
+  pub gap_run : (inside : Bool) (g rest : List ℕ) (s : Scan) (d : ℕ) → (inside ≡ true → 0 < d) → is_gap inside g ≡ true → Ready s d (g ++ rest) → AfterGap (run s g) d rest g
   gap_run inside [] rest s d deep h ready = record { ready = ready; ended = λ e. refl }
   gap_run inside (b ∷ bs) rest s d deep h ready = elim (cases_Bool (is_white inside b)) [
     | inl white ↦
@@ -402,7 +402,7 @@ visible_first c b is kind h = elim (cases_Bool (is_blank b)) [
 pub visible : (kind : Kind) (b : ℕ) (bs : List ℕ) → is_text kind (b ∷ bs) ≡ true → is_blank b ≡ false
 visible kind b bs is = visible_first (class_of b) b refl kind (text_class kind b bs is)
 
-open_same : (opened : List ℕ) (b : ℕ) (bs : List ℕ) → is_opening_bracket b ≡ false → is_closing_bracket b ≡ false → open_behind opened (b ∷ bs) ≡ opened
+open_same : (opened : List ℕ) (b : ℕ) (bs : List ℕ) → is_opening_bracket b ≡ false → is_closing_bracket b ≡ false → open_after_token opened (b ∷ bs) ≡ opened
 open_same opened b [] o c = rw (o, c) refl
 open_same opened b (d ∷ bs) o c = refl
 
@@ -412,24 +412,24 @@ word_no_opening b h = grind (arith, nat_tests)
 word_no_closing : (b : ℕ) → is_word_byte b ≡ true → is_closing_bracket b ≡ false
 word_no_closing b h = grind (arith, nat_tests)
 
--- what is known behind a token
-pub record BehindToken (s : Scan) (d : ℕ) (kind : Kind) (after : List ℕ) : Type 0 where
+-- what is known after a token
+pub record AfterToken (s : Scan) (d : ℕ) (kind : Kind) (after : List ℕ) : Type 0 where
   pub ready : Ready s d after
   pub ended : is_ended s.inside ≡ true → is_line kind ≡ true
 
-behind_plain : (s : Scan) (d : ℕ) (kind : Kind) (after : List ℕ) → IsAt s Plain d → BehindToken s d kind after
-behind_plain s d kind after h = record { ready = ready_plain s d after h; ended = λ e. absurd (not_ended s Plain d h refl e) }
+after_plain : (s : Scan) (d : ℕ) (kind : Kind) (after : List ℕ) → IsAt s Plain d → AfterToken s d kind after
+after_plain s d kind after h = record { ready = ready_plain s d after h; ended = λ e. absurd (not_ended s Plain d h refl e) }
 
-same_depth : (s : Scan) (d e : ℕ) (kind : Kind) (after : List ℕ) → d ≡ e → BehindToken s d kind after → BehindToken s e kind after
-same_depth s d e kind after same h = subst (λ n. BehindToken s n kind after) same h
+same_depth : (s : Scan) (d e : ℕ) (kind : Kind) (after : List ℕ) → d ≡ e → AfterToken s d kind after → AfterToken s e kind after
+same_depth s d e kind after same h = subst (λ n. AfterToken s n kind after) same h
 
 -- over letters, digits and underscores
-words_token : (kind : Kind) (s : Scan) (opened : List ℕ) (b : ℕ) (bs after : List ℕ) → list_all is_word_byte (b ∷ bs) ≡ true → (k : LineKind) × (next s b ≡ outside (length opened) k b) → BehindToken (run s (b ∷ bs)) (length (open_behind opened (b ∷ bs))) kind after
+words_token : (kind : Kind) (s : Scan) (opened : List ℕ) (b : ℕ) (bs after : List ℕ) → list_all is_word_byte (b ∷ bs) ≡ true → (k : LineKind) × (next s b ≡ outside (length opened) k b) → AfterToken (run s (b ∷ bs)) (length (open_after_token opened (b ∷ bs))) kind after
 words_token kind s opened b bs after all m =
     let parts = and_parts (is_word_byte b) (list_all is_word_byte bs) all in
     let here : IsAt (next s b) Plain (length opened) = subst (λ t. IsAt t Plain (length opened)) (sym (m.1 ∙ word_step (length opened) m.0 b parts.0)) (stands Plain (length opened) Statement) in
     same_depth (run s (b ∷ bs)) (length opened) _ kind after (ap length (sym (open_same opened b bs (word_no_opening b parts.0) (word_no_closing b parts.0))))
-    (behind_plain (run s (b ∷ bs)) (length opened) kind after (words_run bs (next s b) (length opened) here parts.1))
+    (after_plain (run s (b ∷ bs)) (length opened) kind after (words_run bs (next s b) (length opened) here parts.1))
 
 -- bytes of signs
 abbrev pub is_sign_plain : ℕ → Bool
@@ -482,14 +482,14 @@ dropped : (xs : List ℕ) → length (drop 1 xs) ≡ length xs - 1
 dropped [] = omega arith
 dropped (x ∷ xs) = omega arith
 
-sign_token_run : (s : Scan) (opened : List ℕ) (b : ℕ) (bs after : List ℕ) → is_sign (b ∷ bs) ≡ true → (k : LineKind) × (next s b ≡ outside (length opened) k b) → BehindToken (run s (b ∷ bs)) (length (open_behind opened (b ∷ bs))) Sign after
+sign_token_run : (s : Scan) (opened : List ℕ) (b : ℕ) (bs after : List ℕ) → is_sign (b ∷ bs) ≡ true → (k : LineKind) × (next s b ≡ outside (length opened) k b) → AfterToken (run s (b ∷ bs)) (length (open_after_token opened (b ∷ bs))) Sign after
 sign_token_run s opened b bs after is m =
     let parts = and_parts (list_all is_sign_plain (b ∷ bs)) (list_all (λ x. not (is_bracket_byte x)) bs) (sign_plain (b ∷ bs) is) in
     let plain = and_parts (is_sign_plain b) (list_all is_sign_plain bs) parts.0 in
     let step = m.1 ∙ sign_step (length opened) m.0 b plain.0 in
-    behind_plain (run s (b ∷ bs)) (length (open_behind opened (b ∷ bs))) Sign after (signs_run bs (next s b) (length (open_behind opened (b ∷ bs))) (first bs is step) plain.1 parts.1)
+    after_plain (run s (b ∷ bs)) (length (open_after_token opened (b ∷ bs))) Sign after (signs_run bs (next s b) (length (open_after_token opened (b ∷ bs))) (first bs is step) plain.1 parts.1)
   where
-    first : (bs : List ℕ) → is_sign (b ∷ bs) ≡ true → next s b ≡ (if is_opening_bracket b then at Plain (length opened + 1) Statement else (if is_closing_bracket b then at Plain (length opened - 1) Statement else at Plain (length opened) Statement)) → IsAt (next s b) Plain (length (open_behind opened (b ∷ bs)))
+    first : (bs : List ℕ) → is_sign (b ∷ bs) ≡ true → next s b ≡ (if is_opening_bracket b then at Plain (length opened + 1) Statement else (if is_closing_bracket b then at Plain (length opened - 1) Statement else at Plain (length opened) Statement)) → IsAt (next s b) Plain (length (open_after_token opened (b ∷ bs)))
     first [] is step = elim (cases_Bool (is_opening_bracket b)) [
       | inl o ↦ rw o (subst (λ t. IsAt t Plain (suc (length opened))) (sym (step ∙ rw (o, add-one) refl)) (stands Plain (suc (length opened)) Statement))
       | inr n ↦ elim (cases_Bool (is_closing_bracket b)) [
@@ -510,7 +510,7 @@ comment_run (x ∷ xs) s d h none =
     let other = p.0 in
     comment_run xs (next s x) d (moves s Comment Comment d x h (λ k. rw other refl)) p.1
 
-comment_token_run : (s : Scan) (opened : List ℕ) (b : ℕ) (bs after : List ℕ) → IsToken Note (b ∷ bs) after → (k : LineKind) × (next s b ≡ outside (length opened) k b) → BehindToken (run s (b ∷ bs)) (length (open_behind opened (b ∷ bs))) Note after
+comment_token_run : (s : Scan) (opened : List ℕ) (b : ℕ) (bs after : List ℕ) → IsToken Note (b ∷ bs) after → (k : LineKind) × (next s b ≡ outside (length opened) k b) → AfterToken (run s (b ∷ bs)) (length (open_after_token opened (b ∷ bs))) Note after
 comment_token_run s opened b bs after token m =
     let parts = comment_parts (b ∷ bs) token.whole in
     let same : b ≡ 35 = eqb-true b 35 parts.0 in
@@ -519,21 +519,21 @@ comment_token_run s opened b bs after token m =
     same_depth (run s (b ∷ bs)) (length opened) _ Note after (ap length (sym (open_same opened b bs (ap is_opening_bracket same) (ap is_closing_bracket same))))
     (record { ready = comments end (token_ends Note (b ∷ bs) after token); ended = λ e. absurd (not_ended (run s (b ∷ bs)) Comment (length opened) end refl e) })
 
-line_token_run : (depth : ℕ) (s : Scan) (opened : List ℕ) (b : ℕ) (bs after : List ℕ) → is_text Line (b ∷ bs) ≡ true → fits depth opened Line (b ∷ bs) ≡ true → (k : LineKind) × (next s b ≡ outside (length opened) k b) → BehindToken (run s (b ∷ bs)) (length (open_behind opened (b ∷ bs))) Line after
+line_token_run : (depth : ℕ) (s : Scan) (opened : List ℕ) (b : ℕ) (bs after : List ℕ) → is_text Line (b ∷ bs) ≡ true → fits depth opened Line (b ∷ bs) ≡ true → (k : LineKind) × (next s b ≡ outside (length opened) k b) → AfterToken (run s (b ∷ bs)) (length (open_after_token opened (b ∷ bs))) Line after
 line_token_run depth s opened b bs after is fit m =
     let whole = same_bytes (b ∷ bs) (10 ∷ []) is in
-    subst (λ t. BehindToken (run s t) (length (open_behind opened t)) Line after) (sym whole) (at_line opened (subst (λ t. fits depth opened Line t ≡ true) whole fit) (m.0, first b whole m.1))
+    subst (λ t. AfterToken (run s t) (length (open_after_token opened t)) Line after) (sym whole) (at_line opened (subst (λ t. fits depth opened Line t ≡ true) whole fit) (m.0, first b whole m.1))
   where
     first : (b : ℕ) → b ∷ bs ≡ 10 ∷ [] → next s b ≡ outside (length opened) m.0 b → next s 10 ≡ outside (length opened) m.0 10
     first b e h = let same : b ≡ 10 = cc in subst (λ x. next s x ≡ outside (length opened) m.0 x) same h
 
-    at_line : (opened : List ℕ) → fits depth opened Line (10 ∷ []) ≡ true → (k : LineKind) × (next s 10 ≡ outside (length opened) k 10) → BehindToken (next s 10) (length (open_behind opened (10 ∷ []))) Line after
+    at_line : (opened : List ℕ) → fits depth opened Line (10 ∷ []) ≡ true → (k : LineKind) × (next s 10 ≡ outside (length opened) k 10) → AfterToken (next s 10) (length (open_after_token opened (10 ∷ []))) Line after
     at_line (a ∷ opened) fit m = absurd (false≢true fit)
     at_line [] fit m =
         let here : IsAt (next s 10) Ended 0 = subst (λ t. IsAt t Ended 0) (sym m.1) (stands Ended 0 m.0) in
         record { ready = acts (λ b bs e. (Blank, (step_from (next s 10) Ended 0 b here).1)); ended = λ e. refl }
 
--- what the cutter finds behind the opening quote of a string
+-- what the cutter finds after the opening quote of a string
 pub data Found (q : Quote) (d : ℕ) (inside : List ℕ) (long : Bool) (s : Scan) : Type 0 where
   plainly : IsAt s Plain d → Found q d inside long s
   twice : IsAt s (OpenedTwice q) d → length inside ≡ 1 → long ≡ false → Found q d inside long s
@@ -580,9 +580,9 @@ pub record Parts (text : List ℕ) (o : Opening) : Type 0 where
   pub prefix : o.prefix ≡ length letters
   pub long : are_two o.quotes.byte inside ≡ o.quotes.long
 
-parts_behind : (n : ℕ) (letters ys : List ℕ) (o : Opening) → opens_behind n ys ≡ Some o → length letters ≡ n → list_all is_word_byte letters ≡ true → Parts (letters ++ ys) o
-parts_behind n letters [] o h size words = absurd (none_some o h)
-parts_behind n letters (q ∷ qs) o h size words = elim (cases_Bool (is_quote q)) [
+parts_after : (n : ℕ) (letters ys : List ℕ) (o : Opening) → opens_after n ys ≡ Some o → length letters ≡ n → list_all is_word_byte letters ≡ true → Parts (letters ++ ys) o
+parts_after n letters [] o h size words = absurd (none_some o h)
+parts_after n letters (q ∷ qs) o h size words = elim (cases_Bool (is_quote q)) [
   | inr none ↦ absurd (none_some o (rw none at h))
   | inl is ↦
       let same : record { prefix = n; quotes = record { byte = q; long = are_two q qs } } ≡ o = some_same _ o (rw is at h) in
@@ -599,7 +599,7 @@ string_parts (a ∷ bs) o h =
       | inl r ↦ prefixed_r bs r h
       | inr no_r ↦ elim (cases_Bool (a == 98)) [
         | inl b ↦ prefixed_b bs no_r b h
-        | inr no_b ↦ parts_behind 0 [] (a ∷ bs) o (sym (opens_plain a bs no_r no_b) ∙ h) refl refl
+        | inr no_b ↦ parts_after 0 [] (a ∷ bs) o (sym (opens_plain a bs no_r no_b) ∙ h) refl refl
       ]
     ]
   where
@@ -615,15 +615,15 @@ string_parts (a ∷ bs) o h =
     prefixed_r : (bs : List ℕ) → (a == 114) ≡ true → opening (a ∷ bs) ≡ Some o → Parts (a ∷ bs) o
     prefixed_r [] r h = absurd (none_some o (sym (opens_r a [] r refl) ∙ h))
     prefixed_r (c ∷ cs) r h = elim (cases_Bool (c == 98)) [
-      | inl b ↦ parts_behind 2 (a ∷ c ∷ []) cs o (sym (opens_rb a c cs r b) ∙ h) refl (two_words c (is_word a 114 r refl) (is_word c 98 b refl))
-      | inr no_b ↦ parts_behind 1 (a ∷ []) (c ∷ cs) o (sym (opens_r a (c ∷ cs) r no_b) ∙ h) refl (one_word (is_word a 114 r refl))
+      | inl b ↦ parts_after 2 (a ∷ c ∷ []) cs o (sym (opens_rb a c cs r b) ∙ h) refl (two_words c (is_word a 114 r refl) (is_word c 98 b refl))
+      | inr no_b ↦ parts_after 1 (a ∷ []) (c ∷ cs) o (sym (opens_r a (c ∷ cs) r no_b) ∙ h) refl (one_word (is_word a 114 r refl))
     ]
 
     prefixed_b : (bs : List ℕ) → (a == 114) ≡ false → (a == 98) ≡ true → opening (a ∷ bs) ≡ Some o → Parts (a ∷ bs) o
     prefixed_b [] no_r b h = absurd (none_some o (sym (opens_b a [] no_r b refl) ∙ h))
     prefixed_b (c ∷ cs) no_r b h = elim (cases_Bool (c == 114)) [
-      | inl r ↦ parts_behind 2 (a ∷ c ∷ []) cs o (sym (opens_br a c cs no_r b r) ∙ h) refl (two_words c (is_word a 98 b refl) (is_word c 114 r refl))
-      | inr none ↦ parts_behind 1 (a ∷ []) (c ∷ cs) o (sym (opens_b a (c ∷ cs) no_r b none) ∙ h) refl (one_word (is_word a 98 b refl))
+      | inl r ↦ parts_after 2 (a ∷ c ∷ []) cs o (sym (opens_br a c cs no_r b r) ∙ h) refl (two_words c (is_word a 98 b refl) (is_word c 114 r refl))
+      | inr none ↦ parts_after 1 (a ∷ []) (c ∷ cs) o (sym (opens_b a (c ∷ cs) no_r b none) ∙ h) refl (one_word (is_word a 98 b refl))
     ]
 
 -- over a string's prefix
@@ -643,7 +643,7 @@ text_no_bracket b bs is = elim (cases_Bool (is_bracket_byte b)) [
   | inl hit ↦ absurd (false≢true (ap (can_start Text) (sym (bracket_class b hit)) ∙ text_class Text b bs is))
 ]
 
--- behind an empty short string no third quote stands
+-- after an empty short string no third quote stands
 no_third : (q : Quote) (text after : List ℕ) (o : Opening) → IsToken Text text after → opening text ≡ Some o → o.quotes.byte ≡ byte_of q → o.quotes.long ≡ false → length text ≡ o.prefix + 2 → (b : ℕ) (bs : List ℕ) → after ≡ b ∷ bs → (b == byte_of q) ≡ false
 no_third q text after o token opens byte short size b bs e = elim (cases_Bool (b == byte_of q)) [
   | inr miss ↦ miss
@@ -655,7 +655,7 @@ no_third q text after o token opens byte short size b bs e = elim (cases_Bool (b
       absurd (false≢true (sym (rw third refl) ∙ stop))
 ]
 
-string_token_run : (s : Scan) (opened : List ℕ) (b : ℕ) (bs after : List ℕ) → IsToken Text (b ∷ bs) after → (k : LineKind) × (next s b ≡ outside (length opened) k b) → BehindToken (run s (b ∷ bs)) (length (open_behind opened (b ∷ bs))) Text after
+string_token_run : (s : Scan) (opened : List ℕ) (b : ℕ) (bs after : List ℕ) → IsToken Text (b ∷ bs) after → (k : LineKind) × (next s b ≡ outside (length opened) k b) → AfterToken (run s (b ∷ bs)) (length (open_after_token opened (b ∷ bs))) Text after
 string_token_run s opened b bs after token m =
     let text = b ∷ bs in
     let d = length opened in
@@ -668,14 +668,14 @@ string_token_run s opened b bs after token m =
     let quotes : o.quotes ≡ long_quotes q o.quotes.long = λ i. record { byte = quote.1 i; long = o.quotes.long } in
     let s1 = run s (parts.letters ++ byte_of q ∷ []) in
     let opened_at : IsAt s1 (Opened q) d = letters_run parts.letters q s d parts.words (λ c cs e. first c (parts.letters ++ byte_of q ∷ []) parts.inside (sym whole) cs e) in
-    let tail : drop (opening_length o) text ≡ drop (closing_row o.quotes.long - 1) parts.inside = ap (λ n. drop (n + closing_row o.quotes.long) text) parts.prefix ∙ ap (drop (length parts.letters + closing_row o.quotes.long)) parts.text_is ∙ drop-append-add parts.letters (o.quotes.byte ∷ parts.inside) (closing_row o.quotes.long) ∙ behind_quote o.quotes.long o.quotes.byte parts.inside in
+    let tail : drop (opening_length o) text ≡ drop (closing_row o.quotes.long - 1) parts.inside = ap (λ n. drop (n + closing_row o.quotes.long) text) parts.prefix ∙ ap (drop (length parts.letters + closing_row o.quotes.long)) parts.text_is ∙ drop-append-add parts.letters (o.quotes.byte ∷ parts.inside) (closing_row o.quotes.long) ∙ after_quote o.quotes.long o.quotes.byte parts.inside in
     let closed : closes (long_quotes q o.quotes.long) 0 Unescaped (drop (closing_row o.quotes.long - 1) parts.inside) ≡ true = ap₂ (λ x y. closes x 0 Unescaped y) (sym quotes) (sym tail) ∙ found.2 in
     let end : Found q d parts.inside o.quotes.long (run s1 parts.inside) = quoted_run q d parts.inside o.quotes.long s1 opened_at (ap (λ x. are_two x parts.inside) (sym quote.1) ∙ parts.long) closed in
     let brackets = or_none (is_opening_bracket b) (is_closing_bracket b) (text_no_bracket b bs token.whole) in
     same_depth (run s text) d _ Text after (ap length (sym (open_same opened b bs brackets.0 brackets.1)))
-    (subst (λ t. BehindToken t d Text after) (sym (ap (run s) whole ∙ run_append (parts.letters ++ byte_of q ∷ []) parts.inside s))
+    (subst (λ t. AfterToken t d Text after) (sym (ap (run s) whole ∙ run_append (parts.letters ++ byte_of q ∷ []) parts.inside s))
     (elim end [
-      | plainly h ↦ behind_plain (run s1 parts.inside) d Text after h
+      | plainly h ↦ after_plain (run s1 parts.inside) d Text after h
       | twice h one short ↦
           let size : length text ≡ o.prefix + 2 = omega (arith, ap length parts.text_is, length-append parts.letters (o.quotes.byte ∷ parts.inside), one, parts.prefix) in
           record {
@@ -694,19 +694,19 @@ string_token_run s opened b bs after token m =
         let same : b ≡ c = cc in
         (m.0, subst (λ x. next s x ≡ outside (length opened) m.0 x) same m.1)
 
-    behind_quote : (long : Bool) (x : ℕ) (xs : List ℕ) → drop (closing_row long) (x ∷ xs) ≡ drop (closing_row long - 1) xs
-    behind_quote true x xs = refl
-    behind_quote false x xs = refl
+    after_quote : (long : Bool) (x : ℕ) (xs : List ℕ) → drop (closing_row long) (x ∷ xs) ≡ drop (closing_row long - 1) xs
+    after_quote true x xs = refl
+    after_quote false x xs = refl
 
 -- over a token
-pub token_run : (depth : ℕ) (s : Scan) (opened : List ℕ) (kind : Kind) (text after : List ℕ) → IsToken kind text after → fits depth opened kind text ≡ true → Ready s (length opened) (text ++ after) → BehindToken (run s text) (length (open_behind opened text)) kind after
+pub token_run : (depth : ℕ) (s : Scan) (opened : List ℕ) (kind : Kind) (text after : List ℕ) → IsToken kind text after → fits depth opened kind text ≡ true → Ready s (length opened) (text ++ after) → AfterToken (run s text) (length (open_after_token opened text)) kind after
 token_run depth s opened kind [] after token fit ready = absurd (empty_no_text kind token.whole)
 token_run depth s opened kind (b ∷ bs) after token fit ready = by_kind kind token fit (ready_first s (length opened) b (bs ++ after) ready (visible kind b bs token.whole))
   where
     name_words : is_name (b ∷ bs) ≡ true → list_all is_word_byte (b ∷ bs) ≡ true
     name_words name = (and_parts (not (is_ascii_digit b)) (list_all is_word_byte (b ∷ bs)) name).1
 
-    by_kind : (kind : Kind) → IsToken kind (b ∷ bs) after → fits depth opened kind (b ∷ bs) ≡ true → (k : LineKind) × (next s b ≡ outside (length opened) k b) → BehindToken (run s (b ∷ bs)) (length (open_behind opened (b ∷ bs))) kind after
+    by_kind : (kind : Kind) → IsToken kind (b ∷ bs) after → fits depth opened kind (b ∷ bs) ≡ true → (k : LineKind) × (next s b ≡ outside (length opened) k b) → AfterToken (run s (b ∷ bs)) (length (open_after_token opened (b ∷ bs))) kind after
     by_kind Ident token fit m = words_token Ident s opened b bs after (name_words (and_parts (is_name (b ∷ bs)) (not (is_keyword (b ∷ bs))) token.whole).0) m
     by_kind Word token fit m = words_token Word s opened b bs after (name_words (keyword_name (b ∷ bs) token.whole)) m
     by_kind Int token fit m = words_token Int s opened b bs after (number_words (b ∷ bs) token.whole) m
@@ -734,7 +734,7 @@ reading_run depth opened (p ∷ ps) rest bytes s r gap ready ended =
     let g = gap_run (is_inside opened) p.gap (p.text ++ after) s (length opened) (some_open opened) piece.gap (subst (λ x. Ready s (length opened) x) piece.bytes_are ready) in
     let t = token_run depth (run s p.gap) opened p.kind p.text after piece.token piece.fits g.ready in
     let all : run s bytes ≡ run (run (run s p.gap) p.text) after = ap (run s) piece.bytes_are ∙ run_append p.gap (p.text ++ after) s ∙ run_append p.text after (run s p.gap) in
-    let more = reading_run depth (open_behind opened p.text) ps rest after (run (run s p.gap) p.text) r.2 gap t.ready (ap (λ x. is_ended x.inside) (sym all) ∙ ended) in
+    let more = reading_run depth (open_after_token opened p.text) ps rest after (run (run s p.gap) p.text) r.2 gap t.ready (ap (λ x. is_ended x.inside) (sym all) ∙ ended) in
     (more.0, last ps more.1 (λ e. t.ended (more.2 e)), λ e. absurd (not_nil e))
   where
     not_nil : p ∷ ps ≡ [] → ⊥

@@ -26,10 +26,10 @@ block = refl
 block_with_string : chunks (codes "if a:\n    def = \"\"\"\n# in the text\n\"\"\"\nelse:\n    y  =  2\n\n  # tail\n\n# c\nz=1\n") ≡ codes "if a:\n    def = \"\"\"\n# in the text\n\"\"\"\nelse:\n    y  =  2\n\n  # tail\n\n" ∷ codes "# c\nz=1\n" ∷ []
 block_with_string = refl
 
--- an `else` behind a `def` is a chunk of its own, and so is a word that only begins like one
+-- an `else` after a `def` is a chunk of its own, and so is a word that only begins like one
 no_branches : chunks (codes "def f():\n x\nelse:\nif a:\nelsewhere\n") ≡ codes "def f():\n x\n" ∷ codes "else:\n" ∷ codes "if a:\n" ∷ codes "elsewhere\n" ∷ []
 no_branches = refl
 
--- the head of a block stands in column 1, also behind a continued empty line; a string that is broken off ends the block
+-- the head of a block stands in column 1, also after a continued empty line; a string that is broken off ends the block
 heads : chunks (codes " if a:\n  b\n\\\nfor f:\n x\ndef f('\n x") ≡ codes " if a:\n" ∷ codes "  b\n" ∷ codes "\\\nfor f:\n x\n" ∷ codes "def f('\n" ∷ codes " x" ∷ []
 heads = refl

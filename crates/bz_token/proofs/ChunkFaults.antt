@@ -11,11 +11,11 @@ use Rattle.bz_token.specs.declared.cutter.scan.Scan.{Scan}
 use Rattle.bz_token.specs.declared.cutter.scan.LineKind.{LineKind}
 use Rattle.bz_token.specs.declared.cutter.scan.LineKind.TheVariants.{Blank}
 use Rattle.bz_token.specs.declared.cutter.scan.Inside.TheVariants.{Plain}
-use Rattle.bz_token.specs.CutSteps.{is_ended, outside, next, start, run}
+use Rattle.bz_token.specs.private.CutSteps.{is_ended, outside, next, start, run}
 use Rattle.bz_token.specs.Cuts.{EndsBefore, ends_in_newline}
 use Rattle.bz_token.specs.Places.{Placed}
 use Rattle.bz_token.specs.Lexical.{is_blank, is_newline, begins, opening, is_string}
-use Rattle.bz_token.specs.Brackets.{is_inside, is_line, is_opening_bracket, is_closing_bracket, closes_innermost, fits, open_behind}
+use Rattle.bz_token.specs.Brackets.{is_inside, is_line, is_opening_bracket, is_closing_bracket, closes_innermost, fits, open_after_token}
 use Rattle.bz_token.specs.Reading.{is_white, continues, begins_gap, Piece, IsReading, open_after, bytes_of, tokens_of}
 use Rattle.bz_token.specs.Faults.{IsOpenText, IsBadNumber, IsBadBackslash, IsBadCharacter, IsBadBracket, IsTooDeep, IsFaultAt, IsOpenBracket, IsFault}
 use Rattle.bz_token.specs.UpToFault.{read_before, IsReadAs}
@@ -60,7 +60,7 @@ reading_more depth opened [] rest bytes r reading h = ap (λ x. x ++ r) reading
 reading_more depth opened (p ∷ ps) rest bytes r reading h =
     let after = reading.0 in
     let piece = reading.1 in
-    let held : has_newline after ≡ true = ap has_newline (reading_bytes depth (open_behind opened p.text) ps rest after reading.2) ∙ any_right is_newline (bytes_of ps) rest h in (
+    let held : has_newline after ≡ true = ap has_newline (reading_bytes depth (open_after_token opened p.text) ps rest after reading.2) ∙ any_right is_newline (bytes_of ps) rest h in (
       after ++ r,
       record {
         bytes_are = ap (λ x. x ++ r) piece.bytes_are ∙ simp append_assoc;
@@ -68,10 +68,10 @@ reading_more depth opened (p ∷ ps) rest bytes r reading h =
         token = token_more p.kind p.text after r piece.token held;
         fits = piece.fits;
       },
-      reading_more depth (open_behind opened p.text) ps rest after r reading.2 h,
+      reading_more depth (open_after_token opened p.text) ps rest after r reading.2 h,
     )
 
--- a fault at a place before a newline stays the first, behind the same pieces, whatever follows
+-- a fault at a place before a newline stays the first, after the same pieces, whatever follows
 fault_more : (first depth : ℕ) (c r : List ℕ) (IsBad : List ℕ → List ℕ → Type 0) (line col : ℕ) (f : IsFaultAt first depth c IsBad line col) → has_newline f.place ≡ true → IsBad (open_after [] f.pieces) (f.place ++ r) → (g : IsFaultAt first depth (c ++ r) IsBad line col) × (g.pieces ≡ f.pieces)
 fault_more first depth c r IsBad line col f h bad = (
   record {
@@ -80,7 +80,7 @@ fault_more first depth c r IsBad line col f h bad = (
     place = f.place ++ r;
     reading = subst (λ x. IsReading depth [] f.pieces x (c ++ r)) (append_assoc f.gap f.place r) (reading_more depth [] f.pieces (f.gap ++ f.place) c r f.reading (any_right is_newline f.gap f.place h));
     is_gap = f.is_gap;
-    behind_gap = ap₂ (λ x y. x || y) (begins_more (is_white (is_inside (open_after [] f.pieces))) f.place r h) (continues_more f.place r h) ∙ f.behind_gap;
+    after_gap = ap₂ (λ x y. x || y) (begins_more (is_white (is_inside (open_after [] f.pieces))) f.place r h) (continues_more f.place r h) ∙ f.after_gap;
     bad = bad;
     line_is = f.line_is;
     col_is = f.col_is;
@@ -92,7 +92,7 @@ begun : (p : ℕ → Bool) (place : List ℕ) → begins p place ≡ true → 0 
 begun p [] h = absurd (false≢true h)
 begun p (b ∷ bs) h = omega arith
 
--- the newline behind a fault's place
+-- the newline after a fault's place
 place_newline : (first depth : ℕ) (c : List ℕ) (IsBad : List ℕ → List ℕ → Type 0) (line col : ℕ) (f : IsFaultAt first depth c IsBad line col) → ends_in_newline c ≡ true → 0 < length f.place → has_newline f.place ≡ true
 place_newline first depth c IsBad line col f ends some = there f.place some (ap ends_in_newline (sym (reading_bytes depth [] f.pieces (f.gap ++ f.place) c f.reading ∙ sym (append_assoc (bytes_of f.pieces) f.gap f.place))) ∙ ends)
   where
@@ -141,16 +141,16 @@ some_open : (opened : List ℕ) → is_inside opened ≡ true → 0 < length ope
 some_open [] h = absurd (false≢true h)
 some_open (a ∷ opened) h = omega arith
 
--- the cutter behind what was read
-ready_behind : (depth : ℕ) (opened : List ℕ) (ps : List Piece) (rest bytes : List ℕ) (s : Scan) → IsReading depth opened ps rest bytes → Ready s (length opened) bytes → Ready (run s (bytes_of ps)) (length (open_after opened ps)) rest
-ready_behind depth opened [] rest bytes s r ready = subst (λ x. Ready s (length opened) x) r ready
-ready_behind depth opened (p ∷ ps) rest bytes s r ready =
+-- the cutter after what was read
+ready_after : (depth : ℕ) (opened : List ℕ) (ps : List Piece) (rest bytes : List ℕ) (s : Scan) → IsReading depth opened ps rest bytes → Ready s (length opened) bytes → Ready (run s (bytes_of ps)) (length (open_after opened ps)) rest
+ready_after depth opened [] rest bytes s r ready = subst (λ x. Ready s (length opened) x) r ready
+ready_after depth opened (p ∷ ps) rest bytes s r ready =
     let after = r.0 in
     let piece = r.1 in
     let g = gap_run (is_inside opened) p.gap (p.text ++ after) s (length opened) (some_open opened) piece.gap (subst (λ x. Ready s (length opened) x) piece.bytes_are ready) in
     let t = token_run depth (run s p.gap) opened p.kind p.text after piece.token piece.fits g.ready in
     let all : run s (p.gap ++ (p.text ++ bytes_of ps)) ≡ run (run (run s p.gap) p.text) (bytes_of ps) = run_append p.gap (p.text ++ bytes_of ps) s ∙ run_append p.text (bytes_of ps) (run s p.gap) in
-    subst (λ x. Ready x (length (open_after (open_behind opened p.text) ps)) rest) (sym all) (ready_behind depth (open_behind opened p.text) ps rest after (run (run s p.gap) p.text) r.2 t.ready)
+    subst (λ x. Ready x (length (open_after (open_after_token opened p.text) ps)) rest) (sym all) (ready_after depth (open_after_token opened p.text) ps rest after (run (run s p.gap) p.text) r.2 t.ready)
 
 or_none : (x y : Bool) → (x || y) ≡ false → (x ≡ false) × (y ≡ false)
 or_none true y h = absurd (false≢true (sym h))
@@ -163,12 +163,12 @@ text_more first depth c r line col f ended h =
     let place = f.place in
     let before = run (run start (bytes_of f.pieces)) f.gap in
     let g = gap_run (is_inside opened) f.gap place (run start (bytes_of f.pieces)) (length opened) (some_open opened) f.is_gap
-    (ready_behind depth [] f.pieces (f.gap ++ place) c start f.reading (ready_plain start 0 c (stands Plain 0 Blank))) in
+    (ready_after depth [] f.pieces (f.gap ++ place) c start f.reading (ready_plain start 0 c (stands Plain 0 Blank))) in
     let whole : run start c ≡ run before place = ap (run start) (reading_bytes depth [] f.pieces (f.gap ++ place) c f.reading) ∙ run_append (bytes_of f.pieces) (f.gap ++ place) start ∙ run_append f.gap place (run start (bytes_of f.pieces)) in
     let o = some_of (opening place) f.bad.quoted in
     record {
       quoted = ap is_some (opening_same_more place r h) ∙ f.bad.quoted;
-      none = none_more place r h f.bad.none (later o.0 o.1 before (length opened) (at_first place before (length opened) (is_inside opened) g.ready f.behind_gap) (ap (λ t. is_ended t.inside) (sym whole) ∙ ended));
+      none = none_more place r h f.bad.none (later o.0 o.1 before (length opened) (at_first place before (length opened) (is_inside opened) g.ready f.after_gap) (ap (λ t. is_ended t.inside) (sym whole) ∙ ended));
     }
   where
     at_first : (place : List ℕ) (s : Scan) (d : ℕ) (inside : Bool) → Ready s d place → begins_gap inside place ≡ false → (b : ℕ) (bs : List ℕ) → place ≡ b ∷ bs → (k : LineKind) × (next s b ≡ outside d k b)
@@ -181,22 +181,22 @@ text_more first depth c r line col f ended h =
     later o opens s d step ended [] some string = omega arith
     later o opens s d step ended (m ∷ more) some string = string_within f.place o m more s d opens (opening_same_more f.place (m ∷ more) h ∙ opens) string step ended
 
--- behind lines no bracket is open
+-- after lines no bracket is open
 lines_close : (depth : ℕ) (opened : List ℕ) (p : Piece) (ps : List Piece) (rest bytes : List ℕ) → IsReading depth opened (p ∷ ps) rest bytes → ends_in_line (p ∷ ps) ≡ true → open_after opened (p ∷ ps) ≡ []
-lines_close depth opened p [] rest bytes r line = ap (open_behind opened) text ∙ closed opened (subst (λ t. fits depth opened p.kind t ≡ true) text r.1.fits)
+lines_close depth opened p [] rest bytes r line = ap (open_after_token opened) text ∙ closed opened (subst (λ t. fits depth opened p.kind t ≡ true) text r.1.fits)
   where
     text : p.text ≡ 10 ∷ []
     text = line_text p.kind p.text line r.1.token.whole
 
-    closed : (opened : List ℕ) → fits depth opened p.kind (10 ∷ []) ≡ true → open_behind opened (10 ∷ []) ≡ []
+    closed : (opened : List ℕ) → fits depth opened p.kind (10 ∷ []) ≡ true → open_after_token opened (10 ∷ []) ≡ []
     closed [] fit = refl
     closed (a ∷ opened) fit = absurd (false≢true (sym (none line) ∙ fit))
       where
         none : is_line p.kind ≡ true → fits depth (a ∷ opened) p.kind (10 ∷ []) ≡ false
         none line = rw line refl
-lines_close depth opened p (q ∷ ps) rest bytes r line = lines_close depth (open_behind opened p.text) q ps rest r.0 r.2 line
+lines_close depth opened p (q ∷ ps) rest bytes r line = lines_close depth (open_after_token opened p.text) q ps rest r.0 r.2 line
 
--- at the end of a logical line no bracket is left open behind tokens
+-- at the end of a logical line no bracket is left open after tokens
 none_unclosed : (first depth : ℕ) (c : List ℕ) (line col : ℕ) → IsOpenBracket first depth c line col → is_ended (run start c).inside ≡ true → ⊥
 none_unclosed first depth c line col f ended =
     let end = reading_run depth [] f.pieces f.rest c start f.reading f.is_gap (ready_plain start 0 c (stands Plain 0 Blank)) ended in
@@ -206,7 +206,7 @@ none_unclosed first depth c line col f ended =
     closed [] r line = refl
     closed (p ∷ ps) r line = lines_close depth [] p ps f.rest c r line
 
--- the first fault of logical lines is that of a text that begins with them, behind the same pieces
+-- the first fault of logical lines is that of a text that begins with them, after the same pieces
 fault_at_front : (first depth : ℕ) (c r : List ℕ) (f : LexFault) → is_ended (run start c).inside ≡ true → ends_in_newline c ≡ true → (is : IsFault first depth c f) → (more : IsFault first depth (c ++ r) f) × (read_before first depth (c ++ r) f more ≡ read_before first depth c f is)
 fault_at_front first depth c r faults.OutOfMemory ended ends is = (is, refl)
 fault_at_front first depth c r (faults.BadCharacter line col) ended ends is =

@@ -6,9 +6,9 @@ use Rattle.bz_token.specs.declared.cutter.scan.LineKind.TheVariants.{Blank}
 use Rattle.bz_token.specs.declared.cutter.scan.Scan.{Scan}
 use Rattle.bz_token.specs.declared.cutter.block.Stage.{Stage}
 use Rattle.bz_token.specs.declared.cutter.block.Stage.TheVariants.{Notes}
-use Rattle.bz_token.specs.Chunks.{stage_behind, takes, chunks}
+use Rattle.bz_token.specs.Chunks.{stage_after, takes, chunks}
 use Rattle.bz_token.specs.Cuts.{ends_in_newline}
-use Rattle.bz_token.specs.CutSteps.{is_ended, line_here, seen_chunks, outside, next, start}
+use Rattle.bz_token.specs.private.CutSteps.{is_ended, line_here, seen_chunks, outside, next, start}
 use Rattle.bz_token.proofs.CutMachine.{ended_restarts}
 use Rattle.bz_token.proofs.CutLaws.{EndsRight, ends_right, first_word, same_takes, chunk_step, chunk_goes, chunk_cut, chunks_seen, chunks_are}
 
@@ -42,13 +42,13 @@ first_cut (b ∷ bs) s stage before part right = elim (cases_Bool (is_ended s.in
         alone = chunk_step s stage before part b f.front inside ∙ f.alone ∙ ap (λ c. c ∷ []) whole;
         ends = elim f.ends [ inl none ↦ inl none | inr e ↦ inr (e.0, sym (append_assoc part (b ∷ []) f.front) ∙ e.1) ];
       }
-  | inl ended ↦ elim (cases_Bool (takes (stage_behind stage (line_here s part)) (b ∷ bs))) [
+  | inl ended ↦ elim (cases_Bool (takes (stage_after stage (line_here s part)) (b ∷ bs))) [
     | inl goes ↦
-        let f = first_cut bs (next s b) (stage_behind stage (line_here s part)) (before ++ part) (b ∷ []) (ends_right s [] b) in
+        let f = first_cut bs (next s b) (stage_after stage (line_here s part)) (before ++ part) (b ∷ []) (ends_right s [] b) in
         let whole : ((before ++ part) ++ b ∷ []) ++ f.front ≡ (before ++ part) ++ b ∷ f.front = append_assoc (before ++ part) (b ∷ []) f.front in
-        let here : takes (stage_behind stage (line_here s part)) (b ∷ f.front) ≡ true =
-        same_takes (stage_behind stage (line_here s part)) b f.front (f.front ++ f.rest) (first_word b f.front f.rest f.ends)
-        ∙ ap (λ t. takes (stage_behind stage (line_here s part)) (b ∷ t)) (sym f.bytes_are) ∙ goes in
+        let here : takes (stage_after stage (line_here s part)) (b ∷ f.front) ≡ true =
+        same_takes (stage_after stage (line_here s part)) b f.front (f.front ++ f.rest) (first_word b f.front f.rest f.ends)
+        ∙ ap (λ t. takes (stage_after stage (line_here s part)) (b ∷ t)) (sym f.bytes_are) ∙ goes in
         record {
           front = b ∷ f.front;
           rest = f.rest;
@@ -105,8 +105,8 @@ kept : (bytes : List ℕ) (s : Scan) (stage : Stage) (before part : List ℕ) �
 kept [] s stage before part = refl
 kept (b ∷ bs) s stage before part = elim (cases_Bool (is_ended s.inside)) [
   | inr inside ↦ ap concat (chunk_step s stage before part b bs inside) ∙ kept bs (next s b) stage before (part ++ b ∷ []) ∙ simp append_assoc
-  | inl ended ↦ elim (cases_Bool (takes (stage_behind stage (line_here s part)) (b ∷ bs))) [
-    | inl goes ↦ ap concat (chunk_goes s stage before part b bs ended goes) ∙ kept bs (next s b) (stage_behind stage (line_here s part)) (before ++ part) (b ∷ []) ∙ append_assoc (before ++ part) (b ∷ []) bs
+  | inl ended ↦ elim (cases_Bool (takes (stage_after stage (line_here s part)) (b ∷ bs))) [
+    | inl goes ↦ ap concat (chunk_goes s stage before part b bs ended goes) ∙ kept bs (next s b) (stage_after stage (line_here s part)) (before ++ part) (b ∷ []) ∙ append_assoc (before ++ part) (b ∷ []) bs
     | inr stops ↦ ap concat (chunk_cut s stage before part b bs ended stops) ∙ ap (λ t. (before ++ part) ++ t) (kept bs (next s b) Notes [] (b ∷ []))
   ]
 ]

@@ -11,18 +11,18 @@ use Rattle.bz_token.specs.declared.cutter.Cutter.{Cutter}
 use Rattle.bz_token.specs.declared.cutter.Cut.{Cut}
 use Rattle.bz_token.specs.declared.cutter.Cut.TheVariants.{More, Whole, Block}
 use Rattle.bz_token.specs.Blocks.{is_word_byte, word_at, goes_on}
-use Rattle.bz_token.specs.Chunks.{stage_behind, takes, chunks}
+use Rattle.bz_token.specs.Chunks.{stage_after, takes, chunks}
 use Rattle.bz_token.specs.Cuts.{is_physical_line, ends_in_newline, first_line, EndsBefore, IsLonger, IsChunk, IsPart, IsBlock, IsCut, IsLast, IsNext, left, left_next}
-use Rattle.bz_token.specs.CutSteps.{is_ended, line_here, next, run, moved, stage_now, fresh, between, cut_at, cutter_at}
+use Rattle.bz_token.specs.private.CutSteps.{is_ended, line_here, next, run, moved, stage_now, fresh, between, cut_at, cutter_at}
 use Rattle.bz_token.specs.declared.cutter.Next.{Next}
 use Rattle.bz_token.specs.declared.cutter.Next.TheVariants.{Goes, Ends, Short}
-use Rattle.bz_token.specs.Decided.{DecidesAhead}
-use Rattle.bz_token.specs.CutterState.{Takes, IsBehind, IsAtBlock, AwaitsNext}
+use Rattle.bz_token.specs.private.Decided.{DecidesAhead}
+use Rattle.bz_token.specs.CutterState.{Takes, IsAfter, IsAtBlock, AwaitsNext}
 use Rattle.bz_token.proofs.CutMachine.{next_inside}
 use Rattle.bz_token.proofs.CutLaws.{chunk_step, same_takes}
-use Rattle.bz_token.proofs.CutBehind.{begins, whole, follows_line, last_line, open_behind, stage_is, ends_here, notes_behind, block_behind, fresh_behind}
+use Rattle.bz_token.proofs.CutAfter.{begins, whole, follows_line, last_line, open_after_token, stage_is, ends_here, notes_after, block_after, fresh_after}
 
--- the first line of a text and what is behind it
+-- the first line of a text and what is after it
 abbrev after_line : List ℕ → List ℕ
 after_line [] = []
 after_line (b ∷ bs) = elim (b == 10) [ true ↦ bs | false ↦ after_line bs ]
@@ -66,7 +66,7 @@ takes_first stage (b ∷ bs) = elim (cases_Bool (b == 10)) [
   | inr differs ↦ ap (takes stage) (first_other b bs differs) ∙ same_takes stage b (first_line bs) bs (ap word_at (sym (first_other b bs differs)) ∙ line_word (b ∷ bs))
 ]
 
-longer_by : (c : Cutter) (seen : List ℕ) (x : ℕ) (xs after : List ℕ) → IsBehind c seen → is_physical_line (x ∷ xs) ≡ true → Takes c ((x ∷ xs) ++ after) → (more : List ℕ) × (cs : List (List ℕ)) × (chunks (seen ++ ((x ∷ xs) ++ after)) ≡ (seen ++ ((x ∷ xs) ++ more)) ∷ cs)
+longer_by : (c : Cutter) (seen : List ℕ) (x : ℕ) (xs after : List ℕ) → IsAfter c seen → is_physical_line (x ∷ xs) ≡ true → Takes c ((x ∷ xs) ++ after) → (more : List ℕ) × (cs : List (List ℕ)) × (chunks (seen ++ ((x ∷ xs) ++ after)) ≡ (seen ++ ((x ∷ xs) ++ more)) ∷ cs)
 longer_by c seen x xs after b h t =
     let r = begins after (run c.scan (x ∷ xs)) c.stage b.before (b.part ++ x ∷ xs) in (
       r.0,
@@ -75,7 +75,7 @@ longer_by c seen x xs after b h t =
           ∙ ap (λ s. (s ++ r.0) ∷ r.1) (whole c seen (x ∷ xs) b) ∙ ap (λ s. s ∷ r.1) (append_assoc seen (x ∷ xs) r.0),
     )
 
-longer_from : (c : Cutter) (seen rest line after : List ℕ) → IsBehind c seen → 0 < length rest → line ++ after ≡ rest → line ≡ first_line rest → is_physical_line line ≡ true → 0 < length line → Takes c rest → IsLonger seen rest
+longer_from : (c : Cutter) (seen rest line after : List ℕ) → IsAfter c seen → 0 < length rest → line ++ after ≡ rest → line ≡ first_line rest → is_physical_line line ≡ true → 0 < length line → Takes c rest → IsLonger seen rest
 longer_from c seen rest [] after b some split first h long t = absurd (omega (arith, long))
 longer_from c seen rest (x ∷ xs) after b some split first h long t =
     let r = longer_by c seen x xs after b h (subst (Takes c) (sym split) t) in
@@ -85,7 +85,7 @@ line_some : (rest : List ℕ) → 0 < length rest → 0 < length (first_line res
 line_some [] h = h
 line_some (b ∷ bs) h = omega arith
 
-pub is_longer : (c : Cutter) (seen rest : List ℕ) → IsBehind c seen → 0 < length rest → Takes c rest → IsLonger seen rest
+pub is_longer : (c : Cutter) (seen rest : List ℕ) → IsAfter c seen → 0 < length rest → Takes c rest → IsLonger seen rest
 is_longer c seen rest b some t = longer_from c seen rest (first_line rest) (after_line rest) b some (line_split rest) refl (line_physical rest) (line_some rest some) t
 
 -- the three answers exclude one another
@@ -138,28 +138,28 @@ newline_ends : (x : ℕ) (xs : List ℕ) (s : Scan) → is_ended (run s (x ∷ x
 newline_ends x [] s e = elim (cases_Bool (x == 10)) [ inl is ↦ is | inr differs ↦ absurd (both_ways _ (next_inside s.inside s.depth s.kind x differs) e) ]
 newline_ends x (y ∷ ys) s e = newline_ends y ys (next s x) e
 
-empty_open : (c : Cutter) (seen : List ℕ) → IsBehind c seen → Takes c [] → is_ended c.scan.inside ≡ false
+empty_open : (c : Cutter) (seen : List ℕ) → IsAfter c seen → Takes c [] → is_ended c.scan.inside ≡ false
 empty_open c seen b t = elim (cases_Bool (is_ended c.scan.inside)) [
   | inl ended ↦ absurd (omega (arith, (b.waits ended).1 [] (t ended)))
   | inr open_ ↦ open_
 ]
 
 -- the line has not ended
-pub open_cut : (c : Cutter) (line : List ℕ) → is_physical_line line ≡ true → Takes c line → is_ended (run c.scan line).inside ≡ false → ends_in_newline line ≡ true → (seen : List ℕ) → IsBehind c seen → IsBehind (moved c line) (seen ++ line)
+pub open_cut : (c : Cutter) (line : List ℕ) → is_physical_line line ≡ true → Takes c line → is_ended (run c.scan line).inside ≡ false → ends_in_newline line ≡ true → (seen : List ℕ) → IsAfter c seen → IsAfter (moved c line) (seen ++ line)
 open_cut c [] h t inside n seen b = absurd (false≢true n)
-open_cut c (x ∷ xs) h t inside n seen b = open_behind c seen x xs b n h t inside
+open_cut c (x ∷ xs) h t inside n seen b = open_after_token c seen x xs b n h t inside
 
-pub part_of : (c : Cutter) (seen : List ℕ) → IsBehind c seen → ((text : List ℕ) → Takes c text) → IsPart seen
+pub part_of : (c : Cutter) (seen : List ℕ) → IsAfter c seen → ((text : List ℕ) → Takes c text) → IsPart seen
 part_of c seen b free = record { last = b.last; longer = λ rest some. is_longer c seen rest b some (free rest) }
 
-pub open_part : (c : Cutter) (line : List ℕ) → is_physical_line line ≡ true → Takes c line → is_ended (run c.scan line).inside ≡ false → ends_in_newline line ≡ true → (seen : List ℕ) → IsBehind c seen → IsPart (seen ++ line)
+pub open_part : (c : Cutter) (line : List ℕ) → is_physical_line line ≡ true → Takes c line → is_ended (run c.scan line).inside ≡ false → ends_in_newline line ≡ true → (seen : List ℕ) → IsAfter c seen → IsPart (seen ++ line)
 open_part c line h t inside n seen b = part_of (moved c line) (seen ++ line) (open_cut c line h t inside n seen b) (λ text e. absurd (both_ways _ inside e))
 
 word_colon : (text : List ℕ) → word_at (text ++ 58 ∷ []) ≡ word_at text
 word_colon [] = refl
 word_colon (b ∷ bs) = take_while-cons is_word_byte b (bs ++ 58 ∷ []) ∙ ap (λ t. cond (is_word_byte b) (b ∷ t) []) (word_colon bs) ∙ sym (take_while-cons is_word_byte b bs)
 
-pub open_answers : (c : Cutter) (line : List ℕ) → is_physical_line line ≡ true → Takes c line → is_ended (run c.scan line).inside ≡ false → (seen : List ℕ) → IsBehind c seen → IsLonger (seen ++ line) (58 ∷ [])
+pub open_answers : (c : Cutter) (line : List ℕ) → is_physical_line line ≡ true → Takes c line → is_ended (run c.scan line).inside ≡ false → (seen : List ℕ) → IsAfter c seen → IsLonger (seen ++ line) (58 ∷ [])
 open_answers c [] h t inside seen b = rw append-nil (is_longer c seen (58 ∷ []) b (omega arith) (λ e. absurd (both_ways _ inside e)))
 open_answers c (x ∷ xs) h t inside seen b =
     let goes : Takes c ((x ∷ xs) ++ 58 ∷ []) = λ e. same_takes c.stage x (xs ++ 58 ∷ []) xs (word_colon (x ∷ xs)) ∙ t e in
@@ -173,12 +173,12 @@ open_answers c (x ∷ xs) h t inside seen b =
           ∙ ap (λ s. s ∷ []) (sym (append_assoc b.before (b.part ++ x ∷ xs) (58 ∷ [])) ∙ ap (λ s. s ++ 58 ∷ []) (whole c seen (x ∷ xs) b));
     }
 
-pub open_last : (c : Cutter) (line : List ℕ) → is_physical_line line ≡ true → Takes c line → (seen : List ℕ) → IsBehind c seen → IsLast More (seen ++ line)
+pub open_last : (c : Cutter) (line : List ℕ) → is_physical_line line ≡ true → Takes c line → (seen : List ℕ) → IsAfter c seen → IsLast More (seen ++ line)
 open_last c [] h t seen b = rw append-nil (refl, b.last)
 open_last c (x ∷ xs) h t seen b = (refl, λ some. last_line c seen x xs b h t)
 
 -- the line has ended
-pub ended_newline : (c : Cutter) (line : List ℕ) → Takes c line → is_ended (run c.scan line).inside ≡ true → (seen : List ℕ) → IsBehind c seen → ends_in_newline line ≡ true
+pub ended_newline : (c : Cutter) (line : List ℕ) → Takes c line → is_ended (run c.scan line).inside ≡ true → (seen : List ℕ) → IsAfter c seen → ends_in_newline line ≡ true
 ended_newline c [] t ended seen b = absurd (both_ways _ (empty_open c seen b t) ended)
 ended_newline c (x ∷ xs) t ended seen b = newline_ends x xs c.scan ended
 
@@ -186,22 +186,22 @@ some_goes : (word : Opener) (rest : List ℕ) → goes_on word rest ≡ true →
 some_goes word [] h = absurd (false≢true h)
 some_goes word (y ∷ rest) h = omega arith
 
-block_of : (word : Opener) (seen : List ℕ) → IsBehind (between word) seen → IsBlock seen
+block_of : (word : Opener) (seen : List ℕ) → IsAfter (between word) seen → IsBlock seen
 block_of word seen b = record { word = word; ends = b.ends refl; goes = λ rest g. is_longer (between word) seen rest b (some_goes word rest g) (λ e. g) }
 
 abbrev pub Ended : Stage → List ℕ → Type 0
-Ended stage bytes = IsCut (cut_at stage) bytes × IsBehind (cutter_at stage) (left (cut_at stage) bytes)
+Ended stage bytes = IsCut (cut_at stage) bytes × IsAfter (cutter_at stage) (left (cut_at stage) bytes)
 
-ended_at : (c : Cutter) (seen : List ℕ) (x : ℕ) (xs : List ℕ) (stage : Stage) → (b : IsBehind c seen) → ends_in_newline (x ∷ xs) ≡ true → is_physical_line (x ∷ xs) ≡ true → Takes c (x ∷ xs) → is_ended (run c.scan (x ∷ xs)).inside ≡ true → stage_behind c.stage (line_here (run c.scan (x ∷ xs)) (b.part ++ x ∷ xs)) ≡ stage → Ended stage (seen ++ x ∷ xs)
+ended_at : (c : Cutter) (seen : List ℕ) (x : ℕ) (xs : List ℕ) (stage : Stage) → (b : IsAfter c seen) → ends_in_newline (x ∷ xs) ≡ true → is_physical_line (x ∷ xs) ≡ true → Takes c (x ∷ xs) → is_ended (run c.scan (x ∷ xs)).inside ≡ true → stage_after c.stage (line_here (run c.scan (x ∷ xs)) (b.part ++ x ∷ xs)) ≡ stage → Ended stage (seen ++ x ∷ xs)
 ended_at c seen x xs Notes b n h t ended is =
-    let now = notes_behind c seen x xs b n h t ended is in
+    let now = notes_after c seen x xs b n h t ended is in
     (part_of fresh (seen ++ x ∷ xs) now (λ text e. absurd (false≢true e)), now)
 ended_at c seen x xs (InBlock word) b n h t ended is =
-    let now = block_behind c seen x xs word b n h t ended is in
+    let now = block_after c seen x xs word b n h t ended is in
     (block_of word (seen ++ x ∷ xs) now, now)
-ended_at c seen x xs Done b n h t ended is = (λ rest. ends_here c seen x xs Done b n h t ended is rest refl, fresh_behind)
+ended_at c seen x xs Done b n h t ended is = (λ rest. ends_here c seen x xs Done b n h t ended is rest refl, fresh_after)
 
-pub ended_line : (c : Cutter) (line : List ℕ) → is_physical_line line ≡ true → Takes c line → is_ended (run c.scan line).inside ≡ true → (seen : List ℕ) → IsBehind c seen → Ended (stage_now (moved c line)) (seen ++ line)
+pub ended_line : (c : Cutter) (line : List ℕ) → is_physical_line line ≡ true → Takes c line → is_ended (run c.scan line).inside ≡ true → (seen : List ℕ) → IsAfter c seen → Ended (stage_now (moved c line)) (seen ++ line)
 ended_line c [] h t ended seen b = absurd (both_ways _ (empty_open c seen b t) ended)
 ended_line c (x ∷ xs) h t ended seen b =
     let n = newline_ends x xs c.scan ended in
@@ -212,11 +212,11 @@ answers_of Whole bytes a = a
 answers_of More bytes a = a.longer (58 ∷ []) (omega arith)
 answers_of Block bytes a = a
 
-pub room : (c : Cutter) (seen : List ℕ) → IsBehind c seen → c.scan.depth ≤ length seen
+pub room : (c : Cutter) (seen : List ℕ) → IsAfter c seen → c.scan.depth ≤ length seen
 room c seen b = omega (arith, b.depth, ap length b.seen_is, length-append b.before b.part)
 
 -- what is ahead of a block
-pub next_is : (c : Cutter) (word : Opener) (next : Next) (at_end : Bool) (ahead : List ℕ) → c.stage ≡ InBlock word → is_ended c.scan.inside ≡ true → DecidesAhead (goes_on word) next at_end ahead → (seen : List ℕ) → IsBehind c seen → IsNext next at_end seen ahead
+pub next_is : (c : Cutter) (word : Opener) (next : Next) (at_end : Bool) (ahead : List ℕ) → c.stage ≡ InBlock word → is_ended c.scan.inside ≡ true → DecidesAhead (goes_on word) next at_end ahead → (seen : List ℕ) → IsAfter c seen → IsNext next at_end seen ahead
 next_is c word Goes at_end ahead is ended d seen b = λ rest last. is_longer c seen (ahead ++ rest) b (some_goes word (ahead ++ rest) (d rest last)) (λ e. ap (λ s. takes s (ahead ++ rest)) is ∙ d rest last)
 next_is c word Ends at_end ahead is ended d seen b = λ rest last. b.ends ended (ahead ++ rest) (ap (λ s. takes s (ahead ++ rest)) is ∙ d rest last)
 next_is c word Short at_end ahead is ended d seen b = (
@@ -231,10 +231,10 @@ awaits_line c word Goes at_end ahead is here d other = λ rest last e. takes_fir
 awaits_line c word Ends at_end ahead is here d other = absurd (other refl)
 awaits_line c word Short at_end ahead is here d other = here
 
-pub behind_next : (c : Cutter) (next : Next) → (next ≡ Ends → ⊥) → (seen : List ℕ) → IsBehind c seen → IsBehind c (left_next next seen)
-behind_next c Goes other seen b = b
-behind_next c Ends other seen b = absurd (other refl)
-behind_next c Short other seen b = b
+pub after_next : (c : Cutter) (next : Next) → (next ≡ Ends → ⊥) → (seen : List ℕ) → IsAfter c seen → IsAfter c (left_next next seen)
+after_next c Goes other seen b = b
+after_next c Ends other seen b = absurd (other refl)
+after_next c Short other seen b = b
 
 pub nothing_yet : IsPart []
-nothing_yet = part_of fresh [] fresh_behind (λ text e. absurd (false≢true e))
+nothing_yet = part_of fresh [] fresh_after (λ text e. absurd (false≢true e))

@@ -6,7 +6,7 @@ use Rattle.bz_token.specs.declared.cutter.scan.LineKind.TheVariants.{Blank, Stat
 use Rattle.bz_token.specs.declared.cutter.scan.Inside.TheVariants.{Plain, Backslash, BackslashReturn}
 use Rattle.bz_token.specs.Blocks.{is_white, continues, head_from, word_at, opener_of}
 use Rattle.bz_token.specs.Cuts.{is_physical_line, ends_in_newline}
-use Rattle.bz_token.specs.CutSteps.{is_ended, is_blank_kind, at, outside, next, start, run}
+use Rattle.bz_token.specs.private.CutSteps.{is_ended, is_blank_kind, at, outside, next, start, run}
 use Rattle.bz_token.proofs.CutMachine.{line_quiet, kept_kind, run_kind}
 use Rattle.bz_token.proofs.CutSeen.{by_byte}
 use Rattle.bz_token.proofs.CutLaws.{word_stop}
@@ -22,7 +22,7 @@ word_of_line line more h =
     let r = line_end line h in
     ap word_at (ap (λ t. t ++ more) r.1 ∙ append_assoc r.0 (10 ∷ []) more) ∙ word_stop r.0 more ∙ sym (ap word_at r.1)
 
--- behind a physical line from the beginning of a logical line: the line has ended blank, or nothing but gaps was read,
+-- after a physical line from the beginning of a logical line: the line has ended blank, or nothing but gaps was read,
 -- or the head is known
 abbrev pub IsEndedBlank : List ℕ → Type 0
 IsEndedBlank line = (is_ended (run start line).inside ≡ true) × (is_blank_kind (run start line).kind ≡ true)

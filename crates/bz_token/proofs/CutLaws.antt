@@ -11,8 +11,8 @@ use Rattle.bz_token.specs.declared.cutter.scan.Scan.{Scan}
 use Rattle.bz_token.specs.Groups.{grouped, grouped_from}
 use Rattle.bz_token.specs.LogicalLines.{Line}
 use Rattle.bz_token.specs.Blocks.{is_white, is_word_byte, word_at, has_branch}
-use Rattle.bz_token.specs.Chunks.{stage_behind, stage_from, takes, chunk_goes_on, text_of, chunks}
-use Rattle.bz_token.specs.CutSteps.{is_ended, is_broken, line_at, line_here, seen_chunks, outside, next, start}
+use Rattle.bz_token.specs.Chunks.{stage_after, stage_from, takes, chunk_goes_on, text_of, chunks}
+use Rattle.bz_token.specs.private.CutSteps.{is_ended, is_broken, line_at, line_here, seen_chunks, outside, next, start}
 use Rattle.bz_token.proofs.CutSeen.{seen_lines, final_kind}
 use Rattle.bz_token.proofs.CutStrings.{grouped_joins, grouped_apart, seen_step}
 use Rattle.bz_token.proofs.CutMachine.{next_inside}
@@ -21,10 +21,10 @@ use Rattle.bz_token.proofs.CutLines.{lines_are}
 pub chunk_step : (s : Scan) (stage : Stage) (before part : List ℕ) (b : ℕ) (bs : List ℕ) → is_ended s.inside ≡ false → seen_chunks s stage before part (b ∷ bs) ≡ seen_chunks (next s b) stage before (part ++ b ∷ []) bs
 chunk_step s stage before part b bs h = rw (h, seen_chunks) refl
 
-pub chunk_goes : (s : Scan) (stage : Stage) (before part : List ℕ) (b : ℕ) (bs : List ℕ) → is_ended s.inside ≡ true → takes (stage_behind stage (line_here s part)) (b ∷ bs) ≡ true → seen_chunks s stage before part (b ∷ bs) ≡ seen_chunks (next s b) (stage_behind stage (line_here s part)) (before ++ part) (b ∷ []) bs
+pub chunk_goes : (s : Scan) (stage : Stage) (before part : List ℕ) (b : ℕ) (bs : List ℕ) → is_ended s.inside ≡ true → takes (stage_after stage (line_here s part)) (b ∷ bs) ≡ true → seen_chunks s stage before part (b ∷ bs) ≡ seen_chunks (next s b) (stage_after stage (line_here s part)) (before ++ part) (b ∷ []) bs
 chunk_goes s stage before part b bs h g = rw (h, seen_chunks) (rw g refl)
 
-pub chunk_cut : (s : Scan) (stage : Stage) (before part : List ℕ) (b : ℕ) (bs : List ℕ) → is_ended s.inside ≡ true → takes (stage_behind stage (line_here s part)) (b ∷ bs) ≡ false → seen_chunks s stage before part (b ∷ bs) ≡ (before ++ part) ∷ seen_chunks (next s b) Notes [] (b ∷ []) bs
+pub chunk_cut : (s : Scan) (stage : Stage) (before part : List ℕ) (b : ℕ) (bs : List ℕ) → is_ended s.inside ≡ true → takes (stage_after stage (line_here s part)) (b ∷ bs) ≡ false → seen_chunks s stage before part (b ∷ bs) ≡ (before ++ part) ∷ seen_chunks (next s b) Notes [] (b ∷ []) bs
 chunk_cut s stage before part b bs h g = rw (h, seen_chunks) (rw g refl)
 
 line_cut : (s : Scan) (seen : List ℕ) (b : ℕ) (bs : List ℕ) → is_ended s.inside ≡ true → seen_lines s seen (b ∷ bs) ≡ line_here s seen ∷ seen_lines (next s b) (b ∷ []) bs
@@ -42,10 +42,10 @@ ends_right s seen b ended = elim (cases_Bool (b == 10)) [
 
 record First (lines : List Line) (seen bytes : List ℕ) : Type 0 where
   line : Line
-  lines_behind : List Line
+  lines_after : List Line
   more : List ℕ
   rest : List ℕ
-  lines_are : lines ≡ line ∷ lines_behind
+  lines_are : lines ≡ line ∷ lines_after
   text_is : line.text ≡ seen ++ more
   bytes_are : bytes ≡ more ++ rest
   ends : (rest ≡ []) ⊎ ((xs : List ℕ) × (seen ++ more ≡ xs ++ 10 ∷ []))
@@ -53,7 +53,7 @@ record First (lines : List Line) (seen bytes : List ℕ) : Type 0 where
 first_of_lines : (bytes : List ℕ) (s : Scan) (seen : List ℕ) → EndsRight s seen → First (seen_lines s seen bytes) seen bytes
 first_of_lines [] s seen right = record {
   line = line_at seen (final_kind s.inside s.kind) (is_broken s.inside);
-  lines_behind = [];
+  lines_after = [];
   more = [];
   rest = [];
   lines_are = refl;
@@ -66,7 +66,7 @@ first_of_lines (b ∷ bs) s seen right = elim (cases_Bool (is_ended s.inside)) [
       let r = right ended in
       record {
         line = line_here s seen;
-        lines_behind = seen_lines (next s b) (b ∷ []) bs;
+        lines_after = seen_lines (next s b) (b ∷ []) bs;
         more = [];
         rest = b ∷ bs;
         lines_are = line_cut s seen b bs ended;
@@ -78,7 +78,7 @@ first_of_lines (b ∷ bs) s seen right = elim (cases_Bool (is_ended s.inside)) [
       let f = first_of_lines bs (next s b) (seen ++ b ∷ []) (ends_right s seen b) in
       record {
         line = f.line;
-        lines_behind = f.lines_behind;
+        lines_after = f.lines_after;
         more = b ∷ f.more;
         rest = f.rest;
         lines_are = seen_step s seen b bs inside ∙ f.lines_are;
@@ -126,9 +126,9 @@ text_snoc : (done : List Line) (l : Line) → text_of (done ++ l ∷ []) ≡ tex
 text_snoc [] l = append-nil l.text
 text_snoc (m ∷ ls) l = ap (λ t. m.text ++ t) (text_snoc ls l) ∙ sym (append_assoc m.text (text_of ls) l.text)
 
-stage_snoc : (done : List Line) (stage : Stage) (l : Line) → stage_from stage (done ++ l ∷ []) ≡ stage_behind (stage_from stage done) l
+stage_snoc : (done : List Line) (stage : Stage) (l : Line) → stage_from stage (done ++ l ∷ []) ≡ stage_after (stage_from stage done) l
 stage_snoc [] stage l = refl
-stage_snoc (m ∷ ls) stage l = stage_snoc ls (stage_behind stage m) l
+stage_snoc (m ∷ ls) stage l = stage_snoc ls (stage_after stage m) l
 
 pub chunks_from : (bytes : List ℕ) (s : Scan) (done : List Line) (part : List ℕ) → EndsRight s part → map text_of (grouped_with done (seen_lines s part bytes)) ≡ seen_chunks s (stage_from Notes done) (text_of done) part bytes
 chunks_from [] s done part right = ap (λ t. t ∷ []) (text_snoc done (line_at part (final_kind s.inside s.kind) (is_broken s.inside)))
@@ -138,18 +138,18 @@ chunks_from (b ∷ bs) s done part right = elim (cases_Bool (is_ended s.inside))
   | inl ended ↦
       let line = line_here s part in
       let f = first_of_lines bs (next s b) (b ∷ []) (ends_right s [] b) in
-      let stage = stage_behind (stage_from Notes done) line in
+      let stage = stage_after (stage_from Notes done) line in
       let here : takes (stage_from Notes (done ++ line ∷ [])) f.line.text ≡ takes stage (b ∷ bs) =
       (λ i. takes (stage_snoc done Notes line i) (f.text_is i)) ∙ same_takes stage b f.more (f.more ++ f.rest) (first_word b f.more f.rest f.ends) ∙ ap (λ t. takes stage (b ∷ t)) (sym f.bytes_are) in
       elim (cases_Bool (takes stage (b ∷ bs))) [
         | inl goes ↦
             rw (line_cut s part b bs ended, chunk_goes s (stage_from Notes done) (text_of done) part b bs ended goes) (
-            ap (map text_of) (joined (done ++ line ∷ []) (seen_lines (next s b) (b ∷ []) bs) f.line f.lines_behind f.lines_are (here ∙ goes))
+            ap (map text_of) (joined (done ++ line ∷ []) (seen_lines (next s b) (b ∷ []) bs) f.line f.lines_after f.lines_are (here ∙ goes))
             ∙ chunks_from bs (next s b) (done ++ line ∷ []) (b ∷ []) (ends_right s [] b)
             ∙ (λ i. seen_chunks (next s b) (stage_snoc done Notes line i) (text_snoc done line i) (b ∷ []) bs))
         | inr stops ↦
             rw (line_cut s part b bs ended, chunk_cut s (stage_from Notes done) (text_of done) part b bs ended stops) (
-            ap (map text_of) (is_apart (done ++ line ∷ []) (seen_lines (next s b) (b ∷ []) bs) f.line f.lines_behind f.lines_are (here ∙ stops))
+            ap (map text_of) (is_apart (done ++ line ∷ []) (seen_lines (next s b) (b ∷ []) bs) f.line f.lines_after f.lines_are (here ∙ stops))
             ∙ (λ i. text_snoc done line i ∷ chunks_from bs (next s b) [] (b ∷ []) (ends_right s [] b) i))
       ]
 ]
@@ -167,5 +167,5 @@ chunks_are [] = refl
 chunks_are (b ∷ bs) =
     let f = first_of_lines bs (outside 0 Blank b) (b ∷ []) (ends_right start [] b) in
     ap (λ ls. map text_of (grouped chunk_goes_on ls)) (lines_are (b ∷ bs))
-    ∙ ap (map text_of) (grouped_first (seen_lines (outside 0 Blank b) (b ∷ []) bs) f.line f.lines_behind f.lines_are)
+    ∙ ap (map text_of) (grouped_first (seen_lines (outside 0 Blank b) (b ∷ []) bs) f.line f.lines_after f.lines_are)
     ∙ chunks_from bs (outside 0 Blank b) [] (b ∷ []) (ends_right start [] b)

@@ -12,9 +12,9 @@ use Rattle.bz_token.specs.Groups.{grouped, grouped_from}
 use Rattle.bz_token.specs.Munch.{IsLongest, AreMunched}
 use Rattle.bz_token.specs.Pieces.{is_byte, is_comment, is_broken_off, is_piece, pieces}
 use Rattle.bz_token.specs.LogicalLines.{Line, count, ends_line, breaks_off, line_goes_on, is_gap, kind_of, line_of, lines}
-use Rattle.bz_token.specs.CutSteps.{is_broken, line_at, at, with_note, outside}
+use Rattle.bz_token.specs.private.CutSteps.{is_broken, line_at, at, with_note, outside}
 use Rattle.bz_token.proofs.CutMunch.{munched_are}
-use Rattle.bz_token.proofs.CutSeen.{seen_lines, final_kind, kind_with, behind}
+use Rattle.bz_token.proofs.CutSeen.{seen_lines, final_kind, kind_with, after_piece}
 use Rattle.bz_token.proofs.CutStrings.{grouped_joins, grouped_apart}
 use Rattle.bz_token.proofs.CutPasses.{passes}
 
@@ -64,14 +64,14 @@ kind_snoc : (line : List (List ℕ)) (p : List ℕ) → kind_of (line ++ p ∷ [
 kind_snoc line p =
     rw (list_all-append is_gap line (p ∷ []), list_all-append noted line (p ∷ [])) (kinds (list_all is_gap line) (list_all noted line) (is_gap p) (is_comment p) (gaps_noted line))
 
--- where the steps are behind a part of a line
+-- where the steps are after a part of a line
 abbrev pub inside_of : Bool → Bool → Inside
 inside_of broken ended = cond broken BrokenOff (cond ended Ended Plain)
 
 abbrev pub at_line : List (List ℕ) → Scan
 at_line line = at (inside_of (breaks_off line) (ends_line 0 line)) (depth_after 0 line) (kind_of line)
 
-at_snoc : (line : List (List ℕ)) (p : List ℕ) → behind (depth_after 0 line) (kind_of line) p ≡ at_line (line ++ p ∷ [])
+at_snoc : (line : List (List ℕ)) (p : List ℕ) → after_piece (depth_after 0 line) (kind_of line) p ≡ at_line (line ++ p ∷ [])
 at_snoc line p = λ i. at (inside_of (sym (breaks_snoc line p) i) (sym (ends_snoc 0 line p) i)) (sym (depth_snoc 0 line p) i) (sym (kind_snoc line p) i)
 
 line_final : (broken ended : Bool) (text : List ℕ) (k : LineKind) → line_at text (final_kind (inside_of broken ended) k) (is_broken (inside_of broken ended)) ≡ line_at text k broken

@@ -10,7 +10,7 @@ use Rattle.bz_token.specs.declared.cutter.scan.Inside.{Inside}
 use Rattle.bz_token.specs.declared.cutter.scan.Inside.TheVariants.{Plain, Ended, BrokenOff, Backslash, BackslashReturn, Comment, Opened, OpenedTwice, Short, ShortEscape, ShortEscapeReturn, Long, LongQuote, LongTwoQuotes, LongEscape}
 use Rattle.bz_token.specs.declared.cutter.scan.Scan.{Scan}
 use Rattle.bz_token.specs.Cuts.{is_physical_line}
-use Rattle.bz_token.specs.CutSteps.{is_ended, is_blank_kind, byte_of, with_note, at, outside, in_short, in_long, next_in, next, run}
+use Rattle.bz_token.specs.private.CutSteps.{is_ended, is_blank_kind, byte_of, with_note, at, outside, in_short, in_long, next_in, next, run}
 
 pub ended_restarts : (i : Inside) (d : ℕ) (k : LineKind) (b : ℕ) → is_ended i ≡ true → next_in i d k b ≡ outside 0 Blank b
 ended_restarts Ended d k b h = refl
@@ -40,7 +40,7 @@ short_step P d k b q here = either P _ _ _ (here Plain) (either P _ _ _ (here Br
 long_step : (P : Scan → Type 0) (d : ℕ) (k : LineKind) (b : ℕ) (q : Quote) (quoted : Inside) → ((j : Inside) → P (at j d k)) → P (in_long quoted q d k b)
 long_step P d k b q quoted here = either P _ _ _ (here quoted) (either P _ _ _ (here (LongEscape q)) (here (Long q)))
 
--- what holds wherever a string or a comment may lead, and outside them, holds behind a step
+-- what holds wherever a string or a comment may lead, and outside them, holds after a step
 after_step : (P : Scan → Type 0) (d : ℕ) (k : LineKind) (b : ℕ) (i : Inside) → ((j : Inside) → P (at j d k)) → P (outside d k b) → P (outside d Statement b) → (is_ended i ≡ true → P (outside 0 Blank b)) → P (next_in i d k b)
 after_step P d k b Plain here out statement new = out
 after_step P d k b Ended here out statement new = new refl

@@ -12,8 +12,8 @@ use Rattle.bz_token.specs.declared.cutter.scan.Inside.TheVariants.{Plain, Backsl
 use Rattle.bz_token.specs.Groups.{grouped_from}
 use Rattle.bz_token.specs.Munch.{IsLongest}
 use Rattle.bz_token.specs.Pieces.{is_byte, escape_takes, units, but_last, is_quote, stops_short, three_in_a_row, is_one, is_comment, is_continued, is_short_string, is_long_string, is_broken_off, is_piece}
-use Rattle.bz_token.specs.CutSteps.{byte_of, at, with_note, in_short, next}
-use Rattle.bz_token.proofs.CutSeen.{seen_lines, by_byte, plain_byte, comment_run, behind}
+use Rattle.bz_token.specs.private.CutSteps.{byte_of, at, with_note, in_short, next}
+use Rattle.bz_token.proofs.CutSeen.{seen_lines, by_byte, plain_byte, comment_run, after_piece}
 use Rattle.bz_token.proofs.CutStrings.{grouped_joins, grouped_apart, but_last_cons, short_run, short_from, stop_last, long_run, long_from, three_step, three_now, third, row, short_end}
 
 comment_piece : (t : List ℕ) → is_comment t ≡ true → is_piece t ≡ true
@@ -37,7 +37,7 @@ comment_end bs (x ∷ xs) d k seen none l = by_byte (λ y. IsLongest is_piece (3
     let e : list_any (λ c. c == 10) (bs ++ x ∷ []) ≡ false = rw (list_any-append, none, n10) refl in
     absurd (follow (35 ∷ bs) x xs m (comment_piece (35 ∷ (bs ++ x ∷ [])) (rw e refl)))) l
 
-comment_passes : (bs after : List ℕ) (d : ℕ) (k : LineKind) (seen : List ℕ) → list_any (λ c. c == 10) bs ≡ false → IsLongest is_piece (35 ∷ bs) after → seen_lines (at Plain d k) seen ((35 ∷ bs) ++ after) ≡ seen_lines (behind d k (35 ∷ bs)) (seen ++ (35 ∷ bs)) after
+comment_passes : (bs after : List ℕ) (d : ℕ) (k : LineKind) (seen : List ℕ) → list_any (λ c. c == 10) bs ≡ false → IsLongest is_piece (35 ∷ bs) after → seen_lines (at Plain d k) seen ((35 ∷ bs) ++ after) ≡ seen_lines (after_piece d k (35 ∷ bs)) (seen ++ (35 ∷ bs)) after
 comment_passes bs after d k seen none l =
     comment_run bs after d (with_note k) (seen ++ 35 ∷ []) none
     ∙ comment_end bs after d (with_note k) ((seen ++ 35 ∷ []) ++ bs) none l
@@ -102,9 +102,9 @@ twice_end Single (x ∷ xs) d seen l = by_byte (λ y. IsLongest is_piece (39 ∷
 twice_end Double (x ∷ xs) d seen l = by_byte (λ y. IsLongest is_piece (34 ∷ 34 ∷ []) (y ∷ xs) → seen_lines (at (OpenedTwice Double) d Statement) seen (y ∷ xs) ≡ seen_lines (at Plain d Statement) seen (y ∷ xs)) 34 x (λ m. absurd (follow (34 ∷ 34 ∷ []) 34 xs m refl)) (λ n m. rw n refl) l
 
 -- a string of one quote and more
-short_behind : (quote : Quote) (b : ℕ) (bs : List ℕ) (d : ℕ) (k : LineKind) → is_short_string (byte_of quote ∷ b ∷ bs) ≡ true → behind d k (byte_of quote ∷ b ∷ bs) ≡ short_end (list_any (is_byte 10) (grouped_from escape_takes (b ∷ []) bs)) d Statement
-short_behind Single b bs d k h = elim (cases_Bool (list_any (is_byte 10) (grouped_from escape_takes (b ∷ []) bs))) [ inl is ↦ simp (h, is) | inr differs ↦ simp (h, differs) ]
-short_behind Double b bs d k h = elim (cases_Bool (list_any (is_byte 10) (grouped_from escape_takes (b ∷ []) bs))) [ inl is ↦ simp (h, is) | inr differs ↦ simp (h, differs) ]
+short_after : (quote : Quote) (b : ℕ) (bs : List ℕ) (d : ℕ) (k : LineKind) → is_short_string (byte_of quote ∷ b ∷ bs) ≡ true → after_piece d k (byte_of quote ∷ b ∷ bs) ≡ short_end (list_any (is_byte 10) (grouped_from escape_takes (b ∷ []) bs)) d Statement
+short_after Single b bs d k h = elim (cases_Bool (list_any (is_byte 10) (grouped_from escape_takes (b ∷ []) bs))) [ inl is ↦ simp (h, is) | inr differs ↦ simp (h, differs) ]
+short_after Double b bs d k h = elim (cases_Bool (list_any (is_byte 10) (grouped_from escape_takes (b ∷ []) bs))) [ inl is ↦ simp (h, is) | inr differs ↦ simp (h, differs) ]
 
 short_early : (quote : Quote) (b : ℕ) (bs : List ℕ) → is_short_string (byte_of quote ∷ b ∷ bs) ≡ true → list_any (stops_short (byte_of quote)) (but_last (grouped_from escape_takes (b ∷ []) bs)) ≡ false
 short_early Single b bs h = not-true _ h
@@ -146,7 +146,7 @@ short_more quote b bs after d k seen h l = elim (cases_Bool (b == byte_of quote)
       let l2 = rw (last, e) at l in
       rw (last, e, append-nil, opened_closed quote d k, closed_end quote d) (twice_end quote after d seen l2)
 
-short_passes : (quote : Quote) (bs after : List ℕ) (d : ℕ) (k : LineKind) (seen : List ℕ) → is_short_string (byte_of quote ∷ bs) ≡ true → IsLongest is_piece (byte_of quote ∷ bs) after → seen_lines (at Plain d k) seen ((byte_of quote ∷ bs) ++ after) ≡ seen_lines (behind d k (byte_of quote ∷ bs)) (seen ++ (byte_of quote ∷ bs)) after
+short_passes : (quote : Quote) (bs after : List ℕ) (d : ℕ) (k : LineKind) (seen : List ℕ) → is_short_string (byte_of quote ∷ bs) ≡ true → IsLongest is_piece (byte_of quote ∷ bs) after → seen_lines (at Plain d k) seen ((byte_of quote ∷ bs) ++ after) ≡ seen_lines (after_piece d k (byte_of quote ∷ bs)) (seen ++ (byte_of quote ∷ bs)) after
 short_passes Single [] [] d k seen h l = refl
 short_passes Double [] [] d k seen h l = refl
 short_passes Single [] (x ∷ xs) d k seen h l = absurd (follow (39 ∷ []) x xs l refl)
@@ -154,13 +154,13 @@ short_passes Double [] (x ∷ xs) d k seen h l = absurd (follow (34 ∷ []) x xs
 short_passes quote (b ∷ bs) after d k seen h l =
     opened quote b bs after d k seen
     ∙ short_more quote b bs after d k ((seen ++ byte_of quote ∷ []) ++ b ∷ []) h l
-    ∙ rw (append_assoc, append_assoc, short_behind quote b bs d k h) refl
+    ∙ rw (append_assoc, append_assoc, short_after quote b bs d k h) refl
 
 -- a string of three quotes and more
-long_behind : (quote : Quote) (bs : List ℕ) (d : ℕ) (k : LineKind) → behind d k (byte_of quote ∷ byte_of quote ∷ byte_of quote ∷ bs) ≡ at Plain d Statement
-long_behind Single bs d k =
+long_after : (quote : Quote) (bs : List ℕ) (d : ℕ) (k : LineKind) → after_piece d k (byte_of quote ∷ byte_of quote ∷ byte_of quote ∷ bs) ≡ at Plain d Statement
+long_after Single bs d k =
     let broken : is_broken_off (39 ∷ 39 ∷ 39 ∷ bs) ≡ false = simp (but_last_cons escape_takes (39 ∷ []) (39 ∷ []) bs) in simp broken
-long_behind Double bs d k =
+long_after Double bs d k =
     let broken : is_broken_off (34 ∷ 34 ∷ 34 ∷ bs) ≡ false = simp (but_last_cons escape_takes (34 ∷ []) (34 ∷ []) bs) in simp broken
 
 long_early : (quote : Quote) (bs : List ℕ) → is_long_string (byte_of quote ∷ byte_of quote ∷ byte_of quote ∷ bs) ≡ true → three_in_a_row (byte_of quote) 0 (but_last (units bs)) ≡ false
@@ -194,16 +194,16 @@ long_inside quote (b ∷ bs) after d seen h l =
     ∙ rw append_assoc refl
 
 long_passes : (quote : Quote) (bs after : List ℕ) (d : ℕ) (k : LineKind) (seen : List ℕ) → is_long_string (byte_of quote ∷ byte_of quote ∷ byte_of quote ∷ bs) ≡ true → IsLongest is_piece (byte_of quote ∷ byte_of quote ∷ byte_of quote ∷ bs) after
-    → seen_lines (at Plain d k) seen ((byte_of quote ∷ byte_of quote ∷ byte_of quote ∷ bs) ++ after) ≡ seen_lines (behind d k (byte_of quote ∷ byte_of quote ∷ byte_of quote ∷ bs)) (seen ++ (byte_of quote ∷ byte_of quote ∷ byte_of quote ∷ bs)) after
+    → seen_lines (at Plain d k) seen ((byte_of quote ∷ byte_of quote ∷ byte_of quote ∷ bs) ++ after) ≡ seen_lines (after_piece d k (byte_of quote ∷ byte_of quote ∷ byte_of quote ∷ bs)) (seen ++ (byte_of quote ∷ byte_of quote ∷ byte_of quote ∷ bs)) after
 long_passes quote bs after d k seen h l =
     long_opened quote bs after d k seen
     ∙ long_inside quote bs after d (((seen ++ byte_of quote ∷ []) ++ byte_of quote ∷ []) ++ byte_of quote ∷ []) h l
-    ∙ rw (append_assoc, append_assoc, append_assoc, long_behind quote bs d k) refl
+    ∙ rw (append_assoc, append_assoc, append_assoc, long_after quote bs d k) refl
 
 -- one byte
-one_passes : (b : ℕ) (after : List ℕ) (d : ℕ) (k : LineKind) (seen : List ℕ) → IsLongest is_piece (b ∷ []) after → seen_lines (at Plain d k) seen (b ∷ after) ≡ seen_lines (behind d k (b ∷ [])) (seen ++ b ∷ []) after
+one_passes : (b : ℕ) (after : List ℕ) (d : ℕ) (k : LineKind) (seen : List ℕ) → IsLongest is_piece (b ∷ []) after → seen_lines (at Plain d k) seen (b ∷ after) ≡ seen_lines (after_piece d k (b ∷ [])) (seen ++ b ∷ []) after
 one_passes b after d k seen l =
-    let P : ℕ → Type 0 = λ x. IsLongest is_piece (x ∷ []) after → seen_lines (at Plain d k) seen (x ∷ after) ≡ seen_lines (behind d k (x ∷ [])) (seen ++ x ∷ []) after in
+    let P : ℕ → Type 0 = λ x. IsLongest is_piece (x ∷ []) after → seen_lines (at Plain d k) seen (x ∷ after) ≡ seen_lines (after_piece d k (x ∷ [])) (seen ++ x ∷ []) after in
     by_byte P 35 b (λ m. comment_passes [] after d k seen refl m) (λ n35.
     by_byte P 92 b (λ m. backslash_end after d k (seen ++ 92 ∷ []) m) (λ n92.
     by_byte P 34 b (λ m. short_passes Double [] after d k seen refl m) (λ n34.
@@ -217,7 +217,7 @@ quoted P q h double single = elim (or_cases (q == 34) (q == 39) h) [
 ]
 
 abbrev Passes : List ℕ → List ℕ → Type 0
-Passes p after = (d : ℕ) (k : LineKind) (seen : List ℕ) → IsLongest is_piece p after → seen_lines (at Plain d k) seen (p ++ after) ≡ seen_lines (behind d k p) (seen ++ p) after
+Passes p after = (d : ℕ) (k : LineKind) (seen : List ℕ) → IsLongest is_piece p after → seen_lines (at Plain d k) seen (p ++ after) ≡ seen_lines (after_piece d k p) (seen ++ p) after
 
 from_one : (p after : List ℕ) → is_one p ≡ true → Passes p after
 from_one [] after h d k seen l = cc
@@ -260,7 +260,7 @@ from_long (a ∷ b ∷ c ∷ bs) after h d k seen l =
     rw (f, g) (quoted P a ones.0
     (λ g e j s m. long_passes Double bs after e j s g m) (λ g e j s m. long_passes Single bs after e j s g m) h2 d k seen l2)
 
--- behind a piece the steps are where its kind says
+-- after a piece the steps are where its kind says
 pub passes : (p after : List ℕ) → Passes p after
 passes p after d k seen l = elim (or_cases _ _ l.whole) [
   | inl four ↦ elim (or_cases _ _ four) [

@@ -11,7 +11,7 @@ use Rattle.bz_token.specs.declared.cutter.scan.Quote.{Quote}
 use Rattle.bz_token.specs.declared.cutter.scan.Inside.{Inside}
 use Rattle.bz_token.specs.declared.cutter.scan.Inside.TheVariants.{Plain, Comment, Short}
 use Rattle.bz_token.specs.declared.cutter.scan.Scan.{Scan}
-use Rattle.bz_token.specs.CutSteps.{is_quiet, is_quiet_in_short, byte_of, at, outside, in_short, next, run}
+use Rattle.bz_token.specs.private.CutSteps.{is_quiet, is_quiet_in_short, byte_of, at, outside, in_short, next, run}
 use Rattle.bz_token.proofs.CutMachine.{run_append}
 
 -- a run of bytes of which each leaves the walk as it is

@@ -9,7 +9,7 @@ use Rattle.bz_token.specs.declared.cutter.scan.Inside.TheVariants.{Plain, Ended,
 use Rattle.bz_token.specs.declared.cutter.scan.Scan.{Scan}
 use Rattle.bz_token.specs.Pieces.{is_byte, is_comment, is_broken_off}
 use Rattle.bz_token.specs.LogicalLines.{Line, is_gap, count}
-use Rattle.bz_token.specs.CutSteps.{is_ended, is_broken, line_at, at, with_note, outside, next}
+use Rattle.bz_token.specs.private.CutSteps.{is_ended, is_broken, line_at, at, with_note, outside, next}
 
 -- a backslash that is still open continues no line at the end
 abbrev pub final_kind : Inside → LineKind → LineKind
@@ -24,12 +24,12 @@ seen_lines s seen (b ∷ bs) = elim (is_ended s.inside) [
   | false ↦ seen_lines (next s b) (seen ++ b ∷ []) bs
 ]
 
--- the state behind a piece
+-- the state after a piece
 abbrev pub kind_with : LineKind → List ℕ → LineKind
 kind_with k p = cond (is_gap p) k (cond (is_comment p) (with_note k) Statement)
 
-abbrev pub behind : ℕ → LineKind → List ℕ → Scan
-behind d k p = at (cond (is_broken_off p) BrokenOff (cond (is_byte 10 p && d == 0) Ended Plain)) (count d p) (kind_with k p)
+abbrev pub after_piece : ℕ → LineKind → List ℕ → Scan
+after_piece d k p = at (cond (is_broken_off p) BrokenOff (cond (is_byte 10 p && d == 0) Ended Plain)) (count d p) (kind_with k p)
 
 -- what holds at c and elsewhere
 pub by_byte : (P : ℕ → Type 0) (c b : ℕ) → P c → ((b == c) ≡ false → P b) → P b
@@ -38,12 +38,12 @@ by_byte P c b one other = elim (cases_Bool (b == c)) [
   | inr differs ↦ other differs
 ]
 
-newline : (d : ℕ) (k : LineKind) → outside d k 10 ≡ behind d k (10 ∷ [])
+newline : (d : ℕ) (k : LineKind) → outside d k 10 ≡ after_piece d k (10 ∷ [])
 newline d k = elim (cases_Bool (d == 0)) [ inl is ↦ rw is refl | inr differs ↦ rw differs refl ]
 
-pub plain_byte : (d : ℕ) (k : LineKind) (b : ℕ) → (b == 35) ≡ false → (b == 92) ≡ false → (b == 34) ≡ false → (b == 39) ≡ false → outside d k b ≡ behind d k (b ∷ [])
+pub plain_byte : (d : ℕ) (k : LineKind) (b : ℕ) → (b == 35) ≡ false → (b == 92) ≡ false → (b == 34) ≡ false → (b == 39) ≡ false → outside d k b ≡ after_piece d k (b ∷ [])
 plain_byte d k b n35 n92 n34 n39 =
-    let P : ℕ → Type 0 = λ x. outside d k x ≡ behind d k (x ∷ []) in
+    let P : ℕ → Type 0 = λ x. outside d k x ≡ after_piece d k (x ∷ []) in
     by_byte P 10 b (newline d k) (λ n10.
     by_byte P 32 b refl (λ n32.
     by_byte P 9 b refl (λ n9.

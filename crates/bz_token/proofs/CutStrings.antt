@@ -12,7 +12,7 @@ use Rattle.bz_token.specs.declared.cutter.scan.Inside.TheVariants.{Plain, Broken
 use Rattle.bz_token.specs.declared.cutter.scan.Scan.{Scan}
 use Rattle.bz_token.specs.Groups.{grouped_from}
 use Rattle.bz_token.specs.Pieces.{is_byte, escape_takes, but_last, stops_short, three_in_a_row}
-use Rattle.bz_token.specs.CutSteps.{is_ended, is_broken, byte_of, at, in_short, next}
+use Rattle.bz_token.specs.private.CutSteps.{is_ended, is_broken, byte_of, at, in_short, next}
 use Rattle.bz_token.proofs.CutSeen.{seen_lines, final_kind, by_byte}
 
 pub grouped_joins : {A : Type 0} (joins : List A → A → Bool) (g : List A) (x : A) (xs : List A) → joins g x ≡ true → grouped_from joins g (x ∷ xs) ≡ grouped_from joins (g ++ x ∷ []) xs
@@ -39,7 +39,7 @@ takes_cases u b h = elim (or_cases (is_byte 92 u) (bytes_eq u (92 ∷ 13 ∷ [])
       inr ((bytes_eq-Decides u (92 ∷ 13 ∷ [])).0 parts.0, eqb-true b 10 parts.1)
 ]
 
--- behind the units before the open one
+-- after the units before the open one
 abbrev pub short_state : Quote → List ℕ → Inside
 short_state quote u = cond (is_byte 92 u) (ShortEscape quote) (cond (bytes_eq u (92 ∷ 13 ∷ [])) (ShortEscapeReturn quote) (Short quote))
 
@@ -85,7 +85,7 @@ short_end broken d k = at (cond broken BrokenOff Plain) d k
 abbrev pub G : List ℕ → List ℕ → List (List ℕ)
 G u bs = grouped_from escape_takes u bs
 
--- a stop takes nothing along, so that nothing is behind it
+-- a stop takes nothing along, so that nothing is after it
 stop_takes : (quote : Quote) (b c : ℕ) → stops_short (byte_of quote) (b ∷ []) ≡ true → escape_takes (b ∷ []) c ≡ false
 stop_takes Single b c h = by_byte (λ x. escape_takes (x ∷ []) c ≡ false) 39 b refl (λ n. by_byte (λ x. escape_takes (x ∷ []) c ≡ false) 10 b refl (λ m. absurd (both_ways _ (simp (n, m)) h)))
 stop_takes Double b c h = by_byte (λ x. escape_takes (x ∷ []) c ≡ false) 34 b refl (λ n. by_byte (λ x. escape_takes (x ∷ []) c ≡ false) 10 b refl (λ m. absurd (both_ways _ (simp (n, m)) h)))
@@ -143,7 +143,7 @@ short_run quote (b ∷ bs) u after d k seen open_ early closed = elim (cases_Boo
       ∙ rw append_assoc refl)
 ]
 
--- behind so many quotes in a row
+-- after so many quotes in a row
 abbrev pub long_at : Quote → ℕ → Inside
 long_at quote zero = Long quote
 long_at quote (suc zero) = LongQuote quote

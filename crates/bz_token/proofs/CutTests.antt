@@ -10,14 +10,14 @@ use Rattle.bz_token.specs.declared.cutter.Next.{Next}
 use Rattle.bz_token.specs.declared.cutter.Next.TheVariants.{Goes, Ends, Short}
 use Rattle.bz_token.specs.Chunks.{chunks}
 use Rattle.bz_token.specs.Cuts.{ends_in_newline, first_line, EndsBefore, IsCut, IsLast, IsNext, left_next}
-use Rattle.bz_token.specs.CutterState.{Takes, IsBehind, AwaitsNext}
+use Rattle.bz_token.specs.CutterState.{Takes, IsAfter, AwaitsNext}
 use Rattle.bz_token.proofs.CutAnswers.{first_newline, first_other}
 
 ends_cons : (b : ℕ) (line : List ℕ) → ends_in_newline line ≡ true → ends_in_newline (b ∷ line) ≡ true
 ends_cons b [] h = absurd (true≢false (sym h))
 ends_cons b (c ∷ cs) h = h
 
--- a first line with something behind it has its newline
+-- a first line with something after it has its newline
 pub short_line : (text : List ℕ) → length (first_line text) < length text → ends_in_newline (first_line text) ≡ true
 short_line [] h = absurd (omega (arith, h))
 short_line (b ∷ bs) h = elim (cases_Bool (b == 10)) [
@@ -46,10 +46,10 @@ next_last Goes bytes ahead d other e = let l = d [] (λ t. refl) in absurd (omeg
 next_last Ends bytes ahead d other e = absurd (other refl)
 next_last Short bytes ahead d other e = absurd (true≢false d.0)
 
-pub next_behind : (c : Cutter) (next : Next) (bytes : List ℕ) → (next ≡ Ends → ⊥) → IsBehind c (left_next next bytes) → IsBehind c bytes
-next_behind c Goes bytes other b = b
-next_behind c Ends bytes other b = absurd (other refl)
-next_behind c Short bytes other b = b
+pub next_after : (c : Cutter) (next : Next) (bytes : List ℕ) → (next ≡ Ends → ⊥) → IsAfter c (left_next next bytes) → IsAfter c bytes
+next_after c Goes bytes other b = b
+next_after c Ends bytes other b = absurd (other refl)
+next_after c Short bytes other b = b
 
 pub takes_next : (c : Cutter) (next : Next) (bytes ahead : List ℕ) → AwaitsNext next true ahead c → IsNext next true bytes ahead → Takes c (first_line ahead)
 takes_next c Goes bytes ahead a d = subst (λ t. Takes c (first_line t)) (append-nil ahead) (a [] (λ e. refl))
@@ -64,38 +64,38 @@ pub record IsCutTo (cutter : Cutter) (len : ℕ) (lengths : List ℕ) (text rest
   pub lengths_are : lengths ≡ map length done
   pub chunks_are : chunks text ≡ done ++ chunks (seen ++ rest)
   pub room : length seen + length rest ≤ length text
-  pub behind : 0 < length rest → IsBehind cutter seen
+  pub after : 0 < length rest → IsAfter cutter seen
   pub last : length rest ≡ 0 → 0 < length seen → chunks seen ≡ seen ∷ []
 
-pub begin : (c : Cutter) (text : List ℕ) → IsBehind c [] → IsCutTo c 0 [] text text
-begin c text b = record { seen = []; done = []; len_is = refl; lengths_are = refl; chunks_are = refl; room = omega arith; behind = λ some. b; last = λ e some. absurd (omega (arith, some)) }
+pub begin : (c : Cutter) (text : List ℕ) → IsAfter c [] → IsCutTo c 0 [] text text
+begin c text b = record { seen = []; done = []; len_is = refl; lengths_are = refl; chunks_are = refl; room = omega arith; after = λ some. b; last = λ e some. absurd (omega (arith, some)) }
 
 -- a line that ends a chunk
-pub cut_ends : (c now : Cutter) (len more : ℕ) (lengths text rest line behind : List ℕ) (t : IsCutTo c len lengths text rest) → 0 < length rest → line ++ behind ≡ rest → more ≡ len + length line → ((seen : List ℕ) → IsBehind c seen → EndsBefore (seen ++ line) behind) → (0 < length behind → (seen : List ℕ) → IsBehind c seen → IsBehind now []) → IsCutTo now 0 (lengths ++ more ∷ []) text behind
-cut_ends c now len more lengths text rest line behind t some split count ends moves = record {
+pub cut_ends : (c now : Cutter) (len more : ℕ) (lengths text rest line after : List ℕ) (t : IsCutTo c len lengths text rest) → 0 < length rest → line ++ after ≡ rest → more ≡ len + length line → ((seen : List ℕ) → IsAfter c seen → EndsBefore (seen ++ line) after) → (0 < length after → (seen : List ℕ) → IsAfter c seen → IsAfter now []) → IsCutTo now 0 (lengths ++ more ∷ []) text after
+cut_ends c now len more lengths text rest line after t some split count ends moves = record {
   seen = [];
   done = t.done ++ (t.seen ++ line) ∷ [];
   len_is = refl;
   lengths_are = (λ i. t.lengths_are i ++ (count ∙ ap (λ n. n + length line) t.len_is ∙ sym (length-append t.seen line)) i ∷ []) ∙ sym (map-append length t.done ((t.seen ++ line) ∷ []));
   chunks_are =
-      t.chunks_are ∙ ap (λ r. t.done ++ chunks (t.seen ++ r)) (sym split) ∙ ap (λ r. t.done ++ chunks r) (sym (append_assoc t.seen line behind))
-      ∙ ap (λ cs. t.done ++ cs) (ends t.seen (t.behind some)) ∙ sym (append_assoc t.done ((t.seen ++ line) ∷ []) (chunks behind));
-  room = omega (arith, t.room, ap length split, length-append line behind);
-  behind = λ more. moves more t.seen (t.behind some);
+      t.chunks_are ∙ ap (λ r. t.done ++ chunks (t.seen ++ r)) (sym split) ∙ ap (λ r. t.done ++ chunks r) (sym (append_assoc t.seen line after))
+      ∙ ap (λ cs. t.done ++ cs) (ends t.seen (t.after some)) ∙ sym (append_assoc t.done ((t.seen ++ line) ∷ []) (chunks after));
+  room = omega (arith, t.room, ap length split, length-append line after);
+  after = λ more. moves more t.seen (t.after some);
   last = λ e some. absurd (omega (arith, some));
 }
 
 -- a line that ends none
-pub cut_goes : (c now : Cutter) (len : ℕ) (lengths text rest line behind : List ℕ) (t : IsCutTo c len lengths text rest) → 0 < length rest → line ++ behind ≡ rest → ((seen : List ℕ) → IsBehind c seen → behind ≡ [] → 0 < length (seen ++ line) → chunks (seen ++ line) ≡ (seen ++ line) ∷ []) → (0 < length behind → (seen : List ℕ) → IsBehind c seen → IsBehind now (seen ++ line)) → IsCutTo now (len + length line) lengths text behind
-cut_goes c now len lengths text rest line behind t some split last moves = record {
+pub cut_goes : (c now : Cutter) (len : ℕ) (lengths text rest line after : List ℕ) (t : IsCutTo c len lengths text rest) → 0 < length rest → line ++ after ≡ rest → ((seen : List ℕ) → IsAfter c seen → after ≡ [] → 0 < length (seen ++ line) → chunks (seen ++ line) ≡ (seen ++ line) ∷ []) → (0 < length after → (seen : List ℕ) → IsAfter c seen → IsAfter now (seen ++ line)) → IsCutTo now (len + length line) lengths text after
+cut_goes c now len lengths text rest line after t some split last moves = record {
   seen = t.seen ++ line;
   done = t.done;
   len_is = ap (λ n. n + length line) t.len_is ∙ sym (length-append t.seen line);
   lengths_are = t.lengths_are;
-  chunks_are = t.chunks_are ∙ ap (λ r. t.done ++ chunks (t.seen ++ r)) (sym split) ∙ ap (λ r. t.done ++ chunks r) (sym (append_assoc t.seen line behind));
-  room = omega (arith, t.room, ap length split, length-append line behind, length-append t.seen line);
-  behind = λ more. moves more t.seen (t.behind some);
-  last = λ e. last t.seen (t.behind some) (nil_from_length behind e);
+  chunks_are = t.chunks_are ∙ ap (λ r. t.done ++ chunks (t.seen ++ r)) (sym split) ∙ ap (λ r. t.done ++ chunks r) (sym (append_assoc t.seen line after));
+  room = omega (arith, t.room, ap length split, length-append line after, length-append t.seen line);
+  after = λ more. moves more t.seen (t.after some);
+  last = λ e. last t.seen (t.after some) (nil_from_length after e);
 }
 
 -- the end of the text

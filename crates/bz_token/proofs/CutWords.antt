@@ -10,7 +10,7 @@ use Rattle.bz_token.specs.declared.cutter.block.Opener.TheVariants.{Def, For, If
 use Rattle.bz_token.specs.declared.cutter.Next.{Next}
 use Rattle.bz_token.specs.declared.cutter.Next.TheVariants.{Goes, Ends, Short}
 use Rattle.bz_token.specs.Blocks.{is_white, is_word_byte, word_at, has_branch, goes_on}
-use Rattle.bz_token.specs.Decided.{DecidesAhead, is_branch_front}
+use Rattle.bz_token.specs.private.Decided.{DecidesAhead, is_branch_front}
 
 word_cons : (b : ℕ) (bs : List ℕ) → word_at (b ∷ bs) ≡ cond (is_word_byte b) (b ∷ word_at bs) []
 word_cons b bs = take_while-cons is_word_byte b bs
@@ -35,18 +35,18 @@ no_word b bs = ap (λ t. bytes_eq t []) (word_cons b bs) ∙ none (is_word_byte 
 
 -- a text that a word was taken off from the front
 stripped : (text word rest : List ℕ) → list_all is_word_byte word ≡ true → bytes_eq (take (length word) text) word ≡ true → rest ≡ drop (length word) text → bytes_eq (word_at text) word ≡ bytes_eq (word_at rest) []
-stripped text word rest h e behind =
+stripped text word rest h e after =
     let front : take (length word) text ≡ word = (bytes_eq-Decides (take (length word) text) word).0 e in
-    let whole : text ≡ word ++ rest = sym (take-append-drop (length word) text) ∙ (λ i. front i ++ sym behind i) in
+    let whole : text ≡ word ++ rest = sym (take-append-drop (length word) text) ∙ (λ i. front i ++ sym after i) in
     ap (λ t. bytes_eq (word_at t) word) whole ∙ front_word word rest h
 
 pub word_ends : (text word rest : List ℕ) → list_all is_word_byte word ≡ true → bytes_eq (take (length word) text) word ≡ true → rest ≡ drop (length word) text → length rest < 1 → true ≡ bytes_eq (word_at text) word
-word_ends text word [] h e behind few = sym (stripped text word [] h e behind)
-word_ends text word (b ∷ bs) h e behind few = absurd (omega (arith, few))
+word_ends text word [] h e after few = sym (stripped text word [] h e after)
+word_ends text word (b ∷ bs) h e after few = absurd (omega (arith, few))
 
 pub word_goes : (text word rest : List ℕ) → list_all is_word_byte word ≡ true → bytes_eq (take (length word) text) word ≡ true → rest ≡ drop (length word) text → 1 ≤ length rest → not (is_word_byte (get_or rest 0 0)) ≡ bytes_eq (word_at text) word
-word_goes text word [] h e behind some = absurd (omega (arith, some))
-word_goes text word (b ∷ bs) h e behind some = sym (stripped text word (b ∷ bs) h e behind ∙ no_word b bs)
+word_goes text word [] h e after some = absurd (omega (arith, some))
+word_goes text word (b ∷ bs) h e after some = sym (stripped text word (b ∷ bs) h e after ∙ no_word b bs)
 
 -- a word against a longer one, head by head
 word_head : (a : ℕ) (text : List ℕ) (c : ℕ) (cs : List ℕ) → is_word_byte a ≡ true → bytes_eq (word_at (a ∷ text)) (c ∷ cs) ≡ ((a == c) && bytes_eq (word_at text) cs)
@@ -81,7 +81,7 @@ not_front (a ∷ as_) rest (c ∷ cs) h e = elim (cases_Bool (is_word_byte a)) [
   ]
 ]
 
--- an x behind so few bytes makes another word
+-- an x after so few bytes makes another word
 pub spoiled : (ahead word : List ℕ) → length ahead ≤ length word → list_any (λ c. 120 == c) word ≡ false → bytes_eq (word_at (ahead ++ 120 ∷ [])) word ≡ false
 spoiled [] [] h none = refl
 spoiled [] (c ∷ cs) h none = word_head 120 [] c cs refl ∙ ap (λ t. t && bytes_eq [] cs) (or_parts (120 == c) (list_any (λ c. 120 == c) cs) none).0

@@ -33,7 +33,7 @@ token_from kind text after whole counted never = record {
     shorter other [] rest split is counted = refl
     shorter other (m ∷ more) rest split is counted = absurd (never other m more rest split is counted)
 
--- the first byte behind stops the text
+-- the first byte after stops the text
 pub stops_first : (kind : Kind) (text after : List ℕ) (m : ℕ) (more rest : List ℕ) → stops_at kind text after ≡ true → after ≡ (m ∷ more) ++ rest → stops kind text m ≡ true
 stops_first kind text after m more rest h split = rw split at h
 
@@ -352,7 +352,7 @@ only_strings Line text h is = absurd (false≢true h)
 only_strings Note text h is = absurd (false≢true h)
 only_strings Kept text h is = absurd (false≢true h)
 
--- what closes stands behind the opening quotes
+-- what closes stands after the opening quotes
 closes_within : (q : Quotes) (n : ℕ) (text : List ℕ) → closes q 0 Unescaped (drop n text) ≡ true → n < length text
 closes_within q n text h =
     elim (cases_lt n (length text)) [

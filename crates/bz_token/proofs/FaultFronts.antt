@@ -8,7 +8,7 @@ use Rattle.std.proofs.lemmas.Bool.Decides.{nat_tests}
 use Rattle.bz_token.specs.declared.token.Kind.{Kind}
 use Rattle.bz_token.specs.declared.token.Kind.TheVariants.{Ident, Word, Int, Text, Sign, Line, Note, Kept}
 use Rattle.bz_token.specs.declared.scan_string.Opening.{Opening}
-use Rattle.bz_token.specs.Lexical.{is_word_byte, is_newline, is_quote, begins, opens_behind, opening, is_name, is_keyword, is_string, is_text, is_long, is_string_kind, is_number_kind, counts, HasNoToken}
+use Rattle.bz_token.specs.Lexical.{is_word_byte, is_newline, is_quote, begins, opens_after, opening, is_name, is_keyword, is_string, is_text, is_long, is_string_kind, is_number_kind, counts, HasNoToken}
 use Rattle.bz_token.specs.Reading.{continues}
 use Rattle.bz_token.proofs.Classes.{keyword_name, same_bytes}
 use Rattle.bz_token.proofs.Openings.{opens_r, opens_rb, opens_b, opens_br, opens_plain}
@@ -20,9 +20,9 @@ use Rattle.bz_token.proofs.Joins.{any_left}
 abbrev pub has_newline : List ℕ → Bool
 has_newline xs = list_any is_newline xs
 
--- a newline behind another byte
-newline_behind : (x c : ℕ) (xs : List ℕ) → (x == c) ≡ true → (c == 10) ≡ false → has_newline (x ∷ xs) ≡ true → has_newline xs ≡ true
-newline_behind x c xs hit other h = sym (ap (λ y. y || has_newline xs) (ap is_newline (eqb-true x c hit) ∙ other)) ∙ h
+-- a newline after another byte
+newline_after : (x c : ℕ) (xs : List ℕ) → (x == c) ≡ true → (c == 10) ≡ false → has_newline (x ∷ xs) ≡ true → has_newline xs ≡ true
+newline_after x c xs hit other h = sym (ap (λ y. y || has_newline xs) (ap is_newline (eqb-true x c hit) ∙ other)) ∙ h
 
 only_newline : (x : ℕ) → has_newline (x ∷ []) ≡ true → x ≡ 10
 only_newline x h = elim (or_cases (x == 10) false h) [
@@ -67,14 +67,14 @@ quote_no_newline q h = grind (arith, nat_tests)
 newline_no_quote : (q : ℕ) → is_quote q ≡ true → (10 == q) ≡ false
 newline_no_quote q h = grind (arith, nat_tests)
 
-opens_same : (n : ℕ) (ys r : List ℕ) → has_newline ys ≡ true → opens_behind n (ys ++ r) ≡ opens_behind n ys
+opens_same : (n : ℕ) (ys r : List ℕ) → has_newline ys ≡ true → opens_after n (ys ++ r) ≡ opens_after n ys
 opens_same n [] r h = absurd (false≢true h)
 opens_same n (q ∷ []) r h = let same : q ≡ 10 = only_newline q h in rw same refl
 opens_same n (q ∷ a ∷ []) r h = elim (cases_Bool (is_quote q)) [
   | inr none ↦ rw none refl
   | inl quoted ↦
-      let behind : has_newline (a ∷ []) ≡ true = sym (ap (λ y. y || has_newline (a ∷ [])) (quote_no_newline q quoted)) ∙ h in
-      let same : a ≡ 10 = only_newline a behind in
+      let after : has_newline (a ∷ []) ≡ true = sym (ap (λ y. y || has_newline (a ∷ [])) (quote_no_newline q quoted)) ∙ h in
+      let same : a ≡ 10 = only_newline a after in
       let other : (a == q) ≡ false = ap (λ x. x == q) same ∙ newline_no_quote q quoted in
       rw other refl
 ]
@@ -84,24 +84,24 @@ opens_same n (q ∷ a ∷ b ∷ bs) r h = refl
 pub opening_same_more : (xs r : List ℕ) → has_newline xs ≡ true → opening (xs ++ r) ≡ opening xs
 opening_same_more [] r h = absurd (false≢true h)
 opening_same_more (a ∷ bs) r h = elim (cases_Bool (a == 114)) [
-  | inl hit ↦ behind_r bs hit (newline_behind a 114 bs hit refl h)
+  | inl hit ↦ after_r bs hit (newline_after a 114 bs hit refl h)
   | inr no_r ↦ elim (cases_Bool (a == 98)) [
-    | inl hit ↦ behind_b bs no_r hit (newline_behind a 98 bs hit refl h)
+    | inl hit ↦ after_b bs no_r hit (newline_after a 98 bs hit refl h)
     | inr no_b ↦ opens_plain a (bs ++ r) no_r no_b ∙ opens_same 0 (a ∷ bs) r h ∙ sym (opens_plain a bs no_r no_b)
   ]
 ]
   where
-    behind_r : (bs : List ℕ) → (a == 114) ≡ true → has_newline bs ≡ true → opening (a ∷ bs ++ r) ≡ opening (a ∷ bs)
-    behind_r [] hit h = absurd (false≢true h)
-    behind_r (c ∷ cs) hit h = elim (cases_Bool (c == 98)) [
-      | inl b ↦ opens_rb a c (cs ++ r) hit b ∙ opens_same 2 cs r (newline_behind c 98 cs b refl h) ∙ sym (opens_rb a c cs hit b)
+    after_r : (bs : List ℕ) → (a == 114) ≡ true → has_newline bs ≡ true → opening (a ∷ bs ++ r) ≡ opening (a ∷ bs)
+    after_r [] hit h = absurd (false≢true h)
+    after_r (c ∷ cs) hit h = elim (cases_Bool (c == 98)) [
+      | inl b ↦ opens_rb a c (cs ++ r) hit b ∙ opens_same 2 cs r (newline_after c 98 cs b refl h) ∙ sym (opens_rb a c cs hit b)
       | inr no_b ↦ opens_r a (c ∷ cs ++ r) hit no_b ∙ opens_same 1 (c ∷ cs) r h ∙ sym (opens_r a (c ∷ cs) hit no_b)
     ]
 
-    behind_b : (bs : List ℕ) → (a == 114) ≡ false → (a == 98) ≡ true → has_newline bs ≡ true → opening (a ∷ bs ++ r) ≡ opening (a ∷ bs)
-    behind_b [] no_r hit h = absurd (false≢true h)
-    behind_b (c ∷ cs) no_r hit h = elim (cases_Bool (c == 114)) [
-      | inl b ↦ opens_br a c (cs ++ r) no_r hit b ∙ opens_same 2 cs r (newline_behind c 114 cs b refl h) ∙ sym (opens_br a c cs no_r hit b)
+    after_b : (bs : List ℕ) → (a == 114) ≡ false → (a == 98) ≡ true → has_newline bs ≡ true → opening (a ∷ bs ++ r) ≡ opening (a ∷ bs)
+    after_b [] no_r hit h = absurd (false≢true h)
+    after_b (c ∷ cs) no_r hit h = elim (cases_Bool (c == 114)) [
+      | inl b ↦ opens_br a c (cs ++ r) no_r hit b ∙ opens_same 2 cs r (newline_after c 114 cs b refl h) ∙ sym (opens_br a c cs no_r hit b)
       | inr none ↦ opens_b a (c ∷ cs ++ r) no_r hit none ∙ opens_same 1 (c ∷ cs) r h ∙ sym (opens_b a (c ∷ cs) no_r hit none)
     ]
 
@@ -147,7 +147,7 @@ some_bytes : (xs : List ℕ) → has_newline xs ≡ true → 0 < length xs
 some_bytes [] h = absurd (false≢true h)
 some_bytes (x ∷ xs) h = omega arith
 
--- no token stands at a place before a newline unless a string goes on behind it
+-- no token stands at a place before a newline unless a string goes on after it
 pub none_more : (place r : List ℕ) → has_newline place ≡ true → HasNoToken place → ((more : List ℕ) → 0 < length more → is_string (place ++ more) ≡ true → ⊥) → HasNoToken (place ++ r)
 none_more place r h none longer kind text rest same is counted = elim (cases_lt (length place) (length text)) [
   | inr short ↦

@@ -4,7 +4,7 @@ use Rattle.std.proofs.lemmas.Bool.{cases_Bool, or_cases, false≢true, eqb-true}
 use Rattle.bz_token.specs.declared.token.Kind.{Kind}
 use Rattle.bz_token.specs.declared.token.Kind.TheVariants.{Ident, Word, Int, Text, Sign, Line, Note, Kept}
 use Rattle.bz_token.specs.Lexical.{signs, is_sign, is_text}
-use Rattle.bz_token.specs.Brackets.{is_inside, is_opening_bracket, is_closing_bracket, is_line, bracket_fits, fits, open_behind_byte, open_behind}
+use Rattle.bz_token.specs.Brackets.{is_inside, is_opening_bracket, is_closing_bracket, is_line, bracket_fits, fits, open_after_byte, open_after_token}
 use Rattle.bz_token.specs.Reading.{begins_gap, is_white, continues}
 use Rattle.bz_token.proofs.Classes.{mark, class_of, can_start, text_class, one_of, same_bytes}
 use Rattle.bz_token.proofs.Scanning.{marks}
@@ -61,20 +61,20 @@ or_none : (x y : Bool) → (x || y) ≡ false → (x ≡ false) × (y ≡ false)
 or_none true y h = absurd (false≢true (sym h))
 or_none false y h = (refl, h)
 
--- the open brackets behind a token are those behind its first byte
-pub open_behind_first : (kind : Kind) (opened : List ℕ) (b : ℕ) (bs : List ℕ) → is_text kind (b ∷ bs) ≡ true → open_behind_byte opened b ≡ open_behind opened (b ∷ bs)
-open_behind_first kind opened b [] is = refl
-open_behind_first kind opened b (c ∷ bs) is =
+-- the open brackets after a token are those after its first byte
+pub open_after_first_byte : (kind : Kind) (opened : List ℕ) (b : ℕ) (bs : List ℕ) → is_text kind (b ∷ bs) ≡ true → open_after_byte opened b ≡ open_after_token opened (b ∷ bs)
+open_after_first_byte kind opened b [] is = refl
+open_after_first_byte kind opened b (c ∷ bs) is =
     let none = or_none (is_opening_bracket b) (is_closing_bracket b) (no_bracket kind b c bs is) in
     plain none.0 none.1
   where
-    plain : is_opening_bracket b ≡ false → is_closing_bracket b ≡ false → open_behind_byte opened b ≡ opened
+    plain : is_opening_bracket b ≡ false → is_closing_bracket b ≡ false → open_after_byte opened b ≡ opened
     plain o c = rw (o, c) refl
 
 -- no newline is a token within brackets, since it is white space there
-pub fits_first : (depth : ℕ) (kind : Kind) (opened : List ℕ) (b : ℕ) (bs behind : List ℕ) → is_text kind (b ∷ bs) ≡ true → begins_gap (is_inside opened) (b ∷ bs ++ behind) ≡ false → bracket_fits depth opened b ≡ true → fits depth opened kind (b ∷ bs) ≡ true
-fits_first depth kind opened b (c ∷ bs) behind is gap fit = refl
-fits_first depth kind opened b [] behind is gap fit = both _ _ (outside kind is) fit
+pub fits_first : (depth : ℕ) (kind : Kind) (opened : List ℕ) (b : ℕ) (bs following : List ℕ) → is_text kind (b ∷ bs) ≡ true → begins_gap (is_inside opened) (b ∷ bs ++ following) ≡ false → bracket_fits depth opened b ≡ true → fits depth opened kind (b ∷ bs) ≡ true
+fits_first depth kind opened b (c ∷ bs) following is gap fit = refl
+fits_first depth kind opened b [] following is gap fit = both _ _ (outside kind is) fit
   where
     both : (x y : Bool) → x ≡ true → y ≡ true → (x && y) ≡ true
     both x y p q = rw (p, q) refl
@@ -84,7 +84,7 @@ fits_first depth kind opened b [] behind is gap fit = both _ _ (outside kind is)
     newline (a ∷ opened) same none = absurd (false≢true (sym none ∙ rw same refl))
 
     outside : (kind : Kind) → is_text kind (b ∷ []) ≡ true → not (is_line kind && is_inside opened) ≡ true
-    outside Line is = newline opened (first_same (same_bytes (b ∷ []) (10 ∷ []) is)) (or_none (is_white (is_inside opened) b) (continues (b ∷ behind)) gap).0
+    outside Line is = newline opened (first_same (same_bytes (b ∷ []) (10 ∷ []) is)) (or_none (is_white (is_inside opened) b) (continues (b ∷ following)) gap).0
       where
         first_same : b ∷ [] ≡ 10 ∷ [] → b ≡ 10
         first_same e = cc
@@ -97,16 +97,16 @@ fits_first depth kind opened b [] behind is gap fit = both _ _ (outside kind is)
     outside Kept is = refl
 
 -- the same of the front of some bytes
-pub token_fits : (depth : ℕ) (kind : Kind) (opened after text behind : List ℕ) (n : ℕ) → 0 < n → n ≤ length after → text ≡ take n after → after ≡ text ++ behind → is_text kind text ≡ true → begins_gap (is_inside opened) after ≡ false
-    → bracket_fits depth opened (get_or after 0 0) ≡ true → (fits depth opened kind text ≡ true) × (open_behind_byte opened (get_or after 0 0) ≡ open_behind opened text)
-token_fits depth kind opened after [] behind n some within front split is gap fit = absurd (nothing after n some within front)
+pub token_fits : (depth : ℕ) (kind : Kind) (opened after text following : List ℕ) (n : ℕ) → 0 < n → n ≤ length after → text ≡ take n after → after ≡ text ++ following → is_text kind text ≡ true → begins_gap (is_inside opened) after ≡ false
+    → bracket_fits depth opened (get_or after 0 0) ≡ true → (fits depth opened kind text ≡ true) × (open_after_byte opened (get_or after 0 0) ≡ open_after_token opened text)
+token_fits depth kind opened after [] following n some within front split is gap fit = absurd (nothing after n some within front)
   where
     nothing : (after : List ℕ) (n : ℕ) → 0 < n → n ≤ length after → [] ≡ take n after → ⊥
     nothing [] n some within front = omega arith
     nothing (a ∷ after) zero some within front = omega arith
     nothing (a ∷ after) (suc n) some within front = cc
-token_fits depth kind opened after (b ∷ bs) behind n some within front split is gap fit =
+token_fits depth kind opened after (b ∷ bs) following n some within front split is gap fit =
     let first : get_or after 0 0 ≡ b = ap (λ xs. get_or xs 0 0) split in (
-      fits_first depth kind opened b bs behind is (ap (begins_gap (is_inside opened)) (sym split) ∙ gap) (ap (bracket_fits depth opened) (sym first) ∙ fit),
-      ap (open_behind_byte opened) first ∙ open_behind_first kind opened b bs is,
+      fits_first depth kind opened b bs following is (ap (begins_gap (is_inside opened)) (sym split) ∙ gap) (ap (bracket_fits depth opened) (sym first) ∙ fit),
+      ap (open_after_byte opened) first ∙ open_after_first_byte kind opened b bs is,
     )

@@ -5,14 +5,14 @@ use Rattle.bz_token.specs.declared.cutter.scan.Scan.{Scan}
 use Rattle.bz_token.specs.declared.cutter.block.Stage.{Stage}
 use Rattle.bz_token.specs.declared.cutter.block.Stage.TheVariants.{Notes}
 use Rattle.bz_token.specs.declared.cutter.scan.LineKind.TheVariants.{Blank}
-use Rattle.bz_token.specs.Chunks.{chunks, takes, stage_behind}
+use Rattle.bz_token.specs.Chunks.{chunks, takes, stage_after}
 use Rattle.bz_token.specs.Cuts.{EndsBefore}
-use Rattle.bz_token.specs.CutSteps.{is_ended, outside, next, start, run, line_here, seen_chunks}
+use Rattle.bz_token.specs.private.CutSteps.{is_ended, outside, next, start, run, line_here, seen_chunks}
 use Rattle.std.specs.List.{concat}
 use Rattle.bz_token.specs.Places.{Placed, line_at}
 use Rattle.bz_token.specs.Reading.{Piece, IsReading, open_after, AreTokensOf}
 use Rattle.bz_token.specs.FreshStart.{ends_in_line, AreLinesOf, AreTokensOfChunks}
-use Rattle.bz_token.proofs.Joins.{join_reading, open_after-append, joined_tokens, tokens_behind_lines}
+use Rattle.bz_token.proofs.Joins.{join_reading, open_after-append, joined_tokens, tokens_after_lines}
 use Rattle.bz_token.proofs.ChunkLaws.{first_chunk as file_first}
 use Rattle.bz_token.proofs.CutLaws.{chunks_are}
 use Rattle.bz_token.proofs.Agree.{lines_from}
@@ -20,11 +20,11 @@ use Rattle.bz_token.proofs.Agree.{lines_from}
 seen_on : (s : Scan) (stage : Stage) (before part : List ℕ) (b : ℕ) (bs : List ℕ) → is_ended s.inside ≡ false → seen_chunks s stage before part (b ∷ bs) ≡ seen_chunks (next s b) stage before (part ++ b ∷ []) bs
 seen_on s stage before part b bs h = rw (h, seen_chunks) refl
 
-seen_takes : (s : Scan) (stage : Stage) (before part : List ℕ) (b : ℕ) (bs : List ℕ) → is_ended s.inside ≡ true → takes (stage_behind stage (line_here s part)) (b ∷ bs) ≡ true
-    → seen_chunks s stage before part (b ∷ bs) ≡ seen_chunks (next s b) (stage_behind stage (line_here s part)) (before ++ part) (b ∷ []) bs
+seen_takes : (s : Scan) (stage : Stage) (before part : List ℕ) (b : ℕ) (bs : List ℕ) → is_ended s.inside ≡ true → takes (stage_after stage (line_here s part)) (b ∷ bs) ≡ true
+    → seen_chunks s stage before part (b ∷ bs) ≡ seen_chunks (next s b) (stage_after stage (line_here s part)) (before ++ part) (b ∷ []) bs
 seen_takes s stage before part b bs h t = rw (h, t, seen_chunks) refl
 
-seen_cut : (s : Scan) (stage : Stage) (before part : List ℕ) (b : ℕ) (bs : List ℕ) → is_ended s.inside ≡ true → takes (stage_behind stage (line_here s part)) (b ∷ bs) ≡ false
+seen_cut : (s : Scan) (stage : Stage) (before part : List ℕ) (b : ℕ) (bs : List ℕ) → is_ended s.inside ≡ true → takes (stage_after stage (line_here s part)) (b ∷ bs) ≡ false
     → seen_chunks s stage before part (b ∷ bs) ≡ (before ++ part) ∷ seen_chunks (next s b) Notes [] (b ∷ []) bs
 seen_cut s stage before part b bs h t = rw (h, t, seen_chunks) refl
 
@@ -41,9 +41,9 @@ first_chunk (b ∷ bs) s stage before part = elim (cases_Bool (is_ended s.inside
   | inr inside ↦
       let r = first_chunk bs (next s b) stage before (part ++ b ∷ []) in
       record { chunk = r.chunk; others = r.others; chunks_are = seen_on s stage before part b bs inside ∙ r.chunks_are; enough = omega (arith, r.enough, length-append before part, length-append before (part ++ b ∷ []), length-append part (b ∷ [])) }
-  | inl ended ↦ elim (cases_Bool (takes (stage_behind stage (line_here s part)) (b ∷ bs))) [
+  | inl ended ↦ elim (cases_Bool (takes (stage_after stage (line_here s part)) (b ∷ bs))) [
     | inl on ↦
-        let r = first_chunk bs (next s b) (stage_behind stage (line_here s part)) (before ++ part) (b ∷ []) in
+        let r = first_chunk bs (next s b) (stage_after stage (line_here s part)) (before ++ part) (b ∷ []) in
         record { chunk = r.chunk; others = r.others; chunks_are = seen_takes s stage before part b bs ended on ∙ r.chunks_are; enough = omega (arith, r.enough, length-append (before ++ part) (b ∷ [])) }
     | inr off ↦ record { chunk = before ++ part; others = seen_chunks (next s b) Notes [] (b ∷ []) bs; chunks_are = seen_cut s stage before part b bs ended off; enough = omega arith }
   ]
@@ -65,10 +65,10 @@ ends_there (x ∷ xs) b rest s stage before part cs e = elim (cases_Bool (is_end
   | inr inside ↦
       let same : (before ++ part) ++ x ∷ xs ≡ (before ++ (part ++ x ∷ [])) ++ xs = simp append_assoc in
       ends_there xs b rest (next s x) stage before (part ++ x ∷ []) cs (sym (seen_on s stage before part x (xs ++ b ∷ rest) inside) ∙ e ∙ ap (λ c. c ∷ cs) same)
-  | inl ended ↦ elim (cases_Bool (takes (stage_behind stage (line_here s part)) (x ∷ xs ++ b ∷ rest))) [
+  | inl ended ↦ elim (cases_Bool (takes (stage_after stage (line_here s part)) (x ∷ xs ++ b ∷ rest))) [
     | inl on ↦
         let same : (before ++ part) ++ x ∷ xs ≡ ((before ++ part) ++ x ∷ []) ++ xs = simp append_assoc in
-        ends_there xs b rest (next s x) (stage_behind stage (line_here s part)) (before ++ part) (x ∷ []) cs (sym (seen_takes s stage before part x (xs ++ b ∷ rest) ended on) ∙ e ∙ ap (λ c. c ∷ cs) same)
+        ends_there xs b rest (next s x) (stage_after stage (line_here s part)) (before ++ part) (x ∷ []) cs (sym (seen_takes s stage before part x (xs ++ b ∷ rest) ended on) ∙ e ∙ ap (λ c. c ∷ cs) same)
     | inr off ↦
         let same = same_first (before ++ part) ((before ++ part) ++ x ∷ xs) (seen_chunks (next s x) Notes [] (x ∷ []) (xs ++ b ∷ rest)) cs (sym (seen_cut s stage before part x (xs ++ b ∷ rest) ended off) ∙ e) in
         absurd (omega (arith, ap length same, length-append (before ++ part) (x ∷ xs)))
@@ -90,9 +90,9 @@ ends_append (a ∷ []) [] p q = p
 ends_append (a ∷ []) (b ∷ qs) p q = q
 ends_append (a ∷ b ∷ ps) qs p q = ends_append (b ∷ ps) qs p q
 
--- lines behind lines
-pub lines_behind_lines : (first depth : ℕ) (a b : List ℕ) (ts us : List Placed) → AreLinesOf first depth a ts → AreLinesOf (line_at first a) depth b us → AreLinesOf first depth (a ++ b) (ts ++ us)
-lines_behind_lines first depth a b ts us x y = (
+-- lines after lines
+pub lines_after_lines : (first depth : ℕ) (a b : List ℕ) (ts us : List Placed) → AreLinesOf first depth a ts → AreLinesOf (line_at first a) depth b us → AreLinesOf first depth (a ++ b) (ts ++ us)
+lines_after_lines first depth a b ts us x y = (
   x.0 ++ y.0,
   join_reading depth [] x.0 y.0 a b [] x.1 x.3 (subst (λ o. IsReading depth o y.0 [] b) (sym x.2) y.1),
   open_after-append [] x.0 y.0 ∙ ap (λ o. open_after o y.0) x.2 ∙ y.2,
@@ -100,12 +100,12 @@ lines_behind_lines first depth a b ts us x y = (
   ap₂ (λ s t. s ++ t) x.4 y.4 ∙ sym (joined_tokens first depth x.0 y.0 a x.1 x.3),
 )
 
--- a chunk, and those behind it
+-- a chunk, and those after it
 pub record Cut (bytes c : List ℕ) (cs : List (List ℕ)) : Type 0 where
   pub rest : List ℕ
   pub bytes_are : bytes ≡ c ++ rest
   pub some : 0 < length c
-  pub behind : chunks rest ≡ cs
+  pub after : chunks rest ≡ cs
   pub first_is : chunks (c ++ rest) ≡ c ∷ chunks rest
 
 pub first_cut : (bytes c : List ℕ) (cs : List (List ℕ)) → chunks bytes ≡ c ∷ cs → Cut bytes c cs
@@ -121,7 +121,7 @@ first_cut (b ∷ bs) c cs e =
       rest = f.rest;
       bytes_are = f.bytes_are ∙ ap (λ x. x ++ f.rest) head;
       some = subst (λ x. 0 < length x) head f.some;
-      behind = tails _ _ _ _ both;
+      after = tails _ _ _ _ both;
       first_is = ap (λ x. chunks (x ++ f.rest)) (sym head) ∙ ap chunks (sym f.bytes_are) ∙ f.chunks_are ∙ ap (λ x. x ∷ chunks f.rest) head;
     }
   where
@@ -143,12 +143,12 @@ pub lines_of_chunks : (first depth : ℕ) (cs ds : List (List ℕ)) (d bytes : L
 lines_of_chunks first depth [] ds d bytes ts e t = (bytes, refl, e, ([], refl, refl, refl, t))
 lines_of_chunks first depth (c ∷ cs) ds d bytes ts e t =
     let cut = first_cut bytes c (cs ++ d ∷ ds) e in
-    let more = lines_of_chunks (line_at first c) depth cs ds d cut.rest t.1 cut.behind t.3 in
-    let lines = follow cs cut.rest cut.behind in (
+    let more = lines_of_chunks (line_at first c) depth cs ds d cut.rest t.1 cut.after t.3 in
+    let lines = follow cs cut.rest cut.after in (
       more.0,
       cut.bytes_are ∙ ap (λ x. c ++ x) more.1 ∙ sym (append_assoc c (concat cs) more.0),
       more.2,
-      subst (λ x. AreLinesOf first depth (c ++ concat cs) x) (sym t.4) (lines_behind_lines first depth c (concat cs) t.0 t.1 (lines cut.first_is cut.some t.2) more.3),
+      subst (λ x. AreLinesOf first depth (c ++ concat cs) x) (sym t.4) (lines_after_lines first depth c (concat cs) t.0 t.1 (lines cut.first_is cut.some t.2) more.3),
     )
   where
     follow : (cs : List (List ℕ)) (rest : List ℕ) → chunks rest ≡ cs ++ d ∷ ds → chunks (c ++ rest) ≡ c ∷ chunks rest → 0 < length c → AreTokensOf first depth c t.0 → AreLinesOf first depth c t.0
@@ -164,7 +164,7 @@ tokens_of_chunks first depth [] (b ∷ bs) ts e t = absurd (nothing (file_first 
     nothing x xs e = cc
 tokens_of_chunks first depth (c ∷ []) bytes ts e t =
     let cut = first_cut bytes c [] e in
-    let whole : bytes ≡ c = cut.bytes_are ∙ ap (λ x. c ++ x) (none cut.rest cut.behind) ∙ append-nil c in
+    let whole : bytes ≡ c = cut.bytes_are ∙ ap (λ x. c ++ x) (none cut.rest cut.after) ∙ append-nil c in
     let same : ts ≡ t.0 = t.4 ∙ ap (λ x. t.0 ++ x) t.3 ∙ nil t.0 in
     subst (λ x. AreTokensOf first depth x ts) (sym whole) (subst (λ x. AreTokensOf first depth c x) (sym same) t.2)
   where
@@ -180,6 +180,6 @@ tokens_of_chunks first depth (c ∷ []) bytes ts e t =
     nil (u ∷ us) = ap (λ x. u ∷ x) (nil us)
 tokens_of_chunks first depth (c ∷ d ∷ ds) bytes ts e t =
     let cut = first_cut bytes c (d ∷ ds) e in
-    let rest = tokens_of_chunks (line_at first c) depth (d ∷ ds) cut.rest t.1 cut.behind t.3 in
-    let lines = cut_lines first depth c cut.rest ds d t.0 cut.behind cut.first_is cut.some t.2 in
-    subst (λ x. AreTokensOf first depth x ts) (sym cut.bytes_are) (subst (λ x. AreTokensOf first depth (c ++ cut.rest) x) (sym t.4) (tokens_behind_lines first depth c cut.rest t.0 t.1 lines rest))
+    let rest = tokens_of_chunks (line_at first c) depth (d ∷ ds) cut.rest t.1 cut.after t.3 in
+    let lines = cut_lines first depth c cut.rest ds d t.0 cut.after cut.first_is cut.some t.2 in
+    subst (λ x. AreTokensOf first depth x ts) (sym cut.bytes_are) (subst (λ x. AreTokensOf first depth (c ++ cut.rest) x) (sym t.4) (tokens_after_lines first depth c cut.rest t.0 t.1 lines rest))

@@ -1,4 +1,4 @@
--- What stands behind lines is read as a text of its own.
+-- What stands after lines is read as a text of its own.
 use Rattle.std.proofs.Common.{◌≡◌, ℕ, List, [], ◌∷◌, ◌++◌, refl, sym, ap, ap₂, subst, ◌∙◌, arith, inl, inr}
 use Rattle.std.specs.Prelude.{Option, Some, None}
 use Rattle.std.specs.List.{concat}
@@ -12,39 +12,39 @@ use Rattle.bz_token.specs.UpToFault.{read_before, IsReadAs}
 use Rattle.bz_token.specs.FreshStart.{AreLinesOf, AreTokensOfChunks}
 use Rattle.bz_token.proofs.Progress.{newlines-append}
 use Rattle.bz_token.proofs.Unique.{IsStuck}
-use Rattle.bz_token.proofs.Joins.{join_reading, open_after-append, joined_tokens, tokens_behind_lines}
-use Rattle.bz_token.proofs.FaultJoins.{fault_behind_lines}
+use Rattle.bz_token.proofs.Joins.{join_reading, open_after-append, joined_tokens, tokens_after_lines}
+use Rattle.bz_token.proofs.FaultJoins.{fault_after_lines}
 use Rattle.bz_token.proofs.FreshChunks.{lines_of_chunks}
 use Rattle.bz_token.proofs.SomeReading.{some_reading}
-use Rattle.bz_token.proofs.OneReading.{StopsBehind, read_stops, tokens_before, one_way, tokens_or_fault}
+use Rattle.bz_token.proofs.OneReading.{StopsAfter, read_stops, tokens_before, one_way, tokens_or_fault}
 
-pub read_behind_lines : (first depth : ℕ) (a b : List ℕ) (ts us : List Placed) (fault : Option LexFault) → AreLinesOf first depth a ts → IsReadAs (line_at first a) depth b us fault → IsReadAs first depth (a ++ b) (ts ++ us) fault
-read_behind_lines first depth a b ts us None x y = tokens_behind_lines first depth a b ts us x y
-read_behind_lines first depth a b ts us (Some f) x y =
+pub read_after_lines : (first depth : ℕ) (a b : List ℕ) (ts us : List Placed) (fault : Option LexFault) → AreLinesOf first depth a ts → IsReadAs (line_at first a) depth b us fault → IsReadAs first depth (a ++ b) (ts ++ us) fault
+read_after_lines first depth a b ts us None x y = tokens_after_lines first depth a b ts us x y
+read_after_lines first depth a b ts us (Some f) x y =
     let ps = x.0 in
     let qs = read_before (line_at first a) depth b f y.1 in
     let stops = read_stops (line_at first a) depth b f y.1 y.0 in
     let opens : open_after [] qs ≡ open_after [] (ps ++ qs) = sym (open_after-append [] ps qs ∙ ap (λ o. open_after o qs) x.2) in
-    let joined : StopsBehind depth (a ++ b) (ps ++ qs) = (
+    let joined : StopsAfter depth (a ++ b) (ps ++ qs) = (
       stops.0,
       join_reading depth [] ps qs a b stops.0 x.1 x.3 (subst (λ o. IsReading depth o qs stops.0 b) (sym x.2) stops.1),
       subst (λ o. IsStuck depth o stops.0) opens stops.2,
     ) in
-    let is = fault_behind_lines first depth a b ts f x y.1 in
+    let is = fault_after_lines first depth a b ts f x y.1 in
     (y.0, is, ap₂ (λ s t. s ++ t) x.4 y.2 ∙ sym (joined_tokens first depth ps qs a x.1 x.3) ∙ tokens_before first depth (a ++ b) f is y.0 (ps ++ qs) joined)
 
 pub read_split : (first depth : ℕ) (a b : List ℕ) (ts vs : List Placed) (fault : Option LexFault) → AreLinesOf first depth a ts → IsReadAs first depth (a ++ b) vs fault → (us : List Placed) × IsReadAs (line_at first a) depth b us fault × (vs ≡ ts ++ us)
 read_split first depth a b ts vs fault x whole =
     let r = some_reading (line_at first a) depth b in
-    let one = one_way first depth (a ++ b) vs (ts ++ r.0) fault r.1 whole (read_behind_lines first depth a b ts r.0 r.1 x r.2) in
+    let one = one_way first depth (a ++ b) vs (ts ++ r.0) fault r.1 whole (read_after_lines first depth a b ts r.0 r.1 x r.2) in
     (r.0, subst (λ f. IsReadAs (line_at first a) depth b r.0 f) (sym one.1) r.2, one.0)
 
--- what is left of a file behind chunks with tokens
+-- what is left of a file after chunks with tokens
 pub rest_read : (first depth : ℕ) (cs ds : List (List ℕ)) (d bytes rest : List ℕ) (ts us : List Placed) (fault : Option LexFault) → chunks bytes ≡ cs ++ d ∷ ds → AreTokensOfChunks first depth cs ts → bytes ≡ concat cs ++ rest → IsReadAs (line_at first (concat cs)) depth rest us fault
     → IsReadAs first depth bytes (ts ++ us) fault
 rest_read first depth cs ds d bytes rest ts us fault e t whole r =
     let l = lines_of_chunks first depth cs ds d bytes ts e t in
-    subst (λ x. IsReadAs first depth x (ts ++ us) fault) (sym whole) (read_behind_lines first depth (concat cs) rest ts us fault l.3 r)
+    subst (λ x. IsReadAs first depth x (ts ++ us) fault) (sym whole) (read_after_lines first depth (concat cs) rest ts us fault l.3 r)
 
 pub rest_split : (first depth : ℕ) (cs ds : List (List ℕ)) (d bytes rest : List ℕ) (ts vs : List Placed) (fault : Option LexFault) → chunks bytes ≡ cs ++ d ∷ ds → AreTokensOfChunks first depth cs ts → bytes ≡ concat cs ++ rest → IsReadAs first depth bytes vs fault
     → (us : List Placed) × IsReadAs (line_at first (concat cs)) depth rest us fault × (vs ≡ ts ++ us)

@@ -11,7 +11,7 @@ use Rattle.bz_token.specs.UpToFault.{IsReadAs}
 use Rattle.bz_token.specs.FreshStart.{AreTokensOfChunks, is_line_of, line_of, tokens_on_lines, fault_on_lines}
 use Rattle.bz_token.proofs.FreshChunks.{chunk_lines, first_cut, lines_of_chunks}
 use Rattle.bz_token.proofs.ChunkFaults.{chunk_read, chunk_newline}
-use Rattle.bz_token.proofs.FreshReading.{read_behind_lines}
+use Rattle.bz_token.proofs.FreshReading.{read_after_lines}
 use Rattle.bz_token.proofs.OnLines.{read_lines, fault_line, lines_end, all_kept, none_kept, line_before, line_after}
 use Rattle.bz_token.proofs.SomeReading.{some_reading}
 use Rattle.bz_token.proofs.OneReading.{one_way}
@@ -46,15 +46,15 @@ chunk_first first depth d (b ∷ bs) us None cut some is =
     let newline = chunk_newline d b bs cut some in
     let lines = chunk_lines first depth d b bs us cut some is in
     let next = some_reading (line_at first d) depth (b ∷ bs) in
-    let behind = read_lines (line_at first d) depth (b ∷ bs) next.0 next.1 next.2 in
+    let after = read_lines (line_at first d) depth (b ∷ bs) next.0 next.1 next.2 in
     record {
       others = next.0;
       told = next.1;
-      whole = read_behind_lines first depth d (b ∷ bs) us next.0 next.1 lines next.2;
+      whole = read_after_lines first depth d (b ∷ bs) us next.0 next.1 lines next.2;
       tokens_are =
           filter-append (λ t. is_line_of first d t.line) us next.0
           ∙ ap₂ (λ x y. x ++ y) (all_kept (λ t. is_line_of first d t.line) us (read_lines first depth d us None is))
-          (none_kept (λ t. is_line_of (line_at first d) (b ∷ bs) t.line) (λ t. is_line_of first d t.line) (λ t h. line_after first t.line d (b ∷ bs) newline h) next.0 behind)
+          (none_kept (λ t. is_line_of (line_at first d) (b ∷ bs) t.line) (λ t. is_line_of first d t.line) (λ t h. line_after first t.line d (b ∷ bs) newline h) next.0 after)
           ∙ nil us;
       fault_is = later next.1 next.2 newline;
     }
@@ -65,7 +65,7 @@ chunk_first first depth d (b ∷ bs) us None cut some is =
         let elsewhere = line_after first (line_of g) d (b ∷ bs) newline (fault_line (line_at first d) depth (b ∷ bs) g is.0 is.1) in
         rw elsewhere refl
 
--- the same of a file, behind chunks with tokens
+-- the same of a file, after chunks with tokens
 record FileReadOn (first depth : ℕ) (bytes : List ℕ) (line : ℕ) (d : List ℕ) (ts us : List Placed) (fault : Option LexFault) : Type 0 where
   pub others : List Placed
   pub told : Option LexFault
@@ -84,7 +84,7 @@ file_read first depth cs ds d bytes ts us fault e t is =
     record {
       others = on.others;
       told = on.told;
-      whole = subst (λ x. IsReadAs first depth x (ts ++ (us ++ on.others)) on.told) (sym bytes_are) (read_behind_lines first depth (concat cs) (d ++ cut.rest) ts (us ++ on.others) on.told l.3 on.whole);
+      whole = subst (λ x. IsReadAs first depth x (ts ++ (us ++ on.others)) on.told) (sym bytes_are) (read_after_lines first depth (concat cs) (d ++ cut.rest) ts (us ++ on.others) on.told l.3 on.whole);
       tokens_are =
           filter-append (λ t. is_line_of line d t.line) ts (us ++ on.others)
           ∙ ap₂ (λ x y. x ++ y) (none_kept (λ t. nat_lt t.line line) (λ t. is_line_of line d t.line) (λ t h. line_before line t.line d h) ts (lines_end first depth (concat cs) ts l.3)) on.tokens_are;
@@ -116,7 +116,7 @@ fault_of_file first depth cs ds d bytes ts us f e t is =
     let l = lines_of_chunks first depth cs ds d bytes ts e t in
     let cut = first_cut l.0 d ds l.2 in
     let here : IsReadAs line depth l.0 us (Some f) = subst (λ x. IsReadAs line depth x us (Some f)) (sym cut.bytes_are) (chunk_read line depth d cut.rest us f cut.first_is cut.some is) in
-    subst (λ x. IsReadAs first depth x (ts ++ us) (Some f)) (sym l.1) (read_behind_lines first depth (concat cs) l.0 ts us (Some f) l.3 here)
+    subst (λ x. IsReadAs first depth x (ts ++ us) (Some f)) (sym l.1) (read_after_lines first depth (concat cs) l.0 ts us (Some f) l.3 here)
 
 -- the tokens of a chunk without a fault
 pub tokens_of_file : (first depth : ℕ) (cs ds : List (List ℕ)) (d bytes : List ℕ) (ts us vs : List Placed) (g : Option LexFault) → chunks bytes ≡ cs ++ d ∷ ds → AreTokensOfChunks first depth cs ts → IsReadAs (line_at first (concat cs)) depth d us None → IsReadAs first depth bytes vs g

@@ -6,7 +6,7 @@ use Rattle.bz_token.specs.Places.{Placed, placed}
 use Rattle.bz_token.specs.Brackets.{is_bracket, is_opening_bracket, is_closing_bracket, open_tokens}
 use Rattle.bz_token.specs.declared.token.Token.{Token}
 
--- the open brackets behind one token more
+-- the open brackets after one token more
 abbrev pub step : List Placed → Placed → List Placed
 step opened t = if is_bracket is_opening_bracket t.text then t ∷ opened else (if is_bracket is_closing_bracket t.text then drop 1 opened else opened)
 
@@ -24,7 +24,7 @@ front_push [] i d h = absurd (omega arith)
 front_push (t ∷ ts) zero d h = refl
 front_push (t ∷ ts) (suc i) d h = rw add-one (ap (λ xs. t ∷ xs) (rw add-one at (front_push ts i d (omega arith))))
 
--- what is open behind the tokens up to i, by the last of them
+-- what is open after the tokens up to i, by the last of them
 pub last_step : (ts : List Token) (i : ℕ) (d : Token) → i < length ts → open_tokens [] (map placed (take (i + 1) ts)) ≡ step (open_tokens [] (map placed (take i ts))) (placed (get_or ts i d))
 last_step ts i d h =
     ap (λ xs. open_tokens [] (map placed xs)) (front_push ts i d h)

@@ -10,7 +10,7 @@ use Rattle.bz_token.specs.declared.token.Kind.TheVariants.{Ident, Word, Int, Tex
 use Rattle.bz_token.specs.Places.{Placed, line_at, column_from, column_at}
 use Rattle.bz_token.specs.Lexical.{is_newline, is_blank, is_text, IsToken}
 use Rattle.bz_token.specs.Ends.{ends, stops_at}
-use Rattle.bz_token.specs.Brackets.{is_line, open_behind}
+use Rattle.bz_token.specs.Brackets.{is_line, open_after_token}
 use Rattle.bz_token.specs.Reading.{Piece, IsPiece, IsReading, open_after, bytes_of, token_of, tokens_of, AreTokensOf}
 use Rattle.bz_token.specs.FreshStart.{ends_in_line, AreLinesOf}
 use Rattle.bz_token.proofs.Classes.{same_bytes}
@@ -73,7 +73,7 @@ any_left p xs ys h = list_any-append p xs ys ∙ rw h refl
 pub lines_newline : (depth : ℕ) (opened : List ℕ) (p : Piece) (ps : List Piece) (bytes : List ℕ) → IsReading depth opened (p ∷ ps) [] bytes → ends_in_line (p ∷ ps) ≡ true → list_any is_newline (p.text ++ bytes_of ps) ≡ true
 lines_newline depth opened p [] bytes r line = any_left is_newline p.text [] (ap (list_any is_newline) (line_text p.kind p.text line r.1.token.whole))
 lines_newline depth opened p (q ∷ qs) bytes r line =
-    any_right is_newline p.text (bytes_of (q ∷ qs)) (any_right is_newline q.gap (q.text ++ bytes_of qs) (lines_newline depth (open_behind opened p.text) q qs r.0 r.2 line))
+    any_right is_newline p.text (bytes_of (q ∷ qs)) (any_right is_newline q.gap (q.text ++ bytes_of qs) (lines_newline depth (open_after_token opened p.text) q qs r.0 r.2 line))
 
 -- a piece stays where more follows
 piece_more : (depth : ℕ) (opened : List ℕ) (p : Piece) (bytes after b : List ℕ) → IsPiece depth opened p bytes after → IsToken p.kind p.text (after ++ b) → IsPiece depth opened p (bytes ++ b) (after ++ b)
@@ -84,20 +84,20 @@ piece_more depth opened p bytes after b piece token = record {
   fits = piece.fits;
 }
 
--- lines, and what is read behind them
+-- lines, and what is read after them
 pub join_reading : (depth : ℕ) (opened : List ℕ) (ps qs : List Piece) (a b s : List ℕ) → IsReading depth opened ps [] a → ends_in_line ps ≡ true → IsReading depth (open_after opened ps) qs s b → IsReading depth opened (ps ++ qs) s (a ++ b)
 join_reading depth opened [] qs a b s r line more = subst (λ x. IsReading depth opened qs s (x ++ b)) (sym r) more
 join_reading depth opened (p ∷ []) qs a b s r line more =
     let token : IsToken p.kind p.text (r.0 ++ b) = subst (λ k. IsToken k p.text (r.0 ++ b)) (sym (line_kind p.kind line)) (subst (λ t. IsToken Line t (r.0 ++ b)) (sym (line_text p.kind p.text line r.1.token.whole)) (line_token (r.0 ++ b))) in
-    (r.0 ++ b, piece_more depth opened p a r.0 b r.1 token, subst (λ x. IsReading depth (open_behind opened p.text) qs s (x ++ b)) (sym r.2) more)
+    (r.0 ++ b, piece_more depth opened p a r.0 b r.1 token, subst (λ x. IsReading depth (open_after_token opened p.text) qs s (x ++ b)) (sym r.2) more)
 join_reading depth opened (p ∷ q ∷ ps) qs a b s r line more =
-    let whole = reading_bytes depth (open_behind opened p.text) (q ∷ ps) [] r.0 r.2 ∙ append-nil (bytes_of (q ∷ ps)) in
-    let newline : list_any is_newline r.0 ≡ true = ap (list_any is_newline) whole ∙ any_right is_newline q.gap (q.text ++ bytes_of ps) (lines_newline depth (open_behind opened p.text) q ps r.0 r.2 line) in
-    (r.0 ++ b, piece_more depth opened p a r.0 b r.1 (token_more p.kind p.text r.0 b r.1.token newline), join_reading depth (open_behind opened p.text) (q ∷ ps) qs r.0 b s r.2 line more)
+    let whole = reading_bytes depth (open_after_token opened p.text) (q ∷ ps) [] r.0 r.2 ∙ append-nil (bytes_of (q ∷ ps)) in
+    let newline : list_any is_newline r.0 ≡ true = ap (list_any is_newline) whole ∙ any_right is_newline q.gap (q.text ++ bytes_of ps) (lines_newline depth (open_after_token opened p.text) q ps r.0 r.2 line) in
+    (r.0 ++ b, piece_more depth opened p a r.0 b r.1 (token_more p.kind p.text r.0 b r.1.token newline), join_reading depth (open_after_token opened p.text) (q ∷ ps) qs r.0 b s r.2 line more)
 
 pub open_after-append : (opened : List ℕ) (ps qs : List Piece) → open_after opened (ps ++ qs) ≡ open_after (open_after opened ps) qs
 open_after-append opened [] qs = refl
-open_after-append opened (p ∷ ps) qs = open_after-append (open_behind opened p.text) ps qs
+open_after-append opened (p ∷ ps) qs = open_after-append (open_after_token opened p.text) ps qs
 
 pub bytes_of-append : (ps qs : List Piece) → bytes_of (ps ++ qs) ≡ bytes_of ps ++ bytes_of qs
 bytes_of-append [] qs = refl
@@ -127,7 +127,7 @@ no_line_here bound line (l ∷ ls) h fits =
     differs : (l : ℕ) → nat_lt l bound ≡ true → (l == line) ≡ false
     differs l h = grind (arith, nat_tests)
 
--- tokens behind lines are those of their own text, with its first line
+-- tokens after lines are those of their own text, with its first line
 pub tokens_shift : (first : ℕ) (a before lines old : List ℕ) (qs : List Piece) → column_at a ≡ 1 → are_before (line_at first a) old ≡ true → tokens_of first (a ++ before) (lines ++ old) qs ≡ tokens_of (line_at first a) before lines qs
 tokens_shift first a before lines old [] column below = refl
 tokens_shift first a before lines old (q ∷ qs) column below =
@@ -146,18 +146,18 @@ tokens_shift first a before lines old (q ∷ qs) column below =
     or_false true = refl
     or_false false = refl
 
--- behind lines a line begins
+-- after lines a line begins
 pub lines_column : (depth : ℕ) (opened : List ℕ) (c : ℕ) (ps : List Piece) (bytes : List ℕ) → IsReading depth opened ps [] bytes → ends_in_line ps ≡ true → 0 < length ps → column_from c (bytes_of ps) ≡ 1
 lines_column depth opened c [] bytes r line some = absurd (omega arith)
 lines_column depth opened c (p ∷ []) bytes r line some =
     ap (column_from c) (ap (λ x. p.gap ++ x) (append-nil p.text ∙ line_text p.kind p.text line r.1.token.whole)) ∙ column_from-append c p.gap (10 ∷ [])
 lines_column depth opened c (p ∷ q ∷ ps) bytes r line some =
     column_from-append c p.gap (p.text ++ bytes_of (q ∷ ps)) ∙ column_from-append (column_from c p.gap) p.text (bytes_of (q ∷ ps))
-    ∙ lines_column depth (open_behind opened p.text) (column_from (column_from c p.gap) p.text) (q ∷ ps) r.0 r.2 line (omega arith)
+    ∙ lines_column depth (open_after_token opened p.text) (column_from (column_from c p.gap) p.text) (q ∷ ps) r.0 r.2 line (omega arith)
 
-pub column_behind : (depth : ℕ) (ps : List Piece) (bytes : List ℕ) → IsReading depth [] ps [] bytes → ends_in_line ps ≡ true → column_at (bytes_of ps) ≡ 1
-column_behind depth [] bytes r line = refl
-column_behind depth (p ∷ ps) bytes r line = lines_column depth [] 1 (p ∷ ps) bytes r line (omega arith)
+pub column_after : (depth : ℕ) (ps : List Piece) (bytes : List ℕ) → IsReading depth [] ps [] bytes → ends_in_line ps ≡ true → column_at (bytes_of ps) ≡ 1
+column_after depth [] bytes r line = refl
+column_after depth (p ∷ ps) bytes r line = lines_column depth [] 1 (p ∷ ps) bytes r line (omega arith)
 
 pub some_newlines : (xs : List ℕ) → list_any is_newline xs ≡ true → 0 < newlines xs
 some_newlines [] h = absurd (false≢true h)
@@ -166,7 +166,7 @@ some_newlines (x ∷ xs) h = elim (cases_Bool (x == 10)) [
   | inr miss ↦ omega (arith, newlines-append (x ∷ []) xs, some_newlines xs (sym (ap (λ y. y || list_any is_newline xs) miss) ∙ h))
 ]
 
--- tokens of lines begin before the line behind them
+-- tokens of lines begin before the line after them
 pub lines_before : (depth : ℕ) (opened : List ℕ) (first : ℕ) (before lines : List ℕ) (ps : List Piece) (bytes : List ℕ) (bound : ℕ) → IsReading depth opened ps [] bytes → ends_in_line ps ≡ true → bound ≡ line_at first (before ++ bytes_of ps)
     → are_before bound lines ≡ true → are_before bound (lines_of first before lines ps) ≡ true
 lines_before depth opened first before lines [] bytes bound r line is below = below
@@ -176,14 +176,14 @@ lines_before depth opened first before lines (p ∷ ps) bytes bound r line is be
     let less : line_at first (before ++ p.gap) < bound = omega (arith, is, ap newlines e, newlines-append (before ++ p.gap) (p.text ++ bytes_of ps), some) in
     let here = less_test (line_at first (before ++ p.gap)) bound less in
     let same : before ++ (p.gap ++ (p.text ++ bytes_of ps)) ≡ (before ++ (p.gap ++ p.text)) ++ bytes_of ps = simp append_assoc in
-    lines_before depth (open_behind opened p.text) first (before ++ (p.gap ++ p.text)) (line_at first (before ++ p.gap) ∷ lines) ps r.0 bound r.2 (behind ps line) (is ∙ ap (line_at first) same) (rw (here, below) refl)
+    lines_before depth (open_after_token opened p.text) first (before ++ (p.gap ++ p.text)) (line_at first (before ++ p.gap) ∷ lines) ps r.0 bound r.2 (following ps line) (is ∙ ap (line_at first) same) (rw (here, below) refl)
   where
     less_test : (x y : ℕ) → x < y → nat_lt x y ≡ true
     less_test x y h = grind (arith, nat_tests)
 
-    behind : (ps : List Piece) → ends_in_line (p ∷ ps) ≡ true → ends_in_line ps ≡ true
-    behind [] h = refl
-    behind (q ∷ qs) h = h
+    following : (ps : List Piece) → ends_in_line (p ∷ ps) ≡ true → ends_in_line ps ≡ true
+    following [] h = refl
+    following (q ∷ qs) h = h
 
 -- the tokens of lines and of what follows them
 pub joined_tokens : (first depth : ℕ) (ps qs : List Piece) (a : List ℕ) → IsReading depth [] ps [] a → ends_in_line ps ≡ true → tokens_of first [] [] (ps ++ qs) ≡ tokens_of first [] [] ps ++ tokens_of (line_at first a) [] [] qs
@@ -193,12 +193,12 @@ joined_tokens first depth ps qs a r line =
     tokens_of-append first [] [] ps qs
     ∙ ap (λ ts. tokens_of first [] [] ps ++ ts)
     (ap (λ x. tokens_of first x (lines_of first [] [] ps) qs) (sym (append-nil (bytes_of ps)))
-    ∙ tokens_shift first (bytes_of ps) [] [] (lines_of first [] [] ps) qs (column_behind depth ps a r line) below
+    ∙ tokens_shift first (bytes_of ps) [] [] (lines_of first [] [] ps) qs (column_after depth ps a r line) below
     ∙ ap (λ x. tokens_of (line_at first x) [] [] qs) (sym whole))
 
--- the tokens of lines, and of the text behind them
-pub tokens_behind_lines : (first depth : ℕ) (a b : List ℕ) (ts us : List Placed) → AreLinesOf first depth a ts → AreTokensOf (line_at first a) depth b us → AreTokensOf first depth (a ++ b) (ts ++ us)
-tokens_behind_lines first depth a b ts us x y =
+-- the tokens of lines, and of the text after them
+pub tokens_after_lines : (first depth : ℕ) (a b : List ℕ) (ts us : List Placed) → AreLinesOf first depth a ts → AreTokensOf (line_at first a) depth b us → AreTokensOf first depth (a ++ b) (ts ++ us)
+tokens_after_lines first depth a b ts us x y =
     let ps = x.0 in
     let qs = y.0 in
     let more = subst (λ o. IsReading depth o qs y.1 b) (sym x.2) y.2 in (

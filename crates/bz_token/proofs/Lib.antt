@@ -36,7 +36,7 @@ pub mod CutQuiet
 pub mod CutLines
 pub mod CutLaws
 pub mod CutHeads
-pub mod CutBehind
+pub mod CutAfter
 pub mod CutAnswers
 pub mod CutWords
 pub mod CutTests

@@ -10,11 +10,11 @@ use Rattle.bz_token.specs.declared.token.Kind.{Kind}
 use Rattle.bz_token.specs.Cuts.{ends_in_newline}
 use Rattle.bz_token.specs.Places.{Placed, line_at}
 use Rattle.bz_token.specs.Lexical.{is_text}
-use Rattle.bz_token.specs.Brackets.{is_bracket, is_opening_bracket, is_closing_bracket, open_behind, open_tokens}
+use Rattle.bz_token.specs.Brackets.{is_bracket, is_opening_bracket, is_closing_bracket, open_after_token, open_tokens}
 use Rattle.bz_token.specs.Reading.{Piece, IsReading, open_after, bytes_of, tokens_of}
 use Rattle.bz_token.specs.Faults.{IsFaultAt, IsFault}
 use Rattle.bz_token.specs.UpToFault.{read_before, IsReadAs}
-use Rattle.bz_token.specs.FreshStart.{ends_in_line, AreLinesOf, line_behind, is_line_of, line_of}
+use Rattle.bz_token.specs.FreshStart.{ends_in_line, AreLinesOf, line_following, is_line_of, line_of}
 use Rattle.bz_token.proofs.Classes.{empty_no_text}
 use Rattle.bz_token.proofs.Innermost.{step}
 use Rattle.bz_token.proofs.Progress.{newlines, newlines-append, reading_bytes}
@@ -35,9 +35,9 @@ at_most_test x y h = grind (arith, nat_tests)
 -- a place in a text stands on one of its lines
 place_line : (first : ℕ) (d x y : List ℕ) → d ≡ x ++ y → 0 < length y → is_line_of first d (line_at first x) ≡ true
 place_line first d x [] e some = absurd (omega arith)
-place_line first d x (y ∷ ys) e some = both_true _ _ (at_most_test first (line_at first x) (omega arith)) (less_test (line_at first x) (line_behind first d) (subst (λ z. line_at first x < line_behind first z) (sym e) before))
+place_line first d x (y ∷ ys) e some = both_true _ _ (at_most_test first (line_at first x) (omega arith)) (less_test (line_at first x) (line_following first d) (subst (λ z. line_at first x < line_following first z) (sym e) before))
   where
-    before : line_at first x < line_behind first (x ++ y ∷ ys)
+    before : line_at first x < line_following first (x ++ y ∷ ys)
     before = elim (cases_Bool (ends_in_newline (x ++ y ∷ ys))) [
       | inl ends ↦ rw ends (omega (arith, newlines-append x (y ∷ ys), some_newlines (y ∷ ys) (last_newline x y ys ends)))
       | inr unended ↦ rw unended (omega (arith, newlines-append x (y ∷ ys)))
@@ -54,7 +54,7 @@ pieces_lines first depth d opened before lines (p ∷ ps) rest bytes whole r =
     let e : d ≡ (before ++ p.gap) ++ (p.text ++ r.0) = whole ∙ ap (λ x. before ++ x) r.1.bytes_are ∙ sym (append_assoc before p.gap (p.text ++ r.0)) in
     let next : d ≡ (before ++ (p.gap ++ p.text)) ++ r.0 = e ∙ simp append_assoc in
     both_true _ _ (place_line first d (before ++ p.gap) (p.text ++ r.0) e (some_text p.kind p.text r.0 r.1.token.whole))
-    (pieces_lines first depth d (open_behind opened p.text) (before ++ (p.gap ++ p.text)) (line_at first (before ++ p.gap) ∷ lines) ps rest r.0 next r.2)
+    (pieces_lines first depth d (open_after_token opened p.text) (before ++ (p.gap ++ p.text)) (line_at first (before ++ p.gap) ∷ lines) ps rest r.0 next r.2)
 
 pub read_lines : (first depth : ℕ) (d : List ℕ) (us : List Placed) (fault : Option LexFault) → IsReadAs first depth d us fault → list_all (λ t. is_line_of first d t.line) us ≡ true
 read_lines first depth d us None r = subst (λ ts. list_all (λ t. is_line_of first d t.line) ts ≡ true) (sym r.5) (pieces_lines first depth d [] [] [] r.0 r.1 d refl r.2)
@@ -98,7 +98,7 @@ fault_line first depth d (faults.OpenBracket line col) some is =
 fault_line first depth d (faults.TooDeep line col) some is = fault_at_line first depth d _ line col is (deep_sort depth (open_after [] is.pieces) is.place is.bad).some
 fault_line first depth d (faults.BadBackslash line col) some is = fault_at_line first depth d _ line col is (backslash_sort depth (open_after [] is.pieces) is.place is.bad).some
 
--- tokens of lines stand before the line behind them
+-- tokens of lines stand before the line after them
 tokens_before_line : (first depth : ℕ) (opened before lines : List ℕ) (ps : List Piece) (bytes : List ℕ) (bound : ℕ) → IsReading depth opened ps [] bytes → ends_in_line ps ≡ true → bound ≡ line_at first (before ++ bytes_of ps) → list_all (λ t. nat_lt t.line bound) (tokens_of first before lines ps) ≡ true
 tokens_before_line first depth opened before lines [] bytes bound r line is = refl
 tokens_before_line first depth opened before lines (p ∷ ps) bytes bound r line is =
@@ -107,11 +107,11 @@ tokens_before_line first depth opened before lines (p ∷ ps) bytes bound r line
     let less : line_at first (before ++ p.gap) < bound = omega (arith, is, ap newlines e, newlines-append (before ++ p.gap) (p.text ++ bytes_of ps), some) in
     let same : before ++ (p.gap ++ (p.text ++ bytes_of ps)) ≡ (before ++ (p.gap ++ p.text)) ++ bytes_of ps = simp append_assoc in
     both_true _ _ (less_test (line_at first (before ++ p.gap)) bound less)
-    (tokens_before_line first depth (open_behind opened p.text) (before ++ (p.gap ++ p.text)) (line_at first (before ++ p.gap) ∷ lines) ps r.0 bound r.2 (behind ps line) (is ∙ ap (line_at first) same))
+    (tokens_before_line first depth (open_after_token opened p.text) (before ++ (p.gap ++ p.text)) (line_at first (before ++ p.gap) ∷ lines) ps r.0 bound r.2 (following ps line) (is ∙ ap (line_at first) same))
   where
-    behind : (ps : List Piece) → ends_in_line (p ∷ ps) ≡ true → ends_in_line ps ≡ true
-    behind [] h = refl
-    behind (q ∷ qs) h = h
+    following : (ps : List Piece) → ends_in_line (p ∷ ps) ≡ true → ends_in_line ps ≡ true
+    following [] h = refl
+    following (q ∷ qs) h = h
 
 pub lines_end : (first depth : ℕ) (a : List ℕ) (ts : List Placed) → AreLinesOf first depth a ts → list_all (λ t. nat_lt t.line (line_at first a)) ts ≡ true
 lines_end first depth a ts x =
@@ -133,7 +133,7 @@ none_kept other test apart (t ∷ ts) h =
     let here = apart t parts.0 in
     rw here (none_kept other test apart ts parts.1)
 
--- a line before those of a text, and a line behind them
+-- a line before those of a text, and a line after them
 pub line_before : (first line : ℕ) (d : List ℕ) → nat_lt line first ≡ true → is_line_of first d line ≡ false
 line_before first line d h = none _ _ (apart first line h)
   where
@@ -144,9 +144,9 @@ line_before first line d h = none _ _ (apart first line h)
     none x y p = rw p refl
 
 pub line_after : (first line : ℕ) (d r : List ℕ) → ends_in_newline d ≡ true → is_line_of (line_at first d) r line ≡ true → is_line_of first d line ≡ false
-line_after first line d r ends h = none _ _ (ap (nat_lt line) (same ends) ∙ apart (line_at first d) line (and_parts (nat_le (line_at first d) line) (nat_lt line (line_behind (line_at first d) r)) h).0)
+line_after first line d r ends h = none _ _ (ap (nat_lt line) (same ends) ∙ apart (line_at first d) line (and_parts (nat_le (line_at first d) line) (nat_lt line (line_following (line_at first d) r)) h).0)
   where
-    same : ends_in_newline d ≡ true → line_behind first d ≡ line_at first d
+    same : ends_in_newline d ≡ true → line_following first d ≡ line_at first d
     same ends = rw ends refl
 
     apart : (first line : ℕ) → nat_le first line ≡ true → nat_lt line first ≡ false

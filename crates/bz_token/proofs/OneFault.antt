@@ -50,7 +50,7 @@ abbrev pub told_open : List Placed → LexFault
 told_open [] = faults.OutOfMemory
 told_open (t ∷ ts) = faults.OpenBracket t.line t.col
 
--- the fault behind pieces and a gap
+-- the fault after pieces and a gap
 abbrev pub fault_of : ℕ → List Piece → List ℕ → List ℕ → LexFault
 fault_of first ps gap [] = told_open (open_tokens [] (tokens_of first [] [] ps))
 fault_of first ps gap (b ∷ bs) = told (sort_of (b ∷ bs)) (line_at first (bytes_of ps ++ gap)) (column_at (bytes_of ps ++ gap))
@@ -63,7 +63,7 @@ pub record IsToldAt (first depth : ℕ) (bytes : List ℕ) (fault : LexFault) : 
   pub reading : IsReading depth [] pieces (gap ++ place) bytes
   pub stuck : IsStuck depth (open_after [] pieces) (gap ++ place)
   pub is_gap : is_gap (is_inside (open_after [] pieces)) gap ≡ true
-  pub behind_gap : begins_gap (is_inside (open_after [] pieces)) place ≡ false
+  pub after_gap : begins_gap (is_inside (open_after [] pieces)) place ≡ false
   pub unclosed : length place ≡ 0 → 0 < length (open_tokens [] (tokens_of first [] [] pieces))
   pub is : fault ≡ fault_of first pieces gap place
 
@@ -233,9 +233,9 @@ told_at first depth bytes IsBad line col sort sorted f =
       gap = f.gap;
       place = f.place;
       reading = f.reading;
-      stuck = place_stuck depth (open_after [] f.pieces) f.gap f.place f.is_gap f.behind_gap bad.never;
+      stuck = place_stuck depth (open_after [] f.pieces) f.gap f.place f.is_gap f.after_gap bad.never;
       is_gap = f.is_gap;
-      behind_gap = f.behind_gap;
+      after_gap = f.after_gap;
       unclosed = λ h. absurd (omega (arith, bad.some, h));
       is = ap₂ (told sort) f.line_is f.col_is ∙ here f.place bad.some (sym bad.sort_is);
     }
@@ -252,7 +252,7 @@ told_unclosed first depth bytes line col f = record {
   reading = subst (λ z. IsReading depth [] f.pieces z bytes) (sym (append-nil f.rest)) f.reading;
   stuck = gap_stuck depth (open_after [] f.pieces) (f.rest ++ []) (ap (is_gap (is_inside (open_after [] f.pieces))) (append-nil f.rest) ∙ f.is_gap);
   is_gap = f.is_gap;
-  behind_gap = refl;
+  after_gap = refl;
   unclosed = λ h. rw f.opened (omega arith);
   is = ap₂ faults.OpenBracket f.line_is f.col_is ∙ sym (ap told_open f.opened);
 }
@@ -287,7 +287,7 @@ pub same_told : (first depth : ℕ) (bytes : List ℕ) (f g : LexFault) → IsTo
 same_told first depth bytes f g a b =
     let one = one_reading depth [] a.pieces b.pieces (a.gap ++ a.place) (b.gap ++ b.place) bytes a.reading a.stuck b.reading b.stuck in
     let inside : is_inside (open_after [] b.pieces) ≡ is_inside (open_after [] a.pieces) = ap (λ ps. is_inside (open_after [] ps)) (sym one.0) in
-    let places = same_gaps (is_inside (open_after [] a.pieces)) a.gap b.gap a.place b.place one.1 a.is_gap (ap (λ i. is_gap i b.gap) (sym inside) ∙ b.is_gap) a.behind_gap (ap (λ i. begins_gap i b.place) (sym inside) ∙ b.behind_gap) in
+    let places = same_gaps (is_inside (open_after [] a.pieces)) a.gap b.gap a.place b.place one.1 a.is_gap (ap (λ i. is_gap i b.gap) (sym inside) ∙ b.is_gap) a.after_gap (ap (λ i. begins_gap i b.place) (sym inside) ∙ b.after_gap) in
     a.is ∙ ap (λ ps. fault_of first ps a.gap a.place) one.0 ∙ ap₂ (fault_of first b.pieces) places.0 places.1 ∙ sym b.is
 
 -- a text has one first fault
@@ -307,7 +307,7 @@ no_fault first depth bytes ts f a is some =
     let one = one_reading depth [] a.0 b.pieces a.1 (b.gap ++ b.place) bytes a.2 (gap_stuck depth (open_after [] a.0) a.1 (ap (λ o. is_gap (is_inside o) a.1) a.4 ∙ a.3)) b.reading b.stuck in
     let none : open_after [] b.pieces ≡ [] = ap (open_after []) (sym one.0) ∙ a.4 in
     let whole : a.1 ++ [] ≡ b.gap ++ b.place = append-nil a.1 ∙ one.1 in
-    let places = same_gaps false a.1 b.gap [] b.place whole a.3 (ap (λ o. is_gap (is_inside o) b.gap) (sym none) ∙ b.is_gap) refl (ap (λ o. begins_gap (is_inside o) b.place) (sym none) ∙ b.behind_gap) in
+    let places = same_gaps false a.1 b.gap [] b.place whole a.3 (ap (λ o. is_gap (is_inside o) b.gap) (sym none) ∙ b.is_gap) refl (ap (λ o. begins_gap (is_inside o) b.place) (sym none) ∙ b.after_gap) in
     let lengths = open_lengths first [] [] [] [] b.pieces refl in
     omega (arith, b.unclosed (sym (ap length places.1)), lengths, ap length none)
 

@@ -11,25 +11,25 @@ use Rattle.bz_token.proofs.Unique.{IsStuck, one_reading, gap_stuck, place_stuck}
 use Rattle.bz_token.proofs.OneFault.{open_text_sort, number_sort, backslash_sort, bracket_sort, deep_sort, character_sort, one_fault, one_tokens, no_fault_but_memory}
 use Rattle.bz_token.proofs.SomeReading.{some_reading}
 
--- behind these pieces no further one stands
-abbrev pub StopsBehind : ℕ → List ℕ → List Piece → Type 0
-StopsBehind depth bytes ps = (rest : List ℕ) × IsReading depth [] ps rest bytes × IsStuck depth (open_after [] ps) rest
+-- after these pieces no further one stands
+abbrev pub StopsAfter : ℕ → List ℕ → List Piece → Type 0
+StopsAfter depth bytes ps = (rest : List ℕ) × IsReading depth [] ps rest bytes × IsStuck depth (open_after [] ps) rest
 
-pub read_stops : (first depth : ℕ) (bytes : List ℕ) (f : LexFault) (is : IsFault first depth bytes f) → (f ≡ faults.OutOfMemory → ⊥) → StopsBehind depth bytes (read_before first depth bytes f is)
+pub read_stops : (first depth : ℕ) (bytes : List ℕ) (f : LexFault) (is : IsFault first depth bytes f) → (f ≡ faults.OutOfMemory → ⊥) → StopsAfter depth bytes (read_before first depth bytes f is)
 read_stops first depth bytes faults.OutOfMemory is some = absurd (some refl)
-read_stops first depth bytes (faults.BadCharacter line col) is some = (is.gap ++ is.place, is.reading, place_stuck depth (open_after [] is.pieces) is.gap is.place is.is_gap is.behind_gap (character_sort depth (open_after [] is.pieces) is.place is.bad).never)
-read_stops first depth bytes (faults.BadNumber line col) is some = (is.gap ++ is.place, is.reading, place_stuck depth (open_after [] is.pieces) is.gap is.place is.is_gap is.behind_gap (number_sort depth (open_after [] is.pieces) is.place is.bad).never)
-read_stops first depth bytes (faults.OpenText line col) is some = (is.gap ++ is.place, is.reading, place_stuck depth (open_after [] is.pieces) is.gap is.place is.is_gap is.behind_gap (open_text_sort depth (open_after [] is.pieces) is.place is.bad).never)
-read_stops first depth bytes (faults.BadBracket line col) is some = (is.gap ++ is.place, is.reading, place_stuck depth (open_after [] is.pieces) is.gap is.place is.is_gap is.behind_gap (bracket_sort depth (open_after [] is.pieces) is.place is.bad).never)
+read_stops first depth bytes (faults.BadCharacter line col) is some = (is.gap ++ is.place, is.reading, place_stuck depth (open_after [] is.pieces) is.gap is.place is.is_gap is.after_gap (character_sort depth (open_after [] is.pieces) is.place is.bad).never)
+read_stops first depth bytes (faults.BadNumber line col) is some = (is.gap ++ is.place, is.reading, place_stuck depth (open_after [] is.pieces) is.gap is.place is.is_gap is.after_gap (number_sort depth (open_after [] is.pieces) is.place is.bad).never)
+read_stops first depth bytes (faults.OpenText line col) is some = (is.gap ++ is.place, is.reading, place_stuck depth (open_after [] is.pieces) is.gap is.place is.is_gap is.after_gap (open_text_sort depth (open_after [] is.pieces) is.place is.bad).never)
+read_stops first depth bytes (faults.BadBracket line col) is some = (is.gap ++ is.place, is.reading, place_stuck depth (open_after [] is.pieces) is.gap is.place is.is_gap is.after_gap (bracket_sort depth (open_after [] is.pieces) is.place is.bad).never)
 read_stops first depth bytes (faults.OpenBracket line col) is some = (is.rest, is.reading, gap_stuck depth (open_after [] is.pieces) is.rest is.is_gap)
-read_stops first depth bytes (faults.TooDeep line col) is some = (is.gap ++ is.place, is.reading, place_stuck depth (open_after [] is.pieces) is.gap is.place is.is_gap is.behind_gap (deep_sort depth (open_after [] is.pieces) is.place is.bad).never)
-read_stops first depth bytes (faults.BadBackslash line col) is some = (is.gap ++ is.place, is.reading, place_stuck depth (open_after [] is.pieces) is.gap is.place is.is_gap is.behind_gap (backslash_sort depth (open_after [] is.pieces) is.place is.bad).never)
+read_stops first depth bytes (faults.TooDeep line col) is some = (is.gap ++ is.place, is.reading, place_stuck depth (open_after [] is.pieces) is.gap is.place is.is_gap is.after_gap (deep_sort depth (open_after [] is.pieces) is.place is.bad).never)
+read_stops first depth bytes (faults.BadBackslash line col) is some = (is.gap ++ is.place, is.reading, place_stuck depth (open_after [] is.pieces) is.gap is.place is.is_gap is.after_gap (backslash_sort depth (open_after [] is.pieces) is.place is.bad).never)
 
-pub same_pieces : (depth : ℕ) (bytes : List ℕ) (ps qs : List Piece) → StopsBehind depth bytes ps → StopsBehind depth bytes qs → ps ≡ qs
+pub same_pieces : (depth : ℕ) (bytes : List ℕ) (ps qs : List Piece) → StopsAfter depth bytes ps → StopsAfter depth bytes qs → ps ≡ qs
 same_pieces depth bytes ps qs a b = (one_reading depth [] ps qs a.0 b.0 bytes a.1 a.2 b.1 b.2).0
 
--- pieces behind which no further one stands are those before the fault
-pub tokens_before : (first depth : ℕ) (bytes : List ℕ) (f : LexFault) (is : IsFault first depth bytes f) → (f ≡ faults.OutOfMemory → ⊥) → (ps : List Piece) → StopsBehind depth bytes ps → tokens_of first [] [] ps ≡ tokens_of first [] [] (read_before first depth bytes f is)
+-- pieces after which no further one stands are those before the fault
+pub tokens_before : (first depth : ℕ) (bytes : List ℕ) (f : LexFault) (is : IsFault first depth bytes f) → (f ≡ faults.OutOfMemory → ⊥) → (ps : List Piece) → StopsAfter depth bytes ps → tokens_of first [] [] ps ≡ tokens_of first [] [] (read_before first depth bytes f is)
 tokens_before first depth bytes f is some ps stops = ap (tokens_of first [] []) (same_pieces depth bytes ps (read_before first depth bytes f is) stops (read_stops first depth bytes f is some))
 
 -- a text is read in one way

@@ -4,13 +4,13 @@ use Rattle.std.specs.Prelude.{Some}
 use Rattle.std.proofs.lemmas.Bool.{cases_Bool, and_parts, false≢true, eqb-true}
 use Rattle.std.proofs.Math.Seq.{drop-append-add}
 use Rattle.std.proofs.lemmas.Bool.Decides.{nat_tests}
-use Rattle.bz_token.specs.declared.scan_string.Escape.TheVariants.{Unescaped, BehindBackslash, BehindReturn}
+use Rattle.bz_token.specs.declared.scan_string.Escape.TheVariants.{Unescaped, AfterBackslash, AfterReturn}
 use Rattle.bz_token.specs.declared.scan_string.Opening.{Opening}
 use Rattle.bz_token.specs.declared.cutter.scan.Quote.{Quote}
 use Rattle.bz_token.specs.declared.cutter.scan.LineKind.{LineKind}
 use Rattle.bz_token.specs.declared.cutter.scan.Inside.TheVariants.{Opened, OpenedTwice, Short, ShortEscape, ShortEscapeReturn, Long, LongQuote, LongEscape}
 use Rattle.bz_token.specs.declared.cutter.scan.Scan.{Scan}
-use Rattle.bz_token.specs.CutSteps.{is_ended, byte_of, at, outside, in_short, next_in, next, run}
+use Rattle.bz_token.specs.private.CutSteps.{is_ended, byte_of, at, outside, in_short, next_in, next, run}
 use Rattle.bz_token.specs.Lexical.{closes, closing_row, are_two, is_empty, is_string, opening, opening_length}
 use Rattle.bz_token.proofs.CutMachine.{run_append}
 use Rattle.bz_token.proofs.Openings.{opening_facts}
@@ -59,14 +59,14 @@ mutual
         ]
       ]
 
-  long_within_escape : (q : Quote) (d : ℕ) (xs : List ℕ) (m : ℕ) (more : List ℕ) (s : Scan) → IsAt s (LongEscape q) d → closes (long_quotes q true) 0 BehindBackslash (xs ++ m ∷ more) ≡ true → is_ended (run s xs).inside ≡ true → ⊥
+  long_within_escape : (q : Quote) (d : ℕ) (xs : List ℕ) (m : ℕ) (more : List ℕ) (s : Scan) → IsAt s (LongEscape q) d → closes (long_quotes q true) 0 AfterBackslash (xs ++ m ∷ more) ≡ true → is_ended (run s xs).inside ≡ true → ⊥
   long_within_escape q d [] m more s h closed ended = not_ended s (LongEscape q) d h refl ended
   long_within_escape q d (x ∷ xs) m more s h closed ended = elim (cases_Bool (x == 13)) [
     | inl return ↦ long_within_return q d xs m more (next s x) (moves s (LongEscape q) (Long q) d x h (λ k. refl)) (rw (return, closes) at closed) ended
     | inr other ↦ long_within q 0 d xs m more (next s x) (omega arith) (moves s (LongEscape q) (Long q) d x h (λ k. refl)) (rw (other, closes) at closed) ended
   ]
 
-  long_within_return : (q : Quote) (d : ℕ) (xs : List ℕ) (m : ℕ) (more : List ℕ) (s : Scan) → IsAt s (Long q) d → closes (long_quotes q true) 0 BehindReturn (xs ++ m ∷ more) ≡ true → is_ended (run s xs).inside ≡ true → ⊥
+  long_within_return : (q : Quote) (d : ℕ) (xs : List ℕ) (m : ℕ) (more : List ℕ) (s : Scan) → IsAt s (Long q) d → closes (long_quotes q true) 0 AfterReturn (xs ++ m ∷ more) ≡ true → is_ended (run s xs).inside ≡ true → ⊥
   long_within_return q d [] m more s h closed ended = not_ended s (Long q) d h refl ended
   long_within_return q d (x ∷ xs) m more s h closed ended = elim (cases_Bool (x == 10)) [
     | inl feed ↦
@@ -97,14 +97,14 @@ mutual
         | goes i c ↦ short_within q d xs m more (next s x) i c ended
       ]
 
-  short_within_escape : (q : Quote) (d : ℕ) (xs : List ℕ) (m : ℕ) (more : List ℕ) (s : Scan) → IsAt s (ShortEscape q) d → closes (long_quotes q false) 0 BehindBackslash (xs ++ m ∷ more) ≡ true → is_ended (run s xs).inside ≡ true → ⊥
+  short_within_escape : (q : Quote) (d : ℕ) (xs : List ℕ) (m : ℕ) (more : List ℕ) (s : Scan) → IsAt s (ShortEscape q) d → closes (long_quotes q false) 0 AfterBackslash (xs ++ m ∷ more) ≡ true → is_ended (run s xs).inside ≡ true → ⊥
   short_within_escape q d [] m more s h closed ended = not_ended s (ShortEscape q) d h refl ended
   short_within_escape q d (x ∷ xs) m more s h closed ended = elim (cases_Bool (x == 13)) [
     | inl return ↦ short_within_return q d xs m more (next s x) (moves s (ShortEscape q) (ShortEscapeReturn q) d x h (λ k. rw return refl)) (rw (return, closes) at closed) ended
     | inr other ↦ short_within q d xs m more (next s x) (moves s (ShortEscape q) (Short q) d x h (λ k. rw other refl)) (rw (other, closes) at closed) ended
   ]
 
-  short_within_return : (q : Quote) (d : ℕ) (xs : List ℕ) (m : ℕ) (more : List ℕ) (s : Scan) → IsAt s (ShortEscapeReturn q) d → closes (long_quotes q false) 0 BehindReturn (xs ++ m ∷ more) ≡ true → is_ended (run s xs).inside ≡ true → ⊥
+  short_within_return : (q : Quote) (d : ℕ) (xs : List ℕ) (m : ℕ) (more : List ℕ) (s : Scan) → IsAt s (ShortEscapeReturn q) d → closes (long_quotes q false) 0 AfterReturn (xs ++ m ∷ more) ≡ true → is_ended (run s xs).inside ≡ true → ⊥
   short_within_return q d [] m more s h closed ended = not_ended s (ShortEscapeReturn q) d h refl ended
   short_within_return q d (x ∷ xs) m more s h closed ended = elim (cases_Bool (x == 10)) [
     | inl feed ↦
@@ -121,7 +121,7 @@ mutual
         ]
   ]
 
--- behind the opening quote
+-- after the opening quote
 quoted_within : (q : Quote) (d : ℕ) (qs : List ℕ) (m : ℕ) (more : List ℕ) (long : Bool) (s : Scan) → IsAt s (Opened q) d → are_two (byte_of q) qs ≡ long → closes (long_quotes q long) 0 Unescaped (drop (closing_row long - 1) (qs ++ m ∷ more)) ≡ true → is_ended (run s qs).inside ≡ true → ⊥
 quoted_within q d [] m more long s h two closed ended = not_ended s (Opened q) d h refl ended
 quoted_within q d (a ∷ []) m more true s h two closed ended = false≢true (sym (and_none (a == byte_of q)) ∙ two)
@@ -148,7 +148,7 @@ quoted_within q d (a ∷ qs) m more false s h two closed ended = elim (cases_Boo
       ]
 ]
 
--- Where a string opens at a place and the cutter is ready, and the string closes behind the place's end, no logical line ends there.
+-- Where a string opens at a place and the cutter is ready, and the string closes after the place's end, no logical line ends there.
 pub string_within : (place : List ℕ) (o : Opening) (m : ℕ) (more : List ℕ) (s : Scan) (d : ℕ) → opening place ≡ Some o → opening (place ++ m ∷ more) ≡ Some o → is_string (place ++ m ∷ more) ≡ true
     → ((b : ℕ) (bs : List ℕ) → place ≡ b ∷ bs → (k : LineKind) × (next s b ≡ outside d k b)) → is_ended (run s place).inside ≡ true → ⊥
 string_within place o m more s d opens wide string first ended =
@@ -164,7 +164,7 @@ string_within place o m more s d opens wide string first ended =
     ap (λ n. drop (n + closing_row o.quotes.long) (place ++ m ∷ more)) parts.prefix
     ∙ ap (drop (length parts.letters + closing_row o.quotes.long)) all
     ∙ drop-append-add parts.letters (o.quotes.byte ∷ (parts.inside ++ m ∷ more)) (closing_row o.quotes.long)
-    ∙ behind_quote o.quotes.long o.quotes.byte (parts.inside ++ m ∷ more) in
+    ∙ after_quote o.quotes.long o.quotes.byte (parts.inside ++ m ∷ more) in
     let found = string_opens (place ++ m ∷ more) string in
     let same : found.0 ≡ o = some_same found.0 o (sym found.1 ∙ wide) in
     let shut : closes o.quotes 0 Unescaped (drop (opening_length o) (place ++ m ∷ more)) ≡ true = ap (λ x. closes x.quotes 0 Unescaped (drop (opening_length x) (place ++ m ∷ more))) (sym same) ∙ found.2 in
@@ -172,9 +172,9 @@ string_within place o m more s d opens wide string first ended =
     quoted_within q d parts.inside m more o.quotes.long s1 opened_at (ap (λ x. are_two x parts.inside) (sym quote.1) ∙ parts.long) closed
     (ap (λ t. is_ended t.inside) (sym (ap (run s) whole ∙ run_append (parts.letters ++ byte_of q ∷ []) parts.inside s)) ∙ ended)
   where
-    behind_quote : (long : Bool) (x : ℕ) (xs : List ℕ) → drop (closing_row long) (x ∷ xs) ≡ drop (closing_row long - 1) xs
-    behind_quote true x xs = refl
-    behind_quote false x xs = refl
+    after_quote : (long : Bool) (x : ℕ) (xs : List ℕ) → drop (closing_row long) (x ∷ xs) ≡ drop (closing_row long - 1) xs
+    after_quote true x xs = refl
+    after_quote false x xs = refl
 
     some_same : (a b : Opening) → Some a ≡ Some b → a ≡ b
     some_same a b e = cc

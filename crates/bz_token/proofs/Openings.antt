@@ -11,7 +11,7 @@ use Rattle.bz_token.specs.declared.scan_string.Quotes.{Quotes}
 use Rattle.bz_token.specs.declared.scan_string.Escape.{Escape}
 use Rattle.bz_token.specs.declared.scan_string.Escape.TheVariants.{Unescaped}
 use Rattle.bz_token.specs.declared.token.Kind.TheVariants.{Text}
-use Rattle.bz_token.specs.Lexical.{is_word_byte, is_quote, is_escaped, escape_behind, closing_row, closes, are_two, opens_behind, prefix_letters, opening, opening_length, is_empty, is_newline, begins}
+use Rattle.bz_token.specs.Lexical.{is_word_byte, is_quote, is_escaped, escape_after, closing_row, closes, are_two, opens_after, prefix_letters, opening, opening_length, is_empty, is_newline, begins}
 use Rattle.bz_token.specs.Ends.{is_prefix}
 use Rattle.bz_token.proofs.Classes.{class_of, can_start, opening_starts}
 
@@ -28,17 +28,17 @@ are_two-more q [] xs h = absurd (false≢true h)
 are_two-more q (a ∷ []) xs h = absurd (false≢true ((and_parts (a == q) false h).1))
 are_two-more q (a ∷ b ∷ qs) xs h = h
 
--- the same behind the prefix
-record OpensBehind (n : ℕ) (o : Opening) (bytes : List ℕ) : Type 0 where
+-- the same after the prefix
+record OpensAfter (n : ℕ) (o : Opening) (bytes : List ℕ) : Type 0 where
   pub more : Opening
-  pub opens : opens_behind n bytes ≡ Some more
+  pub opens : opens_after n bytes ≡ Some more
   pub prefix : more.prefix ≡ o.prefix
   pub byte : more.quotes.byte ≡ o.quotes.byte
   pub long : o.quotes.long ≡ true → more.quotes.long ≡ true
 
-opens_behind-more : (n : ℕ) (ys xs : List ℕ) (o : Opening) → opens_behind n ys ≡ Some o → OpensBehind n o (ys ++ xs)
-opens_behind-more n [] xs o h = absurd cc
-opens_behind-more n (q ∷ qs) xs o h =
+opens_after-more : (n : ℕ) (ys xs : List ℕ) (o : Opening) → opens_after n ys ≡ Some o → OpensAfter n o (ys ++ xs)
+opens_after-more n [] xs o h = absurd cc
+opens_after-more n (q ∷ qs) xs o h =
     elim (cases_Bool (is_quote q)) [
       | inl is ↦
           let same : record { prefix = n; quotes = record { byte = q; long = are_two q qs } } ≡ o = some_same _ o (rw is at h) in
@@ -58,23 +58,23 @@ opens_behind-more n (q ∷ qs) xs o h =
     none_some : (b : Opening) → None ≡ Some b → ⊥
     none_some b e = cc
 
-from_behind : (n : ℕ) (bytes tail : List ℕ) (o : Opening) → opening bytes ≡ opens_behind n tail → OpensBehind n o tail → OpensMore o bytes
-from_behind n bytes tail o same b = record { more = b.more; opens = same ∙ b.opens; prefix = b.prefix; byte = b.byte; long = b.long }
+from_after : (n : ℕ) (bytes tail : List ℕ) (o : Opening) → opening bytes ≡ opens_after n tail → OpensAfter n o tail → OpensMore o bytes
+from_after n bytes tail o same b = record { more = b.more; opens = same ∙ b.opens; prefix = b.prefix; byte = b.byte; long = b.long }
 
 -- the four ways to open a string, by the first two bytes
-pub opens_r : (a : ℕ) (bs : List ℕ) → (a == 114) ≡ true → begins (λ b. b == 98) bs ≡ false → opening (a ∷ bs) ≡ opens_behind 1 bs
+pub opens_r : (a : ℕ) (bs : List ℕ) → (a == 114) ≡ true → begins (λ b. b == 98) bs ≡ false → opening (a ∷ bs) ≡ opens_after 1 bs
 opens_r a bs r none = rw (r, none) refl
 
-pub opens_rb : (a c : ℕ) (cs : List ℕ) → (a == 114) ≡ true → (c == 98) ≡ true → opening (a ∷ c ∷ cs) ≡ opens_behind 2 cs
+pub opens_rb : (a c : ℕ) (cs : List ℕ) → (a == 114) ≡ true → (c == 98) ≡ true → opening (a ∷ c ∷ cs) ≡ opens_after 2 cs
 opens_rb a c cs r b = rw (r, b) refl
 
-pub opens_b : (a : ℕ) (bs : List ℕ) → (a == 114) ≡ false → (a == 98) ≡ true → begins (λ b. b == 114) bs ≡ false → opening (a ∷ bs) ≡ opens_behind 1 bs
+pub opens_b : (a : ℕ) (bs : List ℕ) → (a == 114) ≡ false → (a == 98) ≡ true → begins (λ b. b == 114) bs ≡ false → opening (a ∷ bs) ≡ opens_after 1 bs
 opens_b a bs no_r b none = rw (no_r, b, none) refl
 
-pub opens_br : (a c : ℕ) (cs : List ℕ) → (a == 114) ≡ false → (a == 98) ≡ true → (c == 114) ≡ true → opening (a ∷ c ∷ cs) ≡ opens_behind 2 cs
+pub opens_br : (a c : ℕ) (cs : List ℕ) → (a == 114) ≡ false → (a == 98) ≡ true → (c == 114) ≡ true → opening (a ∷ c ∷ cs) ≡ opens_after 2 cs
 opens_br a c cs no_r b r = rw (no_r, b, r) refl
 
-pub opens_plain : (a : ℕ) (bs : List ℕ) → (a == 114) ≡ false → (a == 98) ≡ false → opening (a ∷ bs) ≡ opens_behind 0 (a ∷ bs)
+pub opens_plain : (a : ℕ) (bs : List ℕ) → (a == 114) ≡ false → (a == 98) ≡ false → opening (a ∷ bs) ≡ opens_after 0 (a ∷ bs)
 opens_plain a bs no_r no_b = rw (no_r, no_b) refl
 
 pub none_some : (b : Opening) → None ≡ Some b → ⊥
@@ -87,7 +87,7 @@ opening_more (a ∷ bs) xs o h =
       | inl r ↦ prefixed_r bs r h
       | inr no_r ↦ elim (cases_Bool (a == 98)) [
         | inl b ↦ prefixed_b bs no_r b h
-        | inr no_b ↦ from_behind 0 _ _ o (opens_plain a (bs ++ xs) no_r no_b) (opens_behind-more 0 (a ∷ bs) xs o (sym (opens_plain a bs no_r no_b) ∙ h))
+        | inr no_b ↦ from_after 0 _ _ o (opens_plain a (bs ++ xs) no_r no_b) (opens_after-more 0 (a ∷ bs) xs o (sym (opens_plain a bs no_r no_b) ∙ h))
       ]
     ]
   where
@@ -95,19 +95,19 @@ opening_more (a ∷ bs) xs o h =
     prefixed_r [] r h = absurd (none_some o (sym (opens_r a [] r refl) ∙ h))
     prefixed_r (c ∷ cs) r h =
         elim (cases_Bool (c == 98)) [
-          | inl b ↦ from_behind 2 _ _ o (opens_rb a c (cs ++ xs) r b) (opens_behind-more 2 cs xs o (sym (opens_rb a c cs r b) ∙ h))
-          | inr no_b ↦ from_behind 1 _ _ o (opens_r a (c ∷ cs ++ xs) r no_b) (opens_behind-more 1 (c ∷ cs) xs o (sym (opens_r a (c ∷ cs) r no_b) ∙ h))
+          | inl b ↦ from_after 2 _ _ o (opens_rb a c (cs ++ xs) r b) (opens_after-more 2 cs xs o (sym (opens_rb a c cs r b) ∙ h))
+          | inr no_b ↦ from_after 1 _ _ o (opens_r a (c ∷ cs ++ xs) r no_b) (opens_after-more 1 (c ∷ cs) xs o (sym (opens_r a (c ∷ cs) r no_b) ∙ h))
         ]
 
     prefixed_b : (bs : List ℕ) → (a == 114) ≡ false → (a == 98) ≡ true → opening (a ∷ bs) ≡ Some o → OpensMore o ((a ∷ bs) ++ xs)
     prefixed_b [] no_r b h = absurd (none_some o (sym (opens_b a [] no_r b refl) ∙ h))
     prefixed_b (c ∷ cs) no_r b h =
         elim (cases_Bool (c == 114)) [
-          | inl r ↦ from_behind 2 _ _ o (opens_br a c (cs ++ xs) no_r b r) (opens_behind-more 2 cs xs o (sym (opens_br a c cs no_r b r) ∙ h))
-          | inr none ↦ from_behind 1 _ _ o (opens_b a (c ∷ cs ++ xs) no_r b none) (opens_behind-more 1 (c ∷ cs) xs o (sym (opens_b a (c ∷ cs) no_r b none) ∙ h))
+          | inl r ↦ from_after 2 _ _ o (opens_br a c (cs ++ xs) no_r b r) (opens_after-more 2 cs xs o (sym (opens_br a c cs no_r b r) ∙ h))
+          | inr none ↦ from_after 1 _ _ o (opens_b a (c ∷ cs ++ xs) no_r b none) (opens_after-more 1 (c ∷ cs) xs o (sym (opens_b a (c ∷ cs) no_r b none) ∙ h))
         ]
 
-opens_none : (n q : ℕ) (qs : List ℕ) → is_quote q ≡ false → opens_behind n (q ∷ qs) ≡ None
+opens_none : (n q : ℕ) (qs : List ℕ) → is_quote q ≡ false → opens_after n (q ∷ qs) ≡ None
 opens_none n q qs none = rw none refl
 
 word_no_quote : (b : ℕ) → is_word_byte b ≡ true → is_quote b ≡ false
@@ -119,7 +119,7 @@ no_word_other b c none word = elim (cases_Bool (b == c)) [
   | inr other ↦ other
 ]
 
--- what may stand behind a name, so that no string opens at its first byte
+-- what may stand after a name, so that no string opens at its first byte
 abbrev pub ends_name : List ℕ → List ℕ → Bool
 ends_name text [] = true
 ends_name text (b ∷ bs) = not (is_word_byte b) && not (is_quote b && is_prefix text)
@@ -128,10 +128,10 @@ not_true : (x : Bool) → not x ≡ true → x ≡ false
 not_true true h = absurd (false≢true h)
 not_true false h = refl
 
--- behind a prefix that is the whole name no quote stands
-opens_behind_name : (n : ℕ) (text after : List ℕ) → is_prefix text ≡ true → ends_name text after ≡ true → opens_behind n after ≡ None
-opens_behind_name n text [] is ends = refl
-opens_behind_name n text (q ∷ qs) is ends =
+-- after a prefix that is the whole name no quote stands
+opens_after_name : (n : ℕ) (text after : List ℕ) → is_prefix text ≡ true → ends_name text after ≡ true → opens_after n after ≡ None
+opens_after_name n text [] is ends = refl
+opens_after_name n text (q ∷ qs) is ends =
     opens_none n q qs (quoteless (is_quote q) (not_true (is_quote q && is_prefix text) (and_parts (not (is_word_byte q)) (not (is_quote q && is_prefix text)) ends).1))
   where
     quoteless : (x : Bool) → (x && is_prefix text) ≡ false → x ≡ false
@@ -168,24 +168,24 @@ name_opening a bs after word words ends =
     is_br : (c : ℕ) → (a == 98) ≡ true → (c == 114) ≡ true → is_prefix (a ∷ c ∷ []) ≡ true
     is_br c b r = let same : a ≡ 98 = eqb-true a 98 b in let next : c ≡ 114 = eqb-true c 114 r in rw (same, next) refl
 
-    behind_two : (c : ℕ) (cs : List ℕ) → is_prefix (a ∷ c ∷ []) ≡ true → list_all is_word_byte (c ∷ cs) ≡ true → ends_name (a ∷ c ∷ cs) after ≡ true → opens_behind 2 (cs ++ after) ≡ None
-    behind_two c [] is words ends = opens_behind_name 2 (a ∷ c ∷ []) after is ends
-    behind_two c (d ∷ cs) is words ends =
+    after_two : (c : ℕ) (cs : List ℕ) → is_prefix (a ∷ c ∷ []) ≡ true → list_all is_word_byte (c ∷ cs) ≡ true → ends_name (a ∷ c ∷ cs) after ≡ true → opens_after 2 (cs ++ after) ≡ None
+    after_two c [] is words ends = opens_after_name 2 (a ∷ c ∷ []) after is ends
+    after_two c (d ∷ cs) is words ends =
         opens_none 2 d (cs ++ after) (word_no_quote d (and_parts (is_word_byte d) (list_all is_word_byte cs) (and_parts (is_word_byte c) (list_all is_word_byte (d ∷ cs)) words).1).0)
 
     prefixed_r : (bs : List ℕ) → list_all is_word_byte bs ≡ true → ends_name (a ∷ bs) after ≡ true → (a == 114) ≡ true → opening ((a ∷ bs) ++ after) ≡ None
-    prefixed_r [] words ends r = opens_r a after r (first_byte 98 refl ends) ∙ opens_behind_name 1 (a ∷ []) after (is_r r) ends
+    prefixed_r [] words ends r = opens_r a after r (first_byte 98 refl ends) ∙ opens_after_name 1 (a ∷ []) after (is_r r) ends
     prefixed_r (c ∷ cs) words ends r =
         elim (cases_Bool (c == 98)) [
-          | inl b ↦ opens_rb a c (cs ++ after) r b ∙ behind_two c cs (is_rb c r b) words ends
+          | inl b ↦ opens_rb a c (cs ++ after) r b ∙ after_two c cs (is_rb c r b) words ends
           | inr none ↦ opens_r a (c ∷ cs ++ after) r none ∙ opens_none 1 c (cs ++ after) (word_no_quote c (and_parts (is_word_byte c) (list_all is_word_byte cs) words).0)
         ]
 
     prefixed_b : (bs : List ℕ) → list_all is_word_byte bs ≡ true → ends_name (a ∷ bs) after ≡ true → (a == 114) ≡ false → (a == 98) ≡ true → opening ((a ∷ bs) ++ after) ≡ None
-    prefixed_b [] words ends no_r b = opens_b a after no_r b (first_byte 114 refl ends) ∙ opens_behind_name 1 (a ∷ []) after (is_b b) ends
+    prefixed_b [] words ends no_r b = opens_b a after no_r b (first_byte 114 refl ends) ∙ opens_after_name 1 (a ∷ []) after (is_b b) ends
     prefixed_b (c ∷ cs) words ends no_r b =
         elim (cases_Bool (c == 114)) [
-          | inl r ↦ opens_br a c (cs ++ after) no_r b r ∙ behind_two c cs (is_br c b r) words ends
+          | inl r ↦ opens_br a c (cs ++ after) no_r b r ∙ after_two c cs (is_br c b r) words ends
           | inr none ↦ opens_b a (c ∷ cs ++ after) no_r b none ∙ opens_none 1 c (cs ++ after) (word_no_quote c (and_parts (is_word_byte c) (list_all is_word_byte cs) words).0)
         ]
 
@@ -206,16 +206,16 @@ pub closes_once : (q : Quotes) (row : ℕ) (e : Escape) (bs more : List ℕ) (m 
 closes_once q row e [] more m a b = false≢true a
 closes_once q row e (x ∷ bs) more m a b =
     elim (cases_Bool (is_escaped e x)) [
-      | inl escaped ↦ closes_once q 0 (escape_behind e x) bs more m (rw (escaped, closes) at a) (rw (escaped, closes) at b)
+      | inl escaped ↦ closes_once q 0 (escape_after e x) bs more m (rw (escaped, closes) at a) (rw (escaped, closes) at b)
       | inr plain ↦ elim (cases_Bool (x == q.byte)) [
         | inl quoted ↦ elim (cases_Bool (row + 1 == closing_row q.long)) [
           | inl closed ↦ never_empty bs more m (rw (plain, quoted, closed, closes) at b)
-          | inr short ↦ closes_once q (row + 1) (escape_behind e x) bs more m (rw (plain, quoted, short, closes) at a) (rw (plain, quoted, short, closes) at b)
+          | inr short ↦ closes_once q (row + 1) (escape_after e x) bs more m (rw (plain, quoted, short, closes) at a) (rw (plain, quoted, short, closes) at b)
         ]
         | inr other ↦
-            closes_once q 0 (escape_behind e x) bs more m
-            (and_parts (q.long || not (x == 10)) (closes q 0 (escape_behind e x) bs) (rw (plain, other, closes) at a)).1
-            (and_parts (q.long || not (x == 10)) (closes q 0 (escape_behind e x) (bs ++ m ∷ more)) (rw (plain, other, closes) at b)).1
+            closes_once q 0 (escape_after e x) bs more m
+            (and_parts (q.long || not (x == 10)) (closes q 0 (escape_after e x) bs) (rw (plain, other, closes) at a)).1
+            (and_parts (q.long || not (x == 10)) (closes q 0 (escape_after e x) (bs ++ m ∷ more)) (rw (plain, other, closes) at b)).1
       ]
     ]
 
@@ -224,21 +224,21 @@ pub closes_last : (q : Quotes) (row : ℕ) (e : Escape) (bs : List ℕ) → clos
 closes_last q row e [] h = absurd (false≢true h)
 closes_last q row e (x ∷ bs) h =
     elim (cases_Bool (is_escaped e x)) [
-      | inl escaped ↦ let h' = rw (escaped, closes) at h in behind bs 0 (escape_behind e x) h' (closes_last q 0 (escape_behind e x) bs h')
+      | inl escaped ↦ let h' = rw (escaped, closes) at h in following bs 0 (escape_after e x) h' (closes_last q 0 (escape_after e x) bs h')
       | inr plain ↦ elim (cases_Bool (x == q.byte)) [
         | inl quoted ↦ elim (cases_Bool (row + 1 == closing_row q.long)) [
           | inl closed ↦ last bs (rw (plain, quoted, closed, closes) at h) quoted
-          | inr short ↦ let h' = rw (plain, quoted, short, closes) at h in behind bs (row + 1) (escape_behind e x) h' (closes_last q (row + 1) (escape_behind e x) bs h')
+          | inr short ↦ let h' = rw (plain, quoted, short, closes) at h in following bs (row + 1) (escape_after e x) h' (closes_last q (row + 1) (escape_after e x) bs h')
         ]
         | inr other ↦
-            let h' = (and_parts (q.long || not (x == 10)) (closes q 0 (escape_behind e x) bs) (rw (plain, other, closes) at h)).1 in
-            behind bs 0 (escape_behind e x) h' (closes_last q 0 (escape_behind e x) bs h')
+            let h' = (and_parts (q.long || not (x == 10)) (closes q 0 (escape_after e x) bs) (rw (plain, other, closes) at h)).1 in
+            following bs 0 (escape_after e x) h' (closes_last q 0 (escape_after e x) bs h')
       ]
     ]
   where
-    behind : (ys : List ℕ) (row : ℕ) (e : Escape) → closes q row e ys ≡ true → get_or ys (length ys - 1) 0 ≡ q.byte → get_or (x ∷ ys) (length (x ∷ ys) - 1) 0 ≡ q.byte
-    behind [] row e h last = absurd (false≢true h)
-    behind (y ∷ ys) row e h last = rw sub-one (rw sub-one at last)
+    following : (ys : List ℕ) (row : ℕ) (e : Escape) → closes q row e ys ≡ true → get_or ys (length ys - 1) 0 ≡ q.byte → get_or (x ∷ ys) (length (x ∷ ys) - 1) 0 ≡ q.byte
+    following [] row e h last = absurd (false≢true h)
+    following (y ∷ ys) row e h last = rw sub-one (rw sub-one at last)
 
     last : (ys : List ℕ) → is_empty ys ≡ true → (x == q.byte) ≡ true → get_or (x ∷ ys) (length (x ∷ ys) - 1) 0 ≡ q.byte
     last [] h same = eqb-true x q.byte same
@@ -250,16 +250,16 @@ pub record OpensAt (o : Opening) (bytes : List ℕ) : Type 0 where
   pub quoted : is_quote o.quotes.byte ≡ true
   pub long : o.quotes.long ≡ are_two o.quotes.byte (drop (o.prefix + 1) bytes)
 
-opens_facts : (n : ℕ) (bytes ys : List ℕ) (o : Opening) → drop n bytes ≡ ys → opens_behind n ys ≡ Some o → OpensAt o bytes
+opens_facts : (n : ℕ) (bytes ys : List ℕ) (o : Opening) → drop n bytes ≡ ys → opens_after n ys ≡ Some o → OpensAt o bytes
 opens_facts n bytes [] o here h = absurd (none_some o h)
 opens_facts n bytes (q ∷ qs) o here h =
     elim (cases_Bool (is_quote q)) [
       | inr none ↦ absurd (none_some o (rw none at h))
       | inl is ↦
           let same : record { prefix = n; quotes = record { byte = q; long = are_two q qs } } ≡ o = some_same _ o (rw is at h) in
-          let behind : drop (n + 1) bytes ≡ qs = sym (drop-drop 1 n bytes) ∙ ap (drop 1) here in
+          let following : drop (n + 1) bytes ≡ qs = sym (drop-drop 1 n bytes) ∙ ap (drop 1) here in
           subst (λ x. OpensAt x bytes) same
-          (record { within = omega (arith, ap length here, length-drop n bytes); quoted = is; long = ap (are_two q) (sym behind) })
+          (record { within = omega (arith, ap length here, length-drop n bytes); quoted = is; long = ap (are_two q) (sym following) })
     ]
   where
     some_same : (a b : Opening) → Some a ≡ Some b → a ≡ b
@@ -309,7 +309,7 @@ are_two-take q qs k enough = elim (cases_Bool (are_two q qs)) [
   ]
 ]
 
-opens_front : (n : ℕ) (ys : List ℕ) (o : Opening) (m : ℕ) → opens_behind n ys ≡ Some o → closing_row o.quotes.long ≤ m → opens_behind n (take m ys) ≡ Some o
+opens_front : (n : ℕ) (ys : List ℕ) (o : Opening) (m : ℕ) → opens_after n ys ≡ Some o → closing_row o.quotes.long ≤ m → opens_after n (take m ys) ≡ Some o
 opens_front n [] o m h enough = absurd (none_some o h)
 opens_front n (q ∷ qs) o zero h enough = absurd (row_some o.quotes.long enough)
   where
@@ -333,7 +333,7 @@ begins_front p [] k h = ap (begins p) (take-nil k)
 begins_front p (b ∷ bs) zero h = refl
 begins_front p (b ∷ bs) (suc k) h = h
 
-prefix_is : (n : ℕ) (ys : List ℕ) (o : Opening) → opens_behind n ys ≡ Some o → o.prefix ≡ n
+prefix_is : (n : ℕ) (ys : List ℕ) (o : Opening) → opens_after n ys ≡ Some o → o.prefix ≡ n
 prefix_is n [] o h = absurd (none_some o h)
 prefix_is n (q ∷ qs) o h =
     elim (cases_Bool (is_quote q)) [
@@ -355,7 +355,7 @@ quote_no_newline q h = grind (arith, nat_tests)
 same_no_newline : (q b : ℕ) → is_newline q ≡ false → (b == q) ≡ true → is_newline b ≡ false
 same_no_newline q b h same = ap is_newline (eqb-true b q same) ∙ h
 
-quotes_line : (n : ℕ) (ys : List ℕ) (o : Opening) → opens_behind n ys ≡ Some o → list_any is_newline (take (closing_row o.quotes.long) ys) ≡ false
+quotes_line : (n : ℕ) (ys : List ℕ) (o : Opening) → opens_after n ys ≡ Some o → list_any is_newline (take (closing_row o.quotes.long) ys) ≡ false
 quotes_line n [] o h = absurd (none_some o h)
 quotes_line n (q ∷ qs) o h =
     elim (cases_Bool (is_quote q)) [
@@ -385,10 +385,10 @@ some_row : (b : Bool) → 0 < closing_row b
 some_row true = omega arith
 some_row false = omega arith
 
-length_is : (n : ℕ) (ys : List ℕ) (o : Opening) → opens_behind n ys ≡ Some o → opening_length o ≡ n + closing_row o.quotes.long
+length_is : (n : ℕ) (ys : List ℕ) (o : Opening) → opens_after n ys ≡ Some o → opening_length o ≡ n + closing_row o.quotes.long
 length_is n ys o h = ap (λ x. x + closing_row o.quotes.long) (prefix_is n ys o h)
 
-front_0 : (bytes : List ℕ) (o : Opening) → opens_behind 0 bytes ≡ Some o → ((m : ℕ) → 0 < m → opening (take m bytes) ≡ opens_behind 0 (take m bytes)) → OpensFront o bytes
+front_0 : (bytes : List ℕ) (o : Opening) → opens_after 0 bytes ≡ Some o → ((m : ℕ) → 0 < m → opening (take m bytes) ≡ opens_after 0 (take m bytes)) → OpensFront o bytes
 front_0 bytes o h same =
     let size : opening_length o ≡ closing_row o.quotes.long = length_is 0 bytes o h ∙ omega arith in
     record {
@@ -396,7 +396,7 @@ front_0 bytes o h same =
       one_line = ap (λ n. list_any is_newline (take n bytes)) size ∙ quotes_line 0 bytes o h;
     }
 
-front_1 : (a : ℕ) (bs : List ℕ) (o : Opening) → is_newline a ≡ false → opens_behind 1 bs ≡ Some o → ((k : ℕ) → opening (a ∷ take k bs) ≡ opens_behind 1 (take k bs)) → OpensFront o (a ∷ bs)
+front_1 : (a : ℕ) (bs : List ℕ) (o : Opening) → is_newline a ≡ false → opens_after 1 bs ≡ Some o → ((k : ℕ) → opening (a ∷ take k bs) ≡ opens_after 1 (take k bs)) → OpensFront o (a ∷ bs)
 front_1 a bs o plain h same =
     let size : opening_length o ≡ 1 + closing_row o.quotes.long = length_is 1 bs o h in
     record {
@@ -408,7 +408,7 @@ front_1 a bs o plain h same =
     front zero enough = absurd (omega arith)
     front (suc k) enough = same k ∙ opens_front 1 bs o k h (omega arith)
 
-front_2 : (a c : ℕ) (cs : List ℕ) (o : Opening) → is_newline a ≡ false → is_newline c ≡ false → opens_behind 2 cs ≡ Some o → ((k : ℕ) → opening (a ∷ c ∷ take k cs) ≡ opens_behind 2 (take k cs)) → OpensFront o (a ∷ c ∷ cs)
+front_2 : (a c : ℕ) (cs : List ℕ) (o : Opening) → is_newline a ≡ false → is_newline c ≡ false → opens_after 2 cs ≡ Some o → ((k : ℕ) → opening (a ∷ c ∷ take k cs) ≡ opens_after 2 (take k cs)) → OpensFront o (a ∷ c ∷ cs)
 front_2 a c cs o plain plain2 h same =
     let size : opening_length o ≡ suc (suc (closing_row o.quotes.long)) = length_is 2 cs o h ∙ omega arith in
     record {
@@ -432,7 +432,7 @@ opening_front (a ∷ bs) o h =
       ]
     ]
   where
-    plain_front : (m : ℕ) → 0 < m → (a == 114) ≡ false → (a == 98) ≡ false → opening (take m (a ∷ bs)) ≡ opens_behind 0 (take m (a ∷ bs))
+    plain_front : (m : ℕ) → 0 < m → (a == 114) ≡ false → (a == 98) ≡ false → opening (take m (a ∷ bs)) ≡ opens_after 0 (take m (a ∷ bs))
     plain_front zero some no_r no_b = absurd (omega arith)
     plain_front (suc k) some no_r no_b = opens_plain a (take k bs) no_r no_b
 

@@ -5,9 +5,9 @@ use Rattle.std.specs.Prelude.{if◌then◌else◌}
 use Rattle.std.proofs.lemmas.Bool.{and_parts, not-true, or_from, eq-eqb}
 use Rattle.std.proofs.lemmas.Bool.Decides.{nat_tests}
 use Rattle.bz_token.specs.Lexical.{closes, is_newline, is_quote, starts_escape, is_empty}
-use Rattle.bz_token.specs.Scans.{is_plain}
+use Rattle.bz_token.specs.private.Scans.{is_plain}
 use Rattle.bz_token.specs.declared.scan_string.Quotes.{Quotes}
-use Rattle.bz_token.specs.declared.scan_string.Escape.TheVariants.{Unescaped, BehindBackslash}
+use Rattle.bz_token.specs.declared.scan_string.Escape.TheVariants.{Unescaped, AfterBackslash}
 
 quote_no_newline : (q : ℕ) → is_quote q ≡ true → (q == 10) ≡ false
 quote_no_newline q h = grind (arith, nat_tests)
@@ -18,7 +18,7 @@ short q = record { byte = q; long = false }
 -- whether a short string closes, by what its next byte is: its quote, a newline, a backslash
 abbrev closed : Bool → Bool → Bool → ℕ → List ℕ → Bool
 closed true newline backslash q bs = is_empty bs
-closed false newline backslash q bs = not newline && closes (short q) 0 (if backslash then BehindBackslash else Unescaped) bs
+closed false newline backslash q bs = not newline && closes (short q) 0 (if backslash then AfterBackslash else Unescaped) bs
 
 by_tests : (q b : ℕ) (bs : List ℕ) → closes (short q) 0 Unescaped (b ∷ bs) ≡ closed (b == q) (b == 10) (b == 92) q bs
 by_tests q b bs = by (b == q)

@@ -11,7 +11,7 @@ use Rattle.std.proofs.lemmas.Str.{IsCharBoundary-start, IsUtf8-drop}
 use Rattle.bz_token.specs.declared.token.Kind.{Kind}
 use Rattle.bz_token.specs.Places.{Placed, line_at, column_from, column_at}
 use Rattle.bz_token.specs.Lexical.{begins, is_newline, IsToken}
-use Rattle.bz_token.specs.Brackets.{is_inside, is_opening_bracket, is_closing_bracket, closes_innermost, fits, open_behind, open_tokens}
+use Rattle.bz_token.specs.Brackets.{is_inside, is_opening_bracket, is_closing_bracket, closes_innermost, fits, open_after_token, open_tokens}
 use Rattle.bz_token.specs.Reading.{is_gap, begins_gap, Piece, IsPiece, IsReading, open_after, bytes_of, token_of, tokens_of, AreTokensOf}
 use Rattle.bz_token.specs.declared.fault.LexFault.{LexFault}
 use Rattle.bz_token.specs.declared.scan_token.Bad.{Bad}
@@ -19,9 +19,9 @@ use Rattle.bz_token.specs.declared.scan_token.Bad.TheVariants.{Character, Number
 use Rattle.bz_token.specs.declared.brackets.Misfit.{Misfit}
 use Rattle.bz_token.specs.declared.brackets.Misfit.TheVariants.{TooDeep, NoMatch}
 use Rattle.bz_token.specs.Faults.{IsFault, IsFaultAt, IsOpenBracket, IsBadCharacter, IsBadNumber, IsOpenText, IsBadBackslash, IsBadBracket, IsTooDeep}
-use Rattle.bz_token.specs.Scans.{IsBadPlace, bad_fault, IsMisfit, misfit_fault, IsLeftOpen}
+use Rattle.bz_token.specs.private.Scans.{IsBadPlace, bad_fault, IsMisfit, misfit_fault, IsLeftOpen}
 use Rattle.bz_token.proofs.Innermost.{step}
-use Rattle.bz_token.proofs.Scanning.{boundary_behind}
+use Rattle.bz_token.proofs.Scanning.{boundary_after}
 
 abbrev pub newlines : List ℕ → ℕ
 newlines bytes = count_by (λ b. b == 10) bytes
@@ -59,15 +59,15 @@ one_line_column c (x ∷ xs) h = elim (cases_Bool (x == 10)) [
 pub reading_bytes : (depth : ℕ) (opened : List ℕ) (ps : List Piece) (rest bytes : List ℕ) → IsReading depth opened ps rest bytes → bytes ≡ bytes_of ps ++ rest
 reading_bytes depth opened [] rest bytes r = r
 reading_bytes depth opened (p ∷ ps) rest bytes r =
-    r.1.bytes_are ∙ ap (λ x. p.gap ++ (p.text ++ x)) (reading_bytes depth (open_behind opened p.text) ps rest r.0 r.2) ∙ simp append_assoc
+    r.1.bytes_are ∙ ap (λ x. p.gap ++ (p.text ++ x)) (reading_bytes depth (open_after_token opened p.text) ps rest r.0 r.2) ∙ simp append_assoc
 
 pub reading_push : (depth : ℕ) (opened : List ℕ) (ps : List Piece) (p : Piece) (rest after bytes : List ℕ) → IsReading depth opened ps rest bytes → IsPiece depth (open_after opened ps) p rest after → IsReading depth opened (ps ++ p ∷ []) after bytes
 reading_push depth opened [] p rest after bytes r piece = (after, subst (λ x. IsPiece depth opened p x after) (sym r) piece, refl)
-reading_push depth opened (q ∷ ps) p rest after bytes r piece = (r.0, r.1, reading_push depth (open_behind opened q.text) ps p rest after r.0 r.2 piece)
+reading_push depth opened (q ∷ ps) p rest after bytes r piece = (r.0, r.1, reading_push depth (open_after_token opened q.text) ps p rest after r.0 r.2 piece)
 
-pub open_after-push : (opened : List ℕ) (ps : List Piece) (p : Piece) → open_after opened (ps ++ p ∷ []) ≡ open_behind (open_after opened ps) p.text
+pub open_after-push : (opened : List ℕ) (ps : List Piece) (p : Piece) → open_after opened (ps ++ p ∷ []) ≡ open_after_token (open_after opened ps) p.text
 open_after-push opened [] p = refl
-open_after-push opened (q ∷ ps) p = open_after-push (open_behind opened q.text) ps p
+open_after-push opened (q ∷ ps) p = open_after-push (open_after_token opened q.text) ps p
 
 pub bytes_of-push : (ps : List Piece) (p : Piece) → bytes_of (ps ++ p ∷ []) ≡ bytes_of ps ++ (p.gap ++ p.text)
 bytes_of-push [] p = ap (λ x. p.gap ++ x) (append-nil p.text)
@@ -150,12 +150,12 @@ pub record Progress (first depth : ℕ) (bytes : List ℕ) (tokens : List Placed
   pub col_is : col ≡ column_at (bytes_of pieces)
   pub utf8 : IsUtf8 rest
 
--- the place behind a gap
-pub record BehindGap (first depth : ℕ) (bytes : List ℕ) (tokens : List Placed) (opened : List ℕ) (last : Option ℕ) (gap after : List ℕ) (line col : ℕ) : Type 0 where
+-- the place after a gap
+pub record AfterGap (first depth : ℕ) (bytes : List ℕ) (tokens : List Placed) (opened : List ℕ) (last : Option ℕ) (gap after : List ℕ) (line col : ℕ) : Type 0 where
   pub pieces : List Piece
   pub reading : IsReading depth [] pieces (gap ++ after) bytes
   pub is_gap : is_gap (is_inside (open_after [] pieces)) gap ≡ true
-  pub behind_gap : begins_gap (is_inside (open_after [] pieces)) after ≡ false
+  pub after_gap : begins_gap (is_inside (open_after [] pieces)) after ≡ false
   pub opened_are : opened ≡ open_after [] pieces
   pub tokens_are : tokens ≡ tokens_of first [] [] pieces
   pub last_is : last ≡ newest (lines_of first [] [] pieces)
@@ -175,18 +175,18 @@ places_fit first depth bytes ps rest r =
       bounds.0,
     )
 
--- reading goes on behind a gap
-pub behind_gap : (first depth : ℕ) (bytes : List ℕ) (tokens : List Placed) (opened : List ℕ) (last : Option ℕ) (rest gap after : List ℕ) (line col l c n : ℕ) → Progress first depth bytes tokens opened last rest line col
+-- reading goes on after a gap
+pub after_gap : (first depth : ℕ) (bytes : List ℕ) (tokens : List Placed) (opened : List ℕ) (last : Option ℕ) (rest gap after : List ℕ) (line col l c n : ℕ) → Progress first depth bytes tokens opened last rest line col
     → is_gap (is_inside opened) (take n rest) ≡ true → begins_gap (is_inside opened) (drop n rest) ≡ false → IsCharBoundary rest n
     → gap ≡ take n rest → after ≡ drop n rest → l ≡ line + newlines gap → c ≡ column_from col gap
-    → BehindGap first depth bytes tokens opened last gap after l c
-behind_gap first depth bytes tokens opened last rest gap after line col l c n before white none cut gap_is_front after_is line_moves col_moves =
+    → AfterGap first depth bytes tokens opened last gap after l c
+after_gap first depth bytes tokens opened last rest gap after line col l c n before white none cut gap_is_front after_is line_moves col_moves =
     let whole : rest ≡ gap ++ after = rw (gap_is_front, after_is, take-append-drop) refl in
     record {
       pieces = before.pieces;
       reading = rw whole at before.reading;
       is_gap = rw gap_is_front (subst (λ o. is_gap (is_inside o) (take n rest) ≡ true) before.opened_are white);
-      behind_gap = rw after_is (subst (λ o. begins_gap (is_inside o) (drop n rest) ≡ false) before.opened_are none);
+      after_gap = rw after_is (subst (λ o. begins_gap (is_inside o) (drop n rest) ≡ false) before.opened_are none);
       opened_are = before.opened_are;
       tokens_are = before.tokens_are;
       last_is = before.last_is;
@@ -196,10 +196,10 @@ behind_gap first depth bytes tokens opened last rest gap after line col l c n be
       utf8 = rw after_is (IsUtf8-drop rest n before.utf8 cut);
     }
 
--- what a place behind a gap says of the whole text
-pub behind_fits : (first depth : ℕ) (bytes : List ℕ) (tokens : List Placed) (opened : List ℕ) (last : Option ℕ) (gap after : List ℕ) (line col : ℕ) → BehindGap first depth bytes tokens opened last gap after line col
+-- what a place after a gap says of the whole text
+pub after_fits : (first depth : ℕ) (bytes : List ℕ) (tokens : List Placed) (opened : List ℕ) (last : Option ℕ) (gap after : List ℕ) (line col : ℕ) → AfterGap first depth bytes tokens opened last gap after line col
     → (line + newlines after ≡ first + newlines bytes) × (col + length after ≤ length bytes + 1) × (0 < col)
-behind_fits first depth bytes tokens opened last gap after line col b =
+after_fits first depth bytes tokens opened last gap after line col b =
     let whole : bytes ≡ (bytes_of b.pieces ++ gap) ++ after = reading_bytes depth [] b.pieces (gap ++ after) bytes b.reading ∙ sym (append_assoc (bytes_of b.pieces) gap after) in
     let bounds = column_from-bounds 1 (bytes_of b.pieces ++ gap) (omega arith) in (
       omega (arith, ap newlines whole, newlines-append (bytes_of b.pieces ++ gap) after, b.line_is),
@@ -212,12 +212,12 @@ newlines_split xs front back n is_front is_back =
     let whole : xs ≡ front ++ back = rw (is_front, is_back, take-append-drop) refl in
     (omega (arith, ap newlines whole, newlines-append front back), omega (arith, ap length whole, length-append front back))
 
--- reading goes on behind a token
-pub behind_token : (first depth : ℕ) (bytes : List ℕ) (tokens : List Placed) (opened opened' : List ℕ) (last : Option ℕ) (gap after text behind : List ℕ) (kind : Kind) (line col l c : ℕ) (fresh : Bool)
-    → BehindGap first depth bytes tokens opened last gap after line col → after ≡ text ++ behind → IsToken kind text behind → fits depth opened kind text ≡ true → opened' ≡ open_behind opened text
-    → fresh ≡ not (same_line last line) → IsUtf8 behind → l ≡ line + newlines text → c ≡ column_from col text
-    → Progress first depth bytes (tokens ++ record { kind = kind; text = text; line = line; col = col; fresh = fresh } ∷ []) opened' (Some line) behind l c
-behind_token first depth bytes tokens opened opened' last gap after text behind kind line col l c fresh before split token fit opens is_fresh utf8 line_moves col_moves =
+-- reading goes on after a token
+pub after_token : (first depth : ℕ) (bytes : List ℕ) (tokens : List Placed) (opened opened' : List ℕ) (last : Option ℕ) (gap after text following : List ℕ) (kind : Kind) (line col l c : ℕ) (fresh : Bool)
+    → AfterGap first depth bytes tokens opened last gap after line col → after ≡ text ++ following → IsToken kind text following → fits depth opened kind text ≡ true → opened' ≡ open_after_token opened text
+    → fresh ≡ not (same_line last line) → IsUtf8 following → l ≡ line + newlines text → c ≡ column_from col text
+    → Progress first depth bytes (tokens ++ record { kind = kind; text = text; line = line; col = col; fresh = fresh } ∷ []) opened' (Some line) following l c
+after_token first depth bytes tokens opened opened' last gap after text following kind line col l c fresh before split token fit opens is_fresh utf8 line_moves col_moves =
     let p : Piece = record { gap = gap; kind = kind; text = text } in
     let ps = before.pieces in
     let whole : bytes_of (ps ++ p ∷ []) ≡ (bytes_of ps ++ gap) ++ text = bytes_of-push ps p ∙ sym (append_assoc (bytes_of ps) gap text) in
@@ -228,9 +228,9 @@ behind_token first depth bytes tokens opened opened' last gap after text behind 
     let now : l ≡ line_at first (bytes_of (ps ++ p ∷ [])) = omega (arith, before.line_is, ap newlines whole, newlines-append (bytes_of ps ++ gap) text) in
     record {
       pieces = ps ++ p ∷ [];
-      reading = reading_push depth [] ps p (gap ++ after) behind bytes before.reading
+      reading = reading_push depth [] ps p (gap ++ after) following bytes before.reading
           (record { bytes_are = ap (λ x. gap ++ x) split; gap = before.is_gap; token = token; fits = subst (λ o. fits depth o kind text ≡ true) before.opened_are fit });
-      opened_are = opens ∙ ap (λ o. open_behind o text) before.opened_are ∙ sym (open_after-push [] ps p);
+      opened_are = opens ∙ ap (λ o. open_after_token o text) before.opened_are ∙ sym (open_after-push [] ps p);
       tokens_are = ap₂ (λ ts t. ts ++ t ∷ []) before.tokens_are (λ i. record { kind = kind; text = text; line = before.line_is i; col = before.col_is i; fresh = (is_new ∙ ap (λ y. not (list_any (λ x. x == y) lines)) before.line_is) i }) ∙ sym (tokens_of-push first [] [] ps p);
       last_is = ap newest (sym push);
       descends = rw push (omega (arith, now), here);
@@ -239,8 +239,8 @@ behind_token first depth bytes tokens opened opened' last gap after text behind 
       utf8 = utf8;
     }
 
--- a fault behind a gap
-pub fault_at : (first depth : ℕ) (bytes : List ℕ) (tokens : List Placed) (opened : List ℕ) (last : Option ℕ) (gap after : List ℕ) (line col : ℕ) (IsBad : List ℕ → List ℕ → Type 0) → BehindGap first depth bytes tokens opened last gap after line col → IsBad opened after
+-- a fault after a gap
+pub fault_at : (first depth : ℕ) (bytes : List ℕ) (tokens : List Placed) (opened : List ℕ) (last : Option ℕ) (gap after : List ℕ) (line col : ℕ) (IsBad : List ℕ → List ℕ → Type 0) → AfterGap first depth bytes tokens opened last gap after line col → IsBad opened after
     → IsFaultAt first depth bytes IsBad line col
 fault_at first depth bytes tokens opened last gap after line col IsBad b bad = record {
   pieces = b.pieces;
@@ -248,7 +248,7 @@ fault_at first depth bytes tokens opened last gap after line col IsBad b bad = r
   place = after;
   reading = b.reading;
   is_gap = b.is_gap;
-  behind_gap = b.behind_gap;
+  after_gap = b.after_gap;
   bad = subst (λ o. IsBad o after) b.opened_are bad;
   line_is = b.line_is;
   col_is = b.col_is;
@@ -259,7 +259,7 @@ pub open_lengths : (first : ℕ) (before lines : List ℕ) (opened : List Placed
 open_lengths first before lines opened brackets [] same = same
 open_lengths first before lines opened brackets (p ∷ ps) same =
     let t = token_of first (before ++ p.gap) lines p in
-    open_lengths first (before ++ (p.gap ++ p.text)) (line_at first (before ++ p.gap) ∷ lines) (step opened t) (open_behind brackets p.text) ps (stepped (token_of first (before ++ p.gap) lines p) p.text refl)
+    open_lengths first (before ++ (p.gap ++ p.text)) (line_at first (before ++ p.gap) ∷ lines) (step opened t) (open_after_token brackets p.text) ps (stepped (token_of first (before ++ p.gap) lines p) p.text refl)
   where
     dropped : (xs : List Placed) (ys : List ℕ) → length xs ≡ length ys → length (drop 1 xs) ≡ length (drop 1 ys)
     dropped [] [] e = refl
@@ -267,7 +267,7 @@ open_lengths first before lines opened brackets (p ∷ ps) same =
     dropped (x ∷ xs) [] e = absurd (omega arith)
     dropped (x ∷ xs) (y ∷ ys) e = omega arith
 
-    stepped : (t : Placed) (text : List ℕ) → t.text ≡ text → length (step opened t) ≡ length (open_behind brackets text)
+    stepped : (t : Placed) (text : List ℕ) → t.text ≡ text → length (step opened t) ≡ length (open_after_token brackets text)
     stepped t [] e = rw e same
     stepped t (b ∷ c ∷ bs) e = rw e same
     stepped t (b ∷ []) e = rw e (elim (cases_Bool (is_opening_bracket b)) [
@@ -283,7 +283,7 @@ none_left [] e = refl
 none_left (x ∷ xs) e = absurd (omega arith)
 
 -- the whole text was read
-pub all_read : (first depth : ℕ) (bytes : List ℕ) (tokens : List Placed) (opened : List ℕ) (last : Option ℕ) (gap after : List ℕ) (line col : ℕ) → BehindGap first depth bytes tokens opened last gap after line col → after ≡ [] → open_tokens [] tokens ≡ []
+pub all_read : (first depth : ℕ) (bytes : List ℕ) (tokens : List Placed) (opened : List ℕ) (last : Option ℕ) (gap after : List ℕ) (line col : ℕ) → AfterGap first depth bytes tokens opened last gap after line col → after ≡ [] → open_tokens [] tokens ≡ []
     → AreTokensOf first depth bytes tokens
 all_read first depth bytes tokens opened last gap after line col b done closed =
     let empty : open_after [] b.pieces ≡ [] = none_left (open_after [] b.pieces) (sym (open_lengths first [] [] [] [] b.pieces refl) ∙ ap (λ ts. length (open_tokens [] ts)) (sym b.tokens_are) ∙ ap length closed) in
@@ -292,7 +292,7 @@ all_read first depth bytes tokens opened last gap after line col b done closed =
 
 pub gap_boundary : (rest : List ℕ) (n : ℕ) → IsUtf8 rest → n ≤ length rest → (0 < n → get_or rest (n - 1) 0 < 128) → IsCharBoundary rest n
 gap_boundary rest zero utf8 within ascii = IsCharBoundary-start rest utf8
-gap_boundary rest (suc n) utf8 within ascii = boundary_behind rest (suc n) (omega arith) within (ascii (omega arith)) utf8
+gap_boundary rest (suc n) utf8 within ascii = boundary_after rest (suc n) (omega arith) within (ascii (omega arith)) utf8
 
 pub empty_from_test : (xs : List ℕ) → (length xs == 0) ≡ true → xs ≡ []
 empty_from_test [] h = refl
@@ -318,21 +318,21 @@ both : (x y : Bool) → x ≡ true → y ≡ false → (x && not y) ≡ true
 both x y p q = rw (p, q) refl
 
 -- the faults that end a reading
-pub bad_at : (first depth : ℕ) (bytes : List ℕ) (tokens : List Placed) (opened : List ℕ) (last : Option ℕ) (gap after : List ℕ) (line col : ℕ) (bad : Bad) → BehindGap first depth bytes tokens opened last gap after line col → IsBadPlace after bad
+pub bad_at : (first depth : ℕ) (bytes : List ℕ) (tokens : List Placed) (opened : List ℕ) (last : Option ℕ) (gap after : List ℕ) (line col : ℕ) (bad : Bad) → AfterGap first depth bytes tokens opened last gap after line col → IsBadPlace after bad
     → IsFault first depth bytes (bad_fault bad line col)
 bad_at first depth bytes tokens opened last gap after line col Character b is = fault_at first depth bytes tokens opened last gap after line col (λ opened. IsBadCharacter) b is
 bad_at first depth bytes tokens opened last gap after line col Number b is = fault_at first depth bytes tokens opened last gap after line col (λ opened. IsBadNumber) b is
 bad_at first depth bytes tokens opened last gap after line col OpenText b is = fault_at first depth bytes tokens opened last gap after line col (λ opened. IsOpenText) b is
 bad_at first depth bytes tokens opened last gap after line col Backslash b is = fault_at first depth bytes tokens opened last gap after line col (λ opened. IsBadBackslash) b is
 
-pub misfit_at : (first depth : ℕ) (bytes : List ℕ) (tokens : List Placed) (opened : List ℕ) (last : Option ℕ) (gap after : List ℕ) (line col : ℕ) (misfit : Misfit) → BehindGap first depth bytes tokens opened last gap after line col → 0 < length after → IsMisfit depth opened (get_or after 0 0) misfit
+pub misfit_at : (first depth : ℕ) (bytes : List ℕ) (tokens : List Placed) (opened : List ℕ) (last : Option ℕ) (gap after : List ℕ) (line col : ℕ) (misfit : Misfit) → AfterGap first depth bytes tokens opened last gap after line col → 0 < length after → IsMisfit depth opened (get_or after 0 0) misfit
     → IsFault first depth bytes (misfit_fault misfit line col)
 misfit_at first depth bytes tokens opened last gap after line col TooDeep b some is =
     fault_at first depth bytes tokens opened last gap after line col (IsTooDeep depth) b (record { bracket = begins_at is_opening_bracket after some is.0; deep = is.1 })
 misfit_at first depth bytes tokens opened last gap after line col NoMatch b some is =
     fault_at first depth bytes tokens opened last gap after line col IsBadBracket b (begins_at (λ x. is_closing_bracket x && not (closes_innermost opened x)) after some (both _ _ is.0 is.1))
 
-pub left_open : (first depth : ℕ) (bytes : List ℕ) (tokens : List Placed) (opened : List ℕ) (last : Option ℕ) (gap after : List ℕ) (line col : ℕ) (fault : LexFault) → BehindGap first depth bytes tokens opened last gap after line col → after ≡ [] → IsLeftOpen tokens fault
+pub left_open : (first depth : ℕ) (bytes : List ℕ) (tokens : List Placed) (opened : List ℕ) (last : Option ℕ) (gap after : List ℕ) (line col : ℕ) (fault : LexFault) → AfterGap first depth bytes tokens opened last gap after line col → after ≡ [] → IsLeftOpen tokens fault
     → IsFault first depth bytes fault
 left_open first depth bytes tokens opened last gap after line col fault b done (t, outer, found, is) =
     let end : gap ++ after ≡ gap = ap (λ r. gap ++ r) done ∙ append-nil gap in

@@ -16,17 +16,17 @@ use Rattle.bz_token.specs.declared.scan_string.Escape.TheVariants.{Unescaped}
 use Rattle.bz_token.specs.declared.scan_token.Scanned.{Scanned}
 use Rattle.bz_token.specs.declared.token.Kind.{Kind}
 use Rattle.bz_token.specs.declared.token.Kind.TheVariants.{Ident, Word, Int, Text, Sign, Line, Note, Kept}
-use Rattle.bz_token.specs.Lexical.{begins, is_word_byte, is_quote, is_blank, is_newline, is_name, is_number, is_sign, is_comment, closes, opens_behind, opening, opening_length, is_text, IsToken}
+use Rattle.bz_token.specs.Lexical.{begins, is_word_byte, is_quote, is_blank, is_newline, is_name, is_number, is_sign, is_comment, closes, opens_after, opening, opening_length, is_text, IsToken}
 use Rattle.bz_token.specs.Faults.{IsBadCharacter, IsBadNumber, IsOpenText}
 use Rattle.bz_token.specs.Ends.{stops_at}
-use Rattle.bz_token.specs.Scans.{IsScanned}
+use Rattle.bz_token.specs.private.Scans.{IsScanned}
 use Rattle.bz_token.proofs.Classes.{mark, unknown, can_start, is_mark}
 use Rattle.bz_token.proofs.Openings.{opens_plain, opening_front, closes_last, opening_facts}
 use Rattle.bz_token.proofs.Ends.{name_token_at, number_token, sign_token, line_token, note_token, string_token_at, open_string, bad_number, no_sign, comment_parts}
 use Rattle.bz_token.proofs.Signs.{is_sign_byte, sign_bytes}
 
-pub boundary_behind : (bytes : List ℕ) (n : ℕ) → 0 < n → n ≤ length bytes → get_or bytes (n - 1) 0 < 128 → IsUtf8 bytes → IsCharBoundary bytes n
-boundary_behind bytes n some fits ascii utf8 =
+pub boundary_after : (bytes : List ℕ) (n : ℕ) → 0 < n → n ≤ length bytes → get_or bytes (n - 1) 0 < 128 → IsUtf8 bytes → IsCharBoundary bytes n
+boundary_after bytes n some fits ascii utf8 =
     let e : n - 1 + 1 ≡ n = omega arith in
     subst (λ k. IsCharBoundary bytes k) e (IsCharBoundary-after_ascii bytes (n - 1) utf8 (omega arith) ascii)
 
@@ -66,7 +66,7 @@ string_scanned bytes o n nl opens some fits closed one_line =
       within = within;
       token = string_token_at (take (s + n) bytes) (drop (s + n) bytes) o (front.front (s + n) (omega arith)) (ap opening whole ∙ opens) (ap (closes o.quotes 0 Unescaped) inside ∙ closed);
       one_line = λ h. ap (list_any is_newline) (take-add s n bytes) ∙ list_any-append is_newline (take s bytes) (take n (drop s bytes)) ∙ or_no _ _ front.one_line (one_line h);
-      boundary = boundary_behind bytes (s + n) (omega arith) within (subst (λ x. x < 128) (sym at_end) (quote_ascii o.quotes.byte (opening_facts bytes o opens).quoted));
+      boundary = boundary_after bytes (s + n) (omega arith) within (subst (λ x. x < 128) (sym at_end) (quote_ascii o.quotes.byte (opening_facts bytes o opens).quoted));
     }
   where
     the_end : (s n : ℕ) → 0 < n → s + n - 1 ≡ s + (n - 1)
@@ -81,11 +81,11 @@ all_front p (x ∷ xs) =
       | inr miss ↦ rw miss refl
     ]
 
-stops_behind : (p : ℕ → Bool) (xs : List ℕ) → prefix_len p (drop (prefix_len p xs) xs) ≡ 0
-stops_behind p [] = refl
-stops_behind p (x ∷ xs) =
+stops_after : (p : ℕ → Bool) (xs : List ℕ) → prefix_len p (drop (prefix_len p xs) xs) ≡ 0
+stops_after p [] = refl
+stops_after p (x ∷ xs) =
     elim (cases_Bool (p x)) [
-      | inl hit ↦ rw (hit, one-add) (stops_behind p xs)
+      | inl hit ↦ rw (hit, one-add) (stops_after p xs)
       | inr miss ↦ rw (miss, miss) refl
     ]
 
@@ -95,16 +95,16 @@ words_line (x ∷ xs) h =
     let parts = and_parts (is_word_byte x) (list_all is_word_byte xs) h in
     or_no _ _ (word_no_newline x parts.0) (words_line xs parts.1)
 
-no_word_behind : (xs : List ℕ) → prefix_len is_word_byte xs ≡ 0 → stops_at Int [] xs ≡ true
-no_word_behind [] h = refl
-no_word_behind (x ∷ xs) h = elim (cases_Bool (is_word_byte x)) [
+no_word_after : (xs : List ℕ) → prefix_len is_word_byte xs ≡ 0 → stops_at Int [] xs ≡ true
+no_word_after [] h = refl
+no_word_after (x ∷ xs) h = elim (cases_Bool (is_word_byte x)) [
   | inl hit ↦ absurd (omega (arith, rw hit at h))
   | inr miss ↦ rw miss refl
 ]
 
 run_boundary : (bytes : List ℕ) → 0 < prefix_len is_word_byte bytes → IsUtf8 bytes → IsCharBoundary bytes (prefix_len is_word_byte bytes)
 run_boundary bytes some utf8 =
-    boundary_behind bytes (prefix_len is_word_byte bytes) some (prefix_len-le-length is_word_byte bytes)
+    boundary_after bytes (prefix_len is_word_byte bytes) some (prefix_len-le-length is_word_byte bytes)
     (word_ascii _ (prefix_len_passes is_word_byte bytes (prefix_len is_word_byte bytes - 1) 0 (omega arith))) utf8
 
 -- a run is the token of this kind
@@ -128,7 +128,7 @@ number_scanned (b ∷ bs) first is =
     let run : prefix_len is_word_byte (b ∷ bs) ≡ suc (prefix_len is_word_byte bs) = rw (word, one-add) refl in
     run_scanned Int (b ∷ bs) (omega arith)
     (subst (λ n. IsToken Int (take n (b ∷ bs)) (drop n (b ∷ bs))) (sym run)
-    (number_token b (take (prefix_len is_word_byte bs) bs) (drop (prefix_len is_word_byte bs) bs) (subst (λ n. is_number (take n (b ∷ bs)) ≡ true) run is) (stops_behind is_word_byte bs)))
+    (number_token b (take (prefix_len is_word_byte bs) bs) (drop (prefix_len is_word_byte bs) bs) (subst (λ n. is_number (take n (b ∷ bs)) ≡ true) run is) (stops_after is_word_byte bs)))
 
 pub no_number : (bytes : List ℕ) → begins is_ascii_digit bytes ≡ true → is_number (take (prefix_len is_word_byte bytes) bytes) ≡ false → IsBadNumber bytes
 no_number [] first bad = absurd (false≢true first)
@@ -146,7 +146,7 @@ name_scanned kind (b ∷ bs) unquoted word plain is =
     let place : opening (b ∷ take (prefix_len is_word_byte bs) bs ++ drop (prefix_len is_word_byte bs) bs) ≡ None = ap (λ xs. opening (b ∷ xs)) (take-append-drop (prefix_len is_word_byte bs) bs) ∙ unquoted in
     run_scanned kind (b ∷ bs) (omega arith)
     (subst (λ n. IsToken kind (take n (b ∷ bs)) (drop n (b ∷ bs))) (sym run)
-    (name_token_at kind b (take (prefix_len is_word_byte bs) bs) (drop (prefix_len is_word_byte bs) bs) whole name place (no_word_behind (drop (prefix_len is_word_byte bs) bs) (stops_behind is_word_byte bs))))
+    (name_token_at kind b (take (prefix_len is_word_byte bs) bs) (drop (prefix_len is_word_byte bs) bs) whole name place (no_word_after (drop (prefix_len is_word_byte bs) bs) (stops_after is_word_byte bs))))
 
 pub line_scanned : (bytes : List ℕ) → 0 < length bytes → get_or bytes 0 0 ≡ 10 → IsScanned bytes (record { kind = Line; len = 1; has_newline = true })
 line_scanned [] some first = absurd (omega arith)
@@ -155,7 +155,7 @@ line_scanned (b ∷ bs) some first = record {
   within = omega arith;
   token = rw first (line_token bs);
   one_line = λ h. absurd (false≢true (sym h));
-  boundary = boundary_behind (b ∷ bs) 1 (omega arith) (omega arith) (rw first (omega arith));
+  boundary = boundary_after (b ∷ bs) 1 (omega arith) (omega arith) (rw first (omega arith));
 }
 
 signs_line : (xs : List ℕ) → list_all is_sign_byte xs ≡ true → list_any is_newline xs ≡ false
@@ -188,7 +188,7 @@ sign_scanned (b ∷ bs) (suc n) some fits is stop =
       within = fits;
       token = sign_token b (take n bs) (drop n bs) is stop;
       one_line = λ h. signs_line (b ∷ take n bs) bytes;
-      boundary = boundary_behind (b ∷ bs) (suc n) some fits (subst (λ x. x < 128) (sym here) (sign_ascii _ last));
+      boundary = boundary_after (b ∷ bs) (suc n) some fits (subst (λ x. x < 128) (sym here) (sign_ascii _ last));
     }
 
 -- what is left of a line
@@ -259,7 +259,7 @@ no_string_quote b bs unquoted none = elim (cases_Bool (is_quote b)) [
     some_none : {o : Opening} → Some o ≡ None → ⊥
     some_none e = cc
 
-    quoted : (b : ℕ) (bs : List ℕ) → is_quote b ≡ true → opens_behind 0 (b ∷ bs) ≡ None → ⊥
+    quoted : (b : ℕ) (bs : List ℕ) → is_quote b ≡ true → opens_after 0 (b ∷ bs) ≡ None → ⊥
     quoted b bs hit h = some_none (rw hit at h)
 
 pub marks : (kind : Kind) → can_start kind mark ≡ true → kind ≡ Sign

@@ -9,10 +9,10 @@ use Rattle.bz_token.specs.declared.scan_token.Scanned.{Scanned}
 use Rattle.bz_token.specs.declared.scan_token.Bad.{Bad}
 use Rattle.bz_token.specs.declared.scan_token.Bad.TheVariants as bads
 use Rattle.bz_token.specs.Places.{Placed, line_at, column_at}
-use Rattle.bz_token.specs.Brackets.{is_inside, is_opening_bracket, is_closing_bracket, bracket_fits, open_behind, open_tokens}
+use Rattle.bz_token.specs.Brackets.{is_inside, is_opening_bracket, is_closing_bracket, bracket_fits, open_after_token, open_tokens}
 use Rattle.bz_token.specs.Reading.{is_white, is_gap, continues, begins_gap, Piece, IsReading, open_after, bytes_of, tokens_of}
 use Rattle.bz_token.specs.Faults.{IsOpenText, IsBadNumber, IsBadBackslash, IsBadCharacter, IsBadBracket, IsTooDeep, IsFaultAt}
-use Rattle.bz_token.specs.Scans.{IsScanned, IsBadPlace}
+use Rattle.bz_token.specs.private.Scans.{IsScanned, IsBadPlace}
 use Rattle.bz_token.specs.UpToFault.{IsReadAs}
 use Rattle.bz_token.proofs.Classes.{same_bytes}
 use Rattle.bz_token.proofs.Fitting.{token_fits}
@@ -26,7 +26,7 @@ record GapAt (inside : Bool) (bytes : List ℕ) : Type 0 where
   pub after : List ℕ
   pub bytes_are : bytes ≡ gap ++ after
   pub is_gap : is_gap inside gap ≡ true
-  pub behind_gap : begins_gap inside after ≡ false
+  pub after_gap : begins_gap inside after ≡ false
 
 -- a continued line in front of a gap
 two_bytes : (inside : Bool) (b : ℕ) (bs : List ℕ) (n : ℕ) → length bs ≤ n → ((ys : List ℕ) → length ys ≤ n → GapAt inside ys) → take 2 (b ∷ bs) ≡ 92 ∷ 10 ∷ [] → is_white inside b ≡ false → GapAt inside (b ∷ bs)
@@ -36,7 +36,7 @@ two_bytes inside b (c ∷ cs) n fits again same other =
     let first : b ≡ 92 = cc in
     let second : c ≡ 10 = cc in
     let more = r.is_gap in
-    record { gap = b ∷ c ∷ r.gap; after = r.after; bytes_are = ap (λ x. b ∷ c ∷ x) r.bytes_are; is_gap = rw (other, first, second, more, is_gap) refl; behind_gap = r.behind_gap }
+    record { gap = b ∷ c ∷ r.gap; after = r.after; bytes_are = ap (λ x. b ∷ c ∷ x) r.bytes_are; is_gap = rw (other, first, second, more, is_gap) refl; after_gap = r.after_gap }
 
 three_bytes : (inside : Bool) (b : ℕ) (bs : List ℕ) (n : ℕ) → length bs ≤ n → ((ys : List ℕ) → length ys ≤ n → GapAt inside ys) → take 3 (b ∷ bs) ≡ 92 ∷ 13 ∷ 10 ∷ [] → is_white inside b ≡ false → GapAt inside (b ∷ bs)
 three_bytes inside b [] n fits again same other = absurd cc
@@ -47,18 +47,18 @@ three_bytes inside b (c ∷ d ∷ ds) n fits again same other =
     let second : c ≡ 13 = cc in
     let third : d ≡ 10 = cc in
     let more = r.is_gap in
-    record { gap = b ∷ c ∷ d ∷ r.gap; after = r.after; bytes_are = ap (λ x. b ∷ c ∷ d ∷ x) r.bytes_are; is_gap = rw (other, first, second, third, more, is_gap) refl; behind_gap = r.behind_gap }
+    record { gap = b ∷ c ∷ d ∷ r.gap; after = r.after; bytes_are = ap (λ x. b ∷ c ∷ d ∷ x) r.bytes_are; is_gap = rw (other, first, second, third, more, is_gap) refl; after_gap = r.after_gap }
 
 gap_at : (inside : Bool) (n : ℕ) (bytes : List ℕ) → length bytes ≤ n → GapAt inside bytes
-gap_at inside n [] fits = record { gap = []; after = []; bytes_are = refl; is_gap = refl; behind_gap = refl }
+gap_at inside n [] fits = record { gap = []; after = []; bytes_are = refl; is_gap = refl; after_gap = refl }
 gap_at inside zero (b ∷ bs) fits = absurd (omega arith)
 gap_at inside (suc n) (b ∷ bs) fits = elim (cases_Bool (is_white inside b)) [
   | inl white ↦
       let r = gap_at inside n bs (omega arith) in
       let more = r.is_gap in
-      record { gap = b ∷ r.gap; after = r.after; bytes_are = ap (λ x. b ∷ x) r.bytes_are; is_gap = rw (white, more, is_gap) refl; behind_gap = r.behind_gap }
+      record { gap = b ∷ r.gap; after = r.after; bytes_are = ap (λ x. b ∷ x) r.bytes_are; is_gap = rw (white, more, is_gap) refl; after_gap = r.after_gap }
   | inr other ↦ elim (cases_Bool (continues (b ∷ bs))) [
-    | inr none ↦ record { gap = []; after = b ∷ bs; bytes_are = refl; is_gap = refl; behind_gap = rw (other, none) refl }
+    | inr none ↦ record { gap = []; after = b ∷ bs; bytes_are = refl; is_gap = refl; after_gap = rw (other, none) refl }
     | inl on ↦ elim (or_cases _ _ on) [
       | inl two ↦ two_bytes inside b bs n (omega arith) (λ ys less. gap_at inside n ys less) (same_bytes (take 2 (b ∷ bs)) (92 ∷ 10 ∷ []) two) other
       | inr three ↦ three_bytes inside b bs n (omega arith) (λ ys less. gap_at inside n ys less) (same_bytes (take 3 (b ∷ bs)) (92 ∷ 13 ∷ 10 ∷ []) three) other
@@ -75,18 +75,18 @@ IsBadAt depth opened place bad_bracket = IsBadBracket opened place
 IsBadAt depth opened place too_deep = IsTooDeep depth opened place
 IsBadAt depth opened place bad_character = IsBadCharacter place
 
--- as many gaps and tokens as can be read, and what stands behind them
+-- as many gaps and tokens as can be read, and what stands after them
 record Stop (depth : ℕ) (opened bytes : List ℕ) : Type 0 where
   pub pieces : List Piece
   pub gap : List ℕ
   pub place : List ℕ
   pub reading : IsReading depth opened pieces (gap ++ place) bytes
   pub is_gap : is_gap (is_inside (open_after opened pieces)) gap ≡ true
-  pub behind_gap : begins_gap (is_inside (open_after opened pieces)) place ≡ false
+  pub after_gap : begins_gap (is_inside (open_after opened pieces)) place ≡ false
   pub what : (place ≡ []) ⊎ ((sort : Sort) × IsBadAt depth (open_after opened pieces) place sort)
 
 stop_here : (depth : ℕ) (opened bytes : List ℕ) (g : GapAt (is_inside opened) bytes) → (g.after ≡ []) ⊎ ((sort : Sort) × IsBadAt depth opened g.after sort) → Stop depth opened bytes
-stop_here depth opened bytes g what = record { pieces = []; gap = g.gap; place = g.after; reading = g.bytes_are; is_gap = g.is_gap; behind_gap = g.behind_gap; what = what }
+stop_here depth opened bytes g what = record { pieces = []; gap = g.gap; place = g.after; reading = g.bytes_are; is_gap = g.is_gap; after_gap = g.after_gap; what = what }
 
 bad_place : (depth : ℕ) (opened place : List ℕ) (bad : Bad) → IsBadPlace place bad → (sort : Sort) × IsBadAt depth opened place sort
 bad_place depth opened place bads.Character is = (bad_character, is)
@@ -110,47 +110,47 @@ misfit depth opened b bs none = elim (cases_Bool (is_opening_bracket b)) [
     both : (x y : Bool) → x ≡ true → y ≡ false → (x && not y) ≡ true
     both x y p q = rw (p, q) refl
 
--- reading goes on behind a token
-stop_behind : (depth n : ℕ) (opened bytes gap : List ℕ) (b : ℕ) (bs : List ℕ) (s : Scanned) → ((o ys : List ℕ) → length ys ≤ n → Stop depth o ys) → length bytes ≤ suc n → bytes ≡ gap ++ b ∷ bs → is_gap (is_inside opened) gap ≡ true → begins_gap (is_inside opened) (b ∷ bs) ≡ false
+-- reading goes on after a token
+stop_after : (depth n : ℕ) (opened bytes gap : List ℕ) (b : ℕ) (bs : List ℕ) (s : Scanned) → ((o ys : List ℕ) → length ys ≤ n → Stop depth o ys) → length bytes ≤ suc n → bytes ≡ gap ++ b ∷ bs → is_gap (is_inside opened) gap ≡ true → begins_gap (is_inside opened) (b ∷ bs) ≡ false
     → bracket_fits depth opened b ≡ true → IsScanned (b ∷ bs) s → Stop depth opened bytes
-stop_behind depth n opened bytes gap b bs s again fits same is none fit found =
+stop_after depth n opened bytes gap b bs s again fits same is none fit found =
     let text = take s.len (b ∷ bs) in
     let after = drop s.len (b ∷ bs) in
     let split : b ∷ bs ≡ text ++ after = sym (take-append-drop s.len (b ∷ bs)) in
     let fitting = token_fits depth s.kind opened (b ∷ bs) text after s.len found.some found.within refl split found.token.whole none fit in
-    let more = again (open_behind opened text) after (omega (arith, ap length same, length-append gap (b ∷ bs), length-drop s.len (b ∷ bs), found.some, found.within)) in
+    let more = again (open_after_token opened text) after (omega (arith, ap length same, length-append gap (b ∷ bs), length-drop s.len (b ∷ bs), found.some, found.within)) in
     record {
       pieces = record { gap = gap; kind = s.kind; text = text } ∷ more.pieces;
       gap = more.gap;
       place = more.place;
       reading = (after, record { bytes_are = same ∙ ap (λ x. gap ++ x) split; gap = is; token = found.token; fits = fitting.0 }, more.reading);
       is_gap = more.is_gap;
-      behind_gap = more.behind_gap;
+      after_gap = more.after_gap;
       what = more.what;
     }
 
 stop_at : (depth n : ℕ) (opened bytes gap after : List ℕ) → ((o ys : List ℕ) → length ys ≤ n → Stop depth o ys) → length bytes ≤ suc n → bytes ≡ gap ++ after → is_gap (is_inside opened) gap ≡ true → begins_gap (is_inside opened) after ≡ false → Stop depth opened bytes
-stop_at depth n opened bytes gap [] again fits same is none = stop_here depth opened bytes (record { gap = gap; after = []; bytes_are = same; is_gap = is; behind_gap = none }) (inl refl)
+stop_at depth n opened bytes gap [] again fits same is none = stop_here depth opened bytes (record { gap = gap; after = []; bytes_are = same; is_gap = is; after_gap = none }) (inl refl)
 stop_at depth n opened bytes gap (b ∷ bs) again fits same is none = elim (token_or_bad b bs) [
-  | inr bad ↦ stop_here depth opened bytes (record { gap = gap; after = b ∷ bs; bytes_are = same; is_gap = is; behind_gap = none }) (inr (bad_place depth opened (b ∷ bs) bad.0 bad.1))
+  | inr bad ↦ stop_here depth opened bytes (record { gap = gap; after = b ∷ bs; bytes_are = same; is_gap = is; after_gap = none }) (inr (bad_place depth opened (b ∷ bs) bad.0 bad.1))
   | inl s ↦ elim (cases_Bool (bracket_fits depth opened b)) [
-    | inl fit ↦ stop_behind depth n opened bytes gap b bs s.0 again fits same is none fit s.1
-    | inr misfits ↦ stop_here depth opened bytes (record { gap = gap; after = b ∷ bs; bytes_are = same; is_gap = is; behind_gap = none }) (inr (misfit depth opened b bs misfits))
+    | inl fit ↦ stop_after depth n opened bytes gap b bs s.0 again fits same is none fit s.1
+    | inr misfits ↦ stop_here depth opened bytes (record { gap = gap; after = b ∷ bs; bytes_are = same; is_gap = is; after_gap = none }) (inr (misfit depth opened b bs misfits))
   ]
 ]
 
 some_stop : (depth n : ℕ) (opened bytes : List ℕ) → length bytes ≤ n → Stop depth opened bytes
-some_stop depth zero opened [] fits = stop_here depth opened [] (record { gap = []; after = []; bytes_are = refl; is_gap = refl; behind_gap = refl }) (inl refl)
+some_stop depth zero opened [] fits = stop_here depth opened [] (record { gap = []; after = []; bytes_are = refl; is_gap = refl; after_gap = refl }) (inl refl)
 some_stop depth zero opened (b ∷ bs) fits = absurd (omega arith)
 some_stop depth (suc n) opened bytes fits =
     let g = gap_at (is_inside opened) (length bytes) bytes (omega arith) in
-    stop_at depth n opened bytes g.gap g.after (λ o ys less. some_stop depth n o ys less) fits g.bytes_are g.is_gap g.behind_gap
+    stop_at depth n opened bytes g.gap g.after (λ o ys less. some_stop depth n o ys less) fits g.bytes_are g.is_gap g.after_gap
 
 none_left : (xs : List ℕ) → length xs ≡ 0 → xs ≡ []
 none_left [] e = refl
 none_left (x ∷ xs) e = absurd (omega arith)
 
--- what a text is read as that ends behind these pieces and a gap
+-- what a text is read as that ends after these pieces and a gap
 whole_text : (first depth : ℕ) (bytes : List ℕ) (ps : List Piece) (gap : List ℕ) → IsReading depth [] ps gap bytes → is_gap (is_inside (open_after [] ps)) gap ≡ true → (opened : List Placed) → open_tokens [] (tokens_of first [] [] ps) ≡ opened
     → (ts : List Placed) × (fault : Option LexFault) × IsReadAs first depth bytes ts fault
 whole_text first depth bytes ps gap reading is [] none =
@@ -173,7 +173,7 @@ up_to_place first depth bytes s sort bad = (tokens_of first [] [] s.pieces, Some
     col = column_at (bytes_of s.pieces ++ s.gap)
 
     here : (IsBad : List ℕ → List ℕ → Type 0) → IsBad (open_after [] s.pieces) s.place → IsFaultAt first depth bytes IsBad (line_at first (bytes_of s.pieces ++ s.gap)) (column_at (bytes_of s.pieces ++ s.gap))
-    here IsBad bad = record { pieces = s.pieces; gap = s.gap; place = s.place; reading = s.reading; is_gap = s.is_gap; behind_gap = s.behind_gap; bad = bad; line_is = refl; col_is = refl }
+    here IsBad bad = record { pieces = s.pieces; gap = s.gap; place = s.place; reading = s.reading; is_gap = s.is_gap; after_gap = s.after_gap; bad = bad; line_is = refl; col_is = refl }
 
     by_sort : (sort : Sort) → IsBadAt depth (open_after [] s.pieces) s.place sort → IsReadAs first depth bytes (tokens_of first [] [] s.pieces) (Some (told sort (line_at first (bytes_of s.pieces ++ s.gap)) (column_at (bytes_of s.pieces ++ s.gap))))
     by_sort open_text bad = ((λ e. cc), here (λ opened. IsOpenText) bad, refl)

@@ -13,7 +13,7 @@ use Rattle.bz_token.specs.declared.scan_token.Bad.{Bad}
 use Rattle.bz_token.specs.declared.scan_token.Bad.TheVariants.{Character, Number, OpenText, Backslash}
 use Rattle.bz_token.specs.declared.token.Kind.TheVariants.{Ident, Word, Int, Text, Sign, Line, Note}
 use Rattle.bz_token.specs.Lexical.{begins, is_word_byte, is_blank, is_newline, is_keyword, is_number, is_sign, closes, opening, opening_length}
-use Rattle.bz_token.specs.Scans.{IsScanned, IsBadPlace}
+use Rattle.bz_token.specs.private.Scans.{IsScanned, IsBadPlace}
 use Rattle.bz_token.proofs.Gaps.{comment_front}
 use Rattle.bz_token.proofs.Signs.{IsSignLength, sign_at}
 use Rattle.bz_token.proofs.Scanning.{string_scanned, open_text, number_scanned, no_number, name_scanned, line_scanned, sign_scanned, note_scanned, no_character}

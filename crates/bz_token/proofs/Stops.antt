@@ -10,7 +10,7 @@ use Rattle.bz_token.specs.declared.scan_string.Opening.{Opening}
 use Rattle.bz_token.specs.declared.scan_string.Escape.TheVariants.{Unescaped}
 use Rattle.bz_token.specs.declared.token.Kind.{Kind}
 use Rattle.bz_token.specs.declared.token.Kind.TheVariants.{Ident, Word, Int, Text, Sign, Line, Note, Kept}
-use Rattle.bz_token.specs.Lexical.{is_word_byte, is_quote, is_blank, is_newline, is_one_of, signs, is_sign, keywords, is_keyword, is_name, is_comment, ends_blank, closes, closing_row, are_two, opens_behind, opening, opening_length, is_long, is_text, counts, is_string_kind, IsToken}
+use Rattle.bz_token.specs.Lexical.{is_word_byte, is_quote, is_blank, is_newline, is_one_of, signs, is_sign, keywords, is_keyword, is_name, is_comment, ends_blank, closes, closing_row, are_two, opens_after, opening, opening_length, is_long, is_text, counts, is_string_kind, IsToken}
 use Rattle.bz_token.specs.Ends.{is_prefix, is_empty_string, stops, stops_at, is_note, ends}
 use Rattle.bz_token.proofs.Classes.{hash as hash_class}
 use Rattle.bz_token.proofs.Classes.{mark, class_of, can_start, text_class, digit_class, name_parts, keyword_name, number_starts, one_of, same_bytes, empty_no_text}
@@ -142,13 +142,13 @@ mark_stops kind text b is note h = plain_stops kind text b is note (mark_word b 
 prefix_opens : (text : List ℕ) (b : ℕ) (bs : List ℕ) → is_prefix text ≡ true → is_quote b ≡ true → is_some (opening (text ++ b ∷ bs)) ≡ true
 prefix_opens text b bs is quoted =
     elim (or_cases (bytes_eq text (codes "r")) (is_one_of (codes "b" ∷ codes "rb" ∷ codes "br" ∷ []) text) is) [
-      | inl r ↦ at (codes "r") (same_bytes text (codes "r") r) (ap is_some (opens_r 114 (b ∷ bs) refl (no_letter b 98 quoted refl)) ∙ behind 1)
+      | inl r ↦ at (codes "r") (same_bytes text (codes "r") r) (ap is_some (opens_r 114 (b ∷ bs) refl (no_letter b 98 quoted refl)) ∙ following 1)
       | inr two ↦ elim (or_cases (bytes_eq text (codes "b")) (is_one_of (codes "rb" ∷ codes "br" ∷ []) text) two) [
-        | inl p ↦ at (codes "b") (same_bytes text (codes "b") p) (ap is_some (opens_b 98 (b ∷ bs) refl refl (no_letter b 114 quoted refl)) ∙ behind 1)
+        | inl p ↦ at (codes "b") (same_bytes text (codes "b") p) (ap is_some (opens_b 98 (b ∷ bs) refl refl (no_letter b 114 quoted refl)) ∙ following 1)
         | inr three ↦ elim (or_cases (bytes_eq text (codes "rb")) (is_one_of (codes "br" ∷ []) text) three) [
-          | inl p ↦ at (codes "rb") (same_bytes text (codes "rb") p) (ap is_some (opens_rb 114 98 (b ∷ bs) refl refl) ∙ behind 2)
+          | inl p ↦ at (codes "rb") (same_bytes text (codes "rb") p) (ap is_some (opens_rb 114 98 (b ∷ bs) refl refl) ∙ following 2)
           | inr four ↦ elim (or_cases (bytes_eq text (codes "br")) false four) [
-            | inl p ↦ at (codes "br") (same_bytes text (codes "br") p) (ap is_some (opens_br 98 114 (b ∷ bs) refl refl refl) ∙ behind 2)
+            | inl p ↦ at (codes "br") (same_bytes text (codes "br") p) (ap is_some (opens_br 98 114 (b ∷ bs) refl refl refl) ∙ following 2)
             | inr none ↦ absurd (false≢true none)
           ]
         ]
@@ -161,8 +161,8 @@ prefix_opens text b bs is quoted =
       | inl hit ↦ absurd (false≢true (sym none ∙ ap is_quote (sym (eqb-true b c hit)) ∙ quoted))
     ]
 
-    behind : (n : ℕ) → is_some (opens_behind n (b ∷ bs)) ≡ true
-    behind n = rw quoted refl
+    following : (n : ℕ) → is_some (opens_after n (b ∷ bs)) ≡ true
+    following n = rw quoted refl
 
     at : (t : List ℕ) → text ≡ t → is_some (opening (t ++ b ∷ bs)) ≡ true → is_some (opening (text ++ b ∷ bs)) ≡ true
     at t same h = ap (λ x. is_some (opening (x ++ b ∷ bs))) same ∙ h
@@ -195,7 +195,7 @@ name_more b bs c name word =
         let rest = all_more xs p.1 in
         rw (here, rest) refl
 
--- what follows a name that is a token is no letter, digit or underscore, nor a quote behind a prefix
+-- what follows a name that is a token is no letter, digit or underscore, nor a quote after a prefix
 name_ends : (kind : Kind) (b : ℕ) (bs after : List ℕ) → is_string_kind kind ≡ false → is_name (b ∷ bs) ≡ true → IsToken kind (b ∷ bs) after → ends_name (b ∷ bs) after ≡ true
 name_ends kind b bs [] no_text name token = refl
 name_ends kind b bs (c ∷ cs) no_text name token = both (is_word_byte c) (is_quote c && is_prefix (b ∷ bs)) no_word no_quote

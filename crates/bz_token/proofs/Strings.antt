@@ -3,7 +3,7 @@ use Rattle.std.proofs.Common.{◌≡◌, ℕ, zero, suc, ◌<◌, ◌≤◌, ◌
 use Rattle.std.proofs.lemmas.Bool.{cases_lt, false≢true}
 use Rattle.bz_token.specs.declared.scan_string.Quotes.{Quotes}
 use Rattle.bz_token.specs.declared.scan_string.Escape.{Escape}
-use Rattle.bz_token.specs.declared.scan_string.Escape.TheVariants.{Unescaped, BehindBackslash, BehindReturn}
+use Rattle.bz_token.specs.declared.scan_string.Escape.TheVariants.{Unescaped, AfterBackslash, AfterReturn}
 use Rattle.bz_token.specs.Lexical.{is_escaped, closes}
 
 -- a longer front has a byte more
@@ -18,8 +18,8 @@ longer_front (x ∷ xs) (suc i) (suc n) h l =
 -- an unescaped newline closes no short string
 newline_breaks : (q : Quotes) (row : ℕ) (e : Escape) (ys : List ℕ) → is_escaped e 10 ≡ false → (10 == q.byte) ≡ false → q.long ≡ false → closes q row e (10 ∷ ys) ≡ false
 newline_breaks q row Unescaped ys plain other short = rw (other, short, closes) refl
-newline_breaks q row BehindBackslash ys plain other short = absurd (false≢true (sym plain))
-newline_breaks q row BehindReturn ys plain other short = absurd (false≢true (sym plain))
+newline_breaks q row AfterBackslash ys plain other short = absurd (false≢true (sym plain))
+newline_breaks q row AfterReturn ys plain other short = absurd (false≢true (sym plain))
 
 pub broken_off : (q : Quotes) (bytes : List ℕ) (i row : ℕ) (e : Escape) → i < length bytes → get_or bytes i 0 ≡ 10 → is_escaped e (get_or bytes i 0) ≡ false → (get_or bytes i 0 == q.byte) ≡ false → q.long ≡ false
     → ((ys : List ℕ) → closes q 0 Unescaped (take i bytes ++ ys) ≡ closes q row e ys) → ((n : ℕ) → n ≤ i → closes q 0 Unescaped (take n bytes) ≡ false) → (n : ℕ) → closes q 0 Unescaped (take n bytes) ≡ false

@@ -7,7 +7,7 @@ use Rattle.bz_token.specs.Lexical.{keywords, signs, is_text, counts}
 use Rattle.bz_token.specs.Brackets.{fits}
 use Rattle.bz_token.specs.Reading.{is_gap, begins_gap, Piece, IsReading, bytes_of, tokens_of}
 use Rattle.bz_token.specs.UpToFault.{IsReadAs}
-use Rattle.bz_token.specs.FreshStart.{line_behind, tokens_on_lines, fault_on_lines}
+use Rattle.bz_token.specs.FreshStart.{line_following, tokens_on_lines, fault_on_lines}
 use Rattle.bz_token.proofs.Stops.{token_ended}
 
 abbrev newline : List ℕ
@@ -109,7 +109,7 @@ assignment_tokens : tokens_of 1 [] [] assignment
     ∷ []
 assignment_tokens = refl
 
--- a long string over two lines, and a token behind it
+-- a long string over two lines, and a token after it
 abbrev strings : List Piece
 strings = record { gap = codes "\\\n "; kind = Text; text = codes "'''\n'''" } ∷ record { gap = codes " "; kind = Ident; text = codes "x" } ∷ []
 
@@ -131,7 +131,7 @@ unfolding keywords
 name_read = (closing, record { bytes_are = refl; gap = refl; token = token_ended Ident (codes "x") closing refl refl; fits = refl }, refl)
 
 before_bad_bracket : IsReadAs 1 100 (codes "x)") (record { kind = Ident; text = codes "x"; line = 1; col = 1; fresh = true } ∷ []) (Some (BadBracket 1 2))
-before_bad_bracket = (λ e. cc, record { pieces = name ∷ []; gap = []; place = closing; reading = name_read; is_gap = refl; behind_gap = refl; bad = refl; line_is = refl; col_is = refl }, refl)
+before_bad_bracket = (λ e. cc, record { pieces = name ∷ []; gap = []; place = closing; reading = name_read; is_gap = refl; after_gap = refl; bad = refl; line_is = refl; col_is = refl }, refl)
 
 -- ` (` and a newline: all tokens stand before the open bracket's fault
 abbrev bracket : Piece
@@ -159,10 +159,10 @@ before_open_bracket = (
 )
 
 -- two lines, the last of which lacks its newline
-last_line : line_behind 3 (codes "x\ny") ≡ 5
+last_line : line_following 3 (codes "x\ny") ≡ 5
 last_line = refl
 
-ended_line : line_behind 3 (codes "x\n") ≡ 4
+ended_line : line_following 3 (codes "x\n") ≡ 4
 ended_line = refl
 
 on_second_line : tokens_on_lines 2 (codes "y\n") (tokens_of 1 [] [] assignment) ≡ []

@@ -6,7 +6,7 @@ use Rattle.bz_token.specs.declared.scan_string.Opening.{Opening}
 use Rattle.bz_token.specs.declared.token.Kind.{Kind}
 use Rattle.bz_token.specs.declared.token.Kind.TheVariants.{Ident, Word, Int, Text, Sign, Line, Note, Kept}
 use Rattle.bz_token.specs.Lexical.{is_blank, is_keyword, is_name, is_string, opening, is_text, is_string_kind, counts, IsToken}
-use Rattle.bz_token.specs.Brackets.{is_inside, fits, open_behind}
+use Rattle.bz_token.specs.Brackets.{is_inside, fits, open_after_token}
 use Rattle.bz_token.specs.Reading.{is_white, is_gap, continues_gap, feeds_gap, continues, begins_gap, Piece, IsPiece, IsReading, open_after}
 use Rattle.bz_token.proofs.Classes.{Class, letter, digit, quote, newline, hash, mark, unknown, class_of, can_start, text_class, empty_no_text, same_bytes}
 use Rattle.bz_token.proofs.Ends.{no_string}
@@ -31,7 +31,7 @@ same_fronts (x ∷ xs) (y ∷ ys) a b same h =
     let r = same_fronts xs ys a b tails (omega arith) in
     (ap₂ (λ u v. u ∷ v) heads r.0, r.1)
 
--- what is left of a gap behind a gap is one
+-- what is left of a gap after a gap is one
 mutual
   pub gap_tail : (inside : Bool) (g more : List ℕ) → is_gap inside (g ++ more) ≡ true → is_gap inside g ≡ true → is_gap inside more ≡ true
   gap_tail inside [] more h g = h
@@ -279,11 +279,11 @@ pub one_piece : (depth : ℕ) (opened : List ℕ) (p q : Piece) (bytes a b : Lis
 one_piece depth opened p q bytes a b x y =
     let both : p.gap ++ (p.text ++ a) ≡ q.gap ++ (q.text ++ b) = sym x.bytes_are ∙ y.bytes_are in
     let gaps : length p.gap ≡ length q.gap = omega (arith, gap_shorter depth opened p.gap q.gap a (q.text ++ b) p.kind p.text x.gap y.gap both x.token.whole x.fits, gap_shorter depth opened q.gap p.gap b (p.text ++ a) q.kind q.text y.gap x.gap (sym both) y.token.whole y.fits) in
-    let behind = same_fronts p.gap q.gap (p.text ++ a) (q.text ++ b) both gaps in
-    let texts : length p.text ≡ length q.text = omega (arith, token_shorter p.kind q.kind p.text q.text a b x.token y.token behind.1, token_shorter q.kind p.kind q.text p.text b a y.token x.token (sym behind.1)) in
-    let after = same_fronts p.text q.text a b behind.1 texts in
-    let kind : p.kind ≡ q.kind = kinds_same p.kind q.kind p.text a x.token.whole (ap (is_text q.kind) after.0 ∙ y.token.whole) x.token.counted (ap₂ (λ u v. counts u q.kind v) behind.1 after.0 ∙ y.token.counted) in
-    (piece_same p q behind.0 kind after.0, after.1)
+    let following = same_fronts p.gap q.gap (p.text ++ a) (q.text ++ b) both gaps in
+    let texts : length p.text ≡ length q.text = omega (arith, token_shorter p.kind q.kind p.text q.text a b x.token y.token following.1, token_shorter q.kind p.kind q.text p.text b a y.token x.token (sym following.1)) in
+    let after = same_fronts p.text q.text a b following.1 texts in
+    let kind : p.kind ≡ q.kind = kinds_same p.kind q.kind p.text a x.token.whole (ap (is_text q.kind) after.0 ∙ y.token.whole) x.token.counted (ap₂ (λ u v. counts u q.kind v) following.1 after.0 ∙ y.token.counted) in
+    (piece_same p q following.0 kind after.0, after.1)
 
 -- no piece stands here
 abbrev pub IsStuck : ℕ → List ℕ → List ℕ → Type 0
@@ -296,9 +296,9 @@ one_reading depth opened [] (q ∷ qs) r s bytes a x b y = absurd (x q b.0 (subs
 one_reading depth opened (p ∷ ps) [] r s bytes a x b y = absurd (y p a.0 (subst (λ z. IsPiece depth opened p z a.0) b a.1))
 one_reading depth opened (p ∷ ps) (q ∷ qs) r s bytes a x b y =
     let one = one_piece depth opened p q bytes a.0 b.0 a.1 b.1 in
-    let opens : open_behind opened q.text ≡ open_behind opened p.text = ap (λ z. open_behind opened z.text) (sym one.0) in
-    let more = one_reading depth (open_behind opened p.text) ps qs r s a.0 a.2 x
-    (subst (λ z. IsReading depth z qs s a.0) opens (subst (λ z. IsReading depth (open_behind opened q.text) qs s z) (sym one.1) b.2))
+    let opens : open_after_token opened q.text ≡ open_after_token opened p.text = ap (λ z. open_after_token opened z.text) (sym one.0) in
+    let more = one_reading depth (open_after_token opened p.text) ps qs r s a.0 a.2 x
+    (subst (λ z. IsReading depth z qs s a.0) opens (subst (λ z. IsReading depth (open_after_token opened q.text) qs s z) (sym one.1) b.2))
     (subst (λ z. IsStuck depth (open_after z qs) s) opens y) in
     (ap₂ (λ u us. u ∷ us) one.0 more.0, more.1)
 
@@ -312,7 +312,7 @@ gap_stuck depth opened rest gap p after piece =
     text_some kind [] after is = absurd (empty_no_text kind is)
     text_some kind (t ∷ text) after is = omega arith
 
--- behind a gap that does not go on no piece stands where no token does
+-- after a gap that does not go on no piece stands where no token does
 pub place_stuck : (depth : ℕ) (opened gap place : List ℕ) → is_gap (is_inside opened) gap ≡ true → begins_gap (is_inside opened) place ≡ false
     → ((kind : Kind) (text after : List ℕ) → place ≡ text ++ after → IsToken kind text after → fits depth opened kind text ≡ true → ⊥) → IsStuck depth opened (gap ++ place)
 place_stuck depth opened gap place is none never p after piece =

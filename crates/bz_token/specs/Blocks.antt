@@ -1,5 +1,5 @@
 -- Where a block begins and which lines go on with it (this project's own rule): a statement line that begins in column 1
--- with `def`, `for` or `if`, and the lines behind it that are indented or empty; behind an `if` also those of its branches.
+-- with `def`, `for` or `if`, and the lines after it that are indented or empty; after an `if` also those of its branches.
 use Rattle.std.specs.Prelude.{take, cond, bytes_eq, Option, Some, None, ℕ, List, [], ◌∷◌, Bool, true, false, ◌&&◌, ◌||◌, ◌==◌, codes}
 use Rattle.std.specs.List.{take_while}
 use Rattle.std.specs.Char.{is_ascii_digit, is_ascii_alphabetic}
@@ -9,11 +9,11 @@ use Rattle.bz_token.specs.declared.cutter.block.Opener.TheVariants.{Def, For, If
 abbrev pub is_white : ℕ → Bool
 is_white b = b == 32 || b == 9 || b == 13 || b == 10
 
--- a backslash with a line's end behind it
+-- a backslash with a line's end after it
 abbrev pub continues : ℕ → List ℕ → Bool
-continues b behind = b == 92 && (bytes_eq (take 1 behind) (10 ∷ []) || bytes_eq (take 2 behind) (13 ∷ 10 ∷ []))
+continues b after = b == 92 && (bytes_eq (take 1 after) (10 ∷ []) || bytes_eq (take 2 after) (13 ∷ 10 ∷ []))
 
--- what stands behind white space and continued lines, if it stands in column 1; `first`: this is column 1
+-- what stands after white space and continued lines, if it stands in column 1; `first`: this is column 1
 abbrev pub head_from : Bool → List ℕ → List ℕ
 head_from first [] = []
 head_from first (b ∷ bs) = elim (is_white b || continues b bs) [

@@ -1,4 +1,4 @@
--- The chunks of a file (this project's own rule): a blank line; or comment lines with the blank line behind them, or the
+-- The chunks of a file (this project's own rule): a blank line; or comment lines with the blank line after them, or the
 -- end of the file; or comment lines, if any, with a statement line and, where that begins a block, the block's lines.
 use Rattle.std.specs.Prelude.{cond, Option, Some, None, ℕ, List, [], ◌∷◌, map, Bool, true, false}
 use Rattle.std.specs.List.{concat}
@@ -11,12 +11,12 @@ use Rattle.bz_token.specs.Groups.{grouped}
 use Rattle.bz_token.specs.LogicalLines.{Line, lines}
 use Rattle.bz_token.specs.Blocks.{opener, goes_on}
 
--- what a chunk is behind a line that is no comment: whole, or a block; a line that a string breaks off ends a block
+-- what a chunk is after a line that is no comment: whole, or a block; a line that a string breaks off ends a block
 abbrev pub stage_of : Option Opener → Bool → Stage
 stage_of None broken = Done
 stage_of (Some word) broken = cond broken Done (InBlock word)
 
--- what a chunk is behind one line more
+-- what a chunk is after one line more
 abbrev pub stage_step : Stage → LineKind → Option Opener → Bool → Stage
 stage_step Notes Blank word broken = Done
 stage_step Notes Note word broken = Notes
@@ -24,12 +24,12 @@ stage_step Notes Statement word broken = stage_of word broken
 stage_step (InBlock word) kind other broken = cond broken Done (InBlock word)
 stage_step Done kind word broken = Done
 
-abbrev pub stage_behind : Stage → Line → Stage
-stage_behind stage line = stage_step stage line.kind (opener line.text) line.broken
+abbrev pub stage_after : Stage → Line → Stage
+stage_after stage line = stage_step stage line.kind (opener line.text) line.broken
 
 abbrev pub stage_from : Stage → List Line → Stage
 stage_from stage [] = stage
-stage_from stage (l ∷ ls) = stage_from (stage_behind stage l) ls
+stage_from stage (l ∷ ls) = stage_from (stage_after stage l) ls
 
 -- whether the line that follows joins the chunk
 abbrev pub takes : Stage → List ℕ → Bool

@@ -28,7 +28,7 @@ first_line (b ∷ bs) = b ∷ elim (b == 10) [ true ↦ [] | false ↦ first_lin
 abbrev pub EndsBefore : List ℕ → List ℕ → Type 0
 EndsBefore bytes rest = chunks (bytes ++ rest) ≡ bytes ∷ chunks rest
 
--- Something follows, and the first chunk takes the bytes and the physical line behind them.
+-- Something follows, and the first chunk takes the bytes and the physical line after them.
 pub record IsLonger (bytes rest : List ℕ) : Type 0 where
   pub some : 0 < length rest
   pub more : List ℕ
@@ -61,7 +61,7 @@ left Whole bytes = []
 left More bytes = bytes
 left Block bytes = bytes
 
--- What follows a block decides whether the chunk goes on: these bytes, and whatever comes behind them, if anything may.
+-- What follows a block decides whether the chunk goes on: these bytes, and whatever comes after them, if anything may.
 abbrev pub IsNext : Next → Bool → List ℕ → List ℕ → Type 0
 IsNext Goes at_end bytes ahead = (rest : List ℕ) → (at_end ≡ true → rest ≡ []) → IsLonger bytes (ahead ++ rest)
 IsNext Ends at_end bytes ahead = (rest : List ℕ) → (at_end ≡ true → rest ≡ []) → EndsBefore bytes (ahead ++ rest)
@@ -70,7 +70,7 @@ IsNext Short at_end bytes ahead =
     × ((rest : List ℕ) × IsLonger bytes (ahead ++ rest))
     × ((rest : List ℕ) × EndsBefore bytes (ahead ++ rest))
 
--- the bytes that wait behind the answer
+-- the bytes that wait after the answer
 abbrev pub left_next : Next → List ℕ → List ℕ
 left_next Goes bytes = bytes
 left_next Ends bytes = []

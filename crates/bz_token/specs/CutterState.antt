@@ -11,14 +11,14 @@ use Rattle.bz_token.specs.declared.cutter.block.Stage.TheVariants.{Notes, InBloc
 use Rattle.bz_token.specs.Blocks.{opener}
 use Rattle.bz_token.specs.Chunks.{takes, chunks}
 use Rattle.bz_token.specs.Cuts.{first_line, EndsBefore}
-use Rattle.bz_token.specs.CutSteps.{is_ended, is_blank_kind, seen_chunks, next, start}
+use Rattle.bz_token.specs.private.CutSteps.{is_ended, is_blank_kind, seen_chunks, next, start}
 
--- The cutter can read this line: behind a line of a block only one that goes on with it.
+-- The cutter can read this line: after a line of a block only one that goes on with it.
 abbrev pub Takes : Cutter → List ℕ → Type 0
 Takes cutter line = is_ended cutter.scan.inside ≡ true → takes cutter.stage line ≡ true
 
 -- The cutter has read these bytes since the last chunk's end: it goes on as the definition does.
-pub record IsBehind (cutter : Cutter) (seen : List ℕ) : Type 0 where
+pub record IsAfter (cutter : Cutter) (seen : List ℕ) : Type 0 where
   -- the chunk's whole lines, and a part of the next
   pub before : List ℕ
   pub part : List ℕ
@@ -38,18 +38,18 @@ is_block Notes = false
 is_block (InBlock word) = true
 is_block Done = false
 
--- It waits behind a line of a block, for an answer of `goes_on`.
+-- It waits after a line of a block, for an answer of `goes_on`.
 pub record IsAtBlock (cutter : Cutter) : Type 0 where
   pub in_block : is_block cutter.stage ≡ true
   pub ended : is_ended cutter.scan.inside ≡ true
 
--- what it waits for behind an answer of `line`
+-- what it waits for after an answer of `line`
 abbrev pub Awaits : Cut → Cutter → Type 0
 Awaits More cutter = (line : List ℕ) → Takes cutter line
 Awaits Whole cutter = (line : List ℕ) → Takes cutter line
 Awaits Block cutter = IsAtBlock cutter
 
--- and behind an answer of `goes_on`: the line that is ahead, any line, or `goes_on` again
+-- and after an answer of `goes_on`: the line that is ahead, any line, or `goes_on` again
 abbrev pub AwaitsNext : Next → Bool → List ℕ → Cutter → Type 0
 AwaitsNext Goes at_end ahead cutter = (rest : List ℕ) → (at_end ≡ true → rest ≡ []) → Takes cutter (first_line (ahead ++ rest))
 AwaitsNext Ends at_end ahead cutter = (line : List ℕ) → Takes cutter line

@@ -1,4 +1,4 @@
--- Which first byte behind a token's text ends the token there, so that no longer one stands at its place.
+-- Which first byte after a token's text ends the token there, so that no longer one stands at its place.
 use Rattle.std.specs.Prelude.{ℕ, ◌+◌, List, [], ◌∷◌, ◌++◌, length, take, codes, Bool, true, false, not, ◌&&◌, ◌==◌, Option, Some, None}
 use Rattle.std.specs.List.{list_all, prefix_len}
 use Rattle.bz_token.specs.declared.token.Kind.{Kind}
@@ -14,7 +14,7 @@ abbrev pub is_empty_string : Option Opening → List ℕ → ℕ → Bool
 is_empty_string None text b = false
 is_empty_string (Some o) text b = not o.quotes.long && (length text == o.prefix + 2) && (b == o.quotes.byte)
 
--- the byte behind a text of this kind ends it; of a comment only a newline is sure to
+-- the byte after a text of this kind ends it; of a comment only a newline is sure to
 abbrev pub stops : Kind → List ℕ → ℕ → Bool
 stops Ident text b = not (is_word_byte b) && not (is_quote b && is_prefix text)
 stops Word text b = not (is_word_byte b)

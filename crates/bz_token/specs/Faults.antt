@@ -1,4 +1,4 @@
--- The first lexical fault of a text, and its place: what stands behind the gaps and tokens that could be read.
+-- The first lexical fault of a text, and its place: what stands after the gaps and tokens that could be read.
 use Rattle.std.specs.Prelude.{◌≡◌, ℕ, ◌≤◌, ◌<◌, List, [], ◌∷◌, ◌++◌, length, true, false, not, ◌&&◌, ◌==◌, is_some}
 use Rattle.std.specs.Char.{is_ascii_digit}
 use Rattle.bz_token.specs.declared.fault.LexFault.{LexFault}
@@ -39,19 +39,19 @@ pub record IsTooDeep (depth : ℕ) (opened place : List ℕ) : Type 0 where
   pub bracket : begins is_opening_bracket place ≡ true
   pub deep : depth ≤ length opened
 
--- behind the tokens that could be read and a gap stands a place with this fault
+-- after the tokens that could be read and a gap stands a place with this fault
 pub record IsFaultAt (first depth : ℕ) (bytes : List ℕ) (IsBad : List ℕ → List ℕ → Type 0) (line col : ℕ) : Type 0 where
   pub pieces : List Piece
   pub gap : List ℕ
   pub place : List ℕ
   pub reading : IsReading depth [] pieces (gap ++ place) bytes
   pub is_gap : is_gap (is_inside (open_after [] pieces)) gap ≡ true
-  pub behind_gap : begins_gap (is_inside (open_after [] pieces)) place ≡ false
+  pub after_gap : begins_gap (is_inside (open_after [] pieces)) place ≡ false
   pub bad : IsBad (open_after [] pieces) place
   pub line_is : line ≡ line_at first (bytes_of pieces ++ gap)
   pub col_is : col ≡ column_at (bytes_of pieces ++ gap)
 
--- the whole text is gaps and tokens, and this is the place of the innermost bracket that is open behind them
+-- the whole text is gaps and tokens, and this is the place of the innermost bracket that is open after them
 pub record IsOpenBracket (first depth : ℕ) (bytes : List ℕ) (line col : ℕ) : Type 0 where
   pub pieces : List Piece
   pub rest : List ℕ

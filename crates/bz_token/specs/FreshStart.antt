@@ -1,4 +1,4 @@
--- Reading starts afresh behind a newline outside brackets: a text that such a newline ends leaves nothing to what follows
+-- Reading starts afresh after a newline outside brackets: a text that such a newline ends leaves nothing to what follows
 -- but its number of lines. So what a file is read as on the lines of a chunk can be told from the chunk.
 use Rattle.std.specs.Prelude.{◌≡◌, ℕ, ◌+◌, List, [], ◌∷◌, ◌++◌, filter, Bool, true, ◌&&◌, if◌then◌else◌, nat_le, nat_lt, Option, Some, None}
 use Rattle.bz_token.specs.declared.fault.LexFault.{LexFault}
@@ -26,13 +26,13 @@ AreTokensOfChunks first depth [] tokens = tokens ≡ []
 AreTokensOfChunks first depth (c ∷ cs) tokens =
     (ts us : List Placed) × AreTokensOf first depth c ts × AreTokensOfChunks (line_at first c) depth cs us × (tokens ≡ ts ++ us)
 
--- The line behind those of a text; the last one may lack its newline.
-abbrev pub line_behind : ℕ → List ℕ → ℕ
-line_behind first bytes = if ends_in_newline bytes then line_at first bytes else line_at first bytes + 1
+-- The line after those of a text; the last one may lack its newline.
+abbrev pub line_following : ℕ → List ℕ → ℕ
+line_following first bytes = if ends_in_newline bytes then line_at first bytes else line_at first bytes + 1
 
 -- whether this is a line of the text
 abbrev pub is_line_of : ℕ → List ℕ → ℕ → Bool
-is_line_of first bytes line = nat_le first line && nat_lt line (line_behind first bytes)
+is_line_of first bytes line = nat_le first line && nat_lt line (line_following first bytes)
 
 -- the tokens that begin on the lines of the text
 abbrev pub tokens_on_lines : ℕ → List ℕ → List Placed → List Placed

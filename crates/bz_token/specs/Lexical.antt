@@ -5,7 +5,7 @@ use Rattle.std.specs.List.{list_all, list_any, prefix_len}
 use Rattle.std.specs.Char.{is_ascii_digit, is_ascii_hexdigit, is_ascii_alphabetic}
 use Rattle.bz_token.specs.declared.token.Kind.{Kind}
 use Rattle.bz_token.specs.declared.scan_string.Escape.{Escape}
-use Rattle.bz_token.specs.declared.scan_string.Escape.TheVariants.{Unescaped, BehindBackslash, BehindReturn}
+use Rattle.bz_token.specs.declared.scan_string.Escape.TheVariants.{Unescaped, AfterBackslash, AfterReturn}
 use Rattle.bz_token.specs.declared.scan_string.Quotes.{Quotes}
 use Rattle.bz_token.specs.declared.scan_string.Opening.{Opening}
 use Rattle.bz_token.specs.declared.token.Kind.TheVariants.{Ident, Word, Int, Text, Sign, Line, Note, Kept}
@@ -51,7 +51,7 @@ is_keyword text = is_one_of keywords text
 abbrev pub is_octal_digit : ℕ → Bool
 is_octal_digit b = nat_le 48 b && nat_le b 55
 
--- digits behind the letter of a base, at least one
+-- digits after the letter of a base, at least one
 abbrev pub are_based : List ℕ → Bool
 are_based [] = false
 are_based (x ∷ digits) =
@@ -74,19 +74,19 @@ signs =
 abbrev pub is_sign : List ℕ → Bool
 is_sign text = is_one_of signs text
 
--- a backslash takes the byte behind it along, and a newline behind that where it is a carriage return
+-- a backslash takes the byte after it along, and a newline after that where it is a carriage return
 abbrev pub is_escaped : Escape → ℕ → Bool
 is_escaped Unescaped b = false
-is_escaped BehindBackslash b = true
-is_escaped BehindReturn b = b == 10
+is_escaped AfterBackslash b = true
+is_escaped AfterReturn b = b == 10
 
 abbrev pub starts_escape : ℕ → Escape
-starts_escape b = if b == 92 then BehindBackslash else Unescaped
+starts_escape b = if b == 92 then AfterBackslash else Unescaped
 
-abbrev pub escape_behind : Escape → ℕ → Escape
-escape_behind Unescaped b = starts_escape b
-escape_behind BehindBackslash b = if b == 13 then BehindReturn else Unescaped
-escape_behind BehindReturn b = starts_escape b
+abbrev pub escape_after : Escape → ℕ → Escape
+escape_after Unescaped b = starts_escape b
+escape_after AfterBackslash b = if b == 13 then AfterReturn else Unescaped
+escape_after AfterReturn b = starts_escape b
 
 -- so many quotes in a row close a string
 abbrev pub closing_row : Bool → ℕ
@@ -97,13 +97,13 @@ closing_row true = 3
 abbrev pub closes : Quotes → ℕ → Escape → List ℕ → Bool
 closes quotes row escape [] = false
 closes quotes row escape (b ∷ bs) = elim (is_escaped escape b) [
-  | true ↦ closes quotes 0 (escape_behind escape b) bs
+  | true ↦ closes quotes 0 (escape_after escape b) bs
   | false ↦ elim (b == quotes.byte) [
     | true ↦ elim (row + 1 == closing_row quotes.long) [
       | true ↦ is_empty bs
-      | false ↦ closes quotes (row + 1) (escape_behind escape b) bs
+      | false ↦ closes quotes (row + 1) (escape_after escape b) bs
     ]
-    | false ↦ (quotes.long || not (b == 10)) && closes quotes 0 (escape_behind escape b) bs
+    | false ↦ (quotes.long || not (b == 10)) && closes quotes 0 (escape_after escape b) bs
   ]
 ]
 
@@ -111,9 +111,9 @@ abbrev pub are_two : ℕ → List ℕ → Bool
 are_two q [] = false
 are_two q (a ∷ bs) = a == q && begins (λ b. b == q) bs
 
-abbrev pub opens_behind : ℕ → List ℕ → Option Opening
-opens_behind prefix [] = None
-opens_behind prefix (q ∷ bs) = if is_quote q then Some (record { prefix = prefix; quotes = record { byte = q; long = are_two q bs } }) else None
+abbrev pub opens_after : ℕ → List ℕ → Option Opening
+opens_after prefix [] = None
+opens_after prefix (q ∷ bs) = if is_quote q then Some (record { prefix = prefix; quotes = record { byte = q; long = are_two q bs } }) else None
 
 -- `r`, `b`, `rb` and `br`
 abbrev pub prefix_letters : List ℕ → ℕ
@@ -123,7 +123,7 @@ prefix_letters (a ∷ bs) =
 
 -- the string that begins at a place, by its first bytes
 abbrev pub opening : List ℕ → Option Opening
-opening place = opens_behind (prefix_letters place) (drop (prefix_letters place) place)
+opening place = opens_after (prefix_letters place) (drop (prefix_letters place) place)
 
 abbrev pub opening_length : Opening → ℕ
 opening_length o = o.prefix + closing_row o.quotes.long

@@ -6,7 +6,6 @@ pub mod Faults
 pub mod Ends
 pub mod UpToFault
 pub mod FreshStart
-pub mod Scans
 pub mod Groups
 pub mod Munch
 pub mod Pieces
@@ -14,6 +13,5 @@ pub mod LogicalLines
 pub mod Blocks
 pub mod Chunks
 pub mod Cuts
-pub mod CutSteps
-pub mod Decided
 pub mod CutterState
+pub mod private

@@ -7,7 +7,7 @@ use Rattle.bz_token.specs.Munch.{munched}
 abbrev pub is_byte : ℕ → List ℕ → Bool
 is_byte b text = bytes_eq text (b ∷ [])
 
--- A string's inside is units, bytes and escapes: a backslash takes the byte behind it along, or a carriage return and a newline.
+-- A string's inside is units, bytes and escapes: a backslash takes the byte after it along, or a carriage return and a newline.
 abbrev pub escape_takes : List ℕ → ℕ → Bool
 escape_takes unit b = is_byte 92 unit || (bytes_eq unit (92 ∷ 13 ∷ []) && b == 10)
 

@@ -3,7 +3,7 @@ use Rattle.std.specs.Prelude.{ℕ, ◌+◌, List, [], ◌∷◌, count_by, ◌==
 use Rattle.bz_token.specs.declared.token.Kind.{Kind}
 use Rattle.bz_token.specs.declared.token.Token.{Token}
 
--- the line behind these bytes
+-- the line after these bytes
 abbrev pub line_at : ℕ → List ℕ → ℕ
 line_at first before = first + count_by (λ b. b == 10) before
 
@@ -11,7 +11,7 @@ abbrev pub column_from : ℕ → List ℕ → ℕ
 column_from column [] = column
 column_from column (b ∷ bs) = column_from (if b == 10 then 1 else column + 1) bs
 
--- the column behind these bytes
+-- the column after these bytes
 abbrev pub column_at : List ℕ → ℕ
 column_at before = column_from 1 before
 

@@ -4,7 +4,7 @@ use Rattle.std.specs.Prelude.{◌≡◌, ℕ, List, [], ◌∷◌, ◌++◌, tak
 use Rattle.std.specs.List.{list_any}
 use Rattle.bz_token.specs.declared.token.Kind.{Kind}
 use Rattle.bz_token.specs.Lexical.{is_blank, begins, IsToken}
-use Rattle.bz_token.specs.Brackets.{is_inside, fits, open_behind}
+use Rattle.bz_token.specs.Brackets.{is_inside, fits, open_after_token}
 use Rattle.bz_token.specs.Places.{line_at, column_at, Placed}
 
 -- white space: blanks, and newlines inside brackets
@@ -17,12 +17,12 @@ abbrev mutual
   is_gap inside [] = true
   is_gap inside (b ∷ bs) = elim (is_white inside b) [ true ↦ is_gap inside bs | false ↦ b == 92 && continues_gap inside bs ]
 
-  -- behind a backslash
+  -- after a backslash
   pub continues_gap : Bool → List ℕ → Bool
   continues_gap inside [] = false
   continues_gap inside (b ∷ bs) = elim (b == 13) [ true ↦ feeds_gap inside bs | false ↦ b == 10 && is_gap inside bs ]
 
-  -- behind a backslash and a carriage return
+  -- after a backslash and a carriage return
   pub feeds_gap : Bool → List ℕ → Bool
   feeds_gap inside [] = false
   feeds_gap inside (b ∷ bs) = b == 10 && is_gap inside bs
@@ -35,13 +35,13 @@ continues place = bytes_eq (take 2 place) (92 ∷ 10 ∷ []) || bytes_eq (take 3
 abbrev pub begins_gap : Bool → List ℕ → Bool
 begins_gap inside place = begins (is_white inside) place || continues place
 
--- a gap, and the token behind it
+-- a gap, and the token after it
 pub record Piece : Type 0 where
   pub gap : List ℕ
   pub kind : Kind
   pub text : List ℕ
 
--- Where these brackets are open, the bytes begin with a gap and the token that stands behind it.
+-- Where these brackets are open, the bytes begin with a gap and the token that stands after it.
 pub record IsPiece (depth : ℕ) (opened : List ℕ) (piece : Piece) (bytes after : List ℕ) : Type 0 where
   pub bytes_are : bytes ≡ piece.gap ++ (piece.text ++ after)
   pub gap : is_gap (is_inside opened) piece.gap ≡ true
@@ -51,19 +51,19 @@ pub record IsPiece (depth : ℕ) (opened : List ℕ) (piece : Piece) (bytes afte
 -- the bytes are these pieces and then the rest
 abbrev pub IsReading : ℕ → List ℕ → List Piece → List ℕ → List ℕ → Type 0
 IsReading depth opened [] rest bytes = bytes ≡ rest
-IsReading depth opened (p ∷ ps) rest bytes = (after : List ℕ) × IsPiece depth opened p bytes after × IsReading depth (open_behind opened p.text) ps rest after
+IsReading depth opened (p ∷ ps) rest bytes = (after : List ℕ) × IsPiece depth opened p bytes after × IsReading depth (open_after_token opened p.text) ps rest after
 
--- the brackets that are open behind pieces
+-- the brackets that are open after pieces
 abbrev pub open_after : List ℕ → List Piece → List ℕ
 open_after opened [] = opened
-open_after opened (p ∷ ps) = open_after (open_behind opened p.text) ps
+open_after opened (p ∷ ps) = open_after (open_after_token opened p.text) ps
 
 -- the bytes that the pieces stand for
 abbrev pub bytes_of : List Piece → List ℕ
 bytes_of [] = []
 bytes_of (p ∷ ps) = p.gap ++ (p.text ++ bytes_of ps)
 
--- a piece's token behind the bytes before it, where earlier tokens begin on these lines
+-- a piece's token after the bytes before it, where earlier tokens begin on these lines
 abbrev pub token_of : ℕ → List ℕ → List ℕ → Piece → Placed
 token_of first before lines p = record {
   kind = p.kind;
@@ -73,7 +73,7 @@ token_of first before lines p = record {
   fresh = not (list_any (λ line. line == line_at first before) lines);
 }
 
--- the tokens of pieces behind the bytes before them
+-- the tokens of pieces after the bytes before them
 abbrev pub tokens_of : ℕ → List ℕ → List ℕ → List Piece → List Placed
 tokens_of first before lines [] = []
 tokens_of first before lines (p ∷ ps) =

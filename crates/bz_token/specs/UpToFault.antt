@@ -6,7 +6,7 @@ use Rattle.bz_token.specs.Places.{Placed}
 use Rattle.bz_token.specs.Reading.{Piece, tokens_of, AreTokensOf}
 use Rattle.bz_token.specs.Faults.{IsFault}
 
--- The gaps and tokens behind which a text has its fault. An open bracket is told at the end of a text that has no other
+-- The gaps and tokens after which a text has its fault. An open bracket is told at the end of a text that has no other
 -- fault, so all its tokens stand before that fault.
 abbrev pub read_before : (first depth : ℕ) (bytes : List ℕ) (fault : LexFault) → IsFault first depth bytes fault → List Piece
 read_before first depth bytes OutOfMemory is = []

@@ -3,7 +3,7 @@
 ghost use Rattle.std.specs.Prelude.{◌≡◌, ◌≤◌, ◌<◌, ◌+◌, ◌-◌, true, false, length, drop, map, IfSome, IfNone, OnOk, IfErr, [], ◌∷◌, Err, List};
 ghost use Rattle.bz_token.specs.Places.{Placed, placed};
 ghost use Rattle.bz_token.specs.declared.brackets.Bracket.TheVariants.{Opening, Closing, Neither};
-ghost use Rattle.bz_token.specs.Brackets.{is_opening_bracket, is_closing_bracket, is_pair, is_inside, is_bracket, bracket_fits, closes_innermost, open_behind_byte, open_tokens};
+ghost use Rattle.bz_token.specs.Brackets.{is_opening_bracket, is_closing_bracket, is_pair, is_inside, is_bracket, bracket_fits, closes_innermost, open_after_byte, open_tokens};
 
 use crate::gap::Place;
 use crate::token::Token;
@@ -46,7 +46,7 @@ fn is_pair(a: u8, b: u8) -> bool
 }
 
 impl Brackets {
-    ghost use Rattle.bz_token.specs.Scans.{opened, IsMisfit};
+    ghost use Rattle.bz_token.specs.private.Scans.{opened, IsMisfit};
 
     pub fn new() -> Brackets
         ensures { opened result ≡ [] }
@@ -75,7 +75,7 @@ impl Brackets {
     #[inline(always)]
     pub fn take(&mut self, b: u8, max_depth: u8) -> Result<(), Misfit>
         ensures fits { OnOk result (bracket_fits max_depth (opened self.old) b ≡ true) }
-        ensures opened { OnOk result (opened self.new ≡ open_behind_byte (opened self.old) b) }
+        ensures opened { OnOk result (opened self.new ≡ open_after_byte (opened self.old) b) }
         ensures misfit { IfErr result (IsMisfit max_depth (opened self.old) b) }
     {
         if is_opening_bracket(b) {
@@ -114,7 +114,7 @@ fn bracket_of(text: &[u8]) -> Bracket
     }
 }
 
-/// The place of the innermost bracket that is open behind some tokens, if one is.
+/// The place of the innermost bracket that is open after some tokens, if one is.
 pub fn innermost(tokens: &[Token<'_>]) -> Option<Place>
     ensures found { IfSome result (λ p. (t : Placed) × (outer : List Placed) × (open_tokens [] (map placed tokens.now) ≡ t ∷ outer) × (p.line ≡ t.line) × (p.col ≡ t.col)) }
     ensures none { IfNone result (open_tokens [] (map placed tokens.now) ≡ []) }

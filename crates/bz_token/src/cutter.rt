@@ -4,8 +4,8 @@ mod block;
 mod scan;
 
 ghost use Rattle.std.specs.Prelude.{◌≡◌, ◌+◌, ◌<◌, ◌^◌, ◌++◌, ◌↔◌, [], List, ℕ, false, length, IsTrue};
-ghost use Rattle.bz_token.specs.CutSteps.{start, fresh, moved, stage_now, cut_at, cutter_at};
-ghost use Rattle.bz_token.specs.CutterState.{IsBehind, IsAtBlock, Takes, Awaits, AwaitsNext};
+ghost use Rattle.bz_token.specs.private.CutSteps.{start, fresh, moved, stage_now, cut_at, cutter_at};
+ghost use Rattle.bz_token.specs.CutterState.{IsAfter, IsAtBlock, Takes, Awaits, AwaitsNext};
 ghost use Rattle.bz_token.specs.Chunks.{chunks};
 ghost use Rattle.bz_token.specs.Cuts.{IsChunk, IsPart, IsBlock, IsCut, IsNext, left, left_next, IsLast, is_physical_line, ends_in_newline};
 
@@ -15,7 +15,7 @@ use scan::{Inside, LineKind, Scan, is_ended, read};
 /// What a line says of its chunk.
 #[derive(Clone, Copy, Debug, PartialEq, Eq)]
 pub enum Cut {
-    /// The chunk goes on behind the line, or the file ends there.
+    /// The chunk goes on after the line, or the file ends there.
     More,
     /// The lines since the last chunk's end are a chunk.
     Whole,
@@ -35,11 +35,11 @@ pub enum Next {
 }
 
 /// Finds where the chunks of a file end, a physical line at a time. This project's own rule: a chunk is a blank line,
-/// or comment lines with the blank line behind them, or comment lines, if any, with a statement. A statement that
-/// begins with `def`, `for` or `if` in column 1 is a block and takes the indented and empty lines behind it.
+/// or comment lines with the blank line after them, or comment lines, if any, with a statement. A statement that
+/// begins with `def`, `for` or `if` in column 1 is a block and takes the indented and empty lines after it.
 #[derive(Clone, Copy, Debug, PartialEq, Eq)]
 pub struct Cutter {
-    // The logical line that is being read. It has ended only behind a line of a block.
+    // The logical line that is being read. It has ended only after a line of a block.
     scan: Scan,
     // The chunk, by the logical lines before this one.
     stage: Stage,
@@ -51,23 +51,23 @@ impl Cutter {
     /// A cutter at the beginning of a file.
     pub fn new() -> Self
         ensures part { IsPart [] }
-        ensures behind { IsBehind result [] }
+        ensures after { IsAfter result [] }
         ensures awaits { (line : List ℕ) → Takes result line }
     {
         Cutter::fresh()
     }
 
-    /// Reads one physical line with its newline, or the last line without one, which answers `More`. Behind `Block` it
+    /// Reads one physical line with its newline, or the last line without one, which answers `More`. After `Block` it
     /// asks for an answer of `goes_on` first. At most 2^64 - 1 bytes stand between two ends of chunks.
     pub fn line(&mut self, line: &[u8]) -> Cut
         requires one_line { IsTrue (is_physical_line line.now) }
-        requires room { (seen : List ℕ) × IsBehind self.old seen × (length seen + length line.now < 2 ^ 64) }
+        requires room { (seen : List ℕ) × IsAfter self.old seen × (length seen + length line.now < 2 ^ 64) }
         requires takes { Takes self.old line.now }
-        ensures cut { IsTrue (ends_in_newline line.now) → (seen : List ℕ) → IsBehind self.old seen → IsCut result (seen ++ line.now) }
-        ensures whole { (seen : List ℕ) → IsBehind self.old seen → (result ≡ Cut.Whole) ↔ IsChunk (seen ++ line.now) }
-        ensures block { (seen : List ℕ) → IsBehind self.old seen → (result ≡ Cut.Block) ↔ IsBlock (seen ++ line.now) }
-        ensures last { ends_in_newline line.now ≡ false → (seen : List ℕ) → IsBehind self.old seen → IsLast result (seen ++ line.now) }
-        ensures behind { IsTrue (ends_in_newline line.now) → (seen : List ℕ) → IsBehind self.old seen → IsBehind self.new (left result (seen ++ line.now)) }
+        ensures cut { IsTrue (ends_in_newline line.now) → (seen : List ℕ) → IsAfter self.old seen → IsCut result (seen ++ line.now) }
+        ensures whole { (seen : List ℕ) → IsAfter self.old seen → (result ≡ Cut.Whole) ↔ IsChunk (seen ++ line.now) }
+        ensures block { (seen : List ℕ) → IsAfter self.old seen → (result ≡ Cut.Block) ↔ IsBlock (seen ++ line.now) }
+        ensures last { ends_in_newline line.now ≡ false → (seen : List ℕ) → IsAfter self.old seen → IsLast result (seen ++ line.now) }
+        ensures after { IsTrue (ends_in_newline line.now) → (seen : List ℕ) → IsAfter self.old seen → IsAfter self.new (left result (seen ++ line.now)) }
         ensures awaits { Awaits result self.new }
     {
         self.read_line(line);
@@ -79,12 +79,12 @@ impl Cutter {
         cut_at(stage)
     }
 
-    /// Whether the block goes on, behind an answer of `Block`: `ahead` is what follows, and `at_end` says that nothing
-    /// comes behind it. Behind `Short` it is asked again with more bytes.
+    /// Whether the block goes on, after an answer of `Block`: `ahead` is what follows, and `at_end` says that nothing
+    /// comes after it. After `Short` it is asked again with more bytes.
     pub fn goes_on(&mut self, ahead: &[u8], at_end: bool) -> Next
         requires at_block { IsAtBlock self.old }
-        ensures next { (seen : List ℕ) → IsBehind self.old seen → IsNext result at_end seen ahead.now }
-        ensures behind { (seen : List ℕ) → IsBehind self.old seen → IsBehind self.new (left_next result seen) }
+        ensures next { (seen : List ℕ) → IsAfter self.old seen → IsNext result at_end seen ahead.now }
+        ensures after { (seen : List ℕ) → IsAfter self.old seen → IsAfter self.new (left_next result seen) }
         ensures awaits { AwaitsNext result at_end ahead.now self.new }
     {
         let Stage::InBlock(word) = self.stage else {
@@ -111,7 +111,7 @@ impl Cutter {
         }
     }
 
-    // Behind a logical line that has ended.
+    // After a logical line that has ended.
     fn at(stage: Stage) -> Cutter
         ensures { result ≡ cutter_at stage }
     {
@@ -139,7 +139,7 @@ impl Cutter {
         self.scan = read(self.scan, line);
     }
 
-    // What the chunk is behind the logical line, which has ended.
+    // What the chunk is after the logical line, which has ended.
     fn stage_now(&self) -> Stage
         ensures { result ≡ stage_now self.now }
     {

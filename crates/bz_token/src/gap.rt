@@ -14,7 +14,7 @@ pub struct Place {
     pub col: u64,
 }
 
-/// The place behind some bytes.
+/// The place after some bytes.
 #[inline(always)]
 pub fn advance(place: Place, bytes: &[u8]) -> Place
     requires line_fits { place.line + count_by (λ b. b == 10) bytes.now < 2 ^ 64 }

@@ -56,7 +56,7 @@ pub fn bytes_that_end_tokens()
     ensures sign { (text : List ℕ) (b : ℕ) → is_text Sign text ≡ true → list_any (λ c. b == c) (codes "/*<>=") ≡ false → stops Sign text b ≡ true }
 {}
 
-/// Behind a text that a newline outside brackets ends, reading starts afresh: what follows is read as it is as a text of
+/// After a text that a newline outside brackets ends, reading starts afresh: what follows is read as it is as a text of
 /// its own with its first line.
 pub fn reading_starts_afresh()
     ensures joined { (first depth : ℕ) (a b : List ℕ) (ts us : List Placed) (fault : Option LexFault) → AreLinesOf first depth a ts → IsReadAs (line_at first a) depth b us fault → IsReadAs first depth (a ++ b) (ts ++ us) fault }
@@ -76,8 +76,8 @@ pub fn chunks_start_afresh()
 {}
 
 /// Fresh start: where the chunks before have tokens, what a chunk is read as, by itself with its first line, is exactly what
-/// the file is read as on the chunk's lines. A chunk's fault is the file's, behind the tokens of the chunks before and the
-/// chunk's own; the tokens of a chunk without a fault stand in the file behind those of the chunks before.
+/// the file is read as on the chunk's lines. A chunk's fault is the file's, after the tokens of the chunks before and the
+/// chunk's own; the tokens of a chunk without a fault stand in the file after those of the chunks before.
 pub fn fresh_start()
     ensures on_its_lines { (first depth : ℕ) (cs ds : List (List ℕ)) (d bytes : List ℕ) (ts us vs : List Placed) (f g : Option LexFault) → chunks bytes ≡ cs ++ d ∷ ds → AreTokensOfChunks first depth cs ts → IsReadAs first depth bytes vs g
         → (IsReadAs (line_at first (concat cs)) depth d us f ↔ ((us ≡ tokens_on_lines (line_at first (concat cs)) d vs) × (f ≡ fault_on_lines (line_at first (concat cs)) d g))) }

@@ -8,7 +8,7 @@ ghost use Rattle.bz_token.specs.Brackets.{open_tokens};
 ghost use Rattle.bz_token.specs.Reading.{AreTokensOf};
 ghost use Rattle.bz_token.specs.Faults.{IsFault};
 ghost use Rattle.bz_token.specs.Lexical.{is_newline};
-ghost use Rattle.bz_token.specs.Scans.{bad_fault, misfit_fault, IsLeftOpen};
+ghost use Rattle.bz_token.specs.private.Scans.{bad_fault, misfit_fault, IsLeftOpen};
 
 use crate::brackets::{Brackets, Misfit, innermost};
 use crate::fault::LexFault;
@@ -17,7 +17,7 @@ use crate::scan_token::{Bad, scan_token};
 use crate::token::Token;
 use std::alloc::Global;
 
-/// The place behind a token.
+/// The place after a token.
 #[inline(always)]
 fn pass(place: Place, text: &[u8], has_newline: bool) -> Place
     requires line_fits { place.line + count_by (λ b. b == 10) text.now < 2 ^ 64 }
@@ -115,7 +115,7 @@ pub fn tokens<'a>(
             Err(misfit) => return Err(misfit_fault(misfit, place)),
         }
         let Place { line, col } = place;
-        let (token, behind) = after.split_at(scanned.len);
+        let (token, following) = after.split_at(scanned.len);
         out.push(Token {
             kind: scanned.kind,
             text: token,
@@ -125,6 +125,6 @@ pub fn tokens<'a>(
         })?;
         last_line = Some(line);
         place = pass(place, token.as_bytes(), scanned.has_newline);
-        rest = behind;
+        rest = following;
     }
 }

@@ -53,7 +53,7 @@ fn are_octal(bytes: &[u8]) -> bool
     bytes.iter().all(|b| is_octal_digit(*b))
 }
 
-/// Whether these are digits behind the letter of a base.
+/// Whether these are digits after the letter of a base.
 fn are_based(bytes: &[u8]) -> bool
     ensures { result ≡ are_based bytes.now }
 {
@@ -70,7 +70,7 @@ pub fn is_number(bytes: &[u8]) -> bool
 {
     match bytes.split_first() {
         None => false,
-        Some((b, behind)) => are_decimal(bytes) || *b == b'0' && are_based(behind),
+        Some((b, after)) => are_decimal(bytes) || *b == b'0' && are_based(after),
     }
 }
 

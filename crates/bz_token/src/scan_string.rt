@@ -2,16 +2,16 @@
 
 ghost use Rattle.std.specs.Prelude.{◌≡◌, ◌≤◌, ◌<◌, ◌-◌, ℕ, true, false, length, take, slice_index, IfSome, IfNone};
 ghost use Rattle.std.specs.List.{list_any, prefix_len};
-ghost use Rattle.bz_token.specs.Lexical.{is_newline, is_quote, is_escaped, escape_behind, closing_row, prefix_letters, are_two, closes, opening};
-ghost use Rattle.bz_token.specs.Scans.{is_plain};
+ghost use Rattle.bz_token.specs.Lexical.{is_newline, is_quote, is_escaped, escape_after, closing_row, prefix_letters, are_two, closes, opening};
+ghost use Rattle.bz_token.specs.private.Scans.{is_plain};
 ghost use Rattle.bz_token.specs.declared.scan_string.Escape.TheVariants.{Unescaped};
 
 /// What stands before a byte of a string: nothing that escapes it, a backslash, or a backslash and a carriage return.
 #[derive(Clone, Copy)]
 pub enum Escape {
     Unescaped,
-    BehindBackslash,
-    BehindReturn,
+    AfterBackslash,
+    AfterReturn,
 }
 
 /// The quotes of a string.
@@ -29,7 +29,7 @@ pub struct Opening {
     pub quotes: Quotes,
 }
 
-/// What stands behind a string's opening quotes, up to its closing ones.
+/// What stands after a string's opening quotes, up to its closing ones.
 #[derive(Clone, Copy)]
 pub struct Inside {
     pub len: usize,
@@ -49,19 +49,19 @@ fn is_escaped(escape: Escape, b: u8) -> bool
 {
     match escape {
         Escape::Unescaped => false,
-        Escape::BehindBackslash => true,
-        Escape::BehindReturn => b == b'\n',
+        Escape::AfterBackslash => true,
+        Escape::AfterReturn => b == b'\n',
     }
 }
 
 #[inline(always)]
-fn escape_behind(escape: Escape, b: u8) -> Escape
-    ensures { result ≡ escape_behind escape b }
+fn escape_after(escape: Escape, b: u8) -> Escape
+    ensures { result ≡ escape_after escape b }
 {
     match (escape, b) {
-        (Escape::BehindBackslash, b'\r') => Escape::BehindReturn,
-        (Escape::BehindBackslash, _) => Escape::Unescaped,
-        (_, b'\\') => Escape::BehindBackslash,
+        (Escape::AfterBackslash, b'\r') => Escape::AfterReturn,
+        (Escape::AfterBackslash, _) => Escape::Unescaped,
+        (_, b'\\') => Escape::AfterBackslash,
         _ => Escape::Unescaped,
     }
 }
@@ -101,13 +101,13 @@ pub fn opening_at(bytes: &[u8]) -> Option<Opening>
     ensures { result ≡ opening bytes.now }
 {
     let prefix = prefix_letters(bytes);
-    let (byte, behind) = bytes[prefix..].split_first()?;
+    let (byte, after) = bytes[prefix..].split_first()?;
     if !is_quote(*byte) {
         return None;
     }
     let quotes = Quotes {
         byte: *byte,
-        long: are_two(*byte, behind),
+        long: are_two(*byte, after),
     };
     Some(Opening { prefix, quotes })
 }
@@ -177,7 +177,7 @@ fn inside_by_bytes(quotes: Quotes, bytes: &[u8]) -> Option<Inside>
             row = 0;
         }
         has_newline = has_newline || *b == b'\n';
-        escape = escape_behind(escape, *b);
+        escape = escape_after(escape, *b);
     }
     None
 }

@@ -3,7 +3,7 @@
 ghost use Rattle.std.specs.Prelude.{◌≡◌, ◌<◌, ◌≤◌, ◌==◌, ℕ, List, Some, None, true, false, length, IfOk, IfErr};
 ghost use Rattle.std.specs.Char.{is_ascii_digit};
 ghost use Rattle.bz_token.specs.Lexical.{begins, opening, is_word_byte};
-ghost use Rattle.bz_token.specs.Scans.{IsScanned, IsBadPlace};
+ghost use Rattle.bz_token.specs.private.Scans.{IsScanned, IsBadPlace};
 
 use crate::scan::{comment_len, is_keyword, is_number, is_word_byte, sign_len, word_len};
 use crate::scan_string::{Opening, closing_row, inside_at, opening_at};

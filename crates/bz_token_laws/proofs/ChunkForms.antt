@@ -11,7 +11,7 @@ use Rattle.bz_token.specs.declared.cutter.scan.LineKind.TheVariants.{Blank, Note
 use Rattle.bz_token.specs.Groups.{grouped, grouped_from}
 use Rattle.bz_token.specs.LogicalLines.{Line, lines}
 use Rattle.bz_token.specs.Blocks.{opener}
-use Rattle.bz_token.specs.Chunks.{stage_step, stage_behind, stage_from, takes, chunk_goes_on, text_of, chunks}
+use Rattle.bz_token.specs.Chunks.{stage_step, stage_after, stage_from, takes, chunk_goes_on, text_of, chunks}
 use Rattle.bz_token.specs.Cuts.{IsChunk}
 use Rattle.bz_token.specs.Places.{Placed}
 use Rattle.bz_token.specs.FreshStart.{AreLinesOf}
@@ -20,11 +20,11 @@ use Rattle.bz_token.proofs.ChunkLaws.{chunks_kept}
 use Rattle.bz_token_laws.specs.ChunkForms.{is_comment_line, are_comments, ends_as, ends_chunk}
 use Rattle.bz_token_laws.proofs.TokenLines.{lines_join}
 
-stage_snoc : (done : List Line) (stage : Stage) (l : Line) → stage_from stage (done ++ l ∷ []) ≡ stage_behind (stage_from stage done) l
+stage_snoc : (done : List Line) (stage : Stage) (l : Line) → stage_from stage (done ++ l ∷ []) ≡ stage_after (stage_from stage done) l
 stage_snoc [] stage l = refl
-stage_snoc (m ∷ ls) stage l = stage_snoc ls (stage_behind stage m) l
+stage_snoc (m ∷ ls) stage l = stage_snoc ls (stage_after stage m) l
 
-comment_stage : (l : Line) → is_comment_line l.kind ≡ true → stage_behind Notes l ≡ Notes
+comment_stage : (l : Line) → is_comment_line l.kind ≡ true → stage_after Notes l ≡ Notes
 comment_stage l h = by l.kind h
   where
     by : (kind : LineKind) → is_comment_line kind ≡ true → stage_step Notes kind (opener l.text) l.broken ≡ Notes
@@ -32,7 +32,7 @@ comment_stage l h = by l.kind h
     by Blank h = absurd (false≢true h)
     by Statement h = absurd (false≢true h)
 
-end_stage : (l : Line) → ends_chunk l ≡ true → stage_behind Notes l ≡ Done
+end_stage : (l : Line) → ends_chunk l ≡ true → stage_after Notes l ≡ Done
 end_stage l h = by l.kind h
   where
     statement : (word : Option Opener) → not (is_some word) ≡ true → stage_step Notes Statement word l.broken ≡ Done
@@ -55,11 +55,11 @@ done_apart done (l ∷ ls) h = grouped_apart chunk_goes_on done l ls (ap (λ s. 
 
 comments_joined : (notes done : List Line) (l : Line) (ls : List Line) → stage_from Notes done ≡ Notes → are_comments notes ≡ true → ends_chunk l ≡ true → grouped_from chunk_goes_on done (notes ++ l ∷ ls) ≡ (done ++ (notes ++ l ∷ [])) ∷ grouped chunk_goes_on ls
 comments_joined [] done l ls h notes end =
-    joins_comments done l ls h ∙ done_apart (done ++ l ∷ []) ls (stage_snoc done Notes l ∙ ap (λ s. stage_behind s l) h ∙ end_stage l end)
+    joins_comments done l ls h ∙ done_apart (done ++ l ∷ []) ls (stage_snoc done Notes l ∙ ap (λ s. stage_after s l) h ∙ end_stage l end)
 comments_joined (n ∷ ns) done l ls h notes end =
     let p = and_parts (is_comment_line n.kind) (are_comments ns) notes in
     joins_comments done n (ns ++ l ∷ ls) h
-    ∙ comments_joined ns (done ++ n ∷ []) l ls (stage_snoc done Notes n ∙ ap (λ s. stage_behind s n) h ∙ comment_stage n p.0) p.1 end
+    ∙ comments_joined ns (done ++ n ∷ []) l ls (stage_snoc done Notes n ∙ ap (λ s. stage_after s n) h ∙ comment_stage n p.0) p.1 end
     ∙ ap (λ x. x ∷ grouped chunk_goes_on ls) (append_assoc done (n ∷ []) (ns ++ l ∷ []))
 
 first_group : (notes : List Line) (l : Line) (ls : List Line) → are_comments notes ≡ true → ends_chunk l ≡ true → grouped chunk_goes_on (notes ++ l ∷ ls) ≡ (notes ++ l ∷ []) ∷ grouped chunk_goes_on ls
@@ -86,7 +86,7 @@ all_joined : (notes done : List Line) → stage_from Notes done ≡ Notes → ar
 all_joined [] done h notes = ap (λ x. x ∷ []) (sym (append-nil done))
 all_joined (n ∷ ns) done h notes =
     let p = and_parts (is_comment_line n.kind) (are_comments ns) notes in
-    joins_comments done n ns h ∙ all_joined ns (done ++ n ∷ []) (stage_snoc done Notes n ∙ ap (λ s. stage_behind s n) h ∙ comment_stage n p.0) p.1 ∙ ap (λ x. x ∷ []) (append_assoc done (n ∷ []) ns)
+    joins_comments done n ns h ∙ all_joined ns (done ++ n ∷ []) (stage_snoc done Notes n ∙ ap (λ s. stage_after s n) h ∙ comment_stage n p.0) p.1 ∙ ap (λ x. x ∷ []) (append_assoc done (n ∷ []) ns)
 
 pub comments_chunk : (c : List ℕ) (n : Line) (ns : List Line) → lines c ≡ n ∷ ns → are_comments (n ∷ ns) ≡ true → chunks c ≡ c ∷ []
 comments_chunk c n ns alone comments = one ∙ ap (λ t. t ∷ []) (sym (append-nil (text_of (lines c))) ∙ sym (ap concat one) ∙ chunks_kept c)

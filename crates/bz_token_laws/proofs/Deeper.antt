@@ -6,7 +6,7 @@ use Rattle.std.proofs.lemmas.Bool.{cases_Bool, and_parts}
 use Rattle.std.proofs.lemmas.Bool.Decides.{nat_tests}
 use Rattle.bz_token.specs.declared.token.Kind.{Kind}
 use Rattle.bz_token.specs.Lexical.{is_text}
-use Rattle.bz_token.specs.Brackets.{is_inside, is_line, is_opening_bracket, bracket_fits, fits, open_behind}
+use Rattle.bz_token.specs.Brackets.{is_inside, is_line, is_opening_bracket, bracket_fits, fits, open_after_token}
 use Rattle.bz_token.specs.Places.{Placed, line_at}
 use Rattle.bz_token.specs.Reading.{Piece, IsReading, tokens_of, AreTokensOf}
 use Rattle.bz_token_laws.proofs.Quiet.{both}
@@ -32,7 +32,7 @@ reading_deeper d e opened [] rest bytes less r = r
 reading_deeper d e opened (p ∷ ps) rest bytes less r = (
   r.0,
   record { bytes_are = r.1.bytes_are; gap = r.1.gap; token = r.1.token; fits = fits_deeper d e opened p.kind p.text less r.1.fits },
-  reading_deeper d e (open_behind opened p.text) ps rest r.0 less r.2,
+  reading_deeper d e (open_after_token opened p.text) ps rest r.0 less r.2,
 )
 
 pub tokens_deeper : (first d e : ℕ) (bytes : List ℕ) (ts : List Placed) → d ≤ e → AreTokensOf first d bytes ts → AreTokensOf first e bytes ts
@@ -41,7 +41,7 @@ tokens_deeper first d e bytes ts less a = (a.0, a.1, reading_deeper d e [] a.0 a
 pieces_are_texts : (first depth : ℕ) (before lines opened : List ℕ) (ps : List Piece) (rest bytes : List ℕ) → IsReading depth opened ps rest bytes → list_all (λ t. is_text t.kind t.text) (tokens_of first before lines ps) ≡ true
 pieces_are_texts first depth before lines opened [] rest bytes r = refl
 pieces_are_texts first depth before lines opened (p ∷ ps) rest bytes r =
-    both (is_text p.kind p.text) _ r.1.token.whole (pieces_are_texts first depth (before ++ (p.gap ++ p.text)) (line_at first (before ++ p.gap) ∷ lines) (open_behind opened p.text) ps rest r.0 r.2)
+    both (is_text p.kind p.text) _ r.1.token.whole (pieces_are_texts first depth (before ++ (p.gap ++ p.text)) (line_at first (before ++ p.gap) ∷ lines) (open_after_token opened p.text) ps rest r.0 r.2)
 
 pub tokens_are_texts : (first depth : ℕ) (bytes : List ℕ) (ts : List Placed) → AreTokensOf first depth bytes ts → list_all (λ t. is_text t.kind t.text) ts ≡ true
 tokens_are_texts first depth bytes ts a = subst (λ x. list_all (λ t. is_text t.kind t.text) x ≡ true) (sym a.5) (pieces_are_texts first depth [] [] [] a.0 a.1 bytes a.2)

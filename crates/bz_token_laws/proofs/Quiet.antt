@@ -12,7 +12,7 @@ use Rattle.bz_token.specs.declared.cutter.scan.Inside.{Inside}
 use Rattle.bz_token.specs.declared.cutter.scan.Inside.TheVariants.{Plain, Ended, BrokenOff, Backslash, BackslashReturn, Comment, Opened, OpenedTwice, Short, ShortEscape, ShortEscapeReturn, Long, LongQuote, LongTwoQuotes, LongEscape}
 use Rattle.bz_token.specs.declared.cutter.scan.Scan.{Scan}
 use Rattle.bz_token.specs.Lexical.{is_word_byte, is_newline, is_name, is_keyword, is_string, is_text, opening}
-use Rattle.bz_token.specs.CutSteps.{is_ended, outside, next_in, next, run}
+use Rattle.bz_token.specs.private.CutSteps.{is_ended, outside, next_in, next, run}
 use Rattle.bz_token.proofs.Classes.{keyword_name}
 use Rattle.bz_token.proofs.Ends.{number_words, string_opens}
 use Rattle.bz_token.proofs.Agree.{is_sign_plain, sign_plain}

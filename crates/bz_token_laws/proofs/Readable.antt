@@ -5,7 +5,7 @@ use Rattle.bz_token.specs.declared.token.Kind.{Kind}
 use Rattle.bz_token.specs.declared.token.Kind.TheVariants.{Ident, Word, Int, Text, Sign, Line, Note, Kept}
 use Rattle.bz_token.specs.Lexical.{is_text}
 use Rattle.bz_token.specs.Ends.{stops_at, ends}
-use Rattle.bz_token.specs.Brackets.{is_inside, fits, open_behind}
+use Rattle.bz_token.specs.Brackets.{is_inside, fits, open_after_token}
 use Rattle.bz_token.specs.FreshStart.{ends_in_line, AreLinesOf}
 use Rattle.bz_token.specs.Reading.{is_gap, Piece, IsReading, open_after, bytes_of, tokens_of, AreTokensOf}
 use Rattle.bz_token.proofs.Stops.{token_ended, token_ends, stopped_ends}
@@ -19,7 +19,7 @@ laid_reading depth opened [] rest texts ended fitting = refl
 laid_reading depth opened (p ∷ ps) rest texts ended fitting =
     let t = and_parts (is_text p.kind p.text) (are_texts ps) texts in
     let e = and_parts (ends p.kind p.text (bytes_of ps ++ rest)) (are_ended ps rest) ended in
-    let f = and_parts (is_gap (is_inside opened) p.gap && fits depth opened p.kind p.text) (are_fitting depth (open_behind opened p.text) ps) fitting in
+    let f = and_parts (is_gap (is_inside opened) p.gap && fits depth opened p.kind p.text) (are_fitting depth (open_after_token opened p.text) ps) fitting in
     let g = and_parts (is_gap (is_inside opened) p.gap) (fits depth opened p.kind p.text) f.0 in (
       bytes_of ps ++ rest,
       record {
@@ -28,7 +28,7 @@ laid_reading depth opened (p ∷ ps) rest texts ended fitting =
         token = token_ended p.kind p.text (bytes_of ps ++ rest) t.0 e.0;
         fits = g.1;
       },
-      laid_reading depth (open_behind opened p.text) ps rest t.1 e.1 f.1,
+      laid_reading depth (open_after_token opened p.text) ps rest t.1 e.1 f.1,
     )
 
 pub laid_tokens : (first depth : ℕ) (ps : List Piece) (rest : List ℕ) → are_texts ps ≡ true → are_ended ps rest ≡ true → are_fitting depth [] ps ≡ true → open_after [] ps ≡ [] → is_gap false rest ≡ true → AreTokensOf first depth (bytes_of ps ++ rest) (tokens_of first [] [] ps)
@@ -41,12 +41,12 @@ laid_lines first depth ps texts ended fitting closed last = (ps, subst (λ x. Is
 pub read_is_laid : (depth : ℕ) (opened : List ℕ) (ps : List Piece) (rest bytes : List ℕ) → IsReading depth opened ps rest bytes → (bytes ≡ bytes_of ps ++ rest) × (are_texts ps ≡ true) × (are_ended ps rest ≡ true) × (are_fitting depth opened ps ≡ true)
 read_is_laid depth opened [] rest bytes r = (r, refl, refl, refl)
 read_is_laid depth opened (p ∷ ps) rest bytes r =
-    let more = read_is_laid depth (open_behind opened p.text) ps rest r.0 r.2 in
+    let more = read_is_laid depth (open_after_token opened p.text) ps rest r.0 r.2 in
     let piece = r.1 in (
       piece.bytes_are ∙ ap (λ x. p.gap ++ (p.text ++ x)) more.0 ∙ sym (append_assoc p.gap (p.text ++ bytes_of ps) rest ∙ ap (λ x. p.gap ++ x) (append_assoc p.text (bytes_of ps) rest)),
       both (is_text p.kind p.text) (are_texts ps) piece.token.whole more.1,
       both (ends p.kind p.text (bytes_of ps ++ rest)) (are_ended ps rest) (ap (ends p.kind p.text) (sym more.0) ∙ token_ends p.kind p.text r.0 piece.token) more.2,
-      both (is_gap (is_inside opened) p.gap && fits depth opened p.kind p.text) (are_fitting depth (open_behind opened p.text) ps) (both (is_gap (is_inside opened) p.gap) (fits depth opened p.kind p.text) piece.gap piece.fits) more.3,
+      both (is_gap (is_inside opened) p.gap && fits depth opened p.kind p.text) (are_fitting depth (open_after_token opened p.text) ps) (both (is_gap (is_inside opened) p.gap) (fits depth opened p.kind p.text) piece.gap piece.fits) more.3,
     )
 
 pub bytes_join : (ps qs : List Piece) → bytes_of (ps ++ qs) ≡ bytes_of ps ++ bytes_of qs
@@ -70,12 +70,12 @@ ended_join (p ∷ ps) qs rest =
 pub fitting_join : (depth : ℕ) (opened : List ℕ) (ps qs : List Piece) → are_fitting depth opened (ps ++ qs) ≡ (are_fitting depth opened ps && are_fitting depth (open_after opened ps) qs)
 fitting_join depth opened [] qs = refl
 fitting_join depth opened (p ∷ ps) qs =
-    ap (λ x. is_gap (is_inside opened) p.gap && fits depth opened p.kind p.text && x) (fitting_join depth (open_behind opened p.text) ps qs)
-    ∙ and_assoc (is_gap (is_inside opened) p.gap && fits depth opened p.kind p.text) (are_fitting depth (open_behind opened p.text) ps) (are_fitting depth (open_after (open_behind opened p.text) ps) qs)
+    ap (λ x. is_gap (is_inside opened) p.gap && fits depth opened p.kind p.text && x) (fitting_join depth (open_after_token opened p.text) ps qs)
+    ∙ and_assoc (is_gap (is_inside opened) p.gap && fits depth opened p.kind p.text) (are_fitting depth (open_after_token opened p.text) ps) (are_fitting depth (open_after (open_after_token opened p.text) ps) qs)
 
 pub open_join : (opened : List ℕ) (ps qs : List Piece) → open_after opened (ps ++ qs) ≡ open_after (open_after opened ps) qs
 open_join opened [] qs = refl
-open_join opened (p ∷ ps) qs = open_join (open_behind opened p.text) ps qs
+open_join opened (p ∷ ps) qs = open_join (open_after_token opened p.text) ps qs
 
 pub stopped_at_ends : (kind : Kind) (text after : List ℕ) → stops_at kind text after ≡ true → ends kind text after ≡ true
 stopped_at_ends kind text (b ∷ bs) h = stopped_ends kind text b bs h

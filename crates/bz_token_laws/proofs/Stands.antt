@@ -10,9 +10,9 @@ use Rattle.bz_token.specs.declared.cutter.scan.LineKind.TheVariants.{Statement}
 use Rattle.bz_token.specs.declared.cutter.scan.Inside.{Inside}
 use Rattle.bz_token.specs.declared.cutter.scan.Inside.TheVariants.{Plain, Ended, BrokenOff, Backslash, BackslashReturn, Comment, Opened, OpenedTwice, Short, ShortEscape, ShortEscapeReturn, Long, LongQuote, LongTwoQuotes, LongEscape}
 use Rattle.bz_token.specs.declared.cutter.scan.Scan.{Scan}
-use Rattle.bz_token.specs.CutSteps.{is_ended, at, outside, next_in, next, run, with_note}
+use Rattle.bz_token.specs.private.CutSteps.{is_ended, at, outside, next_in, next, run, with_note}
 use Rattle.bz_token.specs.Lexical.{is_blank, is_newline, is_text, IsToken}
-use Rattle.bz_token.specs.Brackets.{is_line, fits, open_behind}
+use Rattle.bz_token.specs.Brackets.{is_line, fits, open_after_token}
 use Rattle.bz_token.specs.Reading.{is_white, is_gap, continues_gap, feeds_gap}
 use Rattle.bz_token.proofs.Classes.{newline, hash, unknown, class_of, can_start, text_class, empty_no_text}
 use Rattle.bz_token.proofs.Ends.{comment_parts}
@@ -216,11 +216,11 @@ comment_over (b ∷ bs) s d k none h =
     or_none true y h = absurd (false≢true (sym h))
     or_none false y h = (refl, h)
 
-first_hash : (opened : List ℕ) (b : ℕ) (bs : List ℕ) → b ≡ 35 → open_behind opened (b ∷ bs) ≡ opened
-first_hash opened b [] same = ap (λ x. open_behind opened (x ∷ [])) same
+first_hash : (opened : List ℕ) (b : ℕ) (bs : List ℕ) → b ≡ 35 → open_after_token opened (b ∷ bs) ≡ opened
+first_hash opened b [] same = ap (λ x. open_after_token opened (x ∷ [])) same
 first_hash opened b (c ∷ bs) same = refl
 
-note_after : (s : Scan) (opened : List ℕ) (k : LineKind) (b : ℕ) (bs after : List ℕ) → IsToken NoteToken (b ∷ bs) after → Stands s (length opened) k (b ∷ bs ++ after) → After s (run s (b ∷ bs)) (length (open_behind opened (b ∷ bs))) (with_note k) after (b ∷ bs)
+note_after : (s : Scan) (opened : List ℕ) (k : LineKind) (b : ℕ) (bs after : List ℕ) → IsToken NoteToken (b ∷ bs) after → Stands s (length opened) k (b ∷ bs ++ after) → After s (run s (b ∷ bs)) (length (open_after_token opened (b ∷ bs))) (with_note k) after (b ∷ bs)
 note_after s opened k b bs after token st =
     let d = length opened in
     let parts = comment_parts (b ∷ bs) token.whole in
@@ -240,7 +240,7 @@ note_after s opened k b bs after token st =
 -- over a token of a statement
 statement_after : (depth : ℕ) (s : Scan) (opened : List ℕ) (k : LineKind) (kind : Kind) (b : ℕ) (bs after : List ℕ) → IsToken kind (b ∷ bs) after → fits depth opened kind (b ∷ bs) ≡ true → Stands s (length opened) k (b ∷ bs ++ after)
     → is_ended s.inside ≡ false → is_line kind ≡ false → can_start kind newline ≡ false → can_start kind hash ≡ false → can_start kind unknown ≡ false → is_quiet s (b ∷ bs) ≡ true
-    → After s (run s (b ∷ bs)) (length (open_behind opened (b ∷ bs))) Statement after (b ∷ bs)
+    → After s (run s (b ∷ bs)) (length (open_after_token opened (b ∷ bs))) Statement after (b ∷ bs)
 statement_after depth s opened k kind b bs after token fit st none noline line note other quiet =
     let d = length opened in
     let parts = and_parts (not (is_ended (next s b).inside)) (is_quiet (next s b) bs) quiet in
@@ -248,13 +248,13 @@ statement_after depth s opened k kind b bs after token fit st none noline line n
     let begun : (next s b).kind ≡ Statement = ap (λ t. t.kind) first ∙ statement_starts d k kind b bs token.whole line note other in
     let t = token_run depth s opened kind (b ∷ bs) after token fit (stands_ready s d k (b ∷ bs ++ after) st) in
     record {
-      stands = ready_stands (run s (b ∷ bs)) (length (open_behind opened (b ∷ bs))) after t.ready (quiet_end (b ∷ bs) s none quiet) (statement_run bs (next s b) (not_true (is_ended (next s b).inside) parts.0) parts.1 begun);
+      stands = ready_stands (run s (b ∷ bs)) (length (open_after_token opened (b ∷ bs))) after t.ready (quiet_end (b ∷ bs) s none quiet) (statement_run bs (next s b) (not_true (is_ended (next s b).inside) parts.0) parts.1 begun);
       quiet = quiet;
     }
 
 -- over a token that is no newline
 pub token_after : (depth : ℕ) (s : Scan) (opened : List ℕ) (k : LineKind) (kind : Kind) (text after : List ℕ) → IsToken kind text after → fits depth opened kind text ≡ true → Stands s (length opened) k (text ++ after)
-    → is_ended s.inside ≡ false → is_line kind ≡ false → After s (run s text) (length (open_behind opened text)) (kind_with k kind) after text
+    → is_ended s.inside ≡ false → is_line kind ≡ false → After s (run s text) (length (open_after_token opened text)) (kind_with k kind) after text
 token_after depth s opened k kind [] after token fit st none line = absurd (empty_no_text kind token.whole)
 token_after depth s opened k Ident (b ∷ bs) after token fit st none line = statement_after depth s opened k Ident b bs after token fit st none refl refl refl refl (plain_quiet (b ∷ bs) s (short_no_newline Ident (b ∷ bs) refl token.whole))
 token_after depth s opened k Word (b ∷ bs) after token fit st none line = statement_after depth s opened k Word b bs after token fit st none refl refl refl refl (plain_quiet (b ∷ bs) s (short_no_newline Word (b ∷ bs) refl token.whole))

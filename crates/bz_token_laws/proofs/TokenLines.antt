@@ -11,10 +11,10 @@ use Rattle.bz_token.specs.declared.cutter.scan.LineKind.TheVariants.{Blank, Note
 use Rattle.bz_token.specs.declared.cutter.scan.Inside.{Inside}
 use Rattle.bz_token.specs.declared.cutter.scan.Inside.TheVariants.{Plain, Ended, BrokenOff, Backslash, BackslashReturn, Comment, Opened, OpenedTwice, Short, ShortEscape, ShortEscapeReturn, Long, LongQuote, LongTwoQuotes, LongEscape}
 use Rattle.bz_token.specs.declared.cutter.scan.Scan.{Scan}
-use Rattle.bz_token.specs.CutSteps.{is_ended, is_broken, line_at, at, next, start, run}
+use Rattle.bz_token.specs.private.CutSteps.{is_ended, is_broken, line_at, at, next, start, run}
 use Rattle.bz_token.specs.Lexical.{is_empty, is_text}
 use Rattle.bz_token.specs.Ends.{is_note}
-use Rattle.bz_token.specs.Brackets.{is_inside, is_line, fits, open_behind}
+use Rattle.bz_token.specs.Brackets.{is_inside, is_line, fits, open_after_token}
 use Rattle.bz_token.specs.LogicalLines.{Line, lines}
 use Rattle.bz_token.specs.Places.{Placed}
 use Rattle.bz_token.specs.FreshStart.{ends_in_line, AreLinesOf}
@@ -142,8 +142,8 @@ whole_line line p kind text =
 
 -- what is known after a piece: its line has ended, or goes on
 pub data Passed (s : Scan) (opened : List ℕ) (line : List Piece) (p : Piece) (bytes after : List ℕ) : Type 0 where
-  ends_line : is_line p.kind ≡ true → open_behind opened p.text ≡ [] → seen_lines s (bytes_of line) bytes ≡ line_of (line ++ p ∷ []) [] ∷ lines_seen after → Passed s opened line p bytes after
-  stays : is_line p.kind ≡ false → (t : Scan) → Stands t (length (open_behind opened p.text)) (kind_of (line ++ p ∷ [])) after → is_ended t.inside ≡ false → is_empty (bytes_of (line ++ p ∷ []) ++ after) ≡ false
+  ends_line : is_line p.kind ≡ true → open_after_token opened p.text ≡ [] → seen_lines s (bytes_of line) bytes ≡ line_of (line ++ p ∷ []) [] ∷ lines_seen after → Passed s opened line p bytes after
+  stays : is_line p.kind ≡ false → (t : Scan) → Stands t (length (open_after_token opened p.text)) (kind_of (line ++ p ∷ [])) after → is_ended t.inside ≡ false → is_empty (bytes_of (line ++ p ∷ []) ++ after) ≡ false
       → seen_lines s (bytes_of line) bytes ≡ seen_lines t (bytes_of (line ++ p ∷ [])) after → Passed s opened line p bytes after
 
 pub piece_passed : (depth : ℕ) (opened : List ℕ) (p : Piece) (bytes after : List ℕ) (s : Scan) (line : List Piece) → IsPiece depth opened p bytes after → Stands s (length opened) (kind_of line) bytes → is_ended s.inside ≡ false → Passed s opened line p bytes after
@@ -159,7 +159,7 @@ piece_passed depth opened p bytes after s line piece st none =
           let kind : p.kind ≡ LineToken = line_kind p.kind end in
           let fit = subst (λ t. fits depth opened LineToken t ≡ true) text (subst (λ x. fits depth opened x p.text ≡ true) kind piece.fits) in
           let n = newline_after depth (run s p.gap) opened k after fit (subst (λ t. Stands (run s p.gap) d k (t ++ after)) text g.stands) in
-          ends_line end (λ i. open_behind (n.0 i) (text i))
+          ends_line end (λ i. open_after_token (n.0 i) (text i))
           (over
           ∙ ap (λ t. seen_lines (run s p.gap) (bytes_of line ++ p.gap) (t ++ after)) text
           ∙ newline_joins (run s p.gap) (bytes_of line ++ p.gap) after here
@@ -168,7 +168,7 @@ piece_passed depth opened p bytes after s line piece st none =
       | inr other ↦
           let t = token_after depth (run s p.gap) opened k p.kind p.text after piece.token piece.fits g.stands here other in
           stays other (run (run s p.gap) p.text)
-          (subst (λ x. Stands (run (run s p.gap) p.text) (length (open_behind opened p.text)) x after) (sym (kind_snoc line p)) t.stands)
+          (subst (λ x. Stands (run (run s p.gap) p.text) (length (open_after_token opened p.text)) x after) (sym (kind_snoc line p)) t.stands)
           (quiet_end p.text (run s p.gap) here t.quiet)
           (ap (λ x. is_empty (x ++ after)) (bytes_snoc line p) ∙ front_some (bytes_of line) p.gap p.text after p.kind piece.token.whole)
           (over
@@ -213,7 +213,7 @@ lines_run depth opened (p ∷ ps) rest bytes s line r gap st none some =
           ∙ sym (cut_here line p ps rest end)
       | stays other t st2 none2 some2 seen ↦
           seen
-          ∙ lines_run depth (open_behind opened p.text) ps rest r.0 t (line ++ p ∷ []) r.2 gap st2 none2 some2
+          ∙ lines_run depth (open_after_token opened p.text) ps rest r.0 t (line ++ p ∷ []) r.2 gap st2 none2 some2
           ∙ sym (goes_on line p ps rest other)
     ]
 
@@ -237,7 +237,7 @@ lines_front depth opened p (q ∷ ps) rest bytes s line r last st none =
           ∙ ap (λ ls. ls ++ lines_seen rest) (sym (cut_here line p (q ∷ ps) [] end))
       | stays other t st2 none2 some2 seen ↦
           seen
-          ∙ lines_front depth (open_behind opened p.text) q ps rest r.0 t (line ++ p ∷ []) r.2 last st2 none2
+          ∙ lines_front depth (open_after_token opened p.text) q ps rest r.0 t (line ++ p ∷ []) r.2 last st2 none2
           ∙ ap (λ ls. ls ++ lines_seen rest) (sym (goes_on line p (q ∷ ps) [] other))
     ]
 

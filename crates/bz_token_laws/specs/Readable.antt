@@ -3,7 +3,7 @@
 use Rattle.std.specs.Prelude.{ℕ, List, [], ◌∷◌, ◌++◌, Bool, true, ◌&&◌}
 use Rattle.bz_token.specs.Lexical.{is_text}
 use Rattle.bz_token.specs.Ends.{ends}
-use Rattle.bz_token.specs.Brackets.{is_inside, fits, open_behind}
+use Rattle.bz_token.specs.Brackets.{is_inside, fits, open_after_token}
 use Rattle.bz_token.specs.Reading.{is_gap, Piece, bytes_of}
 
 -- each text is one of its kind
@@ -20,4 +20,4 @@ are_ended (p ∷ ps) rest = ends p.kind p.text (bytes_of ps ++ rest) && are_ende
 abbrev pub are_fitting : ℕ → List ℕ → List Piece → Bool
 are_fitting depth opened [] = true
 are_fitting depth opened (p ∷ ps) =
-    is_gap (is_inside opened) p.gap && fits depth opened p.kind p.text && are_fitting depth (open_behind opened p.text) ps
+    is_gap (is_inside opened) p.gap && fits depth opened p.kind p.text && are_fitting depth (open_after_token opened p.text) ps

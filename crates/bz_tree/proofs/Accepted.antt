@@ -12,7 +12,7 @@ use Rattle.bz_tree.specs.declared.stage.Stage.TheVariants.{Refused, Wants, Has, 
 use Rattle.bz_tree.specs.Tree.{Item, leaf, group, Items, no_items, item, Segs, no_segs, seg}
 use Rattle.bz_tree.specs.Statement.{is_call}
 use Rattle.bz_tree.specs.Grammar.{token_role, is_prefix, is_operator, is_star, join, is_dot_role, begins_dot, IsBinOp, operator, not_in, IsTest, plain, conditional, IsChain, single, binary, IsTerm, primary, unary, IsPrimary, number, operand, AreSuffixes, no_suffix, member, suffix, IsSuffix, call, index, IsOperand, ident, text, paren, list, dict, list_comp, dict_comp, AreTests, no_test, one_test, AreArgs, no_arg, one_arg, IsArg, positional, keyword, starred, AreEntries, no_entry, one_entry, IsEntry, entry, IsElement, element, IsEntryElement, entry_element, IsFor, for, AreTargets, last_target, target, AreClauses, no_clause, for_clause, if_clause, IsIndex, at, slice, IsRange, upper, stepped, IsOptional, nothing, some}
-use Rattle.bz_tree.specs.Machine.{ends, is_target, in_chain, behind_part, next_wanted, next_behind, next_behind_number, next_begun, next_argument, next_keyword, next, accepts, role_of, each}
+use Rattle.bz_tree.specs.private.Machine.{ends, is_target, in_chain, after_part, next_wanted, next_after, next_after_number, next_begun, next_argument, next_keyword, next, accepts, role_of, each}
 
 pub join_empty : (xs : Items) → join xs no_items ≡ xs
 join_empty no_items = refl
@@ -42,17 +42,17 @@ pub refused : (xs : Items) → accepts Refused xs ≡ true → ⊥
 refused no_items h = absurd (false≢true h)
 refused (item x xs) h = refused xs h
 
--- behind a primary, a number too
+-- after a primary, a number too
 abbrev pub Accepts : Part → Bool → Items → Type 0
 Accepts p c xs = (accepts (Has p c) xs ≡ true) × (accepts (HasNumber p c) xs ≡ true)
 
-pub leave : (p : Part) (c : Bool) (x : Item) (xs : Items) (r : Role) (s : Stage) → role_of x ≡ r → next_behind p c r ≡ s → next_behind_number p c r ≡ s → accepts s xs ≡ true → Accepts p c (item x xs)
+pub leave : (p : Part) (c : Bool) (x : Item) (xs : Items) (r : Role) (s : Stage) → role_of x ≡ r → next_after p c r ≡ s → next_after_number p c r ≡ s → accepts s xs ≡ true → Accepts p c (item x xs)
 leave p c x xs r s e here beside h = (step (Has p c) x xs r e (ap (λ q. accepts q xs) here ∙ h), step (HasNumber p c) x xs r e (ap (λ q. accepts q xs) beside ∙ h))
 
 chained : (p : Part) (s : Stage) → is_target p ≡ false → in_chain p s ≡ s
 chained p s e = ap (λ b. cond b Refused s) e
 
-chained_in : (p : Part) (c : Bool) → is_target p ≡ false → next_behind p c In ≡ Wants p c
+chained_in : (p : Part) (c : Bool) → is_target p ≡ false → next_after p c In ≡ Wants p c
 chained_in p c e = rw e refl
 
 abbrev pub is_test_part : Part → Bool
@@ -64,18 +64,18 @@ test_is_no_target : (p : Part) → is_test_part p ≡ true → is_target p ≡ f
 test_is_no_target Target h = absurd (false≢true h)
 test_is_no_target _ h = refl
 
-behind_if : (p : Part) → is_test_part p ≡ true → behind_part p If ≡ Wants p true
-behind_if Left h = refl
-behind_if Right h = refl
-behind_if Alone h = refl
-behind_if Key h = refl
-behind_if Element h = refl
-behind_if EntryKey h = refl
-behind_if From h = refl
-behind_if To h = refl
-behind_if Step h = refl
-behind_if Target h = absurd (false≢true h)
-behind_if Clause h = absurd (false≢true h)
+after_if : (p : Part) → is_test_part p ≡ true → after_part p If ≡ Wants p true
+after_if Left h = refl
+after_if Right h = refl
+after_if Alone h = refl
+after_if Key h = refl
+after_if Element h = refl
+after_if EntryKey h = refl
+after_if From h = refl
+after_if To h = refl
+after_if Step h = refl
+after_if Target h = absurd (false≢true h)
+after_if Clause h = absurd (false≢true h)
 
 prefix_step : (q : Item) (r : Role) → token_role q ≡ r → is_prefix r ≡ true → (p : Part) (c : Bool) (xs : Items) → is_target p ≡ false → accepts (Wants p c) xs ≡ true → accepts (Wants p c) (item q xs) ≡ true
 prefix_step q Sum e is p c xs free h = step (Wants p c) q xs Sum (role_known q Sum e refl) (ap (λ s. accepts s xs) (chained p (Wants p c) free) ∙ h)
@@ -113,7 +113,7 @@ begun p no_items h = absurd (false≢true h)
 begun p (item x xs) h = begun_step p (role_of x) xs h
 
 -- arguments
-keyword_step : (r : Role) (xs : Items) → accepts (next_behind Alone false r) xs ≡ true → accepts (next_keyword r) xs ≡ true
+keyword_step : (r : Role) (xs : Items) → accepts (next_after Alone false r) xs ≡ true → accepts (next_keyword r) xs ≡ true
 keyword_step Equals xs h = absurd (refused xs h)
 keyword_step _ xs h = h
 
@@ -144,7 +144,7 @@ mutual
       let chosen = test_run third p r of_test acc in
       let at_else : Accepts p true (item e (join c r)) = leave p true e (join c r) Else (Wants p false) (role_known e Else re refl) refl refl chosen in
       let asked = chain_run second p true (item e (join c r)) free at_else in
-      let at_if : Accepts p false (item i (join b (item e (join c r)))) = leave p false i (join b (item e (join c r))) If (Wants p true) (role_known i If ri refl) (behind_if p of_test) (behind_if p of_test) asked in
+      let at_if : Accepts p false (item i (join b (item e (join c r)))) = leave p false i (join b (item e (join c r))) If (Wants p true) (role_known i If ri refl) (after_if p of_test) (after_if p of_test) asked in
       let all = chain_run first p false (item i (join b (item e (join c r)))) free at_if in
       rw (is, join_assoc a (item i (join b (item e c))) r, join_assoc b (item e c) r) all
 
@@ -212,7 +212,7 @@ mutual
   entry_element_run (entry_element {xs} {a} {b} c is t rc e) =
       rw is (test_run t EntryKey (item c b) refl (leave EntryKey false c b Colon (Wants Element false) (role_known c Colon rc refl) refl refl (element_run e)))
 
-  pub for_run : {xs : Items} → IsFor xs → (p : Part) → behind_part p For ≡ Wants Target false → Accepts p false xs
+  pub for_run : {xs : Items} → IsFor xs → (p : Part) → after_part p For ≡ Wants Target false → Accepts p false xs
   for_run (for {xs} {t} {c} {m} f i is rf ts ri sequence ms) p e =
       let more = chain_run sequence Clause false m refl (clauses_run ms) in
       let at_in : Accepts Target false (item i (join c m)) = leave Target false i (join c m) In (Wants Clause false) (role_known i In ri refl) refl refl more in
@@ -237,7 +237,7 @@ mutual
   range_run (stepped {xs} {a} {b} c is o rc last) = rw is (optional_run o To c b (Begins Step) refl refl rc (end_run last Step refl refl refl))
 
   -- before a colon
-  pub optional_run : {xs : Items} → IsOptional xs → (p : Part) (c : Item) (r : Items) (s : Stage) → is_test_part p ≡ true → behind_part p Colon ≡ s → token_role c ≡ Colon → accepts s r ≡ true → accepts (Begins p) (join xs (item c r)) ≡ true
+  pub optional_run : {xs : Items} → IsOptional xs → (p : Part) (c : Item) (r : Items) (s : Stage) → is_test_part p ≡ true → after_part p Colon ≡ s → token_role c ≡ Colon → accepts s r ≡ true → accepts (Begins p) (join xs (item c r)) ≡ true
   optional_run nothing p c r s of_test e rc h = step (Begins p) c r Colon (role_known c Colon rc refl) (ap (λ q. accepts q r) e ∙ h)
   optional_run (some {xs} t) p c r s of_test e rc h = begun p (join xs (item c r)) (test_run t p (item c r) of_test (leave p false c r Colon s (role_known c Colon rc refl) e e h))
 

@@ -7,7 +7,7 @@ use Rattle.std.proofs.lemmas.Bool.Decides.{nat_tests}
 use Rattle.bz_token.specs.declared.token.Kind.{Kind}
 use Rattle.bz_token.specs.declared.token.Kind.TheVariants.{Sign, Line, Note}
 use Rattle.bz_token.specs.Places.{Placed, line_at}
-use Rattle.bz_token.specs.Brackets.{is_inside, open_behind}
+use Rattle.bz_token.specs.Brackets.{is_inside, open_after_token}
 use Rattle.bz_token.specs.Reading.{is_white, is_gap, continues_gap, feeds_gap, Piece, IsReading, tokens_of, AreTokensOf}
 use Rattle.bz_tree.specs.declared.kinds.Shape.TheVariants.{Round, Square, Curly}
 use Rattle.bz_tree.specs.declared.kinds.Mark.TheVariants.{Open, Close, Comma, Plain}
@@ -64,7 +64,7 @@ record Written (first : ℕ) (before bs rest : List ℕ) (tokens : List Placed) 
 tokens_written : (first : ℕ) (ps : List Piece) (depth : ℕ) (before lines opened bs rest : List ℕ) → IsReading depth opened ps rest bs → Written first before bs rest (tokens_of first before lines ps)
 tokens_written first [] depth before lines opened bs rest reading = record { front = []; bytes_are = reading; written = refl }
 tokens_written first (p ∷ ps) depth before lines opened bs rest reading =
-    let w = tokens_written first ps depth (before ++ (p.gap ++ p.text)) (line_at first (before ++ p.gap) ∷ lines) (open_behind opened p.text) reading.0 rest reading.2 in
+    let w = tokens_written first ps depth (before ++ (p.gap ++ p.text)) (line_at first (before ++ p.gap) ∷ lines) (open_after_token opened p.text) reading.0 rest reading.2 in
     record {
       front = p.gap ++ (p.text ++ w.front);
       bytes_are = reading.1.bytes_are ∙ ap (λ l. p.gap ++ (p.text ++ l)) w.bytes_are ∙ simp append_assoc;
@@ -152,7 +152,7 @@ from_header (t ∷ ts) header last some is = at_kind (is_aside t.kind) refl (λ 
           is_last = ap (λ x. last_of None (without_lines (x ∷ ts))) (sym same) ∙ is;
         }
 
--- what stands behind the last one
+-- what stands after the last one
 record ToLast (tokens : List Placed) (last : Placed) : Type 0 where
   front : List Placed
   newlines : List Placed
@@ -211,9 +211,9 @@ at_last first front last before kept w =
       ends = subst (λ b. IsAt first b last) (append_assoc before s.front l.0) l.4;
     }
 
-first_in : (front : List Placed) (last : Placed) (behind : List Placed) → first_of ((front ++ last ∷ []) ++ behind) ≡ first_of (front ++ last ∷ [])
-first_in [] last behind = refl
-first_in (t ∷ front) last behind = refl
+first_in : (front : List Placed) (last : Placed) (following : List Placed) → first_of ((front ++ last ∷ []) ++ following) ≡ first_of (front ++ last ∷ [])
+first_in [] last following = refl
+first_in (t ∷ front) last following = refl
 
 pub block_comments_kept : (first depth : ℕ) (bytes : List ℕ) (tokens : List Placed) (s : Statement) → AreTokensOf first depth bytes tokens → IsBlockOf first bytes tokens s → AreKept first bytes tokens s
 block_comments_kept first depth bytes tokens s are a =

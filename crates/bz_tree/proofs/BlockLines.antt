@@ -4,8 +4,8 @@ use Rattle.bz_token.specs.Places.{Placed}
 use Rattle.bz_tree.specs.declared.kinds.Mark.{Mark}
 use Rattle.bz_tree.specs.declared.kinds.Mark.TheVariants.{Open, Close, Comma, Comment, NewLine, Plain}
 use Rattle.bz_tree.specs.Kinds.{mark_of}
-use Rattle.bz_tree.specs.Blocks.{is_colon, in_front, with_token, logical_lines, indented, ends_open, bad_line, block_indent, header_line, depth_behind, has_colon}
-use Rattle.bz_tree.specs.BlockSteps.{Lines, begun, next_counted, next_indent, indent_run, first_lines, colon_at, ends_header, begins_header, colon_run}
+use Rattle.bz_tree.specs.Blocks.{is_colon, in_front, with_token, logical_lines, indented, ends_open, bad_line, block_indent, header_line, depth_after, has_colon}
+use Rattle.bz_tree.specs.private.BlockSteps.{Lines, begun, next_counted, next_indent, indent_run, first_lines, colon_at, ends_header, begins_header, colon_run}
 
 -- what the walk finds in the lines that begin in this state
 abbrev found_in : Bool → Lines → List (List Placed) → Option ℕ
@@ -72,14 +72,14 @@ abbrev Colon : List Placed → Type 0
 Colon ts = (depth : ℕ) (inside : Bool) → colon_run depth inside ts ≡ has_colon depth (header_of inside (logical_lines ts))
 
 front_colon : (m : Mark) (t : Placed) (ts : List Placed) → Colon ts → (depth : ℕ) (inside : Bool) (ls : List (List Placed)) → logical_lines ts ≡ ls
-    → ((depth == 0 && is_colon t) || colon_run (depth_behind (mark_of t) depth) true ts) ≡ has_colon depth (header_of inside (in_front t ls))
-front_colon m t ts more depth true [] is = ap (λ b. (depth == 0 && is_colon t) || b) (more (depth_behind (mark_of t) depth) true ∙ ap (λ ls. has_colon (depth_behind (mark_of t) depth) (header_of true ls)) is)
-front_colon m t ts more depth true (l ∷ ls) is = ap (λ b. (depth == 0 && is_colon t) || b) (more (depth_behind (mark_of t) depth) true ∙ ap (λ ls. has_colon (depth_behind (mark_of t) depth) (header_of true ls)) is)
-front_colon m t ts more depth false [] is = ap (λ b. (depth == 0 && is_colon t) || b) (more (depth_behind (mark_of t) depth) true ∙ ap (λ ls. has_colon (depth_behind (mark_of t) depth) (header_of true ls)) is)
-front_colon m t ts more depth false (l ∷ ls) is = ap (λ b. (depth == 0 && is_colon t) || b) (more (depth_behind (mark_of t) depth) true ∙ ap (λ ls. has_colon (depth_behind (mark_of t) depth) (header_of true ls)) is)
+    → ((depth == 0 && is_colon t) || colon_run (depth_after (mark_of t) depth) true ts) ≡ has_colon depth (header_of inside (in_front t ls))
+front_colon m t ts more depth true [] is = ap (λ b. (depth == 0 && is_colon t) || b) (more (depth_after (mark_of t) depth) true ∙ ap (λ ls. has_colon (depth_after (mark_of t) depth) (header_of true ls)) is)
+front_colon m t ts more depth true (l ∷ ls) is = ap (λ b. (depth == 0 && is_colon t) || b) (more (depth_after (mark_of t) depth) true ∙ ap (λ ls. has_colon (depth_after (mark_of t) depth) (header_of true ls)) is)
+front_colon m t ts more depth false [] is = ap (λ b. (depth == 0 && is_colon t) || b) (more (depth_after (mark_of t) depth) true ∙ ap (λ ls. has_colon (depth_after (mark_of t) depth) (header_of true ls)) is)
+front_colon m t ts more depth false (l ∷ ls) is = ap (λ b. (depth == 0 && is_colon t) || b) (more (depth_after (mark_of t) depth) true ∙ ap (λ ls. has_colon (depth_after (mark_of t) depth) (header_of true ls)) is)
 
 abbrev colon_step : Mark → Placed → List Placed → ℕ → Bool → Bool
-colon_step m t ts depth inside = cond (ends_header m inside) false (colon_at m t depth inside (colon_run (depth_behind m depth) (begins_header m inside) ts))
+colon_step m t ts depth inside = cond (ends_header m inside) false (colon_at m t depth inside (colon_run (depth_after m depth) (begins_header m inside) ts))
 
 line_colon : (ts : List Placed) → Colon ts → (depth : ℕ) (inside : Bool) → cond inside false (colon_run depth inside ts) ≡ has_colon depth (header_of inside ([] ∷ logical_lines ts))
 line_colon ts more depth true = refl
@@ -88,10 +88,10 @@ line_colon ts more depth false = more depth false
 mark_colon : (m : Mark) (t : Placed) (ts : List Placed) → mark_of t ≡ m → Colon ts → (depth : ℕ) (inside : Bool) → colon_step m t ts depth inside ≡ has_colon depth (header_of inside (with_token m t (logical_lines ts)))
 mark_colon NewLine t ts is more depth inside = line_colon ts more depth inside
 mark_colon Comment t ts is more depth inside = more depth inside
-mark_colon Comma t ts is more depth inside = ap (λ m. (depth == 0 && is_colon t) || colon_run (depth_behind m depth) true ts) (sym is) ∙ front_colon Comma t ts more depth inside (logical_lines ts) refl
-mark_colon Plain t ts is more depth inside = ap (λ m. (depth == 0 && is_colon t) || colon_run (depth_behind m depth) true ts) (sym is) ∙ front_colon Plain t ts more depth inside (logical_lines ts) refl
-mark_colon (Open s) t ts is more depth inside = ap (λ m. (depth == 0 && is_colon t) || colon_run (depth_behind m depth) true ts) (sym is) ∙ front_colon (Open s) t ts more depth inside (logical_lines ts) refl
-mark_colon (Close s) t ts is more depth inside = ap (λ m. (depth == 0 && is_colon t) || colon_run (depth_behind m depth) true ts) (sym is) ∙ front_colon (Close s) t ts more depth inside (logical_lines ts) refl
+mark_colon Comma t ts is more depth inside = ap (λ m. (depth == 0 && is_colon t) || colon_run (depth_after m depth) true ts) (sym is) ∙ front_colon Comma t ts more depth inside (logical_lines ts) refl
+mark_colon Plain t ts is more depth inside = ap (λ m. (depth == 0 && is_colon t) || colon_run (depth_after m depth) true ts) (sym is) ∙ front_colon Plain t ts more depth inside (logical_lines ts) refl
+mark_colon (Open s) t ts is more depth inside = ap (λ m. (depth == 0 && is_colon t) || colon_run (depth_after m depth) true ts) (sym is) ∙ front_colon (Open s) t ts more depth inside (logical_lines ts) refl
+mark_colon (Close s) t ts is more depth inside = ap (λ m. (depth == 0 && is_colon t) || colon_run (depth_after m depth) true ts) (sym is) ∙ front_colon (Close s) t ts more depth inside (logical_lines ts) refl
 
 colon_is : (ts : List Placed) → Colon ts
 colon_is [] = λ depth inside. at_inside depth inside

@@ -4,7 +4,7 @@ use Rattle.std.specs.Option.{option_to_list}
 use Rattle.bz_tree.specs.declared.stmt.Node.{the_lemmas}
 use Rattle.bz_tree.specs.declared.stmt.Seg.{Seg}
 use Rattle.bz_tree.specs.Borrowed.{total, owned_in, owned_of, seg_owned}
-use Rattle.bz_tree.specs.BorrowedSteps.{nodes_owned, segs_owned}
+use Rattle.bz_tree.specs.private.BorrowedSteps.{nodes_owned, segs_owned}
 
 plus_assoc : (a b c : ℕ) → a + (b + c) ≡ (a + b) + c
 plus_assoc a b c = search (arith)

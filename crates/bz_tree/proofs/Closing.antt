@@ -9,7 +9,7 @@ use Rattle.bz_tree.specs.declared.build.Frame.{Frame}
 use Rattle.bz_tree.specs.Tree.{Item}
 use Rattle.bz_tree.specs.Kinds.{same_shape}
 use Rattle.bz_tree.specs.Owners.{node}
-use Rattle.bz_tree.specs.Steps.{Level, level, levels, with_own, closed, next_at}
+use Rattle.bz_tree.specs.private.Steps.{Level, level, levels, with_own, closed, next_at}
 
 levels_push : (fs : List Frame) (f : Frame) → levels (fs ++ f ∷ []) ≡ level f ∷ levels fs
 levels_push fs f = grind (arith, common_steps)

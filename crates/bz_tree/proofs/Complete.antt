@@ -5,24 +5,24 @@ use Rattle.bz_tree.specs.declared.kinds.Shape.{Shape}
 use Rattle.bz_tree.specs.declared.kinds.Shape.TheVariants.{Round, Square, Curly}
 use Rattle.bz_tree.specs.declared.kinds.Mark.{Mark}
 use Rattle.bz_tree.specs.declared.kinds.Mark.TheVariants.{Open, Close, Comma, Comment, NewLine, Plain}
-use Rattle.bz_tree.specs.declared.kinds.Behind.{Behind}
-use Rattle.bz_tree.specs.declared.kinds.Behind.TheVariants.{Other}
+use Rattle.bz_tree.specs.declared.kinds.Preceding.{Preceding}
+use Rattle.bz_tree.specs.declared.kinds.Preceding.TheVariants.{Other}
 use Rattle.bz_token.specs.Places.{Placed}
 use Rattle.bz_tree.specs.Tree.{Item, Segment, Statement}
 use Rattle.bz_tree.specs.Kinds.{mark_of, group_kind, is_one, same_shape}
 use Rattle.bz_tree.specs.Owners.{Own, node, inside}
-use Rattle.bz_tree.specs.Brackets.{Elem, single, bracket, Elems, no_elems, elem, elem_tokens, elems_tokens, has_for, group_of, group_with, own_items, own_of, behind, elem_own, elems_own, is_single, IsWell, AreWell, is_line, without_lines}
+use Rattle.bz_tree.specs.Brackets.{Elem, single, bracket, Elems, no_elems, elem, elem_tokens, elems_tokens, has_for, group_of, group_with, own_items, own_of, preceding, elem_own, elems_own, is_single, IsWell, AreWell, is_line, without_lines}
 use Rattle.bz_tree.specs.Statement.{segment_with, segment_of, statement_with, IsStatementOf}
-use Rattle.bz_tree.specs.Steps.{Level, Levels, with_own, new_level, closed, next_at, run, content, walk, at_start}
+use Rattle.bz_tree.specs.private.Steps.{Level, Levels, with_own, new_level, closed, next_at, run, content, walk, at_start}
 use Rattle.bz_tree.proofs.OneBracket.{inside_found, nodes_alone}
 
-abbrev in_level : Option Shape → List Own → Behind → Level
+abbrev in_level : Option Shape → List Own → Preceding → Level
 in_level shape owns at = record { shape = shape; owns = owns; at = at }
 
--- what a bracket may stand behind, after these
-abbrev pub behind_all : Behind → List Own → Behind
-behind_all b [] = b
-behind_all b (x ∷ xs) = behind_all (behind b x) xs
+-- what a bracket may stand after, after these
+abbrev pub after_all : Preceding → List Own → Preceding
+after_all b [] = b
+after_all b (x ∷ xs) = after_all (preceding b x) xs
 
 same_itself : (s : Shape) → same_shape (Some s) s ≡ true
 same_itself Round = refl
@@ -40,12 +40,12 @@ single_step (Close s) t alone top outer = absurd (false≢true alone)
 abbrev rest_run : List Placed → Option Levels → Option Segment
 rest_run ts o = option_and_then (λ ls. run ls.0 ls.1 ts) o
 
-close_step : (s : Shape) (t : Placed) (owns : List Own) (at : Behind) (below : Level) (outer : List Level) (g : Item) → closed s below.at owns ≡ Some g
+close_step : (s : Shape) (t : Placed) (owns : List Own) (at : Preceding) (below : Level) (outer : List Level) (g : Item) → closed s below.at owns ≡ Some g
     → next_at (Close s) t (in_level (Some s) owns at) (below ∷ outer) ≡ Some (with_own below (node t.line g), outer)
 close_step s t owns at below outer g is = rw (same_itself s, is) refl
 
 mutual
-  pub elem_run : (x : Elem) (b : Behind) → IsWell b x → (shape : Option Shape) (owns : List Own) (outer : List Level) (ts : List Placed)
+  pub elem_run : (x : Elem) (b : Preceding) → IsWell b x → (shape : Option Shape) (owns : List Own) (outer : List Level) (ts : List Placed)
       → run (in_level shape owns b) outer (elem_tokens x ++ ts) ≡ run (with_own (in_level shape owns b) (elem_own b x)) outer ts
   elem_run (single t) b well shape owns outer ts = ap (rest_run ts) (single_step (mark_of t) t well (in_level shape owns b) outer)
   elem_run (bracket s opening inner closing) b well shape owns outer ts =
@@ -56,17 +56,17 @@ mutual
       let found : closed s b (elems_own Other inner) ≡ Some (group_of kind (elems_own Other inner)) = ap (option_map (group_with kind)) inside_is in
       let first : run below outer (opening ∷ ((elems_tokens inner ++ closing ∷ []) ++ ts)) ≡ run (new_level (Some s)) (below ∷ outer) ((elems_tokens inner ++ closing ∷ []) ++ ts) = rw well.0 refl in
       let run_inner = elems_run inner Other well.2 (Some s) [] (below ∷ outer) (closing ∷ ts) in
-      let last : run (in_level (Some s) (elems_own Other inner) (behind_all Other (elems_own Other inner))) (below ∷ outer) (closing ∷ ts) ≡ run (with_own below (node closing.line (group_of kind (elems_own Other inner)))) outer ts =
-      rw well.1 (ap (rest_run ts) (close_step s closing (elems_own Other inner) (behind_all Other (elems_own Other inner)) below outer _ found)) in
+      let last : run (in_level (Some s) (elems_own Other inner) (after_all Other (elems_own Other inner))) (below ∷ outer) (closing ∷ ts) ≡ run (with_own below (node closing.line (group_of kind (elems_own Other inner)))) outer ts =
+      rw well.1 (ap (rest_run ts) (close_step s closing (elems_own Other inner) (after_all Other (elems_own Other inner)) below outer _ found)) in
       first ∙ rw (append_assoc (elems_tokens inner) (closing ∷ []) ts) (run_inner ∙ last)
 
-  pub elems_run : (xs : Elems) (b : Behind) → AreWell b xs → (shape : Option Shape) (owns : List Own) (outer : List Level) (ts : List Placed)
-      → run (in_level shape owns b) outer (elems_tokens xs ++ ts) ≡ run (in_level shape (owns ++ elems_own b xs) (behind_all b (elems_own b xs))) outer ts
+  pub elems_run : (xs : Elems) (b : Preceding) → AreWell b xs → (shape : Option Shape) (owns : List Own) (outer : List Level) (ts : List Placed)
+      → run (in_level shape owns b) outer (elems_tokens xs ++ ts) ≡ run (in_level shape (owns ++ elems_own b xs) (after_all b (elems_own b xs))) outer ts
   elems_run no_elems b well shape owns outer ts = rw (append-nil owns) refl
   elems_run (elem x xs) b well shape owns outer ts =
       let own = elem_own b x in
       rw (append_assoc (elem_tokens x) (elems_tokens xs) ts)
-      (elem_run x b well.0 shape owns outer (elems_tokens xs ++ ts) ∙ elems_run xs (behind b own) well.1 shape (owns ++ own ∷ []) outer ts ∙ rw (append_assoc owns (own ∷ []) (elems_own (behind b own) xs)) refl)
+      (elem_run x b well.0 shape owns outer (elems_tokens xs ++ ts) ∙ elems_run xs (preceding b own) well.1 shape (owns ++ own ∷ []) outer ts ∙ rw (append_assoc owns (own ∷ []) (elems_own (preceding b own) xs)) refl)
 
 -- a newline changes nothing
 abbrev Same : List Placed → List Placed → Type 0

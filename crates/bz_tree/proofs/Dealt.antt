@@ -33,7 +33,7 @@ mixed_none (z ∷ zs) ys (inl m) = absurd (none_more z m.0 m.1)
     none_more z rest e = cc
 mixed_none (z ∷ zs) ys (inr m) = ap (λ xs. z ∷ xs) (mixed_none zs m.0 m.2) ∙ sym m.1
 
--- one mixture behind another
+-- one mixture after another
 pub mixed_more : (cs ls rs xs ys zs : List (List ℕ)) → Mixed ls rs cs → Mixed xs ys zs → Mixed (ls ++ xs) (rs ++ ys) (cs ++ zs)
 mixed_more [] ls rs xs ys zs m n =
     let a : Mixed (ls ++ xs) ys zs = subst (λ k. Mixed (k ++ xs) ys zs) (sym m.0) n in
@@ -93,8 +93,8 @@ both_mixed (x ∷ xs) ys ls rs cs m a b =
     let g = regrouped cs ls x a.0 rs a.1 m in
     (g.others, g.here, both_mixed xs ys a.0 rs g.others g.there a.2 b)
 
-pub mixed_behind : (xs ys : Lists) (ls rs : List (List ℕ)) → AreMixed ls xs → AreMixed rs ys → AreMixed (ls ++ rs) (xs ++ ys)
-mixed_behind xs ys ls rs a b = both_mixed xs ys ls rs (ls ++ rs) (mixed_after ls rs) a b
+pub mixed_following : (xs ys : Lists) (ls rs : List (List ℕ)) → AreMixed ls xs → AreMixed rs ys → AreMixed (ls ++ rs) (xs ++ ys)
+mixed_following xs ys ls rs a b = both_mixed xs ys ls rs (ls ++ rs) (mixed_after ls rs) a b
 
 -- a list to the end of the lists
 pub to_end : (front : Lists) (list : List (List ℕ)) (back : Lists) (texts : List (List ℕ)) → AreMixed texts (front ++ list ∷ back) → AreMixed texts (front ++ (back ++ list ∷ []))
@@ -106,7 +106,7 @@ pub list_more : (front : Lists) (list : List (List ℕ)) (back : Lists) (texts m
 list_more [] list back texts more m = (m.0, left_more texts list m.0 more m.1, m.2)
 list_more (x ∷ front) list back texts more m = (m.0 ++ more, right_more texts x m.0 more m.1, list_more front list back m.0 more m.2)
 
--- the same behind more lists
+-- the same after more lists
 pub lists_more : (front xs ys : Lists) (more : List (List ℕ)) → ((texts : List (List ℕ)) → AreMixed texts xs → AreMixed (texts ++ more) ys) → (texts : List (List ℕ)) → AreMixed texts (front ++ xs) → AreMixed (texts ++ more) (front ++ ys)
 lists_more [] xs ys more grow texts m = grow texts m
 lists_more (x ∷ front) xs ys more grow texts m = (m.0 ++ more, right_more texts x m.0 more m.1, lists_more front xs ys more grow m.0 m.2)

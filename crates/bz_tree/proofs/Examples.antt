@@ -32,9 +32,9 @@ a = codes "# a"
 abbrev b : List ℕ
 b = codes "# b"
 
--- behind the last comma on its line: the last segment's suffix; on the next line: an end comment
-behind_last_comma : inside (node 1 (leaf_of x) ∷ comma (at Sign (codes ",") 1 2) ∷ note 1 a ∷ note 2 b ∷ []) ≡ record { segs = record { before = []; nodes = leaf_of x ∷ []; suffix = Some a } ∷ []; trailing = true; end = b ∷ [] }
-behind_last_comma = refl
+-- after the last comma on its line: the last segment's suffix; on the next line: an end comment
+after_last_comma : inside (node 1 (leaf_of x) ∷ comma (at Sign (codes ",") 1 2) ∷ note 1 a ∷ note 2 b ∷ []) ≡ record { segs = record { before = []; nodes = leaf_of x ∷ []; suffix = Some a } ∷ []; trailing = true; end = b ∷ [] }
+after_last_comma = refl
 
 -- between a node and its comma on the next line: the suffix of its segment
 before_comma : inside (node 1 (leaf_of x) ∷ note 1 a ∷ comma (at Sign (codes ",") 2 1) ∷ node 2 (leaf_of x) ∷ [])
@@ -45,7 +45,7 @@ before_comma = refl
 above_node : inside (note 1 a ∷ node 2 (leaf_of x) ∷ []) ≡ record { segs = record { before = a ∷ []; nodes = leaf_of x ∷ []; suffix = None } ∷ []; trailing = false; end = [] }
 above_node = refl
 
--- `# b` above `(x # a`, and `# b` before the closing bracket: the comments above and behind the statement, those above and behind the
+-- `# b` above `(x # a`, and `# b` before the closing bracket: the comments above and after the statement, those above and after the
 -- segment, those at the bracket's end
 abbrev in_brackets : Statement
 in_brackets = record { before = b ∷ []; nodes = group Call (seg [] (item (leaf_of x) no_items) (Some a) no_segs) false (b ∷ []) ∷ []; suffix = None; class = Other; start = 2; end = 4 }
@@ -81,7 +81,7 @@ wrong_indent = refl
 right_indent : block_indent (at Word (codes "def") 1 1 ∷ at Ident (codes "f") 1 5 ∷ at Sign (codes ":") 1 6 ∷ at Line (10 ∷ []) 1 7 ∷ at Ident (codes "x") 2 3 ∷ at Line (10 ∷ []) 2 4 ∷ at Ident (codes "y") 3 3 ∷ []) ≡ None
 right_indent = refl
 
--- a header without anything behind its colon
+-- a header without anything after its colon
 open_block : is_block (at Word (codes "def") 1 1 ∷ at Ident (codes "f") 1 5 ∷ at Sign (codes ":") 1 6 ∷ at Line (10 ∷ []) 1 7 ∷ []) ≡ false
 open_block = refl
 

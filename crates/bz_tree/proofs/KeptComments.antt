@@ -6,16 +6,16 @@ use Rattle.bz_tree.specs.declared.stmt.GroupKind.{GroupKind}
 use Rattle.bz_tree.specs.declared.kinds.Shape.{Shape}
 use Rattle.bz_tree.specs.declared.kinds.Mark.{Mark}
 use Rattle.bz_tree.specs.declared.kinds.Mark.TheVariants.{Open, Close, Comma, Comment as Remark, NewLine, Plain}
-use Rattle.bz_tree.specs.declared.kinds.Behind.{Behind}
-use Rattle.bz_tree.specs.declared.kinds.Behind.TheVariants.{Other}
+use Rattle.bz_tree.specs.declared.kinds.Preceding.{Preceding}
+use Rattle.bz_tree.specs.declared.kinds.Preceding.TheVariants.{Other}
 use Rattle.bz_tree.specs.Tree.{Item, leaf, group, Segment, Statement, items_of, segs_of}
 use Rattle.bz_tree.specs.Kinds.{mark_of, group_kind, is_one}
 use Rattle.bz_tree.specs.Owners.{Own, node, comma, note, Last, no_token, end_of_node, end_of_comma, is_on, Inside, inside, no_empty}
-use Rattle.bz_tree.specs.Brackets.{own_item, own_items, has_for, group_of, Elem, single, bracket, Elems, no_elems, elem, elem_tokens, elems_tokens, elem_own, elems_own, behind, own_of, is_single, IsWell, AreWell, is_line, without_lines}
+use Rattle.bz_tree.specs.Brackets.{own_item, own_items, has_for, group_of, Elem, single, bracket, Elems, no_elems, elem, elem_tokens, elems_tokens, elem_own, elems_own, preceding, own_of, is_single, IsWell, AreWell, is_line, without_lines}
 use Rattle.bz_tree.specs.Statement.{one_segment, as_rule_call, rule_call, is_rule, segment_of, statement_with, IsStatementOf}
-use Rattle.bz_tree.specs.Steps.{Walked, texts_of, at_start, after_node, add_beside, to_last, noted, after_note, done, walk}
+use Rattle.bz_tree.specs.private.Steps.{Walked, texts_of, at_start, after_node, add_beside, to_last, noted, after_note, done, walk}
 use Rattle.bz_tree.specs.Comments.{Lists, beside, item_owners, items_owners, segs_owners, owners_of, comments_of, note_of, notes, AreDealt, times}
-use Rattle.bz_tree.proofs.Dealt.{Mixed, mixed_swap, mixed_left, mixed_right, mixed_after, mixed_more, left_more, right_more, AreMixed, one_mixed, one_alone, both_mixed, mixed_behind, to_end, list_more, lists_more, dealt_of, times_all}
+use Rattle.bz_tree.proofs.Dealt.{Mixed, mixed_swap, mixed_left, mixed_right, mixed_after, mixed_more, left_more, right_more, AreMixed, one_mixed, one_alone, both_mixed, mixed_following, to_end, list_more, lists_more, dealt_of, times_all}
 use Rattle.bz_tree.proofs.OneBracket.{inside_found, nodes_alone}
 
 -- the owners in a list of nodes, and in segments
@@ -51,7 +51,7 @@ AreSpelled (o ∷ os) texts = (here : List (List ℕ)) × (more : List (List ℕ
 
 -- what the walk holds of the segment here, its nodes aside
 abbrev here : Walked → List (List ℕ)
-here w = w.before ++ (texts_of w.suffix ++ w.behind)
+here w = w.before ++ (texts_of w.suffix ++ w.after)
 
 -- What the walk holds: the comments of the finished segments, those of the segment here, and those in its nodes.
 record Holds (w : Walked) (texts : List (List ℕ)) : Type 0 where
@@ -75,17 +75,17 @@ abbrev HasSegment : List Segment → Type 0
 HasSegment [] = ⊥
 HasSegment (s ∷ ss) = Unit {0}
 
-abbrev BehindLast : Last → List Segment → List Item → Option (List ℕ) → List (List ℕ) → Type 0
-BehindLast no_token segs nodes suffix behind = Unit {0}
-BehindLast (end_of_node line) segs nodes suffix behind = (suffix ≡ None) × (behind ≡ []) × HasNode nodes
-BehindLast (end_of_comma line) segs nodes suffix behind = HasSegment segs
+abbrev AfterLast : Last → List Segment → List Item → Option (List ℕ) → List (List ℕ) → Type 0
+AfterLast no_token segs nodes suffix after = Unit {0}
+AfterLast (end_of_node line) segs nodes suffix after = (suffix ≡ None) × (after ≡ []) × HasNode nodes
+AfterLast (end_of_comma line) segs nodes suffix after = HasSegment segs
 
 record Fits (w : Walked) : Type 0 where
   nodes : NoNodes w.nodes w.before w.suffix
-  last : BehindLast w.last w.segs w.nodes w.suffix w.behind
+  last : AfterLast w.last w.segs w.nodes w.suffix w.after
 
 abbrev walked_of : List Segment → List (List ℕ) → List Item → Option (List ℕ) → List (List ℕ) → Last → Bool → Walked
-walked_of segs before nodes suffix behind last trailing = record { segs = segs; before = before; nodes = nodes; suffix = suffix; behind = behind; last = last; trailing = trailing }
+walked_of segs before nodes suffix after last trailing = record { segs = segs; before = before; nodes = nodes; suffix = suffix; after = after; last = last; trailing = trailing }
 
 nodes_push : (xs : List Item) (x : Item) (before : List (List ℕ)) (suffix : Option (List ℕ)) → NoNodes (xs ++ x ∷ []) before suffix
 nodes_push [] x before suffix = tt
@@ -108,7 +108,7 @@ node_holds : (line : ℕ) (x : Item) (w : Walked) (texts more : List (List ℕ))
 node_holds line x w texts more h mixed =
     let same : here w ++ [] ≡ here w = append-nil (here w) in
     let nodes : AreMixed (h.inner ++ more) (nodes_owners w.nodes ++ (item_owners x ++ [])) =
-    mixed_behind (nodes_owners w.nodes) (item_owners x ++ []) h.inner more h.nodes (subst (AreMixed more) (sym (append-nil (item_owners x))) mixed) in
+    mixed_following (nodes_owners w.nodes) (item_owners x ++ []) h.inner more h.nodes (subst (AreMixed more) (sym (append-nil (item_owners x))) mixed) in
     record {
       finished = h.finished;
       rest = h.rest ++ more;
@@ -120,24 +120,24 @@ node_holds line x w texts more h mixed =
     }
 
 -- the comments of a segment are those before it and its suffix
-segment_split : (before : List (List ℕ)) (suffix : Option (List ℕ)) (behind : List (List ℕ)) → Mixed (before ++ behind) (beside suffix) (before ++ (texts_of suffix ++ behind))
-segment_split before None behind = mixed_left (before ++ behind)
-segment_split before (Some text) behind = mixed_more before before [] behind (text ∷ []) (text ∷ behind) (mixed_left before) (mixed_swap (text ∷ behind) (text ∷ []) behind (mixed_after (text ∷ []) behind))
+segment_split : (before : List (List ℕ)) (suffix : Option (List ℕ)) (after : List (List ℕ)) → Mixed (before ++ after) (beside suffix) (before ++ (texts_of suffix ++ after))
+segment_split before None after = mixed_left (before ++ after)
+segment_split before (Some text) after = mixed_more before before [] after (text ∷ []) (text ∷ after) (mixed_left before) (mixed_swap (text ∷ after) (text ∷ []) after (mixed_after (text ∷ []) after))
 
-closed_mixed : (segs : List Segment) (before : List (List ℕ)) (nodes : List Item) (suffix : Option (List ℕ)) (behind : List (List ℕ)) (last : Last) (trailing : Bool) (texts : List (List ℕ))
-    → Holds (walked_of segs before nodes suffix behind last trailing) texts → AreMixed texts (segments_owners segs ++ ((before ++ behind) ∷ beside suffix ∷ nodes_owners nodes))
-closed_mixed segs before nodes suffix behind last trailing texts h =
-    let own : AreMixed (before ++ (texts_of suffix ++ behind)) ((before ++ behind) ∷ beside suffix ∷ []) = (beside suffix, segment_split before suffix behind, one_mixed (beside suffix)) in
-    let rest = both_mixed ((before ++ behind) ∷ beside suffix ∷ []) (nodes_owners nodes) (before ++ (texts_of suffix ++ behind)) h.inner h.rest h.those own h.nodes in
-    both_mixed (segments_owners segs) ((before ++ behind) ∷ beside suffix ∷ nodes_owners nodes) h.finished h.rest texts h.all h.segs rest
+closed_mixed : (segs : List Segment) (before : List (List ℕ)) (nodes : List Item) (suffix : Option (List ℕ)) (after : List (List ℕ)) (last : Last) (trailing : Bool) (texts : List (List ℕ))
+    → Holds (walked_of segs before nodes suffix after last trailing) texts → AreMixed texts (segments_owners segs ++ ((before ++ after) ∷ beside suffix ∷ nodes_owners nodes))
+closed_mixed segs before nodes suffix after last trailing texts h =
+    let own : AreMixed (before ++ (texts_of suffix ++ after)) ((before ++ after) ∷ beside suffix ∷ []) = (beside suffix, segment_split before suffix after, one_mixed (beside suffix)) in
+    let rest = both_mixed ((before ++ after) ∷ beside suffix ∷ []) (nodes_owners nodes) (before ++ (texts_of suffix ++ after)) h.inner h.rest h.those own h.nodes in
+    both_mixed (segments_owners segs) ((before ++ after) ∷ beside suffix ∷ nodes_owners nodes) h.finished h.rest texts h.all h.segs rest
 
 -- a comma
-comma_holds : (line : ℕ) (segs : List Segment) (before : List (List ℕ)) (nodes : List Item) (suffix : Option (List ℕ)) (behind : List (List ℕ)) (last : Last) (trailing : Bool) (texts : List (List ℕ))
-    → Holds (walked_of segs before nodes suffix behind last trailing) texts
-    → Holds (walked_of (segs ++ record { before = before ++ behind; nodes = nodes; suffix = suffix } ∷ []) [] [] None [] (end_of_comma line) true) texts
-comma_holds line segs before nodes suffix behind last trailing texts h =
-    let s : Segment = record { before = before ++ behind; nodes = nodes; suffix = suffix } in
-    let closed : AreMixed texts (segments_owners segs ++ segment_owners s) = closed_mixed segs before nodes suffix behind last trailing texts h in
+comma_holds : (line : ℕ) (segs : List Segment) (before : List (List ℕ)) (nodes : List Item) (suffix : Option (List ℕ)) (after : List (List ℕ)) (last : Last) (trailing : Bool) (texts : List (List ℕ))
+    → Holds (walked_of segs before nodes suffix after last trailing) texts
+    → Holds (walked_of (segs ++ record { before = before ++ after; nodes = nodes; suffix = suffix } ∷ []) [] [] None [] (end_of_comma line) true) texts
+comma_holds line segs before nodes suffix after last trailing texts h =
+    let s : Segment = record { before = before ++ after; nodes = nodes; suffix = suffix } in
+    let closed : AreMixed texts (segments_owners segs ++ segment_owners s) = closed_mixed segs before nodes suffix after last trailing texts h in
     let owners : segments_owners (segs ++ s ∷ []) ≡ segments_owners segs ++ segment_owners s = segments_append segs (s ∷ []) ∙ ap (λ l. segments_owners segs ++ l) (append-nil (segment_owners s)) in
     record {
       finished = texts;
@@ -149,7 +149,7 @@ comma_holds line segs before nodes suffix behind last trailing texts h =
       nodes = refl;
     }
 
--- one more comment behind a segment's comma
+-- one more comment after a segment's comma
 beside_more : (text : List ℕ) (before : List (List ℕ)) (nodes : List Item) (suffix : Option (List ℕ)) (back : Lists) (texts : List (List ℕ))
     → AreMixed texts (segment_owners (record { before = before; nodes = nodes; suffix = suffix }) ++ back)
     → AreMixed (texts ++ text ∷ []) (segment_owners (add_beside text (record { before = before; nodes = nodes; suffix = suffix })) ++ back)
@@ -160,9 +160,9 @@ last_more : (text : List ℕ) (s : Segment) (ss : List Segment) (texts : List (L
 last_more text s [] texts m = beside_more text s.before s.nodes s.suffix [] texts m
 last_more text s (r ∷ ss) texts m = lists_more (segment_owners s) (segments_owners (r ∷ ss)) (segments_owners (to_last text (r ∷ ss))) (text ∷ []) (λ ts k. last_more text r ss ts k) texts m
 
-comma_note_holds : (text : List ℕ) (s : Segment) (ss : List Segment) (before : List (List ℕ)) (nodes : List Item) (suffix : Option (List ℕ)) (behind : List (List ℕ)) (last : Last) (trailing : Bool) (texts : List (List ℕ))
-    → Holds (walked_of (s ∷ ss) before nodes suffix behind last trailing) texts → Holds (walked_of (to_last text (s ∷ ss)) before nodes suffix behind no_token trailing) (texts ++ text ∷ [])
-comma_note_holds text s ss before nodes suffix behind last trailing texts h = record {
+comma_note_holds : (text : List ℕ) (s : Segment) (ss : List Segment) (before : List (List ℕ)) (nodes : List Item) (suffix : Option (List ℕ)) (after : List (List ℕ)) (last : Last) (trailing : Bool) (texts : List (List ℕ))
+    → Holds (walked_of (s ∷ ss) before nodes suffix after last trailing) texts → Holds (walked_of (to_last text (s ∷ ss)) before nodes suffix after no_token trailing) (texts ++ text ∷ [])
+comma_note_holds text s ss before nodes suffix after last trailing texts h = record {
   finished = h.finished ++ text ∷ [];
   rest = h.rest;
   inner = h.inner;
@@ -184,31 +184,31 @@ here_more w v text texts segs nodes grown h = record {
   nodes = subst (λ xs. AreMixed h.inner (nodes_owners xs)) (sym nodes) h.nodes;
 }
 
-alone_grown : (text : List ℕ) (before : List (List ℕ)) (suffix : Option (List ℕ)) (behind : List (List ℕ)) → before ++ (texts_of suffix ++ (behind ++ text ∷ [])) ≡ (before ++ (texts_of suffix ++ behind)) ++ text ∷ []
-alone_grown text before suffix behind = simp append_assoc
+alone_grown : (text : List ℕ) (before : List (List ℕ)) (suffix : Option (List ℕ)) (after : List (List ℕ)) → before ++ (texts_of suffix ++ (after ++ text ∷ [])) ≡ (before ++ (texts_of suffix ++ after)) ++ text ∷ []
+alone_grown text before suffix after = simp append_assoc
 
-suffix_grown : (text : List ℕ) (before : List (List ℕ)) (suffix : Option (List ℕ)) (behind : List (List ℕ)) → suffix ≡ None → behind ≡ [] → before ++ (text ∷ behind) ≡ (before ++ (texts_of suffix ++ behind)) ++ text ∷ []
-suffix_grown text before suffix behind none empty = rw (none, empty) (sym (append_assoc before [] (text ∷ [])))
+suffix_grown : (text : List ℕ) (before : List (List ℕ)) (suffix : Option (List ℕ)) (after : List (List ℕ)) → suffix ≡ None → after ≡ [] → before ++ (text ∷ after) ≡ (before ++ (texts_of suffix ++ after)) ++ text ∷ []
+suffix_grown text before suffix after none empty = rw (none, empty) (sym (append_assoc before [] (text ∷ [])))
 
-noted_holds : (last : Last) (on : Bool) (text : List ℕ) (segs : List Segment) (before : List (List ℕ)) (nodes : List Item) (suffix : Option (List ℕ)) (behind : List (List ℕ)) (trailing : Bool) (texts : List (List ℕ))
-    → BehindLast last segs nodes suffix behind → Holds (walked_of segs before nodes suffix behind last trailing) texts
-    → Holds (noted last on text (walked_of segs before nodes suffix behind last trailing)) (texts ++ text ∷ [])
-noted_holds no_token true text segs before nodes suffix behind trailing texts fits h = here_more _ _ text texts refl refl (alone_grown text before suffix behind) h
-noted_holds no_token false text segs before nodes suffix behind trailing texts fits h = here_more _ _ text texts refl refl (alone_grown text before suffix behind) h
-noted_holds (end_of_node line) true text segs before nodes suffix behind trailing texts fits h = here_more _ _ text texts refl refl (suffix_grown text before suffix behind fits.0 fits.1) h
-noted_holds (end_of_node line) false text segs before nodes suffix behind trailing texts fits h = here_more _ _ text texts refl refl (alone_grown text before suffix behind) h
-noted_holds (end_of_comma line) true text [] before nodes suffix behind trailing texts fits h = absurd fits
-noted_holds (end_of_comma line) true text (s ∷ ss) before nodes suffix behind trailing texts fits h = comma_note_holds text s ss before nodes suffix behind (end_of_comma line) trailing texts h
-noted_holds (end_of_comma line) false text segs before nodes suffix behind trailing texts fits h = here_more _ _ text texts refl refl (alone_grown text before suffix behind) h
+noted_holds : (last : Last) (on : Bool) (text : List ℕ) (segs : List Segment) (before : List (List ℕ)) (nodes : List Item) (suffix : Option (List ℕ)) (after : List (List ℕ)) (trailing : Bool) (texts : List (List ℕ))
+    → AfterLast last segs nodes suffix after → Holds (walked_of segs before nodes suffix after last trailing) texts
+    → Holds (noted last on text (walked_of segs before nodes suffix after last trailing)) (texts ++ text ∷ [])
+noted_holds no_token true text segs before nodes suffix after trailing texts fits h = here_more _ _ text texts refl refl (alone_grown text before suffix after) h
+noted_holds no_token false text segs before nodes suffix after trailing texts fits h = here_more _ _ text texts refl refl (alone_grown text before suffix after) h
+noted_holds (end_of_node line) true text segs before nodes suffix after trailing texts fits h = here_more _ _ text texts refl refl (suffix_grown text before suffix after fits.0 fits.1) h
+noted_holds (end_of_node line) false text segs before nodes suffix after trailing texts fits h = here_more _ _ text texts refl refl (alone_grown text before suffix after) h
+noted_holds (end_of_comma line) true text [] before nodes suffix after trailing texts fits h = absurd fits
+noted_holds (end_of_comma line) true text (s ∷ ss) before nodes suffix after trailing texts fits h = comma_note_holds text s ss before nodes suffix after (end_of_comma line) trailing texts h
+noted_holds (end_of_comma line) false text segs before nodes suffix after trailing texts fits h = here_more _ _ text texts refl refl (alone_grown text before suffix after) h
 
-noted_fits : (last : Last) (on : Bool) (text : List ℕ) (segs : List Segment) (before : List (List ℕ)) (nodes : List Item) (suffix : Option (List ℕ)) (behind : List (List ℕ)) (trailing : Bool)
-    → NoNodes nodes before suffix → BehindLast last segs nodes suffix behind → Fits (noted last on text (walked_of segs before nodes suffix behind last trailing))
-noted_fits no_token true text segs before nodes suffix behind trailing none fits = record { nodes = none; last = tt }
-noted_fits no_token false text segs before nodes suffix behind trailing none fits = record { nodes = none; last = tt }
-noted_fits (end_of_node line) true text segs before nodes suffix behind trailing none fits = record { nodes = with_suffix nodes before (Some text) fits.2; last = tt }
-noted_fits (end_of_node line) false text segs before nodes suffix behind trailing none fits = record { nodes = none; last = tt }
-noted_fits (end_of_comma line) true text segs before nodes suffix behind trailing none fits = record { nodes = none; last = tt }
-noted_fits (end_of_comma line) false text segs before nodes suffix behind trailing none fits = record { nodes = none; last = tt }
+noted_fits : (last : Last) (on : Bool) (text : List ℕ) (segs : List Segment) (before : List (List ℕ)) (nodes : List Item) (suffix : Option (List ℕ)) (after : List (List ℕ)) (trailing : Bool)
+    → NoNodes nodes before suffix → AfterLast last segs nodes suffix after → Fits (noted last on text (walked_of segs before nodes suffix after last trailing))
+noted_fits no_token true text segs before nodes suffix after trailing none fits = record { nodes = none; last = tt }
+noted_fits no_token false text segs before nodes suffix after trailing none fits = record { nodes = none; last = tt }
+noted_fits (end_of_node line) true text segs before nodes suffix after trailing none fits = record { nodes = with_suffix nodes before (Some text) fits.2; last = tt }
+noted_fits (end_of_node line) false text segs before nodes suffix after trailing none fits = record { nodes = none; last = tt }
+noted_fits (end_of_comma line) true text segs before nodes suffix after trailing none fits = record { nodes = none; last = tt }
+noted_fits (end_of_comma line) false text segs before nodes suffix after trailing none fits = record { nodes = none; last = tt }
 
 -- without commas no segment is finished
 abbrev has_comma : List Own → Bool
@@ -245,7 +245,7 @@ walk_ends [] w i texts more all all_is fits h spelled is = record {
   alone = λ one none. none;
 }
 walk_ends (node line x ∷ os) w i texts more all all_is fits h spelled is =
-    let now : Fits (after_node line x w) = record { nodes = nodes_push w.nodes x (w.before ++ (texts_of w.suffix ++ w.behind)) None; last = (refl, refl, node_push w.nodes x) } in
+    let now : Fits (after_node line x w) = record { nodes = nodes_push w.nodes x (w.before ++ (texts_of w.suffix ++ w.after)) None; last = (refl, refl, node_push w.nodes x) } in
     let split : all ≡ (texts ++ spelled.0) ++ spelled.1 = all_is ∙ ap (λ l. texts ++ l) spelled.2 ∙ sym (append_assoc texts spelled.0 spelled.1) in
     let e = walk_ends os (after_node line x w) i (texts ++ spelled.0) spelled.1 all split now (node_holds line x w texts spelled.0 h spelled.3) spelled.4 is in
     record { last = e.last; holds = e.holds; fits = e.fits; is = e.is; alone = e.alone }
@@ -256,45 +256,45 @@ walk_ends (comma t ∷ os) w i texts more all all_is fits h spelled is =
     none_some : (i : Inside) → None ≡ Some i → ⊥
     none_some i e = cc
 
-    at_nodes : (nodes : List Item) → ((v : Walked) → Fits v → Holds v texts → walk v os ≡ Some i → Ended v os all i) → Holds (walked_of w.segs w.before nodes w.suffix w.behind w.last w.trailing) texts → walk (walked_of w.segs w.before nodes w.suffix w.behind w.last w.trailing) (comma t ∷ os) ≡ Some i → Ended w (comma t ∷ os) all i
+    at_nodes : (nodes : List Item) → ((v : Walked) → Fits v → Holds v texts → walk v os ≡ Some i → Ended v os all i) → Holds (walked_of w.segs w.before nodes w.suffix w.after w.last w.trailing) texts → walk (walked_of w.segs w.before nodes w.suffix w.after w.last w.trailing) (comma t ∷ os) ≡ Some i → Ended w (comma t ∷ os) all i
     at_nodes [] ends h is = absurd (none_some i is)
     at_nodes (x ∷ xs) ends h is =
-        let s : Segment = record { before = w.before ++ w.behind; nodes = x ∷ xs; suffix = w.suffix } in
+        let s : Segment = record { before = w.before ++ w.after; nodes = x ∷ xs; suffix = w.suffix } in
         let v : Walked = walked_of (w.segs ++ s ∷ []) [] [] None [] (end_of_comma t.line) true in
-        let e = ends v (record { nodes = (refl, refl); last = segment_push w.segs s }) (comma_holds t.line w.segs w.before (x ∷ xs) w.suffix w.behind w.last w.trailing texts h) is in
+        let e = ends v (record { nodes = (refl, refl); last = segment_push w.segs s }) (comma_holds t.line w.segs w.before (x ∷ xs) w.suffix w.after w.last w.trailing texts h) is in
         record { last = e.last; holds = e.holds; fits = e.fits; is = e.is; alone = λ one none. absurd (false≢true (sym one)) }
 walk_ends (note line text ∷ os) w i texts more all all_is fits h spelled is =
-    let now = noted_fits w.last (is_on w.last line) text w.segs w.before w.nodes w.suffix w.behind w.trailing fits.nodes fits.last in
-    let noted_now = noted_holds w.last (is_on w.last line) text w.segs w.before w.nodes w.suffix w.behind w.trailing texts fits.last h in
+    let now = noted_fits w.last (is_on w.last line) text w.segs w.before w.nodes w.suffix w.after w.trailing fits.nodes fits.last in
+    let noted_now = noted_holds w.last (is_on w.last line) text w.segs w.before w.nodes w.suffix w.after w.trailing texts fits.last h in
     let one : spelled.0 ≡ text ∷ [] = one_alone (text ∷ []) spelled.0 spelled.3 in
     let split : all ≡ (texts ++ text ∷ []) ++ spelled.1 = all_is ∙ ap (λ l. texts ++ l) (spelled.2 ∙ ap (λ l. l ++ spelled.1) one) ∙ sym (append_assoc texts (text ∷ []) spelled.1) in
     let e = walk_ends os (after_note line text w) i (texts ++ text ∷ []) spelled.1 all split now noted_now spelled.4 is in
     record { last = e.last; holds = e.holds; fits = e.fits; is = e.is; alone = λ one none. e.alone one (noted_alone w.last (is_on w.last line) text w none) }
 
 -- the inside of a bracket
-done_mixed : (segs : List Segment) (before : List (List ℕ)) (nodes : List Item) (suffix : Option (List ℕ)) (behind : List (List ℕ)) (last : Last) (trailing : Bool) (texts : List (List ℕ))
-    → NoNodes nodes before suffix → Holds (walked_of segs before nodes suffix behind last trailing) texts
-    → AreMixed texts (inside_owners (done (walked_of segs before nodes suffix behind last trailing)))
-done_mixed segs before [] suffix behind last trailing texts none h =
-    let own : before ++ (texts_of suffix ++ behind) ≡ behind = rw (none.0, none.1) refl in
-    let those : Mixed behind h.inner h.rest = subst (λ l. Mixed l h.inner h.rest) own h.those in
-    let rest : AreMixed h.rest (behind ∷ []) = both_mixed (behind ∷ []) [] behind h.inner h.rest those (one_mixed behind) h.nodes in
-    both_mixed (segments_owners segs) (behind ∷ []) h.finished h.rest texts h.all h.segs rest
-done_mixed segs before (x ∷ xs) suffix behind last trailing texts none h =
+done_mixed : (segs : List Segment) (before : List (List ℕ)) (nodes : List Item) (suffix : Option (List ℕ)) (after : List (List ℕ)) (last : Last) (trailing : Bool) (texts : List (List ℕ))
+    → NoNodes nodes before suffix → Holds (walked_of segs before nodes suffix after last trailing) texts
+    → AreMixed texts (inside_owners (done (walked_of segs before nodes suffix after last trailing)))
+done_mixed segs before [] suffix after last trailing texts none h =
+    let own : before ++ (texts_of suffix ++ after) ≡ after = rw (none.0, none.1) refl in
+    let those : Mixed after h.inner h.rest = subst (λ l. Mixed l h.inner h.rest) own h.those in
+    let rest : AreMixed h.rest (after ∷ []) = both_mixed (after ∷ []) [] after h.inner h.rest those (one_mixed after) h.nodes in
+    both_mixed (segments_owners segs) (after ∷ []) h.finished h.rest texts h.all h.segs rest
+done_mixed segs before (x ∷ xs) suffix after last trailing texts none h =
     let nodes : List Item = x ∷ xs in
     let s : Segment = record { before = before; nodes = nodes; suffix = suffix } in
-    let own : AreMixed (before ++ (texts_of suffix ++ behind)) (before ∷ beside suffix ∷ behind ∷ []) = (texts_of suffix ++ behind, mixed_after before (texts_of suffix ++ behind), (behind, at_suffix suffix, one_mixed behind)) in
-    let rest = both_mixed (before ∷ beside suffix ∷ behind ∷ []) (nodes_owners nodes) (before ++ (texts_of suffix ++ behind)) h.inner h.rest h.those own h.nodes in
-    let all = both_mixed (segments_owners segs) (before ∷ beside suffix ∷ behind ∷ nodes_owners nodes) h.finished h.rest texts h.all h.segs rest in
+    let own : AreMixed (before ++ (texts_of suffix ++ after)) (before ∷ beside suffix ∷ after ∷ []) = (texts_of suffix ++ after, mixed_after before (texts_of suffix ++ after), (after, at_suffix suffix, one_mixed after)) in
+    let rest = both_mixed (before ∷ beside suffix ∷ after ∷ []) (nodes_owners nodes) (before ++ (texts_of suffix ++ after)) h.inner h.rest h.those own h.nodes in
+    let all = both_mixed (segments_owners segs) (before ∷ beside suffix ∷ after ∷ nodes_owners nodes) h.finished h.rest texts h.all h.segs rest in
     let front : Lists = segments_owners segs ++ (before ∷ beside suffix ∷ []) in
-    let split : segments_owners segs ++ (before ∷ beside suffix ∷ behind ∷ nodes_owners nodes) ≡ front ++ behind ∷ nodes_owners nodes = sym (append_assoc (segments_owners segs) (before ∷ beside suffix ∷ []) (behind ∷ nodes_owners nodes)) in
-    let turned = to_end front behind (nodes_owners nodes) texts (subst (AreMixed texts) split all) in
-    let owners : front ++ (nodes_owners nodes ++ behind ∷ []) ≡ segments_owners (segs ++ s ∷ []) ++ behind ∷ [] = rw (segments_append segs (s ∷ [])) (simp append_assoc) in
+    let split : segments_owners segs ++ (before ∷ beside suffix ∷ after ∷ nodes_owners nodes) ≡ front ++ after ∷ nodes_owners nodes = sym (append_assoc (segments_owners segs) (before ∷ beside suffix ∷ []) (after ∷ nodes_owners nodes)) in
+    let turned = to_end front after (nodes_owners nodes) texts (subst (AreMixed texts) split all) in
+    let owners : front ++ (nodes_owners nodes ++ after ∷ []) ≡ segments_owners (segs ++ s ∷ []) ++ after ∷ [] = rw (segments_append segs (s ∷ [])) (simp append_assoc) in
     subst (AreMixed texts) owners turned
   where
-    at_suffix : (o : Option (List ℕ)) → Mixed (beside o) behind (texts_of o ++ behind)
-    at_suffix None = mixed_right behind
-    at_suffix (Some text) = mixed_after (text ∷ []) behind
+    at_suffix : (o : Option (List ℕ)) → Mixed (beside o) after (texts_of o ++ after)
+    at_suffix None = mixed_right after
+    at_suffix (Some text) = mixed_after (text ∷ []) after
 
 start_fits : Fits at_start
 start_fits = record { nodes = (refl, refl); last = tt }
@@ -311,7 +311,7 @@ inside_mixed : (os : List Own) (texts : List (List ℕ)) → no_empty false os �
 inside_mixed os texts full spelled =
     let e = inside_ends os texts full spelled in
     let w = e.last in
-    subst (λ i. AreMixed texts (inside_owners i)) e.is (done_mixed w.segs w.before w.nodes w.suffix w.behind w.last w.trailing texts e.fits.nodes e.holds)
+    subst (λ i. AreMixed texts (inside_owners i)) e.is (done_mixed w.segs w.before w.nodes w.suffix w.after w.last w.trailing texts e.fits.nodes e.holds)
 
 -- commas as nodes have no comments either
 own_item_owners : (one : Bool) (o : Own) → own_owners (own_item one o) ≡ own_owners o
@@ -347,17 +347,17 @@ bracket_notes s opening inner closing opens closes =
     ap (λ l. l ++ notes (inner ++ closing ∷ [])) front ∙ notes_append inner (closing ∷ []) ∙ ap (λ l. notes inner ++ l) end ∙ append-nil (notes inner)
 
 mutual
-  elem_mixed : (x : Elem) (b : Behind) → IsWell b x → AreMixed (notes (elem_tokens x)) (own_owners (elem_own b x))
+  elem_mixed : (x : Elem) (b : Preceding) → IsWell b x → AreMixed (notes (elem_tokens x)) (own_owners (elem_own b x))
   elem_mixed (single t) b well = subst (λ l. AreMixed l (own_owners (elem_own b (single t)))) (sym (append-nil (note_of (mark_of t) t.text))) (single_mixed (mark_of t) t well)
   elem_mixed (bracket s opening inner closing) b well =
       let owns = elems_own Other inner in
       let mixed = group_mixed (group_kind s b (has_for owns)) owns (notes (elems_tokens inner)) well.3 (elems_spelled inner Other well.2) in
       subst (λ l. AreMixed l (own_owners (elem_own b (bracket s opening inner closing)))) (sym (bracket_notes s opening (elems_tokens inner) closing well.0 well.1)) mixed
 
-  elems_spelled : (xs : Elems) (b : Behind) → AreWell b xs → AreSpelled (elems_own b xs) (notes (elems_tokens xs))
+  elems_spelled : (xs : Elems) (b : Preceding) → AreWell b xs → AreSpelled (elems_own b xs) (notes (elems_tokens xs))
   elems_spelled no_elems b well = refl
   elems_spelled (elem x xs) b well =
-      (notes (elem_tokens x), notes (elems_tokens xs), notes_append (elem_tokens x) (elems_tokens xs), elem_mixed x b well.0, elems_spelled xs (behind b (elem_own b x)) well.1)
+      (notes (elem_tokens x), notes (elems_tokens xs), notes_append (elem_tokens x) (elems_tokens xs), elem_mixed x b well.0, elems_spelled xs (preceding b (elem_own b x)) well.1)
 
 -- At depth 0 there is one segment, and the end comments stand above it.
 no_commas : (os : List Own) → has_comma (own_items true os) ≡ false
@@ -366,17 +366,17 @@ no_commas (node line x ∷ os) = no_commas os
 no_commas (comma t ∷ os) = no_commas os
 no_commas (note line text ∷ os) = no_commas os
 
-alone_mixed : (segs : List Segment) (before : List (List ℕ)) (nodes : List Item) (suffix : Option (List ℕ)) (behind : List (List ℕ)) (last : Last) (trailing : Bool) (texts : List (List ℕ))
-    → segs ≡ [] → NoNodes nodes before suffix → Holds (walked_of segs before nodes suffix behind last trailing) texts
-    → (let i = done (walked_of segs before nodes suffix behind last trailing) in AreMixed texts (segment_owners (one_segment i.segs i.end)))
-alone_mixed (s ∷ ss) before nodes suffix behind last trailing texts alone none h = absurd (some_none s ss alone)
+alone_mixed : (segs : List Segment) (before : List (List ℕ)) (nodes : List Item) (suffix : Option (List ℕ)) (after : List (List ℕ)) (last : Last) (trailing : Bool) (texts : List (List ℕ))
+    → segs ≡ [] → NoNodes nodes before suffix → Holds (walked_of segs before nodes suffix after last trailing) texts
+    → (let i = done (walked_of segs before nodes suffix after last trailing) in AreMixed texts (segment_owners (one_segment i.segs i.end)))
+alone_mixed (s ∷ ss) before nodes suffix after last trailing texts alone none h = absurd (some_none s ss alone)
   where
     some_none : (s : Segment) (ss : List Segment) → s ∷ ss ≡ [] → ⊥
     some_none s ss e = cc
-alone_mixed [] before [] suffix behind last trailing texts alone none h =
-    let closed = closed_mixed [] before [] suffix behind last trailing texts h in
-    subst (λ b. AreMixed texts ((b ++ behind) ∷ [] ∷ [])) none.0 (subst (λ o. AreMixed texts ((before ++ behind) ∷ beside o ∷ [])) none.1 closed)
-alone_mixed [] before (x ∷ xs) suffix behind last trailing texts alone none h = closed_mixed [] before (x ∷ xs) suffix behind last trailing texts h
+alone_mixed [] before [] suffix after last trailing texts alone none h =
+    let closed = closed_mixed [] before [] suffix after last trailing texts h in
+    subst (λ b. AreMixed texts ((b ++ after) ∷ [] ∷ [])) none.0 (subst (λ o. AreMixed texts ((before ++ after) ∷ beside o ∷ [])) none.1 closed)
+alone_mixed [] before (x ∷ xs) suffix after last trailing texts alone none h = closed_mixed [] before (x ∷ xs) suffix after last trailing texts h
 
 -- the call of a rule has the same comments
 call_owners : (x : Item) → item_owners (as_rule_call x) ≡ item_owners x
@@ -397,7 +397,7 @@ segment_mixed owns texts spelled =
     let os = own_items true owns in
     let e = inside_ends os texts (nodes_alone false owns) (items_spelled true owns texts spelled) in
     let w = e.last in
-    let one = alone_mixed w.segs w.before w.nodes w.suffix w.behind w.last w.trailing texts (e.alone (no_commas owns) refl) e.fits.nodes e.holds in
+    let one = alone_mixed w.segs w.before w.nodes w.suffix w.after w.last w.trailing texts (e.alone (no_commas owns) refl) e.fits.nodes e.holds in
     let i = inside os in
     let s = one_segment i.segs i.end in
     let here : AreMixed texts (segment_owners s) = subst (λ (i : Inside). AreMixed texts (segment_owners (one_segment i.segs i.end))) e.is one in

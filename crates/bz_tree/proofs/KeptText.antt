@@ -11,7 +11,7 @@ use Rattle.std.specs.Prelude.{Some}
 use Rattle.bz_tree.specs.Tree.{Statement}
 use Rattle.bz_tree.specs.Brackets.{end_line}
 use Rattle.bz_tree.specs.Blocks.{IsAt, IsKeptText, IsBlockOf, kept_statement, above}
-use Rattle.bz_tree.specs.BlockSteps.{offset_run, IsAsciiFront, AreIn}
+use Rattle.bz_tree.specs.private.BlockSteps.{offset_run, IsAsciiFront, AreIn}
 
 pub offset_here : (line col : ℕ) (bs : List ℕ) → offset_run line col line col bs ≡ 0
 offset_here line col [] = refl
@@ -92,12 +92,12 @@ kept_is first bytes header last a kept is = record {
   ends = a.ends;
 }
 
--- the bytes, cut before the last token, and behind it
+-- the bytes, cut before the last token, and after it
 pub before_last : (first : ℕ) (bytes : List ℕ) (header last : Placed) (a : AreIn first bytes header last) → bytes ≡ (a.before ++ a.front) ++ (last.text ++ a.after)
 before_last first bytes header last a = a.bytes_are ∙ simp append_assoc
 
-pub behind_last : (first : ℕ) (bytes : List ℕ) (header last : Placed) (a : AreIn first bytes header last) → bytes ≡ ((a.before ++ a.front) ++ last.text) ++ a.after
-behind_last first bytes header last a = a.bytes_are ∙ simp append_assoc
+pub after_last : (first : ℕ) (bytes : List ℕ) (header last : Placed) (a : AreIn first bytes header last) → bytes ≡ ((a.before ++ a.front) ++ last.text) ++ a.after
+after_last first bytes header last a = a.bytes_are ∙ simp append_assoc
 
 -- where the text of a block begins and ends
 pub begin_is : (first : ℕ) (bytes : List ℕ) (header last : Placed) (a : AreIn first bytes header last) (begin : ℕ) → begin ≡ offset_run header.line header.col first 1 bytes → begin ≡ length a.before
@@ -118,7 +118,7 @@ begin_cut first bytes header last a begin is = subst (IsCharBoundary bytes) (sym
 pub end_cut : (first : ℕ) (bytes : List ℕ) (header last : Placed) (a : AreIn first bytes header last) (end : ℕ) → end ≡ length a.before + length (a.front ++ last.text) → IsCharBoundary bytes end
 end_cut first bytes header last a end is =
     let n : length ((a.before ++ a.front) ++ last.text) ≡ end = omega (arith, is, length-append (a.before ++ a.front) last.text, length-append a.before a.front, length-append a.front last.text) in
-    subst (IsCharBoundary bytes) n (cut bytes ((a.before ++ a.front) ++ last.text) a.after (behind_last first bytes header last a) a.at_end)
+    subst (IsCharBoundary bytes) n (cut bytes ((a.before ++ a.front) ++ last.text) a.after (after_last first bytes header last a) a.at_end)
 
 pub kept_between : (first : ℕ) (bytes : List ℕ) (header last : Placed) (a : AreIn first bytes header last) (begin end : ℕ) → begin ≡ length a.before → end ≡ length a.before + length (a.front ++ last.text)
     → (kept : List ℕ) → kept ≡ take (end - begin) (drop begin bytes) → IsKeptText first bytes header last kept

@@ -13,14 +13,14 @@ use Rattle.bz_tree.specs.declared.stage.Stage.{Stage}
 use Rattle.bz_tree.specs.declared.stage.Stage.TheVariants.{Refused, Wants, Has, HasNumber, Names, Excludes, Begins, Argument, Keyword}
 use Rattle.bz_tree.specs.Tree.{Item, leaf, group, Items, no_items, item, Segs, no_segs, seg}
 use Rattle.bz_tree.specs.Grammar.{token_role, is_prefix, is_operator, is_star, is_assignment, join, is_dot_role, begins_dot, IsBinOp, operator, not_in, IsTest, plain, conditional, IsChain, single, binary, IsTerm, primary, unary, IsPrimary, number, operand, AreSuffixes, no_suffix, member, suffix, IsSuffix, call, index, IsOperand, ident, text, paren, list, dict, list_comp, dict_comp, AreTests, no_test, one_test, AreArgs, no_arg, one_arg, IsArg, positional, keyword, starred, AreEntries, no_entry, one_entry, IsEntry, entry, IsElement, element, IsEntryElement, entry_element, IsFor, for, AreTargets, last_target, target, AreClauses, no_clause, for_clause, if_clause, IsIndex, at, slice, IsRange, upper, stepped, IsOptional, nothing, some}
-use Rattle.bz_tree.specs.Machine.{ends, is_target, in_chain, behind_part, next_wanted, next_behind, next_behind_number, next_begun, next_argument, next_keyword, next, accepts, role_of, each, is_whole, group_role, begin}
+use Rattle.bz_tree.specs.private.Machine.{ends, is_target, in_chain, after_part, next_wanted, next_after, next_after_number, next_begun, next_argument, next_keyword, next, accepts, role_of, each, is_whole, group_role, begin}
 use Rattle.std.specs.Prelude.{codes, [], ◌∷◌}
 use Rattle.std.specs.Str.{bytes_eq}
 use Rattle.bz_tree.specs.Grammar.{leaf_role, is_among, word_role, sign_role, IsExpr, last_test, test}
-use Rattle.bz_tree.specs.Machine.{may_end, may_be_empty, is_single, leaves, behind_left, behind_right, behind_element, behind_target, behind_clause, at_colon, at_end, behind_condition, next_name, next_excluded}
+use Rattle.bz_tree.specs.private.Machine.{may_end, may_be_empty, is_single, leaves, after_left, after_right, after_element, after_target, after_clause, at_colon, at_end, after_condition, next_name, next_excluded}
 use Rattle.bz_tree.proofs.Accepted.{join_empty, join_assoc}
 
--- the operators and operands behind the first of a chain
+-- the operators and operands after the first of a chain
 data ChainRest : Items → Type 0 where
   no_rest : ChainRest no_items
   operated : {xs b : Items} (o : Items) → xs ≡ join o b → IsBinOp o → IsChain b → ChainRest xs
@@ -52,15 +52,15 @@ data FollowRight : Items → Type 0 where
   right_end : FollowRight no_items
   right_comma : {xs b : Items} (c : Item) → xs ≡ item c b → token_role c ≡ Comma → IsExpr b → FollowRight xs
 
--- a colon and what stands behind it
-record AtColon (Behind : Items → Type 0) (xs : Items) : Type 0 where
+-- a colon and what stands after it
+record AtColon (Preceding : Items → Type 0) (xs : Items) : Type 0 where
   colon : Item
-  behind : Items
-  is : xs ≡ item colon behind
+  after : Items
+  is : xs ≡ item colon after
   role : token_role colon ≡ Colon
-  means : Behind behind
+  means : Preceding after
 
--- a Chain and the clauses behind it
+-- a Chain and the clauses after it
 record InClause (xs : Items) : Type 0 where
   chain : Items
   more : Items
@@ -68,15 +68,15 @@ record InClause (xs : Items) : Type 0 where
   is_chain : IsChain chain
   clauses : AreClauses more
 
--- variables, `in`, a Chain and the clauses behind it
+-- variables, `in`, a Chain and the clauses after it
 record TargetsIn (xs : Items) : Type 0 where
   targets : Items
   sign : Item
-  behind : Items
-  is : xs ≡ join targets (item sign behind)
+  after : Items
+  is : xs ≡ join targets (item sign after)
   are : AreTargets targets
   role : token_role sign ≡ In
-  clause : InClause behind
+  clause : InClause after
 
 data FollowTarget : Items → Type 0 where
   target_comma : {xs b : Items} (c : Item) → xs ≡ item c b → token_role c ≡ Comma → TargetsIn b → FollowTarget xs
@@ -116,7 +116,7 @@ record TestTail (p : Part) (xs : Items) : Type 0 where
   is_tail : TestRest tail
   follow : Follow p rest
 
--- behind a chain (in a Target, behind a primary)
+-- after a chain (in a Target, after a primary)
 abbrev Tail : Part → Items → Type 0
 Tail Target xs = FollowTarget xs
 Tail Clause xs = AreClauses xs
@@ -124,14 +124,14 @@ Tail p xs = TestTail p xs
 
 record AtElse (p : Part) (xs : Items) : Type 0 where
   sign : Item
-  behind : Items
-  is : xs ≡ item sign behind
+  after : Items
+  is : xs ≡ item sign after
   role : token_role sign ≡ Else
-  whole : Whole p behind
+  whole : Whole p after
 
-abbrev Behind : Part → Bool → Items → Type 0
-Behind p false xs = Tail p xs
-Behind p true xs = AtElse p xs
+abbrev Preceding : Part → Bool → Items → Type 0
+Preceding p false xs = Tail p xs
+Preceding p true xs = AtElse p xs
 
 abbrev ChainIn : Part → Items → Type 0
 ChainIn Target xs = IsPrimary xs
@@ -146,9 +146,9 @@ record Wanted (p : Part) (c : Bool) (xs : Items) : Type 0 where
   rest : Items
   is : xs ≡ join chain rest
   is_chain : ChainIn p chain
-  behind : Behind p c rest
+  after : Preceding p c rest
 
--- behind an operand; a dot may come first
+-- after an operand; a dot may come first
 record Had (p : Part) (c : Bool) (dot : Bool) (xs : Items) : Type 0 where
   suffixes : Items
   ops : Items
@@ -157,21 +157,21 @@ record Had (p : Part) (c : Bool) (dot : Bool) (xs : Items) : Type 0 where
   are_suffixes : AreSuffixes suffixes
   bare : dot ≡ false → begins_dot suffixes ≡ false
   is_rest : RestIn p ops
-  behind : Behind p c rest
+  after : Preceding p c rest
 
 record Named (p : Part) (c : Bool) (xs : Items) : Type 0 where
   name : Item
-  behind : Items
-  is : xs ≡ item name behind
+  after : Items
+  is : xs ≡ item name after
   role : token_role name ≡ Name
-  had : Had p c true behind
+  had : Had p c true after
 
 record Excluded (p : Part) (c : Bool) (xs : Items) : Type 0 where
   sign : Item
-  behind : Items
-  is : xs ≡ item sign behind
+  after : Items
+  is : xs ≡ item sign after
   role : token_role sign ≡ In
-  wanted : Wanted p c behind
+  wanted : Wanted p c after
 
 abbrev Begun : Part → Items → Type 0
 Begun From xs = IsIndex xs
@@ -203,17 +203,17 @@ RoleMeans r x = token_role x ≡ r
 
 -- a part without its stages
 wanted_whole : (p : Part) (xs : Items) → Wanted p false xs → Whole p xs
-wanted_whole Target xs w = record { head = w.chain; rest = w.rest; is = w.is; is_head = w.is_chain; follow = w.behind }
-wanted_whole Clause xs w = record { head = w.chain; rest = w.rest; is = w.is; is_head = w.is_chain; follow = w.behind }
-wanted_whole Left xs w = record { head = join w.chain w.behind.tail; rest = w.behind.rest; is = w.is ∙ ap (join w.chain) w.behind.is ∙ sym (join_assoc w.chain w.behind.tail w.behind.rest); is_head = test_from w.chain w.behind.tail w.is_chain w.behind.is_tail; follow = w.behind.follow }
-wanted_whole Right xs w = record { head = join w.chain w.behind.tail; rest = w.behind.rest; is = w.is ∙ ap (join w.chain) w.behind.is ∙ sym (join_assoc w.chain w.behind.tail w.behind.rest); is_head = test_from w.chain w.behind.tail w.is_chain w.behind.is_tail; follow = w.behind.follow }
-wanted_whole Alone xs w = record { head = join w.chain w.behind.tail; rest = w.behind.rest; is = w.is ∙ ap (join w.chain) w.behind.is ∙ sym (join_assoc w.chain w.behind.tail w.behind.rest); is_head = test_from w.chain w.behind.tail w.is_chain w.behind.is_tail; follow = w.behind.follow }
-wanted_whole Key xs w = record { head = join w.chain w.behind.tail; rest = w.behind.rest; is = w.is ∙ ap (join w.chain) w.behind.is ∙ sym (join_assoc w.chain w.behind.tail w.behind.rest); is_head = test_from w.chain w.behind.tail w.is_chain w.behind.is_tail; follow = w.behind.follow }
-wanted_whole Element xs w = record { head = join w.chain w.behind.tail; rest = w.behind.rest; is = w.is ∙ ap (join w.chain) w.behind.is ∙ sym (join_assoc w.chain w.behind.tail w.behind.rest); is_head = test_from w.chain w.behind.tail w.is_chain w.behind.is_tail; follow = w.behind.follow }
-wanted_whole EntryKey xs w = record { head = join w.chain w.behind.tail; rest = w.behind.rest; is = w.is ∙ ap (join w.chain) w.behind.is ∙ sym (join_assoc w.chain w.behind.tail w.behind.rest); is_head = test_from w.chain w.behind.tail w.is_chain w.behind.is_tail; follow = w.behind.follow }
-wanted_whole From xs w = record { head = join w.chain w.behind.tail; rest = w.behind.rest; is = w.is ∙ ap (join w.chain) w.behind.is ∙ sym (join_assoc w.chain w.behind.tail w.behind.rest); is_head = test_from w.chain w.behind.tail w.is_chain w.behind.is_tail; follow = w.behind.follow }
-wanted_whole To xs w = record { head = join w.chain w.behind.tail; rest = w.behind.rest; is = w.is ∙ ap (join w.chain) w.behind.is ∙ sym (join_assoc w.chain w.behind.tail w.behind.rest); is_head = test_from w.chain w.behind.tail w.is_chain w.behind.is_tail; follow = w.behind.follow }
-wanted_whole Step xs w = record { head = join w.chain w.behind.tail; rest = w.behind.rest; is = w.is ∙ ap (join w.chain) w.behind.is ∙ sym (join_assoc w.chain w.behind.tail w.behind.rest); is_head = test_from w.chain w.behind.tail w.is_chain w.behind.is_tail; follow = w.behind.follow }
+wanted_whole Target xs w = record { head = w.chain; rest = w.rest; is = w.is; is_head = w.is_chain; follow = w.after }
+wanted_whole Clause xs w = record { head = w.chain; rest = w.rest; is = w.is; is_head = w.is_chain; follow = w.after }
+wanted_whole Left xs w = record { head = join w.chain w.after.tail; rest = w.after.rest; is = w.is ∙ ap (join w.chain) w.after.is ∙ sym (join_assoc w.chain w.after.tail w.after.rest); is_head = test_from w.chain w.after.tail w.is_chain w.after.is_tail; follow = w.after.follow }
+wanted_whole Right xs w = record { head = join w.chain w.after.tail; rest = w.after.rest; is = w.is ∙ ap (join w.chain) w.after.is ∙ sym (join_assoc w.chain w.after.tail w.after.rest); is_head = test_from w.chain w.after.tail w.is_chain w.after.is_tail; follow = w.after.follow }
+wanted_whole Alone xs w = record { head = join w.chain w.after.tail; rest = w.after.rest; is = w.is ∙ ap (join w.chain) w.after.is ∙ sym (join_assoc w.chain w.after.tail w.after.rest); is_head = test_from w.chain w.after.tail w.is_chain w.after.is_tail; follow = w.after.follow }
+wanted_whole Key xs w = record { head = join w.chain w.after.tail; rest = w.after.rest; is = w.is ∙ ap (join w.chain) w.after.is ∙ sym (join_assoc w.chain w.after.tail w.after.rest); is_head = test_from w.chain w.after.tail w.is_chain w.after.is_tail; follow = w.after.follow }
+wanted_whole Element xs w = record { head = join w.chain w.after.tail; rest = w.after.rest; is = w.is ∙ ap (join w.chain) w.after.is ∙ sym (join_assoc w.chain w.after.tail w.after.rest); is_head = test_from w.chain w.after.tail w.is_chain w.after.is_tail; follow = w.after.follow }
+wanted_whole EntryKey xs w = record { head = join w.chain w.after.tail; rest = w.after.rest; is = w.is ∙ ap (join w.chain) w.after.is ∙ sym (join_assoc w.chain w.after.tail w.after.rest); is_head = test_from w.chain w.after.tail w.is_chain w.after.is_tail; follow = w.after.follow }
+wanted_whole From xs w = record { head = join w.chain w.after.tail; rest = w.after.rest; is = w.is ∙ ap (join w.chain) w.after.is ∙ sym (join_assoc w.chain w.after.tail w.after.rest); is_head = test_from w.chain w.after.tail w.is_chain w.after.is_tail; follow = w.after.follow }
+wanted_whole To xs w = record { head = join w.chain w.after.tail; rest = w.after.rest; is = w.is ∙ ap (join w.chain) w.after.is ∙ sym (join_assoc w.chain w.after.tail w.after.rest); is_head = test_from w.chain w.after.tail w.is_chain w.after.is_tail; follow = w.after.follow }
+wanted_whole Step xs w = record { head = join w.chain w.after.tail; rest = w.after.rest; is = w.is ∙ ap (join w.chain) w.after.is ∙ sym (join_assoc w.chain w.after.tail w.after.rest); is_head = test_from w.chain w.after.tail w.is_chain w.after.is_tail; follow = w.after.follow }
 
 at_empty : (xs t r : Items) → xs ≡ join t r → r ≡ no_items → t ≡ xs
 at_empty xs t r is empty = sym (is ∙ ap (join t) empty ∙ join_empty t)
@@ -268,13 +268,13 @@ targets_with : (xs t r : Items) → xs ≡ join t r → IsPrimary t → FollowTa
 targets_with xs t r is first (target_comma c e comma m) = record {
   targets = join t (item c m.targets);
   sign = m.sign;
-  behind = m.behind;
-  is = is ∙ ap (join t) (e ∙ ap (item c) m.is) ∙ sym (join_assoc t (item c m.targets) (item m.sign m.behind));
+  after = m.after;
+  is = is ∙ ap (join t) (e ∙ ap (item c) m.is) ∙ sym (join_assoc t (item c m.targets) (item m.sign m.after));
   are = target c refl first comma m.are;
   role = m.role;
   clause = m.clause;
 }
-targets_with xs t r is first (target_in {xs = ys} {b} i e role m) = record { targets = t; sign = i; behind = b; is = is ∙ ap (join t) e; are = last_target first; role = role; clause = m }
+targets_with xs t r is first (target_in {xs = ys} {b} i e role m) = record { targets = t; sign = i; after = b; is = is ∙ ap (join t) e; are = last_target first; role = role; clause = m }
 
 targets_of : (xs : Items) → Whole Target xs → TargetsIn xs
 targets_of xs w = targets_with xs w.head w.rest w.is w.is_head w.follow
@@ -285,7 +285,7 @@ clause_of xs w = record { chain = w.head; more = w.rest; is = w.is; is_chain = w
 for_of : (f : Item) (xs : Items) → token_role f ≡ For → TargetsIn xs → IsFor (item f xs)
 for_of f xs role m = for f m.sign (ap (item f) (m.is ∙ ap (λ ys. join m.targets (item m.sign ys)) m.clause.is)) role m.are m.role m.clause.is_chain m.clause.clauses
 
--- behind a Test: nothing more of it
+-- after a Test: nothing more of it
 tail : (p : Part) (xs : Items) → Follow p xs → TestTail p xs
 tail p xs follow = record { tail = no_items; rest = xs; is = refl; is_tail = no_condition; follow = follow }
 
@@ -299,66 +299,66 @@ condition_tail p i xs b r is second e ri third = record {
   follow = e.whole.follow;
 }
 
-left_tail : (x : Item) (xs : Items) (r : Role) → RoleMeans r x → Means (behind_left r) xs → TestTail Left (item x xs)
+left_tail : (x : Item) (xs : Items) (r : Role) → RoleMeans r x → Means (after_left r) xs → TestTail Left (item x xs)
 left_tail x xs Comma k m = tail Left (item x xs) (left_comma x refl k (sides_of xs (wanted_whole Left xs m)))
 left_tail x xs Equals k m = tail Left (item x xs) (left_sign x refl (ap is_assignment k) (expr_of xs (wanted_whole Right xs m)))
 left_tail x xs Augmented k m = tail Left (item x xs) (left_sign x refl (ap is_assignment k) (expr_of xs (wanted_whole Right xs m)))
-left_tail x xs If k m = condition_tail Left x xs m.chain m.rest m.is m.is_chain m.behind k m.behind.whole.is_head
+left_tail x xs If k m = condition_tail Left x xs m.chain m.rest m.is m.is_chain m.after k m.after.whole.is_head
 left_tail x xs _ k m = absurd m
 
-right_tail : (x : Item) (xs : Items) (r : Role) → RoleMeans r x → Means (behind_right r) xs → TestTail Right (item x xs)
+right_tail : (x : Item) (xs : Items) (r : Role) → RoleMeans r x → Means (after_right r) xs → TestTail Right (item x xs)
 right_tail x xs Comma k m = tail Right (item x xs) (right_comma x refl k (expr_of xs (wanted_whole Right xs m)))
-right_tail x xs If k m = condition_tail Right x xs m.chain m.rest m.is m.is_chain m.behind k m.behind.whole.is_head
+right_tail x xs If k m = condition_tail Right x xs m.chain m.rest m.is m.is_chain m.after k m.after.whole.is_head
 right_tail x xs _ k m = absurd m
 
 alone_tail : (x : Item) (xs : Items) (r : Role) → RoleMeans r x → Means (at_end Alone r) xs → TestTail Alone (item x xs)
-alone_tail x xs If k m = condition_tail Alone x xs m.chain m.rest m.is m.is_chain m.behind k m.behind.whole.is_head
+alone_tail x xs If k m = condition_tail Alone x xs m.chain m.rest m.is m.is_chain m.after k m.after.whole.is_head
 alone_tail x xs _ k m = absurd m
 
 step_tail : (x : Item) (xs : Items) (r : Role) → RoleMeans r x → Means (at_end Step r) xs → TestTail Step (item x xs)
-step_tail x xs If k m = condition_tail Step x xs m.chain m.rest m.is m.is_chain m.behind k m.behind.whole.is_head
+step_tail x xs If k m = condition_tail Step x xs m.chain m.rest m.is m.is_chain m.after k m.after.whole.is_head
 step_tail x xs _ k m = absurd m
 
 key_tail : (x : Item) (xs : Items) (r : Role) → RoleMeans r x → Means (at_colon Key (Wants Alone false) r) xs → TestTail Key (item x xs)
-key_tail x xs Colon k m = tail Key (item x xs) (record { colon = x; behind = xs; is = refl; role = k; means = test_of xs (wanted_whole Alone xs m) })
-key_tail x xs If k m = condition_tail Key x xs m.chain m.rest m.is m.is_chain m.behind k m.behind.whole.is_head
+key_tail x xs Colon k m = tail Key (item x xs) (record { colon = x; after = xs; is = refl; role = k; means = test_of xs (wanted_whole Alone xs m) })
+key_tail x xs If k m = condition_tail Key x xs m.chain m.rest m.is m.is_chain m.after k m.after.whole.is_head
 key_tail x xs _ k m = absurd m
 
 entry_key_tail : (x : Item) (xs : Items) (r : Role) → RoleMeans r x → Means (at_colon EntryKey (Wants Element false) r) xs → TestTail EntryKey (item x xs)
-entry_key_tail x xs Colon k m = tail EntryKey (item x xs) (record { colon = x; behind = xs; is = refl; role = k; means = element_of xs (wanted_whole Element xs m) })
-entry_key_tail x xs If k m = condition_tail EntryKey x xs m.chain m.rest m.is m.is_chain m.behind k m.behind.whole.is_head
+entry_key_tail x xs Colon k m = tail EntryKey (item x xs) (record { colon = x; after = xs; is = refl; role = k; means = element_of xs (wanted_whole Element xs m) })
+entry_key_tail x xs If k m = condition_tail EntryKey x xs m.chain m.rest m.is m.is_chain m.after k m.after.whole.is_head
 entry_key_tail x xs _ k m = absurd m
 
 from_tail : (x : Item) (xs : Items) (r : Role) → RoleMeans r x → Means (at_colon From (Begins To) r) xs → TestTail From (item x xs)
-from_tail x xs Colon k m = tail From (item x xs) (inr (record { colon = x; behind = xs; is = refl; role = k; means = m }))
-from_tail x xs If k m = condition_tail From x xs m.chain m.rest m.is m.is_chain m.behind k m.behind.whole.is_head
+from_tail x xs Colon k m = tail From (item x xs) (inr (record { colon = x; after = xs; is = refl; role = k; means = m }))
+from_tail x xs If k m = condition_tail From x xs m.chain m.rest m.is m.is_chain m.after k m.after.whole.is_head
 from_tail x xs _ k m = absurd m
 
 to_tail : (x : Item) (xs : Items) (r : Role) → RoleMeans r x → Means (at_colon To (Begins Step) r) xs → TestTail To (item x xs)
-to_tail x xs Colon k m = tail To (item x xs) (inr (record { colon = x; behind = xs; is = refl; role = k; means = m }))
-to_tail x xs If k m = condition_tail To x xs m.chain m.rest m.is m.is_chain m.behind k m.behind.whole.is_head
+to_tail x xs Colon k m = tail To (item x xs) (inr (record { colon = x; after = xs; is = refl; role = k; means = m }))
+to_tail x xs If k m = condition_tail To x xs m.chain m.rest m.is m.is_chain m.after k m.after.whole.is_head
 to_tail x xs _ k m = absurd m
 
-element_tail : (x : Item) (xs : Items) (r : Role) → RoleMeans r x → Means (behind_element r) xs → TestTail Element (item x xs)
+element_tail : (x : Item) (xs : Items) (r : Role) → RoleMeans r x → Means (after_element r) xs → TestTail Element (item x xs)
 element_tail x xs For k m = tail Element (item x xs) (for_of x xs k (targets_of xs (wanted_whole Target xs m)))
-element_tail x xs If k m = condition_tail Element x xs m.chain m.rest m.is m.is_chain m.behind k m.behind.whole.is_head
+element_tail x xs If k m = condition_tail Element x xs m.chain m.rest m.is m.is_chain m.after k m.after.whole.is_head
 element_tail x xs _ k m = absurd m
 
-target_tail : (x : Item) (xs : Items) (r : Role) → RoleMeans r x → Means (behind_target r) xs → FollowTarget (item x xs)
+target_tail : (x : Item) (xs : Items) (r : Role) → RoleMeans r x → Means (after_target r) xs → FollowTarget (item x xs)
 target_tail x xs Comma k m = target_comma x refl k (targets_of xs (wanted_whole Target xs m))
 target_tail x xs In k m = target_in x refl k (clause_of xs (wanted_whole Clause xs m))
 target_tail x xs _ k m = absurd m
 
-clause_tail : (x : Item) (xs : Items) (r : Role) → RoleMeans r x → Means (behind_clause r) xs → AreClauses (item x xs)
+clause_tail : (x : Item) (xs : Items) (r : Role) → RoleMeans r x → Means (after_clause r) xs → AreClauses (item x xs)
 clause_tail x xs For k m = for_clause (for_of x xs k (targets_of xs (wanted_whole Target xs m)))
 clause_tail x xs If k m = let w = clause_of xs (wanted_whole Clause xs m) in if_clause x (ap (item x) w.is) k w.is_chain w.clauses
 clause_tail x xs _ k m = absurd m
 
-else_tail : (p : Part) (x : Item) (xs : Items) (r : Role) → RoleMeans r x → Means (behind_condition p r) xs → AtElse p (item x xs)
-else_tail p x xs Else k m = record { sign = x; behind = xs; is = refl; role = k; whole = wanted_whole p xs m }
+else_tail : (p : Part) (x : Item) (xs : Items) (r : Role) → RoleMeans r x → Means (after_condition p r) xs → AtElse p (item x xs)
+else_tail p x xs Else k m = record { sign = x; after = xs; is = refl; role = k; whole = wanted_whole p xs m }
 else_tail p x xs _ k m = absurd m
 
-leaves_means : (p : Part) (c : Bool) (x : Item) (xs : Items) (r : Role) → RoleMeans r x → Means (leaves p c r) xs → Behind p c (item x xs)
+leaves_means : (p : Part) (c : Bool) (x : Item) (xs : Items) (r : Role) → RoleMeans r x → Means (leaves p c r) xs → Preceding p c (item x xs)
 leaves_means p true x xs r k m = else_tail p x xs r k m
 leaves_means Left false x xs r k m = left_tail x xs r k m
 leaves_means Right false x xs r k m = right_tail x xs r k m
@@ -386,7 +386,7 @@ prefix_in Target q xs free is h = absurd (false≢true (sym free))
 prefix_in _ q xs free is h = chain_prefix q xs is h
 
 prefixed : (p : Part) (c : Bool) (q : Item) (xs : Items) → is_prefix (token_role q) ≡ true → (is_target p ≡ false) × Wanted p c xs → Wanted p c (item q xs)
-prefixed p c q xs is m = record { chain = item q m.1.chain; rest = m.1.rest; is = ap (item q) m.1.is; is_chain = prefix_in p q m.1.chain m.0 is m.1.is_chain; behind = m.1.behind }
+prefixed p c q xs is m = record { chain = item q m.1.chain; rest = m.1.rest; is = ap (item q) m.1.is; is_chain = prefix_in p q m.1.chain m.0 is m.1.is_chain; after = m.1.after }
 
 chain_in : (p : Part) (t q : Items) → IsPrimary t → RestIn p q → ChainIn p (join t q)
 chain_in Target t q first rest = subst IsPrimary (sym (ap (join t) rest ∙ join_empty t)) first
@@ -398,7 +398,7 @@ operand_means p c d x xs m first = record {
   rest = m.rest;
   is = ap (item x) m.is ∙ sym (join_assoc (item x m.suffixes) m.ops m.rest);
   is_chain = chain_in p (item x m.suffixes) m.ops first m.is_rest;
-  behind = m.behind;
+  after = m.after;
 }
 
 wanted_means : (p : Part) (c : Bool) (x : Item) (xs : Items) (r : Role) → RoleMeans r x → Means (next_wanted p c r) xs → Wanted p c (item x xs)
@@ -418,7 +418,7 @@ no_rest_in : (p : Part) → RestIn p no_items
 no_rest_in Target = refl
 no_rest_in _ = no_rest
 
--- an operator, and what stands behind it
+-- an operator, and what stands after it
 operator_had : (p : Part) (c d : Bool) (o : Items) (xs : Items) → IsBinOp o → (is_target p ≡ false) × Wanted p c xs → Had p c d (join o xs)
 operator_had p c d o xs op m = record {
   suffixes = no_items;
@@ -428,26 +428,26 @@ operator_had p c d o xs op m = record {
   are_suffixes = no_suffix;
   bare = λ e. refl;
   is_rest = rest_in p o m.1.chain m.0 op m.1.is_chain;
-  behind = m.1.behind;
+  after = m.1.after;
 }
 
 excluded_had : (p : Part) (c d : Bool) (x : Item) (xs : Items) → token_role x ≡ Not → (is_target p ≡ false) × Excluded p c xs → Had p c d (item x xs)
 excluded_had p c d x xs k m =
-    let h = operator_had p c d (item x (item m.1.sign no_items)) m.1.behind (not_in k m.1.role) (m.0, m.1.wanted) in
+    let h = operator_had p c d (item x (item m.1.sign no_items)) m.1.after (not_in k m.1.role) (m.0, m.1.wanted) in
     subst (Had p c d) (ap (item x) (sym m.1.is)) h
 
-behind_had : (p : Part) (c d : Bool) (xs : Items) → Behind p c xs → Had p c d xs
-behind_had p c d xs m = record { suffixes = no_items; ops = no_items; rest = xs; is = refl; are_suffixes = no_suffix; bare = λ e. refl; is_rest = no_rest_in p; behind = m }
+after_had : (p : Part) (c d : Bool) (xs : Items) → Preceding p c xs → Had p c d xs
+after_had p c d xs m = record { suffixes = no_items; ops = no_items; rest = xs; is = refl; are_suffixes = no_suffix; bare = λ e. refl; is_rest = no_rest_in p; after = m }
 
-in_means : (p : Part) (c d : Bool) (x : Item) (xs : Items) → token_role x ≡ In → Means (next_behind p c In) xs → Had p c d (item x xs)
-in_means Target c d x xs k m = behind_had Target c d (item x xs) (leaves_means Target c x xs In k m)
+in_means : (p : Part) (c d : Bool) (x : Item) (xs : Items) → token_role x ≡ In → Means (next_after p c In) xs → Had p c d (item x xs)
+in_means Target c d x xs k m = after_had Target c d (item x xs) (leaves_means Target c x xs In k m)
 in_means p c d x xs k m = operator_had p c d (item x no_items) xs (operator (ap is_operator k)) (refl, m)
 
 suffix_bare : (x : Item) (xs : Items) → IsSuffix x → begins_dot (item x xs) ≡ false
 suffix_bare x xs (call is args) = refl
 suffix_bare x xs (index i) = refl
 
-had_means : (p : Part) (c d : Bool) (x : Item) (xs : Items) (r : Role) → (is_dot_role r ≡ true → d ≡ true) → RoleMeans r x → Means (next_behind p c r) xs → Had p c d (item x xs)
+had_means : (p : Part) (c d : Bool) (x : Item) (xs : Items) (r : Role) → (is_dot_role r ≡ true → d ≡ true) → RoleMeans r x → Means (next_after p c r) xs → Had p c d (item x xs)
 had_means p c d x xs Dot fits k m = record {
   suffixes = item x (item m.name m.had.suffixes);
   ops = m.had.ops;
@@ -456,7 +456,7 @@ had_means p c d x xs Dot fits k m = record {
   are_suffixes = member k m.role m.had.are_suffixes;
   bare = λ e. absurd (false≢true (sym e ∙ fits refl));
   is_rest = m.had.is_rest;
-  behind = m.had.behind;
+  after = m.had.after;
 }
 had_means p c d x xs Suffix fits k m = record {
   suffixes = item x m.suffixes;
@@ -466,28 +466,28 @@ had_means p c d x xs Suffix fits k m = record {
   are_suffixes = suffix k m.are_suffixes;
   bare = λ e. suffix_bare x m.suffixes k;
   is_rest = m.is_rest;
-  behind = m.behind;
+  after = m.after;
 }
 had_means p c d x xs Sum fits k m = operator_had p c d (item x no_items) xs (operator (ap is_operator k)) (unchained p (Wants p c) xs m)
 had_means p c d x xs Star fits k m = operator_had p c d (item x no_items) xs (operator (ap is_operator k)) (unchained p (Wants p c) xs m)
 had_means p c d x xs Operator fits k m = operator_had p c d (item x no_items) xs (operator (ap is_operator k)) (unchained p (Wants p c) xs m)
 had_means p c d x xs In fits k m = in_means p c d x xs k m
 had_means p c d x xs Not fits k m = excluded_had p c d x xs k (unchained p (Excludes p c) xs m)
-had_means p c d x xs r fits k m = behind_had p c d (item x xs) (leaves_means p c x xs r k m)
+had_means p c d x xs r fits k m = after_had p c d (item x xs) (leaves_means p c x xs r k m)
 
-number_means : (p : Part) (c : Bool) (x : Item) (xs : Items) (r : Role) → RoleMeans r x → Means (next_behind_number p c r) xs → Had p c false (item x xs)
+number_means : (p : Part) (c : Bool) (x : Item) (xs : Items) (r : Role) → RoleMeans r x → Means (next_after_number p c r) xs → Had p c false (item x xs)
 number_means p c x xs Dot k m = absurd m
 number_means p c x xs r k m = had_means p c false x xs r (λ e. absurd (false≢true e)) k m
 
 name_means : (p : Part) (c : Bool) (x : Item) (xs : Items) (r : Role) → RoleMeans r x → Means (next_name p c r) xs → Named p c (item x xs)
-name_means p c x xs Name k m = record { name = x; behind = xs; is = refl; role = k; had = m }
+name_means p c x xs Name k m = record { name = x; after = xs; is = refl; role = k; had = m }
 name_means p c x xs _ k m = absurd m
 
 excluded_means : (p : Part) (c : Bool) (x : Item) (xs : Items) (r : Role) → RoleMeans r x → Means (next_excluded p c r) xs → Excluded p c (item x xs)
-excluded_means p c x xs In k m = record { sign = x; behind = xs; is = refl; role = k; wanted = m }
+excluded_means p c x xs In k m = record { sign = x; after = xs; is = refl; role = k; wanted = m }
 excluded_means p c x xs _ k m = absurd m
 
-colon_begun : (p : Part) (x : Item) (xs : Items) → token_role x ≡ Colon → Means (behind_part p Colon) xs → Begun p (item x xs)
+colon_begun : (p : Part) (x : Item) (xs : Items) → token_role x ≡ Colon → Means (after_part p Colon) xs → Begun p (item x xs)
 colon_begun From x xs k m = slice x refl nothing k m
 colon_begun To x xs k m = stepped x refl nothing k m
 colon_begun Step x xs k m = absurd m
@@ -537,7 +537,7 @@ part_end EntryKey h = absurd (false≢true h)
 part_end Target h = absurd (false≢true h)
 
 had_end : (p : Part) (c d : Bool) → (not c && ends p) ≡ true → Had p c d no_items
-had_end p false d h = behind_had p false d no_items (part_end p h)
+had_end p false d h = after_had p false d no_items (part_end p h)
 had_end p true d h = absurd (false≢true h)
 
 begun_end : (p : Part) → may_be_empty p ≡ true → Begun p no_items

@@ -6,7 +6,7 @@ use Rattle.bz_tree.specs.Owners.{Own, node, comma, note, Last, no_token, end_of_
 use Rattle.bz_tree.proofs.ByLines.{is_after_comma, the_end, segment_here, with_comment, has_token, goes_on, Comment, beside_comma, suffix_of, before_of, first_segment, segments, part, is_trailing, inside_by_lines, inside_is}
 use Rattle.bz_tree.specs.Brackets.{own_items}
 use Rattle.bz_tree.specs.Statement.{as_rule_call, rule_call}
-use Rattle.bz_tree.specs.Steps.{Walked, texts_of, at_start, after_node, add_beside, to_last, noted, after_note, done, walk}
+use Rattle.bz_tree.specs.private.Steps.{Walked, texts_of, at_start, after_node, add_beside, to_last, noted, after_note, done, walk}
 
 -- a comment that is no suffix
 abbrev plain : List ℕ → Comment
@@ -30,14 +30,14 @@ add_each (t ∷ ts) s = add_each ts (add_beside t s)
 
 -- the comments of the segment here
 abbrev here : Walked → List Own → List Comment
-here w os = map plain w.before ++ (flagged (not (goes_on os)) w.suffix ++ (cond (has_token os) (map plain w.behind) [] ++ (part w.last os).comments))
+here w os = map plain w.before ++ (flagged (not (goes_on os)) w.suffix ++ (cond (has_token os) (map plain w.after) [] ++ (part w.last os).comments))
 
 -- what was walked over, and then these
 abbrev joined : Walked → List Own → Inside
 joined w os = record {
   segs = add_all (part w.last os).earlier w.segs ++ first_segment (w.nodes ++ (part w.last os).nodes) (here w os) (part w.last os).later;
   trailing = is_trailing w.trailing os;
-  end = cond (has_token os) [] w.behind ++ (part w.last os).end;
+  end = cond (has_token os) [] w.after ++ (part w.last os).end;
 }
 
 abbrev whole : Walked → List Own → Option Inside
@@ -93,44 +93,44 @@ each-more (r ∷ ts) before nodes t = each-more ts (before ++ r ∷ []) nodes t 
 
 -- the comments of a segment that ends at a comma
 abbrev at_comma : List (List ℕ) → Option (List ℕ) → List (List ℕ) → List (List ℕ) → List Comment
-at_comma before suffix behind ts = map plain before ++ (flagged true suffix ++ (map plain behind ++ map beside_comma ts))
+at_comma before suffix after ts = map plain before ++ (flagged true suffix ++ (map plain after ++ map beside_comma ts))
 
-segment_closed : (ts before : List (List ℕ)) (nodes : List Item) (suffix : Option (List ℕ)) (behind : List (List ℕ))
-    → add_each ts (segment (before ++ behind) nodes suffix) ≡ segment (before_of (at_comma before suffix behind ts)) nodes (suffix_of (at_comma before suffix behind ts))
-segment_closed ts before nodes (Some t) behind =
-    rw (before-plain before ((true, t) ∷ (map plain behind ++ map beside_comma ts)), suffix-plain before ((true, t) ∷ (map plain behind ++ map beside_comma ts)), texts-plain behind (map beside_comma ts), texts-beside ts)
-    (each-more ts (before ++ behind) nodes t ∙ ap (λ b. segment b nodes (Some t)) (append_assoc before behind ts))
-segment_closed [] before nodes None behind =
-    rw (append-nil (map plain behind), before-plain before (map plain behind), suffix-plain before (map plain behind))
-    (let b : before_of (map plain behind) ≡ behind = ap before_of (sym (append-nil (map plain behind))) ∙ before-plain behind [] ∙ append-nil behind in
-    let s : suffix_of (map plain behind) ≡ None = ap suffix_of (sym (append-nil (map plain behind))) ∙ suffix-plain behind [] in rw (b, s) refl)
-segment_closed (t ∷ ts) before nodes None behind =
-    rw (before-plain before (map plain behind ++ (true, t) ∷ map beside_comma ts), suffix-plain before (map plain behind ++ (true, t) ∷ map beside_comma ts), before-plain behind ((true, t) ∷ map beside_comma ts), suffix-plain behind ((true, t) ∷ map beside_comma ts), texts-beside ts)
-    (each-more ts (before ++ behind) nodes t ∙ ap (λ b. segment b nodes (Some t)) (append_assoc before behind ts))
+segment_closed : (ts before : List (List ℕ)) (nodes : List Item) (suffix : Option (List ℕ)) (after : List (List ℕ))
+    → add_each ts (segment (before ++ after) nodes suffix) ≡ segment (before_of (at_comma before suffix after ts)) nodes (suffix_of (at_comma before suffix after ts))
+segment_closed ts before nodes (Some t) after =
+    rw (before-plain before ((true, t) ∷ (map plain after ++ map beside_comma ts)), suffix-plain before ((true, t) ∷ (map plain after ++ map beside_comma ts)), texts-plain after (map beside_comma ts), texts-beside ts)
+    (each-more ts (before ++ after) nodes t ∙ ap (λ b. segment b nodes (Some t)) (append_assoc before after ts))
+segment_closed [] before nodes None after =
+    rw (append-nil (map plain after), before-plain before (map plain after), suffix-plain before (map plain after))
+    (let b : before_of (map plain after) ≡ after = ap before_of (sym (append-nil (map plain after))) ∙ before-plain after [] ∙ append-nil after in
+    let s : suffix_of (map plain after) ≡ None = ap suffix_of (sym (append-nil (map plain after))) ∙ suffix-plain after [] in rw (b, s) refl)
+segment_closed (t ∷ ts) before nodes None after =
+    rw (before-plain before (map plain after ++ (true, t) ∷ map beside_comma ts), suffix-plain before (map plain after ++ (true, t) ∷ map beside_comma ts), before-plain after ((true, t) ∷ map beside_comma ts), suffix-plain after ((true, t) ∷ map beside_comma ts), texts-beside ts)
+    (each-more ts (before ++ after) nodes t ∙ ap (λ b. segment b nodes (Some t)) (append_assoc before after ts))
 
 has_nodes-push : (xs : List Item) (x : Item) → has_nodes (xs ++ x ∷ []) ≡ true
 has_nodes-push [] x = refl
 has_nodes-push (y ∷ xs) x = refl
 
--- a comment beside the last node: nothing stands behind that yet
+-- a comment beside the last node: nothing stands after that yet
 abbrev Fits : Last → Option (List ℕ) → List (List ℕ) → Type 0
-Fits (end_of_node line) suffix behind = (suffix ≡ None) × (behind ≡ [])
-Fits _ suffix behind = Unit {0}
+Fits (end_of_node line) suffix after = (suffix ≡ None) × (after ≡ [])
+Fits _ suffix after = Unit {0}
 
 -- from the parts of what was walked over
 abbrev walked_of : List Segment → List (List ℕ) → List Item → Option (List ℕ) → List (List ℕ) → Last → Bool → Walked
-walked_of segs before nodes suffix behind last trailing = record { segs = segs; before = before; nodes = nodes; suffix = suffix; behind = behind; last = last; trailing = trailing }
+walked_of segs before nodes suffix after last trailing = record { segs = segs; before = before; nodes = nodes; suffix = suffix; after = after; last = last; trailing = trailing }
 
 at_end : (w : Walked) → done w ≡ joined w []
 at_end w = at_nodes w.nodes
   where
-    at_nodes : (nodes : List Item) → done (walked_of w.segs w.before nodes w.suffix w.behind w.last w.trailing) ≡ joined (walked_of w.segs w.before nodes w.suffix w.behind w.last w.trailing) []
-    at_nodes [] = rw (append-nil w.segs, append-nil w.behind) refl
+    at_nodes : (nodes : List Item) → done (walked_of w.segs w.before nodes w.suffix w.after w.last w.trailing) ≡ joined (walked_of w.segs w.before nodes w.suffix w.after w.last w.trailing) []
+    at_nodes [] = rw (append-nil w.segs, append-nil w.after) refl
     at_nodes (x ∷ xs) =
         let cs = flagged true w.suffix ++ [] in
         let b : before_of cs ≡ [] = no_before w.suffix in
         let s : suffix_of cs ≡ w.suffix = same_suffix w.suffix in
-        rw (append-nil w.behind, append-nil xs, before-plain w.before cs, suffix-plain w.before cs, b, s, append-nil w.before) refl
+        rw (append-nil w.after, append-nil xs, before-plain w.before cs, suffix-plain w.before cs, b, s, append-nil w.before) refl
       where
         no_before : (o : Option (List ℕ)) → before_of (flagged true o ++ []) ≡ []
         no_before None = refl
@@ -143,16 +143,16 @@ at_end w = at_nodes w.nodes
 at_node : (line : ℕ) (x : Item) (os : List Own) (w : Walked) → joined (after_node line x w) os ≡ joined w (node line x ∷ os)
 at_node line x os w =
     let q = part (end_of_node line) os in
-    let texts : map plain (w.before ++ (texts_of w.suffix ++ w.behind)) ++ (cond (has_token os) [] [] ++ q.comments) ≡ map plain w.before ++ (flagged false w.suffix ++ (map plain w.behind ++ q.comments)) =
-    rw (same_either {A = List Comment} (has_token os) [], map_plain w.before (texts_of w.suffix ++ w.behind), map_plain (texts_of w.suffix) w.behind, flagged_plain w.suffix) (simp append_assoc) in
+    let texts : map plain (w.before ++ (texts_of w.suffix ++ w.after)) ++ (cond (has_token os) [] [] ++ q.comments) ≡ map plain w.before ++ (flagged false w.suffix ++ (map plain w.after ++ q.comments)) =
+    rw (same_either {A = List Comment} (has_token os) [], map_plain w.before (texts_of w.suffix ++ w.after), map_plain (texts_of w.suffix) w.after, flagged_plain w.suffix) (simp append_assoc) in
     rw (texts, same_either {A = List (List ℕ)} (has_token os) [], append_assoc w.nodes (x ∷ []) q.nodes) refl
 
--- behind the nodes of a segment
-at_comma_is : (t : Placed) (os : List Own) (segs : List Segment) (before : List (List ℕ)) (x : Item) (xs : List Item) (suffix : Option (List ℕ)) (behind : List (List ℕ)) (last : Last) (trailing : Bool)
-    → joined (walked_of (segs ++ segment (before ++ behind) (x ∷ xs) suffix ∷ []) [] [] None [] (end_of_comma t.line) true) os ≡ joined (walked_of segs before (x ∷ xs) suffix behind last trailing) (comma t ∷ os)
-at_comma_is t os segs before x xs suffix behind last trailing =
+-- after the nodes of a segment
+at_comma_is : (t : Placed) (os : List Own) (segs : List Segment) (before : List (List ℕ)) (x : Item) (xs : List Item) (suffix : Option (List ℕ)) (after : List (List ℕ)) (last : Last) (trailing : Bool)
+    → joined (walked_of (segs ++ segment (before ++ after) (x ∷ xs) suffix ∷ []) [] [] None [] (end_of_comma t.line) true) os ≡ joined (walked_of segs before (x ∷ xs) suffix after last trailing) (comma t ∷ os)
+at_comma_is t os segs before x xs suffix after last trailing =
     let q = part (end_of_comma t.line) os in
-    rw (same_either {A = List Comment} (has_token os) [], same_either {A = List (List ℕ)} (has_token os) [], append-nil xs, add_all-push q.earlier segs (segment (before ++ behind) (x ∷ xs) suffix), segment_closed q.earlier before (x ∷ xs) suffix behind)
+    rw (same_either {A = List Comment} (has_token os) [], same_either {A = List (List ℕ)} (has_token os) [], append-nil xs, add_all-push q.earlier segs (segment (before ++ after) (x ∷ xs) suffix), segment_closed q.earlier before (x ∷ xs) suffix after)
     (ap (λ ss. record { segs = ss; trailing = is_trailing true os; end = q.end }) (append_assoc segs _ (segments q)))
 
 -- a comment on the line on which a node ends
@@ -162,39 +162,39 @@ at_note-node end line text os segs before nodes trailing on =
     rw (on, same_either {A = List Comment} (has_token os) [], same_either {A = List (List ℕ)} (has_token os) []) refl
 
 -- a comment on a comma's line
-at_note-comma : (end line : ℕ) (text : List ℕ) (os : List Own) (segs : List Segment) (before : List (List ℕ)) (nodes : List Item) (suffix : Option (List ℕ)) (behind : List (List ℕ)) (trailing : Bool) → (end == line) ≡ true
-    → joined (walked_of (to_last text segs) before nodes suffix behind no_token trailing) os ≡ joined (walked_of segs before nodes suffix behind (end_of_comma end) trailing) (note line text ∷ os)
-at_note-comma end line text os segs before nodes suffix behind trailing on = rw on refl
+at_note-comma : (end line : ℕ) (text : List ℕ) (os : List Own) (segs : List Segment) (before : List (List ℕ)) (nodes : List Item) (suffix : Option (List ℕ)) (after : List (List ℕ)) (trailing : Bool) → (end == line) ≡ true
+    → joined (walked_of (to_last text segs) before nodes suffix after no_token trailing) os ≡ joined (walked_of segs before nodes suffix after (end_of_comma end) trailing) (note line text ∷ os)
+at_note-comma end line text os segs before nodes suffix after trailing on = rw on refl
 
 -- any other comment
 at_note-alone : (last : Last) (line : ℕ) (text : List ℕ) (os : List Own) (w : Walked) → is_on last line ≡ false → is_after_comma last line ≡ false
-    → joined (walked_of w.segs w.before w.nodes w.suffix (w.behind ++ text ∷ []) no_token w.trailing) os ≡ joined (walked_of w.segs w.before w.nodes w.suffix w.behind last w.trailing) (note line text ∷ os)
+    → joined (walked_of w.segs w.before w.nodes w.suffix (w.after ++ text ∷ []) no_token w.trailing) os ≡ joined (walked_of w.segs w.before w.nodes w.suffix w.after last w.trailing) (note line text ∷ os)
 at_note-alone last line text os w off apart = rw (off, apart) (at_rest (has_token os) refl)
   where
     at_rest : (b : Bool) → has_token os ≡ b
-        → joined (walked_of w.segs w.before w.nodes w.suffix (w.behind ++ text ∷ []) no_token w.trailing) os
+        → joined (walked_of w.segs w.before w.nodes w.suffix (w.after ++ text ∷ []) no_token w.trailing) os
         ≡ (let p = with_comment (cond (not (has_token os)) the_end segment_here) (false, text) (part no_token os) in
         record {
-          segs = add_all p.earlier w.segs ++ first_segment (w.nodes ++ p.nodes) (map plain w.before ++ (flagged (not (goes_on os)) w.suffix ++ (cond (has_token os) (map plain w.behind) [] ++ p.comments))) p.later;
+          segs = add_all p.earlier w.segs ++ first_segment (w.nodes ++ p.nodes) (map plain w.before ++ (flagged (not (goes_on os)) w.suffix ++ (cond (has_token os) (map plain w.after) [] ++ p.comments))) p.later;
           trailing = is_trailing w.trailing os;
-          end = cond (has_token os) [] w.behind ++ p.end;
+          end = cond (has_token os) [] w.after ++ p.end;
         })
-    at_rest true has = rw has (let more : map plain (w.behind ++ text ∷ []) ++ (part no_token os).comments ≡ map plain w.behind ++ (false, text) ∷ (part no_token os).comments = rw (map_plain w.behind (text ∷ [])) (append_assoc (map plain w.behind) _ _) in rw more refl)
-    at_rest false has = rw has (rw (append_assoc w.behind (text ∷ []) (part no_token os).end) refl)
+    at_rest true has = rw has (let more : map plain (w.after ++ text ∷ []) ++ (part no_token os).comments ≡ map plain w.after ++ (false, text) ∷ (part no_token os).comments = rw (map_plain w.after (text ∷ [])) (append_assoc (map plain w.after) _ _) in rw more refl)
+    at_rest false has = rw has (rw (append_assoc w.after (text ∷ []) (part no_token os).end) refl)
 
-abbrev behind_last : Walked → Last → Walked
-behind_last w last = walked_of w.segs w.before w.nodes w.suffix w.behind last w.trailing
+abbrev after_last : Walked → Last → Walked
+after_last w last = walked_of w.segs w.before w.nodes w.suffix w.after last w.trailing
 
-noted_is : (last : Last) (b : Bool) (line : ℕ) (text : List ℕ) (os : List Own) (w : Walked) → is_on last line ≡ b → Fits last w.suffix w.behind
-    → joined (noted last b text (behind_last w last)) os ≡ joined (behind_last w last) (note line text ∷ os)
+noted_is : (last : Last) (b : Bool) (line : ℕ) (text : List ℕ) (os : List Own) (w : Walked) → is_on last line ≡ b → Fits last w.suffix w.after
+    → joined (noted last b text (after_last w last)) os ≡ joined (after_last w last) (note line text ∷ os)
 noted_is no_token true line text os w on fits = at_note-alone no_token line text os w refl refl
 noted_is no_token false line text os w on fits = at_note-alone no_token line text os w refl refl
 noted_is (end_of_node end) true line text os w on fits = rw (fits.0, fits.1) (at_note-node end line text os w.segs w.before w.nodes w.trailing on)
 noted_is (end_of_node end) false line text os w off fits = at_note-alone (end_of_node end) line text os w off refl
-noted_is (end_of_comma end) true line text os w on fits = at_note-comma end line text os w.segs w.before w.nodes w.suffix w.behind w.trailing on
+noted_is (end_of_comma end) true line text os w on fits = at_note-comma end line text os w.segs w.before w.nodes w.suffix w.after w.trailing on
 noted_is (end_of_comma end) false line text os w off fits = at_note-alone (end_of_comma end) line text os w off off
 
-at_note : (line : ℕ) (text : List ℕ) (os : List Own) (w : Walked) → Fits w.last w.suffix w.behind → joined (after_note line text w) os ≡ joined w (note line text ∷ os)
+at_note : (line : ℕ) (text : List ℕ) (os : List Own) (w : Walked) → Fits w.last w.suffix w.after → joined (after_note line text w) os ≡ joined w (note line text ∷ os)
 at_note line text os w fits = noted_is w.last (is_on w.last line) line text os w refl fits
 
 noted_nodes : (last : Last) (b : Bool) (text : List ℕ) (w : Walked) → (noted last b text w).nodes ≡ w.nodes
@@ -205,7 +205,7 @@ noted_nodes (end_of_node end) false text w = refl
 noted_nodes (end_of_comma end) true text w = refl
 noted_nodes (end_of_comma end) false text w = refl
 
-noted_fits : (last : Last) (b : Bool) (text : List ℕ) (w : Walked) → Fits (noted last b text w).last (noted last b text w).suffix (noted last b text w).behind
+noted_fits : (last : Last) (b : Bool) (text : List ℕ) (w : Walked) → Fits (noted last b text w).last (noted last b text w).suffix (noted last b text w).after
 noted_fits no_token true text w = tt
 noted_fits no_token false text w = tt
 noted_fits (end_of_node end) true text w = tt
@@ -214,15 +214,15 @@ noted_fits (end_of_comma end) true text w = tt
 noted_fits (end_of_comma end) false text w = tt
 
 -- the walk, from any place on
-walk_is : (os : List Own) (w : Walked) → Fits w.last w.suffix w.behind → walk w os ≡ whole w os
+walk_is : (os : List Own) (w : Walked) → Fits w.last w.suffix w.after → walk w os ≡ whole w os
 walk_is [] w fits = ap Some (at_end w)
 walk_is (node line x ∷ os) w fits = walk_is os (after_node line x w) (refl, refl) ∙ rw (has_nodes-push w.nodes x, at_node line x os w) refl
 walk_is (comma t ∷ os) w fits = at_nodes w.nodes (λ v f. walk_is os v f)
   where
-    at_nodes : (nodes : List Item) → ((v : Walked) → Fits v.last v.suffix v.behind → walk v os ≡ whole v os) → walk (walked_of w.segs w.before nodes w.suffix w.behind w.last w.trailing) (comma t ∷ os) ≡ whole (walked_of w.segs w.before nodes w.suffix w.behind w.last w.trailing) (comma t ∷ os)
+    at_nodes : (nodes : List Item) → ((v : Walked) → Fits v.last v.suffix v.after → walk v os ≡ whole v os) → walk (walked_of w.segs w.before nodes w.suffix w.after w.last w.trailing) (comma t ∷ os) ≡ whole (walked_of w.segs w.before nodes w.suffix w.after w.last w.trailing) (comma t ∷ os)
     at_nodes [] more = refl
-    at_nodes (x ∷ xs) more = more (walked_of (w.segs ++ segment (w.before ++ w.behind) (x ∷ xs) w.suffix ∷ []) [] [] None [] (end_of_comma t.line) true) tt
-        ∙ rw (at_comma_is t os w.segs w.before x xs w.suffix w.behind w.last w.trailing) refl
+    at_nodes (x ∷ xs) more = more (walked_of (w.segs ++ segment (w.before ++ w.after) (x ∷ xs) w.suffix ∷ []) [] [] None [] (end_of_comma t.line) true) tt
+        ∙ rw (at_comma_is t os w.segs w.before x xs w.suffix w.after w.last w.trailing) refl
 walk_is (note line text ∷ os) w fits =
     let nodes = noted_nodes w.last (is_on w.last line) text w in
     let same = at_note line text os w fits in

@@ -6,9 +6,9 @@ use Rattle.bz_tree.specs.Tree.{Segment, Statement, items_of}
 use Rattle.bz_tree.specs.Kinds.{mark_of}
 use Rattle.bz_tree.specs.Brackets.{end_line, is_line, without_lines}
 use Rattle.bz_tree.specs.Statement.{is_aside, bare_tokens, last_of, EndsFit, statement_with}
-use Rattle.bz_tree.specs.Machine.{is_statement}
+use Rattle.bz_tree.specs.private.Machine.{is_statement}
 use Rattle.bz_tree.specs.Chunk.{IsPlain}
-use Rattle.bz_tree.specs.Steps.{new_level, run}
+use Rattle.bz_tree.specs.private.Steps.{new_level, run}
 use Rattle.bz_tree.proofs.Sound.{answer_is_statement, answer_is_only, no_answer}
 use Rattle.bz_tree.proofs.Recognized.{statement_accepted, accepted_statement}
 

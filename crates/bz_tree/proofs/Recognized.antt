@@ -10,7 +10,7 @@ use Rattle.bz_tree.specs.declared.stage.Stage.TheVariants.{Wants}
 use Rattle.bz_tree.specs.Tree.{Item, leaf, group, Items, no_items, item, Segs, no_segs, seg}
 use Rattle.bz_tree.specs.Statement.{is_load_word}
 use Rattle.bz_tree.specs.Grammar.{token_role, leaf_role, is_assignment, join, IsExpr, last_test, test, IsString, string, IsLoadArg, loaded, renamed, AreLoadArgs, no_load_arg, load_arg, IsLoad, load, IsStatement, comments, load_statement, expression, assignment}
-use Rattle.bz_tree.specs.Machine.{accepts, role_of, behind_part, is_value, is_name, is_equals, is_string_item, is_string, is_renamed, is_load_argument, are_load_arguments, are_loaded, is_load_group, is_load, is_nothing, is_statement}
+use Rattle.bz_tree.specs.private.Machine.{accepts, role_of, after_part, is_value, is_name, is_equals, is_string_item, is_string, is_renamed, is_load_argument, are_load_arguments, are_loaded, is_load_group, is_load, is_nothing, is_statement}
 use Rattle.bz_tree.proofs.Accepted.{join_assoc, both, role_known, leave, whole, Accepts, is_test_part, test_run}
 use Rattle.bz_tree.proofs.Meant.{Sides, one_side, two_sides, statement_means, named_token, equals_token}
 
@@ -27,7 +27,7 @@ or_cases true b h = inl refl
 or_cases false b h = inr h
 
 -- expressions
-expr_run : {xs : Items} → IsExpr xs → (p : Part) (r : Items) → is_test_part p ≡ true → behind_part p Comma ≡ Wants p false → Accepts p false r → accepts (Wants p false) (join xs r) ≡ true
+expr_run : {xs : Items} → IsExpr xs → (p : Part) (r : Items) → is_test_part p ≡ true → after_part p Comma ≡ Wants p false → Accepts p false r → accepts (Wants p false) (join xs r) ≡ true
 expr_run (last_test t) p r of_test e acc = test_run t p r of_test acc
 expr_run (test {xs} {a} {b} c is t rc more) p r of_test e acc =
     rw (is, join_assoc a (item c b) r) (test_run t p (item c (join b r)) of_test (leave p false c (join b r) Comma (Wants p false) (role_known c Comma rc refl) e e (expr_run more p r of_test e acc)))

@@ -5,17 +5,17 @@ use Rattle.bz_tree.specs.declared.kinds.Shape.{Shape}
 use Rattle.bz_tree.specs.declared.kinds.Shape.TheVariants.{Round, Square, Curly}
 use Rattle.bz_tree.specs.declared.kinds.Mark.{Mark}
 use Rattle.bz_tree.specs.declared.kinds.Mark.TheVariants.{Open, Close, Comma, Comment, NewLine, Plain}
-use Rattle.bz_tree.specs.declared.kinds.Behind.{Behind}
-use Rattle.bz_tree.specs.declared.kinds.Behind.TheVariants.{Other}
+use Rattle.bz_tree.specs.declared.kinds.Preceding.{Preceding}
+use Rattle.bz_tree.specs.declared.kinds.Preceding.TheVariants.{Other}
 use Rattle.bz_token.specs.Places.{Placed}
 use Rattle.bz_tree.specs.Tree.{Item, Segment, Statement}
 use Rattle.bz_tree.specs.Kinds.{mark_of, group_kind, is_one, same_shape}
 use Rattle.bz_tree.specs.Owners.{Own, node, inside, no_empty}
-use Rattle.bz_tree.specs.Brackets.{Elem, single, bracket, Elems, no_elems, elem, elem_tokens, elems_tokens, has_for, group_of, group_with, own_items, own_of, behind, elem_own, elems_own, is_single, is_line, IsWell, AreWell, without_lines}
+use Rattle.bz_tree.specs.Brackets.{Elem, single, bracket, Elems, no_elems, elem, elem_tokens, elems_tokens, has_for, group_of, group_with, own_items, own_of, preceding, elem_own, elems_own, is_single, is_line, IsWell, AreWell, without_lines}
 use Rattle.bz_tree.specs.Statement.{segment_of, statement_with, IsStatementOf}
-use Rattle.bz_tree.specs.Steps.{Level, Levels, with_own, new_level, closed, next_at, next, finish, run}
+use Rattle.bz_tree.specs.private.Steps.{Level, Levels, with_own, new_level, closed, next_at, next, finish, run}
 use Rattle.bz_tree.proofs.OneBracket.{inside_found}
-use Rattle.bz_tree.proofs.Complete.{behind_all, top_found, statement_found}
+use Rattle.bz_tree.proofs.Complete.{after_all, top_found, statement_found}
 
 abbrev elems_of : List Elem → Elems
 elems_of [] = no_elems
@@ -30,7 +30,7 @@ record Raw : Type 0 where
   elems : List Elem
 
 abbrev image : Raw → Level
-image r = record { shape = option_map (λ (o : Shape × Placed). o.0) r.opening; owns = owns_of r.elems; at = behind_all Other (owns_of r.elems) }
+image r = record { shape = option_map (λ (o : Shape × Placed). o.0) r.opening; owns = owns_of r.elems; at = after_all Other (owns_of r.elems) }
 
 abbrev opening_tokens : Option (Shape × Placed) → List Placed
 opening_tokens None = []
@@ -62,26 +62,26 @@ elems_tokens-push : (xs : List Elem) (x : Elem) → elems_tokens (elems_of (xs +
 elems_tokens-push [] x = append-nil (elem_tokens x)
 elems_tokens-push (y ∷ xs) x = rw (elems_tokens-push xs x, append_assoc) refl
 
-abbrev behind_elems : Behind → List Elem → Behind
-behind_elems b xs = behind_all b (elems_own b (elems_of xs))
+abbrev after_elems : Preceding → List Elem → Preceding
+after_elems b xs = after_all b (elems_own b (elems_of xs))
 
-elems_own-push : (xs : List Elem) (b : Behind) (x : Elem) → elems_own b (elems_of (xs ++ x ∷ [])) ≡ elems_own b (elems_of xs) ++ elem_own (behind_elems b xs) x ∷ []
+elems_own-push : (xs : List Elem) (b : Preceding) (x : Elem) → elems_own b (elems_of (xs ++ x ∷ [])) ≡ elems_own b (elems_of xs) ++ elem_own (after_elems b xs) x ∷ []
 elems_own-push [] b x = refl
-elems_own-push (y ∷ xs) b x = ap (λ os. elem_own b y ∷ os) (elems_own-push xs (behind b (elem_own b y)) x)
+elems_own-push (y ∷ xs) b x = ap (λ os. elem_own b y ∷ os) (elems_own-push xs (preceding b (elem_own b y)) x)
 
-behind_all-push : (os : List Own) (b : Behind) (o : Own) → behind_all b (os ++ o ∷ []) ≡ behind (behind_all b os) o
-behind_all-push [] b o = refl
-behind_all-push (p ∷ os) b o = behind_all-push os (behind b p) o
+after_all-push : (os : List Own) (b : Preceding) (o : Own) → after_all b (os ++ o ∷ []) ≡ preceding (after_all b os) o
+after_all-push [] b o = refl
+after_all-push (p ∷ os) b o = after_all-push os (preceding b p) o
 
-AreWell-push : (xs : List Elem) (b : Behind) (x : Elem) → AreWell b (elems_of xs) → IsWell (behind_elems b xs) x → AreWell b (elems_of (xs ++ x ∷ []))
+AreWell-push : (xs : List Elem) (b : Preceding) (x : Elem) → AreWell b (elems_of xs) → IsWell (after_elems b xs) x → AreWell b (elems_of (xs ++ x ∷ []))
 AreWell-push [] b x all here = (here, tt)
-AreWell-push (y ∷ xs) b x all here = (all.0, AreWell-push xs (behind b (elem_own b y)) x all.1 here)
+AreWell-push (y ∷ xs) b x all here = (all.0, AreWell-push xs (preceding b (elem_own b y)) x all.1 here)
 
 abbrev with_elem : Raw → Elem → Raw
 with_elem r x = record { opening = r.opening; elems = r.elems ++ x ∷ [] }
 
-image-push : (r : Raw) (x : Elem) → image (with_elem r x) ≡ with_own (image r) (elem_own (behind_elems Other r.elems) x)
-image-push r x = rw (elems_own-push r.elems Other x, behind_all-push (owns_of r.elems) Other (elem_own (behind_elems Other r.elems) x)) refl
+image-push : (r : Raw) (x : Elem) → image (with_elem r x) ≡ with_own (image r) (elem_own (after_elems Other r.elems) x)
+image-push r x = rw (elems_own-push r.elems Other x, after_all-push (owns_of r.elems) Other (elem_own (after_elems Other r.elems) x)) refl
 
 -- the steps over these tokens lead to these levels
 record Leads (top : Raw) (outer : List Raw) (ts : List Placed) (new : Levels) : Type 0 where
@@ -98,8 +98,8 @@ none_is_some x e = cc
 pub some_injective : {A : Type 0} (x y : A) → Some x ≡ Some y → x ≡ y
 some_injective x y e = cc
 
-push_leads : (top : Raw) (outer : List Raw) (x : Elem) (ts : List Placed) (new : Levels) → elem_tokens x ≡ ts → IsWell (behind_elems Other top.elems) x → IsWellRaw top → AreWellRaws outer
-    → (with_own (image top) (elem_own (behind_elems Other top.elems) x), map image outer) ≡ new → Leads top outer ts new
+push_leads : (top : Raw) (outer : List Raw) (x : Elem) (ts : List Placed) (new : Levels) → elem_tokens x ≡ ts → IsWell (after_elems Other top.elems) x → IsWellRaw top → AreWellRaws outer
+    → (with_own (image top) (elem_own (after_elems Other top.elems) x), map image outer) ≡ new → Leads top outer ts new
 push_leads top outer x ts new tokens here well wells is = record {
   raw = with_elem top x;
   raws = outer;
@@ -127,10 +127,10 @@ same_shape_is (Some Curly) Round h = absurd (false≢true h)
 same_shape_is (Some Curly) Square h = absurd (false≢true h)
 
 -- a bracket that could be closed
-abbrev items_at : Shape → Behind → List Own → List Own
+abbrev items_at : Shape → Preceding → List Own → List Own
 items_at s b owns = own_items (is_one (group_kind s b (has_for owns))) owns
 
-closed_is : (s : Shape) (b : Behind) (owns : List Own) (g : Item) (e : Bool) → no_empty false (items_at s b owns) ≡ e → closed s b owns ≡ Some g
+closed_is : (s : Shape) (b : Preceding) (owns : List Own) (g : Item) (e : Bool) → no_empty false (items_at s b owns) ≡ e → closed s b owns ≡ Some g
     → (no_empty false (items_at s b owns) ≡ true) × (group_of (group_kind s b (has_for owns)) owns ≡ g)
 closed_is s b owns g e is same =
     let os = items_at s b owns in
@@ -145,10 +145,10 @@ closed_is s b owns g e is same =
 abbrev in_bracket : Shape → Placed → List Elem → Raw
 in_bracket s opening elems = record { opening = Some (s, opening); elems = elems }
 
-close_leads : (s : Shape) (t opening : Placed) (elems : List Elem) (below : Raw) (outer : List Raw) (g : Item) (new : Levels) → mark_of t ≡ Close s → closed s (behind_elems Other below.elems) (owns_of elems) ≡ Some g
+close_leads : (s : Shape) (t opening : Placed) (elems : List Elem) (below : Raw) (outer : List Raw) (g : Item) (new : Levels) → mark_of t ≡ Close s → closed s (after_elems Other below.elems) (owns_of elems) ≡ Some g
     → (with_own (image below) (node t.line g), map image outer) ≡ new → IsWellRaw (in_bracket s opening elems) → IsWellRaw below → AreWellRaws outer → Leads (in_bracket s opening elems) (below ∷ outer) (t ∷ []) new
 close_leads s t opening elems below outer g new marked is same well well_below wells =
-    let found = closed_is s (behind_elems Other below.elems) (owns_of elems) g _ refl is in
+    let found = closed_is s (after_elems Other below.elems) (owns_of elems) g _ refl is in
     let x = bracket s opening (elems_of elems) t in
     let led = push_leads below outer x (elem_tokens x) new refl (well.0, marked, well.1, found.0) well_below wells (ap (λ (h : Item). (with_own (image below) (node t.line h), map image outer)) found.1 ∙ same) in
     record {
@@ -186,19 +186,19 @@ next_leads (Open s) t is top outer new same well wells = record {
 next_leads (Close s) t is top [] new same well wells = absurd (none_is_some new same)
 next_leads (Close s) t is top (below ∷ outer) new same well wells = at_opening top.opening well same
   where
-    at_group : (opening : Placed) → (o : Option Item) → closed s (behind_elems Other below.elems) (owns_of top.elems) ≡ o → IsWellRaw (in_bracket s opening top.elems)
+    at_group : (opening : Placed) → (o : Option Item) → closed s (after_elems Other below.elems) (owns_of top.elems) ≡ o → IsWellRaw (in_bracket s opening top.elems)
         → option_map (λ g. (with_own (image below) (node t.line g), map image outer)) o ≡ Some new → Leads (in_bracket s opening top.elems) (below ∷ outer) (t ∷ []) new
     at_group opening None found well same = absurd (none_is_some new same)
     at_group opening (Some g) found well same = close_leads s t opening top.elems below outer g new is found (some_injective _ new same) well wells.0 wells.1
 
     at_shape : (r : Shape) (opening : Placed) (fits : Bool) → same_shape (Some r) s ≡ fits → IsWellRaw (in_bracket r opening top.elems)
-        → cond fits (option_map (λ g. (with_own (image below) (node t.line g), map image outer)) (closed s (behind_elems Other below.elems) (owns_of top.elems))) None ≡ Some new
+        → cond fits (option_map (λ g. (with_own (image below) (node t.line g), map image outer)) (closed s (after_elems Other below.elems) (owns_of top.elems))) None ≡ Some new
         → Leads (in_bracket r opening top.elems) (below ∷ outer) (t ∷ []) new
     at_shape r opening false fits well same = absurd (none_is_some new same)
     at_shape r opening true fits well same =
         let e : r ≡ s = some_injective r s (same_shape_is (Some r) s fits) in
         let w : IsWellRaw (in_bracket s opening top.elems) = subst (λ q. IsWellRaw (in_bracket q opening top.elems)) e well in
-        subst (λ q. Leads (in_bracket q opening top.elems) (below ∷ outer) (t ∷ []) new) (sym e) (at_group opening (closed s (behind_elems Other below.elems) (owns_of top.elems)) refl w same)
+        subst (λ q. Leads (in_bracket q opening top.elems) (below ∷ outer) (t ∷ []) new) (sym e) (at_group opening (closed s (after_elems Other below.elems) (owns_of top.elems)) refl w same)
 
     at_opening : (o : Option (Shape × Placed)) → IsWellRaw (record { opening = o; elems = top.elems }) → next_at (Close s) t (image (record { opening = o; elems = top.elems })) (map image (below ∷ outer)) ≡ Some new
         → Leads (record { opening = o; elems = top.elems }) (below ∷ outer) (t ∷ []) new

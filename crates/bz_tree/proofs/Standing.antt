@@ -9,7 +9,7 @@ use Rattle.bz_token.specs.declared.token.Kind.{Kind}
 use Rattle.bz_token.specs.declared.token.Kind.TheVariants.{Word, Sign, Line}
 use Rattle.bz_token.specs.Places.{Placed, line_at}
 use Rattle.bz_token.specs.Lexical.{is_text}
-use Rattle.bz_token.specs.Brackets.{is_inside, open_behind}
+use Rattle.bz_token.specs.Brackets.{is_inside, open_after_token}
 use Rattle.bz_token.specs.Reading.{is_white, is_gap, continues_gap, Piece, IsReading, token_of, tokens_of, AreTokensOf}
 use Rattle.bz_tree.specs.declared.kinds.Shape.TheVariants.{Round, Square, Curly}
 use Rattle.bz_tree.specs.declared.kinds.Mark.TheVariants.{Open, Close, Comma, Plain}
@@ -17,7 +17,7 @@ use Rattle.bz_tree.specs.Kinds.{sign_mark, kind_mark, mark_of}
 use Rattle.bz_tree.specs.Brackets.{is_line, without_lines}
 use Rattle.bz_tree.specs.Statement.{is_aside, bare_tokens, first_of, last_of, EndsFit}
 use Rattle.bz_tree.specs.Blocks.{IsAt, is_block_word_at}
-use Rattle.bz_tree.specs.BlockSteps.{IsAsciiFront, AreStanding}
+use Rattle.bz_tree.specs.private.BlockSteps.{IsAsciiFront, AreStanding}
 use Rattle.bz_tree.proofs.KeptText.{newlines, newlines_are}
 use Rattle.bz_tree.proofs.Sound.{none_is_some, some_injective}
 
@@ -41,7 +41,7 @@ ends_in first (p ∷ ps) depth before lines opened bs rest reading fits =
     let here : first + count_by (λ b. b == 10) (before ++ p.gap) + count_by (λ b. b == 10) p.text < 2 ^ 64 =
     omega (arith, fits, ap newlines parts, n, k, newlines_are (before ++ p.gap), newlines_are p.text) in
     let more : first + newlines ((before ++ (p.gap ++ p.text)) ++ after) < 2 ^ 64 = omega (arith, fits, ap newlines all) in
-    (here, ends_in first ps depth (before ++ (p.gap ++ p.text)) (line_at first (before ++ p.gap) ∷ lines) (open_behind opened p.text) after rest reading.2 more)
+    (here, ends_in first ps depth (before ++ (p.gap ++ p.text)) (line_at first (before ++ p.gap) ∷ lines) (open_after_token opened p.text) after rest reading.2 more)
 
 pub ends_fit : (first depth : ℕ) (bytes : List ℕ) (tokens : List Placed) → AreTokensOf first depth bytes tokens → first + count_by (λ b. b == 10) bytes < 2 ^ 64 → EndsFit tokens
 ends_fit first depth bytes tokens is fits =
@@ -89,7 +89,7 @@ front_of : (gap more : List ℕ) → IsAsciiFront gap → IsAsciiFront more → 
 front_of [] more g m = m
 front_of (b ∷ gap) more g m = g
 
--- behind the last token stand newlines and white space
+-- after the last token stand newlines and white space
 empty_line : (l : Bool) (t : Placed) (ts : List Placed) → cond l ts (t ∷ ts) ≡ [] → l ≡ true
 empty_line true t ts e = refl
 empty_line false t ts e = cc
@@ -128,7 +128,7 @@ record LastIn (first : ℕ) (before bs : List ℕ) (last : Placed) : Type 0 wher
   is_at : IsAt first (before ++ front) last
   at_end : IsAsciiFront after
 
--- a token, and nothing but newlines behind it
+-- a token, and nothing but newlines after it
 last_here : (first : ℕ) (p : Piece) (before lines bs after : List ℕ) (last : Placed) → bs ≡ p.gap ++ (p.text ++ after) → token_of first (before ++ p.gap) lines p ≡ last → IsAsciiFront after → LastIn first before bs last
 last_here first p before lines bs after last is here ascii = record {
   front = p.gap;
@@ -156,10 +156,10 @@ last_from : (first : ℕ) (p : Piece) (ps : List Piece) → LastFound first ps �
     → or_else (Some (token_of first (before ++ p.gap) lines p)) l ≡ Some last → LastIn first before bs last
 last_from first p ps more depth before lines opened bs rest last reading gap None found is =
     last_here first p before lines bs reading.0 last reading.1.bytes_are (some_injective _ last is)
-    (blank_front first ps depth (before ++ (p.gap ++ p.text)) (line_at first (before ++ p.gap) ∷ lines) (open_behind opened p.text) reading.0 rest reading.2 gap (none_empty _ found))
+    (blank_front first ps depth (before ++ (p.gap ++ p.text)) (line_at first (before ++ p.gap) ∷ lines) (open_after_token opened p.text) reading.0 rest reading.2 gap (none_empty _ found))
 last_from first p ps more depth before lines opened bs rest last reading gap (Some u) found is =
     last_later first p before bs reading.0 last reading.1.bytes_are
-    (more depth (before ++ (p.gap ++ p.text)) (line_at first (before ++ p.gap) ∷ lines) (open_behind opened p.text) reading.0 rest last reading.2 gap (found ∙ is))
+    (more depth (before ++ (p.gap ++ p.text)) (line_at first (before ++ p.gap) ∷ lines) (open_after_token opened p.text) reading.0 rest last reading.2 gap (found ∙ is))
 
 last_found : (first : ℕ) (ps : List Piece) → LastFound first ps
 last_found first [] = λ depth before lines opened bs rest last reading gap is. absurd (none_is_some last is)
@@ -170,7 +170,7 @@ last_found first (p ∷ ps) = λ depth before lines opened bs rest last reading 
         → LastIn first before bs last
     at_line true more depth before lines opened bs rest last reading gap is =
         last_later first p before bs reading.0 last reading.1.bytes_are
-        (more depth (before ++ (p.gap ++ p.text)) (line_at first (before ++ p.gap) ∷ lines) (open_behind opened p.text) reading.0 rest last reading.2 gap is)
+        (more depth (before ++ (p.gap ++ p.text)) (line_at first (before ++ p.gap) ∷ lines) (open_after_token opened p.text) reading.0 rest last reading.2 gap is)
     at_line false more depth before lines opened bs rest last reading gap is =
         let ts = without_lines (tokens_of first (before ++ (p.gap ++ p.text)) (line_at first (before ++ p.gap) ∷ lines) ps) in
         last_from first p ps more depth before lines opened bs rest last reading gap (last_of None ts) refl (sym (last_or (Some (token_of first (before ++ p.gap) lines p)) ts) ∙ is)
@@ -266,10 +266,10 @@ both_from : (first : ℕ) (p : Piece) (ps : List Piece) (depth : ℕ) (before li
     → or_else (Some (token_of first (before ++ p.gap) lines p)) l ≡ Some last → BothIn first before bs header last
 both_from first p ps depth before lines opened bs rest header last reading gap here None found is =
     both_one first p before lines bs reading.0 header last reading.1.bytes_are here (some_injective _ last is)
-    (blank_front first ps depth (before ++ (p.gap ++ p.text)) (line_at first (before ++ p.gap) ∷ lines) (open_behind opened p.text) reading.0 rest reading.2 gap (none_empty _ found))
+    (blank_front first ps depth (before ++ (p.gap ++ p.text)) (line_at first (before ++ p.gap) ∷ lines) (open_after_token opened p.text) reading.0 rest reading.2 gap (none_empty _ found))
 both_from first p ps depth before lines opened bs rest header last reading gap here (Some u) found is =
     both_here first p before lines bs reading.0 header last reading.1.bytes_are here
-    (last_found first ps depth (before ++ (p.gap ++ p.text)) (line_at first (before ++ p.gap) ∷ lines) (open_behind opened p.text) reading.0 rest last reading.2 gap (found ∙ is))
+    (last_found first ps depth (before ++ (p.gap ++ p.text)) (line_at first (before ++ p.gap) ∷ lines) (open_after_token opened p.text) reading.0 rest last reading.2 gap (found ∙ is))
 
 -- a token that counts is no newline
 counted_mark : (kind : Kind) (t : List ℕ) → is_aside kind ≡ false → is_line (kind_mark kind t) ≡ false
@@ -287,7 +287,7 @@ both_found first (p ∷ ps) = λ depth before lines opened bs rest header last r
         → BothIn first before bs header last
     at_kind true e more depth before lines opened bs rest header last reading gap some is =
         both_later first p before bs reading.0 header last reading.1.bytes_are
-        (more depth (before ++ (p.gap ++ p.text)) (line_at first (before ++ p.gap) ∷ lines) (open_behind opened p.text) reading.0 rest header last reading.2 gap some
+        (more depth (before ++ (p.gap ++ p.text)) (line_at first (before ++ p.gap) ∷ lines) (open_after_token opened p.text) reading.0 rest header last reading.2 gap some
         (later_last (is_line (kind_mark p.kind p.text)) (token_of first (before ++ p.gap) lines p) (tokens_of first (before ++ (p.gap ++ p.text)) (line_at first (before ++ p.gap) ∷ lines) ps) header last some is))
     at_kind false e more depth before lines opened bs rest header last reading gap some is =
         let t = token_of first (before ++ p.gap) lines p in

@@ -17,7 +17,7 @@ AreWritten first before (t ∷ ts) bytes =
     (gap : List ℕ) × (rest : List ℕ) × (bytes ≡ gap ++ (t.text ++ rest)) × (is_gap true gap ≡ true) × IsAt first (before ++ gap) t
     × AreWritten first (before ++ (gap ++ t.text)) ts rest
 
--- The tokens of a block are comments and newlines above it, those from its first word on, and newlines behind it. The comments above
+-- The tokens of a block are comments and newlines above it, those from its first word on, and newlines after it. The comments above
 -- are the statement's own; the text that is kept is the tokens from the first word on, their comments with them.
 pub record AreKept (first : ℕ) (bytes : List ℕ) (tokens : List Placed) (s : Statement) : Type 0 where
   pub above : List Placed

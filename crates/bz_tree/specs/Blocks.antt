@@ -50,7 +50,7 @@ abbrev pub pushed : ℕ → List ℕ → Option (List ℕ)
 pushed column [] = Some (column ∷ [])
 pushed column (c ∷ columns) = if nat_lt c column then Some (column ∷ c ∷ columns) else None
 
--- The stack behind the first token of a line: behind a line that ends with `:` it stands deeper than the innermost line, else on a
+-- The stack after the first token of a line: after a line that ends with `:` it stands deeper than the innermost line, else on a
 -- column of the stack. None: it is indented wrongly.
 abbrev pub indented : Bool → ℕ → List ℕ → Option (List ℕ)
 indented true column columns = pushed column columns
@@ -81,15 +81,15 @@ header_line [] = []
 header_line ([] ∷ lines) = header_line lines
 header_line ((t ∷ ts) ∷ lines) = t ∷ ts
 
-abbrev pub depth_behind : Mark → ℕ → ℕ
-depth_behind (Open shape) depth = depth + 1
-depth_behind (Close shape) depth = depth - 1
-depth_behind _ depth = depth
+abbrev pub depth_after : Mark → ℕ → ℕ
+depth_after (Open shape) depth = depth + 1
+depth_after (Close shape) depth = depth - 1
+depth_after _ depth = depth
 
 -- `:` stands among these tokens outside brackets, so many of which are open
 abbrev pub has_colon : ℕ → List Placed → Bool
 has_colon depth [] = false
-has_colon depth (t ∷ ts) = (depth == 0 && is_colon t) || has_colon (depth_behind (mark_of t) depth) ts
+has_colon depth (t ∷ ts) = (depth == 0 && is_colon t) || has_colon (depth_after (mark_of t) depth) ts
 
 abbrev pub is_open_end : Option Placed → Bool
 is_open_end None = false
@@ -109,7 +109,7 @@ abbrev pub above : List Placed → List (List ℕ)
 above [] = []
 above (t ∷ ts) = above_at (mark_of t) t.text (above ts)
 
--- Behind these bytes a token begins at its place.
+-- After these bytes a token begins at its place.
 pub record IsAt (first : ℕ) (before : List ℕ) (t : Placed) : Type 0 where
   pub line : line_at first before ≡ t.line
   pub col : column_at before ≡ t.col

@@ -6,10 +6,10 @@ use Rattle.bz_tree.specs.declared.stmt.GroupKind.TheVariants.{Paren}
 use Rattle.bz_tree.specs.declared.kinds.Shape.{Shape}
 use Rattle.bz_tree.specs.declared.kinds.Mark.{Mark}
 use Rattle.bz_tree.specs.declared.kinds.Mark.TheVariants.{Open, Close, Comma, Comment, NewLine, Plain}
-use Rattle.bz_tree.specs.declared.kinds.Behind.{Behind}
-use Rattle.bz_tree.specs.declared.kinds.Behind.TheVariants.{Operand, Other}
+use Rattle.bz_tree.specs.declared.kinds.Preceding.{Preceding}
+use Rattle.bz_tree.specs.declared.kinds.Preceding.TheVariants.{Operand, Other}
 use Rattle.bz_tree.specs.Tree.{Item, leaf, group, segs_of}
-use Rattle.bz_tree.specs.Kinds.{mark_of, kind_behind, is_for_at, group_kind, is_one}
+use Rattle.bz_tree.specs.Kinds.{mark_of, kind_after, is_for_at, group_kind, is_one}
 use Rattle.bz_tree.specs.Owners.{Own, node, comma, note, Inside, inside, no_empty}
 
 -- a token that is no bracket, or an opening bracket, what stands in it, and its closing bracket
@@ -36,15 +36,15 @@ abbrev mutual
 abbrev pub leaf_of : Placed → Item
 leaf_of t = leaf t.kind t.text (record { line = t.line; col = t.col; fresh = t.fresh })
 
-abbrev pub behind_item : Item → Behind
-behind_item (leaf kind text place) = kind_behind kind text
-behind_item (group kind segs one_comma end) = Operand
+abbrev pub after_item : Item → Preceding
+after_item (leaf kind text place) = kind_after kind text
+after_item (group kind segs one_comma end) = Operand
 
--- what a bracket stands behind, after one more thing; a comment changes nothing
-abbrev pub behind : Behind → Own → Behind
-behind b (node line x) = behind_item x
-behind b (comma t) = Other
-behind b (note line text) = b
+-- what stands directly before a bracket that comes next, after one more thing; a comment changes nothing
+abbrev pub preceding : Preceding → Own → Preceding
+preceding b (node line x) = after_item x
+preceding b (comma t) = Other
+preceding b (note line text) = b
 
 abbrev pub is_for_item : Item → Bool
 is_for_item (leaf kind text place) = is_for_at kind text
@@ -89,17 +89,17 @@ own_of Comma t = comma t
 own_of Comment t = note t.line t.text
 own_of _ t = node (end_line t) (leaf_of t)
 
--- what stands in a bracket, behind `b`
+-- what stands in a bracket, after `b`
 abbrev mutual
-  pub elem_own : Behind → Elem → Own
+  pub elem_own : Preceding → Elem → Own
   elem_own b (single t) = own_of (mark_of t) t
   elem_own b (bracket shape opening inner closing) =
       let owns = elems_own Other inner in
       node closing.line (group_of (group_kind shape b (has_for owns)) owns)
 
-  pub elems_own : Behind → Elems → List Own
+  pub elems_own : Preceding → Elems → List Own
   elems_own b no_elems = []
-  elems_own b (elem x xs) = let own = elem_own b x in own ∷ elems_own (behind b own) xs
+  elems_own b (elem x xs) = let own = elem_own b x in own ∷ elems_own (preceding b own) xs
 
 -- tokens that stand alone
 abbrev pub is_single : Mark → Bool
@@ -110,15 +110,15 @@ is_single _ = false
 
 -- brackets match, and no segment is empty
 abbrev mutual
-  pub IsWell : Behind → Elem → Type 0
+  pub IsWell : Preceding → Elem → Type 0
   IsWell b (single t) = is_single (mark_of t) ≡ true
   IsWell b (bracket shape opening inner closing) =
       (mark_of opening ≡ Open shape) × (mark_of closing ≡ Close shape) × AreWell Other inner
       × (let owns = elems_own Other inner in no_empty false (own_items (is_one (group_kind shape b (has_for owns))) owns) ≡ true)
 
-  pub AreWell : Behind → Elems → Type 0
+  pub AreWell : Preceding → Elems → Type 0
   AreWell b no_elems = Unit {0}
-  AreWell b (elem x xs) = IsWell b x × AreWell (behind b (elem_own b x)) xs
+  AreWell b (elem x xs) = IsWell b x × AreWell (preceding b (elem_own b x)) xs
 
 abbrev pub is_line : Mark → Bool
 is_line NewLine = true

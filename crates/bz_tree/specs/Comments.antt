@@ -15,7 +15,7 @@ abbrev pub beside : Option (List ℕ) → List (List ℕ)
 beside None = []
 beside (Some text) = text ∷ []
 
--- The owners in brackets: of each segment the place above it and the place behind it (its suffix), and the end of each bracket.
+-- The owners in brackets: of each segment the place above it and the place after it (its suffix), and the end of each bracket.
 abbrev mutual
   pub item_owners : Item → Lists
   item_owners (leaf kind text place) = []

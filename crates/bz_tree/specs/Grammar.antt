@@ -85,7 +85,7 @@ is_assignment Equals = true
 is_assignment Augmented = true
 is_assignment _ = false
 
--- two lists of items, one behind the other
+-- two lists of items, one after the other
 abbrev pub join : Items → Items → Items
 join no_items ys = ys
 join (item x xs) ys = item x (join xs ys)
@@ -119,7 +119,7 @@ mutual
     primary : {xs : Items} → IsPrimary xs → IsTerm xs
     unary : {p : Item} {xs : Items} → is_prefix (token_role p) ≡ true → IsTerm xs → IsTerm (item p xs)
 
-  -- Primary: Operand {`.` Ident, Call or Index}; an Int takes no `.` directly behind it
+  -- Primary: Operand {`.` Ident, Call or Index}; an Int takes no `.` directly after it
   pub data IsPrimary : Items → Type 0 where
     number : {x : Item} {xs : Items} → token_role x ≡ Number → AreSuffixes xs → begins_dot xs ≡ false → IsPrimary (item x xs)
     operand : {x : Item} {xs : Items} → IsOperand x → AreSuffixes xs → IsPrimary (item x xs)

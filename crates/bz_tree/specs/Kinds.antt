@@ -10,8 +10,8 @@ use Rattle.bz_tree.specs.declared.kinds.Shape.{Shape}
 use Rattle.bz_tree.specs.declared.kinds.Shape.TheVariants.{Round, Square, Curly}
 use Rattle.bz_tree.specs.declared.kinds.Mark.{Mark}
 use Rattle.bz_tree.specs.declared.kinds.Mark.TheVariants.{Open, Close, Comma, Comment, NewLine, Plain}
-use Rattle.bz_tree.specs.declared.kinds.Behind.{Behind}
-use Rattle.bz_tree.specs.declared.kinds.Behind.TheVariants.{Operand, LoadWord, Other}
+use Rattle.bz_tree.specs.declared.kinds.Preceding.{Preceding}
+use Rattle.bz_tree.specs.declared.kinds.Preceding.TheVariants.{Operand, LoadWord, Other}
 
 abbrev pub sign_mark : List ℕ → Mark
 sign_mark text =
@@ -40,21 +40,21 @@ same_shape (Some Square) Square = true
 same_shape (Some Curly) Curly = true
 same_shape _ _ = false
 
--- what a bracket may stand behind: an operand (then it is a call or an index), the keyword `load`, anything else
-abbrev pub kind_behind : Kind → List ℕ → Behind
-kind_behind Ident text = Operand
-kind_behind Int text = Operand
-kind_behind Text text = Operand
-kind_behind Word text = if bytes_eq text (codes "load") then LoadWord else Other
-kind_behind _ text = Other
+-- what a bracket may stand after: an operand (then it is a call or an index), the keyword `load`, anything else
+abbrev pub kind_after : Kind → List ℕ → Preceding
+kind_after Ident text = Operand
+kind_after Int text = Operand
+kind_after Text text = Operand
+kind_after Word text = if bytes_eq text (codes "load") then LoadWord else Other
+kind_after _ text = Other
 
 -- the keyword `for`
 abbrev pub is_for_at : Kind → List ℕ → Bool
 is_for_at Word text = bytes_eq text (codes "for")
 is_for_at _ text = false
 
--- the kind of a bracket, by its shape, what it stands behind, and whether `for` stands directly in it
-abbrev pub group_kind : Shape → Behind → Bool → GroupKind
+-- the kind of a bracket, by its shape, what it stands after, and whether `for` stands directly in it
+abbrev pub group_kind : Shape → Preceding → Bool → GroupKind
 group_kind Round Operand comp = Call
 group_kind Round LoadWord comp = Load
 group_kind Round Other comp = Paren

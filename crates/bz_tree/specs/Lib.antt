@@ -7,12 +7,9 @@ pub mod Written
 pub mod Nodes
 pub mod Brackets
 pub mod Statement
-pub mod Steps
-pub mod BorrowedSteps
 pub mod Grammar
 pub mod Blocks
 pub mod Chunk
-pub mod BlockSteps
 pub mod Comments
 pub mod BlockComments
-pub mod Machine
+pub mod private

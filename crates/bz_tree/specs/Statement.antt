@@ -8,7 +8,7 @@ use Rattle.bz_tree.specs.declared.stmt.GroupKind.{GroupKind}
 use Rattle.bz_tree.specs.declared.stmt.GroupKind.TheVariants.{Call, RuleCall}
 use Rattle.bz_tree.specs.declared.stmt.Class.{Class}
 use Rattle.bz_tree.specs.declared.stmt.Class.TheVariants.{Load, Assign, Rule, Other, Comment, Block}
-use Rattle.bz_tree.specs.declared.kinds.Behind.TheVariants.{Other as Elsewhere}
+use Rattle.bz_tree.specs.declared.kinds.Preceding.TheVariants.{Other as Elsewhere}
 use Rattle.bz_tree.specs.Tree.{Item, leaf, group, Segment, Statement}
 use Rattle.bz_tree.specs.Owners.{Own, Inside, inside}
 use Rattle.bz_tree.specs.Brackets.{Elems, elems_tokens, elems_own, own_items, AreWell, end_line, without_lines}
@@ -39,14 +39,14 @@ is_nothing (x ∷ xs) = false
 abbrev mutual
   pub is_rule : List Item → Bool
   is_rule [] = false
-  is_rule (leaf kind text place ∷ xs) = is_ident kind && is_rule_behind xs
+  is_rule (leaf kind text place ∷ xs) = is_ident kind && is_rule_after xs
   is_rule (group kind segs one_comma end ∷ xs) = false
 
-  -- behind an identifier
-  pub is_rule_behind : List Item → Bool
-  is_rule_behind [] = false
-  is_rule_behind (leaf kind text place ∷ xs) = is_dot kind text && is_rule xs
-  is_rule_behind (group kind segs one_comma end ∷ xs) = is_call kind && is_nothing xs
+  -- after an identifier
+  pub is_rule_after : List Item → Bool
+  is_rule_after [] = false
+  is_rule_after (leaf kind text place ∷ xs) = is_dot kind text && is_rule xs
+  is_rule_after (group kind segs one_comma end ∷ xs) = is_call kind && is_nothing xs
 
 abbrev pub as_rule_call : Item → Item
 as_rule_call (leaf kind text place) = leaf kind text place

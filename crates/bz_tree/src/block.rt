@@ -4,9 +4,9 @@ ghost use Rattle.std.specs.Prelude.{◌≡◌, ◌<◌, ◌^◌, IfOk, false, ma
 ghost use Rattle.bz_token.specs.Places.{placed};
 ghost use Rattle.bz_tree.specs.View.{texts};
 ghost use Rattle.bz_tree.specs.Kinds.{mark_of};
-ghost use Rattle.bz_tree.specs.Blocks.{is_block_word, is_colon, popped, pushed, indented, block_indent, depth_behind, has_colon, header_line, logical_lines, is_open_end, is_block, above};
+ghost use Rattle.bz_tree.specs.Blocks.{is_block_word, is_colon, popped, pushed, indented, block_indent, depth_after, has_colon, header_line, logical_lines, is_open_end, is_block, above};
 ghost use Rattle.bz_tree.specs.Statement.{last_token};
-ghost use Rattle.bz_tree.specs.BlockSteps.{lines_view, begun, next_counted, next_indent, indent_run, first_lines, ends_header, begins_header, colon_run};
+ghost use Rattle.bz_tree.specs.private.BlockSteps.{lines_view, begun, next_counted, next_indent, indent_run, first_lines, ends_header, begins_header, colon_run};
 ghost use Rattle.bz_tree.specs.Borrowed.{owned_in};
 
 use crate::kinds::{Mark, mark_of};
@@ -93,7 +93,7 @@ fn next_counted(lines: Indents, token: &Token<'_>) -> Result<Option<Indents>, Al
     }
 }
 
-// The lines behind a token. None: it is indented wrongly.
+// The lines after a token. None: it is indented wrongly.
 fn next_indent(lines: Indents, token: &Token<'_>) -> Result<Option<Indents>, AllocError>
     ensures { IfOk result (λ o. option_map lines_view o ≡ next_indent (mark_of (placed token.now)) (placed token.now) (lines_view lines)) }
 {
@@ -140,9 +140,9 @@ pub(crate) fn block_indent(alloc: Global, tokens: &[Token<'_>]) -> Result<Option
     indent_walk(alloc, tokens)
 }
 
-fn depth_behind(mark: Mark, depth: usize) -> usize
+fn depth_after(mark: Mark, depth: usize) -> usize
     requires { depth < 2 ^ 63 }
-    ensures { result ≡ depth_behind mark depth }
+    ensures { result ≡ depth_after mark depth }
 {
     match mark {
         Mark::Open(_) => depth + 1,
@@ -164,7 +164,7 @@ fn colon_walk(tokens: &[Token<'_>]) -> bool
                 if depth == 0 && is_colon(token) {
                     return true;
                 }
-                depth = depth_behind(mark, depth);
+                depth = depth_after(mark, depth);
                 inside = true;
             }
         }

@@ -6,15 +6,15 @@ ghost use Rattle.bz_token.specs.Places.{placed};
 ghost use Rattle.bz_tree.specs.View.{text_of, node_view, group_view, seg_view};
 ghost use Rattle.bz_tree.specs.Owners.{node};
 ghost use Rattle.bz_tree.specs.declared.kinds.Mark.TheVariants.{Close};
-ghost use Rattle.bz_tree.specs.Brackets.{behind, is_for, has_for};
+ghost use Rattle.bz_tree.specs.Brackets.{preceding, is_for, has_for};
 ghost use Rattle.bz_tree.specs.Statement.{one_segment, segment_with};
-ghost use Rattle.bz_tree.specs.Steps.{own_view, owns_view, leaf_view, content_view, content, level, levels, with_own, new_level, closed, next, next_at, run, state};
+ghost use Rattle.bz_tree.specs.private.Steps.{own_view, owns_view, leaf_view, content_view, content, level, levels, with_own, new_level, closed, next, next_at, run, state};
 ghost use Rattle.bz_tree.specs.Borrowed.{owned, group_owned, seg_owned};
-ghost use Rattle.bz_tree.specs.BorrowedSteps.{own_owned, owns_owned, content_owned, frame_owned, state_owned};
+ghost use Rattle.bz_tree.specs.private.BorrowedSteps.{own_owned, owns_owned, content_owned, frame_owned, state_owned};
 
 use crate::class::with_rule_call;
 use crate::kinds::{
-    Behind, Mark, Shape, behind_leaf, group_kind, is_for_leaf, is_one, mark_of, same_shape,
+    Preceding, Mark, Shape, after_leaf, group_kind, is_for_leaf, is_one, mark_of, same_shape,
 };
 use crate::owners::{Content, Own, inside_of};
 use crate::span::newlines;
@@ -29,7 +29,7 @@ use std::mem;
 pub(crate) struct Frame<'a> {
     pub(crate) shape: Option<Shape>,
     pub(crate) owns: Vec<Own<'a>>,
-    pub(crate) at: Behind,
+    pub(crate) at: Preceding,
 }
 
 #[derive(Drop)]
@@ -39,13 +39,13 @@ pub(crate) struct State<'a> {
 }
 
 #[inline(always)]
-fn behind_own(at: Behind, own: &Own<'_>) -> Behind
-    ensures { result ≡ behind at (own_view own.now) }
+fn after_own(at: Preceding, own: &Own<'_>) -> Preceding
+    ensures { result ≡ preceding at (own_view own.now) }
 {
     match own {
-        Own::Node(Node::Token(leaf), _, _) => behind_leaf(leaf),
-        Own::Node(Node::Group(_), _, _) => Behind::Operand,
-        Own::Comma(_) => Behind::Other,
+        Own::Node(Node::Token(leaf), _, _) => after_leaf(leaf),
+        Own::Node(Node::Group(_), _, _) => Preceding::Operand,
+        Own::Comma(_) => Preceding::Other,
         Own::Note(_, _) => at,
     }
 }
@@ -74,7 +74,7 @@ fn has_for(owns: &[Own<'_>]) -> bool
 fn closed<'a>(
     alloc: Global,
     shape: Shape,
-    at: Behind,
+    at: Preceding,
     owns: Vec<Own<'a>>,
 ) -> Result<Option<Group<'a>>, AllocError>
     ensures value { IfOk result (λ o. option_map group_view o ≡ closed shape at (owns_view owns.entry.items)) }
@@ -116,7 +116,7 @@ impl<'a> Frame<'a> {
         Frame {
             shape,
             owns: Vec::new(alloc),
-            at: Behind::Other,
+            at: Preceding::Other,
         }
     }
 
@@ -125,7 +125,7 @@ impl<'a> Frame<'a> {
         ensures value { OnOk result (level self.new ≡ with_own (level self.old) (own_view own.entry)) }
         ensures borrowed { OnOk result (frame_owned self.new ≤ frame_owned self.old + own_owned own.entry) }
     {
-        self.at = behind_own(self.at, &own);
+        self.at = after_own(self.at, &own);
         self.owns.push(own)?;
         Ok(())
     }

@@ -7,7 +7,7 @@ ghost use Rattle.bz_tree.specs.View.{texts, view, seg_view};
 ghost use Rattle.bz_tree.specs.Statement.{EndsFit, statement_with, first_token, first_seen, last_seen};
 ghost use Rattle.bz_tree.specs.Blocks.{IsBlockOf, kept_statement};
 ghost use Rattle.bz_tree.specs.Chunk.{IsPlain, begins_block, indent_fault, IsChunkOf, IsReadAs, IsTokenFault, IsStatementIn, IsBlank, IsFaultIn};
-ghost use Rattle.bz_tree.specs.BlockSteps.{AreStanding};
+ghost use Rattle.bz_tree.specs.private.BlockSteps.{AreStanding};
 ghost use Rattle.bz_tree.specs.Borrowed.{owned_in, owned_texts, seg_owned};
 
 use crate::block::{block_indent, comments_above, is_block, is_block_word};

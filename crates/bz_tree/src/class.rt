@@ -3,9 +3,9 @@
 ghost use Rattle.std.specs.Prelude.{◌≡◌, map, IfOk, ◌≤◌, ◌+◌};
 ghost use Rattle.bz_tree.specs.View.{text_of, node_view, nodes_view, seg_view};
 ghost use Rattle.bz_tree.specs.Statement.{is_rule, is_dot, is_call, as_rule_call, rule_call, with_rule_call, is_assign_sign, is_assign, has_assign, is_kept, is_load_word, class_of};
-ghost use Rattle.bz_tree.specs.Steps.{rule_from};
+ghost use Rattle.bz_tree.specs.private.Steps.{rule_from};
 ghost use Rattle.bz_tree.specs.Borrowed.{node_owned, seg_owned};
-ghost use Rattle.bz_tree.specs.BorrowedSteps.{nodes_owned};
+ghost use Rattle.bz_tree.specs.private.BorrowedSteps.{nodes_owned};
 
 use crate::stmt::{Class, Group, GroupKind, Leaf, Node, Seg};
 use bz_token::Kind;

@@ -3,7 +3,7 @@
 ghost use Rattle.std.specs.Prelude.{◌≡◌, map};
 ghost use Rattle.bz_tree.specs.Tree.{items_of, segs_of};
 ghost use Rattle.bz_tree.specs.View.{node_view, group_view, seg_view, nodes_view, segs_view};
-ghost use Rattle.bz_tree.specs.Machine.{accepts, role_of, each, is_whole, is_single, is_string_item, is_string, is_renamed, is_load_argument, are_load_arguments, are_loaded, is_load_group, is_load, is_nothing, is_statement};
+ghost use Rattle.bz_tree.specs.private.Machine.{accepts, role_of, each, is_whole, is_single, is_string_item, is_string, is_renamed, is_load_argument, are_load_arguments, are_loaded, is_load_group, is_load, is_nothing, is_statement};
 
 use crate::class::is_load_word;
 use crate::kinds::is_one;
@@ -118,7 +118,7 @@ fn are_load_arguments(segs: &[Seg<'_>]) -> bool
     true
 }
 
-// What stands behind `load`: a string, and more strings with or without names.
+// What stands after `load`: a string, and more strings with or without names.
 fn are_loaded(segs: &[Seg<'_>]) -> bool
     ensures { result ≡ are_loaded (segs_of (segs_view segs.now)) }
 {

@@ -3,7 +3,7 @@
 ghost use Rattle.std.specs.Prelude.{◌≡◌, ◌+◌, ◌<◌, ◌^◌, ◌==◌, count_by};
 ghost use Rattle.bz_token.specs.Places.{placed};
 ghost use Rattle.bz_tree.specs.Blocks.{IsKeptText};
-ghost use Rattle.bz_tree.specs.BlockSteps.{offset_run, AreIn};
+ghost use Rattle.bz_tree.specs.private.BlockSteps.{offset_run, AreIn};
 
 use bz_token::Token;
 

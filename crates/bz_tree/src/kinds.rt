@@ -3,7 +3,7 @@
 ghost use Rattle.std.specs.Prelude.{◌≡◌};
 ghost use Rattle.bz_token.specs.Places.{placed};
 ghost use Rattle.bz_tree.specs.View.{text_of};
-ghost use Rattle.bz_tree.specs.Kinds.{mark_of, kind_behind, is_for_at, group_kind, is_one, same_shape};
+ghost use Rattle.bz_tree.specs.Kinds.{mark_of, kind_after, is_for_at, group_kind, is_one, same_shape};
 
 use crate::stmt::{GroupKind, Leaf};
 use bz_token::{Kind, Token};
@@ -27,9 +27,9 @@ pub(crate) enum Mark {
     Plain,
 }
 
-/// What a bracket may stand behind: an operand (then it is a call or an index), the keyword `load`, anything else.
+/// What stands directly before a bracket: an operand (then it is a call or an index), the keyword `load`, anything else.
 #[derive(Clone, Copy, Debug, PartialEq, Eq)]
-pub(crate) enum Behind {
+pub(crate) enum Preceding {
     Operand,
     LoadWord,
     Other,
@@ -69,13 +69,13 @@ pub(crate) fn same_shape(opened: Option<Shape>, shape: Shape) -> bool
 }
 
 #[inline(always)]
-pub(crate) fn behind_leaf(leaf: &Leaf<'_>) -> Behind
-    ensures { result ≡ kind_behind leaf.now.kind (text_of leaf.now.text) }
+pub(crate) fn after_leaf(leaf: &Leaf<'_>) -> Preceding
+    ensures { result ≡ kind_after leaf.now.kind (text_of leaf.now.text) }
 {
     match leaf.kind {
-        Kind::Ident | Kind::Int | Kind::Text => Behind::Operand,
-        Kind::Word if leaf.text.as_str() == "load" => Behind::LoadWord,
-        _ => Behind::Other,
+        Kind::Ident | Kind::Int | Kind::Text => Preceding::Operand,
+        Kind::Word if leaf.text.as_str() == "load" => Preceding::LoadWord,
+        _ => Preceding::Other,
     }
 }
 
@@ -86,14 +86,14 @@ pub(crate) fn is_for_leaf(leaf: &Leaf<'_>) -> bool
     leaf.kind == Kind::Word && leaf.text.as_str() == "for"
 }
 
-pub(crate) fn group_kind(shape: Shape, at: Behind, comprehension: bool) -> GroupKind
+pub(crate) fn group_kind(shape: Shape, at: Preceding, comprehension: bool) -> GroupKind
     ensures { result ≡ group_kind shape at comprehension }
 {
     match (shape, at) {
-        (Shape::Round, Behind::Operand) => GroupKind::Call,
-        (Shape::Round, Behind::LoadWord) => GroupKind::Load,
-        (Shape::Round, Behind::Other) => GroupKind::Paren,
-        (Shape::Square, Behind::Operand) => GroupKind::Index,
+        (Shape::Round, Preceding::Operand) => GroupKind::Call,
+        (Shape::Round, Preceding::LoadWord) => GroupKind::Load,
+        (Shape::Round, Preceding::Other) => GroupKind::Paren,
+        (Shape::Square, Preceding::Operand) => GroupKind::Index,
         (Shape::Square, _) if comprehension => GroupKind::ListComp,
         (Shape::Square, _) => GroupKind::List,
         (Shape::Curly, _) if comprehension => GroupKind::DictComp,

@@ -4,9 +4,9 @@ ghost use Rattle.std.specs.Prelude.{◌≡◌, ◌+◌, ◌++◌, ◌==◌, true
 ghost use Rattle.std.specs.Bool.{then_some};
 ghost use Rattle.bz_tree.specs.View.{text_of, texts, node_view, seg_view};
 ghost use Rattle.bz_tree.specs.Brackets.{own_item};
-ghost use Rattle.bz_tree.specs.Steps.{walked, texts_of, own_view, owns_view, content_view, at_start, after_node, after_comma, after_note, after, done, content, add_beside, to_last};
+ghost use Rattle.bz_tree.specs.private.Steps.{walked, texts_of, own_view, owns_view, content_view, at_start, after_node, after_comma, after_note, after, done, content, add_beside, to_last};
 ghost use Rattle.bz_tree.specs.Borrowed.{owned, owned_in, owned_of, node_owned, seg_owned};
-ghost use Rattle.bz_tree.specs.BorrowedSteps.{segs_owned, own_owned, owns_owned, walk_owned, content_owned};
+ghost use Rattle.bz_tree.specs.private.BorrowedSteps.{segs_owned, own_owned, owns_owned, walk_owned, content_owned};
 
 use crate::stmt::{Leaf, Node, Seg};
 use std::alloc::{AllocError, Global};
@@ -30,14 +30,14 @@ pub(crate) enum Before {
 }
 
 // The walk over one bracket: the finished segments, then the segment here: its nodes, the comments before the last
-// of them, the suffix so far, and the comments behind that.
+// of them, the suffix so far, and the comments after that.
 #[derive(Drop)]
 pub(crate) struct Walk<'a> {
     pub(crate) segs: Vec<Seg<'a>>,
     pub(crate) before: Vec<CowStr<'a>>,
     pub(crate) nodes: Vec<Node<'a>>,
     pub(crate) suffix: Option<CowStr<'a>>,
-    pub(crate) behind: Vec<CowStr<'a>>,
+    pub(crate) after: Vec<CowStr<'a>>,
     pub(crate) last: Before,
     pub(crate) trailing: bool,
 }
@@ -49,7 +49,7 @@ pub(crate) struct Content<'a> {
     pub(crate) end: Vec<CowStr<'a>>,
 }
 
-// One more comment behind a segment's comma.
+// One more comment after a segment's comma.
 fn add_beside<'a>(seg: &mut Seg<'a>, text: CowStr<'a>) -> Result<(), AllocError>
     ensures value { OnOk result (seg_view seg.new ≡ add_beside (text_of text.entry) (seg_view seg.old)) }
     ensures borrowed { OnOk result (seg_owned seg.new ≤ seg_owned seg.old + owned text.entry) }
@@ -74,7 +74,7 @@ fn add_to_last<'a>(segs: &mut Vec<Seg<'a>>, text: CowStr<'a>) -> Result<(), Allo
     Ok(())
 }
 
-// A suffix so far is none once a node stands behind it.
+// A suffix so far is none once a node stands after it.
 #[inline(always)]
 fn put_before<'a>(
     suffix: &mut Option<CowStr<'a>>,
@@ -117,7 +117,7 @@ impl<'a> Walk<'a> {
             before: Vec::new(alloc),
             nodes: Vec::new(alloc),
             suffix: None,
-            behind: Vec::new(alloc),
+            after: Vec::new(alloc),
             last: Before::Nothing,
             trailing: false,
         }
@@ -130,7 +130,7 @@ impl<'a> Walk<'a> {
         ensures borrowed { OnOk result (walk_owned self.new ≤ walk_owned self.old + node_owned node.entry) }
     {
         put_before(&mut self.suffix, &mut self.before)?;
-        self.before.append(&mut self.behind)?;
+        self.before.append(&mut self.after)?;
         self.nodes.push(node)?;
         self.last = Before::Node(line, newlines);
         self.trailing = false;
@@ -145,7 +145,7 @@ impl<'a> Walk<'a> {
         if self.nodes.is_empty() {
             return Ok(false);
         }
-        self.before.append(&mut self.behind)?;
+        self.before.append(&mut self.after)?;
         self.segs.push(Seg {
             before: mem::replace(&mut self.before, Vec::new(alloc)),
             nodes: mem::replace(&mut self.nodes, Vec::new(alloc)),
@@ -167,7 +167,7 @@ impl<'a> Walk<'a> {
             }
             Before::Comma(end) if end == line => add_to_last(&mut self.segs, text),
             _ => {
-                self.behind.push(text)?;
+                self.after.push(text)?;
                 Ok(())
             }
         }
@@ -201,7 +201,7 @@ impl<'a> Walk<'a> {
             before,
             nodes,
             suffix,
-            behind,
+            after,
             last: _,
             trailing,
         } = self;
@@ -209,7 +209,7 @@ impl<'a> Walk<'a> {
             return Ok(Content {
                 segs,
                 trailing,
-                end: behind,
+                end: after,
             });
         }
         segs.push(Seg {
@@ -220,7 +220,7 @@ impl<'a> Walk<'a> {
         Ok(Content {
             segs,
             trailing,
-            end: behind,
+            end: after,
         })
     }
 }

@@ -1,7 +1,7 @@
 //! The recognizer of the grammar: what may come next in a segment.
 
 ghost use Rattle.std.specs.Prelude.{◌≡◌, true, false};
-ghost use Rattle.bz_tree.specs.Machine.{ends, may_be_empty, may_end, behind_left, behind_right, behind_element, behind_target, behind_clause, at_colon, at_end, behind_part, behind_condition, leaves, in_chain, next_wanted, next_behind, next_behind_number, next_name, next_excluded, next_begun, next_argument, next_keyword, next, begin, group_role};
+ghost use Rattle.bz_tree.specs.private.Machine.{ends, may_be_empty, may_end, after_left, after_right, after_element, after_target, after_clause, at_colon, at_end, after_part, after_condition, leaves, in_chain, next_wanted, next_after, next_after_number, next_name, next_excluded, next_begun, next_argument, next_keyword, next, begin, group_role};
 
 use crate::role::Role;
 use crate::stmt::GroupKind;
@@ -11,7 +11,7 @@ use crate::stmt::GroupKind;
 pub(crate) enum Part {
     /// The tests of a statement, before an assignment sign too.
     Left,
-    /// The tests behind an assignment sign.
+    /// The tests after an assignment sign.
     Right,
     /// A test and nothing more.
     Alone,
@@ -40,11 +40,11 @@ pub(crate) enum Stage {
     Refused,
     /// An operand, or a prefix.
     Wants(Part, bool),
-    /// What may stand behind an operand.
+    /// What may stand after an operand.
     Has(Part, bool),
-    /// The same, directly behind a number.
+    /// The same, directly after a number.
     HasNumber(Part, bool),
-    /// The name behind a dot.
+    /// The name after a dot.
     Names(Part, bool),
     /// The `in` of `not in`.
     Excludes(Part, bool),
@@ -52,7 +52,7 @@ pub(crate) enum Stage {
     Begins(Part),
     /// The start of an argument.
     Argument,
-    /// What may stand behind the name that begins an argument.
+    /// What may stand after the name that begins an argument.
     Keyword,
 }
 
@@ -83,8 +83,8 @@ pub(crate) fn may_end(stage: Stage) -> bool
     }
 }
 
-fn behind_left(role: Role) -> Stage
-    ensures { result ≡ behind_left role }
+fn after_left(role: Role) -> Stage
+    ensures { result ≡ after_left role }
 {
     match role {
         Role::Comma => Stage::Wants(Part::Left, false),
@@ -94,8 +94,8 @@ fn behind_left(role: Role) -> Stage
     }
 }
 
-fn behind_right(role: Role) -> Stage
-    ensures { result ≡ behind_right role }
+fn after_right(role: Role) -> Stage
+    ensures { result ≡ after_right role }
 {
     match role {
         Role::Comma => Stage::Wants(Part::Right, false),
@@ -104,8 +104,8 @@ fn behind_right(role: Role) -> Stage
     }
 }
 
-fn behind_element(role: Role) -> Stage
-    ensures { result ≡ behind_element role }
+fn after_element(role: Role) -> Stage
+    ensures { result ≡ after_element role }
 {
     match role {
         Role::For => Stage::Wants(Part::Target, false),
@@ -114,8 +114,8 @@ fn behind_element(role: Role) -> Stage
     }
 }
 
-fn behind_target(role: Role) -> Stage
-    ensures { result ≡ behind_target role }
+fn after_target(role: Role) -> Stage
+    ensures { result ≡ after_target role }
 {
     match role {
         Role::Comma => Stage::Wants(Part::Target, false),
@@ -124,8 +124,8 @@ fn behind_target(role: Role) -> Stage
     }
 }
 
-fn behind_clause(role: Role) -> Stage
-    ensures { result ≡ behind_clause role }
+fn after_clause(role: Role) -> Stage
+    ensures { result ≡ after_clause role }
 {
     match role {
         Role::For => Stage::Wants(Part::Target, false),
@@ -156,26 +156,26 @@ fn at_end(part: Part, role: Role) -> Stage
 }
 
 #[inline(always)]
-fn behind_part(part: Part, role: Role) -> Stage
-    ensures { result ≡ behind_part part role }
+fn after_part(part: Part, role: Role) -> Stage
+    ensures { result ≡ after_part part role }
 {
     match part {
-        Part::Left => behind_left(role),
-        Part::Right => behind_right(role),
+        Part::Left => after_left(role),
+        Part::Right => after_right(role),
         Part::Alone => at_end(Part::Alone, role),
         Part::Key => at_colon(Part::Key, Stage::Wants(Part::Alone, false), role),
-        Part::Element => behind_element(role),
+        Part::Element => after_element(role),
         Part::EntryKey => at_colon(Part::EntryKey, Stage::Wants(Part::Element, false), role),
         Part::From => at_colon(Part::From, Stage::Begins(Part::To), role),
         Part::To => at_colon(Part::To, Stage::Begins(Part::Step), role),
         Part::Step => at_end(Part::Step, role),
-        Part::Target => behind_target(role),
-        Part::Clause => behind_clause(role),
+        Part::Target => after_target(role),
+        Part::Clause => after_clause(role),
     }
 }
 
-fn behind_condition(part: Part, role: Role) -> Stage
-    ensures { result ≡ behind_condition part role }
+fn after_condition(part: Part, role: Role) -> Stage
+    ensures { result ≡ after_condition part role }
 {
     match role {
         Role::Else => Stage::Wants(part, false),
@@ -188,9 +188,9 @@ fn leaves(part: Part, asked: bool, role: Role) -> Stage
     ensures { result ≡ leaves part asked role }
 {
     if asked {
-        behind_condition(part, role)
+        after_condition(part, role)
     } else {
-        behind_part(part, role)
+        after_part(part, role)
     }
 }
 
@@ -217,8 +217,8 @@ fn next_wanted(part: Part, asked: bool, role: Role) -> Stage
 }
 
 #[inline(always)]
-fn next_behind(part: Part, asked: bool, role: Role) -> Stage
-    ensures { result ≡ next_behind part asked role }
+fn next_after(part: Part, asked: bool, role: Role) -> Stage
+    ensures { result ≡ next_after part asked role }
 {
     match role {
         Role::Dot => Stage::Names(part, asked),
@@ -231,12 +231,12 @@ fn next_behind(part: Part, asked: bool, role: Role) -> Stage
     }
 }
 
-fn next_behind_number(part: Part, asked: bool, role: Role) -> Stage
-    ensures { result ≡ next_behind_number part asked role }
+fn next_after_number(part: Part, asked: bool, role: Role) -> Stage
+    ensures { result ≡ next_after_number part asked role }
 {
     match role {
         Role::Dot => Stage::Refused,
-        _ => next_behind(part, asked, role),
+        _ => next_after(part, asked, role),
     }
 }
 
@@ -262,7 +262,7 @@ fn next_begun(part: Part, role: Role) -> Stage
     ensures { result ≡ next_begun part role }
 {
     match role {
-        Role::Colon => behind_part(part, role),
+        Role::Colon => after_part(part, role),
         _ => next_wanted(part, false, role),
     }
 }
@@ -282,11 +282,11 @@ fn next_keyword(role: Role) -> Stage
 {
     match role {
         Role::Equals => Stage::Wants(Part::Alone, false),
-        _ => next_behind(Part::Alone, false, role),
+        _ => next_after(Part::Alone, false, role),
     }
 }
 
-/// The stage behind a node of this role.
+/// The stage after a node of this role.
 #[inline(always)]
 pub(crate) fn next(stage: Stage, role: Role) -> Stage
     ensures { result ≡ next stage role }
@@ -294,8 +294,8 @@ pub(crate) fn next(stage: Stage, role: Role) -> Stage
     match stage {
         Stage::Refused => Stage::Refused,
         Stage::Wants(part, asked) => next_wanted(part, asked, role),
-        Stage::Has(part, asked) => next_behind(part, asked, role),
-        Stage::HasNumber(part, asked) => next_behind_number(part, asked, role),
+        Stage::Has(part, asked) => next_after(part, asked, role),
+        Stage::HasNumber(part, asked) => next_after_number(part, asked, role),
         Stage::Names(part, asked) => next_name(part, asked, role),
         Stage::Excludes(part, asked) => next_excluded(part, asked, role),
         Stage::Begins(part) => next_begun(part, role),

@@ -10,7 +10,7 @@ pub enum GroupKind {
     Call,
     /// The arguments of the call that a rule is.
     RuleCall,
-    /// What stands behind the keyword `load`.
+    /// What stands after the keyword `load`.
     Load,
     Paren,
     List,
@@ -49,7 +49,7 @@ pub struct Group<'a> {
     pub segs: Vec<Seg<'a>>,
     /// True exactly for `(x,)`.
     pub one_comma: bool,
-    /// The comments behind the last segment, each on a line of its own.
+    /// The comments after the last segment, each on a line of its own.
     pub end: Vec<CowStr<'a>>,
 }
 
@@ -60,7 +60,7 @@ pub struct Seg<'a> {
     /// The comments above it.
     pub before: Vec<CowStr<'a>>,
     pub nodes: Vec<Node<'a>>,
-    /// The comment behind it, on its last line.
+    /// The comment after it, on its last line.
     pub suffix: Option<CowStr<'a>>,
 }
 
@@ -84,7 +84,7 @@ pub struct Stmt<'a> {
     /// The comments above it.
     pub before: Vec<CowStr<'a>>,
     pub nodes: Vec<Node<'a>>,
-    /// The comment behind it, on its last line.
+    /// The comment after it, on its last line.
     pub suffix: Option<CowStr<'a>>,
     pub class: Class,
     /// The line of its first token, comments not counted unless the class is Comment.

@@ -4,7 +4,7 @@ ghost use Rattle.std.specs.Prelude.{◌≡◌, ◌<◌, ◌++◌, [], List, ℕ,
 ghost use Rattle.std.specs.List.{list_all};
 ghost use Rattle.bz_token.specs.Blocks.{is_white, is_word_byte, word_at, opener_of, has_branch, goes_on};
 ghost use Rattle.bz_token.specs.Chunks.{stage_of, stage_step};
-ghost use Rattle.bz_token.specs.Decided.{DecidesAhead, is_branch_front};
+ghost use Rattle.bz_token.specs.private.Decided.{DecidesAhead, is_branch_front};
 
 use super::Next;
 use super::scan::LineKind;
@@ -76,7 +76,7 @@ fn stage_of(word: Option<Opener>, broken: bool) -> Stage
     }
 }
 
-/// What the chunk is behind one logical line more: its kind, the word of a block that it begins with, and whether its
+/// What the chunk is after one logical line more: its kind, the word of a block that it begins with, and whether its
 /// newline broke off a string.
 pub fn stage_step(stage: Stage, kind: LineKind, word: Option<Opener>, broken: bool) -> Stage
     ensures { result ≡ stage_step stage kind word broken }
@@ -123,7 +123,7 @@ fn branch_ahead(ahead: &[u8], at_end: bool) -> Next
     }
 }
 
-/// Whether the block goes on with what is ahead; `at_end`: nothing comes behind it.
+/// Whether the block goes on with what is ahead; `at_end`: nothing comes after it.
 pub fn block_goes_on(word: Opener, ahead: &[u8], at_end: bool) -> Next
     ensures { DecidesAhead (goes_on word) result at_end ahead.now }
 {

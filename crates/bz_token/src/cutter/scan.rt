@@ -2,7 +2,7 @@
 
 ghost use Rattle.std.specs.Prelude.{◌≡◌, ◌+◌, ◌-◌, ◌≤◌, ◌<◌, ◌^◌, ◌==◌, true, false, not, length, take, drop};
 ghost use Rattle.std.specs.List.{prefix_len};
-ghost use Rattle.bz_token.specs.CutSteps.{is_ended, is_quiet, is_quiet_in_short, byte_of, with_note, at, outside, in_short, in_long, next, start, run};
+ghost use Rattle.bz_token.specs.private.CutSteps.{is_ended, is_quiet, is_quiet_in_short, byte_of, with_note, at, outside, in_short, in_long, next, start, run};
 
 use crate::scan::line_len;
 
@@ -38,21 +38,21 @@ pub enum Inside {
     /// A continued line, if a newline follows.
     BackslashReturn,
     Comment,
-    /// A string, behind its first quote.
+    /// A string, after its first quote.
     Opened(Quote),
     /// A long string, if a third quote follows; else an empty string has ended.
     OpenedTwice(Quote),
     Short(Quote),
-    /// A short string, behind a backslash.
+    /// A short string, after a backslash.
     ShortEscape(Quote),
-    /// A short string, behind a backslash and a carriage return.
+    /// A short string, after a backslash and a carriage return.
     ShortEscapeReturn(Quote),
     Long(Quote),
-    /// A long string, behind one quote.
+    /// A long string, after one quote.
     LongQuote(Quote),
-    /// A long string, behind two quotes.
+    /// A long string, after two quotes.
     LongTwoQuotes(Quote),
-    /// A long string, behind a backslash.
+    /// A long string, after a backslash.
     LongEscape(Quote),
 }
 

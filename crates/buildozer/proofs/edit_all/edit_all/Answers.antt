@@ -4,7 +4,7 @@ use Rattle.bz_folder.specs.SequenceLaws.{run_more}
 use Rattle.buildozer.specs.Handled.{is_last, IsStatusOfAll}
 use Rattle.buildozer.specs.Program.{MayHold}
 use Rattle.buildozer.proofs.Edited.{untouched, of_package}
-use Rattle.buildozer.proofs.Handling.{goes_on_behind, handled_none, handled_more, handled_all, handled_last}
+use Rattle.buildozer.proofs.Handling.{goes_on_after, handled_none, handled_more, handled_all, handled_last}
 use Rattle.buildozer.proofs.Turns.{turn, end, contains_next}
 use Rattle.buildozer.proofs.edit_all.edit_all.Goals as goal
 use Rattle.buildozer.proofs.edit_all.edit_all.Goals.{in-None, else-status-eq-FAILED-via-then-status-eq-FAILED+else-not-flags, else-status-eq-FAILED-via-else-status-eq-FAILED, in-Some+then-status-eq-FAILED+then-not-flags}
@@ -29,7 +29,7 @@ loop-home-preserved g c = (
       c.loop-home.invariant.1 c.edit_package-status.ensures.status
       (elim c.else-status-eq-FAILED.branch [
         | else-status-eq-FAILED-via-then-status-eq-FAILED+else-not-flags w ↦ ap (λ k. is_last k c.edit_package-status.result) w.if-not-flags.false
-        | else-status-eq-FAILED-via-else-status-eq-FAILED w ↦ goes_on_behind c.args.flags.now.k c.edit_package-status.result w.if-status-eq-FAILED.false
+        | else-status-eq-FAILED-via-else-status-eq-FAILED w ↦ goes_on_after c.args.flags.now.k c.edit_package-status.result w.if-status-eq-FAILED.false
       ])
       c.whole_status-whole-in-loop-home.ensures,
 )

@@ -1,7 +1,7 @@
 use Rattle.std.proofs.Common.{not, ap, rules}
 use Rattle.std.proofs.lemmas.Fn.{filter_same}
 use Rattle.bz_tree.specs.View.{seg_view, segs_view}
-use Rattle.bz_attribute.specs.ChosenViews.{chosen_view}
+use Rattle.bz_attribute.specs.private.ChosenViews.{chosen_view}
 use Rattle.bz_attribute.specs.Effects.{is_chosen}
 use Rattle.bz_attribute.proofs.Mapped.{filter-map}
 use Rattle.bz_attribute.proofs.chosen.drop_chosen.Goals as goal

@@ -1,5 +1,5 @@
 use Rattle.std.proofs.Common.{refl}
-use Rattle.bz_attribute.specs.ChosenViews.{chosen_view}
+use Rattle.bz_attribute.specs.private.ChosenViews.{chosen_view}
 use Rattle.bz_attribute.specs.Effects.{unchosen}
 use Rattle.bz_attribute.proofs.Groups.{edited_group}
 use Rattle.bz_attribute.proofs.chosen.drop_in_list.Goals as goal

@@ -1,5 +1,5 @@
 use Rattle.std.proofs.Common.{sym, ◌∙◌, arith}
-use Rattle.bz_attribute.specs.ChosenViews.{chosen_view}
+use Rattle.bz_attribute.specs.private.ChosenViews.{chosen_view}
 use Rattle.bz_attribute.specs.Effects.{unchosen}
 use Rattle.bz_attribute.proofs.PartEdits.{edit_node_step, keep_node_step}
 use Rattle.bz_attribute.proofs.chosen.drop_in_value.Goals as goal

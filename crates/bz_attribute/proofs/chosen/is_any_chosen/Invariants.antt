@@ -1,7 +1,7 @@
 use Rattle.std.proofs.Common.{◌≡◌, drop, true}
 use Rattle.std.specs.List.{list_any}
 use Rattle.bz_tree.specs.View.{nodes_view}
-use Rattle.bz_attribute.specs.ChosenViews.{chosen_view}
+use Rattle.bz_attribute.specs.private.ChosenViews.{chosen_view}
 use Rattle.bz_attribute.specs.Effects.{is_chosen}
 use Rattle.bz_attribute.specs.Lists.{parts_from}
 use Rattle.bz_attribute.proofs.chosen.is_any_chosen.Given as goal

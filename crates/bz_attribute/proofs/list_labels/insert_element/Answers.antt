@@ -1,5 +1,5 @@
 use Rattle.std.proofs.Common.{List, ℕ, Option, Bool, false, ◌||◌, ap, sym, ◌∙◌}
-use Rattle.bz_command.specs.ByteSteps.{left}
+use Rattle.bz_command.specs.private.ByteSteps.{left}
 use Rattle.bz_attribute.specs.Lists.{same, same_value}
 use Rattle.bz_command.specs.LabelSetViews.{has}
 use Rattle.bz_attribute.proofs.LabelSets.{or_false, same_back}

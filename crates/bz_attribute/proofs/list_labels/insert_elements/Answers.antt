@@ -6,7 +6,7 @@ use Rattle.bz_command.specs.Labels.{Package}
 use Rattle.bz_command.specs.Commands.{Values}
 use Rattle.bz_attribute.specs.Effects.{is_chosen}
 use Rattle.bz_command.specs.LabelSetViews.{has}
-use Rattle.bz_attribute.specs.ElementSets.{is_among}
+use Rattle.bz_attribute.specs.private.ElementSets.{is_among}
 use Rattle.bz_attribute.proofs.LabelSets.{element_step}
 use Rattle.bz_attribute.proofs.list_labels.insert_elements.Goals as goal
 

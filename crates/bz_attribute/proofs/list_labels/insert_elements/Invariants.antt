@@ -1,7 +1,7 @@
 use Rattle.std.proofs.Common.{◌≡◌, ℕ, List, ◌||◌, drop}
 use Rattle.bz_tree.specs.View.{segs_view}
 use Rattle.bz_command.specs.LabelSetViews.{has}
-use Rattle.bz_attribute.specs.ElementSets.{is_among}
+use Rattle.bz_attribute.specs.private.ElementSets.{is_among}
 use Rattle.bz_attribute.proofs.list_labels.insert_elements.Given as goal
 
 abbrev pub invariant-loop-element : goal.invariant-loop-element

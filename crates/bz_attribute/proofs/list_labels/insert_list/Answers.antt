@@ -4,7 +4,7 @@ use Rattle.bz_tree.specs.View.{node_view, segs_view}
 use Rattle.bz_tree.specs.Tree.{Segment}
 use Rattle.bz_attribute.specs.Rules.{elements}
 use Rattle.bz_command.specs.LabelSetViews.{has}
-use Rattle.bz_attribute.specs.ElementSets.{is_among}
+use Rattle.bz_attribute.specs.private.ElementSets.{is_among}
 use Rattle.bz_attribute.proofs.Groups.{elements_group}
 use Rattle.bz_attribute.proofs.list_labels.insert_list.Goals as goal
 

@@ -8,7 +8,7 @@ use Rattle.bz_attribute.specs.Lists.{is_joint, parts_from}
 use Rattle.bz_attribute.specs.Rules.{elements}
 use Rattle.bz_command.specs.declared.label_set.LabelSet.{LabelSet}
 use Rattle.bz_command.specs.LabelSetViews.{has}
-use Rattle.bz_attribute.specs.ElementSets.{is_among, is_in}
+use Rattle.bz_attribute.specs.private.ElementSets.{is_among, is_in}
 use Rattle.bz_attribute.proofs.LabelSets.{or_false, part_step}
 use Rattle.bz_attribute.proofs.list_labels.labels_in.Goals as goal
 use Rattle.bz_attribute.proofs.list_labels.labels_in.Goals.{then-is_part+in_ok-insert_list, else-is_part}

@@ -2,7 +2,7 @@ use Rattle.std.proofs.Common.{◌≡◌, ℕ, List, ◌||◌, drop, true}
 use Rattle.bz_tree.specs.View.{nodes_view}
 use Rattle.bz_attribute.specs.Lists.{parts_from}
 use Rattle.bz_command.specs.LabelSetViews.{has}
-use Rattle.bz_attribute.specs.ElementSets.{is_in}
+use Rattle.bz_attribute.specs.private.ElementSets.{is_in}
 use Rattle.bz_attribute.proofs.list_labels.labels_in.Given as goal
 
 abbrev pub invariant-loop-i : goal.invariant-loop-i

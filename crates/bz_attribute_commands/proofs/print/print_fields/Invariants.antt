@@ -4,13 +4,13 @@ use Rattle.bz_command.specs.CommandViews.{field_view}
 use Rattle.bz_attribute.specs.RuleViews.{rule_view}
 use Rattle.bz_attribute.specs.Effects.{first_note}
 use Rattle.bz_attribute.specs.Printing.{line_of, missing, shown_field, field_text}
-use Rattle.bz_attribute_commands.specs.PrintSteps.{spaced_behind}
+use Rattle.bz_attribute_commands.specs.private.PrintSteps.{spaced_after}
 use Rattle.bz_attribute_commands.proofs.print.print_fields.Given as goal
 
 abbrev pub invariant-loop-field : goal.invariant-loop-field
 invariant-loop-field l = record {
   line :
-      string_bytes l.line ++ spaced_behind (map (λ f. shown_field (field_text l.home (view l.stmt) (rule_view l.rule) f)) (map field_view (drop l.field-index l.others)))
+      string_bytes l.line ++ spaced_after (map (λ f. shown_field (field_text l.home (view l.stmt) (rule_view l.rule) f)) (map field_view (drop l.field-index l.others)))
       ≡ line_of l.home (view l.stmt) (rule_view l.rule) (field_view l.first ∷ map field_view l.others);
   missing :
       first_note l.missing (missing l.home (view l.stmt) (rule_view l.rule) (map field_view (drop l.field-index l.others)))

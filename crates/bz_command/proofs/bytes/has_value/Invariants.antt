@@ -1,6 +1,6 @@
 use Rattle.std.proofs.Common.{◌≡◌, length}
 use Rattle.std.specs.Prelude.{is_some}
-use Rattle.bz_command.specs.ValueSteps.{inner_value}
+use Rattle.bz_command.specs.private.ValueSteps.{inner_value}
 use Rattle.bz_command.proofs.bytes.has_value.Given as goal
 
 abbrev pub invariant-loop-rest : goal.invariant-loop-rest

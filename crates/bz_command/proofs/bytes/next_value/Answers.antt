@@ -1,5 +1,5 @@
 use Rattle.std.proofs.Common.{◌≡◌, ◌∙◌, ap, sym, arith, is_some, true, false}
-use Rattle.bz_command.specs.ValueSteps.{inner_value}
+use Rattle.bz_command.specs.private.ValueSteps.{inner_value}
 use Rattle.bz_command.proofs.Reading.{end_left, none_at, next_left, next_good}
 use Rattle.bz_command.proofs.bytes.next_value.Goals as goal
 

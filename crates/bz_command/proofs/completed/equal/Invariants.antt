@@ -1,6 +1,6 @@
 use Rattle.std.proofs.Common.{◌≡◌, length}
 use Rattle.std.specs.Prelude.{IsTrue, bytes_eq}
-use Rattle.bz_command.specs.ByteSteps.{chain_bytes, is_good_chain}
+use Rattle.bz_command.specs.private.ByteSteps.{chain_bytes, is_good_chain}
 use Rattle.bz_command.proofs.completed.equal.Given as goal
 
 abbrev pub invariant-loop-byte : goal.invariant-loop-byte

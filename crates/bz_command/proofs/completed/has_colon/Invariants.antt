@@ -2,7 +2,7 @@ use Rattle.std.proofs.Common.{◌≡◌, length}
 use Rattle.std.specs.Prelude.{IsTrue}
 use Rattle.std.specs.List.{list_any}
 use Rattle.bz_command.specs.Labels.{is_colon}
-use Rattle.bz_command.specs.ByteSteps.{left, is_good}
+use Rattle.bz_command.specs.private.ByteSteps.{left, is_good}
 use Rattle.bz_command.proofs.completed.has_colon.Given as goal
 
 abbrev pub invariant-loop-b : goal.invariant-loop-b

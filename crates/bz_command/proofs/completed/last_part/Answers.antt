@@ -1,6 +1,6 @@
 use Rattle.std.proofs.Common.{ap, sym, ◌∙◌}
 use Rattle.std.proofs.lemmas.Bool.{eq-eqb, ne_eqb}
-use Rattle.bz_command.specs.ByteSteps.{left, last_from}
+use Rattle.bz_command.specs.private.ByteSteps.{left, last_from}
 use Rattle.bz_command.proofs.LastParts.{whole, past_slash, past_other}
 use Rattle.bz_command.proofs.completed.last_part.Goals as goal
 

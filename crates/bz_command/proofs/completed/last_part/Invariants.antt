@@ -1,7 +1,7 @@
 use Rattle.std.proofs.Common.{◌≡◌, length}
 use Rattle.std.specs.Prelude.{IsTrue}
 use Rattle.bz_command.specs.Labels.{last_of, parts_of}
-use Rattle.bz_command.specs.ByteSteps.{left, is_good, last_from}
+use Rattle.bz_command.specs.private.ByteSteps.{left, is_good, last_from}
 use Rattle.bz_command.proofs.completed.last_part.Given as goal
 
 abbrev pub invariant-loop-b : goal.invariant-loop-b

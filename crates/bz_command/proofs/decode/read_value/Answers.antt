@@ -1,7 +1,7 @@
 use Rattle.std.proofs.Common.{◌≡◌, ◌<◌, true, false, length, slice_index_or, sym, ◌∙◌, refl}
 use Rattle.bz_command.specs.Values.{is_quote}
 use Rattle.bz_command.proofs.Literals.{no_value, quoted_value}
-use Rattle.bz_command.proofs.Decoding.{behind_first}
+use Rattle.bz_command.proofs.Decoding.{after_first}
 use Rattle.bz_command.proofs.decode.read_value.Goals as goal
 
 pub returns-then-first-ne114 : goal.returns-then-first-ne114
@@ -13,7 +13,7 @@ returns-then-first-ne114 c =
 pub range_from-requires : goal.range_from-requires
 range_from-requires c = λ _.
     let some : 0 < length c.args.text.now = rw c.as_bytes.ensures.value at c.in-len1-up.len_at_least in
-    behind_first c.args.text.now c.utf8.text some (rw c.as_bytes.ensures.value at c.if-first-ne114.false)
+    after_first c.args.text.now c.utf8.text some (rw c.as_bytes.ensures.value at c.if-first-ne114.false)
 
 pub returns-then-is_quote : goal.returns-then-is_quote
 returns-then-is_quote c =

@@ -1,6 +1,6 @@
 use Rattle.std.proofs.Common.{◌≡◌, [], ◌∷◌, map, fold, length}
 use Rattle.std.specs.Prelude.{IsTrue}
-use Rattle.bz_command.specs.ByteSteps.{chain_bytes, is_good_chain}
+use Rattle.bz_command.specs.private.ByteSteps.{chain_bytes, is_good_chain}
 use Rattle.bz_command.proofs.label_set.write_bytes.Given as goal
 
 abbrev pub invariant-loop-b : goal.invariant-loop-b

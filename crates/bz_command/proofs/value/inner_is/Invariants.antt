@@ -1,5 +1,5 @@
 use Rattle.std.proofs.Common.{◌≡◌, length}
-use Rattle.bz_command.specs.ValueSteps.{is_value, inner_value}
+use Rattle.bz_command.specs.private.ValueSteps.{is_value, inner_value}
 use Rattle.bz_command.proofs.value.inner_is.Given as goal
 
 abbrev pub invariant-loop-rest : goal.invariant-loop-rest

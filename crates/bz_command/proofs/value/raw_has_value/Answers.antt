@@ -1,5 +1,5 @@
 use Rattle.std.proofs.Common.{sym, ap, ◌∙◌, refl, arith}
-use Rattle.bz_command.specs.ValueSteps.{is_value}
+use Rattle.bz_command.specs.private.ValueSteps.{is_value}
 use Rattle.bz_command.proofs.Literals.{raw_other, raw_quoted}
 use Rattle.bz_command.proofs.value.raw_has_value.Goals as goal
 

@@ -1,6 +1,6 @@
 use Rattle.std.proofs.Common.{◌++◌, ◌∙◌, [], refl, subst, arith}
 use Rattle.std.proofs.lemmas.Result.{err_from_is_err_and}
-use Rattle.bz_engine.specs.AheadSteps.{IsLineAt}
+use Rattle.bz_engine.specs.private.AheadSteps.{IsLineAt}
 use Rattle.bz_engine.specs.declared.ahead.ChunkFault.TheVariants.{InputTooLong, StatementTooLong}
 use Rattle.bz_engine.proofs.Faults.{passed_on}
 use Rattle.bz_engine.proofs.ReadOn.{read_nothing, read_then, needed_then, grows}
@@ -15,7 +15,7 @@ loop-next-init g c = (
     read = read_nothing c.args.max_reads c.args.ahead.now c.requires.made;
     needed = tt;
     steady = refl;
-    goes_on = goes_first c.new-cutter.result c.args.ahead.now c.new-cutter.ensures.part c.new-cutter.ensures.behind c.new-cutter.ensures.awaits;
+    goes_on = goes_first c.new-cutter.result c.args.ahead.now c.new-cutter.ensures.part c.new-cutter.ensures.after c.new-cutter.ensures.awaits;
     within = omega arith;
     few = c.requires.few;
   },

@@ -1,6 +1,6 @@
 use Rattle.std.proofs.Common.{◌≡◌, ◌≤◌, ◌+◌, ◌-◌, ◌*◌, List, ℕ, length, drop}
 use Rattle.bz_engine.specs.Ahead.{IsReadOn, AreNeeded}
-use Rattle.bz_engine.specs.AheadSteps.{GoesOn}
+use Rattle.bz_engine.specs.private.AheadSteps.{GoesOn}
 use Rattle.bz_engine.proofs.ahead.chunk_end.Given as goal
 
 -- the chunk goes on

@@ -1,10 +1,10 @@
 use Rattle.std.proofs.Common.{◌≡◌, ◌≤◌, ◌-◌, List, ℕ, length, take, drop}
 use Rattle.bz_token.specs.Cuts.{IsBlock}
-use Rattle.bz_token.specs.CutterState.{IsBehind, IsAtBlock}
+use Rattle.bz_token.specs.CutterState.{IsAfter, IsAtBlock}
 use Rattle.bz_engine.specs.Ahead.{IsReadOn, AreNeeded}
 use Rattle.bz_engine.proofs.ahead.ends_block.Given as goal
 
--- the cutter waits behind the block
+-- the cutter waits after the block
 abbrev pub invariant-loop-ahead : goal.invariant-loop-ahead
 invariant-loop-ahead g l = (pieces : List (List ℕ)) × record {
   gave : g.S.Source.gave l.initial.source pieces l.source;
@@ -12,7 +12,7 @@ invariant-loop-ahead g l = (pieces : List (List ℕ)) × record {
   needed : AreNeeded l.max_statement l.initial.ahead.bytes pieces;
   steady : g.S.Source.failures l.source ≡ g.S.Source.failures l.initial.source;
   at_block : IsAtBlock l.cutter;
-  behind : IsBehind l.cutter (take l.end l.ahead.bytes);
+  after : IsAfter l.cutter (take l.end l.ahead.bytes);
   block : IsBlock (take l.end l.ahead.bytes);
   within : l.end ≤ length l.ahead.bytes;
   few : length (drop l.end l.ahead.bytes) ≤ 8192;

@@ -1,10 +1,10 @@
 use Rattle.std.proofs.Common.{◌≡◌, ◌<◌, ◌∷◌, ◌++◌, ◌-◌, [], take, drop, length, refl, ap, sym, subst}
 use Rattle.bz_token.specs.Chunks.{chunks}
 use Rattle.bz_token.specs.Cuts.{IsPart, IsBlock, EndsBefore, ends_in_newline}
-use Rattle.bz_token.specs.CutterState.{IsBehind}
+use Rattle.bz_token.specs.CutterState.{IsAfter}
 use Rattle.bz_engine.proofs.ChunkLines.{front_line}
 use Rattle.bz_engine.proofs.ReadOn.{read_nothing}
-use Rattle.bz_engine.proofs.ChunkAhead.{line_physical, some_behind, takes_line, more_goes, block_line}
+use Rattle.bz_engine.proofs.ChunkAhead.{line_physical, some_after, takes_line, more_goes, block_line}
 use Rattle.bz_engine.proofs.ahead.ends_chunk.Goals as goal
 
 pub line-requires-clause-one_line : goal.line-requires-clause-one_line
@@ -32,9 +32,9 @@ returns-in-Whole-clause-ends g c _ rest may =
     let n = c.args.end in
     let bytes = c.args.ahead.now.bytes in
     let line = take (n - e) (drop e c.bytes.result.now) in
-    let behind = c.requires.goes_on.behind (some_behind c.args.ahead.now e n c.requires.some c.requires.line) in
+    let after = c.requires.goes_on.after (some_after c.args.ahead.now e n c.requires.some c.requires.line) in
     let front = front_line bytes line e n (ap (λ l. take (n - e) (drop e l)) c.bytes.ensures) c.requires.line.after in
-    let whole = c.in-Whole.ensures.whole (take e bytes) behind in
+    let whole = c.in-Whole.ensures.whole (take e bytes) after in
     subst (λ l. EndsBefore l (drop n bytes ++ rest)) front (whole.0 refl (drop n bytes ++ rest))
 
 pub returns-in-More-clause-goes : goal.returns-in-More-clause-goes
@@ -44,25 +44,25 @@ returns-in-More-clause-goes g c _ =
     let bytes = c.args.ahead.now.bytes in
     let line = take (n - e) (drop e c.bytes.result.now) in
     let same : line ≡ take (n - e) (drop e bytes) = ap (λ l. take (n - e) (drop e l)) c.bytes.ensures in
-    let behind = c.requires.goes_on.behind (some_behind c.args.ahead.now e n c.requires.some c.requires.line) in
+    let after = c.requires.goes_on.after (some_after c.args.ahead.now e n c.requires.some c.requires.line) in
     let front = front_line bytes line e n same c.requires.line.after in
     let more = c.in-More.ensures in
     more_goes c.line.new.self c.args.ahead.now e n (ends_in_newline line) (sym (ap ends_in_newline same)) c.requires.some c.requires.line
-    (λ t. subst (λ l. IsPart l) front (more.cut t (take e bytes) behind))
-    (λ t. subst (λ l. IsBehind c.line.new.self l) front (more.behind t (take e bytes) behind))
+    (λ t. subst (λ l. IsPart l) front (more.cut t (take e bytes) after))
+    (λ t. subst (λ l. IsAfter c.line.new.self l) front (more.after t (take e bytes) after))
     more.awaits
-    (λ f. subst (λ l. 0 < length l → chunks l ≡ l ∷ []) front (more.last f (take e bytes) behind).1)
+    (λ f. subst (λ l. 0 < length l → chunks l ≡ l ∷ []) front (more.last f (take e bytes) after).1)
 
-pub ends_block-requires-clause-behind : goal.ends_block-requires-clause-behind
-ends_block-requires-clause-behind g c =
+pub ends_block-requires-clause-after : goal.ends_block-requires-clause-after
+ends_block-requires-clause-after g c =
     let e = c.args.from in
     let n = c.args.end in
     let bytes = c.args.ahead.now.bytes in
     let line = take (n - e) (drop e c.bytes.result.now) in
-    let behind = c.requires.goes_on.behind (some_behind c.args.ahead.now e n c.requires.some c.requires.line) in
+    let after = c.requires.goes_on.after (some_after c.args.ahead.now e n c.requires.some c.requires.line) in
     let front = front_line bytes line e n (ap (λ l. take (n - e) (drop e l)) c.bytes.ensures) c.requires.line.after in
-    let newline = block_line (ends_in_newline line) (λ f. (c.in-Block.ensures.last f (take e bytes) behind).0) in
-    subst (λ l. IsBehind c.line.new.self l) front (c.in-Block.ensures.behind newline (take e bytes) behind)
+    let newline = block_line (ends_in_newline line) (λ f. (c.in-Block.ensures.last f (take e bytes) after).0) in
+    subst (λ l. IsAfter c.line.new.self l) front (c.in-Block.ensures.after newline (take e bytes) after)
 
 pub ends_block-requires-clause-block : goal.ends_block-requires-clause-block
 ends_block-requires-clause-block g c =
@@ -70,7 +70,7 @@ ends_block-requires-clause-block g c =
     let n = c.args.end in
     let bytes = c.args.ahead.now.bytes in
     let line = take (n - e) (drop e c.bytes.result.now) in
-    let behind = c.requires.goes_on.behind (some_behind c.args.ahead.now e n c.requires.some c.requires.line) in
+    let after = c.requires.goes_on.after (some_after c.args.ahead.now e n c.requires.some c.requires.line) in
     let front = front_line bytes line e n (ap (λ l. take (n - e) (drop e l)) c.bytes.ensures) c.requires.line.after in
-    let newline = block_line (ends_in_newline line) (λ f. (c.in-Block.ensures.last f (take e bytes) behind).0) in
-    subst (λ l. IsBlock l) front (c.in-Block.ensures.cut newline (take e bytes) behind)
+    let newline = block_line (ends_in_newline line) (λ f. (c.in-Block.ensures.last f (take e bytes) after).0) in
+    subst (λ l. IsBlock l) front (c.in-Block.ensures.cut newline (take e bytes) after)

@@ -1,5 +1,5 @@
 use Rattle.std.proofs.Common.{take}
-use Rattle.bz_engine.specs.AheadSteps.{IsOpen}
+use Rattle.bz_engine.specs.private.AheadSteps.{IsOpen}
 use Rattle.bz_engine.proofs.ahead.line_end.Given as goal
 
 -- no line has ended yet

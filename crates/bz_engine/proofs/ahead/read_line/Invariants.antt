@@ -1,6 +1,6 @@
 use Rattle.std.proofs.Common.{◌≡◌, ◌≤◌, ◌-◌, List, ℕ, length, take, drop}
 use Rattle.bz_engine.specs.Ahead.{IsReadOn, AreNeeded}
-use Rattle.bz_engine.specs.AheadSteps.{IsOpen, IsBegun}
+use Rattle.bz_engine.specs.private.AheadSteps.{IsOpen, IsBegun}
 use Rattle.bz_engine.proofs.ahead.read_line.Given as goal
 
 -- no line has ended in what was searched

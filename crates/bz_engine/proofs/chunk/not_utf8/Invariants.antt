@@ -2,7 +2,7 @@ use Rattle.std.proofs.Common.{◌≡◌, ◌+◌, ◌≤◌, ◌==◌, take, dro
 use Rattle.bz_token.specs.Places.{column_from}
 use Rattle.bz_engine.proofs.chunk.not_utf8.Given as goal
 
--- the line and the column behind what was passed
+-- the line and the column after what was passed
 abbrev pub invariant-loop-byte : goal.invariant-loop-byte
 invariant-loop-byte l = record {
   line : l.line ≡ l.first_line + count_by (λ b. b == 10) (take l.byte-index l.valid);

@@ -1,8 +1,8 @@
 use Rattle.std.proofs.Common.{◌∙◌, ap, sym, subst}
 use Rattle.bz_tree.specs.View.{view}
-use Rattle.bz_engine.specs.ChunkRead.{answer_of}
+use Rattle.bz_engine.specs.private.ChunkRead.{answer_of}
 use Rattle.bz_engine.specs.File.{Gives}
-use Rattle.bz_engine.specs.Edits.{IsEdited}
+use Rattle.bz_engine.specs.private.Edits.{IsEdited}
 use Rattle.bz_engine.proofs.ChunkEdits.{blank_edited, scripted_edited, line_moved}
 use Rattle.bz_engine.proofs.edit.edit_chunk.Goals as goal
 use Rattle.bz_engine.proofs.edit.edit_chunk.Goals.{in-Blank, in-Statement+in_ok-edited-in-Statement}

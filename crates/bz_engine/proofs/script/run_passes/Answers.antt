@@ -1,6 +1,6 @@
 use Rattle.std.proofs.Common.{◌≡◌, ◌||◌, arith, refl}
 use Rattle.std.proofs.lemmas.Grind.{common_steps}
-use Rattle.bz_engine.proofs.Steps.{fits_length, fits_here, fits_behind, slot_rest, kept_rest, some_rest, kept_and_fits}
+use Rattle.bz_engine.proofs.Steps.{fits_length, fits_here, fits_after, slot_rest, kept_rest, some_rest, kept_and_fits}
 use Rattle.bz_engine.specs.Exchange.{slot_after, kept_and, kept_alone, some_alone}
 use Rattle.bz_engine.proofs.script.run_passes.Goals as goal
 
@@ -29,7 +29,7 @@ loop-i-preserved g c =
     let after = g.L.Language.seen c.run_pass.new.slot in
     record {
       size = grind (arith, common_steps);
-      fits = fits_behind c.loop-i.kept passes i e c.run_pass.new.kept p (omega arith) (omega arith) is inv.fits;
+      fits = fits_after c.loop-i.kept passes i e c.run_pass.new.kept p (omega arith) (omega arith) is inv.fits;
       slot = slot_rest meaning passes i p before after (slot_after meaning passes first) (omega arith) is ensures.slot inv.slot;
       kept = kept_rest meaning passes i p before after c.loop-i.kept (kept_and c.args.kept.now (kept_alone meaning passes first)) e c.run_pass.new.kept (omega arith) is (omega arith) ensures.slot ensures.kept inv.kept;
       changed = some_rest meaning changes passes i p before after c.loop-i.facts.changed c.run_pass.new.facts.changed (facts.changed || some_alone meaning changes passes first) (omega arith) is ensures.slot ensures.changed inv.changed;

@@ -1,6 +1,6 @@
 use Rattle.std.proofs.Common.{[], ◌∷◌, is_ok, subst, sym}
 use Rattle.bz_folder.specs.Files.{SetMode, Rename, HasBytes}
-use Rattle.bz_folder.specs.Steps.{IsPut}
+use Rattle.bz_folder.specs.private.Steps.{IsPut}
 use Rattle.bz_folder.proofs.Ends.{installs}
 use Rattle.bz_folder.proofs.calls.install.Goals as goal
 

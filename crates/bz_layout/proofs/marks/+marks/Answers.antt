@@ -4,7 +4,7 @@ use Rattle.bz_tree.specs.declared.stmt.Group.{out-Group}
 use Rattle.bz_layout.specs.declared.broken.Style.TheVariants.{Broken}
 use Rattle.bz_tree.specs.View.{segs_view, texts}
 use Rattle.bz_layout.specs.Broken.{is_broken, segs_hold}
-use Rattle.bz_layout.specs.Marks.{segs_marks}
+use Rattle.bz_layout.specs.private.Marks.{segs_marks}
 use Rattle.bz_layout.proofs.Views.{view-group}
 use Rattle.bz_layout.proofs.Fronts.{own_mark}
 use Rattle.bz_layout.proofs.marks.+marks.Goals as goal

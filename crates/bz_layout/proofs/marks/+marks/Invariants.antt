@@ -1,7 +1,7 @@
 use Rattle.std.proofs.Common.{◌≡◌, ◌++◌, drop, ◌||◌}
 use Rattle.bz_tree.specs.View.{nodes_view, segs_view}
 use Rattle.bz_layout.specs.Broken.{items_hold, segs_hold}
-use Rattle.bz_layout.specs.Marks.{items_marks, segs_marks}
+use Rattle.bz_layout.specs.private.Marks.{items_marks, segs_marks}
 use Rattle.bz_layout.specs.declared.broken.Style.TheVariants.{Broken}
 use Rattle.bz_layout.proofs.marks.+marks.Given as goal
 use Rattle.bz_tree.specs.Tree.{items_of, segs_of}

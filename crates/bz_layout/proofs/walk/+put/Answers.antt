@@ -4,7 +4,7 @@ use Rattle.bz_tree.specs.View.{text_of}
 use Rattle.std.specs.Prelude.{codes, if◌then◌else◌}
 use Rattle.std.specs.Prelude.Option.{Some}
 use Rattle.bz_tree.specs.View.{node_view, nodes_view, segs_view, texts}
-use Rattle.bz_layout.specs.Spacing.{edge_behind}
+use Rattle.bz_layout.specs.Spacing.{edge_after}
 use denote.Param.Weighed.{most, at_most}
 use Rattle.bz_tree.specs.declared.stmt.Node.{size-Node}
 use Rattle.bz_tree.specs.declared.stmt.Seg.{size-Seg}
@@ -14,12 +14,12 @@ use Rattle.bz_layout.specs.Broken.{count, is_broken, segs_hold}
 use Rattle.bz_layout.specs.Pieces.{piece, bytes_of, comma_if, comments, suffix_piece}
 use Rattle.bz_layout.specs.Spacing.{gap_before}
 use Rattle.bz_layout.specs.Layout.{opening, closing, has_commas, breaks, item_pieces, items_pieces, broken_segs, flat_segs}
-use Rattle.bz_layout.specs.Marks.{IsFront, mark, item_marks, items_marks, segs_marks}
+use Rattle.bz_layout.specs.private.Marks.{IsFront, mark, item_marks, items_marks, segs_marks}
 use Rattle.bz_layout.specs.declared.spacing.Edge.TheVariants.{Start}
 use Rattle.bz_layout.specs.declared.spacing.Gap.TheVariants.{Closed, Space, Line}
 use Rattle.bz_layout.proofs.Pieces.{text_step, deep_step, text_join, piece_step}
 use Rattle.bz_layout.proofs.Views.{nodes_at, segs_at, seg_size, view-group, count_view}
-use Rattle.bz_layout.proofs.Fronts.{front_left, front_right, front_behind}
+use Rattle.bz_layout.proofs.Fronts.{front_left, front_right, front_after}
 use Rattle.bz_layout.proofs.walk.+put.Goals as goal
 use Rattle.bz_layout.proofs.walk.+put.Goals.{put_broken_segs-then-comma+in_ok-push_str, put_broken_segs-else-comma, put_flat_segs-then-not-first+in_ok-push_str, put_flat_segs-else-not-first, put_group-then-group+in_ok-push_str, put_group-else-group}
 use Rattle.bz_tree.specs.Tree.{items_of, segs_of}
@@ -39,9 +39,9 @@ put_nodes-loop-node-preserved t c =
     let rest = c.loop-node.rest.now in
     let put : string_bytes c.put_node.new.out ≡ string_bytes c.loop-node.out ++ bytes_of (item_pieces style c.args.level (gap_before c.args.first c.loop-node.left x) x) = rw c.gap_before-gap.ensures at c.in_ok-rest.ensures.text in
     record {
-      text = rw c.edge_behind-left.ensures (text_step (string_bytes c.loop-node.out) (string_bytes c.put_node.new.out) _ (item_pieces style c.args.level (gap_before c.args.first c.loop-node.left x) x) (items_pieces style c.args.level c.args.within c.args.first (edge_behind c.args.within c.loop-node.left x) xs) put (rw here at c.loop-node.invariant.text));
+      text = rw c.edge_after-left.ensures (text_step (string_bytes c.loop-node.out) (string_bytes c.put_node.new.out) _ (item_pieces style c.args.level (gap_before c.args.first c.loop-node.left x) x) (items_pieces style c.args.level c.args.within c.args.first (edge_after c.args.within c.loop-node.left x) xs) put (rw here at c.loop-node.invariant.text));
       front = rw c.in_ok-rest.ensures.marks (front_right (item_marks style x) (items_marks style xs) rest (rw here at c.loop-node.invariant.front));
-      behind = rw c.in_ok-rest.ensures.marks (front_behind (item_marks style x) (items_marks style xs) rest ∙ rw here at c.loop-node.invariant.behind);
+      after = rw c.in_ok-rest.ensures.marks (front_after (item_marks style x) (items_marks style xs) rest ∙ rw here at c.loop-node.invariant.after);
       deep = deep_step c.args.level (string_bytes c.loop-node.out) (string_bytes c.put_node.new.out) (item_pieces style c.args.level (gap_before c.args.first c.loop-node.left x) x) put c.loop-node.invariant.deep;
     }
 
@@ -88,7 +88,7 @@ put_broken_segs-loop-seg-preserved t c =
     record {
       text = text_step o3 o4 _ p4 p5 e4 (text_step o2 o3 _ p3 (p4 ++ p5) e3 (text_step o1 o2 _ p2 (p3 ++ (p4 ++ p5)) e2 (text_step o0 o1 _ p1 (p2 ++ (p3 ++ (p4 ++ p5))) e1 (rw here at c.loop-seg.invariant.text))));
       front = rw marks (front_right (items_marks style xs) (segs_marks style ss) rest (rw here at c.loop-seg.invariant.front));
-      behind = rw marks (front_behind (items_marks style xs) (segs_marks style ss) rest ∙ rw here at c.loop-seg.invariant.behind);
+      after = rw marks (front_after (items_marks style xs) (segs_marks style ss) rest ∙ rw here at c.loop-seg.invariant.after);
       deep = deep_step level o3 o4 p4 e4 (deep_step level o2 o3 p3 e3 (deep_step level o1 o2 p2 e2 (deep_step level o0 o1 p1 e1 c.loop-seg.invariant.deep)));
     }
 
@@ -140,7 +140,7 @@ put_flat_segs-loop-seg-preserved t c =
     record {
       text = text_step o0 o2 _ p1 p2 e1 (rw here at c.loop-seg.invariant.text);
       front = rw marks (front_right (items_marks style xs) (segs_marks style ss) rest (rw here at c.loop-seg.invariant.front));
-      behind = rw marks (front_behind (items_marks style xs) (segs_marks style ss) rest ∙ rw here at c.loop-seg.invariant.behind);
+      after = rw marks (front_after (items_marks style xs) (segs_marks style ss) rest ∙ rw here at c.loop-seg.invariant.after);
       deep = deep_step level o0 o2 p1 e1 c.loop-seg.invariant.deep;
     }
 

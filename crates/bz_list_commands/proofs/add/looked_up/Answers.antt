@@ -3,7 +3,7 @@ use Rattle.bz_tree.specs.View.{nodes_view, segs_view}
 use Rattle.bz_command.specs.Labels.{Package}
 use Rattle.bz_attribute.specs.Lists.{parts, same}
 use Rattle.bz_command.specs.LabelSetViews.{has}
-use Rattle.bz_attribute.specs.ElementSets.{is_in}
+use Rattle.bz_attribute.specs.private.ElementSets.{is_in}
 use Rattle.bz_attribute.specs.Effects.{string}
 use Rattle.bz_attribute.proofs.Fresh.{fresh_step, there_step}
 use Rattle.bz_attribute.proofs.LabelSets.{or_false}

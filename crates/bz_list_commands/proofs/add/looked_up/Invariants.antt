@@ -3,7 +3,7 @@ use Rattle.std.specs.List.{list_any}
 use Rattle.bz_tree.specs.View.{segs_view, nodes_view}
 use Rattle.bz_attribute.specs.Lists.{parts, same}
 use Rattle.bz_command.specs.LabelSetViews.{has}
-use Rattle.bz_attribute.specs.ElementSets.{is_in}
+use Rattle.bz_attribute.specs.private.ElementSets.{is_in}
 use Rattle.bz_attribute.specs.Effects.{string, fresh, new_elements}
 use Rattle.bz_list_commands.proofs.add.looked_up.Given as goal
 

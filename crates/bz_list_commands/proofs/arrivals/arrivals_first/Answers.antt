@@ -3,7 +3,7 @@ use Rattle.std.proofs.lemmas.List.{length-map}
 use Rattle.bz_tree.specs.View.{nodes_view, seg_view, segs_view}
 use Rattle.bz_attribute.specs.Lists.{parts}
 use Rattle.bz_attribute.specs.Moving.{joined}
-use Rattle.bz_list_commands.specs.MovingSteps.{flagged}
+use Rattle.bz_list_commands.specs.private.MovingSteps.{flagged}
 use Rattle.bz_list_commands.proofs.Flags.{flagged_arrive, length_flags}
 use Rattle.bz_list_commands.proofs.arrivals.arrivals_first.Goals as goal
 

@@ -1,7 +1,7 @@
 use Rattle.std.proofs.Common.{refl}
 use Rattle.bz_tree.specs.View.{nodes_view, segs_view}
 use Rattle.bz_attribute.specs.Lists.{equals, parts}
-use Rattle.bz_command.specs.ByteSteps.{left}
+use Rattle.bz_command.specs.private.ByteSteps.{left}
 use Rattle.bz_list_commands.proofs.Arriving.{any_there}
 use Rattle.bz_list_commands.proofs.arrivals.is_among.Goals as goal
 

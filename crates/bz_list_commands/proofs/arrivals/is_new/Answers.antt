@@ -1,5 +1,5 @@
 use Rattle.std.proofs.Common.{ℕ, List, Option, Bool, ◌||◌, ap, sym, ◌∙◌}
-use Rattle.bz_command.specs.ByteSteps.{left}
+use Rattle.bz_command.specs.private.ByteSteps.{left}
 use Rattle.bz_attribute.specs.Lists.{same_value}
 use Rattle.bz_command.specs.LabelSetViews.{has}
 use Rattle.bz_attribute.proofs.LabelSets.{same_back}

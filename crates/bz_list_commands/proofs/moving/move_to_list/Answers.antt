@@ -4,9 +4,9 @@ use Rattle.bz_tree.specs.declared.stmt.Seg.{Seg}
 use Rattle.bz_tree.specs.Tree.{Segment}
 use Rattle.bz_tree.specs.View.{seg_view, segs_view}
 use Rattle.bz_attribute.specs.Rules.{first_named}
-use Rattle.bz_attribute.specs.ChosenViews.{chosen_view}
+use Rattle.bz_attribute.specs.private.ChosenViews.{chosen_view}
 use Rattle.bz_attribute.specs.Effects.{unchosen}
-use Rattle.bz_attribute.specs.Places.{first_length}
+use Rattle.bz_attribute.specs.private.Places.{first_length}
 use Rattle.bz_attribute.specs.Moving.{chosen_of}
 use Rattle.bz_list_commands.proofs.Arriving.{first_still, moved_to_list}
 use Rattle.bz_list_commands.proofs.moving.move_to_list.Goals as goal

@@ -4,7 +4,7 @@ use Rattle.bz_tree.specs.declared.stmt.Seg.{Seg}
 use Rattle.bz_tree.specs.Tree.{Segment}
 use Rattle.bz_tree.specs.View.{seg_view, segs_view}
 use Rattle.bz_attribute.specs.Rules.{first_named, is_named}
-use Rattle.bz_attribute.specs.ChosenViews.{chosen_view}
+use Rattle.bz_attribute.specs.private.ChosenViews.{chosen_view}
 use Rattle.bz_attribute.specs.Effects.{argument, edit_first, filtered, list_item, unchosen}
 use Rattle.bz_attribute.specs.Moving.{chosen_of}
 use Rattle.bz_list_commands.proofs.Arriving.{moved_to_new}

@@ -1,6 +1,6 @@
 use Rattle.std.proofs.Common.{◌≡◌, drop}
 use Rattle.bz_tree.specs.View.{segs_view}
-use Rattle.bz_attribute.specs.ChosenViews.{chosen_view}
+use Rattle.bz_attribute.specs.private.ChosenViews.{chosen_view}
 use Rattle.bz_attribute.specs.Effects.{chooses_anywhere}
 use Rattle.bz_list_commands.proofs.remove.chooses_anywhere.Given as goal
 

@@ -1,8 +1,8 @@
 use Rattle.std.proofs.Common.{◌≡◌, ◌++◌, take, drop, map}
 use Rattle.bz_tree.specs.View.{segs_view}
-use Rattle.bz_attribute.specs.ChosenViews.{chosen_view}
+use Rattle.bz_attribute.specs.private.ChosenViews.{chosen_view}
 use Rattle.bz_attribute.specs.Effects.{unchosen}
-use Rattle.bz_list_commands.specs.EditSteps.{edit_attribute}
+use Rattle.bz_list_commands.specs.private.EditSteps.{edit_attribute}
 use Rattle.bz_list_commands.proofs.remove.drop_everywhere.Given as goal
 
 abbrev pub invariant-loop-i : goal.invariant-loop-i

@@ -1,9 +1,9 @@
 use Rattle.std.proofs.Common.{not, ap, rules}
 use Rattle.std.proofs.lemmas.Fn.{filter_same}
 use Rattle.bz_tree.specs.View.{seg_view, segs_view}
-use Rattle.bz_attribute.specs.ChosenViews.{chosen_view}
+use Rattle.bz_attribute.specs.private.ChosenViews.{chosen_view}
 use Rattle.bz_attribute.specs.Effects.{unchosen}
-use Rattle.bz_list_commands.specs.EditSteps.{is_lost}
+use Rattle.bz_list_commands.specs.private.EditSteps.{is_lost}
 use Rattle.bz_attribute.proofs.Mapped.{filter-map}
 use Rattle.bz_list_commands.proofs.remove.drop_lost.Goals as goal
 

@@ -1,7 +1,7 @@
 use Rattle.std.proofs.Common.{ap, ◌∙◌, map}
-use Rattle.bz_attribute.specs.ChosenViews.{chosen_view}
+use Rattle.bz_attribute.specs.private.ChosenViews.{chosen_view}
 use Rattle.bz_attribute.specs.Effects.{unchosen}
-use Rattle.bz_list_commands.specs.EditSteps.{edit_attribute}
+use Rattle.bz_list_commands.specs.private.EditSteps.{edit_attribute}
 use Rattle.bz_list_commands.proofs.ArgEdits.{in_two_steps}
 use Rattle.bz_tree.specs.View.{segs_view}
 use Rattle.bz_list_commands.proofs.remove.remove_chosen_everywhere.Goals as goal

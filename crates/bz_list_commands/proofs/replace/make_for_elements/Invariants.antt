@@ -1,6 +1,6 @@
 use Rattle.std.proofs.Common.{◌≡◌, ◌+◌, drop, length}
 use Rattle.bz_tree.specs.View.{segs_view}
-use Rattle.bz_list_commands.specs.ReplaceSteps.{AreStrings, count, goes}
+use Rattle.bz_list_commands.specs.private.ReplaceSteps.{AreStrings, count, goes}
 use Rattle.bz_list_commands.proofs.replace.make_for_elements.Given as goal
 
 abbrev pub invariant-loop-element : goal.invariant-loop-element

@@ -1,6 +1,6 @@
 use Rattle.std.proofs.Common.{◌≡◌, ◌+◌, drop, length, true}
 use Rattle.bz_tree.specs.View.{nodes_view}
-use Rattle.bz_list_commands.specs.ReplaceSteps.{AreStrings, count_from, goes}
+use Rattle.bz_list_commands.specs.private.ReplaceSteps.{AreStrings, count_from, goes}
 use Rattle.bz_list_commands.proofs.replace.make_for_value.Given as goal
 
 abbrev pub invariant-loop-i : goal.invariant-loop-i

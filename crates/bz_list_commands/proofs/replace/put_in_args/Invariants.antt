@@ -1,7 +1,7 @@
 use Rattle.std.proofs.Common.{◌≡◌, ◌++◌, ◌≤◌, take, drop, map, length}
 use Rattle.bz_tree.specs.View.{segs_view}
-use Rattle.bz_list_commands.specs.EditSteps.{edit_attribute}
-use Rattle.bz_list_commands.specs.ReplaceSteps.{AreStrings, count_everywhere, goes, put}
+use Rattle.bz_list_commands.specs.private.EditSteps.{edit_attribute}
+use Rattle.bz_list_commands.specs.private.ReplaceSteps.{AreStrings, count_everywhere, goes, put}
 use Rattle.bz_list_commands.proofs.replace.put_in_args.Given as goal
 
 abbrev pub invariant-loop-i : goal.invariant-loop-i

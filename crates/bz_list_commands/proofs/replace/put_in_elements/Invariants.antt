@@ -1,6 +1,6 @@
 use Rattle.std.proofs.Common.{◌≡◌, ◌+◌, ◌++◌, ◌≤◌, take, drop, length}
 use Rattle.bz_tree.specs.View.{segs_view}
-use Rattle.bz_list_commands.specs.ReplaceSteps.{AreStrings, count, goes, put}
+use Rattle.bz_list_commands.specs.private.ReplaceSteps.{AreStrings, count, goes, put}
 use Rattle.bz_list_commands.proofs.replace.put_in_elements.Given as goal
 
 abbrev pub invariant-loop-i : goal.invariant-loop-i

@@ -5,7 +5,7 @@ use Rattle.bz_tree.specs.declared.stmt.Node.{Node}
 use Rattle.bz_tree.specs.declared.stmt.Seg.{Seg}
 use Rattle.bz_tree.specs.View.{node_view, segs_view}
 use Rattle.bz_attribute.specs.Rules.{elements}
-use Rattle.bz_list_commands.specs.ReplaceSteps.{count, goes, put}
+use Rattle.bz_list_commands.specs.private.ReplaceSteps.{count, goes, put}
 use Rattle.bz_attribute.proofs.Groups.{edited_group, elements_group}
 use Rattle.bz_list_commands.proofs.replace.put_in_list.Goals as goal
 

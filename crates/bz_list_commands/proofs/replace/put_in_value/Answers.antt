@@ -1,5 +1,5 @@
 use Rattle.std.proofs.Common.{◌<◌, length, sym, ◌∙◌, arith}
-use Rattle.bz_list_commands.specs.ReplaceSteps.{goes, put}
+use Rattle.bz_list_commands.specs.private.ReplaceSteps.{goes, put}
 use Rattle.bz_attribute.proofs.PartEdits.{edit_node_step, keep_node_step}
 use Rattle.bz_list_commands.proofs.Pool.{part_taken, part_passed}
 use Rattle.bz_list_commands.proofs.replace.put_in_value.Goals as goal

@@ -1,7 +1,7 @@
 use Rattle.std.proofs.Common.{◌≡◌, ◌+◌, ◌++◌, ◌≤◌, take, drop, length, true}
 use Rattle.bz_tree.specs.View.{nodes_view}
 use Rattle.bz_attribute.specs.Lists.{edit_from}
-use Rattle.bz_list_commands.specs.ReplaceSteps.{AreStrings, count_from, goes, put}
+use Rattle.bz_list_commands.specs.private.ReplaceSteps.{AreStrings, count_from, goes, put}
 use Rattle.bz_list_commands.proofs.replace.put_in_value.Given as goal
 
 abbrev pub invariant-loop-i : goal.invariant-loop-i

@@ -1,7 +1,7 @@
 use Rattle.std.proofs.Common.{◌≡◌, ℕ, Bool, None, nat_lt, length, ap, sym, ◌∙◌, arith}
 use Rattle.bz_tree.specs.View.{segs_view}
 use Rattle.bz_attribute.specs.Effects.{done}
-use Rattle.bz_list_commands.specs.ReplaceSteps.{count_everywhere, goes}
+use Rattle.bz_list_commands.specs.private.ReplaceSteps.{count_everywhere, goes}
 use Rattle.bz_list_commands.proofs.Pool.{any_everywhere}
 use Rattle.bz_list_commands.proofs.replace.replace_everywhere.Goals as goal
 

@@ -3,7 +3,7 @@ use Rattle.std.proofs.lemmas.List.{drop-map, take_rest}
 use Rattle.bz_tree.specs.View.{node_view, nodes_view, seg_view}
 use Rattle.bz_attribute.specs.Effects.{done}
 use Rattle.bz_attribute.specs.Rules.{value}
-use Rattle.bz_list_commands.specs.ReplaceSteps.{count_in, goes}
+use Rattle.bz_list_commands.specs.private.ReplaceSteps.{count_in, goes}
 use Rattle.bz_attribute.proofs.Groups.{view_of_seg}
 use Rattle.bz_list_commands.proofs.Pool.{any_in}
 use Rattle.bz_list_commands.proofs.replace.replace_in.Goals as goal

@@ -1,7 +1,7 @@
 use Rattle.std.proofs.Common.{◌≡◌, ◌≤◌, ◌+◌, length, drop, filter}
 use Rattle.std.specs.Vec.{vec_len, vec_capacity}
 use Rattle.bz_tree.specs.View.{segs_view}
-use Rattle.bz_attribute.specs.ChosenViews.{chosen_view}
+use Rattle.bz_attribute.specs.private.ChosenViews.{chosen_view}
 use Rattle.bz_attribute.specs.Effects.{is_chosen}
 use Rattle.bz_list_commands.proofs.Leaving.{Parted}
 use Rattle.bz_list_commands.proofs.taking.part_elements.Given as goal

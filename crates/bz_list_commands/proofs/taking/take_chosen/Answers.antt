@@ -2,7 +2,7 @@ use Rattle.std.proofs.Common.{List, take, ap, sym, ◌∙◌, arith}
 use Rattle.std.proofs.lemmas.List.{take-map, with_items_is}
 use Rattle.bz_tree.specs.declared.stmt.Seg.{Seg}
 use Rattle.bz_tree.specs.View.{seg_view, segs_view}
-use Rattle.bz_attribute.specs.ChosenViews.{chosen_view}
+use Rattle.bz_attribute.specs.private.ChosenViews.{chosen_view}
 use Rattle.bz_attribute.specs.Effects.{unchosen}
 use Rattle.bz_list_commands.proofs.taking.take_chosen.Goals as goal
 

@@ -1,7 +1,7 @@
 use Rattle.std.proofs.Common.{get_or, ap, sym, ◌∙◌, arith}
 use Rattle.std.proofs.lemmas.List.{length-set}
 use Rattle.bz_tree.specs.View.{seg_view, segs_view}
-use Rattle.bz_attribute.specs.ChosenViews.{chosen_view}
+use Rattle.bz_attribute.specs.private.ChosenViews.{chosen_view}
 use Rattle.bz_attribute.specs.Effects.{unchosen, filtered}
 use Rattle.bz_list_commands.proofs.Leaving.{remove-set, lost_goes}
 use Rattle.bz_list_commands.proofs.taking.take_in_first.Goals as goal

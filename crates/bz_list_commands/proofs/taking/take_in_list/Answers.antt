@@ -2,7 +2,7 @@ use Rattle.std.proofs.Common.{◌≡◌, ap, refl, ◌∙◌}
 use Rattle.bz_tree.specs.declared.stmt.Node.{Node}
 use Rattle.bz_tree.specs.declared.stmt.Group.{out-Group}
 use Rattle.bz_tree.specs.View.{node_view, segs_view}
-use Rattle.bz_attribute.specs.ChosenViews.{chosen_view}
+use Rattle.bz_attribute.specs.private.ChosenViews.{chosen_view}
 use Rattle.bz_attribute.specs.Effects.{unchosen}
 use Rattle.bz_attribute.specs.Rules.{elements}
 use Rattle.bz_attribute.proofs.Groups.{edited_group, elements_group}

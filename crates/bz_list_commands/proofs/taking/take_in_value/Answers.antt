@@ -2,7 +2,7 @@ use Rattle.std.proofs.Common.{◌≡◌, ◌+◌, length, filter, drop, sym, ◌
 use Rattle.std.specs.Vec.{vec_capacity}
 use Rattle.std.proofs.lemmas.List.{length-map}
 use Rattle.bz_tree.specs.View.{seg_view, segs_view, nodes_view}
-use Rattle.bz_attribute.specs.ChosenViews.{chosen_view}
+use Rattle.bz_attribute.specs.private.ChosenViews.{chosen_view}
 use Rattle.bz_attribute.specs.Effects.{is_chosen, unchosen}
 use Rattle.bz_attribute.specs.Lists.{parts_from}
 use Rattle.bz_attribute.specs.Moving.{joined}

@@ -1,7 +1,7 @@
 use Rattle.std.proofs.Common.{◌≡◌, ◌≤◌, ◌+◌, ◌++◌, length, take, drop, filter, true}
 use Rattle.std.specs.Vec.{vec_len, vec_capacity}
 use Rattle.bz_tree.specs.View.{nodes_view, segs_view}
-use Rattle.bz_attribute.specs.ChosenViews.{chosen_view}
+use Rattle.bz_attribute.specs.private.ChosenViews.{chosen_view}
 use Rattle.bz_attribute.specs.Effects.{is_chosen, unchosen}
 use Rattle.bz_attribute.specs.Lists.{edit_from, parts_from}
 use Rattle.bz_attribute.specs.Moving.{joined}

@@ -1,6 +1,6 @@
 use Rattle.std.proofs.Common.{length, map}
 use Rattle.bz_token.specs.Places.{placed}
-use Rattle.bz_token.specs.Scans.{opened}
+use Rattle.bz_token.specs.private.Scans.{opened}
 use Rattle.bz_token.proofs.Progress.{Progress}
 use Rattle.bz_token.proofs.lexer.tokens.Given as goal
 

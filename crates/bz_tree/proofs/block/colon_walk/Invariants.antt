@@ -1,6 +1,6 @@
 use Rattle.std.proofs.Common.{◌≡◌, ◌≤◌, false, drop, map}
 use Rattle.bz_token.specs.Places.{placed}
-use Rattle.bz_tree.specs.BlockSteps.{colon_run}
+use Rattle.bz_tree.specs.private.BlockSteps.{colon_run}
 use Rattle.bz_tree.proofs.block.colon_walk.Given as goal
 
 abbrev pub invariant-loop-token : goal.invariant-loop-token

@@ -1,6 +1,6 @@
 use Rattle.std.proofs.Common.{◌≡◌, drop}
 use Rattle.bz_tree.specs.Brackets.{has_for}
-use Rattle.bz_tree.specs.Steps.{owns_view}
+use Rattle.bz_tree.specs.private.Steps.{owns_view}
 use Rattle.bz_tree.proofs.build.has_for.Given as goal
 
 abbrev pub invariant-loop-own : goal.invariant-loop-own

@@ -1,7 +1,7 @@
 use Rattle.std.proofs.Common.{◌≡◌, [], drop, map, None}
 use Rattle.bz_token.specs.Places.{placed}
-use Rattle.bz_tree.specs.Steps.{run, state, new_level}
-use Rattle.bz_tree.specs.BorrowedSteps.{state_owned}
+use Rattle.bz_tree.specs.private.Steps.{run, state, new_level}
+use Rattle.bz_tree.specs.private.BorrowedSteps.{state_owned}
 use Rattle.bz_tree.proofs.build.run.Given as goal
 
 abbrev pub invariant-loop-token : goal.invariant-loop-token

@@ -1,7 +1,7 @@
 use Rattle.std.proofs.Common.{map, sym, subst}
 use Rattle.bz_token.specs.Places.{placed}
 use Rattle.bz_tree.specs.Statement.{EndsFit}
-use Rattle.bz_tree.specs.BlockSteps.{AreStanding}
+use Rattle.bz_tree.specs.private.BlockSteps.{AreStanding}
 use Rattle.bz_tree.proofs.Standing.{ends_fit, standing}
 use Rattle.bz_tree.proofs.chunk.parse.Goals as goal
 

@@ -2,7 +2,7 @@ use Rattle.std.proofs.Common.{map, option_map, sym, ap, ◌∙◌}
 use Rattle.bz_token.specs.Places.{placed}
 use Rattle.bz_tree.specs.Tree.{Segment, items_of}
 use Rattle.bz_tree.specs.View.{seg_view, nodes_view}
-use Rattle.bz_tree.specs.Machine.{is_statement}
+use Rattle.bz_tree.specs.private.Machine.{is_statement}
 use Rattle.bz_tree.proofs.Views.{view-seg}
 use Rattle.bz_tree.proofs.Plain.{plain_is, no_plain_tree, no_plain_grammar}
 use Rattle.bz_tree.proofs.chunk.plain_statement.Goals as goal

@@ -1,7 +1,7 @@
 use Rattle.std.proofs.Common.{◌≡◌, drop}
 use Rattle.bz_tree.specs.View.{nodes_view}
 use Rattle.bz_tree.specs.Statement.{is_rule}
-use Rattle.bz_tree.specs.Steps.{rule_from}
+use Rattle.bz_tree.specs.private.Steps.{rule_from}
 use Rattle.bz_tree.proofs.class.is_rule.Given as goal
 
 abbrev pub invariant-loop-node : goal.invariant-loop-node

@@ -1,7 +1,7 @@
 use Rattle.std.proofs.Common.{◌≡◌, drop}
 use Rattle.bz_tree.specs.Tree.{items_of, segs_of}
 use Rattle.bz_tree.specs.View.{nodes_view, segs_view}
-use Rattle.bz_tree.specs.Machine.{accepts, each}
+use Rattle.bz_tree.specs.private.Machine.{accepts, each}
 use Rattle.bz_tree.proofs.grammar.+grammar.Given as goal
 
 abbrev pub invariant-accepts-loop-node : goal.invariant-accepts-loop-node

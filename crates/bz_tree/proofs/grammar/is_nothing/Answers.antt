@@ -3,7 +3,7 @@ use Rattle.std.proofs.lemmas.Bool.Decides.{nat_tests}
 use Rattle.bz_tree.specs.declared.stmt.Node.{Node}
 use Rattle.bz_tree.specs.Tree.{items_of}
 use Rattle.bz_tree.specs.View.{nodes_view}
-use Rattle.bz_tree.specs.Machine.{is_nothing}
+use Rattle.bz_tree.specs.private.Machine.{is_nothing}
 use Rattle.bz_tree.proofs.grammar.is_nothing.Goals as goal
 
 none_length : (ns : List Node) → nat_eq (length ns) 0 ≡ is_nothing (items_of (nodes_view ns))

@@ -2,7 +2,7 @@ use Rattle.std.proofs.Common.{◌≡◌, ◌≤◌, ◌<◌, false, List, [], �
 use Rattle.bz_tree.specs.declared.stmt.Node.{Node}
 use Rattle.bz_tree.specs.Tree.{items_of}
 use Rattle.bz_tree.specs.View.{nodes_view}
-use Rattle.bz_tree.specs.Machine.{is_renamed}
+use Rattle.bz_tree.specs.private.Machine.{is_renamed}
 use Rattle.bz_tree.proofs.grammar.is_renamed.Goals as goal
 
 short : (ns : List Node) → length ns < 3 → false ≡ is_renamed (items_of (nodes_view ns))

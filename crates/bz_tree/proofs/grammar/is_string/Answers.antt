@@ -2,7 +2,7 @@ use Rattle.std.proofs.Common.{◌≡◌, ◌≤◌, false, List, [], ◌∷◌, 
 use Rattle.bz_tree.specs.declared.stmt.Node.{Node}
 use Rattle.bz_tree.specs.Tree.{items_of}
 use Rattle.bz_tree.specs.View.{nodes_view}
-use Rattle.bz_tree.specs.Machine.{is_string}
+use Rattle.bz_tree.specs.private.Machine.{is_string}
 use Rattle.bz_tree.proofs.grammar.is_string.Goals as goal
 
 long : (ns : List Node) → 2 ≤ length ns → false ≡ is_string (items_of (nodes_view ns))

@@ -1,6 +1,6 @@
 use Rattle.std.proofs.Common.{◌+◌, length, ap, ◌∙◌, arith}
 use Rattle.bz_token.specs.Places.{placed}
-use Rattle.bz_tree.specs.BlockSteps.{offset_run}
+use Rattle.bz_tree.specs.private.BlockSteps.{offset_run}
 use Rattle.bz_tree.proofs.KeptText.{begin_is, end_is, end_within, begin_cut, end_cut, kept_between}
 use Rattle.bz_tree.proofs.kept.kept_text.Goals as goal
 

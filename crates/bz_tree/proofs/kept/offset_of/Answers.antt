@@ -1,5 +1,5 @@
 use Rattle.std.proofs.Common.{◌≡◌, drop, ap, ◌∙◌, arith}
-use Rattle.bz_tree.specs.BlockSteps.{offset_run}
+use Rattle.bz_tree.specs.private.BlockSteps.{offset_run}
 use Rattle.bz_tree.proofs.KeptText.{offset_here}
 use Rattle.bz_tree.proofs.kept.offset_of.Goals as goal
 

@@ -1,5 +1,5 @@
 use Rattle.std.proofs.Common.{◌≡◌, ◌+◌, ◌≤◌, ◌==◌, drop, count_by}
-use Rattle.bz_tree.specs.BlockSteps.{offset_run}
+use Rattle.bz_tree.specs.private.BlockSteps.{offset_run}
 use Rattle.bz_tree.proofs.kept.offset_of.Given as goal
 
 abbrev pub invariant-loop-byte : goal.invariant-loop-byte

@@ -1,7 +1,7 @@
 use Rattle.std.proofs.Common.{ap, ◌∙◌, arith}
 use Rattle.std.proofs.lemmas.Grind.{common_steps}
 use Rattle.bz_tree.specs.Borrowed.{seg_owned}
-use Rattle.bz_tree.specs.BorrowedSteps.{segs_owned}
+use Rattle.bz_tree.specs.private.BorrowedSteps.{segs_owned}
 use Rattle.bz_tree.proofs.Borrowed.{owned_push, owned_pop}
 use Rattle.bz_tree.proofs.OneBracket.{to_last-push}
 use Rattle.bz_tree.proofs.owners.add_to_last.Goals as goal

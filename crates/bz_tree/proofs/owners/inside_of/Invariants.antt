@@ -1,8 +1,8 @@
 use Rattle.std.proofs.Common.{◌≡◌, ◌+◌, ◌≤◌}
 use Rattle.std.specs.Vec.Iter.{into_iter_items}
 use Rattle.bz_tree.specs.Brackets.{own_items}
-use Rattle.bz_tree.specs.Steps.{walk, walked, owns_view, at_start}
-use Rattle.bz_tree.specs.BorrowedSteps.{walk_owned, owns_owned}
+use Rattle.bz_tree.specs.private.Steps.{walk, walked, owns_view, at_start}
+use Rattle.bz_tree.specs.private.BorrowedSteps.{walk_owned, owns_owned}
 use Rattle.bz_tree.proofs.owners.inside_of.Given as goal
 
 abbrev pub invariant-loop-own : goal.invariant-loop-own

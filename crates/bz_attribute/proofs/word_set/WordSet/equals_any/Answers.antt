@@ -1,6 +1,6 @@
 use Rattle.std.proofs.Common.{List, ℕ, Option, ap, sym, ◌∙◌}
 use Rattle.std.specs.List.{list_any}
-use Rattle.bz_command.specs.ByteSteps.{left}
+use Rattle.bz_command.specs.private.ByteSteps.{left}
 use Rattle.bz_command.specs.Labels.{Package}
 use Rattle.bz_attribute.specs.Lists.{same, same_value}
 use Rattle.bz_attribute.proofs.LabelSets.{none_same}

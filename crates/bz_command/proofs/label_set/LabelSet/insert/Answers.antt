@@ -1,5 +1,5 @@
 use Rattle.std.proofs.Common.{◌∙◌}
-use Rattle.bz_command.specs.ByteSteps.{left}
+use Rattle.bz_command.specs.private.ByteSteps.{left}
 use Rattle.bz_command.specs.Same.{completed}
 use Rattle.bz_command.specs.LabelSetViews.{has}
 use Rattle.bz_command.proofs.LabelSets.{one_more}

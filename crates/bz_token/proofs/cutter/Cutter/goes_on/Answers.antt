@@ -1,13 +1,13 @@
-use Rattle.bz_token.proofs.CutAnswers.{next_is, awaits_line, behind_next}
-use Rattle.bz_token.proofs.CutBehind.{fresh_behind}
+use Rattle.bz_token.proofs.CutAnswers.{next_is, awaits_line, after_next}
+use Rattle.bz_token.proofs.CutAfter.{fresh_after}
 use Rattle.bz_token.proofs.cutter.Cutter.goes_on.Goals as goal
 
-pub returns-in-Ends-clause-behind : goal.returns-in-Ends-clause-behind
-returns-in-Ends-clause-behind c seen b = rw c.fresh.ensures fresh_behind
+pub returns-in-Ends-clause-after : goal.returns-in-Ends-clause-after
+returns-in-Ends-clause-after c seen b = rw c.fresh.ensures fresh_after
 
 pub returns-in_default-block_goes_on : goal.returns-in_default-block_goes_on
 returns-in_default-block_goes_on c = record {
   next = next_is c.args.self.now c.in-InBlock.word c.block_goes_on.result c.args.at_end c.args.ahead.now c.in-InBlock.is c.requires.at_block.ended c.block_goes_on.ensures;
-  behind = behind_next c.args.self.now c.block_goes_on.result c.in_default-block_goes_on.not-Ends;
+  after = after_next c.args.self.now c.block_goes_on.result c.in_default-block_goes_on.not-Ends;
   awaits = awaits_line c.args.self.now c.in-InBlock.word c.block_goes_on.result c.args.at_end c.args.ahead.now c.in-InBlock.is c.requires.at_block c.block_goes_on.ensures c.in_default-block_goes_on.not-Ends;
 }

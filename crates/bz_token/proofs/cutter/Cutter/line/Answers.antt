@@ -1,7 +1,7 @@
 use Rattle.std.proofs.Common.{◌≡◌, ◌∙◌, true, false, sym, ap}
 use Rattle.std.proofs.lemmas.Bool.{both_ways}
 use Rattle.bz_token.specs.declared.cutter.Cut.TheVariants.{More}
-use Rattle.bz_token.specs.CutSteps.{is_ended, run, moved, stage_now, cut_at, cutter_at}
+use Rattle.bz_token.specs.private.CutSteps.{is_ended, run, moved, stage_now, cut_at, cutter_at}
 use Rattle.bz_token.proofs.CutAnswers.{exactly_whole, exactly_block, open_cut, open_part, open_answers, open_last, ended_newline, ended_line, answers_of}
 use Rattle.bz_token.proofs.cutter.Cutter.line.Goals as goal
 
@@ -27,8 +27,8 @@ pub returns-then-not-is_ended-clause-last : goal.returns-then-not-is_ended-claus
 returns-then-not-is_ended-clause-last c n seen b =
     open_last c.args.self.now c.args.line.now c.requires.one_line c.requires.takes seen b
 
-pub returns-then-not-is_ended-clause-behind : goal.returns-then-not-is_ended-clause-behind
-returns-then-not-is_ended-clause-behind c n seen b =
+pub returns-then-not-is_ended-clause-after : goal.returns-then-not-is_ended-clause-after
+returns-then-not-is_ended-clause-after c n seen b =
     let inside : is_ended (run c.args.self.now.scan c.args.line.now).inside ≡ false =
     sym (ap (λ s. is_ended s.scan.inside) c.read_line.ensures) ∙ sym c.is_ended.ensures ∙ c.if-not-is_ended.true in
     rw c.read_line.ensures (open_cut c.args.self.now c.args.line.now c.requires.one_line c.requires.takes inside n seen b)
@@ -63,8 +63,8 @@ returns-clause-last c n seen b =
     sym (ap (λ s. is_ended s.scan.inside) c.read_line.ensures) ∙ sym c.is_ended.ensures ∙ c.if-not-is_ended.false in
     absurd (both_ways _ n (ended_newline c.args.self.now c.args.line.now c.requires.takes ended seen b))
 
-pub returns-clause-behind : goal.returns-clause-behind
-returns-clause-behind c n seen b =
+pub returns-clause-after : goal.returns-clause-after
+returns-clause-after c n seen b =
     let ended : is_ended (run c.args.self.now.scan c.args.line.now).inside ≡ true =
     sym (ap (λ s. is_ended s.scan.inside) c.read_line.ensures) ∙ sym c.is_ended.ensures ∙ c.if-not-is_ended.false in
     let is : c.cut_at.result ≡ cut_at (stage_now (moved c.args.self.now c.args.line.now)) =

@@ -1,5 +1,5 @@
 use Rattle.std.proofs.Common.{◌≡◌, ◌+◌, ◌-◌, ◌≤◌, drop, length}
-use Rattle.bz_token.specs.CutSteps.{run}
+use Rattle.bz_token.specs.private.CutSteps.{run}
 use Rattle.bz_token.proofs.cutter.scan.read.Given as goal
 
 abbrev pub invariant-loop-at : goal.invariant-loop-at

@@ -1,5 +1,5 @@
 use Rattle.std.proofs.Common.{ap, ◌∙◌, arith}
-use Rattle.bz_tree.specs.BorrowedSteps.{own_owned, owns_owned}
+use Rattle.bz_tree.specs.private.BorrowedSteps.{own_owned, owns_owned}
 use Rattle.bz_tree.proofs.Borrowed.{owned_push}
 use Rattle.bz_tree.proofs.build.Frame.add.Goals as goal
 

@@ -4,8 +4,8 @@ use Rattle.bz_token.specs.Places.{placed}
 use Rattle.bz_tree.specs.View.{group_view}
 use Rattle.bz_tree.specs.Kinds.{same_shape}
 use Rattle.bz_tree.specs.Borrowed.{total}
-use Rattle.bz_tree.specs.BorrowedSteps.{frame_owned, owns_owned}
-use Rattle.bz_tree.specs.Steps.{level, levels, owns_view, closed}
+use Rattle.bz_tree.specs.private.BorrowedSteps.{frame_owned, owns_owned}
+use Rattle.bz_tree.specs.private.Steps.{level, levels, owns_view, closed}
 use Rattle.bz_tree.proofs.Borrowed.{owned_pop}
 use Rattle.bz_tree.proofs.Closing.{levels_pop, closing}
 use Rattle.bz_tree.proofs.build.State.close.Goals as goal

@@ -1,6 +1,6 @@
 use Rattle.std.proofs.Common.{map, ap, ◌∙◌, arith}
 use Rattle.bz_tree.specs.Borrowed.{total}
-use Rattle.bz_tree.specs.BorrowedSteps.{frame_owned}
+use Rattle.bz_tree.specs.private.BorrowedSteps.{frame_owned}
 use Rattle.bz_tree.proofs.Borrowed.{owned_push}
 use Rattle.bz_tree.proofs.build.State.open.Goals as goal
 

@@ -5,5 +5,5 @@ use Rattle.bz_tree.proofs.owners.Walk.add_comment.Goals as goal
 
 pub returns-in_ok-push-in_default-clause-borrowed : goal.returns-in_ok-push-in_default-clause-borrowed
 returns-in_ok-push-in_default-clause-borrowed c =
-    let behind = ap owned_in c.in_ok-push-in_default.ensures.items ∙ owned_push owned c.args.self.now.behind.items c.args.text in
-    omega (arith, behind)
+    let after = ap owned_in c.in_ok-push-in_default.ensures.items ∙ owned_push owned c.args.self.now.after.items c.args.text in
+    omega (arith, after)

@@ -1,7 +1,7 @@
 use Rattle.std.proofs.Common.{ap, ◌∙◌, arith}
 use Rattle.std.proofs.lemmas.Grind.{common_steps}
 use Rattle.bz_tree.specs.declared.stmt.Node.{the_lemmas}
-use Rattle.bz_tree.specs.BorrowedSteps.{segs_owned}
+use Rattle.bz_tree.specs.private.BorrowedSteps.{segs_owned}
 use Rattle.bz_tree.proofs.Borrowed.{seg_push}
 use Rattle.bz_tree.proofs.owners.Walk.finish.Goals as goal
 

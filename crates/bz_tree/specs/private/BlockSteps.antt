@@ -5,7 +5,7 @@ use Rattle.bz_tree.specs.declared.kinds.Mark.{Mark}
 use Rattle.bz_tree.specs.declared.kinds.Mark.TheVariants.{Comment, NewLine}
 use Rattle.bz_tree.specs.declared.block.Indents.{Indents}
 use Rattle.bz_tree.specs.Kinds.{mark_of}
-use Rattle.bz_tree.specs.Blocks.{is_colon, indented, depth_behind, IsAt, is_block_word}
+use Rattle.bz_tree.specs.Blocks.{is_colon, indented, depth_after, IsAt, is_block_word}
 use Rattle.bz_tree.specs.Statement.{first_token, last_seen}
 
 -- the columns of the open lines, the innermost first; whether the last token is `:`; whether a line has begun
@@ -55,7 +55,7 @@ abbrev pub colon_run : ℕ → Bool → List Placed → Bool
 colon_run depth inside [] = false
 colon_run depth inside (t ∷ ts) =
     if ends_header (mark_of t) inside then false
-    else colon_at (mark_of t) t depth inside (colon_run (depth_behind (mark_of t) depth) (begins_header (mark_of t) inside) ts)
+    else colon_at (mark_of t) t depth inside (colon_run (depth_after (mark_of t) depth) (begins_header (mark_of t) inside) ts)
 
 -- how many bytes stand before this line and column, the bytes beginning at another
 abbrev pub offset_run : ℕ → ℕ → ℕ → ℕ → List ℕ → ℕ
@@ -69,7 +69,7 @@ abbrev pub IsAsciiFront : List ℕ → Type 0
 IsAsciiFront [] = Unit {0}
 IsAsciiFront (b ∷ bs) = b < 128
 
--- two tokens stand in the bytes at their places, one not behind the other
+-- two tokens stand in the bytes at their places, one not after the other
 pub record AreIn (first : ℕ) (bytes : List ℕ) (header last : Placed) : Type 0 where
   pub before : List ℕ
   pub front : List ℕ

@@ -9,10 +9,10 @@ use Rattle.bz_token.specs.declared.cutter.block.Stage.{Stage}
 use Rattle.bz_token.specs.declared.cutter.block.Stage.TheVariants.{Notes, InBlock, Done}
 use Rattle.bz_token.specs.declared.cutter.Cutter.{Cutter}
 use Rattle.bz_token.specs.Blocks.{word_at, opener, opener_of, goes_on}
-use Rattle.bz_token.specs.Chunks.{stage_behind, stage_step, takes, chunks}
+use Rattle.bz_token.specs.Chunks.{stage_after, stage_step, takes, chunks}
 use Rattle.bz_token.specs.Cuts.{is_physical_line, ends_in_newline, EndsBefore}
-use Rattle.bz_token.specs.CutSteps.{is_ended, is_broken, is_blank_kind, line_here, seen_chunks, outside, next, start, run, head_behind, moved, fresh, between}
-use Rattle.bz_token.specs.CutterState.{Takes, IsBehind}
+use Rattle.bz_token.specs.private.CutSteps.{is_ended, is_broken, is_blank_kind, line_here, seen_chunks, outside, next, start, run, head_after, moved, fresh, between}
+use Rattle.bz_token.specs.CutterState.{Takes, IsAfter}
 use Rattle.bz_token.proofs.CutMachine.{ended_restarts, run_depth, quiet_before, line_quiet, run_kind}
 use Rattle.bz_token.proofs.CutLaws.{chunk_step, chunk_goes, chunk_cut, chunks_are, same_takes}
 use Rattle.bz_token.proofs.CutHeads.{word_of_line, header}
@@ -31,9 +31,9 @@ begins (b ∷ bs) s stage before part = elim (cases_Bool (is_ended s.inside)) [
   | inr inside ↦
       let r = begins bs (next s b) stage before (part ++ b ∷ []) in
       (b ∷ r.0, r.1, chunk_step s stage before part b bs inside ∙ r.2 ∙ ap (λ t. t ∷ r.1) (simp append_assoc))
-  | inl ended ↦ elim (cases_Bool (takes (stage_behind stage (line_here s part)) (b ∷ bs))) [
+  | inl ended ↦ elim (cases_Bool (takes (stage_after stage (line_here s part)) (b ∷ bs))) [
     | inl goes ↦
-        let r = begins bs (next s b) (stage_behind stage (line_here s part)) (before ++ part) (b ∷ []) in
+        let r = begins bs (next s b) (stage_after stage (line_here s part)) (before ++ part) (b ∷ []) in
         (b ∷ r.0, r.1, chunk_goes s stage before part b bs ended goes ∙ r.2 ∙ ap (λ t. t ∷ r.1) (append_assoc (before ++ part) (b ∷ []) r.0))
     | inr stops ↦ ([], seen_chunks (next s b) Notes [] (b ∷ []) bs, chunk_cut s stage before part b bs ended stops ∙ ap (λ t. t ∷ seen_chunks (next s b) Notes [] (b ∷ []) bs) (sym (append-nil (before ++ part))))
   ]
@@ -45,40 +45,40 @@ takes_line stage b bs rest h = same_takes stage b (bs ++ rest) bs (word_of_line 
 pub takes_more : (c : Cutter) (b : ℕ) (bs rest : List ℕ) → ends_in_newline (b ∷ bs) ≡ true → Takes c (b ∷ bs) → Takes c ((b ∷ bs) ++ rest)
 takes_more c b bs rest h t e = takes_line c.stage b bs rest h ∙ t e
 
--- the chunks behind a physical line
-pub follows_line : (c : Cutter) (seen : List ℕ) (x : ℕ) (xs rest : List ℕ) (b : IsBehind c seen) → is_physical_line (x ∷ xs) ≡ true → Takes c ((x ∷ xs) ++ rest) → chunks ((seen ++ x ∷ xs) ++ rest) ≡ seen_chunks (run c.scan (x ∷ xs)) c.stage b.before (b.part ++ x ∷ xs) rest
+-- the chunks after a physical line
+pub follows_line : (c : Cutter) (seen : List ℕ) (x : ℕ) (xs rest : List ℕ) (b : IsAfter c seen) → is_physical_line (x ∷ xs) ≡ true → Takes c ((x ∷ xs) ++ rest) → chunks ((seen ++ x ∷ xs) ++ rest) ≡ seen_chunks (run c.scan (x ∷ xs)) c.stage b.before (b.part ++ x ∷ xs) rest
 follows_line c seen x xs rest b h t =
     ap chunks (append_assoc seen (x ∷ xs) rest)
     ∙ b.follows x (xs ++ rest) t
     ∙ over xs rest (next c.scan x) c.stage b.before (b.part ++ x ∷ []) (line_quiet x xs c.scan h)
     ∙ ap (λ p. seen_chunks (run c.scan (x ∷ xs)) c.stage b.before p rest) (append_assoc b.part (x ∷ []) xs)
 
-pub whole : (c : Cutter) (seen line : List ℕ) (b : IsBehind c seen) → b.before ++ (b.part ++ line) ≡ seen ++ line
+pub whole : (c : Cutter) (seen line : List ℕ) (b : IsAfter c seen) → b.before ++ (b.part ++ line) ≡ seen ++ line
 whole c seen line b = sym (append_assoc b.before b.part line) ∙ ap (λ t. t ++ line) (sym b.seen_is)
 
 -- a line that is the last of the file
-pub last_line : (c : Cutter) (seen : List ℕ) (x : ℕ) (xs : List ℕ) → IsBehind c seen → is_physical_line (x ∷ xs) ≡ true → Takes c (x ∷ xs) → chunks (seen ++ x ∷ xs) ≡ (seen ++ x ∷ xs) ∷ []
+pub last_line : (c : Cutter) (seen : List ℕ) (x : ℕ) (xs : List ℕ) → IsAfter c seen → is_physical_line (x ∷ xs) ≡ true → Takes c (x ∷ xs) → chunks (seen ++ x ∷ xs) ≡ (seen ++ x ∷ xs) ∷ []
 last_line c seen x xs b h t =
     ap chunks (sym (append-nil (seen ++ x ∷ xs)))
     ∙ follows_line c seen x xs [] b h (subst (Takes c) (sym (append-nil (x ∷ xs))) t)
     ∙ ap (λ s. s ∷ []) (whole c seen (x ∷ xs) b)
 
-chosen : (c : Cutter) (line : List ℕ) → is_blank_kind c.scan.kind ≡ true → head_behind c line ≡ opener_of (word_at line)
+chosen : (c : Cutter) (line : List ℕ) → is_blank_kind c.scan.kind ≡ true → head_after c line ≡ opener_of (word_at line)
 chosen c line was = ap (λ t. cond t (opener_of (word_at line)) c.opener) was
 
-other : (c : Cutter) (line : List ℕ) → is_blank_kind c.scan.kind ≡ false → head_behind c line ≡ c.opener
+other : (c : Cutter) (line : List ℕ) → is_blank_kind c.scan.kind ≡ false → head_after c line ≡ c.opener
 other c line some = ap (λ t. cond t (opener_of (word_at line)) c.opener) some
 
 -- from a blank state the steps are those from the start
-restarted : (c : Cutter) (seen : List ℕ) (x : ℕ) (xs : List ℕ) (b : IsBehind c seen) → is_blank_kind c.scan.kind ≡ true → run c.scan (x ∷ xs) ≡ run start (x ∷ xs)
+restarted : (c : Cutter) (seen : List ℕ) (x : ℕ) (xs : List ℕ) (b : IsAfter c seen) → is_blank_kind c.scan.kind ≡ true → run c.scan (x ∷ xs) ≡ run start (x ∷ xs)
 restarted c seen x xs b was = ap (λ s. run s xs) ((b.blank was).0 x)
 
-kept : (c : Cutter) (seen : List ℕ) (x : ℕ) (xs : List ℕ) (b : IsBehind c seen) → is_physical_line (x ∷ xs) ≡ true → is_blank_kind c.scan.kind ≡ false → is_blank_kind (run c.scan (x ∷ xs)).kind ≡ false
+kept : (c : Cutter) (seen : List ℕ) (x : ℕ) (xs : List ℕ) (b : IsAfter c seen) → is_physical_line (x ∷ xs) ≡ true → is_blank_kind c.scan.kind ≡ false → is_blank_kind (run c.scan (x ∷ xs)).kind ≡ false
 kept c seen x xs b h some = run_kind (x ∷ xs) c.scan (rw inside (line_quiet x xs c.scan h)) some where
   inside : is_ended c.scan.inside ≡ false
   inside = elim (cases_Bool (is_ended c.scan.inside)) [ inl ended ↦ absurd (both_ways _ some (b.waits ended).0) | inr open_ ↦ open_ ]
 
-now_blank : (c : Cutter) (seen : List ℕ) (x : ℕ) (xs : List ℕ) (b : IsBehind c seen) → ends_in_newline (x ∷ xs) ≡ true → is_physical_line (x ∷ xs) ≡ true → is_ended (run c.scan (x ∷ xs)).inside ≡ false → is_blank_kind (run c.scan (x ∷ xs)).kind ≡ true → ((y : ℕ) → next (run c.scan (x ∷ xs)) y ≡ next start y) × ((more : List ℕ) → opener ((b.part ++ x ∷ xs) ++ more) ≡ opener more)
+now_blank : (c : Cutter) (seen : List ℕ) (x : ℕ) (xs : List ℕ) (b : IsAfter c seen) → ends_in_newline (x ∷ xs) ≡ true → is_physical_line (x ∷ xs) ≡ true → is_ended (run c.scan (x ∷ xs)).inside ≡ false → is_blank_kind (run c.scan (x ∷ xs)).kind ≡ true → ((y : ℕ) → next (run c.scan (x ∷ xs)) y ≡ next start y) × ((more : List ℕ) → opener ((b.part ++ x ∷ xs) ++ more) ≡ opener more)
 now_blank c seen x xs b n h inside e = elim (cases_Bool (is_blank_kind c.scan.kind)) [
   | inl was ↦
       let same = restarted c seen x xs b was in
@@ -92,7 +92,7 @@ now_blank c seen x xs b n h inside e = elim (cases_Bool (is_blank_kind c.scan.ki
   | inr some ↦ absurd (both_ways _ (kept c seen x xs b h some) e)
 ]
 
-now_head : (c : Cutter) (seen : List ℕ) (x : ℕ) (xs : List ℕ) (b : IsBehind c seen) → ends_in_newline (x ∷ xs) ≡ true → is_physical_line (x ∷ xs) ≡ true → is_blank_kind (run c.scan (x ∷ xs)).kind ≡ false → (more : List ℕ) → opener ((b.part ++ x ∷ xs) ++ more) ≡ head_behind c (x ∷ xs)
+now_head : (c : Cutter) (seen : List ℕ) (x : ℕ) (xs : List ℕ) (b : IsAfter c seen) → ends_in_newline (x ∷ xs) ≡ true → is_physical_line (x ∷ xs) ≡ true → is_blank_kind (run c.scan (x ∷ xs)).kind ≡ false → (more : List ℕ) → opener ((b.part ++ x ∷ xs) ++ more) ≡ head_after c (x ∷ xs)
 now_head c seen x xs b n h e more = elim (cases_Bool (is_blank_kind c.scan.kind)) [
   | inl was ↦
       let same = restarted c seen x xs b was in
@@ -106,11 +106,11 @@ now_head c seen x xs b n h e more = elim (cases_Bool (is_blank_kind c.scan.kind)
   | inr some ↦ ap opener (append_assoc b.part (x ∷ xs) more) ∙ b.head some ((x ∷ xs) ++ more) ∙ sym (other c (x ∷ xs) some)
 ]
 
-part_depth : (c : Cutter) (seen line : List ℕ) (b : IsBehind c seen) → (run c.scan line).depth ≤ length (b.part ++ line)
+part_depth : (c : Cutter) (seen line : List ℕ) (b : IsAfter c seen) → (run c.scan line).depth ≤ length (b.part ++ line)
 part_depth c seen line b = omega (arith, run_depth line c.scan, b.depth, length-append b.part line)
 
-pub open_behind : (c : Cutter) (seen : List ℕ) (x : ℕ) (xs : List ℕ) → IsBehind c seen → ends_in_newline (x ∷ xs) ≡ true → is_physical_line (x ∷ xs) ≡ true → Takes c (x ∷ xs) → is_ended (run c.scan (x ∷ xs)).inside ≡ false → IsBehind (moved c (x ∷ xs)) (seen ++ x ∷ xs)
-open_behind c seen x xs b n h t inside = record {
+pub open_after_token : (c : Cutter) (seen : List ℕ) (x : ℕ) (xs : List ℕ) → IsAfter c seen → ends_in_newline (x ∷ xs) ≡ true → is_physical_line (x ∷ xs) ≡ true → Takes c (x ∷ xs) → is_ended (run c.scan (x ∷ xs)).inside ≡ false → IsAfter (moved c (x ∷ xs)) (seen ++ x ∷ xs)
+open_after_token c seen x xs b n h t inside = record {
   before = b.before;
   part = b.part ++ x ∷ xs;
   seen_is = sym (whole c seen (x ∷ xs) b);
@@ -131,14 +131,14 @@ blank_step Notes Statement v w broken h = absurd (false≢true h)
 blank_step (InBlock word) k v w broken h = refl
 blank_step Done k v w broken h = refl
 
-pub stage_is : (c : Cutter) (seen : List ℕ) (x : ℕ) (xs : List ℕ) (b : IsBehind c seen) → ends_in_newline (x ∷ xs) ≡ true → is_physical_line (x ∷ xs) ≡ true → stage_behind c.stage (line_here (run c.scan (x ∷ xs)) (b.part ++ x ∷ xs)) ≡ stage_step c.stage (run c.scan (x ∷ xs)).kind (head_behind c (x ∷ xs)) (is_broken (run c.scan (x ∷ xs)).inside)
+pub stage_is : (c : Cutter) (seen : List ℕ) (x : ℕ) (xs : List ℕ) (b : IsAfter c seen) → ends_in_newline (x ∷ xs) ≡ true → is_physical_line (x ∷ xs) ≡ true → stage_after c.stage (line_here (run c.scan (x ∷ xs)) (b.part ++ x ∷ xs)) ≡ stage_step c.stage (run c.scan (x ∷ xs)).kind (head_after c (x ∷ xs)) (is_broken (run c.scan (x ∷ xs)).inside)
 stage_is c seen x xs b n h = elim (cases_Bool (is_blank_kind (run c.scan (x ∷ xs)).kind)) [
-  | inl e ↦ blank_step c.stage (run c.scan (x ∷ xs)).kind (opener (b.part ++ x ∷ xs)) (head_behind c (x ∷ xs)) (is_broken (run c.scan (x ∷ xs)).inside) e
+  | inl e ↦ blank_step c.stage (run c.scan (x ∷ xs)).kind (opener (b.part ++ x ∷ xs)) (head_after c (x ∷ xs)) (is_broken (run c.scan (x ∷ xs)).inside) e
   | inr e ↦ ap (λ w. stage_step c.stage (run c.scan (x ∷ xs)).kind w (is_broken (run c.scan (x ∷ xs)).inside)) (sym (ap opener (append-nil (b.part ++ x ∷ xs))) ∙ now_head c seen x xs b n h e [])
 ]
 
--- the chunk ends behind the line
-pub ends_here : (c : Cutter) (seen : List ℕ) (x : ℕ) (xs : List ℕ) (stage : Stage) → (b : IsBehind c seen) → ends_in_newline (x ∷ xs) ≡ true → is_physical_line (x ∷ xs) ≡ true → Takes c (x ∷ xs) → is_ended (run c.scan (x ∷ xs)).inside ≡ true → stage_behind c.stage (line_here (run c.scan (x ∷ xs)) (b.part ++ x ∷ xs)) ≡ stage → (rest : List ℕ) → takes stage rest ≡ false → EndsBefore (seen ++ x ∷ xs) rest
+-- the chunk ends after the line
+pub ends_here : (c : Cutter) (seen : List ℕ) (x : ℕ) (xs : List ℕ) (stage : Stage) → (b : IsAfter c seen) → ends_in_newline (x ∷ xs) ≡ true → is_physical_line (x ∷ xs) ≡ true → Takes c (x ∷ xs) → is_ended (run c.scan (x ∷ xs)).inside ≡ true → stage_after c.stage (line_here (run c.scan (x ∷ xs)) (b.part ++ x ∷ xs)) ≡ stage → (rest : List ℕ) → takes stage rest ≡ false → EndsBefore (seen ++ x ∷ xs) rest
 ends_here c seen x xs stage b n h t ended is [] stops = ap chunks (append-nil (seen ++ x ∷ xs)) ∙ last_line c seen x xs b h t
 ends_here c seen x xs stage b n h t ended is (y ∷ rest) stops =
     let s = run c.scan (x ∷ xs) in
@@ -148,15 +148,15 @@ ends_here c seen x xs stage b n h t ended is (y ∷ rest) stops =
     ∙ ap (λ cs. (seen ++ x ∷ xs) ∷ cs) (sym (chunks_are (y ∷ rest)))
 
 -- or goes on
-goes_here : (c : Cutter) (seen : List ℕ) (x : ℕ) (xs : List ℕ) (stage : Stage) → (b : IsBehind c seen) → ends_in_newline (x ∷ xs) ≡ true → is_physical_line (x ∷ xs) ≡ true → Takes c (x ∷ xs) → is_ended (run c.scan (x ∷ xs)).inside ≡ true → stage_behind c.stage (line_here (run c.scan (x ∷ xs)) (b.part ++ x ∷ xs)) ≡ stage → (y : ℕ) (rest : List ℕ) → takes stage (y ∷ rest) ≡ true → chunks ((seen ++ x ∷ xs) ++ y ∷ rest) ≡ seen_chunks (outside 0 Blank y) stage (seen ++ x ∷ xs) (y ∷ []) rest
+goes_here : (c : Cutter) (seen : List ℕ) (x : ℕ) (xs : List ℕ) (stage : Stage) → (b : IsAfter c seen) → ends_in_newline (x ∷ xs) ≡ true → is_physical_line (x ∷ xs) ≡ true → Takes c (x ∷ xs) → is_ended (run c.scan (x ∷ xs)).inside ≡ true → stage_after c.stage (line_here (run c.scan (x ∷ xs)) (b.part ++ x ∷ xs)) ≡ stage → (y : ℕ) (rest : List ℕ) → takes stage (y ∷ rest) ≡ true → chunks ((seen ++ x ∷ xs) ++ y ∷ rest) ≡ seen_chunks (outside 0 Blank y) stage (seen ++ x ∷ xs) (y ∷ []) rest
 goes_here c seen x xs stage b n h t ended is y rest goes =
     let s = run c.scan (x ∷ xs) in
     follows_line c seen x xs (y ∷ rest) b h (takes_more c x xs (y ∷ rest) n t)
     ∙ chunk_goes s c.stage b.before (b.part ++ x ∷ xs) y rest ended (ap (λ g. takes g (y ∷ rest)) is ∙ goes)
     ∙ (λ i. seen_chunks (ended_restarts s.inside s.depth s.kind y ended i) (is i) (whole c seen (x ∷ xs) b i) (y ∷ []) rest)
 
-pub notes_behind : (c : Cutter) (seen : List ℕ) (x : ℕ) (xs : List ℕ) → (b : IsBehind c seen) → ends_in_newline (x ∷ xs) ≡ true → is_physical_line (x ∷ xs) ≡ true → Takes c (x ∷ xs) → is_ended (run c.scan (x ∷ xs)).inside ≡ true → stage_behind c.stage (line_here (run c.scan (x ∷ xs)) (b.part ++ x ∷ xs)) ≡ Notes → IsBehind fresh (seen ++ x ∷ xs)
-notes_behind c seen x xs b n h t ended is = record {
+pub notes_after : (c : Cutter) (seen : List ℕ) (x : ℕ) (xs : List ℕ) → (b : IsAfter c seen) → ends_in_newline (x ∷ xs) ≡ true → is_physical_line (x ∷ xs) ≡ true → Takes c (x ∷ xs) → is_ended (run c.scan (x ∷ xs)).inside ≡ true → stage_after c.stage (line_here (run c.scan (x ∷ xs)) (b.part ++ x ∷ xs)) ≡ Notes → IsAfter fresh (seen ++ x ∷ xs)
+notes_after c seen x xs b n h t ended is = record {
   before = seen ++ x ∷ xs;
   part = [];
   seen_is = sym (append-nil (seen ++ x ∷ xs));
@@ -173,8 +173,8 @@ some_goes : (word : Opener) (rest : List ℕ) → goes_on word rest ≡ true →
 some_goes word [] h = absurd (false≢true h)
 some_goes word (y ∷ rest) h = omega arith
 
-pub block_behind : (c : Cutter) (seen : List ℕ) (x : ℕ) (xs : List ℕ) (word : Opener) → (b : IsBehind c seen) → ends_in_newline (x ∷ xs) ≡ true → is_physical_line (x ∷ xs) ≡ true → Takes c (x ∷ xs) → is_ended (run c.scan (x ∷ xs)).inside ≡ true → stage_behind c.stage (line_here (run c.scan (x ∷ xs)) (b.part ++ x ∷ xs)) ≡ InBlock word → IsBehind (between word) (seen ++ x ∷ xs)
-block_behind c seen x xs word b n h t ended is = record {
+pub block_after : (c : Cutter) (seen : List ℕ) (x : ℕ) (xs : List ℕ) (word : Opener) → (b : IsAfter c seen) → ends_in_newline (x ∷ xs) ≡ true → is_physical_line (x ∷ xs) ≡ true → Takes c (x ∷ xs) → is_ended (run c.scan (x ∷ xs)).inside ≡ true → stage_after c.stage (line_here (run c.scan (x ∷ xs)) (b.part ++ x ∷ xs)) ≡ InBlock word → IsAfter (between word) (seen ++ x ∷ xs)
+block_after c seen x xs word b n h t ended is = record {
   before = seen ++ x ∷ xs;
   part = [];
   seen_is = sym (append-nil (seen ++ x ∷ xs));
@@ -187,8 +187,8 @@ block_behind c seen x xs word b n h t ended is = record {
   ends = λ e rest stops. ends_here c seen x xs (InBlock word) b n h t ended is rest stops;
 }
 
-pub fresh_behind : IsBehind fresh []
-fresh_behind = record {
+pub fresh_after : IsAfter fresh []
+fresh_after = record {
   before = [];
   part = [];
   seen_is = refl;

@@ -14,7 +14,7 @@ abbrev pub is_value : List ℕ → Option (List ℕ) → Bool
 is_value value None = false
 is_value value (Some other) = bytes_eq value other
 
--- the value of what stands behind the opening quotes
+-- the value of what stands after the opening quotes
 abbrev pub inner_value : Bool → List ℕ → List ℕ → Option (List ℕ)
 inner_value raw quotes inner = values_in raw (content quotes (units inner))
 

@@ -3,8 +3,8 @@ use Rattle.std.specs.Prelude.{ℕ, ◌+◌, List, [], ◌∷◌, ◌++◌, map, 
 use Rattle.bz_tree.specs.declared.kinds.Shape.{Shape}
 use Rattle.bz_tree.specs.declared.kinds.Mark.{Mark}
 use Rattle.bz_tree.specs.declared.kinds.Mark.TheVariants.{Open, Close, NewLine}
-use Rattle.bz_tree.specs.declared.kinds.Behind.{Behind}
-use Rattle.bz_tree.specs.declared.kinds.Behind.TheVariants.{Other}
+use Rattle.bz_tree.specs.declared.kinds.Preceding.{Preceding}
+use Rattle.bz_tree.specs.declared.kinds.Preceding.TheVariants.{Other}
 use Rattle.bz_tree.specs.declared.owners.Before.{Before}
 use Rattle.bz_tree.specs.declared.owners.Before.TheVariants.{Nothing, Node as BeforeNode, Comma as BeforeComma}
 use Rattle.bz_tree.specs.declared.owners.Own.{Own as OwnValue}
@@ -21,16 +21,16 @@ use Rattle.bz_tree.specs.Tree.{Item, Segment}
 use Rattle.bz_tree.specs.View.{text_of, texts, node_view, seg_view}
 use Rattle.bz_tree.specs.Kinds.{mark_of, is_one, group_kind, same_shape}
 use Rattle.bz_tree.specs.Owners.{Own, node, comma, note, Last, no_token, end_of_node, end_of_comma, is_on, Inside}
-use Rattle.bz_tree.specs.Brackets.{own_items, own_of, behind, has_for, group_with}
-use Rattle.bz_tree.specs.Statement.{segment_with, is_rule, is_rule_behind, is_nothing}
+use Rattle.bz_tree.specs.Brackets.{own_items, own_of, preceding, has_for, group_with}
+use Rattle.bz_tree.specs.Statement.{segment_with, is_rule, is_rule_after, is_nothing}
 
--- One bracket: the segments that are done, and of the segment here its nodes, the comments before its last node, its suffix so far, the comments behind that.
+-- One bracket: the segments that are done, and of the segment here its nodes, the comments before its last node, its suffix so far, the comments after that.
 pub record Walked : Type 0 where
   pub segs : List Segment
   pub before : List (List ℕ)
   pub nodes : List Item
   pub suffix : Option (List ℕ)
-  pub behind : List (List ℕ)
+  pub after : List (List ℕ)
   pub last : Last
   pub trailing : Bool
 
@@ -48,7 +48,7 @@ last_view (BeforeNode line newlines) = end_of_node (line + newlines)
 last_view (BeforeComma line) = end_of_comma line
 
 abbrev pub walked : Walk → Walked
-walked w = record { segs = map seg_view w.segs.items; before = texts w.before.items; nodes = map node_view w.nodes.items; suffix = option_map text_of w.suffix; behind = texts w.behind.items; last = last_view w.last; trailing = w.trailing }
+walked w = record { segs = map seg_view w.segs.items; before = texts w.before.items; nodes = map node_view w.nodes.items; suffix = option_map text_of w.suffix; after = texts w.after.items; last = last_view w.last; trailing = w.trailing }
 
 abbrev pub own_view : OwnValue → Own
 own_view (OwnNode n line newlines) = node (line + newlines) (node_view n)
@@ -62,19 +62,19 @@ abbrev pub content_view : Content → Inside
 content_view c = record { segs = map seg_view c.segs.items; trailing = c.trailing; end = texts c.end.items }
 
 abbrev pub at_start : Walked
-at_start = record { segs = []; before = []; nodes = []; suffix = None; behind = []; last = no_token; trailing = false }
+at_start = record { segs = []; before = []; nodes = []; suffix = None; after = []; last = no_token; trailing = false }
 
 abbrev pub after_node : ℕ → Item → Walked → Walked
-after_node line x w = record { segs = w.segs; before = w.before ++ (texts_of w.suffix ++ w.behind); nodes = w.nodes ++ x ∷ []; suffix = None; behind = []; last = end_of_node line; trailing = false }
+after_node line x w = record { segs = w.segs; before = w.before ++ (texts_of w.suffix ++ w.after); nodes = w.nodes ++ x ∷ []; suffix = None; after = []; last = end_of_node line; trailing = false }
 
 abbrev pub after_comma : ℕ → Walked → Option Walked
-after_comma line w = behind_nodes w.nodes
+after_comma line w = after_nodes w.nodes
   where
-    behind_nodes : List Item → Option Walked
-    behind_nodes [] = None
-    behind_nodes (x ∷ xs) = Some (record { segs = w.segs ++ record { before = w.before ++ w.behind; nodes = x ∷ xs; suffix = w.suffix } ∷ []; before = []; nodes = []; suffix = None; behind = []; last = end_of_comma line; trailing = true })
+    after_nodes : List Item → Option Walked
+    after_nodes [] = None
+    after_nodes (x ∷ xs) = Some (record { segs = w.segs ++ record { before = w.before ++ w.after; nodes = x ∷ xs; suffix = w.suffix } ∷ []; before = []; nodes = []; suffix = None; after = []; last = end_of_comma line; trailing = true })
 
--- one more comment behind a segment's comma
+-- one more comment after a segment's comma
 abbrev pub add_beside : List ℕ → Segment → Segment
 add_beside text s = beside s.suffix
   where
@@ -88,13 +88,13 @@ to_last text (s ∷ []) = add_beside text s ∷ []
 to_last text (s ∷ r ∷ ss) = s ∷ to_last text (r ∷ ss)
 
 abbrev pub on_comma : List ℕ → Walked → Walked
-on_comma text w = record { segs = to_last text w.segs; before = w.before; nodes = w.nodes; suffix = w.suffix; behind = w.behind; last = no_token; trailing = w.trailing }
+on_comma text w = record { segs = to_last text w.segs; before = w.before; nodes = w.nodes; suffix = w.suffix; after = w.after; last = no_token; trailing = w.trailing }
 
 abbrev pub on_node : List ℕ → Walked → Walked
-on_node text w = record { segs = w.segs; before = w.before; nodes = w.nodes; suffix = Some text; behind = w.behind; last = no_token; trailing = w.trailing }
+on_node text w = record { segs = w.segs; before = w.before; nodes = w.nodes; suffix = Some text; after = w.after; last = no_token; trailing = w.trailing }
 
 abbrev pub alone : List ℕ → Walked → Walked
-alone text w = record { segs = w.segs; before = w.before; nodes = w.nodes; suffix = w.suffix; behind = w.behind ++ text ∷ []; last = no_token; trailing = w.trailing }
+alone text w = record { segs = w.segs; before = w.before; nodes = w.nodes; suffix = w.suffix; after = w.after ++ text ∷ []; last = no_token; trailing = w.trailing }
 
 abbrev pub noted : Last → Bool → List ℕ → Walked → Walked
 noted (end_of_node end) true text w = on_node text w
@@ -113,8 +113,8 @@ abbrev pub done : Walked → Inside
 done w = at_end w.nodes
   where
     at_end : List Item → Inside
-    at_end [] = record { segs = w.segs; trailing = w.trailing; end = w.behind }
-    at_end (x ∷ xs) = record { segs = w.segs ++ record { before = w.before; nodes = x ∷ xs; suffix = w.suffix } ∷ []; trailing = w.trailing; end = w.behind }
+    at_end [] = record { segs = w.segs; trailing = w.trailing; end = w.after }
+    at_end (x ∷ xs) = record { segs = w.segs ++ record { before = w.before; nodes = x ∷ xs; suffix = w.suffix } ∷ []; trailing = w.trailing; end = w.after }
 
 abbrev pub walk : Walked → List Own → Option Inside
 walk w [] = Some (done w)
@@ -128,7 +128,7 @@ content one owns = walk at_start (own_items one owns)
 pub record Level : Type 0 where
   pub shape : Option Shape
   pub owns : List Own
-  pub at : Behind
+  pub at : Preceding
 
 abbrev pub level : Frame → Level
 level f = record { shape = f.shape; owns = owns_view f.owns.items; at = f.at }
@@ -141,13 +141,13 @@ abbrev pub Levels : Type 0
 Levels = Level × List Level
 
 abbrev pub with_own : Level → Own → Level
-with_own l own = record { shape = l.shape; owns = l.owns ++ own ∷ []; at = behind l.at own }
+with_own l own = record { shape = l.shape; owns = l.owns ++ own ∷ []; at = preceding l.at own }
 
 abbrev pub new_level : Option Shape → Level
 new_level shape = record { shape = shape; owns = []; at = Other }
 
 -- the group of a bracket that is closed
-abbrev pub closed : Shape → Behind → List Own → Option Item
+abbrev pub closed : Shape → Preceding → List Own → Option Item
 closed shape b owns = let kind = group_kind shape b (has_for owns) in option_map (group_with kind) (content (is_one kind) owns)
 
 abbrev pub next_at : Mark → Placed → Level → List Level → Option Levels
@@ -175,5 +175,5 @@ state s = (level s.top, levels s.outer.items)
 -- a rule, from some node on
 abbrev pub rule_from : Phase → List Item → Bool
 rule_from Name xs = is_rule xs
-rule_from Join xs = is_rule_behind xs
+rule_from Join xs = is_rule_after xs
 rule_from End xs = is_nothing xs

@@ -34,33 +34,33 @@ may_end (Begins part) = may_be_empty part
 may_end Keyword = true
 may_end _ = false
 
--- behind the part's Test, its Primary (Target), or its Chain (Clause)
-abbrev pub behind_left : Role → Stage
-behind_left Comma = Wants Left false
-behind_left Equals = Wants Right false
-behind_left Augmented = Wants Right false
-behind_left If = Wants Left true
-behind_left _ = Refused
+-- after the part's Test, its Primary (Target), or its Chain (Clause)
+abbrev pub after_left : Role → Stage
+after_left Comma = Wants Left false
+after_left Equals = Wants Right false
+after_left Augmented = Wants Right false
+after_left If = Wants Left true
+after_left _ = Refused
 
-abbrev pub behind_right : Role → Stage
-behind_right Comma = Wants Right false
-behind_right If = Wants Right true
-behind_right _ = Refused
+abbrev pub after_right : Role → Stage
+after_right Comma = Wants Right false
+after_right If = Wants Right true
+after_right _ = Refused
 
-abbrev pub behind_element : Role → Stage
-behind_element For = Wants Target false
-behind_element If = Wants Element true
-behind_element _ = Refused
+abbrev pub after_element : Role → Stage
+after_element For = Wants Target false
+after_element If = Wants Element true
+after_element _ = Refused
 
-abbrev pub behind_target : Role → Stage
-behind_target Comma = Wants Target false
-behind_target In = Wants Clause false
-behind_target _ = Refused
+abbrev pub after_target : Role → Stage
+after_target Comma = Wants Target false
+after_target In = Wants Clause false
+after_target _ = Refused
 
-abbrev pub behind_clause : Role → Stage
-behind_clause For = Wants Target false
-behind_clause If = Wants Clause false
-behind_clause _ = Refused
+abbrev pub after_clause : Role → Stage
+after_clause For = Wants Target false
+after_clause If = Wants Clause false
+after_clause _ = Refused
 
 -- a part that ends at a colon
 abbrev pub at_colon : Part → Stage → Role → Stage
@@ -73,27 +73,27 @@ abbrev pub at_end : Part → Role → Stage
 at_end part If = Wants part true
 at_end part _ = Refused
 
-abbrev pub behind_part : Part → Role → Stage
-behind_part Left r = behind_left r
-behind_part Right r = behind_right r
-behind_part Alone r = at_end Alone r
-behind_part Key r = at_colon Key (Wants Alone false) r
-behind_part Element r = behind_element r
-behind_part EntryKey r = at_colon EntryKey (Wants Element false) r
-behind_part From r = at_colon From (Begins To) r
-behind_part To r = at_colon To (Begins Step) r
-behind_part Step r = at_end Step r
-behind_part Target r = behind_target r
-behind_part Clause r = behind_clause r
+abbrev pub after_part : Part → Role → Stage
+after_part Left r = after_left r
+after_part Right r = after_right r
+after_part Alone r = at_end Alone r
+after_part Key r = at_colon Key (Wants Alone false) r
+after_part Element r = after_element r
+after_part EntryKey r = at_colon EntryKey (Wants Element false) r
+after_part From r = at_colon From (Begins To) r
+after_part To r = at_colon To (Begins Step) r
+after_part Step r = at_end Step r
+after_part Target r = after_target r
+after_part Clause r = after_clause r
 
--- behind the condition of a conditional
-abbrev pub behind_condition : Part → Role → Stage
-behind_condition part Else = Wants part false
-behind_condition part _ = Refused
+-- after the condition of a conditional
+abbrev pub after_condition : Part → Role → Stage
+after_condition part Else = Wants part false
+after_condition part _ = Refused
 
 abbrev pub leaves : Part → Bool → Role → Stage
-leaves part false r = behind_part part r
-leaves part true r = behind_condition part r
+leaves part false r = after_part part r
+leaves part true r = after_condition part r
 
 abbrev pub is_target : Part → Bool
 is_target Target = true
@@ -112,19 +112,19 @@ next_wanted part asked Tilde = in_chain part (Wants part asked)
 next_wanted part asked Not = in_chain part (Wants part asked)
 next_wanted part asked _ = Refused
 
-abbrev pub next_behind : Part → Bool → Role → Stage
-next_behind part asked Dot = Names part asked
-next_behind part asked Suffix = Has part asked
-next_behind part asked Sum = in_chain part (Wants part asked)
-next_behind part asked Star = in_chain part (Wants part asked)
-next_behind part asked Operator = in_chain part (Wants part asked)
-next_behind part asked In = if is_target part then leaves part asked In else Wants part asked
-next_behind part asked Not = in_chain part (Excludes part asked)
-next_behind part asked r = leaves part asked r
+abbrev pub next_after : Part → Bool → Role → Stage
+next_after part asked Dot = Names part asked
+next_after part asked Suffix = Has part asked
+next_after part asked Sum = in_chain part (Wants part asked)
+next_after part asked Star = in_chain part (Wants part asked)
+next_after part asked Operator = in_chain part (Wants part asked)
+next_after part asked In = if is_target part then leaves part asked In else Wants part asked
+next_after part asked Not = in_chain part (Excludes part asked)
+next_after part asked r = leaves part asked r
 
-abbrev pub next_behind_number : Part → Bool → Role → Stage
-next_behind_number part asked Dot = Refused
-next_behind_number part asked r = next_behind part asked r
+abbrev pub next_after_number : Part → Bool → Role → Stage
+next_after_number part asked Dot = Refused
+next_after_number part asked r = next_after part asked r
 
 abbrev pub next_name : Part → Bool → Role → Stage
 next_name part asked Name = Has part asked
@@ -135,7 +135,7 @@ next_excluded part asked In = Wants part asked
 next_excluded part asked _ = Refused
 
 abbrev pub next_begun : Part → Role → Stage
-next_begun part Colon = behind_part part Colon
+next_begun part Colon = after_part part Colon
 next_begun part r = next_wanted part false r
 
 abbrev pub next_argument : Role → Stage
@@ -146,13 +146,13 @@ next_argument r = next_wanted Alone false r
 
 abbrev pub next_keyword : Role → Stage
 next_keyword Equals = Wants Alone false
-next_keyword r = next_behind Alone false r
+next_keyword r = next_after Alone false r
 
 abbrev pub next : Stage → Role → Stage
 next Refused r = Refused
 next (Wants part asked) r = next_wanted part asked r
-next (Has part asked) r = next_behind part asked r
-next (HasNumber part asked) r = next_behind_number part asked r
+next (Has part asked) r = next_after part asked r
+next (HasNumber part asked) r = next_after_number part asked r
 next (Names part asked) r = next_name part asked r
 next (Excludes part asked) r = next_excluded part asked r
 next (Begins part) r = next_begun part r

@@ -1,4 +1,4 @@
--- For private clauses alone: a field with its note, and words behind one another.
+-- For private clauses alone: a field with its note, and words one after another.
 use Rattle.std.specs.Prelude.{ℕ, List, [], ◌∷◌, ◌++◌, Bool, if◌then◌else◌, Option, Some, None, option_map}
 use Rattle.bz_tree.specs.Tree.{Segment}
 use Rattle.bz_command.specs.Labels.{Package}
@@ -21,7 +21,7 @@ attribute_in attr args = option_map (λ a. value_text (value a)) (first_named at
 abbrev pub element_word : Segment → List ℕ
 element_word s = word_of (string_value s.nodes)
 
--- words behind another one, each with a space before it
-abbrev pub spaced_behind : List (List ℕ) → List ℕ
-spaced_behind [] = []
-spaced_behind (word ∷ words) = 32 ∷ (word ++ spaced_behind words)
+-- words after another one, each with a space before it
+abbrev pub spaced_after : List (List ℕ) → List ℕ
+spaced_after [] = []
+spaced_after (word ∷ words) = 32 ∷ (word ++ spaced_after words)

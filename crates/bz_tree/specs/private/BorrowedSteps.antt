@@ -25,7 +25,7 @@ abbrev pub owns_owned : List Own → ℕ
 owns_owned os = total (map own_owned os)
 
 abbrev pub walk_owned : Walk → ℕ
-walk_owned w = segs_owned w.segs.items + owned_in w.before.items + nodes_owned w.nodes.items + owned_of w.suffix + owned_in w.behind.items
+walk_owned w = segs_owned w.segs.items + owned_in w.before.items + nodes_owned w.nodes.items + owned_of w.suffix + owned_in w.after.items
 
 abbrev pub content_owned : Content → ℕ
 content_owned c = segs_owned c.segs.items + owned_in c.end.items

@@ -47,7 +47,7 @@ abbrev pub misfit_fault : Misfit → ℕ → ℕ → LexFault
 misfit_fault TooDeep line col = LexFault.TooDeep line col
 misfit_fault NoMatch line col = LexFault.BadBracket line col
 
--- the place of the innermost bracket that is open behind these tokens
+-- the place of the innermost bracket that is open after these tokens
 abbrev pub IsLeftOpen : List Placed → LexFault → Type 0
 IsLeftOpen tokens fault = (t : Placed) × (outer : List Placed) × (open_tokens [] tokens ≡ t ∷ outer) × (fault ≡ LexFault.OpenBracket t.line t.col)
 

@@ -2,7 +2,7 @@
 use Rattle.std.specs.Prelude.{ℕ, nat_eq, ◌==◌, List, [], ◌∷◌, ◌++◌, Bool, false, not, codes, ◌&&◌, if◌then◌else◌, Option, Some, None, is_some}
 use Rattle.std.specs.List.{list_any, starts_with}
 use Rattle.bz_command.specs.Labels.{is_slash, is_colon, last_of, parts_of}
-use Rattle.bz_command.specs.ValueSteps.{inner_value}
+use Rattle.bz_command.specs.private.ValueSteps.{inner_value}
 use Rattle.bz_command.specs.declared.bytes.Bytes.{Bytes}
 use Rattle.bz_command.specs.declared.bytes.Bytes.TheVariants.{Plain, Inner}
 use Rattle.bz_command.specs.declared.bytes.Literal.{Literal}
@@ -32,7 +32,7 @@ chain_bytes c = left c.first ++ (left c.second ++ (left c.third ++ left c.fourth
 abbrev pub is_good_chain : Chain → Bool
 is_good_chain c = is_good c.first && (is_good c.second && (is_good c.third && is_good c.fourth))
 
--- the last part, where `last` stands behind the last slash that was read
+-- the last part, where `last` stands after the last slash that was read
 abbrev pub last_from : List ℕ → List ℕ → List ℕ
 last_from bs last = if list_any is_slash bs then last_of (parts_of bs) else last
 

@@ -49,14 +49,14 @@ wanted_of (Ok true) text mode = Some (text, mode)
 wanted_of (Ok false) text mode = None
 wanted_of (Err e) text mode = None
 
--- the cause of an error behind the author's writes
+-- the cause of an error after the author's writes
 abbrev pub IsFinishCaused : Type 0 → Result Bool Trouble → List Event → Type 0
 IsFinishCaused Before (Ok kept) events = ⊤
 IsFinishCaused Before (Err OutOfMemory) events = ⊥
 IsFinishCaused Before (Err Clean) events = AnyFails events ⊎ Before
 IsFinishCaused Before (Err LeftBehind) events = AnyFails events
 
--- the calls behind the author's writes, by the author's answer
+-- the calls after the author's writes, by the author's answer
 pub record IsFinished {D : Type 0} (old : DraftValue D) (file : List ℕ) (mode : ℕ) (answer : Result Bool Failed)
     (result : Result Bool Trouble) (events : List Event) : Type 0 where
   pub safe : (text : List ℕ) (start now : Files) → SameBut (temporary_path file) start now

@@ -15,7 +15,7 @@ use Rattle.bz_token.specs.LogicalLines.{Line}
 use Rattle.bz_token.specs.declared.cutter.Cut.{Cut}
 use Rattle.bz_token.specs.declared.cutter.Cut.TheVariants.{Whole, More, Block}
 use Rattle.bz_token.specs.Blocks.{word_at, opener_of}
-use Rattle.bz_token.specs.Chunks.{stage_step, stage_behind, takes}
+use Rattle.bz_token.specs.Chunks.{stage_step, stage_after, takes}
 
 abbrev pub is_ended : Inside → Bool
 is_ended Ended = true
@@ -94,7 +94,7 @@ abbrev pub run : Scan → List ℕ → Scan
 run s [] = s
 run s (b ∷ bs) = run (next s b) bs
 
--- The chunks that the steps find, behind the bytes of whole lines and a part of a line.
+-- The chunks that the steps find, after the bytes of whole lines and a part of a line.
 abbrev pub is_broken : Inside → Bool
 is_broken BrokenOff = true
 is_broken _ = false
@@ -109,8 +109,8 @@ abbrev pub seen_chunks : Scan → Stage → List ℕ → List ℕ → List ℕ �
 seen_chunks s stage before part [] = (before ++ part) ∷ []
 seen_chunks s stage before part (b ∷ bs) = elim (is_ended s.inside) [
   | false ↦ seen_chunks (next s b) stage before (part ++ b ∷ []) bs
-  | true ↦ elim (takes (stage_behind stage (line_here s part)) (b ∷ bs)) [
-    | true ↦ seen_chunks (next s b) (stage_behind stage (line_here s part)) (before ++ part) (b ∷ []) bs
+  | true ↦ elim (takes (stage_after stage (line_here s part)) (b ∷ bs)) [
+    | true ↦ seen_chunks (next s b) (stage_after stage (line_here s part)) (before ++ part) (b ∷ []) bs
     | false ↦ (before ++ part) ∷ seen_chunks (next s b) Notes [] (b ∷ []) bs
   ]
 ]
@@ -120,26 +120,26 @@ is_blank_kind Blank = true
 is_blank_kind Note = false
 is_blank_kind Statement = false
 
--- the word of a block that a logical line begins with, as far as it is known behind a physical line
-abbrev pub head_behind : Cutter → List ℕ → Option Opener
-head_behind cutter line = cond (is_blank_kind cutter.scan.kind) (opener_of (word_at line)) cutter.opener
+-- the word of a block that a logical line begins with, as far as it is known after a physical line
+abbrev pub head_after : Cutter → List ℕ → Option Opener
+head_after cutter line = cond (is_blank_kind cutter.scan.kind) (opener_of (word_at line)) cutter.opener
 
--- the cutter behind a physical line, before it is asked whether the logical line has ended
+-- the cutter after a physical line, before it is asked whether the logical line has ended
 abbrev pub moved : Cutter → List ℕ → Cutter
-moved cutter line = record { scan = run cutter.scan line; stage = cutter.stage; opener = head_behind cutter line }
+moved cutter line = record { scan = run cutter.scan line; stage = cutter.stage; opener = head_after cutter line }
 
--- what the chunk is behind a logical line that has ended
+-- what the chunk is after a logical line that has ended
 abbrev pub stage_now : Cutter → Stage
 stage_now cutter = stage_step cutter.stage cutter.scan.kind cutter.opener (is_broken cutter.scan.inside)
 
--- the cutter at the beginning of a line in no block, and behind a line of a block
+-- the cutter at the beginning of a line in no block, and after a line of a block
 abbrev pub fresh : Cutter
 fresh = record { scan = start; stage = Notes; opener = None }
 
 abbrev pub between : Opener → Cutter
 between word = record { scan = at Ended 0 Blank; stage = InBlock word; opener = None }
 
--- the answer and the cutter behind a logical line that has ended
+-- the answer and the cutter after a logical line that has ended
 abbrev pub cut_at : Stage → Cut
 cut_at Notes = More
 cut_at (InBlock word) = Block

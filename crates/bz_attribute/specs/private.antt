@@ -1,0 +1,3 @@
+pub mod ChosenViews
+pub mod ElementSets
+pub mod Places

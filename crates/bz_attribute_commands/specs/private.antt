@@ -1,0 +1,3 @@
+pub mod CommentPlaces
+pub mod PrintSteps
+pub mod SettingViews

@@ -1,0 +1,4 @@
+pub mod ByteSteps
+pub mod CommandSteps
+pub mod ValueSteps
+pub mod WordSteps

@@ -1,0 +1,4 @@
+pub mod AddingSteps
+pub mod EditSteps
+pub mod MovingSteps
+pub mod ReplaceSteps

@@ -1,0 +1,3 @@
+pub mod CutSteps
+pub mod Decided
+pub mod Scans

@@ -1,0 +1,4 @@
+pub mod BlockSteps
+pub mod BorrowedSteps
+pub mod Machine
+pub mod Steps
