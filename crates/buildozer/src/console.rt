@@ -31,10 +31,11 @@ impl<O: Sink, E: Sink> Console<O, E> {
         Ok(Console { out, err })
     }
 
-    /// Puts what a run tells: each printed line on standard output, and each message on standard error, after the name of the
-    /// file that it is of.
+    /// Puts what a run tells: each printed line on standard output, and each message on standard error, after the name
+    /// of the file that it is of.
     pub fn put_report(&mut self, file: &str, report: &Report)
-        ensures { Shows O.took E.took self.old (lines_text report.now.lines) (messages_text file.now report.now.messages) self.new }
+        ensures { Shows O.took E.took self.old (lines_text report.now.lines)
+            (messages_text file.now report.now.messages) self.new }
     {
         put_lines(&mut self.out, report.lines.as_slice());
         put_messages(&mut self.err, file, report.messages.as_slice());
@@ -55,8 +56,8 @@ impl<O: Sink, E: Sink> Console<O, E> {
         put_line(&mut self.err, file);
     }
 
-    /// Hands on what is kept back: first standard output, then standard error. An `Err` says that something was lost, now
-    /// or earlier.
+    /// Hands on what is kept back: first standard output, then standard error. An `Err` says that something was lost,
+    /// now or earlier.
     pub fn flush(&mut self) -> Result<(), Failed>
         ensures shows { Shows O.took E.took self.old [] [] self.new }
     {

@@ -15,11 +15,11 @@ use bz_script::packages::by_package;
 use bz_script::status::whole_status;
 use std::alloc::{AllocError, Global};
 
-/// Edits each package of the script, in the order of their first mention, and gives the exit status. Without `-k` no package
-/// comes after one that failed.
+/// Edits each package of the script, in the order of their first mention, and gives the exit status. Without `-k` no
+/// package comes after one that failed.
 ///
-/// At each moment each file has the bytes that it had, or, where it is the BUILD file of a package of the script, the whole text
-/// of a run for that package, with all its passes, that is kept. An `Err` has touched no package.
+/// At each moment each file has the bytes that it had, or, where it is the BUILD file of a package of the script, the
+/// whole text of a run for that package, with all its passes, that is kept. An `Err` has touched no package.
 pub fn edit_all<D: Folder, S: Source, O: Sink, E: Sink>(
     alloc: Global,
     flags: &Flags,

@@ -9,8 +9,8 @@ use crate::run::Asked;
 use bz_engine::{RunFault, Sink, Source};
 use std::alloc::Global;
 
-/// Edits what a source gives: the text goes to standard output, the printed lines after it, and the messages to standard
-/// error, each after the name of the file. Gives the exit status.
+/// Edits what a source gives: the text goes to standard output, the printed lines after it, and the messages to
+/// standard error, each after the name of the file. Gives the exit status.
 pub fn edit_stream<S: Source, O: Sink, E: Sink>(
     alloc: Global,
     asked: Asked,
@@ -18,7 +18,9 @@ pub fn edit_stream<S: Source, O: Sink, E: Sink>(
     source: &mut S,
     console: &mut Console<O, E>,
 ) -> Result<u8, RunFault>
-    ensures edited { IfOk result (λ status. spec.IsStreamed S.gave O.took E.took asked file.now source.old source.new console.old console.new status) }
+    ensures edited { IfOk result
+        (λ status.
+        spec.IsStreamed S.gave O.took E.took asked file.now source.old source.new console.old console.new status) }
     ensures devices { (read : List (List ℕ)) × (shown : List ℕ) × (told : List ℕ)
         × S.gave source.old read source.new × Shows O.took E.took console.old shown told console.new }
 {

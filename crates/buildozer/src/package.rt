@@ -31,8 +31,8 @@ pub struct Devices<D, S, O, E> {
 
 /// Edits a package, shows what that tells, and gives the exit status of the package.
 ///
-/// A file that cannot be opened or written, a lack of memory, and a failed read or write are told after the name of the file
-/// and are status 2.
+/// A file that cannot be opened or written, a lack of memory, and a failed read or write are told after the name of the
+/// file and are status 2.
 pub fn edit_package<D: Folder, S: Source, O: Sink, E: Sink>(
     alloc: Global,
     flags: &Flags,

@@ -42,7 +42,8 @@ impl Asked {
         source: &mut S,
         sink: &mut W,
     ) -> Result<Report, RunFault>
-        ensures ran { IfOk result (λ report. spec.Ran S.gave W.took self source.old source.new sink.old sink.new report) }
+        ensures ran { IfOk result
+            (λ report. spec.Ran S.gave W.took self source.old source.new sink.old sink.new report) }
         ensures devices { (read : List (List ℕ)) × (text : List ℕ)
             × S.gave source.old read source.new × W.took sink.old text sink.new }
     {

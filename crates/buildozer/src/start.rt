@@ -20,7 +20,8 @@ const COMMAND_LINE: u64 = 0;
 
 /// What the words of the command line ask for.
 ///
-/// Faults of flags come first, then those of the command file or of the words, then standard input that is to be read twice.
+/// Faults of flags come first, then those of the command file or of the words, then standard input that is to be read
+/// twice.
 pub fn requested(
     rt: &HostRuntime,
     alloc: Global,

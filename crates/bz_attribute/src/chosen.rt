@@ -59,7 +59,8 @@ fn any_chosen_in(home: &Package, chosen: Chosen<'_>, node: &Node<'_>) -> bool
 }
 
 pub fn is_any_chosen(home: &Package, chosen: Chosen<'_>, value: &[Node<'_>]) -> bool
-    ensures { result ≡ list_any (list_any (spec.is_chosen home.now (chosen_view chosen.entry))) (parts (nodes_view value.now)) }
+    ensures { result
+        ≡ list_any (list_any (spec.is_chosen home.now (chosen_view chosen.entry))) (parts (nodes_view value.now)) }
 {
     if !are_joints(value) {
         return false;
@@ -86,7 +87,8 @@ pub fn chooses(home: &Package, chosen: Chosen<'_>, arg: &Seg<'_>) -> bool
 
 // Drops the chosen elements.
 fn drop_chosen(home: &Package, chosen: Chosen<'_>, elements: &mut Vec<Seg<'_>>)
-    ensures { segs_view elements.new.items ≡ spec.unchosen home.now (chosen_view chosen.entry) (segs_view elements.old.items) }
+    ensures { segs_view elements.new.items
+        ≡ spec.unchosen home.now (chosen_view chosen.entry) (segs_view elements.old.items) }
 {
     elements.retain(|element| !is_chosen(home, chosen, element));
 }
@@ -100,7 +102,8 @@ fn drop_in_list(home: &Package, chosen: Chosen<'_>, node: &mut Node<'_>)
 }
 
 fn drop_in_value(home: &Package, chosen: Chosen<'_>, value: &mut [Node<'_>])
-    ensures { nodes_view value.new ≡ edit_parts (spec.unchosen home.now (chosen_view chosen.entry)) (nodes_view value.old) }
+    ensures { nodes_view value.new
+        ≡ edit_parts (spec.unchosen home.now (chosen_view chosen.entry)) (nodes_view value.old) }
 {
     if !are_joints(value) {
         return;
@@ -118,7 +121,9 @@ fn drop_in_value(home: &Package, chosen: Chosen<'_>, value: &mut [Node<'_>])
 /// Drops the chosen elements of the argument's list parts.
 pub fn drop_in(home: &Package, chosen: Chosen<'_>, arg: &mut Seg<'_>)
     requires { 2 ≤ length arg.old.nodes.items }
-    ensures { seg_view arg.new ≡ with_value (edit_parts (spec.unchosen home.now (chosen_view chosen.entry)) (value (seg_view arg.old))) (seg_view arg.old) }
+    ensures { seg_view arg.new
+        ≡ with_value (edit_parts (spec.unchosen home.now (chosen_view chosen.entry)) (value (seg_view arg.old)))
+        (seg_view arg.old) }
 {
     drop_in_value(home, chosen, &mut arg.nodes[2..]);
 }
@@ -136,7 +141,8 @@ fn are_chosen(home: &Package, chosen: Chosen<'_>, elements: &[Seg<'_>]) -> bool
 }
 
 fn loses_elements(home: &Package, chosen: Chosen<'_>, elements: &[Seg<'_>]) -> bool
-    ensures { result ≡ (not (spec.is_nil (segs_view elements.now)) && spec.is_nil (spec.unchosen home.now (chosen_view chosen.entry) (segs_view elements.now))) }
+    ensures { result ≡ (not (spec.is_nil (segs_view elements.now))
+        && spec.is_nil (spec.unchosen home.now (chosen_view chosen.entry) (segs_view elements.now))) }
 {
     match elements {
         [] => false,

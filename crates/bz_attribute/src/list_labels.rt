@@ -23,7 +23,8 @@ pub fn labels_in<'s>(
     value: &'s [Node<'_>],
 ) -> Result<LabelSet<'s>, AllocError>
     ensures home { IfOk result (λ set. set.home.now ≡ home.now) }
-    ensures all { IfOk result (λ set. (text : List ℕ) → has set text ≡ is_in home.now (parts (nodes_view value.now)) text) }
+    ensures all { IfOk result
+        (λ set. (text : List ℕ) → has set text ≡ is_in home.now (parts (nodes_view value.now)) text) }
 {
     let mut set = LabelSet::new(alloc, home);
     if !are_joints(value) {
@@ -64,7 +65,8 @@ fn insert_elements<'s>(elements: &'s [Seg<'_>], set: &mut LabelSet<'s>) -> Resul
 
 fn insert_element<'s>(element: &'s Seg<'_>, set: &mut LabelSet<'s>) -> Result<(), AllocError>
     ensures home { set.new.home.now ≡ set.old.home.now }
-    ensures ok { OnOk result (Gains (λ text. is_chosen set.old.home.now (Values (text ∷ [])) (seg_view element.now)) set.old set.new) }
+    ensures ok { OnOk result
+        (Gains (λ text. is_chosen set.old.home.now (Values (text ∷ [])) (seg_view element.now)) set.old set.new) }
 {
     match string_of(element) {
         None => Ok(()),

@@ -53,7 +53,8 @@ pub fn is_list(node: &Node<'_>) -> bool
 /// The node at `i` is a list part, where a piece begins with it.
 pub fn is_part(start: bool, value: &[Node<'_>], i: usize) -> bool
     requires { i < length value.now }
-    ensures { (d : _) → result ≡ spec.is_part start (node_view (get_or value.now i d)) (nodes_view (drop (i + 1) value.now)) }
+    ensures { (d : _)
+        → result ≡ spec.is_part start (node_view (get_or value.now i d)) (nodes_view (drop (i + 1) value.now)) }
 {
     start && is_list(&value[i]) && (i + 1 == value.len() || is_sign(&value[i + 1], "+"))
 }

@@ -96,14 +96,16 @@ pub fn list_argument<'a>(
     attr: &str,
     elements: Vec<Seg<'a>>,
 ) -> Result<Seg<'a>, AllocError>
-    ensures { IfOk result (λ seg. seg_view seg ≡ spec.argument attr.now (spec.list_item (segs_view elements.entry.items) ∷ [])) }
+    ensures { IfOk result
+        (λ seg. seg_view seg ≡ spec.argument attr.now (spec.list_item (segs_view elements.entry.items) ∷ [])) }
 {
     argument(alloc, attr, list(alloc, elements))
 }
 
 /// The name and the sign of a new argument, with room for a value.
 pub fn argument_head<'a>(alloc: Global, attr: &str) -> Result<Vec<Node<'a>>, AllocError>
-    ensures nodes { IfOk result (λ head. nodes_view head.items ≡ leaf Ident attr.now nowhere ∷ leaf Sign (codes "=") nowhere ∷ []) }
+    ensures nodes { IfOk result
+        (λ head. nodes_view head.items ≡ leaf Ident attr.now nowhere ∷ leaf Sign (codes "=") nowhere ∷ []) }
     ensures room { IfOk result (λ head. vec_len head < vec_capacity head) }
 {
     let mut nodes = Vec::with_capacity(alloc, 3)?;
@@ -115,7 +117,8 @@ pub fn argument_head<'a>(alloc: Global, attr: &str) -> Result<Vec<Node<'a>>, All
 /// A new argument with this head, whose value is a list. Takes no memory.
 pub fn list_with<'a>(alloc: Global, mut head: Vec<Node<'a>>, elements: Vec<Seg<'a>>) -> Seg<'a>
     requires { vec_len head < vec_capacity head }
-    ensures { (attr : _) → nodes_view head.entry.items ≡ leaf Ident attr nowhere ∷ leaf Sign (codes "=") nowhere ∷ [] → seg_view result ≡ spec.argument attr (spec.list_item (segs_view elements.entry.items) ∷ []) }
+    ensures { (attr : _) → nodes_view head.entry.items ≡ leaf Ident attr nowhere ∷ leaf Sign (codes "=") nowhere ∷ []
+        → seg_view result ≡ spec.argument attr (spec.list_item (segs_view elements.entry.items) ∷ []) }
 {
     head.push_reserved(list(alloc, elements));
     Seg {

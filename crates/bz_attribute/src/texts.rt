@@ -73,7 +73,8 @@ fn push_name(
     args: &[Seg<'_>],
     kind: &[Node<'_>],
 ) -> Result<(), AllocError>
-    ensures { OnOk result (string_bytes text.new ≡ string_bytes text.old ++ spec.name_or_kind (name_in (segs_view args.now)) (nodes_view kind.now)) }
+    ensures { OnOk result (string_bytes text.new ≡ string_bytes text.old ++ spec.name_or_kind
+        (name_in (segs_view args.now)) (nodes_view kind.now)) }
 {
     match read_name(alloc, args)? {
         Some(name) => text.push_str(name.as_str())?,

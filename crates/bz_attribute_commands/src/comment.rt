@@ -58,8 +58,8 @@ fn comment_statement(alloc: Global, text: &str, stmt: &mut Stmt<'_>) -> Result<D
     Ok(Done::quiet(true))
 }
 
-/// Adds a comment line above an argument or an element of one; the arguments have no place for a comment above the rule.
-/// An `Err` leaves all as it was.
+/// Adds a comment line above an argument or an element of one; the arguments have no place for a comment above the
+/// rule. An `Err` leaves all as it was.
 pub fn comment(
     alloc: Global,
     home: &Package,
@@ -67,8 +67,11 @@ pub fn comment(
     text: &str,
     args: &mut [Seg<'_>],
 ) -> Result<Done, AllocError>
-    ensures args { OnOk result (segs_view args.new ≡ args_after (Comment (commented_view commented.now) text.now) home.now (segs_view args.old)) }
-    ensures done { IfOk result (λ d. d ≡ args_done (Comment (commented_view commented.now) text.now) home.now (segs_view args.old)) }
+    ensures args { OnOk result
+        (segs_view args.new
+        ≡ args_after (Comment (commented_view commented.now) text.now) home.now (segs_view args.old)) }
+    ensures done { IfOk result
+        (λ d. d ≡ args_done (Comment (commented_view commented.now) text.now) home.now (segs_view args.old)) }
     ensures err { OnErr result (segs_view args.new ≡ segs_view args.old) }
 {
     match commented {
@@ -109,8 +112,10 @@ fn comment_value(
     text: &str,
     args: &mut [Seg<'_>],
 ) -> Result<Done, AllocError>
-    ensures args { OnOk result (segs_view args.new ≡ spec.comment_value home.now attr.now value.now text.now (segs_view args.old)) }
-    ensures done { IfOk result (λ d. d ≡ done (spec.comment_note home.now attr.now value.now (segs_view args.old)) true) }
+    ensures args { OnOk result
+        (segs_view args.new ≡ spec.comment_value home.now attr.now value.now text.now (segs_view args.old)) }
+    ensures done { IfOk result
+        (λ d. d ≡ done (spec.comment_note home.now attr.now value.now (segs_view args.old)) true) }
     ensures err { OnErr result (segs_view args.new ≡ segs_view args.old) }
 {
     let Some(i) = find(args, attr) else {
@@ -130,7 +135,8 @@ fn comment_in(
     arg: &mut Seg<'_>,
 ) -> Result<Done, AllocError>
     requires { 2 ≤ length arg.old.nodes.items }
-    ensures arg { OnOk result (seg_view arg.new ≡ place.comment_in home.now attr.now value.now text.now (seg_view arg.old)) }
+    ensures arg { OnOk result
+        (seg_view arg.new ≡ place.comment_in home.now attr.now value.now text.now (seg_view arg.old)) }
     ensures done { IfOk result (λ d. d ≡ done (place.note_in home.now attr.now value.now (seg_view arg.old)) true) }
     ensures err { OnErr result (seg_view arg.new ≡ seg_view arg.old) }
 {
@@ -147,8 +153,10 @@ fn comment_in_nodes(
     text: &str,
     nodes: &mut [Node<'_>],
 ) -> Result<Done, AllocError>
-    ensures nodes { OnOk result (nodes_view nodes.new ≡ place.comment_in_nodes home.now attr.now value.now text.now (nodes_view nodes.old)) }
-    ensures done { IfOk result (λ d. d ≡ done (place.note_in_nodes home.now attr.now value.now (nodes_view nodes.old)) true) }
+    ensures nodes { OnOk result
+        (nodes_view nodes.new ≡ place.comment_in_nodes home.now attr.now value.now text.now (nodes_view nodes.old)) }
+    ensures done { IfOk result
+        (λ d. d ≡ done (place.note_in_nodes home.now attr.now value.now (nodes_view nodes.old)) true) }
     ensures err { OnErr result (nodes_view nodes.new ≡ nodes_view nodes.old) }
 {
     if first_part(nodes).is_none() {
@@ -168,7 +176,8 @@ fn comment_in_nodes(
 // Where the first list part with an element that equals the value stands.
 fn part_with(home: &Package, value: &str, nodes: &[Node<'_>]) -> Option<usize>
     ensures some { IfSome result (IsPartWith (equals home.now value.now) nodes.now) }
-    ensures none { IfNone result (list_any (list_any (equals home.now value.now)) (parts (nodes_view nodes.now)) ≡ false) }
+    ensures none { IfNone result
+        (list_any (list_any (equals home.now value.now)) (parts (nodes_view nodes.now)) ≡ false) }
 {
     if !are_joints(nodes) {
         return None;
@@ -225,7 +234,8 @@ fn comment_at<'a>(
     part: usize,
 ) -> Result<(), AllocError>
     requires { IsPartWith (equals home.now value.now) nodes.old part }
-    ensures ok { OnOk result (nodes_view nodes.new ≡ spec.edit_element (equals home.now value.now) (spec.with_comment (cow_str_bytes line.entry)) (nodes_view nodes.old)) }
+    ensures ok { OnOk result (nodes_view nodes.new ≡ spec.edit_element (equals home.now value.now)
+        (spec.with_comment (cow_str_bytes line.entry)) (nodes_view nodes.old)) }
     ensures err { OnErr result (nodes_view nodes.new ≡ nodes_view nodes.old) }
 {
     comment_in_list(home, value, line, &mut nodes[part])?;
@@ -238,7 +248,9 @@ fn comment_in_list<'a>(
     line: CowStr<'a>,
     node: &mut Node<'a>,
 ) -> Result<(), AllocError>
-    ensures ok { OnOk result (node_view node.new ≡ edit_list (edit_first (equals home.now value.now) (λ s. spec.with_comment (cow_str_bytes line.entry) s ∷ [])) (node_view node.old)) }
+    ensures ok { OnOk result (node_view node.new ≡ edit_list
+        (edit_first (equals home.now value.now) (λ s. spec.with_comment (cow_str_bytes line.entry) s ∷ []))
+        (node_view node.old)) }
     ensures err { OnErr result (node_view node.new ≡ node_view node.old) }
 {
     match node {
@@ -256,7 +268,8 @@ fn comment_first<'a>(
     line: CowStr<'a>,
     elements: &mut [Seg<'a>],
 ) -> Result<(), AllocError>
-    ensures ok { OnOk result (segs_view elements.new ≡ edit_first (equals home.now value.now) (λ s. spec.with_comment (cow_str_bytes line.entry) s ∷ []) (segs_view elements.old)) }
+    ensures ok { OnOk result (segs_view elements.new ≡ edit_first (equals home.now value.now)
+        (λ s. spec.with_comment (cow_str_bytes line.entry) s ∷ []) (segs_view elements.old)) }
     ensures err { OnErr result (segs_view elements.new ≡ segs_view elements.old) }
 {
     let Some(i) = find_equal(home, value, elements) else {

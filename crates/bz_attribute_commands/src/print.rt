@@ -21,8 +21,8 @@ use bz_layout::flat;
 use bz_tree::{GroupKind, Node, Seg, Stmt};
 use std::alloc::{AllocError, Global};
 
-/// Prints fields of the rule that a slot holds; the note names the first that is missing. Where there is no rule nothing
-/// is printed, and no memory is asked for.
+/// Prints fields of the rule that a slot holds; the note names the first that is missing. Where there is no rule
+/// nothing is printed, and no memory is asked for.
 pub fn print(
     alloc: Global,
     home: &Package,
@@ -50,7 +50,8 @@ fn print_rule(
     rule: Rule<'_, '_>,
     fields: &[Field],
 ) -> Result<Done, AllocError>
-    ensures { IfOk result (λ done. done ≡ spec.printed home.now (view stmt.now) (rule_view rule.entry) (spec.fields_of (map field_view fields.now))) }
+    ensures { IfOk result (λ done. done ≡ spec.printed home.now (view stmt.now) (rule_view rule.entry)
+        (spec.fields_of (map field_view fields.now))) }
 {
     match fields {
         [] => {
@@ -73,7 +74,8 @@ fn print_fields(
     first: &Field,
     others: &[Field],
 ) -> Result<Done, AllocError>
-    ensures { IfOk result (λ done. done ≡ spec.printed home.now (view stmt.now) (rule_view rule.entry) (field_view first.now ∷ map field_view others.now)) }
+    ensures { IfOk result (λ done. done ≡ spec.printed home.now (view stmt.now) (rule_view rule.entry)
+        (field_view first.now ∷ map field_view others.now)) }
 {
     let mut line = String::new(alloc);
     let mut missing = push_field(alloc, &mut line, home, stmt, rule, first)?;
@@ -98,8 +100,12 @@ fn push_field(
     rule: Rule<'_, '_>,
     field: &Field,
 ) -> Result<Option<Note>, AllocError>
-    ensures line { OnOk result (string_bytes text.new ≡ string_bytes text.old ++ spec.shown_field (spec.field_text home.now (view stmt.now) (rule_view rule.entry) (field_view field.now))) }
-    ensures missing { IfOk result (λ missing. missing ≡ spec.missing home.now (view stmt.now) (rule_view rule.entry) (field_view field.now ∷ [])) }
+    ensures line { OnOk result
+        (string_bytes text.new ≡ string_bytes text.old ++ spec.shown_field
+        (spec.field_text home.now (view stmt.now) (rule_view rule.entry) (field_view field.now))) }
+    ensures missing { IfOk result
+        (λ missing. missing
+        ≡ spec.missing home.now (view stmt.now) (rule_view rule.entry) (field_view field.now ∷ [])) }
 {
     match field {
         Field::Label => {
@@ -131,8 +137,10 @@ fn push_label(
     home: &Package,
     args: &[Seg<'_>],
 ) -> Result<Option<Note>, AllocError>
-    ensures line { OnOk result (string_bytes text.new ≡ string_bytes text.old ++ spec.shown_field (label_in home.now (segs_view args.now))) }
-    ensures missing { IfOk result (λ missing. missing ≡ missing_as (codes "label") (is_some (label_in home.now (segs_view args.now)))) }
+    ensures line { OnOk result
+        (string_bytes text.new ≡ string_bytes text.old ++ spec.shown_field (label_in home.now (segs_view args.now))) }
+    ensures missing { IfOk result
+        (λ missing. missing ≡ missing_as (codes "label") (is_some (label_in home.now (segs_view args.now)))) }
 {
     let Some(name) = read_name(alloc, args)? else {
         let missing = push_missing(alloc, text, "label")?;
@@ -149,8 +157,11 @@ fn push_attribute(
     attr: &str,
     args: &[Seg<'_>],
 ) -> Result<Option<Note>, AllocError>
-    ensures line { OnOk result (string_bytes text.new ≡ string_bytes text.old ++ spec.shown_field (attribute_in attr.now (segs_view args.now))) }
-    ensures missing { IfOk result (λ missing. missing ≡ missing_as attr.now (is_some (attribute_in attr.now (segs_view args.now)))) }
+    ensures line { OnOk result
+        (string_bytes text.new
+        ≡ string_bytes text.old ++ spec.shown_field (attribute_in attr.now (segs_view args.now))) }
+    ensures missing { IfOk result
+        (λ missing. missing ≡ missing_as attr.now (is_some (attribute_in attr.now (segs_view args.now)))) }
 {
     let Some(arg) = first_named(args, attr) else {
         let missing = push_missing(alloc, text, attr)?;
@@ -171,7 +182,8 @@ fn push_missing(alloc: Global, text: &mut String, name: &str) -> Result<Note, Al
 
 // Writes the value of a named argument.
 fn push_argument(alloc: Global, text: &mut String, arg: &Seg<'_>) -> Result<(), AllocError>
-    ensures { OnOk result (string_bytes text.new ≡ string_bytes text.old ++ spec.value_text (value (seg_view arg.now))) }
+    ensures { OnOk result
+        (string_bytes text.new ≡ string_bytes text.old ++ spec.value_text (value (seg_view arg.now))) }
 {
     if arg.nodes.len() < 2 {
         push_value(alloc, text, &[])?;
@@ -192,7 +204,8 @@ fn push_value(alloc: Global, text: &mut String, value: &[Node<'_>]) -> Result<()
 }
 
 fn read_string(alloc: Global, nodes: &[Node<'_>]) -> Result<Option<String>, AllocError>
-    ensures { IfOk result (λ value. option_map (λ text. string_bytes text) value ≡ string_value (nodes_view nodes.now)) }
+    ensures { IfOk result
+        (λ value. option_map (λ text. string_bytes text) value ≡ string_value (nodes_view nodes.now)) }
 {
     let Some(literal) = only_text(nodes) else {
         return Ok(None);
@@ -271,7 +284,8 @@ fn has_string(nodes: &[Node<'_>]) -> bool
 
 // Writes strings with a space between them.
 fn push_elements(alloc: Global, text: &mut String, elements: &[Seg<'_>]) -> Result<(), AllocError>
-    ensures { OnOk result (string_bytes text.new ≡ string_bytes text.old ++ spec.spaced (map element_word (segs_view elements.now))) }
+    ensures { OnOk result
+        (string_bytes text.new ≡ string_bytes text.old ++ spec.spaced (map element_word (segs_view elements.now))) }
 {
     let [first, others @ ..] = elements else {
         return Ok(());

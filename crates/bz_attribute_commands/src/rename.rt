@@ -40,7 +40,8 @@ pub fn rename<'a>(
 
 fn put_name<'a>(arg: &mut Seg<'a>, name: Node<'a>)
     requires { 2 ≤ length arg.old.nodes.items }
-    ensures { (text : _) → node_view name.entry ≡ leaf Ident text nowhere → seg_view arg.new ≡ spec.rename_to text (seg_view arg.old) }
+    ensures { (text : _) → node_view name.entry ≡ leaf Ident text nowhere
+        → seg_view arg.new ≡ spec.rename_to text (seg_view arg.old) }
 {
     arg.nodes[0] = name;
 }

@@ -31,8 +31,8 @@ pub enum New<'w> {
     Strings(&'w [Text]),
 }
 
-/// Sets the first argument of a name, or adds one. Where the value is there already no memory is taken. An `Err` leaves all
-/// as it was.
+/// Sets the first argument of a name, or adds one. Where the value is there already no memory is taken. An `Err` leaves
+/// all as it was.
 pub fn set(
     alloc: Global,
     attr: &str,
@@ -40,8 +40,11 @@ pub fn set(
     args: &mut Vec<Seg<'_>>,
 ) -> Result<Done, AllocError>
     ensures args { OnOk result (segs_view args.new.items ≡ spec.set attr.now words.now (segs_view args.old.items)) }
-    ensures done { IfOk result (λ done. done ≡ effects.done None (spec.sets attr.now words.now (first_named attr.now (segs_view args.old.items)))) }
-    ensures unchanged { spec.sets attr.now words.now (first_named attr.now (segs_view args.old.items)) ≡ false → IsOk result }
+    ensures done { IfOk result
+        (λ done. done
+        ≡ effects.done None (spec.sets attr.now words.now (first_named attr.now (segs_view args.old.items)))) }
+    ensures unchanged { spec.sets attr.now words.now (first_named attr.now (segs_view args.old.items)) ≡ false
+        → IsOk result }
     ensures err { OnErr result (segs_view args.new.items ≡ segs_view args.old.items) }
 {
     if find(args, attr).is_none() {
@@ -59,8 +62,10 @@ pub fn set_if_absent(
     words: &[Text],
     args: &mut Vec<Seg<'_>>,
 ) -> Result<Done, AllocError>
-    ensures args { OnOk result (segs_view args.new.items ≡ spec.set_if_absent attr.now words.now (segs_view args.old.items)) }
-    ensures done { IfOk result (λ done. done ≡ effects.done None (not (effects.has attr.now (segs_view args.old.items)))) }
+    ensures args { OnOk result
+        (segs_view args.new.items ≡ spec.set_if_absent attr.now words.now (segs_view args.old.items)) }
+    ensures done { IfOk result
+        (λ done. done ≡ effects.done None (not (effects.has attr.now (segs_view args.old.items)))) }
     ensures unchanged { effects.has attr.now (segs_view args.old.items) ≡ true → IsOk result }
     ensures err { OnErr result (segs_view args.new.items ≡ segs_view args.old.items) }
 {
@@ -77,7 +82,9 @@ fn add_argument(
     words: &[Text],
     args: &mut Vec<Seg<'_>>,
 ) -> Result<(), AllocError>
-    ensures args { OnOk result (segs_view args.new.items ≡ segs_view args.old.items ++ effects.argument attr.now (spec.new_value (spec.new_of attr.now words.now None)) ∷ []) }
+    ensures args { OnOk result
+        (segs_view args.new.items ≡ segs_view args.old.items
+        ++ effects.argument attr.now (spec.new_value (spec.new_of attr.now words.now None)) ∷ []) }
     ensures err { OnErr result (segs_view args.new.items ≡ segs_view args.old.items) }
 {
     let value = new_node(alloc, new_of(attr, words, &[]))?;
@@ -92,8 +99,12 @@ fn set_first(
     args: &mut [Seg<'_>],
 ) -> Result<Done, AllocError>
     requires { effects.has attr.now (segs_view args.old) ≡ true }
-    ensures args { OnOk result (segs_view args.new ≡ effects.edit_first (is_named attr.now) (λ a. spec.set_in (spec.new_of attr.now words.now (first_named attr.now (segs_view args.old))) a ∷ []) (segs_view args.old)) }
-    ensures done { IfOk result (λ done. done ≡ effects.done None (spec.sets attr.now words.now (first_named attr.now (segs_view args.old)))) }
+    ensures args { OnOk result
+        (segs_view args.new ≡ effects.edit_first (is_named attr.now) (λ a.
+        spec.set_in (spec.new_of attr.now words.now (first_named attr.now (segs_view args.old))) a ∷ [])
+        (segs_view args.old)) }
+    ensures done { IfOk result
+        (λ done. done ≡ effects.done None (spec.sets attr.now words.now (first_named attr.now (segs_view args.old)))) }
     ensures unchanged { spec.sets attr.now words.now (first_named attr.now (segs_view args.old)) ≡ false → IsOk result }
     ensures err { OnErr result (segs_view args.new ≡ segs_view args.old) }
 {
@@ -106,8 +117,10 @@ fn set_first(
 
 fn set_in(alloc: Global, attr: &str, words: &[Text], arg: &mut Seg<'_>) -> Result<Done, AllocError>
     requires { 2 ≤ length arg.old.nodes.items }
-    ensures arg { OnOk result (seg_view arg.new ≡ spec.set_in (spec.new_of attr.now words.now (Some (seg_view arg.old))) (seg_view arg.old)) }
-    ensures done { IfOk result (λ done. done ≡ effects.done None (spec.sets attr.now words.now (Some (seg_view arg.old)))) }
+    ensures arg { OnOk result
+        (seg_view arg.new ≡ spec.set_in (spec.new_of attr.now words.now (Some (seg_view arg.old))) (seg_view arg.old)) }
+    ensures done { IfOk result
+        (λ done. done ≡ effects.done None (spec.sets attr.now words.now (Some (seg_view arg.old)))) }
     ensures unchanged { spec.sets attr.now words.now (Some (seg_view arg.old)) ≡ false → IsOk result }
     ensures err { OnErr result (seg_view arg.new ≡ seg_view arg.old) }
 {
@@ -121,7 +134,8 @@ fn set_in(alloc: Global, attr: &str, words: &[Text], arg: &mut Seg<'_>) -> Resul
 
 // Puts a value in place of the one after a name and its sign. An `Err` leaves the nodes as they were.
 fn put_value<'a>(nodes: &mut Vec<Node<'a>>, value: Node<'a>) -> Result<(), AllocError>
-    ensures nodes { OnOk result (nodes_view nodes.new.items ≡ take 2 (nodes_view nodes.old.items) ++ node_view value.entry ∷ []) }
+    ensures nodes { OnOk result
+        (nodes_view nodes.new.items ≡ take 2 (nodes_view nodes.old.items) ++ node_view value.entry ∷ []) }
     ensures err { OnErr result (nodes_view nodes.new.items ≡ nodes_view nodes.old.items) }
 {
     nodes.reserve(1)?;
@@ -132,7 +146,8 @@ fn put_value<'a>(nodes: &mut Vec<Node<'a>>, value: Node<'a>) -> Result<(), Alloc
 
 // What the words stand for, where `was` is the value that is there, if any.
 fn new_of<'w>(attr: &str, words: &'w [Text], was: &[Node<'_>]) -> New<'w>
-    ensures { (arg : _) → spec.holds_list arg ≡ spec.is_one_list (nodes_view was.now) → new_view result ≡ spec.new_of attr.now words.now arg }
+    ensures { (arg : _) → spec.holds_list arg ≡ spec.is_one_list (nodes_view was.now)
+        → new_view result ≡ spec.new_of attr.now words.now arg }
 {
     match words {
         [word] => {

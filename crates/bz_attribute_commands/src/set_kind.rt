@@ -38,7 +38,8 @@ fn in_statement(alloc: Global, kind: &str, stmt: &mut Stmt<'_>) -> Result<Done, 
     ensures stmt { OnOk result (view stmt.new ≡ spec.with_kind kind.now (view stmt.old)) }
     ensures done { IfOk result (λ done. done ≡ spec.sets_kind kind.now (rule_of (nodes_view stmt.old.nodes.items))) }
     ensures no_rule { rule_of (nodes_view stmt.old.nodes.items) ≡ None → IsOk result }
-    ensures unchanged { (spec.sets_kind kind.now (rule_of (nodes_view stmt.old.nodes.items))).changed ≡ false → IsOk result }
+    ensures unchanged { (spec.sets_kind kind.now (rule_of (nodes_view stmt.old.nodes.items))).changed ≡ false
+        → IsOk result }
     ensures err { OnErr result (view stmt.new ≡ view stmt.old) }
 {
     let done = in_nodes(alloc, kind, &mut stmt.nodes)?;
@@ -46,7 +47,9 @@ fn in_statement(alloc: Global, kind: &str, stmt: &mut Stmt<'_>) -> Result<Done, 
 }
 
 fn in_nodes(alloc: Global, kind: &str, nodes: &mut Vec<Node<'_>>) -> Result<Done, AllocError>
-    ensures nodes { OnOk result (nodes_view nodes.new.items ≡ spec.kind_after kind.now (nodes_view nodes.old.items) (rule_of (nodes_view nodes.old.items))) }
+    ensures nodes { OnOk result
+        (nodes_view nodes.new.items
+        ≡ spec.kind_after kind.now (nodes_view nodes.old.items) (rule_of (nodes_view nodes.old.items))) }
     ensures done { IfOk result (λ done. done ≡ spec.sets_kind kind.now (rule_of (nodes_view nodes.old.items))) }
     ensures no_rule { rule_of (nodes_view nodes.old.items) ≡ None → IsOk result }
     ensures unchanged { (spec.sets_kind kind.now (rule_of (nodes_view nodes.old.items))).changed ≡ false → IsOk result }
@@ -64,7 +67,9 @@ fn in_nodes(alloc: Global, kind: &str, nodes: &mut Vec<Node<'_>>) -> Result<Done
 
 // Puts nodes in place of all but the last. An `Err` leaves all as it was.
 fn put_kind<'a>(nodes: &mut Vec<Node<'a>>, mut kind: Vec<Node<'a>>) -> Result<(), AllocError>
-    ensures nodes { OnOk result (nodes_view nodes.new.items ≡ nodes_view kind.entry.items ++ nodes_view (drop (length nodes.old.items - 1) nodes.old.items)) }
+    ensures nodes { OnOk result
+        (nodes_view nodes.new.items ≡ nodes_view kind.entry.items
+        ++ nodes_view (drop (length nodes.old.items - 1) nodes.old.items)) }
     ensures err { OnErr result (nodes_view nodes.new.items ≡ nodes_view nodes.old.items) }
 {
     kind.reserve(1)?;

@@ -113,7 +113,8 @@ pub(crate) fn next<'a>(bytes: Bytes<'a>) -> Option<(u8, Bytes<'a>)>
 
 fn next_value<'a>(literal: Literal<'a>) -> Option<(u8, Bytes<'a>)>
     requires { IsTrue (is_some (inner_of literal)) }
-    ensures next { MatchOption result (left (Bytes.Inner literal.entry) ≡ []) (λ p. left (Bytes.Inner literal.entry) ≡ p.0 ∷ left p.1) }
+    ensures next { MatchOption result (left (Bytes.Inner literal.entry) ≡ [])
+        (λ p. left (Bytes.Inner literal.entry) ≡ p.0 ∷ left p.1) }
     ensures good { IfSome result (λ p. IsTrue (is_good p.1)) }
 {
     let Literal { raw, quotes, rest } = literal;

@@ -155,7 +155,8 @@ pub(crate) fn equal(a: Chain<'_>, b: Chain<'_>) -> bool
 /// The next byte, and what is left after it.
 pub(crate) fn next_in<'a>(chain: Chain<'a>) -> Option<(u8, Chain<'a>)>
     requires { IsTrue (is_good_chain chain) }
-    ensures next { MatchOption result (chain_bytes chain.entry ≡ []) (λ p. chain_bytes chain.entry ≡ p.0 ∷ chain_bytes p.1) }
+    ensures next { MatchOption result (chain_bytes chain.entry ≡ [])
+        (λ p. chain_bytes chain.entry ≡ p.0 ∷ chain_bytes p.1) }
     ensures good { IfSome result (λ p. IsTrue (is_good_chain p.1)) }
 {
     if let Some((b, first)) = next(chain.first) {
@@ -172,7 +173,8 @@ fn next_after<'a>(chain: Chain<'a>) -> Option<(u8, Chain<'a>)>
     requires good { IsTrue (is_good_chain chain) }
     requires first { left chain.first ≡ [] }
     requires second { left chain.second ≡ [] }
-    ensures next { MatchOption result (chain_bytes chain.entry ≡ []) (λ p. chain_bytes chain.entry ≡ p.0 ∷ chain_bytes p.1) }
+    ensures next { MatchOption result (chain_bytes chain.entry ≡ [])
+        (λ p. chain_bytes chain.entry ≡ p.0 ∷ chain_bytes p.1) }
     ensures good { IfSome result (λ p. IsTrue (is_good_chain p.1)) }
 {
     if let Some((b, third)) = next(chain.third) {

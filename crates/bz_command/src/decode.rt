@@ -40,7 +40,8 @@ fn read_raw(alloc: Global, literal: &str) -> Result<Option<String>, AllocError>
 fn read_literal(alloc: Global, raw: bool, literal: &str) -> Result<Option<String>, AllocError>
     requires some { 0 < length literal.now }
     requires quote { spec.is_quote (slice_index_or literal.now 0 0) ≡ true }
-    ensures { IfOk result (λ value. option_map (λ text. string_bytes text) value ≡ spec.values_in raw (spec.inner_of literal.now)) }
+    ensures { IfOk result
+        (λ value. option_map (λ text. string_bytes text) value ≡ spec.values_in raw (spec.inner_of literal.now)) }
 {
     let n = opening_len(literal.as_bytes());
     read_inner(alloc, raw, &literal[..n], &literal[n..])
@@ -55,7 +56,8 @@ fn read_inner(
 ) -> Result<Option<String>, AllocError>
     requires some { 0 < length quotes.now }
     requires ascii { slice_index_or quotes.now 0 0 < 128 }
-    ensures { IfOk result (λ value. option_map (λ text. string_bytes text) value ≡ inner_value raw quotes.now inner.now) }
+    ensures { IfOk result
+        (λ value. option_map (λ text. string_bytes text) value ≡ inner_value raw quotes.now inner.now) }
 {
     let mut value = String::new(alloc);
     let mut from = 0;

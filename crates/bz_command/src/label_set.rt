@@ -108,7 +108,10 @@ impl<'a> LabelSet<'a> {
     pub fn insert(&mut self, text: Bytes<'a>) -> Result<bool, AllocError>
         requires { IsTrue (is_good text) }
         ensures new { IfOk result (λ new. new ≡ not (spec.has self.old (left text.entry))) }
-        ensures ok { OnOk result (spec.Gains (λ other. bytes_eq (completed self.old.home.now other) (completed self.old.home.now (left text.entry))) self.old self.new) }
+        ensures ok { OnOk result (spec.Gains
+            (λ other.
+            bytes_eq (completed self.old.home.now other)
+            (completed self.old.home.now (left text.entry))) self.old self.new) }
         ensures err { OnErr result ((other : List ℕ) → spec.has self.new other ≡ spec.has self.old other) }
         ensures home { self.new.home.now ≡ self.old.home.now }
     {

@@ -33,8 +33,8 @@ impl From<AllocError> for LabelFault {
     }
 }
 
-/// Reads a label (buildozer README, targets): `//PATH:TARGET`, `PATH:TARGET`, `:TARGET` in the root, `-:TARGET` for standard
-/// input, or a path alone, whose last part is then the name. A bad package is told before a bad target.
+/// Reads a label (buildozer README, targets): `//PATH:TARGET`, `PATH:TARGET`, `:TARGET` in the root, `-:TARGET` for
+/// standard input, or a path alone, whose last part is then the name. A bad package is told before a bad target.
 pub fn read_label(alloc: Global, text: &str) -> Result<(Package, Target), LabelFault>
     ensures { result ≢ Err LabelFault.OutOfMemory → result ≡ spec.label_of text.now }
 {

@@ -7,7 +7,8 @@ ghost use Rattle.std.specs.Str.{IsUtf8};
 /// The first part and what follows the character after it; `None` where there is one part alone.
 pub fn cut(text: &str, at: char) -> Option<(&str, &str)>
     requires { at < 128 }
-    ensures parts { MatchOption result (slice_split (λ b. b == at) text.now ≡ text.now ∷ []) (λ x. slice_split (λ b. b == at) text.now ≡ x.0.now ∷ slice_split (λ b. b == at) x.1.now) }
+    ensures parts { MatchOption result (slice_split (λ b. b == at) text.now ≡ text.now ∷ [])
+        (λ x. slice_split (λ b. b == at) text.now ≡ x.0.now ∷ slice_split (λ b. b == at) x.1.now) }
     ensures shorter { IfSome result (λ x. length x.1.now < length text.now) }
     ensures front { IfSome result (λ x. IsUtf8 x.0.now) }
     ensures back { IfSome result (λ x. IsUtf8 x.1.now) }

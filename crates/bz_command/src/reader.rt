@@ -13,8 +13,8 @@ use crate::names::{is, is_identifier, is_kind};
 use crate::words::{read_words, take_word};
 use std::alloc::{AllocError, Global};
 
-/// Reads a command (buildozer README, edit commands); `None` for a text whose first word is no command's name. Of several
-/// faults the first in the order of [`CommandFault`] is told.
+/// Reads a command (buildozer README, edit commands); `None` for a text whose first word is no command's name. Of
+/// several faults the first in the order of [`CommandFault`] is told.
 pub fn read_command(alloc: Global, text: &str) -> Result<Option<Command>, CommandFault>
     ensures { result ≢ Err CommandFault.OutOfMemory → result ≡ spec.command_of text.now }
 {

@@ -36,7 +36,8 @@ pub(crate) fn read_words(alloc: Global, text: &str) -> Result<Vec<Text>, AllocEr
 
 // What stands before the backslash at the end.
 fn going_on(part: &str) -> Option<&str>
-    ensures { MatchOption result (spec.goes_on part.now ≡ false) (λ front. (spec.goes_on part.now ≡ true) × (spec.with_space part.now ≡ front.now ++ 32 ∷ [])) }
+    ensures { MatchOption result (spec.goes_on part.now ≡ false)
+        (λ front. (spec.goes_on part.now ≡ true) × (spec.with_space part.now ≡ front.now ++ 32 ∷ [])) }
 {
     let Some(front) = part.strip_suffix("\\") else {
         return None;
@@ -56,7 +57,8 @@ fn keep(words: &mut Vec<Text>, word: String) -> Result<(), AllocError>
 
 /// Takes the first word off.
 pub(crate) fn take_word(words: &mut Vec<Text>) -> Option<Text>
-    ensures { MatchOption result ((words.old.items ≡ []) × (words.new.items ≡ [])) (λ word. words.old.items ≡ word ∷ words.new.items) }
+    ensures { MatchOption result ((words.old.items ≡ []) × (words.new.items ≡ []))
+        (λ word. words.old.items ≡ word ∷ words.new.items) }
 {
     if words.len() == 0 {
         return None;

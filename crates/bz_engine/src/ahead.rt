@@ -172,7 +172,8 @@ fn read_line<S: Source>(
         × IsReadOn max_reads ahead.old ahead.new pieces × AreNeeded max_statement ahead.old.bytes pieces }
     ensures line { IfOk result (IsLineAt ahead.new from) }
     ensures statement_too_long { IsErrOf result ChunkFault.StatementTooLong → IsTooLong max_statement ahead.new }
-    ensures input_too_long { IsErrOf result ChunkFault.InputTooLong → (ahead.new.reads ≡ max_reads) × (ahead.new.ended ≡ false)
+    ensures input_too_long { IsErrOf result ChunkFault.InputTooLong
+        → (ahead.new.reads ≡ max_reads) × (ahead.new.ended ≡ false)
         × IsUncertain ahead.new × (IsTooLong max_statement ahead.new → ⊥) }
     ensures failed { IsErrOf result ChunkFault.ReadFailed → Rises (S.failures source.old) (S.failures source.new) }
     ensures steady { result ≢ Err ChunkFault.ReadFailed → S.failures source.new ≡ S.failures source.old }
@@ -214,7 +215,8 @@ fn ends_block<S: Source>(
     ensures ends { IfOk result (λ is_end. IsTrue is_end → EndsAt ahead.new end) }
     ensures goes { IfOk result (λ is_end. is_end ≡ false → GoesOn cutter.new ahead.new end) }
     ensures statement_too_long { IsErrOf result ChunkFault.StatementTooLong → IsTooLong max_statement ahead.new }
-    ensures input_too_long { IsErrOf result ChunkFault.InputTooLong → (ahead.new.reads ≡ max_reads) × (ahead.new.ended ≡ false)
+    ensures input_too_long { IsErrOf result ChunkFault.InputTooLong
+        → (ahead.new.reads ≡ max_reads) × (ahead.new.ended ≡ false)
         × IsUncertain ahead.new × (IsTooLong max_statement ahead.new → ⊥) }
     ensures failed { IsErrOf result ChunkFault.ReadFailed → Rises (S.failures source.old) (S.failures source.new) }
     ensures steady { result ≢ Err ChunkFault.ReadFailed → S.failures source.new ≡ S.failures source.old }
@@ -254,7 +256,8 @@ fn ends_chunk<S: Source>(
     ensures ends { IfOk result (λ is_end. IsTrue is_end → EndsAt ahead.new end) }
     ensures goes { IfOk result (λ is_end. is_end ≡ false → GoesOn cutter.new ahead.new end) }
     ensures statement_too_long { IsErrOf result ChunkFault.StatementTooLong → IsTooLong max_statement ahead.new }
-    ensures input_too_long { IsErrOf result ChunkFault.InputTooLong → (ahead.new.reads ≡ max_reads) × (ahead.new.ended ≡ false)
+    ensures input_too_long { IsErrOf result ChunkFault.InputTooLong
+        → (ahead.new.reads ≡ max_reads) × (ahead.new.ended ≡ false)
         × IsUncertain ahead.new × (IsTooLong max_statement ahead.new → ⊥) }
     ensures failed { IsErrOf result ChunkFault.ReadFailed → Rises (S.failures source.old) (S.failures source.new) }
     ensures steady { result ≢ Err ChunkFault.ReadFailed → S.failures source.new ≡ S.failures source.old }
@@ -279,7 +282,8 @@ fn chunk_end<S: Source>(
         × IsReadOn max_reads ahead.old ahead.new pieces × AreNeeded max_statement ahead.old.bytes pieces }
     ensures end { IfOk result (IsEnd ahead.new) }
     ensures statement_too_long { IsErrOf result ChunkFault.StatementTooLong → IsTooLong max_statement ahead.new }
-    ensures input_too_long { IsErrOf result ChunkFault.InputTooLong → (ahead.new.reads ≡ max_reads) × (ahead.new.ended ≡ false)
+    ensures input_too_long { IsErrOf result ChunkFault.InputTooLong
+        → (ahead.new.reads ≡ max_reads) × (ahead.new.ended ≡ false)
         × IsUncertain ahead.new × (IsTooLong max_statement ahead.new → ⊥) }
     ensures failed { IsErrOf result ChunkFault.ReadFailed → Rises (S.failures source.old) (S.failures source.new) }
     ensures steady { result ≢ Err ChunkFault.ReadFailed → S.failures source.new ≡ S.failures source.old }
@@ -324,7 +328,8 @@ pub(crate) fn next_chunk<S: Source>(
     ensures chunk { IfOk result (λ found. IfSome found (IsNextChunk max_statement ahead.new)) }
     ensures none { IfOk result (λ found. IfNone found ((ahead.new.bytes ≡ []) × IsTrue ahead.new.ended)) }
     ensures statement_too_long { IsErrOf result ChunkFault.StatementTooLong → IsTooLong max_statement ahead.new }
-    ensures input_too_long { IsErrOf result ChunkFault.InputTooLong → (ahead.new.reads ≡ max_reads) × (ahead.new.ended ≡ false)
+    ensures input_too_long { IsErrOf result ChunkFault.InputTooLong
+        → (ahead.new.reads ≡ max_reads) × (ahead.new.ended ≡ false)
         × IsUncertain ahead.new × (IsTooLong max_statement ahead.new → ⊥) }
     ensures failed { IsErrOf result ChunkFault.ReadFailed → Rises (S.failures source.old) (S.failures source.new) }
     ensures steady { result ≢ Err ChunkFault.ReadFailed → S.failures source.new ≡ S.failures source.old }

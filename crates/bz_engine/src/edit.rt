@@ -49,8 +49,8 @@ pub(crate) enum Edited {
     Failed(Option<Text>),
 }
 
-/// The script on the next chunk: what it leaves goes after the text, and what is kept is then that of the chunks with this one.
-/// After a refusal neither the text nor what is kept is of use.
+/// The script on the next chunk: what it leaves goes after the text, and what is kept is then that of the chunks with
+/// this one. After a refusal neither the text nor what is kept is of use.
 pub(crate) fn edit_chunk(
     script: Script<'_>,
     chunk: &[u8],
@@ -84,7 +84,8 @@ fn edit_statement<'a>(
 ) -> Result<Edited, AllocError>
     requires { Fits progress.old.kept script.passes.now }
     ensures fits { OnOk result (Fits progress.new.kept script.entry.passes.now) }
-    ensures scripted { IfOk result (IsScripted script.entry.home.now script.entry.passes.now script.entry.keep_going (view stmt.entry)
+    ensures scripted { IfOk result
+        (IsScripted script.entry.home.now script.entry.passes.now script.entry.keep_going (view stmt.entry)
         progress.old progress.new text.old.items text.new.items) }
 {
     let rules = Rules {
@@ -193,7 +194,8 @@ fn first_failure(alloc: Global, kept: &[Kept<Entry>]) -> Result<Option<Text>, Al
 }
 
 fn first_in_pass(pass: &Kept<Entry>) -> Option<&Text>
-    ensures { option_to_list (option_map (λ text. text.now) result) ≡ first_of (flat_map failure_text (flat_map (λ log. log) pass.now.logs)) }
+    ensures { option_to_list (option_map (λ text. text.now) result)
+        ≡ first_of (flat_map failure_text (flat_map (λ log. log) pass.now.logs)) }
 {
     for log in &pass.logs {
         if let Some(message) = first_in_log(log) {

@@ -12,13 +12,15 @@ ghost use Rattle.bz_engine.specs.Meaning.{meaning, changes};
 /// A run tells that it changed something exactly where some command of the script, when it ran, left some statement
 /// different from what it found.
 pub fn changed_is_a_difference()
-    ensures { (home : Package) (ps : List (Pass Target Command)) (slots : List (Slot Statement)) → AreCommands ps → (some_execution (meaning home) (changes home) ps slots ≡ true) ↔ Changes (meaning home) ps slots }
+    ensures { (home : Package) (ps : List (Pass Target Command)) (slots : List (Slot Statement)) → AreCommands ps
+        → (some_execution (meaning home) (changes home) ps slots ≡ true) ↔ Changes (meaning home) ps slots }
 {
     bz_rule::laws::changed_tells_a_difference();
 }
 
-/// The law that lets a run go statement by statement, whatever targets and commands mean: command by command over the whole file
-/// is the whole script over one statement after the other, and the log is by pass, by command and by statement.
+/// The law that lets a run go statement by statement, whatever targets and commands mean: command by command over the
+/// whole file is the whole script over one statement after the other, and the log is by pass, by command and by
+/// statement.
 pub fn exchange<S, T, C, M>()
     ensures { (m : Meaning S T C M) (ps : List (Pass T C)) (slots : List (Slot S)) → Exchange m ps slots }
 {}

@@ -25,5 +25,6 @@ impl Model for Progress {
 
     ghost Value = { spec.Progress };
 
-    ghost view = { λ p. record { kept = p.kept.items; changed = p.changed; failed = p.failed; last = p.last; line = p.line } };
+    ghost view = { λ p.
+        record { kept = p.kept.items; changed = p.changed; failed = p.failed; last = p.last; line = p.line } };
 }

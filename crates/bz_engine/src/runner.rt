@@ -27,19 +27,22 @@ pub fn run<S: Source, W: Sink>(
     sink: &mut W,
 ) -> Result<Report, RunFault>
     requires { options.max_reads ≤ 2 ^ 50 }
-    // For every file that begins with what the source gave (once its end was met, for that file), the bytes that were appended and
-    // the report are the outcome of the passes over its statements.
+    // For every file that begins with what the source gave (once its end was met, for that file), the bytes that were
+    // appended and the report are the outcome of the passes over its statements.
     ensures outcome { IfOk result (λ report. (pieces : List (List ℕ)) × (text : List ℕ)
         × S.gave source.old pieces source.new × W.took sink.old text sink.new × (length pieces ≤ options.max_reads)
-        × ForEveryFile pieces (λ file. IsOutcome home passes.items options.keep_going options.max_depth file text (told_by report))) }
+        × ForEveryFile pieces
+        (λ file. IsOutcome home passes.items options.keep_going options.max_depth file text (told_by report))) }
     // Whatever is answered, the devices gave and took what reads and writes gave and took.
     ensures devices { (pieces : List (List ℕ)) × (text : List ℕ)
         × S.gave source.old pieces source.new × W.took sink.old text sink.new }
-    ensures steady { OnOk result ((S.failures source.new ≡ S.failures source.old) × (W.failures sink.new ≡ W.failures sink.old)) }
+    ensures steady { OnOk result
+        ((S.failures source.new ≡ S.failures source.old) × (W.failures sink.new ≡ W.failures sink.old)) }
     ensures read_failed { IsErrOf result RunFault.ReadFailed → Rises (S.failures source.old) (S.failures source.new) }
     ensures write_failed { IsErrOf result RunFault.WriteFailed → Rises (W.failures sink.old) (W.failures sink.new) }
     // That many reads were made, none of them the end.
-    ensures too_long { IsErrOf result RunFault.InputTooLong → (pieces : List (List ℕ)) × S.gave source.old pieces source.new
+    ensures too_long { IsErrOf result RunFault.InputTooLong → (pieces : List (List ℕ))
+        × S.gave source.old pieces source.new
         × (length pieces ≡ options.max_reads) × NoneEnds pieces }
     ensures going { result ≢ Err RunFault.Stopped }
 {

@@ -69,9 +69,11 @@ impl Model for Session {
 
     ghost Value = { spec.SessionValue };
 
-    ghost view = { λ s. record { home = s.home; passes = s.passes.items; options = s.options; progress = s.progress; ahead = s.ahead; stage = s.stage; failure = s.failure } };
+    ghost view = { λ s.
+        record { home = s.home; passes = s.passes.items; options = s.options; progress = s.progress; ahead = s.ahead; stage = s.stage; failure = s.failure } };
 
-    ghost invariant = { λ s. spec.IsSession (record { home = s.home; passes = s.passes.items; options = s.options; progress = s.progress; ahead = s.ahead; stage = s.stage; failure = s.failure }) };
+    ghost invariant = { λ s. spec.IsSession
+        (record { home = s.home; passes = s.passes.items; options = s.options; progress = s.progress; ahead = s.ahead; stage = s.stage; failure = s.failure }) };
 }
 
 impl Session {
@@ -113,11 +115,15 @@ impl Session {
     ) -> Result<Step, RunFault>
         ensures same { IsSameRun self.old self.new }
         // Once the session was stopped, nothing is read or written.
-        ensures stopped { self.old.stage ≡ Stopped → (result ≡ Err RunFault.Stopped) × S.gave source.old [] source.new × W.took sink.old [] sink.new }
+        ensures stopped { self.old.stage ≡ Stopped → (result ≡ Err RunFault.Stopped) × S.gave source.old [] source.new
+            × W.took sink.old [] sink.new }
         // Nor once it has ended, and it stays as it is.
-        ensures ended { (end : _) → self.old.stage ≡ Ended end → (result ≡ Ok Step.End) × (self.new ≡ self.old) × S.gave source.old [] source.new × W.took sink.old [] sink.new }
+        ensures ended { (end : _) → self.old.stage ≡ Ended end
+            → (result ≡ Ok Step.End) × (self.new ≡ self.old) × S.gave source.old [] source.new
+            × W.took sink.old [] sink.new }
         // After `More` one chunk is done: its text was written.
-        ensures more { result ≡ Ok Step.More → (self.new.stage ≡ Going) × ((pieces cs : List (List ℕ)) (text : List ℕ) → HasDone self.old pieces cs text
+        ensures more { result ≡ Ok Step.More → (self.new.stage ≡ Going)
+            × ((pieces cs : List (List ℕ)) (text : List ℕ) → HasDone self.old pieces cs text
             → (read : List (List ℕ)) × (chunk : List ℕ) × (shown : List ℕ)
             × S.gave source.old read source.new × W.took sink.old shown sink.new
             × (0 < length chunk) × (length (joined read) ≤ 8192 * length read)
@@ -128,7 +134,8 @@ impl Session {
             → (read : List (List ℕ)) × S.gave source.old read source.new × W.took sink.old [] sink.new
             × (length (pieces ++ read) ≤ self.new.options.max_reads) × HasEnded self.new end (pieces ++ read) text) }
         // So many reads were made, none of them the end.
-        ensures too_long { result ≡ Err RunFault.InputTooLong → (pieces cs : List (List ℕ)) (text : List ℕ) → HasDone self.old pieces cs text
+        ensures too_long { result ≡ Err RunFault.InputTooLong → (pieces cs : List (List ℕ)) (text : List ℕ)
+            → HasDone self.old pieces cs text
             → (read : List (List ℕ)) × S.gave source.old read source.new
             × (length (pieces ++ read) ≡ self.new.options.max_reads) × NoneEnds (pieces ++ read) }
         ensures read_failed { result ≡ Err RunFault.ReadFailed → Rises (S.failures source.old) (S.failures source.new) }
@@ -157,7 +164,8 @@ impl Session {
 
     /// What the run tells, once it has ended.
     pub fn finish(self) -> Result<Report, RunFault>
-        ensures report { (end : _) → self.stage ≡ Ended end → IfOk result (λ report. told_by report ≡ told_at self end) }
+        ensures report { (end : _) → self.stage ≡ Ended end
+            → IfOk result (λ report. told_by report ≡ told_at self end) }
         // Where it has ended, only a lack of memory keeps the report back; else it is refused.
         ensures memory { (end : _) → self.stage ≡ Ended end → OnErr result (result ≡ Err RunFault.OutOfMemory) }
         ensures stopped { ((end : _) → self.stage ≢ Ended end) → result ≡ Err RunFault.Stopped }
@@ -194,11 +202,13 @@ impl Session {
             × S.gave source.old read source.new × W.took sink.old shown sink.new
             × (0 < length chunk) × (length (joined read) ≤ 8192 * length read)
             × HasDone self.new (pieces ++ read) (cs ++ chunk ∷ []) (text ++ shown) }
-        ensures end { (end : _) → result ≡ Ok (Ended end) → (pieces cs : List (List ℕ)) (text : List ℕ) → HasDone self.old pieces cs text
+        ensures end { (end : _) → result ≡ Ok (Ended end) → (pieces cs : List (List ℕ)) (text : List ℕ)
+            → HasDone self.old pieces cs text
             → (read : List (List ℕ)) × S.gave source.old read source.new × W.took sink.old [] sink.new
             × (length (pieces ++ read) ≤ self.new.options.max_reads) × HasEnded self.new end (pieces ++ read) text }
         // So many reads were made, none of them the end.
-        ensures too_long { result ≡ Err RunFault.InputTooLong → (pieces cs : List (List ℕ)) (text : List ℕ) → HasDone self.old pieces cs text
+        ensures too_long { result ≡ Err RunFault.InputTooLong → (pieces cs : List (List ℕ)) (text : List ℕ)
+            → HasDone self.old pieces cs text
             → (read : List (List ℕ)) × S.gave source.old read source.new
             × (length (pieces ++ read) ≡ self.new.options.max_reads) × NoneEnds (pieces ++ read) }
         ensures read_failed { result ≡ Err RunFault.ReadFailed → Rises (S.failures source.old) (S.failures source.new) }
@@ -261,7 +271,8 @@ impl Session {
     fn write<W: Sink>(&mut self, len: usize, text: &[u8], sink: &mut W) -> Result<(), RunFault>
         requires stopped { self.old.stage ≡ Stopped }
         requires within { len ≤ length self.old.ahead.bytes }
-        ensures taken { OnOk result (self.new ≡ record self.old { ahead = record self.old.ahead { bytes = drop len self.old.ahead.bytes } }) }
+        ensures taken { OnOk result
+            (self.new ≡ record self.old { ahead = record self.old.ahead { bytes = drop len self.old.ahead.bytes } }) }
         ensures same { OnErr result (self.new ≡ self.old) }
         ensures ok { OnOk result (W.took sink.old text.now sink.new) }
         ensures devices { (shown : List ℕ) × W.took sink.old shown sink.new }
@@ -289,9 +300,12 @@ fn report_at(
     end: End,
 ) -> Result<Report, AllocError>
     requires { Fits progress.kept passes.now }
-    ensures whole { end ≡ End.Whole → IfOk result (λ report. told_by report ≡ told_of_progress home.now passes.now progress) }
-    ensures fault { (fault : _) → end ≡ End.Syntax fault → IfOk result (λ report. told_by report ≡ told_alone (fault_text fault ∷ []) progress.changed end) }
-    ensures failure { end ≡ End.FirstFailure → IfOk result (λ report. told_by report ≡ told_alone (option_to_list failure) progress.changed end) }
+    ensures whole { end ≡ End.Whole
+        → IfOk result (λ report. told_by report ≡ told_of_progress home.now passes.now progress) }
+    ensures fault { (fault : _) → end ≡ End.Syntax fault
+        → IfOk result (λ report. told_by report ≡ told_alone (fault_text fault ∷ []) progress.changed end) }
+    ensures failure { end ≡ End.FirstFailure
+        → IfOk result (λ report. told_by report ≡ told_alone (option_to_list failure) progress.changed end) }
 {
     let Progress {
         mut kept,
@@ -321,7 +335,8 @@ fn find_chunk<S: Source>(
         × IsReadOn options.max_reads ahead.old ahead.new pieces }
     ensures chunk { IfOk result (λ found. IfSome found (IsNextChunk options.max_statement ahead.new)) }
     ensures none { IfOk result (λ found. IfNone found ((ahead.new.bytes ≡ []) × IsTrue ahead.new.ended)) }
-    ensures too_long { result ≡ Err RunFault.InputTooLong → (ahead.new.reads ≡ options.max_reads) × (ahead.new.ended ≡ false) }
+    ensures too_long { result ≡ Err RunFault.InputTooLong → (ahead.new.reads ≡ options.max_reads)
+        × (ahead.new.ended ≡ false) }
     ensures failed { result ≡ Err RunFault.ReadFailed → Rises (S.failures source.old) (S.failures source.new) }
     ensures steady { result ≢ Err RunFault.ReadFailed → S.failures source.new ≡ S.failures source.old }
     ensures runs { (result ≢ Err RunFault.Stopped) × (result ≢ Err RunFault.WriteFailed) }

@@ -43,10 +43,13 @@ pub(crate) fn report_of_all(
     failed: bool,
 ) -> Result<Report, AllocError>
     requires { Fits kept.old passes.now }
-    ensures lines { IfOk result (λ report. report.lines ≡ flat_map line_text (told (meaning rules.entry.home.now) passes.now kept.old)) }
-    ensures messages { IfOk result (λ report. report.messages ≡ flat_map message_text (told (meaning rules.entry.home.now) passes.now kept.old)) }
+    ensures lines { IfOk result
+        (λ report. report.lines ≡ flat_map line_text (told (meaning rules.entry.home.now) passes.now kept.old)) }
+    ensures messages { IfOk result
+        (λ report. report.messages ≡ flat_map message_text (told (meaning rules.entry.home.now) passes.now kept.old)) }
     ensures changed { IfOk result (λ report. report.changed ≡ changed) }
-    ensures failed { IfOk result (λ report. report.failed ≡ (failed || some_not_found (meaning rules.entry.home.now) passes.now kept.old)) }
+    ensures failed { IfOk result
+        (λ report. report.failed ≡ (failed || some_not_found (meaning rules.entry.home.now) passes.now kept.old)) }
     ensures end { IfOk result (λ report. report.end ≡ End.Whole) }
 {
     let failed = failed || is_some_not_found(&rules, passes, kept);

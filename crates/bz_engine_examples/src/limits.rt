@@ -8,7 +8,8 @@ use std::alloc::{AllocError, Global};
 use std::process::Abort;
 use std::test::Fail;
 
-/// An input, the most bytes of a chunk and the most reads; what the first step answers, and after how many reads of a line each.
+/// An input, the most bytes of a chunk and the most reads; what the first step answers, and after how many reads of a
+/// line each.
 const BY_LINES: &str = "␄ 5 1 End 1
 ␄ 5 0 InputTooLong 0
 x␊y␊ 2 1 More 1

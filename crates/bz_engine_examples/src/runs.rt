@@ -1,4 +1,5 @@
-//! Runs whose source gives a byte at a time and whose sink takes one, over each front of an input, and over what was written.
+//! Runs whose source gives a byte at a time and whose sink takes one, over each front of an input, and over what was
+//! written.
 
 use crate::drip::Drip;
 use crate::feed::{Feed, Input, Piece};

@@ -22,8 +22,8 @@ pub fn plain(alloc: Global, part: &str) -> Result<String, AllocError> {
     Ok(text)
 }
 
-/// The package and the passes of a script: groups apart by ` ; `, whose commands and labels stand apart by ` ! `. The labels are
-/// all of one package.
+/// The package and the passes of a script: groups apart by ` ; `, whose commands and labels stand apart by ` ! `. The
+/// labels are all of one package.
 pub fn read_script(
     alloc: Global,
     script: &str,

@@ -48,7 +48,8 @@ impl<D> Model for Draft<D> {
 
     ghost Value = { spec.DraftValue D };
 
-    ghost view = { λ d. record { folder = d.folder; temporary = string_bytes d.temporary; stage = d.stage; waiting = d.waiting; failures = d.failures } };
+    ghost view = { λ d.
+        record { folder = d.folder; temporary = string_bytes d.temporary; stage = d.stage; waiting = d.waiting; failures = d.failures } };
 }
 
 impl<D: Drop> Draft<D> {

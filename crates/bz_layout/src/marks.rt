@@ -41,7 +41,8 @@ fn mark_group(group: &Group<'_>, marks: &mut Vec<bool>) -> Result<bool, AllocErr
 
 #[cycle(marks)]
 pub(crate) fn mark_nodes(nodes: &[Node<'_>], marks: &mut Vec<bool>) -> Result<bool, AllocError>
-    ensures marks { OnOk result (marks.new.items ≡ marks.old.items ++ items_marks Broken (items_of (nodes_view nodes.now))) }
+    ensures marks { OnOk result
+        (marks.new.items ≡ marks.old.items ++ items_marks Broken (items_of (nodes_view nodes.now))) }
     ensures holds { IfOk result (λ b. b ≡ items_hold (items_of (nodes_view nodes.now))) }
 {
     let mut holds = false;
@@ -54,7 +55,8 @@ pub(crate) fn mark_nodes(nodes: &[Node<'_>], marks: &mut Vec<bool>) -> Result<bo
 
 #[cycle(marks)]
 fn mark_segs(segs: &[Seg<'_>], marks: &mut Vec<bool>) -> Result<bool, AllocError>
-    ensures marks { OnOk result (marks.new.items ≡ marks.old.items ++ segs_marks Broken (segs_of (segs_view segs.now))) }
+    ensures marks { OnOk result
+        (marks.new.items ≡ marks.old.items ++ segs_marks Broken (segs_of (segs_view segs.now))) }
     ensures holds { IfOk result (λ b. b ≡ segs_hold (segs_of (segs_view segs.now))) }
 {
     let mut holds = false;
@@ -67,7 +69,8 @@ fn mark_segs(segs: &[Seg<'_>], marks: &mut Vec<bool>) -> Result<bool, AllocError
 
 // Whether the next group is broken, and the marks after its own.
 pub(crate) fn next_mark<'m>(style: Style, marks: &'m [bool]) -> (bool, &'m [bool])
-    ensures { (b : Bool) → IsFront (mark style b) marks.now → (result.0 ≡ breaks style b) × (result.1.now ≡ drop (length (mark style b)) marks.now) }
+    ensures { (b : Bool) → IsFront (mark style b) marks.now → (result.0 ≡ breaks style b)
+        × (result.1.now ≡ drop (length (mark style b)) marks.now) }
 {
     match style {
         Style::Flat => (false, marks),

@@ -28,8 +28,10 @@ fn are_plain(bytes: &[u8]) -> bool
 
 // The content of a string without prefix in single quotes that holds neither a quote nor a backslash.
 fn single_content(text: &str) -> Option<&str>
-    ensures some { IfSome result (λ inner. (text.now ≡ 39 ∷ (inner.now ++ 39 ∷ [])) × (list_all is_plain inner.now ≡ true)) }
-    ensures none { IfNone result ((inner : List ℕ) → text.now ≡ 39 ∷ (inner ++ 39 ∷ []) → list_all is_plain inner ≡ false) }
+    ensures some { IfSome result
+        (λ inner. (text.now ≡ 39 ∷ (inner.now ++ 39 ∷ [])) × (list_all is_plain inner.now ≡ true)) }
+    ensures none { IfNone result
+        ((inner : List ℕ) → text.now ≡ 39 ∷ (inner ++ 39 ∷ []) → list_all is_plain inner ≡ false) }
 {
     let Some(rest) = text.strip_prefix('\'') else {
         return None;

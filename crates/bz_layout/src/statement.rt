@@ -15,7 +15,8 @@ use std::alloc::{AllocError, Global};
 
 #[tactic(auto, using(crate::proofs::Pieces::bytes_append))]
 fn put_line(alloc: Global, stmt: &Stmt<'_>, out: &mut String) -> Result<(), AllocError>
-    ensures ok { OnOk result (string_bytes out.new ≡ string_bytes out.old ++ bytes_of (statement_line (view stmt.now))) }
+    ensures ok { OnOk result
+        (string_bytes out.new ≡ string_bytes out.old ++ bytes_of (statement_line (view stmt.now))) }
 {
     let mut marks = Vec::new(alloc);
     mark_nodes(&stmt.nodes, &mut marks)?;
@@ -33,8 +34,8 @@ fn put_line(alloc: Global, stmt: &Stmt<'_>, out: &mut String) -> Result<(), Allo
     Ok(())
 }
 
-/// Appends the canonical text of a statement, with its last newline (the layout is this project's own). `Err`: memory was
-/// refused, and `out` is as it was.
+/// Appends the canonical text of a statement, with its last newline (the layout is this project's own). `Err`: memory
+/// was refused, and `out` is as it was.
 #[tactic(auto, using(crate::proofs::Pieces::bytes_append))]
 pub fn put_stmt(alloc: Global, stmt: &Stmt<'_>, out: &mut Vec<u8>) -> Result<(), AllocError>
     ensures appended { OnOk result (out.new.items ≡ out.old.items ++ layout_text (view stmt.now)) }

@@ -29,7 +29,8 @@ fn put_node<'m>(
 ) -> Result<&'m [bool], AllocError>
     requires deep { level ≤ length (string_bytes out.old) }
     requires marks { IsFront (item_marks style (node_view node.now)) marks.now }
-    ensures text { OnOk result (string_bytes out.new ≡ string_bytes out.old ++ bytes_of (item_pieces style level gap (node_view node.now))) }
+    ensures text { OnOk result
+        (string_bytes out.new ≡ string_bytes out.old ++ bytes_of (item_pieces style level gap (node_view node.now))) }
     ensures marks { IfOk result (λ rest. rest.now ≡ drop (length (item_marks style (node_view node.now))) marks.now) }
 {
     match node {
@@ -54,7 +55,8 @@ fn put_group<'m>(
 ) -> Result<&'m [bool], AllocError>
     requires deep { level ≤ length (string_bytes out.old) }
     requires marks { IsFront (item_marks style (group_view group.now)) marks.now }
-    ensures text { OnOk result (string_bytes out.new ≡ string_bytes out.old ++ bytes_of (item_pieces style level gap (group_view group.now))) }
+    ensures text { OnOk result
+        (string_bytes out.new ≡ string_bytes out.old ++ bytes_of (item_pieces style level gap (group_view group.now))) }
     ensures marks { IfOk result (λ rest. rest.now ≡ drop (length (item_marks style (group_view group.now))) marks.now) }
 {
     put(gap, opening(group.kind), out)?;
@@ -88,8 +90,12 @@ pub(crate) fn put_nodes<'m>(
 ) -> Result<&'m [bool], AllocError>
     requires deep { level ≤ length (string_bytes out.old) }
     requires marks { IsFront (items_marks style (items_of (nodes_view nodes.now))) marks.now }
-    ensures text { OnOk result (string_bytes out.new ≡ string_bytes out.old ++ bytes_of (items_pieces style level within first Start (items_of (nodes_view nodes.now)))) }
-    ensures marks { IfOk result (λ rest. rest.now ≡ drop (length (items_marks style (items_of (nodes_view nodes.now)))) marks.now) }
+    ensures text { OnOk result
+        (string_bytes out.new
+        ≡ string_bytes out.old
+        ++ bytes_of (items_pieces style level within first Start (items_of (nodes_view nodes.now)))) }
+    ensures marks { IfOk result
+        (λ rest. rest.now ≡ drop (length (items_marks style (items_of (nodes_view nodes.now)))) marks.now) }
 {
     let mut left = Edge::Start;
     let mut rest = marks;
@@ -114,8 +120,11 @@ fn put_broken_segs<'m>(
 ) -> Result<&'m [bool], AllocError>
     requires deep { level ≤ length (string_bytes out.old) }
     requires marks { IsFront (segs_marks style (segs_of (segs_view segs.now))) marks.now }
-    ensures text { OnOk result (string_bytes out.new ≡ string_bytes out.old ++ bytes_of (broken_segs style level kind comma (segs_of (segs_view segs.now)))) }
-    ensures marks { IfOk result (λ rest. rest.now ≡ drop (length (segs_marks style (segs_of (segs_view segs.now)))) marks.now) }
+    ensures text { OnOk result
+        (string_bytes out.new
+        ≡ string_bytes out.old ++ bytes_of (broken_segs style level kind comma (segs_of (segs_view segs.now)))) }
+    ensures marks { IfOk result
+        (λ rest. rest.now ≡ drop (length (segs_marks style (segs_of (segs_view segs.now)))) marks.now) }
 {
     let mut rest = marks;
     for seg in segs {
@@ -149,8 +158,11 @@ fn put_flat_segs<'m>(
 ) -> Result<&'m [bool], AllocError>
     requires deep { level ≤ length (string_bytes out.old) }
     requires marks { IsFront (segs_marks style (segs_of (segs_view segs.now))) marks.now }
-    ensures text { OnOk result (string_bytes out.new ≡ string_bytes out.old ++ bytes_of (flat_segs style level kind true (segs_of (segs_view segs.now)))) }
-    ensures marks { IfOk result (λ rest. rest.now ≡ drop (length (segs_marks style (segs_of (segs_view segs.now)))) marks.now) }
+    ensures text { OnOk result
+        (string_bytes out.new
+        ≡ string_bytes out.old ++ bytes_of (flat_segs style level kind true (segs_of (segs_view segs.now)))) }
+    ensures marks { IfOk result
+        (λ rest. rest.now ≡ drop (length (segs_marks style (segs_of (segs_view segs.now)))) marks.now) }
 {
     let mut rest = marks;
     let mut first = true;

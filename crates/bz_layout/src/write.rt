@@ -78,7 +78,8 @@ pub(crate) fn put_comments(
     notes: &[CowStr<'_>],
     out: &mut String,
 ) -> Result<(), AllocError>
-    ensures ok { OnOk result (string_bytes out.new ≡ string_bytes out.old ++ bytes_of (comments level (texts notes.now))) }
+    ensures ok { OnOk result
+        (string_bytes out.new ≡ string_bytes out.old ++ bytes_of (comments level (texts notes.now))) }
 {
     for note in notes {
         put(Gap::Line(level), note.as_str(), out)?;
@@ -88,7 +89,8 @@ pub(crate) fn put_comments(
 
 // Comments above a statement, each with its newline.
 pub(crate) fn put_comment_lines(notes: &[CowStr<'_>], out: &mut String) -> Result<(), AllocError>
-    ensures ok { OnOk result (string_bytes out.new ≡ string_bytes out.old ++ bytes_of (comment_lines (texts notes.now))) }
+    ensures ok { OnOk result
+        (string_bytes out.new ≡ string_bytes out.old ++ bytes_of (comment_lines (texts notes.now))) }
 {
     for note in notes {
         out.push_str(note.as_str())?;
@@ -98,7 +100,8 @@ pub(crate) fn put_comment_lines(notes: &[CowStr<'_>], out: &mut String) -> Resul
 }
 
 pub(crate) fn put_suffix(suffix: &Option<CowStr<'_>>, out: &mut String) -> Result<(), AllocError>
-    ensures ok { OnOk result (string_bytes out.new ≡ string_bytes out.old ++ bytes_of (suffix_piece (option_map text_of suffix.now))) }
+    ensures ok { OnOk result
+        (string_bytes out.new ≡ string_bytes out.old ++ bytes_of (suffix_piece (option_map text_of suffix.now))) }
 {
     match suffix {
         None => Ok(()),

@@ -29,8 +29,11 @@ pub fn add(
     values: &[Text],
     args: &mut Vec<Seg<'_>>,
 ) -> Result<Done, AllocError>
-    ensures args { OnOk result (segs_view args.new.items ≡ spec.add home.now attr.now values.now (segs_view args.old.items)) }
-    ensures done { IfOk result (λ done. done ≡ spec.done (spec.not_a_list attr.now (first_named attr.now (segs_view args.old.items))) (spec.adds home.now values.now (first_named attr.now (segs_view args.old.items)))) }
+    ensures args { OnOk result
+        (segs_view args.new.items ≡ spec.add home.now attr.now values.now (segs_view args.old.items)) }
+    ensures done { IfOk result
+        (λ done. done ≡ spec.done (spec.not_a_list attr.now (first_named attr.now (segs_view args.old.items)))
+        (spec.adds home.now values.now (first_named attr.now (segs_view args.old.items)))) }
     ensures err { OnErr result (segs_view args.new.items ≡ segs_view args.old.items) }
 {
     if find(args, attr).is_some() {
@@ -50,8 +53,12 @@ fn add_to_first(
     args: &mut [Seg<'_>],
 ) -> Result<Done, AllocError>
     requires { spec.has attr.now (segs_view args.old) ≡ true }
-    ensures args { OnOk result (segs_view args.new ≡ spec.edit_first (is_named attr.now) (λ a. spec.with_added home.now values.now a ∷ []) (segs_view args.old)) }
-    ensures done { IfOk result (λ done. done ≡ spec.done (spec.not_a_list attr.now (first_named attr.now (segs_view args.old))) (spec.adds home.now values.now (first_named attr.now (segs_view args.old)))) }
+    ensures args { OnOk result
+        (segs_view args.new
+        ≡ spec.edit_first (is_named attr.now) (λ a. spec.with_added home.now values.now a ∷ []) (segs_view args.old)) }
+    ensures done { IfOk result
+        (λ done. done ≡ spec.done (spec.not_a_list attr.now (first_named attr.now (segs_view args.old)))
+        (spec.adds home.now values.now (first_named attr.now (segs_view args.old)))) }
     ensures err { OnErr result (segs_view args.new ≡ segs_view args.old) }
 {
     let Some(i) = find(args, attr) else {
@@ -70,7 +77,9 @@ fn add_in(
 ) -> Result<Done, AllocError>
     requires { 2 ≤ length arg.old.nodes.items }
     ensures arg { OnOk result (seg_view arg.new ≡ spec.with_added home.now values.now (seg_view arg.old)) }
-    ensures done { IfOk result (λ done. done ≡ spec.done (spec.not_a_list attr.now (Some (seg_view arg.old))) (spec.adds home.now values.now (Some (seg_view arg.old)))) }
+    ensures done { IfOk result
+        (λ done. done ≡ spec.done (spec.not_a_list attr.now (Some (seg_view arg.old)))
+        (spec.adds home.now values.now (Some (seg_view arg.old)))) }
     ensures err { OnErr result (seg_view arg.new ≡ seg_view arg.old) }
 {
     let done = add_in_value(alloc, home, attr, values, &mut arg.nodes[2..])?;
@@ -114,7 +123,8 @@ fn new_elements<'a>(
     value: &[Node<'_>],
     values: &[Text],
 ) -> Result<Vec<Seg<'a>>, AllocError>
-    ensures { IfOk result (λ new. segs_view new.items ≡ spec.new_elements home.now (parts (nodes_view value.now)) values.now) }
+    ensures { IfOk result
+        (λ new. segs_view new.items ≡ spec.new_elements home.now (parts (nodes_view value.now)) values.now) }
 {
     if values.len() <= FEW {
         return compared(alloc, home, value, values);
@@ -129,7 +139,8 @@ fn compared<'a>(
     value: &[Node<'_>],
     values: &[Text],
 ) -> Result<Vec<Seg<'a>>, AllocError>
-    ensures { IfOk result (λ new. segs_view new.items ≡ spec.new_elements home.now (parts (nodes_view value.now)) values.now) }
+    ensures { IfOk result
+        (λ new. segs_view new.items ≡ spec.new_elements home.now (parts (nodes_view value.now)) values.now) }
 {
     let mut new = Vec::new(alloc);
     for i in 0..values.len() {
@@ -153,7 +164,8 @@ fn push_fresh<'a>(
     word: &str,
     new: &mut Vec<Seg<'a>>,
 ) -> Result<(), AllocError>
-    ensures { OnOk result (segs_view new.new.items ≡ segs_view new.old.items ++ map spec.string (if spec.is_fresh home.now (parts (nodes_view value.now)) earlier.now word.now then word.now ∷ [] else [])) }
+    ensures { OnOk result (segs_view new.new.items ≡ segs_view new.old.items ++ map spec.string
+        (if spec.is_fresh home.now (parts (nodes_view value.now)) earlier.now word.now then word.now ∷ [] else [])) }
 {
     if is_any_chosen(home, Chosen::Value(word), value) || is_any_same(home, word, earlier) {
         return Ok(());
@@ -184,7 +196,8 @@ fn looked_up<'a>(
     value: &[Node<'_>],
     values: &[Text],
 ) -> Result<Vec<Seg<'a>>, AllocError>
-    ensures { IfOk result (λ new. segs_view new.items ≡ spec.new_elements home.now (parts (nodes_view value.now)) values.now) }
+    ensures { IfOk result
+        (λ new. segs_view new.items ≡ spec.new_elements home.now (parts (nodes_view value.now)) values.now) }
 {
     let mut there = labels_in(alloc, home, value)?;
     let mut new = Vec::new(alloc);
@@ -201,7 +214,9 @@ fn push_new<'t, 'a>(
     there: &mut LabelSet<'t>,
     new: &mut Vec<Seg<'a>>,
 ) -> Result<(), AllocError>
-    ensures new { OnOk result (segs_view new.new.items ≡ segs_view new.old.items ++ map spec.string (if not (has there.old text.now) then text.now ∷ [] else [])) }
+    ensures new { OnOk result
+        (segs_view new.new.items
+        ≡ segs_view new.old.items ++ map spec.string (if not (has there.old text.now) then text.now ∷ [] else [])) }
     ensures there { OnOk result (Gains (λ other. same there.old.home.now other text.now) there.old there.new) }
     ensures home { there.new.home.now ≡ there.old.home.now }
 {
@@ -213,7 +228,8 @@ fn push_new<'t, 'a>(
 
 // Adds elements at the end of a list. An `Err` leaves the node as it was.
 fn append_in<'a>(node: &mut Node<'a>, mut new: Vec<Seg<'a>>) -> Result<(), AllocError>
-    ensures ok { OnOk result (node_view node.new ≡ edit_list (λ ss. ss ++ segs_view new.entry.items) (node_view node.old)) }
+    ensures ok { OnOk result
+        (node_view node.new ≡ edit_list (λ ss. ss ++ segs_view new.entry.items) (node_view node.old)) }
     ensures err { OnErr result (node_view node.new ≡ node_view node.old) }
 {
     match node {
@@ -232,7 +248,8 @@ pub(crate) fn append_at<'a>(
     new: Vec<Seg<'a>>,
 ) -> Result<(), AllocError>
     requires { IsFirstPart value.old part }
-    ensures ok { OnOk result (nodes_view value.new ≡ edit_first_part (λ ss. ss ++ segs_view new.entry.items) (nodes_view value.old)) }
+    ensures ok { OnOk result
+        (nodes_view value.new ≡ edit_first_part (λ ss. ss ++ segs_view new.entry.items) (nodes_view value.old)) }
     ensures err { OnErr result (nodes_view value.new ≡ nodes_view value.old) }
 {
     append_in(&mut value[part], new)?;

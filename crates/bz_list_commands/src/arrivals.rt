@@ -21,14 +21,16 @@ use bz_command::{Bytes, LabelSet, Package, same_label};
 use bz_tree::{Node, Seg};
 use std::alloc::{AllocError, Global};
 
-/// Drops the strings that are in the list parts of a value, or stand earlier. It cannot fail: memory makes it faster alone.
+/// Drops the strings that are in the list parts of a value, or stand earlier. It cannot fail: memory makes it faster
+/// alone.
 pub(crate) fn keep_arrivals(
     alloc: Global,
     home: &Package,
     value: &[Node<'_>],
     elements: &mut Vec<Seg<'_>>,
 )
-    ensures items { segs_view elements.new.items ≡ spec.arrivals home.now (spec.joined (parts (nodes_view value.now))) (segs_view elements.old.items) }
+    ensures items { segs_view elements.new.items
+        ≡ spec.arrivals home.now (spec.joined (parts (nodes_view value.now))) (segs_view elements.old.items) }
     ensures shorter { vec_len elements.new ≤ vec_len elements.old }
     ensures capacity { vec_capacity elements.new ≡ vec_capacity elements.old }
 {
@@ -43,7 +45,8 @@ fn arrivals_first(
     value: &[Node<'_>],
     elements: &mut [Seg<'_>],
 ) -> usize
-    ensures { take result (segs_view elements.new) ≡ spec.arrivals home.now (spec.joined (parts (nodes_view value.now))) (segs_view elements.old) }
+    ensures { take result (segs_view elements.new)
+        ≡ spec.arrivals home.now (spec.joined (parts (nodes_view value.now))) (segs_view elements.old) }
 {
     if elements.len() <= FEW {
         return compared_first(home, value, elements);
@@ -61,7 +64,9 @@ fn arriving(
     value: &[Node<'_>],
     elements: &[Seg<'_>],
 ) -> Result<Vec<bool>, AllocError>
-    ensures { IfOk result (λ arrive. arrive.items ≡ flags home.now (spec.joined (parts (nodes_view value.now))) (segs_view elements.now)) }
+    ensures { IfOk result
+        (λ arrive. arrive.items
+        ≡ flags home.now (spec.joined (parts (nodes_view value.now))) (segs_view elements.now)) }
 {
     let mut there = labels_in(alloc, home, value)?;
     let mut arrive = Vec::with_capacity(alloc, elements.len())?;
@@ -73,8 +78,10 @@ fn arriving(
 
 // It is no string that the set has. Its label goes into the set.
 fn is_new<'s>(element: &'s Seg<'_>, there: &mut LabelSet<'s>) -> Result<bool, AllocError>
-    ensures new { IfOk result (λ new. new ≡ not (has_value (has there.old) (rules.string_value (seg_view element.now).nodes))) }
-    ensures there { OnOk result (Gains (λ text. equals there.old.home.now text (seg_view element.now)) there.old there.new) }
+    ensures new { IfOk result
+        (λ new. new ≡ not (has_value (has there.old) (rules.string_value (seg_view element.now).nodes))) }
+    ensures there { OnOk result
+        (Gains (λ text. equals there.old.home.now text (seg_view element.now)) there.old there.new) }
     ensures home { there.new.home.now ≡ there.old.home.now }
 {
     match string_of(element) {
@@ -101,10 +108,11 @@ fn flagged_first(arrive: &[bool], elements: &mut [Seg<'_>]) -> usize
     kept
 }
 
-// Brings those that arrive to the front, each compared with those that are there and with those that arrived before it: for
-// a few elements, or where memory is refused.
+// Brings those that arrive to the front, each compared with those that are there and with those that arrived before it:
+// for a few elements, or where memory is refused.
 fn compared_first(home: &Package, value: &[Node<'_>], elements: &mut [Seg<'_>]) -> usize
-    ensures { take result (segs_view elements.new) ≡ spec.arrivals home.now (spec.joined (parts (nodes_view value.now))) (segs_view elements.old) }
+    ensures { take result (segs_view elements.new)
+        ≡ spec.arrivals home.now (spec.joined (parts (nodes_view value.now))) (segs_view elements.old) }
 {
     let mut kept = 0;
     for i in 0..elements.len() {
@@ -119,7 +127,8 @@ fn compared_first(home: &Package, value: &[Node<'_>], elements: &mut [Seg<'_>]) 
 
 // It is a string that is the same label as an element of a value's list parts, or one that arrived before.
 fn is_among(home: &Package, value: &[Node<'_>], arrived: &[Seg<'_>], element: &Seg<'_>) -> bool
-    ensures { result ≡ spec.is_among home.now (spec.joined (parts (nodes_view value.now)) ++ segs_view arrived.now) (rules.string_value (seg_view element.now).nodes) }
+    ensures { result ≡ spec.is_among home.now (spec.joined (parts (nodes_view value.now)) ++ segs_view arrived.now)
+        (rules.string_value (seg_view element.now).nodes) }
 {
     let Some(word) = string_of(element) else {
         return false;

@@ -25,8 +25,8 @@ use bz_command::{Moved, Package, Text};
 use bz_tree::{Node, Seg};
 use std::alloc::{AllocError, Global};
 
-/// Moves elements of the first argument named `old` to the first one named `new`, or to a new one. An `Err` leaves all as
-/// it was.
+/// Moves elements of the first argument named `old` to the first one named `new`, or to a new one. An `Err` leaves all
+/// as it was.
 pub fn move_elements(
     alloc: Global,
     home: &Package,
@@ -36,8 +36,12 @@ pub fn move_elements(
     args: &mut Vec<Seg<'_>>,
 ) -> Result<Done, AllocError>
     requires { bytes_eq old.now new.now ≡ false }
-    ensures args { OnOk result (segs_view args.new.items ≡ spec.move home.now old.now new.now (moved_view moved.now) (segs_view args.old.items)) }
-    ensures done { IfOk result (λ done. done ≡ effects.done (spec.move_note old.now new.now (segs_view args.old.items)) (spec.moves home.now old.now (moved_view moved.now) (segs_view args.old.items))) }
+    ensures args { OnOk result
+        (segs_view args.new.items
+        ≡ spec.move home.now old.now new.now (moved_view moved.now) (segs_view args.old.items)) }
+    ensures done { IfOk result
+        (λ done. done ≡ effects.done (spec.move_note old.now new.now (segs_view args.old.items))
+        (spec.moves home.now old.now (moved_view moved.now) (segs_view args.old.items))) }
     ensures err { OnErr result (segs_view args.new.items ≡ segs_view args.old.items) }
 {
     if let Some(note) = move_note(alloc, old, new, args)? {
@@ -58,8 +62,12 @@ fn move_values(
     args: &mut Vec<Seg<'_>>,
 ) -> Result<Done, AllocError>
     requires { bytes_eq old.now new.now ≡ false }
-    ensures args { OnOk result (segs_view args.new.items ≡ spec.moved_where home.now old.now new.now (Values values.now) (segs_view args.old.items)) }
-    ensures done { IfOk result (λ done. done ≡ effects.done None (spec.moves home.now old.now (Values values.now) (segs_view args.old.items))) }
+    ensures args { OnOk result
+        (segs_view args.new.items
+        ≡ spec.moved_where home.now old.now new.now (Values values.now) (segs_view args.old.items)) }
+    ensures done { IfOk result
+        (λ done. done
+        ≡ effects.done None (spec.moves home.now old.now (Values values.now) (segs_view args.old.items))) }
     ensures err { OnErr result (segs_view args.new.items ≡ segs_view args.old.items) }
 {
     if values.len() <= FEW {
@@ -79,8 +87,12 @@ fn move_many(
     args: &mut Vec<Seg<'_>>,
 ) -> Result<Done, AllocError>
     requires { bytes_eq old.now new.now ≡ false }
-    ensures args { OnOk result (segs_view args.new.items ≡ spec.moved_where home.now old.now new.now (Values words.now.words.now) (segs_view args.old.items)) }
-    ensures done { IfOk result (λ done. done ≡ effects.done None (spec.moves home.now old.now (Values words.now.words.now) (segs_view args.old.items))) }
+    ensures args { OnOk result
+        (segs_view args.new.items
+        ≡ spec.moved_where home.now old.now new.now (Values words.now.words.now) (segs_view args.old.items)) }
+    ensures done { IfOk result
+        (λ done. done
+        ≡ effects.done None (spec.moves home.now old.now (Values words.now.words.now) (segs_view args.old.items))) }
     ensures err { OnErr result (segs_view args.new.items ≡ segs_view args.old.items) }
 {
     move_those(alloc, home, old, new, Chosen::Many(words), args)
@@ -95,8 +107,12 @@ fn move_those(
     args: &mut Vec<Seg<'_>>,
 ) -> Result<Done, AllocError>
     requires { bytes_eq old.now new.now ≡ false }
-    ensures args { OnOk result (segs_view args.new.items ≡ spec.moved_where home.now old.now new.now (chosen_view chosen.entry) (segs_view args.old.items)) }
-    ensures done { IfOk result (λ done. done ≡ effects.done None (spec.moves home.now old.now (chosen_view chosen.entry) (segs_view args.old.items))) }
+    ensures args { OnOk result
+        (segs_view args.new.items
+        ≡ spec.moved_where home.now old.now new.now (chosen_view chosen.entry) (segs_view args.old.items)) }
+    ensures done { IfOk result
+        (λ done. done
+        ≡ effects.done None (spec.moves home.now old.now (chosen_view chosen.entry) (segs_view args.old.items))) }
     ensures err { OnErr result (segs_view args.new.items ≡ segs_view args.old.items) }
 {
     if !chooses_first(home, old, chosen, args) {
@@ -147,7 +163,8 @@ fn move_chosen(
     args: &mut Vec<Seg<'_>>,
 ) -> Result<(), AllocError>
     requires { bytes_eq old.now new.now ≡ false }
-    ensures ok { OnOk result (segs_view args.new.items ≡ spec.moved home.now old.now new.now (chosen_view chosen.entry) (segs_view args.old.items)) }
+    ensures ok { OnOk result (segs_view args.new.items ≡ spec.moved home.now old.now new.now (chosen_view chosen.entry)
+        (segs_view args.old.items)) }
     ensures err { OnErr result (segs_view args.new.items ≡ segs_view args.old.items) }
 {
     if find(args, new).is_some() {
@@ -167,7 +184,8 @@ fn move_to_new(
 ) -> Result<(), AllocError>
     requires other { bytes_eq old.now new.now ≡ false }
     requires absent { effects.has new.now (segs_view args.old.items) ≡ false }
-    ensures ok { OnOk result (segs_view args.new.items ≡ spec.moved home.now old.now new.now (chosen_view chosen.entry) (segs_view args.old.items)) }
+    ensures ok { OnOk result (segs_view args.new.items ≡ spec.moved home.now old.now new.now (chosen_view chosen.entry)
+        (segs_view args.old.items)) }
     ensures err { OnErr result (segs_view args.new.items ≡ segs_view args.old.items) }
 {
     let count = count_chosen(home, old, chosen, args)?;
@@ -191,7 +209,8 @@ fn move_to_list(
 ) -> Result<(), AllocError>
     requires other { bytes_eq old.now new.now ≡ false }
     requires there { effects.has new.now (segs_view args.old.items) ≡ true }
-    ensures ok { OnOk result (segs_view args.new.items ≡ spec.moved home.now old.now new.now (chosen_view chosen.entry) (segs_view args.old.items)) }
+    ensures ok { OnOk result (segs_view args.new.items ≡ spec.moved home.now old.now new.now (chosen_view chosen.entry)
+        (segs_view args.old.items)) }
     ensures err { OnErr result (segs_view args.new.items ≡ segs_view args.old.items) }
 {
     let count = count_chosen(home, old, chosen, args)?;
@@ -241,7 +260,11 @@ fn arrive<'a>(
     mut elements: Vec<Seg<'a>>,
 )
     requires { first_length (first_named attr.now (segs_view args.old)) + vec_len elements ≤ vec_capacity elements }
-    ensures { segs_view args.new ≡ effects.edit_first (is_named attr.now) (λ a. with_value (edit_first_part (λ there. there ++ spec.arrivals home.now (spec.elements_of (first_named attr.now (segs_view args.old))) (segs_view elements.entry.items)) (value a)) a ∷ []) (segs_view args.old) }
+    ensures { segs_view args.new
+        ≡ effects.edit_first (is_named attr.now)
+        (λ a. with_value (edit_first_part (λ there. there
+        ++ spec.arrivals home.now (spec.elements_of (first_named attr.now (segs_view args.old)))
+        (segs_view elements.entry.items)) (value a)) a ∷ []) (segs_view args.old) }
 {
     let Some(i) = find(args, attr) else {
         return;
@@ -252,7 +275,8 @@ fn arrive<'a>(
 
 fn keep_new(alloc: Global, home: &Package, arg: &Seg<'_>, elements: &mut Vec<Seg<'_>>)
     requires { 2 ≤ length arg.now.nodes.items }
-    ensures items { segs_view elements.new.items ≡ spec.arrivals home.now (spec.joined (parts (value (seg_view arg.now)))) (segs_view elements.old.items) }
+    ensures items { segs_view elements.new.items
+        ≡ spec.arrivals home.now (spec.joined (parts (value (seg_view arg.now)))) (segs_view elements.old.items) }
     ensures shorter { vec_len elements.new ≤ vec_len elements.old }
     ensures capacity { vec_capacity elements.new ≡ vec_capacity elements.old }
 {
@@ -262,14 +286,17 @@ fn keep_new(alloc: Global, home: &Package, arg: &Seg<'_>, elements: &mut Vec<Seg
 fn put_in<'a>(arg: &mut Seg<'a>, later: Vec<Seg<'a>>)
     requires value { 2 ≤ length arg.old.nodes.items }
     requires room { length (first_list (parts (value (seg_view arg.old)))) + vec_len later ≤ vec_capacity later }
-    ensures { seg_view arg.new ≡ with_value (edit_first_part (λ there. there ++ segs_view later.entry.items) (value (seg_view arg.old))) (seg_view arg.old) }
+    ensures { seg_view arg.new
+        ≡ with_value (edit_first_part (λ there. there ++ segs_view later.entry.items) (value (seg_view arg.old)))
+        (seg_view arg.old) }
 {
     put_in_value(&mut arg.nodes[2..], later);
 }
 
 fn put_in_value<'a>(value: &mut [Node<'a>], later: Vec<Seg<'a>>)
     requires { length (first_list (parts (nodes_view value.old))) + vec_len later ≤ vec_capacity later }
-    ensures { nodes_view value.new ≡ edit_first_part (λ there. there ++ segs_view later.entry.items) (nodes_view value.old) }
+    ensures { nodes_view value.new
+        ≡ edit_first_part (λ there. there ++ segs_view later.entry.items) (nodes_view value.old) }
 {
     if let Some(part) = first_part(value) {
         put_in_list(&mut value[part], later);

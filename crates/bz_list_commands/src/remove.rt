@@ -29,8 +29,13 @@ pub fn remove(
     values: &[Text],
     args: &mut Vec<Seg<'_>>,
 ) -> Result<Done, AllocError>
-    ensures args { OnOk result (segs_view args.new.items ≡ spec.remove home.now (attributes_view attributes.now) values.now (segs_view args.old.items)) }
-    ensures done { IfOk result (λ done. done ≡ spec.done None (spec.removes home.now (attributes_view attributes.now) values.now (segs_view args.old.items))) }
+    ensures args { OnOk result
+        (segs_view args.new.items
+        ≡ spec.remove home.now (attributes_view attributes.now) values.now (segs_view args.old.items)) }
+    ensures done { IfOk result
+        (λ done. done
+        ≡ spec.done None
+        (spec.removes home.now (attributes_view attributes.now) values.now (segs_view args.old.items))) }
     ensures err { OnErr result (segs_view args.new.items ≡ segs_view args.old.items) }
 {
     match attributes {
@@ -90,8 +95,12 @@ fn remove_values(
     values: &[Text],
     args: &mut Vec<Seg<'_>>,
 ) -> Result<Done, AllocError>
-    ensures args { OnOk result (segs_view args.new.items ≡ spec.remove_values home.now attr.now values.now (segs_view args.old.items)) }
-    ensures done { IfOk result (λ done. done ≡ spec.done None (spec.chooses_in home.now (Values values.now) (first_named attr.now (segs_view args.old.items)))) }
+    ensures args { OnOk result
+        (segs_view args.new.items ≡ spec.remove_values home.now attr.now values.now (segs_view args.old.items)) }
+    ensures done { IfOk result
+        (λ done. done
+        ≡ spec.done None
+        (spec.chooses_in home.now (Values values.now) (first_named attr.now (segs_view args.old.items)))) }
     ensures err { OnErr result (segs_view args.new.items ≡ segs_view args.old.items) }
 {
     if values.len() <= FEW {
@@ -105,15 +114,20 @@ fn remove_values(
 }
 
 fn remove_many(home: &Package, attr: &str, words: &WordSet<'_>, args: &mut Vec<Seg<'_>>) -> Done
-    ensures args { segs_view args.new.items ≡ spec.remove_values home.now attr.now words.now.words.now (segs_view args.old.items) }
-    ensures done { result ≡ spec.done None (spec.chooses_in home.now (Values words.now.words.now) (first_named attr.now (segs_view args.old.items))) }
+    ensures args { segs_view args.new.items
+        ≡ spec.remove_values home.now attr.now words.now.words.now (segs_view args.old.items) }
+    ensures done { result ≡ spec.done None
+        (spec.chooses_in home.now (Values words.now.words.now) (first_named attr.now (segs_view args.old.items))) }
 {
     remove_chosen(home, attr, Chosen::Many(words), args)
 }
 
 fn remove_chosen(home: &Package, attr: &str, chosen: Chosen<'_>, args: &mut Vec<Seg<'_>>) -> Done
-    ensures args { segs_view args.new.items ≡ edit_first (is_named attr.now) (spec.filtered (spec.unchosen home.now (chosen_view chosen.entry))) (segs_view args.old.items) }
-    ensures done { result ≡ spec.done None (spec.chooses_in home.now (chosen_view chosen.entry) (first_named attr.now (segs_view args.old.items))) }
+    ensures args { segs_view args.new.items
+        ≡ edit_first (is_named attr.now) (spec.filtered (spec.unchosen home.now (chosen_view chosen.entry)))
+        (segs_view args.old.items) }
+    ensures done { result ≡ spec.done None
+        (spec.chooses_in home.now (chosen_view chosen.entry) (first_named attr.now (segs_view args.old.items))) }
 {
     let changed = chooses_first(home, attr, chosen, args);
     drop_from(home, attr, chosen, args);
@@ -137,7 +151,9 @@ pub(crate) fn chooses_first(
 
 /// Drops the chosen elements of the first argument of a name, and the argument where none is left.
 pub(crate) fn drop_from(home: &Package, attr: &str, chosen: Chosen<'_>, args: &mut Vec<Seg<'_>>)
-    ensures { segs_view args.new.items ≡ edit_first (is_named attr.now) (spec.filtered (spec.unchosen home.now (chosen_view chosen.entry))) (segs_view args.old.items) }
+    ensures { segs_view args.new.items
+        ≡ edit_first (is_named attr.now) (spec.filtered (spec.unchosen home.now (chosen_view chosen.entry)))
+        (segs_view args.old.items) }
 {
     if let Some(i) = drop_in_first(home, attr, chosen, args) {
         let _ = args.remove(i);
@@ -151,8 +167,14 @@ fn drop_in_first(
     chosen: Chosen<'_>,
     args: &mut [Seg<'_>],
 ) -> Option<usize>
-    ensures edited { IfNone result (segs_view args.new ≡ edit_first (is_named attr.now) (spec.filtered (spec.unchosen home.now (chosen_view chosen.entry))) (segs_view args.old)) }
-    ensures goes { IfSome result (λ i. (i < length args.new) × (segs_view (remove args.new i) ≡ edit_first (is_named attr.now) (spec.filtered (spec.unchosen home.now (chosen_view chosen.entry))) (segs_view args.old))) }
+    ensures edited { IfNone result
+        (segs_view args.new ≡ edit_first (is_named attr.now)
+        (spec.filtered (spec.unchosen home.now (chosen_view chosen.entry))) (segs_view args.old)) }
+    ensures goes { IfSome result
+        (λ i. (i < length args.new)
+        × (segs_view (remove args.new i)
+        ≡ edit_first (is_named attr.now) (spec.filtered (spec.unchosen home.now (chosen_view chosen.entry)))
+        (segs_view args.old))) }
 {
     let Some(i) = find(args, attr) else {
         return None;
@@ -171,8 +193,12 @@ fn remove_everywhere(
     values: &[Text],
     args: &mut Vec<Seg<'_>>,
 ) -> Result<Done, AllocError>
-    ensures args { OnOk result (segs_view args.new.items ≡ spec.filtered_everywhere (spec.unchosen home.now (Values values.now)) (segs_view args.old.items)) }
-    ensures done { IfOk result (λ done. done ≡ spec.done None (spec.chooses_anywhere home.now (Values values.now) (segs_view args.old.items))) }
+    ensures args { OnOk result
+        (segs_view args.new.items
+        ≡ spec.filtered_everywhere (spec.unchosen home.now (Values values.now)) (segs_view args.old.items)) }
+    ensures done { IfOk result
+        (λ done. done
+        ≡ spec.done None (spec.chooses_anywhere home.now (Values values.now) (segs_view args.old.items))) }
     ensures err { OnErr result (segs_view args.new.items ≡ segs_view args.old.items) }
 {
     if values.len() <= FEW {
@@ -183,15 +209,19 @@ fn remove_everywhere(
 }
 
 fn remove_many_everywhere(home: &Package, words: &WordSet<'_>, args: &mut Vec<Seg<'_>>) -> Done
-    ensures args { segs_view args.new.items ≡ spec.filtered_everywhere (spec.unchosen home.now (Values words.now.words.now)) (segs_view args.old.items) }
-    ensures done { result ≡ spec.done None (spec.chooses_anywhere home.now (Values words.now.words.now) (segs_view args.old.items)) }
+    ensures args { segs_view args.new.items
+        ≡ spec.filtered_everywhere (spec.unchosen home.now (Values words.now.words.now)) (segs_view args.old.items) }
+    ensures done { result
+        ≡ spec.done None (spec.chooses_anywhere home.now (Values words.now.words.now) (segs_view args.old.items)) }
 {
     remove_chosen_everywhere(home, Chosen::Many(words), args)
 }
 
 fn remove_chosen_everywhere(home: &Package, chosen: Chosen<'_>, args: &mut Vec<Seg<'_>>) -> Done
-    ensures args { segs_view args.new.items ≡ spec.filtered_everywhere (spec.unchosen home.now (chosen_view chosen.entry)) (segs_view args.old.items) }
-    ensures done { result ≡ spec.done None (spec.chooses_anywhere home.now (chosen_view chosen.entry) (segs_view args.old.items)) }
+    ensures args { segs_view args.new.items
+        ≡ spec.filtered_everywhere (spec.unchosen home.now (chosen_view chosen.entry)) (segs_view args.old.items) }
+    ensures done { result
+        ≡ spec.done None (spec.chooses_anywhere home.now (chosen_view chosen.entry) (segs_view args.old.items)) }
 {
     let changed = chooses_anywhere(home, chosen, args);
     drop_lost(home, chosen, args);
@@ -201,7 +231,8 @@ fn remove_chosen_everywhere(home: &Package, chosen: Chosen<'_>, args: &mut Vec<S
 
 // Drops each attribute of which no element would be left.
 fn drop_lost(home: &Package, chosen: Chosen<'_>, args: &mut Vec<Seg<'_>>)
-    ensures { segs_view args.new.items ≡ filter (λ a. not (is_lost (spec.unchosen home.now (chosen_view chosen.entry)) a)) (segs_view args.old.items) }
+    ensures { segs_view args.new.items
+        ≡ filter (λ a. not (is_lost (spec.unchosen home.now (chosen_view chosen.entry)) a)) (segs_view args.old.items) }
 {
     args.retain(|arg| !is_lost(home, chosen, arg));
 }
@@ -224,13 +255,15 @@ fn is_lost(home: &Package, chosen: Chosen<'_>, arg: &Seg<'_>) -> bool
 }
 
 fn drop_in_attributes(home: &Package, chosen: Chosen<'_>, args: &mut Vec<Seg<'_>>)
-    ensures { segs_view args.new.items ≡ map (edit_attribute (spec.unchosen home.now (chosen_view chosen.entry))) (segs_view args.old.items) }
+    ensures { segs_view args.new.items
+        ≡ map (edit_attribute (spec.unchosen home.now (chosen_view chosen.entry))) (segs_view args.old.items) }
 {
     drop_everywhere(home, chosen, args);
 }
 
 fn drop_everywhere(home: &Package, chosen: Chosen<'_>, args: &mut [Seg<'_>])
-    ensures { segs_view args.new ≡ map (edit_attribute (spec.unchosen home.now (chosen_view chosen.entry))) (segs_view args.old) }
+    ensures { segs_view args.new
+        ≡ map (edit_attribute (spec.unchosen home.now (chosen_view chosen.entry))) (segs_view args.old) }
 {
     for i in 0..args.len() {
         drop_in_attribute(home, chosen, &mut args[i]);

@@ -39,8 +39,12 @@ pub fn replace(
     new: &str,
     args: &mut [Seg<'_>],
 ) -> Result<Done, AllocError>
-    ensures args { OnOk result (segs_view args.new ≡ spec.replace home.now (attributes_view attributes.now) old.now new.now (segs_view args.old)) }
-    ensures done { IfOk result (λ d. d ≡ done None (spec.replaces home.now (attributes_view attributes.now) old.now new.now (segs_view args.old))) }
+    ensures args { OnOk result
+        (segs_view args.new
+        ≡ spec.replace home.now (attributes_view attributes.now) old.now new.now (segs_view args.old)) }
+    ensures done { IfOk result
+        (λ d. d
+        ≡ done None (spec.replaces home.now (attributes_view attributes.now) old.now new.now (segs_view args.old))) }
     ensures err { OnErr result (segs_view args.new ≡ segs_view args.old) }
 {
     let change = Change { home, old, new };
@@ -56,8 +60,14 @@ fn replace_in_first(
     attr: &str,
     args: &mut [Seg<'_>],
 ) -> Result<Done, AllocError>
-    ensures args { OnOk result (segs_view args.new ≡ spec.replace change.entry.home.now (Named attr.now) change.entry.old.now change.entry.new.now (segs_view args.old)) }
-    ensures done { IfOk result (λ d. d ≡ done None (spec.replaces change.entry.home.now (Named attr.now) change.entry.old.now change.entry.new.now (segs_view args.old))) }
+    ensures args { OnOk result
+        (segs_view args.new
+        ≡ spec.replace change.entry.home.now (Named attr.now) change.entry.old.now change.entry.new.now
+        (segs_view args.old)) }
+    ensures done { IfOk result
+        (λ d. d ≡ done None
+        (spec.replaces change.entry.home.now (Named attr.now) change.entry.old.now change.entry.new.now
+        (segs_view args.old))) }
     ensures err { OnErr result (segs_view args.new ≡ segs_view args.old) }
 {
     let Some(i) = find(args, attr) else {
@@ -69,8 +79,13 @@ fn replace_in_first(
 
 fn replace_in(alloc: Global, change: Change<'_>, arg: &mut Seg<'_>) -> Result<Done, AllocError>
     requires { 2 ≤ length arg.old.nodes.items }
-    ensures arg { OnOk result (seg_view arg.new ≡ spec.replaced_in change.entry.home.now change.entry.old.now change.entry.new.now (seg_view arg.old)) }
-    ensures done { IfOk result (λ d. d ≡ done None (spec.replaces_in change.entry.home.now change.entry.old.now change.entry.new.now (seg_view arg.old))) }
+    ensures arg { OnOk result
+        (seg_view arg.new
+        ≡ spec.replaced_in change.entry.home.now change.entry.old.now change.entry.new.now (seg_view arg.old)) }
+    ensures done { IfOk result
+        (λ d. d
+        ≡ done None
+        (spec.replaces_in change.entry.home.now change.entry.old.now change.entry.new.now (seg_view arg.old))) }
     ensures err { OnErr result (seg_view arg.new ≡ seg_view arg.old) }
 {
     let mut pool = Vec::new(alloc);
@@ -85,8 +100,12 @@ fn replace_everywhere(
     change: Change<'_>,
     args: &mut [Seg<'_>],
 ) -> Result<Done, AllocError>
-    ensures args { OnOk result (segs_view args.new ≡ spec.replace change.entry.home.now Every change.entry.old.now change.entry.new.now (segs_view args.old)) }
-    ensures done { IfOk result (λ d. d ≡ done None (spec.replaces change.entry.home.now Every change.entry.old.now change.entry.new.now (segs_view args.old))) }
+    ensures args { OnOk result
+        (segs_view args.new
+        ≡ spec.replace change.entry.home.now Every change.entry.old.now change.entry.new.now (segs_view args.old)) }
+    ensures done { IfOk result
+        (λ d. d ≡ done None
+        (spec.replaces change.entry.home.now Every change.entry.old.now change.entry.new.now (segs_view args.old))) }
     ensures err { OnErr result (segs_view args.new ≡ segs_view args.old) }
 {
     let mut pool = Vec::new(alloc);
@@ -120,7 +139,8 @@ fn make_for_args<'a>(
 ) -> Result<(), AllocError>
     requires { AreStrings change.new.now pool.old.items }
     ensures strings { OnOk result (AreStrings change.entry.new.now pool.new.items) }
-    ensures count { OnOk result (length pool.new.items ≡ length pool.old.items + count_everywhere (goes change.entry) (segs_view args.now)) }
+    ensures count { OnOk result
+        (length pool.new.items ≡ length pool.old.items + count_everywhere (goes change.entry) (segs_view args.now)) }
 {
     for arg in args {
         make_for_attribute(alloc, change, arg, pool)?;
@@ -136,7 +156,8 @@ fn make_for_attribute<'a>(
 ) -> Result<(), AllocError>
     requires { AreStrings change.new.now pool.old.items }
     ensures strings { OnOk result (AreStrings change.entry.new.now pool.new.items) }
-    ensures count { OnOk result (length pool.new.items ≡ length pool.old.items + count_at (goes change.entry) (seg_view arg.now)) }
+    ensures count { OnOk result
+        (length pool.new.items ≡ length pool.old.items + count_at (goes change.entry) (seg_view arg.now)) }
 {
     if !is_attribute(arg) {
         return Ok(());
@@ -156,7 +177,8 @@ fn make_for_value<'a>(
 ) -> Result<(), AllocError>
     requires { AreStrings change.new.now pool.old.items }
     ensures strings { OnOk result (AreStrings change.entry.new.now pool.new.items) }
-    ensures count { OnOk result (length pool.new.items ≡ length pool.old.items + count_in (goes change.entry) (nodes_view value.now)) }
+    ensures count { OnOk result
+        (length pool.new.items ≡ length pool.old.items + count_in (goes change.entry) (nodes_view value.now)) }
 {
     if !are_joints(value) {
         return Ok(());
@@ -181,7 +203,10 @@ fn make_at<'a>(
     requires strings { AreStrings change.new.now pool.old.items }
     requires within { i < length value.now }
     ensures strings { OnOk result (AreStrings change.entry.new.now pool.new.items) }
-    ensures count { (d : _) → OnOk result (length pool.new.items ≡ length pool.old.items + (if is_part start (node_view (get_or value.now i d)) (nodes_view (drop (i + 1) value.now)) then count (goes change.entry) (elements (node_view (get_or value.now i d))) else 0)) }
+    ensures count { (d : _) → OnOk result (length pool.new.items
+        ≡ length pool.old.items +
+        (if is_part start (node_view (get_or value.now i d)) (nodes_view (drop (i + 1) value.now))
+        then count (goes change.entry) (elements (node_view (get_or value.now i d))) else 0)) }
 {
     if !is_part(start, value, i) {
         return Ok(());
@@ -197,7 +222,8 @@ fn make_for_list<'a>(
 ) -> Result<(), AllocError>
     requires { AreStrings change.new.now pool.old.items }
     ensures strings { OnOk result (AreStrings change.entry.new.now pool.new.items) }
-    ensures count { OnOk result (length pool.new.items ≡ length pool.old.items + count (goes change.entry) (elements (node_view node.now))) }
+    ensures count { OnOk result
+        (length pool.new.items ≡ length pool.old.items + count (goes change.entry) (elements (node_view node.now))) }
 {
     match node {
         Node::Token(_) => Ok(()),
@@ -213,7 +239,8 @@ fn make_for_elements<'a>(
 ) -> Result<(), AllocError>
     requires { AreStrings change.new.now pool.old.items }
     ensures strings { OnOk result (AreStrings change.entry.new.now pool.new.items) }
-    ensures count { OnOk result (length pool.new.items ≡ length pool.old.items + count (goes change.entry) (segs_view elements.now)) }
+    ensures count { OnOk result
+        (length pool.new.items ≡ length pool.old.items + count (goes change.entry) (segs_view elements.now)) }
 {
     for element in elements {
         make_for(alloc, change, element, pool)?;
@@ -229,7 +256,8 @@ fn make_for<'a>(
 ) -> Result<(), AllocError>
     requires { AreStrings change.new.now pool.old.items }
     ensures strings { OnOk result (AreStrings change.entry.new.now pool.new.items) }
-    ensures count { OnOk result (length pool.new.items ≡ length pool.old.items + (if goes change.entry (seg_view element.now) then 1 else 0)) }
+    ensures count { OnOk result
+        (length pool.new.items ≡ length pool.old.items + (if goes change.entry (seg_view element.now) then 1 else 0)) }
 {
     if !is_replaced(change, element) {
         return Ok(());
@@ -291,7 +319,8 @@ fn put_in_list<'a>(change: Change<'_>, node: &mut Node<'a>, pool: &mut Vec<Seg<'
     requires enough { count (goes change) (elements (node_view node.old)) ≤ length pool.old.items }
     ensures node { node_view node.new ≡ edit_list (put change.entry) (node_view node.old) }
     ensures strings { AreStrings change.entry.new.now pool.new.items }
-    ensures left { length pool.new.items + count (goes change.entry) (elements (node_view node.old)) ≡ length pool.old.items }
+    ensures left { length pool.new.items + count (goes change.entry) (elements (node_view node.old))
+        ≡ length pool.old.items }
 {
     if let Node::Group(group) = node {
         put_in_elements(change, &mut group.segs, pool);
@@ -313,9 +342,11 @@ fn put_in_elements<'a>(change: Change<'_>, elements: &mut [Seg<'a>], pool: &mut 
 fn put_in_element<'a>(change: Change<'_>, element: &mut Seg<'a>, pool: &mut Vec<Seg<'a>>)
     requires strings { AreStrings change.new.now pool.old.items }
     requires enough { (if goes change (seg_view element.old) then 1 else 0) ≤ length pool.old.items }
-    ensures element { seg_view element.new ≡ spec.replaced change.entry.home.now change.entry.old.now change.entry.new.now (seg_view element.old) }
+    ensures element { seg_view element.new
+        ≡ spec.replaced change.entry.home.now change.entry.old.now change.entry.new.now (seg_view element.old) }
     ensures strings { AreStrings change.entry.new.now pool.new.items }
-    ensures left { length pool.new.items + (if goes change.entry (seg_view element.old) then 1 else 0) ≡ length pool.old.items }
+    ensures left { length pool.new.items + (if goes change.entry (seg_view element.old) then 1 else 0)
+        ≡ length pool.old.items }
 {
     if !is_replaced(change, element) {
         return;

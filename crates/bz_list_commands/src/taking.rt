@@ -25,7 +25,8 @@ pub(crate) fn count_chosen(
     chosen: Chosen<'_>,
     args: &[Seg<'_>],
 ) -> Result<usize, AllocError>
-    ensures { IfOk result (λ n. n ≡ length (chosen_of home.now (chosen_view chosen.entry) (first_named attr.now (segs_view args.now)))) }
+    ensures { IfOk result
+        (λ n. n ≡ length (chosen_of home.now (chosen_view chosen.entry) (first_named attr.now (segs_view args.now)))) }
 {
     let Some(i) = find(args, attr) else {
         return Ok(0);
@@ -38,7 +39,8 @@ fn count_in_value(
     chosen: Chosen<'_>,
     value: &[Node<'_>],
 ) -> Result<usize, AllocError>
-    ensures { IfOk result (λ n. n ≡ length (filter (spec.is_chosen home.now (chosen_view chosen.entry)) (joined (parts (nodes_view value.now))))) }
+    ensures { IfOk result (λ n. n ≡ length
+        (filter (spec.is_chosen home.now (chosen_view chosen.entry)) (joined (parts (nodes_view value.now))))) }
 {
     if !are_joints(value) {
         return Ok(0);
@@ -58,7 +60,8 @@ fn count_in_value(
 }
 
 fn count_in_list(home: &Package, chosen: Chosen<'_>, node: &Node<'_>) -> usize
-    ensures { result ≡ length (filter (spec.is_chosen home.now (chosen_view chosen.entry)) (elements (node_view node.now))) }
+    ensures { result
+        ≡ length (filter (spec.is_chosen home.now (chosen_view chosen.entry)) (elements (node_view node.now))) }
 {
     match node {
         Node::Token(_) => 0,
@@ -78,7 +81,8 @@ fn count_elements(home: &Package, chosen: Chosen<'_>, elements: &[Seg<'_>]) -> u
     count
 }
 
-/// Moves the chosen elements of the first argument of a name to the end of `taken`. The argument goes where none is left.
+/// Moves the chosen elements of the first argument of a name to the end of `taken`. The argument goes where none is
+/// left.
 pub(crate) fn take_from<'a>(
     alloc: Global,
     home: &Package,
@@ -87,9 +91,14 @@ pub(crate) fn take_from<'a>(
     args: &mut Vec<Seg<'a>>,
     taken: &mut Vec<Seg<'a>>,
 )
-    requires { vec_len taken.old + length (chosen_of home.now (chosen_view chosen) (first_named attr.now (segs_view args.old.items))) ≤ vec_capacity taken.old }
-    ensures left { segs_view args.new.items ≡ spec.edit_first (is_named attr.now) (spec.filtered (spec.unchosen home.now (chosen_view chosen.entry))) (segs_view args.old.items) }
-    ensures taken { segs_view taken.new.items ≡ segs_view taken.old.items ++ chosen_of home.now (chosen_view chosen.entry) (first_named attr.now (segs_view args.old.items)) }
+    requires { vec_len taken.old + length
+        (chosen_of home.now (chosen_view chosen) (first_named attr.now (segs_view args.old.items)))
+        ≤ vec_capacity taken.old }
+    ensures left { segs_view args.new.items
+        ≡ spec.edit_first (is_named attr.now) (spec.filtered (spec.unchosen home.now (chosen_view chosen.entry)))
+        (segs_view args.old.items) }
+    ensures taken { segs_view taken.new.items ≡ segs_view taken.old.items
+        ++ chosen_of home.now (chosen_view chosen.entry) (first_named attr.now (segs_view args.old.items)) }
     ensures capacity { vec_capacity taken.new ≡ vec_capacity taken.old }
     ensures shorter { vec_len args.new ≤ vec_len args.old }
     ensures same_capacity { vec_capacity args.new ≡ vec_capacity args.old }
@@ -108,10 +117,18 @@ fn take_in_first<'a>(
     args: &mut [Seg<'a>],
     taken: &mut Vec<Seg<'a>>,
 ) -> Option<usize>
-    requires { vec_len taken.old + length (chosen_of home.now (chosen_view chosen) (first_named attr.now (segs_view args.old))) ≤ vec_capacity taken.old }
-    ensures edited { IfNone result (segs_view args.new ≡ spec.edit_first (is_named attr.now) (spec.filtered (spec.unchosen home.now (chosen_view chosen.entry))) (segs_view args.old)) }
-    ensures goes { IfSome result (λ i. (i < length args.new) × (segs_view (remove args.new i) ≡ spec.edit_first (is_named attr.now) (spec.filtered (spec.unchosen home.now (chosen_view chosen.entry))) (segs_view args.old))) }
-    ensures taken { segs_view taken.new.items ≡ segs_view taken.old.items ++ chosen_of home.now (chosen_view chosen.entry) (first_named attr.now (segs_view args.old)) }
+    requires { vec_len taken.old + length
+        (chosen_of home.now (chosen_view chosen) (first_named attr.now (segs_view args.old))) ≤ vec_capacity taken.old }
+    ensures edited { IfNone result
+        (segs_view args.new ≡ spec.edit_first (is_named attr.now)
+        (spec.filtered (spec.unchosen home.now (chosen_view chosen.entry))) (segs_view args.old)) }
+    ensures goes { IfSome result
+        (λ i. (i < length args.new)
+        × (segs_view (remove args.new i)
+        ≡ spec.edit_first (is_named attr.now) (spec.filtered (spec.unchosen home.now (chosen_view chosen.entry)))
+        (segs_view args.old))) }
+    ensures taken { segs_view taken.new.items ≡ segs_view taken.old.items
+        ++ chosen_of home.now (chosen_view chosen.entry) (first_named attr.now (segs_view args.old)) }
     ensures capacity { vec_capacity taken.new ≡ vec_capacity taken.old }
 {
     let Some(i) = find(args, attr) else {
@@ -133,9 +150,14 @@ fn take_in<'a>(
     taken: &mut Vec<Seg<'a>>,
 )
     requires value { 2 ≤ length arg.old.nodes.items }
-    requires room { vec_len taken.old + length (filter (spec.is_chosen home.now (chosen_view chosen)) (joined (parts (value (seg_view arg.old))))) ≤ vec_capacity taken.old }
-    ensures left { seg_view arg.new ≡ with_value (edit_parts (spec.unchosen home.now (chosen_view chosen.entry)) (value (seg_view arg.old))) (seg_view arg.old) }
-    ensures taken { segs_view taken.new.items ≡ segs_view taken.old.items ++ filter (spec.is_chosen home.now (chosen_view chosen.entry)) (joined (parts (value (seg_view arg.old)))) }
+    requires room { vec_len taken.old + length
+        (filter (spec.is_chosen home.now (chosen_view chosen)) (joined (parts (value (seg_view arg.old)))))
+        ≤ vec_capacity taken.old }
+    ensures left { seg_view arg.new
+        ≡ with_value (edit_parts (spec.unchosen home.now (chosen_view chosen.entry)) (value (seg_view arg.old)))
+        (seg_view arg.old) }
+    ensures taken { segs_view taken.new.items ≡ segs_view taken.old.items
+        ++ filter (spec.is_chosen home.now (chosen_view chosen.entry)) (joined (parts (value (seg_view arg.old)))) }
     ensures capacity { vec_capacity taken.new ≡ vec_capacity taken.old }
 {
     take_in_value(alloc, home, chosen, &mut arg.nodes[2..], taken);
@@ -148,9 +170,13 @@ fn take_in_value<'a>(
     value: &mut [Node<'a>],
     taken: &mut Vec<Seg<'a>>,
 )
-    requires { vec_len taken.old + length (filter (spec.is_chosen home.now (chosen_view chosen)) (joined (parts (nodes_view value.old)))) ≤ vec_capacity taken.old }
-    ensures left { nodes_view value.new ≡ edit_parts (spec.unchosen home.now (chosen_view chosen.entry)) (nodes_view value.old) }
-    ensures taken { segs_view taken.new.items ≡ segs_view taken.old.items ++ filter (spec.is_chosen home.now (chosen_view chosen.entry)) (joined (parts (nodes_view value.old))) }
+    requires { vec_len taken.old + length
+        (filter (spec.is_chosen home.now (chosen_view chosen)) (joined (parts (nodes_view value.old))))
+        ≤ vec_capacity taken.old }
+    ensures left { nodes_view value.new
+        ≡ edit_parts (spec.unchosen home.now (chosen_view chosen.entry)) (nodes_view value.old) }
+    ensures taken { segs_view taken.new.items ≡ segs_view taken.old.items
+        ++ filter (spec.is_chosen home.now (chosen_view chosen.entry)) (joined (parts (nodes_view value.old))) }
     ensures capacity { vec_capacity taken.new ≡ vec_capacity taken.old }
 {
     if !are_joints(value) {
@@ -173,9 +199,13 @@ fn take_in_list<'a>(
     node: &mut Node<'a>,
     taken: &mut Vec<Seg<'a>>,
 )
-    requires { vec_len taken.old + length (filter (spec.is_chosen home.now (chosen_view chosen)) (elements (node_view node.old))) ≤ vec_capacity taken.old }
-    ensures left { node_view node.new ≡ edit_list (spec.unchosen home.now (chosen_view chosen.entry)) (node_view node.old) }
-    ensures taken { segs_view taken.new.items ≡ segs_view taken.old.items ++ filter (spec.is_chosen home.now (chosen_view chosen.entry)) (elements (node_view node.old)) }
+    requires { vec_len taken.old + length
+        (filter (spec.is_chosen home.now (chosen_view chosen)) (elements (node_view node.old)))
+        ≤ vec_capacity taken.old }
+    ensures left { node_view node.new
+        ≡ edit_list (spec.unchosen home.now (chosen_view chosen.entry)) (node_view node.old) }
+    ensures taken { segs_view taken.new.items ≡ segs_view taken.old.items
+        ++ filter (spec.is_chosen home.now (chosen_view chosen.entry)) (elements (node_view node.old)) }
     ensures capacity { vec_capacity taken.new ≡ vec_capacity taken.old }
 {
     if let Node::Group(group) = node {
@@ -190,9 +220,13 @@ fn take_chosen<'a>(
     elements: &mut Vec<Seg<'a>>,
     taken: &mut Vec<Seg<'a>>,
 )
-    requires { vec_len taken.old + length (filter (spec.is_chosen home.now (chosen_view chosen)) (segs_view elements.old.items)) ≤ vec_capacity taken.old }
-    ensures left { segs_view elements.new.items ≡ spec.unchosen home.now (chosen_view chosen.entry) (segs_view elements.old.items) }
-    ensures taken { segs_view taken.new.items ≡ segs_view taken.old.items ++ filter (spec.is_chosen home.now (chosen_view chosen.entry)) (segs_view elements.old.items) }
+    requires { vec_len taken.old + length
+        (filter (spec.is_chosen home.now (chosen_view chosen)) (segs_view elements.old.items))
+        ≤ vec_capacity taken.old }
+    ensures left { segs_view elements.new.items
+        ≡ spec.unchosen home.now (chosen_view chosen.entry) (segs_view elements.old.items) }
+    ensures taken { segs_view taken.new.items ≡ segs_view taken.old.items
+        ++ filter (spec.is_chosen home.now (chosen_view chosen.entry)) (segs_view elements.old.items) }
     ensures capacity { vec_capacity taken.new ≡ vec_capacity taken.old }
 {
     let kept = part_elements(alloc, home, chosen, elements, taken);
@@ -207,9 +241,12 @@ fn part_elements<'a>(
     elements: &mut [Seg<'a>],
     taken: &mut Vec<Seg<'a>>,
 ) -> usize
-    requires { vec_len taken.old + length (filter (spec.is_chosen home.now (chosen_view chosen)) (segs_view elements.old)) ≤ vec_capacity taken.old }
-    ensures left { take result (segs_view elements.new) ≡ spec.unchosen home.now (chosen_view chosen.entry) (segs_view elements.old) }
-    ensures taken { segs_view taken.new.items ≡ segs_view taken.old.items ++ filter (spec.is_chosen home.now (chosen_view chosen.entry)) (segs_view elements.old) }
+    requires { vec_len taken.old + length
+        (filter (spec.is_chosen home.now (chosen_view chosen)) (segs_view elements.old)) ≤ vec_capacity taken.old }
+    ensures left { take result (segs_view elements.new)
+        ≡ spec.unchosen home.now (chosen_view chosen.entry) (segs_view elements.old) }
+    ensures taken { segs_view taken.new.items ≡ segs_view taken.old.items
+        ++ filter (spec.is_chosen home.now (chosen_view chosen.entry)) (segs_view elements.old) }
     ensures capacity { vec_capacity taken.new ≡ vec_capacity taken.old }
 {
     let mut kept = 0;

@@ -50,8 +50,10 @@ fn carry_out(
     slot: &mut Option<Stmt<'_>>,
 ) -> Result<Done, AllocError>
     requires { IsTrue (commands.is_command (command_view action.now)) }
-    ensures slot { OnOk result (slot_view slot.new ≡ applied.after (command_view action.now) home.now (slot_view slot.old)) }
-    ensures done { IfOk result (λ done. done ≡ applied.done_of (command_view action.now) home.now (slot_view slot.old)) }
+    ensures slot { OnOk result
+        (slot_view slot.new ≡ applied.after (command_view action.now) home.now (slot_view slot.old)) }
+    ensures done { IfOk result
+        (λ done. done ≡ applied.done_of (command_view action.now) home.now (slot_view slot.old)) }
     ensures no_rule { spec.holds_rule (slot_view slot.old) ≡ false → IsOk result }
     ensures err { OnErr result (slot_view slot.new ≡ slot_view slot.old) }
 {
@@ -114,8 +116,11 @@ fn on_args(
     slot: &mut Option<Stmt<'_>>,
 ) -> Result<Done, AllocError>
     requires { IsTrue (commands.is_command (command_view action.now)) }
-    ensures slot { OnOk result (slot_view slot.new ≡ option_map (spec.with_args (applied.args_after (command_view action.now) home.now)) (slot_view slot.old)) }
-    ensures done { IfOk result (λ done. done ≡ spec.slot_done (applied.args_done (command_view action.now) home.now) (slot_view slot.old)) }
+    ensures slot { OnOk result
+        (slot_view slot.new
+        ≡ option_map (spec.with_args (applied.args_after (command_view action.now) home.now)) (slot_view slot.old)) }
+    ensures done { IfOk result
+        (λ done. done ≡ spec.slot_done (applied.args_done (command_view action.now) home.now) (slot_view slot.old)) }
     ensures no_rule { spec.holds_rule (slot_view slot.old) ≡ false → IsOk result }
     ensures err { OnErr result (slot_view slot.new ≡ slot_view slot.old) }
 {
@@ -135,8 +140,12 @@ fn in_statement(
     stmt: &mut Stmt<'_>,
 ) -> Result<Done, AllocError>
     requires { IsTrue (commands.is_command (command_view action.now)) }
-    ensures stmt { OnOk result (view stmt.new ≡ spec.with_args (applied.args_after (command_view action.now) home.now) (view stmt.old)) }
-    ensures done { IfOk result (λ done. done ≡ spec.done_in (applied.args_done (command_view action.now) home.now) (rule_of (nodes_view stmt.old.nodes.items))) }
+    ensures stmt { OnOk result
+        (view stmt.new ≡ spec.with_args (applied.args_after (command_view action.now) home.now) (view stmt.old)) }
+    ensures done { IfOk result
+        (λ done. done
+        ≡ spec.done_in (applied.args_done (command_view action.now) home.now)
+        (rule_of (nodes_view stmt.old.nodes.items))) }
     ensures no_rule { rule_of (nodes_view stmt.old.nodes.items) ≡ None → IsOk result }
     ensures err { OnErr result (view stmt.new ≡ view stmt.old) }
 {
@@ -151,8 +160,12 @@ fn in_nodes(
     nodes: &mut [Node<'_>],
 ) -> Result<Done, AllocError>
     requires { IsTrue (commands.is_command (command_view action.now)) }
-    ensures nodes { OnOk result (nodes_view nodes.new ≡ spec.nodes_after (applied.args_after (command_view action.now) home.now) (nodes_view nodes.old) (rule_of (nodes_view nodes.old))) }
-    ensures done { IfOk result (λ done. done ≡ spec.done_in (applied.args_done (command_view action.now) home.now) (rule_of (nodes_view nodes.old))) }
+    ensures nodes { OnOk result
+        (nodes_view nodes.new ≡ spec.nodes_after (applied.args_after (command_view action.now) home.now)
+        (nodes_view nodes.old) (rule_of (nodes_view nodes.old))) }
+    ensures done { IfOk result
+        (λ done. done
+        ≡ spec.done_in (applied.args_done (command_view action.now) home.now) (rule_of (nodes_view nodes.old))) }
     ensures no_rule { rule_of (nodes_view nodes.old) ≡ None → IsOk result }
     ensures err { OnErr result (nodes_view nodes.new ≡ nodes_view nodes.old) }
 {
@@ -170,8 +183,10 @@ fn in_call(
     call: &mut Node<'_>,
 ) -> Result<Done, AllocError>
     requires { IsTrue (commands.is_command (command_view action.now)) }
-    ensures call { OnOk result (node_view call.new ≡ edit_list (applied.args_after (command_view action.now) home.now) (node_view call.old)) }
-    ensures done { IfOk result (λ done. done ≡ applied.args_done (command_view action.now) home.now (elements (node_view call.old))) }
+    ensures call { OnOk result
+        (node_view call.new ≡ edit_list (applied.args_after (command_view action.now) home.now) (node_view call.old)) }
+    ensures done { IfOk result
+        (λ done. done ≡ applied.args_done (command_view action.now) home.now (elements (node_view call.old))) }
     ensures err { OnErr result (node_view call.new ≡ node_view call.old) }
 {
     match call {
@@ -199,8 +214,10 @@ fn in_args(
     args: &mut Vec<Seg<'_>>,
 ) -> Result<Done, AllocError>
     requires { IsTrue (commands.is_command (command_view action.now)) }
-    ensures args { OnOk result (segs_view args.new.items ≡ applied.args_after (command_view action.now) home.now (segs_view args.old.items)) }
-    ensures done { IfOk result (λ done. done ≡ applied.args_done (command_view action.now) home.now (segs_view args.old.items)) }
+    ensures args { OnOk result
+        (segs_view args.new.items ≡ applied.args_after (command_view action.now) home.now (segs_view args.old.items)) }
+    ensures done { IfOk result
+        (λ done. done ≡ applied.args_done (command_view action.now) home.now (segs_view args.old.items)) }
     ensures err { OnErr result (segs_view args.new.items ≡ segs_view args.old.items) }
 {
     match action {

@@ -1,7 +1,7 @@
 //! Worked examples of tokens, trees, layout, labels and commands, over the public calls alone.
 //!
-//! They are tables in texts: a row is read as it stands, so that a table takes no more proof than its test. They stand in a
-//! crate of their own, so that no other crate waits for them.
+//! They are tables in texts: a row is read as it stands, so that a table takes no more proof than its test. They stand
+//! in a crate of their own, so that no other crate waits for them.
 #![tactic(auto)]
 
 #[cfg(test)]

@@ -1,4 +1,5 @@
-//! Tables in texts. A row stands below a line `---`, and its answer below a line `->`; or both on one line, with ` ! ` between.
+//! Tables in texts. A row stands below a line `---`, and its answer below a line `->`; or both on one line, with ` ! `
+//! between.
 
 use bz_tree::{ParseFault, Stmt, parse};
 use std::alloc::{AllocError, Global};

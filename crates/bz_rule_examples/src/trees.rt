@@ -6,8 +6,8 @@ use std::alloc::{AllocError, Global};
 use std::borrow::CowStr;
 use std::test::Fail;
 
-/// A chunk, and the copy of its statement or its fault. A statement is its class, and then the comments above it, its nodes and its
-/// suffix; so is each segment, between angles.
+/// A chunk, and the copy of its statement or its fault. A statement is its class, and then the comments above it, its
+/// nodes and its suffix; so is each segment, between angles.
 const TREES: &str = r##"
 ---
 f (

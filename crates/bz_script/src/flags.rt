@@ -53,8 +53,8 @@ enum Argument<'a> {
 
 /// Reads the flags, and gives the words that follow them.
 ///
-/// A fault of a flag is told at the first word that has one, counted from 1. After all flags are read, words that are left
-/// beside a command file are a fault.
+/// A fault of a flag is told at the first word that has one, counted from 1. After all flags are read, words that are
+/// left beside a command file are a fault.
 pub fn read_flags(alloc: Global, words: &[String]) -> Result<(Flags, &[String]), UsageFault>
     ensures { result ≢ Err UsageFault.OutOfMemory → map_ok (λ read. (read.0, map string_bytes read.1.now)) result
         ≡ spec.flags_of (map string_bytes words.now) }

@@ -58,7 +58,8 @@ pub fn left_out(word: &str) -> Option<&'static str> {
     LEFT_OUT.iter().find(|command| **command == name).copied()
 }
 
-/// The commands of Bazel's own buildozer (its README, "Edit commands" and "Print commands") that this program does not have.
+/// The commands of Bazel's own buildozer (its README, "Edit commands" and "Print commands") that this program does not
+/// have.
 const LEFT_OUT: [&str; 23] = [
     "copy",
     "copy_no_overwrite",

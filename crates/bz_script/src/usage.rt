@@ -9,8 +9,8 @@ use thiserror::Error;
 
 /// Why the words of the command line, or a command file, ask for nothing.
 ///
-/// `line` is 0 for the command line, else the line of the command file from 1. `word` counts from 1: in the faults of flags
-/// the words of the command line, else the words of the group (on the command line those after the flags).
+/// `line` is 0 for the command line, else the line of the command file from 1. `word` counts from 1: in the faults of
+/// flags the words of the command line, else the words of the group (on the command line those after the flags).
 #[derive(Clone, Copy, Debug, PartialEq, Eq, Error)]
 pub enum UsageFault {
     #[error("out of memory")]

@@ -104,8 +104,10 @@ enum Bracket {
 
 fn bracket_of(text: &[u8]) -> Bracket
     ensures opening { result ≡ Opening → is_bracket is_opening_bracket text.now ≡ true }
-    ensures closing { result ≡ Closing → (is_bracket is_opening_bracket text.now ≡ false) × (is_bracket is_closing_bracket text.now ≡ true) }
-    ensures neither { result ≡ Neither → (is_bracket is_opening_bracket text.now ≡ false) × (is_bracket is_closing_bracket text.now ≡ false) }
+    ensures closing { result ≡ Closing → (is_bracket is_opening_bracket text.now ≡ false)
+        × (is_bracket is_closing_bracket text.now ≡ true) }
+    ensures neither { result ≡ Neither → (is_bracket is_opening_bracket text.now ≡ false)
+        × (is_bracket is_closing_bracket text.now ≡ false) }
 {
     match text {
         [b'(' | b'[' | b'{'] => Bracket::Opening,
@@ -116,7 +118,9 @@ fn bracket_of(text: &[u8]) -> Bracket
 
 /// The place of the innermost bracket that is open after some tokens, if one is.
 pub fn innermost(tokens: &[Token<'_>]) -> Option<Place>
-    ensures found { IfSome result (λ p. (t : Placed) × (outer : List Placed) × (open_tokens [] (map placed tokens.now) ≡ t ∷ outer) × (p.line ≡ t.line) × (p.col ≡ t.col)) }
+    ensures found { IfSome result
+        (λ p. (t : Placed) × (outer : List Placed) × (open_tokens [] (map placed tokens.now) ≡ t ∷ outer)
+        × (p.line ≡ t.line) × (p.col ≡ t.col)) }
     ensures none { IfNone result (open_tokens [] (map placed tokens.now) ≡ []) }
 {
     let mut closed = 0_usize;

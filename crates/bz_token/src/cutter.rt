@@ -63,11 +63,14 @@ impl Cutter {
         requires one_line { IsTrue (is_physical_line line.now) }
         requires room { (seen : List ℕ) × IsAfter self.old seen × (length seen + length line.now < 2 ^ 64) }
         requires takes { Takes self.old line.now }
-        ensures cut { IsTrue (ends_in_newline line.now) → (seen : List ℕ) → IsAfter self.old seen → IsCut result (seen ++ line.now) }
+        ensures cut { IsTrue (ends_in_newline line.now) → (seen : List ℕ) → IsAfter self.old seen
+            → IsCut result (seen ++ line.now) }
         ensures whole { (seen : List ℕ) → IsAfter self.old seen → (result ≡ Cut.Whole) ↔ IsChunk (seen ++ line.now) }
         ensures block { (seen : List ℕ) → IsAfter self.old seen → (result ≡ Cut.Block) ↔ IsBlock (seen ++ line.now) }
-        ensures last { ends_in_newline line.now ≡ false → (seen : List ℕ) → IsAfter self.old seen → IsLast result (seen ++ line.now) }
-        ensures after { IsTrue (ends_in_newline line.now) → (seen : List ℕ) → IsAfter self.old seen → IsAfter self.new (left result (seen ++ line.now)) }
+        ensures last { ends_in_newline line.now ≡ false → (seen : List ℕ) → IsAfter self.old seen
+            → IsLast result (seen ++ line.now) }
+        ensures after { IsTrue (ends_in_newline line.now) → (seen : List ℕ) → IsAfter self.old seen
+            → IsAfter self.new (left result (seen ++ line.now)) }
         ensures awaits { Awaits result self.new }
     {
         self.read_line(line);

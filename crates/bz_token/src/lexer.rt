@@ -70,7 +70,8 @@ fn misfit_fault(misfit: Misfit, place: Place) -> LexFault
 
 // The tokens of a text that has ended, where no bracket is open.
 fn closed(tokens: Vec<Token<'_>>) -> Result<Vec<Token<'_>>, LexFault>
-    ensures tokens { IfOk result (λ v. (v.items ≡ tokens.entry.items) × (open_tokens [] (map placed tokens.entry.items) ≡ [])) }
+    ensures tokens { IfOk result
+        (λ v. (v.items ≡ tokens.entry.items) × (open_tokens [] (map placed tokens.entry.items) ≡ [])) }
     ensures fault { IfErr result (IsLeftOpen (map placed tokens.entry.items)) }
 {
     match innermost(&tokens) {

@@ -185,7 +185,8 @@ pub fn comment_len(bytes: &[u8]) -> usize
     ensures in_range { (0 < result) × (result ≤ length bytes.now) }
     ensures in_line { result ≤ prefix_len (λ b. not (is_newline b)) bytes.now }
     ensures comment { is_comment (take result bytes.now) ≡ true }
-    ensures longest { list_all is_blank (drop result (take (prefix_len (λ b. not (is_newline b)) bytes.now) bytes.now)) ≡ true }
+    ensures longest { list_all is_blank (drop result (take (prefix_len (λ b. not (is_newline b)) bytes.now) bytes.now))
+        ≡ true }
 {
     trimmed_len(&bytes[..line_len(bytes)])
 }

@@ -5,7 +5,8 @@ ghost use Rattle.std.specs.Str.{IsValidUpTo};
 
 /// The bytes as text, or the length of their longest front that is UTF-8.
 pub fn check_utf8(bytes: &[u8]) -> Result<&str, usize>
-    ensures { MatchResult result (λ s. (s.now ≡ bytes.now) × IsUtf8 bytes.now) (λ n. (IsUtf8 bytes.now → ⊥) × IsValidUpTo bytes.now n) }
+    ensures { MatchResult result (λ s. (s.now ≡ bytes.now) × IsUtf8 bytes.now)
+        (λ n. (IsUtf8 bytes.now → ⊥) × IsValidUpTo bytes.now n) }
 {
     simdutf8::compat::from_utf8(bytes).map_err(|fault| fault.valid_up_to())
 }

@@ -75,7 +75,8 @@ fn indented(opens: bool, column: u64, columns: Vec<u64>) -> Result<Option<Vec<u6
 }
 
 fn next_counted(lines: Indents, token: &Token<'_>) -> Result<Option<Indents>, AllocError>
-    ensures { IfOk result (λ o. option_map lines_view o ≡ next_counted lines.inside (placed token.now) (lines_view lines)) }
+    ensures { IfOk result
+        (λ o. option_map lines_view o ≡ next_counted lines.inside (placed token.now) (lines_view lines)) }
 {
     let opens = is_colon(token);
     let columns = if lines.inside {
@@ -95,7 +96,9 @@ fn next_counted(lines: Indents, token: &Token<'_>) -> Result<Option<Indents>, Al
 
 // The lines after a token. None: it is indented wrongly.
 fn next_indent(lines: Indents, token: &Token<'_>) -> Result<Option<Indents>, AllocError>
-    ensures { IfOk result (λ o. option_map lines_view o ≡ next_indent (mark_of (placed token.now)) (placed token.now) (lines_view lines)) }
+    ensures { IfOk result
+        (λ o. option_map lines_view o
+        ≡ next_indent (mark_of (placed token.now)) (placed token.now) (lines_view lines)) }
 {
     match mark_of(token) {
         Mark::NewLine => Ok(Some(Indents {

@@ -14,7 +14,7 @@ ghost use Rattle.bz_tree.specs.private.BorrowedSteps.{own_owned, owns_owned, con
 
 use crate::class::with_rule_call;
 use crate::kinds::{
-    Preceding, Mark, Shape, after_leaf, group_kind, is_for_leaf, is_one, mark_of, same_shape,
+    Mark, Preceding, Shape, after_leaf, group_kind, is_for_leaf, is_one, mark_of, same_shape,
 };
 use crate::owners::{Content, Own, inside_of};
 use crate::span::newlines;
@@ -199,7 +199,8 @@ impl<'a> State<'a> {
 
 // At depth 0 a statement is one segment, and all comments but its suffix stand before it.
 fn one_segment<'a>(alloc: Global, content: Content<'a>) -> Result<Seg<'a>, AllocError>
-    ensures value { IfOk result (λ s. seg_view s ≡ one_segment (content_view content.entry).segs (content_view content.entry).end) }
+    ensures value { IfOk result
+        (λ s. seg_view s ≡ one_segment (content_view content.entry).segs (content_view content.entry).end) }
     ensures borrowed { IfOk result (λ s. seg_owned s ≤ content_owned content.entry) }
 {
     let Content {
@@ -219,7 +220,8 @@ fn one_segment<'a>(alloc: Global, content: Content<'a>) -> Result<Seg<'a>, Alloc
 }
 
 fn statement<'a>(alloc: Global, owns: Vec<Own<'a>>) -> Result<Option<Seg<'a>>, AllocError>
-    ensures value { IfOk result (λ o. option_map seg_view o ≡ option_map segment_with (content true (owns_view owns.entry.items))) }
+    ensures value { IfOk result
+        (λ o. option_map seg_view o ≡ option_map segment_with (content true (owns_view owns.entry.items))) }
     ensures borrowed { IfOk result (λ o. IfSome o (λ s. seg_owned s ≤ owns_owned owns.entry.items)) }
 {
     let Some(content) = inside_of(alloc, true, owns)? else {

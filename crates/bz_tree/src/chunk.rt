@@ -68,7 +68,8 @@ fn kept_statement<'a>(
     header: &Token<'a>,
     end: u64,
 ) -> Result<Stmt<'a>, AllocError>
-    ensures value { IfOk result (λ s. view s ≡ kept_statement (texts before.entry.items) kept.now (placed header.now) end) }
+    ensures value { IfOk result
+        (λ s. view s ≡ kept_statement (texts before.entry.items) kept.now (placed header.now) end) }
     ensures borrowed { IfOk result (λ s. owned_texts s ≡ owned_in before.entry.items) }
 {
     let mut nodes = Vec::new(alloc);
@@ -100,8 +101,10 @@ fn block_statement<'a>(
     requires ends { EndsFit (map placed tokens.now) }
     requires standing { AreStanding first_line text.now (map placed tokens.now) }
     requires block { begins_block (first_token (map placed tokens.now)) ≡ true }
-    ensures statement { IfOk result (λ o. IfSome o (λ s. IsBlockOf first_line text.now (map placed tokens.now) (view s))) }
-    ensures none { IfOk result (λ o. IfNone o ((t : Statement) → IsBlockOf first_line text.now (map placed tokens.now) t → ⊥)) }
+    ensures statement { IfOk result
+        (λ o. IfSome o (λ s. IsBlockOf first_line text.now (map placed tokens.now) (view s))) }
+    ensures none { IfOk result
+        (λ o. IfNone o ((t : Statement) → IsBlockOf first_line text.now (map placed tokens.now) t → ⊥)) }
     ensures borrowed { IfOk result (λ o. IfSome o (λ s. owned_texts s ≡ 0)) }
 {
     if !is_block(tokens) {
@@ -137,8 +140,10 @@ fn chunk_statement<'a>(
     requires lines { first_line + count_by (λ b. b == 10) text.now < 2 ^ 64 }
     requires ends { EndsFit (map placed tokens.now) }
     requires standing { AreStanding first_line text.now (map placed tokens.now) }
-    ensures statement { IfOk result (λ o. IfSome o (λ s. IsChunkOf first_line text.now (map placed tokens.now) (view s))) }
-    ensures none { IfOk result (λ o. IfNone o ((t : Statement) → IsChunkOf first_line text.now (map placed tokens.now) t → ⊥)) }
+    ensures statement { IfOk result
+        (λ o. IfSome o (λ s. IsChunkOf first_line text.now (map placed tokens.now) (view s))) }
+    ensures none { IfOk result
+        (λ o. IfNone o ((t : Statement) → IsChunkOf first_line text.now (map placed tokens.now) t → ⊥)) }
     ensures borrowed { IfOk result (λ o. IfSome o (λ s. owned_texts s ≡ 0)) }
 {
     if begins_block(tokens) {
@@ -170,7 +175,8 @@ fn read_tokens<'a>(
     requires lines { first_line + count_by (λ b. b == 10) text.now < 2 ^ 64 }
     requires ends { EndsFit (map placed tokens.now) }
     requires standing { AreStanding first_line text.now (map placed tokens.now) }
-    ensures statement { IfOk result (λ o. IfSome o (λ s. IsReadAs first_line text.now (map placed tokens.now) (view s))) }
+    ensures statement { IfOk result
+        (λ o. IfSome o (λ s. IsReadAs first_line text.now (map placed tokens.now) (view s))) }
     ensures blank { IfOk result (λ o. IfNone o (IsNone (first_seen (map placed tokens.now)))) }
     ensures fault { IfErr result (IsTokenFault first_line text.now (map placed tokens.now)) }
     ensures borrowed { IfOk result (λ o. IfSome o (λ s. owned_texts s ≡ 0)) }
@@ -189,9 +195,9 @@ fn read_tokens<'a>(
     }
 }
 
-/// The statement of a chunk, whose first line has this number, with at most so many brackets open at once. None: the chunk is
-/// blank. Every text of the statement is borrowed from the chunk. The rules are those of the Starlark specification; blocks
-/// and the owners of comments are this project's own.
+/// The statement of a chunk, whose first line has this number, with at most so many brackets open at once. None: the
+/// chunk is blank. Every text of the statement is borrowed from the chunk. The rules are those of the Starlark
+/// specification; blocks and the owners of comments are this project's own.
 pub fn parse<'a>(
     alloc: Global,
     text: &'a str,

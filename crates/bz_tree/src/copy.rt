@@ -12,8 +12,8 @@ impl<'a> Stmt<'a> {
     ghost use Rattle.bz_tree.specs.View.{view};
     ghost use Rattle.bz_tree.specs.Borrowed.{owned_texts};
 
-    /// An equal statement, places and line numbers included. It owns as many texts as this one, so a copy of a statement that
-    /// borrows all its texts borrows them all.
+    /// An equal statement, places and line numbers included. It owns as many texts as this one, so a copy of a
+    /// statement that borrows all its texts borrows them all.
     pub fn copy(&self, alloc: Global) -> Result<Stmt<'a>, AllocError>
         ensures equal { IfOk result (λ s. view s ≡ view self.now) }
         ensures borrowed { IfOk result (λ s. owned_texts s ≡ owned_texts self.now) }

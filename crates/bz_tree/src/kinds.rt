@@ -27,7 +27,8 @@ pub(crate) enum Mark {
     Plain,
 }
 
-/// What stands directly before a bracket: an operand (then it is a call or an index), the keyword `load`, anything else.
+/// What stands directly before a bracket: an operand (then it is a call or an index), the keyword `load`, anything
+/// else.
 #[derive(Clone, Copy, Debug, PartialEq, Eq)]
 pub(crate) enum Preceding {
     Operand,

@@ -23,30 +23,34 @@ pub fn one_tree()
 
 /// A list of tokens of a chunk has one statement at most, blocks included.
 pub fn one_statement()
-    ensures { (first : ℕ) (bytes : List ℕ) (tokens : List Placed) (s t : Statement) → IsChunkOf first bytes tokens s → IsChunkOf first bytes tokens t → s ≡ t }
+    ensures { (first : ℕ) (bytes : List ℕ) (tokens : List Placed) (s t : Statement) → IsChunkOf first bytes tokens s
+        → IsChunkOf first bytes tokens t → s ≡ t }
 {}
 
 /// The class of a statement is determined by its nodes.
 pub fn class_by_nodes()
-    ensures { (first : ℕ) (bytes : List ℕ) (tokens : List Placed) (s : Statement) → IsChunkOf first bytes tokens s → s.class ≡ class_of s.nodes }
+    ensures { (first : ℕ) (bytes : List ℕ) (tokens : List Placed) (s : Statement) → IsChunkOf first bytes tokens s
+        → s.class ≡ class_of s.nodes }
 {}
 
-/// The comments of the tokens, as they stand in the text, are dealt to the owners in the statement: none is lost, none is there
-/// twice, and each owner has its comments in their order.
+/// The comments of the tokens, as they stand in the text, are dealt to the owners in the statement: none is lost, none
+/// is there twice, and each owner has its comments in their order.
 pub fn comments_in_order()
     ensures { (tokens : List Placed) (s : Statement) → IsStatementOf tokens s → AreDealt (notes tokens) (owners_of s) }
 {}
 
-/// No comment of the tokens is lost, and none is in the statement twice: each text is as often among the comments of the one
-/// as of the other.
+/// No comment of the tokens is lost, and none is in the statement twice: each text is as often among the comments of
+/// the one as of the other.
 pub fn comments_kept()
-    ensures { (tokens : List Placed) (s : Statement) (text : List ℕ) → IsStatementOf tokens s → times text (comments_of s) ≡ times text (notes tokens) }
+    ensures { (tokens : List Placed) (s : Statement) (text : List ℕ) → IsStatementOf tokens s
+        → times text (comments_of s) ≡ times text (notes tokens) }
 {}
 
-/// No comment of a block is lost, and none is there twice: those above its first token are the statement's, in their order, and all
-/// others stand at their places in the text that is kept.
+/// No comment of a block is lost, and none is there twice: those above its first token are the statement's, in their
+/// order, and all others stand at their places in the text that is kept.
 pub fn block_comments_kept()
-    ensures { (first depth : ℕ) (bytes : List ℕ) (tokens : List Placed) (s : Statement) → AreTokensOf first depth bytes tokens → IsBlockOf first bytes tokens s → AreKept first bytes tokens s }
+    ensures { (first depth : ℕ) (bytes : List ℕ) (tokens : List Placed) (s : Statement)
+        → AreTokensOf first depth bytes tokens → IsBlockOf first bytes tokens s → AreKept first bytes tokens s }
 {}
 
 /// Which comments are whose does not depend on what the nodes are.
@@ -86,11 +90,13 @@ pub fn group_read_back()
 /// the last.
 pub fn statement_read_back()
     ensures { (owns : List Own) (s : Segment) → is_filled s.nodes ≡ true
-        → entries_of no_token (own_items true owns) ≡ written_entries false (s ∷ []) [] → segment_of owns ≡ with_rule_call s }
+        → entries_of no_token (own_items true owns) ≡ written_entries false (s ∷ []) []
+        → segment_of owns ≡ with_rule_call s }
 {}
 
 /// Outside brackets comment lines alone are read back.
 pub fn comment_lines_read_back()
-    ensures { (owns : List Own) (texts : List (List ℕ)) → entries_of no_token (own_items true owns) ≡ written_entries false [] texts
+    ensures { (owns : List Own) (texts : List (List ℕ)) → entries_of no_token (own_items true owns)
+        ≡ written_entries false [] texts
         → segment_of owns ≡ record { before = texts; nodes = []; suffix = None } }
 {}
