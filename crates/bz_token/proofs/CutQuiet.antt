@@ -11,7 +11,8 @@ use Rattle.bz_token.specs.declared.cutter.scan.Quote.{Quote}
 use Rattle.bz_token.specs.declared.cutter.scan.Inside.{Inside}
 use Rattle.bz_token.specs.declared.cutter.scan.Inside.TheVariants.{Plain, Comment, Short}
 use Rattle.bz_token.specs.declared.cutter.scan.Scan.{Scan}
-use Rattle.bz_token.specs.private.CutSteps.{is_quiet, is_quiet_in_short, byte_of, at, outside, in_short, next, run}
+use Rattle.bz_token.specs.private.Scans.{is_plain}
+use Rattle.bz_token.specs.private.CutSteps.{is_quiet, byte_of, at, outside, in_short, next, run}
 use Rattle.bz_token.proofs.CutMachine.{run_append}
 
 -- a run of bytes of which each leaves the walk as it is
@@ -52,7 +53,7 @@ quiet_same d b h =
     (past (b == 40 || b == 91 || b == 123) s _ _ opening.1
     (past (b == 41 || b == 93 || b == 125) s _ _ closing.1 refl)))))))
 
-short_same : (q : Quote) (d : ℕ) (k : LineKind) (b : ℕ) → is_quiet_in_short q b ≡ true → in_short q d k b ≡ at (Short q) d k
+short_same : (q : Quote) (d : ℕ) (k : LineKind) (b : ℕ) → is_plain (byte_of q) b ≡ true → in_short q d k b ≡ at (Short q) d k
 short_same q d k b h =
     let s : Scan = at (Short q) d k in
     let backslash = and_parts (not (b == byte_of q) && not (b == 10)) (not (b == 92)) h in
@@ -69,11 +70,11 @@ statement_run s bs e f = by s.inside s.depth s.kind e f
     by : (i : Inside) (d : ℕ) (k : LineKind) → i ≡ Plain → k ≡ Statement → run (at i d k) (take (prefix_len is_quiet bs) bs) ≡ at i d k
     by i d k e f = rw (e, f) (run_same (at Plain d Statement) is_quiet (quiet_same d) bs)
 
-pub short_run : (s : Scan) (q : Quote) (bs : List ℕ) → s.inside ≡ Short q → run s (take (prefix_len (is_quiet_in_short q) bs) bs) ≡ s
+pub short_run : (s : Scan) (q : Quote) (bs : List ℕ) → s.inside ≡ Short q → run s (take (prefix_len (is_plain (byte_of q)) bs) bs) ≡ s
 short_run s q bs e = by s.inside s.depth s.kind e
   where
-    by : (i : Inside) (d : ℕ) (k : LineKind) → i ≡ Short q → run (at i d k) (take (prefix_len (is_quiet_in_short q) bs) bs) ≡ at i d k
-    by i d k e = rw e (run_same (at (Short q) d k) (is_quiet_in_short q) (short_same q d k) bs)
+    by : (i : Inside) (d : ℕ) (k : LineKind) → i ≡ Short q → run (at i d k) (take (prefix_len (is_plain (byte_of q)) bs) bs) ≡ at i d k
+    by i d k e = rw e (run_same (at (Short q) d k) (is_plain (byte_of q)) (short_same q d k) bs)
 
 pub comment_run : (s : Scan) (bs : List ℕ) → s.inside ≡ Comment → run s (take (prefix_len (λ b. not (is_newline b)) bs) bs) ≡ s
 comment_run s bs e = by s.inside s.depth s.kind e

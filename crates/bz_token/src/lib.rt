@@ -5,6 +5,7 @@ mod brackets;
 mod cutter;
 mod fault;
 mod gap;
+mod identifier;
 pub mod laws;
 mod lexer;
 mod scan;
@@ -15,6 +16,7 @@ mod utf8;
 
 pub use cutter::{Cut, Cutter, Next};
 pub use fault::LexFault;
+pub use identifier::is_identifier;
 pub use lexer::tokens;
 pub use token::{Kind, Token};
 pub use utf8::check_utf8;

@@ -120,8 +120,9 @@ fn is_plain(quote: u8, b: u8) -> bool
     b != quote && b != b'\n' && b != b'\\'
 }
 
+/// How many bytes here neither end a short string with this quote nor escape the next byte.
 #[inline(always)]
-fn plain_len(quote: u8, bytes: &[u8]) -> usize
+pub fn plain_len(quote: u8, bytes: &[u8]) -> usize
     ensures { result ≡ prefix_len (is_plain quote) bytes.now }
 {
     bytes.iter().take_while(|b| is_plain(quote, **b)).count()

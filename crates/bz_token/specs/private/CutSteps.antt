@@ -80,12 +80,9 @@ next_in (LongEscape quote) depth kind b = at (Long quote) depth kind
 abbrev pub next : Scan → ℕ → Scan
 next s b = next_in s.inside s.depth s.kind b
 
--- a byte that changes nothing in a statement outside strings and comments, and one that changes nothing in a short string
+-- a byte that changes nothing in a statement outside strings and comments
 abbrev pub is_quiet : ℕ → Bool
 is_quiet b = not (b == 10 || b == 35 || b == 92 || b == 34 || b == 39 || (b == 40 || b == 91 || b == 123) || (b == 41 || b == 93 || b == 125))
-
-abbrev pub is_quiet_in_short : Quote → ℕ → Bool
-is_quiet_in_short quote b = not (b == byte_of quote) && not (b == 10) && not (b == 92)
 
 abbrev pub start : Scan
 start = at Plain 0 Blank

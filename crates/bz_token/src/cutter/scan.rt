@@ -2,9 +2,10 @@
 
 ghost use Rattle.std.specs.Prelude.{◌≡◌, ◌+◌, ◌-◌, ◌≤◌, ◌<◌, ◌^◌, ◌==◌, true, false, not, length, take, drop};
 ghost use Rattle.std.specs.List.{prefix_len};
-ghost use Rattle.bz_token.specs.private.CutSteps.{is_ended, is_quiet, is_quiet_in_short, byte_of, with_note, at, outside, in_short, in_long, next, start, run};
+ghost use Rattle.bz_token.specs.private.CutSteps.{is_ended, is_quiet, byte_of, with_note, at, outside, in_short, in_long, next, start, run};
 
 use crate::scan::line_len;
+use crate::scan_string::plain_len;
 
 /// What a logical line holds.
 #[derive(Clone, Copy, Debug, PartialEq, Eq)]
@@ -221,29 +222,11 @@ fn is_quiet(b: u8) -> bool
     )
 }
 
-// A byte that changes nothing in a short string.
-#[inline(always)]
-fn is_quiet_in_short(quote: Quote, b: u8) -> bool
-    ensures { result ≡ is_quiet_in_short quote b }
-{
-    b != byte_of(quote) && b != b'\n' && b != b'\\'
-}
-
 #[inline(always)]
 fn quiet_in_statement(bytes: &[u8]) -> usize
     ensures { result ≡ prefix_len is_quiet bytes.now }
 {
     bytes.iter().take_while(|b| is_quiet(**b)).count()
-}
-
-#[inline(always)]
-fn quiet_in_short(quote: Quote, bytes: &[u8]) -> usize
-    ensures { result ≡ prefix_len (is_quiet_in_short quote) bytes.now }
-{
-    bytes
-        .iter()
-        .take_while(|b| is_quiet_in_short(quote, **b))
-        .count()
 }
 
 // How many bytes here change nothing. Most do not, and these are passed at once.
@@ -257,7 +240,7 @@ fn quiet_len(scan: Scan, bytes: &[u8]) -> usize
             LineKind::Statement => quiet_in_statement(bytes),
             _ => 0,
         },
-        Inside::Short(quote) => quiet_in_short(quote, bytes),
+        Inside::Short(quote) => plain_len(byte_of(quote), bytes),
         Inside::Comment => line_len(bytes),
         _ => 0,
     }

@@ -1,0 +1,24 @@
+//! Identifiers.
+
+ghost use Rattle.std.specs.Prelude.{◌≡◌};
+ghost use Rattle.bz_token.specs.declared.token.Kind.TheVariants.{Ident};
+ghost use Rattle.bz_token.specs.Lexical as spec;
+
+use crate::scan::{is_keyword, is_word_byte};
+
+/// The text is an identifier: ASCII letters, digits and underscores that begin with no digit, and no keyword (Starlark
+/// specification, "Lexical elements").
+pub fn is_identifier(text: &str) -> bool
+    ensures { result ≡ spec.is_text Ident text.now }
+{
+    is_name(text.as_bytes()) && !is_keyword(text.as_bytes())
+}
+
+fn is_name(bytes: &[u8]) -> bool
+    ensures { result ≡ spec.is_name bytes.now }
+{
+    match bytes {
+        [] => false,
+        [first, ..] => !first.is_ascii_digit() && bytes.iter().all(|b| is_word_byte(*b)),
+    }
+}
