@@ -1,6 +1,7 @@
 //! Identifiers.
 
 ghost use Rattle.std.specs.Prelude.{◌≡◌};
+ghost use Rattle.std.specs.List.{list_all};
 ghost use Rattle.bz_token.specs.declared.token.Kind.TheVariants.{Ident};
 ghost use Rattle.bz_token.specs.Lexical as spec;
 
@@ -17,8 +18,14 @@ pub fn is_identifier(text: &str) -> bool
 fn is_name(bytes: &[u8]) -> bool
     ensures { result ≡ spec.is_name bytes.now }
 {
-    match bytes {
-        [] => false,
-        [first, ..] => !first.is_ascii_digit() && bytes.iter().all(|b| is_word_byte(*b)),
+    match bytes.split_first() {
+        None => false,
+        Some((first, _)) => !first.is_ascii_digit() && are_word_bytes(bytes),
     }
+}
+
+fn are_word_bytes(bytes: &[u8]) -> bool
+    ensures { result ≡ list_all spec.is_word_byte bytes.now }
+{
+    bytes.iter().all(|b| is_word_byte(*b))
 }
