@@ -2,12 +2,7 @@
 use Rattle.std.proofs.Common.{ℕ, ◌≡◌, ◌==◌, List, [], ◌∷◌, ◌++◌, map, Bool, true, false, not, cond, ◌&&◌, ◌||◌, if◌then◌else◌, Option, Some, None, refl, sym, ap, ◌∙◌}
 use Rattle.std.proofs.lemmas.Bool.{false≢true}
 use Rattle.bz_tree.specs.Tree.{Item, Segment}
-use Rattle.bz_tree.specs.Owners.{Own, node, comma, note, Last, no_token, end_of_node, end_of_comma, is_on, no_empty, Inside, inside, Entry, a_node, a_comma, a_note, first_cell, other_cells, same_line, later_lines, nodes_in, has_node, notes_in, above_last, beside_last, below_last, first, others, with_segment, segments_from, end_from, has_trailing_comma, entries_of}
-
--- each cell but the last has a node
-abbrev pub are_filled : List Entry → List (List Entry) → Bool
-are_filled cell [] = true
-are_filled cell (next ∷ cells) = has_node cell && are_filled next cells
+use Rattle.bz_tree.specs.Owners.{Own, node, comma, note, Last, no_token, end_of_node, end_of_comma, is_on, Inside, inside, Entry, a_node, a_comma, a_note, first_cell, other_cells, same_line, later_lines, nodes_in, has_node, notes_in, above_last, beside_last, below_last, first, others, with_segment, segments_from, end_from, has_trailing_comma, entries_of}
 
 abbrev pub is_after_comma : Last → ℕ → Bool
 is_after_comma (end_of_comma end) line = end == line
@@ -466,36 +461,3 @@ inside_is os =
     let s = flags_settled no_token os in
     let all = cells_settled no_token os in
     rw (part_is no_token os, segments_are cell cells s, segments_same cell cells s all, end_same cell cells s all, trailing_is false no_token os, trailed_is cell cells) refl
-
--- no segment is empty
-abbrev filled : Bool → List Entry → List (List Entry) → Bool
-filled b cell [] = true
-filled b cell (next ∷ cells) = (b || has_node cell) && are_filled next cells
-
-filled_node : (b : Bool) (x : Item) (cell : List Entry) (cells : List (List Entry)) → filled true cell cells ≡ filled b (a_node x ∷ cell) cells
-filled_node b x cell [] = refl
-filled_node true x cell (next ∷ cells) = refl
-filled_node false x cell (next ∷ cells) = refl
-
-filled_comma : (b : Bool) (cell : List Entry) (cells : List (List Entry)) → (b && filled false cell cells) ≡ filled b [] (cell ∷ cells)
-filled_comma true cell [] = refl
-filled_comma false cell [] = refl
-filled_comma true cell (next ∷ cells) = refl
-filled_comma false cell (next ∷ cells) = refl
-
-filled_note : (b on : Bool) (text : List ℕ) (cell : List Entry) (cells : List (List Entry)) → filled b cell cells ≡ filled b (a_note on text ∷ cell) cells
-filled_note b on text cell [] = refl
-filled_note b on text cell (next ∷ cells) = refl
-
-filled_is : (b : Bool) (last : Last) (os : List Own) → no_empty b os ≡ filled b (first_cell (entries_of last os)) (other_cells (entries_of last os))
-filled_is b last [] = refl
-filled_is b last (node line x ∷ os) = filled_is true (end_of_node line) os ∙ filled_node b x (first_cell (entries_of (end_of_node line) os)) (other_cells (entries_of (end_of_node line) os))
-filled_is b last (comma t ∷ os) = ap (λ r. b && r) (filled_is false (end_of_comma t.line) os) ∙ filled_comma b (first_cell (entries_of (end_of_comma t.line) os)) (other_cells (entries_of (end_of_comma t.line) os))
-filled_is b last (note line text ∷ os) = filled_is b no_token os ∙ filled_note b (is_on last line) text (first_cell (entries_of no_token os)) (other_cells (entries_of no_token os))
-
-filled_start : (cell : List Entry) (cells : List (List Entry)) → filled false cell cells ≡ are_filled cell cells
-filled_start cell [] = refl
-filled_start cell (next ∷ cells) = refl
-
-pub no_empty_is : (os : List Own) → no_empty false os ≡ are_filled (first_cell (entries_of no_token os)) (other_cells (entries_of no_token os))
-no_empty_is os = filled_is false no_token os ∙ filled_start (first_cell (entries_of no_token os)) (other_cells (entries_of no_token os))

@@ -4,7 +4,6 @@ use Rattle.bz_token.specs.declared.token.Kind.TheVariants.{Ident, Sign}
 use Rattle.bz_token.specs.Places.{Placed}
 use Rattle.bz_tree.specs.Tree.{Item, leaf, nowhere, Segment}
 use Rattle.bz_tree.specs.Owners.{node, comma, note, no_token, inside, a_node, a_comma, a_note, inside_by_cells, entries_of}
-use Rattle.bz_tree.specs.Written.{written_entries}
 
 abbrev x : Item
 x = leaf Ident (codes "x") nowhere
@@ -84,15 +83,6 @@ four_owners = refl
 -- `[x,`, `# a`, `# b`, `]`: after the last comma on further lines
 below_last_comma : inside_by_cells (a_node x ∷ a_comma ∷ a_note false a ∷ a_note false b ∷ []) ≡ record { segs = seg [] (x ∷ []) ∷ []; trailing = true; end = a ∷ b ∷ [] }
 below_last_comma = refl
-
--- two segments and an end comment, as they are written
-two_written : written_entries true (seg' (a ∷ b ∷ []) (x ∷ y ∷ []) c ∷ seg [] (y ∷ []) ∷ []) (d ∷ [])
-    ≡ a_note false a ∷ a_note false b ∷ a_node x ∷ a_node y ∷ a_comma ∷ a_note true c ∷ a_node y ∷ a_comma ∷ a_note false d ∷ []
-two_written = refl
-
--- where no comma is written after the last segment
-one_written : written_entries false (seg' (a ∷ []) (x ∷ []) c ∷ []) (d ∷ []) ≡ a_note false a ∷ a_node x ∷ a_note true c ∷ a_note false d ∷ []
-one_written = refl
 
 abbrev at_line : ℕ → Placed
 at_line line = record { kind = Sign; text = codes ","; line = line; col = 1; fresh = false }

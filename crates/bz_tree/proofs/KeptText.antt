@@ -7,10 +7,7 @@ use Rattle.std.proofs.Math.Seq.{get_or-append_seam}
 use Rattle.std.specs.Str.{IsCharBoundary}
 use Rattle.std.proofs.lemmas.Str.{IsCharBoundary-end, IsCharBoundary-before_ascii}
 use Rattle.bz_token.specs.Places.{Placed, column_from}
-use Rattle.std.specs.Prelude.{Some}
-use Rattle.bz_tree.specs.Tree.{Statement}
-use Rattle.bz_tree.specs.Brackets.{end_line}
-use Rattle.bz_tree.specs.Blocks.{IsAt, IsKeptText, IsBlockOf, kept_statement, above}
+use Rattle.bz_tree.specs.Blocks.{IsAt, IsKeptText}
 use Rattle.bz_tree.specs.private.BlockSteps.{offset_run, IsAsciiFront, AreIn}
 
 pub offset_here : (line col : ℕ) (bs : List ℕ) → offset_run line col line col bs ≡ 0
@@ -124,36 +121,3 @@ pub kept_between : (first : ℕ) (bytes : List ℕ) (header last : Placed) (a : 
     → (kept : List ℕ) → kept ≡ take (end - begin) (drop begin bytes) → IsKeptText first bytes header last kept
 kept_between first bytes header last a begin end eb ee kept is =
     kept_is first bytes header last a kept (is ∙ ap (λ bs. take (end - begin) (drop begin bs)) a.bytes_are ∙ middle a.before (a.front ++ last.text) a.after begin end eb ee)
-
--- the text between two places
-abbrev text_between : ℕ → List ℕ → Placed → Placed → List ℕ
-text_between first bytes header last =
-    let begin = offset_run header.line header.col first 1 bytes in
-    take ((offset_run last.line last.col first 1 bytes + length last.text) - begin) (drop begin bytes)
-
-kept_of : (first : ℕ) (bytes : List ℕ) (header last : Placed) (kept : List ℕ) → IsKeptText first bytes header last kept → kept ≡ text_between first bytes header last
-kept_of first bytes header last kept k =
-    let begin = offset_run header.line header.col first 1 bytes in
-    let place = offset_run last.line last.col first 1 bytes in
-    let b : begin ≡ length k.before = place_offset first bytes k.before (kept ++ k.after) header k.bytes_are k.begins in
-    let split : bytes ≡ (k.before ++ k.front) ++ (last.text ++ k.after) = k.bytes_are ∙ ap (λ x. k.before ++ (x ++ k.after)) k.kept_is ∙ simp append_assoc in
-    let e : place ≡ length (k.before ++ k.front) = place_offset first bytes (k.before ++ k.front) (last.text ++ k.after) last split k.ends in
-    let size : length kept ≡ length (k.front ++ last.text) = ap length k.kept_is in
-    let whole : place + length last.text ≡ length k.before + length kept = omega (arith, e, size, length-append k.before k.front, length-append k.front last.text) in
-    sym (ap (λ bs. take ((place + length last.text) - begin) (drop begin bs)) k.bytes_are ∙ middle k.before kept k.after begin (place + length last.text) b whole)
-
--- the text between two tokens is one
-pub kept_same : (first : ℕ) (bytes : List ℕ) (header last : Placed) (kept other : List ℕ) → IsKeptText first bytes header last kept → IsKeptText first bytes header last other → kept ≡ other
-kept_same first bytes header last kept other k o = kept_of first bytes header last kept k ∙ sym (kept_of first bytes header last other o)
-
-some_same : (x y : Placed) → Some x ≡ Some y → x ≡ y
-some_same x y e = cc
-
--- the tokens are one block at most
-pub block_same : (first : ℕ) (bytes : List ℕ) (tokens : List Placed) (s t : Statement) → IsBlockOf first bytes tokens s → IsBlockOf first bytes tokens t → s ≡ t
-block_same first bytes tokens s t a b =
-    let header : a.header ≡ b.header = some_same a.header b.header (sym a.is_header ∙ b.is_header) in
-    let last : a.last ≡ b.last = some_same a.last b.last (sym a.is_last ∙ b.is_last) in
-    let kept : a.kept ≡ b.kept = kept_of first bytes a.header a.last a.kept a.is_kept ∙ (λ i. text_between first bytes (header i) (last i)) ∙ sym (kept_of first bytes b.header b.last b.kept b.is_kept) in
-    let same : kept_statement (above tokens) a.kept a.header (end_line a.last) ≡ kept_statement (above tokens) b.kept b.header (end_line b.last) = λ i. kept_statement (above tokens) (kept i) (header i) (end_line (last i)) in
-    a.is ∙ same ∙ sym b.is

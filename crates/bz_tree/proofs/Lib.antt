@@ -12,12 +12,5 @@ pub mod Plain
 pub mod BlockLines
 pub mod KeptText
 pub mod Standing
-pub mod ChunkLaws
-pub mod Dealt
-pub mod KeptComments
-pub mod BlockComments
 pub mod Examples
 pub mod CellExamples
-pub mod ReadBack
-pub mod Nodes
-pub mod WrittenBack

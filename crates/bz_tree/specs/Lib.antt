@@ -3,13 +3,10 @@ pub mod View
 pub mod Borrowed
 pub mod Kinds
 pub mod Owners
-pub mod Written
-pub mod Nodes
 pub mod Brackets
 pub mod Statement
 pub mod Grammar
 pub mod Blocks
 pub mod Chunk
 pub mod Comments
-pub mod BlockComments
 pub mod private

@@ -10,7 +10,7 @@ use bz_token::{Kind, Token};
 
 /// The shape of a bracket.
 #[derive(Clone, Copy, Debug, PartialEq, Eq)]
-pub(crate) enum Shape {
+pub enum Shape {
     Round,
     Square,
     Curly,
@@ -18,7 +18,7 @@ pub(crate) enum Shape {
 
 /// What a token is to the brackets.
 #[derive(Clone, Copy, Debug, PartialEq, Eq)]
-pub(crate) enum Mark {
+pub enum Mark {
     Open(Shape),
     Close(Shape),
     Comma,
@@ -30,7 +30,7 @@ pub(crate) enum Mark {
 /// What stands directly before a bracket: an operand (then it is a call or an index), the keyword `load`, anything
 /// else.
 #[derive(Clone, Copy, Debug, PartialEq, Eq)]
-pub(crate) enum Preceding {
+pub enum Preceding {
     Operand,
     LoadWord,
     Other,

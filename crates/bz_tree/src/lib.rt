@@ -10,7 +10,6 @@ mod fault;
 mod grammar;
 mod kept;
 mod kinds;
-pub mod laws;
 mod owners;
 mod role;
 mod span;

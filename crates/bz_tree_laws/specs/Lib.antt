@@ -1,0 +1,3 @@
+pub mod BlockComments
+pub mod Written
+pub mod Nodes
