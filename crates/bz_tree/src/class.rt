@@ -12,7 +12,7 @@ use bz_token::Kind;
 use std::alloc::AllocError;
 
 // What may come next in a rule: an identifier, `.` or the call, nothing.
-#[derive(Clone, Copy, Debug, PartialEq, Eq)]
+#[derive(Clone, Copy, PartialEq, Eq)]
 pub(crate) enum Phase {
     Name,
     Join,

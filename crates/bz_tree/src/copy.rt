@@ -1,8 +1,8 @@
 //! Copies of statements.
 
-ghost use Rattle.std.specs.Prelude.{◌≡◌, IfOk, map, option_map};
-ghost use Rattle.bz_tree.specs.View.{text_of, texts, view, node_view, group_view, seg_view};
-ghost use Rattle.bz_tree.specs.Borrowed.{owned, owned_of, node_owned, group_owned, seg_owned};
+ghost use Rattle.std.specs.Prelude.{◌≡◌, ◌+◌, IfOk, map, option_map};
+ghost use Rattle.bz_tree.specs.View.{text_of, texts, view, node_view, nodes_view, group_view, seg_view};
+ghost use Rattle.bz_tree.specs.Borrowed.{total, owned, owned_in, owned_of, node_owned, group_owned, seg_owned};
 
 use crate::stmt::{Group, Leaf, Node, Seg, Stmt};
 use std::alloc::{AllocError, Global};
@@ -18,9 +18,11 @@ impl<'a> Stmt<'a> {
         ensures equal { IfOk result (λ s. view s ≡ view self.now) }
         ensures borrowed { IfOk result (λ s. owned_texts s ≡ owned_texts self.now) }
     {
-        let before = copy_texts(alloc, &self.before)?;
-        let nodes = copy_nodes(alloc, &self.nodes)?;
-        let suffix = copy_suffix(&self.suffix)?;
+        let Seg {
+            before,
+            nodes,
+            suffix,
+        } = copy_parts(alloc, &self.before, &self.nodes, &self.suffix)?;
         Ok(Stmt {
             before,
             nodes,
@@ -106,6 +108,27 @@ fn copy_nodes<'a>(alloc: Global, nodes: &[Node<'a>]) -> Result<Vec<Node<'a>>, Al
     Ok(copies)
 }
 
+// The comments and the nodes that a segment has, and a statement too.
+#[cycle(copy)]
+fn copy_parts<'a>(
+    alloc: Global,
+    before: &[CowStr<'a>],
+    nodes: &[Node<'a>],
+    suffix: &Option<CowStr<'a>>,
+) -> Result<Seg<'a>, AllocError>
+    ensures value { IfOk result
+        (λ s. seg_view s
+        ≡ record { before = texts before.now; nodes = nodes_view nodes.now; suffix = option_map text_of suffix.now }) }
+    ensures borrowed { IfOk result
+        (λ s. seg_owned s ≡ owned_in before.now + total (map node_owned nodes.now) + owned_of suffix.now) }
+{
+    Ok(Seg {
+        before: copy_texts(alloc, before)?,
+        nodes: copy_nodes(alloc, nodes)?,
+        suffix: copy_suffix(suffix)?,
+    })
+}
+
 #[cycle(copy)]
 fn copy_segs<'a>(alloc: Global, segs: &[Seg<'a>]) -> Result<Vec<Seg<'a>>, AllocError>
     ensures value { IfOk result (λ v. map seg_view v.items ≡ map seg_view segs.now) }
@@ -113,14 +136,7 @@ fn copy_segs<'a>(alloc: Global, segs: &[Seg<'a>]) -> Result<Vec<Seg<'a>>, AllocE
 {
     let mut copies = Vec::with_capacity(alloc, segs.len())?;
     for seg in segs {
-        let before = copy_texts(alloc, &seg.before)?;
-        let nodes = copy_nodes(alloc, &seg.nodes)?;
-        let suffix = copy_suffix(&seg.suffix)?;
-        copies.push(Seg {
-            before,
-            nodes,
-            suffix,
-        })?;
+        copies.push(copy_parts(alloc, &seg.before, &seg.nodes, &seg.suffix)?)?;
     }
     Ok(copies)
 }

@@ -9,7 +9,7 @@ use crate::stmt::{GroupKind, Leaf};
 use bz_token::{Kind, Token};
 
 /// The shape of a bracket.
-#[derive(Clone, Copy, Debug, PartialEq, Eq)]
+#[derive(Clone, Copy)]
 pub enum Shape {
     Round,
     Square,
@@ -17,7 +17,7 @@ pub enum Shape {
 }
 
 /// What a token is to the brackets.
-#[derive(Clone, Copy, Debug, PartialEq, Eq)]
+#[derive(Clone, Copy)]
 pub enum Mark {
     Open(Shape),
     Close(Shape),
@@ -29,7 +29,7 @@ pub enum Mark {
 
 /// What stands directly before a bracket: an operand (then it is a call or an index), the keyword `load`, anything
 /// else.
-#[derive(Clone, Copy, Debug, PartialEq, Eq)]
+#[derive(Clone, Copy)]
 pub enum Preceding {
     Operand,
     LoadWord,

@@ -8,7 +8,7 @@ use crate::stmt::Leaf;
 use bz_token::Kind;
 
 /// What a node is to the grammar.
-#[derive(Clone, Copy, Debug, PartialEq, Eq)]
+#[derive(Clone, Copy)]
 pub(crate) enum Role {
     /// An identifier.
     Name,

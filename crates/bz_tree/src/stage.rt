@@ -7,7 +7,7 @@ use crate::role::Role;
 use crate::stmt::GroupKind;
 
 /// What is being read: a Test with what may follow it, or (Target) a Primary, or (Clause) a Chain.
-#[derive(Clone, Copy, Debug, PartialEq, Eq)]
+#[derive(Clone, Copy, PartialEq, Eq)]
 pub(crate) enum Part {
     /// The tests of a statement, before an assignment sign too.
     Left,
@@ -34,7 +34,7 @@ pub(crate) enum Part {
 }
 
 /// What may come next. The flag says that the condition of a conditional is being read.
-#[derive(Clone, Copy, Debug, PartialEq, Eq)]
+#[derive(Clone, Copy)]
 pub(crate) enum Stage {
     /// Nothing: this is no part of the grammar.
     Refused,
