@@ -7,6 +7,7 @@ ghost use Rattle.bz_tree.specs.private.Steps.{rule_from};
 ghost use Rattle.bz_tree.specs.Borrowed.{node_owned, seg_owned};
 ghost use Rattle.bz_tree.specs.private.BorrowedSteps.{nodes_owned};
 
+use crate::role::is_augmented;
 use crate::stmt::{Class, Group, GroupKind, Leaf, Node, Seg};
 use bz_token::Kind;
 use std::alloc::AllocError;
@@ -90,10 +91,7 @@ pub(crate) fn with_rule_call(seg: Seg<'_>) -> Result<Seg<'_>, AllocError>
 fn is_assign_sign(text: &str) -> bool
     ensures { result ≡ is_assign_sign text.now }
 {
-    matches!(
-        text,
-        "=" | "+=" | "-=" | "*=" | "/=" | "//=" | "%=" | "&=" | "|=" | "^=" | "<<=" | ">>="
-    )
+    text == "=" || is_augmented(text)
 }
 
 fn is_assign(node: &Node<'_>) -> bool

@@ -73,8 +73,8 @@ fn sign_role(text: &str) -> Role
     }
 }
 
-// An operator that assigns, but for `=`.
-fn is_augmented(text: &str) -> bool
+/// An operator that assigns, but for `=`.
+pub(crate) fn is_augmented(text: &str) -> bool
     ensures { result ≡ is_augmented text.now }
 {
     match text {
