@@ -5,7 +5,7 @@ use Rattle.bz_token.specs.declared.token.Kind.TheVariants.{Ident}
 use Rattle.bz_token.specs.Lexical.{is_text}
 
 -- a name that is no keyword
-abbrev pub is_identifier : List ℕ → Bool
+unfoldable pub is_identifier : List ℕ → Bool
 is_identifier text = is_text Ident text
 
 -- the kind of a rule: identifiers joined by `.`

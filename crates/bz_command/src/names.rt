@@ -5,7 +5,14 @@ ghost use Rattle.std.specs.List.{list_all};
 ghost use Rattle.bz_command.specs.Names as spec;
 
 use crate::parts::cut;
-use bz_token::is_identifier;
+
+/// The text is an identifier.
+#[tactic(auto, unfolding(crate::specs::Names::is_identifier))]
+pub(crate) fn is_identifier(text: &str) -> bool
+    ensures { result ≡ spec.is_identifier text.now }
+{
+    bz_token::is_identifier(text)
+}
 
 /// The text is this word.
 pub(crate) fn is(text: &str, word: &str) -> bool

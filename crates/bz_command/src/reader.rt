@@ -9,9 +9,8 @@ ghost use Rattle.bz_command.specs.Names.{is_identifier};
 
 use crate::command::{Action, Attributes, Command, CommandFault, Commented, Field, Moved, Setting};
 use crate::list::{Seq, Text};
-use crate::names::{is, is_kind};
+use crate::names::{is, is_identifier, is_kind};
 use crate::words::{read_words, take_word};
-use bz_token::is_identifier;
 use std::alloc::{AllocError, Global};
 
 /// Reads a command (buildozer README, edit commands); `None` for a text whose first word is no command's name. Of
