@@ -1,3 +1,4 @@
 pub mod CommentEdits
 pub mod KindEdits
+pub mod OneList
 pub mod Printed

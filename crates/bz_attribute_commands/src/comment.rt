@@ -1,13 +1,13 @@
 //! `comment`: a line above a rule, an argument or an element.
 
-ghost use Rattle.std.specs.Prelude.{◌≡◌, ◌≤◌, ◌∷◌, [], false, length, string_bytes, option_map, is_some, IfOk, IfSome, IfNone, IsOk, OnOk, OnErr, None, true};
+ghost use Rattle.std.specs.Prelude.{◌≡◌, ◌≤◌, ◌∷◌, [], false, length, string_bytes, option_map, IfOk, IfSome, IfNone, IsOk, OnOk, OnErr, None, true};
 ghost use Rattle.std.specs.Cow.{cow_str_bytes};
 ghost use Rattle.std.specs.List.{list_any, position_or_len};
-ghost use Rattle.bz_tree.specs.View.{node_view, nodes_view, seg_view, segs_view, slot_view, view};
+ghost use Rattle.bz_tree.specs.View.{node_view, nodes_view, seg_view, segs_view, slot_view};
 ghost use Rattle.bz_attribute.specs.Applied.{args_after, args_done};
 ghost use Rattle.bz_command.specs.CommandViews.{commented_view};
 ghost use Rattle.bz_command.specs.Commands.{Comment};
-ghost use Rattle.bz_attribute.specs.Rules.{elements, rule_of};
+ghost use Rattle.bz_attribute.specs.Rules.{elements};
 ghost use Rattle.bz_attribute.specs.Lists.{edit_list, equals, parts};
 ghost use Rattle.bz_attribute.specs.Effects.{done, edit_first, holds_rule, is_absent};
 ghost use Rattle.bz_attribute_commands.specs.private.CommentPlaces.{IsFirstOf, IsNowhere, IsPartWith};
@@ -38,24 +38,14 @@ pub fn comment_rule(
     match slot {
         None => Ok(Done::quiet(false)),
         Some(stmt) => {
-            let done = comment_statement(alloc, text, stmt)?;
-            Ok(done)
+            if call_at(&stmt.nodes).is_none() {
+                return Ok(Done::quiet(false));
+            }
+            let line = comment_line(alloc, text)?;
+            stmt.before.push(line)?;
+            Ok(Done::quiet(true))
         }
     }
-}
-
-fn comment_statement(alloc: Global, text: &str, stmt: &mut Stmt<'_>) -> Result<Done, AllocError>
-    ensures stmt { OnOk result (view stmt.new ≡ spec.comment_rule text.now (view stmt.old)) }
-    ensures done { IfOk result (λ d. d ≡ done None (is_some (rule_of (nodes_view stmt.old.nodes.items)))) }
-    ensures no_rule { rule_of (nodes_view stmt.old.nodes.items) ≡ None → IsOk result }
-    ensures err { OnErr result (view stmt.new ≡ view stmt.old) }
-{
-    if call_at(&stmt.nodes).is_none() {
-        return Ok(Done::quiet(false));
-    }
-    let line = comment_line(alloc, text)?;
-    stmt.before.push(line)?;
-    Ok(Done::quiet(true))
 }
 
 /// Adds a comment line above an argument or an element of one; the arguments have no place for a comment above the
@@ -99,7 +89,7 @@ fn comment_attribute(
         return Ok(Done::failure(Note::NoAttribute(attr)));
     };
     let line = comment_line(alloc, text)?;
-    put_comment(&mut args[i], line)?;
+    args[i].before.push(line)?;
     Ok(Done::quiet(true))
 }
 
@@ -275,16 +265,7 @@ fn comment_first<'a>(
     let Some(i) = find_equal(home, value, elements) else {
         return Ok(());
     };
-    put_comment(&mut elements[i], line)?;
-    Ok(())
-}
-
-// Adds the line below the comments that are there. An `Err` leaves the segment as it was.
-fn put_comment<'a>(seg: &mut Seg<'a>, line: CowStr<'a>) -> Result<(), AllocError>
-    ensures ok { OnOk result (seg_view seg.new ≡ spec.with_comment (cow_str_bytes line.entry) (seg_view seg.old)) }
-    ensures err { OnErr result (seg_view seg.new ≡ seg_view seg.old) }
-{
-    seg.before.push(line)?;
+    elements[i].before.push(line)?;
     Ok(())
 }
 

@@ -6,3 +6,4 @@ pub mod print;
 pub mod rename;
 pub mod set;
 pub mod set_kind;
+mod value;

@@ -3,20 +3,21 @@
 ghost use Rattle.std.specs.Prelude.{◌≡◌, ◌++◌, ◌∷◌, [], codes, map, option_map, is_some, IfNone, IfOk, IfSome, IsOk, OnOk, string_bytes, false, true};
 ghost use Rattle.std.specs.Fmt.{decimal};
 ghost use Rattle.std.specs.List.{list_all};
-ghost use Rattle.bz_tree.specs.View.{node_view, nodes_view, seg_view, segs_view, slot_view, view};
+ghost use Rattle.bz_tree.specs.View.{nodes_view, seg_view, segs_view, slot_view, view};
 ghost use Rattle.bz_command.specs.CommandViews.{field_view};
 ghost use Rattle.bz_attribute.specs.RuleViews.{rule_view};
-ghost use Rattle.bz_attribute.specs.Rules.{string_value, value};
+ghost use Rattle.bz_attribute.specs.Rules.{string_value};
 ghost use Rattle.bz_attribute.specs.Effects.{holds_rule};
 ghost use Rattle.bz_attribute_commands.specs.private.PrintSteps.{attribute_in, element_word, label_in, missing_as};
 ghost use Rattle.bz_attribute.specs.declared.done.Note.TheVariants.{Missing};
 ghost use Rattle.bz_attribute.specs.Printing as spec;
 
+use crate::value::{one_list, value_of};
 use bz_attribute::done::{Done, Note};
-use bz_attribute::lists::is_list;
+use bz_attribute::equals::string_of;
 use bz_attribute::rule::{Rule, first_named, only_text, rule_of};
 use bz_attribute::texts::{push_home, push_kind, read_name};
-use bz_command::{Field, Package, Text, quote, read_value, value_of};
+use bz_command::{Field, Package, Text, quote, read_value};
 use bz_layout::flat;
 use bz_tree::{GroupKind, Node, Seg, Stmt};
 use std::alloc::{AllocError, Global};
@@ -38,21 +39,6 @@ pub fn print(
     let Some(rule) = rule_of(&stmt.nodes) else {
         return Ok(Done::quiet(false));
     };
-    let done = print_rule(alloc, home, stmt, rule, fields)?;
-    Ok(done)
-}
-
-// Without fields the name and the kind.
-fn print_rule(
-    alloc: Global,
-    home: &Package,
-    stmt: &Stmt<'_>,
-    rule: Rule<'_, '_>,
-    fields: &[Field],
-) -> Result<Done, AllocError>
-    ensures { IfOk result (λ done. done ≡ spec.printed home.now (view stmt.now) (rule_view rule.entry)
-        (spec.fields_of (map field_view fields.now))) }
-{
     match fields {
         [] => {
             let name = Field::ValueOf(Text::from_str(alloc, "name")?);
@@ -167,7 +153,7 @@ fn push_attribute(
         let missing = push_missing(alloc, text, attr)?;
         return Ok(Some(missing));
     };
-    push_argument(alloc, text, arg)?;
+    push_value(alloc, text, value_of(arg))?;
     Ok(None)
 }
 
@@ -178,19 +164,6 @@ fn push_missing(alloc: Global, text: &mut String, name: &str) -> Result<Note, Al
     text.push_str("(missing)")?;
     let name = Text::from_str(alloc, name)?;
     Ok(Note::Missing(name))
-}
-
-// Writes the value of a named argument.
-fn push_argument(alloc: Global, text: &mut String, arg: &Seg<'_>) -> Result<(), AllocError>
-    ensures { OnOk result
-        (string_bytes text.new ≡ string_bytes text.old ++ spec.value_text (value (seg_view arg.now))) }
-{
-    if arg.nodes.len() < 2 {
-        push_value(alloc, text, &[])?;
-        return Ok(());
-    }
-    push_value(alloc, text, &arg.nodes[2..])?;
-    Ok(())
 }
 
 fn push_value(alloc: Global, text: &mut String, value: &[Node<'_>]) -> Result<(), AllocError>
@@ -232,54 +205,30 @@ fn push_list(alloc: Global, text: &mut String, value: &[Node<'_>]) -> Result<(),
 }
 
 // The elements of what is one list of strings with values.
+#[tactic(auto, using(crate::proofs::OneList::words_in))]
 fn words_in<'n, 'a>(value: &'n [Node<'a>]) -> Option<&'n [Seg<'a>]>
     ensures none { IfNone result (spec.is_words (nodes_view value.now) ≡ false) }
     ensures words { IfSome result (λ elements. spec.is_words (nodes_view value.now) ≡ true) }
     ensures some { IfSome result (λ elements. spec.first_elements (nodes_view value.now) ≡ segs_view elements.now) }
 {
-    match value {
-        [node] => words_at(node),
-        _ => None,
-    }
-}
-
-fn words_at<'n, 'a>(node: &'n Node<'a>) -> Option<&'n [Seg<'a>]>
-    ensures none { IfNone result (spec.is_words (node_view node.now ∷ []) ≡ false) }
-    ensures words { IfSome result (λ elements. spec.is_words (node_view node.now ∷ []) ≡ true) }
-    ensures some { IfSome result (λ elements. spec.first_elements (node_view node.now ∷ []) ≡ segs_view elements.now) }
-{
-    if !is_list(node) {
+    let Some(elements) = one_list(value) else {
+        return None;
+    };
+    if !have_strings(elements) {
         return None;
     }
-    match node {
-        Node::Token(_) => None,
-        Node::Group(group) => {
-            if !have_strings(&group.segs) {
-                return None;
-            }
-            Some(&group.segs)
-        }
-    }
+    Some(elements)
 }
 
 fn have_strings(elements: &[Seg<'_>]) -> bool
     ensures { result ≡ list_all spec.has_string (segs_view elements.now) }
 {
     for element in elements {
-        if !has_string(&element.nodes) {
+        if string_of(element).is_none() {
             return false;
         }
     }
     true
-}
-
-fn has_string(nodes: &[Node<'_>]) -> bool
-    ensures { result ≡ is_some (string_value (nodes_view nodes.now)) }
-{
-    match only_text(nodes) {
-        None => false,
-        Some(text) => value_of(text).is_some(),
-    }
 }
 
 // Writes strings with a space between them.

@@ -1,9 +1,7 @@
 //! `rename`: an attribute gets another name.
 
-ghost use Rattle.std.specs.Prelude.{◌≡◌, ◌≤◌, length, IfOk, OnOk, OnErr, true};
-ghost use Rattle.bz_token.specs.declared.token.Kind.TheVariants.{Ident};
-ghost use Rattle.bz_tree.specs.Tree.{leaf, nowhere};
-ghost use Rattle.bz_tree.specs.View.{node_view, seg_view, segs_view};
+ghost use Rattle.std.specs.Prelude.{◌≡◌, IfOk, OnOk, OnErr, true};
+ghost use Rattle.bz_tree.specs.View.{segs_view};
 ghost use Rattle.bz_attribute.specs.Effects as spec;
 
 use bz_attribute::done::{Done, Note};
@@ -11,7 +9,7 @@ use bz_attribute::find::find;
 use bz_attribute::make::token;
 use bz_command::Text;
 use bz_token::Kind;
-use bz_tree::{Node, Seg};
+use bz_tree::Seg;
 use std::alloc::{AllocError, Global};
 
 /// Renames the first argument named `old`.
@@ -34,14 +32,6 @@ pub fn rename<'a>(
         return Ok(Done::failure(Note::AttributeExists(attr)));
     }
     let name = token(alloc, Kind::Ident, new)?;
-    put_name(&mut args[i], name);
+    args[i].nodes[0] = name;
     Ok(Done::quiet(true))
-}
-
-fn put_name<'a>(arg: &mut Seg<'a>, name: Node<'a>)
-    requires { 2 ≤ length arg.old.nodes.items }
-    ensures { (text : _) → node_view name.entry ≡ leaf Ident text nowhere
-        → seg_view arg.new ≡ spec.rename_to text (seg_view arg.old) }
-{
-    arg.nodes[0] = name;
 }

@@ -1,17 +1,17 @@
 //! `set` and `set_if_absent`: an attribute gets a value.
 
-ghost use Rattle.std.specs.Prelude.{◌≡◌, ◌≤◌, ◌++◌, ◌∷◌, ◌&&◌, [], None, Some, length, not, take, true, false, IfOk, IsOk, OnOk, OnErr};
+ghost use Rattle.std.specs.Prelude.{◌≡◌, ◌++◌, ◌∷◌, [], None, Some, not, true, false, IfOk, IsOk, OnOk, OnErr};
 ghost use Rattle.std.specs.List.{list_all};
 ghost use Rattle.bz_tree.specs.View.{node_view, nodes_view, seg_view, segs_view};
-ghost use Rattle.bz_attribute.specs.Rules.{elements, first_named, is_named, is_text, string_value};
-ghost use Rattle.bz_attribute.specs.Lists.{is_list};
+ghost use Rattle.bz_attribute.specs.Rules.{first_named, is_text, string_value};
+ghost use Rattle.bz_attribute.specs.Lists.{with_value};
 ghost use Rattle.bz_attribute.specs.Effects as effects;
 ghost use Rattle.bz_attribute_commands.specs.private.SettingViews.{new_view};
 ghost use Rattle.bz_attribute.specs.Setting as spec;
 
+use crate::value::{one_list, value_of};
 use bz_attribute::done::Done;
 use bz_attribute::find::find;
-use bz_attribute::lists::is_list;
 use bz_attribute::make::{argument, list, literal, strings, token};
 use bz_attribute::rule::{ident_of, only_text};
 use bz_command::{Text, has_value};
@@ -47,11 +47,11 @@ pub fn set(
         → IsOk result }
     ensures err { OnErr result (segs_view args.new.items ≡ segs_view args.old.items) }
 {
-    if find(args, attr).is_none() {
+    let Some(i) = find(args, attr) else {
         add_argument(alloc, attr, words, args)?;
         return Ok(Done::quiet(true));
-    }
-    let done = set_first(alloc, attr, words, args)?;
+    };
+    let done = set_in(alloc, attr, words, &mut args[i])?;
     Ok(done)
 }
 
@@ -92,31 +92,7 @@ fn add_argument(
     Ok(())
 }
 
-fn set_first(
-    alloc: Global,
-    attr: &str,
-    words: &[Text],
-    args: &mut [Seg<'_>],
-) -> Result<Done, AllocError>
-    requires { effects.has attr.now (segs_view args.old) ≡ true }
-    ensures args { OnOk result
-        (segs_view args.new ≡ effects.edit_first (is_named attr.now) (λ a.
-        spec.set_in (spec.new_of attr.now words.now (first_named attr.now (segs_view args.old))) a ∷ [])
-        (segs_view args.old)) }
-    ensures done { IfOk result
-        (λ done. done ≡ effects.done None (spec.sets attr.now words.now (first_named attr.now (segs_view args.old)))) }
-    ensures unchanged { spec.sets attr.now words.now (first_named attr.now (segs_view args.old)) ≡ false → IsOk result }
-    ensures err { OnErr result (segs_view args.new ≡ segs_view args.old) }
-{
-    let Some(i) = find(args, attr) else {
-        return Ok(Done::quiet(false));
-    };
-    let done = set_in(alloc, attr, words, &mut args[i])?;
-    Ok(done)
-}
-
 fn set_in(alloc: Global, attr: &str, words: &[Text], arg: &mut Seg<'_>) -> Result<Done, AllocError>
-    requires { 2 ≤ length arg.old.nodes.items }
     ensures arg { OnOk result
         (seg_view arg.new ≡ spec.set_in (spec.new_of attr.now words.now (Some (seg_view arg.old))) (seg_view arg.old)) }
     ensures done { IfOk result
@@ -124,23 +100,22 @@ fn set_in(alloc: Global, attr: &str, words: &[Text], arg: &mut Seg<'_>) -> Resul
     ensures unchanged { spec.sets attr.now words.now (Some (seg_view arg.old)) ≡ false → IsOk result }
     ensures err { OnErr result (seg_view arg.new ≡ seg_view arg.old) }
 {
-    let new = new_of(attr, words, &arg.nodes[2..]);
-    if is_value(new, &arg.nodes[2..]) {
+    let new = new_of(attr, words, value_of(arg));
+    if is_value(new, value_of(arg)) {
         return Ok(Done::quiet(false));
     }
-    put_value(&mut arg.nodes, new_node(alloc, new)?)?;
+    put_value(arg, new_node(alloc, new)?)?;
     Ok(Done::quiet(true))
 }
 
-// Puts a value in place of the one after a name and its sign. An `Err` leaves the nodes as they were.
-fn put_value<'a>(nodes: &mut Vec<Node<'a>>, value: Node<'a>) -> Result<(), AllocError>
-    ensures nodes { OnOk result
-        (nodes_view nodes.new.items ≡ take 2 (nodes_view nodes.old.items) ++ node_view value.entry ∷ []) }
-    ensures err { OnErr result (nodes_view nodes.new.items ≡ nodes_view nodes.old.items) }
+// Puts a value in place of the one after a name and its sign. An `Err` leaves the argument as it was.
+fn put_value<'a>(arg: &mut Seg<'a>, value: Node<'a>) -> Result<(), AllocError>
+    ensures arg { OnOk result (seg_view arg.new ≡ with_value (node_view value.entry ∷ []) (seg_view arg.old)) }
+    ensures err { OnErr result (seg_view arg.new ≡ seg_view arg.old) }
 {
-    nodes.reserve(1)?;
-    nodes.truncate(2);
-    nodes.push_reserved(value);
+    arg.nodes.reserve(1)?;
+    arg.nodes.truncate(2);
+    arg.nodes.push_reserved(value);
     Ok(())
 }
 
@@ -154,7 +129,7 @@ fn new_of<'w>(attr: &str, words: &'w [Text], was: &[Node<'_>]) -> New<'w>
             if attr == "name" {
                 return New::String(word.as_str());
             }
-            if is_list_attribute(attr) || is_one_list(was) {
+            if is_list_attribute(attr) || one_list(was).is_some() {
                 return New::Strings(words);
             }
             new_word(word.as_str())
@@ -163,36 +138,30 @@ fn new_of<'w>(attr: &str, words: &'w [Text], was: &[Node<'_>]) -> New<'w>
     }
 }
 
-fn is_one_list(value: &[Node<'_>]) -> bool
-    ensures { result ≡ spec.is_one_list (nodes_view value.now) }
-{
-    match value {
-        [node] => is_list(node),
-        _ => false,
-    }
-}
-
 // The attribute is a list in all rules.
 fn is_list_attribute(attr: &str) -> bool
     ensures { result ≡ spec.is_list_attribute attr.now }
 {
-    attr == "srcs"
-        || attr == "hdrs"
-        || attr == "textual_hdrs"
-        || attr == "deps"
-        || attr == "runtime_deps"
-        || attr == "exports"
-        || attr == "data"
-        || attr == "tools"
-        || attr == "outs"
-        || attr == "visibility"
-        || attr == "default_visibility"
-        || attr == "tags"
-        || attr == "copts"
-        || attr == "defines"
-        || attr == "includes"
-        || attr == "linkopts"
-        || attr == "features"
+    matches!(
+        attr,
+        "srcs"
+            | "hdrs"
+            | "textual_hdrs"
+            | "deps"
+            | "runtime_deps"
+            | "exports"
+            | "data"
+            | "tools"
+            | "outs"
+            | "visibility"
+            | "default_visibility"
+            | "tags"
+            | "copts"
+            | "defines"
+            | "includes"
+            | "linkopts"
+            | "features"
+    )
 }
 
 fn new_word(word: &str) -> New<'_>
@@ -242,10 +211,16 @@ fn is_value(new: New<'_>, value: &[Node<'_>]) -> bool
     match new {
         New::String(word) => is_string(word, value),
         New::Number(digits) => is_int(digits, value),
-        New::Constant(name) => is_name(name, value),
-        New::Strings(words) => match value {
-            [node] => is_list_of(words, node),
+        New::Constant(name) => match value {
+            [node] => match ident_of(node) {
+                None => false,
+                Some(text) => text == name,
+            },
             _ => false,
+        },
+        New::Strings(words) => match one_list(value) {
+            None => false,
+            Some(elements) => are_strings(words, elements),
         },
     }
 }
@@ -264,54 +239,18 @@ fn is_int(digits: &str, nodes: &[Node<'_>]) -> bool
     ensures { result ≡ spec.is_only (spec.is_int digits.now) (nodes_view nodes.now) }
 {
     match nodes {
-        [node] => is_int_token(digits, node),
-        _ => false,
-    }
-}
-
-fn is_int_token(digits: &str, node: &Node<'_>) -> bool
-    ensures { result ≡ spec.is_int digits.now (node_view node.now) }
-{
-    match node {
-        Node::Token(leaf) => match leaf.kind {
-            Kind::Int => leaf.text.as_str() == digits,
-            _ => false,
+        [node] => match node {
+            Node::Token(leaf) => match leaf.kind {
+                Kind::Int => leaf.text.as_str() == digits,
+                _ => false,
+            },
+            Node::Group(_) => false,
         },
-        Node::Group(_) => false,
-    }
-}
-
-fn is_name(name: &str, nodes: &[Node<'_>]) -> bool
-    ensures { result ≡ spec.is_only (spec.is_ident name.now) (nodes_view nodes.now) }
-{
-    match nodes {
-        [node] => is_name_token(name, node),
         _ => false,
     }
 }
 
-fn is_name_token(name: &str, node: &Node<'_>) -> bool
-    ensures { result ≡ spec.is_ident name.now (node_view node.now) }
-{
-    match ident_of(node) {
-        None => false,
-        Some(text) => text == name,
-    }
-}
-
-// A list of strings with these values, one for each word.
-fn is_list_of(words: &[Text], node: &Node<'_>) -> bool
-    ensures { result ≡ (is_list (node_view node.now) && spec.are_strings words.now (elements (node_view node.now))) }
-{
-    if !is_list(node) {
-        return false;
-    }
-    match node {
-        Node::Token(_) => false,
-        Node::Group(group) => are_strings(words, &group.segs),
-    }
-}
-
+// Strings with these values, one for each word.
 fn are_strings(words: &[Text], elements: &[Seg<'_>]) -> bool
     ensures { result ≡ spec.are_strings words.now (segs_view elements.now) }
 {

@@ -2,7 +2,7 @@
 
 ghost use Rattle.std.specs.Prelude.{◌≡◌, ◌-◌, ◌++◌, ◌∷◌, [], None, false, length, drop, option_map, IfOk, IsOk, OnOk, OnErr};
 ghost use Rattle.bz_tree.specs.Tree.{leaf, nowhere};
-ghost use Rattle.bz_tree.specs.View.{node_view, nodes_view, view, slot_view};
+ghost use Rattle.bz_tree.specs.View.{nodes_view, slot_view};
 ghost use Rattle.bz_attribute.specs.Rules.{rule_of};
 ghost use Rattle.bz_attribute.specs.Effects.{holds_rule};
 ghost use Rattle.bz_attribute.specs.Applied.{sets_kind_of};
@@ -28,22 +28,10 @@ pub fn set_kind(alloc: Global, kind: &str, slot: &mut Option<Stmt<'_>>) -> Resul
     match slot {
         None => Ok(Done::quiet(false)),
         Some(stmt) => {
-            let done = in_statement(alloc, kind, stmt)?;
+            let done = in_nodes(alloc, kind, &mut stmt.nodes)?;
             Ok(done)
         }
     }
-}
-
-fn in_statement(alloc: Global, kind: &str, stmt: &mut Stmt<'_>) -> Result<Done, AllocError>
-    ensures stmt { OnOk result (view stmt.new ≡ spec.with_kind kind.now (view stmt.old)) }
-    ensures done { IfOk result (λ done. done ≡ spec.sets_kind kind.now (rule_of (nodes_view stmt.old.nodes.items))) }
-    ensures no_rule { rule_of (nodes_view stmt.old.nodes.items) ≡ None → IsOk result }
-    ensures unchanged { (spec.sets_kind kind.now (rule_of (nodes_view stmt.old.nodes.items))).changed ≡ false
-        → IsOk result }
-    ensures err { OnErr result (view stmt.new ≡ view stmt.old) }
-{
-    let done = in_nodes(alloc, kind, &mut stmt.nodes)?;
-    Ok(done)
 }
 
 fn in_nodes(alloc: Global, kind: &str, nodes: &mut Vec<Node<'_>>) -> Result<Done, AllocError>
