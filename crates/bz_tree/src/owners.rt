@@ -129,9 +129,9 @@ impl<'a> Walk<'a> {
             ≡ after_node (line + newlines) (node_view node.entry) (walked self.old)) }
         ensures borrowed { OnOk result (walk_owned self.new ≤ walk_owned self.old + node_owned node.entry) }
     {
+        self.nodes.push(node)?;
         put_before(&mut self.suffix, &mut self.before)?;
         self.before.append(&mut self.after)?;
-        self.nodes.push(node)?;
         self.last = Before::Node(line, newlines);
         self.trailing = false;
         Ok(())
