@@ -183,11 +183,13 @@ impl<'a> Walk<'a> {
         match own {
             Own::Node(node, line, newlines) => self.add_node(node, line, newlines)?,
             Own::Note(line, text) => self.add_comment(line, text)?,
-            Own::Comma(leaf) if one => {
+            Own::Comma(leaf) => {
                 let line = leaf.line;
+                if !one {
+                    return self.add_comma(alloc, line);
+                }
                 self.add_node(Node::Token(leaf), line, 0)?;
             }
-            Own::Comma(leaf) => return self.add_comma(alloc, leaf.line),
         }
         Ok(true)
     }
