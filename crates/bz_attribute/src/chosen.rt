@@ -8,8 +8,8 @@ ghost use Rattle.bz_attribute.specs.Lists.{edit_list, edit_parts, parts, with_va
 ghost use Rattle.bz_attribute.specs.private.ChosenViews.{chosen_view};
 ghost use Rattle.bz_attribute.specs.Effects as spec;
 
-use crate::equals::{equals, equals_any};
-use crate::lists::{are_joints, is_list, is_part};
+use crate::equals::{equals, equals_any, equals_other};
+use crate::lists::{are_joints, elements_at, is_list, is_part};
 use crate::rule::is_sign;
 use crate::word_set::WordSet;
 use bz_command::{Package, Text};
@@ -17,17 +17,19 @@ use bz_tree::{Node, Seg};
 
 /// Which elements a command means.
 #[derive(Clone, Copy)]
-pub enum Chosen<'c> {
+pub enum Chosen<'c, 'w> {
     All,
     /// Those that equal one of a few words.
     Values(&'c [Text]),
     /// Those that equal a word.
     Value(&'c str),
     /// Those that equal one of many words.
-    Many(&'c WordSet<'c>),
+    Many(&'c WordSet<'w>),
+    /// Those that equal another element.
+    Like(&'c Seg<'w>),
 }
 
-pub fn is_chosen(home: &Package, chosen: Chosen<'_>, element: &Seg<'_>) -> bool
+pub fn is_chosen(home: &Package, chosen: Chosen<'_, '_>, element: &Seg<'_>) -> bool
     ensures { result ≡ spec.is_chosen home.now (chosen_view chosen.entry) (seg_view element.now) }
 {
     match chosen {
@@ -35,10 +37,12 @@ pub fn is_chosen(home: &Package, chosen: Chosen<'_>, element: &Seg<'_>) -> bool
         Chosen::Values(words) => equals_any(home, element, words),
         Chosen::Value(word) => equals(home, element, word),
         Chosen::Many(words) => words.equals_any(home, element),
+        Chosen::Like(other) => equals_other(home, element, other),
     }
 }
 
-fn any_chosen(home: &Package, chosen: Chosen<'_>, elements: &[Seg<'_>]) -> bool
+/// One of the elements is chosen.
+pub fn any_chosen(home: &Package, chosen: Chosen<'_, '_>, elements: &[Seg<'_>]) -> bool
     ensures { result ≡ list_any (spec.is_chosen home.now (chosen_view chosen.entry)) (segs_view elements.now) }
 {
     for element in elements {
@@ -49,16 +53,7 @@ fn any_chosen(home: &Package, chosen: Chosen<'_>, elements: &[Seg<'_>]) -> bool
     false
 }
 
-fn any_chosen_in(home: &Package, chosen: Chosen<'_>, node: &Node<'_>) -> bool
-    ensures { result ≡ list_any (spec.is_chosen home.now (chosen_view chosen.entry)) (elements (node_view node.now)) }
-{
-    match node {
-        Node::Token(_) => false,
-        Node::Group(group) => any_chosen(home, chosen, &group.segs),
-    }
-}
-
-pub fn is_any_chosen(home: &Package, chosen: Chosen<'_>, value: &[Node<'_>]) -> bool
+pub fn is_any_chosen(home: &Package, chosen: Chosen<'_, '_>, value: &[Node<'_>]) -> bool
     ensures { result
         ≡ list_any (list_any (spec.is_chosen home.now (chosen_view chosen.entry))) (parts (nodes_view value.now)) }
 {
@@ -67,7 +62,7 @@ pub fn is_any_chosen(home: &Package, chosen: Chosen<'_>, value: &[Node<'_>]) -> 
     }
     let mut start = true;
     for i in 0..value.len() {
-        if is_part(start, value, i) && any_chosen_in(home, chosen, &value[i]) {
+        if is_part(start, value, i) && any_chosen(home, chosen, elements_at(&value[i])) {
             return true;
         }
         start = is_sign(&value[i], "+");
@@ -76,7 +71,7 @@ pub fn is_any_chosen(home: &Package, chosen: Chosen<'_>, value: &[Node<'_>]) -> 
 }
 
 /// An element of the argument's list parts is chosen.
-pub fn chooses(home: &Package, chosen: Chosen<'_>, arg: &Seg<'_>) -> bool
+pub fn chooses(home: &Package, chosen: Chosen<'_, '_>, arg: &Seg<'_>) -> bool
     ensures { result ≡ spec.chooses home.now (chosen_view chosen.entry) (seg_view arg.now) }
 {
     if arg.nodes.len() < 2 {
@@ -86,14 +81,14 @@ pub fn chooses(home: &Package, chosen: Chosen<'_>, arg: &Seg<'_>) -> bool
 }
 
 // Drops the chosen elements.
-fn drop_chosen(home: &Package, chosen: Chosen<'_>, elements: &mut Vec<Seg<'_>>)
+fn drop_chosen(home: &Package, chosen: Chosen<'_, '_>, elements: &mut Vec<Seg<'_>>)
     ensures { segs_view elements.new.items
         ≡ spec.unchosen home.now (chosen_view chosen.entry) (segs_view elements.old.items) }
 {
     elements.retain(|element| !is_chosen(home, chosen, element));
 }
 
-fn drop_in_list(home: &Package, chosen: Chosen<'_>, node: &mut Node<'_>)
+fn drop_in_list(home: &Package, chosen: Chosen<'_, '_>, node: &mut Node<'_>)
     ensures { node_view node.new ≡ edit_list (spec.unchosen home.now (chosen_view chosen.entry)) (node_view node.old) }
 {
     if let Node::Group(group) = node {
@@ -101,7 +96,7 @@ fn drop_in_list(home: &Package, chosen: Chosen<'_>, node: &mut Node<'_>)
     }
 }
 
-fn drop_in_value(home: &Package, chosen: Chosen<'_>, value: &mut [Node<'_>])
+fn drop_in_value(home: &Package, chosen: Chosen<'_, '_>, value: &mut [Node<'_>])
     ensures { nodes_view value.new
         ≡ edit_parts (spec.unchosen home.now (chosen_view chosen.entry)) (nodes_view value.old) }
 {
@@ -119,7 +114,7 @@ fn drop_in_value(home: &Package, chosen: Chosen<'_>, value: &mut [Node<'_>])
 }
 
 /// Drops the chosen elements of the argument's list parts.
-pub fn drop_in(home: &Package, chosen: Chosen<'_>, arg: &mut Seg<'_>)
+pub fn drop_in(home: &Package, chosen: Chosen<'_, '_>, arg: &mut Seg<'_>)
     requires { 2 ≤ length arg.old.nodes.items }
     ensures { seg_view arg.new
         ≡ with_value (edit_parts (spec.unchosen home.now (chosen_view chosen.entry)) (value (seg_view arg.old)))
@@ -129,7 +124,7 @@ pub fn drop_in(home: &Package, chosen: Chosen<'_>, arg: &mut Seg<'_>)
 }
 
 // No element is left.
-fn are_chosen(home: &Package, chosen: Chosen<'_>, elements: &[Seg<'_>]) -> bool
+fn are_chosen(home: &Package, chosen: Chosen<'_, '_>, elements: &[Seg<'_>]) -> bool
     ensures { result ≡ spec.is_nil (spec.unchosen home.now (chosen_view chosen.entry) (segs_view elements.now)) }
 {
     for element in elements {
@@ -140,7 +135,7 @@ fn are_chosen(home: &Package, chosen: Chosen<'_>, elements: &[Seg<'_>]) -> bool
     true
 }
 
-fn loses_elements(home: &Package, chosen: Chosen<'_>, elements: &[Seg<'_>]) -> bool
+fn loses_elements(home: &Package, chosen: Chosen<'_, '_>, elements: &[Seg<'_>]) -> bool
     ensures { result ≡ (not (spec.is_nil (segs_view elements.now))
         && spec.is_nil (spec.unchosen home.now (chosen_view chosen.entry) (segs_view elements.now))) }
 {
@@ -150,19 +145,13 @@ fn loses_elements(home: &Package, chosen: Chosen<'_>, elements: &[Seg<'_>]) -> b
     }
 }
 
-fn loses_list(home: &Package, chosen: Chosen<'_>, node: &Node<'_>) -> bool
+fn loses_list(home: &Package, chosen: Chosen<'_, '_>, node: &Node<'_>) -> bool
     ensures { result ≡ spec.loses_all (spec.unchosen home.now (chosen_view chosen.entry)) (node_view node.now ∷ []) }
 {
-    if !is_list(node) {
-        return false;
-    }
-    match node {
-        Node::Token(_) => false,
-        Node::Group(group) => loses_elements(home, chosen, &group.segs),
-    }
+    is_list(node) && loses_elements(home, chosen, elements_at(node))
 }
 
-fn loses_value(home: &Package, chosen: Chosen<'_>, value: &[Node<'_>]) -> bool
+fn loses_value(home: &Package, chosen: Chosen<'_, '_>, value: &[Node<'_>]) -> bool
     ensures { result ≡ spec.loses_all (spec.unchosen home.now (chosen_view chosen.entry)) (nodes_view value.now) }
 {
     match value {
@@ -172,7 +161,7 @@ fn loses_value(home: &Package, chosen: Chosen<'_>, value: &[Node<'_>]) -> bool
 }
 
 /// The argument's value is one list, all of whose elements are chosen, and there are some.
-pub fn loses_all(home: &Package, chosen: Chosen<'_>, arg: &Seg<'_>) -> bool
+pub fn loses_all(home: &Package, chosen: Chosen<'_, '_>, arg: &Seg<'_>) -> bool
     ensures { result ≡ spec.loses_all (spec.unchosen home.now (chosen_view chosen.entry)) (value (seg_view arg.now)) }
 {
     if arg.nodes.len() < 2 {

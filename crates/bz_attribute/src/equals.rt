@@ -6,6 +6,7 @@ ghost use Rattle.bz_tree.specs.View.{seg_view};
 ghost use Rattle.bz_attribute.specs.Rules.{string_value};
 ghost use Rattle.bz_command.specs.Labels.{is_colon, last_of, parts_of};
 ghost use Rattle.bz_command.specs.Same as same;
+ghost use Rattle.bz_attribute.specs.private.ChosenViews.{words_of};
 ghost use Rattle.bz_attribute.specs.Lists as spec;
 ghost use Rattle.bz_command.specs.private.ByteSteps.{left, is_good, chain_bytes, is_good_chain, begins, is_bare_path};
 
@@ -33,6 +34,20 @@ pub fn equals(home: &Package, element: &Seg<'_>, word: &str) -> bool
     match string_of(element) {
         None => false,
         Some(value) => same_label(home, Bytes::Plain(word.as_bytes()), value),
+    }
+}
+
+/// Both elements are strings, and their values are the same label.
+pub(crate) fn equals_other(home: &Package, element: &Seg<'_>, other: &Seg<'_>) -> bool
+    ensures { result
+        ≡ spec.equals_any home.now (words_of (string_value (seg_view other.now).nodes)) (seg_view element.now) }
+{
+    let Some(word) = string_of(other) else {
+        return false;
+    };
+    match string_of(element) {
+        None => false,
+        Some(value) => same_label(home, word, value),
     }
 }
 

@@ -10,7 +10,7 @@ ghost use Rattle.bz_command.specs.LabelSetViews.{Gains, has};
 ghost use Rattle.bz_attribute.specs.private.ElementSets.{is_among, is_in};
 
 use crate::equals::string_of;
-use crate::lists::{are_joints, is_part};
+use crate::lists::{are_joints, elements_at, is_part};
 use crate::rule::is_sign;
 use bz_command::{LabelSet, Package};
 use bz_tree::{Node, Seg};
@@ -33,24 +33,11 @@ pub fn labels_in<'s>(
     let mut start = true;
     for i in 0..value.len() {
         if is_part(start, value, i) {
-            insert_list(&value[i], &mut set)?;
+            insert_elements(elements_at(&value[i]), &mut set)?;
         }
         start = is_sign(&value[i], "+");
     }
     Ok(set)
-}
-
-fn insert_list<'s>(node: &'s Node<'_>, set: &mut LabelSet<'s>) -> Result<(), AllocError>
-    ensures home { set.new.home.now ≡ set.old.home.now }
-    ensures ok { OnOk result (Gains (is_among set.old.home.now (elements (node_view node.now))) set.old set.new) }
-{
-    match node {
-        Node::Token(_) => Ok(()),
-        Node::Group(group) => {
-            insert_elements(&group.segs, set)?;
-            Ok(())
-        }
-    }
 }
 
 fn insert_elements<'s>(elements: &'s [Seg<'_>], set: &mut LabelSet<'s>) -> Result<(), AllocError>

@@ -2,7 +2,8 @@
 
 ghost use Rattle.std.specs.Prelude.{◌≡◌, ◌<◌, ◌+◌, length, get_or, drop, IfSome, IfNone, []};
 ghost use Rattle.std.specs.List.{list_all};
-ghost use Rattle.bz_tree.specs.View.{node_view, nodes_view, seg_view};
+ghost use Rattle.bz_tree.specs.View.{node_view, nodes_view, seg_view, segs_view};
+ghost use Rattle.bz_attribute.specs.Rules.{elements};
 ghost use Rattle.bz_attribute.specs.Lists as spec;
 ghost use Rattle.bz_attribute.specs.private.Places.{IsFirstPart};
 
@@ -47,6 +48,16 @@ pub fn is_list(node: &Node<'_>) -> bool
     match node {
         Node::Token(_) => false,
         Node::Group(group) => group.kind == GroupKind::List,
+    }
+}
+
+/// The elements of a list; of what is no group, none.
+pub fn elements_at<'n, 'a>(node: &'n Node<'a>) -> &'n [Seg<'a>]
+    ensures { segs_view result.now ≡ elements (node_view node.now) }
+{
+    match node {
+        Node::Token(_) => &[],
+        Node::Group(group) => &group.segs,
     }
 }
 

@@ -9,12 +9,14 @@ use Rattle.bz_tree.specs.declared.stmt.Seg.{Seg}
 use Rattle.bz_tree.specs.Tree.{Item, Segment}
 use Rattle.bz_tree.specs.View.{seg_view, segs_view}
 use Rattle.bz_command.specs.Labels.{Package}
-use Rattle.bz_command.specs.Commands.{Moved}
+use Rattle.bz_command.specs.Commands.{Moved, Values}
 use Rattle.bz_attribute.specs.Rules.{elements, is_named, is_text, name_of, first_named, string_value, value}
-use Rattle.bz_attribute.specs.Lists.{with_value, parts, parts_from, is_part, is_plus, is_joint, edit_list, edit_one_from, edit_first_part, edit_parts}
-use Rattle.bz_attribute.specs.Effects.{has, edit_first, filtered, unchosen, loses_all, argument, list_item}
+use Rattle.bz_attribute.specs.Lists.{with_value, parts, parts_from, is_part, is_plus, is_joint, edit_list, edit_one_from, edit_first_part, edit_parts, equals}
+use Rattle.bz_attribute.specs.Effects.{has, edit_first, filtered, unchosen, is_chosen, loses_all, argument, list_item}
+use Rattle.bz_attribute.specs.private.ChosenViews.{words_of}
 use Rattle.bz_attribute.specs.private.Places.{IsFirst}
 use Rattle.bz_attribute.specs.Moving.{arrivals, chosen_of, elements_of, is_among, joined, moved}
+use Rattle.bz_attribute.proofs.LabelSets.{or_false}
 use Rattle.bz_list_commands.proofs.Leaving.{swapped_front, swapped_rest}
 
 pub any-joined : (p : Segment → Bool) (lists : List (List Segment)) → list_any p (joined lists) ≡ list_any (list_any p) lists
@@ -148,6 +150,21 @@ moved_to_new home old new chosen args left now ts other absent is took made =
 
 pub any_there : (p : Segment → Bool) (lists : List (List Segment)) (ys : List Segment) → list_any p (joined lists ++ ys) ≡ list_any (list_any p) lists || list_any p ys
 any_there p lists ys = list_any-append p (joined lists) ys ∙ ap (λ (b : Bool). b || list_any p ys) (any-joined p lists)
+
+none_chosen : (home : Package) (ss : List Segment) → list_any (is_chosen home (Values [])) ss ≡ false
+none_chosen home [] = refl
+none_chosen home (s ∷ ss) = none_chosen home ss
+
+none_in : (home : Package) (lists : List (List Segment)) → list_any (list_any (is_chosen home (Values []))) lists ≡ false
+none_in home [] = refl
+none_in home (ss ∷ lists) = ap (λ (b : Bool). b || list_any (list_any (is_chosen home (Values []))) lists) (none_chosen home ss) ∙ none_in home lists
+
+-- what may be a string is the same label as one of these or of those
+pub like_there : (home : Package) (lists : List (List Segment)) (ys : List Segment) (o : Option (List ℕ))
+    → (list_any (list_any (is_chosen home (Values (words_of o)))) lists || list_any (is_chosen home (Values (words_of o))) ys) ≡ is_among home (joined lists ++ ys) o
+like_there home lists ys None = ap (λ (b : Bool). b || list_any (is_chosen home (Values [])) ys) (none_in home lists) ∙ none_chosen home ys
+like_there home lists ys (Some word) =
+    (λ j. list_any (list_any (λ (s : Segment). or_false (equals home word s) j)) lists || list_any (λ (s : Segment). or_false (equals home word s) j) ys) ∙ sym (any_there (equals home word) lists ys)
 
 -- those that arrive are put into the first argument of the name
 pub arrived_in : (home : Package) (attr : List ℕ) (args : List Seg) (i : ℕ) (d e s : Seg) (es later : List Segment) → IsFirst attr args i

@@ -1,15 +1,20 @@
 -- A pool of new strings, and how many of them a replacement takes.
-use Rattle.std.proofs.Common.{◌≡◌, ℕ, ◌+◌, ◌<◌, ◌≤◌, List, [], ◌∷◌, ◌++◌, Bool, true, false, ◌||◌, ◌&&◌, nat_lt, if◌then◌else◌, length, get_or, drop, set, refl, ap, sym, ◌∙◌, arith}
+use Rattle.std.proofs.Common.{◌≡◌, ℕ, ◌+◌, ◌<◌, ◌≤◌, List, [], ◌∷◌, ◌++◌, Bool, true, false, not, cond, ◌||◌, ◌&&◌, nat_lt, if◌then◌else◌, filter, length, get_or, drop, set, refl, ap, sym, ◌∙◌, arith}
 use Rattle.std.specs.List.{list_any, list_all}
-use Rattle.std.proofs.lemmas.List.{drop_more, drop-set-lt, get_or_default}
+use Rattle.std.proofs.lemmas.List.{drop_more, drop-set-lt, get_or_default, length-append}
 use Rattle.std.proofs.lemmas.Bool.Decides.{nat_tests}
 use Rattle.bz_tree.specs.declared.stmt.Node.{Node}
 use Rattle.bz_tree.specs.declared.stmt.Seg.{Seg}
 use Rattle.bz_tree.specs.Tree.{Item, Segment}
 use Rattle.bz_tree.specs.View.{node_view, nodes_view, seg_view, segs_view}
-use Rattle.bz_attribute.specs.Rules.{elements, value}
-use Rattle.bz_attribute.specs.Lists.{is_attribute, is_joint, is_part, is_plus, parts, parts_from}
-use Rattle.bz_list_commands.specs.private.ReplaceSteps.{count, count_at, count_everywhere, count_from, count_in}
+use Rattle.bz_command.specs.Commands.{Values}
+use Rattle.bz_attribute.specs.Rules.{elements, is_text, string_value, value}
+use Rattle.bz_attribute.specs.Lists.{equals, is_attribute, is_joint, is_part, is_plus, parts, parts_from}
+use Rattle.bz_attribute.specs.Effects.{is_chosen}
+use Rattle.bz_attribute.specs.Moving.{joined}
+use Rattle.bz_list_commands.specs.declared.replace.Change.{Change}
+use Rattle.bz_list_commands.specs.private.ReplaceSteps.{count, count_at, count_everywhere, count_from, count_in, goes, old_at, old_everywhere}
+use Rattle.bz_list_commands.proofs.Leaving.{filter-append}
 
 -- what is left to count, one on
 pub count_here : (p : Segment → Bool) (ss : List Seg) (i : ℕ) (d : Seg) → i < length ss → count p (segs_view (drop i ss)) ≡ (if p (seg_view (get_or ss i d)) then 1 else 0) + count p (segs_view (drop (i + 1) ss))
@@ -78,3 +83,47 @@ any_at p a = elim (is_attribute a) as (λ b. (b && list_any (list_any p) (parts 
 pub any_everywhere : (p : Segment → Bool) (args : List Segment) → list_any (λ a. is_attribute a && list_any (list_any p) (parts (value a))) args ≡ nat_lt 0 (count_everywhere p args)
 any_everywhere p [] = refl
 any_everywhere p (a ∷ args) = ap (λ (b : Bool). b || list_any (λ a. is_attribute a && list_any (list_any p) (parts (value a))) args) (any_at p a) ∙ ap (λ (b : Bool). nat_lt 0 (count_at p a) || b) (any_everywhere p args) ∙ sym (some_either (count_at p a) (count_everywhere p args))
+
+-- what is replaced equals the old value: so as many strings as elements that equal it are enough
+replaced_equals : (c : Change) (s : Segment) → goes c s ≡ true → is_chosen c.home.now (Values (c.old.now ∷ [])) s ≡ true
+replaced_equals c s h =
+    elim (equals c.home.now c.old.now s) as (λ b. (b && not (is_text c.new.now (string_value s.nodes))) ≡ true → (b || false) ≡ true)
+    [ true ↦ λ k. refl | false ↦ λ k. absurd cc ] h
+
+few_one : (goes is : Bool) (n : ℕ) (s : Segment) (rest : List Segment) → (goes ≡ true → is ≡ true) → n ≤ length rest → (if goes then 1 else 0) + n ≤ length (cond is (s ∷ rest) rest)
+few_one true true n s rest told h = omega (arith, h)
+few_one true false n s rest told h = let clash : false ≡ true = told refl in absurd cc
+few_one false true n s rest told h = omega (arith, h)
+few_one false false n s rest told h = omega (arith, h)
+
+few_elements : (c : Change) (ss : List Segment) → count (goes c) ss ≤ length (filter (is_chosen c.home.now (Values (c.old.now ∷ []))) ss)
+few_elements c [] = omega arith
+few_elements c (s ∷ ss) =
+    let old : Segment → Bool = is_chosen c.home.now (Values (c.old.now ∷ [])) in
+    few_one (goes c s) (old s) (count (goes c) ss) s (filter old ss) (replaced_equals c s) (few_elements c ss)
+
+few_from : (c : Change) (start : Bool) (xs : List Item) → count_from (goes c) start xs ≤ length (filter (is_chosen c.home.now (Values (c.old.now ∷ []))) (joined (parts_from start xs)))
+few_from c start [] = omega arith
+few_from c start (x ∷ xs) =
+    let old : Segment → Bool = is_chosen c.home.now (Values (c.old.now ∷ [])) in
+    let rest : List Segment = joined (parts_from (is_plus x) xs) in
+    elim (is_part start x xs) as (λ b. (if b then count (goes c) (elements x) else 0) + count_from (goes c) (is_plus x) xs ≤ length (filter old (joined ((if b then elements x ∷ [] else []) ++ parts_from (is_plus x) xs)))) [
+      | true ↦ omega (arith, few_elements c (elements x), few_from c (is_plus x) xs, ap length (filter-append old (elements x) rest), length-append (filter old (elements x)) (filter old rest))
+      | false ↦ omega (arith, few_from c (is_plus x) xs)
+    ]
+
+pub few_in : (c : Change) (nodes : List Item) → count_in (goes c) nodes ≤ length (filter (is_chosen c.home.now (Values (c.old.now ∷ []))) (joined (parts nodes)))
+few_in c nodes = elim (list_all is_joint nodes) as (λ b. (if b then count_from (goes c) true nodes else 0) ≤ length (filter (is_chosen c.home.now (Values (c.old.now ∷ []))) (joined (if b then parts_from true nodes else []))))
+    [ true ↦ few_from c true nodes | false ↦ omega arith ]
+
+few_at : (c : Change) (a : Segment) → count_at (goes c) a ≤ old_at c a
+few_at c a = elim (is_attribute a) as (λ b. (if b then count_in (goes c) (value a) else 0) ≤ (if b then length (filter (is_chosen c.home.now (Values (c.old.now ∷ []))) (joined (parts (value a)))) else 0))
+    [ true ↦ few_in c (value a) | false ↦ omega arith ]
+
+pub few_everywhere : (c : Change) (args : List Segment) → count_everywhere (goes c) args ≤ old_everywhere c args
+few_everywhere c [] = omega arith
+few_everywhere c (a ∷ args) = omega (arith, few_at c a, few_everywhere c args)
+
+-- the pool is shorter exactly where something was counted
+pub shorter : (left used all : ℕ) → left + used ≡ all → nat_lt left all ≡ nat_lt 0 used
+shorter left used all h = grind (arith, nat_tests)

@@ -102,18 +102,9 @@ fn add_in_value(
         return Ok(Done::failure(Note::NotAList(attr)));
     };
     let new = new_elements(alloc, home, value, values)?;
-    let changed = !are_none(&new);
+    let changed = new.len() > 0;
     append_at(value, part, new)?;
     Ok(Done::quiet(changed))
-}
-
-fn are_none(elements: &[Seg<'_>]) -> bool
-    ensures { result ≡ spec.is_nil (segs_view elements.now) }
-{
-    match elements {
-        [] => true,
-        _ => false,
-    }
 }
 
 // The elements for the values that are missing in a value's list parts.

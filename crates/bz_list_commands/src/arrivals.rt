@@ -12,12 +12,11 @@ ghost use Rattle.bz_command.specs.LabelSetViews.{Gains, has};
 ghost use Rattle.bz_attribute.specs.Moving as spec;
 ghost use Rattle.bz_list_commands.specs.private.MovingSteps.{flags, has_value, flagged};
 
+use bz_attribute::chosen::{Chosen, any_chosen, is_any_chosen};
 use bz_attribute::equals::string_of;
 use bz_attribute::list_labels::labels_in;
-use bz_attribute::lists::{are_joints, is_part};
-use bz_attribute::rule::is_sign;
 use bz_attribute::word_set::FEW;
-use bz_command::{Bytes, LabelSet, Package, same_label};
+use bz_command::{LabelSet, Package};
 use bz_tree::{Node, Seg};
 use std::alloc::{AllocError, Global};
 
@@ -130,57 +129,6 @@ fn is_among(home: &Package, value: &[Node<'_>], arrived: &[Seg<'_>], element: &S
     ensures { result ≡ spec.is_among home.now (spec.joined (parts (nodes_view value.now)) ++ segs_view arrived.now)
         (rules.string_value (seg_view element.now).nodes) }
 {
-    let Some(word) = string_of(element) else {
-        return false;
-    };
-    is_in_value(home, word, value) || is_in(home, word, arrived)
-}
-
-fn is_in_value(home: &Package, word: Bytes<'_>, value: &[Node<'_>]) -> bool
-    requires { IsTrue (is_good word) }
-    ensures { result ≡ list_any (list_any (equals home.now (left word.entry))) (parts (nodes_view value.now)) }
-{
-    if !are_joints(value) {
-        return false;
-    }
-    let mut start = true;
-    for i in 0..value.len() {
-        if is_part(start, value, i) && is_in_list(home, word, &value[i]) {
-            return true;
-        }
-        start = is_sign(&value[i], "+");
-    }
-    false
-}
-
-fn is_in_list(home: &Package, word: Bytes<'_>, node: &Node<'_>) -> bool
-    requires { IsTrue (is_good word) }
-    ensures { result ≡ list_any (equals home.now (left word.entry)) (elements (node_view node.now)) }
-{
-    match node {
-        Node::Token(_) => false,
-        Node::Group(group) => is_in(home, word, &group.segs),
-    }
-}
-
-fn is_in(home: &Package, word: Bytes<'_>, others: &[Seg<'_>]) -> bool
-    requires { IsTrue (is_good word) }
-    ensures { result ≡ list_any (equals home.now (left word.entry)) (segs_view others.now) }
-{
-    for other in others {
-        if is_same(home, word, other) {
-            return true;
-        }
-    }
-    false
-}
-
-fn is_same(home: &Package, word: Bytes<'_>, element: &Seg<'_>) -> bool
-    requires { IsTrue (is_good word) }
-    ensures { result ≡ equals home.now (left word.entry) (seg_view element.now) }
-{
-    let Some(value) = string_of(element) else {
-        return false;
-    };
-    same_label(home, word, value)
+    is_any_chosen(home, Chosen::Like(element), value)
+        || any_chosen(home, Chosen::Like(element), arrived)
 }

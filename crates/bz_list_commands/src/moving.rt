@@ -13,14 +13,14 @@ ghost use Rattle.bz_attribute.specs.Effects as effects;
 ghost use Rattle.bz_attribute.specs.Moving as spec;
 
 use crate::arrivals::keep_arrivals;
-use crate::remove::chooses_first;
 use crate::taking::{count_chosen, take_from};
-use bz_attribute::chosen::Chosen;
+use bz_attribute::chosen::{Chosen, chooses};
 use bz_attribute::done::{Done, Note};
 use bz_attribute::find::find;
-use bz_attribute::lists::first_part;
+use bz_attribute::lists::{elements_at, first_part};
 use bz_attribute::make::{argument_head, list_with};
-use bz_attribute::word_set::{FEW, WordSet, word_set};
+use bz_attribute::rule::first_named;
+use bz_attribute::word_set::{FEW, word_set};
 use bz_command::{Moved, Package, Text};
 use bz_tree::{Node, Seg};
 use std::alloc::{AllocError, Global};
@@ -74,28 +74,9 @@ fn move_values(
         return move_those(alloc, home, old, new, Chosen::Values(values), args);
     }
     let words = word_set(alloc, home, values)?;
-    let done = move_many(alloc, home, old, new, &words, args)?;
+    let chosen = Chosen::Many(&words);
+    let done = move_those(alloc, home, old, new, chosen, args)?;
     Ok(done)
-}
-
-fn move_many(
-    alloc: Global,
-    home: &Package,
-    old: &str,
-    new: &str,
-    words: &WordSet<'_>,
-    args: &mut Vec<Seg<'_>>,
-) -> Result<Done, AllocError>
-    requires { bytes_eq old.now new.now ≡ false }
-    ensures args { OnOk result
-        (segs_view args.new.items
-        ≡ spec.moved_where home.now old.now new.now (Values words.now.words.now) (segs_view args.old.items)) }
-    ensures done { IfOk result
-        (λ done. done
-        ≡ effects.done None (spec.moves home.now old.now (Values words.now.words.now) (segs_view args.old.items))) }
-    ensures err { OnErr result (segs_view args.new.items ≡ segs_view args.old.items) }
-{
-    move_those(alloc, home, old, new, Chosen::Many(words), args)
 }
 
 fn move_those(
@@ -103,7 +84,7 @@ fn move_those(
     home: &Package,
     old: &str,
     new: &str,
-    chosen: Chosen<'_>,
+    chosen: Chosen<'_, '_>,
     args: &mut Vec<Seg<'_>>,
 ) -> Result<Done, AllocError>
     requires { bytes_eq old.now new.now ≡ false }
@@ -115,7 +96,10 @@ fn move_those(
         ≡ effects.done None (spec.moves home.now old.now (chosen_view chosen.entry) (segs_view args.old.items))) }
     ensures err { OnErr result (segs_view args.new.items ≡ segs_view args.old.items) }
 {
-    if !chooses_first(home, old, chosen, args) {
+    let Some(arg) = first_named(args, old) else {
+        return Ok(Done::quiet(false));
+    };
+    if !chooses(home, chosen, arg) {
         return Ok(Done::quiet(false));
     }
     move_chosen(alloc, home, old, new, chosen, args)?;
@@ -159,7 +143,7 @@ fn move_chosen(
     home: &Package,
     old: &str,
     new: &str,
-    chosen: Chosen<'_>,
+    chosen: Chosen<'_, '_>,
     args: &mut Vec<Seg<'_>>,
 ) -> Result<(), AllocError>
     requires { bytes_eq old.now new.now ≡ false }
@@ -179,7 +163,7 @@ fn move_to_new(
     home: &Package,
     old: &str,
     new: &str,
-    chosen: Chosen<'_>,
+    chosen: Chosen<'_, '_>,
     args: &mut Vec<Seg<'_>>,
 ) -> Result<(), AllocError>
     requires other { bytes_eq old.now new.now ≡ false }
@@ -204,7 +188,7 @@ fn move_to_list(
     home: &Package,
     old: &str,
     new: &str,
-    chosen: Chosen<'_>,
+    chosen: Chosen<'_, '_>,
     args: &mut Vec<Seg<'_>>,
 ) -> Result<(), AllocError>
     requires other { bytes_eq old.now new.now ≡ false }
@@ -230,25 +214,11 @@ fn count_first(attr: &str, args: &[Seg<'_>]) -> usize
     let Some(i) = find(args, attr) else {
         return 0;
     };
-    count_first_part(&args[i].nodes[2..])
-}
-
-fn count_first_part(value: &[Node<'_>]) -> usize
-    ensures { result ≡ length (first_list (parts (nodes_view value.now))) }
-{
+    let value = &args[i].nodes[2..];
     let Some(part) = first_part(value) else {
         return 0;
     };
-    count_elements(&value[part])
-}
-
-fn count_elements(node: &Node<'_>) -> usize
-    ensures { result ≡ length (elements (node_view node.now)) }
-{
-    match node {
-        Node::Token(_) => 0,
-        Node::Group(group) => group.segs.len(),
-    }
+    elements_at(&value[part]).len()
 }
 
 // Of the elements, those that are not there yet go to the end of the first list part.

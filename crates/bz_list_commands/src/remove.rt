@@ -15,8 +15,8 @@ use bz_attribute::chosen::{Chosen, chooses, drop_in, loses_all};
 use bz_attribute::done::Done;
 use bz_attribute::find::find;
 use bz_attribute::lists::is_attribute;
-use bz_attribute::rule::{first_named, is_named};
-use bz_attribute::word_set::{FEW, WordSet, word_set};
+use bz_attribute::rule::is_named;
+use bz_attribute::word_set::{FEW, word_set};
 use bz_command::{Attributes, Package, Text};
 use bz_tree::Seg;
 use std::alloc::{AllocError, Global};
@@ -110,80 +110,31 @@ fn remove_values(
         return Ok(Done::quiet(false));
     };
     let words = word_set(alloc, home, values)?;
-    Ok(remove_many(home, attr, &words, args))
+    Ok(remove_chosen(home, attr, Chosen::Many(&words), args))
 }
 
-fn remove_many(home: &Package, attr: &str, words: &WordSet<'_>, args: &mut Vec<Seg<'_>>) -> Done
-    ensures args { segs_view args.new.items
-        ≡ spec.remove_values home.now attr.now words.now.words.now (segs_view args.old.items) }
-    ensures done { result ≡ spec.done None
-        (spec.chooses_in home.now (Values words.now.words.now) (first_named attr.now (segs_view args.old.items))) }
-{
-    remove_chosen(home, attr, Chosen::Many(words), args)
-}
-
-fn remove_chosen(home: &Package, attr: &str, chosen: Chosen<'_>, args: &mut Vec<Seg<'_>>) -> Done
+fn remove_chosen(
+    home: &Package,
+    attr: &str,
+    chosen: Chosen<'_, '_>,
+    args: &mut Vec<Seg<'_>>,
+) -> Done
     ensures args { segs_view args.new.items
         ≡ edit_first (is_named attr.now) (spec.filtered (spec.unchosen home.now (chosen_view chosen.entry)))
         (segs_view args.old.items) }
     ensures done { result ≡ spec.done None
         (spec.chooses_in home.now (chosen_view chosen.entry) (first_named attr.now (segs_view args.old.items))) }
 {
-    let changed = chooses_first(home, attr, chosen, args);
-    drop_from(home, attr, chosen, args);
-    Done::quiet(changed)
-}
-
-/// An element of the first argument of a name is chosen.
-pub(crate) fn chooses_first(
-    home: &Package,
-    attr: &str,
-    chosen: Chosen<'_>,
-    args: &[Seg<'_>],
-) -> bool
-    ensures { result ≡ spec.chooses_in home.now (chosen_view chosen.entry) (first_named attr.now (segs_view args.now)) }
-{
-    match first_named(args, attr) {
-        None => false,
-        Some(arg) => chooses(home, chosen, arg),
-    }
-}
-
-/// Drops the chosen elements of the first argument of a name, and the argument where none is left.
-pub(crate) fn drop_from(home: &Package, attr: &str, chosen: Chosen<'_>, args: &mut Vec<Seg<'_>>)
-    ensures { segs_view args.new.items
-        ≡ edit_first (is_named attr.now) (spec.filtered (spec.unchosen home.now (chosen_view chosen.entry)))
-        (segs_view args.old.items) }
-{
-    if let Some(i) = drop_in_first(home, attr, chosen, args) {
-        let _ = args.remove(i);
-    }
-}
-
-// Drops them in place, or answers where the argument stands that has to go.
-fn drop_in_first(
-    home: &Package,
-    attr: &str,
-    chosen: Chosen<'_>,
-    args: &mut [Seg<'_>],
-) -> Option<usize>
-    ensures edited { IfNone result
-        (segs_view args.new ≡ edit_first (is_named attr.now)
-        (spec.filtered (spec.unchosen home.now (chosen_view chosen.entry))) (segs_view args.old)) }
-    ensures goes { IfSome result
-        (λ i. (i < length args.new)
-        × (segs_view (remove args.new i)
-        ≡ edit_first (is_named attr.now) (spec.filtered (spec.unchosen home.now (chosen_view chosen.entry)))
-        (segs_view args.old))) }
-{
     let Some(i) = find(args, attr) else {
-        return None;
+        return Done::quiet(false);
     };
+    let changed = chooses(home, chosen, &args[i]);
     if loses_all(home, chosen, &args[i]) {
-        return Some(i);
+        let _ = args.remove(i);
+    } else {
+        drop_in(home, chosen, &mut args[i]);
     }
-    drop_in(home, chosen, &mut args[i]);
-    None
+    Done::quiet(changed)
 }
 
 // Drops the elements that equal a value from each attribute, and each attribute where none is left.
@@ -205,39 +156,23 @@ fn remove_everywhere(
         return Ok(remove_chosen_everywhere(home, Chosen::Values(values), args));
     }
     let words = word_set(alloc, home, values)?;
-    Ok(remove_many_everywhere(home, &words, args))
+    let chosen = Chosen::Many(&words);
+    Ok(remove_chosen_everywhere(home, chosen, args))
 }
 
-fn remove_many_everywhere(home: &Package, words: &WordSet<'_>, args: &mut Vec<Seg<'_>>) -> Done
-    ensures args { segs_view args.new.items
-        ≡ spec.filtered_everywhere (spec.unchosen home.now (Values words.now.words.now)) (segs_view args.old.items) }
-    ensures done { result
-        ≡ spec.done None (spec.chooses_anywhere home.now (Values words.now.words.now) (segs_view args.old.items)) }
-{
-    remove_chosen_everywhere(home, Chosen::Many(words), args)
-}
-
-fn remove_chosen_everywhere(home: &Package, chosen: Chosen<'_>, args: &mut Vec<Seg<'_>>) -> Done
+fn remove_chosen_everywhere(home: &Package, chosen: Chosen<'_, '_>, args: &mut Vec<Seg<'_>>) -> Done
     ensures args { segs_view args.new.items
         ≡ spec.filtered_everywhere (spec.unchosen home.now (chosen_view chosen.entry)) (segs_view args.old.items) }
     ensures done { result
         ≡ spec.done None (spec.chooses_anywhere home.now (chosen_view chosen.entry) (segs_view args.old.items)) }
 {
     let changed = chooses_anywhere(home, chosen, args);
-    drop_lost(home, chosen, args);
-    drop_in_attributes(home, chosen, args);
+    args.retain(|arg| !is_lost(home, chosen, arg));
+    drop_everywhere(home, chosen, args);
     Done::quiet(changed)
 }
 
-// Drops each attribute of which no element would be left.
-fn drop_lost(home: &Package, chosen: Chosen<'_>, args: &mut Vec<Seg<'_>>)
-    ensures { segs_view args.new.items
-        ≡ filter (λ a. not (is_lost (spec.unchosen home.now (chosen_view chosen.entry)) a)) (segs_view args.old.items) }
-{
-    args.retain(|arg| !is_lost(home, chosen, arg));
-}
-
-fn chooses_anywhere(home: &Package, chosen: Chosen<'_>, args: &[Seg<'_>]) -> bool
+fn chooses_anywhere(home: &Package, chosen: Chosen<'_, '_>, args: &[Seg<'_>]) -> bool
     ensures { result ≡ spec.chooses_anywhere home.now (chosen_view chosen.entry) (segs_view args.now) }
 {
     for arg in args {
@@ -248,20 +183,14 @@ fn chooses_anywhere(home: &Package, chosen: Chosen<'_>, args: &[Seg<'_>]) -> boo
     false
 }
 
-fn is_lost(home: &Package, chosen: Chosen<'_>, arg: &Seg<'_>) -> bool
+// No element of the attribute would be left.
+fn is_lost(home: &Package, chosen: Chosen<'_, '_>, arg: &Seg<'_>) -> bool
     ensures { result ≡ is_lost (spec.unchosen home.now (chosen_view chosen.entry)) (seg_view arg.now) }
 {
     is_attribute(arg) && loses_all(home, chosen, arg)
 }
 
-fn drop_in_attributes(home: &Package, chosen: Chosen<'_>, args: &mut Vec<Seg<'_>>)
-    ensures { segs_view args.new.items
-        ≡ map (edit_attribute (spec.unchosen home.now (chosen_view chosen.entry))) (segs_view args.old.items) }
-{
-    drop_everywhere(home, chosen, args);
-}
-
-fn drop_everywhere(home: &Package, chosen: Chosen<'_>, args: &mut [Seg<'_>])
+fn drop_everywhere(home: &Package, chosen: Chosen<'_, '_>, args: &mut [Seg<'_>])
     ensures { segs_view args.new
         ≡ map (edit_attribute (spec.unchosen home.now (chosen_view chosen.entry))) (segs_view args.old) }
 {
@@ -270,7 +199,7 @@ fn drop_everywhere(home: &Package, chosen: Chosen<'_>, args: &mut [Seg<'_>])
     }
 }
 
-fn drop_in_attribute(home: &Package, chosen: Chosen<'_>, arg: &mut Seg<'_>)
+fn drop_in_attribute(home: &Package, chosen: Chosen<'_, '_>, arg: &mut Seg<'_>)
     ensures { seg_view arg.new ≡ edit_attribute (spec.unchosen home.now (chosen_view chosen.entry)) (seg_view arg.old) }
 {
     if !is_attribute(arg) {

@@ -10,8 +10,10 @@ ghost use Rattle.bz_attribute.specs.Lists.{edit_list, edit_parts, is_part};
 ghost use Rattle.bz_attribute.specs.Effects.{done};
 ghost use Rattle.bz_list_commands.specs.private.EditSteps.{edit_attribute};
 ghost use Rattle.bz_attribute.specs.Replacing as spec;
-ghost use Rattle.bz_list_commands.specs.private.ReplaceSteps.{AreStrings, count, count_at, count_everywhere, count_from, count_in, goes, put};
+ghost use Rattle.bz_list_commands.specs.private.ReplaceSteps.{AreStrings, count, count_at, count_everywhere, count_in, goes, old_at, old_everywhere, put};
 
+use crate::taking::count_in_value;
+use bz_attribute::chosen::Chosen;
 use bz_attribute::done::Done;
 use bz_attribute::equals::equals;
 use bz_attribute::find::find;
@@ -50,31 +52,11 @@ pub fn replace(
     let change = Change { home, old, new };
     match attributes {
         Attributes::Every => replace_everywhere(alloc, change, args),
-        Attributes::Named(attr) => replace_in_first(alloc, change, attr.as_str(), args),
+        Attributes::Named(attr) => match find(args, attr.as_str()) {
+            None => Ok(Done::quiet(false)),
+            Some(i) => replace_in(alloc, change, &mut args[i]),
+        },
     }
-}
-
-fn replace_in_first(
-    alloc: Global,
-    change: Change<'_>,
-    attr: &str,
-    args: &mut [Seg<'_>],
-) -> Result<Done, AllocError>
-    ensures args { OnOk result
-        (segs_view args.new
-        ≡ spec.replace change.entry.home.now (Named attr.now) change.entry.old.now change.entry.new.now
-        (segs_view args.old)) }
-    ensures done { IfOk result
-        (λ d. d ≡ done None
-        (spec.replaces change.entry.home.now (Named attr.now) change.entry.old.now change.entry.new.now
-        (segs_view args.old))) }
-    ensures err { OnErr result (segs_view args.new ≡ segs_view args.old) }
-{
-    let Some(i) = find(args, attr) else {
-        return Ok(Done::quiet(false));
-    };
-    let done = replace_in(alloc, change, &mut args[i])?;
-    Ok(done)
 }
 
 fn replace_in(alloc: Global, change: Change<'_>, arg: &mut Seg<'_>) -> Result<Done, AllocError>
@@ -88,11 +70,10 @@ fn replace_in(alloc: Global, change: Change<'_>, arg: &mut Seg<'_>) -> Result<Do
         (spec.replaces_in change.entry.home.now change.entry.old.now change.entry.new.now (seg_view arg.old))) }
     ensures err { OnErr result (seg_view arg.new ≡ seg_view arg.old) }
 {
-    let mut pool = Vec::new(alloc);
-    make_for_value(alloc, change, &arg.nodes[2..], &mut pool)?;
-    let changed = pool.len() > 0;
+    let count = count_in_value(change.home, Chosen::Value(change.old), &arg.nodes[2..])?;
+    let mut pool = copies(alloc, change.new, count)?;
     put_in_value(change, &mut arg.nodes[2..], &mut pool);
-    Ok(Done::quiet(changed))
+    Ok(Done::quiet(pool.len() < count))
 }
 
 fn replace_everywhere(
@@ -108,11 +89,10 @@ fn replace_everywhere(
         (spec.replaces change.entry.home.now Every change.entry.old.now change.entry.new.now (segs_view args.old))) }
     ensures err { OnErr result (segs_view args.new ≡ segs_view args.old) }
 {
-    let mut pool = Vec::new(alloc);
-    make_for_args(alloc, change, args, &mut pool)?;
-    let changed = pool.len() > 0;
+    let count = count_old(change, args)?;
+    let mut pool = copies(alloc, change.new, count)?;
     put_in_args(change, args, &mut pool);
-    Ok(Done::quiet(changed))
+    Ok(Done::quiet(pool.len() < count))
 }
 
 fn is_replaced(change: Change<'_>, element: &Seg<'_>) -> bool
@@ -130,147 +110,52 @@ fn is_exactly(element: &Seg<'_>, word: &str) -> bool
     }
 }
 
-// Makes a new string for each element that is replaced in the attributes.
-fn make_for_args<'a>(
-    alloc: Global,
-    change: Change<'_>,
-    args: &[Seg<'_>],
-    pool: &mut Vec<Seg<'a>>,
-) -> Result<(), AllocError>
-    requires { AreStrings change.new.now pool.old.items }
-    ensures strings { OnOk result (AreStrings change.entry.new.now pool.new.items) }
-    ensures count { OnOk result
-        (length pool.new.items ≡ length pool.old.items + count_everywhere (goes change.entry) (segs_view args.now)) }
+// How many elements of the attributes equal the old value: so many strings are enough.
+fn count_old(change: Change<'_>, args: &[Seg<'_>]) -> Result<usize, AllocError>
+    ensures { IfOk result (λ n. n ≡ old_everywhere change.entry (segs_view args.now)) }
 {
+    let mut count: usize = 0;
     for arg in args {
-        make_for_attribute(alloc, change, arg, pool)?;
+        let more = count_in_attribute(change, arg)?;
+        let Some(sum) = count.checked_add(more) else {
+            return Err(AllocError);
+        };
+        count = sum;
     }
-    Ok(())
+    Ok(count)
 }
 
-fn make_for_attribute<'a>(
-    alloc: Global,
-    change: Change<'_>,
-    arg: &Seg<'_>,
-    pool: &mut Vec<Seg<'a>>,
-) -> Result<(), AllocError>
-    requires { AreStrings change.new.now pool.old.items }
-    ensures strings { OnOk result (AreStrings change.entry.new.now pool.new.items) }
-    ensures count { OnOk result
-        (length pool.new.items ≡ length pool.old.items + count_at (goes change.entry) (seg_view arg.now)) }
+fn count_in_attribute(change: Change<'_>, arg: &Seg<'_>) -> Result<usize, AllocError>
+    ensures { IfOk result (λ n. n ≡ old_at change.entry (seg_view arg.now)) }
 {
     if !is_attribute(arg) {
-        return Ok(());
+        return Ok(0);
     }
     if arg.nodes.len() < 2 {
-        return Ok(());
+        return Ok(0);
     }
-    make_for_value(alloc, change, &arg.nodes[2..], pool)
+    count_in_value(change.home, Chosen::Value(change.old), &arg.nodes[2..])
 }
 
-// The same in the list parts of a value.
-fn make_for_value<'a>(
-    alloc: Global,
-    change: Change<'_>,
-    value: &[Node<'_>],
-    pool: &mut Vec<Seg<'a>>,
-) -> Result<(), AllocError>
-    requires { AreStrings change.new.now pool.old.items }
-    ensures strings { OnOk result (AreStrings change.entry.new.now pool.new.items) }
-    ensures count { OnOk result
-        (length pool.new.items ≡ length pool.old.items + count_in (goes change.entry) (nodes_view value.now)) }
+// So many new strings of one value.
+fn copies<'a>(alloc: Global, value: &str, count: usize) -> Result<Vec<Seg<'a>>, AllocError>
+    ensures strings { IfOk result (λ pool. AreStrings value.now pool.items) }
+    ensures count { IfOk result (λ pool. length pool.items ≡ count) }
 {
-    if !are_joints(value) {
-        return Ok(());
+    let mut pool = Vec::with_capacity(alloc, count)?;
+    for _ in 0..count {
+        pool.push(string(alloc, value)?)?;
     }
-    let mut start = true;
-    for i in 0..value.len() {
-        make_at(alloc, change, start, value, i, pool)?;
-        start = is_sign(&value[i], "+");
-    }
-    Ok(())
-}
-
-// The same in the node at `i`, where it is a list part.
-fn make_at<'a>(
-    alloc: Global,
-    change: Change<'_>,
-    start: bool,
-    value: &[Node<'_>],
-    i: usize,
-    pool: &mut Vec<Seg<'a>>,
-) -> Result<(), AllocError>
-    requires strings { AreStrings change.new.now pool.old.items }
-    requires within { i < length value.now }
-    ensures strings { OnOk result (AreStrings change.entry.new.now pool.new.items) }
-    ensures count { (d : _) → OnOk result (length pool.new.items
-        ≡ length pool.old.items +
-        (if is_part start (node_view (get_or value.now i d)) (nodes_view (drop (i + 1) value.now))
-        then count (goes change.entry) (elements (node_view (get_or value.now i d))) else 0)) }
-{
-    if !is_part(start, value, i) {
-        return Ok(());
-    }
-    make_for_list(alloc, change, &value[i], pool)
-}
-
-fn make_for_list<'a>(
-    alloc: Global,
-    change: Change<'_>,
-    node: &Node<'_>,
-    pool: &mut Vec<Seg<'a>>,
-) -> Result<(), AllocError>
-    requires { AreStrings change.new.now pool.old.items }
-    ensures strings { OnOk result (AreStrings change.entry.new.now pool.new.items) }
-    ensures count { OnOk result
-        (length pool.new.items ≡ length pool.old.items + count (goes change.entry) (elements (node_view node.now))) }
-{
-    match node {
-        Node::Token(_) => Ok(()),
-        Node::Group(group) => make_for_elements(alloc, change, &group.segs, pool),
-    }
-}
-
-fn make_for_elements<'a>(
-    alloc: Global,
-    change: Change<'_>,
-    elements: &[Seg<'_>],
-    pool: &mut Vec<Seg<'a>>,
-) -> Result<(), AllocError>
-    requires { AreStrings change.new.now pool.old.items }
-    ensures strings { OnOk result (AreStrings change.entry.new.now pool.new.items) }
-    ensures count { OnOk result
-        (length pool.new.items ≡ length pool.old.items + count (goes change.entry) (segs_view elements.now)) }
-{
-    for element in elements {
-        make_for(alloc, change, element, pool)?;
-    }
-    Ok(())
-}
-
-fn make_for<'a>(
-    alloc: Global,
-    change: Change<'_>,
-    element: &Seg<'_>,
-    pool: &mut Vec<Seg<'a>>,
-) -> Result<(), AllocError>
-    requires { AreStrings change.new.now pool.old.items }
-    ensures strings { OnOk result (AreStrings change.entry.new.now pool.new.items) }
-    ensures count { OnOk result
-        (length pool.new.items ≡ length pool.old.items + (if goes change.entry (seg_view element.now) then 1 else 0)) }
-{
-    if !is_replaced(change, element) {
-        return Ok(());
-    }
-    pool.push(string(alloc, change.new)?)?;
-    Ok(())
+    Ok(pool)
 }
 
 // Puts strings of the pool into the attributes.
 fn put_in_args<'a>(change: Change<'_>, args: &mut [Seg<'a>], pool: &mut Vec<Seg<'a>>)
     requires strings { AreStrings change.new.now pool.old.items }
     requires enough { count_everywhere (goes change) (segs_view args.old) ≤ length pool.old.items }
-    ensures { segs_view args.new ≡ map (edit_attribute (put change.entry)) (segs_view args.old) }
+    ensures args { segs_view args.new ≡ map (edit_attribute (put change.entry)) (segs_view args.old) }
+    ensures left { length pool.new.items + count_everywhere (goes change.entry) (segs_view args.old)
+        ≡ length pool.old.items }
 {
     for i in 0..args.len() {
         put_in_attribute(change, &mut args[i], pool);

@@ -11,7 +11,7 @@ ghost use Rattle.bz_attribute.specs.Moving.{chosen_of, joined};
 
 use bz_attribute::chosen::{Chosen, is_chosen, loses_all};
 use bz_attribute::find::find;
-use bz_attribute::lists::{are_joints, is_part};
+use bz_attribute::lists::{are_joints, elements_at, is_part};
 use bz_attribute::rule::is_sign;
 use bz_command::Package;
 use bz_tree::{Node, Seg};
@@ -22,7 +22,7 @@ use std::mem;
 pub(crate) fn count_chosen(
     home: &Package,
     attr: &str,
-    chosen: Chosen<'_>,
+    chosen: Chosen<'_, '_>,
     args: &[Seg<'_>],
 ) -> Result<usize, AllocError>
     ensures { IfOk result
@@ -34,9 +34,10 @@ pub(crate) fn count_chosen(
     count_in_value(home, chosen, &args[i].nodes[2..])
 }
 
-fn count_in_value(
+/// How many elements of the list parts of a value are chosen.
+pub(crate) fn count_in_value(
     home: &Package,
-    chosen: Chosen<'_>,
+    chosen: Chosen<'_, '_>,
     value: &[Node<'_>],
 ) -> Result<usize, AllocError>
     ensures { IfOk result (λ n. n ≡ length
@@ -49,7 +50,8 @@ fn count_in_value(
     let mut start = true;
     for i in 0..value.len() {
         if is_part(start, value, i) {
-            let Some(sum) = count.checked_add(count_in_list(home, chosen, &value[i])) else {
+            let Some(sum) = count.checked_add(count_elements(home, chosen, elements_at(&value[i])))
+            else {
                 return Err(AllocError);
             };
             count = sum;
@@ -59,17 +61,7 @@ fn count_in_value(
     Ok(count)
 }
 
-fn count_in_list(home: &Package, chosen: Chosen<'_>, node: &Node<'_>) -> usize
-    ensures { result
-        ≡ length (filter (spec.is_chosen home.now (chosen_view chosen.entry)) (elements (node_view node.now))) }
-{
-    match node {
-        Node::Token(_) => 0,
-        Node::Group(group) => count_elements(home, chosen, &group.segs),
-    }
-}
-
-fn count_elements(home: &Package, chosen: Chosen<'_>, elements: &[Seg<'_>]) -> usize
+fn count_elements(home: &Package, chosen: Chosen<'_, '_>, elements: &[Seg<'_>]) -> usize
     ensures { result ≡ length (filter (spec.is_chosen home.now (chosen_view chosen.entry)) (segs_view elements.now)) }
 {
     let mut count = 0;
@@ -87,7 +79,7 @@ pub(crate) fn take_from<'a>(
     alloc: Global,
     home: &Package,
     attr: &str,
-    chosen: Chosen<'_>,
+    chosen: Chosen<'_, '_>,
     args: &mut Vec<Seg<'a>>,
     taken: &mut Vec<Seg<'a>>,
 )
@@ -113,7 +105,7 @@ fn take_in_first<'a>(
     alloc: Global,
     home: &Package,
     attr: &str,
-    chosen: Chosen<'_>,
+    chosen: Chosen<'_, '_>,
     args: &mut [Seg<'a>],
     taken: &mut Vec<Seg<'a>>,
 ) -> Option<usize>
@@ -145,7 +137,7 @@ fn take_in_first<'a>(
 fn take_in<'a>(
     alloc: Global,
     home: &Package,
-    chosen: Chosen<'_>,
+    chosen: Chosen<'_, '_>,
     arg: &mut Seg<'a>,
     taken: &mut Vec<Seg<'a>>,
 )
@@ -166,7 +158,7 @@ fn take_in<'a>(
 fn take_in_value<'a>(
     alloc: Global,
     home: &Package,
-    chosen: Chosen<'_>,
+    chosen: Chosen<'_, '_>,
     value: &mut [Node<'a>],
     taken: &mut Vec<Seg<'a>>,
 )
@@ -195,7 +187,7 @@ fn take_in_value<'a>(
 fn take_in_list<'a>(
     alloc: Global,
     home: &Package,
-    chosen: Chosen<'_>,
+    chosen: Chosen<'_, '_>,
     node: &mut Node<'a>,
     taken: &mut Vec<Seg<'a>>,
 )
@@ -216,7 +208,7 @@ fn take_in_list<'a>(
 fn take_chosen<'a>(
     alloc: Global,
     home: &Package,
-    chosen: Chosen<'_>,
+    chosen: Chosen<'_, '_>,
     elements: &mut Vec<Seg<'a>>,
     taken: &mut Vec<Seg<'a>>,
 )
@@ -237,7 +229,7 @@ fn take_chosen<'a>(
 fn part_elements<'a>(
     alloc: Global,
     home: &Package,
-    chosen: Chosen<'_>,
+    chosen: Chosen<'_, '_>,
     elements: &mut [Seg<'a>],
     taken: &mut Vec<Seg<'a>>,
 ) -> usize

@@ -1,12 +1,14 @@
 -- For private clauses alone: which elements a replacement changes, and how many new literals it takes.
-use Rattle.std.specs.Prelude.{◌≡◌, ℕ, ◌+◌, List, [], ◌∷◌, Bool, true, if◌then◌else◌, length, map, replicate}
+use Rattle.std.specs.Prelude.{◌≡◌, ℕ, ◌+◌, List, [], ◌∷◌, Bool, true, if◌then◌else◌, length, map, filter, replicate}
 use Rattle.std.specs.List.{list_all}
 use Rattle.bz_tree.specs.declared.stmt.Seg.{Seg}
 use Rattle.bz_tree.specs.Tree.{Item, Segment}
 use Rattle.bz_tree.specs.View.{segs_view}
 use Rattle.bz_attribute.specs.Rules.{elements, value}
-use Rattle.bz_attribute.specs.Lists.{is_attribute, is_joint, is_part, is_plus}
-use Rattle.bz_attribute.specs.Effects.{string}
+use Rattle.bz_command.specs.Commands.{Values}
+use Rattle.bz_attribute.specs.Lists.{is_attribute, is_joint, is_part, is_plus, parts}
+use Rattle.bz_attribute.specs.Effects.{is_chosen, string}
+use Rattle.bz_attribute.specs.Moving.{joined}
 use Rattle.bz_attribute.specs.Replacing.{is_replaced, replaced}
 use Rattle.bz_list_commands.specs.declared.replace.Change.{Change}
 
@@ -36,6 +38,14 @@ count_at p a = if is_attribute a then count_in p (value a) else 0
 abbrev pub count_everywhere : (Segment → Bool) → List Segment → ℕ
 count_everywhere p [] = 0
 count_everywhere p (a ∷ args) = count_at p a + count_everywhere p args
+
+-- how many elements of the list parts of an attribute equal the old value
+abbrev pub old_at : Change → Segment → ℕ
+old_at c a = if is_attribute a then length (filter (is_chosen c.home.now (Values (c.old.now ∷ []))) (joined (parts (value a)))) else 0
+
+abbrev pub old_everywhere : Change → List Segment → ℕ
+old_everywhere c [] = 0
+old_everywhere c (a ∷ args) = old_at c a + old_everywhere c args
 
 -- each is a new string of this value
 abbrev pub AreStrings : List ℕ → List Seg → Type 0

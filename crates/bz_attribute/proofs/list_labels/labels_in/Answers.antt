@@ -2,16 +2,14 @@ use Rattle.std.proofs.Common.{◌≡◌, List, [], Bool, true, false, ◌||◌, 
 use Rattle.std.specs.List.{list_all}
 use Rattle.std.proofs.lemmas.List.{at_drop_all}
 use Rattle.bz_tree.specs.declared.stmt.Node.{Node}
-use Rattle.bz_tree.specs.View.{node_view, nodes_view}
-use Rattle.bz_command.specs.Labels.{Package}
+use Rattle.bz_tree.specs.View.{nodes_view}
 use Rattle.bz_attribute.specs.Lists.{is_joint, parts_from}
-use Rattle.bz_attribute.specs.Rules.{elements}
 use Rattle.bz_command.specs.declared.label_set.LabelSet.{LabelSet}
 use Rattle.bz_command.specs.LabelSetViews.{has}
 use Rattle.bz_attribute.specs.private.ElementSets.{is_among, is_in}
 use Rattle.bz_attribute.proofs.LabelSets.{or_false, part_step}
 use Rattle.bz_attribute.proofs.list_labels.labels_in.Goals as goal
-use Rattle.bz_attribute.proofs.list_labels.labels_in.Goals.{then-is_part+in_ok-insert_list, else-is_part}
+use Rattle.bz_attribute.proofs.list_labels.labels_in.Goals.{then-is_part+in_ok-insert_elements, else-is_part}
 
 pub returns-then-not-are_joints-clause-all : goal.returns-then-not-are_joints-clause-all
 returns-then-not-are_joints-clause-all c = λ text.
@@ -36,12 +34,12 @@ returns-clause-all c = λ text.
 pub loop-i-preserved : goal.loop-i-preserved
 loop-i-preserved c =
     elim c.if-is_part.branch [
-      | then-is_part+in_ok-insert_list w ↦ record {
-        home = ap (λ (s : LabelSet). s.home.now) w.set-is ∙ w.in_ok-insert_list.ensures.home ∙ c.loop-i.invariant.home;
+      | then-is_part+in_ok-insert_elements w ↦ record {
+        home = ap (λ (s : LabelSet). s.home.now) w.set-is ∙ w.in_ok-insert_elements.ensures.home ∙ c.loop-i.invariant.home;
         same = λ text.
             part_step (λ ss. is_among c.args.home.now ss text) c.loop-i.start _ true c.args.value.now c.loop-i.i w.index-value-i.result c.index-value-i-in-loop-i.result _ _ (has c.loop-i.set text) (has c.if-is_part.set text)
             (omega (arith, c.loop-i-test.true)) w.index-value-i.is c.index-value-i-in-loop-i.is c.is_sign-start.ensures (sym (c.is_part.ensures _) ∙ w.if-is_part.true)
-            (ap (λ (s : LabelSet). has s text) w.set-is ∙ w.in_ok-insert_list.ensures.ok text ∙ ap (λ (home : Package). is_among home (elements (node_view w.index-value-i.result)) text || has c.loop-i.set text) c.loop-i.invariant.home)
+            (ap (λ (s : LabelSet). has s text) w.set-is ∙ w.in_ok-insert_elements.ensures.ok text ∙ (λ j. is_among (c.loop-i.invariant.home j) (w.elements_at.ensures j) text || has c.loop-i.set text))
             ∙ c.loop-i.invariant.same text;
       }
       | else-is_part w ↦ record {

@@ -16,5 +16,6 @@ loop-i-preserved c =
     record {
       edited = edit_step (edit_attribute (put c.args.change)) c.loop-i.args c.loop-i.i c.put_in_attribute.new.arg c.index-args-i.result h c.put_in_attribute.ensures.arg ∙ c.loop-i.invariant.edited;
       strings = c.put_in_attribute.ensures.strings;
+      left = omega (arith, here, after, c.put_in_attribute.ensures.left, c.loop-i.invariant.left);
       enough = omega (arith, here, after, c.put_in_attribute.ensures.left, c.loop-i.invariant.enough);
     }

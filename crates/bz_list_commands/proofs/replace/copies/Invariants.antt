@@ -1,0 +1,9 @@
+use Rattle.std.proofs.Common.{◌≡◌, length}
+use Rattle.bz_list_commands.specs.private.ReplaceSteps.{AreStrings}
+use Rattle.bz_list_commands.proofs.replace.copies.Given as goal
+
+abbrev pub invariant-loop : goal.invariant-loop
+invariant-loop l = record {
+  strings : AreStrings l.value l.pool.items;
+  count : length l.pool.items ≡ l.counter;
+}
