@@ -17,8 +17,6 @@ use Rattle.bz_attribute.specs.Commenting.{comment_attribute, comment_line, comme
 use Rattle.bz_attribute.specs.Setting.{with_kind}
 use Rattle.bz_attribute.specs.Printing.{printed_of, prints}
 use Rattle.bz_attribute.specs.Applied.{after, args_after, args_done, done_of, sets_kind_of}
-use Rattle.bz_rule.specs.Bare.{bare_statement}
-use Rattle.bz_rule.proofs.BareStatements.{after_bare, changed_bare}
 use Rattle.bz_attribute.proofs.Views.{segments_of}
 use Rattle.bz_attribute.proofs.Stays.{rule_nodes}
 use Rattle.bz_rule.proofs.Adding.{add_differs, add_stays}
@@ -163,11 +161,3 @@ changed_tells (Print fields) home slot h = print_tells home fields slot
 -- what a command tells of a slot is so of what it made of it
 pub told_of_slot : (c : Command) (home : Package) (slot new : Option Statement) (d : Done) → is_command c ≡ true → new ≡ after c home slot → d ≡ done_of c home slot → (d.changed ≡ true) ↔ (new ≡ slot → ⊥)
 told_of_slot c home slot new d h is told = rw (told, is) (changed_tells c home slot h)
-
--- the same where places of tokens do not count
-pub changed_tells_bare : (c : Command) (home : Package) (slot : Option Statement) → is_command c ≡ true
-    → ((done_of c home slot).changed ≡ true) ↔ (option_map bare_statement (after c home slot) ≡ option_map bare_statement slot → ⊥)
-changed_tells_bare c home slot h = (
-  λ told same. (changed_tells c home (option_map bare_statement slot) h).0 (changed_bare c home slot ∙ told) (sym (after_bare c home slot) ∙ same),
-  λ differ. (changed_tells c home slot h).1 (λ same. differ (ap (option_map bare_statement) same)),
-)

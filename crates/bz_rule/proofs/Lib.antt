@@ -1,19 +1,11 @@
-mod Adding
-mod Again
-mod AllComments
-mod Arguments
-mod BareEffects
-mod BareParts
-mod BareSettings
-mod BareStatements
+pub mod Adding
+pub mod Arguments
 mod CommentDiffers
-mod Differences
-mod Kept
-mod Likeness
+pub mod Differences
+pub mod Kept
 mod MoveDiffers
-mod OwnComments
-mod PartLaws
-mod SetLaws
-mod Removal
+pub mod PartLaws
+pub mod Removal
 mod Renaming
 mod ReplaceDiffers
+pub mod SetLaws

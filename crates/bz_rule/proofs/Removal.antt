@@ -1,5 +1,5 @@
--- `remove`: it changes something exactly where it says so, and leaves none of what it removes.
-use Rattle.std.proofs.Common.{◌≡◌, ℕ, List, [], ◌∷◌, ◌++◌, Bool, true, false, ◌&&◌, ◌||◌, not, if◌then◌else◌, Option, Some, None, map, filter, cond, length, ◌≤◌, arith, refl, ap, sym, ◌∙◌}
+-- `remove` changes something exactly where it says so.
+use Rattle.std.proofs.Common.{◌≡◌, ℕ, List, [], ◌∷◌, Bool, true, false, ◌&&◌, not, if◌then◌else◌, Option, Some, None, map, filter, refl, ap, sym, ◌∙◌}
 use Rattle.std.specs.List.{list_any}
 use Rattle.std.proofs.lemmas.Bool.{or_parts, and_right}
 use Rattle.std.proofs.lemmas.List.Folds.{list_any-append}
@@ -7,12 +7,12 @@ use Rattle.bz_tree.specs.declared.stmt.GroupKind.TheVariants.{Call, RuleCall, Lo
 use Rattle.bz_tree.specs.Tree.{Item, leaf, group, Segment, segments}
 use Rattle.bz_command.specs.Labels.{Package}
 use Rattle.bz_command.specs.Commands.{Attributes, Every, Named, Moved, Values}
-use Rattle.bz_attribute.specs.Rules.{is_named, is_text, first_named, value}
+use Rattle.bz_attribute.specs.Rules.{is_named, first_named, value}
 use Rattle.bz_attribute.specs.Lists.{edit_parts, is_attribute, parts, with_value}
-use Rattle.bz_attribute.specs.Effects.{chooses, chooses_anywhere, chooses_in, edit_first, filtered, filtered_everywhere, goes_with_all, has, is_chosen, is_nil, loses_all, remove, remove_all, remove_attribute, remove_values, removes, unchosen}
+use Rattle.bz_attribute.specs.Effects.{chooses, chooses_anywhere, chooses_in, filtered, filtered_everywhere, goes_with_all, has, is_chosen, is_nil, loses_all, remove, remove_values, removes, unchosen}
 use Rattle.bz_rule.proofs.Kept.{all_stay, all_stay_in, none_left_in, none_passes, none_passes_in}
 use Rattle.bz_rule.proofs.PartLaws.{parts_edited, parts_stay}
-use Rattle.bz_rule.proofs.Arguments.{attribute_named, first_same, is_first_named, name_put, rest_same, value_back, value_put}
+use Rattle.bz_rule.proofs.Arguments.{attribute_named, first_same, is_first_named, rest_same, value_back, value_put}
 
 empty_or_not : (ss : List Segment) → not (is_nil ss) && is_nil ss ≡ false
 empty_or_not [] = refl
@@ -38,7 +38,7 @@ filtered_stays home chosen a h =
     let kept : loses_all (unchosen home chosen) (value a) ≡ false = none_lost (is_chosen home chosen) (value a) h in
     rw (kept, edited) (ap (λ (z : Segment). z ∷ []) (value_back a))
 
-parts_put : (home : Package) (chosen : Moved) (a : Segment) → is_attribute a ≡ true → parts (value (with_value (edit_parts (unchosen home chosen) (value a)) a)) ≡ map (unchosen home chosen) (parts (value a))
+pub parts_put : (home : Package) (chosen : Moved) (a : Segment) → is_attribute a ≡ true → parts (value (with_value (edit_parts (unchosen home chosen) (value a)) a)) ≡ map (unchosen home chosen) (parts (value a))
 parts_put home chosen a h = ap parts (value_put (edit_parts (unchosen home chosen) (value a)) a h) ∙ parts_edited (unchosen home chosen) (value a)
 
 pub filtered_same : (home : Package) (chosen : Moved) (a : Segment) → is_attribute a ≡ true → filtered (unchosen home chosen) a ≡ a ∷ [] → chooses home chosen a ≡ false
@@ -108,59 +108,3 @@ remove_differs home Every (v ∷ values) args h same =
     let none : chooses_anywhere home (Values (v ∷ values)) args ≡ false = ap (chooses_anywhere home (Values (v ∷ values))) (sym same) ∙ everywhere_left home (Values (v ∷ values)) args in cc
 remove_differs home (Named attr) [] args h same = let none : has attr args ≡ false = none_passes (is_named attr) args same in cc
 remove_differs home (Named attr) (v ∷ values) args h same = values_differ home attr (v ∷ values) args (first_named attr args) refl h same
-
-nothing_chosen : (home : Package) (ss : List Segment) → list_any (is_chosen home (Values [])) ss ≡ false
-nothing_chosen home [] = refl
-nothing_chosen home (s ∷ ss) = nothing_chosen home ss
-
-nothing_chosen_in : (home : Package) (lists : List (List Segment)) → list_any (list_any (is_chosen home (Values []))) lists ≡ false
-nothing_chosen_in home [] = refl
-nothing_chosen_in home (ss ∷ lists) = rw (nothing_chosen home ss) (nothing_chosen_in home lists)
-
-no_value : (home : Package) (first : Option Segment) → chooses_in home (Values []) first ≡ false
-no_value home None = refl
-no_value home (Some a) = nothing_chosen_in home (parts (value a))
-
-no_value_anywhere : (home : Package) (args : List Segment) → chooses_anywhere home (Values []) args ≡ false
-no_value_anywhere home [] = refl
-no_value_anywhere home (a ∷ args) = rw (nothing_chosen_in home (parts (value a)), and_right (is_attribute a) false refl) (no_value_anywhere home args)
-
-no_more : (attr : List ℕ) (args : List Segment) → length (filter (is_named attr) args) ≤ 0 → first_named attr args ≡ None
-no_more attr [] h = refl
-no_more attr (a ∷ args) h =
-    elim (is_named attr a) as (λ b. length (cond b (a ∷ filter (is_named attr) args) (filter (is_named attr) args)) ≤ 0 → (if b then Some a else first_named attr args) ≡ None)
-    [ true ↦ λ k. absurd (omega arith) | false ↦ λ k. no_more attr args k ] h
-
--- of the only argument of a name, no element is left that equals a value
-values_gone : (home : Package) (attr : List ℕ) (chosen : Moved) (args : List Segment) → length (filter (is_named attr) args) ≤ 1
-    → chooses_in home chosen (first_named attr (edit_first (is_named attr) (filtered (unchosen home chosen)) args)) ≡ false
-values_gone home attr chosen [] h = refl
-values_gone home attr chosen (a ∷ args) h =
-    let f : List Segment → List Segment = unchosen home chosen in
-    elim (is_named attr a) as (λ b. is_named attr a ≡ b → length (cond b (a ∷ filter (is_named attr) args) (filter (is_named attr) args)) ≤ 1
-    → chooses_in home chosen (first_named attr (if b then filtered f a ++ args else a ∷ edit_first (is_named attr) (filtered f) args)) ≡ false) [
-      | true ↦ λ e k.
-          let attribute : is_attribute a ≡ true = attribute_named attr a e in
-          let none : first_named attr args ≡ None = no_more attr args (omega arith) in
-          let named : is_named attr (with_value (edit_parts f (value a)) a) ≡ true = ap (is_text attr) (name_put (edit_parts f (value a)) a attribute) ∙ e in
-          elim (loses_all f (value a)) as (λ l. chooses_in home chosen (first_named attr ((if l then [] else with_value (edit_parts f (value a)) a ∷ []) ++ args)) ≡ false)
-          [ true ↦ rw none refl | false ↦ rw (named, parts_put home chosen a attribute) (none_left_in (is_chosen home chosen) (parts (value a))) ]
-      | false ↦ λ e k. rw e (values_gone home attr chosen args k)
-    ] refl h
-
-pub removed_named : (home : Package) (attr : List ℕ) (values : List (List ℕ)) (args : List Segment) → length (filter (is_named attr) args) ≤ 1
-    → chooses_in home (Values values) (first_named attr (remove home (Named attr) values args)) ≡ false
-removed_named home attr [] args h = no_value home (first_named attr (remove_attribute attr args))
-removed_named home attr (v ∷ values) args h = values_gone home attr (Values (v ∷ values)) args h
-
-pub removed_everywhere : (home : Package) (values : List (List ℕ)) (args : List Segment) → chooses_anywhere home (Values values) (remove home Every values args) ≡ false
-removed_everywhere home [] args = no_value_anywhere home (remove_all args)
-removed_everywhere home (v ∷ values) args = everywhere_left home (Values (v ∷ values)) args
-
--- the first argument of a name is edited, and all else stays
-pub edited_at : (attr : List ℕ) (f : Segment → List Segment) (front rest : List Segment) (a : Segment) → has attr front ≡ false → is_named attr a ≡ true
-    → edit_first (is_named attr) f (front ++ a ∷ rest) ≡ front ++ (f a ++ rest)
-edited_at attr f [] rest a h named = rw named refl
-edited_at attr f (b ∷ front) rest a h named =
-    elim (is_named attr b) as (λ t. t || has attr front ≡ false → (if t then f b ++ (front ++ a ∷ rest) else b ∷ edit_first (is_named attr) f (front ++ a ∷ rest)) ≡ b ∷ (front ++ (f a ++ rest)))
-    [ true ↦ λ k. absurd cc | false ↦ λ k. ap (λ (zs : List Segment). b ∷ zs) (edited_at attr f front rest a k named) ] h

@@ -1,7 +1,6 @@
 //! Labels, targets and commands on one rule.
 #![tactic(auto)]
 
-pub mod laws;
 mod slot;
 
 pub use bz_attribute::done::{Done, Note};

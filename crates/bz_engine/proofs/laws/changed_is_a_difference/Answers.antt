@@ -1,5 +1,6 @@
+use Rattle.bz_rule.proofs.Differences.{changed_tells}
 use Rattle.bz_engine.proofs.ChangesLaw.{changes_tell}
 use Rattle.bz_engine.proofs.laws.changed_is_a_difference.Goals as goal
 
 pub returns : goal.returns
-returns c = changes_tell c.changed_tells_a_difference.ensures.whole
+returns c = changes_tell changed_tells

@@ -1,0 +1,12 @@
+mod Again
+mod AllComments
+mod BareDiffers
+mod BareEffects
+mod BareParts
+mod BareSettings
+mod BareStatements
+mod Found
+mod Gone
+mod Likeness
+mod OwnComments
+mod SetAgain

@@ -1,0 +1,56 @@
+//! Laws of what commands add, set and remove.
+
+ghost use Rattle.std.specs.Prelude.{◌≡◌, ◌≤◌, ◌++◌, ◌∷◌, ℕ, List, [], None, Option, filter, length, false, true};
+ghost use Rattle.std.specs.List.{list_all, list_any};
+ghost use Rattle.bz_tree.specs.Tree.{Segment, Statement};
+ghost use Rattle.bz_attribute.specs.Applied.{after, done_of};
+ghost use Rattle.bz_command.specs.Commands.{Add, Every, Named, Set, ToKind, ToValues, Values};
+ghost use Rattle.bz_attribute.specs.Effects as effects;
+ghost use Rattle.bz_command.specs.Labels.{Package};
+ghost use Rattle.bz_attribute.specs.Lists.{is_attribute};
+ghost use Rattle.bz_attribute.specs.Rules.{first_named, is_named};
+
+/// Where `add` does not fail, an element equals each of its values afterwards, so `remove` finds them.
+pub fn added_values_are_found()
+    ensures { (home : Package) (attr : List ℕ) (values : List (List ℕ)) (args : List Segment)
+        → effects.not_a_list attr (first_named attr args) ≡ None
+        → list_all
+        (λ v. effects.chooses_in home (Values (v ∷ [])) (first_named attr (effects.add home attr values args))) values
+        ≡ true }
+{}
+
+/// A second `add` of the same values does nothing.
+pub fn add_twice_is_add_once()
+    ensures { (home : Package) (attr : List ℕ) (values : List (List ℕ)) (slot : Option Statement)
+        → after (Add attr values) home (after (Add attr values) home slot) ≡ after (Add attr values) home slot }
+{}
+
+/// A second `set` of the same changes nothing.
+pub fn set_twice_changes_nothing()
+    ensures values { (home : Package) (attr : List ℕ) (values : List (List ℕ)) (slot : Option Statement)
+        → (done_of (Set (ToValues attr values)) home (after (Set (ToValues attr values)) home slot)).changed ≡ false }
+    ensures kind { (home : Package) (kind : List ℕ) (slot : Option Statement)
+        → (done_of (Set (ToKind kind)) home (after (Set (ToKind kind)) home slot)).changed ≡ false }
+{}
+
+/// What `remove` removes is not there afterwards: attributes; the values, where there is one argument of the name at
+/// most; the values in all attributes. Where there are more of the name, the first is edited and all else stays.
+pub fn removed_is_gone()
+    ensures attribute { (home : Package) (attr : List ℕ) (args : List Segment)
+        → effects.has attr (effects.remove home (Named attr) [] args) ≡ false }
+    ensures all { (home : Package) (args : List Segment)
+        → list_any effects.goes_with_all (effects.remove home Every [] args) ≡ false }
+    ensures values { (home : Package) (attr : List ℕ) (values : List (List ℕ)) (args : List Segment)
+        → length (filter (is_named attr) args) ≤ 1
+        → effects.chooses_in home (Values values) (first_named attr (effects.remove home (Named attr) values args))
+        ≡ false }
+    ensures everywhere { (home : Package) (values : List (List ℕ)) (args : List Segment)
+        → effects.chooses_anywhere home (Values values) (effects.remove home Every values args) ≡ false }
+    ensures edited { (home : Package) (values : List (List ℕ)) (a : Segment) → is_attribute a ≡ true
+        → list_any (effects.chooses home (Values values)) (effects.filtered (effects.unchosen home (Values values)) a)
+        ≡ false }
+    ensures rest { (home : Package) (attr : List ℕ) (values : List (List ℕ)) (front rest : List Segment) (a : Segment)
+        → effects.has attr front ≡ false → is_named attr a ≡ true
+        → effects.remove_values home attr values (front ++ a ∷ rest)
+        ≡ front ++ (effects.filtered (effects.unchosen home (Values values)) a ++ rest) }
+{}
