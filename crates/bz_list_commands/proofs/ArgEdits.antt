@@ -1,6 +1,8 @@
 -- Arguments that are edited one by one.
-use Rattle.std.proofs.Common.{◌≡◌, ℕ, ◌+◌, ◌<◌, List, [], ◌∷◌, ◌++◌, true, false, not, length, get_or, drop, take, set, map, filter, refl, ap, sym, ◌∙◌, arith, inl, inr, if◌then◌else◌, append_assoc}
+use Rattle.std.proofs.Common.{◌≡◌, ℕ, suc, ◌+◌, ◌<◌, ◌≤◌, List, [], ◌∷◌, ◌++◌, Bool, true, false, not, cond, ◌||◌, nat_lt, length, get_or, drop, take, set, map, filter, refl, ap, sym, ◌∙◌, arith, inl, inr, if◌then◌else◌, append_assoc}
+use Rattle.std.specs.List.{list_any}
 use Rattle.std.proofs.lemmas.Bool.{cases_Bool}
+use Rattle.std.proofs.lemmas.Bool.Decides.{nat_tests}
 use Rattle.std.proofs.lemmas.List.{drop_more, take_more_set, drop-set-lt, map-set, get_or-map, length-map}
 use Rattle.bz_tree.specs.declared.stmt.Seg.{Seg}
 use Rattle.bz_tree.specs.View.{seg_view, segs_view}
@@ -44,3 +46,22 @@ in_two_steps f (a ∷ args) = elim (cases_Bool (is_lost f a)) [
   | inl is ↦ rw (is, lost_one f a is) (in_two_steps f args)
   | inr other ↦ rw (other, kept_one f a (filtered_everywhere f args) other) (ap (λ (xs : List Segment). edit_attribute f a ∷ xs) (in_two_steps f args))
 ]
+
+-- some go exactly where fewer are left
+no_longer : (p : Segment → Bool) (ss : List Segment) → length (filter (λ s. not (p s)) ss) ≤ length ss
+no_longer p [] = omega arith
+no_longer p (s ∷ ss) =
+    elim (p s) as (λ b. length (cond (not b) (s ∷ filter (λ s. not (p s)) ss) (filter (λ s. not (p s)) ss)) ≤ length (s ∷ ss))
+    [ true ↦ omega (arith, no_longer p ss) | false ↦ omega (arith, no_longer p ss) ]
+
+fewer : (few all : ℕ) → few ≤ all → nat_lt few (suc all) ≡ true
+fewer few all h = grind (arith, nat_tests)
+
+both_more : (few all : ℕ) → nat_lt (suc few) (suc all) ≡ nat_lt few all
+both_more few all = grind (arith, nat_tests)
+
+pub fewer_left : (p : Segment → Bool) (ss : List Segment) → nat_lt (length (filter (λ s. not (p s)) ss)) (length ss) ≡ list_any p ss
+fewer_left p [] = refl
+fewer_left p (s ∷ ss) =
+    elim (p s) as (λ b. nat_lt (length (cond (not b) (s ∷ filter (λ s. not (p s)) ss) (filter (λ s. not (p s)) ss))) (length (s ∷ ss)) ≡ (b || list_any p ss))
+    [ true ↦ fewer (length (filter (λ s. not (p s)) ss)) (length ss) (no_longer p ss) | false ↦ both_more (length (filter (λ s. not (p s)) ss)) (length ss) ∙ fewer_left p ss ]

@@ -36,36 +36,13 @@ pub fn add(
         (spec.adds home.now values.now (first_named attr.now (segs_view args.old.items)))) }
     ensures err { OnErr result (segs_view args.new.items ≡ segs_view args.old.items) }
 {
-    if find(args, attr).is_some() {
-        return add_to_first(alloc, home, attr, values, args);
+    if let Some(i) = find(args, attr) {
+        return add_in(alloc, home, attr, values, &mut args[i]);
     }
     let elements = new_elements(alloc, home, &[], values)?;
     let arg = list_argument(alloc, attr, elements)?;
     args.push(arg)?;
     Ok(Done::quiet(true))
-}
-
-fn add_to_first(
-    alloc: Global,
-    home: &Package,
-    attr: &str,
-    values: &[Text],
-    args: &mut [Seg<'_>],
-) -> Result<Done, AllocError>
-    requires { spec.has attr.now (segs_view args.old) ≡ true }
-    ensures args { OnOk result
-        (segs_view args.new
-        ≡ spec.edit_first (is_named attr.now) (λ a. spec.with_added home.now values.now a ∷ []) (segs_view args.old)) }
-    ensures done { IfOk result
-        (λ done. done ≡ spec.done (spec.not_a_list attr.now (first_named attr.now (segs_view args.old)))
-        (spec.adds home.now values.now (first_named attr.now (segs_view args.old)))) }
-    ensures err { OnErr result (segs_view args.new ≡ segs_view args.old) }
-{
-    let Some(i) = find(args, attr) else {
-        return Ok(Done::quiet(false));
-    };
-    let done = add_in(alloc, home, attr, values, &mut args[i])?;
-    Ok(done)
 }
 
 fn add_in(

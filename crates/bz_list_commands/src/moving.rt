@@ -102,7 +102,11 @@ fn move_those(
     if !chooses(home, chosen, arg) {
         return Ok(Done::quiet(false));
     }
-    move_chosen(alloc, home, old, new, chosen, args)?;
+    if find(args, new).is_some() {
+        move_to_list(alloc, home, old, new, chosen, args)?;
+    } else {
+        move_to_new(alloc, home, old, new, chosen, args)?;
+    }
     Ok(Done::quiet(true))
 }
 
@@ -136,25 +140,6 @@ fn not_a_list(alloc: Global, attr: &str, args: &[Seg<'_>]) -> Result<Option<Note
     }
     let attr = Text::from_str(alloc, attr)?;
     Ok(Some(Note::NotAList(attr)))
-}
-
-fn move_chosen(
-    alloc: Global,
-    home: &Package,
-    old: &str,
-    new: &str,
-    chosen: Chosen<'_, '_>,
-    args: &mut Vec<Seg<'_>>,
-) -> Result<(), AllocError>
-    requires { bytes_eq old.now new.now ≡ false }
-    ensures ok { OnOk result (segs_view args.new.items ≡ spec.moved home.now old.now new.now (chosen_view chosen.entry)
-        (segs_view args.old.items)) }
-    ensures err { OnErr result (segs_view args.new.items ≡ segs_view args.old.items) }
-{
-    if find(args, new).is_some() {
-        return move_to_list(alloc, home, old, new, chosen, args);
-    }
-    move_to_new(alloc, home, old, new, chosen, args)
 }
 
 // All memory that is needed is there before the first write: what follows cannot fail.
@@ -239,18 +224,8 @@ fn arrive<'a>(
     let Some(i) = find(args, attr) else {
         return;
     };
-    keep_new(alloc, home, &args[i], &mut elements);
+    keep_arrivals(alloc, home, &args[i].nodes[2..], &mut elements);
     put_in(&mut args[i], elements);
-}
-
-fn keep_new(alloc: Global, home: &Package, arg: &Seg<'_>, elements: &mut Vec<Seg<'_>>)
-    requires { 2 ≤ length arg.now.nodes.items }
-    ensures items { segs_view elements.new.items
-        ≡ spec.arrivals home.now (spec.joined (parts (value (seg_view arg.now)))) (segs_view elements.old.items) }
-    ensures shorter { vec_len elements.new ≤ vec_len elements.old }
-    ensures capacity { vec_capacity elements.new ≡ vec_capacity elements.old }
-{
-    keep_arrivals(alloc, home, &arg.nodes[2..], elements);
 }
 
 fn put_in<'a>(arg: &mut Seg<'a>, later: Vec<Seg<'a>>)

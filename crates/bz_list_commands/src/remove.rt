@@ -65,20 +65,9 @@ fn remove_all(args: &mut Vec<Seg<'_>>) -> Done
     ensures args { segs_view args.new.items ≡ spec.remove_all (segs_view args.old.items) }
     ensures done { result ≡ spec.done None (list_any spec.goes_with_all (segs_view args.old.items)) }
 {
-    let changed = any_goes(args);
+    let before = args.len();
     args.retain(|seg| !goes_with_all(seg));
-    Done::quiet(changed)
-}
-
-fn any_goes(args: &[Seg<'_>]) -> bool
-    ensures { result ≡ list_any spec.goes_with_all (segs_view args.now) }
-{
-    for arg in args {
-        if goes_with_all(arg) {
-            return true;
-        }
-    }
-    false
+    Done::quiet(args.len() < before)
 }
 
 fn goes_with_all(arg: &Seg<'_>) -> bool

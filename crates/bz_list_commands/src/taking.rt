@@ -95,43 +95,14 @@ pub(crate) fn take_from<'a>(
     ensures shorter { vec_len args.new ≤ vec_len args.old }
     ensures same_capacity { vec_capacity args.new ≡ vec_capacity args.old }
 {
-    if let Some(i) = take_in_first(alloc, home, attr, chosen, args, taken) {
-        let _ = args.remove(i);
-    }
-}
-
-// Moves them, or answers where the argument stands that has to go.
-fn take_in_first<'a>(
-    alloc: Global,
-    home: &Package,
-    attr: &str,
-    chosen: Chosen<'_, '_>,
-    args: &mut [Seg<'a>],
-    taken: &mut Vec<Seg<'a>>,
-) -> Option<usize>
-    requires { vec_len taken.old + length
-        (chosen_of home.now (chosen_view chosen) (first_named attr.now (segs_view args.old))) ≤ vec_capacity taken.old }
-    ensures edited { IfNone result
-        (segs_view args.new ≡ spec.edit_first (is_named attr.now)
-        (spec.filtered (spec.unchosen home.now (chosen_view chosen.entry))) (segs_view args.old)) }
-    ensures goes { IfSome result
-        (λ i. (i < length args.new)
-        × (segs_view (remove args.new i)
-        ≡ spec.edit_first (is_named attr.now) (spec.filtered (spec.unchosen home.now (chosen_view chosen.entry)))
-        (segs_view args.old))) }
-    ensures taken { segs_view taken.new.items ≡ segs_view taken.old.items
-        ++ chosen_of home.now (chosen_view chosen.entry) (first_named attr.now (segs_view args.old)) }
-    ensures capacity { vec_capacity taken.new ≡ vec_capacity taken.old }
-{
     let Some(i) = find(args, attr) else {
-        return None;
+        return;
     };
     let goes = loses_all(home, chosen, &args[i]);
     take_in(alloc, home, chosen, &mut args[i], taken);
     if goes {
-        return Some(i);
+        let _ = args.remove(i);
     }
-    None
 }
 
 fn take_in<'a>(
