@@ -1,8 +1,7 @@
 //! The labels of the elements that a value's list parts have.
 
 ghost use Rattle.std.specs.Prelude.{◌≡◌, ℕ, List, [], ◌∷◌, IfOk, OnOk};
-ghost use Rattle.bz_tree.specs.View.{node_view, nodes_view, seg_view, segs_view};
-ghost use Rattle.bz_attribute.specs.Rules.{elements};
+ghost use Rattle.bz_tree.specs.View.{nodes_view, seg_view, segs_view};
 ghost use Rattle.bz_attribute.specs.Lists.{parts};
 ghost use Rattle.bz_command.specs.Commands.{Values};
 ghost use Rattle.bz_attribute.specs.Effects.{is_chosen};

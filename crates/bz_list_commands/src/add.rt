@@ -3,7 +3,7 @@
 ghost use Rattle.std.specs.Prelude.{◌≡◌, ◌≤◌, ◌++◌, ◌∷◌, [], map, Some, length, if◌then◌else◌, not, true, IfOk, OnOk, OnErr};
 ghost use Rattle.std.specs.List.{list_any};
 ghost use Rattle.bz_tree.specs.View.{node_view, nodes_view, seg_view, segs_view};
-ghost use Rattle.bz_attribute.specs.Rules.{first_named, is_named, value};
+ghost use Rattle.bz_attribute.specs.Rules.{first_named, value};
 ghost use Rattle.bz_attribute.specs.Lists.{edit_first_part, edit_list, parts, same};
 ghost use Rattle.bz_command.specs.LabelSetViews.{Gains, has};
 ghost use Rattle.bz_attribute.specs.private.Places.{IsFirstPart};

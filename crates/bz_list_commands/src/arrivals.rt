@@ -1,13 +1,10 @@
 //! Of the elements that leave a list, those that arrive in another: no string arrives that is there already.
 
-ghost use Rattle.std.specs.Prelude.{◌≡◌, ◌≤◌, ◌++◌, length, take, not, IsTrue, IfOk, OnOk};
-ghost use Rattle.std.specs.List.{list_any};
+ghost use Rattle.std.specs.Prelude.{◌≡◌, ◌≤◌, ◌++◌, length, take, not, IfOk, OnOk};
 ghost use Rattle.std.specs.Vec.{vec_len, vec_capacity};
-ghost use Rattle.bz_tree.specs.View.{node_view, nodes_view, seg_view, segs_view};
-ghost use Rattle.bz_attribute.specs.Rules.{elements};
+ghost use Rattle.bz_tree.specs.View.{nodes_view, seg_view, segs_view};
 ghost use Rattle.bz_attribute.specs.Rules as rules;
 ghost use Rattle.bz_attribute.specs.Lists.{equals, parts};
-ghost use Rattle.bz_command.specs.private.ByteSteps.{left, is_good};
 ghost use Rattle.bz_command.specs.LabelSetViews.{Gains, has};
 ghost use Rattle.bz_attribute.specs.Moving as spec;
 ghost use Rattle.bz_list_commands.specs.private.MovingSteps.{flags, has_value, flagged};

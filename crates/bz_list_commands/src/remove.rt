@@ -1,6 +1,6 @@
 //! `remove`: attributes go, or elements of them.
 
-ghost use Rattle.std.specs.Prelude.{◌≡◌, None, map, filter, not, IfSome, IfNone, IfOk, OnOk, OnErr, ◌<◌, length, remove};
+ghost use Rattle.std.specs.Prelude.{◌≡◌, None, map, IfOk, OnOk, OnErr, ◌<◌};
 ghost use Rattle.std.specs.List.{list_any};
 ghost use Rattle.bz_tree.specs.View.{seg_view, segs_view};
 ghost use Rattle.bz_attribute.specs.Effects as spec;

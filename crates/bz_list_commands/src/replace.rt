@@ -1,12 +1,11 @@
 //! `replace`: elements that equal a value become another. The new literals are made before the first is put in place.
 
-ghost use Rattle.std.specs.Prelude.{◌≡◌, ◌+◌, ◌≤◌, ◌<◌, None, map, length, get_or, drop, if◌then◌else◌, IfOk, OnOk, OnErr};
-ghost use Rattle.std.specs.List.{list_any};
+ghost use Rattle.std.specs.Prelude.{◌≡◌, ◌+◌, ◌≤◌, ◌<◌, None, map, length, if◌then◌else◌, IfOk, OnOk, OnErr};
 ghost use Rattle.bz_tree.specs.View.{node_view, nodes_view, seg_view, segs_view};
 ghost use Rattle.bz_command.specs.CommandViews.{attributes_view};
 ghost use Rattle.bz_command.specs.Commands.{Every, Named};
 ghost use Rattle.bz_attribute.specs.Rules.{elements, is_text, string_value};
-ghost use Rattle.bz_attribute.specs.Lists.{edit_list, edit_parts, is_part};
+ghost use Rattle.bz_attribute.specs.Lists.{edit_list, edit_parts};
 ghost use Rattle.bz_attribute.specs.Effects.{done};
 ghost use Rattle.bz_list_commands.specs.private.EditSteps.{edit_attribute};
 ghost use Rattle.bz_attribute.specs.Replacing as spec;
