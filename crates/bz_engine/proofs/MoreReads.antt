@@ -41,19 +41,14 @@ or_is_false false b h = refl
 pub open_more : (old new : Bool) (ps qs : List (List ℕ)) → new ≡ (old || ends qs) → (old ≡ false → NoneEnds ps) → (new ≡ false → NoneEnds qs) → new ≡ false → NoneEnds (ps ++ qs)
 open_more old new ps qs is p q h = none_ends_more ps qs (p (or_is_false old (ends qs) (sym is ∙ h))) (q h)
 
--- the bytes of the reads are the chunks that are done and the bytes ahead, after more reads
-pub bytes_more : (ps qs cs : List (List ℕ)) (a b : List ℕ) → joined ps ≡ concat cs ++ a → b ≡ a ++ joined qs → joined (ps ++ qs) ≡ concat cs ++ b
-bytes_more ps qs cs a b done read =
+-- the bytes of the reads are the chunks that are done, the chunk that is taken, and the bytes ahead
+pub bytes_more : (ps qs cs : List (List ℕ)) (a b chunk left : List ℕ) → joined ps ≡ concat cs ++ a → b ≡ a ++ joined qs → b ≡ chunk ++ left
+    → joined (ps ++ qs) ≡ concat (cs ++ chunk ∷ []) ++ left
+bytes_more ps qs cs a b chunk left done read cut =
     joined_more ps qs
     ∙ ap (λ l. l ++ joined qs) done
     ∙ append_assoc (concat cs) a (joined qs)
-    ∙ ap (λ l. concat cs ++ l) (sym read)
-
--- and where a chunk is taken
-pub bytes_taken : (cs : List (List ℕ)) (file b chunk left : List ℕ) → file ≡ concat cs ++ b → b ≡ chunk ++ left → file ≡ concat (cs ++ chunk ∷ []) ++ left
-bytes_taken cs file b chunk left is cut =
-    is
-    ∙ ap (λ l. concat cs ++ l) cut
+    ∙ ap (λ l. concat cs ++ l) (sym read ∙ cut)
     ∙ sym (append_assoc (concat cs) chunk left)
     ∙ ap (λ l. l ++ left) (ap (λ l. concat cs ++ l) (sym (append-nil chunk)) ∙ sym (concat-append cs (chunk ∷ [])))
 
@@ -78,7 +73,7 @@ chunks_more ps qs cs a b old new first read is stays rest over =
     was_true true e n same h = same
     was_true false e n same h = absurd (false≢true h)
 
--- and these where a chunk of the bytes ahead is taken
+-- and where a chunk of the bytes ahead is taken
 pub chunk_taken : (cs : List (List ℕ)) (b rest file : List ℕ) (n : ℕ)
     → chunks file ≡ cs ++ chunks (b ++ rest) → EndsBefore (take n b) (drop n b ++ rest)
     → chunks file ≡ cs ++ take n b ∷ chunks (drop n b ++ rest)

@@ -10,7 +10,7 @@ use Rattle.bz_engine.specs.declared.session.Stage.{Stage}
 use Rattle.bz_engine.specs.declared.session.Stage.TheVariants.{Going, Ended, Stopped}
 use Rattle.bz_engine.specs.declared.report.End.{End}
 use Rattle.bz_engine.specs.declared.report.End.TheVariants.{Whole, Syntax, FirstFailure}
-use Rattle.bz_engine.specs.Device.{joined}
+use Rattle.bz_engine.specs.Device.{joined, ends, NoneEnds}
 use Rattle.bz_engine.specs.Ahead.{Ahead, IsReadOn, IsNextChunk}
 use Rattle.bz_engine.specs.Meaning.{meaning}
 use Rattle.bz_engine.specs.File.{Give, Gives}
@@ -18,49 +18,49 @@ use Rattle.bz_engine.specs.Messages.{fault_text}
 use Rattle.bz_engine.specs.Outcome.{Script, slots_of, text_after, told_of_all, failures_at, first_of}
 use Rattle.bz_engine.specs.Progress.{Progress, IsKeptOf}
 use Rattle.bz_engine.specs.private.Edits.{IsDone, IsFailed}
-use Rattle.bz_engine.specs.private.Settled.{HasRead}
 use Rattle.bz_engine.specs.SessionValue.{SessionValue, IsSession, HasDone, HasEnded, told_of_progress, told_alone}
 use Rattle.bz_engine.proofs.ExchangeLaw.{log_by_pass, missing_lem}
-use Rattle.bz_engine.proofs.MoreReads.{ends_more, open_more, bytes_more, bytes_taken, chunks_more, chunk_taken, one_more}
+use Rattle.bz_engine.proofs.MoreReads.{ends_more, open_more, bytes_more, chunks_more, chunk_taken, one_more}
 use Rattle.bz_engine.proofs.Given.{give_fault, give_statement}
 
--- what was read after more reads
-pub more_read : (v : SessionValue) (mid : Ahead) (max_reads : ℕ) (pieces cs read : List (List ℕ)) (text : List ℕ)
-    → HasDone v pieces cs text → IsReadOn max_reads v.ahead mid read → HasRead (record v { ahead = mid }) (pieces ++ read) cs text
-more_read v mid max_reads pieces cs read text done on = record {
-  bytes = bytes_more pieces read cs v.ahead.bytes mid.bytes done.bytes on.bytes;
-  reads = on.reads ∙ ap (λ n. n + length read) done.reads ∙ sym (length-append pieces read);
-  ended = on.ended ∙ ends_more v.ahead.ended pieces read done.ended on.stays;
-  none_ends = open_more v.ahead.ended mid.ended pieces read on.ended done.none_ends on.none_ends;
-  first = chunks_more pieces read cs v.ahead.bytes mid.bytes v.ahead.ended mid.ended done.first on.bytes on.ended on.stays;
-  statements = done.statements;
-  kept = done.kept;
-  text_is = done.text_is;
-  calm = done.calm;
-}
+-- the chunks of the file after more reads
+read_on : (v : SessionValue) (mid : Ahead) (max_reads : ℕ) (pieces cs read : List (List ℕ)) (text : List ℕ)
+    → HasDone v pieces cs text → IsReadOn max_reads v.ahead mid read
+    → (rest : List ℕ) → (IsTrue mid.ended → rest ≡ []) → chunks (joined (pieces ++ read) ++ rest) ≡ cs ++ chunks (mid.bytes ++ rest)
+read_on v mid max_reads pieces cs read text done on =
+    chunks_more pieces read cs v.ahead.bytes mid.bytes v.ahead.ended mid.ended done.first on.bytes on.ended on.stays
 
-pub reads_within : (v : SessionValue) (max_reads : ℕ) (pieces cs : List (List ℕ)) (text : List ℕ) → HasRead v pieces cs text → v.ahead.reads ≤ max_reads
-    → length pieces ≤ max_reads
-reads_within v max_reads pieces cs text read within = subst (λ n. n ≤ max_reads) read.reads within
+ended_on : (v : SessionValue) (mid : Ahead) (max_reads : ℕ) (pieces cs read : List (List ℕ)) (text : List ℕ)
+    → HasDone v pieces cs text → IsReadOn max_reads v.ahead mid read → mid.ended ≡ ends (pieces ++ read)
+ended_on v mid max_reads pieces cs read text done on = on.ended ∙ ends_more v.ahead.ended pieces read done.ended on.stays
+
+reads_on : (v : SessionValue) (mid : Ahead) (max_reads : ℕ) (pieces cs read : List (List ℕ)) (text : List ℕ)
+    → HasDone v pieces cs text → IsReadOn max_reads v.ahead mid read → mid.reads ≡ length (pieces ++ read)
+reads_on v mid max_reads pieces cs read text done on =
+    on.reads ∙ ap (λ n. n + length read) done.reads ∙ sym (length-append pieces read)
+
+pub reads_within : (v : SessionValue) (mid : Ahead) (max_reads : ℕ) (pieces cs read : List (List ℕ)) (text : List ℕ)
+    → HasDone v pieces cs text → IsReadOn max_reads v.ahead mid read → length (pieces ++ read) ≤ max_reads
+reads_within v mid max_reads pieces cs read text done on = subst (λ n. n ≤ max_reads) (reads_on v mid max_reads pieces cs read text done on) on.within
 
 -- a chunk was done
-pub went_on : (v : SessionValue) (progress : Progress) (most n : ℕ) (pieces cs : List (List ℕ)) (text after : List ℕ)
-    → (read : HasRead v pieces cs text) → IsNextChunk most v.ahead n
-    → (edited : IsDone v.home v.passes v.options.keep_going v.options.max_depth cs read.statements (take n v.ahead.bytes) v.progress progress [] after)
-    → HasDone (record v { ahead = record v.ahead { bytes = drop n v.ahead.bytes }; progress = progress }) pieces (cs ++ take n v.ahead.bytes ∷ []) (text ++ after)
-went_on v progress most n pieces cs text after read next edited = record {
-  bytes = bytes_taken cs (joined pieces) v.ahead.bytes (take n v.ahead.bytes) (drop n v.ahead.bytes) read.bytes (sym (take-append-drop n v.ahead.bytes));
-  reads = read.reads;
-  ended = read.ended;
-  none_ends = read.none_ends;
+pub went_on : (v : SessionValue) (mid : Ahead) (progress : Progress) (max_reads most n : ℕ) (pieces cs read : List (List ℕ)) (text after : List ℕ)
+    → (done : HasDone v pieces cs text) → IsReadOn max_reads v.ahead mid read → IsNextChunk most mid n
+    → (edited : IsDone v.home v.passes v.options.keep_going v.options.max_depth cs done.statements (take n mid.bytes) v.progress progress [] after)
+    → HasDone (record v { ahead = record mid { bytes = drop n mid.bytes }; progress = progress }) (pieces ++ read) (cs ++ take n mid.bytes ∷ []) (text ++ after)
+went_on v mid progress max_reads most n pieces cs read text after done on next edited = record {
+  bytes = bytes_more pieces read cs v.ahead.bytes mid.bytes (take n mid.bytes) (drop n mid.bytes) done.bytes on.bytes (sym (take-append-drop n mid.bytes));
+  reads = reads_on v mid max_reads pieces cs read text done on;
+  ended = ended_on v mid max_reads pieces cs read text done on;
+  none_ends = open_more v.ahead.ended mid.ended pieces read on.ended done.none_ends on.none_ends;
   few = next.left;
   first = λ rest over.
-      chunk_taken cs v.ahead.bytes rest (joined pieces ++ rest) n (read.first rest over) (next.ends rest over)
-      ∙ one_more cs (chunks (drop n v.ahead.bytes ++ rest)) (take n v.ahead.bytes);
-  statements = read.statements ++ edited.more;
+      chunk_taken cs mid.bytes rest (joined (pieces ++ read) ++ rest) n (read_on v mid max_reads pieces cs read text done on rest over) (next.ends rest over)
+      ∙ one_more cs (chunks (drop n mid.bytes ++ rest)) (take n mid.bytes);
+  statements = done.statements ++ edited.more;
   kept = edited.kept;
-  text_is = ap (λ l. l ++ after) read.text_is ∙ ap (λ l. text_after v.home v.passes read.statements ++ l) edited.appended ∙ sym edited.text;
-  calm = λ h. edited.calm h (read.calm h);
+  text_is = ap (λ l. l ++ after) done.text_is ∙ ap (λ l. text_after v.home v.passes done.statements ++ l) edited.appended ∙ sym edited.text;
+  calm = λ h. edited.calm h (done.calm h);
 }
 
 -- what is told at the end of the file
@@ -70,69 +70,71 @@ told_whole home passes cs depth ss p kept =
     rw (kept.left.kept, kept.left.changed, kept.left.failed, ← log_by_pass (meaning home) passes (slots_of ss), ← missing_lem (meaning home) passes (slots_of ss)) refl
 
 -- the input has ended
-pub ended_whole : (v : SessionValue) (pieces cs : List (List ℕ)) (text : List ℕ) → HasRead v pieces cs text → v.ahead.bytes ≡ [] → IsTrue v.ahead.ended
-    → HasEnded v Whole pieces text
-ended_whole v pieces cs text read nothing over = record {
+pub ended_whole : (v : SessionValue) (mid : Ahead) (max_reads : ℕ) (pieces cs read : List (List ℕ)) (text : List ℕ)
+    → HasDone v pieces cs text → IsReadOn max_reads v.ahead mid read → mid.bytes ≡ [] → IsTrue mid.ended
+    → HasEnded (record v { ahead = mid }) Whole (pieces ++ read) text
+ended_whole v mid max_reads pieces cs read text done on nothing over = record {
   each = λ rest last.
-      let none : rest ≡ [] = last (subst IsTrue read.ended over) in
-      let all : chunks (joined pieces ++ rest) ≡ cs =
-      read.first rest (λ h. none) ∙ ap (λ l. cs ++ chunks (l ++ rest)) nothing ∙ ap (λ l. cs ++ chunks l) none ∙ append-nil cs in
+      let none : rest ≡ [] = last (subst IsTrue (ended_on v mid max_reads pieces cs read text done on) over) in
+      let all : chunks (joined (pieces ++ read) ++ rest) ≡ cs =
+      read_on v mid max_reads pieces cs read text done on rest (λ h. none) ∙ ap (λ l. cs ++ chunks (l ++ rest)) nothing ∙ ap (λ l. cs ++ chunks l) none ∙ append-nil cs in
       inl (record {
-        statements = read.statements;
+        statements = done.statements;
         fault = None;
-        read = subst (λ l. Give v.options.max_depth 1 l read.statements None) (sym all) read.kept.read;
-        calm = λ h. sym read.kept.left.failed ∙ read.calm h;
-        text_is = read.text_is;
-        told_is = told_whole v.home v.passes cs v.options.max_depth read.statements v.progress read.kept;
+        read = subst (λ l. Give v.options.max_depth 1 l done.statements None) (sym all) done.kept.read;
+        calm = λ h. sym done.kept.left.failed ∙ done.calm h;
+        text_is = done.text_is;
+        told_is = told_whole v.home v.passes cs v.options.max_depth done.statements v.progress done.kept;
       });
 }
 
 -- a chunk has a fault
-pub ended_fault : (v : SessionValue) (fault : SyntaxFault) (most n : ℕ) (pieces cs : List (List ℕ)) (text : List ℕ)
-    → HasRead v pieces cs text → IsNextChunk most v.ahead n → Gives v.options.max_depth v.progress.line (take n v.ahead.bytes) (Err fault)
-    → HasEnded v (Syntax fault) pieces text
-ended_fault v fault most n pieces cs text read next gives = record {
+pub ended_fault : (v : SessionValue) (mid : Ahead) (fault : SyntaxFault) (max_reads most n : ℕ) (pieces cs read : List (List ℕ)) (text : List ℕ)
+    → HasDone v pieces cs text → IsReadOn max_reads v.ahead mid read → IsNextChunk most mid n
+    → Gives v.options.max_depth v.progress.line (take n mid.bytes) (Err fault)
+    → HasEnded (record v { ahead = mid }) (Syntax fault) (pieces ++ read) text
+ended_fault v mid fault max_reads most n pieces cs read text done on next gives = record {
   each = λ rest last.
-      let over : IsTrue v.ahead.ended → rest ≡ [] = λ h. last (subst IsTrue read.ended h) in
-      let all : chunks (joined pieces ++ rest) ≡ cs ++ take n v.ahead.bytes ∷ chunks (drop n v.ahead.bytes ++ rest) =
-      chunk_taken cs v.ahead.bytes rest (joined pieces ++ rest) n (read.first rest over) (next.ends rest over) in
+      let over : IsTrue mid.ended → rest ≡ [] = λ h. last (subst IsTrue (ended_on v mid max_reads pieces cs read text done on) h) in
+      let all : chunks (joined (pieces ++ read) ++ rest) ≡ cs ++ take n mid.bytes ∷ chunks (drop n mid.bytes ++ rest) =
+      chunk_taken cs mid.bytes rest (joined (pieces ++ read) ++ rest) n (read_on v mid max_reads pieces cs read text done on rest over) (next.ends rest over) in
       inl (record {
-        statements = read.statements;
+        statements = done.statements;
         fault = Some fault;
-        read = subst (λ l. Give v.options.max_depth 1 l read.statements (Some fault)) (sym all)
-            (give_fault v.options.max_depth v.progress.line cs read.statements (take n v.ahead.bytes) (chunks (drop n v.ahead.bytes ++ rest)) fault read.kept.read read.kept.line gives);
-        calm = λ h. sym read.kept.left.failed ∙ read.calm h;
-        text_is = read.text_is;
-        told_is = ap (λ b. told_alone (fault_text fault ∷ []) b (Syntax fault)) read.kept.left.changed;
+        read = subst (λ l. Give v.options.max_depth 1 l done.statements (Some fault)) (sym all)
+            (give_fault v.options.max_depth v.progress.line cs done.statements (take n mid.bytes) (chunks (drop n mid.bytes ++ rest)) fault done.kept.read done.kept.line gives);
+        calm = λ h. sym done.kept.left.failed ∙ done.calm h;
+        text_is = done.text_is;
+        told_is = ap (λ b. told_alone (fault_text fault ∷ []) b (Syntax fault)) done.kept.left.changed;
       });
 }
 
 -- an execution fails on a chunk's statement, and failures end the run
-pub ended_failure : (v : SessionValue) (progress : Progress) (message : Option (List ℕ)) (after : List ℕ) (most n : ℕ) (pieces cs : List (List ℕ)) (text : List ℕ)
-    → HasRead v pieces cs text → IsNextChunk most v.ahead n
-    → IsFailed v.home v.passes v.options.keep_going v.options.max_depth (take n v.ahead.bytes) message v.progress progress [] after
-    → HasEnded (record v { progress = progress; failure = message }) FirstFailure pieces text
-ended_failure v progress message after most n pieces cs text read next failed = record {
+pub ended_failure : (v : SessionValue) (mid : Ahead) (progress : Progress) (message : Option (List ℕ)) (after : List ℕ) (max_reads most n : ℕ) (pieces cs read : List (List ℕ)) (text : List ℕ)
+    → HasDone v pieces cs text → IsReadOn max_reads v.ahead mid read → IsNextChunk most mid n
+    → IsFailed v.home v.passes v.options.keep_going v.options.max_depth (take n mid.bytes) message v.progress progress [] after
+    → HasEnded (record v { ahead = mid; progress = progress; failure = message }) FirstFailure (pieces ++ read) text
+ended_failure v mid progress message after max_reads most n pieces cs read text done on next failed = record {
   each = λ rest last.
-      let over : IsTrue v.ahead.ended → rest ≡ [] = λ h. last (subst IsTrue read.ended h) in
-      let all : chunks (joined pieces ++ rest) ≡ cs ++ take n v.ahead.bytes ∷ chunks (drop n v.ahead.bytes ++ rest) =
-      chunk_taken cs v.ahead.bytes rest (joined pieces ++ rest) n (read.first rest over) (next.ends rest over) in
-      let calm : v.progress.failed ≡ false = read.calm failed.ends in
+      let over : IsTrue mid.ended → rest ≡ [] = λ h. last (subst IsTrue (ended_on v mid max_reads pieces cs read text done on) h) in
+      let all : chunks (joined (pieces ++ read) ++ rest) ≡ cs ++ take n mid.bytes ∷ chunks (drop n mid.bytes ++ rest) =
+      chunk_taken cs mid.bytes rest (joined (pieces ++ read) ++ rest) n (read_on v mid max_reads pieces cs read text done on rest over) (next.ends rest over) in
+      let calm : v.progress.failed ≡ false = done.calm failed.ends in
       inr (record {
         ends = failed.ends;
-        before = read.statements;
+        before = done.statements;
         statement = failed.statement;
         read = record {
-          front = cs ++ take n v.ahead.bytes ∷ [];
-          after = chunks (drop n v.ahead.bytes ++ rest);
-          chunks_are = all ∙ one_more cs (chunks (drop n v.ahead.bytes ++ rest)) (take n v.ahead.bytes);
-          read = give_statement v.options.max_depth v.progress.line cs read.statements (take n v.ahead.bytes) failed.statement read.kept.read read.kept.line failed.read;
+          front = cs ++ take n mid.bytes ∷ [];
+          after = chunks (drop n mid.bytes ++ rest);
+          chunks_are = all ∙ one_more cs (chunks (drop n mid.bytes ++ rest)) (take n mid.bytes);
+          read = give_statement v.options.max_depth v.progress.line cs done.statements (take n mid.bytes) failed.statement done.kept.read done.kept.line failed.read;
         };
-        calm = sym read.kept.left.failed ∙ calm;
+        calm = sym done.kept.left.failed ∙ calm;
         fails = failed.fails calm;
-        text_is = read.text_is;
+        text_is = done.text_is;
         told_is = ap (λ l. told_alone l progress.changed FirstFailure) (failed.message_is calm)
-            ∙ ap (λ b. told_alone (first_of (failures_at v.home v.passes failed.statement)) b FirstFailure) (failed.changed ∙ read.kept.left.changed);
+            ∙ ap (λ b. told_alone (first_of (failures_at v.home v.passes failed.statement)) b FirstFailure) (failed.changed ∙ done.kept.left.changed);
       });
 }
 
@@ -166,3 +168,12 @@ stopped_session v stopped limit made = record {
   ready = λ h. absurd (going_not_stopped v.stage stopped h);
   fits = λ end h. absurd (ended_not_stopped v.stage end stopped h);
 }
+
+-- the input is too long
+pub too_long_there : (v : SessionValue) (mid : Ahead) (max_reads : ℕ) (pieces cs read : List (List ℕ)) (text : List ℕ)
+    → HasDone v pieces cs text → IsReadOn max_reads v.ahead mid read → mid.reads ≡ max_reads → mid.ended ≡ false
+    → (length (pieces ++ read) ≡ max_reads) × NoneEnds (pieces ++ read)
+too_long_there v mid max_reads pieces cs read text done on all going = (
+  sym (reads_on v mid max_reads pieces cs read text done on) ∙ all,
+  open_more v.ahead.ended mid.ended pieces read on.ended done.none_ends on.none_ends going,
+)

@@ -1,4 +1,3 @@
 pub mod AheadSteps
 pub mod ChunkRead
 pub mod Edits
-pub mod Settled

@@ -9,7 +9,6 @@ ghost use Rattle.bz_engine.specs.Messages.{fault_text};
 ghost use Rattle.bz_engine.specs.Outcome.{told_by};
 ghost use Rattle.bz_engine.specs.Progress.{IsKeptOf};
 ghost use Rattle.bz_engine.specs.private.Edits.{IsEdited};
-ghost use Rattle.bz_engine.specs.private.Settled.{HasRead, settled, shown_after, stage_after};
 ghost use Rattle.bz_engine.specs.SessionValue.{at_start, IsSameRun, IsReady, HasDone, HasEnded, told_at, told_of_progress, told_alone};
 ghost use Rattle.bz_engine.specs.declared.session.Stage.TheVariants.{Going, Ended, Stopped};
 
@@ -222,73 +221,25 @@ impl Session {
         ensures runs { result ≢ Err RunFault.Stopped × (result ≢ Ok Stopped) }
     {
         let line = self.progress.line;
-        let found = find_chunk(&mut self.ahead, source, self.options, line)?;
-        let Some(len) = found else {
+        let Some(len) = find_chunk(&mut self.ahead, source, self.options, line)? else {
             return Ok(Stage::Ended(End::Whole));
         };
-        let stage = self.take_chunk(len, sink)?;
-        Ok(stage)
-    }
-
-    /// Takes the chunk of the first bytes ahead, and answers whether the session goes on.
-    fn take_chunk<W: Sink>(&mut self, len: usize, sink: &mut W) -> Result<Stage, RunFault>
-        requires stopped { self.old.stage ≡ Stopped }
-        requires next { IsNextChunk self.old.options.max_statement self.old.ahead len }
-        requires fits { Fits self.old.progress.kept self.old.passes }
-        requires lines { self.old.progress.line + length self.old.ahead.bytes ≤ 1 + 8192 * self.old.ahead.reads }
-        ensures same { IsSameRun self.old self.new }
-        ensures stage { self.new.stage ≡ self.old.stage }
-        ensures ready { result ≡ Ok Going → IsReady self.new }
-        ensures fits { OnOk result (Fits self.new.progress.kept self.new.passes) }
-        ensures more { result ≡ Ok Going → (pieces cs : List (List ℕ)) (text : List ℕ) → HasRead self.old pieces cs text
-            → (shown : List ℕ) × W.took sink.old shown sink.new
-            × HasDone self.new pieces (cs ++ take len self.old.ahead.bytes ∷ []) (text ++ shown) }
-        ensures end { (end : _) → result ≡ Ok (Ended end) → (pieces cs : List (List ℕ)) (text : List ℕ)
-            → HasRead self.old pieces cs text → W.took sink.old [] sink.new × HasEnded self.new end pieces text }
-        ensures failed { result ≡ Err RunFault.WriteFailed → Rises (W.failures sink.old) (W.failures sink.new) }
-        ensures steady { result ≢ Err RunFault.WriteFailed → W.failures sink.new ≡ W.failures sink.old }
-        ensures devices { (shown : List ℕ) × W.took sink.old shown sink.new }
-        ensures faults { result ≢ Err RunFault.ReadFailed × (result ≢ Err RunFault.InputTooLong) }
-        ensures runs { result ≢ Err RunFault.Stopped × (result ≢ Ok Stopped) }
-    {
         let mut text = mem::replace(&mut self.text, Vec::new(self.alloc));
         text.clear();
         let edited = self.edit(len, &mut text)?;
-        let stage = self.settle(len, edited, text.as_slice(), sink)?;
-        self.text = text;
-        Ok(stage)
-    }
-
-    /// Writes the text of a chunk that is done and takes it. Of a failure that ends the run it keeps the message.
-    fn settle<W: Sink>(
-        &mut self,
-        len: usize,
-        edited: Edited,
-        text: &[u8],
-        sink: &mut W,
-    ) -> Result<Stage, RunFault>
-        requires stopped { self.old.stage ≡ Stopped }
-        requires within { len ≤ length self.old.ahead.bytes }
-        ensures settled { OnOk result (self.new ≡ settled self.old len edited) }
-        ensures stage { IfOk result (λ stage. stage ≡ stage_after edited) }
-        ensures same { OnErr result (self.new ≡ self.old) }
-        ensures ok { OnOk result (W.took sink.old (shown_after edited text.now) sink.new) }
-        ensures devices { (shown : List ℕ) × W.took sink.old shown sink.new }
-        ensures steady { OnOk result (W.failures sink.new ≡ W.failures sink.old) }
-        ensures fault { OnErr result (result ≡ Err RunFault.WriteFailed) }
-        ensures failed { OnErr result (Rises (W.failures sink.old) (W.failures sink.new)) }
-    {
-        match edited {
+        let stage = match edited {
             Edited::Done => {
-                self.write(len, text, sink)?;
-                Ok(Stage::Going)
+                self.write(len, text.as_slice(), sink)?;
+                Stage::Going
             }
-            Edited::Faulty(fault) => Ok(Stage::Ended(End::Syntax(fault))),
+            Edited::Faulty(fault) => Stage::Ended(End::Syntax(fault)),
             Edited::Failed(message) => {
                 self.failure = message;
-                Ok(Stage::Ended(End::FirstFailure))
+                Stage::Ended(End::FirstFailure)
             }
-        }
+        };
+        self.text = text;
+        Ok(stage)
     }
 
     /// The script on the chunk of the first bytes ahead.
