@@ -1,0 +1,98 @@
+use Rattle.std.proofs.Common.{◌≡◌, [], ◌∷◌, ◌++◌, ◌∙◌, ap, sym, subst, length, take, ◌≤◌}
+use Rattle.std.specs.Prelude.{IsErrAnd, Err}
+use Rattle.bz_engine.specs.declared.run_fault.RunFault.{RunFault}
+use Rattle.bz_engine.specs.declared.run_fault.RunFault.TheVariants.{InputTooLong}
+use Rattle.bz_engine.specs.contracts.session.Session.{the_view}
+use Rattle.bz_engine.specs.declared.report.End.TheVariants.{Syntax, FirstFailure}
+use Rattle.bz_engine.specs.SessionValue.{SessionValue, HasDone, HasEnded}
+use Rattle.bz_engine.proofs.Sessions.{too_long_there, reads_within}
+use Rattle.bz_engine.proofs.Advances.{chunk_done, chunk_faulty, chunk_failed, goes_not_on, has_not_ended, same_end, some_chunk, no_chunk, take_some, whole_end}
+use Rattle.bz_engine.proofs.session.Session.advance.Goals as goal
+use Rattle.bz_engine.proofs.session.Session.advance.Goals.{in-Done+in_ok-write-in-Done, in-Faulty, in-Failed}
+
+pub returns-in_err-len-clause-too_long : goal.returns-in_err-len-clause-too_long
+returns-in_err-len-clause-too_long g c told pieces cs text before =
+    let done = subst (λ v. HasDone v pieces cs text) (sym (ap the_view c.self-inside.view_is ∙ c.self.view_is)) before in
+    let read = c.find_chunk.ensures.read in
+    let same : (let fault : RunFault = InputTooLong in fault) ≡ c.in_err-len.field-0.0 = subst (λ r. IsErrAnd r (λ e. e ≡ c.in_err-len.field-0.0)) told c.from_residual.ensures.1 in
+    let full = c.find_chunk.ensures.too_long (c.in_err-len.was ∙ ap Err (sym same)) in
+    let all = too_long_there _ c.find_chunk.new.ahead _ pieces cs read.0 text done read.2 full.0 full.1 in
+    (read.0, read.1, all.0, all.1)
+
+pub returns-clause-more : goal.returns-clause-more
+returns-clause-more g c going pieces cs text before =
+    let done = subst (λ v. HasDone v pieces cs text) (sym (ap the_view c.self-inside.view_is ∙ c.self.view_is)) before in
+    let read = c.find_chunk.ensures.read in
+    let next = some_chunk _ _ _ _ c.in_ok-len.ensures.chunk c.in-Some.is in
+    elim c.match-edited.branch [
+      | in-Done+in_ok-write-in-Done w ↦ (
+        read.0,
+        take c.in-Some.len c.find_chunk.new.ahead.bytes,
+        c.edit.new.text.items,
+        read.1,
+        subst (λ s. g.W.Sink.took c.args.sink.now c.edit.new.text.items s) (sym w.sink-is) (subst (λ t. g.W.Sink.took c.args.sink.now t w.write.new.sink) w.as_slice.ensures.value w.in_ok-write-in-Done.ensures.ok),
+        take_some c.in-Some.len c.find_chunk.new.ahead.bytes next.some next.within,
+        read.2.few,
+        subst (λ v. HasDone v (pieces ++ read.0) (cs ++ take c.in-Some.len c.find_chunk.new.ahead.bytes ∷ []) (text ++ c.edit.new.text.items)) (sym (c.self-2.view_is ∙ w.self-is))
+            (chunk_done _ c.edit.new.self w.write.new.self c.find_chunk.new.ahead _ c.edit.new.text.items c.in_ok-edited.edited _ _ c.in-Some.len pieces cs read.0 text
+            done read.2 next c.clear.ensures.items c.edit.ensures.same c.in_ok-edited.ensures.edited w.in-Done.is w.in_ok-write-in-Done.ensures.taken),
+      )
+      | in-Faulty w ↦ goes_not_on c.match-edited.stage (Syntax w.in-Faulty.fault) going w.stage-is
+      | in-Failed w ↦ goes_not_on c.match-edited.stage FirstFailure going w.stage-is
+    ]
+
+pub returns-clause-end : goal.returns-clause-end
+returns-clause-end g c end ended pieces cs text before =
+    let done = subst (λ v. HasDone v pieces cs text) (sym (ap the_view c.self-inside.view_is ∙ c.self.view_is)) before in
+    let read = c.find_chunk.ensures.read in
+    let next = some_chunk _ _ _ _ c.in_ok-len.ensures.chunk c.in-Some.is in
+    elim c.match-edited.branch [
+      | in-Done+in_ok-write-in-Done w ↦ has_not_ended c.match-edited.stage end ended w.stage-is
+      | in-Faulty w ↦ (
+        read.0,
+        read.1,
+        subst (λ s. g.W.Sink.took c.args.sink.now [] s) (sym w.sink-is) (g.met.W.Sink.took_nothing _),
+        subst (λ v. length (pieces ++ read.0) ≤ v.options.max_reads) (sym (c.self-2.view_is ∙ w.self-is ∙ c.edit.ensures.same))
+            (reads_within _ c.find_chunk.new.ahead _ pieces cs read.0 text done read.2),
+        subst (λ v. HasEnded v end (pieces ++ read.0) text) (sym (c.self-2.view_is ∙ w.self-is))
+            (subst (λ e. HasEnded c.edit.new.self e (pieces ++ read.0) text) (same_end c.match-edited.stage end (Syntax w.in-Faulty.fault) ended w.stage-is)
+            (chunk_faulty _ c.edit.new.self c.find_chunk.new.ahead _ c.edit.new.text.items c.in_ok-edited.edited w.in-Faulty.fault _ _ c.in-Some.len pieces cs read.0 text
+            done read.2 next c.clear.ensures.items c.edit.ensures.same c.in_ok-edited.ensures.edited w.in-Faulty.is)),
+      )
+      | in-Failed w ↦
+          let fails : SessionValue → SessionValue = λ x. record x { failure = w.in-Failed.message } in
+          let failed = w.self-is ∙ ap fails w.self-in-Failed.view_is in (
+            read.0,
+            read.1,
+            subst (λ s. g.W.Sink.took c.args.sink.now [] s) (sym w.sink-is) (g.met.W.Sink.took_nothing _),
+            subst (λ v. length (pieces ++ read.0) ≤ v.options.max_reads) (sym (c.self-2.view_is ∙ failed ∙ ap fails c.edit.ensures.same))
+                (reads_within _ c.find_chunk.new.ahead _ pieces cs read.0 text done read.2),
+            subst (λ v. HasEnded v end (pieces ++ read.0) text) (sym c.self-2.view_is)
+                (subst (λ e. HasEnded c.match-edited.self e (pieces ++ read.0) text) (same_end c.match-edited.stage end FirstFailure ended w.stage-is)
+                (chunk_failed _ c.edit.new.self c.match-edited.self c.find_chunk.new.ahead _ c.edit.new.text.items c.in_ok-edited.edited w.in-Failed.message _ _ c.in-Some.len pieces cs read.0 text
+                done read.2 next c.clear.ensures.items c.edit.ensures.same c.in_ok-edited.ensures.edited w.in-Failed.is failed)),
+          )
+    ]
+
+pub returns-in_default-clause-end : goal.returns-in_default-clause-end
+returns-in_default-clause-end g c end ended pieces cs text before =
+    let done = subst (λ v. HasDone v pieces cs text) (sym (ap the_view c.self-inside.view_is ∙ c.self.view_is)) before in
+    let read = c.find_chunk.ensures.read in
+    let none = no_chunk c.in_ok-len.field-0 c.find_chunk.new.ahead c.in_ok-len.ensures.none c.in_default.is in (
+      read.0,
+      read.1,
+      g.met.W.Sink.took_nothing _,
+      reads_within _ c.find_chunk.new.ahead _ pieces cs read.0 text done read.2,
+      whole_end _ c.find_chunk.new.ahead end _ pieces cs read.0 text done read.2 none ended,
+    )
+
+pub returns-clause-devices : goal.returns-clause-devices
+returns-clause-devices g c =
+    let read = c.find_chunk.ensures.read in
+    elim c.match-edited.branch [
+      | in-Done+in_ok-write-in-Done w ↦
+          let shown = w.write.ensures.devices in
+          (read.0, shown.0, read.1, subst (λ s. g.W.Sink.took c.args.sink.now shown.0 s) (sym w.sink-is) shown.1)
+      | in-Faulty w ↦ (read.0, [], read.1, subst (λ s. g.W.Sink.took c.args.sink.now [] s) (sym w.sink-is) (g.met.W.Sink.took_nothing _))
+      | in-Failed w ↦ (read.0, [], read.1, subst (λ s. g.W.Sink.took c.args.sink.now [] s) (sym w.sink-is) (g.met.W.Sink.took_nothing _))
+    ]
