@@ -6,7 +6,8 @@ use Rattle.bz_token.specs.declared.cutter.scan.LineKind.TheVariants.{Blank}
 use Rattle.bz_token.specs.declared.cutter.scan.Scan.{Scan}
 use Rattle.bz_token.specs.declared.cutter.block.Stage.{Stage}
 use Rattle.bz_token.specs.declared.cutter.block.Stage.TheVariants.{Notes}
-use Rattle.bz_token.specs.Chunks.{stage_after, takes, chunks}
+use Rattle.bz_token.specs.Chunks.{chunks}
+use Rattle.bz_token.specs.private.Stages.{stage_after, takes}
 use Rattle.bz_token.specs.Cuts.{ends_in_newline}
 use Rattle.bz_token.specs.private.CutSteps.{is_ended, line_here, seen_chunks, outside, next, start}
 use Rattle.bz_token.proofs.CutMachine.{ended_restarts}

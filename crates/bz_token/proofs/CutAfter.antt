@@ -9,7 +9,8 @@ use Rattle.bz_token.specs.declared.cutter.block.Stage.{Stage}
 use Rattle.bz_token.specs.declared.cutter.block.Stage.TheVariants.{Notes, InBlock, Done}
 use Rattle.bz_token.specs.declared.cutter.Cutter.{Cutter}
 use Rattle.bz_token.specs.Blocks.{word_at, opener, opener_of, goes_on}
-use Rattle.bz_token.specs.Chunks.{stage_after, stage_step, takes, chunks}
+use Rattle.bz_token.specs.Chunks.{chunks}
+use Rattle.bz_token.specs.private.Stages.{stage_after, stage_step, takes}
 use Rattle.bz_token.specs.Cuts.{is_physical_line, ends_in_newline, EndsBefore}
 use Rattle.bz_token.specs.private.CutSteps.{is_ended, is_broken, is_blank_kind, line_here, seen_chunks, outside, next, start, run, head_after, moved, fresh, between}
 use Rattle.bz_token.specs.CutterState.{Takes, IsAfter}

@@ -11,7 +11,8 @@ use Rattle.bz_token.specs.declared.cutter.Cutter.{Cutter}
 use Rattle.bz_token.specs.declared.cutter.Cut.{Cut}
 use Rattle.bz_token.specs.declared.cutter.Cut.TheVariants.{More, Whole, Block}
 use Rattle.bz_token.specs.Blocks.{is_word_byte, word_at, goes_on}
-use Rattle.bz_token.specs.Chunks.{stage_after, takes, chunks}
+use Rattle.bz_token.specs.Chunks.{chunks}
+use Rattle.bz_token.specs.private.Stages.{stage_after, takes}
 use Rattle.bz_token.specs.Cuts.{is_physical_line, ends_in_newline, first_line, EndsBefore, IsLonger, IsChunk, IsPart, IsBlock, IsCut, IsLast, IsNext, left, left_next}
 use Rattle.bz_token.specs.private.CutSteps.{is_ended, line_here, next, run, moved, stage_now, fresh, between, cut_at, cutter_at}
 use Rattle.bz_token.specs.declared.cutter.Next.{Next}

@@ -11,12 +11,14 @@ use Rattle.bz_token.specs.declared.cutter.scan.Scan.{Scan}
 use Rattle.bz_token.specs.Groups.{grouped, grouped_from}
 use Rattle.bz_token.specs.LogicalLines.{Line}
 use Rattle.bz_token.specs.Blocks.{is_white, is_word_byte, word_at, has_branch}
-use Rattle.bz_token.specs.Chunks.{stage_after, stage_from, takes, chunk_goes_on, text_of, chunks}
+use Rattle.bz_token.specs.Chunks.{chunk_goes_on, text_of, chunks}
+use Rattle.bz_token.specs.private.Stages.{stage_after, stage_from, takes}
 use Rattle.bz_token.specs.private.CutSteps.{is_ended, is_broken, line_at, line_here, seen_chunks, outside, next, start}
 use Rattle.bz_token.proofs.CutSeen.{seen_lines, final_kind}
 use Rattle.bz_token.proofs.CutStrings.{grouped_joins, grouped_apart, seen_step}
 use Rattle.bz_token.proofs.CutMachine.{next_inside}
 use Rattle.bz_token.proofs.CutLines.{lines_are}
+use Rattle.bz_token.proofs.Stages.{stage_takes}
 
 pub chunk_step : (s : Scan) (stage : Stage) (before part : List ℕ) (b : ℕ) (bs : List ℕ) → is_ended s.inside ≡ false → seen_chunks s stage before part (b ∷ bs) ≡ seen_chunks (next s b) stage before (part ++ b ∷ []) bs
 chunk_step s stage before part b bs h = rw (h, seen_chunks) refl
@@ -117,10 +119,10 @@ grouped_with done [] = done ∷ []
 grouped_with done (l ∷ ls) = grouped_from chunk_goes_on (done ++ l ∷ []) ls
 
 joined : (done ls : List Line) (l : Line) (rest : List Line) → ls ≡ l ∷ rest → takes (stage_from Notes done) l.text ≡ true → grouped_from chunk_goes_on done ls ≡ grouped_with done ls
-joined done ls l rest e h = rw e (grouped_joins chunk_goes_on done l rest h)
+joined done ls l rest e h = rw e (grouped_joins chunk_goes_on done l rest (sym (stage_takes done l.text) ∙ h))
 
 is_apart : (done ls : List Line) (l : Line) (rest : List Line) → ls ≡ l ∷ rest → takes (stage_from Notes done) l.text ≡ false → grouped_from chunk_goes_on done ls ≡ done ∷ grouped_with [] ls
-is_apart done ls l rest e h = rw e (grouped_apart chunk_goes_on done l rest h)
+is_apart done ls l rest e h = rw e (grouped_apart chunk_goes_on done l rest (sym (stage_takes done l.text) ∙ h))
 
 text_snoc : (done : List Line) (l : Line) → text_of (done ++ l ∷ []) ≡ text_of done ++ l.text
 text_snoc [] l = append-nil l.text

@@ -5,7 +5,8 @@ use Rattle.bz_token.specs.declared.cutter.scan.Scan.{Scan}
 use Rattle.bz_token.specs.declared.cutter.block.Stage.{Stage}
 use Rattle.bz_token.specs.declared.cutter.block.Stage.TheVariants.{Notes}
 use Rattle.bz_token.specs.declared.cutter.scan.LineKind.TheVariants.{Blank}
-use Rattle.bz_token.specs.Chunks.{chunks, takes, stage_after}
+use Rattle.bz_token.specs.Chunks.{chunks}
+use Rattle.bz_token.specs.private.Stages.{takes, stage_after}
 use Rattle.bz_token.specs.Cuts.{EndsBefore}
 use Rattle.bz_token.specs.private.CutSteps.{is_ended, outside, next, start, run, line_here, seen_chunks}
 use Rattle.std.specs.List.{concat}

@@ -34,6 +34,7 @@ pub mod CutPasses
 pub mod CutMachine
 pub mod CutQuiet
 pub mod CutLines
+pub mod Stages
 pub mod CutLaws
 pub mod CutHeads
 pub mod CutAfter

@@ -1,44 +1,43 @@
 -- The chunks of a file (this project's own rule): a blank line; or comment lines with the blank line after them, or the
 -- end of the file; or comment lines, if any, with a statement line and, where that begins a block, the block's lines.
-use Rattle.std.specs.Prelude.{cond, Option, Some, None, ℕ, List, [], ◌∷◌, map, Bool, true, false}
-use Rattle.std.specs.List.{concat}
+use Rattle.std.specs.Prelude.{Option, Some, None, ℕ, List, [], ◌∷◌, map, Bool, true, false, not, ◌&&◌}
+use Rattle.std.specs.List.{concat, list_any}
 use Rattle.bz_token.specs.declared.cutter.scan.LineKind.{LineKind}
 use Rattle.bz_token.specs.declared.cutter.scan.LineKind.TheVariants.{Blank, Note, Statement}
 use Rattle.bz_token.specs.declared.cutter.block.Opener.{Opener}
-use Rattle.bz_token.specs.declared.cutter.block.Stage.{Stage}
-use Rattle.bz_token.specs.declared.cutter.block.Stage.TheVariants.{Notes, InBlock, Done}
 use Rattle.bz_token.specs.Groups.{grouped}
 use Rattle.bz_token.specs.LogicalLines.{Line, lines}
 use Rattle.bz_token.specs.Blocks.{opener, goes_on}
 
--- what a chunk is after a line that is no comment: whole, or a block; a line that a string breaks off ends a block
-abbrev pub stage_of : Option Opener → Bool → Stage
-stage_of None broken = Done
-stage_of (Some word) broken = cond broken Done (InBlock word)
+abbrev pub is_comment_line : LineKind → Bool
+is_comment_line Blank = false
+is_comment_line Note = true
+is_comment_line Statement = false
 
--- what a chunk is after one line more
-abbrev pub stage_step : Stage → LineKind → Option Opener → Bool → Stage
-stage_step Notes Blank word broken = Done
-stage_step Notes Note word broken = Notes
-stage_step Notes Statement word broken = stage_of word broken
-stage_step (InBlock word) kind other broken = cond broken Done (InBlock word)
-stage_step Done kind word broken = Done
+-- the lines of a chunk from the first that is no comment
+abbrev pub after_comments : List Line → List Line
+after_comments [] = []
+after_comments (l ∷ ls) = elim (is_comment_line l.kind) [ true ↦ after_comments ls | false ↦ l ∷ ls ]
 
-abbrev pub stage_after : Stage → Line → Stage
-stage_after stage line = stage_step stage line.kind (opener line.text) line.broken
+-- the word of a block that a statement line begins with
+abbrev pub block_word : LineKind → List ℕ → Option Opener
+block_word Blank text = None
+block_word Note text = None
+block_word Statement text = opener text
 
-abbrev pub stage_from : Stage → List Line → Stage
-stage_from stage [] = stage
-stage_from stage (l ∷ ls) = stage_from (stage_after stage l) ls
+-- whether lines that begin with such a word go on with a text: it goes on with the block, and no string broke off before
+abbrev pub takes_on : Option Opener → List Line → List ℕ → Bool
+takes_on None block text = false
+takes_on (Some word) block text = not (list_any (λ l. l.broken) block) && goes_on word text
 
--- whether the line that follows joins the chunk
-abbrev pub takes : Stage → List ℕ → Bool
-takes Notes text = true
-takes (InBlock word) text = goes_on word text
-takes Done text = false
+-- comment lines alone take any line; a blank line and a statement none but those of its block
+abbrev pub is_followed : List Line → List ℕ → Bool
+is_followed [] text = true
+is_followed (l ∷ ls) text = takes_on (block_word l.kind l.text) (l ∷ ls) text
 
+-- whether the next line joins the chunk
 abbrev pub chunk_goes_on : List Line → Line → Bool
-chunk_goes_on chunk line = takes (stage_from Notes chunk) line.text
+chunk_goes_on chunk next = is_followed (after_comments chunk) next.text
 
 abbrev pub text_of : List Line → List ℕ
 text_of ls = concat (map (λ l. l.text) ls)

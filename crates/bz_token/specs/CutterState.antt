@@ -9,7 +9,8 @@ use Rattle.bz_token.specs.declared.cutter.Cutter.{Cutter}
 use Rattle.bz_token.specs.declared.cutter.block.Stage.{Stage}
 use Rattle.bz_token.specs.declared.cutter.block.Stage.TheVariants.{Notes, InBlock, Done}
 use Rattle.bz_token.specs.Blocks.{opener}
-use Rattle.bz_token.specs.Chunks.{takes, chunks}
+use Rattle.bz_token.specs.Chunks.{chunks}
+use Rattle.bz_token.specs.private.Stages.{takes}
 use Rattle.bz_token.specs.Cuts.{first_line, EndsBefore}
 use Rattle.bz_token.specs.private.CutSteps.{is_ended, is_blank_kind, seen_chunks, next, start}
 

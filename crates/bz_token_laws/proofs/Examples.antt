@@ -9,7 +9,10 @@ use Rattle.bz_token.specs.FreshStart.{ends_in_line}
 use Rattle.bz_token.specs.Reading.{Piece, open_after}
 use Rattle.bz_token_laws.specs.Readable.{are_texts, are_ended, are_fitting}
 use Rattle.bz_token_laws.specs.TokenLines.{lines_of}
-use Rattle.bz_token_laws.specs.ChunkForms.{are_comments, ends_chunk}
+use Rattle.bz_token.specs.Chunks.{chunk_goes_on}
+use Rattle.bz_token.specs.Groups.{grouped}
+use Rattle.bz_token.specs.LogicalLines.{lines}
+use Rattle.bz_token_laws.specs.ChunkForms.{are_comments, ends_chunk, are_forms}
 
 abbrev piece : List ℕ → Kind → List ℕ → Piece
 piece gap kind text = record { gap = gap; kind = kind; text = text }
@@ -61,3 +64,13 @@ unfitting = refl
 -- two names with nothing between them are one
 joined : are_ended (piece [] Ident (codes "x") ∷ piece [] Ident (codes "y") ∷ []) [] ≡ false
 joined = refl
+
+-- chunks of the three forms; a statement and a blank line are none, nor are comment lines that a statement follows
+three_forms : are_forms (grouped chunk_goes_on (lines (codes "# a\n\n# b\nif x:\n  y\nelse:\n  z\n\nw\n# c"))) ≡ true
+three_forms = refl
+
+too_long : are_forms (lines (codes "x\n\n") ∷ []) ≡ false
+too_long = refl
+
+too_short : are_forms (lines (codes "# a\n") ∷ lines (codes "x\n") ∷ []) ≡ false
+too_short = refl

@@ -1,16 +1,24 @@
 //! Laws on chunks: which lines are one, whatever follows.
 
-ghost use Rattle.std.specs.Prelude.{◌≡◌, ◌++◌, ◌∷◌, ℕ, List, None, true, false, []};
+ghost use Rattle.std.specs.Prelude.{◌≡◌, ◌++◌, ◌∷◌, ℕ, List, None, true, false, [], map};
+ghost use Rattle.std.specs.List.{flat_map};
 ghost use Rattle.bz_token.specs.declared.token.Kind.{Kind};
 ghost use Rattle.bz_token.specs.Lexical.{IsToken};
 ghost use Rattle.bz_token.specs.Places.{Placed};
 ghost use Rattle.bz_token.specs.Brackets.{is_line};
 ghost use Rattle.bz_token.specs.LogicalLines.{Line, lines};
 ghost use Rattle.bz_token.specs.Blocks.{opener_of, opener};
-ghost use Rattle.bz_token.specs.Chunks.{chunks};
+ghost use Rattle.bz_token.specs.Chunks.{text_of, chunks};
 ghost use Rattle.bz_token.specs.Cuts.{IsChunk};
 ghost use Rattle.bz_token.specs.FreshStart.{AreLinesOf};
-ghost use Rattle.bz_token_laws.specs.ChunkForms.{are_comments, ends_chunk};
+ghost use Rattle.bz_token_laws.specs.ChunkForms.{are_comments, ends_chunk, are_forms};
+
+/// The chunks of a file are its logical lines in groups. A group is comment lines, if any, and then a blank line, or a
+/// statement line with the lines of its block, if it begins one; or, as the last of the file, comment lines alone.
+pub fn chunks_have_forms()
+    ensures { (bytes : List ℕ) → (groups : List (List Line)) × (flat_map (λ group. group) groups ≡ lines bytes)
+        × (chunks bytes ≡ map text_of groups) × (are_forms groups ≡ true) }
+{}
 
 /// Comment lines, if any, and after them a blank line or the line of a statement that begins no block are a chunk,
 /// whatever follows. Comment lines alone are one where the file ends.

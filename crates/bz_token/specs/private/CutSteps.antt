@@ -1,5 +1,5 @@
 -- For private clauses: a byte at a time.
-use Rattle.std.specs.Prelude.{ℕ, ◌+◌, ◌-◌, List, [], ◌∷◌, ◌++◌, Bool, true, false, Option, None, cond, not, ◌||◌, ◌&&◌, ◌==◌, if◌then◌else◌}
+use Rattle.std.specs.Prelude.{ℕ, ◌+◌, ◌-◌, List, [], ◌∷◌, ◌++◌, Bool, true, false, Option, None, cond, not, ◌||◌, ◌==◌, if◌then◌else◌}
 use Rattle.bz_token.specs.declared.cutter.scan.Quote.{Quote}
 use Rattle.bz_token.specs.declared.cutter.scan.Quote.TheVariants.{Single, Double}
 use Rattle.bz_token.specs.declared.cutter.scan.LineKind.{LineKind}
@@ -15,7 +15,7 @@ use Rattle.bz_token.specs.LogicalLines.{Line}
 use Rattle.bz_token.specs.declared.cutter.Cut.{Cut}
 use Rattle.bz_token.specs.declared.cutter.Cut.TheVariants.{Whole, More, Block}
 use Rattle.bz_token.specs.Blocks.{word_at, opener_of}
-use Rattle.bz_token.specs.Chunks.{stage_step, stage_after, takes}
+use Rattle.bz_token.specs.private.Stages.{stage_step, stage_after, takes}
 
 abbrev pub is_ended : Inside → Bool
 is_ended Ended = true

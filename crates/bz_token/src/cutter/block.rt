@@ -3,7 +3,7 @@
 ghost use Rattle.std.specs.Prelude.{◌≡◌, ◌<◌, ◌++◌, [], List, ℕ, true, false, length, bytes_eq};
 ghost use Rattle.std.specs.List.{list_all};
 ghost use Rattle.bz_token.specs.Blocks.{is_white, is_word_byte, word_at, opener_of, has_branch, goes_on};
-ghost use Rattle.bz_token.specs.Chunks.{stage_of, stage_step};
+ghost use Rattle.bz_token.specs.private.Stages.{stage_of, stage_step};
 ghost use Rattle.bz_token.specs.private.Decided.{DecidesAhead, is_branch_front};
 
 use super::Next;
