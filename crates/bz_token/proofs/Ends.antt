@@ -13,9 +13,11 @@ use Rattle.bz_token.specs.declared.scan_string.Quotes.{Quotes}
 use Rattle.bz_token.specs.declared.scan_string.Escape.TheVariants.{Unescaped}
 use Rattle.bz_token.specs.declared.token.Kind.{Kind}
 use Rattle.bz_token.specs.declared.token.Kind.TheVariants.{Ident, Word, Int, Text, Sign, Line, Note, Kept}
-use Rattle.bz_token.specs.Lexical.{is_word_byte, is_quote, is_blank, is_newline, signs, is_sign, is_keyword, is_name, is_empty, ends_blank, are_based, is_octal_digit, is_number, is_string, is_comment, closes, closing_row, are_two, opening, opening_length, is_closed, is_long, is_text, begins, counts, is_number_kind, is_string_kind, IsToken, HasNoToken}
+use Rattle.bz_token.specs.Lexical.{is_word_byte, is_quote, is_blank, is_newline, signs, is_sign, is_keyword, is_name, is_empty, ends_blank, are_based, is_octal_digit, is_number, is_string, is_comment, closing_row, are_two, opening, opening_length, is_closed, is_long, is_text, begins, counts, is_number_kind, is_string_kind, IsToken, HasNoToken}
+use Rattle.bz_token.specs.private.Closing.{closes}
 use Rattle.bz_token.specs.Ends.{is_prefix, is_empty_string, stops, stops_at}
 use Rattle.bz_token.proofs.Classes.{Class, letter, digit, quote, newline, hash, mark, unknown, class_of, can_start, text_class, letter_class, digit_class, name_parts, keyword_name, number_starts, one_of, empty_no_text}
+use Rattle.bz_token.proofs.StringUnits.{closes_units}
 use Rattle.bz_token.proofs.Openings.{opening_more, name_opening, opening_facts, same_opening, opening_same, third_quote, no_opening, ends_name, closes_once}
 
 -- what rules a longer token out
@@ -55,7 +57,7 @@ string_opens text is = opened (opening text) refl is
   where
     opened : (x : Option Opening) → opening text ≡ x → is_closed x text ≡ true → (o : Opening) × (opening text ≡ Some o) × (closes o.quotes 0 Unescaped (drop (opening_length o) text) ≡ true)
     opened None same h = absurd (false≢true h)
-    opened (Some o) same h = (o, same, h)
+    opened (Some o) same h = (o, same, closes_units o.quotes (drop (opening_length o) text) (opening_facts text o same).quoted ∙ h)
 
 -- no string stands where none opens
 pub no_string : (place text rest : List ℕ) → opening place ≡ None → place ≡ text ++ rest → is_string text ≡ true → ⊥
@@ -407,7 +409,7 @@ pub string_token_at : (text after : List ℕ) (o : Opening) → opening text ≡
 string_token_at text after o opens place closed = token_from Text text after whole counted longer
   where
     whole : is_string text ≡ true
-    whole = rw (opens, is_closed) closed
+    whole = rw (opens, is_closed) (sym (closes_units o.quotes (drop (opening_length o) text) (opening_facts text o opens).quoted) ∙ closed)
 
     long_or_not : (b : Bool) → (b || not b) ≡ true
     long_or_not true = refl

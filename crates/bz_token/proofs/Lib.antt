@@ -30,6 +30,7 @@ pub mod FreshStart
 pub mod CutMunch
 pub mod CutSeen
 pub mod CutStrings
+pub mod StringUnits
 pub mod CutPasses
 pub mod CutMachine
 pub mod CutQuiet

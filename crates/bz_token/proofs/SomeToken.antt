@@ -12,7 +12,8 @@ use Rattle.bz_token.specs.declared.scan_token.Scanned.{Scanned}
 use Rattle.bz_token.specs.declared.scan_token.Bad.{Bad}
 use Rattle.bz_token.specs.declared.scan_token.Bad.TheVariants.{Character, Number, OpenText, Backslash}
 use Rattle.bz_token.specs.declared.token.Kind.TheVariants.{Ident, Word, Int, Text, Sign, Line, Note}
-use Rattle.bz_token.specs.Lexical.{begins, is_word_byte, is_blank, is_newline, is_keyword, is_number, is_sign, closes, opening, opening_length}
+use Rattle.bz_token.specs.Lexical.{begins, is_word_byte, is_blank, is_newline, is_keyword, is_number, is_sign, opening, opening_length}
+use Rattle.bz_token.specs.private.Closing.{closes}
 use Rattle.bz_token.specs.private.Scans.{IsScanned, IsBadPlace}
 use Rattle.bz_token.proofs.Gaps.{comment_front}
 use Rattle.bz_token.proofs.Signs.{IsSignLength, sign_at}

@@ -4,7 +4,7 @@ use Rattle.std.proofs.lemmas.Bool.{cases_lt, false≢true}
 use Rattle.bz_token.specs.declared.scan_string.Quotes.{Quotes}
 use Rattle.bz_token.specs.declared.scan_string.Escape.{Escape}
 use Rattle.bz_token.specs.declared.scan_string.Escape.TheVariants.{Unescaped, AfterBackslash, AfterReturn}
-use Rattle.bz_token.specs.Lexical.{is_escaped, closes}
+use Rattle.bz_token.specs.private.Closing.{is_escaped, closes}
 
 -- a longer front has a byte more
 pub longer_front : (bytes : List ℕ) (i n : ℕ) → i < n → i < length bytes → (more : List ℕ) × (take n bytes ≡ take i bytes ++ get_or bytes i 0 ∷ more)

@@ -4,11 +4,10 @@ use Rattle.std.specs.Prelude.{ℕ, ◌+◌, ◌≡◌, List, [], ◌∷◌, ◌+
 use Rattle.std.specs.List.{list_all, list_any, prefix_len}
 use Rattle.std.specs.Char.{is_ascii_digit, is_ascii_hexdigit, is_ascii_alphabetic}
 use Rattle.bz_token.specs.declared.token.Kind.{Kind}
-use Rattle.bz_token.specs.declared.scan_string.Escape.{Escape}
-use Rattle.bz_token.specs.declared.scan_string.Escape.TheVariants.{Unescaped, AfterBackslash, AfterReturn}
 use Rattle.bz_token.specs.declared.scan_string.Quotes.{Quotes}
 use Rattle.bz_token.specs.declared.scan_string.Opening.{Opening}
 use Rattle.bz_token.specs.declared.token.Kind.TheVariants.{Ident, Word, Int, Text, Sign, Line, Note, Kept}
+use Rattle.bz_token.specs.Pieces.{is_byte, units, but_last, stops_short, three_in_a_row}
 
 -- ASCII letters, digits and underscores
 abbrev pub is_word_byte : ℕ → Bool
@@ -74,37 +73,17 @@ signs =
 abbrev pub is_sign : List ℕ → Bool
 is_sign text = is_one_of signs text
 
--- a backslash takes the byte after it along, and a newline after that where it is a carriage return
-abbrev pub is_escaped : Escape → ℕ → Bool
-is_escaped Unescaped b = false
-is_escaped AfterBackslash b = true
-is_escaped AfterReturn b = b == 10
-
-abbrev pub starts_escape : ℕ → Escape
-starts_escape b = if b == 92 then AfterBackslash else Unescaped
-
-abbrev pub escape_after : Escape → ℕ → Escape
-escape_after Unescaped b = starts_escape b
-escape_after AfterBackslash b = if b == 13 then AfterReturn else Unescaped
-escape_after AfterReturn b = starts_escape b
-
 -- so many quotes in a row close a string
 abbrev pub closing_row : Bool → ℕ
 closing_row false = 1
 closing_row true = 3
 
--- The closing quotes stand unescaped once, at the end; no unescaped newline stands in a short string. `row` quotes stand before.
-abbrev pub closes : Quotes → ℕ → Escape → List ℕ → Bool
-closes quotes row escape [] = false
-closes quotes row escape (b ∷ bs) = elim (is_escaped escape b) [
-  | true ↦ closes quotes 0 (escape_after escape b) bs
-  | false ↦ elim (b == quotes.byte) [
-    | true ↦ elim (row + 1 == closing_row quotes.long) [
-      | true ↦ is_empty bs
-      | false ↦ closes quotes (row + 1) (escape_after escape b) bs
-    ]
-    | false ↦ (quotes.long || not (b == 10)) && closes quotes 0 (escape_after escape b) bs
-  ]
+-- A string's inside, as units (an escape is one): its closing quotes end it, and stand nowhere before. One closes a short
+-- string, in which no newline is a unit; three in a row close a long one.
+abbrev pub is_closed_inside : Quotes → List (List ℕ) → Bool
+is_closed_inside quotes inside = elim quotes.long [
+  | false ↦ list_any (is_byte quotes.byte) inside && not (list_any (stops_short quotes.byte) (but_last inside))
+  | true ↦ three_in_a_row quotes.byte 0 inside && not (three_in_a_row quotes.byte 0 (but_last inside))
 ]
 
 abbrev pub are_two : ℕ → List ℕ → Bool
@@ -130,7 +109,7 @@ opening_length o = o.prefix + closing_row o.quotes.long
 
 abbrev pub is_closed : Option Opening → List ℕ → Bool
 is_closed None text = false
-is_closed (Some o) text = closes o.quotes 0 Unescaped (drop (opening_length o) text)
+is_closed (Some o) text = is_closed_inside o.quotes (units (drop (opening_length o) text))
 
 abbrev pub is_string : List ℕ → Bool
 is_string text = is_closed (opening text) text

@@ -1,3 +1,4 @@
+pub mod Closing
 pub mod CutSteps
 pub mod Decided
 pub mod Scans

@@ -1,6 +1,7 @@
 use Rattle.std.proofs.Common.{◌≡◌, ◌≤◌, ◌<◌, ℕ, List, ◌++◌, false, take}
 use Rattle.std.specs.List.{list_any}
-use Rattle.bz_token.specs.Lexical.{is_newline, closing_row, closes}
+use Rattle.bz_token.specs.Lexical.{is_newline, closing_row}
+use Rattle.bz_token.specs.private.Closing.{closes}
 use Rattle.bz_token.specs.declared.scan_string.Escape.TheVariants.{Unescaped}
 use Rattle.bz_token.proofs.scan_string.inside_by_bytes.Given as goal
 

@@ -1,0 +1,34 @@
+-- For private clauses: where a string closes, a byte at a time.
+use Rattle.std.specs.Prelude.{ℕ, ◌+◌, List, [], ◌∷◌, Bool, true, false, not, ◌&&◌, ◌||◌, ◌==◌, if◌then◌else◌}
+use Rattle.bz_token.specs.declared.scan_string.Escape.{Escape}
+use Rattle.bz_token.specs.declared.scan_string.Escape.TheVariants.{Unescaped, AfterBackslash, AfterReturn}
+use Rattle.bz_token.specs.declared.scan_string.Quotes.{Quotes}
+use Rattle.bz_token.specs.Lexical.{is_empty, closing_row}
+
+-- a backslash takes the byte after it along, and a newline after that where it is a carriage return
+abbrev pub is_escaped : Escape → ℕ → Bool
+is_escaped Unescaped b = false
+is_escaped AfterBackslash b = true
+is_escaped AfterReturn b = b == 10
+
+abbrev pub starts_escape : ℕ → Escape
+starts_escape b = if b == 92 then AfterBackslash else Unescaped
+
+abbrev pub escape_after : Escape → ℕ → Escape
+escape_after Unescaped b = starts_escape b
+escape_after AfterBackslash b = if b == 13 then AfterReturn else Unescaped
+escape_after AfterReturn b = starts_escape b
+
+-- The closing quotes stand unescaped once, at the end; no unescaped newline stands in a short string. `row` quotes stand before.
+abbrev pub closes : Quotes → ℕ → Escape → List ℕ → Bool
+closes quotes row escape [] = false
+closes quotes row escape (b ∷ bs) = elim (is_escaped escape b) [
+  | true ↦ closes quotes 0 (escape_after escape b) bs
+  | false ↦ elim (b == quotes.byte) [
+    | true ↦ elim (row + 1 == closing_row quotes.long) [
+      | true ↦ is_empty bs
+      | false ↦ closes quotes (row + 1) (escape_after escape b) bs
+    ]
+    | false ↦ (quotes.long || not (b == 10)) && closes quotes 0 (escape_after escape b) bs
+  ]
+]
