@@ -7,6 +7,8 @@ pub mod Classes
 pub mod Openings
 pub mod Ends
 pub mod Signs
+pub mod Tables
+pub mod Words
 pub mod Scanning
 pub mod Progress
 pub mod Innermost

@@ -3,3 +3,4 @@ pub mod CutSteps
 pub mod Decided
 pub mod Scans
 pub mod Stages
+pub mod Tables

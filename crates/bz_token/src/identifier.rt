@@ -5,7 +5,8 @@ ghost use Rattle.std.specs.List.{list_all};
 ghost use Rattle.bz_token.specs.declared.token.Kind.TheVariants.{Ident};
 ghost use Rattle.bz_token.specs.Lexical as spec;
 
-use crate::scan::{is_keyword, is_word_byte};
+use crate::scan::is_keyword;
+use crate::table::is_word_byte;
 
 /// The text is an identifier: ASCII letters, digits and underscores that begin with no digit, and no keyword (Starlark
 /// specification, "Lexical elements").

@@ -11,6 +11,7 @@ mod lexer;
 mod scan;
 mod scan_string;
 mod scan_token;
+mod table;
 mod token;
 mod utf8;
 

@@ -7,18 +7,13 @@ ghost use Rattle.bz_token.specs.declared.token.Kind.TheVariants.{Sign};
 ghost use Rattle.bz_token.specs.Ends.{stops_at};
 ghost use Rattle.bz_token.specs.Lexical.{signs, keywords, begins, is_blank, is_word_byte, is_octal_digit, are_based, is_number, is_keyword, is_one_of, is_sign, is_comment, is_newline};
 
+use crate::table::is_word_byte;
+
 #[inline(always)]
 pub fn is_blank(b: u8) -> bool
     ensures { result ≡ is_blank b }
 {
     matches!(b, b' ' | b'\t' | b'\r')
-}
-
-#[inline(always)]
-pub fn is_word_byte(b: u8) -> bool
-    ensures { result ≡ is_word_byte b }
-{
-    b.is_ascii_alphabetic() || b.is_ascii_digit() || b == b'_'
 }
 
 /// The number of letters, digits and underscores here.
@@ -74,55 +69,30 @@ pub fn is_number(bytes: &[u8]) -> bool
     }
 }
 
-#[inline(always)]
-fn are(bytes: &[u8], word: &[u8]) -> bool
-    ensures { result ≡ bytes_eq bytes.now word.now }
-{
-    bytes == word
-}
-
 /// Whether the bytes are a keyword.
+#[tactic(auto, unfolding(crate::specs::Lexical::keywords))]
 #[inline(always)]
 pub fn is_keyword(bytes: &[u8]) -> bool
     ensures { result ≡ is_keyword bytes.now }
 {
-    is_keyword_to_e(bytes) || is_keyword_to_l(bytes) || is_keyword_to_r(bytes)
-}
-
-#[tactic(auto, unfolding(crate::specs::Lexical::keywords))]
-#[inline(always)]
-fn is_keyword_to_e(bytes: &[u8]) -> bool
-    ensures { result ≡ is_one_of (take 5 keywords) bytes.now }
-{
-    are(bytes, b"and")
-        || are(bytes, b"break")
-        || are(bytes, b"continue")
-        || are(bytes, b"def")
-        || are(bytes, b"elif")
-}
-
-#[tactic(auto, unfolding(crate::specs::Lexical::keywords))]
-#[inline(always)]
-fn is_keyword_to_l(bytes: &[u8]) -> bool
-    ensures { result ≡ is_one_of (take 5 (drop 5 keywords)) bytes.now }
-{
-    are(bytes, b"else")
-        || are(bytes, b"for")
-        || are(bytes, b"if")
-        || are(bytes, b"in")
-        || are(bytes, b"lambda")
-}
-
-#[tactic(auto, unfolding(crate::specs::Lexical::keywords))]
-#[inline(always)]
-fn is_keyword_to_r(bytes: &[u8]) -> bool
-    ensures { result ≡ is_one_of (drop 10 keywords) bytes.now }
-{
-    are(bytes, b"load")
-        || are(bytes, b"not")
-        || are(bytes, b"or")
-        || are(bytes, b"pass")
-        || are(bytes, b"return")
+    match bytes {
+        [b'a', b'n', b'd'] => true,
+        [b'b', b'r', b'e', b'a', b'k'] => true,
+        [b'c', b'o', b'n', b't', b'i', b'n', b'u', b'e'] => true,
+        [b'd', b'e', b'f'] => true,
+        [b'e', b'l', b'i', b'f'] => true,
+        [b'e', b'l', b's', b'e'] => true,
+        [b'f', b'o', b'r'] => true,
+        [b'i', b'f'] => true,
+        [b'i', b'n'] => true,
+        [b'l', b'a', b'm', b'b', b'd', b'a'] => true,
+        [b'l', b'o', b'a', b'd'] => true,
+        [b'n', b'o', b't'] => true,
+        [b'o', b'r'] => true,
+        [b'p', b'a', b's', b's'] => true,
+        [b'r', b'e', b't', b'u', b'r', b'n'] => true,
+        _ => false,
+    }
 }
 
 /// The length of the sign that begins with the first of these bytes, or 0.

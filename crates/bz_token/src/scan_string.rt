@@ -1,6 +1,6 @@
 //! Where a string literal opens and closes.
 
-ghost use Rattle.std.specs.Prelude.{◌≡◌, ◌≤◌, ◌<◌, ◌-◌, ℕ, true, false, length, take, slice_index, IfSome, IfNone};
+ghost use Rattle.std.specs.Prelude.{◌≡◌, ◌≤◌, ◌<◌, ◌-◌, ℕ, Some, true, false, length, take, slice_index, IfSome, IfNone};
 ghost use Rattle.std.specs.List.{list_any, prefix_len};
 ghost use Rattle.bz_token.specs.Lexical.{is_newline, is_quote, closing_row, prefix_letters, are_two, opening};
 ghost use Rattle.bz_token.specs.private.Closing.{is_escaped, escape_after, closes};
@@ -111,6 +111,21 @@ pub fn opening_at(bytes: &[u8]) -> Option<Opening>
         long: are_two(*byte, after),
     };
     Some(Opening { prefix, quotes })
+}
+
+/// What opens the string that begins with this quote.
+#[inline(always)]
+pub fn quoted_at(bytes: &[u8]) -> Opening
+    requires some { 0 < length bytes.now }
+    requires quote { is_quote (slice_index bytes.now 0) ≡ true }
+    ensures { opening bytes.now ≡ Some result }
+{
+    let byte = bytes[0];
+    let quotes = Quotes {
+        byte,
+        long: are_two(byte, &bytes[1..]),
+    };
+    Opening { prefix: 0, quotes }
 }
 
 // A byte that neither ends a short string nor escapes the next byte.

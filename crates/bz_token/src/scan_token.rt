@@ -1,12 +1,14 @@
 //! The token at a place.
 
-ghost use Rattle.std.specs.Prelude.{◌≡◌, ◌<◌, ◌≤◌, ◌==◌, ℕ, List, Some, None, true, false, length, IfOk, IfErr};
+ghost use Rattle.std.specs.Prelude.{◌≡◌, ◌<◌, ◌≤◌, ◌==◌, ℕ, List, Some, None, true, false, length, slice_index, IfOk, IfErr};
 ghost use Rattle.std.specs.Char.{is_ascii_digit};
 ghost use Rattle.bz_token.specs.Lexical.{begins, opening, is_word_byte};
 ghost use Rattle.bz_token.specs.private.Scans.{IsScanned, IsBadPlace};
+ghost use Rattle.bz_token.specs.private.Tables.{IsMark};
 
-use crate::scan::{comment_len, is_keyword, is_number, is_word_byte, sign_len, word_len};
-use crate::scan_string::{Opening, closing_row, inside_at, opening_at};
+use crate::scan::{comment_len, is_keyword, is_number, sign_len, word_len};
+use crate::scan_string::{Opening, closing_row, inside_at, opening_at, quoted_at};
+use crate::table::{Class, class_at};
 use crate::token::Kind;
 
 /// A token's kind and length.
@@ -85,26 +87,38 @@ fn scan_name(bytes: &[u8]) -> Scanned
     }
 }
 
+// A word, or a string that its prefix begins.
 #[inline(always)]
-fn scan_mark(bytes: &[u8]) -> Result<Scanned, Bad>
-    requires some { 0 < length bytes.now }
-    requires unquoted { opening bytes.now ≡ None }
-    requires no_word { begins is_word_byte bytes.now ≡ false }
+fn scan_prefixed(bytes: &[u8]) -> Result<Scanned, Bad>
+    requires word { begins is_word_byte bytes.now ≡ true }
+    requires no_digit { begins is_ascii_digit bytes.now ≡ false }
     ensures token { IfOk result (λ s. IsScanned bytes.now s) }
     ensures bad { IfErr result (λ bad. IsBadPlace bytes.now bad) }
 {
-    match bytes[0] {
-        b'\n' => Ok(Scanned {
-            kind: Kind::Line,
-            len: 1,
-            has_newline: true,
-        }),
-        b'#' => Ok(on_one_line(Kind::Note, comment_len(bytes))),
-        b'\\' => Err(Bad::Backslash),
-        _ => match sign_len(bytes) {
-            0 => Err(Bad::Character),
-            len => Ok(on_one_line(Kind::Sign, len)),
-        },
+    match opening_at(bytes) {
+        Some(opened) => scan_string(opened, bytes),
+        None => Ok(scan_name(bytes)),
+    }
+}
+
+#[inline(always)]
+fn scan_note(bytes: &[u8]) -> Scanned
+    requires { begins (λ b. b == 35) bytes.now ≡ true }
+    ensures { IsScanned bytes.now result }
+{
+    on_one_line(Kind::Note, comment_len(bytes))
+}
+
+#[inline(always)]
+fn scan_sign(bytes: &[u8]) -> Result<Scanned, Bad>
+    requires some { 0 < length bytes.now }
+    requires mark { IsMark (slice_index bytes.now 0) }
+    ensures token { IfOk result (λ s. IsScanned bytes.now s) }
+    ensures bad { IfErr result (λ bad. IsBadPlace bytes.now bad) }
+{
+    match sign_len(bytes) {
+        0 => Err(Bad::Character),
+        len => Ok(on_one_line(Kind::Sign, len)),
     }
 }
 
@@ -115,15 +129,20 @@ pub fn scan_token(bytes: &[u8]) -> Result<Scanned, Bad>
     ensures token { IfOk result (λ s. IsScanned bytes.now s) }
     ensures bad { IfErr result (λ bad. IsBadPlace bytes.now bad) }
 {
-    if let Some(opened) = opening_at(bytes) {
-        return scan_string(opened, bytes);
-    }
-    let b = bytes[0];
-    if b.is_ascii_digit() {
-        scan_number(bytes)
-    } else if is_word_byte(b) {
-        Ok(scan_name(bytes))
-    } else {
-        scan_mark(bytes)
+    match class_at(bytes[0]) {
+        Class::Letter => Ok(scan_name(bytes)),
+        Class::Prefix => scan_prefixed(bytes),
+        Class::Digit => scan_number(bytes),
+        Class::Quote => scan_string(quoted_at(bytes), bytes),
+        Class::Hash => Ok(scan_note(bytes)),
+        Class::Newline => Ok(Scanned {
+            kind: Kind::Line,
+            len: 1,
+            has_newline: true,
+        }),
+        Class::Backslash => Err(Bad::Backslash),
+        Class::Open | Class::Close | Class::Sign | Class::Space | Class::Unknown => {
+            scan_sign(bytes)
+        }
     }
 }

@@ -1,0 +1,152 @@
+-- The tables hold what their definitions say of each byte, and what a class tells of its bytes.
+use Rattle.std.proofs.Common.{◌≡◌, ℕ, ◌<◌, ◌==◌, ◌⊎◌, List, [], ◌∷◌, length, drop, Bool, true, false, map, get_or, refl, ap, subst, ◌∙◌, arith, inl, inr}
+use Rattle.std.specs.Prelude.{Some, None}
+use Rattle.std.specs.List.{range_with_len}
+use Rattle.std.specs.Char.{is_ascii_digit}
+use Rattle.std.proofs.lemmas.List.FromFn.{get_or-map-range_with_len}
+use Rattle.std.proofs.lemmas.Bool.{cases_Bool, eqb-true}
+use Rattle.std.proofs.lemmas.Bool.Decides.{nat_tests}
+use Rattle.bz_token.specs.Lexical.{begins, is_word_byte, is_blank, is_quote, are_two, opening}
+use Rattle.bz_token.specs.Brackets.{is_opening_bracket, is_closing_bracket}
+use Rattle.bz_token.specs.private.Tables.{is_prefix_letter, is_sign_start, class_of, IsMark}
+use Rattle.bz_token.specs.declared.table.Class.{Class}
+use Rattle.bz_token.specs.declared.table.Class.TheVariants.{Unknown, Space, Newline, Letter, Prefix, Digit, Quote, Hash, Backslash, Open, Close, Sign}
+use Rattle.bz_token.specs.declared.table.TheConstants.{CLASS, WORD}
+use Rattle.bz_token.proofs.Openings.{opens_plain}
+
+classes : CLASS ≡ map class_of (range_with_len 0 256)
+classes = refl
+
+words : WORD ≡ map is_word_byte (range_with_len 0 256)
+words = refl
+
+pub class_read : (b : ℕ) → b < 256 → get_or CLASS b Unknown ≡ class_of b
+class_read b h = ap (λ t. get_or t b Unknown) classes ∙ get_or-map-range_with_len class_of 0 256 b b Unknown h (omega arith)
+
+pub word_read : (b : ℕ) → b < 256 → get_or WORD b false ≡ is_word_byte b
+word_read b h = ap (λ t. get_or t b false) words ∙ get_or-map-range_with_len is_word_byte 0 256 b b false h (omega arith)
+
+-- no gap begins with the byte
+abbrev pub IsSolid : ℕ → Type 0
+IsSolid b = (is_blank b ≡ false) × ((b == 10) ≡ false) × ((b == 92) ≡ false)
+
+abbrev pub Fact : Class → ℕ → Type 0
+Fact Letter b = (is_word_byte b ≡ true) × (is_ascii_digit b ≡ false) × (is_prefix_letter b ≡ false) × IsSolid b
+Fact Prefix b = (is_word_byte b ≡ true) × (is_ascii_digit b ≡ false) × IsSolid b
+Fact Digit b = (is_ascii_digit b ≡ true) × IsSolid b
+Fact Space b = (is_blank b ≡ true) × IsMark b
+Fact Newline b = b ≡ 10
+Fact Quote b = (is_quote b ≡ true) × IsSolid b
+Fact Hash b = ((b == 35) ≡ true) × IsSolid b
+Fact Backslash b = b ≡ 92
+Fact Open b = (is_blank b ≡ false) × IsMark b
+Fact Close b = (is_blank b ≡ false) × IsMark b
+Fact Sign b = (is_blank b ≡ false) × IsMark b
+Fact Unknown b = (is_blank b ≡ false) × IsMark b
+
+word_solid : (b : ℕ) → is_word_byte b ≡ true → IsSolid b
+word_solid b h = (grind (arith, nat_tests), grind (arith, nat_tests), grind (arith, nat_tests))
+
+blank_mark : (b : ℕ) → is_word_byte b ≡ false → is_blank b ≡ true → IsMark b
+blank_mark b none h = (none, grind (arith, nat_tests), grind (arith, nat_tests), grind (arith, nat_tests), grind (arith, nat_tests))
+
+quote_slash : (b : ℕ) → is_quote b ≡ true → (b == 92) ≡ false
+quote_slash b h = grind (arith, nat_tests)
+
+hash_slash : (b : ℕ) → (b == 35) ≡ true → (b == 92) ≡ false
+hash_slash b h = grind (arith, nat_tests)
+
+word_fact : (b : ℕ) → is_word_byte b ≡ true → Fact (class_of b) b
+word_fact b word = elim (cases_Bool (is_ascii_digit b)) [
+  | inl digit ↦ rw (word, digit) (digit, word_solid b word)
+  | inr none ↦ elim (cases_Bool (is_prefix_letter b)) [
+    | inl prefix ↦ rw (word, none, prefix) (word, none, word_solid b word)
+    | inr letter ↦ rw (word, none, letter) (word, none, letter, word_solid b word)
+  ]
+]
+
+mark_fact : (b : ℕ) → is_word_byte b ≡ false → is_blank b ≡ false → (b == 10) ≡ false → is_quote b ≡ false → (b == 35) ≡ false → (b == 92) ≡ false → Fact (class_of b) b
+mark_fact b word blank line quote hash slash =
+    let told : (is_blank b ≡ false) × IsMark b = (blank, (word, quote, line, hash, slash)) in
+    elim (cases_Bool (is_opening_bracket b)) [
+      | inl opens ↦ rw (word, blank, line, quote, hash, slash, opens) told
+      | inr no_open ↦ elim (cases_Bool (is_closing_bracket b)) [
+        | inl closing ↦ rw (word, blank, line, quote, hash, slash, no_open, closing) told
+        | inr no_close ↦ elim (cases_Bool (is_sign_start b)) [
+          | inl sign ↦ rw (word, blank, line, quote, hash, slash, no_open, no_close, sign) told
+          | inr none ↦ rw (word, blank, line, quote, hash, slash, no_open, no_close, none) told
+        ]
+      ]
+    ]
+
+fact_of : (b : ℕ) → Fact (class_of b) b
+fact_of b = elim (cases_Bool (is_word_byte b)) [
+  | inl word ↦ word_fact b word
+  | inr no_word ↦ elim (cases_Bool (is_blank b)) [
+    | inl blank ↦ rw (no_word, blank) (blank, blank_mark b no_word blank)
+    | inr no_blank ↦ elim (cases_Bool (b == 10)) [
+      | inl line ↦ rw (no_word, no_blank, line) (eqb-true b 10 line)
+      | inr no_line ↦ elim (cases_Bool (is_quote b)) [
+        | inl quote ↦ rw (no_word, no_blank, no_line, quote) (quote, (no_blank, no_line, quote_slash b quote))
+        | inr no_quote ↦ elim (cases_Bool (b == 35)) [
+          | inl hash ↦ rw (no_word, no_blank, no_line, no_quote, hash) (hash, (no_blank, no_line, hash_slash b hash))
+          | inr no_hash ↦ elim (cases_Bool (b == 92)) [
+            | inl slash ↦ rw (no_word, no_blank, no_line, no_quote, no_hash, slash) (eqb-true b 92 slash)
+            | inr no_slash ↦ mark_fact b no_word no_blank no_line no_quote no_hash no_slash
+          ]
+        ]
+      ]
+    ]
+  ]
+]
+
+pub fact_at : (b : ℕ) (c : Class) → class_of b ≡ c → Fact c b
+fact_at b c is = subst (λ x. Fact x b) is (fact_of b)
+
+pub begins_so : (test : ℕ → Bool) (t : Bool) (bytes : List ℕ) → 0 < length bytes → test (get_or bytes 0 0) ≡ t → begins test bytes ≡ t
+begins_so test t [] some h = absurd (omega arith)
+begins_so test t (b ∷ bs) some h = h
+
+-- a letter that begins no string
+pub letter_opens : (bytes : List ℕ) → 0 < length bytes → is_word_byte (get_or bytes 0 0) ≡ true → is_prefix_letter (get_or bytes 0 0) ≡ false → opening bytes ≡ None
+letter_opens [] some word letter = absurd (omega arith)
+letter_opens (b ∷ bs) some word letter =
+    let r : (b == 114) ≡ false = grind (arith, nat_tests) in
+    let l : (b == 98) ≡ false = grind (arith, nat_tests) in
+    let none : is_quote b ≡ false = grind (arith, nat_tests) in
+    opens_plain b bs r l ∙ rw none refl
+
+-- a mark begins no string
+pub mark_opens : (bytes : List ℕ) → 0 < length bytes → IsMark (get_or bytes 0 0) → opening bytes ≡ None
+mark_opens [] some is = absurd (omega arith)
+mark_opens (b ∷ bs) some is =
+    let word = is.0 in
+    let none = is.1 in
+    let r : (b == 114) ≡ false = grind (arith, nat_tests) in
+    let l : (b == 98) ≡ false = grind (arith, nat_tests) in
+    opens_plain b bs r l ∙ rw none refl
+
+-- a quote begins a string
+pub quote_opens : (bytes : List ℕ) (long : Bool) → 0 < length bytes → is_quote (get_or bytes 0 0) ≡ true → long ≡ are_two (get_or bytes 0 0) (drop 1 bytes)
+    → opening bytes ≡ Some (record { prefix = 0; quotes = record { byte = get_or bytes 0 0; long = long } })
+quote_opens [] long some quote two = absurd (omega arith)
+quote_opens (b ∷ bs) long some quote two =
+    let r : (b == 114) ≡ false = grind (arith, nat_tests) in
+    let l : (b == 98) ≡ false = grind (arith, nat_tests) in
+    opens_plain b bs r l ∙ rw (quote, two) refl
+
+-- a byte that begins a sign, or nothing
+pub mark_at : (b : ℕ) (c : Class) → class_of b ≡ c → (c ≡ Open) ⊎ ((c ≡ Close) ⊎ ((c ≡ Sign) ⊎ ((c ≡ Space) ⊎ (c ≡ Unknown)))) → IsMark b
+mark_at b c is one = elim one [
+  | inl e ↦ (fact_at b Open (is ∙ e)).1
+  | inr one ↦ elim one [
+    | inl e ↦ (fact_at b Close (is ∙ e)).1
+    | inr one ↦ elim one [
+      | inl e ↦ (fact_at b Sign (is ∙ e)).1
+      | inr one ↦ elim one [
+        | inl e ↦ (fact_at b Space (is ∙ e)).1
+        | inr e ↦ (fact_at b Unknown (is ∙ e)).1
+      ]
+    ]
+  ]
+]

@@ -1,0 +1,33 @@
+-- For private clauses: what begins with a byte.
+use Rattle.std.specs.Prelude.{◌≡◌, ℕ, Bool, false, ◌||◌, ◌==◌, if◌then◌else◌}
+use Rattle.std.specs.Char.{is_ascii_digit}
+use Rattle.bz_token.specs.declared.table.Class.{Class}
+use Rattle.bz_token.specs.declared.table.Class.TheVariants.{Unknown, Space, Newline, Letter, Prefix, Digit, Quote, Hash, Backslash, Open, Close, Sign}
+use Rattle.bz_token.specs.Lexical.{is_word_byte, is_blank, is_quote}
+use Rattle.bz_token.specs.Brackets.{is_opening_bracket, is_closing_bracket}
+
+-- the letters of a string's prefix
+abbrev pub is_prefix_letter : ℕ → Bool
+is_prefix_letter b = b == 114 || b == 98
+
+-- the first bytes of signs that are no brackets
+abbrev pub is_sign_start : ℕ → Bool
+is_sign_start b =
+    b == 43 || b == 45 || b == 42 || b == 47 || b == 37 || b == 126 || b == 38 || b == 124 || b == 94 || b == 60 || b == 62 || b == 46
+    || b == 44 || b == 61 || b == 59 || b == 58 || b == 33
+
+abbrev pub class_of : ℕ → Class
+class_of b =
+    if is_word_byte b then (if is_ascii_digit b then Digit else (if is_prefix_letter b then Prefix else Letter))
+    else (if is_blank b then Space
+    else (if b == 10 then Newline
+    else (if is_quote b then Quote
+    else (if b == 35 then Hash
+    else (if b == 92 then Backslash
+    else (if is_opening_bracket b then Open
+    else (if is_closing_bracket b then Close
+    else (if is_sign_start b then Sign else Unknown))))))))
+
+-- nothing begins with the byte but a sign, if one does
+abbrev pub IsMark : ℕ → Type 0
+IsMark b = (is_word_byte b ≡ false) × (is_quote b ≡ false) × ((b == 10) ≡ false) × ((b == 35) ≡ false) × ((b == 92) ≡ false)

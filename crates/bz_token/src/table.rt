@@ -1,0 +1,97 @@
+//! What a byte begins, in tables.
+
+ghost use Rattle.std.specs.Prelude.{◌≡◌};
+ghost use Rattle.bz_token.specs.Lexical.{is_word_byte};
+ghost use Rattle.bz_token.specs.private.Tables.{class_of};
+
+/// What begins with a byte.
+#[derive(Clone, Copy)]
+pub enum Class {
+    Unknown,
+    /// White space within a line.
+    Space,
+    Newline,
+    /// An underscore, or a letter that no string begins with.
+    Letter,
+    /// A letter that a string may begin with.
+    Prefix,
+    Digit,
+    Quote,
+    Hash,
+    Backslash,
+    Open,
+    Close,
+    /// A sign that is no bracket.
+    Sign,
+}
+
+#[rattlefmt::skip]
+static CLASS: [Class; 256] = [
+    Class::Unknown, Class::Unknown, Class::Unknown, Class::Unknown, Class::Unknown, Class::Unknown, Class::Unknown, Class::Unknown,
+    Class::Unknown, Class::Space, Class::Newline, Class::Unknown, Class::Unknown, Class::Space, Class::Unknown, Class::Unknown,
+    Class::Unknown, Class::Unknown, Class::Unknown, Class::Unknown, Class::Unknown, Class::Unknown, Class::Unknown, Class::Unknown,
+    Class::Unknown, Class::Unknown, Class::Unknown, Class::Unknown, Class::Unknown, Class::Unknown, Class::Unknown, Class::Unknown,
+    Class::Space, Class::Sign, Class::Quote, Class::Hash, Class::Unknown, Class::Sign, Class::Sign, Class::Quote,
+    Class::Open, Class::Close, Class::Sign, Class::Sign, Class::Sign, Class::Sign, Class::Sign, Class::Sign,
+    Class::Digit, Class::Digit, Class::Digit, Class::Digit, Class::Digit, Class::Digit, Class::Digit, Class::Digit,
+    Class::Digit, Class::Digit, Class::Sign, Class::Sign, Class::Sign, Class::Sign, Class::Sign, Class::Unknown,
+    Class::Unknown, Class::Letter, Class::Letter, Class::Letter, Class::Letter, Class::Letter, Class::Letter, Class::Letter,
+    Class::Letter, Class::Letter, Class::Letter, Class::Letter, Class::Letter, Class::Letter, Class::Letter, Class::Letter,
+    Class::Letter, Class::Letter, Class::Letter, Class::Letter, Class::Letter, Class::Letter, Class::Letter, Class::Letter,
+    Class::Letter, Class::Letter, Class::Letter, Class::Open, Class::Backslash, Class::Close, Class::Sign, Class::Letter,
+    Class::Unknown, Class::Letter, Class::Prefix, Class::Letter, Class::Letter, Class::Letter, Class::Letter, Class::Letter,
+    Class::Letter, Class::Letter, Class::Letter, Class::Letter, Class::Letter, Class::Letter, Class::Letter, Class::Letter,
+    Class::Letter, Class::Letter, Class::Prefix, Class::Letter, Class::Letter, Class::Letter, Class::Letter, Class::Letter,
+    Class::Letter, Class::Letter, Class::Letter, Class::Open, Class::Sign, Class::Close, Class::Sign, Class::Unknown,
+    Class::Unknown, Class::Unknown, Class::Unknown, Class::Unknown, Class::Unknown, Class::Unknown, Class::Unknown, Class::Unknown,
+    Class::Unknown, Class::Unknown, Class::Unknown, Class::Unknown, Class::Unknown, Class::Unknown, Class::Unknown, Class::Unknown,
+    Class::Unknown, Class::Unknown, Class::Unknown, Class::Unknown, Class::Unknown, Class::Unknown, Class::Unknown, Class::Unknown,
+    Class::Unknown, Class::Unknown, Class::Unknown, Class::Unknown, Class::Unknown, Class::Unknown, Class::Unknown, Class::Unknown,
+    Class::Unknown, Class::Unknown, Class::Unknown, Class::Unknown, Class::Unknown, Class::Unknown, Class::Unknown, Class::Unknown,
+    Class::Unknown, Class::Unknown, Class::Unknown, Class::Unknown, Class::Unknown, Class::Unknown, Class::Unknown, Class::Unknown,
+    Class::Unknown, Class::Unknown, Class::Unknown, Class::Unknown, Class::Unknown, Class::Unknown, Class::Unknown, Class::Unknown,
+    Class::Unknown, Class::Unknown, Class::Unknown, Class::Unknown, Class::Unknown, Class::Unknown, Class::Unknown, Class::Unknown,
+    Class::Unknown, Class::Unknown, Class::Unknown, Class::Unknown, Class::Unknown, Class::Unknown, Class::Unknown, Class::Unknown,
+    Class::Unknown, Class::Unknown, Class::Unknown, Class::Unknown, Class::Unknown, Class::Unknown, Class::Unknown, Class::Unknown,
+    Class::Unknown, Class::Unknown, Class::Unknown, Class::Unknown, Class::Unknown, Class::Unknown, Class::Unknown, Class::Unknown,
+    Class::Unknown, Class::Unknown, Class::Unknown, Class::Unknown, Class::Unknown, Class::Unknown, Class::Unknown, Class::Unknown,
+    Class::Unknown, Class::Unknown, Class::Unknown, Class::Unknown, Class::Unknown, Class::Unknown, Class::Unknown, Class::Unknown,
+    Class::Unknown, Class::Unknown, Class::Unknown, Class::Unknown, Class::Unknown, Class::Unknown, Class::Unknown, Class::Unknown,
+    Class::Unknown, Class::Unknown, Class::Unknown, Class::Unknown, Class::Unknown, Class::Unknown, Class::Unknown, Class::Unknown,
+    Class::Unknown, Class::Unknown, Class::Unknown, Class::Unknown, Class::Unknown, Class::Unknown, Class::Unknown, Class::Unknown,
+];
+
+#[inline(always)]
+pub fn class_at(b: u8) -> Class
+    ensures { result ≡ class_of b }
+{
+    CLASS[usize::from(b)]
+}
+
+#[rattlefmt::skip]
+static WORD: [bool; 256] = [
+    false, false, false, false, false, false, false, false, false, false, false, false, false, false, false, false,
+    false, false, false, false, false, false, false, false, false, false, false, false, false, false, false, false,
+    false, false, false, false, false, false, false, false, false, false, false, false, false, false, false, false,
+    true, true, true, true, true, true, true, true, true, true, false, false, false, false, false, false,
+    false, true, true, true, true, true, true, true, true, true, true, true, true, true, true, true,
+    true, true, true, true, true, true, true, true, true, true, true, false, false, false, false, true,
+    false, true, true, true, true, true, true, true, true, true, true, true, true, true, true, true,
+    true, true, true, true, true, true, true, true, true, true, true, false, false, false, false, false,
+    false, false, false, false, false, false, false, false, false, false, false, false, false, false, false, false,
+    false, false, false, false, false, false, false, false, false, false, false, false, false, false, false, false,
+    false, false, false, false, false, false, false, false, false, false, false, false, false, false, false, false,
+    false, false, false, false, false, false, false, false, false, false, false, false, false, false, false, false,
+    false, false, false, false, false, false, false, false, false, false, false, false, false, false, false, false,
+    false, false, false, false, false, false, false, false, false, false, false, false, false, false, false, false,
+    false, false, false, false, false, false, false, false, false, false, false, false, false, false, false, false,
+    false, false, false, false, false, false, false, false, false, false, false, false, false, false, false, false,
+];
+
+/// Whether names are made of this byte.
+#[inline(always)]
+pub fn is_word_byte(b: u8) -> bool
+    ensures { result ≡ is_word_byte b }
+{
+    WORD[usize::from(b)]
+}
