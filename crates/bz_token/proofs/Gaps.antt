@@ -1,7 +1,6 @@
 -- Gaps, a step at a time.
-use Rattle.std.proofs.Common.{◌≡◌, ℕ, zero, suc, ◌+◌, ◌-◌, ◌<◌, ◌≤◌, ◌==◌, ◌&&◌, List, [], ◌∷◌, ◌++◌, length, take, drop, get_or, true, false, not, cond, refl, sym, ap, ◌∙◌, arith, append_assoc, append-nil, Bool, inl, inr, sub-one, subst, get_or-drop}
+use Rattle.std.proofs.Common.{◌≡◌, ℕ, zero, suc, ◌+◌, ◌-◌, ◌<◌, ◌≤◌, ◌==◌, ◌&&◌, List, [], ◌∷◌, ◌++◌, length, take, get_or, true, false, not, cond, refl, sym, ap, ◌∙◌, arith, Bool, inl, inr, sub-one}
 use Rattle.std.proofs.lemmas.Bool.{cases_Bool, false≢true}
-use Rattle.std.proofs.Math.Seq.{take-add}
 use Rattle.std.proofs.lemmas.List.{length-take-le, get_or-take}
 use Rattle.std.proofs.lemmas.List.Sums.{prefix_len-le-length, prefix_len_passes}
 use Rattle.std.proofs.lemmas.Grind.{common_steps}
@@ -9,22 +8,6 @@ use Rattle.std.proofs.lemmas.Bool.Decides.{nat_tests}
 use Rattle.std.specs.List.{list_any, prefix_len}
 use Rattle.bz_token.specs.Lexical.{is_blank, is_newline, begins, ends_blank, is_comment}
 use Rattle.bz_token.specs.Reading.{is_white, is_gap, continues_gap}
-
-pub gap_goes_on : (inside : Bool) (bytes : List ℕ) (n m : ℕ) → ((ys : List ℕ) → is_gap inside (take n bytes ++ ys) ≡ is_gap inside ys)
-    → ((ys : List ℕ) → is_gap inside (take m (drop n bytes) ++ ys) ≡ is_gap inside ys) → (ys : List ℕ) → is_gap inside (take (n + m) bytes ++ ys) ≡ is_gap inside ys
-gap_goes_on inside bytes n m before step ys =
-    ap (λ x. is_gap inside (x ++ ys)) (take-add n m bytes)
-    ∙ ap (is_gap inside) (append_assoc (take n bytes) (take m (drop n bytes)) ys)
-    ∙ before (take m (drop n bytes) ++ ys)
-    ∙ step ys
-
-pub gap_whole : (inside : Bool) (bytes : List ℕ) (n : ℕ) → ((ys : List ℕ) → is_gap inside (take n bytes ++ ys) ≡ is_gap inside ys) → is_gap inside (take n bytes) ≡ true
-gap_whole inside bytes n before = sym (ap (is_gap inside) (append-nil (take n bytes))) ∙ before []
-
-pub ascii_goes_on : (bytes : List ℕ) (n m : ℕ) → n + m ≤ length bytes → 0 < m → get_or (drop n bytes) (m - 1) 0 < 128 → get_or bytes (n + m - 1) 0 < 128
-ascii_goes_on bytes n m fits some ascii =
-    let e : n + (m - 1) ≡ n + m - 1 = omega arith in
-    subst (λ x. x < 128) (get_or-drop n bytes (m - 1) 0 ∙ ap (λ k. get_or bytes k 0) e) ascii
 
 -- a run of white space
 white_step : (inside : Bool) (b : ℕ) (ys : List ℕ) → is_white inside b ≡ true → is_gap inside (b ∷ ys) ≡ is_gap inside ys
@@ -34,24 +17,24 @@ white_step inside b ys h = by (is_white inside b) h
     by true h = refl
     by false h = absurd (false≢true h)
 
-pub white_run : (inside : Bool) (bs ys : List ℕ) → is_gap inside (take (prefix_len (is_white inside) bs) bs ++ ys) ≡ is_gap inside ys
-white_run inside [] ys = refl
-white_run inside (b ∷ bs) ys = by (is_white inside b) refl (white_run inside bs ys)
+-- a run of blanks
+pub blank_run : (inside : Bool) (bs ys : List ℕ) → is_gap inside (take (prefix_len is_blank bs) bs ++ ys) ≡ is_gap inside ys
+blank_run inside [] ys = refl
+blank_run inside (b ∷ bs) ys = by (is_blank b) refl (blank_run inside bs ys)
   where
-    by : (t : Bool) → is_white inside b ≡ t → is_gap inside (take (prefix_len (is_white inside) bs) bs ++ ys) ≡ is_gap inside ys
-        → is_gap inside (take (cond t (1 + prefix_len (is_white inside) bs) 0) (b ∷ bs) ++ ys) ≡ is_gap inside ys
+    by : (t : Bool) → is_blank b ≡ t → is_gap inside (take (prefix_len is_blank bs) bs ++ ys) ≡ is_gap inside ys
+        → is_gap inside (take (cond t (1 + prefix_len is_blank bs) 0) (b ∷ bs) ++ ys) ≡ is_gap inside ys
     by true e rest =
-        let one : 1 + prefix_len (is_white inside) bs ≡ suc (prefix_len (is_white inside) bs) = omega arith in
-        ap (λ n. is_gap inside (take n (b ∷ bs) ++ ys)) one ∙ white_step inside b (take (prefix_len (is_white inside) bs) bs ++ ys) e ∙ rest
+        let one : 1 + prefix_len is_blank bs ≡ suc (prefix_len is_blank bs) = omega arith in
+        let white : is_white inside b ≡ true = rw e refl in
+        ap (λ n. is_gap inside (take n (b ∷ bs) ++ ys)) one ∙ white_step inside b (take (prefix_len is_blank bs) bs ++ ys) white ∙ rest
     by false e rest = refl
 
-white_small : (inside : Bool) (b : ℕ) → is_white inside b ≡ true → b < 128
-white_small true b h = grind (arith, nat_tests)
-white_small false b h = grind (arith, nat_tests)
+blank_small : (b : ℕ) → is_blank b ≡ true → b < 128
+blank_small b h = grind (arith, nat_tests)
 
-pub white_ascii : (inside : Bool) (bs : List ℕ) (n : ℕ) → n ≡ prefix_len (is_white inside) bs → 0 < n → get_or bs (n - 1) 0 < 128
-white_ascii inside bs n counted some =
-    white_small inside (get_or bs (n - 1) 0) (prefix_len_passes (is_white inside) bs (n - 1) 0 (omega (arith, counted)))
+pub blank_ascii : (bs : List ℕ) → 0 < prefix_len is_blank bs → get_or bs (prefix_len is_blank bs - 1) 0 < 128
+blank_ascii bs some = blank_small (get_or bs (prefix_len is_blank bs - 1) 0) (prefix_len_passes is_blank bs (prefix_len is_blank bs - 1) 0 (omega arith))
 
 last_blank : (x : ℕ) (xs : List ℕ) → ends_blank (x ∷ xs) ≡ is_blank (get_or (x ∷ xs) (length xs) 0)
 last_blank x [] = refl

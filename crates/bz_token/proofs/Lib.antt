@@ -11,6 +11,7 @@ pub mod Tables
 pub mod Words
 pub mod Scanning
 pub mod Progress
+pub mod Steps
 pub mod Innermost
 pub mod Fitting
 pub mod Unique

@@ -2,15 +2,15 @@
 use Rattle.std.proofs.Common.{◌≡◌, ℕ, zero, suc, ◌+◌, ◌-◌, ◌<◌, ◌≤◌, ◌==◌, ◌&&◌, List, [], ◌∷◌, ◌++◌, length, take, drop, get_or, cond, Bool, true, false, not, refl, sym, ap, ap₂, subst, ◌∙◌, arith, inl, inr, IsUtf8, append_assoc, append-nil, length-append, take-append-drop}
 use Rattle.std.specs.Prelude.{count_by, nat_eq, Option, Some, None, Result, Ok, Err, IfOk, IfErr}
 use Rattle.std.specs.Option.{option_eq}
-use Rattle.std.specs.List.{list_any}
+use Rattle.std.specs.List.{list_all, list_any}
 use Rattle.std.specs.Str.{IsCharBoundary}
-use Rattle.std.proofs.lemmas.Bool.{cases_Bool, false≢true}
+use Rattle.std.proofs.lemmas.Bool.{cases_Bool, and_parts, or_from, false≢true}
 use Rattle.std.proofs.lemmas.Bool.Decides.{nat_tests}
 use Rattle.std.proofs.lemmas.Grind.{common_steps}
 use Rattle.std.proofs.lemmas.Str.{IsCharBoundary-start, IsUtf8-drop}
 use Rattle.bz_token.specs.declared.token.Kind.{Kind}
 use Rattle.bz_token.specs.Places.{Placed, line_at, column_from, column_at}
-use Rattle.bz_token.specs.Lexical.{begins, is_newline, IsToken}
+use Rattle.bz_token.specs.Lexical.{begins, is_blank, is_newline, IsToken}
 use Rattle.bz_token.specs.Brackets.{is_inside, is_opening_bracket, is_closing_bracket, closes_innermost, fits, open_after_token, open_tokens}
 use Rattle.bz_token.specs.Reading.{is_gap, begins_gap, Piece, IsPiece, IsReading, open_after, bytes_of, token_of, tokens_of, AreTokensOf}
 use Rattle.bz_token.specs.declared.fault.LexFault.{LexFault}
@@ -138,16 +138,18 @@ new_line line ls d fresh is = is ∙ ap not (found line ls d)
       | inr miss ↦ rw miss (sym (below l line ls d.1 (less l line d.0 miss)))
     ]
 
--- the loop's invariant: what the tokens so far stand for
+-- the loop's invariant: what the tokens so far stand for, and the gap after them as far as it was passed
 pub record Progress (first depth : ℕ) (bytes : List ℕ) (tokens : List Placed) (opened : List ℕ) (last : Option ℕ) (rest : List ℕ) (line col : ℕ) : Type 0 where
   pub pieces : List Piece
-  pub reading : IsReading depth [] pieces rest bytes
+  pub gap : List ℕ
+  pub reading : IsReading depth [] pieces (gap ++ rest) bytes
+  pub goes_on : (ys : List ℕ) → is_gap (is_inside (open_after [] pieces)) (gap ++ ys) ≡ is_gap (is_inside (open_after [] pieces)) ys
   pub opened_are : opened ≡ open_after [] pieces
   pub tokens_are : tokens ≡ tokens_of first [] [] pieces
   pub last_is : last ≡ newest (lines_of first [] [] pieces)
   pub descends : Descends (line_at first (bytes_of pieces)) (lines_of first [] [] pieces)
-  pub line_is : line ≡ line_at first (bytes_of pieces)
-  pub col_is : col ≡ column_at (bytes_of pieces)
+  pub line_is : line ≡ line_at first (bytes_of pieces ++ gap)
+  pub col_is : col ≡ column_at (bytes_of pieces ++ gap)
   pub utf8 : IsUtf8 rest
 
 -- the place after a gap
@@ -165,47 +167,73 @@ pub record AfterGap (first depth : ℕ) (bytes : List ℕ) (tokens : List Placed
   pub utf8 : IsUtf8 after
 
 -- the places that are still to come fit
-pub places_fit : (first depth : ℕ) (bytes : List ℕ) (ps : List Piece) (rest : List ℕ) → IsReading depth [] ps rest bytes
-    → (line_at first (bytes_of ps) + newlines rest ≡ first + newlines bytes) × (column_at (bytes_of ps) + length rest ≤ length bytes + 1) × (0 < column_at (bytes_of ps))
-places_fit first depth bytes ps rest r =
-    let whole = reading_bytes depth [] ps rest bytes r in
-    let bounds = column_from-bounds 1 (bytes_of ps) (omega arith) in (
-      omega (arith, ap newlines whole, newlines-append (bytes_of ps) rest),
-      omega (arith, ap length whole, length-append (bytes_of ps) rest, bounds.1),
-      bounds.0,
+pub places_fit : (first depth : ℕ) (bytes : List ℕ) (tokens : List Placed) (opened : List ℕ) (last : Option ℕ) (rest : List ℕ) (line col : ℕ) → Progress first depth bytes tokens opened last rest line col
+    → (line + newlines rest ≡ first + newlines bytes) × (col + length rest ≤ length bytes + 1) × (0 < col)
+places_fit first depth bytes tokens opened last rest line col p =
+    let whole : bytes ≡ (bytes_of p.pieces ++ p.gap) ++ rest = reading_bytes depth [] p.pieces (p.gap ++ rest) bytes p.reading ∙ sym (append_assoc (bytes_of p.pieces) p.gap rest) in
+    let bounds = column_from-bounds 1 (bytes_of p.pieces ++ p.gap) (omega arith) in (
+      omega (arith, ap newlines whole, newlines-append (bytes_of p.pieces ++ p.gap) rest, p.line_is),
+      omega (arith, ap length whole, length-append (bytes_of p.pieces ++ p.gap) rest, bounds.1, p.col_is),
+      omega (arith, bounds.0, p.col_is),
     )
 
--- reading goes on after a gap
-pub after_gap : (first depth : ℕ) (bytes : List ℕ) (tokens : List Placed) (opened : List ℕ) (last : Option ℕ) (rest gap after : List ℕ) (line col l c n : ℕ) → Progress first depth bytes tokens opened last rest line col
-    → is_gap (is_inside opened) (take n rest) ≡ true → begins_gap (is_inside opened) (drop n rest) ≡ false → IsCharBoundary rest n
-    → gap ≡ take n rest → after ≡ drop n rest → l ≡ line + newlines gap → c ≡ column_from col gap
-    → AfterGap first depth bytes tokens opened last gap after l c
-after_gap first depth bytes tokens opened last rest gap after line col l c n before white none cut gap_is_front after_is line_moves col_moves =
-    let whole : rest ≡ gap ++ after = rw (gap_is_front, after_is, take-append-drop) refl in
+-- nothing is read
+pub read_start : (first depth : ℕ) (bytes opened : List ℕ) → opened ≡ [] → IsUtf8 bytes → Progress first depth bytes [] opened None bytes first 1
+read_start first depth bytes opened none utf8 = record {
+  pieces = [];
+  gap = [];
+  reading = refl;
+  goes_on = λ ys. refl;
+  opened_are = none;
+  tokens_are = refl;
+  last_is = refl;
+  descends = tt;
+  line_is = omega arith;
+  col_is = refl;
+  utf8 = utf8;
+}
+
+-- reading goes on in a gap
+pub read_gap : (first depth : ℕ) (bytes : List ℕ) (tokens : List Placed) (opened : List ℕ) (last : Option ℕ) (rest following : List ℕ) (line col l c n : ℕ) → Progress first depth bytes tokens opened last rest line col
+    → ((ys : List ℕ) → is_gap (is_inside opened) (take n rest ++ ys) ≡ is_gap (is_inside opened) ys) → IsCharBoundary rest n
+    → following ≡ drop n rest → l ≡ line + newlines (take n rest) → c ≡ column_from col (take n rest)
+    → Progress first depth bytes tokens opened last following l c
+read_gap first depth bytes tokens opened last rest following line col l c n p white cut rest_is line_moves col_moves =
+    let front = take n rest in
+    let inside = is_inside (open_after [] p.pieces) in
+    let whole : rest ≡ take n rest ++ following = rw (rest_is, take-append-drop) refl in
+    let longer = append_assoc (bytes_of p.pieces) p.gap (take n rest) in
     record {
-      pieces = before.pieces;
-      reading = rw whole at before.reading;
-      is_gap = rw gap_is_front (subst (λ o. is_gap (is_inside o) (take n rest) ≡ true) before.opened_are white);
-      after_gap = rw after_is (subst (λ o. begins_gap (is_inside o) (drop n rest) ≡ false) before.opened_are none);
-      opened_are = before.opened_are;
-      tokens_are = before.tokens_are;
-      last_is = before.last_is;
-      descends = before.descends;
-      line_is = omega (arith, before.line_is, newlines-append (bytes_of before.pieces) gap);
-      col_is = rw (column_from-append, ← before.col_is) col_moves;
-      utf8 = rw after_is (IsUtf8-drop rest n before.utf8 cut);
+      pieces = p.pieces;
+      gap = p.gap ++ take n rest;
+      reading = subst (λ x. IsReading depth [] p.pieces x bytes) (ap (λ x. p.gap ++ x) whole ∙ sym (append_assoc p.gap (take n rest) following)) p.reading;
+      goes_on = λ ys. ap (is_gap (is_inside (open_after [] p.pieces))) (append_assoc p.gap (take n rest) ys) ∙ p.goes_on (take n rest ++ ys)
+          ∙ subst (λ o. is_gap (is_inside o) (take n rest ++ ys) ≡ is_gap (is_inside o) ys) p.opened_are (white ys);
+      opened_are = p.opened_are;
+      tokens_are = p.tokens_are;
+      last_is = p.last_is;
+      descends = p.descends;
+      line_is = omega (arith, line_moves, p.line_is, newlines-append (bytes_of p.pieces ++ p.gap) (take n rest), ap newlines longer);
+      col_is = col_moves ∙ ap (λ k. column_from k (take n rest)) p.col_is ∙ sym (column_from-append 1 (bytes_of p.pieces ++ p.gap) (take n rest)) ∙ ap column_at longer;
+      utf8 = rw rest_is (IsUtf8-drop rest n p.utf8 cut);
     }
 
--- what a place after a gap says of the whole text
-pub after_fits : (first depth : ℕ) (bytes : List ℕ) (tokens : List Placed) (opened : List ℕ) (last : Option ℕ) (gap after : List ℕ) (line col : ℕ) → AfterGap first depth bytes tokens opened last gap after line col
-    → (line + newlines after ≡ first + newlines bytes) × (col + length after ≤ length bytes + 1) × (0 < col)
-after_fits first depth bytes tokens opened last gap after line col b =
-    let whole : bytes ≡ (bytes_of b.pieces ++ gap) ++ after = reading_bytes depth [] b.pieces (gap ++ after) bytes b.reading ∙ sym (append_assoc (bytes_of b.pieces) gap after) in
-    let bounds = column_from-bounds 1 (bytes_of b.pieces ++ gap) (omega arith) in (
-      omega (arith, ap newlines whole, newlines-append (bytes_of b.pieces ++ gap) after, b.line_is),
-      omega (arith, ap length whole, length-append (bytes_of b.pieces ++ gap) after, bounds.1, b.col_is),
-      omega (arith, bounds.0, b.col_is),
-    )
+-- no gap stands here
+pub after_gap : (first depth : ℕ) (bytes : List ℕ) (tokens : List Placed) (opened : List ℕ) (last : Option ℕ) (rest : List ℕ) (line col : ℕ) (p : Progress first depth bytes tokens opened last rest line col) → begins_gap (is_inside opened) rest ≡ false
+    → AfterGap first depth bytes tokens opened last p.gap rest line col
+after_gap first depth bytes tokens opened last rest line col p none = record {
+  pieces = p.pieces;
+  reading = p.reading;
+  is_gap = sym (ap (is_gap (is_inside (open_after [] p.pieces))) (append-nil p.gap)) ∙ p.goes_on [];
+  after_gap = subst (λ o. begins_gap (is_inside o) rest ≡ false) p.opened_are none;
+  opened_are = p.opened_are;
+  tokens_are = p.tokens_are;
+  last_is = p.last_is;
+  descends = p.descends;
+  line_is = p.line_is;
+  col_is = p.col_is;
+  utf8 = p.utf8;
+}
 
 pub newlines_split : (xs front back : List ℕ) (n : ℕ) → front ≡ take n xs → back ≡ drop n xs → (newlines front + newlines back ≡ newlines xs) × (length front + length back ≡ length xs)
 newlines_split xs front back n is_front is_back =
@@ -228,14 +256,16 @@ after_token first depth bytes tokens opened opened' last gap after text followin
     let now : l ≡ line_at first (bytes_of (ps ++ p ∷ [])) = omega (arith, before.line_is, ap newlines whole, newlines-append (bytes_of ps ++ gap) text) in
     record {
       pieces = ps ++ p ∷ [];
+      gap = [];
       reading = reading_push depth [] ps p (gap ++ after) following bytes before.reading
           (record { bytes_are = ap (λ x. gap ++ x) split; gap = before.is_gap; token = token; fits = subst (λ o. fits depth o kind text ≡ true) before.opened_are fit });
+      goes_on = λ ys. refl;
       opened_are = opens ∙ ap (λ o. open_after_token o text) before.opened_are ∙ sym (open_after-push [] ps p);
       tokens_are = ap₂ (λ ts t. ts ++ t ∷ []) before.tokens_are (λ i. record { kind = kind; text = text; line = before.line_is i; col = before.col_is i; fresh = (is_new ∙ ap (λ y. not (list_any (λ x. x == y) lines)) before.line_is) i }) ∙ sym (tokens_of-push first [] [] ps p);
       last_is = ap newest (sym push);
       descends = rw push (omega (arith, now), here);
-      line_is = now;
-      col_is = col_moves ∙ ap (λ k. column_from k text) before.col_is ∙ sym (column_from-append 1 (bytes_of ps ++ gap) text) ∙ ap column_at (sym whole);
+      line_is = now ∙ ap (line_at first) (sym (append-nil (bytes_of (ps ++ p ∷ []))));
+      col_is = col_moves ∙ ap (λ k. column_from k text) before.col_is ∙ sym (column_from-append 1 (bytes_of ps ++ gap) text) ∙ ap column_at (sym whole ∙ sym (append-nil (bytes_of (ps ++ p ∷ []))));
       utf8 = utf8;
     }
 
@@ -283,12 +313,31 @@ none_left [] e = refl
 none_left (x ∷ xs) e = absurd (omega arith)
 
 -- the whole text was read
-pub all_read : (first depth : ℕ) (bytes : List ℕ) (tokens : List Placed) (opened : List ℕ) (last : Option ℕ) (gap after : List ℕ) (line col : ℕ) → AfterGap first depth bytes tokens opened last gap after line col → after ≡ [] → open_tokens [] tokens ≡ []
+pub all_read : (first depth : ℕ) (bytes : List ℕ) (tokens : List Placed) (opened : List ℕ) (last : Option ℕ) (gap after : List ℕ) (line col : ℕ) → AfterGap first depth bytes tokens opened last gap after line col → after ≡ [] → opened ≡ []
     → AreTokensOf first depth bytes tokens
 all_read first depth bytes tokens opened last gap after line col b done closed =
-    let empty : open_after [] b.pieces ≡ [] = none_left (open_after [] b.pieces) (sym (open_lengths first [] [] [] [] b.pieces refl) ∙ ap (λ ts. length (open_tokens [] ts)) (sym b.tokens_are) ∙ ap length closed) in
+    let empty : open_after [] b.pieces ≡ [] = sym b.opened_are ∙ closed in
     let end : gap ++ after ≡ gap = ap (λ r. gap ++ r) done ∙ append-nil gap in
     (b.pieces, gap, subst (λ x. IsReading depth [] b.pieces x bytes) end b.reading, subst (λ o. is_gap (is_inside o) gap ≡ true) empty b.is_gap, empty, b.tokens_are)
+
+-- no token of a bracket is left open: no bracket is
+pub none_opened : (first depth : ℕ) (bytes : List ℕ) (tokens : List Placed) (opened : List ℕ) (last : Option ℕ) (gap after : List ℕ) (line col : ℕ) → AfterGap first depth bytes tokens opened last gap after line col → open_tokens [] tokens ≡ [] → opened ≡ []
+none_opened first depth bytes tokens opened last gap after line col b closed =
+    b.opened_are ∙ none_left (open_after [] b.pieces) (sym (open_lengths first [] [] [] [] b.pieces refl) ∙ ap (λ ts. length (open_tokens [] ts)) (sym b.tokens_are) ∙ ap length closed)
+
+pub outside : (opened : List ℕ) → is_inside opened ≡ false → opened ≡ []
+outside [] h = refl
+outside (b ∷ bs) h = absurd (false≢true (sym h))
+
+-- a gap without a newline is on one line
+pub one_line : (xs : List ℕ) → list_all is_blank xs ≡ true → list_any is_newline xs ≡ false
+one_line [] h = refl
+one_line (x ∷ xs) h =
+    let parts = and_parts (is_blank x) (list_all is_blank xs) h in
+    or_from (x == 10) (list_any is_newline xs) (blank_no_newline x parts.0) (one_line xs parts.1)
+  where
+    blank_no_newline : (b : ℕ) → is_blank b ≡ true → (b == 10) ≡ false
+    blank_no_newline b h = grind (arith, nat_tests)
 
 pub gap_boundary : (rest : List ℕ) (n : ℕ) → IsUtf8 rest → n ≤ length rest → (0 < n → get_or rest (n - 1) 0 < 128) → IsCharBoundary rest n
 gap_boundary rest zero utf8 within ascii = IsCharBoundary-start rest utf8

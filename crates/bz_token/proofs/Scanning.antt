@@ -74,7 +74,7 @@ string_scanned bytes o n nl opens some fits closed one_line =
     the_end s n some = omega arith
 
 -- a run of letters, digits and underscores
-all_front : (p : ℕ → Bool) (xs : List ℕ) → list_all p (take (prefix_len p xs) xs) ≡ true
+pub all_front : (p : ℕ → Bool) (xs : List ℕ) → list_all p (take (prefix_len p xs) xs) ≡ true
 all_front p [] = refl
 all_front p (x ∷ xs) =
     elim (cases_Bool (p x)) [

@@ -1,14 +1,14 @@
 -- The tables hold what their definitions say of each byte, and what a class tells of its bytes.
-use Rattle.std.proofs.Common.{◌≡◌, ℕ, ◌<◌, ◌==◌, ◌⊎◌, List, [], ◌∷◌, length, drop, Bool, true, false, map, get_or, refl, ap, subst, ◌∙◌, arith, inl, inr}
+use Rattle.std.proofs.Common.{◌≡◌, ℕ, ◌<◌, ◌==◌, List, [], ◌∷◌, length, drop, Bool, true, false, map, get_or, refl, sym, ap, subst, ◌∙◌, arith, inl, inr}
 use Rattle.std.specs.Prelude.{Some, None}
 use Rattle.std.specs.List.{range_with_len}
 use Rattle.std.specs.Char.{is_ascii_digit}
 use Rattle.std.proofs.lemmas.List.FromFn.{get_or-map-range_with_len}
-use Rattle.std.proofs.lemmas.Bool.{cases_Bool, eqb-true}
+use Rattle.std.proofs.lemmas.Bool.{cases_Bool, eqb-true, false≢true}
 use Rattle.std.proofs.lemmas.Bool.Decides.{nat_tests}
 use Rattle.bz_token.specs.Lexical.{begins, is_word_byte, is_blank, is_quote, are_two, opening}
 use Rattle.bz_token.specs.Brackets.{is_opening_bracket, is_closing_bracket}
-use Rattle.bz_token.specs.private.Tables.{is_prefix_letter, is_sign_start, class_of, IsMark}
+use Rattle.bz_token.specs.private.Tables.{is_prefix_letter, is_sign_start, class_of, IsMark, IsSolid}
 use Rattle.bz_token.specs.declared.table.Class.{Class}
 use Rattle.bz_token.specs.declared.table.Class.TheVariants.{Unknown, Space, Newline, Letter, Prefix, Digit, Quote, Hash, Backslash, Open, Close, Sign}
 use Rattle.bz_token.specs.declared.table.TheConstants.{CLASS, WORD}
@@ -25,10 +25,6 @@ class_read b h = ap (λ t. get_or t b Unknown) classes ∙ get_or-map-range_with
 
 pub word_read : (b : ℕ) → b < 256 → get_or WORD b false ≡ is_word_byte b
 word_read b h = ap (λ t. get_or t b false) words ∙ get_or-map-range_with_len is_word_byte 0 256 b b false h (omega arith)
-
--- no gap begins with the byte
-abbrev pub IsSolid : ℕ → Type 0
-IsSolid b = (is_blank b ≡ false) × ((b == 10) ≡ false) × ((b == 92) ≡ false)
 
 abbrev pub Fact : Class → ℕ → Type 0
 Fact Letter b = (is_word_byte b ≡ true) × (is_ascii_digit b ≡ false) × (is_prefix_letter b ≡ false) × IsSolid b
@@ -135,18 +131,31 @@ quote_opens (b ∷ bs) long some quote two =
     let l : (b == 98) ≡ false = grind (arith, nat_tests) in
     opens_plain b bs r l ∙ rw (quote, two) refl
 
+pub solid_at : (b : ℕ) (c : Class) → c ≡ class_of b → (c ≡ Space → ⊥) → (c ≡ Newline → ⊥) → (c ≡ Backslash → ⊥) → IsSolid b
+solid_at b Space is space line slash = absurd (space refl)
+solid_at b Newline is space line slash = absurd (line refl)
+solid_at b Backslash is space line slash = absurd (slash refl)
+solid_at b Letter is space line slash = (fact_at b Letter (sym is)).3
+solid_at b Prefix is space line slash = (fact_at b Prefix (sym is)).2
+solid_at b Digit is space line slash = (fact_at b Digit (sym is)).1
+solid_at b Quote is space line slash = (fact_at b Quote (sym is)).1
+solid_at b Hash is space line slash = (fact_at b Hash (sym is)).1
+solid_at b Open is space line slash = let m = fact_at b Open (sym is) in (m.0, m.1.2, m.1.4)
+solid_at b Close is space line slash = let m = fact_at b Close (sym is) in (m.0, m.1.2, m.1.4)
+solid_at b Sign is space line slash = let m = fact_at b Sign (sym is) in (m.0, m.1.2, m.1.4)
+solid_at b Unknown is space line slash = let m = fact_at b Unknown (sym is) in (m.0, m.1.2, m.1.4)
+
 -- a byte that begins a sign, or nothing
-pub mark_at : (b : ℕ) (c : Class) → class_of b ≡ c → (c ≡ Open) ⊎ ((c ≡ Close) ⊎ ((c ≡ Sign) ⊎ ((c ≡ Space) ⊎ (c ≡ Unknown)))) → IsMark b
-mark_at b c is one = elim one [
-  | inl e ↦ (fact_at b Open (is ∙ e)).1
-  | inr one ↦ elim one [
-    | inl e ↦ (fact_at b Close (is ∙ e)).1
-    | inr one ↦ elim one [
-      | inl e ↦ (fact_at b Sign (is ∙ e)).1
-      | inr one ↦ elim one [
-        | inl e ↦ (fact_at b Space (is ∙ e)).1
-        | inr e ↦ (fact_at b Unknown (is ∙ e)).1
-      ]
-    ]
-  ]
-]
+pub mark_at : (b : ℕ) (c : Class) → c ≡ class_of b → IsSolid b → (c ≡ Letter → ⊥) → (c ≡ Prefix → ⊥) → (c ≡ Digit → ⊥) → (c ≡ Quote → ⊥) → (c ≡ Hash → ⊥) → IsMark b
+mark_at b Letter is solid letter prefix digit quote hash = absurd (letter refl)
+mark_at b Prefix is solid letter prefix digit quote hash = absurd (prefix refl)
+mark_at b Digit is solid letter prefix digit quote hash = absurd (digit refl)
+mark_at b Quote is solid letter prefix digit quote hash = absurd (quote refl)
+mark_at b Hash is solid letter prefix digit quote hash = absurd (hash refl)
+mark_at b Space is solid letter prefix digit quote hash = (fact_at b Space (sym is)).1
+mark_at b Newline is solid letter prefix digit quote hash = let e : b ≡ 10 = fact_at b Newline (sym is) in absurd (false≢true (sym solid.1 ∙ ap (λ x. x == 10) e))
+mark_at b Backslash is solid letter prefix digit quote hash = let e : b ≡ 92 = fact_at b Backslash (sym is) in absurd (false≢true (sym solid.2 ∙ ap (λ x. x == 92) e))
+mark_at b Open is solid letter prefix digit quote hash = (fact_at b Open (sym is)).1
+mark_at b Close is solid letter prefix digit quote hash = (fact_at b Close (sym is)).1
+mark_at b Sign is solid letter prefix digit quote hash = (fact_at b Sign (sym is)).1
+mark_at b Unknown is solid letter prefix digit quote hash = (fact_at b Unknown (sym is)).1

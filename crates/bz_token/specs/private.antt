@@ -3,4 +3,5 @@ pub mod CutSteps
 pub mod Decided
 pub mod Scans
 pub mod Stages
+pub mod Steps
 pub mod Tables

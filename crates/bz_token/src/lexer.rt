@@ -12,8 +12,8 @@ ghost use Rattle.bz_token.specs.private.Scans.{bad_fault, misfit_fault, IsLeftOp
 
 use crate::brackets::{Brackets, Misfit, innermost};
 use crate::fault::LexFault;
-use crate::gap::{Place, advance, gap_len};
-use crate::scan_token::{Bad, scan_token};
+use crate::gap::{Place, advance, after_gap};
+use crate::scan_token::{Bad, Step, step_at};
 use crate::token::Token;
 use std::alloc::Global;
 
@@ -95,37 +95,41 @@ pub fn tokens<'a>(
     let mut out = Vec::new(alloc);
     let mut brackets = Brackets::new();
     let mut last_line = None;
-    let mut place = Place {
-        line: first_line,
-        col: 1,
-    };
+    let mut place = Place::start(first_line);
     let mut rest = text;
-    loop {
-        let (gap, after) = rest.split_at(gap_len(brackets.is_inside(), rest.as_bytes()));
-        place = advance(place, gap.as_bytes());
-        if after.is_empty() {
-            return closed(out);
-        }
-        let bytes = after.as_bytes();
-        let scanned = match scan_token(bytes) {
-            Ok(scanned) => scanned,
+    while !rest.is_empty() {
+        let bytes = rest.as_bytes();
+        let step = match step_at(brackets.is_inside(), bytes) {
+            Ok(step) => step,
             Err(bad) => return Err(bad_fault(bad, place)),
         };
-        match brackets.take(bytes[0], max_depth) {
-            Ok(()) => {}
-            Err(misfit) => return Err(misfit_fault(misfit, place)),
+        match step {
+            Step::Gap(gap) => {
+                place = after_gap(place, gap);
+                rest = rest.split_at(gap.len).1;
+            }
+            Step::Token(scanned) => {
+                match brackets.take(bytes[0], max_depth) {
+                    Ok(()) => {}
+                    Err(misfit) => return Err(misfit_fault(misfit, place)),
+                }
+                let Place { line, col } = place;
+                let (token, following) = rest.split_at(scanned.len);
+                out.push(Token {
+                    kind: scanned.kind,
+                    text: token,
+                    line,
+                    col,
+                    fresh: is_fresh(last_line, line),
+                })?;
+                last_line = Some(line);
+                place = pass(place, token.as_bytes(), scanned.has_newline);
+                rest = following;
+            }
         }
-        let Place { line, col } = place;
-        let (token, following) = after.split_at(scanned.len);
-        out.push(Token {
-            kind: scanned.kind,
-            text: token,
-            line,
-            col,
-            fresh: is_fresh(last_line, line),
-        })?;
-        last_line = Some(line);
-        place = pass(place, token.as_bytes(), scanned.has_newline);
-        rest = following;
     }
+    if brackets.is_inside() {
+        return closed(out);
+    }
+    Ok(out)
 }

@@ -1,11 +1,13 @@
 //! The token at a place.
 
-ghost use Rattle.std.specs.Prelude.{◌≡◌, ◌<◌, ◌≤◌, ◌==◌, ℕ, List, Some, None, true, false, length, slice_index, IfOk, IfErr};
+ghost use Rattle.std.specs.Prelude.{◌≡◌, ◌<◌, ◌≤◌, ◌==◌, ℕ, Bool, List, Some, None, true, false, length, slice_index, IfOk, IfErr};
 ghost use Rattle.std.specs.Char.{is_ascii_digit};
 ghost use Rattle.bz_token.specs.Lexical.{begins, opening, is_word_byte};
 ghost use Rattle.bz_token.specs.private.Scans.{IsScanned, IsBadPlace};
-ghost use Rattle.bz_token.specs.private.Tables.{IsMark};
+ghost use Rattle.bz_token.specs.private.Steps.{IsStep, IsBadStep};
+ghost use Rattle.bz_token.specs.private.Tables.{class_of, IsMark, IsSolid};
 
+use crate::gap::{Gap, blanks, continued, newline};
 use crate::scan::{comment_len, is_keyword, is_number, sign_len, word_len};
 use crate::scan_string::{Opening, closing_row, inside_at, opening_at, quoted_at};
 use crate::table::{Class, class_at};
@@ -27,6 +29,13 @@ pub enum Bad {
     Number,
     OpenText,
     Backslash,
+}
+
+/// What stands at a place.
+#[derive(Clone, Copy)]
+pub enum Step {
+    Gap(Gap),
+    Token(Scanned),
 }
 
 #[inline(always)]
@@ -122,27 +131,70 @@ fn scan_sign(bytes: &[u8]) -> Result<Scanned, Bad>
     }
 }
 
-/// The token here.
+// The token here, which begins with a byte of this class.
 #[inline(always)]
-pub fn scan_token(bytes: &[u8]) -> Result<Scanned, Bad>
-    requires { 0 < length bytes.now }
+fn scan_token(class: Class, bytes: &[u8]) -> Result<Scanned, Bad>
+    requires some { 0 < length bytes.now }
+    requires class { class ≡ class_of (slice_index bytes.now 0) }
+    requires solid { IsSolid (slice_index bytes.now 0) }
     ensures token { IfOk result (λ s. IsScanned bytes.now s) }
     ensures bad { IfErr result (λ bad. IsBadPlace bytes.now bad) }
 {
-    match class_at(bytes[0]) {
+    match class {
         Class::Letter => Ok(scan_name(bytes)),
         Class::Prefix => scan_prefixed(bytes),
         Class::Digit => scan_number(bytes),
         Class::Quote => scan_string(quoted_at(bytes), bytes),
         Class::Hash => Ok(scan_note(bytes)),
-        Class::Newline => Ok(Scanned {
-            kind: Kind::Line,
-            len: 1,
-            has_newline: true,
-        }),
-        Class::Backslash => Err(Bad::Backslash),
-        Class::Open | Class::Close | Class::Sign | Class::Space | Class::Unknown => {
-            scan_sign(bytes)
-        }
+        _ => scan_sign(bytes),
+    }
+}
+
+// The newline here: a token, or white space inside brackets.
+#[inline(always)]
+fn line_end(inside: bool, bytes: &[u8]) -> Step
+    requires some { 0 < length bytes.now }
+    requires newline { slice_index bytes.now 0 ≡ 10 }
+    ensures { IsStep inside bytes.now result }
+{
+    if inside {
+        return Step::Gap(newline(bytes));
+    }
+    Step::Token(Scanned {
+        kind: Kind::Line,
+        len: 1,
+        has_newline: true,
+    })
+}
+
+// The continued line here, if one begins with this backslash.
+#[inline(always)]
+fn line_goes_on(bytes: &[u8]) -> Result<Step, Bad>
+    requires some { 0 < length bytes.now }
+    requires backslash { slice_index bytes.now 0 ≡ 92 }
+    ensures step { IfOk result (λ step. (inside : Bool) → IsStep inside bytes.now step) }
+    ensures bad { IfErr result (λ bad. (inside : Bool) → IsBadStep inside bytes.now bad) }
+{
+    match continued(bytes) {
+        Some(gap) => Ok(Step::Gap(gap)),
+        None => Err(Bad::Backslash),
+    }
+}
+
+/// What stands here, where brackets are open or not.
+#[inline(always)]
+pub fn step_at(inside: bool, bytes: &[u8]) -> Result<Step, Bad>
+    requires { 0 < length bytes.now }
+    ensures step { IfOk result (λ step. IsStep inside bytes.now step) }
+    ensures bad { IfErr result (λ bad. IsBadStep inside bytes.now bad) }
+{
+    match class_at(bytes[0]) {
+        Class::Space => Ok(Step::Gap(blanks(bytes))),
+        Class::Newline => Ok(line_end(inside, bytes)),
+        Class::Backslash => line_goes_on(bytes),
+        class => match scan_token(class, bytes) {
+            Ok(scanned) => Ok(Step::Token(scanned)),
+            Err(bad) => Err(bad),
+        },
     }
 }

@@ -31,3 +31,7 @@ class_of b =
 -- nothing begins with the byte but a sign, if one does
 abbrev pub IsMark : ℕ → Type 0
 IsMark b = (is_word_byte b ≡ false) × (is_quote b ≡ false) × ((b == 10) ≡ false) × ((b == 35) ≡ false) × ((b == 92) ≡ false)
+
+-- no gap begins with the byte
+abbrev pub IsSolid : ℕ → Type 0
+IsSolid b = (is_blank b ≡ false) × ((b == 10) ≡ false) × ((b == 92) ≡ false)

@@ -1,0 +1,107 @@
+-- What stands at a place, before it is read.
+use Rattle.std.proofs.Common.{◌≡◌, ℕ, ◌+◌, ◌<◌, ◌≤◌, List, [], ◌∷◌, length, take, get_or, Bool, true, false, refl, ap, subst, ◌∙◌, arith, one-add}
+use Rattle.std.specs.List.{prefix_len}
+use Rattle.std.proofs.lemmas.List.{length-take-le}
+use Rattle.std.proofs.lemmas.List.Sums.{prefix_len-le-length}
+use Rattle.std.proofs.lemmas.Bool.{false≢true}
+use Rattle.bz_token.specs.declared.gap.Gap.{Gap}
+use Rattle.bz_token.specs.Lexical.{begins, is_blank}
+use Rattle.bz_token.specs.Reading.{is_gap, begins_gap}
+use Rattle.bz_token.specs.private.Scans.{IsScanned}
+use Rattle.bz_token.specs.private.Steps.{IsGapHere, IsStep, IsBadStep}
+use Rattle.bz_token.specs.declared.scan_token.Bad.{Bad}
+use Rattle.bz_token.specs.declared.scan_token.Scanned.{Scanned}
+use Rattle.bz_token.specs.declared.scan_token.Step.{Step}
+use Rattle.bz_token.specs.declared.scan_token.Step.TheVariants as step
+use Rattle.bz_token.specs.private.Tables.{IsSolid}
+use Rattle.bz_token.proofs.Gaps.{blank_run, blank_ascii}
+use Rattle.bz_token.proofs.Scanning.{all_front}
+use Rattle.bz_token.proofs.Progress.{one_line, one_line_newlines, one_line_column}
+
+blank_first : (bytes : List ℕ) → begins is_blank bytes ≡ true → 0 < prefix_len is_blank bytes
+blank_first [] h = absurd (false≢true h)
+blank_first (b ∷ bs) h = rw (h, one-add) (omega arith)
+
+pub blanks_here : (inside : Bool) (bytes : List ℕ) (gap : Gap) → begins is_blank bytes ≡ true → gap.len ≡ prefix_len is_blank bytes → gap.ends_line ≡ false → IsGapHere inside bytes gap
+blanks_here inside bytes gap first len ends =
+    let n = prefix_len is_blank bytes in
+    let some = blank_first bytes first in
+    let within = prefix_len-le-length is_blank bytes in
+    let flat = one_line (take n bytes) (all_front is_blank bytes) in
+    record {
+      some = rw len some;
+      within = rw len within;
+      goes_on = λ ys. rw len (blank_run inside bytes ys);
+      ascii = rw len (blank_ascii bytes some);
+      lines = rw (len, ends) (one_line_newlines (take n bytes) flat);
+      column = λ c. rw (len, ends) (one_line_column c (take n bytes) flat ∙ ap (λ k. c + k) (length-take-le n bytes within));
+    }
+
+pub newline_here : (bytes : List ℕ) (gap : Gap) → 0 < length bytes → get_or bytes 0 0 ≡ 10 → gap.len ≡ 1 → gap.ends_line ≡ true → IsGapHere true bytes gap
+newline_here [] gap some first len ends = absurd (omega arith)
+newline_here (b ∷ bs) gap some first len ends = record {
+  some = omega (arith, len);
+  within = omega (arith, len);
+  goes_on = λ ys. rw (len, first) refl;
+  ascii = rw (len, first) (omega arith);
+  lines = rw (len, ends, first) refl;
+  column = λ c. rw (len, ends, first) refl;
+}
+
+two_gap : (inside : Bool) (ys : List ℕ) → is_gap inside (92 ∷ 10 ∷ ys) ≡ is_gap inside ys
+two_gap true ys = refl
+two_gap false ys = refl
+
+three_gap : (inside : Bool) (ys : List ℕ) → is_gap inside (92 ∷ 13 ∷ 10 ∷ ys) ≡ is_gap inside ys
+three_gap true ys = refl
+three_gap false ys = refl
+
+pub two_here : (inside : Bool) (bytes : List ℕ) (gap : Gap) → 2 ≤ length bytes → get_or bytes 0 0 ≡ 92 → get_or bytes 1 0 ≡ 10 → gap.len ≡ 2 → gap.ends_line ≡ true → IsGapHere inside bytes gap
+two_here inside [] gap some first second len ends = absurd (omega arith)
+two_here inside (a ∷ []) gap some first second len ends = absurd (omega arith)
+two_here inside (a ∷ b ∷ bs) gap some first second len ends = record {
+  some = omega (arith, len);
+  within = omega (arith, len);
+  goes_on = λ ys. rw (len, first, second) (two_gap inside ys);
+  ascii = rw (len, second) (omega arith);
+  lines = rw (len, ends, first, second) refl;
+  column = λ c. rw (len, ends, first, second) refl;
+}
+
+pub three_here : (inside : Bool) (bytes : List ℕ) (gap : Gap) → 3 ≤ length bytes → get_or bytes 0 0 ≡ 92 → get_or bytes 1 0 ≡ 13 → get_or bytes 2 0 ≡ 10 → gap.len ≡ 3 → gap.ends_line ≡ true → IsGapHere inside bytes gap
+three_here inside [] gap some first second third len ends = absurd (omega arith)
+three_here inside (a ∷ []) gap some first second third len ends = absurd (omega arith)
+three_here inside (a ∷ b ∷ []) gap some first second third len ends = absurd (omega arith)
+three_here inside (a ∷ b ∷ c ∷ cs) gap some first second third len ends = record {
+  some = omega (arith, len);
+  within = omega (arith, len);
+  goes_on = λ ys. rw (len, first, second, third) (three_gap inside ys);
+  ascii = rw (len, third) (omega arith);
+  lines = rw (len, ends, first, second, third) refl;
+  column = λ c. rw (len, ends, first, second, third) refl;
+}
+
+-- no gap begins with a solid byte
+pub solid_gap : (inside : Bool) (bytes : List ℕ) → 0 < length bytes → IsSolid (get_or bytes 0 0) → begins_gap inside bytes ≡ false
+solid_gap inside [] some solid = absurd (omega arith)
+solid_gap true (b ∷ bs) some solid = let blank = solid.0 in let line = solid.1 in let slash = solid.2 in rw (blank, line, slash) refl
+solid_gap false (b ∷ bs) some solid = let blank = solid.0 in let slash = solid.2 in rw (blank, slash) refl
+
+-- a newline outside brackets is no gap
+pub newline_gap : (inside : Bool) (bytes : List ℕ) → inside ≡ false → 0 < length bytes → get_or bytes 0 0 ≡ 10 → begins_gap inside bytes ≡ false
+newline_gap inside [] outside some first = absurd (omega arith)
+newline_gap inside (b ∷ bs) outside some first = rw (outside, first) refl
+
+-- what a step is, of the text itself
+pub gap_of_step : (inside is_in : Bool) (bytes rest : List ℕ) (s : Step) (gap : Gap) → is_in ≡ inside → bytes ≡ rest → s ≡ step.Gap gap → IsStep is_in bytes s → IsGapHere inside rest gap
+gap_of_step inside is_in bytes rest s gap same_in same_bytes same is = subst (λ i. IsGapHere i rest gap) same_in (subst (λ xs. IsGapHere is_in xs gap) same_bytes (subst (λ x. IsStep is_in bytes x) same is))
+
+pub token_of_step : (inside is_in : Bool) (bytes rest : List ℕ) (s : Step) (t : Scanned) → is_in ≡ inside → bytes ≡ rest → s ≡ step.Token t → IsStep is_in bytes s → (begins_gap inside rest ≡ false) × IsScanned rest t
+token_of_step inside is_in bytes rest s t same_in same_bytes same is =
+    subst (λ i. (begins_gap i rest ≡ false) × IsScanned rest t) same_in (subst (λ xs. (begins_gap is_in xs ≡ false) × IsScanned xs t) same_bytes (subst (λ x. IsStep is_in bytes x) same is))
+
+pub bad_of_step : (inside is_in : Bool) (bytes rest : List ℕ) (bad : Bad) → is_in ≡ inside → bytes ≡ rest → IsBadStep is_in bytes bad → IsBadStep inside rest bad
+bad_of_step inside is_in bytes rest bad same_in same_bytes is = subst (λ i. IsBadStep i rest bad) same_in (subst (λ xs. IsBadStep is_in xs bad) same_bytes is)
+
+pub end_gap : (inside : Bool) (xs : List ℕ) → xs ≡ [] → begins_gap inside xs ≡ false
+end_gap inside xs none = rw none refl

@@ -1,0 +1,6 @@
+use Rattle.std.proofs.Common.{refl}
+use Rattle.bz_token.proofs.Steps.{blanks_here}
+use Rattle.bz_token.proofs.gap.blanks.Goals as goal
+
+pub returns : goal.returns
+returns c inside = blanks_here inside c.args.bytes.now _ c.requires c.blank_len.ensures refl

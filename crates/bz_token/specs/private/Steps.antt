@@ -1,0 +1,26 @@
+-- For private clauses: what stands at a place, a token or the white space before it.
+use Rattle.std.specs.Prelude.{◌≡◌, ◌≤◌, ◌<◌, ◌+◌, ◌-◌, ◌++◌, ◌==◌, ℕ, List, Bool, false, length, take, slice_index, count_by, if◌then◌else◌}
+use Rattle.bz_token.specs.declared.gap.Gap.{Gap}
+use Rattle.bz_token.specs.declared.scan_token.Bad.{Bad}
+use Rattle.bz_token.specs.declared.scan_token.Step.{Step}
+use Rattle.bz_token.specs.declared.scan_token.Step.TheVariants as step
+use Rattle.bz_token.specs.Places.{column_from}
+use Rattle.bz_token.specs.Reading.{is_gap, begins_gap}
+use Rattle.bz_token.specs.private.Scans.{IsScanned, IsBadPlace}
+
+-- So many bytes here are white space or a continued line; the last is a newline, and no other, or none is.
+pub record IsGapHere (inside : Bool) (bytes : List ℕ) (gap : Gap) : Type 0 where
+  pub some : 0 < gap.len
+  pub within : gap.len ≤ length bytes
+  pub goes_on : (ys : List ℕ) → is_gap inside (take gap.len bytes ++ ys) ≡ is_gap inside ys
+  pub ascii : slice_index bytes (gap.len - 1) < 128
+  pub lines : count_by (λ b. b == 10) (take gap.len bytes) ≡ (if gap.ends_line then 1 else 0)
+  pub column : (c : ℕ) → column_from c (take gap.len bytes) ≡ (if gap.ends_line then 1 else c + gap.len)
+
+abbrev pub IsStep : Bool → List ℕ → Step → Type 0
+IsStep inside bytes (step.Gap gap) = IsGapHere inside bytes gap
+IsStep inside bytes (step.Token s) = (begins_gap inside bytes ≡ false) × IsScanned bytes s
+
+-- no token stands here, and no gap
+abbrev pub IsBadStep : Bool → List ℕ → Bad → Type 0
+IsBadStep inside bytes bad = (begins_gap inside bytes ≡ false) × IsBadPlace bytes bad
