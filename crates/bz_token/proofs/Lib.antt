@@ -1,5 +1,6 @@
 mod TokenExamples
 pub mod Strings
+pub mod Plain
 pub mod PlainStrings
 pub mod Gaps
 pub mod Stack

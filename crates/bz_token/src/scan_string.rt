@@ -7,6 +7,8 @@ ghost use Rattle.bz_token.specs.private.Closing.{is_escaped, escape_after, close
 ghost use Rattle.bz_token.specs.private.Scans.{is_plain};
 ghost use Rattle.bz_token.specs.declared.scan_string.Escape.TheVariants.{Unescaped};
 
+use memchr::memchr3;
+
 /// What stands before a byte of a string: nothing that escapes it, a backslash, or a backslash and a carriage return.
 #[derive(Clone, Copy)]
 pub enum Escape {
@@ -128,20 +130,15 @@ pub fn quoted_at(bytes: &[u8]) -> Opening
     Opening { prefix: 0, quotes }
 }
 
-// A byte that neither ends a short string nor escapes the next byte.
-#[inline(always)]
-fn is_plain(quote: u8, b: u8) -> bool
-    ensures { result ≡ is_plain quote b }
-{
-    b != quote && b != b'\n' && b != b'\\'
-}
-
 /// How many bytes here neither end a short string with this quote nor escape the next byte.
 #[inline(always)]
 pub fn plain_len(quote: u8, bytes: &[u8]) -> usize
     ensures { result ≡ prefix_len (is_plain quote) bytes.now }
 {
-    bytes.iter().take_while(|b| is_plain(quote, **b)).count()
+    match memchr3(quote, b'\n', b'\\', bytes) {
+        Some(len) => len,
+        None => bytes.len(),
+    }
 }
 
 /// What stands after these opening quotes, up to the closing ones, if there are any.

@@ -24,13 +24,13 @@ pub enum Kind {
 /// A token of a text, with its place.
 #[derive(Clone, Copy, Debug, PartialEq, Eq)]
 pub struct Token<'a> {
-    pub kind: Kind,
     /// The slice of the text that the token is.
     pub text: &'a str,
     /// The line of its first byte. Lines count from the text's first line.
     pub line: u64,
     /// The column of its first byte, in bytes from 1.
     pub col: u64,
+    pub kind: Kind,
     /// No token begins before it on its line.
     pub fresh: bool,
 }
