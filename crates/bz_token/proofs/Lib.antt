@@ -11,6 +11,7 @@ pub mod Signs
 pub mod Tables
 pub mod Words
 pub mod Scanning
+pub mod Singles
 pub mod Progress
 pub mod Steps
 pub mod Innermost

@@ -1,5 +1,6 @@
 -- What stands at a place, before it is read.
 use Rattle.std.proofs.Common.{◌≡◌, ℕ, ◌+◌, ◌<◌, ◌≤◌, List, [], ◌∷◌, length, take, get_or, Bool, true, false, refl, ap, subst, ◌∙◌, arith, one-add}
+use Rattle.std.specs.Prelude.{Result, Ok, Err, IfOk, IfErr}
 use Rattle.std.specs.List.{prefix_len}
 use Rattle.std.proofs.lemmas.List.{length-take-le}
 use Rattle.std.proofs.lemmas.List.Sums.{prefix_len-le-length}
@@ -7,8 +8,8 @@ use Rattle.std.proofs.lemmas.Bool.{false≢true}
 use Rattle.bz_token.specs.declared.gap.Gap.{Gap}
 use Rattle.bz_token.specs.Lexical.{begins, is_blank}
 use Rattle.bz_token.specs.Reading.{is_gap, begins_gap}
-use Rattle.bz_token.specs.private.Scans.{IsScanned}
-use Rattle.bz_token.specs.private.Steps.{IsGapHere, IsStep, IsBadStep}
+use Rattle.bz_token.specs.private.Scans.{IsScanned, IsBadPlace}
+use Rattle.bz_token.specs.private.Steps.{IsGapHere, IsStep, IsTokenStep, IsBadStep}
 use Rattle.bz_token.specs.declared.scan_token.Bad.{Bad}
 use Rattle.bz_token.specs.declared.scan_token.Scanned.{Scanned}
 use Rattle.bz_token.specs.declared.scan_token.Step.{Step}
@@ -105,3 +106,13 @@ bad_of_step inside is_in bytes rest bad same_in same_bytes is = subst (λ i. IsB
 
 pub end_gap : (inside : Bool) (xs : List ℕ) → xs ≡ [] → begins_gap inside xs ≡ false
 end_gap inside xs none = rw none refl
+
+-- a step over a token
+pub token_step : (inside : Bool) (bytes : List ℕ) (r : Result Step Bad) → begins_gap inside bytes ≡ false → IfOk r (IsTokenStep bytes) → IfOk r (IsStep inside bytes)
+token_step inside bytes (Ok (step.Gap gap)) none is = absurd is
+token_step inside bytes (Ok (step.Token s)) none is = (none, is)
+token_step inside bytes (Err bad) none is = tt
+
+pub bad_step : (inside : Bool) (bytes : List ℕ) (r : Result Step Bad) → begins_gap inside bytes ≡ false → IfErr r (IsBadPlace bytes) → IfErr r (IsBadStep inside bytes)
+bad_step inside bytes (Ok step) none is = tt
+bad_step inside bytes (Err bad) none is = (none, is)

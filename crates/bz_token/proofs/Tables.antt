@@ -1,5 +1,5 @@
 -- The tables hold what their definitions say of each byte, and what a class tells of its bytes.
-use Rattle.std.proofs.Common.{◌≡◌, ℕ, ◌<◌, ◌==◌, List, [], ◌∷◌, length, drop, Bool, true, false, map, get_or, refl, sym, ap, subst, ◌∙◌, arith, inl, inr}
+use Rattle.std.proofs.Common.{◌≡◌, ℕ, ◌<◌, ◌==◌, ◌⊎◌, ◌||◌, List, [], ◌∷◌, length, drop, Bool, true, false, map, get_or, refl, ap, subst, ◌∙◌, arith, inl, inr}
 use Rattle.std.specs.Prelude.{Some, None}
 use Rattle.std.specs.List.{range_with_len}
 use Rattle.std.specs.Char.{is_ascii_digit}
@@ -8,9 +8,9 @@ use Rattle.std.proofs.lemmas.Bool.{cases_Bool, eqb-true, false≢true}
 use Rattle.std.proofs.lemmas.Bool.Decides.{nat_tests}
 use Rattle.bz_token.specs.Lexical.{begins, is_word_byte, is_blank, is_quote, are_two, opening}
 use Rattle.bz_token.specs.Brackets.{is_opening_bracket, is_closing_bracket}
-use Rattle.bz_token.specs.private.Tables.{is_prefix_letter, is_sign_start, class_of, IsMark, IsSolid}
+use Rattle.bz_token.specs.private.Tables.{is_prefix_letter, is_point, is_sign_start, is_single, class_of, IsMark, IsSolid}
 use Rattle.bz_token.specs.declared.table.Class.{Class}
-use Rattle.bz_token.specs.declared.table.Class.TheVariants.{Unknown, Space, Newline, Letter, Prefix, Digit, Quote, Hash, Backslash, Open, Close, Sign}
+use Rattle.bz_token.specs.declared.table.Class.TheVariants.{Unknown, Space, Newline, Letter, Prefix, Digit, Quote, Hash, Backslash, Open, Close, Point, Sign}
 use Rattle.bz_token.specs.declared.table.TheConstants.{CLASS, WORD}
 use Rattle.bz_token.proofs.Openings.{opens_plain}
 
@@ -30,21 +30,19 @@ abbrev pub Fact : Class → ℕ → Type 0
 Fact Letter b = (is_word_byte b ≡ true) × (is_ascii_digit b ≡ false) × (is_prefix_letter b ≡ false) × IsSolid b
 Fact Prefix b = (is_word_byte b ≡ true) × (is_ascii_digit b ≡ false) × IsSolid b
 Fact Digit b = (is_ascii_digit b ≡ true) × IsSolid b
-Fact Space b = (is_blank b ≡ true) × IsMark b
+Fact Space b = is_blank b ≡ true
 Fact Newline b = b ≡ 10
 Fact Quote b = (is_quote b ≡ true) × IsSolid b
 Fact Hash b = ((b == 35) ≡ true) × IsSolid b
 Fact Backslash b = b ≡ 92
-Fact Open b = (is_blank b ≡ false) × IsMark b
-Fact Close b = (is_blank b ≡ false) × IsMark b
+Fact Open b = (is_opening_bracket b ≡ true) × IsSolid b
+Fact Close b = (is_closing_bracket b ≡ true) × IsSolid b
+Fact Point b = (is_point b ≡ true) × IsSolid b
 Fact Sign b = (is_blank b ≡ false) × IsMark b
 Fact Unknown b = (is_blank b ≡ false) × IsMark b
 
 word_solid : (b : ℕ) → is_word_byte b ≡ true → IsSolid b
 word_solid b h = (grind (arith, nat_tests), grind (arith, nat_tests), grind (arith, nat_tests))
-
-blank_mark : (b : ℕ) → is_word_byte b ≡ false → is_blank b ≡ true → IsMark b
-blank_mark b none h = (none, grind (arith, nat_tests), grind (arith, nat_tests), grind (arith, nat_tests), grind (arith, nat_tests))
 
 quote_slash : (b : ℕ) → is_quote b ≡ true → (b == 92) ≡ false
 quote_slash b h = grind (arith, nat_tests)
@@ -63,14 +61,18 @@ word_fact b word = elim (cases_Bool (is_ascii_digit b)) [
 
 mark_fact : (b : ℕ) → is_word_byte b ≡ false → is_blank b ≡ false → (b == 10) ≡ false → is_quote b ≡ false → (b == 35) ≡ false → (b == 92) ≡ false → Fact (class_of b) b
 mark_fact b word blank line quote hash slash =
+    let solid : IsSolid b = (blank, line, slash) in
     let told : (is_blank b ≡ false) × IsMark b = (blank, (word, quote, line, hash, slash)) in
     elim (cases_Bool (is_opening_bracket b)) [
-      | inl opens ↦ rw (word, blank, line, quote, hash, slash, opens) told
+      | inl opens ↦ rw (word, blank, line, quote, hash, slash, opens) (opens, solid)
       | inr no_open ↦ elim (cases_Bool (is_closing_bracket b)) [
-        | inl closing ↦ rw (word, blank, line, quote, hash, slash, no_open, closing) told
-        | inr no_close ↦ elim (cases_Bool (is_sign_start b)) [
-          | inl sign ↦ rw (word, blank, line, quote, hash, slash, no_open, no_close, sign) told
-          | inr none ↦ rw (word, blank, line, quote, hash, slash, no_open, no_close, none) told
+        | inl closing ↦ rw (word, blank, line, quote, hash, slash, no_open, closing) (closing, solid)
+        | inr no_close ↦ elim (cases_Bool (is_point b)) [
+          | inl point ↦ rw (word, blank, line, quote, hash, slash, no_open, no_close, point) (point, solid)
+          | inr no_point ↦ elim (cases_Bool (is_sign_start b)) [
+            | inl sign ↦ rw (word, blank, line, quote, hash, slash, no_open, no_close, no_point, sign) told
+            | inr none ↦ rw (word, blank, line, quote, hash, slash, no_open, no_close, no_point, none) told
+          ]
         ]
       ]
     ]
@@ -79,7 +81,7 @@ fact_of : (b : ℕ) → Fact (class_of b) b
 fact_of b = elim (cases_Bool (is_word_byte b)) [
   | inl word ↦ word_fact b word
   | inr no_word ↦ elim (cases_Bool (is_blank b)) [
-    | inl blank ↦ rw (no_word, blank) (blank, blank_mark b no_word blank)
+    | inl blank ↦ rw (no_word, blank) blank
     | inr no_blank ↦ elim (cases_Bool (b == 10)) [
       | inl line ↦ rw (no_word, no_blank, line) (eqb-true b 10 line)
       | inr no_line ↦ elim (cases_Bool (is_quote b)) [
@@ -131,31 +133,47 @@ quote_opens (b ∷ bs) long some quote two =
     let l : (b == 98) ≡ false = grind (arith, nat_tests) in
     opens_plain b bs r l ∙ rw (quote, two) refl
 
-pub solid_at : (b : ℕ) (c : Class) → c ≡ class_of b → (c ≡ Space → ⊥) → (c ≡ Newline → ⊥) → (c ≡ Backslash → ⊥) → IsSolid b
-solid_at b Space is space line slash = absurd (space refl)
-solid_at b Newline is space line slash = absurd (line refl)
-solid_at b Backslash is space line slash = absurd (slash refl)
-solid_at b Letter is space line slash = (fact_at b Letter (sym is)).3
-solid_at b Prefix is space line slash = (fact_at b Prefix (sym is)).2
-solid_at b Digit is space line slash = (fact_at b Digit (sym is)).1
-solid_at b Quote is space line slash = (fact_at b Quote (sym is)).1
-solid_at b Hash is space line slash = (fact_at b Hash (sym is)).1
-solid_at b Open is space line slash = let m = fact_at b Open (sym is) in (m.0, m.1.2, m.1.4)
-solid_at b Close is space line slash = let m = fact_at b Close (sym is) in (m.0, m.1.2, m.1.4)
-solid_at b Sign is space line slash = let m = fact_at b Sign (sym is) in (m.0, m.1.2, m.1.4)
-solid_at b Unknown is space line slash = let m = fact_at b Unknown (sym is) in (m.0, m.1.2, m.1.4)
+-- no gap begins with a byte of this class
+abbrev pub is_solid_class : Class → Bool
+is_solid_class Space = false
+is_solid_class Newline = false
+is_solid_class Backslash = false
+is_solid_class _ = true
 
--- a byte that begins a sign, or nothing
-pub mark_at : (b : ℕ) (c : Class) → c ≡ class_of b → IsSolid b → (c ≡ Letter → ⊥) → (c ≡ Prefix → ⊥) → (c ≡ Digit → ⊥) → (c ≡ Quote → ⊥) → (c ≡ Hash → ⊥) → IsMark b
-mark_at b Letter is solid letter prefix digit quote hash = absurd (letter refl)
-mark_at b Prefix is solid letter prefix digit quote hash = absurd (prefix refl)
-mark_at b Digit is solid letter prefix digit quote hash = absurd (digit refl)
-mark_at b Quote is solid letter prefix digit quote hash = absurd (quote refl)
-mark_at b Hash is solid letter prefix digit quote hash = absurd (hash refl)
-mark_at b Space is solid letter prefix digit quote hash = (fact_at b Space (sym is)).1
-mark_at b Newline is solid letter prefix digit quote hash = let e : b ≡ 10 = fact_at b Newline (sym is) in absurd (false≢true (sym solid.1 ∙ ap (λ x. x == 10) e))
-mark_at b Backslash is solid letter prefix digit quote hash = let e : b ≡ 92 = fact_at b Backslash (sym is) in absurd (false≢true (sym solid.2 ∙ ap (λ x. x == 92) e))
-mark_at b Open is solid letter prefix digit quote hash = (fact_at b Open (sym is)).1
-mark_at b Close is solid letter prefix digit quote hash = (fact_at b Close (sym is)).1
-mark_at b Sign is solid letter prefix digit quote hash = (fact_at b Sign (sym is)).1
-mark_at b Unknown is solid letter prefix digit quote hash = (fact_at b Unknown (sym is)).1
+pub solid_at : (b : ℕ) (c : Class) → class_of b ≡ c → is_solid_class c ≡ true → IsSolid b
+solid_at b Space is solid = absurd (false≢true solid)
+solid_at b Newline is solid = absurd (false≢true solid)
+solid_at b Backslash is solid = absurd (false≢true solid)
+solid_at b Letter is solid = (fact_at b Letter is).3
+solid_at b Prefix is solid = (fact_at b Prefix is).2
+solid_at b Digit is solid = (fact_at b Digit is).1
+solid_at b Quote is solid = (fact_at b Quote is).1
+solid_at b Hash is solid = (fact_at b Hash is).1
+solid_at b Open is solid = (fact_at b Open is).1
+solid_at b Close is solid = (fact_at b Close is).1
+solid_at b Point is solid = (fact_at b Point is).1
+solid_at b Sign is solid = let m = fact_at b Sign is in (m.0, m.1.2, m.1.4)
+solid_at b Unknown is solid = let m = fact_at b Unknown is in (m.0, m.1.2, m.1.4)
+
+-- one of these classes
+pub single_at : (b : ℕ) (c : Class) → class_of b ≡ c → (c ≡ Open) ⊎ ((c ≡ Close) ⊎ (c ≡ Point)) → (is_single b ≡ true) × IsSolid b
+single_at b c is one = elim one [
+  | inl e ↦ let f = fact_at b Open (is ∙ e) in let opens = f.0 in (rw opens refl, f.1)
+  | inr one ↦ elim one [
+    | inl e ↦ let f = fact_at b Close (is ∙ e) in (or_left (is_opening_bracket b || is_closing_bracket b) (is_point b) (or_right (is_opening_bracket b) (is_closing_bracket b) f.0), f.1)
+    | inr e ↦ let f = fact_at b Point (is ∙ e) in (or_right (is_opening_bracket b || is_closing_bracket b) (is_point b) f.0, f.1)
+  ]
+]
+  where
+    or_left : (x y : Bool) → x ≡ true → (x || y) ≡ true
+    or_left x y h = rw h refl
+
+    or_right : (x y : Bool) → y ≡ true → (x || y) ≡ true
+    or_right true y h = refl
+    or_right false y h = h
+
+pub mark_at : (b : ℕ) (c : Class) → class_of b ≡ c → (c ≡ Sign) ⊎ (c ≡ Unknown) → IsMark b × IsSolid b
+mark_at b c is one = elim one [
+  | inl e ↦ let m = fact_at b Sign (is ∙ e) in (m.1, (m.0, m.1.2, m.1.4))
+  | inr e ↦ let m = fact_at b Unknown (is ∙ e) in (m.1, (m.0, m.1.2, m.1.4))
+]

@@ -6,6 +6,7 @@ ghost use Rattle.bz_token.specs.declared.brackets.Bracket.TheVariants.{Opening, 
 ghost use Rattle.bz_token.specs.Brackets.{is_opening_bracket, is_closing_bracket, is_pair, is_inside, is_bracket, bracket_fits, closes_innermost, open_after_byte, open_tokens};
 
 use crate::gap::Place;
+use crate::table::{Class, class_at};
 use crate::token::Token;
 
 /// The open brackets, the innermost first, at the end of an array.
@@ -28,14 +29,14 @@ pub enum Misfit {
 pub fn is_opening_bracket(b: u8) -> bool
     ensures { result ≡ is_opening_bracket b }
 {
-    matches!(b, b'(' | b'[' | b'{')
+    matches!(class_at(b), Class::Open)
 }
 
 #[inline(always)]
 pub fn is_closing_bracket(b: u8) -> bool
     ensures { result ≡ is_closing_bracket b }
 {
-    matches!(b, b')' | b']' | b'}')
+    matches!(class_at(b), Class::Close)
 }
 
 #[inline(always)]

@@ -4,8 +4,8 @@ ghost use Rattle.std.specs.Prelude.{◌≡◌, ◌<◌, ◌≤◌, ◌==◌, ℕ
 ghost use Rattle.std.specs.Char.{is_ascii_digit};
 ghost use Rattle.bz_token.specs.Lexical.{begins, opening, is_word_byte};
 ghost use Rattle.bz_token.specs.private.Scans.{IsScanned, IsBadPlace};
-ghost use Rattle.bz_token.specs.private.Steps.{IsStep, IsBadStep};
-ghost use Rattle.bz_token.specs.private.Tables.{class_of, IsMark, IsSolid};
+ghost use Rattle.bz_token.specs.private.Steps.{IsStep, IsTokenStep, IsBadStep};
+ghost use Rattle.bz_token.specs.private.Tables.{is_single, IsMark};
 
 use crate::gap::{Gap, blanks, continued, newline};
 use crate::scan::{comment_len, is_keyword, is_number, sign_len, word_len};
@@ -52,33 +52,33 @@ fn on_one_line(kind: Kind, len: usize) -> Scanned
 }
 
 #[inline(always)]
-fn scan_string(opened: Opening, bytes: &[u8]) -> Result<Scanned, Bad>
+fn scan_string(opened: Opening, bytes: &[u8]) -> Result<Step, Bad>
     requires { opening bytes.now ≡ Some opened }
-    ensures token { IfOk result (λ s. IsScanned bytes.now s) }
+    ensures token { IfOk result (λ step. IsTokenStep bytes.now step) }
     ensures bad { IfErr result (λ bad. IsBadPlace bytes.now bad) }
 {
     let start = opened.prefix + closing_row(opened.quotes.long);
     let Some(inside) = inside_at(opened.quotes, &bytes[start..]) else {
         return Err(Bad::OpenText);
     };
-    Ok(Scanned {
+    Ok(Step::Token(Scanned {
         kind: Kind::Text,
         len: start + inside.len,
         has_newline: inside.has_newline,
-    })
+    }))
 }
 
 #[inline(always)]
-fn scan_number(bytes: &[u8]) -> Result<Scanned, Bad>
+fn scan_number(bytes: &[u8]) -> Result<Step, Bad>
     requires digit { begins is_ascii_digit bytes.now ≡ true }
-    ensures token { IfOk result (λ s. IsScanned bytes.now s) }
+    ensures token { IfOk result (λ step. IsTokenStep bytes.now step) }
     ensures bad { IfErr result (λ bad. IsBadPlace bytes.now bad) }
 {
     let len = word_len(bytes);
     if !is_number(&bytes[..len]) {
         return Err(Bad::Number);
     }
-    Ok(on_one_line(Kind::Int, len))
+    Ok(Step::Token(on_one_line(Kind::Int, len)))
 }
 
 #[inline(always)]
@@ -98,15 +98,15 @@ fn scan_name(bytes: &[u8]) -> Scanned
 
 // A word, or a string that its prefix begins.
 #[inline(always)]
-fn scan_prefixed(bytes: &[u8]) -> Result<Scanned, Bad>
+fn scan_prefixed(bytes: &[u8]) -> Result<Step, Bad>
     requires word { begins is_word_byte bytes.now ≡ true }
     requires no_digit { begins is_ascii_digit bytes.now ≡ false }
-    ensures token { IfOk result (λ s. IsScanned bytes.now s) }
+    ensures token { IfOk result (λ step. IsTokenStep bytes.now step) }
     ensures bad { IfErr result (λ bad. IsBadPlace bytes.now bad) }
 {
     match opening_at(bytes) {
         Some(opened) => scan_string(opened, bytes),
-        None => Ok(scan_name(bytes)),
+        None => Ok(Step::Token(scan_name(bytes))),
     }
 }
 
@@ -119,35 +119,25 @@ fn scan_note(bytes: &[u8]) -> Scanned
 }
 
 #[inline(always)]
-fn scan_sign(bytes: &[u8]) -> Result<Scanned, Bad>
+fn scan_sign(bytes: &[u8]) -> Result<Step, Bad>
     requires some { 0 < length bytes.now }
     requires mark { IsMark (slice_index bytes.now 0) }
-    ensures token { IfOk result (λ s. IsScanned bytes.now s) }
+    ensures token { IfOk result (λ step. IsTokenStep bytes.now step) }
     ensures bad { IfErr result (λ bad. IsBadPlace bytes.now bad) }
 {
     match sign_len(bytes) {
         0 => Err(Bad::Character),
-        len => Ok(on_one_line(Kind::Sign, len)),
+        len => Ok(Step::Token(on_one_line(Kind::Sign, len))),
     }
 }
 
-// The token here, which begins with a byte of this class.
 #[inline(always)]
-fn scan_token(class: Class, bytes: &[u8]) -> Result<Scanned, Bad>
+fn scan_single(bytes: &[u8]) -> Scanned
     requires some { 0 < length bytes.now }
-    requires class { class ≡ class_of (slice_index bytes.now 0) }
-    requires solid { IsSolid (slice_index bytes.now 0) }
-    ensures token { IfOk result (λ s. IsScanned bytes.now s) }
-    ensures bad { IfErr result (λ bad. IsBadPlace bytes.now bad) }
+    requires single { is_single (slice_index bytes.now 0) ≡ true }
+    ensures { IsScanned bytes.now result }
 {
-    match class {
-        Class::Letter => Ok(scan_name(bytes)),
-        Class::Prefix => scan_prefixed(bytes),
-        Class::Digit => scan_number(bytes),
-        Class::Quote => scan_string(quoted_at(bytes), bytes),
-        Class::Hash => Ok(scan_note(bytes)),
-        _ => scan_sign(bytes),
-    }
+    on_one_line(Kind::Sign, 1)
 }
 
 // The newline here: a token, or white space inside brackets.
@@ -192,9 +182,12 @@ pub fn step_at(inside: bool, bytes: &[u8]) -> Result<Step, Bad>
         Class::Space => Ok(Step::Gap(blanks(bytes))),
         Class::Newline => Ok(line_end(inside, bytes)),
         Class::Backslash => line_goes_on(bytes),
-        class => match scan_token(class, bytes) {
-            Ok(scanned) => Ok(Step::Token(scanned)),
-            Err(bad) => Err(bad),
-        },
+        Class::Letter => Ok(Step::Token(scan_name(bytes))),
+        Class::Prefix => scan_prefixed(bytes),
+        Class::Digit => scan_number(bytes),
+        Class::Quote => scan_string(quoted_at(bytes), bytes),
+        Class::Hash => Ok(Step::Token(scan_note(bytes))),
+        Class::Open | Class::Close | Class::Point => Ok(Step::Token(scan_single(bytes))),
+        Class::Sign | Class::Unknown => scan_sign(bytes),
     }
 }

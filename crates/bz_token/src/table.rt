@@ -21,7 +21,9 @@ pub enum Class {
     Backslash,
     Open,
     Close,
-    /// A sign that is no bracket.
+    /// Another sign that is whole, whatever follows it.
+    Point,
+    /// Any other sign.
     Sign,
 }
 
@@ -32,9 +34,9 @@ static CLASS: [Class; 256] = [
     Class::Unknown, Class::Unknown, Class::Unknown, Class::Unknown, Class::Unknown, Class::Unknown, Class::Unknown, Class::Unknown,
     Class::Unknown, Class::Unknown, Class::Unknown, Class::Unknown, Class::Unknown, Class::Unknown, Class::Unknown, Class::Unknown,
     Class::Space, Class::Sign, Class::Quote, Class::Hash, Class::Unknown, Class::Sign, Class::Sign, Class::Quote,
-    Class::Open, Class::Close, Class::Sign, Class::Sign, Class::Sign, Class::Sign, Class::Sign, Class::Sign,
+    Class::Open, Class::Close, Class::Sign, Class::Sign, Class::Point, Class::Sign, Class::Point, Class::Sign,
     Class::Digit, Class::Digit, Class::Digit, Class::Digit, Class::Digit, Class::Digit, Class::Digit, Class::Digit,
-    Class::Digit, Class::Digit, Class::Sign, Class::Sign, Class::Sign, Class::Sign, Class::Sign, Class::Unknown,
+    Class::Digit, Class::Digit, Class::Point, Class::Point, Class::Sign, Class::Sign, Class::Sign, Class::Unknown,
     Class::Unknown, Class::Letter, Class::Letter, Class::Letter, Class::Letter, Class::Letter, Class::Letter, Class::Letter,
     Class::Letter, Class::Letter, Class::Letter, Class::Letter, Class::Letter, Class::Letter, Class::Letter, Class::Letter,
     Class::Letter, Class::Letter, Class::Letter, Class::Letter, Class::Letter, Class::Letter, Class::Letter, Class::Letter,
@@ -42,7 +44,7 @@ static CLASS: [Class; 256] = [
     Class::Unknown, Class::Letter, Class::Prefix, Class::Letter, Class::Letter, Class::Letter, Class::Letter, Class::Letter,
     Class::Letter, Class::Letter, Class::Letter, Class::Letter, Class::Letter, Class::Letter, Class::Letter, Class::Letter,
     Class::Letter, Class::Letter, Class::Prefix, Class::Letter, Class::Letter, Class::Letter, Class::Letter, Class::Letter,
-    Class::Letter, Class::Letter, Class::Letter, Class::Open, Class::Sign, Class::Close, Class::Sign, Class::Unknown,
+    Class::Letter, Class::Letter, Class::Letter, Class::Open, Class::Sign, Class::Close, Class::Point, Class::Unknown,
     Class::Unknown, Class::Unknown, Class::Unknown, Class::Unknown, Class::Unknown, Class::Unknown, Class::Unknown, Class::Unknown,
     Class::Unknown, Class::Unknown, Class::Unknown, Class::Unknown, Class::Unknown, Class::Unknown, Class::Unknown, Class::Unknown,
     Class::Unknown, Class::Unknown, Class::Unknown, Class::Unknown, Class::Unknown, Class::Unknown, Class::Unknown, Class::Unknown,

@@ -21,6 +21,11 @@ abbrev pub IsStep : Bool → List ℕ → Step → Type 0
 IsStep inside bytes (step.Gap gap) = IsGapHere inside bytes gap
 IsStep inside bytes (step.Token s) = (begins_gap inside bytes ≡ false) × IsScanned bytes s
 
+-- the token here, where no gap is
+abbrev pub IsTokenStep : List ℕ → Step → Type 0
+IsTokenStep bytes (step.Gap gap) = ⊥
+IsTokenStep bytes (step.Token s) = IsScanned bytes s
+
 -- no token stands here, and no gap
 abbrev pub IsBadStep : Bool → List ℕ → Bad → Type 0
 IsBadStep inside bytes bad = (begins_gap inside bytes ≡ false) × IsBadPlace bytes bad

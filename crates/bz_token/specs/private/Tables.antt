@@ -2,7 +2,7 @@
 use Rattle.std.specs.Prelude.{◌≡◌, ℕ, Bool, false, ◌||◌, ◌==◌, if◌then◌else◌}
 use Rattle.std.specs.Char.{is_ascii_digit}
 use Rattle.bz_token.specs.declared.table.Class.{Class}
-use Rattle.bz_token.specs.declared.table.Class.TheVariants.{Unknown, Space, Newline, Letter, Prefix, Digit, Quote, Hash, Backslash, Open, Close, Sign}
+use Rattle.bz_token.specs.declared.table.Class.TheVariants.{Unknown, Space, Newline, Letter, Prefix, Digit, Quote, Hash, Backslash, Open, Close, Point, Sign}
 use Rattle.bz_token.specs.Lexical.{is_word_byte, is_blank, is_quote}
 use Rattle.bz_token.specs.Brackets.{is_opening_bracket, is_closing_bracket}
 
@@ -10,11 +10,14 @@ use Rattle.bz_token.specs.Brackets.{is_opening_bracket, is_closing_bracket}
 abbrev pub is_prefix_letter : ℕ → Bool
 is_prefix_letter b = b == 114 || b == 98
 
--- the first bytes of signs that are no brackets
+-- a sign that is no bracket, and whole whatever follows it
+abbrev pub is_point : ℕ → Bool
+is_point b = b == 126 || b == 46 || b == 44 || b == 59 || b == 58
+
+-- the first bytes of the other signs
 abbrev pub is_sign_start : ℕ → Bool
 is_sign_start b =
-    b == 43 || b == 45 || b == 42 || b == 47 || b == 37 || b == 126 || b == 38 || b == 124 || b == 94 || b == 60 || b == 62 || b == 46
-    || b == 44 || b == 61 || b == 59 || b == 58 || b == 33
+    b == 43 || b == 45 || b == 42 || b == 47 || b == 37 || b == 38 || b == 124 || b == 94 || b == 60 || b == 62 || b == 61 || b == 33
 
 abbrev pub class_of : ℕ → Class
 class_of b =
@@ -26,7 +29,8 @@ class_of b =
     else (if b == 92 then Backslash
     else (if is_opening_bracket b then Open
     else (if is_closing_bracket b then Close
-    else (if is_sign_start b then Sign else Unknown))))))))
+    else (if is_point b then Point
+    else (if is_sign_start b then Sign else Unknown)))))))))
 
 -- nothing begins with the byte but a sign, if one does
 abbrev pub IsMark : ℕ → Type 0
@@ -35,3 +39,7 @@ IsMark b = (is_word_byte b ≡ false) × (is_quote b ≡ false) × ((b == 10) �
 -- no gap begins with the byte
 abbrev pub IsSolid : ℕ → Type 0
 IsSolid b = (is_blank b ≡ false) × ((b == 10) ≡ false) × ((b == 92) ≡ false)
+
+-- a sign that is whole, whatever follows it
+abbrev pub is_single : ℕ → Bool
+is_single b = is_opening_bracket b || is_closing_bracket b || is_point b
