@@ -15,11 +15,11 @@ slots_more m ps slots slot =
     ∙ map_more (slot_after m ps) slots slot
     ∙ ap (λ l. l ++ slot_after m ps slot ∷ []) (sym (slots_alone m ps slots))
 
-or_left : (a b : Bool) → (a || b) ≡ false → a ≡ false
+pub or_left : (a b : Bool) → (a || b) ≡ false → a ≡ false
 or_left true b h = h
 or_left false b h = refl
 
-or_right : (a b : Bool) → (a || b) ≡ false → b ≡ false
+pub or_right : (a b : Bool) → (a || b) ≡ false → b ≡ false
 or_right true true h = h
 or_right true false h = refl
 or_right false b h = h

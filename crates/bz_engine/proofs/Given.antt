@@ -15,7 +15,7 @@ use Rattle.bz_engine.specs.File.{Gives, Follows, Give}
 line_more : (first : ℕ) (xs ys : List ℕ) → line_at first (xs ++ ys) ≡ line_at (line_at first xs) ys
 line_more first xs ys = ap (λ n. first + n) (sum_by-append (λ b. if b == 10 then 1 else 0) xs ys) ∙ sym (add_assoc first (count_by (λ b. b == 10) xs) (count_by (λ b. b == 10) ys))
 
-none_is_some : {A X : Type 0} (a : A) → None ≡ Some a → X
+pub none_is_some : {A X : Type 0} (a : A) → None ≡ Some a → X
 none_is_some a h = absurd (none-some a h)
 
 -- what follows an answer, with more after it

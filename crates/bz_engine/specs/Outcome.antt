@@ -157,6 +157,10 @@ pub record EndsAtFailure (home : Package) (passes : Script) (keep_going : Bool) 
   pub text_is : text ≡ text_after home passes before
   pub told_is : told ≡ told_of_failure home passes before statement
 
+-- these bytes begin those
+abbrev pub IsFrontOf : List ℕ → List ℕ → Type 0
+IsFrontOf front whole = (more : List ℕ) × (whole ≡ front ++ more)
+
 -- The text that is written for a file, and what is told.
 abbrev pub IsOutcome : Package → Script → Bool → ℕ → List ℕ → List ℕ → Told → Type 0
 IsOutcome home passes keep_going max_depth file text told =

@@ -1,12 +1,15 @@
 //! Laws of the definitions that the contracts cite. Each function does nothing: its contract is the law.
 
-ghost use Rattle.std.specs.Prelude.{◌≡◌, ◌↔◌, List, true};
+ghost use Rattle.std.specs.Prelude.{◌≡◌, ◌↔◌, ℕ, List, Bool, Result, Option, true};
 ghost use Rattle.bz_tree.specs.Tree.{Statement};
 ghost use Rattle.bz_command.specs.Labels.{Package, Target};
 ghost use Rattle.bz_command.specs.Commands.{Command};
 ghost use Rattle.bz_command.specs.Passes.{Meaning, Pass, Slot, some_execution};
 ghost use Rattle.bz_engine.specs.Exchange.{Exchange};
 ghost use Rattle.bz_engine.specs.Changes.{AreCommands, Changes};
+ghost use Rattle.bz_engine.specs.File.{Gives, IsFile};
+ghost use Rattle.bz_engine.specs.Outcome.{Script, Told, IsOutcome};
+ghost use Rattle.bz_engine.specs.declared.report.SyntaxFault.{SyntaxFault};
 ghost use Rattle.bz_engine.specs.Meaning.{meaning, changes};
 
 /// A run tells that it changed something exactly where some command of the script, when it ran, left some statement
@@ -21,4 +24,19 @@ pub fn changed_is_a_difference()
 /// statement.
 pub fn exchange<S, T, C, M>()
     ensures { (m : Meaning S T C M) (ps : List (Pass T C)) (slots : List (Slot S)) → Exchange m ps slots }
+{}
+
+/// A chunk gives one answer: a statement, nothing or a fault. So a file has one list of statements before one fault.
+pub fn one_list_of_statements()
+    ensures chunk { (max_depth line : ℕ) (chunk : List ℕ) (a b : Result (Option Statement) SyntaxFault)
+        → Gives max_depth line chunk a → Gives max_depth line chunk b → a ≡ b }
+    ensures file { (max_depth : ℕ) (file : List ℕ) (ss ts : List Statement) (f g : Option SyntaxFault)
+        → IsFile max_depth file ss f → IsFile max_depth file ts g → (ss ≡ ts) × (f ≡ g) }
+{}
+
+/// A file has one outcome: one text is written for it, and one thing is told.
+pub fn one_outcome()
+    ensures { (home : Package) (passes : Script) (keep_going : Bool) (max_depth : ℕ) (file text text2 : List ℕ)
+        (told told2 : Told) → IsOutcome home passes keep_going max_depth file text told
+        → IsOutcome home passes keep_going max_depth file text2 told2 → (text ≡ text2) × (told ≡ told2) }
 {}
