@@ -1,6 +1,6 @@
 -- A chunk that a session takes: it is done, it has a fault, or the run ends at its failure.
-use Rattle.std.proofs.Common.{◌≡◌, ℕ, ◌<◌, ◌≤◌, Bool, true, false, List, [], ◌∷◌, ◌++◌, length, take, drop, refl, sym, ◌∙◌, ap, subst}
-use Rattle.std.specs.Prelude.{IsTrue, Option, None, Some, Result, Ok, Err, IfSome, IfNone}
+use Rattle.std.proofs.Common.{◌≡◌, ℕ, ◌<◌, ◌≤◌, Bool, true, false, List, [], ◌∷◌, ◌++◌, length, take, drop, take-append-drop, refl, sym, ◌∙◌, ap, subst, inl, inr}
+use Rattle.std.specs.Prelude.{IsTrue, Option, None, Some, Result, Ok, Err, IfSome, IfNone, OnErr}
 use Rattle.std.proofs.lemmas.Bool.{false≢true}
 use Rattle.std.proofs.lemmas.List.{length-take-le}
 use Rattle.bz_tree.specs.Tree.{Statement}
@@ -18,7 +18,7 @@ use Rattle.bz_engine.specs.declared.edit.Edited.TheVariants.{Done, Faulty, Faile
 use Rattle.bz_engine.specs.Ahead.{Ahead, IsReadOn, IsNextChunk}
 use Rattle.bz_engine.specs.Progress.{Progress, IsKeptOf}
 use Rattle.bz_engine.specs.private.Edits.{IsEdited}
-use Rattle.bz_engine.specs.SessionValue.{SessionValue, HasDone, HasEnded}
+use Rattle.bz_engine.specs.SessionValue.{SessionValue, HasDone, IsCutShort, IsLeftByFault, HasEnded}
 use Rattle.bz_engine.proofs.Sessions.{went_on, ended_whole, ended_fault, ended_failure}
 
 -- what the script made of the chunk
@@ -65,6 +65,57 @@ chunk_failed v e f mid before following edited message max_reads most n pieces c
     subst (λ x. HasEnded x FirstFailure (pieces ++ read) text) (sym (told ∙ ap tells at))
     (ended_failure v mid e.progress message following max_reads most n pieces cs read text done on next
     (edits_as v mid n e.progress before following edited (Failed message) edits none is cs done.statements done.kept))
+
+-- a chunk was done, and its text was not written to its end
+write_cut : (v e : SessionValue) (mid : Ahead) (before following : List ℕ) (edited : Edited) (max_reads most n k : ℕ) (pieces cs read : List (List ℕ)) (text : List ℕ)
+    → HasDone v pieces cs text → IsReadOn max_reads v.ahead mid read → IsNextChunk most mid n → before ≡ []
+    → (let after : SessionValue = record v { ahead = mid; progress = e.progress } in e ≡ after)
+    → EditsChunk v mid n e.progress before following edited → edited ≡ Done
+    → IsCutShort e (pieces ++ read) cs text (take k following)
+write_cut v e mid before following edited max_reads most n k pieces cs read text done on next none at edits is =
+    let left = drop n e.ahead.bytes in
+    let taken : SessionValue = record e { ahead = record e.ahead { bytes = left } } in
+    inr (
+      following,
+      record {
+        chunk = take n mid.bytes;
+        left = left;
+        ahead_is = sym (take-append-drop n e.ahead.bytes) ∙ ap (λ x. take n x.ahead.bytes ++ left) at;
+        done = chunk_done v e taken mid before following edited max_reads most n pieces cs read text done on next none at edits is refl;
+      },
+      (drop k following, sym (take-append-drop k following)),
+    )
+
+pub left_by_write : (Gave : List (List ℕ) → Type 0) (Took : List ℕ → Type 0) (v e w : SessionValue) (mid : Ahead) (before following : List ℕ) (edited : Edited) (most n k : ℕ) (read : List (List ℕ))
+    → Gave read → Took (take k following) → IsReadOn v.options.max_reads v.ahead mid read → IsNextChunk most mid n → before ≡ []
+    → (let after : SessionValue = record v { ahead = mid; progress = e.progress } in e ≡ after)
+    → EditsChunk v mid n e.progress before following edited → edited ≡ Done → w ≡ e
+    → IsLeftByFault Gave Took v w
+left_by_write Gave Took v e w mid before following edited most n k read gave took on next none at edits is same = record {
+  read = read;
+  shown = take k following;
+  gave = gave;
+  took = took;
+  read_ahead = subst (λ x. IsReadOn v.options.max_reads v.ahead x.ahead read) (sym (same ∙ at)) on;
+  front = λ pieces cs text done. subst (λ x. IsCutShort x (pieces ++ read) cs text (take k following)) (sym same)
+      (write_cut v e mid before following edited v.options.max_reads most n k pieces cs read text done on next none at edits is);
+}
+
+-- nothing was written
+pub left_by_read : (Gave : List (List ℕ) → Type 0) (Took : List ℕ → Type 0) (v w : SessionValue) (mid : Ahead) (read : List (List ℕ))
+    → Gave read → Took [] → IsReadOn v.options.max_reads v.ahead mid read → w.ahead ≡ mid → IsLeftByFault Gave Took v w
+left_by_read Gave Took v w mid read gave took on same = record {
+  read = read;
+  shown = [];
+  gave = gave;
+  took = took;
+  read_ahead = subst (λ a. IsReadOn v.options.max_reads v.ahead a read) (sym same) on;
+  front = λ pieces cs text done. inl refl;
+}
+
+pub on_err : {T E P : Type 0} (r : Result T E) → P → OnErr r P
+on_err (Ok x) h = tt
+on_err (Err e) h = h
 
 -- which stage an answer tells
 abbrev stage_in : Result Stage RunFault → Stage
@@ -123,6 +174,17 @@ restaged v stage pieces cs text done = record {
   kept = done.kept;
   text_is = done.text_is;
   calm = done.calm;
+}
+
+pub left_before : (Gave : List (List ℕ) → Type 0) (Took : List ℕ → Type 0) (v w : SessionValue) (stage : Stage)
+    → IsLeftByFault Gave Took (record v { stage = stage }) w → IsLeftByFault Gave Took v w
+left_before Gave Took v w stage left = record {
+  read = left.read;
+  shown = left.shown;
+  gave = left.gave;
+  took = left.took;
+  read_ahead = left.read_ahead;
+  front = λ pieces cs text done. left.front pieces cs text (restaged v stage pieces cs text done);
 }
 
 pub which_end : (s : Stage) → (s ≡ Going → ⊥) → (s ≡ Stopped → ⊥) → (e : End) × (s ≡ Ended e)

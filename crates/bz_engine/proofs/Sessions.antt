@@ -24,17 +24,17 @@ use Rattle.bz_engine.proofs.MoreReads.{ends_more, open_more, bytes_more, chunks_
 use Rattle.bz_engine.proofs.Given.{give_fault, give_statement}
 
 -- the chunks of the file after more reads
-read_on : (v : SessionValue) (mid : Ahead) (max_reads : ℕ) (pieces cs read : List (List ℕ)) (text : List ℕ)
+pub read_on : (v : SessionValue) (mid : Ahead) (max_reads : ℕ) (pieces cs read : List (List ℕ)) (text : List ℕ)
     → HasDone v pieces cs text → IsReadOn max_reads v.ahead mid read
     → (rest : List ℕ) → (IsTrue mid.ended → rest ≡ []) → chunks (joined (pieces ++ read) ++ rest) ≡ cs ++ chunks (mid.bytes ++ rest)
 read_on v mid max_reads pieces cs read text done on =
     chunks_more pieces read cs v.ahead.bytes mid.bytes v.ahead.ended mid.ended done.first on.bytes on.ended on.stays
 
-ended_on : (v : SessionValue) (mid : Ahead) (max_reads : ℕ) (pieces cs read : List (List ℕ)) (text : List ℕ)
+pub ended_on : (v : SessionValue) (mid : Ahead) (max_reads : ℕ) (pieces cs read : List (List ℕ)) (text : List ℕ)
     → HasDone v pieces cs text → IsReadOn max_reads v.ahead mid read → mid.ended ≡ ends (pieces ++ read)
 ended_on v mid max_reads pieces cs read text done on = on.ended ∙ ends_more v.ahead.ended pieces read done.ended on.stays
 
-reads_on : (v : SessionValue) (mid : Ahead) (max_reads : ℕ) (pieces cs read : List (List ℕ)) (text : List ℕ)
+pub reads_on : (v : SessionValue) (mid : Ahead) (max_reads : ℕ) (pieces cs read : List (List ℕ)) (text : List ℕ)
     → HasDone v pieces cs text → IsReadOn max_reads v.ahead mid read → mid.reads ≡ length (pieces ++ read)
 reads_on v mid max_reads pieces cs read text done on =
     on.reads ∙ ap (λ n. n + length read) done.reads ∙ sym (length-append pieces read)

@@ -1,5 +1,7 @@
 -- The bytes of an input that were read and not yet taken, and the chunk that they begin with.
 use Rattle.std.specs.Prelude.{◌≡◌, ℕ, ◌+◌, ◌*◌, ◌<◌, ◌≤◌, Bool, false, ◌||◌, IsTrue, List, [], ◌∷◌, ◌++◌, length, take, drop, ⊤}
+use Rattle.std.specs.List.{concat}
+use Rattle.bz_token.specs.Places.{line_at}
 use Rattle.bz_token.specs.Chunks.{chunks}
 use Rattle.bz_token.specs.Cuts.{EndsBefore}
 use Rattle.bz_engine.specs.Device.{joined, ends, NoneEnds}
@@ -44,6 +46,18 @@ pub record BeginsTooLong (max_statement : ℕ) (bytes rest : List ℕ) : Type 0 
 -- The next chunk is too long, whatever follows.
 abbrev pub IsTooLong : ℕ → Ahead → Type 0
 IsTooLong max_statement ahead = (rest : List ℕ) → MayFollow ahead rest → BeginsTooLong max_statement ahead.bytes rest
+
+-- A chunk of the file begins on this line, and a front of it that stands in these bytes, with which the file begins, is longer than it may be.
+pub record HasTooLong (max_statement line : ℕ) (bytes file : List ℕ) : Type 0 where
+  pub before : List (List ℕ)
+  pub seen : List ℕ
+  pub left : List ℕ
+  pub bytes_are : bytes ≡ concat before ++ (seen ++ left)
+  pub over : max_statement < length seen
+  pub more : List ℕ
+  pub others : List (List ℕ)
+  pub chunks_are : chunks file ≡ before ++ (seen ++ more) ∷ others
+  pub line_is : line ≡ line_at 1 (concat before)
 
 -- No front of these bytes is a chunk whatever follows.
 abbrev pub NoneIsChunk : List ℕ → Type 0

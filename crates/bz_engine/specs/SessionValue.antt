@@ -1,5 +1,5 @@
 -- What a contract sees of a session, and what its answers say of the file.
-use Rattle.std.specs.Prelude.{◌≡◌, ℕ, ◌+◌, ◌*◌, ◌^◌, ◌≤◌, Bool, true, false, ◌||◌, IsTrue, List, [], ◌∷◌, ◌++◌, length, map, Option, None, option_to_list}
+use Rattle.std.specs.Prelude.{◌≡◌, ℕ, ◌+◌, ◌*◌, ◌^◌, ◌≤◌, Bool, true, false, ◌||◌, ◌⊎◌, IsTrue, List, [], ◌∷◌, ◌++◌, length, map, Option, None, option_to_list}
 use Rattle.std.specs.List.{concat, flat_map}
 use Rattle.bz_token.specs.Chunks.{chunks}
 use Rattle.bz_tree.specs.Tree.{Statement}
@@ -10,13 +10,13 @@ use Rattle.bz_engine.specs.declared.report.End.TheVariants.{Whole, Syntax, First
 use Rattle.bz_engine.specs.declared.session.Stage.{Stage}
 use Rattle.bz_engine.specs.declared.session.Stage.TheVariants.{Going, Ended}
 use Rattle.bz_engine.specs.Device.{joined, ends, NoneEnds}
-use Rattle.bz_engine.specs.Ahead.{Ahead}
+use Rattle.bz_engine.specs.Ahead.{Ahead, IsReadOn}
 use Rattle.bz_engine.specs.EveryFile.{ForEveryFile}
 use Rattle.bz_engine.specs.Exchange.{no_slot, told, some_not_found, Fits}
 use Rattle.bz_engine.specs.Progress.{Progress, IsKeptOf}
 use Rattle.bz_engine.specs.Meaning.{meaning}
 use Rattle.bz_engine.specs.Messages.{fault_text}
-use Rattle.bz_engine.specs.Outcome.{Script, Told, IsOutcome, text_after, line_text, message_text}
+use Rattle.bz_engine.specs.Outcome.{Script, Told, IsOutcome, IsFrontOf, text_after, line_text, message_text}
 
 -- The package, the passes and the options; what is kept of the chunks that are done; the bytes ahead, with the reads made and whether the end
 -- was met; whether it goes on, ended or was stopped, and the message of the failure that ended it.
@@ -59,6 +59,26 @@ pub record HasDone (v : SessionValue) (pieces cs : List (List ℕ)) (text : List
   pub kept : IsKeptOf v.home v.passes v.options.max_depth cs statements v.progress
   pub text_is : text ≡ text_after v.home v.passes statements
   pub calm : v.options.keep_going ≡ false → v.progress.failed ≡ false
+
+-- The next chunk, the first of the bytes ahead, is done but not taken: this text is what it adds.
+pub record IsNextText (v : SessionValue) (pieces cs : List (List ℕ)) (text next : List ℕ) : Type 0 where
+  pub chunk : List ℕ
+  pub left : List ℕ
+  pub ahead_is : v.ahead.bytes ≡ chunk ++ left
+  pub done : HasDone (record v { ahead = record v.ahead { bytes = left } }) pieces (cs ++ chunk ∷ []) (text ++ next)
+
+-- nothing, or a front of what the next chunk adds
+abbrev pub IsCutShort : SessionValue → List (List ℕ) → List (List ℕ) → List ℕ → List ℕ → Type 0
+IsCutShort v pieces cs text shown = (shown ≡ []) ⊎ ((next : List ℕ) × IsNextText v pieces cs text next × IsFrontOf shown next)
+
+-- What a fault leaves: what was read stands ahead, and what was written is a front of what the next chunk adds.
+pub record IsLeftByFault (Gave : List (List ℕ) → Type 0) (Took : List ℕ → Type 0) (old new : SessionValue) : Type 0 where
+  pub read : List (List ℕ)
+  pub shown : List ℕ
+  pub gave : Gave read
+  pub took : Took shown
+  pub read_ahead : IsReadOn old.options.max_reads old.ahead new.ahead read
+  pub front : (pieces cs : List (List ℕ)) (text : List ℕ) → HasDone old pieces cs text → IsCutShort new (pieces ++ read) cs text shown
 
 -- all that was kept
 abbrev pub told_of_progress : Package → Script → Progress → Told

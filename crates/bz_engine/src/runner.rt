@@ -1,9 +1,10 @@
 //! A run from a source to a sink.
 
-ghost use Rattle.std.specs.Prelude.{◌≡◌, ◌≢◌, ℕ, ◌≤◌, ◌^◌, List, length, IfOk, OnOk, IsTrue, IsErrOf};
+ghost use Rattle.std.specs.Prelude.{◌≡◌, ◌≢◌, ℕ, ◌≤◌, ◌^◌, List, length, IfOk, OnOk, OnErr, IsTrue, IsErrOf};
+ghost use Rattle.bz_engine.specs.Ahead.{HasTooLong};
 ghost use Rattle.bz_engine.specs.Device.{joined, ends, NoneEnds, Rises};
 ghost use Rattle.bz_engine.specs.EveryFile.{ForEveryFile};
-ghost use Rattle.bz_engine.specs.Outcome.{IsOutcome, told_by};
+ghost use Rattle.bz_engine.specs.Outcome.{Told, IsOutcome, IsFrontOf, told_by};
 
 use crate::device::{Sink, Source};
 use crate::options::Options;
@@ -33,6 +34,11 @@ pub fn run<S: Source, W: Sink>(
         × S.gave source.old pieces source.new × W.took sink.old text sink.new × (length pieces ≤ options.max_reads)
         × ForEveryFile pieces
         (λ file. IsOutcome home passes.items options.keep_going options.max_depth file text (told_by report))) }
+    // Before a fault a front of the text was written that is written for each such file.
+    ensures front { OnErr result ((pieces : List (List ℕ)) × (text : List ℕ)
+        × S.gave source.old pieces source.new × W.took sink.old text sink.new × (length pieces ≤ options.max_reads)
+        × ForEveryFile pieces (λ file. (whole : List ℕ) (told : Told)
+        → IsOutcome home passes.items options.keep_going options.max_depth file whole told → IsFrontOf text whole)) }
     // Whatever is answered, the devices gave and took what reads and writes gave and took.
     ensures devices { (pieces : List (List ℕ)) × (text : List ℕ)
         × S.gave source.old pieces source.new × W.took sink.old text sink.new }
@@ -44,6 +50,10 @@ pub fn run<S: Source, W: Sink>(
     ensures too_long { IsErrOf result RunFault.InputTooLong → (pieces : List (List ℕ))
         × S.gave source.old pieces source.new
         × (length pieces ≡ options.max_reads) × NoneEnds pieces }
+    // The chunk that begins on this line has more bytes than it may, among those that were given.
+    ensures statement_too_long { (line : ℕ) → result ≡ Err (RunFault.StatementTooLong line)
+        → (pieces : List (List ℕ)) × S.gave source.old pieces source.new
+        × ForEveryFile pieces (HasTooLong options.max_statement line (joined pieces)) }
     ensures going { result ≢ Err RunFault.Stopped }
 {
     let mut session = Session::new(alloc, home, passes, options)?;

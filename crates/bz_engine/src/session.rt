@@ -4,12 +4,12 @@ ghost use Rattle.std.specs.Prelude.{◌≡◌, ◌≢◌, ℕ, ◌+◌, ◌*◌,
 ghost use Rattle.bz_tree.specs.Tree.{Statement};
 ghost use Rattle.bz_engine.specs.Device.{joined, NoneEnds, Rises};
 ghost use Rattle.bz_engine.specs.Exchange.{Fits};
-ghost use Rattle.bz_engine.specs.Ahead.{IsReadOn, IsNextChunk};
+ghost use Rattle.bz_engine.specs.Ahead.{IsReadOn, IsNextChunk, IsTooLong, IsUncertain};
 ghost use Rattle.bz_engine.specs.Messages.{fault_text};
 ghost use Rattle.bz_engine.specs.Outcome.{told_by};
 ghost use Rattle.bz_engine.specs.Progress.{IsKeptOf};
 ghost use Rattle.bz_engine.specs.private.Edits.{IsEdited};
-ghost use Rattle.bz_engine.specs.SessionValue.{at_start, IsSameRun, IsReady, HasDone, HasEnded, told_at, told_of_progress, told_alone};
+ghost use Rattle.bz_engine.specs.SessionValue.{at_start, IsSameRun, IsReady, IsLeftByFault, HasDone, HasEnded, told_at, told_of_progress, told_alone};
 ghost use Rattle.bz_engine.specs.declared.session.Stage.TheVariants.{Going, Ended, Stopped};
 
 use crate::ahead::{Ahead, ChunkFault, next_chunk};
@@ -115,12 +115,11 @@ impl Session {
     ) -> Result<Step, RunFault>
         ensures same { IsSameRun self.old self.new }
         // Once the session was stopped, nothing is read or written.
-        ensures stopped { self.old.stage ≡ Stopped → (result ≡ Err RunFault.Stopped) × S.gave source.old [] source.new
-            × W.took sink.old [] sink.new }
+        ensures stopped { self.old.stage ≡ Stopped
+            → (result ≡ Err RunFault.Stopped) × (source.new ≡ source.old) × (sink.new ≡ sink.old) }
         // Nor once it has ended, and it stays as it is.
         ensures ended { (end : _) → self.old.stage ≡ Ended end
-            → (result ≡ Ok Step.End) × (self.new ≡ self.old) × S.gave source.old [] source.new
-            × W.took sink.old [] sink.new }
+            → (result ≡ Ok Step.End) × (self.new ≡ self.old) × (source.new ≡ source.old) × (sink.new ≡ sink.old) }
         // After `More` one chunk is done: its text was written.
         ensures more { result ≡ Ok Step.More → (self.new.stage ≡ Going)
             × ((pieces cs : List (List ℕ)) (text : List ℕ) → HasDone self.old pieces cs text
@@ -138,6 +137,16 @@ impl Session {
             → HasDone self.old pieces cs text
             → (read : List (List ℕ)) × S.gave source.old read source.new
             × (length (pieces ++ read) ≡ self.new.options.max_reads) × NoneEnds (pieces ++ read) }
+        // Then no next chunk is certain, and none is sure to be too long.
+        ensures uncertain { result ≡ Err RunFault.InputTooLong
+            → IsUncertain self.new.ahead × (IsTooLong self.new.options.max_statement self.new.ahead → ⊥) }
+        // The next chunk, which begins on this line, has more bytes than it may.
+        ensures statement_too_long { (line : ℕ) → result ≡ Err (RunFault.StatementTooLong line)
+            → (line ≡ self.old.progress.line) × IsTooLong self.new.options.max_statement self.new.ahead }
+        // Before a fault a front of what the next chunk adds was written, and only a failed write cuts it.
+        ensures front { OnErr result (self.old.stage ≡ Going → IsLeftByFault (λ read. S.gave source.old read source.new)
+            (λ shown. W.took sink.old shown sink.new) self.old self.new) }
+        ensures unwritten { OnErr result (result ≢ Err RunFault.WriteFailed → sink.new ≡ sink.old) }
         ensures read_failed { result ≡ Err RunFault.ReadFailed → Rises (S.failures source.old) (S.failures source.new) }
         ensures write_failed { result ≡ Err RunFault.WriteFailed → Rises (W.failures sink.old) (W.failures sink.new) }
         ensures steady { (result ≢ Err RunFault.ReadFailed → S.failures source.new ≡ S.failures source.old)
@@ -211,6 +220,16 @@ impl Session {
             → HasDone self.old pieces cs text
             → (read : List (List ℕ)) × S.gave source.old read source.new
             × (length (pieces ++ read) ≡ self.new.options.max_reads) × NoneEnds (pieces ++ read) }
+        // Then no next chunk is certain, and none is sure to be too long.
+        ensures uncertain { result ≡ Err RunFault.InputTooLong
+            → IsUncertain self.new.ahead × (IsTooLong self.new.options.max_statement self.new.ahead → ⊥) }
+        // The next chunk, which begins on this line, has more bytes than it may.
+        ensures statement_too_long { (line : ℕ) → result ≡ Err (RunFault.StatementTooLong line)
+            → (line ≡ self.old.progress.line) × IsTooLong self.new.options.max_statement self.new.ahead }
+        // Before a fault a front of what the next chunk adds was written, and only a failed write cuts it.
+        ensures front { OnErr result (IsLeftByFault (λ read. S.gave source.old read source.new)
+            (λ shown. W.took sink.old shown sink.new) self.old self.new) }
+        ensures unwritten { OnErr result (result ≢ Err RunFault.WriteFailed → sink.new ≡ sink.old) }
         ensures read_failed { result ≡ Err RunFault.ReadFailed → Rises (S.failures source.old) (S.failures source.new) }
         ensures write_failed { result ≡ Err RunFault.WriteFailed → Rises (W.failures sink.old) (W.failures sink.new) }
         ensures steady { (result ≢ Err RunFault.ReadFailed → S.failures source.new ≡ S.failures source.old)
@@ -275,6 +294,7 @@ impl Session {
             (self.new ≡ record self.old { ahead = record self.old.ahead { bytes = drop len self.old.ahead.bytes } }) }
         ensures same { OnErr result (self.new ≡ self.old) }
         ensures ok { OnOk result (W.took sink.old text.now sink.new) }
+        ensures front { OnErr result ((n : ℕ) × (n < length text.now) × W.took sink.old (take n text.now) sink.new) }
         ensures devices { (shown : List ℕ) × W.took sink.old shown sink.new }
         ensures steady { OnOk result (W.failures sink.new ≡ W.failures sink.old) }
         ensures fault { OnErr result (result ≡ Err RunFault.WriteFailed) }
@@ -337,6 +357,10 @@ fn find_chunk<S: Source>(
     ensures none { IfOk result (λ found. IfNone found ((ahead.new.bytes ≡ []) × IsTrue ahead.new.ended)) }
     ensures too_long { result ≡ Err RunFault.InputTooLong → (ahead.new.reads ≡ options.max_reads)
         × (ahead.new.ended ≡ false) }
+    ensures uncertain { result ≡ Err RunFault.InputTooLong
+        → IsUncertain ahead.new × (IsTooLong options.max_statement ahead.new → ⊥) }
+    ensures statement_too_long { (at : ℕ) → result ≡ Err (RunFault.StatementTooLong at)
+        → (at ≡ line) × IsTooLong options.max_statement ahead.new }
     ensures failed { result ≡ Err RunFault.ReadFailed → Rises (S.failures source.old) (S.failures source.new) }
     ensures steady { result ≢ Err RunFault.ReadFailed → S.failures source.new ≡ S.failures source.old }
     ensures runs { (result ≢ Err RunFault.Stopped) × (result ≢ Err RunFault.WriteFailed) }

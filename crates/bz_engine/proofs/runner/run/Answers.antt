@@ -1,9 +1,11 @@
-use Rattle.std.proofs.Common.{◌≡◌, ◌+◌, ◌-◌, ◌*◌, ◌<◌, ◌≤◌, [], ◌∷◌, ◌++◌, refl, ◌∙◌, ap, sym, subst, length, append-nil}
+use Rattle.std.proofs.Common.{◌≡◌, ◌+◌, ◌-◌, ◌*◌, ◌<◌, ◌≤◌, [], ◌∷◌, ◌++◌, refl, ◌∙◌, ap, sym, subst, length, append-nil, arith}
 use Rattle.std.specs.Prelude.{IsErrAnd, Ok, Err}
 use Rattle.bz_engine.specs.declared.run_fault.RunFault.{RunFault}
-use Rattle.bz_engine.specs.declared.run_fault.RunFault.TheVariants.{InputTooLong, Stopped, ReadFailed, WriteFailed}
+use Rattle.bz_engine.specs.declared.run_fault.RunFault.TheVariants.{InputTooLong, StatementTooLong, Stopped, ReadFailed, WriteFailed}
 use Rattle.bz_engine.specs.Outcome.{told_by}
-use Rattle.bz_engine.specs.SessionValue.{HasDone}
+use Rattle.bz_engine.specs.SessionValue.{HasDone, told_at}
+use Rattle.bz_engine.proofs.Advances.{on_err}
+use Rattle.bz_engine.proofs.Cut.{cut_is, fault_begins, fault_reads, ended_begins, nothing_begins, too_long_in}
 use Rattle.bz_engine.proofs.Runs.{started, shorter, outcome_is, where_ok, ok_is_no_err}
 use Rattle.bz_engine.proofs.runner.run.Goals as goal
 
@@ -102,3 +104,47 @@ returns-in-End-clause-devices g c =
     let inv = c.loop-session.invariant in
     let more = c.step.ensures.devices in
     (inv.pieces ++ more.0, inv.text ++ more.1, g.met.S.Source.gave_more _ _ _ _ _ inv.gave more.2, g.met.W.Sink.took_more _ _ _ _ _ inv.took more.3)
+
+pub returns-in_err-session-clause-front : goal.returns-in_err-session-clause-front
+returns-in_err-session-clause-front g c =
+    on_err _ (cut_is (λ pieces. g.S.Source.gave c.args.source.now pieces c.args.source.now) (λ text. g.W.Sink.took c.args.sink.now text c.args.sink.now)
+    c.args.home c.args.passes.items c.args.options [] [] (g.met.S.Source.gave_nothing _) (g.met.W.Sink.took_nothing _) (omega arith)
+    (nothing_begins c.args.home c.args.passes.items c.args.options))
+
+pub returns-in_err-step-clause-front : goal.returns-in_err-step-clause-front
+returns-in_err-step-clause-front g c =
+    let inv = c.loop-session.invariant in
+    let left = c.in_err-step.ensures.front inv.goes in
+    on_err _ (cut_is (λ pieces. g.S.Source.gave c.args.source.now pieces c.step.new.source) (λ text. g.W.Sink.took c.args.sink.now text c.step.new.sink)
+    c.args.home c.args.passes.items c.args.options (inv.pieces ++ left.read) (inv.text ++ left.shown)
+    (g.met.S.Source.gave_more _ _ _ _ _ inv.gave left.gave) (g.met.W.Sink.took_more _ _ _ _ _ inv.took left.took)
+    (fault_reads _ _ c.loop-session.session c.step.new.self c.args.options inv.pieces inv.cs inv.text inv.options inv.done left)
+    (fault_begins _ _ c.loop-session.session c.step.new.self c.args.home c.args.passes.items c.args.options inv.pieces inv.cs inv.text
+    inv.home inv.passes inv.options inv.done c.step.ensures.same left))
+
+pub returns-in-End-clause-front : goal.returns-in-End-clause-front
+returns-in-End-clause-front g c =
+    let inv = c.loop-session.invariant in
+    let same = c.step.ensures.same in
+    let end = c.step.ensures.end (c.in_ok-step.was ∙ ap Ok c.in-End.is) inv.goes in
+    let over = end.2 inv.pieces inv.cs inv.text inv.done in
+    on_err _ (cut_is (λ pieces. g.S.Source.gave c.args.source.now pieces c.step.new.source) (λ text. g.W.Sink.took c.args.sink.now text c.step.new.sink)
+    c.args.home c.args.passes.items c.args.options (inv.pieces ++ over.0) inv.text
+    (g.met.S.Source.gave_more _ _ _ _ _ inv.gave over.1)
+    (subst (λ t. g.W.Sink.took c.args.sink.now t c.step.new.sink) (append-nil inv.text) (g.met.W.Sink.took_more _ _ _ _ _ inv.took over.2))
+    (subst (λ o. length (inv.pieces ++ over.0) ≤ o.max_reads) (same.options ∙ inv.options) over.3)
+    (ended_begins c.args.home c.args.passes.items c.args.options (inv.pieces ++ over.0) inv.text (told_at c.step.new.self end.0)
+    (outcome_is c.step.new.self c.args.home c.args.passes.items c.args.options end.0 (told_at c.step.new.self end.0) (inv.pieces ++ over.0) inv.text
+    (same.home ∙ inv.home) (same.passes ∙ inv.passes) (same.options ∙ inv.options) refl over.4)))
+
+pub returns-in_err-step-clause-statement_too_long : goal.returns-in_err-step-clause-statement_too_long
+returns-in_err-step-clause-statement_too_long g c line told =
+    let inv = c.loop-session.invariant in
+    let same : (let fault : RunFault = StatementTooLong line in fault) ≡ c.in_err-step.field-0.0 = subst (λ r. IsErrAnd r (λ e. e ≡ c.in_err-step.field-0.0)) told c.from_residual-in_err-step.ensures.1 in
+    let long = c.step.ensures.statement_too_long line (c.in_err-step.was ∙ ap Err (sym same)) in
+    let left = c.in_err-step.ensures.front inv.goes in (
+      inv.pieces ++ left.read,
+      g.met.S.Source.gave_more _ _ _ _ _ inv.gave left.gave,
+      too_long_in c.loop-session.session c.step.new.self _ c.args.options.max_statement line inv.pieces inv.cs left.read inv.text inv.done left.read_ahead
+          (ap (λ o. o.max_statement) (c.step.ensures.same.options ∙ inv.options)) long.0 long.1,
+    )

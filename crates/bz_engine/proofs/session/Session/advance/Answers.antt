@@ -1,12 +1,12 @@
-use Rattle.std.proofs.Common.{◌≡◌, [], ◌∷◌, ◌++◌, ◌∙◌, ap, sym, subst, length, take, ◌≤◌}
+use Rattle.std.proofs.Common.{◌≡◌, ℕ, List, [], ◌∷◌, ◌++◌, ◌∙◌, ap, sym, subst, length, take, ◌≤◌}
 use Rattle.std.specs.Prelude.{IsErrAnd, Err}
 use Rattle.bz_engine.specs.declared.run_fault.RunFault.{RunFault}
 use Rattle.bz_engine.specs.declared.run_fault.RunFault.TheVariants.{InputTooLong}
 use Rattle.bz_engine.specs.contracts.session.Session.{the_view}
 use Rattle.bz_engine.specs.declared.report.End.TheVariants.{Syntax, FirstFailure}
-use Rattle.bz_engine.specs.SessionValue.{SessionValue, HasDone, HasEnded}
+use Rattle.bz_engine.specs.SessionValue.{SessionValue, HasDone, IsLeftByFault, HasEnded}
 use Rattle.bz_engine.proofs.Sessions.{too_long_there, reads_within}
-use Rattle.bz_engine.proofs.Advances.{chunk_done, chunk_faulty, chunk_failed, goes_not_on, has_not_ended, same_end, some_chunk, no_chunk, take_some, whole_end}
+use Rattle.bz_engine.proofs.Advances.{chunk_done, chunk_faulty, chunk_failed, left_by_write, on_err, goes_not_on, has_not_ended, same_end, some_chunk, no_chunk, take_some, whole_end}
 use Rattle.bz_engine.proofs.session.Session.advance.Goals as goal
 use Rattle.bz_engine.proofs.session.Session.advance.Goals.{in-Done+in_ok-write-in-Done, in-Faulty, in-Failed}
 
@@ -96,3 +96,15 @@ returns-clause-devices g c =
       | in-Faulty w ↦ (read.0, [], read.1, subst (λ s. g.W.Sink.took c.args.sink.now [] s) (sym w.sink-is) (g.met.W.Sink.took_nothing _))
       | in-Failed w ↦ (read.0, [], read.1, subst (λ s. g.W.Sink.took c.args.sink.now [] s) (sym w.sink-is) (g.met.W.Sink.took_nothing _))
     ]
+
+pub returns-in_err-write-in-Done-clause-front : goal.returns-in_err-write-in-Done-clause-front
+returns-in_err-write-in-Done-clause-front g c =
+    let read = c.find_chunk.ensures.read in
+    let next = some_chunk _ _ _ _ c.in_ok-len.ensures.chunk c.in-Some.is in
+    let cut = c.in_err-write-in-Done.ensures.front in
+    let Gave : List (List ℕ) → Type 0 = λ r. g.S.Source.gave c.args.source.now r c.find_chunk.new.source in
+    let Took : List ℕ → Type 0 = λ s. g.W.Sink.took c.args.sink.now s c.write.new.sink in
+    on_err _ (subst (λ v. IsLeftByFault Gave Took v c.write.new.self) (ap the_view c.self-inside.view_is ∙ c.self.view_is)
+    (left_by_write Gave Took _ c.edit.new.self c.write.new.self c.find_chunk.new.ahead _ c.edit.new.text.items c.in_ok-edited.edited _ c.in-Some.len cut.0 read.0
+    read.1 (subst (λ t. g.W.Sink.took c.args.sink.now (take cut.0 t) c.write.new.sink) c.as_slice.ensures.value cut.2)
+    read.2 next c.clear.ensures.items c.edit.ensures.same c.in_ok-edited.ensures.edited c.in-Done.is c.in_err-write-in-Done.ensures.same))

@@ -1,10 +1,10 @@
-use Rattle.std.proofs.Common.{◌≡◌, [], ◌∷◌, ◌++◌, ◌∙◌, ap, sym, subst, length, ◌≤◌}
+use Rattle.std.proofs.Common.{◌≡◌, ℕ, List, [], ◌∷◌, ◌++◌, ◌∙◌, ap, sym, subst, length, ◌≤◌}
 use Rattle.std.specs.Prelude.{IsErrAnd, Ok, Err}
 use Rattle.bz_engine.specs.declared.run_fault.RunFault.{RunFault}
 use Rattle.bz_engine.specs.declared.run_fault.RunFault.TheVariants.{InputTooLong}
-use Rattle.bz_engine.specs.declared.session.Stage.TheVariants.{Stopped}
-use Rattle.bz_engine.specs.SessionValue.{HasDone, HasEnded}
-use Rattle.bz_engine.proofs.Advances.{restaged, which_end, more_is_no_end, end_is_not_more}
+use Rattle.bz_engine.specs.declared.session.Stage.TheVariants.{Going, Stopped}
+use Rattle.bz_engine.specs.SessionValue.{HasDone, IsLeftByFault, HasEnded}
+use Rattle.bz_engine.proofs.Advances.{restaged, left_before, on_err, which_end, more_is_no_end, end_is_not_more}
 use Rattle.bz_engine.proofs.session.Session.step.Goals as goal
 use Rattle.bz_engine.proofs.session.Session.step.Goals.{in-Going-stage, in_default}
 
@@ -13,6 +13,14 @@ returns-in_err-self-inside-clause-too_long g c told pieces cs text before =
     let done = restaged _ Stopped pieces cs text (subst (λ v. HasDone v pieces cs text) (sym c.self.view_is) before) in
     let same : (let fault : RunFault = InputTooLong in fault) ≡ c.in_err-self-inside.field-0.0 = subst (λ r. IsErrAnd r (λ e. e ≡ c.in_err-self-inside.field-0.0)) told c.from_residual.ensures.1 in
     c.advance.ensures.too_long (c.in_err-self-inside.was ∙ ap Err (sym same)) pieces cs text done
+
+pub returns-in_err-self-inside-clause-front : goal.returns-in_err-self-inside-clause-front
+returns-in_err-self-inside-clause-front g c =
+    let Gave : List (List ℕ) → Type 0 = λ read. g.S.Source.gave c.args.source.now read c.advance.new.source in
+    let Took : List ℕ → Type 0 = λ shown. g.W.Sink.took c.args.sink.now shown c.advance.new.sink in
+    let left : c.args.self.now.stage ≡ Going → IsLeftByFault Gave Took c.args.self.now c.advance.new.self =
+    λ going. subst (λ v. IsLeftByFault Gave Took v c.advance.new.self) c.self.view_is (left_before Gave Took _ c.advance.new.self Stopped c.in_err-self-inside.ensures.front) in
+    on_err _ left
 
 pub returns-clause-more : goal.returns-clause-more
 returns-clause-more g c told =
