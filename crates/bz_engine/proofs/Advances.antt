@@ -151,6 +151,9 @@ no_chunk found mid h is = subst (λ o. IfNone o ((mid.bytes ≡ []) × IsTrue mi
 pub take_some : (n : ℕ) (bytes : List ℕ) → 0 < n → n ≤ length bytes → 0 < length (take n bytes)
 take_some n bytes some within = subst (λ l. 0 < l) (sym (length-take-le n bytes within)) some
 
+pub take_few : (n most : ℕ) (bytes : List ℕ) → n ≤ most → n ≤ length bytes → length (take n bytes) ≤ most
+take_few n most bytes size within = subst (λ l. l ≤ most) (sym (length-take-le n bytes within)) size
+
 -- the input has ended
 pub whole_end : (v : SessionValue) (mid : Ahead) (end : End) (max_reads : ℕ) (pieces cs read : List (List ℕ)) (text : List ℕ)
     → HasDone v pieces cs text → IsReadOn max_reads v.ahead mid read → (mid.bytes ≡ []) × IsTrue mid.ended

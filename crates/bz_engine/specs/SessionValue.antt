@@ -1,5 +1,5 @@
 -- What a contract sees of a session, and what its answers say of the file.
-use Rattle.std.specs.Prelude.{◌≡◌, ℕ, ◌+◌, ◌*◌, ◌^◌, ◌≤◌, Bool, true, false, ◌||◌, ◌⊎◌, IsTrue, List, [], ◌∷◌, ◌++◌, length, map, Option, None, option_to_list}
+use Rattle.std.specs.Prelude.{◌≡◌, ℕ, ◌+◌, ◌*◌, ◌^◌, ◌<◌, ◌≤◌, Bool, true, false, ◌||◌, ◌⊎◌, IsTrue, List, [], ◌∷◌, ◌++◌, length, map, Option, None, option_to_list}
 use Rattle.std.specs.List.{concat, flat_map}
 use Rattle.bz_token.specs.Chunks.{chunks}
 use Rattle.bz_tree.specs.Tree.{Statement}
@@ -59,6 +59,18 @@ pub record HasDone (v : SessionValue) (pieces cs : List (List ℕ)) (text : List
   pub kept : IsKeptOf v.home v.passes v.options.max_depth cs statements v.progress
   pub text_is : text ≡ text_after v.home v.passes statements
   pub calm : v.options.keep_going ≡ false → v.progress.failed ≡ false
+
+-- A step took one chunk, which may have so many bytes, and wrote its text.
+pub record HasOneMore (Gave : List (List ℕ) → Type 0) (Took : List ℕ → Type 0) (v : SessionValue) (pieces cs : List (List ℕ)) (text : List ℕ) : Type 0 where
+  pub read : List (List ℕ)
+  pub chunk : List ℕ
+  pub shown : List ℕ
+  pub gave : Gave read
+  pub took : Took shown
+  pub some : 0 < length chunk
+  pub size : length chunk ≤ v.options.max_statement
+  pub few : length (joined read) ≤ 8192 * length read
+  pub done : HasDone v (pieces ++ read) (cs ++ chunk ∷ []) (text ++ shown)
 
 -- The next chunk, the first of the bytes ahead, is done but not taken: this text is what it adds.
 pub record IsNextText (v : SessionValue) (pieces cs : List (List ℕ)) (text next : List ℕ) : Type 0 where

@@ -9,7 +9,7 @@ ghost use Rattle.bz_engine.specs.Messages.{fault_text};
 ghost use Rattle.bz_engine.specs.Outcome.{told_by};
 ghost use Rattle.bz_engine.specs.Progress.{IsKeptOf};
 ghost use Rattle.bz_engine.specs.private.Edits.{IsEdited};
-ghost use Rattle.bz_engine.specs.SessionValue.{at_start, IsSameRun, IsReady, IsLeftByFault, HasDone, HasEnded, told_at, told_of_progress, told_alone};
+ghost use Rattle.bz_engine.specs.SessionValue.{at_start, IsSameRun, IsReady, IsLeftByFault, HasOneMore, HasDone, HasEnded, told_at, told_of_progress, told_alone};
 ghost use Rattle.bz_engine.specs.declared.session.Stage.TheVariants.{Going, Ended, Stopped};
 
 use crate::ahead::{Ahead, ChunkFault, next_chunk};
@@ -123,10 +123,8 @@ impl Session {
         // After `More` one chunk is done: its text was written.
         ensures more { result ≡ Ok Step.More → (self.new.stage ≡ Going)
             × ((pieces cs : List (List ℕ)) (text : List ℕ) → HasDone self.old pieces cs text
-            → (read : List (List ℕ)) × (chunk : List ℕ) × (shown : List ℕ)
-            × S.gave source.old read source.new × W.took sink.old shown sink.new
-            × (0 < length chunk) × (length (joined read) ≤ 8192 * length read)
-            × HasDone self.new (pieces ++ read) (cs ++ chunk ∷ []) (text ++ shown)) }
+            → HasOneMore (λ read. S.gave source.old read source.new) (λ shown. W.took sink.old shown sink.new)
+            self.new pieces cs text) }
         // At the end nothing is written, and what the session tells is the outcome.
         ensures end { result ≡ Ok Step.End → self.old.stage ≡ Going → (end : _) × (self.new.stage ≡ Ended end)
             × ((pieces cs : List (List ℕ)) (text : List ℕ) → HasDone self.old pieces cs text
@@ -207,10 +205,8 @@ impl Session {
         ensures ready { result ≡ Ok Going → IsReady self.new }
         ensures fits { OnOk result (Fits self.new.progress.kept self.new.passes) }
         ensures more { result ≡ Ok Going → (pieces cs : List (List ℕ)) (text : List ℕ) → HasDone self.old pieces cs text
-            → (read : List (List ℕ)) × (chunk : List ℕ) × (shown : List ℕ)
-            × S.gave source.old read source.new × W.took sink.old shown sink.new
-            × (0 < length chunk) × (length (joined read) ≤ 8192 * length read)
-            × HasDone self.new (pieces ++ read) (cs ++ chunk ∷ []) (text ++ shown) }
+            → HasOneMore (λ read. S.gave source.old read source.new) (λ shown. W.took sink.old shown sink.new)
+            self.new pieces cs text }
         ensures end { (end : _) → result ≡ Ok (Ended end) → (pieces cs : List (List ℕ)) (text : List ℕ)
             → HasDone self.old pieces cs text
             → (read : List (List ℕ)) × S.gave source.old read source.new × W.took sink.old [] sink.new

@@ -39,12 +39,12 @@ loop-session-preserved g c =
       passes = same.passes ∙ inv.passes;
       options = same.options ∙ inv.options;
       goes = more.0;
-      pieces = inv.pieces ++ done.0;
-      cs = inv.cs ++ done.1 ∷ [];
-      text = inv.text ++ done.2;
-      gave = g.met.S.Source.gave_more _ _ _ _ _ inv.gave done.3;
-      took = g.met.W.Sink.took_more _ _ _ _ _ inv.took done.4;
-      done = done.7;
+      pieces = inv.pieces ++ done.read;
+      cs = inv.cs ++ done.chunk ∷ [];
+      text = inv.text ++ done.shown;
+      gave = g.met.S.Source.gave_more _ _ _ _ _ inv.gave done.gave;
+      took = g.met.W.Sink.took_more _ _ _ _ _ inv.took done.took;
+      done = done.done;
       read_steady = c.step.ensures.steady.0 (λ h. ok_is_no_err _ _ ReadFailed answer h) ∙ inv.read_steady;
       write_steady = c.step.ensures.steady.1 (λ h. ok_is_no_err _ _ WriteFailed answer h) ∙ inv.write_steady;
     }
@@ -59,7 +59,7 @@ loop-session-smaller g c =
     let within : new.ahead.reads ≤ old.options.max_reads =
     subst (λ o. new.ahead.reads ≤ o.max_reads) c.step.ensures.same.options (subst (λ v. v.ahead.reads ≤ v.options.max_reads) c.session.view_is c.session.invariant.made) in
     subst (λ o. 8193 * (o.max_reads - new.ahead.reads) + length new.ahead.bytes < 8193 * (old.options.max_reads - old.ahead.reads) + length old.ahead.bytes) (sym c.step.ensures.same.options)
-    (shorter old new old.options.max_reads inv.pieces inv.cs done.0 done.1 inv.text (inv.text ++ done.2) inv.done done.7 done.5 done.6 within)
+    (shorter old new old.options.max_reads inv.pieces inv.cs done.read done.chunk inv.text (inv.text ++ done.shown) inv.done done.done done.some done.few within)
 
 pub returns-in_err-step-clause-too_long : goal.returns-in_err-step-clause-too_long
 returns-in_err-step-clause-too_long g c told =

@@ -6,7 +6,7 @@ use Rattle.bz_engine.specs.contracts.session.Session.{the_view}
 use Rattle.bz_engine.specs.declared.report.End.TheVariants.{Syntax, FirstFailure}
 use Rattle.bz_engine.specs.SessionValue.{SessionValue, HasDone, IsLeftByFault, HasEnded}
 use Rattle.bz_engine.proofs.Sessions.{too_long_there, reads_within}
-use Rattle.bz_engine.proofs.Advances.{chunk_done, chunk_faulty, chunk_failed, left_by_write, on_err, goes_not_on, has_not_ended, same_end, some_chunk, no_chunk, take_some, whole_end}
+use Rattle.bz_engine.proofs.Advances.{chunk_done, chunk_faulty, chunk_failed, left_by_write, on_err, goes_not_on, has_not_ended, same_end, some_chunk, no_chunk, take_some, take_few, whole_end}
 use Rattle.bz_engine.proofs.session.Session.advance.Goals as goal
 use Rattle.bz_engine.proofs.session.Session.advance.Goals.{in-Done+in_ok-write-in-Done, in-Faulty, in-Failed}
 
@@ -25,18 +25,20 @@ returns-clause-more g c going pieces cs text before =
     let read = c.find_chunk.ensures.read in
     let next = some_chunk _ _ _ _ c.in_ok-len.ensures.chunk c.in-Some.is in
     elim c.match-edited.branch [
-      | in-Done+in_ok-write-in-Done w ↦ (
-        read.0,
-        take c.in-Some.len c.find_chunk.new.ahead.bytes,
-        c.edit.new.text.items,
-        read.1,
-        subst (λ s. g.W.Sink.took c.args.sink.now c.edit.new.text.items s) (sym w.sink-is) (subst (λ t. g.W.Sink.took c.args.sink.now t w.write.new.sink) w.as_slice.ensures.value w.in_ok-write-in-Done.ensures.ok),
-        take_some c.in-Some.len c.find_chunk.new.ahead.bytes next.some next.within,
-        read.2.few,
-        subst (λ v. HasDone v (pieces ++ read.0) (cs ++ take c.in-Some.len c.find_chunk.new.ahead.bytes ∷ []) (text ++ c.edit.new.text.items)) (sym (c.self-2.view_is ∙ w.self-is))
+      | in-Done+in_ok-write-in-Done w ↦ record {
+        read = read.0;
+        chunk = take c.in-Some.len c.find_chunk.new.ahead.bytes;
+        shown = c.edit.new.text.items;
+        gave = read.1;
+        took = subst (λ s. g.W.Sink.took c.args.sink.now c.edit.new.text.items s) (sym w.sink-is) (subst (λ t. g.W.Sink.took c.args.sink.now t w.write.new.sink) w.as_slice.ensures.value w.in_ok-write-in-Done.ensures.ok);
+        some = take_some c.in-Some.len c.find_chunk.new.ahead.bytes next.some next.within;
+        size = subst (λ v. length (take c.in-Some.len c.find_chunk.new.ahead.bytes) ≤ v.options.max_statement) (sym (c.self-2.view_is ∙ w.self-is ∙ w.in_ok-write-in-Done.ensures.taken))
+            (subst (λ v. length (take c.in-Some.len c.find_chunk.new.ahead.bytes) ≤ v.options.max_statement) (sym c.edit.ensures.same) (take_few c.in-Some.len _ c.find_chunk.new.ahead.bytes next.size next.within));
+        few = read.2.few;
+        done = subst (λ v. HasDone v (pieces ++ read.0) (cs ++ take c.in-Some.len c.find_chunk.new.ahead.bytes ∷ []) (text ++ c.edit.new.text.items)) (sym (c.self-2.view_is ∙ w.self-is))
             (chunk_done _ c.edit.new.self w.write.new.self c.find_chunk.new.ahead _ c.edit.new.text.items c.in_ok-edited.edited _ _ c.in-Some.len pieces cs read.0 text
-            done read.2 next c.clear.ensures.items c.edit.ensures.same c.in_ok-edited.ensures.edited w.in-Done.is w.in_ok-write-in-Done.ensures.taken),
-      )
+            done read.2 next c.clear.ensures.items c.edit.ensures.same c.in_ok-edited.ensures.edited w.in-Done.is w.in_ok-write-in-Done.ensures.taken);
+      }
       | in-Faulty w ↦ goes_not_on c.match-edited.stage (Syntax w.in-Faulty.fault) going w.stage-is
       | in-Failed w ↦ goes_not_on c.match-edited.stage FirstFailure going w.stage-is
     ]

@@ -29,17 +29,20 @@ returns-clause-more g c told =
         w.in-Going-stage.is,
         λ pieces cs text before.
             let done = restaged _ Stopped pieces cs text (subst (λ v. HasDone v pieces cs text) (sym c.self.view_is) before) in
-            let more = c.advance.ensures.more (c.in_ok-self-inside.was ∙ ap Ok w.in-Going-stage.is) pieces cs text done in (
-              more.0,
-              more.1,
-              more.2,
-              more.3,
-              more.4,
-              more.5,
-              more.6,
-              restaged _ c.in_ok-self-inside.field-0 (pieces ++ more.0) (cs ++ more.1 ∷ []) (text ++ more.2)
-                  (subst (λ v. HasDone v (pieces ++ more.0) (cs ++ more.1 ∷ []) (text ++ more.2)) (sym c.self-2.view_is) more.7),
-            ),
+            let more = c.advance.ensures.more (c.in_ok-self-inside.was ∙ ap Ok w.in-Going-stage.is) pieces cs text done in
+            let now = restaged _ c.in_ok-self-inside.field-0 (pieces ++ more.read) (cs ++ more.chunk ∷ []) (text ++ more.shown)
+            (subst (λ v. HasDone v (pieces ++ more.read) (cs ++ more.chunk ∷ []) (text ++ more.shown)) (sym c.self-2.view_is) more.done) in
+            record {
+              read = more.read;
+              chunk = more.chunk;
+              shown = more.shown;
+              gave = more.gave;
+              took = more.took;
+              some = more.some;
+              size = subst (λ v. length more.chunk ≤ v.options.max_statement) (sym c.self-2.view_is) more.size;
+              few = more.few;
+              done = now;
+            },
       )
       | in_default w ↦ more_is_no_end c.match-self-2.result told w.result-is
     ]
