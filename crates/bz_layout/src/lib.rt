@@ -1,24 +1,21 @@
 //! The canonical text of statements: one text for each, so that a diff shows the edit and nothing else.
 //!
-//! The layout is this project's own. `specs/Layout.antt` gives a statement as a list of pieces: its tokens and comments
-//! in order, each with its kind and after its gap, which is nothing, one space, two spaces or a new line at a level.
-//! What is written is the bytes of these pieces; `specs/Lines.antt` reads the lines off them. `Respell` says how a
-//! string is written, `Spacing` where a space stands, `Broken` which groups stand over lines, `Gaps` where an empty
-//! line stands between statements. `Marks` is for private clauses alone.
-//!
 //! # That what is written reads back
 //!
-//! No theorem here says so. The form of the definitions lets it be proved over the pieces, in three steps:
+//! No theorem here says so; bz_token_laws and bz_tree_laws have first steps to one. The form of the definitions lets it
+//! be proved over the pieces of `specs/Layout.antt`, of tokens, of the tree and of comments in turn.
 //!
-//! 1. Tokens. A text is read as gaps and longest tokens in turn, so it is enough that each piece has a text of its kind
-//!    and that the byte after it ends this text. A space, a newline, a bracket, a comma and a colon end every token but
-//!    a comment, a newline ends that too, and no byte lengthens a bracket. After `.`, a prefix, an argument's star and
-//!    the colon of an index stands no token that begins with one of the bytes `/ * < > =`, and only these lengthen a
-//! sign. 2. Tree. The pieces without comments are the tokens of the tree, except for the comma after the last segment
-//! of a    broken group, which the grammar allows where it is written. A gap with a new line stands only inside a
-//! bracket,    a newline token only outside.
-//! 3. Comments. A suffix stands on the line of its segment's comma or last token, all others on lines of their own; the
-//!    lines are those of `specs/Lines.antt`, and the newlines in a long string's text.
+//! Tokens: a text is read as gaps and longest tokens in turn, so it is enough that each piece has a text of its kind and
+//! that the byte after it ends this text. A space, a newline, a bracket, a comma and a colon end every token but a
+//! comment, a newline ends that too, and no byte lengthens a bracket. After `.`, a prefix, an argument's star and the
+//! colon of an index stands no token that begins with one of the bytes `/ * < > =`, and only these lengthen a sign.
+//!
+//! Tree: the pieces without comments are the tokens of the tree, except for the comma after the last segment of a broken
+//! group, which the grammar allows where it is written. A gap with a new line stands only inside a bracket, a newline
+//! token only outside.
+//!
+//! Comments: a suffix stands on the line of its segment's comma or last token, all others on lines of their own; the
+//! lines are those of `specs/Lines.antt`, and the newlines in a long string's text.
 #![tactic(auto)]
 
 mod broken;
