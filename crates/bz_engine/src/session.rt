@@ -1,8 +1,8 @@
 //! A run, a chunk at a time.
 
-ghost use Rattle.std.specs.Prelude.{◌≡◌, ◌≢◌, ℕ, ◌+◌, ◌*◌, ◌<◌, ◌≤◌, ◌^◌, ◌++◌, false, List, [], ◌∷◌, length, take, drop, IfOk, OnOk, OnErr, IfSome, IfNone, IsTrue, option_to_list};
+ghost use Rattle.std.specs.Prelude.{◌≡◌, ◌≢◌, ℕ, ◌+◌, ◌<◌, ◌≤◌, ◌^◌, ◌++◌, false, List, [], ◌∷◌, length, take, drop, IfOk, OnOk, OnErr, IfSome, IfNone, IsTrue, option_to_list};
 ghost use Rattle.bz_tree.specs.Tree.{Statement};
-ghost use Rattle.bz_engine.specs.Device.{joined, NoneEnds, Rises};
+ghost use Rattle.bz_engine.specs.Device.{NoneEnds, Rises};
 ghost use Rattle.bz_engine.specs.Exchange.{Fits};
 ghost use Rattle.bz_engine.specs.Ahead.{IsReadOn, IsNextChunk, IsTooLong, IsUncertain};
 ghost use Rattle.bz_engine.specs.Messages.{fault_text};
