@@ -1,5 +1,5 @@
 -- What stands at a place, before it is read.
-use Rattle.std.proofs.Common.{◌≡◌, ℕ, ◌+◌, ◌<◌, ◌≤◌, List, [], ◌∷◌, length, take, get_or, Bool, true, false, refl, ap, subst, ◌∙◌, arith, one-add}
+use Rattle.std.proofs.Common.{◌≡◌, ℕ, ◌-◌, zero, suc, drop, ◌+◌, ◌<◌, ◌≤◌, List, [], ◌∷◌, length, take, get_or, Bool, true, false, refl, ap, subst, ◌∙◌, arith, one-add}
 use Rattle.std.specs.Prelude.{Result, Ok, Err, IfOk, IfErr}
 use Rattle.std.specs.List.{prefix_len}
 use Rattle.std.proofs.lemmas.List.{length-take-le}
@@ -17,14 +17,14 @@ use Rattle.bz_token.specs.declared.scan_token.Step.TheVariants as step
 use Rattle.bz_token.specs.private.Tables.{IsSolid}
 use Rattle.bz_token.proofs.Gaps.{blank_run, blank_ascii}
 use Rattle.bz_token.proofs.Scanning.{all_front}
-use Rattle.bz_token.proofs.Progress.{one_line, one_line_newlines, one_line_column}
+use Rattle.bz_token.proofs.Progress.{newlines, newlines-append, one_line, one_line_newlines, one_line_column}
 
 blank_first : (bytes : List ℕ) → begins is_blank bytes ≡ true → 0 < prefix_len is_blank bytes
 blank_first [] h = absurd (false≢true h)
 blank_first (b ∷ bs) h = rw (h, one-add) (omega arith)
 
-pub blanks_here : (inside : Bool) (bytes : List ℕ) (gap : Gap) → begins is_blank bytes ≡ true → gap.len ≡ prefix_len is_blank bytes → gap.ends_line ≡ false → IsGapHere inside bytes gap
-blanks_here inside bytes gap first len ends =
+pub blanks_here : (inside : Bool) (bytes : List ℕ) (gap : Gap) → begins is_blank bytes ≡ true → gap.len ≡ prefix_len is_blank bytes → gap.on_line ≡ prefix_len is_blank bytes → gap.has_newline ≡ false → IsGapHere inside bytes gap
+blanks_here inside bytes gap first len on ends =
     let n = prefix_len is_blank bytes in
     let some = blank_first bytes first in
     let within = prefix_len-le-length is_blank bytes in
@@ -32,22 +32,39 @@ blanks_here inside bytes gap first len ends =
     record {
       some = rw len some;
       within = rw len within;
+      on_line = omega (arith, len, on);
       goes_on = λ ys. rw len (blank_run inside bytes ys);
       ascii = rw len (blank_ascii bytes some);
       lines = rw (len, ends) (one_line_newlines (take n bytes) flat);
-      column = λ c. rw (len, ends) (one_line_column c (take n bytes) flat ∙ ap (λ k. c + k) (length-take-le n bytes within));
+      column = λ c. rw (len, on, ends) (one_line_column c (take n bytes) flat ∙ ap (λ k. c + k) (length-take-le n bytes within));
     }
 
-pub newline_here : (bytes : List ℕ) (gap : Gap) → 0 < length bytes → get_or bytes 0 0 ≡ 10 → gap.len ≡ 1 → gap.ends_line ≡ true → IsGapHere true bytes gap
-newline_here [] gap some first len ends = absurd (omega arith)
-newline_here (b ∷ bs) gap some first len ends = record {
-  some = omega (arith, len);
-  within = omega (arith, len);
-  goes_on = λ ys. rw (len, first) refl;
-  ascii = rw (len, first) (omega arith);
-  lines = rw (len, ends, first) refl;
-  column = λ c. rw (len, ends, first) refl;
-}
+-- a newline and the blanks after it
+last_ascii : (bs : List ℕ) (n : ℕ) → n ≡ prefix_len is_blank bs → get_or (10 ∷ bs) n 0 < 128
+last_ascii bs zero counted = omega arith
+last_ascii bs (suc n) counted =
+    let some : 0 < prefix_len is_blank bs = omega (arith, counted) in
+    let e : prefix_len is_blank bs - 1 ≡ n = omega (arith, counted) in
+    subst (λ k. get_or bs k 0 < 128) e (blank_ascii bs some)
+
+pub newline_here : (bytes : List ℕ) (gap : Gap) → 0 < length bytes → get_or bytes 0 0 ≡ 10 → gap.on_line ≡ prefix_len is_blank (drop 1 bytes) → gap.len ≡ 1 + gap.on_line → gap.has_newline ≡ true → IsGapHere true bytes gap
+newline_here [] gap some first on len ends = absurd (omega arith)
+newline_here (b ∷ bs) gap some first on len ends =
+    let n = prefix_len is_blank bs in
+    let whole : gap.len ≡ suc (prefix_len is_blank bs) = omega (arith, len, on) in
+    let last : gap.len - 1 ≡ prefix_len is_blank bs = omega (arith, len, on) in
+    let within = prefix_len-le-length is_blank bs in
+    let flat = one_line (take n bs) (all_front is_blank bs) in
+    let one : newlines (10 ∷ take n bs) ≡ 1 = newlines-append (10 ∷ []) (take n bs) ∙ ap (λ k. 1 + k) (one_line_newlines (take n bs) flat) in
+    record {
+      some = omega (arith, len);
+      within = omega (arith, whole, within);
+      on_line = omega (arith, len);
+      goes_on = λ ys. rw (whole, first) (blank_run true bs ys);
+      ascii = rw (last, first) (last_ascii bs n refl);
+      lines = rw (whole, ends, first) one;
+      column = λ c. rw (whole, on, ends, first) (one_line_column 1 (take n bs) flat ∙ ap (λ k. 1 + k) (length-take-le n bs within));
+    }
 
 two_gap : (inside : Bool) (ys : List ℕ) → is_gap inside (92 ∷ 10 ∷ ys) ≡ is_gap inside ys
 two_gap true ys = refl
@@ -57,29 +74,31 @@ three_gap : (inside : Bool) (ys : List ℕ) → is_gap inside (92 ∷ 13 ∷ 10 
 three_gap true ys = refl
 three_gap false ys = refl
 
-pub two_here : (inside : Bool) (bytes : List ℕ) (gap : Gap) → 2 ≤ length bytes → get_or bytes 0 0 ≡ 92 → get_or bytes 1 0 ≡ 10 → gap.len ≡ 2 → gap.ends_line ≡ true → IsGapHere inside bytes gap
-two_here inside [] gap some first second len ends = absurd (omega arith)
-two_here inside (a ∷ []) gap some first second len ends = absurd (omega arith)
-two_here inside (a ∷ b ∷ bs) gap some first second len ends = record {
+pub two_here : (inside : Bool) (bytes : List ℕ) (gap : Gap) → 2 ≤ length bytes → get_or bytes 0 0 ≡ 92 → get_or bytes 1 0 ≡ 10 → gap.len ≡ 2 → gap.on_line ≡ 0 → gap.has_newline ≡ true → IsGapHere inside bytes gap
+two_here inside [] gap some first second len on ends = absurd (omega arith)
+two_here inside (a ∷ []) gap some first second len on ends = absurd (omega arith)
+two_here inside (a ∷ b ∷ bs) gap some first second len on ends = record {
   some = omega (arith, len);
   within = omega (arith, len);
+  on_line = omega (arith, on);
   goes_on = λ ys. rw (len, first, second) (two_gap inside ys);
   ascii = rw (len, second) (omega arith);
   lines = rw (len, ends, first, second) refl;
-  column = λ c. rw (len, ends, first, second) refl;
+  column = λ c. rw (len, on, ends, first, second) refl;
 }
 
-pub three_here : (inside : Bool) (bytes : List ℕ) (gap : Gap) → 3 ≤ length bytes → get_or bytes 0 0 ≡ 92 → get_or bytes 1 0 ≡ 13 → get_or bytes 2 0 ≡ 10 → gap.len ≡ 3 → gap.ends_line ≡ true → IsGapHere inside bytes gap
-three_here inside [] gap some first second third len ends = absurd (omega arith)
-three_here inside (a ∷ []) gap some first second third len ends = absurd (omega arith)
-three_here inside (a ∷ b ∷ []) gap some first second third len ends = absurd (omega arith)
-three_here inside (a ∷ b ∷ c ∷ cs) gap some first second third len ends = record {
+pub three_here : (inside : Bool) (bytes : List ℕ) (gap : Gap) → 3 ≤ length bytes → get_or bytes 0 0 ≡ 92 → get_or bytes 1 0 ≡ 13 → get_or bytes 2 0 ≡ 10 → gap.len ≡ 3 → gap.on_line ≡ 0 → gap.has_newline ≡ true → IsGapHere inside bytes gap
+three_here inside [] gap some first second third len on ends = absurd (omega arith)
+three_here inside (a ∷ []) gap some first second third len on ends = absurd (omega arith)
+three_here inside (a ∷ b ∷ []) gap some first second third len on ends = absurd (omega arith)
+three_here inside (a ∷ b ∷ c ∷ cs) gap some first second third len on ends = record {
   some = omega (arith, len);
   within = omega (arith, len);
+  on_line = omega (arith, on);
   goes_on = λ ys. rw (len, first, second, third) (three_gap inside ys);
   ascii = rw (len, third) (omega arith);
   lines = rw (len, ends, first, second, third) refl;
-  column = λ c. rw (len, ends, first, second, third) refl;
+  column = λ c. rw (len, on, ends, first, second, third) refl;
 }
 
 -- no gap begins with a solid byte

@@ -49,27 +49,33 @@ pub fn advance(place: Place, bytes: &[u8]) -> Place
     Place { line, col }
 }
 
-/// White space or a continued line: so many bytes, of which the last is a newline, or none.
+/// White space or a continued line, with at most one newline.
 #[derive(Clone, Copy)]
 pub struct Gap {
     pub len: usize,
-    pub ends_line: bool,
+    pub has_newline: bool,
+    /// The bytes after the newline, or all where there is none.
+    pub on_line: usize,
 }
 
 /// The place after a gap.
 #[inline(always)]
 pub fn after_gap(place: Place, gap: Gap) -> Place
-    requires line_fits { place.line + (if gap.ends_line then 1 else 0) < 2 ^ 64 }
-    requires col_fits { place.col + gap.len < 2 ^ 64 }
-    ensures line { result.line ≡ place.line + (if gap.ends_line then 1 else 0) }
-    ensures col { result.col ≡ (if gap.ends_line then 1 else place.col + gap.len) }
+    requires line_fits { place.line + (if gap.has_newline then 1 else 0) < 2 ^ 64 }
+    requires col_fits { place.col + gap.on_line < 2 ^ 64 }
+    requires col_counts { 0 < place.col }
+    ensures line { result.line ≡ place.line + (if gap.has_newline then 1 else 0) }
+    ensures col { result.col ≡ (if gap.has_newline then 1 else place.col) + gap.on_line }
 {
-    if gap.ends_line {
-        Place::start(place.line + 1)
+    if gap.has_newline {
+        Place {
+            line: place.line + 1,
+            col: 1 + gap.on_line as u64,
+        }
     } else {
         Place {
             line: place.line,
-            col: place.col + gap.len as u64,
+            col: place.col + gap.on_line as u64,
         }
     }
 }
@@ -87,22 +93,26 @@ pub fn blanks(bytes: &[u8]) -> Gap
     requires { begins is_blank bytes.now ≡ true }
     ensures { (inside : Bool) → IsGapHere inside bytes.now result }
 {
+    let len = blank_len(bytes);
     Gap {
-        len: blank_len(bytes),
-        ends_line: false,
+        len,
+        has_newline: false,
+        on_line: len,
     }
 }
 
-/// The newline here, inside brackets.
+/// The newline here and the blanks after it, inside brackets.
 #[inline(always)]
 pub fn newline(bytes: &[u8]) -> Gap
     requires some { 0 < length bytes.now }
     requires newline { slice_index bytes.now 0 ≡ 10 }
     ensures { IsGapHere true bytes.now result }
 {
+    let on_line = blank_len(&bytes[1..]);
     Gap {
-        len: 1,
-        ends_line: true,
+        len: 1 + on_line,
+        has_newline: true,
+        on_line,
     }
 }
 
@@ -117,11 +127,13 @@ pub fn continued(bytes: &[u8]) -> Option<Gap>
     match bytes {
         [_, b'\n', ..] => Some(Gap {
             len: 2,
-            ends_line: true,
+            has_newline: true,
+            on_line: 0,
         }),
         [_, b'\r', b'\n', ..] => Some(Gap {
             len: 3,
-            ends_line: true,
+            has_newline: true,
+            on_line: 0,
         }),
         _ => None,
     }

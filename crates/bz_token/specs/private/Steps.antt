@@ -8,14 +8,15 @@ use Rattle.bz_token.specs.Places.{column_from}
 use Rattle.bz_token.specs.Reading.{is_gap, begins_gap}
 use Rattle.bz_token.specs.private.Scans.{IsScanned, IsBadPlace}
 
--- So many bytes here are white space or a continued line; the last is a newline, and no other, or none is.
+-- These bytes are white space or a continued line, with at most one newline, and so many of them stand after it.
 pub record IsGapHere (inside : Bool) (bytes : List ℕ) (gap : Gap) : Type 0 where
   pub some : 0 < gap.len
   pub within : gap.len ≤ length bytes
+  pub on_line : gap.on_line ≤ gap.len
   pub goes_on : (ys : List ℕ) → is_gap inside (take gap.len bytes ++ ys) ≡ is_gap inside ys
   pub ascii : slice_index bytes (gap.len - 1) < 128
-  pub lines : count_by (λ b. b == 10) (take gap.len bytes) ≡ (if gap.ends_line then 1 else 0)
-  pub column : (c : ℕ) → column_from c (take gap.len bytes) ≡ (if gap.ends_line then 1 else c + gap.len)
+  pub lines : count_by (λ b. b == 10) (take gap.len bytes) ≡ (if gap.has_newline then 1 else 0)
+  pub column : (c : ℕ) → column_from c (take gap.len bytes) ≡ (if gap.has_newline then 1 else c) + gap.on_line
 
 abbrev pub IsStep : Bool → List ℕ → Step → Type 0
 IsStep inside bytes (step.Gap gap) = IsGapHere inside bytes gap

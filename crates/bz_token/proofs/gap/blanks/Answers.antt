@@ -3,4 +3,4 @@ use Rattle.bz_token.proofs.Steps.{blanks_here}
 use Rattle.bz_token.proofs.gap.blanks.Goals as goal
 
 pub returns : goal.returns
-returns c inside = blanks_here inside c.args.bytes.now _ c.requires c.blank_len.ensures refl
+returns c inside = blanks_here inside c.args.bytes.now _ c.requires c.blank_len-len.ensures c.blank_len-len.ensures refl

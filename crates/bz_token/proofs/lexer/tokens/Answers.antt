@@ -30,7 +30,10 @@ pub after_gap-place-requires-clause-col_fits : goal.after_gap-place-requires-cla
 after_gap-place-requires-clause-col_fits c =
     let gap = gap_of_step _ _ _ _ _ c.in-Gap.gap c.is_inside.ensures c.as_bytes-bytes.ensures.value c.in-Gap.is c.in-Ok.ensures.step in
     let fits = places_fit _ _ _ _ _ _ _ _ _ c.loop-rest.invariant in
-    omega (arith, fits.1, gap.within)
+    omega (arith, fits.1, gap.within, gap.on_line)
+
+pub after_gap-place-requires-clause-col_counts : goal.after_gap-place-requires-clause-col_counts
+after_gap-place-requires-clause-col_counts c = (places_fit _ _ _ _ _ _ _ _ _ c.loop-rest.invariant).2
 
 pub split_at-requires : goal.split_at-requires
 split_at-requires c =
