@@ -18,7 +18,8 @@ use Rattle.bz_token.specs.declared.cutter.scan.Inside.{Inside}
 use Rattle.bz_token.specs.declared.cutter.scan.Inside.TheVariants.{Plain, Ended, Backslash, BackslashReturn, Comment, Opened, OpenedTwice, Short, ShortEscape, ShortEscapeReturn, Long, LongQuote, LongTwoQuotes, LongEscape}
 use Rattle.bz_token.specs.declared.cutter.scan.Scan.{Scan}
 use Rattle.bz_token.specs.private.CutSteps.{is_ended, byte_of, at, outside, in_short, in_long, next_in, next, start, run, with_note}
-use Rattle.bz_token.specs.Lexical.{is_word_byte, is_blank, is_newline, is_quote, closing_row, are_two, opens_after, opening, opening_length, is_empty, is_name, is_keyword, signs, is_sign, is_text, IsToken}
+use Rattle.bz_token.specs.Pieces.{is_quote}
+use Rattle.bz_token.specs.Lexical.{is_word_byte, is_blank, is_newline, closing_row, are_two, opens_after, opening, opening_length, is_empty, is_name, is_keyword, signs, is_sign, is_text, IsToken}
 use Rattle.bz_token.specs.private.Closing.{closes}
 use Rattle.bz_token.specs.Brackets.{is_inside, is_line, is_opening_bracket, is_closing_bracket, fits, open_after_token}
 use Rattle.bz_token.proofs.Classes.{Class, class_of, keyword_name, can_start, text_class, one_of, same_bytes, empty_no_text}

@@ -8,7 +8,8 @@ use Rattle.std.proofs.lemmas.Bool.Decides.{nat_tests}
 use Rattle.std.proofs.lemmas.Slice.Eq.{bytes_eq-Decides}
 use Rattle.bz_token.specs.declared.token.Kind.{Kind}
 use Rattle.bz_token.specs.declared.token.Kind.TheVariants.{Ident, Word, Int, Text, Sign, Line, Note, Kept}
-use Rattle.bz_token.specs.Lexical.{is_word_byte, is_quote, is_newline, is_one_of, keywords, is_keyword, signs, is_sign, is_name, is_number, are_based, is_string, opening, is_text, begins, ends_blank, is_closed}
+use Rattle.bz_token.specs.Pieces.{is_quote}
+use Rattle.bz_token.specs.Lexical.{is_word_byte, is_newline, is_one_of, keywords, is_keyword, signs, is_sign, is_name, is_number, are_based, is_string, opening, is_text, begins, ends_blank, is_closed}
 use Rattle.bz_token.specs.declared.scan_string.Opening.{Opening}
 
 pub data Class : Type 0 where

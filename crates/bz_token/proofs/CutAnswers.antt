@@ -10,7 +10,8 @@ use Rattle.bz_token.specs.declared.cutter.block.Stage.TheVariants.{Notes, InBloc
 use Rattle.bz_token.specs.declared.cutter.Cutter.{Cutter}
 use Rattle.bz_token.specs.declared.cutter.Cut.{Cut}
 use Rattle.bz_token.specs.declared.cutter.Cut.TheVariants.{More, Whole, Block}
-use Rattle.bz_token.specs.Blocks.{is_word_byte, word_at, goes_on}
+use Rattle.bz_token.specs.Lexical.{is_word_byte}
+use Rattle.bz_token.specs.Blocks.{word_at, goes_on}
 use Rattle.bz_token.specs.Chunks.{chunks}
 use Rattle.bz_token.specs.private.Stages.{stage_after, takes}
 use Rattle.bz_token.specs.Cuts.{is_physical_line, ends_in_newline, first_line, EndsBefore, IsLonger, IsChunk, IsPart, IsBlock, IsCut, IsLast, IsNext, left, left_next}

@@ -10,7 +10,8 @@ use Rattle.bz_token.specs.declared.cutter.block.Stage.TheVariants.{Notes, InBloc
 use Rattle.bz_token.specs.declared.cutter.scan.Scan.{Scan}
 use Rattle.bz_token.specs.Groups.{grouped, grouped_from}
 use Rattle.bz_token.specs.LogicalLines.{Line}
-use Rattle.bz_token.specs.Blocks.{is_white, is_word_byte, word_at, has_branch}
+use Rattle.bz_token.specs.Lexical.{is_word_byte}
+use Rattle.bz_token.specs.Blocks.{is_white, word_at, has_branch}
 use Rattle.bz_token.specs.Chunks.{chunk_goes_on, text_of, chunks}
 use Rattle.bz_token.specs.private.Stages.{stage_after, stage_from, takes}
 use Rattle.bz_token.specs.private.CutSteps.{is_ended, is_broken, line_at, line_here, seen_chunks, outside, next, start}

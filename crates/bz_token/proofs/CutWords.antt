@@ -9,7 +9,8 @@ use Rattle.bz_token.specs.declared.cutter.block.Opener.{Opener}
 use Rattle.bz_token.specs.declared.cutter.block.Opener.TheVariants.{Def, For, If}
 use Rattle.bz_token.specs.declared.cutter.Next.{Next}
 use Rattle.bz_token.specs.declared.cutter.Next.TheVariants.{Goes, Ends, Short}
-use Rattle.bz_token.specs.Blocks.{is_white, is_word_byte, word_at, has_branch, goes_on}
+use Rattle.bz_token.specs.Lexical.{is_word_byte}
+use Rattle.bz_token.specs.Blocks.{is_white, word_at, has_branch, goes_on}
 use Rattle.bz_token.specs.private.Decided.{DecidesAhead, is_branch_front}
 
 word_cons : (b : ℕ) (bs : List ℕ) → word_at (b ∷ bs) ≡ cond (is_word_byte b) (b ∷ word_at bs) []

@@ -13,7 +13,8 @@ use Rattle.bz_token.specs.declared.scan_string.Quotes.{Quotes}
 use Rattle.bz_token.specs.declared.scan_string.Escape.TheVariants.{Unescaped}
 use Rattle.bz_token.specs.declared.token.Kind.{Kind}
 use Rattle.bz_token.specs.declared.token.Kind.TheVariants.{Ident, Word, Int, Text, Sign, Line, Note, Kept}
-use Rattle.bz_token.specs.Lexical.{is_word_byte, is_quote, is_blank, is_newline, signs, is_sign, is_keyword, is_name, is_empty, ends_blank, are_based, is_octal_digit, is_number, is_string, is_comment, closing_row, are_two, opening, opening_length, is_closed, is_long, is_text, begins, counts, is_number_kind, is_string_kind, IsToken, HasNoToken}
+use Rattle.bz_token.specs.Pieces.{is_quote}
+use Rattle.bz_token.specs.Lexical.{is_word_byte, is_blank, is_newline, signs, is_sign, is_keyword, is_name, is_empty, ends_blank, are_based, is_octal_digit, is_number, is_string, is_comment, closing_row, are_two, opening, opening_length, is_closed, is_long, is_text, begins, counts, is_number_kind, is_string_kind, IsToken, HasNoToken}
 use Rattle.bz_token.specs.private.Closing.{closes}
 use Rattle.bz_token.specs.Ends.{is_prefix, is_empty_string, stops, stops_at}
 use Rattle.bz_token.proofs.Classes.{Class, letter, digit, quote, newline, hash, mark, unknown, class_of, can_start, text_class, letter_class, digit_class, name_parts, keyword_name, number_starts, one_of, empty_no_text}

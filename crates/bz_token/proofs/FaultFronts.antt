@@ -8,7 +8,8 @@ use Rattle.std.proofs.lemmas.Bool.Decides.{nat_tests}
 use Rattle.bz_token.specs.declared.token.Kind.{Kind}
 use Rattle.bz_token.specs.declared.token.Kind.TheVariants.{Ident, Word, Int, Text, Sign, Line, Note, Kept}
 use Rattle.bz_token.specs.declared.scan_string.Opening.{Opening}
-use Rattle.bz_token.specs.Lexical.{is_word_byte, is_newline, is_quote, begins, opens_after, opening, is_name, is_keyword, is_string, is_text, is_long, is_string_kind, is_number_kind, counts, HasNoToken}
+use Rattle.bz_token.specs.Pieces.{is_quote}
+use Rattle.bz_token.specs.Lexical.{is_word_byte, is_newline, begins, opens_after, opening, is_name, is_keyword, is_string, is_text, is_long, is_string_kind, is_number_kind, counts, HasNoToken}
 use Rattle.bz_token.specs.Reading.{continues}
 use Rattle.bz_token.proofs.Classes.{keyword_name, same_bytes}
 use Rattle.bz_token.proofs.Openings.{opens_r, opens_rb, opens_b, opens_br, opens_plain}

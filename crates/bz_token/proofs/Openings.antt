@@ -11,7 +11,8 @@ use Rattle.bz_token.specs.declared.scan_string.Quotes.{Quotes}
 use Rattle.bz_token.specs.declared.scan_string.Escape.{Escape}
 use Rattle.bz_token.specs.declared.scan_string.Escape.TheVariants.{Unescaped}
 use Rattle.bz_token.specs.declared.token.Kind.TheVariants.{Text}
-use Rattle.bz_token.specs.Lexical.{is_word_byte, is_quote, closing_row, are_two, opens_after, prefix_letters, opening, opening_length, is_empty, is_newline, begins}
+use Rattle.bz_token.specs.Pieces.{is_quote}
+use Rattle.bz_token.specs.Lexical.{is_word_byte, closing_row, are_two, opens_after, prefix_letters, opening, opening_length, is_empty, is_newline, begins}
 use Rattle.bz_token.specs.private.Closing.{is_escaped, escape_after, closes}
 use Rattle.bz_token.specs.Ends.{is_prefix}
 use Rattle.bz_token.proofs.Classes.{class_of, can_start, opening_starts}

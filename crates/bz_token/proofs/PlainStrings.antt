@@ -4,7 +4,8 @@ use Rattle.std.specs.List.{prefix_len, list_any}
 use Rattle.std.specs.Prelude.{if◌then◌else◌}
 use Rattle.std.proofs.lemmas.Bool.{and_parts, not-true, or_from, eq-eqb}
 use Rattle.std.proofs.lemmas.Bool.Decides.{nat_tests}
-use Rattle.bz_token.specs.Lexical.{is_newline, is_quote, is_empty}
+use Rattle.bz_token.specs.Pieces.{is_quote}
+use Rattle.bz_token.specs.Lexical.{is_newline, is_empty}
 use Rattle.bz_token.specs.private.Closing.{closes, starts_escape}
 use Rattle.bz_token.specs.private.Scans.{is_plain}
 use Rattle.bz_token.specs.declared.scan_string.Quotes.{Quotes}

@@ -16,7 +16,8 @@ use Rattle.bz_token.specs.declared.scan_string.Escape.TheVariants.{Unescaped}
 use Rattle.bz_token.specs.declared.scan_token.Scanned.{Scanned}
 use Rattle.bz_token.specs.declared.token.Kind.{Kind}
 use Rattle.bz_token.specs.declared.token.Kind.TheVariants.{Ident, Word, Int, Text, Sign, Line, Note, Kept}
-use Rattle.bz_token.specs.Lexical.{begins, is_word_byte, is_quote, is_blank, is_newline, is_name, is_number, is_sign, is_comment, opens_after, opening, opening_length, is_text, IsToken}
+use Rattle.bz_token.specs.Pieces.{is_quote}
+use Rattle.bz_token.specs.Lexical.{begins, is_word_byte, is_blank, is_newline, is_name, is_number, is_sign, is_comment, opens_after, opening, opening_length, is_text, IsToken}
 use Rattle.bz_token.specs.private.Closing.{closes}
 use Rattle.bz_token.specs.Faults.{IsBadCharacter, IsBadNumber, IsOpenText}
 use Rattle.bz_token.specs.Ends.{stops_at}

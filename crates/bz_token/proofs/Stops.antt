@@ -10,7 +10,8 @@ use Rattle.bz_token.specs.declared.scan_string.Opening.{Opening}
 use Rattle.bz_token.specs.declared.scan_string.Escape.TheVariants.{Unescaped}
 use Rattle.bz_token.specs.declared.token.Kind.{Kind}
 use Rattle.bz_token.specs.declared.token.Kind.TheVariants.{Ident, Word, Int, Text, Sign, Line, Note, Kept}
-use Rattle.bz_token.specs.Lexical.{is_word_byte, is_quote, is_blank, is_newline, is_one_of, signs, is_sign, keywords, is_keyword, is_name, is_comment, ends_blank, closing_row, are_two, opens_after, opening, opening_length, is_long, is_text, counts, is_string_kind, IsToken}
+use Rattle.bz_token.specs.Pieces.{is_quote}
+use Rattle.bz_token.specs.Lexical.{is_word_byte, is_blank, is_newline, is_one_of, signs, is_sign, keywords, is_keyword, is_name, is_comment, ends_blank, closing_row, are_two, opens_after, opening, opening_length, is_long, is_text, counts, is_string_kind, IsToken}
 use Rattle.bz_token.specs.private.Closing.{closes}
 use Rattle.bz_token.specs.Ends.{is_prefix, is_empty_string, stops, stops_at, is_note, ends}
 use Rattle.bz_token.proofs.Classes.{hash as hash_class}

@@ -6,7 +6,8 @@ use Rattle.std.specs.Char.{is_ascii_digit}
 use Rattle.std.proofs.lemmas.List.FromFn.{get_or-map-range_with_len}
 use Rattle.std.proofs.lemmas.Bool.{cases_Bool, eqb-true, false≢true}
 use Rattle.std.proofs.lemmas.Bool.Decides.{nat_tests}
-use Rattle.bz_token.specs.Lexical.{begins, is_word_byte, is_blank, is_quote, are_two, opening}
+use Rattle.bz_token.specs.Pieces.{is_quote}
+use Rattle.bz_token.specs.Lexical.{begins, is_word_byte, is_blank, are_two, opening}
 use Rattle.bz_token.specs.Brackets.{is_opening_bracket, is_closing_bracket}
 use Rattle.bz_token.specs.private.Tables.{is_prefix_letter, is_point, is_sign_start, is_single, class_of, IsMark, IsSolid}
 use Rattle.bz_token.specs.declared.table.Class.{Class}

@@ -2,7 +2,7 @@
 -- with `def`, `for` or `if`, and the lines after it that are indented or empty; after an `if` also those of its branches.
 use Rattle.std.specs.Prelude.{take, cond, bytes_eq, Option, Some, None, ℕ, List, [], ◌∷◌, Bool, true, false, ◌&&◌, ◌||◌, ◌==◌, codes}
 use Rattle.std.specs.List.{take_while}
-use Rattle.std.specs.Char.{is_ascii_digit, is_ascii_alphabetic}
+use Rattle.bz_token.specs.Lexical.{is_word_byte}
 use Rattle.bz_token.specs.declared.cutter.block.Opener.{Opener}
 use Rattle.bz_token.specs.declared.cutter.block.Opener.TheVariants.{Def, For, If}
 
@@ -20,9 +20,6 @@ head_from first (b ∷ bs) = elim (is_white b || continues b bs) [
   | true ↦ head_from (b == 10) bs
   | false ↦ cond first (b ∷ bs) []
 ]
-
-abbrev pub is_word_byte : ℕ → Bool
-is_word_byte b = is_ascii_alphabetic b || is_ascii_digit b || b == 95
 
 abbrev pub word_at : List ℕ → List ℕ
 word_at bytes = take_while is_word_byte bytes

@@ -7,7 +7,7 @@ use Rattle.bz_token.specs.declared.token.Kind.{Kind}
 use Rattle.bz_token.specs.declared.scan_string.Quotes.{Quotes}
 use Rattle.bz_token.specs.declared.scan_string.Opening.{Opening}
 use Rattle.bz_token.specs.declared.token.Kind.TheVariants.{Ident, Word, Int, Text, Sign, Line, Note, Kept}
-use Rattle.bz_token.specs.Pieces.{is_byte, units, but_last, stops_short, three_in_a_row}
+use Rattle.bz_token.specs.Pieces.{is_byte, is_quote, units, but_last, stops_short, three_in_a_row}
 
 -- ASCII letters, digits and underscores
 abbrev pub is_word_byte : ℕ → Bool
@@ -16,9 +16,6 @@ is_word_byte b = is_ascii_alphabetic b || is_ascii_digit b || b == 95
 -- white space within a line: space, tab and carriage return
 abbrev pub is_blank : ℕ → Bool
 is_blank b = b == 32 || b == 9 || b == 13
-
-abbrev pub is_quote : ℕ → Bool
-is_quote b = b == 34 || b == 39
 
 abbrev pub is_newline : ℕ → Bool
 is_newline b = b == 10

@@ -8,10 +8,11 @@ use Rattle.std.proofs.lemmas.List.Sums.{take_while-cons}
 use Rattle.bz_token.specs.declared.token.Kind.{Kind}
 use Rattle.bz_token.specs.declared.token.Kind.TheVariants.{Ident, Word, Int, Text, Sign, Line, Note, Kept}
 use Rattle.bz_token.specs.declared.scan_string.Opening.{Opening}
-use Rattle.bz_token.specs.Lexical.{is_blank, is_quote, is_name, is_keyword, is_string, is_closed, opening, IsToken}
+use Rattle.bz_token.specs.Pieces.{is_quote}
+use Rattle.bz_token.specs.Lexical.{is_blank, is_name, is_keyword, is_string, is_closed, opening, IsToken, is_word_byte}
 use Rattle.bz_token.specs.Ends.{stops_at, is_prefix}
 use Rattle.bz_token.specs.Brackets.{is_line}
-use Rattle.bz_token.specs.Blocks.{is_white, continues, head_from, is_word_byte, word_at, opener_of, opener}
+use Rattle.bz_token.specs.Blocks.{is_white, continues, head_from, word_at, opener_of, opener}
 use Rattle.bz_token.proofs.Classes.{can_start, class_of, text_class, keyword_name, empty_no_text}
 use Rattle.bz_token.proofs.Stops.{token_ends}
 use Rattle.bz_token.proofs.Agree.{visible}

@@ -4,7 +4,8 @@ ghost use Rattle.std.specs.Prelude.{◌≡◌, ◌≤◌, ◌++◌, ◌&&◌, �
 ghost use Rattle.std.specs.List.{list_all, list_any};
 ghost use Rattle.bz_token.specs.declared.token.Kind.{Kind};
 ghost use Rattle.bz_token.specs.declared.token.Kind.TheVariants.{Sign};
-ghost use Rattle.bz_token.specs.Lexical.{is_word_byte, is_quote, is_text};
+ghost use Rattle.bz_token.specs.Pieces.{is_quote};
+ghost use Rattle.bz_token.specs.Lexical.{is_word_byte, is_text};
 ghost use Rattle.bz_token.specs.Places.{Placed};
 ghost use Rattle.bz_token.specs.Ends.{stops, stops_at, ends, is_note};
 ghost use Rattle.bz_token.specs.Reading.{is_gap, Piece, IsReading, open_after, bytes_of, tokens_of, AreTokensOf};

@@ -3,7 +3,8 @@ use Rattle.std.specs.Prelude.{◌≡◌, ℕ, Bool, false, ◌||◌, ◌==◌, i
 use Rattle.std.specs.Char.{is_ascii_digit}
 use Rattle.bz_token.specs.declared.table.Class.{Class}
 use Rattle.bz_token.specs.declared.table.Class.TheVariants.{Unknown, Space, Newline, Letter, Prefix, Digit, Quote, Hash, Backslash, Open, Close, Point, Sign}
-use Rattle.bz_token.specs.Lexical.{is_word_byte, is_blank, is_quote}
+use Rattle.bz_token.specs.Pieces.{is_quote}
+use Rattle.bz_token.specs.Lexical.{is_word_byte, is_blank}
 use Rattle.bz_token.specs.Brackets.{is_opening_bracket, is_closing_bracket}
 
 -- the letters of a string's prefix

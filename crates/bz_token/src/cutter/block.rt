@@ -2,12 +2,14 @@
 
 ghost use Rattle.std.specs.Prelude.{◌≡◌, ◌<◌, ◌++◌, [], List, ℕ, true, false, length, bytes_eq};
 ghost use Rattle.std.specs.List.{list_all};
-ghost use Rattle.bz_token.specs.Blocks.{is_white, is_word_byte, word_at, opener_of, has_branch, goes_on};
+ghost use Rattle.bz_token.specs.Lexical.{is_word_byte};
+ghost use Rattle.bz_token.specs.Blocks.{is_white, word_at, opener_of, has_branch, goes_on};
 ghost use Rattle.bz_token.specs.private.Stages.{stage_of, stage_step};
 ghost use Rattle.bz_token.specs.private.Decided.{DecidesAhead, is_branch_front};
 
 use super::Next;
 use super::scan::LineKind;
+use crate::table::is_word_byte;
 
 /// The words that begin a block.
 #[derive(Clone, Copy, Debug, PartialEq, Eq)]
@@ -32,12 +34,6 @@ fn is_white(b: u8) -> bool
     ensures { result ≡ is_white b }
 {
     matches!(b, b' ' | b'\t' | b'\r' | b'\n')
-}
-
-fn is_word_byte(b: u8) -> bool
-    ensures { result ≡ is_word_byte b }
-{
-    b.is_ascii_alphabetic() || b.is_ascii_digit() || b == b'_'
 }
 
 // Whether this is the first word of the text.
