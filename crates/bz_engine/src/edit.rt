@@ -63,8 +63,8 @@ pub(crate) fn edit_chunk(
     ensures lines { OnOk result (progress.new.line ≤ progress.old.line + length chunk.now) }
     ensures edited { IfOk result (λ edited. (cs : List (List ℕ)) (statements : List Statement)
         → IsKeptOf script.entry.home.now script.entry.passes.now script.entry.max_depth cs statements progress.old
-        → IsEdited script.entry.home.now script.entry.passes.now script.entry.keep_going script.entry.max_depth cs statements chunk.now
-        progress.old progress.new text.old.items text.new.items edited) }
+        → IsEdited script.entry.home.now script.entry.passes.now script.entry.keep_going script.entry.max_depth cs
+        statements chunk.now progress.old progress.new text.old.items text.new.items edited) }
 {
     let edited = match read_chunk(script.alloc, chunk, progress.line, script.max_depth)? {
         ChunkRead::Faulty(fault) => return Ok(Edited::Faulty(fault)),

@@ -268,8 +268,8 @@ impl Session {
         ensures lines { OnOk result (self.new.progress.line ≤ self.old.progress.line + len) }
         ensures edited { IfOk result (λ edited. (cs : List (List ℕ)) (statements : List Statement)
             → IsKeptOf self.old.home self.old.passes self.old.options.max_depth cs statements self.old.progress
-            → IsEdited self.old.home self.old.passes self.old.options.keep_going self.old.options.max_depth cs statements (take len self.old.ahead.bytes)
-            self.old.progress self.new.progress text.old.items text.new.items edited) }
+            → IsEdited self.old.home self.old.passes self.old.options.keep_going self.old.options.max_depth cs statements
+            (take len self.old.ahead.bytes) self.old.progress self.new.progress text.old.items text.new.items edited) }
     {
         let script = Script {
             alloc: self.alloc,
