@@ -68,7 +68,13 @@ fn misfit_fault(misfit: Misfit, place: Place) -> LexFault
     }
 }
 
-// The tokens of a text that has ended, where no bracket is open.
+// Room for the tokens of a statement of so many bytes; the list of a long text grows.
+#[inline(always)]
+fn first_capacity(len: usize) -> usize {
+    len.min(4096) / 6
+}
+
+// What is told at the end of a text: the innermost bracket that is open, if one is.
 fn closed(tokens: Vec<Token<'_>>) -> Result<Vec<Token<'_>>, LexFault>
     ensures tokens { IfOk result
         (λ v. (v.items ≡ tokens.entry.items) × (open_tokens [] (map placed tokens.entry.items) ≡ [])) }
@@ -92,7 +98,7 @@ pub fn tokens<'a>(
     ensures tokens { IfOk result (λ v. AreTokensOf first_line max_depth text.now (map placed v.items)) }
     ensures fault { IfErr result (IsFault first_line max_depth text.now) }
 {
-    let mut out = Vec::new(alloc);
+    let mut out = Vec::with_capacity(alloc, first_capacity(text.len()))?;
     let mut brackets = Brackets::new();
     let mut last_line = None;
     let mut place = Place::start(first_line);

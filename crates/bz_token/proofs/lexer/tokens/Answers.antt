@@ -5,14 +5,14 @@ use Rattle.bz_token.specs.Places.{placed}
 use Rattle.bz_token.specs.Reading.{AreTokensOf}
 use Rattle.bz_token.specs.private.Scans.{opened}
 use Rattle.bz_token.proofs.Steps.{gap_of_step, token_of_step, bad_of_step, end_gap}
-use Rattle.bz_token.proofs.Progress.{places_fit, read_start, read_gap, after_gap, after_token, newlines_split, bad_at, misfit_at, if_ok, all_read, none_opened, gap_boundary, empty_from_test, same_as}
+use Rattle.bz_token.proofs.Progress.{places_fit, read_start, read_gap, after_gap, after_token, newlines_split, bad_at, misfit_at, left_open, if_ok, if_err, all_read, none_opened, outside, gap_boundary, empty_from_test, same_as}
 use Rattle.bz_token.proofs.Innermost.{map_push}
 use Rattle.bz_token.proofs.Fitting.{token_fits}
 use Rattle.bz_token.proofs.lexer.tokens.Goals as goal
 
 pub loop-rest-init : goal.loop-rest-init
 loop-rest-init c =
-    rw (c.new-out.ensures.items, c.start-place.ensures.line, c.start-place.ensures.col) (read_start c.args.first_line c.args.max_depth c.args.text.now (opened c.new-brackets.result) c.new-brackets.ensures c.utf8.text)
+    rw (c.in_ok-out.ensures.items, c.start-place.ensures.line, c.start-place.ensures.col) (read_start c.args.first_line c.args.max_depth c.args.text.now (opened c.new-brackets.result) c.new-brackets.ensures c.utf8.text)
 
 pub returns-in-Err-clause-fault : goal.returns-in-Err-clause-fault
 returns-in-Err-clause-fault c =
@@ -100,3 +100,15 @@ returns-then-is_inside-clause-tokens c =
     let b = after_gap _ _ _ _ _ _ _ _ _ c.loop-rest.invariant (end_gap _ _ done) in
     if_ok _ _ c.closed.result
     (λ v h. subst (λ ts. AreTokensOf c.args.first_line c.args.max_depth c.args.text.now (map placed ts)) (sym h.0) (all_read _ _ _ _ _ _ _ _ _ _ b done (none_opened _ _ _ _ _ _ _ _ _ _ b h.1))) c.closed.ensures.tokens
+
+pub returns-then-is_inside-clause-fault : goal.returns-then-is_inside-clause-fault
+returns-then-is_inside-clause-fault c =
+    let done : c.loop-rest.rest.now ≡ [] = empty_from_test c.loop-rest.rest.now (search rules) in
+    let b = after_gap _ _ _ _ _ _ _ _ _ c.loop-rest.invariant (end_gap _ _ done) in
+    if_err _ _ c.closed.result (λ fault h. left_open _ _ _ _ _ _ _ _ _ _ fault b done h) c.closed.ensures.fault
+
+pub returns-clause-tokens : goal.returns-clause-tokens
+returns-clause-tokens c =
+    let done : c.loop-rest.rest.now ≡ [] = empty_from_test c.loop-rest.rest.now (search rules) in
+    let b = after_gap _ _ _ _ _ _ _ _ _ c.loop-rest.invariant (end_gap _ _ done) in
+    all_read _ _ _ _ _ _ _ _ _ _ b done (outside (opened c.loop-rest.brackets) (search rules))
