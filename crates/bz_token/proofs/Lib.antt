@@ -9,7 +9,6 @@ pub mod Openings
 pub mod Ends
 pub mod Signs
 pub mod Tables
-pub mod Words
 pub mod Scanning
 pub mod Singles
 pub mod Progress

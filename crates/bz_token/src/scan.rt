@@ -69,28 +69,29 @@ pub fn is_number(bytes: &[u8]) -> bool
     }
 }
 
+#[inline(always)]
+fn are(bytes: &[u8], word: &[u8]) -> bool
+    ensures { result ≡ bytes_eq bytes.now word.now }
+{
+    bytes == word
+}
+
 /// Whether the bytes are a keyword.
 #[tactic(auto, unfolding(crate::specs::Lexical::keywords))]
 #[inline(always)]
 pub fn is_keyword(bytes: &[u8]) -> bool
     ensures { result ≡ is_keyword bytes.now }
 {
-    match bytes {
-        [b'a', b'n', b'd'] => true,
-        [b'b', b'r', b'e', b'a', b'k'] => true,
-        [b'c', b'o', b'n', b't', b'i', b'n', b'u', b'e'] => true,
-        [b'd', b'e', b'f'] => true,
-        [b'e', b'l', b'i', b'f'] => true,
-        [b'e', b'l', b's', b'e'] => true,
-        [b'f', b'o', b'r'] => true,
-        [b'i', b'f'] => true,
-        [b'i', b'n'] => true,
-        [b'l', b'a', b'm', b'b', b'd', b'a'] => true,
-        [b'l', b'o', b'a', b'd'] => true,
-        [b'n', b'o', b't'] => true,
-        [b'o', b'r'] => true,
-        [b'p', b'a', b's', b's'] => true,
-        [b'r', b'e', b't', b'u', b'r', b'n'] => true,
+    match bytes.len() {
+        2 => are(bytes, b"if") || are(bytes, b"in") || are(bytes, b"or"),
+        3 => are(bytes, b"and") || are(bytes, b"def") || are(bytes, b"for") || are(bytes, b"not"),
+        4 => are(bytes, b"elif")
+            || are(bytes, b"else")
+            || are(bytes, b"load")
+            || are(bytes, b"pass"),
+        5 => are(bytes, b"break"),
+        6 => are(bytes, b"lambda") || are(bytes, b"return"),
+        8 => are(bytes, b"continue"),
         _ => false,
     }
 }
