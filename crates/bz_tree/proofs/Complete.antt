@@ -13,7 +13,8 @@ use Rattle.bz_tree.specs.Kinds.{mark_of, group_kind, is_one, same_shape}
 use Rattle.bz_tree.specs.Owners.{Own, node, inside}
 use Rattle.bz_tree.specs.Brackets.{Elem, single, bracket, Elems, no_elems, elem, elem_tokens, elems_tokens, has_for, group_of, group_with, own_items, own_of, preceding, elem_own, elems_own, is_single, IsWell, AreWell, is_line, without_lines}
 use Rattle.bz_tree.specs.Statement.{segment_with, segment_of, statement_with, IsStatementOf}
-use Rattle.bz_tree.specs.private.Steps.{Level, Levels, with_own, new_level, closed, next_at, run, content, walk, at_start}
+use Rattle.bz_tree.specs.private.Steps.{at_start}
+use Rattle.bz_tree.proofs.ByOwns.{Level, Levels, with_own, new_level, closed, next_at, run, content, walk}
 use Rattle.bz_tree.proofs.OneBracket.{inside_found, nodes_alone}
 
 abbrev in_level : Option Shape → List Own → Preceding → Level

@@ -1,10 +1,13 @@
 pub mod Views
 pub mod Borrowed
 pub mod Closing
+pub mod Walking
 pub mod ByLines
+pub mod ByOwns
 pub mod OneBracket
 pub mod Complete
 pub mod Sound
+pub mod InPlace
 pub mod Accepted
 pub mod Meant
 pub mod Recognized

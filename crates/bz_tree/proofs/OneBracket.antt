@@ -6,7 +6,8 @@ use Rattle.bz_tree.specs.Owners.{Own, node, comma, note, Last, no_token, end_of_
 use Rattle.bz_tree.proofs.ByLines.{is_after_comma, the_end, segment_here, with_comment, has_token, goes_on, Comment, beside_comma, suffix_of, before_of, first_segment, segments, part, is_trailing, inside_by_lines, inside_is}
 use Rattle.bz_tree.specs.Brackets.{own_items}
 use Rattle.bz_tree.specs.Statement.{as_rule_call, rule_call}
-use Rattle.bz_tree.specs.private.Steps.{Walked, texts_of, at_start, after_node, add_beside, to_last, noted, after_note, done, walk}
+use Rattle.bz_tree.specs.private.Steps.{Walked, texts_of, at_start, after_node, add_beside, to_last, noted, after_note, done}
+use Rattle.bz_tree.proofs.ByOwns.{walk}
 
 -- a comment that is no suffix
 abbrev plain : List ℕ → Comment

@@ -10,6 +10,7 @@ use Rattle.bz_tree.specs.private.Machine.{is_statement}
 use Rattle.bz_tree.specs.Chunk.{IsPlain}
 use Rattle.bz_tree.specs.private.Steps.{new_level, run}
 use Rattle.bz_tree.proofs.Sound.{answer_is_statement, answer_is_only, no_answer}
+use Rattle.bz_tree.proofs.InPlace.{one_answer}
 use Rattle.bz_tree.proofs.Recognized.{statement_accepted, accepted_statement}
 
 -- the line on which the last of some tokens ends can be counted
@@ -34,12 +35,12 @@ seen_fits (t ∷ ts) o all here = at_mark (is_line (mark_of t)) (seen_fits ts o 
     at_mark false skipped counted = counted
 
 pub plain_is : (ts : List Placed) (s : Segment) (w : Statement) → run (new_level None) [] ts ≡ Some s → is_statement (items_of s.nodes) ≡ true → w ≡ statement_with ts s → IsPlain ts w
-plain_is ts s w same accepted is = subst (IsPlain ts) (sym is) (record { tree = answer_is_statement ts s same; grammar = accepted_statement (items_of s.nodes) accepted })
+plain_is ts s w same accepted is = subst (IsPlain ts) (sym is) (record { tree = answer_is_statement ts s (sym (one_answer ts) ∙ same); grammar = accepted_statement (items_of s.nodes) accepted })
 
 pub no_plain_tree : (ts : List Placed) → run (new_level None) [] ts ≡ None → (t : Statement) → IsPlain ts t → ⊥
-no_plain_tree ts same t p = no_answer ts same t p.tree
+no_plain_tree ts same t p = no_answer ts (sym (one_answer ts) ∙ same) t p.tree
 
 pub no_plain_grammar : (ts : List Placed) (s : Segment) → run (new_level None) [] ts ≡ Some s → is_statement (items_of s.nodes) ≡ false → (t : Statement) → IsPlain ts t → ⊥
 no_plain_grammar ts s same refused t p =
-    let nodes : s.nodes ≡ t.nodes = ap (λ (u : Statement). u.nodes) (answer_is_only ts s same t p.tree) in
+    let nodes : s.nodes ≡ t.nodes = ap (λ (u : Statement). u.nodes) (answer_is_only ts s (sym (one_answer ts) ∙ same) t p.tree) in
     false≢true (sym refused ∙ ap (λ ns. is_statement (items_of ns)) nodes ∙ statement_accepted p.grammar)

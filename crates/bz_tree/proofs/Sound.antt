@@ -13,7 +13,7 @@ use Rattle.bz_tree.specs.Kinds.{mark_of, group_kind, is_one, same_shape}
 use Rattle.bz_tree.specs.Owners.{Own, node, inside, no_empty}
 use Rattle.bz_tree.specs.Brackets.{Elem, single, bracket, Elems, no_elems, elem, elem_tokens, elems_tokens, has_for, group_of, group_with, own_items, own_of, preceding, elem_own, elems_own, is_single, is_line, IsWell, AreWell, without_lines}
 use Rattle.bz_tree.specs.Statement.{segment_of, statement_with, IsStatementOf}
-use Rattle.bz_tree.specs.private.Steps.{Level, Levels, with_own, new_level, closed, next_at, next, finish, run}
+use Rattle.bz_tree.proofs.ByOwns.{Level, Levels, with_own, new_level, closed, next_at, next, finish, run}
 use Rattle.bz_tree.proofs.OneBracket.{inside_found}
 use Rattle.bz_tree.proofs.Complete.{after_all, top_found, statement_found}
 

@@ -50,14 +50,12 @@ abbrev pub is_for_item : Item → Bool
 is_for_item (leaf kind text place) = is_for_at kind text
 is_for_item (group kind segs one_comma end) = false
 
-abbrev pub is_for : Own → Bool
-is_for (node line x) = is_for_item x
-is_for (comma t) = false
-is_for (note line text) = false
-
+-- the keyword `for` stands before the first comma
 abbrev pub has_for : List Own → Bool
 has_for [] = false
-has_for (x ∷ xs) = is_for x || has_for xs
+has_for (node line x ∷ xs) = is_for_item x || has_for xs
+has_for (comma t ∷ xs) = false
+has_for (note line text ∷ xs) = has_for xs
 
 abbrev pub as_node : Own → Own
 as_node (comma t) = node t.line (leaf_of t)

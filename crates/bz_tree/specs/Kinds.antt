@@ -53,7 +53,8 @@ abbrev pub is_for_at : Kind → List ℕ → Bool
 is_for_at Word text = bytes_eq text (codes "for")
 is_for_at _ text = false
 
--- the kind of a bracket, by its shape, what it stands after, and whether `for` stands directly in it
+-- the kind of a bracket, by its shape, what it stands after, and whether it is a comprehension (Starlark specification, Comprehensions: one
+-- expression or entry, and then `for`)
 abbrev pub group_kind : Shape → Preceding → Bool → GroupKind
 group_kind Round Operand comp = Call
 group_kind Round LoadWord comp = Load

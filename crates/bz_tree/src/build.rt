@@ -1,22 +1,24 @@
 //! The walk over the tokens of a statement, with a stack of open brackets.
 
-ghost use Rattle.std.specs.Prelude.{◌≡◌, ◌+◌, ◌==◌, true, false, map, IfOk, OnOk, Some, None, [], ◌∷◌, option_map, ◌≤◌, IfSome};
+ghost use Rattle.std.specs.Prelude.{◌≡◌, ◌+◌, true, false, map, IfOk, OnOk, Some, None, [], ◌∷◌, option_map, ◌≤◌, IfSome};
 ghost use Rattle.std.specs.Bool.{then_some};
 ghost use Rattle.bz_token.specs.Places.{placed};
 ghost use Rattle.bz_tree.specs.View.{text_of, node_view, group_view, seg_view};
+ghost use Rattle.bz_tree.specs.Kinds.{group_kind, is_for_at};
 ghost use Rattle.bz_tree.specs.Owners.{node};
-ghost use Rattle.bz_tree.specs.declared.kinds.Mark.TheVariants.{Close};
-ghost use Rattle.bz_tree.specs.Brackets.{preceding, is_for, has_for};
+ghost use Rattle.bz_tree.specs.Brackets.{own_of};
+ghost use Rattle.bz_tree.specs.declared.kinds.Mark.TheVariants.{Close, Comma, Comment, Plain};
 ghost use Rattle.bz_tree.specs.Statement.{one_segment, segment_with};
-ghost use Rattle.bz_tree.specs.private.Steps.{own_view, owns_view, leaf_view, content_view, content, level, levels, with_own, new_level, closed, next, next_at, run, state};
+ghost use Rattle.bz_tree.specs.private.Steps.{leaf_view, content_view, so_far, done, has_one, kind_with, level, levels, with_own, new_level, closed, next, next_at, run, state};
 ghost use Rattle.bz_tree.specs.Borrowed.{owned, group_owned, seg_owned};
-ghost use Rattle.bz_tree.specs.private.BorrowedSteps.{own_owned, owns_owned, content_owned, frame_owned, state_owned};
+ghost use Rattle.bz_tree.specs.private.BorrowedSteps.{walk_owned, content_owned, frame_owned, state_owned};
 
 use crate::class::with_rule_call;
 use crate::kinds::{
-    Mark, Preceding, Shape, after_leaf, group_kind, is_for_leaf, is_one, mark_of, same_shape,
+    Mark, Preceding, Shape, after_leaf, as_comprehension, group_kind, is_for_leaf, is_one, mark_of,
+    same_shape, shape_of,
 };
-use crate::owners::{Content, Own, inside_of};
+use crate::owners::{Content, Walk};
 use crate::span::newlines;
 use crate::stmt::{Group, GroupKind, Leaf, Node, Seg};
 use bz_token::Token;
@@ -27,8 +29,9 @@ use std::mem;
 // A bracket that is still open, or the top.
 #[derive(Drop)]
 pub(crate) struct Frame<'a> {
-    pub(crate) shape: Option<Shape>,
-    pub(crate) owns: Vec<Own<'a>>,
+    // What the bracket is, by what stands in it so far; none at the top.
+    pub(crate) kind: Option<GroupKind>,
+    pub(crate) walk: Walk<'a>,
     pub(crate) at: Preceding,
 }
 
@@ -36,61 +39,6 @@ pub(crate) struct Frame<'a> {
 pub(crate) struct State<'a> {
     pub(crate) outer: Vec<Frame<'a>>,
     pub(crate) top: Frame<'a>,
-}
-
-#[inline(always)]
-fn after_own(at: Preceding, own: &Own<'_>) -> Preceding
-    ensures { result ≡ preceding at (own_view own.now) }
-{
-    match own {
-        Own::Node(Node::Token(leaf), _, _) => after_leaf(leaf),
-        Own::Node(Node::Group(_), _, _) => Preceding::Operand,
-        Own::Comma(_) => Preceding::Other,
-        Own::Note(_, _) => at,
-    }
-}
-
-#[inline(always)]
-fn is_for(own: &Own<'_>) -> bool
-    ensures { result ≡ is_for (own_view own.now) }
-{
-    match own {
-        Own::Node(Node::Token(leaf), _, _) => is_for_leaf(leaf),
-        _ => false,
-    }
-}
-
-fn has_for(owns: &[Own<'_>]) -> bool
-    ensures { result ≡ has_for (owns_view owns.now) }
-{
-    for own in owns {
-        if is_for(own) {
-            return true;
-        }
-    }
-    false
-}
-
-fn closed<'a>(
-    alloc: Global,
-    shape: Shape,
-    at: Preceding,
-    owns: Vec<Own<'a>>,
-) -> Result<Option<Group<'a>>, AllocError>
-    ensures value { IfOk result (λ o. option_map group_view o ≡ closed shape at (owns_view owns.entry.items)) }
-    ensures borrowed { IfOk result (λ o. IfSome o (λ g. group_owned g ≤ owns_owned owns.entry.items)) }
-{
-    let kind = group_kind(shape, at, has_for(&owns));
-    let Some(content) = inside_of(alloc, is_one(kind), owns)? else {
-        return Ok(None);
-    };
-    let one_comma = kind == GroupKind::Paren && content.segs.len() == 1 && content.trailing;
-    Ok(Some(Group {
-        kind,
-        segs: content.segs,
-        one_comma,
-        end: content.end,
-    }))
 }
 
 #[inline(always)]
@@ -107,26 +55,95 @@ fn leaf_of<'a>(token: &Token<'a>) -> Leaf<'a>
     }
 }
 
+// None: a segment is empty.
+fn closed<'a>(kind: GroupKind, walk: Walk<'a>) -> Result<Option<Group<'a>>, AllocError>
+    ensures value { IfOk result (λ o. option_map group_view o ≡ closed (Some kind) (so_far walk.entry)) }
+    ensures borrowed { IfOk result (λ o. IfSome o (λ g. group_owned g ≤ walk_owned walk.entry)) }
+{
+    let Some(content) = walk.finish()? else {
+        return Ok(None);
+    };
+    let one_comma = kind == GroupKind::Paren && content.segs.len() == 1 && content.trailing;
+    Ok(Some(Group {
+        kind,
+        segs: content.segs,
+        one_comma,
+        end: content.end,
+    }))
+}
+
 impl<'a> Frame<'a> {
     #[inline(always)]
-    fn new(alloc: Global, shape: Option<Shape>) -> Frame<'a>
-        ensures value { level result ≡ new_level shape }
+    fn new(alloc: Global, kind: Option<GroupKind>) -> Frame<'a>
+        ensures value { level result ≡ new_level kind }
         ensures borrowed { frame_owned result ≡ 0 }
     {
         Frame {
-            shape,
-            owns: Vec::new(alloc),
+            kind,
+            walk: Walk::new(alloc),
             at: Preceding::Other,
         }
     }
 
+    // The commas in it are nodes.
     #[inline(always)]
-    fn add(&mut self, own: Own<'a>) -> Result<(), AllocError>
-        ensures value { OnOk result (level self.new ≡ with_own (level self.old) (own_view own.entry)) }
-        ensures borrowed { OnOk result (frame_owned self.new ≤ frame_owned self.old + own_owned own.entry) }
+    fn is_one(&self) -> bool
+        ensures { result ≡ has_one self.now.kind }
     {
-        self.at = after_own(self.at, &own);
-        self.owns.push(own)?;
+        match self.kind {
+            None => true,
+            Some(kind) => is_one(kind),
+        }
+    }
+
+    // What the bracket is where this stands next in it.
+    #[inline(always)]
+    fn kind_with(&self, leaf: &Leaf<'_>) -> Option<GroupKind>
+        ensures { result ≡ kind_with (is_for_at leaf.now.kind (text_of leaf.now.text)) (so_far self.now.walk)
+            self.now.kind }
+    {
+        if is_for_leaf(leaf) && self.walk.is_in_first() {
+            as_comprehension(self.kind)
+        } else {
+            self.kind
+        }
+    }
+
+    #[inline(always)]
+    fn add_leaf(&mut self, token: &Token<'a>) -> Result<(), AllocError>
+        ensures value { OnOk result (level self.new ≡ with_own (level self.old) (own_of Plain (placed token.now))) }
+        ensures borrowed { OnOk result (frame_owned self.new ≤ frame_owned self.old) }
+    {
+        let leaf = leaf_of(token);
+        self.kind = self.kind_with(&leaf);
+        self.at = after_leaf(&leaf);
+        self.walk
+            .add_node(Node::Token(leaf), token.line, newlines(token.text))?;
+        Ok(())
+    }
+
+    #[inline(always)]
+    fn add_comma(&mut self, alloc: Global, token: &Token<'a>) -> Result<(), AllocError>
+        ensures value { OnOk result (level self.new ≡ with_own (level self.old) (own_of Comma (placed token.now))) }
+        ensures borrowed { OnOk result (frame_owned self.new ≤ frame_owned self.old) }
+    {
+        self.at = Preceding::Other;
+        if self.is_one() {
+            self.walk
+                .add_node(Node::Token(leaf_of(token)), token.line, 0)?;
+        } else {
+            self.walk.add_comma(alloc, token.line)?;
+        }
+        Ok(())
+    }
+
+    #[inline(always)]
+    fn add_comment(&mut self, token: &Token<'a>) -> Result<(), AllocError>
+        ensures value { OnOk result (level self.new ≡ with_own (level self.old) (own_of Comment (placed token.now))) }
+        ensures borrowed { OnOk result (frame_owned self.new ≤ frame_owned self.old) }
+    {
+        self.walk
+            .add_comment(token.line, CowStr::Borrowed(token.text))?;
         Ok(())
     }
 
@@ -135,40 +152,46 @@ impl<'a> Frame<'a> {
         ensures value { OnOk result (level self.new ≡ with_own (level self.old) (node line (group_view group.entry))) }
         ensures borrowed { OnOk result (frame_owned self.new ≤ frame_owned self.old + group_owned group.entry) }
     {
-        self.add(Own::Node(Node::Group(group), line, 0))
+        self.at = Preceding::Operand;
+        self.walk.add_node(Node::Group(group), line, 0)?;
+        Ok(())
     }
 }
 
 impl<'a> State<'a> {
     #[inline(always)]
     fn open(&mut self, alloc: Global, shape: Shape) -> Result<(), AllocError>
-        ensures value { OnOk result (state self.new
-            ≡ (new_level (Some shape), level self.old.top ∷ levels self.old.outer.items)) }
+        ensures value { OnOk result (state self.new ≡ (
+          new_level (Some (group_kind shape self.old.top.at false)),
+          level self.old.top ∷ levels self.old.outer.items,
+        )) }
         ensures borrowed { OnOk result (state_owned self.new ≤ state_owned self.old) }
     {
-        let frame = Frame::new(alloc, Some(shape));
+        let frame = Frame::new(alloc, Some(group_kind(shape, self.top.at, false)));
         self.outer.push(mem::replace(&mut self.top, frame))?;
         Ok(())
     }
 
     // False: no bracket of this shape is open, or a segment is empty.
-    fn close(&mut self, alloc: Global, shape: Shape, token: &Token<'a>) -> Result<bool, AllocError>
+    fn close(&mut self, shape: Shape, token: &Token<'a>) -> Result<bool, AllocError>
         ensures value { IfOk result (λ some. then_some some (state self.new)
             ≡ next_at (Close shape) (placed token.now) (level self.old.top) (levels self.old.outer.items)) }
         ensures borrowed { OnOk result (state_owned self.new ≤ state_owned self.old) }
     {
-        let Some(mut below) = self.outer.pop() else {
+        let Some(below) = self.outer.pop() else {
             return Ok(false);
         };
-        if !same_shape(self.top.shape, shape) {
+        let Frame { kind, walk, .. } = mem::replace(&mut self.top, below);
+        let Some(kind) = kind else {
+            return Ok(false);
+        };
+        if !same_shape(shape_of(kind), shape) {
             return Ok(false);
         }
-        let owns = mem::replace(&mut self.top.owns, Vec::new(alloc));
-        let Some(group) = closed(alloc, shape, below.at, owns)? else {
+        let Some(group) = closed(kind, walk)? else {
             return Ok(false);
         };
-        below.add_group(group, token.line)?;
-        self.top = below;
+        self.top.add_group(group, token.line)?;
         Ok(true)
     }
 
@@ -181,17 +204,11 @@ impl<'a> State<'a> {
     {
         match mark_of(token) {
             Mark::NewLine => {}
-            Mark::Plain => {
-                let node = Node::Token(leaf_of(token));
-                self.top
-                    .add(Own::Node(node, token.line, newlines(token.text)))?;
-            }
-            Mark::Comma => self.top.add(Own::Comma(leaf_of(token)))?,
-            Mark::Comment => self
-                .top
-                .add(Own::Note(token.line, CowStr::Borrowed(token.text)))?,
+            Mark::Plain => self.top.add_leaf(token)?,
+            Mark::Comma => self.top.add_comma(alloc, token)?,
+            Mark::Comment => self.top.add_comment(token)?,
             Mark::Open(shape) => self.open(alloc, shape)?,
-            Mark::Close(shape) => return self.close(alloc, shape, token),
+            Mark::Close(shape) => return self.close(shape, token),
         }
         Ok(true)
     }
@@ -219,12 +236,12 @@ fn one_segment<'a>(alloc: Global, content: Content<'a>) -> Result<Seg<'a>, Alloc
     Ok(seg)
 }
 
-fn statement<'a>(alloc: Global, owns: Vec<Own<'a>>) -> Result<Option<Seg<'a>>, AllocError>
+fn statement<'a>(alloc: Global, walk: Walk<'a>) -> Result<Option<Seg<'a>>, AllocError>
     ensures value { IfOk result
-        (λ o. option_map seg_view o ≡ option_map segment_with (content true (owns_view owns.entry.items))) }
-    ensures borrowed { IfOk result (λ o. IfSome o (λ s. seg_owned s ≤ owns_owned owns.entry.items)) }
+        (λ o. option_map seg_view o ≡ option_map segment_with (option_map done (so_far walk.entry))) }
+    ensures borrowed { IfOk result (λ o. IfSome o (λ s. seg_owned s ≤ walk_owned walk.entry)) }
 {
-    let Some(content) = inside_of(alloc, true, owns)? else {
+    let Some(content) = walk.finish()? else {
         return Ok(None);
     };
     let seg = one_segment(alloc, content)?;
@@ -246,8 +263,8 @@ pub(crate) fn run<'a>(alloc: Global, tokens: &[Token<'a>]) -> Result<Option<Seg<
         }
     }
     let State { outer, top } = state;
-    if top.shape.is_some() || !outer.is_empty() {
+    if top.kind.is_some() || !outer.is_empty() {
         return Ok(None);
     }
-    statement(alloc, top.owns)
+    statement(alloc, top.walk)
 }

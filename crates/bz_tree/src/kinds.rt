@@ -1,9 +1,10 @@
 //! What a token is to the brackets, and what kind of group a bracket is.
 
-ghost use Rattle.std.specs.Prelude.{◌≡◌};
+ghost use Rattle.std.specs.Prelude.{◌≡◌, Some};
 ghost use Rattle.bz_token.specs.Places.{placed};
 ghost use Rattle.bz_tree.specs.View.{text_of};
 ghost use Rattle.bz_tree.specs.Kinds.{mark_of, kind_after, is_for_at, group_kind, is_one, same_shape};
+ghost use Rattle.bz_tree.specs.private.Steps.{shape_of, as_comprehension};
 
 use crate::stmt::{GroupKind, Leaf};
 use bz_token::{Kind, Token};
@@ -58,14 +59,36 @@ pub(crate) fn mark_of(token: &Token<'_>) -> Mark
 }
 
 #[inline(always)]
-pub(crate) fn same_shape(opened: Option<Shape>, shape: Shape) -> bool
-    ensures { result ≡ same_shape opened shape }
+pub(crate) fn same_shape(opened: Shape, shape: Shape) -> bool
+    ensures { result ≡ same_shape (Some opened) shape }
 {
     match (opened, shape) {
-        (Some(Shape::Round), Shape::Round) => true,
-        (Some(Shape::Square), Shape::Square) => true,
-        (Some(Shape::Curly), Shape::Curly) => true,
+        (Shape::Round, Shape::Round) => true,
+        (Shape::Square, Shape::Square) => true,
+        (Shape::Curly, Shape::Curly) => true,
         _ => false,
+    }
+}
+
+/// The shape of a group's bracket.
+pub(crate) fn shape_of(kind: GroupKind) -> Shape
+    ensures { result ≡ shape_of kind }
+{
+    match kind {
+        GroupKind::Call | GroupKind::RuleCall | GroupKind::Load | GroupKind::Paren => Shape::Round,
+        GroupKind::List | GroupKind::Index | GroupKind::ListComp => Shape::Square,
+        GroupKind::Dict | GroupKind::DictComp => Shape::Curly,
+    }
+}
+
+/// What a bracket is once `for` stands in its first segment.
+pub(crate) fn as_comprehension(kind: Option<GroupKind>) -> Option<GroupKind>
+    ensures { result ≡ as_comprehension kind }
+{
+    match kind {
+        Some(GroupKind::List) => Some(GroupKind::ListComp),
+        Some(GroupKind::Dict) => Some(GroupKind::DictComp),
+        _ => kind,
     }
 }
 

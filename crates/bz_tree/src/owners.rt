@@ -1,27 +1,17 @@
 //! The segments of one bracket, and the owners of the comments that stand in it.
 
-ghost use Rattle.std.specs.Prelude.{◌≡◌, ◌+◌, ◌++◌, ◌==◌, true, false, map, IfOk, OnOk, Some, None, option_map, ◌≤◌, IfSome};
-ghost use Rattle.std.specs.Bool.{then_some};
+ghost use Rattle.std.specs.Prelude.{◌≡◌, ◌+◌, ◌++◌, ◌==◌, true, false, map, IfOk, OnOk, Some, None, option_map, option_and_then, ◌≤◌, IfSome};
 ghost use Rattle.bz_tree.specs.View.{text_of, texts, node_view, seg_view};
-ghost use Rattle.bz_tree.specs.Brackets.{own_item};
-ghost use Rattle.bz_tree.specs.private.Steps.{walked, texts_of, own_view, owns_view, content_view, at_start, after_node, after_comma, after_note, after, done, content, add_beside, to_last};
+ghost use Rattle.bz_tree.specs.private.Steps.{walked, so_far, is_in_first, texts_of, content_view, at_start, after_node, after_comma, after_note, done, add_beside, to_last};
 ghost use Rattle.bz_tree.specs.Borrowed.{owned, owned_in, owned_of, node_owned, seg_owned};
-ghost use Rattle.bz_tree.specs.private.BorrowedSteps.{segs_owned, own_owned, owns_owned, walk_owned, content_owned};
+ghost use Rattle.bz_tree.specs.private.BorrowedSteps.{segs_owned, walk_owned, content_owned};
 
 use crate::stmt::{Leaf, Node, Seg};
 use std::alloc::{AllocError, Global};
 use std::borrow::CowStr;
 use std::mem;
 
-// What stands in a bracket itself. A node has the line on which it begins, and how many lines later it ends.
-#[derive(Drop)]
-pub(crate) enum Own<'a> {
-    Node(Node<'a>, u64, u64),
-    Comma(Leaf<'a>),
-    Note(u64, CowStr<'a>),
-}
-
-// What stands directly before a comment.
+// What stands directly before a comment. A node has the line on which it begins, and how many lines later it ends.
 #[derive(Clone, Copy)]
 pub(crate) enum Before {
     Nothing,
@@ -40,6 +30,8 @@ pub(crate) struct Walk<'a> {
     pub(crate) after: Vec<CowStr<'a>>,
     pub(crate) last: Before,
     pub(crate) trailing: bool,
+    // No segment is empty.
+    pub(crate) whole: bool,
 }
 
 #[derive(Drop)]
@@ -108,8 +100,8 @@ fn ends_on(line: u64, newlines: u64, at: u64) -> bool
 
 impl<'a> Walk<'a> {
     #[inline(always)]
-    fn new(alloc: Global) -> Walk<'a>
-        ensures value { walked result ≡ at_start }
+    pub(crate) fn new(alloc: Global) -> Walk<'a>
+        ensures value { so_far result ≡ Some at_start }
         ensures borrowed { walk_owned result ≡ 0 }
     {
         Walk {
@@ -120,13 +112,28 @@ impl<'a> Walk<'a> {
             after: Vec::new(alloc),
             last: Before::Nothing,
             trailing: false,
+            whole: true,
         }
     }
 
+    // No comma was met.
     #[inline(always)]
-    fn add_node(&mut self, node: Node<'a>, line: u64, newlines: u64) -> Result<(), AllocError>
+    pub(crate) fn is_in_first(&self) -> bool
+        ensures { result ≡ is_in_first (so_far self.now) }
+    {
+        self.whole && self.segs.is_empty()
+    }
+
+    #[inline(always)]
+    pub(crate) fn add_node(
+        &mut self,
+        node: Node<'a>,
+        line: u64,
+        newlines: u64,
+    ) -> Result<(), AllocError>
         ensures value { OnOk result (walked self.new
             ≡ after_node (line + newlines) (node_view node.entry) (walked self.old)) }
+        ensures whole { self.new.whole ≡ self.old.whole }
         ensures borrowed { OnOk result (walk_owned self.new ≤ walk_owned self.old + node_owned node.entry) }
     {
         self.nodes.push(node)?;
@@ -137,13 +144,13 @@ impl<'a> Walk<'a> {
         Ok(())
     }
 
-    // False: the segment is empty.
-    fn add_comma(&mut self, alloc: Global, line: u64) -> Result<bool, AllocError>
-        ensures value { IfOk result (λ some. then_some some (walked self.new) ≡ after_comma line (walked self.old)) }
+    pub(crate) fn add_comma(&mut self, alloc: Global, line: u64) -> Result<(), AllocError>
+        ensures value { OnOk result (so_far self.new ≡ option_and_then (after_comma line) (so_far self.old)) }
         ensures borrowed { OnOk result (walk_owned self.new ≤ walk_owned self.old) }
     {
         if self.nodes.is_empty() {
-            return Ok(false);
+            self.whole = false;
+            return Ok(());
         }
         self.before.append(&mut self.after)?;
         self.segs.push(Seg {
@@ -153,11 +160,12 @@ impl<'a> Walk<'a> {
         })?;
         self.last = Before::Comma(line);
         self.trailing = true;
-        Ok(true)
+        Ok(())
     }
 
-    fn add_comment(&mut self, line: u64, text: CowStr<'a>) -> Result<(), AllocError>
+    pub(crate) fn add_comment(&mut self, line: u64, text: CowStr<'a>) -> Result<(), AllocError>
         ensures value { OnOk result (walked self.new ≡ after_note line (text_of text.entry) (walked self.old)) }
+        ensures whole { self.new.whole ≡ self.old.whole }
         ensures borrowed { OnOk result (walk_owned self.new ≤ walk_owned self.old + owned text.entry) }
     {
         match mem::replace(&mut self.last, Before::Nothing) {
@@ -173,30 +181,10 @@ impl<'a> Walk<'a> {
         }
     }
 
-    // A comma where all is one segment is a node. False: a segment is empty.
-    #[inline(always)]
-    fn add(&mut self, alloc: Global, own: Own<'a>, one: bool) -> Result<bool, AllocError>
-        ensures value { IfOk result (λ some. then_some some (walked self.new)
-            ≡ after (own_item one (own_view own.entry)) (walked self.old)) }
-        ensures borrowed { OnOk result (walk_owned self.new ≤ walk_owned self.old + own_owned own.entry) }
-    {
-        match own {
-            Own::Node(node, line, newlines) => self.add_node(node, line, newlines)?,
-            Own::Note(line, text) => self.add_comment(line, text)?,
-            Own::Comma(leaf) => {
-                let line = leaf.line;
-                if !one {
-                    return self.add_comma(alloc, line);
-                }
-                self.add_node(Node::Token(leaf), line, 0)?;
-            }
-        }
-        Ok(true)
-    }
-
-    fn finish(self) -> Result<Content<'a>, AllocError>
-        ensures value { IfOk result (λ c. content_view c ≡ done (walked self.entry)) }
-        ensures borrowed { IfOk result (λ c. content_owned c ≤ walk_owned self.entry) }
+    // None: a segment is empty.
+    pub(crate) fn finish(self) -> Result<Option<Content<'a>>, AllocError>
+        ensures value { IfOk result (λ o. option_map content_view o ≡ option_map done (so_far self.entry)) }
+        ensures borrowed { IfOk result (λ o. IfSome o (λ c. content_owned c ≤ walk_owned self.entry)) }
     {
         let Walk {
             mut segs,
@@ -206,41 +194,27 @@ impl<'a> Walk<'a> {
             after,
             last: _,
             trailing,
+            whole,
         } = self;
+        if !whole {
+            return Ok(None);
+        }
         if nodes.is_empty() {
-            return Ok(Content {
+            return Ok(Some(Content {
                 segs,
                 trailing,
                 end: after,
-            });
+            }));
         }
         segs.push(Seg {
             before,
             nodes,
             suffix,
         })?;
-        Ok(Content {
+        Ok(Some(Content {
             segs,
             trailing,
             end: after,
-        })
+        }))
     }
-}
-
-// The inside of a bracket. None: a segment is empty.
-pub(crate) fn inside_of<'a>(
-    alloc: Global,
-    one: bool,
-    owns: Vec<Own<'a>>,
-) -> Result<Option<Content<'a>>, AllocError>
-    ensures value { IfOk result (λ o. option_map content_view o ≡ content one (owns_view owns.entry.items)) }
-    ensures borrowed { IfOk result (λ o. IfSome o (λ c. content_owned c ≤ owns_owned owns.entry.items)) }
-{
-    let mut walk = Walk::new(alloc);
-    for own in owns {
-        if !walk.add(alloc, own, one)? {
-            return Ok(None);
-        }
-    }
-    Ok(Some(walk.finish()?))
 }

@@ -1,28 +1,18 @@
 -- For private clauses: how many texts are owned in the walk over one bracket and in the stack of open brackets.
 use Rattle.std.specs.Prelude.{ℕ, ◌+◌, List, map}
-use Rattle.bz_tree.specs.declared.owners.Own.{Own}
-use Rattle.bz_tree.specs.declared.owners.Own.TheVariants.{Node as OwnNode, Comma as OwnComma, Note as OwnNote}
 use Rattle.bz_tree.specs.declared.owners.Walk.{Walk}
 use Rattle.bz_tree.specs.declared.owners.Content.{Content}
 use Rattle.bz_tree.specs.declared.build.Frame.{Frame}
 use Rattle.bz_tree.specs.declared.build.State.{State}
 use Rattle.bz_tree.specs.declared.stmt.Node.{Node}
 use Rattle.bz_tree.specs.declared.stmt.Seg.{Seg}
-use Rattle.bz_tree.specs.Borrowed.{total, owned, owned_in, owned_of, node_owned, seg_owned}
+use Rattle.bz_tree.specs.Borrowed.{total, owned_in, owned_of, node_owned, seg_owned}
 
 abbrev pub nodes_owned : List Node → ℕ
 nodes_owned ns = total (map node_owned ns)
 
 abbrev pub segs_owned : List Seg → ℕ
 segs_owned ss = total (map seg_owned ss)
-
-abbrev pub own_owned : Own → ℕ
-own_owned (OwnNode n line newlines) = node_owned n
-own_owned (OwnComma t) = owned t.text
-own_owned (OwnNote line text) = owned text
-
-abbrev pub owns_owned : List Own → ℕ
-owns_owned os = total (map own_owned os)
 
 abbrev pub walk_owned : Walk → ℕ
 walk_owned w = segs_owned w.segs.items + owned_in w.before.items + nodes_owned w.nodes.items + owned_of w.suffix + owned_in w.after.items
@@ -31,7 +21,7 @@ abbrev pub content_owned : Content → ℕ
 content_owned c = segs_owned c.segs.items + owned_in c.end.items
 
 abbrev pub frame_owned : Frame → ℕ
-frame_owned f = owns_owned f.owns.items
+frame_owned f = walk_owned f.walk
 
 abbrev pub state_owned : State → ℕ
 state_owned s = frame_owned s.top + total (map frame_owned s.outer.items)

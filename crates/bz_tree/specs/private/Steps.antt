@@ -1,14 +1,15 @@
 -- For private clauses: the walk over what stands in one bracket, and the walk over the tokens with a stack of open brackets.
-use Rattle.std.specs.Prelude.{ℕ, ◌+◌, List, [], ◌∷◌, ◌++◌, map, reverse, Bool, true, false, if◌then◌else◌, Option, Some, None, option_map, option_and_then}
+use Rattle.std.specs.Prelude.{ℕ, ◌+◌, List, [], ◌∷◌, ◌++◌, map, reverse, Bool, true, false, not, ◌&&◌, if◌then◌else◌, Option, Some, None, option_map, option_and_then}
+use Rattle.bz_tree.specs.declared.stmt.GroupKind.{GroupKind}
+use Rattle.bz_tree.specs.declared.stmt.GroupKind.TheVariants.{Call, RuleCall, Load, Paren, List as ListKind, Index, Dict, ListComp, DictComp}
 use Rattle.bz_tree.specs.declared.kinds.Shape.{Shape}
+use Rattle.bz_tree.specs.declared.kinds.Shape.TheVariants.{Round, Square, Curly}
 use Rattle.bz_tree.specs.declared.kinds.Mark.{Mark}
 use Rattle.bz_tree.specs.declared.kinds.Mark.TheVariants.{Open, Close, NewLine}
 use Rattle.bz_tree.specs.declared.kinds.Preceding.{Preceding}
 use Rattle.bz_tree.specs.declared.kinds.Preceding.TheVariants.{Other}
 use Rattle.bz_tree.specs.declared.owners.Before.{Before}
 use Rattle.bz_tree.specs.declared.owners.Before.TheVariants.{Nothing, Node as BeforeNode, Comma as BeforeComma}
-use Rattle.bz_tree.specs.declared.owners.Own.{Own as OwnValue}
-use Rattle.bz_tree.specs.declared.owners.Own.TheVariants.{Node as OwnNode, Comma as OwnComma, Note as OwnNote}
 use Rattle.bz_tree.specs.declared.owners.Walk.{Walk}
 use Rattle.bz_tree.specs.declared.class.Phase.{Phase}
 use Rattle.bz_tree.specs.declared.class.Phase.TheVariants.{Name, Join, End}
@@ -20,8 +21,8 @@ use Rattle.bz_tree.specs.declared.stmt.Leaf.{Leaf}
 use Rattle.bz_tree.specs.Tree.{Item, Segment}
 use Rattle.bz_tree.specs.View.{text_of, texts, node_view, seg_view}
 use Rattle.bz_tree.specs.Kinds.{mark_of, is_one, group_kind, same_shape}
-use Rattle.bz_tree.specs.Owners.{Own, node, comma, note, Last, no_token, end_of_node, end_of_comma, is_on, Inside}
-use Rattle.bz_tree.specs.Brackets.{own_items, own_of, preceding, has_for, group_with}
+use Rattle.bz_tree.specs.Owners.{Own, node, comma, note, Last, no_token, end_of_node, end_of_comma, is_on, Inside, is_filled}
+use Rattle.bz_tree.specs.Brackets.{leaf_of, own_of, preceding, is_for_item, group_with}
 use Rattle.bz_tree.specs.Statement.{segment_with, is_rule, is_rule_after, is_nothing}
 
 -- One bracket: the segments that are done, and of the segment here its nodes, the comments before its last node, its suffix so far, the comments after that.
@@ -49,14 +50,6 @@ last_view (BeforeComma line) = end_of_comma line
 
 abbrev pub walked : Walk → Walked
 walked w = record { segs = map seg_view w.segs.items; before = texts w.before.items; nodes = map node_view w.nodes.items; suffix = option_map text_of w.suffix; after = texts w.after.items; last = last_view w.last; trailing = w.trailing }
-
-abbrev pub own_view : OwnValue → Own
-own_view (OwnNode n line newlines) = node (line + newlines) (node_view n)
-own_view (OwnComma t) = comma (leaf_view t)
-own_view (OwnNote line text) = note line (text_of text)
-
-abbrev pub owns_view : List OwnValue → List Own
-owns_view os = map own_view os
 
 abbrev pub content_view : Content → Inside
 content_view c = record { segs = map seg_view c.segs.items; trailing = c.trailing; end = texts c.end.items }
@@ -104,11 +97,6 @@ noted last on text w = alone text w
 abbrev pub after_note : ℕ → List ℕ → Walked → Walked
 after_note line text w = noted w.last (is_on w.last line) text w
 
-abbrev pub after : Own → Walked → Option Walked
-after (node line x) w = Some (after_node line x w)
-after (comma t) w = after_comma t.line w
-after (note line text) w = Some (after_note line text w)
-
 abbrev pub done : Walked → Inside
 done w = at_end w.nodes
   where
@@ -116,22 +104,61 @@ done w = at_end w.nodes
     at_end [] = record { segs = w.segs; trailing = w.trailing; end = w.after }
     at_end (x ∷ xs) = record { segs = w.segs ++ record { before = w.before; nodes = x ∷ xs; suffix = w.suffix } ∷ []; trailing = w.trailing; end = w.after }
 
-abbrev pub walk : Walked → List Own → Option Inside
-walk w [] = Some (done w)
-walk w (x ∷ xs) = option_and_then (λ v. walk v xs) (after x w)
+-- what was walked over, unless a segment is empty
+abbrev pub so_far : Walk → Option Walked
+so_far w = if w.whole then Some (walked w) else None
 
--- the inside of a bracket, unless a segment is empty
-abbrev pub content : Bool → List Own → Option Inside
-content one owns = walk at_start (own_items one owns)
+-- no comma was met
+abbrev pub is_in_first : Option Walked → Bool
+is_in_first None = false
+is_in_first (Some w) = not (is_filled w.segs)
 
--- The stack of open brackets.
+abbrev pub shape_of : GroupKind → Shape
+shape_of Call = Round
+shape_of RuleCall = Round
+shape_of Load = Round
+shape_of Paren = Round
+shape_of ListKind = Square
+shape_of Index = Square
+shape_of ListComp = Square
+shape_of Dict = Curly
+shape_of DictComp = Curly
+
+-- what a bracket is once `for` stands in its first segment
+abbrev pub as_comprehension : Option GroupKind → Option GroupKind
+as_comprehension (Some ListKind) = Some ListComp
+as_comprehension (Some Dict) = Some DictComp
+as_comprehension kind = kind
+
+-- its commas are nodes, as at the top
+abbrev pub has_one : Option GroupKind → Bool
+has_one None = true
+has_one (Some kind) = is_one kind
+
+-- what a bracket is after one more thing, which may be `for`
+abbrev pub kind_with : Bool → Option Walked → Option GroupKind → Option GroupKind
+kind_with is_for w kind = if is_for && is_in_first w then as_comprehension kind else kind
+
+abbrev pub is_for : Own → Bool
+is_for (node line x) = is_for_item x
+is_for (comma t) = false
+is_for (note line text) = false
+
+-- one more thing, unless a segment is empty; where all is one segment, a comma is a node
+abbrev pub after_own : Bool → Own → Option Walked → Option Walked
+after_own one (node line x) w = option_map (after_node line x) w
+after_own one (note line text) w = option_map (after_note line text) w
+after_own true (comma t) w = option_map (after_node t.line (leaf_of t)) w
+after_own false (comma t) w = option_and_then (after_comma t.line) w
+
+-- The stack of open brackets: what each is so far (nothing at the top), the walk over it, and what stands directly before what comes next.
 pub record Level : Type 0 where
-  pub shape : Option Shape
-  pub owns : List Own
+  pub kind : Option GroupKind
+  pub walked : Option Walked
   pub at : Preceding
 
 abbrev pub level : Frame → Level
-level f = record { shape = f.shape; owns = owns_view f.owns.items; at = f.at }
+level f = record { kind = f.kind; walked = so_far f.walk; at = f.at }
 
 -- the innermost first
 abbrev pub levels : List Frame → List Level
@@ -141,32 +168,37 @@ abbrev pub Levels : Type 0
 Levels = Level × List Level
 
 abbrev pub with_own : Level → Own → Level
-with_own l own = record { shape = l.shape; owns = l.owns ++ own ∷ []; at = preceding l.at own }
+with_own l own = record {
+  kind = kind_with (is_for own) l.walked l.kind;
+  walked = after_own (has_one l.kind) own l.walked;
+  at = preceding l.at own;
+}
 
-abbrev pub new_level : Option Shape → Level
-new_level shape = record { shape = shape; owns = []; at = Other }
+abbrev pub new_level : Option GroupKind → Level
+new_level kind = record { kind = kind; walked = Some at_start; at = Other }
 
 -- the group of a bracket that is closed
-abbrev pub closed : Shape → Preceding → List Own → Option Item
-closed shape b owns = let kind = group_kind shape b (has_for owns) in option_map (group_with kind) (content (is_one kind) owns)
+abbrev pub closed : Option GroupKind → Option Walked → Option Item
+closed None w = None
+closed (Some kind) w = option_map (group_with kind) (option_map done w)
 
 abbrev pub next_at : Mark → Placed → Level → List Level → Option Levels
 next_at NewLine t top outer = Some (top, outer)
-next_at (Open shape) t top outer = Some (new_level (Some shape), top ∷ outer)
+next_at (Open shape) t top outer = Some (new_level (Some (group_kind shape top.at false)), top ∷ outer)
 next_at (Close shape) t top [] = None
 next_at (Close shape) t top (below ∷ outer) =
-    if same_shape top.shape shape then option_map (λ g. (with_own below (node t.line g), outer)) (closed shape below.at top.owns) else None
+    if same_shape (option_map shape_of top.kind) shape then option_map (λ g. (with_own below (node t.line g), outer)) (closed top.kind top.walked) else None
 next_at m t top outer = Some (with_own top (own_of m t), outer)
 
 abbrev pub next : Placed → Levels → Option Levels
 next t ls = next_at (mark_of t) t ls.0 ls.1
 
-abbrev pub finish : Option Shape → List Own → List Level → Option Segment
-finish None owns [] = option_map segment_with (content true owns)
-finish _ owns outer = None
+abbrev pub finish : Option GroupKind → Option Walked → List Level → Option Segment
+finish None w [] = option_map segment_with (option_map done w)
+finish _ w outer = None
 
 abbrev pub run : Level → List Level → List Placed → Option Segment
-run top outer [] = finish top.shape top.owns outer
+run top outer [] = finish top.kind top.walked outer
 run top outer (t ∷ ts) = option_and_then (λ ls. run ls.0 ls.1 ts) (next t (top, outer))
 
 abbrev pub state : State → Levels

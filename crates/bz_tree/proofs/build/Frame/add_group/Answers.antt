@@ -1,0 +1,7 @@
+use Rattle.bz_tree.proofs.Walking.{group_added}
+use Rattle.bz_tree.proofs.build.Frame.add_group.Goals as goal
+
+pub returns-clause-value : goal.returns-clause-value
+returns-clause-value c =
+    let f = c.args.self.now in
+    group_added f.kind f.walk c.add_node.new.self f.at c.args.line c.args.group c.in_ok-add_node.ensures.value c.add_node.ensures.whole
