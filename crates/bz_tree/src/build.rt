@@ -19,7 +19,6 @@ use crate::kinds::{
     same_shape, shape_of,
 };
 use crate::owners::{Content, Walk};
-use crate::span::newlines;
 use crate::stmt::{Group, GroupKind, Leaf, Node, Seg};
 use bz_token::Token;
 use std::alloc::{AllocError, Global};
@@ -72,6 +71,15 @@ fn closed<'a>(kind: GroupKind, walk: Walk<'a>) -> Result<Option<Group<'a>>, Allo
     }))
 }
 
+// A segment ends before this token.
+#[inline(always)]
+fn ends_segment(following: Option<&Token<'_>>) -> bool {
+    match following {
+        Some(token) => matches!(mark_of(token), Mark::Comma | Mark::Close(_)),
+        None => false,
+    }
+}
+
 impl<'a> Frame<'a> {
     #[inline(always)]
     fn new(alloc: Global, kind: Option<GroupKind>) -> Frame<'a>
@@ -109,16 +117,22 @@ impl<'a> Frame<'a> {
         }
     }
 
+    // The token that follows tells whether this one is a segment alone.
     #[inline(always)]
-    fn add_leaf(&mut self, token: &Token<'a>) -> Result<(), AllocError>
+    fn add_leaf(
+        &mut self,
+        token: &Token<'a>,
+        following: Option<&Token<'a>>,
+    ) -> Result<(), AllocError>
         ensures value { OnOk result (level self.new ≡ with_own (level self.old) (own_of Plain (placed token.now))) }
         ensures borrowed { OnOk result (frame_owned self.new ≤ frame_owned self.old) }
     {
         let leaf = leaf_of(token);
         self.kind = self.kind_with(&leaf);
         self.at = after_leaf(&leaf);
+        self.walk.reserve(ends_segment(following))?;
         self.walk
-            .add_node(Node::Token(leaf), token.line, newlines(token.text))?;
+            .add_node(Node::Token(leaf), token.line, token.text)?;
         Ok(())
     }
 
@@ -130,7 +144,7 @@ impl<'a> Frame<'a> {
         self.at = Preceding::Other;
         if self.is_one() {
             self.walk
-                .add_node(Node::Token(leaf_of(token)), token.line, 0)?;
+                .add_node(Node::Token(leaf_of(token)), token.line, "")?;
         } else {
             self.walk.add_comma(alloc, token.line)?;
         }
@@ -153,7 +167,7 @@ impl<'a> Frame<'a> {
         ensures borrowed { OnOk result (frame_owned self.new ≤ frame_owned self.old + group_owned group.entry) }
     {
         self.at = Preceding::Operand;
-        self.walk.add_node(Node::Group(group), line, 0)?;
+        self.walk.add_node(Node::Group(group), line, "")?;
         Ok(())
     }
 }
@@ -197,14 +211,19 @@ impl<'a> State<'a> {
 
     // False: there is no tree.
     #[inline(always)]
-    fn step(&mut self, alloc: Global, token: &Token<'a>) -> Result<bool, AllocError>
+    fn step(
+        &mut self,
+        alloc: Global,
+        token: &Token<'a>,
+        following: Option<&Token<'a>>,
+    ) -> Result<bool, AllocError>
         ensures value { IfOk result (λ some. then_some some (state self.new)
             ≡ next (placed token.now) (state self.old)) }
         ensures borrowed { OnOk result (state_owned self.new ≤ state_owned self.old) }
     {
         match mark_of(token) {
             Mark::NewLine => {}
-            Mark::Plain => self.top.add_leaf(token)?,
+            Mark::Plain => self.top.add_leaf(token, following)?,
             Mark::Comma => self.top.add_comma(alloc, token)?,
             Mark::Comment => self.top.add_comment(token)?,
             Mark::Open(shape) => self.open(alloc, shape)?,
@@ -257,8 +276,8 @@ pub(crate) fn run<'a>(alloc: Global, tokens: &[Token<'a>]) -> Result<Option<Seg<
         outer: Vec::new(alloc),
         top: Frame::new(alloc, None),
     };
-    for token in tokens {
-        if !state.step(alloc, token)? {
+    for i in 0..tokens.len() {
+        if !state.step(alloc, &tokens[i], tokens.get(i + 1))? {
             return Ok(None);
         }
     }

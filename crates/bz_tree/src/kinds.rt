@@ -3,7 +3,7 @@
 ghost use Rattle.std.specs.Prelude.{◌≡◌, Some};
 ghost use Rattle.bz_token.specs.Places.{placed};
 ghost use Rattle.bz_tree.specs.View.{text_of};
-ghost use Rattle.bz_tree.specs.Kinds.{mark_of, kind_after, is_for_at, group_kind, is_one, same_shape};
+ghost use Rattle.bz_tree.specs.Kinds.{mark_of, sign_mark, kind_after, is_for_at, group_kind, is_one, same_shape};
 ghost use Rattle.bz_tree.specs.private.Steps.{shape_of, as_comprehension};
 
 use crate::stmt::{GroupKind, Leaf};
@@ -44,16 +44,27 @@ pub(crate) fn mark_of(token: &Token<'_>) -> Mark
     match token.kind {
         Kind::Note => Mark::Comment,
         Kind::Line => Mark::NewLine,
-        Kind::Sign => match token.text {
-            "(" => Mark::Open(Shape::Round),
-            "[" => Mark::Open(Shape::Square),
-            "{" => Mark::Open(Shape::Curly),
-            ")" => Mark::Close(Shape::Round),
-            "]" => Mark::Close(Shape::Square),
-            "}" => Mark::Close(Shape::Curly),
-            "," => Mark::Comma,
-            _ => Mark::Plain,
-        },
+        Kind::Sign => sign_mark(token.text),
+        _ => Mark::Plain,
+    }
+}
+
+#[inline(always)]
+fn sign_mark(text: &str) -> Mark
+    ensures { result ≡ sign_mark text.now }
+{
+    let bytes = text.as_bytes();
+    if bytes.len() != 1 {
+        return Mark::Plain;
+    }
+    match bytes[0] {
+        b'(' => Mark::Open(Shape::Round),
+        b'[' => Mark::Open(Shape::Square),
+        b'{' => Mark::Open(Shape::Curly),
+        b')' => Mark::Close(Shape::Round),
+        b']' => Mark::Close(Shape::Square),
+        b'}' => Mark::Close(Shape::Curly),
+        b',' => Mark::Comma,
         _ => Mark::Plain,
     }
 }

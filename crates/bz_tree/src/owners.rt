@@ -1,21 +1,23 @@
 //! The segments of one bracket, and the owners of the comments that stand in it.
 
-ghost use Rattle.std.specs.Prelude.{◌≡◌, ◌+◌, ◌++◌, ◌==◌, true, false, map, IfOk, OnOk, Some, None, option_map, option_and_then, ◌≤◌, IfSome};
+ghost use Rattle.std.specs.Prelude.{◌≡◌, ◌+◌, ◌++◌, ◌==◌, true, false, map, count_by, IfOk, OnOk, Some, None, option_map, option_and_then, ◌≤◌, IfSome};
 ghost use Rattle.bz_tree.specs.View.{text_of, texts, node_view, seg_view};
 ghost use Rattle.bz_tree.specs.private.Steps.{walked, so_far, is_in_first, texts_of, content_view, at_start, after_node, after_comma, after_note, done, add_beside, to_last};
 ghost use Rattle.bz_tree.specs.Borrowed.{owned, owned_in, owned_of, node_owned, seg_owned};
 ghost use Rattle.bz_tree.specs.private.BorrowedSteps.{segs_owned, walk_owned, content_owned};
 
-use crate::stmt::{Leaf, Node, Seg};
+use crate::span::newlines;
+use crate::stmt::{Node, Seg};
 use std::alloc::{AllocError, Global};
 use std::borrow::CowStr;
 use std::mem;
 
-// What stands directly before a comment. A node has the line on which it begins, and how many lines later it ends.
+// What stands directly before a comment. A node has the line on which it begins, and its text if it is a token: it ends
+// as many lines later as that has newlines.
 #[derive(Clone, Copy)]
-pub(crate) enum Before {
+pub(crate) enum Before<'a> {
     Nothing,
-    Node(u64, u64),
+    Node(u64, &'a str),
     Comma(u64),
 }
 
@@ -28,7 +30,7 @@ pub(crate) struct Walk<'a> {
     pub(crate) nodes: Vec<Node<'a>>,
     pub(crate) suffix: Option<CowStr<'a>>,
     pub(crate) after: Vec<CowStr<'a>>,
-    pub(crate) last: Before,
+    pub(crate) last: Before<'a>,
     pub(crate) trailing: bool,
     // No segment is empty.
     pub(crate) whole: bool,
@@ -124,22 +126,35 @@ impl<'a> Walk<'a> {
         self.whole && self.segs.is_empty()
     }
 
+    // Room for the node of a segment that has no other, and no more: most elements of a list are such.
+    #[inline(always)]
+    pub(crate) fn reserve(&mut self, alone: bool) -> Result<(), AllocError>
+        ensures value { OnOk result (walked self.new ≡ walked self.old) }
+        ensures whole { self.new.whole ≡ self.old.whole }
+        ensures borrowed { OnOk result (walk_owned self.new ≡ walk_owned self.old) }
+    {
+        if alone && self.nodes.is_empty() {
+            self.nodes.reserve_exact(1)?;
+        }
+        Ok(())
+    }
+
     #[inline(always)]
     pub(crate) fn add_node(
         &mut self,
         node: Node<'a>,
         line: u64,
-        newlines: u64,
+        text: &'a str,
     ) -> Result<(), AllocError>
         ensures value { OnOk result (walked self.new
-            ≡ after_node (line + newlines) (node_view node.entry) (walked self.old)) }
+            ≡ after_node (line + count_by (λ b. b == 10) text.now) (node_view node.entry) (walked self.old)) }
         ensures whole { self.new.whole ≡ self.old.whole }
         ensures borrowed { OnOk result (walk_owned self.new ≤ walk_owned self.old + node_owned node.entry) }
     {
         self.nodes.push(node)?;
         put_before(&mut self.suffix, &mut self.before)?;
         self.before.append(&mut self.after)?;
-        self.last = Before::Node(line, newlines);
+        self.last = Before::Node(line, text);
         self.trailing = false;
         Ok(())
     }
@@ -169,7 +184,7 @@ impl<'a> Walk<'a> {
         ensures borrowed { OnOk result (walk_owned self.new ≤ walk_owned self.old + owned text.entry) }
     {
         match mem::replace(&mut self.last, Before::Nothing) {
-            Before::Node(begin, newlines) if ends_on(begin, newlines, line) => {
+            Before::Node(begin, token) if ends_on(begin, newlines(token), line) => {
                 put_suffix(&mut self.suffix, text);
                 Ok(())
             }

@@ -1,5 +1,5 @@
 -- For private clauses: the walk over what stands in one bracket, and the walk over the tokens with a stack of open brackets.
-use Rattle.std.specs.Prelude.{ℕ, ◌+◌, List, [], ◌∷◌, ◌++◌, map, reverse, Bool, true, false, not, ◌&&◌, if◌then◌else◌, Option, Some, None, option_map, option_and_then}
+use Rattle.std.specs.Prelude.{ℕ, ◌+◌, ◌==◌, count_by, List, [], ◌∷◌, ◌++◌, map, reverse, Bool, true, false, not, ◌&&◌, if◌then◌else◌, Option, Some, None, option_map, option_and_then}
 use Rattle.bz_tree.specs.declared.stmt.GroupKind.{GroupKind}
 use Rattle.bz_tree.specs.declared.stmt.GroupKind.TheVariants.{Call, RuleCall, Load, Paren, List as ListKind, Index, Dict, ListComp, DictComp}
 use Rattle.bz_tree.specs.declared.kinds.Shape.{Shape}
@@ -45,7 +45,7 @@ leaf_view t = record { kind = t.kind; text = text_of t.text; line = t.line; col 
 
 abbrev pub last_view : Before → Last
 last_view Nothing = no_token
-last_view (BeforeNode line newlines) = end_of_node (line + newlines)
+last_view (BeforeNode line text) = end_of_node (line + count_by (λ b. b == 10) text.now)
 last_view (BeforeComma line) = end_of_comma line
 
 abbrev pub walked : Walk → Walked
