@@ -248,6 +248,14 @@ NotAStatement { line: 1 }
 ->
 NotAStatement { line: 1 }
 ---
+x = [a, b for c in d]
+->
+NotAStatement { line: 1 }
+---
+x = {a: b, for c in d}
+->
+NotAStatement { line: 1 }
+---
 "a" "b"
 ->
 NotAStatement { line: 1 }

@@ -13,7 +13,8 @@ use Rattle.bz_tree.specs.Kinds.{mark_of, group_kind, is_one}
 use Rattle.bz_tree.specs.Owners.{Own, node, comma, note, Last, no_token, end_of_node, end_of_comma, is_on, Inside, inside, no_empty}
 use Rattle.bz_tree.specs.Brackets.{own_item, own_items, has_for, group_of, Elem, single, bracket, Elems, no_elems, elem, elem_tokens, elems_tokens, elem_own, elems_own, preceding, own_of, is_single, IsWell, AreWell, is_line, without_lines}
 use Rattle.bz_tree.specs.Statement.{one_segment, as_rule_call, rule_call, is_rule, segment_of, statement_with, IsStatementOf}
-use Rattle.bz_tree.specs.private.Steps.{Walked, texts_of, at_start, after_node, add_beside, to_last, noted, after_note, done, walk}
+use Rattle.bz_tree.specs.private.Steps.{Walked, texts_of, at_start, after_node, add_beside, to_last, noted, after_note, done}
+use Rattle.bz_tree.proofs.ByOwns.{walk}
 use Rattle.bz_tree.specs.Comments.{Lists, beside, item_owners, items_owners, segs_owners, owners_of, comments_of, note_of, notes, AreDealt, times}
 use Rattle.bz_tree_laws.proofs.Dealt.{Mixed, mixed_swap, mixed_left, mixed_right, mixed_after, mixed_more, left_more, right_more, AreMixed, one_mixed, one_alone, both_mixed, mixed_following, to_end, list_more, lists_more, dealt_of, times_all}
 use Rattle.bz_tree.proofs.OneBracket.{inside_found, nodes_alone}
