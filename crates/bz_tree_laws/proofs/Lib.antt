@@ -6,4 +6,5 @@ pub mod BlockComments
 pub mod ReadBack
 pub mod Nodes
 pub mod WrittenBack
+pub mod SomeAnswer
 mod Examples

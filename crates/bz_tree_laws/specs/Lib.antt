@@ -1,3 +1,4 @@
 pub mod BlockComments
 pub mod Written
 pub mod Nodes
+pub mod Answers
