@@ -10,6 +10,7 @@ ghost use Rattle.bz_engine.specs.private.AheadSteps.{IsOpen, IsLine, IsLineAt, I
 use crate::device::Source;
 use crate::input::{PIECE, ReadFault, read_at_most};
 use bz_token::{Cut, Cutter, Next};
+use memchr::memchr;
 use std::alloc::Global;
 use std::marker::Model;
 
@@ -147,12 +148,10 @@ fn line_end(bytes: &[u8]) -> Option<usize>
     ensures line { IfSome result (λ n. IsLine (take n bytes.now)) }
     ensures none { IfNone result (IsOpen bytes.now) }
 {
-    for (i, byte) in bytes.iter().enumerate() {
-        if *byte == b'\n' {
-            return Some(i + 1);
-        }
+    match memchr(b'\n', bytes) {
+        Some(at) => Some(at + 1),
+        None => None,
     }
-    None
 }
 
 /// Reads on until the line that begins after the first `from` bytes has its newline, or the input

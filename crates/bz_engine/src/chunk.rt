@@ -8,6 +8,7 @@ ghost use Rattle.bz_engine.specs.private.ChunkRead.{answer_of};
 use crate::report::SyntaxFault;
 use bz_token::check_utf8;
 use bz_tree::{ParseFault, Stmt, parse};
+use memchr::memchr;
 use std::alloc::{AllocError, Global};
 
 /// What a chunk is read as.
@@ -62,5 +63,11 @@ fn not_utf8(first_line: u64, valid: &[u8]) -> SyntaxFault
 pub(crate) fn newlines(bytes: &[u8]) -> u64
     ensures { result ≡ count_by (λ b. b == 10) bytes.now }
 {
-    bytes.iter().filter(|byte| **byte == b'\n').count() as u64
+    let mut count = 0;
+    let mut rest = bytes;
+    while let Some(at) = memchr(b'\n', rest) {
+        count += 1;
+        rest = &rest[at + 1..];
+    }
+    count
 }
