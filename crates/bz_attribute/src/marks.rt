@@ -1,7 +1,8 @@
 //! Which statements a target marks.
 
-ghost use Rattle.std.specs.Prelude.{◌≡◌, bytes_eq};
+ghost use Rattle.std.specs.Prelude.{◌≡◌, ◌⊎◌, ◌++◌, [], ◌∷◌, bytes_eq, IfSome};
 ghost use Rattle.bz_tree.specs.View.{nodes_view, segs_view, view};
+ghost use Rattle.bz_command.specs.Labels.{Name};
 ghost use Rattle.bz_attribute.specs.Marks as spec;
 ghost use Rattle.bz_attribute.specs.Rules.{is_text, name_in, kind_text};
 
@@ -32,6 +33,56 @@ fn has_name(args: &[Seg<'_>], name: &str) -> bool
         return false;
     };
     has_value(text.as_bytes(), name.as_bytes())
+}
+
+/// What the name of a rule says of the targets that ask for a name.
+#[derive(Clone, Copy, Debug, PartialEq, Eq)]
+pub enum RuleName<'s> {
+    /// None of them marks the statement: it is no rule, or a rule whose `name` is not one string.
+    NoName,
+    /// The target of this name marks it, and no other: the name is one string, written without an escape.
+    Plain(&'s str),
+    /// It is written in another way.
+    Other,
+}
+
+/// The name of the rule that a statement is.
+pub fn rule_name<'s>(stmt: &'s Stmt<'_>) -> RuleName<'s>
+    ensures { spec.IsNamed (λ name. spec.marks (Name name) (view stmt.now)) result }
+{
+    match rule_of(&stmt.nodes) {
+        None => RuleName::NoName,
+        Some(rule) => name_among(&rule.call.segs),
+    }
+}
+
+fn name_among<'s>(args: &'s [Seg<'_>]) -> RuleName<'s>
+    ensures { spec.IsNamed (λ name. is_text name (name_in (segs_view args.now))) result }
+{
+    let Some(text) = name_text(args) else {
+        return RuleName::NoName;
+    };
+    let Some(inner) = inner_of(text) else {
+        return RuleName::Other;
+    };
+    if has_value(text.as_bytes(), inner.as_bytes()) {
+        return RuleName::Plain(inner);
+    }
+    RuleName::Other
+}
+
+/// What stands between the quotes of a literal.
+fn inner_of(literal: &str) -> Option<&str>
+    ensures { IfSome result (λ inner. (literal.now ≡ 34 ∷ (inner.now ++ 34 ∷ []))
+        ⊎ (literal.now ≡ 39 ∷ (inner.now ++ 39 ∷ []))) }
+{
+    if let Some(rest) = literal.strip_prefix('"') {
+        return rest.strip_suffix('"');
+    }
+    let Some(rest) = literal.strip_prefix('\'') else {
+        return None;
+    };
+    rest.strip_suffix('\'')
 }
 
 /// The nodes before the call have this text.

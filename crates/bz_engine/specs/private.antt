@@ -1,3 +1,4 @@
 pub mod AheadSteps
 pub mod ChunkRead
 pub mod Edits
+pub mod Indexes

@@ -17,6 +17,7 @@ use crate::entry::Entry;
 use crate::kept::Kept;
 use crate::language::Facts;
 use crate::log::Log;
+use crate::passes::Passes;
 use crate::progress::Progress;
 use crate::report::SyntaxFault;
 use crate::rules::Rules;
@@ -32,7 +33,7 @@ use std::alloc::{AllocError, Global};
 pub(crate) struct Script<'a> {
     pub(crate) alloc: Global,
     pub(crate) home: &'a Package,
-    pub(crate) passes: &'a [Pass<Target, Command>],
+    pub(crate) passes: &'a Passes<Target, Command>,
     /// A failure does not end the run.
     pub(crate) keep_going: bool,
     pub(crate) max_depth: u8,
@@ -156,7 +157,7 @@ fn put_slot(
     let Some(stmt) = slot else {
         return Ok(());
     };
-    if is_query(script.passes) {
+    if is_query(script.passes.as_slice()) {
         return Ok(());
     }
     put_after(script.alloc, last, stmt, text)?;

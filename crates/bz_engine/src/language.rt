@@ -1,9 +1,12 @@
 //! What the engine needs of a language of targets and commands.
 
-ghost use Rattle.std.specs.Prelude.{◌≡◌, ◌++◌, Bool, Option, IfOk, OnOk};
+ghost use Rattle.std.specs.Prelude.{◌≡◌, ◌++◌, Bool, true, Option, IfOk, OnOk};
 ghost use Rattle.bz_command.specs.Passes.{Meaning, Slot};
+ghost use Rattle.bz_engine.specs.private.Indexes.{may_mark};
 
+use crate::index::Key;
 use crate::log::Log;
+use crate::passes::Keyed;
 use std::alloc::AllocError;
 
 /// Whether an execution changed its statement, and whether it failed.
@@ -20,7 +23,7 @@ pub(crate) struct Facts {
 pub(crate) trait Language {
     type Statement;
 
-    type Target;
+    type Target: Keyed;
 
     type Command;
 
@@ -42,6 +45,11 @@ pub(crate) trait Language {
     /// Whether the target marks what is in the slot.
     fn marks(&self, target: &Self::Target, slot: &Option<Self::Statement>) -> bool
         ensures { result ≡ (meaning self.now).marks target.now (seen slot.now) };
+
+    /// What is known of the name of what is in the slot: each target that marks it may mark what has this key.
+    fn key<'s>(&self, slot: &'s Option<Self::Statement>) -> Key<'s>
+        ensures { (target : Self.Target) → (meaning self.now).marks target (seen slot.now) ≡ true
+            → may_mark result (Self.Target.asked target) ≡ true };
 
     /// Whether it is told of a pass that its target marked nothing.
     fn must_mark(&self, target: &Self::Target) -> bool

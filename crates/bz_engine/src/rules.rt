@@ -7,10 +7,15 @@ ghost use Rattle.bz_attribute.specs.Effects.{fails};
 ghost use Rattle.bz_engine.specs.Meaning.{line_told, note_told, done_told, shown_slot};
 
 use crate::entry::Entry;
+use crate::index::Key;
 use crate::language::{Facts, Language};
 use crate::log::Log;
 use crate::message;
-use bz_rule::{Command, Done, Note, Package, Target, Text, apply, matches, shown};
+use crate::passes::Keyed;
+use bz_command::Marked;
+use bz_rule::{
+    Command, Done, Note, Package, RuleName, Target, Text, apply, matches, rule_name, shown,
+};
 use bz_tree::Stmt;
 use std::alloc::{AllocError, Global};
 
@@ -19,6 +24,19 @@ use std::alloc::{AllocError, Global};
 pub(crate) struct Rules<'a> {
     pub(crate) alloc: Global,
     pub(crate) home: &'a Package,
+}
+
+impl Keyed for Target {
+    ghost use Rattle.bz_engine.specs.Meaning.{asked_by};
+
+    ghost asked = { asked_by };
+
+    fn asked(&self) -> Option<&str> {
+        match &self.marked {
+            Marked::Name(name) => Some(name.as_str()),
+            _ => None,
+        }
+    }
 }
 
 impl<'a> Language for Rules<'a> {
@@ -46,6 +64,17 @@ impl<'a> Language for Rules<'a> {
         match slot {
             None => false,
             Some(stmt) => matches(target, stmt),
+        }
+    }
+
+    fn key<'s>(&self, slot: &'s Option<Stmt<'a>>) -> Key<'s> {
+        let Some(stmt) = slot else {
+            return Key::NoName;
+        };
+        match rule_name(stmt) {
+            RuleName::NoName => Key::NoName,
+            RuleName::Plain(name) => Key::Name(name),
+            RuleName::Other => Key::Unknown,
         }
     }
 

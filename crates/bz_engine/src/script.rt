@@ -3,10 +3,12 @@
 ghost use Rattle.std.specs.Prelude.{◌≡◌, ◌++◌, ◌||◌, [], ◌∷◌, List, length, OnOk};
 ghost use Rattle.bz_command.specs.Passes.{Slot, executed, entries, meets, with_mark, marked};
 ghost use Rattle.bz_engine.specs.Exchange.{Fits, IsLeftBy, slot_after_commands, slot_after_pass, slot_after, logs_alone, logs_and, pass_alone, pass_and, kept_alone, kept_and, some_of_commands_alone, some_alone};
+ghost use Rattle.bz_engine.specs.private.Indexes.{IsFirstFrom};
 
 use crate::kept::Kept;
 use crate::language::{Facts, Language};
 use crate::log::Log;
+use crate::passes::Passes;
 use bz_command::Pass;
 use std::alloc::AllocError;
 
@@ -93,11 +95,34 @@ fn run_pass<L: Language>(
     )
 }
 
+/// The first pass from a position on whose target marks the slot. Of the passes that ask for another name none is
+/// looked at.
+fn next_marked<L: Language>(
+    language: &L,
+    passes: &Passes<L::Target, L::Command>,
+    slot: &Option<L::Statement>,
+    from: usize,
+) -> Option<usize>
+    ensures { IsFirstFrom (λ pass. (L.meaning language.now).marks pass.target (L.seen slot.now))
+        passes.now from result }
+{
+    let key = language.key(slot);
+    let mut at = from;
+    while let Some(i) = passes.first_from(key, at) {
+        let pass = &passes.as_slice()[i];
+        if language.marks(&pass.target, slot) {
+            return Some(i);
+        }
+        at = i + 1;
+    }
+    None
+}
+
 /// The passes one after another on one slot. What they tell goes after what was kept of the slots
 /// before, and what they did is added to the facts.
 fn run_passes<L: Language>(
     language: &L,
-    passes: &[Pass<L::Target, L::Command>],
+    passes: &Passes<L::Target, L::Command>,
     slot: &mut Option<L::Statement>,
     kept: &mut [Kept<L::Entry>],
     facts: &mut Facts,
@@ -112,8 +137,11 @@ fn run_passes<L: Language>(
     ensures failed { OnOk result (facts.new.failed ≡ (facts.old.failed
         || some_alone (L.meaning language.now) (L.fails language.now) passes.now (L.seen slot.old))) }
 {
-    for i in 0..passes.len() {
-        run_pass(language, &passes[i], slot, &mut kept[i], facts)?;
+    let mut at = 0;
+    while let Some(i) = next_marked(language, passes, slot, at) {
+        let pass = &passes.as_slice()[i];
+        run_pass(language, pass, slot, &mut kept[i], facts)?;
+        at = i + 1;
     }
     Ok(())
 }
@@ -123,7 +151,7 @@ fn run_passes<L: Language>(
 /// of use.
 pub(crate) fn run_script<L: Language>(
     language: &L,
-    passes: &[Pass<L::Target, L::Command>],
+    passes: &Passes<L::Target, L::Command>,
     slot: &mut Option<L::Statement>,
     kept: &mut [Kept<L::Entry>],
     facts: &mut Facts,

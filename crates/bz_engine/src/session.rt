@@ -19,6 +19,7 @@ use crate::entry::Entry;
 use crate::kept::nothing_kept;
 use crate::options::Options;
 use crate::output::write_all;
+use crate::passes::Passes;
 use crate::progress::Progress;
 use crate::report::{End, Report};
 use crate::rules::Rules;
@@ -53,7 +54,7 @@ pub enum Step {
 pub struct Session {
     alloc: Global,
     home: Package,
-    passes: Vec<Pass<Target, Command>>,
+    passes: Passes<Target, Command>,
     options: Options,
     progress: Progress,
     ahead: Ahead,
@@ -70,10 +71,10 @@ impl Model for Session {
     ghost Value = { spec.SessionValue };
 
     ghost view = { λ s.
-        record { home = s.home; passes = s.passes.items; options = s.options; progress = s.progress; ahead = s.ahead; stage = s.stage; failure = s.failure } };
+        record { home = s.home; passes = s.passes; options = s.options; progress = s.progress; ahead = s.ahead; stage = s.stage; failure = s.failure } };
 
     ghost invariant = { λ s. spec.IsSession
-        (record { home = s.home; passes = s.passes.items; options = s.options; progress = s.progress; ahead = s.ahead; stage = s.stage; failure = s.failure }) };
+        (record { home = s.home; passes = s.passes; options = s.options; progress = s.progress; ahead = s.ahead; stage = s.stage; failure = s.failure }) };
 }
 
 impl Session {
@@ -88,6 +89,7 @@ impl Session {
         ensures { IfOk result (λ session. session ≡ at_start home passes.items options) }
     {
         let kept = nothing_kept(alloc, passes.as_slice())?;
+        let passes = Passes::new(alloc, passes)?;
         Ok(Session {
             alloc,
             home,
@@ -274,7 +276,7 @@ impl Session {
         let script = Script {
             alloc: self.alloc,
             home: &self.home,
-            passes: self.passes.as_slice(),
+            passes: &self.passes,
             keep_going: self.options.keep_going,
             max_depth: self.options.max_depth,
         };

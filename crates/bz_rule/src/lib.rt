@@ -4,7 +4,7 @@
 mod slot;
 
 pub use bz_attribute::done::{Done, Note};
-pub use bz_attribute::marks::matches;
+pub use bz_attribute::marks::{RuleName, matches, rule_name};
 pub use bz_attribute::texts::{label, shown};
 pub use bz_command::{
     Command, CommandFault, LabelFault, Package, Target, Text, quote, read_command, read_label,
