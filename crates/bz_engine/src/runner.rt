@@ -1,6 +1,6 @@
 //! A run from a source to a sink.
 
-ghost use Rattle.std.specs.Prelude.{◌≡◌, ◌≢◌, ℕ, ◌≤◌, ◌^◌, List, length, IfOk, OnOk, OnErr, IsTrue, IsErrOf};
+ghost use Rattle.std.specs.Prelude.{◌≡◌, ◌≢◌, ℕ, ◌≤◌, ◌^◌, List, length, IfOk, OnErr, IsTrue, IsErrOf};
 ghost use Rattle.bz_engine.specs.Ahead.{HasTooLong};
 ghost use Rattle.bz_engine.specs.Device.{joined, ends, NoneEnds, Rises};
 ghost use Rattle.bz_engine.specs.EveryFile.{ForEveryFile};
@@ -42,8 +42,8 @@ pub fn run<S: Source, W: Sink>(
     // Whatever is answered, the devices gave and took what reads and writes gave and took.
     ensures devices { (pieces : List (List ℕ)) × (text : List ℕ)
         × S.gave source.old pieces source.new × W.took sink.old text sink.new }
-    ensures steady { OnOk result
-        ((S.failures source.new ≡ S.failures source.old) × (W.failures sink.new ≡ W.failures sink.old)) }
+    ensures steady { (result ≢ Err RunFault.ReadFailed → S.failures source.new ≡ S.failures source.old)
+        × (result ≢ Err RunFault.WriteFailed → W.failures sink.new ≡ W.failures sink.old) }
     ensures read_failed { IsErrOf result RunFault.ReadFailed → Rises (S.failures source.old) (S.failures source.new) }
     ensures write_failed { IsErrOf result RunFault.WriteFailed → Rises (W.failures sink.old) (W.failures sink.new) }
     // That many reads were made, none of them the end.

@@ -1,10 +1,12 @@
 use Rattle.std.proofs.Common.{◌≡◌, ◌+◌, ◌-◌, ◌*◌, ◌<◌, ◌≤◌, [], ◌∷◌, ◌++◌, refl, ◌∙◌, ap, sym, subst, length, append-nil, arith}
 use Rattle.std.specs.Prelude.{IsErrAnd, Ok, Err}
+use Rattle.std.proofs.lemmas.Result.{err_from_is_err_and}
 use Rattle.bz_engine.specs.declared.run_fault.RunFault.{RunFault}
 use Rattle.bz_engine.specs.declared.run_fault.RunFault.TheVariants.{InputTooLong, StatementTooLong, Stopped, ReadFailed, WriteFailed}
 use Rattle.bz_engine.specs.Outcome.{told_by}
 use Rattle.bz_engine.specs.SessionValue.{HasDone, told_at}
 use Rattle.bz_engine.proofs.Advances.{on_err}
+use Rattle.bz_engine.proofs.Faults.{not_passed_on}
 use Rattle.bz_engine.proofs.Cut.{cut_is, fault_begins, fault_reads, ended_begins, nothing_begins, too_long_in}
 use Rattle.bz_engine.proofs.Runs.{started, shorter, outcome_is, where_ok, ok_is_no_err}
 use Rattle.bz_engine.proofs.runner.run.Goals as goal
@@ -147,4 +149,27 @@ returns-in_err-step-clause-statement_too_long g c line told =
       g.met.S.Source.gave_more _ _ _ _ _ inv.gave left.gave,
       too_long_in c.loop-session.session c.step.new.self _ c.args.options.max_statement line inv.pieces inv.cs left.read inv.text inv.done left.read_ahead
           (ap (λ o. o.max_statement) (c.step.ensures.same.options ∙ inv.options)) long.0 long.1,
+    )
+
+pub returns-in_err-session-clause-steady : goal.returns-in_err-session-clause-steady
+returns-in_err-session-clause-steady g c = (λ _. refl, λ _. refl)
+
+pub returns-in_err-step-clause-steady : goal.returns-in_err-step-clause-steady
+returns-in_err-step-clause-steady g c =
+    let inv = c.loop-session.invariant in
+    let steady = c.step.ensures.steady in
+    let was = c.in_err-step.was in
+    let fault = c.from_residual-in_err-step in
+    let p = err_from_is_err_and fault.result fault.ensures.1 in (
+      λ other. steady.0 (λ h. not_passed_on fault.result p.0 c.in_err-step.field-0.0 ReadFailed p.1 p.2 other (sym was ∙ h)) ∙ inv.read_steady,
+      λ other. steady.1 (λ h. not_passed_on fault.result p.0 c.in_err-step.field-0.0 WriteFailed p.1 p.2 other (sym was ∙ h)) ∙ inv.write_steady,
+    )
+
+pub returns-in-End-clause-steady : goal.returns-in-End-clause-steady
+returns-in-End-clause-steady g c =
+    let inv = c.loop-session.invariant in
+    let answer = c.in_ok-step.was ∙ ap Ok c.in-End.is in
+    let steady = c.step.ensures.steady in (
+      λ _. steady.0 (λ h. ok_is_no_err _ _ ReadFailed answer h) ∙ inv.read_steady,
+      λ _. steady.1 (λ h. ok_is_no_err _ _ WriteFailed answer h) ∙ inv.write_steady,
     )
