@@ -1,6 +1,6 @@
 //! Laws of the definitions that the contracts cite. Each function does nothing: its contract is the law.
 
-ghost use Rattle.std.specs.Prelude.{◌≡◌, ◌↔◌, ℕ, List, Bool, Result, Option, true};
+ghost use Rattle.std.specs.Prelude.{◌≡◌, ◌↔◌, ℕ, List, [], Bool, Result, Option, true};
 ghost use Rattle.bz_tree.specs.Tree.{Statement};
 ghost use Rattle.bz_command.specs.Labels.{Package, Target};
 ghost use Rattle.bz_command.specs.Commands.{Command};
@@ -9,6 +9,8 @@ ghost use Rattle.bz_engine.specs.Exchange.{Exchange};
 ghost use Rattle.bz_engine.specs.Changes.{AreCommands, Changes};
 ghost use Rattle.bz_engine.specs.File.{Gives, IsFile};
 ghost use Rattle.bz_engine.specs.Outcome.{Script, Told, IsOutcome};
+ghost use Rattle.bz_engine.specs.SessionValue.{HasDone, at_start};
+ghost use Rattle.bz_engine.specs.declared.options.Options.{Options};
 ghost use Rattle.bz_engine.specs.declared.report.SyntaxFault.{SyntaxFault};
 ghost use Rattle.bz_engine.specs.Meaning.{meaning, changes};
 
@@ -39,4 +41,10 @@ pub fn one_outcome()
     ensures { (home : Package) (passes : Script) (keep_going : Bool) (max_depth : ℕ) (file text text2 : List ℕ)
         (told told2 : Told) → IsOutcome home passes keep_going max_depth file text told
         → IsOutcome home passes keep_going max_depth file text2 told2 → (text ≡ text2) × (told ≡ told2) }
+{}
+
+/// A new session has done no chunk: nothing was read, and nothing was written. So `Session::step`, whose `More` leads from
+/// what is done to one chunk more, says what any number of steps has done.
+pub fn new_session_has_done_nothing()
+    ensures { (home : Package) (passes : Script) (options : Options) → HasDone (at_start home passes options) [] [] [] }
 {}
