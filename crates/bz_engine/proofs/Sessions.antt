@@ -43,6 +43,13 @@ pub reads_within : (v : SessionValue) (mid : Ahead) (max_reads : ℕ) (pieces cs
     → HasDone v pieces cs text → IsReadOn max_reads v.ahead mid read → length (pieces ++ read) ≤ max_reads
 reads_within v mid max_reads pieces cs read text done on = subst (λ n. n ≤ max_reads) (reads_on v mid max_reads pieces cs read text done on) on.within
 
+-- what stood ahead and what was read then
+pub read_within : (v w : SessionValue) (mid : Ahead) (max_reads : ℕ) (read : List (List ℕ)) → v ≡ w → IsReadOn max_reads v.ahead mid read
+    → length mid.bytes ≤ v.options.max_statement + 8192 → length (w.ahead.bytes ++ joined read) ≤ w.options.max_statement + 8192
+read_within v w mid max_reads read same on bound =
+    subst (λ x. length (x.ahead.bytes ++ joined read) ≤ x.options.max_statement + 8192) same
+    (subst (λ l. length l ≤ v.options.max_statement + 8192) on.bytes bound)
+
 -- a chunk was done
 pub went_on : (v : SessionValue) (mid : Ahead) (progress : Progress) (max_reads most n : ℕ) (pieces cs read : List (List ℕ)) (text after : List ℕ)
     → (done : HasDone v pieces cs text) → IsReadOn max_reads v.ahead mid read → IsNextChunk most mid n

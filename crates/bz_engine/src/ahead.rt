@@ -167,8 +167,10 @@ fn read_line<S: Source>(
     requires within { from ≤ length ahead.old.bytes }
     requires few { length (drop from ahead.old.bytes) ≤ 8192 }
     requires begun { IsBegun ahead.old from }
+    requires bound { length ahead.old.bytes ≤ max_statement + 8192 }
     ensures read { (pieces : List (List ℕ)) × S.gave source.old pieces source.new
         × IsReadOn max_reads ahead.old ahead.new pieces × AreNeeded max_statement ahead.old.bytes pieces }
+    ensures bound { length ahead.new.bytes ≤ max_statement + 8192 }
     ensures line { IfOk result (IsLineAt ahead.new from) }
     ensures statement_too_long { IsErrOf result ChunkFault.StatementTooLong → IsTooLong max_statement ahead.new }
     ensures input_too_long { IsErrOf result ChunkFault.InputTooLong
@@ -208,8 +210,10 @@ fn ends_block<S: Source>(
     requires made { ahead.old.reads ≤ max_reads }
     requires within { end ≤ length ahead.old.bytes }
     requires few { length (drop end ahead.old.bytes) ≤ 8192 }
+    requires bound { length ahead.old.bytes ≤ max_statement + 8192 }
     ensures read { (pieces : List (List ℕ)) × S.gave source.old pieces source.new
         × IsReadOn max_reads ahead.old ahead.new pieces × AreNeeded max_statement ahead.old.bytes pieces }
+    ensures bound { length ahead.new.bytes ≤ max_statement + 8192 }
     ensures left { OnOk result (length (drop end ahead.new.bytes) ≤ 8192) }
     ensures ends { IfOk result (λ is_end. IsTrue is_end → EndsAt ahead.new end) }
     ensures goes { IfOk result (λ is_end. is_end ≡ false → GoesOn cutter.new ahead.new end) }
@@ -249,8 +253,10 @@ fn ends_chunk<S: Source>(
     requires line { IsLineAt ahead.old from end }
     requires some { from < end }
     requires made { ahead.old.reads ≤ max_reads }
+    requires bound { length ahead.old.bytes ≤ max_statement + 8192 }
     ensures read { (pieces : List (List ℕ)) × S.gave source.old pieces source.new
         × IsReadOn max_reads ahead.old ahead.new pieces × AreNeeded max_statement ahead.old.bytes pieces }
+    ensures bound { length ahead.new.bytes ≤ max_statement + 8192 }
     ensures left { OnOk result (length (drop end ahead.new.bytes) ≤ 8192) }
     ensures ends { IfOk result (λ is_end. IsTrue is_end → EndsAt ahead.new end) }
     ensures goes { IfOk result (λ is_end. is_end ≡ false → GoesOn cutter.new ahead.new end) }
@@ -279,6 +285,7 @@ fn chunk_end<S: Source>(
     requires few { length ahead.old.bytes ≤ 8192 }
     ensures read { (pieces : List (List ℕ)) × S.gave source.old pieces source.new
         × IsReadOn max_reads ahead.old ahead.new pieces × AreNeeded max_statement ahead.old.bytes pieces }
+    ensures bound { length ahead.new.bytes ≤ max_statement + 8192 }
     ensures end { IfOk result (IsEnd ahead.new) }
     ensures statement_too_long { IsErrOf result ChunkFault.StatementTooLong → IsTooLong max_statement ahead.new }
     ensures input_too_long { IsErrOf result ChunkFault.InputTooLong
@@ -324,6 +331,7 @@ pub(crate) fn next_chunk<S: Source>(
     requires few { length ahead.old.bytes ≤ 8192 }
     ensures read { (pieces : List (List ℕ)) × S.gave source.old pieces source.new
         × IsReadOn max_reads ahead.old ahead.new pieces × AreNeeded max_statement ahead.old.bytes pieces }
+    ensures bound { length ahead.new.bytes ≤ max_statement + 8192 }
     ensures chunk { IfOk result (λ found. IfSome found (IsNextChunk max_statement ahead.new)) }
     ensures none { IfOk result (λ found. IfNone found ((ahead.new.bytes ≡ []) × IsTrue ahead.new.ended)) }
     ensures statement_too_long { IsErrOf result ChunkFault.StatementTooLong → IsTooLong max_statement ahead.new }

@@ -2,7 +2,7 @@
 
 ghost use Rattle.std.specs.Prelude.{◌≡◌, ◌≢◌, ℕ, ◌+◌, ◌<◌, ◌≤◌, ◌^◌, ◌++◌, false, List, [], ◌∷◌, length, take, drop, IfOk, OnOk, OnErr, IfSome, IfNone, IsTrue, option_to_list};
 ghost use Rattle.bz_tree.specs.Tree.{Statement};
-ghost use Rattle.bz_engine.specs.Device.{NoneEnds, Rises};
+ghost use Rattle.bz_engine.specs.Device.{joined, NoneEnds, Rises};
 ghost use Rattle.bz_engine.specs.Exchange.{Fits};
 ghost use Rattle.bz_engine.specs.Ahead.{IsReadOn, IsNextChunk, IsTooLong, IsUncertain};
 ghost use Rattle.bz_engine.specs.Messages.{fault_text};
@@ -154,6 +154,9 @@ impl Session {
         // Whatever is answered, the devices gave and took what reads and writes gave and took.
         ensures devices { (read : List (List ℕ)) × (shown : List ℕ)
             × S.gave source.old read source.new × W.took sink.old shown sink.new }
+        // What stood ahead, and what was read then, is at most the longest chunk and one piece more.
+        ensures bound { self.old.stage ≡ Going → (read : List (List ℕ)) × S.gave source.old read source.new
+            × (length (self.old.ahead.bytes ++ joined read) ≤ self.old.options.max_statement + 8192) }
         ensures stops { OnErr result (self.new.stage ≡ Stopped) }
         ensures runs { self.old.stage ≡ Going → result ≢ Err RunFault.Stopped }
     {
@@ -235,6 +238,9 @@ impl Session {
         // Whatever is answered, the devices gave and took what reads and writes gave and took.
         ensures devices { (read : List (List ℕ)) × (shown : List ℕ)
             × S.gave source.old read source.new × W.took sink.old shown sink.new }
+        // What stood ahead, and what was read then, is at most the longest chunk and one piece more.
+        ensures bound { (read : List (List ℕ)) × S.gave source.old read source.new
+            × (length (self.old.ahead.bytes ++ joined read) ≤ self.old.options.max_statement + 8192) }
         ensures runs { result ≢ Err RunFault.Stopped × (result ≢ Ok Stopped) }
     {
         let line = self.progress.line;
@@ -351,6 +357,7 @@ fn find_chunk<S: Source>(
     requires few { length ahead.old.bytes ≤ 8192 }
     ensures read { (pieces : List (List ℕ)) × S.gave source.old pieces source.new
         × IsReadOn options.max_reads ahead.old ahead.new pieces }
+    ensures bound { length ahead.new.bytes ≤ options.max_statement + 8192 }
     ensures chunk { IfOk result (λ found. IfSome found (IsNextChunk options.max_statement ahead.new)) }
     ensures none { IfOk result (λ found. IfNone found ((ahead.new.bytes ≡ []) × IsTrue ahead.new.ended)) }
     ensures too_long { result ≡ Err RunFault.InputTooLong → (ahead.new.reads ≡ options.max_reads)

@@ -18,6 +18,7 @@ loop-next-init g c = (
     goes_on = goes_first c.new-cutter.result c.args.ahead.now c.new-cutter.ensures.part c.new-cutter.ensures.after c.new-cutter.ensures.awaits;
     within = omega arith;
     few = c.requires.few;
+    bound = omega (arith, c.requires.few);
   },
 )
 
@@ -139,5 +140,6 @@ loop-next-preserved g c =
         goes_on = c.in_ok-is_end.ensures.goes c.if-is_end.false;
         within = omega (arith, c.in_ok-next.ensures.line.within, grows max c.read_line.new.ahead new read.0 read.2);
         few = c.in_ok-is_end.ensures.left;
+        bound = c.in_ok-is_end.ensures.bound;
       },
     )

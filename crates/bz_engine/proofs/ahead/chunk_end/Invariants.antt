@@ -13,6 +13,7 @@ invariant-loop-next g l = (pieces : List (List ℕ)) × record {
   goes_on : GoesOn l.cutter l.ahead l.end;
   within : l.end ≤ length l.ahead.bytes;
   few : length (drop l.end l.ahead.bytes) ≤ 8192;
+  bound : length l.ahead.bytes ≤ l.max_statement + 8192;
 }
 
 -- a read has at most 8,192 bytes, so that a line passed is less left to do

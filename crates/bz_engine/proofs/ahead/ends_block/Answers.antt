@@ -23,6 +23,7 @@ loop-ahead-init g c = (
     block = c.requires.block;
     within = c.requires.within;
     few = c.requires.few;
+    bound = c.requires.bound;
   },
 )
 
@@ -85,6 +86,7 @@ loop-ahead-preserved g c =
         block = subst (λ l. IsBlock l) (sym front) inv.block;
         within = omega (arith, inv.within, grows max old new read.0 read.2);
         few = omega (arith, inv.within, inv.few, read.3, length-drop e old.bytes, length-drop e new.bytes, grows max old new read.0 read.2, ap length c.bytes-in-Short.ensures);
+        bound = omega (arith, inv.within, read.3, grows max old new read.0 read.2, ap length c.bytes-in-Short.ensures, c.if-end-max_statement.false);
       },
     )
 

@@ -1,4 +1,4 @@
-use Rattle.std.proofs.Common.{◌≡◌, ◌≤◌, ◌-◌, List, ℕ, length, take, drop}
+use Rattle.std.proofs.Common.{◌≡◌, ◌≤◌, ◌+◌, ◌-◌, List, ℕ, length, take, drop}
 use Rattle.bz_token.specs.Cuts.{IsBlock}
 use Rattle.bz_token.specs.CutterState.{IsAfter, IsAtBlock}
 use Rattle.bz_engine.specs.Ahead.{IsReadOn, AreNeeded}
@@ -16,6 +16,7 @@ invariant-loop-ahead g l = (pieces : List (List ℕ)) × record {
   block : IsBlock (take l.end l.ahead.bytes);
   within : l.end ≤ length l.ahead.bytes;
   few : length (drop l.end l.ahead.bytes) ≤ 8192;
+  bound : length l.ahead.bytes ≤ l.max_statement + 8192;
 }
 
 abbrev pub decreases-loop-ahead : goal.decreases-loop-ahead

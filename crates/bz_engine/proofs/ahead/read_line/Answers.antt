@@ -20,6 +20,7 @@ loop-n-init g c = (
     after = omega arith;
     within = c.requires.within;
     few = c.requires.few;
+    bound = c.requires.bound;
     passed = passed_none c.args.ahead.now.bytes c.args.from;
   },
 )
@@ -69,6 +70,7 @@ loop-n-preserved g c =
         after = within;
         within = omega (arith, grows max old new read.0 read.2, ap length same);
         few = few_new max old new seen read.0 same read.2 (omega (arith, read.3));
+        bound = omega (arith, grows max old new read.0 read.2, read.3, ap length same, c.if-searched-max_statement.false);
         passed = passed_all max old new seen read.0 c.args.from same read.2 within here;
       },
     )

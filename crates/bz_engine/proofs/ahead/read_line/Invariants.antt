@@ -1,4 +1,4 @@
-use Rattle.std.proofs.Common.{◌≡◌, ◌≤◌, ◌-◌, List, ℕ, length, take, drop}
+use Rattle.std.proofs.Common.{◌≡◌, ◌≤◌, ◌+◌, ◌-◌, List, ℕ, length, take, drop}
 use Rattle.bz_engine.specs.Ahead.{IsReadOn, AreNeeded}
 use Rattle.bz_engine.specs.private.AheadSteps.{IsOpen, IsBegun}
 use Rattle.bz_engine.proofs.ahead.read_line.Given as goal
@@ -14,6 +14,7 @@ invariant-loop-n g l = (pieces : List (List ℕ)) × record {
   after : l.from ≤ l.searched;
   within : l.searched ≤ length l.ahead.bytes;
   few : length (drop l.searched l.ahead.bytes) ≤ 8192;
+  bound : length l.ahead.bytes ≤ l.max_statement + 8192;
   passed : IsOpen (take (l.searched - l.from) (drop l.from l.ahead.bytes));
 }
 

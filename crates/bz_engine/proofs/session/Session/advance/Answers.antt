@@ -5,7 +5,7 @@ use Rattle.bz_engine.specs.declared.run_fault.RunFault.TheVariants.{InputTooLong
 use Rattle.bz_engine.specs.contracts.session.Session.{the_view}
 use Rattle.bz_engine.specs.declared.report.End.TheVariants.{Syntax, FirstFailure}
 use Rattle.bz_engine.specs.SessionValue.{SessionValue, HasDone, IsLeftByFault, HasEnded}
-use Rattle.bz_engine.proofs.Sessions.{too_long_there, reads_within}
+use Rattle.bz_engine.proofs.Sessions.{too_long_there, reads_within, read_within}
 use Rattle.bz_engine.proofs.Advances.{chunk_done, chunk_faulty, chunk_failed, left_by_write, on_err, goes_not_on, has_not_ended, same_end, some_chunk, no_chunk, take_some, take_few, whole_end}
 use Rattle.bz_engine.proofs.session.Session.advance.Goals as goal
 use Rattle.bz_engine.proofs.session.Session.advance.Goals.{in-Done+in_ok-write-in-Done, in-Faulty, in-Failed}
@@ -110,3 +110,28 @@ returns-in_err-write-in-Done-clause-front g c =
     (left_by_write Gave Took _ c.edit.new.self c.write.new.self c.find_chunk.new.ahead _ c.edit.new.text.items c.in_ok-edited.edited _ c.in-Some.len cut.0 read.0
     read.1 (subst (λ t. g.W.Sink.took c.args.sink.now (take cut.0 t) c.write.new.sink) c.as_slice.ensures.value cut.2)
     read.2 next c.clear.ensures.items c.edit.ensures.same c.in_ok-edited.ensures.edited c.in-Done.is c.in_err-write-in-Done.ensures.same))
+
+pub returns-in_err-len-clause-bound : goal.returns-in_err-len-clause-bound
+returns-in_err-len-clause-bound g c =
+    let read = c.find_chunk.ensures.read in
+    (read.0, read.1, read_within _ _ c.find_chunk.new.ahead _ read.0 (ap the_view c.self-inside.view_is ∙ c.self.view_is) read.2 c.find_chunk.ensures.bound)
+
+pub returns-in_default-clause-bound : goal.returns-in_default-clause-bound
+returns-in_default-clause-bound g c =
+    let read = c.find_chunk.ensures.read in
+    (read.0, read.1, read_within _ _ c.find_chunk.new.ahead _ read.0 (ap the_view c.self-inside.view_is ∙ c.self.view_is) read.2 c.find_chunk.ensures.bound)
+
+pub returns-in_err-edited-clause-bound : goal.returns-in_err-edited-clause-bound
+returns-in_err-edited-clause-bound g c =
+    let read = c.find_chunk.ensures.read in
+    (read.0, read.1, read_within _ _ c.find_chunk.new.ahead _ read.0 (ap the_view c.self-inside.view_is ∙ c.self.view_is) read.2 c.find_chunk.ensures.bound)
+
+pub returns-in_err-write-in-Done-clause-bound : goal.returns-in_err-write-in-Done-clause-bound
+returns-in_err-write-in-Done-clause-bound g c =
+    let read = c.find_chunk.ensures.read in
+    (read.0, read.1, read_within _ _ c.find_chunk.new.ahead _ read.0 (ap the_view c.self-inside.view_is ∙ c.self.view_is) read.2 c.find_chunk.ensures.bound)
+
+pub returns-clause-bound : goal.returns-clause-bound
+returns-clause-bound g c =
+    let read = c.find_chunk.ensures.read in
+    (read.0, read.1, read_within _ _ c.find_chunk.new.ahead _ read.0 (ap the_view c.self-inside.view_is ∙ c.self.view_is) read.2 c.find_chunk.ensures.bound)

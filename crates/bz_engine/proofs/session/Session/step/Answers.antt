@@ -1,8 +1,9 @@
-use Rattle.std.proofs.Common.{◌≡◌, ℕ, List, [], ◌∷◌, ◌++◌, ◌∙◌, ap, sym, subst, length, ◌≤◌}
+use Rattle.std.proofs.Common.{◌≡◌, ℕ, List, [], ◌∷◌, ◌++◌, ◌∙◌, ap, sym, subst, length, ◌+◌, ◌≤◌}
 use Rattle.std.specs.Prelude.{IsErrAnd, Ok, Err}
 use Rattle.bz_engine.specs.declared.run_fault.RunFault.{RunFault}
 use Rattle.bz_engine.specs.declared.run_fault.RunFault.TheVariants.{InputTooLong}
 use Rattle.bz_engine.specs.declared.session.Stage.TheVariants.{Going, Stopped}
+use Rattle.bz_engine.specs.Device.{joined}
 use Rattle.bz_engine.specs.SessionValue.{HasDone, IsLeftByFault, HasEnded}
 use Rattle.bz_engine.proofs.Advances.{restaged, left_before, on_err, which_end, more_is_no_end, end_is_not_more}
 use Rattle.bz_engine.proofs.session.Session.step.Goals as goal
@@ -72,3 +73,13 @@ returns-in-Stopped-clause-devices g c = ([], [], g.met.S.Source.gave_nothing _, 
 
 pub returns-in-Ended-clause-devices : goal.returns-in-Ended-clause-devices
 returns-in-Ended-clause-devices g c = ([], [], g.met.S.Source.gave_nothing _, g.met.W.Sink.took_nothing _)
+
+pub returns-in_err-self-inside-clause-bound : goal.returns-in_err-self-inside-clause-bound
+returns-in_err-self-inside-clause-bound g c going =
+    let few = c.advance.ensures.bound in
+    (few.0, few.1, subst (λ v. length (v.ahead.bytes ++ joined few.0) ≤ v.options.max_statement + 8192) c.self.view_is few.2)
+
+pub returns-clause-bound : goal.returns-clause-bound
+returns-clause-bound g c going =
+    let few = c.advance.ensures.bound in
+    (few.0, few.1, subst (λ v. length (v.ahead.bytes ++ joined few.0) ≤ v.options.max_statement + 8192) c.self.view_is few.2)
