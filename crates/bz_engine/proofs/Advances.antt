@@ -206,3 +206,10 @@ more_is_no_end r more end = absurd (false≢true (sym (ap is_more end) ∙ ap is
 
 pub end_is_not_more : {X : Type 0} (r : Result Step RunFault) → r ≡ Ok step.End → r ≡ Ok More → X
 end_is_not_more r end more = absurd (false≢true (sym (ap is_more end) ∙ ap is_more more))
+
+ok_is : {T E : Type 0} (x y : T) → (let r : Result T E = Ok x in r) ≡ Ok y → x ≡ y
+ok_is x y h = cc
+
+-- an answer has one value
+pub ok_same : {T E : Type 0} (r : Result T E) (x y : T) → r ≡ Ok x → r ≡ Ok y → x ≡ y
+ok_same r x y is told = ok_is x y (sym is ∙ told)

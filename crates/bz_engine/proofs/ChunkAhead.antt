@@ -13,7 +13,7 @@ use Rattle.bz_token.specs.declared.cutter.Cut.{Cut}
 use Rattle.bz_token.specs.declared.cutter.Cut.TheVariants.{More, Block}
 use Rattle.bz_token.specs.declared.cutter.Next.TheVariants.{Goes, Ends, Short}
 use Rattle.bz_engine.specs.Device.{joined}
-use Rattle.bz_engine.specs.Ahead.{Ahead, IsReadOn, MayFollow, BeginsTooLong, IsTooLong, IsUncertain, IsUndecided}
+use Rattle.bz_engine.specs.Ahead.{Ahead, IsReadOn, IsNextChunk, MayFollow, BeginsTooLong, IsTooLong, IsUncertain, IsUndecided}
 use Rattle.bz_engine.specs.private.AheadSteps.{IsOpen, IsLineAt, GoesAfter, IsBegun, GoesOn, EndsAt, IsEnd}
 use Rattle.bz_engine.proofs.ChunkLines.{line_is_physical, tail_is}
 use Rattle.bz_engine.proofs.ReadOn.{front_stays, back_grows, follows_read, ended_on}
@@ -142,6 +142,21 @@ line_undecided max e ahead ended within begun is fits = record { uncertain = unc
 pub block_undecided : (max n : ℕ) (ahead : Ahead) (slice : List ℕ) (at_end : Bool) → slice ≡ drop n ahead.bytes → n ≤ max → IsNext Short at_end (take n ahead.bytes) slice → IsUndecided max ahead.bytes
 block_undecided max n ahead slice at_end same fits next =
     record { uncertain = uncertain_block n ahead slice at_end same next; fitting = block_fits max n ahead.bytes slice at_end same fits next }
+
+-- a chunk that is found fits
+pub next_fits : (max n : ℕ) (ahead : Ahead) → IsNextChunk max ahead n → IsTooLong max ahead → ⊥
+next_fits max n ahead next long =
+    let bytes = ahead.bytes in
+    let here = long [] (λ _. refl) in
+    let first : take n bytes ≡ take here.seen bytes ++ here.more = heads (sym (next.ends [] (λ _. refl)) ∙ ap chunks (whole bytes [] n) ∙ here.chunks_are) in
+    let size : length (take n bytes) ≡ length (take here.seen bytes) + length here.more = ap length first ∙ length-append (take here.seen bytes) here.more in
+    omega (arith, next.size, next.within, here.within, here.over, length-take n bytes, length-take here.seen bytes)
+
+-- and so does nothing
+pub nothing_fits : (max : ℕ) (ahead : Ahead) → ahead.bytes ≡ [] → IsTooLong max ahead → ⊥
+nothing_fits max ahead none long =
+    let here = long [] (λ _. refl) in
+    omega (arith, ap length none, here.within, here.over)
 
 -- the same of what is ahead
 pub fitting_ahead : (max : ℕ) (ahead : Ahead) → ahead.ended ≡ false → IsUndecided max ahead.bytes → IsTooLong max ahead → ⊥

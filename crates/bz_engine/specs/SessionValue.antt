@@ -1,5 +1,5 @@
 -- What a contract sees of a session, and what its answers say of the file.
-use Rattle.std.specs.Prelude.{◌≡◌, ℕ, ◌+◌, ◌*◌, ◌^◌, ◌<◌, ◌≤◌, Bool, true, false, ◌||◌, ◌⊎◌, IsTrue, List, [], ◌∷◌, ◌++◌, length, map, Option, None, option_to_list}
+use Rattle.std.specs.Prelude.{◌≡◌, ℕ, ◌+◌, ◌*◌, ◌^◌, ◌<◌, ◌≤◌, Bool, true, false, ◌||◌, ◌⊎◌, IsTrue, List, [], ◌∷◌, ◌++◌, length, map, Option, None, option_to_list, Result, Err}
 use Rattle.std.specs.List.{concat, flat_map}
 use Rattle.bz_token.specs.Chunks.{chunks}
 use Rattle.bz_tree.specs.Tree.{Statement}
@@ -7,6 +7,8 @@ use Rattle.bz_command.specs.Labels.{Package}
 use Rattle.bz_engine.specs.declared.options.Options.{Options}
 use Rattle.bz_engine.specs.declared.report.End.{End}
 use Rattle.bz_engine.specs.declared.report.End.TheVariants.{Whole, Syntax, FirstFailure}
+use Rattle.bz_engine.specs.declared.run_fault.RunFault.{RunFault}
+use Rattle.bz_engine.specs.declared.run_fault.RunFault.TheVariants.{OutOfMemory, ReadFailed, StatementTooLong}
 use Rattle.bz_engine.specs.declared.session.Stage.{Stage}
 use Rattle.bz_engine.specs.declared.session.Stage.TheVariants.{Going, Ended}
 use Rattle.bz_engine.specs.Device.{joined, ends, NoneEnds}
@@ -91,6 +93,10 @@ pub record IsLeftByFault (Gave : List (List ℕ) → Type 0) (Took : List ℕ �
   pub took : Took shown
   pub read_ahead : IsReadOn old.options.max_reads old.ahead new.ahead read
   pub front : (pieces cs : List (List ℕ)) (text : List ℕ) → HasDone old pieces cs text → IsCutShort new (pieces ++ read) cs text shown
+
+-- A next chunk that is sure to be too long is told as such, unless memory or a read failed.
+abbrev pub IsRefused : {T : Type 0} → Result T RunFault → Type 0
+IsRefused result = (result ≡ Err OutOfMemory) ⊎ (result ≡ Err ReadFailed) ⊎ ((line : ℕ) × (result ≡ Err (StatementTooLong line)))
 
 -- all that was kept
 abbrev pub told_of_progress : Package → Script → Progress → Told

@@ -9,7 +9,7 @@ ghost use Rattle.bz_engine.specs.Messages.{fault_text};
 ghost use Rattle.bz_engine.specs.Outcome.{told_by};
 ghost use Rattle.bz_engine.specs.Progress.{IsKeptOf};
 ghost use Rattle.bz_engine.specs.private.Edits.{IsEdited};
-ghost use Rattle.bz_engine.specs.SessionValue.{at_start, IsSameRun, IsReady, IsLeftByFault, HasOneMore, HasDone, HasEnded, told_at, told_of_progress, told_alone};
+ghost use Rattle.bz_engine.specs.SessionValue.{at_start, IsSameRun, IsReady, IsLeftByFault, IsRefused, HasOneMore, HasDone, HasEnded, told_at, told_of_progress, told_alone};
 ghost use Rattle.bz_engine.specs.declared.session.Stage.TheVariants.{Going, Ended, Stopped};
 
 use crate::ahead::{Ahead, ChunkFault, next_chunk};
@@ -143,6 +143,9 @@ impl Session {
         // The next chunk, which begins on this line, has more bytes than it may.
         ensures statement_too_long { (line : ℕ) → result ≡ Err (RunFault.StatementTooLong line)
             → (line ≡ self.old.progress.line) × IsTooLong self.new.options.max_statement self.new.ahead }
+        // A chunk that is taken fits. Where the next one is sure to be too long, that is told, or memory or a read failed.
+        ensures refused { self.old.stage ≡ Going → result ≢ Ok Step.More
+            → IsTooLong self.new.options.max_statement self.new.ahead → IsRefused result }
         // Before a fault a front of what the next chunk adds was written, and only a failed write cuts it.
         ensures front { OnErr result (self.old.stage ≡ Going → IsLeftByFault (λ read. S.gave source.old read source.new)
             (λ shown. W.took sink.old shown sink.new) self.old self.new) }
@@ -227,6 +230,8 @@ impl Session {
         // The next chunk, which begins on this line, has more bytes than it may.
         ensures statement_too_long { (line : ℕ) → result ≡ Err (RunFault.StatementTooLong line)
             → (line ≡ self.old.progress.line) × IsTooLong self.new.options.max_statement self.new.ahead }
+        // Where the next chunk is sure to be too long, that is told, or memory or a read failed.
+        ensures refused { result ≢ Ok Going → IsTooLong self.new.options.max_statement self.new.ahead → IsRefused result }
         // Before a fault a front of what the next chunk adds was written, and only a failed write cuts it.
         ensures front { OnErr result (IsLeftByFault (λ read. S.gave source.old read source.new)
             (λ shown. W.took sink.old shown sink.new) self.old self.new) }

@@ -1,10 +1,14 @@
 use Rattle.std.proofs.Common.{◌≡◌, ℕ, List, [], ◌∷◌, ◌++◌, ◌∙◌, ap, sym, subst, length, take, ◌≤◌}
-use Rattle.std.specs.Prelude.{IsErrAnd, Err}
+use Rattle.std.specs.Prelude.{IsErrAnd, Ok, Err}
+use Rattle.std.proofs.lemmas.Result.{err_from_is_err_and}
 use Rattle.bz_engine.specs.declared.run_fault.RunFault.{RunFault}
-use Rattle.bz_engine.specs.declared.run_fault.RunFault.TheVariants.{InputTooLong}
+use Rattle.bz_engine.specs.declared.run_fault.RunFault.TheVariants.{InputTooLong, Stopped, WriteFailed}
 use Rattle.bz_engine.specs.contracts.session.Session.{the_view}
 use Rattle.bz_engine.specs.declared.report.End.TheVariants.{Syntax, FirstFailure}
+use Rattle.bz_engine.specs.Ahead.{IsTooLong}
 use Rattle.bz_engine.specs.SessionValue.{SessionValue, HasDone, IsLeftByFault, HasEnded}
+use Rattle.bz_engine.proofs.Faults.{passed_on, refused_as}
+use Rattle.bz_engine.proofs.ChunkAhead.{next_fits, nothing_fits}
 use Rattle.bz_engine.proofs.Sessions.{too_long_there, reads_within, read_within}
 use Rattle.bz_engine.proofs.Advances.{chunk_done, chunk_faulty, chunk_failed, left_by_write, on_err, goes_not_on, has_not_ended, same_end, some_chunk, no_chunk, take_some, take_few, whole_end}
 use Rattle.bz_engine.proofs.session.Session.advance.Goals as goal
@@ -135,3 +139,35 @@ pub returns-clause-bound : goal.returns-clause-bound
 returns-clause-bound g c =
     let read = c.find_chunk.ensures.read in
     (read.0, read.1, read_within _ _ c.find_chunk.new.ahead _ read.0 (ap the_view c.self-inside.view_is ∙ c.self.view_is) read.2 c.find_chunk.ensures.bound)
+
+pub returns-in_err-len-clause-refused : goal.returns-in_err-len-clause-refused
+returns-in_err-len-clause-refused g c other long =
+    let fault = c.from_residual in
+    let p = err_from_is_err_and fault.result fault.ensures.1 in
+    let told = λ (e : RunFault) (h : fault.result ≡ Err e). c.in_err-len.was ∙ passed_on fault.result p.0 c.in_err-len.field-0.0 e p.1 p.2 h in
+    refused_as fault.result p.0 p.1 (λ h. c.find_chunk.ensures.runs.0 (told Stopped h)) (λ h. c.find_chunk.ensures.runs.1 (told WriteFailed h))
+    (λ h. (c.find_chunk.ensures.uncertain (told InputTooLong h)).1 long)
+
+pub returns-in_default-clause-refused : goal.returns-in_default-clause-refused
+returns-in_default-clause-refused g c other long =
+    let none = no_chunk c.in_ok-len.field-0 c.find_chunk.new.ahead c.in_ok-len.ensures.none c.in_default.is in
+    absurd (nothing_fits _ c.find_chunk.new.ahead none.0 long)
+
+pub returns-in_err-write-in-Done-clause-refused : goal.returns-in_err-write-in-Done-clause-refused
+returns-in_err-write-in-Done-clause-refused g c other long =
+    let next = some_chunk _ _ _ _ c.in_ok-len.ensures.chunk c.in-Some.is in
+    absurd (next_fits _ c.in-Some.len c.find_chunk.new.ahead next
+    (subst (λ v. IsTooLong v.options.max_statement v.ahead) (c.in_err-write-in-Done.ensures.same ∙ c.edit.ensures.same) long))
+
+pub returns-clause-refused : goal.returns-clause-refused
+returns-clause-refused g c other long =
+    let next = some_chunk _ _ _ _ c.in_ok-len.ensures.chunk c.in-Some.is in
+    elim c.match-edited.branch [
+      | in-Done+in_ok-write-in-Done w ↦ absurd (other (ap Ok w.stage-is))
+      | in-Faulty w ↦ absurd (next_fits _ c.in-Some.len c.find_chunk.new.ahead next
+          (subst (λ v. IsTooLong v.options.max_statement v.ahead) (c.self-2.view_is ∙ w.self-is ∙ c.edit.ensures.same) long))
+      | in-Failed w ↦
+          let fails : SessionValue → SessionValue = λ x. record x { failure = w.in-Failed.message } in
+          absurd (next_fits _ c.in-Some.len c.find_chunk.new.ahead next
+          (subst (λ v. IsTooLong v.options.max_statement v.ahead) (c.self-2.view_is ∙ w.self-is ∙ ap fails (w.self-in-Failed.view_is ∙ c.edit.ensures.same)) long))
+    ]

@@ -1,11 +1,15 @@
-use Rattle.std.proofs.Common.{◌≡◌, ℕ, List, [], ◌∷◌, ◌++◌, ◌∙◌, ap, sym, subst, length, ◌+◌, ◌≤◌}
+use Rattle.std.proofs.Common.{◌≡◌, ◌≢◌, ℕ, List, [], ◌∷◌, ◌++◌, ◌∙◌, ap, sym, subst, length, ◌+◌, ◌≤◌}
 use Rattle.std.specs.Prelude.{IsErrAnd, Ok, Err}
+use Rattle.std.proofs.lemmas.Result.{err_from_is_err_and}
 use Rattle.bz_engine.specs.declared.run_fault.RunFault.{RunFault}
-use Rattle.bz_engine.specs.declared.run_fault.RunFault.TheVariants.{InputTooLong}
+use Rattle.bz_engine.specs.declared.run_fault.RunFault.TheVariants.{InputTooLong, ReadFailed, WriteFailed}
 use Rattle.bz_engine.specs.declared.session.Stage.TheVariants.{Going, Stopped}
 use Rattle.bz_engine.specs.Device.{joined}
+use Rattle.bz_engine.specs.Ahead.{IsTooLong}
 use Rattle.bz_engine.specs.SessionValue.{HasDone, IsLeftByFault, HasEnded}
-use Rattle.bz_engine.proofs.Advances.{restaged, left_before, on_err, which_end, more_is_no_end, end_is_not_more}
+use Rattle.bz_engine.proofs.Faults.{not_passed_on, refused_on, not_refused}
+use Rattle.bz_engine.proofs.Runs.{ok_is_no_err}
+use Rattle.bz_engine.proofs.Advances.{restaged, left_before, on_err, which_end, more_is_no_end, end_is_not_more, ok_same}
 use Rattle.bz_engine.proofs.session.Session.step.Goals as goal
 use Rattle.bz_engine.proofs.session.Session.step.Goals.{in-Going-stage, in_default}
 
@@ -83,3 +87,28 @@ pub returns-clause-bound : goal.returns-clause-bound
 returns-clause-bound g c going =
     let few = c.advance.ensures.bound in
     (few.0, few.1, subst (λ v. length (v.ahead.bytes ++ joined few.0) ≤ v.options.max_statement + 8192) c.self.view_is few.2)
+
+pub returns-in_err-self-inside-clause-refused : goal.returns-in_err-self-inside-clause-refused
+returns-in_err-self-inside-clause-refused g c going other long =
+    let p = err_from_is_err_and c.from_residual.result c.from_residual.ensures.1 in
+    let was = c.in_err-self-inside.was in
+    refused_on c.advance.result c.from_residual.result p.0 c.in_err-self-inside.field-0.0 was p.1 p.2
+    (c.advance.ensures.refused (λ h. ok_is_no_err c.advance.result Going c.in_err-self-inside.field-0.0 h was) long)
+
+pub returns-clause-refused : goal.returns-clause-refused
+returns-clause-refused g c going other long =
+    elim c.match-self-2.branch [
+      | in-Going-stage w ↦ absurd (other w.result-is)
+      | in_default w ↦ absurd (not_refused c.advance.result c.in_ok-self-inside.field-0 c.in_ok-self-inside.was
+          (c.advance.ensures.refused (λ h. w.in_default.not-Going (ok_same c.advance.result _ _ c.in_ok-self-inside.was h))
+          (subst (λ v. IsTooLong v.options.max_statement v.ahead) c.self-2.view_is long)))
+    ]
+
+pub returns-in_err-self-inside-clause-steady : goal.returns-in_err-self-inside-clause-steady
+returns-in_err-self-inside-clause-steady g c =
+    let fault = c.from_residual in
+    let p = err_from_is_err_and fault.result fault.ensures.1 in
+    let was = c.in_err-self-inside.was in
+    let same = λ (e : RunFault) (other : fault.result ≢ Err e) (h : c.advance.result ≡ Err e).
+    not_passed_on fault.result p.0 c.in_err-self-inside.field-0.0 e p.1 p.2 other (sym was ∙ h) in
+    (λ other. c.advance.ensures.steady.0 (same ReadFailed other), λ other. c.advance.ensures.steady.1 (same WriteFailed other))
