@@ -64,6 +64,46 @@ impl Write for Full {
     }
 }
 
+/// A reader and a writer whose first call fails with this error, and whose others would succeed.
+#[derive(Drop)]
+struct Stumbling {
+    kind: ErrorKind,
+    calls: u64,
+}
+
+impl Stumbling {
+    fn new(kind: ErrorKind) -> Stumbling {
+        Stumbling { kind, calls: 0 }
+    }
+
+    /// Counts a call, and fails at the first.
+    fn call(&mut self) -> io::Result<()> {
+        self.calls = self.calls.saturating_add(1);
+        if self.calls == 1 {
+            return Err(io::Error::from(self.kind));
+        }
+        Ok(())
+    }
+}
+
+impl Read for Stumbling {
+    fn read(&mut self, _buf: &mut [u8]) -> io::Result<usize> {
+        self.call()?;
+        Ok(0)
+    }
+}
+
+impl Write for Stumbling {
+    fn write(&mut self, bytes: &[u8]) -> io::Result<usize> {
+        self.call()?;
+        Ok(bytes.len())
+    }
+
+    fn flush(&mut self) -> io::Result<()> {
+        Ok(())
+    }
+}
+
 /// Sets an attribute over the devices, and answers the fault or the status.
 fn ran<S: Source, W: Sink>(
     alloc: Global,
@@ -105,5 +145,37 @@ fn stands_on_std(rt: HostRuntime) -> Result<(), Fail> {
         Err(RunFault::WriteFailed)
     );
     assert_eq!(rt; full.failures(), 1);
+    Ok(())
+}
+
+// A read or a write that failed is not made again, though it would succeed, but told.
+#[test]
+fn ends_at_a_failure(rt: HostRuntime) -> Result<(), Fail> {
+    let alloc = rt.alloc();
+    for kind in [
+        ErrorKind::Other,
+        ErrorKind::IsADirectory,
+        ErrorKind::WouldBlock,
+    ] {
+        let mut reader = Stumbling::new(kind);
+        let mut source = FromRead::new(&mut reader);
+        let mut drip = Drip::new(alloc, 99, None);
+        assert_eq!(rt;
+            ran(alloc, &mut source, &mut drip)?,
+            Err(RunFault::ReadFailed)
+        );
+        assert_eq!(rt; (source.failures(), drip.writes), (1, 0));
+        assert_eq!(rt; reader.calls, 1);
+
+        let mut writer = Stumbling::new(kind);
+        let mut source = FromRead::new(b"f()\n".as_slice());
+        let mut sink = ToWrite::new(&mut writer);
+        assert_eq!(rt;
+            ran(alloc, &mut source, &mut sink)?,
+            Err(RunFault::WriteFailed)
+        );
+        assert_eq!(rt; (source.failures(), sink.failures()), (0, 1));
+        assert_eq!(rt; writer.calls, 1);
+    }
     Ok(())
 }

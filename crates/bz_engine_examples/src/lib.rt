@@ -9,6 +9,8 @@ mod devices;
 #[cfg(test)]
 mod drip;
 #[cfg(test)]
+mod faults;
+#[cfg(test)]
 mod feed;
 #[cfg(test)]
 mod limits;
@@ -18,3 +20,5 @@ mod runs;
 mod script;
 #[cfg(test)]
 mod sessions;
+#[cfg(test)]
+mod sizes;
