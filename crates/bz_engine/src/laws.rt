@@ -38,7 +38,9 @@ pub fn one_list_of_statements()
 
 /// A file has one outcome: one text is written for it, and one thing is told.
 pub fn one_outcome()
-    ensures { (home : Package) (passes : Script) (keep_going : Bool) (max_depth : ℕ) (file text text2 : List ℕ)
+    ensures some { (home : Package) (passes : Script) (keep_going : Bool) (max_depth : ℕ) (file : List ℕ)
+        → (text : List ℕ) × (told : Told) × IsOutcome home passes keep_going max_depth file text told }
+    ensures only { (home : Package) (passes : Script) (keep_going : Bool) (max_depth : ℕ) (file text text2 : List ℕ)
         (told told2 : Told) → IsOutcome home passes keep_going max_depth file text told
         → IsOutcome home passes keep_going max_depth file text2 told2 → (text ≡ text2) × (told ≡ told2) }
 {}
