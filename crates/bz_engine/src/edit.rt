@@ -1,12 +1,11 @@
 //! A whole script on one chunk.
 
 ghost use Rattle.std.specs.Prelude.{◌≡◌, ℕ, ◌+◌, ◌<◌, ◌≤◌, ◌^◌, ◌++◌, Bool, true, false, if◌then◌else◌, List, [], ◌∷◌, Option, None, Some, length, IfOk, OnOk, OnErr, option_map, option_to_list};
-ghost use Rattle.std.specs.List.{flat_map, list_all};
+ghost use Rattle.std.specs.List.{flat_map};
 ghost use Rattle.bz_tree.specs.Tree.{Statement};
 ghost use Rattle.bz_tree.specs.View.{view, slot_view};
 ghost use Rattle.bz_layout.specs.Gaps.{blank_between as is_gap};
 ghost use Rattle.bz_layout.specs.Layout.{layout_text};
-ghost use Rattle.bz_command.specs.Commands.{is_print};
 ghost use Rattle.bz_engine.specs.Exchange.{Fits};
 ghost use Rattle.bz_engine.specs.Outcome.{is_query, text_following, gap_text, failure_text, first_of, log_alone};
 ghost use Rattle.bz_engine.specs.Progress.{IsKeptOf, last_class};
@@ -17,14 +16,13 @@ use crate::entry::Entry;
 use crate::kept::Kept;
 use crate::language::Facts;
 use crate::log::Log;
-use crate::passes::Passes;
 use crate::progress::Progress;
 use crate::report::SyntaxFault;
+use crate::rule_passes::RulePasses;
 use crate::rules::Rules;
 use crate::script::run_script;
-use bz_command::Pass;
 use bz_layout::{blank_between, put_stmt};
-use bz_rule::{Command, Package, Target, Text};
+use bz_rule::{Package, Text};
 use bz_tree::{Class, Stmt};
 use std::alloc::{AllocError, Global};
 
@@ -33,7 +31,7 @@ use std::alloc::{AllocError, Global};
 pub(crate) struct Script<'a> {
     pub(crate) alloc: Global,
     pub(crate) home: &'a Package,
-    pub(crate) passes: &'a Passes<Target, Command>,
+    pub(crate) passes: &'a RulePasses,
     /// A failure does not end the run.
     pub(crate) keep_going: bool,
     pub(crate) max_depth: u8,
@@ -99,7 +97,8 @@ fn edit_statement<'a>(
         failed: progress.failed,
     };
     let kept = progress.kept.as_mut_slice();
-    run_script(&rules, script.passes, &mut slot, &mut *kept, &mut facts)?;
+    let passes = script.passes.indexed();
+    run_script(&rules, passes, &mut slot, &mut *kept, &mut facts)?;
     if facts.failed && !script.keep_going {
         let failure = first_failure(script.alloc, kept)?;
         return Ok(Edited::Failed(failure));
@@ -121,29 +120,6 @@ fn last_class(last: Option<Class>, slot: &Option<Stmt<'_>>) -> Option<Class>
     }
 }
 
-/// Whether all commands of a script print: then it only asks, and no text is written.
-pub fn is_query(passes: &[Pass<Target, Command>]) -> bool
-    ensures { result ≡ is_query passes.now }
-{
-    for pass in passes {
-        if !all_print(pass.commands.as_slice()) {
-            return false;
-        }
-    }
-    true
-}
-
-fn all_print(commands: &[Command]) -> bool
-    ensures { result ≡ list_all is_print commands.now }
-{
-    for command in commands {
-        if !command.is_print() {
-            return false;
-        }
-    }
-    true
-}
-
 /// Writes what is in a slot after the statement of class `last`.
 fn put_slot(
     script: Script<'_>,
@@ -157,7 +133,7 @@ fn put_slot(
     let Some(stmt) = slot else {
         return Ok(());
     };
-    if is_query(script.passes.as_slice()) {
+    if script.passes.is_query() {
         return Ok(());
     }
     put_after(script.alloc, last, stmt, text)?;

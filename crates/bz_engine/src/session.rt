@@ -19,9 +19,9 @@ use crate::entry::Entry;
 use crate::kept::nothing_kept;
 use crate::options::Options;
 use crate::output::write_all;
-use crate::passes::Passes;
 use crate::progress::Progress;
 use crate::report::{End, Report};
+use crate::rule_passes::RulePasses;
 use crate::rules::Rules;
 use crate::run_fault::RunFault;
 use crate::telling::{report_of_all, report_of_failure, report_of_fault};
@@ -54,7 +54,7 @@ pub enum Step {
 pub struct Session {
     alloc: Global,
     home: Package,
-    passes: Passes<Target, Command>,
+    passes: RulePasses,
     options: Options,
     progress: Progress,
     ahead: Ahead,
@@ -89,7 +89,7 @@ impl Session {
         ensures { IfOk result (λ session. session ≡ at_start home passes.items options) }
     {
         let kept = nothing_kept(alloc, passes.as_slice())?;
-        let passes = Passes::new(alloc, passes)?;
+        let passes = RulePasses::new(alloc, passes)?;
         Ok(Session {
             alloc,
             home,

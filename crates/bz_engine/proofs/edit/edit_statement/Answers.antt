@@ -18,11 +18,11 @@ returns-then-not-script-clause-scripted c =
     let left : (slots : List (Slot Statement)) → IsLeftBy (meaning home) (changes home) (fails_on home) passes slots c.progress.inside.kept.items c.progress.inside.changed c.progress.inside.failed
     → IsLeftBy (meaning home) (changes home) (fails_on home) passes (slots ++ Some s ∷ []) new.kept new.facts.changed new.facts.failed =
     subst (λ k. (slots : List (Slot Statement)) → IsLeftBy (meaning home) (changes home) (fails_on home) passes slots k c.progress.inside.changed c.progress.inside.failed
-    → IsLeftBy (meaning home) (changes home) (fails_on home) passes (slots ++ Some s ∷ []) new.kept new.facts.changed new.facts.failed) c.as_mut_slice-kept.ensures.value c.in_ok-run_script.ensures.left in
+    → IsLeftBy (meaning home) (changes home) (fails_on home) passes (slots ++ Some s ∷ []) new.kept new.facts.changed new.facts.failed) c.as_mut_slice-kept.ensures.value (rw c.indexed-passes.ensures at c.in_ok-run_script.ensures.left) in
     ends_there home passes c.args.script.keep_going s c.in_ok-failure.failure c.args.progress.now _
     new.kept new.facts.changed new.facts.failed c.args.text.now.items
     c.if-not-script.true c.if-facts.true
-    (c.in_ok-run_script.ensures.failed ∙ ap (λ p. p.failed || fails_at home passes s) c.progress.view_is)
+    ((rw c.indexed-passes.ensures at c.in_ok-run_script.ensures.failed) ∙ ap (λ p. p.failed || fails_at home passes s) c.progress.view_is)
     (subst (λ p. (slots : List (Slot Statement)) → IsLeftBy (meaning home) (changes home) (fails_on home) passes slots p.kept p.changed p.failed
     → IsLeftBy (meaning home) (changes home) (fails_on home) passes (slots ++ Some s ∷ []) new.kept new.facts.changed new.facts.failed) c.progress.view_is left)
     c.in_ok-failure.ensures (ap (λ p. p.changed) c.progress.view_is) (ap (λ p. p.line) c.progress.view_is)

@@ -1,5 +1,4 @@
 use Rattle.std.proofs.Common.{◌≡◌, ℕ, ◌≤◌, ◌<◌, ◌-◌, false, get_or, length}
-use Rattle.bz_command.specs.Passes.{Pass}
 use Rattle.bz_engine.proofs.script.next_marked.Given as goal
 
 abbrev pub invariant-loop-i : goal.invariant-loop-i

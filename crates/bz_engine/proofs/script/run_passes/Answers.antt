@@ -1,4 +1,4 @@
-use Rattle.std.proofs.Common.{◌≡◌, ◌||◌, ◌+◌, ◌-◌, ℕ, drop, length, get_or, arith, refl}
+use Rattle.std.proofs.Common.{◌≡◌, ◌||◌, ◌+◌, ◌-◌, drop, length, get_or, arith, refl}
 use Rattle.std.proofs.lemmas.Grind.{common_steps}
 use Rattle.bz_engine.proofs.Skips.{Skips, skip_from, fits_on, slot_on, kept_on, some_on, slot_at_end, kept_at_end, some_at_end}
 use Rattle.bz_engine.proofs.Steps.{fits_length, fits_here, fits_after, slot_rest, kept_rest, some_rest, kept_and_fits}

@@ -1,6 +1,6 @@
 use Rattle.std.proofs.Common.{◌≡◌, drop}
 use Rattle.bz_engine.specs.Outcome.{is_query}
-use Rattle.bz_engine.proofs.edit.is_query.Given as goal
+use Rattle.bz_engine.proofs.rule_passes.is_query.Given as goal
 
 -- the passes that are left decide
 abbrev pub invariant-loop-pass : goal.invariant-loop-pass

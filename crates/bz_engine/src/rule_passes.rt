@@ -1,0 +1,87 @@
+//! The passes of a script over rules, with what is asked of them at each statement.
+
+ghost use Rattle.std.specs.Prelude.{◌≡◌, IfOk};
+ghost use Rattle.std.specs.List.{list_all};
+ghost use Rattle.bz_command.specs.Commands.{is_print};
+ghost use Rattle.bz_engine.specs.Outcome as spec;
+
+use crate::passes::Passes;
+use bz_command::Pass;
+use bz_rule::{Command, Target};
+use std::alloc::{AllocError, Global};
+use std::marker::Model;
+
+/// The passes of a script, indexed, and whether they only ask. Contracts see the passes alone.
+#[derive(Drop)]
+pub(crate) struct RulePasses {
+    passes: Passes<Target, Command>,
+    query: bool,
+}
+
+impl Model for RulePasses {
+    ghost use Rattle.std.specs.Prelude.{◌≡◌};
+    ghost use Rattle.bz_engine.specs.Outcome as spec;
+
+    ghost Value = { spec.Script };
+
+    ghost view = { λ s. s.passes };
+
+    ghost invariant = { λ s. s.query ≡ spec.is_query s.passes };
+}
+
+impl RulePasses {
+    /// The passes in this order.
+    pub(crate) fn new(
+        alloc: Global,
+        passes: Vec<Pass<Target, Command>>,
+    ) -> Result<RulePasses, AllocError>
+        ensures { IfOk result (λ made. made ≡ passes.items) }
+    {
+        let query = is_query(passes.as_slice());
+        let passes = Passes::new(alloc, passes)?;
+        Ok(RulePasses { passes, query })
+    }
+
+    /// The passes in order.
+    pub(crate) fn as_slice(&self) -> &[Pass<Target, Command>]
+        ensures { result.now ≡ self.now }
+    {
+        self.passes.as_slice()
+    }
+
+    pub(crate) fn indexed(&self) -> &Passes<Target, Command>
+        ensures { result.now ≡ self.now }
+    {
+        &self.passes
+    }
+
+    /// Whether all commands print.
+    pub(crate) fn is_query(&self) -> bool
+        ensures { result ≡ spec.is_query self.now }
+    {
+        self.query
+    }
+}
+
+/// Whether all commands of a script print: then it only asks, and no text is written.
+pub fn is_query(passes: &[Pass<Target, Command>]) -> bool
+    ensures { result ≡ spec.is_query passes.now }
+{
+    for pass in passes {
+        if !all_print(pass.commands.as_slice()) {
+            return false;
+        }
+    }
+    true
+}
+
+fn all_print(commands: &[Command]) -> bool
+    ensures { result ≡ list_all is_print commands.now }
+{
+    for command in commands {
+        if !command.is_print() {
+            return false;
+        }
+    }
+    true
+}
