@@ -1,6 +1,6 @@
 //! A run over the statements of one file.
 
-ghost use Rattle.std.specs.Prelude.{◌≡◌, ℕ, List, IfOk};
+ghost use Rattle.std.specs.Prelude.{◌≡◌, ℕ, List, IfOk, OnErr};
 ghost use Rattle.buildozer.specs.Runs as spec;
 
 use bz_engine::{End, Options, Pass, Report, RunFault, Sink, Source, run};
@@ -44,6 +44,9 @@ impl Asked {
     ) -> Result<Report, RunFault>
         ensures ran { IfOk result
             (λ report. spec.Ran S.gave W.took self source.old source.new sink.old sink.new report) }
+        // Where it answers no report, a front of the text was written.
+        ensures front { OnErr result ((read : List (List ℕ)) × (text : List ℕ)
+            × S.gave source.old read source.new × W.took sink.old text sink.new × spec.IsFront self read text) }
         ensures devices { (read : List (List ℕ)) × (text : List ℕ)
             × S.gave source.old read source.new × W.took sink.old text sink.new }
     {
