@@ -10,7 +10,7 @@ use std::borrow::CowStr;
 
 /// Whether groups may be broken over lines.
 #[derive(Clone, Copy, Debug, PartialEq, Eq)]
-pub(crate) enum Style {
+pub enum Style {
     /// All on one line, comments left out.
     Flat,
     Broken,

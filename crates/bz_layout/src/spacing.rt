@@ -9,7 +9,7 @@ use bz_tree::{GroupKind, Node};
 
 /// What the nodes so far leave to the next one.
 #[derive(Clone, Copy, Debug, PartialEq, Eq)]
-pub(crate) enum Edge {
+pub enum Edge {
     /// No node stands before it.
     Start,
     /// A prefix, an argument's star or an index's colon, which holds on to what is next.
@@ -24,7 +24,7 @@ pub(crate) enum Edge {
 
 /// What stands before a token or comment.
 #[derive(Clone, Copy, Debug, PartialEq, Eq)]
-pub(crate) enum Gap {
+pub enum Gap {
     Closed,
     Space,
     /// Two spaces, before a comment on the same line.

@@ -1,0 +1,4 @@
+pub mod Unplaced
+pub mod Lexemes
+pub mod ReadPieces
+pub mod Legible

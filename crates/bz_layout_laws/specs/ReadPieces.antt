@@ -1,0 +1,18 @@
+-- The pieces of a layout as pieces that are read: each gap as its bytes.
+use Rattle.std.specs.Prelude.{List, map}
+use Rattle.bz_token.specs.Reading.{Piece as ReadPiece}
+use Rattle.bz_layout.specs.Pieces.{Piece, gap_bytes}
+use Rattle.bz_layout_laws.specs.Lexemes.{Lexeme, lexeme}
+
+abbrev pub read_piece : Piece → ReadPiece
+read_piece p = record { gap = gap_bytes p.gap; kind = p.kind; text = p.text }
+
+abbrev pub read_pieces : List Piece → List ReadPiece
+read_pieces ps = map read_piece ps
+
+-- without gaps
+abbrev pub piece_lexeme : Piece → Lexeme
+piece_lexeme p = lexeme p.kind p.text
+
+abbrev pub piece_lexemes : List Piece → List Lexeme
+piece_lexemes ps = map piece_lexeme ps

@@ -1,0 +1,15 @@
+//! Laws on the spelling of tokens: strings alone are spelled anew, and what they are stays.
+
+ghost use Rattle.std.specs.Prelude.{◌≡◌, ◌==◌, ℕ, List, count_by, true, false};
+ghost use Rattle.bz_token.specs.declared.token.Kind.{Kind};
+ghost use Rattle.bz_token.specs.Lexical.{is_text, is_string_kind};
+ghost use Rattle.bz_layout.specs.Respell.{respell};
+
+/// A token that is spelled anew is one of its kind, as many lines high; spelling it once more changes nothing.
+pub fn spelling_keeps_tokens()
+    ensures text { (kind : Kind) (text : List ℕ) → is_text kind text ≡ true → is_text kind (respell kind text) ≡ true }
+    ensures once { (kind : Kind) (text : List ℕ) → respell kind (respell kind text) ≡ respell kind text }
+    ensures lines { (kind : Kind) (text : List ℕ)
+        → count_by (λ b. b == 10) (respell kind text) ≡ count_by (λ b. b == 10) text }
+    ensures others { (kind : Kind) (text : List ℕ) → is_string_kind kind ≡ false → respell kind text ≡ text }
+{}
