@@ -1,1 +1,3 @@
 pub mod Respelled
+pub mod Bare
+pub mod Pieces

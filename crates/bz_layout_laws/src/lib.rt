@@ -1,4 +1,6 @@
 //! Laws on the text of a statement: what it is read as.
 #![tactic(auto)]
 
+pub mod places;
 pub mod spelling;
+pub mod tokens;
