@@ -1,3 +1,4 @@
 pub mod Respelled
 pub mod Bare
 pub mod Pieces
+pub mod Texts

@@ -1,0 +1,145 @@
+-- Each piece of a layout is a text of its kind.
+use Rattle.std.proofs.Common.{◌≡◌, ℕ, ◌+◌, ◌&&◌, List, [], ◌∷◌, ◌++◌, Bool, true, false, Option, Some, None, refl}
+use Rattle.std.specs.Prelude.{codes, if◌then◌else◌}
+use Rattle.std.specs.List.{list_all}
+use Rattle.std.proofs.lemmas.Bool.{and_parts}
+use Rattle.bz_token.specs.declared.token.Kind.{Kind}
+use Rattle.bz_token.specs.declared.token.Kind.TheVariants.{Sign, Line as LineKind, Note}
+use Rattle.bz_token.specs.Lexical.{signs, is_text, is_comment}
+use Rattle.bz_token_laws.specs.Readable.{are_texts}
+use Rattle.bz_tree.specs.declared.stmt.GroupKind.{GroupKind}
+use Rattle.bz_tree.specs.declared.stmt.GroupKind.TheVariants.{Call, RuleCall, Load, Paren, List as ListKind, Index, Dict, ListComp, DictComp}
+use Rattle.bz_tree.specs.Comments.{beside}
+use Rattle.bz_tree.specs.Tree.{Item, leaf, group, Items, no_items, item, Segs, no_segs, seg, Statement, items_of}
+use Rattle.bz_layout.specs.declared.spacing.Edge.{Edge}
+use Rattle.bz_layout.specs.declared.spacing.Edge.TheVariants.{Start}
+use Rattle.bz_layout.specs.declared.spacing.Gap.{Gap}
+use Rattle.bz_layout.specs.declared.spacing.Gap.TheVariants.{Closed, Space, Line}
+use Rattle.bz_layout.specs.declared.broken.Style.{Style}
+use Rattle.bz_layout.specs.declared.broken.Style.TheVariants.{Broken}
+use Rattle.bz_layout.specs.Spacing.{edge_after, gap_before}
+use Rattle.bz_layout.specs.Broken.{count, is_broken, segs_hold}
+use Rattle.bz_layout.specs.Pieces.{Piece, piece, comma_if, comments, comment_lines, suffix_piece}
+use Rattle.bz_layout.specs.Layout.{opening, closing, has_commas, breaks, item_pieces, items_pieces, broken_segs, flat_segs, statement_line, is_comment as is_comment_class, layout}
+use Rattle.bz_layout_laws.specs.Legible.{AreComments, IsLegibleItem, AreLegible, AreLegibleSegs, IsLegible}
+use Rattle.bz_layout_laws.specs.ReadPieces.{read_pieces}
+use Rattle.bz_layout_laws.proofs.Respelled.{respelled_text}
+
+pub both : (x y : Bool) → x ≡ true → y ≡ true → (x && y) ≡ true
+both x y p q = rw (p, q) refl
+
+-- what holds of both ways
+pub either_way : (P : List Piece → Type 0) (b : Bool) (ps qs : List Piece) → P ps → P qs → P (if b then ps else qs)
+either_way P true ps qs p q = p
+either_way P false ps qs p q = q
+
+-- a record, so that its pieces are known from its type
+pub record AreWhole (ps : List Piece) : Type 0 where
+  pub texts : are_texts (read_pieces ps) ≡ true
+
+whole : {ps : List Piece} → are_texts (read_pieces ps) ≡ true → AreWhole ps
+whole h = record { texts = h }
+
+joined_texts : (ps qs : List Piece) → are_texts (read_pieces ps) ≡ true → are_texts (read_pieces qs) ≡ true → are_texts (read_pieces (ps ++ qs)) ≡ true
+joined_texts [] qs a b = b
+joined_texts (p ∷ ps) qs a b =
+    let h = and_parts (is_text p.kind p.text) (are_texts (read_pieces ps)) a in
+    both (is_text p.kind p.text) (are_texts (read_pieces (ps ++ qs))) h.0 (joined_texts ps qs h.1 b)
+
+whole_join : {ps qs : List Piece} → AreWhole ps → AreWhole qs → AreWhole (ps ++ qs)
+whole_join {ps} {qs} a b = whole (joined_texts ps qs a.texts b.texts)
+
+whole_more : {ps : List Piece} (gap : Gap) (kind : Kind) (text : List ℕ) → is_text kind text ≡ true → AreWhole ps → AreWhole (piece gap kind text ∷ ps)
+whole_more {ps} gap kind text h a = whole (both (is_text kind text) (are_texts (read_pieces ps)) h a.texts)
+
+whole_piece : (gap : Gap) (kind : Kind) (text : List ℕ) → is_text kind text ≡ true → AreWhole (piece gap kind text ∷ [])
+whole_piece gap kind text h = whole (both (is_text kind text) true h refl)
+
+pub comma_text : is_text Sign (codes ",") ≡ true
+unfolding signs
+comma_text = refl
+
+pub opening_text : (kind : GroupKind) → is_text Sign (opening kind) ≡ true
+unfolding signs
+opening_text Call = refl
+opening_text RuleCall = refl
+opening_text Load = refl
+opening_text Paren = refl
+opening_text ListKind = refl
+opening_text Index = refl
+opening_text Dict = refl
+opening_text ListComp = refl
+opening_text DictComp = refl
+
+pub closing_text : (kind : GroupKind) → is_text Sign (closing kind) ≡ true
+unfolding signs
+closing_text Call = refl
+closing_text RuleCall = refl
+closing_text Load = refl
+closing_text Paren = refl
+closing_text ListKind = refl
+closing_text Index = refl
+closing_text Dict = refl
+closing_text ListComp = refl
+closing_text DictComp = refl
+
+comma_whole : (b : Bool) → AreWhole (comma_if b)
+comma_whole true = whole_piece Closed Sign (codes ",") comma_text
+comma_whole false = whole refl
+
+notes_whole : (level : ℕ) (texts : List (List ℕ)) → AreComments texts → AreWhole (comments level texts)
+notes_whole level [] h = whole refl
+notes_whole level (text ∷ texts) h =
+    let p = and_parts (is_comment text) (list_all is_comment texts) h in
+    whole_more (Line level) Note text p.0 (notes_whole level texts p.1)
+
+suffix_whole : (suffix : Option (List ℕ)) → AreComments (beside suffix) → AreWhole (suffix_piece suffix)
+suffix_whole None h = whole refl
+suffix_whole (Some text) h = whole h
+
+lines_whole : (texts : List (List ℕ)) → AreComments texts → AreWhole (comment_lines texts)
+lines_whole [] h = whole refl
+lines_whole (text ∷ texts) h =
+    let p = and_parts (is_comment text) (list_all is_comment texts) h in
+    whole_more Closed Note text p.0 (whole_more Closed LineKind (codes "\n") refl (lines_whole texts p.1))
+
+mutual
+  item_whole : (style : Style) (level : ℕ) (gap : Gap) (x : Item) → IsLegibleItem x → AreWhole (item_pieces style level gap x)
+  item_whole style level gap (leaf kind text place) h = whole_piece gap kind _ (respelled_text kind text h.0)
+  item_whole style level gap (group kind segs one_comma end) h =
+      let comma = has_commas kind one_comma (count segs) in
+      let last : List Piece = piece (Line level) Sign (closing kind) ∷ [] in
+      let close : List Piece = piece Closed Sign (closing kind) ∷ [] in
+      whole_more gap Sign (opening kind) (opening_text kind)
+      (either_way AreWhole (breaks style (is_broken kind segs end (segs_hold segs))) (broken_segs style (level + 1) kind comma segs ++ (comments (level + 1) end ++ last)) (flat_segs style level kind true segs ++ (comma_if one_comma ++ close))
+      (whole_join (broken_whole style (level + 1) kind comma segs h.0) (whole_join (notes_whole (level + 1) end h.1) (whole_piece (Line level) Sign (closing kind) (closing_text kind))))
+      (whole_join (flat_whole style level kind true segs h.0) (whole_join (comma_whole one_comma) (whole_piece Closed Sign (closing kind) (closing_text kind)))))
+
+  items_whole : (style : Style) (level : ℕ) (within : Option GroupKind) (first : Gap) (left : Edge) (xs : Items) → AreLegible within left xs → AreWhole (items_pieces style level within first left xs)
+  items_whole style level within first left no_items h = whole refl
+  items_whole style level within first left (item x xs) h =
+      whole_join (item_whole style level (gap_before first left x) x h.1) (items_whole style level within first (edge_after within left x) xs h.2)
+
+  broken_whole : (style : Style) (level : ℕ) (kind : GroupKind) (comma : Bool) (ss : Segs) → AreLegibleSegs kind ss → AreWhole (broken_segs style level kind comma ss)
+  broken_whole style level kind comma no_segs h = whole refl
+  broken_whole style level kind comma (seg before nodes suffix ss) h =
+      whole_join (notes_whole level before h.0)
+      (whole_join (items_whole style level (Some kind) (Line level) Start nodes h.2)
+      (whole_join (comma_whole comma) (whole_join (suffix_whole suffix h.3) (broken_whole style level kind comma ss h.4))))
+
+  flat_whole : (style : Style) (level : ℕ) (kind : GroupKind) (first : Bool) (ss : Segs) → AreLegibleSegs kind ss → AreWhole (flat_segs style level kind first ss)
+  flat_whole style level kind first no_segs h = whole refl
+  flat_whole style level kind true (seg before nodes suffix ss) h =
+      whole_join (items_whole style level (Some kind) Closed Start nodes h.2) (flat_whole style level kind false ss h.4)
+  flat_whole style level kind false (seg before nodes suffix ss) h =
+      whole_more Closed Sign (codes ",") comma_text (whole_join (items_whole style level (Some kind) Space Start nodes h.2) (flat_whole style level kind false ss h.4))
+
+newline_whole : AreWhole (piece Closed LineKind (codes "\n") ∷ [])
+newline_whole = whole refl
+
+line_whole : (s : Statement) → IsLegible s → AreWhole (statement_line s)
+line_whole s h =
+    whole_join (items_whole Broken 0 None Closed Start (items_of s.nodes) h.nodes) (whole_join (suffix_whole s.suffix h.suffix) newline_whole)
+
+pub layout_whole : (s : Statement) → IsLegible s → AreWhole (layout s)
+layout_whole s h = whole_join (lines_whole s.before h.before) (either_way AreWhole (is_comment_class s.class) [] (statement_line s) (whole refl) (line_whole s h))
