@@ -2,3 +2,5 @@ pub mod Respelled
 pub mod Bare
 pub mod Pieces
 pub mod Texts
+pub mod NoBrackets
+pub mod Fitting
