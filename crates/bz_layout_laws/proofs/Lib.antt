@@ -4,3 +4,5 @@ pub mod Pieces
 pub mod Texts
 pub mod NoBrackets
 pub mod Fitting
+pub mod Stopping
+pub mod Ended

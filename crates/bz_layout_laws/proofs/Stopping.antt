@@ -1,0 +1,197 @@
+-- What follows a node ends it: the first byte of the next node after its gap.
+use Rattle.std.proofs.Common.{◌≡◌, ℕ, ◌==◌, ◌&&◌, ◌||◌, List, [], ◌∷◌, ◌++◌, Bool, true, false, not, Option, Some, None, refl, sym, ap, subst, ◌∙◌, inl, inr}
+use Rattle.std.specs.Prelude.{codes, bytes_eq, if◌then◌else◌}
+use Rattle.std.specs.List.{list_any}
+use Rattle.std.proofs.lemmas.Bool.{cases_Bool, and_parts, or_cases, not-true, false≢true, eqb-true}
+use Rattle.bz_token.specs.declared.token.Kind.{Kind}
+use Rattle.bz_token.specs.declared.token.Kind.TheVariants.{Ident, Word, Int, Text, Sign, Line as LineKind, Note, Kept}
+use Rattle.bz_token.specs.Pieces.{is_quote}
+use Rattle.bz_token.specs.Lexical.{begins, is_newline, is_text, is_word_byte}
+use Rattle.bz_token.specs.Ends.{is_note, stops_at, ends}
+use Rattle.bz_token.proofs.Classes.{same_bytes, empty_no_text}
+use Rattle.bz_token.proofs.Stops.{sign_stops, plain_stops}
+use Rattle.bz_token_laws.proofs.Readable.{stopped_at_ends}
+use Rattle.bz_tree.specs.declared.stmt.GroupKind.{GroupKind}
+use Rattle.bz_tree.specs.declared.stmt.GroupKind.TheVariants.{Call, RuleCall, Load, Paren, List as ListKind, Index, Dict, ListComp, DictComp}
+use Rattle.bz_tree.specs.Kinds.{kind_mark}
+use Rattle.bz_tree.specs.Tree.{Item, leaf, group, Place}
+use Rattle.bz_layout.specs.declared.spacing.Edge.{Edge}
+use Rattle.bz_layout.specs.declared.spacing.Edge.TheVariants.{Start, Joined, Dotted, Operator, Operand}
+use Rattle.bz_layout.specs.declared.spacing.Gap.{Gap}
+use Rattle.bz_layout.specs.declared.spacing.Gap.TheVariants.{Closed, Space}
+use Rattle.bz_layout.specs.declared.broken.Style.{Style}
+use Rattle.bz_layout.specs.Respell.{is_single, respell}
+use Rattle.bz_layout.specs.Spacing.{closes_up, edge_after, holds_on, gap_before, is_start, is_prefix, begins_argument, is_index_colon}
+use Rattle.bz_layout.specs.Pieces.{Piece, piece, bytes_of}
+use Rattle.bz_layout.specs.Layout.{opening, item_pieces}
+use Rattle.bz_layout_laws.specs.Legible.{is_leaf_mark, is_later, may_follow, IsLegibleItem}
+use Rattle.bz_layout_laws.proofs.Respelled.{respelled_text}
+
+-- the text of pieces and what follows it
+abbrev pub before : List Piece → List ℕ → List ℕ
+before ps rest = bytes_of ps ++ rest
+
+-- a first byte that ends every text but a comment's
+abbrev pub stops_all : List ℕ → Bool
+stops_all [] = true
+stops_all (b ∷ bs) = not (is_word_byte b) && not (is_quote b) && not (is_later b)
+
+-- what may stand directly after a node that leaves this edge
+abbrev pub may_stand : Edge → List ℕ → Bool
+may_stand e bytes = if holds_on e then not (begins is_later bytes) else stops_all bytes
+
+pub stops_may : (e : Edge) (bytes : List ℕ) → stops_all bytes ≡ true → may_stand e bytes ≡ true
+stops_may Start bytes h = h
+stops_may Operator bytes h = h
+stops_may Operand bytes h = h
+stops_may Joined [] h = refl
+stops_may Joined (b ∷ bs) h = (and_parts (not (is_word_byte b) && not (is_quote b)) (not (is_later b)) h).1
+stops_may Dotted [] h = refl
+stops_may Dotted (b ∷ bs) h = (and_parts (not (is_word_byte b) && not (is_quote b)) (not (is_later b)) h).1
+
+pub newline_stops_all : (bytes : List ℕ) → begins is_newline bytes ≡ true → stops_all bytes ≡ true
+newline_stops_all [] h = refl
+newline_stops_all (b ∷ bs) h = let same : b ≡ 10 = eqb-true b 10 h in rw same refl
+
+-- a text but a comment's, and such a byte after it
+stopped_plain : (kind : Kind) (text after : List ℕ) → is_text kind text ≡ true → is_note kind ≡ false → stops_all after ≡ true → stops_at kind text after ≡ true
+stopped_plain kind text [] is note h = refl
+stopped_plain kind text (b ∷ bs) is note h =
+    let p = and_parts (not (is_word_byte b) && not (is_quote b)) (not (is_later b)) h in
+    let q = and_parts (not (is_word_byte b)) (not (is_quote b)) p.0 in
+    plain_stops kind text b is note (not-true _ q.0) (not-true _ q.1) (not-true _ p.1)
+
+pub ended_plain : (kind : Kind) (text after : List ℕ) → is_text kind text ≡ true → is_note kind ≡ false → stops_all after ≡ true → ends kind text after ≡ true
+ended_plain kind text after is note h = stopped_at_ends kind text after (stopped_plain kind text after is note h)
+
+-- a sign, and no byte after it that lengthens one
+ended_sign : (text after : List ℕ) → is_text Sign text ≡ true → not (begins is_later after) ≡ true → ends Sign text after ≡ true
+ended_sign text [] is h = refl
+ended_sign text (b ∷ bs) is h = sign_stops text b is (not-true _ h)
+
+sign_by_edge : (e : Edge) (text after : List ℕ) → is_text Sign text ≡ true → may_stand e after ≡ true → ends Sign text after ≡ true
+sign_by_edge Start text after is h = ended_plain Sign text after is refl h
+sign_by_edge Operator text after is h = ended_plain Sign text after is refl h
+sign_by_edge Operand text after is h = ended_plain Sign text after is refl h
+sign_by_edge Joined text after is h = ended_sign text after is h
+sign_by_edge Dotted text after is h = ended_sign text after is h
+
+-- a leaf is ended by what may stand after it
+pub leaf_ended : (within : Option GroupKind) (left : Edge) (kind : Kind) (text : List ℕ) (place : Place) (after : List ℕ) → IsLegibleItem (leaf kind text place) → may_stand (edge_after within left (leaf kind text place)) after ≡ true
+    → ends kind (respell kind text) after ≡ true
+leaf_ended within left Sign text place after h stands = sign_by_edge (edge_after within left (leaf Sign text place)) text after h.0 stands
+leaf_ended within left Ident text place after h stands = ended_plain Ident text after h.0 refl stands
+leaf_ended within left Word text place after h stands = ended_plain Word text after h.0 refl stands
+leaf_ended within left Int text place after h stands = ended_plain Int text after h.0 refl stands
+leaf_ended within left Text text place after h stands = ended_plain Text (respell Text text) after (respelled_text Text text h.0) refl stands
+leaf_ended within left LineKind text place after h stands = absurd (false≢true h.1)
+leaf_ended within left Note text place after h stands = absurd (false≢true h.1)
+leaf_ended within left Kept text place after h stands = absurd (false≢true h.0)
+
+-- what is after a node is no start
+pub edge_started : (within : Option GroupKind) (left : Edge) (x : Item) → is_start (edge_after within left x) ≡ false
+edge_started within left (leaf Sign text place) = by (bytes_eq text (codes ".")) (is_prefix left text || begins_argument within left text || is_index_colon within text)
+  where
+    by : (a b : Bool) → is_start (if a then Dotted else (if b then Joined else Operator)) ≡ false
+    by true b = refl
+    by false true = refl
+    by false false = refl
+edge_started within left (leaf Word text place) = refl
+edge_started within left (leaf Ident text place) = refl
+edge_started within left (leaf Int text place) = refl
+edge_started within left (leaf Text text place) = refl
+edge_started within left (leaf LineKind text place) = refl
+edge_started within left (leaf Note text place) = refl
+edge_started within left (leaf Kept text place) = refl
+edge_started within left (group kind segs one_comma end) = refl
+
+-- the first byte of a token
+begins_append : (p : ℕ → Bool) (kind : Kind) (text more : List ℕ) → is_text kind text ≡ true → begins p (text ++ more) ≡ begins p text
+begins_append p kind [] more is = absurd (empty_no_text kind is)
+begins_append p kind (b ∷ bs) more is = refl
+
+respelled_begins : (kind : Kind) (text : List ℕ) → begins is_later text ≡ false → begins is_later (respell kind text) ≡ false
+respelled_begins Text text h = elim (cases_Bool (is_single text)) [ inl hit ↦ rw hit refl | inr miss ↦ rw miss h ]
+respelled_begins Ident text h = h
+respelled_begins Word text h = h
+respelled_begins Int text h = h
+respelled_begins Sign text h = h
+respelled_begins LineKind text h = h
+respelled_begins Note text h = h
+respelled_begins Kept text h = h
+
+-- directly after what holds on to it
+leaf_held : (kind : Kind) (text more rest : List ℕ) → is_text kind text ≡ true → not (begins is_later text) ≡ true → not (begins is_later ((respell kind text ++ more) ++ rest)) ≡ true
+leaf_held kind text more rest is h =
+    let respelled = respelled_text kind text is in
+    let none : begins is_later (respell kind text) ≡ false = respelled_begins kind text (not-true _ h) in
+    ap not (begins_twice (respell kind text) respelled ∙ none)
+  where
+    begins_twice : (t : List ℕ) → is_text kind t ≡ true → begins is_later ((t ++ more) ++ rest) ≡ begins is_later t
+    begins_twice [] is = absurd (empty_no_text kind is)
+    begins_twice (b ∷ bs) is = refl
+
+group_held : (kind : GroupKind) (more rest : List ℕ) → not (begins is_later ((opening kind ++ more) ++ rest)) ≡ true
+group_held Call more rest = refl
+group_held RuleCall more rest = refl
+group_held Load more rest = refl
+group_held Paren more rest = refl
+group_held ListKind more rest = refl
+group_held Index more rest = refl
+group_held Dict more rest = refl
+group_held ListComp more rest = refl
+group_held DictComp more rest = refl
+
+pub opening_stops : (kind : GroupKind) (more rest : List ℕ) → stops_all ((opening kind ++ more) ++ rest) ≡ true
+opening_stops Call more rest = refl
+opening_stops RuleCall more rest = refl
+opening_stops Load more rest = refl
+opening_stops Paren more rest = refl
+opening_stops ListKind more rest = refl
+opening_stops Index more rest = refl
+opening_stops Dict more rest = refl
+opening_stops ListComp more rest = refl
+opening_stops DictComp more rest = refl
+
+-- a leaf that closes up begins with a mark
+mark_stops_all : (text more rest : List ℕ) → (bytes_eq text (codes ".") || bytes_eq text (codes ",") || bytes_eq text (codes ":")) ≡ true → stops_all ((text ++ more) ++ rest) ≡ true
+mark_stops_all text more rest h = elim (or_cases (bytes_eq text (codes ".") || bytes_eq text (codes ",")) (bytes_eq text (codes ":")) h) [
+  | inr colon ↦ at (codes ":") colon refl
+  | inl two ↦ elim (or_cases (bytes_eq text (codes ".")) (bytes_eq text (codes ",")) two) [ inl point ↦ at (codes ".") point refl | inr comma ↦ at (codes ",") comma refl ]
+]
+  where
+    at : (t : List ℕ) → bytes_eq text t ≡ true → stops_all ((t ++ more) ++ rest) ≡ true → stops_all ((text ++ more) ++ rest) ≡ true
+    at t is h = ap (λ x. stops_all ((x ++ more) ++ rest)) (same_bytes text t is) ∙ h
+
+closed_up : (kind : Kind) (text : List ℕ) (place : Place) (more rest : List ℕ) → closes_up (leaf kind text place) ≡ true → stops_all ((respell kind text ++ more) ++ rest) ≡ true
+closed_up Sign text place more rest h = mark_stops_all text more rest h
+closed_up Ident text place more rest h = absurd (false≢true h)
+closed_up Word text place more rest h = absurd (false≢true h)
+closed_up Int text place more rest h = absurd (false≢true h)
+closed_up Text text place more rest h = absurd (false≢true h)
+closed_up LineKind text place more rest h = absurd (false≢true h)
+closed_up Note text place more rest h = absurd (false≢true h)
+closed_up Kept text place more rest h = absurd (false≢true h)
+
+abbrev spaced : Bool → Gap
+spaced c = if c then Closed else Space
+
+-- a node after its gap, where neither holds on
+spaced_stands : (style : Style) (level : ℕ) (x : Item) (more : List Piece) (rest : List ℕ) (c : Bool) → closes_up x ≡ c → stops_all (before (item_pieces style level (spaced c) x ++ more) rest) ≡ true
+spaced_stands style level (leaf kind text place) more rest false e = refl
+spaced_stands style level (leaf kind text place) more rest true e = closed_up kind text place (bytes_of more) rest e
+spaced_stands style level (group kind segs one_comma end) more rest false e = refl
+spaced_stands style level (group kind segs one_comma end) more rest true e = opening_stops kind _ rest
+
+held_stands : (style : Style) (level : ℕ) (x : Item) (more : List Piece) (rest : List ℕ) → IsLegibleItem x → may_follow Joined x ≡ true → not (begins is_later (before (item_pieces style level Closed x ++ more) rest)) ≡ true
+held_stands style level (leaf kind text place) more rest h follows = leaf_held kind text (bytes_of more) rest h.0 follows
+held_stands style level (group kind segs one_comma end) more rest h follows = group_held kind _ rest
+
+-- the next node after its gap may stand there
+pub next_stands : (style : Style) (level : ℕ) (first : Gap) (e : Edge) (x : Item) (more : List Piece) (rest : List ℕ) → is_start e ≡ false → may_follow e x ≡ true → IsLegibleItem x
+    → may_stand e (before (item_pieces style level (gap_before first e x) x ++ more) rest) ≡ true
+next_stands style level first Start x more rest started follows h = absurd (false≢true (sym started))
+next_stands style level first Joined x more rest started follows h = held_stands style level x more rest h follows
+next_stands style level first Dotted x more rest started follows h = held_stands style level x more rest h follows
+next_stands style level first Operator x more rest started follows h = spaced_stands style level x more rest (closes_up x) refl
+next_stands style level first Operand x more rest started follows h = spaced_stands style level x more rest (closes_up x) refl
