@@ -6,3 +6,4 @@ pub mod NoBrackets
 pub mod Fitting
 pub mod Stopping
 pub mod Ended
+pub mod TokensBack

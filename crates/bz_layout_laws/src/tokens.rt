@@ -15,3 +15,22 @@ ghost use Rattle.bz_layout_laws.specs.ReadPieces.{piece_lexemes, read_pieces};
 pub fn pieces_are_the_lexemes()
     ensures { (s : Statement) → piece_lexemes (layout s) ≡ lexemes_of s }
 {}
+
+/// The pieces of a legible statement's text pass the tests by which pieces are what their bytes are read as, whatever
+/// follows the text: each text is one of its kind and is ended by what follows it, each gap may stand where it stands,
+/// and the brackets fit and are closed.
+pub fn a_layout_can_be_read()
+    ensures { (depth : ℕ) (s : Statement) (rest : List ℕ) → IsLegible s → depth_of s ≤ depth
+        → (are_texts (read_pieces (layout s)) ≡ true) × (are_ended (read_pieces (layout s)) rest ≡ true)
+        × (are_fitting depth [] (read_pieces (layout s)) ≡ true) × (open_after [] (read_pieces (layout s)) ≡ []) }
+{}
+
+/// So the text of a legible statement has tokens, the last of which is a newline that ends it, and these are the
+/// lexemes of the statement and no others.
+pub fn a_text_has_its_tokens()
+    ensures some { (first depth : ℕ) (s : Statement) → IsLegible s → depth_of s ≤ depth
+        → (tokens : List Placed) × AreLinesOf first depth (layout_text s) tokens
+        × (map lexeme_of tokens ≡ lexemes_of s) }
+    ensures only { (first depth : ℕ) (s : Statement) (tokens : List Placed) → IsLegible s → depth_of s ≤ depth
+        → AreTokensOf first depth (layout_text s) tokens → map lexeme_of tokens ≡ lexemes_of s }
+{}

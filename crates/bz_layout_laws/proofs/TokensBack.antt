@@ -1,0 +1,93 @@
+-- The text of a statement is read as the tokens of the statement.
+use Rattle.std.proofs.Common.{◌≡◌, ℕ, ◌≤◌, List, [], ◌∷◌, ◌++◌, map, Bool, true, false, Option, Some, None, refl, sym, ap, subst, ◌∙◌, append-nil, inl, inr}
+use Rattle.std.specs.Prelude.{codes, if◌then◌else◌}
+use Rattle.std.proofs.lemmas.Bool.{cases_Bool, false≢true}
+use Rattle.bz_token.specs.declared.token.Kind.TheVariants.{Line as LineKind}
+use Rattle.bz_token.specs.Brackets.{is_line, open_after_token}
+use Rattle.bz_token.specs.FreshStart.{ends_in_line, AreLinesOf}
+use Rattle.bz_token.specs.Places.{Placed, line_at}
+use Rattle.bz_token.specs.Reading.{open_after, tokens_of, AreTokensOf}
+use Rattle.bz_token.proofs.OneFault.{one_tokens}
+use Rattle.bz_token_laws.specs.Readable.{are_texts, are_ended, are_fitting}
+use Rattle.bz_token_laws.proofs.Readable.{laid_lines}
+use Rattle.bz_tree.specs.Tree.{Statement, items_of}
+use Rattle.bz_layout.specs.declared.spacing.Edge.TheVariants.{Start}
+use Rattle.bz_layout.specs.declared.spacing.Gap.TheVariants.{Closed}
+use Rattle.bz_layout.specs.declared.broken.Style.TheVariants.{Broken}
+use Rattle.bz_layout.specs.Pieces.{Piece, piece, gap_bytes, comment_lines, suffix_piece}
+use Rattle.bz_layout.specs.Layout.{items_pieces, statement_line, is_comment, layout, layout_text}
+use Rattle.bz_layout_laws.specs.Legible.{IsLegible, depth_of}
+use Rattle.bz_layout_laws.specs.Lexemes.{Lexeme, lexeme, lexeme_of, lexemes_of}
+use Rattle.bz_layout_laws.specs.ReadPieces.{read_pieces, piece_lexemes}
+use Rattle.bz_layout_laws.proofs.Pieces.{layout_lexemes}
+use Rattle.bz_layout_laws.proofs.Texts.{layout_whole}
+use Rattle.bz_layout_laws.proofs.Fitting.{layout_fits}
+use Rattle.bz_layout_laws.proofs.Ended.{read_bytes, layout_ended}
+
+token_lexemes : (first : ℕ) (before lines : List ℕ) (ps : List Piece) → map lexeme_of (tokens_of first before lines (read_pieces ps)) ≡ piece_lexemes ps
+token_lexemes first before lines [] = refl
+token_lexemes first before lines (p ∷ ps) =
+    ap (λ l. lexeme p.kind p.text ∷ l) (token_lexemes first (before ++ (gap_bytes p.gap ++ p.text)) (line_at first (before ++ gap_bytes p.gap) ∷ lines) ps)
+
+-- the last piece is a newline
+abbrev ends_line : List Piece → Bool
+ends_line [] = false
+ends_line (p ∷ []) = is_line p.kind
+ends_line (p ∷ q ∷ ps) = ends_line (q ∷ ps)
+
+ends_after : (ps qs : List Piece) → ends_line qs ≡ true → ends_line (ps ++ qs) ≡ true
+ends_after [] qs h = h
+ends_after (p ∷ []) [] h = absurd (false≢true h)
+ends_after (p ∷ []) (q ∷ qs) h = h
+ends_after (p ∷ r ∷ ps) qs h = ends_after (r ∷ ps) qs h
+
+ends_read : (ps : List Piece) → ends_line ps ≡ true → ends_in_line (read_pieces ps) ≡ true
+ends_read [] h = absurd (false≢true h)
+ends_read (p ∷ []) h = h
+ends_read (p ∷ q ∷ ps) h = ends_read (q ∷ ps) h
+
+comments_end : (texts : List (List ℕ)) → ends_in_line (read_pieces (comment_lines texts)) ≡ true
+comments_end [] = refl
+comments_end (text ∷ []) = refl
+comments_end (text ∷ next ∷ texts) = comments_end (next ∷ texts)
+
+line_ends : (s : Statement) → ends_line (statement_line s) ≡ true
+line_ends s =
+    let newline : List Piece = piece Closed LineKind (codes "\n") ∷ [] in
+    ends_after (items_pieces Broken 0 None Closed Start (items_of s.nodes)) (suffix_piece s.suffix ++ newline) (ends_after (suffix_piece s.suffix) newline refl)
+
+layout_ends : (s : Statement) → ends_in_line (read_pieces (layout s)) ≡ true
+layout_ends s = by (is_comment s.class)
+  where
+    by : (b : Bool) → ends_in_line (read_pieces (comment_lines s.before ++ (if b then [] else statement_line s))) ≡ true
+    by true = ap (λ ps. ends_in_line (read_pieces ps)) (append-nil (comment_lines s.before)) ∙ comments_end s.before
+    by false = ends_read (comment_lines s.before ++ statement_line s) (ends_after (comment_lines s.before) (statement_line s) (line_ends s))
+
+-- the three tests
+pub layout_read : (depth : ℕ) (s : Statement) (rest : List ℕ) → IsLegible s → depth_of s ≤ depth
+    → (are_texts (read_pieces (layout s)) ≡ true) × (are_ended (read_pieces (layout s)) rest ≡ true) × (are_fitting depth [] (read_pieces (layout s)) ≡ true) × (open_after [] (read_pieces (layout s)) ≡ [])
+layout_read depth s rest h room =
+    let fits = layout_fits depth s h room in
+    ((layout_whole s h).texts, (layout_ended s rest h).ended, fits.fitting, fits.leaves)
+
+abbrev tokens_back : ℕ → Statement → List Placed
+tokens_back first s = tokens_of first [] [] (read_pieces (layout s))
+
+read_lines : (first depth : ℕ) (s : Statement) → IsLegible s → depth_of s ≤ depth → AreLinesOf first depth (layout_text s) (tokens_back first s)
+read_lines first depth s h room =
+    let tests = layout_read depth s [] h room in
+    subst (λ bytes. AreLinesOf first depth bytes (tokens_back first s)) (read_bytes (layout s)) (laid_lines first depth (read_pieces (layout s)) tests.0 tests.1 tests.2 tests.3 (layout_ends s))
+
+back_lexemes : (first : ℕ) (s : Statement) → map lexeme_of (tokens_back first s) ≡ lexemes_of s
+back_lexemes first s = token_lexemes first [] [] (layout s) ∙ layout_lexemes s
+
+pub layout_tokens : (first depth : ℕ) (s : Statement) → IsLegible s → depth_of s ≤ depth → (tokens : List Placed) × AreLinesOf first depth (layout_text s) tokens × (map lexeme_of tokens ≡ lexemes_of s)
+layout_tokens first depth s h room = (tokens_back first s, read_lines first depth s h room, back_lexemes first s)
+
+lines_are_tokens : (first depth : ℕ) (bytes : List ℕ) (tokens : List Placed) → AreLinesOf first depth bytes tokens → AreTokensOf first depth bytes tokens
+lines_are_tokens first depth bytes tokens a = (a.0, [], a.1, refl, a.2, a.4)
+
+pub layout_tokens_only : (first depth : ℕ) (s : Statement) (tokens : List Placed) → IsLegible s → depth_of s ≤ depth → AreTokensOf first depth (layout_text s) tokens → map lexeme_of tokens ≡ lexemes_of s
+layout_tokens_only first depth s tokens h room are =
+    ap (map lexeme_of) (one_tokens first depth (layout_text s) tokens (tokens_back first s) are (lines_are_tokens first depth (layout_text s) (tokens_back first s) (read_lines first depth s h room)))
+    ∙ back_lexemes first s
