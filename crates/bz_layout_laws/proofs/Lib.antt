@@ -6,4 +6,5 @@ pub mod NoBrackets
 pub mod Fitting
 pub mod Stopping
 pub mod Ended
+pub mod Beside
 pub mod TokensBack

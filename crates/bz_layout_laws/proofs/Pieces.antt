@@ -5,19 +5,18 @@ use Rattle.std.proofs.lemmas.Bool.{cases_Bool}
 use Rattle.std.proofs.lemmas.List.{map-append}
 use Rattle.bz_token.specs.declared.token.Kind.TheVariants.{Sign, Line as LineKind, Note}
 use Rattle.bz_tree.specs.declared.stmt.GroupKind.{GroupKind}
-use Rattle.bz_tree.specs.Comments.{beside}
 use Rattle.bz_tree.specs.Tree.{Item, leaf, group, Items, no_items, item, Segs, no_segs, seg, Statement, items_of}
 use Rattle.bz_layout.specs.declared.spacing.Edge.{Edge}
-use Rattle.bz_layout.specs.declared.spacing.Edge.TheVariants.{Start}
+use Rattle.bz_layout.specs.declared.spacing.Edge.TheVariants.{Start, Joined, Dotted, Operator, Operand}
 use Rattle.bz_layout.specs.declared.spacing.Gap.{Gap}
 use Rattle.bz_layout.specs.declared.spacing.Gap.TheVariants.{Closed, Space, Line}
 use Rattle.bz_layout.specs.declared.broken.Style.TheVariants.{Broken}
-use Rattle.bz_layout.specs.Spacing.{edge_after, gap_before}
+use Rattle.bz_layout.specs.Spacing.{closes_up, edge_after, gap_before}
 use Rattle.bz_layout.specs.Broken.{count, is_broken, segs_hold}
 use Rattle.bz_layout.specs.Pieces.{Piece, piece, comma_if, comments, comment_lines, suffix_piece}
 use Rattle.bz_layout.specs.Layout.{opening, closing, has_commas, item_pieces, items_pieces, broken_segs, flat_segs, statement_line, is_comment, layout}
-use Rattle.bz_layout_laws.specs.Lexemes.{Lexeme, lexeme, notes, comma_lexemes, item_lexemes, items_lexemes, ended_lexemes, separated_lexemes, note_lines, line_lexemes, lexemes_of}
-use Rattle.bz_layout_laws.specs.ReadPieces.{piece_lexeme, piece_lexemes}
+use Rattle.bz_layout_laws.specs.Lexemes.{Lexeme, lexeme, notes, suffix_lexemes, comma_lexemes, item_lexemes, items_lexemes, ended_lexemes, separated_lexemes, note_lines, line_lexemes, lexemes_of}
+use Rattle.bz_layout_laws.specs.ReadPieces.{is_apart, piece_lexeme, piece_lexemes}
 
 join : (ps qs : List Piece) → piece_lexemes (ps ++ qs) ≡ piece_lexemes ps ++ piece_lexemes qs
 join ps qs = map-append piece_lexeme ps qs
@@ -30,7 +29,7 @@ note_pieces : (level : ℕ) (texts : List (List ℕ)) → piece_lexemes (comment
 note_pieces level [] = refl
 note_pieces level (text ∷ texts) = ap (λ l. lexeme Note text ∷ l) (note_pieces level texts)
 
-suffix_pieces : (suffix : Option (List ℕ)) → piece_lexemes (suffix_piece suffix) ≡ notes (beside suffix)
+suffix_pieces : (suffix : Option (List ℕ)) → piece_lexemes (suffix_piece suffix) ≡ suffix_lexemes suffix
 suffix_pieces None = refl
 suffix_pieces (Some text) = refl
 
@@ -42,25 +41,41 @@ either : (b : Bool) (ps qs : List Piece) → piece_lexemes (if b then ps else qs
 either true ps qs = refl
 either false ps qs = refl
 
+pub gap_is : (first : Gap) (left : Edge) (x : Item) → is_apart first ≡ false → is_apart (gap_before first left x) ≡ false
+gap_is first Start x h = h
+gap_is first Joined x h = refl
+gap_is first Dotted x h = refl
+gap_is first Operator x h = closed_or_space (closes_up x)
+  where
+    closed_or_space : (b : Bool) → is_apart (if b then Closed else Space) ≡ false
+    closed_or_space true = refl
+    closed_or_space false = refl
+gap_is first Operand x h = closed_or_space (closes_up x)
+  where
+    closed_or_space : (b : Bool) → is_apart (if b then Closed else Space) ≡ false
+    closed_or_space true = refl
+    closed_or_space false = refl
+
 mutual
-  item_pieces_are : (level : ℕ) (gap : Gap) (x : Item) → piece_lexemes (item_pieces Broken level gap x) ≡ item_lexemes x
-  item_pieces_are level gap (leaf kind text place) = refl
-  item_pieces_are level gap (group kind segs one_comma end) =
+  item_pieces_are : (level : ℕ) (gap : Gap) (x : Item) → is_apart gap ≡ false → piece_lexemes (item_pieces Broken level gap x) ≡ item_lexemes x
+  item_pieces_are level gap (leaf kind text place) h = rw h refl
+  item_pieces_are level gap (group kind segs one_comma end) h =
       let comma = has_commas kind one_comma (count segs) in
       let last : List Piece = piece (Line level) Sign (closing kind) ∷ [] in
       let close : List Piece = piece Closed Sign (closing kind) ∷ [] in
       let broken = broken_segs Broken (level + 1) kind comma segs in
       let flat = flat_segs Broken level kind true segs in
-      ap (λ l. lexeme Sign (opening kind) ∷ l)
+      ap (λ b. record { kind = Sign; text = opening kind; beside = b } ∷ piece_lexemes (if is_broken kind segs end (segs_hold segs) then broken ++ (comments (level + 1) end ++ last) else flat ++ (comma_if one_comma ++ close))) h
+      ∙ ap (λ l. lexeme Sign (opening kind) ∷ l)
       (either (is_broken kind segs end (segs_hold segs)) (broken ++ (comments (level + 1) end ++ last)) (flat ++ (comma_if one_comma ++ close))
       ∙ rw (join broken (comments (level + 1) end ++ last), join (comments (level + 1) end) last, broken_pieces_are (level + 1) kind comma segs, note_pieces (level + 1) end,
       join flat (comma_if one_comma ++ close), join (comma_if one_comma) close, flat_pieces_are level kind true segs, commas one_comma) refl)
 
-  items_pieces_are : (level : ℕ) (within : Option GroupKind) (first : Gap) (left : Edge) (xs : Items) → piece_lexemes (items_pieces Broken level within first left xs) ≡ items_lexemes xs
-  items_pieces_are level within first left no_items = refl
-  items_pieces_are level within first left (item x xs) =
+  items_pieces_are : (level : ℕ) (within : Option GroupKind) (first : Gap) (left : Edge) (xs : Items) → is_apart first ≡ false → piece_lexemes (items_pieces Broken level within first left xs) ≡ items_lexemes xs
+  items_pieces_are level within first left no_items h = refl
+  items_pieces_are level within first left (item x xs) h =
       join (item_pieces Broken level (gap_before first left x) x) (items_pieces Broken level within first (edge_after within left x) xs)
-      ∙ rw (item_pieces_are level (gap_before first left x) x, items_pieces_are level within first (edge_after within left x) xs) refl
+      ∙ rw (item_pieces_are level (gap_before first left x) x (gap_is first left x h), items_pieces_are level within first (edge_after within left x) xs h) refl
 
   broken_pieces_are : (level : ℕ) (kind : GroupKind) (comma : Bool) (ss : Segs) → piece_lexemes (broken_segs Broken level kind comma ss) ≡ ended_lexemes comma ss
   broken_pieces_are level kind comma no_segs = refl
@@ -69,24 +84,24 @@ mutual
       let nodes_are = items_pieces Broken level (Some kind) (Line level) Start nodes in
       join (comments level before) (nodes_are ++ (comma_if comma ++ (suffix_piece suffix ++ rest)))
       ∙ rw (join nodes_are (comma_if comma ++ (suffix_piece suffix ++ rest)), join (comma_if comma) (suffix_piece suffix ++ rest), join (suffix_piece suffix) rest,
-      note_pieces level before, items_pieces_are level (Some kind) (Line level) Start nodes, commas comma, suffix_pieces suffix, broken_pieces_are level kind comma ss) refl
+      note_pieces level before, items_pieces_are level (Some kind) (Line level) Start nodes refl, commas comma, suffix_pieces suffix, broken_pieces_are level kind comma ss) refl
 
   flat_pieces_are : (level : ℕ) (kind : GroupKind) (first : Bool) (ss : Segs) → piece_lexemes (flat_segs Broken level kind first ss) ≡ separated_lexemes first ss
   flat_pieces_are level kind first no_segs = refl
   flat_pieces_are level kind true (seg before nodes suffix ss) =
       join (items_pieces Broken level (Some kind) Closed Start nodes) (flat_segs Broken level kind false ss)
-      ∙ rw (items_pieces_are level (Some kind) Closed Start nodes, flat_pieces_are level kind false ss) refl
+      ∙ rw (items_pieces_are level (Some kind) Closed Start nodes refl, flat_pieces_are level kind false ss) refl
   flat_pieces_are level kind false (seg before nodes suffix ss) =
       ap (λ l. lexeme Sign (codes ",") ∷ l)
       (join (items_pieces Broken level (Some kind) Space Start nodes) (flat_segs Broken level kind false ss)
-      ∙ rw (items_pieces_are level (Some kind) Space Start nodes, flat_pieces_are level kind false ss) refl)
+      ∙ rw (items_pieces_are level (Some kind) Space Start nodes refl, flat_pieces_are level kind false ss) refl)
 
 line_pieces_are : (s : Statement) → piece_lexemes (statement_line s) ≡ line_lexemes s
 line_pieces_are s =
     let nodes = items_pieces Broken 0 None Closed Start (items_of s.nodes) in
     let newline : List Piece = piece Closed LineKind (codes "\n") ∷ [] in
     join nodes (suffix_piece s.suffix ++ newline)
-    ∙ rw (join (suffix_piece s.suffix) newline, items_pieces_are 0 None Closed Start (items_of s.nodes), suffix_pieces s.suffix) refl
+    ∙ rw (join (suffix_piece s.suffix) newline, items_pieces_are 0 None Closed Start (items_of s.nodes) refl, suffix_pieces s.suffix) refl
 
 pub layout_lexemes : (s : Statement) → piece_lexemes (layout s) ≡ lexemes_of s
 layout_lexemes s =

@@ -1,6 +1,6 @@
 -- The text of a statement is read as the tokens of the statement.
-use Rattle.std.proofs.Common.{◌≡◌, ℕ, ◌≤◌, List, [], ◌∷◌, ◌++◌, map, Bool, true, false, Option, Some, None, refl, sym, ap, subst, ◌∙◌, append-nil, inl, inr}
-use Rattle.std.specs.Prelude.{codes, if◌then◌else◌}
+use Rattle.std.proofs.Common.{◌≡◌, ℕ, ◌+◌, ◌≤◌, ◌==◌, ◌&&◌, not, List, [], ◌∷◌, ◌++◌, map, Bool, true, false, Option, Some, None, refl, sym, ap, subst, ◌∙◌, append-nil, append_assoc, inl, inr}
+use Rattle.std.specs.Prelude.{codes, count_by, if◌then◌else◌}
 use Rattle.std.proofs.lemmas.Bool.{cases_Bool, false≢true}
 use Rattle.bz_token.specs.declared.token.Kind.TheVariants.{Line as LineKind}
 use Rattle.bz_token.specs.Brackets.{is_line, open_after_token}
@@ -9,7 +9,10 @@ use Rattle.bz_token.specs.Places.{Placed, line_at}
 use Rattle.bz_token.specs.Reading.{open_after, tokens_of, AreTokensOf}
 use Rattle.bz_token.proofs.OneFault.{one_tokens}
 use Rattle.bz_token_laws.specs.Readable.{are_texts, are_ended, are_fitting}
+use Rattle.bz_token_laws.proofs.GapLines.{line_stays, last_line_of}
 use Rattle.bz_token_laws.proofs.Readable.{laid_lines}
+use Rattle.bz_token.specs.Ends.{is_note}
+use Rattle.bz_tree.specs.Statement.{is_aside}
 use Rattle.bz_tree.specs.Tree.{Statement, items_of}
 use Rattle.bz_layout.specs.declared.spacing.Edge.TheVariants.{Start}
 use Rattle.bz_layout.specs.declared.spacing.Gap.TheVariants.{Closed}
@@ -17,17 +20,38 @@ use Rattle.bz_layout.specs.declared.broken.Style.TheVariants.{Broken}
 use Rattle.bz_layout.specs.Pieces.{Piece, piece, gap_bytes, comment_lines, suffix_piece}
 use Rattle.bz_layout.specs.Layout.{items_pieces, statement_line, is_comment, layout, layout_text}
 use Rattle.bz_layout_laws.specs.Legible.{IsLegible, depth_of}
-use Rattle.bz_layout_laws.specs.Lexemes.{Lexeme, lexeme, lexeme_of, lexemes_of}
+use Rattle.bz_layout_laws.specs.Lexemes.{is_on, lexemes_from, token_lexemes, lexemes_of}
 use Rattle.bz_layout_laws.specs.ReadPieces.{read_pieces, piece_lexemes}
 use Rattle.bz_layout_laws.proofs.Pieces.{layout_lexemes}
 use Rattle.bz_layout_laws.proofs.Texts.{layout_whole}
+use Rattle.bz_layout_laws.proofs.Beside.{is_beside, AllBeside, layout_beside}
 use Rattle.bz_layout_laws.proofs.Fitting.{layout_fits}
 use Rattle.bz_layout_laws.proofs.Ended.{read_bytes, layout_ended}
 
-token_lexemes : (first : ℕ) (before lines : List ℕ) (ps : List Piece) → map lexeme_of (tokens_of first before lines (read_pieces ps)) ≡ piece_lexemes ps
-token_lexemes first before lines [] = refl
-token_lexemes first before lines (p ∷ ps) =
-    ap (λ l. lexeme p.kind p.text ∷ l) (token_lexemes first (before ++ (gap_bytes p.gap ++ p.text)) (line_at first (before ++ gap_bytes p.gap) ∷ lines) ps)
+-- where the piece before ends, if it is a token
+abbrev ended_on : Bool → ℕ → Option ℕ
+ended_on token line = if token then Some line else None
+
+-- the gaps tell which comments stand beside a token
+pub pieces_read : (first : ℕ) (before lines : List ℕ) (token : Bool) (ps : List Piece) → AllBeside token ps
+    → lexemes_from (ended_on token (line_at first before)) (tokens_of first before lines (read_pieces ps)) ≡ piece_lexemes ps
+pieces_read first before lines token [] h = refl
+pieces_read first before lines token (p ∷ ps) h =
+    let next = before ++ (gap_bytes p.gap ++ p.text) in
+    let line = line_at first (before ++ gap_bytes p.gap) in
+    let rest = pieces_read first next (line ∷ lines) (not (is_aside p.kind)) ps h.1 in
+    λ i. record { kind = p.kind; text = p.text; beside = (beside_is token ∙ h.0) i } ∷ (ap (λ last. lexemes_from last (tokens_of first next (line ∷ lines) (read_pieces ps))) (ends_is (is_aside p.kind)) ∙ rest) i
+  where
+    beside_is : (token : Bool) → (is_note p.kind && is_on (ended_on token (line_at first before)) (line_at first (before ++ gap_bytes p.gap))) ≡ is_beside token p
+    beside_is true = ap (λ b. is_note p.kind && b) (line_stays first before (gap_bytes p.gap))
+    beside_is false = refl
+
+    end_is : line_at first (before ++ gap_bytes p.gap) + count_by (λ b. b == 10) p.text ≡ line_at first (before ++ (gap_bytes p.gap ++ p.text))
+    end_is = sym (last_line_of first (before ++ gap_bytes p.gap) p.text) ∙ ap (line_at first) (append_assoc before (gap_bytes p.gap) p.text)
+
+    ends_is : (aside : Bool) → (if aside then None else Some (line_at first (before ++ gap_bytes p.gap) + count_by (λ b. b == 10) p.text)) ≡ ended_on (not aside) (line_at first (before ++ (gap_bytes p.gap ++ p.text)))
+    ends_is true = refl
+    ends_is false = ap Some end_is
 
 -- the last piece is a newline
 abbrev ends_line : List Piece → Bool
@@ -78,16 +102,16 @@ read_lines first depth s h room =
     let tests = layout_read depth s [] h room in
     subst (λ bytes. AreLinesOf first depth bytes (tokens_back first s)) (read_bytes (layout s)) (laid_lines first depth (read_pieces (layout s)) tests.0 tests.1 tests.2 tests.3 (layout_ends s))
 
-back_lexemes : (first : ℕ) (s : Statement) → map lexeme_of (tokens_back first s) ≡ lexemes_of s
-back_lexemes first s = token_lexemes first [] [] (layout s) ∙ layout_lexemes s
+back_lexemes : (first : ℕ) (s : Statement) → IsLegible s → token_lexemes (tokens_back first s) ≡ lexemes_of s
+back_lexemes first s h = pieces_read first [] [] false (layout s) (layout_beside s h) ∙ layout_lexemes s
 
-pub layout_tokens : (first depth : ℕ) (s : Statement) → IsLegible s → depth_of s ≤ depth → (tokens : List Placed) × AreLinesOf first depth (layout_text s) tokens × (map lexeme_of tokens ≡ lexemes_of s)
-layout_tokens first depth s h room = (tokens_back first s, read_lines first depth s h room, back_lexemes first s)
+pub layout_tokens : (first depth : ℕ) (s : Statement) → IsLegible s → depth_of s ≤ depth → (tokens : List Placed) × AreLinesOf first depth (layout_text s) tokens × (token_lexemes tokens ≡ lexemes_of s)
+layout_tokens first depth s h room = (tokens_back first s, read_lines first depth s h room, back_lexemes first s h)
 
 lines_are_tokens : (first depth : ℕ) (bytes : List ℕ) (tokens : List Placed) → AreLinesOf first depth bytes tokens → AreTokensOf first depth bytes tokens
 lines_are_tokens first depth bytes tokens a = (a.0, [], a.1, refl, a.2, a.4)
 
-pub layout_tokens_only : (first depth : ℕ) (s : Statement) (tokens : List Placed) → IsLegible s → depth_of s ≤ depth → AreTokensOf first depth (layout_text s) tokens → map lexeme_of tokens ≡ lexemes_of s
+pub layout_tokens_only : (first depth : ℕ) (s : Statement) (tokens : List Placed) → IsLegible s → depth_of s ≤ depth → AreTokensOf first depth (layout_text s) tokens → token_lexemes tokens ≡ lexemes_of s
 layout_tokens_only first depth s tokens h room are =
-    ap (map lexeme_of) (one_tokens first depth (layout_text s) tokens (tokens_back first s) are (lines_are_tokens first depth (layout_text s) (tokens_back first s) (read_lines first depth s h room)))
-    ∙ back_lexemes first s
+    ap token_lexemes (one_tokens first depth (layout_text s) tokens (tokens_back first s) are (lines_are_tokens first depth (layout_text s) (tokens_back first s) (read_lines first depth s h room)))
+    ∙ back_lexemes first s h

@@ -13,6 +13,7 @@ use Rattle.bz_tree.specs.Tree.{Item, leaf, group, Items, no_items, item, Segs, n
 use Rattle.bz_layout.specs.declared.spacing.Edge.{Edge}
 use Rattle.bz_layout.specs.declared.spacing.Edge.TheVariants.{Start}
 use Rattle.bz_layout.specs.Spacing.{edge_after, holds_on}
+use Rattle.bz_layout.specs.Layout.{is_comment as is_comment_class}
 
 -- no bracket, no comment and no newline
 abbrev pub is_leaf_mark : Mark → Bool
@@ -58,6 +59,7 @@ abbrev mutual
       AreComments before × (are_some nodes ≡ true) × AreLegible (Some kind) Start nodes × AreComments (beside suffix) × AreLegibleSegs kind ss
 
 pub record IsLegible (s : Statement) : Type 0 where
+  pub some : is_comment_class s.class ≡ false → are_some (items_of s.nodes) ≡ true
   pub before : AreComments s.before
   pub nodes : AreLegible None Start (items_of s.nodes)
   pub suffix : AreComments (beside s.suffix)

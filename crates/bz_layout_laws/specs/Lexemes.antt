@@ -1,28 +1,49 @@
 -- The lexemes of a statement as it is written: kinds and texts of its tokens and comments, in order. Of the layout they show the
--- spelling of strings and the commas of broken groups, but no gap.
-use Rattle.std.specs.Prelude.{codes, ℕ, List, [], ◌∷◌, ◌++◌, map, Bool, true, false, if◌then◌else◌}
+-- spelling of strings, the commas of broken groups and which comments stand beside a token, but no gap.
+use Rattle.std.specs.Prelude.{codes, ℕ, ◌==◌, List, [], ◌∷◌, ◌++◌, map, Bool, true, false, ◌&&◌, if◌then◌else◌, Option, Some, None}
 use Rattle.bz_token.specs.declared.token.Kind.{Kind}
 use Rattle.bz_token.specs.declared.token.Kind.TheVariants.{Sign, Line, Note}
+use Rattle.bz_token.specs.Ends.{is_note}
 use Rattle.bz_token.specs.Places.{Placed}
 use Rattle.bz_tree.specs.Tree.{Item, leaf, group, Items, no_items, item, Segs, no_segs, seg, Statement, items_of}
-use Rattle.bz_tree.specs.Comments.{beside}
+use Rattle.bz_tree.specs.Brackets.{end_line}
+use Rattle.bz_tree.specs.Statement.{is_aside}
 use Rattle.bz_layout.specs.Respell.{respell}
 use Rattle.bz_layout.specs.Broken.{count, is_broken, segs_hold}
 use Rattle.bz_layout.specs.Layout.{opening, closing, has_commas, is_comment}
 
--- a token or comment, wherever it stands
+-- a token or comment, and whether it is a comment on the line on which the token before it ends
 pub record Lexeme : Type 0 where
   pub kind : Kind
   pub text : List ℕ
+  pub beside : Bool
 
 abbrev pub lexeme : Kind → List ℕ → Lexeme
-lexeme kind text = record { kind = kind; text = text }
+lexeme kind text = record { kind = kind; text = text; beside = false }
 
-abbrev pub lexeme_of : Placed → Lexeme
-lexeme_of t = lexeme t.kind t.text
-
+-- comments on lines of their own, and the one beside a token
 abbrev pub notes : List (List ℕ) → List Lexeme
 notes texts = map (lexeme Note) texts
+
+abbrev pub suffix_lexemes : Option (List ℕ) → List Lexeme
+suffix_lexemes None = []
+suffix_lexemes (Some text) = record { kind = Note; text = text; beside = true } ∷ []
+
+-- the line on which a token ends; on that of a comment or newline nothing stands after it
+abbrev pub end_after : Placed → Option ℕ
+end_after t = if is_aside t.kind then None else Some (end_line t)
+
+abbrev pub is_on : Option ℕ → ℕ → Bool
+is_on None line = false
+is_on (Some end) line = line == end
+
+-- the lexemes of tokens, where what stands before them ends on this line
+abbrev pub lexemes_from : Option ℕ → List Placed → List Lexeme
+lexemes_from last [] = []
+lexemes_from last (t ∷ ts) = record { kind = t.kind; text = t.text; beside = is_note t.kind && is_on last t.line } ∷ lexemes_from (end_after t) ts
+
+abbrev pub token_lexemes : List Placed → List Lexeme
+token_lexemes ts = lexemes_from None ts
 
 abbrev pub comma_lexemes : Bool → List Lexeme
 comma_lexemes b = if b then lexeme Sign (codes ",") ∷ [] else []
@@ -46,7 +67,7 @@ abbrev mutual
   pub ended_lexemes : Bool → Segs → List Lexeme
   ended_lexemes comma no_segs = []
   ended_lexemes comma (seg before nodes suffix ss) =
-      notes before ++ (items_lexemes nodes ++ (comma_lexemes comma ++ (notes (beside suffix) ++ ended_lexemes comma ss)))
+      notes before ++ (items_lexemes nodes ++ (comma_lexemes comma ++ (suffix_lexemes suffix ++ ended_lexemes comma ss)))
 
   -- a comma before each segment but the first
   pub separated_lexemes : Bool → Segs → List Lexeme
@@ -60,7 +81,7 @@ note_lines [] = []
 note_lines (text ∷ texts) = lexeme Note text ∷ lexeme Line (codes "\n") ∷ note_lines texts
 
 abbrev pub line_lexemes : Statement → List Lexeme
-line_lexemes s = items_lexemes (items_of s.nodes) ++ (notes (beside s.suffix) ++ lexeme Line (codes "\n") ∷ [])
+line_lexemes s = items_lexemes (items_of s.nodes) ++ (suffix_lexemes s.suffix ++ lexeme Line (codes "\n") ∷ [])
 
 -- the comments above, the nodes, the comment beside them, a newline; comment lines alone have no more
 abbrev pub lexemes_of : Statement → List Lexeme

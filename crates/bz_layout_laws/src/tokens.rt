@@ -1,6 +1,6 @@
 //! Laws on the tokens of a text that is written: they are those of the statement, and the text is read as them.
 
-ghost use Rattle.std.specs.Prelude.{◌≡◌, ◌≤◌, ℕ, List, map, [], true};
+ghost use Rattle.std.specs.Prelude.{◌≡◌, ◌≤◌, ℕ, List, [], true};
 ghost use Rattle.bz_token.specs.Places.{Placed};
 ghost use Rattle.bz_token.specs.FreshStart.{AreLinesOf};
 ghost use Rattle.bz_token.specs.Reading.{AreTokensOf, open_after, tokens_of};
@@ -8,7 +8,7 @@ ghost use Rattle.bz_token_laws.specs.Readable.{are_texts, are_ended, are_fitting
 ghost use Rattle.bz_tree.specs.Tree.{Statement};
 ghost use Rattle.bz_layout.specs.Layout.{layout, layout_text};
 ghost use Rattle.bz_layout_laws.specs.Legible.{IsLegible, depth_of};
-ghost use Rattle.bz_layout_laws.specs.Lexemes.{lexeme_of, lexemes_of};
+ghost use Rattle.bz_layout_laws.specs.Lexemes.{token_lexemes, lexemes_of};
 ghost use Rattle.bz_layout_laws.specs.ReadPieces.{piece_lexemes, read_pieces};
 
 /// The pieces of a statement's text, without gaps, are the lexemes of the statement.
@@ -30,7 +30,7 @@ pub fn a_layout_can_be_read()
 pub fn a_text_has_its_tokens()
     ensures some { (first depth : ℕ) (s : Statement) → IsLegible s → depth_of s ≤ depth
         → (tokens : List Placed) × AreLinesOf first depth (layout_text s) tokens
-        × (map lexeme_of tokens ≡ lexemes_of s) }
+        × (token_lexemes tokens ≡ lexemes_of s) }
     ensures only { (first depth : ℕ) (s : Statement) (tokens : List Placed) → IsLegible s → depth_of s ≤ depth
-        → AreTokensOf first depth (layout_text s) tokens → map lexeme_of tokens ≡ lexemes_of s }
+        → AreTokensOf first depth (layout_text s) tokens → token_lexemes tokens ≡ lexemes_of s }
 {}

@@ -1,0 +1,187 @@
+-- Two spaces stand in a layout exactly before comments that stand on the line of a token before them.
+use Rattle.std.proofs.Common.{◌≡◌, ℕ, ◌+◌, ◌&&◌, List, [], ◌∷◌, ◌++◌, Bool, true, false, not, Option, Some, None, refl, sym, ap, subst, ◌∙◌}
+use Rattle.std.specs.Prelude.{codes, if◌then◌else◌}
+use Rattle.std.specs.List.{list_any}
+use Rattle.std.proofs.lemmas.Bool.{false≢true}
+use Rattle.bz_token.specs.declared.token.Kind.{Kind}
+use Rattle.bz_token.specs.declared.token.Kind.TheVariants.{Ident, Word, Int, Text, Sign, Line as LineKind, Note, Kept}
+use Rattle.bz_token.specs.Lexical.{is_newline}
+use Rattle.bz_token.specs.Ends.{is_note}
+use Rattle.bz_tree.specs.declared.stmt.GroupKind.{GroupKind}
+use Rattle.bz_tree.specs.Kinds.{kind_mark}
+use Rattle.bz_tree.specs.Statement.{is_aside}
+use Rattle.bz_tree.specs.Tree.{Item, leaf, group, Items, no_items, item, Segs, no_segs, seg, Statement, items_of}
+use Rattle.bz_layout.specs.declared.spacing.Edge.{Edge}
+use Rattle.bz_layout.specs.declared.spacing.Edge.TheVariants.{Start}
+use Rattle.bz_layout.specs.declared.spacing.Gap.{Gap}
+use Rattle.bz_layout.specs.declared.spacing.Gap.TheVariants.{Closed, Space, Apart, Line}
+use Rattle.bz_layout.specs.declared.broken.Style.{Style}
+use Rattle.bz_layout.specs.declared.broken.Style.TheVariants.{Broken}
+use Rattle.bz_layout.specs.Respell.{respell}
+use Rattle.bz_layout.specs.Spacing.{edge_after, gap_before}
+use Rattle.bz_layout.specs.Broken.{count, is_broken, segs_hold}
+use Rattle.bz_layout.specs.Pieces.{Piece, piece, gap_bytes, comma_if, comments, comment_lines, suffix_piece}
+use Rattle.bz_layout.specs.Layout.{opening, closing, has_commas, breaks, item_pieces, items_pieces, broken_segs, flat_segs, statement_line, is_comment as is_comment_class, layout}
+use Rattle.bz_layout_laws.specs.Legible.{is_leaf_mark, IsLegibleItem, AreLegible, AreLegibleSegs, IsLegible, are_some}
+use Rattle.bz_layout_laws.specs.ReadPieces.{is_apart}
+use Rattle.bz_layout_laws.proofs.Texts.{either_way}
+use Rattle.bz_layout_laws.proofs.Pieces.{gap_is}
+
+-- a comment on the line of a token before it, if one is there
+abbrev pub is_beside : Bool → Piece → Bool
+is_beside token p = is_note p.kind && (token && not (list_any is_newline (gap_bytes p.gap)))
+
+-- whether the last piece is neither a comment nor a newline
+abbrev pub ends_token : Bool → List Piece → Bool
+ends_token token [] = token
+ends_token token (p ∷ ps) = ends_token (not (is_aside p.kind)) ps
+
+abbrev pub AllBeside : Bool → List Piece → Type 0
+AllBeside token [] = Unit {0}
+AllBeside token (p ∷ ps) = (is_beside token p ≡ is_apart p.gap) × AllBeside (not (is_aside p.kind)) ps
+
+-- records, so that their pieces are known from their types
+pub record Beside (token : Bool) (ps : List Piece) : Type 0 where
+  pub all : AllBeside token ps
+
+-- whatever stands before
+record Always (ps : List Piece) : Type 0 where
+  each : (token : Bool) → AllBeside token ps
+
+record Tokens (ps : List Piece) : Type 0 where
+  last : (token : Bool) → ends_token token ps ≡ true
+
+joined : (token : Bool) (ps qs : List Piece) → AllBeside token ps → AllBeside (ends_token token ps) qs → AllBeside token (ps ++ qs)
+joined token [] qs a b = b
+joined token (p ∷ ps) qs a b = (a.0, joined (not (is_aside p.kind)) ps qs a.1 b)
+
+ends_join : (token : Bool) (ps qs : List Piece) → ends_token token (ps ++ qs) ≡ ends_token (ends_token token ps) qs
+ends_join token [] qs = refl
+ends_join token (p ∷ ps) qs = ends_join (not (is_aside p.kind)) ps qs
+
+join : {ps qs : List Piece} → Always ps → Always qs → Always (ps ++ qs)
+join {ps} {qs} a b = record { each = λ token. joined token ps qs (a.each token) (b.each (ends_token token ps)) }
+
+-- what may stand after a token alone
+join_token : {ps qs : List Piece} → Always ps → Tokens ps → Beside true qs → Always (ps ++ qs)
+join_token {ps} {qs} a t b = record { each = λ token. joined token ps qs (a.each token) (subst (λ x. AllBeside x qs) (sym (t.last token)) b.all) }
+
+last_join : (ps : List Piece) {qs : List Piece} → Tokens qs → Tokens (ps ++ qs)
+last_join ps {qs} t = record { last = λ token. ends_join token ps qs ∙ t.last (ends_token token ps) }
+
+none : Always []
+none = record { each = λ token. tt }
+
+at_token : {ps : List Piece} → Always ps → Beside true ps
+at_token a = record { all = a.each true }
+
+sign : (gap : Gap) (text : List ℕ) → is_apart gap ≡ false → Always (piece gap Sign text ∷ [])
+sign gap text h = record { each = λ token. (sym h, tt) }
+
+sign_last : (gap : Gap) (text : List ℕ) → Tokens (piece gap Sign text ∷ [])
+sign_last gap text = record { last = λ token. refl }
+
+leaf_always : (gap : Gap) (kind : Kind) (text other : List ℕ) → is_apart gap ≡ false → is_leaf_mark (kind_mark kind other) ≡ true → Always (piece gap kind text ∷ [])
+leaf_always gap Sign text other h mark = record { each = λ token. (sym h, tt) }
+leaf_always gap Ident text other h mark = record { each = λ token. (sym h, tt) }
+leaf_always gap Word text other h mark = record { each = λ token. (sym h, tt) }
+leaf_always gap Int text other h mark = record { each = λ token. (sym h, tt) }
+leaf_always gap Text text other h mark = record { each = λ token. (sym h, tt) }
+leaf_always gap Kept text other h mark = record { each = λ token. (sym h, tt) }
+leaf_always gap LineKind text other h mark = absurd (false≢true mark)
+leaf_always gap Note text other h mark = absurd (false≢true mark)
+
+leaf_last : (gap : Gap) (kind : Kind) (text other : List ℕ) → is_leaf_mark (kind_mark kind other) ≡ true → Tokens (piece gap kind text ∷ [])
+leaf_last gap Sign text other mark = record { last = λ token. refl }
+leaf_last gap Ident text other mark = record { last = λ token. refl }
+leaf_last gap Word text other mark = record { last = λ token. refl }
+leaf_last gap Int text other mark = record { last = λ token. refl }
+leaf_last gap Text text other mark = record { last = λ token. refl }
+leaf_last gap Kept text other mark = record { last = λ token. refl }
+leaf_last gap LineKind text other mark = absurd (false≢true mark)
+leaf_last gap Note text other mark = absurd (false≢true mark)
+
+commas : (b : Bool) → Always (comma_if b)
+commas true = sign Closed (codes ",") refl
+commas false = none
+
+own_lines : (level : ℕ) (texts : List (List ℕ)) → Always (comments level texts)
+own_lines level [] = none
+own_lines level (text ∷ texts) =
+    let one : Always (piece (Line level) Note text ∷ []) = record { each = λ token. (no_token token, tt) } in
+    join one (own_lines level texts)
+  where
+    no_token : (token : Bool) → (token && false) ≡ false
+    no_token true = refl
+    no_token false = refl
+
+suffixed : (comma : Bool) (suffix : Option (List ℕ)) (ps : List Piece) → Always ps → Beside true (comma_if comma ++ (suffix_piece suffix ++ ps))
+suffixed true None ps a = record { all = (refl, a.each true) }
+suffixed true (Some text) ps a = record { all = (refl, (refl, a.each false)) }
+suffixed false None ps a = record { all = a.each true }
+suffixed false (Some text) ps a = record { all = (refl, a.each false) }
+
+mutual
+  item_always : (style : Style) (level : ℕ) (gap : Gap) (x : Item) → is_apart gap ≡ false → IsLegibleItem x → Always (item_pieces style level gap x)
+  item_always style level gap (leaf kind text place) first h = leaf_always gap kind (respell kind text) text first h.1
+  item_always style level gap (group kind segs one_comma end) first h =
+      let comma = has_commas kind one_comma (count segs) in
+      let last : List Piece = piece (Line level) Sign (closing kind) ∷ [] in
+      let close : List Piece = piece Closed Sign (closing kind) ∷ [] in
+      join (sign gap (opening kind) first)
+      (either_way Always (breaks style (is_broken kind segs end (segs_hold segs))) (broken_segs style (level + 1) kind comma segs ++ (comments (level + 1) end ++ last)) (flat_segs style level kind true segs ++ (comma_if one_comma ++ close))
+      (join (broken_always style (level + 1) kind comma segs h.0) (join (own_lines (level + 1) end) (sign (Line level) (closing kind) refl)))
+      (join (flat_always style level kind true segs h.0) (join (commas one_comma) (sign Closed (closing kind) refl))))
+
+  items_always : (style : Style) (level : ℕ) (within : Option GroupKind) (first : Gap) (left : Edge) (xs : Items) → is_apart first ≡ false → AreLegible within left xs → Always (items_pieces style level within first left xs)
+  items_always style level within first left no_items h legible = none
+  items_always style level within first left (item x xs) h legible =
+      join (item_always style level (gap_before first left x) x (gap_is first left x h) legible.1) (items_always style level within first (edge_after within left x) xs h legible.2)
+
+  broken_always : (style : Style) (level : ℕ) (kind : GroupKind) (comma : Bool) (ss : Segs) → AreLegibleSegs kind ss → Always (broken_segs style level kind comma ss)
+  broken_always style level kind comma no_segs h = none
+  broken_always style level kind comma (seg before nodes suffix ss) h =
+      join (own_lines level before)
+      (join_token (items_always style level (Some kind) (Line level) Start nodes refl h.2) (items_last style level (Some kind) (Line level) Start nodes h.1 h.2)
+      (suffixed comma suffix (broken_segs style level kind comma ss) (broken_always style level kind comma ss h.4)))
+
+  flat_always : (style : Style) (level : ℕ) (kind : GroupKind) (first : Bool) (ss : Segs) → AreLegibleSegs kind ss → Always (flat_segs style level kind first ss)
+  flat_always style level kind first no_segs h = none
+  flat_always style level kind true (seg before nodes suffix ss) h =
+      join (items_always style level (Some kind) Closed Start nodes refl h.2) (flat_always style level kind false ss h.4)
+  flat_always style level kind false (seg before nodes suffix ss) h =
+      join (sign Closed (codes ",") refl) (join (items_always style level (Some kind) Space Start nodes refl h.2) (flat_always style level kind false ss h.4))
+
+  -- nodes end with a token
+  item_last : (style : Style) (level : ℕ) (gap : Gap) (x : Item) → IsLegibleItem x → Tokens (item_pieces style level gap x)
+  item_last style level gap (leaf kind text place) h = leaf_last gap kind (respell kind text) text h.1
+  item_last style level gap (group kind segs one_comma end) h =
+      let comma = has_commas kind one_comma (count segs) in
+      let last : List Piece = piece (Line level) Sign (closing kind) ∷ [] in
+      let close : List Piece = piece Closed Sign (closing kind) ∷ [] in
+      last_join (piece gap Sign (opening kind) ∷ [])
+      (either_way Tokens (breaks style (is_broken kind segs end (segs_hold segs))) (broken_segs style (level + 1) kind comma segs ++ (comments (level + 1) end ++ last)) (flat_segs style level kind true segs ++ (comma_if one_comma ++ close))
+      (last_join (broken_segs style (level + 1) kind comma segs) (last_join (comments (level + 1) end) (sign_last (Line level) (closing kind))))
+      (last_join (flat_segs style level kind true segs) (last_join (comma_if one_comma) (sign_last Closed (closing kind)))))
+
+  items_last : (style : Style) (level : ℕ) (within : Option GroupKind) (first : Gap) (left : Edge) (xs : Items) → are_some xs ≡ true → AreLegible within left xs → Tokens (items_pieces style level within first left xs)
+  items_last style level within first left no_items h legible = absurd (false≢true h)
+  items_last style level within first left (item x no_items) h legible =
+      record { last = λ token. ends_join token (item_pieces style level (gap_before first left x) x) [] ∙ (item_last style level (gap_before first left x) x legible.1).last token }
+  items_last style level within first left (item x (item y ys)) h legible = last_join (item_pieces style level (gap_before first left x) x) (items_last style level within first (edge_after within left x) (item y ys) refl legible.2)
+
+line_always : (s : Statement) → are_some (items_of s.nodes) ≡ true → IsLegible s → Always (statement_line s)
+line_always s some h =
+    join_token (items_always Broken 0 None Closed Start (items_of s.nodes) refl h.nodes) (items_last Broken 0 None Closed Start (items_of s.nodes) some h.nodes)
+    (suffixed false s.suffix (piece Closed LineKind (codes "\n") ∷ []) (record { each = λ token. (refl, tt) }))
+
+above : (texts : List (List ℕ)) (ps : List Piece) → Always ps → AllBeside false (comment_lines texts ++ ps)
+above [] ps a = a.each false
+above (text ∷ texts) ps a = (refl, (refl, above texts ps a))
+
+pub layout_beside : (s : Statement) → IsLegible s → AllBeside false (layout s)
+layout_beside s h = above s.before (if is_comment_class s.class then [] else statement_line s) (by (is_comment_class s.class) h.some)
+  where
+    by : (b : Bool) → (b ≡ false → are_some (items_of s.nodes) ≡ true) → Always (if b then [] else statement_line s)
+    by true some = none
+    by false some = line_always s (some refl) h
