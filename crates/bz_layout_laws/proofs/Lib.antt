@@ -1,5 +1,6 @@
 pub mod Respelled
 pub mod Bare
+pub mod SpelledAgain
 pub mod Pieces
 pub mod Texts
 pub mod NoBrackets

@@ -2,3 +2,4 @@ pub mod Unplaced
 pub mod Lexemes
 pub mod ReadPieces
 pub mod Legible
+pub mod Spelled
