@@ -211,7 +211,7 @@ suffix_stops : (suffix : Option (List ℕ)) (rest : List ℕ) → stops_all (bef
 suffix_stops None rest = refl
 suffix_stops (Some text) rest = refl
 
-line_ended : (s : Statement) (rest : List ℕ) → IsLegible s → AreEnded (statement_line s) rest
+pub line_ended : (s : Statement) (rest : List ℕ) → IsLegible s → AreEnded (statement_line s) rest
 line_ended s rest h =
     join (items_ended Broken 0 None Closed Start (items_of s.nodes) _ h.nodes (suffix_stops s.suffix rest))
     (join (suffix_ended s.suffix _ refl) (one Closed LineKind (codes "\n") (newline_ends rest)))

@@ -9,3 +9,5 @@ pub mod Stopping
 pub mod Ended
 pub mod Beside
 pub mod TokensBack
+pub mod NoLines
+pub mod WholeChunk

@@ -137,7 +137,7 @@ mutual
 newline_whole : AreWhole (piece Closed LineKind (codes "\n") ∷ [])
 newline_whole = whole refl
 
-line_whole : (s : Statement) → IsLegible s → AreWhole (statement_line s)
+pub line_whole : (s : Statement) → IsLegible s → AreWhole (statement_line s)
 line_whole s h =
     whole_join (items_whole Broken 0 None Closed Start (items_of s.nodes) h.nodes) (whole_join (suffix_whole s.suffix h.suffix) newline_whole)
 

@@ -70,7 +70,7 @@ ends_read [] h = absurd (false≢true h)
 ends_read (p ∷ []) h = h
 ends_read (p ∷ q ∷ ps) h = ends_read (q ∷ ps) h
 
-comments_end : (texts : List (List ℕ)) → ends_in_line (read_pieces (comment_lines texts)) ≡ true
+pub comments_end : (texts : List (List ℕ)) → ends_in_line (read_pieces (comment_lines texts)) ≡ true
 comments_end [] = refl
 comments_end (text ∷ []) = refl
 comments_end (text ∷ next ∷ texts) = comments_end (next ∷ texts)
@@ -94,10 +94,10 @@ layout_read depth s rest h room =
     let fits = layout_fits depth s h room in
     ((layout_whole s h).texts, (layout_ended s rest h).ended, fits.fitting, fits.leaves)
 
-abbrev tokens_back : ℕ → Statement → List Placed
+abbrev pub tokens_back : ℕ → Statement → List Placed
 tokens_back first s = tokens_of first [] [] (read_pieces (layout s))
 
-read_lines : (first depth : ℕ) (s : Statement) → IsLegible s → depth_of s ≤ depth → AreLinesOf first depth (layout_text s) (tokens_back first s)
+pub read_lines : (first depth : ℕ) (s : Statement) → IsLegible s → depth_of s ≤ depth → AreLinesOf first depth (layout_text s) (tokens_back first s)
 read_lines first depth s h room =
     let tests = layout_read depth s [] h room in
     subst (λ bytes. AreLinesOf first depth bytes (tokens_back first s)) (read_bytes (layout s)) (laid_lines first depth (read_pieces (layout s)) tests.0 tests.1 tests.2 tests.3 (layout_ends s))

@@ -1,8 +1,9 @@
 -- Statements whose text can be read back: what parsing gives, but for blocks, which are kept as they stand.
-use Rattle.std.specs.Prelude.{◌≡◌, ◌==◌, codes, ℕ, zero, suc, max, List, [], ◌∷◌, Bool, true, false, not, ◌&&◌, Option}
+use Rattle.std.specs.Prelude.{◌≡◌, ◌==◌, codes, ℕ, zero, suc, max, List, [], ◌∷◌, Bool, true, false, not, ◌&&◌, Option, is_some}
 use Rattle.std.specs.Prelude.Option.{Some, None}
 use Rattle.std.specs.List.{list_all, list_any}
 use Rattle.bz_token.specs.declared.token.Kind.{Kind}
+use Rattle.bz_token.specs.Blocks.{opener_of}
 use Rattle.bz_token.specs.Lexical.{begins, is_text, is_comment}
 use Rattle.bz_tree.specs.declared.stmt.GroupKind.{GroupKind}
 use Rattle.bz_tree.specs.declared.kinds.Mark.{Mark}
@@ -80,3 +81,9 @@ abbrev mutual
 
 abbrev pub depth_of : Statement → ℕ
 depth_of s = items_depth (items_of s.nodes)
+
+-- the first node is a word that begins a block: `def`, `for` or `if`
+abbrev pub begins_block : Items → Bool
+begins_block no_items = false
+begins_block (item (leaf kind text place) xs) = is_some (opener_of text)
+begins_block (item (group kind segs one_comma end) xs) = false

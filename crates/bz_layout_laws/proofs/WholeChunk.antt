@@ -1,0 +1,151 @@
+-- The text of a statement is a chunk.
+use Rattle.std.proofs.Common.{◌≡◌, ℕ, ◌≤◌, ◌+◌, ◌&&◌, ◌||◌, List, [], ◌∷◌, ◌++◌, Bool, true, false, not, Option, Some, None, refl, sym, ap, subst, ◌∙◌, append-nil, append_assoc, arith, inl, inr}
+use Rattle.std.specs.Prelude.{codes, is_some, if◌then◌else◌}
+use Rattle.std.specs.List.{list_all}
+use Rattle.std.proofs.lemmas.Bool.{cases_Bool, and_parts, false≢true}
+use Rattle.std.proofs.lemmas.List.{map-append}
+use Rattle.bz_token.specs.declared.token.Kind.{Kind}
+use Rattle.bz_token.specs.declared.token.Kind.TheVariants.{Ident, Word, Int, Text, Sign, Line as LineKind, Note, Kept}
+use Rattle.bz_token.specs.declared.cutter.block.Opener.{Opener}
+use Rattle.bz_token.specs.declared.cutter.scan.LineKind.TheVariants.{Statement as StatementLine}
+use Rattle.bz_token.specs.Blocks.{opener_of, opener}
+use Rattle.bz_token.specs.Brackets.{is_inside, is_line}
+use Rattle.bz_token.specs.Chunks.{chunks}
+use Rattle.bz_token.specs.Cuts.{IsChunk}
+use Rattle.bz_token.specs.Ends.{is_note, ends}
+use Rattle.bz_token.specs.Lexical.{is_text}
+use Rattle.bz_token.specs.LogicalLines.{Line, lines}
+use Rattle.bz_token.specs.Reading.{Piece as ReadPiece, is_gap, open_after, bytes_of as bytes_read}
+use Rattle.bz_token.proofs.Stops.{token_ended}
+use Rattle.bz_token_laws.specs.ChunkForms.{are_comments, ends_chunk}
+use Rattle.bz_token_laws.specs.Readable.{are_texts, are_ended, are_fitting}
+use Rattle.bz_token_laws.specs.TokenLines.{kind_of, line_of, lines_of}
+use Rattle.bz_token_laws.proofs.BlockWords.{no_block}
+use Rattle.bz_token_laws.proofs.ChunkForms.{statement_chunk, comments_chunk}
+use Rattle.bz_token_laws.proofs.Readable.{laid_reading}
+use Rattle.bz_token_laws.proofs.TokenLines.{lines_are_lines, lines_of_join, one_line}
+use Rattle.bz_tree.specs.declared.stmt.GroupKind.{GroupKind}
+use Rattle.bz_tree.specs.declared.stmt.GroupKind.TheVariants.{Call, RuleCall, Load, Paren, List as ListKind, Index, Dict, ListComp, DictComp}
+use Rattle.bz_tree.specs.Tree.{Item, leaf, group, Items, no_items, item, Statement, Place, items_of}
+use Rattle.bz_layout.specs.declared.spacing.Edge.TheVariants.{Start}
+use Rattle.bz_layout.specs.declared.spacing.Gap.TheVariants.{Closed}
+use Rattle.bz_layout.specs.declared.broken.Style.TheVariants.{Broken}
+use Rattle.bz_layout.specs.Respell.{is_single, respell}
+use Rattle.bz_layout.specs.Pieces.{Piece, piece, bytes_of, comment_lines, suffix_piece}
+use Rattle.bz_layout.specs.Layout.{opening, items_pieces, statement_line, is_comment, layout, layout_text}
+use Rattle.bz_layout_laws.specs.Legible.{IsLegible, IsLegibleItem, AreLegible, are_some, begins_block, depth_of}
+use Rattle.bz_layout_laws.specs.ReadPieces.{read_piece, read_pieces}
+use Rattle.bz_layout_laws.proofs.Respelled.{respelled_text}
+use Rattle.bz_layout_laws.proofs.NoBrackets.{leaf_line}
+use Rattle.bz_layout_laws.proofs.Texts.{line_whole}
+use Rattle.bz_layout_laws.proofs.NoLines.{HasNoLine, join, items_no_line, suffix_no_line}
+use Rattle.bz_layout_laws.proofs.Ended.{read_bytes, line_ended}
+use Rattle.bz_layout_laws.proofs.TokensBack.{layout_read, read_lines, comments_end, tokens_back}
+
+-- the logical lines of a text are those of its pieces
+text_lines : (s : Statement) → IsLegible s → lines (layout_text s) ≡ lines_of (read_pieces (layout s)) []
+text_lines s h =
+    let tests = layout_read (depth_of s) s [] h (omega arith) in
+    let reading = laid_reading (depth_of s) [] (read_pieces (layout s)) [] tests.0 tests.1 tests.2 in
+    ap lines (sym (append-nil (layout_text s)) ∙ ap (λ x. x ++ []) (sym (read_bytes (layout s))))
+    ∙ lines_are_lines (depth_of s) (read_pieces (layout s)) [] (bytes_read (read_pieces (layout s)) ++ []) reading (gap_at_end tests.3)
+  where
+    gap_at_end : open_after [] (read_pieces (layout s)) ≡ [] → is_gap (is_inside (open_after [] (read_pieces (layout s)))) [] ≡ true
+    gap_at_end e = refl
+
+-- comment lines are lines of their own
+comments_are : (texts : List (List ℕ)) → are_comments (lines_of (read_pieces (comment_lines texts)) []) ≡ true
+comments_are [] = refl
+comments_are (text ∷ texts) = comments_are texts
+
+-- the line of the nodes is one
+line_is_one : (s : Statement) → IsLegible s → lines_of (read_pieces (statement_line s)) [] ≡ line_of (read_pieces (statement_line s)) [] ∷ []
+line_is_one s h =
+    let newline : List Piece = piece Closed LineKind (codes "\n") ∷ [] in
+    let nodes = items_pieces Broken 0 None Closed Start (items_of s.nodes) in
+    let none = join (items_no_line Broken 0 None Closed Start (items_of s.nodes) h.nodes) (suffix_no_line s.suffix) in
+    let parts : read_pieces (statement_line s) ≡ read_pieces (nodes ++ suffix_piece s.suffix) ++ read_piece (piece Closed LineKind (codes "\n")) ∷ [] =
+        ap read_pieces (sym (append_assoc nodes (suffix_piece s.suffix) newline)) ∙ map-append read_piece (nodes ++ suffix_piece s.suffix) newline in
+    ap (λ ps. lines_of ps []) parts ∙ one_line (read_pieces (nodes ++ suffix_piece s.suffix)) (read_piece (piece Closed LineKind (codes "\n"))) none.none refl ∙ sym (ap (λ ps. line_of ps [] ∷ []) parts)
+
+-- a word that is spelled anew begins no block
+spelled_opener : (kind : Kind) (text : List ℕ) → opener_of text ≡ None → opener_of (respell kind text) ≡ None
+spelled_opener Text text h = elim (cases_Bool (is_single text)) [ inl hit ↦ rw hit refl | inr miss ↦ rw miss h ]
+spelled_opener Ident text h = h
+spelled_opener Word text h = h
+spelled_opener Int text h = h
+spelled_opener Sign text h = h
+spelled_opener LineKind text h = h
+spelled_opener Note text h = h
+spelled_opener Kept text h = h
+
+opening_opener : (kind : GroupKind) → opener_of (opening kind) ≡ None
+opening_opener Call = refl
+opening_opener RuleCall = refl
+opening_opener Load = refl
+opening_opener Paren = refl
+opening_opener ListKind = refl
+opening_opener Index = refl
+opening_opener Dict = refl
+opening_opener ListComp = refl
+opening_opener DictComp = refl
+
+is_none : (o : Option Opener) → is_some o ≡ false → o ≡ None
+is_none None h = refl
+is_none (Some word) h = absurd (false≢true (sym h))
+
+-- a line whose first piece is another token than these, and begins no block
+first_piece : (kind : Kind) (text : List ℕ) (ps : List ReadPiece) → is_line kind ≡ false → is_note kind ≡ false → opener_of text ≡ None → are_texts (record { gap = []; kind = kind; text = text } ∷ ps) ≡ true
+    → are_ended (record { gap = []; kind = kind; text = text } ∷ ps) [] ≡ true → ends_chunk (line_of (record { gap = []; kind = kind; text = text } ∷ ps) []) ≡ true
+first_piece kind text ps line note none texts ended =
+    let is = (and_parts (is_text kind text) (are_texts ps) texts).0 in
+    let ends_here = (and_parts (ends kind text (bytes_read ps ++ [])) (are_ended ps []) ended).0 in
+    let token = token_ended kind text (bytes_read ps ++ []) is ends_here in
+    let no = ap opener (append_assoc text (bytes_read ps) []) ∙ no_block kind text (bytes_read ps ++ []) token line none in
+    rw (line, note) (ap (λ o. not (is_some o)) no)
+
+leaf_note : (kind : Kind) (text : List ℕ) → IsLegibleItem (leaf kind text (record { line = 0; col = 0; fresh = false })) → is_note kind ≡ false
+leaf_note Note text h = absurd (false≢true h.1)
+leaf_note LineKind text h = refl
+leaf_note Sign text h = refl
+leaf_note Ident text h = refl
+leaf_note Word text h = refl
+leaf_note Int text h = refl
+leaf_note Text text h = refl
+leaf_note Kept text h = refl
+
+abbrev tail_of : List Piece → List Piece
+tail_of [] = []
+tail_of (p ∷ ps) = ps
+
+abbrev nodes_of : Items → List Piece
+nodes_of xs = items_pieces Broken 0 None Closed Start xs
+
+-- the nodes of a statement, and what follows them on their line
+nodes_end : (xs : Items) (ps : List Piece) → are_some xs ≡ true → AreLegible None Start xs → begins_block xs ≡ false → are_texts (read_pieces (nodes_of xs ++ ps)) ≡ true → are_ended (read_pieces (nodes_of xs ++ ps)) [] ≡ true
+    → ends_chunk (line_of (read_pieces (nodes_of xs ++ ps)) []) ≡ true
+nodes_end no_items ps some h none texts ended = absurd (false≢true some)
+nodes_end (item (leaf kind text place) xs) ps some h none texts ended =
+    first_piece kind (respell kind text) (read_pieces (tail_of (nodes_of (item (leaf kind text place) xs) ++ ps))) (leaf_line kind text h.1.1) (leaf_note kind text h.1) (spelled_opener kind text (is_none (opener_of text) none)) texts ended
+nodes_end (item (group kind segs one_comma end) xs) ps some h none texts ended =
+    first_piece Sign (opening kind) (read_pieces (tail_of (nodes_of (item (group kind segs one_comma end) xs) ++ ps))) refl refl (opening_opener kind) texts ended
+
+pub statement_chunked : (s : Statement) → IsLegible s → is_comment s.class ≡ false → begins_block (items_of s.nodes) ≡ false → IsChunk (layout_text s)
+statement_chunked s h class none =
+    let last = line_of (read_pieces (statement_line s)) [] in
+    let notes = lines_of (read_pieces (comment_lines s.before)) [] in
+    let parts : read_pieces (layout s) ≡ read_pieces (comment_lines s.before) ++ read_pieces (statement_line s) =
+        ap (λ b. read_pieces (comment_lines s.before ++ (if b then [] else statement_line s))) class ∙ map-append read_piece (comment_lines s.before) (statement_line s) in
+    let are : lines (layout_text s) ≡ notes ++ last ∷ [] =
+        text_lines s h ∙ ap (λ ps. lines_of ps []) parts ∙ lines_of_join (read_pieces (comment_lines s.before)) (read_pieces (statement_line s)) [] (comments_end s.before) ∙ ap (λ ls. notes ++ ls) (line_is_one s h) in
+    let ends : ends_chunk last ≡ true =
+        nodes_end (items_of s.nodes) (suffix_piece s.suffix ++ piece Closed LineKind (codes "\n") ∷ []) (h.some class) h.nodes none (line_whole s h).texts (line_ended s [] h).ended in
+    statement_chunk 1 (depth_of s) (layout_text s) (tokens_back 1 s) notes last (read_lines 1 (depth_of s) s h (omega arith)) are (comments_are s.before) ends
+
+pub comments_chunked : (s : Statement) (text : List ℕ) (texts : List (List ℕ)) → IsLegible s → is_comment s.class ≡ true → s.before ≡ text ∷ texts → chunks (layout_text s) ≡ layout_text s ∷ []
+comments_chunked s text texts h class e =
+    let one = line_of (read_pieces (piece Closed Note text ∷ piece Closed LineKind (codes "\n") ∷ [])) [] in
+    let more = lines_of (read_pieces (comment_lines texts)) [] in
+    let parts : read_pieces (layout s) ≡ read_pieces (comment_lines (text ∷ texts)) =
+        ap (λ b. read_pieces (comment_lines s.before ++ (if b then [] else statement_line s))) class ∙ ap read_pieces (append-nil (comment_lines s.before)) ∙ ap (λ ts. read_pieces (comment_lines ts)) e in
+    comments_chunk (layout_text s) one more (text_lines s h ∙ ap (λ ps. lines_of ps []) parts) (comments_are (text ∷ texts))

@@ -1,0 +1,8 @@
+use Rattle.bz_layout_laws.proofs.WholeChunk.{statement_chunked, comments_chunked}
+use Rattle.bz_layout_laws.proofs.chunks.a_text_is_a_chunk.Goals as goal
+
+pub returns-clause-whole : goal.returns-clause-whole
+returns-clause-whole c = statement_chunked
+
+pub returns-clause-last : goal.returns-clause-last
+returns-clause-last c = comments_chunked
