@@ -11,3 +11,4 @@ pub mod Beside
 pub mod TokensBack
 pub mod NoLines
 pub mod WholeChunk
+mod Examples

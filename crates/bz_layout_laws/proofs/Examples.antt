@@ -1,0 +1,71 @@
+-- What the words say, computed; a statement is legible, and its lexemes.
+use Rattle.std.proofs.Common.{◌≡◌, ℕ, List, [], ◌∷◌, Bool, true, false, refl}
+use Rattle.std.specs.Prelude.{codes}
+use Rattle.std.specs.Prelude.Option.{Some, None}
+use Rattle.std.proofs.lemmas.Bool.{false≢true}
+use Rattle.bz_token.specs.declared.token.Kind.TheVariants.{Ident, Word, Int, Text, Sign, Line, Note}
+use Rattle.bz_token.specs.Lexical.{keywords, signs}
+use Rattle.bz_tree.specs.declared.stmt.GroupKind.TheVariants.{List as ListKind}
+use Rattle.bz_tree.specs.declared.stmt.Class.TheVariants.{Assign}
+use Rattle.bz_tree.specs.Tree.{Item, leaf, group, Statement, items_of, segs_of, nowhere}
+use Rattle.bz_layout.specs.declared.spacing.Edge.TheVariants.{Start}
+use Rattle.bz_layout.specs.Layout.{layout_text}
+use Rattle.bz_layout_laws.specs.Legible.{AreLegible, IsLegible, begins_block, depth_of}
+use Rattle.bz_layout_laws.specs.Lexemes.{Lexeme, lexeme, lexemes_of}
+use Rattle.bz_layout_laws.specs.Spelled.{spelled_statement}
+use Rattle.bz_layout_laws.specs.Unplaced.{unplaced}
+
+abbrev sign : List ℕ → Item
+sign text = leaf Sign text nowhere
+
+-- `x = [-'a']` with a comment in each place
+abbrev example : Statement
+example = record {
+  before = codes "# top" ∷ [];
+  nodes =
+      leaf Ident (codes "x") nowhere ∷ leaf Sign (codes "=") (record { line = 2; col = 3; fresh = false })
+      ∷ group ListKind (segs_of (record { before = codes "# a" ∷ []; nodes = leaf Sign (codes "-") nowhere ∷ leaf Text (codes "'a'") nowhere ∷ []; suffix = Some (codes "# b") } ∷ [])) false (codes "# c" ∷ [])
+      ∷ [];
+  suffix = Some (codes "# d");
+  class = Assign;
+  start = 2;
+  end = 6;
+}
+
+text : layout_text example ≡ codes "# top\nx = [\n    # a\n    -\"a\",  # b\n    # c\n]  # d\n"
+text = refl
+
+legible : IsLegible example
+unfolding keywords signs
+legible = record {
+  some = λ e. refl;
+  before = refl;
+  nodes = (refl, (refl, refl), (refl, (refl, refl), (refl, ((refl, refl, (refl, (refl, refl), (refl, (refl, refl), tt)), refl, tt), refl), tt)));
+  suffix = refl;
+}
+
+depth : depth_of example ≡ 1
+depth = refl
+
+no_block : begins_block (items_of example.nodes) ≡ false
+no_block = refl
+
+abbrev beside : List ℕ → Lexeme
+beside text = record { kind = Note; text = text; beside = true }
+
+lexemes : lexemes_of example
+    ≡ lexeme Note (codes "# top") ∷ lexeme Line (codes "\n") ∷ lexeme Ident (codes "x") ∷ lexeme Sign (codes "=") ∷ lexeme Sign (codes "[") ∷ lexeme Note (codes "# a") ∷ lexeme Sign (codes "-")
+    ∷ lexeme Text (codes "\"a\"") ∷ lexeme Sign (codes ",") ∷ beside (codes "# b") ∷ lexeme Note (codes "# c") ∷ lexeme Sign (codes "]") ∷ beside (codes "# d") ∷ lexeme Line (codes "\n") ∷ []
+lexemes = refl
+
+-- spelled as it is written, and elsewhere
+again : layout_text (unplaced (spelled_statement example)) ≡ layout_text example
+again = refl
+
+-- `-` and `=` after it would be read as one sign
+one_sign : AreLegible None Start (items_of (sign (codes "-") ∷ sign (codes "=") ∷ [])) → ⊥
+one_sign h = false≢true h.2.0
+
+-- a block's word
+block : begins_block (items_of (leaf Word (codes "if") nowhere ∷ leaf Ident (codes "x") nowhere ∷ [])) ≡ true
+block = refl
