@@ -2,8 +2,8 @@
 //!
 //! # That what is written reads back
 //!
-//! No theorem here says so; bz_token_laws and bz_tree_laws have first steps to one. The form of the definitions lets it
-//! be proved over the pieces of `specs/Layout.antt`, of tokens, of the tree and of comments in turn.
+//! No theorem here says so. bz_layout_laws proves it of tokens, of the lines of comments and of chunks, over the pieces
+//! of `specs/Layout.antt`; of the tree no law says it yet, and bz_tree_laws has first steps to one.
 //!
 //! Tokens: a text is read as gaps and longest tokens in turn, so it is enough that each piece has a text of its kind and
 //! that the byte after it ends this text. A space, a newline, a bracket, a comma and a colon end every token but a

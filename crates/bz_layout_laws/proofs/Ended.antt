@@ -1,12 +1,11 @@
 -- Each text of a layout is ended by what follows it.
-use Rattle.std.proofs.Common.{◌≡◌, ℕ, ◌+◌, ◌&&◌, List, [], ◌∷◌, ◌++◌, Bool, true, false, Option, Some, None, refl, sym, ap, ◌∙◌, append_assoc}
-use Rattle.std.specs.Prelude.{codes, if◌then◌else◌}
-use Rattle.std.specs.List.{list_all}
-use Rattle.std.proofs.lemmas.Bool.{and_parts, false≢true, eqb-true}
+use Rattle.std.proofs.Common.{◌≡◌, ℕ, ◌+◌, List, [], ◌∷◌, ◌++◌, Bool, true, false, Option, Some, None, refl, sym, ap, ◌∙◌, append_assoc}
+use Rattle.std.specs.Prelude.{codes}
+use Rattle.std.proofs.lemmas.Bool.{false≢true, eqb-true}
 use Rattle.std.proofs.lemmas.List.{map-append}
 use Rattle.bz_token.specs.declared.token.Kind.{Kind}
 use Rattle.bz_token.specs.declared.token.Kind.TheVariants.{Sign, Line as LineKind, Note}
-use Rattle.bz_token.specs.Lexical.{begins, is_newline, is_comment}
+use Rattle.bz_token.specs.Lexical.{begins, is_newline}
 use Rattle.bz_token.specs.Ends.{stops_at, ends}
 use Rattle.bz_token.specs.Reading.{bytes_of as bytes_read}
 use Rattle.bz_token_laws.specs.Readable.{are_ended}
@@ -14,7 +13,6 @@ use Rattle.bz_token_laws.proofs.Readable.{ended_join, stopped_at_ends}
 use Rattle.bz_token_laws.proofs.CloseTokens.{whole_stops}
 use Rattle.bz_tree.specs.declared.stmt.GroupKind.{GroupKind}
 use Rattle.bz_tree.specs.declared.stmt.GroupKind.TheVariants.{Call, RuleCall, Load, Paren, List as ListKind, Index, Dict, ListComp, DictComp}
-use Rattle.bz_tree.specs.Comments.{beside}
 use Rattle.bz_tree.specs.Tree.{Item, leaf, group, Items, no_items, item, Segs, no_segs, seg, Statement, items_of}
 use Rattle.bz_layout.specs.declared.spacing.Edge.{Edge}
 use Rattle.bz_layout.specs.declared.spacing.Edge.TheVariants.{Start}
@@ -26,7 +24,7 @@ use Rattle.bz_layout.specs.Spacing.{edge_after, gap_before, is_start}
 use Rattle.bz_layout.specs.Broken.{count, is_broken, segs_hold}
 use Rattle.bz_layout.specs.Pieces.{Piece, piece, gap_bytes, bytes_of, comma_if, comments, comment_lines, suffix_piece}
 use Rattle.bz_layout.specs.Layout.{opening, closing, has_commas, breaks, item_pieces, items_pieces, broken_segs, flat_segs, statement_line, is_comment as is_comment_class, layout}
-use Rattle.bz_layout_laws.specs.Legible.{AreComments, IsLegibleItem, AreLegible, AreLegibleSegs, IsLegible, are_some}
+use Rattle.bz_layout_laws.specs.Legible.{IsLegibleItem, AreLegible, AreLegibleSegs, IsLegible, are_some}
 use Rattle.bz_layout_laws.specs.ReadPieces.{read_piece, read_pieces}
 use Rattle.bz_layout_laws.proofs.Texts.{both, either_way}
 use Rattle.bz_layout_laws.proofs.Stopping.{before, stops_all, may_stand, stops_may, newline_stops_all, leaf_ended, edge_started, next_stands}

@@ -1,5 +1,5 @@
 -- The gaps and brackets of a layout fit: each group leaves the open brackets as they were.
-use Rattle.std.proofs.Common.{◌≡◌, ℕ, zero, suc, ◌+◌, ◌≤◌, ◌&&◌, List, [], ◌∷◌, ◌++◌, length, Bool, true, false, Option, Some, None, refl, sym, ap, subst, ◌∙◌, arith}
+use Rattle.std.proofs.Common.{◌≡◌, ℕ, zero, suc, ◌+◌, ◌≤◌, ◌&&◌, List, [], ◌∷◌, ◌++◌, length, Bool, true, false, Option, Some, None, refl, ap, ◌∙◌, arith}
 use Rattle.std.specs.Prelude.{codes, max, nat_lt, if◌then◌else◌}
 use Rattle.std.specs.List.{list_all}
 use Rattle.std.proofs.Math.Nat.{le-max_left, le-max_right}
@@ -8,8 +8,8 @@ use Rattle.std.proofs.lemmas.Bool.Decides.{nat_tests}
 use Rattle.std.proofs.lemmas.List.{map-append}
 use Rattle.bz_token.specs.declared.token.Kind.{Kind}
 use Rattle.bz_token.specs.declared.token.Kind.TheVariants.{Sign, Line as LineKind, Note}
-use Rattle.bz_token.specs.Lexical.{is_text, is_comment}
-use Rattle.bz_token.specs.Brackets.{is_inside, is_line, fits, open_after_token}
+use Rattle.bz_token.specs.Lexical.{is_comment}
+use Rattle.bz_token.specs.Brackets.{is_inside, is_line, fits}
 use Rattle.bz_token.specs.Reading.{is_gap, open_after}
 use Rattle.bz_token_laws.specs.Readable.{are_fitting}
 use Rattle.bz_token_laws.proofs.Readable.{fitting_join, open_join}

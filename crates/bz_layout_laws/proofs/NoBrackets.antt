@@ -1,16 +1,15 @@
 -- Tokens that are no brackets leave the open brackets as they are.
-use Rattle.std.proofs.Common.{◌≡◌, ℕ, ◌==◌, ◌&&◌, ◌||◌, List, [], ◌∷◌, Bool, true, false, not, refl, sym, ap, ◌∙◌, inl, inr}
+use Rattle.std.proofs.Common.{◌≡◌, ℕ, ◌==◌, ◌||◌, List, [], ◌∷◌, Bool, true, false, not, refl, sym, ap, ◌∙◌, inl, inr}
 use Rattle.std.proofs.lemmas.Bool.{cases_Bool, or_cases, false≢true, eqb-true}
 use Rattle.bz_token.specs.declared.token.Kind.{Kind}
 use Rattle.bz_token.specs.declared.token.Kind.TheVariants.{Ident, Word, Int, Text, Sign, Line, Note, Kept}
 use Rattle.bz_token.specs.Lexical.{is_text}
-use Rattle.bz_token.specs.Brackets.{is_inside, is_opening_bracket, is_closing_bracket, is_line, fits, open_after_token}
+use Rattle.bz_token.specs.Brackets.{is_opening_bracket, is_closing_bracket, is_line, fits, open_after_token}
 use Rattle.bz_token.proofs.Classes.{mark, can_start, text_class}
 use Rattle.bz_token.proofs.Fitting.{is_bracket_byte, bracket_class}
 use Rattle.bz_tree.specs.Kinds.{kind_mark, sign_mark}
 use Rattle.bz_layout.specs.Respell.{respell}
 use Rattle.bz_layout_laws.specs.Legible.{is_leaf_mark}
-use Rattle.bz_layout_laws.proofs.Texts.{both}
 
 -- not a single bracket
 abbrev pub is_free : List ℕ → Bool

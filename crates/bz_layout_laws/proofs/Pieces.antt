@@ -1,7 +1,6 @@
 -- The pieces of a layout without gaps are the lexemes of the statement.
-use Rattle.std.proofs.Common.{◌≡◌, ℕ, ◌+◌, List, [], ◌∷◌, ◌++◌, Bool, true, false, Option, Some, None, map, refl, ap, sym, ◌∙◌, inl, inr}
+use Rattle.std.proofs.Common.{◌≡◌, ℕ, ◌+◌, List, [], ◌∷◌, ◌++◌, Bool, true, false, Option, Some, None, refl, ap, ◌∙◌}
 use Rattle.std.specs.Prelude.{codes, if◌then◌else◌}
-use Rattle.std.proofs.lemmas.Bool.{cases_Bool}
 use Rattle.std.proofs.lemmas.List.{map-append}
 use Rattle.bz_token.specs.declared.token.Kind.TheVariants.{Sign, Line as LineKind, Note}
 use Rattle.bz_tree.specs.declared.stmt.GroupKind.{GroupKind}
@@ -15,7 +14,7 @@ use Rattle.bz_layout.specs.Spacing.{closes_up, edge_after, gap_before}
 use Rattle.bz_layout.specs.Broken.{count, is_broken, segs_hold}
 use Rattle.bz_layout.specs.Pieces.{Piece, piece, comma_if, comments, comment_lines, suffix_piece}
 use Rattle.bz_layout.specs.Layout.{opening, closing, has_commas, item_pieces, items_pieces, broken_segs, flat_segs, statement_line, is_comment, layout}
-use Rattle.bz_layout_laws.specs.Lexemes.{Lexeme, lexeme, notes, suffix_lexemes, comma_lexemes, item_lexemes, items_lexemes, ended_lexemes, separated_lexemes, note_lines, line_lexemes, lexemes_of}
+use Rattle.bz_layout_laws.specs.Lexemes.{lexeme, notes, suffix_lexemes, comma_lexemes, item_lexemes, items_lexemes, ended_lexemes, separated_lexemes, note_lines, line_lexemes, lexemes_of}
 use Rattle.bz_layout_laws.specs.ReadPieces.{is_apart, piece_lexeme, piece_lexemes}
 
 join : (ps qs : List Piece) → piece_lexemes (ps ++ qs) ≡ piece_lexemes ps ++ piece_lexemes qs
@@ -68,8 +67,16 @@ mutual
       ap (λ b. record { kind = Sign; text = opening kind; beside = b } ∷ piece_lexemes (if is_broken kind segs end (segs_hold segs) then broken ++ (comments (level + 1) end ++ last) else flat ++ (comma_if one_comma ++ close))) h
       ∙ ap (λ l. lexeme Sign (opening kind) ∷ l)
       (either (is_broken kind segs end (segs_hold segs)) (broken ++ (comments (level + 1) end ++ last)) (flat ++ (comma_if one_comma ++ close))
-      ∙ rw (join broken (comments (level + 1) end ++ last), join (comments (level + 1) end) last, broken_pieces_are (level + 1) kind comma segs, note_pieces (level + 1) end,
-      join flat (comma_if one_comma ++ close), join (comma_if one_comma) close, flat_pieces_are level kind true segs, commas one_comma) refl)
+      ∙ rw (
+        join broken (comments (level + 1) end ++ last),
+        join (comments (level + 1) end) last,
+        broken_pieces_are (level + 1) kind comma segs,
+        note_pieces (level + 1) end,
+        join flat (comma_if one_comma ++ close),
+        join (comma_if one_comma) close,
+        flat_pieces_are level kind true segs,
+        commas one_comma,
+      ) refl)
 
   items_pieces_are : (level : ℕ) (within : Option GroupKind) (first : Gap) (left : Edge) (xs : Items) → is_apart first ≡ false → piece_lexemes (items_pieces Broken level within first left xs) ≡ items_lexemes xs
   items_pieces_are level within first left no_items h = refl
@@ -83,8 +90,16 @@ mutual
       let rest = broken_segs Broken level kind comma ss in
       let nodes_are = items_pieces Broken level (Some kind) (Line level) Start nodes in
       join (comments level before) (nodes_are ++ (comma_if comma ++ (suffix_piece suffix ++ rest)))
-      ∙ rw (join nodes_are (comma_if comma ++ (suffix_piece suffix ++ rest)), join (comma_if comma) (suffix_piece suffix ++ rest), join (suffix_piece suffix) rest,
-      note_pieces level before, items_pieces_are level (Some kind) (Line level) Start nodes refl, commas comma, suffix_pieces suffix, broken_pieces_are level kind comma ss) refl
+      ∙ rw (
+        join nodes_are (comma_if comma ++ (suffix_piece suffix ++ rest)),
+        join (comma_if comma) (suffix_piece suffix ++ rest),
+        join (suffix_piece suffix) rest,
+        note_pieces level before,
+        items_pieces_are level (Some kind) (Line level) Start nodes refl,
+        commas comma,
+        suffix_pieces suffix,
+        broken_pieces_are level kind comma ss,
+      ) refl
 
   flat_pieces_are : (level : ℕ) (kind : GroupKind) (first : Bool) (ss : Segs) → piece_lexemes (flat_segs Broken level kind first ss) ≡ separated_lexemes first ss
   flat_pieces_are level kind first no_segs = refl

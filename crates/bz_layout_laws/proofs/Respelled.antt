@@ -1,5 +1,5 @@
 -- A string in single quotes with plain content is one in double quotes, and of nothing else a string is made.
-use Rattle.std.proofs.Common.{◌≡◌, ℕ, ◌+◌, ◌==◌, ◌&&◌, List, [], ◌∷◌, ◌++◌, Bool, true, false, not, refl, sym, ap, subst, ◌∙◌, inl, inr}
+use Rattle.std.proofs.Common.{◌≡◌, ℕ, ◌==◌, ◌&&◌, List, [], ◌∷◌, ◌++◌, Bool, true, false, not, refl, sym, ap, ◌∙◌, inl, inr}
 use Rattle.std.specs.Prelude.{count_by, if◌then◌else◌, Option, Some}
 use Rattle.std.specs.List.{list_all}
 use Rattle.std.specs.Str.{bytes_eq}
@@ -9,8 +9,8 @@ use Rattle.bz_token.specs.declared.token.Kind.TheVariants.{Ident, Word, Int, Tex
 use Rattle.bz_token.specs.declared.scan_string.Quotes.{Quotes}
 use Rattle.bz_token.specs.declared.scan_string.Opening.{Opening}
 use Rattle.bz_token.specs.declared.scan_string.Escape.TheVariants.{Unescaped, AfterBackslash}
-use Rattle.bz_token.specs.Pieces.{is_quote, units}
-use Rattle.bz_token.specs.Lexical.{is_empty, is_string, opening, is_closed, is_closed_inside, is_text, is_string_kind}
+use Rattle.bz_token.specs.Pieces.{is_quote}
+use Rattle.bz_token.specs.Lexical.{is_empty, is_string, opening, is_closed, is_text, is_string_kind}
 use Rattle.bz_token.specs.private.Closing.{closes, starts_escape}
 use Rattle.bz_token.proofs.StringUnits.{closes_units}
 use Rattle.bz_token.proofs.Classes.{same_bytes}
@@ -120,7 +120,6 @@ respelled_once Sign text = refl
 respelled_once Line text = refl
 respelled_once Note text = refl
 respelled_once Kept text = refl
-
 
 lines_within : (inner : List ℕ) → count_by (λ b. b == 10) (inner ++ 34 ∷ []) ≡ count_by (λ b. b == 10) (inner ++ 39 ∷ [])
 lines_within inner = newlines-append inner (34 ∷ []) ∙ sym (newlines-append inner (39 ∷ []))

@@ -1,7 +1,6 @@
 -- What follows a node ends it: the first byte of the next node after its gap.
-use Rattle.std.proofs.Common.{◌≡◌, ℕ, ◌==◌, ◌&&◌, ◌||◌, List, [], ◌∷◌, ◌++◌, Bool, true, false, not, Option, Some, None, refl, sym, ap, subst, ◌∙◌, inl, inr}
+use Rattle.std.proofs.Common.{◌≡◌, ℕ, ◌&&◌, ◌||◌, List, [], ◌∷◌, ◌++◌, Bool, true, false, not, Option, refl, sym, ap, ◌∙◌, inl, inr}
 use Rattle.std.specs.Prelude.{codes, bytes_eq, if◌then◌else◌}
-use Rattle.std.specs.List.{list_any}
 use Rattle.std.proofs.lemmas.Bool.{cases_Bool, and_parts, or_cases, not-true, false≢true, eqb-true}
 use Rattle.bz_token.specs.declared.token.Kind.{Kind}
 use Rattle.bz_token.specs.declared.token.Kind.TheVariants.{Ident, Word, Int, Text, Sign, Line as LineKind, Note, Kept}
@@ -13,7 +12,6 @@ use Rattle.bz_token.proofs.Stops.{sign_stops, plain_stops}
 use Rattle.bz_token_laws.proofs.Readable.{stopped_at_ends}
 use Rattle.bz_tree.specs.declared.stmt.GroupKind.{GroupKind}
 use Rattle.bz_tree.specs.declared.stmt.GroupKind.TheVariants.{Call, RuleCall, Load, Paren, List as ListKind, Index, Dict, ListComp, DictComp}
-use Rattle.bz_tree.specs.Kinds.{kind_mark}
 use Rattle.bz_tree.specs.Tree.{Item, leaf, group, Place}
 use Rattle.bz_layout.specs.declared.spacing.Edge.{Edge}
 use Rattle.bz_layout.specs.declared.spacing.Edge.TheVariants.{Start, Joined, Dotted, Operator, Operand}
@@ -22,9 +20,9 @@ use Rattle.bz_layout.specs.declared.spacing.Gap.TheVariants.{Closed, Space}
 use Rattle.bz_layout.specs.declared.broken.Style.{Style}
 use Rattle.bz_layout.specs.Respell.{is_single, respell}
 use Rattle.bz_layout.specs.Spacing.{closes_up, edge_after, holds_on, gap_before, is_start, is_prefix, begins_argument, is_index_colon}
-use Rattle.bz_layout.specs.Pieces.{Piece, piece, bytes_of}
+use Rattle.bz_layout.specs.Pieces.{Piece, bytes_of}
 use Rattle.bz_layout.specs.Layout.{opening, item_pieces}
-use Rattle.bz_layout_laws.specs.Legible.{is_leaf_mark, is_later, may_follow, IsLegibleItem}
+use Rattle.bz_layout_laws.specs.Legible.{is_later, may_follow, IsLegibleItem}
 use Rattle.bz_layout_laws.proofs.Respelled.{respelled_text}
 
 -- the text of pieces and what follows it

@@ -1,44 +1,41 @@
 -- The text of a statement is a chunk.
-use Rattle.std.proofs.Common.{◌≡◌, ℕ, ◌≤◌, ◌+◌, ◌&&◌, ◌||◌, List, [], ◌∷◌, ◌++◌, Bool, true, false, not, Option, Some, None, refl, sym, ap, subst, ◌∙◌, append-nil, append_assoc, arith, inl, inr}
+use Rattle.std.proofs.Common.{◌≡◌, ℕ, List, [], ◌∷◌, ◌++◌, true, false, not, Option, Some, None, refl, sym, ap, ◌∙◌, append-nil, append_assoc, arith, inl, inr}
 use Rattle.std.specs.Prelude.{codes, is_some, if◌then◌else◌}
-use Rattle.std.specs.List.{list_all}
 use Rattle.std.proofs.lemmas.Bool.{cases_Bool, and_parts, false≢true}
 use Rattle.std.proofs.lemmas.List.{map-append}
 use Rattle.bz_token.specs.declared.token.Kind.{Kind}
 use Rattle.bz_token.specs.declared.token.Kind.TheVariants.{Ident, Word, Int, Text, Sign, Line as LineKind, Note, Kept}
 use Rattle.bz_token.specs.declared.cutter.block.Opener.{Opener}
-use Rattle.bz_token.specs.declared.cutter.scan.LineKind.TheVariants.{Statement as StatementLine}
 use Rattle.bz_token.specs.Blocks.{opener_of, opener}
 use Rattle.bz_token.specs.Brackets.{is_inside, is_line}
 use Rattle.bz_token.specs.Chunks.{chunks}
 use Rattle.bz_token.specs.Cuts.{IsChunk}
 use Rattle.bz_token.specs.Ends.{is_note, ends}
 use Rattle.bz_token.specs.Lexical.{is_text}
-use Rattle.bz_token.specs.LogicalLines.{Line, lines}
+use Rattle.bz_token.specs.LogicalLines.{lines}
 use Rattle.bz_token.specs.Reading.{Piece as ReadPiece, is_gap, open_after, bytes_of as bytes_read}
 use Rattle.bz_token.proofs.Stops.{token_ended}
 use Rattle.bz_token_laws.specs.ChunkForms.{are_comments, ends_chunk}
-use Rattle.bz_token_laws.specs.Readable.{are_texts, are_ended, are_fitting}
-use Rattle.bz_token_laws.specs.TokenLines.{kind_of, line_of, lines_of}
+use Rattle.bz_token_laws.specs.Readable.{are_texts, are_ended}
+use Rattle.bz_token_laws.specs.TokenLines.{line_of, lines_of}
 use Rattle.bz_token_laws.proofs.BlockWords.{no_block}
 use Rattle.bz_token_laws.proofs.ChunkForms.{statement_chunk, comments_chunk}
 use Rattle.bz_token_laws.proofs.Readable.{laid_reading}
 use Rattle.bz_token_laws.proofs.TokenLines.{lines_are_lines, lines_of_join, one_line}
 use Rattle.bz_tree.specs.declared.stmt.GroupKind.{GroupKind}
 use Rattle.bz_tree.specs.declared.stmt.GroupKind.TheVariants.{Call, RuleCall, Load, Paren, List as ListKind, Index, Dict, ListComp, DictComp}
-use Rattle.bz_tree.specs.Tree.{Item, leaf, group, Items, no_items, item, Statement, Place, items_of}
+use Rattle.bz_tree.specs.Tree.{leaf, group, Items, no_items, item, Statement, items_of}
 use Rattle.bz_layout.specs.declared.spacing.Edge.TheVariants.{Start}
 use Rattle.bz_layout.specs.declared.spacing.Gap.TheVariants.{Closed}
 use Rattle.bz_layout.specs.declared.broken.Style.TheVariants.{Broken}
 use Rattle.bz_layout.specs.Respell.{is_single, respell}
-use Rattle.bz_layout.specs.Pieces.{Piece, piece, bytes_of, comment_lines, suffix_piece}
+use Rattle.bz_layout.specs.Pieces.{Piece, piece, comment_lines, suffix_piece}
 use Rattle.bz_layout.specs.Layout.{opening, items_pieces, statement_line, is_comment, layout, layout_text}
 use Rattle.bz_layout_laws.specs.Legible.{IsLegible, IsLegibleItem, AreLegible, are_some, begins_block, depth_of}
 use Rattle.bz_layout_laws.specs.ReadPieces.{read_piece, read_pieces}
-use Rattle.bz_layout_laws.proofs.Respelled.{respelled_text}
 use Rattle.bz_layout_laws.proofs.NoBrackets.{leaf_line}
 use Rattle.bz_layout_laws.proofs.Texts.{line_whole}
-use Rattle.bz_layout_laws.proofs.NoLines.{HasNoLine, join, items_no_line, suffix_no_line}
+use Rattle.bz_layout_laws.proofs.NoLines.{join, items_no_line, suffix_no_line}
 use Rattle.bz_layout_laws.proofs.Ended.{read_bytes, line_ended}
 use Rattle.bz_layout_laws.proofs.TokensBack.{layout_read, read_lines, comments_end, tokens_back}
 
@@ -65,7 +62,7 @@ line_is_one s h =
     let nodes = items_pieces Broken 0 None Closed Start (items_of s.nodes) in
     let none = join (items_no_line Broken 0 None Closed Start (items_of s.nodes) h.nodes) (suffix_no_line s.suffix) in
     let parts : read_pieces (statement_line s) ≡ read_pieces (nodes ++ suffix_piece s.suffix) ++ read_piece (piece Closed LineKind (codes "\n")) ∷ [] =
-        ap read_pieces (sym (append_assoc nodes (suffix_piece s.suffix) newline)) ∙ map-append read_piece (nodes ++ suffix_piece s.suffix) newline in
+    ap read_pieces (sym (append_assoc nodes (suffix_piece s.suffix) newline)) ∙ map-append read_piece (nodes ++ suffix_piece s.suffix) newline in
     ap (λ ps. lines_of ps []) parts ∙ one_line (read_pieces (nodes ++ suffix_piece s.suffix)) (read_piece (piece Closed LineKind (codes "\n"))) none.none refl ∙ sym (ap (λ ps. line_of ps [] ∷ []) parts)
 
 -- a word that is spelled anew begins no block
@@ -135,11 +132,11 @@ statement_chunked s h class none =
     let last = line_of (read_pieces (statement_line s)) [] in
     let notes = lines_of (read_pieces (comment_lines s.before)) [] in
     let parts : read_pieces (layout s) ≡ read_pieces (comment_lines s.before) ++ read_pieces (statement_line s) =
-        ap (λ b. read_pieces (comment_lines s.before ++ (if b then [] else statement_line s))) class ∙ map-append read_piece (comment_lines s.before) (statement_line s) in
+    ap (λ b. read_pieces (comment_lines s.before ++ (if b then [] else statement_line s))) class ∙ map-append read_piece (comment_lines s.before) (statement_line s) in
     let are : lines (layout_text s) ≡ notes ++ last ∷ [] =
-        text_lines s h ∙ ap (λ ps. lines_of ps []) parts ∙ lines_of_join (read_pieces (comment_lines s.before)) (read_pieces (statement_line s)) [] (comments_end s.before) ∙ ap (λ ls. notes ++ ls) (line_is_one s h) in
+    text_lines s h ∙ ap (λ ps. lines_of ps []) parts ∙ lines_of_join (read_pieces (comment_lines s.before)) (read_pieces (statement_line s)) [] (comments_end s.before) ∙ ap (λ ls. notes ++ ls) (line_is_one s h) in
     let ends : ends_chunk last ≡ true =
-        nodes_end (items_of s.nodes) (suffix_piece s.suffix ++ piece Closed LineKind (codes "\n") ∷ []) (h.some class) h.nodes none (line_whole s h).texts (line_ended s [] h).ended in
+    nodes_end (items_of s.nodes) (suffix_piece s.suffix ++ piece Closed LineKind (codes "\n") ∷ []) (h.some class) h.nodes none (line_whole s h).texts (line_ended s [] h).ended in
     statement_chunk 1 (depth_of s) (layout_text s) (tokens_back 1 s) notes last (read_lines 1 (depth_of s) s h (omega arith)) are (comments_are s.before) ends
 
 pub comments_chunked : (s : Statement) (text : List ℕ) (texts : List (List ℕ)) → IsLegible s → is_comment s.class ≡ true → s.before ≡ text ∷ texts → chunks (layout_text s) ≡ layout_text s ∷ []
@@ -147,5 +144,5 @@ comments_chunked s text texts h class e =
     let one = line_of (read_pieces (piece Closed Note text ∷ piece Closed LineKind (codes "\n") ∷ [])) [] in
     let more = lines_of (read_pieces (comment_lines texts)) [] in
     let parts : read_pieces (layout s) ≡ read_pieces (comment_lines (text ∷ texts)) =
-        ap (λ b. read_pieces (comment_lines s.before ++ (if b then [] else statement_line s))) class ∙ ap read_pieces (append-nil (comment_lines s.before)) ∙ ap (λ ts. read_pieces (comment_lines ts)) e in
+    ap (λ b. read_pieces (comment_lines s.before ++ (if b then [] else statement_line s))) class ∙ ap read_pieces (append-nil (comment_lines s.before)) ∙ ap (λ ts. read_pieces (comment_lines ts)) e in
     comments_chunk (layout_text s) one more (text_lines s h ∙ ap (λ ps. lines_of ps []) parts) (comments_are (text ∷ texts))

@@ -1,8 +1,7 @@
 -- Statements whose text can be read back: what parsing gives, but for blocks, which are kept as they stand.
-use Rattle.std.specs.Prelude.{◌≡◌, ◌==◌, codes, ℕ, zero, suc, max, List, [], ◌∷◌, Bool, true, false, not, ◌&&◌, Option, is_some}
+use Rattle.std.specs.Prelude.{◌≡◌, ◌==◌, codes, ℕ, suc, max, List, Bool, true, false, not, ◌&&◌, Option, is_some}
 use Rattle.std.specs.Prelude.Option.{Some, None}
 use Rattle.std.specs.List.{list_all, list_any}
-use Rattle.bz_token.specs.declared.token.Kind.{Kind}
 use Rattle.bz_token.specs.Blocks.{opener_of}
 use Rattle.bz_token.specs.Lexical.{begins, is_text, is_comment}
 use Rattle.bz_tree.specs.declared.stmt.GroupKind.{GroupKind}
