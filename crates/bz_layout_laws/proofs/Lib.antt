@@ -11,4 +11,5 @@ pub mod Beside
 pub mod TokensBack
 pub mod NoLines
 pub mod WholeChunk
+pub mod Written
 mod Examples

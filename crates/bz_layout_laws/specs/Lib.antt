@@ -3,3 +3,4 @@ pub mod Lexemes
 pub mod ReadPieces
 pub mod Legible
 pub mod Spelled
+pub mod Inside

@@ -1,0 +1,25 @@
+//! Law on brackets: what stands in them is written in the form from which bz_tree_laws reads it back.
+
+ghost use Rattle.std.specs.Prelude.{◌≡◌, ◌++◌, ◌∷◌, ◌&&◌, ◌==◌, ℕ, List, Bool, [], length};
+ghost use Rattle.bz_token.specs.declared.token.Kind.TheVariants.{Sign};
+ghost use Rattle.bz_tree.specs.declared.stmt.GroupKind.{GroupKind};
+ghost use Rattle.bz_tree.specs.Brackets.{is_paren};
+ghost use Rattle.bz_tree.specs.Owners.{is_filled};
+ghost use Rattle.bz_tree.specs.Tree.{Segs, group, segments};
+ghost use Rattle.bz_tree_laws.specs.Written.{written_entries};
+ghost use Rattle.bz_layout.specs.Layout.{opening, closing};
+ghost use Rattle.bz_layout_laws.specs.Inside.{HasShape, entries_lexemes, has_last_comma};
+ghost use Rattle.bz_layout_laws.specs.Lexemes.{lexeme, item_lexemes};
+
+/// What stands in a bracket is written, broken over lines or not, as `group_read_back` of bz_tree_laws asks for it; and
+/// what that law reads of the comma after the last segment is what the group says of it.
+pub fn brackets_are_written_to_be_read()
+    ensures inside { (kind : GroupKind) (segs : Segs) (one_comma : Bool) (end : List (List ℕ))
+        → HasShape kind segs one_comma → item_lexemes (group kind segs one_comma end)
+        ≡ lexeme Sign (opening kind)
+        ∷ (entries_lexemes (written_entries (has_last_comma kind segs one_comma end) (segments segs) end)
+        ++ lexeme Sign (closing kind) ∷ []) }
+    ensures comma { (kind : GroupKind) (segs : Segs) (one_comma : Bool) (end : List (List ℕ))
+        → HasShape kind segs one_comma → (is_paren kind && (length (segments segs) == 1)
+        && (has_last_comma kind segs one_comma end && is_filled (segments segs))) ≡ one_comma }
+{}
