@@ -12,4 +12,5 @@ pub mod TokensBack
 pub mod NoLines
 pub mod WholeChunk
 pub mod Written
+pub mod WrittenLine
 mod Examples

@@ -78,7 +78,7 @@ mutual
         commas one_comma,
       ) refl)
 
-  items_pieces_are : (level : ℕ) (within : Option GroupKind) (first : Gap) (left : Edge) (xs : Items) → is_apart first ≡ false → piece_lexemes (items_pieces Broken level within first left xs) ≡ items_lexemes xs
+  pub items_pieces_are : (level : ℕ) (within : Option GroupKind) (first : Gap) (left : Edge) (xs : Items) → is_apart first ≡ false → piece_lexemes (items_pieces Broken level within first left xs) ≡ items_lexemes xs
   items_pieces_are level within first left no_items h = refl
   items_pieces_are level within first left (item x xs) h =
       join (item_pieces Broken level (gap_before first left x) x) (items_pieces Broken level within first (edge_after within left x) xs)

@@ -21,7 +21,7 @@ join : (xs ys : List Entry) → entries_lexemes (xs ++ ys) ≡ entries_lexemes x
 join [] ys = refl
 join (x ∷ xs) ys = ap (λ l. entry_lexemes x ++ l) (join xs ys) ∙ sym (append_assoc (entry_lexemes x) (entries_lexemes xs) (entries_lexemes ys))
 
-own_lines_are : (texts : List (List ℕ)) → entries_lexemes (own_lines texts) ≡ notes texts
+pub own_lines_are : (texts : List (List ℕ)) → entries_lexemes (own_lines texts) ≡ notes texts
 own_lines_are [] = refl
 own_lines_are (text ∷ texts) = ap (λ l. lexeme Note text ∷ l) (own_lines_are texts)
 
@@ -33,7 +33,7 @@ suffix_is : (suffix : Option (List ℕ)) → entries_lexemes (suffix_entry suffi
 suffix_is None = refl
 suffix_is (Some text) = refl
 
-abbrev comma_entry : Bool → List Entry
+abbrev pub comma_entry : Bool → List Entry
 comma_entry c = if c then a_comma ∷ [] else []
 
 comma_is : (c : Bool) → entries_lexemes (comma_entry c) ≡ comma_lexemes c
@@ -41,10 +41,10 @@ comma_is true = refl
 comma_is false = refl
 
 -- a segment with what stands after it
-abbrev segment_entries : List (List ℕ) → Items → Bool → Option (List ℕ) → List Entry → List Entry
+abbrev pub segment_entries : List (List ℕ) → Items → Bool → Option (List ℕ) → List Entry → List Entry
 segment_entries before nodes c suffix es = own_lines before ++ (map a_node (list_of nodes) ++ (comma_entry c ++ (suffix_entry suffix ++ es)))
 
-segment_is : (before : List (List ℕ)) (nodes : Items) (c : Bool) (suffix : Option (List ℕ)) (es : List Entry) → entries_lexemes (segment_entries before nodes c suffix es) ≡ notes before ++ (items_lexemes nodes ++ (comma_lexemes c ++ (suffix_lexemes suffix ++ entries_lexemes es)))
+pub segment_is : (before : List (List ℕ)) (nodes : Items) (c : Bool) (suffix : Option (List ℕ)) (es : List Entry) → entries_lexemes (segment_entries before nodes c suffix es) ≡ notes before ++ (items_lexemes nodes ++ (comma_lexemes c ++ (suffix_lexemes suffix ++ entries_lexemes es)))
 segment_is before nodes c suffix es =
     let a = own_lines before in
     let b = map a_node (list_of nodes) in

@@ -6,7 +6,7 @@ use Rattle.bz_tree.specs.declared.stmt.GroupKind.{GroupKind}
 use Rattle.bz_tree.specs.declared.stmt.GroupKind.TheVariants.{Paren}
 use Rattle.bz_tree.specs.Kinds.{is_one}
 use Rattle.bz_tree.specs.Owners.{Entry, a_node, a_comma, a_note}
-use Rattle.bz_tree.specs.Tree.{Segs}
+use Rattle.bz_tree.specs.Tree.{Segs, Segment, Statement}
 use Rattle.bz_layout.specs.Broken.{count, is_broken, segs_hold}
 use Rattle.bz_layout.specs.Layout.{has_commas}
 use Rattle.bz_layout_laws.specs.Lexemes.{Lexeme, lexeme, item_lexemes}
@@ -32,3 +32,7 @@ pub record HasShape (kind : GroupKind) (segs : Segs) (one_comma : Bool) : Type 0
 abbrev pub without_newlines : List Lexeme → List Lexeme
 without_newlines [] = []
 without_newlines (l ∷ ls) = if is_line l.kind then without_newlines ls else l ∷ without_newlines ls
+
+-- a statement as the one segment that stands outside brackets
+abbrev pub own_segment : Statement → Segment
+own_segment s = record { before = s.before; nodes = s.nodes; suffix = s.suffix }

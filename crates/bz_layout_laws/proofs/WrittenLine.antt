@@ -1,0 +1,75 @@
+-- What stands outside brackets is written in one form.
+use Rattle.std.proofs.Common.{◌≡◌, ℕ, List, [], ◌∷◌, ◌++◌, map, Bool, true, false, Option, Some, None, refl, sym, ap, ◌∙◌, append-nil, append_assoc}
+use Rattle.std.specs.Prelude.{codes, if◌then◌else◌}
+use Rattle.std.specs.List.{list_any}
+use Rattle.std.proofs.lemmas.Bool.{or_parts}
+use Rattle.std.proofs.lemmas.List.{map-append}
+use Rattle.bz_token.specs.declared.token.Kind.TheVariants.{Line as LineKind, Note}
+use Rattle.bz_token.specs.Brackets.{is_line}
+use Rattle.bz_token_laws.specs.TokenLines.{is_newline_piece}
+use Rattle.bz_tree.specs.Owners.{Entry, a_node}
+use Rattle.bz_tree.specs.Tree.{Item, Statement, items_of, list_of}
+use Rattle.bz_tree_laws.specs.Written.{own_lines, suffix_entry, written_entries}
+use Rattle.bz_layout.specs.declared.spacing.Edge.TheVariants.{Start}
+use Rattle.bz_layout.specs.declared.spacing.Gap.TheVariants.{Closed}
+use Rattle.bz_layout.specs.declared.broken.Style.TheVariants.{Broken}
+use Rattle.bz_layout.specs.Pieces.{Piece, suffix_piece}
+use Rattle.bz_layout.specs.Layout.{items_pieces, is_comment}
+use Rattle.bz_layout_laws.specs.Inside.{entries_lexemes, own_segment, without_newlines}
+use Rattle.bz_layout_laws.specs.Legible.{IsLegible}
+use Rattle.bz_layout_laws.specs.Lexemes.{Lexeme, lexeme, notes, suffix_lexemes, items_lexemes, note_lines, line_lexemes, lexemes_of}
+use Rattle.bz_layout_laws.specs.ReadPieces.{piece_lexemes, read_pieces}
+use Rattle.bz_layout_laws.proofs.NoLines.{items_no_line}
+use Rattle.bz_layout_laws.proofs.Pieces.{items_pieces_are}
+use Rattle.bz_layout_laws.proofs.Written.{own_lines_are, segment_is}
+
+without_join : (xs ys : List Lexeme) → without_newlines (xs ++ ys) ≡ without_newlines xs ++ without_newlines ys
+without_join [] ys = refl
+without_join (x ∷ xs) ys = by (is_line x.kind) (without_join xs ys)
+  where
+    by : (b : Bool) → without_newlines (xs ++ ys) ≡ without_newlines xs ++ without_newlines ys → (if b then without_newlines (xs ++ ys) else x ∷ without_newlines (xs ++ ys)) ≡ (if b then without_newlines xs else x ∷ without_newlines xs) ++ without_newlines ys
+    by true rest = rest
+    by false rest = ap (λ l. x ∷ l) rest
+
+-- pieces without a newline token
+pieces_stay : (ps : List Piece) → list_any is_newline_piece (read_pieces ps) ≡ false → without_newlines (piece_lexemes ps) ≡ piece_lexemes ps
+pieces_stay [] h = refl
+pieces_stay (p ∷ ps) h =
+    let q = or_parts (is_line p.kind) (list_any is_newline_piece (read_pieces ps)) h in
+    let first = q.0 in
+    rw (first, pieces_stay ps q.1) refl
+
+nodes_stay : (s : Statement) → IsLegible s → without_newlines (items_lexemes (items_of s.nodes)) ≡ items_lexemes (items_of s.nodes)
+nodes_stay s h =
+    let ps = items_pieces Broken 0 None Closed Start (items_of s.nodes) in
+    let are = items_pieces_are 0 None Closed Start (items_of s.nodes) refl in
+    ap without_newlines (sym are) ∙ pieces_stay ps (items_no_line Broken 0 None Closed Start (items_of s.nodes) h.nodes).none ∙ are
+
+above : (texts : List (List ℕ)) → without_newlines (note_lines texts) ≡ notes texts
+above [] = refl
+above (text ∷ texts) = ap (λ l. lexeme Note text ∷ l) (above texts)
+
+aside : (suffix : Option (List ℕ)) → without_newlines (suffix_lexemes suffix ++ lexeme LineKind (codes "\n") ∷ []) ≡ suffix_lexemes suffix
+aside None = refl
+aside (Some text) = refl
+
+same_nodes : (xs : List Item) → list_of (items_of xs) ≡ xs
+same_nodes [] = refl
+same_nodes (x ∷ xs) = ap (λ l. x ∷ l) (same_nodes xs)
+
+line_stays : (s : Statement) → IsLegible s → without_newlines (line_lexemes s) ≡ items_lexemes (items_of s.nodes) ++ suffix_lexemes s.suffix
+line_stays s h =
+    without_join (items_lexemes (items_of s.nodes)) (suffix_lexemes s.suffix ++ lexeme LineKind (codes "\n") ∷ []) ∙ rw (nodes_stay s h, aside s.suffix) refl
+
+pub statement_written : (s : Statement) → IsLegible s → is_comment s.class ≡ false → without_newlines (lexemes_of s) ≡ entries_lexemes (written_entries false (own_segment s ∷ []) [])
+statement_written s h class =
+    ap (λ b. without_newlines (note_lines s.before ++ (if b then [] else line_lexemes s))) class
+    ∙ without_join (note_lines s.before) (line_lexemes s)
+    ∙ rw (above s.before, line_stays s h) (ap (λ l. notes s.before ++ (items_lexemes (items_of s.nodes) ++ l)) (sym (append-nil (suffix_lexemes s.suffix))))
+    ∙ sym (segment_is s.before (items_of s.nodes) false s.suffix [])
+    ∙ ap (λ xs. entries_lexemes (own_lines s.before ++ (map a_node xs ++ (suffix_entry s.suffix ++ [])))) (same_nodes s.nodes)
+
+pub comments_written : (s : Statement) → is_comment s.class ≡ true → without_newlines (lexemes_of s) ≡ entries_lexemes (written_entries false [] s.before)
+comments_written s class =
+    ap (λ b. without_newlines (note_lines s.before ++ (if b then [] else line_lexemes s))) class
+    ∙ ap without_newlines (append-nil (note_lines s.before)) ∙ above s.before ∙ sym (own_lines_are s.before)
