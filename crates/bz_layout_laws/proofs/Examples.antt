@@ -5,13 +5,15 @@ use Rattle.std.specs.Prelude.Option.{Some, None}
 use Rattle.std.proofs.lemmas.Bool.{false≢true}
 use Rattle.bz_token.specs.declared.token.Kind.TheVariants.{Ident, Word, Text, Sign, Line, Note}
 use Rattle.bz_token.specs.Lexical.{keywords, signs}
-use Rattle.bz_tree.specs.declared.stmt.GroupKind.TheVariants.{List as ListKind}
+use Rattle.bz_tree.specs.declared.stmt.GroupKind.TheVariants.{List as ListKind, Paren, Index, ListComp}
 use Rattle.bz_tree.specs.declared.stmt.Class.TheVariants.{Assign}
-use Rattle.bz_tree.specs.Tree.{Item, leaf, group, Statement, items_of, segs_of, nowhere}
+use Rattle.bz_tree.specs.Tree.{Item, leaf, group, Statement, Segs, items_of, segs_of, segments, nowhere}
 use Rattle.bz_layout.specs.declared.spacing.Edge.TheVariants.{Start}
 use Rattle.bz_layout.specs.Layout.{layout_text}
 use Rattle.bz_layout_laws.specs.Legible.{AreLegible, IsLegible, begins_block, depth_of}
 use Rattle.bz_layout_laws.specs.Lexemes.{Lexeme, lexeme, lexemes_of}
+use Rattle.bz_tree_laws.specs.Written.{written_entries}
+use Rattle.bz_layout_laws.specs.Inside.{HasShape, entries_lexemes}
 use Rattle.bz_layout_laws.specs.Spelled.{spelled_statement}
 use Rattle.bz_layout_laws.specs.Unplaced.{unplaced}
 
@@ -69,3 +71,22 @@ one_sign h = false≢true h.2.0
 -- a block's word
 block : begins_block (items_of (leaf Word (codes "if") nowhere ∷ leaf Ident (codes "x") nowhere ∷ [])) ≡ true
 block = refl
+
+-- `(x,)` and `x[1]` have the shape, and a comprehension of two segments has none
+abbrev one_segment : Segs
+one_segment = segs_of (record { before = []; nodes = leaf Ident (codes "x") nowhere ∷ []; suffix = None } ∷ [])
+
+abbrev two_segments : Segs
+two_segments = segs_of (record { before = []; nodes = leaf Ident (codes "x") nowhere ∷ []; suffix = None } ∷ record { before = []; nodes = leaf Ident (codes "y") nowhere ∷ []; suffix = None } ∷ [])
+
+tuple : HasShape Paren one_segment true
+tuple = record { one = λ e. refl; comma = λ e. (refl, refl) }
+
+index : HasShape Index one_segment false
+index = record { one = λ e. refl; comma = λ e. absurd (false≢true e) }
+
+comprehension : HasShape ListComp two_segments false → ⊥
+comprehension h = false≢true (h.one refl)
+
+entries : entries_lexemes (written_entries true (segments one_segment) (codes "# c" ∷ [])) ≡ lexeme Ident (codes "x") ∷ lexeme Sign (codes ",") ∷ lexeme Note (codes "# c") ∷ []
+entries = refl

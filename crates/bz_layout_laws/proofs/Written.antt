@@ -1,5 +1,5 @@
 -- What stands in a bracket is written in one form.
-use Rattle.std.proofs.Common.{◌≡◌, ℕ, suc, ◌==◌, ◌&&◌, ◌||◌, List, [], ◌∷◌, ◌++◌, length, map, Bool, true, false, Option, Some, None, refl, sym, ap, subst, ◌∙◌, append_assoc, append-nil, inl, inr, ◌⊎◌, arith}
+use Rattle.std.proofs.Common.{◌≡◌, ℕ, suc, ◌==◌, ◌&&◌, ◌||◌, List, [], ◌∷◌, ◌++◌, length, map, Bool, true, false, Option, Some, None, refl, sym, ap, subst, ◌∙◌, append_assoc, append-nil, inl, inr, arith}
 use Rattle.std.specs.Prelude.{codes, nat_le, is_some, if◌then◌else◌}
 use Rattle.std.proofs.lemmas.Bool.{cases_Bool, or_parts, false≢true, eqb-true}
 use Rattle.std.proofs.lemmas.Bool.Decides.{nat_tests}
@@ -7,9 +7,8 @@ use Rattle.bz_token.specs.declared.token.Kind.TheVariants.{Sign, Note}
 use Rattle.bz_tree.specs.declared.stmt.GroupKind.{GroupKind}
 use Rattle.bz_tree.specs.declared.stmt.GroupKind.TheVariants.{Call, RuleCall, Load, Paren, List as ListKind, Index, Dict, ListComp, DictComp}
 use Rattle.bz_tree.specs.Brackets.{is_paren}
-use Rattle.bz_tree.specs.Kinds.{is_one}
-use Rattle.bz_tree.specs.Owners.{Entry, a_node, a_comma, a_note, is_filled}
-use Rattle.bz_tree.specs.Tree.{Item, group, Items, no_items, item, Segs, no_segs, seg, Segment, list_of, segments}
+use Rattle.bz_tree.specs.Owners.{Entry, a_node, a_comma, is_filled}
+use Rattle.bz_tree.specs.Tree.{group, Items, no_items, item, Segs, no_segs, seg, list_of, segments}
 use Rattle.bz_tree_laws.specs.Written.{own_lines, suffix_entry, written_entries}
 use Rattle.bz_layout.specs.Broken.{count, has_some, have_comments, breaks_by_count, is_broken, segs_hold}
 use Rattle.bz_layout.specs.Layout.{opening, closing, has_commas}
@@ -145,7 +144,6 @@ pub bracket_written : (kind : GroupKind) (segs : Segs) (one_comma : Bool) (end :
     → item_lexemes (group kind segs one_comma end) ≡ lexeme Sign (opening kind) ∷ (entries_lexemes (written_entries (has_last_comma kind segs one_comma end) (segments segs) end) ++ lexeme Sign (closing kind) ∷ [])
 bracket_written kind segs one_comma end h = ap (λ l. lexeme Sign (opening kind) ∷ l) (by (is_broken kind segs end (segs_hold segs)) refl)
   where
-
     by : (b : Bool) → is_broken kind segs end (segs_hold segs) ≡ b
         → (if b then ended_lexemes (has_commas kind one_comma (count segs)) segs ++ (notes end ++ lexeme Sign (closing kind) ∷ []) else separated_lexemes true segs ++ (comma_lexemes one_comma ++ lexeme Sign (closing kind) ∷ []))
         ≡ entries_lexemes (written_entries (if b then has_commas kind one_comma (count segs) else one_comma) (segments segs) end) ++ lexeme Sign (closing kind) ∷ []

@@ -1,19 +1,18 @@
 -- What stands outside brackets is written in one form.
-use Rattle.std.proofs.Common.{◌≡◌, ℕ, List, [], ◌∷◌, ◌++◌, map, Bool, true, false, Option, Some, None, refl, sym, ap, ◌∙◌, append-nil, append_assoc}
+use Rattle.std.proofs.Common.{◌≡◌, ℕ, List, [], ◌∷◌, ◌++◌, map, Bool, true, false, Option, Some, None, refl, sym, ap, ◌∙◌, append-nil}
 use Rattle.std.specs.Prelude.{codes, if◌then◌else◌}
 use Rattle.std.specs.List.{list_any}
 use Rattle.std.proofs.lemmas.Bool.{or_parts}
-use Rattle.std.proofs.lemmas.List.{map-append}
 use Rattle.bz_token.specs.declared.token.Kind.TheVariants.{Line as LineKind, Note}
 use Rattle.bz_token.specs.Brackets.{is_line}
 use Rattle.bz_token_laws.specs.TokenLines.{is_newline_piece}
-use Rattle.bz_tree.specs.Owners.{Entry, a_node}
+use Rattle.bz_tree.specs.Owners.{a_node}
 use Rattle.bz_tree.specs.Tree.{Item, Statement, items_of, list_of}
 use Rattle.bz_tree_laws.specs.Written.{own_lines, suffix_entry, written_entries}
 use Rattle.bz_layout.specs.declared.spacing.Edge.TheVariants.{Start}
 use Rattle.bz_layout.specs.declared.spacing.Gap.TheVariants.{Closed}
 use Rattle.bz_layout.specs.declared.broken.Style.TheVariants.{Broken}
-use Rattle.bz_layout.specs.Pieces.{Piece, suffix_piece}
+use Rattle.bz_layout.specs.Pieces.{Piece}
 use Rattle.bz_layout.specs.Layout.{items_pieces, is_comment}
 use Rattle.bz_layout_laws.specs.Inside.{entries_lexemes, own_segment, without_newlines}
 use Rattle.bz_layout_laws.specs.Legible.{IsLegible}

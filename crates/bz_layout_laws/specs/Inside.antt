@@ -1,5 +1,5 @@
 -- What stands in a bracket as lexemes, and the form of groups that parsing gives.
-use Rattle.std.specs.Prelude.{◌≡◌, codes, ℕ, nat_le, List, [], ◌∷◌, ◌++◌, Bool, true, false, if◌then◌else◌}
+use Rattle.std.specs.Prelude.{◌≡◌, codes, ℕ, nat_le, List, [], ◌∷◌, ◌++◌, Bool, true, if◌then◌else◌}
 use Rattle.bz_token.specs.declared.token.Kind.TheVariants.{Sign, Note}
 use Rattle.bz_token.specs.Brackets.{is_line}
 use Rattle.bz_tree.specs.declared.stmt.GroupKind.{GroupKind}
