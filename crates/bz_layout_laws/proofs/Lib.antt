@@ -11,6 +11,7 @@ pub mod Beside
 pub mod TokensBack
 pub mod NoLines
 pub mod WholeChunk
+pub mod CommentChunk
 pub mod Written
 pub mod WrittenLine
 mod Examples

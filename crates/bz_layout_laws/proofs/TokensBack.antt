@@ -80,7 +80,7 @@ line_ends s =
     let newline : List Piece = piece Closed LineKind (codes "\n") ∷ [] in
     ends_after (items_pieces Broken 0 None Closed Start (items_of s.nodes)) (suffix_piece s.suffix ++ newline) (ends_after (suffix_piece s.suffix) newline refl)
 
-layout_ends : (s : Statement) → ends_in_line (read_pieces (layout s)) ≡ true
+pub layout_ends : (s : Statement) → ends_in_line (read_pieces (layout s)) ≡ true
 layout_ends s = by (is_comment s.class)
   where
     by : (b : Bool) → ends_in_line (read_pieces (comment_lines s.before ++ (if b then [] else statement_line s))) ≡ true

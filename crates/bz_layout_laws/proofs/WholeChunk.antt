@@ -51,7 +51,7 @@ text_lines s h =
     gap_at_end e = refl
 
 -- comment lines are lines of their own
-comments_are : (texts : List (List ℕ)) → are_comments (lines_of (read_pieces (comment_lines texts)) []) ≡ true
+pub comments_are : (texts : List (List ℕ)) → are_comments (lines_of (read_pieces (comment_lines texts)) []) ≡ true
 comments_are [] = refl
 comments_are (text ∷ texts) = comments_are texts
 

@@ -1,0 +1,61 @@
+-- Comment lines and the empty line after them are a chunk.
+use Rattle.std.proofs.Common.{◌≡◌, List, [], ◌∷◌, ◌++◌, true, refl, sym, ap, subst, ◌∙◌, append-nil, arith}
+use Rattle.std.specs.Prelude.{codes, if◌then◌else◌}
+use Rattle.bz_token.specs.declared.token.Kind.TheVariants.{Line as LineKind}
+use Rattle.bz_token.specs.Cuts.{IsChunk}
+use Rattle.bz_token.specs.FreshStart.{ends_in_line, AreLinesOf}
+use Rattle.bz_token.specs.LogicalLines.{lines}
+use Rattle.bz_token.specs.Reading.{Piece as ReadPiece, open_after, bytes_of as bytes_read, tokens_of}
+use Rattle.bz_token_laws.specs.ChunkForms.{are_comments}
+use Rattle.bz_token_laws.specs.Readable.{are_texts, are_ended, are_fitting}
+use Rattle.bz_token_laws.specs.TokenLines.{line_of, lines_of}
+use Rattle.bz_token_laws.proofs.ChunkForms.{statement_chunk}
+use Rattle.bz_token_laws.proofs.Readable.{bytes_join, texts_join, ended_join, fitting_join, open_join, laid_lines, laid_reading}
+use Rattle.bz_token_laws.proofs.TokenLines.{lines_are_lines, lines_of_join}
+use Rattle.bz_tree.specs.Tree.{Statement}
+use Rattle.bz_layout.specs.Pieces.{comment_lines}
+use Rattle.bz_layout.specs.Layout.{statement_line, is_comment, layout, layout_text}
+use Rattle.bz_layout_laws.specs.Legible.{IsLegible, depth_of}
+use Rattle.bz_layout_laws.specs.ReadPieces.{read_pieces}
+use Rattle.bz_layout_laws.proofs.Texts.{both}
+use Rattle.bz_layout_laws.proofs.Ended.{read_bytes}
+use Rattle.bz_layout_laws.proofs.TokensBack.{layout_read, layout_ends}
+use Rattle.bz_layout_laws.proofs.WholeChunk.{comments_are}
+
+abbrev newline : ReadPiece
+newline = record { gap = []; kind = LineKind; text = codes "\n" }
+
+last_line : (ps : List ReadPiece) → ends_in_line (ps ++ newline ∷ []) ≡ true
+last_line [] = refl
+last_line (p ∷ []) = refl
+last_line (p ∷ q ∷ ps) = last_line (q ∷ ps)
+
+abbrev with_newline : Statement → List ReadPiece
+with_newline s = read_pieces (layout s) ++ newline ∷ []
+
+tests : (s : Statement) → IsLegible s
+    → (are_texts (with_newline s) ≡ true) × (are_ended (with_newline s) [] ≡ true) × (are_fitting (depth_of s) [] (with_newline s) ≡ true) × (open_after [] (with_newline s) ≡ [])
+tests s h =
+    let ps = read_pieces (layout s) in
+    let d = depth_of s in
+    let t = layout_read d s (10 ∷ []) h (omega arith) in (
+      texts_join ps (newline ∷ []) ∙ both (are_texts ps) true t.0 refl,
+      ended_join ps (newline ∷ []) [] ∙ both (are_ended ps (10 ∷ [])) true t.1 refl,
+      fitting_join d [] ps (newline ∷ []) ∙ both (are_fitting d [] ps) (are_fitting d (open_after [] ps) (newline ∷ [])) t.2 (ap (λ o. are_fitting d o (newline ∷ [])) t.3),
+      open_join [] ps (newline ∷ []) ∙ ap (λ o. open_after o (newline ∷ [])) t.3,
+    )
+
+pub comments_and_blank : (s : Statement) → IsLegible s → is_comment s.class ≡ true → IsChunk (layout_text s ++ codes "\n")
+comments_and_blank s h class =
+    let ps = read_pieces (layout s) in
+    let all = with_newline s in
+    let d = depth_of s in
+    let t = tests s h in
+    let are : AreLinesOf 1 d (bytes_read all) (tokens_of 1 [] [] all) = laid_lines 1 d all t.0 t.1 t.2 t.3 (last_line ps) in
+    let notes = lines_of ps [] in
+    let cut : lines (bytes_read all) ≡ notes ++ line_of (newline ∷ []) [] ∷ [] = ap lines (sym (append-nil (bytes_read all))) ∙ lines_are_lines d all [] (bytes_read all ++ []) (laid_reading d [] all [] t.0 t.1 t.2) refl ∙ lines_of_join ps (newline ∷ []) [] (layout_ends s) in
+    let parts : ps ≡ read_pieces (comment_lines s.before) =
+    ap (λ b. read_pieces (comment_lines s.before ++ (if b then [] else statement_line s))) class ∙ ap read_pieces (append-nil (comment_lines s.before)) in
+    let comments : are_comments notes ≡ true = ap (λ qs. are_comments (lines_of qs [])) parts ∙ comments_are s.before in
+    let bytes : bytes_read all ≡ layout_text s ++ codes "\n" = bytes_join ps (newline ∷ []) ∙ ap (λ x. x ++ codes "\n") (read_bytes (layout s)) in
+    subst IsChunk bytes (statement_chunk 1 d (bytes_read all) (tokens_of 1 [] [] all) notes (line_of (newline ∷ []) []) are cut comments refl)
