@@ -58,7 +58,9 @@ text_or_not : (bs : List ℕ) → IsUtf8 bs ⊎ ((n : ℕ) × IsValidUpTo bs n)
 text_or_not bs =
     let l = longest bs (length bs) in
     elim (cases_lt l.n (length bs)) [
-      | inl short ↦ inr (l.n, record {
+      | inl short ↦ inr (
+        l.n,
+        record {
           short = short;
           front = l.front;
           longest = λ m above u. elim (cases_lt (length bs) m) [
@@ -67,7 +69,8 @@ text_or_not bs =
                 l.none (length bs) short (omega arith) (subst IsUtf8 same u)
             | inr within ↦ l.none m above within u
           ];
-        })
+        },
+      )
       | inr whole ↦ inl (subst IsUtf8 (take_all l.n bs whole) l.front)
     ]
 
@@ -167,17 +170,20 @@ some_outcome home passes keep_going depth file = at_keep keep_going refl (some_f
     cut : keep_going ≡ false → some_failure home passes ss ≡ true → (text : List ℕ) × (told : Told) × IsOutcome home passes keep_going depth file text told
     cut ends fails =
         let first = first_found (some_alone (meaning home) (fails_on home) passes) ss (sym (some_alone_lem (meaning home) (fails_on home) passes (slots_of ss)) ∙ fails) in
-        let at = ends_at depth 1 (chunks file) first.before first.more first.statement fault (subst (λ l. Give depth 1 (chunks file) l fault) first.are read) in
-        (text_after home passes first.before, told_of_failure home passes first.before first.statement, inr (record {
-          ends = ends;
-          before = first.before;
-          statement = first.statement;
-          read = record { front = at.front; after = at.after; chunks_are = at.are; read = at.read };
-          calm = some_alone_lem (meaning home) (fails_on home) passes (slots_of first.before) ∙ first.none;
-          fails = first.passes;
-          text_is = refl;
-          told_is = refl;
-        }))
+        let at = ends_at depth 1 (chunks file) first.before first.more first.statement fault (subst (λ l. Give depth 1 (chunks file) l fault) first.are read) in (
+          text_after home passes first.before,
+          told_of_failure home passes first.before first.statement,
+          inr (record {
+            ends = ends;
+            before = first.before;
+            statement = first.statement;
+            read = record { front = at.front; after = at.after; chunks_are = at.are; read = at.read };
+            calm = some_alone_lem (meaning home) (fails_on home) passes (slots_of first.before) ∙ first.none;
+            fails = first.passes;
+            text_is = refl;
+            told_is = refl;
+          }),
+        )
 
     at_keep : (k : Bool) → keep_going ≡ k → (f : Bool) → some_failure home passes ss ≡ f → (text : List ℕ) × (told : Told) × IsOutcome home passes keep_going depth file text told
     at_keep true goes f is = whole (λ ends. absurd (false≢true (sym ends ∙ goes)))
