@@ -84,7 +84,7 @@ mutual
   flat_segs_bare style level kind first no_segs = refl
   flat_segs_bare style level kind first (seg before nodes suffix ss) = rw (items_bare style level (Some kind) _ Start nodes, items_bare style level (Some kind) _ Start nodes, flat_segs_bare style level kind false ss) refl
 
-list_bare : (xs : List Item) → items_of (map bare xs) ≡ bare_items (items_of xs)
+pub list_bare : (xs : List Item) → items_of (map bare xs) ≡ bare_items (items_of xs)
 list_bare [] = refl
 list_bare (x ∷ xs) = ap (item (bare x)) (list_bare xs)
 

@@ -14,4 +14,10 @@ pub mod WholeChunk
 pub mod CommentChunk
 pub mod Written
 pub mod WrittenLine
+pub mod Taken
+pub mod ReadSteps
+pub mod Fors
+pub mod SameInside
+pub mod ReadGroup
+pub mod ReadTree
 mod Examples

@@ -61,7 +61,7 @@ ended_true (seg before nodes suffix ss) end =
     spread : (before : List (List ℕ)) (nodes : Items) (suffix : Option (List ℕ)) (x y : List Lexeme) → (notes before ++ (items_lexemes nodes ++ (comma_lexemes true ++ (suffix_lexemes suffix ++ x)))) ++ y ≡ notes before ++ (items_lexemes nodes ++ (comma_lexemes true ++ (suffix_lexemes suffix ++ (x ++ y))))
     spread before nodes suffix x y = simp append_assoc
 
-too_many : (n : ℕ) → nat_le (suc (suc n)) 1 ≡ true → ⊥
+pub too_many : (n : ℕ) → nat_le (suc (suc n)) 1 ≡ true → ⊥
 too_many n h = grind (arith, nat_tests)
 
 none_is_not_one : count no_segs ≡ 1 → ⊥

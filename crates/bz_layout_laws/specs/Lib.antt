@@ -4,3 +4,4 @@ pub mod ReadPieces
 pub mod Legible
 pub mod Spelled
 pub mod Inside
+pub mod Parsed

@@ -1,0 +1,229 @@
+-- Tokens of entries are read as the entries, one more at a time.
+use Rattle.std.proofs.Common.{◌≡◌, ℕ, ◌+◌, ◌==◌, List, [], ◌∷◌, ◌++◌, map, Bool, true, false, Option, Some, None, refl, sym, ap, subst, ◌∙◌, append_assoc, arith, rules}
+use Rattle.std.specs.Prelude.{codes, count_by, if◌then◌else◌}
+use Rattle.std.specs.Str.{bytes_eq}
+use Rattle.std.proofs.lemmas.Bool.{false≢true}
+use Rattle.std.proofs.lemmas.Bool.Decides.{nat_tests}
+use Rattle.std.proofs.lemmas.Slice.Eq.{bytes_eq-Decides}
+use Rattle.bz_token.specs.declared.token.Kind.{Kind}
+use Rattle.bz_token.specs.declared.token.Kind.TheVariants.{Ident, Word, Int, Text, Sign, Line as LineKind, Note, Kept}
+use Rattle.bz_token.specs.Places.{Placed}
+use Rattle.bz_tree.specs.declared.kinds.Shape.TheVariants.{Round, Square, Curly}
+use Rattle.bz_tree.specs.declared.kinds.Mark.{Mark}
+use Rattle.bz_tree.specs.declared.kinds.Mark.TheVariants.{Open, Close, Comma, Comment, NewLine, Plain}
+use Rattle.bz_tree.specs.declared.kinds.Preceding.{Preceding}
+use Rattle.bz_tree.specs.declared.kinds.Preceding.TheVariants.{Other}
+use Rattle.bz_tree.specs.Brackets.{Elem, single, Elems, no_elems, elem, elem_tokens, elems_tokens, leaf_of, own_item, own_items, own_of, preceding, elem_own, elems_own, is_single, IsWell, AreWell, end_line}
+use Rattle.bz_tree.specs.Kinds.{kind_mark, sign_mark, mark_of, kind_after}
+use Rattle.bz_tree.specs.Owners.{node, comma, note, Last, no_token, end_of_node, end_of_comma, Entry, a_node, a_comma, a_note, entries_of}
+use Rattle.bz_tree.specs.Statement.{is_aside}
+use Rattle.bz_tree.specs.Tree.{Place, Item, leaf, bare}
+use Rattle.bz_tree_laws.specs.Nodes.{entry_mapped}
+use Rattle.bz_layout.specs.Respell.{respell}
+use Rattle.bz_layout_laws.specs.Legible.{is_leaf_mark}
+use Rattle.bz_layout_laws.specs.Lexemes.{Lexeme, lexeme, end_after, lexemes_from}
+use Rattle.bz_layout_laws.specs.Parsed.{is_comma_mark}
+use Rattle.bz_layout_laws.specs.Spelled.{spelled}
+use Rattle.bz_layout_laws.proofs.Taken.{placed_at, take_first, Agree, agree_none}
+
+-- a node as it is spelled, without places
+abbrev pub bare_spelled : Item → Item
+bare_spelled x = bare (spelled x)
+
+abbrev pub bare_entries : List Entry → List Entry
+bare_entries es = map (entry_mapped bare) es
+
+-- Tokens, first of them those of brackets and leaves that are read as these entries, and then those of `tail`. They stand
+-- after `b` and after what ends there.
+pub record Read (one : Bool) (b : Preceding) (at : Last) (ts : List Placed) (es : List Entry) (tail : List Lexeme) : Type 0 where
+  pub elems : Elems
+  pub after : List Placed
+  pub last : Option ℕ
+  pub tokens : ts ≡ elems_tokens elems ++ after
+  pub rest : lexemes_from last after ≡ tail
+  pub well : AreWell b elems
+  pub entries : bare_entries (entries_of at (own_items one (elems_own b elems))) ≡ map (entry_mapped bare_spelled) es
+
+-- whatever tokens have these lexemes
+pub record Reads (one : Bool) (b : Preceding) (ls : List Lexeme) (es : List Entry) (tail : List Lexeme) : Type 0 where
+  pub each : (at : Last) (last : Option ℕ) (ts : List Placed) → Agree at last → lexemes_from last ts ≡ ls ++ tail → Read one b at ts es tail
+
+pub read_nothing : (one : Bool) (b : Preceding) (tail : List Lexeme) → Reads one b [] [] tail
+read_nothing one b tail = record { each = λ at last ts agree h. record { elems = no_elems; after = ts; last = last; tokens = refl; rest = h; well = tt; entries = refl } }
+
+pub own_node : (one : Bool) (line : ℕ) (x : Item) → own_item one (node line x) ≡ node line x
+own_node true line x = refl
+own_node false line x = refl
+
+own_note : (one : Bool) (line : ℕ) (text : List ℕ) → own_item one (note line text) ≡ note line text
+own_note true line text = refl
+own_note false line text = refl
+
+same_line : (end other line : ℕ) → end ≡ other → (end == line) ≡ (line == other)
+same_line end other line e = ap (λ n. n == line) e ∙ turned other line
+  where
+    turned : (m n : ℕ) → (m == n) ≡ (n == m)
+    turned m n = grind (arith, nat_tests)
+
+pub agree_node : (line end : ℕ) → line ≡ end → Agree (end_of_node line) (Some end)
+agree_node line end e = record { same = λ other. same_line line end other e }
+
+agree_comma : (line end : ℕ) → line ≡ end → Agree (end_of_comma line) (Some end)
+agree_comma line end e = record { same = λ other. same_line line end other e }
+
+-- a comment
+pub read_note : (one : Bool) (b : Preceding) (beside : Bool) (text : List ℕ) (ls : List Lexeme) (es : List Entry) (tail : List Lexeme) → Reads one b ls es tail → Reads one b (record { kind = Note; text = text; beside = beside } ∷ ls) (a_note beside text ∷ es) tail
+read_note one b beside text ls es tail next = record {
+  each = λ at last ts agree h.
+      let l : Lexeme = record { kind = Note; text = text; beside = beside } in
+      let f = take_first last ts l (ls ++ tail) h in
+      let t = placed_at l f.line f.col f.fresh in
+      let r = next.each no_token None f.others agree_none f.rest in
+      record {
+        elems = elem (single t) r.elems;
+        after = r.after;
+        last = r.last;
+        tokens = f.are ∙ ap (λ us. t ∷ us) r.tokens;
+        rest = r.rest;
+        well = (refl, r.well);
+        entries =
+            ap (λ o. bare_entries (entries_of at (o ∷ own_items one (elems_own b r.elems)))) (own_note one f.line text)
+            ∙ (λ i. a_note ((agree.same f.line ∙ f.beside) i) text ∷ r.entries i);
+      };
+}
+
+-- a comma between segments
+pub read_comma : (b : Preceding) (ls : List Lexeme) (es : List Entry) (tail : List Lexeme) → Reads false Other ls es tail → Reads false b (lexeme Sign (codes ",") ∷ ls) (a_comma ∷ es) tail
+read_comma b ls es tail next = record {
+  each = λ at last ts agree h.
+      let l : Lexeme = lexeme Sign (codes ",") in
+      let f = take_first last ts l (ls ++ tail) h in
+      let t = placed_at l f.line f.col f.fresh in
+      let r = next.each (end_of_comma f.line) (Some (end_line t)) f.others (agree_comma f.line (end_line t) (omega (arith))) f.rest in
+      record {
+        elems = elem (single t) r.elems;
+        after = r.after;
+        last = r.last;
+        tokens = f.are ∙ ap (λ us. t ∷ us) r.tokens;
+        rest = r.rest;
+        well = (refl, r.well);
+        entries = ap (λ es. a_comma ∷ es) r.entries;
+      };
+}
+
+-- one more node
+pub add_node : (one : Bool) (b : Preceding) (at : Last) (x : Elem) (line : ℕ) (y z : Item) (es : List Entry) (tail : List Lexeme) (ts others : List Placed) → IsWell b x → own_item one (elem_own b x) ≡ node line y → bare y ≡ bare_spelled z → ts ≡ elem_tokens x ++ others
+    → Read one (preceding b (elem_own b x)) (end_of_node line) others es tail → Read one b at ts (a_node z ∷ es) tail
+add_node one b at x line y z es tail ts others well own same are r = record {
+  elems = elem x r.elems;
+  after = r.after;
+  last = r.last;
+  tokens = are ∙ ap (λ us. elem_tokens x ++ us) r.tokens ∙ sym (append_assoc (elem_tokens x) (elems_tokens r.elems) r.after);
+  rest = r.rest;
+  well = (well, r.well);
+  entries =
+      ap (λ o. bare_entries (entries_of at (o ∷ own_items one (elems_own (preceding b (elem_own b x)) r.elems)))) own
+      ∙ (λ i. a_node (same i) ∷ r.entries i);
+}
+
+-- a leaf, be it a comma or not
+record LeafOwn (one : Bool) (b : Preceding) (t : Placed) : Type 0 where
+  line : ℕ
+  own : own_item one (own_of (mark_of t) t) ≡ node line (leaf_of t)
+  before : preceding b (own_of (mark_of t) t) ≡ kind_after t.kind t.text
+  one_token : is_single (mark_of t) ≡ true
+  agree : Agree (end_of_node line) (end_after t)
+
+no_aside : (kind : Kind) (text : List ℕ) → is_leaf_mark (kind_mark kind text) ≡ true → is_aside kind ≡ false
+no_aside Sign text h = refl
+no_aside Ident text h = refl
+no_aside Word text h = refl
+no_aside Int text h = refl
+no_aside Text text h = refl
+no_aside Kept text h = refl
+no_aside LineKind text h = absurd (false≢true h)
+no_aside Note text h = absurd (false≢true h)
+
+skip : (b : Bool) (m r : Mark) → is_comma_mark m ≡ false → is_comma_mark (if b then m else r) ≡ true → is_comma_mark r ≡ true
+skip true m r none h = absurd (false≢true (sym none ∙ h))
+skip false m r none h = h
+
+last_test : (b : Bool) → is_comma_mark (if b then Comma else Plain) ≡ true → b ≡ true
+last_test true h = refl
+last_test false h = h
+
+comma_sign : (text : List ℕ) → is_comma_mark (sign_mark text) ≡ true → text ≡ codes ","
+comma_sign text h =
+    let is : bytes_eq text (codes ",") ≡ true =
+    last_test (bytes_eq text (codes ",")) (skip (bytes_eq text (codes "}")) (Close Curly) _ refl (skip (bytes_eq text (codes "]")) (Close Square) _ refl (skip (bytes_eq text (codes ")")) (Close Round) _ refl
+    (skip (bytes_eq text (codes "{")) (Open Curly) _ refl (skip (bytes_eq text (codes "[")) (Open Square) _ refl (skip (bytes_eq text (codes "(")) (Open Round) _ refl h)))))) in
+    search (rules, bytes_eq-Decides)
+
+comma_leaf : (kind : Kind) (text : List ℕ) → is_comma_mark (kind_mark kind text) ≡ true → (kind_after kind text ≡ Other) × (text ≡ codes ",")
+comma_leaf Sign text h = (refl, comma_sign text h)
+comma_leaf Ident text h = absurd (false≢true h)
+comma_leaf Word text h = absurd (false≢true h)
+comma_leaf Int text h = absurd (false≢true h)
+comma_leaf Text text h = absurd (false≢true h)
+comma_leaf Kept text h = absurd (false≢true h)
+comma_leaf LineKind text h = absurd (false≢true h)
+comma_leaf Note text h = absurd (false≢true h)
+
+ends_there : (t : Placed) (line : ℕ) → is_aside t.kind ≡ false → line ≡ end_line t → Agree (end_of_node line) (end_after t)
+ends_there t line none e = subst (λ b. Agree (end_of_node line) (if b then None else Some (end_line t))) (sym none) (agree_node line (end_line t) e)
+
+leaf_own : (one : Bool) (b : Preceding) (t : Placed) (m : Mark) → mark_of t ≡ m → is_leaf_mark m ≡ true → (is_comma_mark m ≡ true → one ≡ true) → LeafOwn one b t
+leaf_own one b t Plain e token single_is = record {
+  line = end_line t;
+  own = ap (λ m. own_item one (own_of m t)) e ∙ own_node one (end_line t) (leaf_of t);
+  before = ap (λ m. preceding b (own_of m t)) e;
+  one_token = ap is_single e;
+  agree = ends_there t (end_line t) (no_aside t.kind t.text (ap is_leaf_mark e)) refl;
+}
+leaf_own one b t Comma e token single_is =
+    let is = comma_leaf t.kind t.text (ap is_comma_mark e) in
+    let end : t.line ≡ t.line + count_by (λ b. b == 10) (codes ",") = omega (arith) in
+    record {
+      line = t.line;
+      own = ap (λ m. own_item one (own_of m t)) e ∙ ap (λ o. own_item o (comma t)) (single_is refl);
+      before = ap (λ m. preceding b (own_of m t)) e ∙ sym is.0;
+      one_token = ap is_single e;
+      agree = ends_there t t.line (no_aside t.kind t.text (ap is_leaf_mark e)) (end ∙ ap (λ text. t.line + count_by (λ b. b == 10) text) (sym is.1));
+    }
+leaf_own one b t (Open shape) e token single_is = absurd (false≢true token)
+leaf_own one b t (Close shape) e token single_is = absurd (false≢true token)
+leaf_own one b t Comment e token single_is = absurd (false≢true token)
+leaf_own one b t NewLine e token single_is = absurd (false≢true token)
+
+pub same_mark : (kind : Kind) (text : List ℕ) → kind_mark kind (respell kind text) ≡ kind_mark kind text
+same_mark Sign text = refl
+same_mark Ident text = refl
+same_mark Word text = refl
+same_mark Int text = refl
+same_mark Text text = refl
+same_mark Kept text = refl
+same_mark LineKind text = refl
+same_mark Note text = refl
+
+pub same_after : (kind : Kind) (text : List ℕ) → kind_after kind (respell kind text) ≡ kind_after kind text
+same_after Sign text = refl
+same_after Ident text = refl
+same_after Word text = refl
+same_after Int text = refl
+same_after Text text = refl
+same_after Kept text = refl
+same_after LineKind text = refl
+same_after Note text = refl
+
+pub read_leaf : (one : Bool) (b : Preceding) (kind : Kind) (text : List ℕ) (place : Place) (ls : List Lexeme) (es : List Entry) (tail : List Lexeme) → is_leaf_mark (kind_mark kind text) ≡ true → (is_comma_mark (kind_mark kind text) ≡ true → one ≡ true)
+    → Reads one (kind_after kind text) ls es tail → Reads one b (lexeme kind (respell kind text) ∷ ls) (a_node (leaf kind text place) ∷ es) tail
+read_leaf one b kind text place ls es tail mark single_is next = record {
+  each = λ at last ts agree h.
+      let l : Lexeme = lexeme kind (respell kind text) in
+      let f = take_first last ts l (ls ++ tail) h in
+      let t = placed_at l f.line f.col f.fresh in
+      let o = leaf_own one b t (kind_mark kind text) (same_mark kind text) mark single_is in
+      let go = subst (λ p. Reads one p ls es tail) (sym (o.before ∙ same_after kind text)) next in
+      let r = go.each (end_of_node o.line) (end_after t) f.others o.agree f.rest in
+      add_node one b at (single t) o.line (leaf_of t) (leaf kind text place) es tail ts f.others o.one_token o.own refl f.are r;
+}
