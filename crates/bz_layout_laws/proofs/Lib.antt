@@ -20,4 +20,6 @@ pub mod Fors
 pub mod SameInside
 pub mod ReadGroup
 pub mod ReadTree
+pub mod Unlined
+pub mod SameTests
 mod Examples

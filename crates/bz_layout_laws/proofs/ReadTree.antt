@@ -33,7 +33,7 @@ pub read_notes : (one : Bool) (b : Preceding) (texts : List (List ℕ)) (ls : Li
 read_notes one b [] ls es tail next = next
 read_notes one b (text ∷ texts) ls es tail next = read_note one b false text (notes texts ++ ls) (own_lines texts ++ es) tail (read_notes one b texts ls es tail next)
 
-read_end : (one : Bool) (b : Preceding) (end : List (List ℕ)) (tail : List Lexeme) → Reads one b (entries_lexemes (own_lines end)) (own_lines end) tail
+pub read_end : (one : Bool) (b : Preceding) (end : List (List ℕ)) (tail : List Lexeme) → Reads one b (entries_lexemes (own_lines end)) (own_lines end) tail
 read_end one b [] tail = read_nothing one b tail
 read_end one b (text ∷ texts) tail = read_note one b false text (entries_lexemes (own_lines texts)) (own_lines texts) tail (read_end one b texts tail)
 
@@ -70,7 +70,7 @@ end_begins : (end : List (List ℕ)) (ls : List Lexeme) → begins_beside ls ≡
 end_begins [] ls h = h
 end_begins (text ∷ texts) ls h = refl
 
-segs_begin : (kind : GroupKind) (trailing : Bool) (ss : Segs) (end : List (List ℕ)) (ls : List Lexeme) → AreLegibleSegs kind ss → begins_beside ls ≡ false → begins_beside (entries_lexemes (written_entries trailing (segments ss) end) ++ ls) ≡ false
+pub segs_begin : (kind : GroupKind) (trailing : Bool) (ss : Segs) (end : List (List ℕ)) (ls : List Lexeme) → AreLegibleSegs kind ss → begins_beside ls ≡ false → begins_beside (entries_lexemes (written_entries trailing (segments ss) end) ++ ls) ≡ false
 segs_begin kind trailing no_segs end ls h none = end_begins end ls none
 segs_begin kind trailing (seg before nodes suffix ss) end ls h none =
     let c = trailing || is_filled (segments ss) in
@@ -99,7 +99,7 @@ no_one_comma : (kind : GroupKind) (segs : Segs) (one_comma : Bool) → HasShape 
 no_one_comma kind segs false h one = refl
 no_one_comma kind segs true h one = sym one ∙ ap is_one (h.comma refl).0
 
-few_segs : (kind : GroupKind) (segs : Segs) (one_comma : Bool) (end : List (List ℕ)) → HasShape kind segs one_comma → Few (is_one kind) (has_last_comma kind segs one_comma end) segs
+pub few_segs : (kind : GroupKind) (segs : Segs) (one_comma : Bool) (end : List (List ℕ)) → HasShape kind segs one_comma → Few (is_one kind) (has_last_comma kind segs one_comma end) segs
 few_segs kind segs one_comma end h = record { none = λ one. (by one (is_broken kind segs end (segs_hold segs)), h.one one) }
   where
     by : is_one kind ≡ true → (b : Bool) → (if b then has_commas kind one_comma (count segs) else one_comma) ≡ false
@@ -120,7 +120,7 @@ is_many true false before nodes suffix no_segs few h = absurd (false≢true h)
 is_many true false before nodes suffix (seg b n s ss) few h = absurd (too_many (count ss) (few.none refl).1)
 
 mutual
-  item_reads : (one : Bool) (b : Preceding) (x : Item) (ls : List Lexeme) (es : List Entry) (tail : List Lexeme) → IsLegibleItem x → (is_comma x ≡ true → one ≡ true) → HasKind b x → Reads one (after_item x) ls es tail
+  pub item_reads : (one : Bool) (b : Preceding) (x : Item) (ls : List Lexeme) (es : List Entry) (tail : List Lexeme) → IsLegibleItem x → (is_comma x ≡ true → one ≡ true) → HasKind b x → Reads one (after_item x) ls es tail
       → Reads one b (item_lexemes x ++ ls) (a_node x ∷ es) tail
   item_reads one b (leaf kind text place) ls es tail legible commas kinds next = read_leaf one b kind text place ls es tail legible.1 commas next
   item_reads one b (group kind segs one_comma end) ls es tail legible commas kinds next =
@@ -138,7 +138,7 @@ mutual
       (item_reads one b x (items_lexemes xs ++ ls) (map a_node (list_of xs) ++ es) tail legible.1 kinds.0 kinds.1
       (items_reads one (after_item x) within (edge_after within left x) xs ls es tail legible.2 kinds.2 next))
 
-  segs_reads : (one : Bool) (kind : GroupKind) (trailing : Bool) (ss : Segs) (end : List (List ℕ)) (tail : List Lexeme) → AreLegibleSegs kind ss → SegsHaveKinds one ss → Few one trailing ss
+  pub segs_reads : (one : Bool) (kind : GroupKind) (trailing : Bool) (ss : Segs) (end : List (List ℕ)) (tail : List Lexeme) → AreLegibleSegs kind ss → SegsHaveKinds one ss → Few one trailing ss
       → Reads one Other (entries_lexemes (written_entries trailing (segments ss) end)) (written_entries trailing (segments ss) end) tail
   segs_reads one kind trailing no_segs end tail legible kinds few = read_end one Other end tail
   segs_reads one kind trailing (seg before nodes suffix ss) end tail legible kinds few =

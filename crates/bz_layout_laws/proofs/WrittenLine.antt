@@ -60,11 +60,16 @@ line_stays : (s : Statement) → IsLegible s → without_newlines (line_lexemes 
 line_stays s h =
     without_join (items_lexemes (items_of s.nodes)) (suffix_lexemes s.suffix ++ lexeme LineKind (codes "\n") ∷ []) ∙ rw (nodes_stay s h, aside s.suffix) refl
 
-pub statement_written : (s : Statement) → IsLegible s → is_comment s.class ≡ false → without_newlines (lexemes_of s) ≡ entries_lexemes (written_entries false (own_segment s ∷ []) [])
-statement_written s h class =
+-- comments, nodes and the comment beside them, without newlines
+pub statement_line_is : (s : Statement) → IsLegible s → is_comment s.class ≡ false → without_newlines (lexemes_of s) ≡ notes s.before ++ (items_lexemes (items_of s.nodes) ++ (suffix_lexemes s.suffix ++ []))
+statement_line_is s h class =
     ap (λ b. without_newlines (note_lines s.before ++ (if b then [] else line_lexemes s))) class
     ∙ without_join (note_lines s.before) (line_lexemes s)
     ∙ rw (above s.before, line_stays s h) (ap (λ l. notes s.before ++ (items_lexemes (items_of s.nodes) ++ l)) (sym (append-nil (suffix_lexemes s.suffix))))
+
+pub statement_written : (s : Statement) → IsLegible s → is_comment s.class ≡ false → without_newlines (lexemes_of s) ≡ entries_lexemes (written_entries false (own_segment s ∷ []) [])
+statement_written s h class =
+    statement_line_is s h class
     ∙ sym (segment_is s.before (items_of s.nodes) false s.suffix [])
     ∙ ap (λ xs. entries_lexemes (own_lines s.before ++ (map a_node xs ++ (suffix_entry s.suffix ++ [])))) (same_nodes s.nodes)
 
