@@ -22,4 +22,5 @@ pub mod ReadGroup
 pub mod ReadTree
 pub mod Unlined
 pub mod SameTests
+pub mod ReadStatement
 mod Examples

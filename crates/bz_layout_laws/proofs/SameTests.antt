@@ -4,9 +4,8 @@ use Rattle.std.specs.Prelude.{if◌then◌else◌}
 use Rattle.bz_token.specs.declared.token.Kind.{Kind}
 use Rattle.bz_token.specs.declared.token.Kind.TheVariants.{Ident, Word, Int, Text, Sign, Line as LineKind, Note, Kept}
 use Rattle.bz_tree.specs.declared.stmt.Class.TheVariants.{Load, Assign, Rule, Other, Block}
-use Rattle.bz_tree.specs.Statement.{is_ident, is_dot, is_call, is_nothing, is_rule, is_rule_after, as_rule_call, rule_call, with_rule_call, is_assign, has_assign, is_load_word, is_kept, class_of}
-use Rattle.bz_tree.specs.Tree.{Item, leaf, group, Segment, bare}
-use Rattle.bz_tree_laws.specs.Nodes.{segment_mapped}
+use Rattle.bz_tree.specs.Statement.{is_ident, is_dot, is_call, is_nothing, is_rule, is_rule_after, as_rule_call, rule_call, is_assign, has_assign, is_load_word, is_kept, class_of}
+use Rattle.bz_tree.specs.Tree.{Item, leaf, group, bare}
 use Rattle.bz_layout.specs.Respell.{respell}
 use Rattle.bz_layout_laws.proofs.ReadSteps.{bare_spelled}
 

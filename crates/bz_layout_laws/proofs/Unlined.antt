@@ -1,5 +1,5 @@
 -- Tokens without newlines have the lexemes without newlines.
-use Rattle.std.proofs.Common.{◌≡◌, ℕ, ◌&&◌, ◌||◌, not, List, [], ◌∷◌, ◌++◌, Bool, true, false, Option, Some, None, refl, sym, ap, subst, ◌∙◌, inl, inr}
+use Rattle.std.proofs.Common.{◌≡◌, ℕ, ◌&&◌, ◌||◌, not, List, [], ◌∷◌, ◌++◌, Bool, true, false, Option, Some, None, refl, sym, ap, ◌∙◌, inl, inr}
 use Rattle.std.specs.Prelude.{codes, if◌then◌else◌}
 use Rattle.std.specs.List.{list_any}
 use Rattle.std.specs.Str.{bytes_eq}
@@ -13,7 +13,7 @@ use Rattle.bz_token_laws.specs.TokenLines.{is_newline_piece}
 use Rattle.bz_tree.specs.Brackets.{is_line as is_line_mark, without_lines, end_line}
 use Rattle.bz_tree.specs.declared.kinds.Shape.TheVariants.{Round, Square, Curly}
 use Rattle.bz_tree.specs.declared.kinds.Mark.TheVariants.{Open, Close, Comma, Plain}
-use Rattle.bz_tree.specs.Kinds.{kind_mark, sign_mark}
+use Rattle.bz_tree.specs.Kinds.{kind_mark}
 use Rattle.bz_tree.specs.Owners.{is_filled}
 use Rattle.bz_tree.specs.Statement.{is_aside}
 use Rattle.bz_tree.specs.Tree.{Statement, items_of}
@@ -28,7 +28,6 @@ use Rattle.bz_layout_laws.specs.Lexemes.{Lexeme, lexeme, end_after, is_on, lexem
 use Rattle.bz_layout_laws.specs.ReadPieces.{piece_lexemes, read_pieces}
 use Rattle.bz_layout_laws.proofs.NoLines.{items_no_line}
 use Rattle.bz_layout_laws.proofs.Pieces.{items_pieces_are}
-use Rattle.bz_layout_laws.proofs.Texts.{both}
 use Rattle.bz_layout_laws.proofs.Taken.{no_tokens}
 
 -- each newline stands directly after a comment or a newline, or nothing stands after it

@@ -6,3 +6,4 @@ pub mod chunks;
 pub mod places;
 pub mod spelling;
 pub mod tokens;
+pub mod trees;

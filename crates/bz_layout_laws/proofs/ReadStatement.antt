@@ -1,0 +1,175 @@
+-- The tokens of a statement's text are read as the statement.
+use Rattle.std.proofs.Common.{◌≡◌, ℕ, ◌≤◌, List, [], ◌∷◌, ◌++◌, map, Bool, true, false, Option, None, refl, sym, ap, subst, ◌∙◌, append-nil, append_assoc}
+use Rattle.std.specs.Prelude.{if◌then◌else◌}
+use Rattle.std.proofs.lemmas.Bool.{false≢true}
+use Rattle.bz_token.specs.Places.{Placed}
+use Rattle.bz_token.specs.Reading.{AreTokensOf}
+use Rattle.bz_token.specs.declared.token.Kind.TheVariants.{Sign}
+use Rattle.bz_tree.specs.declared.stmt.GroupKind.{GroupKind}
+use Rattle.bz_tree.specs.declared.stmt.GroupKind.TheVariants.{Call, RuleCall, Load, Paren, List as ListKind, Index, Dict, ListComp, DictComp}
+use Rattle.bz_tree.specs.declared.stmt.Class.{Class}
+use Rattle.bz_tree.specs.declared.stmt.Class.TheVariants.{Load as LoadClass, Assign, Rule, Other as OtherClass, Block}
+use Rattle.bz_tree.specs.declared.kinds.Preceding.{Preceding}
+use Rattle.bz_tree.specs.declared.kinds.Preceding.TheVariants.{Other}
+use Rattle.bz_tree.specs.Brackets.{Elems, elems_tokens, elems_own, own_items, AreWell, after_item, is_paren, without_lines}
+use Rattle.bz_tree.specs.Owners.{Entry, a_node, no_token, is_filled, Inside, inside}
+use Rattle.bz_tree.specs.Statement.{one_segment, with_rule_call, segment_with, segment_of, class_of, is_kept, is_load_word, has_assign, is_rule, statement_with, IsStatementOf}
+use Rattle.bz_tree.specs.Tree.{Item, leaf, group, Segs, Segment, Statement, items_of, bare}
+use Rattle.bz_tree_laws.specs.Nodes.{segment_mapped, inside_mapped}
+use Rattle.bz_tree_laws.specs.Written.{suffix_entry, written_entries, HaveNodes}
+use Rattle.bz_tree_laws.proofs.ChunkLaws.{tree_same}
+use Rattle.bz_layout.specs.declared.spacing.Edge.{Edge}
+use Rattle.bz_layout.specs.declared.spacing.Edge.TheVariants.{Start}
+use Rattle.bz_layout.specs.Spacing.{edge_after}
+use Rattle.bz_layout.specs.Layout.{closing, is_comment, layout_text}
+use Rattle.bz_layout_laws.specs.Inside.{HasShape, has_last_comma, without_newlines}
+use Rattle.bz_layout_laws.specs.Legible.{are_some, IsLegibleItem, AreLegible, IsLegible, depth_of}
+use Rattle.bz_layout_laws.specs.Lexemes.{Lexeme, lexeme, notes, suffix_lexemes, item_lexemes, items_lexemes, lexemes_from, token_lexemes, lexemes_of}
+use Rattle.bz_layout_laws.specs.Parsed.{HasKind, HaveKinds, plain_call, plain_calls, IsParsed}
+use Rattle.bz_layout_laws.specs.Spelled.{spelled, spelled_statement}
+use Rattle.bz_layout_laws.specs.Unplaced.{unplaced}
+use Rattle.bz_layout_laws.proofs.ReadGroup.{read_group}
+use Rattle.bz_layout_laws.proofs.ReadSteps.{bare_spelled, Reads, read_nothing}
+use Rattle.bz_layout_laws.proofs.ReadTree.{read_notes, read_end, read_suffix, segs_begin, few_segs, item_reads, segs_reads}
+use Rattle.bz_layout_laws.proofs.SameInside.{have_nodes, inside_same}
+use Rattle.bz_layout_laws.proofs.SameTests.{tests_bare, tests_spelled, nodes_same, class_same}
+use Rattle.bz_layout_laws.proofs.SpelledAgain.{written_again}
+use Rattle.bz_layout_laws.proofs.Taken.{agree_none, no_tokens}
+use Rattle.bz_layout_laws.proofs.TokensBack.{layout_tokens_only}
+use Rattle.bz_layout_laws.proofs.Unlined.{lines_out}
+use Rattle.bz_layout_laws.proofs.Written.{bracket_written, comma_read}
+use Rattle.bz_layout_laws.proofs.WrittenLine.{statement_line_is, comments_written}
+
+-- the call of a rule has the shape of a call
+rule_shape : (segs : Segs) (one_comma : Bool) → HasShape Call segs one_comma → HasShape RuleCall segs one_comma
+rule_shape segs one_comma h = record { one = λ e. absurd (false≢true e); comma = λ e. absurd (false≢true (ap is_paren (h.comma e).0)) }
+
+-- it is read as a call
+top_reads : (b : Preceding) (x : Item) (ls : List Lexeme) (es : List Entry) (tail : List Lexeme) → IsLegibleItem x → HasKind b (plain_call x) → Reads true (after_item x) ls es tail → Reads true b (item_lexemes x ++ ls) (a_node (plain_call x) ∷ es) tail
+top_reads b (leaf kind text place) ls es tail legible kinds next = item_reads true b (leaf kind text place) ls es tail legible (λ e. refl) kinds next
+top_reads b (group RuleCall segs one_comma end) ls es tail legible kinds next =
+    let trailing = has_last_comma RuleCall segs one_comma end in
+    let shape = rule_shape segs one_comma kinds.2 in
+    subst (λ l. Reads true b (l ++ ls) (a_node (group Call segs one_comma end) ∷ es) tail) (sym (bracket_written RuleCall segs one_comma end shape))
+    (read_group true b Call segs one_comma end trailing ls es tail kinds.0 kinds.1 (have_nodes RuleCall segs legible.0) (comma_read RuleCall segs one_comma end shape)
+    (λ after. segs_reads false RuleCall trailing segs end after legible.0 kinds.3 (few_segs RuleCall segs one_comma end shape))
+    (λ after. segs_begin RuleCall trailing segs end (lexeme Sign (closing Call) ∷ after) legible.0 refl) next)
+top_reads b (group Call segs one_comma end) ls es tail legible kinds next = item_reads true b (group Call segs one_comma end) ls es tail legible (λ e. refl) kinds next
+top_reads b (group Load segs one_comma end) ls es tail legible kinds next = item_reads true b (group Load segs one_comma end) ls es tail legible (λ e. refl) kinds next
+top_reads b (group Paren segs one_comma end) ls es tail legible kinds next = item_reads true b (group Paren segs one_comma end) ls es tail legible (λ e. refl) kinds next
+top_reads b (group ListKind segs one_comma end) ls es tail legible kinds next = item_reads true b (group ListKind segs one_comma end) ls es tail legible (λ e. refl) kinds next
+top_reads b (group Index segs one_comma end) ls es tail legible kinds next = item_reads true b (group Index segs one_comma end) ls es tail legible (λ e. refl) kinds next
+top_reads b (group Dict segs one_comma end) ls es tail legible kinds next = item_reads true b (group Dict segs one_comma end) ls es tail legible (λ e. refl) kinds next
+top_reads b (group ListComp segs one_comma end) ls es tail legible kinds next = item_reads true b (group ListComp segs one_comma end) ls es tail legible (λ e. refl) kinds next
+top_reads b (group DictComp segs one_comma end) ls es tail legible kinds next = item_reads true b (group DictComp segs one_comma end) ls es tail legible (λ e. refl) kinds next
+
+after_plain : (x : Item) → after_item (plain_call x) ≡ after_item x
+after_plain (leaf kind text place) = refl
+after_plain (group kind segs one_comma end) = refl
+
+tops_read : (b : Preceding) (within : Option GroupKind) (left : Edge) (xs : List Item) (ls : List Lexeme) (es : List Entry) (tail : List Lexeme) → AreLegible within left (items_of xs) → HaveKinds true b (items_of (plain_calls xs))
+    → ((p : Preceding) → Reads true p ls es tail) → Reads true b (items_lexemes (items_of xs) ++ ls) (map a_node (plain_calls xs) ++ es) tail
+tops_read b within left [] ls es tail legible kinds next = next b
+tops_read b within left (x ∷ xs) ls es tail legible kinds next =
+    let rest = tops_read (after_item (plain_call x)) within (edge_after within left x) xs ls es tail legible.2 kinds.2 next in
+    subst (λ l. Reads true b l (a_node (plain_call x) ∷ (map a_node (plain_calls xs) ++ es)) tail) (sym (append_assoc (item_lexemes x) (items_lexemes (items_of xs)) ls))
+    (top_reads b x (items_lexemes (items_of xs) ++ ls) (map a_node (plain_calls xs) ++ es) tail legible.1 kinds.1
+    (subst (λ p. Reads true p (items_lexemes (items_of xs) ++ ls) (map a_node (plain_calls xs) ++ es) tail) (after_plain x) rest))
+
+-- the segment of a statement, the call of a rule as one that is none
+abbrev plain_segment : Statement → Segment
+plain_segment s = record { before = s.before; nodes = plain_calls s.nodes; suffix = s.suffix }
+
+abbrev own_segment_bare : Statement → Segment
+own_segment_bare s = record { before = s.before; nodes = map bare_spelled s.nodes; suffix = s.suffix }
+
+-- what stands outside brackets, without places
+bare_one : (ss : List Segment) (end : List (List ℕ)) → segment_mapped bare (one_segment ss end) ≡ one_segment (map (segment_mapped bare) ss) end
+bare_one [] end = refl
+bare_one (s ∷ ss) end = refl
+
+bare_rule : (s : Segment) → segment_mapped bare (with_rule_call s) ≡ with_rule_call (segment_mapped bare s)
+bare_rule s = ap (λ xs. record { before = s.before; nodes = xs; suffix = s.suffix }) (nodes_same bare tests_bare s.nodes)
+
+bare_segment : (i : Inside) → segment_mapped bare (segment_with i) ≡ segment_with (inside_mapped bare i)
+bare_segment i = bare_rule (one_segment i.segs i.end) ∙ ap with_rule_call (bare_one i.segs i.end)
+
+-- tokens that are read so are those of a statement
+record Tree (s : Statement) (tokens : List Placed) : Type 0 where
+  elems : Elems
+  tokens_are : without_lines tokens ≡ elems_tokens elems
+  well : AreWell Other elems
+  segment : segment_mapped bare (segment_of (elems_own Other elems)) ≡ own_segment_bare s
+
+one_by_one : (xs : List Item) → map bare_spelled xs ≡ map bare (map spelled xs)
+one_by_one [] = refl
+one_by_one (x ∷ xs) = ap (λ l. bare_spelled x ∷ l) (one_by_one xs)
+
+finish : (s : Statement) (tokens : List Placed) → IsParsed s → Tree s tokens → (t : Statement) × IsStatementOf tokens t × (unplaced t ≡ unplaced (spelled_statement s))
+finish s tokens parsed tree =
+    let found = segment_of (elems_own Other tree.elems) in
+    let nodes : map bare found.nodes ≡ map bare_spelled s.nodes = ap (λ (g : Segment). g.nodes) tree.segment in
+    let class : class_of found.nodes ≡ s.class = sym (class_same bare tests_bare found.nodes) ∙ ap class_of nodes ∙ class_same bare_spelled tests_spelled s.nodes ∙ sym parsed.class in (
+      statement_with tokens found,
+      record { elems = tree.elems; tokens_are = tree.tokens_are; well = tree.well; is = refl },
+      λ i. record { before = (tree.segment i).before; nodes = (nodes ∙ one_by_one s.nodes) i; suffix = (tree.segment i).suffix; class = class i; start = 0; end = 0 },
+    )
+
+-- the segments of a statement's tokens
+tree_of : (s : Statement) (tokens : List Placed) (ss : List Segment) (end : List (List ℕ)) (ls : List Lexeme) → lexemes_from None (without_lines tokens) ≡ ls → HaveNodes ss → Reads true Other ls (written_entries false ss end) []
+    → segment_with (record { segs = map (segment_mapped bare_spelled) ss; trailing = false; end = end }) ≡ own_segment_bare s → Tree s tokens
+tree_of s tokens ss end ls lexemes nodes reads is =
+    let r = reads.each no_token None (without_lines tokens) agree_none (lexemes ∙ sym (append-nil ls)) in
+    let owns = elems_own Other r.elems in
+    record {
+      elems = r.elems;
+      tokens_are = r.tokens ∙ ap (λ us. elems_tokens r.elems ++ us) (no_tokens r.last r.after r.rest) ∙ append-nil (elems_tokens r.elems);
+      well = r.well;
+      segment = bare_segment (inside (own_items true owns)) ∙ ap segment_with (inside_same (own_items true owns) bare_spelled false ss end nodes r.entries).0 ∙ is;
+    }
+
+some_nodes : (xs : List Item) → are_some (items_of xs) ≡ true → is_filled (plain_calls xs) ≡ true
+some_nodes [] h = absurd (false≢true h)
+some_nodes (x ∷ xs) h = refl
+
+-- a statement that has nodes
+statement_tree : (s : Statement) (tokens : List Placed) → IsLegible s → IsParsed s → is_comment s.class ≡ false → lexemes_from None (without_lines tokens) ≡ without_newlines (lexemes_of s) → Tree s tokens
+statement_tree s tokens legible parsed class lexemes =
+    tree_of s tokens (plain_segment s ∷ []) [] (notes s.before ++ (items_lexemes (items_of s.nodes) ++ (suffix_lexemes s.suffix ++ []))) (lexemes ∙ statement_line_is s legible class) (some_nodes s.nodes (legible.some class), tt)
+    (read_notes true Other s.before (items_lexemes (items_of s.nodes) ++ (suffix_lexemes s.suffix ++ [])) (map a_node (plain_calls s.nodes) ++ (suffix_entry s.suffix ++ [])) []
+    (tops_read Other None Start s.nodes (suffix_lexemes s.suffix ++ []) (suffix_entry s.suffix ++ []) [] legible.nodes parsed.kinds (λ p. read_suffix true p s.suffix [] [] [] (read_nothing true p []))))
+    ((λ i. with_rule_call (record { before = append-nil s.before i; nodes = map bare_spelled (plain_calls s.nodes); suffix = s.suffix }))
+    ∙ ap (λ xs. record { before = s.before; nodes = xs; suffix = s.suffix }) (sym (nodes_same bare_spelled tests_spelled (plain_calls s.nodes)) ∙ ap (map bare_spelled) (sym parsed.rule)))
+
+-- comment lines alone have none
+no_comment : (b : Bool) (m r : Class) → is_comment m ≡ false → is_comment r ≡ false → is_comment (if b then m else r) ≡ false
+no_comment true m r p q = p
+no_comment false m r p q = q
+
+none_there : (xs : List Item) → is_comment (class_of xs) ≡ true → xs ≡ []
+none_there [] h = refl
+none_there (x ∷ xs) h = absurd (false≢true (sym (no_comment (is_kept x) Block _ refl (no_comment (is_load_word x) LoadClass _ refl (no_comment (has_assign (x ∷ xs)) Assign _ refl (no_comment (is_rule (x ∷ xs)) Rule OtherClass refl refl)))) ∙ h))
+
+comment_tree : (s : Statement) (tokens : List Placed) → IsParsed s → is_comment s.class ≡ true → lexemes_from None (without_lines tokens) ≡ without_newlines (lexemes_of s) → Tree s tokens
+comment_tree s tokens parsed class lexemes =
+    let none = none_there s.nodes (ap is_comment (sym parsed.class) ∙ class) in
+    tree_of s tokens [] s.before _ (lexemes ∙ comments_written s class) tt (read_end true Other s.before [])
+    (λ i. record { before = s.before; nodes = ap (map bare_spelled) (sym none) i; suffix = sym (parsed.alone none) i })
+
+tree_is : (s : Statement) (tokens : List Placed) → IsLegible s → IsParsed s → token_lexemes tokens ≡ lexemes_of s → Tree s tokens
+tree_is s tokens legible parsed e = by (is_comment s.class) refl
+  where
+    by : (b : Bool) → is_comment s.class ≡ b → Tree s tokens
+    by true class = comment_tree s tokens parsed class (lines_out s tokens legible e)
+    by false class = statement_tree s tokens legible parsed class (lines_out s tokens legible e)
+
+pub statement_reads : (first depth : ℕ) (s : Statement) (tokens : List Placed) → IsLegible s → IsParsed s → depth_of s ≤ depth → AreTokensOf first depth (layout_text s) tokens
+    → (t : Statement) × IsStatementOf tokens t × (unplaced t ≡ unplaced (spelled_statement s))
+statement_reads first depth s tokens legible parsed room are = finish s tokens parsed (tree_is s tokens legible parsed (layout_tokens_only first depth s tokens legible room are))
+
+pub statement_only : (first depth : ℕ) (s t : Statement) (tokens : List Placed) → IsLegible s → IsParsed s → depth_of s ≤ depth → AreTokensOf first depth (layout_text s) tokens → IsStatementOf tokens t
+    → (unplaced t ≡ unplaced (spelled_statement s)) × (layout_text t ≡ layout_text s)
+statement_only first depth s t tokens legible parsed room are tree =
+    let found = statement_reads first depth s tokens legible parsed room are in
+    let same : unplaced t ≡ unplaced (spelled_statement s) = ap unplaced (tree_same tokens t found.0 tree found.1) ∙ found.2 in
+    (same, written_again s t same)

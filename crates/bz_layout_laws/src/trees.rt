@@ -1,0 +1,24 @@
+//! Law on trees: what the text of a statement is read as.
+
+ghost use Rattle.std.specs.Prelude.{◌≡◌, ◌≤◌, ℕ, List};
+ghost use Rattle.bz_token.specs.Places.{Placed};
+ghost use Rattle.bz_token.specs.Reading.{AreTokensOf};
+ghost use Rattle.bz_tree.specs.Statement.{IsStatementOf};
+ghost use Rattle.bz_tree.specs.Tree.{Statement};
+ghost use Rattle.bz_layout.specs.Layout.{layout_text};
+ghost use Rattle.bz_layout_laws.specs.Legible.{IsLegible, depth_of};
+ghost use Rattle.bz_layout_laws.specs.Parsed.{IsParsed};
+ghost use Rattle.bz_layout_laws.specs.Spelled.{spelled_statement};
+ghost use Rattle.bz_layout_laws.specs.Unplaced.{unplaced};
+
+/// The text of a legible statement whose kinds are those that parsing gives is read back: its tokens have a tree, and
+/// that is the tree of the statement with its strings as they are spelled, wherever its tokens stand. They have no
+/// other, and it is written as the same text.
+pub fn a_statement_reads_back()
+    ensures some { (first depth : ℕ) (s : Statement) (tokens : List Placed) → IsLegible s → IsParsed s
+        → depth_of s ≤ depth → AreTokensOf first depth (layout_text s) tokens
+        → (t : Statement) × IsStatementOf tokens t × (unplaced t ≡ unplaced (spelled_statement s)) }
+    ensures only { (first depth : ℕ) (s t : Statement) (tokens : List Placed) → IsLegible s → IsParsed s
+        → depth_of s ≤ depth → AreTokensOf first depth (layout_text s) tokens → IsStatementOf tokens t
+        → (unplaced t ≡ unplaced (spelled_statement s)) × (layout_text t ≡ layout_text s) }
+{}
