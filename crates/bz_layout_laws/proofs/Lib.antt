@@ -23,4 +23,5 @@ pub mod ReadTree
 pub mod Unlined
 pub mod SameTests
 pub mod ReadStatement
+pub mod SameGrammar
 mod Examples
