@@ -24,4 +24,6 @@ pub mod Unlined
 pub mod SameTests
 pub mod ReadStatement
 pub mod SameGrammar
+pub mod FirstToken
+pub mod ParsedAgain
 mod Examples

@@ -134,7 +134,7 @@ record LeafOwn (one : Bool) (b : Preceding) (t : Placed) : Type 0 where
   one_token : is_single (mark_of t) ≡ true
   agree : Agree (end_of_node line) (end_after t)
 
-no_aside : (kind : Kind) (text : List ℕ) → is_leaf_mark (kind_mark kind text) ≡ true → is_aside kind ≡ false
+pub no_aside : (kind : Kind) (text : List ℕ) → is_leaf_mark (kind_mark kind text) ≡ true → is_aside kind ≡ false
 no_aside Sign text h = refl
 no_aside Ident text h = refl
 no_aside Word text h = refl

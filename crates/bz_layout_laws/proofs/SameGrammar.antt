@@ -1,13 +1,11 @@
 -- Whether nodes are in the grammar does not hang on places and on the spelling of strings.
-use Rattle.std.proofs.Common.{◌≡◌, ℕ, ◌&&◌, ◌||◌, not, List, [], ◌∷◌, map, Bool, true, false, refl, sym, ap, ◌∙◌}
-use Rattle.std.specs.Prelude.{if◌then◌else◌}
+use Rattle.std.proofs.Common.{◌≡◌, ℕ, ◌&&◌, ◌||◌, List, [], ◌∷◌, map, refl, sym, ap, ◌∙◌}
 use Rattle.bz_token.specs.declared.token.Kind.{Kind}
 use Rattle.bz_token.specs.declared.token.Kind.TheVariants.{Ident, Word, Int, Text, Sign, Line as LineKind, Note, Kept}
 use Rattle.bz_tree.specs.Grammar.{leaf_role, IsStatement}
-use Rattle.bz_tree.specs.Kinds.{is_one}
 use Rattle.bz_tree.specs.Statement.{is_load_word}
 use Rattle.bz_tree.specs.Tree.{Item, leaf, group, Items, no_items, item, Segs, no_segs, seg, Statement, items_of, nowhere, bare, bare_items, bare_segs}
-use Rattle.bz_tree.specs.private.Machine.{begin, group_role, is_single, accepts, role_of, each, is_value, is_name, is_equals, is_string_item, is_string, is_renamed, is_load_argument, are_load_arguments, is_load_kind, are_loaded, is_load_group, is_load, is_nothing, is_statement, next}
+use Rattle.bz_tree.specs.private.Machine.{begin, is_single, accepts, role_of, each, is_value, is_name, is_equals, is_string_item, is_string, is_renamed, are_load_arguments, is_load_kind, are_loaded, is_load_group, is_load, is_nothing, is_statement, next}
 use Rattle.bz_tree.proofs.Recognized.{statement_accepted, accepted_statement}
 use Rattle.bz_layout.specs.Respell.{respell}
 use Rattle.bz_layout_laws.specs.Spelled.{spelled, spelled_items, spelled_segs, spelled_statement}

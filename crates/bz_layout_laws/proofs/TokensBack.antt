@@ -108,7 +108,7 @@ back_lexemes first s h = pieces_read first [] [] false (layout s) (layout_beside
 pub layout_tokens : (first depth : ℕ) (s : Statement) → IsLegible s → depth_of s ≤ depth → (tokens : List Placed) × AreLinesOf first depth (layout_text s) tokens × (token_lexemes tokens ≡ lexemes_of s)
 layout_tokens first depth s h room = (tokens_back first s, read_lines first depth s h room, back_lexemes first s h)
 
-lines_are_tokens : (first depth : ℕ) (bytes : List ℕ) (tokens : List Placed) → AreLinesOf first depth bytes tokens → AreTokensOf first depth bytes tokens
+pub lines_are_tokens : (first depth : ℕ) (bytes : List ℕ) (tokens : List Placed) → AreLinesOf first depth bytes tokens → AreTokensOf first depth bytes tokens
 lines_are_tokens first depth bytes tokens a = (a.0, [], a.1, refl, a.2, a.4)
 
 pub layout_tokens_only : (first depth : ℕ) (s : Statement) (tokens : List Placed) → IsLegible s → depth_of s ≤ depth → AreTokensOf first depth (layout_text s) tokens → token_lexemes tokens ≡ lexemes_of s

@@ -46,7 +46,7 @@ no_line false false false false false true g = refl
 no_line false false false false false false true = refl
 no_line false false false false false false false = refl
 
-line_mark : (kind : Kind) (text : List ℕ) → is_line_mark (kind_mark kind text) ≡ is_line kind
+pub line_mark : (kind : Kind) (text : List ℕ) → is_line_mark (kind_mark kind text) ≡ is_line kind
 line_mark Sign text = no_line (bytes_eq text (codes "(")) (bytes_eq text (codes "[")) (bytes_eq text (codes "{")) (bytes_eq text (codes ")")) (bytes_eq text (codes "]")) (bytes_eq text (codes "}")) (bytes_eq text (codes ","))
 line_mark Ident text = refl
 line_mark Word text = refl
@@ -56,7 +56,7 @@ line_mark Kept text = refl
 line_mark LineKind text = refl
 line_mark Note text = refl
 
-line_aside : (kind : Kind) → is_line kind ≡ true → is_aside kind ≡ true
+pub line_aside : (kind : Kind) → is_line kind ≡ true → is_aside kind ≡ true
 line_aside LineKind h = refl
 line_aside Note h = refl
 line_aside Sign h = h

@@ -1,12 +1,14 @@
-//! Law on trees: what the text of a statement is read as.
+//! Laws on trees: what the text of a statement is read as.
 
-ghost use Rattle.std.specs.Prelude.{◌≡◌, ◌≤◌, ℕ, List};
+ghost use Rattle.std.specs.Prelude.{◌≡◌, ◌≤◌, ℕ, List, false};
 ghost use Rattle.bz_token.specs.Places.{Placed};
 ghost use Rattle.bz_token.specs.Reading.{AreTokensOf};
+ghost use Rattle.bz_tree.specs.Chunk.{IsStatementIn};
+ghost use Rattle.bz_tree.specs.Grammar.{IsStatement};
 ghost use Rattle.bz_tree.specs.Statement.{IsStatementOf};
-ghost use Rattle.bz_tree.specs.Tree.{Statement};
-ghost use Rattle.bz_layout.specs.Layout.{layout_text};
-ghost use Rattle.bz_layout_laws.specs.Legible.{IsLegible, depth_of};
+ghost use Rattle.bz_tree.specs.Tree.{Statement, items_of};
+ghost use Rattle.bz_layout.specs.Layout.{is_comment, layout_text};
+ghost use Rattle.bz_layout_laws.specs.Legible.{IsLegible, begins_block, depth_of};
 ghost use Rattle.bz_layout_laws.specs.Parsed.{IsParsed};
 ghost use Rattle.bz_layout_laws.specs.Spelled.{spelled_statement};
 ghost use Rattle.bz_layout_laws.specs.Unplaced.{unplaced};
@@ -20,5 +22,24 @@ pub fn a_statement_reads_back()
         → (t : Statement) × IsStatementOf tokens t × (unplaced t ≡ unplaced (spelled_statement s)) }
     ensures only { (first depth : ℕ) (s t : Statement) (tokens : List Placed) → IsLegible s → IsParsed s
         → depth_of s ≤ depth → AreTokensOf first depth (layout_text s) tokens → IsStatementOf tokens t
+        → (unplaced t ≡ unplaced (spelled_statement s)) × (layout_text t ≡ layout_text s) }
+{}
+
+/// Whether nodes are in the grammar does not hang on places and on the spelling of strings.
+pub fn the_grammar_stays()
+    ensures { (s t : Statement) → unplaced t ≡ unplaced (spelled_statement s) → IsStatement (items_of s.nodes)
+        → IsStatement (items_of t.nodes) }
+{}
+
+/// So the text of such a statement of the grammar that begins no block is a chunk that `bz_tree::parse` reads as the
+/// statement, with its strings as they are spelled and wherever its tokens stand, and as nothing else.
+pub fn a_statement_is_parsed_again()
+    ensures some { (first depth : ℕ) (s : Statement) → IsLegible s → IsParsed s → depth_of s ≤ depth
+        → is_comment s.class ≡ false → begins_block (items_of s.nodes) ≡ false → IsStatement (items_of s.nodes)
+        → (t : Statement) × IsStatementIn first depth (layout_text s) t
+        × (unplaced t ≡ unplaced (spelled_statement s)) }
+    ensures only { (first depth : ℕ) (s t : Statement) → IsLegible s → IsParsed s → depth_of s ≤ depth
+        → is_comment s.class ≡ false → begins_block (items_of s.nodes) ≡ false
+        → IsStatementIn first depth (layout_text s) t
         → (unplaced t ≡ unplaced (spelled_statement s)) × (layout_text t ≡ layout_text s) }
 {}
