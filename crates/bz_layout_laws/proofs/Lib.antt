@@ -27,3 +27,4 @@ pub mod SameGrammar
 pub mod FirstToken
 pub mod ParsedAgain
 mod Examples
+mod ParsedExamples

@@ -1,0 +1,126 @@
+-- A statement that has the kinds that parsing gives.
+use Rattle.std.proofs.Common.{◌≡◌, ℕ, List, [], ◌∷◌, true, false, refl, ap, sym}
+use Rattle.std.specs.Prelude.{codes}
+use Rattle.std.specs.Prelude.Option.{None}
+use Rattle.std.proofs.lemmas.Bool.{false≢true}
+use Rattle.bz_token.specs.declared.token.Kind.TheVariants.{Ident, Word, Sign}
+use Rattle.bz_token.specs.Lexical.{keywords, signs}
+use Rattle.bz_tree.specs.declared.stmt.GroupKind.TheVariants.{RuleCall, ListComp, Call}
+use Rattle.bz_tree.specs.declared.stmt.Class.TheVariants.{Rule}
+use Rattle.bz_tree.specs.declared.kinds.Shape.TheVariants.{Round, Square}
+use Rattle.bz_tree.specs.Owners.{is_filled}
+use Rattle.bz_tree.specs.Tree.{Item, leaf, group, Segs, Statement, items_of, segs_of, nowhere}
+use Rattle.bz_layout.specs.Layout.{layout_text}
+use Rattle.bz_layout_laws.specs.Inside.{HasShape}
+use Rattle.bz_layout_laws.specs.Legible.{IsLegible, begins_block}
+use Rattle.bz_layout_laws.specs.Parsed.{IsParsed, have_for}
+
+abbrev word : List ℕ → Item
+word text = leaf Word text nowhere
+
+abbrev name : List ℕ → Item
+name text = leaf Ident text nowhere
+
+-- `x for x in y`
+abbrev clause : Segs
+clause = segs_of (record { before = []; nodes = name (codes "x") ∷ word (codes "for") ∷ name (codes "x") ∷ word (codes "in") ∷ name (codes "y") ∷ []; suffix = None } ∷ [])
+
+abbrev arguments : Segs
+arguments = segs_of (record { before = []; nodes = name (codes "srcs") ∷ leaf Sign (codes "=") nowhere ∷ group ListComp clause false [] ∷ []; suffix = None } ∷ [])
+
+-- `rule(srcs = [x for x in y])`
+abbrev rule : Statement
+rule = record { before = []; nodes = name (codes "rule") ∷ group RuleCall arguments false [] ∷ []; suffix = None; class = Rule; start = 1; end = 1 }
+
+written : layout_text rule ≡ codes "rule(srcs = [x for x in y])\n"
+written = refl
+
+no_comma : false ≡ true → false ≡ true
+no_comma e = e
+
+comprehension : HasShape ListComp clause false
+comprehension = record { one = λ e. refl; comma = λ e. absurd (false≢true e) }
+
+one_call : HasShape Call arguments false
+one_call = record { one = λ e. absurd (false≢true e); comma = λ e. absurd (false≢true e) }
+
+parsed : IsParsed rule
+parsed = record {
+  kinds = (
+    λ e. refl,
+    tt,
+    (
+      λ e. refl,
+      (
+        Round,
+        refl,
+        one_call,
+        (
+          (
+            no_comma,
+            tt,
+            (
+              no_comma,
+              tt,
+              (
+                no_comma,
+                (Square, refl, comprehension, ((λ e. refl, tt, (λ e. refl, tt, (λ e. refl, tt, (λ e. refl, tt, (λ e. refl, tt, tt))))), tt)),
+                tt,
+              ),
+            ),
+          ),
+          tt,
+        ),
+      ),
+      tt,
+    ),
+  );
+  rule = refl;
+  class = refl;
+  alone = λ e. absurd (false≢true (sym (ap is_filled e)));
+}
+
+legible : IsLegible rule
+unfolding keywords signs
+legible = record {
+  some = λ e. refl;
+  before = refl;
+  nodes = (
+    refl,
+    (refl, refl),
+    (
+      refl,
+      (
+        (
+          refl,
+          refl,
+          (
+            refl,
+            (refl, refl),
+            (
+              refl,
+              (refl, refl),
+              (
+                refl,
+                ((refl, refl, (refl, (refl, refl), (refl, (refl, refl), (refl, (refl, refl), (refl, (refl, refl), (refl, (refl, refl), tt))))), refl, tt), refl),
+                tt,
+              ),
+            ),
+          ),
+          refl,
+          tt,
+        ),
+        refl,
+      ),
+      tt,
+    ),
+  );
+  suffix = refl;
+}
+
+no_block : begins_block (items_of rule.nodes) ≡ false
+no_block = refl
+
+-- `for` stands in it before any comma
+comprehends : have_for clause ≡ true
+comprehends = refl
