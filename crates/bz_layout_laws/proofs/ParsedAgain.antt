@@ -1,23 +1,27 @@
 -- The text of a statement is parsed as the statement.
-use Rattle.std.proofs.Common.{◌≡◌, ℕ, ◌≤◌, List, [], ◌∷◌, Bool, true, false, Some, IsSome, refl, sym, ap, subst, ◌∙◌}
+use Rattle.std.proofs.Common.{◌≡◌, ℕ, ◌≤◌, List, [], ◌∷◌, ◌++◌, Bool, true, false, None, Some, IsSome, refl, sym, ap, subst, ◌∙◌}
 use Rattle.std.proofs.lemmas.Bool.{false≢true}
 use Rattle.std.specs.Prelude.{if◌then◌else◌}
 use Rattle.bz_token.specs.Brackets.{is_line}
 use Rattle.bz_token.specs.Places.{Placed}
+use Rattle.bz_token.specs.Reading.{tokens_of}
 use Rattle.bz_token.proofs.OneFault.{one_tokens}
 use Rattle.bz_tree.specs.Brackets.{without_lines}
-use Rattle.bz_tree.specs.Chunk.{IsOneOf, IsPlain, IsStatementIn, begins_block as begins_block_at}
+use Rattle.bz_tree.specs.Chunk.{IsOneOf, IsPlain, IsStatementIn, begins_block as begins_block_at, indent_at, indent_fault}
 use Rattle.bz_tree.specs.Grammar.{IsStatement}
 use Rattle.bz_tree.specs.Owners.{is_filled}
 use Rattle.bz_tree.specs.Statement.{first_token, first_seen, first_of, bare_tokens}
 use Rattle.bz_tree.specs.Tree.{Statement, items_of}
-use Rattle.bz_layout.specs.Layout.{is_comment, layout_text}
+use Rattle.bz_layout.specs.Broken.{has_some}
+use Rattle.bz_layout.specs.Pieces.{Piece, comment_lines}
+use Rattle.bz_layout.specs.Layout.{statement_line, is_comment, layout_text}
 use Rattle.bz_layout_laws.specs.Legible.{IsLegible, depth_of, begins_block}
 use Rattle.bz_layout_laws.specs.Parsed.{IsParsed}
 use Rattle.bz_layout_laws.specs.Spelled.{spelled_statement}
 use Rattle.bz_layout_laws.specs.Unplaced.{unplaced}
 use Rattle.bz_layout_laws.proofs.FirstToken.{layout_front, upright}
-use Rattle.bz_layout_laws.proofs.ReadStatement.{statement_reads, statement_only}
+use Rattle.bz_layout_laws.specs.ReadPieces.{read_pieces}
+use Rattle.bz_layout_laws.proofs.ReadStatement.{none_there, statement_reads, statement_only}
 use Rattle.bz_layout_laws.proofs.SameGrammar.{grammar_stays}
 use Rattle.bz_layout_laws.proofs.TokensBack.{tokens_back, read_lines, lines_are_tokens}
 use Rattle.bz_layout_laws.proofs.Unlined.{line_mark, line_aside}
@@ -38,35 +42,67 @@ seen_some ts t e = by (without_lines ts) refl
     by [] none = absurd (false≢true (subst IsSome (sym e ∙ ap first_of (bare_empty ts none)) refl))
     by (u ∷ us) some = refl
 
-pub parsed_again : (first depth : ℕ) (s : Statement) → IsLegible s → IsParsed s → depth_of s ≤ depth → is_comment s.class ≡ false → begins_block (items_of s.nodes) ≡ false → IsStatement (items_of s.nodes)
+-- tokens of a chunk that is not indented, no block and not blank
+record Upright (tokens : List Placed) : Type 0 where
+  indent : indent_fault tokens ≡ None
+  block : begins_block_at (first_token tokens) ≡ false
+  some : IsSome (first_seen tokens)
+
+-- comment lines alone
+notes_bare : (first : ℕ) (texts : List (List ℕ)) (before lines : List ℕ) → bare_tokens (tokens_of first before lines (read_pieces (comment_lines texts ++ []))) ≡ []
+notes_bare first [] before lines = refl
+notes_bare first (text ∷ texts) before lines = notes_bare first texts _ _
+
+notes_seen : (first : ℕ) (texts : List (List ℕ)) (rest : List Piece) → has_some texts ≡ true → IsSome (first_seen (tokens_of first [] [] (read_pieces (comment_lines texts ++ rest))))
+notes_seen first [] rest h = absurd (false≢true h)
+notes_seen first (text ∷ texts) rest h = refl
+
+lines_upright : (first : ℕ) (s : Statement) → IsParsed s → is_comment s.class ≡ true → Upright (tokens_back first s)
+lines_upright first s parsed class =
+    let none = none_there s.nodes (ap is_comment (sym parsed.class) ∙ class) in
+    subst (λ b. Upright (tokens_of first [] [] (read_pieces (comment_lines s.before ++ (if b then [] else statement_line s))))) (sym class)
+    (let tokens = tokens_of first [] [] (read_pieces (comment_lines s.before ++ [])) in
+    let bare : first_token tokens ≡ None = ap first_of (notes_bare first s.before [] []) in
+    record { indent = ap (λ o. indent_at o tokens) bare; block = ap begins_block_at bare; some = notes_seen first s.before [] (parsed.lines none) })
+
+is_upright : (first : ℕ) (s : Statement) → IsLegible s → IsParsed s → begins_block (items_of s.nodes) ≡ false → Upright (tokens_back first s)
+is_upright first s legible parsed word = by (is_comment s.class) refl
+  where
+    by : (b : Bool) → is_comment s.class ≡ b → Upright (tokens_back first s)
+    by true class = lines_upright first s parsed class
+    by false class =
+        let front = layout_front first s legible class word in
+        let stands = upright (tokens_back first s) front in
+        record { indent = stands.0; block = stands.1; some = seen_some (tokens_back first s) front.token front.first }
+
+pub parsed_again : (first depth : ℕ) (s : Statement) → IsLegible s → IsParsed s → depth_of s ≤ depth → begins_block (items_of s.nodes) ≡ false → IsStatement (items_of s.nodes)
     → (t : Statement) × IsStatementIn first depth (layout_text s) t × (unplaced t ≡ unplaced (spelled_statement s))
-parsed_again first depth s legible parsed room class word grammar =
+parsed_again first depth s legible parsed room word grammar =
     let tokens = tokens_back first s in
     let are = lines_are_tokens first depth (layout_text s) tokens (read_lines first depth s legible room) in
     let found = statement_reads first depth s tokens legible parsed room are in
     let t = found.0 in
-    let front = layout_front first s legible class word in
-    let no_block = upright tokens front in
+    let stands = is_upright first s legible parsed word in
     let plain : IsPlain tokens t = record { tree = found.1; grammar = grammar_stays s t found.2 grammar } in (
       t,
       record {
         tokens = tokens;
         are = are;
         reads = record {
-          upright = no_block.0;
-          some = seen_some tokens front.token front.first;
-          chunk = subst (λ b. IsOneOf b first (layout_text s) tokens t) (sym no_block.1) plain;
+          upright = stands.indent;
+          some = stands.some;
+          chunk = subst (λ b. IsOneOf b first (layout_text s) tokens t) (sym stands.block) plain;
         };
       },
       found.2,
     )
 
-pub parsed_only : (first depth : ℕ) (s t : Statement) → IsLegible s → IsParsed s → depth_of s ≤ depth → is_comment s.class ≡ false → begins_block (items_of s.nodes) ≡ false → IsStatementIn first depth (layout_text s) t
+pub parsed_only : (first depth : ℕ) (s t : Statement) → IsLegible s → IsParsed s → depth_of s ≤ depth → begins_block (items_of s.nodes) ≡ false → IsStatementIn first depth (layout_text s) t
     → (unplaced t ≡ unplaced (spelled_statement s)) × (layout_text t ≡ layout_text s)
-parsed_only first depth s t legible parsed room class word is =
+parsed_only first depth s t legible parsed room word is =
     let tokens = tokens_back first s in
     let are = lines_are_tokens first depth (layout_text s) tokens (read_lines first depth s legible room) in
     let same : is.tokens ≡ tokens = one_tokens first depth (layout_text s) is.tokens tokens is.are are in
-    let no_block = upright tokens (layout_front first s legible class word) in
-    let plain : IsPlain is.tokens t = subst (λ b. IsOneOf b first (layout_text s) is.tokens t) (ap (λ ts. begins_block_at (first_token ts)) same ∙ no_block.1) is.reads.chunk in
+    let stands = is_upright first s legible parsed word in
+    let plain : IsPlain is.tokens t = subst (λ b. IsOneOf b first (layout_text s) is.tokens t) (ap (λ ts. begins_block_at (first_token ts)) same ∙ stands.block) is.reads.chunk in
     statement_only first depth s t is.tokens legible parsed room is.are plain.tree

@@ -1,4 +1,4 @@
--- A statement that has the kinds that parsing gives.
+-- Statements that have the kinds that parsing gives.
 use Rattle.std.proofs.Common.{◌≡◌, ℕ, List, [], ◌∷◌, true, false, refl, ap, sym}
 use Rattle.std.specs.Prelude.{codes}
 use Rattle.std.specs.Prelude.Option.{None}
@@ -6,7 +6,7 @@ use Rattle.std.proofs.lemmas.Bool.{false≢true}
 use Rattle.bz_token.specs.declared.token.Kind.TheVariants.{Ident, Word, Sign}
 use Rattle.bz_token.specs.Lexical.{keywords, signs}
 use Rattle.bz_tree.specs.declared.stmt.GroupKind.TheVariants.{RuleCall, ListComp, Call}
-use Rattle.bz_tree.specs.declared.stmt.Class.TheVariants.{Rule}
+use Rattle.bz_tree.specs.declared.stmt.Class.TheVariants.{Rule, Comment}
 use Rattle.bz_tree.specs.declared.kinds.Shape.TheVariants.{Round, Square}
 use Rattle.bz_tree.specs.Owners.{is_filled}
 use Rattle.bz_tree.specs.Tree.{Item, leaf, group, Segs, Statement, items_of, segs_of, nowhere}
@@ -78,6 +78,7 @@ parsed = record {
   rule = refl;
   class = refl;
   alone = λ e. absurd (false≢true (sym (ap is_filled e)));
+  lines = λ e. absurd (false≢true (sym (ap is_filled e)));
 }
 
 legible : IsLegible rule
@@ -124,3 +125,10 @@ no_block = refl
 -- `for` stands in it before any comma
 comprehends : have_for clause ≡ true
 comprehends = refl
+
+-- comment lines alone
+abbrev lines : Statement
+lines = record { before = codes "# c" ∷ []; nodes = []; suffix = None; class = Comment; start = 1; end = 1 }
+
+lines_parsed : IsParsed lines
+lines_parsed = record { kinds = tt; rule = refl; class = refl; alone = λ e. refl; lines = λ e. refl }

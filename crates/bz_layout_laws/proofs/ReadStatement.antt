@@ -146,7 +146,7 @@ no_comment : (b : Bool) (m r : Class) → is_comment m ≡ false → is_comment 
 no_comment true m r p q = p
 no_comment false m r p q = q
 
-none_there : (xs : List Item) → is_comment (class_of xs) ≡ true → xs ≡ []
+pub none_there : (xs : List Item) → is_comment (class_of xs) ≡ true → xs ≡ []
 none_there [] h = refl
 none_there (x ∷ xs) h = absurd (false≢true (sym (no_comment (is_kept x) Block _ refl (no_comment (is_load_word x) LoadClass _ refl (no_comment (has_assign (x ∷ xs)) Assign _ refl (no_comment (is_rule (x ∷ xs)) Rule OtherClass refl refl)))) ∙ h))
 

@@ -11,6 +11,7 @@ use Rattle.bz_tree.specs.Kinds.{kind_mark, group_kind, is_one}
 use Rattle.bz_tree.specs.Brackets.{after_item, is_for_item}
 use Rattle.bz_tree.specs.Statement.{class_of, is_rule, rule_call}
 use Rattle.bz_tree.specs.Tree.{Item, leaf, group, Items, no_items, item, Segs, no_segs, seg, Statement, items_of}
+use Rattle.bz_layout.specs.Broken.{has_some}
 use Rattle.bz_layout_laws.specs.Inside.{HasShape}
 
 abbrev pub is_comma_mark : Mark → Bool
@@ -59,9 +60,10 @@ plain_call (group kind segs one_comma end) = group (plain_kind kind) segs one_co
 abbrev pub plain_calls : List Item → List Item
 plain_calls xs = map plain_call xs
 
--- kinds and class of a statement; where it has no nodes it is comment lines alone
+-- kinds and class of a statement; where it has no nodes it is comment lines alone, one at least
 pub record IsParsed (s : Statement) : Type 0 where
   pub kinds : HaveKinds true Other (items_of (plain_calls s.nodes))
   pub rule : s.nodes ≡ (if is_rule (plain_calls s.nodes) then rule_call (plain_calls s.nodes) else plain_calls s.nodes)
   pub class : s.class ≡ class_of s.nodes
   pub alone : s.nodes ≡ [] → s.suffix ≡ None
+  pub lines : s.nodes ≡ [] → has_some s.before ≡ true

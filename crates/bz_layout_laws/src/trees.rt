@@ -7,7 +7,7 @@ ghost use Rattle.bz_tree.specs.Chunk.{IsStatementIn};
 ghost use Rattle.bz_tree.specs.Grammar.{IsStatement};
 ghost use Rattle.bz_tree.specs.Statement.{IsStatementOf};
 ghost use Rattle.bz_tree.specs.Tree.{Statement, items_of};
-ghost use Rattle.bz_layout.specs.Layout.{is_comment, layout_text};
+ghost use Rattle.bz_layout.specs.Layout.{layout_text};
 ghost use Rattle.bz_layout_laws.specs.Legible.{IsLegible, begins_block, depth_of};
 ghost use Rattle.bz_layout_laws.specs.Parsed.{IsParsed};
 ghost use Rattle.bz_layout_laws.specs.Spelled.{spelled_statement};
@@ -35,11 +35,10 @@ pub fn the_grammar_stays()
 /// statement, with its strings as they are spelled and wherever its tokens stand, and as nothing else.
 pub fn a_statement_is_parsed_again()
     ensures some { (first depth : ℕ) (s : Statement) → IsLegible s → IsParsed s → depth_of s ≤ depth
-        → is_comment s.class ≡ false → begins_block (items_of s.nodes) ≡ false → IsStatement (items_of s.nodes)
+        → begins_block (items_of s.nodes) ≡ false → IsStatement (items_of s.nodes)
         → (t : Statement) × IsStatementIn first depth (layout_text s) t
         × (unplaced t ≡ unplaced (spelled_statement s)) }
     ensures only { (first depth : ℕ) (s t : Statement) → IsLegible s → IsParsed s → depth_of s ≤ depth
-        → is_comment s.class ≡ false → begins_block (items_of s.nodes) ≡ false
-        → IsStatementIn first depth (layout_text s) t
+        → begins_block (items_of s.nodes) ≡ false → IsStatementIn first depth (layout_text s) t
         → (unplaced t ≡ unplaced (spelled_statement s)) × (layout_text t ≡ layout_text s) }
 {}
