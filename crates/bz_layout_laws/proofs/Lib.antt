@@ -26,5 +26,6 @@ pub mod ReadStatement
 pub mod SameGrammar
 pub mod FirstToken
 pub mod ParsedAgain
+pub mod KindsRead
 mod Examples
 mod ParsedExamples

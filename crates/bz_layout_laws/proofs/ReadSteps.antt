@@ -159,7 +159,7 @@ comma_sign text h =
     (skip (bytes_eq text (codes "{")) (Open Curly) _ refl (skip (bytes_eq text (codes "[")) (Open Square) _ refl (skip (bytes_eq text (codes "(")) (Open Round) _ refl h)))))) in
     search (rules, bytes_eq-Decides)
 
-comma_leaf : (kind : Kind) (text : List ℕ) → is_comma_mark (kind_mark kind text) ≡ true → (kind_after kind text ≡ Other) × (text ≡ codes ",")
+pub comma_leaf : (kind : Kind) (text : List ℕ) → is_comma_mark (kind_mark kind text) ≡ true → (kind_after kind text ≡ Other) × (text ≡ codes ",")
 comma_leaf Sign text h = (refl, comma_sign text h)
 comma_leaf Ident text h = absurd (false≢true h)
 comma_leaf Word text h = absurd (false≢true h)
