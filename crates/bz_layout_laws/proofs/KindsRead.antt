@@ -1,5 +1,5 @@
 -- The groups that tokens are read as have the kinds of their brackets.
-use Rattle.std.proofs.Common.{◌≡◌, ℕ, suc, ◌==◌, ◌&&◌, ◌||◌, List, [], ◌∷◌, ◌++◌, length, map, Bool, true, false, Option, Some, None, refl, sym, ap, subst, ◌∙◌}
+use Rattle.std.proofs.Common.{◌≡◌, suc, ◌==◌, ◌&&◌, ◌||◌, List, [], ◌∷◌, length, Bool, true, false, refl, sym, ap, subst, ◌∙◌}
 use Rattle.std.specs.Prelude.{nat_le, if◌then◌else◌}
 use Rattle.std.proofs.lemmas.Bool.{false≢true, and_parts, eqb-true}
 use Rattle.bz_token.specs.Places.{Placed}
@@ -9,10 +9,10 @@ use Rattle.bz_tree.specs.declared.kinds.Mark.{Mark}
 use Rattle.bz_tree.specs.declared.kinds.Mark.TheVariants.{Open, Close, Comma, Comment, NewLine, Plain}
 use Rattle.bz_tree.specs.declared.kinds.Preceding.{Preceding}
 use Rattle.bz_tree.specs.declared.kinds.Preceding.TheVariants.{Other}
-use Rattle.bz_tree.specs.Brackets.{Elem, single, bracket, Elems, no_elems, elem, leaf_of, own_items, own_of, preceding, elem_own, elems_own, has_for, is_for_item, is_single, is_paren, IsWell, AreWell, after_item, group_of, end_line}
+use Rattle.bz_tree.specs.Brackets.{Elem, single, bracket, Elems, no_elems, elem, own_items, own_of, preceding, elems_own, has_for, is_for_item, is_single, is_paren, IsWell, AreWell, after_item, group_of, end_line}
 use Rattle.bz_tree.specs.Kinds.{mark_of, group_kind, is_one}
 use Rattle.bz_tree.specs.Owners.{Own, node, comma, note, Last, no_token, end_of_node, end_of_comma, Entry, a_node, a_comma, a_note, is_filled, first_cell, other_cells, later_lines, same_line, below_last, nodes_in, cell_segment, with_segment, segments_from, no_empty, Inside, inside, inside_by_cells, entries_of}
-use Rattle.bz_tree.specs.Tree.{Item, leaf, group, Items, Segs, no_segs, seg, Segment, items_of, segs_of}
+use Rattle.bz_tree.specs.Tree.{Item, Segment, items_of, segs_of}
 use Rattle.bz_layout.specs.Broken.{count}
 use Rattle.bz_layout_laws.specs.Inside.{HasShape}
 use Rattle.bz_layout_laws.specs.Parsed.{is_comma_mark, is_comma, nodes_have_for, have_for, HasKind, HaveKinds, SegsHaveKinds}

@@ -27,5 +27,6 @@ pub mod SameGrammar
 pub mod FirstToken
 pub mod ParsedAgain
 pub mod KindsRead
+pub mod ParsedRead
 mod Examples
 mod ParsedExamples

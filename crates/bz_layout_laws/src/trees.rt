@@ -1,15 +1,16 @@
 //! Laws on trees: what the text of a statement is read as.
 
-ghost use Rattle.std.specs.Prelude.{◌≡◌, ◌≤◌, ℕ, List, false};
+ghost use Rattle.std.specs.Prelude.{◌≡◌, ◌≤◌, ℕ, List, true, false, if◌then◌else◌};
 ghost use Rattle.bz_token.specs.Places.{Placed};
 ghost use Rattle.bz_token.specs.Reading.{AreTokensOf};
+ghost use Rattle.bz_tree.specs.declared.kinds.Preceding.TheVariants.{Other};
 ghost use Rattle.bz_tree.specs.Chunk.{IsStatementIn};
 ghost use Rattle.bz_tree.specs.Grammar.{IsStatement};
-ghost use Rattle.bz_tree.specs.Statement.{IsStatementOf};
+ghost use Rattle.bz_tree.specs.Statement.{IsStatementOf, class_of, is_rule, rule_call};
 ghost use Rattle.bz_tree.specs.Tree.{Statement, items_of};
 ghost use Rattle.bz_layout.specs.Layout.{layout_text};
 ghost use Rattle.bz_layout_laws.specs.Legible.{IsLegible, begins_block, depth_of};
-ghost use Rattle.bz_layout_laws.specs.Parsed.{IsParsed};
+ghost use Rattle.bz_layout_laws.specs.Parsed.{HaveKinds, IsParsed, plain_calls};
 ghost use Rattle.bz_layout_laws.specs.Spelled.{spelled_statement};
 ghost use Rattle.bz_layout_laws.specs.Unplaced.{unplaced};
 
@@ -41,4 +42,12 @@ pub fn a_statement_is_parsed_again()
     ensures only { (first depth : ℕ) (s t : Statement) → IsLegible s → IsParsed s → depth_of s ≤ depth
         → begins_block (items_of s.nodes) ≡ false → IsStatementIn first depth (layout_text s) t
         → (unplaced t ≡ unplaced (spelled_statement s)) × (layout_text t ≡ layout_text s) }
+{}
+
+/// What is read has the kinds and the class that `IsParsed` asks for.
+pub fn what_is_read_has_its_kinds()
+    ensures { (tokens : List Placed) (t : Statement) → IsStatementOf tokens t
+        → HaveKinds true Other (items_of (plain_calls t.nodes))
+        × (t.nodes ≡ (if is_rule (plain_calls t.nodes) then rule_call (plain_calls t.nodes) else plain_calls t.nodes))
+        × (t.class ≡ class_of t.nodes) }
 {}
