@@ -100,7 +100,7 @@ inside_for one xs well filled =
     segments_for (first_cell es) (other_cells es) (first_filled no_token os filled) ∙ sym (first_for es) ∙ sym (owns_have_for one no_token Other xs well)
 
 -- an index or a comprehension has one segment, and so has `(x,)`
-no_cells : (at : Last) (os : List Own) → other_cells (entries_of at (own_items true os)) ≡ []
+pub no_cells : (at : Last) (os : List Own) → other_cells (entries_of at (own_items true os)) ≡ []
 no_cells at [] = refl
 no_cells at (node line x ∷ os) = no_cells (end_of_node line) os
 no_cells at (comma t ∷ os) = no_cells (end_of_node t.line) os

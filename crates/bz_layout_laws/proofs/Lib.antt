@@ -28,5 +28,8 @@ pub mod FirstToken
 pub mod ParsedAgain
 pub mod KindsRead
 pub mod ParsedRead
+pub mod LinesRead
+pub mod EachRead
+pub mod TextsRead
 mod Examples
 mod ParsedExamples

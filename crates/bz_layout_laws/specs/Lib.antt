@@ -5,3 +5,4 @@ pub mod Legible
 pub mod Spelled
 pub mod Inside
 pub mod Parsed
+pub mod TextsOfKinds

@@ -1,17 +1,18 @@
 //! Laws on trees: what the text of a statement is read as.
 
-ghost use Rattle.std.specs.Prelude.{◌≡◌, ◌≤◌, ℕ, List, true, false, if◌then◌else◌};
+ghost use Rattle.std.specs.Prelude.{◌≡◌, ◌≤◌, ℕ, List, true, false, if◌then◌else◌, IsSome};
 ghost use Rattle.bz_token.specs.Places.{Placed};
 ghost use Rattle.bz_token.specs.Reading.{AreTokensOf};
 ghost use Rattle.bz_tree.specs.declared.kinds.Preceding.TheVariants.{Other};
 ghost use Rattle.bz_tree.specs.Chunk.{IsStatementIn};
 ghost use Rattle.bz_tree.specs.Grammar.{IsStatement};
-ghost use Rattle.bz_tree.specs.Statement.{IsStatementOf, class_of, is_rule, rule_call};
+ghost use Rattle.bz_tree.specs.Statement.{IsStatementOf, class_of, first_seen, is_rule, rule_call};
 ghost use Rattle.bz_tree.specs.Tree.{Statement, items_of};
 ghost use Rattle.bz_layout.specs.Layout.{layout_text};
 ghost use Rattle.bz_layout_laws.specs.Legible.{IsLegible, begins_block, depth_of};
 ghost use Rattle.bz_layout_laws.specs.Parsed.{HaveKinds, IsParsed, plain_calls};
 ghost use Rattle.bz_layout_laws.specs.Spelled.{spelled_statement};
+ghost use Rattle.bz_layout_laws.specs.TextsOfKinds.{HasTexts};
 ghost use Rattle.bz_layout_laws.specs.Unplaced.{unplaced};
 
 /// The text of a legible statement whose kinds are those that parsing gives is read back: its tokens have a tree, and
@@ -50,4 +51,13 @@ pub fn what_is_read_has_its_kinds()
         → HaveKinds true Other (items_of (plain_calls t.nodes))
         × (t.nodes ≡ (if is_rule (plain_calls t.nodes) then rule_call (plain_calls t.nodes) else plain_calls t.nodes))
         × (t.class ≡ class_of t.nodes) }
+{}
+
+/// So what is read of a chunk that is not blank is parsed, as `a_statement_is_parsed_again` asks of it. Its tokens and
+/// comments are texts of their kinds, and no segment is empty.
+pub fn what_is_read_can_be_written()
+    ensures parsed { (tokens : List Placed) (t : Statement) → IsStatementOf tokens t → IsSome (first_seen tokens)
+        → IsParsed t }
+    ensures texts { (first depth : ℕ) (bytes : List ℕ) (tokens : List Placed) (t : Statement)
+        → AreTokensOf first depth bytes tokens → IsStatementOf tokens t → HasTexts t }
 {}
