@@ -31,5 +31,6 @@ pub mod ParsedRead
 pub mod LinesRead
 pub mod EachRead
 pub mod TextsRead
+pub mod DepthRead
 mod Examples
 mod ParsedExamples

@@ -28,16 +28,16 @@ use Rattle.bz_layout_laws.specs.TextsOfKinds.{HasText, HaveTexts, SegsHaveTexts,
 use Rattle.bz_layout_laws.proofs.EachRead.{Each, EachNode, EachSegment, inside_each, comments_join}
 use Rattle.bz_layout_laws.proofs.SameTests.{rule_nodes}
 
-abbrev is_token_text : Placed → Bool
+abbrev pub is_token_text : Placed → Bool
 is_token_text t = is_text t.kind t.text
 
 -- tokens of their kinds, along brackets
 abbrev mutual
-  ElemTexts : Elem → Type 0
+  pub ElemTexts : Elem → Type 0
   ElemTexts (single t) = is_token_text t ≡ true
   ElemTexts (bracket shape opening inner closing) = ElemsTexts inner
 
-  ElemsTexts : Elems → Type 0
+  pub ElemsTexts : Elems → Type 0
   ElemsTexts no_elems = Unit {0}
   ElemsTexts (elem x xs) = ElemTexts x × ElemsTexts xs
 
@@ -54,13 +54,13 @@ mutual
   elem_texts (bracket shape opening inner closing) h =
       elems_texts inner (all_parts (elems_tokens inner) (closing ∷ []) (and_parts (is_token_text opening) (list_all is_token_text (elems_tokens inner ++ closing ∷ [])) h).1).0
 
-  elems_texts : (xs : Elems) → list_all is_token_text (elems_tokens xs) ≡ true → ElemsTexts xs
+  pub elems_texts : (xs : Elems) → list_all is_token_text (elems_tokens xs) ≡ true → ElemsTexts xs
   elems_texts no_elems h = tt
   elems_texts (elem x xs) h =
       let p = all_parts (elem_tokens x) (elems_tokens xs) h in
       (elem_texts x p.0, elems_texts xs p.1)
 
-unlined_texts : (ts : List Placed) → list_all is_token_text ts ≡ true → list_all is_token_text (without_lines ts) ≡ true
+pub unlined_texts : (ts : List Placed) → list_all is_token_text ts ≡ true → list_all is_token_text (without_lines ts) ≡ true
 unlined_texts [] h = refl
 unlined_texts (t ∷ ts) h = by (is_line (mark_of t)) (and_parts (is_token_text t) (list_all is_token_text ts) h).0 (unlined_texts ts (and_parts (is_token_text t) (list_all is_token_text ts) h).1)
   where
@@ -69,11 +69,11 @@ unlined_texts (t ∷ ts) h = by (is_line (mark_of t)) (and_parts (is_token_text 
     by false one rest = both (is_token_text t) (list_all is_token_text (without_lines ts)) one rest
 
 -- only comments have the mark of one
-abbrev is_comment_mark : Mark → Bool
+abbrev pub is_comment_mark : Mark → Bool
 is_comment_mark Comment = true
 is_comment_mark _ = false
 
-sign_comment : (text : List ℕ) → is_comment_mark (sign_mark text) ≡ false
+pub sign_comment : (text : List ℕ) → is_comment_mark (sign_mark text) ≡ false
 sign_comment text = by (bytes_eq text (codes "(")) (bytes_eq text (codes "[")) (bytes_eq text (codes "{")) (bytes_eq text (codes ")")) (bytes_eq text (codes "]")) (bytes_eq text (codes "}")) (bytes_eq text (codes ","))
   where
     by : (a b c d e f g : Bool) → is_comment_mark (if a then Open Round else (if b then Open Square else (if c then Open Curly else (if d then Close Round else (if e then Close Square else (if f then Close Curly else (if g then Comma else Plain))))))) ≡ false
@@ -86,7 +86,7 @@ sign_comment text = by (bytes_eq text (codes "(")) (bytes_eq text (codes "[")) (
     by false false false false false false true = refl
     by false false false false false false false = refl
 
-note_text : (kind : Kind) (text : List ℕ) → kind_mark kind text ≡ Comment → is_text kind text ≡ true → is_comment text ≡ true
+pub note_text : (kind : Kind) (text : List ℕ) → kind_mark kind text ≡ Comment → is_text kind text ≡ true → is_comment text ≡ true
 note_text Note text e is = is
 note_text Sign text e is = absurd (false≢true (sym (sign_comment text) ∙ ap is_comment_mark e))
 note_text Line text e is = absurd (false≢true (ap is_comment_mark e))

@@ -54,10 +54,13 @@ pub fn what_is_read_has_its_kinds()
 {}
 
 /// So what is read of a chunk that is not blank is parsed, as `a_statement_is_parsed_again` asks of it. Its tokens and
-/// comments are texts of their kinds, and no segment is empty.
+/// comments are texts of their kinds, no segment is empty, and its brackets are no deeper than the depth at which it is
+/// read.
 pub fn what_is_read_can_be_written()
     ensures parsed { (tokens : List Placed) (t : Statement) → IsStatementOf tokens t → IsSome (first_seen tokens)
         → IsParsed t }
     ensures texts { (first depth : ℕ) (bytes : List ℕ) (tokens : List Placed) (t : Statement)
         → AreTokensOf first depth bytes tokens → IsStatementOf tokens t → HasTexts t }
+    ensures depth { (first depth : ℕ) (bytes : List ℕ) (tokens : List Placed) (t : Statement)
+        → AreTokensOf first depth bytes tokens → IsStatementOf tokens t → depth_of t ≤ depth }
 {}
