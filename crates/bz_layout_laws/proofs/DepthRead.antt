@@ -1,5 +1,5 @@
 -- What is read is no deeper than its brackets, of which the depth lets no more be open.
-use Rattle.std.proofs.Common.{◌≡◌, ℕ, zero, suc, ◌+◌, ◌≤◌, ◌==◌, ◌&&◌, List, [], ◌∷◌, ◌++◌, length, Bool, true, false, not, refl, sym, ap, subst, ◌∙◌, append_assoc, append-nil, arith}
+use Rattle.std.proofs.Common.{◌≡◌, ℕ, suc, ◌+◌, ◌≤◌, ◌&&◌, List, [], ◌∷◌, ◌++◌, length, Bool, true, false, not, refl, sym, ap, subst, ◌∙◌, append_assoc, append-nil, arith}
 use Rattle.std.specs.Prelude.{codes, max, nat_lt, if◌then◌else◌}
 use Rattle.std.specs.Str.{bytes_eq}
 use Rattle.std.specs.List.{list_all}
@@ -9,7 +9,7 @@ use Rattle.std.proofs.lemmas.Bool.Decides.{nat_tests}
 use Rattle.std.proofs.lemmas.Slice.Eq.{bytes_eq-Decides}
 use Rattle.bz_token.specs.declared.token.Kind.{Kind}
 use Rattle.bz_token.specs.declared.token.Kind.TheVariants.{Ident, Word, Int, Text, Sign, Line, Note, Kept}
-use Rattle.bz_token.specs.Brackets.{is_inside, is_line as is_line_kind, is_opening_bracket, is_closing_bracket, bracket_fits, fits, open_after_byte, open_after_token}
+use Rattle.bz_token.specs.Brackets.{is_inside, is_line as is_line_kind, is_opening_bracket, is_closing_bracket, bracket_fits, fits, open_after_token}
 use Rattle.bz_token.specs.Lexical.{is_text}
 use Rattle.bz_token.specs.Places.{Placed, line_at}
 use Rattle.bz_token.specs.Reading.{Piece, IsReading, tokens_of, AreTokensOf}
@@ -18,9 +18,8 @@ use Rattle.bz_tree.specs.declared.kinds.Mark.{Mark}
 use Rattle.bz_tree.specs.declared.kinds.Mark.TheVariants.{Open, Close, Comma, Comment, NewLine, Plain}
 use Rattle.bz_tree.specs.declared.kinds.Preceding.{Preceding}
 use Rattle.bz_tree.specs.declared.kinds.Preceding.TheVariants.{Other}
-use Rattle.bz_tree.specs.declared.kinds.Shape.{Shape}
 use Rattle.bz_tree.specs.declared.kinds.Shape.TheVariants.{Round, Square, Curly}
-use Rattle.bz_tree.specs.Brackets.{Elem, single, bracket, Elems, no_elems, elem, elem_tokens, elems_tokens, own_items, own_of, preceding, elem_own, elems_own, has_for, is_single, is_line, without_lines, AreWell, end_line}
+use Rattle.bz_tree.specs.Brackets.{Elem, single, bracket, Elems, no_elems, elem, elems_tokens, own_items, own_of, preceding, elem_own, elems_own, has_for, is_single, is_line, without_lines, AreWell, end_line}
 use Rattle.bz_tree.specs.Kinds.{mark_of, kind_mark, sign_mark, group_kind, is_one}
 use Rattle.bz_tree.specs.Owners.{Own, Last, no_token, end_of_node, end_of_comma, entries_of, inside}
 use Rattle.bz_tree.specs.Statement.{is_rule, rule_call, one_segment, IsStatementOf}
@@ -29,7 +28,7 @@ use Rattle.bz_layout_laws.specs.Legible.{is_leaf_mark, item_depth, items_depth, 
 use Rattle.bz_layout_laws.proofs.EachRead.{Each, EachNode, EachSegment, inside_each}
 use Rattle.bz_layout_laws.proofs.NoBrackets.{is_free, free_open, other_free, sign_free}
 use Rattle.bz_layout_laws.proofs.SameTests.{rule_nodes}
-use Rattle.bz_layout_laws.proofs.TextsRead.{is_token_text, ElemTexts, ElemsTexts, elems_texts, unlined_texts, note_text}
+use Rattle.bz_layout_laws.proofs.TextsRead.{is_token_text, ElemsTexts, elems_texts, unlined_texts, note_text}
 
 left_of : (a b n : ℕ) → max a b ≤ n → a ≤ n
 left_of a b n h = omega (arith, h, le-max_left a b)
@@ -58,6 +57,7 @@ sign_other text = by (bytes_eq text (codes "(")) (bytes_eq text (codes "[")) (by
   where
     mark : Bool → Bool → Bool → Bool → Bool → Bool → Bool → Mark
     mark a b c d e f g = if a then Open Round else (if b then Open Square else (if c then Open Curly else (if d then Close Round else (if e then Close Square else (if f then Close Curly else (if g then Comma else Plain))))))
+
     by : (a b c d e f g : Bool) → is_other_mark (mark a b c d e f g) ≡ is_leaf_mark (mark a b c d e f g)
     by true b c d e f g = refl
     by false true c d e f g = refl
@@ -219,7 +219,7 @@ room_along depth opened b (elem (bracket shape opening inner closing) xs) rest h
     let o = kind_opens opening.kind opening.text (ap is_open_mark h.0.0) in
     let c = kind_closes closing.kind closing.text (ap is_close_mark h.0.1) in
     let in_it = room_along depth (o.0 ∷ opened) Other inner (closing ∷ (elems_tokens xs ++ rest)) h.0.2 texts.0 (open_room depth opened opening.kind opening.text o fit.0)
-        (subst (λ ts. FitTokens depth (o.0 ∷ opened) ts) (bracket_first (elems_tokens inner) (elems_tokens xs) rest closing) (subst (λ os. FitTokens depth os (((elems_tokens inner ++ closing ∷ []) ++ elems_tokens xs) ++ rest)) (open_more opened opening.text o) fit.1)) in
+    (subst (λ ts. FitTokens depth (o.0 ∷ opened) ts) (bracket_first (elems_tokens inner) (elems_tokens xs) rest closing) (subst (λ os. FitTokens depth os (((elems_tokens inner ++ closing ∷ []) ++ elems_tokens xs) ++ rest)) (open_more opened opening.text o) fit.1)) in
     let more = room_along depth opened (preceding b (elem_own b (bracket shape opening inner closing))) xs rest h.1 texts.1 room (subst (λ os. FitTokens depth os (elems_tokens xs ++ rest)) (close_less o.0 opened closing.text c) in_it.1.1) in
     (room_both (length opened) (suc (elems_depth inner)) (elems_depth xs) depth (room_more (length opened) (elems_depth inner) depth in_it.0) more.0, more.1)
 

@@ -32,5 +32,6 @@ pub mod LinesRead
 pub mod EachRead
 pub mod TextsRead
 pub mod DepthRead
+pub mod LegibleRead
 mod Examples
 mod ParsedExamples

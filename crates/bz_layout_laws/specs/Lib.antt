@@ -6,3 +6,4 @@ pub mod Spelled
 pub mod Inside
 pub mod Parsed
 pub mod TextsOfKinds
+pub mod Following

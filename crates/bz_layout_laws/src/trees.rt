@@ -4,11 +4,12 @@ ghost use Rattle.std.specs.Prelude.{◌≡◌, ◌≤◌, ℕ, List, true, false
 ghost use Rattle.bz_token.specs.Places.{Placed};
 ghost use Rattle.bz_token.specs.Reading.{AreTokensOf};
 ghost use Rattle.bz_tree.specs.declared.kinds.Preceding.TheVariants.{Other};
-ghost use Rattle.bz_tree.specs.Chunk.{IsStatementIn};
+ghost use Rattle.bz_tree.specs.Chunk.{IsPlain, IsStatementIn};
 ghost use Rattle.bz_tree.specs.Grammar.{IsStatement};
 ghost use Rattle.bz_tree.specs.Statement.{IsStatementOf, class_of, first_seen, is_rule, rule_call};
 ghost use Rattle.bz_tree.specs.Tree.{Statement, items_of};
 ghost use Rattle.bz_layout.specs.Layout.{layout_text};
+ghost use Rattle.bz_layout_laws.specs.Following.{NodesMayFollow};
 ghost use Rattle.bz_layout_laws.specs.Legible.{IsLegible, begins_block, depth_of};
 ghost use Rattle.bz_layout_laws.specs.Parsed.{HaveKinds, IsParsed, plain_calls};
 ghost use Rattle.bz_layout_laws.specs.Spelled.{spelled_statement};
@@ -63,4 +64,19 @@ pub fn what_is_read_can_be_written()
         → AreTokensOf first depth bytes tokens → IsStatementOf tokens t → HasTexts t }
     ensures depth { (first depth : ℕ) (bytes : List ℕ) (tokens : List Placed) (t : Statement)
         → AreTokensOf first depth bytes tokens → IsStatementOf tokens t → depth_of t ≤ depth }
+{}
+
+/// A statement that was parsed and is no block is parsed again from its text, as it is and as nothing else, where no
+/// node after `.`, a prefix, a star or an index's colon makes one sign with it.
+pub fn what_was_parsed_is_parsed_again()
+    ensures some { (first second depth : ℕ) (bytes : List ℕ) (tokens : List Placed) (s : Statement)
+        → AreTokensOf first depth bytes tokens → IsSome (first_seen tokens) → IsPlain tokens s
+        → begins_block (items_of s.nodes) ≡ false → NodesMayFollow s
+        → (t : Statement) × IsStatementIn second depth (layout_text s) t
+        × (unplaced t ≡ unplaced (spelled_statement s)) }
+    ensures only { (first second depth : ℕ) (bytes : List ℕ) (tokens : List Placed) (s t : Statement)
+        → AreTokensOf first depth bytes tokens → IsSome (first_seen tokens) → IsPlain tokens s
+        → begins_block (items_of s.nodes) ≡ false → NodesMayFollow s
+        → IsStatementIn second depth (layout_text s) t
+        → (unplaced t ≡ unplaced (spelled_statement s)) × (layout_text t ≡ layout_text s) }
 {}
