@@ -66,8 +66,9 @@ pub fn what_is_read_can_be_written()
         → AreTokensOf first depth bytes tokens → IsStatementOf tokens t → depth_of t ≤ depth }
 {}
 
-/// A statement that was parsed and is no block is parsed again from its text, as it is and as nothing else, where no
-/// node after `.`, a prefix, a star or an index's colon makes one sign with it.
+/// A statement that was parsed and is no block is parsed again from its text, as it is and as nothing else, where its
+/// first node is no word that begins a block, and no node after `.`, a prefix, a star or an index's colon makes one
+/// sign with it.
 pub fn what_was_parsed_is_parsed_again()
     ensures some { (first second depth : ℕ) (bytes : List ℕ) (tokens : List Placed) (s : Statement)
         → AreTokensOf first depth bytes tokens → IsSome (first_seen tokens) → IsPlain tokens s
