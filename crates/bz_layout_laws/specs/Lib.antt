@@ -7,3 +7,4 @@ pub mod Inside
 pub mod Parsed
 pub mod TextsOfKinds
 pub mod Following
+pub mod WellFormed

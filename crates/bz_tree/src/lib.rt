@@ -18,4 +18,5 @@ mod stmt;
 
 pub use chunk::parse;
 pub use fault::ParseFault;
+pub use role::Role;
 pub use stmt::{Class, Group, GroupKind, Leaf, Node, Seg, Stmt};

@@ -9,7 +9,7 @@ use bz_token::Kind;
 
 /// What a node is to the grammar.
 #[derive(Clone, Copy)]
-pub(crate) enum Role {
+pub enum Role {
     /// An identifier.
     Name,
     Number,
