@@ -33,5 +33,6 @@ pub mod EachRead
 pub mod TextsRead
 pub mod DepthRead
 pub mod LegibleRead
+pub mod NoBlock
 mod Examples
 mod ParsedExamples
