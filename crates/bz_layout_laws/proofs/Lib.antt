@@ -34,5 +34,8 @@ pub mod TextsRead
 pub mod DepthRead
 pub mod LegibleRead
 pub mod NoBlock
+pub mod Roles
+pub mod Neighbours
+pub mod GrammarFollows
 mod Examples
 mod ParsedExamples

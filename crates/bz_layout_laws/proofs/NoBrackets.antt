@@ -40,11 +40,11 @@ free_open opened (b ∷ []) free =
     rw (opens, closes) refl
 free_open opened (b ∷ c ∷ bs) free = refl
 
-abbrev is_sign_kind : Kind → Bool
+abbrev pub is_sign_kind : Kind → Bool
 is_sign_kind Sign = true
 is_sign_kind _ = false
 
-mark_starts : (kind : Kind) → is_sign_kind kind ≡ false → can_start kind mark ≡ true → ⊥
+pub mark_starts : (kind : Kind) → is_sign_kind kind ≡ false → can_start kind mark ≡ true → ⊥
 mark_starts Sign none h = false≢true (sym none)
 mark_starts Ident none h = false≢true h
 mark_starts Word none h = false≢true h
