@@ -37,5 +37,6 @@ pub mod NoBlock
 pub mod Roles
 pub mod Neighbours
 pub mod GrammarFollows
+pub mod WellFormed
 mod Examples
 mod ParsedExamples

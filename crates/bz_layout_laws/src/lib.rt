@@ -7,3 +7,4 @@ pub mod places;
 pub mod spelling;
 pub mod tokens;
 pub mod trees;
+pub mod well_formed;

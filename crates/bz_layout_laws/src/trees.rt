@@ -9,12 +9,12 @@ ghost use Rattle.bz_tree.specs.Grammar.{IsStatement};
 ghost use Rattle.bz_tree.specs.Statement.{IsStatementOf, class_of, first_seen, is_rule, rule_call};
 ghost use Rattle.bz_tree.specs.Tree.{Statement, items_of};
 ghost use Rattle.bz_layout.specs.Layout.{layout_text};
-ghost use Rattle.bz_layout_laws.specs.Following.{NodesMayFollow};
-ghost use Rattle.bz_layout_laws.specs.Legible.{IsLegible, begins_block, depth_of};
+ghost use Rattle.bz_layout_laws.specs.Legible.{IsLegible, depth_of};
 ghost use Rattle.bz_layout_laws.specs.Parsed.{HaveKinds, IsParsed, plain_calls};
 ghost use Rattle.bz_layout_laws.specs.Spelled.{spelled_statement};
 ghost use Rattle.bz_layout_laws.specs.TextsOfKinds.{HasTexts};
 ghost use Rattle.bz_layout_laws.specs.Unplaced.{unplaced};
+ghost use Rattle.bz_layout_laws.specs.WellFormed.{IsWellFormed};
 
 /// The text of a legible statement whose kinds are those that parsing gives is read back: its tokens have a tree, and
 /// that is the tree of the statement with its strings as they are spelled, wherever its tokens stand. They have no
@@ -34,15 +34,14 @@ pub fn the_grammar_stays()
         → IsStatement (items_of t.nodes) }
 {}
 
-/// So the text of such a statement of the grammar that begins no block is a chunk that `bz_tree::parse` reads as the
-/// statement, with its strings as they are spelled and wherever its tokens stand, and as nothing else.
+/// So the text of a well-formed statement is a chunk that `bz_tree::parse` reads as the statement, with its strings as
+/// they are spelled and wherever its tokens stand, and as nothing else.
 pub fn a_statement_is_parsed_again()
-    ensures some { (first depth : ℕ) (s : Statement) → IsLegible s → IsParsed s → depth_of s ≤ depth
-        → begins_block (items_of s.nodes) ≡ false → IsStatement (items_of s.nodes)
+    ensures some { (first depth : ℕ) (s : Statement) → IsWellFormed depth s
         → (t : Statement) × IsStatementIn first depth (layout_text s) t
         × (unplaced t ≡ unplaced (spelled_statement s)) }
-    ensures only { (first depth : ℕ) (s t : Statement) → IsLegible s → IsParsed s → depth_of s ≤ depth
-        → begins_block (items_of s.nodes) ≡ false → IsStatementIn first depth (layout_text s) t
+    ensures only { (first depth : ℕ) (s t : Statement) → IsWellFormed depth s
+        → IsStatementIn first depth (layout_text s) t
         → (unplaced t ≡ unplaced (spelled_statement s)) × (layout_text t ≡ layout_text s) }
 {}
 
@@ -54,9 +53,8 @@ pub fn what_is_read_has_its_kinds()
         × (t.class ≡ class_of t.nodes) }
 {}
 
-/// So what is read of a chunk that is not blank is parsed, as `a_statement_is_parsed_again` asks of it. Its tokens and
-/// comments are texts of their kinds, no segment is empty, and its brackets are no deeper than the depth at which it is
-/// read.
+/// So what is read of a chunk that is not blank is parsed, as `IsWellFormed` asks of it. Its tokens and comments are
+/// texts of their kinds, no segment is empty, and its brackets are no deeper than the depth at which it is read.
 pub fn what_is_read_can_be_written()
     ensures parsed { (tokens : List Placed) (t : Statement) → IsStatementOf tokens t → IsSome (first_seen tokens)
         → IsParsed t }
@@ -66,18 +64,14 @@ pub fn what_is_read_can_be_written()
         → AreTokensOf first depth bytes tokens → IsStatementOf tokens t → depth_of t ≤ depth }
 {}
 
-/// A statement that was parsed and is no block is parsed again from its text, as it is and as nothing else, where its
-/// first node is no word that begins a block, and no node after `.`, a prefix, a star or an index's colon makes one
-/// sign with it.
+/// A statement that was parsed and is no block is parsed again from its text, as it is and as nothing else.
 pub fn what_was_parsed_is_parsed_again()
     ensures some { (first second depth : ℕ) (bytes : List ℕ) (tokens : List Placed) (s : Statement)
         → AreTokensOf first depth bytes tokens → IsSome (first_seen tokens) → IsPlain tokens s
-        → begins_block (items_of s.nodes) ≡ false → NodesMayFollow s
         → (t : Statement) × IsStatementIn second depth (layout_text s) t
         × (unplaced t ≡ unplaced (spelled_statement s)) }
     ensures only { (first second depth : ℕ) (bytes : List ℕ) (tokens : List Placed) (s t : Statement)
         → AreTokensOf first depth bytes tokens → IsSome (first_seen tokens) → IsPlain tokens s
-        → begins_block (items_of s.nodes) ≡ false → NodesMayFollow s
         → IsStatementIn second depth (layout_text s) t
         → (unplaced t ≡ unplaced (spelled_statement s)) × (layout_text t ≡ layout_text s) }
 {}

@@ -1,0 +1,28 @@
+//! Laws on well-formed statements: what is parsed is well-formed, and stays so where it is read again.
+
+ghost use Rattle.std.specs.Prelude.{◌≡◌, ℕ, List, false, IsSome};
+ghost use Rattle.bz_token.specs.Places.{Placed};
+ghost use Rattle.bz_token.specs.Reading.{AreTokensOf};
+ghost use Rattle.bz_tree.specs.declared.stmt.Class.TheVariants.{Block};
+ghost use Rattle.bz_tree.specs.Chunk.{IsPlain, IsStatementIn};
+ghost use Rattle.bz_tree.specs.Statement.{first_seen};
+ghost use Rattle.bz_tree.specs.Tree.{Statement, items_of};
+ghost use Rattle.bz_layout_laws.specs.Legible.{IsLegible, begins_block};
+ghost use Rattle.bz_layout_laws.specs.WellFormed.{IsWellFormed};
+
+/// By the grammar, no word that begins a block stands first in a well-formed statement, and no node makes one sign with
+/// the `.`, prefix, star or index's colon that it stands after. So the statement is legible: what is said of legible
+/// statements holds of it.
+pub fn what_is_well_formed_is_legible()
+    ensures legible { (depth : ℕ) (s : Statement) → IsWellFormed depth s → IsLegible s }
+    ensures block { (depth : ℕ) (s : Statement) → IsWellFormed depth s → begins_block (items_of s.nodes) ≡ false }
+{}
+
+/// What is parsed and is no block is well-formed.
+pub fn what_is_parsed_is_well_formed()
+    ensures tokens { (first depth : ℕ) (bytes : List ℕ) (tokens : List Placed) (s : Statement)
+        → AreTokensOf first depth bytes tokens → IsSome (first_seen tokens) → IsPlain tokens s
+        → IsWellFormed depth s }
+    ensures chunk { (first depth : ℕ) (bytes : List ℕ) (s : Statement) → IsStatementIn first depth bytes s
+        → (s.class ≡ Block → ⊥) → IsWellFormed depth s }
+{}
