@@ -12,6 +12,7 @@ pub mod TokensBack
 pub mod NoLines
 pub mod WholeChunk
 pub mod CommentChunk
+pub mod FileChunks
 pub mod Written
 pub mod WrittenLine
 pub mod Taken

@@ -1,5 +1,8 @@
 pub mod Unplaced
 pub mod Lexemes
+pub mod FileText
+pub mod FileRead
+pub mod ReadBack
 pub mod ReadPieces
 pub mod Legible
 pub mod Spelled

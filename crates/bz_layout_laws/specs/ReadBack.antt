@@ -1,0 +1,23 @@
+-- Statements whose text is read back wherever it stands in a file.
+use Rattle.std.specs.Prelude.{◌≡◌, ℕ, List, [], ◌∷◌, ◌++◌, Bool, true, false}
+use Rattle.bz_token.specs.declared.cutter.block.Opener.TheVariants.{If}
+use Rattle.bz_token.specs.Blocks.{goes_on}
+use Rattle.bz_token.specs.Chunks.{chunks}
+use Rattle.bz_token.specs.Cuts.{IsChunk}
+use Rattle.bz_tree.specs.Chunk.{IsStatementIn}
+use Rattle.bz_tree.specs.Tree.{Statement}
+use Rattle.bz_layout.specs.Layout.{layout_text}
+use Rattle.bz_layout_laws.specs.FileText.{gap_text, takes_line}
+use Rattle.bz_layout_laws.specs.Spelled.{spelled_statement}
+use Rattle.bz_layout_laws.specs.Unplaced.{unplaced}
+
+-- No block goes on with the text. It is a chunk where the file ends; with an empty line after it, if comment lines or a block,
+-- unless a block goes on with what follows; else whatever follows. And it is read as the statement.
+pub record IsReadBack (depth : ℕ) (s : Statement) : Type 0 where
+  pub begins : (rest : List ℕ) → goes_on If (layout_text s ++ rest) ≡ false
+  pub ends : chunks (layout_text s) ≡ layout_text s ∷ []
+  pub alone : takes_line s.class ≡ false → IsChunk (layout_text s)
+  pub gap : takes_line s.class ≡ true → (rest : List ℕ) → goes_on If rest ≡ false
+      → chunks (layout_text s ++ (10 ∷ rest)) ≡ (layout_text s ++ 10 ∷ []) ∷ chunks rest
+  pub read : (first : ℕ) (blank : Bool) → (blank ≡ true → takes_line s.class ≡ true)
+      → (t : Statement) × IsStatementIn first depth (layout_text s ++ gap_text blank) t × (unplaced t ≡ unplaced (spelled_statement s))
