@@ -10,6 +10,7 @@ use Rattle.bz_token.specs.Blocks.{goes_on}
 use Rattle.bz_token.specs.Chunks.{chunks}
 use Rattle.bz_token.specs.Cuts.{IsChunk}
 use Rattle.bz_token.specs.FreshStart.{AreLinesOf}
+use Rattle.bz_token.specs.Places.{Placed}
 use Rattle.bz_token.specs.Reading.{Piece, tokens_of}
 use Rattle.bz_token_laws.specs.TokenLines.{line_of}
 use Rattle.bz_token_laws.proofs.ChunkForms.{statement_chunk}
@@ -26,11 +27,15 @@ use Rattle.bz_layout_laws.specs.ReadBack.{IsReadBack}
 abbrev newlines : List Piece
 newlines = record { gap = []; kind = Line; text = codes "\n" } ∷ []
 
-pub blank_lines : (first depth : ℕ) → AreLinesOf first depth (10 ∷ []) (tokens_of first [] [] newlines)
+-- its tokens
+abbrev pub blank_tokens : ℕ → List Placed
+blank_tokens first = tokens_of first [] [] newlines
+
+pub blank_lines : (first depth : ℕ) → AreLinesOf first depth (10 ∷ []) (blank_tokens first)
 blank_lines first depth = laid_lines first depth newlines refl refl refl refl refl
 
 pub blank_chunk : IsChunk (10 ∷ [])
-blank_chunk = statement_chunk 1 0 (10 ∷ []) (tokens_of 1 [] [] newlines) [] (line_of newlines []) (blank_lines 1 0) refl refl refl
+blank_chunk = statement_chunk 1 0 (10 ∷ []) (blank_tokens 1) [] (line_of newlines []) (blank_lines 1 0) refl refl refl
 
 -- comment lines and blocks have an empty line after them, if anything follows
 gap_taken : (class after : Class) → takes_line class ≡ true → gap_between class after ≡ true

@@ -13,6 +13,7 @@ pub mod NoLines
 pub mod WholeChunk
 pub mod CommentChunk
 pub mod FileChunks
+pub mod FileReads
 pub mod Written
 pub mod WrittenLine
 pub mod Taken

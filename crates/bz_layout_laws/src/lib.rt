@@ -3,6 +3,7 @@
 
 pub mod brackets;
 pub mod chunks;
+pub mod files;
 pub mod places;
 pub mod spelling;
 pub mod tokens;

@@ -1,0 +1,26 @@
+//! Law on files: what is written of a list of statements is cut and read as that list.
+
+ghost use Rattle.std.specs.Prelude.{◌≡◌, ℕ, List, map, None};
+ghost use Rattle.std.specs.List.{AllByRecursion};
+ghost use Rattle.bz_token.specs.Chunks.{chunks};
+ghost use Rattle.bz_tree.specs.Tree.{Statement};
+ghost use Rattle.bz_layout_laws.specs.FileRead.{AreStatementsIn};
+ghost use Rattle.bz_layout_laws.specs.FileText.{text_from, chunks_from};
+ghost use Rattle.bz_layout_laws.specs.ReadBack.{IsReadBack};
+ghost use Rattle.bz_layout_laws.specs.Spelled.{spelled_statement};
+ghost use Rattle.bz_layout_laws.specs.Unplaced.{unplaced};
+
+/// The text of statements, each of which is read back, one after another with an empty line between some, has the
+/// chunks of the statements and no others. These are read as the statements, with their strings as they are spelled
+/// and wherever their tokens stand, and as no others; and those are written as the same text.
+pub fn a_file_is_read_again()
+    ensures chunks { (depth : ℕ) (ss : List Statement) → AllByRecursion (IsReadBack depth) ss
+        → chunks (text_from None ss) ≡ chunks_from ss }
+    ensures some { (first depth : ℕ) (ss : List Statement) → AllByRecursion (IsReadBack depth) ss
+        → (ts : List Statement) × AreStatementsIn first depth (chunks (text_from None ss)) ts
+        × (map unplaced ts ≡ map (λ s. unplaced (spelled_statement s)) ss) }
+    ensures only { (first depth : ℕ) (ss ts : List Statement) → AllByRecursion (IsReadBack depth) ss
+        → AreStatementsIn first depth (chunks (text_from None ss)) ts
+        → (map unplaced ts ≡ map (λ s. unplaced (spelled_statement s)) ss)
+        × (text_from None ts ≡ text_from None ss) }
+{}
