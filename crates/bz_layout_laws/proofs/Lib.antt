@@ -14,6 +14,8 @@ pub mod WholeChunk
 pub mod CommentChunk
 pub mod FileChunks
 pub mod FileReads
+pub mod BranchWords
+pub mod FirstByte
 pub mod Written
 pub mod WrittenLine
 pub mod Taken
