@@ -16,6 +16,7 @@ pub mod FileChunks
 pub mod FileReads
 pub mod BranchWords
 pub mod FirstByte
+pub mod NoBranch
 pub mod Written
 pub mod WrittenLine
 pub mod Taken

@@ -26,16 +26,16 @@ leads Tilde = true
 leads Sum = true
 leads _ = false
 
-abbrev opens : Item → Bool
+abbrev pub opens : Item → Bool
 opens (leaf kind text place) = leads (leaf_role kind text)
 opens (group kind segs one_comma end) = true
 
-abbrev begins_operand : Items → Bool
+abbrev pub begins_operand : Items → Bool
 begins_operand no_items = false
 begins_operand (item x xs) = opens x
 
 -- such a token is none of the words that begin a block
-abbrev is_leading : Kind → List ℕ → Bool
+abbrev pub is_leading : Kind → List ℕ → Bool
 is_leading kind text = is_text kind text && leads (leaf_role kind text)
 
 none_leads : (kind : Kind) → (is_leading kind (codes "def") || is_leading kind (codes "for") || is_leading kind (codes "if")) ≡ false
@@ -55,11 +55,11 @@ none_of_three false true c h = absurd (false≢true (sym h))
 none_of_three false false true h = absurd (false≢true (sym h))
 none_of_three false false false h = (refl, refl, refl)
 
-both : (a b : Bool) → a ≡ true → b ≡ true → (a && b) ≡ true
+pub both : (a b : Bool) → a ≡ true → b ≡ true → (a && b) ≡ true
 both true b g h = h
 both false b g h = absurd (false≢true g)
 
-other_text : (kind : Kind) (text word : List ℕ) → is_leading kind word ≡ false → is_leading kind text ≡ true → bytes_eq text word ≡ false
+pub other_text : (kind : Kind) (text word : List ℕ) → is_leading kind word ≡ false → is_leading kind text ≡ true → bytes_eq text word ≡ false
 other_text kind text word none is = elim (cases_Bool (bytes_eq text word)) [
   | inr miss ↦ miss
   | inl hit ↦ absurd (false≢true (sym none ∙ ap (is_leading kind) (sym (same_bytes text word hit)) ∙ is))
@@ -109,7 +109,7 @@ term_begins : {xs : Items} → IsTerm xs → begins_operand xs ≡ true
 term_begins (primary p) = primary_begins p
 term_begins (unary {p} is t) = role_opens p (prefix_leads (token_role p) is)
 
-join_begins : (a b : Items) → begins_operand a ≡ true → begins_operand (join a b) ≡ true
+pub join_begins : (a b : Items) → begins_operand a ≡ true → begins_operand (join a b) ≡ true
 join_begins no_items b h = absurd (false≢true h)
 join_begins (item x xs) b h = h
 
@@ -121,7 +121,7 @@ test_begins : {xs : Items} → IsTest xs → begins_operand xs ≡ true
 test_begins (plain t) = chain_begins t
 test_begins (conditional {xs} {a} {b} {c} i e is first ri second re third) = ap begins_operand is ∙ join_begins a _ (chain_begins first)
 
-expr_begins : {xs : Items} → IsExpr xs → begins_operand xs ≡ true
+pub expr_begins : {xs : Items} → IsExpr xs → begins_operand xs ≡ true
 expr_begins (last_test t) = test_begins t
 expr_begins (test {xs} {a} {b} c is t rc more) = ap begins_operand is ∙ join_begins a (item c b) (test_begins t)
 
