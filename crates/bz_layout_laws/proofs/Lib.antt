@@ -17,6 +17,7 @@ pub mod FileReads
 pub mod BranchWords
 pub mod FirstByte
 pub mod NoBranch
+pub mod CommentRead
 pub mod Written
 pub mod WrittenLine
 pub mod Taken

@@ -49,11 +49,11 @@ record Upright (tokens : List Placed) : Type 0 where
   some : IsSome (first_seen tokens)
 
 -- comment lines alone
-notes_bare : (first : ℕ) (texts : List (List ℕ)) (before lines : List ℕ) → bare_tokens (tokens_of first before lines (read_pieces (comment_lines texts ++ []))) ≡ []
+pub notes_bare : (first : ℕ) (texts : List (List ℕ)) (before lines : List ℕ) → bare_tokens (tokens_of first before lines (read_pieces (comment_lines texts ++ []))) ≡ []
 notes_bare first [] before lines = refl
 notes_bare first (text ∷ texts) before lines = notes_bare first texts _ _
 
-notes_seen : (first : ℕ) (texts : List (List ℕ)) (rest : List Piece) → has_some texts ≡ true → IsSome (first_seen (tokens_of first [] [] (read_pieces (comment_lines texts ++ rest))))
+pub notes_seen : (first : ℕ) (texts : List (List ℕ)) (rest : List Piece) → has_some texts ≡ true → IsSome (first_seen (tokens_of first [] [] (read_pieces (comment_lines texts ++ rest))))
 notes_seen first [] rest h = absurd (false≢true h)
 notes_seen first (text ∷ texts) rest h = refl
 
