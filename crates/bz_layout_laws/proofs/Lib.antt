@@ -18,6 +18,7 @@ pub mod BranchWords
 pub mod FirstByte
 pub mod NoBranch
 pub mod CommentRead
+pub mod StatementReadBack
 pub mod Written
 pub mod WrittenLine
 pub mod Taken
