@@ -1,4 +1,4 @@
-//! Law on files: what is written of a list of statements is cut and read as that list.
+//! Laws on files: what is written of a list of statements is cut and read as that list.
 
 ghost use Rattle.std.specs.Prelude.{◌≡◌, ℕ, List, map, None};
 ghost use Rattle.std.specs.List.{AllByRecursion};
@@ -9,6 +9,13 @@ ghost use Rattle.bz_layout_laws.specs.FileText.{text_from, chunks_from};
 ghost use Rattle.bz_layout_laws.specs.ReadBack.{IsReadBack};
 ghost use Rattle.bz_layout_laws.specs.Spelled.{spelled_statement};
 ghost use Rattle.bz_layout_laws.specs.Unplaced.{unplaced};
+ghost use Rattle.bz_layout_laws.specs.WellFormed.{IsWellFormed};
+
+/// The text of a well-formed statement is read back wherever it stands in a file: no block goes on with it, it is a
+/// chunk of its own or with the empty line after it, and it is read as the statement.
+pub fn a_statement_is_read_back_in_a_file()
+    ensures { (depth : ℕ) (s : Statement) → IsWellFormed depth s → IsReadBack depth s }
+{}
 
 /// The text of statements, each of which is read back, one after another with an empty line between some, has the
 /// chunks of the statements and no others. These are read as the statements, with their strings as they are spelled
