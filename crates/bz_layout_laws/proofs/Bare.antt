@@ -42,7 +42,7 @@ gap_bare first Dotted x = refl
 gap_bare first Operator x = rw (closes_bare x) refl
 gap_bare first Operand x = rw (closes_bare x) refl
 
-count_bare : (ss : Segs) → count (bare_segs ss) ≡ count ss
+pub count_bare : (ss : Segs) → count (bare_segs ss) ≡ count ss
 count_bare no_segs = refl
 count_bare (seg before nodes suffix ss) = rw (count_bare ss) refl
 

@@ -70,11 +70,11 @@ for_spelled (leaf Kept text place) = refl
 for_spelled (leaf LineKind text place) = refl
 for_spelled (leaf Note text place) = refl
 
-comma_bare : (x : Item) → is_comma (bare x) ≡ is_comma x
+pub comma_bare : (x : Item) → is_comma (bare x) ≡ is_comma x
 comma_bare (group kind segs one_comma end) = refl
 comma_bare (leaf kind text place) = refl
 
-for_bare : (x : Item) → is_for_item (bare x) ≡ is_for_item x
+pub for_bare : (x : Item) → is_for_item (bare x) ≡ is_for_item x
 for_bare (group kind segs one_comma end) = refl
 for_bare (leaf kind text place) = refl
 

@@ -45,5 +45,7 @@ pub mod Roles
 pub mod Neighbours
 pub mod GrammarFollows
 pub mod WellFormed
+pub mod SameNodes
+pub mod SameFormed
 mod Examples
 mod ParsedExamples

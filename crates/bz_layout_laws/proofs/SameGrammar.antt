@@ -169,3 +169,10 @@ grammar_stays s t e h =
     accepted_statement (items_of t.nodes)
     (sym (statement_told as_is keeps_as_is (items_of t.nodes)) ∙ ap is_statement (items_bare (items_of t.nodes) ∙ nodes ∙ sym (items_spelled (items_of s.nodes)))
     ∙ statement_told respell keeps_respelled (items_of s.nodes) ∙ statement_accepted h)
+
+pub grammar_placed : (s t : Statement) → unplaced t ≡ unplaced s → IsStatement (items_of s.nodes) → IsStatement (items_of t.nodes)
+grammar_placed s t e h =
+    let nodes : bare_items (items_of t.nodes) ≡ bare_items (items_of s.nodes) = sym (list_bare t.nodes) ∙ ap (λ (u : Statement). items_of u.nodes) e ∙ list_bare s.nodes in
+    accepted_statement (items_of t.nodes)
+    (sym (statement_told as_is keeps_as_is (items_of t.nodes)) ∙ ap is_statement (items_bare (items_of t.nodes) ∙ nodes ∙ sym (items_bare (items_of s.nodes)))
+    ∙ statement_told as_is keeps_as_is (items_of s.nodes) ∙ statement_accepted h)
