@@ -49,3 +49,4 @@ pub mod SameNodes
 pub mod SameFormed
 mod Examples
 mod ParsedExamples
+mod WellFormedExamples
