@@ -10,7 +10,7 @@ use Rattle.std.proofs.lemmas.Slice.Eq.{bytes_eq-Decides}
 use Rattle.bz_token.specs.declared.token.Kind.{Kind}
 use Rattle.bz_token.specs.declared.token.Kind.TheVariants.{Ident, Word, Int, Text, Sign, Line, Note, Kept}
 use Rattle.bz_token.specs.Brackets.{is_inside, is_line as is_line_kind, is_opening_bracket, is_closing_bracket, bracket_fits, fits, open_after_token}
-use Rattle.bz_token.specs.Lexical.{is_text}
+use Rattle.bz_token.specs.Lexical.{is_text, is_comment}
 use Rattle.bz_token.specs.Places.{Placed, line_at}
 use Rattle.bz_token.specs.Reading.{Piece, IsReading, tokens_of, AreTokensOf}
 use Rattle.bz_token_laws.proofs.Deeper.{tokens_are_texts}
@@ -210,7 +210,7 @@ room_none n depth h = omega (arith, h)
 bracket_first : (is cs rest : List Placed) (closing : Placed) → ((is ++ closing ∷ []) ++ cs) ++ rest ≡ is ++ (closing ∷ (cs ++ rest))
 bracket_first is cs rest closing = append_assoc (is ++ closing ∷ []) cs rest ∙ append_assoc is (closing ∷ []) (cs ++ rest)
 
-room_along : (depth : ℕ) (opened : List ℕ) (b : Preceding) (xs : Elems) (rest : List Placed) → AreWell b xs → ElemsTexts xs → length opened ≤ depth → FitTokens depth opened (elems_tokens xs ++ rest) → (length opened + elems_depth xs ≤ depth) × FitTokens depth opened rest
+room_along : (depth : ℕ) (opened : List ℕ) (b : Preceding) (xs : Elems) (rest : List Placed) → AreWell b xs → ElemsTexts is_token_text xs → length opened ≤ depth → FitTokens depth opened (elems_tokens xs ++ rest) → (length opened + elems_depth xs ≤ depth) × FitTokens depth opened rest
 room_along depth opened b no_elems rest h texts room fit = (room_none (length opened) depth room, fit)
 room_along depth opened b (elem (single t) xs) rest h texts room fit =
     let more = room_along depth opened (preceding b (own_of (mark_of t) t)) xs rest h.1 texts.1 room (subst (λ o. FitTokens depth o (elems_tokens xs ++ rest)) (free_open opened t.text (other_mark_free t.kind t.text (single_other (mark_of t) h.0) texts.0)) fit.1) in
@@ -246,12 +246,12 @@ nodes_depth : (n : ℕ) (xs : Items) → EachNode (IsNoDeeper n) xs → items_de
 nodes_depth n no_items h = least n
 nodes_depth n (item x xs) h = most (item_depth x) (items_depth xs) n h.0 (nodes_depth n xs h.1)
 
-all_depth : (n : ℕ) (ss : Segs) → EachSegment (IsNoDeeper n) ss → segs_depth ss ≤ n
+all_depth : (n : ℕ) (ss : Segs) → EachSegment (IsNoDeeper n) is_comment ss → segs_depth ss ≤ n
 all_depth n no_segs h = least n
 all_depth n (seg before nodes suffix ss) h = most (items_depth nodes) (segs_depth ss) n (nodes_depth n nodes h.2) (all_depth n ss h.4)
 
-more_depth : (n : ℕ) (one : Bool) (at : Last) (m : Mark) (t : Placed) (owns : List Own) → mark_of t ≡ m → is_single m ≡ true → is_token_text t ≡ true → ((last : Last) → Each (IsNoDeeper n) (entries_of last (own_items one owns)))
-    → Each (IsNoDeeper n) (entries_of at (own_items one (own_of m t ∷ owns)))
+more_depth : (n : ℕ) (one : Bool) (at : Last) (m : Mark) (t : Placed) (owns : List Own) → mark_of t ≡ m → is_single m ≡ true → is_token_text t ≡ true → ((last : Last) → Each (IsNoDeeper n) is_comment (entries_of last (own_items one owns)))
+    → Each (IsNoDeeper n) is_comment (entries_of at (own_items one (own_of m t ∷ owns)))
 more_depth n true at Comma t owns e ok is rest = (least n, rest (end_of_node t.line))
 more_depth n false at Comma t owns e ok is rest = rest (end_of_comma t.line)
 more_depth n true at Comment t owns e ok is rest = (note_text t.kind t.text e is, rest no_token)
@@ -262,17 +262,17 @@ more_depth n one at (Open shape) t owns e ok is rest = absurd (false≢true ok)
 more_depth n one at (Close shape) t owns e ok is rest = absurd (false≢true ok)
 more_depth n one at NewLine t owns e ok is rest = absurd (false≢true ok)
 
-depth_along : (n : ℕ) (one : Bool) (at : Last) (b : Preceding) (xs : Elems) → AreWell b xs → ElemsTexts xs → elems_depth xs ≤ n → Each (IsNoDeeper n) (entries_of at (own_items one (elems_own b xs)))
+depth_along : (n : ℕ) (one : Bool) (at : Last) (b : Preceding) (xs : Elems) → AreWell b xs → ElemsTexts is_token_text xs → elems_depth xs ≤ n → Each (IsNoDeeper n) is_comment (entries_of at (own_items one (elems_own b xs)))
 depth_along n one at b no_elems h texts deep = tt
 depth_along n one at b (elem (single t) xs) h texts deep =
     more_depth n one at (mark_of t) t (elems_own (preceding b (own_of (mark_of t) t)) xs) refl h.0 texts.0 (λ last. depth_along n one last (preceding b (own_of (mark_of t) t)) xs h.1 texts.1 (right_of 0 (elems_depth xs) n deep))
 depth_along n true at b (elem (bracket shape opening inner closing) xs) h texts deep =
     let one = is_one (group_kind shape b (has_for (elems_own Other inner))) in
-    let i = inside_each (IsNoDeeper (elems_depth inner)) (entries_of no_token (own_items one (elems_own Other inner))) (depth_along (elems_depth inner) one no_token Other inner h.0.2 texts.0 (same (elems_depth inner))) in
+    let i = inside_each (IsNoDeeper (elems_depth inner)) is_comment (entries_of no_token (own_items one (elems_own Other inner))) (depth_along (elems_depth inner) one no_token Other inner h.0.2 texts.0 (same (elems_depth inner))) in
     (one_deeper _ (elems_depth inner) n (all_depth (elems_depth inner) _ i.0) (left_of (suc (elems_depth inner)) (elems_depth xs) n deep), depth_along n true (end_of_node closing.line) _ xs h.1 texts.1 (right_of (suc (elems_depth inner)) (elems_depth xs) n deep))
 depth_along n false at b (elem (bracket shape opening inner closing) xs) h texts deep =
     let one = is_one (group_kind shape b (has_for (elems_own Other inner))) in
-    let i = inside_each (IsNoDeeper (elems_depth inner)) (entries_of no_token (own_items one (elems_own Other inner))) (depth_along (elems_depth inner) one no_token Other inner h.0.2 texts.0 (same (elems_depth inner))) in
+    let i = inside_each (IsNoDeeper (elems_depth inner)) is_comment (entries_of no_token (own_items one (elems_own Other inner))) (depth_along (elems_depth inner) one no_token Other inner h.0.2 texts.0 (same (elems_depth inner))) in
     (one_deeper _ (elems_depth inner) n (all_depth (elems_depth inner) _ i.0) (left_of (suc (elems_depth inner)) (elems_depth xs) n deep), depth_along n false (end_of_node closing.line) _ xs h.1 texts.1 (right_of (suc (elems_depth inner)) (elems_depth xs) n deep))
 
 -- the call of a rule is as deep as one that is none
@@ -298,9 +298,9 @@ read_depth first depth bytes tokens t are is =
     let i = inside (own_items true (elems_own Other is.elems)) in
     let s = one_segment i.segs i.end in
     let whole = tokens_are_texts first depth bytes tokens are in
-    let texts = elems_texts is.elems (subst (λ ts. list_all is_token_text ts ≡ true) is.tokens_are (unlined_texts tokens whole)) in
+    let texts = elems_texts is_token_text is.elems (subst (λ ts. list_all is_token_text ts ≡ true) is.tokens_are (unlined_texts is_token_text tokens whole)) in
     let fit : FitTokens depth [] tokens = subst (FitTokens depth []) (sym are.5) (tokens_fit first depth [] [] [] are.0 are.1 bytes are.2) in
     let own : FitTokens depth [] (elems_tokens is.elems ++ []) = subst (FitTokens depth []) (is.tokens_are ∙ sym (append-nil (elems_tokens is.elems))) (unlined_fit depth [] tokens whole fit) in
     let deep = no_more (elems_depth is.elems) depth (room_along depth [] Other is.elems [] is.well texts (least depth) own).0 in
-    let each = inside_each (IsNoDeeper depth) (entries_of no_token (own_items true (elems_own Other is.elems))) (depth_along depth true no_token Other is.elems is.well texts deep) in
+    let each = inside_each (IsNoDeeper depth) is_comment (entries_of no_token (own_items true (elems_own Other is.elems))) (depth_along depth true no_token Other is.elems is.well texts deep) in
     subst (λ (n : ℕ). n ≤ depth) (sym (ap depth_of is.is ∙ rule_depth s.nodes)) (segment_depth depth i.segs i.end (all_depth depth (segs_of i.segs) each.0))

@@ -50,3 +50,6 @@ pub mod SameFormed
 mod Examples
 mod ParsedExamples
 mod WellFormedExamples
+pub mod Utf8Tokens
+pub mod Utf8Read
+pub mod Utf8Written

@@ -31,42 +31,42 @@ use Rattle.bz_layout_laws.proofs.SameTests.{rule_nodes}
 abbrev pub is_token_text : Placed → Bool
 is_token_text t = is_text t.kind t.text
 
--- tokens of their kinds, along brackets
+-- tokens that pass a test, along brackets
 abbrev mutual
-  pub ElemTexts : Elem → Type 0
-  ElemTexts (single t) = is_token_text t ≡ true
-  ElemTexts (bracket shape opening inner closing) = ElemsTexts inner
+  pub ElemTexts : (Placed → Bool) → Elem → Type 0
+  ElemTexts test (single t) = test t ≡ true
+  ElemTexts test (bracket shape opening inner closing) = ElemsTexts test inner
 
-  pub ElemsTexts : Elems → Type 0
-  ElemsTexts no_elems = Unit {0}
-  ElemsTexts (elem x xs) = ElemTexts x × ElemsTexts xs
+  pub ElemsTexts : (Placed → Bool) → Elems → Type 0
+  ElemsTexts test no_elems = Unit {0}
+  ElemsTexts test (elem x xs) = ElemTexts test x × ElemsTexts test xs
 
-all_parts : (xs ys : List Placed) → list_all is_token_text (xs ++ ys) ≡ true → (list_all is_token_text xs ≡ true) × (list_all is_token_text ys ≡ true)
-all_parts [] ys h = (refl, h)
-all_parts (x ∷ xs) ys h =
-    let p = and_parts (is_token_text x) (list_all is_token_text (xs ++ ys)) h in
-    let q = all_parts xs ys p.1 in
-    (both (is_token_text x) (list_all is_token_text xs) p.0 q.0, q.1)
+all_parts : (test : Placed → Bool) (xs ys : List Placed) → list_all test (xs ++ ys) ≡ true → (list_all test xs ≡ true) × (list_all test ys ≡ true)
+all_parts test [] ys h = (refl, h)
+all_parts test (x ∷ xs) ys h =
+    let p = and_parts (test x) (list_all test (xs ++ ys)) h in
+    let q = all_parts test xs ys p.1 in
+    (both (test x) (list_all test xs) p.0 q.0, q.1)
 
 mutual
-  elem_texts : (x : Elem) → list_all is_token_text (elem_tokens x) ≡ true → ElemTexts x
-  elem_texts (single t) h = (and_parts (is_token_text t) true h).0
-  elem_texts (bracket shape opening inner closing) h =
-      elems_texts inner (all_parts (elems_tokens inner) (closing ∷ []) (and_parts (is_token_text opening) (list_all is_token_text (elems_tokens inner ++ closing ∷ [])) h).1).0
+  elem_texts : (test : Placed → Bool) (x : Elem) → list_all test (elem_tokens x) ≡ true → ElemTexts test x
+  elem_texts test (single t) h = (and_parts (test t) true h).0
+  elem_texts test (bracket shape opening inner closing) h =
+      elems_texts test inner (all_parts test (elems_tokens inner) (closing ∷ []) (and_parts (test opening) (list_all test (elems_tokens inner ++ closing ∷ [])) h).1).0
 
-  pub elems_texts : (xs : Elems) → list_all is_token_text (elems_tokens xs) ≡ true → ElemsTexts xs
-  elems_texts no_elems h = tt
-  elems_texts (elem x xs) h =
-      let p = all_parts (elem_tokens x) (elems_tokens xs) h in
-      (elem_texts x p.0, elems_texts xs p.1)
+  pub elems_texts : (test : Placed → Bool) (xs : Elems) → list_all test (elems_tokens xs) ≡ true → ElemsTexts test xs
+  elems_texts test no_elems h = tt
+  elems_texts test (elem x xs) h =
+      let p = all_parts test (elem_tokens x) (elems_tokens xs) h in
+      (elem_texts test x p.0, elems_texts test xs p.1)
 
-pub unlined_texts : (ts : List Placed) → list_all is_token_text ts ≡ true → list_all is_token_text (without_lines ts) ≡ true
-unlined_texts [] h = refl
-unlined_texts (t ∷ ts) h = by (is_line (mark_of t)) (and_parts (is_token_text t) (list_all is_token_text ts) h).0 (unlined_texts ts (and_parts (is_token_text t) (list_all is_token_text ts) h).1)
+pub unlined_texts : (test : Placed → Bool) (ts : List Placed) → list_all test ts ≡ true → list_all test (without_lines ts) ≡ true
+unlined_texts test [] h = refl
+unlined_texts test (t ∷ ts) h = by (is_line (mark_of t)) (and_parts (test t) (list_all test ts) h).0 (unlined_texts test ts (and_parts (test t) (list_all test ts) h).1)
   where
-    by : (b : Bool) → is_token_text t ≡ true → list_all is_token_text (without_lines ts) ≡ true → list_all is_token_text (if b then without_lines ts else t ∷ without_lines ts) ≡ true
+    by : (b : Bool) → test t ≡ true → list_all test (without_lines ts) ≡ true → list_all test (if b then without_lines ts else t ∷ without_lines ts) ≡ true
     by true one rest = rest
-    by false one rest = both (is_token_text t) (list_all is_token_text (without_lines ts)) one rest
+    by false one rest = both (test t) (list_all test (without_lines ts)) one rest
 
 -- only comments have the mark of one
 abbrev pub is_comment_mark : Mark → Bool
@@ -97,8 +97,8 @@ note_text Text text e is = absurd (false≢true (ap is_comment_mark e))
 note_text Kept text e is = absurd (false≢true (ap is_comment_mark e))
 
 -- one more token
-more_texts : (one : Bool) (at : Last) (m : Mark) (t : Placed) (owns : List Own) → mark_of t ≡ m → is_single m ≡ true → is_token_text t ≡ true → ((last : Last) → Each HasText (entries_of last (own_items one owns)))
-    → Each HasText (entries_of at (own_items one (own_of m t ∷ owns)))
+more_texts : (one : Bool) (at : Last) (m : Mark) (t : Placed) (owns : List Own) → mark_of t ≡ m → is_single m ≡ true → is_token_text t ≡ true → ((last : Last) → Each HasText is_comment (entries_of last (own_items one owns)))
+    → Each HasText is_comment (entries_of at (own_items one (own_of m t ∷ owns)))
 more_texts true at Comma t owns e ok is rest = ((is, ap is_leaf_mark e), rest (end_of_node t.line))
 more_texts false at Comma t owns e ok is rest = rest (end_of_comma t.line)
 more_texts true at Comment t owns e ok is rest = (note_text t.kind t.text e is, rest no_token)
@@ -113,21 +113,21 @@ nodes_texts : (xs : Items) → EachNode HasText xs → HaveTexts xs
 nodes_texts no_items h = tt
 nodes_texts (item x xs) h = (h.0, nodes_texts xs h.1)
 
-segs_texts : (ss : Segs) → EachSegment HasText ss → SegsHaveTexts ss
+segs_texts : (ss : Segs) → EachSegment HasText is_comment ss → SegsHaveTexts ss
 segs_texts no_segs h = tt
 segs_texts (seg before nodes suffix ss) h = (h.0, h.1, nodes_texts nodes h.2, h.3, segs_texts ss h.4)
 
-texts_along : (one : Bool) (at : Last) (b : Preceding) (xs : Elems) → AreWell b xs → ElemsTexts xs → Each HasText (entries_of at (own_items one (elems_own b xs)))
+texts_along : (one : Bool) (at : Last) (b : Preceding) (xs : Elems) → AreWell b xs → ElemsTexts is_token_text xs → Each HasText is_comment (entries_of at (own_items one (elems_own b xs)))
 texts_along one at b no_elems h texts = tt
 texts_along one at b (elem (single t) xs) h texts =
     more_texts one at (mark_of t) t (elems_own (preceding b (own_of (mark_of t) t)) xs) refl h.0 texts.0 (λ last. texts_along one last (preceding b (own_of (mark_of t) t)) xs h.1 texts.1)
 texts_along true at b (elem (bracket shape opening inner closing) xs) h texts =
     let one = is_one (group_kind shape b (has_for (elems_own Other inner))) in
-    let i = inside_each HasText (entries_of no_token (own_items one (elems_own Other inner))) (texts_along one no_token Other inner h.0.2 texts.0) in
+    let i = inside_each HasText is_comment (entries_of no_token (own_items one (elems_own Other inner))) (texts_along one no_token Other inner h.0.2 texts.0) in
     ((segs_texts _ i.0, i.1), texts_along true (end_of_node closing.line) _ xs h.1 texts.1)
 texts_along false at b (elem (bracket shape opening inner closing) xs) h texts =
     let one = is_one (group_kind shape b (has_for (elems_own Other inner))) in
-    let i = inside_each HasText (entries_of no_token (own_items one (elems_own Other inner))) (texts_along one no_token Other inner h.0.2 texts.0) in
+    let i = inside_each HasText is_comment (entries_of no_token (own_items one (elems_own Other inner))) (texts_along one no_token Other inner h.0.2 texts.0) in
     ((segs_texts _ i.0, i.1), texts_along false (end_of_node closing.line) _ xs h.1 texts.1)
 
 -- the call of a rule has the texts of one that is none
@@ -151,13 +151,13 @@ class_some (x ∷ xs) h = refl
 -- of the segment that stands outside brackets
 segment_texts : (ss : List Segment) (end : List (List ℕ)) → SegsHaveTexts (segs_of ss) → AreComments end → AreComments (one_segment ss end).before × HaveTexts (items_of (one_segment ss end).nodes) × AreComments (beside (one_segment ss end).suffix)
 segment_texts [] end h k = (k, tt, refl)
-segment_texts (s ∷ ss) end h k = (comments_join s.before end h.0 k, h.2, h.3)
+segment_texts (s ∷ ss) end h k = (comments_join is_comment s.before end h.0 k, h.2, h.3)
 
 pub read_texts : (first depth : ℕ) (bytes : List ℕ) (tokens : List Placed) (t : Statement) → AreTokensOf first depth bytes tokens → IsStatementOf tokens t → HasTexts t
 read_texts first depth bytes tokens t are is =
     let i = inside (own_items true (elems_own Other is.elems)) in
     let s = one_segment i.segs i.end in
-    let texts = elems_texts is.elems (subst (λ ts. list_all is_token_text ts ≡ true) is.tokens_are (unlined_texts tokens (tokens_are_texts first depth bytes tokens are))) in
-    let each = inside_each HasText (entries_of no_token (own_items true (elems_own Other is.elems))) (texts_along true no_token Other is.elems is.well texts) in
+    let texts = elems_texts is_token_text is.elems (subst (λ ts. list_all is_token_text ts ≡ true) is.tokens_are (unlined_texts is_token_text tokens (tokens_are_texts first depth bytes tokens are))) in
+    let each = inside_each HasText is_comment (entries_of no_token (own_items true (elems_own Other is.elems))) (texts_along true no_token Other is.elems is.well texts) in
     let own = segment_texts i.segs i.end (segs_texts (segs_of i.segs) each.0) each.1 in
     subst HasTexts (sym is.is) (record { some = class_some (rule_nodes s.nodes); before = own.0; nodes = rule_texts s.nodes own.1; suffix = own.2 })

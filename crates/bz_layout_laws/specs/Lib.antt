@@ -11,3 +11,4 @@ pub mod Parsed
 pub mod TextsOfKinds
 pub mod Following
 pub mod WellFormed
+pub mod EachText

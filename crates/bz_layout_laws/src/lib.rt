@@ -9,3 +9,4 @@ pub mod spelling;
 pub mod tokens;
 pub mod trees;
 pub mod well_formed;
+pub mod utf8;
