@@ -47,6 +47,10 @@ pub mod GrammarFollows
 pub mod WellFormed
 pub mod SameNodes
 pub mod SameFormed
+pub mod BlockTokens
+pub mod BlockEnds
+pub mod BlockParts
+pub mod BlockPlaces
 mod Examples
 mod ParsedExamples
 mod WellFormedExamples
