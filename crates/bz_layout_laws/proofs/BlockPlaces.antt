@@ -1,7 +1,6 @@
 -- What the tokens of a block say, by the parts of its pieces: its first and its last token, and the text between them.
 use Rattle.std.proofs.Common.{◌≡◌, ℕ, not, List, [], ◌∷◌, ◌++◌, Bool, true, false, Option, Some, None, refl, sym, ap, subst, ◌∙◌, append-nil, append_assoc}
 use Rattle.std.specs.Prelude.{if◌then◌else◌}
-use Rattle.std.specs.List.{list_all}
 use Rattle.std.proofs.lemmas.Bool.{false≢true, and_parts}
 use Rattle.bz_token.specs.Brackets.{is_line}
 use Rattle.bz_token.specs.Places.{Placed, line_at}
@@ -11,9 +10,9 @@ use Rattle.bz_token_laws.proofs.Readable.{bytes_join}
 use Rattle.bz_tree.specs.Blocks.{IsAt, IsKeptText, block_indent, is_block}
 use Rattle.bz_tree.specs.Brackets.{is_line as is_line_mark, without_lines}
 use Rattle.bz_tree.specs.Kinds.{mark_of}
-use Rattle.bz_tree.specs.Statement.{is_aside, bare_tokens, first_of, last_of, first_token, last_seen}
+use Rattle.bz_tree.specs.Statement.{bare_tokens, first_of, last_of, first_token, last_seen}
 use Rattle.bz_tree.proofs.Sound.{none_is_some}
-use Rattle.bz_layout_laws.proofs.BlockTokens.{are_aside, front_bare}
+use Rattle.bz_layout_laws.proofs.BlockTokens.{front_bare}
 use Rattle.bz_layout_laws.proofs.BlockEnds.{are_newlines, indent_between, block_between}
 use Rattle.bz_layout_laws.proofs.BlockParts.{ends_seen, AreParts, tokens_join, asides_tokens, newline_tokens}
 use Rattle.bz_layout_laws.proofs.Unlined.{line_mark}

@@ -1,17 +1,15 @@
 -- Tests of a block's tokens: they do not hang on the lines of the tokens, nor on comments and newlines around them.
-use Rattle.std.proofs.Common.{◌≡◌, ℕ, ◌+◌, ◌-◌, ◌==◌, ◌&&◌, ◌||◌, not, List, [], ◌∷◌, ◌++◌, map, Bool, true, false, Option, Some, None, refl, sym, ap, ◌∙◌}
+use Rattle.std.proofs.Common.{◌≡◌, ℕ, ◌==◌, ◌&&◌, ◌||◌, not, List, [], ◌∷◌, ◌++◌, map, Bool, true, false, Option, Some, None, refl, sym, ap, ◌∙◌}
 use Rattle.std.specs.Prelude.{is_some, option_map, if◌then◌else◌}
 use Rattle.std.specs.List.{list_all}
 use Rattle.std.proofs.lemmas.Bool.{false≢true, and_parts}
 use Rattle.bz_token.specs.declared.token.Kind.{Kind}
-use Rattle.bz_token.specs.declared.token.Kind.TheVariants.{Ident, Word, Int, Text, Sign, Line as LineKind, Note, Kept}
-use Rattle.bz_token.specs.Brackets.{is_line}
+use Rattle.bz_token.specs.declared.token.Kind.TheVariants.{Line as LineKind, Note}
 use Rattle.bz_token.specs.Places.{Placed}
 use Rattle.bz_tree.specs.declared.kinds.Mark.{Mark}
 use Rattle.bz_tree.specs.declared.kinds.Mark.TheVariants.{Open, Close, Comma, Comment, NewLine, Plain}
-use Rattle.bz_tree.specs.Blocks.{is_colon, in_front, with_token, logical_lines, indented, ends_open, bad_line, block_indent, header_line, depth_after, has_colon, is_open_end, is_block}
+use Rattle.bz_tree.specs.Blocks.{is_colon, with_token, logical_lines, indented, ends_open, bad_line, block_indent, header_line, depth_after, has_colon, is_open_end, is_block}
 use Rattle.bz_tree.specs.Kinds.{kind_mark, mark_of}
-use Rattle.bz_tree.specs.Owners.{is_filled}
 use Rattle.bz_tree.specs.Statement.{is_aside, bare_tokens, last_of, last_token}
 
 -- a token without its line

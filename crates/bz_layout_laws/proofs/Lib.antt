@@ -51,6 +51,11 @@ pub mod BlockTokens
 pub mod BlockEnds
 pub mod BlockParts
 pub mod BlockPlaces
+pub mod BlockTests
+pub mod BlockBody
+pub mod BlockWritten
+pub mod BlockAgain
+pub mod BlockClass
 mod Examples
 mod ParsedExamples
 mod WellFormedExamples

@@ -12,3 +12,4 @@ pub mod TextsOfKinds
 pub mod Following
 pub mod WellFormed
 pub mod EachText
+pub mod BlockIn

@@ -1,6 +1,7 @@
 //! Laws on the text of a statement: what it is read as.
 #![tactic(auto)]
 
+pub mod blocks;
 pub mod brackets;
 pub mod chunks;
 pub mod files;

@@ -1,0 +1,32 @@
+//! Laws on blocks, which are kept as they stand: what their text is read as.
+
+ghost use Rattle.std.specs.Prelude.{◌≡◌, ◌++◌, ℕ, List, replicate};
+ghost use Rattle.bz_tree.specs.declared.stmt.Class.TheVariants.{Block};
+ghost use Rattle.bz_tree.specs.Chunk.{IsStatementIn};
+ghost use Rattle.bz_tree.specs.Tree.{Statement};
+ghost use Rattle.bz_layout.specs.Layout.{layout_text};
+ghost use Rattle.bz_layout_laws.specs.BlockIn.{IsBlockIn};
+ghost use Rattle.bz_layout_laws.specs.Legible.{AreComments};
+ghost use Rattle.bz_layout_laws.specs.Unplaced.{unplaced};
+
+/// A statement that was read and has the class of a block was read as a block: its first token is a word that begins
+/// one.
+pub fn a_block_is_known_by_its_class()
+    ensures { (first depth : ℕ) (bytes : List ℕ) (s : Statement) → IsStatementIn first depth bytes s → s.class ≡ Block
+        → IsBlockIn first depth bytes s }
+{}
+
+/// A block that was read is read again from its text, whatever comments are put above it and however many newlines
+/// follow the text: as it is, with these comments and wherever its tokens stand, and as nothing else.
+pub fn a_block_is_read_again()
+    ensures some { (first second depth newlines : ℕ) (bytes : List ℕ) (s : Statement) (comments : List (List ℕ))
+        → IsBlockIn first depth bytes s → AreComments comments
+        → (t : Statement)
+        × IsStatementIn second depth (layout_text (record s { before = comments }) ++ replicate newlines 10) t
+        × (unplaced t ≡ unplaced (record s { before = comments })) }
+    ensures only { (first second depth newlines : ℕ) (bytes : List ℕ) (s t : Statement) (comments : List (List ℕ))
+        → IsBlockIn first depth bytes s → AreComments comments
+        → IsStatementIn second depth (layout_text (record s { before = comments }) ++ replicate newlines 10) t
+        → (unplaced t ≡ unplaced (record s { before = comments }))
+        × (layout_text t ≡ layout_text (record s { before = comments })) }
+{}
