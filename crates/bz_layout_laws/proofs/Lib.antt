@@ -1,4 +1,5 @@
 pub mod Respelled
+pub mod SpelledValues
 pub mod Bare
 pub mod SpelledAgain
 pub mod Pieces

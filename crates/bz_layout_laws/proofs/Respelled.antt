@@ -20,7 +20,7 @@ use Rattle.bz_layout.specs.Respell.{is_plain, content, is_single, respell}
 abbrev short : ℕ → Quotes
 short q = record { byte = q; long = false }
 
-abbrev within : ℕ → List ℕ → List ℕ
+abbrev pub within : ℕ → List ℕ → List ℕ
 within q inner = q ∷ (inner ++ q ∷ [])
 
 abbrev opened : ℕ → Bool → Option Opening
@@ -39,7 +39,7 @@ by_tests q b bs = by (b == q)
     by false = refl
 
 -- a byte that is plain: neither quote, nor a backslash
-plain_byte : (b : ℕ) → is_plain b ≡ true → ((b == 34) ≡ false) × ((b == 39) ≡ false) × ((b == 92) ≡ false)
+pub plain_byte : (b : ℕ) → is_plain b ≡ true → ((b == 34) ≡ false) × ((b == 39) ≡ false) × ((b == 92) ≡ false)
 plain_byte b h =
     let p = and_parts (not (b == 34) && not (b == 39)) (not (b == 92)) h in
     let q = and_parts (not (b == 34)) (not (b == 39)) p.0 in
@@ -74,7 +74,7 @@ string_by_closing q inner r b quote other plain =
         two false = refl
     opens (c ∷ cs) plain = let none = other c (and_parts (is_plain c) (list_all is_plain cs) plain).0 in rw (r, b, quote, none) refl
 
-single_parts : (text : List ℕ) → is_single text ≡ true → (text ≡ within 39 (content text)) × (list_all is_plain (content text) ≡ true)
+pub single_parts : (text : List ℕ) → is_single text ≡ true → (text ≡ within 39 (content text)) × (list_all is_plain (content text) ≡ true)
 single_parts text h =
     let p = and_parts (bytes_eq text (within 39 (content text))) (list_all is_plain (content text)) h in
     (same_bytes text (within 39 (content text)) p.0, p.1)

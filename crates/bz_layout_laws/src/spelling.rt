@@ -3,6 +3,7 @@
 ghost use Rattle.std.specs.Prelude.{◌≡◌, ◌==◌, ℕ, List, count_by, true, false};
 ghost use Rattle.bz_token.specs.declared.token.Kind.{Kind};
 ghost use Rattle.bz_token.specs.Lexical.{is_text, is_string_kind};
+ghost use Rattle.bz_command.specs.Values.{value_at};
 ghost use Rattle.bz_tree.specs.Tree.{Statement};
 ghost use Rattle.bz_layout.specs.Respell.{respell};
 ghost use Rattle.bz_layout.specs.Layout.{layout, layout_text};
@@ -16,6 +17,11 @@ pub fn spelling_keeps_tokens()
     ensures lines { (kind : Kind) (text : List ℕ)
         → count_by (λ b. b == 10) (respell kind text) ≡ count_by (λ b. b == 10) text }
     ensures others { (kind : Kind) (text : List ℕ) → is_string_kind kind ≡ false → respell kind text ≡ text }
+{}
+
+/// A string that is spelled anew has the value that it had, or none as before.
+pub fn spelling_keeps_values()
+    ensures { (kind : Kind) (text : List ℕ) → value_at kind (respell kind text) ≡ value_at kind text }
 {}
 
 /// A statement whose strings are spelled as they are written is written as before. So whoever reads back what was
