@@ -41,7 +41,7 @@ join_utf8 (l ∷ ls) ms h k =
 one_utf8 : (l : Lexeme) (ls : List Lexeme) → is_utf8 l.text ≡ true → AreUtf8 ls → AreUtf8 (l ∷ ls)
 one_utf8 l ls h k = both (is_utf8 l.text) (list_all is_utf8_lexeme ls) h k
 
-low_utf8 : (b : ℕ) → b < 128 → IsUtf8 (b ∷ [])
+pub low_utf8 : (b : ℕ) → b < 128 → IsUtf8 (b ∷ [])
 low_utf8 b low = (b ∷ [], (ap (λ t. t && true) (low_scalar b (omega (arith, low))), ap (λ x. x ++ []) (encode_ascii b low)))
 
 -- a string in single quotes is written in double quotes

@@ -1,0 +1,90 @@
+-- The text of slots is that of the statements that are left in them, and it is read as a file.
+use Rattle.std.proofs.Common.{◌≡◌, ℕ, List, [], ◌∷◌, ◌++◌, map, Bool, true, false, refl, sym, ap, subst, ◌∙◌, arith}
+use Rattle.std.specs.Prelude.{codes, Option, None, Some, Result, Ok, Err, if◌then◌else◌}
+use Rattle.std.specs.List.{AllByRecursion}
+use Rattle.std.specs.Str.{IsUtf8}
+use Rattle.std.proofs.lemmas.Str.{IsUtf8-append}
+use Rattle.bz_token.specs.Places.{line_at}
+use Rattle.bz_token.specs.Chunks.{chunks}
+use Rattle.bz_tree.specs.declared.stmt.Class.{Class}
+use Rattle.bz_tree.specs.Tree.{Statement}
+use Rattle.bz_layout.specs.Gaps.{blank_between}
+use Rattle.bz_layout.specs.Layout.{layout_text}
+use Rattle.bz_layout_laws.specs.EachText.{HasUtf8}
+use Rattle.bz_layout_laws.specs.FileRead.{IsFound, AreFound, AreStatementsIn}
+use Rattle.bz_layout_laws.specs.FileText.{gap_text, text_from, takes_line, blank_after, own_chunks, chunks_from}
+use Rattle.bz_layout_laws.specs.ReadBack.{IsReadBack}
+use Rattle.bz_layout_laws.specs.Spelled.{spelled_statement}
+use Rattle.bz_layout_laws.specs.Unplaced.{unplaced}
+use Rattle.bz_layout_laws.proofs.FileChunks.{file_chunks}
+use Rattle.bz_layout_laws.proofs.FileReads.{file_read_again, file_read_only}
+use Rattle.bz_layout_laws.proofs.Utf8Written.{written_utf8, low_utf8}
+use Rattle.bz_command.specs.Passes.{Slot}
+use Rattle.bz_engine.specs.File.{Gives, Follows, Give, IsFile}
+use Rattle.bz_engine.specs.Outcome.{slots_of, text_following}
+use Rattle.bz_engine_laws.specs.Sound.{left_in, IsSound}
+
+-- the text of slots is that of what is left in them
+pub text_left : (last : Option Class) (slots : List (Slot Statement)) → text_following last slots ≡ text_from last (left_in slots)
+text_left last [] = refl
+text_left last (None ∷ slots) = text_left last slots
+text_left last (Some s ∷ slots) = ap (λ text. gap_text (blank_between last s.class) ++ (layout_text s ++ text)) (text_left (Some s.class) slots)
+
+pub left_all : (ss : List Statement) → left_in (slots_of ss) ≡ ss
+left_all [] = refl
+left_all (s ∷ ss) = ap (λ rest. s ∷ rest) (left_all ss)
+
+-- chunks that are UTF-8 give the statements that they are read as
+give_found : (depth line : ℕ) (chunk : List ℕ) (found : Option Statement) → IsUtf8 chunk → IsFound line depth chunk found → Gives depth line chunk (Ok found)
+give_found depth line chunk None u is = (u, is)
+give_found depth line chunk (Some s) u is = (u, is)
+
+give_follows : (found : Option Statement) (After : List Statement → Type 0) (Later : List Statement → Option _ → Type 0) (ss : List Statement) → ((ts : List Statement) → After ts → Later ts None) → AreFound found After ss → Follows (Ok found) Later ss None
+give_follows None After Later ss next are = next ss are
+give_follows (Some s) After Later ss next are = (are.0, are.1, next are.0 are.2)
+
+pub give_statements : (depth line : ℕ) (cs : List (List ℕ)) (ss : List Statement) → AllByRecursion IsUtf8 cs → AreStatementsIn line depth cs ss → Give depth line cs ss None
+give_statements depth line [] ss u are = (are, refl)
+give_statements depth line (c ∷ cs) ss u are =
+    (Ok are.0, give_found depth line c are.0 u.0 are.1, give_follows are.0 (AreStatementsIn (line_at line c) depth cs) (Give depth (line_at line c) cs) ss (λ ts later. give_statements depth (line_at line c) cs ts u.1 later) are.2)
+
+-- the chunks of statements are UTF-8
+both_parts : (xs ys : List (List ℕ)) → AllByRecursion IsUtf8 xs → AllByRecursion IsUtf8 ys → AllByRecursion IsUtf8 (xs ++ ys)
+both_parts [] ys u v = v
+both_parts (x ∷ xs) ys u v = (u.0, both_parts xs ys u.1 v)
+
+own_utf8 : (depth : ℕ) (s : Statement) (blank : Bool) → IsSound depth s → AllByRecursion IsUtf8 (own_chunks s blank)
+own_utf8 depth s false sound = (written_utf8 s sound.utf8, tt)
+own_utf8 depth s true sound = by (takes_line s.class)
+  where
+    line : IsUtf8 (codes "\n")
+    line = low_utf8 10 (omega arith)
+
+    by : (takes : Bool) → AllByRecursion IsUtf8 (if takes then (layout_text s ++ codes "\n") ∷ [] else layout_text s ∷ codes "\n" ∷ [])
+    by true = (IsUtf8-append (layout_text s) (codes "\n") (written_utf8 s sound.utf8) line, tt)
+    by false = (written_utf8 s sound.utf8, line, tt)
+
+chunks_utf8 : (depth : ℕ) (ss : List Statement) → AllByRecursion (IsSound depth) ss → AllByRecursion IsUtf8 (chunks_from ss)
+chunks_utf8 depth [] sound = tt
+chunks_utf8 depth (s ∷ ss) sound = both_parts (own_chunks s (blank_after s.class ss)) (chunks_from ss) (own_utf8 depth s (blank_after s.class ss) sound.0) (chunks_utf8 depth ss sound.1)
+
+all_back : (depth : ℕ) (ss : List Statement) → AllByRecursion (IsSound depth) ss → AllByRecursion (IsReadBack depth) ss
+all_back depth [] sound = tt
+all_back depth (s ∷ ss) sound = (sound.0.back, all_back depth ss sound.1)
+
+text_of_all : (ss : List Statement) → text_following None (slots_of ss) ≡ text_from None ss
+text_of_all ss = text_left None (slots_of ss) ∙ ap (text_from None) (left_all ss)
+
+-- the text of sound statements is read as them
+pub text_again : (depth : ℕ) (ss : List Statement) → AllByRecursion (IsSound depth) ss
+    → (ts : List Statement) × IsFile depth (text_following None (slots_of ss)) ts None
+    × (map unplaced ts ≡ map (λ s. unplaced (spelled_statement s)) ss)
+    × (text_following None (slots_of ts) ≡ text_following None (slots_of ss))
+text_again depth ss sound =
+    let back = all_back depth ss sound in
+    let read = file_read_again 1 depth ss back in
+    let same = text_of_all ss in
+    let cut = file_chunks depth ss back in
+    let utf8 = subst (AllByRecursion IsUtf8) (sym cut) (chunks_utf8 depth ss sound) in
+    let file = subst (λ text. IsFile depth text read.0 None) (sym same) (give_statements depth 1 (chunks (text_from None ss)) read.0 utf8 read.1) in
+    (read.0, file, read.2, text_of_all read.0 ∙ (file_read_only 1 depth ss read.0 back read.1).1 ∙ sym same)

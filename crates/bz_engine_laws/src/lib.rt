@@ -1,0 +1,4 @@
+//! Laws of runs: what is written is read again.
+#![tactic(auto)]
+
+pub mod reading;
