@@ -1,6 +1,6 @@
 -- The text of slots is that of the statements that are left in them, and it is read as a file.
 use Rattle.std.proofs.Common.{◌≡◌, ℕ, List, [], ◌∷◌, ◌++◌, map, Bool, true, false, refl, sym, ap, subst, ◌∙◌, arith}
-use Rattle.std.specs.Prelude.{codes, Option, None, Some, Result, Ok, Err, if◌then◌else◌}
+use Rattle.std.specs.Prelude.{codes, Option, None, Some, Ok, if◌then◌else◌}
 use Rattle.std.specs.List.{AllByRecursion}
 use Rattle.std.specs.Str.{IsUtf8}
 use Rattle.std.proofs.lemmas.Str.{IsUtf8-append}
@@ -10,7 +10,6 @@ use Rattle.bz_tree.specs.declared.stmt.Class.{Class}
 use Rattle.bz_tree.specs.Tree.{Statement}
 use Rattle.bz_layout.specs.Gaps.{blank_between}
 use Rattle.bz_layout.specs.Layout.{layout_text}
-use Rattle.bz_layout_laws.specs.EachText.{HasUtf8}
 use Rattle.bz_layout_laws.specs.FileRead.{IsFound, AreFound, AreStatementsIn}
 use Rattle.bz_layout_laws.specs.FileText.{gap_text, text_from, takes_line, blank_after, own_chunks, chunks_from}
 use Rattle.bz_layout_laws.specs.ReadBack.{IsReadBack}
@@ -53,16 +52,13 @@ both_parts : (xs ys : List (List ℕ)) → AllByRecursion IsUtf8 xs → AllByRec
 both_parts [] ys u v = v
 both_parts (x ∷ xs) ys u v = (u.0, both_parts xs ys u.1 v)
 
+with_line : (text : List ℕ) (takes : Bool) → IsUtf8 text → AllByRecursion IsUtf8 (if takes then (text ++ codes "\n") ∷ [] else text ∷ codes "\n" ∷ [])
+with_line text true u = (IsUtf8-append text (codes "\n") u (low_utf8 10 (omega arith)), tt)
+with_line text false u = (u, (low_utf8 10 (omega arith), tt))
+
 own_utf8 : (depth : ℕ) (s : Statement) (blank : Bool) → IsSound depth s → AllByRecursion IsUtf8 (own_chunks s blank)
 own_utf8 depth s false sound = (written_utf8 s sound.utf8, tt)
-own_utf8 depth s true sound = by (takes_line s.class)
-  where
-    line : IsUtf8 (codes "\n")
-    line = low_utf8 10 (omega arith)
-
-    by : (takes : Bool) → AllByRecursion IsUtf8 (if takes then (layout_text s ++ codes "\n") ∷ [] else layout_text s ∷ codes "\n" ∷ [])
-    by true = (IsUtf8-append (layout_text s) (codes "\n") (written_utf8 s sound.utf8) line, tt)
-    by false = (written_utf8 s sound.utf8, line, tt)
+own_utf8 depth s true sound = with_line (layout_text s) (takes_line s.class) (written_utf8 s sound.utf8)
 
 chunks_utf8 : (depth : ℕ) (ss : List Statement) → AllByRecursion (IsSound depth) ss → AllByRecursion IsUtf8 (chunks_from ss)
 chunks_utf8 depth [] sound = tt

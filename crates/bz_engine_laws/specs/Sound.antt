@@ -1,5 +1,5 @@
 -- Statements that can stand in a file, and those that a script leaves there.
-use Rattle.std.specs.Prelude.{◌≡◌, ℕ, List, [], ◌∷◌, None, Some}
+use Rattle.std.specs.Prelude.{ℕ, List, [], ◌∷◌, None, Some}
 use Rattle.bz_tree.specs.Tree.{Statement}
 use Rattle.bz_layout_laws.specs.EachText.{HasUtf8}
 use Rattle.bz_layout_laws.specs.ReadBack.{IsReadBack}

@@ -12,7 +12,7 @@ ghost use Rattle.bz_engine_laws.specs.Sound.{IsSound};
 /// The text of sound statements has no fault, and is read as these statements, with their strings as they are spelled
 /// and wherever their tokens stand, and as no others; those are written as the same text.
 pub fn a_text_is_read_again()
-    ensures some { (depth : ℕ) (ss : List Statement) → AllByRecursion (IsSound depth) ss
+    ensures { (depth : ℕ) (ss : List Statement) → AllByRecursion (IsSound depth) ss
         → (ts : List Statement) × IsFile depth (text_following None (slots_of ss)) ts None
         × (map unplaced ts ≡ map (λ s. unplaced (spelled_statement s)) ss)
         × (text_following None (slots_of ts) ≡ text_following None (slots_of ss)) }
