@@ -1,1 +1,2 @@
 mod FileText
+mod SoundStatements
