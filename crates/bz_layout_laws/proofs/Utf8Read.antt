@@ -49,8 +49,8 @@ each_segs_pass : (q : List ℕ → Bool) (ss : Segs) → EachSegment (Passes q) 
 each_segs_pass q no_segs h = refl
 each_segs_pass q (seg before nodes suffix ss) h =
     both (list_all q before && items_pass q nodes && list_all q (beside suffix)) (segs_pass q ss)
-      (both (list_all q before && items_pass q nodes) (list_all q (beside suffix)) (both (list_all q before) (items_pass q nodes) h.0 (nodes_pass q nodes h.2)) h.3)
-      (each_segs_pass q ss h.4)
+    (both (list_all q before && items_pass q nodes) (list_all q (beside suffix)) (both (list_all q before) (items_pass q nodes) h.0 (nodes_pass q nodes h.2)) h.3)
+    (each_segs_pass q ss h.4)
 
 passes_along : (q : List ℕ → Bool) (one : Bool) (at : Last) (b : Preceding) (xs : Elems) → AreWell b xs → ElemsTexts (passes_token q) xs → Each (Passes q) q (entries_of at (own_items one (elems_own b xs)))
 passes_along q one at b no_elems h texts = tt

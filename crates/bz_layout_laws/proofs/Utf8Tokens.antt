@@ -87,10 +87,10 @@ pieces_utf8 first depth before lines opened (p ∷ ps) rest bytes r low u =
     let after = (cut_low p.gap (p.text ++ r.0) (text_low p.kind p.text r.0 r.1.token.whole) (subst IsUtf8 r.1.bytes_are u)).1 in
     let text = cut_low p.text r.0 (pieces_low depth (open_after_token opened p.text) ps rest r.0 r.2 low) after in
     both (is_utf8 p.text) _ (is_utf8-from_IsUtf8 p.text text.0)
-      (pieces_utf8 first depth (before ++ (p.gap ++ p.text)) (line_at first (before ++ p.gap) ∷ lines) (open_after_token opened p.text) ps rest r.0 r.2 low text.1)
+    (pieces_utf8 first depth (before ++ (p.gap ++ p.text)) (line_at first (before ++ p.gap) ∷ lines) (open_after_token opened p.text) ps rest r.0 r.2 low text.1)
 
 -- the tokens of a text that is UTF-8 are
 pub tokens_utf8 : (first depth : ℕ) (bytes : List ℕ) (ts : List Placed) → AreTokensOf first depth bytes ts → IsUtf8 bytes → list_all is_utf8_token ts ≡ true
 tokens_utf8 first depth bytes ts a u =
     subst (λ x. list_all is_utf8_token x ≡ true) (sym a.5)
-      (pieces_utf8 first depth [] [] [] a.0 a.1 bytes a.2 (subst StartsLow (append-nil a.1) (gap_low false a.1 [] a.3 tt)) u)
+    (pieces_utf8 first depth [] [] [] a.0 a.1 bytes a.2 (subst StartsLow (append-nil a.1) (gap_low false a.1 [] a.3 tt)) u)

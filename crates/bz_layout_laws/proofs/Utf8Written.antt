@@ -128,9 +128,9 @@ mutual
       let p = and_parts (segs_pass is_utf8 segs) (list_all is_utf8 end) h in
       let close = one_utf8 (lexeme Sign (closing kind)) [] (closing_utf8 kind) refl in
       one_utf8 (lexeme Sign (opening kind)) _ (opening_utf8 kind)
-        (either_utf8 (is_broken kind segs end (segs_hold segs)) _ _
-          (join_utf8 (ended_lexemes (has_commas kind one_comma (count segs)) segs) _ (ended_utf8 (has_commas kind one_comma (count segs)) segs p.0) (join_utf8 (notes end) _ (notes_utf8 end p.1) close))
-          (join_utf8 (separated_lexemes true segs) _ (separated_utf8 true segs p.0) (join_utf8 (comma_lexemes one_comma) _ (comma_utf8 one_comma) close)))
+      (either_utf8 (is_broken kind segs end (segs_hold segs)) _ _
+      (join_utf8 (ended_lexemes (has_commas kind one_comma (count segs)) segs) _ (ended_utf8 (has_commas kind one_comma (count segs)) segs p.0) (join_utf8 (notes end) _ (notes_utf8 end p.1) close))
+      (join_utf8 (separated_lexemes true segs) _ (separated_utf8 true segs p.0) (join_utf8 (comma_lexemes one_comma) _ (comma_utf8 one_comma) close)))
 
   items_utf8 : (xs : Items) → items_pass is_utf8 xs ≡ true → AreUtf8 (items_lexemes xs)
   items_utf8 no_items h = refl
@@ -141,8 +141,8 @@ mutual
   ended_utf8 comma (seg before nodes suffix ss) h =
       let p = segs_parts before nodes suffix ss h in
       join_utf8 (notes before) _ (notes_utf8 before p.0)
-        (join_utf8 (items_lexemes nodes) _ (items_utf8 nodes p.1)
-          (join_utf8 (comma_lexemes comma) _ (comma_utf8 comma) (join_utf8 (suffix_lexemes suffix) _ (suffix_utf8 suffix p.2) (ended_utf8 comma ss p.3))))
+      (join_utf8 (items_lexemes nodes) _ (items_utf8 nodes p.1)
+      (join_utf8 (comma_lexemes comma) _ (comma_utf8 comma) (join_utf8 (suffix_lexemes suffix) _ (suffix_utf8 suffix p.2) (ended_utf8 comma ss p.3))))
 
   separated_utf8 : (first : Bool) (ss : Segs) → segs_pass is_utf8 ss ≡ true → AreUtf8 (separated_lexemes first ss)
   separated_utf8 first no_segs h = refl
@@ -164,9 +164,9 @@ statement_utf8 s h =
     let a = and_parts (list_all is_utf8 s.before && items_pass is_utf8 (items_of s.nodes)) (list_all is_utf8 (beside s.suffix)) h in
     let b = and_parts (list_all is_utf8 s.before) (items_pass is_utf8 (items_of s.nodes)) a.0 in
     join_utf8 (note_lines s.before) _ (lines_utf8 s.before b.0)
-      (either_utf8 (is_comment s.class) [] (line_lexemes s) refl
-        (join_utf8 (items_lexemes (items_of s.nodes)) _ (items_utf8 (items_of s.nodes) b.1)
-          (join_utf8 (suffix_lexemes s.suffix) (lexeme LineKind (codes "\n") ∷ []) (suffix_utf8 s.suffix a.1) (one_utf8 (lexeme LineKind (codes "\n")) [] newline_utf8 refl))))
+    (either_utf8 (is_comment s.class) [] (line_lexemes s) refl
+    (join_utf8 (items_lexemes (items_of s.nodes)) _ (items_utf8 (items_of s.nodes) b.1)
+    (join_utf8 (suffix_lexemes s.suffix) (lexeme LineKind (codes "\n") ∷ []) (suffix_utf8 s.suffix a.1) (one_utf8 (lexeme LineKind (codes "\n")) [] newline_utf8 refl))))
 
 two_utf8 : IsUtf8 (32 ∷ 32 ∷ [])
 two_utf8 = let space = low_utf8 32 (omega arith) in IsUtf8-append (32 ∷ []) (32 ∷ []) space space
@@ -187,7 +187,7 @@ pieces_utf8 [] h = IsUtf8-nil
 pieces_utf8 (p ∷ ps) h =
     let both_parts = and_parts (is_utf8 p.text) (list_all is_utf8_lexeme (piece_lexemes ps)) h in
     IsUtf8-append (gap_bytes p.gap) (p.text ++ bytes_of ps) (gap_utf8 p.gap)
-      (IsUtf8-append p.text (bytes_of ps) (IsUtf8-from_is_utf8 p.text both_parts.0) (pieces_utf8 ps both_parts.1))
+    (IsUtf8-append p.text (bytes_of ps) (IsUtf8-from_is_utf8 p.text both_parts.0) (pieces_utf8 ps both_parts.1))
 
 pub written_utf8 : (s : Statement) → HasUtf8 s → IsUtf8 (layout_text s)
 written_utf8 s h = pieces_utf8 (layout s) (subst AreUtf8 (sym (layout_lexemes s)) (statement_utf8 s h))

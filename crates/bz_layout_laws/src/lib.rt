@@ -9,5 +9,5 @@ pub mod places;
 pub mod spelling;
 pub mod tokens;
 pub mod trees;
-pub mod well_formed;
 pub mod utf8;
+pub mod well_formed;
