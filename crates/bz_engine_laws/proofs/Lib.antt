@@ -1,2 +1,3 @@
 mod FileText
 mod SoundStatements
+mod SecondRun

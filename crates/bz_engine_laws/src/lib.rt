@@ -1,5 +1,6 @@
 //! Laws of runs: what is written is read again.
 #![tactic(auto)]
 
+pub mod again;
 pub mod reading;
 pub mod sound;

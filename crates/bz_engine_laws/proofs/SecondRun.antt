@@ -1,0 +1,71 @@
+-- A script that changes nothing leaves the slots, so a run of it over a text that was written writes the same bytes.
+use Rattle.std.proofs.Common.{◌≡◌, inl, inr, ℕ, Bool, true, false, List, [], ◌∷◌, map, refl, sym, ◌∙◌, ap}
+use Rattle.std.specs.Prelude.{Option, None, Some, if◌then◌else◌, bytes_eq}
+use Rattle.std.specs.List.{AllByRecursion}
+use Rattle.std.proofs.lemmas.Bool.{cases_Bool, false≢true}
+use Rattle.std.proofs.lemmas.Slice.Eq.{bytes_eq-Decides}
+use Rattle.bz_tree.specs.Tree.{Statement}
+use Rattle.bz_command.specs.Labels.{Package}
+use Rattle.bz_command.specs.Passes.{Slot, Meaning, Pass, Marked, marked, executed, slots_after_commands, slots_after_pass, slots_after}
+use Rattle.bz_engine.specs.Changes.{CommandsChange, PassChanges, Changes, AreCommands}
+use Rattle.bz_engine.specs.Meaning.{meaning}
+use Rattle.bz_engine.specs.Outcome.{Script, Told, IsOutcome, IsWholeRun, is_query, slots_of, text_following, some_change, told_of}
+use Rattle.bz_rule.proofs.Differences.{changed_tells}
+use Rattle.bz_engine.proofs.ChangesLaw.{changes_tell}
+use Rattle.bz_engine.proofs.OneOutcome.{one_give}
+use Rattle.bz_engine_laws.specs.Sound.{IsSound}
+use Rattle.bz_engine_laws.proofs.FileText.{text_again}
+
+abbrev NotNot : Type 0 → Type 0
+NotNot A = (A → ⊥) → ⊥
+
+quiet_commands : {S T C M : Type 0} (m : Meaning S T C M) (cs : List C) (xs : List (Marked S)) → (CommandsChange m cs xs → ⊥) → NotNot (slots_after_commands m cs xs ≡ xs)
+quiet_commands m [] xs none no_same = no_same refl
+quiet_commands m (c ∷ cs) xs none no_same =
+    none (inl (λ same. quiet_commands m cs (map (executed m c) xs) (λ later. none (inr later)) (λ rest. no_same (rest ∙ same))))
+
+-- marks are forgotten
+unmarked : {S T C M : Type 0} (m : Meaning S T C M) (target : T) (slots : List (Slot S)) → map (λ (x : Marked S). x.slot) (map (marked m target) slots) ≡ slots
+unmarked m target [] = refl
+unmarked m target (slot ∷ slots) = ap (λ rest. slot ∷ rest) (unmarked m target slots)
+
+quiet_pass : {S T C M : Type 0} (m : Meaning S T C M) (p : Pass T C) (slots : List (Slot S)) → (PassChanges m p slots → ⊥) → NotNot (slots_after_pass m p slots ≡ slots)
+quiet_pass {S} m p slots none no_same =
+    quiet_commands m p.commands (map (marked m p.target) slots) none (λ same. no_same (ap (map (λ (x : Marked S). x.slot)) same ∙ unmarked m p.target slots))
+
+quiet_passes : {S T C M : Type 0} (m : Meaning S T C M) (ps : List (Pass T C)) (slots : List (Slot S)) → (Changes m ps slots → ⊥) → NotNot (slots_after m ps slots ≡ slots)
+quiet_passes m [] slots none no_same = no_same refl
+quiet_passes m (p ∷ ps) slots none no_same =
+    quiet_pass m p slots (λ here. none (inl here))
+    (λ same. quiet_passes m ps (slots_after_pass m p slots) (λ later. none (inr later)) (λ rest. no_same (rest ∙ same)))
+
+-- bytes that cannot differ are the same
+same_bytes : (xs ys : List ℕ) → NotNot (xs ≡ ys) → xs ≡ ys
+same_bytes xs ys h = elim (cases_Bool (bytes_eq xs ys)) [
+  | inl same ↦ (bytes_eq-Decides xs ys).0 same
+  | inr other ↦ absurd (h (λ same. false≢true (sym other ∙ (bytes_eq-Decides xs ys).1 same)))
+]
+
+told_change : (home : Package) (passes : Script) (statements : List Statement) (fault : Option _) → (told_of home passes statements fault).changed ≡ some_change home passes statements
+told_change home passes statements None = refl
+told_change home passes statements (Some fault) = refl
+
+shown : (b : Bool) (text : List ℕ) → b ≡ false → (if b then [] else text) ≡ text
+shown true text h = absurd (false≢true (sym h))
+shown false text h = refl
+
+whole_again : (home : Package) (passes : Script) (depth : ℕ) (ss : List Statement) (text : List ℕ) (told : Told) → AllByRecursion (IsSound depth) ss → AreCommands passes → is_query passes ≡ false
+    → IsWholeRun home passes true depth (text_following None (slots_of ss)) text told → told.changed ≡ false → text ≡ text_following None (slots_of ss)
+whole_again home passes depth ss text told sound commands query run quiet =
+    let again = text_again depth ss sound in
+    let same = (one_give depth 1 _ run.statements again.0 run.fault None run.read again.1).0 in
+    let unchanged : some_change home passes run.statements ≡ false = sym (told_change home passes run.statements run.fault) ∙ ap (λ (t : Told). t.changed) (sym run.told_is) ∙ quiet in
+    let none : Changes (meaning home) passes (slots_of run.statements) → ⊥ = λ change. false≢true (sym unchanged ∙ (changes_tell changed_tells home passes (slots_of run.statements) commands).1 change) in
+    run.text_is ∙ shown (is_query passes) (text_following None (slots_after (meaning home) passes (slots_of run.statements))) query
+    ∙ same_bytes _ _ (λ differ. quiet_passes (meaning home) passes (slots_of run.statements) none (λ stays. differ (ap (text_following None) stays ∙ ap (λ ts. text_following None (slots_of ts)) same)))
+    ∙ again.3
+
+pub same_again : (home : Package) (passes : Script) (depth : ℕ) (ss : List Statement) (text : List ℕ) (told : Told) → AllByRecursion (IsSound depth) ss → AreCommands passes → is_query passes ≡ false
+    → IsOutcome home passes true depth (text_following None (slots_of ss)) text told → told.changed ≡ false → text ≡ text_following None (slots_of ss)
+same_again home passes depth ss text told sound commands query (inl run) quiet = whole_again home passes depth ss text told sound commands query run quiet
+same_again home passes depth ss text told sound commands query (inr stop) quiet = absurd (false≢true (sym stop.ends))
