@@ -1,3 +1,4 @@
+mod Accepting
 mod Again
 mod AllComments
 mod BareDiffers
@@ -8,5 +9,8 @@ mod BareStatements
 mod Found
 mod Gone
 mod Likeness
+mod NewTexts
 mod OwnComments
+mod Segments
 mod SetAgain
+mod Tests
