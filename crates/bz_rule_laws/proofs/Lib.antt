@@ -1,6 +1,7 @@
 mod Accepting
 mod Again
 mod AllComments
+mod ArgumentValues
 mod BareDiffers
 mod BareEffects
 mod BareParts
@@ -9,6 +10,7 @@ mod BareStatements
 mod Found
 mod Gone
 mod Likeness
+mod ListParts
 mod NewTexts
 mod OwnComments
 mod Segments

@@ -1,0 +1,126 @@
+-- A named argument is well formed where its value is.
+use Rattle.std.proofs.Common.{◌≡◌, ℕ, ◌≤◌, List, [], ◌∷◌, ◌++◌, Bool, true, false, ◌||◌, Option, Some, None, is_some, drop, take, refl, sym, ap, subst, ◌∙◌, inl, inr, arith}
+use Rattle.std.specs.Prelude.{codes, bytes_eq, if◌then◌else◌}
+use Rattle.std.proofs.lemmas.Bool.{cases_Bool, false≢true}
+use Rattle.bz_token.specs.declared.token.Kind.TheVariants.{Ident, Word, Int, Text, Sign, Line, Note, Kept}
+use Rattle.bz_token.specs.Lexical.{is_text}
+use Rattle.bz_token.proofs.Classes.{same_bytes}
+use Rattle.bz_tree.specs.declared.kinds.Preceding.TheVariants.{Other}
+use Rattle.bz_tree.specs.Tree.{Item, leaf, group, Items, no_items, item, Place, Segment, items_of, segs_of}
+use Rattle.bz_tree.specs.Brackets.{is_for_item}
+use Rattle.bz_tree.specs.Grammar.{IsTest, IsArg, positional, keyword, starred, word_role}
+use Rattle.bz_layout_laws.specs.Legible.{items_depth}
+use Rattle.bz_layout_laws.specs.Parsed.{is_comma, nodes_have_for, have_for}
+use Rattle.bz_attribute.specs.Rules.{ident_of, is_sign, name_of, value}
+use Rattle.bz_attribute.specs.Lists.{is_attribute, with_value}
+use Rattle.bz_rule_laws.proofs.NewTexts.{equals_text}
+use Rattle.bz_rule_laws.proofs.Segments.{AreNodes, IsGood, AreGood}
+use Rattle.bz_rule_laws.proofs.Tests.{Each, IsInner, is_token, test_inner}
+
+-- no `for` stands in a test
+word_for : (bytes : List ℕ) → is_token (word_role bytes) ≡ true → bytes_eq bytes (codes "for") ≡ false
+word_for bytes h = elim (cases_Bool (bytes_eq bytes (codes "for"))) [
+  | inr other ↦ other
+  | inl is ↦ absurd (false≢true (sym (ap (λ bs. is_token (word_role bs)) (same_bytes bytes (codes "for") is)) ∙ h))
+]
+
+inner_for : (x : Item) → IsInner x → is_for_item x ≡ false
+inner_for (group kind segs one_comma end) h = refl
+inner_for (leaf Word bytes place) h = word_for bytes h
+inner_for (leaf _ bytes place) h = refl
+
+inner_have : (xs : Items) → Each IsInner xs → nodes_have_for xs ≡ false
+inner_have no_items h = refl
+inner_have (item x xs) h =
+    rw (inner_for x h.0, inner_have xs h.1) (elim (is_comma x) as (λ b. (if b then false else (false || false)) ≡ false) [ true ↦ refl | false ↦ refl ])
+
+pub no_for : (depth : ℕ) (ss : List Segment) → AreGood IsTest depth ss → have_for (segs_of ss) ≡ false
+no_for depth [] h = refl
+no_for depth (s ∷ ss) h = inner_have (items_of s.nodes) (test_inner h.0.form)
+
+-- the nodes of a named argument
+abbrev named : List ℕ → Place → Place → List Item → List Item
+named name place sign_place nodes = leaf Ident name place ∷ leaf Sign (codes "=") sign_place ∷ nodes
+
+pub record HasName (nodes : List Item) : Type 0 where
+  pub name : List ℕ
+  pub place : Place
+  pub sign_place : Place
+  pub are : nodes ≡ named name place sign_place (drop 2 nodes)
+
+sign_is : (x : Item) → is_sign (codes "=") x ≡ true → (place : Place) × (x ≡ leaf Sign (codes "=") place)
+sign_is (group kind segs one_comma end) h = absurd (false≢true h)
+sign_is (leaf Sign bytes place) h = (place, ap (λ bs. leaf Sign bs place) (same_bytes bytes (codes "=") h))
+sign_is (leaf _ bytes place) h = absurd (false≢true h)
+
+ident_is : (x : Item) → is_some (ident_of x) ≡ true → (name : List ℕ) × (place : Place) × (x ≡ leaf Ident name place)
+ident_is (group kind segs one_comma end) h = absurd (false≢true h)
+ident_is (leaf Ident bytes place) h = (bytes, place, refl)
+ident_is (leaf _ bytes place) h = absurd (false≢true h)
+
+name_parts : (b : Bool) (o : Option (List ℕ)) → is_some (if b then o else None) ≡ true → (b ≡ true) × (is_some o ≡ true)
+name_parts true o h = (refl, h)
+name_parts false o h = absurd (false≢true h)
+
+has_name : (nodes : List Item) → is_some (name_of nodes) ≡ true → HasName nodes
+has_name [] h = absurd (false≢true h)
+has_name (x ∷ []) h = absurd (false≢true h)
+has_name (x ∷ y ∷ nodes) h =
+    let p = name_parts (is_sign (codes "=") y) (ident_of x) h in
+    let n = ident_is x p.1 in
+    let e = sign_is y p.0 in
+    record { name = n.0; place = n.1; sign_place = e.0; are = λ i. n.2 i ∷ e.1 i ∷ nodes }
+
+-- a value: nodes that are a test
+pub record IsValue (depth : ℕ) (nodes : List Item) : Type 0 where
+  pub nodes_are : AreNodes depth nodes
+  pub test : IsTest (items_of nodes)
+
+named_test : (name : List ℕ) (place sign_place : Place) (xs : Items) → IsArg (item (leaf Ident name place) (item (leaf Sign (codes "=") sign_place) xs)) → IsTest xs
+named_test name place sign_place xs (positional h) = absurd (false≢true (test_inner h).1.0)
+named_test name place sign_place xs (keyword n e h) = h
+named_test name place sign_place xs (starred s h) = absurd (false≢true s)
+
+value_in_named : (depth : ℕ) (name : List ℕ) (place sign_place : Place) (nodes : List Item) → AreNodes depth (named name place sign_place nodes) → IsArg (items_of (named name place sign_place nodes)) → IsValue depth nodes
+value_in_named depth name place sign_place nodes h k =
+    let fits : items_depth (items_of (named name place sign_place nodes)) ≤ depth = h.depth_fits in
+    record {
+      nodes_are = record { texts = h.texts.1.1; kinds = h.kinds.2.2; depth_fits = omega arith };
+      test = named_test name place sign_place (items_of nodes) k;
+    }
+
+named_nodes : (depth : ℕ) (name : List ℕ) (place sign_place : Place) (nodes : List Item) → is_text Ident name ≡ true → AreNodes depth nodes → AreNodes depth (named name place sign_place nodes)
+named_nodes depth name place sign_place nodes n h =
+    let fits : items_depth (items_of nodes) ≤ depth = h.depth_fits in
+    record {
+      texts = ((n, refl), ((equals_text, refl), h.texts));
+      kinds = (λ e. e, tt, (λ e. e, tt, h.kinds));
+      depth_fits = omega arith;
+    }
+
+named_argument : (name : List ℕ) (place sign_place : Place) (nodes : List Item) → IsTest (items_of nodes) → IsArg (items_of (named name place sign_place nodes))
+named_argument name place sign_place nodes h = keyword refl refl h
+
+name_text : (depth : ℕ) (name : List ℕ) (place sign_place : Place) (nodes : List Item) → AreNodes depth (named name place sign_place nodes) → is_text Ident name ≡ true
+name_text depth name place sign_place nodes h = h.texts.0.0
+
+pub good_value : (depth : ℕ) (a : Segment) → is_attribute a ≡ true → IsGood IsArg depth a → IsValue depth (value a)
+good_value depth a h good =
+    let n = has_name a.nodes h in
+    value_in_named depth n.name n.place n.sign_place (value a) (subst (AreNodes depth) n.are good.nodes) (subst (λ (nodes : List Item). IsArg (items_of nodes)) n.are good.form)
+
+-- with another value
+put : (nodes others : List Item) (n : HasName nodes) → take 2 nodes ++ others ≡ named n.name n.place n.sign_place others
+put nodes others n = ap (λ (xs : List Item). take 2 xs ++ others) n.are
+
+pub good_with : (depth : ℕ) (nodes : List Item) (a : Segment) → is_attribute a ≡ true → IsGood IsArg depth a → IsValue depth nodes → IsGood IsArg depth (with_value nodes a)
+good_with depth nodes a h good v =
+    let n = has_name a.nodes h in
+    let was = subst (AreNodes depth) n.are good.nodes in
+    let are = put a.nodes nodes n in
+    record {
+      before = good.before;
+      suffix = good.suffix;
+      nodes = subst (AreNodes depth) (sym are) (named_nodes depth n.name n.place n.sign_place nodes (name_text depth n.name n.place n.sign_place (value a) was) v.nodes_are);
+      form = subst (λ (xs : List Item). IsArg (items_of xs)) (sym are) (named_argument n.name n.place n.sign_place nodes v.test);
+    }
