@@ -9,6 +9,7 @@ mod BareSettings
 mod BareStatements
 mod Found
 mod Gone
+mod GoodEffects
 mod Likeness
 mod ListParts
 mod NewTexts
