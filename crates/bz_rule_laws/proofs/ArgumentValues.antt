@@ -89,7 +89,7 @@ value_in_named depth name place sign_place nodes h k =
       test = named_test name place sign_place (items_of nodes) k;
     }
 
-named_nodes : (depth : ℕ) (name : List ℕ) (place sign_place : Place) (nodes : List Item) → is_text Ident name ≡ true → AreNodes depth nodes → AreNodes depth (named name place sign_place nodes)
+pub named_nodes : (depth : ℕ) (name : List ℕ) (place sign_place : Place) (nodes : List Item) → is_text Ident name ≡ true → AreNodes depth nodes → AreNodes depth (named name place sign_place nodes)
 named_nodes depth name place sign_place nodes n h =
     let fits : items_depth (items_of nodes) ≤ depth = h.depth_fits in
     record {

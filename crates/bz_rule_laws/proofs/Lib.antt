@@ -9,7 +9,8 @@ mod BareSettings
 mod BareStatements
 mod Found
 mod Gone
-mod GoodEffects
+mod GoodAdditions
+pub mod GoodEffects
 mod Likeness
 mod ListParts
 mod NewTexts
