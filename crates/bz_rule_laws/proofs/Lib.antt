@@ -10,7 +10,8 @@ mod BareStatements
 mod Found
 mod Gone
 mod GoodAdditions
-pub mod GoodEffects
+mod GoodEffects
+mod GoodReplacements
 mod Likeness
 mod ListParts
 mod NewTexts
