@@ -1,11 +1,10 @@
 -- A named argument is well formed where its value is.
-use Rattle.std.proofs.Common.{◌≡◌, ℕ, ◌≤◌, List, [], ◌∷◌, ◌++◌, Bool, true, false, ◌||◌, Option, Some, None, is_some, drop, take, refl, sym, ap, subst, ◌∙◌, inl, inr, arith}
+use Rattle.std.proofs.Common.{◌≡◌, ℕ, ◌≤◌, List, [], ◌∷◌, ◌++◌, Bool, true, false, ◌||◌, Option, None, is_some, drop, take, refl, sym, ap, subst, ◌∙◌, inl, inr, arith}
 use Rattle.std.specs.Prelude.{codes, bytes_eq, if◌then◌else◌}
 use Rattle.std.proofs.lemmas.Bool.{cases_Bool, false≢true}
-use Rattle.bz_token.specs.declared.token.Kind.TheVariants.{Ident, Word, Int, Text, Sign, Line, Note, Kept}
+use Rattle.bz_token.specs.declared.token.Kind.TheVariants.{Ident, Word, Sign}
 use Rattle.bz_token.specs.Lexical.{is_text}
 use Rattle.bz_token.proofs.Classes.{same_bytes}
-use Rattle.bz_tree.specs.declared.kinds.Preceding.TheVariants.{Other}
 use Rattle.bz_tree.specs.Tree.{Item, leaf, group, Items, no_items, item, Place, Segment, items_of, segs_of}
 use Rattle.bz_tree.specs.Brackets.{is_for_item}
 use Rattle.bz_tree.specs.Grammar.{IsTest, IsArg, positional, keyword, starred, word_role}
@@ -14,7 +13,7 @@ use Rattle.bz_layout_laws.specs.Parsed.{is_comma, nodes_have_for, have_for}
 use Rattle.bz_attribute.specs.Rules.{ident_of, is_sign, name_of, value}
 use Rattle.bz_attribute.specs.Lists.{is_attribute, with_value}
 use Rattle.bz_rule_laws.proofs.NewTexts.{equals_text}
-use Rattle.bz_rule_laws.proofs.Segments.{AreNodes, IsGood, AreGood}
+use Rattle.bz_rule_laws.proofs.Segments.{AreNodes, IsFormed, AreFormed}
 use Rattle.bz_rule_laws.proofs.Tests.{Each, IsInner, is_token, test_inner}
 
 -- no `for` stands in a test
@@ -34,7 +33,7 @@ inner_have no_items h = refl
 inner_have (item x xs) h =
     rw (inner_for x h.0, inner_have xs h.1) (elim (is_comma x) as (λ b. (if b then false else (false || false)) ≡ false) [ true ↦ refl | false ↦ refl ])
 
-pub no_for : (depth : ℕ) (ss : List Segment) → AreGood IsTest depth ss → have_for (segs_of ss) ≡ false
+pub no_for : (depth : ℕ) (ss : List Segment) → AreFormed IsTest depth ss → have_for (segs_of ss) ≡ false
 no_for depth [] h = refl
 no_for depth (s ∷ ss) h = inner_have (items_of s.nodes) (test_inner h.0.form)
 
@@ -104,7 +103,7 @@ named_argument name place sign_place nodes h = keyword refl refl h
 name_text : (depth : ℕ) (name : List ℕ) (place sign_place : Place) (nodes : List Item) → AreNodes depth (named name place sign_place nodes) → is_text Ident name ≡ true
 name_text depth name place sign_place nodes h = h.texts.0.0
 
-pub good_value : (depth : ℕ) (a : Segment) → is_attribute a ≡ true → IsGood IsArg depth a → IsValue depth (value a)
+pub good_value : (depth : ℕ) (a : Segment) → is_attribute a ≡ true → IsFormed IsArg depth a → IsValue depth (value a)
 good_value depth a h good =
     let n = has_name a.nodes h in
     value_in_named depth n.name n.place n.sign_place (value a) (subst (AreNodes depth) n.are good.nodes) (subst (λ (nodes : List Item). IsArg (items_of nodes)) n.are good.form)
@@ -113,7 +112,7 @@ good_value depth a h good =
 put : (nodes others : List Item) (n : HasName nodes) → take 2 nodes ++ others ≡ named n.name n.place n.sign_place others
 put nodes others n = ap (λ (xs : List Item). take 2 xs ++ others) n.are
 
-pub good_with : (depth : ℕ) (nodes : List Item) (a : Segment) → is_attribute a ≡ true → IsGood IsArg depth a → IsValue depth nodes → IsGood IsArg depth (with_value nodes a)
+pub good_with : (depth : ℕ) (nodes : List Item) (a : Segment) → is_attribute a ≡ true → IsFormed IsArg depth a → IsValue depth nodes → IsFormed IsArg depth (with_value nodes a)
 good_with depth nodes a h good v =
     let n = has_name a.nodes h in
     let was = subst (AreNodes depth) n.are good.nodes in

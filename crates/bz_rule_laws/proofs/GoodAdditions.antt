@@ -1,5 +1,5 @@
 -- Arguments that are well formed stay so where elements or an argument are added.
-use Rattle.std.proofs.Common.{◌≡◌, ℕ, suc, List, [], ◌∷◌, ◌++◌, Bool, true, false, map, if◌then◌else◌, refl, arith}
+use Rattle.std.proofs.Common.{◌≡◌, ℕ, suc, List, [], ◌∷◌, ◌++◌, true, false, map, if◌then◌else◌, refl, arith}
 use Rattle.bz_token.specs.declared.token.Kind.TheVariants.{Ident}
 use Rattle.bz_token.specs.Lexical.{is_text}
 use Rattle.bz_tree.specs.Tree.{Item, Segment, nowhere}
@@ -12,7 +12,7 @@ use Rattle.bz_rule_laws.proofs.ArgumentValues.{IsValue, good_value, good_with, n
 use Rattle.bz_rule_laws.proofs.GoodEffects.{first_good}
 use Rattle.bz_rule_laws.proofs.ListParts.{KeepsGood, first_part_edited, list_value}
 use Rattle.bz_rule_laws.proofs.NewTexts.{quoted_text}
-use Rattle.bz_rule_laws.proofs.Segments.{IsGood, AreGood, all_appended}
+use Rattle.bz_rule_laws.proofs.Segments.{IsFormed, AreFormed, all_appended}
 
 pub string_good_value : (depth : ℕ) (word : List ℕ) → IsValue depth (string_item word ∷ [])
 string_good_value depth word = record {
@@ -20,30 +20,30 @@ string_good_value depth word = record {
   test = plain (single (primary (operand (text refl) no_suffix)));
 }
 
-strings_good : (depth : ℕ) (words : List (List ℕ)) → AreGood IsTest depth (map string words)
+strings_good : (depth : ℕ) (words : List (List ℕ)) → AreFormed IsTest depth (map string words)
 strings_good depth [] = tt
 strings_good depth (word ∷ words) =
     let v = string_good_value depth word in
     (record { before = refl; suffix = refl; nodes = v.nodes_are; form = v.test }, strings_good depth words)
 
-pub argument_good : (depth : ℕ) (attr : List ℕ) (nodes : List Item) → is_text Ident attr ≡ true → IsValue depth nodes → IsGood IsArg depth (argument attr nodes)
+pub argument_good : (depth : ℕ) (attr : List ℕ) (nodes : List Item) → is_text Ident attr ≡ true → IsValue depth nodes → IsFormed IsArg depth (argument attr nodes)
 argument_good depth attr nodes name v = record { before = refl; suffix = refl; nodes = named_nodes depth attr nowhere nowhere nodes name v.nodes_are; form = keyword refl refl v.test }
 
-pub appended_good : (depth : ℕ) (more : List Segment) → AreGood IsTest depth more → KeepsGood depth (λ ss. ss ++ more)
-appended_good depth more k ss h = all_appended (IsGood IsTest depth) ss more h k
+pub appended_good : (depth : ℕ) (more : List Segment) → AreFormed IsTest depth more → KeepsGood depth (λ ss. ss ++ more)
+appended_good depth more k ss h = all_appended (IsFormed IsTest depth) ss more h k
 
-added_good : (depth : ℕ) (home : Package) (values : List (List ℕ)) (a : Segment) → is_attribute a ≡ true → IsGood IsArg (suc depth) a → IsGood IsArg (suc depth) (with_added home values a)
+added_good : (depth : ℕ) (home : Package) (values : List (List ℕ)) (a : Segment) → is_attribute a ≡ true → IsFormed IsArg (suc depth) a → IsFormed IsArg (suc depth) (with_added home values a)
 added_good depth home values a h good =
     let more : List Segment = new_elements home (parts (value a)) values in
-    elim (no_parts (parts (value a))) as (λ b. IsGood IsArg (suc depth) (if b then a else with_value (edit_first_part (λ ss. ss ++ more) (value a)) a)) [
+    elim (no_parts (parts (value a))) as (λ b. IsFormed IsArg (suc depth) (if b then a else with_value (edit_first_part (λ ss. ss ++ more) (value a)) a)) [
       | true ↦ good
       | false ↦ good_with (suc depth) (edit_first_part (λ ss. ss ++ more) (value a)) a h good
           (first_part_edited depth (λ ss. ss ++ more) (appended_good depth more (strings_good depth (fresh home (parts (value a)) [] values))) (value a) (good_value (suc depth) a h good))
     ]
 
-pub add_good : (depth : ℕ) (home : Package) (attr : List ℕ) (values : List (List ℕ)) (args : List Segment) → is_text Ident attr ≡ true → AreGood IsArg (suc depth) args → AreGood IsArg (suc depth) (add home attr values args)
+pub add_good : (depth : ℕ) (home : Package) (attr : List ℕ) (values : List (List ℕ)) (args : List Segment) → is_text Ident attr ≡ true → AreFormed IsArg (suc depth) args → AreFormed IsArg (suc depth) (add home attr values args)
 add_good depth home attr values args name h =
-    elim (has attr args) as (λ b. AreGood IsArg (suc depth) (if b then edit_first (is_named attr) (λ a. with_added home values a ∷ []) args else args ++ argument attr (list_item (new_elements home [] values) ∷ []) ∷ [])) [
+    elim (has attr args) as (λ b. AreFormed IsArg (suc depth) (if b then edit_first (is_named attr) (λ a. with_added home values a ∷ []) args else args ++ argument attr (list_item (new_elements home [] values) ∷ []) ∷ [])) [
       | true ↦ first_good (suc depth) attr (λ a. with_added home values a ∷ []) (λ a n good. (added_good depth home values a n good, tt)) args h
-      | false ↦ all_appended (IsGood IsArg (suc depth)) args _ h (argument_good (suc depth) attr (list_item (new_elements home [] values) ∷ []) name (list_value depth _ (strings_good depth (fresh home [] [] values))), tt)
+      | false ↦ all_appended (IsFormed IsArg (suc depth)) args _ h (argument_good (suc depth) attr (list_item (new_elements home [] values) ∷ []) name (list_value depth _ (strings_good depth (fresh home [] [] values))), tt)
     ]

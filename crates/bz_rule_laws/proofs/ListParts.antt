@@ -2,17 +2,17 @@
 use Rattle.std.proofs.Common.{◌≡◌, ℕ, suc, ◌≤◌, List, [], ◌∷◌, ◌++◌, Bool, true, false, ◌&&◌, if◌then◌else◌, refl, sym, ap, subst, ◌∙◌, arith}
 use Rattle.std.specs.List.{AllByRecursion, list_all, list_any}
 use Rattle.std.proofs.lemmas.Bool.{and_parts, false≢true}
-use Rattle.bz_tree.specs.declared.stmt.GroupKind.TheVariants.{Call, RuleCall, Load, Paren, List as ListKind, Index, Dict, ListComp, DictComp}
+use Rattle.bz_tree.specs.declared.stmt.GroupKind.TheVariants.{List as ListKind}
 use Rattle.bz_tree.specs.declared.kinds.Preceding.{Preceding}
 use Rattle.bz_tree.specs.declared.kinds.Preceding.TheVariants.{Other}
 use Rattle.bz_tree.specs.declared.kinds.Shape.TheVariants.{Square}
 use Rattle.bz_tree.specs.Kinds.{group_kind}
-use Rattle.bz_tree.specs.Tree.{Item, leaf, group, Items, no_items, item, Segs, no_segs, seg, Segment, items_of, segs_of, segments}
+use Rattle.bz_tree.specs.Tree.{Item, leaf, group, Items, item, Segs, Segment, items_of, segs_of, segments}
 use Rattle.bz_tree.specs.Brackets.{after_item}
 use Rattle.bz_tree.specs.Grammar.{IsTest, AreTests, plain, single, primary, operand, no_suffix, list}
 use Rattle.bz_tree.specs.private.Machine.{accepts, next, role_of}
 use Rattle.bz_layout_laws.specs.Inside.{HasShape}
-use Rattle.bz_layout_laws.specs.Legible.{AreComments, item_depth, items_depth, segs_depth}
+use Rattle.bz_layout_laws.specs.Legible.{item_depth, items_depth, segs_depth}
 use Rattle.bz_layout_laws.specs.TextsOfKinds.{HasText, HaveTexts, SegsHaveTexts}
 use Rattle.bz_layout_laws.specs.Parsed.{is_comma, have_for, HasKind, HaveKinds, SegsHaveKinds}
 use Rattle.bz_attribute.specs.Rules.{elements}
@@ -22,13 +22,13 @@ use Rattle.bz_attribute.specs.Commenting.{edit_element, edit_element_from}
 use Rattle.bz_attribute.proofs.Stays.{segs_back}
 use Rattle.bz_rule_laws.proofs.Accepting.{list_role, test_accepted, accepted_test, test_some}
 use Rattle.bz_rule_laws.proofs.ArgumentValues.{IsValue, no_for}
-use Rattle.bz_rule_laws.proofs.Segments.{AreGood, AreIn, AreNodes, form_tests, good_elements, taken_apart}
+use Rattle.bz_rule_laws.proofs.Segments.{AreFormed, form_tests, good_elements, taken_apart}
 use Rattle.bz_rule_laws.proofs.Tests.{Each, IsInner, is_list_kind, test_inner}
 
 -- a node is itself, or a list with other elements
 data IsEdit (depth : ℕ) : Item → Item → Type 0 where
   same : {x : Item} → IsEdit depth x x
-  edited : {segs : Segs} {one_comma : Bool} {end : List (List ℕ)} (ss : List Segment) → (AreGood IsTest depth (segments segs) → AreGood IsTest depth ss)
+  edited : {segs : Segs} {one_comma : Bool} {end : List (List ℕ)} (ss : List Segment) → (AreFormed IsTest depth (segments segs) → AreFormed IsTest depth ss)
       → IsEdit depth (group ListKind segs one_comma end) (group ListKind (segs_of ss) one_comma end)
 
 data AreEdits (depth : ℕ) : List Item → List Item → Type 0 where
@@ -59,7 +59,7 @@ other_nodes : (depth : ℕ) (b : Preceding) (x : Item) (xs : Items) → Nodes de
 other_nodes depth b x xs h = let fits : items_depth (item x xs) ≤ depth = h.depth_fits in record { texts = h.texts.1; kinds = h.kinds.2; depth_fits = omega arith; inner = h.inner.1 }
 
 -- the elements of a list
-list_elements : (depth : ℕ) (b : Preceding) (segs : Segs) (one_comma : Bool) (end : List (List ℕ)) → IsNode (suc depth) b (group ListKind segs one_comma end) → AreGood IsTest depth (segments segs)
+list_elements : (depth : ℕ) (b : Preceding) (segs : Segs) (one_comma : Bool) (end : List (List ℕ)) → IsNode (suc depth) b (group ListKind segs one_comma end) → AreFormed IsTest depth (segments segs)
 list_elements depth b segs one_comma end h =
     let back = sym (segs_back segs) in
     let fits : item_depth (group ListKind segs one_comma end) ≤ suc depth = h.depth_fits in
@@ -140,7 +140,7 @@ edited_value depth xs ys e v =
 
 -- the edits of list parts
 abbrev pub KeepsGood : ℕ → (List Segment → List Segment) → Type 0
-KeepsGood depth f = (ss : List Segment) → AreGood IsTest depth ss → AreGood IsTest depth (f ss)
+KeepsGood depth f = (ss : List Segment) → AreFormed IsTest depth ss → AreFormed IsTest depth (f ss)
 
 list_edit : (depth : ℕ) (f : List Segment → List Segment) → KeepsGood depth f → (x : Item) → is_list x ≡ true → IsEdit depth x (edit_list f x)
 list_edit depth f keep (leaf kind bytes place) h = absurd (false≢true h)
@@ -191,27 +191,27 @@ element_edited depth p g keep nodes v =
     [ true ↦ edited_value depth nodes (edit_element_from p g true nodes) (element_edits depth p g keep true nodes) v | false ↦ v ]
 
 -- the elements of list parts
-part_elements : (depth : ℕ) (b : Preceding) (x : Item) → is_list x ≡ true → IsNode (suc depth) b x → AreGood IsTest depth (elements x)
+part_elements : (depth : ℕ) (b : Preceding) (x : Item) → is_list x ≡ true → IsNode (suc depth) b x → AreFormed IsTest depth (elements x)
 part_elements depth b (leaf kind bytes place) l h = absurd (false≢true l)
 part_elements depth b (group ListKind segs one_comma end) l h = list_elements depth b segs one_comma end h
 part_elements depth b (group _ segs one_comma end) l h = absurd (false≢true l)
 
-from_good : (depth : ℕ) (b : Preceding) (start : Bool) (xs : List Item) → Nodes (suc depth) b (items_of xs) → AllByRecursion (AreGood IsTest depth) (parts_from start xs)
+from_good : (depth : ℕ) (b : Preceding) (start : Bool) (xs : List Item) → Nodes (suc depth) b (items_of xs) → AllByRecursion (AreFormed IsTest depth) (parts_from start xs)
 from_good depth b start [] h = tt
 from_good depth b start (x ∷ xs) h =
     let rest = from_good depth (after_item x) (is_plus x) xs (other_nodes (suc depth) b x (items_of xs) h) in
-    elim (is_part start x xs) as (λ t. is_part start x xs ≡ t → AllByRecursion (AreGood IsTest depth) ((if t then elements x ∷ [] else []) ++ parts_from (is_plus x) xs)) [
+    elim (is_part start x xs) as (λ t. is_part start x xs ≡ t → AllByRecursion (AreFormed IsTest depth) ((if t then elements x ∷ [] else []) ++ parts_from (is_plus x) xs)) [
       | true ↦ λ e. (part_elements depth b x (part_list start x xs e) (first_node (suc depth) b x (items_of xs) h), rest)
       | false ↦ λ e. rest
     ] refl
 
-pub parts_good : (depth : ℕ) (nodes : List Item) → IsValue (suc depth) nodes → AllByRecursion (AreGood IsTest depth) (parts nodes)
+pub parts_good : (depth : ℕ) (nodes : List Item) → IsValue (suc depth) nodes → AllByRecursion (AreFormed IsTest depth) (parts nodes)
 parts_good depth nodes v =
-    elim (list_all is_joint nodes) as (λ b. AllByRecursion (AreGood IsTest depth) (if b then parts_from true nodes else []))
+    elim (list_all is_joint nodes) as (λ b. AllByRecursion (AreFormed IsTest depth) (if b then parts_from true nodes else []))
     [ true ↦ from_good depth Other true nodes (value_nodes (suc depth) nodes v) | false ↦ tt ]
 
 -- a value that is one list
-pub list_value : (depth : ℕ) (ss : List Segment) → AreGood IsTest depth ss → IsValue (suc depth) (list_item ss ∷ [])
+pub list_value : (depth : ℕ) (ss : List Segment) → AreFormed IsTest depth ss → IsValue (suc depth) (list_item ss ∷ [])
 list_value depth ss h =
     let inside = taken_apart IsTest test_some depth ss h in
     let fits : segs_depth (segs_of ss) ≤ depth = inside.depth_fits in

@@ -1,29 +1,12 @@
 -- Arguments of a call and elements of a list that are well formed.
-use Rattle.std.proofs.Common.{◌≡◌, ℕ, ◌≤◌, List, [], ◌∷◌, ◌++◌, Bool, true, false, filter, map, cond, refl, arith}
+use Rattle.std.proofs.Common.{◌≡◌, ℕ, ◌≤◌, List, [], ◌∷◌, ◌++◌, Bool, true, false, filter, map, cond, arith}
 use Rattle.std.specs.List.{AllByRecursion, flat_map}
-use Rattle.bz_tree.specs.declared.kinds.Preceding.TheVariants.{Other}
-use Rattle.bz_tree.specs.Tree.{Item, Items, Segment, items_of, segs_of}
-use Rattle.bz_tree.specs.Comments.{beside}
+use Rattle.bz_tree.specs.Tree.{Items, Segment, items_of, segs_of}
 use Rattle.bz_tree.specs.Grammar.{IsTest, AreTests, no_test, one_test, IsArg, AreArgs, no_arg, one_arg}
-use Rattle.bz_layout_laws.specs.Legible.{AreComments, are_some, items_depth, segs_depth}
-use Rattle.bz_layout_laws.specs.TextsOfKinds.{HaveTexts, SegsHaveTexts}
-use Rattle.bz_layout_laws.specs.Parsed.{HaveKinds, SegsHaveKinds}
-
--- nodes at the front of a segment that has no commas, with so many brackets open at once at most
-pub record AreNodes (depth : ℕ) (nodes : List Item) : Type 0 where
-  pub texts : HaveTexts (items_of nodes)
-  pub kinds : HaveKinds false Other (items_of nodes)
-  pub depth_fits : items_depth (items_of nodes) ≤ depth
-
--- a segment with its comments, whose nodes are such and in the grammar
-pub record IsGood (Form : Items → Type 0) (depth : ℕ) (s : Segment) : Type 0 where
-  pub before : AreComments s.before
-  pub suffix : AreComments (beside s.suffix)
-  pub nodes : AreNodes depth s.nodes
-  pub form : Form (items_of s.nodes)
-
-abbrev pub AreGood : (Items → Type 0) → ℕ → List Segment → Type 0
-AreGood Form depth ss = AllByRecursion (IsGood Form depth) ss
+use Rattle.bz_layout_laws.specs.Legible.{are_some, items_depth, segs_depth}
+use Rattle.bz_layout_laws.specs.TextsOfKinds.{SegsHaveTexts}
+use Rattle.bz_layout_laws.specs.Parsed.{SegsHaveKinds}
+pub use Rattle.bz_rule_laws.specs.WellFormedSegments.{AreNodes, IsFormed, AreFormed}
 
 -- as the definitions say it of a bracket
 pub record AreIn (depth : ℕ) (ss : List Segment) : Type 0 where
@@ -34,19 +17,20 @@ pub record AreIn (depth : ℕ) (ss : List Segment) : Type 0 where
 abbrev HaveForm : (Items → Type 0) → List Segment → Type 0
 HaveForm Form ss = AllByRecursion (λ (s : Segment). Form (items_of s.nodes)) ss
 
-put_together : (Form : Items → Type 0) (depth : ℕ) (ss : List Segment) → AreIn depth ss → HaveForm Form ss → AreGood Form depth ss
+put_together : (Form : Items → Type 0) (depth : ℕ) (ss : List Segment) → AreIn depth ss → HaveForm Form ss → AreFormed Form depth ss
 put_together Form depth [] h k = tt
 put_together Form depth (s ∷ ss) h k =
-    let fits : segs_depth (segs_of (s ∷ ss)) ≤ depth = h.depth_fits in
-    (record {
-      before = h.texts.0;
-      suffix = h.texts.3;
-      nodes = record { texts = h.texts.2; kinds = h.kinds.0; depth_fits = omega arith };
-      form = k.0;
-    },
-    put_together Form depth ss (record { texts = h.texts.4; kinds = h.kinds.1; depth_fits = omega arith }) k.1)
+    let fits : segs_depth (segs_of (s ∷ ss)) ≤ depth = h.depth_fits in (
+      record {
+        before = h.texts.0;
+        suffix = h.texts.3;
+        nodes = record { texts = h.texts.2; kinds = h.kinds.0; depth_fits = omega arith };
+        form = k.0;
+      },
+      put_together Form depth ss (record { texts = h.texts.4; kinds = h.kinds.1; depth_fits = omega arith }) k.1,
+    )
 
-pub taken_apart : (Form : Items → Type 0) → ((xs : Items) → Form xs → are_some xs ≡ true) → (depth : ℕ) (ss : List Segment) → AreGood Form depth ss → AreIn depth ss
+pub taken_apart : (Form : Items → Type 0) → ((xs : Items) → Form xs → are_some xs ≡ true) → (depth : ℕ) (ss : List Segment) → AreFormed Form depth ss → AreIn depth ss
 taken_apart Form some depth [] h = record { texts = tt; kinds = tt; depth_fits = omega arith }
 taken_apart Form some depth (s ∷ ss) h =
     let rest = taken_apart Form some depth ss h.1 in
@@ -62,7 +46,7 @@ tests_form : (ss : List Segment) → AreTests (segs_of ss) → HaveForm IsTest s
 tests_form [] h = tt
 tests_form (s ∷ ss) (one_test h more) = (h, tests_form ss more)
 
-pub form_tests : (depth : ℕ) (ss : List Segment) → AreGood IsTest depth ss → AreTests (segs_of ss)
+pub form_tests : (depth : ℕ) (ss : List Segment) → AreFormed IsTest depth ss → AreTests (segs_of ss)
 form_tests depth [] h = no_test
 form_tests depth (s ∷ ss) h = one_test h.0.form (form_tests depth ss h.1)
 
@@ -70,14 +54,14 @@ args_form : (ss : List Segment) → AreArgs (segs_of ss) → HaveForm IsArg ss
 args_form [] h = tt
 args_form (s ∷ ss) (one_arg h more) = (h, args_form ss more)
 
-pub form_args : (depth : ℕ) (ss : List Segment) → AreGood IsArg depth ss → AreArgs (segs_of ss)
+pub form_args : (depth : ℕ) (ss : List Segment) → AreFormed IsArg depth ss → AreArgs (segs_of ss)
 form_args depth [] h = no_arg
 form_args depth (s ∷ ss) h = one_arg h.0.form (form_args depth ss h.1)
 
-pub good_elements : (depth : ℕ) (ss : List Segment) → AreIn depth ss → AreTests (segs_of ss) → AreGood IsTest depth ss
+pub good_elements : (depth : ℕ) (ss : List Segment) → AreIn depth ss → AreTests (segs_of ss) → AreFormed IsTest depth ss
 good_elements depth ss h k = put_together IsTest depth ss h (tests_form ss k)
 
-pub good_arguments : (depth : ℕ) (ss : List Segment) → AreIn depth ss → AreArgs (segs_of ss) → AreGood IsArg depth ss
+pub good_arguments : (depth : ℕ) (ss : List Segment) → AreIn depth ss → AreArgs (segs_of ss) → AreFormed IsArg depth ss
 good_arguments depth ss h k = put_together IsArg depth ss h (args_form ss k)
 
 -- lists of these

@@ -1,2 +1,3 @@
 pub mod Bare
 pub mod OwnComments
+pub mod WellFormedSegments

@@ -5,3 +5,4 @@ pub mod changes;
 pub mod comments;
 pub mod effects;
 pub mod targets;
+pub mod well_formed;
