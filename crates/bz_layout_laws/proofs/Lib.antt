@@ -63,3 +63,4 @@ mod WellFormedExamples
 pub mod Utf8Tokens
 pub mod Utf8Read
 pub mod Utf8Written
+mod FileExamples
