@@ -19,9 +19,17 @@ use Rattle.bz_layout_laws.proofs.FileChunks.{file_chunks}
 use Rattle.bz_layout_laws.proofs.FileReads.{file_read_again, file_read_only}
 use Rattle.bz_layout_laws.proofs.Utf8Written.{written_utf8, low_utf8}
 use Rattle.bz_command.specs.Passes.{Slot}
+use Rattle.bz_engine.specs.declared.report.SyntaxFault.{SyntaxFault}
+use Rattle.bz_engine.proofs.OneOutcome.{one_give}
 use Rattle.bz_engine.specs.File.{Gives, Follows, Give, IsFile}
 use Rattle.bz_engine.specs.Outcome.{slots_of, text_following}
-use Rattle.bz_engine_laws.specs.Sound.{left_in, IsSound}
+use Rattle.bz_engine_laws.specs.Sound.{IsSound}
+
+-- the statements that are left in slots
+abbrev left_in : List (Slot Statement) → List Statement
+left_in [] = []
+left_in (None ∷ slots) = left_in slots
+left_in (Some s ∷ slots) = s ∷ left_in slots
 
 -- the text of slots is that of what is left in them
 pub text_left : (last : Option Class) (slots : List (Slot Statement)) → text_following last slots ≡ text_from last (left_in slots)
@@ -84,3 +92,11 @@ text_again depth ss sound =
     let utf8 = subst (AllByRecursion IsUtf8) (sym cut) (chunks_utf8 depth ss sound) in
     let file = subst (λ text. IsFile depth text read.0 None) (sym same) (give_statements depth 1 (chunks (text_from None ss)) read.0 utf8 read.1) in
     (read.0, file, read.2, text_of_all read.0 ∙ (file_read_only 1 depth ss read.0 back read.1).1 ∙ sym same)
+
+-- and as nothing else
+pub text_only : (depth : ℕ) (ss ts : List Statement) (fault : Option SyntaxFault) → AllByRecursion (IsSound depth) ss → IsFile depth (text_following None (slots_of ss)) ts fault
+    → (fault ≡ None) × (map unplaced ts ≡ map (λ s. unplaced (spelled_statement s)) ss) × (text_following None (slots_of ts) ≡ text_following None (slots_of ss))
+text_only depth ss ts fault sound file =
+    let again = text_again depth ss sound in
+    let one = one_give depth 1 _ ts again.0 fault None file again.1 in
+    (one.1, ap (map unplaced) one.0 ∙ again.2, ap (λ us. text_following None (slots_of us)) one.0 ∙ again.3)
