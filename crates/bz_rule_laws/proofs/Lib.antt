@@ -16,6 +16,12 @@ mod Likeness
 mod ListParts
 mod NewTexts
 mod OwnComments
+mod PassingCommands
+mod PassingEffects
+mod PassingParts
+mod PassingSettings
+mod PassingTexts
 mod Segments
 mod SetAgain
 mod Tests
+mod Utf8Commands

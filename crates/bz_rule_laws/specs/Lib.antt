@@ -1,3 +1,4 @@
 pub mod Bare
+pub mod CommandTexts
 pub mod OwnComments
 pub mod WellFormedSegments
