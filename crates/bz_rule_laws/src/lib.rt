@@ -5,4 +5,5 @@ pub mod changes;
 pub mod comments;
 pub mod effects;
 pub mod targets;
+pub mod texts;
 pub mod well_formed;
