@@ -38,7 +38,7 @@ no_for depth [] h = refl
 no_for depth (s ∷ ss) h = inner_have (items_of s.nodes) (test_inner h.0.form)
 
 -- the nodes of a named argument
-abbrev named : List ℕ → Place → Place → List Item → List Item
+abbrev pub named : List ℕ → Place → Place → List Item → List Item
 named name place sign_place nodes = leaf Ident name place ∷ leaf Sign (codes "=") sign_place ∷ nodes
 
 pub record HasName (nodes : List Item) : Type 0 where
@@ -61,7 +61,7 @@ name_parts : (b : Bool) (o : Option (List ℕ)) → is_some (if b then o else No
 name_parts true o h = (refl, h)
 name_parts false o h = absurd (false≢true h)
 
-has_name : (nodes : List Item) → is_some (name_of nodes) ≡ true → HasName nodes
+pub has_name : (nodes : List Item) → is_some (name_of nodes) ≡ true → HasName nodes
 has_name [] h = absurd (false≢true h)
 has_name (x ∷ []) h = absurd (false≢true h)
 has_name (x ∷ y ∷ nodes) h =
@@ -97,7 +97,7 @@ named_nodes depth name place sign_place nodes n h =
       depth_fits = omega arith;
     }
 
-named_argument : (name : List ℕ) (place sign_place : Place) (nodes : List Item) → IsTest (items_of nodes) → IsArg (items_of (named name place sign_place nodes))
+pub named_argument : (name : List ℕ) (place sign_place : Place) (nodes : List Item) → IsTest (items_of nodes) → IsArg (items_of (named name place sign_place nodes))
 named_argument name place sign_place nodes h = keyword refl refl h
 
 name_text : (depth : ℕ) (name : List ℕ) (place sign_place : Place) (nodes : List Item) → AreNodes depth (named name place sign_place nodes) → is_text Ident name ≡ true

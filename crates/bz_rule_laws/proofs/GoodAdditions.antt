@@ -20,7 +20,7 @@ string_good_value depth word = record {
   test = plain (single (primary (operand (text refl) no_suffix)));
 }
 
-strings_good : (depth : ℕ) (words : List (List ℕ)) → AreFormed IsTest depth (map string words)
+pub strings_good : (depth : ℕ) (words : List (List ℕ)) → AreFormed IsTest depth (map string words)
 strings_good depth [] = tt
 strings_good depth (word ∷ words) =
     let v = string_good_value depth word in

@@ -21,7 +21,9 @@ mod PassingEffects
 mod PassingParts
 mod PassingSettings
 mod PassingTexts
+mod RenamedFormed
 mod Segments
 mod SetAgain
+mod SettingsFormed
 mod Tests
 mod Utf8Commands
