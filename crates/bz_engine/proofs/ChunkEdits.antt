@@ -7,9 +7,9 @@ use Rattle.bz_command.specs.Labels.{Package}
 use Rattle.bz_engine.specs.Exchange.{IsLeftBy, slot_after}
 use Rattle.bz_engine.specs.Meaning.{meaning, changes, fails_on}
 use Rattle.bz_engine.specs.File.{Gives}
-use Rattle.bz_engine.specs.Outcome.{Script, slots_of, is_query, text_following}
+use Rattle.bz_engine.specs.Outcome.{Script, slots_of, is_query}
 use Rattle.bz_command.specs.Passes.{slots_after}
-use Rattle.bz_engine.specs.Progress.{Progress, IsKeptOf, last_class}
+use Rattle.bz_engine.specs.Progress.{Progress, IsKeptOf, last_class, text_following}
 use Rattle.bz_engine.specs.declared.edit.Edited.{Edited}
 use Rattle.bz_engine.specs.declared.edit.Edited.TheVariants.{Done, Faulty, Failed}
 use Rattle.bz_engine.specs.private.Edits.{IsDone, IsLaidOut, IsScripted, IsEdited}

@@ -19,7 +19,7 @@ commands_alone : {S T C M : Type 0} (m : Meaning S T C M) (cs : List C) (xs : Li
 commands_alone m [] xs = map_same xs
 commands_alone m (c ∷ cs) xs = commands_alone m cs (map (executed m c) xs) ∙ map_map _ _ xs
 
-pass_alone : {S T C M : Type 0} (m : Meaning S T C M) (p : Pass T C) (slots : List (Slot S))
+pub pass_alone : {S T C M : Type 0} (m : Meaning S T C M) (p : Pass T C) (slots : List (Slot S))
     → slots_after_pass m p slots ≡ map (slot_after_pass m p) slots
 pass_alone m p slots =
     ap (map (λ x. x.slot)) (commands_alone m p.commands _)

@@ -12,12 +12,13 @@ use Rattle.bz_attribute.specs.declared.done.Note.{Note}
 use Rattle.bz_attribute.specs.declared.done.Note.TheVariants.{Missing, NoAttribute, AttributeExists, NotAList, NoValue}
 use Rattle.bz_engine.specs.declared.entry.Entry.{Entry}
 use Rattle.bz_command.specs.Passes.{Slot}
-use Rattle.bz_engine.specs.Exchange.{Kept, IsLeftBy}
+use Rattle.bz_engine.specs.Exchange.{Kept, IsLeftBy, log_alone, some_alone}
 use Rattle.bz_engine.specs.Meaning.{meaning, changes, fails_on, says, line_told, note_told, shown_slot}
-use Rattle.bz_engine.specs.Outcome.{Script, failure_text, first_of, log_alone, fails_at}
+use Rattle.bz_engine.specs.Outcome.{Script, failure_text, first_of}
 use Rattle.bz_engine.specs.Progress.{Progress}
 use Rattle.bz_engine.specs.private.Edits.{IsEnded}
 use Rattle.bz_engine.proofs.Failures.{failures_alone}
+use Rattle.bz_engine.proofs.OneSlot.{fails_alone, said_alone}
 
 -- a note that is no failure tells of none
 no_failure : (rule : List ℕ) (line : Option (List ℕ)) (note : Option Note) → fails note ≡ false → flat_map failure_text (line_told line ++ note_told rule note) ≡ []
@@ -41,7 +42,7 @@ or_then false b f is h none = sym is ∙ h
 -- the run ends at a statement
 pub ends_there : (home : Package) (passes : Script) (keep_going : Bool) (s : Statement) (message : Option (List ℕ)) (old new : Progress)
     (kept : List (Kept Entry)) (changed failed : Bool) (text : List ℕ)
-    → keep_going ≡ false → failed ≡ true → failed ≡ (old.failed || fails_at home passes s)
+    → keep_going ≡ false → failed ≡ true → failed ≡ (old.failed || some_alone (meaning home) (fails_on home) passes (Some s))
     → ((slots : List (Slot Statement)) → IsLeftBy (meaning home) (changes home) (fails_on home) passes slots old.kept old.changed old.failed
     → IsLeftBy (meaning home) (changes home) (fails_on home) passes (slots ++ Some s ∷ []) kept changed failed)
     → option_to_list message ≡ first_of (flat_map failure_text (log_alone kept))
@@ -49,11 +50,12 @@ pub ends_there : (home : Package) (passes : Script) (keep_going : Bool) (s : Sta
     → IsEnded home passes keep_going s message old new text text
 ends_there home passes keep_going s message old new kept changed failed text ends bad here left told same_changed same_line = record {
   ends = ends;
-  fails = λ none. or_then old.failed (fails_at home passes s) failed here bad none;
+  fails = λ none. fails_alone home passes s ∙ or_then old.failed (some_alone (meaning home) (fails_on home) passes (Some s)) failed here bad none;
   message_is = λ none slots before.
       told
       ∙ ap (λ k. first_of (flat_map failure_text (log_alone k))) (left slots before).kept
-      ∙ ap first_of (failures_alone (meaning home) failure_text (fails_on home) (quiet home) passes slots (Some s) (sym before.failed ∙ none));
+      ∙ ap first_of (failures_alone (meaning home) failure_text (fails_on home) (quiet home) passes slots (Some s) (sym before.failed ∙ none))
+      ∙ ap (λ l. first_of (flat_map failure_text l)) (sym (said_alone (meaning home) passes (Some s)));
   changed = same_changed;
   line = same_line;
   nothing = refl;

@@ -4,13 +4,13 @@ use Rattle.std.specs.Prelude.{Option, None, Some, if◌then◌else◌}
 use Rattle.bz_tree.specs.Tree.{Statement}
 use Rattle.bz_tree.specs.declared.stmt.Class.{Class}
 use Rattle.bz_layout.specs.Layout.{layout_text}
-use Rattle.bz_layout.specs.Gaps.{blank_between}
+use Rattle.bz_layout.specs.Gaps.{gap_between, blank_between}
 use Rattle.bz_command.specs.Labels.{Package}
 use Rattle.bz_command.specs.Passes.{Slot, slots_after}
 use Rattle.bz_engine.specs.Exchange.{slot_after}
 use Rattle.bz_engine.specs.Meaning.{meaning}
-use Rattle.bz_engine.specs.Outcome.{Script, slots_of, is_query, gap_text, text_following, shown_text, text_after}
-use Rattle.bz_engine.specs.Progress.{last_class}
+use Rattle.bz_engine.specs.Outcome.{Script, slots_of, left_in, text_of, is_query, gap_text, shown_text, text_after}
+use Rattle.bz_engine.specs.Progress.{last_class, text_following}
 use Rattle.bz_engine.proofs.ExchangeLaw.{map_more}
 use Rattle.bz_engine.proofs.Failures.{slots_more}
 
@@ -31,6 +31,22 @@ last_more last [] x = refl
 last_more last (None ∷ xs) x = last_more last xs x
 last_more last (Some s ∷ xs) x = last_more (Some s.class) xs x
 
+-- between neighbours, or each after the one before it
+text_after_some : (s : Statement) (slots : List (Slot Statement)) → layout_text s ++ text_following (Some s.class) slots ≡ text_of (s ∷ left_in slots)
+text_after_some s [] = append-nil (layout_text s)
+text_after_some s (None ∷ slots) = text_after_some s slots
+text_after_some s (Some t ∷ slots) = ap (λ l. layout_text s ++ (gap_text (gap_between s.class t.class) ++ l)) (text_after_some t slots)
+
+pub text_by_neighbours : (slots : List (Slot Statement)) → text_following None slots ≡ text_of (left_in slots)
+text_by_neighbours [] = refl
+text_by_neighbours (None ∷ slots) = text_by_neighbours slots
+text_by_neighbours (Some s ∷ slots) = text_after_some s slots
+
+text_of_more : (xs : List (Slot Statement)) (x : Slot Statement)
+    → text_of (left_in (xs ++ x ∷ [])) ≡ text_of (left_in xs) ++ text_following (last_class None xs) (x ∷ [])
+text_of_more xs x =
+    sym (text_by_neighbours (xs ++ x ∷ [])) ∙ text_more None xs x ∙ ap (λ l. l ++ text_following (last_class None xs) (x ∷ [])) (text_by_neighbours xs)
+
 shown_if : (query : Bool) (before more all : List ℕ) → all ≡ before ++ more
     → (if query then [] else all) ≡ (if query then [] else before) ++ (if query then [] else more)
 shown_if true before more all h = refl
@@ -38,7 +54,7 @@ shown_if false before more all h = h
 
 shown_more : (passes : Script) (xs : List (Slot Statement)) (x : Slot Statement)
     → shown_text passes (xs ++ x ∷ []) ≡ shown_text passes xs ++ (if is_query passes then [] else text_following (last_class None xs) (x ∷ []))
-shown_more passes xs x = shown_if (is_query passes) (text_following None xs) (text_following (last_class None xs) (x ∷ [])) (text_following None (xs ++ x ∷ [])) (text_more None xs x)
+shown_more passes xs x = shown_if (is_query passes) (text_of (left_in xs)) (text_following (last_class None xs) (x ∷ [])) (text_of (left_in (xs ++ x ∷ []))) (text_of_more xs x)
 
 pub slots_after_more : (home : Package) (passes : Script) (ss : List Statement) (s : Statement)
     → slots_after (meaning home) passes (slots_of (ss ++ s ∷ [])) ≡ slots_after (meaning home) passes (slots_of ss) ++ slot_after (meaning home) passes (Some s) ∷ []

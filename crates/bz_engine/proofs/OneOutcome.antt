@@ -12,9 +12,10 @@ use Rattle.bz_engine.specs.declared.report.SyntaxFault.{SyntaxFault}
 use Rattle.bz_engine.specs.Exchange.{slot_after, some_alone}
 use Rattle.bz_engine.specs.Meaning.{meaning, fails_on}
 use Rattle.bz_engine.specs.File.{Follows, Give}
-use Rattle.bz_engine.specs.Progress.{last_class}
-use Rattle.bz_engine.specs.Outcome.{Script, slots_of, is_query, text_following, text_after, Told, some_failure, told_of, told_of_failure, fails_at, BeginsWith, IsWholeRun, EndsAtFailure, IsOutcome, IsFrontOf}
+use Rattle.bz_engine.specs.Progress.{last_class, text_following}
+use Rattle.bz_engine.specs.Outcome.{Script, slots_of, is_query, text_after, Told, some_failure, told_of, told_of_failure, fails_at, BeginsWith, IsWholeRun, EndsAtFailure, IsOutcome, IsFrontOf}
 use Rattle.bz_engine.proofs.ExchangeLaw.{some_alone_lem}
+use Rattle.bz_engine.proofs.OneSlot.{fails_alone}
 use Rattle.bz_engine.proofs.Failures.{or_left, or_right}
 use Rattle.bz_engine.proofs.Given.{none_is_some}
 use Rattle.bz_engine.proofs.MoreText.{text_after_more, text_after_none}
@@ -104,7 +105,7 @@ calm_at : {X : Type 0} (home : Package) (passes : Script) (ss before more : List
 calm_at home passes ss before more s calm is fails =
     let each = some_alone_lem (meaning home) (fails_on home) passes (slots_of ((before ++ s ∷ []) ++ more)) in
     let none = none_within (some_alone (meaning home) (fails_on home) passes) before more s (sym each ∙ ap (some_failure home passes) (sym is) ∙ calm) in
-    absurd (false≢true (sym none ∙ fails))
+    absurd (false≢true (sym none ∙ sym (fails_alone home passes s) ∙ fails))
 
 -- The text of the first statements is a front of the text of all.
 pub text_front : (home : Package) (passes : Script) (xs more : List Statement) → IsFrontOf (text_after home passes xs) (text_after home passes (xs ++ more))

@@ -17,8 +17,9 @@ use Rattle.bz_engine.specs.declared.report.SyntaxFault.TheVariants.{Parse}
 use Rattle.bz_engine.specs.Exchange.{some_alone}
 use Rattle.bz_engine.specs.Meaning.{meaning, fails_on}
 use Rattle.bz_engine.specs.File.{not_utf8, Gives, Follows, Give}
-use Rattle.bz_engine.specs.Outcome.{Script, slots_of, text_after, Told, some_failure, told_of, told_of_failure, fails_at, IsOutcome}
+use Rattle.bz_engine.specs.Outcome.{Script, slots_of, text_after, Told, some_failure, told_of, told_of_failure, IsOutcome}
 use Rattle.bz_engine.proofs.ExchangeLaw.{some_alone_lem}
+use Rattle.bz_engine.proofs.OneSlot.{fails_alone}
 
 -- a chunk gives an answer
 abbrev GivesSome : ℕ → ℕ → List ℕ → Type 0
@@ -179,7 +180,7 @@ some_outcome home passes keep_going depth file = at_keep keep_going refl (some_f
             statement = first.statement;
             read = record { front = at.front; after = at.after; chunks_are = at.are; read = at.read };
             calm = some_alone_lem (meaning home) (fails_on home) passes (slots_of first.before) ∙ first.none;
-            fails = first.passes;
+            fails = fails_alone home passes first.statement ∙ first.passes;
             text_is = refl;
             told_is = refl;
           }),

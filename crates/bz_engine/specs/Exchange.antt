@@ -59,6 +59,9 @@ abbrev pub kept_alone : {S T C M : Type 0} → Meaning S T C M → List (Pass T 
 kept_alone m [] slot = []
 kept_alone m (p ∷ ps) slot = pass_alone m p slot ∷ kept_alone m ps (slot_after_pass m p slot)
 
+abbrev pub log_alone : {M : Type 0} → List (Kept M) → List M
+log_alone kept = flat_map (λ k. flat_map (λ log. log) k.logs) kept
+
 -- and whether one of its executions meets a test
 abbrev pub some_of_commands_alone : {S T C M : Type 0} → Meaning S T C M → (C → Slot S → Bool) → List C → Marked S → Bool
 some_of_commands_alone m test [] x = false

@@ -3,9 +3,8 @@ use Rattle.std.specs.Prelude.{◌≡◌, ◌⊎◌, ℕ, Bool, true, false, ◌|
 use Rattle.std.specs.List.{list_all, flat_map}
 use Rattle.bz_token.specs.Chunks.{chunks}
 use Rattle.bz_tree.specs.Tree.{Statement}
-use Rattle.bz_tree.specs.declared.stmt.Class.{Class}
 use Rattle.bz_layout.specs.Layout.{layout_text}
-use Rattle.bz_layout.specs.Gaps.{blank_between}
+use Rattle.bz_layout.specs.Gaps.{gap_between}
 use Rattle.bz_command.specs.Labels.{Package, Target}
 use Rattle.bz_command.specs.Commands.{Command, is_print}
 use Rattle.bz_engine.specs.declared.entry.Entry.{Entry}
@@ -14,8 +13,7 @@ use Rattle.bz_engine.specs.declared.report.SyntaxFault.{SyntaxFault}
 use Rattle.bz_engine.specs.declared.report.End.{End}
 use Rattle.bz_engine.specs.declared.report.End.TheVariants.{Whole, Syntax, FirstFailure}
 use Rattle.bz_engine.specs.declared.report.Report.{Report}
-use Rattle.bz_command.specs.Passes.{Pass, Slot, slots_after, log_of, some_execution, some_missing}
-use Rattle.bz_engine.specs.Exchange.{Kept, kept_alone, some_alone}
+use Rattle.bz_command.specs.Passes.{Meaning, Pass, Slot, marked, log_of_commands, slots_after_pass, slots_after, log_of, some_execution, some_missing}
 use Rattle.bz_engine.specs.Messages.{fault_text}
 use Rattle.bz_engine.specs.Meaning.{meaning, changes, fails_on}
 use Rattle.bz_engine.specs.File.{Give, IsFile}
@@ -34,15 +32,21 @@ slots_of statements = map Some statements
 abbrev pub gap_text : Bool → List ℕ
 gap_text blank = if blank then codes "\n" else []
 
--- the text of slots after a statement of this class, or at the start
-abbrev pub text_following : Option Class → List (Slot Statement) → List ℕ
-text_following last [] = []
-text_following last (None ∷ slots) = text_following last slots
-text_following last (Some s ∷ slots) = gap_text (blank_between last s.class) ++ (layout_text s ++ text_following (Some s.class) slots)
+-- the statements that are left in slots
+abbrev pub left_in : {S : Type 0} → List (Slot S) → List S
+left_in [] = []
+left_in (None ∷ slots) = left_in slots
+left_in (Some s ∷ slots) = s ∷ left_in slots
 
--- the text of slots; none for a query
+-- The text of statements one after another: between two neighbours an empty line, where their classes ask for one.
+abbrev pub text_of : List Statement → List ℕ
+text_of [] = []
+text_of (s ∷ []) = layout_text s
+text_of (s ∷ t ∷ ss) = layout_text s ++ (gap_text (gap_between s.class t.class) ++ text_of (t ∷ ss))
+
+-- the text of what is left in slots; none for a query
 abbrev pub shown_text : Script → List (Slot Statement) → List ℕ
-shown_text passes slots = if is_query passes then [] else text_following None slots
+shown_text passes slots = if is_query passes then [] else text_of (left_in slots)
 
 -- the text of the statements as the script left them
 abbrev pub text_after : Package → Script → List Statement → List ℕ
@@ -103,15 +107,17 @@ abbrev pub told_of : Package → Script → List Statement → Option SyntaxFaul
 told_of home passes statements None = told_of_all home passes statements
 told_of home passes statements (Some fault) = told_of_fault home passes statements fault
 
+-- what the commands say, without what is said of a target that marks nothing
+abbrev pub said : {S T C M : Type 0} → Meaning S T C M → List (Pass T C) → List (Slot S) → List M
+said m [] slots = []
+said m (p ∷ ps) slots = log_of_commands m p.commands (map (marked m p.target) slots) ++ said m ps (slots_after_pass m p slots)
+
 -- whether some execution fails on a statement, and the messages of those that do, in pass and command order
 abbrev pub fails_at : Package → Script → Statement → Bool
-fails_at home passes s = some_alone (meaning home) (fails_on home) passes (Some s)
-
-abbrev pub log_alone : {M : Type 0} → List (Kept M) → List M
-log_alone kept = flat_map (λ k. flat_map (λ log. log) k.logs) kept
+fails_at home passes s = some_failure home passes (s ∷ [])
 
 abbrev pub failures_at : Package → Script → Statement → List (List ℕ)
-failures_at home passes s = flat_map failure_text (log_alone (kept_alone (meaning home) passes (Some s)))
+failures_at home passes s = flat_map failure_text (said (meaning home) passes (slots_of (s ∷ [])))
 
 abbrev pub first_of : List (List ℕ) → List (List ℕ)
 first_of [] = []

@@ -1,16 +1,18 @@
 -- What a run keeps of the chunks that are done.
-use Rattle.std.specs.Prelude.{◌≡◌, ℕ, Bool, if◌then◌else◌, List, [], ◌∷◌, Option, None, Some}
+use Rattle.std.specs.Prelude.{◌≡◌, ℕ, Bool, if◌then◌else◌, List, [], ◌∷◌, ◌++◌, Option, None, Some}
 use Rattle.std.specs.List.{concat}
 use Rattle.bz_token.specs.Places.{line_at}
 use Rattle.bz_tree.specs.Tree.{Statement}
 use Rattle.bz_tree.specs.declared.stmt.Class.{Class}
+use Rattle.bz_layout.specs.Gaps.{blank_between}
+use Rattle.bz_layout.specs.Layout.{layout_text}
 use Rattle.bz_command.specs.Labels.{Package}
 use Rattle.bz_engine.specs.declared.entry.Entry.{Entry}
 use Rattle.bz_command.specs.Passes.{Slot, slots_after}
 use Rattle.bz_engine.specs.Exchange.{Kept, IsLeftBy, slot_after}
 use Rattle.bz_engine.specs.Meaning.{meaning, changes, fails_on}
 use Rattle.bz_engine.specs.File.{Give}
-use Rattle.bz_engine.specs.Outcome.{Script, slots_of, is_query, text_following}
+use Rattle.bz_engine.specs.Outcome.{Script, slots_of, is_query, gap_text}
 
 -- For each pass and command what was told, whether something changed and failed, the class of the last statement that is left, and the
 -- line on which the next chunk begins.
@@ -33,6 +35,12 @@ pub record IsKeptOf (home : Package) (passes : Script) (max_depth : ℕ) (cs : L
   pub line : p.line ≡ line_at 1 (concat cs)
   pub left : IsLeftBy (meaning home) (changes home) (fails_on home) passes (slots_of statements) p.kept p.changed p.failed
   pub last : p.last ≡ last_class None (slots_after (meaning home) passes (slots_of statements))
+
+-- the text of slots after a statement of this class, or at the start
+abbrev pub text_following : Option Class → List (Slot Statement) → List ℕ
+text_following last [] = []
+text_following last (None ∷ slots) = text_following last slots
+text_following last (Some s ∷ slots) = gap_text (blank_between last s.class) ++ (layout_text s ++ text_following (Some s.class) slots)
 
 -- what one statement more, as the script leaves it, adds to the text
 abbrev pub added : Package → Script → Option Class → List Statement → List ℕ

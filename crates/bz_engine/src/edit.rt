@@ -6,9 +6,9 @@ ghost use Rattle.bz_tree.specs.Tree.{Statement};
 ghost use Rattle.bz_tree.specs.View.{view, slot_view};
 ghost use Rattle.bz_layout.specs.Gaps.{blank_between as is_gap};
 ghost use Rattle.bz_layout.specs.Layout.{layout_text};
-ghost use Rattle.bz_engine.specs.Exchange.{Fits};
-ghost use Rattle.bz_engine.specs.Outcome.{is_query, text_following, gap_text, failure_text, first_of, log_alone};
-ghost use Rattle.bz_engine.specs.Progress.{IsKeptOf, last_class};
+ghost use Rattle.bz_engine.specs.Exchange.{Fits, log_alone};
+ghost use Rattle.bz_engine.specs.Outcome.{is_query, gap_text, failure_text, first_of};
+ghost use Rattle.bz_engine.specs.Progress.{IsKeptOf, last_class, text_following};
 ghost use Rattle.bz_engine.specs.private.Edits.{IsEdited, IsScripted};
 
 use crate::chunk::{ChunkRead, newlines, read_chunk};
