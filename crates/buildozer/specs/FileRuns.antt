@@ -1,6 +1,6 @@
 -- What a run gives as the author of a file's new text.
 use Rattle.std.specs.Prelude.{◌≡◌, ℕ, Bool, List, Option, Some, Result, Ok, Err, ⊤}
-use Rattle.bz_engine.specs.declared.device.Failed.{Failed}
+use Rattle.bz_devices.specs.declared.device.Failed.{Failed}
 use Rattle.bz_engine.specs.declared.report.Report.{Report}
 use Rattle.buildozer.specs.declared.file_run.Ended.{Ended}
 use Rattle.buildozer.specs.declared.file_run.Ended.TheVariants.{Told}

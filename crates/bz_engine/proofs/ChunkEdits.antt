@@ -4,7 +4,7 @@ use Rattle.std.specs.Prelude.{None, Some, Ok, if◌then◌else◌}
 use Rattle.bz_token.specs.Places.{line_at}
 use Rattle.bz_tree.specs.Tree.{Statement}
 use Rattle.bz_command.specs.Labels.{Package}
-use Rattle.bz_engine.specs.Exchange.{IsLeftBy, slot_after}
+use Rattle.bz_passes.specs.Exchange.{IsLeftBy, slot_after}
 use Rattle.bz_engine.specs.Meaning.{meaning, changes, fails_on}
 use Rattle.bz_engine.specs.File.{Gives}
 use Rattle.bz_engine.specs.Outcome.{Script, slots_of, is_query}
@@ -13,7 +13,7 @@ use Rattle.bz_engine.specs.Progress.{Progress, IsKeptOf, last_class, text_follow
 use Rattle.bz_engine.specs.declared.edit.Edited.{Edited}
 use Rattle.bz_engine.specs.declared.edit.Edited.TheVariants.{Done, Faulty, Failed}
 use Rattle.bz_engine.specs.private.Edits.{IsDone, IsLaidOut, IsScripted, IsEdited}
-use Rattle.bz_engine.proofs.ExchangeLaw.{map_more}
+use Rattle.bz_passes.proofs.ExchangeLaw.{map_more}
 use Rattle.bz_engine.proofs.Given.{give_blank, give_statement, line_following}
 use Rattle.bz_engine.proofs.MoreText.{text_after_more, last_after_more, text_after_none}
 

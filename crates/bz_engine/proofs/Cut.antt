@@ -6,12 +6,12 @@ use Rattle.std.proofs.lemmas.List.{length-take-le}
 use Rattle.bz_token.specs.Chunks.{chunks}
 use Rattle.bz_command.specs.Labels.{Package}
 use Rattle.bz_engine.specs.declared.options.Options.{Options}
-use Rattle.bz_engine.specs.Device.{joined}
-use Rattle.bz_engine.specs.Ahead.{Ahead, IsReadOn, IsTooLong, HasTooLong}
+use Rattle.bz_devices.specs.Device.{joined}
+use Rattle.bz_devices.specs.Ahead.{Ahead, IsReadOn, IsTooLong, HasTooLong}
 use Rattle.bz_engine.specs.EveryFile.{ForEveryFile}
 use Rattle.bz_engine.specs.Outcome.{Script, Told, IsOutcome, IsFrontOf}
 use Rattle.bz_engine.specs.SessionValue.{SessionValue, IsSameRun, HasDone, IsCutShort, IsLeftByFault}
-use Rattle.bz_engine.proofs.MoreReads.{joined_more}
+use Rattle.bz_devices.proofs.MoreReads.{joined_more}
 use Rattle.bz_engine.proofs.OneOutcome.{front_of_outcome, one_outcome}
 use Rattle.bz_engine.proofs.Sessions.{read_on, ended_on, reads_within}
 

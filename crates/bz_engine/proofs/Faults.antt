@@ -1,19 +1,11 @@
--- A fault that is passed on.
+-- Faults with which a chunk that is too long is refused.
 use Rattle.std.proofs.Common.{◌≡◌, ◌≢◌, ◌∙◌, sym, ap, inl, inr}
 use Rattle.std.specs.Prelude.{Result, Ok, Err}
+use Rattle.bz_devices.proofs.PassedOn.{err_is}
 use Rattle.bz_engine.specs.declared.run_fault.RunFault.{RunFault}
 use Rattle.bz_engine.specs.declared.run_fault.RunFault.TheVariants.{OutOfMemory, ReadFailed, WriteFailed, InputTooLong, StatementTooLong, Stopped}
 use Rattle.bz_engine.specs.SessionValue.{IsRefused}
 use Rattle.bz_engine.proofs.Runs.{ok_is_no_err}
-
-err_is : {A E : Type 0} (e f : E) → (let x : Result A E = Err e in x) ≡ Err f → e ≡ f
-err_is e f h = cc
-
-pub passed_on : {A B E : Type 0} (r : Result A E) (e f g : E) → r ≡ Err e → e ≡ f → r ≡ Err g → (let x : Result B E = Err f in x) ≡ Err g
-passed_on r e f g is same h = ap Err (sym same ∙ err_is e g (sym is ∙ h))
-
-pub not_passed_on : {A B E : Type 0} (r : Result A E) (e f g : E) → r ≡ Err e → e ≡ f → r ≢ Err g → (let x : Result B E = Err f in x) ≢ Err g
-not_passed_on r e f g is same other h = other (is ∙ ap Err (same ∙ err_is f g h))
 
 -- a fault that is no other than these refuses a chunk that is too long
 pub refused_as : {T : Type 0} (r : Result T RunFault) (e : RunFault) → r ≡ Err e → r ≢ Err Stopped → r ≢ Err WriteFailed → r ≢ Err InputTooLong → IsRefused r

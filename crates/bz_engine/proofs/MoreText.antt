@@ -7,12 +7,12 @@ use Rattle.bz_layout.specs.Layout.{layout_text}
 use Rattle.bz_layout.specs.Gaps.{gap_between, blank_between}
 use Rattle.bz_command.specs.Labels.{Package}
 use Rattle.bz_command.specs.Passes.{Slot, slots_after}
-use Rattle.bz_engine.specs.Exchange.{slot_after}
+use Rattle.bz_passes.specs.Exchange.{slot_after}
 use Rattle.bz_engine.specs.Meaning.{meaning}
 use Rattle.bz_engine.specs.Outcome.{Script, slots_of, left_in, text_of, is_query, gap_text, shown_text, text_after}
 use Rattle.bz_engine.specs.Progress.{last_class, text_following}
-use Rattle.bz_engine.proofs.ExchangeLaw.{map_more}
-use Rattle.bz_engine.proofs.Failures.{slots_more}
+use Rattle.bz_passes.proofs.ExchangeLaw.{map_more}
+use Rattle.bz_passes.proofs.Failures.{slots_more}
 
 text_more : (last : Option Class) (xs : List (Slot Statement)) (x : Slot Statement)
     → text_following last (xs ++ x ∷ []) ≡ text_following last xs ++ text_following (last_class last xs) (x ∷ [])

@@ -9,14 +9,14 @@ use Rattle.bz_tree.specs.Tree.{Statement}
 use Rattle.bz_command.specs.Labels.{Package}
 use Rattle.bz_command.specs.Passes.{Slot, slots_after}
 use Rattle.bz_engine.specs.declared.report.SyntaxFault.{SyntaxFault}
-use Rattle.bz_engine.specs.Exchange.{slot_after, some_alone}
+use Rattle.bz_passes.specs.Exchange.{slot_after, some_alone}
 use Rattle.bz_engine.specs.Meaning.{meaning, fails_on}
 use Rattle.bz_engine.specs.File.{Follows, Give}
 use Rattle.bz_engine.specs.Progress.{last_class, text_following}
 use Rattle.bz_engine.specs.Outcome.{Script, slots_of, is_query, text_after, Told, some_failure, told_of, told_of_failure, fails_at, BeginsWith, IsWholeRun, EndsAtFailure, IsOutcome, IsFrontOf}
-use Rattle.bz_engine.proofs.ExchangeLaw.{some_alone_lem}
+use Rattle.bz_passes.proofs.ExchangeLaw.{some_alone_lem}
 use Rattle.bz_engine.proofs.OneSlot.{fails_alone}
-use Rattle.bz_engine.proofs.Failures.{or_left, or_right}
+use Rattle.bz_passes.proofs.Failures.{or_left, or_right}
 use Rattle.bz_engine.proofs.Given.{none_is_some}
 use Rattle.bz_engine.proofs.MoreText.{text_after_more, text_after_none}
 use Rattle.bz_engine.proofs.OneAnswer.{one_answer}

@@ -6,15 +6,15 @@ use Rattle.std.specs.List.{concat}
 use Rattle.std.proofs.lemmas.List.Folds.{concat-append}
 use Rattle.bz_command.specs.Labels.{Package}
 use Rattle.bz_engine.specs.declared.options.Options.{Options}
-use Rattle.bz_engine.specs.Device.{joined}
+use Rattle.bz_devices.specs.Device.{joined}
 use Rattle.bz_engine.specs.Meaning.{meaning, changes, fails_on}
 use Rattle.bz_engine.specs.declared.report.End.{End}
 use Rattle.bz_engine.specs.EveryFile.{ForEveryFile}
 use Rattle.bz_engine.specs.Outcome.{Script, Told, is_query, shown_text, IsOutcome}
 use Rattle.bz_engine.specs.Progress.{last_class}
 use Rattle.bz_engine.specs.SessionValue.{SessionValue, HasDone, HasEnded, at_start, told_at}
-use Rattle.bz_engine.proofs.ExchangeLaw.{slots_alone, nothing_left}
-use Rattle.bz_engine.proofs.MoreReads.{joined_more}
+use Rattle.bz_passes.proofs.ExchangeLaw.{slots_alone, nothing_left}
+use Rattle.bz_devices.proofs.MoreReads.{joined_more}
 
 nothing_shown : (query : Bool) → (let nothing : List ℕ = [] in nothing) ≡ (if query then [] else [])
 nothing_shown true = refl

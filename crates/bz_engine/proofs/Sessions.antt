@@ -10,8 +10,8 @@ use Rattle.bz_engine.specs.declared.session.Stage.{Stage}
 use Rattle.bz_engine.specs.declared.session.Stage.TheVariants.{Going, Ended, Stopped}
 use Rattle.bz_engine.specs.declared.report.End.{End}
 use Rattle.bz_engine.specs.declared.report.End.TheVariants.{Whole, Syntax, FirstFailure}
-use Rattle.bz_engine.specs.Device.{joined, ends, NoneEnds}
-use Rattle.bz_engine.specs.Ahead.{Ahead, IsReadOn, IsNextChunk}
+use Rattle.bz_devices.specs.Device.{joined, ends, NoneEnds}
+use Rattle.bz_devices.specs.Ahead.{Ahead, IsReadOn, IsNextChunk}
 use Rattle.bz_engine.specs.Meaning.{meaning}
 use Rattle.bz_engine.specs.File.{Give, Gives}
 use Rattle.bz_engine.specs.Messages.{fault_text}
@@ -19,8 +19,8 @@ use Rattle.bz_engine.specs.Outcome.{Script, slots_of, text_after, told_of_all, f
 use Rattle.bz_engine.specs.Progress.{Progress, IsKeptOf}
 use Rattle.bz_engine.specs.private.Edits.{IsDone, IsFailed}
 use Rattle.bz_engine.specs.SessionValue.{SessionValue, IsSession, HasDone, HasEnded, told_of_progress, told_alone}
-use Rattle.bz_engine.proofs.ExchangeLaw.{log_by_pass, missing_lem}
-use Rattle.bz_engine.proofs.MoreReads.{ends_more, open_more, bytes_more, chunks_more, chunk_taken, one_more}
+use Rattle.bz_passes.proofs.ExchangeLaw.{log_by_pass, missing_lem}
+use Rattle.bz_devices.proofs.MoreReads.{ends_more, open_more, bytes_more, chunks_more, chunk_taken, one_more}
 use Rattle.bz_engine.proofs.Given.{give_fault, give_statement}
 
 -- the chunks of the file after more reads

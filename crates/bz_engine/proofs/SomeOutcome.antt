@@ -14,11 +14,11 @@ use Rattle.bz_command.specs.Labels.{Package}
 use Rattle.bz_command.specs.Passes.{Slot}
 use Rattle.bz_engine.specs.declared.report.SyntaxFault.{SyntaxFault}
 use Rattle.bz_engine.specs.declared.report.SyntaxFault.TheVariants.{Parse}
-use Rattle.bz_engine.specs.Exchange.{some_alone}
+use Rattle.bz_passes.specs.Exchange.{some_alone}
 use Rattle.bz_engine.specs.Meaning.{meaning, fails_on}
 use Rattle.bz_engine.specs.File.{not_utf8, Gives, Follows, Give}
 use Rattle.bz_engine.specs.Outcome.{Script, slots_of, text_after, Told, some_failure, told_of, told_of_failure, IsOutcome}
-use Rattle.bz_engine.proofs.ExchangeLaw.{some_alone_lem}
+use Rattle.bz_passes.proofs.ExchangeLaw.{some_alone_lem}
 use Rattle.bz_engine.proofs.OneSlot.{fails_alone}
 
 -- a chunk gives an answer

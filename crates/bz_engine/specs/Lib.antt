@@ -1,10 +1,6 @@
-pub mod Ahead
 pub mod Changes
-pub mod Device
-pub mod DeviceLaws
 pub mod Progress
 pub mod SessionValue
-pub mod Exchange
 pub mod EveryFile
 pub mod File
 pub mod Meaning

@@ -1,7 +1,7 @@
 -- What targets mark and what commands do to the statement in a slot, and what is told of it: the language of passes over BUILD files.
 use Rattle.std.specs.Prelude.{ℕ, Bool, false, List, [], ◌∷◌, ◌++◌, Option, None, Some}
 use Rattle.bz_tree.specs.Tree.{Statement}
-use Rattle.bz_command.specs.Labels.{Package, Target, Name, must_mark}
+use Rattle.bz_command.specs.Labels.{Package, Target, must_mark}
 use Rattle.bz_command.specs.Commands.{Command}
 use Rattle.bz_attribute.specs.Marks.{marks}
 use Rattle.bz_attribute.specs.Texts.{shown_text}
@@ -14,11 +14,6 @@ use Rattle.bz_engine.specs.declared.entry.Entry.{Entry}
 use Rattle.bz_engine.specs.declared.entry.Entry.TheVariants.{Line, Warning, Failure}
 use Rattle.bz_engine.specs.Messages.{not_found_text, note_text}
 use Rattle.bz_command.specs.Passes.{Meaning, Slot}
-
--- the name that a target asks for; the others may mark a rule whatever its name is
-abbrev pub asked_by : Target → Option (List ℕ)
-asked_by (Name name) = Some name
-asked_by _ = None
 
 -- an empty slot is never marked
 abbrev pub marks_slot : Target → Slot Statement → Bool

@@ -11,10 +11,10 @@ use Rattle.bz_engine.specs.declared.run_fault.RunFault.{RunFault}
 use Rattle.bz_engine.specs.declared.run_fault.RunFault.TheVariants.{OutOfMemory, ReadFailed, StatementTooLong}
 use Rattle.bz_engine.specs.declared.session.Stage.{Stage}
 use Rattle.bz_engine.specs.declared.session.Stage.TheVariants.{Going, Ended}
-use Rattle.bz_engine.specs.Device.{joined, ends, NoneEnds}
-use Rattle.bz_engine.specs.Ahead.{Ahead, IsReadOn}
+use Rattle.bz_devices.specs.Device.{joined, ends, NoneEnds}
+use Rattle.bz_devices.specs.Ahead.{Ahead, IsReadOn}
 use Rattle.bz_engine.specs.EveryFile.{ForEveryFile}
-use Rattle.bz_engine.specs.Exchange.{no_slot, told, some_not_found, Fits}
+use Rattle.bz_passes.specs.Exchange.{no_slot, told, some_not_found, Fits}
 use Rattle.bz_engine.specs.Progress.{Progress, IsKeptOf}
 use Rattle.bz_engine.specs.Meaning.{meaning}
 use Rattle.bz_engine.specs.Messages.{fault_text}

@@ -1,4 +1,2 @@
-pub mod AheadSteps
 pub mod ChunkRead
 pub mod Edits
-pub mod Indexes

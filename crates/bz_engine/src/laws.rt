@@ -4,8 +4,7 @@ ghost use Rattle.std.specs.Prelude.{◌≡◌, ◌↔◌, ℕ, List, [], Bool, R
 ghost use Rattle.bz_tree.specs.Tree.{Statement};
 ghost use Rattle.bz_command.specs.Labels.{Package, Target};
 ghost use Rattle.bz_command.specs.Commands.{Command};
-ghost use Rattle.bz_command.specs.Passes.{Meaning, Pass, Slot, some_execution};
-ghost use Rattle.bz_engine.specs.Exchange.{Exchange};
+ghost use Rattle.bz_command.specs.Passes.{Pass, Slot, some_execution};
 ghost use Rattle.bz_engine.specs.Changes.{AreCommands, Changes};
 ghost use Rattle.bz_engine.specs.File.{Gives, IsFile};
 ghost use Rattle.bz_engine.specs.Outcome.{Script, Told, IsOutcome};
@@ -19,13 +18,6 @@ ghost use Rattle.bz_engine.specs.Meaning.{meaning, changes};
 pub fn changed_is_a_difference()
     ensures { (home : Package) (ps : List (Pass Target Command)) (slots : List (Slot Statement)) → AreCommands ps
         → (some_execution (meaning home) (changes home) ps slots ≡ true) ↔ Changes (meaning home) ps slots }
-{}
-
-/// The law that lets a run go statement by statement, whatever targets and commands mean: command by command over the
-/// whole file is the whole script over one statement after the other, and the log is by pass, by command and by
-/// statement.
-pub fn exchange<S, T, C, M>()
-    ensures { (m : Meaning S T C M) (ps : List (Pass T C)) (slots : List (Slot S)) → Exchange m ps slots }
 {}
 
 /// A chunk gives one answer: a statement, nothing or a fault. So a file has one list of statements before one fault.

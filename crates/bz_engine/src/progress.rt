@@ -1,7 +1,7 @@
 //! What a run keeps of the chunks that are done.
 
 use crate::entry::Entry;
-use crate::kept::Kept;
+use bz_passes::kept::Kept;
 use bz_tree::Class;
 use std::marker::Model;
 

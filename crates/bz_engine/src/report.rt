@@ -2,7 +2,7 @@
 
 ghost use Rattle.std.specs.Prelude.{◌≡◌};
 
-use crate::log::Log;
+use bz_passes::log::Log;
 use bz_rule::Text;
 use bz_tree::ParseFault;
 

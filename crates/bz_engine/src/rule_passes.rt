@@ -5,8 +5,8 @@ ghost use Rattle.std.specs.List.{list_all};
 ghost use Rattle.bz_command.specs.Commands.{is_print};
 ghost use Rattle.bz_engine.specs.Outcome as spec;
 
-use crate::passes::Passes;
 use bz_command::Pass;
+use bz_passes::passes::Passes;
 use bz_rule::{Command, Target};
 use std::alloc::{AllocError, Global};
 use std::marker::Model;

@@ -7,12 +7,10 @@ ghost use Rattle.bz_attribute.specs.Effects.{fails};
 ghost use Rattle.bz_engine.specs.Meaning.{line_told, note_told, done_told, shown_slot};
 
 use crate::entry::Entry;
-use crate::index::Key;
-use crate::language::{Facts, Language};
-use crate::log::Log;
 use crate::message;
-use crate::passes::Keyed;
-use bz_command::Marked;
+use bz_passes::index::Key;
+use bz_passes::language::{Facts, Language};
+use bz_passes::log::Log;
 use bz_rule::{
     Command, Done, Note, Package, RuleName, Target, Text, apply, matches, rule_name, shown,
 };
@@ -24,19 +22,6 @@ use std::alloc::{AllocError, Global};
 pub(crate) struct Rules<'a> {
     pub(crate) alloc: Global,
     pub(crate) home: &'a Package,
-}
-
-impl Keyed for Target {
-    ghost use Rattle.bz_engine.specs.Meaning.{asked_by};
-
-    ghost asked = { asked_by };
-
-    fn asked(&self) -> Option<&str> {
-        match &self.marked {
-            Marked::Name(name) => Some(name.as_str()),
-            _ => None,
-        }
-    }
 }
 
 impl<'a> Language for Rules<'a> {

@@ -1,17 +1,17 @@
 //! A run from a source to a sink.
 
 ghost use Rattle.std.specs.Prelude.{◌≡◌, ◌≢◌, ℕ, ◌≤◌, ◌^◌, List, length, IfOk, OnErr, IsTrue, IsErrOf};
-ghost use Rattle.bz_engine.specs.Ahead.{HasTooLong};
-ghost use Rattle.bz_engine.specs.Device.{joined, ends, NoneEnds, Rises};
+ghost use Rattle.bz_devices.specs.Ahead.{HasTooLong};
+ghost use Rattle.bz_devices.specs.Device.{joined, ends, NoneEnds, Rises};
 ghost use Rattle.bz_engine.specs.EveryFile.{ForEveryFile};
 ghost use Rattle.bz_engine.specs.Outcome.{Told, IsOutcome, IsFrontOf, told_by};
 
-use crate::device::{Sink, Source};
 use crate::options::Options;
 use crate::report::Report;
 use crate::run_fault::RunFault;
 use crate::session::{Session, Step};
 use bz_command::Pass;
+use bz_devices::device::{Sink, Source};
 use bz_rule::{Command, Package, Target};
 use std::alloc::Global;
 

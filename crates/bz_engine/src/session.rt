@@ -2,9 +2,9 @@
 
 ghost use Rattle.std.specs.Prelude.{◌≡◌, ◌≢◌, ℕ, ◌+◌, ◌<◌, ◌≤◌, ◌^◌, ◌++◌, false, List, [], ◌∷◌, length, take, drop, IfOk, OnOk, OnErr, IfSome, IfNone, IsTrue, option_to_list};
 ghost use Rattle.bz_tree.specs.Tree.{Statement};
-ghost use Rattle.bz_engine.specs.Device.{joined, NoneEnds, Rises};
-ghost use Rattle.bz_engine.specs.Exchange.{Fits};
-ghost use Rattle.bz_engine.specs.Ahead.{IsReadOn, IsNextChunk, IsTooLong, IsUncertain};
+ghost use Rattle.bz_devices.specs.Device.{joined, NoneEnds, Rises};
+ghost use Rattle.bz_passes.specs.Exchange.{Fits};
+ghost use Rattle.bz_devices.specs.Ahead.{IsReadOn, IsNextChunk, IsTooLong, IsUncertain};
 ghost use Rattle.bz_engine.specs.Messages.{fault_text};
 ghost use Rattle.bz_engine.specs.Outcome.{told_by};
 ghost use Rattle.bz_engine.specs.Progress.{IsKeptOf};
@@ -12,13 +12,9 @@ ghost use Rattle.bz_engine.specs.private.Edits.{IsEdited};
 ghost use Rattle.bz_engine.specs.SessionValue.{at_start, IsSameRun, IsReady, IsLeftByFault, IsRefused, HasOneMore, HasDone, HasEnded, told_at, told_of_progress, told_alone};
 ghost use Rattle.bz_engine.specs.declared.session.Stage.TheVariants.{Going, Ended, Stopped};
 
-use crate::ahead::{Ahead, ChunkFault, next_chunk};
-use crate::device::{Failed, Sink, Source};
 use crate::edit::{Edited, Script, edit_chunk};
 use crate::entry::Entry;
-use crate::kept::nothing_kept;
 use crate::options::Options;
-use crate::output::write_all;
 use crate::progress::Progress;
 use crate::report::{End, Report};
 use crate::rule_passes::RulePasses;
@@ -26,6 +22,10 @@ use crate::rules::Rules;
 use crate::run_fault::RunFault;
 use crate::telling::{report_of_all, report_of_failure, report_of_fault};
 use bz_command::Pass;
+use bz_devices::ahead::{Ahead, ChunkFault, next_chunk};
+use bz_devices::device::{Failed, Sink, Source};
+use bz_devices::output::write_all;
+use bz_passes::kept::nothing_kept;
 use bz_rule::{Command, Package, Target, Text};
 use std::alloc::{AllocError, Global};
 use std::marker::Model;

@@ -2,18 +2,18 @@
 
 ghost use Rattle.std.specs.Prelude.{◌≡◌, ◌||◌, ◌++◌, true, [], ◌∷◌, IfOk, option_to_list};
 ghost use Rattle.std.specs.List.{flat_map};
-ghost use Rattle.bz_engine.specs.Exchange.{Fits, told, some_not_found};
+ghost use Rattle.bz_passes.specs.Exchange.{Fits, told, some_not_found};
 ghost use Rattle.bz_engine.specs.Meaning.{meaning};
 ghost use Rattle.bz_engine.specs.Messages.{fault_text};
 ghost use Rattle.bz_engine.specs.Outcome.{line_text, message_text};
 
 use crate::entry::Entry;
-use crate::kept::{Kept, is_some_not_found, tell};
-use crate::log::Log;
 use crate::message;
 use crate::report::{End, Report, SyntaxFault};
 use crate::rules::Rules;
 use bz_command::Pass;
+use bz_passes::kept::{Kept, is_some_not_found, tell};
+use bz_passes::log::Log;
 use bz_rule::{Command, Target, Text};
 use std::alloc::{AllocError, Global};
 

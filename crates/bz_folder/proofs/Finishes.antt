@@ -11,7 +11,7 @@ use Rattle.bz_folder.specs.DraftValue.{DraftValue, IsText}
 use Rattle.bz_folder.proofs.Ends.{safe_of, temporary_differs}
 use Rattle.bz_folder.specs.declared.draft.Stage.{Stage}
 use Rattle.bz_folder.specs.declared.draft.Stage.TheVariants.{Unmade, Made, Broken}
-use Rattle.bz_engine.specs.declared.device.Failed.{Failed}
+use Rattle.bz_devices.specs.declared.device.Failed.{Failed}
 use Rattle.bz_folder.specs.declared.trouble.Trouble.{Trouble}
 use Rattle.bz_folder.specs.declared.trouble.Trouble.TheVariants.{OutOfMemory, Clean, LeftBehind}
 

@@ -7,7 +7,7 @@ use Rattle.bz_folder.specs.private.Steps.{IsSent}
 use Rattle.bz_folder.specs.DraftValue.{DraftValue, HasSent, IsTextAt, IsText, Sent}
 use Rattle.bz_folder.specs.declared.draft.Stage.{Stage}
 use Rattle.bz_folder.specs.declared.draft.Stage.TheVariants.{Unmade, Made, Broken}
-use Rattle.bz_engine.specs.declared.device.Failed.{Failed}
+use Rattle.bz_devices.specs.declared.device.Failed.{Failed}
 
 abbrev IsBroken : Stage → Type 0
 IsBroken Unmade = ⊥

@@ -2,7 +2,7 @@
 use Rattle.std.specs.Prelude.{◌≡◌, ◌≢◌, ◌⊎◌, ℕ, Bool, true, false, List, [], Option, None, IsSome, IfSome, Result, Ok, Err, ⊤}
 use Rattle.bz_folder.specs.Files.{Content, Files, Event, Along, AnyFails}
 use Rattle.bz_folder.specs.Paths.{temporary_path}
-use Rattle.bz_engine.specs.declared.device.Failed.{Failed}
+use Rattle.bz_devices.specs.declared.device.Failed.{Failed}
 use Rattle.bz_folder.specs.declared.trouble.Trouble.{Trouble}
 use Rattle.bz_folder.specs.declared.trouble.Trouble.TheVariants.{OutOfMemory, Clean, LeftBehind}
 

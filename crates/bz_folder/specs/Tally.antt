@@ -1,7 +1,7 @@
 -- What a folder on a disk can tell of its calls: how many of each kind it made.
 use Rattle.std.proofs.Common.{◌≡◌, ℕ, ◌+◌, Bool, true, false, List, [], ◌∷◌, ◌++◌, length, sym, ◌∙◌, ap, arith}
 use Rattle.std.proofs.Math.Nat.{le_refl, le_trans, lt_of_le_of_lt, add-zero, add_assoc}
-use Rattle.bz_engine.specs.Device.{Counts}
+use Rattle.bz_devices.specs.Device.{Counts}
 use Rattle.bz_folder.specs.declared.tally.Tally.{Tally}
 use Rattle.bz_folder.specs.Files.{Call, Make, Write, SetMode, Rename, Remove, Event}
 

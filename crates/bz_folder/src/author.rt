@@ -6,7 +6,7 @@ use bz_engine::{Failed, Sink};
 
 /// What writes a new text, and knows whether it is to be kept.
 pub trait Author {
-    ghost use Rattle.bz_engine.specs.declared.device.Failed.{Failed};
+    ghost use Rattle.bz_devices.specs.declared.device.Failed.{Failed};
 
     // The first state gave this text and this answer, whether to keep it, and became the second.
     ghost gives: { Self → List ℕ → Result Bool Failed → Self → Type 0 };

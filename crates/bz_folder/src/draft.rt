@@ -1,7 +1,7 @@
 //! A draft of a file's new text.
 
 ghost use Rattle.std.specs.Prelude.{◌≡◌, ◌≢◌, ◌⊎◌, ℕ, ◌<◌, List, [], ◌∷◌, ◌++◌, length, Bool, true, Result, Ok, Err, IfOk, OnOk, OnErr, string_bytes};
-ghost use Rattle.bz_engine.specs.Device.{Rises};
+ghost use Rattle.bz_devices.specs.Device.{Rises};
 ghost use Rattle.bz_folder.specs.Files.{Event};
 ghost use Rattle.bz_folder.specs.Paths.{temporary_path};
 ghost use Rattle.bz_folder.specs.DraftValue.{capacity, Sent, Took, IsText};

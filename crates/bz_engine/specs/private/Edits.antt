@@ -7,7 +7,7 @@ use Rattle.bz_engine.specs.declared.edit.Edited.TheVariants.{Done, Faulty, Faile
 use Rattle.bz_engine.specs.declared.report.SyntaxFault.{SyntaxFault}
 use Rattle.bz_engine.specs.File.{Gives}
 use Rattle.bz_command.specs.Passes.{Slot}
-use Rattle.bz_engine.specs.Exchange.{IsLeftBy, slot_after}
+use Rattle.bz_passes.specs.Exchange.{IsLeftBy, slot_after}
 use Rattle.bz_engine.specs.Meaning.{meaning, changes, fails_on}
 use Rattle.bz_engine.specs.Outcome.{Script, is_query, text_after, fails_at, failures_at, first_of}
 use Rattle.bz_engine.specs.Progress.{Progress, IsKeptOf, last_class, text_following}

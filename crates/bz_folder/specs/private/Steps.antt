@@ -6,7 +6,7 @@ use Rattle.bz_folder.specs.Replace.{IsSafe, IsEnd}
 use Rattle.bz_folder.specs.DraftValue.{DraftValue, HasSent, IsText}
 use Rattle.bz_folder.specs.declared.draft.Stage.{Stage}
 use Rattle.bz_folder.specs.declared.draft.Stage.TheVariants.{Unmade, Made, Broken}
-use Rattle.bz_engine.specs.declared.device.Failed.{Failed}
+use Rattle.bz_devices.specs.declared.device.Failed.{Failed}
 use Rattle.bz_folder.specs.declared.trouble.Trouble.{Trouble}
 use Rattle.bz_folder.specs.declared.trouble.Trouble.TheVariants.{OutOfMemory, Clean, LeftBehind}
 

@@ -1,7 +1,7 @@
 use Rattle.std.proofs.Common.{◌≡◌, ◌+◌, ◌-◌, ◌==◌, take, drop, length, arith, rules, ap}
 use Rattle.std.specs.Prelude.{count_by}
 use Rattle.std.proofs.lemmas.List.{take_rest}
-use Rattle.bz_engine.proofs.ChunkLines.{newline_counted, none_counted}
+use Rattle.bz_devices.proofs.ChunkLines.{newline_counted, none_counted}
 use Rattle.bz_engine.proofs.chunk.newlines.Goals as goal
 
 pub overflow_add-rest : goal.overflow_add-rest

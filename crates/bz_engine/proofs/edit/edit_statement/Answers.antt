@@ -3,7 +3,7 @@ use Rattle.std.specs.Prelude.{Some}
 use Rattle.bz_tree.specs.Tree.{Statement}
 use Rattle.bz_tree.specs.View.{view}
 use Rattle.bz_command.specs.Passes.{Slot}
-use Rattle.bz_engine.specs.Exchange.{IsLeftBy, some_alone}
+use Rattle.bz_passes.specs.Exchange.{IsLeftBy, some_alone}
 use Rattle.bz_engine.specs.Meaning.{meaning, changes, fails_on}
 use Rattle.bz_engine.proofs.Failing.{ends_there}
 use Rattle.bz_engine.proofs.edit.edit_statement.Goals as goal

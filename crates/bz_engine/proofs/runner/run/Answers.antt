@@ -6,7 +6,7 @@ use Rattle.bz_engine.specs.declared.run_fault.RunFault.TheVariants.{InputTooLong
 use Rattle.bz_engine.specs.Outcome.{told_by}
 use Rattle.bz_engine.specs.SessionValue.{HasDone, told_at}
 use Rattle.bz_engine.proofs.Advances.{on_err}
-use Rattle.bz_engine.proofs.Faults.{not_passed_on}
+use Rattle.bz_devices.proofs.PassedOn.{not_passed_on}
 use Rattle.bz_engine.proofs.Cut.{cut_is, fault_begins, fault_reads, ended_begins, nothing_begins, too_long_in}
 use Rattle.bz_engine.proofs.Runs.{started, shorter, outcome_is, where_ok, ok_is_no_err}
 use Rattle.bz_engine.proofs.runner.run.Goals as goal

@@ -3,7 +3,7 @@ use Rattle.bz_tree.specs.Tree.{Statement}
 use Rattle.bz_tree.specs.View.{view}
 use Rattle.bz_command.specs.Labels.{Target, Name, Pkg, All, Kind, Line}
 use Rattle.bz_attribute.specs.Marks.{marks}
-use Rattle.bz_engine.specs.Meaning.{asked_by}
+use Rattle.bz_passes.specs.Asked.{asked_by}
 use Rattle.bz_engine.proofs.rules.RulesLanguage.key.Goals as goal
 
 asks_for_no_name : (s : Statement) (target : Target) → ((name : List ℕ) → marks (Name name) s ≡ false) → marks target s ≡ true → is_none (asked_by target) ≡ true

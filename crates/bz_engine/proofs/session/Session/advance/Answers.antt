@@ -5,10 +5,11 @@ use Rattle.bz_engine.specs.declared.run_fault.RunFault.{RunFault}
 use Rattle.bz_engine.specs.declared.run_fault.RunFault.TheVariants.{InputTooLong, Stopped, WriteFailed}
 use Rattle.bz_engine.specs.contracts.session.Session.{the_view}
 use Rattle.bz_engine.specs.declared.report.End.TheVariants.{Syntax, FirstFailure}
-use Rattle.bz_engine.specs.Ahead.{IsTooLong}
+use Rattle.bz_devices.specs.Ahead.{IsTooLong}
 use Rattle.bz_engine.specs.SessionValue.{SessionValue, HasDone, IsLeftByFault, HasEnded}
-use Rattle.bz_engine.proofs.Faults.{passed_on, refused_as}
-use Rattle.bz_engine.proofs.ChunkAhead.{next_fits, nothing_fits}
+use Rattle.bz_devices.proofs.PassedOn.{passed_on}
+use Rattle.bz_engine.proofs.Faults.{refused_as}
+use Rattle.bz_devices.proofs.ChunkAhead.{next_fits, nothing_fits}
 use Rattle.bz_engine.proofs.Sessions.{too_long_there, reads_within, read_within}
 use Rattle.bz_engine.proofs.Advances.{chunk_done, chunk_faulty, chunk_failed, left_by_write, on_err, goes_not_on, has_not_ended, same_end, some_chunk, no_chunk, take_some, take_few, whole_end}
 use Rattle.bz_engine.proofs.session.Session.advance.Goals as goal

@@ -4,10 +4,11 @@ use Rattle.std.proofs.lemmas.Result.{err_from_is_err_and}
 use Rattle.bz_engine.specs.declared.run_fault.RunFault.{RunFault}
 use Rattle.bz_engine.specs.declared.run_fault.RunFault.TheVariants.{InputTooLong, ReadFailed, WriteFailed}
 use Rattle.bz_engine.specs.declared.session.Stage.TheVariants.{Going, Stopped}
-use Rattle.bz_engine.specs.Device.{joined}
-use Rattle.bz_engine.specs.Ahead.{IsTooLong}
+use Rattle.bz_devices.specs.Device.{joined}
+use Rattle.bz_devices.specs.Ahead.{IsTooLong}
 use Rattle.bz_engine.specs.SessionValue.{HasDone, IsLeftByFault, HasEnded}
-use Rattle.bz_engine.proofs.Faults.{not_passed_on, refused_on, not_refused}
+use Rattle.bz_devices.proofs.PassedOn.{not_passed_on}
+use Rattle.bz_engine.proofs.Faults.{refused_on, not_refused}
 use Rattle.bz_engine.proofs.Runs.{ok_is_no_err}
 use Rattle.bz_engine.proofs.Advances.{restaged, left_before, on_err, which_end, more_is_no_end, end_is_not_more, ok_same}
 use Rattle.bz_engine.proofs.session.Session.step.Goals as goal

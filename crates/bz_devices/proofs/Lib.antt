@@ -1,0 +1,7 @@
+pub mod MoreReads
+pub mod ReadOn
+pub mod ChunkLines
+pub mod LineAhead
+pub mod ChunkAhead
+pub mod Pieces
+pub mod PassedOn

@@ -1,0 +1,104 @@
+-- Reads, one after another.
+use Rattle.std.proofs.Common.{◌≡◌, ℕ, ◌≤◌, ◌+◌, Bool, true, false, List, [], ◌∷◌, ◌++◌, length, length-append, take, drop, refl, sym, ◌∙◌, ap, subst, append-nil, append_assoc, arith}
+use Rattle.std.specs.Prelude.{IsTrue, ◌||◌}
+use Rattle.std.proofs.lemmas.Bool.{false≢true}
+use Rattle.std.proofs.lemmas.List.{drop-append-le, take-append-le}
+use Rattle.std.proofs.lemmas.List.Concat.{flat_map-append}
+use Rattle.bz_devices.specs.Device.{joined, ends, NoneEnds, Rises}
+use Rattle.bz_devices.specs.DeviceLaws.{ends-append}
+use Rattle.bz_devices.specs.Ahead.{Ahead, IsReadOn, MayFollow, IsUndecided, AreNeeded}
+
+-- no read
+pub read_nothing : (max : ℕ) (ahead : Ahead) → ahead.reads ≤ max → IsReadOn max ahead ahead []
+read_nothing max ahead within =
+    record { bytes = sym (append-nil ahead.bytes); reads = omega arith; within = within; ended = or_false ahead.ended; stays = λ _. refl; none_ends = λ _. tt; few = omega arith }
+  where
+    or_false : (b : Bool) → b ≡ (b || false)
+    or_false true = refl
+    or_false false = refl
+
+none_append : (xs ys : List (List ℕ)) → NoneEnds xs → NoneEnds ys → NoneEnds (xs ++ ys)
+none_append [] ys h k = k
+none_append (x ∷ xs) ys h k = (h.0, none_append xs ys h.1 k)
+
+ended_then : (a b c : Bool) (xs ys : List (List ℕ)) → b ≡ (a || ends xs) → c ≡ (b || ends ys) → (IsTrue b → ys ≡ []) → c ≡ (a || ends (xs ++ ys))
+ended_then a b c xs [] first second stays = second ∙ or_false b ∙ first ∙ ap (λ l. a || ends l) (sym (append-nil xs))
+  where
+    or_false : (b : Bool) → (b || false) ≡ b
+    or_false true = refl
+    or_false false = refl
+ended_then true b c xs (y ∷ ys) first second stays = absurd (no_list (stays first))
+  where
+    no_list : y ∷ ys ≡ [] → ⊥
+    no_list h = cc
+ended_then false true c xs (y ∷ ys) first second stays = absurd (no_list (stays refl))
+  where
+    no_list : y ∷ ys ≡ [] → ⊥
+    no_list h = cc
+ended_then false false c xs (y ∷ ys) first second stays = second ∙ sym (ends-append xs y ys)
+
+or_left : (a b c : Bool) → c ≡ (a || b) → c ≡ false → a ≡ false
+or_left true b c h k = absurd (false≢true (sym k ∙ h))
+or_left false b c h k = refl
+
+or_true : (a b c : Bool) → c ≡ (a || b) → a ≡ true → c ≡ true
+or_true a b c h k = h ∙ ap (λ t. t || b) k
+
+-- one run of reads after another
+pub read_then : (max : ℕ) (a b c : Ahead) (xs ys : List (List ℕ)) → IsReadOn max a b xs → IsReadOn max b c ys → IsReadOn max a c (xs ++ ys)
+read_then max a b c xs ys first second =
+    let all : joined (xs ++ ys) ≡ joined xs ++ joined ys = flat_map-append (λ x. x) xs ys in
+    record {
+      bytes = second.bytes ∙ ap (λ l. l ++ joined ys) first.bytes ∙ append_assoc a.bytes (joined xs) (joined ys) ∙ ap (λ l. a.bytes ++ l) (sym all);
+      reads = omega (arith, first.reads, second.reads, length-append xs ys);
+      within = second.within;
+      ended = ended_then a.ended b.ended c.ended xs ys first.ended second.ended second.stays;
+      stays = λ h.
+          let none : xs ≡ [] = first.stays h in
+          let more : ys ≡ [] = second.stays (or_true a.ended (ends xs) b.ended first.ended h) in
+          cc;
+      none_ends = λ h.
+          none_append xs ys (first.none_ends (or_left b.ended (ends ys) c.ended second.ended h)) (second.none_ends h);
+      few = omega (arith, first.few, second.few, ap length all, length-append (joined xs) (joined ys), length-append xs ys);
+    }
+
+-- what may follow the bytes after the reads may follow the first with them
+pub follows_read : (max : ℕ) (old new : Ahead) (pieces : List (List ℕ)) (rest : List ℕ) → IsReadOn max old new pieces → MayFollow new rest → MayFollow old (joined pieces ++ rest)
+follows_read max old new pieces rest read may ended =
+    let none : pieces ≡ [] = read.stays ended in
+    let now : new.ended ≡ true = or_true old.ended (ends pieces) new.ended read.ended ended in
+    let nothing : rest ≡ [] = may now in
+    ap (λ ps. joined ps ++ rest) none ∙ nothing
+
+-- the bytes that were ahead stay in front
+pub front_stays : (max : ℕ) (old new : Ahead) (pieces : List (List ℕ)) (n : ℕ) → IsReadOn max old new pieces → n ≤ length old.bytes → take n new.bytes ≡ take n old.bytes
+front_stays max old new pieces n read h = ap (take n) read.bytes ∙ take-append-le n old.bytes (joined pieces) h
+
+pub back_grows : (max : ℕ) (old new : Ahead) (pieces : List (List ℕ)) (n : ℕ) → IsReadOn max old new pieces → n ≤ length old.bytes
+    → drop n new.bytes ≡ drop n old.bytes ++ joined pieces
+back_grows max old new pieces n read h = ap (drop n) read.bytes ∙ drop-append-le n old.bytes (joined pieces) h
+
+pub grows : (max : ℕ) (old new : Ahead) (pieces : List (List ℕ)) → IsReadOn max old new pieces → length new.bytes ≡ length old.bytes + length (joined pieces)
+grows max old new pieces read = ap length read.bytes ∙ length-append old.bytes (joined pieces)
+
+-- a count that stood still and then rose
+pub rises_from : (a b c : ℕ) → b ≡ a → Rises b c → Rises a c
+rises_from a b c e h = subst (λ k. Rises k c) e h
+
+pub ended_on : (max : ℕ) (old new : Ahead) (pieces : List (List ℕ)) → IsReadOn max old new pieces → IsTrue old.ended → IsTrue new.ended
+ended_on max old new pieces read h = or_true old.ended (ends pieces) new.ended read.ended h
+
+-- a read, or none, that was needed
+pub needed_one : (max_reads max : ℕ) (old new : Ahead) (pieces : List (List ℕ)) → IsReadOn max_reads old new pieces → new.reads ≤ old.reads + 1 → IsUndecided max old.bytes → AreNeeded max old.bytes pieces
+needed_one max_reads max old new [] read one undecided = tt
+needed_one max_reads max old new (piece ∷ []) read one undecided = (undecided, tt)
+needed_one max_reads max old new (piece ∷ (next ∷ pieces)) read one undecided = absurd (omega (arith, read.reads, one))
+
+needed_append : (max : ℕ) (bytes : List ℕ) (xs ys : List (List ℕ)) → AreNeeded max bytes xs → AreNeeded max (bytes ++ joined xs) ys → AreNeeded max bytes (xs ++ ys)
+needed_append max bytes [] ys first second = subst (λ l. AreNeeded max l ys) (append-nil bytes) second
+needed_append max bytes (x ∷ xs) ys first second =
+    (first.0, needed_append max (bytes ++ x) xs ys first.1 (subst (λ l. AreNeeded max l ys) (sym (append_assoc bytes x (joined xs))) second))
+
+-- one run of needed reads after another
+pub needed_then : (max_reads max : ℕ) (old new : Ahead) (xs ys : List (List ℕ)) → IsReadOn max_reads old new xs → AreNeeded max old.bytes xs → AreNeeded max new.bytes ys → AreNeeded max old.bytes (xs ++ ys)
+needed_then max_reads max old new xs ys read first second = needed_append max old.bytes xs ys first (subst (λ l. AreNeeded max l ys) read.bytes second)

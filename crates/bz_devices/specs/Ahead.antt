@@ -1,0 +1,79 @@
+-- The bytes of an input that were read and not yet taken, and the chunk that they begin with.
+use Rattle.std.specs.Prelude.{◌≡◌, ℕ, ◌+◌, ◌*◌, ◌<◌, ◌≤◌, Bool, false, ◌||◌, IsTrue, List, [], ◌∷◌, ◌++◌, length, take, drop, ⊤}
+use Rattle.std.specs.List.{concat}
+use Rattle.bz_token.specs.Places.{line_at}
+use Rattle.bz_token.specs.Chunks.{chunks}
+use Rattle.bz_token.specs.Cuts.{EndsBefore}
+use Rattle.bz_devices.specs.Device.{joined, ends, NoneEnds}
+
+-- what was read and not yet taken, how many reads were made, and whether one met the end of the input
+pub record Ahead : Type 0 where
+  pub bytes : List ℕ
+  pub reads : ℕ
+  pub ended : Bool
+
+-- Reads gave these pieces, each of at most 8,192 bytes: they stand after the bytes ahead. After the end nothing is read.
+pub record IsReadOn (max_reads : ℕ) (old new : Ahead) (pieces : List (List ℕ)) : Type 0 where
+  pub bytes : new.bytes ≡ old.bytes ++ joined pieces
+  pub reads : new.reads ≡ old.reads + length pieces
+  pub within : new.reads ≤ max_reads
+  pub ended : new.ended ≡ (old.ended || ends pieces)
+  pub stays : IsTrue old.ended → pieces ≡ []
+  pub none_ends : new.ended ≡ false → NoneEnds pieces
+  pub few : length (joined pieces) ≤ 8192 * length pieces
+
+-- what may follow the bytes ahead: nothing, where the end was met
+abbrev pub MayFollow : Ahead → List ℕ → Type 0
+MayFollow ahead rest = IsTrue ahead.ended → rest ≡ []
+
+-- The first n bytes ahead are the next chunk, whatever follows, and it has at most so many bytes.
+pub record IsNextChunk (max_statement : ℕ) (ahead : Ahead) (n : ℕ) : Type 0 where
+  pub some : 0 < n
+  pub within : n ≤ length ahead.bytes
+  pub size : n ≤ max_statement
+  pub left : length (drop n ahead.bytes) ≤ 8192
+  pub ends : (rest : List ℕ) → MayFollow ahead rest → EndsBefore (take n ahead.bytes) (drop n ahead.bytes ++ rest)
+
+-- The first chunk of these bytes and the rest begins with a front of the bytes that is longer than it may be.
+pub record BeginsTooLong (max_statement : ℕ) (bytes rest : List ℕ) : Type 0 where
+  pub seen : ℕ
+  pub within : seen ≤ length bytes
+  pub over : max_statement < seen
+  pub more : List ℕ
+  pub others : List (List ℕ)
+  pub chunks_are : chunks (bytes ++ rest) ≡ (take seen bytes ++ more) ∷ others
+
+-- The next chunk is too long, whatever follows.
+abbrev pub IsTooLong : ℕ → Ahead → Type 0
+IsTooLong max_statement ahead = (rest : List ℕ) → MayFollow ahead rest → BeginsTooLong max_statement ahead.bytes rest
+
+-- A chunk of the file begins on this line, and a front of it that stands in these bytes, with which the file begins, is longer than it may be.
+pub record HasTooLong (max_statement line : ℕ) (bytes file : List ℕ) : Type 0 where
+  pub before : List (List ℕ)
+  pub seen : List ℕ
+  pub left : List ℕ
+  pub bytes_are : bytes ≡ concat before ++ (seen ++ left)
+  pub over : max_statement < length seen
+  pub more : List ℕ
+  pub others : List (List ℕ)
+  pub chunks_are : chunks file ≡ before ++ (seen ++ more) ∷ others
+  pub line_is : line ≡ line_at 1 (concat before)
+
+-- No front of these bytes is a chunk whatever follows.
+abbrev pub NoneIsChunk : List ℕ → Type 0
+NoneIsChunk bytes = (n : ℕ) → 0 < n → n ≤ length bytes
+    → ((rest : List ℕ) → EndsBefore (take n bytes) (drop n bytes ++ rest)) → ⊥
+
+-- No front of the bytes ahead is a chunk whatever follows.
+abbrev pub IsUncertain : Ahead → Type 0
+IsUncertain ahead = NoneIsChunk ahead.bytes
+
+-- These bytes leave the next chunk open: no front of them is a chunk whatever follows, and it is not sure to be too long.
+pub record IsUndecided (max_statement : ℕ) (bytes : List ℕ) : Type 0 where
+  pub uncertain : NoneIsChunk bytes
+  pub fitting : ((rest : List ℕ) → BeginsTooLong max_statement bytes rest) → ⊥
+
+-- Each of these reads was needed: the bytes before it left the next chunk open.
+abbrev pub AreNeeded : ℕ → List ℕ → List (List ℕ) → Type 0
+AreNeeded max_statement bytes [] = ⊤
+AreNeeded max_statement bytes (piece ∷ pieces) = IsUndecided max_statement bytes × AreNeeded max_statement (bytes ++ piece) pieces

@@ -1,0 +1,4 @@
+pub mod Ahead
+pub mod Device
+pub mod DeviceLaws
+pub mod private

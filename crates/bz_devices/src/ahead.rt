@@ -1,0 +1,352 @@
+//! The input's next chunk: where it ends, reading no further than is needed to know it.
+
+ghost use Rattle.std.specs.Prelude.{◌≡◌, ◌≢◌, ℕ, ◌+◌, ◌<◌, ◌≤◌, false, List, [], length, take, drop, IfOk, OnOk, OnErr, IfSome, IfNone, IsErrOf, IsTrue};
+ghost use Rattle.bz_devices.specs.Device.{joined, Rises};
+ghost use Rattle.bz_token.specs.Cuts.{IsBlock};
+ghost use Rattle.bz_token.specs.CutterState.{IsAfter, IsAtBlock};
+ghost use Rattle.bz_devices.specs.Ahead.{IsReadOn, AreNeeded, IsNextChunk, IsTooLong, IsUncertain};
+ghost use Rattle.bz_devices.specs.private.AheadSteps.{IsOpen, IsLine, IsLineAt, IsBegun, GoesOn, EndsAt, IsEnd};
+
+use crate::device::Source;
+use crate::input::{PIECE, ReadFault, read_at_most};
+use bz_token::{Cut, Cutter, Next};
+use memchr::memchr;
+use std::alloc::Global;
+use std::marker::Model;
+
+/// What was read of an input and not yet taken.
+#[derive(Drop)]
+pub struct Ahead {
+    bytes: Vec<u8>,
+    /// Where the bytes begin that were not taken.
+    start: usize,
+    /// How many reads were made.
+    reads: u64,
+    /// A read met the end of the input.
+    ended: bool,
+}
+
+impl Model for Ahead {
+    ghost use Rattle.std.specs.Prelude.{◌≤◌, length, drop};
+    ghost use Rattle.bz_devices.specs.Ahead as spec;
+
+    ghost Value = { spec.Ahead };
+
+    ghost view = { λ a. record { bytes = drop a.start a.bytes.items; reads = a.reads; ended = a.ended } };
+
+    ghost invariant = { λ a. a.start ≤ length a.bytes.items };
+}
+
+/// Why there is no next chunk.
+#[derive(Clone, Copy, Debug, PartialEq, Eq)]
+pub enum ChunkFault {
+    OutOfMemory,
+    ReadFailed,
+    /// All the reads that may be made were made without the end, and another is needed.
+    InputTooLong,
+    /// It has more bytes than it may.
+    StatementTooLong,
+}
+
+impl From<ReadFault> for ChunkFault {
+    ghost use Rattle.bz_devices.specs.private.AheadSteps.{chunk_fault};
+
+    ghost from_gives = { λ fault e. e ≡ chunk_fault fault };
+
+    fn from(fault: ReadFault) -> ChunkFault {
+        match fault {
+            ReadFault::OutOfMemory => ChunkFault::OutOfMemory,
+            ReadFault::ReadFailed => ChunkFault::ReadFailed,
+            ReadFault::InputTooLong => ChunkFault::InputTooLong,
+        }
+    }
+}
+
+impl Ahead {
+    /// Nothing was read.
+    pub fn new(alloc: Global) -> Ahead
+        ensures { result ≡ record { bytes = []; reads = 0; ended = false } }
+    {
+        Ahead {
+            bytes: Vec::new(alloc),
+            start: 0,
+            reads: 0,
+            ended: false,
+        }
+    }
+
+    /// The bytes that were read and not taken.
+    pub fn bytes(&self) -> &[u8]
+        ensures { result.now ≡ self.now.bytes }
+    {
+        &self.bytes[self.start..]
+    }
+
+    /// A read met the end of the input.
+    fn is_ended(&self) -> bool
+        ensures { result ≡ self.now.ended }
+    {
+        self.ended
+    }
+
+    /// The first `n` bytes are taken.
+    pub fn take(&mut self, n: usize)
+        requires { n ≤ length self.old.bytes }
+        ensures { self.new ≡ record self.old { bytes = drop n self.old.bytes } }
+    {
+        self.start += n;
+    }
+
+    /// Reads once, at most `most` bytes.
+    fn read<S: Source>(
+        &mut self,
+        source: &mut S,
+        most: usize,
+        max_reads: u64,
+    ) -> Result<(), ChunkFault>
+        requires some { 0 < most }
+        requires few { most ≤ 8192 }
+        requires open { self.old.ended ≡ false }
+        requires made { self.old.reads ≤ max_reads }
+        ensures read { (pieces : List (List ℕ)) × S.gave source.old pieces source.new
+            × IsReadOn max_reads self.old self.new pieces × (length (joined pieces) ≤ most) }
+        ensures one { OnOk result (self.new.reads ≡ self.old.reads + 1) }
+        ensures err { OnErr result (self.new ≡ self.old) }
+        ensures fitting { result ≢ Err ChunkFault.StatementTooLong }
+        ensures too_long { IsErrOf result ChunkFault.InputTooLong → self.old.reads ≡ max_reads }
+        ensures failed { IsErrOf result ChunkFault.ReadFailed → Rises (S.failures source.old) (S.failures source.new) }
+        ensures steady { result ≢ Err ChunkFault.ReadFailed → S.failures source.new ≡ S.failures source.old }
+    {
+        self.drop_taken();
+        let n = read_at_most(source, &mut self.bytes, most, max_reads - self.reads)?;
+        self.reads += 1;
+        self.ended = n == 0;
+        Ok(())
+    }
+
+    /// Makes room of the bytes that were taken.
+    fn drop_taken(&mut self)
+        ensures { self.new ≡ self.old }
+    {
+        if self.start > 0 {
+            drop_front(&mut self.bytes, self.start);
+            self.start = 0;
+        }
+    }
+}
+
+fn drop_front(bytes: &mut Vec<u8>, n: usize)
+    requires { n ≤ length bytes.old.items }
+    ensures { bytes.new.items ≡ drop n bytes.old.items }
+{
+    bytes.drain(..n);
+}
+
+/// Where the first line ends, after its newline.
+fn line_end(bytes: &[u8]) -> Option<usize>
+    ensures within { IfSome result (λ n. (0 < n) × (n ≤ length bytes.now)) }
+    ensures line { IfSome result (λ n. IsLine (take n bytes.now)) }
+    ensures none { IfNone result (IsOpen bytes.now) }
+{
+    match memchr(b'\n', bytes) {
+        Some(at) => Some(at + 1),
+        None => None,
+    }
+}
+
+/// Reads on until the line that begins after the first `from` bytes has its newline, or the input
+/// has ended. Answers where the line ends. Before each read all bytes ahead belong to its chunk.
+fn read_line<S: Source>(
+    ahead: &mut Ahead,
+    source: &mut S,
+    from: usize,
+    max_statement: u64,
+    max_reads: u64,
+) -> Result<usize, ChunkFault>
+    requires made { ahead.old.reads ≤ max_reads }
+    requires within { from ≤ length ahead.old.bytes }
+    requires few { length (drop from ahead.old.bytes) ≤ 8192 }
+    requires begun { IsBegun ahead.old from }
+    requires bound { length ahead.old.bytes ≤ max_statement + 8192 }
+    ensures read { (pieces : List (List ℕ)) × S.gave source.old pieces source.new
+        × IsReadOn max_reads ahead.old ahead.new pieces × AreNeeded max_statement ahead.old.bytes pieces }
+    ensures bound { length ahead.new.bytes ≤ max_statement + 8192 }
+    ensures line { IfOk result (IsLineAt ahead.new from) }
+    ensures statement_too_long { IsErrOf result ChunkFault.StatementTooLong → IsTooLong max_statement ahead.new }
+    ensures input_too_long { IsErrOf result ChunkFault.InputTooLong
+        → (ahead.new.reads ≡ max_reads) × (ahead.new.ended ≡ false)
+        × IsUncertain ahead.new × (IsTooLong max_statement ahead.new → ⊥) }
+    ensures failed { IsErrOf result ChunkFault.ReadFailed → Rises (S.failures source.old) (S.failures source.new) }
+    ensures steady { result ≢ Err ChunkFault.ReadFailed → S.failures source.new ≡ S.failures source.old }
+{
+    let mut searched = from;
+    loop {
+        if let Some(n) = line_end(&ahead.bytes()[searched..]) {
+            return Ok(searched + n);
+        }
+        searched = ahead.bytes().len();
+        if ahead.is_ended() {
+            return Ok(searched);
+        }
+        if searched as u64 > max_statement {
+            return Err(ChunkFault::StatementTooLong);
+        }
+        ahead.read(source, PIECE, max_reads)?;
+    }
+}
+
+/// Whether the chunk ends with its block, after the first `end` bytes.
+fn ends_block<S: Source>(
+    cutter: &mut Cutter,
+    ahead: &mut Ahead,
+    source: &mut S,
+    end: usize,
+    max_statement: u64,
+    max_reads: u64,
+) -> Result<bool, ChunkFault>
+    requires at_block { IsAtBlock cutter.old }
+    requires after { IsAfter cutter.old (take end ahead.old.bytes) }
+    requires block { IsBlock (take end ahead.old.bytes) }
+    requires made { ahead.old.reads ≤ max_reads }
+    requires within { end ≤ length ahead.old.bytes }
+    requires few { length (drop end ahead.old.bytes) ≤ 8192 }
+    requires bound { length ahead.old.bytes ≤ max_statement + 8192 }
+    ensures read { (pieces : List (List ℕ)) × S.gave source.old pieces source.new
+        × IsReadOn max_reads ahead.old ahead.new pieces × AreNeeded max_statement ahead.old.bytes pieces }
+    ensures bound { length ahead.new.bytes ≤ max_statement + 8192 }
+    ensures left { OnOk result (length (drop end ahead.new.bytes) ≤ 8192) }
+    ensures ends { IfOk result (λ is_end. IsTrue is_end → EndsAt ahead.new end) }
+    ensures goes { IfOk result (λ is_end. is_end ≡ false → GoesOn cutter.new ahead.new end) }
+    ensures statement_too_long { IsErrOf result ChunkFault.StatementTooLong → IsTooLong max_statement ahead.new }
+    ensures input_too_long { IsErrOf result ChunkFault.InputTooLong
+        → (ahead.new.reads ≡ max_reads) × (ahead.new.ended ≡ false)
+        × IsUncertain ahead.new × (IsTooLong max_statement ahead.new → ⊥) }
+    ensures failed { IsErrOf result ChunkFault.ReadFailed → Rises (S.failures source.old) (S.failures source.new) }
+    ensures steady { result ≢ Err ChunkFault.ReadFailed → S.failures source.new ≡ S.failures source.old }
+{
+    loop {
+        match cutter.goes_on(&ahead.bytes()[end..], ahead.is_ended()) {
+            Next::Ends => return Ok(true),
+            Next::Goes => return Ok(false),
+            Next::Short => {
+                if end as u64 > max_statement {
+                    return Err(ChunkFault::StatementTooLong);
+                }
+                let most = PIECE - (ahead.bytes().len() - end);
+                ahead.read(source, most, max_reads)?;
+            }
+        }
+    }
+}
+
+/// Whether the chunk ends with the line that ends after the first `end` bytes.
+fn ends_chunk<S: Source>(
+    cutter: &mut Cutter,
+    ahead: &mut Ahead,
+    source: &mut S,
+    from: usize,
+    end: usize,
+    max_statement: u64,
+    max_reads: u64,
+) -> Result<bool, ChunkFault>
+    requires goes_on { GoesOn cutter.old ahead.old from }
+    requires line { IsLineAt ahead.old from end }
+    requires some { from < end }
+    requires made { ahead.old.reads ≤ max_reads }
+    requires bound { length ahead.old.bytes ≤ max_statement + 8192 }
+    ensures read { (pieces : List (List ℕ)) × S.gave source.old pieces source.new
+        × IsReadOn max_reads ahead.old ahead.new pieces × AreNeeded max_statement ahead.old.bytes pieces }
+    ensures bound { length ahead.new.bytes ≤ max_statement + 8192 }
+    ensures left { OnOk result (length (drop end ahead.new.bytes) ≤ 8192) }
+    ensures ends { IfOk result (λ is_end. IsTrue is_end → EndsAt ahead.new end) }
+    ensures goes { IfOk result (λ is_end. is_end ≡ false → GoesOn cutter.new ahead.new end) }
+    ensures statement_too_long { IsErrOf result ChunkFault.StatementTooLong → IsTooLong max_statement ahead.new }
+    ensures input_too_long { IsErrOf result ChunkFault.InputTooLong
+        → (ahead.new.reads ≡ max_reads) × (ahead.new.ended ≡ false)
+        × IsUncertain ahead.new × (IsTooLong max_statement ahead.new → ⊥) }
+    ensures failed { IsErrOf result ChunkFault.ReadFailed → Rises (S.failures source.old) (S.failures source.new) }
+    ensures steady { result ≢ Err ChunkFault.ReadFailed → S.failures source.new ≡ S.failures source.old }
+{
+    match cutter.line(&ahead.bytes()[from..end]) {
+        Cut::Whole => Ok(true),
+        Cut::More => Ok(false),
+        Cut::Block => ends_block(cutter, ahead, source, end, max_statement, max_reads),
+    }
+}
+
+/// Where the next chunk ends. At 0 nothing is left of the input.
+fn chunk_end<S: Source>(
+    ahead: &mut Ahead,
+    source: &mut S,
+    max_statement: u64,
+    max_reads: u64,
+) -> Result<usize, ChunkFault>
+    requires made { ahead.old.reads ≤ max_reads }
+    requires few { length ahead.old.bytes ≤ 8192 }
+    ensures read { (pieces : List (List ℕ)) × S.gave source.old pieces source.new
+        × IsReadOn max_reads ahead.old ahead.new pieces × AreNeeded max_statement ahead.old.bytes pieces }
+    ensures bound { length ahead.new.bytes ≤ max_statement + 8192 }
+    ensures end { IfOk result (IsEnd ahead.new) }
+    ensures statement_too_long { IsErrOf result ChunkFault.StatementTooLong → IsTooLong max_statement ahead.new }
+    ensures input_too_long { IsErrOf result ChunkFault.InputTooLong
+        → (ahead.new.reads ≡ max_reads) × (ahead.new.ended ≡ false)
+        × IsUncertain ahead.new × (IsTooLong max_statement ahead.new → ⊥) }
+    ensures failed { IsErrOf result ChunkFault.ReadFailed → Rises (S.failures source.old) (S.failures source.new) }
+    ensures steady { result ≢ Err ChunkFault.ReadFailed → S.failures source.new ≡ S.failures source.old }
+{
+    let mut cutter = Cutter::new();
+    let mut end = 0;
+    loop {
+        let next = read_line(ahead, source, end, max_statement, max_reads)?;
+        if next == end {
+            return Ok(end);
+        }
+        let is_end = ends_chunk(
+            &mut cutter,
+            ahead,
+            source,
+            end,
+            next,
+            max_statement,
+            max_reads,
+        )?;
+        if is_end {
+            return Ok(next);
+        }
+        end = next;
+    }
+}
+
+/// How many bytes the next chunk of the input has; none where nothing is left of the input.
+///
+/// It reads only where nothing is ahead that was not looked at, or where the end of a block waits
+/// for it, and never once the chunk is sure to be longer than `max_statement`.
+pub fn next_chunk<S: Source>(
+    ahead: &mut Ahead,
+    source: &mut S,
+    max_statement: u64,
+    max_reads: u64,
+) -> Result<Option<usize>, ChunkFault>
+    requires made { ahead.old.reads ≤ max_reads }
+    requires few { length ahead.old.bytes ≤ 8192 }
+    ensures read { (pieces : List (List ℕ)) × S.gave source.old pieces source.new
+        × IsReadOn max_reads ahead.old ahead.new pieces × AreNeeded max_statement ahead.old.bytes pieces }
+    ensures bound { length ahead.new.bytes ≤ max_statement + 8192 }
+    ensures chunk { IfOk result (λ found. IfSome found (IsNextChunk max_statement ahead.new)) }
+    ensures none { IfOk result (λ found. IfNone found ((ahead.new.bytes ≡ []) × IsTrue ahead.new.ended)) }
+    ensures statement_too_long { IsErrOf result ChunkFault.StatementTooLong → IsTooLong max_statement ahead.new }
+    ensures input_too_long { IsErrOf result ChunkFault.InputTooLong
+        → (ahead.new.reads ≡ max_reads) × (ahead.new.ended ≡ false)
+        × IsUncertain ahead.new × (IsTooLong max_statement ahead.new → ⊥) }
+    ensures failed { IsErrOf result ChunkFault.ReadFailed → Rises (S.failures source.old) (S.failures source.new) }
+    ensures steady { result ≢ Err ChunkFault.ReadFailed → S.failures source.new ≡ S.failures source.old }
+{
+    let end = chunk_end(ahead, source, max_statement, max_reads)?;
+    if end == 0 {
+        return Ok(None);
+    }
+    if end as u64 > max_statement {
+        return Err(ChunkFault::StatementTooLong);
+    }
+    Ok(Some(end))
+}

@@ -1,0 +1,68 @@
+//! Reading from a source, a piece at a time.
+
+ghost use Rattle.std.specs.Prelude.{◌≡◌, ◌≢◌, ℕ, ◌+◌, ◌<◌, ◌≤◌, List, [], ◌∷◌, ◌++◌, length, take, IfOk, OnOk, OnErr, IsErrOf, IsTrue};
+ghost use Rattle.bz_devices.specs.Device.{joined, ends, NoneEnds, Rises};
+ghost use Rattle.bz_devices.specs.declared.input.ReadFault.TheVariants.{OutOfMemory};
+
+use crate::device::{Failed, Source};
+use std::alloc::{AllocError, Global};
+
+/// The greatest number of bytes that one read asks for.
+pub const PIECE: usize = 8192;
+
+/// Why bytes could not be read.
+#[derive(Clone, Copy, Debug, PartialEq, Eq)]
+pub enum ReadFault {
+    /// A growth of memory was refused.
+    OutOfMemory,
+    /// The source failed.
+    ReadFailed,
+    /// All the reads that may be made were made without the end, and another is needed.
+    InputTooLong,
+}
+
+impl From<AllocError> for ReadFault {
+    ghost from_gives = { λ _ e. e ≡ OutOfMemory };
+
+    fn from(_e: AllocError) -> ReadFault {
+        ReadFault::OutOfMemory
+    }
+}
+
+/// Reads once, at most `most` bytes, and puts them after the bytes that are there. Answers how many
+/// came; 0 is the end of the input. A refusal leaves the bytes as they were.
+///
+/// `reads_left` is how many reads may still be made: without one, none is made.
+pub fn read_at_most<S: Source>(
+    source: &mut S,
+    bytes: &mut Vec<u8>,
+    most: usize,
+    reads_left: u64,
+) -> Result<usize, ReadFault>
+    requires some { 0 < most }
+    requires few { most ≤ 8192 }
+    ensures read { IfOk result (λ n. (piece : List ℕ) × S.gave source.old (piece ∷ []) source.new
+        × (bytes.new.items ≡ bytes.old.items ++ piece) × (n ≡ length piece) × (n ≤ most)) }
+    ensures err { OnErr result (S.gave source.old [] source.new × (bytes.new.items ≡ bytes.old.items)) }
+    ensures allowed { OnOk result (0 < reads_left) }
+    ensures too_long { IsErrOf result ReadFault.InputTooLong → reads_left ≡ 0 }
+    ensures none_left { reads_left ≡ 0 → result ≡ Err ReadFault.InputTooLong }
+    ensures failed { IsErrOf result ReadFault.ReadFailed → Rises (S.failures source.old) (S.failures source.new) }
+    ensures steady { result ≢ Err ReadFault.ReadFailed → S.failures source.new ≡ S.failures source.old }
+{
+    if reads_left == 0 {
+        return Err(ReadFault::InputTooLong);
+    }
+    let start = bytes.len();
+    bytes.resize(start + most, 0)?;
+    match source.read(&mut bytes[start..]) {
+        Ok(n) => {
+            bytes.truncate(start + n);
+            Ok(n)
+        }
+        Err(Failed) => {
+            bytes.truncate(start);
+            Err(ReadFault::ReadFailed)
+        }
+    }
+}

@@ -1,6 +1,0 @@
-use Rattle.std.proofs.Common.{◌≡◌, map, take}
-use Rattle.bz_engine.specs.Exchange.{no_slot}
-use Rattle.bz_engine.proofs.kept.nothing_kept.Given as goal
-
-abbrev pub invariant-loop-pass : goal.invariant-loop-pass
-invariant-loop-pass g l = l.kept.items ≡ map no_slot (take l.pass-index l.passes)

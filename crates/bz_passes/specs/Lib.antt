@@ -1,0 +1,3 @@
+pub mod Asked
+pub mod Exchange
+pub mod private

@@ -1,0 +1,60 @@
+-- Which passes may mark what is in a slot, and where they stand in a script.
+use Rattle.std.specs.Prelude.{◌≡◌, ℕ, ◌+◌, ◌<◌, ◌≤◌, min, Bool, true, false, if◌then◌else◌, List, [], ◌∷◌, length, get_or, Option, Some, None, is_none, bytes_eq, String, Vec}
+use Rattle.std.specs.Option.{option_map_or}
+use Rattle.std.specs.BTreeMap.{BTreeMap, get_by_text}
+use Rattle.bz_passes.specs.declared.index.Key.{Key}
+use Rattle.bz_passes.specs.declared.index.Key.TheVariants.{NoName, Name, Unknown}
+use Rattle.bz_passes.specs.declared.index.Index.{Index}
+use Rattle.std.specs.Global.{Global}
+
+-- it asks for this name
+abbrev pub asks_for : List ℕ → Option (List ℕ) → Bool
+asks_for name None = false
+asks_for name (Some asked) = bytes_eq name asked
+
+-- a target that asks for a name, or for none, may mark what has this key
+abbrev pub may_mark : Key → Option (List ℕ) → Bool
+may_mark Unknown asked = true
+may_mark NoName asked = is_none asked
+may_mark (Name name) None = true
+may_mark (Name name) (Some asked) = bytes_eq name.now asked
+
+-- the first position from `from` on where the test holds; none where it holds nowhere
+abbrev pub IsFirstFrom : {X : Type 0} → (X → Bool) → List X → ℕ → Option ℕ → Type 0
+IsFirstFrom {X} test xs from None = (i : ℕ) (d : X) → from ≤ i → i < length xs → test (get_or xs i d) ≡ false
+IsFirstFrom {X} test xs from (Some first) = (from ≤ first) × (first < length xs) × ((d : X) → test (get_or xs first d) ≡ true)
+    × ((i : ℕ) (d : X) → from ≤ i → i < first → test (get_or xs i d) ≡ false)
+
+-- the positions where the test holds, counted from n
+abbrev pub positions : {X : Type 0} → (X → Bool) → ℕ → List X → List ℕ
+positions test n [] = []
+positions test n (x ∷ xs) = if test x then n ∷ positions test (n + 1) xs else positions test (n + 1) xs
+
+abbrev pub earlier : Option ℕ → Option ℕ → Option ℕ
+earlier None b = b
+earlier (Some i) None = Some i
+earlier (Some i) (Some j) = Some (min i j)
+
+-- the positions that are kept of a name
+abbrev pub found : BTreeMap (String Global) (Vec ℕ Global) → List ℕ → List ℕ
+found map name = option_map_or (λ g. g.items) (get_by_text map name) []
+
+abbrev pub named : Index → List ℕ → List ℕ
+named index name = found index.named name
+
+-- What each element asks for is found: the names by name, and the others.
+pub record IsIndex {X : Type 0} (asked : X → Option (List ℕ)) (xs : List X) (index : Index) : Type 0 where
+  pub names : (name : List ℕ) → named index name ≡ positions (λ x. asks_for name (asked x)) 0 xs
+  pub others : index.others.items ≡ positions (λ x. is_none (asked x)) 0 xs
+
+-- the first of some positions that is not before `from`; none where all are
+pub record Least (ps : List ℕ) (from first : ℕ) : Type 0 where
+  pub place : ℕ
+  pub within : place < length ps
+  pub is : (d : ℕ) → get_or ps place d ≡ first
+  pub not_before : from ≤ first
+  pub front : (i d : ℕ) → i < place → get_or ps i d < from
+
+abbrev pub IsLeastFrom : List ℕ → ℕ → Option ℕ → Type 0
+IsLeastFrom ps from None = (i d : ℕ) → i < length ps → get_or ps i d < from
+IsLeastFrom ps from (Some first) = Least ps from first

@@ -1,0 +1,144 @@
+//! What a run keeps of the slots that are done, and what it tells of them at its end.
+
+ghost use Rattle.std.specs.Prelude.{◌≡◌, ◌++◌, [], List, map, IfOk, OnOk};
+ghost use Rattle.std.specs.List.{flat_map};
+ghost use Rattle.bz_command.specs.Passes.{Slot, is_missing, missing, log_of};
+ghost use Rattle.bz_passes.specs.Exchange.{Fits, no_slot, kept_of, told, some_not_found};
+
+use crate::language::Language;
+use crate::log::Log;
+use bz_command::Pass;
+use std::alloc::{AllocError, Global};
+use std::marker::Model;
+
+/// Of one pass: whether its target marked something so far, and what each of its commands told.
+#[derive(Drop)]
+pub struct Kept<M> {
+    pub found: bool,
+    pub logs: Vec<Log<M>>,
+}
+
+impl<M> Model for Kept<M> {
+    ghost use Rattle.bz_passes.specs.Exchange as spec;
+
+    ghost Value = { spec.Kept M };
+
+    ghost view = { λ k. record { found = k.found; logs = k.logs.items } };
+}
+
+/// A place for what each command tells.
+fn nothing_told<C, M: Drop>(alloc: Global, commands: &[C]) -> Result<Vec<Log<M>>, AllocError>
+    ensures { IfOk result (λ logs. logs.items ≡ map (λ command. []) commands.now) }
+{
+    let mut logs = Vec::with_capacity(alloc, commands.len())?;
+    for _command in commands {
+        logs.push(Log::new(alloc))?;
+    }
+    Ok(logs)
+}
+
+/// Before the first slot: a place for each pass and each command, with nothing in it.
+pub fn nothing_kept<T, C, M: Drop>(
+    alloc: Global,
+    passes: &[Pass<T, C>],
+) -> Result<Vec<Kept<M>>, AllocError>
+    ensures nothing { IfOk result (λ kept. kept.items ≡ map no_slot passes.now) }
+    ensures fits { IfOk result (λ kept. Fits kept.items passes.now) }
+{
+    let mut kept = Vec::with_capacity(alloc, passes.len())?;
+    for pass in passes {
+        let logs = nothing_told(alloc, pass.commands.as_slice())?;
+        kept.push(Kept { found: false, logs })?;
+    }
+    Ok(kept)
+}
+
+/// Moves what the commands of a pass told after the log, command by command.
+fn append_all<M>(logs: &mut [Log<M>], log: &mut Log<M>) -> Result<(), AllocError>
+    ensures { OnOk result (log.new ≡ log.old ++ flat_map (λ said. said) logs.old) }
+{
+    for i in 0..logs.len() {
+        log.append(&mut logs[i])?;
+    }
+    Ok(())
+}
+
+/// Whether the target of a pass had to mark something and marked nothing.
+fn target_is_missing<L: Language>(
+    language: &L,
+    pass: &Pass<L::Target, L::Command>,
+    kept: &Kept<L::Entry>,
+) -> bool
+    ensures { result ≡ is_missing (L.meaning language.now) pass.now.target kept.now.found }
+{
+    !kept.found && language.must_mark(&pass.target)
+}
+
+/// What is told of one pass: first that its target was not found, then what its commands told.
+fn tell_pass<L: Language>(
+    language: &L,
+    pass: &Pass<L::Target, L::Command>,
+    kept: &mut Kept<L::Entry>,
+    log: &mut Log<L::Entry>,
+) -> Result<(), AllocError>
+    ensures { OnOk result (log.new ≡ log.old
+        ++ (missing (L.meaning language.now) pass.now.target kept.old.found
+        ++ flat_map (λ said. said) kept.old.logs)) }
+{
+    if target_is_missing(language, pass, kept) {
+        log.push(language.not_found(&pass.target)?)?;
+    }
+    append_all(kept.logs.as_mut_slice(), log)
+}
+
+/// What is told of the passes, one after another.
+fn tell_passes<L: Language>(
+    language: &L,
+    passes: &[Pass<L::Target, L::Command>],
+    kept: &mut [Kept<L::Entry>],
+    log: &mut Log<L::Entry>,
+) -> Result<(), AllocError>
+    requires { Fits kept.old passes.now }
+    ensures { OnOk result (log.new ≡ log.old ++ told (L.meaning language.now) passes.now kept.old) }
+{
+    for i in 0..passes.len() {
+        tell_pass(language, &passes[i], &mut kept[i], log)?;
+    }
+    Ok(())
+}
+
+/// The log of a whole run, from what was kept of it: by pass, in a pass by command, for a command
+/// by slot. The entries are moved out of `kept`.
+pub fn tell<L: Language>(
+    alloc: Global,
+    language: &L,
+    passes: &[Pass<L::Target, L::Command>],
+    kept: &mut [Kept<L::Entry>],
+) -> Result<Log<L::Entry>, AllocError>
+    requires { Fits kept.old passes.now }
+    ensures told { IfOk result (λ log. log ≡ told (L.meaning language.now) passes.now kept.old) }
+    ensures whole { IfOk result (λ log. (slots : List (Slot L.Seen))
+        → kept.old ≡ kept_of (L.meaning language.now) passes.now slots
+        → log ≡ log_of (L.meaning language.now) passes.now slots) }
+{
+    let mut log = Log::new(alloc);
+    tell_passes(language, passes, kept, &mut log)?;
+    Ok(log)
+}
+
+/// Whether the target of some pass was not found, by what was kept.
+pub fn is_some_not_found<L: Language>(
+    language: &L,
+    passes: &[Pass<L::Target, L::Command>],
+    kept: &[Kept<L::Entry>],
+) -> bool
+    requires { Fits kept.now passes.now }
+    ensures { result ≡ some_not_found (L.meaning language.now) passes.now kept.now }
+{
+    for i in 0..passes.len() {
+        if target_is_missing(language, &passes[i], &kept[i]) {
+            return true;
+        }
+    }
+    false
+}

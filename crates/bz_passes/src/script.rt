@@ -1,0 +1,174 @@
+//! A whole script on one slot.
+
+ghost use Rattle.std.specs.Prelude.{◌≡◌, ◌++◌, ◌||◌, [], ◌∷◌, List, length, OnOk};
+ghost use Rattle.bz_command.specs.Passes.{Slot, executed, entries, meets, with_mark, marked};
+ghost use Rattle.bz_passes.specs.Exchange.{Fits, IsLeftBy, slot_after_commands, slot_after_pass, slot_after, logs_alone, logs_and, pass_alone, pass_and, kept_alone, kept_and, some_of_commands_alone, some_alone};
+ghost use Rattle.bz_passes.specs.private.Indexes.{IsFirstFrom};
+
+use crate::kept::Kept;
+use crate::language::{Facts, Language};
+use crate::log::Log;
+use crate::passes::Passes;
+use bz_command::Pass;
+use std::alloc::AllocError;
+
+/// One command on a slot that may be marked.
+fn execute<L: Language>(
+    language: &L,
+    command: &L::Command,
+    mark: bool,
+    slot: &mut Option<L::Statement>,
+    log: &mut Log<L::Entry>,
+    facts: &mut Facts,
+) -> Result<(), AllocError>
+    ensures slot { OnOk result (with_mark mark (L.seen slot.new)
+        ≡ executed (L.meaning language.now) command.now (with_mark mark (L.seen slot.old))) }
+    ensures log { OnOk result (log.new
+        ≡ log.old ++ entries (L.meaning language.now) command.now (with_mark mark (L.seen slot.old))) }
+    ensures changed { OnOk result (facts.new.changed
+        ≡ (facts.old.changed || meets (L.changes language.now) command.now (with_mark mark (L.seen slot.old)))) }
+    ensures failed { OnOk result (facts.new.failed
+        ≡ (facts.old.failed || meets (L.fails language.now) command.now (with_mark mark (L.seen slot.old)))) }
+{
+    if !mark {
+        return Ok(());
+    }
+    let done = language.apply(command, slot, log)?;
+    facts.changed = facts.changed || done.changed;
+    facts.failed = facts.failed || done.failed;
+    Ok(())
+}
+
+/// The commands of a pass on one slot.
+fn run_commands<L: Language>(
+    language: &L,
+    commands: &[L::Command],
+    mark: bool,
+    slot: &mut Option<L::Statement>,
+    logs: &mut [Log<L::Entry>],
+    facts: &mut Facts,
+) -> Result<(), AllocError>
+    requires { length logs.old ≡ length commands.now }
+    ensures slot { OnOk result (L.seen slot.new
+        ≡ (slot_after_commands (L.meaning language.now) commands.now (with_mark mark (L.seen slot.old))).slot) }
+    ensures logs { OnOk result (logs.new
+        ≡ logs_and logs.old (logs_alone (L.meaning language.now) commands.now (with_mark mark (L.seen slot.old)))) }
+    ensures changed { OnOk result (facts.new.changed ≡ (facts.old.changed || some_of_commands_alone
+        (L.meaning language.now) (L.changes language.now) commands.now (with_mark mark (L.seen slot.old)))) }
+    ensures failed { OnOk result (facts.new.failed ≡ (facts.old.failed || some_of_commands_alone
+        (L.meaning language.now) (L.fails language.now) commands.now (with_mark mark (L.seen slot.old)))) }
+{
+    for i in 0..commands.len() {
+        execute(language, &commands[i], mark, slot, &mut logs[i], facts)?;
+    }
+    Ok(())
+}
+
+/// One pass on a slot. The target is resolved once, before the first command.
+fn run_pass<L: Language>(
+    language: &L,
+    pass: &Pass<L::Target, L::Command>,
+    slot: &mut Option<L::Statement>,
+    kept: &mut Kept<L::Entry>,
+    facts: &mut Facts,
+) -> Result<(), AllocError>
+    requires { length kept.old.logs ≡ length pass.now.commands }
+    ensures slot { OnOk result (L.seen slot.new ≡ slot_after_pass (L.meaning language.now) pass.now (L.seen slot.old)) }
+    ensures kept { OnOk result (kept.new
+        ≡ pass_and kept.old (pass_alone (L.meaning language.now) pass.now (L.seen slot.old))) }
+    ensures changed { OnOk result (facts.new.changed ≡ (facts.old.changed || some_of_commands_alone
+        (L.meaning language.now) (L.changes language.now) pass.now.commands
+        (marked (L.meaning language.now) pass.now.target (L.seen slot.old)))) }
+    ensures failed { OnOk result (facts.new.failed ≡ (facts.old.failed || some_of_commands_alone
+        (L.meaning language.now) (L.fails language.now) pass.now.commands
+        (marked (L.meaning language.now) pass.now.target (L.seen slot.old)))) }
+{
+    let mark = language.marks(&pass.target, slot);
+    kept.found = kept.found || mark;
+    run_commands(
+        language,
+        pass.commands.as_slice(),
+        mark,
+        slot,
+        kept.logs.as_mut_slice(),
+        facts,
+    )
+}
+
+/// The first pass from a position on whose target marks the slot. Of the passes that ask for another name none is
+/// looked at.
+fn next_marked<L: Language>(
+    language: &L,
+    passes: &Passes<L::Target, L::Command>,
+    slot: &Option<L::Statement>,
+    from: usize,
+) -> Option<usize>
+    ensures { IsFirstFrom (λ pass. (L.meaning language.now).marks pass.target (L.seen slot.now))
+        passes.now from result }
+{
+    let key = language.key(slot);
+    let mut at = from;
+    while let Some(i) = passes.first_from(key, at) {
+        let pass = &passes.as_slice()[i];
+        if language.marks(&pass.target, slot) {
+            return Some(i);
+        }
+        at = i + 1;
+    }
+    None
+}
+
+/// The passes one after another on one slot. What they tell goes after what was kept of the slots
+/// before, and what they did is added to the facts.
+fn run_passes<L: Language>(
+    language: &L,
+    passes: &Passes<L::Target, L::Command>,
+    slot: &mut Option<L::Statement>,
+    kept: &mut [Kept<L::Entry>],
+    facts: &mut Facts,
+) -> Result<(), AllocError>
+    requires { Fits kept.old passes.now }
+    ensures fits { OnOk result (Fits kept.new passes.now) }
+    ensures slot { OnOk result (L.seen slot.new ≡ slot_after (L.meaning language.now) passes.now (L.seen slot.old)) }
+    ensures kept { OnOk result (kept.new
+        ≡ kept_and kept.old (kept_alone (L.meaning language.now) passes.now (L.seen slot.old))) }
+    ensures changed { OnOk result (facts.new.changed ≡ (facts.old.changed
+        || some_alone (L.meaning language.now) (L.changes language.now) passes.now (L.seen slot.old))) }
+    ensures failed { OnOk result (facts.new.failed ≡ (facts.old.failed
+        || some_alone (L.meaning language.now) (L.fails language.now) passes.now (L.seen slot.old))) }
+{
+    let mut at = 0;
+    while let Some(i) = next_marked(language, passes, slot, at) {
+        let pass = &passes.as_slice()[i];
+        run_pass(language, pass, slot, &mut kept[i], facts)?;
+        at = i + 1;
+    }
+    Ok(())
+}
+
+/// The whole script on one slot. Where what is kept and the facts are those of the slots before, they
+/// are then those of the slots with this one. After a refusal neither the slot nor what is kept is
+/// of use.
+pub fn run_script<L: Language>(
+    language: &L,
+    passes: &Passes<L::Target, L::Command>,
+    slot: &mut Option<L::Statement>,
+    kept: &mut [Kept<L::Entry>],
+    facts: &mut Facts,
+) -> Result<(), AllocError>
+    // There is a place for each pass and each command, before and after.
+    requires { Fits kept.old passes.now }
+    ensures fits { OnOk result (Fits kept.new passes.now) }
+    ensures slot { OnOk result (L.seen slot.new ≡ slot_after (L.meaning language.now) passes.now (L.seen slot.old)) }
+    // Some execution failed on this slot, or before.
+    ensures failed { OnOk result (facts.new.failed ≡ (facts.old.failed
+        || some_alone (L.meaning language.now) (L.fails language.now) passes.now (L.seen slot.old))) }
+    ensures left { OnOk result ((slots : List (Slot L.Seen))
+        → IsLeftBy (L.meaning language.now) (L.changes language.now) (L.fails language.now) passes.now
+        slots kept.old facts.old.changed facts.old.failed
+        → IsLeftBy (L.meaning language.now) (L.changes language.now) (L.fails language.now) passes.now
+        (slots ++ L.seen slot.old ∷ []) kept.new facts.new.changed facts.new.failed) }
+{
+    run_passes(language, passes, slot, kept, facts)?;
+    Ok(())
+}

@@ -1,0 +1,17 @@
+//! What the target of a command asks for.
+
+use crate::passes::Keyed;
+use bz_command::{Marked, Target};
+
+impl Keyed for Target {
+    ghost use Rattle.bz_passes.specs.Asked.{asked_by};
+
+    ghost asked = { asked_by };
+
+    fn asked(&self) -> Option<&str> {
+        match &self.marked {
+            Marked::Name(name) => Some(name.as_str()),
+            _ => None,
+        }
+    }
+}
