@@ -2,7 +2,7 @@
 
 ghost use Rattle.std.specs.Prelude.{ℕ, List, Bool, Result};
 
-use bz_engine::{Failed, Sink};
+use bz_devices::device::{Failed, Sink};
 
 /// What writes a new text, and knows whether it is to be kept.
 pub trait Author {

@@ -8,7 +8,7 @@ ghost use Rattle.bz_folder.specs.declared.draft.Stage.TheVariants.{Unmade};
 
 use crate::draft::Stage;
 use crate::folder::Folder;
-use bz_engine::Failed;
+use bz_devices::device::Failed;
 
 /// Makes an empty file, in place of what lies there.
 fn make_empty<D: Folder>(folder: &mut D, path: &str) -> Result<(), Failed>

@@ -13,7 +13,7 @@ use crate::calls::{install, send};
 use crate::folder::Folder;
 use crate::trouble::Trouble;
 use crate::waiting::Waiting;
-use bz_engine::{Failed, Sink};
+use bz_devices::device::{Failed, Sink};
 use std::alloc::{AllocError, Global};
 use std::marker::Model;
 

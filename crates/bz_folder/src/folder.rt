@@ -3,7 +3,7 @@
 ghost use Rattle.std.specs.Prelude.{◌≡◌, ℕ, List, [], ◌∷◌, ◌++◌, is_ok, IfOk, string_bytes};
 ghost use Rattle.bz_folder.specs.Files.{Event, Make, Write, SetMode, Rename, Remove};
 
-use bz_engine::{Failed, Source};
+use bz_devices::device::{Failed, Source};
 
 /// Why a file was not opened.
 #[derive(Clone, Copy, Debug, PartialEq, Eq)]

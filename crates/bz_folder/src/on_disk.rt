@@ -5,7 +5,8 @@ ghost use Rattle.bz_folder.specs.Tally.{no_calls, Tallies, tallies_nothing, tall
 
 use crate::folder::{CannotOpen, Folder, Opened};
 use crate::tally::Tally;
-use bz_engine::{Failed, FromRead};
+use bz_devices::device::Failed;
+use bz_devices::std_device::FromRead;
 use std::alloc::Global;
 use std::fs::{File, Files, OpenFile, OpenOptions, Permissions};
 use std::io::{ErrorKind, Write};

@@ -11,7 +11,7 @@ use crate::author::Author;
 use crate::draft::Draft;
 use crate::folder::Folder;
 use crate::trouble::Trouble;
-use bz_engine::Failed;
+use bz_devices::device::Failed;
 
 /// What comes after the author's writes.
 fn finish<D: Folder>(
