@@ -57,6 +57,7 @@ pub mod BlockBody
 pub mod BlockWritten
 pub mod BlockAgain
 pub mod BlockClass
+pub mod KeptStays
 mod Examples
 mod ParsedExamples
 mod WellFormedExamples

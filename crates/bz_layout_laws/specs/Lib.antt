@@ -13,3 +13,4 @@ pub mod Following
 pub mod WellFormed
 pub mod EachText
 pub mod BlockIn
+pub mod KeptBlock

@@ -6,7 +6,9 @@ ghost use Rattle.bz_tree.specs.Chunk.{IsStatementIn};
 ghost use Rattle.bz_tree.specs.Tree.{Statement};
 ghost use Rattle.bz_layout.specs.Layout.{layout_text};
 ghost use Rattle.bz_layout_laws.specs.BlockIn.{IsBlockIn};
+ghost use Rattle.bz_layout_laws.specs.KeptBlock.{IsKeptBlock};
 ghost use Rattle.bz_layout_laws.specs.Legible.{AreComments};
+ghost use Rattle.bz_layout_laws.specs.Spelled.{spelled_statement};
 ghost use Rattle.bz_layout_laws.specs.Unplaced.{unplaced};
 
 /// A statement that was read and has the class of a block was read as a block: its first token is a word that begins
@@ -29,4 +31,13 @@ pub fn a_block_is_read_again()
         → IsStatementIn second depth (layout_text (record s { before = comments }) ++ replicate newlines 10) t
         → (unplaced t ≡ unplaced (record s { before = comments }))
         × (layout_text t ≡ layout_text (record s { before = comments })) }
+{}
+
+/// Whether a statement is a kept block does not hang on the places of its tokens and on the spelling of strings. So what
+/// is read of a kept block's text is a kept block again.
+pub fn a_kept_block_stays_so()
+    ensures places { (depth : ℕ) (s t : Statement) → unplaced t ≡ unplaced s → IsKeptBlock depth s
+        → IsKeptBlock depth t }
+    ensures spelled { (depth : ℕ) (s t : Statement) → unplaced t ≡ unplaced (spelled_statement s)
+        → IsKeptBlock depth s → IsKeptBlock depth t }
 {}
