@@ -4,7 +4,7 @@ use Rattle.std.specs.Prelude.{if◌then◌else◌}
 use Rattle.std.proofs.lemmas.Bool.Decides.{nat_tests}
 use Rattle.bz_token.specs.declared.token.Kind.TheVariants.{Kept}
 use Rattle.bz_token.specs.Places.{Placed, column_at}
-use Rattle.bz_token.specs.Reading.{Piece, bytes_of, tokens_of}
+use Rattle.bz_token.specs.Reading.{is_gap, Piece, bytes_of, tokens_of}
 use Rattle.bz_token_laws.proofs.Readable.{read_is_laid}
 use Rattle.bz_tree.specs.declared.stmt.Class.TheVariants.{Block}
 use Rattle.bz_tree.specs.Blocks.{above, is_block_word_at, is_block_word, block_indent, is_block, kept_statement, IsKeptText, IsBlockOf}
@@ -27,6 +27,7 @@ pub record Body (first depth : ℕ) (bytes : List ℕ) (s : Statement) : Type 0 
   pub newlines : List Piece
   pub rest : List ℕ
   pub bytes_are : bytes ≡ bytes_of (front ++ ((header ∷ mid) ++ newlines)) ++ rest
+  pub gap : is_gap false rest ≡ true
   pub parts : AreParts front header mid newlines
   pub passes : Passes depth (front ++ ((header ∷ mid) ++ newlines)) rest
   pub word : is_block_word_at header.kind header.text ≡ true
@@ -77,6 +78,7 @@ body_of first depth bytes s b =
       newlines = found.newlines;
       rest = rest;
       bytes_are = bytes_are;
+      gap = b.are.3;
       parts = found.parts;
       passes = subst (λ ps. Passes depth ps rest) found.are (record { texts = laid.1; ended = laid.2; fitting = laid.3; closed = b.are.4 });
       word = word;

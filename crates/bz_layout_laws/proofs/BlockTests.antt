@@ -65,7 +65,7 @@ aside_open Note text opened h is = free_open opened text (other_free Note text r
 aside_open LineKind text opened h is = free_open opened text (other_free LineKind text refl is)
 aside_open _ text opened h is = absurd (false≢true h)
 
-asides_open : (ps : List Piece) (opened : List ℕ) → list_all is_aside_piece ps ≡ true → are_texts ps ≡ true → open_after opened ps ≡ opened
+pub asides_open : (ps : List Piece) (opened : List ℕ) → list_all is_aside_piece ps ≡ true → are_texts ps ≡ true → open_after opened ps ≡ opened
 asides_open [] opened h texts = refl
 asides_open (p ∷ ps) opened h texts =
     let a = and_parts (is_aside p.kind) (list_all is_aside_piece ps) h in

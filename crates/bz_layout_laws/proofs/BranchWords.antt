@@ -22,7 +22,7 @@ abbrev pub is_branch : List ℕ → Bool
 is_branch text = bytes_eq text (codes "elif") || bytes_eq text (codes "else")
 
 -- both words begin with `e`
-other_word : (b : ℕ) (xs : List ℕ) → (b == 101) ≡ false → is_branch (word_at (b ∷ xs)) ≡ false
+pub other_word : (b : ℕ) (xs : List ℕ) → (b == 101) ≡ false → is_branch (word_at (b ∷ xs)) ≡ false
 other_word b xs e = ap is_branch (take_while-cons is_word_byte b xs) ∙ by (is_word_byte b)
   where
     by : (word : Bool) → is_branch (cond word (b ∷ word_at xs) []) ≡ false
@@ -30,11 +30,11 @@ other_word b xs e = ap is_branch (take_while-cons is_word_byte b xs) ∙ by (is_
     by false = refl
 
 -- letters, digits and underscores up to another byte
-abbrev stops_word : List ℕ → Bool
+abbrev pub stops_word : List ℕ → Bool
 stops_word [] = true
 stops_word (b ∷ bs) = not (is_word_byte b)
 
-whole_word : (xs after : List ℕ) → list_all is_word_byte xs ≡ true → stops_word after ≡ true → word_at (xs ++ after) ≡ xs
+pub whole_word : (xs after : List ℕ) → list_all is_word_byte xs ≡ true → stops_word after ≡ true → word_at (xs ++ after) ≡ xs
 whole_word [] [] all stop = refl
 whole_word [] (b ∷ bs) all stop = take_while-cons is_word_byte b bs ∙ none (is_word_byte b) stop
   where

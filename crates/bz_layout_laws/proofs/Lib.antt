@@ -57,6 +57,12 @@ pub mod BlockBody
 pub mod BlockWritten
 pub mod BlockAgain
 pub mod BlockClass
+pub mod BlockHead
+pub mod BlockLines
+pub mod BlockFirst
+pub mod BlockFront
+pub mod BlockForm
+pub mod BlockAfter
 pub mod KeptStays
 mod Examples
 mod ParsedExamples
