@@ -84,7 +84,7 @@ nodes_begin (item (group kind segs one_comma end) xs) ps rest some h none texts 
     first_piece Sign (opening kind) (tail_of (nodes_of (item (group kind segs one_comma end) xs) ++ ps)) rest refl (opening_branch kind) texts ended
 
 -- a comment begins with a number sign
-note_begins : (note rest : List ℕ) → is_comment_text note ≡ true → goes_on If (note ++ rest) ≡ false
+pub note_begins : (note rest : List ℕ) → is_comment_text note ≡ true → goes_on If (note ++ rest) ≡ false
 note_begins [] rest h = absurd (false≢true h)
 note_begins (b ∷ bs) rest h = by b (and_parts (b == 35) _ (and_parts ((b == 35) && not (list_any is_newline (b ∷ bs))) (not (ends_blank (b ∷ bs))) h).0).0
   where

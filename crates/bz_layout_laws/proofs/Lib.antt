@@ -64,6 +64,8 @@ pub mod BlockFront
 pub mod BlockForm
 pub mod BlockAfter
 pub mod KeptStays
+pub mod KeptChunk
+pub mod KeptReadBack
 mod Examples
 mod ParsedExamples
 mod WellFormedExamples

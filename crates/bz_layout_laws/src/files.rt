@@ -6,6 +6,7 @@ ghost use Rattle.bz_token.specs.Chunks.{chunks};
 ghost use Rattle.bz_tree.specs.Tree.{Statement};
 ghost use Rattle.bz_layout_laws.specs.FileRead.{AreStatementsIn};
 ghost use Rattle.bz_layout_laws.specs.FileText.{text_from, chunks_from};
+ghost use Rattle.bz_layout_laws.specs.KeptBlock.{IsKeptBlock};
 ghost use Rattle.bz_layout_laws.specs.ReadBack.{IsReadBack};
 ghost use Rattle.bz_layout_laws.specs.Spelled.{spelled_statement};
 ghost use Rattle.bz_layout_laws.specs.Unplaced.{unplaced};
@@ -15,6 +16,13 @@ ghost use Rattle.bz_layout_laws.specs.WellFormed.{IsWellFormed};
 /// chunk of its own or with the empty line after it, and it is read as the statement.
 pub fn a_statement_is_read_back_in_a_file()
     ensures { (depth : ℕ) (s : Statement) → IsWellFormed depth s → IsReadBack depth s }
+{}
+
+/// The text of a block that was kept is read back wherever it stands in a file: no block goes on with it, it is a chunk
+/// where the file ends and with the empty line after it, unless a block goes on with what follows, and it is read as the
+/// block.
+pub fn a_block_is_read_back_in_a_file()
+    ensures { (depth : ℕ) (s : Statement) → IsKeptBlock depth s → IsReadBack depth s }
 {}
 
 /// The text of statements, each of which is read back, one after another with an empty line between some, has the
