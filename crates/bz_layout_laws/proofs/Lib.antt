@@ -73,3 +73,4 @@ pub mod Utf8Tokens
 pub mod Utf8Read
 pub mod Utf8Written
 mod FileExamples
+mod KeptExamples
