@@ -7,6 +7,7 @@ mod BareEffects
 mod BareParts
 mod BareSettings
 mod BareStatements
+mod CommentedFormed
 mod Found
 mod Gone
 mod GoodAdditions
@@ -14,6 +15,7 @@ mod GoodEffects
 mod GoodReplacements
 mod Likeness
 mod ListParts
+mod MovedFormed
 mod NewTexts
 mod OwnComments
 mod PassingCommands
