@@ -135,6 +135,38 @@ f(
 =>
 status 0
 ---
+add deps d ! //p:a
+f(name = "a", deps = ["a"] + select({"c": ["b"]}))
+->
+f(
+    name = "a",
+    deps = [
+        "a",
+        "d",
+    ] + select({
+        "c": ["b"],
+    }),
+)
+=>
+status 0
+---
+set a 1 ! -:*
+x = [k+v for k,v in d.items()]
+->
+x = [k + v for k, v in d.items()]
+=>
+status 3
+---
+set a 1 ! -:*
+x=(1)
+
+y=(1,)
+->
+x = (1)
+y = (1,)
+=>
+status 3
+---
 set a 1 ! -:*
 # top
 

@@ -81,6 +81,46 @@ f(
     data = ["x"],
 )
 ---
+f(
+    name = "a",
+    deps = [
+        # c1
+        "x",  # c2
+        "y",  # c3
+        "z",
+        "w",
+        # c4
+    ],
+)
+->
+f(
+    name = "a",
+    deps = [
+        # c1
+        "x",  # c2
+        "y",  # c3
+        "z",
+        "w",
+        # c4
+    ],
+)
+---
+f(
+    name = "a",
+    data = [
+        "x",
+        "y",  # two
+    ],
+)
+->
+f(
+    name = "a",
+    data = [
+        "x",
+        "y",  # two
+    ],
+)
+---
 f( # note
 name = "a")
 ->
