@@ -1,3 +1,5 @@
 mod FileText
 mod SoundStatements
 mod SecondRun
+mod Utf8Chunks
+mod FileTokens

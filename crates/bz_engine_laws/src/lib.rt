@@ -4,3 +4,4 @@
 pub mod again;
 pub mod reading;
 pub mod sound;
+pub mod whole_file;
