@@ -24,10 +24,10 @@ concat_snoc : (before : List (List ℕ)) (c : List ℕ) → concat (before ++ c 
 concat_snoc [] c = append-nil c
 concat_snoc (b ∷ before) c = ap (λ x. b ++ x) (concat_snoc before c) ∙ sym (append_assoc b (concat before) c)
 
-line_snoc : (first : ℕ) (before : List (List ℕ)) (c : List ℕ) → line_at (line_at first (concat before)) c ≡ line_at first (concat (before ++ c ∷ []))
+pub line_snoc : (first : ℕ) (before : List (List ℕ)) (c : List ℕ) → line_at (line_at first (concat before)) c ≡ line_at first (concat (before ++ c ∷ []))
 line_snoc first before c = omega (arith, ap newlines (concat_snoc before c), newlines-append (concat before) c)
 
-tokens_snoc : (first depth : ℕ) (before : List (List ℕ)) (c : List ℕ) (ts us : List Placed) → AreTokensOfChunks first depth before ts → AreTokensOf (line_at first (concat before)) depth c us → AreTokensOfChunks first depth (before ++ c ∷ []) (ts ++ us)
+pub tokens_snoc : (first depth : ℕ) (before : List (List ℕ)) (c : List ℕ) (ts us : List Placed) → AreTokensOfChunks first depth before ts → AreTokensOf (line_at first (concat before)) depth c us → AreTokensOfChunks first depth (before ++ c ∷ []) (ts ++ us)
 tokens_snoc first depth [] c ts us t u =
     (us, [], subst (λ line. AreTokensOf line depth c us) (omega arith) u, refl, ap (λ x. x ++ us) t ∙ sym (append-nil us))
 tokens_snoc first depth (b ∷ before) c ts us t u =
@@ -36,11 +36,11 @@ tokens_snoc first depth (b ∷ before) c ts us t u =
     (t.0, t.1 ++ us, t.2, rest, ap (λ x. x ++ us) t.4 ∙ append_assoc t.0 t.1 us)
 
 -- the tokens of a chunk by which it is read
-found_tokens : (line depth : ℕ) (c : List ℕ) (found : Option Statement) → IsFound line depth c found → (ts : List Placed) × AreTokensOf line depth c ts × IsOnLines line c ts found
+pub found_tokens : (line depth : ℕ) (c : List ℕ) (found : Option Statement) → IsFound line depth c found → (ts : List Placed) × AreTokensOf line depth c ts × IsOnLines line c ts found
 found_tokens line depth c None f = (f.tokens, f.are, f.none)
 found_tokens line depth c (Some s) f = (f.tokens, f.are, f.reads)
 
-tokens_found : (line depth : ℕ) (c : List ℕ) (found : Option Statement) (ts : List Placed) → AreTokensOf line depth c ts → IsOnLines line c ts found → IsFound line depth c found
+pub tokens_found : (line depth : ℕ) (c : List ℕ) (found : Option Statement) (ts : List Placed) → AreTokensOf line depth c ts → IsOnLines line c ts found → IsFound line depth c found
 tokens_found line depth c None ts are on = record { tokens = ts; are = are; none = on }
 tokens_found line depth c (Some s) ts are on = record { tokens = ts; are = are; reads = on }
 

@@ -3,3 +3,5 @@ mod SoundStatements
 mod SecondRun
 mod Utf8Chunks
 mod FileTokens
+mod FileFaults
+mod BadBytes
