@@ -5,3 +5,4 @@ mod Utf8Chunks
 mod FileTokens
 mod FileFaults
 mod BadBytes
+mod WholeFileExamples
