@@ -8,14 +8,14 @@ use Rattle.std.proofs.lemmas.Str.{IsUtf8-append}
 use Rattle.bz_token.specs.Chunks.{chunks}
 use Rattle.bz_token.specs.Cuts.{ends_in_newline}
 use Rattle.bz_token.specs.Places.{line_at, column_from, column_at}
-use Rattle.bz_token.proofs.ChunkLaws.{first_chunk}
+use Rattle.bz_token.proofs.FreshChunks.{first_cut}
 use Rattle.bz_token.proofs.Progress.{newlines-append}
 use Rattle.bz_tree.specs.Tree.{Statement}
 use Rattle.bz_engine.proofs.Given.{none_is_some}
 use Rattle.bz_engine.specs.declared.report.SyntaxFault.{SyntaxFault}
 use Rattle.bz_engine.specs.declared.report.SyntaxFault.TheVariants.{NotUtf8}
 use Rattle.bz_engine.specs.File.{not_utf8, Follows, Gives, Give, IsFile}
-use Rattle.bz_engine_laws.proofs.Utf8Chunks.{cut_after_newline}
+use Rattle.bz_engine_laws.proofs.Utf8Chunks.{cut_after_newline, ends_or_last}
 
 -- fronts of a text in two parts
 take_past : (c rest : List ℕ) (k : ℕ) → take (length c + k) (c ++ rest) ≡ c ++ take k rest
@@ -83,24 +83,11 @@ bad_after line c rest fault (inr ends) text bad = (length c + bad.0, valid_after
 -- that of a file
 bad_byte : (depth line : ℕ) (cs : List (List ℕ)) (bytes : List ℕ) (ss : List Statement) (l k : ℕ) → chunks bytes ≡ cs → Give depth line cs ss (Some (NotUtf8 l k)) → IsBadByte line bytes (NotUtf8 l k)
 bad_byte depth line [] bytes ss l k e g = none_is_some (NotUtf8 l k) (sym g.1)
-bad_byte depth line (c ∷ cs) [] ss l k e g = absurd (nothing e)
+bad_byte depth line (c ∷ cs) bytes ss l k e g =
+    let first = first_cut bytes c cs e in
+    subst (λ x. IsBadByte line x (NotUtf8 l k)) (sym first.bytes_are)
+    (by_answer first.rest (ends_or_last c first.rest first.first_is first.some) g.0 g.1 g.2 (λ rs later. bad_byte depth (line_at line c) cs first.rest rs l k first.after later))
   where
-    nothing : [] ≡ c ∷ cs → ⊥
-    nothing e = cc
-bad_byte depth line (c ∷ cs) (b ∷ bs) ss l k e g =
-    let f = first_chunk b bs in
-    let both : f.chunk ∷ chunks f.rest ≡ c ∷ cs = sym f.chunks_are ∙ e in
-    let head = heads _ _ _ _ both in
-    let ends = subst (λ x. (f.rest ≡ []) ⊎ (ends_in_newline x ≡ true)) head f.ends in
-    subst (λ x. IsBadByte line x (NotUtf8 l k)) (sym (f.bytes_are ∙ ap (λ x. x ++ f.rest) head))
-    (by_answer f.rest ends g.0 g.1 g.2 (λ rs later. bad_byte depth (line_at line c) cs f.rest rs l k (tails _ _ _ _ both) later))
-  where
-    heads : (x y : List ℕ) (xs ys : List (List ℕ)) → x ∷ xs ≡ y ∷ ys → x ≡ y
-    heads x y xs ys e = cc
-
-    tails : (x y : List ℕ) (xs ys : List (List ℕ)) → x ∷ xs ≡ y ∷ ys → xs ≡ ys
-    tails x y xs ys e = cc
-
     same_fault : (h m : SyntaxFault) → Some h ≡ Some m → h ≡ m
     same_fault h m is = cc
 

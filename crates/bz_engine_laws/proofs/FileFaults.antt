@@ -37,18 +37,19 @@ lexical_other (lex.OpenBracket line col) other = tt
 lexical_other (lex.TooDeep line col) other = tt
 lexical_other (lex.BadBackslash line col) other = tt
 
--- What a chunk gives by itself is what it gives by the tokens and the fault that it is read as.
-abbrev OnLines : ℕ → ℕ → List ℕ → List Placed → Option LexFault → Type 0
-OnLines line depth c tokens lexical = (us : List Placed) (f : Option LexFault) → IsReadAs line depth c us f → (us ≡ tokens) × (f ≡ lexical)
+-- the chunk is read as these tokens up to this fault, if any, and as nothing else
+abbrev IsReadOnlyAs : ℕ → ℕ → List ℕ → List Placed → Option LexFault → Type 0
+IsReadOnlyAs line depth c tokens lexical = (us : List Placed) (f : Option LexFault) → IsReadAs line depth c us f → (us ≡ tokens) × (f ≡ lexical)
 
 moved_tokens : (line : ℕ) (c : List ℕ) (us tokens : List Placed) (lexical : Option LexFault) (found : Option Statement) → (us ≡ tokens) × (None ≡ lexical) → IsOnLines line c us found → (lexical ≡ None) × IsOnLines line c tokens found
 moved_tokens line c us tokens lexical found same on = (sym same.1, subst (λ ts. IsOnLines line c ts found) same.0 on)
 
-gives_found : (line depth : ℕ) (c : List ℕ) (tokens : List Placed) (lexical : Option LexFault) (found : Option Statement) → OnLines line depth c tokens lexical → Gives depth line c (Ok found) → GivesOnLines line c tokens lexical (Ok found)
+-- What a chunk gives by itself, it gives by the tokens and the fault that it is read as.
+gives_found : (line depth : ℕ) (c : List ℕ) (tokens : List Placed) (lexical : Option LexFault) (found : Option Statement) → IsReadOnlyAs line depth c tokens lexical → Gives depth line c (Ok found) → GivesOnLines line c tokens lexical (Ok found)
 gives_found line depth c tokens lexical None same g = let f = found_tokens line depth c None g.1 in let on = moved_tokens line c f.0 tokens lexical None (same f.0 None f.1) f.2 in (g.0, on.0, on.1)
 gives_found line depth c tokens lexical (Some s) same g = let f = found_tokens line depth c (Some s) g.1 in let on = moved_tokens line c f.0 tokens lexical (Some s) (same f.0 None f.1) f.2 in (g.0, on.0, on.1)
 
-gives_on_lines : (line depth : ℕ) (c : List ℕ) (tokens : List Placed) (lexical : Option LexFault) (answer : Result (Option Statement) SyntaxFault) → OnLines line depth c tokens lexical → Gives depth line c answer → GivesOnLines line c tokens lexical answer
+gives_on_lines : (line depth : ℕ) (c : List ℕ) (tokens : List Placed) (lexical : Option LexFault) (answer : Result (Option Statement) SyntaxFault) → IsReadOnlyAs line depth c tokens lexical → Gives depth line c answer → GivesOnLines line c tokens lexical answer
 gives_on_lines line depth c tokens lexical (Ok found) same g = gives_found line depth c tokens lexical found same g
 gives_on_lines line depth c tokens lexical (Err (NotUtf8 l col)) same g = g
 gives_on_lines line depth c tokens lexical (Err (Parse OutOfMemory)) same g = absurd (g.2 refl)
@@ -62,15 +63,16 @@ gives_on_lines line depth c tokens lexical (Err (Parse (NotAStatement l))) same 
     let here = same g.1.tokens None g.1.are in
     (g.0, (sym here.1, subst (λ ts. IsNoStatement line c ts l) here.0 g.1.is))
 
-on_lines_found : (line depth : ℕ) (c : List ℕ) (tokens : List Placed) (found : Option Statement) → IsReadAs line depth c tokens None → GivesOnLines line c tokens None (Ok found) → Gives depth line c (Ok found)
-on_lines_found line depth c tokens None read g = (g.0, tokens_found line depth c None tokens read g.2)
-on_lines_found line depth c tokens (Some s) read g = (g.0, tokens_found line depth c (Some s) tokens read g.2)
+-- and the other way round
+found_gives : (line depth : ℕ) (c : List ℕ) (tokens : List Placed) (found : Option Statement) → IsReadAs line depth c tokens None → GivesOnLines line c tokens None (Ok found) → Gives depth line c (Ok found)
+found_gives line depth c tokens None read g = (g.0, tokens_found line depth c None tokens read g.2)
+found_gives line depth c tokens (Some s) read g = (g.0, tokens_found line depth c (Some s) tokens read g.2)
 
 whole_tokens : (line depth : ℕ) (c : List ℕ) (tokens : List Placed) (lexical f : Option LexFault) → IsReadAs line depth c tokens lexical → lexical ≡ f → IsReadAs line depth c tokens f
 whole_tokens line depth c tokens lexical f read is = subst (IsReadAs line depth c tokens) is read
 
 on_lines_gives : (line depth : ℕ) (c : List ℕ) (tokens : List Placed) (lexical : Option LexFault) (answer : Result (Option Statement) SyntaxFault) → IsReadAs line depth c tokens lexical → GivesOnLines line c tokens lexical answer → Gives depth line c answer
-on_lines_gives line depth c tokens lexical (Ok found) read g = on_lines_found line depth c tokens found (whole_tokens line depth c tokens lexical None read g.1) (g.0, refl, g.2)
+on_lines_gives line depth c tokens lexical (Ok found) read g = found_gives line depth c tokens found (whole_tokens line depth c tokens lexical None read g.1) (g.0, refl, g.2)
 on_lines_gives line depth c tokens lexical (Err (NotUtf8 l col)) read g = g
 on_lines_gives line depth c tokens lexical (Err (Parse OutOfMemory)) read g = absurd g.1
 on_lines_gives line depth c tokens lexical (Err (Parse (Lex f))) read g =
@@ -98,7 +100,7 @@ give_on_lines : (depth : ℕ) (before cs : List (List ℕ)) (bytes : List ℕ) (
 give_on_lines depth before [] bytes ts tokens lexical ss fault e t whole g = g
 give_on_lines depth before (c ∷ cs) bytes ts tokens lexical ss fault e t whole g =
     let line = line_at 1 (concat before) in
-    let same : OnLines line depth c (tokens_on_lines line c tokens) (fault_on_lines line c lexical) = λ us f read. (on_its_lines 1 depth before cs c bytes ts us tokens f lexical e t whole).0 read in
+    let same : IsReadOnlyAs line depth c (tokens_on_lines line c tokens) (fault_on_lines line c lexical) = λ us f read. (on_its_lines 1 depth before cs c bytes ts us tokens f lexical e t whole).0 read in
     let moved = line_snoc 1 before c in (
       g.0,
       gives_on_lines line depth c (tokens_on_lines line c tokens) (fault_on_lines line c lexical) g.0 same g.1,

@@ -9,13 +9,14 @@ use Rattle.bz_token.specs.Places.{Placed, line_at}
 use Rattle.bz_token.specs.Reading.{AreTokensOf}
 use Rattle.bz_token.proofs.FreshChunks.{tokens_of_chunks}
 use Rattle.bz_token.proofs.FreshStart.{on_its_lines}
+use Rattle.bz_token.proofs.OneFault.{one_tokens}
 use Rattle.bz_token.proofs.Progress.{newlines, newlines-append}
 use Rattle.bz_tree.specs.Tree.{Statement}
 use Rattle.bz_layout_laws.specs.FileRead.{AreFound, IsFound, AreStatementsIn}
 use Rattle.bz_engine.proofs.Given.{none_is_some}
 use Rattle.bz_engine.specs.File.{Follows, Gives, Give, IsFile}
 use Rattle.bz_engine.specs.declared.report.SyntaxFault.{SyntaxFault}
-use Rattle.bz_engine_laws.specs.WholeFile.{IsOnLines, AreOnLines}
+use Rattle.bz_engine_laws.specs.WholeFile.{IsOnLines, AreOnLines, tokens_by_chunks}
 use Rattle.bz_engine_laws.proofs.FileText.{give_statements}
 use Rattle.bz_engine_laws.proofs.Utf8Chunks.{chunks_utf8, text_of_chunks}
 
@@ -125,3 +126,19 @@ read_by_tokens depth bytes ss file =
 pub file_of_tokens : (depth : ℕ) (bytes : List ℕ) (ss : List Statement) (tokens : List Placed) → IsUtf8 bytes → AreTokensOf 1 depth bytes tokens → AreOnLines tokens 1 (chunks bytes) ss → IsFile depth bytes ss None
 file_of_tokens depth bytes ss tokens u whole are =
     give_statements depth 1 (chunks bytes) ss (chunks_utf8 (chunks bytes) bytes refl u) (on_lines_found depth [] (chunks bytes) bytes [] tokens ss refl refl whole are)
+
+-- the tokens of the file are those of its chunks
+of_chunks : (depth : ℕ) (before cs : List (List ℕ)) (bytes : List ℕ) (ts tokens : List Placed) → chunks bytes ≡ before ++ cs → AreTokensOfChunks 1 depth before ts → AreTokensOf 1 depth bytes tokens
+    → AreTokensOfChunks (line_at 1 (concat before)) depth cs (tokens_by_chunks tokens (line_at 1 (concat before)) cs)
+of_chunks depth before [] bytes ts tokens e t whole = refl
+of_chunks depth before (c ∷ cs) bytes ts tokens e t whole =
+    let line = line_at 1 (concat before) in
+    let us = tokens_on_lines line c tokens in
+    let here = of_lines depth before cs c bytes ts tokens e t whole in
+    let rest = of_chunks depth (before ++ c ∷ []) cs bytes (ts ++ us) tokens (e ∙ sym (append_assoc before (c ∷ []) cs)) (tokens_snoc 1 depth before c ts us t here) whole in
+    (us, tokens_by_chunks tokens (line_at line c) cs, here, subst (λ l. AreTokensOfChunks l depth cs (tokens_by_chunks tokens l cs)) (sym (line_snoc 1 before c)) rest, refl)
+
+pub each_in_a_chunk : (depth : ℕ) (bytes : List ℕ) (tokens : List Placed) → AreTokensOf 1 depth bytes tokens → tokens ≡ tokens_by_chunks tokens 1 (chunks bytes)
+each_in_a_chunk depth bytes tokens whole =
+    let parts = of_chunks depth [] (chunks bytes) bytes [] tokens refl refl whole in
+    one_tokens 1 depth bytes tokens (tokens_by_chunks tokens 1 (chunks bytes)) whole (tokens_of_chunks 1 depth (chunks bytes) bytes (tokens_by_chunks tokens 1 (chunks bytes)) refl parts)

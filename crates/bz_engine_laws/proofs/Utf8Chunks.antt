@@ -1,13 +1,15 @@
 -- A file is UTF-8 exactly if its chunks are: each but the last ends in a newline.
-use Rattle.std.proofs.Common.{◌≡◌, ℕ, List, [], ◌∷◌, ◌++◌, true, sym, ap, subst, ◌∙◌, arith, ◌⊎◌, inl, inr, append_assoc, append-nil}
+use Rattle.std.proofs.Common.{◌≡◌, ℕ, ◌<◌, List, [], ◌∷◌, ◌++◌, length, true, refl, sym, ap, subst, ◌∙◌, arith, ◌⊎◌, inl, inr, append_assoc, append-nil}
 use Rattle.std.specs.List.{AllByRecursion, concat}
 use Rattle.std.specs.Prelude.{◌==◌}
 use Rattle.std.specs.Str.{IsUtf8}
 use Rattle.std.proofs.lemmas.Bool.Decides.{nat_tests}
 use Rattle.std.proofs.lemmas.Str.{IsUtf8-append, IsUtf8-nil, IsUtf8-past_char, encode_ascii}
 use Rattle.bz_token.specs.Chunks.{chunks}
-use Rattle.bz_token.specs.Cuts.{ends_in_newline}
-use Rattle.bz_token.proofs.ChunkLaws.{first_chunk, chunks_kept}
+use Rattle.bz_token.specs.Cuts.{ends_in_newline, EndsBefore}
+use Rattle.bz_token.proofs.ChunkFaults.{chunk_newline}
+use Rattle.bz_token.proofs.ChunkLaws.{chunks_kept}
+use Rattle.bz_token.proofs.FreshChunks.{first_cut}
 use Rattle.bz_layout_laws.proofs.Utf8Tokens.{cut_low}
 use Rattle.bz_layout_laws.proofs.Utf8Written.{low_utf8}
 
@@ -32,28 +34,22 @@ cut_after_newline c rest ends u =
     let cut = cut_low last.0 (10 ∷ rest) (omega arith) (subst IsUtf8 same u) in
     (subst IsUtf8 (sym last.1) (IsUtf8-append last.0 (10 ∷ []) cut.0 (low_utf8 10 (omega arith))), past_newline rest cut.1)
 
+-- A chunk ends in a newline, or nothing follows.
+pub ends_or_last : (c rest : List ℕ) → EndsBefore c rest → 0 < length c → (rest ≡ []) ⊎ (ends_in_newline c ≡ true)
+ends_or_last c [] cut some = inl refl
+ends_or_last c (b ∷ rest) cut some = inr (chunk_newline c b rest cut some)
+
+cut_first : (c rest : List ℕ) → (rest ≡ []) ⊎ (ends_in_newline c ≡ true) → IsUtf8 (c ++ rest) → IsUtf8 c × IsUtf8 rest
+cut_first c rest (inl none) u = (subst IsUtf8 (ap (λ r. c ++ r) none ∙ append-nil c) u, subst IsUtf8 (sym none) IsUtf8-nil)
+cut_first c rest (inr ends) u = cut_after_newline c rest ends u
+
 -- so the chunks of a text are text
 pub chunks_utf8 : (cs : List (List ℕ)) (bytes : List ℕ) → chunks bytes ≡ cs → IsUtf8 bytes → AllByRecursion IsUtf8 cs
 chunks_utf8 [] bytes e u = tt
-chunks_utf8 (c ∷ cs) [] e u = absurd (nothing e)
-  where
-    nothing : [] ≡ c ∷ cs → ⊥
-    nothing e = cc
-chunks_utf8 (c ∷ cs) (b ∷ bs) e u =
-    let f = first_chunk b bs in
-    let both : f.chunk ∷ chunks f.rest ≡ c ∷ cs = sym f.chunks_are ∙ e in
-    let cut = cut_first f.chunk f.rest f.ends (subst IsUtf8 f.bytes_are u) in
-    (subst IsUtf8 (heads _ _ _ _ both) cut.0, chunks_utf8 cs f.rest (tails _ _ _ _ both) cut.1)
-  where
-    heads : (x y : List ℕ) (xs ys : List (List ℕ)) → x ∷ xs ≡ y ∷ ys → x ≡ y
-    heads x y xs ys e = cc
-
-    tails : (x y : List ℕ) (xs ys : List (List ℕ)) → x ∷ xs ≡ y ∷ ys → xs ≡ ys
-    tails x y xs ys e = cc
-
-    cut_first : (c rest : List ℕ) → (rest ≡ []) ⊎ (ends_in_newline c ≡ true) → IsUtf8 (c ++ rest) → IsUtf8 c × IsUtf8 rest
-    cut_first c rest (inl none) u = (subst IsUtf8 (ap (λ r. c ++ r) none ∙ append-nil c) u, subst IsUtf8 (sym none) IsUtf8-nil)
-    cut_first c rest (inr ends) u = cut_after_newline c rest ends u
+chunks_utf8 (c ∷ cs) bytes e u =
+    let first = first_cut bytes c cs e in
+    let parts = cut_first c first.rest (ends_or_last c first.rest first.first_is first.some) (subst IsUtf8 first.bytes_are u) in
+    (parts.0, chunks_utf8 cs first.rest first.after parts.1)
 
 -- and a text of such chunks is text
 joined_utf8 : (cs : List (List ℕ)) → AllByRecursion IsUtf8 cs → IsUtf8 (concat cs)

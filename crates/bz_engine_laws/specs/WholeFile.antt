@@ -1,5 +1,5 @@
 -- The statements of a file by the tokens of the whole file: what stands on the lines of each of its chunks.
-use Rattle.std.specs.Prelude.{◌≡◌, ℕ, List, [], ◌∷◌, Option, Some, None, IsNone, Result, Ok, Err}
+use Rattle.std.specs.Prelude.{◌≡◌, ℕ, List, [], ◌∷◌, ◌++◌, Option, Some, None, IsNone, Result, Ok, Err}
 use Rattle.std.specs.Str.{IsUtf8, IsValidUpTo}
 use Rattle.bz_token.specs.declared.fault.LexFault.{LexFault}
 use Rattle.bz_token.specs.FreshStart.{tokens_on_lines, fault_on_lines}
@@ -25,6 +25,11 @@ AreOnLines tokens line [] statements = statements ≡ []
 AreOnLines tokens line (c ∷ cs) statements =
     (found : Option Statement) × IsOnLines line c (tokens_on_lines line c tokens) found
     × AreFound found (AreOnLines tokens (line_at line c) cs) statements
+
+-- The tokens on the lines of chunks, of which the first begins at this line, one chunk after another.
+abbrev pub tokens_by_chunks : List Placed → ℕ → List (List ℕ) → List Placed
+tokens_by_chunks tokens line [] = []
+tokens_by_chunks tokens line (c ∷ cs) = tokens_on_lines line c tokens ++ tokens_by_chunks tokens (line_at line c) cs
 
 -- The fault of a chunk, on whose lines stand these tokens and this lexical fault, if any.
 abbrev pub IsFaultOnLines : ℕ → List ℕ → List Placed → Option LexFault → ParseFault → Type 0

@@ -13,10 +13,11 @@ ghost use Rattle.bz_tree.specs.Tree.{Statement};
 ghost use Rattle.bz_engine.specs.declared.report.SyntaxFault.{SyntaxFault};
 ghost use Rattle.bz_engine.specs.declared.report.SyntaxFault.TheVariants.{NotUtf8, Parse};
 ghost use Rattle.bz_engine.specs.File.{not_utf8, IsFile};
-ghost use Rattle.bz_engine_laws.specs.WholeFile.{AreOnLines, GiveOnLines};
+ghost use Rattle.bz_engine_laws.specs.WholeFile.{AreOnLines, GiveOnLines, tokens_by_chunks};
 
 /// A file without a fault is UTF-8 and has tokens, and its statements are those that stand on the lines of its chunks;
-/// and a file of which this is so has no fault.
+/// and a file of which this is so has no fault. The tokens of a file are those on the lines of its chunks, one chunk
+/// after another.
 pub fn a_file_is_read_by_its_tokens()
     ensures tokens { (depth : ℕ) (bytes : List ℕ) (statements : List Statement) → IsFile depth bytes statements None
         → IsUtf8 bytes
@@ -24,6 +25,8 @@ pub fn a_file_is_read_by_its_tokens()
     ensures file { (depth : ℕ) (bytes : List ℕ) (statements : List Statement) (tokens : List Placed) → IsUtf8 bytes
         → AreTokensOf 1 depth bytes tokens → AreOnLines tokens 1 (chunks bytes) statements
         → IsFile depth bytes statements None }
+    ensures each { (depth : ℕ) (bytes : List ℕ) (tokens : List Placed) → AreTokensOf 1 depth bytes tokens
+        → tokens ≡ tokens_by_chunks tokens 1 (chunks bytes) }
 {}
 
 /// The statements of a file up to its first fault, and that fault, are what stands on the lines of its chunks, where it
