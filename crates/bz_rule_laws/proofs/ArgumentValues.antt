@@ -47,10 +47,10 @@ pub record HasName (nodes : List Item) : Type 0 where
   pub sign_place : Place
   pub are : nodes ≡ named name place sign_place (drop 2 nodes)
 
-sign_is : (x : Item) → is_sign (codes "=") x ≡ true → (place : Place) × (x ≡ leaf Sign (codes "=") place)
-sign_is (group kind segs one_comma end) h = absurd (false≢true h)
-sign_is (leaf Sign bytes place) h = (place, ap (λ bs. leaf Sign bs place) (same_bytes bytes (codes "=") h))
-sign_is (leaf _ bytes place) h = absurd (false≢true h)
+pub sign_is : (sign : List ℕ) (x : Item) → is_sign sign x ≡ true → (place : Place) × (x ≡ leaf Sign sign place)
+sign_is sign (group kind segs one_comma end) h = absurd (false≢true h)
+sign_is sign (leaf Sign bytes place) h = (place, ap (λ bs. leaf Sign bs place) (same_bytes bytes sign h))
+sign_is sign (leaf _ bytes place) h = absurd (false≢true h)
 
 ident_is : (x : Item) → is_some (ident_of x) ≡ true → (name : List ℕ) × (place : Place) × (x ≡ leaf Ident name place)
 ident_is (group kind segs one_comma end) h = absurd (false≢true h)
@@ -67,7 +67,7 @@ has_name (x ∷ []) h = absurd (false≢true h)
 has_name (x ∷ y ∷ nodes) h =
     let p = name_parts (is_sign (codes "=") y) (ident_of x) h in
     let n = ident_is x p.1 in
-    let e = sign_is y p.0 in
+    let e = sign_is (codes "=") y p.0 in
     record { name = n.0; place = n.1; sign_place = e.0; are = λ i. n.2 i ∷ e.1 i ∷ nodes }
 
 -- a value: nodes that are a test

@@ -13,6 +13,7 @@ mod Gone
 mod GoodAdditions
 mod GoodEffects
 mod GoodReplacements
+mod KindFormed
 mod Likeness
 mod ListParts
 mod MovedFormed
@@ -24,6 +25,7 @@ mod PassingParts
 mod PassingSettings
 mod PassingTexts
 mod RenamedFormed
+mod RuleFormed
 mod Segments
 mod SetAgain
 mod SettingsFormed
