@@ -29,5 +29,6 @@ mod RuleFormed
 mod Segments
 mod SetAgain
 mod SettingsFormed
+mod StatementsFormed
 mod Tests
 mod Utf8Commands
