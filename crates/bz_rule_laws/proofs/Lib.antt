@@ -2,6 +2,7 @@ mod Accepting
 mod Again
 mod AllComments
 mod ArgumentValues
+mod ArgumentsFormed
 mod BareDiffers
 mod BareEffects
 mod BareParts
