@@ -74,3 +74,5 @@ pub mod Utf8Read
 pub mod Utf8Written
 mod FileExamples
 mod KeptExamples
+pub mod AboveBlock
+pub mod BlockUtf8

@@ -50,7 +50,7 @@ is_high : (b : ℕ) → nat_lt b 128 ≡ false → 128 ≤ b
 is_high b h = grind (arith, nat_tests)
 
 -- a token begins with an ASCII byte
-text_low : (kind : Kind) (text after : List ℕ) → is_text kind text ≡ true → StartsLow (text ++ after)
+pub text_low : (kind : Kind) (text after : List ℕ) → is_text kind text ≡ true → StartsLow (text ++ after)
 text_low kind [] after is = absurd (empty_no_text kind is)
 text_low kind (b ∷ bs) after is = elim (cases_Bool (nat_lt b 128)) [
   | inl low ↦ is_low b low
@@ -65,14 +65,14 @@ backslash_low : (b : ℕ) (t : Bool) → (b == 92 && t) ≡ true → b < 128
 backslash_low b t h = let p = and_parts (b == 92) t h in grind (arith, nat_tests, p.0)
 
 -- and so does a gap, if it has a byte
-gap_low : (inside : Bool) (gap rest : List ℕ) → is_gap inside gap ≡ true → StartsLow rest → StartsLow (gap ++ rest)
+pub gap_low : (inside : Bool) (gap rest : List ℕ) → is_gap inside gap ≡ true → StartsLow rest → StartsLow (gap ++ rest)
 gap_low inside [] rest h low = low
 gap_low inside (b ∷ bs) rest h low = elim (cases_Bool (is_white inside b)) [
   | inl white ↦ white_low inside b white
   | inr other ↦ let k = rw (other, is_gap) at h in backslash_low b _ k
 ]
 
-pieces_low : (depth : ℕ) (opened : List ℕ) (ps : List Piece) (rest bytes : List ℕ) → IsReading depth opened ps rest bytes → StartsLow rest → StartsLow bytes
+pub pieces_low : (depth : ℕ) (opened : List ℕ) (ps : List Piece) (rest bytes : List ℕ) → IsReading depth opened ps rest bytes → StartsLow rest → StartsLow bytes
 pieces_low depth opened [] rest bytes r low = subst StartsLow (sym r) low
 pieces_low depth opened (p ∷ ps) rest bytes r low =
     subst StartsLow (sym r.1.bytes_are) (gap_low (is_inside opened) p.gap (p.text ++ r.0) r.1.gap (text_low p.kind p.text r.0 r.1.token.whole))
