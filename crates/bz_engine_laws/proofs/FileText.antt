@@ -1,5 +1,5 @@
 -- The text of slots is that of the statements that are left in them, and it is read as a file.
-use Rattle.std.proofs.Common.{◌≡◌, ℕ, List, [], ◌∷◌, ◌++◌, map, Bool, true, false, refl, sym, ap, subst, ◌∙◌, arith}
+use Rattle.std.proofs.Common.{◌≡◌, ℕ, List, [], ◌∷◌, ◌++◌, map, Bool, true, false, refl, sym, ap, subst, ◌∙◌, inl, inr, arith}
 use Rattle.std.specs.Prelude.{codes, Option, None, Some, Ok, if◌then◌else◌}
 use Rattle.std.specs.List.{AllByRecursion}
 use Rattle.std.specs.Str.{IsUtf8}
@@ -17,6 +17,8 @@ use Rattle.bz_layout_laws.specs.Spelled.{spelled_statement}
 use Rattle.bz_layout_laws.specs.Unplaced.{unplaced}
 use Rattle.bz_layout_laws.proofs.FileChunks.{file_chunks}
 use Rattle.bz_layout_laws.proofs.FileReads.{file_read_again, file_read_only}
+use Rattle.bz_layout_laws.proofs.KeptReadBack.{kept_read_back}
+use Rattle.bz_layout_laws.proofs.StatementReadBack.{statement_read_back}
 use Rattle.bz_layout_laws.proofs.Utf8Written.{written_utf8, low_utf8}
 use Rattle.bz_command.specs.Passes.{Slot}
 use Rattle.bz_engine.specs.declared.report.SyntaxFault.{SyntaxFault}
@@ -24,20 +26,15 @@ use Rattle.bz_engine.proofs.OneOutcome.{one_give}
 use Rattle.bz_engine.specs.File.{Gives, Follows, Give, IsFile}
 use Rattle.bz_engine.specs.Outcome.{slots_of, text_following}
 use Rattle.bz_engine_laws.specs.Sound.{IsSound}
-
--- the statements that are left in slots
-abbrev left_in : List (Slot Statement) → List Statement
-left_in [] = []
-left_in (None ∷ slots) = left_in slots
-left_in (Some s ∷ slots) = s ∷ left_in slots
+use Rattle.bz_engine_laws.specs.Written.{statements_in}
 
 -- the text of slots is that of what is left in them
-pub text_left : (last : Option Class) (slots : List (Slot Statement)) → text_following last slots ≡ text_from last (left_in slots)
+pub text_left : (last : Option Class) (slots : List (Slot Statement)) → text_following last slots ≡ text_from last (statements_in slots)
 text_left last [] = refl
 text_left last (None ∷ slots) = text_left last slots
 text_left last (Some s ∷ slots) = ap (λ text. gap_text (blank_between last s.class) ++ (layout_text s ++ text)) (text_left (Some s.class) slots)
 
-pub left_all : (ss : List Statement) → left_in (slots_of ss) ≡ ss
+pub left_all : (ss : List Statement) → statements_in (slots_of ss) ≡ ss
 left_all [] = refl
 left_all (s ∷ ss) = ap (λ rest. s ∷ rest) (left_all ss)
 
@@ -72,11 +69,15 @@ chunks_utf8 : (depth : ℕ) (ss : List Statement) → AllByRecursion (IsSound de
 chunks_utf8 depth [] sound = tt
 chunks_utf8 depth (s ∷ ss) sound = both_parts (own_chunks s (blank_after s.class ss)) (chunks_from ss) (own_utf8 depth s (blank_after s.class ss) sound.0) (chunks_utf8 depth ss sound.1)
 
+-- a sound statement is read back
+sound_back : (depth : ℕ) (s : Statement) → IsSound depth s → IsReadBack depth s
+sound_back depth s sound = elim sound.form [ inl formed ↦ statement_read_back depth s formed | inr kept ↦ kept_read_back depth s kept ]
+
 all_back : (depth : ℕ) (ss : List Statement) → AllByRecursion (IsSound depth) ss → AllByRecursion (IsReadBack depth) ss
 all_back depth [] sound = tt
-all_back depth (s ∷ ss) sound = (sound.0.back, all_back depth ss sound.1)
+all_back depth (s ∷ ss) sound = (sound_back depth s sound.0, all_back depth ss sound.1)
 
-text_of_all : (ss : List Statement) → text_following None (slots_of ss) ≡ text_from None ss
+pub text_of_all : (ss : List Statement) → text_following None (slots_of ss) ≡ text_from None ss
 text_of_all ss = text_left None (slots_of ss) ∙ ap (text_from None) (left_all ss)
 
 -- the text of sound statements is read as them

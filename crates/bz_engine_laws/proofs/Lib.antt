@@ -6,3 +6,4 @@ mod FileTokens
 mod FileFaults
 mod BadBytes
 mod WholeFileExamples
+mod NoRule

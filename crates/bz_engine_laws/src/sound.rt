@@ -1,17 +1,20 @@
-//! Laws on sound statements: which are, and that those of a file are, but for blocks.
+//! Law on sound statements: those of a file are.
 
-ghost use Rattle.std.specs.Prelude.{◌≡◌, ℕ, List, Ok, Some};
-ghost use Rattle.bz_tree.specs.declared.stmt.Class.TheVariants.{Block};
+ghost use Rattle.std.specs.Prelude.{◌≡◌, ◌∷◌, ℕ, List, [], Ok, Option, Some};
+ghost use Rattle.std.specs.List.{AllByRecursion};
+ghost use Rattle.bz_token.specs.Chunks.{chunks};
 ghost use Rattle.bz_tree.specs.Tree.{Statement};
-ghost use Rattle.bz_layout_laws.specs.EachText.{HasUtf8};
-ghost use Rattle.bz_layout_laws.specs.WellFormed.{IsWellFormed};
-ghost use Rattle.bz_engine.specs.File.{Gives};
+ghost use Rattle.bz_engine.specs.declared.report.SyntaxFault.{SyntaxFault};
+ghost use Rattle.bz_engine.specs.File.{Gives, IsFile};
+ghost use Rattle.bz_engine.specs.Outcome.{BeginsWith};
 ghost use Rattle.bz_engine_laws.specs.Sound.{IsSound};
 
-/// A well-formed statement whose tokens and comments are UTF-8 is sound, and so is what a chunk of a file gives, if it is
-/// no block.
+/// What a chunk gives is sound. So are the statements of a file up to its first fault, and those that it begins with.
 pub fn what_is_read_is_sound()
-    ensures formed { (depth : ℕ) (s : Statement) → IsWellFormed depth s → HasUtf8 s → IsSound depth s }
-    ensures read { (depth line : ℕ) (chunk : List ℕ) (s : Statement) → Gives depth line chunk (Ok (Some s))
-        → (s.class ≡ Block → ⊥) → IsSound depth s }
+    ensures read { (depth line : ℕ) (chunk : List ℕ) (s : Statement) → chunks chunk ≡ chunk ∷ []
+        → Gives depth line chunk (Ok (Some s)) → IsSound depth s }
+    ensures file { (depth : ℕ) (bytes : List ℕ) (statements : List Statement) (fault : Option SyntaxFault)
+        → IsFile depth bytes statements fault → AllByRecursion (IsSound depth) statements }
+    ensures front { (depth : ℕ) (file : List ℕ) (statements : List Statement) → BeginsWith depth file statements
+        → AllByRecursion (IsSound depth) statements }
 {}
