@@ -7,3 +7,4 @@ mod FileFaults
 mod BadBytes
 mod WholeFileExamples
 mod NoRule
+mod LeftExamples

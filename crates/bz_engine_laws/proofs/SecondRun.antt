@@ -9,7 +9,8 @@ use Rattle.bz_command.specs.Labels.{Package}
 use Rattle.bz_command.specs.Passes.{Slot, Meaning, Pass, Marked, marked, executed, slots_after_commands, slots_after_pass, slots_after}
 use Rattle.bz_engine.specs.Changes.{CommandsChange, PassChanges, Changes, AreCommands}
 use Rattle.bz_engine.specs.Meaning.{meaning}
-use Rattle.bz_engine.specs.Outcome.{Script, Told, IsOutcome, IsWholeRun, is_query, slots_of, text_following, some_change, told_of}
+use Rattle.bz_engine.specs.declared.report.End.TheVariants.{Whole, FirstFailure}
+use Rattle.bz_engine.specs.Outcome.{Script, Told, IsOutcome, IsWholeRun, EndsAtFailure, is_query, slots_of, text_following, some_change, told_of}
 use Rattle.bz_rule.proofs.Differences.{changed_tells}
 use Rattle.bz_engine.proofs.ChangesLaw.{changes_tell}
 use Rattle.bz_engine.proofs.OneOutcome.{one_give}
@@ -54,9 +55,9 @@ shown : (b : Bool) (text : List ℕ) → b ≡ false → (if b then [] else text
 shown true text h = absurd (false≢true (sym h))
 shown false text h = refl
 
-whole_again : (home : Package) (passes : Script) (depth : ℕ) (ss : List Statement) (text : List ℕ) (told : Told) → AllByRecursion (IsSound depth) ss → AreCommands passes → is_query passes ≡ false
-    → IsWholeRun home passes true depth (text_following None (slots_of ss)) text told → told.changed ≡ false → text ≡ text_following None (slots_of ss)
-whole_again home passes depth ss text told sound commands query run quiet =
+whole_again : (home : Package) (passes : Script) (keep_going : Bool) (depth : ℕ) (ss : List Statement) (text : List ℕ) (told : Told) → AllByRecursion (IsSound depth) ss → AreCommands passes → is_query passes ≡ false
+    → IsWholeRun home passes keep_going depth (text_following None (slots_of ss)) text told → told.changed ≡ false → text ≡ text_following None (slots_of ss)
+whole_again home passes keep_going depth ss text told sound commands query run quiet =
     let again = text_again depth ss sound in
     let same = (one_give depth 1 _ run.statements again.0 run.fault None run.read again.1).0 in
     let unchanged : some_change home passes run.statements ≡ false = sym (told_change home passes run.statements run.fault) ∙ ap (λ (t : Told). t.changed) (sym run.told_is) ∙ quiet in
@@ -65,7 +66,13 @@ whole_again home passes depth ss text told sound commands query run quiet =
     ∙ same_bytes _ _ (λ differ. quiet_passes (meaning home) passes (slots_of run.statements) none (λ stays. differ (ap (text_following None) stays ∙ ap (λ ts. text_following None (slots_of ts)) same)))
     ∙ again.3
 
-pub same_again : (home : Package) (passes : Script) (depth : ℕ) (ss : List Statement) (text : List ℕ) (told : Told) → AllByRecursion (IsSound depth) ss → AreCommands passes → is_query passes ≡ false
-    → IsOutcome home passes true depth (text_following None (slots_of ss)) text told → told.changed ≡ false → text ≡ text_following None (slots_of ss)
-same_again home passes depth ss text told sound commands query (inl run) quiet = whole_again home passes depth ss text told sound commands query run quiet
-same_again home passes depth ss text told sound commands query (inr stop) quiet = absurd (false≢true (sym stop.ends))
+-- a run that comes to its end does not end at a failure
+not_at_failure : (home : Package) (passes : Script) (keep_going : Bool) (depth : ℕ) (file text : List ℕ) (told : Told) → EndsAtFailure home passes keep_going depth file text told → (keep_going ≡ false → told.end ≡ Whole) → ⊥
+not_at_failure home passes keep_going depth file text told stop ends =
+    let here : FirstFailure ≡ Whole = sym (ap (λ (t : Told). t.end) stop.told_is) ∙ ends stop.ends in
+    cc
+
+pub same_again : (home : Package) (passes : Script) (keep_going : Bool) (depth : ℕ) (ss : List Statement) (text : List ℕ) (told : Told) → AllByRecursion (IsSound depth) ss → AreCommands passes → is_query passes ≡ false
+    → IsOutcome home passes keep_going depth (text_following None (slots_of ss)) text told → (keep_going ≡ false → told.end ≡ Whole) → told.changed ≡ false → text ≡ text_following None (slots_of ss)
+same_again home passes keep_going depth ss text told sound commands query (inl run) ends quiet = whole_again home passes keep_going depth ss text told sound commands query run quiet
+same_again home passes keep_going depth ss text told sound commands query (inr stop) ends quiet = absurd (not_at_failure home passes keep_going depth (text_following None (slots_of ss)) text told stop ends)

@@ -1,18 +1,19 @@
 //! Law on a second run: over a text that was written, a script that changes nothing writes the same bytes.
 
-ghost use Rattle.std.specs.Prelude.{◌≡◌, ℕ, List, None, false, true};
+ghost use Rattle.std.specs.Prelude.{◌≡◌, ℕ, List, Bool, None, false};
 ghost use Rattle.std.specs.List.{AllByRecursion};
 ghost use Rattle.bz_tree.specs.Tree.{Statement};
 ghost use Rattle.bz_command.specs.Labels.{Package};
+ghost use Rattle.bz_engine.specs.declared.report.End.TheVariants.{Whole};
 ghost use Rattle.bz_engine.specs.Changes.{AreCommands};
 ghost use Rattle.bz_engine.specs.Outcome.{Script, Told, IsOutcome, is_query, slots_of, text_following};
 ghost use Rattle.bz_engine_laws.specs.Sound.{IsSound};
 
-/// A run that keeps going over the text of sound statements, whose script is no query and changes nothing, writes the
-/// same bytes.
+/// A run over the text of sound statements, whose script is no query and changes nothing, writes the same bytes. It
+/// keeps going, or does not end at a failure.
 pub fn a_run_that_changes_nothing_writes_the_same()
-    ensures { (home : Package) (passes : Script) (depth : ℕ) (ss : List Statement) (text : List ℕ) (told : Told)
-        → AllByRecursion (IsSound depth) ss → AreCommands passes → is_query passes ≡ false
-        → IsOutcome home passes true depth (text_following None (slots_of ss)) text told → told.changed ≡ false
-        → text ≡ text_following None (slots_of ss) }
+    ensures { (home : Package) (passes : Script) (keep_going : Bool) (depth : ℕ) (ss : List Statement) (text : List ℕ)
+        (told : Told) → AllByRecursion (IsSound depth) ss → AreCommands passes → is_query passes ≡ false
+        → IsOutcome home passes keep_going depth (text_following None (slots_of ss)) text told
+        → (keep_going ≡ false → told.end ≡ Whole) → told.changed ≡ false → text ≡ text_following None (slots_of ss) }
 {}

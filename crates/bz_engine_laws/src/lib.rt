@@ -3,5 +3,6 @@
 
 pub mod again;
 pub mod reading;
+pub mod script;
 pub mod sound;
 pub mod whole_file;

@@ -1,0 +1,12 @@
+use Rattle.std.proofs.Common.{◌≡◌, drop}
+use Rattle.std.specs.List.{list_all}
+use Rattle.std.specs.Str.{is_utf8}
+use Rattle.bz_command.specs.Commands.{is_command}
+use Rattle.bz_rule_laws.specs.CommandTexts.{command_passes}
+use Rattle.bz_engine_laws.proofs.script.are_commands.Given as goal
+
+-- the commands that are left decide
+abbrev pub invariant-loop-command : goal.invariant-loop-command
+invariant-loop-command l =
+    (list_all is_command (drop l.command-index l.commands) ≡ list_all is_command l.commands)
+    × (list_all (command_passes is_utf8) (drop l.command-index l.commands) ≡ list_all (command_passes is_utf8) l.commands)
