@@ -7,4 +7,6 @@ mod FileFaults
 mod BadBytes
 mod WholeFileExamples
 mod NoRule
+mod ScriptSound
+mod RunText
 mod LeftExamples

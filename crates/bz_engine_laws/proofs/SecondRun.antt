@@ -51,7 +51,7 @@ told_change : (home : Package) (passes : Script) (statements : List Statement) (
 told_change home passes statements None = refl
 told_change home passes statements (Some fault) = refl
 
-shown : (b : Bool) (text : List ℕ) → b ≡ false → (if b then [] else text) ≡ text
+pub shown : (b : Bool) (text : List ℕ) → b ≡ false → (if b then [] else text) ≡ text
 shown true text h = absurd (false≢true (sym h))
 shown false text h = refl
 

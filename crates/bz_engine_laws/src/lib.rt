@@ -6,3 +6,4 @@ pub mod reading;
 pub mod script;
 pub mod sound;
 pub mod whole_file;
+pub mod written;

@@ -1,0 +1,28 @@
+//! Law on runs: what a run writes is read as what its script left.
+
+ghost use Rattle.std.specs.Prelude.{◌≡◌, ◌≤◌, ℕ, List, Bool, false};
+ghost use Rattle.bz_command.specs.Labels.{Package};
+ghost use Rattle.bz_engine.specs.declared.report.End.TheVariants.{Whole};
+ghost use Rattle.bz_engine.specs.Changes.{AreCommands};
+ghost use Rattle.bz_engine.specs.Outcome.{Script, Told, IsOutcome, is_query};
+ghost use Rattle.bz_engine_laws.specs.Written.{HaveUtf8Words, left_by, edited, IsTextOf};
+
+/// Whatever a run writes, if its script is no query: the text has no fault, and it is read as the statements that the
+/// script left of those that the run edited, with their strings as they are spelled and wherever their tokens stand. A
+/// second run over it that changes nothing writes the same bytes, with whatever script that is no query, if it keeps
+/// going or does not end at a failure.
+///
+/// What is asked of commands and their words, each script has:
+/// [`scripts_are_of_commands`](crate::script::scripts_are_of_commands).
+pub fn what_is_written_reads_back()
+    ensures read { (home : Package) (passes : Script) (keep_going : Bool) (depth : ℕ) (file text : List ℕ) (told : Told)
+        → AreCommands passes → HaveUtf8Words passes → is_query passes ≡ false → 2 ≤ depth
+        → (run : IsOutcome home passes keep_going depth file text told)
+        → IsTextOf depth (left_by home passes (edited run)) text }
+    ensures again { (home : Package) (passes : Script) (keep_going : Bool) (depth : ℕ) (file text : List ℕ)
+        (told : Told) → AreCommands passes → HaveUtf8Words passes → is_query passes ≡ false → 2 ≤ depth
+        → IsOutcome home passes keep_going depth file text told
+        → (there : Package) (others : Script) (going : Bool) (second : List ℕ) (told2 : Told)
+        → AreCommands others → is_query others ≡ false → IsOutcome there others going depth text second told2
+        → (going ≡ false → told2.end ≡ Whole) → told2.changed ≡ false → second ≡ text }
+{}
