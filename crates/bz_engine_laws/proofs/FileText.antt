@@ -1,14 +1,13 @@
--- The text of slots is that of the statements that are left in them, and it is read as a file.
-use Rattle.std.proofs.Common.{◌≡◌, ℕ, List, [], ◌∷◌, ◌++◌, map, Bool, true, false, refl, sym, ap, subst, ◌∙◌, inl, inr, arith}
+-- The text of statements is read as a file.
+use Rattle.std.proofs.Common.{◌≡◌, ℕ, List, [], ◌∷◌, ◌++◌, map, Bool, true, false, refl, sym, ap, append-nil, subst, ◌∙◌, inl, inr, arith}
 use Rattle.std.specs.Prelude.{codes, Option, None, Some, Ok, if◌then◌else◌}
 use Rattle.std.specs.List.{AllByRecursion}
 use Rattle.std.specs.Str.{IsUtf8}
 use Rattle.std.proofs.lemmas.Str.{IsUtf8-append}
 use Rattle.bz_token.specs.Places.{line_at}
 use Rattle.bz_token.specs.Chunks.{chunks}
-use Rattle.bz_tree.specs.declared.stmt.Class.{Class}
 use Rattle.bz_tree.specs.Tree.{Statement}
-use Rattle.bz_layout.specs.Gaps.{blank_between}
+use Rattle.bz_layout.specs.Gaps.{gap_between}
 use Rattle.bz_layout.specs.Layout.{layout_text}
 use Rattle.bz_layout_laws.specs.FileRead.{IsFound, AreFound, AreStatementsIn}
 use Rattle.bz_layout_laws.specs.FileText.{gap_text, text_from, takes_line, blank_after, own_chunks, chunks_from}
@@ -20,21 +19,22 @@ use Rattle.bz_layout_laws.proofs.FileReads.{file_read_again, file_read_only}
 use Rattle.bz_layout_laws.proofs.KeptReadBack.{kept_read_back}
 use Rattle.bz_layout_laws.proofs.StatementReadBack.{statement_read_back}
 use Rattle.bz_layout_laws.proofs.Utf8Written.{written_utf8, low_utf8}
-use Rattle.bz_command.specs.Passes.{Slot}
 use Rattle.bz_engine.specs.declared.report.SyntaxFault.{SyntaxFault}
 use Rattle.bz_engine.proofs.OneOutcome.{one_give}
 use Rattle.bz_engine.specs.File.{Gives, Follows, Give, IsFile}
-use Rattle.bz_engine.specs.Outcome.{slots_of, text_following}
+use Rattle.bz_engine.specs.Outcome.{left_in, slots_of, text_of}
 use Rattle.bz_engine_laws.specs.Sound.{IsSound}
-use Rattle.bz_engine_laws.specs.Written.{statements_in}
 
--- the text of slots is that of what is left in them
-pub text_left : (last : Option Class) (slots : List (Slot Statement)) → text_following last slots ≡ text_from last (statements_in slots)
-text_left last [] = refl
-text_left last (None ∷ slots) = text_left last slots
-text_left last (Some s ∷ slots) = ap (λ text. gap_text (blank_between last s.class) ++ (layout_text s ++ text)) (text_left (Some s.class) slots)
+-- between neighbours an empty line, or before each after the class of the one before it
+after_class : (s : Statement) (ss : List Statement) → layout_text s ++ text_from (Some s.class) ss ≡ text_of (s ∷ ss)
+after_class s [] = append-nil (layout_text s)
+after_class s (t ∷ ss) = ap (λ text. layout_text s ++ (gap_text (gap_between s.class t.class) ++ text)) (after_class t ss)
 
-pub left_all : (ss : List Statement) → statements_in (slots_of ss) ≡ ss
+pub text_of_all : (ss : List Statement) → text_of ss ≡ text_from None ss
+text_of_all [] = refl
+text_of_all (s ∷ ss) = sym (after_class s ss)
+
+pub left_all : (ss : List Statement) → left_in (slots_of ss) ≡ ss
 left_all [] = refl
 left_all (s ∷ ss) = ap (λ rest. s ∷ rest) (left_all ss)
 
@@ -77,14 +77,11 @@ all_back : (depth : ℕ) (ss : List Statement) → AllByRecursion (IsSound depth
 all_back depth [] sound = tt
 all_back depth (s ∷ ss) sound = (sound_back depth s sound.0, all_back depth ss sound.1)
 
-pub text_of_all : (ss : List Statement) → text_following None (slots_of ss) ≡ text_from None ss
-text_of_all ss = text_left None (slots_of ss) ∙ ap (text_from None) (left_all ss)
-
 -- the text of sound statements is read as them
 pub text_again : (depth : ℕ) (ss : List Statement) → AllByRecursion (IsSound depth) ss
-    → (ts : List Statement) × IsFile depth (text_following None (slots_of ss)) ts None
+    → (ts : List Statement) × IsFile depth (text_of ss) ts None
     × (map unplaced ts ≡ map (λ s. unplaced (spelled_statement s)) ss)
-    × (text_following None (slots_of ts) ≡ text_following None (slots_of ss))
+    × (text_of ts ≡ text_of ss)
 text_again depth ss sound =
     let back = all_back depth ss sound in
     let read = file_read_again 1 depth ss back in
@@ -95,9 +92,9 @@ text_again depth ss sound =
     (read.0, file, read.2, text_of_all read.0 ∙ (file_read_only 1 depth ss read.0 back read.1).1 ∙ sym same)
 
 -- and as nothing else
-pub text_only : (depth : ℕ) (ss ts : List Statement) (fault : Option SyntaxFault) → AllByRecursion (IsSound depth) ss → IsFile depth (text_following None (slots_of ss)) ts fault
-    → (fault ≡ None) × (map unplaced ts ≡ map (λ s. unplaced (spelled_statement s)) ss) × (text_following None (slots_of ts) ≡ text_following None (slots_of ss))
+pub text_only : (depth : ℕ) (ss ts : List Statement) (fault : Option SyntaxFault) → AllByRecursion (IsSound depth) ss → IsFile depth (text_of ss) ts fault
+    → (fault ≡ None) × (map unplaced ts ≡ map (λ s. unplaced (spelled_statement s)) ss) × (text_of ts ≡ text_of ss)
 text_only depth ss ts fault sound file =
     let again = text_again depth ss sound in
     let one = one_give depth 1 _ ts again.0 fault None file again.1 in
-    (one.1, ap (map unplaced) one.0 ∙ again.2, ap (λ us. text_following None (slots_of us)) one.0 ∙ again.3)
+    (one.1, ap (map unplaced) one.0 ∙ again.2, ap (λ us. text_of us) one.0 ∙ again.3)

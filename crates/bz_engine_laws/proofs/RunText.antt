@@ -4,27 +4,21 @@ use Rattle.std.specs.Prelude.{None}
 use Rattle.std.specs.List.{AllByRecursion}
 use Rattle.bz_tree.specs.Tree.{Statement}
 use Rattle.bz_command.specs.Labels.{Package}
-use Rattle.bz_command.specs.Passes.{slots_after}
 use Rattle.bz_engine.specs.declared.report.End.TheVariants.{Whole}
 use Rattle.bz_engine.specs.Changes.{AreCommands}
 use Rattle.bz_engine.specs.File.{IsFile}
-use Rattle.bz_engine.specs.Meaning.{meaning}
-use Rattle.bz_engine.specs.Outcome.{Script, Told, IsOutcome, is_query, slots_of, text_following, text_after}
+use Rattle.bz_engine.specs.Outcome.{Script, Told, IsOutcome, is_query, text_of, text_after}
 use Rattle.bz_engine_laws.specs.Sound.{IsSound}
 use Rattle.bz_engine_laws.specs.Written.{HaveUtf8Words, left_by, edited, IsTextOf}
-use Rattle.bz_engine_laws.proofs.FileText.{text_left, text_of_all, text_again}
+use Rattle.bz_engine_laws.proofs.FileText.{text_again}
 use Rattle.bz_engine_laws.proofs.ScriptSound.{script_sound}
 use Rattle.bz_engine_laws.proofs.SecondRun.{shown, same_again}
 use Rattle.bz_engine_laws.proofs.SoundStatements.{file_sound, front_sound}
 
-abbrev text_of : List Statement → List ℕ
-text_of ss = text_following None (slots_of ss)
-
 -- the text after a script is that of the statements that it left
 text_left_by : (home : Package) (passes : Script) (ss : List Statement) → is_query passes ≡ false → text_after home passes ss ≡ text_of (left_by home passes ss)
 text_left_by home passes ss query =
-    shown (is_query passes) (text_following None (slots_after (meaning home) passes (slots_of ss))) query
-    ∙ text_left None (slots_after (meaning home) passes (slots_of ss)) ∙ sym (text_of_all (left_by home passes ss))
+    shown (is_query passes) (text_of (left_by home passes ss)) query
 
 -- the statements that a run edits are sound
 edited_sound : (home : Package) (passes : Script) (keep_going : Bool) (depth : ℕ) (file text : List ℕ) (told : Told) (run : IsOutcome home passes keep_going depth file text told)

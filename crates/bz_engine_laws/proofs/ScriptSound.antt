@@ -15,12 +15,12 @@ use Rattle.bz_rule_laws.specs.CommandTexts.{command_passes}
 use Rattle.bz_rule_laws.proofs.StatementsFormed.{formed_after}
 use Rattle.bz_rule_laws.proofs.Utf8Commands.{commands_utf8}
 use Rattle.bz_engine.specs.Changes.{AreCommands}
-use Rattle.bz_engine.specs.Exchange.{slot_after_commands, slot_after_pass, slot_after}
+use Rattle.bz_passes.specs.Exchange.{slot_after_commands, slot_after_pass, slot_after}
 use Rattle.bz_engine.specs.Meaning.{meaning}
-use Rattle.bz_engine.specs.Outcome.{Script, slots_of}
-use Rattle.bz_engine.proofs.ExchangeLaw.{slots_alone}
+use Rattle.bz_engine.specs.Outcome.{Script, left_in, slots_of}
+use Rattle.bz_passes.proofs.ExchangeLaw.{slots_alone}
 use Rattle.bz_engine_laws.specs.Sound.{IsSound}
-use Rattle.bz_engine_laws.specs.Written.{HaveUtf8Words, statements_in, left_by}
+use Rattle.bz_engine_laws.specs.Written.{HaveUtf8Words, left_by}
 use Rattle.bz_engine_laws.proofs.NoRule.{block_no_rule, no_rule_stays, stays_empty}
 
 -- what stands in a slot is sound
@@ -72,16 +72,16 @@ passes_sound depth two home (p ∷ ps) commands words slot sound =
 
 -- slot by slot
 each_sound : (depth : ℕ) (f : Slot Statement → Slot Statement) → ((slot : Slot Statement) → SoundSlot depth slot → SoundSlot depth (f slot)) → (ss : List Statement) → AllByRecursion (IsSound depth) ss
-    → AllByRecursion (IsSound depth) (statements_in (map f (slots_of ss)))
+    → AllByRecursion (IsSound depth) (left_in (map f (slots_of ss)))
 each_sound depth f keeps [] sound = tt
 each_sound depth f keeps (s ∷ ss) sound = by (f (Some s)) (keeps (Some s) sound.0) (each_sound depth f keeps ss sound.1)
   where
-    by : (slot : Slot Statement) → SoundSlot depth slot → AllByRecursion (IsSound depth) (statements_in (map f (slots_of ss))) → AllByRecursion (IsSound depth) (statements_in (slot ∷ map f (slots_of ss)))
+    by : (slot : Slot Statement) → SoundSlot depth slot → AllByRecursion (IsSound depth) (left_in (map f (slots_of ss))) → AllByRecursion (IsSound depth) (left_in (slot ∷ map f (slots_of ss)))
     by None here rest = rest
     by (Some t) here rest = (here, rest)
 
 pub script_sound : (home : Package) (passes : Script) (depth : ℕ) (ss : List Statement) → AreCommands passes → HaveUtf8Words passes → 2 ≤ depth → AllByRecursion (IsSound depth) ss
     → AllByRecursion (IsSound depth) (left_by home passes ss)
 script_sound home passes depth ss commands words two sound =
-    subst (λ slots. AllByRecursion (IsSound depth) (statements_in slots)) (sym (slots_alone (meaning home) passes (slots_of ss)))
+    subst (λ slots. AllByRecursion (IsSound depth) (left_in slots)) (sym (slots_alone (meaning home) passes (slots_of ss)))
     (each_sound depth (slot_after (meaning home) passes) (passes_sound depth two home passes commands words) ss sound)

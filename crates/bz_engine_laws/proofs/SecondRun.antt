@@ -10,12 +10,12 @@ use Rattle.bz_command.specs.Passes.{Slot, Meaning, Pass, Marked, marked, execute
 use Rattle.bz_engine.specs.Changes.{CommandsChange, PassChanges, Changes, AreCommands}
 use Rattle.bz_engine.specs.Meaning.{meaning}
 use Rattle.bz_engine.specs.declared.report.End.TheVariants.{Whole, FirstFailure}
-use Rattle.bz_engine.specs.Outcome.{Script, Told, IsOutcome, IsWholeRun, EndsAtFailure, is_query, slots_of, text_following, some_change, told_of}
+use Rattle.bz_engine.specs.Outcome.{Script, Told, IsOutcome, IsWholeRun, EndsAtFailure, is_query, left_in, slots_of, text_of, some_change, told_of}
 use Rattle.bz_rule.proofs.Differences.{changed_tells}
 use Rattle.bz_engine.proofs.ChangesLaw.{changes_tell}
 use Rattle.bz_engine.proofs.OneOutcome.{one_give}
 use Rattle.bz_engine_laws.specs.Sound.{IsSound}
-use Rattle.bz_engine_laws.proofs.FileText.{text_again}
+use Rattle.bz_engine_laws.proofs.FileText.{left_all, text_again}
 
 abbrev NotNot : Type 0 → Type 0
 NotNot A = (A → ⊥) → ⊥
@@ -56,14 +56,14 @@ shown true text h = absurd (false≢true (sym h))
 shown false text h = refl
 
 whole_again : (home : Package) (passes : Script) (keep_going : Bool) (depth : ℕ) (ss : List Statement) (text : List ℕ) (told : Told) → AllByRecursion (IsSound depth) ss → AreCommands passes → is_query passes ≡ false
-    → IsWholeRun home passes keep_going depth (text_following None (slots_of ss)) text told → told.changed ≡ false → text ≡ text_following None (slots_of ss)
+    → IsWholeRun home passes keep_going depth (text_of ss) text told → told.changed ≡ false → text ≡ text_of ss
 whole_again home passes keep_going depth ss text told sound commands query run quiet =
     let again = text_again depth ss sound in
     let same = (one_give depth 1 _ run.statements again.0 run.fault None run.read again.1).0 in
     let unchanged : some_change home passes run.statements ≡ false = sym (told_change home passes run.statements run.fault) ∙ ap (λ (t : Told). t.changed) (sym run.told_is) ∙ quiet in
     let none : Changes (meaning home) passes (slots_of run.statements) → ⊥ = λ change. false≢true (sym unchanged ∙ (changes_tell changed_tells home passes (slots_of run.statements) commands).1 change) in
-    run.text_is ∙ shown (is_query passes) (text_following None (slots_after (meaning home) passes (slots_of run.statements))) query
-    ∙ same_bytes _ _ (λ differ. quiet_passes (meaning home) passes (slots_of run.statements) none (λ stays. differ (ap (text_following None) stays ∙ ap (λ ts. text_following None (slots_of ts)) same)))
+    run.text_is ∙ shown (is_query passes) (text_of (left_in (slots_after (meaning home) passes (slots_of run.statements)))) query
+    ∙ same_bytes _ _ (λ differ. quiet_passes (meaning home) passes (slots_of run.statements) none (λ stays. differ (ap (λ slots. text_of (left_in slots)) stays ∙ ap text_of (left_all run.statements ∙ same))))
     ∙ again.3
 
 -- a run that comes to its end does not end at a failure
@@ -73,6 +73,6 @@ not_at_failure home passes keep_going depth file text told stop ends =
     cc
 
 pub same_again : (home : Package) (passes : Script) (keep_going : Bool) (depth : ℕ) (ss : List Statement) (text : List ℕ) (told : Told) → AllByRecursion (IsSound depth) ss → AreCommands passes → is_query passes ≡ false
-    → IsOutcome home passes keep_going depth (text_following None (slots_of ss)) text told → (keep_going ≡ false → told.end ≡ Whole) → told.changed ≡ false → text ≡ text_following None (slots_of ss)
+    → IsOutcome home passes keep_going depth (text_of ss) text told → (keep_going ≡ false → told.end ≡ Whole) → told.changed ≡ false → text ≡ text_of ss
 same_again home passes keep_going depth ss text told sound commands query (inl run) ends quiet = whole_again home passes keep_going depth ss text told sound commands query run quiet
-same_again home passes keep_going depth ss text told sound commands query (inr stop) ends quiet = absurd (not_at_failure home passes keep_going depth (text_following None (slots_of ss)) text told stop ends)
+same_again home passes keep_going depth ss text told sound commands query (inr stop) ends quiet = absurd (not_at_failure home passes keep_going depth (text_of ss) text told stop ends)

@@ -1,31 +1,25 @@
 -- What a run writes is the text of what its script left.
 use Rattle.std.proofs.Common.{inl, inr}
-use Rattle.std.specs.Prelude.{◌≡◌, ℕ, Bool, IsTrue, List, [], ◌∷◌, map, None, Some}
+use Rattle.std.specs.Prelude.{◌≡◌, ℕ, Bool, IsTrue, List, map, None}
 use Rattle.std.specs.List.{list_all}
 use Rattle.std.specs.Str.{is_utf8}
 use Rattle.bz_tree.specs.Tree.{Statement}
 use Rattle.bz_layout_laws.specs.Spelled.{spelled_statement}
 use Rattle.bz_layout_laws.specs.Unplaced.{unplaced}
 use Rattle.bz_command.specs.Labels.{Package}
-use Rattle.bz_command.specs.Passes.{Slot, slots_after}
+use Rattle.bz_command.specs.Passes.{slots_after}
 use Rattle.bz_rule_laws.specs.CommandTexts.{command_passes}
 use Rattle.bz_engine.specs.File.{IsFile}
 use Rattle.bz_engine.specs.Meaning.{meaning}
-use Rattle.bz_engine.specs.Outcome.{Script, Told, IsOutcome, slots_of}
+use Rattle.bz_engine.specs.Outcome.{Script, Told, IsOutcome, slots_of, left_in}
 
 -- each word of each command is UTF-8
 abbrev pub HaveUtf8Words : Script → Type 0
 HaveUtf8Words passes = IsTrue (list_all (λ p. list_all (command_passes is_utf8) p.commands) passes)
 
--- the statements that are left in slots
-abbrev pub statements_in : List (Slot Statement) → List Statement
-statements_in [] = []
-statements_in (None ∷ slots) = statements_in slots
-statements_in (Some s ∷ slots) = s ∷ statements_in slots
-
 -- what a script leaves of statements
 abbrev pub left_by : Package → Script → List Statement → List Statement
-left_by home passes statements = statements_in (slots_after (meaning home) passes (slots_of statements))
+left_by home passes statements = left_in (slots_after (meaning home) passes (slots_of statements))
 
 -- the statements that a run edits: those of the file, or where it ends at a failure those before
 abbrev pub edited : {home : Package} {passes : Script} {keep_going : Bool} {depth : ℕ} {file text : List ℕ} {told : Told}

@@ -30,6 +30,6 @@ mod RuleFormed
 mod Segments
 mod SetAgain
 mod SettingsFormed
-mod StatementsFormed
+pub mod StatementsFormed
 mod Tests
-mod Utf8Commands
+pub mod Utf8Commands
