@@ -41,7 +41,7 @@ after_sound depth two home c allowed (Some s) sound = by sound.form
     formed is None e = tt
     formed is (Some t) e = record {
       form = inl (formed_after depth c home s t allowed.command two is e);
-      utf8 = commands_utf8 c home s t allowed.command allowed.words e sound.utf8;
+      utf8 = commands_utf8 c home s t allowed.words e sound.utf8;
     }
 
     by : IsWellFormed depth s ⊎ IsKeptBlock depth s → SoundSlot depth (after c home (Some s))

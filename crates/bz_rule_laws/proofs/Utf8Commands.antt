@@ -8,7 +8,7 @@ use Rattle.bz_tree.specs.Tree.{Statement}
 use Rattle.bz_layout_laws.specs.EachText.{HasUtf8}
 use Rattle.bz_layout_laws.proofs.Utf8Tokens.{cut_low}
 use Rattle.bz_layout_laws.proofs.Utf8Written.{low_utf8}
-use Rattle.bz_command.specs.Commands.{Command, is_command}
+use Rattle.bz_command.specs.Commands.{Command}
 use Rattle.bz_command.specs.Labels.{Package}
 use Rattle.bz_command.specs.Values.{quoted, written}
 use Rattle.bz_attribute.specs.Commenting.{comment_line, is_blank, trimmed}
@@ -126,5 +126,5 @@ utf8_written = record {
   names = λ kind h. parts_pass (slice_split is_dot kind) (nothing_before (slice_split is_dot kind) (parts_after [] kind (IsUtf8-from_is_utf8 kind h)));
 }
 
-pub commands_utf8 : (c : Command) (home : Package) (s t : Statement) → is_command c ≡ true → command_passes is_utf8 c ≡ true → after c home (Some s) ≡ Some t → HasUtf8 s → HasUtf8 t
-commands_utf8 c home s t command words is h = commands_pass is_utf8 utf8_written c home s t words is h
+pub commands_utf8 : (c : Command) (home : Package) (s t : Statement) → command_passes is_utf8 c ≡ true → after c home (Some s) ≡ Some t → HasUtf8 s → HasUtf8 t
+commands_utf8 c home s t words is h = commands_pass is_utf8 utf8_written c home s t words is h
