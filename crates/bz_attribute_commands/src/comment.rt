@@ -48,8 +48,8 @@ pub fn comment_rule(
     }
 }
 
-/// Adds a comment line above an argument or an element of one; the arguments have no place for a comment above the
-/// rule. An `Err` leaves all as it was.
+/// Adds a comment line above an argument or an element of one; for one above the rule it does nothing. An `Err` leaves
+/// all as it was.
 pub fn comment(
     alloc: Global,
     home: &Package,

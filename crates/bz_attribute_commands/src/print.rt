@@ -23,7 +23,7 @@ use bz_tree::{GroupKind, Node, Seg, Stmt};
 use std::alloc::{AllocError, Global};
 
 /// Prints fields of the rule that a slot holds; the note names the first that is missing. Where there is no rule
-/// nothing is printed, and no memory is asked for.
+/// nothing is printed, and it succeeds.
 pub fn print(
     alloc: Global,
     home: &Package,

@@ -12,7 +12,7 @@ use bz_token::Kind;
 use bz_tree::Seg;
 use std::alloc::{AllocError, Global};
 
-/// Renames the first argument named `old`.
+/// Renames the first argument named `old`. An `Err` leaves all as it was.
 pub fn rename<'a>(
     alloc: Global,
     old: &str,

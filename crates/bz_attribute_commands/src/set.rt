@@ -31,8 +31,8 @@ pub enum New<'w> {
     Strings(&'w [Text]),
 }
 
-/// Sets the first argument of a name, or adds one. Where the value is there already no memory is taken. An `Err` leaves
-/// all as it was.
+/// Sets the first argument of a name, or adds one. Where the value is there already it succeeds. An `Err` leaves all as
+/// it was.
 pub fn set(
     alloc: Global,
     attr: &str,
@@ -55,7 +55,7 @@ pub fn set(
     Ok(done)
 }
 
-/// Adds an argument where there is none of the name. An `Err` leaves all as it was.
+/// Adds an argument where there is none of the name, and else succeeds. An `Err` leaves all as it was.
 pub fn set_if_absent(
     alloc: Global,
     attr: &str,

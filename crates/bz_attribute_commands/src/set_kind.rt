@@ -17,7 +17,7 @@ use bz_token::Kind;
 use bz_tree::{Node, Stmt};
 use std::alloc::{AllocError, Global};
 
-/// Sets the kind of a rule. Where it is the kind already no memory is taken. An `Err` leaves the slot as it was.
+/// Sets the kind of a rule. Where nothing is to be changed it succeeds. An `Err` leaves the slot as it was.
 pub fn set_kind(alloc: Global, kind: &str, slot: &mut Option<Stmt<'_>>) -> Result<Done, AllocError>
     ensures slot { OnOk result (slot_view slot.new ≡ option_map (spec.with_kind kind.now) (slot_view slot.old)) }
     ensures done { IfOk result (λ done. done ≡ sets_kind_of kind.now (slot_view slot.old)) }

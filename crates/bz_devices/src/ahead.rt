@@ -319,8 +319,8 @@ fn chunk_end<S: Source>(
 
 /// How many bytes the next chunk of the input has; none where nothing is left of the input.
 ///
-/// It reads only where nothing is ahead that was not looked at, or where the end of a block waits
-/// for it, and never once the chunk is sure to be longer than `max_statement`.
+/// It reads only where the bytes ahead leave the next chunk open: no front of them is a chunk whatever
+/// follows, and the chunk is not sure to be longer than `max_statement`.
 pub fn next_chunk<S: Source>(
     ahead: &mut Ahead,
     source: &mut S,

@@ -6,7 +6,7 @@ ghost use Rattle.bz_devices.specs.Device.{Rises};
 use crate::device::{Failed, Sink};
 
 /// Writes all the bytes, in as many writes as the sink needs. An `Err` has written a front of
-/// them.
+/// them, and not all.
 pub fn write_all<W: Sink>(sink: &mut W, bytes: &[u8]) -> Result<(), Failed>
     ensures ok { OnOk result (W.took sink.old bytes.now sink.new) }
     ensures steady { OnOk result (W.failures sink.new ≡ W.failures sink.old) }

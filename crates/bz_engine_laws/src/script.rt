@@ -12,8 +12,8 @@ use bz_command::{Command, Pass};
 use bz_rule::Target;
 use bz_rule_laws::texts::words_are_utf8;
 
-/// The commands of each script are ones that can be read, and their words are UTF-8. The body looks at each command,
-/// since of that the prover knows it; it does nothing else.
+/// The commands of each script are ones that can be read, and their words, but for those of `print`, are UTF-8. The
+/// body looks at each command, since of that the prover knows it; it does nothing else.
 pub fn scripts_are_of_commands(passes: &[Pass<Target, Command>])
     ensures commands { AreCommands passes.now }
     ensures words { HaveUtf8Words passes.now }

@@ -5,7 +5,7 @@
 pub enum Trouble {
     /// There was no memory for the path of the temporary file. No call was made.
     OutOfMemory,
-    /// A call failed, or the author did. No temporary file is left.
+    /// A call failed, or the author did. No temporary file is left that was not there before.
     Clean,
     /// A call failed, and the temporary file, or what lay there before, could not be removed.
     LeftBehind,

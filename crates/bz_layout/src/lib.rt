@@ -2,8 +2,7 @@
 //!
 //! # That what is written reads back
 //!
-//! No theorem here says so. bz_layout_laws proves it of tokens, of the lines of comments and of chunks, over the pieces
-//! of `specs/Layout.antt`; of the tree no law says it yet, and bz_tree_laws has first steps to one.
+//! bz_layout_laws proves it, over the pieces of `specs/Layout.antt`. It rests on this:
 //!
 //! Tokens: a text is read as gaps and longest tokens in turn, so it is enough that each piece has a text of its kind and
 //! that the byte after it ends this text. A space, a newline, a bracket, a comma and a colon end every token but a

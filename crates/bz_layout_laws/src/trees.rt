@@ -34,8 +34,8 @@ pub fn the_grammar_stays()
         → IsStatement (items_of t.nodes) }
 {}
 
-/// So the text of a well-formed statement is a chunk that `bz_tree::parse` reads as the statement, with its strings as
-/// they are spelled and wherever its tokens stand, and as nothing else.
+/// So `bz_tree::parse` reads the text of a well-formed statement as the statement, with its strings as they are spelled
+/// and wherever its tokens stand, and as nothing else.
 pub fn a_statement_is_parsed_again()
     ensures some { (first depth : ℕ) (s : Statement) → IsWellFormed depth s
         → (t : Statement) × IsStatementIn first depth (layout_text s) t
@@ -53,8 +53,8 @@ pub fn what_is_read_has_its_kinds()
         × (t.class ≡ class_of t.nodes) }
 {}
 
-/// So what is read of a chunk that is not blank is parsed, as `IsWellFormed` asks of it. Its tokens and comments are
-/// texts of their kinds, no segment is empty, and its brackets are no deeper than the depth at which it is read.
+/// So what is read of tokens of which one is no newline is `IsParsed`. Its tokens and comments are texts of their
+/// kinds, no segment is empty, and its brackets are no deeper than the depth at which it is read.
 pub fn what_is_read_can_be_written()
     ensures parsed { (tokens : List Placed) (t : Statement) → IsStatementOf tokens t → IsSome (first_seen tokens)
         → IsParsed t }

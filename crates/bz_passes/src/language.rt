@@ -1,4 +1,4 @@
-//! What the engine needs of a language of targets and commands.
+//! What passes need of a language of targets and commands.
 
 ghost use Rattle.std.specs.Prelude.{◌≡◌, ◌++◌, Bool, true, Option, IfOk, OnOk};
 ghost use Rattle.bz_command.specs.Passes.{Meaning, Slot};

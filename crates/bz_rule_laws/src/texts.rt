@@ -13,14 +13,15 @@ ghost use Rattle.bz_rule_laws.specs.CommandTexts.{attributes_pass, command_passe
 
 use bz_command::{Action, Attributes, Command, Commented, Moved, Seq, Setting, Text};
 
-/// What a command leaves of a statement whose tokens and comments are UTF-8 has such, if its words are UTF-8.
+/// What a command leaves of a statement whose tokens and comments are UTF-8 has such, if its words, but for those of
+/// `print`, are UTF-8.
 pub fn commands_keep_utf8()
     ensures { (c : spec.Command) (home : Package) (s t : Statement) → command_passes is_utf8 c ≡ true
         → after c home (Some s) ≡ Some t → HasUtf8 s → HasUtf8 t }
 {}
 
-/// The words of a command are UTF-8. The body takes each as a `&str`, since of that the prover knows it; it does nothing
-/// else.
+/// The words of a command, but for those of `print`, are UTF-8. The body takes each as a `&str`, since of that the
+/// prover knows it; it does nothing else.
 pub fn words_are_utf8(command: &Command)
     ensures { command_passes is_utf8 command.now ≡ true }
 {

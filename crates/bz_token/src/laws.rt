@@ -58,8 +58,7 @@ pub fn what_ends_a_token()
     ensures some { (kind : Kind) → is_text kind [] ≡ true → ⊥ }
 {}
 
-/// Bytes that end the texts before them: newlines all texts, white space and marks all but comments, and most bytes
-/// signs.
+/// Bytes that end the texts before them: newlines all texts, spaces and marks all but comments, and most bytes signs.
 pub fn bytes_that_end_tokens()
     ensures newline { (kind : Kind) (text : List ℕ) → is_text kind text ≡ true → stops kind text 10 ≡ true }
     ensures space { (kind : Kind) (text : List ℕ) → is_text kind text ≡ true → is_note kind ≡ false

@@ -10,7 +10,7 @@ ghost use Rattle.bz_tree.specs.Brackets.{own_items, is_paren, group_of};
 ghost use Rattle.bz_tree.specs.Statement.{with_rule_call, segment_of};
 
 /// Segments, each with a node, and end comments that stand in a bracket as `written_entries` has them are read
-/// back, and none is empty: with flags, and where lines make such flags.
+/// back: as entries, and where lines make such entries. Then no segment is empty.
 pub fn owners_read_back()
     ensures entries { (trailing : Bool) (segs : List Segment) (end : List (List ℕ)) → HaveNodes segs
         → inside_by_cells (written_entries trailing segs end)
