@@ -37,7 +37,7 @@ pub enum Next {
 /// Finds where the chunks of a file end, a physical line at a time. This project's own rule: a chunk is a blank line,
 /// or comment lines with the blank line after them, or comment lines, if any, with a statement. A statement that
 /// begins with `def`, `for` or `if` in column 1 is a block and takes the indented and empty lines after it.
-#[derive(Clone, Copy, Debug, PartialEq, Eq)]
+#[derive(Clone, Copy)]
 pub struct Cutter {
     // The logical line that is being read. It has ended only after a line of a block.
     scan: Scan,

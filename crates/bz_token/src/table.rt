@@ -2,7 +2,7 @@
 
 ghost use Rattle.std.specs.Prelude.{◌≡◌};
 ghost use Rattle.bz_token.specs.Lexical.{is_word_byte};
-ghost use Rattle.bz_token.specs.private.Tables.{class_of};
+ghost use Rattle.bz_token.specs.private.Tables.{class_of, is_quiet_class};
 
 /// What begins with a byte.
 #[derive(Clone, Copy)]
@@ -68,6 +68,18 @@ pub fn class_at(b: u8) -> Class
     ensures { result ≡ class_of b }
 {
     CLASS[usize::from(b)]
+}
+
+/// Whether what begins with such a byte changes nothing of a logical line: no string, no bracket, no comment, and neither
+/// a newline nor a continued line.
+#[inline(always)]
+pub fn is_quiet_class(class: Class) -> bool
+    ensures { result ≡ is_quiet_class class }
+{
+    !matches!(
+        class,
+        Class::Newline | Class::Hash | Class::Backslash | Class::Quote | Class::Open | Class::Close
+    )
 }
 
 #[rattlefmt::skip]

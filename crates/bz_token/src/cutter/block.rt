@@ -12,7 +12,7 @@ use super::scan::LineKind;
 use crate::table::is_word_byte;
 
 /// The words that begin a block.
-#[derive(Clone, Copy, Debug, PartialEq, Eq)]
+#[derive(Clone, Copy)]
 pub enum Opener {
     Def,
     For,
@@ -20,7 +20,7 @@ pub enum Opener {
 }
 
 /// What a chunk is, as far as its logical lines were read.
-#[derive(Clone, Copy, Debug, PartialEq, Eq)]
+#[derive(Clone, Copy)]
 pub enum Stage {
     /// Comment lines alone.
     Notes,

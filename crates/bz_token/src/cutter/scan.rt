@@ -6,9 +6,10 @@ ghost use Rattle.bz_token.specs.private.CutSteps.{is_ended, is_quiet, byte_of, w
 
 use crate::scan::line_len;
 use crate::scan_string::plain_len;
+use crate::table::{class_at, is_quiet_class};
 
 /// What a logical line holds.
-#[derive(Clone, Copy, Debug, PartialEq, Eq)]
+#[derive(Clone, Copy)]
 pub enum LineKind {
     /// White space and continued lines.
     Blank,
@@ -19,14 +20,14 @@ pub enum LineKind {
 }
 
 /// The quote that a string began with.
-#[derive(Clone, Copy, Debug, PartialEq, Eq)]
+#[derive(Clone, Copy)]
 pub enum Quote {
     Single,
     Double,
 }
 
 /// What the next byte stands in.
-#[derive(Clone, Copy, Debug, PartialEq, Eq)]
+#[derive(Clone, Copy)]
 pub enum Inside {
     /// No string and no comment.
     Plain,
@@ -58,7 +59,7 @@ pub enum Inside {
 }
 
 /// A logical line, as far as it was read.
-#[derive(Clone, Copy, Debug, PartialEq, Eq)]
+#[derive(Clone, Copy)]
 pub struct Scan {
     pub inside: Inside,
     /// The brackets that are open. A closing one closes any.
@@ -216,10 +217,7 @@ fn advance(scan: Scan, b: u8) -> Scan
 fn is_quiet(b: u8) -> bool
     ensures { result ≡ is_quiet b }
 {
-    !matches!(
-        b,
-        b'\n' | b'#' | b'\\' | b'"' | b'\'' | b'(' | b'[' | b'{' | b')' | b']' | b'}'
-    )
+    is_quiet_class(class_at(b))
 }
 
 #[inline(always)]
