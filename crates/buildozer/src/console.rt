@@ -1,6 +1,6 @@
 //! Standard output and standard error.
 
-ghost use Rattle.std.specs.Prelude.{◌≡◌, [], false, IfOk, OnOk};
+ghost use Rattle.std.specs.Prelude.{◌≡◌, ◌⊎◌, [], true, false, OnOk, OnErr};
 ghost use Rattle.buildozer.specs.Buffer.{Took};
 ghost use Rattle.buildozer.specs.Console.{Shows};
 ghost use Rattle.buildozer.specs.Texts.{line_of, message_of, lines_text, messages_text, fixed_text};
@@ -56,10 +56,13 @@ impl<O: Sink, E: Sink> Console<O, E> {
         put_line(&mut self.err, file);
     }
 
-    /// Hands on what is kept back: first standard output, then standard error. An `Err` says that something was lost,
-    /// now or earlier.
+    /// Hands on what is kept back: first standard output, then standard error. An `Err` says that one of them failed, now
+    /// or earlier.
     pub fn flush(&mut self) -> Result<(), Failed>
         ensures shows { Shows O.took E.took self.old [] [] self.new }
+        ensures out { OnOk result ((self.new.out.waiting ≡ []) × (self.new.out.failed ≡ false)) }
+        ensures err { OnOk result ((self.new.err.waiting ≡ []) × (self.new.err.failed ≡ false)) }
+        ensures failed { OnErr result ((self.new.out.failed ≡ true) ⊎ (self.new.err.failed ≡ true)) }
     {
         let out = self.out.flush();
         let err = self.err.flush();

@@ -13,7 +13,7 @@ use Rattle.bz_engine.specs.File.{IsFile}
 use Rattle.bz_engine.specs.Meaning.{meaning}
 use Rattle.bz_engine.specs.Outcome.{Script, Told, IsOutcome, slots_of, left_in}
 
--- each word of each command is UTF-8
+-- each word of each command is UTF-8, but for those of `print`, which writes none into a file
 abbrev pub HaveUtf8Words : Script → Type 0
 HaveUtf8Words passes = IsTrue (list_all (λ p. list_all (command_passes is_utf8) p.commands) passes)
 
