@@ -1,28 +1,28 @@
 -- A literal's value taken over in runs.
-use Rattle.std.proofs.Common.{◌≡◌, ℕ, ◌+◌, ◌<◌, ◌≤◌, ◌-◌, ◌==◌, ◌&&◌, ◌||◌, List, [], ◌∷◌, ◌++◌, length, take, drop, get_or, slice_index_or, Bool, true, false, Option, Some, None, nat_eq, refl, sym, ap, ◌∙◌, arith, inl, inr, append_assoc, append-nil, eqb-true}
+use Rattle.std.proofs.Common.{◌≡◌, ℕ, ◌+◌, ◌<◌, ◌≤◌, ◌-◌, ◌==◌, ◌&&◌, ◌||◌, List, [], ◌∷◌, ◌++◌, length, take, drop, get_or, Bool, true, Option, Some, None, refl, sym, ap, ap₂, ◌∙◌, arith, inl, inr, append_assoc, append-nil, eqb-true}
 use Rattle.std.specs.Prelude.{if◌then◌else◌, option_map, nat_lt}
-use Rattle.std.specs.List.{list_all, starts_with}
+use Rattle.std.specs.List.{list_all}
 use Rattle.std.specs.Str.{IsUtf8, IsCharBoundary}
-use Rattle.std.proofs.lemmas.Bool.{cases_Bool, and_parts, or_left, or_right, or_cases, ltb-true}
-use Rattle.std.proofs.lemmas.List.{drop-drop, take_more, get_or-drop, length-drop, get_or-take, length-take-le}
-use Rattle.std.proofs.lemmas.Str.{IsCharBoundary-start, IsCharBoundary-after_ascii, IsCharBoundary-before_ascii}
-use Rattle.bz_command.specs.Values.{opening, is_quote, escapes, meant, unit_value, is_newline, and_then}
-use Rattle.bz_command.specs.private.ValueSteps.{first_len, inner_value, value_in}
-use Rattle.bz_command.proofs.Literals.{step, closed}
+use Rattle.std.proofs.lemmas.Bool.{cases_Bool, and_parts, or_left, or_right, ltb-true}
+use Rattle.std.proofs.lemmas.List.{drop-drop, take_more, get_or-drop, length-drop}
+use Rattle.std.proofs.lemmas.Str.{IsCharBoundary-after_ascii, IsCharBoundary-before_ascii}
+use Rattle.bz_command.specs.Values.{escapes, meant, unit_value, is_newline, and_then}
+use Rattle.bz_command.specs.private.ValueSteps.{first_len, value_in, taken}
+use Rattle.bz_command.proofs.Literals.{taken_is}
 
--- the bytes that are to be taken over
-abbrev pub run : ℕ → ℕ → List ℕ → List ℕ
-run from at inner = take (at - from) (drop from inner)
+-- the bytes of a run that were read
+abbrev pub read : List ℕ → List ℕ → List ℕ
+read run rest = take (length run - length rest) run
 
 abbrev pub after : List ℕ → Option (List ℕ) → Option (List ℕ)
 after done o = option_map (λ v. done ++ v) o
 
--- where the walk stands: `done` is written, the bytes from `from` to `at` are to be, and the rest is to be read
-pub record Decoded (raw : Bool) (quotes inner done : List ℕ) (from at : ℕ) : Type 0 where
-  pub within : at ≤ length inner
-  pub before : from ≤ at
-  pub boundary : IsCharBoundary inner from
-  pub same : after (done ++ run from at inner) (inner_value raw quotes (drop at inner)) ≡ inner_value raw quotes inner
+-- where the walk stands: `done` is written, what was read of the run is to be, and the value of `rest` is `o`
+pub record Decoded (whole : Option (List ℕ)) (done run rest : List ℕ) (o : Option (List ℕ)) : Type 0 where
+  pub utf8 : IsUtf8 run
+  pub fits : length rest ≤ length run
+  pub place : rest ≡ drop (length run - length rest) run
+  pub same : after (done ++ read run rest) o ≡ whole
 
 after_nothing : (o : Option (List ℕ)) → after [] o ≡ o
 after_nothing None = refl
@@ -36,40 +36,18 @@ after_one : (v : ℕ) (o : Option (List ℕ)) → and_then (Some v) o ≡ after 
 after_one v None = refl
 after_one v (Some w) = refl
 
-pub start : (raw : Bool) (quotes inner : List ℕ) → IsUtf8 inner → Decoded raw quotes inner [] 0 0
-start raw quotes inner utf8 = record {
-  within = omega arith;
-  before = omega arith;
-  boundary = IsCharBoundary-start inner utf8;
-  same = after_nothing (inner_value raw quotes inner);
-}
+read_none : (run : List ℕ) → read run run ≡ []
+read_none run = let none : length run - length run ≡ 0 = omega arith in ap (λ k. take k run) none
 
-pub some_left : (inner : List ℕ) (at : ℕ) → at < length inner → 0 < length (drop at inner)
-some_left inner at h = omega (arith, length-drop at inner)
-
-after_end : (w : List ℕ) (t : Bool) → after w (if t then Some [] else None) ≡ (if t then Some w else None)
-after_end w true = ap (λ (x : List ℕ). Some x) (append-nil w)
-after_end w false = refl
-
--- at the closing quotes
-pub at_closing : (raw : Bool) (quotes inner done : List ℕ) (from at : ℕ) → Decoded raw quotes inner done from at → at < length inner → starts_with nat_eq (drop at inner) quotes ≡ true
-    → inner_value raw quotes inner ≡ (if length (drop at inner) == length quotes then Some (done ++ run from at inner) else None)
-at_closing raw quotes inner done from at d some h =
-    sym d.same
-    ∙ ap (after (done ++ run from at inner)) (closed raw quotes (drop at inner) (some_left inner at some) h)
-    ∙ after_end (done ++ run from at inner) (length (drop at inner) == length quotes)
-
-stepped : (raw : Bool) (quotes rest : List ℕ) (n : ℕ) (x : Option ℕ) → 0 < length rest → starts_with nat_eq rest quotes ≡ false → n ≡ first_len rest → value_in raw (length quotes == 1) (take n rest) ≡ x
-    → inner_value raw quotes rest ≡ and_then x (inner_value raw quotes (drop n rest))
-stepped raw quotes rest n x some h e is =
-    let this : value_in raw (length quotes == 1) (take (first_len rest) rest) ≡ x = rw e at is in
-    rw e (step raw quotes rest some h ∙ ap (λ (y : Option ℕ). and_then y (inner_value raw quotes (drop (first_len rest) rest))) this)
-
--- where the unit has no value
-pub at_fault : (raw : Bool) (quotes inner done : List ℕ) (from at n : ℕ) → Decoded raw quotes inner done from at → at < length inner → starts_with nat_eq (drop at inner) quotes ≡ false
-    → n ≡ first_len (drop at inner) → value_in raw (length quotes == 1) (take n (drop at inner)) ≡ None → inner_value raw quotes inner ≡ None
-at_fault raw quotes inner done from at n d some h e none =
-    sym d.same ∙ ap (after (done ++ run from at inner)) (stepped raw quotes (drop at inner) n None (some_left inner at some) h e none)
+pub start : (whole : Option (List ℕ)) (run rest : List ℕ) (o : Option (List ℕ)) → IsUtf8 run → run ≡ rest → o ≡ whole → Decoded whole [] run rest o
+start whole run rest o utf8 e is =
+    let none : length run - length run ≡ 0 = omega arith in
+    rw (← e) (record {
+      utf8 = utf8;
+      fits = omega arith;
+      place = rw none refl;
+      same = ap (λ (w : List ℕ). after w o) (read_none run) ∙ after_nothing o ∙ is;
+    })
 
 use_value : (raw short : Bool) (u : List ℕ) (v : ℕ) → value_in raw short u ≡ Some v → unit_value raw u ≡ Some v
 use_value raw short u v h = elim (cases_Bool (short && is_newline u)) [
@@ -84,41 +62,6 @@ single raw (b ∷ rest) v some h = elim (cases_Bool (b == 92)) [
   | inl is ↦ let none : None ≡ Some v = rw is at h in absurd (cc)
   | inr other ↦ let this : Some b ≡ Some v = rw other at h in cc
 ]
-
-run_more : (from at : ℕ) (inner : List ℕ) → from ≤ at → at < length inner → run from (at + 1) inner ≡ run from at inner ++ get_or inner at 0 ∷ []
-run_more from at inner h some =
-    let count : at + 1 - from ≡ at - from + 1 = omega arith in
-    let place : from + (at - from) ≡ at = omega arith in
-    ap (λ k. take k (drop from inner)) count
-    ∙ take_more (drop from inner) (at - from) 0 (omega (arith, length-drop from inner))
-    ∙ ap (λ (b : ℕ). run from at inner ++ b ∷ []) (get_or-drop from inner (at - from) 0 ∙ ap (λ k. get_or inner k 0) place)
-
--- what one value more says
-one_more : (raw : Bool) (quotes inner w : List ℕ) (at n v : ℕ) → after w (inner_value raw quotes (drop at inner)) ≡ inner_value raw quotes inner → inner_value raw quotes (drop at inner) ≡ and_then (Some v) (inner_value raw quotes (drop n (drop at inner)))
-    → after (w ++ v ∷ []) (inner_value raw quotes (drop (at + n) inner)) ≡ inner_value raw quotes inner
-one_more raw quotes inner w at n v h e =
-    ap (λ (bs : List ℕ). after (w ++ v ∷ []) (inner_value raw quotes bs)) (sym (drop-drop n at inner))
-    ∙ sym (after_more w (v ∷ []) (inner_value raw quotes (drop n (drop at inner))))
-    ∙ ap (after w) (sym (e ∙ after_one v (inner_value raw quotes (drop n (drop at inner)))))
-    ∙ h
-
-pub past_byte : (raw : Bool) (quotes inner done : List ℕ) (from at v : ℕ) → Decoded raw quotes inner done from at → at < length inner → starts_with nat_eq (drop at inner) quotes ≡ false
-    → 1 ≡ first_len (drop at inner) → value_in raw (length quotes == 1) (take 1 (drop at inner)) ≡ Some v → Decoded raw quotes inner done from (at + 1)
-past_byte raw quotes inner done from at v d some h e is =
-    let read : v ≡ get_or inner at 0 =
-    single raw (drop at inner) v (some_left inner at some) (use_value raw (length quotes == 1) (take 1 (drop at inner)) v is)
-    ∙ get_or-drop at inner 0 0 ∙ ap (λ k. get_or inner k 0) (omega arith) in
-    let more : done ++ run from (at + 1) inner ≡ done ++ run from at inner ++ v ∷ [] =
-    ap (λ (xs : List ℕ). done ++ xs) (run_more from at inner d.before some ∙ ap (λ (b : ℕ). run from at inner ++ b ∷ []) (sym read))
-    ∙ sym (append_assoc done (run from at inner) (v ∷ [])) in
-    record {
-      within = omega arith;
-      before = omega (arith, d.before);
-      boundary = d.boundary;
-      same =
-          ap (λ (w : List ℕ). after w (inner_value raw quotes (drop (at + 1) inner))) more
-          ∙ one_more raw quotes inner (done ++ run from at inner) at 1 v d.same (stepped raw quotes (drop at inner) 1 (Some v) (some_left inner at some) h e is);
-    }
 
 meant_small : (c v : ℕ) (es : List (ℕ × ℕ)) → list_all (λ e. nat_lt e.0 128 && nat_lt e.1 128) es ≡ true → meant c es ≡ Some v → (c < 128) × (v < 128)
 meant_small c v [] h is = absurd (cc)
@@ -192,87 +135,101 @@ ascii_unit raw (b ∷ c ∷ d ∷ bs) v more is = elim (cases_Bool (b == 92)) [
   ]
 ]
 
--- the unit at a place, with what the code found there
-pub ascii_at : (raw short : Bool) (rest : List ℕ) (n v : ℕ) → n ≡ first_len rest → value_in raw short (take n rest) ≡ Some v → 1 < n → Ascii rest n v
-ascii_at raw short rest n v e is more =
-    let this : unit_value raw (take (first_len rest) rest) ≡ Some v = rw e at (use_value raw short (take n rest) v is) in
-    rw e (ascii_unit raw rest v (omega arith) this)
-
-boundary_after : (inner : List ℕ) (k n : ℕ) → IsUtf8 inner → k < length inner → get_or inner k 0 < 128 → k + 1 ≡ n → IsCharBoundary inner n
+pub boundary_after : (inner : List ℕ) (k n : ℕ) → IsUtf8 inner → k < length inner → get_or inner k 0 < 128 → k + 1 ≡ n → IsCharBoundary inner n
 boundary_after inner k n utf8 some low e = rw (sym e) (IsCharBoundary-after_ascii inner k utf8 some low)
 
-run_none : (k : ℕ) (inner : List ℕ) → run k k inner ≡ []
-run_none k inner = let none : k - k ≡ 0 = omega arith in ap (λ j. take j (drop k inner)) none
+first_len_fits : (bs : List ℕ) → first_len bs ≤ length bs
+first_len_fits [] = omega arith
+first_len_fits (b ∷ []) = omega arith
+first_len_fits (b ∷ c ∷ []) = elim (cases_Bool (b == 92 || b == 13 && c == 10)) [
+  | inl is ↦ rw is (omega arith)
+  | inr other ↦ rw other (omega arith)
+]
+first_len_fits (b ∷ c ∷ d ∷ bs) = elim (cases_Bool (b == 92)) [
+  | inl back ↦ elim (cases_Bool (c == 13 && d == 10)) [
+    | inl is ↦ rw (back, is) (omega arith)
+    | inr other ↦ rw (back, other) (omega arith)
+  ]
+  | inr plain ↦ elim (cases_Bool (b == 13 && c == 10)) [
+    | inl is ↦ rw (plain, is) (omega arith)
+    | inr other ↦ rw (plain, other) (omega arith)
+  ]
+]
 
-pub past_escape : (raw : Bool) (quotes inner done : List ℕ) (from at n v : ℕ) → IsUtf8 inner → Decoded raw quotes inner done from at → at < length inner → starts_with nat_eq (drop at inner) quotes ≡ false
-    → n ≡ first_len (drop at inner) → value_in raw (length quotes == 1) (take n (drop at inner)) ≡ Some v → 1 < n → Decoded raw quotes inner (done ++ run from at inner ++ v ∷ []) (at + n) (at + n)
-past_escape raw quotes inner done from at n v utf8 d some h e is more =
-    let ascii = ascii_at raw (length quotes == 1) (drop at inner) n v e is more in
-    let fits : at + n ≤ length inner = omega (arith, ascii.fits, length-drop at inner) in
-    let last : get_or inner (at + (n - 1)) 0 < 128 = rw (get_or-drop at inner (n - 1) 0) at ascii.last in
-    record {
-      within = fits;
-      before = omega arith;
-      boundary = boundary_after inner (at + (n - 1)) (at + n) utf8 (omega arith) last (omega arith);
+-- how many bytes a unit has that was taken
+count : (raw short : Bool) (rest more : List ℕ) (b : ℕ) → taken raw short rest ≡ Some (b, more) → first_len rest ≡ length rest - length more
+count raw short rest more b e =
+    let is = taken_is raw short rest more b e in
+    omega (arith, ap length is.1, length-drop (first_len rest) rest, first_len_fits rest)
+
+-- a unit of more than one byte
+pub escaped : (raw short : Bool) (rest more : List ℕ) (b : ℕ) → taken raw short rest ≡ Some (b, more) → 1 < length rest - length more → Ascii rest (length rest - length more) b
+escaped raw short rest more b e long =
+    let is = taken_is raw short rest more b e in
+    let n : first_len rest ≡ length rest - length more = count raw short rest more b e in
+    let many : 1 < first_len rest = omega (arith, n, long) in
+    rw n at (ascii_unit raw rest b many (use_value raw short (take (first_len rest) rest) b is.0))
+
+-- what is left after a unit, as a part of the run
+left_in : (run rest more : List ℕ) (n : ℕ) → length rest ≤ length run → rest ≡ drop (length run - length rest) run → drop n rest ≡ more → n ≡ length rest - length more → length more < length rest → more ≡ drop (length run - length more) run
+left_in run rest more n fits place is e shorter =
+    let all : length run - length rest + n ≡ length run - length more = omega (arith, e, fits, shorter) in
+    sym is ∙ ap (drop n) place ∙ drop-drop n (length run - length rest) run ∙ ap (λ k. drop k run) all
+
+-- what one value more says
+one_more : (whole o o' : Option (List ℕ)) (w : List ℕ) (b : ℕ) → after w o ≡ whole → o ≡ and_then (Some b) o' → after (w ++ b ∷ []) o' ≡ whole
+one_more whole o o' w b h e = sym (after_more w (b ∷ []) o') ∙ ap (after w) (sym (e ∙ after_one b o')) ∙ h
+
+in_run : (run rest : List ℕ) (i : ℕ) → length rest ≤ length run → rest ≡ drop (length run - length rest) run → get_or rest i 0 ≡ get_or run (length run - length rest + i) 0
+in_run run rest i fits place = ap (λ (bs : List ℕ). get_or bs i 0) place ∙ get_or-drop (length run - length rest) run i 0
+
+-- the place before an escape
+pub before_escape : (run rest : List ℕ) (n b : ℕ) → length rest ≤ length run → rest ≡ drop (length run - length rest) run → 0 < n → Ascii rest n b → IsCharBoundary run (length run - length rest)
+before_escape run rest n b fits place some a =
+    let at : length run - length rest + 0 ≡ length run - length rest = omega arith in
+    let first : get_or run (length run - length rest) 0 < 128 = rw (in_run run rest 0 fits place, at) at a.first in
+    IsCharBoundary-before_ascii run (length run - length rest) (omega (arith, a.fits, fits)) first
+
+-- the place after one
+pub after_escape : (run rest more : List ℕ) (b : ℕ) → IsUtf8 run → length rest ≤ length run → rest ≡ drop (length run - length rest) run → 1 < length rest - length more → Ascii rest (length rest - length more) b → IsCharBoundary run (length run - length more)
+after_escape run rest more b utf8 fits place long a =
+    let last : get_or run (length run - length rest + (length rest - length more - 1)) 0 < 128 = rw (in_run run rest (length rest - length more - 1) fits place) at a.last in
+    boundary_after run (length run - length rest + (length rest - length more - 1)) (length run - length more) utf8 (omega (arith, fits, long)) last (omega (arith, fits, long))
+
+-- an escape is written, and a new run begins after it
+pub past_escape : (raw short : Bool) (whole o o' : Option (List ℕ)) (done new run next rest more : List ℕ) (b : ℕ) → Decoded whole done run rest o → taken raw short rest ≡ Some (b, more) → length more < length rest → o ≡ and_then (Some b) o'
+    → IsUtf8 next → next ≡ drop (length run - length more) run → new ≡ done ++ read run rest ++ b ∷ [] → Decoded whole new next more o'
+past_escape raw short whole o o' done new run next rest more b d e shorter is utf8 from written =
+    let taken = taken_is raw short rest more b e in
+    let same : more ≡ next = left_in run rest more (first_len rest) d.fits d.place taken.1 (count raw short rest more b e) shorter ∙ sym from in
+    let none : length next - length next ≡ 0 = omega arith in
+    rw same (record {
+      utf8 = utf8;
+      fits = omega arith;
+      place = rw none refl;
       same =
-          ap (λ (w : List ℕ). after (done ++ run from at inner ++ v ∷ [] ++ w) (inner_value raw quotes (drop (at + n) inner))) (run_none (at + n) inner)
-          ∙ ap (λ (w : List ℕ). after w (inner_value raw quotes (drop (at + n) inner))) (append-nil (done ++ run from at inner ++ v ∷ []))
-          ∙ one_more raw quotes inner (done ++ run from at inner) at n v d.same (stepped raw quotes (drop at inner) n (Some v) (some_left inner at some) h e is);
+          ap₂ (λ (w v : List ℕ). after (w ++ v) o') written (read_none next)
+          ∙ ap (λ (w : List ℕ). after w o') (append-nil (done ++ read run rest ++ b ∷ []))
+          ∙ one_more whole o o' (done ++ read run rest) b d.same is;
+    })
+
+-- a byte that stands for itself joins the run
+pub past_byte : (raw short : Bool) (whole o o' : Option (List ℕ)) (done run rest more : List ℕ) (b : ℕ) → Decoded whole done run rest o → taken raw short rest ≡ Some (b, more) → length more < length rest → length rest - length more ≤ 1 → o ≡ and_then (Some b) o'
+    → Decoded whole done run more o'
+past_byte raw short whole o o' done run rest more b d e shorter short_ is =
+    let taken = taken_is raw short rest more b e in
+    let n : first_len rest ≡ length rest - length more = count raw short rest more b e in
+    let one : first_len rest ≡ 1 = omega (arith, n, shorter, short_) in
+    let unit : value_in raw short (take 1 rest) ≡ Some b = rw one at taken.0 in
+    let at : length run - length rest + 0 ≡ length run - length rest = omega arith in
+    let byte : b ≡ get_or run (length run - length rest) 0 = single raw rest b (omega (arith, shorter)) (use_value raw short (take 1 rest) b unit) ∙ in_run run rest 0 d.fits d.place ∙ ap (λ k. get_or run k 0) at in
+    let next : length run - length more ≡ length run - length rest + 1 = omega (arith, d.fits, shorter, short_) in
+    let grown : read run more ≡ read run rest ++ b ∷ [] = ap (λ k. take k run) next ∙ take_more run (length run - length rest) 0 (omega (arith, d.fits, shorter)) ∙ ap (λ (c : ℕ). read run rest ++ c ∷ []) (sym byte) in
+    record {
+      utf8 = d.utf8;
+      fits = omega (arith, d.fits, shorter);
+      place = left_in run rest more (first_len rest) d.fits d.place taken.1 n shorter;
+      same =
+          ap (λ (w : List ℕ). after w o') (ap (λ (w : List ℕ). done ++ w) grown ∙ sym (append_assoc done (read run rest) (b ∷ [])))
+          ∙ one_more whole o o' (done ++ read run rest) b d.same is;
     }
-
--- the place before a unit that begins with ASCII
-pub boundary_at : (inner : List ℕ) (at : ℕ) → at < length inner → get_or (drop at inner) 0 0 < 128 → IsCharBoundary inner at
-boundary_at inner at some low =
-    let place : at + 0 ≡ at = omega arith in
-    let here : get_or inner at 0 < 128 = rw (get_or-drop at inner 0 0, place) at low in
-    IsCharBoundary-before_ascii inner at some here
-
--- the same with the slice that the code reads
-pub closing_at : (raw : Bool) (quotes inner done rest : List ℕ) (from at : ℕ) → Decoded raw quotes inner done from at → at < length inner → rest ≡ drop at inner → starts_with nat_eq rest quotes ≡ true
-    → inner_value raw quotes inner ≡ (if length rest == length quotes then Some (done ++ run from at inner) else None)
-closing_at raw quotes inner done rest from at d some is h = rw is (at_closing raw quotes inner done from at d some (rw is at h))
-
-pub fault_at : (raw : Bool) (quotes inner done rest : List ℕ) (from at n : ℕ) → Decoded raw quotes inner done from at → at < length inner → rest ≡ drop at inner → starts_with nat_eq rest quotes ≡ false
-    → n ≡ first_len rest → value_in raw (length quotes == 1) (take n rest) ≡ None → inner_value raw quotes inner ≡ None
-fault_at raw quotes inner done rest from at n d some is h e none = at_fault raw quotes inner done from at n d some (rw is at h) (rw is at e) (rw is at none)
-
-pub byte_at : (raw : Bool) (quotes inner done rest : List ℕ) (from at n v : ℕ) → Decoded raw quotes inner done from at → at < length inner → rest ≡ drop at inner → starts_with nat_eq rest quotes ≡ false
-    → n ≡ first_len rest → value_in raw (length quotes == 1) (take n rest) ≡ Some v → n ≡ 1 → Decoded raw quotes inner done from (at + n)
-byte_at raw quotes inner done rest from at n v d some is h e value one =
-    let e' : 1 ≡ first_len (drop at inner) = rw (one, is) at e in
-    let value' : value_in raw (length quotes == 1) (take 1 (drop at inner)) ≡ Some v = rw (one, is) at value in
-    rw one (past_byte raw quotes inner done from at v d some (rw is at h) e' value')
-
-pub escape_at : (raw : Bool) (quotes inner done rest : List ℕ) (from at n v : ℕ) → IsUtf8 inner → Decoded raw quotes inner done from at → at < length inner → rest ≡ drop at inner → starts_with nat_eq rest quotes ≡ false
-    → n ≡ first_len rest → value_in raw (length quotes == 1) (take n rest) ≡ Some v → 1 < n → Decoded raw quotes inner (done ++ run from at inner ++ v ∷ []) (at + n) (at + n)
-escape_at raw quotes inner done rest from at n v utf8 d some is h e value more = past_escape raw quotes inner done from at n v utf8 d some (rw is at h) (rw is at e) (rw is at value) more
-
-pub escape_boundary : (raw short : Bool) (inner rest : List ℕ) (at n v : ℕ) → at < length inner → rest ≡ drop at inner → n ≡ first_len rest → value_in raw short (take n rest) ≡ Some v → 1 < n → IsCharBoundary inner at
-escape_boundary raw short inner rest at n v some is e value more = boundary_at inner at some (rw is at (ascii_at raw short rest n v e value more).first)
-
-pub value_ascii : (raw short : Bool) (rest : List ℕ) (n v : ℕ) → n ≡ first_len rest → value_in raw short (take n rest) ≡ Some v → 1 < n → v < 128
-value_ascii raw short rest n v e value more = (ascii_at raw short rest n v e value more).worth
-
--- the places after the opening quotes, and after the first byte
-last_quote : (q : ℕ) (bs : List ℕ) (n : ℕ) → length (opening (q ∷ bs)) ≡ n → get_or (opening (q ∷ bs)) (n - 1) 0 ≡ q
-last_quote q bs n e = elim (cases_Bool (starts_with nat_eq bs (q ∷ q ∷ []))) [
-  | inl long ↦ let three : 3 ≡ n = rw long at e in rw (long, sym three) refl
-  | inr short ↦ let one : 1 ≡ n = rw short at e in rw (short, sym one) refl
-]
-
-quote_low : (q : ℕ) → is_quote q ≡ true → q < 128
-quote_low q h = elim (or_cases (q == 34) (q == 39) h) [
-  | inl is ↦ let e : q ≡ 34 = eqb-true q 34 is in omega arith
-  | inr is ↦ let e : q ≡ 39 = eqb-true q 39 is in omega arith
-]
-
-pub after_quotes : (literal : List ℕ) (n : ℕ) → IsUtf8 literal → 0 < length literal → is_quote (slice_index_or literal 0 0) ≡ true → 0 < n → n ≤ length literal → opening literal ≡ take n literal → IsCharBoundary literal n
-after_quotes [] n utf8 some q low fits e = absurd (omega arith)
-after_quotes (b ∷ bs) n utf8 some q low fits e =
-    let count : length (opening (b ∷ bs)) ≡ n = ap length e ∙ length-take-le n (b ∷ bs) fits in
-    let same : get_or (b ∷ bs) (n - 1) 0 ≡ b = sym (get_or-take n (b ∷ bs) (n - 1) 0 (omega arith)) ∙ ap (λ (xs : List ℕ). get_or xs (n - 1) 0) (sym e) ∙ last_quote b bs n count in
-    let small : b < 128 = quote_low b q in
-    boundary_after (b ∷ bs) (n - 1) n utf8 (omega arith) (omega arith) (omega arith)
-
-pub after_first : (text : List ℕ) → IsUtf8 text → 0 < length text → slice_index_or text 0 0 ≡ 114 → IsCharBoundary text 1
-after_first text utf8 some e = boundary_after text 0 1 utf8 some (omega arith) (omega arith)

@@ -1,12 +1,12 @@
 -- A literal read unit by unit.
-use Rattle.std.proofs.Common.{◌≡◌, ℕ, suc, ◌+◌, ◌<◌, ◌-◌, ◌==◌, ◌&&◌, ◌||◌, not, List, [], ◌∷◌, ◌++◌, length, take, drop, Bool, true, false, Option, Some, None, nat_eq, refl, sym, ap, ◌∙◌, arith, inl, inr, append_assoc, eqb-true, slice_index_or}
+use Rattle.std.proofs.Common.{◌≡◌, ℕ, suc, ◌+◌, ◌<◌, ◌-◌, ◌==◌, ◌&&◌, ◌||◌, not, List, [], ◌∷◌, ◌++◌, length, take, drop, Bool, true, false, Option, Some, None, nat_eq, refl, sym, ap, ap₂, ◌∙◌, arith, inl, inr, append_assoc, eqb-true, slice_index_or}
 use Rattle.std.specs.Prelude.{if◌then◌else◌, option_map, bytes_eq, codes}
 use Rattle.std.specs.List.{starts_with, prefix_len}
-use Rattle.std.proofs.lemmas.Bool.{cases_Bool, and_parts, or_parts, eqb-false, eq-eqb, ne_eqb, false_from_ne_true}
+use Rattle.std.proofs.lemmas.Bool.{cases_Bool, and_parts, or_parts, eq-eqb, ne_eqb, false_from_ne_true}
 use Rattle.std.proofs.lemmas.List.{take_all, take_rest}
 use Rattle.std.proofs.lemmas.Slice.Eq.{bytes_eq-Decides}
 use Rattle.bz_command.specs.Values.{grouped_from, takes, units, joined, content, is_newline, unit_value, values_in, and_then, is_quote, prefix_of, inner_of, value_of}
-use Rattle.bz_command.specs.private.ValueSteps.{first_len, is_value, inner_value, value_in}
+use Rattle.bz_command.specs.private.ValueSteps.{first_len, is_value, inner_value, value_in, taken, opened_value}
 
 -- nothing more joins a group
 apart : (g xs : List ℕ) → ((x : ℕ) → takes g x ≡ false) → grouped_from takes g xs ≡ g ∷ units xs
@@ -119,75 +119,67 @@ step raw quotes (b ∷ bs) some h =
       | inr other ↦ rw other (values_more raw u (content quotes us))
     ]
 
--- the closing quotes
-pub closed : (raw : Bool) (quotes rest : List ℕ) → 0 < length rest → starts_with nat_eq rest quotes ≡ true
-    → inner_value raw quotes rest ≡ (if length rest == length quotes then Some [] else None)
-closed raw quotes [] some h = absurd (omega arith)
-closed raw quotes (b ∷ bs) some h =
-    let shut : content quotes (units (b ∷ bs)) ≡ (if bytes_eq (b ∷ bs) quotes then Some [] else None) = content_first quotes b bs ∙ rw h refl in
-    ap (values_in raw) shut
-    ∙ elim (cases_Bool (length (b ∷ bs) == length quotes)) [
-      | inl is ↦
-          let e : length (b ∷ bs) ≡ length quotes = eqb-true (length (b ∷ bs)) (length quotes) is in
-          let all : take (length quotes) (b ∷ bs) ≡ b ∷ bs = take_all (length quotes) (b ∷ bs) (omega arith) in
-          let same : quotes ≡ b ∷ bs = (bytes_eq-Decides quotes (b ∷ bs)).0 (rw all at h) in
-          let equal : bytes_eq (b ∷ bs) quotes ≡ true = (bytes_eq-Decides (b ∷ bs) quotes).1 (sym same) in
-          rw (equal, is) refl
-      | inr other ↦
-          let differ : bytes_eq (b ∷ bs) quotes ≡ false = false_from_ne_true (bytes_eq (b ∷ bs) quotes) (λ k. eqb-false (length (b ∷ bs)) (length quotes) other (ap length ((bytes_eq-Decides (b ∷ bs) quotes).0 k))) in
-          rw (differ, other) refl
+starts_itself : (rest quotes : List ℕ) → bytes_eq rest quotes ≡ true → starts_with nat_eq rest quotes ≡ true
+starts_itself rest quotes h =
+    let e : rest ≡ quotes = (bytes_eq-Decides rest quotes).0 h in
+    let all : take (length quotes) quotes ≡ quotes = take_all (length quotes) quotes (omega arith) in
+    rw (e, all) ((bytes_eq-Decides quotes quotes).1 refl)
+
+abbrev ended_at : List ℕ → List ℕ → Option (List ℕ)
+ended_at quotes rest = if not (length rest == 0) && bytes_eq rest quotes then Some [] else None
+
+-- at the closing quotes
+pub shut : (raw : Bool) (quotes rest : List ℕ) → starts_with nat_eq rest quotes ≡ true → inner_value raw quotes rest ≡ ended_at quotes rest
+shut raw quotes [] h = refl
+shut raw quotes (b ∷ bs) h =
+    let here : content quotes (units (b ∷ bs)) ≡ (if bytes_eq (b ∷ bs) quotes then Some [] else None) = content_first quotes b bs ∙ rw h refl in
+    let more : length (b ∷ bs) == 0 ≡ false = ne_eqb (length (b ∷ bs)) 0 (λ e. omega arith) in
+    ap (values_in raw) here
+    ∙ elim (cases_Bool (bytes_eq (b ∷ bs) quotes)) [
+      | inl is ↦ rw (is, more) refl
+      | inr other ↦ rw (other, more) refl
     ]
+
+-- where the first unit has no value
+pub faulty : (raw : Bool) (quotes rest : List ℕ) → starts_with nat_eq rest quotes ≡ false → taken raw (length quotes == 1) rest ≡ None → inner_value raw quotes rest ≡ ended_at quotes rest
+faulty raw quotes [] h none = refl
+faulty raw quotes (b ∷ bs) h none =
+    let differ : bytes_eq (b ∷ bs) quotes ≡ false = false_from_ne_true (bytes_eq (b ∷ bs) quotes) (λ k. let clash : true ≡ false = sym (starts_itself (b ∷ bs) quotes k) ∙ h in cc) in
+    let more : length (b ∷ bs) == 0 ≡ false = ne_eqb (length (b ∷ bs)) 0 (λ e. omega arith) in
+    step raw quotes (b ∷ bs) (omega arith) h
+    ∙ nothing (value_in raw (length quotes == 1) (take (first_len (b ∷ bs)) (b ∷ bs))) (drop (first_len (b ∷ bs)) (b ∷ bs)) (inner_value raw quotes (drop (first_len (b ∷ bs)) (b ∷ bs))) none
+    ∙ rw (differ, more) refl
+  where
+    nothing : (x : Option ℕ) (rest : List ℕ) (o : Option (List ℕ)) → option_map {U = ℕ × List ℕ} (λ b. (b, rest)) x ≡ None → and_then x o ≡ None
+    nothing None rest o e = refl
+    nothing (Some b) rest o e = absurd (cc)
+
+-- what the first unit that was taken is
+pub taken_is : (raw short : Bool) (rest after : List ℕ) (b : ℕ) → taken raw short rest ≡ Some (b, after) → (value_in raw short (take (first_len rest) rest) ≡ Some b) × (drop (first_len rest) rest ≡ after)
+taken_is raw short rest after b h = parts (value_in raw short (take (first_len rest) rest)) (drop (first_len rest) rest) h
+  where
+    parts : (x : Option ℕ) (rest : List ℕ) → option_map {U = ℕ × List ℕ} (λ c. (c, rest)) x ≡ Some (b, after) → (x ≡ Some b) × (rest ≡ after)
+    parts None rest e = absurd (cc)
+    parts (Some c) rest e = let same : (c, rest) ≡ (b, after) = cc in (ap (λ (p : ℕ × List ℕ). Some p.0) same, ap (λ (p : ℕ × List ℕ). p.1) same)
+
+pub past : (raw : Bool) (quotes rest after : List ℕ) (b : ℕ) → starts_with nat_eq rest quotes ≡ false → 0 < length rest → taken raw (length quotes == 1) rest ≡ Some (b, after) → inner_value raw quotes rest ≡ and_then (Some b) (inner_value raw quotes after)
+past raw quotes rest after b h some e =
+    let is = taken_is raw (length quotes == 1) rest after b e in
+    step raw quotes rest some h
+    ∙ ap₂ (λ (x : Option ℕ) (bs : List ℕ). and_then x (inner_value raw quotes bs)) is.0 is.1
 
 value_more : (v : List ℕ) (b c : ℕ) (o : Option (List ℕ)) → is_value (b ∷ v) (and_then (Some c) o) ≡ (b == c) && is_value v o
 value_more v b c None = elim (b == c) as (λ t. false ≡ (t && false)) [ true ↦ refl | false ↦ refl ]
 value_more v b c (Some w) = refl
 
 -- the first byte of a value is that of the first unit, and the rest goes on
-pub value_same : (v : List ℕ) (b : ℕ) (x : Option ℕ) (o : Option (List ℕ)) → x ≡ Some b → 0 < length v → b ≡ slice_index_or v 0 0 → is_value v (and_then x o) ≡ is_value (drop 1 v) o
-value_same [] b x o is some e = absurd (omega arith)
-value_same (c ∷ v) b x o is some e = rw is (value_more v c b o ∙ rw ((eq-eqb c b (sym e))) refl)
-
-pub value_differs : (v : List ℕ) (b : ℕ) (x : Option ℕ) (o : Option (List ℕ)) → x ≡ Some b → (b ≡ slice_index_or v 0 0 → ⊥) → is_value v (and_then x o) ≡ false
-value_differs [] b x o is e = rw is (nothing o)
-  where
-    nothing : (o : Option (List ℕ)) → is_value [] (and_then (Some b) o) ≡ false
-    nothing None = refl
-    nothing (Some w) = refl
-value_differs (c ∷ v) b x o is e = rw is (value_more v c b o ∙ rw ((ne_eqb c b (λ k. e (sym k)))) refl)
-
-pub value_ends : (v : List ℕ) (x : Option ℕ) (o : Option (List ℕ)) → length v ≡ 0 → is_value v (and_then x o) ≡ false
-value_ends [] None o e = refl
-value_ends [] (Some b) None e = refl
-value_ends [] (Some b) (Some w) e = refl
-value_ends (c ∷ v) x o e = absurd (omega arith)
-
-pub value_closed : (v quotes rest : List ℕ) → is_value v (if length rest == length quotes then Some [] else None) ≡ (length rest == length quotes) && (length v == 0)
-value_closed [] quotes rest = elim (length rest == length quotes) as (λ t. is_value [] (if t then Some [] else None) ≡ (t && (length {A = ℕ} [] == 0))) [ true ↦ refl | false ↦ refl ]
-value_closed (c ∷ v) quotes rest = elim (length rest == length quotes) as (λ t. is_value (c ∷ v) (if t then Some [] else None) ≡ (t && (length (c ∷ v) == 0))) [ true ↦ sym (longer v) | false ↦ refl ]
-  where
-    longer : (v : List ℕ) → length (c ∷ v) == 0 ≡ false
-    longer v = ne_eqb (length (c ∷ v)) 0 (λ e. omega arith)
+pub value_same : (v : List ℕ) (b : ℕ) (o : Option (List ℕ)) → 0 < length v → slice_index_or v 0 0 ≡ b → is_value (take (length v - 1) (drop 1 v)) o ≡ is_value v (and_then (Some b) o)
+value_same [] b o some e = absurd (omega arith)
+value_same (c ∷ v) b o some e = ap (λ (w : List ℕ). is_value w o) (take_rest (c ∷ v) 1) ∙ sym (value_more v c b o ∙ rw (eq-eqb c b e) refl)
 
 pub is_value-iff : (v : List ℕ) (o : Option (List ℕ)) → (is_value v o ≡ true → o ≡ Some v) × (o ≡ Some v → is_value v o ≡ true)
 is_value-iff v None = ((λ h. cc), (λ h. cc))
 is_value-iff v (Some w) = ((λ h. ap (λ (x : List ℕ). Some x) (sym ((bytes_eq-Decides v w).0 h))), (λ h. (bytes_eq-Decides v w).1 (cc)))
-
--- the same for the answer at a place, with what the code found there
-pub at_end : (raw : Bool) (quotes rest left : List ℕ) → 0 < length rest → starts_with nat_eq rest quotes ≡ true
-    → is_value left (inner_value raw quotes rest) ≡ (length rest == length quotes) && (length left == 0)
-at_end raw quotes rest left some h = ap (is_value left) (closed raw quotes rest some h) ∙ value_closed left quotes rest
-
-pub at_unit : (raw : Bool) (quotes rest left : List ℕ) (n : ℕ) (x : Option ℕ) → 0 < length rest → starts_with nat_eq rest quotes ≡ false → n ≡ first_len rest → x ≡ value_in raw (length quotes == 1) (take n rest)
-    → is_value left (inner_value raw quotes rest) ≡ is_value left (and_then x (inner_value raw quotes (drop n rest)))
-at_unit raw quotes rest left n x some h e f = rw (f, e) (ap (is_value left) (step raw quotes rest some h))
-
-pub past_unit : (raw : Bool) (quotes rest left : List ℕ) (n b : ℕ) (x : Option ℕ) → 0 < length rest → starts_with nat_eq rest quotes ≡ false → n ≡ first_len rest → x ≡ value_in raw (length quotes == 1) (take n rest)
-    → x ≡ Some b → 0 < length left → slice_index_or left 0 0 ≡ b
-    → is_value (take (length left - 1) (drop 1 left)) (inner_value raw quotes (take (length rest - n) (drop n rest))) ≡ is_value left (inner_value raw quotes rest)
-past_unit raw quotes rest left n b x some h e f is more same =
-    ap (λ (v : List ℕ). is_value v (inner_value raw quotes (take (length rest - n) (drop n rest)))) (take_rest left 1)
-    ∙ ap (λ (bs : List ℕ). is_value (drop 1 left) (inner_value raw quotes bs)) (take_rest rest n)
-    ∙ sym (at_unit raw quotes rest left n x some h e f ∙ value_same left b x (inner_value raw quotes (drop n rest)) is more (sym same))
 
 prefix_more : (b : ℕ) (bs : List ℕ) → is_quote b ≡ false → prefix_of (b ∷ bs) ≡ b ∷ prefix_of bs
 prefix_more b bs h = rw (h, one_more (prefix_len (λ x. not (is_quote x)) bs)) refl
@@ -195,28 +187,33 @@ prefix_more b bs h = rw (h, one_more (prefix_len (λ x. not (is_quote x)) bs)) r
     one_more : (n : ℕ) → 1 + n ≡ suc n
     one_more n = omega arith
 
--- what begins with neither a quote nor an `r` has no value
-pub no_value : (text : List ℕ) → 0 < length text → is_quote (slice_index_or text 0 0) ≡ false → (slice_index_or text 0 0 ≡ 114 → ⊥) → value_of text ≡ None
-no_value [] some h k = absurd (omega arith)
-no_value (b ∷ bs) some h k = rw (prefix_more b bs h, ne_eqb b 114 k) refl
+unopened : (raw : Bool) (b : ℕ) (bs : List ℕ) → is_quote b ≡ false → opened_value raw (b ∷ bs) ≡ None
+unopened raw b bs h = rw h refl
 
--- what begins with an `r` has a value only where a quote follows
-pub raw_other : (bs : List ℕ) → 0 < length bs → is_quote (slice_index_or bs 0 0) ≡ false → value_of (114 ∷ bs) ≡ None
-raw_other [] some h = absurd (omega arith)
-raw_other (b ∷ bs) some h =
+no_value : (b : ℕ) (bs : List ℕ) → is_quote b ≡ false → (b ≡ 114 → ⊥) → value_of (b ∷ bs) ≡ None
+no_value b bs h k = rw (prefix_more b bs h, ne_eqb b 114 k) refl
+
+raw_other : (b : ℕ) (bs : List ℕ) → is_quote b ≡ false → value_of (114 ∷ b ∷ bs) ≡ None
+raw_other b bs h =
     let text : List ℕ = 114 ∷ b ∷ bs in
     let front : prefix_of (114 ∷ b ∷ bs) ≡ 114 ∷ b ∷ prefix_of bs = prefix_more 114 (b ∷ bs) refl ∙ ap (λ (xs : List ℕ). 114 ∷ xs) (prefix_more b bs h) in
     ap (λ (p : List ℕ). if bytes_eq p [] then values_in false (inner_of text) else (if bytes_eq p (codes "r") then values_in true (inner_of (drop 1 text)) else None)) front
 
-pub raw_quoted : (bs : List ℕ) → 0 < length bs → is_quote (slice_index_or bs 0 0) ≡ true → value_of (114 ∷ bs) ≡ values_in true (inner_of bs)
-raw_quoted [] some h = absurd (omega arith)
-raw_quoted (b ∷ bs) some h = rw h refl
+-- what begins with neither a quote nor an `r` has no value, and what begins with an `r` only where a quote follows
+pub opened_other : (text : List ℕ) → (0 < length text → slice_index_or text 0 0 ≡ 114 → ⊥) → opened_value false text ≡ value_of text
+opened_other [] k = refl
+opened_other (b ∷ bs) k = elim (cases_Bool (is_quote b)) [
+  | inl is ↦ rw is refl
+  | inr other ↦ unopened false b bs other ∙ sym (no_value b bs other (k (omega arith)))
+]
 
-pub quoted_value : (bs : List ℕ) → 0 < length bs → is_quote (slice_index_or bs 0 0) ≡ true → value_of bs ≡ values_in false (inner_of bs)
-quoted_value [] some h = absurd (omega arith)
-quoted_value (b ∷ bs) some h = rw h refl
+after_r : (bs : List ℕ) → opened_value true bs ≡ value_of (114 ∷ bs)
+after_r [] = refl
+after_r (b ∷ bs) = elim (cases_Bool (is_quote b)) [
+  | inl is ↦ rw is refl
+  | inr other ↦ unopened true b bs other ∙ sym (raw_other b bs other)
+]
 
--- a text after its `r`
-pub after_r : (text : List ℕ) → 0 < length text → slice_index_or text 0 0 ≡ 114 → text ≡ 114 ∷ take (length text - 1) (drop 1 text)
-after_r [] some e = absurd (omega arith)
-after_r (b ∷ bs) some e = ap (λ (x : ℕ). x ∷ bs) e ∙ ap (λ (xs : List ℕ). 114 ∷ xs) (sym (take_rest (b ∷ bs) 1))
+pub opened_raw : (text : List ℕ) → 0 < length text → slice_index_or text 0 0 ≡ 114 → opened_value true (take (length text - 1) (drop 1 text)) ≡ value_of text
+opened_raw [] some e = absurd (omega arith)
+opened_raw (b ∷ bs) some e = ap (opened_value true) (take_rest (b ∷ bs) 1) ∙ after_r bs ∙ ap (λ (c : ℕ). value_of (c ∷ bs)) (sym e)

@@ -3,8 +3,10 @@
 ghost use Rattle.std.specs.Prelude.{◌≡◌, ◌==◌, ◌+◌, ◌<◌, ◌≤◌, ◌↔◌, length, take, drop, OnOk, IfOk, IsTrue, Some, string_bytes, ◌∷◌, ◌++◌, encode_utf8};
 ghost use Rattle.std.specs.List.{flat_map};
 ghost use Rattle.bz_command.specs.Values as spec;
-ghost use Rattle.bz_command.specs.private.ValueSteps.{first_len, is_value, inner_value, value_in};
+ghost use Rattle.bz_command.specs.private.ValueSteps.{is_value};
+ghost use Rattle.bz_command.specs.private.ByteSteps.{inner_of};
 
+use crate::literal::{Literal, is_at_end, next_in, open};
 use bz_token::{Kind, Token};
 use std::alloc::{AllocError, Global};
 
@@ -44,168 +46,28 @@ fn push_written(text: &mut String, c: char) -> Result<(), AllocError>
     }
 }
 
+/// The text is a literal with this value.
 pub fn has_value(text: &[u8], value: &[u8]) -> bool
     ensures { result ≡ is_value value.now (spec.value_of text.now) }
 {
-    let [first, rest @ ..] = text else {
-        return false;
-    };
-    if is_quote(*first) {
-        return literal_is(false, text, value);
-    }
-    if *first != b'r' {
-        return false;
-    }
-    raw_has_value(rest, value)
-}
-
-// What stands after an `r`.
-fn raw_has_value(literal: &[u8], value: &[u8]) -> bool
-    ensures { result ≡ is_value value.now (spec.value_of (114 ∷ literal.now)) }
-{
-    let [first, ..] = literal else {
-        return false;
-    };
-    if !is_quote(*first) {
-        return false;
-    }
-    literal_is(true, literal, value)
-}
-
-pub(crate) fn is_quote(b: u8) -> bool
-    ensures { result ≡ spec.is_quote b }
-{
-    b == b'"' || b == b'\''
-}
-
-// The literal without its prefix.
-fn literal_is(raw: bool, literal: &[u8], value: &[u8]) -> bool
-    requires { 0 < length literal.now }
-    ensures { result ≡ is_value value.now (spec.values_in raw (spec.inner_of literal.now)) }
-{
-    let n = opening_len(literal);
-    inner_is(raw, &literal[..n], &literal[n..], value)
-}
-
-// How many opening quotes there are.
-pub(crate) fn opening_len(literal: &[u8]) -> usize
-    requires { 0 < length literal.now }
-    ensures some { 0 < result }
-    ensures fits { result ≤ length literal.now }
-    ensures front { spec.opening literal.now ≡ take result literal.now }
-{
-    match literal {
-        [a, b, c, ..] if b == a && c == a => 3,
-        _ => 1,
+    match open(text) {
+        None => false,
+        Some(literal) => inner_is(literal, value),
     }
 }
 
-// What stands after the opening quotes.
-fn inner_is(raw: bool, quotes: &[u8], inner: &[u8], value: &[u8]) -> bool
-    requires { 0 < length quotes.now }
-    ensures { result ≡ is_value value.now (inner_value raw quotes.now inner.now) }
+// What is left of the literal has this value.
+fn inner_is(literal: Literal<'_>, value: &[u8]) -> bool
+    ensures { result ≡ is_value value.now (inner_of literal.entry) }
 {
-    let mut rest = inner;
+    let mut inner = literal;
     let mut left = value;
-    while rest.len() > 0 {
-        if rest.starts_with(quotes) {
-            return rest.len() == quotes.len() && left.len() == 0;
-        }
-        let n = first_len(rest);
-        let Some(byte) = value_in(raw, quotes.len() == 1, &rest[..n]) else {
-            return false;
-        };
+    while let Some((byte, after)) = next_in(inner) {
         match left {
-            [first, after @ ..] if *first == byte => {
-                left = after;
-                rest = &rest[n..];
-            }
+            [first, rest @ ..] if *first == byte => left = rest,
             _ => return false,
         }
+        inner = after;
     }
-    false
-}
-
-// The length of the first unit: an escape, a carriage return and a newline, or a byte.
-pub(crate) fn first_len(bytes: &[u8]) -> usize
-    ensures len { result ≡ first_len bytes.now }
-    ensures fits { result ≤ length bytes.now }
-    ensures some { 0 < length bytes.now → 0 < result }
-{
-    match bytes {
-        [] => 0,
-        [_] => 1,
-        [b, c] => {
-            if *b == b'\\' || *b == b'\r' && *c == b'\n' {
-                return 2;
-            }
-            1
-        }
-        [b, c, d, ..] => {
-            if *b == b'\\' {
-                if *c == b'\r' && *d == b'\n' {
-                    return 3;
-                }
-                return 2;
-            }
-            if *b == b'\r' && *c == b'\n' {
-                return 2;
-            }
-            1
-        }
-    }
-}
-
-pub(crate) fn value_in(raw: bool, short: bool, unit: &[u8]) -> Option<u8>
-    ensures { result ≡ value_in raw short unit.now }
-{
-    if short && is_newline(unit) {
-        return None;
-    }
-    unit_value(raw, unit)
-}
-
-fn is_newline(unit: &[u8]) -> bool
-    ensures { result ≡ spec.is_newline unit.now }
-{
-    unit == b"\n".as_slice() || unit == b"\r\n".as_slice()
-}
-
-fn unit_value(raw: bool, unit: &[u8]) -> Option<u8>
-    ensures { result ≡ spec.unit_value raw unit.now }
-{
-    match unit {
-        [b] => {
-            if *b == b'\\' {
-                return None;
-            }
-            Some(*b)
-        }
-        [b, c] => {
-            if *b == b'\\' {
-                if raw {
-                    return None;
-                }
-                return escape_value(*c);
-            }
-            Some(*c)
-        }
-        _ => None,
-    }
-}
-
-fn escape_value(b: u8) -> Option<u8>
-    ensures { result ≡ spec.meant b spec.escapes }
-{
-    match b {
-        b'a' => Some(7),
-        b'b' => Some(8),
-        b'f' => Some(12),
-        b'n' => Some(10),
-        b'r' => Some(13),
-        b't' => Some(9),
-        b'v' => Some(11),
-        b'\\' | b'\'' | b'"' => Some(b),
-        _ => None,
-    }
+    is_at_end(inner) && left.len() == 0
 }

@@ -1,11 +1,11 @@
 -- For private clauses alone: the bytes of a text, or of a literal's value, that are left to read.
-use Rattle.std.specs.Prelude.{ℕ, nat_eq, ◌==◌, List, [], ◌∷◌, ◌++◌, Bool, false, not, codes, ◌&&◌, if◌then◌else◌, Option, Some, None, is_some}
+use Rattle.std.specs.Prelude.{ℕ, nat_eq, ◌==◌, ◌≡◌, ◌<◌, ◌-◌, length, drop, get_or, bytes_eq, List, [], ◌∷◌, ◌++◌, Bool, false, not, codes, ◌&&◌, if◌then◌else◌, Option, Some, None, is_some}
 use Rattle.std.specs.List.{list_any, starts_with}
 use Rattle.bz_command.specs.Labels.{is_slash, is_colon, last_of, parts_of}
-use Rattle.bz_command.specs.private.ValueSteps.{inner_value}
+use Rattle.bz_command.specs.private.ValueSteps.{inner_value, taken}
 use Rattle.bz_command.specs.declared.bytes.Bytes.{Bytes}
 use Rattle.bz_command.specs.declared.bytes.Bytes.TheVariants.{Plain, Inner}
-use Rattle.bz_command.specs.declared.bytes.Literal.{Literal}
+use Rattle.bz_command.specs.declared.literal.Literal.{Literal}
 use Rattle.bz_command.specs.declared.bytes.Chain.{Chain}
 
 abbrev pub or_nothing : Option (List ℕ) → List ℕ
@@ -14,6 +14,28 @@ or_nothing (Some bs) = bs
 
 abbrev pub inner_of : Literal → Option (List ℕ)
 inner_of l = inner_value l.raw l.quotes.now l.rest.now
+
+abbrev pub opened : Option Literal → Option (List ℕ)
+opened None = None
+opened (Some l) = inner_of l
+
+abbrev pub taken_of : Literal → Option (ℕ × List ℕ)
+taken_of l = taken l.raw (length l.quotes.now == 1) l.rest.now
+
+-- the closing quotes alone are left
+abbrev pub is_closed : Literal → Bool
+is_closed l = not (length l.rest.now == 0) && bytes_eq l.rest.now l.quotes.now
+
+abbrev pub ended : Literal → Option (List ℕ)
+ended l = if is_closed l then Some [] else None
+
+-- where a literal that was opened stands in its text: after a quote
+pub record StandsIn (text : List ℕ) (l : Literal) : Type 0 where
+  pub fits : length l.rest.now < length text
+  pub rest : l.rest.now ≡ drop (length text - length l.rest.now) text
+  pub after : get_or text (length text - length l.rest.now - 1) 0 < 128
+  pub some : 0 < length l.quotes.now
+  pub ascii : get_or l.quotes.now 0 0 < 128
 
 abbrev pub value_left : Bytes → Option (List ℕ)
 value_left (Plain text) = Some text.now

@@ -1,6 +1,6 @@
 -- For private clauses alone: a literal read unit by unit.
-use Rattle.std.specs.Prelude.{ℕ, ◌==◌, List, [], ◌∷◌, Bool, false, ◌&&◌, ◌||◌, if◌then◌else◌, Option, Some, None, bytes_eq}
-use Rattle.bz_command.specs.Values.{units, content, values_in, unit_value, is_newline}
+use Rattle.std.specs.Prelude.{ℕ, ◌==◌, List, [], ◌∷◌, Bool, false, ◌&&◌, ◌||◌, if◌then◌else◌, Option, Some, None, bytes_eq, drop, take, option_map}
+use Rattle.bz_command.specs.Values.{units, content, values_in, unit_value, is_newline, inner_of, is_quote}
 
 -- the length of the first unit
 abbrev pub first_len : List ℕ → ℕ
@@ -21,3 +21,12 @@ inner_value raw quotes inner = values_in raw (content quotes (units inner))
 -- the value of a unit that may stand in a literal with one quote, or with three
 abbrev pub value_in : Bool → Bool → List ℕ → Option ℕ
 value_in raw short unit = if short && is_newline unit then None else unit_value raw unit
+
+-- the value of the first unit, and what stands after it
+abbrev pub taken : Bool → Bool → List ℕ → Option (ℕ × List ℕ)
+taken raw short bytes = option_map (λ b. (b, drop (first_len bytes) bytes)) (value_in raw short (take (first_len bytes) bytes))
+
+-- the value of a literal without its prefix
+abbrev pub opened_value : Bool → List ℕ → Option (List ℕ)
+opened_value raw [] = None
+opened_value raw (q ∷ bs) = if is_quote q then values_in raw (inner_of (q ∷ bs)) else None

@@ -1,22 +1,55 @@
-use Rattle.std.proofs.Common.{◌≡◌, ◌<◌, true, false, length, slice_index_or, sym, ◌∙◌, refl}
-use Rattle.bz_command.specs.Values.{is_quote}
-use Rattle.bz_command.proofs.Literals.{no_value, quoted_value}
-use Rattle.bz_command.proofs.Decoding.{after_first}
+use Rattle.std.proofs.Common.{◌≡◌, ◌∙◌, ◌++◌, ◌∷◌, [], ◌-◌, List, ℕ, length, take, string_bytes, encode_utf8, sym, ap, arith}
+use Rattle.std.proofs.lemmas.Str.{encode_ascii}
+use Rattle.bz_command.specs.private.ByteSteps.{StandsIn}
+use Rattle.bz_command.proofs.Decoding.{read, start, escaped, before_escape, after_escape, past_escape, past_byte}
+use Rattle.bz_command.proofs.Opened.{boundary}
 use Rattle.bz_command.proofs.decode.read_value.Goals as goal
 
-pub returns-then-first-ne114 : goal.returns-then-first-ne114
-returns-then-first-ne114 c =
-    let some : 0 < length c.args.text.now = rw c.as_bytes.ensures.value at c.in-len1-up.len_at_least in
-    let other : is_quote (slice_index_or c.args.text.now 0 0) ≡ false = rw c.as_bytes.ensures.value at (sym c.is_quote.ensures ∙ c.if-is_quote.false) in
-    rw (no_value c.args.text.now some other (rw c.as_bytes.ensures.value at c.if-first-ne114.true)) refl
+pub range_from-run-requires : goal.range_from-run-requires
+range_from-run-requires c = λ _.
+    let stands : StandsIn c.args.text.now c.in-Some.literal = rw c.as_bytes.ensures.value at c.in-Some.ensures.place in
+    boundary c.args.text.now c.in-Some.literal c.utf8.text stands
 
-pub range_from-requires : goal.range_from-requires
-range_from-requires c = λ _.
-    let some : 0 < length c.args.text.now = rw c.as_bytes.ensures.value at c.in-len1-up.len_at_least in
-    after_first c.args.text.now c.utf8.text some (rw c.as_bytes.ensures.value at c.if-first-ne114.false)
+pub loop-byte-init : goal.loop-byte-init
+loop-byte-init c =
+    let stands : StandsIn c.args.text.now c.in-Some.literal = rw c.as_bytes.ensures.value at c.in-Some.ensures.place in
+    record {
+      walk = rw c.new-value.ensures.bytes (start _ c.range_from-run.result.now c.in-Some.literal.rest.now _ c.range_from-run.utf8 (c.range_from-run.ensures.value ∙ sym stands.rest) (rw c.as_bytes.ensures.value at c.in-Some.ensures.value));
+      some = stands.some;
+      ascii = stands.ascii;
+    }
 
-pub returns-then-is_quote : goal.returns-then-is_quote
-returns-then-is_quote c =
-    let some : 0 < length c.args.text.now = rw c.as_bytes.ensures.value at c.in-len1-up.len_at_least in
-    let quote : is_quote (slice_index_or c.args.text.now 0 0) ≡ true = rw c.as_bytes.ensures.value at (sym c.is_quote.ensures ∙ c.if-is_quote.true) in
-    rw (quoted_value c.args.text.now some quote) c.read_literal.ensures
+pub range-requires-clause-end_boundary : goal.range-requires-clause-end_boundary
+range-requires-clause-end_boundary c =
+    let walk = c.loop-byte.invariant.walk in
+    before_escape c.loop-byte.run.now c.loop-byte.left.rest.now _ c.in-Some-next_in.byte walk.fits walk.place (omega (arith, c.if-left-after-gt1.true))
+    (escaped c.loop-byte.left.raw _ c.loop-byte.left.rest.now c.in-Some-next_in.after.rest.now c.in-Some-next_in.byte c.in-Some-next_in.ensures.unit c.if-left-after-gt1.true)
+
+pub range_from-run-requires-then-left-after-gt1 : goal.range_from-run-requires-then-left-after-gt1
+range_from-run-requires-then-left-after-gt1 c = λ _.
+    let walk = c.loop-byte.invariant.walk in
+    after_escape c.loop-byte.run.now c.loop-byte.left.rest.now c.in-Some-next_in.after.rest.now c.in-Some-next_in.byte walk.utf8 walk.fits walk.place c.if-left-after-gt1.true
+    (escaped c.loop-byte.left.raw _ c.loop-byte.left.rest.now c.in-Some-next_in.after.rest.now c.in-Some-next_in.byte c.in-Some-next_in.ensures.unit c.if-left-after-gt1.true)
+
+pub loop-byte-preserved-in_ok-push : goal.loop-byte-preserved-in_ok-push
+loop-byte-preserved-in_ok-push c =
+    let ascii = escaped c.loop-byte.left.raw _ c.loop-byte.left.rest.now c.in-Some-next_in.after.rest.now c.in-Some-next_in.byte c.in-Some-next_in.ensures.unit c.if-left-after-gt1.true in
+    let all : length c.loop-byte.run.now - length c.loop-byte.left.rest.now - 0 ≡ length c.loop-byte.run.now - length c.loop-byte.left.rest.now = omega arith in
+    let done : string_bytes c.push.new.self ≡ string_bytes c.loop-byte.value ++ read c.loop-byte.run.now c.loop-byte.left.rest.now ++ c.in-Some-next_in.byte ∷ [] =
+    c.in_ok-push.ensures.bytes
+    ∙ ap (λ (w : List ℕ). w ++ encode_utf8 c.from.result) c.in_ok-push_str.ensures.bytes
+    ∙ ap (λ (w : List ℕ). string_bytes c.loop-byte.value ++ w ++ encode_utf8 c.from.result) (c.range.ensures.value ∙ ap (λ k. take k c.loop-byte.run.now) all)
+    ∙ ap (λ (b : ℕ). string_bytes c.loop-byte.value ++ read c.loop-byte.run.now c.loop-byte.left.rest.now ++ encode_utf8 b) c.from.ensures
+    ∙ ap (λ (w : List ℕ). string_bytes c.loop-byte.value ++ read c.loop-byte.run.now c.loop-byte.left.rest.now ++ w) (encode_ascii c.in-Some-next_in.byte ascii.worth) in
+    record {
+      walk = past_escape c.loop-byte.left.raw _ _ _ _ (string_bytes c.loop-byte.value) _ c.loop-byte.run.now c.range_from-run-then-left-after-gt1.result.now c.loop-byte.left.rest.now c.in-Some-next_in.after.rest.now c.in-Some-next_in.byte c.loop-byte.invariant.walk c.in-Some-next_in.ensures.unit c.in-Some-next_in.ensures.shorter c.in-Some-next_in.ensures.next c.range_from-run-then-left-after-gt1.utf8 c.range_from-run-then-left-after-gt1.ensures.value done;
+      some = rw c.in-Some-next_in.ensures.quotes c.loop-byte.invariant.some;
+      ascii = rw c.in-Some-next_in.ensures.quotes c.loop-byte.invariant.ascii;
+    }
+
+pub loop-byte-preserved : goal.loop-byte-preserved
+loop-byte-preserved c = record {
+  walk = past_byte c.loop-byte.left.raw _ _ _ _ (string_bytes c.loop-byte.value) c.loop-byte.run.now c.loop-byte.left.rest.now c.in-Some-next_in.after.rest.now c.in-Some-next_in.byte c.loop-byte.invariant.walk c.in-Some-next_in.ensures.unit c.in-Some-next_in.ensures.shorter (omega (arith, c.if-left-after-gt1.false)) c.in-Some-next_in.ensures.next;
+  some = rw c.in-Some-next_in.ensures.quotes c.loop-byte.invariant.some;
+  ascii = rw c.in-Some-next_in.ensures.quotes c.loop-byte.invariant.ascii;
+}

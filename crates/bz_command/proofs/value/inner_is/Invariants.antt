@@ -1,9 +1,10 @@
 use Rattle.std.proofs.Common.{◌≡◌, length}
-use Rattle.bz_command.specs.private.ValueSteps.{is_value, inner_value}
+use Rattle.bz_command.specs.private.ValueSteps.{is_value}
+use Rattle.bz_command.specs.private.ByteSteps.{inner_of}
 use Rattle.bz_command.proofs.value.inner_is.Given as goal
 
-abbrev pub invariant-loop-rest : goal.invariant-loop-rest
-invariant-loop-rest l = is_value l.left (inner_value l.raw l.quotes l.rest) ≡ is_value l.value (inner_value l.raw l.quotes l.inner)
+abbrev pub invariant-loop-byte : goal.invariant-loop-byte
+invariant-loop-byte l = is_value l.left (inner_of l.inner) ≡ is_value l.value (inner_of l.literal)
 
-abbrev pub decreases-loop-rest : goal.decreases-loop-rest
-decreases-loop-rest l = length l.rest
+abbrev pub decreases-loop-byte : goal.decreases-loop-byte
+decreases-loop-byte l = length l.inner.rest.now

@@ -1,0 +1,104 @@
+//! A string literal, opened and read byte by byte: the one reader of its escapes.
+
+ghost use Rattle.std.specs.Prelude.{◌≡◌, ◌<◌, MatchOption, IfSome, Some, length, option_map};
+ghost use Rattle.bz_command.specs.Values as spec;
+ghost use Rattle.bz_command.specs.private.ValueSteps.{opened_value, taken};
+ghost use Rattle.bz_command.specs.private.ByteSteps.{inner_of, opened, ended, is_closed, StandsIn, taken_of};
+
+/// What is left to read of a literal after its opening quotes.
+#[derive(Clone, Copy)]
+pub struct Literal<'a> {
+    raw: bool,
+    quotes: &'a [u8],
+    pub(crate) rest: &'a [u8],
+}
+
+/// The text as a literal, if it begins as one. What stands after the closing quotes is not looked at yet.
+pub(crate) fn open(text: &[u8]) -> Option<Literal<'_>>
+    ensures value { opened result ≡ spec.value_of text.now }
+    ensures place { IfSome result (λ literal. StandsIn text.now literal) }
+{
+    let [first, literal @ ..] = text else {
+        return None;
+    };
+    if *first == b'r' {
+        return open_quotes(true, literal);
+    }
+    open_quotes(false, text)
+}
+
+// The literal without its prefix.
+fn open_quotes(raw: bool, literal: &[u8]) -> Option<Literal<'_>>
+    ensures value { opened result ≡ opened_value raw literal.now }
+    ensures place { IfSome result (λ opened. StandsIn literal.now opened) }
+{
+    let n = match literal {
+        [b'"', b'"', b'"', ..] | [b'\'', b'\'', b'\'', ..] => 3,
+        [b'"' | b'\'', ..] => 1,
+        _ => return None,
+    };
+    Some(Literal {
+        raw,
+        quotes: &literal[..n],
+        rest: &literal[n..],
+    })
+}
+
+/// The next byte of the value and what is left after it; `None` at the closing quotes, or where there is no value.
+pub(crate) fn next_in<'a>(literal: Literal<'a>) -> Option<(u8, Literal<'a>)>
+    ensures next { MatchOption result (inner_of literal.entry ≡ ended literal.entry)
+        (λ p. inner_of literal.entry ≡ spec.and_then (Some p.0) (inner_of p.1)) }
+    ensures unit { IfSome result (λ p. taken_of literal.entry ≡ Some (p.0, p.1.rest.now)) }
+    ensures quotes { IfSome result (λ p. p.1.quotes ≡ literal.entry.quotes) }
+    ensures shorter { IfSome result (λ p. length p.1.rest.now < length literal.entry.rest.now) }
+{
+    let Literal { raw, quotes, rest } = literal;
+    if rest.starts_with(quotes) {
+        return None;
+    }
+    let Some((byte, rest)) = take_unit(raw, quotes.len() == 1, rest) else {
+        return None;
+    };
+    Some((byte, Literal { raw, quotes, rest }))
+}
+
+/// The closing quotes are left, and nothing else.
+pub(crate) fn is_at_end(literal: Literal<'_>) -> bool
+    ensures { result ≡ is_closed literal.entry }
+{
+    literal.rest.len() > 0 && literal.rest == literal.quotes
+}
+
+// The value of the first unit (an escape, a carriage return and a newline, or a byte), and what stands after it.
+fn take_unit(raw: bool, short: bool, bytes: &[u8]) -> Option<(u8, &[u8])>
+    ensures value { option_map (λ p. (p.0, p.1.now)) result ≡ taken raw short bytes.now }
+    ensures shorter { IfSome result (λ p. length p.1.now < length bytes.now) }
+{
+    match bytes {
+        [b'\\', b, rest @ ..] if !raw => match escape_value(*b) {
+            Some(value) => Some((value, rest)),
+            None => None,
+        },
+        [b'\\', ..] => None,
+        [b'\n', ..] | [b'\r', b'\n', ..] if short => None,
+        [b'\r', b'\n', rest @ ..] => Some((b'\n', rest)),
+        [b, rest @ ..] => Some((*b, rest)),
+        [] => None,
+    }
+}
+
+fn escape_value(b: u8) -> Option<u8>
+    ensures { result ≡ spec.meant b spec.escapes }
+{
+    match b {
+        b'a' => Some(7),
+        b'b' => Some(8),
+        b'f' => Some(12),
+        b'n' => Some(10),
+        b'r' => Some(13),
+        b't' => Some(9),
+        b'v' => Some(11),
+        b'\\' | b'\'' | b'"' => Some(b),
+        _ => None,
+    }
+}
