@@ -126,7 +126,12 @@ fn is_plain(b: u8) -> bool
 fn are_plain(bytes: &[u8]) -> bool
     ensures { result ≡ list_all spec.is_plain bytes.now }
 {
-    bytes.iter().all(|b| is_plain(*b))
+    for b in bytes {
+        if !is_plain(*b) {
+            return false;
+        }
+    }
+    true
 }
 
 fn are_parts(path: &str) -> bool
@@ -176,13 +181,12 @@ fn read_target(alloc: Global, text: &str) -> Result<Target, LabelFault>
 fn is_target(text: &[u8]) -> bool
     ensures { result ≡ spec.is_target text.now }
 {
-    text.len() != 0 && are_target_bytes(text)
-}
-
-fn are_target_bytes(text: &[u8]) -> bool
-    ensures { result ≡ list_all (λ b. spec.is_plain b && not (spec.is_colon b)) text.now }
-{
-    text.iter().all(|b| is_plain(*b) && *b != b':')
+    for b in text {
+        if !is_plain(*b) || *b == b':' {
+            return false;
+        }
+    }
+    text.len() != 0
 }
 
 // What stands after a percent sign.
@@ -209,11 +213,10 @@ fn read_percent(alloc: Global, text: &str) -> Result<Target, LabelFault>
 fn is_number(text: &[u8]) -> bool
     ensures { result ≡ spec.is_number text.now }
 {
-    text.len() != 0 && are_digits(text)
-}
-
-fn are_digits(text: &[u8]) -> bool
-    ensures { result ≡ list_all is_ascii_digit text.now }
-{
-    text.iter().all(u8::is_ascii_digit)
+    for b in text {
+        if !b.is_ascii_digit() {
+            return false;
+        }
+    }
+    text.len() != 0
 }

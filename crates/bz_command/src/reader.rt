@@ -301,7 +301,12 @@ fn comment_before(place: Commented, text: Text) -> Result<Command, CommandFault>
 fn breaks_line(text: &[u8]) -> bool
     ensures { result ≡ list_any spec.breaks_line text.now }
 {
-    text.iter().any(|b| *b == b'\n' || *b == b'\r')
+    for b in text {
+        if *b == b'\n' || *b == b'\r' {
+            return true;
+        }
+    }
+    false
 }
 
 fn read_print(alloc: Global, words: Vec<Text>) -> Result<Command, CommandFault>
