@@ -1,13 +1,12 @@
 -- A text in parts.
-use Rattle.std.proofs.Common.{◌≡◌, ℕ, zero, suc, ◌+◌, ◌<◌, ◌&&◌, not, List, [], ◌∷◌, length, drop, Bool, true, false, refl, ap, ap₂, ◌∙◌, ◌≢◌, arith, inl, inr}
-use Rattle.std.specs.Prelude.{bytes_eq, nat_lt}
-use Rattle.std.proofs.lemmas.Bool.Decides.{nat_tests}
-use Rattle.std.specs.List.{list_all, slice_split, onto_first, position_or_len, before_first, after_first}
+use Rattle.std.proofs.Common.{◌≡◌, ℕ, zero, suc, ◌+◌, ◌<◌, ◌&&◌, not, List, [], ◌∷◌, length, drop, Bool, true, false, refl, arith, inl, inr}
+use Rattle.std.specs.Prelude.{bytes_eq}
+use Rattle.std.specs.List.{list_all, slice_split, onto_first, position_or_len}
 use Rattle.std.proofs.lemmas.Bool.{cases_Bool, and_parts, or_parts, not-true}
 use Rattle.std.proofs.lemmas.List.Splits.{length-slice_split}
-use Rattle.std.specs.Prelude.{◌||◌, nat_eq, codes, Some, None, Result, Ok, Err}
+use Rattle.std.specs.Prelude.{◌||◌, nat_eq, codes, Some, None, Ok, Err}
 use Rattle.std.specs.List.{starts_with}
-use Rattle.bz_command.specs.Labels.{Package, Target, label_of, target_of, pair_of, last_of, is_part, parts_of, path_of, package_of, is_slash, is_colon, is_plain, is_target, is_path}
+use Rattle.bz_command.specs.Labels.{last_of, is_part, parts_of, path_of, package_of, is_slash, is_colon, is_plain, is_target, is_path}
 use Rattle.bz_command.specs.declared.labels.LabelFault.{LabelFault}
 
 onto_one : {X : Type 0} (p : X → Bool) (x : X) (xs : List X) → p x ≡ false → slice_split p xs ≡ xs ∷ [] → slice_split p (x ∷ xs) ≡ (x ∷ xs) ∷ []
@@ -103,17 +102,3 @@ named_target text path colons h some =
     let last = last_of (parts_of path) in
     rw (part_some last (last_passes is_part (parts_of path) (some_part is_slash path) parts))
     (all_both is_plain (λ b. not (is_colon b)) last (last_all is_plain is_slash path plain) (last_all (λ b. not (is_colon b)) is_slash path no_colon))
-
--- a label with a colon, where memory lasts
-pair_read : (p q : Result Package LabelFault) (t u : Result Target LabelFault) → (p ≢ Err LabelFault.OutOfMemory → p ≡ q) → (t ≢ Err LabelFault.OutOfMemory → t ≡ u) → pair_of p t ≢ Err LabelFault.OutOfMemory → pair_of p t ≡ pair_of q u
-pair_read (Err fault) q t u first second told = ap (λ (x : Result Package LabelFault). pair_of x u) (first (λ e. told (let same : fault ≡ LabelFault.OutOfMemory = cc in ap (λ (f : LabelFault). Err f) same)))
-pair_read (Ok package_) q (Err fault) u first second told = ap₂ (λ (x : Result Package LabelFault) (y : Result Target LabelFault). pair_of x y) (first (λ e. cc)) (second (λ e. told (let same : fault ≡ LabelFault.OutOfMemory = cc in ap (λ (f : LabelFault). Err f) same)))
-pair_read (Ok package_) q (Ok target) u first second told = ap₂ (λ (x : Result Package LabelFault) (y : Result Target LabelFault). pair_of x y) (first (λ e. cc)) (second (λ e. cc))
-
-pub labelled : (text front back : List ℕ) (p : Result Package LabelFault) (t : Result Target LabelFault) → position_or_len is_colon text < length text → front ≡ before_first is_colon text → back ≡ after_first is_colon text
-    → (p ≢ Err LabelFault.OutOfMemory → p ≡ package_of front) → (t ≢ Err LabelFault.OutOfMemory → t ≡ target_of back) → pair_of p t ≢ Err LabelFault.OutOfMemory → pair_of p t ≡ label_of text
-labelled text front back p t some e f first second told =
-    let test : nat_lt (position_or_len is_colon text) (length text) ≡ true = grind (arith, nat_tests) in
-    pair_read p (package_of front) t (target_of back) first second told
-    ∙ ap₂ (λ (xs ys : List ℕ). pair_of (package_of xs) (target_of ys)) e f
-    ∙ rw test refl

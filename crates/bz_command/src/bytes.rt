@@ -54,12 +54,3 @@ pub(crate) fn next<'a>(bytes: Bytes<'a>) -> Option<(u8, Bytes<'a>)>
         },
     }
 }
-
-/// Up to four texts in a row.
-#[derive(Clone, Copy)]
-pub(crate) struct Chain<'a> {
-    pub(crate) first: Bytes<'a>,
-    pub(crate) second: Bytes<'a>,
-    pub(crate) third: Bytes<'a>,
-    pub(crate) fourth: Bytes<'a>,
-}

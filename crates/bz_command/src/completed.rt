@@ -6,10 +6,19 @@ ghost use Rattle.bz_command.specs.Labels.{is_colon, last_of, parts_of};
 ghost use Rattle.bz_command.specs.Same as same;
 ghost use Rattle.bz_command.specs.private.ByteSteps.{left, is_good, chain_bytes, is_good_chain, begins, is_bare_path};
 
-use crate::bytes::{Bytes, Chain, next};
+use crate::bytes::{Bytes, next};
 use crate::package::Package;
 
-/// A label in full.
+/// A label in full: texts in a row.
+#[derive(Clone, Copy)]
+pub(crate) struct Chain<'a> {
+    slashes: &'a [u8],
+    path: Bytes<'a>,
+    colon: &'a [u8],
+    name: Bytes<'a>,
+}
+
+/// The label that a text is in a package.
 pub(crate) fn completed<'a>(home: &'a Package, text: Bytes<'a>) -> Chain<'a>
     requires { IsTrue (is_good text) }
     ensures bytes { chain_bytes result ≡ same.completed home.now (left text.entry) }
@@ -24,19 +33,20 @@ pub(crate) fn completed<'a>(home: &'a Package, text: Bytes<'a>) -> Chain<'a>
     if is_path(text) {
         return with_name(text, last_part(text));
     }
-    chain(b"", b"", b"", text)
+    without_path(b"", text)
 }
 
-fn chain<'a>(first: &'a [u8], second: &'a [u8], third: &'a [u8], fourth: Bytes<'a>) -> Chain<'a>
-    requires { IsTrue (is_good fourth) }
-    ensures bytes { chain_bytes result ≡ first.now ++ (second.now ++ (third.now ++ left fourth.entry)) }
+/// A name in no package.
+pub(crate) fn without_path<'a>(colon: &'a [u8], name: Bytes<'a>) -> Chain<'a>
+    requires { IsTrue (is_good name) }
+    ensures bytes { chain_bytes result ≡ colon.now ++ left name.entry }
     ensures good { IsTrue (is_good_chain result) }
 {
     Chain {
-        first: Bytes::Plain(first),
-        second: Bytes::Plain(second),
-        third: Bytes::Plain(third),
-        fourth,
+        slashes: b"",
+        path: Bytes::Plain(b""),
+        colon,
+        name,
     }
 }
 
@@ -46,9 +56,14 @@ fn in_package<'a>(home: &'a Package, colon: &'a [u8], name: Bytes<'a>) -> Chain<
     ensures good { IsTrue (is_good_chain result) }
 {
     let Some(path) = home.path() else {
-        return chain(b"", b"", colon, name);
+        return without_path(colon, name);
     };
-    chain(b"//", path.as_bytes(), colon, name)
+    Chain {
+        slashes: b"//",
+        path: Bytes::Plain(path.as_bytes()),
+        colon,
+        name,
+    }
 }
 
 fn with_name<'a>(path: Bytes<'a>, name: Bytes<'a>) -> Chain<'a>
@@ -58,13 +73,13 @@ fn with_name<'a>(path: Bytes<'a>, name: Bytes<'a>) -> Chain<'a>
     ensures good { IsTrue (is_good_chain result) }
 {
     if next(name).is_none() {
-        return chain(b"", b"", b"", path);
+        return without_path(b"", path);
     }
     Chain {
-        first: Bytes::Plain(b""),
-        second: path,
-        third: Bytes::Plain(b":"),
-        fourth: name,
+        slashes: b"",
+        path,
+        colon: b":",
+        name,
     }
 }
 
@@ -159,29 +174,17 @@ pub(crate) fn next_in<'a>(chain: Chain<'a>) -> Option<(u8, Chain<'a>)>
         (λ p. chain_bytes chain.entry ≡ p.0 ∷ chain_bytes p.1) }
     ensures good { IfSome result (λ p. IsTrue (is_good_chain p.1)) }
 {
-    if let Some((b, first)) = next(chain.first) {
-        return Some((b, Chain { first, ..chain }));
+    if let [b, slashes @ ..] = chain.slashes {
+        return Some((*b, Chain { slashes, ..chain }));
     }
-    if let Some((b, second)) = next(chain.second) {
-        return Some((b, Chain { second, ..chain }));
+    if let Some((b, path)) = next(chain.path) {
+        return Some((b, Chain { path, ..chain }));
     }
-    next_after(chain)
-}
-
-// The next byte, where the first two texts are at their end.
-fn next_after<'a>(chain: Chain<'a>) -> Option<(u8, Chain<'a>)>
-    requires good { IsTrue (is_good_chain chain) }
-    requires first { left chain.first ≡ [] }
-    requires second { left chain.second ≡ [] }
-    ensures next { MatchOption result (chain_bytes chain.entry ≡ [])
-        (λ p. chain_bytes chain.entry ≡ p.0 ∷ chain_bytes p.1) }
-    ensures good { IfSome result (λ p. IsTrue (is_good_chain p.1)) }
-{
-    if let Some((b, third)) = next(chain.third) {
-        return Some((b, Chain { third, ..chain }));
+    if let [b, colon @ ..] = chain.colon {
+        return Some((*b, Chain { colon, ..chain }));
     }
-    if let Some((b, fourth)) = next(chain.fourth) {
-        return Some((b, Chain { fourth, ..chain }));
+    if let Some((b, name)) = next(chain.name) {
+        return Some((b, Chain { name, ..chain }));
     }
     None
 }

@@ -8,8 +8,8 @@ ghost use Rattle.bz_command.specs.private.ByteSteps.{left, is_good, chain_bytes,
 ghost use Rattle.bz_command.specs.Same.{completed};
 ghost use Rattle.bz_command.specs.LabelSetViews as spec;
 
-use crate::bytes::{Bytes, Chain};
-use crate::completed::{completed, equal, next_in};
+use crate::bytes::Bytes;
+use crate::completed::{Chain, completed, equal, next_in};
 use crate::names::is;
 use crate::package::Package;
 use std::alloc::{AllocError, Global};

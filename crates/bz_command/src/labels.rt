@@ -41,23 +41,9 @@ pub fn read_label(alloc: Global, text: &str) -> Result<(Package, Target), LabelF
     let Some((package, target)) = text.split_once(':') else {
         return read_named(alloc, text);
     };
-    pair(read_package(alloc, package), read_target(alloc, target))
-}
-
-// A bad package is told before a bad target.
-fn pair(
-    package: Result<Package, LabelFault>,
-    target: Result<Target, LabelFault>,
-) -> Result<(Package, Target), LabelFault>
-    ensures { result ≡ spec.pair_of «package» target }
-{
-    match package {
-        Err(fault) => Err(fault),
-        Ok(package) => match target {
-            Err(fault) => Err(fault),
-            Ok(target) => Ok((package, target)),
-        },
-    }
+    let package = read_package(alloc, package)?;
+    let target = read_target(alloc, target)?;
+    Ok((package, target))
 }
 
 // A label without a colon.

@@ -6,7 +6,7 @@ use Rattle.bz_command.specs.private.ValueSteps.{inner_value, taken}
 use Rattle.bz_command.specs.declared.bytes.Bytes.{Bytes}
 use Rattle.bz_command.specs.declared.bytes.Bytes.TheVariants.{Plain, Inner}
 use Rattle.bz_command.specs.declared.literal.Literal.{Literal}
-use Rattle.bz_command.specs.declared.bytes.Chain.{Chain}
+use Rattle.bz_command.specs.declared.completed.Chain.{Chain}
 
 abbrev pub or_nothing : Option (List ℕ) → List ℕ
 or_nothing None = []
@@ -49,10 +49,10 @@ abbrev pub is_good : Bytes → Bool
 is_good b = is_some (value_left b)
 
 abbrev pub chain_bytes : Chain → List ℕ
-chain_bytes c = left c.first ++ (left c.second ++ (left c.third ++ left c.fourth))
+chain_bytes c = c.slashes.now ++ (left c.path ++ (c.colon.now ++ left c.name))
 
 abbrev pub is_good_chain : Chain → Bool
-is_good_chain c = is_good c.first && (is_good c.second && (is_good c.third && is_good c.fourth))
+is_good_chain c = is_good c.path && is_good c.name
 
 -- the last part, where `last` stands after the last slash that was read
 abbrev pub last_from : List ℕ → List ℕ → List ℕ

@@ -1,4 +1,4 @@
-use Rattle.std.proofs.Common.{◌≡◌, drop, ◌&&◌, not}
+use Rattle.std.proofs.Common.{◌≡◌, drop}
 use Rattle.std.specs.List.{list_all}
 use Rattle.bz_command.specs.Labels.{is_plain}
 use Rattle.bz_command.proofs.labels.are_plain.Given as goal

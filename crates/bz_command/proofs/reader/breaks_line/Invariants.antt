@@ -1,4 +1,4 @@
-use Rattle.std.proofs.Common.{◌≡◌, drop, ◌&&◌, not}
+use Rattle.std.proofs.Common.{◌≡◌, drop}
 use Rattle.std.specs.List.{list_any}
 use Rattle.bz_command.specs.Commands.{breaks_line}
 use Rattle.bz_command.proofs.reader.breaks_line.Given as goal
