@@ -1,5 +1,5 @@
 -- Words with a space between them, and the first field that is missing.
-use Rattle.std.proofs.Common.{◌≡◌, ℕ, suc, ◌+◌, ◌-◌, ◌<◌, ◌≤◌, List, [], ◌∷◌, ◌++◌, true, false, Option, Some, None, map, length, get_or, take, drop, refl, ap, sym, ◌∙◌, arith, append-nil, append_assoc, add-one, drop-cons, is_some, if◌then◌else◌}
+use Rattle.std.proofs.Common.{◌≡◌, ℕ, suc, ◌+◌, ◌-◌, ◌<◌, ◌≤◌, List, [], ◌∷◌, ◌++◌, true, false, Option, Some, None, map, option_map, length, get_or, take, drop, refl, ap, sym, ◌∙◌, arith, append-nil, append_assoc, add-one, drop-cons, is_some, if◌then◌else◌}
 use Rattle.std.specs.Option.{option_or}
 use Rattle.std.proofs.lemmas.List.{take_all}
 use Rattle.bz_tree.specs.Tree.{Statement}
@@ -54,13 +54,13 @@ pub first_missing : (told : Option Note) (home : Package) (s : Statement) (r : R
     → told ≡ missing home s r (field ∷ []) → first_note told (missing home s r fields) ≡ missing home s r (field ∷ fields)
 first_missing told home s r field fields is = rw is (note_first home s r field fields)
 
-missing_after : (new told here : Option Note) (home : Package) (s : Statement) (r : Rule) (field : Field) (fields : List Field)
-    → new ≡ option_or told here → here ≡ missing home s r (field ∷ []) → first_note new (missing home s r fields) ≡ first_note told (missing home s r (field ∷ fields))
-missing_after new (Some note) here home s r field fields joined is = rw joined refl
-missing_after new None here home s r field fields joined is = rw joined (first_missing here home s r field fields is)
+missing_after : {X : Type 0} (note : X → Note) (new told here : Option X) (home : Package) (s : Statement) (r : Rule) (field : Field) (fields : List Field)
+    → new ≡ option_or told here → option_map note here ≡ missing home s r (field ∷ []) → first_note (option_map note new) (missing home s r fields) ≡ first_note (option_map note told) (missing home s r (field ∷ fields))
+missing_after note new (Some name) here home s r field fields joined is = rw joined refl
+missing_after note new None here home s r field fields joined is = rw joined (first_missing (option_map note here) home s r field fields is)
 
-pub next_missing : {X : Type 0} (g : X → Field) (xs : List X) (x : X) (i : ℕ) (new told here : Option Note) (home : Package) (s : Statement) (r : Rule)
-    → i < length xs → x ≡ get_or xs i x → new ≡ option_or told here → here ≡ missing home s r (g x ∷ [])
-    → first_note new (missing home s r (map g (drop (i + 1) xs))) ≡ first_note told (missing home s r (map g (drop i xs)))
-next_missing g xs x i new told here home s r h is joined shown =
-    rw (drop-cons xs i x, ← is, add-one) (missing_after new told here home s r (g x) (map g (drop (suc i) xs)) joined shown)
+pub next_missing : {X Y : Type 0} (g : X → Field) (note : Y → Note) (xs : List X) (x : X) (i : ℕ) (new told here : Option Y) (home : Package) (s : Statement) (r : Rule)
+    → i < length xs → x ≡ get_or xs i x → new ≡ option_or told here → option_map note here ≡ missing home s r (g x ∷ [])
+    → first_note (option_map note new) (missing home s r (map g (drop (i + 1) xs))) ≡ first_note (option_map note told) (missing home s r (map g (drop i xs)))
+next_missing g note xs x i new told here home s r h is joined shown =
+    rw (drop-cons xs i x, ← is, add-one) (missing_after note new told here home s r (g x) (map g (drop (suc i) xs)) joined shown)

@@ -1,9 +1,8 @@
 //! `comment`: a line above a rule, an argument or an element.
 
-ghost use Rattle.std.specs.Prelude.{◌≡◌, ◌≤◌, ◌∷◌, [], false, length, string_bytes, option_map, IfOk, IfSome, IfNone, IsOk, OnOk, OnErr, None, true};
-ghost use Rattle.std.specs.Cow.{cow_str_bytes};
+ghost use Rattle.std.specs.Prelude.{◌≡◌, ◌≤◌, ◌++◌, ◌∷◌, [], false, length, string_bytes, option_map, IfOk, IfSome, IfNone, IsOk, OnOk, OnErr, None, true};
 ghost use Rattle.std.specs.List.{list_any, position_or_len};
-ghost use Rattle.bz_tree.specs.View.{node_view, nodes_view, seg_view, segs_view, slot_view};
+ghost use Rattle.bz_tree.specs.View.{node_view, nodes_view, seg_view, segs_view, slot_view, texts};
 ghost use Rattle.bz_attribute.specs.Applied.{args_after, args_done};
 ghost use Rattle.bz_command.specs.CommandViews.{commented_view};
 ghost use Rattle.bz_command.specs.Commands.{Comment};
@@ -14,12 +13,13 @@ ghost use Rattle.bz_attribute_commands.specs.private.CommentPlaces.{IsFirstOf, I
 ghost use Rattle.bz_attribute_commands.specs.private.CommentPlaces as place;
 ghost use Rattle.bz_attribute.specs.Commenting as spec;
 
-use bz_attribute::done::{Done, Note};
+use crate::fault::{no_attribute, no_value, not_a_list};
+use bz_attribute::done::Done;
 use bz_attribute::equals::equals;
 use bz_attribute::find::{call_at, find};
 use bz_attribute::lists::{are_joints, first_part, is_part};
 use bz_attribute::rule::is_sign;
-use bz_command::{Commented, Package, Text};
+use bz_command::{Commented, Package};
 use bz_tree::{Node, Seg, Stmt};
 use std::alloc::{AllocError, Global};
 use std::borrow::CowStr;
@@ -35,17 +35,14 @@ pub fn comment_rule(
     ensures no_rule { holds_rule (slot_view slot.old) ≡ false → IsOk result }
     ensures err { OnErr result (slot_view slot.new ≡ slot_view slot.old) }
 {
-    match slot {
-        None => Ok(Done::quiet(false)),
-        Some(stmt) => {
-            if call_at(&stmt.nodes).is_none() {
-                return Ok(Done::quiet(false));
-            }
-            let line = comment_line(alloc, text)?;
-            stmt.before.push(line)?;
-            Ok(Done::quiet(true))
-        }
+    let Some(stmt) = slot else {
+        return Ok(Done::quiet(false));
+    };
+    if call_at(&stmt.nodes).is_none() {
+        return Ok(Done::quiet(false));
     }
+    push_line(alloc, text, &mut stmt.before)?;
+    Ok(Done::quiet(true))
 }
 
 /// Adds a comment line above an argument or an element of one; for one above the rule it does nothing. An `Err` leaves
@@ -85,11 +82,9 @@ fn comment_attribute(
     ensures err { OnErr result (segs_view args.new ≡ segs_view args.old) }
 {
     let Some(i) = find(args, attr) else {
-        let attr = Text::from_str(alloc, attr)?;
-        return Ok(Done::failure(Note::NoAttribute(attr)));
+        return no_attribute(alloc, attr);
     };
-    let line = comment_line(alloc, text)?;
-    args[i].before.push(line)?;
+    push_line(alloc, text, &mut args[i].before)?;
     Ok(Done::quiet(true))
 }
 
@@ -109,11 +104,9 @@ fn comment_value(
     ensures err { OnErr result (segs_view args.new ≡ segs_view args.old) }
 {
     let Some(i) = find(args, attr) else {
-        let attr = Text::from_str(alloc, attr)?;
-        return Ok(Done::failure(Note::NoAttribute(attr)));
+        return no_attribute(alloc, attr);
     };
-    let done = comment_in(alloc, home, attr, value, text, &mut args[i])?;
-    Ok(done)
+    comment_in(alloc, home, attr, value, text, &mut args[i])
 }
 
 fn comment_in(
@@ -130,8 +123,7 @@ fn comment_in(
     ensures done { IfOk result (λ d. d ≡ done (place.note_in home.now attr.now value.now (seg_view arg.old)) true) }
     ensures err { OnErr result (seg_view arg.new ≡ seg_view arg.old) }
 {
-    let done = comment_in_nodes(alloc, home, attr, value, text, &mut arg.nodes[2..])?;
-    Ok(done)
+    comment_in_nodes(alloc, home, attr, value, text, &mut arg.nodes[2..])
 }
 
 // The same on the nodes of the argument's value.
@@ -150,16 +142,12 @@ fn comment_in_nodes(
     ensures err { OnErr result (nodes_view nodes.new ≡ nodes_view nodes.old) }
 {
     if first_part(nodes).is_none() {
-        let attr = Text::from_str(alloc, attr)?;
-        return Ok(Done::failure(Note::NotAList(attr)));
+        return not_a_list(alloc, attr);
     }
     let Some(part) = part_with(home, value, nodes) else {
-        let attr = Text::from_str(alloc, attr)?;
-        let value = Text::from_str(alloc, value)?;
-        return Ok(Done::failure(Note::NoValue { attr, value }));
+        return no_value(alloc, attr, value);
     };
-    let line = comment_line(alloc, text)?;
-    comment_at(home, value, line, nodes, part)?;
+    comment_in_list(alloc, home, value, text, &mut nodes[part])?;
     Ok(Done::quiet(true))
 }
 
@@ -215,68 +203,59 @@ fn place_of(home: &Package, value: &str, elements: &[Seg<'_>]) -> usize
     elements.len()
 }
 
-// Adds the line above the first equal element of that list part.
-fn comment_at<'a>(
+// Adds a comment line above the first element of a list that equals a value.
+fn comment_in_list(
+    alloc: Global,
     home: &Package,
     value: &str,
-    line: CowStr<'a>,
-    nodes: &mut [Node<'a>],
-    part: usize,
-) -> Result<(), AllocError>
-    requires { IsPartWith (equals home.now value.now) nodes.old part }
-    ensures ok { OnOk result (nodes_view nodes.new ≡ spec.edit_element (equals home.now value.now)
-        (spec.with_comment (cow_str_bytes line.entry)) (nodes_view nodes.old)) }
-    ensures err { OnErr result (nodes_view nodes.new ≡ nodes_view nodes.old) }
-{
-    comment_in_list(home, value, line, &mut nodes[part])?;
-    Ok(())
-}
-
-fn comment_in_list<'a>(
-    home: &Package,
-    value: &str,
-    line: CowStr<'a>,
-    node: &mut Node<'a>,
+    text: &str,
+    node: &mut Node<'_>,
 ) -> Result<(), AllocError>
     ensures ok { OnOk result (node_view node.new ≡ edit_list
-        (edit_first (equals home.now value.now) (λ s. spec.with_comment (cow_str_bytes line.entry) s ∷ []))
+        (edit_first (equals home.now value.now) (λ s. spec.with_comment (spec.comment_line text.now) s ∷ []))
         (node_view node.old)) }
     ensures err { OnErr result (node_view node.new ≡ node_view node.old) }
 {
     match node {
         Node::Token(_) => Ok(()),
         Node::Group(group) => {
-            comment_first(home, value, line, &mut group.segs)?;
+            comment_first(alloc, home, value, text, &mut group.segs)?;
             Ok(())
         }
     }
 }
 
-fn comment_first<'a>(
+fn comment_first(
+    alloc: Global,
     home: &Package,
     value: &str,
-    line: CowStr<'a>,
-    elements: &mut [Seg<'a>],
+    text: &str,
+    elements: &mut [Seg<'_>],
 ) -> Result<(), AllocError>
     ensures ok { OnOk result (segs_view elements.new ≡ edit_first (equals home.now value.now)
-        (λ s. spec.with_comment (cow_str_bytes line.entry) s ∷ []) (segs_view elements.old)) }
+        (λ s. spec.with_comment (spec.comment_line text.now) s ∷ []) (segs_view elements.old)) }
     ensures err { OnErr result (segs_view elements.new ≡ segs_view elements.old) }
 {
     let Some(i) = find_equal(home, value, elements) else {
         return Ok(());
     };
-    elements[i].before.push(line)?;
-    Ok(())
+    push_line(alloc, text, &mut elements[i].before)
 }
 
-// The comment line of a text.
-fn comment_line<'a>(alloc: Global, text: &str) -> Result<CowStr<'a>, AllocError>
-    ensures { IfOk result (λ line. cow_str_bytes line ≡ spec.comment_line text.now) }
+// Adds the comment line of a text. An `Err` leaves the lines as they were.
+fn push_line(
+    alloc: Global,
+    text: &str,
+    lines: &mut Vec<CowStr<'_>>,
+) -> Result<(), AllocError>
+    ensures ok { OnOk result (texts lines.new.items ≡ texts lines.old.items ++ spec.comment_line text.now ∷ []) }
+    ensures err { OnErr result (texts lines.new.items ≡ texts lines.old.items) }
 {
     let mut line = String::from_str(alloc, "# ")?;
     line.push_str(text)?;
     trim(&mut line);
-    Ok(CowStr::Owned(line))
+    lines.push(CowStr::Owned(line))?;
+    Ok(())
 }
 
 // Drops the spaces and tabs at the end.

@@ -2,6 +2,7 @@
 #![tactic(auto)]
 
 pub mod comment;
+mod fault;
 pub mod print;
 pub mod rename;
 pub mod set;

@@ -8,7 +8,7 @@ ghost use Rattle.bz_command.specs.CommandViews.{field_view};
 ghost use Rattle.bz_attribute.specs.RuleViews.{rule_view};
 ghost use Rattle.bz_attribute.specs.Rules.{string_value};
 ghost use Rattle.bz_attribute.specs.Effects.{holds_rule};
-ghost use Rattle.bz_attribute_commands.specs.private.PrintSteps.{attribute_in, element_word, label_in, missing_as};
+ghost use Rattle.bz_attribute_commands.specs.private.PrintSteps.{attribute_in, element_word, label_in, line_with, missing_as, name_and_kind};
 ghost use Rattle.bz_attribute.specs.declared.done.Note.TheVariants.{Missing};
 ghost use Rattle.bz_attribute.specs.Printing as spec;
 
@@ -40,16 +40,20 @@ pub fn print(
         return Ok(Done::quiet(false));
     };
     match fields {
-        [] => {
-            let name = Field::ValueOf(Text::from_str(alloc, "name")?);
-            let done = print_fields(alloc, home, stmt, rule, &name, &[Field::Kind])?;
-            Ok(done)
-        }
-        [first, others @ ..] => {
-            let done = print_fields(alloc, home, stmt, rule, first, others)?;
-            Ok(done)
-        }
+        [] => print_name_and_kind(alloc, rule),
+        [first, others @ ..] => print_fields(alloc, home, stmt, rule, first, others),
     }
+}
+
+// What is printed where no field is named.
+fn print_name_and_kind(alloc: Global, rule: Rule<'_, '_>) -> Result<Done, AllocError>
+    ensures { IfOk result (λ done. done ≡ name_and_kind (rule_view rule.entry)) }
+{
+    let mut line = String::new(alloc);
+    let missing = push_attribute(alloc, &mut line, "name", &rule.call.segs)?;
+    line.push(' ')?;
+    push_kind(&mut line, rule.kind)?;
+    printed(alloc, line, missing)
 }
 
 fn print_fields(
@@ -70,51 +74,48 @@ fn print_fields(
         let other = push_field(alloc, &mut line, home, stmt, rule, field)?;
         missing = missing.or(other);
     }
+    printed(alloc, line, missing)
+}
+
+// The line, with the name of the field that is missing.
+fn printed(alloc: Global, line: String, missing: Option<&str>) -> Result<Done, AllocError>
+    ensures { IfOk result (λ done. done ≡ line_with (string_bytes line) (option_map (λ name. Missing name.now) missing.entry)) }
+{
+    let note = match missing {
+        None => None,
+        Some(name) => Some(Note::Missing(Text::from_str(alloc, name)?)),
+    };
     Ok(Done {
         changed: false,
         line: Some(Text::from_string(line)),
-        note: missing,
+        note,
     })
 }
 
-// Writes a field. The note tells that it is missing.
-fn push_field(
+// Writes a field. Tells its name where it is missing.
+fn push_field<'f>(
     alloc: Global,
     text: &mut String,
     home: &Package,
     stmt: &Stmt<'_>,
     rule: Rule<'_, '_>,
-    field: &Field,
-) -> Result<Option<Note>, AllocError>
+    field: &'f Field,
+) -> Result<Option<&'f str>, AllocError>
     ensures line { OnOk result
         (string_bytes text.new ≡ string_bytes text.old ++ spec.shown_field
         (spec.field_text home.now (view stmt.now) (rule_view rule.entry) (field_view field.now))) }
     ensures missing { IfOk result
-        (λ missing. missing
+        (λ missing. option_map (λ name. Missing name.now) missing
         ≡ spec.missing home.now (view stmt.now) (rule_view rule.entry) (field_view field.now ∷ [])) }
 {
     match field {
-        Field::Label => {
-            let missing = push_label(alloc, text, home, &rule.call.segs)?;
-            Ok(missing)
-        }
-        Field::Kind => {
-            push_kind(text, rule.kind)?;
-            Ok(None)
-        }
-        Field::StartLine => {
-            push_number(alloc, text, stmt.start)?;
-            Ok(None)
-        }
-        Field::EndLine => {
-            push_number(alloc, text, stmt.end)?;
-            Ok(None)
-        }
-        Field::ValueOf(attr) => {
-            let missing = push_attribute(alloc, text, attr.as_str(), &rule.call.segs)?;
-            Ok(missing)
-        }
+        Field::Label => return push_label(alloc, text, home, &rule.call.segs),
+        Field::ValueOf(attr) => return push_attribute(alloc, text, attr.as_str(), &rule.call.segs),
+        Field::Kind => push_kind(text, rule.kind)?,
+        Field::StartLine => push_number(alloc, text, stmt.start)?,
+        Field::EndLine => push_number(alloc, text, stmt.end)?,
     }
+    Ok(None)
 }
 
 fn push_label(
@@ -122,48 +123,41 @@ fn push_label(
     text: &mut String,
     home: &Package,
     args: &[Seg<'_>],
-) -> Result<Option<Note>, AllocError>
+) -> Result<Option<&'static str>, AllocError>
     ensures line { OnOk result
         (string_bytes text.new ≡ string_bytes text.old ++ spec.shown_field (label_in home.now (segs_view args.now))) }
     ensures missing { IfOk result
-        (λ missing. missing ≡ missing_as (codes "label") (is_some (label_in home.now (segs_view args.now)))) }
+        (λ missing. option_map (λ name. Missing name.now) missing
+        ≡ missing_as (codes "label") (is_some (label_in home.now (segs_view args.now)))) }
 {
     let Some(name) = read_name(alloc, args)? else {
-        let missing = push_missing(alloc, text, "label")?;
-        return Ok(Some(missing));
+        text.push_str("(missing)")?;
+        return Ok(Some("label"));
     };
     push_home(text, home)?;
     text.push_str(name.as_str())?;
     Ok(None)
 }
 
-fn push_attribute(
+fn push_attribute<'f>(
     alloc: Global,
     text: &mut String,
-    attr: &str,
+    attr: &'f str,
     args: &[Seg<'_>],
-) -> Result<Option<Note>, AllocError>
+) -> Result<Option<&'f str>, AllocError>
     ensures line { OnOk result
         (string_bytes text.new
         ≡ string_bytes text.old ++ spec.shown_field (attribute_in attr.now (segs_view args.now))) }
     ensures missing { IfOk result
-        (λ missing. missing ≡ missing_as attr.now (is_some (attribute_in attr.now (segs_view args.now)))) }
+        (λ missing. option_map (λ name. Missing name.now) missing
+        ≡ missing_as attr.now (is_some (attribute_in attr.now (segs_view args.now)))) }
 {
     let Some(arg) = first_named(args, attr) else {
-        let missing = push_missing(alloc, text, attr)?;
-        return Ok(Some(missing));
+        text.push_str("(missing)")?;
+        return Ok(Some(attr));
     };
     push_value(alloc, text, value_of(arg))?;
     Ok(None)
-}
-
-fn push_missing(alloc: Global, text: &mut String, name: &str) -> Result<Note, AllocError>
-    ensures line { OnOk result (string_bytes text.new ≡ string_bytes text.old ++ codes "(missing)") }
-    ensures note { IfOk result (λ note. note ≡ Missing name.now) }
-{
-    text.push_str("(missing)")?;
-    let name = Text::from_str(alloc, name)?;
-    Ok(Note::Missing(name))
 }
 
 fn push_value(alloc: Global, text: &mut String, value: &[Node<'_>]) -> Result<(), AllocError>

@@ -1,6 +1,7 @@
 use Rattle.std.proofs.Common.{ℕ, List, ◌++◌, map, string_bytes, ap, ◌∙◌, arith}
 use Rattle.std.proofs.lemmas.Str.{encode_ascii}
 use Rattle.bz_tree.specs.View.{view}
+use Rattle.bz_attribute.specs.declared.done.Note.TheVariants.{Missing}
 use Rattle.bz_command.specs.CommandViews.{field_view}
 use Rattle.bz_attribute.specs.RuleViews.{rule_view}
 use Rattle.bz_attribute_commands.proofs.Printed.{first_word, next_word, first_missing, next_missing}
@@ -19,7 +20,7 @@ loop-field-preserved c = record {
       (c.in_ok-push.ensures.bytes ∙ ap (λ (w : List ℕ). string_bytes c.loop-field.line ++ w) (encode_ascii 32 (omega arith))) c.in_ok-other.ensures.line
       ∙ c.loop-field.invariant.line;
   missing =
-      next_missing field_view c.args.others.now c.field-item.result c.loop-field.field-index _ _ _ c.args.home.now (view c.args.stmt.now) (rule_view c.args.rule)
+      next_missing field_view (λ name. Missing name.now) c.args.others.now c.field-item.result c.loop-field.field-index _ _ _ c.args.home.now (view c.args.stmt.now) (rule_view c.args.rule)
       c.loop-field-test.true c.field-item.is c.or-missing.ensures c.in_ok-other.ensures.missing
       ∙ c.loop-field.invariant.missing;
 }
