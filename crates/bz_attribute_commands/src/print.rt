@@ -164,10 +164,9 @@ fn push_value(alloc: Global, text: &mut String, value: &[Node<'_>]) -> Result<()
     ensures { OnOk result (string_bytes text.new ≡ string_bytes text.old ++ spec.value_text (nodes_view value.now)) }
 {
     match read_string(alloc, value)? {
-        Some(word) => push_word(alloc, text, word.as_str())?,
-        None => push_list(alloc, text, value)?,
+        Some(word) => push_word(alloc, text, word.as_str()),
+        None => push_list(alloc, text, value),
     }
-    Ok(())
 }
 
 fn read_string(alloc: Global, nodes: &[Node<'_>]) -> Result<Option<String>, AllocError>
@@ -184,18 +183,13 @@ fn read_string(alloc: Global, nodes: &[Node<'_>]) -> Result<Option<String>, Allo
 fn push_list(alloc: Global, text: &mut String, value: &[Node<'_>]) -> Result<(), AllocError>
     ensures { OnOk result (string_bytes text.new ≡ string_bytes text.old ++ spec.list_text (nodes_view value.now)) }
 {
-    match words_in(value) {
-        Some(elements) => {
-            text.push('[')?;
-            push_elements(alloc, text, elements)?;
-            text.push(']')?;
-        }
-        None => {
-            let line = flat(alloc, value, Some(GroupKind::RuleCall))?;
-            text.push_str(line.as_str())?;
-        }
-    }
-    Ok(())
+    let Some(elements) = words_in(value) else {
+        let line = flat(alloc, value, Some(GroupKind::RuleCall))?;
+        return text.push_str(line.as_str());
+    };
+    text.push('[')?;
+    push_elements(alloc, text, elements)?;
+    text.push(']')
 }
 
 // The elements of what is one list of strings with values.
@@ -255,12 +249,10 @@ fn push_word(alloc: Global, text: &mut String, word: &str) -> Result<(), AllocEr
     ensures { OnOk result (string_bytes text.new ≡ string_bytes text.old ++ spec.word_form word.now) }
 {
     if is_plain(word.as_bytes()) {
-        text.push_str(word)?;
-        return Ok(());
+        return text.push_str(word);
     }
     let literal = quote(alloc, word)?;
-    text.push_str(literal.as_str())?;
-    Ok(())
+    text.push_str(literal.as_str())
 }
 
 fn is_plain(word: &[u8]) -> bool
@@ -281,6 +273,5 @@ fn push_number(alloc: Global, text: &mut String, number: u64) -> Result<(), Allo
     ensures { OnOk result (string_bytes text.new ≡ string_bytes text.old ++ decimal number) }
 {
     let digits = number.to_string(alloc)?;
-    text.push_str(digits.as_str())?;
-    Ok(())
+    text.push_str(digits.as_str())
 }

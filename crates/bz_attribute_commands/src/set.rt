@@ -47,12 +47,10 @@ pub fn set(
         → IsOk result }
     ensures err { OnErr result (segs_view args.new.items ≡ segs_view args.old.items) }
 {
-    let Some(i) = find(args, attr) else {
-        add_argument(alloc, attr, words, args)?;
-        return Ok(Done::quiet(true));
-    };
-    let done = set_in(alloc, attr, words, &mut args[i])?;
-    Ok(done)
+    match find(args, attr) {
+        None => add_argument(alloc, attr, words, args),
+        Some(i) => set_in(alloc, attr, words, &mut args[i]),
+    }
 }
 
 /// Adds an argument where there is none of the name, and else succeeds. An `Err` leaves all as it was.
@@ -72,8 +70,7 @@ pub fn set_if_absent(
     if find(args, attr).is_some() {
         return Ok(Done::quiet(false));
     }
-    add_argument(alloc, attr, words, args)?;
-    Ok(Done::quiet(true))
+    add_argument(alloc, attr, words, args)
 }
 
 fn add_argument(
@@ -81,15 +78,16 @@ fn add_argument(
     attr: &str,
     words: &[Text],
     args: &mut Vec<Seg<'_>>,
-) -> Result<(), AllocError>
+) -> Result<Done, AllocError>
     ensures args { OnOk result
         (segs_view args.new.items ≡ segs_view args.old.items
         ++ effects.argument attr.now (spec.new_value (spec.new_of attr.now words.now None)) ∷ []) }
+    ensures done { IfOk result (λ done. done ≡ effects.done None true) }
     ensures err { OnErr result (segs_view args.new.items ≡ segs_view args.old.items) }
 {
     let value = new_node(alloc, new_of(attr, words, &[]))?;
     args.push(argument(alloc, attr, value)?)?;
-    Ok(())
+    Ok(Done::quiet(true))
 }
 
 fn set_in(alloc: Global, attr: &str, words: &[Text], arg: &mut Seg<'_>) -> Result<Done, AllocError>

@@ -27,10 +27,7 @@ pub fn set_kind(alloc: Global, kind: &str, slot: &mut Option<Stmt<'_>>) -> Resul
 {
     match slot {
         None => Ok(Done::quiet(false)),
-        Some(stmt) => {
-            let done = in_nodes(alloc, kind, &mut stmt.nodes)?;
-            Ok(done)
-        }
+        Some(stmt) => in_nodes(alloc, kind, &mut stmt.nodes),
     }
 }
 
