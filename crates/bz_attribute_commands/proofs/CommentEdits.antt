@@ -7,10 +7,9 @@ use Rattle.bz_tree.specs.declared.stmt.Node.{Node}
 use Rattle.bz_tree.specs.declared.stmt.Seg.{Seg}
 use Rattle.bz_tree.specs.Tree.{Item, Segment}
 use Rattle.bz_tree.specs.View.{node_view, nodes_view, seg_view, segs_view}
-use Rattle.bz_attribute.specs.Rules.{elements, is_named}
+use Rattle.bz_attribute.specs.Rules.{elements}
 use Rattle.bz_attribute.specs.Lists.{edit_list, is_part, is_joint, parts_from, parts}
 use Rattle.bz_attribute.specs.Effects.{edit_first}
-use Rattle.bz_attribute.specs.private.Places.{IsFirst}
 use Rattle.bz_attribute.specs.Commenting.{is_blank, trimmed, edit_element, edit_element_from}
 use Rattle.bz_attribute_commands.specs.private.CommentPlaces.{IsFirstOf, IsNowhere, IsPartWith, ends_blank}
 use Rattle.bz_attribute.proofs.First.{has_one, has_none, put_first, edit_first_none}
@@ -95,8 +94,3 @@ part_with p ns i start n joints h before told at has =
           let next : drop (suc i) ns ≡ drop (i + 1) ns = ap (λ (k : ℕ). drop k ns) (sym (add-one i)) in
           made ∙ ap (λ (zs : List Node). nodes_view (take i ns) ++ node_view m ∷ nodes_view zs) next ∙ ap (λ (z : Item). nodes_view (take i ns) ++ z ∷ nodes_view (drop (i + 1) ns)) edited ∙ ap (λ (zs : List Item). nodes_view (take i ns) ++ zs) (sym step ∙ ap (edit_element_from p f start) (sym (rest d))) ∙ before.one f ∙ sym whole;
     }
-
--- the first argument of a name edited, where there is no note
-pub in_first : (name : List ℕ) (args : List Seg) (i : ℕ) (g : Segment → Segment) (b : Bool) (s d : Seg) → IsFirst name args i → seg_view s ≡ (if b then seg_view (get_or args i d) else g (seg_view (get_or args i d))) → segs_view (set args i s) ≡ (if b then segs_view args else edit_first (is_named name) (λ a. g a ∷ []) (segs_view args))
-in_first name args i g true s d first made = first.same s d made
-in_first name args i g false s d first made = first.put (λ a. g a ∷ []) s d (ap (λ (z : Segment). z ∷ []) (sym made))

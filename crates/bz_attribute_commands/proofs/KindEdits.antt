@@ -1,13 +1,11 @@
 -- The kind of a rule, set.
-use Rattle.std.proofs.Common.{◌≡◌, ℕ, ◌-◌, ◌<◌, ◌==◌, List, [], ◌∷◌, ◌++◌, false, Option, None, Some, length, drop, refl, ap, sym, ◌∙◌, arith, append_assoc, length-append}
+use Rattle.std.proofs.Common.{◌≡◌, ℕ, ◌-◌, ◌<◌, ◌==◌, List, [], ◌∷◌, ◌++◌, false, Some, length, drop, refl, ap, sym, ◌∙◌, arith, append_assoc, length-append}
 use Rattle.std.specs.Prelude.{bytes_eq}
 use Rattle.std.specs.List.{slice_split}
 use Rattle.bz_tree.specs.declared.stmt.GroupKind.TheVariants.{RuleCall}
-use Rattle.bz_tree.specs.Tree.{Item, group, Statement, segs_of}
+use Rattle.bz_tree.specs.Tree.{Item, group, segs_of}
 use Rattle.bz_attribute.specs.Rules.{Rule, rule_of, kind_text}
-use Rattle.bz_attribute.specs.Effects.{fails}
-use Rattle.bz_attribute.specs.Applied.{sets_kind_of}
-use Rattle.bz_attribute.specs.Setting.{joined_by_dots, ident_item, dot_item, kind_items, kind_after, sets_kind}
+use Rattle.bz_attribute.specs.Setting.{joined_by_dots, ident_item, dot_item, kind_items, kind_after}
 use Rattle.bz_command.proofs.Cuts.{some_part}
 use Rattle.bz_attribute.proofs.Stays.{rule_nodes}
 
@@ -40,12 +38,3 @@ kind_put kind nodes r is differs =
     let last : drop (length nodes - 1) nodes ≡ group RuleCall (segs_of r.args) r.one_comma r.end ∷ [] =
     ap (λ (ns : List Item). drop (length ns - 1) ns) whole ∙ last_one r.kind (group RuleCall (segs_of r.args) r.one_comma r.end) in
     rw (last, is, differs) refl
-
-rule_never_fails : (kind : List ℕ) (r : Option Rule) → fails (sets_kind kind r).note ≡ false
-rule_never_fails kind None = refl
-rule_never_fails kind (Some r) = refl
-
--- it never fails
-pub kind_never_fails : (kind : List ℕ) (slot : Option Statement) → fails (sets_kind_of kind slot).note ≡ false
-kind_never_fails kind None = refl
-kind_never_fails kind (Some s) = rule_never_fails kind (rule_of s.nodes)

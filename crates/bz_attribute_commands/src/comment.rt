@@ -243,11 +243,7 @@ fn comment_first(
 }
 
 // Adds the comment line of a text. An `Err` leaves the lines as they were.
-fn push_line(
-    alloc: Global,
-    text: &str,
-    lines: &mut Vec<CowStr<'_>>,
-) -> Result<(), AllocError>
+fn push_line(alloc: Global, text: &str, lines: &mut Vec<CowStr<'_>>) -> Result<(), AllocError>
     ensures ok { OnOk result (texts lines.new.items ≡ texts lines.old.items ++ spec.comment_line text.now ∷ []) }
     ensures err { OnErr result (texts lines.new.items ≡ texts lines.old.items) }
 {
