@@ -17,7 +17,7 @@ use crate::fault::{no_attribute, no_value, not_a_list};
 use bz_attribute::done::Done;
 use bz_attribute::equals::equals;
 use bz_attribute::find::{call_at, find};
-use bz_attribute::lists::{are_joints, first_part, is_part};
+use bz_attribute::lists::{are_joints, elements_at, first_part, is_part};
 use bz_attribute::rule::is_sign;
 use bz_command::{Commented, Package};
 use bz_tree::{Node, Seg, Stmt};
@@ -162,21 +162,12 @@ fn part_with(home: &Package, value: &str, nodes: &[Node<'_>]) -> Option<usize>
     }
     let mut start = true;
     for i in 0..nodes.len() {
-        if is_part(start, nodes, i) && has_equal(home, value, &nodes[i]) {
+        if is_part(start, nodes, i) && find_equal(home, value, elements_at(&nodes[i])).is_some() {
             return Some(i);
         }
         start = is_sign(&nodes[i], "+");
     }
     None
-}
-
-fn has_equal(home: &Package, value: &str, node: &Node<'_>) -> bool
-    ensures { result ≡ list_any (equals home.now value.now) (elements (node_view node.now)) }
-{
-    match node {
-        Node::Token(_) => false,
-        Node::Group(group) => find_equal(home, value, &group.segs).is_some(),
-    }
 }
 
 // Where the first element that equals the value stands.

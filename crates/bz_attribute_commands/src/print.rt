@@ -176,8 +176,7 @@ fn read_string(alloc: Global, nodes: &[Node<'_>]) -> Result<Option<String>, Allo
     let Some(literal) = only_text(nodes) else {
         return Ok(None);
     };
-    let value = read_value(alloc, literal)?;
-    Ok(value)
+    read_value(alloc, literal)
 }
 
 fn push_list(alloc: Global, text: &mut String, value: &[Node<'_>]) -> Result<(), AllocError>

@@ -102,19 +102,11 @@ fn set_in(alloc: Global, attr: &str, words: &[Text], arg: &mut Seg<'_>) -> Resul
     if is_value(new, value_of(arg)) {
         return Ok(Done::quiet(false));
     }
-    put_value(arg, new_node(alloc, new)?)?;
-    Ok(Done::quiet(true))
-}
-
-// Puts a value in place of the one after a name and its sign. An `Err` leaves the argument as it was.
-fn put_value<'a>(arg: &mut Seg<'a>, value: Node<'a>) -> Result<(), AllocError>
-    ensures arg { OnOk result (seg_view arg.new ≡ with_value (node_view value.entry ∷ []) (seg_view arg.old)) }
-    ensures err { OnErr result (seg_view arg.new ≡ seg_view arg.old) }
-{
+    let value = new_node(alloc, new)?;
     arg.nodes.reserve(1)?;
     arg.nodes.truncate(2);
     arg.nodes.push_reserved(value);
-    Ok(())
+    Ok(Done::quiet(true))
 }
 
 // What the words stand for, where `was` is the value that is there, if any.

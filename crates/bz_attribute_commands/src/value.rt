@@ -6,7 +6,7 @@ ghost use Rattle.bz_attribute.specs.Rules.{value};
 ghost use Rattle.bz_attribute.specs.Printing.{first_elements};
 ghost use Rattle.bz_attribute.specs.Setting.{is_one_list};
 
-use bz_attribute::lists::is_list;
+use bz_attribute::lists::{elements_at, is_list};
 use bz_tree::{Node, Seg};
 
 /// The nodes of the value of a named argument.
@@ -31,8 +31,5 @@ pub(crate) fn one_list<'n, 'a>(value: &'n [Node<'a>]) -> Option<&'n [Seg<'a>]>
     if !is_list(node) {
         return None;
     }
-    match node {
-        Node::Token(_) => None,
-        Node::Group(group) => Some(&group.segs),
-    }
+    Some(elements_at(node))
 }
