@@ -1,5 +1,5 @@
 -- Sums over lists that are joined, and the count of a segment's owned texts by its parts.
-use Rattle.std.proofs.Common.{◌≡◌, ℕ, ◌+◌, ◌≤◌, List, [], ◌∷◌, ◌++◌, map, Option, Some, arith, rules, ap, ◌∙◌}
+use Rattle.std.proofs.Common.{◌≡◌, ℕ, ◌+◌, ◌≤◌, ◌<◌, List, [], ◌∷◌, ◌++◌, length, map, slice_index_or, Option, Some, arith, rules, ap, ◌∙◌}
 use Rattle.std.specs.Option.{option_to_list}
 use Rattle.bz_tree.specs.declared.stmt.Node.{the_lemmas}
 use Rattle.bz_tree.specs.declared.stmt.Seg.{Seg}
@@ -38,8 +38,6 @@ seg_at_most s n h = omega (arith, owned_seg s, h)
 pub seg_push : (ss : List Seg) (s : Seg) → segs_owned (ss ++ s ∷ []) ≡ segs_owned ss + (owned_in s.before.items + nodes_owned s.nodes.items + owned_of s.suffix)
 seg_push ss s = owned_push seg_owned ss s ∙ ap (λ n. segs_owned ss + n) (owned_seg s)
 
-pub owned_first : {A : Type 0} → (f : A → ℕ) (xs ys : List A) (o : Option A) (x : A) → xs ≡ option_to_list o ++ ys → o ≡ Some x → f x ≤ total (map f xs)
-owned_first f xs ys o x e s =
-    let all = ap (λ l. total (map f l)) e in
-    let first = ap (λ p. total (map f (option_to_list p ++ ys))) s in
-    omega (arith, all, first)
+pub owned_first : {A : Type 0} → (f : A → ℕ) (xs : List A) (x : A) → 0 < length xs → x ≡ slice_index_or xs 0 x → f x ≤ total (map f xs)
+owned_first f [] x some e = omega (arith, some)
+owned_first f (y ∷ ys) x some e = let first : f x ≡ f y = ap f e in omega (arith, first)

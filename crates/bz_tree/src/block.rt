@@ -1,6 +1,7 @@
 //! Blocks: statements that begin with `def`, `for` or `if`, kept as they were written.
 
-ghost use Rattle.std.specs.Prelude.{◌≡◌, ◌<◌, ◌^◌, IfOk, false, map, option_map, reverse};
+ghost use Rattle.std.specs.Prelude.{◌≡◌, ◌<◌, ◌^◌, IfOk, false, map, reverse};
+ghost use Rattle.std.specs.Bool.{then_some};
 ghost use Rattle.bz_token.specs.Places.{placed};
 ghost use Rattle.bz_tree.specs.View.{texts};
 ghost use Rattle.bz_tree.specs.Kinds.{mark_of};
@@ -38,34 +39,38 @@ pub(crate) struct Indents {
     pub(crate) inside: bool,
 }
 
-fn popped(columns: Vec<u64>, column: u64) -> Result<Option<Vec<u64>>, AllocError>
-    ensures { IfOk result (λ o. option_map (λ v. reverse v.items) o ≡ popped column (reverse columns.items)) }
+// False: no line that is open stands in this column.
+fn popped(columns: &mut Vec<u64>, column: u64) -> Result<bool, AllocError>
+    ensures { IfOk result (λ some. then_some some (reverse columns.new.items)
+        ≡ popped column (reverse columns.old.items)) }
 {
-    let mut columns = columns;
     while let Some(last) = columns.pop() {
         if last == column {
             columns.push(last)?;
-            return Ok(Some(columns));
+            return Ok(true);
         }
     }
-    Ok(None)
+    Ok(false)
 }
 
-fn pushed(columns: Vec<u64>, column: u64) -> Result<Option<Vec<u64>>, AllocError>
-    ensures { IfOk result (λ o. option_map (λ v. reverse v.items) o ≡ pushed column (reverse columns.items)) }
+// False: the column is not to the right of the line above.
+fn pushed(columns: &mut Vec<u64>, column: u64) -> Result<bool, AllocError>
+    ensures { IfOk result (λ some. then_some some (reverse columns.new.items)
+        ≡ pushed column (reverse columns.old.items)) }
 {
-    let mut columns = columns;
     if let Some(last) = columns.last() {
         if *last >= column {
-            return Ok(None);
+            return Ok(false);
         }
     }
     columns.push(column)?;
-    Ok(Some(columns))
+    Ok(true)
 }
 
-fn indented(opens: bool, column: u64, columns: Vec<u64>) -> Result<Option<Vec<u64>>, AllocError>
-    ensures { IfOk result (λ o. option_map (λ v. reverse v.items) o ≡ indented opens column (reverse columns.items)) }
+// False: a line is indented wrongly.
+fn indented(opens: bool, column: u64, columns: &mut Vec<u64>) -> Result<bool, AllocError>
+    ensures { IfOk result (λ some. then_some some (reverse columns.new.items)
+        ≡ indented opens column (reverse columns.old.items)) }
 {
     if opens {
         pushed(columns, column)
@@ -74,39 +79,29 @@ fn indented(opens: bool, column: u64, columns: Vec<u64>) -> Result<Option<Vec<u6
     }
 }
 
-fn next_counted(lines: Indents, token: &Token<'_>) -> Result<Option<Indents>, AllocError>
-    ensures { IfOk result
-        (λ o. option_map lines_view o ≡ next_counted lines.inside (placed token.now) (lines_view lines)) }
+fn next_counted(lines: &mut Indents, token: &Token<'_>) -> Result<bool, AllocError>
+    ensures { IfOk result (λ some. then_some some (lines_view lines.new)
+        ≡ next_counted lines.old.inside (placed token.now) (lines_view lines.old)) }
 {
-    let opens = is_colon(token);
-    let columns = if lines.inside {
-        Some(lines.columns)
-    } else {
-        indented(lines.opens, token.col, lines.columns)?
-    };
-    match columns {
-        None => Ok(None),
-        Some(columns) => Ok(Some(Indents {
-            columns,
-            opens,
-            inside: true,
-        })),
+    if !lines.inside && !indented(lines.opens, token.col, &mut lines.columns)? {
+        return Ok(false);
     }
+    lines.opens = is_colon(token);
+    lines.inside = true;
+    Ok(true)
 }
 
-// The lines after a token. None: it is indented wrongly.
-fn next_indent(lines: Indents, token: &Token<'_>) -> Result<Option<Indents>, AllocError>
-    ensures { IfOk result
-        (λ o. option_map lines_view o
-        ≡ next_indent (mark_of (placed token.now)) (placed token.now) (lines_view lines)) }
+// The lines after a token. False: it is indented wrongly.
+fn next_indent(lines: &mut Indents, token: &Token<'_>) -> Result<bool, AllocError>
+    ensures { IfOk result (λ some. then_some some (lines_view lines.new)
+        ≡ next_indent (mark_of (placed token.now)) (placed token.now) (lines_view lines.old)) }
 {
     match mark_of(token) {
-        Mark::NewLine => Ok(Some(Indents {
-            columns: lines.columns,
-            opens: lines.opens,
-            inside: false,
-        })),
-        Mark::Comment => Ok(Some(lines)),
+        Mark::NewLine => {
+            lines.inside = false;
+            Ok(true)
+        }
+        Mark::Comment => Ok(true),
         _ => next_counted(lines, token),
     }
 }
@@ -128,9 +123,8 @@ fn indent_walk(alloc: Global, tokens: &[Token<'_>]) -> Result<Option<u64>, Alloc
 {
     let mut lines = first_lines(alloc)?;
     for token in tokens {
-        match next_indent(lines, token)? {
-            None => return Ok(Some(token.line)),
-            Some(next) => lines = next,
+        if !next_indent(&mut lines, token)? {
+            return Ok(Some(token.line));
         }
     }
     Ok(None)

@@ -157,8 +157,7 @@ impl<'a> Frame<'a> {
         ensures borrowed { OnOk result (frame_owned self.new ≤ frame_owned self.old) }
     {
         self.walk
-            .add_comment(token.line, CowStr::Borrowed(token.text))?;
-        Ok(())
+            .add_comment(token.line, CowStr::Borrowed(token.text))
     }
 
     #[inline(always)]
@@ -192,16 +191,16 @@ impl<'a> State<'a> {
             ≡ next_at (Close shape) (placed token.now) (level self.old.top) (levels self.old.outer.items)) }
         ensures borrowed { OnOk result (state_owned self.new ≤ state_owned self.old) }
     {
-        let Some(below) = self.outer.pop() else {
-            return Ok(false);
-        };
-        let Frame { kind, walk, .. } = mem::replace(&mut self.top, below);
-        let Some(kind) = kind else {
+        let Some(kind) = self.top.kind else {
             return Ok(false);
         };
         if !same_shape(shape_of(kind), shape) {
             return Ok(false);
         }
+        let Some(below) = self.outer.pop() else {
+            return Ok(false);
+        };
+        let Frame { walk, .. } = mem::replace(&mut self.top, below);
         let Some(group) = closed(kind, walk)? else {
             return Ok(false);
         };
@@ -240,17 +239,18 @@ fn one_segment<'a>(alloc: Global, content: Content<'a>) -> Result<Seg<'a>, Alloc
     ensures borrowed { IfOk result (λ s. seg_owned s ≤ content_owned content.entry) }
 {
     let Content {
-        segs,
+        mut segs,
         trailing: _,
         mut end,
     } = content;
-    let Some(mut seg) = segs.into_iter().next() else {
+    if segs.is_empty() {
         return Ok(Seg {
             before: end,
             nodes: Vec::new(alloc),
             suffix: None,
         });
-    };
+    }
+    let mut seg = segs.remove(0);
     seg.before.append(&mut end)?;
     Ok(seg)
 }
