@@ -177,6 +177,16 @@ pub value_same : (v : List ℕ) (b : ℕ) (o : Option (List ℕ)) → 0 < length
 value_same [] b o some e = absurd (omega arith)
 value_same (c ∷ v) b o some e = ap (λ (w : List ℕ). is_value w o) (take_rest (c ∷ v) 1) ∙ sym (value_more v c b o ∙ rw (eq-eqb c b e) refl)
 
+pub value_differs : (v : List ℕ) (b : ℕ) (o : Option (List ℕ)) → (slice_index_or v 0 0 ≡ b → ⊥) → is_value v (and_then (Some b) o) ≡ false
+value_differs [] b None e = refl
+value_differs [] b (Some w) e = refl
+value_differs (c ∷ v) b o e = value_more v c b o ∙ rw (ne_eqb c b e) refl
+
+pub value_none : (v : List ℕ) (b : ℕ) (o : Option (List ℕ)) → length v ≡ 0 → is_value v (and_then (Some b) o) ≡ false
+value_none [] b None e = refl
+value_none [] b (Some w) e = refl
+value_none (c ∷ v) b o e = absurd (omega arith)
+
 pub is_value-iff : (v : List ℕ) (o : Option (List ℕ)) → (is_value v o ≡ true → o ≡ Some v) × (o ≡ Some v → is_value v o ≡ true)
 is_value-iff v None = ((λ h. cc), (λ h. cc))
 is_value-iff v (Some w) = ((λ h. ap (λ (x : List ℕ). Some x) (sym ((bytes_eq-Decides v w).0 h))), (λ h. (bytes_eq-Decides v w).1 (cc)))

@@ -63,10 +63,13 @@ fn inner_is(literal: Literal<'_>, value: &[u8]) -> bool
     let mut inner = literal;
     let mut left = value;
     while let Some((byte, after)) = next_in(inner) {
-        match left {
-            [first, rest @ ..] if *first == byte => left = rest,
-            _ => return false,
+        let [first, rest @ ..] = left else {
+            return false;
+        };
+        if *first != byte {
+            return false;
         }
+        left = rest;
         inner = after;
     }
     is_at_end(inner) && left.len() == 0
