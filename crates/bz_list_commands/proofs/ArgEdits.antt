@@ -9,8 +9,10 @@ use Rattle.bz_tree.specs.View.{seg_view, segs_view}
 use Rattle.bz_tree.specs.Tree.{Segment}
 use Rattle.bz_attribute.specs.Rules.{value}
 use Rattle.bz_attribute.specs.Lists.{is_attribute}
-use Rattle.bz_attribute.specs.Effects.{filtered, filtered_everywhere, loses_all}
-use Rattle.bz_list_commands.specs.private.EditSteps.{is_lost, edit_attribute}
+use Rattle.bz_command.specs.Labels.{Package}
+use Rattle.bz_command.specs.Commands.{Attributes, Every, Named}
+use Rattle.bz_attribute.specs.Effects.{filtered, filtered_everywhere, loses_all, remove, removes}
+use Rattle.bz_list_commands.specs.private.EditSteps.{edit_attribute, goes, is_lost}
 
 -- one on: y stands where its like stood
 map_step : (e : Segment → Segment) (xs : List Segment) (i : ℕ) (y d : Segment) → i < length xs → y ≡ e (get_or xs i d) → take (i + 1) (set xs i y) ++ map e (drop (i + 1) (set xs i y)) ≡ take i xs ++ map e (drop i xs)
@@ -65,3 +67,12 @@ fewer_left p [] = refl
 fewer_left p (s ∷ ss) =
     elim (p s) as (λ b. nat_lt (length (cond (not b) (s ∷ filter (λ s. not (p s)) ss) (filter (λ s. not (p s)) ss))) (length (s ∷ ss)) ≡ (b || list_any p ss))
     [ true ↦ fewer (length (filter (λ s. not (p s)) ss)) (length ss) (no_longer p ss) | false ↦ both_more (length (filter (λ s. not (p s)) ss)) (length ss) ∙ fewer_left p ss ]
+
+-- `remove` without values
+pub whole_removed : (home : Package) (attributes : Attributes) (args : List Segment) → filter (λ s. not (goes attributes s)) args ≡ remove home attributes [] args
+whole_removed home Every args = refl
+whole_removed home (Named attr) args = refl
+
+pub removes_whole : (home : Package) (attributes : Attributes) (args : List Segment) → list_any (goes attributes) args ≡ removes home attributes [] args
+removes_whole home Every args = refl
+removes_whole home (Named attr) args = refl

@@ -1,7 +1,9 @@
 -- Elements that arrive in a list one by one, and two arguments of different names that are edited.
-use Rattle.std.proofs.Common.{◌≡◌, ℕ, ◌+◌, ◌<◌, ◌≤◌, List, [], ◌∷◌, ◌++◌, Bool, true, false, ◌||◌, Option, None, Some, length, get_or, set, take, drop, refl, ap, sym, ◌∙◌, arith, append_assoc, if◌then◌else◌, inl, inr, bytes_eq}
+use Rattle.std.proofs.Common.{◌≡◌, ℕ, suc, nat_lt, cond, filter, ◌+◌, ◌<◌, ◌≤◌, List, [], ◌∷◌, ◌++◌, Bool, true, false, ◌||◌, Option, None, Some, length, get_or, set, take, drop, refl, ap, sym, ◌∙◌, arith, append_assoc, if◌then◌else◌, inl, inr, bytes_eq}
 use Rattle.std.specs.List.{SwappedAt, list_any, list_all}
 use Rattle.std.proofs.lemmas.Bool.{cases_Bool}
+use Rattle.std.proofs.lemmas.Bool.Decides.{nat_tests}
+use Rattle.std.proofs.lemmas.Slice.Eq.{bytes_eq-Decides}
 use Rattle.std.proofs.lemmas.List.{drop_more, drop_all, map-append, append-nil}
 use Rattle.std.proofs.lemmas.List.Folds.{list_any-append}
 use Rattle.bz_token.proofs.Classes.{same_bytes}
@@ -12,11 +14,12 @@ use Rattle.bz_command.specs.Labels.{Package}
 use Rattle.bz_command.specs.Commands.{Moved, Values}
 use Rattle.bz_attribute.specs.Rules.{elements, is_named, is_text, name_of, first_named, string_value, value}
 use Rattle.bz_attribute.specs.Lists.{with_value, parts, parts_from, is_part, is_plus, is_joint, edit_list, edit_one_from, edit_first_part, edit_parts, equals}
-use Rattle.bz_attribute.specs.Effects.{has, edit_first, filtered, unchosen, is_chosen, loses_all, argument, list_item}
+use Rattle.bz_attribute.specs.Effects.{has, chooses_in, edit_first, filtered, unchosen, is_chosen, loses_all, argument, list_item}
 use Rattle.bz_attribute.specs.private.ChosenViews.{words_of}
-use Rattle.bz_attribute.specs.private.Places.{IsFirst}
+use Rattle.bz_attribute.specs.private.Places.{IsFirst, first_length, first_list}
 use Rattle.bz_attribute.specs.Moving.{arrivals, chosen_of, elements_of, is_among, joined, moved}
 use Rattle.bz_attribute.proofs.LabelSets.{or_false}
+use Rattle.bz_list_commands.specs.private.MovingSteps.{value_of, with_list}
 use Rattle.bz_list_commands.proofs.Leaving.{swapped_front, swapped_rest}
 
 pub any-joined : (p : Segment → Bool) (lists : List (List Segment)) → list_any p (joined lists) ≡ list_any (list_any p) lists
@@ -105,14 +108,14 @@ kept_first old new f a rest other is =
     elim (loses_all f (value a)) as (λ b. first_named new ((if b then [] else with_value (edit_parts f (value a)) a ∷ []) ++ rest) ≡ first_named new rest)
     [ true ↦ refl | false ↦ rw name refl ]
 
-pub has_still : (old new : List ℕ) (f : List Segment → List Segment) (args : List Segment) → bytes_eq old new ≡ false → has new (edit_first (is_named old) (filtered f) args) ≡ has new args
+has_still : (old new : List ℕ) (f : List Segment → List Segment) (args : List Segment) → bytes_eq old new ≡ false → has new (edit_first (is_named old) (filtered f) args) ≡ has new args
 has_still old new f [] other = refl
 has_still old new f (a ∷ args) other = elim (cases_Bool (is_named old a)) [
   | inl is ↦ rw (is, text_of_one old new (name_of a.nodes) other is) (kept_has old new f a args other is)
   | inr differs ↦ rw differs (ap (λ (b : Bool). is_named new a || b) (has_still old new f args other))
 ]
 
-pub first_still : (old new : List ℕ) (f : List Segment → List Segment) (args : List Segment) → bytes_eq old new ≡ false → first_named new (edit_first (is_named old) (filtered f) args) ≡ first_named new args
+first_still : (old new : List ℕ) (f : List Segment → List Segment) (args : List Segment) → bytes_eq old new ≡ false → first_named new (edit_first (is_named old) (filtered f) args) ≡ first_named new args
 first_still old new f [] other = refl
 first_still old new f (a ∷ args) other = elim (cases_Bool (is_named old a)) [
   | inl is ↦ rw (is, text_of_one old new (name_of a.nodes) other is) (kept_first old new f a args other is)
@@ -126,7 +129,7 @@ none_first name (a ∷ args) h =
     [ true ↦ λ k. absurd cc | false ↦ λ k. none_first name args k ] h
 
 -- the elements that left arrive in a list that is there
-pub moved_to_list : (home : Package) (old new : List ℕ) (chosen : Moved) (args left now ts : List Segment) → bytes_eq old new ≡ false → has new args ≡ true
+moved_to_list : (home : Package) (old new : List ℕ) (chosen : Moved) (args left now ts : List Segment) → bytes_eq old new ≡ false → has new args ≡ true
     → left ≡ edit_first (is_named old) (filtered (unchosen home chosen)) args → ts ≡ chosen_of home chosen (first_named old args)
     → now ≡ edit_first (is_named new) (λ a. with_value (edit_first_part (λ there. there ++ arrivals home (elements_of (first_named new left)) ts) (value a)) a ∷ []) left
     → now ≡ moved home old new chosen args
@@ -138,7 +141,7 @@ moved_to_list home old new chosen args left now ts other there is took made =
     ∙ rw has_new refl
 
 -- or in a new attribute
-pub moved_to_new : (home : Package) (old new : List ℕ) (chosen : Moved) (args left now ts : List Segment) → bytes_eq old new ≡ false → has new args ≡ false
+moved_to_new : (home : Package) (old new : List ℕ) (chosen : Moved) (args left now ts : List Segment) → bytes_eq old new ≡ false → has new args ≡ false
     → left ≡ edit_first (is_named old) (filtered (unchosen home chosen)) args → ts ≡ chosen_of home chosen (first_named old args)
     → now ≡ left ++ argument new (list_item (arrivals home [] ts) ∷ []) ∷ []
     → now ≡ moved home old new chosen args
@@ -166,13 +169,102 @@ like_there home lists ys None = ap (λ (b : Bool). b || list_any (is_chosen home
 like_there home lists ys (Some word) =
     (λ j. list_any (list_any (λ (s : Segment). or_false (equals home word s) j)) lists || list_any (λ (s : Segment). or_false (equals home word s) j) ys) ∙ sym (any_there (equals home word) lists ys)
 
+-- an argument that comes to the end, and whose name is another
+first_before : (name : List ℕ) (args : List Segment) (x : Segment) → is_named name x ≡ false → first_named name (args ++ x ∷ []) ≡ first_named name args
+first_before name [] x h = rw h refl
+first_before name (a ∷ args) x h = ap (λ (o : Option Segment). if is_named name a then Some a else o) (first_before name args x h)
+
+edit_before : (p : Segment → Bool) (f : Segment → List Segment) (args : List Segment) (x : Segment) → p x ≡ false → edit_first p f (args ++ x ∷ []) ≡ edit_first p f args ++ x ∷ []
+edit_before p f [] x h = rw h refl
+edit_before p f (a ∷ args) x h =
+    elim (p a) as (λ b. (if b then f a ++ (args ++ x ∷ []) else a ∷ edit_first p f (args ++ x ∷ [])) ≡ (if b then f a ++ args else a ∷ edit_first p f args) ++ x ∷ [])
+    [ true ↦ sym (append_assoc (f a) args (x ∷ [])) | false ↦ ap (λ (ys : List Segment). a ∷ ys) (edit_before p f args x h) ]
+
+-- one that is the first of its name
+first_last : (name : List ℕ) (args : List Segment) (x : Segment) → has name args ≡ false → is_named name x ≡ true → first_named name (args ++ x ∷ []) ≡ Some x
+first_last name [] x h is = rw is refl
+first_last name (a ∷ args) x h is =
+    elim (is_named name a) as (λ b. b || has name args ≡ false → (if b then Some a else first_named name (args ++ x ∷ [])) ≡ Some x)
+    [ true ↦ λ k. absurd cc | false ↦ λ k. first_last name args x k is ] h
+
+edit_last : (p : Segment → Bool) (f : Segment → List Segment) (args : List Segment) (x : Segment) → list_any p args ≡ false → p x ≡ true → edit_first p f (args ++ x ∷ []) ≡ args ++ (f x ++ [])
+edit_last p f [] x h is = rw is refl
+edit_last p f (a ∷ args) x h is =
+    elim (p a) as (λ b. b || list_any p args ≡ false → (if b then f a ++ (args ++ x ∷ []) else a ∷ edit_first p f (args ++ x ∷ [])) ≡ a ∷ (args ++ (f x ++ [])))
+    [ true ↦ λ k. absurd cc | false ↦ λ k. ap (λ (ys : List Segment). a ∷ ys) (edit_last p f args x k is) ] h
+
+itself : (text : List ℕ) → bytes_eq text text ≡ true
+itself text = (bytes_eq-Decides text text).1 refl
+
+pub first_given : (old new : List ℕ) (args : List Segment) → bytes_eq old new ≡ false → first_named old (with_list new args) ≡ first_named old args
+first_given old new args other = elim (has new args) as (λ b. first_named old (if b then args else args ++ argument new (list_item [] ∷ []) ∷ []) ≡ first_named old args)
+    [ true ↦ refl | false ↦ first_before old args (argument new (list_item [] ∷ [])) other ]
+
+length_there : (o : Option Segment) → first_length o ≡ length (first_list (parts (value_of o)))
+length_there None = refl
+length_there (Some a) = refl
+
+-- the list that is there or given has as many elements as were there
+pub room_given : (old new : List ℕ) (f : List Segment → List Segment) (args : List Segment) → bytes_eq old new ≡ false
+    → first_length (first_named new (edit_first (is_named old) (filtered f) (with_list new args))) ≡ length (first_list (parts (value_of (first_named new args))))
+room_given old new f args other =
+    ap first_length (first_still old new f (with_list new args) other)
+    ∙ elim (cases_Bool (has new args)) [
+      | inl there ↦ rw there (length_there (first_named new args))
+      | inr absent ↦ rw (absent, none_first new args absent, first_last new args (argument new (list_item [] ∷ [])) absent (itself new)) refl
+    ]
+
+-- what leaves arrives in the list that is there or given
+pub moved_by : (home : Package) (old new : List ℕ) (chosen : Moved) (args given left now ts : List Segment) → bytes_eq old new ≡ false → given ≡ with_list new args
+    → left ≡ edit_first (is_named old) (filtered (unchosen home chosen)) given → ts ≡ chosen_of home chosen (first_named old given)
+    → now ≡ edit_first (is_named new) (λ a. with_value (edit_first_part (λ there. there ++ arrivals home (elements_of (first_named new left)) ts) (value a)) a ∷ []) left
+    → now ≡ moved home old new chosen args
+moved_by home old new chosen args given left now ts other gives is took made = elim (cases_Bool (has new args)) [
+  | inl there ↦
+      let same : given ≡ args = gives ∙ rw there refl in
+      moved_to_list home old new chosen args left now ts other there (is ∙ ap (edit_first (is_named old) (filtered (unchosen home chosen))) same) (took ∙ ap (λ (ss : List Segment). chosen_of home chosen (first_named old ss)) same) made
+  | inr absent ↦
+      let x : Segment = argument new (list_item [] ∷ []) in
+      let kept : List Segment = edit_first (is_named old) (filtered (unchosen home chosen)) args in
+      let more : given ≡ args ++ argument new (list_item [] ∷ []) ∷ [] = gives ∙ rw absent refl in
+      let left_is : left ≡ edit_first (is_named old) (filtered (unchosen home chosen)) args ++ argument new (list_item [] ∷ []) ∷ [] =
+      is ∙ ap (edit_first (is_named old) (filtered (unchosen home chosen))) more ∙ edit_before (is_named old) (filtered (unchosen home chosen)) args x other in
+      let took_of : ts ≡ chosen_of home chosen (first_named old args) =
+      took ∙ ap (λ (ss : List Segment). chosen_of home chosen (first_named old ss)) more ∙ ap (chosen_of home chosen) (first_before old args x other) in
+      let gone : has new (edit_first (is_named old) (filtered (unchosen home chosen)) args) ≡ false = has_still old new (unchosen home chosen) args other ∙ absent in
+      let first : first_named new left ≡ Some (argument new (list_item [] ∷ [])) = ap (first_named new) left_is ∙ first_last new kept x gone (itself new) in
+      moved_to_new home old new chosen args kept now ts other absent refl took_of
+      (made
+      ∙ (λ j. edit_first (is_named new) (λ a. with_value (edit_first_part (λ there. there ++ arrivals home (elements_of (first j)) ts) (value a)) a ∷ []) (left_is j))
+      ∙ edit_last (is_named new) (λ a. with_value (edit_first_part (λ there. there ++ arrivals home [] ts) (value a)) a ∷ []) kept x gone (itself new))
+]
+
+-- elements are chosen exactly where there are some to count
+some_more : (n : ℕ) → nat_lt 0 (suc n) ≡ true
+some_more n = grind (arith, nat_tests)
+
+any_filtered : (p : Segment → Bool) (ss : List Segment) → list_any p ss ≡ nat_lt 0 (length (filter p ss))
+any_filtered p [] = refl
+any_filtered p (s ∷ ss) = elim (p s) as (λ b. (b || list_any p ss) ≡ nat_lt 0 (length (cond b (s ∷ filter p ss) (filter p ss)))) [
+  | true ↦ sym (some_more (length (filter p ss)))
+  | false ↦ any_filtered p ss
+]
+
+pub chosen_counted : (home : Package) (chosen : Moved) (o : Option Segment) → chooses_in home chosen o ≡ nat_lt 0 (length (filter (is_chosen home chosen) (joined (parts (value_of o)))))
+chosen_counted home chosen None = refl
+chosen_counted home chosen (Some a) = sym (any-joined (is_chosen home chosen) (parts (value a))) ∙ any_filtered (is_chosen home chosen) (joined (parts (value a)))
+
+pub elements_there : (o : Option Segment) → joined (parts (value_of o)) ≡ elements_of o
+elements_there None = refl
+elements_there (Some a) = refl
+
 -- those that arrive are put into the first argument of the name
-pub arrived_in : (home : Package) (attr : List ℕ) (args : List Seg) (i : ℕ) (d e s : Seg) (es later : List Segment) → IsFirst attr args i
-    → later ≡ arrivals home (elements_of (Some (seg_view (get_or args i d)))) es
-    → seg_view s ≡ with_value (edit_first_part (λ there. there ++ later) (value (seg_view (get_or args i e)))) (seg_view (get_or args i e))
+pub arrived_in : (home : Package) (attr : List ℕ) (args : List Seg) (i : ℕ) (d s : Seg) (es later : List Segment) → IsFirst attr args i
+    → later ≡ arrivals home (joined (parts (value_of (first_named attr (segs_view args))))) es
+    → seg_view s ≡ with_value (edit_first_part (λ there. there ++ later) (value (seg_view (get_or args i d)))) (seg_view (get_or args i d))
     → segs_view (set args i s) ≡ edit_first (is_named attr) (λ a. with_value (edit_first_part (λ there. there ++ arrivals home (elements_of (first_named attr (segs_view args))) es) (value a)) a ∷ []) (segs_view args)
-arrived_in home attr args i d e s es later first is made =
-    let came : later ≡ arrivals home (elements_of (first_named attr (segs_view args))) es = is ∙ ap (λ (o : Option Segment). arrivals home (elements_of o) es) (sym (first.first d)) in
-    let a : Segment = seg_view (get_or args i e) in
-    first.put (λ a. with_value (edit_first_part (λ there. there ++ arrivals home (elements_of (first_named attr (segs_view args))) es) (value a)) a ∷ []) s e
+arrived_in home attr args i d s es later first is made =
+    let came : later ≡ arrivals home (elements_of (first_named attr (segs_view args))) es = is ∙ ap (λ (ss : List Segment). arrivals home ss es) (elements_there (first_named attr (segs_view args))) in
+    let a : Segment = seg_view (get_or args i d) in
+    first.put (λ a. with_value (edit_first_part (λ there. there ++ arrivals home (elements_of (first_named attr (segs_view args))) es) (value a)) a ∷ []) s d
     (sym (ap (λ (z : Segment). z ∷ []) (made ∙ ap (λ (ss : List Segment). with_value (edit_first_part (λ there. there ++ ss) (value a)) a) came)))

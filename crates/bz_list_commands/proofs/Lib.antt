@@ -3,3 +3,4 @@ pub mod Arriving
 pub mod Flags
 pub mod Leaving
 pub mod Pool
+pub mod Written

@@ -7,3 +7,4 @@ pub mod moving;
 pub mod remove;
 pub mod replace;
 mod taking;
+mod words;

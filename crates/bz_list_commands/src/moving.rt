@@ -1,6 +1,6 @@
 //! `move`: elements go from one attribute to another, each with its comments.
 
-ghost use Rattle.std.specs.Prelude.{◌≡◌, ◌≤◌, ◌<◌, ◌+◌, ◌++◌, ◌∷◌, [], true, false, length, bytes_eq, None, Some, IfOk, OnOk, OnErr};
+ghost use Rattle.std.specs.Prelude.{◌≡◌, ◌≤◌, ◌<◌, ◌+◌, ◌++◌, ◌∷◌, [], false, length, bytes_eq, None, Some, IfOk, OnOk, OnErr};
 ghost use Rattle.std.specs.Vec.{vec_len, vec_capacity};
 ghost use Rattle.bz_tree.specs.View.{node_view, nodes_view, seg_view, segs_view};
 ghost use Rattle.bz_attribute.specs.Rules.{elements, first_named, is_named, value};
@@ -11,16 +11,16 @@ ghost use Rattle.bz_attribute.specs.private.ChosenViews.{chosen_view};
 ghost use Rattle.bz_attribute.specs.private.Places.{first_length, first_list};
 ghost use Rattle.bz_attribute.specs.Effects as effects;
 ghost use Rattle.bz_attribute.specs.Moving as spec;
+ghost use Rattle.bz_list_commands.specs.private.MovingSteps.{with_list};
 
 use crate::arrivals::keep_arrivals;
-use crate::taking::{count_chosen, take_from};
-use bz_attribute::chosen::{Chosen, chooses};
+use crate::taking::{count_in_value, take_from, value_at};
+use crate::words::{chosen_by, words_of};
+use bz_attribute::chosen::Chosen;
 use bz_attribute::done::{Done, Note};
 use bz_attribute::find::find;
 use bz_attribute::lists::{elements_at, first_part};
-use bz_attribute::make::{argument_head, list_with};
-use bz_attribute::rule::first_named;
-use bz_attribute::word_set::{FEW, word_set};
+use bz_attribute::make::list_argument;
 use bz_command::{Moved, Package, Text};
 use bz_tree::{Node, Seg};
 use std::alloc::{AllocError, Global};
@@ -48,17 +48,17 @@ pub fn move_elements(
         return Ok(Done::failure(note));
     }
     match moved {
-        Moved::All => move_those(alloc, home, old, new, Chosen::All, args),
+        Moved::All => move_chosen(alloc, home, old, new, Chosen::All, args),
         Moved::Values(values) => move_values(alloc, home, old, new, values.as_slice(), args),
     }
 }
 
-fn move_values(
+fn move_values<'v>(
     alloc: Global,
-    home: &Package,
+    home: &'v Package,
     old: &str,
     new: &str,
-    values: &[Text],
+    values: &'v [Text],
     args: &mut Vec<Seg<'_>>,
 ) -> Result<Done, AllocError>
     requires { bytes_eq old.now new.now ≡ false }
@@ -70,16 +70,13 @@ fn move_values(
         ≡ effects.done None (spec.moves home.now old.now (Values values.now) (segs_view args.old.items))) }
     ensures err { OnErr result (segs_view args.new.items ≡ segs_view args.old.items) }
 {
-    if values.len() <= FEW {
-        return move_those(alloc, home, old, new, Chosen::Values(values), args);
-    }
-    let words = word_set(alloc, home, values)?;
-    let chosen = Chosen::Many(&words);
-    let done = move_those(alloc, home, old, new, chosen, args)?;
+    let words = words_of(alloc, home, values)?;
+    let done = move_chosen(alloc, home, old, new, chosen_by(&words), args)?;
     Ok(done)
 }
 
-fn move_those(
+// All memory that is needed is there before the first element leaves: what follows cannot fail.
+fn move_chosen(
     alloc: Global,
     home: &Package,
     old: &str,
@@ -96,18 +93,31 @@ fn move_those(
         ≡ effects.done None (spec.moves home.now old.now (chosen_view chosen.entry) (segs_view args.old.items))) }
     ensures err { OnErr result (segs_view args.new.items ≡ segs_view args.old.items) }
 {
-    let Some(arg) = first_named(args, old) else {
+    let count = count_in_value(home, chosen, value_at(args, old))?;
+    if count == 0 {
         return Ok(Done::quiet(false));
+    }
+    let Some(room) = count.checked_add(count_first(value_at(args, new))) else {
+        return Err(AllocError);
     };
-    if !chooses(home, chosen, arg) {
-        return Ok(Done::quiet(false));
-    }
-    if find(args, new).is_some() {
-        move_to_list(alloc, home, old, new, chosen, args)?;
-    } else {
-        move_to_new(alloc, home, old, new, chosen, args)?;
-    }
+    let mut elements = Vec::with_capacity(alloc, room)?;
+    give_list(alloc, new, args)?;
+    take_from(alloc, home, old, chosen, args, &mut elements);
+    arrive(alloc, home, new, args, elements);
     Ok(Done::quiet(true))
+}
+
+// An empty list comes to the end, where there is no such attribute.
+fn give_list(alloc: Global, attr: &str, args: &mut Vec<Seg<'_>>) -> Result<(), AllocError>
+    ensures ok { OnOk result (segs_view args.new.items ≡ with_list attr.now (segs_view args.old.items)) }
+    ensures err { OnErr result (segs_view args.new.items ≡ segs_view args.old.items) }
+{
+    if find(args, attr).is_some() {
+        return Ok(());
+    }
+    let arg = list_argument(alloc, attr, Vec::new(alloc))?;
+    args.push(arg)?;
+    Ok(())
 }
 
 fn move_note(
@@ -142,68 +152,14 @@ fn not_a_list(alloc: Global, attr: &str, args: &[Seg<'_>]) -> Result<Option<Note
     Ok(Some(Note::NotAList(attr)))
 }
 
-// All memory that is needed is there before the first write: what follows cannot fail.
-fn move_to_new(
-    alloc: Global,
-    home: &Package,
-    old: &str,
-    new: &str,
-    chosen: Chosen<'_, '_>,
-    args: &mut Vec<Seg<'_>>,
-) -> Result<(), AllocError>
-    requires other { bytes_eq old.now new.now ≡ false }
-    requires absent { effects.has new.now (segs_view args.old.items) ≡ false }
-    ensures ok { OnOk result (segs_view args.new.items ≡ spec.moved home.now old.now new.now (chosen_view chosen.entry)
-        (segs_view args.old.items)) }
-    ensures err { OnErr result (segs_view args.new.items ≡ segs_view args.old.items) }
+// How many elements stand in the first list part of a value.
+fn count_first(value: &[Node<'_>]) -> usize
+    ensures { result ≡ length (first_list (parts (nodes_view value.now))) }
 {
-    let count = count_chosen(home, old, chosen, args)?;
-    let mut elements = Vec::with_capacity(alloc, count)?;
-    let head = argument_head(alloc, new)?;
-    args.reserve(1)?;
-    take_from(alloc, home, old, chosen, args, &mut elements);
-    keep_arrivals(alloc, home, &[], &mut elements);
-    args.push_reserved(list_with(alloc, head, elements));
-    Ok(())
-}
-
-// The same where the list is there.
-fn move_to_list(
-    alloc: Global,
-    home: &Package,
-    old: &str,
-    new: &str,
-    chosen: Chosen<'_, '_>,
-    args: &mut Vec<Seg<'_>>,
-) -> Result<(), AllocError>
-    requires other { bytes_eq old.now new.now ≡ false }
-    requires there { effects.has new.now (segs_view args.old.items) ≡ true }
-    ensures ok { OnOk result (segs_view args.new.items ≡ spec.moved home.now old.now new.now (chosen_view chosen.entry)
-        (segs_view args.old.items)) }
-    ensures err { OnErr result (segs_view args.new.items ≡ segs_view args.old.items) }
-{
-    let count = count_chosen(home, old, chosen, args)?;
-    let Some(room) = count.checked_add(count_first(new, args)) else {
-        return Err(AllocError);
-    };
-    let mut elements = Vec::with_capacity(alloc, room)?;
-    take_from(alloc, home, old, chosen, args, &mut elements);
-    arrive(alloc, home, new, args, elements);
-    Ok(())
-}
-
-// How many elements stand in the first list part of the first argument of a name.
-fn count_first(attr: &str, args: &[Seg<'_>]) -> usize
-    ensures { result ≡ first_length (first_named attr.now (segs_view args.now)) }
-{
-    let Some(i) = find(args, attr) else {
-        return 0;
-    };
-    let value = &args[i].nodes[2..];
-    let Some(part) = first_part(value) else {
-        return 0;
-    };
-    elements_at(&value[part]).len()
+    match first_part(value) {
+        None => 0,
+        Some(part) => elements_at(&value[part]).len(),
+    }
 }
 
 // Of the elements, those that are not there yet go to the end of the first list part.
@@ -224,7 +180,7 @@ fn arrive<'a>(
     let Some(i) = find(args, attr) else {
         return;
     };
-    keep_arrivals(alloc, home, &args[i].nodes[2..], &mut elements);
+    keep_arrivals(alloc, home, value_at(args, attr), &mut elements);
     put_in(&mut args[i], elements);
 }
 

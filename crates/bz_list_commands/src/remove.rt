@@ -1,7 +1,6 @@
 //! `remove`: attributes go, or elements of them.
 
-ghost use Rattle.std.specs.Prelude.{◌≡◌, None, map, IfOk, OnOk, OnErr, ◌<◌};
-ghost use Rattle.std.specs.List.{list_any};
+ghost use Rattle.std.specs.Prelude.{◌≡◌, [], None, map, IfOk, OnOk, OnErr};
 ghost use Rattle.bz_tree.specs.View.{seg_view, segs_view};
 ghost use Rattle.bz_attribute.specs.Effects as spec;
 ghost use Rattle.bz_command.specs.CommandViews.{attributes_view};
@@ -9,14 +8,14 @@ ghost use Rattle.bz_attribute.specs.private.ChosenViews.{chosen_view};
 ghost use Rattle.bz_command.specs.Commands.{Values};
 ghost use Rattle.bz_attribute.specs.Rules.{first_named, is_named};
 ghost use Rattle.bz_attribute.specs.Effects.{edit_first};
-ghost use Rattle.bz_list_commands.specs.private.EditSteps.{is_lost, edit_attribute};
+ghost use Rattle.bz_list_commands.specs.private.EditSteps.{goes, is_lost, edit_attribute};
 
+use crate::words::{chosen_by, words_of};
 use bz_attribute::chosen::{Chosen, chooses, drop_in, loses_all};
 use bz_attribute::done::Done;
 use bz_attribute::find::find;
 use bz_attribute::lists::is_attribute;
 use bz_attribute::rule::is_named;
-use bz_attribute::word_set::{FEW, word_set};
 use bz_command::{Attributes, Package, Text};
 use bz_tree::Seg;
 use std::alloc::{AllocError, Global};
@@ -38,50 +37,42 @@ pub fn remove(
         (spec.removes home.now (attributes_view attributes.now) values.now (segs_view args.old.items))) }
     ensures err { OnErr result (segs_view args.new.items ≡ segs_view args.old.items) }
 {
-    match attributes {
-        Attributes::Every => match values {
-            [] => Ok(remove_all(args)),
-            _ => remove_everywhere(alloc, home, values, args),
-        },
-        Attributes::Named(attr) => match values {
-            [] => Ok(remove_attribute(args, attr.as_str())),
-            _ => remove_values(alloc, home, attr.as_str(), values, args),
+    match values {
+        [] => Ok(remove_whole(attributes, args)),
+        _ => match attributes {
+            Attributes::Every => remove_everywhere(alloc, home, values, args),
+            Attributes::Named(attr) => remove_values(alloc, home, attr.as_str(), values, args),
         },
     }
 }
 
-// Drops each argument of the name.
-fn remove_attribute(args: &mut Vec<Seg<'_>>, attr: &str) -> Done
-    ensures args { segs_view args.new.items ≡ spec.remove_attribute attr.now (segs_view args.old.items) }
-    ensures done { result ≡ spec.done None (spec.has attr.now (segs_view args.old.items)) }
-{
-    let changed = find(args, attr).is_some();
-    args.retain(|seg| !is_named(seg, attr));
-    Done::quiet(changed)
-}
-
-// Drops each keyword argument but `name`.
-fn remove_all(args: &mut Vec<Seg<'_>>) -> Done
-    ensures args { segs_view args.new.items ≡ spec.remove_all (segs_view args.old.items) }
-    ensures done { result ≡ spec.done None (list_any spec.goes_with_all (segs_view args.old.items)) }
+// Drops each argument of the name, or each keyword argument but `name`.
+fn remove_whole(attributes: &Attributes, args: &mut Vec<Seg<'_>>) -> Done
+    ensures args { (home : _) → segs_view args.new.items
+        ≡ spec.remove home (attributes_view attributes.now) [] (segs_view args.old.items) }
+    ensures done { (home : _) → result
+        ≡ spec.done None (spec.removes home (attributes_view attributes.now) [] (segs_view args.old.items)) }
 {
     let before = args.len();
-    args.retain(|seg| !goes_with_all(seg));
+    args.retain(|arg| !goes(attributes, arg));
     Done::quiet(args.len() < before)
 }
 
-fn goes_with_all(arg: &Seg<'_>) -> bool
-    ensures { result ≡ spec.goes_with_all (seg_view arg.now) }
+fn goes(attributes: &Attributes, arg: &Seg<'_>) -> bool
+    ensures { result ≡ goes (attributes_view attributes.now) (seg_view arg.now) }
 {
-    is_attribute(arg) && !is_named(arg, "name")
+    match attributes {
+        Attributes::Every => is_attribute(arg) && !is_named(arg, "name"),
+        Attributes::Named(attr) => is_named(arg, attr.as_str()),
+    }
 }
 
 // Drops from the first argument of the name the elements that equal a value, and the argument where none is left.
-fn remove_values(
+fn remove_values<'v>(
     alloc: Global,
-    home: &Package,
+    home: &'v Package,
     attr: &str,
-    values: &[Text],
+    values: &'v [Text],
     args: &mut Vec<Seg<'_>>,
 ) -> Result<Done, AllocError>
     ensures args { OnOk result
@@ -92,14 +83,11 @@ fn remove_values(
         (spec.chooses_in home.now (Values values.now) (first_named attr.now (segs_view args.old.items)))) }
     ensures err { OnErr result (segs_view args.new.items ≡ segs_view args.old.items) }
 {
-    if values.len() <= FEW {
-        return Ok(remove_chosen(home, attr, Chosen::Values(values), args));
-    }
     let Some(_) = find(args, attr) else {
         return Ok(Done::quiet(false));
     };
-    let words = word_set(alloc, home, values)?;
-    Ok(remove_chosen(home, attr, Chosen::Many(&words), args))
+    let words = words_of(alloc, home, values)?;
+    Ok(remove_chosen(home, attr, chosen_by(&words), args))
 }
 
 fn remove_chosen(
@@ -127,10 +115,10 @@ fn remove_chosen(
 }
 
 // Drops the elements that equal a value from each attribute, and each attribute where none is left.
-fn remove_everywhere(
+fn remove_everywhere<'v>(
     alloc: Global,
-    home: &Package,
-    values: &[Text],
+    home: &'v Package,
+    values: &'v [Text],
     args: &mut Vec<Seg<'_>>,
 ) -> Result<Done, AllocError>
     ensures args { OnOk result
@@ -141,24 +129,12 @@ fn remove_everywhere(
         ≡ spec.done None (spec.chooses_anywhere home.now (Values values.now) (segs_view args.old.items))) }
     ensures err { OnErr result (segs_view args.new.items ≡ segs_view args.old.items) }
 {
-    if values.len() <= FEW {
-        return Ok(remove_chosen_everywhere(home, Chosen::Values(values), args));
-    }
-    let words = word_set(alloc, home, values)?;
-    let chosen = Chosen::Many(&words);
-    Ok(remove_chosen_everywhere(home, chosen, args))
-}
-
-fn remove_chosen_everywhere(home: &Package, chosen: Chosen<'_, '_>, args: &mut Vec<Seg<'_>>) -> Done
-    ensures args { segs_view args.new.items
-        ≡ spec.filtered_everywhere (spec.unchosen home.now (chosen_view chosen.entry)) (segs_view args.old.items) }
-    ensures done { result
-        ≡ spec.done None (spec.chooses_anywhere home.now (chosen_view chosen.entry) (segs_view args.old.items)) }
-{
+    let words = words_of(alloc, home, values)?;
+    let chosen = chosen_by(&words);
     let changed = chooses_anywhere(home, chosen, args);
     args.retain(|arg| !is_lost(home, chosen, arg));
     drop_everywhere(home, chosen, args);
-    Done::quiet(changed)
+    Ok(Done::quiet(changed))
 }
 
 fn chooses_anywhere(home: &Package, chosen: Chosen<'_, '_>, args: &[Seg<'_>]) -> bool

@@ -8,6 +8,7 @@ ghost use Rattle.bz_attribute.specs.Lists.{edit_list, edit_parts, parts, with_va
 ghost use Rattle.bz_attribute.specs.private.ChosenViews.{chosen_view};
 ghost use Rattle.bz_attribute.specs.Effects as spec;
 ghost use Rattle.bz_attribute.specs.Moving.{chosen_of, joined};
+ghost use Rattle.bz_list_commands.specs.private.MovingSteps.{value_of};
 
 use bz_attribute::chosen::{Chosen, is_chosen, loses_all};
 use bz_attribute::find::find;
@@ -18,20 +19,14 @@ use bz_tree::{Node, Seg};
 use std::alloc::{AllocError, Global};
 use std::mem;
 
-/// How many elements of the first argument of a name are chosen.
-pub(crate) fn count_chosen(
-    home: &Package,
-    attr: &str,
-    chosen: Chosen<'_, '_>,
-    args: &[Seg<'_>],
-) -> Result<usize, AllocError>
-    ensures { IfOk result
-        (λ n. n ≡ length (chosen_of home.now (chosen_view chosen.entry) (first_named attr.now (segs_view args.now)))) }
+/// The value of the first argument of a name, or no nodes.
+pub(crate) fn value_at<'n, 'a>(args: &'n [Seg<'a>], attr: &str) -> &'n [Node<'a>]
+    ensures { nodes_view result.now ≡ value_of (first_named attr.now (segs_view args.now)) }
 {
     let Some(i) = find(args, attr) else {
-        return Ok(0);
+        return &[];
     };
-    count_in_value(home, chosen, &args[i].nodes[2..])
+    &args[i].nodes[2..]
 }
 
 /// How many elements of the list parts of a value are chosen.
@@ -92,8 +87,6 @@ pub(crate) fn take_from<'a>(
     ensures taken { segs_view taken.new.items ≡ segs_view taken.old.items
         ++ chosen_of home.now (chosen_view chosen.entry) (first_named attr.now (segs_view args.old.items)) }
     ensures capacity { vec_capacity taken.new ≡ vec_capacity taken.old }
-    ensures shorter { vec_len args.new ≤ vec_len args.old }
-    ensures same_capacity { vec_capacity args.new ≡ vec_capacity args.old }
 {
     let Some(i) = find(args, attr) else {
         return;

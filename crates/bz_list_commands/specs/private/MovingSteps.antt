@@ -1,8 +1,9 @@
--- For private clauses alone: which of the elements that leave arrive.
+-- For private clauses alone: which of the elements that leave arrive, and what is there.
 use Rattle.std.specs.Prelude.{ℕ, List, [], ◌∷◌, ◌++◌, Bool, true, false, if◌then◌else◌, Option, Some, None}
-use Rattle.bz_tree.specs.Tree.{Segment}
+use Rattle.bz_tree.specs.Tree.{Item, Segment}
 use Rattle.bz_command.specs.Labels.{Package}
-use Rattle.bz_attribute.specs.Rules.{string_value}
+use Rattle.bz_attribute.specs.Effects.{argument, has, list_item}
+use Rattle.bz_attribute.specs.Rules.{string_value, value}
 use Rattle.bz_attribute.specs.Moving.{is_among}
 
 -- for each element whether it arrives, where `there` are the elements of the new list
@@ -22,3 +23,12 @@ flagged (b ∷ bs) (s ∷ ss) = if b then s ∷ flagged bs ss else flagged bs ss
 abbrev pub has_value : (List ℕ → Bool) → Option (List ℕ) → Bool
 has_value p None = false
 has_value p (Some text) = p text
+
+-- the value of an argument that is there
+abbrev pub value_of : Option Segment → List Item
+value_of None = []
+value_of (Some a) = value a
+
+-- with an empty list, where there is no such attribute
+abbrev pub with_list : List ℕ → List Segment → List Segment
+with_list attr args = if has attr args then args else args ++ argument attr (list_item [] ∷ []) ∷ []
