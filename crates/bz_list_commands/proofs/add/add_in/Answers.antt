@@ -1,7 +1,7 @@
-use Rattle.std.proofs.Common.{◌≡◌, List, ◌++◌, length, ap, ◌∙◌, arith}
+use Rattle.std.proofs.Common.{List, length, ap, ◌∙◌, arith}
 use Rattle.std.proofs.lemmas.List.{length-drop, take_rest}
 use Rattle.bz_tree.specs.Tree.{Item}
-use Rattle.bz_tree.specs.View.{seg_view, segs_view}
+use Rattle.bz_tree.specs.View.{seg_view}
 use Rattle.bz_attribute.specs.Lists.{with_value}
 use Rattle.bz_list_commands.specs.private.AddingSteps.{done_in_value, value_with_added}
 use Rattle.bz_list_commands.proofs.Written.{added_value, value_read, value_written}
