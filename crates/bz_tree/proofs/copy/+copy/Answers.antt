@@ -26,3 +26,15 @@ copy_nodes-loop-node-preserved t c = grind (arith, common_steps, the_lemmas)
 
 pub copy_segs-loop-seg-preserved : goal.copy_segs-loop-seg-preserved
 copy_segs-loop-seg-preserved t c = grind (arith, common_steps, the_lemmas)
+
+pub copy_nodes-returns-clause-value : goal.copy_nodes-returns-clause-value
+copy_nodes-returns-clause-value t c = grind (arith, common_steps)
+
+pub copy_nodes-returns-clause-borrowed : goal.copy_nodes-returns-clause-borrowed
+copy_nodes-returns-clause-borrowed t c = grind (arith, common_steps)
+
+pub copy_segs-returns-clause-value : goal.copy_segs-returns-clause-value
+copy_segs-returns-clause-value t c = grind (arith, common_steps)
+
+pub copy_segs-returns-clause-borrowed : goal.copy_segs-returns-clause-borrowed
+copy_segs-returns-clause-borrowed t c = grind (arith, common_steps)

@@ -1,0 +1,12 @@
+use Rattle.std.proofs.Common.{arith}
+use Rattle.std.proofs.lemmas.Grind.{common_steps}
+use Rattle.bz_tree.proofs.block.indent_walk.Goals as goal
+
+pub loop-token-preserved : goal.loop-token-preserved
+loop-token-preserved c = grind (arith, common_steps)
+
+pub returns-then-not-branch : goal.returns-then-not-branch
+returns-then-not-branch c = grind (arith, common_steps)
+
+pub returns : goal.returns
+returns c = grind (arith, common_steps)

@@ -1,0 +1,12 @@
+use Rattle.std.proofs.Common.{arith}
+use Rattle.std.proofs.lemmas.Grind.{common_steps}
+use Rattle.bz_tree.proofs.block.popped.Goals as goal
+
+pub loop-last-preserved : goal.loop-last-preserved
+loop-last-preserved c = grind (arith, common_steps)
+
+pub returns-then-last-column : goal.returns-then-last-column
+returns-then-last-column c = grind (arith, common_steps)
+
+pub returns : goal.returns
+returns c = grind (arith, common_steps)

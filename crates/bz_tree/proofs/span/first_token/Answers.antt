@@ -1,0 +1,12 @@
+use Rattle.std.proofs.Common.{arith}
+use Rattle.std.proofs.lemmas.Grind.{common_steps}
+use Rattle.bz_tree.proofs.span.first_token.Goals as goal
+
+pub returns-then-not-is_aside : goal.returns-then-not-is_aside
+returns-then-not-is_aside c = grind (arith, common_steps)
+
+pub loop-token-preserved : goal.loop-token-preserved
+loop-token-preserved c = grind (arith, common_steps)
+
+pub returns : goal.returns
+returns c = grind (arith, common_steps)
