@@ -215,17 +215,11 @@ first_in : (front : List Placed) (last : Placed) (following : List Placed) → f
 first_in [] last following = refl
 first_in (t ∷ front) last following = refl
 
-pub block_comments_kept : (first depth : ℕ) (bytes : List ℕ) (tokens : List Placed) (s : Statement) → AreTokensOf first depth bytes tokens → IsBlockOf first bytes tokens s → AreKept first bytes tokens s
-block_comments_kept first depth bytes tokens s are a =
-    let w = tokens_written first are.0 depth [] [] [] bytes are.1 are.2 in
-    let h = from_header tokens a.header a.last a.is_header a.is_last in
-    let all : AreWritten first [] (h.front ++ (a.header ∷ h.more)) w.front = subst (λ ts. AreWritten first [] ts w.front) (sym are.5 ∙ h.tokens_are) w.written in
-    let from = at_header first h.front a.header h.more bytes w.front are.1 w.bytes_are all in
-    let l = to_last_token (a.header ∷ h.more) a.last h.is_last in
-    let parts = split first (l.front ++ a.last ∷ []) l.newlines from.before from.back (subst (λ ts. AreWritten first from.before ts from.back) l.tokens_are from.written) in
-    let end = at_last first l.front a.last from.before parts.front parts.these in
-    let bytes_are : bytes ≡ from.before ++ (parts.front ++ (parts.back ++ are.1)) = from.bytes_are ∙ ap (λ x. from.before ++ (x ++ are.1)) parts.bytes_are ∙ simp append_assoc in
-    let kept : IsKeptText first bytes a.header a.last parts.front = record { before = from.before; front = end.front; after = parts.back ++ are.1; kept_is = end.kept_is; bytes_are = bytes_are; begins = from.begins; ends = end.ends } in
+kept_parts : (first : ℕ) (bytes rest : List ℕ) (tokens : List Placed) (s : Statement) (a : IsBlockOf first bytes tokens s) (h : FromHeader tokens a.header a.last) (from : AtHeader first bytes rest a.header h.more)
+    (l : ToLast (a.header ∷ h.more) a.last) (parts : Split first from.before (l.front ++ a.last ∷ []) l.newlines from.back) (end : AtLast first from.before parts.front a.last) → AreKept first bytes tokens s
+kept_parts first bytes rest tokens s a h from l parts end =
+    let bytes_are : bytes ≡ from.before ++ (parts.front ++ (parts.back ++ rest)) = from.bytes_are ∙ ap (λ x. from.before ++ (x ++ rest)) parts.bytes_are ∙ simp append_assoc in
+    let kept : IsKeptText first bytes a.header a.last parts.front = record { before = from.before; front = end.front; after = parts.back ++ rest; kept_is = end.kept_is; bytes_are = bytes_are; begins = from.begins; ends = end.ends } in
     let same : parts.front ≡ a.kept = kept_same first bytes a.header a.last parts.front a.kept kept a.is_kept in
     record {
       above = h.front;
@@ -241,7 +235,18 @@ block_comments_kept first depth bytes tokens s are a =
       place = record { line = a.header.line; col = a.header.col; fresh = a.header.fresh };
       node_is = ap (λ (x : Statement). x.nodes) a.is;
       before = from.before;
-      after = parts.back ++ are.1;
-      bytes_are = subst (λ k. bytes ≡ from.before ++ (k ++ (parts.back ++ are.1))) same bytes_are;
+      after = parts.back ++ rest;
+      bytes_are = subst (λ k. bytes ≡ from.before ++ (k ++ (parts.back ++ rest))) same bytes_are;
       written = subst (λ k. AreWritten first from.before (l.front ++ a.last ∷ []) k) same parts.these;
     }
+
+pub block_comments_kept : (first depth : ℕ) (bytes : List ℕ) (tokens : List Placed) (s : Statement) → AreTokensOf first depth bytes tokens → IsBlockOf first bytes tokens s → AreKept first bytes tokens s
+block_comments_kept first depth bytes tokens s are a =
+    let w = tokens_written first are.0 depth [] [] [] bytes are.1 are.2 in
+    let h = from_header tokens a.header a.last a.is_header a.is_last in
+    let all : AreWritten first [] (h.front ++ (a.header ∷ h.more)) w.front = subst (λ ts. AreWritten first [] ts w.front) (sym are.5 ∙ h.tokens_are) w.written in
+    let from = at_header first h.front a.header h.more bytes w.front are.1 w.bytes_are all in
+    let l = to_last_token (a.header ∷ h.more) a.last h.is_last in
+    let parts = split first (l.front ++ a.last ∷ []) l.newlines from.before from.back (subst (λ ts. AreWritten first from.before ts from.back) l.tokens_are from.written) in
+    let end = at_last first l.front a.last from.before parts.front parts.these in
+    kept_parts first bytes are.1 tokens s a h from l parts end

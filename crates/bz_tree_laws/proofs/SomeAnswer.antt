@@ -7,13 +7,12 @@ use Rattle.bz_token.specs.Places.{Placed}
 use Rattle.bz_token.specs.Reading.{AreTokensOf}
 use Rattle.bz_token.specs.Faults.{IsFault}
 use Rattle.bz_token.proofs.OneReading.{tokens_or_fault}
-use Rattle.bz_tree.specs.declared.fault.ParseFault.{ParseFault}
 use Rattle.bz_tree.specs.declared.fault.ParseFault.TheVariants.{OutOfMemory, Lex, Indented, NotAStatement}
 use Rattle.bz_tree.specs.Tree.{Segment, Statement, items_of}
 use Rattle.bz_tree.specs.Statement.{first_token, first_seen, last_seen, start_of, statement_with}
 use Rattle.bz_tree.specs.Brackets.{end_line}
-use Rattle.bz_tree.specs.Blocks.{is_block_word, is_block, above, kept_statement, IsBlockOf}
-use Rattle.bz_tree.specs.Chunk.{IsPlain, IsOneOf, begins_block, indent_fault, IsChunkOf, IsStatementIn, IsBlank, IsLexical, IsFaultIn}
+use Rattle.bz_tree.specs.Blocks.{is_block, above, kept_statement, IsBlockOf}
+use Rattle.bz_tree.specs.Chunk.{IsPlain, IsOneOf, begins_block, indent_fault, IsChunkOf, IsLexical}
 use Rattle.bz_tree.specs.private.Steps.{new_level, run}
 use Rattle.bz_tree.specs.private.Machine.{is_statement}
 use Rattle.bz_tree.specs.private.BlockSteps.{AreStanding}
