@@ -1,5 +1,4 @@
-use Rattle.std.proofs.Common.{map, sym, subst, arith}
-use Rattle.std.proofs.lemmas.Grind.{common_steps}
+use Rattle.std.proofs.Common.{map, sym, subst}
 use Rattle.bz_token.specs.Places.{placed}
 use Rattle.bz_tree.specs.Statement.{EndsFit}
 use Rattle.bz_tree.specs.private.BlockSteps.{AreStanding}
@@ -13,18 +12,3 @@ read_tokens-requires-clause-ends c =
 pub read_tokens-requires-clause-standing : goal.read_tokens-requires-clause-standing
 read_tokens-requires-clause-standing c =
     subst (λ ts. AreStanding c.args.first_line c.args.text.now (map placed ts)) (sym c.deref.ensures.value) (standing c.args.first_line c.args.max_depth c.args.text.now (map placed c.in-Ok.tokens.items) c.in-Ok.ensures.tokens)
-
-pub returns-in-Ok-clause-statement : goal.returns-in-Ok-clause-statement
-returns-in-Ok-clause-statement c = grind (arith, common_steps)
-
-pub returns-in-Ok-clause-borrowed : goal.returns-in-Ok-clause-borrowed
-returns-in-Ok-clause-borrowed c = grind (arith, common_steps)
-
-pub returns-in-Ok-clause-blank : goal.returns-in-Ok-clause-blank
-returns-in-Ok-clause-blank c = grind (arith, common_steps)
-
-pub returns-in-Ok-clause-fault : goal.returns-in-Ok-clause-fault
-returns-in-Ok-clause-fault c = grind (arith, common_steps)
-
-pub returns-in-Err : goal.returns-in-Err
-returns-in-Err c = grind (arith, common_steps)

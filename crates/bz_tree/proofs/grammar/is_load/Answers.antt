@@ -1,5 +1,4 @@
 use Rattle.std.proofs.Common.{◌≡◌, ◌≤◌, ◌<◌, false, List, [], ◌∷◌, length, refl, arith}
-use Rattle.std.proofs.lemmas.Grind.{common_steps}
 use Rattle.bz_tree.specs.declared.stmt.Node.{Node}
 use Rattle.bz_tree.specs.Tree.{items_of}
 use Rattle.bz_tree.specs.View.{nodes_view}
@@ -22,9 +21,3 @@ returns-in_default c = short c.args.nodes.now (omega arith)
 
 pub returns-in_default-2 : goal.returns-in_default-2
 returns-in_default-2 c = long c.args.nodes.now (omega arith)
-
-pub returns-then-is_load_word : goal.returns-then-is_load_word
-returns-then-is_load_word c = grind (arith, common_steps)
-
-pub returns-else-is_load_word : goal.returns-else-is_load_word
-returns-else-is_load_word c = grind (arith, common_steps)

@@ -1,5 +1,4 @@
 use Rattle.std.proofs.Common.{◌≡◌, drop, ap, ◌∙◌, arith}
-use Rattle.std.proofs.lemmas.Grind.{common_steps}
 use Rattle.bz_tree.specs.private.BlockSteps.{offset_run}
 use Rattle.bz_tree.proofs.KeptText.{offset_here}
 use Rattle.bz_tree.proofs.kept.offset_of.Goals as goal
@@ -10,9 +9,3 @@ returns-then-at_col-col c =
     let here : offset_run c.args.line c.args.col c.loop-byte.at_line c.loop-byte.at_col rest ≡ 0 =
     ap (λ l. offset_run c.args.line c.args.col l c.loop-byte.at_col rest) c.if-at_line-line.true ∙ ap (λ k. offset_run c.args.line c.args.col c.args.line k rest) c.if-at_col-col.true ∙ offset_here c.args.line c.args.col rest in
     omega (arith, here, c.loop-byte.invariant.same)
-
-pub loop-byte-preserved : goal.loop-byte-preserved
-loop-byte-preserved c = grind (arith, common_steps)
-
-pub returns : goal.returns
-returns c = grind (arith, common_steps)

@@ -15,9 +15,3 @@ returns-in_ok-push-clause-borrowed c =
     let segs = ap segs_owned c.in_ok-push.ensures.items ∙ owned_push seg_owned left _ in
     let old = ap segs_owned c.pop.ensures.items ∙ owned_pop seg_owned left _ _ c.in-Some.is in
     omega (arith, segs, old, c.in_ok-add_beside.ensures.borrowed)
-
-pub returns-in_default-clause-value : goal.returns-in_default-clause-value
-returns-in_default-clause-value c = grind (arith, common_steps)
-
-pub returns-in_default-clause-borrowed : goal.returns-in_default-clause-borrowed
-returns-in_default-clause-borrowed c = grind (arith, common_steps)

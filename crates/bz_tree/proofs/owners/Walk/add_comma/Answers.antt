@@ -22,9 +22,3 @@ returns-clause-borrowed c =
 
 pub returns-clause-value : goal.returns-clause-value
 returns-clause-value c = grind (arith, common_steps, the_lemmas)
-
-pub returns-then-is_empty-clause-value : goal.returns-then-is_empty-clause-value
-returns-then-is_empty-clause-value c = grind (arith, common_steps)
-
-pub returns-then-is_empty-clause-borrowed : goal.returns-then-is_empty-clause-borrowed
-returns-then-is_empty-clause-borrowed c = grind (arith, common_steps)

@@ -16,6 +16,3 @@ returns-clause-borrowed c =
 
 pub returns-clause-value : goal.returns-clause-value
 returns-clause-value c = grind (arith, common_steps)
-
-pub returns-clause-whole : goal.returns-clause-whole
-returns-clause-whole c = grind (arith, common_steps)

@@ -1,9 +1,0 @@
-use Rattle.std.proofs.Common.{arith}
-use Rattle.std.proofs.lemmas.Grind.{common_steps}
-use Rattle.bz_tree.proofs.span.last_seen.Goals as goal
-
-pub loop-token-preserved : goal.loop-token-preserved
-loop-token-preserved c = grind (arith, common_steps)
-
-pub returns : goal.returns
-returns c = grind (arith, common_steps)
