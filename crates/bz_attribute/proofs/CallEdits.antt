@@ -13,7 +13,7 @@ use Rattle.bz_attribute.specs.private.Places.{IsCallAt}
 use Rattle.bz_attribute.proofs.Calls.{views_split, rule_at}
 
 call_edited : (f : List Segment → List Segment) (kind : List Item) (x : Item) → is_call x ≡ true → dotted true kind ≡ true → nodes_after f (kind ++ x ∷ []) (call_at kind x) ≡ kind ++ edit_list f x ∷ []
-call_edited f kind (leaf k text place) a b = absurd cc
+call_edited f kind (leaf k text) a b = absurd cc
 call_edited f kind (group RuleCall segs one_comma end) a b = rw b refl
 call_edited f kind (group Call segs one_comma end) a b = absurd cc
 call_edited f kind (group Load segs one_comma end) a b = absurd cc

@@ -24,7 +24,7 @@ segs_back no_segs = refl
 segs_back (seg before nodes suffix ss) = λ i. seg before (items_back nodes i) suffix (segs_back ss i)
 
 call_nodes : (kind : List Item) (x : Item) (r : Rule) → call_at kind x ≡ Some r → nodes_of r ≡ kind ++ x ∷ []
-call_nodes kind (leaf k text place) r h = absurd cc
+call_nodes kind (leaf k text) r h = absurd cc
 call_nodes kind (group RuleCall segs one_comma end) r h =
     elim (dotted true kind) as (λ b. (if b then Some (record { kind = kind; args = segments segs; one_comma = one_comma; end = end }) else None) ≡ Some r → nodes_of r ≡ kind ++ group RuleCall segs one_comma end ∷ []) [
       | true ↦ λ k.

@@ -3,7 +3,7 @@ use Rattle.std.specs.Prelude.{ℕ, List, [], ◌∷◌, ◌++◌, Bool, true, fa
 use Rattle.std.specs.List.{list_any, flat_map}
 use Rattle.bz_token.specs.declared.token.Kind.TheVariants.{Ident, Sign, Text}
 use Rattle.bz_tree.specs.declared.stmt.GroupKind.TheVariants.{RuleCall, List as ListKind}
-use Rattle.bz_tree.specs.Tree.{Item, leaf, group, Segment, Statement, segs_of, nowhere}
+use Rattle.bz_tree.specs.Tree.{Item, leaf, group, Segment, Statement, segs_of}
 use Rattle.bz_command.specs.Labels.{Package}
 use Rattle.bz_command.specs.Values.{quoted}
 use Rattle.bz_command.specs.Commands.{Attributes, Every, Named, Moved, All, Values}
@@ -94,7 +94,7 @@ chooses_anywhere home chosen args = list_any (λ a. is_attribute a && chooses ho
 
 -- the literal of a new string
 abbrev pub string_item : List ℕ → Item
-string_item v = leaf Text (quoted v) nowhere
+string_item v = leaf Text (quoted v)
 
 -- a new element
 abbrev pub string : List ℕ → Segment
@@ -105,7 +105,7 @@ list_item ss = group ListKind (segs_of ss) false []
 
 -- a new argument
 abbrev pub argument : List ℕ → List Item → Segment
-argument attr nodes = record { before = []; nodes = leaf Ident attr nowhere ∷ leaf Sign (codes "=") nowhere ∷ nodes; suffix = None }
+argument attr nodes = record { before = []; nodes = leaf Ident attr ∷ leaf Sign (codes "=") ∷ nodes; suffix = None }
 
 abbrev pub no_parts : List (List Segment) → Bool
 no_parts [] = true
@@ -149,7 +149,7 @@ rename_note old new args = if has old args then (if has new args then Some (Attr
 
 abbrev pub renamed : List ℕ → List Item → List Item
 renamed name [] = []
-renamed name (x ∷ xs) = leaf Ident name nowhere ∷ xs
+renamed name (x ∷ xs) = leaf Ident name ∷ xs
 
 abbrev pub rename_to : List ℕ → Segment → Segment
 rename_to name a = record a { nodes = renamed name a.nodes }

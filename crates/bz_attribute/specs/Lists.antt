@@ -30,8 +30,8 @@ without home words ss = filter (λ s. not (equals_any home words s)) ss
 -- A value has list parts where all that stands in it at depth 0 is operands, plus signs and dots. It is split at each
 -- plus sign, and a piece that is one list is a part.
 abbrev pub is_joint : Item → Bool
-is_joint (leaf Word text place) = false
-is_joint (leaf Sign text place) = bytes_eq text (codes "+") || bytes_eq text (codes ".")
+is_joint (leaf Word text) = false
+is_joint (leaf Sign text) = bytes_eq text (codes "+") || bytes_eq text (codes ".")
 is_joint _ = true
 
 abbrev pub is_plus : Item → Bool
@@ -59,7 +59,7 @@ abbrev pub parts : List Item → List (List Segment)
 parts nodes = if list_all is_joint nodes then parts_from true nodes else []
 
 abbrev pub edit_list : (List Segment → List Segment) → Item → Item
-edit_list f (leaf kind text place) = leaf kind text place
+edit_list f (leaf kind text) = leaf kind text
 edit_list f (group kind segs one_comma end) = group kind (segs_of (f (segments segs))) one_comma end
 
 abbrev pub edit_from : (List Segment → List Segment) → Bool → List Item → List Item

@@ -8,12 +8,12 @@ use Rattle.bz_tree.specs.Tree.{Item, leaf, group, Segment, segments}
 use Rattle.bz_command.specs.Values.{value_of}
 
 abbrev pub is_sign : List ℕ → Item → Bool
-is_sign sign (leaf Sign text place) = bytes_eq text sign
+is_sign sign (leaf Sign text) = bytes_eq text sign
 is_sign sign _ = false
 
 -- the text of an identifier
 abbrev pub ident_of : Item → Option (List ℕ)
-ident_of (leaf Ident text place) = Some text
+ident_of (leaf Ident text) = Some text
 ident_of _ = None
 
 abbrev pub is_text : List ℕ → Option (List ℕ) → Bool
@@ -34,7 +34,7 @@ abbrev pub value : Segment → List Item
 value s = drop 2 s.nodes
 
 abbrev pub text_of : Item → Option (List ℕ)
-text_of (leaf Text text place) = Some text
+text_of (leaf Text text) = Some text
 text_of _ = None
 
 -- the text of what is one string token
@@ -62,7 +62,7 @@ pub record Rule : Type 0 where
 abbrev pub dotted : Bool → List Item → Bool
 dotted true [] = false
 dotted false [] = true
-dotted true (leaf Ident text place ∷ xs) = dotted false xs
+dotted true (leaf Ident text ∷ xs) = dotted false xs
 dotted true (x ∷ xs) = false
 dotted false (x ∷ xs) = is_sign (codes ".") x && dotted true xs
 
@@ -71,15 +71,15 @@ is_call (group RuleCall segs one_comma end) = true
 is_call _ = false
 
 abbrev pub elements : Item → List Segment
-elements (leaf kind text place) = []
+elements (leaf kind text) = []
 elements (group kind segs one_comma end) = segments segs
 
 abbrev pub comma_of : Item → Bool
-comma_of (leaf kind text place) = false
+comma_of (leaf kind text) = false
 comma_of (group kind segs one_comma end) = one_comma
 
 abbrev pub end_of : Item → List (List ℕ)
-end_of (leaf kind text place) = []
+end_of (leaf kind text) = []
 end_of (group kind segs one_comma end) = end
 
 -- the nodes `kind` and then x
@@ -98,7 +98,7 @@ rule_of nodes = rule_from [] nodes
 
 -- the text of a token
 abbrev pub written : Item → List ℕ
-written (leaf kind text place) = text
+written (leaf kind text) = text
 written (group kind segs one_comma end) = []
 
 -- the text of a kind, without what stands between its identifiers and dots

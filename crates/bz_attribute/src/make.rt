@@ -4,7 +4,7 @@ ghost use Rattle.std.specs.Prelude.{◌≡◌, ◌<◌, IfOk, map, string_bytes,
 ghost use Rattle.std.specs.Vec.{vec_len, vec_capacity};
 ghost use Rattle.bz_token.specs.declared.token.Kind.TheVariants.{Ident, Sign};
 ghost use Rattle.bz_tree.specs.View.{node_view, nodes_view, seg_view, segs_view};
-ghost use Rattle.bz_tree.specs.Tree.{leaf, nowhere};
+ghost use Rattle.bz_tree.specs.Tree.{leaf};
 ghost use Rattle.bz_attribute.specs.Effects as spec;
 
 use bz_command::{Text, quote};
@@ -13,22 +13,19 @@ use bz_tree::{Group, GroupKind, Leaf, Node, Seg};
 use std::alloc::{AllocError, Global};
 use std::borrow::CowStr;
 
-/// A new token, which stands nowhere.
+/// A new token.
 pub fn token<'a>(alloc: Global, kind: Kind, text: &str) -> Result<Node<'a>, AllocError>
-    ensures { IfOk result (λ node. node_view node ≡ leaf kind text.now nowhere) }
+    ensures { IfOk result (λ node. node_view node ≡ leaf kind text.now) }
 {
     Ok(leaf(kind, String::from_str(alloc, text)?))
 }
 
 fn leaf<'a>(kind: Kind, text: String) -> Node<'a>
-    ensures { node_view result ≡ leaf kind (string_bytes text) nowhere }
+    ensures { node_view result ≡ leaf kind (string_bytes text) }
 {
     Node::Token(Leaf {
         kind,
         text: CowStr::Owned(text),
-        line: 0,
-        col: 0,
-        fresh: false,
     })
 }
 
@@ -105,7 +102,7 @@ pub fn list_argument<'a>(
 /// The name and the sign of a new argument, with room for a value.
 pub fn argument_head<'a>(alloc: Global, attr: &str) -> Result<Vec<Node<'a>>, AllocError>
     ensures nodes { IfOk result
-        (λ head. nodes_view head.items ≡ leaf Ident attr.now nowhere ∷ leaf Sign (codes "=") nowhere ∷ []) }
+        (λ head. nodes_view head.items ≡ leaf Ident attr.now ∷ leaf Sign (codes "=") ∷ []) }
     ensures room { IfOk result (λ head. vec_len head < vec_capacity head) }
 {
     let mut nodes = Vec::with_capacity(alloc, 3)?;
@@ -117,7 +114,7 @@ pub fn argument_head<'a>(alloc: Global, attr: &str) -> Result<Vec<Node<'a>>, All
 /// A new argument with this head, whose value is a list. Takes no memory.
 pub fn list_with<'a>(alloc: Global, mut head: Vec<Node<'a>>, elements: Vec<Seg<'a>>) -> Seg<'a>
     requires { vec_len head < vec_capacity head }
-    ensures { (attr : _) → nodes_view head.entry.items ≡ leaf Ident attr nowhere ∷ leaf Sign (codes "=") nowhere ∷ []
+    ensures { (attr : _) → nodes_view head.entry.items ≡ leaf Ident attr ∷ leaf Sign (codes "=") ∷ []
         → seg_view result ≡ spec.argument attr (spec.list_item (segs_view elements.entry.items) ∷ []) }
 {
     head.push_reserved(list(alloc, elements));

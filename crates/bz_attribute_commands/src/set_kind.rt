@@ -1,7 +1,7 @@
 //! `set kind`: other tokens before the call of a rule.
 
 ghost use Rattle.std.specs.Prelude.{◌≡◌, ◌-◌, ◌++◌, ◌∷◌, [], None, false, length, drop, option_map, IfOk, IsOk, OnOk, OnErr};
-ghost use Rattle.bz_tree.specs.Tree.{leaf, nowhere};
+ghost use Rattle.bz_tree.specs.Tree.{leaf};
 ghost use Rattle.bz_tree.specs.View.{nodes_view, slot_view};
 ghost use Rattle.bz_attribute.specs.Rules.{rule_of};
 ghost use Rattle.bz_attribute.specs.Effects.{holds_rule};
@@ -86,7 +86,7 @@ fn push_token(
     text: &str,
     nodes: &mut Vec<Node<'_>>,
 ) -> Result<(), AllocError>
-    ensures { OnOk result (nodes_view nodes.new.items ≡ nodes_view nodes.old.items ++ leaf kind text.now nowhere ∷ []) }
+    ensures { OnOk result (nodes_view nodes.new.items ≡ nodes_view nodes.old.items ++ leaf kind text.now ∷ []) }
 {
     nodes.push(token(alloc, kind, text)?)?;
     Ok(())

@@ -8,7 +8,7 @@ use Rattle.bz_token.specs.Lexical.{keywords}
 use Rattle.bz_tree.specs.declared.stmt.Class.{Class}
 use Rattle.bz_tree.specs.declared.stmt.Class.TheVariants.{Rule, Block}
 use Rattle.bz_tree.specs.declared.stmt.GroupKind.TheVariants.{RuleCall}
-use Rattle.bz_tree.specs.Tree.{Item, leaf, group, Statement, segs_of, nowhere}
+use Rattle.bz_tree.specs.Tree.{Item, leaf, group, Statement, segs_of}
 use Rattle.bz_command.specs.Commands.{Add, Delete}
 use Rattle.bz_command.specs.Labels.{Package, Name, All}
 use Rattle.bz_command.specs.Names.{is_identifier}
@@ -26,13 +26,13 @@ statement class nodes = record { before = []; nodes = nodes; suffix = None; clas
 abbrev rule : List ℕ → Statement
 rule name =
     statement Rule (
-    leaf Ident (codes "r") nowhere
-    ∷ group RuleCall (segs_of (record { before = []; nodes = leaf Ident (codes "name") nowhere ∷ leaf Sign (codes "=") nowhere ∷ leaf Text name nowhere ∷ []; suffix = None } ∷ [])) false []
+    leaf Ident (codes "r")
+    ∷ group RuleCall (segs_of (record { before = []; nodes = leaf Ident (codes "name") ∷ leaf Sign (codes "=") ∷ leaf Text name ∷ []; suffix = None } ∷ [])) false []
     ∷ []
     )
 
 abbrev block : Statement
-block = statement Block (leaf Kept (codes "if x:\n  y") nowhere ∷ [])
+block = statement Block (leaf Kept (codes "if x:\n  y") ∷ [])
 
 -- `x` goes, and each rule that is left gets a tag
 abbrev script : Script

@@ -14,9 +14,9 @@ use Rattle.bz_attribute.specs.Rules.{rule_of}
 use Rattle.bz_attribute.specs.Setting.{kind_after}
 
 -- a text that is kept is no rule
-kept_no_rule : (nodes : List Item) (text : List ℕ) → map bare nodes ≡ leaf Kept text nowhere ∷ [] → rule_of nodes ≡ None
+kept_no_rule : (nodes : List Item) (text : List ℕ) → map bare nodes ≡ leaf Kept text ∷ [] → rule_of nodes ≡ None
 kept_no_rule [] text e = refl
-kept_no_rule (leaf kind other place ∷ []) text e = refl
+kept_no_rule (leaf kind other ∷ []) text e = refl
 kept_no_rule (group kind segs one_comma end ∷ []) text e = absurd cc
 kept_no_rule (x ∷ y ∷ nodes) text e = absurd cc
 

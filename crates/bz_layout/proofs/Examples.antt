@@ -4,22 +4,22 @@ use Rattle.std.specs.Prelude.Option.{Some, None}
 use Rattle.bz_token.specs.declared.token.Kind.TheVariants.{Ident, Word, Int, Text, Sign, Kept}
 use Rattle.bz_tree.specs.declared.stmt.GroupKind.TheVariants.{Call, Paren, List as ListKind, Index, Dict}
 use Rattle.bz_tree.specs.declared.stmt.Class.TheVariants.{Load, Assign, Rule, Comment, Block}
-use Rattle.bz_tree.specs.Tree.{Item, leaf, group, Segment, Statement, segs_of, nowhere}
+use Rattle.bz_tree.specs.Tree.{Item, leaf, group, Segment, Statement, segs_of}
 use Rattle.bz_layout.specs.Layout.{layout, layout_text, flat_text}
 use Rattle.bz_layout.specs.Lines.{text_line, lines_of}
 use Rattle.bz_layout.specs.Gaps.{blank_between}
 
 abbrev pub name : List ℕ → Item
-name text = leaf Ident text nowhere
+name text = leaf Ident text
 
 abbrev pub int : List ℕ → Item
-int text = leaf Int text nowhere
+int text = leaf Int text
 
 abbrev pub text : List ℕ → Item
-text t = leaf Text t nowhere
+text t = leaf Text t
 
 abbrev pub sign : List ℕ → Item
-sign t = leaf Sign t nowhere
+sign t = leaf Sign t
 
 abbrev pub plain : List Item → Segment
 plain xs = record { before = []; nodes = xs; suffix = None }
@@ -29,7 +29,7 @@ slice : flat_text None (name (codes "x") ∷ group Index (segs_of (plain (int (c
 slice = refl
 
 -- `not -f(*a, **k)`
-prefixes : flat_text None (leaf Word (codes "not") nowhere ∷ sign (codes "-") ∷ name (codes "f") ∷ group Call (segs_of (plain (sign (codes "*") ∷ name (codes "a") ∷ []) ∷ plain (sign (codes "**") ∷ name (codes "k") ∷ []) ∷ [])) false [] ∷ []) ≡ codes "not -f(*a, **k)"
+prefixes : flat_text None (leaf Word (codes "not") ∷ sign (codes "-") ∷ name (codes "f") ∷ group Call (segs_of (plain (sign (codes "*") ∷ name (codes "a") ∷ []) ∷ plain (sign (codes "**") ∷ name (codes "k") ∷ []) ∷ [])) false [] ∷ []) ≡ codes "not -f(*a, **k)"
 prefixes = refl
 
 -- `['a', b'x']` within a dict after its colon
@@ -65,7 +65,7 @@ one_comma : flat_text None (group Paren (segs_of (plain (int (codes "1") ∷ [])
 one_comma = refl
 
 -- a block stands as it is
-kept : layout_text (record { before = codes "# a" ∷ []; nodes = leaf Kept (codes "if a:\n  b  =  'c'") nowhere ∷ []; suffix = None; class = Block; start = 2; end = 3 }) ≡ codes "# a\nif a:\n  b  =  'c'\n"
+kept : layout_text (record { before = codes "# a" ∷ []; nodes = leaf Kept (codes "if a:\n  b  =  'c'") ∷ []; suffix = None; class = Block; start = 2; end = 3 }) ≡ codes "# a\nif a:\n  b  =  'c'\n"
 kept = refl
 
 -- empty lines

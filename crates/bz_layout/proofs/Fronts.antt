@@ -38,7 +38,7 @@ set_after (z ∷ a) b x y = ap (λ xs. z ∷ xs) (set_after a b x y)
 -- flat text takes no marks
 mutual
   pub flat_item : (x : Item) → item_marks Flat x ≡ []
-  flat_item (leaf kind text place) = refl
+  flat_item (leaf kind text) = refl
   flat_item (group kind segs one_comma end) = flat_segs_none segs
 
   pub flat_items : (xs : Items) → items_marks Flat xs ≡ []

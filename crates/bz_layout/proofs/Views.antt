@@ -1,7 +1,7 @@
 -- The view of a node, a group and a segment, level by level.
 use Rattle.std.proofs.Common.{◌≡◌, ℕ, suc, ◌+◌, ◌<◌, arith, List, [], ◌∷◌, length, get_or, drop, option_map, refl, sym, ap, ◌∙◌, rules}
 use Rattle.std.proofs.lemmas.List.{drop_more}
-use Rattle.bz_tree.specs.View.{text_of, place_of}
+use Rattle.bz_tree.specs.View.{text_of}
 use Rattle.bz_tree.specs.declared.stmt.Leaf.{Leaf}
 use Rattle.bz_tree.specs.declared.stmt.Node.{Node, Token, Group, the_lemmas, size-Node}
 use Rattle.bz_tree.specs.declared.stmt.Node.TheViews.{size_is-Seg}
@@ -13,7 +13,7 @@ use Rattle.bz_tree.specs.View.{node_view, group_view, seg_view, nodes_view, segs
 use Rattle.bz_layout.specs.Broken.{count}
 use Rattle.bz_tree.specs.Tree.{items_of, segs_of}
 
-pub view-Token : (t : Leaf) → node_view (Token t) ≡ leaf t.kind (text_of t.text) (place_of t)
+pub view-Token : (t : Leaf) → node_view (Token t) ≡ leaf t.kind (text_of t.text)
 view-Token t = search (rules, the_lemmas)
 
 pub view-Group : (g : GroupValue) → node_view (Group g) ≡ group_view g

@@ -31,7 +31,7 @@ is_broken kind segs end inside = has_some end || have_comments segs || breaks_by
 abbrev mutual
   -- it is a broken group, or holds one at any depth
   pub holds_broken : Item → Bool
-  holds_broken (leaf kind text place) = false
+  holds_broken (leaf kind text) = false
   holds_broken (group kind segs one_comma end) = is_broken kind segs end (segs_hold segs) || segs_hold segs
 
   pub items_hold : Items → Bool

@@ -56,7 +56,7 @@ breaks Broken broken = broken
 -- The level is that of the line on which a node stands: a broken group puts its segments one level deeper, any other group leaves them on the line.
 abbrev mutual
   pub item_pieces : Style → ℕ → Gap → Item → List Piece
-  item_pieces style level gap (leaf kind text place) = piece gap kind (respell kind text) ∷ []
+  item_pieces style level gap (leaf kind text) = piece gap kind (respell kind text) ∷ []
   item_pieces style level gap (group kind segs one_comma end) =
       piece gap Sign (opening kind) ∷
       (if breaks style (is_broken kind segs end (segs_hold segs))

@@ -21,8 +21,8 @@ hugs _ = false
 
 -- no space stands before `.`, `,`, `:` and a group that hugs
 abbrev pub closes_up : Item → Bool
-closes_up (leaf Sign text place) = bytes_eq text (codes ".") || bytes_eq text (codes ",") || bytes_eq text (codes ":")
-closes_up (leaf _ text place) = false
+closes_up (leaf Sign text) = bytes_eq text (codes ".") || bytes_eq text (codes ",") || bytes_eq text (codes ":")
+closes_up (leaf _ text) = false
 closes_up (group kind segs one_comma end) = hugs kind
 
 abbrev pub is_index : Option GroupKind → Bool
@@ -61,9 +61,9 @@ sign_edge within left text =
 
 -- what a node leaves to the one after it
 abbrev pub edge_after : Option GroupKind → Edge → Item → Edge
-edge_after within left (leaf Sign text place) = sign_edge within left text
-edge_after within left (leaf Word text place) = Operator
-edge_after within left (leaf _ text place) = Operand
+edge_after within left (leaf Sign text) = sign_edge within left text
+edge_after within left (leaf Word text) = Operator
+edge_after within left (leaf _ text) = Operand
 edge_after within left (group kind segs one_comma end) = Operand
 
 -- the next node stands directly after `.`, a prefix, the star of an argument and the colon of an index

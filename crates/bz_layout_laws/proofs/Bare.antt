@@ -14,25 +14,25 @@ use Rattle.bz_layout.specs.Layout.{item_pieces, items_pieces, broken_segs, flat_
 use Rattle.bz_layout_laws.specs.Unplaced.{unplaced}
 
 closes_bare : (x : Item) → closes_up (bare x) ≡ closes_up x
-closes_bare (leaf Sign text place) = refl
-closes_bare (leaf Ident text place) = refl
-closes_bare (leaf Word text place) = refl
-closes_bare (leaf Int text place) = refl
-closes_bare (leaf Text text place) = refl
-closes_bare (leaf LineKind text place) = refl
-closes_bare (leaf Note text place) = refl
-closes_bare (leaf Kept text place) = refl
+closes_bare (leaf Sign text) = refl
+closes_bare (leaf Ident text) = refl
+closes_bare (leaf Word text) = refl
+closes_bare (leaf Int text) = refl
+closes_bare (leaf Text text) = refl
+closes_bare (leaf LineKind text) = refl
+closes_bare (leaf Note text) = refl
+closes_bare (leaf Kept text) = refl
 closes_bare (group kind segs one_comma end) = refl
 
 edge_bare : (within : Option GroupKind) (left : Edge) (x : Item) → edge_after within left (bare x) ≡ edge_after within left x
-edge_bare within left (leaf Sign text place) = refl
-edge_bare within left (leaf Ident text place) = refl
-edge_bare within left (leaf Word text place) = refl
-edge_bare within left (leaf Int text place) = refl
-edge_bare within left (leaf Text text place) = refl
-edge_bare within left (leaf LineKind text place) = refl
-edge_bare within left (leaf Note text place) = refl
-edge_bare within left (leaf Kept text place) = refl
+edge_bare within left (leaf Sign text) = refl
+edge_bare within left (leaf Ident text) = refl
+edge_bare within left (leaf Word text) = refl
+edge_bare within left (leaf Int text) = refl
+edge_bare within left (leaf Text text) = refl
+edge_bare within left (leaf LineKind text) = refl
+edge_bare within left (leaf Note text) = refl
+edge_bare within left (leaf Kept text) = refl
 edge_bare within left (group kind segs one_comma end) = refl
 
 gap_bare : (first : Gap) (left : Edge) (x : Item) → gap_before first left (bare x) ≡ gap_before first left x
@@ -55,7 +55,7 @@ broken_bare kind ss end inside = rw (count_bare ss, comments_bare ss) refl
 
 mutual
   holds_bare : (x : Item) → holds_broken (bare x) ≡ holds_broken x
-  holds_bare (leaf kind text place) = refl
+  holds_bare (leaf kind text) = refl
   holds_bare (group kind segs one_comma end) = rw (segs_hold_bare segs, broken_bare kind segs end (segs_hold segs)) refl
 
   items_hold_bare : (xs : Items) → items_hold (bare_items xs) ≡ items_hold xs
@@ -68,7 +68,7 @@ mutual
 
 mutual
   item_bare : (style : Style) (level : ℕ) (gap : Gap) (x : Item) → item_pieces style level gap (bare x) ≡ item_pieces style level gap x
-  item_bare style level gap (leaf kind text place) = refl
+  item_bare style level gap (leaf kind text) = refl
   item_bare style level gap (group kind segs one_comma end) =
       rw (segs_hold_bare segs, broken_bare kind segs end (segs_hold segs), count_bare segs, broken_segs_bare style (level + 1) kind _ segs, flat_segs_bare style level kind true segs) refl
 

@@ -123,7 +123,7 @@ suffixed false (Some text) ps a = record { all = (refl, a.each false) }
 
 mutual
   item_always : (style : Style) (level : ℕ) (gap : Gap) (x : Item) → is_apart gap ≡ false → IsLegibleItem x → Always (item_pieces style level gap x)
-  item_always style level gap (leaf kind text place) first h = leaf_always gap kind (respell kind text) text first h.1
+  item_always style level gap (leaf kind text) first h = leaf_always gap kind (respell kind text) text first h.1
   item_always style level gap (group kind segs one_comma end) first h =
       let comma = has_commas kind one_comma (count segs) in
       let last : List Piece = piece (Line level) Sign (closing kind) ∷ [] in
@@ -154,7 +154,7 @@ mutual
 
   -- nodes end with a token
   item_last : (style : Style) (level : ℕ) (gap : Gap) (x : Item) → IsLegibleItem x → Tokens (item_pieces style level gap x)
-  item_last style level gap (leaf kind text place) h = leaf_last gap kind (respell kind text) text h.1
+  item_last style level gap (leaf kind text) h = leaf_last gap kind (respell kind text) text h.1
   item_last style level gap (group kind segs one_comma end) h =
       let comma = has_commas kind one_comma (count segs) in
       let last : List Piece = piece (Line level) Sign (closing kind) ∷ [] in

@@ -12,7 +12,7 @@ use Rattle.bz_tree.specs.Blocks.{above, is_block_word, block_indent, is_block, k
 use Rattle.bz_tree.specs.Brackets.{without_lines, end_line}
 use Rattle.bz_tree.specs.Chunk.{IsOneOf, IsChunkOf, IsReadAs, IsStatementIn, begins_block, indent_at, indent_fault}
 use Rattle.bz_tree.specs.Statement.{first_of, last_of, first_token, first_seen, last_seen}
-use Rattle.bz_tree.specs.Tree.{leaf, nowhere, Statement}
+use Rattle.bz_tree.specs.Tree.{leaf, Statement}
 use Rattle.bz_tree.proofs.Sound.{none_is_some}
 use Rattle.bz_tree_laws.proofs.ChunkLaws.{chunk_same}
 use Rattle.bz_layout.specs.Layout.{layout_text}
@@ -78,14 +78,14 @@ block_again first second depth bytes s b texts more h =
     ap (λ o. indent_at o tokens) t.is_header ∙ ap (λ n. if n == 1 then (if is_block_word here then block_indent tokens else None) else Some here.line) column
     ∙ ap (λ w. if w then block_indent tokens else None) b.word ∙ indent in
     let notes : above tokens ≡ texts = above_lines second texts header (b.mid ++ replicate (suc more) newline) [] [] b.word in
-    let unplaced_is : unplaced (with_above texts s) ≡ record { before = texts; nodes = leaf Kept kept nowhere ∷ []; suffix = None; class = Block; start = 0; end = 0 } = ap (λ x. unplaced (with_above texts x)) b.is in
+    let unplaced_is : unplaced (with_above texts s) ≡ record { before = texts; nodes = leaf Kept kept ∷ []; suffix = None; class = Block; start = 0; end = 0 } = ap (λ x. unplaced (with_above texts x)) b.is in
     record {
       tokens = tokens;
       are = are;
       begins = begins;
       found = found;
       reads = record { upright = upright; some = some_seen tokens t.last t.is_last; chunk = subst (λ w. IsOneOf w second text tokens found) (sym begins) is };
-      same = ap (λ ns. record { before = ns; nodes = leaf Kept kept nowhere ∷ []; suffix = None; class = Block; start = 0; end = 0 }) notes ∙ sym unplaced_is;
+      same = ap (λ ns. record { before = ns; nodes = leaf Kept kept ∷ []; suffix = None; class = Block; start = 0; end = 0 }) notes ∙ sym unplaced_is;
     }
   where
     body_shown : (first second : ℕ) (a c over under : List ℕ) (header : Piece) (mid : List Piece) → column_at (a ++ []) ≡ column_at (c ++ header.gap) → all_shown (tokens_of second a over (close header ∷ mid)) ≡ all_shown (tokens_of first c under (header ∷ mid))

@@ -38,7 +38,7 @@ pub record Body (first depth : ℕ) (bytes : List ℕ) (s : Statement) : Type 0 
   pub before : List (List ℕ)
   pub start : ℕ
   pub end : ℕ
-  pub is : s ≡ record { before = before; nodes = leaf Kept (header.text ++ bytes_of mid) place ∷ []; suffix = None; class = Block; start = start; end = end }
+  pub is : s ≡ record { before = before; nodes = leaf Kept (header.text ++ bytes_of mid) ∷ []; suffix = None; class = Block; start = start; end = end }
 
 -- the first token stands in column 1, and the lines on columns that fit
 no_fault : (t : Placed) (tokens : List Placed) → is_block_word t ≡ true → indent_at (Some t) tokens ≡ None → (t.col ≡ 1) × (block_indent tokens ≡ None)

@@ -29,8 +29,8 @@ none_kept (x ∷ xs) h =
     first x h others
   where
     first : (x : Item) → HaveTexts (items_of (x ∷ xs)) → is_block_class (if is_load_word x then Load else (if has_assign (x ∷ xs) then Assign else (if is_rule (x ∷ xs) then Rule else Other))) ≡ false → is_block_class (class_of (x ∷ xs)) ≡ false
-    first (leaf Kept text place) h others = absurd (false≢true h.0.0)
-    first (leaf _ text place) h others = others
+    first (leaf Kept text) h others = absurd (false≢true h.0.0)
+    first (leaf _ text) h others = others
     first (group kind segs one_comma end) h others = others
 
 pub known_by_class : (first depth : ℕ) (bytes : List ℕ) (s : Statement) → IsStatementIn first depth bytes s → s.class ≡ Block → IsBlockIn first depth bytes s

@@ -47,7 +47,7 @@ abbrev pub with_above : List (List ℕ) → Statement → Statement
 with_above texts s = record s { before = texts }
 
 text_is : (texts : List (List ℕ)) (header : Piece) (mid : List Piece) (place : Place) (start end more : ℕ)
-    → bytes_of (written texts header mid more) ≡ layout_text (record { before = texts; nodes = leaf Kept (header.text ++ bytes_of mid) place ∷ []; suffix = None; class = Block; start = start; end = end }) ++ replicate more 10
+    → bytes_of (written texts header mid more) ≡ layout_text (record { before = texts; nodes = leaf Kept (header.text ++ bytes_of mid) ∷ []; suffix = None; class = Block; start = start; end = end }) ++ replicate more 10
 text_is texts header mid place start end more =
     let kept = header.text ++ bytes_of mid in
     bytes_join (lines_above texts) ((close header ∷ mid) ++ replicate (suc more) newline)

@@ -278,7 +278,7 @@ depth_along n false at b (elem (bracket shape opening inner closing) xs) h texts
 -- the call of a rule is as deep as one that is none
 call_depth : (xs : List Item) → items_depth (items_of (rule_call xs)) ≡ items_depth (items_of xs)
 call_depth [] = refl
-call_depth (leaf kind text place ∷ []) = refl
+call_depth (leaf kind text ∷ []) = refl
 call_depth (group kind segs one_comma end ∷ []) = refl
 call_depth (x ∷ y ∷ ys) = ap (max (item_depth x)) (call_depth (y ∷ ys))
 

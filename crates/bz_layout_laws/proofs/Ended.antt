@@ -142,7 +142,7 @@ end_begins level (text ∷ texts) upper kind rest = refl
 -- as do its segments
 nodes_begin : (style : Style) (level : ℕ) (within : Option GroupKind) (line : ℕ) (nodes : Items) (ps : List Piece) (rest : List ℕ) → are_some nodes ≡ true → begins is_newline (before (items_pieces style level within (Line line) Start nodes ++ ps) rest) ≡ true
 nodes_begin style level within line no_items ps rest h = absurd (false≢true h)
-nodes_begin style level within line (item (leaf kind text place) xs) ps rest h = refl
+nodes_begin style level within line (item (leaf kind text) xs) ps rest h = refl
 nodes_begin style level within line (item (group kind segs one_comma end) xs) ps rest h = refl
 
 segs_begin : (style : Style) (level : ℕ) (kind : GroupKind) (comma : Bool) (ss : Segs) (rest : List ℕ) → AreLegibleSegs kind ss → begins is_newline rest ≡ true → begins is_newline (before (broken_segs style level kind comma ss) rest) ≡ true
@@ -170,7 +170,7 @@ may_come style level within first e (item x xs) rest started h stops = next_stan
 
 mutual
   item_ended : (style : Style) (level : ℕ) (gap : Gap) (within : Option GroupKind) (left : Edge) (x : Item) (rest : List ℕ) → IsLegibleItem x → may_stand (edge_after within left x) rest ≡ true → AreEnded (item_pieces style level gap x) rest
-  item_ended style level gap within left (leaf kind text place) rest h stands = one gap kind _ (leaf_ended within left kind text place rest h stands)
+  item_ended style level gap within left (leaf kind text) rest h stands = one gap kind _ (leaf_ended within left kind text place rest h stands)
   item_ended style level gap within left (group kind segs one_comma end) rest h stands =
       let comma = has_commas kind one_comma (count segs) in
       let last : List Piece = piece (Line level) Sign (closing kind) ∷ [] in

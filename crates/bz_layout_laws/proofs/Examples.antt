@@ -7,7 +7,7 @@ use Rattle.bz_token.specs.declared.token.Kind.TheVariants.{Ident, Word, Text, Si
 use Rattle.bz_token.specs.Lexical.{keywords, signs}
 use Rattle.bz_tree.specs.declared.stmt.GroupKind.TheVariants.{List as ListKind, Paren, Index, ListComp}
 use Rattle.bz_tree.specs.declared.stmt.Class.TheVariants.{Assign}
-use Rattle.bz_tree.specs.Tree.{Item, leaf, group, Statement, Segs, items_of, segs_of, segments, nowhere}
+use Rattle.bz_tree.specs.Tree.{Item, leaf, group, Statement, Segs, items_of, segs_of, segments}
 use Rattle.bz_layout.specs.declared.spacing.Edge.TheVariants.{Start}
 use Rattle.bz_layout.specs.Layout.{layout_text}
 use Rattle.bz_layout_laws.specs.Legible.{AreLegible, IsLegible, begins_block, depth_of}
@@ -18,15 +18,15 @@ use Rattle.bz_layout_laws.specs.Spelled.{spelled_statement}
 use Rattle.bz_layout_laws.specs.Unplaced.{unplaced}
 
 abbrev sign : List ℕ → Item
-sign text = leaf Sign text nowhere
+sign text = leaf Sign text
 
 -- `x = [-'a']` with a comment in each place
 abbrev example : Statement
 example = record {
   before = codes "# top" ∷ [];
   nodes =
-      leaf Ident (codes "x") nowhere ∷ leaf Sign (codes "=") (record { line = 2; col = 3; fresh = false })
-      ∷ group ListKind (segs_of (record { before = codes "# a" ∷ []; nodes = leaf Sign (codes "-") nowhere ∷ leaf Text (codes "'a'") nowhere ∷ []; suffix = Some (codes "# b") } ∷ [])) false (codes "# c" ∷ [])
+      leaf Ident (codes "x") ∷ leaf Sign (codes "=")
+      ∷ group ListKind (segs_of (record { before = codes "# a" ∷ []; nodes = leaf Sign (codes "-") ∷ leaf Text (codes "'a'") ∷ []; suffix = Some (codes "# b") } ∷ [])) false (codes "# c" ∷ [])
       ∷ [];
   suffix = Some (codes "# d");
   class = Assign;
@@ -69,15 +69,15 @@ one_sign : AreLegible None Start (items_of (sign (codes "-") ∷ sign (codes "="
 one_sign h = false≢true h.2.0
 
 -- a block's word
-block : begins_block (items_of (leaf Word (codes "if") nowhere ∷ leaf Ident (codes "x") nowhere ∷ [])) ≡ true
+block : begins_block (items_of (leaf Word (codes "if") ∷ leaf Ident (codes "x") ∷ [])) ≡ true
 block = refl
 
 -- `(x,)` and `x[1]` have the shape, and a comprehension of two segments has none
 abbrev one_segment : Segs
-one_segment = segs_of (record { before = []; nodes = leaf Ident (codes "x") nowhere ∷ []; suffix = None } ∷ [])
+one_segment = segs_of (record { before = []; nodes = leaf Ident (codes "x") ∷ []; suffix = None } ∷ [])
 
 abbrev two_segments : Segs
-two_segments = segs_of (record { before = []; nodes = leaf Ident (codes "x") nowhere ∷ []; suffix = None } ∷ record { before = []; nodes = leaf Ident (codes "y") nowhere ∷ []; suffix = None } ∷ [])
+two_segments = segs_of (record { before = []; nodes = leaf Ident (codes "x") ∷ []; suffix = None } ∷ record { before = []; nodes = leaf Ident (codes "y") ∷ []; suffix = None } ∷ [])
 
 tuple : HasShape Paren one_segment true
 tuple = record { one = λ e. refl; comma = λ e. (refl, refl) }

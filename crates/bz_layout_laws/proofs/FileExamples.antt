@@ -12,7 +12,7 @@ use Rattle.bz_tree.specs.declared.stmt.Class.{Class}
 use Rattle.bz_tree.specs.declared.stmt.Class.TheVariants.{Load as LoadClass, Assign, Rule, Comment, Block}
 use Rattle.bz_tree.specs.declared.stmt.GroupKind.TheVariants.{Load, RuleCall}
 use Rattle.bz_tree.specs.Grammar.{comments}
-use Rattle.bz_tree.specs.Tree.{Item, leaf, group, Segment, Statement, segs_of, nowhere}
+use Rattle.bz_tree.specs.Tree.{Item, leaf, group, Segment, Statement, segs_of}
 use Rattle.bz_layout_laws.specs.FileRead.{AreStatementsIn}
 use Rattle.bz_layout_laws.specs.FileText.{text_from, chunks_from}
 use Rattle.bz_layout_laws.specs.ReadBack.{IsReadBack}
@@ -27,19 +27,19 @@ abbrev statement : Class → List Item → Statement
 statement class nodes = record { before = []; nodes = nodes; suffix = None; class = class; start = 1; end = 1 }
 
 abbrev load : List ℕ → List ℕ → Statement
-load file name = statement LoadClass (leaf Word (codes "load") nowhere ∷ group Load (segs_of (segment (leaf Text file nowhere ∷ []) ∷ segment (leaf Text name nowhere ∷ []) ∷ [])) false [] ∷ [])
+load file name = statement LoadClass (leaf Word (codes "load") ∷ group Load (segs_of (segment (leaf Text file ∷ []) ∷ segment (leaf Text name ∷ []) ∷ [])) false [] ∷ [])
 
 abbrev lines : Statement
 lines = record { before = codes "# c" ∷ []; nodes = []; suffix = None; class = Comment; start = 1; end = 1 }
 
 abbrev rule : Statement
-rule = statement Rule (leaf Ident (codes "r") nowhere ∷ group RuleCall (segs_of (segment (leaf Int (codes "1") nowhere ∷ []) ∷ [])) false [] ∷ [])
+rule = statement Rule (leaf Ident (codes "r") ∷ group RuleCall (segs_of (segment (leaf Int (codes "1") ∷ []) ∷ [])) false [] ∷ [])
 
 abbrev block : Statement
-block = statement Block (leaf Kept (codes "if x:\n  y") nowhere ∷ [])
+block = statement Block (leaf Kept (codes "if x:\n  y") ∷ [])
 
 abbrev assignment : Statement
-assignment = statement Assign (leaf Ident (codes "z") nowhere ∷ leaf Sign (codes "=") nowhere ∷ leaf Int (codes "1") nowhere ∷ [])
+assignment = statement Assign (leaf Ident (codes "z") ∷ leaf Sign (codes "=") ∷ leaf Int (codes "1") ∷ [])
 
 -- two loads, comment lines, a rule, a block and an assignment
 abbrev file : List Statement

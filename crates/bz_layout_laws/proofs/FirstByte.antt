@@ -33,7 +33,7 @@ use Rattle.bz_layout_laws.proofs.Texts.{line_whole}
 -- the first node is a word of a branch
 abbrev pub begins_branch : Items → Bool
 begins_branch no_items = false
-begins_branch (item (leaf kind text place) xs) = is_branch text
+begins_branch (item (leaf kind text) xs) = is_branch text
 begins_branch (item (group kind segs one_comma end) xs) = false
 
 -- a string that is spelled anew is none
@@ -78,8 +78,8 @@ nodes_of xs = items_pieces Broken 0 None Closed Start xs
 nodes_begin : (xs : Items) (ps : List Piece) (rest : List ℕ) → are_some xs ≡ true → AreLegible None Start xs → begins_branch xs ≡ false → are_texts (read_pieces (nodes_of xs ++ ps)) ≡ true
     → are_ended (read_pieces (nodes_of xs ++ ps)) rest ≡ true → goes_on If (bytes_of (nodes_of xs ++ ps) ++ rest) ≡ false
 nodes_begin no_items ps rest some h none texts ended = absurd (false≢true some)
-nodes_begin (item (leaf kind text place) xs) ps rest some h none texts ended =
-    first_piece kind (respell kind text) (tail_of (nodes_of (item (leaf kind text place) xs) ++ ps)) rest (leaf_line kind text h.1.1) (spelled_branch kind text none) texts ended
+nodes_begin (item (leaf kind text) xs) ps rest some h none texts ended =
+    first_piece kind (respell kind text) (tail_of (nodes_of (item (leaf kind text) xs) ++ ps)) rest (leaf_line kind text h.1.1) (spelled_branch kind text none) texts ended
 nodes_begin (item (group kind segs one_comma end) xs) ps rest some h none texts ended =
     first_piece Sign (opening kind) (tail_of (nodes_of (item (group kind segs one_comma end) xs) ++ ps)) rest refl (opening_branch kind) texts ended
 

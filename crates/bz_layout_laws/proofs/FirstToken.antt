@@ -72,7 +72,7 @@ front_token t ts none column word = record { token = t; first = ap (λ b. first_
 line_front : (first : ℕ) (s : Statement) (xs : Items) (rest : List Piece) (before lines : List ℕ) → are_some xs ≡ true → AreLegible None Start xs → begins_block xs ≡ false → column_at before ≡ 1
     → Front (tokens_of first before lines (read_pieces (items_pieces Broken 0 None Closed Start xs ++ rest)))
 line_front first s no_items rest before lines some legible word column = absurd (false≢true some)
-line_front first s (item (leaf kind text place) xs) rest before lines some legible word column =
+line_front first s (item (leaf kind text) xs) rest before lines some legible word column =
     front_token _ _ (no_aside kind text legible.1.1) (ap column_at (append-nil before) ∙ column) (no_word kind text word)
 line_front first s (item (group kind segs one_comma end) xs) rest before lines some legible word column =
     front_token _ _ refl (ap column_at (append-nil before) ∙ column) refl

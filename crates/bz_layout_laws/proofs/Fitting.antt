@@ -166,7 +166,7 @@ room_inside n a depth h = omega (arith, h)
 
 mutual
   item_fits : (depth : ℕ) (opened : List ℕ) (style : Style) (level : ℕ) (gap : Gap) (x : Item) → Stands opened gap → IsLegibleItem x → length opened + item_depth x ≤ depth → Fits depth opened (item_pieces style level gap x) opened
-  item_fits depth opened style level gap (leaf kind text place) stands h room =
+  item_fits depth opened style level gap (leaf kind text) stands h room =
       fits_free depth opened gap kind (respell kind text) stands (leaf_free kind text (respelled_text kind text h.0) h.1) (leaf_line kind text h.1)
   item_fits depth opened style level gap (group kind segs one_comma end) stands h room =
       let comma = has_commas kind one_comma (count segs) in

@@ -50,33 +50,33 @@ owns_have_for false at b (elem (bracket shape opening inner closing) xs) h = own
 -- places and the spelling of strings play no part
 comma_spelled : (x : Item) → is_comma (bare_spelled x) ≡ is_comma x
 comma_spelled (group kind segs one_comma end) = refl
-comma_spelled (leaf Sign text place) = refl
-comma_spelled (leaf Ident text place) = refl
-comma_spelled (leaf Word text place) = refl
-comma_spelled (leaf Int text place) = refl
-comma_spelled (leaf Text text place) = refl
-comma_spelled (leaf Kept text place) = refl
-comma_spelled (leaf LineKind text place) = refl
-comma_spelled (leaf Note text place) = refl
+comma_spelled (leaf Sign text) = refl
+comma_spelled (leaf Ident text) = refl
+comma_spelled (leaf Word text) = refl
+comma_spelled (leaf Int text) = refl
+comma_spelled (leaf Text text) = refl
+comma_spelled (leaf Kept text) = refl
+comma_spelled (leaf LineKind text) = refl
+comma_spelled (leaf Note text) = refl
 
 for_spelled : (x : Item) → is_for_item (bare_spelled x) ≡ is_for_item x
 for_spelled (group kind segs one_comma end) = refl
-for_spelled (leaf Sign text place) = refl
-for_spelled (leaf Ident text place) = refl
-for_spelled (leaf Word text place) = refl
-for_spelled (leaf Int text place) = refl
-for_spelled (leaf Text text place) = refl
-for_spelled (leaf Kept text place) = refl
-for_spelled (leaf LineKind text place) = refl
-for_spelled (leaf Note text place) = refl
+for_spelled (leaf Sign text) = refl
+for_spelled (leaf Ident text) = refl
+for_spelled (leaf Word text) = refl
+for_spelled (leaf Int text) = refl
+for_spelled (leaf Text text) = refl
+for_spelled (leaf Kept text) = refl
+for_spelled (leaf LineKind text) = refl
+for_spelled (leaf Note text) = refl
 
 pub comma_bare : (x : Item) → is_comma (bare x) ≡ is_comma x
 comma_bare (group kind segs one_comma end) = refl
-comma_bare (leaf kind text place) = refl
+comma_bare (leaf kind text) = refl
 
 pub for_bare : (x : Item) → is_for_item (bare x) ≡ is_for_item x
 for_bare (group kind segs one_comma end) = refl
-for_bare (leaf kind text place) = refl
+for_bare (leaf kind text) = refl
 
 mapped_for : (f : Item → Item) → ((x : Item) → is_comma (f x) ≡ is_comma x) → ((x : Item) → is_for_item (f x) ≡ is_for_item x) → (es : List Entry) → entries_have_for (map (entry_mapped f) es) ≡ entries_have_for es
 mapped_for f commas fors [] = refl

@@ -13,7 +13,7 @@ use Rattle.bz_token.specs.Reading.{Piece, tokens_of, AreTokensOf}
 use Rattle.bz_token_laws.proofs.Readable.{laid_tokens}
 use Rattle.bz_tree.specs.declared.stmt.Class.TheVariants.{Block}
 use Rattle.bz_tree.specs.Chunk.{IsReadAs}
-use Rattle.bz_tree.specs.Tree.{leaf, nowhere, Statement}
+use Rattle.bz_tree.specs.Tree.{leaf, Statement}
 use Rattle.bz_layout.specs.Layout.{layout_text}
 use Rattle.bz_layout_laws.specs.BlockIn.{IsBlockIn}
 use Rattle.bz_layout_laws.specs.KeptBlock.{IsKeptBlock}
@@ -47,7 +47,7 @@ abbrev kept : List ℕ
 kept = codes "def f():\n  pass"
 
 abbrev found : Statement
-found = record { before = []; nodes = leaf Kept kept (record { line = 1; col = 1; fresh = true }) ∷ []; suffix = None; class = Block; start = 1; end = 2 }
+found = record { before = []; nodes = leaf Kept kept ∷ []; suffix = None; class = Block; start = 1; end = 2 }
 
 reads : IsReadAs 1 chunk tokens found
 reads = record {
@@ -77,7 +77,7 @@ block_in : IsBlockIn 1 1 chunk found
 block_in = record { tokens = tokens; are = are; reads = reads; begins = refl }
 
 abbrev block : Statement
-block = record { before = codes "# c" ∷ []; nodes = leaf Kept kept nowhere ∷ []; suffix = None; class = Block; start = 0; end = 0 }
+block = record { before = codes "# c" ∷ []; nodes = leaf Kept kept ∷ []; suffix = None; class = Block; start = 0; end = 0 }
 
 is_kept : IsKeptBlock 1 block
 is_kept = record { first = 1; bytes = chunk; found = found; alone = one_chunk; read = block_in; comments = refl; is = refl }

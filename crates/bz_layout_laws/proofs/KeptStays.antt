@@ -18,7 +18,7 @@ use Rattle.bz_layout_laws.proofs.BlockBody.{body_of}
 use Rattle.bz_layout_laws.proofs.BlockWritten.{with_above}
 
 abbrev is_kept : Item → Bool
-is_kept (leaf Kept text place) = true
+is_kept (leaf Kept text) = true
 is_kept _ = false
 
 -- a kept text is the only node
@@ -30,8 +30,8 @@ is_kept_alone (x ∷ y ∷ xs) = false
 nodes_stay : (xs : List Item) → is_kept_alone (map bare xs) ≡ true → map bare (map spelled xs) ≡ map bare xs
 nodes_stay [] h = refl
 nodes_stay (x ∷ y ∷ xs) h = absurd (false≢true h)
-nodes_stay (leaf Kept text place ∷ []) h = refl
-nodes_stay (leaf _ text place ∷ []) h = absurd (false≢true h)
+nodes_stay (leaf Kept text ∷ []) h = refl
+nodes_stay (leaf _ text ∷ []) h = absurd (false≢true h)
 nodes_stay (group kind segs one_comma end ∷ []) h = absurd (false≢true h)
 
 has_kept : (depth : ℕ) (s : Statement) → IsKeptBlock depth s → is_kept_alone (map bare s.nodes) ≡ true

@@ -11,7 +11,7 @@ use Rattle.bz_layout_laws.specs.TextsOfKinds.{HasText, HaveTexts, SegsHaveTexts,
 
 mutual
   legible_item : (x : Item) → HasText x → MayStandIn x → IsLegibleItem x
-  legible_item (leaf kind text place) h may = h
+  legible_item (leaf kind text) h may = h
   legible_item (group kind segs one_comma end) h may = (legible_segs kind segs h.0 may, h.1)
 
   legible_nodes : (within : Option GroupKind) (left : Edge) (xs : Items) → HaveTexts xs → MayFollow within left xs → AreLegible within left xs

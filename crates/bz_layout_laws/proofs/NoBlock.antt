@@ -27,7 +27,7 @@ leads Sum = true
 leads _ = false
 
 abbrev pub opens : Item → Bool
-opens (leaf kind text place) = leads (leaf_role kind text)
+opens (leaf kind text) = leads (leaf_role kind text)
 opens (group kind segs one_comma end) = true
 
 abbrev pub begins_operand : Items → Bool
@@ -74,7 +74,7 @@ leading_no_opener kind text is =
     rw (no_def, no_for, no_if) refl
 
 opening_no_block : (x : Item) (xs : Items) → opens x ≡ true → HasText x → begins_block (item x xs) ≡ false
-opening_no_block (leaf kind text place) xs h is = leading_no_opener kind text (both (is_text kind text) _ is.0 h)
+opening_no_block (leaf kind text) xs h is = leading_no_opener kind text (both (is_text kind text) _ is.0 h)
 opening_no_block (group kind segs one_comma end) xs h is = refl
 
 operand_no_block : (xs : Items) → begins_operand xs ≡ true → HaveTexts xs → begins_block xs ≡ false
@@ -83,7 +83,7 @@ operand_no_block (item x xs) h are = opening_no_block x xs h are.0
 
 -- what begins with an operand
 role_opens : (x : Item) → leads (token_role x) ≡ true → opens x ≡ true
-role_opens (leaf kind text place) h = h
+role_opens (leaf kind text) h = h
 role_opens (group kind segs one_comma end) h = refl
 
 prefix_leads : (r : Role) → is_prefix r ≡ true → leads r ≡ true
@@ -126,8 +126,8 @@ expr_begins (last_test t) = test_begins t
 expr_begins (test {xs} {a} {b} c is t rc more) = ap begins_operand is ∙ join_begins a (item c b) (test_begins t)
 
 load_no_block : (w : Item) (xs : Items) → is_load_word w ≡ true → begins_block (item w xs) ≡ false
-load_no_block (leaf Word text place) xs is = ap (λ t. is_some (opener_of t)) (same_bytes text (codes "load") is)
-load_no_block (leaf _ text place) xs is = absurd (false≢true is)
+load_no_block (leaf Word text) xs is = ap (λ t. is_some (opener_of t)) (same_bytes text (codes "load") is)
+load_no_block (leaf _ text) xs is = absurd (false≢true is)
 load_no_block (group kind segs one_comma end) xs is = refl
 
 load_begins : {xs : Items} → IsLoad xs → begins_block xs ≡ false

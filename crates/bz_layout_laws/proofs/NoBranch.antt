@@ -35,12 +35,12 @@ leading_no_branch kind text is =
 
 operand_no_branch : (xs : Items) → begins_operand xs ≡ true → HaveTexts xs → begins_branch xs ≡ false
 operand_no_branch no_items h are = refl
-operand_no_branch (item (leaf kind text place) xs) h are = leading_no_branch kind text (both (is_text kind text) _ are.0.0 h)
+operand_no_branch (item (leaf kind text) xs) h are = leading_no_branch kind text (both (is_text kind text) _ are.0.0 h)
 operand_no_branch (item (group kind segs one_comma end) xs) h are = refl
 
 load_no_branch : (w : Item) (xs : Items) → is_load_word w ≡ true → begins_branch (item w xs) ≡ false
-load_no_branch (leaf Word text place) xs is = ap is_branch (same_bytes text (codes "load") is)
-load_no_branch (leaf _ text place) xs is = absurd (false≢true is)
+load_no_branch (leaf Word text) xs is = ap is_branch (same_bytes text (codes "load") is)
+load_no_branch (leaf _ text) xs is = absurd (false≢true is)
 load_no_branch (group kind segs one_comma end) xs is = refl
 
 load_begins : {xs : Items} → IsLoad xs → begins_branch xs ≡ false

@@ -57,7 +57,7 @@ suffix_no_line (Some text) = one Apart Note text refl
 
 mutual
   item_no_line : (style : Style) (level : ℕ) (gap : Gap) (x : Item) → IsLegibleItem x → HasNoLine (item_pieces style level gap x)
-  item_no_line style level gap (leaf kind text place) h = one gap kind (respell kind text) (leaf_line kind text h.1)
+  item_no_line style level gap (leaf kind text) h = one gap kind (respell kind text) (leaf_line kind text h.1)
   item_no_line style level gap (group kind segs one_comma end) h =
       let comma = has_commas kind one_comma (count segs) in
       let last : List Piece = piece (Line level) Sign (closing kind) ∷ [] in

@@ -9,24 +9,24 @@ use Rattle.bz_tree.specs.declared.stmt.GroupKind.TheVariants.{RuleCall, ListComp
 use Rattle.bz_tree.specs.declared.stmt.Class.TheVariants.{Rule, Comment}
 use Rattle.bz_tree.specs.declared.kinds.Shape.TheVariants.{Round, Square}
 use Rattle.bz_tree.specs.Owners.{is_filled}
-use Rattle.bz_tree.specs.Tree.{Item, leaf, group, Segs, Statement, items_of, segs_of, nowhere}
+use Rattle.bz_tree.specs.Tree.{Item, leaf, group, Segs, Statement, items_of, segs_of}
 use Rattle.bz_layout.specs.Layout.{layout_text}
 use Rattle.bz_layout_laws.specs.Inside.{HasShape}
 use Rattle.bz_layout_laws.specs.Legible.{IsLegible, begins_block}
 use Rattle.bz_layout_laws.specs.Parsed.{IsParsed, have_for}
 
 abbrev word : List ℕ → Item
-word text = leaf Word text nowhere
+word text = leaf Word text
 
 abbrev name : List ℕ → Item
-name text = leaf Ident text nowhere
+name text = leaf Ident text
 
 -- `x for x in y`
 abbrev clause : Segs
 clause = segs_of (record { before = []; nodes = name (codes "x") ∷ word (codes "for") ∷ name (codes "x") ∷ word (codes "in") ∷ name (codes "y") ∷ []; suffix = None } ∷ [])
 
 abbrev arguments : Segs
-arguments = segs_of (record { before = []; nodes = name (codes "srcs") ∷ leaf Sign (codes "=") nowhere ∷ group ListComp clause false [] ∷ []; suffix = None } ∷ [])
+arguments = segs_of (record { before = []; nodes = name (codes "srcs") ∷ leaf Sign (codes "=") ∷ group ListComp clause false [] ∷ []; suffix = None } ∷ [])
 
 -- `rule(srcs = [x for x in y])`
 abbrev rule : Statement

@@ -31,7 +31,7 @@ plain_group Curly b true = refl
 plain_group Curly b false = refl
 
 plain_item : (b : Preceding) (x : Item) → HasKind b x → plain_call x ≡ x
-plain_item b (leaf kind text place) h = refl
+plain_item b (leaf kind text) h = refl
 plain_item b (group kind segs one_comma end) h = ap (λ k. group k segs one_comma end) (ap plain_kind h.1 ∙ plain_group h.0 b _ ∙ sym h.1)
 
 plain_same : (one : Bool) (b : Preceding) (xs : List Item) → HaveKinds one b (items_of xs) → plain_calls xs ≡ xs
@@ -52,14 +52,14 @@ call_kind DictComp h = absurd (false≢true h)
 mutual
   plain_rule : (xs : List Item) → is_rule xs ≡ true → plain_calls (rule_call xs) ≡ plain_calls xs
   plain_rule [] h = refl
-  plain_rule (leaf kind text place ∷ []) h = refl
-  plain_rule (leaf kind text place ∷ y ∷ ys) h = ap (λ l. leaf kind text place ∷ l) (plain_after (y ∷ ys) (and_parts (is_ident kind) (is_rule_after (y ∷ ys)) h).1)
+  plain_rule (leaf kind text ∷ []) h = refl
+  plain_rule (leaf kind text ∷ y ∷ ys) h = ap (λ l. leaf kind text ∷ l) (plain_after (y ∷ ys) (and_parts (is_ident kind) (is_rule_after (y ∷ ys)) h).1)
   plain_rule (group kind segs one_comma end ∷ xs) h = absurd (false≢true h)
 
   plain_after : (xs : List Item) → is_rule_after xs ≡ true → plain_calls (rule_call xs) ≡ plain_calls xs
   plain_after [] h = refl
-  plain_after (leaf kind text place ∷ []) h = refl
-  plain_after (leaf kind text place ∷ y ∷ ys) h = ap (λ l. leaf kind text place ∷ l) (plain_rule (y ∷ ys) (and_parts (is_dot kind text) (is_rule (y ∷ ys)) h).1)
+  plain_after (leaf kind text ∷ []) h = refl
+  plain_after (leaf kind text ∷ y ∷ ys) h = ap (λ l. leaf kind text ∷ l) (plain_rule (y ∷ ys) (and_parts (is_dot kind text) (is_rule (y ∷ ys)) h).1)
   plain_after (group kind segs one_comma end ∷ []) h = ap (λ k. group k segs one_comma end ∷ []) (call_kind kind (and_parts (is_call kind) true h).0)
   plain_after (group kind segs one_comma end ∷ y ∷ ys) h = absurd (false≢true (and_parts (is_call kind) false h).1)
 

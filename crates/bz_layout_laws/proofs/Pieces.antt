@@ -57,7 +57,7 @@ gap_is first Operand x h = closed_or_space (closes_up x)
 
 mutual
   item_pieces_are : (level : ℕ) (gap : Gap) (x : Item) → is_apart gap ≡ false → piece_lexemes (item_pieces Broken level gap x) ≡ item_lexemes x
-  item_pieces_are level gap (leaf kind text place) h = rw h refl
+  item_pieces_are level gap (leaf kind text) h = rw h refl
   item_pieces_are level gap (group kind segs one_comma end) h =
       let comma = has_commas kind one_comma (count segs) in
       let last : List Piece = piece (Line level) Sign (closing kind) ∷ [] in

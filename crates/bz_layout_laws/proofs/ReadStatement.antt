@@ -46,7 +46,7 @@ rule_shape segs one_comma h = record { one = λ e. absurd (false≢true e); comm
 
 -- it is read as a call
 top_reads : (b : Preceding) (x : Item) (ls : List Lexeme) (es : List Entry) (tail : List Lexeme) → IsLegibleItem x → HasKind b (plain_call x) → Reads true (after_item x) ls es tail → Reads true b (item_lexemes x ++ ls) (a_node (plain_call x) ∷ es) tail
-top_reads b (leaf kind text place) ls es tail legible kinds next = item_reads true b (leaf kind text place) ls es tail legible (λ e. refl) kinds next
+top_reads b (leaf kind text) ls es tail legible kinds next = item_reads true b (leaf kind text) ls es tail legible (λ e. refl) kinds next
 top_reads b (group RuleCall segs one_comma end) ls es tail legible kinds next =
     let trailing = has_last_comma RuleCall segs one_comma end in
     let shape = rule_shape segs one_comma kinds.2 in
@@ -64,7 +64,7 @@ top_reads b (group ListComp segs one_comma end) ls es tail legible kinds next = 
 top_reads b (group DictComp segs one_comma end) ls es tail legible kinds next = item_reads true b (group DictComp segs one_comma end) ls es tail legible (λ e. refl) kinds next
 
 after_plain : (x : Item) → after_item (plain_call x) ≡ after_item x
-after_plain (leaf kind text place) = refl
+after_plain (leaf kind text) = refl
 after_plain (group kind segs one_comma end) = refl
 
 tops_read : (b : Preceding) (within : Option GroupKind) (left : Edge) (xs : List Item) (ls : List Lexeme) (es : List Entry) (tail : List Lexeme) → AreLegible within left (items_of xs) → HaveKinds true b (items_of (plain_calls xs))

@@ -125,11 +125,11 @@ leaf_begins Note text h is = absurd (false≢true h)
 leaf_begins Kept text h is = absurd (false≢true h)
 
 pub stands_inside : (x : Item) → is_stray (token_role x) ≡ false → MayStandIn x
-stands_inside (leaf kind text place) h = tt
+stands_inside (leaf kind text) h = tt
 stands_inside (group kind segs one_comma end) h = absurd (false≢true (sym h))
 
 pub token_apart : (x : Item) → stands_apart (token_role x) ≡ true → HasText x → StandsApart x
-token_apart (leaf kind text place) h is = record { apart = leaf_begins kind text h is.0; inside = tt }
+token_apart (leaf kind text) h is = record { apart = leaf_begins kind text h is.0; inside = tt }
 token_apart (group kind segs one_comma end) h is = absurd (false≢true h)
 
 -- no sign is an operand
@@ -154,14 +154,14 @@ sign_no_operand text =
     (either_role (is_infix text) Operator Stray refl refl)))))))))
 
 operand_rests : (x : Item) → is_operand (token_role x) ≡ true → (within : Option GroupKind) (left : Edge) → holds_on (edge_after within left x) ≡ false
-operand_rests (leaf Sign text place) h within left = absurd (false≢true (sym (sign_no_operand text) ∙ h))
-operand_rests (leaf Ident text place) h within left = refl
-operand_rests (leaf Word text place) h within left = refl
-operand_rests (leaf Int text place) h within left = refl
-operand_rests (leaf Text text place) h within left = refl
-operand_rests (leaf LineKind text place) h within left = refl
-operand_rests (leaf Note text place) h within left = refl
-operand_rests (leaf Kept text place) h within left = refl
+operand_rests (leaf Sign text) h within left = absurd (false≢true (sym (sign_no_operand text) ∙ h))
+operand_rests (leaf Ident text) h within left = refl
+operand_rests (leaf Word text) h within left = refl
+operand_rests (leaf Int text) h within left = refl
+operand_rests (leaf Text text) h within left = refl
+operand_rests (leaf LineKind text) h within left = refl
+operand_rests (leaf Note text) h within left = refl
+operand_rests (leaf Kept text) h within left = refl
 operand_rests (group kind segs one_comma end) h within left = refl
 
 operand_apart : (r : Role) → is_operand r ≡ true → stands_apart r ≡ true
@@ -175,6 +175,6 @@ token_alone x h is = record { node = token_apart x (operand_apart (token_role x)
 
 -- the keyword `load`
 pub load_apart : (w : Item) → is_load_word w ≡ true → StandsApart w
-load_apart (leaf Word text place) is = record { apart = ap (begins is_later) (same_bytes text (codes "load") is); inside = tt }
-load_apart (leaf _ text place) is = absurd (false≢true is)
+load_apart (leaf Word text) is = record { apart = ap (begins is_later) (same_bytes text (codes "load") is); inside = tt }
+load_apart (leaf _ text) is = absurd (false≢true is)
 load_apart (group kind segs one_comma end) is = absurd (false≢true is)

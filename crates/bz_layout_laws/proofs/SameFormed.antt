@@ -28,7 +28,7 @@ use Rattle.bz_layout_laws.proofs.WellFormed.{formed_again, formed_only, formed_c
 
 -- nodes that are the same but for their kinds, and without places the same altogether, are the same
 abbrev kind_of : Item → GroupKind
-kind_of (leaf kind text place) = Call
+kind_of (leaf kind text) = Call
 kind_of (group kind segs one_comma end) = kind
 
 abbrev first_or : Item → List Item → Item
@@ -40,11 +40,11 @@ rest_of [] = []
 rest_of (x ∷ xs) = xs
 
 plain_back : (x : Item) → bare (plain_call x) ≡ bare x → plain_call x ≡ x
-plain_back (leaf kind text place) e = refl
+plain_back (leaf kind text) e = refl
 plain_back (group kind segs one_comma end) e = ap (λ k. group k segs one_comma end) (ap kind_of e)
 
 call_back : (x : Item) → bare (as_rule_call (plain_call x)) ≡ bare x → as_rule_call (plain_call x) ≡ x
-call_back (leaf kind text place) e = refl
+call_back (leaf kind text) e = refl
 call_back (group kind segs one_comma end) e = ap (λ k. group k segs one_comma end) (ap kind_of e)
 
 plains_back : (xs : List Item) → map bare (plain_calls xs) ≡ map bare xs → plain_calls xs ≡ xs
@@ -64,7 +64,7 @@ nodes_back xs = by (is_rule (plain_calls xs))
     by false e = plains_back xs e
 
 plain_bare : (x : Item) → bare (plain_call x) ≡ plain_call (bare x)
-plain_bare (leaf kind text place) = refl
+plain_bare (leaf kind text) = refl
 plain_bare (group kind segs one_comma end) = refl
 
 plains_bare : (xs : List Item) → map bare (plain_calls xs) ≡ plain_calls (map bare xs)

@@ -16,7 +16,7 @@ use Rattle.bz_layout_laws.proofs.ReadSteps.{bare_spelled}
 -- nodes without places and with other texts
 abbrev mutual
   told : (Kind → List ℕ → List ℕ) → Item → Item
-  told f (leaf kind text place) = leaf kind (f kind text) nowhere
+  told f (leaf kind text) = leaf kind (f kind text)
   told f (group kind segs one_comma end) = group kind (told_segs f segs) one_comma end
 
   told_items : (Kind → List ℕ → List ℕ) → Items → Items
@@ -32,7 +32,7 @@ as_is kind text = text
 
 mutual
   told_bare : (x : Item) → told as_is x ≡ bare x
-  told_bare (leaf kind text place) = refl
+  told_bare (leaf kind text) = refl
   told_bare (group kind segs one_comma end) = ap (λ ss. group kind ss one_comma end) (segs_bare segs)
 
   items_bare : (xs : Items) → told_items as_is xs ≡ bare_items xs
@@ -45,7 +45,7 @@ mutual
 
 mutual
   told_spelled : (x : Item) → told respell x ≡ bare_spelled x
-  told_spelled (leaf kind text place) = refl
+  told_spelled (leaf kind text) = refl
   told_spelled (group kind segs one_comma end) = ap (λ ss. group kind ss one_comma end) (segs_spelled segs)
 
   items_spelled : (xs : Items) → told_items respell xs ≡ bare_items (spelled_items xs)
@@ -63,25 +63,25 @@ record KeepsRoles (f : Kind → List ℕ → List ℕ) : Type 0 where
 
 load_as_is : (x : Item) → is_load_word (told as_is x) ≡ is_load_word x
 load_as_is (group kind segs one_comma end) = refl
-load_as_is (leaf Sign text place) = refl
-load_as_is (leaf Ident text place) = refl
-load_as_is (leaf Word text place) = refl
-load_as_is (leaf Int text place) = refl
-load_as_is (leaf Text text place) = refl
-load_as_is (leaf Kept text place) = refl
-load_as_is (leaf LineKind text place) = refl
-load_as_is (leaf Note text place) = refl
+load_as_is (leaf Sign text) = refl
+load_as_is (leaf Ident text) = refl
+load_as_is (leaf Word text) = refl
+load_as_is (leaf Int text) = refl
+load_as_is (leaf Text text) = refl
+load_as_is (leaf Kept text) = refl
+load_as_is (leaf LineKind text) = refl
+load_as_is (leaf Note text) = refl
 
 load_respelled : (x : Item) → is_load_word (told respell x) ≡ is_load_word x
 load_respelled (group kind segs one_comma end) = refl
-load_respelled (leaf Sign text place) = refl
-load_respelled (leaf Ident text place) = refl
-load_respelled (leaf Word text place) = refl
-load_respelled (leaf Int text place) = refl
-load_respelled (leaf Text text place) = refl
-load_respelled (leaf Kept text place) = refl
-load_respelled (leaf LineKind text place) = refl
-load_respelled (leaf Note text place) = refl
+load_respelled (leaf Sign text) = refl
+load_respelled (leaf Ident text) = refl
+load_respelled (leaf Word text) = refl
+load_respelled (leaf Int text) = refl
+load_respelled (leaf Text text) = refl
+load_respelled (leaf Kept text) = refl
+load_respelled (leaf LineKind text) = refl
+load_respelled (leaf Note text) = refl
 
 role_respelled : (kind : Kind) (text : List ℕ) → leaf_role kind (respell kind text) ≡ leaf_role kind text
 role_respelled Sign text = refl
@@ -110,7 +110,7 @@ mutual
   accepts_told f keeps stage (item x xs) = ap (λ r. accepts (next stage r) (told_items f xs)) (role_told f keeps x) ∙ accepts_told f keeps (next stage (role_of x)) xs
 
   role_told : (f : Kind → List ℕ → List ℕ) → KeepsRoles f → (x : Item) → role_of (told f x) ≡ role_of x
-  role_told f keeps (leaf kind text place) = keeps.role kind text
+  role_told f keeps (leaf kind text) = keeps.role kind text
   role_told f keeps (group kind segs one_comma end) = rw (single_told f segs, each_told f keeps (begin kind) segs) refl
 
   each_told : (f : Kind → List ℕ → List ℕ) → KeepsRoles f → (stage : _) (ss : Segs) → each stage (told_segs f ss) ≡ each stage ss
@@ -118,7 +118,7 @@ mutual
   each_told f keeps stage (seg before nodes suffix ss) = λ i. accepts_told f keeps stage nodes i && each_told f keeps stage ss i
 
 string_item_told : (f : Kind → List ℕ → List ℕ) → KeepsRoles f → (x : Item) → is_string_item (told f x) ≡ is_string_item x
-string_item_told f keeps (leaf kind text place) = ap is_value (keeps.role kind text)
+string_item_told f keeps (leaf kind text) = ap is_value (keeps.role kind text)
 string_item_told f keeps (group kind segs one_comma end) = refl
 
 string_told : (f : Kind → List ℕ → List ℕ) → KeepsRoles f → (xs : Items) → is_string (told_items f xs) ≡ is_string xs
@@ -142,7 +142,7 @@ loaded_told f keeps no_segs = refl
 loaded_told f keeps (seg before nodes suffix ss) = λ i. string_told f keeps nodes i && arguments_told f keeps ss i
 
 load_group_told : (f : Kind → List ℕ → List ℕ) → KeepsRoles f → (x : Item) → is_load_group (told f x) ≡ is_load_group x
-load_group_told f keeps (leaf kind text place) = refl
+load_group_told f keeps (leaf kind text) = refl
 load_group_told f keeps (group kind segs one_comma end) = ap (λ b. is_load_kind kind && b) (loaded_told f keeps segs)
 
 load_told : (f : Kind → List ℕ → List ℕ) → KeepsRoles f → (xs : Items) → is_load (told_items f xs) ≡ is_load xs

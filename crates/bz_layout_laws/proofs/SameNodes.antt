@@ -23,7 +23,7 @@ some_bare (item x xs) = refl
 
 mutual
   text_bare : (x : Item) → HasText (bare x) ≡ HasText x
-  text_bare (leaf kind text place) = refl
+  text_bare (leaf kind text) = refl
   text_bare (group kind segs one_comma end) = λ i. segs_texts_bare segs i × AreComments end
 
   pub texts_bare : (xs : Items) → HaveTexts (bare_items xs) ≡ HaveTexts xs
@@ -37,7 +37,7 @@ mutual
 -- depth
 mutual
   depth_bare : (x : Item) → item_depth (bare x) ≡ item_depth x
-  depth_bare (leaf kind text place) = refl
+  depth_bare (leaf kind text) = refl
   depth_bare (group kind segs one_comma end) = ap suc (segs_depth_bare segs)
 
   pub items_depth_bare : (xs : Items) → items_depth (bare_items xs) ≡ items_depth xs
@@ -50,7 +50,7 @@ mutual
 
 -- kinds
 after_bare : (x : Item) → after_item (bare x) ≡ after_item x
-after_bare (leaf kind text place) = refl
+after_bare (leaf kind text) = refl
 after_bare (group kind segs one_comma end) = refl
 
 nodes_for_bare : (xs : Items) → nodes_have_for (bare_items xs) ≡ nodes_have_for xs
@@ -67,7 +67,7 @@ shape_by kind ss ts one_comma e h = record { one = λ is. ap (λ n. nat_le n 1) 
 
 mutual
   kind_bare : (b : Preceding) (x : Item) → HasKind b x → HasKind b (bare x)
-  kind_bare b (leaf kind text place) h = tt
+  kind_bare b (leaf kind text) h = tt
   kind_bare b (group kind segs one_comma end) h =
       (h.0, h.1 ∙ ap (group_kind h.0 b) (sym (for_in_bare segs)), shape_by kind segs (bare_segs segs) one_comma (sym (count_bare segs)) h.2, segs_kinds_bare (is_one kind) segs h.3)
 
@@ -81,7 +81,7 @@ mutual
 
 mutual
   kind_placed : (b : Preceding) (x : Item) → HasKind b (bare x) → HasKind b x
-  kind_placed b (leaf kind text place) h = tt
+  kind_placed b (leaf kind text) h = tt
   kind_placed b (group kind segs one_comma end) h =
       (h.0, h.1 ∙ ap (group_kind h.0 b) (for_in_bare segs), shape_by kind (bare_segs segs) segs one_comma (count_bare segs) h.2, segs_kinds_placed (is_one kind) segs h.3)
 

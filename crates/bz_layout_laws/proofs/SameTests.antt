@@ -23,50 +23,50 @@ is_nothing_over f (x ∷ xs) = refl
 
 kept_bare : (x : Item) → is_kept (bare x) ≡ is_kept x
 kept_bare (group kind segs one_comma end) = refl
-kept_bare (leaf Sign text place) = refl
-kept_bare (leaf Ident text place) = refl
-kept_bare (leaf Word text place) = refl
-kept_bare (leaf Int text place) = refl
-kept_bare (leaf Text text place) = refl
-kept_bare (leaf Kept text place) = refl
-kept_bare (leaf LineKind text place) = refl
-kept_bare (leaf Note text place) = refl
+kept_bare (leaf Sign text) = refl
+kept_bare (leaf Ident text) = refl
+kept_bare (leaf Word text) = refl
+kept_bare (leaf Int text) = refl
+kept_bare (leaf Text text) = refl
+kept_bare (leaf Kept text) = refl
+kept_bare (leaf LineKind text) = refl
+kept_bare (leaf Note text) = refl
 
 load_bare : (x : Item) → is_load_word (bare x) ≡ is_load_word x
 load_bare (group kind segs one_comma end) = refl
-load_bare (leaf Sign text place) = refl
-load_bare (leaf Ident text place) = refl
-load_bare (leaf Word text place) = refl
-load_bare (leaf Int text place) = refl
-load_bare (leaf Text text place) = refl
-load_bare (leaf Kept text place) = refl
-load_bare (leaf LineKind text place) = refl
-load_bare (leaf Note text place) = refl
+load_bare (leaf Sign text) = refl
+load_bare (leaf Ident text) = refl
+load_bare (leaf Word text) = refl
+load_bare (leaf Int text) = refl
+load_bare (leaf Text text) = refl
+load_bare (leaf Kept text) = refl
+load_bare (leaf LineKind text) = refl
+load_bare (leaf Note text) = refl
 
 assign_bare : (x : Item) → is_assign (bare x) ≡ is_assign x
 assign_bare (group kind segs one_comma end) = refl
-assign_bare (leaf Sign text place) = refl
-assign_bare (leaf Ident text place) = refl
-assign_bare (leaf Word text place) = refl
-assign_bare (leaf Int text place) = refl
-assign_bare (leaf Text text place) = refl
-assign_bare (leaf Kept text place) = refl
-assign_bare (leaf LineKind text place) = refl
-assign_bare (leaf Note text place) = refl
+assign_bare (leaf Sign text) = refl
+assign_bare (leaf Ident text) = refl
+assign_bare (leaf Word text) = refl
+assign_bare (leaf Int text) = refl
+assign_bare (leaf Text text) = refl
+assign_bare (leaf Kept text) = refl
+assign_bare (leaf LineKind text) = refl
+assign_bare (leaf Note text) = refl
 
 mutual
   rule_bare : (xs : List Item) → is_rule (map bare xs) ≡ is_rule xs
   rule_bare [] = refl
-  rule_bare (leaf kind text place ∷ xs) = ap (λ b. is_ident kind && b) (after_bare xs)
+  rule_bare (leaf kind text ∷ xs) = ap (λ b. is_ident kind && b) (after_bare xs)
   rule_bare (group kind segs one_comma end ∷ xs) = refl
 
   after_bare : (xs : List Item) → is_rule_after (map bare xs) ≡ is_rule_after xs
   after_bare [] = refl
-  after_bare (leaf kind text place ∷ xs) = ap (λ b. is_dot kind text && b) (rule_bare xs)
+  after_bare (leaf kind text ∷ xs) = ap (λ b. is_dot kind text && b) (rule_bare xs)
   after_bare (group kind segs one_comma end ∷ xs) = ap (λ b. is_call kind && b) (is_nothing_over bare xs)
 
 call_bare : (x : Item) → bare (as_rule_call x) ≡ as_rule_call (bare x)
-call_bare (leaf kind text place) = refl
+call_bare (leaf kind text) = refl
 call_bare (group kind segs one_comma end) = refl
 
 pub tests_bare : SameTests bare
@@ -74,36 +74,36 @@ tests_bare = record { kept = kept_bare; load = load_bare; assign = assign_bare; 
 
 kept_spelled : (x : Item) → is_kept (bare_spelled x) ≡ is_kept x
 kept_spelled (group kind segs one_comma end) = refl
-kept_spelled (leaf Sign text place) = refl
-kept_spelled (leaf Ident text place) = refl
-kept_spelled (leaf Word text place) = refl
-kept_spelled (leaf Int text place) = refl
-kept_spelled (leaf Text text place) = refl
-kept_spelled (leaf Kept text place) = refl
-kept_spelled (leaf LineKind text place) = refl
-kept_spelled (leaf Note text place) = refl
+kept_spelled (leaf Sign text) = refl
+kept_spelled (leaf Ident text) = refl
+kept_spelled (leaf Word text) = refl
+kept_spelled (leaf Int text) = refl
+kept_spelled (leaf Text text) = refl
+kept_spelled (leaf Kept text) = refl
+kept_spelled (leaf LineKind text) = refl
+kept_spelled (leaf Note text) = refl
 
 load_spelled : (x : Item) → is_load_word (bare_spelled x) ≡ is_load_word x
 load_spelled (group kind segs one_comma end) = refl
-load_spelled (leaf Sign text place) = refl
-load_spelled (leaf Ident text place) = refl
-load_spelled (leaf Word text place) = refl
-load_spelled (leaf Int text place) = refl
-load_spelled (leaf Text text place) = refl
-load_spelled (leaf Kept text place) = refl
-load_spelled (leaf LineKind text place) = refl
-load_spelled (leaf Note text place) = refl
+load_spelled (leaf Sign text) = refl
+load_spelled (leaf Ident text) = refl
+load_spelled (leaf Word text) = refl
+load_spelled (leaf Int text) = refl
+load_spelled (leaf Text text) = refl
+load_spelled (leaf Kept text) = refl
+load_spelled (leaf LineKind text) = refl
+load_spelled (leaf Note text) = refl
 
 assign_spelled : (x : Item) → is_assign (bare_spelled x) ≡ is_assign x
 assign_spelled (group kind segs one_comma end) = refl
-assign_spelled (leaf Sign text place) = refl
-assign_spelled (leaf Ident text place) = refl
-assign_spelled (leaf Word text place) = refl
-assign_spelled (leaf Int text place) = refl
-assign_spelled (leaf Text text place) = refl
-assign_spelled (leaf Kept text place) = refl
-assign_spelled (leaf LineKind text place) = refl
-assign_spelled (leaf Note text place) = refl
+assign_spelled (leaf Sign text) = refl
+assign_spelled (leaf Ident text) = refl
+assign_spelled (leaf Word text) = refl
+assign_spelled (leaf Int text) = refl
+assign_spelled (leaf Text text) = refl
+assign_spelled (leaf Kept text) = refl
+assign_spelled (leaf LineKind text) = refl
+assign_spelled (leaf Note text) = refl
 
 dot_spelled : (kind : Kind) (text : List ℕ) → is_dot kind (respell kind text) ≡ is_dot kind text
 dot_spelled Sign text = refl
@@ -118,16 +118,16 @@ dot_spelled Note text = refl
 mutual
   rule_spelled : (xs : List Item) → is_rule (map bare_spelled xs) ≡ is_rule xs
   rule_spelled [] = refl
-  rule_spelled (leaf kind text place ∷ xs) = ap (λ b. is_ident kind && b) (after_spelled xs)
+  rule_spelled (leaf kind text ∷ xs) = ap (λ b. is_ident kind && b) (after_spelled xs)
   rule_spelled (group kind segs one_comma end ∷ xs) = refl
 
   after_spelled : (xs : List Item) → is_rule_after (map bare_spelled xs) ≡ is_rule_after xs
   after_spelled [] = refl
-  after_spelled (leaf kind text place ∷ xs) = λ i. dot_spelled kind text i && rule_spelled xs i
+  after_spelled (leaf kind text ∷ xs) = λ i. dot_spelled kind text i && rule_spelled xs i
   after_spelled (group kind segs one_comma end ∷ xs) = ap (λ b. is_call kind && b) (is_nothing_over bare_spelled xs)
 
 call_spelled : (x : Item) → bare_spelled (as_rule_call x) ≡ as_rule_call (bare_spelled x)
-call_spelled (leaf kind text place) = refl
+call_spelled (leaf kind text) = refl
 call_spelled (group kind segs one_comma end) = refl
 
 pub tests_spelled : SameTests bare_spelled

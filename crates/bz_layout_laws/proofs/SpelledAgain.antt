@@ -17,25 +17,25 @@ use Rattle.bz_layout_laws.proofs.Respelled.{respelled_once}
 use Rattle.bz_layout_laws.proofs.Bare.{same_text}
 
 closes_spelled : (x : Item) → closes_up (spelled x) ≡ closes_up x
-closes_spelled (leaf Sign text place) = refl
-closes_spelled (leaf Ident text place) = refl
-closes_spelled (leaf Word text place) = refl
-closes_spelled (leaf Int text place) = refl
-closes_spelled (leaf Text text place) = refl
-closes_spelled (leaf LineKind text place) = refl
-closes_spelled (leaf Note text place) = refl
-closes_spelled (leaf Kept text place) = refl
+closes_spelled (leaf Sign text) = refl
+closes_spelled (leaf Ident text) = refl
+closes_spelled (leaf Word text) = refl
+closes_spelled (leaf Int text) = refl
+closes_spelled (leaf Text text) = refl
+closes_spelled (leaf LineKind text) = refl
+closes_spelled (leaf Note text) = refl
+closes_spelled (leaf Kept text) = refl
 closes_spelled (group kind segs one_comma end) = refl
 
 edge_spelled : (within : Option GroupKind) (left : Edge) (x : Item) → edge_after within left (spelled x) ≡ edge_after within left x
-edge_spelled within left (leaf Sign text place) = refl
-edge_spelled within left (leaf Ident text place) = refl
-edge_spelled within left (leaf Word text place) = refl
-edge_spelled within left (leaf Int text place) = refl
-edge_spelled within left (leaf Text text place) = refl
-edge_spelled within left (leaf LineKind text place) = refl
-edge_spelled within left (leaf Note text place) = refl
-edge_spelled within left (leaf Kept text place) = refl
+edge_spelled within left (leaf Sign text) = refl
+edge_spelled within left (leaf Ident text) = refl
+edge_spelled within left (leaf Word text) = refl
+edge_spelled within left (leaf Int text) = refl
+edge_spelled within left (leaf Text text) = refl
+edge_spelled within left (leaf LineKind text) = refl
+edge_spelled within left (leaf Note text) = refl
+edge_spelled within left (leaf Kept text) = refl
 edge_spelled within left (group kind segs one_comma end) = refl
 
 gap_spelled : (first : Gap) (left : Edge) (x : Item) → gap_before first left (spelled x) ≡ gap_before first left x
@@ -58,7 +58,7 @@ broken_spelled kind ss end inside = rw (count_spelled ss, comments_spelled ss) r
 
 mutual
   holds_spelled : (x : Item) → holds_broken (spelled x) ≡ holds_broken x
-  holds_spelled (leaf kind text place) = refl
+  holds_spelled (leaf kind text) = refl
   holds_spelled (group kind segs one_comma end) = rw (segs_hold_spelled segs, broken_spelled kind segs end (segs_hold segs)) refl
 
   items_hold_spelled : (xs : Items) → items_hold (spelled_items xs) ≡ items_hold xs
@@ -71,7 +71,7 @@ mutual
 
 mutual
   item_spelled : (style : Style) (level : ℕ) (gap : Gap) (x : Item) → item_pieces style level gap (spelled x) ≡ item_pieces style level gap x
-  item_spelled style level gap (leaf kind text place) = ap (λ t. piece gap kind t ∷ []) (respelled_once kind text)
+  item_spelled style level gap (leaf kind text) = ap (λ t. piece gap kind t ∷ []) (respelled_once kind text)
   item_spelled style level gap (group kind segs one_comma end) =
       rw (segs_hold_spelled segs, broken_spelled kind segs end (segs_hold segs), count_spelled segs, broken_segs_spelled style (level + 1) kind _ segs, flat_segs_spelled style level kind true segs) refl
 

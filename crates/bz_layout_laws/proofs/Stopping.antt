@@ -75,9 +75,9 @@ sign_by_edge Joined text after is h = ended_sign text after is h
 sign_by_edge Dotted text after is h = ended_sign text after is h
 
 -- a leaf is ended by what may stand after it
-pub leaf_ended : (within : Option GroupKind) (left : Edge) (kind : Kind) (text : List ℕ) (place : Place) (after : List ℕ) → IsLegibleItem (leaf kind text place) → may_stand (edge_after within left (leaf kind text place)) after ≡ true
+pub leaf_ended : (within : Option GroupKind) (left : Edge) (kind : Kind) (text : List ℕ) (place : Place) (after : List ℕ) → IsLegibleItem (leaf kind text) → may_stand (edge_after within left (leaf kind text)) after ≡ true
     → ends kind (respell kind text) after ≡ true
-leaf_ended within left Sign text place after h stands = sign_by_edge (edge_after within left (leaf Sign text place)) text after h.0 stands
+leaf_ended within left Sign text place after h stands = sign_by_edge (edge_after within left (leaf Sign text)) text after h.0 stands
 leaf_ended within left Ident text place after h stands = ended_plain Ident text after h.0 refl stands
 leaf_ended within left Word text place after h stands = ended_plain Word text after h.0 refl stands
 leaf_ended within left Int text place after h stands = ended_plain Int text after h.0 refl stands
@@ -88,19 +88,19 @@ leaf_ended within left Kept text place after h stands = absurd (false≢true h.0
 
 -- what is after a node is no start
 pub edge_started : (within : Option GroupKind) (left : Edge) (x : Item) → is_start (edge_after within left x) ≡ false
-edge_started within left (leaf Sign text place) = by (bytes_eq text (codes ".")) (is_prefix left text || begins_argument within left text || is_index_colon within text)
+edge_started within left (leaf Sign text) = by (bytes_eq text (codes ".")) (is_prefix left text || begins_argument within left text || is_index_colon within text)
   where
     by : (a b : Bool) → is_start (if a then Dotted else (if b then Joined else Operator)) ≡ false
     by true b = refl
     by false true = refl
     by false false = refl
-edge_started within left (leaf Word text place) = refl
-edge_started within left (leaf Ident text place) = refl
-edge_started within left (leaf Int text place) = refl
-edge_started within left (leaf Text text place) = refl
-edge_started within left (leaf LineKind text place) = refl
-edge_started within left (leaf Note text place) = refl
-edge_started within left (leaf Kept text place) = refl
+edge_started within left (leaf Word text) = refl
+edge_started within left (leaf Ident text) = refl
+edge_started within left (leaf Int text) = refl
+edge_started within left (leaf Text text) = refl
+edge_started within left (leaf LineKind text) = refl
+edge_started within left (leaf Note text) = refl
+edge_started within left (leaf Kept text) = refl
 edge_started within left (group kind segs one_comma end) = refl
 
 -- the first byte of a token
@@ -161,7 +161,7 @@ mark_stops_all text more rest h = elim (or_cases (bytes_eq text (codes ".") || b
     at : (t : List ℕ) → bytes_eq text t ≡ true → stops_all ((t ++ more) ++ rest) ≡ true → stops_all ((text ++ more) ++ rest) ≡ true
     at t is h = ap (λ x. stops_all ((x ++ more) ++ rest)) (same_bytes text t is) ∙ h
 
-closed_up : (kind : Kind) (text : List ℕ) (place : Place) (more rest : List ℕ) → closes_up (leaf kind text place) ≡ true → stops_all ((respell kind text ++ more) ++ rest) ≡ true
+closed_up : (kind : Kind) (text : List ℕ) (place : Place) (more rest : List ℕ) → closes_up (leaf kind text) ≡ true → stops_all ((respell kind text ++ more) ++ rest) ≡ true
 closed_up Sign text place more rest h = mark_stops_all text more rest h
 closed_up Ident text place more rest h = absurd (false≢true h)
 closed_up Word text place more rest h = absurd (false≢true h)
@@ -176,13 +176,13 @@ spaced c = if c then Closed else Space
 
 -- a node after its gap, where neither holds on
 spaced_stands : (style : Style) (level : ℕ) (x : Item) (more : List Piece) (rest : List ℕ) (c : Bool) → closes_up x ≡ c → stops_all (before (item_pieces style level (spaced c) x ++ more) rest) ≡ true
-spaced_stands style level (leaf kind text place) more rest false e = refl
-spaced_stands style level (leaf kind text place) more rest true e = closed_up kind text place (bytes_of more) rest e
+spaced_stands style level (leaf kind text) more rest false e = refl
+spaced_stands style level (leaf kind text) more rest true e = closed_up kind text place (bytes_of more) rest e
 spaced_stands style level (group kind segs one_comma end) more rest false e = refl
 spaced_stands style level (group kind segs one_comma end) more rest true e = opening_stops kind _ rest
 
 held_stands : (style : Style) (level : ℕ) (x : Item) (more : List Piece) (rest : List ℕ) → IsLegibleItem x → may_follow Joined x ≡ true → not (begins is_later (before (item_pieces style level Closed x ++ more) rest)) ≡ true
-held_stands style level (leaf kind text place) more rest h follows = leaf_held kind text (bytes_of more) rest h.0 follows
+held_stands style level (leaf kind text) more rest h follows = leaf_held kind text (bytes_of more) rest h.0 follows
 held_stands style level (group kind segs one_comma end) more rest h follows = group_held kind _ rest
 
 -- the next node after its gap may stand there

@@ -105,7 +105,7 @@ lines_whole (text ∷ texts) h =
 
 mutual
   item_whole : (style : Style) (level : ℕ) (gap : Gap) (x : Item) → IsLegibleItem x → AreWhole (item_pieces style level gap x)
-  item_whole style level gap (leaf kind text place) h = whole_piece gap kind _ (respelled_text kind text h.0)
+  item_whole style level gap (leaf kind text) h = whole_piece gap kind _ (respelled_text kind text h.0)
   item_whole style level gap (group kind segs one_comma end) h =
       let comma = has_commas kind one_comma (count segs) in
       let last : List Piece = piece (Line level) Sign (closing kind) ∷ [] in

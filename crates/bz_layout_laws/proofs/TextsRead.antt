@@ -133,7 +133,7 @@ texts_along false at b (elem (bracket shape opening inner closing) xs) h texts =
 -- the call of a rule has the texts of one that is none
 call_text : (xs : List Item) → HaveTexts (items_of xs) → HaveTexts (items_of (rule_call xs))
 call_text [] h = tt
-call_text (leaf kind text place ∷ []) h = h
+call_text (leaf kind text ∷ []) h = h
 call_text (group kind segs one_comma end ∷ []) h = h
 call_text (x ∷ y ∷ ys) h = (h.0, call_text (y ∷ ys) h.1)
 

@@ -68,7 +68,7 @@ passes_along q false at b (elem (bracket shape opening inner closing) xs) h text
 -- the call of a rule has the texts of one that is none
 call_passes : (q : List ℕ → Bool) (xs : List Item) → items_pass q (items_of xs) ≡ true → items_pass q (items_of (rule_call xs)) ≡ true
 call_passes q [] h = refl
-call_passes q (leaf kind text place ∷ []) h = h
+call_passes q (leaf kind text ∷ []) h = h
 call_passes q (group kind segs one_comma end ∷ []) h = h
 call_passes q (x ∷ y ∷ ys) h =
     let p = and_parts (item_passes q x) (items_pass q (items_of (y ∷ ys))) h in

@@ -123,7 +123,7 @@ segs_parts before nodes suffix ss h =
 
 mutual
   item_utf8 : (x : Item) → item_passes is_utf8 x ≡ true → AreUtf8 (item_lexemes x)
-  item_utf8 (leaf kind text place) h = one_utf8 (lexeme kind (respell kind text)) [] (respelled_utf8 kind text h) refl
+  item_utf8 (leaf kind text) h = one_utf8 (lexeme kind (respell kind text)) [] (respelled_utf8 kind text h) refl
   item_utf8 (group kind segs one_comma end) h =
       let p = and_parts (segs_pass is_utf8 segs) (list_all is_utf8 end) h in
       let close = one_utf8 (lexeme Sign (closing kind)) [] (closing_utf8 kind) refl in

@@ -59,14 +59,14 @@ is_block_class Block = true
 is_block_class _ = false
 
 not_kept : (x : Item) → HasText x → is_kept x ≡ false
-not_kept (leaf Kept text place) h = absurd (false≢true h.0)
-not_kept (leaf Ident text place) h = refl
-not_kept (leaf Word text place) h = refl
-not_kept (leaf Int text place) h = refl
-not_kept (leaf Text text place) h = refl
-not_kept (leaf Sign text place) h = refl
-not_kept (leaf LineKind text place) h = refl
-not_kept (leaf Note text place) h = refl
+not_kept (leaf Kept text) h = absurd (false≢true h.0)
+not_kept (leaf Ident text) h = refl
+not_kept (leaf Word text) h = refl
+not_kept (leaf Int text) h = refl
+not_kept (leaf Text text) h = refl
+not_kept (leaf Sign text) h = refl
+not_kept (leaf LineKind text) h = refl
+not_kept (leaf Note text) h = refl
 not_kept (group kind segs one_comma end) h = refl
 
 either_class : (b : Bool) (m r : Class) → is_block_class m ≡ false → is_block_class r ≡ false → is_block_class (if b then m else r) ≡ false

@@ -10,7 +10,7 @@ use Rattle.bz_tree.specs.declared.stmt.Class.TheVariants.{Rule}
 use Rattle.bz_tree.specs.declared.kinds.Shape.TheVariants.{Round, Square}
 use Rattle.bz_tree.specs.Grammar.{IsStatement}
 use Rattle.bz_tree.specs.Owners.{is_filled}
-use Rattle.bz_tree.specs.Tree.{Item, leaf, group, Items, Segs, Segment, Statement, items_of, segs_of, nowhere}
+use Rattle.bz_tree.specs.Tree.{Item, leaf, group, Items, Segs, Segment, Statement, items_of, segs_of}
 use Rattle.bz_tree.proofs.Recognized.{statement_accepted, accepted_statement}
 use Rattle.bz_layout.specs.declared.spacing.Edge.TheVariants.{Start}
 use Rattle.bz_layout.specs.Layout.{layout_text}
@@ -22,17 +22,17 @@ use Rattle.bz_layout_laws.specs.TextsOfKinds.{HasTexts}
 use Rattle.bz_layout_laws.specs.WellFormed.{IsWellFormed}
 
 abbrev sign : List ℕ → Item
-sign text = leaf Sign text nowhere
+sign text = leaf Sign text
 
 abbrev name : List ℕ → Item
-name text = leaf Ident text nowhere
+name text = leaf Ident text
 
 abbrev one : List Item → Segment
 one nodes = record { before = []; nodes = nodes; suffix = None }
 
 -- `::-1`
 abbrev range : Segs
-range = segs_of (one (sign (codes ":") ∷ sign (codes ":") ∷ sign (codes "-") ∷ leaf Int (codes "1") nowhere ∷ []) ∷ [])
+range = segs_of (one (sign (codes ":") ∷ sign (codes ":") ∷ sign (codes "-") ∷ leaf Int (codes "1") ∷ []) ∷ [])
 
 -- `*x[::-1]`
 abbrev arguments : Segs
@@ -115,5 +115,5 @@ not_in_grammar : IsStatement one_sign → ⊥
 not_in_grammar h = false≢true (statement_accepted h)
 
 -- nor is what begins with a block's word
-block_not_in_grammar : IsStatement (items_of (leaf Word (codes "if") nowhere ∷ name (codes "x") ∷ [])) → ⊥
+block_not_in_grammar : IsStatement (items_of (leaf Word (codes "if") ∷ name (codes "x") ∷ [])) → ⊥
 block_not_in_grammar h = false≢true (statement_accepted h)

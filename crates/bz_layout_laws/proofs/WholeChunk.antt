@@ -101,7 +101,7 @@ first_piece kind text ps line note none texts ended =
     let no = ap opener (append_assoc text (bytes_read ps) []) ∙ no_block kind text (bytes_read ps ++ []) token line none in
     rw (line, note) (ap (λ o. not (is_some o)) no)
 
-leaf_note : (kind : Kind) (text : List ℕ) → IsLegibleItem (leaf kind text (record { line = 0; col = 0; fresh = false })) → is_note kind ≡ false
+leaf_note : (kind : Kind) (text : List ℕ) → IsLegibleItem (leaf kind text) → is_note kind ≡ false
 leaf_note Note text h = absurd (false≢true h.1)
 leaf_note LineKind text h = refl
 leaf_note Sign text h = refl
@@ -122,8 +122,8 @@ nodes_of xs = items_pieces Broken 0 None Closed Start xs
 nodes_end : (xs : Items) (ps : List Piece) → are_some xs ≡ true → AreLegible None Start xs → begins_block xs ≡ false → are_texts (read_pieces (nodes_of xs ++ ps)) ≡ true → are_ended (read_pieces (nodes_of xs ++ ps)) [] ≡ true
     → ends_chunk (line_of (read_pieces (nodes_of xs ++ ps)) []) ≡ true
 nodes_end no_items ps some h none texts ended = absurd (false≢true some)
-nodes_end (item (leaf kind text place) xs) ps some h none texts ended =
-    first_piece kind (respell kind text) (read_pieces (tail_of (nodes_of (item (leaf kind text place) xs) ++ ps))) (leaf_line kind text h.1.1) (leaf_note kind text h.1) (spelled_opener kind text (is_none (opener_of text) none)) texts ended
+nodes_end (item (leaf kind text) xs) ps some h none texts ended =
+    first_piece kind (respell kind text) (read_pieces (tail_of (nodes_of (item (leaf kind text) xs) ++ ps))) (leaf_line kind text h.1.1) (leaf_note kind text h.1) (spelled_opener kind text (is_none (opener_of text) none)) texts ended
 nodes_end (item (group kind segs one_comma end) xs) ps some h none texts ended =
     first_piece Sign (opening kind) (read_pieces (tail_of (nodes_of (item (group kind segs one_comma end) xs) ++ ps))) refl refl (opening_opener kind) texts ended
 

@@ -7,7 +7,7 @@ use Rattle.bz_tree.specs.Tree.{Item, leaf, group, Items, no_items, item, Segs, n
 
 abbrev mutual
   pub item_passes : (List ℕ → Bool) → Item → Bool
-  item_passes test (leaf kind text place) = test text
+  item_passes test (leaf kind text) = test text
   item_passes test (group kind segs one_comma end) = segs_pass test segs && list_all test end
 
   pub items_pass : (List ℕ → Bool) → Items → Bool

@@ -10,7 +10,7 @@ use Rattle.bz_layout_laws.specs.Legible.{may_follow}
 
 abbrev mutual
   pub MayStandIn : Item → Type 0
-  MayStandIn (leaf kind text place) = Unit {0}
+  MayStandIn (leaf kind text) = Unit {0}
   MayStandIn (group kind segs one_comma end) = SegsMayFollow kind segs
 
   pub MayFollow : Option GroupKind → Edge → Items → Type 0

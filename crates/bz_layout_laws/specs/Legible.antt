@@ -26,7 +26,7 @@ abbrev pub is_later : ℕ → Bool
 is_later b = list_any (λ c. b == c) (codes "/*<>=")
 
 abbrev pub begins_later : Item → Bool
-begins_later (leaf kind text place) = begins is_later text
+begins_later (leaf kind text) = begins is_later text
 begins_later (group kind segs one_comma end) = false
 
 -- A node stands directly after `.`, a prefix, an argument's star and the colon of an index. There it begins with no byte that
@@ -44,7 +44,7 @@ AreComments texts = list_all is_comment texts ≡ true
 abbrev mutual
   -- a token is a text of its kind
   pub IsLegibleItem : Item → Type 0
-  IsLegibleItem (leaf kind text place) = (is_text kind text ≡ true) × (is_leaf_mark (kind_mark kind text) ≡ true)
+  IsLegibleItem (leaf kind text) = (is_text kind text ≡ true) × (is_leaf_mark (kind_mark kind text) ≡ true)
   IsLegibleItem (group kind segs one_comma end) = AreLegibleSegs kind segs × AreComments end
 
   -- nodes after what leaves this edge
@@ -67,7 +67,7 @@ pub record IsLegible (s : Statement) : Type 0 where
 -- how many brackets are open at once at most
 abbrev mutual
   pub item_depth : Item → ℕ
-  item_depth (leaf kind text place) = 0
+  item_depth (leaf kind text) = 0
   item_depth (group kind segs one_comma end) = suc (segs_depth segs)
 
   pub items_depth : Items → ℕ
@@ -84,5 +84,5 @@ depth_of s = items_depth (items_of s.nodes)
 -- the first node is a word that begins a block: `def`, `for` or `if`
 abbrev pub begins_block : Items → Bool
 begins_block no_items = false
-begins_block (item (leaf kind text place) xs) = is_some (opener_of text)
+begins_block (item (leaf kind text) xs) = is_some (opener_of text)
 begins_block (item (group kind segs one_comma end) xs) = false

@@ -52,7 +52,7 @@ comma_lexemes b = if b then lexeme Sign (codes ",") ∷ [] else []
 -- between its segments, and after the one of `(x,)`.
 abbrev mutual
   pub item_lexemes : Item → List Lexeme
-  item_lexemes (leaf kind text place) = lexeme kind (respell kind text) ∷ []
+  item_lexemes (leaf kind text) = lexeme kind (respell kind text) ∷ []
   item_lexemes (group kind segs one_comma end) =
       lexeme Sign (opening kind) ∷
       (if is_broken kind segs end (segs_hold segs)

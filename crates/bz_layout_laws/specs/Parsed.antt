@@ -20,7 +20,7 @@ is_comma_mark _ = false
 
 -- a comma as a node: in a bracket of one segment, and outside brackets
 abbrev pub is_comma : Item → Bool
-is_comma (leaf kind text place) = is_comma_mark (kind_mark kind text)
+is_comma (leaf kind text) = is_comma_mark (kind_mark kind text)
 is_comma (group kind segs one_comma end) = false
 
 -- the keyword `for` stands before the first comma
@@ -35,7 +35,7 @@ have_for (seg before nodes suffix ss) = nodes_have_for nodes
 abbrev mutual
   -- the kind of a group is that of a bracket that stands after `b`
   pub HasKind : Preceding → Item → Type 0
-  HasKind b (leaf kind text place) = Unit {0}
+  HasKind b (leaf kind text) = Unit {0}
   HasKind b (group kind segs one_comma end) =
       (shape : Shape) × (kind ≡ group_kind shape b (have_for segs)) × HasShape kind segs one_comma × SegsHaveKinds (is_one kind) segs
 
@@ -54,7 +54,7 @@ plain_kind RuleCall = Call
 plain_kind kind = kind
 
 abbrev pub plain_call : Item → Item
-plain_call (leaf kind text place) = leaf kind text place
+plain_call (leaf kind text) = leaf kind text
 plain_call (group kind segs one_comma end) = group (plain_kind kind) segs one_comma end
 
 abbrev pub plain_calls : List Item → List Item

@@ -5,7 +5,7 @@ use Rattle.bz_layout.specs.Respell.{respell}
 
 abbrev mutual
   pub spelled : Item → Item
-  spelled (leaf kind text place) = leaf kind (respell kind text) place
+  spelled (leaf kind text) = leaf kind (respell kind text)
   spelled (group kind segs one_comma end) = group kind (spelled_segs segs) one_comma end
 
   pub spelled_items : Items → Items

@@ -10,7 +10,7 @@ use Rattle.bz_layout_laws.specs.Legible.{is_leaf_mark, are_some, AreComments}
 
 abbrev mutual
   pub HasText : Item → Type 0
-  HasText (leaf kind text place) = (is_text kind text ≡ true) × (is_leaf_mark (kind_mark kind text) ≡ true)
+  HasText (leaf kind text) = (is_text kind text ≡ true) × (is_leaf_mark (kind_mark kind text) ≡ true)
   HasText (group kind segs one_comma end) = SegsHaveTexts segs × AreComments end
 
   pub HaveTexts : Items → Type 0

@@ -81,7 +81,7 @@ comment_attribute_differs attr text args h same =
 
 -- `comment <attr> <v> <text>`
 elements_edited : (p : Segment → Bool) (f : Segment → Segment) (x : Item) → elements (edit_list (edit_first p (λ s. f s ∷ [])) x) ≡ edit_first p (λ s. f s ∷ []) (elements x)
-elements_edited p f (leaf kind text place) = refl
+elements_edited p f (leaf kind text) = refl
 elements_edited p f (group kind segs one_comma end) = segments_of _
 
 element_from : (p : Segment → Bool) (f : Segment → Segment) (start : Bool) (xs : List Item) → ((s : Segment) → f s ≡ s → ⊥) → list_any (list_any p) (parts_from start xs) ≡ true → edit_element_from p f start xs ≡ xs → ⊥

@@ -9,15 +9,15 @@ use Rattle.bz_attribute.proofs.Views.{segments_of}
 use Rattle.bz_attribute.proofs.Stays.{segs_back}
 
 pub joint_edited : (f : List Segment → List Segment) (x : Item) → is_joint (edit_list f x) ≡ is_joint x
-joint_edited f (leaf kind text place) = refl
+joint_edited f (leaf kind text) = refl
 joint_edited f (group kind segs one_comma end) = refl
 
 pub plus_edited : (f : List Segment → List Segment) (x : Item) → is_plus (edit_list f x) ≡ is_plus x
-plus_edited f (leaf kind text place) = refl
+plus_edited f (leaf kind text) = refl
 plus_edited f (group kind segs one_comma end) = refl
 
 pub list_edited : (f : List Segment → List Segment) (x : Item) → is_list (edit_list f x) ≡ is_list x
-list_edited f (leaf kind text place) = refl
+list_edited f (leaf kind text) = refl
 list_edited f (group Call segs one_comma end) = refl
 list_edited f (group RuleCall segs one_comma end) = refl
 list_edited f (group Load segs one_comma end) = refl
@@ -29,11 +29,11 @@ list_edited f (group ListComp segs one_comma end) = refl
 list_edited f (group DictComp segs one_comma end) = refl
 
 pub elements_edited : (f : List Segment → List Segment) (x : Item) → is_list x ≡ true → elements (edit_list f x) ≡ f (elements x)
-elements_edited f (leaf kind text place) h = absurd cc
+elements_edited f (leaf kind text) h = absurd cc
 elements_edited f (group kind segs one_comma end) h = segments_of (f (segments segs))
 
 pub same_edited : (f : List Segment → List Segment) (x : Item) → f (elements x) ≡ elements x → edit_list f x ≡ x
-same_edited f (leaf kind text place) h = refl
+same_edited f (leaf kind text) h = refl
 same_edited f (group kind segs one_comma end) h = ap (λ (ss : List Segment). group kind (segs_of ss) one_comma end) h ∙ ap (λ (ss : Segs). group kind ss one_comma end) (segs_back segs)
 
 part_list : (start list last : Bool) → start && list && last ≡ true → list ≡ true

@@ -21,7 +21,7 @@ empty_or_not (s ∷ ss) = refl
 none_lost : (p : Segment → Bool) (nodes : List Item) → list_any (list_any p) (parts nodes) ≡ false → loses_all (λ ss. filter (λ s. not (p s)) ss) nodes ≡ false
 none_lost p [] h = refl
 none_lost p (x ∷ y ∷ ys) h = refl
-none_lost p (leaf kind text place ∷ []) h = refl
+none_lost p (leaf kind text ∷ []) h = refl
 none_lost p (group Call segs one_comma end ∷ []) h = refl
 none_lost p (group RuleCall segs one_comma end ∷ []) h = refl
 none_lost p (group Load segs one_comma end ∷ []) h = refl

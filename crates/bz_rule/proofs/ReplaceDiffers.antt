@@ -33,7 +33,7 @@ all_settled home old new (s ∷ ss) = ap (λ (t : Bool). t || list_any (is_repla
 
 -- an edited list is still a list, and what stands around it still ends there
 list_edited : (f : List Segment → List Segment) (x : Item) → is_list (edit_list f x) ≡ is_list x
-list_edited f (leaf kind text place) = refl
+list_edited f (leaf kind text) = refl
 list_edited f (group RuleCall segs one_comma end) = refl
 list_edited f (group Call segs one_comma end) = refl
 list_edited f (group Load segs one_comma end) = refl
@@ -45,11 +45,11 @@ list_edited f (group ListComp segs one_comma end) = refl
 list_edited f (group DictComp segs one_comma end) = refl
 
 plus_edited : (f : List Segment → List Segment) (x : Item) → is_plus (edit_list f x) ≡ is_plus x
-plus_edited f (leaf kind text place) = refl
+plus_edited f (leaf kind text) = refl
 plus_edited f (group kind segs one_comma end) = refl
 
 joint_edited : (f : List Segment → List Segment) (x : Item) → is_joint (edit_list f x) ≡ is_joint x
-joint_edited f (leaf kind text place) = refl
+joint_edited f (leaf kind text) = refl
 joint_edited f (group kind segs one_comma end) = refl
 
 plus_kept : (f : List Segment → List Segment) (b : Bool) (x : Item) → is_plus (if b then edit_list f x else x) ≡ is_plus x
@@ -76,7 +76,7 @@ part_edited : (f : List Segment → List Segment) (start next : Bool) (x : Item)
 part_edited f start next x xs = ap (λ (t : Bool). start && t && ends (edit_from f next xs)) (list_edited f x) ∙ part_kept f start next x xs
 
 elements_mapped : (f : Segment → Segment) (x : Item) → elements (edit_list (map f) x) ≡ map f (elements x)
-elements_mapped f (leaf kind text place) = refl
+elements_mapped f (leaf kind text) = refl
 elements_mapped f (group kind segs one_comma end) = segments_of _
 
 -- no element is left to replace
@@ -179,7 +179,7 @@ elements_stay home old new (s ∷ ss) h = elim (cases_Bool (is_replaced home old
 ]
 
 list_stays : (home : Package) (old new : List ℕ) (x : Item) → list_any (is_replaced home old new) (elements x) ≡ false → edit_list (map (replaced home old new)) x ≡ x
-list_stays home old new (leaf kind text place) h = refl
+list_stays home old new (leaf kind text) h = refl
 list_stays home old new (group kind segs one_comma end) h =
     ap (λ (ss : Segs). group kind ss one_comma end) (ap segs_of (elements_stay home old new (segments segs) h) ∙ segs_back segs)
 

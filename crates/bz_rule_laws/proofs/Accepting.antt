@@ -4,7 +4,7 @@ use Rattle.std.proofs.lemmas.Bool.{cases_Bool, and_parts, false≢true}
 use Rattle.bz_token.specs.declared.token.Kind.TheVariants.{Ident}
 use Rattle.bz_tree.specs.declared.stmt.GroupKind.TheVariants.{Call, List as ListKind}
 use Rattle.bz_tree.specs.declared.role.Role.TheVariants.{Value}
-use Rattle.bz_tree.specs.Tree.{leaf, group, Items, no_items, item, Segs, no_segs, seg, nowhere}
+use Rattle.bz_tree.specs.Tree.{leaf, group, Items, no_items, item, Segs, no_segs, seg}
 use Rattle.bz_tree.specs.Grammar.{IsTest, plain, single, primary, operand, no_suffix, suffix, call, ident, list, AreTests, no_test, one_test, AreArgs, no_arg, one_arg, IsArg, last_test, IsStatement, expression}
 use Rattle.bz_tree.specs.private.Machine.{accepts, begin, each, is_statement, role_of}
 use Rattle.bz_tree.proofs.Recognized.{statement_accepted, accepted_statement}
@@ -16,7 +16,7 @@ abbrev one_list : Segs → Items
 one_list segs = item (group ListKind segs false []) no_items
 
 abbrev one_call : Segs → Items
-one_call segs = item (leaf Ident [] nowhere) (item (group Call segs false []) no_items)
+one_call segs = item (leaf Ident []) (item (group Call segs false []) no_items)
 
 list_statement : (segs : Segs) → AreTests segs → IsStatement (one_list segs)
 list_statement segs h = expression (last_test (plain (single (primary (operand (list h) no_suffix)))))

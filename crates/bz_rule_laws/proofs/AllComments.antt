@@ -20,7 +20,7 @@ use Rattle.bz_rule.proofs.Arguments.{value_back}
 -- all comments, owner by owner
 abbrev mutual
   item_comments : Item → List (List ℕ)
-  item_comments (leaf kind text place) = []
+  item_comments (leaf kind text) = []
   item_comments (group kind segs one_comma end) = segs_comments segs ++ end
 
   items_comments : Items → List (List ℕ)
@@ -37,7 +37,7 @@ owners_joined (x ∷ xs) ys = rw (owners_joined xs ys) (sym (append_assoc x (joi
 
 mutual
   item_is : (x : Item) → joined (item_owners x) ≡ item_comments x
-  item_is (leaf kind text place) = refl
+  item_is (leaf kind text) = refl
   item_is (group kind segs one_comma end) = rw (owners_joined (segs_owners segs) (end ∷ []), append-nil end, segs_are segs) refl
 
   items_are : (xs : Items) → joined (items_owners xs) ≡ items_comments xs
@@ -70,7 +70,7 @@ all_joined [] ys = refl
 all_joined (x ∷ xs) ys = rw (all_joined xs ys) (sym (append_assoc (in_one x) (in_all xs) (in_all ys)))
 
 list_keeps : (f : List Segment → List Segment) → ((ss : List Segment) → in_all (f ss) ≡ in_all ss) → (x : Item) → item_comments (edit_list f x) ≡ item_comments x
-list_keeps f keep (leaf kind text place) = refl
+list_keeps f keep (leaf kind text) = refl
 list_keeps f keep (group kind segs one_comma end) = ap (λ (cs : List (List ℕ)). cs ++ end) (keep (segments segs) ∙ ap segs_comments (segs_back segs))
 
 from_keeps : (f : List Segment → List Segment) → ((ss : List Segment) → in_all (f ss) ≡ in_all ss) → (start : Bool) (xs : List Item) → in_nodes (edit_from f start xs) ≡ in_nodes xs
@@ -155,7 +155,7 @@ set_if_absent_comments attr words args =
 name_keeps : (old new : List ℕ) (xs : List Item) → is_text old (name_of xs) ≡ true → in_nodes (renamed new xs) ≡ in_nodes xs
 name_keeps old new [] h = refl
 name_keeps old new (x ∷ []) h = absurd cc
-name_keeps old new (leaf kind text place ∷ y ∷ xs) h = refl
+name_keeps old new (leaf kind text ∷ y ∷ xs) h = refl
 name_keeps old new (group kind segs one_comma end ∷ y ∷ xs) h =
     elim (is_sign (codes "=") y) as (λ b. is_text old (if b then ident_of (group kind segs one_comma end) else None) ≡ true → in_nodes (renamed new (group kind segs one_comma end ∷ y ∷ xs)) ≡ in_nodes (group kind segs one_comma end ∷ y ∷ xs))
     [ true ↦ λ k. absurd cc | false ↦ λ k. absurd cc ] h
@@ -170,7 +170,7 @@ rename_comments old new args =
 -- a string is a token
 string_none : (nodes : List Item) (v : List ℕ) → string_value nodes ≡ Some v → in_nodes nodes ≡ []
 string_none [] v h = refl
-string_none (leaf kind text place ∷ []) v h = refl
+string_none (leaf kind text ∷ []) v h = refl
 string_none (group kind segs one_comma end ∷ []) v h = absurd cc
 string_none (x ∷ y ∷ xs) v h = absurd cc
 
@@ -220,16 +220,16 @@ slot_comments f keep (Some s) = ap (λ (cs : List (List ℕ)). Some cs) (stateme
 kind_none : (ident : Bool) (kind : List Item) → dotted ident kind ≡ true → in_nodes kind ≡ []
 kind_none true [] h = absurd cc
 kind_none false [] h = refl
-kind_none true (leaf Ident text place ∷ xs) h = kind_none false xs h
-kind_none true (leaf Word text place ∷ xs) h = absurd cc
-kind_none true (leaf Int text place ∷ xs) h = absurd cc
-kind_none true (leaf Text text place ∷ xs) h = absurd cc
-kind_none true (leaf Sign text place ∷ xs) h = absurd cc
-kind_none true (leaf Line text place ∷ xs) h = absurd cc
-kind_none true (leaf NoteKind text place ∷ xs) h = absurd cc
-kind_none true (leaf Kept text place ∷ xs) h = absurd cc
+kind_none true (leaf Ident text ∷ xs) h = kind_none false xs h
+kind_none true (leaf Word text ∷ xs) h = absurd cc
+kind_none true (leaf Int text ∷ xs) h = absurd cc
+kind_none true (leaf Text text ∷ xs) h = absurd cc
+kind_none true (leaf Sign text ∷ xs) h = absurd cc
+kind_none true (leaf Line text ∷ xs) h = absurd cc
+kind_none true (leaf NoteKind text ∷ xs) h = absurd cc
+kind_none true (leaf Kept text ∷ xs) h = absurd cc
 kind_none true (group kind segs one_comma end ∷ xs) h = absurd cc
-kind_none false (leaf kind text place ∷ xs) h = kind_none true xs (and_parts (is_sign (codes ".") (leaf kind text place)) (dotted true xs) h).1
+kind_none false (leaf kind text ∷ xs) h = kind_none true xs (and_parts (is_sign (codes ".") (leaf kind text)) (dotted true xs) h).1
 kind_none false (group kind segs one_comma end ∷ xs) h = absurd cc
 
 names_none : (names : List (List ℕ)) → in_nodes (joined_by_dots names) ≡ []

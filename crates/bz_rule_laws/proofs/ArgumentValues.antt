@@ -25,8 +25,8 @@ word_for bytes h = elim (cases_Bool (bytes_eq bytes (codes "for"))) [
 
 inner_for : (x : Item) → IsInner x → is_for_item x ≡ false
 inner_for (group kind segs one_comma end) h = refl
-inner_for (leaf Word bytes place) h = word_for bytes h
-inner_for (leaf _ bytes place) h = refl
+inner_for (leaf Word bytes) h = word_for bytes h
+inner_for (leaf _ bytes) h = refl
 
 inner_have : (xs : Items) → Each IsInner xs → nodes_have_for xs ≡ false
 inner_have no_items h = refl
@@ -39,7 +39,7 @@ no_for depth (s ∷ ss) h = inner_have (items_of s.nodes) (test_inner h.0.form)
 
 -- the nodes of a named argument
 abbrev pub named : List ℕ → Place → Place → List Item → List Item
-named name place sign_place nodes = leaf Ident name place ∷ leaf Sign (codes "=") sign_place ∷ nodes
+named name place sign_place nodes = leaf Ident name ∷ leaf Sign (codes "=") ∷ nodes
 
 pub record HasName (nodes : List Item) : Type 0 where
   pub name : List ℕ
@@ -47,15 +47,15 @@ pub record HasName (nodes : List Item) : Type 0 where
   pub sign_place : Place
   pub are : nodes ≡ named name place sign_place (drop 2 nodes)
 
-pub sign_is : (sign : List ℕ) (x : Item) → is_sign sign x ≡ true → (place : Place) × (x ≡ leaf Sign sign place)
+pub sign_is : (sign : List ℕ) (x : Item) → is_sign sign x ≡ true → (place : Place) × (x ≡ leaf Sign sign)
 sign_is sign (group kind segs one_comma end) h = absurd (false≢true h)
-sign_is sign (leaf Sign bytes place) h = (place, ap (λ bs. leaf Sign bs place) (same_bytes bytes sign h))
-sign_is sign (leaf _ bytes place) h = absurd (false≢true h)
+sign_is sign (leaf Sign bytes) h = (place, ap (λ bs. leaf Sign bs) (same_bytes bytes sign h))
+sign_is sign (leaf _ bytes) h = absurd (false≢true h)
 
-ident_is : (x : Item) → is_some (ident_of x) ≡ true → (name : List ℕ) × (place : Place) × (x ≡ leaf Ident name place)
+ident_is : (x : Item) → is_some (ident_of x) ≡ true → (name : List ℕ) × (place : Place) × (x ≡ leaf Ident name)
 ident_is (group kind segs one_comma end) h = absurd (false≢true h)
-ident_is (leaf Ident bytes place) h = (bytes, place, refl)
-ident_is (leaf _ bytes place) h = absurd (false≢true h)
+ident_is (leaf Ident bytes) h = (bytes, place, refl)
+ident_is (leaf _ bytes) h = absurd (false≢true h)
 
 name_parts : (b : Bool) (o : Option (List ℕ)) → is_some (if b then o else None) ≡ true → (b ≡ true) × (is_some o ≡ true)
 name_parts true o h = (refl, h)
@@ -75,7 +75,7 @@ pub record IsValue (depth : ℕ) (nodes : List Item) : Type 0 where
   pub nodes_are : AreNodes depth nodes
   pub test : IsTest (items_of nodes)
 
-named_test : (name : List ℕ) (place sign_place : Place) (xs : Items) → IsArg (item (leaf Ident name place) (item (leaf Sign (codes "=") sign_place) xs)) → IsTest xs
+named_test : (name : List ℕ) (place sign_place : Place) (xs : Items) → IsArg (item (leaf Ident name) (item (leaf Sign (codes "=")) xs)) → IsTest xs
 named_test name place sign_place xs (positional h) = absurd (false≢true (test_inner h).1.0)
 named_test name place sign_place xs (keyword n e h) = h
 named_test name place sign_place xs (starred s h) = absurd (false≢true s)

@@ -29,27 +29,27 @@ bare_segs_of [] = refl
 bare_segs_of (s ∷ ss) = λ i. seg s.before (items_bare s.nodes i) s.suffix (bare_segs_of ss i)
 
 pub elements_bare : (x : Item) → elements (bare x) ≡ map bare_segment (elements x)
-elements_bare (leaf kind text place) = refl
+elements_bare (leaf kind text) = refl
 elements_bare (group kind segs one_comma end) = segs_bare segs
 
 pub joint_bare : (x : Item) → is_joint (bare x) ≡ is_joint x
-joint_bare (leaf kind text place) = elim kind as (λ k. is_joint (leaf k text nowhere) ≡ is_joint (leaf k text place)) [ Ident ↦ refl | Word ↦ refl | Int ↦ refl | Text ↦ refl | Sign ↦ refl | Line ↦ refl | Note ↦ refl | Kept ↦ refl ]
+joint_bare (leaf kind text) = elim kind as (λ k. is_joint (leaf k text) ≡ is_joint (leaf k text)) [ Ident ↦ refl | Word ↦ refl | Int ↦ refl | Text ↦ refl | Sign ↦ refl | Line ↦ refl | Note ↦ refl | Kept ↦ refl ]
 joint_bare (group kind segs one_comma end) = refl
 
 pub sign_bare : (sign : List ℕ) (x : Item) → is_sign sign (bare x) ≡ is_sign sign x
-sign_bare sign (leaf kind text place) = elim kind as (λ k. is_sign sign (leaf k text nowhere) ≡ is_sign sign (leaf k text place)) [ Ident ↦ refl | Word ↦ refl | Int ↦ refl | Text ↦ refl | Sign ↦ refl | Line ↦ refl | Note ↦ refl | Kept ↦ refl ]
+sign_bare sign (leaf kind text) = elim kind as (λ k. is_sign sign (leaf k text) ≡ is_sign sign (leaf k text)) [ Ident ↦ refl | Word ↦ refl | Int ↦ refl | Text ↦ refl | Sign ↦ refl | Line ↦ refl | Note ↦ refl | Kept ↦ refl ]
 sign_bare sign (group kind segs one_comma end) = refl
 
 pub is_list_bare : (x : Item) → is_list (bare x) ≡ is_list x
-is_list_bare (leaf kind text place) = refl
+is_list_bare (leaf kind text) = refl
 is_list_bare (group kind segs one_comma end) = elim kind as (λ k. is_list (group k (bare_segs segs) one_comma end) ≡ is_list (group k segs one_comma end)) [ Call ↦ refl | RuleCall ↦ refl | Load ↦ refl | Paren ↦ refl | ListKind ↦ refl | Index ↦ refl | Dict ↦ refl | ListComp ↦ refl | DictComp ↦ refl ]
 
 ident_bare : (x : Item) → ident_of (bare x) ≡ ident_of x
-ident_bare (leaf kind text place) = elim kind as (λ k. ident_of (leaf k text nowhere) ≡ ident_of (leaf k text place)) [ Ident ↦ refl | Word ↦ refl | Int ↦ refl | Text ↦ refl | Sign ↦ refl | Line ↦ refl | Note ↦ refl | Kept ↦ refl ]
+ident_bare (leaf kind text) = elim kind as (λ k. ident_of (leaf k text) ≡ ident_of (leaf k text)) [ Ident ↦ refl | Word ↦ refl | Int ↦ refl | Text ↦ refl | Sign ↦ refl | Line ↦ refl | Note ↦ refl | Kept ↦ refl ]
 ident_bare (group kind segs one_comma end) = refl
 
 text_bare : (x : Item) → text_of (bare x) ≡ text_of x
-text_bare (leaf kind text place) = elim kind as (λ k. text_of (leaf k text nowhere) ≡ text_of (leaf k text place)) [ Ident ↦ refl | Word ↦ refl | Int ↦ refl | Text ↦ refl | Sign ↦ refl | Line ↦ refl | Note ↦ refl | Kept ↦ refl ]
+text_bare (leaf kind text) = elim kind as (λ k. text_of (leaf k text) ≡ text_of (leaf k text)) [ Ident ↦ refl | Word ↦ refl | Int ↦ refl | Text ↦ refl | Sign ↦ refl | Line ↦ refl | Note ↦ refl | Kept ↦ refl ]
 text_bare (group kind segs one_comma end) = refl
 
 pub name_bare : (xs : List Item) → name_of (map bare xs) ≡ name_of xs
@@ -158,7 +158,7 @@ value_parts_bare a = ap parts (value_bare a) ∙ parts_bare (value a)
 
 -- edits of elements that places do not matter to
 pub edit_list_bare : (f g : List Segment → List Segment) → ((ss : List Segment) → map bare_segment (f ss) ≡ g (map bare_segment ss)) → (x : Item) → bare (edit_list f x) ≡ edit_list g (bare x)
-edit_list_bare f g same (leaf kind text place) = refl
+edit_list_bare f g same (leaf kind text) = refl
 edit_list_bare f g same (group kind segs one_comma end) =
     ap (λ (ss : Segs). group kind ss one_comma end) (bare_segs_of (f (segments segs)) ∙ ap segs_of (same (segments segs)) ∙ ap (λ (ss : List Segment). segs_of (g ss)) (sym (segs_bare segs)))
 

@@ -29,11 +29,11 @@ are_strings_bare (word ∷ words) [] = refl
 are_strings_bare (word ∷ words) (s ∷ ss) = rw (is_string_bare word s, are_strings_bare words ss) refl
 
 int_bare : (digits : List ℕ) (x : Item) → is_int digits (bare x) ≡ is_int digits x
-int_bare digits (leaf kind text place) = elim kind as (λ k. is_int digits (leaf k text nowhere) ≡ is_int digits (leaf k text place)) [ Ident ↦ refl | Word ↦ refl | Int ↦ refl | Text ↦ refl | Sign ↦ refl | Line ↦ refl | Note ↦ refl | Kept ↦ refl ]
+int_bare digits (leaf kind text) = elim kind as (λ k. is_int digits (leaf k text) ≡ is_int digits (leaf k text)) [ Ident ↦ refl | Word ↦ refl | Int ↦ refl | Text ↦ refl | Sign ↦ refl | Line ↦ refl | Note ↦ refl | Kept ↦ refl ]
 int_bare digits (group kind segs one_comma end) = refl
 
 ident_bare : (name : List ℕ) (x : Item) → is_ident name (bare x) ≡ is_ident name x
-ident_bare name (leaf kind text place) = elim kind as (λ k. is_ident name (leaf k text nowhere) ≡ is_ident name (leaf k text place)) [ Ident ↦ refl | Word ↦ refl | Int ↦ refl | Text ↦ refl | Sign ↦ refl | Line ↦ refl | Note ↦ refl | Kept ↦ refl ]
+ident_bare name (leaf kind text) = elim kind as (λ k. is_ident name (leaf k text) ≡ is_ident name (leaf k text)) [ Ident ↦ refl | Word ↦ refl | Int ↦ refl | Text ↦ refl | Sign ↦ refl | Line ↦ refl | Note ↦ refl | Kept ↦ refl ]
 ident_bare name (group kind segs one_comma end) = refl
 
 only_bare : (p : Item → Bool) → ((x : Item) → p (bare x) ≡ p x) → (nodes : List Item) → is_only p (map bare nodes) ≡ is_only p nodes

@@ -23,7 +23,7 @@ abbrev bare_rule : Rule → Rule
 bare_rule r = record r { kind = map bare r.kind; args = map bare_segment r.args }
 
 written_bare : (x : Item) → written (bare x) ≡ written x
-written_bare (leaf kind text place) = refl
+written_bare (leaf kind text) = refl
 written_bare (group kind segs one_comma end) = refl
 
 kind_bare : (kind : List Item) → kind_text (map bare kind) ≡ kind_text kind
@@ -31,23 +31,23 @@ kind_bare [] = refl
 kind_bare (x ∷ xs) = rw (written_bare x, kind_bare xs) refl
 
 call_bare : (x : Item) → is_call (bare x) ≡ is_call x
-call_bare (leaf kind text place) = refl
+call_bare (leaf kind text) = refl
 call_bare (group kind segs one_comma end) = elim kind as (λ k. is_call (group k (bare_segs segs) one_comma end) ≡ is_call (group k segs one_comma end))
     [ Call ↦ refl | RuleCall ↦ refl | Load ↦ refl | Paren ↦ refl | ListKind ↦ refl | Index ↦ refl | Dict ↦ refl | ListComp ↦ refl | DictComp ↦ refl ]
 
 comma_bare : (x : Item) → comma_of (bare x) ≡ comma_of x
-comma_bare (leaf kind text place) = refl
+comma_bare (leaf kind text) = refl
 comma_bare (group kind segs one_comma end) = refl
 
 end_bare : (x : Item) → end_of (bare x) ≡ end_of x
-end_bare (leaf kind text place) = refl
+end_bare (leaf kind text) = refl
 end_bare (group kind segs one_comma end) = refl
 
 dotted_bare : (ident : Bool) (xs : List Item) → dotted ident (map bare xs) ≡ dotted ident xs
 dotted_bare true [] = refl
 dotted_bare false [] = refl
-dotted_bare true (leaf kind text place ∷ xs) =
-    elim kind as (λ k. dotted true (leaf k text nowhere ∷ map bare xs) ≡ dotted true (leaf k text place ∷ xs))
+dotted_bare true (leaf kind text ∷ xs) =
+    elim kind as (λ k. dotted true (leaf k text ∷ map bare xs) ≡ dotted true (leaf k text ∷ xs))
     [ Ident ↦ dotted_bare false xs | Word ↦ refl | Int ↦ refl | Text ↦ refl | Sign ↦ refl | Line ↦ refl | Note ↦ refl | Kept ↦ refl ]
 dotted_bare true (group kind segs one_comma end ∷ xs) = refl
 dotted_bare false (x ∷ xs) = rw (sign_bare (codes ".") x, dotted_bare true xs) refl

@@ -13,18 +13,18 @@ use Rattle.bz_attribute.specs.Setting.{joined_by_dots, kind_items}
 use Rattle.bz_rule_laws.proofs.ArgumentValues.{sign_is}
 
 pub data IsDotted : List Item → Type 0 where
-  last_name : {text : List ℕ} {place : Place} → is_text Ident text ≡ true → IsDotted (leaf Ident text place ∷ [])
-  name_before : {text : List ℕ} {place dot_place : Place} {kind : List Item} → is_text Ident text ≡ true → IsDotted kind → IsDotted (leaf Ident text place ∷ leaf Sign (codes ".") dot_place ∷ kind)
+  last_name : {text : List ℕ} {place : Place} → is_text Ident text ≡ true → IsDotted (leaf Ident text ∷ [])
+  name_before : {text : List ℕ} {place dot_place : Place} {kind : List Item} → is_text Ident text ≡ true → IsDotted kind → IsDotted (leaf Ident text ∷ leaf Sign (codes ".") ∷ kind)
 
 -- the kind of a rule that is well formed
 pub dotted_is : (kind : List Item) → dotted true kind ≡ true → HaveTexts (items_of kind) → IsDotted kind
 dotted_is [] h k = absurd (false≢true h)
-dotted_is (leaf Ident text place ∷ []) h k = last_name k.0.0
-dotted_is (leaf Ident text place ∷ x ∷ kind) h k =
+dotted_is (leaf Ident text ∷ []) h k = last_name k.0.0
+dotted_is (leaf Ident text ∷ x ∷ kind) h k =
     let parts = and_parts (is_sign (codes ".") x) (dotted true kind) h in
     let dot = sign_is (codes ".") x parts.0 in
-    subst (λ (z : Item). IsDotted (leaf Ident text place ∷ z ∷ kind)) (sym dot.1) (name_before k.0.0 (dotted_is kind parts.1 k.1.1))
-dotted_is (leaf _ text place ∷ kind) h k = absurd (false≢true h)
+    subst (λ (z : Item). IsDotted (leaf Ident text ∷ z ∷ kind)) (sym dot.1) (name_before k.0.0 (dotted_is kind parts.1 k.1.1))
+dotted_is (leaf _ text ∷ kind) h k = absurd (false≢true h)
 dotted_is (group kind segs one_comma end ∷ xs) h k = absurd (false≢true h)
 
 -- the kind that is set

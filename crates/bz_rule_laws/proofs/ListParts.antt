@@ -143,7 +143,7 @@ abbrev pub KeepsGood : ℕ → (List Segment → List Segment) → Type 0
 KeepsGood depth f = (ss : List Segment) → AreFormed IsTest depth ss → AreFormed IsTest depth (f ss)
 
 list_edit : (depth : ℕ) (f : List Segment → List Segment) → KeepsGood depth f → (x : Item) → is_list x ≡ true → IsEdit depth x (edit_list f x)
-list_edit depth f keep (leaf kind bytes place) h = absurd (false≢true h)
+list_edit depth f keep (leaf kind bytes) h = absurd (false≢true h)
 list_edit depth f keep (group ListKind segs one_comma end) h = edited (f (segments segs)) (keep (segments segs))
 list_edit depth f keep (group _ segs one_comma end) h = absurd (false≢true h)
 
@@ -192,7 +192,7 @@ element_edited depth p g keep nodes v =
 
 -- the elements of list parts
 part_elements : (depth : ℕ) (b : Preceding) (x : Item) → is_list x ≡ true → IsNode (suc depth) b x → AreFormed IsTest depth (elements x)
-part_elements depth b (leaf kind bytes place) l h = absurd (false≢true l)
+part_elements depth b (leaf kind bytes) l h = absurd (false≢true l)
 part_elements depth b (group ListKind segs one_comma end) l h = list_elements depth b segs one_comma end h
 part_elements depth b (group _ segs one_comma end) l h = absurd (false≢true l)
 

@@ -22,7 +22,7 @@ first_edited q p f keep (s ∷ ss) h =
     [ true ↦ all_appended (SegmentPasses q) (f s) ss (keep s h.0) h.1 | false ↦ (h.0, first_edited q p f keep ss h.1) ]
 
 list_edited : (q : List ℕ → Bool) (f : List Segment → List Segment) → KeepsPassing q f → (x : Item) → NodePasses q x → NodePasses q (edit_list f x)
-list_edited q f keep (leaf kind text place) h = h
+list_edited q f keep (leaf kind text) h = h
 list_edited q f keep (group kind segs one_comma end) h =
     group_passes q kind (f (segments segs)) one_comma end (keep (segments segs) (elements_pass q (group kind segs one_comma end) h)) (and_parts (segs_pass q segs) (list_all q end) h).1
 

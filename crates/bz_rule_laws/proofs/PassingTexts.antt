@@ -59,7 +59,7 @@ segments_out q (s ∷ ss) h =
 
 -- what stands in brackets
 pub elements_pass : (q : List ℕ → Bool) (x : Item) → NodePasses q x → SegmentsPass q (elements x)
-elements_pass q (leaf kind text place) h = tt
+elements_pass q (leaf kind text) h = tt
 elements_pass q (group kind segs one_comma end) h =
     segments_in q (segments segs) (subst (λ ss. segs_pass q ss ≡ true) (sym (segs_back segs)) (and_parts (segs_pass q segs) (list_all q end) h).0)
 

@@ -3,7 +3,7 @@ use Rattle.std.proofs.Common.{◌≡◌, ℕ, suc, List, [], ◌∷◌, ◌++◌
 use Rattle.std.specs.Prelude.{codes, bytes_eq}
 use Rattle.bz_token.specs.declared.token.Kind.TheVariants.{Ident, Int}
 use Rattle.bz_token.specs.Lexical.{is_text}
-use Rattle.bz_tree.specs.Tree.{leaf, Segment, nowhere}
+use Rattle.bz_tree.specs.Tree.{leaf, Segment}
 use Rattle.bz_tree.specs.Grammar.{IsArg, plain, single, primary, number, operand, no_suffix, ident}
 use Rattle.bz_attribute.specs.Rules.{first_named, is_named, value}
 use Rattle.bz_attribute.specs.Lists.{is_attribute, with_value}
@@ -17,13 +17,13 @@ use Rattle.bz_rule_laws.proofs.NewTexts.{constant_text, number_text}
 use Rattle.bz_rule_laws.proofs.Segments.{IsFormed, AreFormed, all_appended}
 
 -- what words stand for
-number_value : (depth : ℕ) (digits : List ℕ) → is_number digits ≡ true → IsValue depth (leaf Int digits nowhere ∷ [])
+number_value : (depth : ℕ) (digits : List ℕ) → is_number digits ≡ true → IsValue depth (leaf Int digits ∷ [])
 number_value depth digits h = record {
   nodes_are = record { texts = ((number_text digits h, refl), tt); kinds = (λ e. e, tt, tt); depth_fits = omega arith };
   test = plain (single (primary (number refl no_suffix refl)));
 }
 
-constant_value : (depth : ℕ) (name : List ℕ) → is_constant name ≡ true → IsValue depth (leaf Ident name nowhere ∷ [])
+constant_value : (depth : ℕ) (name : List ℕ) → is_constant name ≡ true → IsValue depth (leaf Ident name ∷ [])
 constant_value depth name h = record {
   nodes_are = record { texts = ((constant_text name h, refl), tt); kinds = (λ e. e, tt, tt); depth_fits = omega arith };
   test = plain (single (primary (operand (ident refl) no_suffix)));

@@ -25,11 +25,11 @@ abbrev pub IsFilled : GroupKind → Segs → Type 0
 IsFilled kind segs = (is_call kind ≡ true → AreArgs segs) × (is_list_kind kind ≡ true → AreTests segs)
 
 abbrev pub IsInner : Item → Type 0
-IsInner (leaf kind bytes place) = is_token (leaf_role kind bytes) ≡ true
+IsInner (leaf kind bytes) = is_token (leaf_role kind bytes) ≡ true
 IsInner (group kind segs one_comma end) = IsFilled kind segs
 
 abbrev pub IsOuter : Item → Type 0
-IsOuter (leaf kind bytes place) = Unit {0}
+IsOuter (leaf kind bytes) = Unit {0}
 IsOuter (group kind segs one_comma end) = IsFilled kind segs
 
 abbrev pub Each : (Item → Type 0) → Items → Type 0
@@ -41,7 +41,7 @@ each_join P no_items ys h k = k
 each_join P (item x xs) ys h k = (h.0, each_join P xs ys h.1 k)
 
 token_inner : (x : Item) → is_token (token_role x) ≡ true → IsInner x
-token_inner (leaf kind bytes place) h = h
+token_inner (leaf kind bytes) h = h
 token_inner (group kind segs one_comma end) h = absurd (false≢true h)
 
 known_inner : (x : Item) (r : Role) → token_role x ≡ r → is_token r ≡ true → IsInner x
@@ -112,7 +112,7 @@ test_inner (conditional {xs} {a} {b} {c} i e is ha hi hb he hc) =
 
 -- statements
 outer : (x : Item) → IsInner x → IsOuter x
-outer (leaf kind bytes place) h = tt
+outer (leaf kind bytes) h = tt
 outer (group kind segs one_comma end) h = h
 
 each_outer : (xs : Items) → Each IsInner xs → Each IsOuter xs
@@ -124,7 +124,7 @@ is_stray Stray = true
 is_stray _ = false
 
 token_outer : (x : Item) → is_stray (token_role x) ≡ false → IsOuter x
-token_outer (leaf kind bytes place) h = tt
+token_outer (leaf kind bytes) h = tt
 token_outer (group kind segs one_comma end) h = absurd (false≢true (sym h))
 
 assignment_token : (r : Role) → is_assignment r ≡ true → is_stray r ≡ false
@@ -141,7 +141,7 @@ load_outer : {xs : Items} → IsLoad xs → Each IsOuter xs
 load_outer (load {w} h s args) = (word_outer w h, (no_call_no_list Load _ refl refl, tt))
   where
     word_outer : (w : Item) → is_load_word w ≡ true → IsOuter w
-    word_outer (leaf kind bytes place) h = tt
+    word_outer (leaf kind bytes) h = tt
     word_outer (group kind segs one_comma end) h = absurd (false≢true h)
 
 pub statement_outer : {xs : Items} → IsStatement xs → Each IsOuter xs

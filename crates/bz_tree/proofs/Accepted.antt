@@ -32,7 +32,7 @@ is_stray _ = false
 
 -- a token is what the recognizer takes it for
 pub role_known : (x : Item) (r : Role) → token_role x ≡ r → is_stray r ≡ false → role_of x ≡ r
-role_known (leaf kind bytes place) r e known = e
+role_known (leaf kind bytes) r e known = e
 role_known (group kind segs one_comma end) r e known = absurd (false≢true (sym known ∙ ap is_stray (sym e)))
 
 step : (s : Stage) (x : Item) (xs : Items) (r : Role) → role_of x ≡ r → accepts (next s r) xs ≡ true → accepts s (item x xs) ≡ true

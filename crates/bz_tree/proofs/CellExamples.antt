@@ -2,14 +2,14 @@
 use Rattle.std.proofs.Common.{◌≡◌, ℕ, List, [], ◌∷◌, true, false, Some, None, refl, codes}
 use Rattle.bz_token.specs.declared.token.Kind.TheVariants.{Ident, Sign}
 use Rattle.bz_token.specs.Places.{Placed}
-use Rattle.bz_tree.specs.Tree.{Item, leaf, nowhere, Segment}
+use Rattle.bz_tree.specs.Tree.{Item, leaf, Segment}
 use Rattle.bz_tree.specs.Owners.{node, comma, note, no_token, inside, a_node, a_comma, a_note, inside_by_cells, entries_of}
 
 abbrev x : Item
-x = leaf Ident (codes "x") nowhere
+x = leaf Ident (codes "x")
 
 abbrev y : Item
-y = leaf Ident (codes "y") nowhere
+y = leaf Ident (codes "y")
 
 abbrev a : List ℕ
 a = codes "# a"

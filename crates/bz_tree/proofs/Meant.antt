@@ -658,7 +658,7 @@ mutual
   accepts_means (item x xs) s h = step_means s x xs (role_of x) (role_means x) (accepts_means xs (next s (role_of x)) h)
 
   role_means : (x : Item) → RoleMeans (role_of x) x
-  role_means (leaf kind word place) = token_means (leaf kind word place) (leaf_role kind word) refl (leaf_plain kind word)
+  role_means (leaf kind word) = token_means (leaf kind word) (leaf_role kind word) refl (leaf_plain kind word)
   role_means (group kind segs one_comma end) = group_means kind segs one_comma end (λ s h. segs_means segs s h) (is_whole kind segs) (each (begin kind) segs) refl refl
 
   segs_means : (segs : Segs) (s : Stage) → each s segs ≡ true → EachMeans s segs

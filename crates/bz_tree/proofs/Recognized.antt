@@ -39,7 +39,7 @@ sign_run s _ e is xs h = absurd (false≢true is)
 
 -- loads
 string_item : (x : Item) → token_role x ≡ Value → is_string_item x ≡ true
-string_item (leaf kind text place) e = ap is_value e
+string_item (leaf kind text) e = ap is_value e
 string_item (group kind segs one_comma end) e = ap is_value e
 
 string_run : {xs : Items} → IsString xs → is_string xs ≡ true
@@ -82,7 +82,7 @@ equals_is Equals h = refl
 equals_is _ h = absurd (false≢true h)
 
 string_item_means : (x : Item) → is_string_item x ≡ true → token_role x ≡ Value
-string_item_means (leaf kind text place) h = value_is (leaf_role kind text) h
+string_item_means (leaf kind text) h = value_is (leaf_role kind text) h
 string_item_means (group kind segs one_comma end) h = absurd (false≢true h)
 
 string_means : (xs : Items) → is_string xs ≡ true → IsString xs
@@ -112,7 +112,7 @@ loaded_means w no_segs one_comma end is h = absurd (false≢true h)
 loaded_means w (seg before nodes beside segs) one_comma end is h = let p = and_parts (is_string nodes) (are_load_arguments segs) h in load is (string_means nodes p.0) (load_args_means segs p.1)
 
 load_group_means : (w g : Item) → is_load_word w ≡ true → is_load_group g ≡ true → IsLoad (item w (item g no_items))
-load_group_means w (leaf kind text place) is h = absurd (false≢true h)
+load_group_means w (leaf kind text) is h = absurd (false≢true h)
 load_group_means w (group Load segs one_comma end) is h = loaded_means w segs one_comma end is h
 load_group_means w (group _ segs one_comma end) is h = absurd (false≢true h)
 

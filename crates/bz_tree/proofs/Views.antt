@@ -6,9 +6,9 @@ use Rattle.bz_tree.specs.declared.stmt.Group.{Group as GroupValue, out-Group}
 use Rattle.bz_tree.specs.declared.stmt.Seg.{Seg}
 use Rattle.bz_tree.specs.Tree.{leaf, group, segs_of}
 use Rattle.bz_tree.specs.Statement.{one_segment}
-use Rattle.bz_tree.specs.View.{text_of, place_of, node_view, group_view, seg_view, nodes_view, segs_view, texts}
+use Rattle.bz_tree.specs.View.{text_of, node_view, group_view, seg_view, nodes_view, segs_view, texts}
 
-pub view-Token : (t : Leaf) → node_view (Token t) ≡ leaf t.kind (text_of t.text) (place_of t)
+pub view-Token : (t : Leaf) → node_view (Token t) ≡ leaf t.kind (text_of t.text)
 view-Token t = search (rules, the_lemmas)
 
 pub view-Group : (g : GroupValue) → node_view (Group g) ≡ group_view g

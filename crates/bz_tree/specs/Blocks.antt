@@ -7,7 +7,7 @@ use Rattle.bz_token.specs.Places.{Placed, line_at, column_at}
 use Rattle.bz_tree.specs.declared.stmt.Class.TheVariants.{Block}
 use Rattle.bz_tree.specs.declared.kinds.Mark.{Mark}
 use Rattle.bz_tree.specs.declared.kinds.Mark.TheVariants.{Open, Close, Comment, NewLine}
-use Rattle.bz_tree.specs.Tree.{Item, leaf, Statement}
+use Rattle.bz_tree.specs.Tree.{leaf, Statement}
 use Rattle.bz_tree.specs.Kinds.{mark_of}
 use Rattle.bz_tree.specs.Brackets.{end_line}
 use Rattle.bz_tree.specs.Statement.{first_token, last_token, last_seen}
@@ -124,11 +124,8 @@ pub record IsKeptText (first : ℕ) (bytes : List ℕ) (header last : Placed) (k
   pub begins : IsAt first before header
   pub ends : IsAt first (before ++ front) last
 
-abbrev pub kept_leaf : List ℕ → Placed → Item
-kept_leaf kept t = leaf Kept kept (record { line = t.line; col = t.col; fresh = t.fresh })
-
 abbrev pub kept_statement : List (List ℕ) → List ℕ → Placed → ℕ → Statement
-kept_statement before kept header end = record { before = before; nodes = kept_leaf kept header ∷ []; suffix = None; class = Block; start = header.line; end = end }
+kept_statement before kept header end = record { before = before; nodes = leaf Kept kept ∷ []; suffix = None; class = Block; start = header.line; end = end }
 
 -- The block that the tokens are: its text from the header's first token to the end of its last token, comments counted.
 pub record IsBlockOf (first : ℕ) (bytes : List ℕ) (tokens : List Placed) (s : Statement) : Type 0 where

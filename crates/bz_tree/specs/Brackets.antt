@@ -34,10 +34,10 @@ abbrev mutual
 
 -- the leaf of a token
 abbrev pub leaf_of : Placed → Item
-leaf_of t = leaf t.kind t.text (record { line = t.line; col = t.col; fresh = t.fresh })
+leaf_of t = leaf t.kind t.text
 
 abbrev pub after_item : Item → Preceding
-after_item (leaf kind text place) = kind_after kind text
+after_item (leaf kind text) = kind_after kind text
 after_item (group kind segs one_comma end) = Operand
 
 -- what stands directly before a bracket that comes next, after one more thing; a comment changes nothing
@@ -47,7 +47,7 @@ preceding b (comma t) = Other
 preceding b (note line text) = b
 
 abbrev pub is_for_item : Item → Bool
-is_for_item (leaf kind text place) = is_for_at kind text
+is_for_item (leaf kind text) = is_for_at kind text
 is_for_item (group kind segs one_comma end) = false
 
 -- the keyword `for` stands before the first comma

@@ -18,7 +18,7 @@ beside (Some text) = text ∷ []
 -- The owners in brackets: of each segment the place above it and the place after it (its suffix), and the end of each bracket.
 abbrev mutual
   pub item_owners : Item → Lists
-  item_owners (leaf kind text place) = []
+  item_owners (leaf kind text) = []
   item_owners (group kind segs one_comma end) = segs_owners segs ++ end ∷ []
 
   pub items_owners : Items → Lists

@@ -55,7 +55,7 @@ leaf_role Sign text = sign_role text
 leaf_role _ text = Stray
 
 abbrev pub token_role : Item → Role
-token_role (leaf kind text place) = leaf_role kind text
+token_role (leaf kind text) = leaf_role kind text
 token_role (group kind segs one_comma end) = Stray
 
 -- `+ - ~ not`

@@ -39,17 +39,17 @@ is_nothing (x ∷ xs) = false
 abbrev mutual
   pub is_rule : List Item → Bool
   is_rule [] = false
-  is_rule (leaf kind text place ∷ xs) = is_ident kind && is_rule_after xs
+  is_rule (leaf kind text ∷ xs) = is_ident kind && is_rule_after xs
   is_rule (group kind segs one_comma end ∷ xs) = false
 
   -- after an identifier
   pub is_rule_after : List Item → Bool
   is_rule_after [] = false
-  is_rule_after (leaf kind text place ∷ xs) = is_dot kind text && is_rule xs
+  is_rule_after (leaf kind text ∷ xs) = is_dot kind text && is_rule xs
   is_rule_after (group kind segs one_comma end ∷ xs) = is_call kind && is_nothing xs
 
 abbrev pub as_rule_call : Item → Item
-as_rule_call (leaf kind text place) = leaf kind text place
+as_rule_call (leaf kind text) = leaf kind text
 as_rule_call (group kind segs one_comma end) = group RuleCall segs one_comma end
 
 abbrev pub rule_call : List Item → List Item
@@ -77,7 +77,7 @@ abbrev pub is_assign_sign : List ℕ → Bool
 is_assign_sign text = is_one_of text (codes "=" ∷ codes "+=" ∷ codes "-=" ∷ codes "*=" ∷ codes "/=" ∷ codes "//=" ∷ codes "%=" ∷ codes "&=" ∷ codes "|=" ∷ codes "^=" ∷ codes "<<=" ∷ codes ">>=" ∷ [])
 
 abbrev pub is_assign : Item → Bool
-is_assign (leaf Sign text place) = is_assign_sign text
+is_assign (leaf Sign text) = is_assign_sign text
 is_assign _ = false
 
 abbrev pub has_assign : List Item → Bool
@@ -85,11 +85,11 @@ has_assign [] = false
 has_assign (x ∷ xs) = is_assign x || has_assign xs
 
 abbrev pub is_load_word : Item → Bool
-is_load_word (leaf Word text place) = bytes_eq text (codes "load")
+is_load_word (leaf Word text) = bytes_eq text (codes "load")
 is_load_word _ = false
 
 abbrev pub is_kept : Item → Bool
-is_kept (leaf Kept text place) = true
+is_kept (leaf Kept text) = true
 is_kept _ = false
 
 -- The class of a statement, by its nodes. None: comment lines alone.

@@ -1,18 +1,12 @@
 -- What a statement is: tokens and bracket groups, split at commas, with their comments.
-use Rattle.std.specs.Prelude.{ℕ, List, [], ◌∷◌, Bool, false, Option}
+use Rattle.std.specs.Prelude.{ℕ, List, [], ◌∷◌, Bool, Option}
 use Rattle.bz_token.specs.declared.token.Kind.{Kind}
 use Rattle.bz_tree.specs.declared.stmt.GroupKind.{GroupKind}
 use Rattle.bz_tree.specs.declared.stmt.Class.{Class}
 
--- where a token stands
-pub record Place : Type 0 where
-  pub line : ℕ
-  pub col : ℕ
-  pub fresh : Bool
-
 mutual
   pub data Item : Type 0 where
-    leaf : Kind → List ℕ → Place → Item
+    leaf : Kind → List ℕ → Item
     -- its kind, its segments, whether it is `(x,)`, its end comments
     group : GroupKind → Segs → Bool → List (List ℕ) → Item
 
@@ -55,21 +49,3 @@ segs_of (s ∷ ss) = seg s.before (items_of s.nodes) s.suffix (segs_of ss)
 abbrev pub segments : Segs → List Segment
 segments no_segs = []
 segments (seg before nodes suffix ss) = record { before = before; nodes = list_of nodes; suffix = suffix } ∷ segments ss
-
--- nowhere: the place that is left when places are forgotten
-abbrev pub nowhere : Place
-nowhere = record { line = 0; col = 0; fresh = false }
-
--- the same without places: two statements are equal if these are
-abbrev mutual
-  pub bare : Item → Item
-  bare (leaf kind text place) = leaf kind text nowhere
-  bare (group kind segs one_comma end) = group kind (bare_segs segs) one_comma end
-
-  pub bare_items : Items → Items
-  bare_items no_items = no_items
-  bare_items (item x xs) = item (bare x) (bare_items xs)
-
-  pub bare_segs : Segs → Segs
-  bare_segs no_segs = no_segs
-  bare_segs (seg before nodes suffix ss) = seg before (bare_items nodes) suffix (bare_segs ss)

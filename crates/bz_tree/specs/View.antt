@@ -3,13 +3,12 @@ use Rattle.std.specs.Prelude.{ℕ, List, map, Option, option_map}
 use Rattle.std.specs.Cow.{cow_str_bytes}
 use Rattle.std.specs.declared.borrow.CowStr.{CowStr}
 use Rattle.std.specs.declared.alloc.Global.{Global}
-use Rattle.bz_tree.specs.declared.stmt.Leaf.{Leaf}
 use Rattle.bz_tree.specs.declared.stmt.Stmt.{Stmt}
 use Rattle.bz_tree.specs.declared.stmt.Node.{Node, fold-Node}
 use Rattle.bz_tree.specs.declared.stmt.Seg.{Seg, fold-Seg}
 use Rattle.bz_tree.specs.declared.stmt.Group.{Group, fold-Group}
 use Rattle.bz_tree.specs.declared.stmt.Node.TheOpen.{Node-F, Group-F, Seg-F}
-use Rattle.bz_tree.specs.Tree.{Place, Item, leaf, group, Segment, Statement, segs_of}
+use Rattle.bz_tree.specs.Tree.{Item, leaf, group, Segment, Statement, segs_of}
 
 -- the text of a leaf or a comment
 abbrev pub text_of : CowStr Global → List ℕ
@@ -18,12 +17,9 @@ text_of = cow_str_bytes
 abbrev pub texts : List (CowStr Global) → List (List ℕ)
 texts ss = map text_of ss
 
-abbrev pub place_of : Leaf → Place
-place_of t = record { line = t.line; col = t.col; fresh = t.fresh }
-
 -- One level, with each part inside already seen as its item or segment.
 abbrev pub node_step : Node-F Item Item Segment → Item
-node_step (Node-F.Token t) = leaf t.kind (text_of t.text) (place_of t)
+node_step (Node-F.Token t) = leaf t.kind (text_of t.text)
 node_step (Node-F.Group g) = g
 
 abbrev pub group_step : Group-F Item Item Segment → Item

@@ -6,7 +6,7 @@ ghost use Rattle.bz_token.specs.Places.{placed};
 ghost use Rattle.bz_tree.specs.View.{text_of, node_view, group_view, seg_view};
 ghost use Rattle.bz_tree.specs.Kinds.{group_kind, is_for_at};
 ghost use Rattle.bz_tree.specs.Owners.{node};
-ghost use Rattle.bz_tree.specs.Brackets.{own_of};
+ghost use Rattle.bz_tree.specs.Brackets.{leaf_of, own_of};
 ghost use Rattle.bz_tree.specs.declared.kinds.Mark.TheVariants.{Close, Comma, Comment, Plain};
 ghost use Rattle.bz_tree.specs.Statement.{one_segment, segment_with};
 ghost use Rattle.bz_tree.specs.private.Steps.{leaf_view, content_view, so_far, done, has_one, kind_with, level, levels, with_own, new_level, closed, next, next_at, run, state};
@@ -42,15 +42,12 @@ pub(crate) struct State<'a> {
 
 #[inline(always)]
 fn leaf_of<'a>(token: &Token<'a>) -> Leaf<'a>
-    ensures value { leaf_view result ≡ placed token.now }
+    ensures value { leaf_view result ≡ leaf_of (placed token.now) }
     ensures borrowed { owned result.text ≡ 0 }
 {
     Leaf {
         kind: token.kind,
         text: CowStr::Borrowed(token.text),
-        line: token.line,
-        col: token.col,
-        fresh: token.fresh,
     }
 }
 

@@ -76,9 +76,6 @@ fn kept_statement<'a>(
     nodes.push(Node::Token(Leaf {
         kind: Kind::Kept,
         text: CowStr::Borrowed(kept),
-        line: header.line,
-        col: header.col,
-        fresh: header.fresh,
     }))?;
     Ok(Stmt {
         before,

@@ -12,7 +12,7 @@ impl<'a> Stmt<'a> {
     ghost use Rattle.bz_tree.specs.View.{view};
     ghost use Rattle.bz_tree.specs.Borrowed.{owned_texts};
 
-    /// An equal statement, places and line numbers included. It owns as many texts as this one, so a copy of a
+    /// An equal statement, line numbers included. It owns as many texts as this one, so a copy of a
     /// statement that borrows all its texts borrows them all.
     pub fn copy(&self, alloc: Global) -> Result<Stmt<'a>, AllocError>
         ensures equal { IfOk result (λ s. view s ≡ view self.now) }
@@ -75,9 +75,6 @@ fn copy_node<'a>(alloc: Global, node: &Node<'a>) -> Result<Node<'a>, AllocError>
         Node::Token(leaf) => Ok(Node::Token(Leaf {
             kind: leaf.kind,
             text: copy_text(&leaf.text)?,
-            line: leaf.line,
-            col: leaf.col,
-            fresh: leaf.fresh,
         })),
         Node::Group(group) => Ok(Node::Group(copy_group(alloc, group)?)),
     }

@@ -20,17 +20,11 @@ pub enum GroupKind {
     DictComp,
 }
 
-/// A token of a statement. Its place is that of the text it was read from.
+/// A token of a statement.
 #[derive(Debug, PartialEq, Eq, Drop)]
 pub struct Leaf<'a> {
     pub kind: Kind,
     pub text: CowStr<'a>,
-    /// Lines count from the file's first line, 1.
-    pub line: u64,
-    /// In bytes from 1.
-    pub col: u64,
-    /// No token begins before it on its line.
-    pub fresh: bool,
 }
 
 /// A token, or a bracket with what stands in it.

@@ -381,7 +381,7 @@ alone_mixed [] before (x ∷ xs) suffix after last trailing texts alone none h =
 
 -- the call of a rule has the same comments
 call_owners : (x : Item) → item_owners (as_rule_call x) ≡ item_owners x
-call_owners (leaf kind text place) = refl
+call_owners (leaf kind text) = refl
 call_owners (group kind segs one_comma end) = refl
 
 calls_owners : (xs : List Item) → nodes_owners (rule_call xs) ≡ nodes_owners xs

@@ -31,7 +31,7 @@ pub record AreKept (first : ℕ) (bytes : List ℕ) (tokens : List Placed) (s : 
   pub no_suffix : s.suffix ≡ None
   pub kept : List ℕ
   pub place : Place
-  pub node_is : s.nodes ≡ leaf Kept kept place ∷ []
+  pub node_is : s.nodes ≡ leaf Kept kept ∷ []
   pub before : List ℕ
   pub after : List ℕ
   pub bytes_are : bytes ≡ before ++ (kept ++ after)

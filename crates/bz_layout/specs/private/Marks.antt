@@ -12,7 +12,7 @@ mark Broken broken = broken ∷ []
 
 abbrev mutual
   pub item_marks : Style → Item → List Bool
-  item_marks style (leaf kind text place) = []
+  item_marks style (leaf kind text) = []
   item_marks style (group kind segs one_comma end) = mark style (is_broken kind segs end (segs_hold segs)) ++ segs_marks style segs
 
   pub items_marks : Style → Items → List Bool

@@ -195,7 +195,7 @@ abbrev mutual
   accepts stage (item x xs) = accepts (next stage (role_of x)) xs
 
   pub role_of : Item → Role
-  role_of (leaf kind text place) = leaf_role kind text
+  role_of (leaf kind text) = leaf_role kind text
   role_of (group kind segs one_comma end) = if is_whole kind segs && each (begin kind) segs then group_role kind else Stray
 
   -- each segment does
@@ -216,7 +216,7 @@ is_equals Equals = true
 is_equals _ = false
 
 abbrev pub is_string_item : Item → Bool
-is_string_item (leaf kind text place) = is_value (leaf_role kind text)
+is_string_item (leaf kind text) = is_value (leaf_role kind text)
 is_string_item (group kind segs one_comma end) = false
 
 abbrev pub is_string : Items → Bool
@@ -243,7 +243,7 @@ is_load_kind Load = true
 is_load_kind _ = false
 
 abbrev pub is_load_group : Item → Bool
-is_load_group (leaf kind text place) = false
+is_load_group (leaf kind text) = false
 is_load_group (group kind segs one_comma end) = is_load_kind kind && are_loaded segs
 
 abbrev pub is_load : Items → Bool

@@ -18,7 +18,7 @@ use Rattle.bz_tree.specs.declared.build.Frame.{Frame}
 use Rattle.bz_tree.specs.declared.build.State.{State}
 use Rattle.bz_token.specs.Places.{Placed}
 use Rattle.bz_tree.specs.declared.stmt.Leaf.{Leaf}
-use Rattle.bz_tree.specs.Tree.{Item, Segment}
+use Rattle.bz_tree.specs.Tree.{Item, leaf, Segment}
 use Rattle.bz_tree.specs.View.{text_of, texts, node_view, seg_view}
 use Rattle.bz_tree.specs.Kinds.{mark_of, is_one, group_kind, same_shape}
 use Rattle.bz_tree.specs.Owners.{Own, node, comma, note, Last, no_token, end_of_node, end_of_comma, is_on, Inside, is_filled}
@@ -40,8 +40,8 @@ texts_of None = []
 texts_of (Some text) = text ∷ []
 
 -- the value of a leaf
-abbrev pub leaf_view : Leaf → Placed
-leaf_view t = record { kind = t.kind; text = text_of t.text; line = t.line; col = t.col; fresh = t.fresh }
+abbrev pub leaf_view : Leaf → Item
+leaf_view t = leaf t.kind (text_of t.text)
 
 abbrev pub last_view : Before → Last
 last_view Nothing = no_token
