@@ -232,7 +232,6 @@ kept_parts first bytes rest tokens s a h from l parts end =
       comments_are = ap (λ (x : Statement). x.before) a.is ∙ h.comments;
       no_suffix = ap (λ (x : Statement). x.suffix) a.is;
       kept = a.kept;
-      place = record { line = a.header.line; col = a.header.col; fresh = a.header.fresh };
       node_is = ap (λ (x : Statement). x.nodes) a.is;
       before = from.before;
       after = parts.back ++ rest;

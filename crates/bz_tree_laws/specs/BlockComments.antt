@@ -3,7 +3,7 @@ use Rattle.std.specs.Prelude.{ℕ, List, [], ◌∷◌, ◌++◌, true, ◌≡�
 use Rattle.bz_token.specs.declared.token.Kind.TheVariants.{Kept}
 use Rattle.bz_token.specs.Places.{Placed}
 use Rattle.bz_token.specs.Reading.{is_gap}
-use Rattle.bz_tree.specs.Tree.{Place, leaf, Statement}
+use Rattle.bz_tree.specs.Tree.{leaf, Statement}
 use Rattle.bz_tree.specs.Brackets.{without_lines}
 use Rattle.bz_tree.specs.Statement.{bare_tokens, first_of, first_token}
 use Rattle.bz_tree.specs.Blocks.{IsAt}
@@ -30,7 +30,6 @@ pub record AreKept (first : ℕ) (bytes : List ℕ) (tokens : List Placed) (s : 
   pub comments_are : s.before ≡ notes above
   pub no_suffix : s.suffix ≡ None
   pub kept : List ℕ
-  pub place : Place
   pub node_is : s.nodes ≡ leaf Kept kept ∷ []
   pub before : List ℕ
   pub after : List ℕ
