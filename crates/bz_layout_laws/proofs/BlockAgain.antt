@@ -18,8 +18,7 @@ use Rattle.bz_tree_laws.proofs.ChunkLaws.{chunk_same}
 use Rattle.bz_layout.specs.Layout.{layout_text}
 use Rattle.bz_layout_laws.specs.BlockIn.{IsBlockIn}
 use Rattle.bz_layout_laws.specs.Legible.{AreComments}
-use Rattle.bz_layout_laws.specs.Unplaced.{unplaced}
-use Rattle.bz_layout_laws.proofs.Bare.{same_text}
+use Rattle.bz_layout_laws.specs.Lineless.{lineless}
 use Rattle.bz_layout_laws.proofs.BlockTokens.{all_shown, same_block, same_indent}
 use Rattle.bz_layout_laws.proofs.BlockParts.{same_columns}
 use Rattle.bz_layout_laws.proofs.BlockPlaces.{body_tokens, header_token, told}
@@ -42,7 +41,7 @@ pub record Again (second depth : ℕ) (texts : List (List ℕ)) (s : Statement) 
   pub begins : begins_block (first_token tokens) ≡ true
   pub found : Statement
   pub reads : IsReadAs second (layout_text (with_above texts s) ++ replicate more 10) tokens found
-  pub same : unplaced found ≡ unplaced (with_above texts s)
+  pub same : lineless found ≡ lineless (with_above texts s)
 
 pub block_again : (first second depth : ℕ) (bytes : List ℕ) (s : Statement) (b : Body first depth bytes s) (texts : List (List ℕ)) (more : ℕ) → AreComments texts → Again second depth texts s more
 block_again first second depth bytes s b texts more h =
@@ -78,14 +77,14 @@ block_again first second depth bytes s b texts more h =
     ap (λ o. indent_at o tokens) t.is_header ∙ ap (λ n. if n == 1 then (if is_block_word here then block_indent tokens else None) else Some here.line) column
     ∙ ap (λ w. if w then block_indent tokens else None) b.word ∙ indent in
     let notes : above tokens ≡ texts = above_lines second texts header (b.mid ++ replicate (suc more) newline) [] [] b.word in
-    let unplaced_is : unplaced (with_above texts s) ≡ record { before = texts; nodes = leaf Kept kept ∷ []; suffix = None; class = Block; start = 0; end = 0 } = ap (λ x. unplaced (with_above texts x)) b.is in
+    let lineless_is : lineless (with_above texts s) ≡ record { before = texts; nodes = leaf Kept kept ∷ []; suffix = None; class = Block; start = 0; end = 0 } = ap (λ x. lineless (with_above texts x)) b.is in
     record {
       tokens = tokens;
       are = are;
       begins = begins;
       found = found;
       reads = record { upright = upright; some = some_seen tokens t.last t.is_last; chunk = subst (λ w. IsOneOf w second text tokens found) (sym begins) is };
-      same = ap (λ ns. record { before = ns; nodes = leaf Kept kept ∷ []; suffix = None; class = Block; start = 0; end = 0 }) notes ∙ sym unplaced_is;
+      same = ap (λ ns. record { before = ns; nodes = leaf Kept kept ∷ []; suffix = None; class = Block; start = 0; end = 0 }) notes ∙ sym lineless_is;
     }
   where
     body_shown : (first second : ℕ) (a c over under : List ℕ) (header : Piece) (mid : List Piece) → column_at (a ++ []) ≡ column_at (c ++ header.gap) → all_shown (tokens_of second a over (close header ∷ mid)) ≡ all_shown (tokens_of first c under (header ∷ mid))
@@ -96,18 +95,18 @@ block_again first second depth bytes s b texts more h =
         λ i. record { kind = header.kind; text = header.text; line = 0; col = e i; fresh = false } ∷ rest i
 
 pub again_some : (first second depth more : ℕ) (bytes : List ℕ) (s : Statement) (texts : List (List ℕ)) → IsBlockIn first depth bytes s → AreComments texts
-    → (t : Statement) × IsStatementIn second depth (layout_text (with_above texts s) ++ replicate more 10) t × (unplaced t ≡ unplaced (with_above texts s))
+    → (t : Statement) × IsStatementIn second depth (layout_text (with_above texts s) ++ replicate more 10) t × (lineless t ≡ lineless (with_above texts s))
 again_some first second depth more bytes s texts b h =
     let a = block_again first second depth bytes s (body_of first depth bytes s b) texts more h in
     (a.found, record { tokens = a.tokens; are = a.are; reads = a.reads }, a.same)
 
 pub again_only : (first second depth more : ℕ) (bytes : List ℕ) (s t : Statement) (texts : List (List ℕ)) → IsBlockIn first depth bytes s → AreComments texts
     → IsStatementIn second depth (layout_text (with_above texts s) ++ replicate more 10) t
-    → (unplaced t ≡ unplaced (with_above texts s)) × (layout_text t ≡ layout_text (with_above texts s))
+    → (lineless t ≡ lineless (with_above texts s)) × (layout_text t ≡ layout_text (with_above texts s))
 again_only first second depth more bytes s t texts b h is =
     let text = layout_text (with_above texts s) ++ replicate more 10 in
     let a = block_again first second depth bytes s (body_of first depth bytes s b) texts more h in
     let tokens : is.tokens ≡ a.tokens = one_tokens second depth text is.tokens a.tokens is.are a.are in
     let found : t ≡ a.found = chunk_same second text a.tokens t a.found (subst (λ ts. IsChunkOf second text ts t) tokens is.reads.chunk) a.reads.chunk in
-    let same : unplaced t ≡ unplaced (with_above texts s) = ap unplaced found ∙ a.same in
-    (same, same_text t (with_above texts s) same)
+    let same : lineless t ≡ lineless (with_above texts s) = ap lineless found ∙ a.same in
+    (same, ap layout_text same)

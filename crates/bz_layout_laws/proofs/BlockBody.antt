@@ -11,7 +11,7 @@ use Rattle.bz_tree.specs.Blocks.{above, is_block_word_at, is_block_word, block_i
 use Rattle.bz_tree.specs.Brackets.{end_line}
 use Rattle.bz_tree.specs.Chunk.{IsOneOf, begins_block, indent_at}
 use Rattle.bz_tree.specs.Statement.{first_token, last_seen}
-use Rattle.bz_tree.specs.Tree.{leaf, Place, Statement}
+use Rattle.bz_tree.specs.Tree.{leaf, Statement}
 use Rattle.bz_tree.proofs.Sound.{none_is_some, some_injective}
 use Rattle.bz_tree_laws.proofs.KeptSame.{kept_same}
 use Rattle.bz_layout_laws.specs.BlockIn.{IsBlockIn}
@@ -34,7 +34,6 @@ pub record Body (first depth : ℕ) (bytes : List ℕ) (s : Statement) : Type 0 
   pub column : column_at (bytes_of front ++ header.gap) ≡ 1
   pub indent : block_indent (body_tokens first front header mid) ≡ None
   pub block : is_block (body_tokens first front header mid) ≡ true
-  pub place : Place
   pub before : List (List ℕ)
   pub start : ℕ
   pub end : ℕ
@@ -85,7 +84,6 @@ body_of first depth bytes s b =
       column = stands.0;
       indent = sym t.indent ∙ sym (ap block_indent tokens_are) ∙ stands.1;
       block = sym t.block ∙ sym (ap is_block tokens_are) ∙ a.is_block;
-      place = record { line = a.header.line; col = a.header.col; fresh = a.header.fresh };
       before = above b.tokens;
       start = a.header.line;
       end = end_line a.last;

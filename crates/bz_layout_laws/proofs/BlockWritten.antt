@@ -13,7 +13,7 @@ use Rattle.bz_token_laws.proofs.Readable.{bytes_join}
 use Rattle.bz_tree.specs.declared.stmt.Class.TheVariants.{Block}
 use Rattle.bz_tree.specs.Blocks.{above_at, above, is_block_word_at}
 use Rattle.bz_tree.specs.Kinds.{kind_mark}
-use Rattle.bz_tree.specs.Tree.{leaf, Place, Statement}
+use Rattle.bz_tree.specs.Tree.{leaf, Statement}
 use Rattle.bz_layout.specs.declared.spacing.Gap.TheVariants.{Closed}
 use Rattle.bz_layout.specs.Pieces.{piece, comment_lines, bytes_of as layout_bytes}
 use Rattle.bz_layout.specs.Layout.{layout_text}
@@ -46,9 +46,9 @@ newline_bytes (suc n) = ap (λ x. 10 ∷ x) (newline_bytes n)
 abbrev pub with_above : List (List ℕ) → Statement → Statement
 with_above texts s = record s { before = texts }
 
-text_is : (texts : List (List ℕ)) (header : Piece) (mid : List Piece) (place : Place) (start end more : ℕ)
+text_is : (texts : List (List ℕ)) (header : Piece) (mid : List Piece) (start end more : ℕ)
     → bytes_of (written texts header mid more) ≡ layout_text (record { before = texts; nodes = leaf Kept (header.text ++ bytes_of mid) ∷ []; suffix = None; class = Block; start = start; end = end }) ++ replicate more 10
-text_is texts header mid place start end more =
+text_is texts header mid start end more =
     let kept = header.text ++ bytes_of mid in
     bytes_join (lines_above texts) ((close header ∷ mid) ++ replicate (suc more) newline)
     ∙ ap (λ x. bytes_of (lines_above texts) ++ x) (bytes_join (close header ∷ mid) (replicate (suc more) newline) ∙ ap (λ x. kept ++ 10 ∷ x) (newline_bytes more))
@@ -61,7 +61,7 @@ text_is texts header mid place start end more =
 
 pub written_text : (first depth : ℕ) (bytes : List ℕ) (s : Statement) (b : Body first depth bytes s) (texts : List (List ℕ)) (more : ℕ) → bytes_of (written texts b.header b.mid more) ≡ layout_text (with_above texts s) ++ replicate more 10
 written_text first depth bytes s b texts more =
-    text_is texts b.header b.mid b.place b.start b.end more ∙ ap (λ t. layout_text (with_above texts t) ++ replicate more 10) (sym b.is)
+    text_is texts b.header b.mid b.start b.end more ∙ ap (λ t. layout_text (with_above texts t) ++ replicate more 10) (sym b.is)
 
 -- the column after lines is the first
 newline_column : (before : List ℕ) → column_at (before ++ 10 ∷ []) ≡ 1

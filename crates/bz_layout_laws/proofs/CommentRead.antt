@@ -16,7 +16,7 @@ use Rattle.bz_layout_laws.specs.Legible.{IsLegible, depth_of}
 use Rattle.bz_layout_laws.specs.Parsed.{IsParsed}
 use Rattle.bz_layout_laws.specs.ReadPieces.{read_pieces}
 use Rattle.bz_layout_laws.specs.Spelled.{spelled_statement}
-use Rattle.bz_layout_laws.specs.Unplaced.{unplaced}
+use Rattle.bz_layout_laws.specs.Lineless.{lineless}
 use Rattle.bz_layout_laws.proofs.CommentChunk.{newline, with_newline, lines_and_blank}
 use Rattle.bz_layout_laws.proofs.ParsedAgain.{notes_bare, notes_seen}
 use Rattle.bz_layout_laws.proofs.ReadStatement.{none_there, statement_reads}
@@ -53,7 +53,7 @@ some_seen first s parsed class =
     subst (λ ts. IsSome (first_of ts)) (sym (seen_same first s)) (notes_seen first s.before (if is_comment s.class then [] else statement_line s) (parsed.lines none))
 
 pub comments_read : (first depth : ℕ) (s : Statement) → IsLegible s → IsParsed s → depth_of s ≤ depth → IsStatement (items_of s.nodes) → is_comment s.class ≡ true
-    → (t : Statement) × IsStatementIn first depth (layout_text s ++ codes "\n") t × (unplaced t ≡ unplaced (spelled_statement s))
+    → (t : Statement) × IsStatementIn first depth (layout_text s ++ codes "\n") t × (lineless t ≡ lineless (spelled_statement s))
 comments_read first depth s legible parsed room grammar class =
     let bytes = layout_text s ++ codes "\n" in
     let all = tokens_and_blank first s in
@@ -61,7 +61,7 @@ comments_read first depth s legible parsed room grammar class =
     let found = statement_reads first depth s tokens legible parsed room (lines_are_tokens first depth (layout_text s) tokens (read_lines first depth s legible room)) in
     let tree = found.1 in
     let t = statement_with all (segment_of (elems_own Other tree.elems)) in
-    let same : unplaced t ≡ unplaced (spelled_statement s) = sym (ap unplaced tree.is) ∙ found.2 in
+    let same : lineless t ≡ lineless (spelled_statement s) = sym (ap lineless tree.is) ∙ found.2 in
     let none = no_token first s class in
     let plain : IsPlain all t = record {
       tree = record { elems = tree.elems; tokens_are = seen_same first s ∙ tree.tokens_are; well = tree.well; is = refl };

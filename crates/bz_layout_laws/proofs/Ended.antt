@@ -170,7 +170,7 @@ may_come style level within first e (item x xs) rest started h stops = next_stan
 
 mutual
   item_ended : (style : Style) (level : ℕ) (gap : Gap) (within : Option GroupKind) (left : Edge) (x : Item) (rest : List ℕ) → IsLegibleItem x → may_stand (edge_after within left x) rest ≡ true → AreEnded (item_pieces style level gap x) rest
-  item_ended style level gap within left (leaf kind text) rest h stands = one gap kind _ (leaf_ended within left kind text place rest h stands)
+  item_ended style level gap within left (leaf kind text) rest h stands = one gap kind _ (leaf_ended within left kind text rest h stands)
   item_ended style level gap within left (group kind segs one_comma end) rest h stands =
       let comma = has_commas kind one_comma (count segs) in
       let last : List Piece = piece (Line level) Sign (closing kind) ∷ [] in

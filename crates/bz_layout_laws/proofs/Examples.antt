@@ -15,7 +15,7 @@ use Rattle.bz_layout_laws.specs.Lexemes.{Lexeme, lexeme, lexemes_of}
 use Rattle.bz_tree_laws.specs.Written.{written_entries}
 use Rattle.bz_layout_laws.specs.Inside.{HasShape, entries_lexemes}
 use Rattle.bz_layout_laws.specs.Spelled.{spelled_statement}
-use Rattle.bz_layout_laws.specs.Unplaced.{unplaced}
+use Rattle.bz_layout_laws.specs.Lineless.{lineless}
 
 abbrev sign : List ℕ → Item
 sign text = leaf Sign text
@@ -61,7 +61,7 @@ lexemes : lexemes_of example
 lexemes = refl
 
 -- spelled as it is written, and elsewhere
-again : layout_text (unplaced (spelled_statement example)) ≡ layout_text example
+again : layout_text (lineless (spelled_statement example)) ≡ layout_text example
 again = refl
 
 -- `-` and `=` after it would be read as one sign

@@ -19,30 +19,30 @@ use Rattle.bz_layout_laws.specs.FileRead.{IsFound, AreFound, AreStatementsIn}
 use Rattle.bz_layout_laws.specs.FileText.{gap_text, text_from, takes_line, blank_after, own_chunks, chunks_from}
 use Rattle.bz_layout_laws.specs.ReadBack.{IsReadBack}
 use Rattle.bz_layout_laws.specs.Spelled.{spelled_statement}
-use Rattle.bz_layout_laws.specs.Unplaced.{unplaced}
+use Rattle.bz_layout_laws.specs.Lineless.{lineless}
 use Rattle.bz_layout_laws.proofs.FileChunks.{blank_tokens, blank_lines, file_chunks}
 use Rattle.bz_layout_laws.proofs.SpelledAgain.{written_again}
 use Rattle.bz_layout_laws.proofs.TokensBack.{lines_are_tokens}
 
 abbrev said : List Statement → List Statement
-said ss = map (λ s. unplaced (spelled_statement s)) ss
+said ss = map (λ s. lineless (spelled_statement s)) ss
 
 -- the chunks are read as these statements
 abbrev Reads : ℕ → ℕ → List (List ℕ) → List Statement → Type 0
-Reads first depth cs ss = (ts : List Statement) × AreStatementsIn first depth cs ts × (map unplaced ts ≡ said ss)
+Reads first depth cs ss = (ts : List Statement) × AreStatementsIn first depth cs ts × (map lineless ts ≡ said ss)
 
 is_blank : (line depth : ℕ) → IsBlank line depth (10 ∷ [])
 is_blank line depth = record { tokens = blank_tokens line; are = lines_are_tokens line depth (10 ∷ []) (blank_tokens line) (blank_lines line depth); none = refl }
 
-one_more : (first depth : ℕ) (c : List ℕ) (cs : List (List ℕ)) (s : Statement) (ss : List Statement) → (t : Statement) × IsStatementIn first depth c t × (unplaced t ≡ unplaced (spelled_statement s)) → Reads (line_at first c) depth cs ss
+one_more : (first depth : ℕ) (c : List ℕ) (cs : List (List ℕ)) (s : Statement) (ss : List Statement) → (t : Statement) × IsStatementIn first depth c t × (lineless t ≡ lineless (spelled_statement s)) → Reads (line_at first c) depth cs ss
     → Reads first depth (c ∷ cs) (s ∷ ss)
 one_more first depth c cs s ss t rest = (t.0 ∷ rest.0, (Some t.0, t.1, (rest.0, refl, rest.1)), λ i. t.2 i ∷ rest.2 i)
 
 one_reads : (first depth : ℕ) (s : Statement) (ss : List Statement) (blank : Bool) (cs : List (List ℕ)) → IsReadBack depth s → ((line : ℕ) → Reads line depth cs ss) → Reads first depth (own_chunks s blank ++ cs) (s ∷ ss)
 one_reads first depth s ss blank cs h rest = by blank (takes_line s.class) refl
   where
-    by_itself : (t : Statement) × IsStatementIn first depth (layout_text s) t × (unplaced t ≡ unplaced (spelled_statement s))
-    by_itself = subst (λ c. (t : Statement) × IsStatementIn first depth c t × (unplaced t ≡ unplaced (spelled_statement s))) (append-nil (layout_text s)) (h.read first false (λ e. absurd (false≢true e)))
+    by_itself : (t : Statement) × IsStatementIn first depth (layout_text s) t × (lineless t ≡ lineless (spelled_statement s))
+    by_itself = subst (λ c. (t : Statement) × IsStatementIn first depth c t × (lineless t ≡ lineless (spelled_statement s))) (append-nil (layout_text s)) (h.read first false (λ e. absurd (false≢true e)))
 
     after_blank : (line : ℕ) → Reads line depth ((10 ∷ []) ∷ cs) ss
     after_blank line = let more = rest (line_at line (10 ∷ [])) in (more.0, (None, is_blank line depth, more.1), more.2)
@@ -92,12 +92,12 @@ abbrev rest_of : List Statement → List Statement
 rest_of [] = []
 rest_of (s ∷ ss) = ss
 
-same_text : (last : Option Class) (ss ts : List Statement) → map unplaced ts ≡ said ss → text_from last ts ≡ text_from last ss
+same_text : (last : Option Class) (ss ts : List Statement) → map lineless ts ≡ said ss → text_from last ts ≡ text_from last ss
 same_text last [] [] e = refl
 same_text last [] (t ∷ ts) e = absurd (false≢true (sym (ap is_filled e)))
 same_text last (s ∷ ss) [] e = absurd (false≢true (ap is_filled e))
 same_text last (s ∷ ss) (t ∷ ts) e =
-    let one : unplaced t ≡ unplaced (spelled_statement s) = ap (head_of s) e in
+    let one : lineless t ≡ lineless (spelled_statement s) = ap (head_of s) e in
     let class : t.class ≡ s.class = ap (λ (x : Statement). x.class) one in
     ap (λ c. gap_text (blank_between last c) ++ (layout_text t ++ text_from (Some c) ts)) class
     ∙ ap (λ text. gap_text (blank_between last s.class) ++ (text ++ text_from (Some s.class) ts)) (written_again s t one)
@@ -108,8 +108,8 @@ pub file_read_again : (first depth : ℕ) (ss : List Statement) → AllByRecursi
 file_read_again first depth ss h = subst (λ cs. Reads first depth cs ss) (sym (file_chunks depth ss h)) (file_reads first depth ss h)
 
 pub file_read_only : (first depth : ℕ) (ss ts : List Statement) → AllByRecursion (IsReadBack depth) ss → AreStatementsIn first depth (chunks (text_from None ss)) ts
-    → (map unplaced ts ≡ said ss) × (text_from None ts ≡ text_from None ss)
+    → (map lineless ts ≡ said ss) × (text_from None ts ≡ text_from None ss)
 file_read_only first depth ss ts h is =
     let found = file_read_again first depth ss h in
-    let same : map unplaced ts ≡ said ss = ap (map unplaced) (one_list first depth (chunks (text_from None ss)) ts found.0 is found.1) ∙ found.2 in
+    let same : map lineless ts ≡ said ss = ap (map lineless) (one_list first depth (chunks (text_from None ss)) ts found.0 is found.1) ∙ found.2 in
     (same, same_text None ss ts same)

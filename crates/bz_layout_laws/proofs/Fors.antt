@@ -10,11 +10,11 @@ use Rattle.bz_tree.specs.declared.kinds.Preceding.{Preceding}
 use Rattle.bz_tree.specs.Brackets.{single, bracket, Elems, no_elems, elem, leaf_of, own_items, own_of, preceding, elems_own, has_for, is_for_item, is_single, AreWell, end_line}
 use Rattle.bz_tree.specs.Kinds.{mark_of}
 use Rattle.bz_tree.specs.Owners.{Own, Last, no_token, end_of_node, Entry, a_node, a_comma, a_note, is_filled, entries_of}
-use Rattle.bz_tree.specs.Tree.{Item, leaf, group, Items, no_items, item, Segs, no_segs, seg, list_of, segments, bare}
+use Rattle.bz_tree.specs.Tree.{Item, leaf, group, Items, no_items, item, Segs, no_segs, seg, list_of, segments}
 use Rattle.bz_tree_laws.specs.Nodes.{entry_mapped}
 use Rattle.bz_tree_laws.specs.Written.{own_lines, suffix_entry, written_entries}
 use Rattle.bz_layout_laws.specs.Parsed.{is_comma_mark, is_comma, nodes_have_for, have_for}
-use Rattle.bz_layout_laws.proofs.ReadSteps.{bare_spelled, bare_entries}
+use Rattle.bz_layout_laws.specs.Spelled.{spelled}
 use Rattle.bz_layout_laws.proofs.Written.{comma_entry}
 
 abbrev pub entries_have_for : List Entry → Bool
@@ -47,8 +47,8 @@ owns_have_for one at b (elem (single t) xs) h =
 owns_have_for true at b (elem (bracket shape opening inner closing) xs) h = owns_have_for true (end_of_node closing.line) _ xs h.1
 owns_have_for false at b (elem (bracket shape opening inner closing) xs) h = owns_have_for false (end_of_node closing.line) _ xs h.1
 
--- places and the spelling of strings play no part
-comma_spelled : (x : Item) → is_comma (bare_spelled x) ≡ is_comma x
+-- the spelling of strings plays no part
+comma_spelled : (x : Item) → is_comma (spelled x) ≡ is_comma x
 comma_spelled (group kind segs one_comma end) = refl
 comma_spelled (leaf Sign text) = refl
 comma_spelled (leaf Ident text) = refl
@@ -59,7 +59,7 @@ comma_spelled (leaf Kept text) = refl
 comma_spelled (leaf LineKind text) = refl
 comma_spelled (leaf Note text) = refl
 
-for_spelled : (x : Item) → is_for_item (bare_spelled x) ≡ is_for_item x
+for_spelled : (x : Item) → is_for_item (spelled x) ≡ is_for_item x
 for_spelled (group kind segs one_comma end) = refl
 for_spelled (leaf Sign text) = refl
 for_spelled (leaf Ident text) = refl
@@ -70,19 +70,11 @@ for_spelled (leaf Kept text) = refl
 for_spelled (leaf LineKind text) = refl
 for_spelled (leaf Note text) = refl
 
-pub comma_bare : (x : Item) → is_comma (bare x) ≡ is_comma x
-comma_bare (group kind segs one_comma end) = refl
-comma_bare (leaf kind text) = refl
-
-pub for_bare : (x : Item) → is_for_item (bare x) ≡ is_for_item x
-for_bare (group kind segs one_comma end) = refl
-for_bare (leaf kind text) = refl
-
-mapped_for : (f : Item → Item) → ((x : Item) → is_comma (f x) ≡ is_comma x) → ((x : Item) → is_for_item (f x) ≡ is_for_item x) → (es : List Entry) → entries_have_for (map (entry_mapped f) es) ≡ entries_have_for es
-mapped_for f commas fors [] = refl
-mapped_for f commas fors (a_node x ∷ es) = λ i. if commas x i then false else (fors x i || mapped_for f commas fors es i)
-mapped_for f commas fors (a_comma ∷ es) = refl
-mapped_for f commas fors (a_note on text ∷ es) = mapped_for f commas fors es
+entries_spelled : (es : List Entry) → entries_have_for (map (entry_mapped spelled) es) ≡ entries_have_for es
+entries_spelled [] = refl
+entries_spelled (a_node x ∷ es) = λ i. if comma_spelled x i then false else (for_spelled x i || entries_spelled es i)
+entries_spelled (a_comma ∷ es) = refl
+entries_spelled (a_note on text ∷ es) = entries_spelled es
 
 -- in the form that is written
 lines_for : (texts : List (List ℕ)) (es : List Entry) → entries_have_for (own_lines texts ++ es) ≡ entries_have_for es
@@ -112,12 +104,11 @@ written_for trailing (seg before nodes suffix ss) end =
     let after = comma_entry (trailing || is_filled (segments ss)) ++ (suffix_entry suffix ++ written_entries trailing (segments ss) end) in
     lines_for before (map a_node (list_of nodes) ++ after) ∙ nodes_for nodes after (after_for trailing suffix ss end)
 
--- so of a bracket whose entries are these but for places and spelling
-pub same_for : (one trailing : Bool) (b : Preceding) (xs : Elems) (ss : Segs) (end : List (List ℕ)) → AreWell b xs → bare_entries (entries_of no_token (own_items one (elems_own b xs))) ≡ map (entry_mapped bare_spelled) (written_entries trailing (segments ss) end)
+-- so of a bracket whose entries are these as they are spelled
+pub same_for : (one trailing : Bool) (b : Preceding) (xs : Elems) (ss : Segs) (end : List (List ℕ)) → AreWell b xs → entries_of no_token (own_items one (elems_own b xs)) ≡ map (entry_mapped spelled) (written_entries trailing (segments ss) end)
     → has_for (elems_own b xs) ≡ have_for ss
 same_for one trailing b xs ss end well e =
     owns_have_for one no_token b xs well
-    ∙ sym (mapped_for bare comma_bare for_bare (entries_of no_token (own_items one (elems_own b xs))))
     ∙ ap entries_have_for e
-    ∙ mapped_for bare_spelled comma_spelled for_spelled (written_entries trailing (segments ss) end)
+    ∙ entries_spelled (written_entries trailing (segments ss) end)
     ∙ written_for trailing ss end

@@ -1,6 +1,5 @@
 pub mod Respelled
 pub mod SpelledValues
-pub mod Bare
 pub mod SpelledAgain
 pub mod Pieces
 pub mod Texts
@@ -46,7 +45,6 @@ pub mod Roles
 pub mod Neighbours
 pub mod GrammarFollows
 pub mod WellFormed
-pub mod SameNodes
 pub mod SameFormed
 pub mod BlockTokens
 pub mod BlockEnds

@@ -18,7 +18,7 @@ use Rattle.bz_layout.specs.Layout.{statement_line, is_comment, layout_text}
 use Rattle.bz_layout_laws.specs.Legible.{IsLegible, depth_of, begins_block}
 use Rattle.bz_layout_laws.specs.Parsed.{IsParsed}
 use Rattle.bz_layout_laws.specs.Spelled.{spelled_statement}
-use Rattle.bz_layout_laws.specs.Unplaced.{unplaced}
+use Rattle.bz_layout_laws.specs.Lineless.{lineless}
 use Rattle.bz_layout_laws.proofs.FirstToken.{layout_front, upright}
 use Rattle.bz_layout_laws.specs.ReadPieces.{read_pieces}
 use Rattle.bz_layout_laws.proofs.ReadStatement.{none_there, statement_reads, statement_only}
@@ -76,7 +76,7 @@ is_upright first s legible parsed word = by (is_comment s.class) refl
         record { indent = stands.0; block = stands.1; some = seen_some (tokens_back first s) front.token front.first }
 
 pub parsed_again : (first depth : ℕ) (s : Statement) → IsLegible s → IsParsed s → depth_of s ≤ depth → begins_block (items_of s.nodes) ≡ false → IsStatement (items_of s.nodes)
-    → (t : Statement) × IsStatementIn first depth (layout_text s) t × (unplaced t ≡ unplaced (spelled_statement s))
+    → (t : Statement) × IsStatementIn first depth (layout_text s) t × (lineless t ≡ lineless (spelled_statement s))
 parsed_again first depth s legible parsed room word grammar =
     let tokens = tokens_back first s in
     let are = lines_are_tokens first depth (layout_text s) tokens (read_lines first depth s legible room) in
@@ -98,7 +98,7 @@ parsed_again first depth s legible parsed room word grammar =
     )
 
 pub parsed_only : (first depth : ℕ) (s t : Statement) → IsLegible s → IsParsed s → depth_of s ≤ depth → begins_block (items_of s.nodes) ≡ false → IsStatementIn first depth (layout_text s) t
-    → (unplaced t ≡ unplaced (spelled_statement s)) × (layout_text t ≡ layout_text s)
+    → (lineless t ≡ lineless (spelled_statement s)) × (layout_text t ≡ layout_text s)
 parsed_only first depth s t legible parsed room word is =
     let tokens = tokens_back first s in
     let are = lines_are_tokens first depth (layout_text s) tokens (read_lines first depth s legible room) in

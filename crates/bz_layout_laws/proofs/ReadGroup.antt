@@ -13,7 +13,7 @@ use Rattle.bz_tree.specs.declared.kinds.Preceding.TheVariants.{Operand, LoadWord
 use Rattle.bz_tree.specs.Brackets.{bracket, elems_tokens, elems_own, has_for, is_paren, own_items, group_of, end_line}
 use Rattle.bz_tree.specs.Kinds.{sign_mark, group_kind, is_one}
 use Rattle.bz_tree.specs.Owners.{Entry, a_node, no_token, end_of_node, no_empty, is_filled}
-use Rattle.bz_tree.specs.Tree.{group, Segs, segments, bare}
+use Rattle.bz_tree.specs.Tree.{group, Segs, segments}
 use Rattle.bz_tree_laws.specs.Written.{written_entries, HaveNodes}
 use Rattle.bz_layout.specs.Layout.{opening, closing}
 use Rattle.bz_layout_laws.specs.Lexemes.{Lexeme, lexeme}
@@ -92,7 +92,7 @@ read_group one b kind ss one_comma end trailing ls es tail shape kind_is nodes c
       add_node one b at (bracket shape open_at r.elems close_at) g.line (group_of (group_kind shape b (has_for owns)) owns) (group kind ss one_comma end) es tail ts g.others
       (ap (λ k. sign_mark (opening k)) kind_is ∙ opens shape b (have_for ss), ap (λ k. sign_mark (closing k)) kind_is ∙ closes shape b (have_for ss), r.well, ap (λ k. no_empty false (own_items (is_one k) owns)) found ∙ back.1)
       (own_node one g.line (group_of (group_kind shape b (has_for owns)) owns))
-      (ap (λ k. bare (group_of k owns)) found ∙ back.0)
+      (ap (λ k. group_of k owns) found ∙ back.0)
       (f.are ∙ ap (λ us. open_at ∷ us) (r.tokens ∙ ap (λ us. elems_tokens r.elems ++ us) g.are) ∙ closed_up open_at close_at (elems_tokens r.elems) g.others)
       n;
 }

@@ -14,25 +14,25 @@ use Rattle.bz_tree.specs.declared.kinds.Preceding.TheVariants.{Other}
 use Rattle.bz_tree.specs.Brackets.{Elems, elems_tokens, elems_own, own_items, AreWell, after_item, is_paren, without_lines}
 use Rattle.bz_tree.specs.Owners.{Entry, a_node, no_token, is_filled, Inside, inside}
 use Rattle.bz_tree.specs.Statement.{one_segment, with_rule_call, segment_with, segment_of, class_of, is_kept, is_load_word, has_assign, is_rule, statement_with, IsStatementOf}
-use Rattle.bz_tree.specs.Tree.{Item, leaf, group, Segs, Segment, Statement, items_of, bare}
-use Rattle.bz_tree_laws.specs.Nodes.{segment_mapped, inside_mapped}
+use Rattle.bz_tree.specs.Tree.{Item, leaf, group, Segs, Segment, Statement, items_of}
+use Rattle.bz_tree_laws.specs.Nodes.{segment_mapped}
 use Rattle.bz_tree_laws.specs.Written.{suffix_entry, written_entries, HaveNodes}
 use Rattle.bz_tree_laws.proofs.ChunkLaws.{tree_same}
 use Rattle.bz_layout.specs.declared.spacing.Edge.{Edge}
 use Rattle.bz_layout.specs.declared.spacing.Edge.TheVariants.{Start}
 use Rattle.bz_layout.specs.Spacing.{edge_after}
 use Rattle.bz_layout.specs.Layout.{closing, is_comment, layout_text}
-use Rattle.bz_layout_laws.specs.Inside.{HasShape, has_last_comma, without_newlines}
+use Rattle.bz_layout_laws.specs.Inside.{HasShape, has_last_comma, without_newlines, own_segment}
 use Rattle.bz_layout_laws.specs.Legible.{are_some, IsLegibleItem, AreLegible, IsLegible, depth_of}
 use Rattle.bz_layout_laws.specs.Lexemes.{Lexeme, lexeme, notes, suffix_lexemes, item_lexemes, items_lexemes, lexemes_from, token_lexemes, lexemes_of}
 use Rattle.bz_layout_laws.specs.Parsed.{HasKind, HaveKinds, plain_call, plain_calls, IsParsed}
 use Rattle.bz_layout_laws.specs.Spelled.{spelled, spelled_statement}
-use Rattle.bz_layout_laws.specs.Unplaced.{unplaced}
+use Rattle.bz_layout_laws.specs.Lineless.{lineless}
 use Rattle.bz_layout_laws.proofs.ReadGroup.{read_group}
-use Rattle.bz_layout_laws.proofs.ReadSteps.{bare_spelled, Reads, read_nothing}
+use Rattle.bz_layout_laws.proofs.ReadSteps.{Reads, read_nothing}
 use Rattle.bz_layout_laws.proofs.ReadTree.{read_notes, read_end, read_suffix, segs_begin, few_segs, item_reads, segs_reads}
 use Rattle.bz_layout_laws.proofs.SameInside.{have_nodes, inside_same}
-use Rattle.bz_layout_laws.proofs.SameTests.{tests_bare, tests_spelled, nodes_same, class_same}
+use Rattle.bz_layout_laws.proofs.SameTests.{nodes_spelled, class_spelled}
 use Rattle.bz_layout_laws.proofs.SpelledAgain.{written_again}
 use Rattle.bz_layout_laws.proofs.Taken.{agree_none, no_tokens}
 use Rattle.bz_layout_laws.proofs.TokensBack.{layout_tokens_only}
@@ -80,44 +80,25 @@ tops_read b within left (x ∷ xs) ls es tail legible kinds next =
 abbrev plain_segment : Statement → Segment
 plain_segment s = record { before = s.before; nodes = plain_calls s.nodes; suffix = s.suffix }
 
-abbrev own_segment_bare : Statement → Segment
-own_segment_bare s = record { before = s.before; nodes = map bare_spelled s.nodes; suffix = s.suffix }
-
--- what stands outside brackets, without places
-bare_one : (ss : List Segment) (end : List (List ℕ)) → segment_mapped bare (one_segment ss end) ≡ one_segment (map (segment_mapped bare) ss) end
-bare_one [] end = refl
-bare_one (s ∷ ss) end = refl
-
-bare_rule : (s : Segment) → segment_mapped bare (with_rule_call s) ≡ with_rule_call (segment_mapped bare s)
-bare_rule s = ap (λ xs. record { before = s.before; nodes = xs; suffix = s.suffix }) (nodes_same bare tests_bare s.nodes)
-
-bare_segment : (i : Inside) → segment_mapped bare (segment_with i) ≡ segment_with (inside_mapped bare i)
-bare_segment i = bare_rule (one_segment i.segs i.end) ∙ ap with_rule_call (bare_one i.segs i.end)
-
 -- tokens that are read so are those of a statement
 record Tree (s : Statement) (tokens : List Placed) : Type 0 where
   elems : Elems
   tokens_are : without_lines tokens ≡ elems_tokens elems
   well : AreWell Other elems
-  segment : segment_mapped bare (segment_of (elems_own Other elems)) ≡ own_segment_bare s
+  segment : segment_of (elems_own Other elems) ≡ own_segment (spelled_statement s)
 
-one_by_one : (xs : List Item) → map bare_spelled xs ≡ map bare (map spelled xs)
-one_by_one [] = refl
-one_by_one (x ∷ xs) = ap (λ l. bare_spelled x ∷ l) (one_by_one xs)
-
-finish : (s : Statement) (tokens : List Placed) → IsParsed s → Tree s tokens → (t : Statement) × IsStatementOf tokens t × (unplaced t ≡ unplaced (spelled_statement s))
+finish : (s : Statement) (tokens : List Placed) → IsParsed s → Tree s tokens → (t : Statement) × IsStatementOf tokens t × (lineless t ≡ lineless (spelled_statement s))
 finish s tokens parsed tree =
     let found = segment_of (elems_own Other tree.elems) in
-    let nodes : map bare found.nodes ≡ map bare_spelled s.nodes = ap (λ (g : Segment). g.nodes) tree.segment in
-    let class : class_of found.nodes ≡ s.class = sym (class_same bare tests_bare found.nodes) ∙ ap class_of nodes ∙ class_same bare_spelled tests_spelled s.nodes ∙ sym parsed.class in (
+    let class : class_of found.nodes ≡ s.class = ap (λ (g : Segment). class_of g.nodes) tree.segment ∙ class_spelled s.nodes ∙ sym parsed.class in (
       statement_with tokens found,
       record { elems = tree.elems; tokens_are = tree.tokens_are; well = tree.well; is = refl },
-      λ i. record { before = (tree.segment i).before; nodes = (nodes ∙ one_by_one s.nodes) i; suffix = (tree.segment i).suffix; class = class i; start = 0; end = 0 },
+      λ i. record { before = (tree.segment i).before; nodes = (tree.segment i).nodes; suffix = (tree.segment i).suffix; class = class i; start = 0; end = 0 },
     )
 
 -- the segments of a statement's tokens
 tree_of : (s : Statement) (tokens : List Placed) (ss : List Segment) (end : List (List ℕ)) (ls : List Lexeme) → lexemes_from None (without_lines tokens) ≡ ls → HaveNodes ss → Reads true Other ls (written_entries false ss end) []
-    → segment_with (record { segs = map (segment_mapped bare_spelled) ss; trailing = false; end = end }) ≡ own_segment_bare s → Tree s tokens
+    → segment_with (record { segs = map (segment_mapped spelled) ss; trailing = false; end = end }) ≡ own_segment (spelled_statement s) → Tree s tokens
 tree_of s tokens ss end ls lexemes nodes reads is =
     let r = reads.each no_token None (without_lines tokens) agree_none (lexemes ∙ sym (append-nil ls)) in
     let owns = elems_own Other r.elems in
@@ -125,7 +106,7 @@ tree_of s tokens ss end ls lexemes nodes reads is =
       elems = r.elems;
       tokens_are = r.tokens ∙ ap (λ us. elems_tokens r.elems ++ us) (no_tokens r.last r.after r.rest) ∙ append-nil (elems_tokens r.elems);
       well = r.well;
-      segment = bare_segment (inside (own_items true owns)) ∙ ap segment_with (inside_same (own_items true owns) bare_spelled false ss end nodes r.entries).0 ∙ is;
+      segment = ap segment_with (inside_same (own_items true owns) false ss end nodes r.entries).0 ∙ is;
     }
 
 some_nodes : (xs : List Item) → are_some (items_of xs) ≡ true → is_filled (plain_calls xs) ≡ true
@@ -138,8 +119,8 @@ statement_tree s tokens legible parsed class lexemes =
     tree_of s tokens (plain_segment s ∷ []) [] (notes s.before ++ (items_lexemes (items_of s.nodes) ++ (suffix_lexemes s.suffix ++ []))) (lexemes ∙ statement_line_is s legible class) (some_nodes s.nodes (legible.some class), tt)
     (read_notes true Other s.before (items_lexemes (items_of s.nodes) ++ (suffix_lexemes s.suffix ++ [])) (map a_node (plain_calls s.nodes) ++ (suffix_entry s.suffix ++ [])) []
     (tops_read Other None Start s.nodes (suffix_lexemes s.suffix ++ []) (suffix_entry s.suffix ++ []) [] legible.nodes parsed.kinds (λ p. read_suffix true p s.suffix [] [] [] (read_nothing true p []))))
-    ((λ i. with_rule_call (record { before = append-nil s.before i; nodes = map bare_spelled (plain_calls s.nodes); suffix = s.suffix }))
-    ∙ ap (λ xs. record { before = s.before; nodes = xs; suffix = s.suffix }) (sym (nodes_same bare_spelled tests_spelled (plain_calls s.nodes)) ∙ ap (map bare_spelled) (sym parsed.rule)))
+    ((λ i. with_rule_call (record { before = append-nil s.before i; nodes = map spelled (plain_calls s.nodes); suffix = s.suffix }))
+    ∙ ap (λ xs. record { before = s.before; nodes = xs; suffix = s.suffix }) (sym (nodes_spelled (plain_calls s.nodes)) ∙ ap (map spelled) (sym parsed.rule)))
 
 -- comment lines alone have none
 no_comment : (b : Bool) (m r : Class) → is_comment m ≡ false → is_comment r ≡ false → is_comment (if b then m else r) ≡ false
@@ -154,7 +135,7 @@ comment_tree : (s : Statement) (tokens : List Placed) → IsParsed s → is_comm
 comment_tree s tokens parsed class lexemes =
     let none = none_there s.nodes (ap is_comment (sym parsed.class) ∙ class) in
     tree_of s tokens [] s.before _ (lexemes ∙ comments_written s class) tt (read_end true Other s.before [])
-    (λ i. record { before = s.before; nodes = ap (map bare_spelled) (sym none) i; suffix = sym (parsed.alone none) i })
+    (λ i. record { before = s.before; nodes = ap (map spelled) (sym none) i; suffix = sym (parsed.alone none) i })
 
 tree_is : (s : Statement) (tokens : List Placed) → IsLegible s → IsParsed s → token_lexemes tokens ≡ lexemes_of s → Tree s tokens
 tree_is s tokens legible parsed e = by (is_comment s.class) refl
@@ -164,12 +145,12 @@ tree_is s tokens legible parsed e = by (is_comment s.class) refl
     by false class = statement_tree s tokens legible parsed class (lines_out s tokens legible e)
 
 pub statement_reads : (first depth : ℕ) (s : Statement) (tokens : List Placed) → IsLegible s → IsParsed s → depth_of s ≤ depth → AreTokensOf first depth (layout_text s) tokens
-    → (t : Statement) × IsStatementOf tokens t × (unplaced t ≡ unplaced (spelled_statement s))
+    → (t : Statement) × IsStatementOf tokens t × (lineless t ≡ lineless (spelled_statement s))
 statement_reads first depth s tokens legible parsed room are = finish s tokens parsed (tree_is s tokens legible parsed (layout_tokens_only first depth s tokens legible room are))
 
 pub statement_only : (first depth : ℕ) (s t : Statement) (tokens : List Placed) → IsLegible s → IsParsed s → depth_of s ≤ depth → AreTokensOf first depth (layout_text s) tokens → IsStatementOf tokens t
-    → (unplaced t ≡ unplaced (spelled_statement s)) × (layout_text t ≡ layout_text s)
+    → (lineless t ≡ lineless (spelled_statement s)) × (layout_text t ≡ layout_text s)
 statement_only first depth s t tokens legible parsed room are tree =
     let found = statement_reads first depth s tokens legible parsed room are in
-    let same : unplaced t ≡ unplaced (spelled_statement s) = ap unplaced (tree_same tokens t found.0 tree found.1) ∙ found.2 in
+    let same : lineless t ≡ lineless (spelled_statement s) = ap lineless (tree_same tokens t found.0 tree found.1) ∙ found.2 in
     (same, written_again s t same)

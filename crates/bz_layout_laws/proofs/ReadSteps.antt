@@ -17,7 +17,7 @@ use Rattle.bz_tree.specs.Brackets.{Elem, single, Elems, no_elems, elem, elem_tok
 use Rattle.bz_tree.specs.Kinds.{kind_mark, sign_mark, mark_of, kind_after}
 use Rattle.bz_tree.specs.Owners.{node, comma, note, Last, no_token, end_of_node, end_of_comma, Entry, a_node, a_comma, a_note, entries_of}
 use Rattle.bz_tree.specs.Statement.{is_aside}
-use Rattle.bz_tree.specs.Tree.{Place, Item, leaf, bare}
+use Rattle.bz_tree.specs.Tree.{Item, leaf}
 use Rattle.bz_tree_laws.specs.Nodes.{entry_mapped}
 use Rattle.bz_layout.specs.Respell.{respell}
 use Rattle.bz_layout_laws.specs.Legible.{is_leaf_mark}
@@ -25,13 +25,6 @@ use Rattle.bz_layout_laws.specs.Lexemes.{Lexeme, lexeme, end_after, lexemes_from
 use Rattle.bz_layout_laws.specs.Parsed.{is_comma_mark}
 use Rattle.bz_layout_laws.specs.Spelled.{spelled}
 use Rattle.bz_layout_laws.proofs.Taken.{placed_at, take_first, Agree, agree_none}
-
--- a node as it is spelled, without places
-abbrev pub bare_spelled : Item → Item
-bare_spelled x = bare (spelled x)
-
-abbrev pub bare_entries : List Entry → List Entry
-bare_entries es = map (entry_mapped bare) es
 
 -- Tokens, first of them those of brackets and leaves that are read as these entries, and then those of `tail`. They stand
 -- after `b` and after what ends there.
@@ -42,7 +35,7 @@ pub record Read (one : Bool) (b : Preceding) (at : Last) (ts : List Placed) (es 
   pub tokens : ts ≡ elems_tokens elems ++ after
   pub rest : lexemes_from last after ≡ tail
   pub well : AreWell b elems
-  pub entries : bare_entries (entries_of at (own_items one (elems_own b elems))) ≡ map (entry_mapped bare_spelled) es
+  pub entries : entries_of at (own_items one (elems_own b elems)) ≡ map (entry_mapped spelled) es
 
 -- whatever tokens have these lexemes
 pub record Reads (one : Bool) (b : Preceding) (ls : List Lexeme) (es : List Entry) (tail : List Lexeme) : Type 0 where
@@ -87,7 +80,7 @@ read_note one b beside text ls es tail next = record {
         rest = r.rest;
         well = (refl, r.well);
         entries =
-            ap (λ o. bare_entries (entries_of at (o ∷ own_items one (elems_own b r.elems)))) (own_note one f.line text)
+            ap (λ o. entries_of at (o ∷ own_items one (elems_own b r.elems))) (own_note one f.line text)
             ∙ (λ i. a_note ((agree.same f.line ∙ f.beside) i) text ∷ r.entries i);
       };
 }
@@ -112,7 +105,7 @@ read_comma b ls es tail next = record {
 }
 
 -- one more node
-pub add_node : (one : Bool) (b : Preceding) (at : Last) (x : Elem) (line : ℕ) (y z : Item) (es : List Entry) (tail : List Lexeme) (ts others : List Placed) → IsWell b x → own_item one (elem_own b x) ≡ node line y → bare y ≡ bare_spelled z → ts ≡ elem_tokens x ++ others
+pub add_node : (one : Bool) (b : Preceding) (at : Last) (x : Elem) (line : ℕ) (y z : Item) (es : List Entry) (tail : List Lexeme) (ts others : List Placed) → IsWell b x → own_item one (elem_own b x) ≡ node line y → y ≡ spelled z → ts ≡ elem_tokens x ++ others
     → Read one (preceding b (elem_own b x)) (end_of_node line) others es tail → Read one b at ts (a_node z ∷ es) tail
 add_node one b at x line y z es tail ts others well own same are r = record {
   elems = elem x r.elems;
@@ -122,7 +115,7 @@ add_node one b at x line y z es tail ts others well own same are r = record {
   rest = r.rest;
   well = (well, r.well);
   entries =
-      ap (λ o. bare_entries (entries_of at (o ∷ own_items one (elems_own (preceding b (elem_own b x)) r.elems)))) own
+      ap (λ o. entries_of at (o ∷ own_items one (elems_own (preceding b (elem_own b x)) r.elems))) own
       ∙ (λ i. a_node (same i) ∷ r.entries i);
 }
 
@@ -215,9 +208,9 @@ same_after Kept text = refl
 same_after LineKind text = refl
 same_after Note text = refl
 
-pub read_leaf : (one : Bool) (b : Preceding) (kind : Kind) (text : List ℕ) (place : Place) (ls : List Lexeme) (es : List Entry) (tail : List Lexeme) → is_leaf_mark (kind_mark kind text) ≡ true → (is_comma_mark (kind_mark kind text) ≡ true → one ≡ true)
+pub read_leaf : (one : Bool) (b : Preceding) (kind : Kind) (text : List ℕ) (ls : List Lexeme) (es : List Entry) (tail : List Lexeme) → is_leaf_mark (kind_mark kind text) ≡ true → (is_comma_mark (kind_mark kind text) ≡ true → one ≡ true)
     → Reads one (kind_after kind text) ls es tail → Reads one b (lexeme kind (respell kind text) ∷ ls) (a_node (leaf kind text) ∷ es) tail
-read_leaf one b kind text place ls es tail mark single_is next = record {
+read_leaf one b kind text ls es tail mark single_is next = record {
   each = λ at last ts agree h.
       let l : Lexeme = lexeme kind (respell kind text) in
       let f = take_first last ts l (ls ++ tail) h in

@@ -122,7 +122,7 @@ is_many true false before nodes suffix (seg b n s ss) few h = absurd (too_many (
 mutual
   pub item_reads : (one : Bool) (b : Preceding) (x : Item) (ls : List Lexeme) (es : List Entry) (tail : List Lexeme) → IsLegibleItem x → (is_comma x ≡ true → one ≡ true) → HasKind b x → Reads one (after_item x) ls es tail
       → Reads one b (item_lexemes x ++ ls) (a_node x ∷ es) tail
-  item_reads one b (leaf kind text) ls es tail legible commas kinds next = read_leaf one b kind text place ls es tail legible.1 commas next
+  item_reads one b (leaf kind text) ls es tail legible commas kinds next = read_leaf one b kind text ls es tail legible.1 commas next
   item_reads one b (group kind segs one_comma end) ls es tail legible commas kinds next =
       let trailing = has_last_comma kind segs one_comma end in
       subst (λ l. Reads one b (l ++ ls) (a_node (group kind segs one_comma end) ∷ es) tail) (sym (bracket_written kind segs one_comma end kinds.2))

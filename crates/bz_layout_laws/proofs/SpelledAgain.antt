@@ -11,10 +11,9 @@ use Rattle.bz_layout.specs.Spacing.{closes_up, edge_after, gap_before}
 use Rattle.bz_layout.specs.Broken.{count, have_comments, holds_broken, items_hold, segs_hold, is_broken}
 use Rattle.bz_layout.specs.Pieces.{piece, bytes_of}
 use Rattle.bz_layout.specs.Layout.{item_pieces, items_pieces, broken_segs, flat_segs, layout, layout_text}
-use Rattle.bz_layout_laws.specs.Unplaced.{unplaced}
+use Rattle.bz_layout_laws.specs.Lineless.{lineless}
 use Rattle.bz_layout_laws.specs.Spelled.{spelled, spelled_items, spelled_segs, spelled_statement}
 use Rattle.bz_layout_laws.proofs.Respelled.{respelled_once}
-use Rattle.bz_layout_laws.proofs.Bare.{same_text}
 
 closes_spelled : (x : Item) → closes_up (spelled x) ≡ closes_up x
 closes_spelled (leaf Sign text) = refl
@@ -87,12 +86,12 @@ mutual
   flat_segs_spelled style level kind first no_segs = refl
   flat_segs_spelled style level kind first (seg before nodes suffix ss) = rw (items_spelled style level (Some kind) _ Start nodes, items_spelled style level (Some kind) _ Start nodes, flat_segs_spelled style level kind false ss) refl
 
-list_spelled : (xs : List Item) → items_of (map spelled xs) ≡ spelled_items (items_of xs)
+pub list_spelled : (xs : List Item) → items_of (map spelled xs) ≡ spelled_items (items_of xs)
 list_spelled [] = refl
 list_spelled (x ∷ xs) = ap (item (spelled x)) (list_spelled xs)
 
 pub layout_spelled : (s : Statement) → layout (spelled_statement s) ≡ layout s
 layout_spelled s = rw (list_spelled s.nodes, items_spelled _ _ _ _ _ (items_of s.nodes)) refl
 
-pub written_again : (s t : Statement) → unplaced t ≡ unplaced (spelled_statement s) → layout_text t ≡ layout_text s
-written_again s t e = same_text t (spelled_statement s) e ∙ ap bytes_of (layout_spelled s)
+pub written_again : (s t : Statement) → lineless t ≡ lineless (spelled_statement s) → layout_text t ≡ layout_text s
+written_again s t e = ap layout_text e ∙ ap bytes_of (layout_spelled s)

@@ -13,7 +13,7 @@ use Rattle.bz_layout_laws.specs.FileText.{gap_text, takes_line}
 use Rattle.bz_layout_laws.specs.Legible.{IsLegible}
 use Rattle.bz_layout_laws.specs.ReadBack.{IsReadBack}
 use Rattle.bz_layout_laws.specs.Spelled.{spelled_statement}
-use Rattle.bz_layout_laws.specs.Unplaced.{unplaced}
+use Rattle.bz_layout_laws.specs.Lineless.{lineless}
 use Rattle.bz_layout_laws.specs.WellFormed.{IsWellFormed}
 use Rattle.bz_layout_laws.proofs.CommentChunk.{comments_and_blank}
 use Rattle.bz_layout_laws.proofs.CommentRead.{comments_read}
@@ -49,7 +49,7 @@ comments_end s legible class some = by s.before refl some
     by (text ∷ texts) e h = comments_chunked s text texts legible class e
 
 abbrev IsReadAgain : ℕ → ℕ → Statement → List ℕ → Type 0
-IsReadAgain first depth s bytes = (t : Statement) × IsStatementIn first depth bytes t × (unplaced t ≡ unplaced (spelled_statement s))
+IsReadAgain first depth s bytes = (t : Statement) × IsStatementIn first depth bytes t × (lineless t ≡ lineless (spelled_statement s))
 
 pub statement_read_back : (depth : ℕ) (s : Statement) → IsWellFormed depth s → IsReadBack depth s
 statement_read_back depth s h = record {

@@ -12,7 +12,7 @@ use Rattle.bz_token.proofs.Stops.{sign_stops, plain_stops}
 use Rattle.bz_token_laws.proofs.Readable.{stopped_at_ends}
 use Rattle.bz_tree.specs.declared.stmt.GroupKind.{GroupKind}
 use Rattle.bz_tree.specs.declared.stmt.GroupKind.TheVariants.{Call, RuleCall, Load, Paren, List as ListKind, Index, Dict, ListComp, DictComp}
-use Rattle.bz_tree.specs.Tree.{Item, leaf, group, Place}
+use Rattle.bz_tree.specs.Tree.{Item, leaf, group}
 use Rattle.bz_layout.specs.declared.spacing.Edge.{Edge}
 use Rattle.bz_layout.specs.declared.spacing.Edge.TheVariants.{Start, Joined, Dotted, Operator, Operand}
 use Rattle.bz_layout.specs.declared.spacing.Gap.{Gap}
@@ -75,16 +75,16 @@ sign_by_edge Joined text after is h = ended_sign text after is h
 sign_by_edge Dotted text after is h = ended_sign text after is h
 
 -- a leaf is ended by what may stand after it
-pub leaf_ended : (within : Option GroupKind) (left : Edge) (kind : Kind) (text : List ℕ) (place : Place) (after : List ℕ) → IsLegibleItem (leaf kind text) → may_stand (edge_after within left (leaf kind text)) after ≡ true
+pub leaf_ended : (within : Option GroupKind) (left : Edge) (kind : Kind) (text : List ℕ) (after : List ℕ) → IsLegibleItem (leaf kind text) → may_stand (edge_after within left (leaf kind text)) after ≡ true
     → ends kind (respell kind text) after ≡ true
-leaf_ended within left Sign text place after h stands = sign_by_edge (edge_after within left (leaf Sign text)) text after h.0 stands
-leaf_ended within left Ident text place after h stands = ended_plain Ident text after h.0 refl stands
-leaf_ended within left Word text place after h stands = ended_plain Word text after h.0 refl stands
-leaf_ended within left Int text place after h stands = ended_plain Int text after h.0 refl stands
-leaf_ended within left Text text place after h stands = ended_plain Text (respell Text text) after (respelled_text Text text h.0) refl stands
-leaf_ended within left LineKind text place after h stands = absurd (false≢true h.1)
-leaf_ended within left Note text place after h stands = absurd (false≢true h.1)
-leaf_ended within left Kept text place after h stands = absurd (false≢true h.0)
+leaf_ended within left Sign text after h stands = sign_by_edge (edge_after within left (leaf Sign text)) text after h.0 stands
+leaf_ended within left Ident text after h stands = ended_plain Ident text after h.0 refl stands
+leaf_ended within left Word text after h stands = ended_plain Word text after h.0 refl stands
+leaf_ended within left Int text after h stands = ended_plain Int text after h.0 refl stands
+leaf_ended within left Text text after h stands = ended_plain Text (respell Text text) after (respelled_text Text text h.0) refl stands
+leaf_ended within left LineKind text after h stands = absurd (false≢true h.1)
+leaf_ended within left Note text after h stands = absurd (false≢true h.1)
+leaf_ended within left Kept text after h stands = absurd (false≢true h.0)
 
 -- what is after a node is no start
 pub edge_started : (within : Option GroupKind) (left : Edge) (x : Item) → is_start (edge_after within left x) ≡ false
@@ -161,15 +161,15 @@ mark_stops_all text more rest h = elim (or_cases (bytes_eq text (codes ".") || b
     at : (t : List ℕ) → bytes_eq text t ≡ true → stops_all ((t ++ more) ++ rest) ≡ true → stops_all ((text ++ more) ++ rest) ≡ true
     at t is h = ap (λ x. stops_all ((x ++ more) ++ rest)) (same_bytes text t is) ∙ h
 
-closed_up : (kind : Kind) (text : List ℕ) (place : Place) (more rest : List ℕ) → closes_up (leaf kind text) ≡ true → stops_all ((respell kind text ++ more) ++ rest) ≡ true
-closed_up Sign text place more rest h = mark_stops_all text more rest h
-closed_up Ident text place more rest h = absurd (false≢true h)
-closed_up Word text place more rest h = absurd (false≢true h)
-closed_up Int text place more rest h = absurd (false≢true h)
-closed_up Text text place more rest h = absurd (false≢true h)
-closed_up LineKind text place more rest h = absurd (false≢true h)
-closed_up Note text place more rest h = absurd (false≢true h)
-closed_up Kept text place more rest h = absurd (false≢true h)
+closed_up : (kind : Kind) (text : List ℕ) (more rest : List ℕ) → closes_up (leaf kind text) ≡ true → stops_all ((respell kind text ++ more) ++ rest) ≡ true
+closed_up Sign text more rest h = mark_stops_all text more rest h
+closed_up Ident text more rest h = absurd (false≢true h)
+closed_up Word text more rest h = absurd (false≢true h)
+closed_up Int text more rest h = absurd (false≢true h)
+closed_up Text text more rest h = absurd (false≢true h)
+closed_up LineKind text more rest h = absurd (false≢true h)
+closed_up Note text more rest h = absurd (false≢true h)
+closed_up Kept text more rest h = absurd (false≢true h)
 
 abbrev spaced : Bool → Gap
 spaced c = if c then Closed else Space
@@ -177,7 +177,7 @@ spaced c = if c then Closed else Space
 -- a node after its gap, where neither holds on
 spaced_stands : (style : Style) (level : ℕ) (x : Item) (more : List Piece) (rest : List ℕ) (c : Bool) → closes_up x ≡ c → stops_all (before (item_pieces style level (spaced c) x ++ more) rest) ≡ true
 spaced_stands style level (leaf kind text) more rest false e = refl
-spaced_stands style level (leaf kind text) more rest true e = closed_up kind text place (bytes_of more) rest e
+spaced_stands style level (leaf kind text) more rest true e = closed_up kind text (bytes_of more) rest e
 spaced_stands style level (group kind segs one_comma end) more rest false e = refl
 spaced_stands style level (group kind segs one_comma end) more rest true e = opening_stops kind _ rest
 

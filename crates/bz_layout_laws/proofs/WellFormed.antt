@@ -14,7 +14,7 @@ use Rattle.bz_layout.specs.Layout.{layout_text}
 use Rattle.bz_layout_laws.specs.Legible.{IsLegible, begins_block}
 use Rattle.bz_layout_laws.specs.Spelled.{spelled_statement}
 use Rattle.bz_layout_laws.specs.TextsOfKinds.{HasText, HaveTexts}
-use Rattle.bz_layout_laws.specs.Unplaced.{unplaced}
+use Rattle.bz_layout_laws.specs.Lineless.{lineless}
 use Rattle.bz_layout_laws.specs.WellFormed.{IsWellFormed}
 use Rattle.bz_layout_laws.proofs.DepthRead.{read_depth}
 use Rattle.bz_layout_laws.proofs.GrammarFollows.{nodes_may_follow}
@@ -31,10 +31,10 @@ pub formed_no_block : (depth : ℕ) (s : Statement) → IsWellFormed depth s →
 formed_no_block depth s formed = begins_no_block (items_of s.nodes) formed.grammar formed.texts.nodes
 
 -- its text is parsed again
-pub formed_again : (first depth : ℕ) (s : Statement) → IsWellFormed depth s → (t : Statement) × IsStatementIn first depth (layout_text s) t × (unplaced t ≡ unplaced (spelled_statement s))
+pub formed_again : (first depth : ℕ) (s : Statement) → IsWellFormed depth s → (t : Statement) × IsStatementIn first depth (layout_text s) t × (lineless t ≡ lineless (spelled_statement s))
 formed_again first depth s formed = parsed_again first depth s (formed_legible depth s formed) formed.parsed formed.depth_fits (formed_no_block depth s formed) formed.grammar
 
-pub formed_only : (first depth : ℕ) (s t : Statement) → IsWellFormed depth s → IsStatementIn first depth (layout_text s) t → (unplaced t ≡ unplaced (spelled_statement s)) × (layout_text t ≡ layout_text s)
+pub formed_only : (first depth : ℕ) (s t : Statement) → IsWellFormed depth s → IsStatementIn first depth (layout_text s) t → (lineless t ≡ lineless (spelled_statement s)) × (layout_text t ≡ layout_text s)
 formed_only first depth s t formed is = parsed_only first depth s t (formed_legible depth s formed) formed.parsed formed.depth_fits (formed_no_block depth s formed) is
 
 -- what is parsed
@@ -84,9 +84,9 @@ formed_class depth s formed e = false≢true (sym (class_no_block s.nodes formed
 
 -- what was parsed is parsed again
 pub written_again : (first second depth : ℕ) (bytes : List ℕ) (tokens : List Placed) (s : Statement) → AreTokensOf first depth bytes tokens → IsSome (first_seen tokens) → IsPlain tokens s
-    → (t : Statement) × IsStatementIn second depth (layout_text s) t × (unplaced t ≡ unplaced (spelled_statement s))
+    → (t : Statement) × IsStatementIn second depth (layout_text s) t × (lineless t ≡ lineless (spelled_statement s))
 written_again first second depth bytes tokens s are some plain = formed_again second depth s (plain_formed first depth bytes tokens s are some plain)
 
 pub written_only : (first second depth : ℕ) (bytes : List ℕ) (tokens : List Placed) (s t : Statement) → AreTokensOf first depth bytes tokens → IsSome (first_seen tokens) → IsPlain tokens s
-    → IsStatementIn second depth (layout_text s) t → (unplaced t ≡ unplaced (spelled_statement s)) × (layout_text t ≡ layout_text s)
+    → IsStatementIn second depth (layout_text s) t → (lineless t ≡ lineless (spelled_statement s)) × (layout_text t ≡ layout_text s)
 written_only first second depth bytes tokens s t are some plain is = formed_only second depth s t (plain_formed first depth bytes tokens s are some plain) is

@@ -4,9 +4,9 @@ use Rattle.bz_token.specs.Chunks.{chunks}
 use Rattle.bz_tree.specs.Tree.{Statement}
 use Rattle.bz_layout_laws.specs.BlockIn.{IsBlockIn}
 use Rattle.bz_layout_laws.specs.Legible.{AreComments}
-use Rattle.bz_layout_laws.specs.Unplaced.{unplaced}
+use Rattle.bz_layout_laws.specs.Lineless.{lineless}
 
--- A block was found in a chunk; the statement is that block, but for its comments and the places of its tokens.
+-- A block was found in a chunk; the statement is that block, but for its comments and its lines.
 pub record IsKeptBlock (depth : ℕ) (s : Statement) : Type 0 where
   pub first : ℕ
   pub bytes : List ℕ
@@ -14,4 +14,4 @@ pub record IsKeptBlock (depth : ℕ) (s : Statement) : Type 0 where
   pub alone : chunks bytes ≡ bytes ∷ []
   pub read : IsBlockIn first depth bytes found
   pub comments : AreComments s.before
-  pub is : unplaced s ≡ unplaced (record found { before = s.before })
+  pub is : lineless s ≡ lineless (record found { before = s.before })

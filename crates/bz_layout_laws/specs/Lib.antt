@@ -1,4 +1,4 @@
-pub mod Unplaced
+pub mod Lineless
 pub mod Lexemes
 pub mod FileText
 pub mod FileRead

@@ -9,7 +9,7 @@ use Rattle.bz_tree.specs.Tree.{Statement}
 use Rattle.bz_layout.specs.Layout.{layout_text}
 use Rattle.bz_layout_laws.specs.FileText.{gap_text, takes_line}
 use Rattle.bz_layout_laws.specs.Spelled.{spelled_statement}
-use Rattle.bz_layout_laws.specs.Unplaced.{unplaced}
+use Rattle.bz_layout_laws.specs.Lineless.{lineless}
 
 -- No block goes on with the text. It is a chunk where the file ends; with an empty line after it, if comment lines or a block,
 -- unless a block goes on with what follows; else whatever follows. And it is read as the statement.
@@ -20,4 +20,4 @@ pub record IsReadBack (depth : ℕ) (s : Statement) : Type 0 where
   pub gap : takes_line s.class ≡ true → (rest : List ℕ) → goes_on If rest ≡ false
       → chunks (layout_text s ++ (10 ∷ rest)) ≡ (layout_text s ++ 10 ∷ []) ∷ chunks rest
   pub read : (first : ℕ) (blank : Bool) → (blank ≡ true → takes_line s.class ≡ true)
-      → (t : Statement) × IsStatementIn first depth (layout_text s ++ gap_text blank) t × (unplaced t ≡ unplaced (spelled_statement s))
+      → (t : Statement) × IsStatementIn first depth (layout_text s ++ gap_text blank) t × (lineless t ≡ lineless (spelled_statement s))

@@ -9,7 +9,7 @@ ghost use Rattle.bz_layout_laws.specs.FileText.{text_from, chunks_from};
 ghost use Rattle.bz_layout_laws.specs.KeptBlock.{IsKeptBlock};
 ghost use Rattle.bz_layout_laws.specs.ReadBack.{IsReadBack};
 ghost use Rattle.bz_layout_laws.specs.Spelled.{spelled_statement};
-ghost use Rattle.bz_layout_laws.specs.Unplaced.{unplaced};
+ghost use Rattle.bz_layout_laws.specs.Lineless.{lineless};
 ghost use Rattle.bz_layout_laws.specs.WellFormed.{IsWellFormed};
 
 /// The text of a well-formed statement is read back wherever it stands in a file: no block goes on with it, it is a
@@ -27,15 +27,15 @@ pub fn a_block_is_read_back_in_a_file()
 
 /// The text of statements, each of which is read back, one after another with an empty line between some, has the
 /// chunks of the statements and no others. These are read as the statements, with their strings as they are spelled
-/// and wherever their tokens stand, and as no others; and those are written as the same text.
+/// and but for their lines, and as no others; and those are written as the same text.
 pub fn a_file_is_read_again()
     ensures chunks { (depth : ℕ) (ss : List Statement) → AllByRecursion (IsReadBack depth) ss
         → chunks (text_from None ss) ≡ chunks_from ss }
     ensures some { (first depth : ℕ) (ss : List Statement) → AllByRecursion (IsReadBack depth) ss
         → (ts : List Statement) × AreStatementsIn first depth (chunks (text_from None ss)) ts
-        × (map unplaced ts ≡ map (λ s. unplaced (spelled_statement s)) ss) }
+        × (map lineless ts ≡ map (λ s. lineless (spelled_statement s)) ss) }
     ensures only { (first depth : ℕ) (ss ts : List Statement) → AllByRecursion (IsReadBack depth) ss
         → AreStatementsIn first depth (chunks (text_from None ss)) ts
-        → (map unplaced ts ≡ map (λ s. unplaced (spelled_statement s)) ss)
+        → (map lineless ts ≡ map (λ s. lineless (spelled_statement s)) ss)
         × (text_from None ts ≡ text_from None ss) }
 {}

@@ -5,7 +5,7 @@ pub mod blocks;
 pub mod brackets;
 pub mod chunks;
 pub mod files;
-pub mod places;
+pub mod lines;
 pub mod spelling;
 pub mod tokens;
 pub mod trees;

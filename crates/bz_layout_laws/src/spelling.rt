@@ -8,7 +8,7 @@ ghost use Rattle.bz_tree.specs.Tree.{Statement};
 ghost use Rattle.bz_layout.specs.Respell.{respell};
 ghost use Rattle.bz_layout.specs.Layout.{layout, layout_text};
 ghost use Rattle.bz_layout_laws.specs.Spelled.{spelled_statement};
-ghost use Rattle.bz_layout_laws.specs.Unplaced.{unplaced};
+ghost use Rattle.bz_layout_laws.specs.Lineless.{lineless};
 
 /// A token that is spelled anew is one of its kind, as many lines high; spelling it once more changes nothing.
 pub fn spelling_keeps_tokens()
@@ -25,8 +25,8 @@ pub fn spelling_keeps_values()
 {}
 
 /// A statement whose strings are spelled as they are written is written as before. So whoever reads back what was
-/// written, strings as they are spelled there and tokens at whatever places, writes the same text again.
+/// written, strings as they are spelled there and on whatever lines, writes the same text again.
 pub fn what_is_read_is_written_again()
     ensures pieces { (s : Statement) → layout (spelled_statement s) ≡ layout s }
-    ensures text { (s t : Statement) → unplaced t ≡ unplaced (spelled_statement s) → layout_text t ≡ layout_text s }
+    ensures text { (s t : Statement) → lineless t ≡ lineless (spelled_statement s) → layout_text t ≡ layout_text s }
 {}

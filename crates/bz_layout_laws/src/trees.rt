@@ -13,36 +13,36 @@ ghost use Rattle.bz_layout_laws.specs.Legible.{IsLegible, depth_of};
 ghost use Rattle.bz_layout_laws.specs.Parsed.{HaveKinds, IsParsed, plain_calls};
 ghost use Rattle.bz_layout_laws.specs.Spelled.{spelled_statement};
 ghost use Rattle.bz_layout_laws.specs.TextsOfKinds.{HasTexts};
-ghost use Rattle.bz_layout_laws.specs.Unplaced.{unplaced};
+ghost use Rattle.bz_layout_laws.specs.Lineless.{lineless};
 ghost use Rattle.bz_layout_laws.specs.WellFormed.{IsWellFormed};
 
 /// The text of a legible statement whose kinds are those that parsing gives is read back: its tokens have a tree, and
-/// that is the tree of the statement with its strings as they are spelled, wherever its tokens stand. They have no
-/// other, and it is written as the same text.
+/// that is the tree of the statement with its strings as they are spelled, but for its lines. They have no other, and it
+/// is written as the same text.
 pub fn a_statement_reads_back()
     ensures some { (first depth : ℕ) (s : Statement) (tokens : List Placed) → IsLegible s → IsParsed s
         → depth_of s ≤ depth → AreTokensOf first depth (layout_text s) tokens
-        → (t : Statement) × IsStatementOf tokens t × (unplaced t ≡ unplaced (spelled_statement s)) }
+        → (t : Statement) × IsStatementOf tokens t × (lineless t ≡ lineless (spelled_statement s)) }
     ensures only { (first depth : ℕ) (s t : Statement) (tokens : List Placed) → IsLegible s → IsParsed s
         → depth_of s ≤ depth → AreTokensOf first depth (layout_text s) tokens → IsStatementOf tokens t
-        → (unplaced t ≡ unplaced (spelled_statement s)) × (layout_text t ≡ layout_text s) }
+        → (lineless t ≡ lineless (spelled_statement s)) × (layout_text t ≡ layout_text s) }
 {}
 
-/// Whether nodes are in the grammar does not hang on places and on the spelling of strings.
+/// Whether nodes are in the grammar does not hang on the spelling of strings.
 pub fn the_grammar_stays()
-    ensures { (s t : Statement) → unplaced t ≡ unplaced (spelled_statement s) → IsStatement (items_of s.nodes)
+    ensures { (s t : Statement) → lineless t ≡ lineless (spelled_statement s) → IsStatement (items_of s.nodes)
         → IsStatement (items_of t.nodes) }
 {}
 
 /// So `bz_tree::parse` reads the text of a well-formed statement as the statement, with its strings as they are spelled
-/// and wherever its tokens stand, and as nothing else.
+/// and but for its lines, and as nothing else.
 pub fn a_statement_is_parsed_again()
     ensures some { (first depth : ℕ) (s : Statement) → IsWellFormed depth s
         → (t : Statement) × IsStatementIn first depth (layout_text s) t
-        × (unplaced t ≡ unplaced (spelled_statement s)) }
+        × (lineless t ≡ lineless (spelled_statement s)) }
     ensures only { (first depth : ℕ) (s t : Statement) → IsWellFormed depth s
         → IsStatementIn first depth (layout_text s) t
-        → (unplaced t ≡ unplaced (spelled_statement s)) × (layout_text t ≡ layout_text s) }
+        → (lineless t ≡ lineless (spelled_statement s)) × (layout_text t ≡ layout_text s) }
 {}
 
 /// What is read has the kinds and the class that `IsParsed` asks for.
@@ -69,9 +69,9 @@ pub fn what_was_parsed_is_parsed_again()
     ensures some { (first second depth : ℕ) (bytes : List ℕ) (tokens : List Placed) (s : Statement)
         → AreTokensOf first depth bytes tokens → IsSome (first_seen tokens) → IsPlain tokens s
         → (t : Statement) × IsStatementIn second depth (layout_text s) t
-        × (unplaced t ≡ unplaced (spelled_statement s)) }
+        × (lineless t ≡ lineless (spelled_statement s)) }
     ensures only { (first second depth : ℕ) (bytes : List ℕ) (tokens : List Placed) (s t : Statement)
         → AreTokensOf first depth bytes tokens → IsSome (first_seen tokens) → IsPlain tokens s
         → IsStatementIn second depth (layout_text s) t
-        → (unplaced t ≡ unplaced (spelled_statement s)) × (layout_text t ≡ layout_text s) }
+        → (lineless t ≡ lineless (spelled_statement s)) × (layout_text t ≡ layout_text s) }
 {}

@@ -10,7 +10,7 @@ ghost use Rattle.bz_tree.specs.Tree.{Statement, items_of};
 ghost use Rattle.bz_layout.specs.Layout.{layout_text};
 ghost use Rattle.bz_layout_laws.specs.Legible.{IsLegible, begins_block};
 ghost use Rattle.bz_layout_laws.specs.Spelled.{spelled_statement};
-ghost use Rattle.bz_layout_laws.specs.Unplaced.{unplaced};
+ghost use Rattle.bz_layout_laws.specs.Lineless.{lineless};
 ghost use Rattle.bz_layout_laws.specs.WellFormed.{IsWellFormed};
 
 /// By the grammar, no word that begins a block stands first in a well-formed statement, and no node makes one sign with
@@ -30,12 +30,12 @@ pub fn what_is_parsed_is_well_formed()
         → (s.class ≡ Block → ⊥) → IsWellFormed depth s }
 {}
 
-/// Whether a statement is well-formed does not hang on where its tokens stand, on its lines and on the spelling of its
-/// strings. So what is read of its text is well-formed again.
+/// Whether a statement is well-formed does not hang on its lines and on the spelling of its strings. So what is read of
+/// its text is well-formed again.
 pub fn a_well_formed_statement_stays_so()
-    ensures places { (depth : ℕ) (s t : Statement) → unplaced t ≡ unplaced s → IsWellFormed depth s
+    ensures lines { (depth : ℕ) (s t : Statement) → lineless t ≡ lineless s → IsWellFormed depth s
         → IsWellFormed depth t }
-    ensures spelled { (depth : ℕ) (s t : Statement) → unplaced t ≡ unplaced (spelled_statement s)
+    ensures spelled { (depth : ℕ) (s t : Statement) → lineless t ≡ lineless (spelled_statement s)
         → IsWellFormed depth s → IsWellFormed depth t }
     ensures again { (first depth : ℕ) (s t : Statement) → IsWellFormed depth s
         → IsStatementIn first depth (layout_text s) t → IsWellFormed depth t }
