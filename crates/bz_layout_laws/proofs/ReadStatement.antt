@@ -12,8 +12,8 @@ use Rattle.bz_tree.specs.declared.stmt.Class.TheVariants.{Load as LoadClass, Ass
 use Rattle.bz_tree.specs.declared.kinds.Preceding.{Preceding}
 use Rattle.bz_tree.specs.declared.kinds.Preceding.TheVariants.{Other}
 use Rattle.bz_tree.specs.Brackets.{Elems, elems_tokens, elems_own, own_items, AreWell, after_item, is_paren, without_lines}
-use Rattle.bz_tree.specs.Owners.{Entry, a_node, no_token, is_filled, Inside, inside}
-use Rattle.bz_tree.specs.Statement.{one_segment, with_rule_call, segment_with, segment_of, class_of, is_kept, is_load_word, has_assign, is_rule, statement_with, IsStatementOf}
+use Rattle.bz_tree.specs.Owners.{Entry, a_node, no_token, is_filled}
+use Rattle.bz_tree.specs.Statement.{with_rule_call, segment_with, segment_of, class_of, is_kept, is_load_word, has_assign, is_rule, statement_with, IsStatementOf}
 use Rattle.bz_tree.specs.Tree.{Item, leaf, group, Segs, Segment, Statement, items_of}
 use Rattle.bz_tree_laws.specs.Nodes.{segment_mapped}
 use Rattle.bz_tree_laws.specs.Written.{suffix_entry, written_entries, HaveNodes}

@@ -1,5 +1,5 @@
 -- Whether nodes are in the grammar does not hang on the spelling of strings.
-use Rattle.std.proofs.Common.{◌≡◌, ℕ, ◌&&◌, ◌||◌, List, refl, sym, ap, ◌∙◌}
+use Rattle.std.proofs.Common.{◌≡◌, ℕ, ◌&&◌, ◌||◌, List, refl, ap, ◌∙◌}
 use Rattle.bz_token.specs.declared.token.Kind.{Kind}
 use Rattle.bz_token.specs.declared.token.Kind.TheVariants.{Ident, Word, Int, Text, Sign, Line as LineKind, Note, Kept}
 use Rattle.bz_tree.specs.Grammar.{leaf_role, IsStatement}
