@@ -8,7 +8,6 @@ use Rattle.bz_token.specs.Places.{line_at}
 use Rattle.bz_token.proofs.OneFault.{one_tokens}
 use Rattle.bz_token.specs.Chunks.{chunks}
 use Rattle.bz_tree.specs.Chunk.{IsChunkOf, IsStatementIn, IsBlank}
-use Rattle.bz_tree.specs.Owners.{is_filled}
 use Rattle.bz_tree.specs.Statement.{first_seen}
 use Rattle.bz_tree.specs.declared.stmt.Class.{Class}
 use Rattle.bz_tree.specs.Tree.{Statement}
@@ -84,24 +83,13 @@ one_list first depth (c ∷ cs) ss ts x y =
     (subst (λ a. AreFound a (AreStatementsIn (line_at first c) depth cs) ts) (found_same first depth c y.0 x.0 y.1 x.1) y.2)
 
 -- statements that say the same have one text
-abbrev head_of : Statement → List Statement → Statement
-head_of none [] = none
-head_of none (s ∷ ss) = s
+text_lineless : (last : Option Class) (ss : List Statement) → text_from last (map lineless ss) ≡ text_from last ss
+text_lineless last [] = refl
+text_lineless last (s ∷ ss) = ap (λ text. gap_text (blank_between last s.class) ++ (layout_text s ++ text)) (text_lineless (Some s.class) ss)
 
-abbrev rest_of : List Statement → List Statement
-rest_of [] = []
-rest_of (s ∷ ss) = ss
-
-same_text : (last : Option Class) (ss ts : List Statement) → map lineless ts ≡ said ss → text_from last ts ≡ text_from last ss
-same_text last [] [] e = refl
-same_text last [] (t ∷ ts) e = absurd (false≢true (sym (ap is_filled e)))
-same_text last (s ∷ ss) [] e = absurd (false≢true (ap is_filled e))
-same_text last (s ∷ ss) (t ∷ ts) e =
-    let one : lineless t ≡ lineless (spelled_statement s) = ap (head_of s) e in
-    let class : t.class ≡ s.class = ap (λ (x : Statement). x.class) one in
-    ap (λ c. gap_text (blank_between last c) ++ (layout_text t ++ text_from (Some c) ts)) class
-    ∙ ap (λ text. gap_text (blank_between last s.class) ++ (text ++ text_from (Some s.class) ts)) (written_again s t one)
-    ∙ ap (λ text. gap_text (blank_between last s.class) ++ (layout_text s ++ text)) (same_text (Some s.class) ss ts (ap rest_of e))
+text_said : (last : Option Class) (ss : List Statement) → text_from last (said ss) ≡ text_from last ss
+text_said last [] = refl
+text_said last (s ∷ ss) = λ i. gap_text (blank_between last s.class) ++ (written_again s (spelled_statement s) refl i ++ text_said (Some s.class) ss i)
 
 -- so the text is read again
 pub file_read_again : (first depth : ℕ) (ss : List Statement) → AllByRecursion (IsReadBack depth) ss → Reads first depth (chunks (text_from None ss)) ss
@@ -112,4 +100,4 @@ pub file_read_only : (first depth : ℕ) (ss ts : List Statement) → AllByRecur
 file_read_only first depth ss ts h is =
     let found = file_read_again first depth ss h in
     let same : map lineless ts ≡ said ss = ap (map lineless) (one_list first depth (chunks (text_from None ss)) ts found.0 is found.1) ∙ found.2 in
-    (same, same_text None ss ts same)
+    (same, sym (text_lineless None ts) ∙ ap (text_from None) same ∙ text_said None ss)

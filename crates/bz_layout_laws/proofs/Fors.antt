@@ -11,10 +11,9 @@ use Rattle.bz_tree.specs.Brackets.{single, bracket, Elems, no_elems, elem, leaf_
 use Rattle.bz_tree.specs.Kinds.{mark_of}
 use Rattle.bz_tree.specs.Owners.{Own, Last, no_token, end_of_node, Entry, a_node, a_comma, a_note, is_filled, entries_of}
 use Rattle.bz_tree.specs.Tree.{Item, leaf, group, Items, no_items, item, Segs, no_segs, seg, list_of, segments}
-use Rattle.bz_tree_laws.specs.Nodes.{entry_mapped}
 use Rattle.bz_tree_laws.specs.Written.{own_lines, suffix_entry, written_entries}
 use Rattle.bz_layout_laws.specs.Parsed.{is_comma_mark, is_comma, nodes_have_for, have_for}
-use Rattle.bz_layout_laws.specs.Spelled.{spelled}
+use Rattle.bz_layout_laws.specs.Spelled.{spelled, spelled_items, spelled_segs}
 use Rattle.bz_layout_laws.proofs.Written.{comma_entry}
 
 abbrev pub entries_have_for : List Entry → Bool
@@ -70,11 +69,13 @@ for_spelled (leaf Kept text) = refl
 for_spelled (leaf LineKind text) = refl
 for_spelled (leaf Note text) = refl
 
-entries_spelled : (es : List Entry) → entries_have_for (map (entry_mapped spelled) es) ≡ entries_have_for es
-entries_spelled [] = refl
-entries_spelled (a_node x ∷ es) = λ i. if comma_spelled x i then false else (for_spelled x i || entries_spelled es i)
-entries_spelled (a_comma ∷ es) = refl
-entries_spelled (a_note on text ∷ es) = entries_spelled es
+nodes_for_spelled : (xs : Items) → nodes_have_for (spelled_items xs) ≡ nodes_have_for xs
+nodes_for_spelled no_items = refl
+nodes_for_spelled (item x xs) = λ i. if comma_spelled x i then false else (for_spelled x i || nodes_for_spelled xs i)
+
+have_for_spelled : (ss : Segs) → have_for (spelled_segs ss) ≡ have_for ss
+have_for_spelled no_segs = refl
+have_for_spelled (seg before nodes suffix ss) = nodes_for_spelled nodes
 
 -- in the form that is written
 lines_for : (texts : List (List ℕ)) (es : List Entry) → entries_have_for (own_lines texts ++ es) ≡ entries_have_for es
@@ -104,11 +105,7 @@ written_for trailing (seg before nodes suffix ss) end =
     let after = comma_entry (trailing || is_filled (segments ss)) ++ (suffix_entry suffix ++ written_entries trailing (segments ss) end) in
     lines_for before (map a_node (list_of nodes) ++ after) ∙ nodes_for nodes after (after_for trailing suffix ss end)
 
--- so of a bracket whose entries are these as they are spelled
-pub same_for : (one trailing : Bool) (b : Preceding) (xs : Elems) (ss : Segs) (end : List (List ℕ)) → AreWell b xs → entries_of no_token (own_items one (elems_own b xs)) ≡ map (entry_mapped spelled) (written_entries trailing (segments ss) end)
+-- so of a bracket whose entries are these
+pub same_for : (one trailing : Bool) (b : Preceding) (xs : Elems) (ss : Segs) (end : List (List ℕ)) → AreWell b xs → entries_of no_token (own_items one (elems_own b xs)) ≡ written_entries trailing (segments (spelled_segs ss)) end
     → has_for (elems_own b xs) ≡ have_for ss
-same_for one trailing b xs ss end well e =
-    owns_have_for one no_token b xs well
-    ∙ ap entries_have_for e
-    ∙ entries_spelled (written_entries trailing (segments ss) end)
-    ∙ written_for trailing ss end
+same_for one trailing b xs ss end well e = owns_have_for one no_token b xs well ∙ ap entries_have_for e ∙ written_for trailing (spelled_segs ss) end ∙ have_for_spelled ss

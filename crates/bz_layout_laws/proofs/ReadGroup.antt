@@ -1,5 +1,5 @@
 -- A bracket is read as its group.
-use Rattle.std.proofs.Common.{◌≡◌, ℕ, ◌+◌, ◌==◌, ◌&&◌, List, [], ◌∷◌, ◌++◌, length, Bool, true, false, Some, None, refl, sym, ap, ◌∙◌, append_assoc, arith}
+use Rattle.std.proofs.Common.{◌≡◌, ℕ, ◌+◌, ◌==◌, ◌&&◌, List, [], ◌∷◌, ◌++◌, length, Bool, true, false, Some, None, refl, sym, ap, subst, ◌∙◌, append_assoc, arith}
 use Rattle.std.specs.Prelude.{count_by}
 use Rattle.bz_token.specs.declared.token.Kind.TheVariants.{Sign}
 use Rattle.bz_token.specs.Places.{Placed}
@@ -19,8 +19,9 @@ use Rattle.bz_layout.specs.Layout.{opening, closing}
 use Rattle.bz_layout_laws.specs.Lexemes.{Lexeme, lexeme}
 use Rattle.bz_layout_laws.specs.Inside.{entries_lexemes}
 use Rattle.bz_layout_laws.specs.Parsed.{have_for}
+use Rattle.bz_layout_laws.specs.Spelled.{spelled, spelled_segs}
 use Rattle.bz_layout_laws.proofs.Taken.{placed_at, take_first, begins_beside, from_none, agree_none}
-use Rattle.bz_layout_laws.proofs.ReadSteps.{Reads, own_node, agree_node, add_node}
+use Rattle.bz_layout_laws.proofs.ReadSteps.{Read, Reads, own_node, agree_node, add_node}
 use Rattle.bz_layout_laws.proofs.Fors.{same_for}
 use Rattle.bz_layout_laws.proofs.SameInside.{group_same}
 
@@ -68,12 +69,12 @@ closed_up : (o c : Placed) (inner others : List Placed) → o ∷ (inner ++ (c �
 closed_up o c inner others = simp append_assoc
 
 -- what stands in the bracket is read whatever follows it, and begins with no comment on the line of the bracket
-pub read_group : (one : Bool) (b : Preceding) (kind : GroupKind) (ss : Segs) (one_comma : Bool) (end : List (List ℕ)) (trailing : Bool) (ls : List Lexeme) (es : List Entry) (tail : List Lexeme) (shape : Shape) → kind ≡ group_kind shape b (have_for ss) → HaveNodes (segments ss)
+pub read_group : (one : Bool) (b : Preceding) (kind : GroupKind) (ss : Segs) (one_comma : Bool) (end : List (List ℕ)) (trailing : Bool) (ls : List Lexeme) (es : List Entry) (tail : List Lexeme) (shape : Shape) → kind ≡ group_kind shape b (have_for ss) → HaveNodes (segments (spelled_segs ss))
     → (is_paren kind && (length (segments ss) == 1) && (trailing && is_filled (segments ss))) ≡ one_comma
-    → ((after : List Lexeme) → Reads (is_one kind) Other (entries_lexemes (written_entries trailing (segments ss) end)) (written_entries trailing (segments ss) end) after)
+    → ((after : List Lexeme) → Reads (is_one kind) Other (entries_lexemes (written_entries trailing (segments ss) end)) (written_entries trailing (segments (spelled_segs ss)) end) after)
     → ((after : List Lexeme) → begins_beside (entries_lexemes (written_entries trailing (segments ss) end) ++ (lexeme Sign (closing kind) ∷ after)) ≡ false)
     → Reads one Operand ls es tail
-    → Reads one b ((lexeme Sign (opening kind) ∷ (entries_lexemes (written_entries trailing (segments ss) end) ++ lexeme Sign (closing kind) ∷ [])) ++ ls) (a_node (group kind ss one_comma end) ∷ es) tail
+    → Reads one b ((lexeme Sign (opening kind) ∷ (entries_lexemes (written_entries trailing (segments ss) end) ++ lexeme Sign (closing kind) ∷ [])) ++ ls) (a_node (spelled (group kind ss one_comma end)) ∷ es) tail
 read_group one b kind ss one_comma end trailing ls es tail shape kind_is nodes comma_is inner begins next = record {
   each = λ at last ts agree h.
       let w = written_entries trailing (segments ss) end in
@@ -89,10 +90,10 @@ read_group one b kind ss one_comma end trailing ls es tail shape kind_is nodes c
       let owns = elems_own Other r.elems in
       let found : group_kind shape b (has_for owns) ≡ kind = ap (group_kind shape b) (same_for (is_one kind) trailing Other r.elems ss end r.well r.entries) ∙ sym kind_is in
       let back = group_same kind owns trailing ss one_comma end nodes comma_is r.entries in
-      add_node one b at (bracket shape open_at r.elems close_at) g.line (group_of (group_kind shape b (has_for owns)) owns) (group kind ss one_comma end) es tail ts g.others
+      subst (λ x. Read one b at ts (a_node x ∷ es) tail) (ap (λ k. group_of k owns) found ∙ back.0)
+      (add_node one b at (bracket shape open_at r.elems close_at) g.line (group_of (group_kind shape b (has_for owns)) owns) es tail ts g.others
       (ap (λ k. sign_mark (opening k)) kind_is ∙ opens shape b (have_for ss), ap (λ k. sign_mark (closing k)) kind_is ∙ closes shape b (have_for ss), r.well, ap (λ k. no_empty false (own_items (is_one k) owns)) found ∙ back.1)
       (own_node one g.line (group_of (group_kind shape b (has_for owns)) owns))
-      (ap (λ k. group_of k owns) found ∙ back.0)
       (f.are ∙ ap (λ us. open_at ∷ us) (r.tokens ∙ ap (λ us. elems_tokens r.elems ++ us) g.are) ∙ closed_up open_at close_at (elems_tokens r.elems) g.others)
-      n;
+      n);
 }

@@ -12,11 +12,11 @@ use Rattle.bz_tree.specs.declared.stmt.Class.TheVariants.{Load as LoadClass, Ass
 use Rattle.bz_tree.specs.declared.kinds.Preceding.{Preceding}
 use Rattle.bz_tree.specs.declared.kinds.Preceding.TheVariants.{Other}
 use Rattle.bz_tree.specs.Brackets.{Elems, elems_tokens, elems_own, own_items, AreWell, after_item, is_paren, without_lines}
-use Rattle.bz_tree.specs.Owners.{Entry, a_node, no_token, is_filled}
-use Rattle.bz_tree.specs.Statement.{with_rule_call, segment_with, segment_of, class_of, is_kept, is_load_word, has_assign, is_rule, statement_with, IsStatementOf}
+use Rattle.bz_tree.specs.Owners.{Own, Entry, a_node, no_token, is_filled, entries_of}
+use Rattle.bz_tree.specs.Statement.{segment_of, class_of, is_kept, is_load_word, has_assign, is_rule, statement_with, IsStatementOf}
 use Rattle.bz_tree.specs.Tree.{Item, leaf, group, Segs, Segment, Statement, items_of}
-use Rattle.bz_tree_laws.specs.Nodes.{segment_mapped}
-use Rattle.bz_tree_laws.specs.Written.{suffix_entry, written_entries, HaveNodes}
+use Rattle.bz_tree_laws.specs.Written.{own_lines, suffix_entry, written_entries}
+use Rattle.bz_tree_laws.proofs.WrittenBack.{statement_back, comments_back}
 use Rattle.bz_tree_laws.proofs.ChunkLaws.{tree_same}
 use Rattle.bz_layout.specs.declared.spacing.Edge.{Edge}
 use Rattle.bz_layout.specs.declared.spacing.Edge.TheVariants.{Start}
@@ -31,7 +31,7 @@ use Rattle.bz_layout_laws.specs.Lineless.{lineless}
 use Rattle.bz_layout_laws.proofs.ReadGroup.{read_group}
 use Rattle.bz_layout_laws.proofs.ReadSteps.{Reads, read_nothing}
 use Rattle.bz_layout_laws.proofs.ReadTree.{read_notes, read_end, read_suffix, segs_begin, few_segs, item_reads, segs_reads}
-use Rattle.bz_layout_laws.proofs.SameInside.{have_nodes, inside_same}
+use Rattle.bz_layout_laws.proofs.SameInside.{have_nodes}
 use Rattle.bz_layout_laws.proofs.SameTests.{nodes_spelled, class_spelled}
 use Rattle.bz_layout_laws.proofs.SpelledAgain.{written_again}
 use Rattle.bz_layout_laws.proofs.Taken.{agree_none, no_tokens}
@@ -45,12 +45,12 @@ rule_shape : (segs : Segs) (one_comma : Bool) → HasShape Call segs one_comma �
 rule_shape segs one_comma h = record { one = λ e. absurd (false≢true e); comma = λ e. absurd (false≢true (ap is_paren (h.comma e).0)) }
 
 -- it is read as a call
-top_reads : (b : Preceding) (x : Item) (ls : List Lexeme) (es : List Entry) (tail : List Lexeme) → IsLegibleItem x → HasKind b (plain_call x) → Reads true (after_item x) ls es tail → Reads true b (item_lexemes x ++ ls) (a_node (plain_call x) ∷ es) tail
+top_reads : (b : Preceding) (x : Item) (ls : List Lexeme) (es : List Entry) (tail : List Lexeme) → IsLegibleItem x → HasKind b (plain_call x) → Reads true (after_item x) ls es tail → Reads true b (item_lexemes x ++ ls) (a_node (spelled (plain_call x)) ∷ es) tail
 top_reads b (leaf kind text) ls es tail legible kinds next = item_reads true b (leaf kind text) ls es tail legible (λ e. refl) kinds next
 top_reads b (group RuleCall segs one_comma end) ls es tail legible kinds next =
     let trailing = has_last_comma RuleCall segs one_comma end in
     let shape = rule_shape segs one_comma kinds.2 in
-    subst (λ l. Reads true b (l ++ ls) (a_node (group Call segs one_comma end) ∷ es) tail) (sym (bracket_written RuleCall segs one_comma end shape))
+    subst (λ l. Reads true b (l ++ ls) (a_node (spelled (group Call segs one_comma end)) ∷ es) tail) (sym (bracket_written RuleCall segs one_comma end shape))
     (read_group true b Call segs one_comma end trailing ls es tail kinds.0 kinds.1 (have_nodes RuleCall segs legible.0) (comma_read RuleCall segs one_comma end shape)
     (λ after. segs_reads false RuleCall trailing segs end after legible.0 kinds.3 (few_segs RuleCall segs one_comma end shape))
     (λ after. segs_begin RuleCall trailing segs end (lexeme Sign (closing Call) ∷ after) legible.0 refl) next)
@@ -68,17 +68,17 @@ after_plain (leaf kind text) = refl
 after_plain (group kind segs one_comma end) = refl
 
 tops_read : (b : Preceding) (within : Option GroupKind) (left : Edge) (xs : List Item) (ls : List Lexeme) (es : List Entry) (tail : List Lexeme) → AreLegible within left (items_of xs) → HaveKinds true b (items_of (plain_calls xs))
-    → ((p : Preceding) → Reads true p ls es tail) → Reads true b (items_lexemes (items_of xs) ++ ls) (map a_node (plain_calls xs) ++ es) tail
+    → ((p : Preceding) → Reads true p ls es tail) → Reads true b (items_lexemes (items_of xs) ++ ls) (map a_node (map spelled (plain_calls xs)) ++ es) tail
 tops_read b within left [] ls es tail legible kinds next = next b
 tops_read b within left (x ∷ xs) ls es tail legible kinds next =
     let rest = tops_read (after_item (plain_call x)) within (edge_after within left x) xs ls es tail legible.2 kinds.2 next in
-    subst (λ l. Reads true b l (a_node (plain_call x) ∷ (map a_node (plain_calls xs) ++ es)) tail) (sym (append_assoc (item_lexemes x) (items_lexemes (items_of xs)) ls))
-    (top_reads b x (items_lexemes (items_of xs) ++ ls) (map a_node (plain_calls xs) ++ es) tail legible.1 kinds.1
-    (subst (λ p. Reads true p (items_lexemes (items_of xs) ++ ls) (map a_node (plain_calls xs) ++ es) tail) (after_plain x) rest))
+    subst (λ l. Reads true b l (a_node (spelled (plain_call x)) ∷ (map a_node (map spelled (plain_calls xs)) ++ es)) tail) (sym (append_assoc (item_lexemes x) (items_lexemes (items_of xs)) ls))
+    (top_reads b x (items_lexemes (items_of xs) ++ ls) (map a_node (map spelled (plain_calls xs)) ++ es) tail legible.1 kinds.1
+    (subst (λ p. Reads true p (items_lexemes (items_of xs) ++ ls) (map a_node (map spelled (plain_calls xs)) ++ es) tail) (after_plain x) rest))
 
--- the segment of a statement, the call of a rule as one that is none
+-- the segment of a statement as it is spelled, the call of a rule as one that is none
 abbrev plain_segment : Statement → Segment
-plain_segment s = record { before = s.before; nodes = plain_calls s.nodes; suffix = s.suffix }
+plain_segment s = record { before = s.before; nodes = map spelled (plain_calls s.nodes); suffix = s.suffix }
 
 -- tokens that are read so are those of a statement
 record Tree (s : Statement) (tokens : List Placed) : Type 0 where
@@ -96,30 +96,29 @@ finish s tokens parsed tree =
       λ i. record { before = (tree.segment i).before; nodes = (tree.segment i).nodes; suffix = (tree.segment i).suffix; class = class i; start = 0; end = 0 },
     )
 
--- the segments of a statement's tokens
-tree_of : (s : Statement) (tokens : List Placed) (ss : List Segment) (end : List (List ℕ)) (ls : List Lexeme) → lexemes_from None (without_lines tokens) ≡ ls → HaveNodes ss → Reads true Other ls (written_entries false ss end) []
-    → segment_with (record { segs = map (segment_mapped spelled) ss; trailing = false; end = end }) ≡ own_segment (spelled_statement s) → Tree s tokens
-tree_of s tokens ss end ls lexemes nodes reads is =
+-- tokens whose entries are those of a statement
+tree_of : (s : Statement) (tokens : List Placed) (ls : List Lexeme) (es : List Entry) → lexemes_from None (without_lines tokens) ≡ ls → Reads true Other ls es []
+    → ((owns : List Own) → entries_of no_token (own_items true owns) ≡ es → segment_of owns ≡ own_segment (spelled_statement s)) → Tree s tokens
+tree_of s tokens ls es lexemes reads back =
     let r = reads.each no_token None (without_lines tokens) agree_none (lexemes ∙ sym (append-nil ls)) in
-    let owns = elems_own Other r.elems in
     record {
       elems = r.elems;
       tokens_are = r.tokens ∙ ap (λ us. elems_tokens r.elems ++ us) (no_tokens r.last r.after r.rest) ∙ append-nil (elems_tokens r.elems);
       well = r.well;
-      segment = ap segment_with (inside_same (own_items true owns) false ss end nodes r.entries).0 ∙ is;
+      segment = back (elems_own Other r.elems) r.entries;
     }
 
-some_nodes : (xs : List Item) → are_some (items_of xs) ≡ true → is_filled (plain_calls xs) ≡ true
+some_nodes : (xs : List Item) → are_some (items_of xs) ≡ true → is_filled (map spelled (plain_calls xs)) ≡ true
 some_nodes [] h = absurd (false≢true h)
 some_nodes (x ∷ xs) h = refl
 
 -- a statement that has nodes
 statement_tree : (s : Statement) (tokens : List Placed) → IsLegible s → IsParsed s → is_comment s.class ≡ false → lexemes_from None (without_lines tokens) ≡ without_newlines (lexemes_of s) → Tree s tokens
 statement_tree s tokens legible parsed class lexemes =
-    tree_of s tokens (plain_segment s ∷ []) [] (notes s.before ++ (items_lexemes (items_of s.nodes) ++ (suffix_lexemes s.suffix ++ []))) (lexemes ∙ statement_line_is s legible class) (some_nodes s.nodes (legible.some class), tt)
-    (read_notes true Other s.before (items_lexemes (items_of s.nodes) ++ (suffix_lexemes s.suffix ++ [])) (map a_node (plain_calls s.nodes) ++ (suffix_entry s.suffix ++ [])) []
+    tree_of s tokens (notes s.before ++ (items_lexemes (items_of s.nodes) ++ (suffix_lexemes s.suffix ++ []))) (written_entries false (plain_segment s ∷ []) []) (lexemes ∙ statement_line_is s legible class)
+    (read_notes true Other s.before (items_lexemes (items_of s.nodes) ++ (suffix_lexemes s.suffix ++ [])) (map a_node (map spelled (plain_calls s.nodes)) ++ (suffix_entry s.suffix ++ [])) []
     (tops_read Other None Start s.nodes (suffix_lexemes s.suffix ++ []) (suffix_entry s.suffix ++ []) [] legible.nodes parsed.kinds (λ p. read_suffix true p s.suffix [] [] [] (read_nothing true p []))))
-    ((λ i. with_rule_call (record { before = append-nil s.before i; nodes = map spelled (plain_calls s.nodes); suffix = s.suffix }))
+    (λ owns e. statement_back owns (plain_segment s) (some_nodes s.nodes (legible.some class)) e
     ∙ ap (λ xs. record { before = s.before; nodes = xs; suffix = s.suffix }) (sym (nodes_spelled (plain_calls s.nodes)) ∙ ap (map spelled) (sym parsed.rule)))
 
 -- comment lines alone have none
@@ -134,8 +133,8 @@ none_there (x ∷ xs) h = absurd (false≢true (sym (no_comment (is_kept x) Bloc
 comment_tree : (s : Statement) (tokens : List Placed) → IsParsed s → is_comment s.class ≡ true → lexemes_from None (without_lines tokens) ≡ without_newlines (lexemes_of s) → Tree s tokens
 comment_tree s tokens parsed class lexemes =
     let none = none_there s.nodes (ap is_comment (sym parsed.class) ∙ class) in
-    tree_of s tokens [] s.before _ (lexemes ∙ comments_written s class) tt (read_end true Other s.before [])
-    (λ i. record { before = s.before; nodes = ap (map spelled) (sym none) i; suffix = sym (parsed.alone none) i })
+    tree_of s tokens _ (own_lines s.before) (lexemes ∙ comments_written s class) (read_end true Other s.before [])
+    (λ owns e. comments_back owns s.before e ∙ λ i. record { before = s.before; nodes = ap (map spelled) (sym none) i; suffix = sym (parsed.alone none) i })
 
 tree_is : (s : Statement) (tokens : List Placed) → IsLegible s → IsParsed s → token_lexemes tokens ≡ lexemes_of s → Tree s tokens
 tree_is s tokens legible parsed e = by (is_comment s.class) refl

@@ -1,5 +1,5 @@
 -- Tokens of entries are read as the entries, one more at a time.
-use Rattle.std.proofs.Common.{◌≡◌, ℕ, ◌+◌, ◌==◌, List, [], ◌∷◌, ◌++◌, map, Bool, true, false, Option, Some, None, refl, sym, ap, subst, ◌∙◌, append_assoc, arith, rules}
+use Rattle.std.proofs.Common.{◌≡◌, ℕ, ◌+◌, ◌==◌, List, [], ◌∷◌, ◌++◌, Bool, true, false, Option, Some, None, refl, sym, ap, subst, ◌∙◌, append_assoc, arith, rules}
 use Rattle.std.specs.Prelude.{codes, count_by, if◌then◌else◌}
 use Rattle.std.specs.Str.{bytes_eq}
 use Rattle.std.proofs.lemmas.Bool.{false≢true}
@@ -18,12 +18,10 @@ use Rattle.bz_tree.specs.Kinds.{kind_mark, sign_mark, mark_of, kind_after}
 use Rattle.bz_tree.specs.Owners.{node, comma, note, Last, no_token, end_of_node, end_of_comma, Entry, a_node, a_comma, a_note, entries_of}
 use Rattle.bz_tree.specs.Statement.{is_aside}
 use Rattle.bz_tree.specs.Tree.{Item, leaf}
-use Rattle.bz_tree_laws.specs.Nodes.{entry_mapped}
 use Rattle.bz_layout.specs.Respell.{respell}
 use Rattle.bz_layout_laws.specs.Legible.{is_leaf_mark}
 use Rattle.bz_layout_laws.specs.Lexemes.{Lexeme, lexeme, end_after, lexemes_from}
 use Rattle.bz_layout_laws.specs.Parsed.{is_comma_mark}
-use Rattle.bz_layout_laws.specs.Spelled.{spelled}
 use Rattle.bz_layout_laws.proofs.Taken.{placed_at, take_first, Agree, agree_none}
 
 -- Tokens, first of them those of brackets and leaves that are read as these entries, and then those of `tail`. They stand
@@ -35,7 +33,7 @@ pub record Read (one : Bool) (b : Preceding) (at : Last) (ts : List Placed) (es 
   pub tokens : ts ≡ elems_tokens elems ++ after
   pub rest : lexemes_from last after ≡ tail
   pub well : AreWell b elems
-  pub entries : entries_of at (own_items one (elems_own b elems)) ≡ map (entry_mapped spelled) es
+  pub entries : entries_of at (own_items one (elems_own b elems)) ≡ es
 
 -- whatever tokens have these lexemes
 pub record Reads (one : Bool) (b : Preceding) (ls : List Lexeme) (es : List Entry) (tail : List Lexeme) : Type 0 where
@@ -105,9 +103,9 @@ read_comma b ls es tail next = record {
 }
 
 -- one more node
-pub add_node : (one : Bool) (b : Preceding) (at : Last) (x : Elem) (line : ℕ) (y z : Item) (es : List Entry) (tail : List Lexeme) (ts others : List Placed) → IsWell b x → own_item one (elem_own b x) ≡ node line y → y ≡ spelled z → ts ≡ elem_tokens x ++ others
-    → Read one (preceding b (elem_own b x)) (end_of_node line) others es tail → Read one b at ts (a_node z ∷ es) tail
-add_node one b at x line y z es tail ts others well own same are r = record {
+pub add_node : (one : Bool) (b : Preceding) (at : Last) (x : Elem) (line : ℕ) (y : Item) (es : List Entry) (tail : List Lexeme) (ts others : List Placed) → IsWell b x → own_item one (elem_own b x) ≡ node line y → ts ≡ elem_tokens x ++ others
+    → Read one (preceding b (elem_own b x)) (end_of_node line) others es tail → Read one b at ts (a_node y ∷ es) tail
+add_node one b at x line y es tail ts others well own are r = record {
   elems = elem x r.elems;
   after = r.after;
   last = r.last;
@@ -116,7 +114,7 @@ add_node one b at x line y z es tail ts others well own same are r = record {
   well = (well, r.well);
   entries =
       ap (λ o. entries_of at (o ∷ own_items one (elems_own (preceding b (elem_own b x)) r.elems))) own
-      ∙ (λ i. a_node (same i) ∷ r.entries i);
+      ∙ ap (λ es. a_node y ∷ es) r.entries;
 }
 
 -- a leaf, be it a comma or not
@@ -209,7 +207,7 @@ same_after LineKind text = refl
 same_after Note text = refl
 
 pub read_leaf : (one : Bool) (b : Preceding) (kind : Kind) (text : List ℕ) (ls : List Lexeme) (es : List Entry) (tail : List Lexeme) → is_leaf_mark (kind_mark kind text) ≡ true → (is_comma_mark (kind_mark kind text) ≡ true → one ≡ true)
-    → Reads one (kind_after kind text) ls es tail → Reads one b (lexeme kind (respell kind text) ∷ ls) (a_node (leaf kind text) ∷ es) tail
+    → Reads one (kind_after kind text) ls es tail → Reads one b (lexeme kind (respell kind text) ∷ ls) (a_node (leaf kind (respell kind text)) ∷ es) tail
 read_leaf one b kind text ls es tail mark single_is next = record {
   each = λ at last ts agree h.
       let l : Lexeme = lexeme kind (respell kind text) in
@@ -218,5 +216,5 @@ read_leaf one b kind text ls es tail mark single_is next = record {
       let o = leaf_own one b t (kind_mark kind text) (same_mark kind text) mark single_is in
       let go = subst (λ p. Reads one p ls es tail) (sym (o.before ∙ same_after kind text)) next in
       let r = go.each (end_of_node o.line) (end_after t) f.others o.agree f.rest in
-      add_node one b at (single t) o.line (leaf_of t) (leaf kind text) es tail ts f.others o.one_token o.own refl f.are r;
+      add_node one b at (single t) o.line (leaf_of t) es tail ts f.others o.one_token o.own f.are r;
 }

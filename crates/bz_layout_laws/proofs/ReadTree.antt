@@ -22,10 +22,11 @@ use Rattle.bz_layout_laws.specs.Legible.{are_some, IsLegibleItem, AreLegible, Ar
 use Rattle.bz_layout_laws.specs.Lexemes.{Lexeme, lexeme, notes, suffix_lexemes, comma_lexemes, item_lexemes, items_lexemes}
 use Rattle.bz_layout_laws.specs.Inside.{HasShape, entries_lexemes, has_last_comma}
 use Rattle.bz_layout_laws.specs.Parsed.{is_comma, HasKind, HaveKinds, SegsHaveKinds}
-use Rattle.bz_layout_laws.proofs.Written.{comma_entry, segment_is, too_many, bracket_written, comma_read}
+use Rattle.bz_layout_laws.specs.Spelled.{spelled, spelled_items, spelled_segs}
+use Rattle.bz_layout_laws.proofs.Written.{comma_entry, segment_entries, segment_is, too_many, bracket_written, comma_read}
 use Rattle.bz_layout_laws.proofs.Taken.{begins_beside}
 use Rattle.bz_layout_laws.proofs.ReadSteps.{Reads, read_nothing, read_note, read_comma, read_leaf}
-use Rattle.bz_layout_laws.proofs.SameInside.{have_nodes}
+use Rattle.bz_layout_laws.proofs.SameInside.{filled_spelled, have_nodes}
 use Rattle.bz_layout_laws.proofs.ReadGroup.{read_group}
 
 -- comments on lines of their own
@@ -48,13 +49,15 @@ read_comma_if one b false ls es tail many next = next b (λ e. absurd (false≢t
 read_comma_if false b true ls es tail many next = read_comma b ls es tail (next Other (λ e. refl))
 read_comma_if true b true ls es tail many next = absurd (false≢true (sym (many refl)))
 
+-- segments and end comments, with their strings as they are spelled
+abbrev SegsRead : Bool → Preceding → Bool → Segs → List (List ℕ) → List Lexeme → Type 0
+SegsRead one b trailing ss end tail = Reads one b (entries_lexemes (written_entries trailing (segments ss) end)) (written_entries trailing (segments (spelled_segs ss)) end) tail
+
 -- after the last segment nothing hangs on what stands before
-later : (one : Bool) (p : Preceding) (trailing : Bool) (ss : Segs) (end : List (List ℕ)) (tail : List Lexeme) → ((trailing || is_filled (segments ss)) ≡ true → p ≡ Other)
-    → Reads one Other (entries_lexemes (written_entries trailing (segments ss) end)) (written_entries trailing (segments ss) end) tail
-    → Reads one p (entries_lexemes (written_entries trailing (segments ss) end)) (written_entries trailing (segments ss) end) tail
+later : (one : Bool) (p : Preceding) (trailing : Bool) (ss : Segs) (end : List (List ℕ)) (tail : List Lexeme) → ((trailing || is_filled (segments ss)) ≡ true → p ≡ Other) → SegsRead one Other trailing ss end tail → SegsRead one p trailing ss end tail
 later one p trailing no_segs end tail is next = read_end one p end tail
-later one p true (seg before nodes suffix ss) end tail is next = subst (λ q. Reads one q (entries_lexemes (written_entries true (segments (seg before nodes suffix ss)) end)) (written_entries true (segments (seg before nodes suffix ss)) end) tail) (sym (is refl)) next
-later one p false (seg before nodes suffix ss) end tail is next = subst (λ q. Reads one q (entries_lexemes (written_entries false (segments (seg before nodes suffix ss)) end)) (written_entries false (segments (seg before nodes suffix ss)) end) tail) (sym (is refl)) next
+later one p true (seg before nodes suffix ss) end tail is next = subst (λ q. SegsRead one q true (seg before nodes suffix ss) end tail) (sym (is refl)) next
+later one p false (seg before nodes suffix ss) end tail is next = subst (λ q. SegsRead one q false (seg before nodes suffix ss) end tail) (sym (is refl)) next
 
 -- no comment of a bracket stands on the line of the opening bracket
 notes_begin : (texts : List (List ℕ)) (ls : List Lexeme) → begins_beside ls ≡ false → begins_beside (notes texts ++ ls) ≡ false
@@ -121,32 +124,33 @@ is_many true false before nodes suffix (seg b n s ss) few h = absurd (too_many (
 
 mutual
   pub item_reads : (one : Bool) (b : Preceding) (x : Item) (ls : List Lexeme) (es : List Entry) (tail : List Lexeme) → IsLegibleItem x → (is_comma x ≡ true → one ≡ true) → HasKind b x → Reads one (after_item x) ls es tail
-      → Reads one b (item_lexemes x ++ ls) (a_node x ∷ es) tail
+      → Reads one b (item_lexemes x ++ ls) (a_node (spelled x) ∷ es) tail
   item_reads one b (leaf kind text) ls es tail legible commas kinds next = read_leaf one b kind text ls es tail legible.1 commas next
   item_reads one b (group kind segs one_comma end) ls es tail legible commas kinds next =
       let trailing = has_last_comma kind segs one_comma end in
-      subst (λ l. Reads one b (l ++ ls) (a_node (group kind segs one_comma end) ∷ es) tail) (sym (bracket_written kind segs one_comma end kinds.2))
+      subst (λ l. Reads one b (l ++ ls) (a_node (spelled (group kind segs one_comma end)) ∷ es) tail) (sym (bracket_written kind segs one_comma end kinds.2))
       (read_group one b kind segs one_comma end trailing ls es tail kinds.0 kinds.1 (have_nodes kind segs legible.0) (comma_read kind segs one_comma end kinds.2)
       (λ after. segs_reads (is_one kind) kind trailing segs end after legible.0 kinds.3 (few_segs kind segs one_comma end kinds.2))
       (λ after. segs_begin kind trailing segs end (lexeme Sign (closing kind) ∷ after) legible.0 refl) next)
 
   items_reads : (one : Bool) (b : Preceding) (within : Option GroupKind) (left : Edge) (xs : Items) (ls : List Lexeme) (es : List Entry) (tail : List Lexeme) → AreLegible within left xs → HaveKinds one b xs → ((p : Preceding) → Reads one p ls es tail)
-      → Reads one b (items_lexemes xs ++ ls) (map a_node (list_of xs) ++ es) tail
+      → Reads one b (items_lexemes xs ++ ls) (map a_node (list_of (spelled_items xs)) ++ es) tail
   items_reads one b within left no_items ls es tail legible kinds next = next b
   items_reads one b within left (item x xs) ls es tail legible kinds next =
-      subst (λ l. Reads one b l (a_node x ∷ (map a_node (list_of xs) ++ es)) tail) (sym (append_assoc (item_lexemes x) (items_lexemes xs) ls))
-      (item_reads one b x (items_lexemes xs ++ ls) (map a_node (list_of xs) ++ es) tail legible.1 kinds.0 kinds.1
+      subst (λ l. Reads one b l (a_node (spelled x) ∷ (map a_node (list_of (spelled_items xs)) ++ es)) tail) (sym (append_assoc (item_lexemes x) (items_lexemes xs) ls))
+      (item_reads one b x (items_lexemes xs ++ ls) (map a_node (list_of (spelled_items xs)) ++ es) tail legible.1 kinds.0 kinds.1
       (items_reads one (after_item x) within (edge_after within left x) xs ls es tail legible.2 kinds.2 next))
 
-  pub segs_reads : (one : Bool) (kind : GroupKind) (trailing : Bool) (ss : Segs) (end : List (List ℕ)) (tail : List Lexeme) → AreLegibleSegs kind ss → SegsHaveKinds one ss → Few one trailing ss
-      → Reads one Other (entries_lexemes (written_entries trailing (segments ss) end)) (written_entries trailing (segments ss) end) tail
+  pub segs_reads : (one : Bool) (kind : GroupKind) (trailing : Bool) (ss : Segs) (end : List (List ℕ)) (tail : List Lexeme) → AreLegibleSegs kind ss → SegsHaveKinds one ss → Few one trailing ss → SegsRead one Other trailing ss end tail
   segs_reads one kind trailing no_segs end tail legible kinds few = read_end one Other end tail
   segs_reads one kind trailing (seg before nodes suffix ss) end tail legible kinds few =
       let c = trailing || is_filled (segments ss) in
-      let es = written_entries trailing (segments ss) end in
+      let ls = entries_lexemes (written_entries trailing (segments ss) end) in
+      let es = written_entries trailing (segments (spelled_segs ss)) end in
       let rest = segs_reads one kind trailing ss end tail legible.4 kinds.1 (few_later one trailing before nodes suffix ss few) in
-      subst (λ l. Reads one Other l (own_lines before ++ (map a_node (list_of nodes) ++ (comma_entry c ++ (suffix_entry suffix ++ es)))) tail) (sym (segment_is before nodes c suffix es))
-      (read_notes one Other before (items_lexemes nodes ++ (comma_lexemes c ++ (suffix_lexemes suffix ++ entries_lexemes es))) (map a_node (list_of nodes) ++ (comma_entry c ++ (suffix_entry suffix ++ es))) tail
-      (items_reads one Other (Some kind) Start nodes (comma_lexemes c ++ (suffix_lexemes suffix ++ entries_lexemes es)) (comma_entry c ++ (suffix_entry suffix ++ es)) tail legible.2 kinds.0
-      (λ b. read_comma_if one b c (suffix_lexemes suffix ++ entries_lexemes es) (suffix_entry suffix ++ es) tail (is_many one trailing before nodes suffix ss few)
-      (λ p is. read_suffix one p suffix (entries_lexemes es) es tail (later one p trailing ss end tail is rest)))))
+      subst (λ f. Reads one Other (entries_lexemes (segment_entries before nodes c suffix (written_entries trailing (segments ss) end))) (segment_entries before (spelled_items nodes) (trailing || f) suffix es) tail) (sym (filled_spelled ss))
+      (subst (λ l. Reads one Other l (segment_entries before (spelled_items nodes) c suffix es) tail) (sym (segment_is before nodes c suffix (written_entries trailing (segments ss) end)))
+      (read_notes one Other before (items_lexemes nodes ++ (comma_lexemes c ++ (suffix_lexemes suffix ++ ls))) (map a_node (list_of (spelled_items nodes)) ++ (comma_entry c ++ (suffix_entry suffix ++ es))) tail
+      (items_reads one Other (Some kind) Start nodes (comma_lexemes c ++ (suffix_lexemes suffix ++ ls)) (comma_entry c ++ (suffix_entry suffix ++ es)) tail legible.2 kinds.0
+      (λ b. read_comma_if one b c (suffix_lexemes suffix ++ ls) (suffix_entry suffix ++ es) tail (is_many one trailing before nodes suffix ss few)
+      (λ p is. read_suffix one p suffix ls es tail (later one p trailing ss end tail is rest))))))
