@@ -4,7 +4,7 @@ use Rattle.std.specs.Prelude.{codes, if◌then◌else◌}
 use Rattle.std.specs.List.{list_any}
 use Rattle.std.proofs.lemmas.Bool.{false≢true}
 use Rattle.bz_token.specs.declared.token.Kind.{Kind}
-use Rattle.bz_token.specs.declared.token.Kind.TheVariants.{Ident, Word, Int, Text, Sign, Line as LineKind, Note, Kept}
+use Rattle.bz_token.specs.declared.token.Kind.TheVariants.{Sign, Line as LineKind, Note}
 use Rattle.bz_token.specs.Lexical.{is_newline}
 use Rattle.bz_token.specs.Ends.{is_note}
 use Rattle.bz_tree.specs.declared.stmt.GroupKind.{GroupKind}
@@ -82,24 +82,14 @@ sign_last : (gap : Gap) (text : List ℕ) → Tokens (piece gap Sign text ∷ []
 sign_last gap text = record { last = λ token. refl }
 
 leaf_always : (gap : Gap) (kind : Kind) (text other : List ℕ) → is_apart gap ≡ false → is_leaf_mark (kind_mark kind other) ≡ true → Always (piece gap kind text ∷ [])
-leaf_always gap Sign text other h mark = record { each = λ token. (sym h, tt) }
-leaf_always gap Ident text other h mark = record { each = λ token. (sym h, tt) }
-leaf_always gap Word text other h mark = record { each = λ token. (sym h, tt) }
-leaf_always gap Int text other h mark = record { each = λ token. (sym h, tt) }
-leaf_always gap Text text other h mark = record { each = λ token. (sym h, tt) }
-leaf_always gap Kept text other h mark = record { each = λ token. (sym h, tt) }
 leaf_always gap LineKind text other h mark = absurd (false≢true mark)
 leaf_always gap Note text other h mark = absurd (false≢true mark)
+leaf_always gap _ text other h mark = record { each = λ token. (sym h, tt) }
 
 leaf_last : (gap : Gap) (kind : Kind) (text other : List ℕ) → is_leaf_mark (kind_mark kind other) ≡ true → Tokens (piece gap kind text ∷ [])
-leaf_last gap Sign text other mark = record { last = λ token. refl }
-leaf_last gap Ident text other mark = record { last = λ token. refl }
-leaf_last gap Word text other mark = record { last = λ token. refl }
-leaf_last gap Int text other mark = record { last = λ token. refl }
-leaf_last gap Text text other mark = record { last = λ token. refl }
-leaf_last gap Kept text other mark = record { last = λ token. refl }
 leaf_last gap LineKind text other mark = absurd (false≢true mark)
 leaf_last gap Note text other mark = absurd (false≢true mark)
+leaf_last gap _ text other mark = record { last = λ token. refl }
 
 commas : (b : Bool) → Always (comma_if b)
 commas true = sign Closed (codes ",") refl

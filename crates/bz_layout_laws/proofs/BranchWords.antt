@@ -78,13 +78,7 @@ first_word Kept b bs after token none = absurd (false≢true token.whole)
 
 no_line : (kind : Kind) → is_line kind ≡ false → can_start kind (class_of 10) ≡ false
 no_line Line h = absurd (false≢true (sym h))
-no_line Ident h = refl
-no_line Word h = refl
-no_line Int h = refl
-no_line Text h = refl
-no_line Sign h = refl
-no_line Note h = refl
-no_line Kept h = refl
+no_line _ h = refl
 
 pub no_branch : (kind : Kind) (text after : List ℕ) → IsToken kind text after → is_line kind ≡ false → is_branch text ≡ false → goes_on If (text ++ after) ≡ false
 no_branch kind [] after token line none = absurd (empty_no_text kind token.whole)

@@ -147,23 +147,11 @@ sign_closes text h = by (bytes_eq text (codes "(")) (bytes_eq text (codes "[")) 
 
 kind_opens : (kind : Kind) (text : List ℕ) → is_open_mark (kind_mark kind text) ≡ true → Opens text
 kind_opens Sign text h = sign_opens text h
-kind_opens Ident text h = absurd (false≢true h)
-kind_opens Word text h = absurd (false≢true h)
-kind_opens Int text h = absurd (false≢true h)
-kind_opens Text text h = absurd (false≢true h)
-kind_opens Line text h = absurd (false≢true h)
-kind_opens Note text h = absurd (false≢true h)
-kind_opens Kept text h = absurd (false≢true h)
+kind_opens _ text h = absurd (false≢true h)
 
 kind_closes : (kind : Kind) (text : List ℕ) → is_close_mark (kind_mark kind text) ≡ true → Closes text
 kind_closes Sign text h = sign_closes text h
-kind_closes Ident text h = absurd (false≢true h)
-kind_closes Word text h = absurd (false≢true h)
-kind_closes Int text h = absurd (false≢true h)
-kind_closes Text text h = absurd (false≢true h)
-kind_closes Line text h = absurd (false≢true h)
-kind_closes Note text h = absurd (false≢true h)
-kind_closes Kept text h = absurd (false≢true h)
+kind_closes _ text h = absurd (false≢true h)
 
 open_more : (opened : List ℕ) (text : List ℕ) (o : Opens text) → open_after_token opened text ≡ o.0 ∷ opened
 open_more opened text o = ap (open_after_token opened) o.1 ∙ ap (λ c. if c then o.0 ∷ opened else (if is_closing_bracket o.0 then tail opened else opened)) o.2

@@ -12,7 +12,7 @@ use Rattle.bz_token_laws.specs.Readable.{are_ended}
 use Rattle.bz_token_laws.proofs.Readable.{ended_join, stopped_at_ends}
 use Rattle.bz_token_laws.proofs.CloseTokens.{whole_stops}
 use Rattle.bz_tree.specs.declared.stmt.GroupKind.{GroupKind}
-use Rattle.bz_tree.specs.declared.stmt.GroupKind.TheVariants.{Call, RuleCall, Load, Paren, List as ListKind, Index, Dict, ListComp, DictComp}
+use Rattle.bz_tree.specs.declared.stmt.GroupKind.TheVariants.{Call, List as ListKind, Index, Dict, ListComp, DictComp}
 use Rattle.bz_tree.specs.Tree.{Item, leaf, group, Items, no_items, item, Segs, no_segs, seg, Statement, items_of}
 use Rattle.bz_layout.specs.declared.spacing.Edge.{Edge}
 use Rattle.bz_layout.specs.declared.spacing.Edge.TheVariants.{Start}
@@ -74,41 +74,28 @@ opening_ends kind after = stopped_at_ends Sign (opening kind) after (by kind aft
   where
     by : (kind : GroupKind) (after : List ℕ) → stops_at Sign (opening kind) after ≡ true
     by kind [] = refl
-    by Call (b ∷ bs) = whole_stops 40 b refl
-    by RuleCall (b ∷ bs) = whole_stops 40 b refl
-    by Load (b ∷ bs) = whole_stops 40 b refl
-    by Paren (b ∷ bs) = whole_stops 40 b refl
     by ListKind (b ∷ bs) = whole_stops 91 b refl
     by Index (b ∷ bs) = whole_stops 91 b refl
     by ListComp (b ∷ bs) = whole_stops 91 b refl
     by Dict (b ∷ bs) = whole_stops 123 b refl
     by DictComp (b ∷ bs) = whole_stops 123 b refl
+    by _ (b ∷ bs) = whole_stops 40 b refl
 
 closing_ends : (kind : GroupKind) (after : List ℕ) → ends Sign (closing kind) after ≡ true
 closing_ends kind after = stopped_at_ends Sign (closing kind) after (by kind after)
   where
     by : (kind : GroupKind) (after : List ℕ) → stops_at Sign (closing kind) after ≡ true
     by kind [] = refl
-    by Call (b ∷ bs) = whole_stops 41 b refl
-    by RuleCall (b ∷ bs) = whole_stops 41 b refl
-    by Load (b ∷ bs) = whole_stops 41 b refl
-    by Paren (b ∷ bs) = whole_stops 41 b refl
     by ListKind (b ∷ bs) = whole_stops 93 b refl
     by Index (b ∷ bs) = whole_stops 93 b refl
     by ListComp (b ∷ bs) = whole_stops 93 b refl
     by Dict (b ∷ bs) = whole_stops 125 b refl
     by DictComp (b ∷ bs) = whole_stops 125 b refl
+    by _ (b ∷ bs) = whole_stops 41 b refl
 
 closing_stops : (gap : Gap) (kind : GroupKind) (rest : List ℕ) → stops_all (before (piece Closed Sign (closing kind) ∷ []) rest) ≡ true
 closing_stops gap Call rest = refl
-closing_stops gap RuleCall rest = refl
-closing_stops gap Load rest = refl
-closing_stops gap Paren rest = refl
-closing_stops gap ListKind rest = refl
-closing_stops gap Index rest = refl
-closing_stops gap Dict rest = refl
-closing_stops gap ListComp rest = refl
-closing_stops gap DictComp rest = refl
+closing_stops gap _ rest = refl
 
 comma_ended : (b : Bool) (rest : List ℕ) → AreEnded (comma_if b) rest
 comma_ended true rest = one Closed Sign (codes ",") (comma_ends rest)

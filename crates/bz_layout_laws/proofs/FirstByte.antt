@@ -3,7 +3,7 @@ use Rattle.std.proofs.Common.{◌≡◌, ℕ, ◌==◌, ◌&&◌, not, None, Lis
 use Rattle.std.specs.Prelude.{codes, if◌then◌else◌}
 use Rattle.std.proofs.lemmas.Bool.{cases_Bool, and_parts, false≢true, eqb-true}
 use Rattle.bz_token.specs.declared.token.Kind.{Kind}
-use Rattle.bz_token.specs.declared.token.Kind.TheVariants.{Ident, Word, Int, Text, Sign, Line as LineKind, Note, Kept}
+use Rattle.bz_token.specs.declared.token.Kind.TheVariants.{Text, Sign, Line as LineKind}
 use Rattle.bz_token.specs.declared.cutter.block.Opener.TheVariants.{If}
 use Rattle.bz_token.specs.Blocks.{goes_on}
 use Rattle.bz_token.specs.Brackets.{is_line}
@@ -14,7 +14,7 @@ use Rattle.bz_token.specs.Reading.{bytes_of as bytes_read}
 use Rattle.bz_token.proofs.Stops.{token_ended}
 use Rattle.bz_token_laws.specs.Readable.{are_texts, are_ended}
 use Rattle.bz_tree.specs.declared.stmt.GroupKind.{GroupKind}
-use Rattle.bz_tree.specs.declared.stmt.GroupKind.TheVariants.{Call, RuleCall, Load, Paren, List as ListKind, Index, Dict, ListComp, DictComp}
+use Rattle.bz_tree.specs.declared.stmt.GroupKind.TheVariants.{Call}
 use Rattle.bz_tree.specs.Tree.{leaf, group, Items, no_items, item, Statement, items_of}
 use Rattle.bz_layout.specs.declared.spacing.Edge.TheVariants.{Start}
 use Rattle.bz_layout.specs.declared.spacing.Gap.TheVariants.{Closed}
@@ -39,24 +39,11 @@ begins_branch (item (group kind segs one_comma end) xs) = false
 -- a string that is spelled anew is none
 spelled_branch : (kind : Kind) (text : List ℕ) → is_branch text ≡ false → is_branch (respell kind text) ≡ false
 spelled_branch Text text h = elim (cases_Bool (is_single text)) [ inl hit ↦ rw hit refl | inr miss ↦ rw miss h ]
-spelled_branch Ident text h = h
-spelled_branch Word text h = h
-spelled_branch Int text h = h
-spelled_branch Sign text h = h
-spelled_branch LineKind text h = h
-spelled_branch Note text h = h
-spelled_branch Kept text h = h
+spelled_branch _ text h = h
 
 opening_branch : (kind : GroupKind) → is_branch (opening kind) ≡ false
 opening_branch Call = refl
-opening_branch RuleCall = refl
-opening_branch Load = refl
-opening_branch Paren = refl
-opening_branch ListKind = refl
-opening_branch Index = refl
-opening_branch Dict = refl
-opening_branch ListComp = refl
-opening_branch DictComp = refl
+opening_branch _ = refl
 
 -- pieces of which the first is another token
 first_piece : (kind : Kind) (text : List ℕ) (ps : List Piece) (rest : List ℕ) → is_line kind ≡ false → is_branch text ≡ false → are_texts (read_pieces (piece Closed kind text ∷ ps)) ≡ true

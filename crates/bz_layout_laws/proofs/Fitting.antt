@@ -89,14 +89,7 @@ fits_opening depth opened gap kind stands room = by kind
 
     by : (kind : GroupKind) → Fits depth opened (piece gap Sign (opening kind) ∷ []) (opener kind ∷ opened)
     by Call = record { fitting = fit; leaves = refl }
-    by RuleCall = record { fitting = fit; leaves = refl }
-    by Load = record { fitting = fit; leaves = refl }
-    by Paren = record { fitting = fit; leaves = refl }
-    by ListKind = record { fitting = fit; leaves = refl }
-    by Index = record { fitting = fit; leaves = refl }
-    by ListComp = record { fitting = fit; leaves = refl }
-    by Dict = record { fitting = fit; leaves = refl }
-    by DictComp = record { fitting = fit; leaves = refl }
+    by _ = record { fitting = fit; leaves = refl }
 
 fits_closing : (depth : ℕ) (opened : List ℕ) (gap : Gap) (kind : GroupKind) → is_gap true (gap_bytes gap) ≡ true → Fits depth (opener kind ∷ opened) (piece gap Sign (closing kind) ∷ []) opened
 fits_closing depth opened gap kind stands = by kind
@@ -106,14 +99,7 @@ fits_closing depth opened gap kind stands = by kind
 
     by : (kind : GroupKind) → Fits depth (opener kind ∷ opened) (piece gap Sign (closing kind) ∷ []) opened
     by Call = record { fitting = fit; leaves = refl }
-    by RuleCall = record { fitting = fit; leaves = refl }
-    by Load = record { fitting = fit; leaves = refl }
-    by Paren = record { fitting = fit; leaves = refl }
-    by ListKind = record { fitting = fit; leaves = refl }
-    by Index = record { fitting = fit; leaves = refl }
-    by ListComp = record { fitting = fit; leaves = refl }
-    by Dict = record { fitting = fit; leaves = refl }
-    by DictComp = record { fitting = fit; leaves = refl }
+    by _ = record { fitting = fit; leaves = refl }
 
 commas_fit : (depth : ℕ) (opened : List ℕ) (b : Bool) → Fits depth opened (comma_if b) opened
 commas_fit depth opened true = fits_comma depth opened

@@ -2,7 +2,7 @@
 use Rattle.std.proofs.Common.{◌≡◌, ℕ, ◌||◌, List, [], ◌∷◌, ◌++◌, map, Bool, true, false, Option, Some, None, refl, sym, ap, ◌∙◌}
 use Rattle.std.specs.Prelude.{if◌then◌else◌}
 use Rattle.std.proofs.lemmas.Bool.{false≢true}
-use Rattle.bz_token.specs.declared.token.Kind.TheVariants.{Ident, Word, Int, Text, Sign, Line as LineKind, Note, Kept}
+use Rattle.bz_token.specs.declared.token.Kind.TheVariants.{Text}
 use Rattle.bz_token.specs.Places.{Placed}
 use Rattle.bz_tree.specs.declared.kinds.Mark.{Mark}
 use Rattle.bz_tree.specs.declared.kinds.Mark.TheVariants.{Open, Close, Comma, Comment, NewLine, Plain}
@@ -49,25 +49,13 @@ owns_have_for false at b (elem (bracket shape opening inner closing) xs) h = own
 -- the spelling of strings plays no part
 comma_spelled : (x : Item) → is_comma (spelled x) ≡ is_comma x
 comma_spelled (group kind segs one_comma end) = refl
-comma_spelled (leaf Sign text) = refl
-comma_spelled (leaf Ident text) = refl
-comma_spelled (leaf Word text) = refl
-comma_spelled (leaf Int text) = refl
 comma_spelled (leaf Text text) = refl
-comma_spelled (leaf Kept text) = refl
-comma_spelled (leaf LineKind text) = refl
-comma_spelled (leaf Note text) = refl
+comma_spelled (leaf _ text) = refl
 
 for_spelled : (x : Item) → is_for_item (spelled x) ≡ is_for_item x
 for_spelled (group kind segs one_comma end) = refl
-for_spelled (leaf Sign text) = refl
-for_spelled (leaf Ident text) = refl
-for_spelled (leaf Word text) = refl
-for_spelled (leaf Int text) = refl
 for_spelled (leaf Text text) = refl
-for_spelled (leaf Kept text) = refl
-for_spelled (leaf LineKind text) = refl
-for_spelled (leaf Note text) = refl
+for_spelled (leaf _ text) = refl
 
 nodes_for_spelled : (xs : Items) → nodes_have_for (spelled_items xs) ≡ nodes_have_for xs
 nodes_for_spelled no_items = refl

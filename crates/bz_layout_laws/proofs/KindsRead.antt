@@ -4,7 +4,7 @@ use Rattle.std.specs.Prelude.{nat_le, if◌then◌else◌}
 use Rattle.std.proofs.lemmas.Bool.{false≢true, and_parts, eqb-true}
 use Rattle.bz_token.specs.Places.{Placed}
 use Rattle.bz_tree.specs.declared.stmt.GroupKind.{GroupKind}
-use Rattle.bz_tree.specs.declared.stmt.GroupKind.TheVariants.{Call, RuleCall, Load, Paren, List as ListKind, Index, Dict, ListComp, DictComp}
+use Rattle.bz_tree.specs.declared.stmt.GroupKind.TheVariants.{Paren}
 use Rattle.bz_tree.specs.declared.kinds.Mark.{Mark}
 use Rattle.bz_tree.specs.declared.kinds.Mark.TheVariants.{Open, Close, Comma, Comment, NewLine, Plain}
 use Rattle.bz_tree.specs.declared.kinds.Preceding.{Preceding}
@@ -125,14 +125,7 @@ counted (s ∷ ss) = ap suc (counted ss)
 
 paren_kind : (kind : GroupKind) → is_paren kind ≡ true → kind ≡ Paren
 paren_kind Paren h = refl
-paren_kind Call h = absurd (false≢true h)
-paren_kind RuleCall h = absurd (false≢true h)
-paren_kind Load h = absurd (false≢true h)
-paren_kind ListKind h = absurd (false≢true h)
-paren_kind Index h = absurd (false≢true h)
-paren_kind Dict h = absurd (false≢true h)
-paren_kind ListComp h = absurd (false≢true h)
-paren_kind DictComp h = absurd (false≢true h)
+paren_kind _ h = absurd (false≢true h)
 
 shape_read : (kind : GroupKind) (os : List Own) → HasShape kind (segs_of (inside (own_items (is_one kind) os)).segs) (is_paren kind && (length (inside (own_items (is_one kind) os)).segs == 1) && (inside (own_items (is_one kind) os)).trailing)
 shape_read kind os =

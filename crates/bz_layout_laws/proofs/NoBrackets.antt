@@ -46,13 +46,7 @@ is_sign_kind _ = false
 
 pub mark_starts : (kind : Kind) → is_sign_kind kind ≡ false → can_start kind mark ≡ true → ⊥
 mark_starts Sign none h = false≢true (sym none)
-mark_starts Ident none h = false≢true h
-mark_starts Word none h = false≢true h
-mark_starts Int none h = false≢true h
-mark_starts Text none h = false≢true h
-mark_starts Line none h = false≢true h
-mark_starts Note none h = false≢true h
-mark_starts Kept none h = false≢true h
+mark_starts _ none h = false≢true h
 
 -- only signs are brackets
 pub other_free : (kind : Kind) (text : List ℕ) → is_sign_kind kind ≡ false → is_text kind text ≡ true → is_free text ≡ true
@@ -99,10 +93,4 @@ leaf_free Kept text is leaf = other_free Kept text refl is
 
 pub leaf_line : (kind : Kind) (text : List ℕ) → is_leaf_mark (kind_mark kind text) ≡ true → is_line kind ≡ false
 leaf_line Line text leaf = absurd (false≢true leaf)
-leaf_line Sign text leaf = refl
-leaf_line Ident text leaf = refl
-leaf_line Word text leaf = refl
-leaf_line Int text leaf = refl
-leaf_line Text text leaf = refl
-leaf_line Note text leaf = refl
-leaf_line Kept text leaf = refl
+leaf_line _ text leaf = refl

@@ -4,7 +4,7 @@ use Rattle.std.specs.Prelude.{if◌then◌else◌}
 use Rattle.std.proofs.lemmas.Bool.{false≢true, and_parts}
 use Rattle.bz_token.specs.Places.{Placed}
 use Rattle.bz_tree.specs.declared.stmt.GroupKind.{GroupKind}
-use Rattle.bz_tree.specs.declared.stmt.GroupKind.TheVariants.{Call, RuleCall, Load, Paren, List as ListKind, Index, Dict, ListComp, DictComp}
+use Rattle.bz_tree.specs.declared.stmt.GroupKind.TheVariants.{Call, RuleCall}
 use Rattle.bz_tree.specs.declared.kinds.Shape.{Shape}
 use Rattle.bz_tree.specs.declared.kinds.Shape.TheVariants.{Round, Square, Curly}
 use Rattle.bz_tree.specs.declared.kinds.Preceding.{Preceding}
@@ -41,13 +41,7 @@ plain_same one b (x ∷ xs) h = λ i. plain_item b x h.1 i ∷ plain_same one (a
 call_kind : (kind : GroupKind) → is_call kind ≡ true → Call ≡ plain_kind kind
 call_kind Call h = refl
 call_kind RuleCall h = refl
-call_kind Load h = absurd (false≢true h)
-call_kind Paren h = absurd (false≢true h)
-call_kind ListKind h = absurd (false≢true h)
-call_kind Index h = absurd (false≢true h)
-call_kind Dict h = absurd (false≢true h)
-call_kind ListComp h = absurd (false≢true h)
-call_kind DictComp h = absurd (false≢true h)
+call_kind _ h = absurd (false≢true h)
 
 mutual
   plain_rule : (xs : List Item) → is_rule xs ≡ true → plain_calls (rule_call xs) ≡ plain_calls xs

@@ -4,7 +4,7 @@ use Rattle.std.specs.Prelude.{count_by}
 use Rattle.bz_token.specs.declared.token.Kind.TheVariants.{Sign}
 use Rattle.bz_token.specs.Places.{Placed}
 use Rattle.bz_tree.specs.declared.stmt.GroupKind.{GroupKind}
-use Rattle.bz_tree.specs.declared.stmt.GroupKind.TheVariants.{Call, RuleCall, Load, Paren, List as ListKind, Index, Dict, ListComp, DictComp}
+use Rattle.bz_tree.specs.declared.stmt.GroupKind.TheVariants.{Call}
 use Rattle.bz_tree.specs.declared.kinds.Shape.{Shape}
 use Rattle.bz_tree.specs.declared.kinds.Shape.TheVariants.{Round, Square, Curly}
 use Rattle.bz_tree.specs.declared.kinds.Mark.TheVariants.{Open, Close}
@@ -53,14 +53,7 @@ closes Curly b false = refl
 -- a closing bracket ends on its line
 flat_closing : (kind : GroupKind) (line : ℕ) → line ≡ line + count_by (λ b. b == 10) (closing kind)
 flat_closing Call line = omega (arith)
-flat_closing RuleCall line = omega (arith)
-flat_closing Load line = omega (arith)
-flat_closing Paren line = omega (arith)
-flat_closing ListKind line = omega (arith)
-flat_closing Index line = omega (arith)
-flat_closing Dict line = omega (arith)
-flat_closing ListComp line = omega (arith)
-flat_closing DictComp line = omega (arith)
+flat_closing _ line = omega (arith)
 
 spread : (o c : Lexeme) (inner ls tail : List Lexeme) → ((o ∷ (inner ++ c ∷ [])) ++ ls) ++ tail ≡ o ∷ (inner ++ (c ∷ (ls ++ tail)))
 spread o c inner ls tail = simp append_assoc

@@ -6,7 +6,7 @@ use Rattle.std.proofs.lemmas.Bool.{false≢true}
 use Rattle.std.proofs.lemmas.Bool.Decides.{nat_tests}
 use Rattle.std.proofs.lemmas.Slice.Eq.{bytes_eq-Decides}
 use Rattle.bz_token.specs.declared.token.Kind.{Kind}
-use Rattle.bz_token.specs.declared.token.Kind.TheVariants.{Ident, Word, Int, Text, Sign, Line as LineKind, Note, Kept}
+use Rattle.bz_token.specs.declared.token.Kind.TheVariants.{Text, Sign, Line as LineKind, Note}
 use Rattle.bz_token.specs.Places.{Placed}
 use Rattle.bz_tree.specs.declared.kinds.Shape.TheVariants.{Round, Square, Curly}
 use Rattle.bz_tree.specs.declared.kinds.Mark.{Mark}
@@ -126,14 +126,9 @@ record LeafOwn (one : Bool) (b : Preceding) (t : Placed) : Type 0 where
   agree : Agree (end_of_node line) (end_after t)
 
 pub no_aside : (kind : Kind) (text : List ℕ) → is_leaf_mark (kind_mark kind text) ≡ true → is_aside kind ≡ false
-no_aside Sign text h = refl
-no_aside Ident text h = refl
-no_aside Word text h = refl
-no_aside Int text h = refl
-no_aside Text text h = refl
-no_aside Kept text h = refl
 no_aside LineKind text h = absurd (false≢true h)
 no_aside Note text h = absurd (false≢true h)
+no_aside _ text h = refl
 
 skip : (b : Bool) (m r : Mark) → is_comma_mark m ≡ false → is_comma_mark (if b then m else r) ≡ true → is_comma_mark r ≡ true
 skip true m r none h = absurd (false≢true (sym none ∙ h))
@@ -152,13 +147,7 @@ comma_sign text h =
 
 pub comma_leaf : (kind : Kind) (text : List ℕ) → is_comma_mark (kind_mark kind text) ≡ true → (kind_after kind text ≡ Other) × (text ≡ codes ",")
 comma_leaf Sign text h = (refl, comma_sign text h)
-comma_leaf Ident text h = absurd (false≢true h)
-comma_leaf Word text h = absurd (false≢true h)
-comma_leaf Int text h = absurd (false≢true h)
-comma_leaf Text text h = absurd (false≢true h)
-comma_leaf Kept text h = absurd (false≢true h)
-comma_leaf LineKind text h = absurd (false≢true h)
-comma_leaf Note text h = absurd (false≢true h)
+comma_leaf _ text h = absurd (false≢true h)
 
 ends_there : (t : Placed) (line : ℕ) → is_aside t.kind ≡ false → line ≡ end_line t → Agree (end_of_node line) (end_after t)
 ends_there t line none e = subst (λ b. Agree (end_of_node line) (if b then None else Some (end_line t))) (sym none) (agree_node line (end_line t) e)
@@ -187,24 +176,12 @@ leaf_own one b t Comment e token single_is = absurd (false≢true token)
 leaf_own one b t NewLine e token single_is = absurd (false≢true token)
 
 pub same_mark : (kind : Kind) (text : List ℕ) → kind_mark kind (respell kind text) ≡ kind_mark kind text
-same_mark Sign text = refl
-same_mark Ident text = refl
-same_mark Word text = refl
-same_mark Int text = refl
 same_mark Text text = refl
-same_mark Kept text = refl
-same_mark LineKind text = refl
-same_mark Note text = refl
+same_mark _ text = refl
 
 pub same_after : (kind : Kind) (text : List ℕ) → kind_after kind (respell kind text) ≡ kind_after kind text
-same_after Sign text = refl
-same_after Ident text = refl
-same_after Word text = refl
-same_after Int text = refl
 same_after Text text = refl
-same_after Kept text = refl
-same_after LineKind text = refl
-same_after Note text = refl
+same_after _ text = refl
 
 pub read_leaf : (one : Bool) (b : Preceding) (kind : Kind) (text : List ℕ) (ls : List Lexeme) (es : List Entry) (tail : List Lexeme) → is_leaf_mark (kind_mark kind text) ≡ true → (is_comma_mark (kind_mark kind text) ≡ true → one ≡ true)
     → Reads one (kind_after kind text) ls es tail → Reads one b (lexeme kind (respell kind text) ∷ ls) (a_node (leaf kind (respell kind text)) ∷ es) tail

@@ -5,7 +5,7 @@ use Rattle.std.proofs.lemmas.Bool.{false≢true}
 use Rattle.std.proofs.lemmas.Bool.Decides.{nat_tests}
 use Rattle.bz_token.specs.declared.token.Kind.TheVariants.{Sign}
 use Rattle.bz_tree.specs.declared.stmt.GroupKind.{GroupKind}
-use Rattle.bz_tree.specs.declared.stmt.GroupKind.TheVariants.{Call, RuleCall, Load, Paren, List as ListKind, Index, Dict, ListComp, DictComp}
+use Rattle.bz_tree.specs.declared.stmt.GroupKind.TheVariants.{Index, ListComp, DictComp}
 use Rattle.bz_tree.specs.declared.kinds.Preceding.{Preceding}
 use Rattle.bz_tree.specs.declared.kinds.Preceding.TheVariants.{Other}
 use Rattle.bz_tree.specs.Brackets.{after_item}
@@ -91,12 +91,7 @@ no_commas : (kind : GroupKind) (one_comma : Bool) (n : ℕ) → is_one kind ≡ 
 no_commas ListComp one_comma n h = refl
 no_commas DictComp one_comma n h = refl
 no_commas Index one_comma n h = refl
-no_commas Call one_comma n h = absurd (false≢true h)
-no_commas RuleCall one_comma n h = absurd (false≢true h)
-no_commas Load one_comma n h = absurd (false≢true h)
-no_commas Paren one_comma n h = absurd (false≢true h)
-no_commas ListKind one_comma n h = absurd (false≢true h)
-no_commas Dict one_comma n h = absurd (false≢true h)
+no_commas _ one_comma n h = absurd (false≢true h)
 
 no_one_comma : (kind : GroupKind) (segs : Segs) (one_comma : Bool) → HasShape kind segs one_comma → is_one kind ≡ true → one_comma ≡ false
 no_one_comma kind segs false h one = refl

@@ -94,13 +94,7 @@ respelled_string text h = elim (cases_Bool (is_single text)) [
 
 pub respelled_text : (kind : Kind) (text : List ℕ) → is_text kind text ≡ true → is_text kind (respell kind text) ≡ true
 respelled_text Text text h = respelled_string text h
-respelled_text Ident text h = h
-respelled_text Word text h = h
-respelled_text Int text h = h
-respelled_text Sign text h = h
-respelled_text Line text h = h
-respelled_text Note text h = h
-respelled_text Kept text h = h
+respelled_text _ text h = h
 
 double_again : (inner : List ℕ) → respell Text (within 34 inner) ≡ within 34 inner
 double_again inner = refl
@@ -113,13 +107,7 @@ respelled_string_once text = elim (cases_Bool (is_single text)) [
 
 pub respelled_once : (kind : Kind) (text : List ℕ) → respell kind (respell kind text) ≡ respell kind text
 respelled_once Text text = respelled_string_once text
-respelled_once Ident text = refl
-respelled_once Word text = refl
-respelled_once Int text = refl
-respelled_once Sign text = refl
-respelled_once Line text = refl
-respelled_once Note text = refl
-respelled_once Kept text = refl
+respelled_once _ text = refl
 
 lines_within : (inner : List ℕ) → count_by (λ b. b == 10) (inner ++ 34 ∷ []) ≡ count_by (λ b. b == 10) (inner ++ 39 ∷ [])
 lines_within inner = newlines-append inner (34 ∷ []) ∙ sym (newlines-append inner (39 ∷ []))
@@ -141,10 +129,4 @@ respelled_lines Kept text = refl
 
 pub others_stand : (kind : Kind) (text : List ℕ) → is_string_kind kind ≡ false → respell kind text ≡ text
 others_stand Text text h = absurd (false≢true (sym h))
-others_stand Ident text h = refl
-others_stand Word text h = refl
-others_stand Int text h = refl
-others_stand Sign text h = refl
-others_stand Line text h = refl
-others_stand Note text h = refl
-others_stand Kept text h = refl
+others_stand _ text h = refl

@@ -4,7 +4,7 @@ use Rattle.std.specs.Prelude.{codes, Option, if◌then◌else◌}
 use Rattle.std.specs.Str.{bytes_eq}
 use Rattle.std.proofs.lemmas.Bool.{cases_Bool, or_cases, false≢true, eqb-true}
 use Rattle.bz_token.specs.declared.token.Kind.{Kind}
-use Rattle.bz_token.specs.declared.token.Kind.TheVariants.{Ident, Word, Int, Text, Sign, Line as LineKind, Note, Kept}
+use Rattle.bz_token.specs.declared.token.Kind.TheVariants.{Ident, Word, Int, Text, Sign}
 use Rattle.bz_token.specs.Lexical.{begins, is_text}
 use Rattle.bz_token.proofs.Classes.{mark, class_of, can_start, same_bytes, text_class}
 use Rattle.bz_tree.specs.declared.stmt.GroupKind.{GroupKind}
@@ -120,9 +120,7 @@ leaf_begins Ident text h is = other_begins Ident text refl is
 leaf_begins Word text h is = other_begins Word text refl is
 leaf_begins Int text h is = other_begins Int text refl is
 leaf_begins Text text h is = other_begins Text text refl is
-leaf_begins LineKind text h is = absurd (false≢true h)
-leaf_begins Note text h is = absurd (false≢true h)
-leaf_begins Kept text h is = absurd (false≢true h)
+leaf_begins _ text h is = absurd (false≢true h)
 
 pub stands_inside : (x : Item) → is_stray (token_role x) ≡ false → MayStandIn x
 stands_inside (leaf kind text) h = tt
@@ -155,13 +153,7 @@ sign_no_operand text =
 
 operand_rests : (x : Item) → is_operand (token_role x) ≡ true → (within : Option GroupKind) (left : Edge) → holds_on (edge_after within left x) ≡ false
 operand_rests (leaf Sign text) h within left = absurd (false≢true (sym (sign_no_operand text) ∙ h))
-operand_rests (leaf Ident text) h within left = refl
-operand_rests (leaf Word text) h within left = refl
-operand_rests (leaf Int text) h within left = refl
-operand_rests (leaf Text text) h within left = refl
-operand_rests (leaf LineKind text) h within left = refl
-operand_rests (leaf Note text) h within left = refl
-operand_rests (leaf Kept text) h within left = refl
+operand_rests (leaf _ text) h within left = refl
 operand_rests (group kind segs one_comma end) h within left = refl
 
 operand_apart : (r : Role) → is_operand r ≡ true → stands_apart r ≡ true

@@ -2,7 +2,7 @@
 use Rattle.std.proofs.Common.{◌≡◌, ℕ, ◌&&◌, ◌||◌, List, [], ◌∷◌, map, Bool, true, false, refl, sym, ap, ◌∙◌}
 use Rattle.std.specs.Prelude.{if◌then◌else◌}
 use Rattle.bz_token.specs.declared.token.Kind.{Kind}
-use Rattle.bz_token.specs.declared.token.Kind.TheVariants.{Ident, Word, Int, Text, Sign, Line as LineKind, Note, Kept}
+use Rattle.bz_token.specs.declared.token.Kind.TheVariants.{Text}
 use Rattle.bz_tree.specs.declared.stmt.Class.TheVariants.{Load, Assign, Rule, Other, Block}
 use Rattle.bz_tree.specs.Statement.{is_ident, is_dot, is_call, is_nothing, is_rule, is_rule_after, as_rule_call, rule_call, is_assign, has_assign, is_load_word, is_kept, class_of}
 use Rattle.bz_tree.specs.Tree.{Item, leaf, group}
@@ -11,46 +11,22 @@ use Rattle.bz_layout_laws.specs.Spelled.{spelled}
 
 kept_spelled : (x : Item) → is_kept (spelled x) ≡ is_kept x
 kept_spelled (group kind segs one_comma end) = refl
-kept_spelled (leaf Sign text) = refl
-kept_spelled (leaf Ident text) = refl
-kept_spelled (leaf Word text) = refl
-kept_spelled (leaf Int text) = refl
 kept_spelled (leaf Text text) = refl
-kept_spelled (leaf Kept text) = refl
-kept_spelled (leaf LineKind text) = refl
-kept_spelled (leaf Note text) = refl
+kept_spelled (leaf _ text) = refl
 
 pub load_spelled : (x : Item) → is_load_word (spelled x) ≡ is_load_word x
 load_spelled (group kind segs one_comma end) = refl
-load_spelled (leaf Sign text) = refl
-load_spelled (leaf Ident text) = refl
-load_spelled (leaf Word text) = refl
-load_spelled (leaf Int text) = refl
 load_spelled (leaf Text text) = refl
-load_spelled (leaf Kept text) = refl
-load_spelled (leaf LineKind text) = refl
-load_spelled (leaf Note text) = refl
+load_spelled (leaf _ text) = refl
 
 assign_spelled : (x : Item) → is_assign (spelled x) ≡ is_assign x
 assign_spelled (group kind segs one_comma end) = refl
-assign_spelled (leaf Sign text) = refl
-assign_spelled (leaf Ident text) = refl
-assign_spelled (leaf Word text) = refl
-assign_spelled (leaf Int text) = refl
 assign_spelled (leaf Text text) = refl
-assign_spelled (leaf Kept text) = refl
-assign_spelled (leaf LineKind text) = refl
-assign_spelled (leaf Note text) = refl
+assign_spelled (leaf _ text) = refl
 
 dot_spelled : (kind : Kind) (text : List ℕ) → is_dot kind (respell kind text) ≡ is_dot kind text
-dot_spelled Sign text = refl
-dot_spelled Ident text = refl
-dot_spelled Word text = refl
-dot_spelled Int text = refl
 dot_spelled Text text = refl
-dot_spelled Kept text = refl
-dot_spelled LineKind text = refl
-dot_spelled Note text = refl
+dot_spelled _ text = refl
 
 nothing_spelled : (xs : List Item) → is_nothing (map spelled xs) ≡ is_nothing xs
 nothing_spelled [] = refl

@@ -1,10 +1,10 @@
 -- Strings that are spelled as they are written are written so again.
 use Rattle.std.proofs.Common.{◌≡◌, ℕ, ◌+◌, List, [], ◌∷◌, Bool, true, false, Option, Some, map, refl, ap, ◌∙◌}
-use Rattle.bz_token.specs.declared.token.Kind.TheVariants.{Ident, Word, Int, Text, Sign, Line as LineKind, Note, Kept}
+use Rattle.bz_token.specs.declared.token.Kind.TheVariants.{Text}
 use Rattle.bz_tree.specs.declared.stmt.GroupKind.{GroupKind}
 use Rattle.bz_tree.specs.Tree.{Item, leaf, group, Items, no_items, item, Segs, no_segs, seg, Statement, items_of}
 use Rattle.bz_layout.specs.declared.spacing.Edge.{Edge}
-use Rattle.bz_layout.specs.declared.spacing.Edge.TheVariants.{Start, Joined, Dotted, Operator, Operand}
+use Rattle.bz_layout.specs.declared.spacing.Edge.TheVariants.{Start, Operator, Operand}
 use Rattle.bz_layout.specs.declared.spacing.Gap.{Gap}
 use Rattle.bz_layout.specs.declared.broken.Style.{Style}
 use Rattle.bz_layout.specs.Spacing.{closes_up, edge_after, gap_before}
@@ -16,33 +16,19 @@ use Rattle.bz_layout_laws.specs.Spelled.{spelled, spelled_items, spelled_segs, s
 use Rattle.bz_layout_laws.proofs.Respelled.{respelled_once}
 
 closes_spelled : (x : Item) → closes_up (spelled x) ≡ closes_up x
-closes_spelled (leaf Sign text) = refl
-closes_spelled (leaf Ident text) = refl
-closes_spelled (leaf Word text) = refl
-closes_spelled (leaf Int text) = refl
 closes_spelled (leaf Text text) = refl
-closes_spelled (leaf LineKind text) = refl
-closes_spelled (leaf Note text) = refl
-closes_spelled (leaf Kept text) = refl
+closes_spelled (leaf _ text) = refl
 closes_spelled (group kind segs one_comma end) = refl
 
 edge_spelled : (within : Option GroupKind) (left : Edge) (x : Item) → edge_after within left (spelled x) ≡ edge_after within left x
-edge_spelled within left (leaf Sign text) = refl
-edge_spelled within left (leaf Ident text) = refl
-edge_spelled within left (leaf Word text) = refl
-edge_spelled within left (leaf Int text) = refl
 edge_spelled within left (leaf Text text) = refl
-edge_spelled within left (leaf LineKind text) = refl
-edge_spelled within left (leaf Note text) = refl
-edge_spelled within left (leaf Kept text) = refl
+edge_spelled within left (leaf _ text) = refl
 edge_spelled within left (group kind segs one_comma end) = refl
 
 gap_spelled : (first : Gap) (left : Edge) (x : Item) → gap_before first left (spelled x) ≡ gap_before first left x
-gap_spelled first Start x = refl
-gap_spelled first Joined x = refl
-gap_spelled first Dotted x = refl
 gap_spelled first Operator x = rw (closes_spelled x) refl
 gap_spelled first Operand x = rw (closes_spelled x) refl
+gap_spelled first _ x = refl
 
 count_spelled : (ss : Segs) → count (spelled_segs ss) ≡ count ss
 count_spelled no_segs = refl

@@ -3,7 +3,7 @@ use Rattle.std.proofs.Common.{◌≡◌, ℕ, ◌==◌, ◌&&◌, List, [], ◌�
 use Rattle.std.specs.List.{list_all}
 use Rattle.std.proofs.lemmas.Bool.{cases_Bool, and_parts, eqb-false, ne_eqb}
 use Rattle.bz_token.specs.declared.token.Kind.{Kind}
-use Rattle.bz_token.specs.declared.token.Kind.TheVariants.{Ident, Word, Int, Text, Sign, Line, Note, Kept}
+use Rattle.bz_token.specs.declared.token.Kind.TheVariants.{Text}
 use Rattle.bz_command.specs.Values.{and_then, opening, value_of, value_at}
 use Rattle.bz_command.specs.private.ValueSteps.{first_len, inner_value, value_in}
 use Rattle.bz_command.proofs.Literals.{step}
@@ -82,10 +82,4 @@ string_value text = elim (cases_Bool (is_single text)) [
 
 pub respelled_value : (kind : Kind) (text : List ℕ) → value_at kind (respell kind text) ≡ value_at kind text
 respelled_value Text text = string_value text
-respelled_value Ident text = refl
-respelled_value Word text = refl
-respelled_value Int text = refl
-respelled_value Sign text = refl
-respelled_value Line text = refl
-respelled_value Note text = refl
-respelled_value Kept text = refl
+respelled_value _ text = refl

@@ -11,7 +11,7 @@ use Rattle.bz_token.proofs.Classes.{same_bytes, empty_no_text}
 use Rattle.bz_token.proofs.Stops.{sign_stops, plain_stops}
 use Rattle.bz_token_laws.proofs.Readable.{stopped_at_ends}
 use Rattle.bz_tree.specs.declared.stmt.GroupKind.{GroupKind}
-use Rattle.bz_tree.specs.declared.stmt.GroupKind.TheVariants.{Call, RuleCall, Load, Paren, List as ListKind, Index, Dict, ListComp, DictComp}
+use Rattle.bz_tree.specs.declared.stmt.GroupKind.TheVariants.{Call}
 use Rattle.bz_tree.specs.Tree.{Item, leaf, group}
 use Rattle.bz_layout.specs.declared.spacing.Edge.{Edge}
 use Rattle.bz_layout.specs.declared.spacing.Edge.TheVariants.{Start, Joined, Dotted, Operator, Operand}
@@ -68,11 +68,9 @@ ended_sign text [] is h = refl
 ended_sign text (b ∷ bs) is h = sign_stops text b is (not-true _ h)
 
 sign_by_edge : (e : Edge) (text after : List ℕ) → is_text Sign text ≡ true → may_stand e after ≡ true → ends Sign text after ≡ true
-sign_by_edge Start text after is h = ended_plain Sign text after is refl h
-sign_by_edge Operator text after is h = ended_plain Sign text after is refl h
-sign_by_edge Operand text after is h = ended_plain Sign text after is refl h
 sign_by_edge Joined text after is h = ended_sign text after is h
 sign_by_edge Dotted text after is h = ended_sign text after is h
+sign_by_edge _ text after is h = ended_plain Sign text after is refl h
 
 -- a leaf is ended by what may stand after it
 pub leaf_ended : (within : Option GroupKind) (left : Edge) (kind : Kind) (text : List ℕ) (after : List ℕ) → IsLegibleItem (leaf kind text) → may_stand (edge_after within left (leaf kind text)) after ≡ true
@@ -94,13 +92,7 @@ edge_started within left (leaf Sign text) = by (bytes_eq text (codes ".")) (is_p
     by true b = refl
     by false true = refl
     by false false = refl
-edge_started within left (leaf Word text) = refl
-edge_started within left (leaf Ident text) = refl
-edge_started within left (leaf Int text) = refl
-edge_started within left (leaf Text text) = refl
-edge_started within left (leaf LineKind text) = refl
-edge_started within left (leaf Note text) = refl
-edge_started within left (leaf Kept text) = refl
+edge_started within left (leaf _ text) = refl
 edge_started within left (group kind segs one_comma end) = refl
 
 -- the first byte of a token
@@ -110,13 +102,7 @@ begins_append p kind (b ∷ bs) more is = refl
 
 respelled_begins : (kind : Kind) (text : List ℕ) → begins is_later text ≡ false → begins is_later (respell kind text) ≡ false
 respelled_begins Text text h = elim (cases_Bool (is_single text)) [ inl hit ↦ rw hit refl | inr miss ↦ rw miss h ]
-respelled_begins Ident text h = h
-respelled_begins Word text h = h
-respelled_begins Int text h = h
-respelled_begins Sign text h = h
-respelled_begins LineKind text h = h
-respelled_begins Note text h = h
-respelled_begins Kept text h = h
+respelled_begins _ text h = h
 
 -- directly after what holds on to it
 leaf_held : (kind : Kind) (text more rest : List ℕ) → is_text kind text ≡ true → not (begins is_later text) ≡ true → not (begins is_later ((respell kind text ++ more) ++ rest)) ≡ true
@@ -131,25 +117,11 @@ leaf_held kind text more rest is h =
 
 group_held : (kind : GroupKind) (more rest : List ℕ) → not (begins is_later ((opening kind ++ more) ++ rest)) ≡ true
 group_held Call more rest = refl
-group_held RuleCall more rest = refl
-group_held Load more rest = refl
-group_held Paren more rest = refl
-group_held ListKind more rest = refl
-group_held Index more rest = refl
-group_held Dict more rest = refl
-group_held ListComp more rest = refl
-group_held DictComp more rest = refl
+group_held _ more rest = refl
 
 pub opening_stops : (kind : GroupKind) (more rest : List ℕ) → stops_all ((opening kind ++ more) ++ rest) ≡ true
 opening_stops Call more rest = refl
-opening_stops RuleCall more rest = refl
-opening_stops Load more rest = refl
-opening_stops Paren more rest = refl
-opening_stops ListKind more rest = refl
-opening_stops Index more rest = refl
-opening_stops Dict more rest = refl
-opening_stops ListComp more rest = refl
-opening_stops DictComp more rest = refl
+opening_stops _ more rest = refl
 
 -- a leaf that closes up begins with a mark
 mark_stops_all : (text more rest : List ℕ) → (bytes_eq text (codes ".") || bytes_eq text (codes ",") || bytes_eq text (codes ":")) ≡ true → stops_all ((text ++ more) ++ rest) ≡ true
@@ -163,13 +135,7 @@ mark_stops_all text more rest h = elim (or_cases (bytes_eq text (codes ".") || b
 
 closed_up : (kind : Kind) (text : List ℕ) (more rest : List ℕ) → closes_up (leaf kind text) ≡ true → stops_all ((respell kind text ++ more) ++ rest) ≡ true
 closed_up Sign text more rest h = mark_stops_all text more rest h
-closed_up Ident text more rest h = absurd (false≢true h)
-closed_up Word text more rest h = absurd (false≢true h)
-closed_up Int text more rest h = absurd (false≢true h)
-closed_up Text text more rest h = absurd (false≢true h)
-closed_up LineKind text more rest h = absurd (false≢true h)
-closed_up Note text more rest h = absurd (false≢true h)
-closed_up Kept text more rest h = absurd (false≢true h)
+closed_up _ text more rest h = absurd (false≢true h)
 
 abbrev spaced : Bool → Gap
 spaced c = if c then Closed else Space

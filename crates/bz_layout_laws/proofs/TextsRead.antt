@@ -5,7 +5,7 @@ use Rattle.std.specs.Str.{bytes_eq}
 use Rattle.std.specs.List.{list_all}
 use Rattle.std.proofs.lemmas.Bool.{false≢true, and_parts}
 use Rattle.bz_token.specs.declared.token.Kind.{Kind}
-use Rattle.bz_token.specs.declared.token.Kind.TheVariants.{Ident, Word, Int, Text, Sign, Line, Note, Kept}
+use Rattle.bz_token.specs.declared.token.Kind.TheVariants.{Sign, Note}
 use Rattle.bz_token.specs.Lexical.{is_text, is_comment}
 use Rattle.bz_token.specs.Places.{Placed}
 use Rattle.bz_token.specs.Reading.{AreTokensOf}
@@ -89,12 +89,7 @@ sign_comment text = by (bytes_eq text (codes "(")) (bytes_eq text (codes "[")) (
 pub note_text : (kind : Kind) (text : List ℕ) → kind_mark kind text ≡ Comment → is_text kind text ≡ true → is_comment text ≡ true
 note_text Note text e is = is
 note_text Sign text e is = absurd (false≢true (sym (sign_comment text) ∙ ap is_comment_mark e))
-note_text Line text e is = absurd (false≢true (ap is_comment_mark e))
-note_text Ident text e is = absurd (false≢true (ap is_comment_mark e))
-note_text Word text e is = absurd (false≢true (ap is_comment_mark e))
-note_text Int text e is = absurd (false≢true (ap is_comment_mark e))
-note_text Text text e is = absurd (false≢true (ap is_comment_mark e))
-note_text Kept text e is = absurd (false≢true (ap is_comment_mark e))
+note_text _ text e is = absurd (false≢true (ap is_comment_mark e))
 
 -- one more token
 more_texts : (one : Bool) (at : Last) (m : Mark) (t : Placed) (owns : List Own) → mark_of t ≡ m → is_single m ≡ true → is_token_text t ≡ true → ((last : Last) → Each HasText is_comment (entries_of last (own_items one owns)))

@@ -5,7 +5,7 @@ use Rattle.std.specs.List.{list_any}
 use Rattle.std.specs.Str.{bytes_eq}
 use Rattle.std.proofs.lemmas.Bool.{false≢true, and_parts, or_parts, or_cases}
 use Rattle.bz_token.specs.declared.token.Kind.{Kind}
-use Rattle.bz_token.specs.declared.token.Kind.TheVariants.{Ident, Word, Int, Text, Sign, Line as LineKind, Note, Kept}
+use Rattle.bz_token.specs.declared.token.Kind.TheVariants.{Sign, Line as LineKind, Note}
 use Rattle.bz_token.specs.Brackets.{is_line}
 use Rattle.bz_token.specs.Ends.{is_note}
 use Rattle.bz_token.specs.Places.{Placed}
@@ -48,23 +48,12 @@ no_line false false false false false false false = refl
 
 pub line_mark : (kind : Kind) (text : List ℕ) → is_line_mark (kind_mark kind text) ≡ is_line kind
 line_mark Sign text = no_line (bytes_eq text (codes "(")) (bytes_eq text (codes "[")) (bytes_eq text (codes "{")) (bytes_eq text (codes ")")) (bytes_eq text (codes "]")) (bytes_eq text (codes "}")) (bytes_eq text (codes ","))
-line_mark Ident text = refl
-line_mark Word text = refl
-line_mark Int text = refl
-line_mark Text text = refl
-line_mark Kept text = refl
-line_mark LineKind text = refl
-line_mark Note text = refl
+line_mark _ text = refl
 
 pub line_aside : (kind : Kind) → is_line kind ≡ true → is_aside kind ≡ true
 line_aside LineKind h = refl
 line_aside Note h = refl
-line_aside Sign h = h
-line_aside Ident h = h
-line_aside Word h = h
-line_aside Int h = h
-line_aside Text h = h
-line_aside Kept h = h
+line_aside _ h = h
 
 none_after : (t : Placed) → is_aside t.kind ≡ true → end_after t ≡ None
 none_after t h = ap (λ b. if b then None else Some (end_line t)) h

@@ -7,11 +7,11 @@ use Rattle.std.proofs.lemmas.Bool.{and_parts}
 use lib.Utf8.{low_scalar}
 use Rattle.std.proofs.lemmas.Str.{encode_ascii, IsUtf8-append, IsUtf8-past_char, IsUtf8-nil, is_utf8-from_IsUtf8, IsUtf8-from_is_utf8}
 use Rattle.bz_token.specs.declared.token.Kind.{Kind}
-use Rattle.bz_token.specs.declared.token.Kind.TheVariants.{Ident, Word, Int, Text, Sign, Line as LineKind, Note, Kept}
+use Rattle.bz_token.specs.declared.token.Kind.TheVariants.{Text, Sign, Line as LineKind, Note}
 use Rattle.bz_token.proofs.Classes.{same_bytes}
 use Rattle.bz_token_laws.proofs.Quiet.{both}
 use Rattle.bz_tree.specs.declared.stmt.GroupKind.{GroupKind}
-use Rattle.bz_tree.specs.declared.stmt.GroupKind.TheVariants.{Call, RuleCall, Load, Paren, List as ListKind, Index, Dict, ListComp, DictComp}
+use Rattle.bz_tree.specs.declared.stmt.GroupKind.TheVariants.{List as ListKind, Index, Dict, ListComp, DictComp}
 use Rattle.bz_tree.specs.Comments.{beside}
 use Rattle.bz_tree.specs.Tree.{Item, leaf, group, Items, no_items, item, Segs, no_segs, seg, Statement, items_of}
 use Rattle.bz_layout.specs.declared.spacing.Gap.{Gap}
@@ -60,38 +60,26 @@ respelled_utf8 Text text h = by (is_single text) refl
     by : (b : Bool) → is_single text ≡ b → is_utf8 (if b then 34 ∷ (content text ++ 34 ∷ []) else text) ≡ true
     by true single = is_utf8-from_IsUtf8 _ (single_utf8 text single (IsUtf8-from_is_utf8 text h))
     by false other = h
-respelled_utf8 Ident text h = h
-respelled_utf8 Word text h = h
-respelled_utf8 Int text h = h
-respelled_utf8 Sign text h = h
-respelled_utf8 LineKind text h = h
-respelled_utf8 Note text h = h
-respelled_utf8 Kept text h = h
+respelled_utf8 _ text h = h
 
 ascii_utf8 : (b : ℕ) → b < 128 → is_utf8 (b ∷ []) ≡ true
 ascii_utf8 b low = is_utf8-from_IsUtf8 (b ∷ []) (low_utf8 b low)
 
 opening_utf8 : (kind : GroupKind) → is_utf8 (opening kind) ≡ true
-opening_utf8 Call = ascii_utf8 40 (omega arith)
-opening_utf8 RuleCall = ascii_utf8 40 (omega arith)
-opening_utf8 Load = ascii_utf8 40 (omega arith)
-opening_utf8 Paren = ascii_utf8 40 (omega arith)
 opening_utf8 ListKind = ascii_utf8 91 (omega arith)
 opening_utf8 Index = ascii_utf8 91 (omega arith)
 opening_utf8 ListComp = ascii_utf8 91 (omega arith)
 opening_utf8 Dict = ascii_utf8 123 (omega arith)
 opening_utf8 DictComp = ascii_utf8 123 (omega arith)
+opening_utf8 _ = ascii_utf8 40 (omega arith)
 
 closing_utf8 : (kind : GroupKind) → is_utf8 (closing kind) ≡ true
-closing_utf8 Call = ascii_utf8 41 (omega arith)
-closing_utf8 RuleCall = ascii_utf8 41 (omega arith)
-closing_utf8 Load = ascii_utf8 41 (omega arith)
-closing_utf8 Paren = ascii_utf8 41 (omega arith)
 closing_utf8 ListKind = ascii_utf8 93 (omega arith)
 closing_utf8 Index = ascii_utf8 93 (omega arith)
 closing_utf8 ListComp = ascii_utf8 93 (omega arith)
 closing_utf8 Dict = ascii_utf8 125 (omega arith)
 closing_utf8 DictComp = ascii_utf8 125 (omega arith)
+closing_utf8 _ = ascii_utf8 41 (omega arith)
 
 comma_utf8 : (b : Bool) → AreUtf8 (comma_lexemes b)
 comma_utf8 true = one_utf8 (lexeme Sign (codes ",")) [] (ascii_utf8 44 (omega arith)) refl

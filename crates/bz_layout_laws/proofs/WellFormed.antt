@@ -2,7 +2,7 @@
 use Rattle.std.proofs.Common.{◌≡◌, ℕ, List, [], ◌∷◌, Bool, true, false, refl, sym, ap, ◌∙◌}
 use Rattle.std.specs.Prelude.{IsSome, if◌then◌else◌}
 use Rattle.std.proofs.lemmas.Bool.{false≢true}
-use Rattle.bz_token.specs.declared.token.Kind.TheVariants.{Ident, Word, Int, Text, Sign, Line as LineKind, Note, Kept}
+use Rattle.bz_token.specs.declared.token.Kind.TheVariants.{Kept}
 use Rattle.bz_token.specs.Places.{Placed}
 use Rattle.bz_token.specs.Reading.{AreTokensOf}
 use Rattle.bz_tree.specs.declared.stmt.Class.{Class}
@@ -60,13 +60,7 @@ is_block_class _ = false
 
 not_kept : (x : Item) → HasText x → is_kept x ≡ false
 not_kept (leaf Kept text) h = absurd (false≢true h.0)
-not_kept (leaf Ident text) h = refl
-not_kept (leaf Word text) h = refl
-not_kept (leaf Int text) h = refl
-not_kept (leaf Text text) h = refl
-not_kept (leaf Sign text) h = refl
-not_kept (leaf LineKind text) h = refl
-not_kept (leaf Note text) h = refl
+not_kept (leaf _ text) h = refl
 not_kept (group kind segs one_comma end) h = refl
 
 either_class : (b : Bool) (m r : Class) → is_block_class m ≡ false → is_block_class r ≡ false → is_block_class (if b then m else r) ≡ false

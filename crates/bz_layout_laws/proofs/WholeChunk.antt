@@ -4,7 +4,7 @@ use Rattle.std.specs.Prelude.{codes, is_some, if◌then◌else◌}
 use Rattle.std.proofs.lemmas.Bool.{cases_Bool, and_parts, false≢true}
 use Rattle.std.proofs.lemmas.List.{map-append}
 use Rattle.bz_token.specs.declared.token.Kind.{Kind}
-use Rattle.bz_token.specs.declared.token.Kind.TheVariants.{Ident, Word, Int, Text, Sign, Line as LineKind, Note, Kept}
+use Rattle.bz_token.specs.declared.token.Kind.TheVariants.{Text, Sign, Line as LineKind, Note}
 use Rattle.bz_token.specs.declared.cutter.block.Opener.{Opener}
 use Rattle.bz_token.specs.Blocks.{opener_of, opener}
 use Rattle.bz_token.specs.Brackets.{is_inside, is_line}
@@ -23,7 +23,7 @@ use Rattle.bz_token_laws.proofs.ChunkForms.{statement_chunk, comments_chunk}
 use Rattle.bz_token_laws.proofs.Readable.{laid_reading}
 use Rattle.bz_token_laws.proofs.TokenLines.{lines_are_lines, lines_of_join, one_line}
 use Rattle.bz_tree.specs.declared.stmt.GroupKind.{GroupKind}
-use Rattle.bz_tree.specs.declared.stmt.GroupKind.TheVariants.{Call, RuleCall, Load, Paren, List as ListKind, Index, Dict, ListComp, DictComp}
+use Rattle.bz_tree.specs.declared.stmt.GroupKind.TheVariants.{Call}
 use Rattle.bz_tree.specs.Tree.{leaf, group, Items, no_items, item, Statement, items_of}
 use Rattle.bz_layout.specs.declared.spacing.Edge.TheVariants.{Start}
 use Rattle.bz_layout.specs.declared.spacing.Gap.TheVariants.{Closed}
@@ -68,24 +68,11 @@ line_is_one s h =
 -- a word that is spelled anew begins no block
 spelled_opener : (kind : Kind) (text : List ℕ) → opener_of text ≡ None → opener_of (respell kind text) ≡ None
 spelled_opener Text text h = elim (cases_Bool (is_single text)) [ inl hit ↦ rw hit refl | inr miss ↦ rw miss h ]
-spelled_opener Ident text h = h
-spelled_opener Word text h = h
-spelled_opener Int text h = h
-spelled_opener Sign text h = h
-spelled_opener LineKind text h = h
-spelled_opener Note text h = h
-spelled_opener Kept text h = h
+spelled_opener _ text h = h
 
 opening_opener : (kind : GroupKind) → opener_of (opening kind) ≡ None
 opening_opener Call = refl
-opening_opener RuleCall = refl
-opening_opener Load = refl
-opening_opener Paren = refl
-opening_opener ListKind = refl
-opening_opener Index = refl
-opening_opener Dict = refl
-opening_opener ListComp = refl
-opening_opener DictComp = refl
+opening_opener _ = refl
 
 is_none : (o : Option Opener) → is_some o ≡ false → o ≡ None
 is_none None h = refl
@@ -103,13 +90,7 @@ first_piece kind text ps line note none texts ended =
 
 leaf_note : (kind : Kind) (text : List ℕ) → IsLegibleItem (leaf kind text) → is_note kind ≡ false
 leaf_note Note text h = absurd (false≢true h.1)
-leaf_note LineKind text h = refl
-leaf_note Sign text h = refl
-leaf_note Ident text h = refl
-leaf_note Word text h = refl
-leaf_note Int text h = refl
-leaf_note Text text h = refl
-leaf_note Kept text h = refl
+leaf_note _ text h = refl
 
 abbrev tail_of : List Piece → List Piece
 tail_of [] = []

@@ -5,7 +5,7 @@ use Rattle.std.proofs.lemmas.Bool.{cases_Bool, or_parts, false≢true, eqb-true}
 use Rattle.std.proofs.lemmas.Bool.Decides.{nat_tests}
 use Rattle.bz_token.specs.declared.token.Kind.TheVariants.{Sign, Note}
 use Rattle.bz_tree.specs.declared.stmt.GroupKind.{GroupKind}
-use Rattle.bz_tree.specs.declared.stmt.GroupKind.TheVariants.{Call, RuleCall, Load, Paren, List as ListKind, Index, Dict, ListComp, DictComp}
+use Rattle.bz_tree.specs.declared.stmt.GroupKind.TheVariants.{Paren, Index, ListComp, DictComp}
 use Rattle.bz_tree.specs.Brackets.{is_paren}
 use Rattle.bz_tree.specs.Owners.{Entry, a_node, a_comma, is_filled}
 use Rattle.bz_tree.specs.Tree.{group, Items, no_items, item, Segs, no_segs, seg, list_of, segments}
@@ -126,11 +126,7 @@ few Paren one_comma ss h none = less (count ss) (or_parts one_comma (nat_le 2 (c
   where
     less : (n : ℕ) → nat_le 2 n ≡ false → nat_le n 1 ≡ true
     less n h = grind (arith, nat_tests)
-few Call one_comma ss h none = absurd (false≢true (sym none))
-few RuleCall one_comma ss h none = absurd (false≢true (sym none))
-few Load one_comma ss h none = absurd (false≢true (sym none))
-few ListKind one_comma ss h none = absurd (false≢true (sym none))
-few Dict one_comma ss h none = absurd (false≢true (sym none))
+few _ one_comma ss h none = absurd (false≢true (sym none))
 
 ended_are : (kind : GroupKind) (one_comma : Bool) (ss : Segs) (end : List (List ℕ)) → HasShape kind ss one_comma → (c : Bool) → has_commas kind one_comma (count ss) ≡ c → ended_lexemes c ss ++ notes end ≡ entries_lexemes (written_entries c (segments ss) end)
 ended_are kind one_comma ss end h true e = ended_true ss end
@@ -197,11 +193,4 @@ comma_read kind segs true end h =
     let p = h.comma refl in
     subst (λ k. (is_paren k && (length (segments segs) == 1) && (has_last_comma k segs true end && is_filled (segments segs))) ≡ true) (sym p.0) (paren_comma segs end p.1)
 comma_read Paren segs false end h = paren_plain segs end
-comma_read Call segs false end h = refl
-comma_read RuleCall segs false end h = refl
-comma_read Load segs false end h = refl
-comma_read ListKind segs false end h = refl
-comma_read Index segs false end h = refl
-comma_read Dict segs false end h = refl
-comma_read ListComp segs false end h = refl
-comma_read DictComp segs false end h = refl
+comma_read _ segs false end h = refl
