@@ -1,18 +1,16 @@
 -- A block is read again from its text.
 use Rattle.std.proofs.Common.{◌≡◌, ℕ, suc, ◌==◌, List, [], ◌∷◌, ◌++◌, replicate, true, false, Some, None, IsSome, refl, sym, ap, subst, ◌∙◌, append-nil, append_assoc}
 use Rattle.std.specs.Prelude.{if◌then◌else◌}
-use Rattle.bz_token.specs.declared.token.Kind.TheVariants.{Kept}
 use Rattle.bz_token.specs.Places.{Placed, line_at, column_from, column_at}
 use Rattle.bz_token.specs.Reading.{Piece, bytes_of, tokens_of, AreTokensOf}
 use Rattle.bz_token.proofs.OneFault.{one_tokens}
 use Rattle.bz_token.proofs.Progress.{column_from-append, lines_of}
 use Rattle.bz_token_laws.proofs.Readable.{laid_tokens}
-use Rattle.bz_tree.specs.declared.stmt.Class.TheVariants.{Block}
 use Rattle.bz_tree.specs.Blocks.{above, is_block_word, block_indent, is_block, kept_statement, IsKeptText, IsBlockOf}
 use Rattle.bz_tree.specs.Brackets.{without_lines, end_line}
 use Rattle.bz_tree.specs.Chunk.{IsOneOf, IsChunkOf, IsReadAs, IsStatementIn, begins_block, indent_at, indent_fault}
 use Rattle.bz_tree.specs.Statement.{first_of, last_of, first_token, first_seen, last_seen}
-use Rattle.bz_tree.specs.Tree.{leaf, Statement}
+use Rattle.bz_tree.specs.Tree.{Statement}
 use Rattle.bz_tree.proofs.Sound.{none_is_some}
 use Rattle.bz_tree_laws.proofs.ChunkLaws.{chunk_same}
 use Rattle.bz_layout.specs.Layout.{layout_text}
@@ -77,14 +75,13 @@ block_again first second depth bytes s b texts more h =
     ap (λ o. indent_at o tokens) t.is_header ∙ ap (λ n. if n == 1 then (if is_block_word here then block_indent tokens else None) else Some here.line) column
     ∙ ap (λ w. if w then block_indent tokens else None) b.word ∙ indent in
     let notes : above tokens ≡ texts = above_lines second texts header (b.mid ++ replicate (suc more) newline) [] [] b.word in
-    let lineless_is : lineless (with_above texts s) ≡ record { before = texts; nodes = leaf Kept kept ∷ []; suffix = None; class = Block; start = 0; end = 0 } = ap (λ x. lineless (with_above texts x)) b.is in
     record {
       tokens = tokens;
       are = are;
       begins = begins;
       found = found;
       reads = record { upright = upright; some = some_seen tokens t.last t.is_last; chunk = subst (λ w. IsOneOf w second text tokens found) (sym begins) is };
-      same = ap (λ ns. record { before = ns; nodes = leaf Kept kept ∷ []; suffix = None; class = Block; start = 0; end = 0 }) notes ∙ sym lineless_is;
+      same = ap (λ ns. lineless (with_above ns found)) notes ∙ ap (λ x. lineless (with_above texts x)) (sym b.is);
     }
   where
     body_shown : (first second : ℕ) (a c over under : List ℕ) (header : Piece) (mid : List Piece) → column_at (a ++ []) ≡ column_at (c ++ header.gap) → all_shown (tokens_of second a over (close header ∷ mid)) ≡ all_shown (tokens_of first c under (header ∷ mid))

@@ -4,7 +4,7 @@ use Rattle.std.specs.Prelude.{codes, None}
 use Rattle.std.specs.List.{list_all, prefix_len}
 use Rattle.std.proofs.lemmas.Bool.{cases_Bool, false≢true, and_parts}
 use Rattle.bz_token.specs.declared.token.Kind.{Kind}
-use Rattle.bz_token.specs.declared.token.Kind.TheVariants.{Ident, Word, Int, Text, Sign, Line as LineKind, Note, Kept}
+use Rattle.bz_token.specs.declared.token.Kind.TheVariants.{Line as LineKind, Note}
 use Rattle.bz_token.specs.Brackets.{is_line, fits, open_after_token}
 use Rattle.bz_token.specs.Ends.{ends, stops_at}
 use Rattle.bz_token.specs.Lexical.{is_blank, is_newline, is_text}
@@ -44,13 +44,7 @@ stops_before kind text (b ∷ bs) after rest is h = h
 -- what ends a text ends it where a newline comes earlier
 ends_before : (kind : Kind) (text bytes after rest : List ℕ) → is_text kind text ≡ true → ends kind text (bytes ++ after) ≡ true → ends kind text (bytes ++ 10 ∷ rest) ≡ true
 ends_before Note text bytes after rest is h = note_before bytes after rest h
-ends_before Ident text bytes after rest is h = stops_before Ident text bytes after rest is h
-ends_before Word text bytes after rest is h = stops_before Word text bytes after rest is h
-ends_before Int text bytes after rest is h = stops_before Int text bytes after rest is h
-ends_before Text text bytes after rest is h = stops_before Text text bytes after rest is h
-ends_before Sign text bytes after rest is h = stops_before Sign text bytes after rest is h
-ends_before LineKind text bytes after rest is h = stops_before LineKind text bytes after rest is h
-ends_before Kept text bytes after rest is h = stops_before Kept text bytes after rest is h
+ends_before kind text bytes after rest is h = stops_before kind text bytes after rest is h
 
 ended_before : (ps : List Piece) (after rest : List ℕ) → are_texts ps ≡ true → are_ended ps after ≡ true → are_ended ps (10 ∷ rest) ≡ true
 ended_before [] after rest texts h = refl

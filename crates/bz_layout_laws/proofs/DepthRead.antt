@@ -8,7 +8,7 @@ use Rattle.std.proofs.lemmas.Bool.{false≢true, and_parts}
 use Rattle.std.proofs.lemmas.Bool.Decides.{nat_tests}
 use Rattle.std.proofs.lemmas.Slice.Eq.{bytes_eq-Decides}
 use Rattle.bz_token.specs.declared.token.Kind.{Kind}
-use Rattle.bz_token.specs.declared.token.Kind.TheVariants.{Ident, Word, Int, Text, Sign, Line, Note, Kept}
+use Rattle.bz_token.specs.declared.token.Kind.TheVariants.{Sign}
 use Rattle.bz_token.specs.Brackets.{is_inside, is_line as is_line_kind, is_opening_bracket, is_closing_bracket, bracket_fits, fits, open_after_token}
 use Rattle.bz_token.specs.Lexical.{is_text, is_comment}
 use Rattle.bz_token.specs.Places.{Placed, line_at}
@@ -70,13 +70,7 @@ sign_other text = by (bytes_eq text (codes "(")) (bytes_eq text (codes "[")) (by
 
 other_mark_free : (kind : Kind) (text : List ℕ) → is_other_mark (kind_mark kind text) ≡ true → is_text kind text ≡ true → is_free text ≡ true
 other_mark_free Sign text h is = sign_free text (sym (sign_other text) ∙ h)
-other_mark_free Ident text h is = other_free Ident text refl is
-other_mark_free Word text h is = other_free Word text refl is
-other_mark_free Int text h is = other_free Int text refl is
-other_mark_free Text text h is = other_free Text text refl is
-other_mark_free Line text h is = other_free Line text refl is
-other_mark_free Note text h is = other_free Note text refl is
-other_mark_free Kept text h is = other_free Kept text refl is
+other_mark_free kind text h is = other_free kind text refl is
 
 line_other : (m : Mark) → is_line m ≡ true → is_other_mark m ≡ true
 line_other NewLine h = refl

@@ -2,7 +2,7 @@
 use Rattle.std.proofs.Common.{◌≡◌, ℕ, ◌==◌, ◌||◌, List, [], ◌∷◌, Bool, true, false, not, refl, sym, ap, ◌∙◌, inl, inr}
 use Rattle.std.proofs.lemmas.Bool.{cases_Bool, or_cases, false≢true, eqb-true}
 use Rattle.bz_token.specs.declared.token.Kind.{Kind}
-use Rattle.bz_token.specs.declared.token.Kind.TheVariants.{Ident, Word, Int, Text, Sign, Line, Note, Kept}
+use Rattle.bz_token.specs.declared.token.Kind.TheVariants.{Text, Sign, Line, Note}
 use Rattle.bz_token.specs.Lexical.{is_text}
 use Rattle.bz_token.specs.Brackets.{is_opening_bracket, is_closing_bracket, is_line, fits, open_after_token}
 use Rattle.bz_token.proofs.Classes.{mark, can_start, text_class}
@@ -83,13 +83,10 @@ sign_free (b ∷ c ∷ bs) h = refl
 -- the token of a leaf, as it is spelled
 pub leaf_free : (kind : Kind) (text : List ℕ) → is_text kind (respell kind text) ≡ true → is_leaf_mark (kind_mark kind text) ≡ true → is_free (respell kind text) ≡ true
 leaf_free Sign text is leaf = sign_free text leaf
-leaf_free Ident text is leaf = other_free Ident text refl is
-leaf_free Word text is leaf = other_free Word text refl is
-leaf_free Int text is leaf = other_free Int text refl is
 leaf_free Text text is leaf = other_free Text (respell Text text) refl is
 leaf_free Line text is leaf = absurd (false≢true leaf)
 leaf_free Note text is leaf = absurd (false≢true leaf)
-leaf_free Kept text is leaf = other_free Kept text refl is
+leaf_free kind text is leaf = other_free kind text refl is
 
 pub leaf_line : (kind : Kind) (text : List ℕ) → is_leaf_mark (kind_mark kind text) ≡ true → is_line kind ≡ false
 leaf_line Line text leaf = absurd (false≢true leaf)

@@ -6,7 +6,7 @@ use Rattle.bz_token.specs.Places.{Placed}
 use Rattle.bz_token.specs.Reading.{AreTokensOf}
 use Rattle.bz_token.specs.declared.token.Kind.TheVariants.{Sign}
 use Rattle.bz_tree.specs.declared.stmt.GroupKind.{GroupKind}
-use Rattle.bz_tree.specs.declared.stmt.GroupKind.TheVariants.{Call, RuleCall, Load, Paren, List as ListKind, Index, Dict, ListComp, DictComp}
+use Rattle.bz_tree.specs.declared.stmt.GroupKind.TheVariants.{Call, RuleCall}
 use Rattle.bz_tree.specs.declared.stmt.Class.{Class}
 use Rattle.bz_tree.specs.declared.stmt.Class.TheVariants.{Load as LoadClass, Assign, Rule, Other as OtherClass, Block}
 use Rattle.bz_tree.specs.declared.kinds.Preceding.{Preceding}
@@ -54,14 +54,7 @@ top_reads b (group RuleCall segs one_comma end) ls es tail legible kinds next =
     (read_group true b Call segs one_comma end trailing ls es tail kinds.0 kinds.1 (have_nodes RuleCall segs legible.0) (comma_read RuleCall segs one_comma end shape)
     (λ after. segs_reads false RuleCall trailing segs end after legible.0 kinds.3 (few_segs RuleCall segs one_comma end shape))
     (λ after. segs_begin RuleCall trailing segs end (lexeme Sign (closing Call) ∷ after) legible.0 refl) next)
-top_reads b (group Call segs one_comma end) ls es tail legible kinds next = item_reads true b (group Call segs one_comma end) ls es tail legible (λ e. refl) kinds next
-top_reads b (group Load segs one_comma end) ls es tail legible kinds next = item_reads true b (group Load segs one_comma end) ls es tail legible (λ e. refl) kinds next
-top_reads b (group Paren segs one_comma end) ls es tail legible kinds next = item_reads true b (group Paren segs one_comma end) ls es tail legible (λ e. refl) kinds next
-top_reads b (group ListKind segs one_comma end) ls es tail legible kinds next = item_reads true b (group ListKind segs one_comma end) ls es tail legible (λ e. refl) kinds next
-top_reads b (group Index segs one_comma end) ls es tail legible kinds next = item_reads true b (group Index segs one_comma end) ls es tail legible (λ e. refl) kinds next
-top_reads b (group Dict segs one_comma end) ls es tail legible kinds next = item_reads true b (group Dict segs one_comma end) ls es tail legible (λ e. refl) kinds next
-top_reads b (group ListComp segs one_comma end) ls es tail legible kinds next = item_reads true b (group ListComp segs one_comma end) ls es tail legible (λ e. refl) kinds next
-top_reads b (group DictComp segs one_comma end) ls es tail legible kinds next = item_reads true b (group DictComp segs one_comma end) ls es tail legible (λ e. refl) kinds next
+top_reads b (group kind segs one_comma end) ls es tail legible kinds next = item_reads true b (group kind segs one_comma end) ls es tail legible (λ e. refl) kinds next
 
 after_plain : (x : Item) → after_item (plain_call x) ≡ after_item x
 after_plain (leaf kind text) = refl

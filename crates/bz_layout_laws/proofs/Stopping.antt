@@ -3,7 +3,7 @@ use Rattle.std.proofs.Common.{◌≡◌, ℕ, ◌&&◌, ◌||◌, List, [], ◌�
 use Rattle.std.specs.Prelude.{codes, bytes_eq, if◌then◌else◌}
 use Rattle.std.proofs.lemmas.Bool.{cases_Bool, and_parts, or_cases, not-true, false≢true, eqb-true}
 use Rattle.bz_token.specs.declared.token.Kind.{Kind}
-use Rattle.bz_token.specs.declared.token.Kind.TheVariants.{Ident, Word, Int, Text, Sign, Line as LineKind, Note, Kept}
+use Rattle.bz_token.specs.declared.token.Kind.TheVariants.{Text, Sign, Line as LineKind, Note, Kept}
 use Rattle.bz_token.specs.Pieces.{is_quote}
 use Rattle.bz_token.specs.Lexical.{begins, is_newline, is_text, is_word_byte}
 use Rattle.bz_token.specs.Ends.{is_note, stops_at, ends}
@@ -76,13 +76,11 @@ sign_by_edge _ text after is h = ended_plain Sign text after is refl h
 pub leaf_ended : (within : Option GroupKind) (left : Edge) (kind : Kind) (text : List ℕ) (after : List ℕ) → IsLegibleItem (leaf kind text) → may_stand (edge_after within left (leaf kind text)) after ≡ true
     → ends kind (respell kind text) after ≡ true
 leaf_ended within left Sign text after h stands = sign_by_edge (edge_after within left (leaf Sign text)) text after h.0 stands
-leaf_ended within left Ident text after h stands = ended_plain Ident text after h.0 refl stands
-leaf_ended within left Word text after h stands = ended_plain Word text after h.0 refl stands
-leaf_ended within left Int text after h stands = ended_plain Int text after h.0 refl stands
 leaf_ended within left Text text after h stands = ended_plain Text (respell Text text) after (respelled_text Text text h.0) refl stands
 leaf_ended within left LineKind text after h stands = absurd (false≢true h.1)
 leaf_ended within left Note text after h stands = absurd (false≢true h.1)
 leaf_ended within left Kept text after h stands = absurd (false≢true h.0)
+leaf_ended within left kind text after h stands = ended_plain kind text after h.0 refl stands
 
 -- what is after a node is no start
 pub edge_started : (within : Option GroupKind) (left : Edge) (x : Item) → is_start (edge_after within left x) ≡ false
