@@ -4,7 +4,7 @@ use Rattle.std.specs.Prelude.{codes, is_some}
 use Rattle.std.specs.Str.{bytes_eq}
 use Rattle.std.proofs.lemmas.Bool.{cases_Bool, false≢true}
 use Rattle.bz_token.specs.declared.token.Kind.{Kind}
-use Rattle.bz_token.specs.declared.token.Kind.TheVariants.{Ident, Word, Int, Text, Sign, Line as LineKind, Note, Kept}
+use Rattle.bz_token.specs.declared.token.Kind.TheVariants.{Word, Text}
 use Rattle.bz_token.specs.Blocks.{opener_of}
 use Rattle.bz_token.specs.Lexical.{is_text, keywords, signs}
 use Rattle.bz_token.proofs.Classes.{same_bytes}
@@ -40,14 +40,8 @@ is_leading kind text = is_text kind text && leads (leaf_role kind text)
 
 none_leads : (kind : Kind) → (is_leading kind (codes "def") || is_leading kind (codes "for") || is_leading kind (codes "if")) ≡ false
 unfolding keywords signs
-none_leads Ident = refl
-none_leads Word = refl
-none_leads Int = refl
 none_leads Text = refl
-none_leads Sign = refl
-none_leads LineKind = refl
-none_leads Note = refl
-none_leads Kept = refl
+none_leads _ = refl
 
 none_of_three : (a b c : Bool) → (a || b || c) ≡ false → (a ≡ false) × (b ≡ false) × (c ≡ false)
 none_of_three true b c h = absurd (false≢true (sym h))

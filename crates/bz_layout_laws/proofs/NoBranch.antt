@@ -3,7 +3,7 @@ use Rattle.std.proofs.Common.{◌≡◌, ℕ, ◌||◌, List, true, false, refl,
 use Rattle.std.specs.Prelude.{codes}
 use Rattle.std.proofs.lemmas.Bool.{false≢true, or_parts}
 use Rattle.bz_token.specs.declared.token.Kind.{Kind}
-use Rattle.bz_token.specs.declared.token.Kind.TheVariants.{Ident, Word, Int, Text, Sign, Line as LineKind, Note, Kept}
+use Rattle.bz_token.specs.declared.token.Kind.TheVariants.{Word, Text}
 use Rattle.bz_token.specs.Lexical.{is_text, keywords, signs}
 use Rattle.bz_token.proofs.Classes.{same_bytes}
 use Rattle.bz_tree.specs.Grammar.{IsLoad, load, IsStatement, comments, load_statement, expression, assignment}
@@ -17,14 +17,8 @@ use Rattle.bz_layout_laws.proofs.NoBlock.{begins_operand, is_leading, other_text
 -- no operand and no prefix is one
 none_leads : (kind : Kind) → (is_leading kind (codes "elif") || is_leading kind (codes "else")) ≡ false
 unfolding keywords signs
-none_leads Ident = refl
-none_leads Word = refl
-none_leads Int = refl
 none_leads Text = refl
-none_leads Sign = refl
-none_leads LineKind = refl
-none_leads Note = refl
-none_leads Kept = refl
+none_leads _ = refl
 
 leading_no_branch : (kind : Kind) (text : List ℕ) → is_leading kind text ≡ true → is_branch text ≡ false
 leading_no_branch kind text is =

@@ -5,7 +5,7 @@ use Rattle.std.specs.List.{list_all}
 use Rattle.std.specs.Str.{bytes_eq}
 use Rattle.std.proofs.lemmas.Bool.{cases_Bool, and_parts, not-true, false≢true}
 use Rattle.bz_token.specs.declared.token.Kind.{Kind}
-use Rattle.bz_token.specs.declared.token.Kind.TheVariants.{Ident, Word, Int, Text, Sign, Line, Note, Kept}
+use Rattle.bz_token.specs.declared.token.Kind.TheVariants.{Text}
 use Rattle.bz_token.specs.declared.scan_string.Quotes.{Quotes}
 use Rattle.bz_token.specs.declared.scan_string.Opening.{Opening}
 use Rattle.bz_token.specs.declared.scan_string.Escape.TheVariants.{Unescaped, AfterBackslash}
@@ -119,13 +119,7 @@ respelled_lines Text text = elim (cases_Bool (is_single text)) [
       let p = single_parts text hit in
       rw hit (lines_within (content text) ∙ ap (count_by (λ b. b == 10)) (sym p.0))
 ]
-respelled_lines Ident text = refl
-respelled_lines Word text = refl
-respelled_lines Int text = refl
-respelled_lines Sign text = refl
-respelled_lines Line text = refl
-respelled_lines Note text = refl
-respelled_lines Kept text = refl
+respelled_lines _ text = refl
 
 pub others_stand : (kind : Kind) (text : List ℕ) → is_string_kind kind ≡ false → respell kind text ≡ text
 others_stand Text text h = absurd (false≢true (sym h))

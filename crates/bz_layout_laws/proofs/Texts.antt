@@ -8,7 +8,7 @@ use Rattle.bz_token.specs.declared.token.Kind.TheVariants.{Sign, Line as LineKin
 use Rattle.bz_token.specs.Lexical.{signs, is_text, is_comment}
 use Rattle.bz_token_laws.specs.Readable.{are_texts}
 use Rattle.bz_tree.specs.declared.stmt.GroupKind.{GroupKind}
-use Rattle.bz_tree.specs.declared.stmt.GroupKind.TheVariants.{Call, RuleCall, Load, Paren, List as ListKind, Index, Dict, ListComp, DictComp}
+use Rattle.bz_tree.specs.declared.stmt.GroupKind.TheVariants.{Call}
 use Rattle.bz_tree.specs.Comments.{beside}
 use Rattle.bz_tree.specs.Tree.{Item, leaf, group, Items, no_items, item, Segs, no_segs, seg, Statement, items_of}
 use Rattle.bz_layout.specs.declared.spacing.Edge.{Edge}
@@ -62,26 +62,12 @@ comma_text = refl
 pub opening_text : (kind : GroupKind) → is_text Sign (opening kind) ≡ true
 unfolding signs
 opening_text Call = refl
-opening_text RuleCall = refl
-opening_text Load = refl
-opening_text Paren = refl
-opening_text ListKind = refl
-opening_text Index = refl
-opening_text Dict = refl
-opening_text ListComp = refl
-opening_text DictComp = refl
+opening_text _ = refl
 
 pub closing_text : (kind : GroupKind) → is_text Sign (closing kind) ≡ true
 unfolding signs
 closing_text Call = refl
-closing_text RuleCall = refl
-closing_text Load = refl
-closing_text Paren = refl
-closing_text ListKind = refl
-closing_text Index = refl
-closing_text Dict = refl
-closing_text ListComp = refl
-closing_text DictComp = refl
+closing_text _ = refl
 
 comma_whole : (b : Bool) → AreWhole (comma_if b)
 comma_whole true = whole_piece Closed Sign (codes ",") comma_text
