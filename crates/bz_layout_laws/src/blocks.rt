@@ -19,7 +19,7 @@ pub fn a_block_is_known_by_its_class()
 {}
 
 /// A block that was read is read again from its text, whatever comments are put above it and however many newlines
-/// follow the text: as it is, with these comments and but for its lines, and as nothing else.
+/// follow the text: as it is but for its lines, with these comments, and as nothing else.
 pub fn a_block_is_read_again()
     ensures some { (first second depth newlines : ℕ) (bytes : List ℕ) (s : Statement) (comments : List (List ℕ))
         → IsBlockIn first depth bytes s → AreComments comments

@@ -26,8 +26,8 @@ pub fn a_block_is_read_back_in_a_file()
 {}
 
 /// The text of statements, each of which is read back, one after another with an empty line between some, has the
-/// chunks of the statements and no others. These are read as the statements, with their strings as they are spelled
-/// and but for their lines, and as no others; and those are written as the same text.
+/// chunks of the statements and no others. These are read as the statements but for their lines, with their strings as
+/// they are spelled, and as no others; and those are written as the same text.
 pub fn a_file_is_read_again()
     ensures chunks { (depth : ℕ) (ss : List Statement) → AllByRecursion (IsReadBack depth) ss
         → chunks (text_from None ss) ≡ chunks_from ss }

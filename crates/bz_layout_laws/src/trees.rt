@@ -17,8 +17,8 @@ ghost use Rattle.bz_layout_laws.specs.Lineless.{lineless};
 ghost use Rattle.bz_layout_laws.specs.WellFormed.{IsWellFormed};
 
 /// The text of a legible statement whose kinds are those that parsing gives is read back: its tokens have a tree, and
-/// that is the tree of the statement with its strings as they are spelled, but for its lines. They have no other, and it
-/// is written as the same text.
+/// that is the tree of the statement with its strings as they are spelled; its lines alone are others. They have no
+/// other tree, and it is written as the same text.
 pub fn a_statement_reads_back()
     ensures some { (first depth : ℕ) (s : Statement) (tokens : List Placed) → IsLegible s → IsParsed s
         → depth_of s ≤ depth → AreTokensOf first depth (layout_text s) tokens
@@ -34,8 +34,8 @@ pub fn the_grammar_stays()
         → IsStatement (items_of t.nodes) }
 {}
 
-/// So `bz_tree::parse` reads the text of a well-formed statement as the statement, with its strings as they are spelled
-/// and but for its lines, and as nothing else.
+/// So `bz_tree::parse` reads the text of a well-formed statement as the statement but for its lines, with its strings as
+/// they are spelled, and as nothing else.
 pub fn a_statement_is_parsed_again()
     ensures some { (first depth : ℕ) (s : Statement) → IsWellFormed depth s
         → (t : Statement) × IsStatementIn first depth (layout_text s) t
