@@ -5,10 +5,11 @@ use Rattle.std.proofs.lemmas.Bool.{cases_Bool, false≢true}
 use Rattle.bz_token.specs.declared.token.Kind.TheVariants.{Ident, Word, Sign}
 use Rattle.bz_token.specs.Lexical.{is_text}
 use Rattle.bz_token.proofs.Classes.{same_bytes}
-use Rattle.bz_tree.specs.Tree.{Item, leaf, group, Items, no_items, item, Place, Segment, items_of, segs_of}
+use Rattle.bz_tree.specs.Tree.{Item, leaf, group, Items, no_items, item, Segment, items_of, segs_of}
 use Rattle.bz_tree.specs.Brackets.{is_for_item}
+use Rattle.bz_tree.specs.Comments.{beside}
 use Rattle.bz_tree.specs.Grammar.{IsTest, IsArg, positional, keyword, starred, word_role}
-use Rattle.bz_layout_laws.specs.Legible.{items_depth}
+use Rattle.bz_layout_laws.specs.Legible.{AreComments, items_depth}
 use Rattle.bz_layout_laws.specs.Parsed.{is_comma, nodes_have_for, have_for}
 use Rattle.bz_attribute.specs.Rules.{ident_of, is_sign, name_of, value}
 use Rattle.bz_attribute.specs.Lists.{is_attribute, with_value}
@@ -38,23 +39,21 @@ no_for depth [] h = refl
 no_for depth (s ∷ ss) h = inner_have (items_of s.nodes) (test_inner h.0.form)
 
 -- the nodes of a named argument
-abbrev pub named : List ℕ → Place → Place → List Item → List Item
-named name place sign_place nodes = leaf Ident name ∷ leaf Sign (codes "=") ∷ nodes
+abbrev pub named : List ℕ → List Item → List Item
+named name nodes = leaf Ident name ∷ leaf Sign (codes "=") ∷ nodes
 
 pub record HasName (nodes : List Item) : Type 0 where
   pub name : List ℕ
-  pub place : Place
-  pub sign_place : Place
-  pub are : nodes ≡ named name place sign_place (drop 2 nodes)
+  pub are : nodes ≡ named name (drop 2 nodes)
 
-pub sign_is : (sign : List ℕ) (x : Item) → is_sign sign x ≡ true → (place : Place) × (x ≡ leaf Sign sign)
+pub sign_is : (sign : List ℕ) (x : Item) → is_sign sign x ≡ true → x ≡ leaf Sign sign
 sign_is sign (group kind segs one_comma end) h = absurd (false≢true h)
-sign_is sign (leaf Sign bytes) h = (place, ap (λ bs. leaf Sign bs) (same_bytes bytes sign h))
+sign_is sign (leaf Sign bytes) h = ap (λ bs. leaf Sign bs) (same_bytes bytes sign h)
 sign_is sign (leaf _ bytes) h = absurd (false≢true h)
 
-ident_is : (x : Item) → is_some (ident_of x) ≡ true → (name : List ℕ) × (place : Place) × (x ≡ leaf Ident name)
+ident_is : (x : Item) → is_some (ident_of x) ≡ true → (name : List ℕ) × (x ≡ leaf Ident name)
 ident_is (group kind segs one_comma end) h = absurd (false≢true h)
-ident_is (leaf Ident bytes) h = (bytes, place, refl)
+ident_is (leaf Ident bytes) h = (bytes, refl)
 ident_is (leaf _ bytes) h = absurd (false≢true h)
 
 name_parts : (b : Bool) (o : Option (List ℕ)) → is_some (if b then o else None) ≡ true → (b ≡ true) × (is_some o ≡ true)
@@ -68,58 +67,47 @@ has_name (x ∷ y ∷ nodes) h =
     let p = name_parts (is_sign (codes "=") y) (ident_of x) h in
     let n = ident_is x p.1 in
     let e = sign_is (codes "=") y p.0 in
-    record { name = n.0; place = n.1; sign_place = e.0; are = λ i. n.2 i ∷ e.1 i ∷ nodes }
+    record { name = n.0; are = λ i. n.1 i ∷ e i ∷ nodes }
 
 -- a value: nodes that are a test
 pub record IsValue (depth : ℕ) (nodes : List Item) : Type 0 where
   pub nodes_are : AreNodes depth nodes
   pub test : IsTest (items_of nodes)
 
-named_test : (name : List ℕ) (place sign_place : Place) (xs : Items) → IsArg (item (leaf Ident name) (item (leaf Sign (codes "=")) xs)) → IsTest xs
-named_test name place sign_place xs (positional h) = absurd (false≢true (test_inner h).1.0)
-named_test name place sign_place xs (keyword n e h) = h
-named_test name place sign_place xs (starred s h) = absurd (false≢true s)
-
-value_in_named : (depth : ℕ) (name : List ℕ) (place sign_place : Place) (nodes : List Item) → AreNodes depth (named name place sign_place nodes) → IsArg (items_of (named name place sign_place nodes)) → IsValue depth nodes
-value_in_named depth name place sign_place nodes h k =
-    let fits : items_depth (items_of (named name place sign_place nodes)) ≤ depth = h.depth_fits in
-    record {
-      nodes_are = record { texts = h.texts.1.1; kinds = h.kinds.2.2; depth_fits = omega arith };
-      test = named_test name place sign_place (items_of nodes) k;
-    }
-
-pub named_nodes : (depth : ℕ) (name : List ℕ) (place sign_place : Place) (nodes : List Item) → is_text Ident name ≡ true → AreNodes depth nodes → AreNodes depth (named name place sign_place nodes)
-named_nodes depth name place sign_place nodes n h =
-    let fits : items_depth (items_of nodes) ≤ depth = h.depth_fits in
-    record {
-      texts = ((n, refl), ((equals_text, refl), h.texts));
-      kinds = (λ e. e, tt, (λ e. e, tt, h.kinds));
-      depth_fits = omega arith;
-    }
-
-pub named_argument : (name : List ℕ) (place sign_place : Place) (nodes : List Item) → IsTest (items_of nodes) → IsArg (items_of (named name place sign_place nodes))
-named_argument name place sign_place nodes h = keyword refl refl h
-
-name_text : (depth : ℕ) (name : List ℕ) (place sign_place : Place) (nodes : List Item) → AreNodes depth (named name place sign_place nodes) → is_text Ident name ≡ true
-name_text depth name place sign_place nodes h = h.texts.0.0
+named_test : (name : List ℕ) (nodes : List Item) → IsArg (items_of (named name nodes)) → IsTest (items_of nodes)
+named_test name nodes (positional h) = absurd (false≢true (test_inner h).1.0)
+named_test name nodes (keyword n e h) = h
+named_test name nodes (starred s h) = absurd (false≢true s)
 
 pub good_value : (depth : ℕ) (a : Segment) → is_attribute a ≡ true → IsFormed IsArg depth a → IsValue depth (value a)
 good_value depth a h good =
     let n = has_name a.nodes h in
-    value_in_named depth n.name n.place n.sign_place (value a) (subst (AreNodes depth) n.are good.nodes) (subst (λ (nodes : List Item). IsArg (items_of nodes)) n.are good.form)
+    let all = subst (AreNodes depth) n.are good.nodes in
+    let fits : items_depth (items_of (named n.name (value a))) ≤ depth = all.depth_fits in
+    record {
+      nodes_are = record { texts = all.texts.1.1; kinds = all.kinds.2.2; depth_fits = omega arith };
+      test = named_test n.name (value a) (subst (λ (nodes : List Item). IsArg (items_of nodes)) n.are good.form);
+    }
+
+-- a name and a value with comments
+pub named_good : (depth : ℕ) (name : List ℕ) (nodes : List Item) (a : Segment) → AreComments a.before → AreComments (beside a.suffix) → a.nodes ≡ named name nodes → is_text Ident name ≡ true → IsValue depth nodes → IsFormed IsArg depth a
+named_good depth name nodes a before suffix are n v =
+    let fits : items_depth (items_of nodes) ≤ depth = v.nodes_are.depth_fits in
+    let all : AreNodes depth (named name nodes) = record {
+      texts = ((n, refl), ((equals_text, refl), v.nodes_are.texts));
+      kinds = (λ e. e, tt, (λ e. e, tt, v.nodes_are.kinds));
+      depth_fits = omega arith;
+    } in
+    record {
+      before = before;
+      suffix = suffix;
+      nodes = subst (AreNodes depth) (sym are) all;
+      form = subst (λ (xs : List Item). IsArg (items_of xs)) (sym are) (keyword refl refl v.test);
+    }
 
 -- with another value
-put : (nodes others : List Item) (n : HasName nodes) → take 2 nodes ++ others ≡ named n.name n.place n.sign_place others
-put nodes others n = ap (λ (xs : List Item). take 2 xs ++ others) n.are
-
 pub good_with : (depth : ℕ) (nodes : List Item) (a : Segment) → is_attribute a ≡ true → IsFormed IsArg depth a → IsValue depth nodes → IsFormed IsArg depth (with_value nodes a)
 good_with depth nodes a h good v =
     let n = has_name a.nodes h in
     let was = subst (AreNodes depth) n.are good.nodes in
-    let are = put a.nodes nodes n in
-    record {
-      before = good.before;
-      suffix = good.suffix;
-      nodes = subst (AreNodes depth) (sym are) (named_nodes depth n.name n.place n.sign_place nodes (name_text depth n.name n.place n.sign_place (value a) was) v.nodes_are);
-      form = subst (λ (xs : List Item). IsArg (items_of xs)) (sym are) (named_argument n.name n.place n.sign_place nodes v.test);
-    }
+    named_good depth n.name nodes (with_value nodes a) good.before good.suffix (ap (λ (xs : List Item). take 2 xs ++ nodes) n.are) was.texts.0.0 v

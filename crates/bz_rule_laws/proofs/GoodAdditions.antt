@@ -2,13 +2,13 @@
 use Rattle.std.proofs.Common.{◌≡◌, ℕ, suc, List, [], ◌∷◌, ◌++◌, true, false, map, if◌then◌else◌, refl, arith}
 use Rattle.bz_token.specs.declared.token.Kind.TheVariants.{Ident}
 use Rattle.bz_token.specs.Lexical.{is_text}
-use Rattle.bz_tree.specs.Tree.{Item, Segment, nowhere}
-use Rattle.bz_tree.specs.Grammar.{IsTest, IsArg, plain, single, primary, operand, no_suffix, text, keyword}
+use Rattle.bz_tree.specs.Tree.{Item, Segment}
+use Rattle.bz_tree.specs.Grammar.{IsTest, IsArg, plain, single, primary, operand, no_suffix, text}
 use Rattle.bz_command.specs.Labels.{Package}
 use Rattle.bz_attribute.specs.Rules.{is_named, value}
 use Rattle.bz_attribute.specs.Lists.{edit_first_part, is_attribute, parts, with_value}
 use Rattle.bz_attribute.specs.Effects.{add, argument, edit_first, fresh, has, list_item, new_elements, no_parts, string, string_item, with_added}
-use Rattle.bz_rule_laws.proofs.ArgumentValues.{IsValue, good_value, good_with, named_nodes}
+use Rattle.bz_rule_laws.proofs.ArgumentValues.{IsValue, good_value, good_with, named_good}
 use Rattle.bz_rule_laws.proofs.GoodEffects.{first_good}
 use Rattle.bz_rule_laws.proofs.ListParts.{KeepsGood, first_part_edited, list_value}
 use Rattle.bz_rule_laws.proofs.NewTexts.{quoted_text}
@@ -27,7 +27,7 @@ strings_good depth (word ∷ words) =
     (record { before = refl; suffix = refl; nodes = v.nodes_are; form = v.test }, strings_good depth words)
 
 pub argument_good : (depth : ℕ) (attr : List ℕ) (nodes : List Item) → is_text Ident attr ≡ true → IsValue depth nodes → IsFormed IsArg depth (argument attr nodes)
-argument_good depth attr nodes name v = record { before = refl; suffix = refl; nodes = named_nodes depth attr nowhere nowhere nodes name v.nodes_are; form = keyword refl refl v.test }
+argument_good depth attr nodes name v = named_good depth attr nodes (argument attr nodes) refl refl refl name v
 
 pub appended_good : (depth : ℕ) (more : List Segment) → AreFormed IsTest depth more → KeepsGood depth (λ ss. ss ++ more)
 appended_good depth more k ss h = all_appended (IsFormed IsTest depth) ss more h k

@@ -4,7 +4,7 @@ use Rattle.std.specs.List.{list_all, slice_split}
 use Rattle.std.proofs.lemmas.Bool.{and_parts, false≢true}
 use Rattle.bz_token.specs.declared.token.Kind.TheVariants.{Ident, Sign}
 use Rattle.bz_token.specs.Lexical.{is_text}
-use Rattle.bz_tree.specs.Tree.{Item, leaf, group, Place, items_of}
+use Rattle.bz_tree.specs.Tree.{Item, leaf, group, items_of}
 use Rattle.bz_command.specs.Names.{is_identifier, is_kind}
 use Rattle.bz_command.proofs.Cuts.{some_part}
 use Rattle.bz_layout_laws.specs.TextsOfKinds.{HaveTexts}
@@ -13,8 +13,8 @@ use Rattle.bz_attribute.specs.Setting.{joined_by_dots, kind_items}
 use Rattle.bz_rule_laws.proofs.ArgumentValues.{sign_is}
 
 pub data IsDotted : List Item → Type 0 where
-  last_name : {text : List ℕ} {place : Place} → is_text Ident text ≡ true → IsDotted (leaf Ident text ∷ [])
-  name_before : {text : List ℕ} {place dot_place : Place} {kind : List Item} → is_text Ident text ≡ true → IsDotted kind → IsDotted (leaf Ident text ∷ leaf Sign (codes ".") ∷ kind)
+  last_name : {text : List ℕ} → is_text Ident text ≡ true → IsDotted (leaf Ident text ∷ [])
+  name_before : {text : List ℕ} {kind : List Item} → is_text Ident text ≡ true → IsDotted kind → IsDotted (leaf Ident text ∷ leaf Sign (codes ".") ∷ kind)
 
 -- the kind of a rule that is well formed
 pub dotted_is : (kind : List Item) → dotted true kind ≡ true → HaveTexts (items_of kind) → IsDotted kind
@@ -23,7 +23,7 @@ dotted_is (leaf Ident text ∷ []) h k = last_name k.0.0
 dotted_is (leaf Ident text ∷ x ∷ kind) h k =
     let parts = and_parts (is_sign (codes ".") x) (dotted true kind) h in
     let dot = sign_is (codes ".") x parts.0 in
-    subst (λ (z : Item). IsDotted (leaf Ident text ∷ z ∷ kind)) (sym dot.1) (name_before k.0.0 (dotted_is kind parts.1 k.1.1))
+    subst (λ (z : Item). IsDotted (leaf Ident text ∷ z ∷ kind)) (sym dot) (name_before k.0.0 (dotted_is kind parts.1 k.1.1))
 dotted_is (leaf _ text ∷ kind) h k = absurd (false≢true h)
 dotted_is (group kind segs one_comma end ∷ xs) h k = absurd (false≢true h)
 

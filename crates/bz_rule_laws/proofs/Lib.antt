@@ -3,11 +3,6 @@ mod Again
 mod AllComments
 mod ArgumentValues
 mod ArgumentsFormed
-mod BareDiffers
-mod BareEffects
-mod BareParts
-mod BareSettings
-mod BareStatements
 mod CommentedFormed
 mod Found
 mod Gone

@@ -1,30 +1,20 @@
 -- Arguments that are well formed stay so where one gets another name.
-use Rattle.std.proofs.Common.{◌≡◌, ℕ, List, [], ◌∷◌, true, false, if◌then◌else◌, is_some, drop, sym, ap, subst}
+use Rattle.std.proofs.Common.{◌≡◌, ℕ, List, [], ◌∷◌, true, false, if◌then◌else◌, is_some, ap}
 use Rattle.bz_token.specs.declared.token.Kind.TheVariants.{Ident}
 use Rattle.bz_token.specs.Lexical.{is_text}
-use Rattle.bz_tree.specs.Tree.{Item, Segment, items_of, nowhere}
+use Rattle.bz_tree.specs.Tree.{Segment}
 use Rattle.bz_tree.specs.Grammar.{IsArg}
 use Rattle.bz_attribute.specs.Rules.{is_named, value}
 use Rattle.bz_attribute.specs.Lists.{is_attribute}
 use Rattle.bz_attribute.specs.Effects.{edit_first, rename, rename_note, rename_to, renamed}
-use Rattle.bz_rule_laws.proofs.ArgumentValues.{HasName, good_value, has_name, named, named_argument, named_nodes}
+use Rattle.bz_rule_laws.proofs.ArgumentValues.{good_value, has_name, named_good}
 use Rattle.bz_rule_laws.proofs.GoodEffects.{first_good}
-use Rattle.bz_rule_laws.proofs.Segments.{AreNodes, IsFormed, AreFormed}
-
-renamed_nodes : (new : List ℕ) (nodes : List Item) (n : HasName nodes) → renamed new nodes ≡ named new nowhere n.sign_place (drop 2 nodes)
-renamed_nodes new nodes n = ap (renamed new) n.are
+use Rattle.bz_rule_laws.proofs.Segments.{IsFormed, AreFormed}
 
 renamed_formed : (depth : ℕ) (new : List ℕ) (a : Segment) → is_text Ident new ≡ true → is_attribute a ≡ true → IsFormed IsArg depth a → IsFormed IsArg depth (rename_to new a)
 renamed_formed depth new a name h good =
     let n = has_name a.nodes h in
-    let v = good_value depth a h good in
-    let are = sym (renamed_nodes new a.nodes n) in
-    record {
-      before = good.before;
-      suffix = good.suffix;
-      nodes = subst (AreNodes depth) are (named_nodes depth new nowhere n.sign_place (value a) name v.nodes_are);
-      form = subst (λ (xs : List Item). IsArg (items_of xs)) are (named_argument new nowhere n.sign_place (value a) v.test);
-    }
+    named_good depth new (value a) (rename_to new a) good.before good.suffix (ap (renamed new) n.are) name (good_value depth a h good)
 
 pub rename_formed : (depth : ℕ) (old new : List ℕ) (args : List Segment) → is_text Ident new ≡ true → AreFormed IsArg depth args → AreFormed IsArg depth (rename old new args)
 rename_formed depth old new args name h =

@@ -118,7 +118,7 @@ rule_call_more (name_before n more) x r = refl
 
 rule_call_back : {kind : List Item} → IsDotted kind → (r : Rule) → rule_call (plain_calls (and_then kind (rule_call_of r))) ≡ and_then kind (rule_call_of r)
 rule_call_back (last_name n) r = refl
-rule_call_back (name_before {text} {place} {dot_place} {kind} n more) r =
+rule_call_back (name_before {text} {kind} n more) r =
     ap (λ (xs : List Item). leaf Ident text ∷ xs) (rule_call_more more (leaf Sign (codes ".")) r)
     ∙ ap (λ (xs : List Item). leaf Ident text ∷ leaf Sign (codes ".") ∷ xs) (rule_call_back more r)
 

@@ -1,4 +1,3 @@
-pub mod Bare
 pub mod CommandTexts
 pub mod OwnComments
 pub mod WellFormedSegments
