@@ -13,7 +13,7 @@ use Rattle.bz_layout_laws.specs.FileRead.{IsFound, AreFound, AreStatementsIn}
 use Rattle.bz_layout_laws.specs.FileText.{gap_text, text_from, takes_line, blank_after, own_chunks, chunks_from}
 use Rattle.bz_layout_laws.specs.ReadBack.{IsReadBack}
 use Rattle.bz_layout_laws.specs.Spelled.{spelled_statement}
-use Rattle.bz_layout_laws.specs.Unplaced.{unplaced}
+use Rattle.bz_layout_laws.specs.Lineless.{lineless}
 use Rattle.bz_layout_laws.proofs.FileChunks.{file_chunks}
 use Rattle.bz_layout_laws.proofs.FileReads.{file_read_again, file_read_only}
 use Rattle.bz_layout_laws.proofs.KeptReadBack.{kept_read_back}
@@ -80,7 +80,7 @@ all_back depth (s ∷ ss) sound = (sound_back depth s sound.0, all_back depth ss
 -- the text of sound statements is read as them
 pub text_again : (depth : ℕ) (ss : List Statement) → AllByRecursion (IsSound depth) ss
     → (ts : List Statement) × IsFile depth (text_of ss) ts None
-    × (map unplaced ts ≡ map (λ s. unplaced (spelled_statement s)) ss)
+    × (map lineless ts ≡ map (λ s. lineless (spelled_statement s)) ss)
     × (text_of ts ≡ text_of ss)
 text_again depth ss sound =
     let back = all_back depth ss sound in
@@ -93,8 +93,8 @@ text_again depth ss sound =
 
 -- and as nothing else
 pub text_only : (depth : ℕ) (ss ts : List Statement) (fault : Option SyntaxFault) → AllByRecursion (IsSound depth) ss → IsFile depth (text_of ss) ts fault
-    → (fault ≡ None) × (map unplaced ts ≡ map (λ s. unplaced (spelled_statement s)) ss) × (text_of ts ≡ text_of ss)
+    → (fault ≡ None) × (map lineless ts ≡ map (λ s. lineless (spelled_statement s)) ss) × (text_of ts ≡ text_of ss)
 text_only depth ss ts fault sound file =
     let again = text_again depth ss sound in
     let one = one_give depth 1 _ ts again.0 fault None file again.1 in
-    (one.1, ap (map unplaced) one.0 ∙ again.2, ap (λ us. text_of us) one.0 ∙ again.3)
+    (one.1, ap (map lineless) one.0 ∙ again.2, ap (λ us. text_of us) one.0 ∙ again.3)

@@ -1,8 +1,7 @@
 -- Commands leave a block, as all that is no rule, and an empty slot.
-use Rattle.std.proofs.Common.{◌≡◌, ℕ, List, [], ◌∷◌, map, refl, ap, ◌∙◌}
+use Rattle.std.proofs.Common.{◌≡◌, ℕ, refl, ap, ◌∙◌}
 use Rattle.std.specs.Prelude.{None, Some, if◌then◌else◌, is_some}
-use Rattle.bz_token.specs.declared.token.Kind.TheVariants.{Kept}
-use Rattle.bz_tree.specs.Tree.{Item, leaf, group, nowhere, bare, Statement}
+use Rattle.bz_tree.specs.Tree.{Statement}
 use Rattle.bz_layout_laws.specs.KeptBlock.{IsKeptBlock}
 use Rattle.bz_layout_laws.proofs.BlockBody.{body_of}
 use Rattle.bz_command.specs.Commands.{Command, Add, Remove, Set, SetIfAbsent, Delete, Rename, Move, Replace, Comment, Print, ToKind, ToValues, Rule, Attribute, Value}
@@ -13,17 +12,10 @@ use Rattle.bz_attribute.specs.Effects.{nodes_after}
 use Rattle.bz_attribute.specs.Rules.{rule_of}
 use Rattle.bz_attribute.specs.Setting.{kind_after}
 
--- a text that is kept is no rule
-kept_no_rule : (nodes : List Item) (text : List ℕ) → map bare nodes ≡ leaf Kept text ∷ [] → rule_of nodes ≡ None
-kept_no_rule [] text e = refl
-kept_no_rule (leaf kind other ∷ []) text e = refl
-kept_no_rule (group kind segs one_comma end ∷ []) text e = absurd cc
-kept_no_rule (x ∷ y ∷ nodes) text e = absurd cc
-
 pub block_no_rule : (depth : ℕ) (s : Statement) → IsKeptBlock depth s → rule_of s.nodes ≡ None
 block_no_rule depth s kept =
     let body = body_of kept.first depth kept.bytes kept.found kept.read in
-    kept_no_rule s.nodes _ (ap (λ (t : Statement). t.nodes) kept.is ∙ ap (λ (t : Statement). map bare t.nodes) body.is)
+    ap (λ (t : Statement). rule_of t.nodes) kept.is ∙ ap (λ (t : Statement). rule_of t.nodes) body.is
 
 -- what is no rule stays
 same_args : (c : Command) (home : Package) (s : Statement) → rule_of s.nodes ≡ None → Some (record s { nodes = nodes_after (args_after c home) s.nodes (rule_of s.nodes) }) ≡ Some s

@@ -5,7 +5,7 @@ use Rattle.std.specs.List.{list_all}
 use Rattle.std.specs.Str.{is_utf8}
 use Rattle.bz_tree.specs.Tree.{Statement}
 use Rattle.bz_layout_laws.specs.Spelled.{spelled_statement}
-use Rattle.bz_layout_laws.specs.Unplaced.{unplaced}
+use Rattle.bz_layout_laws.specs.Lineless.{lineless}
 use Rattle.bz_command.specs.Labels.{Package}
 use Rattle.bz_command.specs.Passes.{slots_after}
 use Rattle.bz_rule_laws.specs.CommandTexts.{command_passes}
@@ -27,8 +27,8 @@ abbrev pub edited : {home : Package} {passes : Script} {keep_going : Bool} {dept
 edited (inl run) = run.statements
 edited (inr run) = run.before
 
--- The text has no fault and is read as these statements, with their strings as they are spelled and wherever their tokens stand.
+-- The text has no fault and is read as these statements, with their strings as they are spelled and on whatever lines.
 pub record IsTextOf (depth : ℕ) (statements : List Statement) (text : List ℕ) : Type 0 where
   pub found : List Statement
   pub file : IsFile depth text found None
-  pub same : map unplaced found ≡ map (λ s. unplaced (spelled_statement s)) statements
+  pub same : map lineless found ≡ map (λ s. lineless (spelled_statement s)) statements

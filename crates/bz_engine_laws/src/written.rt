@@ -8,9 +8,9 @@ ghost use Rattle.bz_engine.specs.Outcome.{Script, Told, IsOutcome, is_query};
 ghost use Rattle.bz_engine_laws.specs.Written.{HaveUtf8Words, left_by, edited, IsTextOf};
 
 /// Whatever a run writes, if its script is no query: the text has no fault, and it is read as the statements that the
-/// script left of those that the run edited, with their strings as they are spelled and wherever their tokens stand. A
-/// second run over it that changes nothing writes the same bytes, with whatever script that is no query, if it keeps
-/// going or does not end at a failure.
+/// script left of those that the run edited, with their strings as they are spelled and on whatever lines. A second run
+/// over it that changes nothing writes the same bytes, with whatever script that is no query, if it keeps going or does
+/// not end at a failure.
 ///
 /// What is asked of commands and their words, each script has:
 /// [`scripts_are_of_commands`](crate::script::scripts_are_of_commands).
