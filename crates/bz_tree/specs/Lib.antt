@@ -8,5 +8,6 @@ pub mod Statement
 pub mod Grammar
 pub mod Blocks
 pub mod Chunk
+pub mod Rows
 pub mod Comments
 pub mod private

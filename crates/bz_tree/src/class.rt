@@ -35,13 +35,21 @@ fn is_rule(nodes: &[Node<'_>]) -> bool
     phase == Phase::End
 }
 
+/// The token between two names.
+#[inline(always)]
+pub(crate) fn is_dot_at(kind: Kind, text: &str) -> bool
+    ensures { result ≡ is_dot kind text.now }
+{
+    kind == Kind::Sign && text == "."
+}
+
 fn is_dot(leaf: &Leaf<'_>) -> bool
     ensures { result ≡ is_dot leaf.now.kind (text_of leaf.now.text) }
 {
-    leaf.kind == Kind::Sign && leaf.text.as_str() == "."
+    is_dot_at(leaf.kind, leaf.text.as_str())
 }
 
-fn is_call(kind: GroupKind) -> bool
+pub(crate) fn is_call(kind: GroupKind) -> bool
     ensures { result ≡ is_call kind }
 {
     matches!(kind, GroupKind::Call | GroupKind::RuleCall)

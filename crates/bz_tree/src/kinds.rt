@@ -103,22 +103,38 @@ pub(crate) fn as_comprehension(kind: Option<GroupKind>) -> Option<GroupKind>
     }
 }
 
+/// What stands before a bracket after a token of this kind and text.
+#[inline(always)]
+pub(crate) fn kind_after(kind: Kind, text: &str) -> Preceding
+    ensures { result ≡ kind_after kind text.now }
+{
+    match kind {
+        Kind::Ident | Kind::Int | Kind::Text => Preceding::Operand,
+        Kind::Word if text == "load" => Preceding::LoadWord,
+        _ => Preceding::Other,
+    }
+}
+
 #[inline(always)]
 pub(crate) fn after_leaf(leaf: &Leaf<'_>) -> Preceding
     ensures { result ≡ kind_after leaf.now.kind (text_of leaf.now.text) }
 {
-    match leaf.kind {
-        Kind::Ident | Kind::Int | Kind::Text => Preceding::Operand,
-        Kind::Word if leaf.text.as_str() == "load" => Preceding::LoadWord,
-        _ => Preceding::Other,
-    }
+    kind_after(leaf.kind, leaf.text.as_str())
+}
+
+/// The keyword `for`.
+#[inline(always)]
+pub(crate) fn is_for_at(kind: Kind, text: &str) -> bool
+    ensures { result ≡ is_for_at kind text.now }
+{
+    kind == Kind::Word && text == "for"
 }
 
 #[inline(always)]
 pub(crate) fn is_for_leaf(leaf: &Leaf<'_>) -> bool
     ensures { result ≡ is_for_at leaf.now.kind (text_of leaf.now.text) }
 {
-    leaf.kind == Kind::Word && leaf.text.as_str() == "for"
+    is_for_at(leaf.kind, leaf.text.as_str())
 }
 
 pub(crate) fn group_kind(shape: Shape, at: Preceding, comprehension: bool) -> GroupKind

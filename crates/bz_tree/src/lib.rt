@@ -12,11 +12,16 @@ mod kept;
 mod kinds;
 mod owners;
 mod role;
+mod row;
+mod rows;
 mod span;
+mod spot;
 mod stage;
 mod stmt;
 
 pub use chunk::parse;
 pub use fault::ParseFault;
 pub use role::Role;
+pub use row::{Part, Row};
+pub use rows::read_row;
 pub use stmt::{Class, Group, GroupKind, Leaf, Node, Seg, Stmt};

@@ -94,7 +94,7 @@ fn put_suffix<'a>(suffix: &mut Option<CowStr<'a>>, text: CowStr<'a>)
 
 // Whether what begins on a line and ends some lines later ends on that other line.
 #[inline(always)]
-fn ends_on(line: u64, newlines: u64, at: u64) -> bool
+pub(crate) fn ends_on(line: u64, newlines: u64, at: u64) -> bool
     ensures { result ≡ (line + newlines == at) }
 {
     line <= at && at - line == newlines

@@ -94,16 +94,24 @@ fn is_infix(text: &str) -> bool
     }
 }
 
+/// What a token of this kind and text is.
+#[inline(always)]
+pub(crate) fn token_role(kind: Kind, text: &str) -> Role
+    ensures { result ≡ leaf_role kind text.now }
+{
+    match kind {
+        Kind::Ident => Role::Name,
+        Kind::Int => Role::Number,
+        Kind::Text => Role::Value,
+        Kind::Word => word_role(text),
+        Kind::Sign => sign_role(text),
+        _ => Role::Stray,
+    }
+}
+
 #[inline(always)]
 pub(crate) fn leaf_role(leaf: &Leaf<'_>) -> Role
     ensures { result ≡ leaf_role leaf.now.kind (text_of leaf.now.text) }
 {
-    match leaf.kind {
-        Kind::Ident => Role::Name,
-        Kind::Int => Role::Number,
-        Kind::Text => Role::Value,
-        Kind::Word => word_role(leaf.text.as_str()),
-        Kind::Sign => sign_role(leaf.text.as_str()),
-        _ => Role::Stray,
-    }
+    token_role(leaf.kind, leaf.text.as_str())
 }

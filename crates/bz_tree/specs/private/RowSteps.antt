@@ -1,0 +1,265 @@
+-- For private clauses: the walk over the tokens of a statement that pushes the parts of its row.
+use Rattle.std.specs.Prelude.{ℕ, ◌+◌, ◌==◌, count_by, List, [], ◌∷◌, ◌++◌, map, reverse, Bool, true, false, not, ◌||◌, ◌&&◌, if◌then◌else◌, Option, Some, None, option_and_then}
+use Rattle.bz_token.specs.declared.token.Kind.{Kind}
+use Rattle.bz_token.specs.Places.{Placed}
+use Rattle.bz_tree.specs.declared.stmt.GroupKind.{GroupKind}
+use Rattle.bz_tree.specs.declared.stmt.GroupKind.TheVariants.{Call, RuleCall}
+use Rattle.bz_tree.specs.declared.stmt.Class.{Class}
+use Rattle.bz_tree.specs.declared.stmt.Class.TheVariants.{Assign, Rule, Other as OtherClass}
+use Rattle.bz_tree.specs.declared.kinds.Shape.{Shape}
+use Rattle.bz_tree.specs.declared.kinds.Mark.{Mark}
+use Rattle.bz_tree.specs.declared.kinds.Mark.TheVariants.{Open, Close, Comma, Comment, NewLine, Plain}
+use Rattle.bz_tree.specs.declared.kinds.Preceding.{Preceding}
+use Rattle.bz_tree.specs.declared.kinds.Preceding.TheVariants.{Operand, Other}
+use Rattle.bz_tree.specs.declared.role.Role.{Role}
+use Rattle.bz_tree.specs.declared.role.Role.TheVariants.{Stray}
+use Rattle.bz_tree.specs.declared.stage.Part.TheVariants.{Left}
+use Rattle.bz_tree.specs.declared.stage.Stage.{Stage}
+use Rattle.bz_tree.specs.declared.stage.Stage.TheVariants.{Wants}
+use Rattle.bz_tree.specs.declared.spot.Naming.{Naming}
+use Rattle.bz_tree.specs.declared.spot.Naming.TheVariants.{Name, Join, End, Never, Lost}
+use Rattle.bz_tree.specs.declared.spot.Done.{Done}
+use Rattle.bz_tree.specs.declared.spot.Done.TheVariants.{Zero, One, More}
+use Rattle.bz_tree.specs.declared.spot.Here.{Here}
+use Rattle.bz_tree.specs.declared.spot.Here.TheVariants.{Nothing, Comma as AfterComma, Node as AfterNode, Ended}
+use Rattle.bz_tree.specs.declared.spot.Read.{Read}
+use Rattle.bz_tree.specs.declared.spot.Spot.{Spot}
+use Rattle.bz_tree.specs.declared.rows.RowWalk.{RowWalk}
+use Rattle.bz_tree.specs.declared.row.Row.{Row}
+use Rattle.bz_tree.specs.Kinds.{mark_of, kind_after, is_for_at, group_kind, is_one, same_shape}
+use Rattle.bz_tree.specs.Brackets.{is_paren, end_line}
+use Rattle.bz_tree.specs.Blocks.{is_block_word}
+use Rattle.bz_tree.specs.Grammar.{leaf_role, is_assignment}
+use Rattle.bz_tree.specs.Statement.{is_ident, is_dot, is_call}
+use Rattle.bz_tree.specs.Rows.{RowPart, a_token, opening, closing, segment_end, above, beside, part_view}
+use Rattle.bz_tree.specs.private.Machine.{next, begin, may_end, group_role}
+use Rattle.bz_tree.specs.private.Steps.{shape_of}
+
+-- Where the walk stands in a bracket: no node of a segment has come, and no comma directly before; directly after a comma on this
+-- line; directly after a node that ends on this line; after the end of the last segment.
+pub data At : Type 0 where
+  nothing : At
+  a_comma : ℕ → At
+  a_node : ℕ → At
+  an_end : At
+
+abbrev pub here_view : Here → At
+here_view Nothing = nothing
+here_view (AfterComma line) = a_comma line
+here_view (AfterNode line text) = a_node (line + count_by (λ b. b == 10) text.now)
+here_view Ended = an_end
+
+abbrev pub is_ended : At → Bool
+is_ended an_end = true
+is_ended _ = false
+
+-- the beginning of a rule, after one more token
+abbrev pub named : Naming → Kind → List ℕ → Naming
+named Name kind text = if is_ident kind then Join else Never
+named Join kind text = if is_dot kind text then Name else Never
+named Never kind text = Never
+named End kind text = Lost
+named Lost kind text = Lost
+
+-- after a bracket
+abbrev pub called : Naming → GroupKind → Naming
+called Name kind = Never
+called Join kind = if is_call kind then End else Never
+called Never kind = Never
+called End kind = Lost
+called Lost kind = Lost
+
+-- as what a bracket is shown that opens here
+abbrev pub shown_kind : Naming → GroupKind → GroupKind
+shown_kind Join kind = if is_call kind then RuleCall else kind
+shown_kind _ kind = kind
+
+-- the nodes of a segment so far
+abbrev pub start : Option GroupKind → Read
+start None = record { stage = Wants Left false; at = Other; naming = Name; assigns = false }
+start (Some kind) = record { stage = begin kind; at = Other; naming = Never; assigns = false }
+
+abbrev pub read_leaf : Kind → List ℕ → Read → Read
+read_leaf kind text r = record {
+  stage = next r.stage (leaf_role kind text);
+  at = kind_after kind text;
+  naming = named r.naming kind text;
+  assigns = r.assigns || is_assignment (leaf_role kind text);
+}
+
+abbrev pub read_group : GroupKind → Read → Read
+read_group kind r = record { stage = next r.stage (group_role kind); at = Operand; naming = called r.naming kind; assigns = r.assigns }
+
+abbrev pub one_more : Done → Done
+one_more Zero = One
+one_more _ = More
+
+-- a bracket that is open, or the top
+pub record Stand : Type 0 where
+  pub kind : Option GroupKind
+  pub done : Done
+  pub here : At
+  pub read : Read
+
+abbrev pub stand : Spot → Stand
+stand s = record { kind = s.kind; done = s.done; here = here_view s.here; read = s.read }
+
+abbrev pub new_stand : Option GroupKind → Stand
+new_stand kind = record { kind = kind; done = Zero; here = nothing; read = start kind }
+
+-- after one more node, which ends on this line
+abbrev pub with_node : ℕ → Read → Stand → Stand
+with_node line read s = record { kind = s.kind; done = s.done; here = a_node line; read = read }
+
+-- after a comma on this line
+abbrev pub with_comma : ℕ → Stand → Stand
+with_comma line s = record { kind = s.kind; done = one_more s.done; here = a_comma line; read = start s.kind }
+
+abbrev pub with_here : At → Stand → Stand
+with_here here s = record { kind = s.kind; done = s.done; here = here; read = s.read }
+
+-- the bracket that is open here, those around it, the innermost first, and the parts so far
+pub record RowState : Type 0 where
+  pub top : Stand
+  pub outer : List Stand
+  pub parts : List RowPart
+
+abbrev pub row_state : RowWalk → RowState
+row_state w = record { top = stand w.top; outer = reverse (map stand w.outer.items); parts = map part_view w.parts.items }
+
+abbrev pub step_to : Stand → List RowPart → RowState → RowState
+step_to top parts s = record { top = top; outer = s.outer; parts = s.parts ++ parts }
+
+abbrev pub is_stray : Role → Bool
+is_stray Stray = true
+is_stray _ = false
+
+abbrev pub is_refused : Placed → At → Bool
+is_refused t here = is_stray (leaf_role t.kind t.text) || (is_for_at t.kind t.text || is_ended here)
+
+-- Each of the following is none where the statement is left to its tree.
+abbrev pub leaf_next : Placed → RowState → Option RowState
+leaf_next t s =
+    if is_refused t s.top.here then None
+    else Some (step_to (with_node (end_line t) (read_leaf t.kind t.text s.top.read) s.top) (a_token t.kind t.text ∷ []) s)
+
+-- a comma that is a node
+abbrev pub top_comma_next : Placed → RowState → Option RowState
+top_comma_next t s =
+    if is_ended s.top.here then None
+    else Some (step_to (with_node t.line (read_leaf t.kind t.text s.top.read) s.top) (a_token t.kind t.text ∷ []) s)
+
+abbrev pub segment_next : ℕ → At → RowState → Option RowState
+segment_next line (a_node end) s = if may_end s.top.read.stage then Some (step_to (with_comma line s.top) (segment_end ∷ []) s) else None
+segment_next line _ s = None
+
+abbrev pub comma_next : Option GroupKind → Placed → RowState → Option RowState
+comma_next None t s = top_comma_next t s
+comma_next (Some kind) t s = segment_next t.line s.top.here s
+
+-- a comment that is on the line of what stands before it, or not
+abbrev pub note_part : Bool → List ℕ → RowPart
+note_part true text = beside text
+note_part false text = above text
+
+abbrev pub after_note_next : Option GroupKind → Bool → List ℕ → RowState → Option RowState
+after_note_next None true text s = Some (step_to (with_here an_end s.top) (beside text ∷ []) s)
+after_note_next None false text s = None
+after_note_next (Some kind) on text s = Some (step_to (with_here an_end s.top) (segment_end ∷ note_part on text ∷ []) s)
+
+abbrev pub end_note_next : Option GroupKind → List ℕ → RowState → Option RowState
+end_note_next None text s = None
+end_note_next (Some kind) text s = Some (step_to s.top (above text ∷ []) s)
+
+abbrev pub note_next : At → ℕ → List ℕ → RowState → Option RowState
+note_next nothing line text s = Some (step_to s.top (above text ∷ []) s)
+note_next (a_comma end) line text s = Some (step_to (with_here nothing s.top) (note_part (end == line) text ∷ []) s)
+note_next (a_node end) line text s = after_note_next s.top.kind (end == line) text s
+note_next an_end line text s = end_note_next s.top.kind text s
+
+abbrev pub open_next : GroupKind → RowState → Option RowState
+open_next kind s =
+    if is_one kind then None
+    else Some (record { top = new_stand (Some kind); outer = s.top ∷ s.outer; parts = s.parts ++ opening (shown_kind s.top.read.naming kind) ∷ [] })
+
+-- what ends the last segment, if it may end
+abbrev pub last_end : At → Bool → Option (List RowPart)
+last_end nothing ends = Some []
+last_end (a_comma line) ends = Some []
+last_end (a_node line) ends = if ends then Some (segment_end ∷ []) else None
+last_end an_end ends = if ends then Some [] else None
+
+abbrev pub is_single : Done → Bool
+is_single One = true
+is_single _ = false
+
+abbrev pub has_node : At → Bool
+has_node nothing = false
+has_node (a_comma line) = false
+has_node _ = true
+
+-- `(x,)`
+abbrev pub is_one_comma : GroupKind → Stand → Bool
+is_one_comma kind s = if has_node s.here then false else (is_paren kind && is_single s.done)
+
+abbrev pub close_on : GroupKind → ℕ → List RowPart → Stand → List Stand → RowState → Option RowState
+close_on kind line parts below outer s =
+    if is_ended below.here then None
+    else Some (record { top = with_node line (read_group kind below.read) below; outer = outer; parts = (s.parts ++ parts) ++ closing (is_one_comma kind s.top) ∷ [] })
+
+abbrev pub close_below : GroupKind → ℕ → List RowPart → List Stand → RowState → Option RowState
+close_below kind line parts [] s = None
+close_below kind line parts (below ∷ outer) s = close_on kind line parts below outer s
+
+abbrev pub close_next : Option GroupKind → Shape → ℕ → RowState → Option RowState
+close_next None shape line s = None
+close_next (Some kind) shape line s =
+    if same_shape (Some (shape_of kind)) shape
+    then option_and_then (λ parts. close_below kind line parts s.outer s) (last_end s.top.here (may_end s.top.read.stage))
+    else None
+
+abbrev pub row_next_at : Mark → Placed → RowState → Option RowState
+row_next_at NewLine t s = Some s
+row_next_at Plain t s = leaf_next t s
+row_next_at Comma t s = comma_next s.top.kind t s
+row_next_at Comment t s = note_next s.top.here t.line t.text s
+row_next_at (Open shape) t s = open_next (group_kind shape s.top.read.at false) s
+row_next_at (Close shape) t s = close_next s.top.kind shape t.line s
+
+abbrev pub row_next : Placed → RowState → Option RowState
+row_next t s = row_next_at (mark_of t) t s
+
+-- its parts and its class
+pub record RowView : Type 0 where
+  pub parts : List RowPart
+  pub class : Class
+
+abbrev pub row_view : Row → RowView
+row_view row = record { parts = map part_view row.parts.items; class = row.class }
+
+abbrev pub is_rule_read : Naming → Bool
+is_rule_read End = true
+is_rule_read _ = false
+
+abbrev pub is_lost : Naming → Bool
+is_lost Lost = true
+is_lost _ = false
+
+abbrev pub read_class : Read → Class
+read_class r = if r.assigns then Assign else (if is_rule_read r.naming then Rule else OtherClass)
+
+abbrev pub row_end : Option GroupKind → List Stand → RowState → Option RowView
+row_end None [] s = if is_lost s.top.read.naming then None else (if may_end s.top.read.stage then Some (record { parts = s.parts; class = read_class s.top.read }) else None)
+row_end _ outer s = None
+
+abbrev pub row_run : RowState → List Placed → Option RowView
+row_run s [] = row_end s.top.kind s.outer s
+row_run s (t ∷ ts) = option_and_then (λ r. row_run r ts) (row_next t s)
+
+abbrev pub row_start : RowState
+row_start = record { top = new_stand None; outer = []; parts = [] }
+
+-- the statement begins in column 1, and is no block
+abbrev pub is_upright : Option Placed → Bool
+is_upright None = false
+is_upright (Some t) = (t.col == 1) && not (is_block_word t)

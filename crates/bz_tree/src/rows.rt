@@ -1,0 +1,279 @@
+//! The row of a chunk's statement: a walk over the tokens that pushes its parts in order.
+
+ghost use Rattle.std.specs.Prelude.{◌≡◌, ◌+◌, ◌<◌, ◌^◌, ◌==◌, ◌++◌, false, map, count_by, IfOk, option_map};
+ghost use Rattle.std.specs.Bool.{then_some};
+ghost use Rattle.bz_token.specs.Places.{placed};
+ghost use Rattle.bz_tree.specs.Statement.{first_token};
+ghost use Rattle.bz_tree.specs.Kinds.{group_kind};
+ghost use Rattle.bz_tree.specs.Rows.{part_view};
+ghost use Rattle.bz_tree.specs.private.Machine.{may_end};
+ghost use Rattle.bz_tree.specs.private.RowSteps.{here_view, row_state, leaf_next, top_comma_next, comma_next, note_part, after_note_next, note_next, open_next, last_end, close_next, row_next, row_end, row_view, row_run, row_start, is_upright};
+
+use crate::block::is_block_word;
+use crate::kinds::{Mark, Shape, group_kind, is_for_at, is_one, mark_of, same_shape, shape_of};
+use crate::owners::ends_on;
+use crate::role::{Role, token_role};
+use crate::row::{Part, Row};
+use crate::span::{first_seen, first_token, newlines};
+use crate::spot::{Here, Spot, shown_kind};
+use crate::stage::may_end;
+use crate::stmt::GroupKind;
+use bz_token::{LexFault, Token, tokens};
+use std::alloc::{AllocError, Global};
+use std::mem;
+
+// The parts so far, the bracket that is open here, and those around it.
+#[derive(Drop)]
+pub(crate) struct RowWalk<'a> {
+    pub(crate) parts: Vec<Part<'a>>,
+    pub(crate) outer: Vec<Spot<'a>>,
+    pub(crate) top: Spot<'a>,
+}
+
+// False: the statement is left to its tree. So it is in all that follow.
+impl<'a> RowWalk<'a> {
+    #[inline(always)]
+    fn add_leaf(&mut self, token: &Token<'a>) -> Result<bool, AllocError>
+        ensures { IfOk result
+            (λ some. then_some some (row_state self.new) ≡ leaf_next (placed token.now) (row_state self.old)) }
+    {
+        let role = token_role(token.kind, token.text);
+        if matches!(role, Role::Stray) || is_for_at(token.kind, token.text) || self.top.is_ended() {
+            return Ok(false);
+        }
+        self.parts.push(Part::Token(token.kind, token.text))?;
+        self.top.read.add_leaf(token, role);
+        self.top.here = Here::Node(token.line, token.text);
+        Ok(true)
+    }
+
+    // At the top a comma is a node.
+    fn add_top_comma(&mut self, token: &Token<'a>) -> Result<bool, AllocError>
+        ensures { IfOk result
+            (λ some. then_some some (row_state self.new) ≡ top_comma_next (placed token.now) (row_state self.old)) }
+    {
+        if self.top.is_ended() {
+            return Ok(false);
+        }
+        self.parts.push(Part::Token(token.kind, token.text))?;
+        self.top
+            .read
+            .add_leaf(token, token_role(token.kind, token.text));
+        self.top.here = Here::Node(token.line, "");
+        Ok(true)
+    }
+
+    #[inline(always)]
+    fn add_comma(&mut self, token: &Token<'a>) -> Result<bool, AllocError>
+        ensures { IfOk result (λ some. then_some some (row_state self.new)
+            ≡ comma_next self.old.top.kind (placed token.now) (row_state self.old)) }
+    {
+        if self.top.kind.is_none() {
+            return self.add_top_comma(token);
+        }
+        match self.top.here {
+            Here::Node(_, _) if may_end(self.top.read.stage) => {
+                self.parts.push(Part::End)?;
+                self.top.add_comma(token.line);
+                Ok(true)
+            }
+            _ => Ok(false),
+        }
+    }
+
+    // A comment after the last node of a segment, on its line or not.
+    fn add_last_comment(&mut self, on_line: bool, text: &'a str) -> Result<bool, AllocError>
+        ensures { IfOk result (λ some. then_some some (row_state self.new)
+            ≡ after_note_next self.old.top.kind on_line text.now (row_state self.old)) }
+    {
+        if self.top.kind.is_some() {
+            self.parts.push(Part::End)?;
+        } else if !on_line {
+            return Ok(false);
+        }
+        self.parts.push(comment_part(on_line, text))?;
+        self.top.here = Here::Ended;
+        Ok(true)
+    }
+
+    fn add_comment(&mut self, token: &Token<'a>) -> Result<bool, AllocError>
+        ensures { IfOk result (λ some. then_some some (row_state self.new)
+            ≡ note_next (here_view self.old.top.here) token.now.line token.now.text.now (row_state self.old)) }
+    {
+        match self.top.here {
+            Here::Nothing => {
+                self.parts.push(Part::Above(token.text))?;
+                Ok(true)
+            }
+            Here::Comma(end) => {
+                self.parts
+                    .push(comment_part(end == token.line, token.text))?;
+                self.top.here = Here::Nothing;
+                Ok(true)
+            }
+            Here::Node(begin, text) => {
+                self.add_last_comment(ends_on(begin, newlines(text), token.line), token.text)
+            }
+            Here::Ended => {
+                if self.top.kind.is_none() {
+                    return Ok(false);
+                }
+                self.parts.push(Part::Above(token.text))?;
+                Ok(true)
+            }
+        }
+    }
+
+    #[inline(always)]
+    fn open(&mut self, shape: Shape) -> Result<bool, AllocError>
+        ensures { IfOk result (λ some. then_some some (row_state self.new)
+            ≡ open_next (group_kind shape self.old.top.read.at false) (row_state self.old)) }
+    {
+        let kind = group_kind(shape, self.top.read.at, false);
+        if is_one(kind) {
+            return Ok(false);
+        }
+        self.parts
+            .push(Part::Open(shown_kind(self.top.read.naming, kind)))?;
+        self.outer
+            .push(mem::replace(&mut self.top, Spot::new(Some(kind))))?;
+        Ok(true)
+    }
+
+    // The last segment of a bracket ends, if there is one.
+    #[inline(always)]
+    fn end_last(&mut self) -> Result<bool, AllocError>
+        ensures outer { self.new.outer ≡ self.old.outer }
+        ensures top { self.new.top ≡ self.old.top }
+        ensures parts { IfOk result (λ some. then_some some (map part_view self.new.parts.items)
+            ≡ option_map (λ ps. map part_view self.old.parts.items ++ ps)
+            (last_end (here_view self.old.top.here) (may_end self.old.top.read.stage))) }
+    {
+        match self.top.here {
+            Here::Node(_, _) => {
+                if !may_end(self.top.read.stage) {
+                    return Ok(false);
+                }
+                self.parts.push(Part::End)?;
+                Ok(true)
+            }
+            Here::Ended => Ok(may_end(self.top.read.stage)),
+            _ => Ok(true),
+        }
+    }
+
+    fn close(&mut self, shape: Shape, line: u64) -> Result<bool, AllocError>
+        ensures { IfOk result (λ some. then_some some (row_state self.new)
+            ≡ close_next self.old.top.kind shape line (row_state self.old)) }
+    {
+        let Some(kind) = self.top.kind else {
+            return Ok(false);
+        };
+        if !same_shape(shape_of(kind), shape) || !self.end_last()? {
+            return Ok(false);
+        }
+        let one_comma = self.top.is_one_comma(kind);
+        self.parts.push(Part::Close(one_comma))?;
+        let Some(below) = self.outer.pop() else {
+            return Ok(false);
+        };
+        if below.is_ended() {
+            return Ok(false);
+        }
+        self.top = below;
+        self.top.read.add_group(kind);
+        self.top.here = Here::Node(line, "");
+        Ok(true)
+    }
+
+    #[inline(always)]
+    fn step(&mut self, token: &Token<'a>) -> Result<bool, AllocError>
+        ensures { IfOk result
+            (λ some. then_some some (row_state self.new) ≡ row_next (placed token.now) (row_state self.old)) }
+    {
+        match mark_of(token) {
+            Mark::NewLine => Ok(true),
+            Mark::Plain => self.add_leaf(token),
+            Mark::Comma => self.add_comma(token),
+            Mark::Comment => self.add_comment(token),
+            Mark::Open(shape) => self.open(shape),
+            Mark::Close(shape) => self.close(shape, token.line),
+        }
+    }
+
+    fn finish(self) -> Option<Row<'a>>
+        ensures { option_map row_view result
+            ≡ row_end self.entry.top.kind (row_state self.entry).outer (row_state self.entry) }
+    {
+        let RowWalk { parts, outer, top } = self;
+        if top.kind.is_some() || !outer.is_empty() || !may_end(top.read.stage) {
+            return None;
+        }
+        let class = top.read.class()?;
+        Some(Row { parts, class })
+    }
+}
+
+#[inline(always)]
+fn comment_part<'a>(on_line: bool, text: &'a str) -> Part<'a>
+    ensures { part_view result ≡ note_part on_line text.now }
+{
+    if on_line {
+        Part::Beside(text)
+    } else {
+        Part::Above(text)
+    }
+}
+
+// The statement begins in column 1, and is no block.
+fn is_upright(tokens: &[Token<'_>]) -> bool
+    ensures { result ≡ is_upright (first_token (map placed tokens.now)) }
+{
+    match first_token(tokens) {
+        Some(token) => token.col == 1 && !is_block_word(&token),
+        None => false,
+    }
+}
+
+// The row of the tokens.
+fn row_of<'a>(alloc: Global, tokens: &[Token<'a>]) -> Result<Option<Row<'a>>, AllocError>
+    ensures { IfOk result (λ o. option_map row_view o ≡ row_run row_start (map placed tokens.now)) }
+{
+    let mut walk = RowWalk {
+        parts: Vec::with_capacity(alloc, tokens.len().saturating_add(tokens.len() / 4))?,
+        outer: Vec::new(alloc),
+        top: Spot::new(None),
+    };
+    for token in tokens {
+        if !walk.step(token)? {
+            return Ok(None);
+        }
+    }
+    Ok(walk.finish())
+}
+
+// The row of the tokens of a chunk.
+fn upright_row<'a>(alloc: Global, tokens: &[Token<'a>]) -> Result<Option<Row<'a>>, AllocError> {
+    if first_seen(tokens).is_none() || !is_upright(tokens) {
+        return Ok(None);
+    }
+    row_of(alloc, tokens)
+}
+
+/// The row of a chunk's statement, with at most so many brackets open at once. None: the chunk is blank, has a fault, or is one
+/// of those that are read by their trees alone: a block, a load, a comprehension, an index, a comment in the middle of a segment
+/// or before its comma.
+pub fn read_row<'a>(
+    alloc: Global,
+    text: &'a str,
+    first_line: u64,
+    max_depth: u8,
+) -> Result<Option<Row<'a>>, AllocError>
+    requires { first_line + count_by (λ b. b == 10) text.now < 2 ^ 64 }
+{
+    match tokens(alloc, text, first_line, max_depth) {
+        Ok(tokens) => upright_row(alloc, &tokens),
+        Err(LexFault::OutOfMemory) => Err(AllocError),
+        Err(_) => Ok(None),
+    }
+}

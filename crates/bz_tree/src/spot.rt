@@ -1,0 +1,206 @@
+//! Where the walk that reads a row stands in a bracket, or at the top.
+
+ghost use Rattle.std.specs.Prelude.{◌≡◌, not};
+ghost use Rattle.std.specs.Bool.{then_some};
+ghost use Rattle.bz_tree.specs.Grammar.{leaf_role};
+ghost use Rattle.bz_tree.specs.private.RowSteps.{here_view, is_ended, named, called, shown_kind, start, read_leaf, read_group, one_more, new_stand, stand, with_comma, is_lost, read_class, is_one_comma};
+
+use crate::class::{is_call, is_dot_at};
+use crate::kinds::{Preceding, kind_after};
+use crate::role::Role;
+use crate::stage::{Part, Stage, begin, group_role, next};
+use crate::stmt::{Class, GroupKind};
+use bz_token::{Kind, Token};
+
+// What the top is so far: the beginning of a rule, a rule, or none.
+#[derive(Clone, Copy)]
+pub(crate) enum Naming {
+    // An identifier comes next.
+    Name,
+    // `.` or the call comes next.
+    Join,
+    // It is a rule.
+    End,
+    // It is none.
+    Never,
+    // More stands after what would be a rule.
+    Lost,
+}
+
+// How many segments are done.
+#[derive(Clone, Copy)]
+pub(crate) enum Done {
+    Zero,
+    One,
+    More,
+}
+
+// What stands directly before: nothing but comments of a segment, the comma on this line, a node that begins on this line, with
+// its text if it is a token, or the end of the last segment.
+#[derive(Clone, Copy)]
+pub(crate) enum Here<'a> {
+    Nothing,
+    Comma(u64),
+    Node(u64, &'a str),
+    Ended,
+}
+
+// What the nodes of a segment are so far.
+#[derive(Clone, Copy)]
+pub(crate) struct Read {
+    pub(crate) stage: Stage,
+    pub(crate) at: Preceding,
+    pub(crate) naming: Naming,
+    // One of them is an assignment sign.
+    pub(crate) assigns: bool,
+}
+
+// A bracket that is open, or the top.
+#[derive(Clone, Copy)]
+pub(crate) struct Spot<'a> {
+    // None at the top.
+    pub(crate) kind: Option<GroupKind>,
+    pub(crate) done: Done,
+    pub(crate) here: Here<'a>,
+    pub(crate) read: Read,
+}
+
+#[inline(always)]
+fn named(naming: Naming, token: &Token<'_>) -> Naming
+    ensures { result ≡ named naming token.now.kind token.now.text.now }
+{
+    match naming {
+        Naming::Name if token.kind == Kind::Ident => Naming::Join,
+        Naming::Join if is_dot_at(token.kind, token.text) => Naming::Name,
+        Naming::End | Naming::Lost => Naming::Lost,
+        _ => Naming::Never,
+    }
+}
+
+#[inline(always)]
+fn called(naming: Naming, kind: GroupKind) -> Naming
+    ensures { result ≡ called naming kind }
+{
+    match naming {
+        Naming::Join if is_call(kind) => Naming::End,
+        Naming::End | Naming::Lost => Naming::Lost,
+        _ => Naming::Never,
+    }
+}
+
+/// As what a bracket is shown that opens here.
+#[inline(always)]
+pub(crate) fn shown_kind(naming: Naming, kind: GroupKind) -> GroupKind
+    ensures { result ≡ shown_kind naming kind }
+{
+    match naming {
+        Naming::Join if is_call(kind) => GroupKind::RuleCall,
+        _ => kind,
+    }
+}
+
+#[inline(always)]
+fn start(kind: Option<GroupKind>) -> Read
+    ensures { result ≡ start kind }
+{
+    match kind {
+        None => Read {
+            stage: Stage::Wants(Part::Left, false),
+            at: Preceding::Other,
+            naming: Naming::Name,
+            assigns: false,
+        },
+        Some(kind) => Read {
+            stage: begin(kind),
+            at: Preceding::Other,
+            naming: Naming::Never,
+            assigns: false,
+        },
+    }
+}
+
+#[inline(always)]
+fn one_more(done: Done) -> Done
+    ensures { result ≡ one_more done }
+{
+    match done {
+        Done::Zero => Done::One,
+        _ => Done::More,
+    }
+}
+
+impl Read {
+    // After a token of this role.
+    #[inline(always)]
+    pub(crate) fn add_leaf(&mut self, token: &Token<'_>, role: Role)
+        requires { role ≡ leaf_role token.now.kind token.now.text.now }
+        ensures { self.new ≡ read_leaf token.now.kind token.now.text.now self.old }
+    {
+        self.stage = next(self.stage, role);
+        self.at = kind_after(token.kind, token.text);
+        self.naming = named(self.naming, token);
+        self.assigns = self.assigns || matches!(role, Role::Equals | Role::Augmented);
+    }
+
+    #[inline(always)]
+    pub(crate) fn add_group(&mut self, kind: GroupKind)
+        ensures { self.new ≡ read_group kind self.old }
+    {
+        self.stage = next(self.stage, group_role(kind));
+        self.at = Preceding::Operand;
+        self.naming = called(self.naming, kind);
+    }
+
+    // The class of a statement of these nodes. None: it is left to its tree.
+    pub(crate) fn class(&self) -> Option<Class>
+        ensures { result ≡ then_some (not (is_lost self.now.naming)) (read_class self.now) }
+    {
+        match self.naming {
+            Naming::Lost => None,
+            _ if self.assigns => Some(Class::Assign),
+            Naming::End => Some(Class::Rule),
+            _ => Some(Class::Other),
+        }
+    }
+}
+
+impl<'a> Spot<'a> {
+    #[inline(always)]
+    pub(crate) fn new(kind: Option<GroupKind>) -> Spot<'a>
+        ensures { stand result ≡ new_stand kind }
+    {
+        Spot {
+            kind,
+            done: Done::Zero,
+            here: Here::Nothing,
+            read: start(kind),
+        }
+    }
+
+    #[inline(always)]
+    pub(crate) fn is_ended(&self) -> bool
+        ensures { result ≡ is_ended (here_view self.now.here) }
+    {
+        matches!(self.here, Here::Ended)
+    }
+
+    #[inline(always)]
+    pub(crate) fn add_comma(&mut self, line: u64)
+        ensures { stand self.new ≡ with_comma line (stand self.old) }
+    {
+        self.done = one_more(self.done);
+        self.here = Here::Comma(line);
+        self.read = start(self.kind);
+    }
+
+    // It is `(x,)`.
+    #[inline(always)]
+    pub(crate) fn is_one_comma(&self, kind: GroupKind) -> bool
+        ensures { result ≡ is_one_comma kind (stand self.now) }
+    {
+        match self.here {
+            Here::Node(_, _) | Here::Ended => false,
+            _ => matches!(kind, GroupKind::Paren) && matches!(self.done, Done::One),
+        }
+    }
+}
