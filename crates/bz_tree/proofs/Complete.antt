@@ -25,7 +25,7 @@ abbrev pub after_all : Preceding → List Own → Preceding
 after_all b [] = b
 after_all b (x ∷ xs) = after_all (preceding b x) xs
 
-same_itself : (s : Shape) → same_shape (Some s) s ≡ true
+pub same_itself : (s : Shape) → same_shape (Some s) s ≡ true
 same_itself Round = refl
 same_itself Square = refl
 same_itself Curly = refl

@@ -95,11 +95,11 @@ for_push (node line x ∷ os) o = first (for_push os o) (is_for_item x)
 for_push (comma t ∷ os) o = refl
 for_push (note line text ∷ os) o = for_push os o
 
-filled_push : (ss : List Segment) (s : Segment) → is_filled (ss ++ s ∷ []) ≡ true
+pub filled_push : (ss : List Segment) (s : Segment) → is_filled (ss ++ s ∷ []) ≡ true
 filled_push [] s = refl
 filled_push (r ∷ ss) s = refl
 
-filled_last : (text : List ℕ) (ss : List Segment) → is_filled (to_last text ss) ≡ is_filled ss
+pub filled_last : (text : List ℕ) (ss : List Segment) → is_filled (to_last text ss) ≡ is_filled ss
 filled_last text [] = refl
 filled_last text (s ∷ []) = refl
 filled_last text (s ∷ r ∷ ss) = refl

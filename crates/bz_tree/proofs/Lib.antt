@@ -15,5 +15,7 @@ pub mod Plain
 pub mod BlockLines
 pub mod KeptText
 pub mod Standing
+pub mod RowParts
+pub mod RowWalk
 pub mod Examples
 pub mod CellExamples

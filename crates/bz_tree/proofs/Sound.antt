@@ -114,7 +114,7 @@ single_leads : (m : Mark) (t : Placed) → mark_of t ≡ m → is_single m ≡ t
 single_leads m t is alone top outer new same well wells =
     push_leads top outer (single t) (t ∷ []) new refl (ap is_single is ∙ alone) well wells (ap (λ k. (with_own (image top) (own_of k t), map image outer)) is ∙ some_injective _ new same)
 
-same_shape_is : (o : Option Shape) (s : Shape) → same_shape o s ≡ true → o ≡ Some s
+pub same_shape_is : (o : Option Shape) (s : Shape) → same_shape o s ≡ true → o ≡ Some s
 same_shape_is (Some Round) Round h = refl
 same_shape_is (Some Square) Square h = refl
 same_shape_is (Some Curly) Curly h = refl
