@@ -23,13 +23,13 @@ use Rattle.bz_tree.specs.Comments.{Lists, owners_of, AreDealt}
 abbrev x : Placed
 x = record { kind = Ident; text = codes "x"; line = 1; col = 1; fresh = true }
 
-abbrev at : Kind → List ℕ → ℕ → ℕ → Placed
+abbrev pub at : Kind → List ℕ → ℕ → ℕ → Placed
 at kind text line col = record { kind = kind; text = text; line = line; col = col; fresh = false }
 
-abbrev a : List ℕ
+abbrev pub a : List ℕ
 a = codes "# a"
 
-abbrev b : List ℕ
+abbrev pub b : List ℕ
 b = codes "# b"
 
 -- after the last comma on its line: the last segment's suffix; on the next line: an end comment

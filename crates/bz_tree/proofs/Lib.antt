@@ -17,5 +17,8 @@ pub mod KeptText
 pub mod Standing
 pub mod RowParts
 pub mod RowWalk
+pub mod RowClass
+pub mod RowFound
 pub mod Examples
 pub mod CellExamples
+pub mod RowExamples

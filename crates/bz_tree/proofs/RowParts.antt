@@ -1,6 +1,5 @@
 -- The parts of a bracket that is open, one more thing at a time.
-use Rattle.std.proofs.Common.{◌≡◌, ℕ, List, [], ◌∷◌, ◌++◌, map, Bool, true, false, cond, ◌&&◌, Option, Some, None, refl, sym, ap, ◌∙◌, append_assoc, append-nil}
-use Rattle.std.proofs.lemmas.List.{map-append}
+use Rattle.std.proofs.Common.{◌≡◌, ℕ, List, [], ◌∷◌, ◌++◌, map, Bool, true, false, ◌&&◌, Option, Some, None, refl, sym, ap, ◌∙◌, append_assoc, append-nil}
 use Rattle.std.proofs.lemmas.Bool.{false≢true, and_parts}
 use Rattle.bz_tree.specs.declared.stmt.GroupKind.{GroupKind}
 use Rattle.bz_tree.specs.declared.kinds.Preceding.TheVariants.{Operand}
@@ -10,11 +9,11 @@ use Rattle.bz_tree.specs.declared.spot.Naming.TheVariants.{Never}
 use Rattle.bz_tree.specs.declared.spot.Done.{Done}
 use Rattle.bz_tree.specs.declared.spot.Done.TheVariants.{Zero, One, More}
 use Rattle.bz_tree.specs.declared.spot.Read.{Read}
-use Rattle.bz_tree.specs.Tree.{Item, leaf, group, Items, no_items, item, Segs, no_segs, seg, Segment, items_of, segs_of}
+use Rattle.bz_tree.specs.Tree.{Item, leaf, group, Segment, items_of, segs_of}
 use Rattle.bz_tree.specs.Brackets.{after_item}
 use Rattle.bz_tree.specs.Rows.{RowPart, opening, segment_end, above, beside, beside_part, item_parts, items_parts, segs_parts}
 use Rattle.bz_tree.specs.private.Machine.{next, may_end, accepts, role_of, each}
-use Rattle.bz_tree.specs.private.Steps.{add_beside, to_last}
+use Rattle.bz_tree.specs.private.Steps.{to_last}
 use Rattle.bz_tree.specs.private.RowSteps.{At, nothing, a_comma, a_node, an_end, called, shown_kind, start, read_leaf, one_more, Stand}
 use Rattle.bz_tree.proofs.Accepted.{both}
 

@@ -12,18 +12,16 @@ use Rattle.bz_tree.specs.declared.kinds.Mark.{Mark}
 use Rattle.bz_tree.specs.declared.kinds.Mark.TheVariants.{Open, Close, Comma, Comment, NewLine, Plain}
 use Rattle.bz_tree.specs.declared.kinds.Preceding.{Preceding}
 use Rattle.bz_tree.specs.declared.kinds.Preceding.TheVariants.{Operand, Other}
-use Rattle.bz_tree.specs.declared.role.Role.TheVariants.{Stray}
-use Rattle.bz_tree.specs.declared.spot.Done.TheVariants.{One}
 use Rattle.bz_tree.specs.declared.spot.Read.{Read}
-use Rattle.bz_tree.specs.Tree.{Item, leaf, group, Segment, items_of, segs_of}
+use Rattle.bz_tree.specs.Tree.{Item, Segment, segs_of}
 use Rattle.bz_tree.specs.Kinds.{kind_mark, mark_of, kind_after, is_for_at, group_kind, is_one, same_shape}
-use Rattle.bz_tree.specs.Owners.{Own, node, comma, note, no_token, end_of_node, end_of_comma, is_filled, Inside}
-use Rattle.bz_tree.specs.Brackets.{leaf_of, after_item, is_for_item, is_paren, group_with, end_line, own_of}
+use Rattle.bz_tree.specs.Owners.{node, comma, note, no_token, end_of_node, end_of_comma, is_filled, Inside}
+use Rattle.bz_tree.specs.Brackets.{leaf_of, is_for_item, is_paren, group_with, end_line}
 use Rattle.bz_tree.specs.Grammar.{leaf_role}
 use Rattle.bz_tree.specs.Rows.{RowPart, opening, closing, segment_end, above, beside, beside_part, item_parts}
-use Rattle.bz_tree.specs.private.Machine.{next, may_end, begin, each, accepts, role_of, group_role}
-use Rattle.bz_tree.specs.private.Steps.{Walked, at_start, after_node, after_own, noted, to_last, done, has_one, kind_with, shape_of, Level, Levels, with_own, closed, next_at}
-use Rattle.bz_tree.specs.private.RowSteps.{is_ended, called, shown_kind, start, read_group, one_more, Stand, with_node, with_here, RowState, step_to, is_stray, is_refused, segment_next, comma_next, note_part, after_note_next, end_note_next, note_next, last_end, has_node, is_single, is_one_comma, close_on, close_below, close_next, row_next_at}
+use Rattle.bz_tree.specs.private.Machine.{next, may_end, begin, each, role_of, group_role}
+use Rattle.bz_tree.specs.private.Steps.{Walked, after_own, noted, to_last, done, has_one, kind_with, shape_of, Level, Levels, with_own, next_at}
+use Rattle.bz_tree.specs.private.RowSteps.{is_ended, called, shown_kind, start, read_group, Stand, with_node, with_here, RowState, step_to, is_stray, is_refused, note_part, after_note_next, last_end, is_single, is_one_comma, close_on, close_below, row_next_at}
 use Rattle.bz_tree.proofs.Complete.{same_itself}
 use Rattle.bz_tree.proofs.InPlace.{filled_push, filled_last}
 use Rattle.bz_tree.proofs.Sound.{none_is_some, some_injective, same_shape_is}
@@ -330,7 +328,7 @@ one_comma_is kind segs (over before x xs suffix after) = sym (and_false (is_pare
 -- what the parts of a closed bracket are, and that it is in the grammar
 record Closes (kind : GroupKind) (segs : List Segment) (place : Place) (ends : List RowPart) : Type 0 where
   parts_are : (c : Bool) → bracket_parts (bracket (Some kind) segs place) ++ (ends ++ closing c ∷ [])
-    ≡ all_segs_parts (done (walked_of segs place)).segs ++ (map above (done (walked_of segs place)).end ++ closing c ∷ [])
+      ≡ all_segs_parts (done (walked_of segs place)).segs ++ (map above (done (walked_of segs place)).end ++ closing c ∷ [])
   role_is : IsReadGroup kind segs place
 
 closes : (kind : GroupKind) (segs : List Segment) (place : Place) (ends : List RowPart) → last_end (at_place place) (may_end (read_items (start (Some kind)) (nodes_of place)).stage) ≡ Some ends → IsGoodAt (Some kind) segs place
@@ -347,18 +345,18 @@ closes kind segs (some before x xs line) ends same good =
     let p = taken (may_end (read_items (start (Some kind)) (x ∷ xs)).stage) _ ends same in
     record {
       parts_are = λ c.
-        ap (λ ps. bracket_parts (bracket (Some kind) segs (some before x xs line)) ++ (ps ++ closing c ∷ [])) (sym p.1)
-        ∙ (sym (append_assoc (bracket_parts (bracket (Some kind) segs (some before x xs line))) (segment_end ∷ []) (closing c ∷ []))
-        ∙ ap (λ ps. ps ++ closing c ∷ []) (sym (segment_parts kind segs before x xs line)));
+          ap (λ ps. bracket_parts (bracket (Some kind) segs (some before x xs line)) ++ (ps ++ closing c ∷ [])) (sym p.1)
+          ∙ (sym (append_assoc (bracket_parts (bracket (Some kind) segs (some before x xs line))) (segment_end ∷ []) (closing c ∷ []))
+          ∙ ap (λ ps. ps ++ closing c ∷ []) (sym (segment_parts kind segs before x xs line)));
       role_is = group_role_is kind (done (walked_of segs (some before x xs line))) good.0 (segment_good kind segs before (x ∷ xs) None good.1 p.0);
     }
 closes kind segs (over before x xs suffix after) ends same good =
     let p = taken (may_end (read_items (start (Some kind)) (x ∷ xs)).stage) _ ends same in
     record {
       parts_are = λ c.
-        ap (λ ps. bracket_parts (bracket (Some kind) segs (over before x xs suffix after)) ++ (ps ++ closing c ∷ [])) (sym p.1)
-        ∙ (ap (λ ys. (all_segs_parts segs ++ (map above before ++ (nodes_parts ys ++ (segment_end ∷ (beside_part suffix ++ map above after))))) ++ closing c ∷ []) (never_shown (x ∷ xs) (start (Some kind)) refl)
-        ∙ sym (ap (λ ps. ps ++ (map above after ++ closing c ∷ [])) (segs_push segs (record { before = before; nodes = x ∷ xs; suffix = suffix })) ∙ simp append_assoc));
+          ap (λ ps. bracket_parts (bracket (Some kind) segs (over before x xs suffix after)) ++ (ps ++ closing c ∷ [])) (sym p.1)
+          ∙ (ap (λ ys. (all_segs_parts segs ++ (map above before ++ (nodes_parts ys ++ (segment_end ∷ (beside_part suffix ++ map above after))))) ++ closing c ∷ []) (never_shown (x ∷ xs) (start (Some kind)) refl)
+          ∙ sym (ap (λ ps. ps ++ (map above after ++ closing c ∷ [])) (segs_push segs (record { before = before; nodes = x ∷ xs; suffix = suffix })) ∙ simp append_assoc));
       role_is = group_role_is kind (done (walked_of segs (over before x xs suffix after))) good.0 (segment_good kind segs before (x ∷ xs) suffix good.1 p.0);
     }
 

@@ -1,13 +1,15 @@
 //! The row of a chunk's statement: a walk over the tokens that pushes its parts in order.
 
-ghost use Rattle.std.specs.Prelude.{◌≡◌, ◌+◌, ◌<◌, ◌^◌, ◌==◌, ◌++◌, false, map, count_by, IfOk, option_map};
+ghost use Rattle.std.specs.Prelude.{◌≡◌, ◌+◌, ◌<◌, ◌^◌, ◌==◌, ◌++◌, false, map, count_by, IfOk, IfSome, option_map};
 ghost use Rattle.std.specs.Bool.{then_some};
 ghost use Rattle.bz_token.specs.Places.{placed};
+ghost use Rattle.bz_tree.specs.Tree.{Statement};
 ghost use Rattle.bz_tree.specs.Statement.{first_token};
+ghost use Rattle.bz_tree.specs.Chunk.{IsStatementIn};
 ghost use Rattle.bz_tree.specs.Kinds.{group_kind};
-ghost use Rattle.bz_tree.specs.Rows.{part_view};
+ghost use Rattle.bz_tree.specs.Rows.{IsRowOf, part_view};
 ghost use Rattle.bz_tree.specs.private.Machine.{may_end};
-ghost use Rattle.bz_tree.specs.private.RowSteps.{here_view, row_state, leaf_next, top_comma_next, comma_next, note_part, after_note_next, note_next, open_next, last_end, close_next, row_next, row_end, row_view, row_run, row_start, is_upright};
+ghost use Rattle.bz_tree.specs.private.RowSteps.{here_view, row_state, leaf_next, top_comma_next, comma_next, note_part, after_note_next, note_next, open_next, last_end, close_next, row_next, row_end, row_view, row_run, row_start, is_upright, IsUprightRow};
 
 use crate::block::is_block_word;
 use crate::kinds::{Mark, Shape, group_kind, is_for_at, is_one, mark_of, same_shape, shape_of};
@@ -253,7 +255,9 @@ fn row_of<'a>(alloc: Global, tokens: &[Token<'a>]) -> Result<Option<Row<'a>>, Al
 }
 
 // The row of the tokens of a chunk.
-fn upright_row<'a>(alloc: Global, tokens: &[Token<'a>]) -> Result<Option<Row<'a>>, AllocError> {
+fn upright_row<'a>(alloc: Global, tokens: &[Token<'a>]) -> Result<Option<Row<'a>>, AllocError>
+    ensures { IfOk result (λ o. IfSome o (IsUprightRow (map placed tokens.now))) }
+{
     if first_seen(tokens).is_none() || !is_upright(tokens) {
         return Ok(None);
     }
@@ -270,6 +274,8 @@ pub fn read_row<'a>(
     max_depth: u8,
 ) -> Result<Option<Row<'a>>, AllocError>
     requires { first_line + count_by (λ b. b == 10) text.now < 2 ^ 64 }
+    ensures row { IfOk result (λ o. IfSome o
+        (λ row. (s : Statement) × IsStatementIn first_line max_depth text.now s × IsRowOf s row)) }
 {
     match tokens(alloc, text, first_line, max_depth) {
         Ok(tokens) => upright_row(alloc, &tokens),

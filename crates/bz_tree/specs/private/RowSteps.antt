@@ -3,18 +3,16 @@ use Rattle.std.specs.Prelude.{ℕ, ◌+◌, ◌==◌, count_by, List, [], ◌∷
 use Rattle.bz_token.specs.declared.token.Kind.{Kind}
 use Rattle.bz_token.specs.Places.{Placed}
 use Rattle.bz_tree.specs.declared.stmt.GroupKind.{GroupKind}
-use Rattle.bz_tree.specs.declared.stmt.GroupKind.TheVariants.{Call, RuleCall}
+use Rattle.bz_tree.specs.declared.stmt.GroupKind.TheVariants.{RuleCall}
 use Rattle.bz_tree.specs.declared.stmt.Class.{Class}
 use Rattle.bz_tree.specs.declared.stmt.Class.TheVariants.{Assign, Rule, Other as OtherClass}
 use Rattle.bz_tree.specs.declared.kinds.Shape.{Shape}
 use Rattle.bz_tree.specs.declared.kinds.Mark.{Mark}
 use Rattle.bz_tree.specs.declared.kinds.Mark.TheVariants.{Open, Close, Comma, Comment, NewLine, Plain}
-use Rattle.bz_tree.specs.declared.kinds.Preceding.{Preceding}
 use Rattle.bz_tree.specs.declared.kinds.Preceding.TheVariants.{Operand, Other}
 use Rattle.bz_tree.specs.declared.role.Role.{Role}
 use Rattle.bz_tree.specs.declared.role.Role.TheVariants.{Stray}
 use Rattle.bz_tree.specs.declared.stage.Part.TheVariants.{Left}
-use Rattle.bz_tree.specs.declared.stage.Stage.{Stage}
 use Rattle.bz_tree.specs.declared.stage.Stage.TheVariants.{Wants}
 use Rattle.bz_tree.specs.declared.spot.Naming.{Naming}
 use Rattle.bz_tree.specs.declared.spot.Naming.TheVariants.{Name, Join, End, Never, Lost}
@@ -29,9 +27,11 @@ use Rattle.bz_tree.specs.declared.row.Row.{Row}
 use Rattle.bz_tree.specs.Kinds.{mark_of, kind_after, is_for_at, group_kind, is_one, same_shape}
 use Rattle.bz_tree.specs.Brackets.{is_paren, end_line}
 use Rattle.bz_tree.specs.Blocks.{is_block_word}
+use Rattle.bz_tree.specs.Chunk.{IsReadAs}
+use Rattle.bz_tree.specs.Tree.{Statement}
 use Rattle.bz_tree.specs.Grammar.{leaf_role, is_assignment}
 use Rattle.bz_tree.specs.Statement.{is_ident, is_dot, is_call}
-use Rattle.bz_tree.specs.Rows.{RowPart, a_token, opening, closing, segment_end, above, beside, part_view}
+use Rattle.bz_tree.specs.Rows.{RowPart, a_token, opening, closing, segment_end, above, beside, part_view, IsRowOf}
 use Rattle.bz_tree.specs.private.Machine.{next, begin, may_end, group_role}
 use Rattle.bz_tree.specs.private.Steps.{shape_of}
 
@@ -263,3 +263,9 @@ row_start = record { top = new_stand None; outer = []; parts = [] }
 abbrev pub is_upright : Option Placed → Bool
 is_upright None = false
 is_upright (Some t) = (t.col == 1) && not (is_block_word t)
+
+-- the row of a statement with these tokens
+pub record IsUprightRow (tokens : List Placed) (row : Row) : Type 0 where
+  pub statement : Statement
+  pub reads : (first : ℕ) (bytes : List ℕ) → IsReadAs first bytes tokens statement
+  pub row_of : IsRowOf statement row

@@ -1,0 +1,128 @@
+-- The row that the walk finds is that of the statement of its tokens.
+use Rattle.std.proofs.Common.{◌≡◌, ℕ, ◌==◌, List, [], ◌∷◌, ◌++◌, map, Bool, true, false, not, cond, ◌||◌, Option, Some, None, IfSome, IsSome, option_map, option_and_then, refl, sym, ap, subst, ◌∙◌, append-nil}
+use Rattle.std.proofs.lemmas.Bool.{false≢true, and_parts}
+use Rattle.bz_token.specs.Places.{Placed}
+use Rattle.bz_token.specs.Reading.{AreTokensOf}
+use Rattle.bz_tree.specs.declared.stmt.GroupKind.{GroupKind}
+use Rattle.bz_tree.specs.declared.stage.Part.TheVariants.{Left}
+use Rattle.bz_tree.specs.declared.stage.Stage.TheVariants.{Wants}
+use Rattle.bz_tree.specs.declared.row.Row.{Row}
+use Rattle.bz_tree.specs.Tree.{Item, Segment, Statement, items_of}
+use Rattle.bz_tree.specs.Kinds.{mark_of}
+use Rattle.bz_tree.specs.Statement.{class_of, first_token, first_seen, statement_with}
+use Rattle.bz_tree.specs.Blocks.{is_block_word}
+use Rattle.bz_tree.specs.Chunk.{begins_block, indent_at, IsOneOf, IsStatementIn}
+use Rattle.bz_tree.specs.Rows.{above, beside_part, IsRowOf}
+use Rattle.bz_tree.specs.private.Machine.{accepts, may_end, is_load, is_nothing, is_statement}
+use Rattle.bz_tree.specs.private.Steps.{new_level, run}
+use Rattle.bz_tree.specs.private.RowSteps.{start, RowState, row_next, RowView, row_view, read_class, is_lost, row_end, row_run, row_start, is_upright, IsUprightRow}
+use Rattle.bz_tree.proofs.Plain.{plain_is}
+use Rattle.bz_tree.proofs.Sound.{none_is_some, some_injective}
+use Rattle.bz_tree.proofs.RowParts.{Place, none, fresh, some, over, Bracket, bracket, read_items, shown, nodes_parts, accepts_read}
+use Rattle.bz_tree.proofs.RowClass.{with_rule, shown_rule, with_rule_accepts, class_is}
+use Rattle.bz_tree.proofs.RowWalk.{level_of, image, IsGoodAt, IsGood, AreGood, next_leads}
+
+-- the statement's segment that the walk for the tree finds, and the row
+pub record Found (answer : Option Segment) (r : RowView) : Type 0 where
+  pub segment : Segment
+  pub answer_is : answer ≡ Some segment
+  pub parts_are : r.parts ≡ map above segment.before ++ (nodes_parts segment.nodes ++ beside_part segment.suffix)
+  pub class_is : r.class ≡ class_of segment.nodes
+  pub grammar : is_statement (items_of segment.nodes) ≡ true
+
+or_right : (a b : Bool) → b ≡ true → (a || b) ≡ true
+or_right true b h = refl
+or_right false b h = h
+
+-- the end of the tokens
+both_ends : (lost ends : Bool) (v r : RowView) → cond lost None (cond ends (Some v) None) ≡ Some r → (lost ≡ false) × (ends ≡ true) × (v ≡ r)
+both_ends false true v r h = (refl, refl, some_injective v r h)
+both_ends true ends v r h = absurd (none_is_some r h)
+both_ends false false v r h = absurd (none_is_some r h)
+
+segment_found : (before : List (List ℕ)) (nodes : List Item) (suffix : Option (List ℕ)) (answer : Option Segment) (r : RowView) → answer ≡ Some (record { before = before; nodes = with_rule nodes; suffix = suffix })
+    → r.parts ≡ map above before ++ (nodes_parts (shown (start None) nodes) ++ beside_part suffix) → read_class (read_items (start None) nodes) ≡ r.class
+    → is_lost (read_items (start None) nodes).naming ≡ false → may_end (read_items (start None) nodes).stage ≡ true → Found answer r
+segment_found before nodes suffix answer r answer_is parts_are class_eq lost ends =
+    let accepted : accepts (Wants Left false) (items_of nodes) ≡ true = accepts_read nodes (start None) ∙ ends in
+    record {
+      segment = record { before = before; nodes = with_rule nodes; suffix = suffix };
+      answer_is = answer_is;
+      parts_are = parts_are ∙ ap (λ xs. map above before ++ (nodes_parts xs ++ beside_part suffix)) (shown_rule nodes (start None) refl lost);
+      class_is = sym class_eq ∙ class_is nodes (start None) refl refl accepted;
+      grammar = or_right (is_nothing (items_of (with_rule nodes)) || is_load (items_of (with_rule nodes))) _ (with_rule_accepts nodes (Wants Left false) ∙ accepted);
+    }
+
+top_found : (place : Place) (r : RowView) → IsGoodAt None [] place → row_end None [] (image (bracket None [] place) []) ≡ Some r → Found (run (level_of (bracket None [] place)) [] []) r
+top_found (none after) r good same = absurd (none_is_some r same)
+top_found (fresh line) r good same = absurd (none_is_some r same)
+top_found (some before x xs line) r good same =
+    let p = both_ends (is_lost (read_items (start None) (x ∷ xs)).naming) _ _ r same in
+    segment_found before (x ∷ xs) None _ r
+    (ap (λ bs. Some (record { before = bs; nodes = with_rule (x ∷ xs); suffix = None })) (append-nil before))
+    (ap (λ (v : RowView). v.parts) (sym p.2) ∙ ap (λ ps. map above before ++ ps) (sym (append-nil (nodes_parts (shown (start None) (x ∷ xs)))))) (ap (λ (v : RowView). v.class) p.2) p.0 p.1
+top_found (over before x xs suffix []) r good same =
+    let p = both_ends (is_lost (read_items (start None) (x ∷ xs)).naming) _ _ r same in
+    segment_found before (x ∷ xs) suffix _ r
+    (ap (λ bs. Some (record { before = bs; nodes = with_rule (x ∷ xs); suffix = suffix })) (append-nil before))
+    (ap (λ (v : RowView). v.parts) (sym p.2) ∙ ap (λ ps. map above before ++ (nodes_parts (shown (start None) (x ∷ xs)) ++ ps)) (append-nil (beside_part suffix))) (ap (λ (v : RowView). v.class) p.2) p.0 p.1
+top_found (over before x xs suffix (text ∷ texts)) r good same = absurd (false≢true good.1)
+
+end_found : (kind : Option GroupKind) (segs : List Segment) (place : Place) (gs : List Bracket) (r : RowView) → IsGoodAt kind segs place → row_run (image (bracket kind segs place) gs) [] ≡ Some r
+    → Found (run (level_of (bracket kind segs place)) (map level_of gs) []) r
+end_found None segs place [] r good same =
+    subst (λ ss. Found (run (level_of (bracket None ss place)) [] []) r) (sym good.0) (top_found place r (refl, good.1) (ap (λ ss. row_end None [] (image (bracket None ss place) [])) (sym good.0) ∙ same))
+end_found None segs place (g ∷ gs) r good same = absurd (none_is_some r same)
+end_found (Some kind) segs place gs r good same = absurd (none_is_some r same)
+
+abbrev RunFound : List Placed → Type 0
+RunFound ts = (g : Bracket) (gs : List Bracket) (r : RowView) → row_run (image g gs) ts ≡ Some r → IsGood g → AreGood gs → Found (run (level_of g) (map level_of gs) ts) r
+
+after_step : (t : Placed) (ts : List Placed) → RunFound ts → (g : Bracket) (gs : List Bracket) (r : RowView) (o : Option RowState) → row_next t (image g gs) ≡ o → option_and_then (λ s. row_run s ts) o ≡ Some r → IsGood g → AreGood gs
+    → Found (run (level_of g) (map level_of gs) (t ∷ ts)) r
+after_step t ts more g gs r None is same good goods = absurd (none_is_some r same)
+after_step t ts more g gs r (Some new) is same good goods =
+    let led = next_leads (mark_of t) t refl g gs new is good goods in
+    let rest = more led.to led.around r (ap (λ s. row_run s ts) (sym led.state_is) ∙ same) led.good led.goods in
+    subst (λ o. Found (option_and_then (λ ls. run ls.0 ls.1 ts) o) r) (sym led.step_is) rest
+
+run_found : (ts : List Placed) → RunFound ts
+run_found [] = λ g gs r same good goods. end_found g.kind g.segs g.place gs r good same
+run_found (t ∷ ts) = λ g gs r same good goods. after_step t ts (run_found ts) g gs r (row_next t (image g gs)) refl same good goods
+
+-- what the walk finds
+pub row_found : (ts : List Placed) (r : RowView) → row_run row_start ts ≡ Some r → Found (run (new_level None) [] ts) r
+row_found ts r same = run_found ts (bracket None [] (none [])) [] r same (refl, refl) tt
+
+not_false : (b : Bool) → not b ≡ true → b ≡ false
+not_false false h = refl
+not_false true h = absurd (false≢true h)
+
+upright : (o : Option Placed) (ts : List Placed) → is_upright o ≡ true → (indent_at o ts ≡ None) × (begins_block o ≡ false)
+upright None ts h = absurd (false≢true h)
+upright (Some t) ts h =
+    let p = and_parts (t.col == 1) (not (is_block_word t)) h in
+    let word : is_block_word t ≡ false = not_false (is_block_word t) p.1 in
+    (rw (p.0, word) refl, word)
+
+-- the row of a statement that stands upright
+pub upright_row : (ts : List Placed) (row : Row) → row_run row_start ts ≡ Some (row_view row) → IsSome (first_seen ts) → is_upright (first_token ts) ≡ true → IsUprightRow ts row
+upright_row ts row same seen stands =
+    let found = row_found ts (row_view row) same in
+    let s = statement_with ts found.segment in
+    let p = upright (first_token ts) ts stands in
+    let plain = plain_is ts found.segment s found.answer_is found.grammar refl in
+    record {
+      statement = s;
+      reads = λ first bytes. record { upright = p.0; some = seen; chunk = subst (λ b. IsOneOf b first bytes ts s) (sym p.1) plain };
+      row_of = record { parts = found.parts_are; class = found.class_is };
+    }
+
+pub upright_rows : (ts : List Placed) (o : Option Row) → option_map row_view o ≡ row_run row_start ts → IsSome (first_seen ts) → is_upright (first_token ts) ≡ true → IfSome o (IsUprightRow ts)
+upright_rows ts None same seen stands = tt
+upright_rows ts (Some row) same seen stands = upright_row ts row (sym same) seen stands
+
+-- the tokens are those of a chunk
+pub row_in : (first depth : ℕ) (bytes : List ℕ) (ts : List Placed) → AreTokensOf first depth bytes ts → (o : Option Row) → IfSome o (IsUprightRow ts) → IfSome o (λ row. (s : Statement) × IsStatementIn first depth bytes s × IsRowOf s row)
+row_in first depth bytes ts are None h = tt
+row_in first depth bytes ts are (Some row) h = (h.statement, record { tokens = ts; are = are; reads = h.reads first bytes }, h.row_of)
