@@ -4,3 +4,4 @@ pub mod Slots
 pub mod Failures
 pub mod Positions
 pub mod Skips
+pub mod PassedBy

@@ -100,6 +100,12 @@ pub record IsLeftBy {S T C M : Type 0} (m : Meaning S T C M) (changes fails : C 
   pub changed : some_changed ≡ some_execution m changes ps slots
   pub failed : some_failed ≡ some_execution m fails ps slots
 
+-- The script leaves the slot as it is, and has nothing to tell of it: what the slots before it leave, they leave with it.
+pub record IsPassedBy {S T C M : Type 0} (m : Meaning S T C M) (changes fails : C → Slot S → Bool) (ps : List (Pass T C)) (slot : Slot S) : Type 0 where
+  pub stays : slot_after m ps slot ≡ slot
+  pub left : (slots : List (Slot S)) (ks : List (Kept M)) (some_changed some_failed : Bool)
+      → IsLeftBy m changes fails ps slots ks some_changed some_failed → IsLeftBy m changes fails ps (slots ++ slot ∷ []) ks some_changed some_failed
+
 -- Exchange: command by command over the whole file is the whole script over one slot after the other.
 pub record Exchange {S T C M : Type 0} (m : Meaning S T C M) (ps : List (Pass T C)) (slots : List (Slot S)) : Type 0 where
   pub each_slot_alone : slots_after m ps slots ≡ map (slot_after m ps) slots

@@ -1,10 +1,11 @@
 //! A whole script on one slot.
 
-ghost use Rattle.std.specs.Prelude.{◌≡◌, ◌++◌, ◌||◌, [], ◌∷◌, List, length, OnOk};
+ghost use Rattle.std.specs.Prelude.{◌≡◌, ◌++◌, ◌||◌, not, [], ◌∷◌, List, length, IsTrue, OnOk};
 ghost use Rattle.bz_command.specs.Passes.{Slot, executed, entries, meets, with_mark, marked};
-ghost use Rattle.bz_passes.specs.Exchange.{Fits, IsLeftBy, slot_after_commands, slot_after_pass, slot_after, logs_alone, logs_and, pass_alone, pass_and, kept_alone, kept_and, some_of_commands_alone, some_alone};
-ghost use Rattle.bz_passes.specs.private.Indexes.{IsFirstFrom};
+ghost use Rattle.bz_passes.specs.Exchange.{Fits, IsLeftBy, IsPassedBy, slot_after_commands, slot_after_pass, slot_after, logs_alone, logs_and, pass_alone, pass_and, kept_alone, kept_and, some_of_commands_alone, some_alone};
+ghost use Rattle.bz_passes.specs.private.Indexes.{IsFirstFrom, IsKeyOf, some_may_mark};
 
+use crate::index::Key;
 use crate::kept::Kept;
 use crate::language::{Facts, Language};
 use crate::log::Log;
@@ -171,4 +172,19 @@ pub fn run_script<L: Language>(
 {
     run_passes(language, passes, slot, kept, facts)?;
     Ok(())
+}
+
+/// Whether no pass of the script may mark what has this key. A slot that has it is then passed by: `run_script` would
+/// leave it as it is, and what is kept is that of the slots with it.
+pub fn passes_by<L: Language>(
+    language: &L,
+    passes: &Passes<L::Target, L::Command>,
+    key: Key<'_>,
+) -> bool
+    ensures is { result ≡ not (some_may_mark L.Target.asked key.entry passes.now) }
+    ensures law { IsTrue result → (slot : Slot L.Seen)
+        → IsKeyOf (L.meaning language.now) L.Target.asked slot key.entry
+        → IsPassedBy (L.meaning language.now) (L.changes language.now) (L.fails language.now) passes.now slot }
+{
+    passes.first_from(key, 0).is_none()
 }
