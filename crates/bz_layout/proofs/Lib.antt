@@ -2,5 +2,9 @@ pub mod Views
 pub mod Pieces
 pub mod Fronts
 pub mod Quotes
+pub mod Rules
+pub mod RowMarks
+pub mod RowWalk
+pub mod RowText
 pub mod Lines
 pub mod Examples

@@ -4,6 +4,7 @@ ghost use Rattle.std.specs.Prelude.{◌≡◌};
 ghost use Rattle.bz_tree.specs.Tree.{segs_of};
 ghost use Rattle.bz_tree.specs.View.{segs_view, texts};
 ghost use Rattle.bz_layout.specs.Broken.{have_comments, breaks_by_count, is_broken};
+ghost use Rattle.bz_layout.specs.private.RowLayout.{breaks_with};
 
 use bz_tree::{GroupKind, Seg};
 use std::borrow::CowStr;
@@ -37,13 +38,19 @@ fn breaks_by_count(kind: GroupKind, n: usize) -> bool
     }
 }
 
-// Whether a group is broken, where `inside` tells whether a segment of it holds a broken one.
-#[tactic(auto, using(crate::proofs::Views::count_view))]
+// Whether a group of `n` segments is broken, where `notes` tells whether it has comments, and `inside` whether a segment
+// of it holds a broken one.
+#[inline(always)]
+pub(crate) fn breaks_with(kind: GroupKind, notes: bool, n: usize, inside: bool) -> bool
+    ensures { result ≡ breaks_with kind notes n inside }
+{
+    notes || breaks_by_count(kind, n) || (n >= 2 && inside)
+}
+
+#[tactic(auto, using(crate::proofs::Views::count_view, crate::proofs::Rules::broken_is))]
 pub(crate) fn is_broken(kind: GroupKind, segs: &[Seg<'_>], end: &[CowStr<'_>], inside: bool) -> bool
     ensures { result ≡ is_broken kind (segs_of (segs_view segs.now)) (texts end.now) inside }
 {
-    !end.is_empty()
-        || have_comments(segs)
-        || breaks_by_count(kind, segs.len())
-        || (segs.len() >= 2 && inside)
+    let notes = !end.is_empty() || have_comments(segs);
+    breaks_with(kind, notes, segs.len(), inside)
 }

@@ -23,6 +23,9 @@ mod gaps;
 pub mod laws;
 mod marks;
 mod respell;
+mod row;
+mod row_marks;
+mod row_walk;
 mod spacing;
 mod statement;
 mod walk;
@@ -30,4 +33,5 @@ mod write;
 
 pub use flat_text::flat;
 pub use gaps::blank_between;
+pub use row::put_row;
 pub use statement::put_stmt;

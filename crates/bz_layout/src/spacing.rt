@@ -1,7 +1,9 @@
 //! Where a space stands between two neighbouring nodes.
 
 ghost use Rattle.std.specs.Prelude.{◌≡◌};
+ghost use Rattle.bz_tree.specs.Tree.{leaf};
 ghost use Rattle.bz_tree.specs.View.{node_view};
+ghost use Rattle.bz_layout.specs.private.RowLayout.{gap_for};
 ghost use Rattle.bz_layout.specs.Spacing.{hugs, closes_up, is_index, is_call, awaits_operand, is_prefix, begins_argument, is_index_colon, sign_edge, edge_after, gap_before};
 
 use bz_token::Kind;
@@ -33,7 +35,8 @@ pub enum Gap {
     Line(usize),
 }
 
-fn hugs(kind: GroupKind) -> bool
+#[inline(always)]
+pub(crate) fn hugs(kind: GroupKind) -> bool
     ensures { result ≡ hugs kind }
 {
     matches!(
@@ -43,14 +46,18 @@ fn hugs(kind: GroupKind) -> bool
 }
 
 #[inline(always)]
+pub(crate) fn token_closes_up(kind: Kind, text: &str) -> bool
+    ensures { result ≡ closes_up (leaf kind text.now) }
+{
+    matches!(kind, Kind::Sign) && (text == "." || text == "," || text == ":")
+}
+
+#[inline(always)]
 fn closes_up(node: &Node<'_>) -> bool
     ensures { result ≡ closes_up (node_view node.now) }
 {
     match node {
-        Node::Token(leaf) => {
-            let text = leaf.text.as_str();
-            matches!(leaf.kind, Kind::Sign) && (text == "." || text == "," || text == ":")
-        }
+        Node::Token(leaf) => token_closes_up(leaf.kind, leaf.text.as_str()),
         Node::Group(group) => hugs(group.kind),
     }
 }
@@ -108,33 +115,42 @@ fn sign_edge(within: Option<GroupKind>, left: Edge, text: &str) -> Edge
 }
 
 #[inline(always)]
+pub(crate) fn token_edge(within: Option<GroupKind>, left: Edge, kind: Kind, text: &str) -> Edge
+    ensures { result ≡ edge_after within left (leaf kind text.now) }
+{
+    match kind {
+        Kind::Sign => sign_edge(within, left, text),
+        Kind::Word => Edge::Operator,
+        _ => Edge::Operand,
+    }
+}
+
+#[inline(always)]
 pub(crate) fn edge_after(within: Option<GroupKind>, left: Edge, node: &Node<'_>) -> Edge
     ensures { result ≡ edge_after within left (node_view node.now) }
 {
     match node {
-        Node::Token(leaf) => match leaf.kind {
-            Kind::Sign => sign_edge(within, left, leaf.text.as_str()),
-            Kind::Word => Edge::Operator,
-            _ => Edge::Operand,
-        },
+        Node::Token(leaf) => token_edge(within, left, leaf.kind, leaf.text.as_str()),
         Node::Group(_) => Edge::Operand,
     }
 }
 
-// The gap before a node, where that before the first one is given.
+// The gap before what closes up or does not, where that before the first node is given.
 #[inline(always)]
-pub(crate) fn gap_before(first: Gap, left: Edge, node: &Node<'_>) -> Gap
-    ensures { result ≡ gap_before first left (node_view node.now) }
+pub(crate) fn gap_for(first: Gap, left: Edge, closes: bool) -> Gap
+    ensures { result ≡ gap_for first left closes }
 {
     match left {
         Edge::Start => first,
         Edge::Joined | Edge::Dotted => Gap::Closed,
-        Edge::Operator | Edge::Operand => {
-            if closes_up(node) {
-                Gap::Closed
-            } else {
-                Gap::Space
-            }
-        }
+        Edge::Operator | Edge::Operand => { if closes { Gap::Closed } else { Gap::Space } }
     }
+}
+
+#[inline(always)]
+#[tactic(auto, using(crate::proofs::Rules::gap_is))]
+pub(crate) fn gap_before(first: Gap, left: Edge, node: &Node<'_>) -> Gap
+    ensures { result ≡ gap_before first left (node_view node.now) }
+{
+    gap_for(first, left, closes_up(node))
 }

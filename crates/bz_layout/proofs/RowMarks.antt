@@ -1,0 +1,169 @@
+-- The walk backwards over a row marks each bracket as the tree says.
+use Rattle.std.proofs.Common.{◌≡◌, ℕ, suc, List, [], ◌∷◌, ◌++◌, map, Bool, true, false, ◌||◌, if◌then◌else◌, is_some, nat_le, Option, Some, None, refl, ap, sym, ◌∙◌, append_assoc, arith}
+use Rattle.std.proofs.lemmas.Bool.Decides.{nat_tests}
+use Rattle.bz_tree.specs.declared.stmt.GroupKind.{GroupKind}
+use Rattle.bz_tree.specs.declared.stmt.GroupKind.TheVariants.{Call, RuleCall, Load, Paren, List as ListKind, Index, Dict, ListComp, DictComp}
+use Rattle.bz_tree.specs.Tree.{Item, leaf, group, Items, no_items, item, Segs, no_segs, seg}
+use Rattle.bz_tree.specs.Rows.{RowPart, closing, segment_end, above, beside_part, item_parts, items_parts, segs_parts}
+use Rattle.bz_layout.specs.declared.row_marks.Mark.{Mark}
+use Rattle.bz_layout.specs.declared.row_marks.Inside.{Inside}
+use Rattle.bz_layout.specs.Broken.{count, has_some, have_comments, breaks_by_count, is_broken, holds_broken, items_hold, segs_hold}
+use Rattle.bz_layout.specs.Layout.{has_commas}
+use Rattle.bz_layout.specs.private.RowLayout.{Scan, closed, one_more, mark_of, breaks_with, holding, below, opened_back, scan}
+
+-- the mark of a group, and those in an item
+abbrev pub mark_as : Bool → GroupKind → Segs → Bool → Mark
+mark_as broken kind segs one_comma = record { broken = broken; comma = if broken then has_commas kind one_comma (count segs) else one_comma }
+
+abbrev mutual
+  pub item_marks : Item → List Mark
+  item_marks (leaf kind text) = []
+  item_marks (group kind segs one_comma end) = mark_as (is_broken kind segs end (segs_hold segs)) kind segs one_comma ∷ segs_marks segs
+
+  pub items_marks : Items → List Mark
+  items_marks no_items = []
+  items_marks (item x xs) = item_marks x ++ items_marks xs
+
+  pub segs_marks : Segs → List Mark
+  segs_marks no_segs = []
+  segs_marks (seg before nodes suffix ss) = items_marks nodes ++ segs_marks ss
+
+-- what an item adds to what stands after it, and what segments add
+abbrev found : List Mark → Bool → Scan → Scan
+found ms b s = record { marks = ms ++ s.marks; here = holding b s.here; outer = s.outer }
+
+abbrev add : Segs → ℕ → ℕ
+add no_segs n = n
+add (seg before nodes suffix ss) n = one_more (add ss n)
+
+abbrev in_segs : Bool → Bool → ℕ → Inside → Inside
+in_segs notes holds n i = record { one_comma = i.one_comma; notes = notes || i.notes; holds = holds || i.holds; segs = n }
+
+abbrev seen : Segs → Scan → Scan
+seen ss s = record { marks = segs_marks ss ++ s.marks; here = in_segs (have_comments ss) (segs_hold ss) (add ss s.here.segs) s.here; outer = s.outer }
+
+or_assoc : (a b c : Bool) → (a || (b || c)) ≡ ((a || b) || c)
+or_assoc true b c = refl
+or_assoc false b c = refl
+
+or_four : (a b c d : Bool) → (a || (b || (c || d))) ≡ (((a || b) || c) || d)
+or_four true b c d = refl
+or_four false b c d = or_assoc b c d
+
+or_false : (a : Bool) → (a || false) ≡ a
+or_false true = refl
+or_false false = refl
+
+or_comm : (a b : Bool) → (a || b) ≡ (b || a)
+or_comm true true = refl
+or_comm true false = refl
+or_comm false true = refl
+or_comm false false = refl
+
+-- at most two segments are counted, which is enough
+two_of : (n : ℕ) → nat_le 2 (suc (suc n)) ≡ true
+two_of n = grind (arith, nat_tests)
+
+one_of : (n : ℕ) → nat_le 1 (suc n) ≡ true
+one_of n = grind (arith, nat_tests)
+
+two_more : (n : ℕ) → nat_le 2 (one_more (one_more n)) ≡ true
+two_more n = grind (arith, nat_tests)
+
+add_two : (ss : Segs) → nat_le 2 (add ss 0) ≡ nat_le 2 (count ss)
+add_two no_segs = refl
+add_two (seg before nodes suffix no_segs) = refl
+add_two (seg before nodes suffix (seg before2 nodes2 suffix2 ss)) = two_more (add ss 0) ∙ sym (two_of (count ss))
+
+one_is_more : (n : ℕ) → nat_le 1 (one_more n) ≡ true
+one_is_more n = grind (arith, nat_tests)
+
+add_one : (ss : Segs) → nat_le 1 (add ss 0) ≡ nat_le 1 (count ss)
+add_one no_segs = refl
+add_one (seg before nodes suffix ss) = one_is_more (add ss 0) ∙ sym (one_of (count ss))
+
+counts : (kind : GroupKind) (ss : Segs) → breaks_by_count kind (add ss 0) ≡ breaks_by_count kind (count ss)
+counts Call ss = refl
+counts RuleCall ss = add_two ss
+counts Load ss = refl
+counts Paren ss = refl
+counts ListKind ss = add_two ss
+counts Index ss = refl
+counts Dict ss = add_one ss
+counts ListComp ss = refl
+counts DictComp ss = refl
+
+commas : (kind : GroupKind) (one : Bool) (ss : Segs) → has_commas kind one (add ss 0) ≡ has_commas kind one (count ss)
+commas Call one ss = refl
+commas RuleCall one ss = refl
+commas Load one ss = refl
+commas Paren one ss = rw (add_two ss) refl
+commas ListKind one ss = refl
+commas Index one ss = refl
+commas Dict one ss = refl
+commas ListComp one ss = refl
+commas DictComp one ss = refl
+
+breaks_as : (kind : GroupKind) (ss : Segs) (end : List (List ℕ)) → breaks_with kind (have_comments ss || (has_some end || false)) (add ss 0) (segs_hold ss || false) ≡ is_broken kind ss end (segs_hold ss)
+breaks_as kind ss end = rw (or_false (has_some end), or_comm (have_comments ss) (has_some end), or_false (segs_hold ss), counts kind ss, add_two ss) refl
+
+abbrev pub inside_of : Bool → Segs → List (List ℕ) → Inside
+inside_of one ss end = in_segs (have_comments ss) (segs_hold ss) (add ss 0) (in_segs (has_some end) false 0 (closed one))
+
+marked : (kind : GroupKind) (ss : Segs) (end : List (List ℕ)) (one : Bool) → mark_of kind (inside_of one ss end) ≡ mark_as (is_broken kind ss end (segs_hold ss)) kind ss one
+marked kind ss end one = rw (breaks_as kind ss end, commas kind one ss) refl
+
+-- one after the other
+found_both : (a c : List Mark) (b d : Bool) (s : Scan) → found a b (found c d s) ≡ found (a ++ c) (b || d) s
+found_both a c b d s = rw (append_assoc a c s.marks, or_assoc b d s.here.holds) refl
+
+scan_above : (notes : List (List ℕ)) (rest : List RowPart) → scan (map above notes ++ rest) ≡ record { marks = (scan rest).marks; here = in_segs (has_some notes) false (scan rest).here.segs (scan rest).here; outer = (scan rest).outer }
+scan_above [] rest = refl
+scan_above (note ∷ notes) rest = rw (scan_above notes rest) refl
+
+scan_beside : (suffix : Option (List ℕ)) (rest : List RowPart) → scan (beside_part suffix ++ rest) ≡ record { marks = (scan rest).marks; here = in_segs (is_some suffix) false (scan rest).here.segs (scan rest).here; outer = (scan rest).outer }
+scan_beside None rest = refl
+scan_beside (Some note) rest = refl
+
+segs_joined : (ss : Segs) (end : List (List ℕ)) (one : Bool) (rest : List RowPart) → (segs_parts ss ++ (map above end ++ closing one ∷ [])) ++ rest ≡ segs_parts ss ++ (map above end ++ closing one ∷ rest)
+segs_joined ss end one rest = simp append_assoc
+
+seg_joined : (before : List (List ℕ)) (nodes : Items) (suffix : Option (List ℕ)) (ss : Segs) (rest : List RowPart) → segs_parts (seg before nodes suffix ss) ++ rest ≡ map above before ++ (items_parts nodes ++ (segment_end ∷ (beside_part suffix ++ (segs_parts ss ++ rest))))
+seg_joined before nodes suffix ss rest = simp append_assoc
+
+-- a bracket with what stands in it
+group_found : (kind : GroupKind) (segs : Segs) (one : Bool) (end : List (List ℕ)) (s : Scan) → opened_back kind (record { marks = segs_marks segs ++ s.marks; here = inside_of one segs end; outer = s.here ∷ s.outer }) ≡ found (item_marks (group kind segs one end)) (holds_broken (group kind segs one end)) s
+group_found kind segs one end s =
+    let inside = inside_of one segs end in
+    let marks = segs_marks segs ++ s.marks in
+    let mark = mark_as (is_broken kind segs end (segs_hold segs)) kind segs one in
+    let same = ap (λ (m : Mark). below m (m.broken || inside.holds) marks (s.here ∷ s.outer)) (marked kind segs end one) in
+    same ∙ ap (λ (b : Bool). below mark (mark.broken || b) marks (s.here ∷ s.outer)) (or_false (segs_hold segs))
+
+seg_seen : (before : List (List ℕ)) (nodes : Items) (suffix : Option (List ℕ)) (ss : Segs) (s : Scan) →
+    record {
+      marks = items_marks nodes ++ (segs_marks ss ++ s.marks);
+      here = in_segs (has_some before) false (one_more (add ss s.here.segs)) (holding (items_hold nodes) (in_segs (is_some suffix) false (one_more (add ss s.here.segs)) (in_segs (have_comments ss) (segs_hold ss) (add ss s.here.segs) s.here)));
+      outer = s.outer;
+    } ≡ seen (seg before nodes suffix ss) s
+seg_seen before nodes suffix ss s = rw (append_assoc (items_marks nodes) (segs_marks ss) s.marks, or_four (has_some before) (is_some suffix) (have_comments ss) s.here.notes, or_assoc (items_hold nodes) (segs_hold ss) s.here.holds) refl
+
+mutual
+  pub scan_item : (x : Item) (rest : List RowPart) → scan (item_parts x ++ rest) ≡ found (item_marks x) (holds_broken x) (scan rest)
+  scan_item (leaf kind text) rest = refl
+  scan_item (group kind segs one_comma end) rest =
+      let joined = ap scan (segs_joined segs end one_comma rest) in
+      let inner = joined ∙ (scan_segs segs (map above end ++ closing one_comma ∷ rest) ∙ ap (seen segs) (scan_above end (closing one_comma ∷ rest))) in
+      ap (opened_back kind) inner ∙ group_found kind segs one_comma end (scan rest)
+
+  pub scan_items : (xs : Items) (rest : List RowPart) → scan (items_parts xs ++ rest) ≡ found (items_marks xs) (items_hold xs) (scan rest)
+  scan_items no_items rest = refl
+  scan_items (item x xs) rest =
+      rw (append_assoc (item_parts x) (items_parts xs) rest, scan_item x (items_parts xs ++ rest), scan_items xs rest) (found_both (item_marks x) (items_marks xs) (holds_broken x) (items_hold xs) (scan rest))
+
+  pub scan_segs : (ss : Segs) (rest : List RowPart) → scan (segs_parts ss ++ rest) ≡ seen ss (scan rest)
+  scan_segs no_segs rest = refl
+  scan_segs (seg before nodes suffix ss) rest =
+      let after = segs_parts ss ++ rest in
+      let ended = segment_end ∷ (beside_part suffix ++ after) in
+      rw (seg_joined before nodes suffix ss rest, scan_above before (items_parts nodes ++ ended), scan_items nodes ended, scan_beside suffix after, scan_segs ss rest) (seg_seen before nodes suffix ss (scan rest))

@@ -1,0 +1,65 @@
+-- The text of a row is that of its statement.
+use Rattle.std.proofs.Common.{◌≡◌, codes, ℕ, List, [], ◌∷◌, ◌++◌, map, Option, Some, None, refl, ap, sym, ◌∙◌, append_assoc, append-nil, inl, inr}
+use Rattle.std.proofs.lemmas.Bool.{cases_Bool}
+use Rattle.bz_tree.specs.Tree.{leaf, group, Items, no_items, item, Statement, items_of}
+use Rattle.bz_tree.specs.Rows.{RowPart, above, beside_part, items_parts, parts_of, part_view, IsRowOf}
+use Rattle.bz_tree.specs.declared.row.Row.{Row}
+use Rattle.bz_token.specs.declared.token.Kind.TheVariants.{Line as LineKind}
+use Rattle.bz_layout.specs.declared.row_marks.Mark.{Mark}
+use Rattle.bz_layout.specs.declared.row_walk.Frame.{Frame}
+use Rattle.bz_layout.specs.declared.spacing.Edge.{Edge}
+use Rattle.bz_layout.specs.declared.spacing.Edge.TheVariants.{Start}
+use Rattle.bz_layout.specs.declared.spacing.Gap.TheVariants.{Closed}
+use Rattle.bz_layout.specs.declared.broken.Style.TheVariants.{Broken}
+use Rattle.bz_layout.specs.Pieces.{Piece, piece, bytes_of, comment_lines, suffix_piece}
+use Rattle.bz_layout.specs.Layout.{items_pieces, statement_line, is_comment, layout_text}
+use Rattle.bz_layout.specs.private.RowLayout.{leading, after_leading, Laid, line_text, row_text, run, scan, top}
+use Rattle.bz_layout.proofs.Pieces.{bytes_append}
+use Rattle.bz_layout.proofs.RowMarks.{items_marks, scan_items}
+use Rattle.bz_layout.proofs.RowWalk.{at, last_edge, run_items}
+
+-- the parts after the comments above the statement
+abbrev rest_of : Statement → List RowPart
+rest_of s = items_parts (items_of s.nodes) ++ beside_part s.suffix
+
+no_leading : (xs : Items) (suffix : Option (List ℕ)) → (leading (items_parts xs ++ beside_part suffix) ≡ []) × (after_leading (items_parts xs ++ beside_part suffix) ≡ items_parts xs ++ beside_part suffix)
+no_leading no_items None = (refl, refl)
+no_leading no_items (Some note) = (refl, refl)
+no_leading (item (leaf kind text) xs) suffix = (refl, refl)
+no_leading (item (group kind segs one_comma end) xs) suffix = (refl, refl)
+
+leads : (notes : List (List ℕ)) (ps : List RowPart) → leading ps ≡ [] → leading (map above notes ++ ps) ≡ notes
+leads [] ps h = h
+leads (note ∷ notes) ps h = ap (λ ns. note ∷ ns) (leads notes ps h)
+
+follows : (notes : List (List ℕ)) (ps : List RowPart) → after_leading ps ≡ ps → after_leading (map above notes ++ ps) ≡ ps
+follows [] ps h = h
+follows (note ∷ notes) ps h = follows notes ps h
+
+marks_are : (xs : Items) (suffix : Option (List ℕ)) → (scan (items_parts xs ++ beside_part suffix)).marks ≡ items_marks xs ++ []
+marks_are xs None = rw (scan_items xs []) refl
+marks_are xs (Some note) = rw (scan_items xs (beside_part (Some note))) refl
+
+beside_text : (suffix : Option (List ℕ)) (t : List ℕ) (ms : List Mark) (o : List Frame) (h : Frame) (l : Edge) (n : ℕ) → (run (beside_part suffix) (at t ms o h l n)).text ≡ t ++ bytes_of (suffix_piece suffix)
+beside_text None t ms o h l n = sym (append-nil t)
+beside_text (Some note) t ms o h l n = rw (append-nil note) refl
+
+line_joined : (t : List ℕ) (a b : List Piece) → ((t ++ bytes_of a) ++ bytes_of b) ++ codes "\n" ≡ t ++ bytes_of (a ++ (b ++ piece Closed LineKind (codes "\n") ∷ []))
+line_joined t a b = rw (bytes_append a (b ++ piece Closed LineKind (codes "\n") ∷ []), bytes_append b (piece Closed LineKind (codes "\n") ∷ [])) (simp append_assoc)
+
+line_is : (t : List ℕ) (s : Statement) → line_text t (rest_of s) ≡ t ++ bytes_of (statement_line s)
+line_is t s =
+    let xs = items_of s.nodes in
+    let a = items_pieces Broken 0 None Closed Start xs in
+    let written = ap (λ (l : Laid). l.text) (run_items xs (beside_part s.suffix) t [] [] top Start 0) ∙ beside_text s.suffix (t ++ bytes_of a) [] [] top (last_edge None Start xs) 0 in
+    rw (marks_are xs s.suffix) (ap (λ (u : List ℕ). u ++ codes "\n") written ∙ line_joined t a (suffix_piece s.suffix))
+
+pub is_layout : (s : Statement) (row : Row) → IsRowOf s row → row_text (map part_view row.parts.items) row.class ≡ layout_text s
+is_layout s row is =
+    let none = no_leading (items_of s.nodes) s.suffix in
+    let notes : leading (parts_of s) ≡ s.before = leads s.before (rest_of s) none.0 in
+    let rest : after_leading (parts_of s) ≡ rest_of s = follows s.before (rest_of s) none.1 in
+    rw (is.parts, is.class, notes, rest) (elim (cases_Bool (is_comment s.class)) [
+      | inl hit ↦ rw (hit, append-nil (comment_lines s.before)) refl
+      | inr miss ↦ rw (miss, bytes_append (comment_lines s.before) (statement_line s)) (line_is (bytes_of (comment_lines s.before)) s)
+    ])

@@ -1,0 +1,223 @@
+-- For private clauses: the two walks over the parts of a row.
+use Rattle.std.specs.Prelude.{codes, ℕ, ◌+◌, ◌-◌, List, [], ◌∷◌, ◌++◌, reverse, Bool, true, false, ◌||◌, ◌&&◌, if◌then◌else◌, nat_le, nat_lt, Option, string_bytes}
+use Rattle.std.specs.Prelude.Option.{Some, None}
+use Rattle.bz_token.specs.declared.token.Kind.{Kind}
+use Rattle.bz_tree.specs.declared.stmt.GroupKind.{GroupKind}
+use Rattle.bz_tree.specs.declared.stmt.Class.{Class}
+use Rattle.bz_tree.specs.Tree.{leaf}
+use Rattle.bz_tree.specs.Rows.{RowPart, a_token, opening, closing, segment_end, above, beside}
+use Rattle.bz_layout.specs.declared.spacing.Edge.{Edge}
+use Rattle.bz_layout.specs.declared.spacing.Edge.TheVariants.{Start, Operand}
+use Rattle.bz_layout.specs.declared.spacing.Gap.{Gap}
+use Rattle.bz_layout.specs.declared.spacing.Gap.TheVariants.{Closed, Space, Apart, Line}
+use Rattle.bz_layout.specs.declared.row_marks.Mark.{Mark}
+use Rattle.bz_layout.specs.declared.row_marks.Inside.{Inside}
+use Rattle.bz_layout.specs.declared.row_marks.Marks.{Marks}
+use Rattle.bz_layout.specs.declared.row_walk.Frame.{Frame}
+use Rattle.bz_layout.specs.declared.row_walk.Walk.{Walk}
+use Rattle.bz_layout.specs.Respell.{respell}
+use Rattle.bz_layout.specs.Spacing.{closes_up, hugs, edge_after, holds_on}
+use Rattle.bz_layout.specs.Broken.{breaks_by_count}
+use Rattle.bz_layout.specs.Pieces.{gap_bytes, bytes_of, comment_lines}
+use Rattle.bz_layout.specs.Layout.{has_commas, is_comment, opening as opening_text, closing as closing_text}
+
+-- The rules of the layout, without a tree: the gap before what closes up or does not ..
+abbrev pub gap_for : Gap → Edge → Bool → Gap
+gap_for first Start closes = first
+gap_for first left closes = if holds_on left || closes then Closed else Space
+
+-- .. and whether a group is broken, by whether it has comments, its number of segments, and whether one of them holds a broken group
+abbrev pub breaks_with : GroupKind → Bool → ℕ → Bool → Bool
+breaks_with kind notes n inside = notes || breaks_by_count kind n || (nat_le 2 n && inside)
+
+-- The walk backwards: marks of the brackets after it, the first one first, and what stands in the brackets that it is in, the innermost first.
+pub record Scan : Type 0 where
+  pub marks : List Mark
+  pub here : Inside
+  pub outer : List Inside
+
+abbrev pub closed : Bool → Inside
+closed one_comma = record { one_comma = one_comma; notes = false; holds = false; segs = 0 }
+
+abbrev pub one_more : ℕ → ℕ
+one_more n = if nat_lt n 2 then n + 1 else n
+
+abbrev pub mark_of : GroupKind → Inside → Mark
+mark_of kind i =
+    let broken = breaks_with kind i.notes i.segs i.holds in
+    record { broken = broken; comma = if broken then has_commas kind i.one_comma i.segs else i.one_comma }
+
+abbrev pub holding : Bool → Inside → Inside
+holding holds i = record { one_comma = i.one_comma; notes = i.notes; holds = holds || i.holds; segs = i.segs }
+
+abbrev pub noted : Inside → Inside
+noted i = record { one_comma = i.one_comma; notes = true; holds = i.holds; segs = i.segs }
+
+abbrev pub counted : Inside → Inside
+counted i = record { one_comma = i.one_comma; notes = i.notes; holds = i.holds; segs = one_more i.segs }
+
+abbrev pub here_as : Inside → Scan → Scan
+here_as i s = record { marks = s.marks; here = i; outer = s.outer }
+
+-- before the bracket, below it
+abbrev pub below : Mark → Bool → List Mark → List Inside → Scan
+below mark holds marks [] = record { marks = mark ∷ marks; here = holding holds (closed false); outer = [] }
+below mark holds marks (i ∷ outer) = record { marks = mark ∷ marks; here = holding holds i; outer = outer }
+
+abbrev pub opened_back : GroupKind → Scan → Scan
+opened_back kind s = below (mark_of kind s.here) ((mark_of kind s.here).broken || s.here.holds) s.marks s.outer
+
+abbrev pub back : RowPart → Scan → Scan
+back (a_token kind text) s = s
+back (opening kind) s = opened_back kind s
+back (closing one_comma) s = record { marks = s.marks; here = closed one_comma; outer = s.here ∷ s.outer }
+back segment_end s = here_as (counted s.here) s
+back (above text) s = here_as (noted s.here) s
+back (beside text) s = here_as (noted s.here) s
+
+abbrev pub scan : List RowPart → Scan
+scan [] = record { marks = []; here = closed false; outer = [] }
+scan (p ∷ ps) = back p (scan ps)
+
+abbrev pub scanned : Marks → Scan
+scanned m = record { marks = reverse m.marks.items; here = m.here; outer = reverse m.outer.items }
+
+-- The walk forwards: what is written, the marks of the brackets to come, and the brackets that it is in, the innermost first.
+pub record Laid : Type 0 where
+  pub text : List ℕ
+  pub marks : List Mark
+  pub outer : List Frame
+  pub here : Frame
+  pub left : Edge
+  pub level : ℕ
+
+abbrev pub whole : Mark
+whole = record { broken = false; comma = false }
+
+abbrev pub top : Frame
+top = record { within = None; first = Closed; mark = whole }
+
+abbrev pub start : List ℕ → List Mark → Laid
+start text marks = record { text = text; marks = marks; outer = []; here = top; left = Start; level = 0 }
+
+abbrev pub laid : Walk → Laid
+laid w = record { text = string_bytes w.text; marks = reverse w.marks.items; outer = reverse w.outer.items; here = w.here; left = w.left; level = w.level }
+
+abbrev pub put_note : Gap → List ℕ → Laid → Laid
+put_note gap text s = record { text = s.text ++ (gap_bytes gap ++ text); marks = s.marks; outer = s.outer; here = s.here; left = s.left; level = s.level }
+
+abbrev pub with_token : Kind → List ℕ → Laid → Laid
+with_token kind text s = record {
+  text = s.text ++ (gap_bytes (gap_for s.here.first s.left (closes_up (leaf kind text))) ++ respell kind text);
+  marks = s.marks;
+  outer = s.outer;
+  here = s.here;
+  left = edge_after s.here.within s.left (leaf kind text);
+  level = s.level;
+}
+
+abbrev pub level_in : Mark → ℕ → ℕ
+level_in mark level = if mark.broken then level + 1 else level
+
+abbrev pub first_in : Mark → ℕ → Gap
+first_in mark level = if mark.broken then Line (level + 1) else Closed
+
+abbrev pub opened_by : Mark → List Mark → GroupKind → Laid → Laid
+opened_by mark marks kind s = record {
+  text = s.text ++ (gap_bytes (gap_for s.here.first s.left (hugs kind)) ++ opening_text kind);
+  marks = marks;
+  outer = s.here ∷ s.outer;
+  here = record { within = Some kind; first = first_in mark s.level; mark = mark };
+  left = Start;
+  level = level_in mark s.level;
+}
+
+abbrev pub first_mark : List Mark → Mark
+first_mark [] = whole
+first_mark (mark ∷ marks) = mark
+
+abbrev pub tail : {A : Type 0} → List A → List A
+tail [] = []
+tail (x ∷ xs) = xs
+
+abbrev pub opened : GroupKind → Laid → Laid
+opened kind s = opened_by (first_mark s.marks) (tail s.marks) kind s
+
+abbrev pub first_frame : List Frame → Frame
+first_frame [] = top
+first_frame (f ∷ fs) = f
+
+abbrev pub level_out : Mark → ℕ → ℕ
+level_out mark level = if mark.broken then level - 1 else level
+
+abbrev pub comma_bytes : Bool → List ℕ
+comma_bytes b = if b then codes "," else []
+
+abbrev pub before_closing : Mark → ℕ → List ℕ
+before_closing mark level = if mark.broken then gap_bytes (Line (level - 1)) else comma_bytes mark.comma
+
+abbrev pub closing_of : Option GroupKind → List ℕ
+closing_of None = []
+closing_of (Some kind) = closing_text kind
+
+abbrev pub closed_by : Laid → Laid
+closed_by s = record {
+  text = s.text ++ (before_closing s.here.mark s.level ++ closing_of s.here.within);
+  marks = s.marks;
+  outer = tail s.outer;
+  here = first_frame s.outer;
+  left = Operand;
+  level = level_out s.here.mark s.level;
+}
+
+-- what follows a segment: in place a comma before the next one
+abbrev pub after_segment : Mark → Bool → List ℕ
+after_segment mark last = if mark.broken then comma_bytes mark.comma else (if last then [] else codes ",")
+
+abbrev pub next_first : Mark → Bool → Gap → Gap
+next_first mark last first = if mark.broken then first else (if last then first else Space)
+
+abbrev pub ended : Bool → Laid → Laid
+ended last s = record {
+  text = s.text ++ after_segment s.here.mark last;
+  marks = s.marks;
+  outer = s.outer;
+  here = record { within = s.here.within; first = next_first s.here.mark last s.here.first; mark = s.here.mark };
+  left = Start;
+  level = s.level;
+}
+
+-- the bracket is closed next
+abbrev pub is_last : List RowPart → Bool
+is_last (closing one_comma ∷ rest) = true
+is_last _ = false
+
+abbrev pub step : RowPart → List RowPart → Laid → Laid
+step (a_token kind text) rest s = with_token kind text s
+step (opening kind) rest s = opened kind s
+step (closing one_comma) rest s = closed_by s
+step segment_end rest s = ended (is_last rest) s
+step (above text) rest s = put_note (Line s.level) text s
+step (beside text) rest s = put_note Apart text s
+
+abbrev pub run : List RowPart → Laid → Laid
+run [] s = s
+run (p ∷ ps) s = run ps (step p ps s)
+
+-- the comments above the statement, and the parts after them
+abbrev pub leading : List RowPart → List (List ℕ)
+leading (above text ∷ ps) = text ∷ leading ps
+leading _ = []
+
+abbrev pub after_leading : List RowPart → List RowPart
+after_leading (above text ∷ ps) = after_leading ps
+after_leading ps = ps
+
+abbrev pub line_text : List ℕ → List RowPart → List ℕ
+line_text text ps = (run ps (start text (scan ps).marks)).text ++ codes "\n"
+
+-- the text of a row
+abbrev pub row_text : List RowPart → Class → List ℕ
+row_text ps class =
+    let text = bytes_of (comment_lines (leading ps)) in
+    if is_comment class then text else line_text text (after_leading ps)

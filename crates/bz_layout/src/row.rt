@@ -1,0 +1,61 @@
+//! The canonical text of a statement that is given as a row.
+
+ghost use Rattle.std.specs.Prelude.{◌≡◌, ◌++◌, IfOk, OnOk, OnErr, map, string_bytes};
+ghost use Rattle.bz_tree.specs.Tree.{Statement};
+ghost use Rattle.bz_tree.specs.Rows.{IsRowOf, part_view};
+ghost use Rattle.bz_layout.specs.Pieces.{bytes_of, comment_lines};
+ghost use Rattle.bz_layout.specs.Layout.{layout_text};
+ghost use Rattle.bz_layout.specs.private.RowLayout.{leading, after_leading, row_text};
+
+use crate::row_marks::marks_of;
+use crate::row_walk::Walk;
+use bz_tree::{Class, Part, Row};
+use std::alloc::{AllocError, Global};
+
+// The comments above the statement, each with its newline, and the parts after them.
+fn put_leading<'r, 'a>(
+    parts: &'r [Part<'a>],
+    out: &mut String,
+) -> Result<&'r [Part<'a>], AllocError>
+    ensures text { OnOk result (string_bytes out.new
+        ≡ string_bytes out.old ++ bytes_of (comment_lines (leading (map part_view parts.now)))) }
+    ensures rest { IfOk result (λ rest. map part_view rest.now ≡ after_leading (map part_view parts.now)) }
+{
+    for i in 0..parts.len() {
+        let Part::Above(note) = parts[i] else {
+            return Ok(&parts[i..]);
+        };
+        out.push_str(note)?;
+        out.push_str("\n")?;
+    }
+    Ok(&[])
+}
+
+fn text_of(alloc: Global, row: &Row<'_>) -> Result<String, AllocError>
+    ensures { IfOk result (λ text. string_bytes text
+        ≡ row_text (map part_view row.now.parts.items) row.now.class) }
+{
+    let mut text = String::new(alloc);
+    let rest = put_leading(&row.parts, &mut text)?;
+    if matches!(row.class, Class::Comment) {
+        return Ok(text);
+    }
+    let marks = marks_of(alloc, rest)?;
+    let mut walk = Walk::new(alloc, text, marks);
+    walk.run(rest)?;
+    let Walk { mut text, .. } = walk;
+    text.push_str("\n")?;
+    Ok(text)
+}
+
+/// Appends the canonical text of a row's statement, with its last newline. `Err`: memory was refused, and `out` is as
+/// it was.
+pub fn put_row(alloc: Global, row: &Row<'_>, out: &mut Vec<u8>) -> Result<(), AllocError>
+    ensures appended { OnOk result
+        ((s : Statement) → IsRowOf s row.now → out.new.items ≡ out.old.items ++ layout_text s) }
+    ensures unchanged { OnErr result (out.new.items ≡ out.old.items) }
+{
+    let text = text_of(alloc, row)?;
+    out.extend_from_slice(text.as_bytes())?;
+    Ok(())
+}

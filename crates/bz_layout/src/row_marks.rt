@@ -1,0 +1,125 @@
+//! One walk backwards over the parts of a row, ahead of the writing: a mark for each bracket. Backwards a bracket's end
+//! comes first, so what decides on it is known where it opens.
+
+ghost use Rattle.std.specs.Prelude.{◌≡◌, IfOk, OnOk, map, reverse};
+ghost use Rattle.bz_tree.specs.Rows.{part_view};
+ghost use Rattle.bz_layout.specs.private.RowLayout.{closed, one_more, mark_of, opened_back, back, scan, scanned};
+
+use crate::broken::breaks_with;
+use crate::write::has_commas;
+use bz_tree::{GroupKind, Part};
+use std::alloc::{AllocError, Global};
+
+/// How a bracket is written.
+#[derive(Clone, Copy)]
+pub(crate) struct Mark {
+    pub(crate) broken: bool,
+    // A comma stands after each segment if it is broken, else after the last one.
+    pub(crate) comma: bool,
+}
+
+// What stands in a bracket, or at the top, after a part.
+#[derive(Clone, Copy)]
+pub(crate) struct Inside {
+    pub(crate) one_comma: bool,
+    // It has comments.
+    pub(crate) notes: bool,
+    // A segment of it holds a broken bracket.
+    pub(crate) holds: bool,
+    // The number of its segments, at most 2.
+    pub(crate) segs: usize,
+}
+
+#[derive(Drop)]
+pub(crate) struct Marks {
+    // The last is that of the first bracket.
+    pub(crate) marks: Vec<Mark>,
+    pub(crate) here: Inside,
+    pub(crate) outer: Vec<Inside>,
+}
+
+impl Inside {
+    #[inline(always)]
+    fn closed(one_comma: bool) -> Inside
+        ensures { result ≡ closed one_comma }
+    {
+        Inside {
+            one_comma,
+            notes: false,
+            holds: false,
+            segs: 0,
+        }
+    }
+}
+
+#[inline(always)]
+fn one_more(n: usize) -> usize
+    ensures { result ≡ one_more n }
+{
+    if n < 2 { n + 1 } else { n }
+}
+
+#[inline(always)]
+fn mark_of(kind: GroupKind, inside: Inside) -> Mark
+    ensures { result ≡ mark_of kind inside }
+{
+    let broken = breaks_with(kind, inside.notes, inside.segs, inside.holds);
+    let comma = if broken {
+        has_commas(kind, inside.one_comma, inside.segs)
+    } else {
+        inside.one_comma
+    };
+    Mark { broken, comma }
+}
+
+impl Marks {
+    // A bracket opens, with all that stands in it after it.
+    fn open(&mut self, kind: GroupKind) -> Result<(), AllocError>
+        ensures { OnOk result (scanned self.new ≡ opened_back kind (scanned self.old)) }
+    {
+        let mark = mark_of(kind, self.here);
+        let holds = mark.broken || self.here.holds;
+        self.marks.push(mark)?;
+        self.here = match self.outer.pop() {
+            Some(below) => below,
+            None => Inside::closed(false),
+        };
+        self.here.holds = holds || self.here.holds;
+        Ok(())
+    }
+
+    #[inline(always)]
+    fn step(&mut self, part: Part<'_>) -> Result<(), AllocError>
+        ensures { OnOk result (scanned self.new ≡ back (part_view part.entry) (scanned self.old)) }
+    {
+        match part {
+            Part::Token(_, _) => {}
+            Part::Open(kind) => self.open(kind)?,
+            Part::Close(one_comma) => {
+                self.outer.push(self.here)?;
+                self.here = Inside::closed(one_comma);
+            }
+            Part::End => self.here.segs = one_more(self.here.segs),
+            Part::Above(_) | Part::Beside(_) => self.here.notes = true,
+        }
+        Ok(())
+    }
+}
+
+// The marks of all brackets, that of the first one last.
+pub(crate) fn marks_of(alloc: Global, parts: &[Part<'_>]) -> Result<Vec<Mark>, AllocError>
+    ensures { IfOk result (λ ms. reverse ms.items ≡ (scan (map part_view parts.now)).marks) }
+{
+    let mut walk = Marks {
+        marks: Vec::new(alloc),
+        here: Inside::closed(false),
+        outer: Vec::new(alloc),
+    };
+    let mut i = parts.len();
+    while i > 0 {
+        i -= 1;
+        walk.step(parts[i])?;
+    }
+    let Marks { marks, .. } = walk;
+    Ok(marks)
+}

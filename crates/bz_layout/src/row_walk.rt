@@ -1,0 +1,180 @@
+//! The walk forwards over the parts of a row, which writes them.
+
+ghost use Rattle.std.specs.Prelude.{◌≡◌, OnOk, map, reverse, string_bytes};
+ghost use Rattle.bz_tree.specs.Rows.{part_view};
+ghost use Rattle.bz_layout.specs.declared.spacing.Gap.TheVariants.{Apart, Line};
+ghost use Rattle.bz_layout.specs.private.RowLayout.{top, start, with_token, opened, closed_by, is_last, ended, put_note, step, run, laid};
+
+use crate::respell::put_written;
+use crate::row_marks::Mark;
+use crate::spacing::{Edge, Gap, gap_for, hugs, token_closes_up, token_edge};
+use crate::write::{closing, opening, put, put_gap};
+use bz_token::Kind;
+use bz_tree::{GroupKind, Part};
+use std::alloc::{AllocError, Global};
+
+// A bracket that is open, or the top.
+#[derive(Clone, Copy)]
+pub(crate) struct Frame {
+    // None at the top.
+    pub(crate) within: Option<GroupKind>,
+    // The gap before the first node of a segment.
+    pub(crate) first: Gap,
+    pub(crate) mark: Mark,
+}
+
+#[derive(Drop)]
+pub(crate) struct Walk {
+    pub(crate) text: String,
+    // Those of the brackets to come, the next one last.
+    pub(crate) marks: Vec<Mark>,
+    pub(crate) outer: Vec<Frame>,
+    pub(crate) here: Frame,
+    pub(crate) left: Edge,
+    // That of the line which is being written.
+    pub(crate) level: usize,
+}
+
+// The bracket is closed next.
+#[inline(always)]
+fn is_last(rest: &[Part<'_>]) -> bool
+    ensures { result ≡ is_last (map part_view rest.now) }
+{
+    matches!(rest.first(), Some(Part::Close(_)))
+}
+
+impl Frame {
+    fn top() -> Frame
+        ensures { result ≡ top }
+    {
+        Frame {
+            within: None,
+            first: Gap::Closed,
+            mark: Mark {
+                broken: false,
+                comma: false,
+            },
+        }
+    }
+}
+
+impl Walk {
+    pub(crate) fn new(alloc: Global, text: String, marks: Vec<Mark>) -> Walk
+        ensures { laid result ≡ start (string_bytes text) (reverse marks.items) }
+    {
+        Walk {
+            text,
+            marks,
+            outer: Vec::new(alloc),
+            here: Frame::top(),
+            left: Edge::Start,
+            level: 0,
+        }
+    }
+
+    #[inline(always)]
+    fn token(&mut self, kind: Kind, text: &str) -> Result<(), AllocError>
+        ensures { OnOk result (laid self.new ≡ with_token kind text.now (laid self.old)) }
+    {
+        let gap = gap_for(self.here.first, self.left, token_closes_up(kind, text));
+        put_gap(gap, &mut self.text)?;
+        put_written(kind, text, &mut self.text)?;
+        self.left = token_edge(self.here.within, self.left, kind, text);
+        Ok(())
+    }
+
+    fn open(&mut self, kind: GroupKind) -> Result<(), AllocError>
+        ensures { OnOk result (laid self.new ≡ opened kind (laid self.old)) }
+    {
+        let gap = gap_for(self.here.first, self.left, hugs(kind));
+        put(gap, opening(kind), &mut self.text)?;
+        self.outer.push(self.here)?;
+        let mark = match self.marks.pop() {
+            Some(mark) => mark,
+            None => Frame::top().mark,
+        };
+        let mut first = Gap::Closed;
+        if mark.broken {
+            // No memory holds a text with more levels.
+            let Some(inner) = self.level.checked_add(1) else {
+                return Err(AllocError);
+            };
+            self.level = inner;
+            first = Gap::Line(inner);
+        }
+        self.here = Frame {
+            within: Some(kind),
+            first,
+            mark,
+        };
+        self.left = Edge::Start;
+        Ok(())
+    }
+
+    fn close(&mut self) -> Result<(), AllocError>
+        ensures { OnOk result (laid self.new ≡ closed_by (laid self.old)) }
+    {
+        if self.here.mark.broken {
+            self.level = self.level.saturating_sub(1);
+            put_gap(Gap::Line(self.level), &mut self.text)?;
+        } else if self.here.mark.comma {
+            self.text.push_str(",")?;
+        }
+        if let Some(kind) = self.here.within {
+            self.text.push_str(closing(kind))?;
+        }
+        self.here = match self.outer.pop() {
+            Some(below) => below,
+            None => Frame::top(),
+        };
+        self.left = Edge::Operand;
+        Ok(())
+    }
+
+    // A segment ends, where `last` tells whether it is the last one.
+    #[inline(always)]
+    fn end(&mut self, last: bool) -> Result<(), AllocError>
+        ensures { OnOk result (laid self.new ≡ ended last (laid self.old)) }
+    {
+        self.left = Edge::Start;
+        if self.here.mark.broken {
+            if self.here.mark.comma {
+                self.text.push_str(",")?;
+            }
+        } else if !last {
+            self.text.push_str(",")?;
+            self.here.first = Gap::Space;
+        }
+        Ok(())
+    }
+
+    #[inline(always)]
+    fn note(&mut self, gap: Gap, text: &str) -> Result<(), AllocError>
+        ensures { OnOk result (laid self.new ≡ put_note gap text.now (laid self.old)) }
+    {
+        put(gap, text, &mut self.text)
+    }
+
+    #[inline(always)]
+    fn step(&mut self, part: Part<'_>, rest: &[Part<'_>]) -> Result<(), AllocError>
+        ensures { OnOk result (laid self.new ≡ step (part_view part.entry) (map part_view rest.now) (laid self.old)) }
+    {
+        match part {
+            Part::Token(kind, text) => self.token(kind, text),
+            Part::Open(kind) => self.open(kind),
+            Part::Close(_) => self.close(),
+            Part::End => self.end(is_last(rest)),
+            Part::Above(text) => self.note(Gap::Line(self.level), text),
+            Part::Beside(text) => self.note(Gap::Apart, text),
+        }
+    }
+
+    pub(crate) fn run(&mut self, parts: &[Part<'_>]) -> Result<(), AllocError>
+        ensures { OnOk result (laid self.new ≡ run (map part_view parts.now) (laid self.old)) }
+    {
+        for i in 0..parts.len() {
+            self.step(parts[i], &parts[i + 1..])?;
+        }
+        Ok(())
+    }
+}
