@@ -1,5 +1,5 @@
 -- What is kept of the chunks that are done, with one chunk more.
-use Rattle.std.proofs.Common.{◌≡◌, ℕ, ◌+◌, ◌==◌, count_by, Bool, List, [], ◌∷◌, ◌++◌, sym, ◌∙◌, ap, subst, append-nil}
+use Rattle.std.proofs.Common.{◌≡◌, ℕ, ◌+◌, ◌==◌, count_by, Bool, false, List, [], ◌∷◌, ◌++◌, sym, ◌∙◌, ap, subst, append-nil}
 use Rattle.std.specs.Prelude.{None, Some, Ok, if◌then◌else◌}
 use Rattle.bz_token.specs.Places.{line_at}
 use Rattle.bz_tree.specs.Tree.{Statement}
@@ -12,6 +12,11 @@ use Rattle.bz_command.specs.Passes.{slots_after}
 use Rattle.bz_engine.specs.Progress.{Progress, IsKeptOf, last_class, text_following}
 use Rattle.bz_engine.specs.declared.edit.Edited.{Edited}
 use Rattle.bz_engine.specs.declared.edit.Edited.TheVariants.{Done, Faulty, Failed}
+use Rattle.bz_engine.specs.private.Rows.{IsPassedRow}
+use Rattle.bz_tree.specs.Rows.{IsRowOf}
+use Rattle.bz_tree.specs.declared.row.Row.{Row}
+use Rattle.std.specs.Str.{IsUtf8}
+use Rattle.bz_command.specs.Passes.{Slot}
 use Rattle.bz_engine.specs.private.Edits.{IsDone, IsLaidOut, IsScripted, IsEdited}
 use Rattle.bz_passes.proofs.ExchangeLaw.{map_more}
 use Rattle.bz_engine.proofs.Given.{give_blank, give_statement, line_following}
@@ -38,14 +43,21 @@ blank_done home passes keep_going depth cs ss chunk old new before kept gives is
   calm = λ h calm. ap (λ p. p.failed) is ∙ calm;
 }
 
--- a statement, which the script left as `laid` says
-pub statement_done : (home : Package) (passes : Script) (keep_going : Bool) (depth : ℕ) (cs : List (List ℕ)) (ss : List Statement) (chunk : List ℕ) (s : Statement)
+-- a statement, as the script leaves it
+record IsLeft (home : Package) (passes : Script) (s : Statement) (old new : Progress) (before after : List ℕ) : Type 0 where
+  left : (slots : List (Slot Statement)) → IsLeftBy (meaning home) (changes home) (fails_on home) passes slots old.kept old.changed old.failed
+      → IsLeftBy (meaning home) (changes home) (fails_on home) passes (slots ++ Some s ∷ []) new.kept new.changed new.failed
+  last : new.last ≡ last_class old.last (slot_after (meaning home) passes (Some s) ∷ [])
+  line : new.line ≡ old.line
+  text : after ≡ before ++ (if is_query passes then [] else text_following old.last (slot_after (meaning home) passes (Some s) ∷ []))
+
+left_done : (home : Package) (passes : Script) (keep_going : Bool) (depth : ℕ) (cs : List (List ℕ)) (ss : List Statement) (chunk : List ℕ) (s : Statement)
     (old mid new : Progress) (before after : List ℕ)
     → IsKeptOf home passes depth cs ss old → Gives depth old.line chunk (Ok (Some s))
-    → IsLaidOut home passes keep_going s old mid before after
+    → IsLeft home passes s old mid before after → (keep_going ≡ false → old.failed ≡ false → mid.failed ≡ false)
     → new ≡ record mid { line = line_at mid.line chunk }
     → IsDone home passes keep_going depth cs ss chunk old new before after
-statement_done home passes keep_going depth cs ss chunk s old mid new before after kept gives laid is = record {
+left_done home passes keep_going depth cs ss chunk s old mid new before after kept gives laid calm is = record {
   more = s ∷ [];
   kept = record {
     read = give_statement depth old.line cs ss chunk s kept.read kept.line gives;
@@ -57,8 +69,40 @@ statement_done home passes keep_going depth cs ss chunk s old mid new before aft
   shown = if is_query passes then [] else text_following old.last (slot_after (meaning home) passes (Some s) ∷ []);
   appended = laid.text;
   text = text_after_more home passes ss s old.last kept.last;
-  calm = λ h calm. ap (λ p. p.failed) is ∙ laid.calm h;
+  calm = λ h before_calm. ap (λ p. p.failed) is ∙ calm h before_calm;
 }
+
+-- a statement, which the script left as `laid` says
+pub statement_done : (home : Package) (passes : Script) (keep_going : Bool) (depth : ℕ) (cs : List (List ℕ)) (ss : List Statement) (chunk : List ℕ) (s : Statement)
+    (old mid new : Progress) (before after : List ℕ)
+    → IsKeptOf home passes depth cs ss old → Gives depth old.line chunk (Ok (Some s))
+    → IsLaidOut home passes keep_going s old mid before after
+    → new ≡ record mid { line = line_at mid.line chunk }
+    → IsDone home passes keep_going depth cs ss chunk old new before after
+statement_done home passes keep_going depth cs ss chunk s old mid new before after kept gives laid is =
+    left_done home passes keep_going depth cs ss chunk s old mid new before after kept gives (record { left = laid.left; last = laid.last; line = laid.line; text = laid.text }) (λ h calm. laid.calm h) is
+
+-- a statement that the script passes by
+pub passed_edited : (home : Package) (passes : Script) (keep_going : Bool) (depth : ℕ) (cs : List (List ℕ)) (ss : List Statement) (chunk : List ℕ) (row : Row)
+    (old mid new : Progress) (before after : List ℕ) (edited : Edited)
+    → IsKeptOf home passes depth cs ss old → IsUtf8 chunk × IsPassedRow home passes depth old.line chunk row
+    → mid ≡ record old { last = Some row.class }
+    → ((s : Statement) → IsRowOf s row → after ≡ before ++ (if is_query passes then [] else text_following old.last (Some s ∷ [])))
+    → new ≡ record mid { line = line_at mid.line chunk } → edited ≡ Done
+    → IsEdited home passes keep_going depth cs ss chunk old new before after edited
+passed_edited home passes keep_going depth cs ss chunk row old mid new before after edited kept read same text is done =
+    let at = read.1 in
+    let s = at.statement in
+    let stays : Some s ≡ slot_after (meaning home) passes (Some s) = sym at.passed.stays in
+    subst (IsEdited home passes keep_going depth cs ss chunk old new before after) (sym done)
+    (left_done home passes keep_going depth cs ss chunk s old mid new before after kept (read.0, at.read)
+    (record {
+      left = λ slots left. subst (λ p. IsLeftBy (meaning home) (changes home) (fails_on home) passes (slots ++ Some s ∷ []) p.kept p.changed p.failed) (sym same) (at.passed.left slots old.kept old.changed old.failed left);
+      last = ap (λ p. p.last) same ∙ ap (λ class. Some class) at.parts.class ∙ ap (λ slot. last_class old.last (slot ∷ [])) stays;
+      line = ap (λ p. p.line) same;
+      text = text s at.parts ∙ ap (λ slot. before ++ (if is_query passes then [] else text_following old.last (slot ∷ []))) stays;
+    })
+    (λ h calm. ap (λ p. p.failed) same ∙ calm) is)
 
 -- what the script on a statement made of its chunk
 pub scripted_edited : (home : Package) (passes : Script) (keep_going : Bool) (depth : ℕ) (cs : List (List ℕ)) (ss : List Statement) (chunk : List ℕ) (s : Statement)

@@ -1,2 +1,4 @@
 pub mod ChunkRead
 pub mod Edits
+pub mod Named
+pub mod Rows

@@ -2,38 +2,44 @@
 
 ghost use Rattle.std.specs.Prelude.{◌≡◌, ℕ, ◌+◌, ◌<◌, ◌≤◌, ◌^◌, ◌==◌, List, count_by, length, IfOk};
 ghost use Rattle.bz_token.specs.Places.{line_at, column_at};
-ghost use Rattle.bz_engine.specs.File.{Gives};
-ghost use Rattle.bz_engine.specs.private.ChunkRead.{answer_of};
+ghost use Rattle.bz_engine.specs.private.ChunkRead.{IsReadAs};
 
+use crate::edit::Script;
 use crate::report::SyntaxFault;
+use crate::row::passed_row;
 use bz_token::check_utf8;
-use bz_tree::{ParseFault, Stmt, parse};
+use bz_tree::{ParseFault, Row, Stmt, parse};
 use memchr::memchr;
-use std::alloc::{AllocError, Global};
+use std::alloc::AllocError;
 
 /// What a chunk is read as.
 #[derive(Drop)]
 pub(crate) enum ChunkRead<'a> {
     Blank,
+    /// The script passes it by.
+    Passed(Row<'a>),
     Statement(Stmt<'a>),
     Faulty(SyntaxFault),
 }
 
 /// Reads a chunk by itself. Its first line has this number.
 pub(crate) fn read_chunk<'a>(
-    alloc: Global,
+    script: Script<'_>,
     chunk: &'a [u8],
     first_line: u64,
-    max_depth: u8,
 ) -> Result<ChunkRead<'a>, AllocError>
     requires { first_line + length chunk.now < 2 ^ 64 }
-    ensures { IfOk result (λ read. Gives max_depth first_line chunk.now (answer_of read)) }
+    ensures { IfOk result (IsReadAs
+        script.entry.home.now script.entry.passes.now script.entry.max_depth first_line chunk.now) }
 {
     let text = match check_utf8(chunk) {
         Ok(text) => text,
         Err(valid) => return Ok(ChunkRead::Faulty(not_utf8(first_line, &chunk[..valid]))),
     };
-    match parse(alloc, text, first_line, max_depth) {
+    if let Some(row) = passed_row(script, text, first_line)? {
+        return Ok(ChunkRead::Passed(row));
+    }
+    match parse(script.alloc, text, first_line, script.max_depth) {
         Ok(None) => Ok(ChunkRead::Blank),
         Ok(Some(stmt)) => Ok(ChunkRead::Statement(stmt)),
         Err(ParseFault::OutOfMemory) => Err(AllocError),

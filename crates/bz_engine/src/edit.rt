@@ -2,6 +2,7 @@
 
 ghost use Rattle.std.specs.Prelude.{◌≡◌, ℕ, ◌+◌, ◌<◌, ◌≤◌, ◌^◌, ◌++◌, Bool, true, false, if◌then◌else◌, List, [], ◌∷◌, Option, None, Some, length, IfOk, OnOk, OnErr, option_map, option_to_list};
 ghost use Rattle.std.specs.List.{flat_map};
+ghost use Rattle.bz_tree.specs.Rows.{IsRowOf};
 ghost use Rattle.bz_tree.specs.Tree.{Statement};
 ghost use Rattle.bz_tree.specs.View.{view, slot_view};
 ghost use Rattle.bz_layout.specs.Gaps.{blank_between as is_gap};
@@ -17,13 +18,13 @@ use crate::progress::Progress;
 use crate::report::SyntaxFault;
 use crate::rule_passes::RulePasses;
 use crate::rules::Rules;
-use bz_layout::{blank_between, put_stmt};
+use bz_layout::{blank_between, put_row, put_stmt};
 use bz_passes::kept::Kept;
 use bz_passes::language::Facts;
 use bz_passes::log::Log;
 use bz_passes::script::run_script;
 use bz_rule::{Package, Text};
-use bz_tree::{Class, Stmt};
+use bz_tree::{Class, Row, Stmt};
 use std::alloc::{AllocError, Global};
 
 /// What a run is to do with each chunk.
@@ -65,13 +66,36 @@ pub(crate) fn edit_chunk(
         → IsEdited script.entry.home.now script.entry.passes.now script.entry.keep_going script.entry.max_depth cs
         statements chunk.now progress.old progress.new text.old.items text.new.items edited) }
 {
-    let edited = match read_chunk(script.alloc, chunk, progress.line, script.max_depth)? {
+    let edited = match read_chunk(script, chunk, progress.line)? {
         ChunkRead::Faulty(fault) => return Ok(Edited::Faulty(fault)),
         ChunkRead::Blank => Edited::Done,
+        ChunkRead::Passed(row) => {
+            put_passed(script, &row, progress, text)?;
+            Edited::Done
+        }
         ChunkRead::Statement(stmt) => edit_statement(script, stmt, progress, text)?,
     };
     progress.line += newlines(chunk);
     Ok(edited)
+}
+
+/// Lays out a statement that the script passes by.
+fn put_passed(
+    script: Script<'_>,
+    row: &Row<'_>,
+    progress: &mut Progress,
+    text: &mut Vec<u8>,
+) -> Result<(), AllocError>
+    ensures last { OnOk result (progress.new ≡ record progress.old { last = Some row.now.class }) }
+    ensures text { OnOk result ((s : Statement) → IsRowOf s row.now → text.new.items ≡ text.old.items
+        ++ (if is_query script.entry.passes.now then [] else text_following progress.old.last (Some s ∷ []))) }
+{
+    if !script.passes.is_query() {
+        put_gap(progress.last, row.class, text)?;
+        put_row(script.alloc, row, text)?;
+    }
+    progress.last = Some(row.class);
+    Ok(())
 }
 
 /// The script on one statement.
@@ -150,10 +174,18 @@ fn put_after(
     ensures { OnOk result (text.new.items ≡ text.old.items
         ++ (gap_text (is_gap last stmt.now.class) ++ layout_text (view stmt.now))) }
 {
-    if blank_between(last, stmt.class) {
+    put_gap(last, stmt.class, text)?;
+    put_stmt(alloc, stmt, text)?;
+    Ok(())
+}
+
+/// Writes what stands between two statements of these classes.
+fn put_gap(last: Option<Class>, class: Class, text: &mut Vec<u8>) -> Result<(), AllocError>
+    ensures { OnOk result (text.new.items ≡ text.old.items ++ gap_text (is_gap last class)) }
+{
+    if blank_between(last, class) {
         text.push(b'\n')?;
     }
-    put_stmt(alloc, stmt, text)?;
     Ok(())
 }
 

@@ -14,6 +14,7 @@ mod message;
 mod options;
 mod progress;
 mod report;
+mod row;
 mod rule_passes;
 mod rules;
 mod run_fault;

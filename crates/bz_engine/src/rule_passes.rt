@@ -4,29 +4,33 @@ ghost use Rattle.std.specs.Prelude.{◌≡◌, IfOk};
 ghost use Rattle.std.specs.List.{list_all};
 ghost use Rattle.bz_command.specs.Commands.{is_print};
 ghost use Rattle.bz_engine.specs.Outcome as spec;
+ghost use Rattle.bz_engine.specs.private.Named.{all_named};
 
 use bz_command::Pass;
-use bz_passes::passes::Passes;
+use bz_passes::passes::{Keyed, Passes};
 use bz_rule::{Command, Target};
 use std::alloc::{AllocError, Global};
 use std::marker::Model;
 
-/// The passes of a script, indexed, and whether they only ask. Contracts see the passes alone.
+/// The passes of a script, indexed, and what is true of all of them. Contracts see the passes alone.
 #[derive(Drop)]
 pub(crate) struct RulePasses {
     passes: Passes<Target, Command>,
     query: bool,
+    /// Each target asks for a name.
+    named: bool,
 }
 
 impl Model for RulePasses {
     ghost use Rattle.std.specs.Prelude.{◌≡◌};
     ghost use Rattle.bz_engine.specs.Outcome as spec;
+    ghost use Rattle.bz_engine.specs.private.Named.{all_named};
 
     ghost Value = { spec.Script };
 
     ghost view = { λ s. s.passes };
 
-    ghost invariant = { λ s. s.query ≡ spec.is_query s.passes };
+    ghost invariant = { λ s. (s.query ≡ spec.is_query s.passes) × (s.named ≡ all_named s.passes) };
 }
 
 impl RulePasses {
@@ -38,8 +42,13 @@ impl RulePasses {
         ensures { IfOk result (λ made. made ≡ passes.items) }
     {
         let query = is_query(passes.as_slice());
+        let named = all_named(passes.as_slice());
         let passes = Passes::new(alloc, passes)?;
-        Ok(RulePasses { passes, query })
+        Ok(RulePasses {
+            passes,
+            query,
+            named,
+        })
     }
 
     /// The passes in order.
@@ -61,6 +70,13 @@ impl RulePasses {
     {
         self.query
     }
+
+    /// Whether each target asks for a name: then what has none is passed by.
+    pub(crate) fn ask_for_names(&self) -> bool
+        ensures { result ≡ all_named self.now }
+    {
+        self.named
+    }
 }
 
 /// Whether all commands of a script print: then it only asks, and no text is written.
@@ -69,6 +85,17 @@ pub fn is_query(passes: &[Pass<Target, Command>]) -> bool
 {
     for pass in passes {
         if !all_print(pass.commands.as_slice()) {
+            return false;
+        }
+    }
+    true
+}
+
+fn all_named(passes: &[Pass<Target, Command>]) -> bool
+    ensures { result ≡ all_named passes.now }
+{
+    for pass in passes {
+        if pass.target.asked().is_none() {
             return false;
         }
     }

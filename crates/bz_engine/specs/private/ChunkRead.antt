@@ -1,12 +1,17 @@
 -- What reading a chunk answers, for private clauses.
-use Rattle.std.specs.Prelude.{Option, None, Some, Result, Ok, Err}
-use Rattle.bz_tree.specs.Tree.{Statement}
+use Rattle.std.specs.Prelude.{ℕ, List, None, Some, Ok, Err}
+use Rattle.std.specs.Str.{IsUtf8}
 use Rattle.bz_tree.specs.View.{view}
-use Rattle.bz_engine.specs.declared.report.SyntaxFault.{SyntaxFault}
+use Rattle.bz_command.specs.Labels.{Package}
+use Rattle.bz_engine.specs.File.{Gives}
+use Rattle.bz_engine.specs.Outcome.{Script}
+use Rattle.bz_engine.specs.private.Rows.{IsPassedRow}
 use Rattle.bz_engine.specs.declared.chunk.ChunkRead.{ChunkRead}
-use Rattle.bz_engine.specs.declared.chunk.ChunkRead.TheVariants.{Blank, Statement as AStatement, Faulty}
+use Rattle.bz_engine.specs.declared.chunk.ChunkRead.TheVariants.{Blank, Passed, Statement, Faulty}
 
-abbrev pub answer_of : ChunkRead → Result (Option Statement) SyntaxFault
-answer_of Blank = Ok None
-answer_of (AStatement stmt) = Ok (Some (view stmt))
-answer_of (Faulty fault) = Err fault
+-- the answer for a chunk; the script passes by what is read as a row
+abbrev pub IsReadAs : Package → Script → ℕ → ℕ → List ℕ → ChunkRead → Type 0
+IsReadAs home passes max_depth line chunk Blank = Gives max_depth line chunk (Ok None)
+IsReadAs home passes max_depth line chunk (Passed row) = IsUtf8 chunk × IsPassedRow home passes max_depth line chunk row
+IsReadAs home passes max_depth line chunk (Statement stmt) = Gives max_depth line chunk (Ok (Some (view stmt)))
+IsReadAs home passes max_depth line chunk (Faulty fault) = Gives max_depth line chunk (Err fault)

@@ -1,0 +1,166 @@
+//! Statements that the script passes by: no tree is made of them.
+
+ghost use Rattle.std.specs.Prelude.{◌≡◌, ◌+◌, ◌<◌, ◌^◌, ◌==◌, ◌++◌, Some, codes, map, option_map, count_by, IsTrue, IfOk, IfSome};
+ghost use Rattle.bz_tree.specs.Tree.{Statement};
+ghost use Rattle.bz_tree.specs.Statement.{class_of};
+ghost use Rattle.bz_tree.specs.Rows.{IsRowOf, part_view, parts_of};
+ghost use Rattle.bz_command.specs.Values.{value_of};
+ghost use Rattle.bz_passes.specs.Exchange.{IsPassedBy};
+ghost use Rattle.bz_attribute.specs.Rules.{is_text};
+ghost use Rattle.bz_engine.specs.Meaning.{meaning, changes, fails_on};
+ghost use Rattle.bz_engine.specs.private.Rows as spec;
+
+use crate::edit::Script;
+use crate::rules::Rules;
+use bz_command::has_value;
+use bz_passes::index::Key;
+use bz_passes::script::passes_by;
+use bz_token::Kind;
+use bz_tree::{Class, Part, Row, read_row};
+use std::alloc::AllocError;
+
+/// The row of a text's statement, which the script passes by. None: the statement is to be read as a tree.
+pub(crate) fn passed_row<'a>(
+    script: Script<'_>,
+    text: &'a str,
+    first_line: u64,
+) -> Result<Option<Row<'a>>, AllocError>
+    requires { first_line + count_by (λ b. b == 10) text.now < 2 ^ 64 }
+    ensures { IfOk result (λ found. IfSome found (spec.IsPassedRow
+        script.entry.home.now script.entry.passes.now script.entry.max_depth first_line text.now)) }
+{
+    if !script.passes.ask_for_names() {
+        return Ok(None);
+    }
+    let Some(row) = read_row(script.alloc, text, first_line, script.max_depth)? else {
+        return Ok(None);
+    };
+    if !is_passed_by(script, &row) {
+        return Ok(None);
+    }
+    Ok(Some(row))
+}
+
+/// No pass of the script may mark the statement of the row.
+fn is_passed_by(script: Script<'_>, row: &Row<'_>) -> bool
+    ensures { IsTrue result → (s : Statement) → s.class ≡ class_of s.nodes → IsRowOf s row.now
+        → IsPassedBy (meaning script.entry.home.now) (changes script.entry.home.now) (fails_on script.entry.home.now)
+        script.entry.passes.now (Some s) }
+{
+    let rules = Rules {
+        alloc: script.alloc,
+        home: script.home,
+    };
+    passes_by(&rules, script.passes.indexed(), row_key(row))
+}
+
+/// What a row says of the name of its statement.
+fn row_key<'a>(row: &Row<'a>) -> Key<'a>
+    ensures { (s : Statement) → s.class ≡ class_of s.nodes → IsRowOf s row.now → spec.HasKey s result }
+{
+    match row.class {
+        Class::Rule => rule_key(row.parts.as_slice()),
+        _ => Key::NoName,
+    }
+}
+
+/// The key of a rule by its parts: its name where the first argument is `name = "name"`.
+fn rule_key<'a>(parts: &[Part<'a>]) -> Key<'a>
+    ensures { (s : Statement) → map part_view parts.now ≡ parts_of s → spec.HasKey s result }
+{
+    let Some(literal) = name_literal(after_comments(after_opening(parts))) else {
+        return Key::Unknown;
+    };
+    match plain_value(literal) {
+        Some(name) => Key::Name(name),
+        None => Key::Unknown,
+    }
+}
+
+/// The parts after the first bracket that opens.
+fn after_opening<'p, 'a>(parts: &'p [Part<'a>]) -> &'p [Part<'a>]
+    ensures { map part_view result.now ≡ spec.after_opening (map part_view parts.now) }
+{
+    let mut rest = parts;
+    while let [part, after @ ..] = rest {
+        if let Part::Open(_) = part {
+            return after;
+        }
+        rest = after;
+    }
+    rest
+}
+
+/// The parts after the comments above them.
+fn after_comments<'p, 'a>(parts: &'p [Part<'a>]) -> &'p [Part<'a>]
+    ensures { map part_view result.now ≡ spec.after_comments (map part_view parts.now) }
+{
+    let mut rest = parts;
+    while let [Part::Above(_), after @ ..] = rest {
+        rest = after;
+    }
+    rest
+}
+
+/// The literal of a segment `name = literal` with which the parts begin.
+fn name_literal<'a>(parts: &[Part<'a>]) -> Option<&'a str>
+    ensures { option_map (λ text. text.now) result ≡ spec.name_literal (map part_view parts.now) }
+{
+    match parts {
+        [name, equals, literal, end, ..] => {
+            if is_ident(name, "name") && is_sign(equals, "=") && is_end(end) {
+                return text_of(literal);
+            }
+            None
+        }
+        _ => None,
+    }
+}
+
+fn is_ident(part: &Part<'_>, text: &str) -> bool
+    ensures { result ≡ is_text text.now (spec.ident_of (part_view part.now)) }
+{
+    match part {
+        Part::Token(Kind::Ident, other) => *other == text,
+        _ => false,
+    }
+}
+
+fn is_sign(part: &Part<'_>, sign: &str) -> bool
+    ensures { result ≡ spec.is_sign sign.now (part_view part.now) }
+{
+    match part {
+        Part::Token(Kind::Sign, other) => *other == sign,
+        _ => false,
+    }
+}
+
+fn is_end(part: &Part<'_>) -> bool
+    ensures { result ≡ spec.is_end (part_view part.now) }
+{
+    match part {
+        Part::End => true,
+        _ => false,
+    }
+}
+
+/// The text of a string token.
+fn text_of<'a>(part: &Part<'a>) -> Option<&'a str>
+    ensures { option_map (λ text. text.now) result ≡ spec.text_of (part_view part.now) }
+{
+    match part {
+        Part::Token(Kind::Text, text) => Some(*text),
+        _ => None,
+    }
+}
+
+/// The value of a literal that is written between double quotes without an escape.
+fn plain_value(literal: &str) -> Option<&str>
+    ensures { IfSome result (λ value. value_of literal.now ≡ Some value.now) }
+{
+    let inner = literal.strip_prefix('"')?.strip_suffix('"')?;
+    if has_value(literal.as_bytes(), inner.as_bytes()) {
+        return Some(inner);
+    }
+    None
+}
