@@ -11,6 +11,8 @@ mod labels;
 #[cfg(test)]
 mod layout;
 #[cfg(test)]
+mod rows;
+#[cfg(test)]
 mod table;
 #[cfg(test)]
 mod tokens;

@@ -350,7 +350,7 @@ fn put_seg(seg: &Seg<'_>, out: &mut String) -> Result<(), AllocError> {
     out.push('>')
 }
 
-fn kind_name(kind: GroupKind) -> &'static str {
+pub fn kind_name(kind: GroupKind) -> &'static str {
     match kind {
         GroupKind::Call => "call",
         GroupKind::RuleCall => "rule",

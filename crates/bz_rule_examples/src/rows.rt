@@ -1,0 +1,155 @@
+//! Rows: the parts of statements, and the statements that are left to their trees.
+
+use crate::table::plain;
+use crate::trees::kind_name;
+use bz_tree::{Part, Row, read_row};
+use std::alloc::{AllocError, Global};
+use std::test::Fail;
+
+/// A chunk, and its parts with its class at the end. A bracket's kind stands where it opens; `,)` closes `(x,)`, `;` ends a
+/// segment, and a comment is above (`^`) or beside (`>`).
+const ROWS: &str = r##"
+---
+#a
+
+#b
+f ( #c
+ name = "a" , #d
+ #e
+ deps = [ "x" , "y" #f
+ #g
+ ] + select ( { "a" : [ ] , } ) #h
+ #i
+ ) #j
+->
+^#a ^#b f rule ^#c name = "a" ; >#d ^#e deps = list "x" ; "y" ; >#f ^#g ) + select call dict "a" : list ) ; ) ; ) ; >#h ^#i ) >#j Rule
+---
+a . b ( )␄
+->
+a . b rule ) Rule
+---
+x = f ( 1 , ) ( - 2 )
+->
+x = f call 1 ; ) call - 2 ; ) Assign
+---
+( x , )␄
+->
+paren x ; ,) Other
+---
+( x , y , )␄
+->
+paren x ; y ; ) Other
+---
+a , b += """
+""" , not c #d
+->
+a , b += """
+""" , not c >#d Assign
+---
+[ 1 , """
+""" #a
+ ]␄
+->
+list 1 ; """
+""" ; >#a ) Other
+"##;
+
+/// Chunks without a row: with a fault, or left to their trees.
+const TREES: &str = r##"
+---
+␄
+---
+#a
+---
+ x
+---
+x y
+---
+f ( x , , y )
+---
+f ( a ] )
+---
+load ( "a" , "b" )
+---
+def f ( ) :
+  pass
+---
+[ x for x in y ]
+---
+x [ 1 ]
+---
+f ( ) . x
+---
+f ( x #a
+ + y )
+---
+f ( x #a
+ , y )
+---
+f ( ) #a
+#b
+"##;
+
+fn put_part(part: Part<'_>, out: &mut String) -> Result<(), AllocError> {
+    match part {
+        Part::Token(_, text) => out.push_str(text)?,
+        Part::Open(kind) => out.push_str(kind_name(kind))?,
+        Part::Close(true) => out.push_str(",)")?,
+        Part::Close(false) => out.push(')')?,
+        Part::End => out.push(';')?,
+        Part::Above(text) => {
+            out.push('^')?;
+            out.push_str(text)?;
+        }
+        Part::Beside(text) => {
+            out.push('>')?;
+            out.push_str(text)?;
+        }
+    }
+    out.push(' ')
+}
+
+fn put_row(row: &Row<'_>, out: &mut String) -> Result<(), AllocError> {
+    for part in &row.parts {
+        put_part(*part, out)?;
+    }
+    Ok(())
+}
+
+/// The row of a short chunk.
+fn shown(alloc: Global, text: &str) -> Result<String, AllocError> {
+    if text.len() > 1000 {
+        return Err(AllocError);
+    }
+    let mut out = String::new(alloc);
+    match read_row(alloc, text, 1, 100)? {
+        None => out.push_str("none")?,
+        Some(row) => {
+            put_row(&row, &mut out)?;
+            out.push_str(format!(in alloc; "{:?}", row.class)?.as_str())?;
+        }
+    }
+    out.push('\n')?;
+    Ok(out)
+}
+
+#[test]
+fn rows_of_chunks(rt: HostRuntime) -> Result<(), Fail> {
+    let alloc = rt.alloc();
+    for row in ROWS.split("---\n").skip(1) {
+        let (text, wanted) = row.split_once("->\n").ok_or("a row without an answer")?;
+        let text = plain(alloc, text)?;
+        assert_eq!(rt; shown(alloc, text.as_str())?.as_str(), wanted, "{text}");
+    }
+    Ok(())
+}
+
+#[test]
+fn chunks_left_to_trees(rt: HostRuntime) -> Result<(), Fail> {
+    let alloc = rt.alloc();
+    for text in TREES.split("---\n").skip(1) {
+        let text = plain(alloc, text)?;
+        assert_eq!(rt; shown(alloc, text.as_str())?.as_str(), "none\n", "{text}");
+    }
+    Ok(())
+}
