@@ -15,7 +15,7 @@ use Rattle.bz_layout.specs.Broken.{count, have_comments, breaks_by_count, is_bro
 use Rattle.bz_layout.specs.Spacing.{edge_after, gap_before, hugs}
 use Rattle.bz_layout.specs.Pieces.{Piece, piece, gap_bytes, bytes_of, comma_if, comments, suffix_piece}
 use Rattle.bz_layout.specs.Layout.{has_commas, item_pieces, items_pieces, broken_segs, flat_segs, opening as opening_text, closing as closing_text}
-use Rattle.bz_layout.specs.private.RowLayout.{Laid, gap_for, run, first_frame, tail, comma_bytes, is_last, ended, first_in, level_in}
+use Rattle.bz_layout.specs.private.RowLayout.{Laid, gap_for, run, first_frame, tail, comma_bytes, is_last, ended, first_gap, level_in}
 use Rattle.bz_layout.proofs.Rules.{gap_is}
 use Rattle.bz_layout.proofs.Pieces.{bytes_append}
 use Rattle.bz_layout.proofs.RowMarks.{mark_as, item_marks, items_marks, segs_marks}
@@ -28,11 +28,14 @@ abbrev pub last_edge : Option GroupKind → Edge → Items → Edge
 last_edge within left no_items = left
 last_edge within left (item x xs) = last_edge within (edge_after within left x) xs
 
-abbrev broken_frame : GroupKind → ℕ → Bool → Frame
-broken_frame kind n comma = record { within = Some kind; first = Line n; mark = record { broken = true; comma = comma } }
+abbrev broken_frame : GroupKind → Bool → Frame
+broken_frame kind comma = record { within = Some kind; mark = record { broken = true; comma = comma }; later = false }
 
-abbrev flat_frame : GroupKind → Gap → Bool → Frame
-flat_frame kind gap comma = record { within = Some kind; first = gap; mark = record { broken = false; comma = comma } }
+abbrev flat_frame : GroupKind → Bool → Bool → Frame
+flat_frame kind later comma = record { within = Some kind; mark = record { broken = false; comma = comma }; later = later }
+
+abbrev flat_gap : Bool → Gap
+flat_gap later = if later then Space else Closed
 
 -- segments in place from one on, its comma written
 abbrev flat_from : ℕ → GroupKind → Gap → Segs → List Piece
@@ -105,21 +108,21 @@ opening_bytes gap kind = gap_bytes gap ++ opening_text kind
 -- segments on lines of their own, or in place up to the bracket's end
 abbrev BrokenRuns : Segs → List RowPart → List ℕ → List Mark → List Frame → GroupKind → Bool → ℕ → Type 0
 BrokenRuns ss rest t ms o kind comma n =
-    run (segs_parts ss ++ rest) (at t (segs_marks ss ++ ms) o (broken_frame kind n comma) Start n) ≡ run rest (at (t ++ bytes_of (broken_segs Broken n kind comma ss)) ms o (broken_frame kind n comma) Start n)
+    run (segs_parts ss ++ rest) (at t (segs_marks ss ++ ms) o (broken_frame kind comma) Start n) ≡ run rest (at (t ++ bytes_of (broken_segs Broken n kind comma ss)) ms o (broken_frame kind comma) Start n)
 
-abbrev FlatRuns : Segs → List RowPart → List ℕ → List Mark → List Frame → GroupKind → Bool → Bool → Gap → ℕ → Type 0
-FlatRuns ss rest t ms o kind comma one gap n =
-    run (segs_parts ss ++ (closing one ∷ rest)) (at t (segs_marks ss ++ ms) o (flat_frame kind gap comma) Start n) ≡ run rest (at (t ++ (bytes_of (flat_from n kind gap ss) ++ (comma_bytes comma ++ closing_text kind))) ms (tail o) (first_frame o) Operand n)
+abbrev FlatRuns : Segs → List RowPart → List ℕ → List Mark → List Frame → GroupKind → Bool → Bool → Bool → ℕ → Type 0
+FlatRuns ss rest t ms o kind comma one later n =
+    run (segs_parts ss ++ (closing one ∷ rest)) (at t (segs_marks ss ++ ms) o (flat_frame kind later comma) Start n) ≡ run rest (at (t ++ (bytes_of (flat_from n kind (flat_gap later) ss) ++ (comma_bytes comma ++ closing_text kind))) ms (tail o) (first_frame o) Operand n)
 
 run_group : (b : Bool) (kind : GroupKind) (segs : Segs) (one : Bool) (end : List (List ℕ)) (rest : List RowPart) (t : List ℕ) (ms : List Mark) (o : List Frame) (h : Frame) (gap : Gap) (n : ℕ) →
     (b ≡ false → (have_comments segs ≡ false) × (end ≡ [])) →
     BrokenRuns segs (map above end ++ closing one ∷ rest) (t ++ opening_bytes gap kind) ms (h ∷ o) kind (has_commas kind one (count segs)) (n + 1) →
-    (have_comments segs ≡ false → FlatRuns segs rest (t ++ opening_bytes gap kind) ms (h ∷ o) kind one one Closed n) →
-    run ((segs_parts segs ++ (map above end ++ closing one ∷ [])) ++ rest) (at (t ++ opening_bytes gap kind) (segs_marks segs ++ ms) (h ∷ o) (record { within = Some kind; first = first_in (mark_as b kind segs one) n; mark = mark_as b kind segs one }) Start (level_in (mark_as b kind segs one) n))
+    (have_comments segs ≡ false → FlatRuns segs rest (t ++ opening_bytes gap kind) ms (h ∷ o) kind one one false n) →
+    run ((segs_parts segs ++ (map above end ++ closing one ∷ [])) ++ rest) (at (t ++ opening_bytes gap kind) (segs_marks segs ++ ms) (h ∷ o) (record { within = Some kind; mark = mark_as b kind segs one; later = false }) Start (level_in (mark_as b kind segs one) n))
     ≡ run rest (at (t ++ (opening_bytes gap kind ++ bytes_of (group_rest b n kind segs one end))) ms o h Operand n)
 run_group true kind segs one end rest t ms o h gap n whole broken flat =
     let c = has_commas kind one (count segs) in
-    let frame = broken_frame kind (n + 1) c in
+    let frame = broken_frame kind c in
     let begun = opening_bytes gap kind in
     let a = broken_segs Broken (n + 1) kind c segs in
     let b = comments (n + 1) end in
@@ -133,7 +136,7 @@ run_group true kind segs one end rest t ms o h gap n whole broken flat =
 run_group false kind segs one (note ∷ end) rest t ms o h gap n whole broken flat = let no = (whole refl).1 in cc
 run_group false kind segs one [] rest t ms o h gap n whole broken flat =
     let begun = opening_bytes gap kind in
-    let joined = ap (λ (ps : List RowPart). run ps (at (t ++ begun) (segs_marks segs ++ ms) (h ∷ o) (flat_frame kind Closed one) Start n)) (segs_joined segs [] one rest) in
+    let joined = ap (λ (ps : List RowPart). run ps (at (t ++ begun) (segs_marks segs ++ ms) (h ∷ o) (flat_frame kind false one) Start n)) (segs_joined segs [] one rest) in
     let text = flat_group_text t begun (flat_from n kind Closed segs) one (closing_text kind) ∙ ap (λ (ps : List Piece). t ++ (begun ++ bytes_of (ps ++ (comma_if one ++ piece Closed Sign (closing_text kind) ∷ [])))) (flat_is n kind segs) in
     joined ∙ (flat (whole refl).0 ∙ ap (λ (u : List ℕ). run rest (at u ms o h Operand n)) text)
 
@@ -148,31 +151,31 @@ next_text t a b end = rw (bytes_append a (piece Closed Sign (codes ",") ∷ b)) 
 
 mutual
   pub run_item : (x : Item) (rest : List RowPart) (t : List ℕ) (ms : List Mark) (o : List Frame) (h : Frame) (l : Edge) (n : ℕ) →
-      run (item_parts x ++ rest) (at t (item_marks x ++ ms) o h l n) ≡ run rest (at (t ++ bytes_of (item_pieces Broken n (gap_before h.first l x) x)) ms o h (edge_after h.within l x) n)
-  run_item (leaf kind text) rest t ms o h l n = rw (gap_is h.first l (leaf kind text), append-nil) refl
+      run (item_parts x ++ rest) (at t (item_marks x ++ ms) o h l n) ≡ run rest (at (t ++ bytes_of (item_pieces Broken n (gap_before (first_gap h n) l x) x)) ms o h (edge_after h.within l x) n)
+  run_item (leaf kind text) rest t ms o h l n = rw (gap_is (first_gap h n) l (leaf kind text), append-nil) refl
   run_item (group kind segs one end) rest t ms o h l n =
       let b = is_broken kind segs end (segs_hold segs) in
-      let gap = gap_for h.first l (hugs kind) in
+      let gap = gap_for (first_gap h n) l (hugs kind) in
       let begun = opening_bytes gap kind in
       let broken = run_broken segs (map above end ++ closing one ∷ rest) (t ++ begun) ms (h ∷ o) kind (has_commas kind one (count segs)) (n + 1) in
-      let flat : have_comments segs ≡ false → FlatRuns segs rest (t ++ begun) ms (h ∷ o) kind one one Closed n = λ no. run_flat segs rest (t ++ begun) ms (h ∷ o) kind one one Closed n no in
+      let flat : have_comments segs ≡ false → FlatRuns segs rest (t ++ begun) ms (h ∷ o) kind one one false n = λ no. run_flat segs rest (t ++ begun) ms (h ∷ o) kind one one false n no in
       let whole = run_group b kind segs one end rest t ms o h gap n (no_comments kind segs end (segs_hold segs)) broken flat in
-      rw (gap_is h.first l (group kind segs one end)) (whole ∙ ap (λ (u : List ℕ). run rest (at u ms o h Operand n)) (group_text t (bytes_of (group_rest b n kind segs one end)) gap (opening_text kind)))
+      rw (gap_is (first_gap h n) l (group kind segs one end)) (whole ∙ ap (λ (u : List ℕ). run rest (at u ms o h Operand n)) (group_text t (bytes_of (group_rest b n kind segs one end)) gap (opening_text kind)))
 
   pub run_items : (xs : Items) (rest : List RowPart) (t : List ℕ) (ms : List Mark) (o : List Frame) (h : Frame) (l : Edge) (n : ℕ) →
-      run (items_parts xs ++ rest) (at t (items_marks xs ++ ms) o h l n) ≡ run rest (at (t ++ bytes_of (items_pieces Broken n h.within h.first l xs)) ms o h (last_edge h.within l xs) n)
+      run (items_parts xs ++ rest) (at t (items_marks xs ++ ms) o h l n) ≡ run rest (at (t ++ bytes_of (items_pieces Broken n h.within (first_gap h n) l xs)) ms o h (last_edge h.within l xs) n)
   run_items no_items rest t ms o h l n = rw (append-nil t) refl
   run_items (item x xs) rest t ms o h l n =
-      let ps = item_pieces Broken n (gap_before h.first l x) x in
+      let ps = item_pieces Broken n (gap_before (first_gap h n) l x) x in
       let left = edge_after h.within l x in
       rw (append_assoc (item_parts x) (items_parts xs) rest, append_assoc (item_marks x) (items_marks xs) ms)
       (run_item x (items_parts xs ++ rest) t (items_marks xs ++ ms) o h l n ∙ (run_items xs rest (t ++ bytes_of ps) ms o h left n ∙
-      ap (λ (u : List ℕ). run rest (at u ms o h (last_edge h.within left xs) n)) (two t ps (items_pieces Broken n h.within h.first left xs))))
+      ap (λ (u : List ℕ). run rest (at u ms o h (last_edge h.within left xs) n)) (two t ps (items_pieces Broken n h.within (first_gap h n) left xs))))
 
   pub run_broken : (ss : Segs) (rest : List RowPart) (t : List ℕ) (ms : List Mark) (o : List Frame) (kind : GroupKind) (comma : Bool) (n : ℕ) → BrokenRuns ss rest t ms o kind comma n
   run_broken no_segs rest t ms o kind comma n = rw (append-nil t) refl
   run_broken (seg before nodes suffix ss) rest t ms o kind comma n =
-      let frame = broken_frame kind n comma in
+      let frame = broken_frame kind comma in
       let a = comments n before in
       let b = items_pieces Broken n (Some kind) (Line n) Start nodes in
       let c = suffix_piece suffix in
@@ -186,22 +189,22 @@ mutual
       (run_above before (items_parts nodes ++ ending) t (items_marks nodes ++ later) o frame Start n ∙ (run_items nodes ending t1 later o frame Start n ∙ (run_beside suffix after t3 later o frame Start n ∙
       (run_broken ss rest (t3 ++ bytes_of c) ms o kind comma n ∙ ap (λ (u : List ℕ). run rest (at u ms o frame Start n)) (broken_seg_text t a b comma c d)))))
 
-  pub run_flat : (ss : Segs) (rest : List RowPart) (t : List ℕ) (ms : List Mark) (o : List Frame) (kind : GroupKind) (comma one : Bool) (gap : Gap) (n : ℕ) → have_comments ss ≡ false → FlatRuns ss rest t ms o kind comma one gap n
-  run_flat no_segs rest t ms o kind comma one gap n h = refl
-  run_flat (seg (note ∷ before) nodes suffix ss) rest t ms o kind comma one gap n h = cc
-  run_flat (seg [] nodes (Some note) ss) rest t ms o kind comma one gap n h = cc
-  run_flat (seg [] nodes None no_segs) rest t ms o kind comma one gap n h =
-      let a = items_pieces Broken n (Some kind) gap Start nodes in
+  pub run_flat : (ss : Segs) (rest : List RowPart) (t : List ℕ) (ms : List Mark) (o : List Frame) (kind : GroupKind) (comma one later : Bool) (n : ℕ) → have_comments ss ≡ false → FlatRuns ss rest t ms o kind comma one later n
+  run_flat no_segs rest t ms o kind comma one later n h = refl
+  run_flat (seg (note ∷ before) nodes suffix ss) rest t ms o kind comma one later n h = cc
+  run_flat (seg [] nodes (Some note) ss) rest t ms o kind comma one later n h = cc
+  run_flat (seg [] nodes None no_segs) rest t ms o kind comma one later n h =
+      let a = items_pieces Broken n (Some kind) (flat_gap later) Start nodes in
       rw (seg_joined [] nodes None no_segs (closing one ∷ rest), append_assoc (items_marks nodes) [] ms)
-      (run_items nodes (segment_end ∷ closing one ∷ rest) t ms o (flat_frame kind gap comma) Start n ∙ ap (λ (u : List ℕ). run rest (at u ms (tail o) (first_frame o) Operand n)) (last_text t a (comma_bytes comma ++ closing_text kind)))
-  run_flat (seg [] nodes None (seg before2 nodes2 suffix2 ss)) rest t ms o kind comma one gap n h =
-      let frame = flat_frame kind gap comma in
-      let a = items_pieces Broken n (Some kind) gap Start nodes in
+      (run_items nodes (segment_end ∷ closing one ∷ rest) t ms o (flat_frame kind later comma) Start n ∙ ap (λ (u : List ℕ). run rest (at u ms (tail o) (first_frame o) Operand n)) (last_text t a (comma_bytes comma ++ closing_text kind)))
+  run_flat (seg [] nodes None (seg before2 nodes2 suffix2 ss)) rest t ms o kind comma one later n h =
+      let frame = flat_frame kind later comma in
+      let a = items_pieces Broken n (Some kind) (flat_gap later) Start nodes in
       let t1 = t ++ bytes_of a in
       let more = seg before2 nodes2 suffix2 ss in
       let after = segs_parts more ++ (closing one ∷ rest) in
-      let later = segs_marks more ++ ms in
-      let comma_next = ap (λ (last : Bool). run after (ended last (at t1 later o frame (last_edge (Some kind) Start nodes) n))) (not_last before2 nodes2 suffix2 ss (closing one ∷ rest)) in
+      let marks = segs_marks more ++ ms in
+      let comma_next = ap (λ (last : Bool). run after (ended last (at t1 marks o frame (last_edge (Some kind) Start nodes) n))) (not_last before2 nodes2 suffix2 ss (closing one ∷ rest)) in
       rw (seg_joined [] nodes None more (closing one ∷ rest), append_assoc (items_marks nodes) (segs_marks more) ms)
-      (run_items nodes (segment_end ∷ after) t later o frame Start n ∙ (comma_next ∙ (run_flat (seg before2 nodes2 suffix2 ss) rest (t1 ++ codes ",") ms o kind comma one Space n h ∙
+      (run_items nodes (segment_end ∷ after) t marks o frame Start n ∙ (comma_next ∙ (run_flat (seg before2 nodes2 suffix2 ss) rest (t1 ++ codes ",") ms o kind comma one true n h ∙
       ap (λ (u : List ℕ). run rest (at u ms (tail o) (first_frame o) Operand n)) (next_text t a (flat_from n kind Space more) (comma_bytes comma ++ closing_text kind)))))

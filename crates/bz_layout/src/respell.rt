@@ -27,7 +27,20 @@ fn are_plain(bytes: &[u8]) -> bool
 }
 
 // The content of a string without prefix in single quotes that holds neither a quote nor a backslash.
+#[inline(always)]
 fn single_content(text: &str) -> Option<&str>
+    ensures some { IfSome result
+        (λ inner. (text.now ≡ 39 ∷ (inner.now ++ 39 ∷ [])) × (list_all is_plain inner.now ≡ true)) }
+    ensures none { IfNone result
+        ((inner : List ℕ) → text.now ≡ 39 ∷ (inner ++ 39 ∷ []) → list_all is_plain inner ≡ false) }
+{
+    match text.as_bytes() {
+        [b'\'', ..] => stripped(text),
+        _ => None,
+    }
+}
+
+fn stripped(text: &str) -> Option<&str>
     ensures some { IfSome result
         (λ inner. (text.now ≡ 39 ∷ (inner.now ++ 39 ∷ [])) × (list_all is_plain inner.now ≡ true)) }
     ensures none { IfNone result

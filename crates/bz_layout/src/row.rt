@@ -12,6 +12,9 @@ use crate::row_walk::Walk;
 use bz_tree::{Class, Part, Row};
 use std::alloc::{AllocError, Global};
 
+// What is reserved for the text; most statements take less.
+const BYTES_A_PART: usize = 8;
+
 // The comments above the statement, each with its newline, and the parts after them.
 fn put_leading<'r, 'a>(
     parts: &'r [Part<'a>],
@@ -35,7 +38,8 @@ fn text_of(alloc: Global, row: &Row<'_>) -> Result<String, AllocError>
     ensures { IfOk result (λ text. string_bytes text
         ≡ row_text (map part_view row.now.parts.items) row.now.class) }
 {
-    let mut text = String::new(alloc);
+    let room = row.parts.len().saturating_mul(BYTES_A_PART);
+    let mut text = String::with_capacity(alloc, room)?;
     let rest = put_leading(&row.parts, &mut text)?;
     if matches!(row.class, Class::Comment) {
         return Ok(text);

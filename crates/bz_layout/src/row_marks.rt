@@ -27,7 +27,7 @@ pub(crate) struct Inside {
     // A segment of it holds a broken bracket.
     pub(crate) holds: bool,
     // The number of its segments, at most 2.
-    pub(crate) segs: usize,
+    pub(crate) segs: u8,
 }
 
 #[derive(Drop)]
@@ -53,7 +53,7 @@ impl Inside {
 }
 
 #[inline(always)]
-fn one_more(n: usize) -> usize
+fn one_more(n: u8) -> u8
     ensures { result ≡ one_more n }
 {
     if n < 2 { n + 1 } else { n }
@@ -63,9 +63,10 @@ fn one_more(n: usize) -> usize
 fn mark_of(kind: GroupKind, inside: Inside) -> Mark
     ensures { result ≡ mark_of kind inside }
 {
-    let broken = breaks_with(kind, inside.notes, inside.segs, inside.holds);
+    let segs = usize::from(inside.segs);
+    let broken = breaks_with(kind, inside.notes, segs, inside.holds);
     let comma = if broken {
-        has_commas(kind, inside.one_comma, inside.segs)
+        has_commas(kind, inside.one_comma, segs)
     } else {
         inside.one_comma
     };

@@ -3,7 +3,7 @@
 ghost use Rattle.std.specs.Prelude.{◌≡◌, OnOk, map, reverse, string_bytes};
 ghost use Rattle.bz_tree.specs.Rows.{part_view};
 ghost use Rattle.bz_layout.specs.declared.spacing.Gap.TheVariants.{Apart, Line};
-ghost use Rattle.bz_layout.specs.private.RowLayout.{top, start, with_token, opened, closed_by, is_last, ended, put_note, step, run, laid};
+ghost use Rattle.bz_layout.specs.private.RowLayout.{top, first_gap, start, with_token, opened, closed_by, is_last, ended, put_note, step, run, laid};
 
 use crate::respell::put_written;
 use crate::row_marks::Mark;
@@ -18,9 +18,9 @@ use std::alloc::{AllocError, Global};
 pub(crate) struct Frame {
     // None at the top.
     pub(crate) within: Option<GroupKind>,
-    // The gap before the first node of a segment.
-    pub(crate) first: Gap,
     pub(crate) mark: Mark,
+    // In place, after a comma.
+    pub(crate) later: bool,
 }
 
 #[derive(Drop)]
@@ -49,11 +49,25 @@ impl Frame {
     {
         Frame {
             within: None,
-            first: Gap::Closed,
             mark: Mark {
                 broken: false,
                 comma: false,
             },
+            later: false,
+        }
+    }
+
+    // The gap before the first node of a segment.
+    #[inline(always)]
+    fn first(self, level: usize) -> Gap
+        ensures { result ≡ first_gap self level }
+    {
+        if self.mark.broken {
+            Gap::Line(level)
+        } else if self.later {
+            Gap::Space
+        } else {
+            Gap::Closed
         }
     }
 }
@@ -76,7 +90,7 @@ impl Walk {
     fn token(&mut self, kind: Kind, text: &str) -> Result<(), AllocError>
         ensures { OnOk result (laid self.new ≡ with_token kind text.now (laid self.old)) }
     {
-        let gap = gap_for(self.here.first, self.left, token_closes_up(kind, text));
+        let gap = gap_for(self.here.first(self.level), self.left, token_closes_up(kind, text));
         put_gap(gap, &mut self.text)?;
         put_written(kind, text, &mut self.text)?;
         self.left = token_edge(self.here.within, self.left, kind, text);
@@ -86,26 +100,24 @@ impl Walk {
     fn open(&mut self, kind: GroupKind) -> Result<(), AllocError>
         ensures { OnOk result (laid self.new ≡ opened kind (laid self.old)) }
     {
-        let gap = gap_for(self.here.first, self.left, hugs(kind));
+        let gap = gap_for(self.here.first(self.level), self.left, hugs(kind));
         put(gap, opening(kind), &mut self.text)?;
         self.outer.push(self.here)?;
         let mark = match self.marks.pop() {
             Some(mark) => mark,
             None => Frame::top().mark,
         };
-        let mut first = Gap::Closed;
         if mark.broken {
             // No memory holds a text with more levels.
             let Some(inner) = self.level.checked_add(1) else {
                 return Err(AllocError);
             };
             self.level = inner;
-            first = Gap::Line(inner);
         }
         self.here = Frame {
             within: Some(kind),
-            first,
             mark,
+            later: false,
         };
         self.left = Edge::Start;
         Ok(())
@@ -143,7 +155,7 @@ impl Walk {
             }
         } else if !last {
             self.text.push_str(",")?;
-            self.here.first = Gap::Space;
+            self.here.later = true;
         }
         Ok(())
     }

@@ -3,6 +3,7 @@
 ghost use Rattle.std.specs.Prelude.{◌≡◌, ◌++◌, OnOk, option_map, string_bytes};
 ghost use Rattle.bz_tree.specs.View.{text_of, texts};
 ghost use Rattle.bz_layout.specs.Pieces.{indent, gap_bytes, bytes_of, comments, comment_lines, suffix_piece};
+ghost use Rattle.bz_layout.specs.declared.spacing.Gap.TheVariants.{Line};
 ghost use Rattle.bz_layout.specs.Layout.{opening, closing, has_commas};
 
 use crate::spacing::Gap;
@@ -10,6 +11,7 @@ use bz_tree::GroupKind;
 use std::alloc::AllocError;
 use std::borrow::CowStr;
 
+#[inline(always)]
 pub(crate) fn opening(kind: GroupKind) -> &'static str
     ensures { result.now ≡ opening kind }
 {
@@ -20,6 +22,7 @@ pub(crate) fn opening(kind: GroupKind) -> &'static str
     }
 }
 
+#[inline(always)]
 pub(crate) fn closing(kind: GroupKind) -> &'static str
     ensures { result.now ≡ closing kind }
 {
@@ -51,6 +54,21 @@ fn put_indent(level: usize, out: &mut String) -> Result<(), AllocError>
     Ok(())
 }
 
+fn put_new_line(level: usize, out: &mut String) -> Result<(), AllocError>
+    ensures ok { OnOk result (string_bytes out.new ≡ string_bytes out.old ++ gap_bytes (Line level)) }
+{
+    match level {
+        0 => out.push_str("\n"),
+        1 => out.push_str("\n    "),
+        2 => out.push_str("\n        "),
+        _ => {
+            out.push_str("\n")?;
+            put_indent(level, out)
+        }
+    }
+}
+
+#[inline(always)]
 pub(crate) fn put_gap(gap: Gap, out: &mut String) -> Result<(), AllocError>
     ensures ok { OnOk result (string_bytes out.new ≡ string_bytes out.old ++ gap_bytes gap) }
 {
@@ -58,13 +76,11 @@ pub(crate) fn put_gap(gap: Gap, out: &mut String) -> Result<(), AllocError>
         Gap::Closed => Ok(()),
         Gap::Space => out.push_str(" "),
         Gap::Apart => out.push_str("  "),
-        Gap::Line(level) => {
-            out.push_str("\n")?;
-            put_indent(level, out)
-        }
+        Gap::Line(level) => put_new_line(level, out),
     }
 }
 
+#[inline(always)]
 pub(crate) fn put(gap: Gap, text: &str, out: &mut String) -> Result<(), AllocError>
     ensures ok { OnOk result (string_bytes out.new ≡ string_bytes out.old ++ (gap_bytes gap ++ text.now)) }
 {

@@ -95,7 +95,11 @@ abbrev pub whole : Mark
 whole = record { broken = false; comma = false }
 
 abbrev pub top : Frame
-top = record { within = None; first = Closed; mark = whole }
+top = record { within = None; mark = whole; later = false }
+
+-- the gap before the first node of a segment
+abbrev pub first_gap : Frame → ℕ → Gap
+first_gap f level = if f.mark.broken then Line level else (if f.later then Space else Closed)
 
 abbrev pub start : List ℕ → List Mark → Laid
 start text marks = record { text = text; marks = marks; outer = []; here = top; left = Start; level = 0 }
@@ -108,7 +112,7 @@ put_note gap text s = record { text = s.text ++ (gap_bytes gap ++ text); marks =
 
 abbrev pub with_token : Kind → List ℕ → Laid → Laid
 with_token kind text s = record {
-  text = s.text ++ (gap_bytes (gap_for s.here.first s.left (closes_up (leaf kind text))) ++ respell kind text);
+  text = s.text ++ (gap_bytes (gap_for (first_gap s.here s.level) s.left (closes_up (leaf kind text))) ++ respell kind text);
   marks = s.marks;
   outer = s.outer;
   here = s.here;
@@ -119,15 +123,12 @@ with_token kind text s = record {
 abbrev pub level_in : Mark → ℕ → ℕ
 level_in mark level = if mark.broken then level + 1 else level
 
-abbrev pub first_in : Mark → ℕ → Gap
-first_in mark level = if mark.broken then Line (level + 1) else Closed
-
 abbrev pub opened_by : Mark → List Mark → GroupKind → Laid → Laid
 opened_by mark marks kind s = record {
-  text = s.text ++ (gap_bytes (gap_for s.here.first s.left (hugs kind)) ++ opening_text kind);
+  text = s.text ++ (gap_bytes (gap_for (first_gap s.here s.level) s.left (hugs kind)) ++ opening_text kind);
   marks = marks;
   outer = s.here ∷ s.outer;
-  here = record { within = Some kind; first = first_in mark s.level; mark = mark };
+  here = record { within = Some kind; mark = mark; later = false };
   left = Start;
   level = level_in mark s.level;
 }
@@ -174,15 +175,15 @@ closed_by s = record {
 abbrev pub after_segment : Mark → Bool → List ℕ
 after_segment mark last = if mark.broken then comma_bytes mark.comma else (if last then [] else codes ",")
 
-abbrev pub next_first : Mark → Bool → Gap → Gap
-next_first mark last first = if mark.broken then first else (if last then first else Space)
+abbrev pub is_later : Frame → Bool → Bool
+is_later f last = if f.mark.broken then f.later else (if last then f.later else true)
 
 abbrev pub ended : Bool → Laid → Laid
 ended last s = record {
   text = s.text ++ after_segment s.here.mark last;
   marks = s.marks;
   outer = s.outer;
-  here = record { within = s.here.within; first = next_first s.here.mark last s.here.first; mark = s.here.mark };
+  here = record { within = s.here.within; mark = s.here.mark; later = is_later s.here last };
   left = Start;
   level = s.level;
 }
