@@ -2,12 +2,14 @@
 use Rattle.std.specs.Prelude.{◌≡◌, ℕ, List, [], ◌∷◌, true, false, codes, refl}
 use Rattle.std.specs.Prelude.Option.{Some, None}
 use Rattle.bz_token.specs.declared.token.Kind.TheVariants.{Ident, Word, Int, Text, Sign, Kept}
-use Rattle.bz_tree.specs.declared.stmt.GroupKind.TheVariants.{Call, Paren, List as ListKind, Index, Dict}
+use Rattle.bz_tree.specs.declared.stmt.GroupKind.TheVariants.{Call, RuleCall, Paren, List as ListKind, Index, Dict}
 use Rattle.bz_tree.specs.declared.stmt.Class.TheVariants.{Load, Assign, Rule, Comment, Block}
 use Rattle.bz_tree.specs.Tree.{Item, leaf, group, Segment, Statement, segs_of}
 use Rattle.bz_layout.specs.Layout.{layout, layout_text, flat_text}
 use Rattle.bz_layout.specs.Lines.{text_line, lines_of}
 use Rattle.bz_layout.specs.Gaps.{blank_between}
+use Rattle.bz_layout.specs.private.RowLayout.{row_text}
+use Rattle.bz_tree.specs.Rows.{a_token, opening, closing, segment_end, above, beside, parts_of}
 
 abbrev pub name : List ℕ → Item
 name text = leaf Ident text
@@ -80,3 +82,20 @@ load_and_assignment = refl
 
 comments : blank_between (Some Comment) Comment ≡ true
 comments = refl
+
+-- a row: its parts, and its text by the two walks
+row_parts : parts_of commented ≡ above (codes "# top") ∷ a_token Ident (codes "x") ∷ a_token Sign (codes "=") ∷ opening ListKind ∷ above (codes "# a") ∷ a_token Int (codes "1") ∷ segment_end ∷ beside (codes "# b") ∷ above (codes "# c") ∷ closing false ∷ beside (codes "# d") ∷ []
+row_parts = refl
+
+row_places : row_text (parts_of commented) Assign ≡ codes "# top\nx = [\n    # a\n    1,  # b\n    # c\n]  # d\n"
+row_places = refl
+
+-- `f((1,), [2, -b])`: the tuple stays in place
+row_nested : row_text (a_token Ident (codes "f") ∷ opening RuleCall ∷ opening Paren ∷ a_token Int (codes "1") ∷ segment_end ∷ closing true ∷ segment_end ∷ opening ListKind ∷ a_token Int (codes "2") ∷ segment_end ∷ a_token Sign (codes "-") ∷ a_token Ident (codes "b") ∷ segment_end ∷ closing false ∷ segment_end ∷ closing false ∷ []) Rule ≡ codes "f(\n    (1,),\n    [\n        2,\n        -b,\n    ],\n)\n"
+row_nested = refl
+
+row_in_place : row_text (a_token Ident (codes "x") ∷ a_token Sign (codes "=") ∷ a_token Ident (codes "f") ∷ opening Call ∷ a_token Int (codes "1") ∷ segment_end ∷ a_token Ident (codes "k") ∷ a_token Sign (codes "=") ∷ a_token Text (codes "'v'") ∷ segment_end ∷ closing false ∷ []) Assign ≡ codes "x = f(1, k = \"v\")\n"
+row_in_place = refl
+
+row_comments : row_text (above (codes "# a") ∷ above (codes "# b") ∷ []) Comment ≡ codes "# a\n# b\n"
+row_comments = refl

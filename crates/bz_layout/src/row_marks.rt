@@ -18,6 +18,9 @@ pub(crate) struct Mark {
     pub(crate) comma: bool,
 }
 
+// Few statements have more brackets.
+const FIRST_CAPACITY: usize = 16;
+
 // What stands in a bracket, or at the top, after a part.
 #[derive(Clone, Copy)]
 pub(crate) struct Inside {
@@ -112,7 +115,7 @@ pub(crate) fn marks_of(alloc: Global, parts: &[Part<'_>]) -> Result<Vec<Mark>, A
     ensures { IfOk result (λ ms. reverse ms.items ≡ (scan (map part_view parts.now)).marks) }
 {
     let mut walk = Marks {
-        marks: Vec::new(alloc),
+        marks: Vec::with_capacity(alloc, FIRST_CAPACITY)?,
         here: Inside::closed(false),
         outer: Vec::new(alloc),
     };

@@ -90,7 +90,11 @@ impl Walk {
     fn token(&mut self, kind: Kind, text: &str) -> Result<(), AllocError>
         ensures { OnOk result (laid self.new ≡ with_token kind text.now (laid self.old)) }
     {
-        let gap = gap_for(self.here.first(self.level), self.left, token_closes_up(kind, text));
+        let gap = gap_for(
+            self.here.first(self.level),
+            self.left,
+            token_closes_up(kind, text),
+        );
         put_gap(gap, &mut self.text)?;
         put_written(kind, text, &mut self.text)?;
         self.left = token_edge(self.here.within, self.left, kind, text);
