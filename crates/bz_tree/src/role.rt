@@ -55,7 +55,8 @@ fn word_role(text: &str) -> Role
     }
 }
 
-fn sign_role(text: &str) -> Role
+/// What a sign is.
+pub(crate) fn sign_role(text: &str) -> Role
     ensures { result ≡ sign_role text.now }
 {
     match text {

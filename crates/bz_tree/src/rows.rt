@@ -5,6 +5,7 @@ ghost use Rattle.std.specs.Bool.{then_some};
 ghost use Rattle.bz_token.specs.Places.{placed};
 ghost use Rattle.bz_tree.specs.Tree.{Statement};
 ghost use Rattle.bz_tree.specs.Statement.{first_token};
+ghost use Rattle.bz_tree.specs.Grammar.{leaf_role};
 ghost use Rattle.bz_tree.specs.Chunk.{IsStatementIn};
 ghost use Rattle.bz_tree.specs.Kinds.{group_kind};
 ghost use Rattle.bz_tree.specs.Rows.{IsRowOf, part_view};
@@ -14,13 +15,13 @@ ghost use Rattle.bz_tree.specs.private.RowSteps.{here_view, row_state, leaf_next
 use crate::block::is_block_word;
 use crate::kinds::{Mark, Shape, group_kind, is_for_at, is_one, mark_of, same_shape, shape_of};
 use crate::owners::ends_on;
-use crate::role::{Role, token_role};
+use crate::role::{Role, sign_role, token_role};
 use crate::row::{Part, Row};
 use crate::span::{first_seen, first_token, newlines};
 use crate::spot::{Here, Spot, shown_kind};
 use crate::stage::may_end;
 use crate::stmt::GroupKind;
-use bz_token::{LexFault, Token, tokens};
+use bz_token::{Kind, LexFault, Token, tokens};
 use std::alloc::{AllocError, Global};
 use std::mem;
 
@@ -34,19 +35,35 @@ pub(crate) struct RowWalk<'a> {
 
 // False: the statement is left to its tree. So it is in all that follow.
 impl<'a> RowWalk<'a> {
+    // One more node, a token of this role.
+    #[inline(always)]
+    fn push_leaf(&mut self, token: &Token<'a>, kind: Kind, role: Role) -> Result<bool, AllocError>
+        requires kind { kind ≡ token.now.kind }
+        requires role { role ≡ leaf_role token.now.kind token.now.text.now }
+        ensures { IfOk result
+            (λ some. then_some some (row_state self.new) ≡ leaf_next (placed token.now) (row_state self.old)) }
+    {
+        if matches!(role, Role::Stray) || is_for_at(kind, token.text) || self.top.is_ended() {
+            return Ok(false);
+        }
+        self.parts.push(Part::Token(kind, token.text))?;
+        self.top.read.add_leaf(kind, token.text, role);
+        self.top.here = Here::Node(token.line, token.text);
+        Ok(true)
+    }
+
+    // The kinds of most tokens are told apart once.
     #[inline(always)]
     fn add_leaf(&mut self, token: &Token<'a>) -> Result<bool, AllocError>
         ensures { IfOk result
             (λ some. then_some some (row_state self.new) ≡ leaf_next (placed token.now) (row_state self.old)) }
     {
-        let role = token_role(token.kind, token.text);
-        if matches!(role, Role::Stray) || is_for_at(token.kind, token.text) || self.top.is_ended() {
-            return Ok(false);
+        match token.kind {
+            Kind::Ident => self.push_leaf(token, Kind::Ident, Role::Name),
+            Kind::Text => self.push_leaf(token, Kind::Text, Role::Value),
+            Kind::Sign => self.push_leaf(token, Kind::Sign, sign_role(token.text)),
+            kind => self.push_leaf(token, kind, token_role(kind, token.text)),
         }
-        self.parts.push(Part::Token(token.kind, token.text))?;
-        self.top.read.add_leaf(token, role);
-        self.top.here = Here::Node(token.line, token.text);
-        Ok(true)
     }
 
     // At the top a comma is a node.
@@ -60,7 +77,7 @@ impl<'a> RowWalk<'a> {
         self.parts.push(Part::Token(token.kind, token.text))?;
         self.top
             .read
-            .add_leaf(token, token_role(token.kind, token.text));
+            .add_leaf(token.kind, token.text, token_role(token.kind, token.text));
         self.top.here = Here::Node(token.line, "");
         Ok(true)
     }

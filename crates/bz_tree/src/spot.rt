@@ -10,7 +10,7 @@ use crate::kinds::{Preceding, kind_after};
 use crate::role::Role;
 use crate::stage::{Part, Stage, begin, group_role, next};
 use crate::stmt::{Class, GroupKind};
-use bz_token::{Kind, Token};
+use bz_token::Kind;
 
 // What the top is so far: the beginning of a rule, a rule, or none.
 #[derive(Clone, Copy)]
@@ -66,12 +66,12 @@ pub(crate) struct Spot<'a> {
 }
 
 #[inline(always)]
-fn named(naming: Naming, token: &Token<'_>) -> Naming
-    ensures { result ≡ named naming token.now.kind token.now.text.now }
+fn named(naming: Naming, kind: Kind, text: &str) -> Naming
+    ensures { result ≡ named naming kind text.now }
 {
     match naming {
-        Naming::Name if token.kind == Kind::Ident => Naming::Join,
-        Naming::Join if is_dot_at(token.kind, token.text) => Naming::Name,
+        Naming::Name if kind == Kind::Ident => Naming::Join,
+        Naming::Join if is_dot_at(kind, text) => Naming::Name,
         Naming::End | Naming::Lost => Naming::Lost,
         _ => Naming::Never,
     }
@@ -132,13 +132,13 @@ fn one_more(done: Done) -> Done
 impl Read {
     // After a token of this role.
     #[inline(always)]
-    pub(crate) fn add_leaf(&mut self, token: &Token<'_>, role: Role)
-        requires { role ≡ leaf_role token.now.kind token.now.text.now }
-        ensures { self.new ≡ read_leaf token.now.kind token.now.text.now self.old }
+    pub(crate) fn add_leaf(&mut self, kind: Kind, text: &str, role: Role)
+        requires { role ≡ leaf_role kind text.now }
+        ensures { self.new ≡ read_leaf kind text.now self.old }
     {
         self.stage = next(self.stage, role);
-        self.at = kind_after(token.kind, token.text);
-        self.naming = named(self.naming, token);
+        self.at = kind_after(kind, text);
+        self.naming = named(self.naming, kind, text);
         self.assigns = self.assigns || matches!(role, Role::Equals | Role::Augmented);
     }
 
