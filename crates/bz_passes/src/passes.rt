@@ -67,6 +67,11 @@ impl<T: Keyed, C> Passes<T, C> {
         }
     }
 
+    /// Whether a pass asks for a name.
+    pub(crate) fn ask_for_names(&self) -> bool {
+        !self.index.named.is_empty()
+    }
+
     fn any_from(&self, from: usize) -> Option<usize>
         ensures { spec.IsFirstFrom (λ pass. true) self.now from result }
     {

@@ -96,6 +96,21 @@ fn run_pass<L: Language>(
     )
 }
 
+/// What is known of the name of what is in the slot; it is not looked at where no pass asks for a name.
+fn asked_key<'s, L: Language>(
+    language: &L,
+    passes: &Passes<L::Target, L::Command>,
+    slot: &'s Option<L::Statement>,
+) -> Key<'s>
+    ensures { IsKeyOf (L.meaning language.now) L.Target.asked (L.seen slot.now) result }
+{
+    if passes.ask_for_names() {
+        language.key(slot)
+    } else {
+        Key::Unknown
+    }
+}
+
 /// The first pass from a position on whose target marks the slot. Of the passes that ask for another name none is
 /// looked at.
 fn next_marked<L: Language>(
@@ -107,7 +122,10 @@ fn next_marked<L: Language>(
     ensures { IsFirstFrom (λ pass. (L.meaning language.now).marks pass.target (L.seen slot.now))
         passes.now from result }
 {
-    let key = language.key(slot);
+    if from >= passes.as_slice().len() {
+        return None;
+    }
+    let key = asked_key(language, passes, slot);
     let mut at = from;
     while let Some(i) = passes.first_from(key, at) {
         let pass = &passes.as_slice()[i];
