@@ -1,6 +1,7 @@
 pub mod ArgEdits
 pub mod Arriving
 pub mod Flags
+pub mod Known
 pub mod Leaving
 pub mod Pool
 pub mod Written

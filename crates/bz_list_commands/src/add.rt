@@ -1,13 +1,12 @@
 //! `add`: values that are missing go to the end of a list.
 
-ghost use Rattle.std.specs.Prelude.{◌≡◌, ◌≤◌, ◌++◌, ◌∷◌, [], map, Some, length, if◌then◌else◌, not, true, IfOk, OnOk, OnErr};
+ghost use Rattle.std.specs.Prelude.{◌≡◌, ◌≤◌, ◌++◌, ◌∷◌, [], Some, length, IfOk, IfSome, OnOk, OnErr};
 ghost use Rattle.std.specs.List.{list_any};
 ghost use Rattle.bz_tree.specs.View.{node_view, nodes_view, seg_view, segs_view};
 ghost use Rattle.bz_attribute.specs.Rules.{first_named, value};
 ghost use Rattle.bz_attribute.specs.Lists.{edit_first_part, edit_list, parts, same};
-ghost use Rattle.bz_command.specs.LabelSetViews.{Gains, has};
 ghost use Rattle.bz_attribute.specs.private.Places.{IsFirstPart};
-ghost use Rattle.bz_list_commands.specs.private.AddingSteps.{value_with_added, done_in_value};
+ghost use Rattle.bz_list_commands.specs.private.AddingSteps.{Knows, value_with_added, done_in_value};
 ghost use Rattle.bz_attribute.specs.Effects as spec;
 
 use bz_attribute::chosen::{Chosen, is_any_chosen};
@@ -84,7 +83,8 @@ fn add_in_value(
     Ok(Done::quiet(changed))
 }
 
-// The elements for the values that are missing in a value's list parts.
+// The elements for the values that are missing in a value's list parts. Of many values each is looked up in a set of the
+// elements and of the values before it.
 fn new_elements<'a>(
     alloc: Global,
     home: &Package,
@@ -94,52 +94,42 @@ fn new_elements<'a>(
     ensures { IfOk result
         (λ new. segs_view new.items ≡ spec.new_elements home.now (parts (nodes_view value.now)) values.now) }
 {
-    if values.len() <= FEW {
-        return compared(alloc, home, value, values);
-    }
-    looked_up(alloc, home, value, values)
-}
-
-// The same for a few values, each compared with the elements and with the values before it.
-fn compared<'a>(
-    alloc: Global,
-    home: &Package,
-    value: &[Node<'_>],
-    values: &[Text],
-) -> Result<Vec<Seg<'a>>, AllocError>
-    ensures { IfOk result
-        (λ new. segs_view new.items ≡ spec.new_elements home.now (parts (nodes_view value.now)) values.now) }
-{
+    let mut there = if values.len() <= FEW {
+        None
+    } else {
+        Some(labels_in(alloc, home, value)?)
+    };
     let mut new = Vec::new(alloc);
     for i in 0..values.len() {
-        push_fresh(
-            alloc,
-            home,
-            value,
-            &values[..i],
-            values[i].as_str(),
-            &mut new,
-        )?;
+        let word = values[i].as_str();
+        if is_fresh(home, value, &values[..i], word, &mut there)? {
+            new.push(string(alloc, word)?)?;
+        }
     }
     Ok(new)
 }
 
-fn push_fresh<'a>(
-    alloc: Global,
+// No element and no earlier value is the same label: these are compared, or the word goes into the set of them.
+fn is_fresh<'t>(
     home: &Package,
     value: &[Node<'_>],
     earlier: &[Text],
-    word: &str,
-    new: &mut Vec<Seg<'a>>,
-) -> Result<(), AllocError>
-    ensures { OnOk result (segs_view new.new.items ≡ segs_view new.old.items ++ map spec.string
-        (if spec.is_fresh home.now (parts (nodes_view value.now)) earlier.now word.now then word.now ∷ [] else [])) }
+    word: &'t str,
+    there: &mut Option<LabelSet<'t>>,
+) -> Result<bool, AllocError>
+    requires { IfSome there.old (Knows home.now (parts (nodes_view value.now)) earlier.now) }
+    ensures fresh { IfOk result
+        (λ fresh. fresh ≡ spec.is_fresh home.now (parts (nodes_view value.now)) earlier.now word.now) }
+    ensures there { OnOk result
+        (IfSome there.new (Knows home.now (parts (nodes_view value.now)) (earlier.now ++ word.now ∷ []))) }
 {
-    if is_any_chosen(home, Chosen::Value(word), value) || is_any_same(home, word, earlier) {
-        return Ok(());
+    match there {
+        None => Ok(!is_any_chosen(home, Chosen::Value(word), value) && !is_any_same(home, word, earlier)),
+        Some(set) => {
+            let fresh = set.insert(Bytes::Plain(word.as_bytes()))?;
+            Ok(fresh)
+        }
     }
-    new.push(string(alloc, word)?)?;
-    Ok(())
 }
 
 fn is_any_same(home: &Package, word: &str, others: &[Text]) -> bool
@@ -155,43 +145,6 @@ fn is_any_same(home: &Package, word: &str, others: &[Text]) -> bool
         }
     }
     false
-}
-
-// The same for many values, each looked up in a set of the elements and of the values before it.
-fn looked_up<'a>(
-    alloc: Global,
-    home: &Package,
-    value: &[Node<'_>],
-    values: &[Text],
-) -> Result<Vec<Seg<'a>>, AllocError>
-    ensures { IfOk result
-        (λ new. segs_view new.items ≡ spec.new_elements home.now (parts (nodes_view value.now)) values.now) }
-{
-    let mut there = labels_in(alloc, home, value)?;
-    let mut new = Vec::new(alloc);
-    for i in 0..values.len() {
-        push_new(alloc, values[i].as_str(), &mut there, &mut new)?;
-    }
-    Ok(new)
-}
-
-// Adds an element for the text, where the set does not have it yet, and the text to the set.
-fn push_new<'t, 'a>(
-    alloc: Global,
-    text: &'t str,
-    there: &mut LabelSet<'t>,
-    new: &mut Vec<Seg<'a>>,
-) -> Result<(), AllocError>
-    ensures new { OnOk result
-        (segs_view new.new.items
-        ≡ segs_view new.old.items ++ map spec.string (if not (has there.old text.now) then text.now ∷ [] else [])) }
-    ensures there { OnOk result (Gains (λ other. same there.old.home.now other text.now) there.old there.new) }
-    ensures home { there.new.home.now ≡ there.old.home.now }
-{
-    if there.insert(Bytes::Plain(text.as_bytes()))? {
-        new.push(string(alloc, text)?)?;
-    }
-    Ok(())
 }
 
 // Adds elements at the end of a list. An `Err` leaves the node as it was.
