@@ -1,7 +1,9 @@
-use Rattle.std.proofs.Common.{◌<◌, length, sym, ◌∙◌, arith}
-use Rattle.bz_list_commands.specs.private.ReplaceSteps.{goes, put}
+use Rattle.std.proofs.Common.{◌<◌, Bool, if◌then◌else◌, length, get_or, ap, sym, ◌∙◌, arith}
+use Rattle.bz_tree.specs.View.{node_view}
+use Rattle.bz_attribute.specs.Rules.{elements}
+use Rattle.bz_list_commands.specs.private.ReplaceSteps.{count, goes, put}
 use Rattle.bz_attribute.proofs.PartEdits.{edit_node_step, keep_node_step}
-use Rattle.bz_list_commands.proofs.Pool.{part_taken, part_passed}
+use Rattle.bz_list_commands.proofs.Pool.{count_nodes, part_taken, part_passed}
 use Rattle.bz_list_commands.proofs.replace.put_in_value.Goals as goal
 use Rattle.bz_list_commands.proofs.replace.put_in_value.Goals.{then-is_part, else-is_part}
 
@@ -28,3 +30,11 @@ loop-i-preserved c =
             left = rw w.pool-is numbers.1;
           }
     ]
+
+pub put_in_list-requires-clause-enough : goal.put_in_list-requires-clause-enough
+put_in_list-requires-clause-enough c =
+    let d = c.index-value-i-then-is_part.result in
+    let h : c.loop-i.i < length c.loop-i.value = omega (arith, c.loop-i-test.true, c.loop-i.auto.value) in
+    let part = sym (c.is_part.ensures d) ∙ c.if-is_part.true in
+    let here = count_nodes (goes c.args.change) c.loop-i.start c.loop-i.value c.loop-i.i d h in
+    omega (arith, here, ap (λ (b : Bool). if b then count (goes c.args.change) (elements (node_view (get_or c.loop-i.value c.loop-i.i d))) else 0) part, c.loop-i.invariant.enough)

@@ -1,13 +1,15 @@
-use Rattle.std.proofs.Common.{◌≡◌, ◌+◌, length, filter, drop, sym, ◌∙◌, arith}
+use Rattle.std.proofs.Common.{◌≡◌, ◌+◌, ◌<◌, List, Bool, length, get_or, filter, drop, ap, sym, ◌∙◌, arith}
 use Rattle.std.specs.Vec.{vec_capacity}
-use Rattle.std.proofs.lemmas.List.{length-map}
-use Rattle.bz_tree.specs.View.{seg_view, segs_view, nodes_view}
+use Rattle.std.proofs.lemmas.List.{length-append, length-map}
+use Rattle.bz_tree.specs.Tree.{Segment}
+use Rattle.bz_tree.specs.View.{node_view, nodes_view, seg_view, segs_view}
+use Rattle.bz_attribute.specs.Rules.{elements}
 use Rattle.bz_attribute.specs.private.ChosenViews.{chosen_view}
 use Rattle.bz_attribute.specs.Effects.{is_chosen, unchosen}
 use Rattle.bz_attribute.specs.Lists.{parts_from}
 use Rattle.bz_attribute.specs.Moving.{joined}
 use Rattle.bz_attribute.proofs.PartEdits.{edit_node_step, keep_node_step}
-use Rattle.bz_list_commands.proofs.Leaving.{taken_step, passed_step, same_length}
+use Rattle.bz_list_commands.proofs.Leaving.{filter-append, joined_part, taken_step, passed_step, same_length}
 use Rattle.bz_list_commands.proofs.taking.take_in_value.Goals as goal
 use Rattle.bz_list_commands.proofs.taking.take_in_value.Goals.{then-is_part, else-is_part}
 
@@ -35,3 +37,12 @@ loop-i-preserved c =
             capacity = room ∙ c.loop-i.invariant.capacity;
           }
     ]
+
+pub take_in_list-requires : goal.take_in_list-requires
+take_in_list-requires c =
+    let p : Segment → Bool = is_chosen c.args.home.now (chosen_view c.args.chosen) in
+    let d = c.index-value-i-then-is_part.result in
+    let h : c.loop-i.i < length c.loop-i.value = omega (arith, c.loop-i-test.true, c.loop-i.auto.value) in
+    let here = joined_part c.loop-i.start c.loop-i.value c.loop-i.i d h (sym (c.is_part.ensures d) ∙ c.if-is_part.true) in
+    let long = ap (λ (ss : List Segment). length (filter p ss)) here ∙ ap length (filter-append p _ _) ∙ length-append (filter p (elements (node_view (get_or c.loop-i.value c.loop-i.i d)))) _ in
+    omega (arith, long, c.loop-i.invariant.room)
