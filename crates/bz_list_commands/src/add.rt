@@ -124,7 +124,9 @@ fn is_fresh<'t>(
         (IfSome there.new (Knows home.now (parts (nodes_view value.now)) (earlier.now ++ word.now ∷ []))) }
 {
     match there {
-        None => Ok(!is_any_chosen(home, Chosen::Value(word), value) && !is_any_same(home, word, earlier)),
+        None => Ok(
+            !is_any_chosen(home, Chosen::Value(word), value) && !is_any_same(home, word, earlier),
+        ),
         Some(set) => {
             let fresh = set.insert(Bytes::Plain(word.as_bytes()))?;
             Ok(fresh)
