@@ -11,6 +11,7 @@ mod grammar;
 mod kept;
 mod kinds;
 mod owners;
+mod parts;
 mod role;
 mod row;
 mod rows;
@@ -21,6 +22,7 @@ mod stmt;
 
 pub use chunk::parse;
 pub use fault::ParseFault;
+pub use parts::{push_nodes, push_parts};
 pub use role::Role;
 pub use row::{Part, Row};
 pub use rows::read_row;

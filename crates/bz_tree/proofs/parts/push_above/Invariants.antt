@@ -1,0 +1,7 @@
+use Rattle.std.proofs.Common.{◌≡◌, ◌++◌, drop, map}
+use Rattle.bz_tree.specs.View.{texts}
+use Rattle.bz_tree.specs.Rows.{above, part_view}
+use Rattle.bz_tree.proofs.parts.push_above.Given as goal
+
+abbrev pub invariant-loop-note : goal.invariant-loop-note
+invariant-loop-note l = map part_view l.parts.items ++ map above (texts (drop l.note-index l.notes)) ≡ map part_view l.initial.parts.items ++ map above (texts l.notes)

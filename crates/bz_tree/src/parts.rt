@@ -1,0 +1,93 @@
+//! The parts of a statement that has a tree, in the order in which they are written.
+
+ghost use Rattle.std.specs.Prelude.{◌≡◌, ◌++◌, OnOk, map, option_map};
+ghost use Rattle.bz_tree.specs.Tree.{items_of, segs_of};
+ghost use Rattle.bz_tree.specs.View.{text_of, texts, view, node_view, nodes_view, group_view, segs_view};
+ghost use Rattle.bz_tree.specs.Rows.{above, beside_part, item_parts, items_parts, segs_parts, parts_of, part_view};
+
+use crate::row::Part;
+use crate::stmt::{Group, Node, Seg, Stmt};
+use std::alloc::AllocError;
+use std::borrow::CowStr;
+
+/// Appends the parts of a statement.
+pub fn push_parts<'s>(stmt: &'s Stmt<'_>, parts: &mut Vec<Part<'s>>) -> Result<(), AllocError>
+    ensures { OnOk result (map part_view parts.new.items ≡ map part_view parts.old.items ++ parts_of (view stmt.now)) }
+{
+    push_above(&stmt.before, parts)?;
+    push_nodes(&stmt.nodes, parts)?;
+    push_beside(&stmt.suffix, parts)
+}
+
+fn push_above<'s>(notes: &'s [CowStr<'_>], parts: &mut Vec<Part<'s>>) -> Result<(), AllocError>
+    ensures { OnOk result (map part_view parts.new.items ≡ map part_view parts.old.items ++ map above (texts notes.now)) }
+{
+    for note in notes {
+        parts.push(Part::Above(note.as_str()))?;
+    }
+    Ok(())
+}
+
+fn push_beside<'s>(
+    note: &'s Option<CowStr<'_>>,
+    parts: &mut Vec<Part<'s>>,
+) -> Result<(), AllocError>
+    ensures { OnOk result
+        (map part_view parts.new.items ≡ map part_view parts.old.items ++ beside_part (option_map text_of note.now)) }
+{
+    match note {
+        None => Ok(()),
+        Some(text) => Ok(parts.push(Part::Beside(text.as_str()))?),
+    }
+}
+
+#[cycle(parts)]
+fn push_node<'s>(node: &'s Node<'_>, parts: &mut Vec<Part<'s>>) -> Result<(), AllocError>
+    ensures { OnOk result
+        (map part_view parts.new.items ≡ map part_view parts.old.items ++ item_parts (node_view node.now)) }
+{
+    match node {
+        Node::Token(leaf) => Ok(parts.push(Part::Token(leaf.kind, leaf.text.as_str()))?),
+        Node::Group(group) => push_group(group, parts),
+    }
+}
+
+#[cycle(parts)]
+fn push_group<'s>(group: &'s Group<'_>, parts: &mut Vec<Part<'s>>) -> Result<(), AllocError>
+    ensures { OnOk result
+        (map part_view parts.new.items ≡ map part_view parts.old.items ++ item_parts (group_view group.now)) }
+{
+    parts.push(Part::Open(group.kind))?;
+    push_segs(&group.segs, parts)?;
+    push_above(&group.end, parts)?;
+    parts.push(Part::Close(group.one_comma))?;
+    Ok(())
+}
+
+/// Appends the parts of nodes.
+#[cycle(parts)]
+pub fn push_nodes<'s>(nodes: &'s [Node<'_>], parts: &mut Vec<Part<'s>>) -> Result<(), AllocError>
+    ensures { OnOk result
+        (map part_view parts.new.items
+        ≡ map part_view parts.old.items ++ items_parts (items_of (nodes_view nodes.now))) }
+{
+    for node in nodes {
+        push_node(node, parts)?;
+    }
+    Ok(())
+}
+
+#[cycle(parts)]
+fn push_segs<'s>(segs: &'s [Seg<'_>], parts: &mut Vec<Part<'s>>) -> Result<(), AllocError>
+    ensures { OnOk result
+        (map part_view parts.new.items
+        ≡ map part_view parts.old.items ++ segs_parts (segs_of (segs_view segs.now))) }
+{
+    for seg in segs {
+        push_above(&seg.before, parts)?;
+        push_nodes(&seg.nodes, parts)?;
+        parts.push(Part::End)?;
+        push_beside(&seg.suffix, parts)?;
+    }
+    Ok(())
+}
