@@ -1,10 +1,8 @@
-pub mod Views
 pub mod Pieces
-pub mod Fronts
 pub mod Quotes
 pub mod Rules
-pub mod RowMarks
-pub mod RowWalk
-pub mod RowText
+pub mod Scans
+pub mod Runs
+pub mod Texts
 pub mod Lines
 pub mod Examples

@@ -1,13 +1,11 @@
 -- The rules of the layout without a tree are those with one.
-use Rattle.std.proofs.Common.{◌≡◌, List, ℕ, Bool, ◌||◌, refl}
-use Rattle.bz_tree.specs.declared.stmt.GroupKind.{GroupKind}
-use Rattle.bz_tree.specs.Tree.{Item, Segs}
+use Rattle.std.proofs.Common.{◌≡◌, refl}
+use Rattle.bz_tree.specs.Tree.{Item}
 use Rattle.bz_layout.specs.declared.spacing.Edge.{Edge}
 use Rattle.bz_layout.specs.declared.spacing.Edge.TheVariants.{Start, Joined, Dotted, Operator, Operand}
 use Rattle.bz_layout.specs.declared.spacing.Gap.{Gap}
 use Rattle.bz_layout.specs.Spacing.{closes_up, gap_before}
-use Rattle.bz_layout.specs.Broken.{has_some, have_comments, count, is_broken}
-use Rattle.bz_layout.specs.private.RowLayout.{gap_for, breaks_with}
+use Rattle.bz_layout.specs.private.RowLayout.{gap_for}
 
 pub gap_is : (first : Gap) (left : Edge) (x : Item) → gap_before first left x ≡ gap_for first left (closes_up x)
 gap_is first Start x = refl
@@ -15,6 +13,3 @@ gap_is first Joined x = refl
 gap_is first Dotted x = refl
 gap_is first Operator x = refl
 gap_is first Operand x = refl
-
-pub broken_is : (kind : GroupKind) (segs : Segs) (end : List (List ℕ)) (inside : Bool) → is_broken kind segs end inside ≡ breaks_with kind (has_some end || have_comments segs) (count segs) inside
-broken_is kind segs end inside = refl

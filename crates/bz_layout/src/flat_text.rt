@@ -4,15 +4,12 @@ ghost use Rattle.std.specs.Prelude.{◌≡◌, IfOk, string_bytes};
 ghost use Rattle.bz_tree.specs.View.{nodes_view};
 ghost use Rattle.bz_layout.specs.Layout.{flat_text};
 
-use crate::broken::Style;
-use crate::spacing::Gap;
-use crate::walk::put_nodes;
-use bz_tree::{GroupKind, Node};
+use crate::walk::Walk;
+use bz_tree::{GroupKind, Node, push_nodes};
 use std::alloc::{AllocError, Global};
 
 /// The text of nodes on one line, without comments; strings are written as in a statement. `in_group` is the group that
 /// the nodes stand in, and decides what a colon and a star are. `Err`: memory was refused.
-#[tactic(auto, using(crate::proofs::Fronts::flat_front))]
 pub fn flat(
     alloc: Global,
     nodes: &[Node<'_>],
@@ -20,7 +17,10 @@ pub fn flat(
 ) -> Result<String, AllocError>
     ensures text { IfOk result (λ s. string_bytes s ≡ flat_text in_group (nodes_view nodes.now)) }
 {
-    let mut text = String::new(alloc);
-    put_nodes(nodes, Style::Flat, 0, in_group, Gap::Closed, &[], &mut text)?;
+    let mut parts = Vec::new(alloc);
+    push_nodes(nodes, &mut parts)?;
+    let mut walk = Walk::new(alloc, String::new(alloc), Vec::new(alloc), in_group);
+    walk.run(&parts)?;
+    let Walk { text, .. } = walk;
     Ok(text)
 }

@@ -24,14 +24,10 @@ pub mod laws;
 mod marks;
 mod respell;
 mod row;
-mod row_marks;
-mod row_walk;
 mod spacing;
-mod statement;
 mod walk;
 mod write;
 
 pub use flat_text::flat;
 pub use gaps::blank_between;
-pub use row::put_row;
-pub use statement::put_stmt;
+pub use row::{put_row, put_stmt};

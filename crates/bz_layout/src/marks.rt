@@ -1,82 +1,126 @@
-//! One walk ahead of the writing: a mark for each group, in the order in which they are written, tells whether it is
-//! broken. So each node is visited twice, however deep groups nest.
+//! One walk backwards over the parts of a statement, ahead of the writing: a mark for each bracket. Backwards a bracket's end
+//! comes first, so what decides on it is known where it opens.
 
-ghost use Rattle.std.specs.Prelude.{◌≡◌, ◌++◌, Bool, IfOk, OnOk, length, drop};
-ghost use Rattle.bz_tree.specs.Tree.{items_of, segs_of};
-ghost use Rattle.bz_tree.specs.View.{node_view, group_view, nodes_view, segs_view};
-ghost use Rattle.bz_layout.specs.Broken.{holds_broken, items_hold, segs_hold};
-ghost use Rattle.bz_layout.specs.Layout.{breaks};
-ghost use Rattle.bz_layout.specs.private.Marks.{mark, item_marks, items_marks, segs_marks, IsFront};
-ghost use Rattle.bz_layout.specs.declared.broken.Style.TheVariants.{Broken};
+ghost use Rattle.std.specs.Prelude.{◌≡◌, IfOk, OnOk, map, reverse};
+ghost use Rattle.bz_tree.specs.Rows.{part_view};
+ghost use Rattle.bz_layout.specs.private.RowLayout.{closed, one_more, mark_of, opened_back, back, scan, scanned};
 
-use crate::broken::{Style, is_broken};
-use bz_tree::{Group, Node, Seg};
-use std::alloc::AllocError;
+use crate::broken::breaks_with;
+use crate::write::has_commas;
+use bz_tree::{GroupKind, Part};
+use std::alloc::{AllocError, Global};
 
-// Appends a mark for each group of a node, itself first; tells whether one is broken.
-#[cycle(marks)]
-fn mark_node(node: &Node<'_>, marks: &mut Vec<bool>) -> Result<bool, AllocError>
-    ensures marks { OnOk result (marks.new.items ≡ marks.old.items ++ item_marks Broken (node_view node.now)) }
-    ensures holds { IfOk result (λ b. b ≡ holds_broken (node_view node.now)) }
-{
-    match node {
-        Node::Token(_) => Ok(false),
-        Node::Group(group) => mark_group(group, marks),
+/// How a bracket is written.
+#[derive(Clone, Copy)]
+pub(crate) struct Mark {
+    pub(crate) broken: bool,
+    // If it is broken, a comma stands after each segment.
+    pub(crate) comma: bool,
+}
+
+// Few statements have more brackets.
+const FIRST_CAPACITY: usize = 16;
+
+// What stands in a bracket, or at the top, after a part.
+#[derive(Clone, Copy)]
+pub(crate) struct Inside {
+    pub(crate) one_comma: bool,
+    // It has comments.
+    pub(crate) notes: bool,
+    // A segment of it holds a broken bracket.
+    pub(crate) holds: bool,
+    // The number of its segments, at most 2.
+    pub(crate) segs: u8,
+}
+
+#[derive(Drop)]
+pub(crate) struct Marks {
+    // The last is that of the first bracket.
+    pub(crate) marks: Vec<Mark>,
+    pub(crate) here: Inside,
+    pub(crate) outer: Vec<Inside>,
+}
+
+impl Inside {
+    #[inline(always)]
+    fn closed(one_comma: bool) -> Inside
+        ensures { result ≡ closed one_comma }
+    {
+        Inside {
+            one_comma,
+            notes: false,
+            holds: false,
+            segs: 0,
+        }
     }
 }
 
-#[cycle(marks)]
-#[tactic(auto, using(crate::proofs::Fronts::set_after))]
-fn mark_group(group: &Group<'_>, marks: &mut Vec<bool>) -> Result<bool, AllocError>
-    ensures marks { OnOk result (marks.new.items ≡ marks.old.items ++ item_marks Broken (group_view group.now)) }
-    ensures holds { IfOk result (λ b. b ≡ holds_broken (group_view group.now)) }
+#[inline(always)]
+fn one_more(n: u8) -> u8
+    ensures { result ≡ one_more n }
 {
-    let at = marks.len();
-    marks.push(false)?;
-    let inside = mark_segs(&group.segs, marks)?;
-    let broken = is_broken(group.kind, &group.segs, &group.end, inside);
-    marks[at] = broken;
-    Ok(broken || inside)
+    if n < 2 { n + 1 } else { n }
 }
 
-#[cycle(marks)]
-pub(crate) fn mark_nodes(nodes: &[Node<'_>], marks: &mut Vec<bool>) -> Result<bool, AllocError>
-    ensures marks { OnOk result
-        (marks.new.items ≡ marks.old.items ++ items_marks Broken (items_of (nodes_view nodes.now))) }
-    ensures holds { IfOk result (λ b. b ≡ items_hold (items_of (nodes_view nodes.now))) }
+#[inline(always)]
+fn mark_of(kind: GroupKind, inside: Inside) -> Mark
+    ensures { result ≡ mark_of kind inside }
 {
-    let mut holds = false;
-    for node in nodes {
-        let here = mark_node(node, marks)?;
-        holds = holds || here;
+    let segs = usize::from(inside.segs);
+    Mark {
+        broken: breaks_with(kind, inside.notes, segs, inside.holds),
+        comma: has_commas(kind, inside.one_comma, segs),
     }
-    Ok(holds)
 }
 
-#[cycle(marks)]
-fn mark_segs(segs: &[Seg<'_>], marks: &mut Vec<bool>) -> Result<bool, AllocError>
-    ensures marks { OnOk result
-        (marks.new.items ≡ marks.old.items ++ segs_marks Broken (segs_of (segs_view segs.now))) }
-    ensures holds { IfOk result (λ b. b ≡ segs_hold (segs_of (segs_view segs.now))) }
-{
-    let mut holds = false;
-    for seg in segs {
-        let here = mark_nodes(&seg.nodes, marks)?;
-        holds = holds || here;
+impl Marks {
+    // A bracket opens, with all that stands in it after it.
+    fn open(&mut self, kind: GroupKind) -> Result<(), AllocError>
+        ensures { OnOk result (scanned self.new ≡ opened_back kind (scanned self.old)) }
+    {
+        let mark = mark_of(kind, self.here);
+        let holds = mark.broken || self.here.holds;
+        self.marks.push(mark)?;
+        self.here = match self.outer.pop() {
+            Some(below) => below,
+            None => Inside::closed(false),
+        };
+        self.here.holds = holds || self.here.holds;
+        Ok(())
     }
-    Ok(holds)
+
+    #[inline(always)]
+    fn step(&mut self, part: Part<'_>) -> Result<(), AllocError>
+        ensures { OnOk result (scanned self.new ≡ back (part_view part.entry) (scanned self.old)) }
+    {
+        match part {
+            Part::Token(_, _) => {}
+            Part::Open(kind) => self.open(kind)?,
+            Part::Close(one_comma) => {
+                self.outer.push(self.here)?;
+                self.here = Inside::closed(one_comma);
+            }
+            Part::End => self.here.segs = one_more(self.here.segs),
+            Part::Above(_) | Part::Beside(_) => self.here.notes = true,
+        }
+        Ok(())
+    }
 }
 
-// Whether the next group is broken, and the marks after its own.
-pub(crate) fn next_mark<'m>(style: Style, marks: &'m [bool]) -> (bool, &'m [bool])
-    ensures { (b : Bool) → IsFront (mark style b) marks.now → (result.0 ≡ breaks style b)
-        × (result.1.now ≡ drop (length (mark style b)) marks.now) }
+// The marks of all brackets, that of the first one last.
+pub(crate) fn marks_of(alloc: Global, parts: &[Part<'_>]) -> Result<Vec<Mark>, AllocError>
+    ensures { IfOk result (λ ms. reverse ms.items ≡ (scan (map part_view parts.now)).marks) }
 {
-    match style {
-        Style::Flat => (false, marks),
-        Style::Broken => match marks.split_first() {
-            Some((broken, rest)) => (*broken, rest),
-            None => (false, marks),
-        },
+    let mut walk = Marks {
+        marks: Vec::with_capacity(alloc, FIRST_CAPACITY)?,
+        here: Inside::closed(false),
+        outer: Vec::new(alloc),
+    };
+    let mut i = parts.len();
+    while i > 0 {
+        i -= 1;
+        walk.step(parts[i])?;
     }
+    let Marks { marks, .. } = walk;
+    Ok(marks)
 }

@@ -1,15 +1,16 @@
-//! The canonical text of a statement that is given as a row.
+//! The canonical text of a statement, by its parts.
 
 ghost use Rattle.std.specs.Prelude.{◌≡◌, ◌++◌, IfOk, OnOk, OnErr, map, string_bytes};
 ghost use Rattle.bz_tree.specs.Tree.{Statement};
+ghost use Rattle.bz_tree.specs.View.{view};
 ghost use Rattle.bz_tree.specs.Rows.{IsRowOf, part_view};
 ghost use Rattle.bz_layout.specs.Pieces.{bytes_of, comment_lines};
 ghost use Rattle.bz_layout.specs.Layout.{layout_text};
 ghost use Rattle.bz_layout.specs.private.RowLayout.{leading, after_leading, row_text};
 
-use crate::row_marks::marks_of;
-use crate::row_walk::Walk;
-use bz_tree::{Class, Part, Row};
+use crate::marks::marks_of;
+use crate::walk::Walk;
+use bz_tree::{Class, Part, Row, Stmt, push_parts};
 use std::alloc::{AllocError, Global};
 
 // What is reserved for the text; most statements take less.
@@ -34,22 +35,34 @@ fn put_leading<'r, 'a>(
     Ok(&[])
 }
 
-fn text_of(alloc: Global, row: &Row<'_>) -> Result<String, AllocError>
-    ensures { IfOk result (λ text. string_bytes text
-        ≡ row_text (map part_view row.now.parts.items) row.now.class) }
+fn text_of(alloc: Global, parts: &[Part<'_>], class: Class) -> Result<String, AllocError>
+    ensures { IfOk result (λ text. string_bytes text ≡ row_text (map part_view parts.now) class) }
 {
-    let room = row.parts.len().saturating_mul(BYTES_A_PART);
+    let room = parts.len().saturating_mul(BYTES_A_PART);
     let mut text = String::with_capacity(alloc, room)?;
-    let rest = put_leading(&row.parts, &mut text)?;
-    if matches!(row.class, Class::Comment) {
+    let rest = put_leading(parts, &mut text)?;
+    if matches!(class, Class::Comment) {
         return Ok(text);
     }
     let marks = marks_of(alloc, rest)?;
-    let mut walk = Walk::new(alloc, text, marks);
+    let mut walk = Walk::new(alloc, text, marks, None);
     walk.run(rest)?;
     let Walk { mut text, .. } = walk;
     text.push_str("\n")?;
     Ok(text)
+}
+
+/// Appends the canonical text of a statement, with its last newline (the layout is this project's own). `Err`: memory
+/// was refused, and `out` is as it was.
+pub fn put_stmt(alloc: Global, stmt: &Stmt<'_>, out: &mut Vec<u8>) -> Result<(), AllocError>
+    ensures appended { OnOk result (out.new.items ≡ out.old.items ++ layout_text (view stmt.now)) }
+    ensures unchanged { OnErr result (out.new.items ≡ out.old.items) }
+{
+    let mut parts = Vec::new(alloc);
+    push_parts(stmt, &mut parts)?;
+    let text = text_of(alloc, &parts, stmt.class)?;
+    out.extend_from_slice(text.as_bytes())?;
+    Ok(())
 }
 
 /// Appends the canonical text of a row's statement, with its last newline. `Err`: memory was refused, and `out` is as
@@ -59,7 +72,7 @@ pub fn put_row(alloc: Global, row: &Row<'_>, out: &mut Vec<u8>) -> Result<(), Al
         ((s : Statement) → IsRowOf s row.now → out.new.items ≡ out.old.items ++ layout_text s) }
     ensures unchanged { OnErr result (out.new.items ≡ out.old.items) }
 {
-    let text = text_of(alloc, row)?;
+    let text = text_of(alloc, &row.parts, row.class)?;
     out.extend_from_slice(text.as_bytes())?;
     Ok(())
 }

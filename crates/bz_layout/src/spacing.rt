@@ -2,12 +2,11 @@
 
 ghost use Rattle.std.specs.Prelude.{◌≡◌};
 ghost use Rattle.bz_tree.specs.Tree.{leaf};
-ghost use Rattle.bz_tree.specs.View.{node_view};
 ghost use Rattle.bz_layout.specs.private.RowLayout.{gap_for};
-ghost use Rattle.bz_layout.specs.Spacing.{hugs, closes_up, is_index, is_call, awaits_operand, is_prefix, begins_argument, is_index_colon, sign_edge, edge_after, gap_before};
+ghost use Rattle.bz_layout.specs.Spacing.{hugs, closes_up, is_index, is_call, awaits_operand, is_prefix, begins_argument, is_index_colon, sign_edge, edge_after};
 
 use bz_token::Kind;
-use bz_tree::{GroupKind, Node};
+use bz_tree::GroupKind;
 
 /// What the nodes so far leave to the next one.
 #[derive(Clone, Copy, Debug, PartialEq, Eq)]
@@ -50,16 +49,6 @@ pub(crate) fn token_closes_up(kind: Kind, text: &str) -> bool
     ensures { result ≡ closes_up (leaf kind text.now) }
 {
     matches!(kind, Kind::Sign) && (text == "." || text == "," || text == ":")
-}
-
-#[inline(always)]
-fn closes_up(node: &Node<'_>) -> bool
-    ensures { result ≡ closes_up (node_view node.now) }
-{
-    match node {
-        Node::Token(leaf) => token_closes_up(leaf.kind, leaf.text.as_str()),
-        Node::Group(group) => hugs(group.kind),
-    }
 }
 
 fn is_index(within: Option<GroupKind>) -> bool
@@ -125,16 +114,6 @@ pub(crate) fn token_edge(within: Option<GroupKind>, left: Edge, kind: Kind, text
     }
 }
 
-#[inline(always)]
-pub(crate) fn edge_after(within: Option<GroupKind>, left: Edge, node: &Node<'_>) -> Edge
-    ensures { result ≡ edge_after within left (node_view node.now) }
-{
-    match node {
-        Node::Token(leaf) => token_edge(within, left, leaf.kind, leaf.text.as_str()),
-        Node::Group(_) => Edge::Operand,
-    }
-}
-
 // The gap before what closes up or does not, where that before the first node is given.
 #[inline(always)]
 pub(crate) fn gap_for(first: Gap, left: Edge, closes: bool) -> Gap
@@ -145,12 +124,4 @@ pub(crate) fn gap_for(first: Gap, left: Edge, closes: bool) -> Gap
         Edge::Joined | Edge::Dotted => Gap::Closed,
         Edge::Operator | Edge::Operand => { if closes { Gap::Closed } else { Gap::Space } }
     }
-}
-
-#[inline(always)]
-#[tactic(auto, using(crate::proofs::Rules::gap_is))]
-pub(crate) fn gap_before(first: Gap, left: Edge, node: &Node<'_>) -> Gap
-    ensures { result ≡ gap_before first left (node_view node.now) }
-{
-    gap_for(first, left, closes_up(node))
 }

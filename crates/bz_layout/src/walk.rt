@@ -1,179 +1,220 @@
-//! The walk that writes: each token after its gap, each group broken or in place by its mark.
+//! The walk forwards over the parts of a statement, which writes them.
 
-ghost use Rattle.std.specs.Prelude.{◌≡◌, ◌≤◌, ◌++◌, true, length, drop, IfOk, OnOk, string_bytes};
-ghost use Rattle.std.specs.Prelude.Option.{Some};
-ghost use Rattle.bz_tree.specs.Tree.{items_of, segs_of};
-ghost use Rattle.bz_tree.specs.View.{node_view, group_view, nodes_view, segs_view};
-ghost use Rattle.bz_layout.specs.Pieces.{bytes_of};
-ghost use Rattle.bz_layout.specs.Layout.{item_pieces, items_pieces, broken_segs, flat_segs};
-ghost use Rattle.bz_layout.specs.private.Marks.{item_marks, items_marks, segs_marks, IsFront};
-ghost use Rattle.bz_layout.specs.declared.spacing.Edge.TheVariants.{Start};
+ghost use Rattle.std.specs.Prelude.{◌≡◌, OnOk, map, reverse, string_bytes};
+ghost use Rattle.bz_tree.specs.Rows.{part_view};
+ghost use Rattle.bz_layout.specs.declared.spacing.Gap.TheVariants.{Apart, Line};
+ghost use Rattle.bz_layout.specs.private.RowLayout.{top, first_gap, has_notes, start, with_token, opened, closed_by, is_last, ended, put_note, step, run, laid};
 
-use crate::broken::Style;
-use crate::marks::next_mark;
+use crate::marks::Mark;
 use crate::respell::put_written;
-use crate::spacing::{Edge, Gap, edge_after, gap_before};
-use crate::write::{closing, has_commas, opening, put, put_comments, put_gap, put_suffix};
-use bz_tree::{Group, GroupKind, Node, Seg};
-use std::alloc::AllocError;
+use crate::spacing::{Edge, Gap, gap_for, hugs, token_closes_up, token_edge};
+use crate::write::{closing, opening, put, put_gap};
+use bz_token::Kind;
+use bz_tree::{GroupKind, Part};
+use std::alloc::{AllocError, Global};
 
-#[cycle(put)]
-#[tactic(auto, using(crate::proofs::Pieces::bytes_append, crate::proofs::Fronts::front_left, crate::proofs::Fronts::front_right, crate::proofs::Fronts::front_after))]
-fn put_node<'m>(
-    node: &Node<'_>,
-    style: Style,
-    level: usize,
-    gap: Gap,
-    marks: &'m [bool],
-    out: &mut String,
-) -> Result<&'m [bool], AllocError>
-    requires deep { level ≤ length (string_bytes out.old) }
-    requires marks { IsFront (item_marks style (node_view node.now)) marks.now }
-    ensures text { OnOk result
-        (string_bytes out.new ≡ string_bytes out.old ++ bytes_of (item_pieces style level gap (node_view node.now))) }
-    ensures marks { IfOk result (λ rest. rest.now ≡ drop (length (item_marks style (node_view node.now))) marks.now) }
+// A bracket that is open, or the top.
+#[derive(Clone, Copy)]
+pub(crate) struct Frame {
+    // None at the top.
+    pub(crate) within: Option<GroupKind>,
+    pub(crate) mark: Mark,
+    // In place, after a comma.
+    pub(crate) later: bool,
+}
+
+#[derive(Drop)]
+pub(crate) struct Walk {
+    pub(crate) text: String,
+    // Those of the brackets to come, the next one last.
+    pub(crate) marks: Vec<Mark>,
+    pub(crate) outer: Vec<Frame>,
+    pub(crate) here: Frame,
+    pub(crate) left: Edge,
+    // That of the line which is being written.
+    pub(crate) level: usize,
+}
+
+// The bracket is closed next, but for comments.
+#[inline(always)]
+fn is_last(rest: &[Part<'_>]) -> bool
+    ensures { result ≡ is_last (map part_view rest.now) }
 {
-    match node {
-        Node::Token(leaf) => {
-            put_gap(gap, out)?;
-            put_written(leaf.kind, leaf.text.as_str(), out)?;
-            Ok(marks)
+    for part in rest {
+        match part {
+            Part::Above(_) | Part::Beside(_) => {}
+            Part::Close(_) => return true,
+            _ => return false,
         }
-        Node::Group(group) => put_group(group, style, level, gap, marks, out),
+    }
+    false
+}
+
+impl Frame {
+    fn top(within: Option<GroupKind>) -> Frame
+        ensures { result ≡ top within }
+    {
+        Frame {
+            within,
+            mark: Mark {
+                broken: false,
+                comma: false,
+            },
+            later: false,
+        }
+    }
+
+    // The gap before the first node of a segment.
+    #[inline(always)]
+    fn first(self, level: usize) -> Gap
+        ensures { result ≡ first_gap self level }
+    {
+        if self.mark.broken {
+            Gap::Line(level)
+        } else if self.later {
+            Gap::Space
+        } else {
+            Gap::Closed
+        }
+    }
+
+    // In place stand no comments, but at the top.
+    #[inline(always)]
+    fn has_notes(self) -> bool
+        ensures { result ≡ has_notes self }
+    {
+        self.mark.broken || self.within.is_none()
     }
 }
 
-#[cycle(put)]
-#[tactic(auto, using(crate::proofs::Pieces::bytes_append, crate::proofs::Fronts::front_left, crate::proofs::Fronts::front_right, crate::proofs::Fronts::front_after))]
-fn put_group<'m>(
-    group: &Group<'_>,
-    style: Style,
-    level: usize,
-    gap: Gap,
-    marks: &'m [bool],
-    out: &mut String,
-) -> Result<&'m [bool], AllocError>
-    requires deep { level ≤ length (string_bytes out.old) }
-    requires marks { IsFront (item_marks style (group_view group.now)) marks.now }
-    ensures text { OnOk result
-        (string_bytes out.new ≡ string_bytes out.old ++ bytes_of (item_pieces style level gap (group_view group.now))) }
-    ensures marks { IfOk result (λ rest. rest.now ≡ drop (length (item_marks style (group_view group.now))) marks.now) }
-{
-    put(gap, opening(group.kind), out)?;
-    let (broken, inner) = next_mark(style, marks);
-    if broken {
-        let comma = has_commas(group.kind, group.one_comma, group.segs.len());
-        let rest = put_broken_segs(&group.segs, style, level + 1, group.kind, comma, inner, out)?;
-        put_comments(level + 1, &group.end, out)?;
-        put(Gap::Line(level), closing(group.kind), out)?;
-        Ok(rest)
-    } else {
-        let rest = put_flat_segs(&group.segs, style, level, group.kind, inner, out)?;
-        if group.one_comma {
-            out.push_str(",")?;
+impl Walk {
+    // `within` is the group that all the parts stand in. With no marks no bracket is broken.
+    pub(crate) fn new(
+        alloc: Global,
+        text: String,
+        marks: Vec<Mark>,
+        within: Option<GroupKind>,
+    ) -> Walk
+        ensures { laid result ≡ start (string_bytes text) (reverse marks.items) within }
+    {
+        Walk {
+            text,
+            marks,
+            outer: Vec::new(alloc),
+            here: Frame::top(within),
+            left: Edge::Start,
+            level: 0,
         }
-        out.push_str(closing(group.kind))?;
-        Ok(rest)
     }
-}
 
-#[cycle(put)]
-#[tactic(auto, using(crate::proofs::Pieces::bytes_append, crate::proofs::Fronts::front_left, crate::proofs::Fronts::front_right, crate::proofs::Fronts::front_after))]
-pub(crate) fn put_nodes<'m>(
-    nodes: &[Node<'_>],
-    style: Style,
-    level: usize,
-    within: Option<GroupKind>,
-    first: Gap,
-    marks: &'m [bool],
-    out: &mut String,
-) -> Result<&'m [bool], AllocError>
-    requires deep { level ≤ length (string_bytes out.old) }
-    requires marks { IsFront (items_marks style (items_of (nodes_view nodes.now))) marks.now }
-    ensures text { OnOk result
-        (string_bytes out.new
-        ≡ string_bytes out.old
-        ++ bytes_of (items_pieces style level within first Start (items_of (nodes_view nodes.now)))) }
-    ensures marks { IfOk result
-        (λ rest. rest.now ≡ drop (length (items_marks style (items_of (nodes_view nodes.now)))) marks.now) }
-{
-    let mut left = Edge::Start;
-    let mut rest = marks;
-    for node in nodes {
-        let gap = gap_before(first, left, node);
-        rest = put_node(node, style, level, gap, rest, out)?;
-        left = edge_after(within, left, node);
+    #[inline(always)]
+    fn token(&mut self, kind: Kind, text: &str) -> Result<(), AllocError>
+        ensures { OnOk result (laid self.new ≡ with_token kind text.now (laid self.old)) }
+    {
+        let gap = gap_for(
+            self.here.first(self.level),
+            self.left,
+            token_closes_up(kind, text),
+        );
+        put_gap(gap, &mut self.text)?;
+        put_written(kind, text, &mut self.text)?;
+        self.left = token_edge(self.here.within, self.left, kind, text);
+        Ok(())
     }
-    Ok(rest)
-}
 
-#[cycle(put)]
-#[tactic(auto, using(crate::proofs::Pieces::bytes_append, crate::proofs::Fronts::front_left, crate::proofs::Fronts::front_right, crate::proofs::Fronts::front_after))]
-fn put_broken_segs<'m>(
-    segs: &[Seg<'_>],
-    style: Style,
-    level: usize,
-    kind: GroupKind,
-    comma: bool,
-    marks: &'m [bool],
-    out: &mut String,
-) -> Result<&'m [bool], AllocError>
-    requires deep { level ≤ length (string_bytes out.old) }
-    requires marks { IsFront (segs_marks style (segs_of (segs_view segs.now))) marks.now }
-    ensures text { OnOk result
-        (string_bytes out.new
-        ≡ string_bytes out.old ++ bytes_of (broken_segs style level kind comma (segs_of (segs_view segs.now)))) }
-    ensures marks { IfOk result
-        (λ rest. rest.now ≡ drop (length (segs_marks style (segs_of (segs_view segs.now)))) marks.now) }
-{
-    let mut rest = marks;
-    for seg in segs {
-        put_comments(level, &seg.before, out)?;
-        rest = put_nodes(
-            &seg.nodes,
-            style,
-            level,
-            Some(kind),
-            Gap::Line(level),
-            rest,
-            out,
-        )?;
-        if comma {
-            out.push_str(",")?;
+    fn open(&mut self, kind: GroupKind) -> Result<(), AllocError>
+        ensures { OnOk result (laid self.new ≡ opened kind (laid self.old)) }
+    {
+        let gap = gap_for(self.here.first(self.level), self.left, hugs(kind));
+        put(gap, opening(kind), &mut self.text)?;
+        self.outer.push(self.here)?;
+        let mark = match self.marks.pop() {
+            Some(mark) => mark,
+            None => Frame::top(None).mark,
+        };
+        if mark.broken {
+            // No memory holds a text with more levels.
+            let Some(inner) = self.level.checked_add(1) else {
+                return Err(AllocError);
+            };
+            self.level = inner;
         }
-        put_suffix(&seg.suffix, out)?;
+        self.here = Frame {
+            within: Some(kind),
+            mark,
+            later: false,
+        };
+        self.left = Edge::Start;
+        Ok(())
     }
-    Ok(rest)
-}
 
-#[cycle(put)]
-#[tactic(auto, using(crate::proofs::Pieces::bytes_append, crate::proofs::Fronts::front_left, crate::proofs::Fronts::front_right, crate::proofs::Fronts::front_after))]
-fn put_flat_segs<'m>(
-    segs: &[Seg<'_>],
-    style: Style,
-    level: usize,
-    kind: GroupKind,
-    marks: &'m [bool],
-    out: &mut String,
-) -> Result<&'m [bool], AllocError>
-    requires deep { level ≤ length (string_bytes out.old) }
-    requires marks { IsFront (segs_marks style (segs_of (segs_view segs.now))) marks.now }
-    ensures text { OnOk result
-        (string_bytes out.new
-        ≡ string_bytes out.old ++ bytes_of (flat_segs style level kind true (segs_of (segs_view segs.now)))) }
-    ensures marks { IfOk result
-        (λ rest. rest.now ≡ drop (length (segs_marks style (segs_of (segs_view segs.now)))) marks.now) }
-{
-    let mut rest = marks;
-    let mut first = true;
-    for seg in segs {
-        let mut gap = Gap::Closed;
-        if !first {
-            out.push_str(",")?;
-            gap = Gap::Space;
+    fn close(&mut self, one_comma: bool) -> Result<(), AllocError>
+        ensures { OnOk result (laid self.new ≡ closed_by one_comma (laid self.old)) }
+    {
+        if self.here.mark.broken {
+            self.level = self.level.saturating_sub(1);
+            put_gap(Gap::Line(self.level), &mut self.text)?;
+        } else if one_comma {
+            self.text.push_str(",")?;
         }
-        rest = put_nodes(&seg.nodes, style, level, Some(kind), gap, rest, out)?;
-        first = false;
+        if let Some(kind) = self.here.within {
+            self.text.push_str(closing(kind))?;
+        }
+        self.here = match self.outer.pop() {
+            Some(below) => below,
+            None => Frame::top(None),
+        };
+        self.left = Edge::Operand;
+        Ok(())
     }
-    Ok(rest)
+
+    // A segment ends, where `last` tells whether it is the last one.
+    #[inline(always)]
+    fn end(&mut self, last: bool) -> Result<(), AllocError>
+        ensures { OnOk result (laid self.new ≡ ended last (laid self.old)) }
+    {
+        self.left = Edge::Start;
+        if self.here.mark.broken {
+            if self.here.mark.comma {
+                self.text.push_str(",")?;
+            }
+        } else if !last {
+            self.text.push_str(",")?;
+            self.here.later = true;
+        }
+        Ok(())
+    }
+
+    #[inline(always)]
+    fn note(&mut self, gap: Gap, text: &str) -> Result<(), AllocError>
+        ensures { OnOk result (laid self.new ≡ put_note gap text.now (laid self.old)) }
+    {
+        if self.here.has_notes() {
+            put(gap, text, &mut self.text)?;
+        }
+        Ok(())
+    }
+
+    #[inline(always)]
+    fn step(&mut self, part: Part<'_>, rest: &[Part<'_>]) -> Result<(), AllocError>
+        ensures { OnOk result (laid self.new ≡ step (part_view part.entry) (map part_view rest.now) (laid self.old)) }
+    {
+        match part {
+            Part::Token(kind, text) => self.token(kind, text),
+            Part::Open(kind) => self.open(kind),
+            Part::Close(one_comma) => self.close(one_comma),
+            Part::End => self.end(is_last(rest)),
+            Part::Above(text) => self.note(Gap::Line(self.level), text),
+            Part::Beside(text) => self.note(Gap::Apart, text),
+        }
+    }
+
+    pub(crate) fn run(&mut self, parts: &[Part<'_>]) -> Result<(), AllocError>
+        ensures { OnOk result (laid self.new ≡ run (map part_view parts.now) (laid self.old)) }
+    {
+        for i in 0..parts.len() {
+            self.step(parts[i], &parts[i + 1..])?;
+        }
+        Ok(())
+    }
 }

@@ -1,15 +1,13 @@
-//! Gaps, comments and brackets, appended to a text.
+//! Gaps and brackets, appended to a text.
 
-ghost use Rattle.std.specs.Prelude.{◌≡◌, ◌++◌, OnOk, option_map, string_bytes};
-ghost use Rattle.bz_tree.specs.View.{text_of, texts};
-ghost use Rattle.bz_layout.specs.Pieces.{indent, gap_bytes, bytes_of, comments, comment_lines, suffix_piece};
+ghost use Rattle.std.specs.Prelude.{◌≡◌, ◌++◌, OnOk, string_bytes};
+ghost use Rattle.bz_layout.specs.Pieces.{indent, gap_bytes};
 ghost use Rattle.bz_layout.specs.declared.spacing.Gap.TheVariants.{Line};
 ghost use Rattle.bz_layout.specs.Layout.{opening, closing, has_commas};
 
 use crate::spacing::Gap;
 use bz_tree::GroupKind;
 use std::alloc::AllocError;
-use std::borrow::CowStr;
 
 #[inline(always)]
 pub(crate) fn opening(kind: GroupKind) -> &'static str
@@ -86,41 +84,4 @@ pub(crate) fn put(gap: Gap, text: &str, out: &mut String) -> Result<(), AllocErr
 {
     put_gap(gap, out)?;
     out.push_str(text)
-}
-
-// Comments in a broken group, each on a line of its own.
-pub(crate) fn put_comments(
-    level: usize,
-    notes: &[CowStr<'_>],
-    out: &mut String,
-) -> Result<(), AllocError>
-    ensures ok { OnOk result
-        (string_bytes out.new ≡ string_bytes out.old ++ bytes_of (comments level (texts notes.now))) }
-{
-    for note in notes {
-        put(Gap::Line(level), note.as_str(), out)?;
-    }
-    Ok(())
-}
-
-// Comments above a statement, each with its newline.
-pub(crate) fn put_comment_lines(notes: &[CowStr<'_>], out: &mut String) -> Result<(), AllocError>
-    ensures ok { OnOk result
-        (string_bytes out.new ≡ string_bytes out.old ++ bytes_of (comment_lines (texts notes.now))) }
-{
-    for note in notes {
-        out.push_str(note.as_str())?;
-        out.push_str("\n")?;
-    }
-    Ok(())
-}
-
-pub(crate) fn put_suffix(suffix: &Option<CowStr<'_>>, out: &mut String) -> Result<(), AllocError>
-    ensures ok { OnOk result
-        (string_bytes out.new ≡ string_bytes out.old ++ bytes_of (suffix_piece (option_map text_of suffix.now))) }
-{
-    match suffix {
-        None => Ok(()),
-        Some(note) => put(Gap::Apart, note.as_str(), out),
-    }
 }

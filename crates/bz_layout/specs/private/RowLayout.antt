@@ -1,5 +1,5 @@
--- For private clauses: the two walks over the parts of a row.
-use Rattle.std.specs.Prelude.{codes, ℕ, ◌+◌, ◌-◌, List, [], ◌∷◌, ◌++◌, reverse, Bool, true, false, ◌||◌, ◌&&◌, if◌then◌else◌, nat_le, nat_lt, Option, string_bytes}
+-- For private clauses: the two walks over the parts of a statement.
+use Rattle.std.specs.Prelude.{codes, ℕ, ◌+◌, ◌-◌, List, [], ◌∷◌, ◌++◌, reverse, Bool, true, false, not, ◌||◌, ◌&&◌, if◌then◌else◌, nat_le, nat_lt, Option, is_some, string_bytes}
 use Rattle.std.specs.Prelude.Option.{Some, None}
 use Rattle.bz_token.specs.declared.token.Kind.{Kind}
 use Rattle.bz_tree.specs.declared.stmt.GroupKind.{GroupKind}
@@ -10,11 +10,11 @@ use Rattle.bz_layout.specs.declared.spacing.Edge.{Edge}
 use Rattle.bz_layout.specs.declared.spacing.Edge.TheVariants.{Start, Operand}
 use Rattle.bz_layout.specs.declared.spacing.Gap.{Gap}
 use Rattle.bz_layout.specs.declared.spacing.Gap.TheVariants.{Closed, Space, Apart, Line}
-use Rattle.bz_layout.specs.declared.row_marks.Mark.{Mark}
-use Rattle.bz_layout.specs.declared.row_marks.Inside.{Inside}
-use Rattle.bz_layout.specs.declared.row_marks.Marks.{Marks}
-use Rattle.bz_layout.specs.declared.row_walk.Frame.{Frame}
-use Rattle.bz_layout.specs.declared.row_walk.Walk.{Walk}
+use Rattle.bz_layout.specs.declared.marks.Mark.{Mark}
+use Rattle.bz_layout.specs.declared.marks.Inside.{Inside}
+use Rattle.bz_layout.specs.declared.marks.Marks.{Marks}
+use Rattle.bz_layout.specs.declared.walk.Frame.{Frame}
+use Rattle.bz_layout.specs.declared.walk.Walk.{Walk}
 use Rattle.bz_layout.specs.Respell.{respell}
 use Rattle.bz_layout.specs.Spacing.{closes_up, hugs, edge_after, holds_on}
 use Rattle.bz_layout.specs.Broken.{breaks_by_count}
@@ -43,9 +43,7 @@ abbrev pub one_more : ℕ → ℕ
 one_more n = if nat_lt n 2 then n + 1 else n
 
 abbrev pub mark_of : GroupKind → Inside → Mark
-mark_of kind i =
-    let broken = breaks_with kind i.notes i.segs i.holds in
-    record { broken = broken; comma = if broken then has_commas kind i.one_comma i.segs else i.one_comma }
+mark_of kind i = record { broken = breaks_with kind i.notes i.segs i.holds; comma = has_commas kind i.one_comma i.segs }
 
 abbrev pub holding : Bool → Inside → Inside
 holding holds i = record { one_comma = i.one_comma; notes = i.notes; holds = holds || i.holds; segs = i.segs }
@@ -94,21 +92,25 @@ pub record Laid : Type 0 where
 abbrev pub whole : Mark
 whole = record { broken = false; comma = false }
 
-abbrev pub top : Frame
-top = record { within = None; mark = whole; later = false }
+abbrev pub top : Option GroupKind → Frame
+top within = record { within = within; mark = whole; later = false }
 
 -- the gap before the first node of a segment
 abbrev pub first_gap : Frame → ℕ → Gap
 first_gap f level = if f.mark.broken then Line level else (if f.later then Space else Closed)
 
-abbrev pub start : List ℕ → List Mark → Laid
-start text marks = record { text = text; marks = marks; outer = []; here = top; left = Start; level = 0 }
+-- in place stand no comments, but at the top
+abbrev pub has_notes : Frame → Bool
+has_notes f = f.mark.broken || not (is_some f.within)
+
+abbrev pub start : List ℕ → List Mark → Option GroupKind → Laid
+start text marks within = record { text = text; marks = marks; outer = []; here = top within; left = Start; level = 0 }
 
 abbrev pub laid : Walk → Laid
 laid w = record { text = string_bytes w.text; marks = reverse w.marks.items; outer = reverse w.outer.items; here = w.here; left = w.left; level = w.level }
 
 abbrev pub put_note : Gap → List ℕ → Laid → Laid
-put_note gap text s = record { text = s.text ++ (gap_bytes gap ++ text); marks = s.marks; outer = s.outer; here = s.here; left = s.left; level = s.level }
+put_note gap text s = record { text = s.text ++ (if has_notes s.here then gap_bytes gap ++ text else []); marks = s.marks; outer = s.outer; here = s.here; left = s.left; level = s.level }
 
 abbrev pub with_token : Kind → List ℕ → Laid → Laid
 with_token kind text s = record {
@@ -145,7 +147,7 @@ abbrev pub opened : GroupKind → Laid → Laid
 opened kind s = opened_by (first_mark s.marks) (tail s.marks) kind s
 
 abbrev pub first_frame : List Frame → Frame
-first_frame [] = top
+first_frame [] = top None
 first_frame (f ∷ fs) = f
 
 abbrev pub level_out : Mark → ℕ → ℕ
@@ -154,16 +156,16 @@ level_out mark level = if mark.broken then level - 1 else level
 abbrev pub comma_bytes : Bool → List ℕ
 comma_bytes b = if b then codes "," else []
 
-abbrev pub before_closing : Mark → ℕ → List ℕ
-before_closing mark level = if mark.broken then gap_bytes (Line (level - 1)) else comma_bytes mark.comma
+abbrev pub before_closing : Mark → Bool → ℕ → List ℕ
+before_closing mark one_comma level = if mark.broken then gap_bytes (Line (level - 1)) else comma_bytes one_comma
 
 abbrev pub closing_of : Option GroupKind → List ℕ
 closing_of None = []
 closing_of (Some kind) = closing_text kind
 
-abbrev pub closed_by : Laid → Laid
-closed_by s = record {
-  text = s.text ++ (before_closing s.here.mark s.level ++ closing_of s.here.within);
+abbrev pub closed_by : Bool → Laid → Laid
+closed_by one_comma s = record {
+  text = s.text ++ (before_closing s.here.mark one_comma s.level ++ closing_of s.here.within);
   marks = s.marks;
   outer = tail s.outer;
   here = first_frame s.outer;
@@ -188,15 +190,17 @@ ended last s = record {
   level = s.level;
 }
 
--- the bracket is closed next
+-- the bracket is closed next, but for comments
 abbrev pub is_last : List RowPart → Bool
 is_last (closing one_comma ∷ rest) = true
+is_last (above text ∷ rest) = is_last rest
+is_last (beside text ∷ rest) = is_last rest
 is_last _ = false
 
 abbrev pub step : RowPart → List RowPart → Laid → Laid
 step (a_token kind text) rest s = with_token kind text s
 step (opening kind) rest s = opened kind s
-step (closing one_comma) rest s = closed_by s
+step (closing one_comma) rest s = closed_by one_comma s
 step segment_end rest s = ended (is_last rest) s
 step (above text) rest s = put_note (Line s.level) text s
 step (beside text) rest s = put_note Apart text s
@@ -215,7 +219,7 @@ after_leading (above text ∷ ps) = after_leading ps
 after_leading ps = ps
 
 abbrev pub line_text : List ℕ → List RowPart → List ℕ
-line_text text ps = (run ps (start text (scan ps).marks)).text ++ codes "\n"
+line_text text ps = (run ps (start text (scan ps).marks None)).text ++ codes "\n"
 
 -- the text of a row
 abbrev pub row_text : List RowPart → Class → List ℕ

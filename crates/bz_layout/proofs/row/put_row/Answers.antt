@@ -2,7 +2,7 @@ use Rattle.std.proofs.Common.{◌≡◌, ◌++◌, map, sym, arith}
 use Rattle.std.proofs.lemmas.Grind.{common_steps}
 use Rattle.bz_tree.specs.Rows.{part_view}
 use Rattle.bz_layout.specs.private.RowLayout.{row_text}
-use Rattle.bz_layout.proofs.RowText.{is_layout}
+use Rattle.bz_layout.proofs.Texts.{is_layout}
 use Rattle.bz_layout.proofs.row.put_row.Goals as goal
 
 pub returns-clause-appended : goal.returns-clause-appended

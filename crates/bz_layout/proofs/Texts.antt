@@ -1,22 +1,23 @@
--- The text of a row is that of its statement.
+-- The text of parts is that of their statement, or of their nodes.
 use Rattle.std.proofs.Common.{◌≡◌, codes, ℕ, List, [], ◌∷◌, ◌++◌, map, Option, Some, None, refl, ap, sym, ◌∙◌, append_assoc, append-nil, inl, inr}
 use Rattle.std.proofs.lemmas.Bool.{cases_Bool}
-use Rattle.bz_tree.specs.Tree.{leaf, group, Items, no_items, item, Statement, items_of}
+use Rattle.bz_tree.specs.Tree.{Item, leaf, group, Items, no_items, item, Statement, items_of}
 use Rattle.bz_tree.specs.Rows.{RowPart, above, beside_part, items_parts, parts_of, part_view, IsRowOf}
 use Rattle.bz_tree.specs.declared.row.Row.{Row}
+use Rattle.bz_tree.specs.declared.stmt.GroupKind.{GroupKind}
 use Rattle.bz_token.specs.declared.token.Kind.TheVariants.{Line as LineKind}
-use Rattle.bz_layout.specs.declared.row_marks.Mark.{Mark}
-use Rattle.bz_layout.specs.declared.row_walk.Frame.{Frame}
+use Rattle.bz_layout.specs.declared.marks.Mark.{Mark}
+use Rattle.bz_layout.specs.declared.walk.Frame.{Frame}
 use Rattle.bz_layout.specs.declared.spacing.Edge.{Edge}
 use Rattle.bz_layout.specs.declared.spacing.Edge.TheVariants.{Start}
 use Rattle.bz_layout.specs.declared.spacing.Gap.TheVariants.{Closed}
-use Rattle.bz_layout.specs.declared.broken.Style.TheVariants.{Broken}
+use Rattle.bz_layout.specs.declared.broken.Style.TheVariants.{Flat, Broken}
 use Rattle.bz_layout.specs.Pieces.{Piece, piece, bytes_of, comment_lines, suffix_piece}
-use Rattle.bz_layout.specs.Layout.{items_pieces, statement_line, is_comment, layout_text}
-use Rattle.bz_layout.specs.private.RowLayout.{leading, after_leading, Laid, line_text, row_text, run, scan, top}
+use Rattle.bz_layout.specs.Layout.{items_pieces, statement_line, is_comment, layout_text, flat_text}
+use Rattle.bz_layout.specs.private.RowLayout.{leading, after_leading, Laid, line_text, row_text, run, scan, start, top}
 use Rattle.bz_layout.proofs.Pieces.{bytes_append}
-use Rattle.bz_layout.proofs.RowMarks.{items_marks, scan_items}
-use Rattle.bz_layout.proofs.RowWalk.{at, last_edge, run_items}
+use Rattle.bz_layout.proofs.Scans.{items_marks, scan_items}
+use Rattle.bz_layout.proofs.Runs.{at, last_edge, run_items}
 
 -- the parts after the comments above the statement
 abbrev rest_of : Statement → List RowPart
@@ -40,9 +41,9 @@ marks_are : (xs : Items) (suffix : Option (List ℕ)) → (scan (items_parts xs 
 marks_are xs None = rw (scan_items xs []) refl
 marks_are xs (Some note) = rw (scan_items xs (beside_part (Some note))) refl
 
-beside_text : (suffix : Option (List ℕ)) (t : List ℕ) (ms : List Mark) (o : List Frame) (h : Frame) (l : Edge) (n : ℕ) → (run (beside_part suffix) (at t ms o h l n)).text ≡ t ++ bytes_of (suffix_piece suffix)
-beside_text None t ms o h l n = sym (append-nil t)
-beside_text (Some note) t ms o h l n = rw (append-nil note) refl
+beside_text : (suffix : Option (List ℕ)) (t : List ℕ) (ms : List Mark) (o : List Frame) (l : Edge) (n : ℕ) → (run (beside_part suffix) (at t ms o (top None) l n)).text ≡ t ++ bytes_of (suffix_piece suffix)
+beside_text None t ms o l n = sym (append-nil t)
+beside_text (Some note) t ms o l n = rw (append-nil note) refl
 
 line_joined : (t : List ℕ) (a b : List Piece) → ((t ++ bytes_of a) ++ bytes_of b) ++ codes "\n" ≡ t ++ bytes_of (a ++ (b ++ piece Closed LineKind (codes "\n") ∷ []))
 line_joined t a b = rw (bytes_append a (b ++ piece Closed LineKind (codes "\n") ∷ []), bytes_append b (piece Closed LineKind (codes "\n") ∷ [])) (simp append_assoc)
@@ -51,15 +52,24 @@ line_is : (t : List ℕ) (s : Statement) → line_text t (rest_of s) ≡ t ++ by
 line_is t s =
     let xs = items_of s.nodes in
     let a = items_pieces Broken 0 None Closed Start xs in
-    let written = ap (λ (l : Laid). l.text) (run_items xs (beside_part s.suffix) t [] [] top Start 0) ∙ beside_text s.suffix (t ++ bytes_of a) [] [] top (last_edge None Start xs) 0 in
+    let written = ap (λ (l : Laid). l.text) (run_items Broken xs (beside_part s.suffix) t [] [] (top None) Start 0) ∙ beside_text s.suffix (t ++ bytes_of a) [] [] (last_edge None Start xs) 0 in
     rw (marks_are xs s.suffix) (ap (λ (u : List ℕ). u ++ codes "\n") written ∙ line_joined t a (suffix_piece s.suffix))
 
-pub is_layout : (s : Statement) (row : Row) → IsRowOf s row → row_text (map part_view row.parts.items) row.class ≡ layout_text s
-is_layout s row is =
+pub parts_laid : (s : Statement) → row_text (parts_of s) s.class ≡ layout_text s
+parts_laid s =
     let none = no_leading (items_of s.nodes) s.suffix in
     let notes : leading (parts_of s) ≡ s.before = leads s.before (rest_of s) none.0 in
     let rest : after_leading (parts_of s) ≡ rest_of s = follows s.before (rest_of s) none.1 in
-    rw (is.parts, is.class, notes, rest) (elim (cases_Bool (is_comment s.class)) [
+    rw (notes, rest) (elim (cases_Bool (is_comment s.class)) [
       | inl hit ↦ rw (hit, append-nil (comment_lines s.before)) refl
       | inr miss ↦ rw (miss, bytes_append (comment_lines s.before) (statement_line s)) (line_is (bytes_of (comment_lines s.before)) s)
     ])
+
+pub is_layout : (s : Statement) (row : Row) → IsRowOf s row → row_text (map part_view row.parts.items) row.class ≡ layout_text s
+is_layout s row is = rw (is.parts, is.class) (parts_laid s)
+
+-- with no marks all brackets stand in place
+pub flat_laid : (within : Option GroupKind) (xs : List Item) → (run (items_parts (items_of xs)) (start [] [] within)).text ≡ flat_text within xs
+flat_laid within xs =
+    let written = run_items Flat (items_of xs) [] [] [] [] (top within) Start 0 in
+    ap (λ (l : Laid). l.text) (rw (append-nil (items_parts (items_of xs))) at written)

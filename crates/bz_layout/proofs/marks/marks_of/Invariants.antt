@@ -1,7 +1,7 @@
 use Rattle.std.proofs.Common.{◌≡◌, ◌≤◌, length, drop, map}
 use Rattle.bz_tree.specs.Rows.{part_view}
 use Rattle.bz_layout.specs.private.RowLayout.{scan, scanned}
-use Rattle.bz_layout.proofs.row_marks.marks_of.Given as goal
+use Rattle.bz_layout.proofs.marks.marks_of.Given as goal
 
 abbrev pub invariant-loop-i : goal.invariant-loop-i
 invariant-loop-i l = record {

@@ -1,19 +1,19 @@
--- The walk backwards over a row marks each bracket as the tree says.
-use Rattle.std.proofs.Common.{◌≡◌, ℕ, suc, List, [], ◌∷◌, ◌++◌, map, Bool, true, false, ◌||◌, if◌then◌else◌, is_some, nat_le, Option, Some, None, refl, ap, sym, ◌∙◌, append_assoc, arith}
+-- The walk backwards over parts marks each bracket as the tree says.
+use Rattle.std.proofs.Common.{◌≡◌, ℕ, suc, List, [], ◌∷◌, ◌++◌, map, Bool, true, false, ◌||◌, is_some, nat_le, Option, Some, None, refl, ap, sym, ◌∙◌, append_assoc, arith}
 use Rattle.std.proofs.lemmas.Bool.Decides.{nat_tests}
 use Rattle.bz_tree.specs.declared.stmt.GroupKind.{GroupKind}
 use Rattle.bz_tree.specs.declared.stmt.GroupKind.TheVariants.{Call, RuleCall, Load, Paren, List as ListKind, Index, Dict, ListComp, DictComp}
 use Rattle.bz_tree.specs.Tree.{Item, leaf, group, Items, no_items, item, Segs, no_segs, seg}
 use Rattle.bz_tree.specs.Rows.{RowPart, closing, segment_end, above, beside_part, item_parts, items_parts, segs_parts}
-use Rattle.bz_layout.specs.declared.row_marks.Mark.{Mark}
-use Rattle.bz_layout.specs.declared.row_marks.Inside.{Inside}
+use Rattle.bz_layout.specs.declared.marks.Mark.{Mark}
+use Rattle.bz_layout.specs.declared.marks.Inside.{Inside}
 use Rattle.bz_layout.specs.Broken.{count, has_some, have_comments, breaks_by_count, is_broken, holds_broken, items_hold, segs_hold}
 use Rattle.bz_layout.specs.Layout.{has_commas}
 use Rattle.bz_layout.specs.private.RowLayout.{Scan, closed, one_more, mark_of, breaks_with, holding, below, opened_back, scan}
 
 -- the mark of a group, and those in an item
 abbrev pub mark_as : Bool → GroupKind → Segs → Bool → Mark
-mark_as broken kind segs one_comma = record { broken = broken; comma = if broken then has_commas kind one_comma (count segs) else one_comma }
+mark_as broken kind segs one_comma = record { broken = broken; comma = has_commas kind one_comma (count segs) }
 
 abbrev mutual
   pub item_marks : Item → List Mark

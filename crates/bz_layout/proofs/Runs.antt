@@ -1,0 +1,249 @@
+-- The walk forwards over parts writes the pieces of their tree.
+use Rattle.std.proofs.Common.{◌≡◌, codes, ℕ, ◌+◌, ◌-◌, List, [], ◌∷◌, ◌++◌, map, Bool, true, false, if◌then◌else◌, Option, Some, None, refl, ap, ◌∙◌, append_assoc, append-nil, arith}
+use Rattle.bz_token.specs.declared.token.Kind.TheVariants.{Sign}
+use Rattle.bz_tree.specs.declared.stmt.GroupKind.{GroupKind}
+use Rattle.bz_tree.specs.Tree.{Item, leaf, group, Items, no_items, item, Segs, no_segs, seg}
+use Rattle.bz_tree.specs.Rows.{RowPart, opening, closing, segment_end, above, beside_part, item_parts, items_parts, segs_parts}
+use Rattle.bz_layout.specs.declared.marks.Mark.{Mark}
+use Rattle.bz_layout.specs.declared.walk.Frame.{Frame}
+use Rattle.bz_layout.specs.declared.spacing.Edge.{Edge}
+use Rattle.bz_layout.specs.declared.spacing.Edge.TheVariants.{Start, Operand}
+use Rattle.bz_layout.specs.declared.spacing.Gap.{Gap}
+use Rattle.bz_layout.specs.declared.spacing.Gap.TheVariants.{Closed, Space, Line}
+use Rattle.bz_layout.specs.declared.broken.Style.{Style}
+use Rattle.bz_layout.specs.declared.broken.Style.TheVariants.{Flat, Broken}
+use Rattle.bz_layout.specs.Broken.{count, is_broken, segs_hold}
+use Rattle.bz_layout.specs.Spacing.{edge_after, gap_before, hugs}
+use Rattle.bz_layout.specs.Pieces.{Piece, piece, gap_bytes, bytes_of, comma_if, comments, suffix_piece}
+use Rattle.bz_layout.specs.Layout.{breaks, has_commas, item_pieces, items_pieces, broken_segs, flat_segs, opening as opening_text, closing as closing_text}
+use Rattle.bz_layout.specs.private.RowLayout.{Laid, gap_for, run, whole, first_frame, tail, comma_bytes, is_last, ended, first_gap, level_in}
+use Rattle.bz_layout.proofs.Rules.{gap_is}
+use Rattle.bz_layout.proofs.Pieces.{bytes_append}
+use Rattle.bz_layout.proofs.Scans.{mark_as, item_marks, items_marks, segs_marks}
+
+abbrev pub at : List ℕ → List Mark → List Frame → Frame → Edge → ℕ → Laid
+at text marks outer here left level = record { text = text; marks = marks; outer = outer; here = here; left = left; level = level }
+
+-- what the nodes leave to the one after them
+abbrev pub last_edge : Option GroupKind → Edge → Items → Edge
+last_edge within left no_items = left
+last_edge within left (item x xs) = last_edge within (edge_after within left x) xs
+
+abbrev broken_frame : GroupKind → Bool → Frame
+broken_frame kind comma = record { within = Some kind; mark = record { broken = true; comma = comma }; later = false }
+
+abbrev flat_frame : GroupKind → Bool → Bool → Frame
+flat_frame kind later comma = record { within = Some kind; mark = record { broken = false; comma = comma }; later = later }
+
+abbrev flat_gap : Bool → Gap
+flat_gap later = if later then Space else Closed
+
+-- in flat text the walk has no marks, so that no bracket is broken
+abbrev pub supply : Style → List Mark → List Mark
+supply Flat ms = []
+supply Broken ms = ms
+
+abbrev mark_in : Style → Mark → Mark
+mark_in Flat m = whole
+mark_in Broken m = m
+
+-- segments in place from one on, its comma written
+abbrev flat_from : Style → ℕ → GroupKind → Gap → Segs → List Piece
+flat_from style n kind gap no_segs = []
+flat_from style n kind gap (seg before nodes suffix ss) = items_pieces style n (Some kind) gap Start nodes ++ flat_segs style n kind false ss
+
+down : (n : ℕ) → n + 1 - 1 ≡ n
+down n = omega arith
+
+-- comments in a broken bracket are written
+run_above : (notes : List (List ℕ)) (rest : List RowPart) (t : List ℕ) (ms : List Mark) (o : List Frame) (kind : GroupKind) (comma : Bool) (l : Edge) (n : ℕ) → run (map above notes ++ rest) (at t ms o (broken_frame kind comma) l n) ≡ run rest (at (t ++ bytes_of (comments n notes)) ms o (broken_frame kind comma) l n)
+run_above [] rest t ms o kind comma l n = rw (append-nil t) refl
+run_above (note ∷ notes) rest t ms o kind comma l n = run_above notes rest (t ++ (gap_bytes (Line n) ++ note)) ms o kind comma l n ∙ ap (λ (u : List ℕ). run rest (at u ms o (broken_frame kind comma) l n)) (simp append_assoc)
+
+run_beside : (suffix : Option (List ℕ)) (rest : List RowPart) (t : List ℕ) (ms : List Mark) (o : List Frame) (kind : GroupKind) (comma : Bool) (l : Edge) (n : ℕ) → run (beside_part suffix ++ rest) (at t ms o (broken_frame kind comma) l n) ≡ run rest (at (t ++ bytes_of (suffix_piece suffix)) ms o (broken_frame kind comma) l n)
+run_beside None rest t ms o kind comma l n = rw (append-nil t) refl
+run_beside (Some note) rest t ms o kind comma l n = rw (append-nil note) refl
+
+-- in place they are left out
+skip_above : (notes : List (List ℕ)) (rest : List RowPart) (t : List ℕ) (ms : List Mark) (o : List Frame) (kind : GroupKind) (later comma : Bool) (l : Edge) (n : ℕ) → run (map above notes ++ rest) (at t ms o (flat_frame kind later comma) l n) ≡ run rest (at t ms o (flat_frame kind later comma) l n)
+skip_above [] rest t ms o kind later comma l n = refl
+skip_above (note ∷ notes) rest t ms o kind later comma l n = ap (λ (u : List ℕ). run (map above notes ++ rest) (at u ms o (flat_frame kind later comma) l n)) (append-nil t) ∙ skip_above notes rest t ms o kind later comma l n
+
+skip_beside : (suffix : Option (List ℕ)) (rest : List RowPart) (t : List ℕ) (ms : List Mark) (o : List Frame) (kind : GroupKind) (later comma : Bool) (l : Edge) (n : ℕ) → run (beside_part suffix ++ rest) (at t ms o (flat_frame kind later comma) l n) ≡ run rest (at t ms o (flat_frame kind later comma) l n)
+skip_beside None rest t ms o kind later comma l n = refl
+skip_beside (Some note) rest t ms o kind later comma l n = ap (λ (u : List ℕ). run rest (at u ms o (flat_frame kind later comma) l n)) (append-nil t)
+
+segs_joined : (ss : Segs) (end : List (List ℕ)) (one : Bool) (rest : List RowPart) → (segs_parts ss ++ (map above end ++ closing one ∷ [])) ++ rest ≡ segs_parts ss ++ (map above end ++ closing one ∷ rest)
+segs_joined ss end one rest = simp append_assoc
+
+seg_joined : (before : List (List ℕ)) (nodes : Items) (suffix : Option (List ℕ)) (ss : Segs) (rest : List RowPart) → segs_parts (seg before nodes suffix ss) ++ rest ≡ map above before ++ (items_parts nodes ++ (segment_end ∷ (beside_part suffix ++ (segs_parts ss ++ rest))))
+seg_joined before nodes suffix ss rest = simp append_assoc
+
+not_last : (before : List (List ℕ)) (nodes : Items) (suffix : Option (List ℕ)) (ss : Segs) (rest : List RowPart) → is_last (segs_parts (seg before nodes suffix ss) ++ rest) ≡ false
+not_last (note ∷ before) nodes suffix ss rest = not_last before nodes suffix ss rest
+not_last [] no_items suffix ss rest = refl
+not_last [] (item (leaf kind text) xs) suffix ss rest = refl
+not_last [] (item (group kind segs one_comma end) xs) suffix ss rest = refl
+
+beside_last : (suffix : Option (List ℕ)) (ps : List RowPart) → is_last (beside_part suffix ++ ps) ≡ is_last ps
+beside_last None ps = refl
+beside_last (Some note) ps = refl
+
+above_last : (notes : List (List ℕ)) (one : Bool) (rest : List RowPart) → is_last (map above notes ++ closing one ∷ rest) ≡ true
+above_last [] one rest = refl
+above_last (note ∷ notes) one rest = above_last notes one rest
+
+-- a text that is written in two goes
+two : (t : List ℕ) (ps qs : List Piece) → (t ++ bytes_of ps) ++ bytes_of qs ≡ t ++ bytes_of (ps ++ qs)
+two t ps qs = rw (bytes_append ps qs) (append_assoc t (bytes_of ps) (bytes_of qs))
+
+comma_is : (b : Bool) → comma_bytes b ≡ bytes_of (comma_if b)
+comma_is true = refl
+comma_is false = refl
+
+flat_is : (style : Style) (n : ℕ) (kind : GroupKind) (ss : Segs) → flat_from style n kind Closed ss ≡ flat_segs style n kind true ss
+flat_is style n kind no_segs = refl
+flat_is style n kind (seg before nodes suffix ss) = refl
+
+broken_seg_text : (t : List ℕ) (a b : List Piece) (comma : Bool) (c d : List Piece) → (((((t ++ bytes_of a) ++ bytes_of b) ++ comma_bytes comma) ++ bytes_of c) ++ bytes_of d) ≡ t ++ bytes_of (a ++ (b ++ (comma_if comma ++ (c ++ d))))
+broken_seg_text t a b comma c d = rw (comma_is comma, bytes_append a (b ++ (comma_if comma ++ (c ++ d))), bytes_append b (comma_if comma ++ (c ++ d)), bytes_append (comma_if comma) (c ++ d), bytes_append c d) (simp append_assoc)
+
+broken_group_text : (t p : List ℕ) (a b : List Piece) (q : Piece) → (((t ++ p) ++ bytes_of a) ++ bytes_of b) ++ (gap_bytes q.gap ++ q.text) ≡ t ++ (p ++ bytes_of (a ++ (b ++ q ∷ [])))
+broken_group_text t p a b q = rw (bytes_append a (b ++ q ∷ []), bytes_append b (q ∷ []), append-nil q.text) (simp append_assoc)
+
+flat_group_text : (t p : List ℕ) (a : List Piece) (comma : Bool) (close : List ℕ) → (t ++ p) ++ (bytes_of a ++ (comma_bytes comma ++ close)) ≡ t ++ (p ++ bytes_of (a ++ (comma_if comma ++ piece Closed Sign close ∷ [])))
+flat_group_text t p a comma close = rw (comma_is comma, bytes_append a (comma_if comma ++ piece Closed Sign close ∷ []), bytes_append (comma_if comma) (piece Closed Sign close ∷ []), append-nil close) (simp append_assoc)
+
+-- what is written of a group after its opening bracket
+abbrev group_rest : Style → Bool → ℕ → GroupKind → Segs → Bool → List (List ℕ) → List Piece
+group_rest style b n kind segs one end =
+    if b
+    then broken_segs style (n + 1) kind (has_commas kind one (count segs)) segs ++ (comments (n + 1) end ++ piece (Line n) Sign (closing_text kind) ∷ [])
+    else flat_segs style n kind true segs ++ (comma_if one ++ piece Closed Sign (closing_text kind) ∷ [])
+
+abbrev opening_bytes : Gap → GroupKind → List ℕ
+opening_bytes gap kind = gap_bytes gap ++ opening_text kind
+
+-- a bracket opens, and its mark is taken
+opens : (style : Style) (m : Mark) (marks : List Mark) (kind : GroupKind) (ps : List RowPart) (t : List ℕ) (o : List Frame) (h : Frame) (l : Edge) (n : ℕ) →
+    run (opening kind ∷ ps) (at t (supply style (m ∷ marks)) o h l n)
+    ≡ run ps (at (t ++ opening_bytes (gap_for (first_gap h n) l (hugs kind)) kind) (supply style marks) (h ∷ o) (record { within = Some kind; mark = mark_in style m; later = false }) Start (level_in (mark_in style m) n))
+opens Flat m marks kind ps t o h l n = refl
+opens Broken m marks kind ps t o h l n = refl
+
+-- segments on lines of their own, or in place up to the bracket's end
+abbrev BrokenRuns : Style → Segs → List RowPart → List ℕ → List Mark → List Frame → GroupKind → Bool → ℕ → Type 0
+BrokenRuns style ss rest t ms o kind comma n =
+    run (segs_parts ss ++ rest) (at t (supply style (segs_marks ss ++ ms)) o (broken_frame kind comma) Start n) ≡ run rest (at (t ++ bytes_of (broken_segs style n kind comma ss)) (supply style ms) o (broken_frame kind comma) Start n)
+
+abbrev FlatRuns : Style → Segs → List (List ℕ) → List RowPart → List ℕ → List Mark → List Frame → GroupKind → Bool → Bool → Bool → ℕ → Type 0
+FlatRuns style ss end rest t ms o kind comma one later n =
+    run (segs_parts ss ++ (map above end ++ closing one ∷ rest)) (at t (supply style (segs_marks ss ++ ms)) o (flat_frame kind later comma) Start n) ≡ run rest (at (t ++ (bytes_of (flat_from style n kind (flat_gap later) ss) ++ (comma_bytes one ++ closing_text kind))) (supply style ms) (tail o) (first_frame o) Operand n)
+
+-- a group in place, where its mark has any comma
+run_in_place : (style : Style) (comma : Bool) (kind : GroupKind) (segs : Segs) (one : Bool) (end : List (List ℕ)) (rest : List RowPart) (t : List ℕ) (ms : List Mark) (o : List Frame) (h : Frame) (gap : Gap) (n : ℕ) →
+    FlatRuns style segs end rest (t ++ opening_bytes gap kind) ms (h ∷ o) kind comma one false n →
+    run ((segs_parts segs ++ (map above end ++ closing one ∷ [])) ++ rest) (at (t ++ opening_bytes gap kind) (supply style (segs_marks segs ++ ms)) (h ∷ o) (flat_frame kind false comma) Start n)
+    ≡ run rest (at (t ++ (opening_bytes gap kind ++ bytes_of (group_rest style false n kind segs one end))) (supply style ms) o h Operand n)
+run_in_place style comma kind segs one end rest t ms o h gap n flat =
+    let begun = opening_bytes gap kind in
+    let joined = ap (λ (ps : List RowPart). run ps (at (t ++ begun) (supply style (segs_marks segs ++ ms)) (h ∷ o) (flat_frame kind false comma) Start n)) (segs_joined segs end one rest) in
+    let text = flat_group_text t begun (flat_from style n kind Closed segs) one (closing_text kind) ∙ ap (λ (ps : List Piece). t ++ (begun ++ bytes_of (ps ++ (comma_if one ++ piece Closed Sign (closing_text kind) ∷ [])))) (flat_is style n kind segs) in
+    joined ∙ (flat ∙ ap (λ (u : List ℕ). run rest (at u (supply style ms) o h Operand n)) text)
+
+run_group : (style : Style) (b : Bool) (kind : GroupKind) (segs : Segs) (one : Bool) (end : List (List ℕ)) (rest : List RowPart) (t : List ℕ) (ms : List Mark) (o : List Frame) (h : Frame) (gap : Gap) (n : ℕ) →
+    BrokenRuns style segs (map above end ++ closing one ∷ rest) (t ++ opening_bytes gap kind) ms (h ∷ o) kind (has_commas kind one (count segs)) (n + 1) →
+    ((comma : Bool) → FlatRuns style segs end rest (t ++ opening_bytes gap kind) ms (h ∷ o) kind comma one false n) →
+    run ((segs_parts segs ++ (map above end ++ closing one ∷ [])) ++ rest) (at (t ++ opening_bytes gap kind) (supply style (segs_marks segs ++ ms)) (h ∷ o) (record { within = Some kind; mark = mark_in style (mark_as b kind segs one); later = false }) Start (level_in (mark_in style (mark_as b kind segs one)) n))
+    ≡ run rest (at (t ++ (opening_bytes gap kind ++ bytes_of (group_rest style (breaks style b) n kind segs one end))) (supply style ms) o h Operand n)
+run_group Broken true kind segs one end rest t ms o h gap n broken flat =
+    let c = has_commas kind one (count segs) in
+    let begun = opening_bytes gap kind in
+    let a = broken_segs Broken (n + 1) kind c segs in
+    let b = comments (n + 1) end in
+    let t1 = (t ++ begun) ++ bytes_of a in
+    let t2 = t1 ++ bytes_of b in
+    let joined = ap (λ (ps : List RowPart). run ps (at (t ++ begun) (segs_marks segs ++ ms) (h ∷ o) (broken_frame kind c) Start (n + 1))) (segs_joined segs end one rest) in
+    let notes = run_above end (closing one ∷ rest) t1 ms (h ∷ o) kind c Start (n + 1) in
+    let level = ap (λ (k : ℕ). run rest (at (t2 ++ (gap_bytes (Line k) ++ closing_text kind)) ms o h Operand k)) (down n) in
+    let text = ap (λ (u : List ℕ). run rest (at u ms o h Operand n)) (broken_group_text t begun a b (piece (Line n) Sign (closing_text kind))) in
+    joined ∙ (broken ∙ (notes ∙ (level ∙ text)))
+run_group Broken false kind segs one end rest t ms o h gap n broken flat = let c = has_commas kind one (count segs) in run_in_place Broken c kind segs one end rest t ms o h gap n (flat c)
+run_group Flat b kind segs one end rest t ms o h gap n broken flat = run_in_place Flat false kind segs one end rest t ms o h gap n (flat false)
+
+group_text : (t p : List ℕ) (gap : Gap) (close : List ℕ) → t ++ ((gap_bytes gap ++ close) ++ p) ≡ t ++ (gap_bytes gap ++ (close ++ p))
+group_text t p gap close = simp append_assoc
+
+last_text : (t : List ℕ) (a : List Piece) (end : List ℕ) → ((t ++ bytes_of a) ++ []) ++ end ≡ t ++ (bytes_of (a ++ []) ++ end)
+last_text t a end = rw (append-nil a, append-nil (t ++ bytes_of a)) (append_assoc t (bytes_of a) end)
+
+next_text : (t : List ℕ) (a b : List Piece) (end : List ℕ) → ((t ++ bytes_of a) ++ codes ",") ++ (bytes_of b ++ end) ≡ t ++ (bytes_of (a ++ (piece Closed Sign (codes ",") ∷ b)) ++ end)
+next_text t a b end = rw (bytes_append a (piece Closed Sign (codes ",") ∷ b)) (simp append_assoc)
+
+mutual
+  pub run_item : (style : Style) (x : Item) (rest : List RowPart) (t : List ℕ) (ms : List Mark) (o : List Frame) (h : Frame) (l : Edge) (n : ℕ) →
+      run (item_parts x ++ rest) (at t (supply style (item_marks x ++ ms)) o h l n) ≡ run rest (at (t ++ bytes_of (item_pieces style n (gap_before (first_gap h n) l x) x)) (supply style ms) o h (edge_after h.within l x) n)
+  run_item style (leaf kind text) rest t ms o h l n = rw (gap_is (first_gap h n) l (leaf kind text), append-nil) refl
+  run_item style (group kind segs one end) rest t ms o h l n =
+      let b = is_broken kind segs end (segs_hold segs) in
+      let gap = gap_for (first_gap h n) l (hugs kind) in
+      let begun = opening_bytes gap kind in
+      let broken = run_broken style segs (map above end ++ closing one ∷ rest) (t ++ begun) ms (h ∷ o) kind (has_commas kind one (count segs)) (n + 1) in
+      let flat : (comma : Bool) → FlatRuns style segs end rest (t ++ begun) ms (h ∷ o) kind comma one false n = λ comma. run_flat style segs end rest (t ++ begun) ms (h ∷ o) kind comma one false n in
+      let all = run_group style b kind segs one end rest t ms o h gap n broken flat in
+      let begin = opens style (mark_as b kind segs one) (segs_marks segs ++ ms) kind ((segs_parts segs ++ (map above end ++ closing one ∷ [])) ++ rest) t o h l n in
+      rw (gap_is (first_gap h n) l (group kind segs one end)) (begin ∙ (all ∙ ap (λ (u : List ℕ). run rest (at u (supply style ms) o h Operand n)) (group_text t (bytes_of (group_rest style (breaks style b) n kind segs one end)) gap (opening_text kind))))
+
+  pub run_items : (style : Style) (xs : Items) (rest : List RowPart) (t : List ℕ) (ms : List Mark) (o : List Frame) (h : Frame) (l : Edge) (n : ℕ) →
+      run (items_parts xs ++ rest) (at t (supply style (items_marks xs ++ ms)) o h l n) ≡ run rest (at (t ++ bytes_of (items_pieces style n h.within (first_gap h n) l xs)) (supply style ms) o h (last_edge h.within l xs) n)
+  run_items style no_items rest t ms o h l n = rw (append-nil t) refl
+  run_items style (item x xs) rest t ms o h l n =
+      let ps = item_pieces style n (gap_before (first_gap h n) l x) x in
+      let left = edge_after h.within l x in
+      rw (append_assoc (item_parts x) (items_parts xs) rest, append_assoc (item_marks x) (items_marks xs) ms)
+      (run_item style x (items_parts xs ++ rest) t (items_marks xs ++ ms) o h l n ∙ (run_items style xs rest (t ++ bytes_of ps) ms o h left n ∙
+      ap (λ (u : List ℕ). run rest (at u (supply style ms) o h (last_edge h.within left xs) n)) (two t ps (items_pieces style n h.within (first_gap h n) left xs))))
+
+  pub run_broken : (style : Style) (ss : Segs) (rest : List RowPart) (t : List ℕ) (ms : List Mark) (o : List Frame) (kind : GroupKind) (comma : Bool) (n : ℕ) → BrokenRuns style ss rest t ms o kind comma n
+  run_broken style no_segs rest t ms o kind comma n = rw (append-nil t) refl
+  run_broken style (seg before nodes suffix ss) rest t ms o kind comma n =
+      let frame = broken_frame kind comma in
+      let a = comments n before in
+      let b = items_pieces style n (Some kind) (Line n) Start nodes in
+      let c = suffix_piece suffix in
+      let d = broken_segs style n kind comma ss in
+      let after = segs_parts ss ++ rest in
+      let ending = segment_end ∷ (beside_part suffix ++ after) in
+      let later = segs_marks ss ++ ms in
+      let t1 = t ++ bytes_of a in
+      let t3 = (t1 ++ bytes_of b) ++ comma_bytes comma in
+      rw (seg_joined before nodes suffix ss rest, append_assoc (items_marks nodes) (segs_marks ss) ms)
+      (run_above before (items_parts nodes ++ ending) t (supply style (items_marks nodes ++ later)) o kind comma Start n ∙ (run_items style nodes ending t1 later o frame Start n ∙ (run_beside suffix after t3 (supply style later) o kind comma Start n ∙
+      (run_broken style ss rest (t3 ++ bytes_of c) ms o kind comma n ∙ ap (λ (u : List ℕ). run rest (at u (supply style ms) o frame Start n)) (broken_seg_text t a b comma c d)))))
+
+  pub run_flat : (style : Style) (ss : Segs) (end : List (List ℕ)) (rest : List RowPart) (t : List ℕ) (ms : List Mark) (o : List Frame) (kind : GroupKind) (comma one later : Bool) (n : ℕ) → FlatRuns style ss end rest t ms o kind comma one later n
+  run_flat style no_segs end rest t ms o kind comma one later n = skip_above end (closing one ∷ rest) t (supply style ms) o kind later comma Start n
+  run_flat style (seg before nodes suffix no_segs) end rest t ms o kind comma one later n =
+      let frame = flat_frame kind later comma in
+      let a = items_pieces style n (Some kind) (flat_gap later) Start nodes in
+      let t1 = t ++ bytes_of a in
+      let after = map above end ++ closing one ∷ rest in
+      let marks = supply style ms in
+      let none_next = ap (λ (last : Bool). run (beside_part suffix ++ after) (ended last (at t1 marks o frame (last_edge (Some kind) Start nodes) n))) (beside_last suffix after ∙ above_last end one rest) in
+      rw (seg_joined before nodes suffix no_segs after, append_assoc (items_marks nodes) [] ms)
+      (skip_above before (items_parts nodes ++ (segment_end ∷ (beside_part suffix ++ after))) t (supply style (items_marks nodes ++ ms)) o kind later comma Start n ∙ (run_items style nodes (segment_end ∷ (beside_part suffix ++ after)) t ms o frame Start n ∙ (none_next ∙
+      (skip_beside suffix after (t1 ++ []) marks o kind later comma Start n ∙ (skip_above end (closing one ∷ rest) (t1 ++ []) marks o kind later comma Start n ∙
+      ap (λ (u : List ℕ). run rest (at u marks (tail o) (first_frame o) Operand n)) (last_text t a (comma_bytes one ++ closing_text kind)))))))
+  run_flat style (seg before nodes suffix (seg before2 nodes2 suffix2 ss)) end rest t ms o kind comma one later n =
+      let frame = flat_frame kind later comma in
+      let a = items_pieces style n (Some kind) (flat_gap later) Start nodes in
+      let t1 = t ++ bytes_of a in
+      let more = seg before2 nodes2 suffix2 ss in
+      let closes = map above end ++ closing one ∷ rest in
+      let after = segs_parts more ++ closes in
+      let marks = segs_marks more ++ ms in
+      let comma_next = ap (λ (last : Bool). run (beside_part suffix ++ after) (ended last (at t1 (supply style marks) o frame (last_edge (Some kind) Start nodes) n))) (beside_last suffix after ∙ not_last before2 nodes2 suffix2 ss closes) in
+      rw (seg_joined before nodes suffix more closes, append_assoc (items_marks nodes) (segs_marks more) ms)
+      (skip_above before (items_parts nodes ++ (segment_end ∷ (beside_part suffix ++ after))) t (supply style (items_marks nodes ++ marks)) o kind later comma Start n ∙ (run_items style nodes (segment_end ∷ (beside_part suffix ++ after)) t marks o frame Start n ∙ (comma_next ∙
+      (skip_beside suffix after (t1 ++ codes ",") (supply style marks) o kind true comma Start n ∙ (run_flat style (seg before2 nodes2 suffix2 ss) end rest (t1 ++ codes ",") ms o kind comma one true n ∙
+      ap (λ (u : List ℕ). run rest (at u (supply style ms) (tail o) (first_frame o) Operand n)) (next_text t a (flat_from style n kind Space more) (comma_bytes one ++ closing_text kind)))))))
