@@ -24,6 +24,16 @@ f ( #c
 ->
 ^#a ^#b f rule ^#c name = "a" ; >#d ^#e deps = list "x" ; "y" ; >#f ^#g ) + select call dict "a" : list ) ; ) ; ) ; >#h ^#i ) >#j Rule
 ---
+#a
+
+ #b
+->
+^#a ^#b Comment
+---
+#a␄
+->
+^#a Comment
+---
 a . b ( )␄
 ->
 a . b rule ) Rule
@@ -58,8 +68,6 @@ list 1 ; """
 const TREES: &str = r##"
 ---
 ␄
----
-#a
 ---
  x
 ---

@@ -2,7 +2,7 @@
 use Rattle.std.proofs.Common.{◌≡◌, [], ◌∷◌, true, false, Some, None, refl}
 use Rattle.std.specs.Prelude.{codes}
 use Rattle.bz_token.specs.declared.token.Kind.TheVariants.{Ident, Int, Sign, Note, Line}
-use Rattle.bz_tree.specs.declared.stmt.Class.TheVariants.{Assign, Rule}
+use Rattle.bz_tree.specs.declared.stmt.Class.TheVariants.{Assign, Rule, Comment}
 use Rattle.bz_tree.specs.declared.stmt.GroupKind.TheVariants.{RuleCall, Paren}
 use Rattle.bz_tree.specs.Tree.{leaf, group, no_items, item, no_segs, seg, Statement}
 use Rattle.bz_tree.specs.Rows.{a_token, opening, closing, segment_end, above, beside, parts_of}
@@ -45,6 +45,10 @@ tuple_parts = refl
 tuple_found : row_run row_start (at Ident (codes "x") 1 1 ∷ at Sign (codes "=") 1 3 ∷ at Sign (codes "(") 1 5 ∷ at Int (codes "1") 1 6 ∷ at Sign (codes ",") 1 7 ∷ at Sign (codes ")") 1 8 ∷ at Note b 1 11 ∷ [])
     ≡ Some (record { parts = parts_of tuple; class = tuple.class })
 tuple_found = refl
+
+-- comment lines alone
+lines_found : row_run row_start (at Note a 1 1 ∷ at Line (10 ∷ []) 1 4 ∷ at Note b 2 3 ∷ []) ≡ Some (record { parts = above a ∷ above b ∷ []; class = Comment })
+lines_found = refl
 
 -- a comment in the middle of a segment is left to the tree
 between : row_run row_start (at Ident (codes "f") 1 1 ∷ at Sign (codes "(") 1 2 ∷ at Ident (codes "x") 1 3 ∷ at Note a 1 5 ∷ at Sign (codes "+") 2 1 ∷ at Ident (codes "x") 2 3 ∷ at Sign (codes ")") 2 4 ∷ []) ≡ None

@@ -1,9 +1,12 @@
 -- The row that the walk finds is that of the statement of its tokens.
 use Rattle.std.proofs.Common.{◌≡◌, ℕ, ◌==◌, List, [], ◌∷◌, ◌++◌, map, Bool, true, false, not, cond, ◌||◌, Option, Some, None, IfSome, IsSome, option_map, option_and_then, refl, sym, ap, subst, ◌∙◌, append-nil}
+use Rattle.std.specs.Bool.{then_some}
 use Rattle.std.proofs.lemmas.Bool.{false≢true, and_parts}
 use Rattle.bz_token.specs.Places.{Placed}
 use Rattle.bz_token.specs.Reading.{AreTokensOf}
 use Rattle.bz_tree.specs.declared.stmt.GroupKind.{GroupKind}
+use Rattle.bz_tree.specs.declared.stmt.Class.{Class}
+use Rattle.bz_tree.specs.declared.stmt.Class.TheVariants.{Comment}
 use Rattle.bz_tree.specs.declared.stage.Part.TheVariants.{Left}
 use Rattle.bz_tree.specs.declared.stage.Stage.TheVariants.{Wants}
 use Rattle.bz_tree.specs.declared.row.Row.{Row}
@@ -12,7 +15,7 @@ use Rattle.bz_tree.specs.Kinds.{mark_of}
 use Rattle.bz_tree.specs.Statement.{class_of, first_token, first_seen, statement_with}
 use Rattle.bz_tree.specs.Blocks.{is_block_word}
 use Rattle.bz_tree.specs.Chunk.{begins_block, indent_at, IsOneOf, IsStatementIn}
-use Rattle.bz_tree.specs.Rows.{above, beside_part, IsRowOf}
+use Rattle.bz_tree.specs.Rows.{RowPart, above, beside_part, IsRowOf}
 use Rattle.bz_tree.specs.private.Machine.{accepts, may_end, is_load, is_nothing, is_statement}
 use Rattle.bz_tree.specs.private.Steps.{new_level, run}
 use Rattle.bz_tree.specs.private.RowSteps.{start, RowState, row_next, RowView, row_view, read_class, is_lost, row_end, row_run, row_start, is_upright, IsUprightRow}
@@ -34,11 +37,15 @@ or_right : (a b : Bool) → b ≡ true → (a || b) ≡ true
 or_right true b h = refl
 or_right false b h = h
 
+abbrev row_of : List RowPart → Class → RowView
+row_of ps c = record { parts = ps; class = c }
+
 -- the end of the tokens
-both_ends : (lost ends : Bool) (v r : RowView) → cond lost None (cond ends (Some v) None) ≡ Some r → (lost ≡ false) × (ends ≡ true) × (v ≡ r)
-both_ends false true v r h = (refl, refl, some_injective v r h)
-both_ends true ends v r h = absurd (none_is_some r h)
-both_ends false false v r h = absurd (none_is_some r h)
+both_ends : (lost ends : Bool) (ps : List RowPart) (c : Class) (r : RowView) → option_map (λ class. row_of ps class) (cond ends (then_some (not lost) c) None) ≡ Some r → (lost ≡ false) × (ends ≡ true) × (row_of ps c ≡ r)
+both_ends false true ps c r h = (refl, refl, some_injective (row_of ps c) r h)
+both_ends true true ps c r h = absurd (none_is_some r h)
+both_ends true false ps c r h = absurd (none_is_some r h)
+both_ends false false ps c r h = absurd (none_is_some r h)
 
 segment_found : (before : List (List ℕ)) (nodes : List Item) (suffix : Option (List ℕ)) (answer : Option Segment) (r : RowView) → answer ≡ Some (record { before = before; nodes = with_rule nodes; suffix = suffix })
     → r.parts ≡ map above before ++ (nodes_parts (shown (start None) nodes) ++ beside_part suffix) → read_class (read_items (start None) nodes) ≡ r.class
@@ -54,15 +61,23 @@ segment_found before nodes suffix answer r answer_is parts_are class_eq lost end
     }
 
 top_found : (place : Place) (r : RowView) → IsGoodAt None [] place → row_end None [] (image (bracket None [] place) []) ≡ Some r → Found (run (level_of (bracket None [] place)) [] []) r
-top_found (none after) r good same = absurd (none_is_some r same)
-top_found (fresh line) r good same = absurd (none_is_some r same)
+top_found (none after) r good same =
+    let e = some_injective (row_of (map above after) Comment) r same in
+    record {
+      segment = record { before = after; nodes = []; suffix = None };
+      answer_is = refl;
+      parts_are = ap (λ (v : RowView). v.parts) (sym e) ∙ sym (append-nil (map above after));
+      class_is = ap (λ (v : RowView). v.class) (sym e);
+      grammar = refl;
+    }
+top_found (fresh line) r good same = absurd (false≢true good.1)
 top_found (some before x xs line) r good same =
-    let p = both_ends (is_lost (read_items (start None) (x ∷ xs)).naming) _ _ r same in
+    let p = both_ends (is_lost (read_items (start None) (x ∷ xs)).naming) _ _ _ r same in
     segment_found before (x ∷ xs) None _ r
     (ap (λ bs. Some (record { before = bs; nodes = with_rule (x ∷ xs); suffix = None })) (append-nil before))
     (ap (λ (v : RowView). v.parts) (sym p.2) ∙ ap (λ ps. map above before ++ ps) (sym (append-nil (nodes_parts (shown (start None) (x ∷ xs)))))) (ap (λ (v : RowView). v.class) p.2) p.0 p.1
 top_found (over before x xs suffix []) r good same =
-    let p = both_ends (is_lost (read_items (start None) (x ∷ xs)).naming) _ _ r same in
+    let p = both_ends (is_lost (read_items (start None) (x ∷ xs)).naming) _ _ _ r same in
     segment_found before (x ∷ xs) suffix _ r
     (ap (λ bs. Some (record { before = bs; nodes = with_rule (x ∷ xs); suffix = suffix })) (append-nil before))
     (ap (λ (v : RowView). v.parts) (sym p.2) ∙ ap (λ ps. map above before ++ (nodes_parts (shown (start None) (x ∷ xs)) ++ ps)) (append-nil (beside_part suffix))) (ap (λ (v : RowView). v.class) p.2) p.0 p.1
@@ -99,7 +114,7 @@ not_false false h = refl
 not_false true h = absurd (false≢true h)
 
 upright : (o : Option Placed) (ts : List Placed) → is_upright o ≡ true → (indent_at o ts ≡ None) × (begins_block o ≡ false)
-upright None ts h = absurd (false≢true h)
+upright None ts h = (refl, refl)
 upright (Some t) ts h =
     let p = and_parts (t.col == 1) (not (is_block_word t)) h in
     let word : is_block_word t ≡ false = not_false (is_block_word t) p.1 in

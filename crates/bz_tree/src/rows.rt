@@ -225,10 +225,10 @@ impl<'a> RowWalk<'a> {
             ≡ row_end self.entry.top.kind (row_state self.entry).outer (row_state self.entry) }
     {
         let RowWalk { parts, outer, top } = self;
-        if top.kind.is_some() || !outer.is_empty() || !may_end(top.read.stage) {
+        if top.kind.is_some() || !outer.is_empty() {
             return None;
         }
-        let class = top.read.class()?;
+        let class = top.class()?;
         Some(Row { parts, class })
     }
 }
@@ -244,13 +244,13 @@ fn comment_part<'a>(on_line: bool, text: &'a str) -> Part<'a>
     }
 }
 
-// The statement begins in column 1, and is no block.
+// The statement begins in column 1, and is no block, or it is comment lines alone.
 fn is_upright(tokens: &[Token<'_>]) -> bool
     ensures { result ≡ is_upright (first_token (map placed tokens.now)) }
 {
     match first_token(tokens) {
         Some(token) => token.col == 1 && !is_block_word(&token),
-        None => false,
+        None => true,
     }
 }
 

@@ -3,12 +3,12 @@
 ghost use Rattle.std.specs.Prelude.{◌≡◌, not};
 ghost use Rattle.std.specs.Bool.{then_some};
 ghost use Rattle.bz_tree.specs.Grammar.{leaf_role};
-ghost use Rattle.bz_tree.specs.private.RowSteps.{here_view, is_ended, named, called, shown_kind, start, read_leaf, read_group, one_more, new_stand, stand, with_comma, is_lost, read_class, is_one_comma};
+ghost use Rattle.bz_tree.specs.private.RowSteps.{here_view, is_ended, named, called, shown_kind, start, read_leaf, read_group, one_more, new_stand, stand, with_comma, is_lost, read_class, end_class, is_one_comma};
 
 use crate::class::{is_call, is_dot_at};
 use crate::kinds::{Preceding, kind_after};
 use crate::role::Role;
-use crate::stage::{Part, Stage, begin, group_role, next};
+use crate::stage::{Part, Stage, begin, group_role, may_end, next};
 use crate::stmt::{Class, GroupKind};
 use bz_token::Kind;
 
@@ -152,7 +152,7 @@ impl Read {
     }
 
     // The class of a statement of these nodes. None: it is left to its tree.
-    pub(crate) fn class(&self) -> Option<Class>
+    fn class(&self) -> Option<Class>
         ensures { result ≡ then_some (not (is_lost self.now.naming)) (read_class self.now) }
     {
         match self.naming {
@@ -191,6 +191,17 @@ impl<'a> Spot<'a> {
         self.done = one_more(self.done);
         self.here = Here::Comma(line);
         self.read = start(self.kind);
+    }
+
+    // The class of a statement that ends here. None: it is left to its tree.
+    pub(crate) fn class(&self) -> Option<Class>
+        ensures { result ≡ end_class (here_view self.now.here) self.now.read }
+    {
+        match self.here {
+            Here::Nothing => Some(Class::Comment),
+            _ if may_end(self.read.stage) => self.read.class(),
+            _ => None,
+        }
     }
 
     // It is `(x,)`.

@@ -1,11 +1,12 @@
 -- For private clauses: the walk over the tokens of a statement that pushes the parts of its row.
-use Rattle.std.specs.Prelude.{ℕ, ◌+◌, ◌==◌, count_by, List, [], ◌∷◌, ◌++◌, map, reverse, Bool, true, false, not, ◌||◌, ◌&&◌, if◌then◌else◌, Option, Some, None, option_and_then}
+use Rattle.std.specs.Prelude.{ℕ, ◌+◌, ◌==◌, count_by, List, [], ◌∷◌, ◌++◌, map, reverse, Bool, true, false, not, ◌||◌, ◌&&◌, if◌then◌else◌, Option, Some, None, option_map, option_and_then}
+use Rattle.std.specs.Bool.{then_some}
 use Rattle.bz_token.specs.declared.token.Kind.{Kind}
 use Rattle.bz_token.specs.Places.{Placed}
 use Rattle.bz_tree.specs.declared.stmt.GroupKind.{GroupKind}
 use Rattle.bz_tree.specs.declared.stmt.GroupKind.TheVariants.{RuleCall}
 use Rattle.bz_tree.specs.declared.stmt.Class.{Class}
-use Rattle.bz_tree.specs.declared.stmt.Class.TheVariants.{Assign, Rule, Other as OtherClass}
+use Rattle.bz_tree.specs.declared.stmt.Class.TheVariants.{Assign, Rule, Comment as CommentClass, Other as OtherClass}
 use Rattle.bz_tree.specs.declared.kinds.Shape.{Shape}
 use Rattle.bz_tree.specs.declared.kinds.Mark.{Mark}
 use Rattle.bz_tree.specs.declared.kinds.Mark.TheVariants.{Open, Close, Comma, Comment, NewLine, Plain}
@@ -248,8 +249,13 @@ is_lost _ = false
 abbrev pub read_class : Read → Class
 read_class r = if r.assigns then Assign else (if is_rule_read r.naming then Rule else OtherClass)
 
+-- the class of a statement that ends here; none: it is left to its tree
+abbrev pub end_class : At → Read → Option Class
+end_class nothing r = Some CommentClass
+end_class _ r = if may_end r.stage then then_some (not (is_lost r.naming)) (read_class r) else None
+
 abbrev pub row_end : Option GroupKind → List Stand → RowState → Option RowView
-row_end None [] s = if is_lost s.top.read.naming then None else (if may_end s.top.read.stage then Some (record { parts = s.parts; class = read_class s.top.read }) else None)
+row_end None [] s = option_map (λ class. record { parts = s.parts; class = class }) (end_class s.top.here s.top.read)
 row_end _ outer s = None
 
 abbrev pub row_run : RowState → List Placed → Option RowView
@@ -259,9 +265,9 @@ row_run s (t ∷ ts) = option_and_then (λ r. row_run r ts) (row_next t s)
 abbrev pub row_start : RowState
 row_start = record { top = new_stand None; outer = []; parts = [] }
 
--- the statement begins in column 1, and is no block
+-- the statement begins in column 1, and is no block, or it is comment lines alone
 abbrev pub is_upright : Option Placed → Bool
-is_upright None = false
+is_upright None = true
 is_upright (Some t) = (t.col == 1) && not (is_block_word t)
 
 -- the row of a statement with these tokens
