@@ -34,6 +34,20 @@ f ( #c
 ->
 ^#a Comment
 ---
+#a
+load ( #b
+ "a" , "b" , #c
+ #d
+ c = "d" #e
+ #f
+ ) #g
+->
+^#a load load ^#b "a" ; "b" ; >#c ^#d c = "d" ; >#e ^#f ) >#g Load
+---
+load ( "a" , )␄
+->
+load load "a" ; ) Load
+---
 a . b ( )␄
 ->
 a . b rule ) Rule
@@ -77,7 +91,21 @@ f ( x , , y )
 ---
 f ( a ] )
 ---
-load ( "a" , "b" )
+load ( )
+---
+load ( a = "b" )
+---
+load ( "a" , b )
+---
+load ( "a" ) . b
+---
+x = load ( "a" )
+---
+f ( load ( "a" ) )
+---
+load "a"
+---
+load [ "a" ]
 ---
 def f ( ) :
   pass

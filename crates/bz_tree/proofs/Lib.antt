@@ -18,6 +18,7 @@ pub mod Standing
 pub mod RowParts
 pub mod RowWalk
 pub mod RowClass
+pub mod RowLoad
 pub mod RowFound
 pub mod Examples
 pub mod CellExamples

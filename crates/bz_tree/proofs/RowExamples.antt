@@ -1,9 +1,9 @@
 -- Worked examples of the parts of a row.
 use Rattle.std.proofs.Common.{◌≡◌, [], ◌∷◌, true, false, Some, None, refl}
 use Rattle.std.specs.Prelude.{codes}
-use Rattle.bz_token.specs.declared.token.Kind.TheVariants.{Ident, Int, Sign, Note, Line}
-use Rattle.bz_tree.specs.declared.stmt.Class.TheVariants.{Assign, Rule, Comment}
-use Rattle.bz_tree.specs.declared.stmt.GroupKind.TheVariants.{RuleCall, Paren}
+use Rattle.bz_token.specs.declared.token.Kind.TheVariants.{Ident, Word, Int, Text, Sign, Note, Line}
+use Rattle.bz_tree.specs.declared.stmt.Class.TheVariants.{Load, Assign, Rule, Comment}
+use Rattle.bz_tree.specs.declared.stmt.GroupKind.TheVariants.{RuleCall, Load as LoadKind, Paren}
 use Rattle.bz_tree.specs.Tree.{leaf, group, no_items, item, no_segs, seg, Statement}
 use Rattle.bz_tree.specs.Rows.{a_token, opening, closing, segment_end, above, beside, parts_of}
 use Rattle.bz_tree.specs.private.RowSteps.{row_run, row_start}
@@ -49,6 +49,18 @@ tuple_found = refl
 -- comment lines alone
 lines_found : row_run row_start (at Note a 1 1 ∷ at Line (10 ∷ []) 1 4 ∷ at Note b 2 3 ∷ []) ≡ Some (record { parts = above a ∷ above b ∷ []; class = Comment })
 lines_found = refl
+
+-- `load("a", f = "x",) # b`
+load_found : row_run row_start (at Word (codes "load") 1 1 ∷ at Sign (codes "(") 1 5 ∷ at Text (codes "\"a\"") 1 6 ∷ at Sign (codes ",") 1 9 ∷ at Ident (codes "f") 1 11 ∷ at Sign (codes "=") 1 13 ∷ at Text (codes "\"x\"") 1 15 ∷ at Sign (codes ",") 1 18 ∷ at Sign (codes ")") 1 19 ∷ at Note b 1 21 ∷ [])
+    ≡ Some (record {
+      parts = a_token Word (codes "load") ∷ opening LoadKind ∷ a_token Text (codes "\"a\"") ∷ segment_end ∷ a_token Ident (codes "f") ∷ a_token Sign (codes "=") ∷ a_token Text (codes "\"x\"") ∷ segment_end ∷ closing false ∷ beside b ∷ [];
+      class = Load;
+    })
+load_found = refl
+
+-- it has a string first
+no_load : row_run row_start (at Word (codes "load") 1 1 ∷ at Sign (codes "(") 1 5 ∷ at Ident (codes "f") 1 6 ∷ at Sign (codes "=") 1 8 ∷ at Text (codes "\"x\"") 1 10 ∷ at Sign (codes ")") 1 13 ∷ []) ≡ None
+no_load = refl
 
 -- a comment in the middle of a segment is left to the tree
 between : row_run row_start (at Ident (codes "f") 1 1 ∷ at Sign (codes "(") 1 2 ∷ at Ident (codes "x") 1 3 ∷ at Note a 1 5 ∷ at Sign (codes "+") 2 1 ∷ at Ident (codes "x") 2 3 ∷ at Sign (codes ")") 2 4 ∷ []) ≡ None

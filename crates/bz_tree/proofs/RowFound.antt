@@ -1,15 +1,16 @@
 -- The row that the walk finds is that of the statement of its tokens.
-use Rattle.std.proofs.Common.{◌≡◌, ℕ, ◌==◌, List, [], ◌∷◌, ◌++◌, map, Bool, true, false, not, cond, ◌||◌, Option, Some, None, IfSome, IsSome, option_map, option_and_then, refl, sym, ap, subst, ◌∙◌, append-nil}
+use Rattle.std.proofs.Common.{◌≡◌, ℕ, ◌==◌, List, [], ◌∷◌, ◌++◌, map, Bool, true, false, not, cond, ◌&&◌, ◌||◌, Option, Some, None, IfSome, IsSome, option_map, option_and_then, refl, sym, ap, subst, ◌∙◌, append-nil}
 use Rattle.std.specs.Bool.{then_some}
 use Rattle.std.proofs.lemmas.Bool.{false≢true, and_parts}
 use Rattle.bz_token.specs.Places.{Placed}
 use Rattle.bz_token.specs.Reading.{AreTokensOf}
 use Rattle.bz_tree.specs.declared.stmt.GroupKind.{GroupKind}
 use Rattle.bz_tree.specs.declared.stmt.Class.{Class}
-use Rattle.bz_tree.specs.declared.stmt.Class.TheVariants.{Comment}
+use Rattle.bz_tree.specs.declared.stmt.Class.TheVariants.{Load, Comment}
 use Rattle.bz_tree.specs.declared.stage.Part.TheVariants.{Left}
 use Rattle.bz_tree.specs.declared.stage.Stage.TheVariants.{Wants}
 use Rattle.bz_tree.specs.declared.row.Row.{Row}
+use Rattle.bz_tree.specs.declared.spot.Read.{Read}
 use Rattle.bz_tree.specs.Tree.{Item, Segment, Statement, items_of}
 use Rattle.bz_tree.specs.Kinds.{mark_of}
 use Rattle.bz_tree.specs.Statement.{class_of, first_token, first_seen, statement_with}
@@ -18,11 +19,13 @@ use Rattle.bz_tree.specs.Chunk.{begins_block, indent_at, IsOneOf, IsStatementIn}
 use Rattle.bz_tree.specs.Rows.{RowPart, above, beside_part, IsRowOf}
 use Rattle.bz_tree.specs.private.Machine.{accepts, may_end, is_load, is_nothing, is_statement}
 use Rattle.bz_tree.specs.private.Steps.{new_level, run}
+use Rattle.bz_tree.specs.private.LoadSteps.{is_load_row}
 use Rattle.bz_tree.specs.private.RowSteps.{start, RowState, row_next, RowView, row_view, read_class, is_lost, row_end, row_run, row_start, is_upright, IsUprightRow}
 use Rattle.bz_tree.proofs.Plain.{plain_is}
 use Rattle.bz_tree.proofs.Sound.{none_is_some, some_injective}
 use Rattle.bz_tree.proofs.RowParts.{Place, none, fresh, some, over, Bracket, bracket, read_items, shown, nodes_parts, accepts_read}
 use Rattle.bz_tree.proofs.RowClass.{with_rule, shown_rule, with_rule_accepts, class_is}
+use Rattle.bz_tree.proofs.RowLoad.{load_parts, load_class}
 use Rattle.bz_tree.proofs.RowWalk.{level_of, image, IsGoodAt, IsGood, AreGood, next_leads}
 
 -- the statement's segment that the walk for the tree finds, and the row
@@ -33,6 +36,10 @@ pub record Found (answer : Option Segment) (r : RowView) : Type 0 where
   pub class_is : r.class ≡ class_of segment.nodes
   pub grammar : is_statement (items_of segment.nodes) ≡ true
 
+or_left : (a b : Bool) → a ≡ true → (a || b) ≡ true
+or_left true b h = refl
+or_left false b h = absurd (false≢true h)
+
 or_right : (a b : Bool) → b ≡ true → (a || b) ≡ true
 or_right true b h = refl
 or_right false b h = h
@@ -41,23 +48,44 @@ abbrev row_of : List RowPart → Class → RowView
 row_of ps c = record { parts = ps; class = c }
 
 -- the end of the tokens
-both_ends : (lost ends : Bool) (ps : List RowPart) (c : Class) (r : RowView) → option_map (λ class. row_of ps class) (cond ends (then_some (not lost) c) None) ≡ Some r → (lost ≡ false) × (ends ≡ true) × (row_of ps c ≡ r)
-both_ends false true ps c r h = (refl, refl, some_injective (row_of ps c) r h)
-both_ends true true ps c r h = absurd (none_is_some r h)
-both_ends true false ps c r h = absurd (none_is_some r h)
-both_ends false false ps c r h = absurd (none_is_some r h)
+plain_ends : (lost : Bool) (ps : List RowPart) (c : Class) (r : RowView) → option_map (row_of ps) (then_some (not lost) c) ≡ Some r → (lost ≡ false) × (row_of ps c ≡ r)
+plain_ends false ps c r h = (refl, some_injective (row_of ps c) r h)
+plain_ends true ps c r h = absurd (none_is_some r h)
 
-segment_found : (before : List (List ℕ)) (nodes : List Item) (suffix : Option (List ℕ)) (answer : Option Segment) (r : RowView) → answer ≡ Some (record { before = before; nodes = with_rule nodes; suffix = suffix })
-    → r.parts ≡ map above before ++ (nodes_parts (shown (start None) nodes) ++ beside_part suffix) → read_class (read_items (start None) nodes) ≡ r.class
-    → is_lost (read_items (start None) nodes).naming ≡ false → may_end (read_items (start None) nodes).stage ≡ true → Found answer r
-segment_found before nodes suffix answer r answer_is parts_are class_eq lost ends =
+load_ends : (lost load : Bool) (ps : List RowPart) (c : Class) (r : RowView) → option_map (row_of ps) (then_some (not lost && load) c) ≡ Some r → (lost ≡ false) × (load ≡ true) × (row_of ps c ≡ r)
+load_ends false true ps c r h = (refl, refl, some_injective (row_of ps c) r h)
+load_ends false false ps c r h = absurd (none_is_some r h)
+load_ends true load ps c r h = absurd (none_is_some r h)
+
+-- the parts of the statement's segment, and the class that the walk finds
+abbrev shown_parts : List (List ℕ) → List Item → Option (List ℕ) → List RowPart
+shown_parts before nodes suffix = map above before ++ (nodes_parts (shown (start None) nodes) ++ beside_part suffix)
+
+abbrev class_when : Bool → Read → List RowPart → Option Class
+class_when ends r ps = cond ends (then_some (not (is_lost r.naming)) (read_class r)) (then_some (not (is_lost r.naming) && is_load_row ps) Load)
+
+segment_found : (before : List (List ℕ)) (nodes : List Item) (suffix : Option (List ℕ)) (answer : Option Segment) (ps : List RowPart) (r : RowView) → answer ≡ Some (record { before = before; nodes = with_rule nodes; suffix = suffix })
+    → ps ≡ shown_parts before nodes suffix → (ends : Bool) → may_end (read_items (start None) nodes).stage ≡ ends → option_map (row_of ps) (class_when ends (read_items (start None) nodes) ps) ≡ Some r → Found answer r
+segment_found before nodes suffix answer ps r answer_is ps_are true ends same =
+    let p = plain_ends (is_lost (read_items (start None) nodes).naming) ps _ r same in
     let accepted : accepts (Wants Left false) (items_of nodes) ≡ true = accepts_read nodes (start None) ∙ ends in
     record {
       segment = record { before = before; nodes = with_rule nodes; suffix = suffix };
       answer_is = answer_is;
-      parts_are = parts_are ∙ ap (λ xs. map above before ++ (nodes_parts xs ++ beside_part suffix)) (shown_rule nodes (start None) refl lost);
-      class_is = sym class_eq ∙ class_is nodes (start None) refl refl accepted;
+      parts_are = ap (λ (v : RowView). v.parts) (sym p.1) ∙ (ps_are ∙ ap (λ xs. map above before ++ (nodes_parts xs ++ beside_part suffix)) (shown_rule nodes (start None) refl p.0));
+      class_is = ap (λ (v : RowView). v.class) (sym p.1) ∙ class_is nodes (start None) refl refl accepted;
       grammar = or_right (is_nothing (items_of (with_rule nodes)) || is_load (items_of (with_rule nodes))) _ (with_rule_accepts nodes (Wants Left false) ∙ accepted);
+    }
+segment_found before nodes suffix answer ps r answer_is ps_are false ends same =
+    let p = load_ends (is_lost (read_items (start None) nodes).naming) (is_load_row ps) ps Load r same in
+    let are : ps ≡ map above before ++ (nodes_parts (with_rule nodes) ++ beside_part suffix) = ps_are ∙ ap (λ xs. map above before ++ (nodes_parts xs ++ beside_part suffix)) (shown_rule nodes (start None) refl p.0) in
+    let loads : is_load (items_of (with_rule nodes)) ≡ true = load_parts before (with_rule nodes) suffix (ap is_load_row (sym are) ∙ p.1) in
+    record {
+      segment = record { before = before; nodes = with_rule nodes; suffix = suffix };
+      answer_is = answer_is;
+      parts_are = ap (λ (v : RowView). v.parts) (sym p.2) ∙ are;
+      class_is = ap (λ (v : RowView). v.class) (sym p.2) ∙ sym (load_class (with_rule nodes) loads);
+      grammar = or_left (is_nothing (items_of (with_rule nodes)) || is_load (items_of (with_rule nodes))) _ (or_right (is_nothing (items_of (with_rule nodes))) _ loads);
     }
 
 top_found : (place : Place) (r : RowView) → IsGoodAt None [] place → row_end None [] (image (bracket None [] place) []) ≡ Some r → Found (run (level_of (bracket None [] place)) [] []) r
@@ -72,15 +100,15 @@ top_found (none after) r good same =
     }
 top_found (fresh line) r good same = absurd (false≢true good.1)
 top_found (some before x xs line) r good same =
-    let p = both_ends (is_lost (read_items (start None) (x ∷ xs)).naming) _ _ _ r same in
-    segment_found before (x ∷ xs) None _ r
+    segment_found before (x ∷ xs) None _ _ r
     (ap (λ bs. Some (record { before = bs; nodes = with_rule (x ∷ xs); suffix = None })) (append-nil before))
-    (ap (λ (v : RowView). v.parts) (sym p.2) ∙ ap (λ ps. map above before ++ ps) (sym (append-nil (nodes_parts (shown (start None) (x ∷ xs)))))) (ap (λ (v : RowView). v.class) p.2) p.0 p.1
+    (ap (λ ps. map above before ++ ps) (sym (append-nil (nodes_parts (shown (start None) (x ∷ xs))))))
+    (may_end (read_items (start None) (x ∷ xs)).stage) refl same
 top_found (over before x xs suffix []) r good same =
-    let p = both_ends (is_lost (read_items (start None) (x ∷ xs)).naming) _ _ _ r same in
-    segment_found before (x ∷ xs) suffix _ r
+    segment_found before (x ∷ xs) suffix _ _ r
     (ap (λ bs. Some (record { before = bs; nodes = with_rule (x ∷ xs); suffix = suffix })) (append-nil before))
-    (ap (λ (v : RowView). v.parts) (sym p.2) ∙ ap (λ ps. map above before ++ (nodes_parts (shown (start None) (x ∷ xs)) ++ ps)) (append-nil (beside_part suffix))) (ap (λ (v : RowView). v.class) p.2) p.0 p.1
+    (ap (λ ps. map above before ++ (nodes_parts (shown (start None) (x ∷ xs)) ++ ps)) (append-nil (beside_part suffix)))
+    (may_end (read_items (start None) (x ∷ xs)).stage) refl same
 top_found (over before x xs suffix (text ∷ texts)) r good same = absurd (false≢true good.1)
 
 end_found : (kind : Option GroupKind) (segs : List Segment) (place : Place) (gs : List Bracket) (r : RowView) → IsGoodAt kind segs place → row_run (image (bracket kind segs place) gs) [] ≡ Some r

@@ -17,11 +17,10 @@ use Rattle.bz_tree.specs.Tree.{Item, Segment, segs_of}
 use Rattle.bz_tree.specs.Kinds.{kind_mark, mark_of, kind_after, is_for_at, group_kind, is_one, same_shape}
 use Rattle.bz_tree.specs.Owners.{node, comma, note, no_token, end_of_node, end_of_comma, is_filled, Inside}
 use Rattle.bz_tree.specs.Brackets.{leaf_of, is_for_item, is_paren, group_with, end_line}
-use Rattle.bz_tree.specs.Grammar.{leaf_role}
 use Rattle.bz_tree.specs.Rows.{RowPart, opening, closing, segment_end, above, beside, beside_part, item_parts}
 use Rattle.bz_tree.specs.private.Machine.{next, may_end, begin, each, role_of, group_role}
 use Rattle.bz_tree.specs.private.Steps.{Walked, after_own, noted, to_last, done, has_one, kind_with, shape_of, Level, Levels, with_own, next_at}
-use Rattle.bz_tree.specs.private.RowSteps.{is_ended, called, shown_kind, start, read_group, Stand, with_node, with_here, RowState, step_to, is_stray, is_refused, note_part, after_note_next, last_end, is_single, is_one_comma, close_on, close_below, row_next_at}
+use Rattle.bz_tree.specs.private.RowSteps.{is_ended, called, shown_kind, start, read_group, Stand, with_node, with_here, RowState, step_to, is_refused, note_part, after_note_next, last_end, is_single, is_one_comma, close_on, close_below, row_next_at}
 use Rattle.bz_tree.proofs.Complete.{same_itself}
 use Rattle.bz_tree.proofs.InPlace.{filled_push, filled_last}
 use Rattle.bz_tree.proofs.Sound.{none_is_some, some_injective, same_shape_is}
@@ -173,7 +172,7 @@ node_leads g gs x line read ps step new no_for h read_is parts_are is step_is go
 leaf_leads : (t : Placed) (g : Bracket) (gs : List Bracket) (new : RowState) → row_next_at Plain t (image g gs) ≡ Some new → IsGood g → AreGood gs → Leads (next_at Plain t (level_of g) (map level_of gs)) new
 leaf_leads t g gs new same good goods =
     let p = passed (is_refused t (at_place g.place)) _ new same in
-    let q = neither (is_stray (leaf_role t.kind t.text)) _ p.0 in
+    let q = neither _ _ p.0 in
     let r = neither (is_for_at t.kind t.text) _ q.1 in
     node_leads g gs (leaf_of t) (end_line t) _ _ _ new r.0 r.1 refl refl p.1 refl good goods
 

@@ -1,5 +1,6 @@
 pub mod BlockSteps
 pub mod BorrowedSteps
+pub mod LoadSteps
 pub mod Machine
 pub mod RowSteps
 pub mod Steps

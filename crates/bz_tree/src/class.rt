@@ -1,6 +1,7 @@
 //! What a statement is to the layout and to the commands.
 
 ghost use Rattle.std.specs.Prelude.{◌≡◌, map, IfOk, ◌≤◌, ◌+◌};
+ghost use Rattle.bz_tree.specs.Tree.{leaf};
 ghost use Rattle.bz_tree.specs.View.{text_of, node_view, nodes_view, seg_view};
 ghost use Rattle.bz_tree.specs.Statement.{is_rule, is_dot, is_call, as_rule_call, rule_call, with_rule_call, is_assign_sign, is_assign, has_assign, is_kept, is_load_word, class_of};
 ghost use Rattle.bz_tree.specs.private.Steps.{rule_from};
@@ -122,11 +123,18 @@ fn has_assign(nodes: &[Node<'_>]) -> bool
     false
 }
 
+/// The keyword `load`.
+pub(crate) fn is_load_at(kind: Kind, text: &str) -> bool
+    ensures { result ≡ is_load_word (leaf kind text.now) }
+{
+    kind == Kind::Word && text == "load"
+}
+
 pub(crate) fn is_load_word(node: &Node<'_>) -> bool
     ensures { result ≡ is_load_word (node_view node.now) }
 {
     match node {
-        Node::Token(leaf) => leaf.kind == Kind::Word && leaf.text.as_str() == "load",
+        Node::Token(leaf) => is_load_at(leaf.kind, leaf.text.as_str()),
         Node::Group(_) => false,
     }
 }

@@ -10,6 +10,7 @@ mod fault;
 mod grammar;
 mod kept;
 mod kinds;
+mod load;
 mod owners;
 mod parts;
 mod role;

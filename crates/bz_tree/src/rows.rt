@@ -1,18 +1,19 @@
 //! The row of a chunk's statement: a walk over the tokens that pushes its parts in order.
 
-ghost use Rattle.std.specs.Prelude.{◌≡◌, ◌+◌, ◌<◌, ◌^◌, ◌==◌, ◌++◌, false, map, count_by, IfOk, IfSome, option_map};
+ghost use Rattle.std.specs.Prelude.{◌≡◌, ◌+◌, ◌<◌, ◌^◌, ◌==◌, ◌++◌, ◌&&◌, not, false, map, count_by, IfOk, IfSome, option_map};
 ghost use Rattle.std.specs.Bool.{then_some};
 ghost use Rattle.bz_token.specs.Places.{placed};
-ghost use Rattle.bz_tree.specs.Tree.{Statement};
-ghost use Rattle.bz_tree.specs.Statement.{first_token};
+ghost use Rattle.bz_tree.specs.Tree.{leaf, Statement};
+ghost use Rattle.bz_tree.specs.Statement.{first_token, is_load_word};
 ghost use Rattle.bz_tree.specs.Grammar.{leaf_role};
 ghost use Rattle.bz_tree.specs.Chunk.{IsStatementIn};
 ghost use Rattle.bz_tree.specs.Kinds.{group_kind};
 ghost use Rattle.bz_tree.specs.Rows.{IsRowOf, part_view};
 ghost use Rattle.bz_tree.specs.private.Machine.{may_end};
-ghost use Rattle.bz_tree.specs.private.RowSteps.{here_view, row_state, leaf_next, top_comma_next, comma_next, note_part, after_note_next, note_next, open_next, last_end, close_next, row_next, row_end, row_view, row_run, row_start, is_upright, IsUprightRow};
+ghost use Rattle.bz_tree.specs.private.RowSteps.{here_view, row_state, leaf_next, top_comma_next, comma_next, note_part, after_note_next, note_next, open_next, last_end, close_next, row_next, row_end, row_view, row_run, row_start, is_stray, is_upright, IsUprightRow};
 
 use crate::block::is_block_word;
+use crate::class::is_load_at;
 use crate::kinds::{Mark, Shape, group_kind, is_for_at, is_one, mark_of, same_shape, shape_of};
 use crate::owners::ends_on;
 use crate::role::{Role, sign_role, token_role};
@@ -43,7 +44,7 @@ impl<'a> RowWalk<'a> {
         ensures { IfOk result
             (λ some. then_some some (row_state self.new) ≡ leaf_next (placed token.now) (row_state self.old)) }
     {
-        if matches!(role, Role::Stray) || is_for_at(kind, token.text) || self.top.is_ended() {
+        if is_stray(role, kind, token.text) || is_for_at(kind, token.text) || self.top.is_ended() {
             return Ok(false);
         }
         self.parts.push(Part::Token(kind, token.text))?;
@@ -228,9 +229,17 @@ impl<'a> RowWalk<'a> {
         if top.kind.is_some() || !outer.is_empty() {
             return None;
         }
-        let class = top.class()?;
+        let class = top.class(&parts)?;
         Some(Row { parts, class })
     }
+}
+
+// A token that stands in no row.
+#[inline(always)]
+fn is_stray(role: Role, kind: Kind, text: &str) -> bool
+    ensures { result ≡ (is_stray role && not (is_load_word (leaf kind text.now))) }
+{
+    matches!(role, Role::Stray) && !is_load_at(kind, text)
 }
 
 #[inline(always)]
@@ -282,7 +291,7 @@ fn upright_row<'a>(alloc: Global, tokens: &[Token<'a>]) -> Result<Option<Row<'a>
 }
 
 /// The row of a chunk's statement, with at most so many brackets open at once. None: the chunk is blank, has a fault, or is one
-/// of those that are read by their trees alone: a block, a load, a comprehension, an index, a comment in the middle of a segment
+/// of those that are read by their trees alone: a block, a comprehension, an index, a comment in the middle of a segment
 /// or before its comma.
 pub fn read_row<'a>(
     alloc: Global,

@@ -1,13 +1,17 @@
 //! Where the walk that reads a row stands in a bracket, or at the top.
 
-ghost use Rattle.std.specs.Prelude.{◌≡◌, not};
+ghost use Rattle.std.specs.Prelude.{◌≡◌, not, ◌&&◌, map};
 ghost use Rattle.std.specs.Bool.{then_some};
 ghost use Rattle.bz_tree.specs.Grammar.{leaf_role};
+ghost use Rattle.bz_tree.specs.Rows.{part_view};
+ghost use Rattle.bz_tree.specs.private.LoadSteps.{is_load_row};
 ghost use Rattle.bz_tree.specs.private.RowSteps.{here_view, is_ended, named, called, shown_kind, start, read_leaf, read_group, one_more, new_stand, stand, with_comma, is_lost, read_class, end_class, is_one_comma};
 
 use crate::class::{is_call, is_dot_at};
 use crate::kinds::{Preceding, kind_after};
+use crate::load::is_load_row;
 use crate::role::Role;
+use crate::row::Part as RowPart;
 use crate::stage::{Part, Stage, begin, group_role, may_end, next};
 use crate::stmt::{Class, GroupKind};
 use bz_token::Kind;
@@ -162,6 +166,17 @@ impl Read {
             _ => Some(Class::Other),
         }
     }
+
+    // The class of a statement that is a load, or nothing.
+    fn load_class(&self, parts: &[RowPart<'_>]) -> Option<Class>
+        ensures { result
+            ≡ then_some (not (is_lost self.now.naming) && is_load_row (map part_view parts.now)) Class.Load }
+    {
+        if matches!(self.naming, Naming::Lost) || !is_load_row(parts) {
+            return None;
+        }
+        Some(Class::Load)
+    }
 }
 
 impl<'a> Spot<'a> {
@@ -193,14 +208,14 @@ impl<'a> Spot<'a> {
         self.read = start(self.kind);
     }
 
-    // The class of a statement that ends here. None: it is left to its tree.
-    pub(crate) fn class(&self) -> Option<Class>
-        ensures { result ≡ end_class (here_view self.now.here) self.now.read }
+    // The class of a statement of these parts that ends here. None: it is left to its tree.
+    pub(crate) fn class(&self, parts: &[RowPart<'_>]) -> Option<Class>
+        ensures { result ≡ end_class (here_view self.now.here) self.now.read (map part_view parts.now) }
     {
         match self.here {
             Here::Nothing => Some(Class::Comment),
             _ if may_end(self.read.stage) => self.read.class(),
-            _ => None,
+            _ => self.read.load_class(parts),
         }
     }
 

@@ -304,13 +304,12 @@ pub(crate) fn next(stage: Stage, role: Role) -> Stage
     }
 }
 
-/// The stage in which a segment of a group begins.
+/// The stage in which a segment of a group begins. What else a load's segments are, `is_load` says.
 pub(crate) fn begin(kind: GroupKind) -> Stage
     ensures { result ≡ begin kind }
 {
     match kind {
-        GroupKind::Call | GroupKind::RuleCall => Stage::Argument,
-        GroupKind::Load => Stage::Refused,
+        GroupKind::Call | GroupKind::RuleCall | GroupKind::Load => Stage::Argument,
         GroupKind::Paren | GroupKind::List => Stage::Wants(Part::Alone, false),
         GroupKind::Index => Stage::Begins(Part::From),
         GroupKind::Dict => Stage::Wants(Part::Key, false),

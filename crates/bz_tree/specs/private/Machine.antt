@@ -159,11 +159,11 @@ next (Begins part) r = next_begun part r
 next Argument r = next_argument r
 next Keyword r = next_keyword r
 
--- the stage in which a segment of a group begins
+-- the stage in which a segment of a group begins; what else a load's segments are, `is_load` says
 abbrev pub begin : GroupKind → Stage
 begin Call = Argument
 begin RuleCall = Argument
-begin Load = Refused
+begin Load = Argument
 begin Paren = Wants Alone false
 begin ListKind = Wants Alone false
 begin Index = Begins From

@@ -6,7 +6,7 @@ use Rattle.bz_token.specs.Places.{Placed}
 use Rattle.bz_tree.specs.declared.stmt.GroupKind.{GroupKind}
 use Rattle.bz_tree.specs.declared.stmt.GroupKind.TheVariants.{RuleCall}
 use Rattle.bz_tree.specs.declared.stmt.Class.{Class}
-use Rattle.bz_tree.specs.declared.stmt.Class.TheVariants.{Assign, Rule, Comment as CommentClass, Other as OtherClass}
+use Rattle.bz_tree.specs.declared.stmt.Class.TheVariants.{Assign, Rule, Load as LoadClass, Comment as CommentClass, Other as OtherClass}
 use Rattle.bz_tree.specs.declared.kinds.Shape.{Shape}
 use Rattle.bz_tree.specs.declared.kinds.Mark.{Mark}
 use Rattle.bz_tree.specs.declared.kinds.Mark.TheVariants.{Open, Close, Comma, Comment, NewLine, Plain}
@@ -29,12 +29,13 @@ use Rattle.bz_tree.specs.Kinds.{mark_of, kind_after, is_for_at, group_kind, is_o
 use Rattle.bz_tree.specs.Brackets.{is_paren, end_line}
 use Rattle.bz_tree.specs.Blocks.{is_block_word}
 use Rattle.bz_tree.specs.Chunk.{IsReadAs}
-use Rattle.bz_tree.specs.Tree.{Statement}
+use Rattle.bz_tree.specs.Tree.{leaf, Statement}
 use Rattle.bz_tree.specs.Grammar.{leaf_role, is_assignment}
-use Rattle.bz_tree.specs.Statement.{is_ident, is_dot, is_call}
+use Rattle.bz_tree.specs.Statement.{is_ident, is_dot, is_call, is_load_word}
 use Rattle.bz_tree.specs.Rows.{RowPart, a_token, opening, closing, segment_end, above, beside, part_view, IsRowOf}
 use Rattle.bz_tree.specs.private.Machine.{next, begin, may_end, group_role}
 use Rattle.bz_tree.specs.private.Steps.{shape_of}
+use Rattle.bz_tree.specs.private.LoadSteps.{is_load_row}
 
 -- Where the walk stands in a bracket: no node of a segment has come, and no comma directly before; directly after a comma on this
 -- line; directly after a node that ends on this line; after the end of the last segment.
@@ -136,7 +137,7 @@ is_stray Stray = true
 is_stray _ = false
 
 abbrev pub is_refused : Placed → At → Bool
-is_refused t here = is_stray (leaf_role t.kind t.text) || (is_for_at t.kind t.text || is_ended here)
+is_refused t here = (is_stray (leaf_role t.kind t.text) && not (is_load_word (leaf t.kind t.text))) || (is_for_at t.kind t.text || is_ended here)
 
 -- Each of the following is none where the statement is left to its tree.
 abbrev pub leaf_next : Placed → RowState → Option RowState
@@ -250,12 +251,14 @@ abbrev pub read_class : Read → Class
 read_class r = if r.assigns then Assign else (if is_rule_read r.naming then Rule else OtherClass)
 
 -- the class of a statement that ends here; none: it is left to its tree
-abbrev pub end_class : At → Read → Option Class
-end_class nothing r = Some CommentClass
-end_class _ r = if may_end r.stage then then_some (not (is_lost r.naming)) (read_class r) else None
+abbrev pub end_class : At → Read → List RowPart → Option Class
+end_class nothing r parts = Some CommentClass
+end_class _ r parts =
+    if may_end r.stage then then_some (not (is_lost r.naming)) (read_class r)
+    else then_some (not (is_lost r.naming) && is_load_row parts) LoadClass
 
 abbrev pub row_end : Option GroupKind → List Stand → RowState → Option RowView
-row_end None [] s = option_map (λ class. record { parts = s.parts; class = class }) (end_class s.top.here s.top.read)
+row_end None [] s = option_map (λ class. record { parts = s.parts; class = class }) (end_class s.top.here s.top.read s.parts)
 row_end _ outer s = None
 
 abbrev pub row_run : RowState → List Placed → Option RowView
