@@ -10,7 +10,7 @@ use crate::stmt::{Group, Node, Seg, Stmt};
 use std::alloc::AllocError;
 use std::borrow::CowStr;
 
-/// Appends the parts of a statement.
+/// Appends the parts of a statement. `Err`: memory was refused, and some of them may have been appended.
 pub fn push_parts<'s>(stmt: &'s Stmt<'_>, parts: &mut Vec<Part<'s>>) -> Result<(), AllocError>
     ensures { OnOk result (map part_view parts.new.items ≡ map part_view parts.old.items ++ parts_of (view stmt.now)) }
 {
@@ -64,7 +64,7 @@ fn push_group<'s>(group: &'s Group<'_>, parts: &mut Vec<Part<'s>>) -> Result<(),
     Ok(())
 }
 
-/// Appends the parts of nodes.
+/// Appends the parts of nodes. `Err`: memory was refused, and some of them may have been appended.
 #[cycle(parts)]
 pub fn push_nodes<'s>(nodes: &'s [Node<'_>], parts: &mut Vec<Part<'s>>) -> Result<(), AllocError>
     ensures { OnOk result

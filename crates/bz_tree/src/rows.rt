@@ -290,9 +290,10 @@ fn upright_row<'a>(alloc: Global, tokens: &[Token<'a>]) -> Result<Option<Row<'a>
     row_of(alloc, tokens)
 }
 
-/// The row of a chunk's statement, with at most so many brackets open at once. None: the chunk is blank, has a fault, or is one
-/// of those that are read by their trees alone: a block, a comprehension, an index, a comment in the middle of a segment
-/// or before its comma.
+/// The row of a chunk's statement, whose first line has this number, with at most so many brackets open at once. None:
+/// the chunk is blank, has a fault, or is one of those that `parse` alone reads: a block, a comprehension, an index,
+/// more after what would be a rule, a comment in the middle of a segment or before its comma. `Err`: memory was
+/// refused.
 pub fn read_row<'a>(
     alloc: Global,
     text: &'a str,
