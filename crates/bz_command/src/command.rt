@@ -72,9 +72,15 @@ pub enum Action {
 }
 
 /// A command on one rule. [`read_command`](crate::read_command) makes it.
-#[derive(Drop)]
 pub struct Command {
     pub action: Action,
+}
+
+// Written out, so that crates above need no proof of how each action is dropped.
+impl Drop for Command {
+    fn drop(self) {
+        let Command { action: _ } = self;
+    }
 }
 
 impl Model for Command {
