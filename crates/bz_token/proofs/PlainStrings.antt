@@ -11,7 +11,7 @@ use Rattle.bz_token.specs.private.Scans.{is_plain}
 use Rattle.bz_token.specs.declared.scan_string.Quotes.{Quotes}
 use Rattle.bz_token.specs.declared.scan_string.Escape.TheVariants.{Unescaped, AfterBackslash}
 
-quote_no_newline : (q : ℕ) → is_quote q ≡ true → (q == 10) ≡ false
+pub quote_no_newline : (q : ℕ) → is_quote q ≡ true → (q == 10) ≡ false
 quote_no_newline q h = grind (arith, nat_tests)
 
 abbrev short : ℕ → Quotes
