@@ -20,6 +20,7 @@ use Rattle.bz_token.specs.declared.brackets.Misfit.{Misfit}
 use Rattle.bz_token.specs.declared.brackets.Misfit.TheVariants.{TooDeep, NoMatch}
 use Rattle.bz_token.specs.Faults.{IsFault, IsFaultAt, IsOpenBracket, IsBadCharacter, IsBadNumber, IsOpenText, IsBadBackslash, IsBadBracket, IsTooDeep}
 use Rattle.bz_token.specs.private.Scans.{IsBadPlace, bad_fault, IsMisfit, misfit_fault, IsLeftOpen}
+use Rattle.bz_token.specs.private.Steps.{IsRefused}
 use Rattle.bz_token.proofs.Innermost.{step}
 use Rattle.bz_token.proofs.Scanning.{boundary_after}
 
@@ -380,6 +381,18 @@ misfit_at first depth bytes tokens opened last gap after line col TooDeep b some
     fault_at first depth bytes tokens opened last gap after line col (IsTooDeep depth) b (record { bracket = begins_at is_opening_bracket after some is.0; deep = is.1 })
 misfit_at first depth bytes tokens opened last gap after line col NoMatch b some is =
     fault_at first depth bytes tokens opened last gap after line col IsBadBracket b (begins_at (λ x. is_closing_bracket x && not (closes_innermost opened x)) after some (both _ _ is.0 is.1))
+
+-- where no token stands, or one whose first byte is a bracket that does not fit
+pub refused_at : (first depth : ℕ) (bytes : List ℕ) (tokens : List Placed) (opened : List ℕ) (last : Option ℕ) (rest here : List ℕ) (line col : ℕ) (fault : LexFault) → Progress first depth bytes tokens opened last rest line col → here ≡ rest → 0 < length here
+    → IsRefused depth opened here line col fault → IsFault first depth bytes fault
+refused_at first depth bytes tokens opened last rest here line col fault p same some is =
+    let some_left : 0 < length rest = omega (arith, some, ap length same) in
+    let refused : IsRefused depth opened rest line col fault = subst (λ xs. IsRefused depth opened xs line col fault) same is in
+    let b = after_gap first depth bytes tokens opened last rest line col p refused.0 in
+    elim refused.1 [
+      | inl bad ↦ subst (IsFault first depth bytes) (sym bad.2) (bad_at first depth bytes tokens opened last p.gap rest line col bad.0 b bad.1)
+      | inr misfit ↦ subst (IsFault first depth bytes) (sym misfit.2) (misfit_at first depth bytes tokens opened last p.gap rest line col misfit.0 b some_left misfit.1)
+    ]
 
 pub left_open : (first depth : ℕ) (bytes : List ℕ) (tokens : List Placed) (opened : List ℕ) (last : Option ℕ) (gap after : List ℕ) (line col : ℕ) (fault : LexFault) → AfterGap first depth bytes tokens opened last gap after line col → after ≡ [] → IsLeftOpen tokens fault
     → IsFault first depth bytes fault

@@ -6,10 +6,11 @@ use Rattle.std.proofs.lemmas.List.{length-take-le}
 use Rattle.std.proofs.lemmas.List.Sums.{prefix_len-le-length}
 use Rattle.std.proofs.lemmas.Bool.{false≢true}
 use Rattle.bz_token.specs.declared.gap.Gap.{Gap}
+use Rattle.bz_token.specs.Brackets.{is_inside}
 use Rattle.bz_token.specs.Lexical.{begins, is_blank}
 use Rattle.bz_token.specs.Reading.{is_gap, begins_gap}
 use Rattle.bz_token.specs.private.Scans.{IsScanned, IsBadPlace}
-use Rattle.bz_token.specs.private.Steps.{IsGapHere, IsStep, IsTokenStep, IsBadStep}
+use Rattle.bz_token.specs.private.Steps.{IsTaken, IsGapHere, IsStep, IsTokenStep, IsBadStep}
 use Rattle.bz_token.specs.declared.scan_token.Bad.{Bad}
 use Rattle.bz_token.specs.declared.scan_token.Scanned.{Scanned}
 use Rattle.bz_token.specs.declared.scan_token.Step.{Step}
@@ -113,15 +114,13 @@ newline_gap inside [] outside some first = absurd (omega arith)
 newline_gap inside (b ∷ bs) outside some first = rw (outside, first) refl
 
 -- what a step is, of the text itself
-pub gap_of_step : (inside is_in : Bool) (bytes rest : List ℕ) (s : Step) (gap : Gap) → is_in ≡ inside → bytes ≡ rest → s ≡ step.Gap gap → IsStep is_in bytes s → IsGapHere inside rest gap
-gap_of_step inside is_in bytes rest s gap same_in same_bytes same is = subst (λ i. IsGapHere i rest gap) same_in (subst (λ xs. IsGapHere is_in xs gap) same_bytes (subst (λ x. IsStep is_in bytes x) same is))
+pub gap_of_step : (depth : ℕ) (opened after bytes rest : List ℕ) (s : Step) (gap : Gap) → bytes ≡ rest → s ≡ step.Gap gap → IsTaken depth opened after bytes s → IsGapHere (is_inside opened) rest gap × (after ≡ opened)
+gap_of_step depth opened after bytes rest s gap same_bytes same is =
+    subst (λ xs. IsGapHere (is_inside opened) xs gap × (after ≡ opened)) same_bytes (subst (IsTaken depth opened after bytes) same is)
 
-pub token_of_step : (inside is_in : Bool) (bytes rest : List ℕ) (s : Step) (t : Scanned) → is_in ≡ inside → bytes ≡ rest → s ≡ step.Token t → IsStep is_in bytes s → (begins_gap inside rest ≡ false) × IsScanned rest t
-token_of_step inside is_in bytes rest s t same_in same_bytes same is =
-    subst (λ i. (begins_gap i rest ≡ false) × IsScanned rest t) same_in (subst (λ xs. (begins_gap is_in xs ≡ false) × IsScanned xs t) same_bytes (subst (λ x. IsStep is_in bytes x) same is))
-
-pub bad_of_step : (inside is_in : Bool) (bytes rest : List ℕ) (bad : Bad) → is_in ≡ inside → bytes ≡ rest → IsBadStep is_in bytes bad → IsBadStep inside rest bad
-bad_of_step inside is_in bytes rest bad same_in same_bytes is = subst (λ i. IsBadStep i rest bad) same_in (subst (λ xs. IsBadStep is_in xs bad) same_bytes is)
+pub token_of_step : (depth : ℕ) (opened after bytes rest : List ℕ) (s : Step) (t : Scanned) → bytes ≡ rest → s ≡ step.Token t → IsTaken depth opened after bytes s → IsTaken depth opened after rest (step.Token t)
+token_of_step depth opened after bytes rest s t same_bytes same is =
+    subst (λ xs. IsTaken depth opened after xs (step.Token t)) same_bytes (subst (IsTaken depth opened after bytes) same is)
 
 pub end_gap : (inside : Bool) (xs : List ℕ) → xs ≡ [] → begins_gap inside xs ≡ false
 end_gap inside xs none = rw none refl

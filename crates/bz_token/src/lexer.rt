@@ -8,7 +8,8 @@ ghost use Rattle.bz_token.specs.Brackets.{open_tokens};
 ghost use Rattle.bz_token.specs.Reading.{AreTokensOf};
 ghost use Rattle.bz_token.specs.Faults.{IsFault};
 ghost use Rattle.bz_token.specs.Lexical.{is_newline};
-ghost use Rattle.bz_token.specs.private.Scans.{bad_fault, misfit_fault, IsLeftOpen};
+ghost use Rattle.bz_token.specs.private.Scans.{opened, bad_fault, misfit_fault, IsLeftOpen};
+ghost use Rattle.bz_token.specs.private.Steps.{IsTaken, IsRefused};
 
 use crate::brackets::{Brackets, Misfit, innermost};
 use crate::fault::LexFault;
@@ -68,6 +69,23 @@ fn misfit_fault(misfit: Misfit, place: Place) -> LexFault
     }
 }
 
+// What stands here; the first byte of a token is taken among the open brackets.
+#[inline(always)]
+fn read_step(brackets: &mut Brackets, bytes: &[u8], max_depth: u8, place: Place) -> Result<Step, LexFault>
+    requires { 0 < length bytes.now }
+    ensures step { IfOk result (IsTaken max_depth (opened brackets.old) (opened brackets.new) bytes.now) }
+    ensures fault { IfErr result (IsRefused max_depth (opened brackets.old) bytes.now place.line place.col) }
+{
+    match step_at(brackets.is_inside(), bytes) {
+        Ok(Step::Gap(gap)) => Ok(Step::Gap(gap)),
+        Ok(Step::Token(scanned)) => match brackets.take(bytes[0], max_depth) {
+            Ok(()) => Ok(Step::Token(scanned)),
+            Err(misfit) => Err(misfit_fault(misfit, place)),
+        },
+        Err(bad) => Err(bad_fault(bad, place)),
+    }
+}
+
 // Room for the tokens of a statement of so many bytes; the list of a long text grows.
 #[inline(always)]
 fn first_capacity(len: usize) -> usize {
@@ -105,9 +123,9 @@ pub fn tokens<'a>(
     let mut rest = text;
     while !rest.is_empty() {
         let bytes = rest.as_bytes();
-        let step = match step_at(brackets.is_inside(), bytes) {
+        let step = match read_step(&mut brackets, bytes, max_depth, place) {
             Ok(step) => step,
-            Err(bad) => return Err(bad_fault(bad, place)),
+            Err(fault) => return Err(fault),
         };
         match step {
             Step::Gap(gap) => {
@@ -115,10 +133,6 @@ pub fn tokens<'a>(
                 rest = rest.split_at(gap.len).1;
             }
             Step::Token(scanned) => {
-                match brackets.take(bytes[0], max_depth) {
-                    Ok(()) => {}
-                    Err(misfit) => return Err(misfit_fault(misfit, place)),
-                }
                 let Place { line, col } = place;
                 let (token, following) = rest.split_at(scanned.len);
                 out.push(Token {

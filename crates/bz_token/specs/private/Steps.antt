@@ -1,12 +1,15 @@
 -- For private clauses: what stands at a place, a token or the white space before it.
-use Rattle.std.specs.Prelude.{◌≡◌, ◌≤◌, ◌<◌, ◌+◌, ◌-◌, ◌++◌, ◌==◌, ℕ, List, Bool, false, length, take, slice_index, count_by, if◌then◌else◌}
+use Rattle.std.specs.Prelude.{◌≡◌, ◌⊎◌, ◌≤◌, ◌<◌, ◌+◌, ◌-◌, ◌++◌, ◌==◌, ℕ, List, Bool, true, false, length, take, slice_index, count_by, if◌then◌else◌}
 use Rattle.bz_token.specs.declared.gap.Gap.{Gap}
+use Rattle.bz_token.specs.declared.brackets.Misfit.{Misfit}
+use Rattle.bz_token.specs.declared.fault.LexFault.{LexFault}
 use Rattle.bz_token.specs.declared.scan_token.Bad.{Bad}
 use Rattle.bz_token.specs.declared.scan_token.Step.{Step}
 use Rattle.bz_token.specs.declared.scan_token.Step.TheVariants as step
+use Rattle.bz_token.specs.Brackets.{is_inside, bracket_fits, open_after_byte}
 use Rattle.bz_token.specs.Places.{column_from}
 use Rattle.bz_token.specs.Reading.{is_gap, begins_gap}
-use Rattle.bz_token.specs.private.Scans.{IsScanned, IsBadPlace}
+use Rattle.bz_token.specs.private.Scans.{IsScanned, IsBadPlace, bad_fault, IsMisfit, misfit_fault}
 
 -- These bytes are white space or a continued line, with at most one newline, and so many of them stand after it.
 pub record IsGapHere (inside : Bool) (bytes : List ℕ) (gap : Gap) : Type 0 where
@@ -30,3 +33,17 @@ IsTokenStep bytes (step.Token s) = IsScanned bytes s
 -- no token stands here, and no gap
 abbrev pub IsBadStep : Bool → List ℕ → Bad → Type 0
 IsBadStep inside bytes bad = (begins_gap inside bytes ≡ false) × IsBadPlace bytes bad
+
+-- what stands here, and the brackets that are open after its first byte, where it is a token
+abbrev pub IsTaken : ℕ → List ℕ → List ℕ → List ℕ → Step → Type 0
+IsTaken depth opened after bytes (step.Gap gap) = IsGapHere (is_inside opened) bytes gap × (after ≡ opened)
+IsTaken depth opened after bytes (step.Token s) =
+    (begins_gap (is_inside opened) bytes ≡ false) × IsScanned bytes s × (bracket_fits depth opened (slice_index bytes 0) ≡ true)
+    × (after ≡ open_after_byte opened (slice_index bytes 0))
+
+-- the fault where no token stands here, or where its first byte is a bracket that does not fit
+abbrev pub IsRefused : ℕ → List ℕ → List ℕ → ℕ → ℕ → LexFault → Type 0
+IsRefused depth opened bytes line col fault =
+    (begins_gap (is_inside opened) bytes ≡ false)
+    × (((bad : Bad) × IsBadPlace bytes bad × (fault ≡ bad_fault bad line col))
+    ⊎ ((misfit : Misfit) × IsMisfit depth opened (slice_index bytes 0) misfit × (fault ≡ misfit_fault misfit line col)))

@@ -4,8 +4,8 @@ use Rattle.std.proofs.lemmas.Str.{IsUtf8-drop}
 use Rattle.bz_token.specs.Places.{placed}
 use Rattle.bz_token.specs.Reading.{AreTokensOf}
 use Rattle.bz_token.specs.private.Scans.{opened}
-use Rattle.bz_token.proofs.Steps.{gap_of_step, token_of_step, bad_of_step, end_gap}
-use Rattle.bz_token.proofs.Progress.{places_fit, read_start, read_gap, after_gap, after_token, newlines_split, bad_at, misfit_at, left_open, if_ok, if_err, all_read, none_opened, outside, gap_boundary, empty_from_test, same_as}
+use Rattle.bz_token.proofs.Steps.{gap_of_step, token_of_step, end_gap}
+use Rattle.bz_token.proofs.Progress.{places_fit, read_start, read_gap, after_gap, after_token, newlines_split, refused_at, left_open, if_ok, if_err, all_read, none_opened, outside, gap_boundary, empty_from_test, same_as}
 use Rattle.bz_token.proofs.Innermost.{map_push}
 use Rattle.bz_token.proofs.Fitting.{token_fits}
 use Rattle.bz_token.proofs.lexer.tokens.Goals as goal
@@ -16,19 +16,18 @@ loop-rest-init c =
 
 pub returns-in-Err-clause-fault : goal.returns-in-Err-clause-fault
 returns-in-Err-clause-fault c =
-    let bad = bad_of_step _ _ _ _ c.in-Err.bad c.is_inside.ensures c.as_bytes-bytes.ensures.value c.in-Err.ensures.bad in
-    rw c.bad_fault.ensures (bad_at _ _ _ _ _ _ _ _ _ _ c.in-Err.bad (after_gap _ _ _ _ _ _ _ _ _ c.loop-rest.invariant bad.0) bad.1)
+    refused_at _ _ _ _ _ _ _ _ _ _ c.in-Err.fault c.loop-rest.invariant c.as_bytes-bytes.ensures.value (search rules) c.in-Err.ensures.fault
 
 pub after_gap-place-requires-clause-line_fits : goal.after_gap-place-requires-clause-line_fits
 after_gap-place-requires-clause-line_fits c =
-    let gap = gap_of_step _ _ _ _ _ c.in-Gap.gap c.is_inside.ensures c.as_bytes-bytes.ensures.value c.in-Gap.is c.in-Ok.ensures.step in
+    let gap = (gap_of_step _ _ _ _ _ _ c.in-Gap.gap c.as_bytes-bytes.ensures.value c.in-Gap.is c.in-Ok.ensures.step).0 in
     let fits = places_fit _ _ _ _ _ _ _ _ _ c.loop-rest.invariant in
     let parts = newlines_split c.loop-rest.rest.now _ _ c.in-Gap.gap.len refl refl in
     omega (arith, fits.0, parts.0, gap.lines, c.requires)
 
 pub after_gap-place-requires-clause-col_fits : goal.after_gap-place-requires-clause-col_fits
 after_gap-place-requires-clause-col_fits c =
-    let gap = gap_of_step _ _ _ _ _ c.in-Gap.gap c.is_inside.ensures c.as_bytes-bytes.ensures.value c.in-Gap.is c.in-Ok.ensures.step in
+    let gap = (gap_of_step _ _ _ _ _ _ c.in-Gap.gap c.as_bytes-bytes.ensures.value c.in-Gap.is c.in-Ok.ensures.step).0 in
     let fits = places_fit _ _ _ _ _ _ _ _ _ c.loop-rest.invariant in
     omega (arith, fits.1, gap.within, gap.on_line)
 
@@ -37,24 +36,18 @@ after_gap-place-requires-clause-col_counts c = (places_fit _ _ _ _ _ _ _ _ _ c.l
 
 pub split_at-requires : goal.split_at-requires
 split_at-requires c =
-    let gap = gap_of_step _ _ _ _ _ c.in-Gap.gap c.is_inside.ensures c.as_bytes-bytes.ensures.value c.in-Gap.is c.in-Ok.ensures.step in
+    let gap = (gap_of_step _ _ _ _ _ _ c.in-Gap.gap c.as_bytes-bytes.ensures.value c.in-Gap.is c.in-Ok.ensures.step).0 in
     gap_boundary c.loop-rest.rest.now c.in-Gap.gap.len c.loop-rest.invariant.utf8 gap.within (λ some. gap.ascii)
 
 pub loop-rest-preserved-in-Gap : goal.loop-rest-preserved-in-Gap
 loop-rest-preserved-in-Gap c =
-    let gap = gap_of_step _ _ _ _ _ c.in-Gap.gap c.is_inside.ensures c.as_bytes-bytes.ensures.value c.in-Gap.is c.in-Ok.ensures.step in
+    let taken = gap_of_step _ _ _ _ _ _ c.in-Gap.gap c.as_bytes-bytes.ensures.value c.in-Gap.is c.in-Ok.ensures.step in
+    let gap = taken.0 in
     let place = c.loop-rest.place in
-    read_gap _ _ _ _ _ _ c.loop-rest.rest.now c.split_at.result.1.now place.line place.col _ _ c.in-Gap.gap.len c.loop-rest.invariant gap.goes_on
+    rw taken.1
+    (read_gap _ _ _ _ _ _ c.loop-rest.rest.now c.split_at.result.1.now place.line place.col _ _ c.in-Gap.gap.len c.loop-rest.invariant gap.goes_on
     (gap_boundary c.loop-rest.rest.now c.in-Gap.gap.len c.loop-rest.invariant.utf8 gap.within (λ some. gap.ascii)) c.split_at.ensures.back
-    (omega (arith, c.after_gap-place.ensures.line, gap.lines)) (c.after_gap-place.ensures.col ∙ sym (gap.column place.col))
-
-pub returns-in-Err-take-clause-fault : goal.returns-in-Err-take-clause-fault
-returns-in-Err-take-clause-fault c =
-    let value = c.as_bytes-bytes.ensures.value in
-    let found = token_of_step _ _ _ _ _ c.in-Token.scanned c.is_inside.ensures value c.in-Token.is c.in-Ok.ensures.step in
-    let some : 0 < length c.loop-rest.rest.now = omega (arith, found.1.some, found.1.within) in
-    let misfit = rw value at c.in-Err-take.ensures.misfit in
-    rw c.misfit_fault.ensures (misfit_at _ _ _ _ _ _ _ _ _ _ c.in-Err-take.misfit (after_gap _ _ _ _ _ _ _ _ _ c.loop-rest.invariant found.0) some misfit)
+    (omega (arith, c.after_gap-place.ensures.line, gap.lines)) (c.after_gap-place.ensures.col ∙ sym (gap.column place.col)))
 
 pub pass-place-requires-clause-line_fits : goal.pass-place-requires-clause-line_fits
 pass-place-requires-clause-line_fits c =
@@ -73,23 +66,22 @@ pass-place-requires-clause-col_counts c = (places_fit _ _ _ _ _ _ _ _ _ c.loop-r
 
 pub loop-rest-preserved : goal.loop-rest-preserved
 loop-rest-preserved c =
-    let value = c.as_bytes-bytes.ensures.value in
-    let found = token_of_step _ _ _ _ _ c.in-Token.scanned c.is_inside.ensures value c.in-Token.is c.in-Ok.ensures.step in
+    let found = token_of_step _ _ _ _ _ _ c.in-Token.scanned c.as_bytes-bytes.ensures.value c.in-Token.is c.in-Ok.ensures.step in
     let b = after_gap _ _ _ _ _ _ _ _ _ c.loop-rest.invariant found.0 in
     let here = c.loop-rest.rest.now in
     let cut = c.split_at-in-Token.ensures in
     let token = c.split_at-in-Token.result.0.now in
     let following = c.split_at-in-Token.result.1.now in
     let split : c.loop-rest.rest.now ≡ token ++ following = rw (cut.front, cut.back, take-append-drop) refl in
-    let fit = rw value at c.in-Ok-take.ensures.fits in
-    let opens = rw value at c.in-Ok-take.ensures.opened in
+    let fit = found.2 in
+    let opens = found.3 in
     let whole = rw (← cut.front) at found.1.token.whole in
     let fitting = token_fits c.args.max_depth c.in-Token.scanned.kind (opened c.loop-rest.brackets) here token following c.in-Token.scanned.len found.1.some found.1.within cut.front split whole found.0 fit in
     let pushed = chosen _ _ _ _ c.push.ensures.items (ap is_ok c.in_ok-push-in-Token.was) in
     let utf8 = IsUtf8-drop here c.in-Token.scanned.len b.utf8 (found.1.boundary b.utf8) in
     let fresh = c.is_fresh.ensures in
     rw (ap (map placed) pushed ∙ map_push c.loop-rest.out.items _)
-    (after_token c.args.first_line c.args.max_depth c.args.text.now _ (opened c.loop-rest.brackets) (opened c.take.new.self) c.loop-rest.last_line c.loop-rest.invariant.gap here token following c.in-Token.scanned.kind
+    (after_token c.args.first_line c.args.max_depth c.args.text.now _ (opened c.loop-rest.brackets) (opened c.read_step.new.brackets) c.loop-rest.last_line c.loop-rest.invariant.gap here token following c.in-Token.scanned.kind
     _ _ c.pass-place.result.line c.pass-place.result.col c.is_fresh.result b split (rw (← cut.front, ← cut.back) at found.1.token) fitting.0 (opens ∙ fitting.1) (fresh ∙ ap not (same_as c.loop-rest.last_line c.loop-rest.place.line)) (rw (← cut.back) at utf8)
     (rw c.as_bytes.ensures.value at c.pass-place.ensures.line)
     (rw c.as_bytes.ensures.value at c.pass-place.ensures.col))
