@@ -9,7 +9,7 @@ use Rattle.bz_token.specs.declared.gap.Gap.{Gap}
 use Rattle.bz_token.specs.Brackets.{is_inside}
 use Rattle.bz_token.specs.Lexical.{begins, is_blank}
 use Rattle.bz_token.specs.Reading.{is_gap, begins_gap}
-use Rattle.bz_token.specs.private.Scans.{IsScanned, IsBadPlace}
+use Rattle.bz_token.specs.private.Scans.{IsBadPlace}
 use Rattle.bz_token.specs.private.Steps.{IsTaken, IsGapHere, IsStep, IsTokenStep, IsBadStep}
 use Rattle.bz_token.specs.declared.scan_token.Bad.{Bad}
 use Rattle.bz_token.specs.declared.scan_token.Scanned.{Scanned}

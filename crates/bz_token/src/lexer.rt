@@ -71,7 +71,12 @@ fn misfit_fault(misfit: Misfit, place: Place) -> LexFault
 
 // What stands here; the first byte of a token is taken among the open brackets.
 #[inline(always)]
-fn read_step(brackets: &mut Brackets, bytes: &[u8], max_depth: u8, place: Place) -> Result<Step, LexFault>
+fn read_step(
+    brackets: &mut Brackets,
+    bytes: &[u8],
+    max_depth: u8,
+    place: Place,
+) -> Result<Step, LexFault>
     requires { 0 < length bytes.now }
     ensures step { IfOk result (IsTaken max_depth (opened brackets.old) (opened brackets.new) bytes.now) }
     ensures fault { IfErr result (IsRefused max_depth (opened brackets.old) bytes.now place.line place.col) }

@@ -1,4 +1,4 @@
-use Rattle.std.proofs.Common.{rules, ◌≡◌, ◌<◌, ◌++◌, length, map, is_ok, sym, refl, ap, subst, ◌∙◌, arith, take-append-drop, not, []}
+use Rattle.std.proofs.Common.{rules, ◌≡◌, ◌++◌, map, is_ok, sym, refl, ap, subst, ◌∙◌, arith, take-append-drop, not, []}
 use Rattle.std.proofs.ResultArms.{chosen}
 use Rattle.std.proofs.lemmas.Str.{IsUtf8-drop}
 use Rattle.bz_token.specs.Places.{placed}

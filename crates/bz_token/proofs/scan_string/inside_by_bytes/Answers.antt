@@ -1,10 +1,8 @@
-use Rattle.std.proofs.Common.{◌≡◌, ◌==◌, ◌||◌, ◌∷◌, ◌++◌, ◌+◌, ◌<◌, ℕ, List, [], take, get_or, true, false, not, sym, ◌∙◌, arith, rules}
+use Rattle.std.proofs.Common.{◌≡◌, ◌==◌, ◌||◌, ◌∷◌, ◌+◌, ℕ, List, [], get_or, true, false, not, sym, ◌∙◌, arith, rules}
 use Rattle.std.proofs.lemmas.List.{take_more}
 use Rattle.std.proofs.lemmas.Bool.{eq-eqb}
-use Rattle.std.specs.List.{list_any}
-use Rattle.bz_token.specs.Lexical.{is_newline, closing_row}
+use Rattle.bz_token.specs.Lexical.{closing_row}
 use Rattle.bz_token.specs.private.Closing.{is_escaped, closes}
-use Rattle.bz_token.specs.declared.scan_string.Escape.TheVariants.{Unescaped}
 use Rattle.bz_token.proofs.PlainStrings.{quote_no_newline}
 use Rattle.bz_token.proofs.Strings.{broken_off, escaped_read, quote_read, last_read, other_read, rest_on, none_on, one_line_on, no_last, next_row}
 use Rattle.bz_token.proofs.scan_string.inside_by_bytes.Goals as goal
