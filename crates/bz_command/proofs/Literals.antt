@@ -6,7 +6,7 @@ use Rattle.std.proofs.lemmas.Bool.{cases_Bool, and_parts, or_parts, eq-eqb, ne_e
 use Rattle.std.proofs.lemmas.List.{take_all, take_rest}
 use Rattle.std.proofs.lemmas.Slice.Eq.{bytes_eq-Decides}
 use Rattle.bz_command.specs.Values.{grouped_from, takes, units, joined, content, is_newline, unit_value, values_in, and_then, is_quote, prefix_of, inner_of, value_of}
-use Rattle.bz_command.specs.private.ValueSteps.{first_len, is_value, inner_value, value_in, taken, opened_value}
+use Rattle.bz_command.specs.private.ValueSteps.{is_plain, first_len, is_value, inner_value, value_in, taken, opened_value}
 
 -- nothing more joins a group
 apart : (g xs : List ℕ) → ((x : ℕ) → takes g x ≡ false) → grouped_from takes g xs ≡ g ∷ units xs
@@ -227,3 +227,45 @@ after_r (b ∷ bs) = elim (cases_Bool (is_quote b)) [
 pub opened_raw : (text : List ℕ) → 0 < length text → slice_index_or text 0 0 ≡ 114 → opened_value true (take (length text - 1) (drop 1 text)) ≡ value_of text
 opened_raw [] some e = absurd (omega arith)
 opened_raw (b ∷ bs) some e = ap (opened_value true) (take_rest (b ∷ bs) 1) ∙ after_r bs ∙ ap (λ (c : ℕ). value_of (c ∷ bs)) (sym e)
+
+off : (b : Bool) → not b ≡ true → b ≡ false
+off true h = sym h
+off false h = refl
+
+one_alone : (b : ℕ) (bs : List ℕ) → b == 92 ≡ false → b == 13 ≡ false → first_len (b ∷ bs) ≡ 1
+one_alone b [] h k = refl
+one_alone b (c ∷ []) h k = rw (h, k) refl
+one_alone b (c ∷ d ∷ bs) h k = rw (h, k) refl
+
+-- a byte that stands for itself is the first of the value
+plain_first : (raw : Bool) (q b : ℕ) (bs : List ℕ) → is_plain q b ≡ true → inner_value raw (q ∷ []) (b ∷ bs) ≡ and_then (Some b) (inner_value raw (q ∷ []) bs)
+plain_first raw q b bs h =
+    let quote = and_parts (not (q == b)) (not (b == 92) && (not (b == 13) && not (b == 10))) h in
+    let escape = and_parts (not (b == 92)) (not (b == 13) && not (b == 10)) quote.1 in
+    let ends = and_parts (not (b == 13)) (not (b == 10)) escape.1 in
+    let no_quote : q == b ≡ false = off (q == b) quote.0 in
+    let no_escape : b == 92 ≡ false = off (b == 92) escape.0 in
+    let no_return : b == 13 ≡ false = off (b == 13) ends.0 in
+    let no_newline : b == 10 ≡ false = off (b == 10) ends.1 in
+    step raw (q ∷ []) (b ∷ bs) (omega arith) (rw no_quote refl) ∙ rw (one_alone b bs no_escape no_return, no_newline, no_escape, no_return) refl
+
+drop_one_more : (n b : ℕ) (bs : List ℕ) → drop (1 + n) (b ∷ bs) ≡ drop n bs
+drop_one_more n b bs = let e : 1 + n ≡ suc n = omega arith in rw e refl
+
+take_one_more : (n b : ℕ) (bs : List ℕ) → take (1 + n) (b ∷ bs) ≡ b ∷ take n bs
+take_one_more n b bs = let e : 1 + n ≡ suc n = omega arith in rw e refl
+
+-- bytes that stand for themselves up to the closing quote are the value
+pub plain_value : (raw : Bool) (q : ℕ) (rest : List ℕ) → drop (prefix_len (is_plain q) rest) rest ≡ q ∷ []
+    → inner_value raw (q ∷ []) rest ≡ Some (take (prefix_len (is_plain q) rest) rest)
+plain_value raw q [] h = absurd cc
+plain_value raw q (b ∷ bs) h = elim (cases_Bool (is_plain q b)) [
+  | inl is ↦
+      let n : ℕ = prefix_len (is_plain q) bs in
+      let more : drop n bs ≡ q ∷ [] = sym (drop_one_more n b bs) ∙ (rw is at h) in
+      plain_first raw q b bs is ∙ ap (and_then (Some b)) (plain_value raw q bs more) ∙ rw is (ap (λ (ys : List ℕ). Some ys) (sym (take_one_more n b bs)))
+  | inr other ↦
+      let here : b ∷ bs ≡ q ∷ [] = rw other at h in
+      let shut_ : starts_with nat_eq (q ∷ []) (q ∷ []) ≡ true = rw (eq-eqb q) refl in
+      rw other (ap (inner_value raw (q ∷ [])) here ∙ shut raw (q ∷ []) (q ∷ []) shut_ ∙ rw (eq-eqb q) refl)
+]

@@ -4,7 +4,7 @@ ghost use Rattle.std.specs.Prelude.{◌≡◌, IsTrue, IfNone, IfSome, MatchOpti
 ghost use Rattle.bz_command.specs.Values as spec;
 ghost use Rattle.bz_command.specs.private.ByteSteps.{left, is_good, inner_of};
 
-use crate::literal::{Literal, is_at_end, next_in, open};
+use crate::literal::{Literal, is_at_end, next_in, open, plain_value};
 
 /// What is left to read.
 #[derive(Clone, Copy)]
@@ -22,6 +22,9 @@ pub fn value_of(text: &str) -> Option<Bytes<'_>>
     let Some(literal) = open(text.as_bytes()) else {
         return None;
     };
+    if let Some(value) = plain_value(literal) {
+        return Some(Bytes::Plain(value));
+    }
     if !has_end(literal) {
         return None;
     }

@@ -1,8 +1,9 @@
 //! A string literal, opened and read byte by byte: the one reader of its escapes.
 
 ghost use Rattle.std.specs.Prelude.{◌≡◌, ◌<◌, MatchOption, IfSome, Some, length, option_map};
+ghost use Rattle.std.specs.List.{prefix_len};
 ghost use Rattle.bz_command.specs.Values as spec;
-ghost use Rattle.bz_command.specs.private.ValueSteps.{opened_value, taken};
+ghost use Rattle.bz_command.specs.private.ValueSteps.{is_plain, opened_value, taken};
 ghost use Rattle.bz_command.specs.private.ByteSteps.{inner_of, opened, ended, is_closed, StandsIn, taken_of};
 
 /// What is left to read of a literal after its opening quotes.
@@ -60,6 +61,33 @@ pub(crate) fn next_in<'a>(literal: Literal<'a>) -> Option<(u8, Literal<'a>)>
         return None;
     };
     Some((byte, Literal { raw, quotes, rest }))
+}
+
+/// The value where each byte of it stands for itself, in a string of one quote: a slice of the text.
+pub(crate) fn plain_value(literal: Literal<'_>) -> Option<&[u8]>
+    ensures { IfSome result (λ value. inner_of literal.entry ≡ Some value.now) }
+{
+    let [quote] = literal.quotes else {
+        return None;
+    };
+    let len = plain_len(*quote, literal.rest);
+    let (value, closing) = literal.rest.split_at(len);
+    if closing != literal.quotes {
+        return None;
+    }
+    Some(value)
+}
+
+fn plain_len(quote: u8, bytes: &[u8]) -> usize
+    ensures { result ≡ prefix_len (is_plain quote) bytes.now }
+{
+    bytes.iter().take_while(|b| is_plain(quote, **b)).count()
+}
+
+fn is_plain(quote: u8, b: u8) -> bool
+    ensures { result ≡ is_plain quote b }
+{
+    quote != b && b != b'\\' && b != b'\r' && b != b'\n'
 }
 
 /// The closing quotes are left, and nothing else.
