@@ -12,10 +12,10 @@ use crate::package::Package;
 /// A label in full: texts in a row.
 #[derive(Clone, Copy)]
 pub(crate) struct Chain<'a> {
-    slashes: &'a [u8],
-    path: Bytes<'a>,
-    colon: &'a [u8],
-    name: Bytes<'a>,
+    pub(crate) slashes: &'a [u8],
+    pub(crate) path: Bytes<'a>,
+    pub(crate) colon: &'a [u8],
+    pub(crate) name: Bytes<'a>,
 }
 
 /// The label that a text is in a package.
@@ -168,7 +168,7 @@ pub(crate) fn equal(a: Chain<'_>, b: Chain<'_>) -> bool
 }
 
 /// The next byte, and what is left after it.
-pub(crate) fn next_in<'a>(chain: Chain<'a>) -> Option<(u8, Chain<'a>)>
+fn next_in<'a>(chain: Chain<'a>) -> Option<(u8, Chain<'a>)>
     requires { IsTrue (is_good_chain chain) }
     ensures next { MatchOption result (chain_bytes chain.entry ≡ [])
         (λ p. chain_bytes chain.entry ≡ p.0 ∷ chain_bytes p.1) }

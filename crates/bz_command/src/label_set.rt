@@ -8,8 +8,8 @@ ghost use Rattle.bz_command.specs.private.ByteSteps.{left, is_good, chain_bytes,
 ghost use Rattle.bz_command.specs.Same.{completed};
 ghost use Rattle.bz_command.specs.LabelSetViews as spec;
 
-use crate::bytes::Bytes;
-use crate::completed::{Chain, completed, equal, next_in};
+use crate::bytes::{Bytes, next};
+use crate::completed::{Chain, completed, equal};
 use crate::names::is;
 use crate::package::Package;
 use std::alloc::{AllocError, Global};
@@ -59,18 +59,40 @@ impl<'a> Hash for Label<'a> {
     ghost respects_eq = { Prim.search (hashing, rules) };
 
     fn hash<H: Hasher>(&self, state: &mut H) {
-        write_bytes(completed(self.home, self.text), state);
+        write_chain(completed(self.home, self.text), state);
     }
 }
 
-fn write_bytes<H: Hasher>(bytes: Chain<'_>, state: &mut H)
-    requires { IsTrue (is_good_chain bytes) }
-    ensures { state.new ≡ fold H.write state.old (map (λ b. b ∷ []) (chain_bytes bytes.entry)) }
+fn write_chain<H: Hasher>(chain: Chain<'_>, state: &mut H)
+    requires { IsTrue (is_good_chain chain) }
+    ensures { state.new ≡ fold H.write state.old (map (λ b. b ∷ []) (chain_bytes chain.entry)) }
 {
+    write_slice(chain.slashes, state);
+    write_bytes(chain.path, state);
+    write_slice(chain.colon, state);
+    write_bytes(chain.name, state);
+}
+
+fn write_bytes<H: Hasher>(bytes: Bytes<'_>, state: &mut H)
+    requires { IsTrue (is_good bytes) }
+    ensures { state.new ≡ fold H.write state.old (map (λ b. b ∷ []) (left bytes.entry)) }
+{
+    if let Bytes::Plain(slice) = bytes {
+        write_slice(slice, state);
+        return;
+    }
     let mut rest = bytes;
-    while let Some((b, after)) = next_in(rest) {
+    while let Some((b, after)) = next(rest) {
         state.write_u8(b);
         rest = after;
+    }
+}
+
+fn write_slice<H: Hasher>(slice: &[u8], state: &mut H)
+    ensures { state.new ≡ fold H.write state.old (map (λ b. b ∷ []) slice.now) }
+{
+    for b in slice {
+        state.write_u8(*b);
     }
 }
 

@@ -3,7 +3,6 @@ use Rattle.std.specs.Prelude.{Some, bytes_eq}
 use Rattle.std.specs.List.{prefix_len}
 use Rattle.std.proofs.lemmas.List.Sums.{prefix_len-le-length}
 use Rattle.std.proofs.lemmas.Slice.Eq.{bytes_eq-Decides}
-use Rattle.bz_command.specs.private.ByteSteps.{inner_of}
 use Rattle.bz_command.specs.private.ValueSteps.{is_plain, inner_value}
 use Rattle.bz_command.proofs.Literals.{plain_value}
 use Rattle.bz_command.proofs.literal.plain_value.Goals as goal
