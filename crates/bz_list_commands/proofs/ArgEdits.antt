@@ -1,14 +1,14 @@
 -- Arguments that are edited one by one.
-use Rattle.std.proofs.Common.{◌≡◌, ℕ, suc, ◌+◌, ◌<◌, ◌≤◌, List, [], ◌∷◌, ◌++◌, Bool, true, false, not, cond, ◌||◌, nat_lt, length, get_or, drop, take, set, map, filter, refl, ap, sym, ◌∙◌, arith, inl, inr, if◌then◌else◌, append_assoc}
+use Rattle.std.proofs.Common.{◌≡◌, ℕ, suc, ◌+◌, ◌<◌, ◌≤◌, List, [], ◌∷◌, ◌++◌, Bool, true, false, not, cond, ◌||◌, nat_lt, length, get_or, drop, take, set, map, filter, refl, ap, subst, sym, ◌∙◌, arith, inl, inr, if◌then◌else◌, append_assoc}
 use Rattle.std.specs.List.{list_any}
 use Rattle.std.proofs.lemmas.Bool.{cases_Bool}
 use Rattle.std.proofs.lemmas.Bool.Decides.{nat_tests}
-use Rattle.std.proofs.lemmas.List.{drop_more, take_more_set, drop-set-lt, map-set, get_or-map, length-map}
+use Rattle.std.proofs.lemmas.List.{drop_more, take_more_set, drop-set-lt, map-set, get_or_default, get_or-map, length-map, set-get_or}
 use Rattle.bz_tree.specs.declared.stmt.Seg.{Seg}
 use Rattle.bz_tree.specs.View.{seg_view, segs_view}
 use Rattle.bz_tree.specs.Tree.{Segment}
 use Rattle.bz_attribute.specs.Rules.{value}
-use Rattle.bz_attribute.specs.Lists.{is_attribute}
+use Rattle.bz_attribute.specs.Lists.{edit_parts, is_attribute, with_value}
 use Rattle.bz_command.specs.Labels.{Package}
 use Rattle.bz_command.specs.Commands.{Attributes, Every, Named}
 use Rattle.bz_attribute.specs.Effects.{filtered, filtered_everywhere, loses_all, remove, removes}
@@ -28,6 +28,23 @@ edit_step e ss i s d h made =
     let long : i < length (segs_view ss) = omega (arith, length-map ss seg_view) in
     let read : get_or (segs_view ss) i (seg_view d) ≡ seg_view (get_or ss i d) = get_or-map seg_view ss i d (seg_view d) h in
     rw (map-set seg_view ss i s) (map_step e (segs_view ss) i (seg_view s) (seg_view d) long (made ∙ ap e (sym read)))
+
+-- an attribute was edited, or stays where there is none
+pub attribute_edited : (f : List Segment → List Segment) (ss : List Seg) (i : ℕ) (s d e : Seg) (b : Bool) → i < length ss → b ≡ is_attribute (seg_view (get_or ss i d)) → b ≡ true
+    → seg_view s ≡ with_value (edit_parts f (value (seg_view (get_or ss i e)))) (seg_view (get_or ss i e))
+    → take (i + 1) (segs_view (set ss i s)) ++ map (edit_attribute f) (drop (i + 1) (segs_view (set ss i s))) ≡ take i (segs_view ss) ++ map (edit_attribute f) (drop i (segs_view ss))
+attribute_edited f ss i s d e b h told is made =
+    let a : Segment = seg_view (get_or ss i e) in
+    let there : is_attribute a ≡ true = ap (λ (z : Seg). is_attribute (seg_view z)) (get_or_default ss i e d h) ∙ sym told ∙ is in
+    edit_step (edit_attribute f) ss i s e h (made ∙ sym (ap (λ (b : Bool). if b then with_value (edit_parts f (value a)) a else a) there))
+
+pub attribute_passed : (f : List Segment → List Segment) (ss : List Seg) (i : ℕ) (d : Seg) (b : Bool) → i < length ss → b ≡ is_attribute (seg_view (get_or ss i d)) → b ≡ false
+    → take (i + 1) (segs_view ss) ++ map (edit_attribute f) (drop (i + 1) (segs_view ss)) ≡ take i (segs_view ss) ++ map (edit_attribute f) (drop i (segs_view ss))
+attribute_passed f ss i d b h told is =
+    let a : Segment = seg_view (get_or ss i d) in
+    let stays : a ≡ edit_attribute f a = sym (ap (λ (b : Bool). if b then with_value (edit_parts f (value a)) a else a) (sym told ∙ is)) in
+    subst (λ (zs : List Seg). take (i + 1) (segs_view zs) ++ map (edit_attribute f) (drop (i + 1) (segs_view zs)) ≡ take i (segs_view ss) ++ map (edit_attribute f) (drop i (segs_view ss))) (set-get_or ss i d)
+    (edit_step (edit_attribute f) ss i (get_or ss i d) d h stays)
 
 -- first those go that lose all, then the others are edited
 kept_one : (f : List Segment → List Segment) (a : Segment) (rest : List Segment) → is_lost f a ≡ false → (if is_attribute a then filtered f a else a ∷ []) ++ rest ≡ edit_attribute f a ∷ rest

@@ -240,7 +240,7 @@ moved_by home old new chosen args given left now ts other gives is took made = e
 ]
 
 -- elements are chosen exactly where there are some to count
-some_more : (n : ℕ) → nat_lt 0 (suc n) ≡ true
+pub some_more : (n : ℕ) → nat_lt 0 (suc n) ≡ true
 some_more n = grind (arith, nat_tests)
 
 any_filtered : (p : Segment → Bool) (ss : List Segment) → list_any p ss ≡ nat_lt 0 (length (filter p ss))

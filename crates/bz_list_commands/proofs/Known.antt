@@ -1,5 +1,5 @@
 -- A set that has the labels of elements and of values.
-use Rattle.std.proofs.Common.{◌≡◌, ℕ, List, [], ◌∷◌, ◌++◌, Bool, true, false, ◌||◌, Option, take, length, get_or, ◌<◌, ◌+◌, map, if◌then◌else◌, refl, ap, sym, ◌∙◌}
+use Rattle.std.proofs.Common.{◌≡◌, ℕ, List, [], ◌∷◌, ◌++◌, Bool, true, false, ◌||◌, Option, take, length, get_or, nat_lt, not, ◌<◌, ◌+◌, map, if◌then◌else◌, refl, ap, sym, ◌∙◌}
 use Rattle.std.specs.Prelude.{IfSome}
 use Rattle.std.specs.List.{list_any}
 use Rattle.std.proofs.lemmas.List.{take_more, map-append, append-nil}
@@ -11,10 +11,11 @@ use Rattle.bz_command.specs.Labels.{Package}
 use Rattle.bz_command.specs.declared.label_set.LabelSet.{LabelSet}
 use Rattle.bz_command.specs.LabelSetViews.{Gains, has}
 use Rattle.bz_attribute.specs.Lists.{same}
-use Rattle.bz_attribute.specs.Effects.{is_fresh, string}
+use Rattle.bz_attribute.specs.Effects.{is_fresh, is_nil, string}
 use Rattle.bz_attribute.specs.private.ElementSets.{is_in}
 use Rattle.bz_attribute.proofs.LabelSets.{or_false}
 use Rattle.bz_list_commands.specs.private.AddingSteps.{Knows}
+use Rattle.bz_list_commands.proofs.Arriving.{some_more}
 
 or_last : (a b c : Bool) → (c || (a || b)) ≡ (a || (b || (c || false)))
 or_last true b true = refl
@@ -56,3 +57,8 @@ fresh_pushed home lists earlier word new added x fresh made is = rw fresh (ap se
 pub known_passed : (home : Package) (lists : List (List Segment)) (earlier : List (List ℕ)) (word : List ℕ) (new added : List Seg) → is_fresh home lists earlier word ≡ false → added ≡ new
     → segs_view added ≡ segs_view new ++ map string (if is_fresh home lists earlier word then word ∷ [] else [])
 known_passed home lists earlier word new added known same = rw known (ap segs_view same ∙ sym (append-nil (segs_view new)))
+
+-- elements are added exactly where some are missing
+pub any_new : (new : List Seg) (ss : List Segment) → segs_view new ≡ ss → nat_lt 0 (length new) ≡ not (is_nil ss)
+any_new [] ss is = ap (λ (zs : List Segment). not (is_nil zs)) is
+any_new (s ∷ new) ss is = some_more (length new) ∙ ap (λ (zs : List Segment). not (is_nil zs)) is

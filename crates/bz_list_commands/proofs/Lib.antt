@@ -4,4 +4,5 @@ pub mod Flags
 pub mod Known
 pub mod Leaving
 pub mod Pool
+pub mod Replaced
 pub mod Written

@@ -3,10 +3,9 @@
 ghost use Rattle.std.specs.Prelude.{◌≡◌, ◌≤◌, ◌++◌, ◌∷◌, [], Some, length, IfOk, IfSome, OnOk, OnErr};
 ghost use Rattle.std.specs.List.{list_any};
 ghost use Rattle.bz_tree.specs.View.{node_view, nodes_view, seg_view, segs_view};
-ghost use Rattle.bz_attribute.specs.Rules.{first_named, value};
-ghost use Rattle.bz_attribute.specs.Lists.{edit_first_part, edit_list, parts, same};
-ghost use Rattle.bz_attribute.specs.private.Places.{IsFirstPart};
-ghost use Rattle.bz_list_commands.specs.private.AddingSteps.{Knows, value_with_added, done_in_value};
+ghost use Rattle.bz_attribute.specs.Rules.{first_named};
+ghost use Rattle.bz_attribute.specs.Lists.{edit_list, parts, same};
+ghost use Rattle.bz_list_commands.specs.private.AddingSteps.{Knows};
 ghost use Rattle.bz_attribute.specs.Effects as spec;
 
 use bz_attribute::chosen::{Chosen, is_any_chosen};
@@ -58,28 +57,14 @@ fn add_in(
         (spec.adds home.now values.now (Some (seg_view arg.old)))) }
     ensures err { OnErr result (seg_view arg.new ≡ seg_view arg.old) }
 {
-    let done = add_in_value(alloc, home, attr, values, &mut arg.nodes[2..])?;
-    Ok(done)
-}
-
-fn add_in_value(
-    alloc: Global,
-    home: &Package,
-    attr: &str,
-    values: &[Text],
-    value: &mut [Node<'_>],
-) -> Result<Done, AllocError>
-    ensures value { OnOk result (nodes_view value.new ≡ value_with_added home.now values.now (nodes_view value.old)) }
-    ensures done { IfOk result (λ done. done ≡ done_in_value home.now attr.now values.now (nodes_view value.old)) }
-    ensures err { OnErr result (nodes_view value.new ≡ nodes_view value.old) }
-{
+    let value = &arg.nodes[2..];
     let Some(part) = first_part(value) else {
         let attr = Text::from_str(alloc, attr)?;
         return Ok(Done::failure(Note::NotAList(attr)));
     };
     let new = new_elements(alloc, home, value, values)?;
     let changed = new.len() > 0;
-    append_at(value, part, new)?;
+    append_in(&mut arg.nodes[2 + part], new)?;
     Ok(Done::quiet(changed))
 }
 
@@ -162,19 +147,4 @@ fn append_in<'a>(node: &mut Node<'a>, mut new: Vec<Seg<'a>>) -> Result<(), Alloc
             Ok(())
         }
     }
-}
-
-/// Adds elements at the end of the first list part. An `Err` leaves the value as it was.
-pub(crate) fn append_at<'a>(
-    value: &mut [Node<'a>],
-    part: usize,
-    new: Vec<Seg<'a>>,
-) -> Result<(), AllocError>
-    requires { IsFirstPart value.old part }
-    ensures ok { OnOk result
-        (nodes_view value.new ≡ edit_first_part (λ ss. ss ++ segs_view new.entry.items) (nodes_view value.old)) }
-    ensures err { OnErr result (nodes_view value.new ≡ nodes_view value.old) }
-{
-    append_in(&mut value[part], new)?;
-    Ok(())
 }

@@ -5,7 +5,6 @@ ghost use Rattle.std.specs.Vec.{vec_len, vec_capacity};
 ghost use Rattle.bz_tree.specs.View.{node_view, nodes_view, seg_view, segs_view};
 ghost use Rattle.bz_attribute.specs.Rules.{elements, first_named, is_named, value};
 ghost use Rattle.bz_attribute.specs.Lists.{edit_first_part, edit_list, parts, with_value};
-ghost use Rattle.bz_command.specs.Commands.{Values};
 ghost use Rattle.bz_command.specs.CommandViews.{moved_view};
 ghost use Rattle.bz_attribute.specs.private.ChosenViews.{chosen_view};
 ghost use Rattle.bz_attribute.specs.private.Places.{first_length, first_list};
@@ -15,7 +14,7 @@ ghost use Rattle.bz_list_commands.specs.private.MovingSteps.{with_list};
 
 use crate::arrivals::keep_arrivals;
 use crate::taking::{count_in_value, take_from, value_at};
-use crate::words::{chosen_by, words_of};
+use crate::words::{chosen_by, words_moved};
 use bz_attribute::chosen::Chosen;
 use bz_attribute::done::{Done, Note};
 use bz_attribute::find::find;
@@ -47,30 +46,7 @@ pub fn move_elements(
     if let Some(note) = move_note(alloc, old, new, args)? {
         return Ok(Done::failure(note));
     }
-    match moved {
-        Moved::All => move_chosen(alloc, home, old, new, Chosen::All, args),
-        Moved::Values(values) => move_values(alloc, home, old, new, values.as_slice(), args),
-    }
-}
-
-fn move_values<'v>(
-    alloc: Global,
-    home: &'v Package,
-    old: &str,
-    new: &str,
-    values: &'v [Text],
-    args: &mut Vec<Seg<'_>>,
-) -> Result<Done, AllocError>
-    requires { bytes_eq old.now new.now ≡ false }
-    ensures args { OnOk result
-        (segs_view args.new.items
-        ≡ spec.moved_where home.now old.now new.now (Values values.now) (segs_view args.old.items)) }
-    ensures done { IfOk result
-        (λ done. done
-        ≡ effects.done None (spec.moves home.now old.now (Values values.now) (segs_view args.old.items))) }
-    ensures err { OnErr result (segs_view args.new.items ≡ segs_view args.old.items) }
-{
-    let words = words_of(alloc, home, values)?;
+    let words = words_moved(alloc, home, moved)?;
     let done = move_chosen(alloc, home, old, new, chosen_by(&words), args)?;
     Ok(done)
 }
@@ -191,16 +167,8 @@ fn put_in<'a>(arg: &mut Seg<'a>, later: Vec<Seg<'a>>)
         ≡ with_value (edit_first_part (λ there. there ++ segs_view later.entry.items) (value (seg_view arg.old)))
         (seg_view arg.old) }
 {
-    put_in_value(&mut arg.nodes[2..], later);
-}
-
-fn put_in_value<'a>(value: &mut [Node<'a>], later: Vec<Seg<'a>>)
-    requires { length (first_list (parts (nodes_view value.old))) + vec_len later ≤ vec_capacity later }
-    ensures { nodes_view value.new
-        ≡ edit_first_part (λ there. there ++ segs_view later.entry.items) (nodes_view value.old) }
-{
-    if let Some(part) = first_part(value) {
-        put_in_list(&mut value[part], later);
+    if let Some(part) = first_part(&arg.nodes[2..]) {
+        put_in_list(&mut arg.nodes[2 + part], later);
     }
 }
 

@@ -6,8 +6,7 @@ ghost use Rattle.bz_attribute.specs.Effects as spec;
 ghost use Rattle.bz_command.specs.CommandViews.{attributes_view};
 ghost use Rattle.bz_attribute.specs.private.ChosenViews.{chosen_view};
 ghost use Rattle.bz_command.specs.Commands.{Values};
-ghost use Rattle.bz_attribute.specs.Rules.{first_named, is_named};
-ghost use Rattle.bz_attribute.specs.Effects.{edit_first};
+ghost use Rattle.bz_attribute.specs.Rules.{first_named};
 ghost use Rattle.bz_list_commands.specs.private.EditSteps.{goes, is_lost, edit_attribute};
 
 use crate::words::{chosen_by, words_of};
@@ -83,35 +82,18 @@ fn remove_values<'v>(
         (spec.chooses_in home.now (Values values.now) (first_named attr.now (segs_view args.old.items)))) }
     ensures err { OnErr result (segs_view args.new.items ≡ segs_view args.old.items) }
 {
-    let Some(_) = find(args, attr) else {
+    let Some(i) = find(args, attr) else {
         return Ok(Done::quiet(false));
     };
     let words = words_of(alloc, home, values)?;
-    Ok(remove_chosen(home, attr, chosen_by(&words), args))
-}
-
-fn remove_chosen(
-    home: &Package,
-    attr: &str,
-    chosen: Chosen<'_, '_>,
-    args: &mut Vec<Seg<'_>>,
-) -> Done
-    ensures args { segs_view args.new.items
-        ≡ edit_first (is_named attr.now) (spec.filtered (spec.unchosen home.now (chosen_view chosen.entry)))
-        (segs_view args.old.items) }
-    ensures done { result ≡ spec.done None
-        (spec.chooses_in home.now (chosen_view chosen.entry) (first_named attr.now (segs_view args.old.items))) }
-{
-    let Some(i) = find(args, attr) else {
-        return Done::quiet(false);
-    };
+    let chosen = chosen_by(&words);
     let changed = chooses(home, chosen, &args[i]);
     if loses_all(home, chosen, &args[i]) {
         let _ = args.remove(i);
     } else {
         drop_in(home, chosen, &mut args[i]);
     }
-    Done::quiet(changed)
+    Ok(Done::quiet(changed))
 }
 
 // Drops the elements that equal a value from each attribute, and each attribute where none is left.
@@ -160,18 +142,8 @@ fn drop_everywhere(home: &Package, chosen: Chosen<'_, '_>, args: &mut [Seg<'_>])
         ≡ map (edit_attribute (spec.unchosen home.now (chosen_view chosen.entry))) (segs_view args.old) }
 {
     for i in 0..args.len() {
-        drop_in_attribute(home, chosen, &mut args[i]);
+        if is_attribute(&args[i]) {
+            drop_in(home, chosen, &mut args[i]);
+        }
     }
-}
-
-fn drop_in_attribute(home: &Package, chosen: Chosen<'_, '_>, arg: &mut Seg<'_>)
-    ensures { seg_view arg.new ≡ edit_attribute (spec.unchosen home.now (chosen_view chosen.entry)) (seg_view arg.old) }
-{
-    if !is_attribute(arg) {
-        return;
-    }
-    if arg.nodes.len() < 2 {
-        return;
-    }
-    drop_in(home, chosen, arg);
 }

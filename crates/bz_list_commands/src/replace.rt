@@ -53,26 +53,9 @@ pub fn replace(
         Attributes::Every => replace_everywhere(alloc, change, args),
         Attributes::Named(attr) => match find(args, attr.as_str()) {
             None => Ok(Done::quiet(false)),
-            Some(i) => replace_in(alloc, change, &mut args[i]),
+            Some(i) => replace_everywhere(alloc, change, &mut args[i..i + 1]),
         },
     }
-}
-
-fn replace_in(alloc: Global, change: Change<'_>, arg: &mut Seg<'_>) -> Result<Done, AllocError>
-    requires { 2 ≤ length arg.old.nodes.items }
-    ensures arg { OnOk result
-        (seg_view arg.new
-        ≡ spec.replaced_in change.entry.home.now change.entry.old.now change.entry.new.now (seg_view arg.old)) }
-    ensures done { IfOk result
-        (λ d. d
-        ≡ done None
-        (spec.replaces_in change.entry.home.now change.entry.old.now change.entry.new.now (seg_view arg.old))) }
-    ensures err { OnErr result (seg_view arg.new ≡ seg_view arg.old) }
-{
-    let count = count_in_value(change.home, Chosen::Value(change.old), &arg.nodes[2..])?;
-    let mut pool = copies(alloc, change.new, count)?;
-    put_in_value(change, &mut arg.nodes[2..], &mut pool);
-    Ok(Done::quiet(pool.len() < count))
 }
 
 fn replace_everywhere(
@@ -130,9 +113,6 @@ fn count_in_attribute(change: Change<'_>, arg: &Seg<'_>) -> Result<usize, AllocE
     if !is_attribute(arg) {
         return Ok(0);
     }
-    if arg.nodes.len() < 2 {
-        return Ok(0);
-    }
     count_in_value(change.home, Chosen::Value(change.old), &arg.nodes[2..])
 }
 
@@ -169,9 +149,6 @@ fn put_in_attribute<'a>(change: Change<'_>, arg: &mut Seg<'a>, pool: &mut Vec<Se
     ensures left { length pool.new.items + count_at (goes change.entry) (seg_view arg.old) ≡ length pool.old.items }
 {
     if !is_attribute(arg) {
-        return;
-    }
-    if arg.nodes.len() < 2 {
         return;
     }
     put_in_value(change, &mut arg.nodes[2..], pool);

@@ -39,9 +39,12 @@ abbrev pub count_everywhere : (Segment → Bool) → List Segment → ℕ
 count_everywhere p [] = 0
 count_everywhere p (a ∷ args) = count_at p a + count_everywhere p args
 
--- how many elements of the list parts of an attribute equal the old value
+-- how many elements of the list parts equal the old value
+abbrev pub old_in : Change → List Item → ℕ
+old_in c nodes = length (filter (is_chosen c.home.now (Values (c.old.now ∷ []))) (joined (parts nodes)))
+
 abbrev pub old_at : Change → Segment → ℕ
-old_at c a = if is_attribute a then length (filter (is_chosen c.home.now (Values (c.old.now ∷ []))) (joined (parts (value a)))) else 0
+old_at c a = if is_attribute a then old_in c (value a) else 0
 
 abbrev pub old_everywhere : Change → List Segment → ℕ
 old_everywhere c [] = 0

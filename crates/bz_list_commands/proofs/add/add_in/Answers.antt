@@ -1,17 +1,34 @@
-use Rattle.std.proofs.Common.{List, length, ap, ◌∙◌, arith}
-use Rattle.std.proofs.lemmas.List.{length-drop, take_rest}
+use Rattle.std.proofs.Common.{◌≡◌, List, ◌++◌, Bool, false, not, None, Some, nat_lt, length, ap, sym, ◌∙◌, arith, if◌then◌else◌}
 use Rattle.bz_tree.specs.Tree.{Item}
-use Rattle.bz_tree.specs.View.{seg_view}
-use Rattle.bz_attribute.specs.Lists.{with_value}
-use Rattle.bz_list_commands.specs.private.AddingSteps.{done_in_value, value_with_added}
-use Rattle.bz_list_commands.proofs.Written.{added_value, value_read, value_written}
+use Rattle.bz_tree.specs.View.{seg_view, segs_view}
+use Rattle.bz_attribute.specs.Rules.{value}
+use Rattle.bz_attribute.specs.Lists.{edit_first_part, parts, with_value}
+use Rattle.bz_attribute.specs.declared.done.Note.TheVariants.{NotAList}
+use Rattle.bz_attribute.specs.Effects.{done, is_nil, new_elements, no_parts}
+use Rattle.bz_list_commands.proofs.Known.{any_new}
+use Rattle.bz_list_commands.proofs.Replaced.{on_err}
+use Rattle.bz_list_commands.proofs.Written.{part_stays, part_written, value_read}
 use Rattle.bz_list_commands.proofs.add.add_in.Goals as goal
 
 pub returns-clause-arg : goal.returns-clause-arg
 returns-clause-arg c =
-    value_written c.args.arg.now c.deref_mut.result.now c.add_in_value.new.value c.deref_mut.ensures.value (omega (arith, c.requires, ap length c.deref_mut.ensures.value)) (omega (arith, c.add_in_value.auto.value, ap length (take_rest c.deref_mut.result.now 2), length-drop 2 c.deref_mut.result.now))
-    ∙ ap (λ (ns : List Item). with_value ns (seg_view c.args.arg.now)) (c.in_ok-done.ensures.value ∙ ap (value_with_added c.args.home.now c.args.values.now) (value_read c.args.arg.now c.deref_mut.result.now c.deref_mut.ensures.value))
-    ∙ added_value c.args.home.now c.args.values.now (seg_view c.args.arg.now)
+    let a = seg_view c.args.arg.now in
+    let read = value_read c.args.arg.now c.deref.result.now c.deref.ensures.value in
+    let some : no_parts (parts (value a)) ≡ false = ap (λ (ns : List Item). no_parts (parts ns)) (sym read) ∙ c.in-Some.ensures.some.some in
+    let new : segs_view c.in_ok-new.new.items ≡ new_elements c.args.home.now (parts (value a)) c.args.values.now = c.in_ok-new.ensures ∙ ap (λ (ns : List Item). new_elements c.args.home.now (parts ns) c.args.values.now) read in
+    part_written (λ ss. ss ++ segs_view c.in_ok-new.new.items) c.args.arg.now c.deref.result.now c.in-Some.part c.append_in.new.node c.index_mut.result.now c.deref.ensures.value c.in-Some.ensures.some c.index_mut.ensures.value c.in_ok-append_in.ensures.ok
+    ∙ (λ j. with_value (edit_first_part (λ ss. ss ++ new j) (value a)) a)
+    ∙ sym (ap (λ (b : Bool). if b then a else with_value (edit_first_part (λ ss. ss ++ new_elements c.args.home.now (parts (value a)) c.args.values.now) (value a)) a) some)
 
 pub returns-clause-done : goal.returns-clause-done
-returns-clause-done c = c.in_ok-done.ensures.done ∙ ap (done_in_value c.args.home.now c.args.attr.now c.args.values.now) (value_read c.args.arg.now c.deref_mut.result.now c.deref_mut.ensures.value)
+returns-clause-done c =
+    let a = seg_view c.args.arg.now in
+    let read = value_read c.args.arg.now c.deref.result.now c.deref.ensures.value in
+    let some : no_parts (parts (value a)) ≡ false = ap (λ (ns : List Item). no_parts (parts ns)) (sym read) ∙ c.in-Some.ensures.some.some in
+    let count : c.len-changed.result ≡ length c.in_ok-new.new.items = omega (arith, c.len-changed.ensures, c.in_ok-new.new.ok.0) in
+    c.quiet.ensures
+    ∙ ap (done None) (ap (nat_lt 0) count ∙ any_new _ _ (c.in_ok-new.ensures ∙ ap (λ (ns : List Item). new_elements c.args.home.now (parts ns) c.args.values.now) read))
+    ∙ sym (ap (λ (b : Bool). done (if b then Some (NotAList c.args.attr.now) else None) (not (is_nil (new_elements c.args.home.now (parts (value a)) c.args.values.now)))) some)
+
+pub returns-in_err-append_in-clause-err : goal.returns-in_err-append_in-clause-err
+returns-in_err-append_in-clause-err c = on_err c.from_residual-in_err-append_in.result (part_stays c.args.arg.now c.deref.result.now c.in-Some.part c.append_in.new.node c.index_mut.result.now c.deref.ensures.value c.in-Some.ensures.some c.index_mut.ensures.value c.in_err-append_in.ensures.err)

@@ -2,7 +2,7 @@ use Rattle.std.proofs.Common.{◌≡◌, not, ap, ◌∙◌, map, filter, rules,
 use Rattle.std.proofs.lemmas.Fn.{filter_same}
 use Rattle.std.proofs.lemmas.List.{with_items_is}
 use Rattle.bz_attribute.specs.private.ChosenViews.{chosen_view}
-use Rattle.bz_command.specs.Commands.{Moved, Values}
+use Rattle.bz_command.specs.Commands.{Moved}
 use Rattle.bz_attribute.specs.Effects.{filtered_everywhere, unchosen}
 use Rattle.bz_list_commands.specs.private.EditSteps.{edit_attribute, is_lost}
 use Rattle.bz_attribute.proofs.Mapped.{filter-map}
@@ -18,4 +18,4 @@ returns-clause-args c =
     ∙ c.drop_everywhere.ensures
     ∙ ap (map (edit_attribute (unchosen c.args.home.now (chosen_view c.chosen_by-chosen.result)))) (ap segs_view c.deref_mut.ensures.value ∙ left)
     ∙ in_two_steps (unchosen c.args.home.now (chosen_view c.chosen_by-chosen.result)) (segs_view c.args.args.now.items)
-    ∙ ap (λ (chosen : Moved). filtered_everywhere (unchosen c.args.home.now chosen) (segs_view c.args.args.now.items)) (c.chosen_by-chosen.ensures ∙ ap Values c.in_ok-words.ensures)
+    ∙ ap (λ (chosen : Moved). filtered_everywhere (unchosen c.args.home.now chosen) (segs_view c.args.args.now.items)) (c.chosen_by-chosen.ensures ∙ c.in_ok-words.ensures)

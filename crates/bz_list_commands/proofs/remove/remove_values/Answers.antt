@@ -1,0 +1,18 @@
+use Rattle.std.proofs.Common.{◌≡◌, List, None, Some, get_or, ap, sym, ◌∙◌}
+use Rattle.bz_tree.specs.declared.stmt.Seg.{Seg}
+use Rattle.bz_tree.specs.View.{seg_view, segs_view}
+use Rattle.bz_command.specs.Commands.{Moved, Values}
+use Rattle.bz_attribute.specs.Rules.{first_named}
+use Rattle.bz_attribute.specs.Effects.{chooses, chooses_in, done}
+use Rattle.bz_list_commands.proofs.remove.remove_values.Goals as goal
+
+pub returns-clause-done : goal.returns-clause-done
+returns-clause-done c =
+    let here : Seg = c.index.result.now in
+    let read : first_named c.args.attr.now (segs_view c.args.args.now.items) ≡ Some (seg_view c.index.result.now) =
+    ap (λ (ss : List Seg). first_named c.args.attr.now (segs_view ss)) (sym c.deref.ensures.value)
+    ∙ c.in-Some.ensures.some.first here
+    ∙ ap (λ (ss : List Seg). Some (seg_view (get_or ss c.in-Some.i here))) c.deref.ensures.value
+    ∙ ap (λ (s : Seg). Some (seg_view s)) (sym c.index.ensures) in
+    c.quiet-2.ensures
+    ∙ ap (done None) (c.chooses-changed.ensures ∙ ap (λ (chosen : Moved). chooses c.args.home.now chosen (seg_view c.index.result.now)) (c.chosen_by-chosen.ensures ∙ c.in_ok-words.ensures) ∙ sym (ap (chooses_in c.args.home.now (Values c.args.values.now)) read))
