@@ -123,7 +123,7 @@ fn copies<'a>(alloc: Global, value: &str, count: usize) -> Result<Vec<Seg<'a>>, 
 {
     let mut pool = Vec::with_capacity(alloc, count)?;
     for _ in 0..count {
-        pool.push(string(alloc, value)?)?;
+        pool.push_reserved(string(alloc, value)?);
     }
     Ok(pool)
 }
