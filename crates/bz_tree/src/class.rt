@@ -14,7 +14,7 @@ use bz_token::Kind;
 use std::alloc::AllocError;
 
 // What may come next in a rule: an identifier, `.` or the call, nothing.
-#[derive(Clone, Copy, PartialEq, Eq)]
+#[derive(Clone, Copy)]
 pub(crate) enum Phase {
     Name,
     Join,
@@ -33,7 +33,7 @@ fn is_rule(nodes: &[Node<'_>]) -> bool
             _ => return false,
         };
     }
-    phase == Phase::End
+    matches!(phase, Phase::End)
 }
 
 /// The token between two names.

@@ -7,7 +7,7 @@ use crate::role::Role;
 use crate::stmt::GroupKind;
 
 /// What is being read: a Test with what may follow it, or (Target) a Primary, or (Clause) a Chain.
-#[derive(Clone, Copy, PartialEq, Eq)]
+#[derive(Clone, Copy)]
 pub(crate) enum Part {
     /// The tests of a statement, before an assignment sign too.
     Left,
@@ -224,7 +224,7 @@ fn next_after(part: Part, asked: bool, role: Role) -> Stage
         Role::Dot => Stage::Names(part, asked),
         Role::Suffix => Stage::Has(part, asked),
         Role::Sum | Role::Star | Role::Operator => in_chain(part, Stage::Wants(part, asked)),
-        Role::In if part == Part::Target => leaves(part, asked, role),
+        Role::In if matches!(part, Part::Target) => leaves(part, asked, role),
         Role::In => Stage::Wants(part, asked),
         Role::Not => in_chain(part, Stage::Excludes(part, asked)),
         _ => leaves(part, asked, role),
