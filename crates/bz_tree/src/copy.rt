@@ -85,11 +85,12 @@ fn copy_group<'a>(alloc: Global, group: &Group<'a>) -> Result<Group<'a>, AllocEr
     ensures value { IfOk result (λ g. group_view g ≡ group_view group.now) }
     ensures borrowed { IfOk result (λ g. group_owned g ≡ group_owned group.now) }
 {
+    let end = copy_texts(alloc, &group.end)?;
     Ok(Group {
         kind: group.kind,
         segs: copy_segs(alloc, &group.segs)?,
         one_comma: group.one_comma,
-        end: copy_texts(alloc, &group.end)?,
+        end,
     })
 }
 
@@ -119,10 +120,12 @@ fn copy_parts<'a>(
     ensures borrowed { IfOk result
         (λ s. seg_owned s ≡ owned_in before.now + total (map node_owned nodes.now) + owned_of suffix.now) }
 {
+    let suffix = copy_suffix(suffix)?;
+    let before = copy_texts(alloc, before)?;
     Ok(Seg {
-        before: copy_texts(alloc, before)?,
+        before,
         nodes: copy_nodes(alloc, nodes)?,
-        suffix: copy_suffix(suffix)?,
+        suffix,
     })
 }
 
