@@ -189,7 +189,10 @@ impl<'a> RowWalk<'a> {
         let Some(kind) = self.top.kind else {
             return Ok(false);
         };
-        if !same_shape(shape_of(kind), shape) || !self.end_last()? {
+        if !same_shape(shape_of(kind), shape) {
+            return Ok(false);
+        }
+        if !self.end_last()? {
             return Ok(false);
         }
         let one_comma = self.top.is_one_comma(kind);
