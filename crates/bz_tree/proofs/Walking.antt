@@ -38,15 +38,15 @@ group_added kind w v at line g e same =
     e ∙ (ap (λ n. after_node n (node_view (Group g)) (walked w)) (plus_zero line) ∙ ap (λ x. after_node line x (walked w)) (view-Group g)) in
     level_is kind _ (so_far v) _ Operand _ (sym (ap (λ x. kind_with (is_for_item x) (so_far w) kind) (view-group g))) (so_far_is w v (after_node line (group_view g)) walked_is same) (sym (ap after_item (view-group g)))
 
-pub leaf_added : (kind kind2 : Option GroupKind) (w v : Walk) (at at2 : Preceding) (l : Leaf) (line n : ℕ) (t : Placed) → leaf_view l ≡ leaf_of t → at2 ≡ kind_after l.kind (text_of l.text) → line ≡ t.line → n ≡ count_by (λ b. b == 10) t.text
-    → walked v ≡ after_node (line + n) (node_view (Token l)) (walked w) → v.whole ≡ w.whole → kind2 ≡ kind_with (is_for_at l.kind (text_of l.text)) (so_far w) kind
+pub leaf_added : (kind kind2 : Option GroupKind) (w v : Walk) (at at2 : Preceding) (l : Leaf) (line n : ℕ) (t : Placed) → leaf_view l ≡ leaf_of t → at2 ≡ kind_after t.kind t.text → line ≡ t.line → n ≡ count_by (λ b. b == 10) t.text
+    → walked v ≡ after_node (line + n) (node_view (Token l)) (walked w) → v.whole ≡ w.whole → kind2 ≡ kind_with (is_for_at t.kind t.text) (so_far w) kind
     → leveled kind2 (so_far v) at2 ≡ with_own (leveled kind (so_far w) at) (node (end_line t) (leaf_of t))
 leaf_added kind kind2 w v at at2 l line n t is at_is line_is n_is e same kind_is =
     let walked_is : walked v ≡ after_node (end_line t) (leaf_of t) (walked w) =
     e ∙ (ap (λ k. after_node (k + n) (node_view (Token l)) (walked w)) line_is ∙ (ap (λ k. after_node (t.line + k) (node_view (Token l)) (walked w)) n_is
     ∙ ap (λ x. after_node (end_line t) x (walked w)) (view-Token l ∙ is))) in
-    level_is kind2 _ (so_far v) _ at2 _ (kind_is ∙ ap (λ x. kind_with (is_for_item x) (so_far w) kind) is) (so_far_is w v (after_node (end_line t) (leaf_of t)) walked_is same)
-    (at_is ∙ ap after_item is)
+    level_is kind2 _ (so_far v) _ at2 _ kind_is (so_far_is w v (after_node (end_line t) (leaf_of t)) walked_is same)
+    at_is
 
 pub comma_added : (kind : Option GroupKind) (w v : Walk) (at : Preceding) (l : Leaf) (line : ℕ) (t : Placed) → leaf_view l ≡ leaf_of t → line ≡ t.line → has_one kind ≡ true → walked v ≡ after_node (line + 0) (node_view (Token l)) (walked w) → v.whole ≡ w.whole
     → leveled kind (so_far v) Other ≡ with_own (leveled kind (so_far w) at) (comma t)

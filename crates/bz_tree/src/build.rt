@@ -1,6 +1,6 @@
 //! The walk over the tokens of a statement, with a stack of open brackets.
 
-ghost use Rattle.std.specs.Prelude.{◌≡◌, ◌+◌, true, false, map, IfOk, OnOk, Some, None, [], ◌∷◌, option_map, ◌≤◌, IfSome};
+ghost use Rattle.std.specs.Prelude.{◌≡◌, ◌+◌, true, false, map, IfOk, OnOk, Some, None, [], ◌∷◌, option_map, option_and_then, ◌≤◌, IfSome};
 ghost use Rattle.std.specs.Bool.{then_some};
 ghost use Rattle.bz_token.specs.Places.{placed};
 ghost use Rattle.bz_tree.specs.View.{text_of, node_view, group_view, seg_view};
@@ -9,13 +9,13 @@ ghost use Rattle.bz_tree.specs.Owners.{node};
 ghost use Rattle.bz_tree.specs.Brackets.{leaf_of, own_of};
 ghost use Rattle.bz_tree.specs.declared.kinds.Mark.TheVariants.{Close, Comma, Comment, Plain};
 ghost use Rattle.bz_tree.specs.Statement.{one_segment, segment_with};
-ghost use Rattle.bz_tree.specs.private.Steps.{leaf_view, content_view, so_far, done, has_one, kind_with, level, levels, with_own, new_level, closed, next, next_at, run, state};
+ghost use Rattle.bz_tree.specs.private.Steps.{leaf_view, content_view, so_far, done, has_one, kind_with, level, levels, with_own, new_level, closed, next, next_at, finished, run, state};
 ghost use Rattle.bz_tree.specs.Borrowed.{owned, group_owned, seg_owned};
 ghost use Rattle.bz_tree.specs.private.BorrowedSteps.{walk_owned, content_owned, frame_owned, state_owned};
 
 use crate::class::with_rule_call;
 use crate::kinds::{
-    Mark, Preceding, Shape, after_leaf, as_comprehension, group_kind, is_for_leaf, is_one, mark_of,
+    Mark, Preceding, Shape, as_comprehension, group_kind, is_for_at, is_one, kind_after, mark_of,
     same_shape, shape_of,
 };
 use crate::owners::{Content, Walk};
@@ -103,11 +103,11 @@ impl<'a> Frame<'a> {
 
     // What the bracket is where this stands next in it.
     #[inline(always)]
-    fn kind_with(&self, leaf: &Leaf<'_>) -> Option<GroupKind>
-        ensures { result ≡ kind_with (is_for_at leaf.now.kind (text_of leaf.now.text)) (so_far self.now.walk)
+    fn kind_with(&self, token: &Token<'_>) -> Option<GroupKind>
+        ensures { result ≡ kind_with (is_for_at token.now.kind token.now.text.now) (so_far self.now.walk)
             self.now.kind }
     {
-        if is_for_leaf(leaf) && self.walk.is_in_first() {
+        if is_for_at(token.kind, token.text) && self.walk.is_in_first() {
             as_comprehension(self.kind)
         } else {
             self.kind
@@ -124,12 +124,11 @@ impl<'a> Frame<'a> {
         ensures value { OnOk result (level self.new ≡ with_own (level self.old) (own_of Plain (placed token.now))) }
         ensures borrowed { OnOk result (frame_owned self.new ≤ frame_owned self.old) }
     {
-        let leaf = leaf_of(token);
-        self.kind = self.kind_with(&leaf);
-        self.at = after_leaf(&leaf);
+        self.kind = self.kind_with(token);
+        self.at = kind_after(token.kind, token.text);
         self.walk.reserve(ends_segment(following))?;
         self.walk
-            .add_node(Node::Token(leaf), token.line, token.text)?;
+            .add_node(Node::Token(leaf_of(token)), token.line, token.text)?;
         Ok(())
     }
 
@@ -227,6 +226,31 @@ impl<'a> State<'a> {
         }
         Ok(true)
     }
+
+    // The steps over all tokens. False: there is no tree.
+    fn walk(&mut self, alloc: Global, tokens: &[Token<'a>]) -> Result<bool, AllocError>
+        ensures value { IfOk result (λ some. option_and_then finished (then_some some (state self.new))
+            ≡ run (level self.old.top) (levels self.old.outer.items) (map placed tokens.now)) }
+        ensures borrowed { OnOk result (state_owned self.new ≤ state_owned self.old) }
+    {
+        for i in 0..tokens.len() {
+            if !self.step(alloc, &tokens[i], tokens.get(i + 1))? {
+                return Ok(false);
+            }
+        }
+        Ok(true)
+    }
+
+    // None: a bracket is open, or a segment is empty.
+    fn finish(self, alloc: Global) -> Result<Option<Seg<'a>>, AllocError>
+        ensures value { IfOk result (λ o. option_map seg_view o ≡ finished (state self.entry)) }
+        ensures borrowed { IfOk result (λ o. IfSome o (λ s. seg_owned s ≤ state_owned self.entry)) }
+    {
+        if self.top.kind.is_some() || !self.outer.is_empty() {
+            return Ok(None);
+        }
+        statement(alloc, self.top.walk)
+    }
 }
 
 // At depth 0 a statement is one segment, and all comments but its suffix stand before it.
@@ -264,7 +288,7 @@ fn statement<'a>(alloc: Global, walk: Walk<'a>) -> Result<Option<Seg<'a>>, Alloc
     Ok(Some(with_rule_call(seg)?))
 }
 
-// The steps over all tokens.
+/// The statement's segment. None: there is no tree.
 pub(crate) fn run<'a>(alloc: Global, tokens: &[Token<'a>]) -> Result<Option<Seg<'a>>, AllocError>
     ensures value { IfOk result (λ o. option_map seg_view o ≡ run (new_level None) [] (map placed tokens.now)) }
     ensures borrowed { IfOk result (λ o. IfSome o (λ s. seg_owned s ≡ 0)) }
@@ -273,14 +297,8 @@ pub(crate) fn run<'a>(alloc: Global, tokens: &[Token<'a>]) -> Result<Option<Seg<
         outer: Vec::new(alloc),
         top: Frame::new(alloc, None),
     };
-    for i in 0..tokens.len() {
-        if !state.step(alloc, &tokens[i], tokens.get(i + 1))? {
-            return Ok(None);
-        }
-    }
-    let State { outer, top } = state;
-    if top.kind.is_some() || !outer.is_empty() {
+    if !state.walk(alloc, tokens)? {
         return Ok(None);
     }
-    statement(alloc, top.walk)
+    state.finish(alloc)
 }

@@ -2,11 +2,10 @@
 
 ghost use Rattle.std.specs.Prelude.{◌≡◌, Some};
 ghost use Rattle.bz_token.specs.Places.{placed};
-ghost use Rattle.bz_tree.specs.View.{text_of};
 ghost use Rattle.bz_tree.specs.Kinds.{mark_of, sign_mark, kind_after, is_for_at, group_kind, is_one, same_shape};
 ghost use Rattle.bz_tree.specs.private.Steps.{shape_of, as_comprehension};
 
-use crate::stmt::{GroupKind, Leaf};
+use crate::stmt::GroupKind;
 use bz_token::{Kind, Token};
 
 /// The shape of a bracket.
@@ -115,26 +114,12 @@ pub(crate) fn kind_after(kind: Kind, text: &str) -> Preceding
     }
 }
 
-#[inline(always)]
-pub(crate) fn after_leaf(leaf: &Leaf<'_>) -> Preceding
-    ensures { result ≡ kind_after leaf.now.kind (text_of leaf.now.text) }
-{
-    kind_after(leaf.kind, leaf.text.as_str())
-}
-
 /// The keyword `for`.
 #[inline(always)]
 pub(crate) fn is_for_at(kind: Kind, text: &str) -> bool
     ensures { result ≡ is_for_at kind text.now }
 {
     kind == Kind::Word && text == "for"
-}
-
-#[inline(always)]
-pub(crate) fn is_for_leaf(leaf: &Leaf<'_>) -> bool
-    ensures { result ≡ is_for_at leaf.now.kind (text_of leaf.now.text) }
-{
-    is_for_at(leaf.kind, leaf.text.as_str())
 }
 
 pub(crate) fn group_kind(shape: Shape, at: Preceding, comprehension: bool) -> GroupKind

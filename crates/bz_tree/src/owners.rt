@@ -1,6 +1,6 @@
 //! The segments of one bracket, and the owners of the comments that stand in it.
 
-ghost use Rattle.std.specs.Prelude.{◌≡◌, ◌+◌, ◌++◌, ◌==◌, true, false, map, count_by, IfOk, OnOk, Some, None, option_map, option_and_then, ◌≤◌, IfSome};
+ghost use Rattle.std.specs.Prelude.{◌≡◌, ◌+◌, ◌++◌, ◌==◌, true, false, map, count_by, IfOk, OnOk, Some, None, [], option_map, option_and_then, ◌≤◌, IfSome};
 ghost use Rattle.bz_tree.specs.View.{text_of, texts, node_view, seg_view};
 ghost use Rattle.bz_tree.specs.private.Steps.{walked, so_far, is_in_first, texts_of, content_view, at_start, after_node, after_comma, after_note, done, add_beside, to_last};
 ghost use Rattle.bz_tree.specs.Borrowed.{owned, owned_in, owned_of, node_owned, seg_owned};
@@ -21,14 +21,12 @@ pub(crate) enum Before<'a> {
     Comma(u64),
 }
 
-// The walk over one bracket: the finished segments, then the segment here: its nodes, the comments before the last
-// of them, the suffix so far, and the comments after that.
+// The walk over one bracket: the finished segments, then the segment here, its comments before the last of its nodes
+// and its suffix so far, and the comments after that.
 #[derive(Drop)]
 pub(crate) struct Walk<'a> {
     pub(crate) segs: Vec<Seg<'a>>,
-    pub(crate) before: Vec<CowStr<'a>>,
-    pub(crate) nodes: Vec<Node<'a>>,
-    pub(crate) suffix: Option<CowStr<'a>>,
+    pub(crate) here: Seg<'a>,
     pub(crate) after: Vec<CowStr<'a>>,
     pub(crate) last: Before<'a>,
     pub(crate) trailing: bool,
@@ -70,17 +68,16 @@ fn add_to_last<'a>(segs: &mut Vec<Seg<'a>>, text: CowStr<'a>) -> Result<(), Allo
 
 // A suffix so far is none once a node stands after it.
 #[inline(always)]
-fn put_before<'a>(
-    suffix: &mut Option<CowStr<'a>>,
-    before: &mut Vec<CowStr<'a>>,
-) -> Result<(), AllocError>
-    ensures taken { suffix.new ≡ None }
-    ensures value { OnOk result (texts before.new.items
-        ≡ texts before.old.items ++ texts_of (option_map text_of suffix.old)) }
-    ensures borrowed { OnOk result (owned_in before.new.items ≡ owned_in before.old.items + owned_of suffix.old) }
+fn put_before(seg: &mut Seg<'_>) -> Result<(), AllocError>
+    ensures nodes { seg.new.nodes ≡ seg.old.nodes }
+    ensures taken { seg.new.suffix ≡ None }
+    ensures value { OnOk result (texts seg.new.before.items
+        ≡ texts seg.old.before.items ++ texts_of (option_map text_of seg.old.suffix)) }
+    ensures borrowed { OnOk result
+        (owned_in seg.new.before.items ≡ owned_in seg.old.before.items + owned_of seg.old.suffix) }
 {
-    if let Some(text) = suffix.take() {
-        before.push(text)?;
+    if let Some(text) = seg.suffix.take() {
+        seg.before.push(text)?;
     }
     Ok(())
 }
@@ -100,6 +97,19 @@ pub(crate) fn ends_on(line: u64, newlines: u64, at: u64) -> bool
     line <= at && at - line == newlines
 }
 
+#[inline(always)]
+fn empty_segment<'a>(alloc: Global) -> Seg<'a>
+    ensures before { result.before.items ≡ [] }
+    ensures nodes { result.nodes.items ≡ [] }
+    ensures suffix { result.suffix ≡ None }
+{
+    Seg {
+        before: Vec::new(alloc),
+        nodes: Vec::new(alloc),
+        suffix: None,
+    }
+}
+
 impl<'a> Walk<'a> {
     #[inline(always)]
     pub(crate) fn new(alloc: Global) -> Walk<'a>
@@ -108,9 +118,7 @@ impl<'a> Walk<'a> {
     {
         Walk {
             segs: Vec::new(alloc),
-            before: Vec::new(alloc),
-            nodes: Vec::new(alloc),
-            suffix: None,
+            here: empty_segment(alloc),
             after: Vec::new(alloc),
             last: Before::Nothing,
             trailing: false,
@@ -133,8 +141,8 @@ impl<'a> Walk<'a> {
         ensures whole { self.new.whole ≡ self.old.whole }
         ensures borrowed { OnOk result (walk_owned self.new ≡ walk_owned self.old) }
     {
-        if alone && self.nodes.is_empty() {
-            self.nodes.reserve_exact(1)?;
+        if alone && self.here.nodes.is_empty() {
+            self.here.nodes.reserve_exact(1)?;
         }
         Ok(())
     }
@@ -151,9 +159,9 @@ impl<'a> Walk<'a> {
         ensures whole { self.new.whole ≡ self.old.whole }
         ensures borrowed { OnOk result (walk_owned self.new ≤ walk_owned self.old + node_owned node.entry) }
     {
-        self.nodes.push(node)?;
-        put_before(&mut self.suffix, &mut self.before)?;
-        self.before.append(&mut self.after)?;
+        self.here.nodes.push(node)?;
+        put_before(&mut self.here)?;
+        self.here.before.append(&mut self.after)?;
         self.last = Before::Node(line, text);
         self.trailing = false;
         Ok(())
@@ -163,16 +171,13 @@ impl<'a> Walk<'a> {
         ensures value { OnOk result (so_far self.new ≡ option_and_then (after_comma line) (so_far self.old)) }
         ensures borrowed { OnOk result (walk_owned self.new ≤ walk_owned self.old) }
     {
-        if self.nodes.is_empty() {
+        if self.here.nodes.is_empty() {
             self.whole = false;
             return Ok(());
         }
-        self.before.append(&mut self.after)?;
-        self.segs.push(Seg {
-            before: mem::replace(&mut self.before, Vec::new(alloc)),
-            nodes: mem::replace(&mut self.nodes, Vec::new(alloc)),
-            suffix: self.suffix.take(),
-        })?;
+        self.here.before.append(&mut self.after)?;
+        self.segs
+            .push(mem::replace(&mut self.here, empty_segment(alloc)))?;
         self.last = Before::Comma(line);
         self.trailing = true;
         Ok(())
@@ -185,7 +190,7 @@ impl<'a> Walk<'a> {
     {
         match mem::replace(&mut self.last, Before::Nothing) {
             Before::Node(begin, token) if ends_on(begin, newlines(token), line) => {
-                put_suffix(&mut self.suffix, text);
+                put_suffix(&mut self.here.suffix, text);
                 Ok(())
             }
             Before::Comma(end) if end == line => add_to_last(&mut self.segs, text),
@@ -201,31 +206,24 @@ impl<'a> Walk<'a> {
         ensures value { IfOk result (λ o. option_map content_view o ≡ option_map done (so_far self.entry)) }
         ensures borrowed { IfOk result (λ o. IfSome o (λ c. content_owned c ≤ walk_owned self.entry)) }
     {
-        let Walk {
-            mut segs,
-            before,
-            nodes,
-            suffix,
-            after,
-            last: _,
-            trailing,
-            whole,
-        } = self;
-        if !whole {
+        if !self.whole {
             return Ok(None);
         }
-        if nodes.is_empty() {
+        let Walk {
+            mut segs,
+            here,
+            after,
+            trailing,
+            ..
+        } = self;
+        if here.nodes.is_empty() {
             return Ok(Some(Content {
                 segs,
                 trailing,
                 end: after,
             }));
         }
-        segs.push(Seg {
-            before,
-            nodes,
-            suffix,
-        })?;
+        segs.push(here)?;
         Ok(Some(Content {
             segs,
             trailing,

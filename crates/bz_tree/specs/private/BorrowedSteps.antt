@@ -15,7 +15,7 @@ abbrev pub segs_owned : List Seg → ℕ
 segs_owned ss = total (map seg_owned ss)
 
 abbrev pub walk_owned : Walk → ℕ
-walk_owned w = segs_owned w.segs.items + owned_in w.before.items + nodes_owned w.nodes.items + owned_of w.suffix + owned_in w.after.items
+walk_owned w = segs_owned w.segs.items + owned_in w.here.before.items + nodes_owned w.here.nodes.items + owned_of w.here.suffix + owned_in w.after.items
 
 abbrev pub content_owned : Content → ℕ
 content_owned c = segs_owned c.segs.items + owned_in c.end.items

@@ -49,7 +49,7 @@ last_view (BeforeNode line text) = end_of_node (line + count_by (λ b. b == 10) 
 last_view (BeforeComma line) = end_of_comma line
 
 abbrev pub walked : Walk → Walked
-walked w = record { segs = map seg_view w.segs.items; before = texts w.before.items; nodes = map node_view w.nodes.items; suffix = option_map text_of w.suffix; after = texts w.after.items; last = last_view w.last; trailing = w.trailing }
+walked w = record { segs = map seg_view w.segs.items; before = texts w.here.before.items; nodes = map node_view w.here.nodes.items; suffix = option_map text_of w.here.suffix; after = texts w.after.items; last = last_view w.last; trailing = w.trailing }
 
 abbrev pub content_view : Content → Inside
 content_view c = record { segs = map seg_view c.segs.items; trailing = c.trailing; end = texts c.end.items }
@@ -196,6 +196,9 @@ next t ls = next_at (mark_of t) t ls.0 ls.1
 abbrev pub finish : Option GroupKind → Option Walked → List Level → Option Segment
 finish None w [] = option_map segment_with (option_map done w)
 finish _ w outer = None
+
+abbrev pub finished : Levels → Option Segment
+finished ls = finish ls.0.kind ls.0.walked ls.1
 
 abbrev pub run : Level → List Level → List Placed → Option Segment
 run top outer [] = finish top.kind top.walked outer

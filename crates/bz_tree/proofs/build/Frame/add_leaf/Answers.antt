@@ -7,5 +7,5 @@ use Rattle.bz_tree.proofs.build.Frame.add_leaf.Goals as goal
 pub returns-clause-value : goal.returns-clause-value
 returns-clause-value c =
     let f = c.args.self.now in
-    leaf_added f.kind _ f.walk c.add_node.new.self f.at _ c.leaf_of-leaf.result c.args.token.now.line _ (placed c.args.token.now) c.leaf_of-leaf.ensures.value c.after_leaf-self.ensures refl refl
+    leaf_added f.kind _ f.walk c.add_node.new.self f.at _ c.leaf_of.result c.args.token.now.line _ (placed c.args.token.now) c.leaf_of.ensures.value c.kind_after-self.ensures refl refl
     (c.in_ok-add_node.ensures.value ∙ ap (after_node _ _) c.in_ok-reserve.ensures.value) (c.add_node.ensures.whole ∙ c.reserve.ensures.whole) c.kind_with-self.ensures
