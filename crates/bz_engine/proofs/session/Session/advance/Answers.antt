@@ -1,17 +1,20 @@
-use Rattle.std.proofs.Common.{◌≡◌, ℕ, List, [], ◌∷◌, ◌++◌, ◌∙◌, ap, sym, subst, length, take, ◌≤◌}
+use Rattle.std.proofs.Common.{◌≡◌, ℕ, List, [], ◌∷◌, ◌++◌, ◌∙◌, ap, sym, subst, length, take, ◌≤◌, ◌^◌, refl}
 use Rattle.std.specs.Prelude.{IsErrAnd, Ok, Err}
 use Rattle.std.proofs.lemmas.Result.{err_from_is_err_and}
 use Rattle.bz_engine.specs.declared.run_fault.RunFault.{RunFault}
-use Rattle.bz_engine.specs.declared.run_fault.RunFault.TheVariants.{InputTooLong, Stopped, WriteFailed}
+use Rattle.bz_engine.specs.declared.run_fault.RunFault.TheVariants.{InputTooLong, ReadFailed, Stopped, WriteFailed}
 use Rattle.bz_engine.specs.contracts.session.Session.{the_view}
-use Rattle.bz_engine.specs.declared.report.End.TheVariants.{Syntax, FirstFailure}
+use Rattle.bz_engine.specs.declared.report.End.TheVariants.{Whole, Syntax, FirstFailure}
+use Rattle.bz_engine.specs.declared.session.Stage.TheVariants.{Ended}
 use Rattle.bz_devices.specs.Ahead.{IsTooLong}
-use Rattle.bz_engine.specs.SessionValue.{SessionValue, HasDone, IsLeftByFault, HasEnded}
-use Rattle.bz_devices.proofs.PassedOn.{passed_on}
+use Rattle.bz_engine.specs.SessionValue.{SessionValue, IsReady, HasDone, IsLeftByFault, HasEnded}
+use Rattle.bz_devices.proofs.PassedOn.{passed_on, not_passed_on}
 use Rattle.bz_engine.proofs.Faults.{refused_as}
 use Rattle.bz_devices.proofs.ChunkAhead.{next_fits, nothing_fits}
 use Rattle.bz_engine.proofs.Sessions.{too_long_there, reads_within, read_within}
 use Rattle.bz_engine.proofs.Advances.{chunk_done, chunk_faulty, chunk_failed, left_by_write, on_err, goes_not_on, has_not_ended, same_end, some_chunk, no_chunk, take_some, take_few, whole_end}
+use Rattle.bz_engine.proofs.Kept.{session_ahead, session_failed, lines_fit, ready_next}
+use Rattle.bz_engine.proofs.Runs.{ok_is_no_err}
 use Rattle.bz_engine.proofs.session.Session.advance.Goals as goal
 use Rattle.bz_engine.proofs.session.Session.advance.Goals.{in-Done+in_ok-write-in-Done, in-Faulty, in-Failed}
 
@@ -172,3 +175,95 @@ returns-clause-refused g c other long =
           absurd (next_fits _ c.in-Some.len c.find_chunk.new.ahead next
           (subst (λ v. IsTooLong v.options.max_statement v.ahead) (c.self-2.view_is ∙ w.self-is ∙ ap fails (w.self-in-Failed.view_is ∙ c.edit.ensures.same)) long))
     ]
+
+pub find_chunk-requires-clause-made : goal.find_chunk-requires-clause-made
+find_chunk-requires-clause-made g c = subst (λ v. v.ahead.reads ≤ v.options.max_reads) (sym (ap the_view c.self-inside.view_is)) c.self.invariant.made
+
+pub find_chunk-requires-clause-few : goal.find_chunk-requires-clause-few
+find_chunk-requires-clause-few g c = subst (λ v. length v.ahead.bytes ≤ 8192) (sym (ap the_view c.self-inside.view_is ∙ c.self.view_is)) c.requires.ready.few
+
+pub edit-requires-clause-within : goal.edit-requires-clause-within
+edit-requires-clause-within g c =
+    let next = some_chunk _ _ _ _ c.in_ok-len.ensures.chunk c.in-Some.is in
+    next.within
+
+pub edit-requires-clause-lines : goal.edit-requires-clause-lines
+edit-requires-clause-lines g c =
+    let read = c.find_chunk.ensures.read in
+    let next = some_chunk _ _ _ _ c.in_ok-len.ensures.chunk c.in-Some.is in
+    lines_fit _ c.find_chunk.new.ahead c.in-Some.len read.0 (subst IsReady (sym (ap the_view c.self-inside.view_is ∙ c.self.view_is)) c.requires.ready) read.2
+    (subst (λ v. v.options.max_reads ≤ 2 ^ 50) (sym (ap the_view c.self-inside.view_is)) c.self.invariant.limit) next.within
+
+pub write-requires-clause-within : goal.write-requires-clause-within
+write-requires-clause-within g c =
+    let next = some_chunk _ _ _ _ c.in_ok-len.ensures.chunk c.in-Some.is in
+    subst (λ v. c.in-Some.len ≤ length v.ahead.bytes) (sym c.edit.ensures.same) next.within
+
+pub invariant_of-self : goal.invariant_of-self
+invariant_of-self g c =
+    let read = c.find_chunk.ensures.read in
+    session_ahead _ _ c.find_chunk.new.ahead read.0 (ap the_view c.self-inside.view_is) c.self.invariant (ap (λ v. v.stage) c.self.view_is ∙ c.requires.stopped) read.2
+
+pub invariant_of-self-in_default : goal.invariant_of-self-in_default
+invariant_of-self-in_default g c =
+    let read = c.find_chunk.ensures.read in
+    session_ahead _ _ c.find_chunk.new.ahead read.0 (ap the_view c.self-inside.view_is) c.self.invariant (ap (λ v. v.stage) c.self.view_is ∙ c.requires.stopped) read.2
+
+pub invariant_of-self-2 : goal.invariant_of-self-2
+invariant_of-self-2 g c =
+    let read = c.find_chunk.ensures.read in
+    session_ahead _ _ c.find_chunk.new.ahead read.0 (ap the_view c.self-inside.view_is) c.self.invariant (ap (λ v. v.stage) c.self.view_is ∙ c.requires.stopped) read.2
+
+pub invariant_of-self-in-Failed : goal.invariant_of-self-in-Failed
+invariant_of-self-in-Failed g c = session_failed _ c.in-Failed.message c.self-in-Failed.invariant
+
+pub returns-in_err-len-clause-ready : goal.returns-in_err-len-clause-ready
+returns-in_err-len-clause-ready g c going =
+    let p = err_from_is_err_and c.from_residual.result c.from_residual.ensures.1 in
+    absurd (ok_is_no_err c.from_residual.result _ p.0 going p.1)
+
+pub returns-in_err-edited-clause-ready : goal.returns-in_err-edited-clause-ready
+returns-in_err-edited-clause-ready g c going =
+    let fault = c.from_residual-in_err-edited in
+    let p = err_from_is_err_and fault.result fault.ensures.1 in
+    absurd (ok_is_no_err fault.result _ p.0 going p.1)
+
+pub returns-in_err-write-in-Done-clause-ready : goal.returns-in_err-write-in-Done-clause-ready
+returns-in_err-write-in-Done-clause-ready g c going =
+    let fault = c.from_residual-in_err-write-in-Done in
+    let p = err_from_is_err_and fault.result fault.ensures.1 in
+    absurd (ok_is_no_err fault.result _ p.0 going p.1)
+
+pub returns-in_default-clause-ready : goal.returns-in_default-clause-ready
+returns-in_default-clause-ready g c going = goes_not_on (Ended Whole) Whole going refl
+
+pub returns-clause-ready : goal.returns-clause-ready
+returns-clause-ready g c going =
+    let before = subst IsReady (sym (ap the_view c.self-inside.view_is ∙ c.self.view_is)) c.requires.ready in
+    let read = c.find_chunk.ensures.read in
+    let next = some_chunk _ _ _ _ c.in_ok-len.ensures.chunk c.in-Some.is in
+    elim c.match-edited.branch [
+      | in-Done+in_ok-write-in-Done w ↦ subst IsReady (sym (c.self-2.view_is ∙ w.self-is))
+          (ready_next _ c.edit.new.self w.write.new.self c.find_chunk.new.ahead _ _ c.in-Some.len read.0 before read.2 next c.edit.ensures.same
+          c.in_ok-edited.ensures.fits c.in_ok-edited.ensures.lines w.in_ok-write-in-Done.ensures.taken)
+      | in-Faulty w ↦ goes_not_on c.match-edited.stage (Syntax w.in-Faulty.fault) going w.stage-is
+      | in-Failed w ↦ goes_not_on c.match-edited.stage FirstFailure going w.stage-is
+    ]
+
+pub returns-in_err-len-clause-steady : goal.returns-in_err-len-clause-steady
+returns-in_err-len-clause-steady g c =
+    let fault = c.from_residual in
+    let p = err_from_is_err_and fault.result fault.ensures.1 in (
+      λ other. c.find_chunk.ensures.steady (λ h. not_passed_on fault.result p.0 c.in_err-len.field-0.0 ReadFailed p.1 p.2 other (sym c.in_err-len.was ∙ h)),
+      λ _. refl,
+    )
+
+pub returns-clause-steady : goal.returns-clause-steady
+returns-clause-steady g c = (
+  λ _. c.find_chunk.ensures.steady (λ h. ok_is_no_err _ _ ReadFailed c.in_ok-len.was h),
+  λ _. elim c.match-edited.branch [
+    | in-Done+in_ok-write-in-Done w ↦ ap g.W.Sink.failures w.sink-is ∙ w.in_ok-write-in-Done.ensures.steady
+    | in-Faulty w ↦ ap g.W.Sink.failures w.sink-is
+    | in-Failed w ↦ ap g.W.Sink.failures w.sink-is
+  ],
+)

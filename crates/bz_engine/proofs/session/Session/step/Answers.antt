@@ -1,8 +1,8 @@
-use Rattle.std.proofs.Common.{◌≡◌, ◌≢◌, ℕ, List, [], ◌∷◌, ◌++◌, ◌∙◌, ap, sym, subst, length, ◌+◌, ◌≤◌}
+use Rattle.std.proofs.Common.{◌≡◌, ◌≢◌, ℕ, List, [], ◌∷◌, ◌++◌, refl, ◌∙◌, ap, sym, subst, length, ◌+◌, ◌≤◌}
 use Rattle.std.specs.Prelude.{IsErrAnd, Ok, Err}
 use Rattle.std.proofs.lemmas.Result.{err_from_is_err_and}
 use Rattle.bz_engine.specs.declared.run_fault.RunFault.{RunFault}
-use Rattle.bz_engine.specs.declared.run_fault.RunFault.TheVariants.{InputTooLong, ReadFailed, WriteFailed}
+use Rattle.bz_engine.specs.declared.run_fault.RunFault.TheVariants.{InputTooLong, StatementTooLong, ReadFailed, WriteFailed}
 use Rattle.bz_engine.specs.declared.session.Stage.TheVariants.{Going, Stopped}
 use Rattle.bz_devices.specs.Device.{joined}
 use Rattle.bz_devices.specs.Ahead.{IsTooLong}
@@ -11,6 +11,7 @@ use Rattle.bz_devices.proofs.PassedOn.{not_passed_on}
 use Rattle.bz_engine.proofs.Faults.{refused_on, not_refused}
 use Rattle.bz_engine.proofs.Runs.{ok_is_no_err}
 use Rattle.bz_engine.proofs.Advances.{restaged, left_before, on_err, which_end, more_is_no_end, end_is_not_more, ok_same}
+use Rattle.bz_engine.proofs.Kept.{session_stopped, session_at, ready_with, ok_on_err}
 use Rattle.bz_engine.proofs.session.Session.step.Goals as goal
 use Rattle.bz_engine.proofs.session.Session.step.Goals.{in-Going-stage, in_default}
 
@@ -113,3 +114,60 @@ returns-in_err-self-inside-clause-steady g c =
     let same = λ (e : RunFault) (other : fault.result ≢ Err e) (h : c.advance.result ≡ Err e).
     not_passed_on fault.result p.0 c.in_err-self-inside.field-0.0 e p.1 p.2 other (sym was ∙ h) in
     (λ other. c.advance.ensures.steady.0 (same ReadFailed other), λ other. c.advance.ensures.steady.1 (same WriteFailed other))
+
+pub invariant_of-self : goal.invariant_of-self
+invariant_of-self g c = session_stopped _ c.self.invariant
+
+pub invariant_of-self-2 : goal.invariant_of-self-2
+invariant_of-self-2 g c =
+    let next = c.in_ok-self-inside in
+    session_at _ c.advance.new.self next.field-0 c.self-2.view_is c.self-2.invariant (λ going. next.ensures.ready (ap Ok going)) next.ensures.fits
+
+pub advance-requires-clause-ready : goal.advance-requires-clause-ready
+advance-requires-clause-ready g c = ready_with _ Stopped c.self.inside.failure (c.self.invariant.ready c.in-Going.is)
+
+pub returns-clause-too_long : goal.returns-clause-too_long
+returns-clause-too_long g c told =
+    elim c.match-self-2.branch [
+      | in-Going-stage w ↦ absurd (ok_is_no_err c.match-self-2.result _ InputTooLong w.result-is told)
+      | in_default w ↦ absurd (ok_is_no_err c.match-self-2.result _ InputTooLong w.result-is told)
+    ]
+
+pub returns-clause-statement_too_long : goal.returns-clause-statement_too_long
+returns-clause-statement_too_long g c line told =
+    elim c.match-self-2.branch [
+      | in-Going-stage w ↦ absurd (ok_is_no_err c.match-self-2.result _ (StatementTooLong line) w.result-is told)
+      | in_default w ↦ absurd (ok_is_no_err c.match-self-2.result _ (StatementTooLong line) w.result-is told)
+    ]
+
+pub returns-clause-front : goal.returns-clause-front
+returns-clause-front g c =
+    elim c.match-self-2.branch [
+      | in-Going-stage w ↦ ok_on_err _ c.match-self-2.result _ w.result-is
+      | in_default w ↦ ok_on_err _ c.match-self-2.result _ w.result-is
+    ]
+
+pub returns-clause-unwritten : goal.returns-clause-unwritten
+returns-clause-unwritten g c =
+    elim c.match-self-2.branch [
+      | in-Going-stage w ↦ ok_on_err _ c.match-self-2.result _ w.result-is
+      | in_default w ↦ ok_on_err _ c.match-self-2.result _ w.result-is
+    ]
+
+pub returns-clause-read_failed : goal.returns-clause-read_failed
+returns-clause-read_failed g c told =
+    elim c.match-self-2.branch [
+      | in-Going-stage w ↦ absurd (ok_is_no_err c.match-self-2.result _ ReadFailed w.result-is told)
+      | in_default w ↦ absurd (ok_is_no_err c.match-self-2.result _ ReadFailed w.result-is told)
+    ]
+
+pub returns-clause-steady : goal.returns-clause-steady
+returns-clause-steady g c =
+    let was = c.in_ok-self-inside.was in
+    (λ _. c.advance.ensures.steady.0 (λ h. ok_is_no_err _ _ ReadFailed was h), λ _. c.advance.ensures.steady.1 (λ h. ok_is_no_err _ _ WriteFailed was h))
+
+pub returns-in-Stopped-clause-steady : goal.returns-in-Stopped-clause-steady
+returns-in-Stopped-clause-steady g c = (λ _. refl, λ _. refl)
+
+pub returns-in-Ended-clause-steady : goal.returns-in-Ended-clause-steady
+returns-in-Ended-clause-steady g c = (λ _. refl, λ _. refl)
