@@ -1,6 +1,7 @@
 -- Faults with which a chunk that is too long is refused.
-use Rattle.std.proofs.Common.{◌≡◌, ◌≢◌, ◌∙◌, sym, ap, inl, inr}
-use Rattle.std.specs.Prelude.{Result, Ok, Err}
+use Rattle.std.proofs.Common.{◌≡◌, ◌≢◌, Bool, true, false, refl, ◌∙◌, sym, ap, inl, inr}
+use Rattle.std.specs.Prelude.{Result, Ok, Err, OnErr}
+use Rattle.std.proofs.lemmas.Bool.{false≢true}
 use Rattle.bz_devices.proofs.PassedOn.{err_is}
 use Rattle.bz_engine.specs.declared.run_fault.RunFault.{RunFault}
 use Rattle.bz_engine.specs.declared.run_fault.RunFault.TheVariants.{OutOfMemory, ReadFailed, WriteFailed, InputTooLong, StatementTooLong, Stopped}
@@ -27,3 +28,16 @@ pub not_refused : {A : Type 0} (a : Result A RunFault) (x : A) → a ≡ Ok x �
 not_refused a x is (inl h) = ok_is_no_err a x OutOfMemory is h
 not_refused a x is (inr (inl h)) = ok_is_no_err a x ReadFailed is h
 not_refused a x is (inr (inr (line, h))) = ok_is_no_err a x (StatementTooLong line) is h
+
+abbrev is_memory : RunFault → Bool
+is_memory OutOfMemory = true
+is_memory ReadFailed = false
+is_memory WriteFailed = false
+is_memory InputTooLong = false
+is_memory (StatementTooLong line) = false
+is_memory Stopped = false
+
+-- where only memory can be wanting, there is no other fault
+pub memory_alone : {T X : Type 0} (r : Result T RunFault) (e : RunFault) → OnErr r (r ≡ Err OutOfMemory) → is_memory e ≡ false → r ≡ Err e → X
+memory_alone (Ok x) e only other told = absurd (ok_is_no_err (Ok x) x e refl told)
+memory_alone (Err f) e only other told = absurd (false≢true (sym other ∙ ap is_memory (sym (err_is OutOfMemory e (sym only ∙ told)))))

@@ -7,6 +7,7 @@ use Rattle.bz_engine.specs.Outcome.{told_by}
 use Rattle.bz_engine.specs.SessionValue.{HasDone, told_at}
 use Rattle.bz_engine.proofs.Advances.{on_err}
 use Rattle.bz_devices.proofs.PassedOn.{not_passed_on}
+use Rattle.bz_engine.proofs.Faults.{memory_alone}
 use Rattle.bz_engine.proofs.Cut.{cut_is, fault_begins, fault_reads, ended_begins, nothing_begins, too_long_in}
 use Rattle.bz_engine.proofs.Runs.{started, shorter, outcome_is, where_ok, ok_is_no_err}
 use Rattle.bz_engine.proofs.runner.run.Goals as goal
@@ -173,3 +174,28 @@ returns-in-End-clause-steady g c =
       λ _. steady.0 (λ h. ok_is_no_err _ _ ReadFailed answer h) ∙ inv.read_steady,
       λ _. steady.1 (λ h. ok_is_no_err _ _ WriteFailed answer h) ∙ inv.write_steady,
     )
+
+pub returns-in-End-clause-too_long : goal.returns-in-End-clause-too_long
+returns-in-End-clause-too_long g c told =
+    let end = c.step.ensures.end (c.in_ok-step.was ∙ ap Ok c.in-End.is) c.loop-session.invariant.goes in
+    memory_alone c.finish.result InputTooLong (c.finish.ensures.memory end.0 end.1) refl told
+
+pub returns-in-End-clause-statement_too_long : goal.returns-in-End-clause-statement_too_long
+returns-in-End-clause-statement_too_long g c line told =
+    let end = c.step.ensures.end (c.in_ok-step.was ∙ ap Ok c.in-End.is) c.loop-session.invariant.goes in
+    memory_alone c.finish.result (StatementTooLong line) (c.finish.ensures.memory end.0 end.1) refl told
+
+pub returns-in-End-clause-read_failed : goal.returns-in-End-clause-read_failed
+returns-in-End-clause-read_failed g c told =
+    let end = c.step.ensures.end (c.in_ok-step.was ∙ ap Ok c.in-End.is) c.loop-session.invariant.goes in
+    memory_alone c.finish.result ReadFailed (c.finish.ensures.memory end.0 end.1) refl told
+
+pub returns-in-End-clause-write_failed : goal.returns-in-End-clause-write_failed
+returns-in-End-clause-write_failed g c told =
+    let end = c.step.ensures.end (c.in_ok-step.was ∙ ap Ok c.in-End.is) c.loop-session.invariant.goes in
+    memory_alone c.finish.result WriteFailed (c.finish.ensures.memory end.0 end.1) refl told
+
+pub returns-in-End-clause-going : goal.returns-in-End-clause-going
+returns-in-End-clause-going g c told =
+    let end = c.step.ensures.end (c.in_ok-step.was ∙ ap Ok c.in-End.is) c.loop-session.invariant.goes in
+    memory_alone c.finish.result Stopped (c.finish.ensures.memory end.0 end.1) refl told
