@@ -1,11 +1,11 @@
 -- The call of a rule, at the end of the nodes, edited.
-use Rattle.std.proofs.Common.{◌≡◌, ℕ, suc, ◌+◌, List, [], ◌∷◌, ◌++◌, true, length, get_or, set, take, refl, ap, sym, ◌∙◌, arith, is_some}
+use Rattle.std.proofs.Common.{◌≡◌, ℕ, suc, ◌+◌, ◌-◌, ◌≤◌, List, [], ◌∷◌, ◌++◌, Bool, true, false, ◌&&◌, if◌then◌else◌, Some, None, length, get_or, set, take, refl, ap, sym, ◌∙◌, arith, is_some}
 use Rattle.std.proofs.lemmas.List.{map-append, set_split, drop_all, get_or_default}
 use Rattle.bz_tree.specs.declared.stmt.Node.{Node}
 use Rattle.bz_tree.specs.declared.stmt.GroupKind.TheVariants.{Call, RuleCall, Load, Paren, List as ListKind, Index, Dict, ListComp, DictComp}
 use Rattle.bz_tree.specs.Tree.{Item, leaf, group, Segment}
 use Rattle.bz_tree.specs.View.{node_view, nodes_view}
-use Rattle.bz_attribute.specs.Rules.{call_at, is_call, dotted, elements}
+use Rattle.bz_attribute.specs.Rules.{Rule, rule_of, call_at, is_call, dotted, elements, comma_of, end_of}
 use Rattle.bz_attribute.specs.Lists.{edit_list}
 use Rattle.bz_attribute.specs.declared.done.Done.{Done}
 use Rattle.bz_attribute.specs.Effects.{nodes_after, done_in}
@@ -30,7 +30,7 @@ call_read g kind x a b = rw (a, b) refl
 set_last : (ns : List Node) (i : ℕ) (m : Node) → i + 1 ≡ length ns → set ns i m ≡ take i ns ++ m ∷ []
 set_last ns i m h = set_split ns i m (omega arith) ∙ ap (λ (zs : List Node). take i ns ++ m ∷ zs) (drop_all (suc i) ns (omega arith))
 
-pub is_call_at : (ns : List Node) (i : ℕ) (e : Node) → i + 1 ≡ length ns → is_call (node_view (get_or ns i e)) ≡ true → dotted true (nodes_view (take i ns)) ≡ true → IsCallAt ns i
+is_call_at : (ns : List Node) (i : ℕ) (e : Node) → i + 1 ≡ length ns → is_call (node_view (get_or ns i e)) ≡ true → dotted true (nodes_view (take i ns)) ≡ true → IsCallAt ns i
 is_call_at ns i e h a b =
     let calls : (d : Node) → is_call (node_view (get_or ns i d)) ≡ true = λ d. ap (λ (z : Node). is_call (node_view z)) (get_or_default ns i d e (omega arith)) ∙ a in
     record {
@@ -47,3 +47,26 @@ is_call_at ns i e h a b =
           ∙ sym (views_split ns d i h);
       read = λ g d. ap (done_in g) (rule_at ns d i h) ∙ call_read g (nodes_view (take i ns)) (node_view (get_or ns i d)) (calls d) b;
     }
+
+called : (kind : List Item) (x : Item) (r : Rule) → Some r ≡ call_at kind x → (is_call x && dotted true kind) ≡ true
+called kind x r h =
+    elim (is_call x && dotted true kind) as (λ b. Some r ≡ (if b then Some (record { kind = kind; args = elements x; one_comma = comma_of x; end = end_of x }) else None) → b ≡ true)
+    [ true ↦ λ k. refl | false ↦ λ k. absurd cc ] h
+
+both : (a b : Bool) → (a && b) ≡ true → (a ≡ true) × (b ≡ true)
+both true true h = (refl, refl)
+both true false h = absurd cc
+both false b h = absurd cc
+
+-- nodes that are a rule end with its call
+pub rule_nonempty : (ns : List Node) (r : Rule) → Some r ≡ rule_of (nodes_view ns) → 1 ≤ length ns
+rule_nonempty [] r h = absurd cc
+rule_nonempty (n ∷ ns) r h = omega arith
+
+pub call_of_rule : (ns : List Node) (r : Rule) → Some r ≡ rule_of (nodes_view ns) → IsCallAt ns (length ns - 1)
+call_of_rule [] r h = absurd cc
+call_of_rule (n ∷ ns) r h =
+    let i : ℕ = length (n ∷ ns) - 1 in
+    let last : i + 1 ≡ length (n ∷ ns) = omega arith in
+    let parts = both (is_call (node_view (get_or (n ∷ ns) i n))) (dotted true (nodes_view (take i (n ∷ ns)))) (called (nodes_view (take i (n ∷ ns))) (node_view (get_or (n ∷ ns) i n)) r (h ∙ rule_at (n ∷ ns) n i last)) in
+    is_call_at (n ∷ ns) i n last parts.0 parts.1

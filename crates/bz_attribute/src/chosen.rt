@@ -1,6 +1,6 @@
 //! The elements of an attribute that a command chooses, and what is left without them.
 
-ghost use Rattle.std.specs.Prelude.{◌≡◌, ◌≤◌, length, not, ◌&&◌, ◌∷◌, []};
+ghost use Rattle.std.specs.Prelude.{◌≡◌, ◌≤◌, length, not, ◌&&◌};
 ghost use Rattle.std.specs.List.{list_any};
 ghost use Rattle.bz_tree.specs.View.{node_view, nodes_view, seg_view, segs_view};
 ghost use Rattle.bz_attribute.specs.Rules.{elements, value};
@@ -10,7 +10,7 @@ ghost use Rattle.bz_attribute.specs.Effects as spec;
 
 use crate::equals::{equals, equals_any, equals_other};
 use crate::lists::{are_joints, elements_at, is_list, is_part};
-use crate::rule::is_sign;
+use crate::rule::{is_sign, value_of};
 use crate::word_set::WordSet;
 use bz_command::{Package, Text};
 use bz_tree::{Node, Seg};
@@ -74,25 +74,17 @@ pub fn is_any_chosen(home: &Package, chosen: Chosen<'_, '_>, value: &[Node<'_>])
 pub fn chooses(home: &Package, chosen: Chosen<'_, '_>, arg: &Seg<'_>) -> bool
     ensures { result ≡ spec.chooses home.now (chosen_view chosen.entry) (seg_view arg.now) }
 {
-    if arg.nodes.len() < 2 {
-        return false;
-    }
-    is_any_chosen(home, chosen, &arg.nodes[2..])
+    is_any_chosen(home, chosen, value_of(arg))
 }
 
 // Drops the chosen elements.
-fn drop_chosen(home: &Package, chosen: Chosen<'_, '_>, elements: &mut Vec<Seg<'_>>)
-    ensures { segs_view elements.new.items
-        ≡ spec.unchosen home.now (chosen_view chosen.entry) (segs_view elements.old.items) }
-{
-    elements.retain(|element| !is_chosen(home, chosen, element));
-}
-
 fn drop_in_list(home: &Package, chosen: Chosen<'_, '_>, node: &mut Node<'_>)
     ensures { node_view node.new ≡ edit_list (spec.unchosen home.now (chosen_view chosen.entry)) (node_view node.old) }
 {
     if let Node::Group(group) = node {
-        drop_chosen(home, chosen, &mut group.segs);
+        group
+            .segs
+            .retain(|element| !is_chosen(home, chosen, element));
     }
 }
 
@@ -145,27 +137,12 @@ fn loses_elements(home: &Package, chosen: Chosen<'_, '_>, elements: &[Seg<'_>]) 
     }
 }
 
-fn loses_list(home: &Package, chosen: Chosen<'_, '_>, node: &Node<'_>) -> bool
-    ensures { result ≡ spec.loses_all (spec.unchosen home.now (chosen_view chosen.entry)) (node_view node.now ∷ []) }
-{
-    is_list(node) && loses_elements(home, chosen, elements_at(node))
-}
-
-fn loses_value(home: &Package, chosen: Chosen<'_, '_>, value: &[Node<'_>]) -> bool
-    ensures { result ≡ spec.loses_all (spec.unchosen home.now (chosen_view chosen.entry)) (nodes_view value.now) }
-{
-    match value {
-        [node] => loses_list(home, chosen, node),
-        _ => false,
-    }
-}
-
 /// The argument's value is one list, all of whose elements are chosen, and there are some.
 pub fn loses_all(home: &Package, chosen: Chosen<'_, '_>, arg: &Seg<'_>) -> bool
     ensures { result ≡ spec.loses_all (spec.unchosen home.now (chosen_view chosen.entry)) (value (seg_view arg.now)) }
 {
-    if arg.nodes.len() < 2 {
-        return false;
+    match value_of(arg) {
+        [node] => is_list(node) && loses_elements(home, chosen, elements_at(node)),
+        _ => false,
     }
-    loses_value(home, chosen, &arg.nodes[2..])
 }

@@ -33,7 +33,7 @@ pub fn equals(home: &Package, element: &Seg<'_>, word: &str) -> bool
 {
     match string_of(element) {
         None => false,
-        Some(value) => same_label(home, Bytes::Plain(word.as_bytes()), value),
+        Some(value) => same_label(home, value, Bytes::Plain(word.as_bytes())),
     }
 }
 
@@ -47,7 +47,7 @@ pub(crate) fn equals_other(home: &Package, element: &Seg<'_>, other: &Seg<'_>) -
     };
     match string_of(element) {
         None => false,
-        Some(value) => same_label(home, word, value),
+        Some(value) => same_label(home, value, word),
     }
 }
 

@@ -2,12 +2,12 @@
 
 ghost use Rattle.std.specs.Prelude.{◌≡◌, IfSome, IfNone, None, true};
 ghost use Rattle.std.specs.List.{position_or_len};
-ghost use Rattle.bz_tree.specs.View.{nodes_view, node_view, segs_view};
+ghost use Rattle.bz_tree.specs.View.{nodes_view, segs_view};
 ghost use Rattle.bz_attribute.specs.Rules as spec;
 ghost use Rattle.bz_attribute.specs.private.Places.{IsFirst, IsAbsent, IsCallAt};
 
-use crate::rule::{are_dotted, is_named};
-use bz_tree::{GroupKind, Node, Seg};
+use crate::rule::{is_named, rule_of};
+use bz_tree::{Node, Seg};
 
 /// Where the first argument of a name stands.
 pub fn find(args: &[Seg<'_>], name: &str) -> Option<usize>
@@ -38,24 +38,8 @@ pub fn call_at(nodes: &[Node<'_>]) -> Option<usize>
     ensures some { IfSome result (IsCallAt nodes.now) }
     ensures none { IfNone result (spec.rule_of (nodes_view nodes.now) ≡ None) }
 {
-    if nodes.len() == 0 {
-        return None;
-    }
-    let last = nodes.len() - 1;
-    if !is_call(&nodes[last]) {
-        return None;
-    }
-    if !are_dotted(&nodes[..last]) {
-        return None;
-    }
-    Some(last)
-}
-
-fn is_call(node: &Node<'_>) -> bool
-    ensures { result ≡ spec.is_call (node_view node.now) }
-{
-    match node {
-        Node::Token(_) => false,
-        Node::Group(group) => group.kind == GroupKind::RuleCall,
+    match rule_of(nodes) {
+        None => None,
+        Some(_) => Some(nodes.len() - 1),
     }
 }

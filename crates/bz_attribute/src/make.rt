@@ -1,9 +1,7 @@
 //! New tokens, elements and arguments. What cannot be made for want of memory leaves nothing after.
 
-ghost use Rattle.std.specs.Prelude.{◌≡◌, ◌<◌, IfOk, map, string_bytes, codes, ◌∷◌, []};
-ghost use Rattle.std.specs.Vec.{vec_len, vec_capacity};
-ghost use Rattle.bz_token.specs.declared.token.Kind.TheVariants.{Ident, Sign};
-ghost use Rattle.bz_tree.specs.View.{node_view, nodes_view, seg_view, segs_view};
+ghost use Rattle.std.specs.Prelude.{◌≡◌, IfOk, map, string_bytes, ◌∷◌, []};
+ghost use Rattle.bz_tree.specs.View.{node_view, seg_view, segs_view};
 ghost use Rattle.bz_tree.specs.Tree.{leaf};
 ghost use Rattle.bz_attribute.specs.Effects as spec;
 
@@ -41,7 +39,7 @@ pub fn string<'a>(alloc: Global, value: &str) -> Result<Seg<'a>, AllocError>
     ensures { IfOk result (λ seg. seg_view seg ≡ spec.string value.now) }
 {
     let mut nodes = Vec::with_capacity(alloc, 1)?;
-    nodes.push(literal(alloc, value)?)?;
+    nodes.push_reserved(literal(alloc, value)?);
     Ok(Seg {
         before: Vec::new(alloc),
         nodes,
@@ -77,9 +75,9 @@ pub fn argument<'a>(alloc: Global, attr: &str, value: Node<'a>) -> Result<Seg<'a
     ensures { IfOk result (λ seg. seg_view seg ≡ spec.argument attr.now (node_view value.entry ∷ [])) }
 {
     let mut nodes = Vec::with_capacity(alloc, 3)?;
-    nodes.push(token(alloc, Kind::Ident, attr)?)?;
-    nodes.push(token(alloc, Kind::Sign, "=")?)?;
-    nodes.push(value)?;
+    nodes.push_reserved(token(alloc, Kind::Ident, attr)?);
+    nodes.push_reserved(token(alloc, Kind::Sign, "=")?);
+    nodes.push_reserved(value);
     Ok(Seg {
         before: Vec::new(alloc),
         nodes,
@@ -97,30 +95,4 @@ pub fn list_argument<'a>(
         (λ seg. seg_view seg ≡ spec.argument attr.now (spec.list_item (segs_view elements.entry.items) ∷ [])) }
 {
     argument(alloc, attr, list(alloc, elements))
-}
-
-/// The name and the sign of a new argument, with room for a value.
-pub fn argument_head<'a>(alloc: Global, attr: &str) -> Result<Vec<Node<'a>>, AllocError>
-    ensures nodes { IfOk result
-        (λ head. nodes_view head.items ≡ leaf Ident attr.now ∷ leaf Sign (codes "=") ∷ []) }
-    ensures room { IfOk result (λ head. vec_len head < vec_capacity head) }
-{
-    let mut nodes = Vec::with_capacity(alloc, 3)?;
-    nodes.push_reserved(token(alloc, Kind::Ident, attr)?);
-    nodes.push_reserved(token(alloc, Kind::Sign, "=")?);
-    Ok(nodes)
-}
-
-/// A new argument with this head, whose value is a list. Takes no memory.
-pub fn list_with<'a>(alloc: Global, mut head: Vec<Node<'a>>, elements: Vec<Seg<'a>>) -> Seg<'a>
-    requires { vec_len head < vec_capacity head }
-    ensures { (attr : _) → nodes_view head.entry.items ≡ leaf Ident attr ∷ leaf Sign (codes "=") ∷ []
-        → seg_view result ≡ spec.argument attr (spec.list_item (segs_view elements.entry.items) ∷ []) }
-{
-    head.push_reserved(list(alloc, elements));
-    Seg {
-        before: Vec::new(alloc),
-        nodes: head,
-        suffix: None,
-    }
 }

@@ -47,7 +47,7 @@ fn call_of<'n, 'a>(node: &'n Node<'a>) -> Option<&'n Group<'a>>
 }
 
 // Identifiers joined by dots.
-pub(crate) fn are_dotted(kind: &[Node<'_>]) -> bool
+fn are_dotted(kind: &[Node<'_>]) -> bool
     ensures { result ≡ spec.dotted true (nodes_view kind.now) }
 {
     let mut wants_name = true;
@@ -124,6 +124,16 @@ pub fn first_named<'n, 'a>(args: &'n [Seg<'a>], name: &str) -> Option<&'n Seg<'a
     None
 }
 
+/// The nodes of the value of a named argument.
+pub fn value_of<'n, 'a>(arg: &'n Seg<'a>) -> &'n [Node<'a>]
+    ensures { nodes_view result.now ≡ spec.value (seg_view arg.now) }
+{
+    if arg.nodes.len() < 2 {
+        return &[];
+    }
+    &arg.nodes[2..]
+}
+
 /// The text of what is one string token.
 pub fn only_text<'n>(nodes: &'n [Node<'_>]) -> Option<&'n str>
     ensures { option_map (λ text. text.now) result ≡ spec.only_text (nodes_view nodes.now) }
@@ -153,8 +163,5 @@ pub(crate) fn name_text<'n>(args: &'n [Seg<'_>]) -> Option<&'n str>
     let Some(arg) = first_named(args, "name") else {
         return None;
     };
-    if arg.nodes.len() < 2 {
-        return None;
-    }
-    only_text(&arg.nodes[2..])
+    only_text(value_of(arg))
 }
