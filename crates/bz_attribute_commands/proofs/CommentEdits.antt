@@ -1,18 +1,24 @@
 -- Steps to a comment: the line without the blanks at its end, and the element that it goes to.
-use Rattle.std.proofs.Common.{◌≡◌, ℕ, suc, ◌+◌, ◌-◌, ◌<◌, ◌≤◌, List, [], ◌∷◌, ◌++◌, Bool, true, false, ◌&&◌, if◌then◌else◌, length, get_or, set, take, drop, refl, ap, sym, ◌∙◌, arith, add-one, is_some, Option, Some, None, IfSome, IfNone}
+use Rattle.std.proofs.Common.{◌≡◌, ℕ, suc, ◌+◌, ◌-◌, ◌<◌, ◌≤◌, List, [], ◌∷◌, ◌++◌, Bool, true, false, ◌&&◌, if◌then◌else◌, length, get_or, set, take, drop, refl, ap, subst, sym, ◌∙◌, arith, add-one, is_some, Option, Some, None, IfSome, IfNone}
 use Rattle.std.specs.List.{list_all, list_any, position_or_len}
-use Rattle.std.proofs.lemmas.List.{drop_more, set_split, map-append, map-set, get_or-map, set-get_or, length-map, get_or_default, take_more, take_all}
+use Rattle.std.proofs.lemmas.List.{drop_more, set_split, map-append, map-set, get_or-map, set-get_or, length-map, length-drop, drop-map, get_or-drop, get_or_default, take_more, take_all, take_rest}
 use Rattle.std.proofs.lemmas.Bool.Decides.{nat_tests}
 use Rattle.bz_tree.specs.declared.stmt.Node.{Node}
-use Rattle.bz_tree.specs.declared.stmt.Seg.{Seg}
+use Rattle.std.specs.Vec.{with_item}
+use Rattle.bz_tree.specs.declared.stmt.Seg.{Seg, roll-Seg}
 use Rattle.bz_tree.specs.Tree.{Item, Segment}
 use Rattle.bz_tree.specs.View.{node_view, nodes_view, seg_view, segs_view}
-use Rattle.bz_attribute.specs.Rules.{elements}
-use Rattle.bz_attribute.specs.Lists.{edit_list, is_part, is_joint, parts_from, parts}
-use Rattle.bz_attribute.specs.Effects.{edit_first}
-use Rattle.bz_attribute.specs.Commenting.{is_blank, trimmed, edit_element, edit_element_from}
+use Rattle.bz_attribute.specs.Rules.{elements, first_named, is_named, value}
+use Rattle.bz_attribute.specs.Lists.{edit_list, equals, is_part, is_joint, parts_from, parts}
+use Rattle.bz_attribute.specs.Effects.{edit_first, has, no_parts}
+use Rattle.bz_command.specs.Labels.{Package}
+use Rattle.bz_attribute.specs.declared.done.Note.{Note}
+use Rattle.bz_attribute.specs.private.Places.{IsFirst}
+use Rattle.bz_attribute.specs.Commenting.{is_blank, trimmed, comment_element, comment_line, comment_note, comment_value, edit_element, edit_element_from, with_comment}
 use Rattle.bz_attribute_commands.specs.private.CommentPlaces.{IsFirstOf, IsNowhere, IsPartWith, ends_blank}
 use Rattle.bz_attribute.proofs.First.{has_one, has_none, put_first, edit_first_none}
+use Rattle.bz_attribute.proofs.Groups.{view_of_seg}
+use Rattle.bz_attribute_commands.proofs.Written.{nodes_written}
 
 -- a blank at the end
 all_blank : (xs : List ℕ) (b : ℕ) → is_blank b ≡ true → list_all is_blank (xs ++ b ∷ []) ≡ list_all is_blank xs
@@ -70,6 +76,63 @@ is_nowhere p segs h =
 pub found_any : (p : Segment → Bool) (segs : List Seg) (r : Option ℕ) → IfSome r (IsFirstOf p segs) → IfNone r (IsNowhere p segs) → is_some r ≡ list_any p (segs_view segs)
 found_any p segs (Some i) found none = sym found.there
 found_any p segs None found none = sym none.none
+
+-- another node of the value
+value_set : (ns : List Node) (k : ℕ) (m : Node) (new : List Item) → 2 ≤ length ns → nodes_view (set (drop 2 ns) k m) ≡ new → nodes_view (set ns (2 + k) m) ≡ take 2 (nodes_view ns) ++ new
+value_set [] k m new h is = absurd (omega arith)
+value_set (x ∷ []) k m new h is = absurd (omega arith)
+value_set (x ∷ y ∷ ns) k m new h is =
+    let two : 2 + k ≡ suc (suc k) = omega arith in
+    ap (λ (j : ℕ). nodes_view (set (x ∷ y ∷ ns) j m)) two ∙ ap (λ (zs : List Item). node_view x ∷ node_view y ∷ zs) is
+
+some_parts : (f : List Segment → Bool) (lists : List (List Segment)) → list_any f lists ≡ true → no_parts lists ≡ false
+some_parts f [] any = absurd cc
+some_parts f (ss ∷ lists) any = refl
+
+no_note : (home : Package) (attr v : List ℕ) (args : List Segment) (a : Segment) → has attr args ≡ true → first_named attr args ≡ Some a → list_any (list_any (equals home v)) (parts (value a)) ≡ true → comment_note home attr v args ≡ None
+no_note home attr v args a there first any = rw (there, first, some_parts (list_any (equals home v)) (parts (value a)) any, any) refl
+
+-- the attribute has such an element
+pub comment_told : (home : Package) (attr v : List ℕ) (args : List Seg) (i k : ℕ) (a : Seg) → IsFirst attr args i → IsPartWith (equals home v) (drop 2 (get_or args i a).nodes.items) k → comment_note home attr v (segs_view args) ≡ None
+comment_told home attr v args i k a first part =
+    let s : Seg = get_or args i a in
+    let any : list_any (list_any (equals home v)) (parts (value (seg_view s))) ≡ true =
+    ap (λ (z : Segment). list_any (list_any (equals home v)) (parts (value z))) (view_of_seg s) ∙ ap (λ (zs : List Item). list_any (list_any (equals home v)) (parts zs)) (drop-map node_view 2 s.nodes.items) ∙ part.there in
+    no_note home attr v (segs_view args) (seg_view s) first.there (first.first a) any
+
+pub comment_put : (home : Package) (attr v text : List ℕ) (args : List Seg) (i k : ℕ) (a : Seg) (m e : Node) → IsFirst attr args i → IsPartWith (equals home v) (drop 2 (get_or args i a).nodes.items) k
+    → node_view m ≡ edit_list (edit_first (equals home v) (λ s. with_comment (comment_line text) s ∷ [])) (node_view (get_or (get_or args i a).nodes.items (2 + k) e))
+    → segs_view (set args i (roll-Seg (record { before = (get_or args i a).before; nodes = with_item (get_or args i a).nodes (2 + k) m; suffix = (get_or args i a).suffix }))) ≡ comment_value home attr v text (segs_view args)
+comment_put home attr v text args i k a m e first part edited =
+    let s : Seg = get_or args i a in
+    let ns : List Node = s.nodes.items in
+    let f : Segment → Segment = with_comment (comment_line text) in
+    let here : node_view m ≡ edit_list (edit_first (equals home v) (λ z. f z ∷ [])) (node_view (get_or (drop 2 ns) k e)) =
+    edited ∙ ap (λ (z : Node). edit_list (edit_first (equals home v) (λ z. f z ∷ [])) (node_view z)) (sym (get_or-drop 2 ns k e)) in
+    let written : nodes_view (set ns (2 + k) m) ≡ take 2 (nodes_view ns) ++ edit_element (equals home v) f (drop 2 (nodes_view ns)) =
+    value_set ns k m (edit_element (equals home v) f (drop 2 (nodes_view ns))) (first.nodes a) (part.put f m e here ∙ ap (edit_element (equals home v) f) (sym (drop-map node_view 2 ns))) in
+    let made : comment_element home v text (seg_view s) ≡ seg_view (roll-Seg (record { before = s.before; nodes = with_item s.nodes (2 + k) m; suffix = s.suffix })) =
+    ap (λ (zs : List Item). record (seg_view s) { nodes = take 2 zs ++ edit_element (equals home v) f (drop 2 zs) }) (ap (λ (z : Segment). z.nodes) (view_of_seg s))
+    ∙ ap (λ (zs : List Item). record (seg_view s) { nodes = zs }) (sym written)
+    ∙ sym (nodes_written s (2 + k) m) in
+    first.put (λ z. comment_element home v text z ∷ []) (roll-Seg (record { before = s.before; nodes = with_item s.nodes (2 + k) m; suffix = s.suffix })) a (ap (λ (z : Segment). z ∷ []) made)
+    ∙ sym (ap (λ (n : Option Note). if is_some n then segs_view args else edit_first (is_named attr) (λ z. comment_element home v text z ∷ []) (segs_view args)) (comment_told home attr v args i k a first part))
+
+pub comment_kept : (attr : List ℕ) (args : List Seg) (i k : ℕ) (a : Seg) (m e : Node) → IsFirst attr args i → k < length (drop 2 (get_or args i a).nodes.items)
+    → node_view m ≡ node_view (get_or (get_or args i a).nodes.items (2 + k) e)
+    → segs_view (set args i (roll-Seg (record { before = (get_or args i a).before; nodes = with_item (get_or args i a).nodes (2 + k) m; suffix = (get_or args i a).suffix }))) ≡ segs_view args
+comment_kept attr args i k a m e first within kept =
+    let s : Seg = get_or args i a in
+    let ns : List Node = s.nodes.items in
+    let h : 2 + k < length ns = omega (arith, within, length-drop 2 ns) in
+    let same : nodes_view (set ns (2 + k) m) ≡ nodes_view ns = map-set node_view ns (2 + k) m ∙ ap (set (nodes_view ns) (2 + k)) (kept ∙ sym (get_or-map node_view ns (2 + k) e (node_view e) h)) ∙ set-get_or (nodes_view ns) (2 + k) (node_view e) in
+    first.same (roll-Seg (record { before = s.before; nodes = with_item s.nodes (2 + k) m; suffix = s.suffix })) a
+    (nodes_written s (2 + k) m ∙ ap (λ (zs : List Item). record (seg_view s) { nodes = zs }) (same ∙ sym (ap (λ (z : Segment). z.nodes) (view_of_seg s))))
+
+-- the part is one of the value that was read
+pub part_read : (p : Segment → Bool) (args : List Seg) (i k : ℕ) (x y : Seg) (v : List Node) → i < length args → v ≡ (get_or args i x).nodes.items → IsPartWith p (take (length v - 2) (drop 2 v)) k → IsPartWith p (drop 2 (get_or args i y).nodes.items) k
+part_read p args i k x y v h is found =
+    subst (λ (ns : List Node). IsPartWith p ns k) (take_rest v 2 ∙ ap (drop 2) (is ∙ ap (λ (z : Seg). z.nodes.items) (get_or_default args i x y h))) found
 
 -- no list part before i has an element that passes, and a piece begins at i where `start`
 pub record NoneYet (p : Segment → Bool) (ns : List Node) (i : ℕ) (start : Bool) : Type 0 where

@@ -1,12 +1,11 @@
 //! `comment`: a line above a rule, an argument or an element.
 
-ghost use Rattle.std.specs.Prelude.{◌≡◌, ◌≤◌, ◌++◌, ◌∷◌, [], false, length, string_bytes, option_map, IfOk, IfSome, IfNone, IsOk, OnOk, OnErr, None, true};
+ghost use Rattle.std.specs.Prelude.{◌≡◌, ◌++◌, ◌∷◌, [], false, string_bytes, option_map, IfOk, IfSome, IfNone, IsOk, OnOk, OnErr, None, true};
 ghost use Rattle.std.specs.List.{list_any, position_or_len};
-ghost use Rattle.bz_tree.specs.View.{node_view, nodes_view, seg_view, segs_view, slot_view, texts};
+ghost use Rattle.bz_tree.specs.View.{node_view, nodes_view, segs_view, slot_view, texts};
 ghost use Rattle.bz_attribute.specs.Applied.{args_after, args_done};
 ghost use Rattle.bz_command.specs.CommandViews.{commented_view};
 ghost use Rattle.bz_command.specs.Commands.{Comment};
-ghost use Rattle.bz_attribute.specs.Rules.{elements};
 ghost use Rattle.bz_attribute.specs.Lists.{edit_list, equals, parts};
 ghost use Rattle.bz_attribute.specs.Effects.{done, edit_first, holds_rule, is_absent};
 ghost use Rattle.bz_attribute_commands.specs.private.CommentPlaces.{IsFirstOf, IsNowhere, IsPartWith};
@@ -106,48 +105,14 @@ fn comment_value(
     let Some(i) = find(args, attr) else {
         return no_attribute(alloc, attr);
     };
-    comment_in(alloc, home, attr, value, text, &mut args[i])
-}
-
-fn comment_in(
-    alloc: Global,
-    home: &Package,
-    attr: &str,
-    value: &str,
-    text: &str,
-    arg: &mut Seg<'_>,
-) -> Result<Done, AllocError>
-    requires { 2 ≤ length arg.old.nodes.items }
-    ensures arg { OnOk result
-        (seg_view arg.new ≡ place.comment_in home.now attr.now value.now text.now (seg_view arg.old)) }
-    ensures done { IfOk result (λ d. d ≡ done (place.note_in home.now attr.now value.now (seg_view arg.old)) true) }
-    ensures err { OnErr result (seg_view arg.new ≡ seg_view arg.old) }
-{
-    comment_in_nodes(alloc, home, attr, value, text, &mut arg.nodes[2..])
-}
-
-// The same on the nodes of the argument's value.
-fn comment_in_nodes(
-    alloc: Global,
-    home: &Package,
-    attr: &str,
-    value: &str,
-    text: &str,
-    nodes: &mut [Node<'_>],
-) -> Result<Done, AllocError>
-    ensures nodes { OnOk result
-        (nodes_view nodes.new ≡ place.comment_in_nodes home.now attr.now value.now text.now (nodes_view nodes.old)) }
-    ensures done { IfOk result
-        (λ d. d ≡ done (place.note_in_nodes home.now attr.now value.now (nodes_view nodes.old)) true) }
-    ensures err { OnErr result (nodes_view nodes.new ≡ nodes_view nodes.old) }
-{
+    let nodes = &args[i].nodes[2..];
     if first_part(nodes).is_none() {
         return not_a_list(alloc, attr);
     }
     let Some(part) = part_with(home, value, nodes) else {
         return no_value(alloc, attr, value);
     };
-    comment_in_list(alloc, home, value, text, &mut nodes[part])?;
+    comment_in_list(alloc, home, value, text, &mut args[i].nodes[2 + part])?;
     Ok(Done::quiet(true))
 }
 

@@ -12,10 +12,10 @@ ghost use Rattle.bz_attribute_commands.specs.private.PrintSteps.{attribute_in, e
 ghost use Rattle.bz_attribute.specs.declared.done.Note.TheVariants.{Missing};
 ghost use Rattle.bz_attribute.specs.Printing as spec;
 
-use crate::value::{one_list, value_of};
+use crate::value::one_list;
 use bz_attribute::done::{Done, Note};
 use bz_attribute::equals::string_of;
-use bz_attribute::rule::{Rule, first_named, only_text, rule_of};
+use bz_attribute::rule::{Rule, first_named, only_text, rule_of, value_of};
 use bz_attribute::texts::{push_home, push_kind, read_name};
 use bz_command::{Field, Package, Text, quote, read_value};
 use bz_layout::flat;

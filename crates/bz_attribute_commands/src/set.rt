@@ -9,11 +9,11 @@ ghost use Rattle.bz_attribute.specs.Effects as effects;
 ghost use Rattle.bz_attribute_commands.specs.private.SettingViews.{new_view};
 ghost use Rattle.bz_attribute.specs.Setting as spec;
 
-use crate::value::{one_list, value_of};
+use crate::value::one_list;
 use bz_attribute::done::Done;
 use bz_attribute::find::find;
 use bz_attribute::make::{argument, list, literal, strings, token};
-use bz_attribute::rule::{ident_of, only_text};
+use bz_attribute::rule::{ident_of, only_text, value_of};
 use bz_command::{Text, has_value};
 use bz_token::Kind;
 use bz_tree::{Node, Seg};
@@ -132,26 +132,12 @@ fn new_of<'w>(attr: &str, words: &'w [Text], was: &[Node<'_>]) -> New<'w>
 fn is_list_attribute(attr: &str) -> bool
     ensures { result ≡ spec.is_list_attribute attr.now }
 {
-    matches!(
-        attr,
-        "srcs"
-            | "hdrs"
-            | "textual_hdrs"
-            | "deps"
-            | "runtime_deps"
-            | "exports"
-            | "data"
-            | "tools"
-            | "outs"
-            | "visibility"
-            | "default_visibility"
-            | "tags"
-            | "copts"
-            | "defines"
-            | "includes"
-            | "linkopts"
-            | "features"
-    )
+    match attr {
+        "srcs" | "hdrs" | "textual_hdrs" | "deps" | "runtime_deps" | "exports" | "data" => true,
+        "tools" | "outs" | "visibility" | "default_visibility" | "tags" | "copts" => true,
+        "defines" | "includes" | "linkopts" | "features" => true,
+        _ => false,
+    }
 }
 
 fn new_word(word: &str) -> New<'_>

@@ -1,0 +1,17 @@
+-- A segment with another node, and a call that failed.
+use Rattle.std.proofs.Common.{◌≡◌, ℕ, set, ap, sym, ◌∙◌, Result, Ok, Err, OnErr}
+use Rattle.std.specs.Vec.{with_item}
+use Rattle.bz_tree.specs.declared.stmt.Node.{Node}
+use Rattle.bz_tree.specs.declared.stmt.Seg.{Seg, roll-Seg}
+use Rattle.bz_tree.specs.Tree.{Segment}
+use Rattle.bz_tree.specs.View.{nodes_view, seg_view}
+use Rattle.bz_attribute.proofs.Groups.{view_of_seg}
+
+pub nodes_written : (s : Seg) (j : ℕ) (m : Node) → seg_view (roll-Seg (record { before = s.before; nodes = with_item s.nodes j m; suffix = s.suffix })) ≡ record (seg_view s) { nodes = nodes_view (set s.nodes.items j m) }
+nodes_written s j m =
+    view_of_seg (roll-Seg (record { before = s.before; nodes = with_item s.nodes j m; suffix = s.suffix }))
+    ∙ sym (ap (λ (z : Segment). record z { nodes = nodes_view (set s.nodes.items j m) }) (view_of_seg s))
+
+pub on_err : {T E P : Type 0} (r : Result T E) → P → OnErr r P
+on_err (Ok x) h = tt
+on_err (Err e) h = h
