@@ -7,5 +7,5 @@ pub mod Groups
 pub mod LabelSets
 pub mod Mapped
 pub mod PartEdits
-pub mod Stays
+pub mod RuleNodes
 pub mod Views

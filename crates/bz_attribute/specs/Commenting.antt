@@ -1,11 +1,13 @@
 -- What `comment` does (buildozer README, edit commands; where the line stands is this project's own rule).
-use Rattle.std.specs.Prelude.{ℕ, ◌==◌, List, [], ◌∷◌, ◌++◌, Bool, true, ◌&&◌, ◌||◌, if◌then◌else◌, Option, Some, None, is_some}
+use Rattle.std.specs.Prelude.{ℕ, ◌==◌, List, [], ◌∷◌, ◌++◌, Bool, true, false, ◌&&◌, ◌||◌, if◌then◌else◌, Option, Some, None, is_some}
 use Rattle.std.specs.List.{list_any, list_all}
 use Rattle.bz_tree.specs.Tree.{Item, Segment, Statement}
 use Rattle.bz_command.specs.Labels.{Package}
+use Rattle.bz_command.specs.Commands.{Commented, Rule as OfRule, Attribute, Value}
 use Rattle.bz_attribute.specs.Rules.{Rule, rule_of, is_named, first_named, value, elements}
 use Rattle.bz_attribute.specs.Lists.{with_value, parts, edit_list, is_part, is_plus, is_joint, equals}
-use Rattle.bz_attribute.specs.Effects.{edit_first, has, is_absent, not_a_list, first_note}
+use Rattle.bz_attribute.specs.Effects.{done, edit_first, has, is_absent, not_a_list, first_note}
+use Rattle.bz_attribute.specs.declared.done.Done.{Done}
 use Rattle.bz_attribute.specs.declared.done.Note.{Note}
 use Rattle.bz_attribute.specs.declared.done.Note.TheVariants.{NoValue}
 
@@ -62,3 +64,15 @@ comment_note home attr v args = first_note (is_absent attr args) (first_note (no
 -- `comment <attr> <v> <text>`
 abbrev pub comment_value : Package → List ℕ → List ℕ → List ℕ → List Segment → List Segment
 comment_value home attr v text args = if is_some (comment_note home attr v args) then args else edit_first (is_named attr) (λ a. comment_element home v text a ∷ []) args
+
+-- the arguments after `comment`; a comment above the rule changes none
+abbrev pub comment_args : Commented → Package → List ℕ → List Segment → List Segment
+comment_args OfRule home text args = args
+comment_args (Attribute attr) home text args = comment_attribute attr text args
+comment_args (Value attr value) home text args = comment_value home attr value text args
+
+-- what it tells of them
+abbrev pub comment_done : Commented → Package → List Segment → Done
+comment_done OfRule home args = done None false
+comment_done (Attribute attr) home args = done (is_absent attr args) true
+comment_done (Value attr value) home args = done (comment_note home attr value args) true

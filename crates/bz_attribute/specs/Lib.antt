@@ -1,10 +1,8 @@
-pub mod Applied
 pub mod Commenting
 pub mod Effects
 pub mod Lists
 pub mod Marks
 pub mod Moving
-pub mod Printing
 pub mod Replacing
 pub mod Rules
 pub mod RuleViews

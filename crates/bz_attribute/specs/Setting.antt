@@ -146,3 +146,8 @@ with_kind kind s = record s { nodes = kind_after kind s.nodes (rule_of s.nodes) 
 abbrev pub sets_kind : List ℕ → Option Rule → Done
 sets_kind kind None = done None false
 sets_kind kind (Some r) = done None (not (bytes_eq (kind_text r.kind) kind))
+
+-- what `set kind` tells of a slot
+abbrev pub sets_kind_of : List ℕ → Option Statement → Done
+sets_kind_of kind None = done None false
+sets_kind_of kind (Some s) = sets_kind kind (rule_of s.nodes)

@@ -7,7 +7,7 @@ use Rattle.bz_tree.specs.Tree.{Item, group, segs_of}
 use Rattle.bz_attribute.specs.Rules.{Rule, rule_of, kind_text}
 use Rattle.bz_attribute.specs.Setting.{joined_by_dots, ident_item, dot_item, kind_items, kind_after}
 use Rattle.bz_command.proofs.Cuts.{some_part}
-use Rattle.bz_attribute.proofs.Stays.{rule_nodes}
+use Rattle.bz_attribute.proofs.RuleNodes.{rule_nodes}
 
 joined_more : (name : List ℕ) (names : List (List ℕ)) → 0 < length names → joined_by_dots (name ∷ names) ≡ ident_item name ∷ dot_item ∷ joined_by_dots names
 joined_more name [] h = absurd (omega arith)

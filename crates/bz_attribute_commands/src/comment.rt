@@ -3,9 +3,7 @@
 ghost use Rattle.std.specs.Prelude.{◌≡◌, ◌++◌, ◌∷◌, [], false, string_bytes, option_map, IfOk, IfSome, IfNone, IsOk, OnOk, OnErr, None, true};
 ghost use Rattle.std.specs.List.{list_any, position_or_len};
 ghost use Rattle.bz_tree.specs.View.{node_view, nodes_view, segs_view, slot_view, texts};
-ghost use Rattle.bz_attribute.specs.Applied.{args_after, args_done};
 ghost use Rattle.bz_command.specs.CommandViews.{commented_view};
-ghost use Rattle.bz_command.specs.Commands.{Comment};
 ghost use Rattle.bz_attribute.specs.Lists.{edit_list, equals, parts};
 ghost use Rattle.bz_attribute.specs.Effects.{done, edit_first, holds_rule, is_absent};
 ghost use Rattle.bz_attribute_commands.specs.private.CommentPlaces.{IsFirstOf, IsNowhere, IsPartWith};
@@ -54,10 +52,9 @@ pub fn comment(
     args: &mut [Seg<'_>],
 ) -> Result<Done, AllocError>
     ensures args { OnOk result
-        (segs_view args.new
-        ≡ args_after (Comment (commented_view commented.now) text.now) home.now (segs_view args.old)) }
+        (segs_view args.new ≡ spec.comment_args (commented_view commented.now) home.now text.now (segs_view args.old)) }
     ensures done { IfOk result
-        (λ d. d ≡ args_done (Comment (commented_view commented.now) text.now) home.now (segs_view args.old)) }
+        (λ d. d ≡ spec.comment_done (commented_view commented.now) home.now (segs_view args.old)) }
     ensures err { OnErr result (segs_view args.new ≡ segs_view args.old) }
 {
     match commented {

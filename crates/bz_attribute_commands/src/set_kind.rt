@@ -5,7 +5,6 @@ ghost use Rattle.bz_tree.specs.Tree.{leaf};
 ghost use Rattle.bz_tree.specs.View.{nodes_view, slot_view};
 ghost use Rattle.bz_attribute.specs.Rules.{rule_of};
 ghost use Rattle.bz_attribute.specs.Effects.{holds_rule};
-ghost use Rattle.bz_attribute.specs.Applied.{sets_kind_of};
 ghost use Rattle.bz_attribute.specs.Setting as spec;
 
 use bz_attribute::done::Done;
@@ -20,9 +19,9 @@ use std::alloc::{AllocError, Global};
 /// Sets the kind of a rule. Where nothing is to be changed it succeeds. An `Err` leaves the slot as it was.
 pub fn set_kind(alloc: Global, kind: &str, slot: &mut Option<Stmt<'_>>) -> Result<Done, AllocError>
     ensures slot { OnOk result (slot_view slot.new ≡ option_map (spec.with_kind kind.now) (slot_view slot.old)) }
-    ensures done { IfOk result (λ done. done ≡ sets_kind_of kind.now (slot_view slot.old)) }
+    ensures done { IfOk result (λ done. done ≡ spec.sets_kind_of kind.now (slot_view slot.old)) }
     ensures no_rule { holds_rule (slot_view slot.old) ≡ false → IsOk result }
-    ensures unchanged { (sets_kind_of kind.now (slot_view slot.old)).changed ≡ false → IsOk result }
+    ensures unchanged { (spec.sets_kind_of kind.now (slot_view slot.old)).changed ≡ false → IsOk result }
     ensures err { OnErr result (slot_view slot.new ≡ slot_view slot.old) }
 {
     match slot {

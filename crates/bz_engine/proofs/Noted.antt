@@ -12,8 +12,8 @@ use Rattle.bz_attribute.specs.declared.done.Note.TheVariants.{Missing, NoAttribu
 use Rattle.bz_attribute.specs.Effects.{done, done_in, slot_done, fails, has, no_parts, not_a_list, is_absent, first_note, rename_note}
 use Rattle.bz_attribute.specs.Moving.{move_note}
 use Rattle.bz_attribute.specs.Commenting.{is_missing, comment_note}
-use Rattle.bz_attribute.specs.Setting.{sets_kind}
-use Rattle.bz_attribute.specs.Applied.{args_done, after, done_of, sets_kind_of}
+use Rattle.bz_attribute.specs.Setting.{sets_kind, sets_kind_of}
+use Rattle.bz_rule.specs.Applied.{args_done, after, done_of}
 use Rattle.bz_engine.specs.declared.entry.Entry.{Entry}
 use Rattle.bz_engine.specs.Meaning.{done_told, line_told, note_told, says, shown_slot}
 

@@ -15,7 +15,7 @@ use Rattle.bz_command.specs.Labels.{Name, Pkg, All, Kind as OfKind, Line}
 use Rattle.bz_command.specs.Values.{value_of}
 use Rattle.bz_attribute.specs.Rules.{Rule, rule_of, rule_from, call_at, is_call, dotted, elements, comma_of, end_of, is_sign, is_text, is_named, name_of, name_in, string_value}
 use Rattle.bz_attribute.specs.Marks.{marks_if}
-use Rattle.bz_attribute.proofs.Stays.{rule_nodes}
+use Rattle.bz_attribute.proofs.RuleNodes.{rule_nodes}
 use Rattle.bz_passes.specs.declared.index.Key.TheVariants.{NoName, Name as Named}
 use Rattle.bz_passes.specs.Asked.{asked_by}
 use Rattle.bz_engine.specs.private.Rows as row

@@ -6,7 +6,7 @@ use Rattle.bz_command.specs.Commands.{Command}
 use Rattle.bz_attribute.specs.Marks.{marks}
 use Rattle.bz_attribute.specs.Texts.{shown_text}
 use Rattle.bz_attribute.specs.Effects.{fails}
-use Rattle.bz_attribute.specs.Applied.{after, done_of}
+use Rattle.bz_rule.specs.Applied.{after, done_of}
 use Rattle.bz_attribute.specs.declared.done.Done.{Done}
 use Rattle.bz_attribute.specs.declared.done.Note.{Note}
 use Rattle.bz_attribute.specs.declared.done.Note.TheVariants.{Missing}

@@ -6,7 +6,7 @@ use Rattle.bz_layout_laws.specs.KeptBlock.{IsKeptBlock}
 use Rattle.bz_layout_laws.proofs.BlockBody.{body_of}
 use Rattle.bz_command.specs.Commands.{Command, Add, Remove, Set, SetIfAbsent, Delete, Rename, Move, Replace, Comment, Print, ToKind, ToValues, Rule, Attribute, Value}
 use Rattle.bz_command.specs.Labels.{Package}
-use Rattle.bz_attribute.specs.Applied.{args_after, after}
+use Rattle.bz_rule.specs.Applied.{args_after, after}
 use Rattle.bz_attribute.specs.Commenting.{comments_above}
 use Rattle.bz_attribute.specs.Effects.{nodes_after}
 use Rattle.bz_attribute.specs.Rules.{rule_of}

@@ -10,7 +10,7 @@ use Rattle.bz_layout_laws.specs.WellFormed.{IsWellFormed}
 use Rattle.bz_command.specs.Commands.{Command, is_command}
 use Rattle.bz_command.specs.Labels.{Package}
 use Rattle.bz_command.specs.Passes.{Slot, Marked, marked, executed}
-use Rattle.bz_attribute.specs.Applied.{after}
+use Rattle.bz_rule.specs.Applied.{after}
 use Rattle.bz_rule_laws.specs.CommandTexts.{command_passes}
 use Rattle.bz_rule_laws.proofs.StatementsFormed.{formed_after}
 use Rattle.bz_rule_laws.proofs.Utf8Commands.{commands_utf8}

@@ -14,11 +14,11 @@ use Rattle.bz_command.specs.Names.{is_identifier}
 use Rattle.bz_attribute.specs.Effects.{done, done_in, edit_first, has, holds_rule, is_absent, nodes_after, nodes_of, rename_note, slot_done, with_args}
 use Rattle.bz_attribute.specs.Moving.{moved, moves, move_note}
 use Rattle.bz_attribute.specs.Commenting.{comment_attribute, comment_line, comment_note, comment_rule, with_comment}
-use Rattle.bz_attribute.specs.Setting.{with_kind}
-use Rattle.bz_attribute.specs.Printing.{printed_of, prints}
-use Rattle.bz_attribute.specs.Applied.{after, args_after, args_done, done_of, sets_kind_of}
+use Rattle.bz_attribute.specs.Setting.{with_kind, sets_kind_of}
+use Rattle.bz_attribute_commands.specs.Printing.{printed_of, prints}
+use Rattle.bz_rule.specs.Applied.{after, args_after, args_done, done_of}
 use Rattle.bz_attribute.proofs.Views.{segments_of}
-use Rattle.bz_attribute.proofs.Stays.{rule_nodes}
+use Rattle.bz_attribute.proofs.RuleNodes.{rule_nodes}
 use Rattle.bz_rule.proofs.Adding.{add_differs, add_stays}
 use Rattle.bz_rule.proofs.Removal.{remove_differs, remove_stays}
 use Rattle.bz_rule.proofs.Renaming.{rename_differs}

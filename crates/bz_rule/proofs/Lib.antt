@@ -9,3 +9,4 @@ pub mod Removal
 mod Renaming
 mod ReplaceDiffers
 pub mod SetLaws
+mod Stays

@@ -13,7 +13,7 @@ use Rattle.bz_attribute.specs.Lists.{edit_from, edit_list, edit_parts, ends, equ
 use Rattle.bz_attribute.specs.Effects.{edit_first, string_item}
 use Rattle.bz_attribute.specs.Replacing.{is_replaced, replaced, replaced_in, replace, replaces, replaces_first, replaces_in}
 use Rattle.bz_command.proofs.ReadBack.{quoted_value}
-use Rattle.bz_attribute.proofs.Stays.{segs_back}
+use Rattle.bz_attribute.proofs.RuleNodes.{segs_back}
 use Rattle.bz_attribute.proofs.Views.{segments_of}
 
 -- an element that was replaced is exactly `new`

@@ -10,11 +10,10 @@ use Rattle.bz_tree.specs.declared.stmt.GroupKind.TheVariants.{RuleCall}
 use Rattle.bz_tree.specs.Tree.{Item, group, Segment, Statement, segs_of}
 use Rattle.bz_attribute.specs.Rules.{Rule, rule_of, written, kind_text, is_named, is_text, name_of, first_named, value}
 use Rattle.bz_attribute.specs.Effects.{argument, edit_first, has, nodes_of, string}
-use Rattle.bz_attribute.specs.Applied.{sets_kind_of}
-use Rattle.bz_attribute.specs.Setting.{New, NewString, NewNumber, NewConstant, NewStrings, new_of, new_value, are_strings, is_value, set_in, set, sets, set_if_absent, joined_by_dots, kind_items, kind_after, with_kind, sets_kind}
+use Rattle.bz_attribute.specs.Setting.{New, NewString, NewNumber, NewConstant, NewStrings, new_of, new_value, are_strings, is_value, set_in, set, sets, set_if_absent, joined_by_dots, kind_items, kind_after, with_kind, sets_kind, sets_kind_of}
 use Rattle.bz_attribute.proofs.Views.{segments_of}
 use Rattle.bz_command.proofs.ReadBack.{quoted_value}
-use Rattle.bz_attribute.proofs.Stays.{rule_nodes}
+use Rattle.bz_attribute.proofs.RuleNodes.{rule_nodes}
 
 pub same_bytes : (bytes : List ℕ) → bytes_eq bytes bytes ≡ true
 same_bytes bytes = (bytes_eq-Decides bytes bytes).1 refl

@@ -7,7 +7,7 @@ ghost use Rattle.bz_attribute.specs.Rules.{rule_of, elements};
 ghost use Rattle.bz_attribute.specs.Lists.{edit_list};
 ghost use Rattle.bz_command.specs.Commands as commands;
 ghost use Rattle.bz_attribute.specs.Effects as spec;
-ghost use Rattle.bz_attribute.specs.Applied as applied;
+ghost use Rattle.bz_rule.specs.Applied as applied;
 
 use bz_attribute::done::Done;
 use bz_attribute::find::call_at;

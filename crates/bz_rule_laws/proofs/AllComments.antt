@@ -13,7 +13,7 @@ use Rattle.bz_attribute.specs.Lists.{edit_first_part, edit_from, edit_list, edit
 use Rattle.bz_attribute.specs.Effects.{add, argument, edit_first, fresh, has, list_item, new_elements, no_parts, nodes_after, nodes_of, rename, rename_note, rename_to, renamed, string, string_item, with_added, with_args}
 use Rattle.bz_attribute.specs.Setting.{New, NewConstant, NewNumber, NewString, NewStrings, joined_by_dots, kind_after, kind_items, new_of, new_value, set_if_absent, with_kind}
 use Rattle.bz_attribute.specs.Replacing.{is_replaced, replace, replaced, replaced_in}
-use Rattle.bz_attribute.proofs.Stays.{rule_nodes, segs_back}
+use Rattle.bz_attribute.proofs.RuleNodes.{rule_nodes, segs_back}
 use Rattle.bz_rule_laws.proofs.Again.{rule_dotted}
 use Rattle.bz_rule.proofs.Arguments.{value_back}
 

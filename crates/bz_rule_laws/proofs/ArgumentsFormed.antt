@@ -7,7 +7,7 @@ use Rattle.bz_tree.specs.Grammar.{IsArg}
 use Rattle.bz_command.specs.Commands.{Command, Add, Remove, Set, SetIfAbsent, Delete, Rename, Move, Replace, Comment, Print, ToKind, ToValues, Commented, Moved, Rule as OfRule, Attribute, Value, breaks_line, is_command, is_commented, is_moved}
 use Rattle.bz_command.specs.Labels.{Package}
 use Rattle.bz_command.specs.Names.{is_identifier}
-use Rattle.bz_attribute.specs.Applied.{args_after}
+use Rattle.bz_rule.specs.Applied.{args_after}
 use Rattle.bz_rule_laws.proofs.CommentedFormed.{comment_attribute_formed, comment_value_formed}
 use Rattle.bz_rule_laws.proofs.GoodAdditions.{add_good}
 use Rattle.bz_rule_laws.proofs.GoodEffects.{remove_good}

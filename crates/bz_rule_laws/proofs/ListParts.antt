@@ -19,7 +19,7 @@ use Rattle.bz_attribute.specs.Rules.{elements}
 use Rattle.bz_attribute.specs.Lists.{edit_from, edit_list, edit_first_part, edit_one_from, edit_parts, ends, is_joint, is_list, is_part, is_plus, parts, parts_from}
 use Rattle.bz_attribute.specs.Effects.{edit_first, list_item}
 use Rattle.bz_attribute.specs.Commenting.{edit_element, edit_element_from}
-use Rattle.bz_attribute.proofs.Stays.{segs_back}
+use Rattle.bz_attribute.proofs.RuleNodes.{segs_back}
 use Rattle.bz_rule_laws.proofs.Accepting.{list_role, test_accepted, accepted_test, test_some}
 use Rattle.bz_rule_laws.proofs.ArgumentValues.{IsValue, no_for}
 use Rattle.bz_rule_laws.proofs.Segments.{AreFormed, form_tests, good_elements, taken_apart}

@@ -12,8 +12,8 @@ use Rattle.bz_attribute.specs.Rules.{Rule, kind_text, rule_of}
 use Rattle.bz_attribute.specs.Effects.{nodes_after, nodes_of, with_args}
 use Rattle.bz_attribute.specs.Setting.{joined_by_dots, kind_after, kind_items}
 use Rattle.bz_attribute.specs.Commenting.{comment_rule, comments_above}
-use Rattle.bz_attribute.specs.Applied.{after, args_after}
-use Rattle.bz_attribute.proofs.Stays.{rule_nodes}
+use Rattle.bz_rule.specs.Applied.{after, args_after}
+use Rattle.bz_attribute.proofs.RuleNodes.{rule_nodes}
 use Rattle.bz_rule_laws.specs.CommandTexts.{attributes_pass, command_passes, moved_passes}
 use Rattle.bz_rule_laws.proofs.PassingEffects.{comment_attribute_passes, comment_value_passes, line_added, move_passes, remove_passes, rename_passes, replace_passes}
 use Rattle.bz_rule_laws.proofs.PassingParts.{KeepsPassing}

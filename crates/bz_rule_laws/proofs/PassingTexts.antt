@@ -8,7 +8,7 @@ use Rattle.bz_tree.specs.Tree.{Item, leaf, group, Segment, items_of, segs_of, se
 use Rattle.bz_layout_laws.specs.EachText.{item_passes, items_pass, segs_pass}
 use Rattle.bz_attribute.specs.Rules.{elements, first_named, is_named}
 use Rattle.bz_attribute.specs.Lists.{with_value}
-use Rattle.bz_attribute.proofs.Stays.{segs_back}
+use Rattle.bz_attribute.proofs.RuleNodes.{segs_back}
 use Rattle.bz_rule_laws.proofs.Segments.{all_appended}
 
 abbrev pub NodePasses : (List ℕ → Bool) → Item → Type 0

@@ -19,7 +19,7 @@ use Rattle.bz_layout_laws.specs.Parsed.{HasKind, HaveKinds, plain_call, plain_ca
 use Rattle.bz_layout_laws.specs.WellFormed.{IsWellFormed}
 use Rattle.bz_attribute.specs.Rules.{Rule, rule_of}
 use Rattle.bz_attribute.specs.Effects.{nodes_of}
-use Rattle.bz_attribute.proofs.Stays.{rule_nodes}
+use Rattle.bz_attribute.proofs.RuleNodes.{rule_nodes}
 use Rattle.bz_rule_laws.proofs.Accepting.{argument_some}
 use Rattle.bz_rule_laws.proofs.Again.{rule_dotted}
 use Rattle.bz_rule_laws.proofs.KindFormed.{IsDotted, last_name, name_before, dotted_is}

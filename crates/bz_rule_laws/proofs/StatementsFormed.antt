@@ -11,12 +11,12 @@ use Rattle.bz_command.specs.Labels.{Package}
 use Rattle.bz_command.specs.Names.{is_kind}
 use Rattle.bz_layout_laws.specs.Legible.{AreComments}
 use Rattle.bz_layout_laws.specs.WellFormed.{IsWellFormed}
-use Rattle.bz_attribute.specs.Applied.{after, args_after}
+use Rattle.bz_rule.specs.Applied.{after, args_after}
 use Rattle.bz_attribute.specs.Commenting.{comment_line, comment_rule, comments_above}
 use Rattle.bz_attribute.specs.Effects.{nodes_after, nodes_of, with_args}
 use Rattle.bz_attribute.specs.Rules.{kind_text, rule_of}
 use Rattle.bz_attribute.specs.Setting.{kind_after, kind_items, with_kind}
-use Rattle.bz_attribute.proofs.Stays.{rule_nodes}
+use Rattle.bz_attribute.proofs.RuleNodes.{rule_nodes}
 use Rattle.bz_rule_laws.proofs.ArgumentsFormed.{arguments_formed}
 use Rattle.bz_rule_laws.proofs.KindFormed.{kind_is}
 use Rattle.bz_rule_laws.proofs.NewTexts.{line_text}

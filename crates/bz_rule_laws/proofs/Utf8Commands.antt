@@ -12,7 +12,7 @@ use Rattle.bz_command.specs.Commands.{Command}
 use Rattle.bz_command.specs.Labels.{Package}
 use Rattle.bz_command.specs.Values.{quoted, written}
 use Rattle.bz_attribute.specs.Commenting.{comment_line, is_blank, trimmed}
-use Rattle.bz_attribute.specs.Applied.{after}
+use Rattle.bz_rule.specs.Applied.{after}
 use Rattle.bz_rule_laws.specs.CommandTexts.{command_passes}
 use Rattle.bz_rule_laws.proofs.PassingCommands.{commands_pass}
 use Rattle.bz_rule_laws.proofs.PassingSettings.{PassesWritten}

@@ -2,7 +2,7 @@
 
 ghost use Rattle.std.specs.Prelude.{◌≡◌, ◌↔◌, Option, true};
 ghost use Rattle.bz_tree.specs.Tree.{Statement};
-ghost use Rattle.bz_attribute.specs.Applied.{after, done_of};
+ghost use Rattle.bz_rule.specs.Applied.{after, done_of};
 ghost use Rattle.bz_command.specs.Commands.{is_command, Command};
 ghost use Rattle.bz_command.specs.Labels.{Package};
 

@@ -3,7 +3,7 @@
 ghost use Rattle.std.specs.Prelude.{◌≡◌, ◌++◌, ◌∷◌, if◌then◌else◌, ℕ, List, [], Option, map, option_map, true};
 ghost use Rattle.bz_tree.specs.Comments.{comments_of};
 ghost use Rattle.bz_tree.specs.Tree.{Segment, Statement};
-ghost use Rattle.bz_attribute.specs.Applied.{after};
+ghost use Rattle.bz_rule.specs.Applied.{after};
 ghost use Rattle.bz_command.specs.Commands.{Add, Attributes, Moved, Rename, Replace, Set, SetIfAbsent, ToKind};
 ghost use Rattle.bz_attribute.specs.Effects as effects;
 ghost use Rattle.bz_command.specs.Labels.{Package};

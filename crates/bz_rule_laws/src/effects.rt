@@ -3,7 +3,7 @@
 ghost use Rattle.std.specs.Prelude.{◌≡◌, ◌≤◌, ◌++◌, ◌∷◌, ℕ, List, [], None, Option, filter, length, false, true};
 ghost use Rattle.std.specs.List.{list_all, list_any};
 ghost use Rattle.bz_tree.specs.Tree.{Segment, Statement};
-ghost use Rattle.bz_attribute.specs.Applied.{after, done_of};
+ghost use Rattle.bz_rule.specs.Applied.{after, done_of};
 ghost use Rattle.bz_command.specs.Commands.{Add, Every, Named, Set, ToKind, ToValues, Values};
 ghost use Rattle.bz_attribute.specs.Effects as effects;
 ghost use Rattle.bz_command.specs.Labels.{Package};

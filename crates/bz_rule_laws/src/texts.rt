@@ -8,7 +8,7 @@ ghost use Rattle.bz_layout_laws.specs.EachText.{HasUtf8};
 ghost use Rattle.bz_command.specs.Commands as spec;
 ghost use Rattle.bz_command.specs.CommandViews.{attributes_view, command_view, commented_view, moved_view, setting_view};
 ghost use Rattle.bz_command.specs.Labels.{Package};
-ghost use Rattle.bz_attribute.specs.Applied.{after};
+ghost use Rattle.bz_rule.specs.Applied.{after};
 ghost use Rattle.bz_rule_laws.specs.CommandTexts.{attributes_pass, command_passes, commented_passes, moved_passes, setting_passes};
 
 use bz_command::{Action, Attributes, Command, Commented, Moved, Seq, Setting, Text};

@@ -1,7 +1,7 @@
 use Rattle.std.proofs.Common.{◌≡◌, drop}
 use Rattle.std.specs.List.{list_all}
 use Rattle.bz_tree.specs.View.{segs_view}
-use Rattle.bz_attribute.specs.Printing.{has_string}
+use Rattle.bz_attribute_commands.specs.Printing.{has_string}
 use Rattle.bz_attribute_commands.proofs.print.have_strings.Given as goal
 
 abbrev pub invariant-loop-element : goal.invariant-loop-element

@@ -4,7 +4,7 @@ use Rattle.bz_command.specs.CommandViews.{field_view}
 use Rattle.bz_attribute.specs.RuleViews.{rule_view}
 use Rattle.bz_attribute.specs.declared.done.Note.TheVariants.{Missing}
 use Rattle.bz_attribute.specs.Effects.{first_note}
-use Rattle.bz_attribute.specs.Printing.{line_of, missing, shown_field, field_text}
+use Rattle.bz_attribute_commands.specs.Printing.{line_of, missing, shown_field, field_text}
 use Rattle.bz_attribute_commands.specs.private.PrintSteps.{spaced_after}
 use Rattle.bz_attribute_commands.proofs.print.print_fields.Given as goal
 

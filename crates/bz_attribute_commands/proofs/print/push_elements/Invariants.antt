@@ -1,6 +1,6 @@
 use Rattle.std.proofs.Common.{◌≡◌, ◌++◌, drop, map, string_bytes}
 use Rattle.bz_tree.specs.View.{segs_view}
-use Rattle.bz_attribute.specs.Printing.{spaced}
+use Rattle.bz_attribute_commands.specs.Printing.{spaced}
 use Rattle.bz_attribute_commands.specs.private.PrintSteps.{element_word, spaced_after}
 use Rattle.bz_attribute_commands.proofs.print.push_elements.Given as goal
 

@@ -2,7 +2,7 @@ use Rattle.std.proofs.Common.{◌≡◌, ◌≤◌, List, [], ◌∷◌, length,
 use Rattle.bz_tree.specs.declared.stmt.Node.{Node}
 use Rattle.bz_tree.specs.View.{node_view, nodes_view}
 use Rattle.bz_attribute.specs.Rules.{elements}
-use Rattle.bz_attribute.specs.Printing.{first_elements}
+use Rattle.bz_attribute_commands.specs.Printing.{first_elements}
 use Rattle.bz_attribute_commands.proofs.value.one_list.Goals as goal
 
 first_of : (ns : List Node) (n : Node) → 1 ≤ length ns → n ≡ get_or ns 0 n → first_elements (nodes_view ns) ≡ elements (node_view n)

@@ -1,7 +1,7 @@
 use Rattle.bz_tree.specs.View.{slot_view}
 use Rattle.bz_command.specs.CommandViews.{command_view}
 use Rattle.bz_rule.proofs.Differences.{told_of_slot}
-use Rattle.bz_attribute.proofs.Stays.{failure_stays}
+use Rattle.bz_rule.proofs.Stays.{failure_stays}
 use Rattle.bz_rule.proofs.slot.apply.Goals as goal
 
 pub returns-clause-failed : goal.returns-clause-failed

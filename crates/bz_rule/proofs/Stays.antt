@@ -1,10 +1,9 @@
 -- A command that fails leaves what it found.
-use Rattle.std.proofs.Common.{◌≡◌, ℕ, List, [], ◌∷◌, ◌++◌, Bool, true, false, ◌||◌, Option, None, Some, option_map, refl, ap, sym, ◌∙◌, if◌then◌else◌, append_assoc, is_some}
-use Rattle.bz_tree.specs.declared.stmt.GroupKind.TheVariants.{Call, RuleCall, Load, Paren, List as ListKind, Index, Dict, ListComp, DictComp}
-use Rattle.bz_tree.specs.Tree.{Item, leaf, group, Items, no_items, item, Segs, no_segs, seg, Segment, Statement, items_of, list_of, segs_of, segments}
+use Rattle.std.proofs.Common.{◌≡◌, ℕ, List, [], ◌∷◌, Bool, true, false, ◌||◌, Option, None, Some, option_map, refl, ap, sym, ◌∙◌, if◌then◌else◌, is_some}
+use Rattle.bz_tree.specs.Tree.{Item, Segment, Statement}
 use Rattle.bz_command.specs.Labels.{Package}
 use Rattle.bz_command.specs.Commands.{Command, Add, Remove, Set, SetIfAbsent, Delete, Rename, Move, Replace, Comment, Print, ToKind, ToValues, Rule as OfRule, Attribute, Value}
-use Rattle.bz_attribute.specs.Rules.{Rule, rule_of, rule_from, call_at, dotted, is_named, first_named, value}
+use Rattle.bz_attribute.specs.Rules.{rule_of, is_named, first_named, value}
 use Rattle.bz_attribute.specs.Lists.{parts}
 use Rattle.bz_attribute.specs.declared.done.Done.{Done}
 use Rattle.bz_attribute.specs.declared.done.Note.{Note}
@@ -12,39 +11,9 @@ use Rattle.bz_attribute.specs.declared.done.Note.TheVariants.{NoAttribute}
 use Rattle.bz_attribute.specs.Effects.{adds, done, done_in, nodes_after, slot_done, edit_first, fails, has, no_parts, nodes_of, not_a_list, is_absent, rename_note, with_added, with_args}
 use Rattle.bz_attribute.specs.Moving.{moves, moved, move_note}
 use Rattle.bz_attribute.specs.Commenting.{comment_attribute, comment_note, comment_line, with_comment}
-use Rattle.bz_attribute.specs.Setting.{with_kind, sets_kind}
-use Rattle.bz_attribute.specs.Applied.{args_after, args_done, after, done_of, sets_kind_of}
-
-items_back : (xs : Items) → items_of (list_of xs) ≡ xs
-items_back no_items = refl
-items_back (item x xs) = ap (λ (ys : Items). item x ys) (items_back xs)
-
-pub segs_back : (ss : Segs) → segs_of (segments ss) ≡ ss
-segs_back no_segs = refl
-segs_back (seg before nodes suffix ss) = λ i. seg before (items_back nodes i) suffix (segs_back ss i)
-
-call_nodes : (kind : List Item) (x : Item) (r : Rule) → call_at kind x ≡ Some r → nodes_of r ≡ kind ++ x ∷ []
-call_nodes kind (leaf k text) r h = absurd cc
-call_nodes kind (group RuleCall segs one_comma end) r h =
-    elim (dotted true kind) as (λ b. (if b then Some (record { kind = kind; args = segments segs; one_comma = one_comma; end = end }) else None) ≡ Some r → nodes_of r ≡ kind ++ group RuleCall segs one_comma end ∷ []) [
-      | true ↦ λ k.
-          let is : r ≡ record { kind = kind; args = segments segs; one_comma = one_comma; end = end } = cc in
-          ap nodes_of is ∙ ap (λ (ss : Segs). kind ++ group RuleCall ss one_comma end ∷ []) (segs_back segs)
-      | false ↦ λ k. absurd cc
-    ] h
-call_nodes kind (group Call segs one_comma end) r h = absurd cc
-call_nodes kind (group Load segs one_comma end) r h = absurd cc
-call_nodes kind (group Paren segs one_comma end) r h = absurd cc
-call_nodes kind (group ListKind segs one_comma end) r h = absurd cc
-call_nodes kind (group Index segs one_comma end) r h = absurd cc
-call_nodes kind (group Dict segs one_comma end) r h = absurd cc
-call_nodes kind (group ListComp segs one_comma end) r h = absurd cc
-call_nodes kind (group DictComp segs one_comma end) r h = absurd cc
-
-pub rule_nodes : (kind nodes : List Item) (r : Rule) → rule_from kind nodes ≡ Some r → nodes_of r ≡ kind ++ nodes
-rule_nodes kind [] r h = absurd cc
-rule_nodes kind (x ∷ []) r h = call_nodes kind x r h
-rule_nodes kind (x ∷ y ∷ xs) r h = rule_nodes (kind ++ x ∷ []) (y ∷ xs) r h ∙ append_assoc kind (x ∷ []) (y ∷ xs)
+use Rattle.bz_attribute.specs.Setting.{with_kind, sets_kind, sets_kind_of}
+use Rattle.bz_rule.specs.Applied.{args_after, args_done, after, done_of}
+use Rattle.bz_attribute.proofs.RuleNodes.{rule_nodes}
 
 same_added : (home : Package) (attr : List ℕ) (values : List (List ℕ)) (a : Segment) → fails (not_a_list attr (Some a)) ≡ true → with_added home values a ≡ a
 same_added home attr values a h =

@@ -2,14 +2,14 @@
 use Rattle.std.specs.Prelude.{ℕ, List, true, false, if◌then◌else◌, not, Option, Some, None, option_map}
 use Rattle.bz_tree.specs.Tree.{Segment, Statement}
 use Rattle.bz_command.specs.Labels.{Package}
-use Rattle.bz_command.specs.Commands.{Command, Add, Remove, Set, SetIfAbsent, Delete, Rename, Move, Replace, Comment, Print, ToKind, ToValues, Rule, Attribute, Value}
-use Rattle.bz_attribute.specs.Rules.{first_named, rule_of}
-use Rattle.bz_attribute.specs.Effects.{has, done, add, adds, not_a_list, remove, removes, rename, rename_note, is_absent, with_args, slot_done, holds_rule}
-use Rattle.bz_attribute.specs.Setting.{set, sets, set_if_absent, with_kind, sets_kind}
+use Rattle.bz_command.specs.Commands.{Command, Add, Remove, Set, SetIfAbsent, Delete, Rename, Move, Replace, Comment, Print, ToKind, ToValues, Rule}
+use Rattle.bz_attribute.specs.Rules.{first_named}
+use Rattle.bz_attribute.specs.Effects.{has, done, add, adds, not_a_list, remove, removes, rename, rename_note, with_args, slot_done, holds_rule}
+use Rattle.bz_attribute.specs.Setting.{set, sets, set_if_absent, with_kind, sets_kind_of}
 use Rattle.bz_attribute.specs.Moving.{move, moves, move_note}
 use Rattle.bz_attribute.specs.Replacing.{replace, replaces}
-use Rattle.bz_attribute.specs.Commenting.{comment_rule, comment_attribute, comment_value, comment_note}
-use Rattle.bz_attribute.specs.Printing.{prints}
+use Rattle.bz_attribute.specs.Commenting.{comment_rule, comment_args, comment_done}
+use Rattle.bz_attribute_commands.specs.Printing.{prints}
 use Rattle.bz_attribute.specs.declared.done.Done.{Done}
 
 -- the arguments after a command on them
@@ -21,8 +21,7 @@ args_after (SetIfAbsent attr values) home args = set_if_absent attr values args
 args_after (Rename old new) home args = rename old new args
 args_after (Move old new chosen) home args = move home old new chosen args
 args_after (Replace attrs old new) home args = replace home attrs old new args
-args_after (Comment (Attribute attr) text) home args = comment_attribute attr text args
-args_after (Comment (Value attr value) text) home args = comment_value home attr value text args
+args_after (Comment commented text) home args = comment_args commented home text args
 args_after _ home args = args
 
 -- what it tells of them
@@ -34,13 +33,8 @@ args_done (SetIfAbsent attr values) home args = done None (not (has attr args))
 args_done (Rename old new) home args = done (rename_note old new args) true
 args_done (Move old new chosen) home args = done (move_note old new args) (moves home old chosen args)
 args_done (Replace attrs old new) home args = done None (replaces home attrs old new args)
-args_done (Comment (Attribute attr) text) home args = done (is_absent attr args) true
-args_done (Comment (Value attr value) text) home args = done (comment_note home attr value args) true
+args_done (Comment commented text) home args = comment_done commented home args
 args_done _ home args = done None false
-
-abbrev pub sets_kind_of : List ℕ → Option Statement → Done
-sets_kind_of kind None = done None false
-sets_kind_of kind (Some s) = sets_kind kind (rule_of s.nodes)
 
 -- What stands in a slot after a command. What is no rule stays as it is.
 abbrev pub after : Command → Package → Option Statement → Option Statement

@@ -1,0 +1,37 @@
+-- The nodes of a rule are those that its parts are read from.
+use Rattle.std.proofs.Common.{◌≡◌, List, [], ◌∷◌, ◌++◌, true, false, Option, None, Some, refl, ap, ◌∙◌, if◌then◌else◌, append_assoc}
+use Rattle.bz_tree.specs.declared.stmt.GroupKind.TheVariants.{Call, RuleCall, Load, Paren, List as ListKind, Index, Dict, ListComp, DictComp}
+use Rattle.bz_tree.specs.Tree.{Item, leaf, group, Items, no_items, item, Segs, no_segs, seg, items_of, list_of, segs_of, segments}
+use Rattle.bz_attribute.specs.Rules.{Rule, rule_from, call_at, dotted}
+use Rattle.bz_attribute.specs.Effects.{nodes_of}
+
+items_back : (xs : Items) → items_of (list_of xs) ≡ xs
+items_back no_items = refl
+items_back (item x xs) = ap (λ (ys : Items). item x ys) (items_back xs)
+
+pub segs_back : (ss : Segs) → segs_of (segments ss) ≡ ss
+segs_back no_segs = refl
+segs_back (seg before nodes suffix ss) = λ i. seg before (items_back nodes i) suffix (segs_back ss i)
+
+call_nodes : (kind : List Item) (x : Item) (r : Rule) → call_at kind x ≡ Some r → nodes_of r ≡ kind ++ x ∷ []
+call_nodes kind (leaf k text) r h = absurd cc
+call_nodes kind (group RuleCall segs one_comma end) r h =
+    elim (dotted true kind) as (λ b. (if b then Some (record { kind = kind; args = segments segs; one_comma = one_comma; end = end }) else None) ≡ Some r → nodes_of r ≡ kind ++ group RuleCall segs one_comma end ∷ []) [
+      | true ↦ λ k.
+          let is : r ≡ record { kind = kind; args = segments segs; one_comma = one_comma; end = end } = cc in
+          ap nodes_of is ∙ ap (λ (ss : Segs). kind ++ group RuleCall ss one_comma end ∷ []) (segs_back segs)
+      | false ↦ λ k. absurd cc
+    ] h
+call_nodes kind (group Call segs one_comma end) r h = absurd cc
+call_nodes kind (group Load segs one_comma end) r h = absurd cc
+call_nodes kind (group Paren segs one_comma end) r h = absurd cc
+call_nodes kind (group ListKind segs one_comma end) r h = absurd cc
+call_nodes kind (group Index segs one_comma end) r h = absurd cc
+call_nodes kind (group Dict segs one_comma end) r h = absurd cc
+call_nodes kind (group ListComp segs one_comma end) r h = absurd cc
+call_nodes kind (group DictComp segs one_comma end) r h = absurd cc
+
+pub rule_nodes : (kind nodes : List Item) (r : Rule) → rule_from kind nodes ≡ Some r → nodes_of r ≡ kind ++ nodes
+rule_nodes kind [] r h = absurd cc
+rule_nodes kind (x ∷ []) r h = call_nodes kind x r h
+rule_nodes kind (x ∷ y ∷ xs) r h = rule_nodes (kind ++ x ∷ []) (y ∷ xs) r h ∙ append_assoc kind (x ∷ []) (y ∷ xs)
