@@ -1,5 +1,5 @@
 -- The ten commands on what a slot holds: the statement after a command, and what the command tells (buildozer README, edit commands).
-use Rattle.std.specs.Prelude.{ℕ, List, true, false, if◌then◌else◌, not, Option, Some, None, option_map}
+use Rattle.std.specs.Prelude.{List, true, false, if◌then◌else◌, not, Option, None, option_map}
 use Rattle.bz_tree.specs.Tree.{Segment, Statement}
 use Rattle.bz_command.specs.Labels.{Package}
 use Rattle.bz_command.specs.Commands.{Command, Add, Remove, Set, SetIfAbsent, Delete, Rename, Move, Replace, Comment, Print, ToKind, ToValues, Rule}
