@@ -13,7 +13,7 @@ use Rattle.buildozer.specs.Runs.{Asked, IsRun, IsKeptText, is_kept}
 use Rattle.buildozer.specs.FileRuns.{GaveText, Gives}
 use Rattle.buildozer.specs.Files.{IsFileOf, MayBe, MayHold, IsEdited}
 use Rattle.bz_script.specs.Groups.{Step}
-use Rattle.buildozer.specs.Names.{IsBuildPath}
+use Rattle.bz_script.specs.Names.{IsBuildPath}
 use Rattle.bz_script.specs.Packages.{by_package}
 use Rattle.buildozer.specs.Program.{MayHold as MayHoldAny, Task, asked_for}
 use Rattle.buildozer.specs.declared.file_run.FileRun.{FileRun}

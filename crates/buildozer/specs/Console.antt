@@ -1,6 +1,6 @@
 -- What standard output and standard error are handed.
 use Rattle.std.specs.Prelude.{ℕ, List}
-use Rattle.buildozer.specs.Buffer.{Took}
+use Rattle.bz_devices.specs.Buffer.{Took}
 use Rattle.buildozer.specs.declared.console.Console.{Console}
 
 -- standard output is handed the first bytes, and standard error the second ones

@@ -3,7 +3,7 @@ use Rattle.std.specs.Prelude.{◌≡◌, ℕ, Bool, List}
 use Rattle.bz_folder.specs.Files.{Content}
 use Rattle.bz_engine.specs.declared.report.Report.{Report}
 use Rattle.bz_command.specs.Labels.{Package}
-use Rattle.buildozer.specs.Names.{IsBuildPath}
+use Rattle.bz_script.specs.Names.{IsBuildPath}
 use Rattle.buildozer.specs.Runs.{Asked, IsRun, is_kept, IsKeptText}
 
 -- what is opened at a path of a package's BUILD file may be this file

@@ -1,9 +1,7 @@
-pub mod Buffer
 pub mod Console
 pub mod FileRuns
 pub mod Files
 pub mod Handled
-pub mod Names
 pub mod Program
 pub mod Runs
 pub mod Streams

@@ -1,11 +1,11 @@
 //! Standard output and standard error.
 
 ghost use Rattle.std.specs.Prelude.{◌≡◌, ◌⊎◌, [], true, false, OnOk, OnErr};
-ghost use Rattle.buildozer.specs.Buffer.{Took};
+ghost use Rattle.bz_devices.specs.Buffer.{Took};
 ghost use Rattle.buildozer.specs.Console.{Shows};
 ghost use Rattle.buildozer.specs.Texts.{line_of, message_of, lines_text, messages_text, fixed_text};
 
-use crate::buffered::Buffered;
+use bz_devices::buffered::Buffered;
 use bz_engine::{Failed, Report, Sink};
 use bz_rule::Text;
 use std::alloc::{AllocError, Global};

@@ -1,27 +1,24 @@
 //! The command-line editor for BUILD files.
 #![tactic(auto)]
 
-mod buffered;
 mod console;
 mod edit_all;
 mod edit_file;
 mod edit_stream;
 mod file_run;
-mod names;
 mod package;
 mod run;
-mod start;
 
 use bz_engine::{FromRead, ToWrite};
 use bz_folder::{Draft, OnDisk};
 use bz_script::flags::Flags;
 use bz_script::group::Script;
 use bz_script::help;
+use bz_script::start::requested;
 use bz_script::usage::{StartFault, UsageFault};
 use console::Console;
 use edit_all::edit_all;
 use package::Devices;
-use start::requested;
 use std::alloc::{AllocError, Global};
 use std::process::ExitCode;
 use std::{env, io};

@@ -4,16 +4,16 @@ ghost use Rattle.std.specs.Prelude.{◌≡◌, ◌⊎◌, IfOk, string_bytes};
 ghost use Rattle.bz_folder.specs.Sequence.{SafeRun};
 ghost use Rattle.buildozer.specs.Files.{IsFileOf, MayHold};
 ghost use Rattle.buildozer.specs.Handled.{IsStatusOf};
-ghost use Rattle.buildozer.specs.Names.{IsBuildPath};
+ghost use Rattle.bz_script.specs.Names.{IsBuildPath};
 
 use crate::console::Console;
 use crate::edit_file::{FileFault, edit_file};
 use crate::edit_stream::edit_stream;
-use crate::names::BuildFiles;
 use crate::run::Asked;
 use bz_engine::{RunFault, Sink, Source, is_query};
 use bz_folder::{CannotOpen, Draft, Folder, Opened};
 use bz_script::flags::Flags;
+use bz_script::names::BuildFiles;
 use std::alloc::Global;
 
 /// The exit status of a package that failed (buildozer README, "Error codes").

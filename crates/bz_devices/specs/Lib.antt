@@ -1,4 +1,5 @@
 pub mod Ahead
+pub mod Buffer
 pub mod Device
 pub mod DeviceLaws
 pub mod private

@@ -2,6 +2,7 @@ pub mod CommandFiles
 pub mod Flags
 pub mod Groups
 pub mod Inputs
+pub mod Names
 pub mod Packages
 pub mod Results
 pub mod Statuses

@@ -1,4 +1,5 @@
-//! The words of a call and the lines of a command file, read into flags and a script of passes for each package.
+//! The words of a call and the lines of a command file, read into flags and a script of passes for each package;
+//! and the paths of a package's file.
 #![tactic(auto)]
 
 pub mod command_file;
@@ -6,6 +7,8 @@ pub mod flags;
 pub mod group;
 pub mod help;
 pub mod inputs;
+pub mod names;
 pub mod packages;
+pub mod start;
 pub mod status;
 pub mod usage;

@@ -1,5 +1,5 @@
 use Rattle.std.proofs.Common.{codes, subst}
-use Rattle.buildozer.specs.Buffer.{Took, took_more_lem}
+use Rattle.bz_devices.specs.Buffer.{Took, took_more_lem}
 use Rattle.buildozer.proofs.console.put_line.Goals as goal
 
 pub returns : goal.returns

@@ -1,5 +1,5 @@
 use Rattle.std.proofs.Common.{◌≡◌, ℕ, List, ◌++◌, drop}
-use Rattle.buildozer.specs.Buffer.{Took}
+use Rattle.bz_devices.specs.Buffer.{Took}
 use Rattle.buildozer.specs.Texts.{lines_text}
 use Rattle.buildozer.proofs.console.put_lines.Given as goal
 

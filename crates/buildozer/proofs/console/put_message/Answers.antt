@@ -1,5 +1,5 @@
 use Rattle.std.proofs.Common.{◌++◌, codes, subst}
-use Rattle.buildozer.specs.Buffer.{Took, took_more_lem}
+use Rattle.bz_devices.specs.Buffer.{Took, took_more_lem}
 use Rattle.buildozer.specs.Texts.{line_of}
 use Rattle.buildozer.proofs.console.put_message.Goals as goal
 

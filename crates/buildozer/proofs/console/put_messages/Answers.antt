@@ -1,5 +1,5 @@
 use Rattle.std.proofs.Common.{◌++◌, subst}
-use Rattle.buildozer.specs.Buffer.{Took, took_more_lem}
+use Rattle.bz_devices.specs.Buffer.{Took, took_more_lem}
 use Rattle.buildozer.specs.Texts.{message_of, messages_text}
 use Rattle.bz_script.proofs.Loops.{written_next}
 use Rattle.buildozer.proofs.console.put_messages.Goals as goal

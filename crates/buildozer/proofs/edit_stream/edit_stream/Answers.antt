@@ -1,5 +1,5 @@
 use Rattle.std.proofs.Common.{[], ◌++◌}
-use Rattle.buildozer.specs.Buffer.{took_nothing_lem, took_more_lem}
+use Rattle.bz_devices.specs.Buffer.{took_nothing_lem, took_more_lem}
 use Rattle.buildozer.specs.Texts.{lines_text, messages_text}
 use Rattle.buildozer.proofs.edit_stream.edit_stream.Goals as goal
 

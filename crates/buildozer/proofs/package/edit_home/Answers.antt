@@ -1,6 +1,6 @@
 use Rattle.std.proofs.Common.{◌≡◌, Some, inl, inr, refl, ◌∙◌, ap, subst, string_bytes}
 use Rattle.buildozer.specs.Files.{MayHold}
-use Rattle.buildozer.specs.Names.{IsBuildPath}
+use Rattle.bz_script.specs.Names.{IsBuildPath}
 use Rattle.buildozer.specs.Runs.{Asked}
 use Rattle.buildozer.proofs.Edited.{untouched}
 use Rattle.buildozer.proofs.package.edit_home.Goals as goal

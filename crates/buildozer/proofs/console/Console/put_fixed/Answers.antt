@@ -1,5 +1,5 @@
 use Rattle.std.proofs.Common.{codes}
-use Rattle.buildozer.specs.Buffer.{took_nothing_lem, took_more_lem}
+use Rattle.bz_devices.specs.Buffer.{took_nothing_lem, took_more_lem}
 use Rattle.buildozer.specs.Texts.{line_of}
 use Rattle.buildozer.proofs.console.Console.put_fixed.Goals as goal
 

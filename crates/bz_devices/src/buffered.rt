@@ -1,9 +1,10 @@
 //! A sink with a buffer before it.
 
 ghost use Rattle.std.specs.Prelude.{◌≡◌, [], false, true, IfOk, OnOk, OnErr};
-ghost use Rattle.buildozer.specs.Buffer.{Took, took_nothing_lem, took_more_lem};
+ghost use Rattle.bz_devices.specs.Buffer.{Took, took_nothing_lem, took_more_lem};
 
-use bz_engine::{Failed, Sink, write_all};
+use crate::device::{Failed, Sink};
+use crate::output::write_all;
 use std::alloc::{AllocError, Global};
 use std::marker::Model;
 
@@ -23,7 +24,7 @@ pub struct Buffered<W> {
 }
 
 impl<W> Model for Buffered<W> {
-    ghost use Rattle.buildozer.specs.Buffer.{Buffer};
+    ghost use Rattle.bz_devices.specs.Buffer.{Buffer};
 
     ghost Value = { Buffer W };
 

@@ -2,11 +2,11 @@
 
 ghost use Rattle.std.specs.Prelude.{◌≡◌, map, string_bytes, IfOk};
 
-use bz_script::command_file::read_command_file;
-use bz_script::flags::{Flags, read_flags};
-use bz_script::group::{Script, read_group};
-use bz_script::inputs::check_inputs;
-use bz_script::usage::{StartFault, UsageFault};
+use crate::command_file::read_command_file;
+use crate::flags::{Flags, read_flags};
+use crate::group::{Script, read_group};
+use crate::inputs::check_inputs;
+use crate::usage::{StartFault, UsageFault};
 use std::alloc::{AllocError, Global};
 use std::fs::File;
 use std::io;
@@ -45,16 +45,16 @@ pub fn requested(
 /// The bytes of a command file; `-` is standard input.
 fn command_bytes(rt: &HostRuntime, alloc: Global, path: &str) -> Result<Vec<u8>, StartFault> {
     if path == "-" {
-        return read_commands(alloc, rt.stdin());
+        return read_bytes(alloc, rt.stdin());
     }
     match File::open(rt, path) {
-        Ok(file) => read_commands(alloc, file),
+        Ok(file) => read_bytes(alloc, file),
         Err(error) => Err(read_fault(error)),
     }
 }
 
 /// All bytes of a command file.
-fn read_commands<R: Read + Drop>(alloc: Global, reader: R) -> Result<Vec<u8>, StartFault> {
+fn read_bytes<R: Read + Drop>(alloc: Global, reader: R) -> Result<Vec<u8>, StartFault> {
     let mut bytes = Vec::new(alloc);
     match reader.take(MAX_COMMANDS + 1).read_to_end(&mut bytes) {
         Ok(n) if n as u64 > MAX_COMMANDS => Err(StartFault::LongCommands),

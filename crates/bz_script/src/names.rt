@@ -1,7 +1,7 @@
 //! The names of a package's files.
 
 ghost use Rattle.std.specs.Prelude.{◌≡◌, string_bytes, codes, IfOk};
-ghost use Rattle.buildozer.specs.Names.{in_folder};
+ghost use Rattle.bz_script.specs.Names.{in_folder};
 
 use std::alloc::{AllocError, Global};
 

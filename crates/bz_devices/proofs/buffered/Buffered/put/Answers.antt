@@ -1,7 +1,7 @@
 use Rattle.std.proofs.Common.{◌≡◌, [], rules, ◌∙◌, subst}
-use Rattle.buildozer.specs.Buffer.{Took, took_more_lem}
-use Rattle.buildozer.proofs.buffered.Buffered.put.Goals as goal
-use Rattle.buildozer.proofs.buffered.Buffered.put.Goals.{else-bytes-le-FULL-via-then-bytes-le-FULL+else-keep_back, else-bytes-le-FULL-via-else-bytes-le-FULL}
+use Rattle.bz_devices.specs.Buffer.{Took, took_more_lem}
+use Rattle.bz_devices.proofs.buffered.Buffered.put.Goals as goal
+use Rattle.bz_devices.proofs.buffered.Buffered.put.Goals.{else-bytes-le-FULL-via-then-bytes-le-FULL+else-keep_back, else-bytes-le-FULL-via-else-bytes-le-FULL}
 
 pub returns-then-keep_back-clause-took : goal.returns-then-keep_back-clause-took
 returns-then-keep_back-clause-took g c =
