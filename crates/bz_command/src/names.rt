@@ -4,8 +4,6 @@ ghost use Rattle.std.specs.Prelude.{◌≡◌, ◌==◌, bytes_eq};
 ghost use Rattle.std.specs.List.{list_all};
 ghost use Rattle.bz_command.specs.Names as spec;
 
-use crate::parts::cut;
-
 /// The text is an identifier.
 #[tactic(auto, unfolding(crate::specs::Names::is_identifier))]
 pub(crate) fn is_identifier(text: &str) -> bool
@@ -25,12 +23,5 @@ pub(crate) fn is(text: &str, word: &str) -> bool
 pub(crate) fn is_kind(text: &str) -> bool
     ensures { result ≡ spec.is_kind text.now }
 {
-    let mut left = text;
-    while let Some((part, rest)) = cut(left, '.') {
-        if !is_identifier(part) {
-            return false;
-        }
-        left = rest;
-    }
-    is_identifier(left)
+    text.split('.').all(is_identifier)
 }
