@@ -6,7 +6,7 @@ ghost use Rattle.std.specs.Char.{is_ascii_digit};
 ghost use Rattle.bz_command.specs.Labels as spec;
 
 use crate::list::Text;
-use crate::names::{is, is_kind};
+use crate::names::is_kind;
 use crate::package::{Package, Place};
 use crate::parts::cut;
 use crate::target::{Marked, Target};
@@ -74,7 +74,7 @@ pub(crate) fn last_part(path: &str) -> &str
 fn read_package(alloc: Global, text: &str) -> Result<Package, LabelFault>
     ensures { result ≢ Err LabelFault.OutOfMemory → result ≡ spec.package_of text.now }
 {
-    if is(text, "-") {
+    if text == "-" {
         let place = Place::Standard;
         return Ok(Package { place });
     }

@@ -1,6 +1,6 @@
 //! Kinds, and words that are texts of the language.
 
-ghost use Rattle.std.specs.Prelude.{◌≡◌, ◌==◌, bytes_eq};
+ghost use Rattle.std.specs.Prelude.{◌≡◌};
 ghost use Rattle.std.specs.List.{list_all};
 ghost use Rattle.bz_command.specs.Names as spec;
 
@@ -10,13 +10,6 @@ pub(crate) fn is_identifier(text: &str) -> bool
     ensures { result ≡ spec.is_identifier text.now }
 {
     bz_token::is_identifier(text)
-}
-
-/// The text is this word.
-pub(crate) fn is(text: &str, word: &str) -> bool
-    ensures { result ≡ bytes_eq text.now word.now }
-{
-    text == word
 }
 
 /// The text is identifiers joined by `.`, none of them a keyword.

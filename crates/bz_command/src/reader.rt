@@ -9,7 +9,7 @@ ghost use Rattle.bz_command.specs.CommandViews.{attributes_view, commented_view,
 
 use crate::command::{Action, Attributes, Command, CommandFault, Commented, Field, Moved, Setting};
 use crate::list::{Seq, Text};
-use crate::names::{is, is_identifier, is_kind};
+use crate::names::{is_identifier, is_kind};
 use crate::words::{read_words, take_word};
 use std::alloc::{AllocError, Global};
 
@@ -61,7 +61,7 @@ fn read_set(mut words: Vec<Text>) -> Result<Command, CommandFault>
     if words.len() == 0 || takes_one(attr.as_str()) && words.len() != 1 {
         return Err(CommandFault::WrongCount);
     }
-    if is(attr.as_str(), "kind") {
+    if attr.as_str() == "kind" {
         return read_set_kind(words);
     }
     let action = Action::Set(Setting::ToValues(attribute(attr)?, Seq::from_vec(words)));
@@ -71,7 +71,7 @@ fn read_set(mut words: Vec<Text>) -> Result<Command, CommandFault>
 fn takes_one(attr: &str) -> bool
     ensures { result ≡ spec.takes_one attr.now }
 {
-    is(attr, "name") || is(attr, "kind")
+    matches!(attr, "name" | "kind")
 }
 
 fn read_set_kind(mut words: Vec<Text>) -> Result<Command, CommandFault>
@@ -89,7 +89,7 @@ fn read_set_if_absent(mut words: Vec<Text>) -> Result<Command, CommandFault>
     ensures { result ≡ spec.set_if_absent_of words.items }
 {
     let attr = next_word(&mut words)?;
-    if words.len() == 0 || is(attr.as_str(), "name") && words.len() != 1 {
+    if words.len() == 0 || attr.as_str() == "name" && words.len() != 1 {
         return Err(CommandFault::WrongCount);
     }
     let action = Action::SetIfAbsent(attribute(attr)?, Seq::from_vec(words));
@@ -122,7 +122,7 @@ fn read_move(mut words: Vec<Text>) -> Result<Command, CommandFault>
     let values = some_words(words)?;
     let old = attribute(old)?;
     let new = attribute(new)?;
-    if is(old.as_str(), new.as_str()) {
+    if old.as_str() == new.as_str() {
         return Err(CommandFault::SameAttribute);
     }
     let action = Action::Move(old, new, moved(values));
@@ -229,7 +229,7 @@ fn field(word: Text) -> Field
 fn is_star(word: &str) -> bool
     ensures { result ≡ spec.is_star word.now }
 {
-    is(word, "*")
+    word == "*"
 }
 
 fn attribute(word: Text) -> Result<Text, CommandFault>
