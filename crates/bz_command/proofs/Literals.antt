@@ -1,9 +1,9 @@
 -- A literal read unit by unit.
-use Rattle.std.proofs.Common.{◌≡◌, ℕ, suc, ◌+◌, ◌<◌, ◌-◌, ◌==◌, ◌&&◌, ◌||◌, not, List, [], ◌∷◌, ◌++◌, length, take, drop, Bool, true, false, Option, Some, None, nat_eq, refl, sym, ap, ap₂, ◌∙◌, arith, inl, inr, append_assoc, eqb-true, slice_index_or}
+use Rattle.std.proofs.Common.{◌≡◌, ℕ, suc, ◌+◌, ◌<◌, ◌==◌, ◌&&◌, ◌||◌, not, List, [], ◌∷◌, ◌++◌, length, take, drop, Bool, true, false, Option, Some, None, nat_eq, refl, sym, ap, ap₂, ◌∙◌, arith, inl, inr, append_assoc, eqb-true}
 use Rattle.std.specs.Prelude.{if◌then◌else◌, option_map, bytes_eq, codes}
 use Rattle.std.specs.List.{starts_with, prefix_len}
 use Rattle.std.proofs.lemmas.Bool.{cases_Bool, and_parts, or_parts, eq-eqb, ne_eqb, false_from_ne_true}
-use Rattle.std.proofs.lemmas.List.{take_all, take_rest}
+use Rattle.std.proofs.lemmas.List.{take_all}
 use Rattle.std.proofs.lemmas.Slice.Eq.{bytes_eq-Decides}
 use Rattle.bz_command.specs.Values.{grouped_from, takes, units, joined, content, is_newline, unit_value, values_in, and_then, is_quote, prefix_of, inner_of, value_of}
 use Rattle.bz_command.specs.private.ValueSteps.{is_plain, first_len, is_value, inner_value, value_in, taken, opened_value}
@@ -173,19 +173,17 @@ value_more v b c None = elim (b == c) as (λ t. false ≡ (t && false)) [ true �
 value_more v b c (Some w) = refl
 
 -- the first byte of a value is that of the first unit, and the rest goes on
-pub value_same : (v : List ℕ) (b : ℕ) (o : Option (List ℕ)) → 0 < length v → slice_index_or v 0 0 ≡ b → is_value (take (length v - 1) (drop 1 v)) o ≡ is_value v (and_then (Some b) o)
-value_same [] b o some e = absurd (omega arith)
-value_same (c ∷ v) b o some e = ap (λ (w : List ℕ). is_value w o) (take_rest (c ∷ v) 1) ∙ sym (value_more v c b o ∙ rw (eq-eqb c b e) refl)
+pub value_same : (v rest : List ℕ) (b : ℕ) (o : Option (List ℕ)) → bytes_eq (take 1 v) (b ∷ []) ≡ true → rest ≡ drop 1 v → is_value rest o ≡ is_value v (and_then (Some b) o)
+value_same [] rest b o same e = absurd (cc)
+value_same (c ∷ v) rest b o same e = ap (λ (w : List ℕ). is_value w o) e ∙ sym (value_more v c b o ∙ rw ((and_parts (c == b) true same).0) refl)
 
-pub value_differs : (v : List ℕ) (b : ℕ) (o : Option (List ℕ)) → (slice_index_or v 0 0 ≡ b → ⊥) → is_value v (and_then (Some b) o) ≡ false
-value_differs [] b None e = refl
-value_differs [] b (Some w) e = refl
-value_differs (c ∷ v) b o e = value_more v c b o ∙ rw (ne_eqb c b e) refl
-
-pub value_none : (v : List ℕ) (b : ℕ) (o : Option (List ℕ)) → length v ≡ 0 → is_value v (and_then (Some b) o) ≡ false
-value_none [] b None e = refl
-value_none [] b (Some w) e = refl
-value_none (c ∷ v) b o e = absurd (omega arith)
+pub value_differs : (v : List ℕ) (b : ℕ) (o : Option (List ℕ)) → bytes_eq (take 1 v) (b ∷ []) ≡ false → is_value v (and_then (Some b) o) ≡ false
+value_differs [] b None h = refl
+value_differs [] b (Some w) h = refl
+value_differs (c ∷ v) b o h = elim (cases_Bool (c == b)) [
+  | inl is ↦ let none : true ≡ false = rw is at h in absurd (cc)
+  | inr other ↦ value_more v c b o ∙ rw other refl
+]
 
 pub is_value-iff : (v : List ℕ) (o : Option (List ℕ)) → (is_value v o ≡ true → o ≡ Some v) × (o ≡ Some v → is_value v o ≡ true)
 is_value-iff v None = ((λ h. cc), (λ h. cc))
@@ -210,11 +208,11 @@ raw_other b bs h =
     ap (λ (p : List ℕ). if bytes_eq p [] then values_in false (inner_of text) else (if bytes_eq p (codes "r") then values_in true (inner_of (drop 1 text)) else None)) front
 
 -- what begins with neither a quote nor an `r` has no value, and what begins with an `r` only where a quote follows
-pub opened_other : (text : List ℕ) → (0 < length text → slice_index_or text 0 0 ≡ 114 → ⊥) → opened_value false text ≡ value_of text
-opened_other [] k = refl
-opened_other (b ∷ bs) k = elim (cases_Bool (is_quote b)) [
+pub opened_other : (text : List ℕ) → bytes_eq (take 1 text) (codes "r") ≡ false → opened_value false text ≡ value_of text
+opened_other [] h = refl
+opened_other (b ∷ bs) h = elim (cases_Bool (is_quote b)) [
   | inl is ↦ rw is refl
-  | inr other ↦ unopened false b bs other ∙ sym (no_value b bs other (k (omega arith)))
+  | inr other ↦ unopened false b bs other ∙ sym (no_value b bs other (λ e. let none : true ≡ false = rw e at h in cc))
 ]
 
 after_r : (bs : List ℕ) → opened_value true bs ≡ value_of (114 ∷ bs)
@@ -224,9 +222,11 @@ after_r (b ∷ bs) = elim (cases_Bool (is_quote b)) [
   | inr other ↦ unopened true b bs other ∙ sym (raw_other b bs other)
 ]
 
-pub opened_raw : (text : List ℕ) → 0 < length text → slice_index_or text 0 0 ≡ 114 → opened_value true (take (length text - 1) (drop 1 text)) ≡ value_of text
-opened_raw [] some e = absurd (omega arith)
-opened_raw (b ∷ bs) some e = ap (opened_value true) (take_rest (b ∷ bs) 1) ∙ after_r bs ∙ ap (λ (c : ℕ). value_of (c ∷ bs)) (sym e)
+pub opened_raw : (text literal : List ℕ) → bytes_eq (take 1 text) (codes "r") ≡ true → literal ≡ drop 1 text → opened_value true literal ≡ value_of text
+opened_raw [] literal h e = absurd (cc)
+opened_raw (b ∷ bs) literal h e =
+    let first : b ≡ 114 = eqb-true b 114 (and_parts (b == 114) true h).0 in
+    ap (opened_value true) e ∙ after_r bs ∙ ap (λ (c : ℕ). value_of (c ∷ bs)) (sym first)
 
 off : (b : Bool) → not b ≡ true → b ≡ false
 off true h = sym h

@@ -1,9 +1,10 @@
 -- The words of a command, part by part.
-use Rattle.std.proofs.Common.{◌≡◌, ℕ, ◌<◌, ◌-◌, List, [], ◌∷◌, ◌++◌, length, take, drop, true, false, refl, sym, ap, ◌∙◌, arith, inl, inr, append_assoc, length-append}
+use Rattle.std.proofs.Common.{◌≡◌, ℕ, ◌<◌, ◌-◌, List, [], ◌∷◌, ◌++◌, length, take, drop, filter, true, false, refl, sym, ap, ◌∙◌, arith, inl, inr, append_assoc, length-append}
 use Rattle.std.proofs.lemmas.Bool.{cases_Bool}
 use Rattle.std.proofs.lemmas.List.{take_at, drop_at, take-append-drop}
 use Rattle.std.proofs.lemmas.Slice.Eq.{bytes_eq-Decides}
-use Rattle.bz_command.specs.Words.{goes_on, with_space, onto_word, mended}
+use Rattle.bz_command.specs.Words.{goes_on, with_space, onto_word, is_word, mended}
+use Rattle.bz_command.specs.private.WordSteps.{kept}
 
 before_last : (part front : List ℕ) → part ≡ front ++ 92 ∷ [] → length part - 1 ≡ length front
 before_last part front e = omega (arith, ap length e ∙ length-append front (92 ∷ []))
@@ -36,3 +37,24 @@ pub step_on : (word new part : List ℕ) (l : List (List ℕ)) → 0 < length l 
 step_on word new part l some h e =
     ap (λ (w : List ℕ). onto_word w (mended l)) e
     ∙ sym (ap (onto_word word) (mended_on part l some h) ∙ onto_onto word (with_space part) (mended l))
+
+fresh_word : (us : List (List ℕ)) → filter is_word (onto_word [] us) ≡ filter is_word us
+fresh_word [] = refl
+fresh_word (u ∷ us) = refl
+
+kept_first : (word : List ℕ) (us : List (List ℕ)) → filter is_word (word ∷ us) ≡ kept word ++ filter is_word us
+kept_first word us = elim (cases_Bool (is_word word)) [
+  | inl is ↦ rw is refl
+  | inr other ↦ rw other refl
+]
+
+mended_apart : (part : List ℕ) (l : List (List ℕ)) → 0 < length l → goes_on part ≡ false → mended (part ∷ l) ≡ part ∷ mended l
+mended_apart part [] some h = absurd (omega arith)
+mended_apart part (next ∷ more) some h = rw h refl
+
+-- a part whose last space splits: a word ends
+pub step_apart : (words kept_words l : List (List ℕ)) (word whole fresh part : List ℕ) → 0 < length l → goes_on part ≡ false → whole ≡ word ++ part → kept_words ≡ words ++ kept whole → fresh ≡ []
+    → kept_words ++ filter is_word (onto_word fresh (mended l)) ≡ words ++ filter is_word (onto_word word (mended (part ∷ l)))
+step_apart words kept_words l word whole fresh part some h e kept_ empty =
+    rw (kept_, empty, fresh_word (mended l), mended_apart part l some h, e, append_assoc words (kept (word ++ part)) (filter is_word (mended l)))
+    (ap (λ (us : List (List ℕ)). words ++ us) (sym (kept_first (word ++ part) (mended l))))

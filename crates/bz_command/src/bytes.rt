@@ -19,16 +19,11 @@ pub fn value_of(text: &str) -> Option<Bytes<'_>>
     ensures some { IfSome result (λ bytes. spec.value_of text.now ≡ Some (left bytes)) }
     ensures good { IfSome result (λ bytes. IsTrue (is_good bytes)) }
 {
-    let Some(literal) = open(text.as_bytes()) else {
-        return None;
-    };
-    if let Some(value) = plain_value(literal) {
-        return Some(Bytes::Plain(value));
+    let literal = open(text.as_bytes())?;
+    match plain_value(literal) {
+        Some(value) => Some(Bytes::Plain(value)),
+        None => has_end(literal).then_some(Bytes::Inner(literal)),
     }
-    if !has_end(literal) {
-        return None;
-    }
-    Some(Bytes::Inner(literal))
 }
 
 // What is left is closed, and each unit of it has a value.
@@ -51,9 +46,9 @@ pub(crate) fn next<'a>(bytes: Bytes<'a>) -> Option<(u8, Bytes<'a>)>
     match bytes {
         Bytes::Plain([]) => None,
         Bytes::Plain([b, rest @ ..]) => Some((*b, Bytes::Plain(rest))),
-        Bytes::Inner(literal) => match next_in(literal) {
-            None => None,
-            Some((b, after)) => Some((b, Bytes::Inner(after))),
-        },
+        Bytes::Inner(literal) => {
+            let (b, after) = next_in(literal)?;
+            Some((b, Bytes::Inner(after)))
+        }
     }
 }

@@ -87,10 +87,7 @@ fn starts_with(text: Bytes<'_>, byte: u8) -> bool
     requires { IsTrue (is_good text) }
     ensures { result ≡ begins byte (left text.entry) }
 {
-    match next(text) {
-        None => false,
-        Some((b, _)) => b == byte,
-    }
+    next(text).is_some_and(|(b, _)| b == byte)
 }
 
 // A name alone.
@@ -98,10 +95,7 @@ fn is_local(text: Bytes<'_>) -> bool
     requires { IsTrue (is_good text) }
     ensures { result ≡ same.is_local (left text.entry) }
 {
-    let Some((b, _)) = next(text) else {
-        return false;
-    };
-    !has_colon(text) && b != b'/' && b != b'@'
+    next(text).is_some_and(|(b, _)| b != b'/' && b != b'@') && !has_colon(text)
 }
 
 // A path without a colon.
@@ -109,10 +103,7 @@ fn is_path(text: Bytes<'_>) -> bool
     requires { IsTrue (is_good text) }
     ensures { result ≡ is_bare_path (left text.entry) }
 {
-    let Some((b, rest)) = next(text) else {
-        return false;
-    };
-    b == b'/' && starts_with(rest, b'/') && !has_colon(text)
+    next(text).is_some_and(|(b, rest)| b == b'/' && starts_with(rest, b'/')) && !has_colon(text)
 }
 
 fn has_colon(text: Bytes<'_>) -> bool

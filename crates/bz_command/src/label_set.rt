@@ -10,7 +10,6 @@ ghost use Rattle.bz_command.specs.LabelSetViews as spec;
 
 use crate::bytes::{Bytes, next};
 use crate::completed::{Chain, completed, equal};
-use crate::names::is;
 use crate::package::Package;
 use std::alloc::{AllocError, Global};
 use std::collections::HashSet;
@@ -119,11 +118,7 @@ impl<'a> LabelSet<'a> {
     pub fn is_of(&self, home: &Package) -> bool
         ensures { result ≡ true → self.now.home.now ≡ home.now }
     {
-        match (self.home.path(), home.path()) {
-            (None, None) => true,
-            (Some(path), Some(other)) => is(path, other),
-            _ => false,
-        }
+        self.home == home
     }
 
     /// Adds a label, and says whether it is new. An `Err` leaves the set as it was.

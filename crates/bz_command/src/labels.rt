@@ -6,7 +6,7 @@ ghost use Rattle.std.specs.Char.{is_ascii_digit};
 ghost use Rattle.bz_command.specs.Labels as spec;
 
 use crate::list::Text;
-use crate::names::{is, is_kind};
+use crate::names::is_kind;
 use crate::package::{Package, Place};
 use crate::parts::cut;
 use crate::target::{Marked, Target};
@@ -52,17 +52,12 @@ fn read_named(alloc: Global, text: &str) -> Result<(Package, Target), LabelFault
     ensures { result ≢ Err LabelFault.OutOfMemory → result ≡ spec.named_of (spec.package_of text.now) }
 {
     let package = read_package(alloc, text)?;
-    let Some(path) = package.path() else {
-        return Err(LabelFault::BadTarget);
+    let path = match package.path() {
+        None | Some("") => return Err(LabelFault::BadTarget),
+        Some(path) => path,
     };
-    if path.len() == 0 {
-        return Err(LabelFault::BadTarget);
-    }
-    let name = Text::from_str(alloc, last_part(path))?;
-    let target = Target {
-        marked: Marked::Name(name),
-    };
-    Ok((package, target))
+    let marked = Marked::Name(Text::from_str(alloc, last_part(path))?);
+    Ok((package, Target { marked }))
 }
 
 // What stands after the last slash.
@@ -79,28 +74,22 @@ pub(crate) fn last_part(path: &str) -> &str
 fn read_package(alloc: Global, text: &str) -> Result<Package, LabelFault>
     ensures { result ≢ Err LabelFault.OutOfMemory → result ≡ spec.package_of text.now }
 {
-    if is(text, "-") {
-        return Ok(Package {
-            place: Place::Standard,
-        });
+    if text == "-" {
+        let place = Place::Standard;
+        return Ok(Package { place });
     }
     let path = text.strip_prefix("//").unwrap_or(text);
     if !is_path(path) {
         return Err(LabelFault::BadPackage);
     }
-    let path = Text::from_str(alloc, path)?;
-    Ok(Package {
-        place: Place::Path(path),
-    })
+    let place = Place::Path(Text::from_str(alloc, path)?);
+    Ok(Package { place })
 }
 
 fn is_path(path: &str) -> bool
     ensures { result ≡ spec.is_path path.now }
 {
-    if !are_plain(path.as_bytes()) || path.starts_with("@") {
-        return false;
-    }
-    path.len() == 0 || are_parts(path)
+    are_plain(path) && !path.starts_with("@") && (path.len() == 0 || are_parts(path))
 }
 
 fn is_plain(b: u8) -> bool
@@ -109,100 +98,61 @@ fn is_plain(b: u8) -> bool
     b > b' ' && b != 127
 }
 
-fn are_plain(bytes: &[u8]) -> bool
-    ensures { result ≡ list_all spec.is_plain bytes.now }
+fn are_plain(text: &str) -> bool
+    ensures { result ≡ list_all spec.is_plain text.now }
 {
-    for b in bytes {
-        if !is_plain(*b) {
-            return false;
-        }
-    }
-    true
+    text.as_bytes().iter().all(|b| is_plain(*b))
 }
 
 fn are_parts(path: &str) -> bool
     ensures { result ≡ list_all spec.is_part (spec.parts_of path.now) }
 {
-    let mut left = path;
-    while let Some((part, rest)) = cut(left, '/') {
-        if !is_part(part) {
-            return false;
-        }
-        left = rest;
-    }
-    is_part(left)
+    path.split('/').all(is_part)
 }
 
 fn is_part(part: &str) -> bool
     ensures { result ≡ spec.is_part part.now }
 {
-    !(part.len() == 0 || is(part, ".") || is(part, "..") || is(part, "..."))
+    !matches!(part, "" | "." | ".." | "...")
 }
 
 fn read_target(alloc: Global, text: &str) -> Result<Target, LabelFault>
     ensures { result ≢ Err LabelFault.OutOfMemory → result ≡ spec.target_of text.now }
 {
-    if !is_target(text.as_bytes()) {
+    if !is_target(text) {
         return Err(LabelFault::BadTarget);
     }
-    if is(text, "__pkg__") {
-        return Ok(Target {
-            marked: Marked::Pkg,
-        });
-    }
-    if is(text, "*") {
-        return Ok(Target {
-            marked: Marked::All,
-        });
-    }
-    if let Some(rest) = text.strip_prefix("%") {
-        return read_percent(alloc, rest);
-    }
-    let name = Text::from_str(alloc, text)?;
-    Ok(Target {
-        marked: Marked::Name(name),
-    })
+    let marked = match (text, text.strip_prefix("%")) {
+        ("__pkg__", _) => Marked::Pkg,
+        ("*", _) => Marked::All,
+        (_, Some(rest)) => return read_percent(alloc, rest),
+        (_, None) => Marked::Name(Text::from_str(alloc, text)?),
+    };
+    Ok(Target { marked })
 }
 
-fn is_target(text: &[u8]) -> bool
+fn is_target(text: &str) -> bool
     ensures { result ≡ spec.is_target text.now }
 {
-    for b in text {
-        if !is_plain(*b) || *b == b':' {
-            return false;
-        }
-    }
-    text.len() != 0
+    text.len() != 0 && text.as_bytes().iter().all(|b| is_plain(*b) && *b != b':')
 }
 
 // What stands after a percent sign.
 fn read_percent(alloc: Global, text: &str) -> Result<Target, LabelFault>
     ensures { result ≢ Err LabelFault.OutOfMemory → result ≡ spec.percent_of text.now }
 {
-    if is_number(text.as_bytes()) {
-        return match text.parse::<u64>() {
-            Ok(line) => Ok(Target {
-                marked: Marked::Line(line),
-            }),
-            Err(_) => Err(LabelFault::BadTarget),
-        };
-    }
-    if !is_kind(text) {
+    let marked = if is_number(text) {
+        Marked::Line(text.parse().map_err(|_| LabelFault::BadTarget)?)
+    } else if is_kind(text) {
+        Marked::Kind(Text::from_str(alloc, text)?)
+    } else {
         return Err(LabelFault::BadTarget);
-    }
-    let kind = Text::from_str(alloc, text)?;
-    Ok(Target {
-        marked: Marked::Kind(kind),
-    })
+    };
+    Ok(Target { marked })
 }
 
-fn is_number(text: &[u8]) -> bool
+fn is_number(text: &str) -> bool
     ensures { result ≡ spec.is_number text.now }
 {
-    for b in text {
-        if !b.is_ascii_digit() {
-            return false;
-        }
-    }
-    text.len() != 0
+    text.len() != 0 && text.as_bytes().iter().all(u8::is_ascii_digit)
 }

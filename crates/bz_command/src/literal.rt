@@ -19,13 +19,10 @@ pub(crate) fn open(text: &[u8]) -> Option<Literal<'_>>
     ensures value { opened result ≡ spec.value_of text.now }
     ensures place { IfSome result (λ literal. StandsIn text.now literal) }
 {
-    let [first, literal @ ..] = text else {
-        return None;
-    };
-    if *first == b'r' {
-        return open_quotes(true, literal);
+    match text.strip_prefix(b"r") {
+        Some(literal) => open_quotes(true, literal),
+        None => open_quotes(false, text),
     }
-    open_quotes(false, text)
 }
 
 // The literal without its prefix.
@@ -57,9 +54,7 @@ pub(crate) fn next_in<'a>(literal: Literal<'a>) -> Option<(u8, Literal<'a>)>
     if rest.starts_with(quotes) {
         return None;
     }
-    let Some((byte, rest)) = take_unit(raw, quotes.len() == 1, rest) else {
-        return None;
-    };
+    let (byte, rest) = take_unit(raw, quotes.len() == 1, rest)?;
     Some((byte, Literal { raw, quotes, rest }))
 }
 
@@ -72,10 +67,7 @@ pub(crate) fn plain_value(literal: Literal<'_>) -> Option<&[u8]>
     };
     let len = plain_len(*quote, literal.rest);
     let (value, closing) = literal.rest.split_at(len);
-    if closing != literal.quotes {
-        return None;
-    }
-    Some(value)
+    (closing == literal.quotes).then_some(value)
 }
 
 fn plain_len(quote: u8, bytes: &[u8]) -> usize
@@ -87,7 +79,7 @@ fn plain_len(quote: u8, bytes: &[u8]) -> usize
 fn is_plain(quote: u8, b: u8) -> bool
     ensures { result ≡ is_plain quote b }
 {
-    quote != b && b != b'\\' && b != b'\r' && b != b'\n'
+    quote != b && !matches!(b, b'\\' | b'\r' | b'\n')
 }
 
 /// The closing quotes are left, and nothing else.
@@ -103,10 +95,7 @@ fn take_unit(raw: bool, short: bool, bytes: &[u8]) -> Option<(u8, &[u8])>
     ensures shorter { IfSome result (λ p. length p.1.now < length bytes.now) }
 {
     match bytes {
-        [b'\\', b, rest @ ..] if !raw => match escape_value(*b) {
-            Some(value) => Some((value, rest)),
-            None => None,
-        },
+        [b'\\', b, rest @ ..] if !raw => Some((escape_value(*b)?, rest)),
         [b'\\', ..] => None,
         [b'\n', ..] | [b'\r', b'\n', ..] if short => None,
         [b'\r', b'\n', rest @ ..] => Some((b'\n', rest)),

@@ -1,10 +1,8 @@
 //! Kinds, and words that are texts of the language.
 
-ghost use Rattle.std.specs.Prelude.{◌≡◌, ◌==◌, bytes_eq};
+ghost use Rattle.std.specs.Prelude.{◌≡◌};
 ghost use Rattle.std.specs.List.{list_all};
 ghost use Rattle.bz_command.specs.Names as spec;
-
-use crate::parts::cut;
 
 /// The text is an identifier.
 #[tactic(auto, unfolding(crate::specs::Names::is_identifier))]
@@ -14,23 +12,9 @@ pub(crate) fn is_identifier(text: &str) -> bool
     bz_token::is_identifier(text)
 }
 
-/// The text is this word.
-pub(crate) fn is(text: &str, word: &str) -> bool
-    ensures { result ≡ bytes_eq text.now word.now }
-{
-    text == word
-}
-
 /// The text is identifiers joined by `.`, none of them a keyword.
 pub(crate) fn is_kind(text: &str) -> bool
     ensures { result ≡ spec.is_kind text.now }
 {
-    let mut left = text;
-    while let Some((part, rest)) = cut(left, '.') {
-        if !is_identifier(part) {
-            return false;
-        }
-        left = rest;
-    }
-    is_identifier(left)
+    text.split('.').all(is_identifier)
 }

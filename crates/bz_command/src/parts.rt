@@ -13,8 +13,6 @@ pub fn cut(text: &str, at: char) -> Option<(&str, &str)>
     ensures front { IfSome result (λ x. IsUtf8 x.0.now) }
     ensures back { IfSome result (λ x. IsUtf8 x.1.now) }
 {
-    let Some((part, rest)) = text.split_once(at) else {
-        return None;
-    };
+    let (part, rest) = text.split_once(at)?;
     Some((part, rest))
 }

@@ -50,10 +50,7 @@ fn push_written(text: &mut String, c: char) -> Result<(), AllocError>
 pub fn has_value(text: &[u8], value: &[u8]) -> bool
     ensures { result ≡ is_value value.now (spec.value_of text.now) }
 {
-    match open(text) {
-        None => false,
-        Some(literal) => inner_is(literal, value),
-    }
+    open(text).is_some_and(|literal| inner_is(literal, value))
 }
 
 // What is left of the literal has this value.
@@ -63,12 +60,9 @@ fn inner_is(literal: Literal<'_>, value: &[u8]) -> bool
     let mut inner = literal;
     let mut left = value;
     while let Some((byte, after)) = next_in(inner) {
-        let [first, rest @ ..] = left else {
+        let Some(rest) = left.strip_prefix(&[byte]) else {
             return false;
         };
-        if *first != byte {
-            return false;
-        }
         left = rest;
         inner = after;
     }

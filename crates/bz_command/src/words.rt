@@ -16,7 +16,7 @@ pub(crate) fn read_words(alloc: Global, text: &str) -> Result<Vec<Text>, AllocEr
     let mut word = String::new(alloc);
     let mut left = text;
     while let Some((part, rest)) = cut(left, ' ') {
-        match going_on(part) {
+        match part.strip_suffix("\\") {
             Some(front) => {
                 word.push_str(front)?;
                 word.push(' ')?;
@@ -34,24 +34,12 @@ pub(crate) fn read_words(alloc: Global, text: &str) -> Result<Vec<Text>, AllocEr
     Ok(words)
 }
 
-// What stands before the backslash at the end.
-fn going_on(part: &str) -> Option<&str>
-    ensures { MatchOption result (spec.goes_on part.now ≡ false)
-        (λ front. (spec.goes_on part.now ≡ true) × (spec.with_space part.now ≡ front.now ++ 32 ∷ [])) }
-{
-    let Some(front) = part.strip_suffix("\\") else {
-        return None;
-    };
-    Some(front)
-}
-
 fn keep(words: &mut Vec<Text>, word: String) -> Result<(), AllocError>
     ensures { OnOk result (words.new.items ≡ words.old.items ++ kept (string_bytes word)) }
 {
-    if word.len() == 0 {
-        return Ok(());
+    if word.len() > 0 {
+        words.push(Text::from_string(word))?;
     }
-    words.push(Text::from_string(word))?;
     Ok(())
 }
 

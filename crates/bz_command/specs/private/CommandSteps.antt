@@ -1,12 +1,23 @@
--- For private clauses alone: the commands from `rename` on.
-use Rattle.std.specs.Prelude.{ℕ, List, if◌then◌else◌, Option, None, Result, Ok, codes, bytes_eq}
+-- For private clauses alone: what the words of a command give.
+use Rattle.std.specs.Prelude.{ℕ, List, [], ◌∷◌, if◌then◌else◌, Result, Ok, Err}
 use Rattle.bz_command.specs.declared.command.CommandFault.{CommandFault}
-use Rattle.bz_command.specs.Commands.{Command, a_command, rename_of, move_of, replace_of, comment_of, print_of}
+use Rattle.bz_command.specs.declared.command.CommandFault.TheVariants.{WrongCount, BadAttribute}
+use Rattle.bz_command.specs.Commands.{Attributes, Every, Named, is_star}
+use Rattle.bz_command.specs.Names.{is_identifier}
 
-abbrev pub later_command : List ℕ → List (List ℕ) → Result (Option Command) CommandFault
-later_command name words =
-    if bytes_eq name (codes "rename") then a_command (rename_of words)
-    else (if bytes_eq name (codes "move") then a_command (move_of words)
-    else (if bytes_eq name (codes "replace") then a_command (replace_of words)
-    else (if bytes_eq name (codes "comment") then a_command (comment_of words)
-    else (if bytes_eq name (codes "print") then a_command (print_of words) else Ok None))))
+abbrev pub attribute_of : List ℕ → Result (List ℕ) CommandFault
+attribute_of word = if is_identifier word then Ok word else Err BadAttribute
+
+-- a star is every attribute
+abbrev pub attributes_of : List ℕ → Result Attributes CommandFault
+attributes_of word = if is_star word then Ok Every else (if is_identifier word then Ok (Named word) else Err BadAttribute)
+
+-- one or more words
+abbrev pub some_of : List (List ℕ) → Result (List (List ℕ)) CommandFault
+some_of [] = Err WrongCount
+some_of (word ∷ words) = Ok (word ∷ words)
+
+-- no words
+abbrev pub none_of : List (List ℕ) → Result (Unit {0}) CommandFault
+none_of [] = Ok tt
+none_of (word ∷ words) = Err WrongCount
