@@ -1,5 +1,5 @@
 -- The nodes of a rule are those that its parts are read from.
-use Rattle.std.proofs.Common.{◌≡◌, List, [], ◌∷◌, ◌++◌, true, false, Option, None, Some, refl, ap, ◌∙◌, if◌then◌else◌, append_assoc}
+use Rattle.std.proofs.Common.{◌≡◌, List, [], ◌∷◌, ◌++◌, true, false, None, Some, refl, ap, ◌∙◌, if◌then◌else◌, append_assoc}
 use Rattle.bz_tree.specs.declared.stmt.GroupKind.TheVariants.{Call, RuleCall, Load, Paren, List as ListKind, Index, Dict, ListComp, DictComp}
 use Rattle.bz_tree.specs.Tree.{Item, leaf, group, Items, no_items, item, Segs, no_segs, seg, items_of, list_of, segs_of, segments}
 use Rattle.bz_attribute.specs.Rules.{Rule, rule_from, call_at, dotted}

@@ -14,12 +14,12 @@ ghost use Rattle.bz_list_commands.specs.private.MovingSteps.{with_list};
 
 use crate::arrivals::keep_arrivals;
 use crate::taking::{count_in_value, take_from, value_at};
-use crate::words::{chosen_by, words_moved};
 use bz_attribute::chosen::Chosen;
 use bz_attribute::done::{Done, Note};
 use bz_attribute::find::find;
 use bz_attribute::lists::{elements_at, first_part};
 use bz_attribute::make::list_argument;
+use bz_attribute::word_set::word_set;
 use bz_command::{Moved, Package, Text};
 use bz_tree::{Node, Seg};
 use std::alloc::{AllocError, Global};
@@ -46,9 +46,13 @@ pub fn move_elements(
     if let Some(note) = move_note(alloc, old, new, args)? {
         return Ok(Done::failure(note));
     }
-    let words = words_moved(alloc, home, moved)?;
-    let done = move_chosen(alloc, home, old, new, chosen_by(&words), args)?;
-    Ok(done)
+    match moved {
+        Moved::All => move_chosen(alloc, home, old, new, Chosen::All, args),
+        Moved::Values(values) => {
+            let words = word_set(alloc, home, values.as_slice())?;
+            move_chosen(alloc, home, old, new, Chosen::Words(&words), args)
+        }
+    }
 }
 
 // All memory that is needed is there before the first element leaves: what follows cannot fail.
