@@ -8,23 +8,21 @@ ghost use Rattle.bz_attribute.specs.Lists.{edit_list, edit_parts, parts, with_va
 ghost use Rattle.bz_attribute.specs.private.ChosenViews.{chosen_view};
 ghost use Rattle.bz_attribute.specs.Effects as spec;
 
-use crate::equals::{equals, equals_any, equals_other};
+use crate::equals::{equals, equals_other};
 use crate::lists::{are_joints, elements_at, is_list, is_part};
 use crate::rule::{is_sign, value_of};
 use crate::word_set::WordSet;
-use bz_command::{Package, Text};
+use bz_command::Package;
 use bz_tree::{Node, Seg};
 
 /// Which elements a command means.
 #[derive(Clone, Copy)]
 pub enum Chosen<'c, 'w> {
     All,
-    /// Those that equal one of a few words.
-    Values(&'c [Text]),
+    /// Those that equal one of some words.
+    Words(&'c WordSet<'w>),
     /// Those that equal a word.
     Value(&'c str),
-    /// Those that equal one of many words.
-    Many(&'c WordSet<'w>),
     /// Those that equal another element.
     Like(&'c Seg<'w>),
 }
@@ -34,9 +32,8 @@ pub fn is_chosen(home: &Package, chosen: Chosen<'_, '_>, element: &Seg<'_>) -> b
 {
     match chosen {
         Chosen::All => true,
-        Chosen::Values(words) => equals_any(home, element, words),
+        Chosen::Words(words) => words.equals_any(home, element),
         Chosen::Value(word) => equals(home, element, word),
-        Chosen::Many(words) => words.equals_any(home, element),
         Chosen::Like(other) => equals_other(home, element, other),
     }
 }

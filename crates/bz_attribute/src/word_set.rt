@@ -1,7 +1,8 @@
-//! Many words of a command on one package, found by hashing.
+//! The words of a command. Few are compared one by one, many are looked up by hashing.
 
-ghost use Rattle.std.specs.Prelude.{◌≡◌, ℕ, List, true, IfOk};
+ghost use Rattle.std.specs.Prelude.{◌≡◌, ℕ, List, true, IfOk, IfSome};
 ghost use Rattle.std.specs.List.{list_any};
+ghost use Rattle.std.proofs.Props.{props};
 ghost use Rattle.bz_tree.specs.View.{seg_view};
 ghost use Rattle.bz_attribute.specs.Lists.{equals_any, same};
 ghost use Rattle.bz_command.specs.LabelSetViews.{has};
@@ -14,15 +15,16 @@ use std::alloc::{AllocError, Global};
 /// So many words are compared one by one, and more are looked up in a set.
 pub const FEW: usize = 8;
 
-/// Words, and the set of them as labels of a package.
+/// Words, and where these are many the set of them as labels of a package.
 #[derive(Drop)]
 pub struct WordSet<'a> {
     words: &'a [Text],
-    labels: LabelSet<'a>,
-    ghost all: { (text : List ℕ) → has labels text ≡ list_any (same labels.home.now text) words.now },
+    labels: Option<LabelSet<'a>>,
+    ghost all: { IfSome labels (λ set. (text : List ℕ) → has set text ≡ list_any (same set.home.now text) words.now) }
+        by { Prim.hlevel props },
 }
 
-/// The set of some words, as labels of a package.
+/// Takes memory for many words alone.
 pub fn word_set<'a>(
     alloc: Global,
     home: &'a Package,
@@ -30,11 +32,20 @@ pub fn word_set<'a>(
 ) -> Result<WordSet<'a>, AllocError>
     ensures { IfOk result (λ set. set.words.now ≡ words.now) }
 {
+    if words.len() <= FEW {
+        return Ok(WordSet {
+            words,
+            labels: None,
+        });
+    }
     let mut labels = LabelSet::new(alloc, home);
     for i in 0..words.len() {
         let _ = labels.insert(Bytes::Plain(words[i].as_str().as_bytes()))?;
     }
-    Ok(WordSet { words, labels })
+    Ok(WordSet {
+        words,
+        labels: Some(labels),
+    })
 }
 
 impl<'a> WordSet<'a> {
@@ -42,12 +53,14 @@ impl<'a> WordSet<'a> {
     pub fn equals_any(&self, home: &Package, element: &Seg<'_>) -> bool
         ensures { result ≡ equals_any home.now self.now.words.now (seg_view element.now) }
     {
-        if !self.labels.is_of(home) {
-            return equals_any(home, element, self.words);
+        if let Some(labels) = &self.labels {
+            if labels.is_of(home) {
+                return match string_of(element) {
+                    None => false,
+                    Some(value) => labels.contains(value),
+                };
+            }
         }
-        match string_of(element) {
-            None => false,
-            Some(value) => self.labels.contains(value),
-        }
+        equals_any(home, element, self.words)
     }
 }

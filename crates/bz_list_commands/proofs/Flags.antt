@@ -1,8 +1,11 @@
--- Elements that arrive, told by a set of labels and brought to the front by their flags.
+-- Elements that arrive, told by a set of labels and then by their flags.
 use Rattle.std.proofs.Common.{◌≡◌, ℕ, suc, ◌+◌, ◌<◌, ◌≤◌, List, [], ◌∷◌, ◌++◌, Bool, true, false, not, ◌||◌, Option, None, Some, length, get_or, take, drop, refl, ap, sym, ◌∙◌, arith, append_assoc, if◌then◌else◌, inl, inr, bytes_eq}
+use Rattle.std.specs.Prelude.{Result, Ok, Err, IfOk, IfSome}
+use Rattle.std.specs.Result.{result_ok}
+use Rattle.std.specs.Global.{Vec}
 use Rattle.std.specs.List.{SwappedAt, list_any}
 use Rattle.std.proofs.lemmas.Bool.{cases_Bool}
-use Rattle.std.proofs.lemmas.List.{drop_more, drop_all, get_or_default, map-append, append-nil}
+use Rattle.std.proofs.lemmas.List.{drop_more, drop_all, get_or_default, length-drop, length-map, map-append, append-nil}
 use Rattle.std.proofs.lemmas.List.Folds.{list_any-append}
 use Rattle.bz_token.proofs.Classes.{same_bytes}
 use Rattle.bz_tree.specs.declared.stmt.Seg.{Seg}
@@ -13,17 +16,11 @@ use Rattle.bz_command.specs.Same.{completed}
 use Rattle.bz_attribute.specs.Rules.{string_value}
 use Rattle.bz_attribute.specs.Lists.{equals, same, same_value}
 use Rattle.bz_attribute.specs.private.ElementSets.{is_in}
-use Rattle.bz_attribute.specs.Moving.{arrivals, is_among, joined}
-use Rattle.bz_list_commands.specs.private.MovingSteps.{flags, flagged, has_value}
-use Rattle.bz_list_commands.proofs.Arriving.{any-joined}
+use Rattle.bz_attribute.specs.Moving.{is_among, joined}
+use Rattle.bz_list_commands.specs.private.MovingSteps.{flags, has_value}
+use Rattle.bz_list_commands.proofs.Arriving.{Arrived, any-joined, arrived_more, arrived_not}
 use Rattle.bz_attribute.proofs.LabelSets.{or_false}
 use Rattle.bz_list_commands.proofs.Leaving.{swapped_front, swapped_rest}
-
-pub flagged_arrive : (home : Package) (there ss : List Segment) → flagged (flags home there ss) ss ≡ arrivals home there ss
-flagged_arrive home there [] = refl
-flagged_arrive home there (s ∷ ss) =
-    elim (is_among home there (string_value s.nodes)) as (λ b. flagged (if b then false ∷ flags home there ss else true ∷ flags home (there ++ s ∷ []) ss) (s ∷ ss) ≡ (if b then arrivals home there ss else s ∷ arrivals home (there ++ s ∷ []) ss))
-    [ true ↦ flagged_arrive home there ss | false ↦ ap (λ (zs : List Segment). s ∷ zs) (flagged_arrive home (there ++ s ∷ []) ss) ]
 
 pub length_flags : (home : Package) (there ss : List Segment) → length (flags home there ss) ≡ length ss
 length_flags home there [] = refl
@@ -97,50 +94,82 @@ flags_step home p q xs i x d b before after lt at is more made =
 pub flags_all : (home : Package) (p : List ℕ → Bool) (xs : List Seg) (i : ℕ) (made all : List Bool) → length xs ≤ i → made ++ flags_by home p (segs_view (drop i xs)) ≡ all → made ≡ all
 flags_all home p xs i made all end h = sym (append-nil made) ∙ ap (λ (ys : List Seg). made ++ flags_by home p (segs_view ys)) (sym (drop_all i xs end)) ∙ h
 
--- `now` began as `old`. From i on it is as it was; of the first i those whose flag is set stand in the first k places.
-pub record Flagged (arrive : List Bool) (old now : List Seg) (k i : ℕ) : Type 0 where
-  pub after : k ≤ i
-  pub same : segs_view (take k now) ++ flagged (drop i arrive) (segs_view (drop i now)) ≡ flagged arrive (segs_view old)
+-- From i on the flags tell which elements of `now` arrive, where `there` and the first k of these are there.
+abbrev pub Tells : Package → List Segment → ℕ → ℕ → List Seg → List Bool → Type 0
+Tells home there k i now arrive = drop i arrive ≡ flags home (there ++ segs_view (take k now)) (segs_view (drop i now))
 
-flagged_at : (arrive : List Bool) (old now zs : List Seg) (k i : ℕ) (x : Seg) (d : Bool) → Flagged arrive old now k i → i < length now → i < length arrive → x ≡ get_or now i x → get_or arrive i d ≡ true → SwappedAt now zs k i
-    → Flagged arrive old zs (k + 1) (i + 1)
-flagged_at arrive old now zs k i x d h lt within at set s =
-    let front : segs_view (take (k + 1) zs) ≡ segs_view (take k now) ++ seg_view x ∷ [] = ap segs_view (swapped_front now zs k i x h.after lt at s) ∙ map-append seg_view (take k now) (x ∷ []) in
-    let rest : drop (i + 1) zs ≡ drop (i + 1) now = swapped_rest now zs k i x h.after s in
-    let here : x ∷ drop (i + 1) now ≡ drop i now = sym (drop_more now i x lt ∙ ap (λ (z : Seg). z ∷ drop (i + 1) now) (sym at)) in
-    let flag : true ∷ drop (i + 1) arrive ≡ drop i arrive = sym (drop_more arrive i d within ∙ ap (λ (z : Bool). z ∷ drop (i + 1) arrive) set) in
-    let first : List Segment = segs_view (take k now) in
-    record {
-      after = omega (arith, h.after);
-      same =
-          (λ j. front j ++ flagged (drop (i + 1) arrive) (segs_view (rest j)))
-          ∙ append_assoc first (seg_view x ∷ []) (flagged (drop (i + 1) arrive) (segs_view (drop (i + 1) now)))
-          ∙ (λ j. first ++ flagged (flag j) (segs_view (here j)))
-          ∙ h.same;
-    }
+tells_start : (home : Package) (there : List Segment) (old : List Seg) (arrive : List Bool) → arrive ≡ flags home there (segs_view old) → Tells home there 0 0 old arrive
+tells_start home there old arrive is = is ∙ ap (λ (zs : List Segment). flags home zs (segs_view old)) (sym (append-nil there))
 
-pub flagged_more : (arrive : List Bool) (old now zs : List Seg) (k i : ℕ) (d : Bool) → Flagged arrive old now k i → i < length now → i < length arrive → get_or arrive i d ≡ true → SwappedAt now zs k i → Flagged arrive old zs (k + 1) (i + 1)
-flagged_more arrive old [] zs k i d h lt within set s = absurd (omega (arith, lt))
-flagged_more arrive old (y ∷ ys) zs k i d h lt within set s = flagged_at arrive old (y ∷ ys) zs k i (get_or (y ∷ ys) i y) d h lt within (get_or_default (y ∷ ys) i y (get_or (y ∷ ys) i y) lt) set s
+pub told_first : {E : Type 0} (home : Package) (there : List Segment) (old : List Seg) (r : Result (Vec Bool) E) → IfOk r (λ arrive. arrive.items ≡ flags home there (segs_view old)) → IfSome (result_ok r) (λ arrive. Tells home there 0 0 old arrive.items)
+told_first home there old (Ok arrive) h = tells_start home there old arrive.items h
+told_first home there old (Err e) h = h
 
-not_at : (arrive : List Bool) (old now : List Seg) (k i : ℕ) (x : Seg) (d : Bool) → Flagged arrive old now k i → i < length now → i < length arrive → get_or arrive i d ≡ false → Flagged arrive old now k (i + 1)
-not_at arrive old now k i x d h lt within set =
-    let here : get_or now i x ∷ drop (i + 1) now ≡ drop i now = sym (drop_more now i x lt) in
-    let flag : false ∷ drop (i + 1) arrive ≡ drop i arrive = sym (drop_more arrive i d within ∙ ap (λ (z : Bool). z ∷ drop (i + 1) arrive) set) in
-    record {
-      after = omega (arith, h.after);
-      same = (λ j. segs_view (take k now) ++ flagged (flag j) (segs_view (here j))) ∙ h.same;
-    }
+pub tells_within : (home : Package) (there : List Segment) (k i : ℕ) (now : List Seg) (arrive : List Bool) → Tells home there k i now arrive → i < length now → i < length arrive
+tells_within home there k i now arrive h lt =
+    omega (arith, ap length h, length_flags home (there ++ segs_view (take k now)) (segs_view (drop i now)), length-map (drop i now) seg_view, length-drop i now, length-drop i arrive, lt)
 
-pub flagged_not : (arrive : List Bool) (old now : List Seg) (k i : ℕ) (d : Bool) → Flagged arrive old now k i → i < length now → i < length arrive → get_or arrive i d ≡ false → Flagged arrive old now k (i + 1)
-flagged_not arrive old [] k i d h lt within set = absurd (omega (arith, lt))
-flagged_not arrive old (y ∷ ys) k i d h lt within set = not_at arrive old (y ∷ ys) k i y d h lt within set
+first_flag : (b flag : Bool) (bs ys ns : List Bool) → flag ∷ bs ≡ (if b then false ∷ ys else true ∷ ns) → flag ≡ not b
+first_flag true flag bs ys ns h = cc
+first_flag false flag bs ys ns h = cc
 
-flagged_none : (arrive : List Bool) → flagged arrive [] ≡ []
-flagged_none [] = refl
-flagged_none (b ∷ bs) = refl
+other_flags : (b flag : Bool) (bs ys ns : List Bool) → flag ∷ bs ≡ (if b then false ∷ ys else true ∷ ns) → bs ≡ (if b then ys else ns)
+other_flags true flag bs ys ns h = cc
+other_flags false flag bs ys ns h = cc
 
-pub flagged_all : (arrive : List Bool) (old now : List Seg) (k i : ℕ) → Flagged arrive old now k i → length now ≤ i → segs_view (take k now) ≡ flagged arrive (segs_view old)
-flagged_all arrive old now k i h end =
-    let first : List Segment = segs_view (take k now) in
-    sym (append-nil first) ∙ ap (λ (ys : List Segment). first ++ ys) (sym (flagged_none (drop i arrive))) ∙ ap (λ (ys : List Seg). first ++ flagged (drop i arrive) (segs_view ys)) (sym (drop_all i now end)) ∙ h.same
+one_flag : (home : Package) (there : List Segment) (k i : ℕ) (now : List Seg) (arrive : List Bool) (x : Seg) (d : Bool) → Tells home there k i now arrive → i < length now → x ≡ get_or now i x
+    → get_or arrive i d ∷ drop (i + 1) arrive ≡ flags home (there ++ segs_view (take k now)) (seg_view x ∷ segs_view (drop (i + 1) now))
+one_flag home there k i now arrive x d h lt at =
+    sym (drop_more arrive i d (tells_within home there k i now arrive h lt)) ∙ h
+    ∙ ap (λ (zs : List Seg). flags home (there ++ segs_view (take k now)) (segs_view zs)) (drop_more now i x lt ∙ ap (λ (z : Seg). z ∷ drop (i + 1) now) (sym at))
+
+pub told_flag : (home : Package) (there : List Segment) (k i : ℕ) (now : List Seg) (arrive : List Bool) (x : Seg) (d : Bool) → Tells home there k i now arrive → i < length now → x ≡ get_or now i x
+    → get_or arrive i d ≡ not (is_among home (there ++ segs_view (take k now)) (string_value (seg_view x).nodes))
+told_flag home there k i now arrive x d h lt at = first_flag _ _ _ _ _ (one_flag home there k i now arrive x d h lt at)
+
+-- one element on: it did not arrive, or came to the place k
+pub tells_not : (home : Package) (there : List Segment) (k i : ℕ) (now : List Seg) (x : Seg) → i < length now → x ≡ get_or now i x → is_among home (there ++ segs_view (take k now)) (string_value (seg_view x).nodes) ≡ true
+    → (arrive : List Bool) → Tells home there k i now arrive → Tells home there k (i + 1) now arrive
+tells_not home there k i now x lt at among arrive h =
+    let rest : List Segment = segs_view (drop (i + 1) now) in
+    let first : List Segment = there ++ segs_view (take k now) in
+    other_flags _ _ _ _ _ (one_flag home there k i now arrive x false h lt at) ∙ ap (λ (b : Bool). if b then flags home first rest else flags home (first ++ seg_view x ∷ []) rest) among
+
+pub tells_more : (home : Package) (there : List Segment) (k i : ℕ) (now zs : List Seg) (x : Seg) → k ≤ i → i < length now → x ≡ get_or now i x → is_among home (there ++ segs_view (take k now)) (string_value (seg_view x).nodes) ≡ false
+    → SwappedAt now zs k i → (arrive : List Bool) → Tells home there k i now arrive → Tells home there (k + 1) (i + 1) zs arrive
+tells_more home there k i now zs x after lt at among s arrive h =
+    let rest : List Segment = segs_view (drop (i + 1) now) in
+    let first : List Segment = there ++ segs_view (take k now) in
+    let front : segs_view (take (k + 1) zs) ≡ segs_view (take k now) ++ seg_view x ∷ [] = ap segs_view (swapped_front now zs k i x after lt at s) ∙ map-append seg_view (take k now) (x ∷ []) in
+    other_flags _ _ _ _ _ (one_flag home there k i now arrive x false h lt at)
+    ∙ ap (λ (b : Bool). if b then flags home first rest else flags home (first ++ seg_view x ∷ []) rest) among
+    ∙ ap (λ (ys : List Segment). flags home ys rest) (append_assoc there (segs_view (take k now)) (seg_view x ∷ []) ∙ ap (λ (ys : List Segment). there ++ ys) (sym front))
+    ∙ ap (λ (ys : List Seg). flags home (there ++ segs_view (take (k + 1) zs)) (segs_view ys)) (sym (swapped_rest now zs k i x after s))
+
+where_some : {T : Type 0} {P Q : T → Type 0} → ((x : T) → P x → Q x) → (o : Option T) → IfSome o P → IfSome o Q
+where_some f None h = h
+where_some f (Some x) h = f x h
+
+-- the element at i arrives
+pub came : (home : Package) (there : List Segment) (old now zs : List Seg) (k i : ℕ) (o : Option (Vec Bool)) → Arrived home there old now k i → i < length now
+    → ((d : Seg) → is_among home (there ++ segs_view (take k now)) (string_value (seg_view (get_or now i d)).nodes) ≡ false) → SwappedAt now zs k i → IfSome o (λ flags. Tells home there k i now flags.items)
+    → Arrived home there old zs (k + 1) (i + 1) × IfSome o (λ flags. Tells home there (k + 1) (i + 1) zs flags.items)
+came home there old [] zs k i o h lt new s told = absurd (omega (arith, lt))
+came home there old (y ∷ ys) zs k i o h lt new s told =
+    let x : Seg = get_or (y ∷ ys) i y in
+    let at : get_or (y ∷ ys) i y ≡ get_or (y ∷ ys) i (get_or (y ∷ ys) i y) = get_or_default (y ∷ ys) i y (get_or (y ∷ ys) i y) lt in
+    (arrived_more home there old (y ∷ ys) zs k i x h lt at (new y) s, where_some (λ flags. tells_more home there k i (y ∷ ys) zs x h.after lt at (new y) s flags.items) o told)
+
+-- or not
+pub stayed : (home : Package) (there : List Segment) (old now : List Seg) (k i : ℕ) (o : Option (Vec Bool)) → Arrived home there old now k i → i < length now
+    → ((d : Seg) → is_among home (there ++ segs_view (take k now)) (string_value (seg_view (get_or now i d)).nodes) ≡ true) → IfSome o (λ flags. Tells home there k i now flags.items)
+    → Arrived home there old now k (i + 1) × IfSome o (λ flags. Tells home there k (i + 1) now flags.items)
+stayed home there old [] k i o h lt known told = absurd (omega (arith, lt))
+stayed home there old (y ∷ ys) k i o h lt known told =
+    let x : Seg = get_or (y ∷ ys) i y in
+    let at : get_or (y ∷ ys) i y ≡ get_or (y ∷ ys) i (get_or (y ∷ ys) i y) = get_or_default (y ∷ ys) i y (get_or (y ∷ ys) i y) lt in
+    (arrived_not home there old (y ∷ ys) k i x h lt at (known y), where_some (λ flags. tells_not home there k i (y ∷ ys) x lt at (known y) flags.items) o told)
+
+pub turned : (b c : Bool) → c ≡ not b → b ≡ not c
+turned true c h = ap not (sym h)
+turned false c h = ap not (sym h)

@@ -2,4 +2,4 @@ pub mod AddingSteps
 pub mod EditSteps
 pub mod MovingSteps
 pub mod ReplaceSteps
-pub mod WordSteps
+pub mod TakingSteps

@@ -1,13 +1,13 @@
 //! Of the elements that leave a list, those that arrive in another: no string arrives that is there already.
 
-ghost use Rattle.std.specs.Prelude.{◌≡◌, ◌≤◌, ◌++◌, length, take, not, IfOk, OnOk};
+ghost use Rattle.std.specs.Prelude.{◌≡◌, ◌≤◌, ◌++◌, take, not, IfOk, OnOk};
 ghost use Rattle.std.specs.Vec.{vec_len, vec_capacity};
 ghost use Rattle.bz_tree.specs.View.{nodes_view, seg_view, segs_view};
 ghost use Rattle.bz_attribute.specs.Rules as rules;
 ghost use Rattle.bz_attribute.specs.Lists.{equals, parts};
 ghost use Rattle.bz_command.specs.LabelSetViews.{Gains, has};
 ghost use Rattle.bz_attribute.specs.Moving as spec;
-ghost use Rattle.bz_list_commands.specs.private.MovingSteps.{flags, has_value, flagged};
+ghost use Rattle.bz_list_commands.specs.private.MovingSteps.{flags, has_value};
 
 use bz_attribute::chosen::{Chosen, any_chosen, is_any_chosen};
 use bz_attribute::equals::string_of;
@@ -34,7 +34,8 @@ pub(crate) fn keep_arrivals(
     elements.truncate(kept);
 }
 
-// Brings the others to the front and answers how many they are.
+// Brings them to the front and answers how many they are. Flags tell of many, where there is memory for these; else each
+// is compared with those that are there and with those that arrived before it.
 fn arrivals_first(
     alloc: Global,
     home: &Package,
@@ -44,13 +45,24 @@ fn arrivals_first(
     ensures { take result (segs_view elements.new)
         ≡ spec.arrivals home.now (spec.joined (parts (nodes_view value.now))) (segs_view elements.old) }
 {
-    if elements.len() <= FEW {
-        return compared_first(home, value, elements);
+    let told = if elements.len() <= FEW {
+        None
+    } else {
+        arriving(alloc, home, value, elements).ok()
+    };
+    let mut kept = 0;
+    for i in 0..elements.len() {
+        let seen = &elements[..];
+        let arrives = match &told {
+            Some(flags) => flags[i],
+            None => !is_among(home, value, &seen[..kept], &seen[i]),
+        };
+        if arrives {
+            elements.swap(kept, i);
+            kept += 1;
+        }
     }
-    match arriving(alloc, home, value, elements) {
-        Ok(flags) => flagged_first(&flags, elements),
-        Err(_) => compared_first(home, value, elements),
-    }
+    kept
 }
 
 // Which of many elements arrive, each looked up in a set of the labels that are there or came before it.
@@ -87,38 +99,6 @@ fn is_new<'s>(element: &'s Seg<'_>, there: &mut LabelSet<'s>) -> Result<bool, Al
             Ok(new)
         }
     }
-}
-
-// Brings the elements whose flag is set to the front and answers how many they are.
-fn flagged_first(arrive: &[bool], elements: &mut [Seg<'_>]) -> usize
-    requires { length arrive.now ≡ length elements.old }
-    ensures { take result (segs_view elements.new) ≡ flagged arrive.now (segs_view elements.old) }
-{
-    let mut kept = 0;
-    for i in 0..elements.len() {
-        if arrive[i] {
-            elements.swap(kept, i);
-            kept += 1;
-        }
-    }
-    kept
-}
-
-// Brings those that arrive to the front, each compared with those that are there and with those that arrived before it:
-// for a few elements, or where memory is refused.
-fn compared_first(home: &Package, value: &[Node<'_>], elements: &mut [Seg<'_>]) -> usize
-    ensures { take result (segs_view elements.new)
-        ≡ spec.arrivals home.now (spec.joined (parts (nodes_view value.now))) (segs_view elements.old) }
-{
-    let mut kept = 0;
-    for i in 0..elements.len() {
-        let seen = &elements[..];
-        if !is_among(home, value, &seen[..kept], &seen[i]) {
-            elements.swap(kept, i);
-            kept += 1;
-        }
-    }
-    kept
 }
 
 // It is a string that is the same label as an element of a value's list parts, or one that arrived before.

@@ -7,4 +7,3 @@ pub mod moving;
 pub mod remove;
 pub mod replace;
 mod taking;
-mod words;

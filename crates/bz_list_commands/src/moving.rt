@@ -13,13 +13,13 @@ ghost use Rattle.bz_attribute.specs.Moving as spec;
 ghost use Rattle.bz_list_commands.specs.private.MovingSteps.{with_list};
 
 use crate::arrivals::keep_arrivals;
-use crate::taking::{count_in_value, take_from, value_at};
-use crate::words::{chosen_by, words_moved};
+use crate::taking::{Choice, count_in, take_from, value_at};
 use bz_attribute::chosen::Chosen;
 use bz_attribute::done::{Done, Note};
 use bz_attribute::find::find;
 use bz_attribute::lists::{elements_at, first_part};
 use bz_attribute::make::list_argument;
+use bz_attribute::word_set::word_set;
 use bz_command::{Moved, Package, Text};
 use bz_tree::{Node, Seg};
 use std::alloc::{AllocError, Global};
@@ -46,40 +46,47 @@ pub fn move_elements(
     if let Some(note) = move_note(alloc, old, new, args)? {
         return Ok(Done::failure(note));
     }
-    let words = words_moved(alloc, home, moved)?;
-    let done = move_chosen(alloc, home, old, new, chosen_by(&words), args)?;
-    Ok(done)
+    match moved {
+        Moved::All => {
+            let chosen = Chosen::All;
+            move_chosen(alloc, Choice { home, chosen }, old, new, args)
+        }
+        Moved::Values(values) => {
+            let words = word_set(alloc, home, values.as_slice())?;
+            let chosen = Chosen::Words(&words);
+            move_chosen(alloc, Choice { home, chosen }, old, new, args)
+        }
+    }
 }
 
 // All memory that is needed is there before the first element leaves: what follows cannot fail.
 fn move_chosen(
     alloc: Global,
-    home: &Package,
+    choice: Choice<'_, '_, '_>,
     old: &str,
     new: &str,
-    chosen: Chosen<'_, '_>,
     args: &mut Vec<Seg<'_>>,
 ) -> Result<Done, AllocError>
     requires { bytes_eq old.now new.now ≡ false }
     ensures args { OnOk result
         (segs_view args.new.items
-        ≡ spec.moved_where home.now old.now new.now (chosen_view chosen.entry) (segs_view args.old.items)) }
+        ≡ spec.moved_where choice.entry.home.now old.now new.now (chosen_view choice.entry.chosen)
+        (segs_view args.old.items)) }
     ensures done { IfOk result
-        (λ done. done
-        ≡ effects.done None (spec.moves home.now old.now (chosen_view chosen.entry) (segs_view args.old.items))) }
+        (λ done. done ≡ effects.done None
+        (spec.moves choice.entry.home.now old.now (chosen_view choice.entry.chosen) (segs_view args.old.items))) }
     ensures err { OnErr result (segs_view args.new.items ≡ segs_view args.old.items) }
 {
-    let count = count_in_value(home, chosen, value_at(args, old))?;
+    let count = count_in(choice, value_at(args, old))?;
     if count == 0 {
         return Ok(Done::quiet(false));
     }
-    let Some(room) = count.checked_add(count_first(value_at(args, new))) else {
-        return Err(AllocError);
-    };
+    let there = count_first(value_at(args, new));
+    let room = count.checked_add(there).ok_or(AllocError)?;
     let mut elements = Vec::with_capacity(alloc, room)?;
     give_list(alloc, new, args)?;
-    take_from(alloc, home, old, chosen, args, &mut elements);
-    arrive(alloc, home, new, args, elements);
+    take_from(choice, old, args, &mut elements);
+    arrive(alloc, choice.home, new, args, elements);
     Ok(Done::quiet(true))
 }
 

@@ -9,12 +9,12 @@ ghost use Rattle.bz_command.specs.Commands.{Values};
 ghost use Rattle.bz_attribute.specs.Rules.{first_named};
 ghost use Rattle.bz_list_commands.specs.private.EditSteps.{goes, is_lost, edit_attribute};
 
-use crate::words::{chosen_by, words_of};
 use bz_attribute::chosen::{Chosen, chooses, drop_in, loses_all};
 use bz_attribute::done::Done;
 use bz_attribute::find::find;
 use bz_attribute::lists::is_attribute;
 use bz_attribute::rule::is_named;
+use bz_attribute::word_set::word_set;
 use bz_command::{Attributes, Package, Text};
 use bz_tree::Seg;
 use std::alloc::{AllocError, Global};
@@ -85,8 +85,8 @@ fn remove_values<'v>(
     let Some(i) = find(args, attr) else {
         return Ok(Done::quiet(false));
     };
-    let words = words_of(alloc, home, values)?;
-    let chosen = chosen_by(&words);
+    let words = word_set(alloc, home, values)?;
+    let chosen = Chosen::Words(&words);
     let changed = chooses(home, chosen, &args[i]);
     if loses_all(home, chosen, &args[i]) {
         let _ = args.remove(i);
@@ -111,8 +111,8 @@ fn remove_everywhere<'v>(
         ≡ spec.done None (spec.chooses_anywhere home.now (Values values.now) (segs_view args.old.items))) }
     ensures err { OnErr result (segs_view args.new.items ≡ segs_view args.old.items) }
 {
-    let words = words_of(alloc, home, values)?;
-    let chosen = chosen_by(&words);
+    let words = word_set(alloc, home, values)?;
+    let chosen = Chosen::Words(&words);
     let changed = chooses_anywhere(home, chosen, args);
     args.retain(|arg| !is_lost(home, chosen, arg));
     drop_everywhere(home, chosen, args);

@@ -1,6 +1,6 @@
 //! `replace`: elements that equal a value become another. The new literals are made before the first is put in place.
 
-ghost use Rattle.std.specs.Prelude.{◌≡◌, ◌+◌, ◌≤◌, ◌<◌, None, map, length, if◌then◌else◌, IfOk, OnOk, OnErr};
+ghost use Rattle.std.specs.Prelude.{◌≡◌, ◌<◌, None, map, length, if◌then◌else◌, IfOk, OnOk, OnErr};
 ghost use Rattle.bz_tree.specs.View.{node_view, nodes_view, seg_view, segs_view};
 ghost use Rattle.bz_command.specs.CommandViews.{attributes_view};
 ghost use Rattle.bz_command.specs.Commands.{Every, Named};
@@ -9,16 +9,16 @@ ghost use Rattle.bz_attribute.specs.Lists.{edit_list, edit_parts};
 ghost use Rattle.bz_attribute.specs.Effects.{done};
 ghost use Rattle.bz_list_commands.specs.private.EditSteps.{edit_attribute};
 ghost use Rattle.bz_attribute.specs.Replacing as spec;
-ghost use Rattle.bz_list_commands.specs.private.ReplaceSteps.{AreStrings, count, count_at, count_everywhere, count_in, goes, old_at, old_everywhere, put};
+ghost use Rattle.bz_list_commands.specs.private.ReplaceSteps.{AreStrings, HasStrings, Uses, count, count_at, count_everywhere, count_in, goes, old_everywhere, put};
 
-use crate::taking::count_in_value;
+use crate::taking::{Choice, count_in};
 use bz_attribute::chosen::Chosen;
 use bz_attribute::done::Done;
 use bz_attribute::equals::equals;
 use bz_attribute::find::find;
 use bz_attribute::lists::{are_joints, is_attribute, is_part};
 use bz_attribute::make::string;
-use bz_attribute::rule::{is_sign, only_text};
+use bz_attribute::rule::{is_sign, only_text, value_of};
 use bz_command::{Attributes, Package, has_value};
 use bz_tree::{Node, Seg};
 use std::alloc::{AllocError, Global};
@@ -96,24 +96,18 @@ fn is_exactly(element: &Seg<'_>, word: &str) -> bool
 fn count_old(change: Change<'_>, args: &[Seg<'_>]) -> Result<usize, AllocError>
     ensures { IfOk result (λ n. n ≡ old_everywhere change.entry (segs_view args.now)) }
 {
+    let choice = Choice {
+        home: change.home,
+        chosen: Chosen::Value(change.old),
+    };
     let mut count: usize = 0;
     for arg in args {
-        let more = count_in_attribute(change, arg)?;
-        let Some(sum) = count.checked_add(more) else {
-            return Err(AllocError);
-        };
-        count = sum;
+        if is_attribute(arg) {
+            let more = count_in(choice, value_of(arg))?;
+            count = count.checked_add(more).ok_or(AllocError)?;
+        }
     }
     Ok(count)
-}
-
-fn count_in_attribute(change: Change<'_>, arg: &Seg<'_>) -> Result<usize, AllocError>
-    ensures { IfOk result (λ n. n ≡ old_at change.entry (seg_view arg.now)) }
-{
-    if !is_attribute(arg) {
-        return Ok(0);
-    }
-    count_in_value(change.home, Chosen::Value(change.old), &arg.nodes[2..])
 }
 
 // So many new strings of one value.
@@ -130,11 +124,9 @@ fn copies<'a>(alloc: Global, value: &str, count: usize) -> Result<Vec<Seg<'a>>, 
 
 // Puts strings of the pool into the attributes.
 fn put_in_args<'a>(change: Change<'_>, args: &mut [Seg<'a>], pool: &mut Vec<Seg<'a>>)
-    requires strings { AreStrings change.new.now pool.old.items }
-    requires enough { count_everywhere (goes change) (segs_view args.old) ≤ length pool.old.items }
+    requires { HasStrings change (count_everywhere (goes change) (segs_view args.old)) pool.old.items }
     ensures args { segs_view args.new ≡ map (edit_attribute (put change.entry)) (segs_view args.old) }
-    ensures left { length pool.new.items + count_everywhere (goes change.entry) (segs_view args.old)
-        ≡ length pool.old.items }
+    ensures pool { Uses change.entry (count_everywhere (goes change.entry) (segs_view args.old)) pool.old.items pool.new.items }
 {
     for i in 0..args.len() {
         put_in_attribute(change, &mut args[i], pool);
@@ -142,11 +134,9 @@ fn put_in_args<'a>(change: Change<'_>, args: &mut [Seg<'a>], pool: &mut Vec<Seg<
 }
 
 fn put_in_attribute<'a>(change: Change<'_>, arg: &mut Seg<'a>, pool: &mut Vec<Seg<'a>>)
-    requires strings { AreStrings change.new.now pool.old.items }
-    requires enough { count_at (goes change) (seg_view arg.old) ≤ length pool.old.items }
+    requires { HasStrings change (count_at (goes change) (seg_view arg.old)) pool.old.items }
     ensures arg { seg_view arg.new ≡ edit_attribute (put change.entry) (seg_view arg.old) }
-    ensures strings { AreStrings change.entry.new.now pool.new.items }
-    ensures left { length pool.new.items + count_at (goes change.entry) (seg_view arg.old) ≡ length pool.old.items }
+    ensures pool { Uses change.entry (count_at (goes change.entry) (seg_view arg.old)) pool.old.items pool.new.items }
 {
     if !is_attribute(arg) {
         return;
@@ -156,11 +146,9 @@ fn put_in_attribute<'a>(change: Change<'_>, arg: &mut Seg<'a>, pool: &mut Vec<Se
 
 // The same in the list parts of a value.
 fn put_in_value<'a>(change: Change<'_>, value: &mut [Node<'a>], pool: &mut Vec<Seg<'a>>)
-    requires strings { AreStrings change.new.now pool.old.items }
-    requires enough { count_in (goes change) (nodes_view value.old) ≤ length pool.old.items }
+    requires { HasStrings change (count_in (goes change) (nodes_view value.old)) pool.old.items }
     ensures value { nodes_view value.new ≡ edit_parts (put change.entry) (nodes_view value.old) }
-    ensures strings { AreStrings change.entry.new.now pool.new.items }
-    ensures left { length pool.new.items + count_in (goes change.entry) (nodes_view value.old) ≡ length pool.old.items }
+    ensures pool { Uses change.entry (count_in (goes change.entry) (nodes_view value.old)) pool.old.items pool.new.items }
 {
     if !are_joints(value) {
         return;
@@ -176,12 +164,9 @@ fn put_in_value<'a>(change: Change<'_>, value: &mut [Node<'a>], pool: &mut Vec<S
 }
 
 fn put_in_list<'a>(change: Change<'_>, node: &mut Node<'a>, pool: &mut Vec<Seg<'a>>)
-    requires strings { AreStrings change.new.now pool.old.items }
-    requires enough { count (goes change) (elements (node_view node.old)) ≤ length pool.old.items }
+    requires { HasStrings change (count (goes change) (elements (node_view node.old))) pool.old.items }
     ensures node { node_view node.new ≡ edit_list (put change.entry) (node_view node.old) }
-    ensures strings { AreStrings change.entry.new.now pool.new.items }
-    ensures left { length pool.new.items + count (goes change.entry) (elements (node_view node.old))
-        ≡ length pool.old.items }
+    ensures pool { Uses change.entry (count (goes change.entry) (elements (node_view node.old))) pool.old.items pool.new.items }
 {
     if let Node::Group(group) = node {
         put_in_elements(change, &mut group.segs, pool);
@@ -189,11 +174,9 @@ fn put_in_list<'a>(change: Change<'_>, node: &mut Node<'a>, pool: &mut Vec<Seg<'
 }
 
 fn put_in_elements<'a>(change: Change<'_>, elements: &mut [Seg<'a>], pool: &mut Vec<Seg<'a>>)
-    requires strings { AreStrings change.new.now pool.old.items }
-    requires enough { count (goes change) (segs_view elements.old) ≤ length pool.old.items }
+    requires { HasStrings change (count (goes change) (segs_view elements.old)) pool.old.items }
     ensures elements { segs_view elements.new ≡ put change.entry (segs_view elements.old) }
-    ensures strings { AreStrings change.entry.new.now pool.new.items }
-    ensures left { length pool.new.items + count (goes change.entry) (segs_view elements.old) ≡ length pool.old.items }
+    ensures pool { Uses change.entry (count (goes change.entry) (segs_view elements.old)) pool.old.items pool.new.items }
 {
     for i in 0..elements.len() {
         put_in_element(change, &mut elements[i], pool);
@@ -201,13 +184,10 @@ fn put_in_elements<'a>(change: Change<'_>, elements: &mut [Seg<'a>], pool: &mut 
 }
 
 fn put_in_element<'a>(change: Change<'_>, element: &mut Seg<'a>, pool: &mut Vec<Seg<'a>>)
-    requires strings { AreStrings change.new.now pool.old.items }
-    requires enough { (if goes change (seg_view element.old) then 1 else 0) ≤ length pool.old.items }
+    requires { HasStrings change (if goes change (seg_view element.old) then 1 else 0) pool.old.items }
     ensures element { seg_view element.new
         ≡ spec.replaced change.entry.home.now change.entry.old.now change.entry.new.now (seg_view element.old) }
-    ensures strings { AreStrings change.entry.new.now pool.new.items }
-    ensures left { length pool.new.items + (if goes change.entry (seg_view element.old) then 1 else 0)
-        ≡ length pool.old.items }
+    ensures pool { Uses change.entry (if goes change.entry (seg_view element.old) then 1 else 0) pool.old.items pool.new.items }
 {
     if !is_replaced(change, element) {
         return;

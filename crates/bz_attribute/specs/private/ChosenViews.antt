@@ -13,7 +13,6 @@ words_of (Some word) = word ∷ []
 
 abbrev pub chosen_view : Chosen → Moved
 chosen_view chosen.All = All
-chosen_view (chosen.Values words) = Values words.now
+chosen_view (chosen.Words set) = Values set.now.words.now
 chosen_view (chosen.Value word) = Values (word.now ∷ [])
-chosen_view (chosen.Many set) = Values set.now.words.now
 chosen_view (chosen.Like other) = Values (words_of (string_value (seg_view other.now).nodes))

@@ -13,12 +13,6 @@ flags home there (s ∷ ss) =
     if is_among home there (string_value s.nodes) then false ∷ flags home there ss
     else true ∷ flags home (there ++ s ∷ []) ss
 
--- the elements whose flag is set
-abbrev pub flagged : List Bool → List Segment → List Segment
-flagged [] ss = []
-flagged (b ∷ bs) [] = []
-flagged (b ∷ bs) (s ∷ ss) = if b then s ∷ flagged bs ss else flagged bs ss
-
 -- it is a text that passes
 abbrev pub has_value : (List ℕ → Bool) → Option (List ℕ) → Bool
 has_value p None = false

@@ -1,5 +1,5 @@
 -- For private clauses alone: which elements a replacement changes, and how many new literals it takes.
-use Rattle.std.specs.Prelude.{◌≡◌, ℕ, ◌+◌, List, [], ◌∷◌, Bool, true, if◌then◌else◌, length, map, filter, replicate}
+use Rattle.std.specs.Prelude.{◌≡◌, ℕ, ◌+◌, ◌≤◌, List, [], ◌∷◌, Bool, true, if◌then◌else◌, length, map, filter, replicate}
 use Rattle.std.specs.List.{list_all}
 use Rattle.bz_tree.specs.declared.stmt.Seg.{Seg}
 use Rattle.bz_tree.specs.Tree.{Item, Segment}
@@ -53,3 +53,13 @@ old_everywhere c (a ∷ args) = old_at c a + old_everywhere c args
 -- each is a new string of this value
 abbrev pub AreStrings : List ℕ → List Seg → Type 0
 AreStrings v pool = segs_view pool ≡ replicate (length pool) (string v)
+
+-- a pool has so many strings of the new value, or more
+pub record HasStrings (c : Change) (n : ℕ) (pool : List Seg) : Type 0 where
+  pub strings : AreStrings c.new.now pool
+  pub enough : n ≤ length pool
+
+-- so many of them were put in place
+pub record Uses (c : Change) (n : ℕ) (old new : List Seg) : Type 0 where
+  pub strings : AreStrings c.new.now new
+  pub left : length new + n ≡ length old

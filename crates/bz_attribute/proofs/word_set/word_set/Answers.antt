@@ -1,6 +1,4 @@
-use Rattle.std.proofs.Common.{List, ℕ, Bool, false, ◌||◌, ap, sym, ◌∙◌, arith}
-use Rattle.std.specs.List.{list_any}
-use Rattle.std.proofs.lemmas.List.{take_all}
+use Rattle.std.proofs.Common.{List, ℕ, Bool, false, ◌||◌, ap, ◌∙◌, arith}
 use Rattle.bz_command.specs.Labels.{Package}
 use Rattle.bz_attribute.specs.Lists.{same}
 use Rattle.bz_command.specs.LabelSetViews.{has}
@@ -20,10 +18,3 @@ loop-i-preserved c =
           ∙ there_step (same home text) c.args.words.now c.loop-i.i word _ false (omega (arith, c.loop-i-test.true)) (c.as_bytes.ensures.value ∙ c.as_str.ensures ∙ c.index-words-i.is);
     }
 
-pub invariant_of-result : goal.invariant_of-result
-invariant_of-result c = record {
-  all = λ text.
-      c.loop-i.invariant.all text
-      ∙ ap (list_any (same c.args.home.now text)) (take_all c.loop-i.i c.args.words.now (omega (arith, c.loop-i-test.false)))
-      ∙ ap (λ (p : Package). list_any (same p text) c.args.words.now) (sym c.loop-i.invariant.home);
-}

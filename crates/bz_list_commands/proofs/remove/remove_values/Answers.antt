@@ -1,7 +1,7 @@
-use Rattle.std.proofs.Common.{◌≡◌, List, None, Some, get_or, ap, sym, ◌∙◌}
+use Rattle.std.proofs.Common.{◌≡◌, ℕ, List, None, Some, get_or, ap, sym, ◌∙◌}
 use Rattle.bz_tree.specs.declared.stmt.Seg.{Seg}
 use Rattle.bz_tree.specs.View.{seg_view, segs_view}
-use Rattle.bz_command.specs.Commands.{Moved, Values}
+use Rattle.bz_command.specs.Commands.{Values}
 use Rattle.bz_attribute.specs.Rules.{first_named}
 use Rattle.bz_attribute.specs.Effects.{chooses, chooses_in, done}
 use Rattle.bz_list_commands.proofs.remove.remove_values.Goals as goal
@@ -15,4 +15,4 @@ returns-clause-done c =
     ∙ ap (λ (ss : List Seg). Some (seg_view (get_or ss c.in-Some.i here))) c.deref.ensures.value
     ∙ ap (λ (s : Seg). Some (seg_view s)) (sym c.index.ensures) in
     c.quiet-2.ensures
-    ∙ ap (done None) (c.chooses-changed.ensures ∙ ap (λ (chosen : Moved). chooses c.args.home.now chosen (seg_view c.index.result.now)) (c.chosen_by-chosen.ensures ∙ c.in_ok-words.ensures) ∙ sym (ap (chooses_in c.args.home.now (Values c.args.values.now)) read))
+    ∙ ap (done None) (c.chooses-changed.ensures ∙ ap (λ (words : List (List ℕ)). chooses c.args.home.now (Values words) (seg_view c.index.result.now)) c.in_ok-words.ensures ∙ sym (ap (chooses_in c.args.home.now (Values c.args.values.now)) read))

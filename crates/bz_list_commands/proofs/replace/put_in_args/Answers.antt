@@ -15,7 +15,7 @@ loop-i-preserved c =
     let after = ap (λ (ss : List Seg). count_everywhere (goes c.args.change) (segs_view ss)) (drop-set-lt (c.loop-i.i + 1) c.loop-i.args c.loop-i.i c.put_in_attribute.new.arg (omega arith)) in
     record {
       edited = edit_step (edit_attribute (put c.args.change)) c.loop-i.args c.loop-i.i c.put_in_attribute.new.arg c.index-args-i.result h c.put_in_attribute.ensures.arg ∙ c.loop-i.invariant.edited;
-      strings = c.put_in_attribute.ensures.strings;
-      left = omega (arith, here, after, c.put_in_attribute.ensures.left, c.loop-i.invariant.left);
-      enough = omega (arith, here, after, c.put_in_attribute.ensures.left, c.loop-i.invariant.enough);
+      strings = c.put_in_attribute.ensures.pool.strings;
+      left = omega (arith, here, after, c.put_in_attribute.ensures.pool.left, c.loop-i.invariant.left);
+      enough = omega (arith, here, after, c.put_in_attribute.ensures.pool.left, c.loop-i.invariant.enough);
     }

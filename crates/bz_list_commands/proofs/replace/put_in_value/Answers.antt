@@ -13,10 +13,10 @@ loop-i-preserved c =
     elim c.if-is_part.branch [
       | then-is_part w ↦
           let part = sym (c.is_part.ensures c.index-value-i.result) ∙ w.if-is_part.true in
-          let numbers = part_taken (goes c.args.change) c.loop-i.start _ c.loop-i.value _ c.loop-i.i _ _ _ c.index-value-i.result _ _ _ _ h w.value-is c.is_sign-next.ensures part w.put_in_list.ensures.left c.loop-i.invariant.enough c.loop-i.invariant.left in
+          let numbers = part_taken (goes c.args.change) c.loop-i.start _ c.loop-i.value _ c.loop-i.i _ _ _ c.index-value-i.result _ _ _ _ h w.value-is c.is_sign-next.ensures part w.put_in_list.ensures.pool.left c.loop-i.invariant.enough c.loop-i.invariant.left in
           record {
             edited = edit_node_step (put c.args.change) c.loop-i.start _ c.loop-i.value _ c.loop-i.i _ _ _ c.index-value-i.result h w.value-is c.is_sign-next.ensures part w.put_in_list.ensures.node ∙ c.loop-i.invariant.edited;
-            strings = rw w.pool-is w.put_in_list.ensures.strings;
+            strings = rw w.pool-is w.put_in_list.ensures.pool.strings;
             enough = rw w.pool-is numbers.0;
             left = rw w.pool-is numbers.1;
           }
@@ -31,10 +31,13 @@ loop-i-preserved c =
           }
     ]
 
-pub put_in_list-requires-clause-enough : goal.put_in_list-requires-clause-enough
-put_in_list-requires-clause-enough c =
+pub put_in_list-requires : goal.put_in_list-requires
+put_in_list-requires c =
     let d = c.index-value-i-then-is_part.result in
     let h : c.loop-i.i < length c.loop-i.value = omega (arith, c.loop-i-test.true, c.loop-i.auto.value) in
     let part = sym (c.is_part.ensures d) ∙ c.if-is_part.true in
     let here = count_nodes (goes c.args.change) c.loop-i.start c.loop-i.value c.loop-i.i d h in
-    omega (arith, here, ap (λ (b : Bool). if b then count (goes c.args.change) (elements (node_view (get_or c.loop-i.value c.loop-i.i d))) else 0) part, c.loop-i.invariant.enough)
+    record {
+      strings = c.loop-i.invariant.strings;
+      enough = omega (arith, here, ap (λ (b : Bool). if b then count (goes c.args.change) (elements (node_view (get_or c.loop-i.value c.loop-i.i d))) else 0) part, c.loop-i.invariant.enough);
+    }

@@ -3,8 +3,8 @@ use Rattle.bz_tree.specs.declared.stmt.Seg.{Seg}
 use Rattle.bz_tree.specs.Tree.{Segment}
 use Rattle.bz_tree.specs.View.{seg_view, segs_view}
 use Rattle.bz_attribute.specs.Rules.{first_named}
-use Rattle.bz_attribute.specs.private.ChosenViews.{chosen_view}
-use Rattle.bz_attribute.specs.Moving.{chosen_of}
+use Rattle.bz_attribute.specs.Moving.{elements_of}
+use Rattle.bz_list_commands.specs.private.TakingSteps.{leave}
 use Rattle.bz_list_commands.proofs.taking.take_from.Goals as goal
 
 pub take_in-requires-clause-room : goal.take_in-requires-clause-room
@@ -15,4 +15,4 @@ take_in-requires-clause-room c =
     ∙ c.in-Some.ensures.some.first here
     ∙ ap (λ (ss : List Seg). Some (seg_view (get_or ss c.in-Some.i here))) c.deref.ensures.value
     ∙ ap (λ (s : Seg). Some (seg_view s)) (sym c.index_mut.ensures.value) in
-    omega (arith, ap (λ (o : Option Segment). length (chosen_of c.args.home.now (chosen_view c.args.chosen) o)) read, c.requires)
+    omega (arith, ap (λ (o : Option Segment). length (leave c.args.choice (elements_of o))) read, c.requires)

@@ -1,19 +1,16 @@
-use Rattle.std.proofs.Common.{List, ◌++◌, filter, length, ap, ◌∙◌, arith}
+use Rattle.std.proofs.Common.{List, length, ap, ◌∙◌, arith}
 use Rattle.std.proofs.lemmas.List.{length-drop, take_rest}
 use Rattle.bz_tree.specs.Tree.{Item}
-use Rattle.bz_tree.specs.View.{seg_view, segs_view}
-use Rattle.bz_attribute.specs.private.ChosenViews.{chosen_view}
-use Rattle.bz_attribute.specs.Effects.{is_chosen, unchosen}
-use Rattle.bz_attribute.specs.Lists.{edit_parts, parts, with_value}
-use Rattle.bz_attribute.specs.Moving.{joined}
+use Rattle.bz_tree.specs.View.{seg_view}
+use Rattle.bz_attribute.specs.Lists.{edit_parts, with_value}
 use Rattle.bz_list_commands.proofs.Written.{value_read, value_written}
+use Rattle.bz_list_commands.specs.private.TakingSteps.{stay}
 use Rattle.bz_list_commands.proofs.taking.take_in.Goals as goal
 
 pub returns-clause-left : goal.returns-clause-left
 returns-clause-left c =
     value_written c.args.arg.now c.deref_mut.result.now c.take_in_value.new.value c.deref_mut.ensures.value (omega (arith, c.requires.value, ap length c.deref_mut.ensures.value)) (omega (arith, c.take_in_value.auto.value, ap length (take_rest c.deref_mut.result.now 2), length-drop 2 c.deref_mut.result.now))
-    ∙ ap (λ (ns : List Item). with_value ns (seg_view c.args.arg.now)) (c.take_in_value.ensures.left ∙ ap (edit_parts (unchosen c.args.home.now (chosen_view c.args.chosen))) (value_read c.args.arg.now c.deref_mut.result.now c.deref_mut.ensures.value))
+    ∙ ap (λ (ns : List Item). with_value ns (seg_view c.args.arg.now)) (c.take_in_value.ensures.left ∙ ap (edit_parts (stay c.args.choice)) (value_read c.args.arg.now c.deref_mut.result.now c.deref_mut.ensures.value))
 
 pub returns-clause-taken : goal.returns-clause-taken
-returns-clause-taken c =
-    c.take_in_value.ensures.taken ∙ ap (λ (ns : List Item). segs_view c.args.taken.now.items ++ filter (is_chosen c.args.home.now (chosen_view c.args.chosen)) (joined (parts ns))) (value_read c.args.arg.now c.deref_mut.result.now c.deref_mut.ensures.value)
+returns-clause-taken c = rw (value_read c.args.arg.now c.deref_mut.result.now c.deref_mut.ensures.value) at c.take_in_value.ensures.taken

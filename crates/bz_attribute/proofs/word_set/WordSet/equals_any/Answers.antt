@@ -1,8 +1,9 @@
-use Rattle.std.proofs.Common.{List, ℕ, Option, ap, sym, ◌∙◌}
+use Rattle.std.proofs.Common.{◌≡◌, List, ℕ, Option, ap, sym, ◌∙◌}
 use Rattle.std.specs.List.{list_any}
 use Rattle.bz_command.specs.private.ByteSteps.{left}
 use Rattle.bz_command.specs.Labels.{Package}
 use Rattle.bz_attribute.specs.Lists.{same, same_value}
+use Rattle.bz_command.specs.LabelSetViews.{has}
 use Rattle.bz_attribute.proofs.LabelSets.{none_same}
 use Rattle.bz_attribute.proofs.word_set.WordSet.equals_any.Goals as goal
 
@@ -11,10 +12,12 @@ returns-in-None c =
     let words : List (List ℕ) = c.args.self.now.words.now in
     sym (none_same c.args.home.now words) ∙ ap (λ (v : Option (List ℕ)). list_any (λ w. same_value c.args.home.now w v) words) (sym c.in-None.ensures.none)
 
-pub returns-in-Some : goal.returns-in-Some
-returns-in-Some c =
+pub returns-in-Some-string_of : goal.returns-in-Some-string_of
+returns-in-Some-string_of c =
     let words : List (List ℕ) = c.args.self.now.words.now in
+    let value : List ℕ = left c.in-Some-string_of.value in
+    let known : (text : List ℕ) → has c.in-Some.labels text ≡ list_any (same c.in-Some.labels.home.now text) words = rw c.in-Some.is at c.args.self.now.all in
     c.contains.ensures
-    ∙ c.args.self.now.all (left c.in-Some.value)
-    ∙ ap (λ (p : Package). list_any (same p (left c.in-Some.value)) words) (c.is_of.ensures c.if-not-is_of.false)
-    ∙ ap (λ (v : Option (List ℕ)). list_any (λ w. same_value c.args.home.now w v) words) (sym c.in-Some.ensures.some)
+    ∙ known value
+    ∙ ap (λ (p : Package). list_any (same p value) words) (c.is_of.ensures c.if-is_of.true)
+    ∙ ap (λ (v : Option (List ℕ)). list_any (λ w. same_value c.args.home.now w v) words) (sym c.in-Some-string_of.ensures.some)

@@ -1,8 +1,0 @@
-use Rattle.bz_tree.specs.View.{nodes_view}
-use Rattle.bz_attribute.specs.Lists.{parts}
-use Rattle.bz_attribute.specs.Moving.{joined}
-use Rattle.bz_list_commands.proofs.Arriving.{Arrived}
-use Rattle.bz_list_commands.proofs.arrivals.compared_first.Given as goal
-
-abbrev pub invariant-loop-i : goal.invariant-loop-i
-invariant-loop-i l = Arrived l.home (joined (parts (nodes_view l.value))) l.initial.elements l.elements l.kept l.i
