@@ -4,6 +4,7 @@ ghost use Rattle.std.specs.Prelude.{◌≡◌, IfOk, option_map, string_bytes};
 ghost use Rattle.bz_command.specs.Values as spec;
 
 use crate::literal::{is_at_end, next_in, open};
+use crate::value::plain_text;
 use std::alloc::{AllocError, Global};
 
 /// The value of a text, where it is a string literal with a value. Bytes that stand for themselves are taken over in
@@ -11,6 +12,9 @@ use std::alloc::{AllocError, Global};
 pub fn read_value(alloc: Global, text: &str) -> Result<Option<String>, AllocError>
     ensures { IfOk result (λ value. option_map (λ text. string_bytes text) value ≡ spec.value_of text.now) }
 {
+    if let Some(value) = plain_text(text) {
+        return Ok(Some(String::from_str(alloc, value)?));
+    }
     let Some(literal) = open(text.as_bytes()) else {
         return Ok(None);
     };

@@ -36,4 +36,4 @@ pub use pass::Pass;
 pub use reader::read_command;
 pub use sameness::{same, same_label};
 pub use target::{Marked, Target};
-pub use value::{has_value, quote, value_is};
+pub use value::{has_value, plain_text, quote, value_is};

@@ -1,12 +1,12 @@
 //! The value of a string literal, and the literal that is written for a value.
 
-ghost use Rattle.std.specs.Prelude.{◌≡◌, ◌==◌, ◌+◌, ◌<◌, ◌≤◌, ◌↔◌, length, take, drop, OnOk, IfOk, IsTrue, Some, string_bytes, ◌∷◌, ◌++◌, encode_utf8};
+ghost use Rattle.std.specs.Prelude.{◌≡◌, ◌==◌, ◌+◌, ◌<◌, ◌≤◌, ◌↔◌, length, take, drop, OnOk, IfOk, IfSome, IsTrue, Some, string_bytes, ◌∷◌, ◌++◌, encode_utf8};
 ghost use Rattle.std.specs.List.{flat_map};
 ghost use Rattle.bz_command.specs.Values as spec;
 ghost use Rattle.bz_command.specs.private.ValueSteps.{is_value};
 ghost use Rattle.bz_command.specs.private.ByteSteps.{inner_of};
 
-use crate::literal::{Literal, is_at_end, next_in, open};
+use crate::literal::{Literal, is_at_end, next_in, open, plain_value};
 use bz_token::{Kind, Token};
 use std::alloc::{AllocError, Global};
 
@@ -46,11 +46,40 @@ fn push_written(text: &mut String, c: char) -> Result<(), AllocError>
     }
 }
 
+/// The value of a literal in which each byte stands for itself, between one quote and another: a slice of the text.
+/// None: it has no value, or is written in another way.
+pub fn plain_text(text: &str) -> Option<&str>
+    ensures { IfSome result (λ value. spec.value_of text.now ≡ Some value.now) }
+{
+    let inner = between_quotes(text)?;
+    if !has_value(text.as_bytes(), inner.as_bytes()) {
+        return None;
+    }
+    Some(inner)
+}
+
+fn between_quotes(text: &str) -> Option<&str> {
+    match text.strip_prefix('"') {
+        Some(rest) => rest.strip_suffix('"'),
+        None => text.strip_prefix('\'')?.strip_suffix('\''),
+    }
+}
+
 /// The text is a literal with this value.
 pub fn has_value(text: &[u8], value: &[u8]) -> bool
     ensures { result ≡ is_value value.now (spec.value_of text.now) }
 {
-    open(text).is_some_and(|literal| inner_is(literal, value))
+    open(text).is_some_and(|literal| literal_is(literal, value))
+}
+
+// A value without escapes is compared at once.
+fn literal_is(literal: Literal<'_>, value: &[u8]) -> bool
+    ensures { result ≡ is_value value.now (inner_of literal.entry) }
+{
+    match plain_value(literal) {
+        Some(plain) => value == plain,
+        None => inner_is(literal, value),
+    }
 }
 
 // What is left of the literal has this value.

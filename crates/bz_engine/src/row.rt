@@ -4,7 +4,6 @@ ghost use Rattle.std.specs.Prelude.{◌≡◌, ◌+◌, ◌<◌, ◌^◌, ◌==�
 ghost use Rattle.bz_tree.specs.Tree.{Statement};
 ghost use Rattle.bz_tree.specs.Statement.{class_of};
 ghost use Rattle.bz_tree.specs.Rows.{IsRowOf, part_view, parts_of};
-ghost use Rattle.bz_command.specs.Values.{value_of};
 ghost use Rattle.bz_passes.specs.Exchange.{IsPassedBy};
 ghost use Rattle.bz_attribute.specs.Rules.{is_text};
 ghost use Rattle.bz_engine.specs.Meaning.{meaning, changes, fails_on};
@@ -12,7 +11,7 @@ ghost use Rattle.bz_engine.specs.private.Rows as spec;
 
 use crate::edit::Script;
 use crate::rules::Rules;
-use bz_command::has_value;
+use bz_command::plain_text;
 use bz_passes::index::Key;
 use bz_passes::script::passes_by;
 use bz_token::Kind;
@@ -71,7 +70,7 @@ fn rule_key<'a>(parts: &[Part<'a>]) -> Key<'a>
     let Some(literal) = name_literal(after_comments(after_opening(parts))) else {
         return Key::Unknown;
     };
-    match plain_value(literal) {
+    match plain_text(literal) {
         Some(name) => Key::Name(name),
         None => Key::Unknown,
     }
@@ -152,15 +151,4 @@ fn text_of<'a>(part: &Part<'a>) -> Option<&'a str>
         Part::Token(Kind::Text, text) => Some(*text),
         _ => None,
     }
-}
-
-/// The value of a literal that is written between double quotes without an escape.
-fn plain_value(literal: &str) -> Option<&str>
-    ensures { IfSome result (λ value. value_of literal.now ≡ Some value.now) }
-{
-    let inner = literal.strip_prefix('"')?.strip_suffix('"')?;
-    if has_value(literal.as_bytes(), inner.as_bytes()) {
-        return Some(inner);
-    }
-    None
 }

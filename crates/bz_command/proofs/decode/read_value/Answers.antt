@@ -7,14 +7,14 @@ use Rattle.bz_command.proofs.decode.read_value.Goals as goal
 
 pub range_from-run-requires : goal.range_from-run-requires
 range_from-run-requires c = λ _.
-    let stands : StandsIn c.args.text.now c.in-Some.literal = rw c.as_bytes.ensures.value at c.in-Some.ensures.place in
-    boundary c.args.text.now c.in-Some.literal c.utf8.text stands
+    let stands : StandsIn c.args.text.now c.in-Some-open.literal = rw c.as_bytes.ensures.value at c.in-Some-open.ensures.place in
+    boundary c.args.text.now c.in-Some-open.literal c.utf8.text stands
 
 pub loop-byte-init : goal.loop-byte-init
 loop-byte-init c =
-    let stands : StandsIn c.args.text.now c.in-Some.literal = rw c.as_bytes.ensures.value at c.in-Some.ensures.place in
+    let stands : StandsIn c.args.text.now c.in-Some-open.literal = rw c.as_bytes.ensures.value at c.in-Some-open.ensures.place in
     record {
-      walk = rw c.new-value.ensures.bytes (start _ c.range_from-run.result.now c.in-Some.literal.rest.now _ c.range_from-run.utf8 (c.range_from-run.ensures.value ∙ sym stands.rest) (rw c.as_bytes.ensures.value at c.in-Some.ensures.value));
+      walk = rw c.new-value.ensures.bytes (start _ c.range_from-run.result.now c.in-Some-open.literal.rest.now _ c.range_from-run.utf8 (c.range_from-run.ensures.value ∙ sym stands.rest) (rw c.as_bytes.ensures.value at c.in-Some-open.ensures.value));
       some = stands.some;
       ascii = stands.ascii;
     }
