@@ -1,6 +1,6 @@
 //! A label of a package in full, byte by byte.
 
-ghost use Rattle.std.specs.Prelude.{◌≡◌, IsTrue, MatchOption, IfSome, IfNone, None, Some, [], ◌∷◌, ◌++◌, bytes_eq};
+ghost use Rattle.std.specs.Prelude.{◌≡◌, IsTrue, MatchOption, IfSome, None, Some, [], ◌∷◌, ◌++◌, bytes_eq};
 ghost use Rattle.std.specs.List.{list_any};
 ghost use Rattle.bz_command.specs.Labels.{is_colon, last_of, parts_of};
 ghost use Rattle.bz_command.specs.Same as same;

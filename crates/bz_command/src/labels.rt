@@ -1,7 +1,7 @@
 //! Labels: a package and a target in it.
 
-ghost use Rattle.std.specs.Prelude.{◌≡◌, ◌&&◌, ◌==◌, not, ◌≢◌, codes, Option, Some, None, option_map, length, IfOk, Ok, Err, IsTrue};
-ghost use Rattle.std.specs.List.{list_any, list_all};
+ghost use Rattle.std.specs.Prelude.{◌≡◌, ◌&&◌, ◌==◌, not, ◌≢◌, Some, None, Ok, Err, IsTrue};
+ghost use Rattle.std.specs.List.{list_all};
 ghost use Rattle.std.specs.Char.{is_ascii_digit};
 ghost use Rattle.bz_command.specs.Labels as spec;
 

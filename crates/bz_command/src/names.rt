@@ -1,7 +1,6 @@
 //! Kinds, and words that are texts of the language.
 
 ghost use Rattle.std.specs.Prelude.{◌≡◌};
-ghost use Rattle.std.specs.List.{list_all};
 ghost use Rattle.bz_command.specs.Names as spec;
 
 /// The text is an identifier.

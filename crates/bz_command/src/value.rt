@@ -1,6 +1,6 @@
 //! The value of a string literal, and the literal that is written for a value.
 
-ghost use Rattle.std.specs.Prelude.{◌≡◌, ◌==◌, ◌+◌, ◌<◌, ◌≤◌, ◌↔◌, length, take, drop, OnOk, IfOk, IfSome, IsTrue, Some, string_bytes, ◌∷◌, ◌++◌, encode_utf8};
+ghost use Rattle.std.specs.Prelude.{◌≡◌, ◌==◌, ◌+◌, ◌<◌, ◌↔◌, OnOk, IfOk, IfSome, IsTrue, Some, string_bytes, ◌++◌, encode_utf8};
 ghost use Rattle.std.specs.List.{flat_map};
 ghost use Rattle.bz_command.specs.Values as spec;
 ghost use Rattle.bz_command.specs.private.ValueSteps.{is_value};

@@ -1,6 +1,6 @@
 //! The words of a command.
 
-ghost use Rattle.std.specs.Prelude.{◌≡◌, ◌==◌, ◌∷◌, ◌++◌, [], IfOk, OnOk, true, false, MatchOption, string_bytes, filter, if◌then◌else◌};
+ghost use Rattle.std.specs.Prelude.{◌≡◌, ◌==◌, ◌∷◌, ◌++◌, [], IfOk, OnOk, MatchOption, string_bytes};
 ghost use Rattle.bz_command.specs.Words as spec;
 ghost use Rattle.bz_command.specs.private.WordSteps.{kept};
 
