@@ -131,9 +131,9 @@ pub fn quoted_at(bytes: &[u8]) -> Opening
     Opening { prefix: 0, quotes }
 }
 
-/// How many bytes here neither end a short string with this quote nor escape the next byte.
+// How many bytes here neither end a short string with this quote nor escape the next byte.
 #[inline(always)]
-pub fn plain_len(quote: u8, bytes: &[u8]) -> usize
+fn plain_len(quote: u8, bytes: &[u8]) -> usize
     ensures { result ≡ prefix_len (is_plain quote) bytes.now }
 {
     match memchr3(quote, b'\n', b'\\', bytes) {

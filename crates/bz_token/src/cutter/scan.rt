@@ -5,7 +5,6 @@ ghost use Rattle.std.specs.List.{prefix_len};
 ghost use Rattle.bz_token.specs.private.CutSteps.{is_ended, is_quiet, byte_of, with_note, at, outside, in_short, in_long, next, start, run};
 
 use crate::scan::line_len;
-use crate::scan_string::plain_len;
 use crate::table::{class_at, is_quiet_class};
 
 /// What a logical line holds.
@@ -212,7 +211,7 @@ fn advance(scan: Scan, b: u8) -> Scan
     }
 }
 
-// A byte that changes nothing in a statement outside strings and comments.
+// A byte that changes nothing in a statement outside comments, nor in a short string.
 #[inline(always)]
 fn is_quiet(b: u8) -> bool
     ensures { result ≡ is_quiet b }
@@ -221,7 +220,7 @@ fn is_quiet(b: u8) -> bool
 }
 
 #[inline(always)]
-fn quiet_in_statement(bytes: &[u8]) -> usize
+fn quiet_prefix(bytes: &[u8]) -> usize
     ensures { result ≡ prefix_len is_quiet bytes.now }
 {
     bytes.iter().take_while(|b| is_quiet(**b)).count()
@@ -235,10 +234,10 @@ fn quiet_len(scan: Scan, bytes: &[u8]) -> usize
 {
     match scan.inside {
         Inside::Plain => match scan.kind {
-            LineKind::Statement => quiet_in_statement(bytes),
+            LineKind::Statement => quiet_prefix(bytes),
             _ => 0,
         },
-        Inside::Short(quote) => plain_len(byte_of(quote), bytes),
+        Inside::Short(_) => quiet_prefix(bytes),
         Inside::Comment => line_len(bytes),
         _ => 0,
     }
