@@ -1,5 +1,5 @@
-//! One walk backwards over the parts of a statement, ahead of the writing: a mark for each bracket. Backwards a bracket's end
-//! comes first, so what decides on it is known where it opens.
+//! One walk backwards over the parts of a statement, ahead of the writing: a mark for each bracket. Backwards a bracket's
+//! end comes first, so what decides on it is known where it opens.
 
 ghost use Rattle.std.specs.Prelude.{◌≡◌, IfOk, OnOk, map, reverse};
 ghost use Rattle.bz_tree.specs.Rows.{part_view};

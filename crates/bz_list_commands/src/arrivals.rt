@@ -34,8 +34,8 @@ pub(crate) fn keep_arrivals(
     elements.truncate(kept);
 }
 
-// Brings them to the front and answers how many they are. Flags tell of many, where there is memory for these; else each
-// is compared with those that are there and with those that arrived before it.
+// Brings them to the front and answers how many they are. Flags tell of many, where there is memory for these; else
+// each is compared with those that are there and with those that arrived before it.
 fn arrivals_first(
     alloc: Global,
     home: &Package,

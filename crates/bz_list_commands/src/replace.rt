@@ -126,7 +126,8 @@ fn copies<'a>(alloc: Global, value: &str, count: usize) -> Result<Vec<Seg<'a>>, 
 fn put_in_args<'a>(change: Change<'_>, args: &mut [Seg<'a>], pool: &mut Vec<Seg<'a>>)
     requires { HasStrings change (count_everywhere (goes change) (segs_view args.old)) pool.old.items }
     ensures args { segs_view args.new ≡ map (edit_attribute (put change.entry)) (segs_view args.old) }
-    ensures pool { Uses change.entry (count_everywhere (goes change.entry) (segs_view args.old)) pool.old.items pool.new.items }
+    ensures pool { Uses change.entry (count_everywhere (goes change.entry) (segs_view args.old))
+        pool.old.items pool.new.items }
 {
     for i in 0..args.len() {
         put_in_attribute(change, &mut args[i], pool);
@@ -148,7 +149,8 @@ fn put_in_attribute<'a>(change: Change<'_>, arg: &mut Seg<'a>, pool: &mut Vec<Se
 fn put_in_value<'a>(change: Change<'_>, value: &mut [Node<'a>], pool: &mut Vec<Seg<'a>>)
     requires { HasStrings change (count_in (goes change) (nodes_view value.old)) pool.old.items }
     ensures value { nodes_view value.new ≡ edit_parts (put change.entry) (nodes_view value.old) }
-    ensures pool { Uses change.entry (count_in (goes change.entry) (nodes_view value.old)) pool.old.items pool.new.items }
+    ensures pool { Uses change.entry (count_in (goes change.entry) (nodes_view value.old))
+        pool.old.items pool.new.items }
 {
     if !are_joints(value) {
         return;
@@ -166,7 +168,8 @@ fn put_in_value<'a>(change: Change<'_>, value: &mut [Node<'a>], pool: &mut Vec<S
 fn put_in_list<'a>(change: Change<'_>, node: &mut Node<'a>, pool: &mut Vec<Seg<'a>>)
     requires { HasStrings change (count (goes change) (elements (node_view node.old))) pool.old.items }
     ensures node { node_view node.new ≡ edit_list (put change.entry) (node_view node.old) }
-    ensures pool { Uses change.entry (count (goes change.entry) (elements (node_view node.old))) pool.old.items pool.new.items }
+    ensures pool { Uses change.entry (count (goes change.entry) (elements (node_view node.old)))
+        pool.old.items pool.new.items }
 {
     if let Node::Group(group) = node {
         put_in_elements(change, &mut group.segs, pool);
@@ -176,7 +179,8 @@ fn put_in_list<'a>(change: Change<'_>, node: &mut Node<'a>, pool: &mut Vec<Seg<'
 fn put_in_elements<'a>(change: Change<'_>, elements: &mut [Seg<'a>], pool: &mut Vec<Seg<'a>>)
     requires { HasStrings change (count (goes change) (segs_view elements.old)) pool.old.items }
     ensures elements { segs_view elements.new ≡ put change.entry (segs_view elements.old) }
-    ensures pool { Uses change.entry (count (goes change.entry) (segs_view elements.old)) pool.old.items pool.new.items }
+    ensures pool { Uses change.entry (count (goes change.entry) (segs_view elements.old))
+        pool.old.items pool.new.items }
 {
     for i in 0..elements.len() {
         put_in_element(change, &mut elements[i], pool);
@@ -187,7 +191,8 @@ fn put_in_element<'a>(change: Change<'_>, element: &mut Seg<'a>, pool: &mut Vec<
     requires { HasStrings change (if goes change (seg_view element.old) then 1 else 0) pool.old.items }
     ensures element { seg_view element.new
         ≡ spec.replaced change.entry.home.now change.entry.old.now change.entry.new.now (seg_view element.old) }
-    ensures pool { Uses change.entry (if goes change.entry (seg_view element.old) then 1 else 0) pool.old.items pool.new.items }
+    ensures pool { Uses change.entry (if goes change.entry (seg_view element.old) then 1 else 0)
+        pool.old.items pool.new.items }
 {
     if !is_replaced(change, element) {
         return;

@@ -77,7 +77,8 @@ pub(crate) fn take_from<'a>(
     requires { HasRoom choice (elements_of (first_named attr.now (segs_view args.old.items))) taken.old }
     ensures left { segs_view args.new.items
         ≡ edit_first (is_named attr.now) (filtered (stay choice.entry)) (segs_view args.old.items) }
-    ensures taken { Takes choice.entry (elements_of (first_named attr.now (segs_view args.old.items))) taken.old taken.new }
+    ensures taken { Takes choice.entry (elements_of (first_named attr.now (segs_view args.old.items)))
+        taken.old taken.new }
 {
     let Some(i) = find(args, attr) else {
         return;

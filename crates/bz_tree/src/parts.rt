@@ -20,7 +20,8 @@ pub fn push_parts<'s>(stmt: &'s Stmt<'_>, parts: &mut Vec<Part<'s>>) -> Result<(
 }
 
 fn push_above<'s>(notes: &'s [CowStr<'_>], parts: &mut Vec<Part<'s>>) -> Result<(), AllocError>
-    ensures { OnOk result (map part_view parts.new.items ≡ map part_view parts.old.items ++ map above (texts notes.now)) }
+    ensures { OnOk result (map part_view parts.new.items
+        ≡ map part_view parts.old.items ++ map above (texts notes.now)) }
 {
     for note in notes {
         parts.push(Part::Above(note.as_str()))?;

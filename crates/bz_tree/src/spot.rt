@@ -39,8 +39,8 @@ pub(crate) enum Done {
     More,
 }
 
-// What stands directly before: nothing but comments of a segment, the comma on this line, a node that begins on this line, with
-// its text if it is a token, or the end of the last segment.
+// What stands directly before: nothing but comments of a segment, the comma on this line, a node that begins on this
+// line, with its text if it is a token, or the end of the last segment.
 #[derive(Clone, Copy)]
 pub(crate) enum Here<'a> {
     Nothing,
