@@ -1,5 +1,5 @@
 -- The call of a rule, at the end of the nodes.
-use Rattle.std.proofs.Common.{◌≡◌, ℕ, ◌+◌, ◌-◌, List, [], ◌∷◌, ◌++◌, true, false, length, get_or, take, refl, ap, sym, ◌∙◌, arith, Some, None, append_assoc, append-nil}
+use Rattle.std.proofs.Common.{◌≡◌, ℕ, ◌+◌, ◌-◌, ◌≤◌, List, [], ◌∷◌, ◌++◌, true, false, length, get_or, take, refl, ap, sym, ◌∙◌, arith, Some, None, append_assoc, append-nil}
 use Rattle.std.proofs.lemmas.List.{take_more, take_all, map-append}
 use Rattle.std.proofs.lemmas.Bool.{and_right}
 use Rattle.bz_tree.specs.declared.stmt.Node.{Node, Group}
@@ -40,7 +40,7 @@ pub a_rule : (kind : List Item) (x : Item) (g : GroupValue) → IsCall x g → d
     → call_at kind x ≡ Some (record { kind = kind; args = segs_view (out-Group g).segs.items; one_comma = (out-Group g).one_comma; end = texts (out-Group g).end.items })
 a_rule kind x g call dots = rw (call.is, dots, call.args, call.comma, call.end) refl
 
-pub rule_last : (ns : List Node) (x : Node) → (length ns ≡ 0 → ⊥) → x ≡ get_or ns (length ns - 1) x → rule_of (nodes_view ns) ≡ call_at (nodes_view (take (length ns - 1) ns)) (node_view x)
+pub rule_last : (ns : List Node) (x : Node) → 1 ≤ length ns → x ≡ get_or ns (length ns - 1) x → rule_of (nodes_view ns) ≡ call_at (nodes_view (take (length ns - 1) ns)) (node_view x)
 rule_last ns x some is =
     rule_at ns x (length ns - 1) (omega arith) ∙ ap (λ (z : Node). call_at (nodes_view (take (length ns - 1) ns)) (node_view z)) (sym is)
 
@@ -56,8 +56,8 @@ group_call x g is kind =
     }
 
 -- what the last node and the nodes before it say of all
-pub rule_without_call : (ns : List Node) (x : Node) → (length ns ≡ 0 → ⊥) → x ≡ get_or ns (length ns - 1) x → is_call (node_view x) ≡ false → rule_of (nodes_view ns) ≡ None
+pub rule_without_call : (ns : List Node) (x : Node) → 1 ≤ length ns → x ≡ get_or ns (length ns - 1) x → is_call (node_view x) ≡ false → rule_of (nodes_view ns) ≡ None
 rule_without_call ns x some is none = rule_last ns x some is ∙ no_call (nodes_view (take (length ns - 1) ns)) (node_view x) none
 
-pub rule_without_dots : (ns : List Node) (x : Node) → (length ns ≡ 0 → ⊥) → x ≡ get_or ns (length ns - 1) x → dotted true (nodes_view (take (length ns - 1) ns)) ≡ false → rule_of (nodes_view ns) ≡ None
+pub rule_without_dots : (ns : List Node) (x : Node) → 1 ≤ length ns → x ≡ get_or ns (length ns - 1) x → dotted true (nodes_view (take (length ns - 1) ns)) ≡ false → rule_of (nodes_view ns) ≡ None
 rule_without_dots ns x some is none = rule_last ns x some is ∙ no_dots (nodes_view (take (length ns - 1) ns)) (node_view x) none

@@ -1,8 +1,9 @@
 -- The first argument of a name.
-use Rattle.std.proofs.Common.{◌≡◌, ℕ, zero, suc, ◌+◌, ◌<◌, ◌≤◌, List, [], ◌∷◌, ◌++◌, Bool, true, false, not, cond, length, get_or, set, refl, ap, sym, ◌∙◌, arith, if◌then◌else◌, ◌||◌, Some, None}
+use Rattle.std.proofs.Common.{◌≡◌, ℕ, zero, suc, ◌+◌, ◌<◌, ◌≤◌, List, [], ◌∷◌, ◌++◌, Bool, true, false, not, cond, length, get_or, set, refl, ap, sym, ◌∙◌, arith, if◌then◌else◌, ◌||◌, Some, None, Option, IfSome, IfNone, ltb}
 use Rattle.std.specs.List.{list_any, position_or_len}
 use Rattle.std.proofs.lemmas.List.{map-set, get_or-map, length-map, set-get_or}
 use Rattle.std.proofs.lemmas.List.Sums.{passes_at_first}
+use Rattle.std.proofs.lemmas.Bool.{ltb-true, ltb-false}
 use Rattle.bz_tree.specs.declared.stmt.Seg.{Seg}
 use Rattle.bz_tree.specs.Tree.{Item, Segment}
 use Rattle.bz_tree.specs.View.{seg_view, segs_view, node_view}
@@ -11,6 +12,7 @@ use Rattle.bz_attribute.specs.Effects.{edit_first, has}
 use Rattle.bz_attribute.specs.private.Places.{IsFirst, IsAbsent}
 use Rattle.std.specs.List.{remove}
 use Rattle.bz_attribute.proofs.Groups.{view_of_seg}
+use Rattle.bz_attribute.proofs.Mapped.{position_or_len-map}
 
 pub has_none : {X : Type 0} (p : X → Bool) (xs : List X) → length xs ≤ position_or_len p xs → list_any p xs ≡ false
 has_none p [] h = refl
@@ -122,3 +124,28 @@ pub is_absent : (name : List ℕ) (args : List Seg) → length args ≤ position
 is_absent name args h =
     let none : has name (segs_view args) ≡ false = has_none (is_named name) (segs_view args) (omega (arith, length-map args seg_view)) in
     record { absent = none; none = first_none name (segs_view args) (omega (arith, length-map args seg_view)); stay = λ f. edit_first_none (is_named name) f (segs_view args) none }
+
+-- where the first argument that passes stands, as `position` finds it
+abbrev pub place : List ℕ → List Seg → ℕ
+place name args = position_or_len (λ s. is_named name (seg_view s)) args
+
+-- what `position` gives at it
+abbrev pub place_if : List ℕ → List Seg → Option ℕ
+place_if name args = cond (ltb (place name args) (length args)) (Some (place name args)) None
+
+places : (name : List ℕ) (args : List Seg) → position_or_len (is_named name) (segs_view args) ≡ place name args
+places name args = position_or_len-map seg_view (is_named name) args
+
+pub found_first : (name : List ℕ) (args : List Seg) → IfSome (place_if name args) (IsFirst name args)
+found_first name args =
+    elim (ltb (place name args) (length args)) as (λ b. ltb (place name args) (length args) ≡ b → IfSome (cond b (Some (place name args)) None) (IsFirst name args)) [
+      | true ↦ λ e. is_first name args (place name args) (sym (places name args)) (ltb-true (place name args) (length args) e)
+      | false ↦ λ e. tt
+    ] refl
+
+pub found_none : (name : List ℕ) (args : List Seg) → IfNone (place_if name args) (IsAbsent name args)
+found_none name args =
+    elim (ltb (place name args) (length args)) as (λ b. ltb (place name args) (length args) ≡ b → IfNone (cond b (Some (place name args)) None) (IsAbsent name args)) [
+      | true ↦ λ e. tt
+      | false ↦ λ e. is_absent name args (omega (arith, places name args, ltb-false (place name args) (length args) e))
+    ] refl

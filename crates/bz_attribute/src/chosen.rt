@@ -42,12 +42,9 @@ pub fn is_chosen(home: &Package, chosen: Chosen<'_, '_>, element: &Seg<'_>) -> b
 pub fn any_chosen(home: &Package, chosen: Chosen<'_, '_>, elements: &[Seg<'_>]) -> bool
     ensures { result ≡ list_any (spec.is_chosen home.now (chosen_view chosen.entry)) (segs_view elements.now) }
 {
-    for element in elements {
-        if is_chosen(home, chosen, element) {
-            return true;
-        }
-    }
-    false
+    elements
+        .iter()
+        .any(|element| is_chosen(home, chosen, element))
 }
 
 pub fn is_any_chosen(home: &Package, chosen: Chosen<'_, '_>, value: &[Node<'_>]) -> bool
@@ -112,26 +109,14 @@ pub fn drop_in(home: &Package, chosen: Chosen<'_, '_>, arg: &mut Seg<'_>)
     drop_in_value(home, chosen, &mut arg.nodes[2..]);
 }
 
-// No element is left.
-fn are_chosen(home: &Package, chosen: Chosen<'_, '_>, elements: &[Seg<'_>]) -> bool
-    ensures { result ≡ spec.is_nil (spec.unchosen home.now (chosen_view chosen.entry) (segs_view elements.now)) }
-{
-    for element in elements {
-        if !is_chosen(home, chosen, element) {
-            return false;
-        }
-    }
-    true
-}
-
 fn loses_elements(home: &Package, chosen: Chosen<'_, '_>, elements: &[Seg<'_>]) -> bool
     ensures { result ≡ (not (spec.is_nil (segs_view elements.now))
         && spec.is_nil (spec.unchosen home.now (chosen_view chosen.entry) (segs_view elements.now))) }
 {
-    match elements {
-        [] => false,
-        _ => are_chosen(home, chosen, elements),
-    }
+    elements.len() != 0
+        && elements
+            .iter()
+            .all(|element| is_chosen(home, chosen, element))
 }
 
 /// The argument's value is one list, all of whose elements are chosen, and there are some.

@@ -20,11 +20,7 @@ pub fn string_of<'n>(element: &'n Seg<'_>) -> Option<Bytes<'n>>
     ensures some { IfSome result (λ bytes. string_value (seg_view element.now).nodes ≡ Some (left bytes)) }
     ensures good { IfSome result (λ bytes. IsTrue (is_good bytes)) }
 {
-    let Some(text) = only_text(&element.nodes) else {
-        return None;
-    };
-    let value = value_of(text);
-    value
+    value_of(only_text(&element.nodes)?)
 }
 
 /// The element is one string whose value is the same label as the word.
@@ -55,10 +51,7 @@ pub(crate) fn equals_other(home: &Package, element: &Seg<'_>, other: &Seg<'_>) -
 pub(crate) fn equals_any(home: &Package, element: &Seg<'_>, words: &[Text]) -> bool
     ensures { result ≡ spec.equals_any home.now words.now (seg_view element.now) }
 {
-    for word in words {
-        if equals(home, element, word.as_str()) {
-            return true;
-        }
-    }
-    false
+    words
+        .iter()
+        .any(|word| equals(home, element, word.as_str()))
 }

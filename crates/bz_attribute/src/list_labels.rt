@@ -54,11 +54,8 @@ fn insert_element<'s>(element: &'s Seg<'_>, set: &mut LabelSet<'s>) -> Result<()
     ensures ok { OnOk result
         (Gains (λ text. is_chosen set.old.home.now (Values (text ∷ [])) (seg_view element.now)) set.old set.new) }
 {
-    match string_of(element) {
-        None => Ok(()),
-        Some(value) => {
-            let _ = set.insert(value)?;
-            Ok(())
-        }
+    if let Some(value) = string_of(element) {
+        set.insert(value)?;
     }
+    Ok(())
 }

@@ -24,7 +24,7 @@ fn is_joint(node: &Node<'_>) -> bool
     match node {
         Node::Token(leaf) => match leaf.kind {
             Kind::Word => false,
-            Kind::Sign => leaf.text.as_str() == "+" || leaf.text.as_str() == ".",
+            Kind::Sign => matches!(leaf.text.as_str(), "+" | "."),
             _ => true,
         },
         Node::Group(_) => true,
@@ -34,21 +34,13 @@ fn is_joint(node: &Node<'_>) -> bool
 pub fn are_joints(value: &[Node<'_>]) -> bool
     ensures { result ≡ list_all spec.is_joint (nodes_view value.now) }
 {
-    for node in value {
-        if !is_joint(node) {
-            return false;
-        }
-    }
-    true
+    value.iter().all(is_joint)
 }
 
 pub fn is_list(node: &Node<'_>) -> bool
     ensures { result ≡ spec.is_list (node_view node.now) }
 {
-    match node {
-        Node::Token(_) => false,
-        Node::Group(group) => group.kind == GroupKind::List,
-    }
+    matches!(node, Node::Group(group) if group.kind == GroupKind::List)
 }
 
 /// The elements of a list; of what is no group, none.

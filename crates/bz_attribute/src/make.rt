@@ -1,7 +1,7 @@
 //! New tokens, elements and arguments. What cannot be made for want of memory leaves nothing after.
 
 ghost use Rattle.std.specs.Prelude.{◌≡◌, IfOk, map, string_bytes, ◌∷◌, []};
-ghost use Rattle.bz_tree.specs.View.{node_view, seg_view, segs_view};
+ghost use Rattle.bz_tree.specs.View.{node_view, nodes_view, seg_view, segs_view};
 ghost use Rattle.bz_tree.specs.Tree.{leaf};
 ghost use Rattle.bz_attribute.specs.Effects as spec;
 
@@ -38,13 +38,18 @@ pub fn literal<'a>(alloc: Global, value: &str) -> Result<Node<'a>, AllocError>
 pub fn string<'a>(alloc: Global, value: &str) -> Result<Seg<'a>, AllocError>
     ensures { IfOk result (λ seg. seg_view seg ≡ spec.string value.now) }
 {
-    let mut nodes = Vec::with_capacity(alloc, 1)?;
-    nodes.push_reserved(literal(alloc, value)?);
-    Ok(Seg {
+    let nodes = vec![in alloc; literal(alloc, value)?]?;
+    Ok(segment(alloc, nodes))
+}
+
+fn segment<'a>(alloc: Global, nodes: Vec<Node<'a>>) -> Seg<'a>
+    ensures { seg_view result ≡ record { before = []; nodes = nodes_view nodes.entry.items; suffix = None } }
+{
+    Seg {
         before: Vec::new(alloc),
         nodes,
         suffix: None,
-    })
+    }
 }
 
 /// Elements that are new strings.
@@ -74,15 +79,9 @@ pub fn list<'a>(alloc: Global, elements: Vec<Seg<'a>>) -> Node<'a>
 pub fn argument<'a>(alloc: Global, attr: &str, value: Node<'a>) -> Result<Seg<'a>, AllocError>
     ensures { IfOk result (λ seg. seg_view seg ≡ spec.argument attr.now (node_view value.entry ∷ [])) }
 {
-    let mut nodes = Vec::with_capacity(alloc, 3)?;
-    nodes.push_reserved(token(alloc, Kind::Ident, attr)?);
-    nodes.push_reserved(token(alloc, Kind::Sign, "=")?);
-    nodes.push_reserved(value);
-    Ok(Seg {
-        before: Vec::new(alloc),
-        nodes,
-        suffix: None,
-    })
+    let name = token(alloc, Kind::Ident, attr)?;
+    let nodes = vec![in alloc; name, token(alloc, Kind::Sign, "=")?, value]?;
+    Ok(segment(alloc, nodes))
 }
 
 /// A new argument whose value is a list.

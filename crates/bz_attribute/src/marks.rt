@@ -29,10 +29,7 @@ pub fn matches(target: &Target, stmt: &Stmt<'_>) -> bool
 fn has_name(args: &[Seg<'_>], name: &str) -> bool
     ensures { result ≡ is_text name.now (name_in (segs_view args.now)) }
 {
-    let Some(text) = name_text(args) else {
-        return false;
-    };
-    has_value(text.as_bytes(), name.as_bytes())
+    name_text(args).is_some_and(|text| has_value(text.as_bytes(), name.as_bytes()))
 }
 
 /// What the name of a rule says of the targets that ask for a name.
@@ -62,27 +59,18 @@ fn name_among<'s>(args: &'s [Seg<'_>]) -> RuleName<'s>
     let Some(text) = name_text(args) else {
         return RuleName::NoName;
     };
-    let Some(inner) = inner_of(text) else {
-        return RuleName::Other;
-    };
-    if has_value(text.as_bytes(), inner.as_bytes()) {
-        return RuleName::Plain(inner);
+    match inner_of(text) {
+        Some(inner) if has_value(text.as_bytes(), inner.as_bytes()) => RuleName::Plain(inner),
+        _ => RuleName::Other,
     }
-    RuleName::Other
 }
 
 /// What stands between the quotes of a literal.
-fn inner_of(literal: &str) -> Option<&str>
-    ensures { IfSome result (λ inner. (literal.now ≡ 34 ∷ (inner.now ++ 34 ∷ []))
-        ⊎ (literal.now ≡ 39 ∷ (inner.now ++ 39 ∷ []))) }
-{
-    if let Some(rest) = literal.strip_prefix('"') {
-        return rest.strip_suffix('"');
+fn inner_of(literal: &str) -> Option<&str> {
+    match literal.strip_prefix('"') {
+        Some(rest) => rest.strip_suffix('"'),
+        None => literal.strip_prefix('\'')?.strip_suffix('\''),
     }
-    let Some(rest) = literal.strip_prefix('\'') else {
-        return None;
-    };
-    rest.strip_suffix('\'')
 }
 
 /// The nodes before the call have this text.
@@ -92,12 +80,11 @@ pub fn is_kind(kind: &[Node<'_>], text: &str) -> bool
     let mut left = text.as_bytes();
     for node in kind {
         if let Node::Token(leaf) = node {
-            let part = leaf.text.as_str().as_bytes();
-            if !left.starts_with(part) {
+            let Some(rest) = left.strip_prefix(leaf.text.as_str().as_bytes()) else {
                 return false;
-            }
-            left = &left[part.len()..];
+            };
+            left = rest;
         }
     }
-    left.len() == 0
+    left.is_empty()
 }

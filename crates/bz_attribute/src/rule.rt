@@ -5,6 +5,7 @@ ghost use Rattle.bz_tree.specs.View.{node_view, nodes_view, seg_view, segs_view}
 ghost use Rattle.bz_attribute.specs.RuleViews.{IsCall, rule_view};
 ghost use Rattle.bz_attribute.specs.Rules as spec;
 
+use crate::find::find;
 use bz_token::Kind;
 use bz_tree::{Group, GroupKind, Node, Seg};
 
@@ -19,14 +20,10 @@ pub struct Rule<'n, 'a> {
 pub fn rule_of<'n, 'a>(nodes: &'n [Node<'a>]) -> Option<Rule<'n, 'a>>
     ensures { option_map rule_view result ≡ spec.rule_of (nodes_view nodes.now) }
 {
-    if nodes.len() == 0 {
-        return None;
-    }
-    let last = nodes.len() - 1;
-    let Some(call) = call_of(&nodes[last]) else {
+    let [kind @ .., last] = nodes else {
         return None;
     };
-    let kind = &nodes[..last];
+    let call = call_of(last)?;
     if !are_dotted(kind) {
         return None;
     }
@@ -38,11 +35,8 @@ fn call_of<'n, 'a>(node: &'n Node<'a>) -> Option<&'n Group<'a>>
     ensures some { IfSome result (λ call. IsCall (node_view node.now) call.now) }
 {
     match node {
-        Node::Token(_) => None,
-        Node::Group(group) => match group.kind {
-            GroupKind::RuleCall => Some(group),
-            _ => None,
-        },
+        Node::Group(group) if group.kind == GroupKind::RuleCall => Some(group),
+        _ => None,
     }
 }
 
@@ -50,41 +44,28 @@ fn call_of<'n, 'a>(node: &'n Node<'a>) -> Option<&'n Group<'a>>
 fn are_dotted(kind: &[Node<'_>]) -> bool
     ensures { result ≡ spec.dotted true (nodes_view kind.now) }
 {
-    let mut wants_name = true;
-    for node in kind {
-        if wants_name {
-            if ident_of(node).is_none() {
-                return false;
-            }
-        } else if !is_sign(node, ".") {
+    let mut left = kind;
+    while let [name, dot, rest @ ..] = left {
+        if ident_of(name).is_none() || !is_sign(dot, ".") {
             return false;
         }
-        wants_name = !wants_name;
+        left = rest;
     }
-    !wants_name
+    matches!(left, [name] if ident_of(name).is_some())
 }
 
 pub fn is_sign(node: &Node<'_>, sign: &str) -> bool
     ensures { result ≡ spec.is_sign sign.now (node_view node.now) }
 {
-    match node {
-        Node::Token(leaf) => match leaf.kind {
-            Kind::Sign => leaf.text.as_str() == sign,
-            _ => false,
-        },
-        Node::Group(_) => false,
-    }
+    matches!(node, Node::Token(leaf) if leaf.kind == Kind::Sign && leaf.text.as_str() == sign)
 }
 
 pub fn ident_of<'n>(node: &'n Node<'_>) -> Option<&'n str>
     ensures { option_map (λ text. text.now) result ≡ spec.ident_of (node_view node.now) }
 {
     match node {
-        Node::Token(leaf) => match leaf.kind {
-            Kind::Ident => Some(leaf.text.as_str()),
-            _ => None,
-        },
-        Node::Group(_) => None,
+        Node::Token(leaf) if leaf.kind == Kind::Ident => Some(leaf.text.as_str()),
+        _ => None,
     }
 }
 
@@ -93,12 +74,7 @@ pub(crate) fn name_of<'n>(nodes: &'n [Node<'_>]) -> Option<&'n str>
     ensures { option_map (λ text. text.now) result ≡ spec.name_of (nodes_view nodes.now) }
 {
     match nodes {
-        [name, equals, ..] => {
-            if is_sign(equals, "=") {
-                return ident_of(name);
-            }
-            None
-        }
+        [name, equals, ..] if is_sign(equals, "=") => ident_of(name),
         _ => None,
     }
 }
@@ -106,32 +82,25 @@ pub(crate) fn name_of<'n>(nodes: &'n [Node<'_>]) -> Option<&'n str>
 pub fn is_named(arg: &Seg<'_>, name: &str) -> bool
     ensures { result ≡ spec.is_named name.now (seg_view arg.now) }
 {
-    match name_of(&arg.nodes) {
-        None => false,
-        Some(other) => name == other,
-    }
+    name_of(&arg.nodes).is_some_and(|other| other == name)
 }
 
 /// The first argument of a name.
 pub fn first_named<'n, 'a>(args: &'n [Seg<'a>], name: &str) -> Option<&'n Seg<'a>>
     ensures { option_map (λ arg. seg_view arg.now) result ≡ spec.first_named name.now (segs_view args.now) }
 {
-    for arg in args {
-        if is_named(arg, name) {
-            return Some(arg);
-        }
-    }
-    None
+    let i = find(args, name)?;
+    Some(&args[i])
 }
 
 /// The nodes of the value of a named argument.
 pub fn value_of<'n, 'a>(arg: &'n Seg<'a>) -> &'n [Node<'a>]
     ensures { nodes_view result.now ≡ spec.value (seg_view arg.now) }
 {
-    if arg.nodes.len() < 2 {
-        return &[];
+    match arg.nodes.as_slice() {
+        [_, _, value @ ..] => value,
+        _ => &[],
     }
-    &arg.nodes[2..]
 }
 
 /// The text of what is one string token.
@@ -148,11 +117,8 @@ fn text_of<'n>(node: &'n Node<'_>) -> Option<&'n str>
     ensures { option_map (λ text. text.now) result ≡ spec.text_of (node_view node.now) }
 {
     match node {
-        Node::Token(leaf) => match leaf.kind {
-            Kind::Text => Some(leaf.text.as_str()),
-            _ => None,
-        },
-        Node::Group(_) => None,
+        Node::Token(leaf) if leaf.kind == Kind::Text => Some(leaf.text.as_str()),
+        _ => None,
     }
 }
 
@@ -160,8 +126,5 @@ fn text_of<'n>(node: &'n Node<'_>) -> Option<&'n str>
 pub(crate) fn name_text<'n>(args: &'n [Seg<'_>]) -> Option<&'n str>
     ensures { spec.value_in (option_map (λ text. text.now) result) ≡ spec.name_in (segs_view args.now) }
 {
-    let Some(arg) = first_named(args, "name") else {
-        return None;
-    };
-    only_text(value_of(arg))
+    only_text(value_of(first_named(args, "name")?))
 }

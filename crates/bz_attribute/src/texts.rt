@@ -37,34 +37,32 @@ pub fn shown(alloc: Global, home: &Package, stmt: &Stmt<'_>) -> Result<String, A
 pub fn push_home(text: &mut String, home: &Package) -> Result<(), AllocError>
     ensures { OnOk result (string_bytes text.new ≡ string_bytes text.old ++ spec.home_text home.now) }
 {
-    let Some(path) = home.path() else {
-        text.push_str("-:")?;
-        return Ok(());
-    };
-    text.push_str("//")?;
-    text.push_str(path)?;
-    text.push_str(":")?;
-    Ok(())
+    match home.path() {
+        None => text.push_str("-:"),
+        Some(path) => {
+            text.push_str("//")?;
+            text.push_str(path)?;
+            text.push_str(":")
+        }
+    }
 }
 
 fn push_target(alloc: Global, text: &mut String, target: &Target) -> Result<(), AllocError>
     ensures { OnOk result (string_bytes text.new ≡ string_bytes text.old ++ spec.target_text target.now) }
 {
     match &target.marked {
-        Marked::Name(name) => text.push_str(name.as_str())?,
-        Marked::Pkg => text.push_str("__pkg__")?,
-        Marked::All => text.push_str("*")?,
+        Marked::Name(name) => text.push_str(name.as_str()),
+        Marked::Pkg => text.push_str("__pkg__"),
+        Marked::All => text.push_str("*"),
         Marked::Kind(kind) => {
             text.push_str("%")?;
-            text.push_str(kind.as_str())?;
+            text.push_str(kind.as_str())
         }
         Marked::Line(line) => {
-            let digits = line.to_string(alloc)?;
             text.push_str("%")?;
-            text.push_str(digits.as_str())?;
+            text.push_str(line.to_string(alloc)?.as_str())
         }
     }
-    Ok(())
 }
 
 fn push_name(
@@ -77,24 +75,22 @@ fn push_name(
         (name_in (segs_view args.now)) (nodes_view kind.now)) }
 {
     match read_name(alloc, args)? {
-        Some(name) => text.push_str(name.as_str())?,
+        Some(name) => text.push_str(name.as_str()),
         None => {
             text.push_str("%")?;
-            push_kind(text, kind)?;
+            push_kind(text, kind)
         }
     }
-    Ok(())
 }
 
 /// The name of a rule.
 pub fn read_name(alloc: Global, args: &[Seg<'_>]) -> Result<Option<String>, AllocError>
     ensures { IfOk result (λ name. option_map (λ text. string_bytes text) name ≡ name_in (segs_view args.now)) }
 {
-    let Some(text) = name_text(args) else {
-        return Ok(None);
-    };
-    let name = read_value(alloc, text)?;
-    Ok(name)
+    match name_text(args) {
+        None => Ok(None),
+        Some(text) => read_value(alloc, text),
+    }
 }
 
 /// Writes a kind, without what stands between its identifiers and dots.

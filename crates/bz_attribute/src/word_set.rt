@@ -20,8 +20,7 @@ pub const FEW: usize = 8;
 pub struct WordSet<'a> {
     words: &'a [Text],
     labels: Option<LabelSet<'a>>,
-    ghost all: { IfSome labels (λ set. (text : List ℕ) → has set text ≡ list_any (same set.home.now text) words.now) }
-        by { Prim.hlevel props },
+    ghost all: { IfSome labels (λ set. (text : List ℕ) → has set text ≡ list_any (same set.home.now text) words.now) } by { Prim.hlevel props },
 }
 
 /// Takes memory for many words alone.
@@ -39,8 +38,8 @@ pub fn word_set<'a>(
         });
     }
     let mut labels = LabelSet::new(alloc, home);
-    for i in 0..words.len() {
-        let _ = labels.insert(Bytes::Plain(words[i].as_str().as_bytes()))?;
+    for word in words {
+        labels.insert(Bytes::Plain(word.as_str().as_bytes()))?;
     }
     Ok(WordSet {
         words,
@@ -53,14 +52,12 @@ impl<'a> WordSet<'a> {
     pub fn equals_any(&self, home: &Package, element: &Seg<'_>) -> bool
         ensures { result ≡ equals_any home.now self.now.words.now (seg_view element.now) }
     {
-        if let Some(labels) = &self.labels {
-            if labels.is_of(home) {
-                return match string_of(element) {
-                    None => false,
-                    Some(value) => labels.contains(value),
-                };
-            }
+        match &self.labels {
+            Some(labels) if labels.is_of(home) => match string_of(element) {
+                None => false,
+                Some(value) => labels.contains(value),
+            },
+            _ => equals_any(home, element, self.words),
         }
-        equals_any(home, element, self.words)
     }
 }

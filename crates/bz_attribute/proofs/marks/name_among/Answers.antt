@@ -12,7 +12,7 @@ same_text name inner (Some w) h =
     let same : inner ≡ w = search (rules, bytes_eq-Decides) in
     ap (bytes_eq name) (sym same)
 
-pub returns-then-has_value : goal.returns-then-has_value
-returns-then-has_value c = λ name.
-    let met : is_value c.in-Some-inner_of.inner.now (value_of c.in-Some.text.now) ≡ true = grind (arith, c.has_value.ensures, c.if-has_value.true, c.as_bytes.ensures.value, c.as_bytes-2.ensures.value) in
+pub returns-in-Some-inner_of : goal.returns-in-Some-inner_of
+returns-in-Some-inner_of c = λ name.
+    let met : is_value c.in-Some-inner_of.inner.now (value_of c.in-Some.text.now) ≡ true = grind (arith, c.has_value.ensures, c.if-has_value.true, c.as_bytes.ensures.value, c.as_bytes-in-Some-inner_of.ensures.value) in
     same_text name c.in-Some-inner_of.inner.now (name_in (segs_view c.args.args.now)) (ap (is_value c.in-Some-inner_of.inner.now) (sym c.in-Some.ensures) ∙ met)

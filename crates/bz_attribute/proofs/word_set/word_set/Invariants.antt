@@ -4,8 +4,8 @@ use Rattle.bz_attribute.specs.Lists.{same}
 use Rattle.bz_command.specs.LabelSetViews.{has}
 use Rattle.bz_attribute.proofs.word_set.word_set.Given as goal
 
-abbrev pub invariant-loop-i : goal.invariant-loop-i
-invariant-loop-i l = record {
+abbrev pub invariant-loop-word : goal.invariant-loop-word
+invariant-loop-word l = record {
   home : l.labels.home.now ≡ l.home;
-  all : (text : List ℕ) → has l.labels text ≡ list_any (same l.home text) (take l.i l.words);
+  all : (text : List ℕ) → has l.labels text ≡ list_any (same l.home text) (take l.word-index l.words);
 }
