@@ -1,7 +1,9 @@
 -- Steps to a comment: the line without the blanks at its end, and the element that it goes to.
-use Rattle.std.proofs.Common.{◌≡◌, ℕ, suc, ◌+◌, ◌-◌, ◌<◌, ◌≤◌, List, [], ◌∷◌, ◌++◌, Bool, true, false, ◌&&◌, if◌then◌else◌, length, get_or, set, take, drop, refl, ap, subst, sym, ◌∙◌, arith, add-one, is_some, Option, Some, None, IfSome, IfNone}
+use Rattle.std.proofs.Common.{◌≡◌, ℕ, suc, ◌+◌, ◌-◌, ◌<◌, ◌≤◌, List, [], ◌∷◌, ◌++◌, Bool, true, false, ◌&&◌, if◌then◌else◌, length, get_or, set, take, drop, refl, ap, subst, sym, ◌∙◌, arith, add-one, is_some, Option, Some, None, IfSome, IfNone, nat_lt, inl, inr}
+use Rattle.std.specs.Prelude.{position}
 use Rattle.std.specs.List.{list_all, list_any, position_or_len}
 use Rattle.std.proofs.lemmas.List.{drop_more, set_split, map-append, map-set, get_or-map, set-get_or, length-map, length-drop, drop-map, get_or-drop, get_or_default, take_more, take_all, take_rest}
+use Rattle.std.proofs.lemmas.Bool.{cases_Bool}
 use Rattle.std.proofs.lemmas.Bool.Decides.{nat_tests}
 use Rattle.bz_tree.specs.declared.stmt.Node.{Node}
 use Rattle.std.specs.Vec.{with_item}
@@ -18,6 +20,7 @@ use Rattle.bz_attribute.specs.Commenting.{is_blank, trimmed, comment_element, co
 use Rattle.bz_attribute_commands.specs.private.CommentPlaces.{IsFirstOf, IsNowhere, IsPartWith, ends_blank}
 use Rattle.bz_attribute.proofs.First.{has_one, has_none, put_first, edit_first_none}
 use Rattle.bz_attribute.proofs.Groups.{view_of_seg}
+use Rattle.bz_attribute.proofs.Mapped.{position_or_len-map}
 use Rattle.bz_attribute_commands.proofs.Written.{nodes_written}
 
 -- a blank at the end
@@ -72,6 +75,17 @@ pub is_nowhere : (p : Segment → Bool) (segs : List Seg) → length segs ≤ po
 is_nowhere p segs h =
     let none : list_any p (segs_view segs) ≡ false = has_none p (segs_view segs) (omega (arith, length-map segs seg_view)) in
     record { none = none; stay = λ f. edit_first_none p f (segs_view segs) none }
+
+-- where a search by position ends
+pub first_found : (p : Segment → Bool) (segs : List Seg) (r : Option ℕ) → r ≡ position (λ s. p (seg_view s)) segs → IfSome r (IsFirstOf p segs)
+first_found p segs r is =
+    let at : position_or_len p (segs_view segs) ≡ position_or_len (λ s. p (seg_view s)) segs = position_or_len-map seg_view p segs in
+    rw is (elim (cases_Bool (nat_lt (position_or_len (λ s. p (seg_view s)) segs) (length segs))) [ inl h ↦ rw h (is_first_of p segs _ (sym at) (grind (arith, nat_tests))) | inr h ↦ rw h tt ])
+
+pub none_found : (p : Segment → Bool) (segs : List Seg) (r : Option ℕ) → r ≡ position (λ s. p (seg_view s)) segs → IfNone r (IsNowhere p segs)
+none_found p segs r is =
+    let at : position_or_len p (segs_view segs) ≡ position_or_len (λ s. p (seg_view s)) segs = position_or_len-map seg_view p segs in
+    rw is (elim (cases_Bool (nat_lt (position_or_len (λ s. p (seg_view s)) segs) (length segs))) [ inl h ↦ rw h tt | inr h ↦ rw h (is_nowhere p segs (rw at (grind (arith, nat_tests)))) ])
 
 pub found_any : (p : Segment → Bool) (segs : List Seg) (r : Option ℕ) → IfSome r (IsFirstOf p segs) → IfNone r (IsNowhere p segs) → is_some r ≡ list_any p (segs_view segs)
 found_any p segs (Some i) found none = sym found.there

@@ -32,13 +32,10 @@ pub fn comment_rule(
     ensures no_rule { holds_rule (slot_view slot.old) ≡ false → IsOk result }
     ensures err { OnErr result (slot_view slot.new ≡ slot_view slot.old) }
 {
-    let Some(stmt) = slot else {
-        return Ok(Done::quiet(false));
-    };
-    if call_at(&stmt.nodes).is_none() {
-        return Ok(Done::quiet(false));
+    match slot {
+        Some(stmt) if call_at(&stmt.nodes).is_some() => push_line(alloc, text, &mut stmt.before)?,
+        _ => return Ok(Done::quiet(false)),
     }
-    push_line(alloc, text, &mut stmt.before)?;
     Ok(Done::quiet(true))
 }
 
@@ -137,23 +134,9 @@ fn find_equal(home: &Package, value: &str, elements: &[Seg<'_>]) -> Option<usize
     ensures some { IfSome result (IsFirstOf (equals home.now value.now) elements.now) }
     ensures none { IfNone result (IsNowhere (equals home.now value.now) elements.now) }
 {
-    let i = place_of(home, value, elements);
-    if i < elements.len() {
-        return Some(i);
-    }
-    None
-}
-
-// The same, or how many elements there are.
-fn place_of(home: &Package, value: &str, elements: &[Seg<'_>]) -> usize
-    ensures { result ≡ position_or_len (equals home.now value.now) (segs_view elements.now) }
-{
-    for i in 0..elements.len() {
-        if equals(home, &elements[i], value) {
-            return i;
-        }
-    }
-    elements.len()
+    elements
+        .iter()
+        .position(|element| equals(home, element, value))
 }
 
 // Adds a comment line above the first element of a list that equals a value.
@@ -219,9 +202,5 @@ fn trim(line: &mut String)
 fn ends_blank(bytes: &[u8]) -> bool
     ensures { result ≡ place.ends_blank bytes.now }
 {
-    if bytes.len() == 0 {
-        return false;
-    }
-    let last = bytes[bytes.len() - 1];
-    last == b' ' || last == b'\t'
+    matches!(bytes, [.., b' ' | b'\t'])
 }

@@ -12,24 +12,21 @@ use std::alloc::{AllocError, Global};
 pub(crate) fn no_attribute(alloc: Global, attr: &str) -> Result<Done, AllocError>
     ensures { IfOk result (λ done. done ≡ failed (note.NoAttribute attr.now)) }
 {
-    let attr = Text::from_str(alloc, attr)?;
-    Ok(Done::failure(Note::NoAttribute(attr)))
+    Ok(Done::failure(Note::NoAttribute(Text::from_str(alloc, attr)?)))
 }
 
 /// There is an attribute of the new name.
 pub(crate) fn attribute_exists(alloc: Global, attr: &str) -> Result<Done, AllocError>
     ensures { IfOk result (λ done. done ≡ failed (note.AttributeExists attr.now)) }
 {
-    let attr = Text::from_str(alloc, attr)?;
-    Ok(Done::failure(Note::AttributeExists(attr)))
+    Ok(Done::failure(Note::AttributeExists(Text::from_str(alloc, attr)?)))
 }
 
 /// The attribute has no list part.
 pub(crate) fn not_a_list(alloc: Global, attr: &str) -> Result<Done, AllocError>
     ensures { IfOk result (λ done. done ≡ failed (note.NotAList attr.now)) }
 {
-    let attr = Text::from_str(alloc, attr)?;
-    Ok(Done::failure(Note::NotAList(attr)))
+    Ok(Done::failure(Note::NotAList(Text::from_str(alloc, attr)?)))
 }
 
 /// No element of the attribute equals the value.

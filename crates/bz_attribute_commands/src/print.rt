@@ -112,8 +112,8 @@ fn push_field<'f>(
         Field::Label => return push_label(alloc, text, home, &rule.call.segs),
         Field::ValueOf(attr) => return push_attribute(alloc, text, attr.as_str(), &rule.call.segs),
         Field::Kind => push_kind(text, rule.kind)?,
-        Field::StartLine => push_number(alloc, text, stmt.start)?,
-        Field::EndLine => push_number(alloc, text, stmt.end)?,
+        Field::StartLine => write!(text, "{}", stmt.start)?,
+        Field::EndLine => write!(text, "{}", stmt.end)?,
     }
     Ok(None)
 }
@@ -198,24 +198,14 @@ fn words_in<'n, 'a>(value: &'n [Node<'a>]) -> Option<&'n [Seg<'a>]>
     ensures words { IfSome result (λ elements. spec.is_words (nodes_view value.now) ≡ true) }
     ensures some { IfSome result (λ elements. spec.first_elements (nodes_view value.now) ≡ segs_view elements.now) }
 {
-    let Some(elements) = one_list(value) else {
-        return None;
-    };
-    if !have_strings(elements) {
-        return None;
-    }
-    Some(elements)
+    let elements = one_list(value)?;
+    have_strings(elements).then_some(elements)
 }
 
 fn have_strings(elements: &[Seg<'_>]) -> bool
     ensures { result ≡ list_all spec.has_string (segs_view elements.now) }
 {
-    for element in elements {
-        if string_of(element).is_none() {
-            return false;
-        }
-    }
-    true
+    elements.iter().all(|element| string_of(element).is_some())
 }
 
 // Writes strings with a space between them.
@@ -257,20 +247,5 @@ fn push_word(alloc: Global, text: &mut String, word: &str) -> Result<(), AllocEr
 fn is_plain(word: &[u8]) -> bool
     ensures { result ≡ spec.is_plain word.now }
 {
-    if word.len() == 0 {
-        return false;
-    }
-    for b in word {
-        if *b == b'"' || *b <= b' ' {
-            return false;
-        }
-    }
-    true
-}
-
-fn push_number(alloc: Global, text: &mut String, number: u64) -> Result<(), AllocError>
-    ensures { OnOk result (string_bytes text.new ≡ string_bytes text.old ++ decimal number) }
-{
-    let digits = number.to_string(alloc)?;
-    text.push_str(digits.as_str())
+    word.len() > 0 && !word.iter().any(|b| *b == b'"' || *b <= b' ')
 }

@@ -16,7 +16,7 @@ use bz_attribute::make::{argument, list, literal, strings, token};
 use bz_attribute::rule::{ident_of, only_text, value_of};
 use bz_command::{Text, has_value};
 use bz_token::Kind;
-use bz_tree::{Node, Seg};
+use bz_tree::{Leaf, Node, Seg};
 use std::alloc::{AllocError, Global};
 
 /// What an attribute is set to.
@@ -115,15 +115,8 @@ fn new_of<'w>(attr: &str, words: &'w [Text], was: &[Node<'_>]) -> New<'w>
         → new_view result ≡ spec.new_of attr.now words.now arg }
 {
     match words {
-        [word] => {
-            if attr == "name" {
-                return New::String(word.as_str());
-            }
-            if is_list_attribute(attr) || one_list(was).is_some() {
-                return New::Strings(words);
-            }
-            new_word(word.as_str())
-        }
+        [word] if attr == "name" => New::String(word.as_str()),
+        [word] if !is_list_attribute(attr) && one_list(was).is_none() => new_word(word.as_str()),
         _ => New::Strings(words),
     }
 }
@@ -135,21 +128,18 @@ fn is_list_attribute(attr: &str) -> bool
     match attr {
         "srcs" | "hdrs" | "textual_hdrs" | "deps" | "runtime_deps" | "exports" | "data" => true,
         "tools" | "outs" | "visibility" | "default_visibility" | "tags" | "copts" => true,
-        "defines" | "includes" | "linkopts" | "features" => true,
-        _ => false,
+        _ => matches!(attr, "defines" | "includes" | "linkopts" | "features"),
     }
 }
 
 fn new_word(word: &str) -> New<'_>
     ensures { new_view result ≡ spec.new_word word.now }
 {
-    if is_number(word.as_bytes()) {
-        return New::Number(word);
+    match word {
+        "True" | "False" | "None" => New::Constant(word),
+        _ if is_number(word.as_bytes()) => New::Number(word),
+        _ => New::String(word),
     }
-    if word == "True" || word == "False" || word == "None" {
-        return New::Constant(word);
-    }
-    New::String(word)
 }
 
 // `0`, or digits that do not begin with 0.
@@ -159,14 +149,8 @@ fn is_number(word: &[u8]) -> bool
     match word {
         [] => false,
         [b'0'] => true,
-        [first, ..] => *first != b'0' && are_digits(word),
+        [first, ..] => *first != b'0' && word.iter().all(u8::is_ascii_digit),
     }
-}
-
-fn are_digits(bytes: &[u8]) -> bool
-    ensures { result ≡ list_all spec.is_digit bytes.now }
-{
-    bytes.iter().all(|b| b.is_ascii_digit())
 }
 
 fn new_node<'a>(alloc: Global, new: New<'_>) -> Result<Node<'a>, AllocError>
@@ -186,18 +170,9 @@ fn is_value(new: New<'_>, value: &[Node<'_>]) -> bool
 {
     match new {
         New::String(word) => is_string(word, value),
-        New::Number(digits) => is_int(digits, value),
-        New::Constant(name) => match value {
-            [node] => match ident_of(node) {
-                None => false,
-                Some(text) => text == name,
-            },
-            _ => false,
-        },
-        New::Strings(words) => match one_list(value) {
-            None => false,
-            Some(elements) => are_strings(words, elements),
-        },
+        New::Number(digits) => matches!(value, [node] if is_int(digits, node)),
+        New::Constant(name) => matches!(value, [node] if ident_of(node) == Some(name)),
+        New::Strings(words) => one_list(value).is_some_and(|elements| are_strings(words, elements)),
     }
 }
 
@@ -205,23 +180,19 @@ fn is_value(new: New<'_>, value: &[Node<'_>]) -> bool
 fn is_string(word: &str, nodes: &[Node<'_>]) -> bool
     ensures { result ≡ is_text word.now (string_value (nodes_view nodes.now)) }
 {
-    match only_text(nodes) {
-        None => false,
-        Some(text) => has_value(text.as_bytes(), word.as_bytes()),
-    }
+    only_text(nodes).is_some_and(|text| has_value(text.as_bytes(), word.as_bytes()))
 }
 
-fn is_int(digits: &str, nodes: &[Node<'_>]) -> bool
-    ensures { result ≡ spec.is_only (spec.is_int digits.now) (nodes_view nodes.now) }
+fn is_int(digits: &str, node: &Node<'_>) -> bool
+    ensures { result ≡ spec.is_int digits.now (node_view node.now) }
 {
-    match nodes {
-        [node] => match node {
-            Node::Token(leaf) => match leaf.kind {
-                Kind::Int => leaf.text.as_str() == digits,
-                _ => false,
+    match node {
+        Node::Token(
+            Leaf {
+                kind: Kind::Int,
+                text,
             },
-            Node::Group(_) => false,
-        },
+        ) => text.as_str() == digits,
         _ => false,
     }
 }
@@ -230,18 +201,7 @@ fn is_int(digits: &str, nodes: &[Node<'_>]) -> bool
 fn are_strings(words: &[Text], elements: &[Seg<'_>]) -> bool
     ensures { result ≡ spec.are_strings words.now (segs_view elements.now) }
 {
-    let mut left = words;
-    for element in elements {
-        let [word, after @ ..] = left else {
-            return false;
-        };
-        if !is_string(word.as_str(), &element.nodes) {
-            return false;
-        }
-        left = after;
-    }
-    match left {
-        [] => true,
-        _ => false,
-    }
+    let mut pairs = words.iter().zip(elements);
+    words.len() == elements.len()
+        && pairs.all(|(word, element)| is_string(word.as_str(), &element.nodes))
 }

@@ -1,7 +1,6 @@
 //! `set kind`: other tokens before the call of a rule.
 
 ghost use Rattle.std.specs.Prelude.{◌≡◌, ◌-◌, ◌++◌, ◌∷◌, [], None, false, length, drop, option_map, IfOk, IsOk, OnOk, OnErr};
-ghost use Rattle.bz_tree.specs.Tree.{leaf};
 ghost use Rattle.bz_tree.specs.View.{nodes_view, slot_view};
 ghost use Rattle.bz_attribute.specs.Rules.{rule_of};
 ghost use Rattle.bz_attribute.specs.Effects.{holds_rule};
@@ -71,22 +70,10 @@ fn kind_nodes<'a>(alloc: Global, kind: &str) -> Result<Vec<Node<'a>>, AllocError
     let mut nodes = Vec::new(alloc);
     let mut left = kind;
     while let Some((name, rest)) = cut(left, '.') {
-        push_token(alloc, Kind::Ident, name, &mut nodes)?;
-        push_token(alloc, Kind::Sign, ".", &mut nodes)?;
+        nodes.push(token(alloc, Kind::Ident, name)?)?;
+        nodes.push(token(alloc, Kind::Sign, ".")?)?;
         left = rest;
     }
-    push_token(alloc, Kind::Ident, left, &mut nodes)?;
+    nodes.push(token(alloc, Kind::Ident, left)?)?;
     Ok(nodes)
-}
-
-fn push_token(
-    alloc: Global,
-    kind: Kind,
-    text: &str,
-    nodes: &mut Vec<Node<'_>>,
-) -> Result<(), AllocError>
-    ensures { OnOk result (nodes_view nodes.new.items ≡ nodes_view nodes.old.items ++ leaf kind text.now ∷ []) }
-{
-    nodes.push(token(alloc, kind, text)?)?;
-    Ok(())
 }

@@ -14,11 +14,8 @@ pub(crate) fn one_list<'n, 'a>(value: &'n [Node<'a>]) -> Option<&'n [Seg<'a>]>
     ensures one { IfSome result (λ elements. is_one_list (nodes_view value.now) ≡ true) }
     ensures elements { IfSome result (λ elements. first_elements (nodes_view value.now) ≡ segs_view elements.now) }
 {
-    let [node] = value else {
-        return None;
-    };
-    if !is_list(node) {
-        return None;
+    match value {
+        [node] if is_list(node) => Some(elements_at(node)),
+        _ => None,
     }
-    Some(elements_at(node))
 }
