@@ -1,5 +1,5 @@
 -- The call of a rule, at the end of the nodes, edited.
-use Rattle.std.proofs.Common.{◌≡◌, ℕ, suc, ◌+◌, ◌-◌, ◌≤◌, List, [], ◌∷◌, ◌++◌, Bool, true, false, ◌&&◌, if◌then◌else◌, Some, None, length, get_or, set, take, refl, ap, sym, ◌∙◌, arith, is_some}
+use Rattle.std.proofs.Common.{◌≡◌, ℕ, suc, ◌+◌, ◌-◌, List, [], ◌∷◌, ◌++◌, Bool, true, false, ◌&&◌, if◌then◌else◌, Some, None, length, get_or, set, take, refl, ap, sym, ◌∙◌, arith, is_some}
 use Rattle.std.proofs.lemmas.List.{map-append, set_split, drop_all, get_or_default}
 use Rattle.bz_tree.specs.declared.stmt.Node.{Node}
 use Rattle.bz_tree.specs.declared.stmt.GroupKind.TheVariants.{Call, RuleCall, Load, Paren, List as ListKind, Index, Dict, ListComp, DictComp}
@@ -57,11 +57,6 @@ both : (a b : Bool) → (a && b) ≡ true → (a ≡ true) × (b ≡ true)
 both true true h = (refl, refl)
 both true false h = absurd cc
 both false b h = absurd cc
-
--- nodes that are a rule end with its call
-pub rule_nonempty : (ns : List Node) (r : Rule) → Some r ≡ rule_of (nodes_view ns) → 1 ≤ length ns
-rule_nonempty [] r h = absurd cc
-rule_nonempty (n ∷ ns) r h = omega arith
 
 pub call_of_rule : (ns : List Node) (r : Rule) → Some r ≡ rule_of (nodes_view ns) → IsCallAt ns (length ns - 1)
 call_of_rule [] r h = absurd cc

@@ -42,9 +42,7 @@ pub fn is_chosen(home: &Package, chosen: Chosen<'_, '_>, element: &Seg<'_>) -> b
 pub fn any_chosen(home: &Package, chosen: Chosen<'_, '_>, elements: &[Seg<'_>]) -> bool
     ensures { result ≡ list_any (spec.is_chosen home.now (chosen_view chosen.entry)) (segs_view elements.now) }
 {
-    elements
-        .iter()
-        .any(|element| is_chosen(home, chosen, element))
+    elements.iter().any(|seg| is_chosen(home, chosen, seg))
 }
 
 pub fn is_any_chosen(home: &Package, chosen: Chosen<'_, '_>, value: &[Node<'_>]) -> bool
@@ -76,9 +74,7 @@ fn drop_in_list(home: &Package, chosen: Chosen<'_, '_>, node: &mut Node<'_>)
     ensures { node_view node.new ≡ edit_list (spec.unchosen home.now (chosen_view chosen.entry)) (node_view node.old) }
 {
     if let Node::Group(group) = node {
-        group
-            .segs
-            .retain(|element| !is_chosen(home, chosen, element));
+        group.segs.retain(|seg| !is_chosen(home, chosen, seg));
     }
 }
 
@@ -113,10 +109,7 @@ fn loses_elements(home: &Package, chosen: Chosen<'_, '_>, elements: &[Seg<'_>]) 
     ensures { result ≡ (not (spec.is_nil (segs_view elements.now))
         && spec.is_nil (spec.unchosen home.now (chosen_view chosen.entry) (segs_view elements.now))) }
 {
-    elements.len() != 0
-        && elements
-            .iter()
-            .all(|element| is_chosen(home, chosen, element))
+    elements.len() != 0 && elements.iter().all(|seg| is_chosen(home, chosen, seg))
 }
 
 /// The argument's value is one list, all of whose elements are chosen, and there are some.

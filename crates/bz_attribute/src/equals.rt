@@ -1,17 +1,14 @@
 //! Which elements equal a word.
 
-ghost use Rattle.std.specs.Prelude.{◌≡◌, IsTrue, MatchOption, IfSome, IfNone, None, Some, [], ◌∷◌, ◌++◌, bytes_eq};
-ghost use Rattle.std.specs.List.{list_any};
+ghost use Rattle.std.specs.Prelude.{◌≡◌, IsTrue, IfSome, IfNone, None, Some};
 ghost use Rattle.bz_tree.specs.View.{seg_view};
 ghost use Rattle.bz_attribute.specs.Rules.{string_value};
-ghost use Rattle.bz_command.specs.Labels.{is_colon, last_of, parts_of};
-ghost use Rattle.bz_command.specs.Same as same;
 ghost use Rattle.bz_attribute.specs.private.ChosenViews.{words_of};
 ghost use Rattle.bz_attribute.specs.Lists as spec;
-ghost use Rattle.bz_command.specs.private.ByteSteps.{left, is_good, chain_bytes, is_good_chain, begins, is_bare_path};
+ghost use Rattle.bz_command.specs.private.ByteSteps.{left, is_good};
 
 use crate::rule::only_text;
-use bz_command::{Bytes, Package, Text, same_label, value_of};
+use bz_command::{Bytes, Package, same_label, value_of};
 use bz_tree::Seg;
 
 /// The value of an element that is one string.
@@ -45,13 +42,4 @@ pub(crate) fn equals_other(home: &Package, element: &Seg<'_>, other: &Seg<'_>) -
         None => false,
         Some(value) => same_label(home, value, word),
     }
-}
-
-/// The element equals one of the words.
-pub(crate) fn equals_any(home: &Package, element: &Seg<'_>, words: &[Text]) -> bool
-    ensures { result ≡ spec.equals_any home.now words.now (seg_view element.now) }
-{
-    words
-        .iter()
-        .any(|word| equals(home, element, word.as_str()))
 }

@@ -1,7 +1,7 @@
 //! Where arguments and the call of a rule stand.
 
-ghost use Rattle.std.specs.Prelude.{◌≡◌, IfSome, IfNone, None, true};
-ghost use Rattle.bz_tree.specs.View.{nodes_view, segs_view};
+ghost use Rattle.std.specs.Prelude.{◌≡◌, IfSome, IfNone, None};
+ghost use Rattle.bz_tree.specs.View.{nodes_view};
 ghost use Rattle.bz_attribute.specs.Rules as spec;
 ghost use Rattle.bz_attribute.specs.private.Places.{IsFirst, IsAbsent, IsCallAt};
 

@@ -1,10 +1,8 @@
 //! The labels of the elements that a value's list parts have.
 
-ghost use Rattle.std.specs.Prelude.{◌≡◌, ℕ, List, [], ◌∷◌, IfOk, OnOk};
-ghost use Rattle.bz_tree.specs.View.{nodes_view, seg_view, segs_view};
+ghost use Rattle.std.specs.Prelude.{◌≡◌, ℕ, List, IfOk, OnOk};
+ghost use Rattle.bz_tree.specs.View.{nodes_view, segs_view};
 ghost use Rattle.bz_attribute.specs.Lists.{parts};
-ghost use Rattle.bz_command.specs.Commands.{Values};
-ghost use Rattle.bz_attribute.specs.Effects.{is_chosen};
 ghost use Rattle.bz_command.specs.LabelSetViews.{Gains, has};
 ghost use Rattle.bz_attribute.specs.private.ElementSets.{is_among, is_in};
 
@@ -44,18 +42,9 @@ fn insert_elements<'s>(elements: &'s [Seg<'_>], set: &mut LabelSet<'s>) -> Resul
     ensures ok { OnOk result (Gains (is_among set.old.home.now (segs_view elements.now)) set.old set.new) }
 {
     for element in elements {
-        insert_element(element, set)?;
-    }
-    Ok(())
-}
-
-fn insert_element<'s>(element: &'s Seg<'_>, set: &mut LabelSet<'s>) -> Result<(), AllocError>
-    ensures home { set.new.home.now ≡ set.old.home.now }
-    ensures ok { OnOk result
-        (Gains (λ text. is_chosen set.old.home.now (Values (text ∷ [])) (seg_view element.now)) set.old set.new) }
-{
-    if let Some(value) = string_of(element) {
-        set.insert(value)?;
+        if let Some(value) = string_of(element) {
+            set.insert(value)?;
+        }
     }
     Ok(())
 }

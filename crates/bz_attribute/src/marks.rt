@@ -1,6 +1,6 @@
 //! Which statements a target marks.
 
-ghost use Rattle.std.specs.Prelude.{◌≡◌, ◌⊎◌, ◌++◌, [], ◌∷◌, bytes_eq, IfSome};
+ghost use Rattle.std.specs.Prelude.{◌≡◌, bytes_eq};
 ghost use Rattle.bz_tree.specs.View.{nodes_view, segs_view, view};
 ghost use Rattle.bz_command.specs.Labels.{Name};
 ghost use Rattle.bz_attribute.specs.Marks as spec;

@@ -57,14 +57,14 @@ fn are_dotted(kind: &[Node<'_>]) -> bool
 pub fn is_sign(node: &Node<'_>, sign: &str) -> bool
     ensures { result ≡ spec.is_sign sign.now (node_view node.now) }
 {
-    matches!(node, Node::Token(leaf) if leaf.kind == Kind::Sign && leaf.text.as_str() == sign)
+    matches!(node, Node::Token(leaf) if matches!(leaf.kind, Kind::Sign) && leaf.text.as_str() == sign)
 }
 
 pub fn ident_of<'n>(node: &'n Node<'_>) -> Option<&'n str>
     ensures { option_map (λ text. text.now) result ≡ spec.ident_of (node_view node.now) }
 {
     match node {
-        Node::Token(leaf) if leaf.kind == Kind::Ident => Some(leaf.text.as_str()),
+        Node::Token(leaf) if matches!(leaf.kind, Kind::Ident) => Some(leaf.text.as_str()),
         _ => None,
     }
 }
@@ -117,7 +117,7 @@ fn text_of<'n>(node: &'n Node<'_>) -> Option<&'n str>
     ensures { option_map (λ text. text.now) result ≡ spec.text_of (node_view node.now) }
 {
     match node {
-        Node::Token(leaf) if leaf.kind == Kind::Text => Some(leaf.text.as_str()),
+        Node::Token(leaf) if matches!(leaf.kind, Kind::Text) => Some(leaf.text.as_str()),
         _ => None,
     }
 }

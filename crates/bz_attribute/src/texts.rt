@@ -2,7 +2,7 @@
 
 ghost use Rattle.std.specs.Prelude.{◌≡◌, ◌++◌, IfOk, OnOk, option_map, string_bytes};
 ghost use Rattle.bz_tree.specs.View.{nodes_view, segs_view, view};
-ghost use Rattle.bz_attribute.specs.Rules.{kind_text, name_in, value_in};
+ghost use Rattle.bz_attribute.specs.Rules.{kind_text, name_in};
 ghost use Rattle.bz_attribute.specs.Texts as spec;
 
 use crate::rule::{name_text, rule_of};

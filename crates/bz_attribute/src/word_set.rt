@@ -1,14 +1,15 @@
 //! The words of a command. Few are compared one by one, many are looked up by hashing.
 
-ghost use Rattle.std.specs.Prelude.{◌≡◌, ℕ, List, true, IfOk, IfSome};
+ghost use Rattle.std.specs.Prelude.{◌≡◌, ℕ, List, IfOk, IfSome, IsTrue};
 ghost use Rattle.std.specs.List.{list_any};
 ghost use Rattle.std.proofs.Props.{props};
 ghost use Rattle.bz_tree.specs.View.{seg_view};
 ghost use Rattle.bz_attribute.specs.Lists.{equals_any, same};
 ghost use Rattle.bz_command.specs.LabelSetViews.{has};
+ghost use Rattle.bz_command.specs.private.ByteSteps.{is_good, left};
 
-use crate::equals::{equals_any, string_of};
-use bz_command::{Bytes, LabelSet, Package, Text};
+use crate::equals::string_of;
+use bz_command::{Bytes, LabelSet, Package, Text, same_label};
 use bz_tree::Seg;
 use std::alloc::{AllocError, Global};
 
@@ -52,12 +53,19 @@ impl<'a> WordSet<'a> {
     pub fn equals_any(&self, home: &Package, element: &Seg<'_>) -> bool
         ensures { result ≡ equals_any home.now self.now.words.now (seg_view element.now) }
     {
+        let Some(value) = string_of(element) else {
+            return false;
+        };
         match &self.labels {
-            Some(labels) if labels.is_of(home) => match string_of(element) {
-                None => false,
-                Some(value) => labels.contains(value),
-            },
-            _ => equals_any(home, element, self.words),
+            Some(labels) if labels.is_of(home) => labels.contains(value),
+            _ => self.words.iter().any(|word| is_label(home, value, word)),
         }
     }
+}
+
+fn is_label(home: &Package, value: Bytes<'_>, word: &Text) -> bool
+    requires { IsTrue (is_good value) }
+    ensures { result ≡ same home.now (left value.entry) word.now }
+{
+    same_label(home, value, Bytes::Plain(word.as_str().as_bytes()))
 }

@@ -1,24 +1,44 @@
-use Rattle.std.proofs.Common.{List, [], ◌∷◌, ◌||◌, ap, sym, ◌∙◌, arith}
+use Rattle.std.proofs.Common.{List, ℕ, [], ◌∷◌, Option, Bool, false, ◌||◌, ap, sym, ◌∙◌, arith}
 use Rattle.std.proofs.lemmas.List.{at_drop_all}
 use Rattle.bz_tree.specs.declared.stmt.Seg.{Seg}
 use Rattle.bz_tree.specs.View.{seg_view, segs_view}
 use Rattle.bz_command.specs.Labels.{Package}
 use Rattle.bz_command.specs.Commands.{Values}
+use Rattle.bz_command.specs.declared.label_set.LabelSet.{LabelSet}
+use Rattle.bz_command.specs.private.ByteSteps.{left}
 use Rattle.bz_attribute.specs.Effects.{is_chosen}
+use Rattle.bz_attribute.specs.Lists.{same, same_value}
 use Rattle.bz_command.specs.LabelSetViews.{has}
 use Rattle.bz_attribute.specs.private.ElementSets.{is_among}
-use Rattle.bz_attribute.proofs.LabelSets.{element_step}
+use Rattle.bz_attribute.proofs.LabelSets.{element_step, or_false, same_back}
 use Rattle.bz_attribute.proofs.list_labels.insert_elements.Goals as goal
+use Rattle.bz_attribute.proofs.list_labels.insert_elements.Goals.{in-Some+in_ok-insert, in_default}
 
 pub loop-element-preserved : goal.loop-element-preserved
-loop-element-preserved c = record {
-  home = c.in_ok-insert_element.ensures.home ∙ c.loop-element.invariant.home;
-  same = λ text.
-      element_step (is_chosen c.args.set.now.home.now (Values (text ∷ []))) c.args.elements.now c.loop-element.element-index c.element-item.result _ (has c.loop-element.set text) (has c.insert_element.new.set text)
-      (omega (arith, c.loop-element-test.true)) c.element-item.is
-      (c.in_ok-insert_element.ensures.ok text ∙ ap (λ (home : Package). is_chosen home (Values (text ∷ [])) (seg_view c.element-item.result) || has c.loop-element.set text) c.loop-element.invariant.home)
-      ∙ c.loop-element.invariant.same text;
-}
+loop-element-preserved c =
+    elim c.match-string_of.branch [
+      | in-Some+in_ok-insert w ↦ record {
+        home = ap (λ (s : LabelSet). s.home.now) w.set-is ∙ w.in_ok-insert.ensures.home ∙ c.loop-element.invariant.home;
+        same = λ text.
+            let home = c.loop-element.set.home.now in
+            let value = left w.in-Some.value in
+            element_step (is_chosen c.args.set.now.home.now (Values (text ∷ []))) c.args.elements.now c.loop-element.element-index c.element-item.result _ (has c.loop-element.set text) (has c.match-string_of.set text)
+            (omega (arith, c.loop-element-test.true)) c.element-item.is
+            (ap (λ (s : LabelSet). has s text) w.set-is
+            ∙ w.in_ok-insert.ensures.ok text
+            ∙ ap (λ (z : Bool). z || has c.loop-element.set text) (same_back home text value ∙ sym (or_false (same home value text)) ∙ ap (λ (z : Option (List ℕ)). same_value home text z || false) (sym w.in-Some.ensures.some))
+            ∙ ap (λ (p : Package). is_chosen p (Values (text ∷ [])) (seg_view c.element-item.result) || has c.loop-element.set text) c.loop-element.invariant.home)
+            ∙ c.loop-element.invariant.same text;
+      }
+      | in_default w ↦ record {
+        home = ap (λ (s : LabelSet). s.home.now) w.set-is ∙ c.loop-element.invariant.home;
+        same = λ text.
+            element_step (is_chosen c.args.set.now.home.now (Values (text ∷ []))) c.args.elements.now c.loop-element.element-index c.element-item.result _ (has c.loop-element.set text) (has c.match-string_of.set text)
+            (omega (arith, c.loop-element-test.true)) c.element-item.is
+            (ap (λ (s : LabelSet). has s text) w.set-is ∙ ap (λ (z : Option (List ℕ)). (same_value c.args.set.now.home.now text z || false) || has c.loop-element.set text) (sym w.in_default.ensures.none))
+            ∙ c.loop-element.invariant.same text;
+      }
+    ]
 
 pub returns-clause-ok : goal.returns-clause-ok
 returns-clause-ok c = λ text.

@@ -1,4 +1,4 @@
-use Rattle.std.proofs.Common.{◌≡◌, List, ℕ, Option, Some, None, true, bytes_eq, arith, rules, sym, ap, ◌∙◌}
+use Rattle.std.proofs.Common.{◌≡◌, List, ℕ, Option, Some, None, true, bytes_eq, rules, sym, ap, ◌∙◌}
 use Rattle.std.proofs.lemmas.Slice.Eq.{bytes_eq-Decides}
 use Rattle.bz_tree.specs.View.{segs_view}
 use Rattle.bz_command.specs.Values.{value_of}
@@ -14,5 +14,5 @@ same_text name inner (Some w) h =
 
 pub returns-in-Some-inner_of : goal.returns-in-Some-inner_of
 returns-in-Some-inner_of c = λ name.
-    let met : is_value c.in-Some-inner_of.inner.now (value_of c.in-Some.text.now) ≡ true = grind (arith, c.has_value.ensures, c.if-has_value.true, c.as_bytes.ensures.value, c.as_bytes-in-Some-inner_of.ensures.value) in
+    let met : is_value c.in-Some-inner_of.inner.now (value_of c.in-Some.text.now) ≡ true = search rules in
     same_text name c.in-Some-inner_of.inner.now (name_in (segs_view c.args.args.now)) (ap (is_value c.in-Some-inner_of.inner.now) (sym c.in-Some.ensures) ∙ met)
