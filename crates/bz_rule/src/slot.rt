@@ -59,22 +59,10 @@ fn carry_out(
 {
     match action {
         Action::Delete => Ok(delete(slot)),
-        Action::Set(Setting::ToKind(kind)) => {
-            let done = set_kind(alloc, kind.as_str(), slot)?;
-            Ok(done)
-        }
-        Action::Comment(Commented::Rule, text) => {
-            let done = comment_rule(alloc, text.as_str(), slot)?;
-            Ok(done)
-        }
-        Action::Print(fields) => {
-            let done = print(alloc, home, fields.as_slice(), slot)?;
-            Ok(done)
-        }
-        _ => {
-            let done = on_args(alloc, action, home, slot)?;
-            Ok(done)
-        }
+        Action::Set(Setting::ToKind(kind)) => set_kind(alloc, kind.as_str(), slot),
+        Action::Comment(Commented::Rule, text) => comment_rule(alloc, text.as_str(), slot),
+        Action::Print(fields) => print(alloc, home, fields.as_slice(), slot),
+        _ => on_args(alloc, action, home, slot),
     }
 }
 
@@ -93,19 +81,7 @@ fn delete(slot: &mut Option<Stmt<'_>>) -> Done
 fn holds_rule(slot: &Option<Stmt<'_>>) -> bool
     ensures { result ≡ spec.holds_rule (slot_view slot.now) }
 {
-    match slot {
-        None => false,
-        Some(stmt) => is_rule(&stmt.nodes),
-    }
-}
-
-fn is_rule(nodes: &[Node<'_>]) -> bool
-    ensures { result ≡ is_some (rule_of (nodes_view nodes.now)) }
-{
-    match call_at(nodes) {
-        None => false,
-        Some(_) => true,
-    }
+    matches!(slot, Some(stmt) if call_at(&stmt.nodes).is_some())
 }
 
 // Edits the arguments of a rule in a slot, and nothing else.
@@ -126,31 +102,8 @@ fn on_args(
 {
     match slot {
         None => Ok(Done::quiet(false)),
-        Some(stmt) => {
-            let done = in_statement(alloc, action, home, stmt)?;
-            Ok(done)
-        }
+        Some(stmt) => in_nodes(alloc, action, home, &mut stmt.nodes),
     }
-}
-
-fn in_statement(
-    alloc: Global,
-    action: &Action,
-    home: &Package,
-    stmt: &mut Stmt<'_>,
-) -> Result<Done, AllocError>
-    requires { IsTrue (commands.is_command (command_view action.now)) }
-    ensures stmt { OnOk result
-        (view stmt.new ≡ spec.with_args (applied.args_after (command_view action.now) home.now) (view stmt.old)) }
-    ensures done { IfOk result
-        (λ done. done
-        ≡ spec.done_in (applied.args_done (command_view action.now) home.now)
-        (rule_of (nodes_view stmt.old.nodes.items))) }
-    ensures no_rule { rule_of (nodes_view stmt.old.nodes.items) ≡ None → IsOk result }
-    ensures err { OnErr result (view stmt.new ≡ view stmt.old) }
-{
-    let done = in_nodes(alloc, action, home, &mut stmt.nodes)?;
-    Ok(done)
 }
 
 fn in_nodes(
@@ -172,8 +125,7 @@ fn in_nodes(
     let Some(call) = call_at(nodes) else {
         return Ok(Done::quiet(false));
     };
-    let done = in_call(alloc, action, home, &mut nodes[call])?;
-    Ok(done)
+    in_call(alloc, action, home, &mut nodes[call])
 }
 
 fn in_call(
