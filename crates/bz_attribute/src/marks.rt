@@ -7,7 +7,7 @@ ghost use Rattle.bz_attribute.specs.Marks as spec;
 ghost use Rattle.bz_attribute.specs.Rules.{is_text, name_in, kind_text};
 
 use crate::rule::{name_text, rule_of};
-use bz_command::{Marked, Target, has_value};
+use bz_command::{Marked, Target, has_value, plain_text};
 use bz_tree::{Node, Seg, Stmt};
 
 /// The target marks the statement: it is a rule that has the name, the kind or the first line that is meant.
@@ -59,17 +59,9 @@ fn name_among<'s>(args: &'s [Seg<'_>]) -> RuleName<'s>
     let Some(text) = name_text(args) else {
         return RuleName::NoName;
     };
-    match inner_of(text) {
-        Some(inner) if has_value(text.as_bytes(), inner.as_bytes()) => RuleName::Plain(inner),
-        _ => RuleName::Other,
-    }
-}
-
-/// What stands between the quotes of a literal.
-fn inner_of(literal: &str) -> Option<&str> {
-    match literal.strip_prefix('"') {
-        Some(rest) => rest.strip_suffix('"'),
-        None => literal.strip_prefix('\'')?.strip_suffix('\''),
+    match plain_text(text) {
+        Some(name) => RuleName::Plain(name),
+        None => RuleName::Other,
     }
 }
 
