@@ -1,46 +1,26 @@
 -- Words with a space between them, and the first field that is missing.
-use Rattle.std.proofs.Common.{◌≡◌, ℕ, suc, ◌+◌, ◌-◌, ◌<◌, ◌≤◌, List, [], ◌∷◌, ◌++◌, true, false, Option, Some, None, map, option_map, length, get_or, take, drop, refl, ap, sym, ◌∙◌, arith, append-nil, append_assoc, add-one, drop-cons, is_some, if◌then◌else◌}
+use Rattle.std.proofs.Common.{◌≡◌, ℕ, suc, ◌+◌, ◌<◌, List, [], ◌∷◌, ◌++◌, true, false, Option, Some, None, map, option_map, length, get_or, drop, refl, ap, append-nil, append_assoc, add-one, drop-cons, is_some, if◌then◌else◌}
 use Rattle.std.specs.Option.{option_or}
-use Rattle.std.proofs.lemmas.List.{take_all}
 use Rattle.bz_tree.specs.Tree.{Statement}
-use Rattle.bz_tree.specs.declared.stmt.Seg.{Seg}
-use Rattle.bz_tree.specs.View.{seg_view, segs_view}
 use Rattle.bz_command.specs.Labels.{Package}
 use Rattle.bz_command.specs.Commands.{Field}
 use Rattle.bz_attribute.specs.Rules.{Rule}
 use Rattle.bz_attribute.specs.Effects.{first_note}
 use Rattle.bz_attribute_commands.specs.Printing.{spaced, missing, field_text, field_name}
-use Rattle.bz_attribute_commands.specs.private.PrintSteps.{element_word, spaced_after}
+use Rattle.bz_attribute_commands.specs.private.PrintSteps.{spaced_from}
 use Rattle.bz_attribute.specs.declared.done.Note.{Note}
 use Rattle.bz_attribute.specs.declared.done.Note.TheVariants.{Missing}
 
-spaced_first : (word : List ℕ) (words : List (List ℕ)) → spaced (word ∷ words) ≡ word ++ spaced_after words
-spaced_first word [] = sym (append-nil word)
-spaced_first word (other ∷ words) = ap (λ (z : List ℕ). word ++ 32 ∷ z) (spaced_first other words)
+pub spaced_all : (words : List (List ℕ)) → spaced_from [] words ≡ spaced words
+spaced_all [] = refl
+spaced_all (word ∷ []) = append-nil word
+spaced_all (word ∷ other ∷ words) = ap (λ (z : List ℕ). word ++ 32 ∷ z) (spaced_all (other ∷ words))
 
--- the first word is written
-pub first_word : (old new word : List ℕ) (words : List (List ℕ)) → old ≡ [] → new ≡ old ++ word → new ++ spaced_after words ≡ spaced (word ∷ words)
-first_word old new word words empty pushed = rw (pushed, empty) (sym (spaced_first word words))
-
--- a space and the next one
-pub next_word : {X Y : Type 0} (f : Y → List ℕ) (g : X → Y) (xs : List X) (x : X) (i : ℕ) (old mid new : List ℕ) → i < length xs → x ≡ get_or xs i x → mid ≡ old ++ 32 ∷ [] → new ≡ mid ++ f (g x)
-    → new ++ spaced_after (map f (map g (drop (i + 1) xs))) ≡ old ++ spaced_after (map f (map g (drop i xs)))
-next_word f g xs x i old mid new h is space pushed =
-    rw (pushed, space, drop-cons xs i x, ← is, add-one, append_assoc, append_assoc) refl
-
-first_and_others : (es : List Seg) (e : Seg) → 1 ≤ length es → e ≡ get_or es 0 e → es ≡ e ∷ take (length es - 1) (drop 1 es)
-first_and_others [] e some is = absurd (omega arith)
-first_and_others (x ∷ es) e some is =
-    ap (λ (z : Seg). z ∷ es) (sym is) ∙ ap (λ (zs : List Seg). e ∷ zs) (sym (take_all (length (x ∷ es) - 1) es (omega arith)))
-
-pub first_element : (old new : List ℕ) (es : List Seg) (e : Seg) → 1 ≤ length es → e ≡ get_or es 0 e → new ≡ old ++ element_word (seg_view e)
-    → new ++ spaced_after (map element_word (segs_view (take (length es - 1) (drop 1 es)))) ≡ old ++ spaced (map element_word (segs_view es))
-first_element old new es e some is pushed =
-    let others : List Seg = take (length es - 1) (drop 1 es) in
-    ap (λ (z : List ℕ). z ++ spaced_after (map element_word (segs_view others))) pushed
-    ∙ append_assoc old (element_word (seg_view e)) (spaced_after (map element_word (segs_view others)))
-    ∙ ap (λ (z : List ℕ). old ++ z) (sym (spaced_first (element_word (seg_view e)) (map element_word (segs_view others))))
-    ∙ ap (λ (z : List Seg). old ++ spaced (map element_word (segs_view z))) (sym (first_and_others es e some is))
+-- what stands before a word, and the word
+pub next_word : {X Y : Type 0} (f : Y → List ℕ) (g : X → Y) (xs : List X) (x : X) (i : ℕ) (old mid new space : List ℕ) → i < length xs → x ≡ get_or xs i x → mid ≡ old ++ space → new ≡ mid ++ f (g x)
+    → new ++ spaced_from (32 ∷ []) (map f (map g (drop (i + 1) xs))) ≡ old ++ spaced_from space (map f (map g (drop i xs)))
+next_word f g xs x i old mid new space h is before pushed =
+    rw (pushed, before, drop-cons xs i x, ← is, add-one, append_assoc, append_assoc) refl
 
 -- the note of the first field, and else that of the others
 note_first : (home : Package) (s : Statement) (r : Rule) (field : Field) (fields : List Field)
@@ -50,7 +30,7 @@ note_first home s r field fields =
     first_note (if b then None else Some (Missing (field_name field))) (missing home s r fields) ≡ (if b then missing home s r fields else Some (Missing (field_name field))))
     [ true ↦ refl | false ↦ refl ]
 
-pub first_missing : (told : Option Note) (home : Package) (s : Statement) (r : Rule) (field : Field) (fields : List Field)
+first_missing : (told : Option Note) (home : Package) (s : Statement) (r : Rule) (field : Field) (fields : List Field)
     → told ≡ missing home s r (field ∷ []) → first_note told (missing home s r fields) ≡ missing home s r (field ∷ fields)
 first_missing told home s r field fields is = rw is (note_first home s r field fields)
 

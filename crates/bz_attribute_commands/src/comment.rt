@@ -1,7 +1,7 @@
 //! `comment`: a line above a rule, an argument or an element.
 
 ghost use Rattle.std.specs.Prelude.{◌≡◌, ◌++◌, ◌∷◌, [], false, string_bytes, option_map, IfOk, IfSome, IfNone, IsOk, OnOk, OnErr, None, true};
-ghost use Rattle.std.specs.List.{list_any, position_or_len};
+ghost use Rattle.std.specs.List.{list_any};
 ghost use Rattle.bz_tree.specs.View.{node_view, nodes_view, segs_view, slot_view, texts};
 ghost use Rattle.bz_command.specs.CommandViews.{commented_view};
 ghost use Rattle.bz_attribute.specs.Lists.{edit_list, equals, parts};

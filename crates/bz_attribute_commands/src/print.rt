@@ -41,7 +41,7 @@ pub fn print(
     };
     match fields {
         [] => print_name_and_kind(alloc, rule),
-        [first, others @ ..] => print_fields(alloc, home, stmt, rule, first, others),
+        [_, ..] => print_fields(alloc, home, fields, stmt, rule),
     }
 }
 
@@ -59,20 +59,20 @@ fn print_name_and_kind(alloc: Global, rule: Rule<'_, '_>) -> Result<Done, AllocE
 fn print_fields(
     alloc: Global,
     home: &Package,
+    fields: &[Field],
     stmt: &Stmt<'_>,
     rule: Rule<'_, '_>,
-    first: &Field,
-    others: &[Field],
 ) -> Result<Done, AllocError>
-    ensures { IfOk result (λ done. done ≡ spec.printed home.now (view stmt.now) (rule_view rule.entry)
-        (field_view first.now ∷ map field_view others.now)) }
+    ensures { IfOk result
+        (λ done. done ≡ spec.printed home.now (view stmt.now) (rule_view rule.entry) (map field_view fields.now)) }
 {
     let mut line = String::new(alloc);
-    let mut missing = push_field(alloc, &mut line, home, stmt, rule, first)?;
-    for field in others {
-        line.push(' ')?;
-        let other = push_field(alloc, &mut line, home, stmt, rule, field)?;
-        missing = missing.or(other);
+    let mut missing = None;
+    let mut space = "";
+    for field in fields {
+        line.push_str(space)?;
+        missing = missing.or(push_field(alloc, &mut line, home, stmt, rule, field)?);
+        space = " ";
     }
     printed(alloc, line, missing)
 }
@@ -213,13 +213,11 @@ fn push_elements(alloc: Global, text: &mut String, elements: &[Seg<'_>]) -> Resu
     ensures { OnOk result
         (string_bytes text.new ≡ string_bytes text.old ++ spec.spaced (map element_word (segs_view elements.now))) }
 {
-    let [first, others @ ..] = elements else {
-        return Ok(());
-    };
-    push_element(alloc, text, first)?;
-    for element in others {
-        text.push(' ')?;
+    let mut space = "";
+    for element in elements {
+        text.push_str(space)?;
         push_element(alloc, text, element)?;
+        space = " ";
     }
     Ok(())
 }

@@ -1,7 +1,6 @@
 //! `set` and `set_if_absent`: an attribute gets a value.
 
 ghost use Rattle.std.specs.Prelude.{◌≡◌, ◌++◌, ◌∷◌, [], None, Some, not, true, false, IfOk, IsOk, OnOk, OnErr};
-ghost use Rattle.std.specs.List.{list_all};
 ghost use Rattle.bz_tree.specs.View.{node_view, nodes_view, seg_view, segs_view};
 ghost use Rattle.bz_attribute.specs.Rules.{first_named, is_text, string_value};
 ghost use Rattle.bz_attribute.specs.Lists.{with_value};
@@ -16,7 +15,7 @@ use bz_attribute::make::{argument, list, literal, strings, token};
 use bz_attribute::rule::{ident_of, only_text, value_of};
 use bz_command::{Text, has_value};
 use bz_token::Kind;
-use bz_tree::{Leaf, Node, Seg};
+use bz_tree::{Node, Seg};
 use std::alloc::{AllocError, Global};
 
 /// What an attribute is set to.
@@ -187,13 +186,8 @@ fn is_int(digits: &str, node: &Node<'_>) -> bool
     ensures { result ≡ spec.is_int digits.now (node_view node.now) }
 {
     match node {
-        Node::Token(
-            Leaf {
-                kind: Kind::Int,
-                text,
-            },
-        ) => text.as_str() == digits,
-        _ => false,
+        Node::Token(leaf) => leaf.kind == Kind::Int && leaf.text.as_str() == digits,
+        Node::Group(_) => false,
     }
 }
 

@@ -30,7 +30,7 @@ name_and_kind r = line_with (shown_field (attribute_in (codes "name") r.args) ++
 abbrev pub element_word : Segment → List ℕ
 element_word s = word_of (string_value s.nodes)
 
--- words after another one, each with a space before it
-abbrev pub spaced_after : List (List ℕ) → List ℕ
-spaced_after [] = []
-spaced_after (word ∷ words) = 32 ∷ (word ++ spaced_after words)
+-- words one after another, with this before the first and a space before each other
+abbrev pub spaced_from : List ℕ → List (List ℕ) → List ℕ
+spaced_from space [] = []
+spaced_from space (word ∷ words) = space ++ (word ++ spaced_from (32 ∷ []) words)

@@ -1,6 +1,20 @@
-use Rattle.std.proofs.Common.{string_bytes}
-use Rattle.bz_attribute_commands.proofs.Printed.{first_element}
+use Rattle.std.proofs.Common.{rules, ◌∙◌, map, string_bytes, ap, ◌++◌, List, ℕ}
+use Rattle.bz_tree.specs.View.{seg_view, segs_view}
+use Rattle.bz_attribute_commands.specs.private.PrintSteps.{element_word}
+use Rattle.bz_attribute_commands.proofs.Printed.{spaced_all, next_word}
 use Rattle.bz_attribute_commands.proofs.print.push_elements.Goals as goal
 
 pub loop-element-init : goal.loop-element-init
-loop-element-init c = first_element (string_bytes c.args.text.now) (string_bytes c.push_element.new.text) c.args.elements.now c.first-item.result c.in-len1-up.len_at_least c.first-item.is c.in_ok-push_element.ensures
+loop-element-init c = record {
+  utf8 = search rules;
+  written = ap (λ (z : List ℕ). string_bytes c.args.text.now ++ z) (spaced_all (map element_word (segs_view c.args.elements.now)));
+}
+
+pub loop-element-preserved : goal.loop-element-preserved
+loop-element-preserved c = record {
+  utf8 = search rules;
+  written =
+      next_word element_word seg_view c.args.elements.now c.element-item.result c.loop-element.element-index _ _ _ c.loop-element.space.now c.loop-element-test.true c.element-item.is
+      c.in_ok-push_str.ensures.bytes c.in_ok-push_element.ensures
+      ∙ c.loop-element.invariant.written;
+}
