@@ -1,16 +1,17 @@
 //! The walk forwards over the parts of a statement, which writes them.
 
-ghost use Rattle.std.specs.Prelude.{◌≡◌, ℕ, List, OnOk, map, reverse};
+ghost use Rattle.std.specs.Prelude.{◌≡◌, ◌++◌, ℕ, List, OnOk, map, reverse};
 ghost use Rattle.bz_tree.specs.Rows.{part_view};
 ghost use Rattle.bz_layout.specs.declared.spacing.Gap.TheVariants.{Apart, Line};
 ghost use Rattle.bz_layout.specs.private.Kept.{IsBegunBy};
-ghost use Rattle.bz_layout.specs.private.RowLayout.{top, first_gap, has_notes, start, with_token, opened, closed_by, is_last, ended, put_note, step, run, laid};
+ghost use Rattle.bz_layout.specs.Pieces.{gap_bytes};
+ghost use Rattle.bz_layout.specs.private.RowLayout.{gap_for, top, first_gap, has_notes, start, with_token, opened, closed_by, is_last, ended, put_note, step, run, laid};
 
 use crate::marks::Mark;
 use crate::respell::put_written;
 use crate::sink::Sink;
-use crate::spacing::{Edge, Gap, gap_for, hugs, token_closes_up, token_edge};
-use crate::write::{closing, opening, put, put_gap};
+use crate::spacing::{Edge, Gap, hugs, token_closes_up, token_edge};
+use crate::write::{closing, opening, put, put_new_line};
 use bz_token::Kind;
 use bz_tree::{GroupKind, Part};
 use std::alloc::{AllocError, Global};
@@ -65,20 +66,6 @@ impl Frame {
         }
     }
 
-    // The gap before the first node of a segment.
-    #[inline(always)]
-    fn first(self, level: usize) -> Gap
-        ensures { result ≡ first_gap self level }
-    {
-        if self.mark.broken {
-            Gap::Line(level)
-        } else if self.later {
-            Gap::Space
-        } else {
-            Gap::Closed
-        }
-    }
-
     // In place stand no comments, but at the top.
     #[inline(always)]
     fn has_notes(self) -> bool
@@ -102,28 +89,78 @@ impl Walk {
         }
     }
 
+    // The gap before the first node of a segment.
     #[inline(always)]
-    fn token<T: Sink>(&mut self, kind: Kind, text: &str, out: &mut T) -> Result<(), AllocError>
-        ensures laid { OnOk result (laid self.new (T.bytes out.new) ≡ with_token kind text.now (laid self.old (T.bytes out.old))) }
+    fn put_first<T: Sink>(&self, out: &mut T) -> Result<(), AllocError>
+        ensures ok { OnOk result
+            (T.bytes out.new ≡ T.bytes out.old ++ gap_bytes (first_gap self.now.here self.now.level)) }
         ensures begun { IsBegunBy (T.bytes out.old) (T.bytes out.new) }
     {
-        let gap = gap_for(
-            self.here.first(self.level),
-            self.left,
-            token_closes_up(kind, text),
-        );
-        put_gap(gap, out)?;
+        if self.here.mark.broken {
+            put_new_line(self.level, out)
+        } else if self.here.later {
+            out.put(" ")
+        } else {
+            Ok(())
+        }
+    }
+
+    // The gap before what closes up or does not.
+    #[inline(always)]
+    fn put_gap<T: Sink>(&self, closes: bool, out: &mut T) -> Result<(), AllocError>
+        ensures ok { OnOk result (T.bytes out.new ≡ T.bytes out.old
+            ++ gap_bytes (gap_for (first_gap self.now.here self.now.level) self.now.left closes)) }
+        ensures begun { IsBegunBy (T.bytes out.old) (T.bytes out.new) }
+    {
+        match self.left {
+            Edge::Start => self.put_first(out),
+            Edge::Joined | Edge::Dotted => Ok(()),
+            Edge::Operator | Edge::Operand => { if closes { Ok(()) } else { out.put(" ") } }
+        }
+    }
+
+    #[inline(always)]
+    fn put_token<T: Sink>(&mut self, kind: Kind, text: &str, out: &mut T) -> Result<(), AllocError>
+        ensures laid { OnOk result
+            (laid self.new (T.bytes out.new) ≡ with_token kind text.now (laid self.old (T.bytes out.old))) }
+        ensures begun { IsBegunBy (T.bytes out.old) (T.bytes out.new) }
+    {
+        self.put_gap(token_closes_up(kind, text), out)?;
         put_written(kind, text, out)?;
         self.left = token_edge(self.here.within, self.left, kind, text);
         Ok(())
+    }
+
+    #[inline(never)]
+    fn put_rarer<T: Sink>(&mut self, kind: Kind, text: &str, out: &mut T) -> Result<(), AllocError>
+        ensures laid { OnOk result
+            (laid self.new (T.bytes out.new) ≡ with_token kind text.now (laid self.old (T.bytes out.old))) }
+        ensures begun { IsBegunBy (T.bytes out.old) (T.bytes out.new) }
+    {
+        self.put_token(kind, text, out)
+    }
+
+    // The tokens that most statements are made of are told apart once.
+    #[inline(always)]
+    fn token<T: Sink>(&mut self, kind: Kind, text: &str, out: &mut T) -> Result<(), AllocError>
+        ensures laid { OnOk result
+            (laid self.new (T.bytes out.new) ≡ with_token kind text.now (laid self.old (T.bytes out.old))) }
+        ensures begun { IsBegunBy (T.bytes out.old) (T.bytes out.new) }
+    {
+        match kind {
+            Kind::Ident => self.put_token(Kind::Ident, text, out),
+            Kind::Text => self.put_token(Kind::Text, text, out),
+            Kind::Sign if text == "=" => self.put_token(Kind::Sign, "=", out),
+            _ => self.put_rarer(kind, text, out),
+        }
     }
 
     fn open<T: Sink>(&mut self, kind: GroupKind, out: &mut T) -> Result<(), AllocError>
         ensures laid { OnOk result (laid self.new (T.bytes out.new) ≡ opened kind (laid self.old (T.bytes out.old))) }
         ensures begun { IsBegunBy (T.bytes out.old) (T.bytes out.new) }
     {
-        let gap = gap_for(self.here.first(self.level), self.left, hugs(kind));
-        put(gap, opening(kind), out)?;
+        self.put_gap(hugs(kind), out)?;
+        out.put(opening(kind))?;
         self.outer.push(self.here)?;
         let mark = match self.marks.pop() {
             Some(mark) => mark,
@@ -151,7 +188,7 @@ impl Walk {
     {
         if self.here.mark.broken {
             self.level = self.level.saturating_sub(1);
-            put_gap(Gap::Line(self.level), out)?;
+            put_new_line(self.level, out)?;
         } else if one_comma {
             out.put(",")?;
         }
@@ -184,7 +221,6 @@ impl Walk {
         Ok(())
     }
 
-    #[inline(always)]
     fn note<T: Sink>(&mut self, gap: Gap, text: &str, out: &mut T) -> Result<(), AllocError>
         ensures laid { OnOk result (laid self.new (T.bytes out.new) ≡ put_note gap text.now (laid self.old (T.bytes out.old))) }
         ensures begun { IsBegunBy (T.bytes out.old) (T.bytes out.new) }
@@ -198,15 +234,15 @@ impl Walk {
     #[inline(always)]
     fn step<T: Sink>(
         &mut self,
-        part: Part<'_>,
+        part: &Part<'_>,
         rest: &[Part<'_>],
         out: &mut T,
     ) -> Result<(), AllocError>
         ensures laid { OnOk result
-            (laid self.new (T.bytes out.new) ≡ step (part_view part.entry) (map part_view rest.now) (laid self.old (T.bytes out.old))) }
+            (laid self.new (T.bytes out.new) ≡ step (part_view part.now) (map part_view rest.now) (laid self.old (T.bytes out.old))) }
         ensures begun { IsBegunBy (T.bytes out.old) (T.bytes out.new) }
     {
-        match part {
+        match *part {
             Part::Token(kind, text) => self.token(kind, text, out),
             Part::Open(kind) => self.open(kind, out),
             Part::Close(one_comma) => self.close(one_comma, out),
@@ -220,8 +256,10 @@ impl Walk {
         ensures laid { OnOk result (laid self.new (T.bytes out.new) ≡ run (map part_view parts.now) (laid self.old (T.bytes out.old))) }
         ensures begun { IsBegunBy (T.bytes out.old) (T.bytes out.new) }
     {
-        for i in 0..parts.len() {
-            self.step(parts[i], &parts[i + 1..], out)?;
+        let mut rest = parts;
+        while let [part, after @ ..] = rest {
+            self.step(part, after, out)?;
+            rest = after;
         }
         Ok(())
     }
