@@ -87,15 +87,15 @@ comments = refl
 row_parts : parts_of commented ≡ above (codes "# top") ∷ a_token Ident (codes "x") ∷ a_token Sign (codes "=") ∷ opening ListKind ∷ above (codes "# a") ∷ a_token Int (codes "1") ∷ segment_end ∷ beside (codes "# b") ∷ above (codes "# c") ∷ closing false ∷ beside (codes "# d") ∷ []
 row_parts = refl
 
-row_places : row_text (parts_of commented) Assign ≡ codes "# top\nx = [\n    # a\n    1,  # b\n    # c\n]  # d\n"
+row_places : row_text [] (parts_of commented) Assign ≡ codes "# top\nx = [\n    # a\n    1,  # b\n    # c\n]  # d\n"
 row_places = refl
 
 -- `f((1,), [2, -b])`: the tuple stays in place
-row_nested : row_text (a_token Ident (codes "f") ∷ opening RuleCall ∷ opening Paren ∷ a_token Int (codes "1") ∷ segment_end ∷ closing true ∷ segment_end ∷ opening ListKind ∷ a_token Int (codes "2") ∷ segment_end ∷ a_token Sign (codes "-") ∷ a_token Ident (codes "b") ∷ segment_end ∷ closing false ∷ segment_end ∷ closing false ∷ []) Rule ≡ codes "f(\n    (1,),\n    [\n        2,\n        -b,\n    ],\n)\n"
+row_nested : row_text [] (a_token Ident (codes "f") ∷ opening RuleCall ∷ opening Paren ∷ a_token Int (codes "1") ∷ segment_end ∷ closing true ∷ segment_end ∷ opening ListKind ∷ a_token Int (codes "2") ∷ segment_end ∷ a_token Sign (codes "-") ∷ a_token Ident (codes "b") ∷ segment_end ∷ closing false ∷ segment_end ∷ closing false ∷ []) Rule ≡ codes "f(\n    (1,),\n    [\n        2,\n        -b,\n    ],\n)\n"
 row_nested = refl
 
-row_in_place : row_text (a_token Ident (codes "x") ∷ a_token Sign (codes "=") ∷ a_token Ident (codes "f") ∷ opening Call ∷ a_token Int (codes "1") ∷ segment_end ∷ a_token Ident (codes "k") ∷ a_token Sign (codes "=") ∷ a_token Text (codes "'v'") ∷ segment_end ∷ closing false ∷ []) Assign ≡ codes "x = f(1, k = \"v\")\n"
+row_in_place : row_text [] (a_token Ident (codes "x") ∷ a_token Sign (codes "=") ∷ a_token Ident (codes "f") ∷ opening Call ∷ a_token Int (codes "1") ∷ segment_end ∷ a_token Ident (codes "k") ∷ a_token Sign (codes "=") ∷ a_token Text (codes "'v'") ∷ segment_end ∷ closing false ∷ []) Assign ≡ codes "x = f(1, k = \"v\")\n"
 row_in_place = refl
 
-row_comments : row_text (above (codes "# a") ∷ above (codes "# b") ∷ []) Comment ≡ codes "# a\n# b\n"
+row_comments : row_text [] (above (codes "# a") ∷ above (codes "# b") ∷ []) Comment ≡ codes "# a\n# b\n"
 row_comments = refl

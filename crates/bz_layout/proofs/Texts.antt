@@ -55,18 +55,20 @@ line_is t s =
     let written = ap (λ (l : Laid). l.text) (run_items Broken xs (beside_part s.suffix) t [] [] (top None) Start 0) ∙ beside_text s.suffix (t ++ bytes_of a) [] [] (last_edge None Start xs) 0 in
     rw (marks_are xs s.suffix) (ap (λ (u : List ℕ). u ++ codes "\n") written ∙ line_joined t a (suffix_piece s.suffix))
 
-pub parts_laid : (s : Statement) → row_text (parts_of s) s.class ≡ layout_text s
-parts_laid s =
+pub parts_laid : (t : List ℕ) (s : Statement) → row_text t (parts_of s) s.class ≡ t ++ layout_text s
+parts_laid t s =
     let none = no_leading (items_of s.nodes) s.suffix in
     let notes : leading (parts_of s) ≡ s.before = leads s.before (rest_of s) none.0 in
     let rest : after_leading (parts_of s) ≡ rest_of s = follows s.before (rest_of s) none.1 in
     rw (notes, rest) (elim (cases_Bool (is_comment s.class)) [
       | inl hit ↦ rw (hit, append-nil (comment_lines s.before)) refl
-      | inr miss ↦ rw (miss, bytes_append (comment_lines s.before) (statement_line s)) (line_is (bytes_of (comment_lines s.before)) s)
+      | inr miss ↦
+          let above = bytes_of (comment_lines s.before) in
+          rw (miss, bytes_append (comment_lines s.before) (statement_line s)) (line_is (t ++ above) s ∙ append_assoc t above (bytes_of (statement_line s)))
     ])
 
-pub is_layout : (s : Statement) (row : Row) → IsRowOf s row → row_text (map part_view row.parts.items) row.class ≡ layout_text s
-is_layout s row is = rw (is.parts, is.class) (parts_laid s)
+pub is_layout : (t : List ℕ) (s : Statement) (row : Row) → IsRowOf s row → row_text t (map part_view row.parts.items) row.class ≡ t ++ layout_text s
+is_layout t s row is = rw (is.parts, is.class) (parts_laid t s)
 
 -- with no marks all brackets stand in place
 pub flat_laid : (within : Option GroupKind) (xs : List Item) → (run (items_parts (items_of xs)) (start [] [] within)).text ≡ flat_text within xs

@@ -19,8 +19,8 @@ pub fn flat(
 {
     let mut parts = Vec::new(alloc);
     push_nodes(nodes, &mut parts)?;
-    let mut walk = Walk::new(alloc, String::new(alloc), Vec::new(alloc), in_group);
-    walk.run(&parts)?;
-    let Walk { text, .. } = walk;
+    let mut text = String::new(alloc);
+    let mut walk = Walk::new(alloc, Vec::new(alloc), in_group);
+    walk.run(&parts, &mut text)?;
     Ok(text)
 }

@@ -24,6 +24,7 @@ pub mod laws;
 mod marks;
 mod respell;
 mod row;
+mod sink;
 mod spacing;
 mod walk;
 mod write;

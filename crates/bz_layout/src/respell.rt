@@ -1,9 +1,11 @@
 //! How a string is written.
 
-ghost use Rattle.std.specs.Prelude.{◌≡◌, ◌++◌, ◌∷◌, [], List, ℕ, true, false, IfSome, IfNone, OnOk, string_bytes};
+ghost use Rattle.std.specs.Prelude.{◌≡◌, ◌++◌, ◌∷◌, [], List, ℕ, true, false, IfSome, IfNone, OnOk};
 ghost use Rattle.std.specs.List.{list_all};
 ghost use Rattle.bz_layout.specs.Respell.{is_plain, respell};
+ghost use Rattle.bz_layout.specs.private.Kept.{IsBegunBy};
 
+use crate::sink::Sink;
 use bz_token::Kind;
 use std::alloc::AllocError;
 
@@ -61,15 +63,16 @@ fn stripped(text: &str) -> Option<&str>
 
 // Appends the written form of a token.
 #[inline(always)]
-pub(crate) fn put_written(kind: Kind, text: &str, out: &mut String) -> Result<(), AllocError>
-    ensures ok { OnOk result (string_bytes out.new ≡ string_bytes out.old ++ respell kind text.now) }
+pub(crate) fn put_written<T: Sink>(kind: Kind, text: &str, out: &mut T) -> Result<(), AllocError>
+    ensures ok { OnOk result (T.bytes out.new ≡ T.bytes out.old ++ respell kind text.now) }
+    ensures begun { IsBegunBy (T.bytes out.old) (T.bytes out.new) }
 {
     if matches!(kind, Kind::Text) {
         if let Some(inner) = single_content(text) {
-            out.push_str("\"")?;
-            out.push_str(inner)?;
-            return out.push_str("\"");
+            out.put("\"")?;
+            out.put(inner)?;
+            return out.put("\"");
         }
     }
-    out.push_str(text)
+    out.put(text)
 }

@@ -2,7 +2,6 @@
 
 ghost use Rattle.std.specs.Prelude.{◌≡◌};
 ghost use Rattle.bz_tree.specs.Tree.{leaf};
-ghost use Rattle.bz_layout.specs.private.RowLayout.{gap_for};
 ghost use Rattle.bz_layout.specs.Spacing.{hugs, closes_up, is_index, is_call, awaits_operand, is_prefix, begins_argument, is_index_colon, sign_edge, edge_after};
 
 use bz_token::Kind;
@@ -51,36 +50,42 @@ pub(crate) fn token_closes_up(kind: Kind, text: &str) -> bool
     matches!(kind, Kind::Sign) && (text == "." || text == "," || text == ":")
 }
 
+#[inline(always)]
 fn is_index(within: Option<GroupKind>) -> bool
     ensures { result ≡ is_index within }
 {
     matches!(within, Some(GroupKind::Index))
 }
 
+#[inline(always)]
 fn is_call(within: Option<GroupKind>) -> bool
     ensures { result ≡ is_call within }
 {
     matches!(within, Some(GroupKind::Call | GroupKind::RuleCall))
 }
 
+#[inline(always)]
 fn awaits_operand(left: Edge) -> bool
     ensures { result ≡ awaits_operand left }
 {
     !matches!(left, Edge::Dotted | Edge::Operand)
 }
 
+#[inline(always)]
 fn is_prefix(left: Edge, text: &str) -> bool
     ensures { result ≡ is_prefix left text.now }
 {
     awaits_operand(left) && (text == "+" || text == "-" || text == "~")
 }
 
+#[inline(always)]
 fn begins_argument(within: Option<GroupKind>, left: Edge, text: &str) -> bool
     ensures { result ≡ begins_argument within left text.now }
 {
     is_call(within) && matches!(left, Edge::Start) && (text == "*" || text == "**")
 }
 
+#[inline(always)]
 fn is_index_colon(within: Option<GroupKind>, text: &str) -> bool
     ensures { result ≡ is_index_colon within text.now }
 {
@@ -111,17 +116,5 @@ pub(crate) fn token_edge(within: Option<GroupKind>, left: Edge, kind: Kind, text
         Kind::Sign => sign_edge(within, left, text),
         Kind::Word => Edge::Operator,
         _ => Edge::Operand,
-    }
-}
-
-// The gap before what closes up or does not, where that before the first node is given.
-#[inline(always)]
-pub(crate) fn gap_for(first: Gap, left: Edge, closes: bool) -> Gap
-    ensures { result ≡ gap_for first left closes }
-{
-    match left {
-        Edge::Start => first,
-        Edge::Joined | Edge::Dotted => Gap::Closed,
-        Edge::Operator | Edge::Operand => { if closes { Gap::Closed } else { Gap::Space } }
     }
 }

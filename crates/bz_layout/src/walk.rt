@@ -1,14 +1,17 @@
 //! The walk forwards over the parts of a statement, which writes them.
 
-ghost use Rattle.std.specs.Prelude.{◌≡◌, OnOk, map, reverse, string_bytes};
+ghost use Rattle.std.specs.Prelude.{◌≡◌, ◌++◌, ℕ, List, OnOk, map, reverse};
 ghost use Rattle.bz_tree.specs.Rows.{part_view};
 ghost use Rattle.bz_layout.specs.declared.spacing.Gap.TheVariants.{Apart, Line};
-ghost use Rattle.bz_layout.specs.private.RowLayout.{top, first_gap, has_notes, start, with_token, opened, closed_by, is_last, ended, put_note, step, run, laid};
+ghost use Rattle.bz_layout.specs.private.Kept.{IsBegunBy};
+ghost use Rattle.bz_layout.specs.Pieces.{gap_bytes};
+ghost use Rattle.bz_layout.specs.private.RowLayout.{gap_for, top, first_gap, has_notes, start, with_token, opened, closed_by, is_last, ended, put_note, step, run, laid};
 
 use crate::marks::Mark;
 use crate::respell::put_written;
-use crate::spacing::{Edge, Gap, gap_for, hugs, token_closes_up, token_edge};
-use crate::write::{closing, opening, put, put_gap};
+use crate::sink::Sink;
+use crate::spacing::{Edge, Gap, hugs, token_closes_up, token_edge};
+use crate::write::{closing, opening, put, put_new_line};
 use bz_token::Kind;
 use bz_tree::{GroupKind, Part};
 use std::alloc::{AllocError, Global};
@@ -25,7 +28,6 @@ pub(crate) struct Frame {
 
 #[derive(Drop)]
 pub(crate) struct Walk {
-    pub(crate) text: String,
     // Those of the brackets to come, the next one last.
     pub(crate) marks: Vec<Mark>,
     pub(crate) outer: Vec<Frame>,
@@ -64,20 +66,6 @@ impl Frame {
         }
     }
 
-    // The gap before the first node of a segment.
-    #[inline(always)]
-    fn first(self, level: usize) -> Gap
-        ensures { result ≡ first_gap self level }
-    {
-        if self.mark.broken {
-            Gap::Line(level)
-        } else if self.later {
-            Gap::Space
-        } else {
-            Gap::Closed
-        }
-    }
-
     // In place stand no comments, but at the top.
     #[inline(always)]
     fn has_notes(self) -> bool
@@ -89,16 +77,10 @@ impl Frame {
 
 impl Walk {
     // `within` is the group that all the parts stand in. With no marks no bracket is broken.
-    pub(crate) fn new(
-        alloc: Global,
-        text: String,
-        marks: Vec<Mark>,
-        within: Option<GroupKind>,
-    ) -> Walk
-        ensures { laid result ≡ start (string_bytes text) (reverse marks.items) within }
+    pub(crate) fn new(alloc: Global, marks: Vec<Mark>, within: Option<GroupKind>) -> Walk
+        ensures { (text : List ℕ) → laid result text ≡ start text (reverse marks.items) within }
     {
         Walk {
-            text,
             marks,
             outer: Vec::new(alloc),
             here: Frame::top(within),
@@ -107,26 +89,78 @@ impl Walk {
         }
     }
 
+    // The gap before the first node of a segment.
     #[inline(always)]
-    fn token(&mut self, kind: Kind, text: &str) -> Result<(), AllocError>
-        ensures { OnOk result (laid self.new ≡ with_token kind text.now (laid self.old)) }
+    fn put_first<T: Sink>(&self, out: &mut T) -> Result<(), AllocError>
+        ensures ok { OnOk result
+            (T.bytes out.new ≡ T.bytes out.old ++ gap_bytes (first_gap self.now.here self.now.level)) }
+        ensures begun { IsBegunBy (T.bytes out.old) (T.bytes out.new) }
     {
-        let gap = gap_for(
-            self.here.first(self.level),
-            self.left,
-            token_closes_up(kind, text),
-        );
-        put_gap(gap, &mut self.text)?;
-        put_written(kind, text, &mut self.text)?;
+        if self.here.mark.broken {
+            put_new_line(self.level, out)
+        } else if self.here.later {
+            out.put(" ")
+        } else {
+            Ok(())
+        }
+    }
+
+    // The gap before what closes up or does not.
+    #[inline(always)]
+    fn put_gap<T: Sink>(&self, closes: bool, out: &mut T) -> Result<(), AllocError>
+        ensures ok { OnOk result (T.bytes out.new ≡ T.bytes out.old
+            ++ gap_bytes (gap_for (first_gap self.now.here self.now.level) self.now.left closes)) }
+        ensures begun { IsBegunBy (T.bytes out.old) (T.bytes out.new) }
+    {
+        match self.left {
+            Edge::Start => self.put_first(out),
+            Edge::Joined | Edge::Dotted => Ok(()),
+            Edge::Operator | Edge::Operand => { if closes { Ok(()) } else { out.put(" ") } }
+        }
+    }
+
+    #[inline(always)]
+    fn put_token<T: Sink>(&mut self, kind: Kind, text: &str, out: &mut T) -> Result<(), AllocError>
+        ensures laid { OnOk result
+            (laid self.new (T.bytes out.new) ≡ with_token kind text.now (laid self.old (T.bytes out.old))) }
+        ensures begun { IsBegunBy (T.bytes out.old) (T.bytes out.new) }
+    {
+        self.put_gap(token_closes_up(kind, text), out)?;
+        put_written(kind, text, out)?;
         self.left = token_edge(self.here.within, self.left, kind, text);
         Ok(())
     }
 
-    fn open(&mut self, kind: GroupKind) -> Result<(), AllocError>
-        ensures { OnOk result (laid self.new ≡ opened kind (laid self.old)) }
+    #[inline(never)]
+    fn put_rarer<T: Sink>(&mut self, kind: Kind, text: &str, out: &mut T) -> Result<(), AllocError>
+        ensures laid { OnOk result
+            (laid self.new (T.bytes out.new) ≡ with_token kind text.now (laid self.old (T.bytes out.old))) }
+        ensures begun { IsBegunBy (T.bytes out.old) (T.bytes out.new) }
     {
-        let gap = gap_for(self.here.first(self.level), self.left, hugs(kind));
-        put(gap, opening(kind), &mut self.text)?;
+        self.put_token(kind, text, out)
+    }
+
+    // The tokens that most statements are made of are told apart once.
+    #[inline(always)]
+    fn token<T: Sink>(&mut self, kind: Kind, text: &str, out: &mut T) -> Result<(), AllocError>
+        ensures laid { OnOk result
+            (laid self.new (T.bytes out.new) ≡ with_token kind text.now (laid self.old (T.bytes out.old))) }
+        ensures begun { IsBegunBy (T.bytes out.old) (T.bytes out.new) }
+    {
+        match kind {
+            Kind::Ident => self.put_token(Kind::Ident, text, out),
+            Kind::Text => self.put_token(Kind::Text, text, out),
+            Kind::Sign if text == "=" => self.put_token(Kind::Sign, "=", out),
+            _ => self.put_rarer(kind, text, out),
+        }
+    }
+
+    fn open<T: Sink>(&mut self, kind: GroupKind, out: &mut T) -> Result<(), AllocError>
+        ensures laid { OnOk result (laid self.new (T.bytes out.new) ≡ opened kind (laid self.old (T.bytes out.old))) }
+        ensures begun { IsBegunBy (T.bytes out.old) (T.bytes out.new) }
+    {
+        self.put_gap(hugs(kind), out)?;
+        out.put(opening(kind))?;
         self.outer.push(self.here)?;
         let mark = match self.marks.pop() {
             Some(mark) => mark,
@@ -148,17 +182,18 @@ impl Walk {
         Ok(())
     }
 
-    fn close(&mut self, one_comma: bool) -> Result<(), AllocError>
-        ensures { OnOk result (laid self.new ≡ closed_by one_comma (laid self.old)) }
+    fn close<T: Sink>(&mut self, one_comma: bool, out: &mut T) -> Result<(), AllocError>
+        ensures laid { OnOk result (laid self.new (T.bytes out.new) ≡ closed_by one_comma (laid self.old (T.bytes out.old))) }
+        ensures begun { IsBegunBy (T.bytes out.old) (T.bytes out.new) }
     {
         if self.here.mark.broken {
             self.level = self.level.saturating_sub(1);
-            put_gap(Gap::Line(self.level), &mut self.text)?;
+            put_new_line(self.level, out)?;
         } else if one_comma {
-            self.text.push_str(",")?;
+            out.put(",")?;
         }
         if let Some(kind) = self.here.within {
-            self.text.push_str(closing(kind))?;
+            out.put(closing(kind))?;
         }
         self.here = match self.outer.pop() {
             Some(below) => below,
@@ -170,50 +205,61 @@ impl Walk {
 
     // A segment ends, where `last` tells whether it is the last one.
     #[inline(always)]
-    fn end(&mut self, last: bool) -> Result<(), AllocError>
-        ensures { OnOk result (laid self.new ≡ ended last (laid self.old)) }
+    fn end<T: Sink>(&mut self, last: bool, out: &mut T) -> Result<(), AllocError>
+        ensures laid { OnOk result (laid self.new (T.bytes out.new) ≡ ended last (laid self.old (T.bytes out.old))) }
+        ensures begun { IsBegunBy (T.bytes out.old) (T.bytes out.new) }
     {
         self.left = Edge::Start;
         if self.here.mark.broken {
             if self.here.mark.comma {
-                self.text.push_str(",")?;
+                out.put(",")?;
             }
         } else if !last {
-            self.text.push_str(",")?;
+            out.put(",")?;
             self.here.later = true;
         }
         Ok(())
     }
 
-    #[inline(always)]
-    fn note(&mut self, gap: Gap, text: &str) -> Result<(), AllocError>
-        ensures { OnOk result (laid self.new ≡ put_note gap text.now (laid self.old)) }
+    fn note<T: Sink>(&mut self, gap: Gap, text: &str, out: &mut T) -> Result<(), AllocError>
+        ensures laid { OnOk result (laid self.new (T.bytes out.new) ≡ put_note gap text.now (laid self.old (T.bytes out.old))) }
+        ensures begun { IsBegunBy (T.bytes out.old) (T.bytes out.new) }
     {
         if self.here.has_notes() {
-            put(gap, text, &mut self.text)?;
+            put(gap, text, out)?;
         }
         Ok(())
     }
 
     #[inline(always)]
-    fn step(&mut self, part: Part<'_>, rest: &[Part<'_>]) -> Result<(), AllocError>
-        ensures { OnOk result (laid self.new ≡ step (part_view part.entry) (map part_view rest.now) (laid self.old)) }
+    fn step<T: Sink>(
+        &mut self,
+        part: &Part<'_>,
+        rest: &[Part<'_>],
+        out: &mut T,
+    ) -> Result<(), AllocError>
+        ensures laid { OnOk result
+            (laid self.new (T.bytes out.new) ≡ step (part_view part.now) (map part_view rest.now) (laid self.old (T.bytes out.old))) }
+        ensures begun { IsBegunBy (T.bytes out.old) (T.bytes out.new) }
     {
-        match part {
-            Part::Token(kind, text) => self.token(kind, text),
-            Part::Open(kind) => self.open(kind),
-            Part::Close(one_comma) => self.close(one_comma),
-            Part::End => self.end(is_last(rest)),
-            Part::Above(text) => self.note(Gap::Line(self.level), text),
-            Part::Beside(text) => self.note(Gap::Apart, text),
+        match *part {
+            Part::Token(kind, text) => self.token(kind, text, out),
+            Part::Open(kind) => self.open(kind, out),
+            Part::Close(one_comma) => self.close(one_comma, out),
+            Part::End => self.end(is_last(rest), out),
+            Part::Above(text) => self.note(Gap::Line(self.level), text, out),
+            Part::Beside(text) => self.note(Gap::Apart, text, out),
         }
     }
 
-    pub(crate) fn run(&mut self, parts: &[Part<'_>]) -> Result<(), AllocError>
-        ensures { OnOk result (laid self.new ≡ run (map part_view parts.now) (laid self.old)) }
+    pub(crate) fn run<T: Sink>(&mut self, parts: &[Part<'_>], out: &mut T) -> Result<(), AllocError>
+        ensures laid { OnOk result (laid self.new (T.bytes out.new) ≡ run (map part_view parts.now) (laid self.old (T.bytes out.old))) }
+        ensures begun { IsBegunBy (T.bytes out.old) (T.bytes out.new) }
     {
-        for i in 0..parts.len() {
-            self.step(parts[i], &parts[i + 1..])?;
+        let mut rest = parts;
+        while let [part, after @ ..] = rest {
+            self.step(part, after, out)?;
+            rest = after;
         }
         Ok(())
     }

@@ -1,10 +1,12 @@
 //! Gaps and brackets, appended to a text.
 
-ghost use Rattle.std.specs.Prelude.{◌≡◌, ◌++◌, OnOk, string_bytes};
+ghost use Rattle.std.specs.Prelude.{◌≡◌, ◌++◌, OnOk};
 ghost use Rattle.bz_layout.specs.Pieces.{indent, gap_bytes};
 ghost use Rattle.bz_layout.specs.declared.spacing.Gap.TheVariants.{Line};
 ghost use Rattle.bz_layout.specs.Layout.{opening, closing, has_commas};
+ghost use Rattle.bz_layout.specs.private.Kept.{IsBegunBy};
 
+use crate::sink::Sink;
 use crate::spacing::Gap;
 use bz_tree::GroupKind;
 use std::alloc::AllocError;
@@ -42,46 +44,53 @@ pub(crate) fn has_commas(kind: GroupKind, one_comma: bool, n: usize) -> bool
     }
 }
 
-#[tactic(auto, using(crate::proofs::Pieces::indent_step))]
-fn put_indent(level: usize, out: &mut String) -> Result<(), AllocError>
-    ensures ok { OnOk result (string_bytes out.new ≡ string_bytes out.old ++ indent level) }
+#[tactic(auto, using(crate::proofs::Pieces::indent_step, crate::proofs::Kept::begun_both))]
+fn put_indent<T: Sink>(level: usize, out: &mut T) -> Result<(), AllocError>
+    ensures ok { OnOk result (T.bytes out.new ≡ T.bytes out.old ++ indent level) }
+    ensures begun { IsBegunBy (T.bytes out.old) (T.bytes out.new) }
 {
     for _ in 0..level {
-        out.push_str("    ")?;
+        out.put("    ")?;
     }
     Ok(())
 }
 
-fn put_new_line(level: usize, out: &mut String) -> Result<(), AllocError>
-    ensures ok { OnOk result (string_bytes out.new ≡ string_bytes out.old ++ gap_bytes (Line level)) }
+// Few lines are deeper than the levels that have a text of their own here.
+pub(crate) fn put_new_line<T: Sink>(level: usize, out: &mut T) -> Result<(), AllocError>
+    ensures ok { OnOk result (T.bytes out.new ≡ T.bytes out.old ++ gap_bytes (Line level)) }
+    ensures begun { IsBegunBy (T.bytes out.old) (T.bytes out.new) }
 {
     match level {
-        0 => out.push_str("\n"),
-        1 => out.push_str("\n    "),
-        2 => out.push_str("\n        "),
+        0 => out.put("\n"),
+        1 => out.put("\n    "),
+        2 => out.put("\n        "),
+        3 => out.put("\n            "),
+        4 => out.put("\n                "),
         _ => {
-            out.push_str("\n")?;
+            out.put("\n")?;
             put_indent(level, out)
         }
     }
 }
 
 #[inline(always)]
-pub(crate) fn put_gap(gap: Gap, out: &mut String) -> Result<(), AllocError>
-    ensures ok { OnOk result (string_bytes out.new ≡ string_bytes out.old ++ gap_bytes gap) }
+fn put_gap<T: Sink>(gap: Gap, out: &mut T) -> Result<(), AllocError>
+    ensures ok { OnOk result (T.bytes out.new ≡ T.bytes out.old ++ gap_bytes gap) }
+    ensures begun { IsBegunBy (T.bytes out.old) (T.bytes out.new) }
 {
     match gap {
         Gap::Closed => Ok(()),
-        Gap::Space => out.push_str(" "),
-        Gap::Apart => out.push_str("  "),
+        Gap::Space => out.put(" "),
+        Gap::Apart => out.put("  "),
         Gap::Line(level) => put_new_line(level, out),
     }
 }
 
 #[inline(always)]
-pub(crate) fn put(gap: Gap, text: &str, out: &mut String) -> Result<(), AllocError>
-    ensures ok { OnOk result (string_bytes out.new ≡ string_bytes out.old ++ (gap_bytes gap ++ text.now)) }
+pub(crate) fn put<T: Sink>(gap: Gap, text: &str, out: &mut T) -> Result<(), AllocError>
+    ensures ok { OnOk result (T.bytes out.new ≡ T.bytes out.old ++ (gap_bytes gap ++ text.now)) }
+    ensures begun { IsBegunBy (T.bytes out.old) (T.bytes out.new) }
 {
     put_gap(gap, out)?;
-    out.push_str(text)
+    out.put(text)
 }

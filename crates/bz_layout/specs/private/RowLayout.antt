@@ -1,5 +1,5 @@
 -- For private clauses: the two walks over the parts of a statement.
-use Rattle.std.specs.Prelude.{codes, ℕ, ◌+◌, ◌-◌, List, [], ◌∷◌, ◌++◌, reverse, Bool, true, false, not, ◌||◌, ◌&&◌, if◌then◌else◌, nat_le, nat_lt, Option, is_some, string_bytes}
+use Rattle.std.specs.Prelude.{codes, ℕ, ◌+◌, ◌-◌, List, [], ◌∷◌, ◌++◌, reverse, Bool, true, false, not, ◌||◌, ◌&&◌, if◌then◌else◌, nat_le, nat_lt, Option, is_some}
 use Rattle.std.specs.Prelude.Option.{Some, None}
 use Rattle.bz_token.specs.declared.token.Kind.{Kind}
 use Rattle.bz_tree.specs.declared.stmt.GroupKind.{GroupKind}
@@ -106,8 +106,8 @@ has_notes f = f.mark.broken || not (is_some f.within)
 abbrev pub start : List ℕ → List Mark → Option GroupKind → Laid
 start text marks within = record { text = text; marks = marks; outer = []; here = top within; left = Start; level = 0 }
 
-abbrev pub laid : Walk → Laid
-laid w = record { text = string_bytes w.text; marks = reverse w.marks.items; outer = reverse w.outer.items; here = w.here; left = w.left; level = w.level }
+abbrev pub laid : Walk → List ℕ → Laid
+laid w text = record { text = text; marks = reverse w.marks.items; outer = reverse w.outer.items; here = w.here; left = w.left; level = w.level }
 
 abbrev pub put_note : Gap → List ℕ → Laid → Laid
 put_note gap text s = record { text = s.text ++ (if has_notes s.here then gap_bytes gap ++ text else []); marks = s.marks; outer = s.outer; here = s.here; left = s.left; level = s.level }
@@ -221,8 +221,8 @@ after_leading ps = ps
 abbrev pub line_text : List ℕ → List RowPart → List ℕ
 line_text text ps = (run ps (start text (scan ps).marks None)).text ++ codes "\n"
 
--- the text of a row
-abbrev pub row_text : List RowPart → Class → List ℕ
-row_text ps class =
-    let text = bytes_of (comment_lines (leading ps)) in
+-- the text of a row after what stands before it
+abbrev pub row_text : List ℕ → List RowPart → Class → List ℕ
+row_text before ps class =
+    let text = before ++ bytes_of (comment_lines (leading ps)) in
     if is_comment class then text else line_text text (after_leading ps)

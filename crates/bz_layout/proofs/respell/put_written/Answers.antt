@@ -4,7 +4,7 @@ use Rattle.bz_layout.proofs.Quotes.{respell_some}
 use Rattle.bz_layout.proofs.respell.put_written.Goals as goal
 
 pub returns-in-Some : goal.returns-in-Some
-returns-in-Some c =
+returns-in-Some g c =
     let some = c.in-Some.ensures.some in
     let e = respell_some c.args.text.now c.in-Some.inner.now some.0 some.1 in
     grind (arith, common_steps, e)

@@ -1,6 +1,10 @@
-use Rattle.std.proofs.Common.{◌≡◌, ◌-◌, ◌++◌, string_bytes}
+use Rattle.std.proofs.Common.{◌≡◌, ◌-◌, ◌++◌}
 use Rattle.bz_layout.specs.Pieces.{indent}
+use Rattle.bz_layout.specs.private.Kept.{IsBegunBy}
 use Rattle.bz_layout.proofs.write.put_indent.Given as goal
 
 abbrev pub invariant-loop : goal.invariant-loop
-invariant-loop l = string_bytes l.out ++ indent (l.level - l.counter) ≡ string_bytes l.initial.out ++ indent l.level
+invariant-loop g l = record {
+  put : g.T.Sink.bytes l.out ++ indent (l.level - l.counter) ≡ g.T.Sink.bytes l.initial.out ++ indent l.level;
+  begun : IsBegunBy (g.T.Sink.bytes l.initial.out) (g.T.Sink.bytes l.out);
+}

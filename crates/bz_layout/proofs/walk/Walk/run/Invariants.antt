@@ -1,7 +1,14 @@
-use Rattle.std.proofs.Common.{◌≡◌, drop, map}
+use Rattle.std.proofs.Common.{◌≡◌, length, map}
 use Rattle.bz_tree.specs.Rows.{part_view}
+use Rattle.bz_layout.specs.private.Kept.{IsBegunBy}
 use Rattle.bz_layout.specs.private.RowLayout.{run, laid}
 use Rattle.bz_layout.proofs.walk.Walk.run.Given as goal
 
-abbrev pub invariant-loop-i : goal.invariant-loop-i
-invariant-loop-i l = run (map part_view (drop l.i l.parts)) (laid l.self) ≡ run (map part_view l.parts) (laid l.initial.self)
+abbrev pub invariant-loop-rest : goal.invariant-loop-rest
+invariant-loop-rest g l = record {
+  laid : run (map part_view l.rest) (laid l.self (g.T.Sink.bytes l.out)) ≡ run (map part_view l.parts) (laid l.initial.self (g.T.Sink.bytes l.initial.out));
+  begun : IsBegunBy (g.T.Sink.bytes l.initial.out) (g.T.Sink.bytes l.out);
+}
+
+abbrev pub decreases-loop-rest : goal.decreases-loop-rest
+decreases-loop-rest g l = length l.rest
