@@ -5,3 +5,4 @@ pub mod LineAhead
 pub mod ChunkAhead
 pub mod Pieces
 pub mod PassedOn
+pub mod TextAhead

@@ -1,6 +1,6 @@
 //! The input's next chunk: where it ends, reading no further than is needed to know it.
 
-ghost use Rattle.std.specs.Prelude.{◌≡◌, ◌≢◌, ℕ, ◌+◌, ◌<◌, ◌≤◌, false, List, [], length, take, drop, IfOk, OnOk, OnErr, IfSome, IfNone, IsErrOf, IsTrue};
+ghost use Rattle.std.specs.Prelude.{◌≡◌, ◌≢◌, ℕ, ◌+◌, ◌<◌, ◌≤◌, false, List, [], length, take, drop, IfOk, OnOk, OnErr, IfSome, IfNone, IsErrOf, IsTrue, IsUtf8};
 ghost use Rattle.bz_devices.specs.Device.{joined, Rises};
 ghost use Rattle.bz_token.specs.Cuts.{IsBlock};
 ghost use Rattle.bz_token.specs.CutterState.{IsAfter, IsAtBlock};
@@ -9,10 +9,11 @@ ghost use Rattle.bz_devices.specs.private.AheadSteps.{IsOpen, IsLine, IsLineAt, 
 
 use crate::device::Source;
 use crate::input::{PIECE, ReadFault, read_at_most};
-use bz_token::{Cut, Cutter, Next};
+use bz_token::{Cut, Cutter, Next, check_utf8};
 use memchr::memchr;
 use std::alloc::Global;
 use std::marker::Model;
+use std::str::from_utf8_unchecked;
 
 /// What was read of an input and not yet taken.
 #[derive(Drop)]
@@ -20,6 +21,8 @@ pub struct Ahead {
     bytes: Vec<u8>,
     /// Where the bytes begin that were not taken.
     start: usize,
+    /// How many of these are known to be text: no byte is checked twice.
+    text_len: usize,
     /// How many reads were made.
     reads: u64,
     /// A read met the end of the input.
@@ -27,14 +30,15 @@ pub struct Ahead {
 }
 
 impl Model for Ahead {
-    ghost use Rattle.std.specs.Prelude.{◌≤◌, length, drop};
+    ghost use Rattle.std.specs.Prelude.{◌≤◌, ◌+◌, length, take, drop, IsUtf8};
     ghost use Rattle.bz_devices.specs.Ahead as spec;
 
     ghost Value = { spec.Ahead };
 
     ghost view = { λ a. record { bytes = drop a.start a.bytes.items; reads = a.reads; ended = a.ended } };
 
-    ghost invariant = { λ a. a.start ≤ length a.bytes.items };
+    ghost invariant = { λ a. (a.start + a.text_len ≤ length a.bytes.items)
+        × IsUtf8 (take a.text_len (drop a.start a.bytes.items)) };
 }
 
 /// Why there is no next chunk.
@@ -70,6 +74,7 @@ impl Ahead {
         Ahead {
             bytes: Vec::new(alloc),
             start: 0,
+            text_len: 0,
             reads: 0,
             ended: false,
         }
@@ -80,6 +85,16 @@ impl Ahead {
         ensures { result.now ≡ self.now.bytes }
     {
         &self.bytes[self.start..]
+    }
+
+    /// The front of the bytes that is known to be text. After a read it ends where a byte belongs to no character, or
+    /// at most 3 bytes before the end, where a character is not whole.
+    pub fn text(&self) -> &str
+        ensures front { (n : ℕ) × (n ≤ length self.now.bytes) × (result.now ≡ take n self.now.bytes) }
+        ensures utf8 { IsUtf8 result.now }
+    {
+        // The invariant says that this is UTF-8.
+        unsafe { from_utf8_unchecked(&self.bytes()[..self.text_len]) }
     }
 
     /// A read met the end of the input.
@@ -94,6 +109,7 @@ impl Ahead {
         requires { n ≤ length self.old.bytes }
         ensures { self.new ≡ record self.old { bytes = drop n self.old.bytes } }
     {
+        self.text_len = text_left(self.text(), n);
         self.start += n;
     }
 
@@ -121,7 +137,15 @@ impl Ahead {
         let n = read_at_most(source, &mut self.bytes, most, max_reads - self.reads)?;
         self.reads += 1;
         self.ended = n == 0;
+        self.check();
         Ok(())
+    }
+
+    /// Checks the bytes after those that are known to be text.
+    fn check(&mut self)
+        ensures { self.new ≡ self.old }
+    {
+        self.text_len += text_front(&self.bytes()[self.text_len..]);
     }
 
     /// Makes room of the bytes that were taken.
@@ -132,6 +156,29 @@ impl Ahead {
             drop_front(&mut self.bytes, self.start);
             self.start = 0;
         }
+    }
+}
+
+/// How many bytes of the text are left after its first `n`: none where it may not be cut there.
+fn text_left(text: &str, n: usize) -> usize
+    ensures within { 0 < result → n + result ≤ length text.now }
+    ensures utf8 { IsUtf8 (take result (drop n text.now)) }
+{
+    if text.is_char_boundary(n) {
+        text.len() - n
+    } else {
+        0
+    }
+}
+
+/// The length of the longest front that is text.
+fn text_front(bytes: &[u8]) -> usize
+    ensures within { result ≤ length bytes.now }
+    ensures utf8 { IsUtf8 (take result bytes.now) }
+{
+    match check_utf8(bytes) {
+        Ok(text) => text.len(),
+        Err(valid) => valid,
     }
 }
 
