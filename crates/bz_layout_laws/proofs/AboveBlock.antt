@@ -6,7 +6,7 @@ use Rattle.std.proofs.lemmas.Bool.{and_parts}
 use Rattle.bz_token.specs.Lexical.{is_comment}
 use Rattle.bz_token.specs.Places.{Placed}
 use Rattle.bz_token_laws.proofs.Deeper.{tokens_are_texts}
-use Rattle.bz_token_laws.proofs.Quiet.{both}
+use Rattle.bz_token.proofs.Quiet.{both}
 use Rattle.bz_tree.specs.declared.kinds.Mark.{Mark}
 use Rattle.bz_tree.specs.declared.kinds.Mark.TheVariants.{Open, Close, Comma, Comment, NewLine, Plain}
 use Rattle.bz_tree.specs.Blocks.{above_at, above, IsBlockOf}

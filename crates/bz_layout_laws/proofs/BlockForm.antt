@@ -10,8 +10,8 @@ use Rattle.bz_token.specs.Groups.{grouped, grouped_from}
 use Rattle.bz_token.specs.LogicalLines.{Line, lines}
 use Rattle.bz_token.proofs.ChunkLaws.{chunks_kept}
 use Rattle.bz_token.proofs.CutStrings.{grouped_joins, grouped_apart}
-use Rattle.bz_token_laws.specs.ChunkForms.{are_comments, are_of_block, is_rest, are_forms}
-use Rattle.bz_token_laws.proofs.ChunkForms.{have_forms, all_lines}
+use Rattle.bz_token.specs.ChunkForms.{are_comments, are_of_block, is_rest, are_forms}
+use Rattle.bz_token.proofs.ChunkForms.{have_forms, all_lines}
 use Rattle.bz_layout_laws.proofs.BlockLines.{are_whole, all_go_on}
 
 -- the lines of a block, with comment lines above

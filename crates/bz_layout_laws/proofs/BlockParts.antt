@@ -7,7 +7,7 @@ use Rattle.bz_token.specs.Brackets.{is_line}
 use Rattle.bz_token.specs.Places.{Placed, line_at, column_at, column_from}
 use Rattle.bz_token.specs.Reading.{Piece, bytes_of, token_of, tokens_of}
 use Rattle.bz_token.proofs.Progress.{column_from-append, lines_of}
-use Rattle.bz_token_laws.specs.TokenLines.{is_newline_piece}
+use Rattle.bz_token.specs.TokenLines.{is_newline_piece}
 use Rattle.bz_tree.specs.Statement.{is_aside, bare_tokens, first_of}
 use Rattle.bz_tree.proofs.Sound.{none_is_some}
 use Rattle.bz_layout_laws.proofs.BlockTokens.{all_shown, are_aside}

@@ -16,7 +16,7 @@ use Rattle.bz_token.specs.Blocks.{is_white, word_at, goes_on}
 use Rattle.bz_token.proofs.Classes.{can_start, class_of, text_class, keyword_name, empty_no_text}
 use Rattle.bz_token.proofs.Stops.{token_ends}
 use Rattle.bz_token.proofs.Agree.{visible}
-use Rattle.bz_token_laws.proofs.Stands.{apart}
+use Rattle.bz_token.proofs.Stands.{apart}
 
 abbrev pub is_branch : List ℕ → Bool
 is_branch text = bytes_eq text (codes "elif") || bytes_eq text (codes "else")

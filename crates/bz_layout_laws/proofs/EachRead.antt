@@ -3,7 +3,7 @@ use Rattle.std.proofs.Common.{◌≡◌, ℕ, List, [], ◌∷◌, ◌++◌, Boo
 use Rattle.std.specs.Prelude.{if◌then◌else◌}
 use Rattle.std.specs.List.{list_all}
 use Rattle.std.proofs.lemmas.Bool.{false≢true, and_parts}
-use Rattle.bz_token_laws.proofs.Quiet.{both}
+use Rattle.bz_token.proofs.Quiet.{both}
 use Rattle.bz_tree.specs.Comments.{beside}
 use Rattle.bz_tree.specs.Owners.{Entry, a_node, a_comma, a_note, first_cell, other_cells, same_line, later_lines, nodes_in, is_filled, has_node, notes_in, above_last, beside_last, below_last, first, others, cell_segment, with_segment, segments_from, end_from, inside_by_cells}
 use Rattle.bz_tree.specs.Tree.{Item, Items, no_items, item, Segs, no_segs, seg, Segment, items_of, segs_of}

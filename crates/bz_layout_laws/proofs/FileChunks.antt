@@ -12,8 +12,8 @@ use Rattle.bz_token.specs.Cuts.{IsChunk}
 use Rattle.bz_token.specs.FreshStart.{AreLinesOf}
 use Rattle.bz_token.specs.Places.{Placed}
 use Rattle.bz_token.specs.Reading.{Piece, tokens_of}
-use Rattle.bz_token_laws.specs.TokenLines.{line_of}
-use Rattle.bz_token_laws.proofs.ChunkForms.{statement_chunk}
+use Rattle.bz_token.specs.TokenLines.{line_of}
+use Rattle.bz_token.proofs.ChunkForms.{statement_chunk}
 use Rattle.bz_token_laws.proofs.Readable.{laid_lines}
 use Rattle.bz_tree.specs.declared.stmt.Class.{Class}
 use Rattle.bz_tree.specs.declared.stmt.Class.TheVariants.{Load, Assign, Rule, Other, Comment, Block}

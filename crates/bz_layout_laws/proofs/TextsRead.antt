@@ -10,7 +10,7 @@ use Rattle.bz_token.specs.Lexical.{is_text, is_comment}
 use Rattle.bz_token.specs.Places.{Placed}
 use Rattle.bz_token.specs.Reading.{AreTokensOf}
 use Rattle.bz_token_laws.proofs.Deeper.{tokens_are_texts}
-use Rattle.bz_token_laws.proofs.Quiet.{both}
+use Rattle.bz_token.proofs.Quiet.{both}
 use Rattle.bz_tree.specs.declared.kinds.Mark.{Mark}
 use Rattle.bz_tree.specs.declared.kinds.Mark.TheVariants.{Open, Close, Comma, Comment, NewLine, Plain}
 use Rattle.bz_tree.specs.declared.kinds.Preceding.{Preceding}

@@ -9,7 +9,7 @@ use Rattle.bz_token.specs.declared.token.Kind.TheVariants.{Sign, Line as LineKin
 use Rattle.bz_token.specs.Brackets.{is_line}
 use Rattle.bz_token.specs.Ends.{is_note}
 use Rattle.bz_token.specs.Places.{Placed}
-use Rattle.bz_token_laws.specs.TokenLines.{is_newline_piece}
+use Rattle.bz_token.specs.TokenLines.{is_newline_piece}
 use Rattle.bz_tree.specs.Brackets.{is_line as is_line_mark, without_lines, end_line}
 use Rattle.bz_tree.specs.declared.kinds.Shape.TheVariants.{Round, Square, Curly}
 use Rattle.bz_tree.specs.declared.kinds.Mark.TheVariants.{Open, Close, Comma, Plain}

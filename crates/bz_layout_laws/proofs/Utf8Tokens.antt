@@ -15,7 +15,7 @@ use Rattle.bz_token.specs.Brackets.{is_inside, open_after_token}
 use Rattle.bz_token.specs.Places.{Placed, line_at}
 use Rattle.bz_token.specs.Reading.{Piece, IsReading, is_gap, is_white, tokens_of, AreTokensOf}
 use Rattle.bz_token.proofs.Classes.{unknown, can_start, class_of, text_class, empty_no_text}
-use Rattle.bz_token_laws.proofs.Quiet.{both}
+use Rattle.bz_token.proofs.Quiet.{both}
 
 -- nothing, or an ASCII byte first
 abbrev pub StartsLow : List ℕ → Type 0

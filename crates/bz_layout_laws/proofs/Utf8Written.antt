@@ -9,7 +9,7 @@ use Rattle.std.proofs.lemmas.Str.{encode_ascii, IsUtf8-append, IsUtf8-past_char,
 use Rattle.bz_token.specs.declared.token.Kind.{Kind}
 use Rattle.bz_token.specs.declared.token.Kind.TheVariants.{Text, Sign, Line as LineKind, Note}
 use Rattle.bz_token.proofs.Classes.{same_bytes}
-use Rattle.bz_token_laws.proofs.Quiet.{both}
+use Rattle.bz_token.proofs.Quiet.{both}
 use Rattle.bz_tree.specs.declared.stmt.GroupKind.{GroupKind}
 use Rattle.bz_tree.specs.declared.stmt.GroupKind.TheVariants.{List as ListKind, Index, Dict, ListComp, DictComp}
 use Rattle.bz_tree.specs.Comments.{beside}

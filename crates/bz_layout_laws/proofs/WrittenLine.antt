@@ -5,7 +5,7 @@ use Rattle.std.specs.List.{list_any}
 use Rattle.std.proofs.lemmas.Bool.{or_parts}
 use Rattle.bz_token.specs.declared.token.Kind.TheVariants.{Line as LineKind, Note}
 use Rattle.bz_token.specs.Brackets.{is_line}
-use Rattle.bz_token_laws.specs.TokenLines.{is_newline_piece}
+use Rattle.bz_token.specs.TokenLines.{is_newline_piece}
 use Rattle.bz_tree.specs.Owners.{a_node}
 use Rattle.bz_tree.specs.Tree.{Item, Statement, items_of, list_of}
 use Rattle.bz_tree_laws.specs.Written.{own_lines, suffix_entry, written_entries}
