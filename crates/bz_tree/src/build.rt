@@ -52,6 +52,7 @@ fn leaf_of<'a>(token: &Token<'a>) -> Leaf<'a>
 }
 
 // None: a segment is empty.
+#[inline(always)]
 fn closed<'a>(kind: GroupKind, walk: Walk<'a>) -> Result<Option<Group<'a>>, AllocError>
     ensures value { IfOk result (λ o. option_map group_view o ≡ closed (Some kind) (so_far walk.entry)) }
     ensures borrowed { IfOk result (λ o. IfSome o (λ g. group_owned g ≤ walk_owned walk.entry)) }
@@ -162,6 +163,7 @@ impl<'a> Frame<'a> {
         ensures borrowed { OnOk result (frame_owned self.new ≤ frame_owned self.old + group_owned group.entry) }
     {
         self.at = Preceding::Operand;
+        self.walk.reserve(true)?;
         self.walk.add_node(Node::Group(group), line, "")?;
         Ok(())
     }
