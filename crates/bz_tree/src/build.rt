@@ -69,6 +69,15 @@ fn closed<'a>(kind: GroupKind, walk: Walk<'a>) -> Result<Option<Group<'a>>, Allo
     }))
 }
 
+// How many segments there is room for at the first comma: a rule has some more arguments than most lists have elements.
+#[inline(always)]
+fn room_at_comma(kind: Option<GroupKind>) -> usize {
+    match kind {
+        Some(GroupKind::Call) => 8,
+        _ => 4,
+    }
+}
+
 // A segment ends before this token.
 #[inline(always)]
 fn ends_segment(following: Option<&Token<'_>>) -> bool {
@@ -143,6 +152,7 @@ impl<'a> Frame<'a> {
             self.walk
                 .add_node(Node::Token(leaf_of(token)), token.line, "")?;
         } else {
+            self.walk.reserve_segments(room_at_comma(self.kind))?;
             self.walk.add_comma(alloc, token.line)?;
         }
         Ok(())

@@ -93,9 +93,14 @@ fn put_above<'a>(
     ensures before { OnOk result (before.new.items ≡ before.old.items ++ after.old.items) }
     ensures after { OnOk result (after.new.items ≡ []) }
 {
-    if !after.is_empty() {
-        before.append(after)?;
+    if after.is_empty() {
+        return Ok(());
     }
+    if before.is_empty() {
+        mem::swap(before, after);
+        return Ok(());
+    }
+    before.append(after)?;
     Ok(())
 }
 
@@ -174,6 +179,19 @@ impl<'a> Walk<'a> {
             return Ok(());
         }
         self.here.nodes.reserve_exact(if alone { 1 } else { 3 })?;
+        Ok(())
+    }
+
+    // Room for so many segments, where there are none.
+    #[inline(always)]
+    pub(crate) fn reserve_segments(&mut self, room: usize) -> Result<(), AllocError>
+        ensures value { OnOk result (so_far self.new ≡ so_far self.old) }
+        ensures borrowed { OnOk result (walk_owned self.new ≡ walk_owned self.old) }
+    {
+        if !self.segs.is_empty() {
+            return Ok(());
+        }
+        self.segs.reserve_exact(room)?;
         Ok(())
     }
 
