@@ -53,7 +53,7 @@ fn put_text(
         return Ok(());
     }
     let marks = marks_of(alloc, rest)?;
-    let mut walk = Walk::new(alloc, marks, None);
+    let mut walk = Walk::new(alloc, marks, None)?;
     walk.run(rest, out)?;
     out.put("\n")
 }

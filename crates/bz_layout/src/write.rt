@@ -56,6 +56,7 @@ fn put_indent<T: Sink>(level: usize, out: &mut T) -> Result<(), AllocError>
 }
 
 // Few lines are deeper than the levels that have a text of their own here.
+#[inline(never)]
 pub(crate) fn put_new_line<T: Sink>(level: usize, out: &mut T) -> Result<(), AllocError>
     ensures ok { OnOk result (T.bytes out.new ≡ T.bytes out.old ++ gap_bytes (Line level)) }
     ensures begun { IsBegunBy (T.bytes out.old) (T.bytes out.new) }
