@@ -193,7 +193,8 @@ impl Walk {
     }
 
     fn close<T: Sink>(&mut self, one_comma: bool, out: &mut T) -> Result<(), AllocError>
-        ensures laid { OnOk result (laid self.new (T.bytes out.new) ≡ closed_by one_comma (laid self.old (T.bytes out.old))) }
+        ensures laid { OnOk result
+            (laid self.new (T.bytes out.new) ≡ closed_by one_comma (laid self.old (T.bytes out.old))) }
         ensures begun { IsBegunBy (T.bytes out.old) (T.bytes out.new) }
     {
         if self.here.mark.broken {
@@ -234,7 +235,8 @@ impl Walk {
 
     #[inline(never)]
     fn note<T: Sink>(&mut self, gap: Gap, text: &str, out: &mut T) -> Result<(), AllocError>
-        ensures laid { OnOk result (laid self.new (T.bytes out.new) ≡ put_note gap text.now (laid self.old (T.bytes out.old))) }
+        ensures laid { OnOk result
+            (laid self.new (T.bytes out.new) ≡ put_note gap text.now (laid self.old (T.bytes out.old))) }
         ensures begun { IsBegunBy (T.bytes out.old) (T.bytes out.new) }
     {
         if self.here.has_notes() {
@@ -250,8 +252,8 @@ impl Walk {
         rest: &[Part<'_>],
         out: &mut T,
     ) -> Result<(), AllocError>
-        ensures laid { OnOk result
-            (laid self.new (T.bytes out.new) ≡ step (part_view part.now) (map part_view rest.now) (laid self.old (T.bytes out.old))) }
+        ensures laid { OnOk result (laid self.new (T.bytes out.new)
+            ≡ step (part_view part.now) (map part_view rest.now) (laid self.old (T.bytes out.old))) }
         ensures begun { IsBegunBy (T.bytes out.old) (T.bytes out.new) }
     {
         match *part {
@@ -265,7 +267,8 @@ impl Walk {
     }
 
     pub(crate) fn run<T: Sink>(&mut self, parts: &[Part<'_>], out: &mut T) -> Result<(), AllocError>
-        ensures laid { OnOk result (laid self.new (T.bytes out.new) ≡ run (map part_view parts.now) (laid self.old (T.bytes out.old))) }
+        ensures laid { OnOk result
+            (laid self.new (T.bytes out.new) ≡ run (map part_view parts.now) (laid self.old (T.bytes out.old))) }
         ensures begun { IsBegunBy (T.bytes out.old) (T.bytes out.new) }
     {
         let mut rest = parts;
