@@ -20,7 +20,7 @@ pub fn flat(
     let mut parts = Vec::new(alloc);
     push_nodes(nodes, &mut parts)?;
     let mut text = String::new(alloc);
-    let mut walk = Walk::new(alloc, Vec::new(alloc), in_group);
+    let mut walk = Walk::new(alloc, Vec::new(alloc), in_group)?;
     walk.run(&parts, &mut text)?;
     Ok(text)
 }

@@ -6,6 +6,7 @@ ghost use Rattle.bz_tree.specs.Rows.{part_view};
 ghost use Rattle.bz_layout.specs.private.RowLayout.{closed, one_more, mark_of, opened_back, back, scan, scanned};
 
 use crate::broken::breaks_with;
+use crate::walk::FIRST_DEPTH;
 use crate::write::has_commas;
 use bz_tree::{GroupKind, Part};
 use std::alloc::{AllocError, Global};
@@ -114,7 +115,7 @@ pub(crate) fn marks_of(alloc: Global, parts: &[Part<'_>]) -> Result<Vec<Mark>, A
     let mut walk = Marks {
         marks: Vec::with_capacity(alloc, FIRST_CAPACITY)?,
         here: Inside::closed(false),
-        outer: Vec::new(alloc),
+        outer: Vec::with_capacity(alloc, FIRST_DEPTH)?,
     };
     let mut i = parts.len();
     while i > 0 {

@@ -2,6 +2,7 @@
 
 ghost use Rattle.std.specs.Prelude.{◌≡◌, ◌++◌, ◌∷◌, [], List, ℕ, true, false, IfSome, IfNone, OnOk};
 ghost use Rattle.std.specs.List.{list_all};
+ghost use Rattle.bz_token.specs.declared.token.Kind.TheVariants.{Text};
 ghost use Rattle.bz_layout.specs.Respell.{is_plain, respell};
 ghost use Rattle.bz_layout.specs.private.Kept.{IsBegunBy};
 
@@ -29,19 +30,6 @@ fn are_plain(bytes: &[u8]) -> bool
 }
 
 // The content of a string without prefix in single quotes that holds neither a quote nor a backslash.
-#[inline(always)]
-fn single_content(text: &str) -> Option<&str>
-    ensures some { IfSome result
-        (λ inner. (text.now ≡ 39 ∷ (inner.now ++ 39 ∷ [])) × (list_all is_plain inner.now ≡ true)) }
-    ensures none { IfNone result
-        ((inner : List ℕ) → text.now ≡ 39 ∷ (inner ++ 39 ∷ []) → list_all is_plain inner ≡ false) }
-{
-    match text.as_bytes() {
-        [b'\'', ..] => stripped(text),
-        _ => None,
-    }
-}
-
 fn stripped(text: &str) -> Option<&str>
     ensures some { IfSome result
         (λ inner. (text.now ≡ 39 ∷ (inner.now ++ 39 ∷ [])) × (list_all is_plain inner.now ≡ true)) }
@@ -61,18 +49,30 @@ fn stripped(text: &str) -> Option<&str>
     }
 }
 
+// Appends the written form of a string that begins with a single quote.
+#[inline(never)]
+fn put_single<T: Sink>(text: &str, out: &mut T) -> Result<(), AllocError>
+    ensures ok { OnOk result (T.bytes out.new ≡ T.bytes out.old ++ respell Text text.now) }
+    ensures begun { IsBegunBy (T.bytes out.old) (T.bytes out.new) }
+{
+    match stripped(text) {
+        Some(inner) => {
+            out.put("\"")?;
+            out.put(inner)?;
+            out.put("\"")
+        }
+        None => out.put(text),
+    }
+}
+
 // Appends the written form of a token.
 #[inline(always)]
 pub(crate) fn put_written<T: Sink>(kind: Kind, text: &str, out: &mut T) -> Result<(), AllocError>
     ensures ok { OnOk result (T.bytes out.new ≡ T.bytes out.old ++ respell kind text.now) }
     ensures begun { IsBegunBy (T.bytes out.old) (T.bytes out.new) }
 {
-    if matches!(kind, Kind::Text) {
-        if let Some(inner) = single_content(text) {
-            out.put("\"")?;
-            out.put(inner)?;
-            return out.put("\"");
-        }
+    match (kind, text.as_bytes()) {
+        (Kind::Text, [b'\'', ..]) => put_single(text, out),
+        _ => out.put(text),
     }
-    out.put(text)
 }

@@ -15,7 +15,7 @@ use crate::walk::Walk;
 use bz_tree::{Class, Part, Row, Stmt, push_parts};
 use std::alloc::{AllocError, Global};
 
-// Room for the parts of most statements.
+// Most statements have no more parts.
 const FIRST_PARTS: usize = 40;
 
 // The comments above the statement, each with its newline, and the parts after them.
@@ -53,11 +53,12 @@ fn put_text(
         return Ok(());
     }
     let marks = marks_of(alloc, rest)?;
-    let mut walk = Walk::new(alloc, marks, None);
+    let mut walk = Walk::new(alloc, marks, None)?;
     walk.run(rest, out)?;
     out.put("\n")
 }
 
+// A refusal leaves `out` as it was.
 fn put_parts(
     alloc: Global,
     parts: &[Part<'_>],

@@ -1,6 +1,6 @@
 //! The walk forwards over the parts of a statement, which writes them.
 
-ghost use Rattle.std.specs.Prelude.{◌≡◌, ◌++◌, ℕ, List, OnOk, map, reverse};
+ghost use Rattle.std.specs.Prelude.{◌≡◌, ◌++◌, ℕ, List, IfOk, OnOk, map, reverse};
 ghost use Rattle.bz_tree.specs.Rows.{part_view};
 ghost use Rattle.bz_layout.specs.declared.spacing.Gap.TheVariants.{Apart, Line};
 ghost use Rattle.bz_layout.specs.private.Kept.{IsBegunBy};
@@ -15,6 +15,9 @@ use crate::write::{closing, opening, put, put_new_line};
 use bz_token::Kind;
 use bz_tree::{GroupKind, Part};
 use std::alloc::{AllocError, Global};
+
+// Few brackets are deeper.
+pub(crate) const FIRST_DEPTH: usize = 16;
 
 // A bracket that is open, or the top.
 #[derive(Clone, Copy)]
@@ -77,16 +80,21 @@ impl Frame {
 
 impl Walk {
     // `within` is the group that all the parts stand in. With no marks no bracket is broken.
-    pub(crate) fn new(alloc: Global, marks: Vec<Mark>, within: Option<GroupKind>) -> Walk
-        ensures { (text : List ℕ) → laid result text ≡ start text (reverse marks.items) within }
+    pub(crate) fn new(
+        alloc: Global,
+        marks: Vec<Mark>,
+        within: Option<GroupKind>,
+    ) -> Result<Walk, AllocError>
+        ensures { IfOk result
+            (λ walk. (text : List ℕ) → laid walk text ≡ start text (reverse marks.items) within) }
     {
-        Walk {
+        Ok(Walk {
             marks,
-            outer: Vec::new(alloc),
+            outer: Vec::with_capacity(alloc, FIRST_DEPTH)?,
             here: Frame::top(within),
             left: Edge::Start,
             level: 0,
-        }
+        })
     }
 
     // The gap before the first node of a segment.
@@ -112,11 +120,13 @@ impl Walk {
             ++ gap_bytes (gap_for (first_gap self.now.here self.now.level) self.now.left closes)) }
         ensures begun { IsBegunBy (T.bytes out.old) (T.bytes out.new) }
     {
-        match self.left {
-            Edge::Start => self.put_first(out),
-            Edge::Joined | Edge::Dotted => Ok(()),
-            Edge::Operator | Edge::Operand => { if closes { Ok(()) } else { out.put(" ") } }
+        if matches!(self.left, Edge::Start) {
+            return self.put_first(out);
         }
+        if closes || matches!(self.left, Edge::Joined | Edge::Dotted) {
+            return Ok(());
+        }
+        out.put(" ")
     }
 
     #[inline(always)]
@@ -183,7 +193,8 @@ impl Walk {
     }
 
     fn close<T: Sink>(&mut self, one_comma: bool, out: &mut T) -> Result<(), AllocError>
-        ensures laid { OnOk result (laid self.new (T.bytes out.new) ≡ closed_by one_comma (laid self.old (T.bytes out.old))) }
+        ensures laid { OnOk result
+            (laid self.new (T.bytes out.new) ≡ closed_by one_comma (laid self.old (T.bytes out.old))) }
         ensures begun { IsBegunBy (T.bytes out.old) (T.bytes out.new) }
     {
         if self.here.mark.broken {
@@ -203,10 +214,11 @@ impl Walk {
         Ok(())
     }
 
-    // A segment ends, where `last` tells whether it is the last one.
+    // A segment ends, with these parts after it.
     #[inline(always)]
-    fn end<T: Sink>(&mut self, last: bool, out: &mut T) -> Result<(), AllocError>
-        ensures laid { OnOk result (laid self.new (T.bytes out.new) ≡ ended last (laid self.old (T.bytes out.old))) }
+    fn end<T: Sink>(&mut self, rest: &[Part<'_>], out: &mut T) -> Result<(), AllocError>
+        ensures laid { OnOk result (laid self.new (T.bytes out.new)
+            ≡ ended (is_last (map part_view rest.now)) (laid self.old (T.bytes out.old))) }
         ensures begun { IsBegunBy (T.bytes out.old) (T.bytes out.new) }
     {
         self.left = Edge::Start;
@@ -214,15 +226,17 @@ impl Walk {
             if self.here.mark.comma {
                 out.put(",")?;
             }
-        } else if !last {
+        } else if !is_last(rest) {
             out.put(",")?;
             self.here.later = true;
         }
         Ok(())
     }
 
+    #[inline(never)]
     fn note<T: Sink>(&mut self, gap: Gap, text: &str, out: &mut T) -> Result<(), AllocError>
-        ensures laid { OnOk result (laid self.new (T.bytes out.new) ≡ put_note gap text.now (laid self.old (T.bytes out.old))) }
+        ensures laid { OnOk result
+            (laid self.new (T.bytes out.new) ≡ put_note gap text.now (laid self.old (T.bytes out.old))) }
         ensures begun { IsBegunBy (T.bytes out.old) (T.bytes out.new) }
     {
         if self.here.has_notes() {
@@ -238,22 +252,23 @@ impl Walk {
         rest: &[Part<'_>],
         out: &mut T,
     ) -> Result<(), AllocError>
-        ensures laid { OnOk result
-            (laid self.new (T.bytes out.new) ≡ step (part_view part.now) (map part_view rest.now) (laid self.old (T.bytes out.old))) }
+        ensures laid { OnOk result (laid self.new (T.bytes out.new)
+            ≡ step (part_view part.now) (map part_view rest.now) (laid self.old (T.bytes out.old))) }
         ensures begun { IsBegunBy (T.bytes out.old) (T.bytes out.new) }
     {
         match *part {
             Part::Token(kind, text) => self.token(kind, text, out),
             Part::Open(kind) => self.open(kind, out),
             Part::Close(one_comma) => self.close(one_comma, out),
-            Part::End => self.end(is_last(rest), out),
+            Part::End => self.end(rest, out),
             Part::Above(text) => self.note(Gap::Line(self.level), text, out),
             Part::Beside(text) => self.note(Gap::Apart, text, out),
         }
     }
 
     pub(crate) fn run<T: Sink>(&mut self, parts: &[Part<'_>], out: &mut T) -> Result<(), AllocError>
-        ensures laid { OnOk result (laid self.new (T.bytes out.new) ≡ run (map part_view parts.now) (laid self.old (T.bytes out.old))) }
+        ensures laid { OnOk result
+            (laid self.new (T.bytes out.new) ≡ run (map part_view parts.now) (laid self.old (T.bytes out.old))) }
         ensures begun { IsBegunBy (T.bytes out.old) (T.bytes out.new) }
     {
         let mut rest = parts;

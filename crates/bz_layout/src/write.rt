@@ -44,7 +44,7 @@ pub(crate) fn has_commas(kind: GroupKind, one_comma: bool, n: usize) -> bool
     }
 }
 
-#[tactic(auto, using(crate::proofs::Pieces::indent_step, crate::proofs::Kept::begun_both))]
+#[tactic(auto, using(crate::proofs::Pieces::indent_step))]
 fn put_indent<T: Sink>(level: usize, out: &mut T) -> Result<(), AllocError>
     ensures ok { OnOk result (T.bytes out.new ≡ T.bytes out.old ++ indent level) }
     ensures begun { IsBegunBy (T.bytes out.old) (T.bytes out.new) }
@@ -55,7 +55,8 @@ fn put_indent<T: Sink>(level: usize, out: &mut T) -> Result<(), AllocError>
     Ok(())
 }
 
-// Few lines are deeper than the levels that have a text of their own here.
+// Few lines are deeper than the levels whose gap is one text here.
+#[inline(never)]
 pub(crate) fn put_new_line<T: Sink>(level: usize, out: &mut T) -> Result<(), AllocError>
     ensures ok { OnOk result (T.bytes out.new ≡ T.bytes out.old ++ gap_bytes (Line level)) }
     ensures begun { IsBegunBy (T.bytes out.old) (T.bytes out.new) }

@@ -1,10 +1,10 @@
 use Rattle.std.proofs.Common.{arith}
 use Rattle.std.proofs.lemmas.Grind.{common_steps}
 use Rattle.bz_layout.proofs.Quotes.{respell_some}
-use Rattle.bz_layout.proofs.respell.put_written.Goals as goal
+use Rattle.bz_layout.proofs.respell.put_single.Goals as goal
 
-pub returns-in-Some : goal.returns-in-Some
-returns-in-Some g c =
+pub returns-in_ok-put-in-Some-2-clause-ok : goal.returns-in_ok-put-in-Some-2-clause-ok
+returns-in_ok-put-in-Some-2-clause-ok g c =
     let some = c.in-Some.ensures.some in
     let e = respell_some c.args.text.now c.in-Some.inner.now some.0 some.1 in
     grind (arith, common_steps, e)
