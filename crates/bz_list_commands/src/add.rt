@@ -10,12 +10,12 @@ ghost use Rattle.bz_attribute.specs.Effects as spec;
 
 use bz_attribute::chosen::{Chosen, is_any_chosen};
 use bz_attribute::done::{Done, Note};
-use bz_attribute::find::find;
 use bz_attribute::list_labels::labels_in;
 use bz_attribute::lists::first_part;
-use bz_attribute::make::{list_argument, string};
-use bz_attribute::word_set::FEW;
-use bz_command::{Bytes, LabelSet, Package, Text, same_label};
+use bz_attribute::make::{argument, list, string};
+use bz_attribute::rule::find;
+use bz_attribute::word_set::{FEW, is_label};
+use bz_command::{Bytes, LabelSet, Package, Text};
 use bz_tree::{Node, Seg};
 use std::alloc::{AllocError, Global};
 
@@ -38,8 +38,7 @@ pub fn add(
         return add_in(alloc, home, attr, values, &mut args[i]);
     }
     let elements = new_elements(alloc, home, &[], values)?;
-    let arg = list_argument(alloc, attr, elements)?;
-    args.push(arg)?;
+    args.push(argument(alloc, attr, list(alloc, elements))?)?;
     Ok(Done::quiet(true))
 }
 
@@ -59,8 +58,7 @@ fn add_in(
 {
     let value = &arg.nodes[2..];
     let Some(part) = first_part(value) else {
-        let attr = Text::from_str(alloc, attr)?;
-        return Ok(Done::failure(Note::NotAList(attr)));
+        return Ok(Done::failure(Note::NotAList(Text::from_str(alloc, attr)?)));
     };
     let new = new_elements(alloc, home, value, values)?;
     let changed = new.len() > 0;
@@ -112,26 +110,15 @@ fn is_fresh<'t>(
         None => Ok(
             !is_any_chosen(home, Chosen::Value(word), value) && !is_any_same(home, word, earlier),
         ),
-        Some(set) => {
-            let fresh = set.insert(Bytes::Plain(word.as_bytes()))?;
-            Ok(fresh)
-        }
+        Some(set) => Ok(set.insert(Bytes::Plain(word.as_bytes()))?),
     }
 }
 
 fn is_any_same(home: &Package, word: &str, others: &[Text]) -> bool
     ensures { result ≡ list_any (same home.now word.now) others.now }
 {
-    for other in others {
-        if same_label(
-            home,
-            Bytes::Plain(word.as_bytes()),
-            Bytes::Plain(other.as_str().as_bytes()),
-        ) {
-            return true;
-        }
-    }
-    false
+    let word = Bytes::Plain(word.as_bytes());
+    others.iter().any(|other| is_label(home, word, other))
 }
 
 // Adds elements at the end of a list. An `Err` leaves the node as it was.
@@ -142,9 +129,6 @@ fn append_in<'a>(node: &mut Node<'a>, mut new: Vec<Seg<'a>>) -> Result<(), Alloc
 {
     match node {
         Node::Token(_) => Ok(()),
-        Node::Group(group) => {
-            group.segs.append(&mut new)?;
-            Ok(())
-        }
+        Node::Group(group) => Ok(group.segs.append(&mut new)?),
     }
 }

@@ -16,9 +16,9 @@ use crate::arrivals::keep_arrivals;
 use crate::taking::{Choice, count_in, take_from, value_at};
 use bz_attribute::chosen::Chosen;
 use bz_attribute::done::{Done, Note};
-use bz_attribute::find::find;
 use bz_attribute::lists::{elements_at, first_part};
-use bz_attribute::make::list_argument;
+use bz_attribute::make::{argument, list};
+use bz_attribute::rule::find;
 use bz_attribute::word_set::word_set;
 use bz_command::{Moved, Package, Text};
 use bz_tree::{Node, Seg};
@@ -98,8 +98,7 @@ fn give_list(alloc: Global, attr: &str, args: &mut Vec<Seg<'_>>) -> Result<(), A
     if find(args, attr).is_some() {
         return Ok(());
     }
-    let arg = list_argument(alloc, attr, Vec::new(alloc))?;
-    args.push(arg)?;
+    args.push(argument(alloc, attr, list(alloc, Vec::new(alloc)))?)?;
     Ok(())
 }
 
@@ -112,27 +111,23 @@ fn move_note(
     ensures { IfOk result (λ note. note ≡ spec.move_note old.now new.now (segs_view args.now)) }
 {
     if find(args, old).is_none() {
-        let attr = Text::from_str(alloc, old)?;
-        return Ok(Some(Note::NoAttribute(attr)));
+        return Ok(Some(Note::NoAttribute(Text::from_str(alloc, old)?)));
     }
     if let Some(note) = not_a_list(alloc, old, args)? {
         return Ok(Some(note));
     }
-    let note = not_a_list(alloc, new, args)?;
-    Ok(note)
+    not_a_list(alloc, new, args)
 }
 
 fn not_a_list(alloc: Global, attr: &str, args: &[Seg<'_>]) -> Result<Option<Note>, AllocError>
     ensures { IfOk result (λ note. note ≡ effects.not_a_list attr.now (first_named attr.now (segs_view args.now))) }
 {
-    let Some(i) = find(args, attr) else {
-        return Ok(None);
-    };
-    if first_part(&args[i].nodes[2..]).is_some() {
-        return Ok(None);
+    match find(args, attr) {
+        Some(i) if first_part(&args[i].nodes[2..]).is_none() => {
+            Ok(Some(Note::NotAList(Text::from_str(alloc, attr)?)))
+        }
+        _ => Ok(None),
     }
-    let attr = Text::from_str(alloc, attr)?;
-    Ok(Some(Note::NotAList(attr)))
 }
 
 // How many elements stand in the first list part of a value.

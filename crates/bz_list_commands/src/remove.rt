@@ -9,11 +9,10 @@ ghost use Rattle.bz_command.specs.Commands.{Values};
 ghost use Rattle.bz_attribute.specs.Rules.{first_named};
 ghost use Rattle.bz_list_commands.specs.private.EditSteps.{goes, is_lost, edit_attribute};
 
-use bz_attribute::chosen::{Chosen, chooses, drop_in, loses_all};
+use bz_attribute::chosen::{Chosen, drop_in, is_any_chosen, loses_all};
 use bz_attribute::done::Done;
-use bz_attribute::find::find;
 use bz_attribute::lists::is_attribute;
-use bz_attribute::rule::is_named;
+use bz_attribute::rule::{find, is_named, value_of};
 use bz_attribute::word_set::word_set;
 use bz_command::{Attributes, Package, Text};
 use bz_tree::Seg;
@@ -87,7 +86,7 @@ fn remove_values<'v>(
     };
     let words = word_set(alloc, home, values)?;
     let chosen = Chosen::Words(&words);
-    let changed = chooses(home, chosen, &args[i]);
+    let changed = is_any_chosen(home, chosen, value_of(&args[i]));
     if loses_all(home, chosen, &args[i]) {
         let _ = args.remove(i);
     } else {
@@ -122,12 +121,7 @@ fn remove_everywhere<'v>(
 fn chooses_anywhere(home: &Package, chosen: Chosen<'_, '_>, args: &[Seg<'_>]) -> bool
     ensures { result ≡ spec.chooses_anywhere home.now (chosen_view chosen.entry) (segs_view args.now) }
 {
-    for arg in args {
-        if is_attribute(arg) && chooses(home, chosen, arg) {
-            return true;
-        }
-    }
-    false
+    args.iter().any(|arg| is_attribute(arg) && is_any_chosen(home, chosen, value_of(arg)))
 }
 
 // No element of the attribute would be left.

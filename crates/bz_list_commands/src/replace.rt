@@ -4,7 +4,7 @@ ghost use Rattle.std.specs.Prelude.{◌≡◌, ◌<◌, None, map, length, if◌
 ghost use Rattle.bz_tree.specs.View.{node_view, nodes_view, seg_view, segs_view};
 ghost use Rattle.bz_command.specs.CommandViews.{attributes_view};
 ghost use Rattle.bz_command.specs.Commands.{Every, Named};
-ghost use Rattle.bz_attribute.specs.Rules.{elements, is_text, string_value};
+ghost use Rattle.bz_attribute.specs.Rules.{elements};
 ghost use Rattle.bz_attribute.specs.Lists.{edit_list, edit_parts};
 ghost use Rattle.bz_attribute.specs.Effects.{done};
 ghost use Rattle.bz_list_commands.specs.private.EditSteps.{edit_attribute};
@@ -15,11 +15,10 @@ use crate::taking::{Choice, count_in};
 use bz_attribute::chosen::Chosen;
 use bz_attribute::done::Done;
 use bz_attribute::equals::equals;
-use bz_attribute::find::find;
 use bz_attribute::lists::{are_joints, is_attribute, is_part};
 use bz_attribute::make::string;
-use bz_attribute::rule::{is_sign, only_text, value_of};
-use bz_command::{Attributes, Package, has_value};
+use bz_attribute::rule::{find, is_sign, is_string, value_of};
+use bz_command::{Attributes, Package};
 use bz_tree::{Node, Seg};
 use std::alloc::{AllocError, Global};
 
@@ -80,16 +79,7 @@ fn replace_everywhere(
 fn is_replaced(change: Change<'_>, element: &Seg<'_>) -> bool
     ensures { result ≡ goes change.entry (seg_view element.now) }
 {
-    equals(change.home, element, change.old) && !is_exactly(element, change.new)
-}
-
-fn is_exactly(element: &Seg<'_>, word: &str) -> bool
-    ensures { result ≡ is_text word.now (string_value (nodes_view element.now.nodes.items)) }
-{
-    match only_text(&element.nodes) {
-        None => false,
-        Some(text) => has_value(text.as_bytes(), word.as_bytes()),
-    }
+    equals(change.home, element, change.old) && !is_string(&element.nodes, change.new)
 }
 
 // How many elements of the attributes equal the old value: so many strings are enough.
