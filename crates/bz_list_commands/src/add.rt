@@ -1,11 +1,11 @@
 //! `add`: values that are missing go to the end of a list.
 
-ghost use Rattle.std.specs.Prelude.{◌≡◌, ◌≤◌, ◌++◌, ◌∷◌, [], Some, length, IfOk, IfSome, OnOk, OnErr};
+ghost use Rattle.std.specs.Prelude.{◌≡◌, ◌≤◌, ◌++◌, ◌∷◌, [], length, IfOk, IfSome, OnOk, OnErr};
 ghost use Rattle.std.specs.List.{list_any};
 ghost use Rattle.bz_tree.specs.View.{node_view, nodes_view, seg_view, segs_view};
 ghost use Rattle.bz_attribute.specs.Rules.{first_named};
 ghost use Rattle.bz_attribute.specs.Lists.{edit_list, parts, same};
-ghost use Rattle.bz_list_commands.specs.private.AddingSteps.{Knows};
+ghost use Rattle.bz_list_commands.specs.private.AddingSteps.{Knows, told};
 ghost use Rattle.bz_attribute.specs.Effects as spec;
 
 use bz_attribute::chosen::{Chosen, is_any_chosen};
@@ -51,9 +51,7 @@ fn add_in(
 ) -> Result<Done, AllocError>
     requires { 2 ≤ length arg.old.nodes.items }
     ensures arg { OnOk result (seg_view arg.new ≡ spec.with_added home.now values.now (seg_view arg.old)) }
-    ensures done { IfOk result
-        (λ done. done ≡ spec.done (spec.not_a_list attr.now (Some (seg_view arg.old)))
-        (spec.adds home.now values.now (Some (seg_view arg.old)))) }
+    ensures done { IfOk result (λ done. done ≡ told home.now attr.now values.now (seg_view arg.old)) }
     ensures err { OnErr result (seg_view arg.new ≡ seg_view arg.old) }
 {
     let value = &arg.nodes[2..];

@@ -4,13 +4,13 @@ ghost use Rattle.std.specs.Prelude.{◌≡◌, ◌≤◌, ◌<◌, ◌+◌, ◌+
 ghost use Rattle.std.specs.Vec.{vec_len, vec_capacity};
 ghost use Rattle.bz_tree.specs.View.{node_view, nodes_view, seg_view, segs_view};
 ghost use Rattle.bz_attribute.specs.Rules.{elements, first_named, is_named, value};
-ghost use Rattle.bz_attribute.specs.Lists.{edit_first_part, edit_list, parts, with_value};
+ghost use Rattle.bz_attribute.specs.Lists.{edit_list, parts};
 ghost use Rattle.bz_command.specs.CommandViews.{moved_view};
-ghost use Rattle.bz_attribute.specs.private.ChosenViews.{chosen_view};
 ghost use Rattle.bz_attribute.specs.private.Places.{first_length, first_list};
 ghost use Rattle.bz_attribute.specs.Effects as effects;
 ghost use Rattle.bz_attribute.specs.Moving as spec;
-ghost use Rattle.bz_list_commands.specs.private.MovingSteps.{with_list};
+ghost use Rattle.bz_list_commands.specs.private.MovingSteps.{with_arrivals, with_list, with_more};
+ghost use Rattle.bz_list_commands.specs.private.TakingSteps.{moved, moves};
 
 use crate::arrivals::keep_arrivals;
 use crate::taking::{Choice, count_in, take_from, value_at};
@@ -69,12 +69,9 @@ fn move_chosen(
 ) -> Result<Done, AllocError>
     requires { bytes_eq old.now new.now ≡ false }
     ensures args { OnOk result
-        (segs_view args.new.items
-        ≡ spec.moved_where choice.entry.home.now old.now new.now (chosen_view choice.entry.chosen)
-        (segs_view args.old.items)) }
+        (segs_view args.new.items ≡ moved choice.entry old.now new.now (segs_view args.old.items)) }
     ensures done { IfOk result
-        (λ done. done ≡ effects.done None
-        (spec.moves choice.entry.home.now old.now (chosen_view choice.entry.chosen) (segs_view args.old.items))) }
+        (λ done. done ≡ effects.done None (moves choice.entry old.now (segs_view args.old.items))) }
     ensures err { OnErr result (segs_view args.new.items ≡ segs_view args.old.items) }
 {
     let count = count_in(choice, value_at(args, old))?;
@@ -150,10 +147,7 @@ fn arrive<'a>(
 )
     requires { first_length (first_named attr.now (segs_view args.old)) + vec_len elements ≤ vec_capacity elements }
     ensures { segs_view args.new
-        ≡ effects.edit_first (is_named attr.now)
-        (λ a. with_value (edit_first_part (λ there. there
-        ++ spec.arrivals home.now (spec.elements_of (first_named attr.now (segs_view args.old)))
-        (segs_view elements.entry.items)) (value a)) a ∷ []) (segs_view args.old) }
+        ≡ with_arrivals home.now attr.now (segs_view elements.entry.items) (segs_view args.old) }
 {
     let Some(i) = find(args, attr) else {
         return;
@@ -165,9 +159,7 @@ fn arrive<'a>(
 fn put_in<'a>(arg: &mut Seg<'a>, later: Vec<Seg<'a>>)
     requires value { 2 ≤ length arg.old.nodes.items }
     requires room { length (first_list (parts (value (seg_view arg.old)))) + vec_len later ≤ vec_capacity later }
-    ensures { seg_view arg.new
-        ≡ with_value (edit_first_part (λ there. there ++ segs_view later.entry.items) (value (seg_view arg.old)))
-        (seg_view arg.old) }
+    ensures { seg_view arg.new ≡ with_more (segs_view later.entry.items) (seg_view arg.old) }
 {
     if let Some(part) = first_part(&arg.nodes[2..]) {
         put_in_list(&mut arg.nodes[2 + part], later);

@@ -5,9 +5,7 @@ ghost use Rattle.bz_tree.specs.View.{seg_view, segs_view};
 ghost use Rattle.bz_attribute.specs.Effects as spec;
 ghost use Rattle.bz_command.specs.CommandViews.{attributes_view};
 ghost use Rattle.bz_attribute.specs.private.ChosenViews.{chosen_view};
-ghost use Rattle.bz_command.specs.Commands.{Values};
-ghost use Rattle.bz_attribute.specs.Rules.{first_named};
-ghost use Rattle.bz_list_commands.specs.private.EditSteps.{goes, is_lost, edit_attribute};
+ghost use Rattle.bz_list_commands.specs.private.EditSteps.{any_has_any, cleared, edit_attribute, goes, has_any};
 
 use bz_attribute::chosen::{Chosen, drop_in, is_any_chosen, loses_all};
 use bz_attribute::done::Done;
@@ -76,9 +74,7 @@ fn remove_values<'v>(
     ensures args { OnOk result
         (segs_view args.new.items ≡ spec.remove_values home.now attr.now values.now (segs_view args.old.items)) }
     ensures done { IfOk result
-        (λ done. done
-        ≡ spec.done None
-        (spec.chooses_in home.now (Values values.now) (first_named attr.now (segs_view args.old.items)))) }
+        (λ done. done ≡ spec.done None (has_any home.now attr.now values.now (segs_view args.old.items))) }
     ensures err { OnErr result (segs_view args.new.items ≡ segs_view args.old.items) }
 {
     let Some(i) = find(args, attr) else {
@@ -103,17 +99,15 @@ fn remove_everywhere<'v>(
     args: &mut Vec<Seg<'_>>,
 ) -> Result<Done, AllocError>
     ensures args { OnOk result
-        (segs_view args.new.items
-        ≡ spec.filtered_everywhere (spec.unchosen home.now (Values values.now)) (segs_view args.old.items)) }
+        (segs_view args.new.items ≡ cleared home.now values.now (segs_view args.old.items)) }
     ensures done { IfOk result
-        (λ done. done
-        ≡ spec.done None (spec.chooses_anywhere home.now (Values values.now) (segs_view args.old.items))) }
+        (λ done. done ≡ spec.done None (any_has_any home.now values.now (segs_view args.old.items))) }
     ensures err { OnErr result (segs_view args.new.items ≡ segs_view args.old.items) }
 {
     let words = word_set(alloc, home, values)?;
     let chosen = Chosen::Words(&words);
     let changed = chooses_anywhere(home, chosen, args);
-    args.retain(|arg| !is_lost(home, chosen, arg));
+    args.retain(|arg| !is_attribute(arg) || !loses_all(home, chosen, arg));
     drop_everywhere(home, chosen, args);
     Ok(Done::quiet(changed))
 }
@@ -122,13 +116,6 @@ fn chooses_anywhere(home: &Package, chosen: Chosen<'_, '_>, args: &[Seg<'_>]) ->
     ensures { result ≡ spec.chooses_anywhere home.now (chosen_view chosen.entry) (segs_view args.now) }
 {
     args.iter().any(|arg| is_attribute(arg) && is_any_chosen(home, chosen, value_of(arg)))
-}
-
-// No element of the attribute would be left.
-fn is_lost(home: &Package, chosen: Chosen<'_, '_>, arg: &Seg<'_>) -> bool
-    ensures { result ≡ is_lost (spec.unchosen home.now (chosen_view chosen.entry)) (seg_view arg.now) }
-{
-    is_attribute(arg) && loses_all(home, chosen, arg)
 }
 
 fn drop_everywhere(home: &Package, chosen: Chosen<'_, '_>, args: &mut [Seg<'_>])

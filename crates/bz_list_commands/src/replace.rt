@@ -9,7 +9,7 @@ ghost use Rattle.bz_attribute.specs.Lists.{edit_list, edit_parts};
 ghost use Rattle.bz_attribute.specs.Effects.{done};
 ghost use Rattle.bz_list_commands.specs.private.EditSteps.{edit_attribute};
 ghost use Rattle.bz_attribute.specs.Replacing as spec;
-ghost use Rattle.bz_list_commands.specs.private.ReplaceSteps.{AreStrings, HasStrings, Uses, count, count_at, count_everywhere, count_in, goes, old_everywhere, put};
+ghost use Rattle.bz_list_commands.specs.private.ReplaceSteps.{AreStrings, HasStrings, Uses, count, count_at, count_everywhere, count_in, goes, old_everywhere, put, replaced_everywhere, replaces_anywhere};
 
 use crate::taking::{Choice, count_in};
 use bz_attribute::chosen::Chosen;
@@ -62,12 +62,8 @@ fn replace_everywhere(
     change: Change<'_>,
     args: &mut [Seg<'_>],
 ) -> Result<Done, AllocError>
-    ensures args { OnOk result
-        (segs_view args.new
-        ≡ spec.replace change.entry.home.now Every change.entry.old.now change.entry.new.now (segs_view args.old)) }
-    ensures done { IfOk result
-        (λ d. d ≡ done None
-        (spec.replaces change.entry.home.now Every change.entry.old.now change.entry.new.now (segs_view args.old))) }
+    ensures args { OnOk result (segs_view args.new ≡ replaced_everywhere change.entry (segs_view args.old)) }
+    ensures done { IfOk result (λ d. d ≡ done None (replaces_anywhere change.entry (segs_view args.old))) }
     ensures err { OnErr result (segs_view args.new ≡ segs_view args.old) }
 {
     let count = count_old(change, args)?;
