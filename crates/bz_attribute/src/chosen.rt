@@ -45,6 +45,7 @@ pub fn any_chosen(home: &Package, chosen: Chosen<'_, '_>, elements: &[Seg<'_>]) 
     elements.iter().any(|seg| is_chosen(home, chosen, seg))
 }
 
+/// An element of the list parts of a value is chosen.
 pub fn is_any_chosen(home: &Package, chosen: Chosen<'_, '_>, value: &[Node<'_>]) -> bool
     ensures { result
         ≡ list_any (list_any (spec.is_chosen home.now (chosen_view chosen.entry))) (parts (nodes_view value.now)) }
@@ -60,13 +61,6 @@ pub fn is_any_chosen(home: &Package, chosen: Chosen<'_, '_>, value: &[Node<'_>])
         start = is_sign(&value[i], "+");
     }
     false
-}
-
-/// An element of the argument's list parts is chosen.
-pub fn chooses(home: &Package, chosen: Chosen<'_, '_>, arg: &Seg<'_>) -> bool
-    ensures { result ≡ spec.chooses home.now (chosen_view chosen.entry) (seg_view arg.now) }
-{
-    is_any_chosen(home, chosen, value_of(arg))
 }
 
 // Drops the chosen elements.

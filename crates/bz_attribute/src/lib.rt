@@ -4,7 +4,6 @@
 pub mod chosen;
 pub mod done;
 pub mod equals;
-pub mod find;
 pub mod list_labels;
 pub mod lists;
 pub mod make;

@@ -42,7 +42,8 @@ pub fn string<'a>(alloc: Global, value: &str) -> Result<Seg<'a>, AllocError>
     Ok(segment(alloc, nodes))
 }
 
-fn segment<'a>(alloc: Global, nodes: Vec<Node<'a>>) -> Seg<'a>
+/// An element of some nodes. It takes no memory.
+pub fn segment<'a>(alloc: Global, nodes: Vec<Node<'a>>) -> Seg<'a>
     ensures { seg_view result ≡ record { before = []; nodes = nodes_view nodes.entry.items; suffix = None } }
 {
     Seg {
@@ -82,16 +83,4 @@ pub fn argument<'a>(alloc: Global, attr: &str, value: Node<'a>) -> Result<Seg<'a
     let name = token(alloc, Kind::Ident, attr)?;
     let nodes = vec![in alloc; name, token(alloc, Kind::Sign, "=")?, value]?;
     Ok(segment(alloc, nodes))
-}
-
-/// A new argument whose value is a list.
-pub fn list_argument<'a>(
-    alloc: Global,
-    attr: &str,
-    elements: Vec<Seg<'a>>,
-) -> Result<Seg<'a>, AllocError>
-    ensures { IfOk result
-        (λ seg. seg_view seg ≡ spec.argument attr.now (spec.list_item (segs_view elements.entry.items) ∷ [])) }
-{
-    argument(alloc, attr, list(alloc, elements))
 }

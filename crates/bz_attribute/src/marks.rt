@@ -6,7 +6,7 @@ ghost use Rattle.bz_command.specs.Labels.{Name};
 ghost use Rattle.bz_attribute.specs.Marks as spec;
 ghost use Rattle.bz_attribute.specs.Rules.{is_text, name_in, kind_text};
 
-use crate::rule::{name_text, rule_of};
+use crate::rule::{Rule, name_text, rule_of};
 use bz_command::{Marked, Target, has_value, plain_text};
 use bz_tree::{Node, Seg, Stmt};
 
@@ -47,16 +47,10 @@ pub enum RuleName<'s> {
 pub fn rule_name<'s>(stmt: &'s Stmt<'_>) -> RuleName<'s>
     ensures { spec.IsNamed (λ name. spec.marks (Name name) (view stmt.now)) result }
 {
-    match rule_of(&stmt.nodes) {
-        None => RuleName::NoName,
-        Some(rule) => name_among(&rule.call.segs),
-    }
-}
-
-fn name_among<'s>(args: &'s [Seg<'_>]) -> RuleName<'s>
-    ensures { spec.IsNamed (λ name. is_text name (name_in (segs_view args.now))) result }
-{
-    let Some(text) = name_text(args) else {
+    let Some(Rule { call, .. }) = rule_of(&stmt.nodes) else {
+        return RuleName::NoName;
+    };
+    let Some(text) = name_text(&call.segs) else {
         return RuleName::NoName;
     };
     match plain_text(text) {

@@ -1,11 +1,12 @@
 //! The view of a statement as a rule: reading only, no memory.
 
-ghost use Rattle.std.specs.Prelude.{◌≡◌, false, option_map, true, IfNone, IfSome};
+ghost use Rattle.std.specs.Prelude.{◌≡◌, false, option_map, true, IfNone, IfSome, None};
 ghost use Rattle.bz_tree.specs.View.{node_view, nodes_view, seg_view, segs_view};
 ghost use Rattle.bz_attribute.specs.RuleViews.{IsCall, rule_view};
+ghost use Rattle.bz_attribute.specs.private.Places.{IsFirst, IsAbsent, IsCallAt};
 ghost use Rattle.bz_attribute.specs.Rules as spec;
 
-use crate::find::find;
+use bz_command::has_value;
 use bz_token::Kind;
 use bz_tree::{Group, GroupKind, Node, Seg};
 
@@ -28,6 +29,15 @@ pub fn rule_of<'n, 'a>(nodes: &'n [Node<'a>]) -> Option<Rule<'n, 'a>>
         return None;
     }
     Some(Rule { kind, call })
+}
+
+/// Where the call of a rule stands, or nothing where the nodes are no rule.
+pub fn call_at(nodes: &[Node<'_>]) -> Option<usize>
+    ensures some { IfSome result (IsCallAt nodes.now) }
+    ensures none { IfNone result (spec.rule_of (nodes_view nodes.now) ≡ None) }
+{
+    let _ = rule_of(nodes)?;
+    Some(nodes.len() - 1)
 }
 
 fn call_of<'n, 'a>(node: &'n Node<'a>) -> Option<&'n Group<'a>>
@@ -85,6 +95,14 @@ pub fn is_named(arg: &Seg<'_>, name: &str) -> bool
     name_of(&arg.nodes).is_some_and(|other| other == name)
 }
 
+/// Where the first argument of a name stands.
+pub fn find(args: &[Seg<'_>], name: &str) -> Option<usize>
+    ensures some { IfSome result (IsFirst name.now args.now) }
+    ensures none { IfNone result (IsAbsent name.now args.now) }
+{
+    args.iter().position(|arg| is_named(arg, name))
+}
+
 /// The first argument of a name.
 pub fn first_named<'n, 'a>(args: &'n [Seg<'a>], name: &str) -> Option<&'n Seg<'a>>
     ensures { option_map (λ arg. seg_view arg.now) result ≡ spec.first_named name.now (segs_view args.now) }
@@ -107,19 +125,20 @@ pub fn value_of<'n, 'a>(arg: &'n Seg<'a>) -> &'n [Node<'a>]
 pub fn only_text<'n>(nodes: &'n [Node<'_>]) -> Option<&'n str>
     ensures { option_map (λ text. text.now) result ≡ spec.only_text (nodes_view nodes.now) }
 {
-    match nodes {
-        [node] => text_of(node),
-        _ => None,
-    }
-}
-
-fn text_of<'n>(node: &'n Node<'_>) -> Option<&'n str>
-    ensures { option_map (λ text. text.now) result ≡ spec.text_of (node_view node.now) }
-{
+    let [node] = nodes else {
+        return None;
+    };
     match node {
         Node::Token(leaf) if matches!(leaf.kind, Kind::Text) => Some(leaf.text.as_str()),
         _ => None,
     }
+}
+
+/// The nodes are one string token with this value.
+pub fn is_string(nodes: &[Node<'_>], value: &str) -> bool
+    ensures { result ≡ spec.is_text value.now (spec.string_value (nodes_view nodes.now)) }
+{
+    only_text(nodes).is_some_and(|text| has_value(text.as_bytes(), value.as_bytes()))
 }
 
 /// The text of the string token that the first argument `name` of a rule is.

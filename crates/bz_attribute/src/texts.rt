@@ -29,7 +29,13 @@ pub fn shown(alloc: Global, home: &Package, stmt: &Stmt<'_>) -> Result<String, A
         return Ok(text);
     };
     push_home(&mut text, home)?;
-    push_name(alloc, &mut text, &rule.call.segs, rule.kind)?;
+    match read_name(alloc, &rule.call.segs)? {
+        Some(name) => text.push_str(name.as_str())?,
+        None => {
+            text.push_str("%")?;
+            push_kind(&mut text, rule.kind)?;
+        }
+    }
     Ok(text)
 }
 
@@ -61,24 +67,6 @@ fn push_target(alloc: Global, text: &mut String, target: &Target) -> Result<(), 
         Marked::Line(line) => {
             text.push_str("%")?;
             text.push_str(line.to_string(alloc)?.as_str())
-        }
-    }
-}
-
-fn push_name(
-    alloc: Global,
-    text: &mut String,
-    args: &[Seg<'_>],
-    kind: &[Node<'_>],
-) -> Result<(), AllocError>
-    ensures { OnOk result (string_bytes text.new ≡ string_bytes text.old ++ spec.name_or_kind
-        (name_in (segs_view args.now)) (nodes_view kind.now)) }
-{
-    match read_name(alloc, args)? {
-        Some(name) => text.push_str(name.as_str()),
-        None => {
-            text.push_str("%")?;
-            push_kind(text, kind)
         }
     }
 }

@@ -63,7 +63,8 @@ impl<'a> WordSet<'a> {
     }
 }
 
-fn is_label(home: &Package, value: Bytes<'_>, word: &Text) -> bool
+/// The value is the same label as the word.
+pub fn is_label(home: &Package, value: Bytes<'_>, word: &Text) -> bool
     requires { IsTrue (is_good value) }
     ensures { result ≡ same home.now (left value.entry) word.now }
 {

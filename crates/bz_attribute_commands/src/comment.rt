@@ -10,13 +10,11 @@ ghost use Rattle.bz_attribute_commands.specs.private.CommentPlaces.{IsFirstOf, I
 ghost use Rattle.bz_attribute_commands.specs.private.CommentPlaces as place;
 ghost use Rattle.bz_attribute.specs.Commenting as spec;
 
-use crate::fault::{no_attribute, no_value, not_a_list};
-use bz_attribute::done::Done;
+use bz_attribute::done::{Done, Note};
 use bz_attribute::equals::equals;
-use bz_attribute::find::{call_at, find};
 use bz_attribute::lists::{are_joints, elements_at, first_part, is_part};
-use bz_attribute::rule::is_sign;
-use bz_command::{Commented, Package};
+use bz_attribute::rule::{call_at, find, is_sign};
+use bz_command::{Commented, Package, Text};
 use bz_tree::{Node, Seg, Stmt};
 use std::alloc::{AllocError, Global};
 use std::borrow::CowStr;
@@ -75,7 +73,7 @@ fn comment_attribute(
     ensures err { OnErr result (segs_view args.new ≡ segs_view args.old) }
 {
     let Some(i) = find(args, attr) else {
-        return no_attribute(alloc, attr);
+        return Ok(Done::failure(Note::NoAttribute(Text::from_str(alloc, attr)?)));
     };
     push_line(alloc, text, &mut args[i].before)?;
     Ok(Done::quiet(true))
@@ -97,14 +95,16 @@ fn comment_value(
     ensures err { OnErr result (segs_view args.new ≡ segs_view args.old) }
 {
     let Some(i) = find(args, attr) else {
-        return no_attribute(alloc, attr);
+        return Ok(Done::failure(Note::NoAttribute(Text::from_str(alloc, attr)?)));
     };
     let nodes = &args[i].nodes[2..];
     if first_part(nodes).is_none() {
-        return not_a_list(alloc, attr);
+        return Ok(Done::failure(Note::NotAList(Text::from_str(alloc, attr)?)));
     }
     let Some(part) = part_with(home, value, nodes) else {
-        return no_value(alloc, attr, value);
+        let attr = Text::from_str(alloc, attr)?;
+        let value = Text::from_str(alloc, value)?;
+        return Ok(Done::failure(Note::NoValue { attr, value }));
     };
     comment_in_list(alloc, home, value, text, &mut args[i].nodes[2 + part])?;
     Ok(Done::quiet(true))

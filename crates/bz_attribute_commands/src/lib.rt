@@ -2,7 +2,6 @@
 #![tactic(auto)]
 
 pub mod comment;
-mod fault;
 pub mod print;
 pub mod rename;
 pub mod set;

@@ -199,13 +199,8 @@ fn words_in<'n, 'a>(value: &'n [Node<'a>]) -> Option<&'n [Seg<'a>]>
     ensures some { IfSome result (λ elements. spec.first_elements (nodes_view value.now) ≡ segs_view elements.now) }
 {
     let elements = one_list(value)?;
-    have_strings(elements).then_some(elements)
-}
-
-fn have_strings(elements: &[Seg<'_>]) -> bool
-    ensures { result ≡ list_all spec.has_string (segs_view elements.now) }
-{
-    elements.iter().all(|element| string_of(element).is_some())
+    let are_strings = elements.iter().all(|element| string_of(element).is_some());
+    are_strings.then_some(elements)
 }
 
 // Writes strings with a space between them.

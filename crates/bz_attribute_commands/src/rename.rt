@@ -4,10 +4,10 @@ ghost use Rattle.std.specs.Prelude.{◌≡◌, IfOk, OnOk, OnErr, true};
 ghost use Rattle.bz_tree.specs.View.{segs_view};
 ghost use Rattle.bz_attribute.specs.Effects as spec;
 
-use crate::fault::{attribute_exists, no_attribute};
-use bz_attribute::done::Done;
-use bz_attribute::find::find;
+use bz_attribute::done::{Done, Note};
 use bz_attribute::make::token;
+use bz_attribute::rule::find;
+use bz_command::Text;
 use bz_token::Kind;
 use bz_tree::Seg;
 use std::alloc::{AllocError, Global};
@@ -24,10 +24,10 @@ pub fn rename<'a>(
     ensures err { OnErr result (segs_view args.new ≡ segs_view args.old) }
 {
     let Some(i) = find(args, old) else {
-        return no_attribute(alloc, old);
+        return Ok(Done::failure(Note::NoAttribute(Text::from_str(alloc, old)?)));
     };
     if find(args, new).is_some() {
-        return attribute_exists(alloc, new);
+        return Ok(Done::failure(Note::AttributeExists(Text::from_str(alloc, new)?)));
     }
     let name = token(alloc, Kind::Ident, new)?;
     args[i].nodes[0] = name;

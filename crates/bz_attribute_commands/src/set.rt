@@ -2,7 +2,7 @@
 
 ghost use Rattle.std.specs.Prelude.{◌≡◌, ◌++◌, ◌∷◌, [], None, Some, not, true, false, IfOk, IsOk, OnOk, OnErr};
 ghost use Rattle.bz_tree.specs.View.{node_view, nodes_view, seg_view, segs_view};
-ghost use Rattle.bz_attribute.specs.Rules.{first_named, is_text, string_value};
+ghost use Rattle.bz_attribute.specs.Rules.{first_named};
 ghost use Rattle.bz_attribute.specs.Lists.{with_value};
 ghost use Rattle.bz_attribute.specs.Effects as effects;
 ghost use Rattle.bz_attribute_commands.specs.private.SettingViews.{new_view};
@@ -10,10 +10,9 @@ ghost use Rattle.bz_attribute.specs.Setting as spec;
 
 use crate::value::one_list;
 use bz_attribute::done::Done;
-use bz_attribute::find::find;
 use bz_attribute::make::{argument, list, literal, strings, token};
-use bz_attribute::rule::{ident_of, only_text, value_of};
-use bz_command::{Text, has_value};
+use bz_attribute::rule::{find, ident_of, is_string, value_of};
+use bz_command::Text;
 use bz_token::Kind;
 use bz_tree::{Node, Seg};
 use std::alloc::{AllocError, Global};
@@ -168,27 +167,17 @@ fn is_value(new: New<'_>, value: &[Node<'_>]) -> bool
     ensures { result ≡ spec.is_value (new_view new.entry) (nodes_view value.now) }
 {
     match new {
-        New::String(word) => is_string(word, value),
+        New::String(word) => is_string(value, word),
         New::Number(digits) => matches!(value, [node] if is_int(digits, node)),
         New::Constant(name) => matches!(value, [node] if ident_of(node) == Some(name)),
         New::Strings(words) => one_list(value).is_some_and(|elements| are_strings(words, elements)),
     }
 }
 
-// One string token with this value.
-fn is_string(word: &str, nodes: &[Node<'_>]) -> bool
-    ensures { result ≡ is_text word.now (string_value (nodes_view nodes.now)) }
-{
-    only_text(nodes).is_some_and(|text| has_value(text.as_bytes(), word.as_bytes()))
-}
-
 fn is_int(digits: &str, node: &Node<'_>) -> bool
     ensures { result ≡ spec.is_int digits.now (node_view node.now) }
 {
-    match node {
-        Node::Token(leaf) => leaf.kind == Kind::Int && leaf.text.as_str() == digits,
-        Node::Group(_) => false,
-    }
+    matches!(node, Node::Token(leaf) if leaf.kind == Kind::Int && leaf.text.as_str() == digits)
 }
 
 // Strings with these values, one for each word.
@@ -197,5 +186,5 @@ fn are_strings(words: &[Text], elements: &[Seg<'_>]) -> bool
 {
     let mut pairs = words.iter().zip(elements);
     words.len() == elements.len()
-        && pairs.all(|(word, element)| is_string(word.as_str(), &element.nodes))
+        && pairs.all(|(word, element)| is_string(&element.nodes, word.as_str()))
 }

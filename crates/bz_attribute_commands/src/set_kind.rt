@@ -44,23 +44,13 @@ fn in_nodes(alloc: Global, kind: &str, nodes: &mut Vec<Node<'_>>) -> Result<Done
     if is_kind(rule.kind, kind) {
         return Ok(Done::quiet(false));
     }
-    put_kind(nodes, kind_nodes(alloc, kind)?)?;
-    Ok(Done::quiet(true))
-}
-
-// Puts nodes in place of all but the last. An `Err` leaves all as it was.
-fn put_kind<'a>(nodes: &mut Vec<Node<'a>>, mut kind: Vec<Node<'a>>) -> Result<(), AllocError>
-    ensures nodes { OnOk result
-        (nodes_view nodes.new.items ≡ nodes_view kind.entry.items
-        ++ nodes_view (drop (length nodes.old.items - 1) nodes.old.items)) }
-    ensures err { OnErr result (nodes_view nodes.new.items ≡ nodes_view nodes.old.items) }
-{
+    let mut kind = kind_nodes(alloc, kind)?;
     kind.reserve(1)?;
     if let Some(call) = nodes.pop() {
         kind.push_reserved(call);
     }
     *nodes = kind;
-    Ok(())
+    Ok(Done::quiet(true))
 }
 
 // The tokens of a kind.

@@ -4,7 +4,7 @@ ghost use Rattle.std.specs.Prelude.{◌≡◌};
 ghost use Rattle.bz_command.specs.Commands as spec;
 
 use crate::list::{Seq, Text};
-use std::alloc::{AllocError, AllocFailed};
+use std::alloc::AllocError;
 use std::marker::Model;
 
 /// The attributes that a command speaks of.
@@ -101,10 +101,7 @@ impl Command {
     pub fn is_print(&self) -> bool
         ensures { result ≡ spec.is_print self.now }
     {
-        match self.action {
-            Action::Print(_) => true,
-            _ => false,
-        }
+        matches!(self.action, Action::Print(_))
     }
 }
 
@@ -131,17 +128,6 @@ impl From<AllocError> for CommandFault {
     ghost from_gives = { λ _ e. e ≡ OutOfMemory };
 
     fn from(_: AllocError) -> CommandFault {
-        CommandFault::OutOfMemory
-    }
-}
-
-impl<T: Drop> From<AllocFailed<T>> for CommandFault {
-    ghost use Rattle.std.specs.Prelude.{◌≡◌};
-    ghost use Rattle.bz_command.specs.declared.command.CommandFault.TheVariants.{OutOfMemory};
-
-    ghost from_gives = { λ _ e. e ≡ OutOfMemory };
-
-    fn from(_: AllocFailed<T>) -> CommandFault {
         CommandFault::OutOfMemory
     }
 }

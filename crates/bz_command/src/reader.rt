@@ -58,7 +58,7 @@ fn read_set(mut words: Vec<Text>) -> Result<Command, CommandFault>
     ensures { result ≡ spec.set_of words.items }
 {
     let attr = next_word(&mut words)?;
-    if words.len() == 0 || takes_one(attr.as_str()) && words.len() != 1 {
+    if words.len() == 0 || matches!(attr.as_str(), "name" | "kind") && words.len() != 1 {
         return Err(CommandFault::WrongCount);
     }
     if attr.as_str() == "kind" {
@@ -66,12 +66,6 @@ fn read_set(mut words: Vec<Text>) -> Result<Command, CommandFault>
     }
     let action = Action::Set(Setting::ToValues(attribute(attr)?, Seq::from_vec(words)));
     Ok(Command { action })
-}
-
-fn takes_one(attr: &str) -> bool
-    ensures { result ≡ spec.takes_one attr.now }
-{
-    matches!(attr, "name" | "kind")
 }
 
 fn read_set_kind(mut words: Vec<Text>) -> Result<Command, CommandFault>
@@ -134,7 +128,7 @@ fn moved(values: Seq<Text>) -> Moved
     ensures { moved_view result ≡ spec.moved_of values }
 {
     match values.as_slice() {
-        [value] if is_star(value.as_str()) => Moved::All,
+        [value] if value.as_str() == "*" => Moved::All,
         _ => Moved::Values(values),
     }
 }
@@ -226,12 +220,6 @@ fn field(word: Text) -> Field
     }
 }
 
-fn is_star(word: &str) -> bool
-    ensures { result ≡ spec.is_star word.now }
-{
-    word == "*"
-}
-
 fn attribute(word: Text) -> Result<Text, CommandFault>
     ensures { result ≡ attribute_of word }
 {
@@ -245,7 +233,7 @@ fn attribute(word: Text) -> Result<Text, CommandFault>
 fn attributes(word: Text) -> Result<Attributes, CommandFault>
     ensures { result_map_both attributes_view (λ fault. fault) result ≡ attributes_of word }
 {
-    if is_star(word.as_str()) {
+    if word.as_str() == "*" {
         return Ok(Attributes::Every);
     }
     Ok(Attributes::Named(attribute(word)?))

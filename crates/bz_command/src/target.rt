@@ -39,9 +39,6 @@ impl Target {
     pub fn must_mark(&self) -> bool
         ensures { result ≡ spec.must_mark self.now }
     {
-        match self.marked {
-            Marked::Name(_) | Marked::Pkg | Marked::Line(_) => true,
-            Marked::All | Marked::Kind(_) => false,
-        }
+        matches!(self.marked, Marked::Name(_) | Marked::Pkg | Marked::Line(_))
     }
 }

@@ -1,21 +1,21 @@
 //! `add`: values that are missing go to the end of a list.
 
-ghost use Rattle.std.specs.Prelude.{◌≡◌, ◌≤◌, ◌++◌, ◌∷◌, [], Some, length, IfOk, IfSome, OnOk, OnErr};
+ghost use Rattle.std.specs.Prelude.{◌≡◌, ◌≤◌, ◌++◌, ◌∷◌, [], length, IfOk, IfSome, OnOk, OnErr};
 ghost use Rattle.std.specs.List.{list_any};
 ghost use Rattle.bz_tree.specs.View.{node_view, nodes_view, seg_view, segs_view};
 ghost use Rattle.bz_attribute.specs.Rules.{first_named};
 ghost use Rattle.bz_attribute.specs.Lists.{edit_list, parts, same};
-ghost use Rattle.bz_list_commands.specs.private.AddingSteps.{Knows};
+ghost use Rattle.bz_list_commands.specs.private.AddingSteps.{Knows, told};
 ghost use Rattle.bz_attribute.specs.Effects as spec;
 
 use bz_attribute::chosen::{Chosen, is_any_chosen};
 use bz_attribute::done::{Done, Note};
-use bz_attribute::find::find;
 use bz_attribute::list_labels::labels_in;
 use bz_attribute::lists::first_part;
-use bz_attribute::make::{list_argument, string};
-use bz_attribute::word_set::FEW;
-use bz_command::{Bytes, LabelSet, Package, Text, same_label};
+use bz_attribute::make::{argument, list, string};
+use bz_attribute::rule::find;
+use bz_attribute::word_set::{FEW, is_label};
+use bz_command::{Bytes, LabelSet, Package, Text};
 use bz_tree::{Node, Seg};
 use std::alloc::{AllocError, Global};
 
@@ -38,8 +38,7 @@ pub fn add(
         return add_in(alloc, home, attr, values, &mut args[i]);
     }
     let elements = new_elements(alloc, home, &[], values)?;
-    let arg = list_argument(alloc, attr, elements)?;
-    args.push(arg)?;
+    args.push(argument(alloc, attr, list(alloc, elements))?)?;
     Ok(Done::quiet(true))
 }
 
@@ -52,15 +51,12 @@ fn add_in(
 ) -> Result<Done, AllocError>
     requires { 2 ≤ length arg.old.nodes.items }
     ensures arg { OnOk result (seg_view arg.new ≡ spec.with_added home.now values.now (seg_view arg.old)) }
-    ensures done { IfOk result
-        (λ done. done ≡ spec.done (spec.not_a_list attr.now (Some (seg_view arg.old)))
-        (spec.adds home.now values.now (Some (seg_view arg.old)))) }
+    ensures done { IfOk result (λ done. done ≡ told home.now attr.now values.now (seg_view arg.old)) }
     ensures err { OnErr result (seg_view arg.new ≡ seg_view arg.old) }
 {
     let value = &arg.nodes[2..];
     let Some(part) = first_part(value) else {
-        let attr = Text::from_str(alloc, attr)?;
-        return Ok(Done::failure(Note::NotAList(attr)));
+        return Ok(Done::failure(Note::NotAList(Text::from_str(alloc, attr)?)));
     };
     let new = new_elements(alloc, home, value, values)?;
     let changed = new.len() > 0;
@@ -112,26 +108,15 @@ fn is_fresh<'t>(
         None => Ok(
             !is_any_chosen(home, Chosen::Value(word), value) && !is_any_same(home, word, earlier),
         ),
-        Some(set) => {
-            let fresh = set.insert(Bytes::Plain(word.as_bytes()))?;
-            Ok(fresh)
-        }
+        Some(set) => Ok(set.insert(Bytes::Plain(word.as_bytes()))?),
     }
 }
 
 fn is_any_same(home: &Package, word: &str, others: &[Text]) -> bool
     ensures { result ≡ list_any (same home.now word.now) others.now }
 {
-    for other in others {
-        if same_label(
-            home,
-            Bytes::Plain(word.as_bytes()),
-            Bytes::Plain(other.as_str().as_bytes()),
-        ) {
-            return true;
-        }
-    }
-    false
+    let word = Bytes::Plain(word.as_bytes());
+    others.iter().any(|other| is_label(home, word, other))
 }
 
 // Adds elements at the end of a list. An `Err` leaves the node as it was.
@@ -142,9 +127,6 @@ fn append_in<'a>(node: &mut Node<'a>, mut new: Vec<Seg<'a>>) -> Result<(), Alloc
 {
     match node {
         Node::Token(_) => Ok(()),
-        Node::Group(group) => {
-            group.segs.append(&mut new)?;
-            Ok(())
-        }
+        Node::Group(group) => Ok(group.segs.append(&mut new)?),
     }
 }

@@ -94,10 +94,7 @@ fn is_new<'s>(element: &'s Seg<'_>, there: &mut LabelSet<'s>) -> Result<bool, Al
 {
     match string_of(element) {
         None => Ok(true),
-        Some(value) => {
-            let new = there.insert(value)?;
-            Ok(new)
-        }
+        Some(value) => Ok(there.insert(value)?),
     }
 }
 

@@ -4,21 +4,21 @@ ghost use Rattle.std.specs.Prelude.{◌≡◌, ◌≤◌, ◌<◌, ◌+◌, ◌+
 ghost use Rattle.std.specs.Vec.{vec_len, vec_capacity};
 ghost use Rattle.bz_tree.specs.View.{node_view, nodes_view, seg_view, segs_view};
 ghost use Rattle.bz_attribute.specs.Rules.{elements, first_named, is_named, value};
-ghost use Rattle.bz_attribute.specs.Lists.{edit_first_part, edit_list, parts, with_value};
+ghost use Rattle.bz_attribute.specs.Lists.{edit_list, parts};
 ghost use Rattle.bz_command.specs.CommandViews.{moved_view};
-ghost use Rattle.bz_attribute.specs.private.ChosenViews.{chosen_view};
 ghost use Rattle.bz_attribute.specs.private.Places.{first_length, first_list};
 ghost use Rattle.bz_attribute.specs.Effects as effects;
 ghost use Rattle.bz_attribute.specs.Moving as spec;
-ghost use Rattle.bz_list_commands.specs.private.MovingSteps.{with_list};
+ghost use Rattle.bz_list_commands.specs.private.MovingSteps.{with_arrivals, with_list, with_more};
+ghost use Rattle.bz_list_commands.specs.private.TakingSteps.{moved, moves};
 
 use crate::arrivals::keep_arrivals;
 use crate::taking::{Choice, count_in, take_from, value_at};
 use bz_attribute::chosen::Chosen;
 use bz_attribute::done::{Done, Note};
-use bz_attribute::find::find;
 use bz_attribute::lists::{elements_at, first_part};
-use bz_attribute::make::list_argument;
+use bz_attribute::make::{argument, list};
+use bz_attribute::rule::find;
 use bz_attribute::word_set::word_set;
 use bz_command::{Moved, Package, Text};
 use bz_tree::{Node, Seg};
@@ -69,12 +69,9 @@ fn move_chosen(
 ) -> Result<Done, AllocError>
     requires { bytes_eq old.now new.now ≡ false }
     ensures args { OnOk result
-        (segs_view args.new.items
-        ≡ spec.moved_where choice.entry.home.now old.now new.now (chosen_view choice.entry.chosen)
-        (segs_view args.old.items)) }
+        (segs_view args.new.items ≡ moved choice.entry old.now new.now (segs_view args.old.items)) }
     ensures done { IfOk result
-        (λ done. done ≡ effects.done None
-        (spec.moves choice.entry.home.now old.now (chosen_view choice.entry.chosen) (segs_view args.old.items))) }
+        (λ done. done ≡ effects.done None (moves choice.entry old.now (segs_view args.old.items))) }
     ensures err { OnErr result (segs_view args.new.items ≡ segs_view args.old.items) }
 {
     let count = count_in(choice, value_at(args, old))?;
@@ -98,8 +95,7 @@ fn give_list(alloc: Global, attr: &str, args: &mut Vec<Seg<'_>>) -> Result<(), A
     if find(args, attr).is_some() {
         return Ok(());
     }
-    let arg = list_argument(alloc, attr, Vec::new(alloc))?;
-    args.push(arg)?;
+    args.push(argument(alloc, attr, list(alloc, Vec::new(alloc)))?)?;
     Ok(())
 }
 
@@ -112,27 +108,23 @@ fn move_note(
     ensures { IfOk result (λ note. note ≡ spec.move_note old.now new.now (segs_view args.now)) }
 {
     if find(args, old).is_none() {
-        let attr = Text::from_str(alloc, old)?;
-        return Ok(Some(Note::NoAttribute(attr)));
+        return Ok(Some(Note::NoAttribute(Text::from_str(alloc, old)?)));
     }
     if let Some(note) = not_a_list(alloc, old, args)? {
         return Ok(Some(note));
     }
-    let note = not_a_list(alloc, new, args)?;
-    Ok(note)
+    not_a_list(alloc, new, args)
 }
 
 fn not_a_list(alloc: Global, attr: &str, args: &[Seg<'_>]) -> Result<Option<Note>, AllocError>
     ensures { IfOk result (λ note. note ≡ effects.not_a_list attr.now (first_named attr.now (segs_view args.now))) }
 {
-    let Some(i) = find(args, attr) else {
-        return Ok(None);
-    };
-    if first_part(&args[i].nodes[2..]).is_some() {
-        return Ok(None);
+    match find(args, attr) {
+        Some(i) if first_part(&args[i].nodes[2..]).is_none() => {
+            Ok(Some(Note::NotAList(Text::from_str(alloc, attr)?)))
+        }
+        _ => Ok(None),
     }
-    let attr = Text::from_str(alloc, attr)?;
-    Ok(Some(Note::NotAList(attr)))
 }
 
 // How many elements stand in the first list part of a value.
@@ -155,10 +147,7 @@ fn arrive<'a>(
 )
     requires { first_length (first_named attr.now (segs_view args.old)) + vec_len elements ≤ vec_capacity elements }
     ensures { segs_view args.new
-        ≡ effects.edit_first (is_named attr.now)
-        (λ a. with_value (edit_first_part (λ there. there
-        ++ spec.arrivals home.now (spec.elements_of (first_named attr.now (segs_view args.old)))
-        (segs_view elements.entry.items)) (value a)) a ∷ []) (segs_view args.old) }
+        ≡ with_arrivals home.now attr.now (segs_view elements.entry.items) (segs_view args.old) }
 {
     let Some(i) = find(args, attr) else {
         return;
@@ -170,9 +159,7 @@ fn arrive<'a>(
 fn put_in<'a>(arg: &mut Seg<'a>, later: Vec<Seg<'a>>)
     requires value { 2 ≤ length arg.old.nodes.items }
     requires room { length (first_list (parts (value (seg_view arg.old)))) + vec_len later ≤ vec_capacity later }
-    ensures { seg_view arg.new
-        ≡ with_value (edit_first_part (λ there. there ++ segs_view later.entry.items) (value (seg_view arg.old)))
-        (seg_view arg.old) }
+    ensures { seg_view arg.new ≡ with_more (segs_view later.entry.items) (seg_view arg.old) }
 {
     if let Some(part) = first_part(&arg.nodes[2..]) {
         put_in_list(&mut arg.nodes[2 + part], later);

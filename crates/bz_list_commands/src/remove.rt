@@ -5,15 +5,12 @@ ghost use Rattle.bz_tree.specs.View.{seg_view, segs_view};
 ghost use Rattle.bz_attribute.specs.Effects as spec;
 ghost use Rattle.bz_command.specs.CommandViews.{attributes_view};
 ghost use Rattle.bz_attribute.specs.private.ChosenViews.{chosen_view};
-ghost use Rattle.bz_command.specs.Commands.{Values};
-ghost use Rattle.bz_attribute.specs.Rules.{first_named};
-ghost use Rattle.bz_list_commands.specs.private.EditSteps.{goes, is_lost, edit_attribute};
+ghost use Rattle.bz_list_commands.specs.private.EditSteps.{any_has_any, cleared, edit_attribute, goes, has_any};
 
-use bz_attribute::chosen::{Chosen, chooses, drop_in, loses_all};
+use bz_attribute::chosen::{Chosen, drop_in, is_any_chosen, loses_all};
 use bz_attribute::done::Done;
-use bz_attribute::find::find;
 use bz_attribute::lists::is_attribute;
-use bz_attribute::rule::is_named;
+use bz_attribute::rule::{find, is_named, value_of};
 use bz_attribute::word_set::word_set;
 use bz_command::{Attributes, Package, Text};
 use bz_tree::Seg;
@@ -77,9 +74,7 @@ fn remove_values<'v>(
     ensures args { OnOk result
         (segs_view args.new.items ≡ spec.remove_values home.now attr.now values.now (segs_view args.old.items)) }
     ensures done { IfOk result
-        (λ done. done
-        ≡ spec.done None
-        (spec.chooses_in home.now (Values values.now) (first_named attr.now (segs_view args.old.items)))) }
+        (λ done. done ≡ spec.done None (has_any home.now attr.now values.now (segs_view args.old.items))) }
     ensures err { OnErr result (segs_view args.new.items ≡ segs_view args.old.items) }
 {
     let Some(i) = find(args, attr) else {
@@ -87,7 +82,7 @@ fn remove_values<'v>(
     };
     let words = word_set(alloc, home, values)?;
     let chosen = Chosen::Words(&words);
-    let changed = chooses(home, chosen, &args[i]);
+    let changed = is_any_chosen(home, chosen, value_of(&args[i]));
     if loses_all(home, chosen, &args[i]) {
         let _ = args.remove(i);
     } else {
@@ -104,17 +99,15 @@ fn remove_everywhere<'v>(
     args: &mut Vec<Seg<'_>>,
 ) -> Result<Done, AllocError>
     ensures args { OnOk result
-        (segs_view args.new.items
-        ≡ spec.filtered_everywhere (spec.unchosen home.now (Values values.now)) (segs_view args.old.items)) }
+        (segs_view args.new.items ≡ cleared home.now values.now (segs_view args.old.items)) }
     ensures done { IfOk result
-        (λ done. done
-        ≡ spec.done None (spec.chooses_anywhere home.now (Values values.now) (segs_view args.old.items))) }
+        (λ done. done ≡ spec.done None (any_has_any home.now values.now (segs_view args.old.items))) }
     ensures err { OnErr result (segs_view args.new.items ≡ segs_view args.old.items) }
 {
     let words = word_set(alloc, home, values)?;
     let chosen = Chosen::Words(&words);
     let changed = chooses_anywhere(home, chosen, args);
-    args.retain(|arg| !is_lost(home, chosen, arg));
+    args.retain(|arg| !is_attribute(arg) || !loses_all(home, chosen, arg));
     drop_everywhere(home, chosen, args);
     Ok(Done::quiet(changed))
 }
@@ -122,19 +115,7 @@ fn remove_everywhere<'v>(
 fn chooses_anywhere(home: &Package, chosen: Chosen<'_, '_>, args: &[Seg<'_>]) -> bool
     ensures { result ≡ spec.chooses_anywhere home.now (chosen_view chosen.entry) (segs_view args.now) }
 {
-    for arg in args {
-        if is_attribute(arg) && chooses(home, chosen, arg) {
-            return true;
-        }
-    }
-    false
-}
-
-// No element of the attribute would be left.
-fn is_lost(home: &Package, chosen: Chosen<'_, '_>, arg: &Seg<'_>) -> bool
-    ensures { result ≡ is_lost (spec.unchosen home.now (chosen_view chosen.entry)) (seg_view arg.now) }
-{
-    is_attribute(arg) && loses_all(home, chosen, arg)
+    args.iter().any(|arg| is_attribute(arg) && is_any_chosen(home, chosen, value_of(arg)))
 }
 
 fn drop_everywhere(home: &Package, chosen: Chosen<'_, '_>, args: &mut [Seg<'_>])

@@ -4,22 +4,21 @@ ghost use Rattle.std.specs.Prelude.{◌≡◌, ◌<◌, None, map, length, if◌
 ghost use Rattle.bz_tree.specs.View.{node_view, nodes_view, seg_view, segs_view};
 ghost use Rattle.bz_command.specs.CommandViews.{attributes_view};
 ghost use Rattle.bz_command.specs.Commands.{Every, Named};
-ghost use Rattle.bz_attribute.specs.Rules.{elements, is_text, string_value};
+ghost use Rattle.bz_attribute.specs.Rules.{elements};
 ghost use Rattle.bz_attribute.specs.Lists.{edit_list, edit_parts};
 ghost use Rattle.bz_attribute.specs.Effects.{done};
 ghost use Rattle.bz_list_commands.specs.private.EditSteps.{edit_attribute};
 ghost use Rattle.bz_attribute.specs.Replacing as spec;
-ghost use Rattle.bz_list_commands.specs.private.ReplaceSteps.{AreStrings, HasStrings, Uses, count, count_at, count_everywhere, count_in, goes, old_everywhere, put};
+ghost use Rattle.bz_list_commands.specs.private.ReplaceSteps.{AreStrings, HasStrings, Uses, count, count_at, count_everywhere, count_in, goes, old_everywhere, put, replaced_everywhere, replaces_anywhere};
 
 use crate::taking::{Choice, count_in};
 use bz_attribute::chosen::Chosen;
 use bz_attribute::done::Done;
 use bz_attribute::equals::equals;
-use bz_attribute::find::find;
 use bz_attribute::lists::{are_joints, is_attribute, is_part};
 use bz_attribute::make::string;
-use bz_attribute::rule::{is_sign, only_text, value_of};
-use bz_command::{Attributes, Package, has_value};
+use bz_attribute::rule::{find, is_sign, is_string, value_of};
+use bz_command::{Attributes, Package};
 use bz_tree::{Node, Seg};
 use std::alloc::{AllocError, Global};
 
@@ -63,12 +62,8 @@ fn replace_everywhere(
     change: Change<'_>,
     args: &mut [Seg<'_>],
 ) -> Result<Done, AllocError>
-    ensures args { OnOk result
-        (segs_view args.new
-        ≡ spec.replace change.entry.home.now Every change.entry.old.now change.entry.new.now (segs_view args.old)) }
-    ensures done { IfOk result
-        (λ d. d ≡ done None
-        (spec.replaces change.entry.home.now Every change.entry.old.now change.entry.new.now (segs_view args.old))) }
+    ensures args { OnOk result (segs_view args.new ≡ replaced_everywhere change.entry (segs_view args.old)) }
+    ensures done { IfOk result (λ d. d ≡ done None (replaces_anywhere change.entry (segs_view args.old))) }
     ensures err { OnErr result (segs_view args.new ≡ segs_view args.old) }
 {
     let count = count_old(change, args)?;
@@ -80,16 +75,7 @@ fn replace_everywhere(
 fn is_replaced(change: Change<'_>, element: &Seg<'_>) -> bool
     ensures { result ≡ goes change.entry (seg_view element.now) }
 {
-    equals(change.home, element, change.old) && !is_exactly(element, change.new)
-}
-
-fn is_exactly(element: &Seg<'_>, word: &str) -> bool
-    ensures { result ≡ is_text word.now (string_value (nodes_view element.now.nodes.items)) }
-{
-    match only_text(&element.nodes) {
-        None => false,
-        Some(text) => has_value(text.as_bytes(), word.as_bytes()),
-    }
+    equals(change.home, element, change.old) && !is_string(&element.nodes, change.new)
 }
 
 // How many elements of the attributes equal the old value: so many strings are enough.

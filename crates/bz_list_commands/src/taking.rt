@@ -10,9 +10,9 @@ ghost use Rattle.bz_list_commands.specs.private.MovingSteps.{value_of};
 ghost use Rattle.bz_list_commands.specs.private.TakingSteps.{HasRoom, Takes, leave, stay};
 
 use bz_attribute::chosen::{Chosen, is_chosen, loses_all};
-use bz_attribute::find::find;
 use bz_attribute::lists::{are_joints, elements_at, is_part};
-use bz_attribute::rule::is_sign;
+use bz_attribute::make::segment;
+use bz_attribute::rule::{find, is_sign};
 use bz_command::Package;
 use bz_tree::{Node, Seg};
 use std::alloc::{AllocError, Global};
@@ -154,7 +154,8 @@ fn part_elements<'a>(
     let mut kept = 0;
     for i in 0..elements.len() {
         if is_chosen(choice.home, choice.chosen, &elements[i]) {
-            let blank = nothing(*taken.allocator());
+            let alloc = *taken.allocator();
+            let blank = segment(alloc, Vec::new(alloc));
             taken.push_reserved(mem::replace(&mut elements[i], blank));
         } else {
             elements.swap(kept, i);
@@ -162,13 +163,4 @@ fn part_elements<'a>(
         }
     }
     kept
-}
-
-// What stands where an element was taken.
-fn nothing<'a>(alloc: Global) -> Seg<'a> {
-    Seg {
-        before: Vec::new(alloc),
-        nodes: Vec::new(alloc),
-        suffix: None,
-    }
 }

@@ -1,8 +1,7 @@
 //! A command applied to what a slot holds.
 
-ghost use Rattle.std.specs.Prelude.{◌≡◌, ◌↔◌, IfOk, IsOk, OnOk, OnErr, IsTrue, None, false, is_some, option_map, true, []};
+ghost use Rattle.std.specs.Prelude.{◌≡◌, ◌↔◌, IfOk, IsOk, OnOk, OnErr, IsTrue, None, false, is_some, option_map, true};
 ghost use Rattle.bz_tree.specs.View.{node_view, nodes_view, segs_view, view, slot_view};
-ghost use Rattle.bz_command.specs.CommandViews.{command_view};
 ghost use Rattle.bz_attribute.specs.Rules.{rule_of, elements};
 ghost use Rattle.bz_attribute.specs.Lists.{edit_list};
 ghost use Rattle.bz_command.specs.Commands as commands;
@@ -10,7 +9,7 @@ ghost use Rattle.bz_attribute.specs.Effects as spec;
 ghost use Rattle.bz_rule.specs.Applied as applied;
 
 use bz_attribute::done::Done;
-use bz_attribute::find::call_at;
+use bz_attribute::rule::call_at;
 use bz_attribute_commands::comment::{comment, comment_rule};
 use bz_attribute_commands::print::print;
 use bz_attribute_commands::rename::rename;
@@ -39,30 +38,28 @@ pub fn apply(
     ensures no_rule { spec.holds_rule (slot_view slot.old) ≡ false → IsOk result }
     ensures err { OnErr result (slot_view slot.new ≡ slot_view slot.old) }
 {
-    let done = carry_out(alloc, &command.action, home, slot)?;
+    let done = carry_out(alloc, command, home, slot)?;
     Ok(done)
 }
 
 fn carry_out(
     alloc: Global,
-    action: &Action,
+    command: &Command,
     home: &Package,
     slot: &mut Option<Stmt<'_>>,
 ) -> Result<Done, AllocError>
-    requires { IsTrue (commands.is_command (command_view action.now)) }
-    ensures slot { OnOk result
-        (slot_view slot.new ≡ applied.after (command_view action.now) home.now (slot_view slot.old)) }
-    ensures done { IfOk result
-        (λ done. done ≡ applied.done_of (command_view action.now) home.now (slot_view slot.old)) }
+    ensures command { IsTrue (commands.is_command command.now) }
+    ensures slot { OnOk result (slot_view slot.new ≡ applied.after command.now home.now (slot_view slot.old)) }
+    ensures done { IfOk result (λ done. done ≡ applied.done_of command.now home.now (slot_view slot.old)) }
     ensures no_rule { spec.holds_rule (slot_view slot.old) ≡ false → IsOk result }
     ensures err { OnErr result (slot_view slot.new ≡ slot_view slot.old) }
 {
-    match action {
+    match &command.action {
         Action::Delete => Ok(delete(slot)),
         Action::Set(Setting::ToKind(kind)) => set_kind(alloc, kind.as_str(), slot),
         Action::Comment(Commented::Rule, text) => comment_rule(alloc, text.as_str(), slot),
         Action::Print(fields) => print(alloc, home, fields.as_slice(), slot),
-        _ => on_args(alloc, action, home, slot),
+        _ => on_args(alloc, command, home, slot),
     }
 }
 
@@ -87,92 +84,55 @@ fn holds_rule(slot: &Option<Stmt<'_>>) -> bool
 // Edits the arguments of a rule in a slot, and nothing else.
 fn on_args(
     alloc: Global,
-    action: &Action,
+    command: &Command,
     home: &Package,
     slot: &mut Option<Stmt<'_>>,
 ) -> Result<Done, AllocError>
-    requires { IsTrue (commands.is_command (command_view action.now)) }
     ensures slot { OnOk result
-        (slot_view slot.new
-        ≡ option_map (spec.with_args (applied.args_after (command_view action.now) home.now)) (slot_view slot.old)) }
+        (slot_view slot.new ≡ option_map (spec.with_args (applied.args_after command.now home.now)) (slot_view slot.old)) }
     ensures done { IfOk result
-        (λ done. done ≡ spec.slot_done (applied.args_done (command_view action.now) home.now) (slot_view slot.old)) }
+        (λ done. done ≡ spec.slot_done (applied.args_done command.now home.now) (slot_view slot.old)) }
     ensures no_rule { spec.holds_rule (slot_view slot.old) ≡ false → IsOk result }
     ensures err { OnErr result (slot_view slot.new ≡ slot_view slot.old) }
 {
-    match slot {
-        None => Ok(Done::quiet(false)),
-        Some(stmt) => in_nodes(alloc, action, home, &mut stmt.nodes),
-    }
-}
-
-fn in_nodes(
-    alloc: Global,
-    action: &Action,
-    home: &Package,
-    nodes: &mut [Node<'_>],
-) -> Result<Done, AllocError>
-    requires { IsTrue (commands.is_command (command_view action.now)) }
-    ensures nodes { OnOk result
-        (nodes_view nodes.new ≡ spec.nodes_after (applied.args_after (command_view action.now) home.now)
-        (nodes_view nodes.old) (rule_of (nodes_view nodes.old))) }
-    ensures done { IfOk result
-        (λ done. done
-        ≡ spec.done_in (applied.args_done (command_view action.now) home.now) (rule_of (nodes_view nodes.old))) }
-    ensures no_rule { rule_of (nodes_view nodes.old) ≡ None → IsOk result }
-    ensures err { OnErr result (nodes_view nodes.new ≡ nodes_view nodes.old) }
-{
-    let Some(call) = call_at(nodes) else {
+    let Some(stmt) = slot else {
         return Ok(Done::quiet(false));
     };
-    in_call(alloc, action, home, &mut nodes[call])
+    match call_at(&stmt.nodes) {
+        None => Ok(Done::quiet(false)),
+        Some(call) => in_call(alloc, command, home, &mut stmt.nodes[call]),
+    }
 }
 
 fn in_call(
     alloc: Global,
-    action: &Action,
+    command: &Command,
     home: &Package,
     call: &mut Node<'_>,
 ) -> Result<Done, AllocError>
-    requires { IsTrue (commands.is_command (command_view action.now)) }
     ensures call { OnOk result
-        (node_view call.new ≡ edit_list (applied.args_after (command_view action.now) home.now) (node_view call.old)) }
-    ensures done { IfOk result
-        (λ done. done ≡ applied.args_done (command_view action.now) home.now (elements (node_view call.old))) }
+        (node_view call.new ≡ edit_list (applied.args_after command.now home.now) (node_view call.old)) }
+    ensures done { IfOk result (λ done. done ≡ applied.args_done command.now home.now (elements (node_view call.old))) }
     ensures err { OnErr result (node_view call.new ≡ node_view call.old) }
 {
     match call {
-        Node::Token(_) => without_args(alloc, action, home),
-        Node::Group(group) => {
-            let done = in_args(alloc, action, home, &mut group.segs)?;
-            Ok(done)
-        }
+        Node::Token(_) => in_args(alloc, command, home, &mut Vec::new(alloc)),
+        Node::Group(group) => Ok(in_args(alloc, command, home, &mut group.segs)?),
     }
-}
-
-// What a command tells of no arguments.
-fn without_args(alloc: Global, action: &Action, home: &Package) -> Result<Done, AllocError>
-    requires { IsTrue (commands.is_command (command_view action.now)) }
-    ensures { IfOk result (λ done. done ≡ applied.args_done (command_view action.now) home.now []) }
-{
-    let mut args = Vec::new(alloc);
-    in_args(alloc, action, home, &mut args)
 }
 
 fn in_args(
     alloc: Global,
-    action: &Action,
+    command: &Command,
     home: &Package,
     args: &mut Vec<Seg<'_>>,
 ) -> Result<Done, AllocError>
-    requires { IsTrue (commands.is_command (command_view action.now)) }
     ensures args { OnOk result
-        (segs_view args.new.items ≡ applied.args_after (command_view action.now) home.now (segs_view args.old.items)) }
-    ensures done { IfOk result
-        (λ done. done ≡ applied.args_done (command_view action.now) home.now (segs_view args.old.items)) }
+        (segs_view args.new.items ≡ applied.args_after command.now home.now (segs_view args.old.items)) }
+    ensures done { IfOk result (λ done. done ≡ applied.args_done command.now home.now (segs_view args.old.items)) }
     ensures err { OnErr result (segs_view args.new.items ≡ segs_view args.old.items) }
 {
-    match action {
+    match &command.action {
         Action::Add(attr, values) => add(alloc, home, attr.as_str(), values.as_slice(), args),
         Action::Remove(attributes, values) => remove(
             alloc,

@@ -5,11 +5,11 @@ use Rattle.bz_tree.specs.declared.stmt.Seg.{Seg}
 use Rattle.bz_tree.specs.Tree.{Item, Segment}
 use Rattle.bz_tree.specs.View.{segs_view}
 use Rattle.bz_attribute.specs.Rules.{elements, value}
-use Rattle.bz_command.specs.Commands.{Values}
+use Rattle.bz_command.specs.Commands.{Every, Values}
 use Rattle.bz_attribute.specs.Lists.{is_attribute, is_joint, is_part, is_plus, parts}
 use Rattle.bz_attribute.specs.Effects.{is_chosen, string}
 use Rattle.bz_attribute.specs.Moving.{joined}
-use Rattle.bz_attribute.specs.Replacing.{is_replaced, replaced}
+use Rattle.bz_attribute.specs.Replacing.{is_replaced, replace, replaced, replaces}
 use Rattle.bz_list_commands.specs.declared.replace.Change.{Change}
 
 abbrev pub goes : Change → Segment → Bool
@@ -17,6 +17,13 @@ goes c = is_replaced c.home.now c.old.now c.new.now
 
 abbrev pub put : Change → List Segment → List Segment
 put c ss = map (replaced c.home.now c.old.now c.new.now) ss
+
+-- what `replace` does to all attributes
+abbrev pub replaced_everywhere : Change → List Segment → List Segment
+replaced_everywhere c args = replace c.home.now Every c.old.now c.new.now args
+
+abbrev pub replaces_anywhere : Change → List Segment → Bool
+replaces_anywhere c args = replaces c.home.now Every c.old.now c.new.now args
 
 -- how many segments pass
 abbrev pub count : (Segment → Bool) → List Segment → ℕ

@@ -29,6 +29,6 @@ returns-in_err-comment_in_list-clause-err c =
     let p = equals c.args.home.now c.args.value.now in
     let first = c.in-Some.ensures.some in
     let part = part_read p c.args.args.now c.in-Some.i c.in-Some-part_with.part c.index-args-i.result c.index-args-i-2.result c.deref.result.now first.within c.deref.ensures.value c.in-Some-part_with.ensures.some in
-    on_err c.from_residual.result
+    on_err c.from_residual-in_err-comment_in_list.result
     (comment_kept c.args.attr.now c.args.args.now c.in-Some.i c.in-Some-part_with.part c.index-args-i-2.result c.comment_in_list.new.node c.index_mut.result.now first part.within
     (c.in_err-comment_in_list.ensures.err ∙ ap node_view c.index_mut.ensures.value))

@@ -1,4 +1,5 @@
-use Rattle.std.proofs.Common.{◌≡◌, ℕ, ◌-◌, ◌++◌, List, false, Some, length, drop, ap, sym, ◌∙◌}
+use Rattle.std.proofs.Common.{rules, arith, ◌≡◌, ℕ, ◌-◌, ◌++◌, List, false, Some, length, drop, ap, sym, ◌∙◌}
+use Rattle.std.proofs.lemmas.Grind.{common_steps}
 use Rattle.std.specs.Prelude.{bytes_eq}
 use Rattle.std.proofs.lemmas.List.{drop-map, length-map}
 use Rattle.bz_tree.specs.declared.stmt.Node.{Node}
@@ -9,6 +10,7 @@ use Rattle.bz_attribute.specs.RuleViews.{rule_view}
 use Rattle.bz_attribute.specs.Setting.{kind_items}
 use Rattle.bz_attribute_commands.proofs.KindEdits.{kind_put}
 use Rattle.bz_attribute_commands.proofs.set_kind.in_nodes.Goals as goal
+use Rattle.bz_attribute_commands.proofs.set_kind.in_nodes.Goals.{in-Some-pop, in_default-pop}
 
 pub returns-clause-nodes : goal.returns-clause-nodes
 returns-clause-nodes c =
@@ -17,7 +19,9 @@ returns-clause-nodes c =
     let differs : bytes_eq (kind_text (rule_view c.in-Some.rule).kind) c.args.kind.now ≡ false = sym c.is_kind.ensures ∙ c.if-is_kind.false in
     let last : nodes_view (drop (length old - 1) old) ≡ drop (length (nodes_view old) - 1) (nodes_view old) =
     sym (drop-map node_view (length old - 1) old) ∙ ap (λ (n : ℕ). drop (n - 1) (nodes_view old)) (sym (length-map old node_view)) in
-    c.in_ok-put_kind.ensures.nodes
-    ∙ ap (λ (ns : List Item). ns ++ nodes_view (drop (length old - 1) old)) c.in_ok-kind_nodes.ensures
+    let put : nodes_view c.match-pop.kind.items ≡ nodes_view c.in_ok-kind.kind.items ++ nodes_view (drop (length old - 1) old) =
+    elim c.match-pop.branch [ in-Some-pop w ↦ grind (arith, common_steps) | in_default-pop w ↦ search rules ] in
+    put
+    ∙ ap (λ (ns : List Item). ns ++ nodes_view (drop (length old - 1) old)) c.in_ok-kind.ensures
     ∙ ap (λ (ns : List Item). kind_items c.args.kind.now ++ ns) last
     ∙ kind_put c.args.kind.now (nodes_view old) (rule_view c.in-Some.rule) is differs

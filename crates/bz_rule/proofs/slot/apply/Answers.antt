@@ -1,11 +1,10 @@
 use Rattle.bz_tree.specs.View.{slot_view}
-use Rattle.bz_command.specs.CommandViews.{command_view}
 use Rattle.bz_rule.proofs.Differences.{told_of_slot}
 use Rattle.bz_rule.proofs.Stays.{failure_stays}
 use Rattle.bz_rule.proofs.slot.apply.Goals as goal
 
 pub returns-clause-failed : goal.returns-clause-failed
-returns-clause-failed c = failure_stays (command_view c.command.inside.action) c.args.home.now (slot_view c.args.slot.now) (slot_view c.carry_out.new.slot) c.in_ok-done.done c.in_ok-done.ensures.slot c.in_ok-done.ensures.done
+returns-clause-failed c = failure_stays c.args.command.now c.args.home.now (slot_view c.args.slot.now) (slot_view c.carry_out.new.slot) c.in_ok-done.done c.in_ok-done.ensures.slot c.in_ok-done.ensures.done
 
 pub returns-clause-changed : goal.returns-clause-changed
-returns-clause-changed c = told_of_slot (command_view c.command.inside.action) c.args.home.now (slot_view c.args.slot.now) (slot_view c.carry_out.new.slot) c.in_ok-done.done c.command.invariant c.in_ok-done.ensures.slot c.in_ok-done.ensures.done
+returns-clause-changed c = told_of_slot c.args.command.now c.args.home.now (slot_view c.args.slot.now) (slot_view c.carry_out.new.slot) c.in_ok-done.done c.in_ok-done.ensures.command c.in_ok-done.ensures.slot c.in_ok-done.ensures.done

@@ -5,7 +5,7 @@ use Rattle.bz_tree.specs.View.{seg_view}
 use Rattle.bz_attribute.specs.Rules.{is_named}
 use Rattle.bz_attribute.specs.private.Places.{IsFirst, IsAbsent}
 use Rattle.bz_attribute.proofs.First.{found_first, found_none, place_if}
-use Rattle.bz_attribute.proofs.find.find.Goals as goal
+use Rattle.bz_attribute.proofs.rule.find.Goals as goal
 
 pub returns-clause-some : goal.returns-clause-some
 returns-clause-some c =
