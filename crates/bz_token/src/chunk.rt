@@ -16,6 +16,8 @@ use std::alloc::{AllocError, Global};
 pub struct FirstChunk<'a> {
     pub text: &'a str,
     pub tokens: Vec<Token<'a>>,
+    /// What follows the chunk.
+    pub rest: &'a str,
 }
 
 // What a logical line says of its chunk.
@@ -81,6 +83,7 @@ pub fn first_chunk<'a>(
                     return Ok(Some(FirstChunk {
                         text: text.split_at(text.len() - spot.rest.len()).0,
                         tokens: lexer.tokens,
+                        rest: spot.rest,
                     }));
                 }
                 LineEnd::Block => return Ok(None),
