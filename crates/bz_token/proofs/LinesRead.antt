@@ -187,6 +187,10 @@ front_length : (xs ys : List ℕ) → take (length xs) (xs ++ ys) ≡ xs
 front_length [] ys = refl
 front_length (x ∷ xs) ys = ap (λ zs. x ∷ zs) (front_length xs ys)
 
+after_length : (xs ys : List ℕ) → drop (length xs) (xs ++ ys) ≡ ys
+after_length [] ys = refl
+after_length (x ∷ xs) ys = after_length xs ys
+
 split_front : (bytes rest text : List ℕ) → Front bytes rest text → bytes ≡ text ++ rest
 split_front bytes rest text f = f.bytes_are ∙ sym (append_assoc f.inner (10 ∷ []) rest) ∙ ap (λ x. x ++ rest) (sym f.text_is)
 
@@ -239,14 +243,15 @@ shown first depth bytes lexer spot start a h =
       ends = statement_chunk first depth (bytes_of ps) (map placed lexer.tokens.items) (lines_of a.done []) (line_of whole []) lined are a.comments last;
     }
 
-pub first_chunk_is : (first depth : ℕ) (bytes rest text : List ℕ) (chunk : FirstChunk) → Front bytes rest text → chunk.text.now ≡ take (length bytes - length rest) bytes → Shown first depth text (map placed chunk.tokens.items) → IsFirstChunk first depth bytes chunk
-first_chunk_is first depth bytes rest text chunk f cut s =
+pub first_chunk_is : (first depth : ℕ) (bytes rest text : List ℕ) (chunk : FirstChunk) → Front bytes rest text → chunk.rest.now ≡ rest → chunk.text.now ≡ take (length bytes - length rest) bytes → Shown first depth text (map placed chunk.tokens.items) → IsFirstChunk first depth bytes chunk
+first_chunk_is first depth bytes rest text chunk f after cut s =
     let is : text ≡ chunk.text.now = sym (cut ∙ front_text bytes rest text f) in
     let split = split_front bytes rest text f in
     record {
       some = subst (λ x. 0 < length x) is s.some;
       within = omega (arith, ap length is, ap length split, length-append text rest);
       front = front_again bytes rest text f is;
+      rest = after ∙ sym (ap (λ k. drop k bytes) (ap length (sym is)) ∙ ap (drop (length text)) split ∙ after_length text rest);
       tokens = subst (λ x. AreTokensOf first depth x (map placed chunk.tokens.items)) is s.are_tokens;
       ends = subst IsChunk is s.ends;
     }

@@ -16,6 +16,8 @@ use std::alloc::{AllocError, Global};
 pub struct FirstChunk<'a> {
     pub text: &'a str,
     pub tokens: Vec<Token<'a>>,
+    /// What follows the chunk.
+    pub rest: &'a str,
 }
 
 // What a logical line says of its chunk.
@@ -52,8 +54,8 @@ fn line_end(line: &[Token<'_>]) -> LineEnd
 const FIRST_CAPACITY: usize = 128;
 
 /// The chunk that a text begins with, and its tokens, where the text shows that the chunk ends, whatever follows. The
-/// text's first line has this number, and at most so many brackets may be open at once. None: the text does not show it,
-/// the chunk has a lexical fault, or it begins a block. `Err`: memory was refused.
+/// text's first line has this number, and at most so many brackets may be open at once. None: the text does not show
+/// it, the chunk has a lexical fault, or it may begin a block. `Err`: memory was refused.
 pub fn first_chunk<'a>(
     alloc: Global,
     text: &'a str,
@@ -81,6 +83,7 @@ pub fn first_chunk<'a>(
                     return Ok(Some(FirstChunk {
                         text: text.split_at(text.len() - spot.rest.len()).0,
                         tokens: lexer.tokens,
+                        rest: spot.rest,
                     }));
                 }
                 LineEnd::Block => return Ok(None),

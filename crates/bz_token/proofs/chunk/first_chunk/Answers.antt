@@ -1,4 +1,4 @@
-use Rattle.std.proofs.Common.{rules, tests, ◌≡◌, ◌∙◌, sym, ap, map, length}
+use Rattle.std.proofs.Common.{rules, tests, ◌≡◌, ◌∙◌, sym, refl, ap, map, length}
 use Rattle.std.specs.Prelude.{Some}
 use Rattle.bz_token.specs.declared.token.Kind.TheVariants.{Line}
 use Rattle.bz_token.specs.Places.{placed}
@@ -53,7 +53,7 @@ returns-in-Ends c =
     let a = line_read c.args.first_line c.args.max_depth c.args.text.now c.loop-spot.lexer c.step.new.self c.loop-spot.spot c.in-Ok.passed.0 c.loop-spot.line_start c.in-Ok.passed.1 i r.0 r.1 newline in
     let told = ap (λ ts. line_end (map placed ts)) (sym c.tokens_from.ensures) ∙ sym c.line_end.ensures ∙ c.in-Ends.is in
     let f = front _ _ _ _ _ _ a in
-    record { chunk = first_chunk_is _ _ _ _ _ _ f c.split_at.ensures.front (shown _ _ _ _ _ _ a told) }
+    record { chunk = first_chunk_is _ _ _ _ _ _ f refl c.split_at.ensures.front (shown _ _ _ _ _ _ a told) }
 
 pub loop-spot-preserved : goal.loop-spot-preserved
 loop-spot-preserved c =
