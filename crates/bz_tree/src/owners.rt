@@ -168,7 +168,8 @@ impl<'a> Walk<'a> {
         self.whole && self.segs.is_empty()
     }
 
-    // Room for the first node of a segment: alone, as most elements of a list are, or with two more, as in most arguments.
+    // Room for the first node of a segment: alone, as most elements of a list are, or with two more, as in most
+    // arguments.
     #[inline(always)]
     pub(crate) fn reserve(&mut self, alone: bool) -> Result<(), AllocError>
         ensures value { OnOk result (walked self.new ≡ walked self.old) }
