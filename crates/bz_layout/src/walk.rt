@@ -15,6 +15,7 @@ use crate::write::{closing, opening, put, put_new_line};
 use bz_token::Kind;
 use bz_tree::{GroupKind, Part};
 use std::alloc::{AllocError, Global};
+use std::cmp::min;
 
 // Few brackets are deeper.
 pub(crate) const FIRST_DEPTH: usize = 16;
@@ -88,9 +89,10 @@ impl Walk {
         ensures { IfOk result
             (λ walk. (text : List ℕ) → laid walk text ≡ start text (reverse marks.items) within) }
     {
+        let depth = min(marks.len(), FIRST_DEPTH);
         Ok(Walk {
             marks,
-            outer: Vec::with_capacity(alloc, FIRST_DEPTH)?,
+            outer: Vec::with_capacity(alloc, depth)?,
             here: Frame::top(within),
             left: Edge::Start,
             level: 0,
