@@ -91,9 +91,6 @@ flags_step home p q xs i x d b before after lt at is more made =
     ∙ append_assoc before (b ∷ []) later
     ∙ ap (λ (bs : List Bool). before ++ bs) (ap (λ (z : Bool). z ∷ later) is ∙ ap (λ (zs : List Seg). flags_by home p (segs_view zs)) (sym here))
 
-pub flags_all : (home : Package) (p : List ℕ → Bool) (xs : List Seg) (i : ℕ) (made all : List Bool) → length xs ≤ i → made ++ flags_by home p (segs_view (drop i xs)) ≡ all → made ≡ all
-flags_all home p xs i made all end h = sym (append-nil made) ∙ ap (λ (ys : List Seg). made ++ flags_by home p (segs_view ys)) (sym (drop_all i xs end)) ∙ h
-
 -- From i on the flags tell which elements of `now` arrive, where `there` and the first k of these are there.
 abbrev pub Tells : Package → List Segment → ℕ → ℕ → List Seg → List Bool → Type 0
 Tells home there k i now arrive = drop i arrive ≡ flags home (there ++ segs_view (take k now)) (segs_view (drop i now))

@@ -31,9 +31,6 @@ pub record Parted (p : Segment → Bool) (old before now taken : List Seg) (k i 
   pub out : segs_view taken ++ filter p (segs_view (drop i now)) ≡ segs_view before ++ filter p (segs_view old)
   pub left : segs_view (take k now) ++ filter (λ s. not (p s)) (segs_view (drop i now)) ≡ filter (λ s. not (p s)) (segs_view old)
 
-pub parted_start : (p : Segment → Bool) (old before : List Seg) → Parted p old before old before 0 0
-parted_start p old before = record { after = omega arith; out = refl; left = refl }
-
 pub parted_take : (p : Segment → Bool) (old before now taken : List Seg) (k i : ℕ) (x b : Seg) → Parted p old before now taken k i → i < length now → x ≡ get_or now i x → p (seg_view x) ≡ true
     → Parted p old before (set now i b) (taken ++ x ∷ []) k (i + 1)
 parted_take p old before now taken k i x b h lt at is =
@@ -137,6 +134,3 @@ pub remove-set : (ss : List Seg) (i : ℕ) (s : Seg) → remove (set ss i s) i �
 remove-set [] i s = refl
 remove-set (x ∷ ss) zero s = refl
 remove-set (x ∷ ss) (suc i) s = ap (λ (zs : List Seg). x ∷ zs) (remove-set ss i s)
-
-pub lost_goes : (f : List Segment → List Segment) (a : Segment) → loses_all f (value a) ≡ true → filtered f a ≡ []
-lost_goes f a h = rw h refl

@@ -78,11 +78,6 @@ first_chosen home old new chosen args (Some a) e other same =
     sym (named_put old new (arrivals home (elements_of (first_named new args)) (chosen_of home chosen (first_named old args))) left other) ∙ ap (filter (is_named old)) same in
     filtered_same home chosen a (attribute_named old a (is_first_named old args a e)) (first_left old (unchosen home chosen) args a e named)
 
-pub move_stays : (home : Package) (old new : List ℕ) (chosen : Moved) (args : List Segment) → moves home old chosen args ≡ false → move home old new chosen args ≡ args
-move_stays home old new chosen args none =
-    elim (is_some (move_note old new args)) as (λ b. (if b then args else (if moves home old chosen args then moved home old new chosen args else args)) ≡ args)
-    [ true ↦ refl | false ↦ rw none refl ]
-
 pub move_differs : (home : Package) (old new : List ℕ) (chosen : Moved) (args : List Segment) → bytes_eq old new ≡ false → move_note old new args ≡ None
     → moves home old chosen args ≡ true → move home old new chosen args ≡ args → ⊥
 move_differs home old new chosen args other noted some same =

@@ -89,7 +89,8 @@ fn on_args(
     slot: &mut Option<Stmt<'_>>,
 ) -> Result<Done, AllocError>
     ensures slot { OnOk result
-        (slot_view slot.new ≡ option_map (spec.with_args (applied.args_after command.now home.now)) (slot_view slot.old)) }
+        (slot_view slot.new
+        ≡ option_map (spec.with_args (applied.args_after command.now home.now)) (slot_view slot.old)) }
     ensures done { IfOk result
         (λ done. done ≡ spec.slot_done (applied.args_done command.now home.now) (slot_view slot.old)) }
     ensures no_rule { spec.holds_rule (slot_view slot.old) ≡ false → IsOk result }
