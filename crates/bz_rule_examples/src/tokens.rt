@@ -1,10 +1,10 @@
-//! Tokens and their places, first faults, what is UTF-8, and what goes on with a block.
+//! Tokens and their places, first faults, what is UTF-8, first chunks, and what goes on with a block.
 
 ghost use Rattle.std.specs.Prelude.{IsTrue};
 ghost use Rattle.bz_token.specs.Cuts.{is_physical_line};
 
 use crate::table::plain;
-use bz_token::{Cut, Cutter, LexFault, Next, Token, check_utf8, tokens};
+use bz_token::{Cut, Cutter, LexFault, Next, Token, check_utf8, first_chunk, tokens};
 use std::alloc::{AllocError, Global};
 use std::test::Fail;
 
@@ -197,5 +197,43 @@ fn blocks_go_on(rt: HostRuntime) -> Result<(), Fail> {
     assert_eq!(rt; after(b" if a:\n", " ", false), None);
     assert_eq!(rt; after(b"iff = 1\n", " ", false), None);
     assert_eq!(rt; after(b"def f('\n", " ", false), None);
+    Ok(())
+}
+
+/// The length of the chunk that a text begins with, and the number of its tokens.
+fn first_of(alloc: Global, text: &str) -> Result<Option<(usize, usize)>, AllocError> {
+    if text.len() > 1000 {
+        return Ok(None);
+    }
+    let found = first_chunk(alloc, text, 1, 100)?;
+    Ok(found.map(|chunk| (chunk.text.len(), chunk.tokens.len())))
+}
+
+#[test]
+fn first_chunks(rt: HostRuntime) -> Result<(), Fail> {
+    let alloc = rt.alloc();
+    for (text, wanted) in [
+        ("x = 1\ny = 2\n", Some((6, 4))),
+        ("x # a\ny", Some((6, 3))),
+        ("f(\n\n# a\n)\ny", Some((10, 5))),
+        ("'''\n'''\nx", Some((8, 2))),
+        (" \\\n x\n", Some((6, 2))),
+        ("iff\n", Some((4, 2))),
+        ("\nx\n", Some((1, 1))),
+        (" \n\n", Some((2, 1))),
+        ("# a\n  # b\n\nx\n", Some((11, 5))),
+        ("# a\nf(\n)\nx\n", Some((9, 6))),
+        ("", None),
+        ("x = 1", None),
+        ("f(\n", None),
+        ("# a\n# b\n", None),
+        ("def f():\n  pass\n\n", None),
+        ("# a\nfor x in y:\n", None),
+        ("if x:\n", None),
+        ("x = $\n\n", None),
+        (")\n\n", None),
+    ] {
+        assert_eq!(rt; first_of(alloc, text)?, wanted, "{text}");
+    }
     Ok(())
 }

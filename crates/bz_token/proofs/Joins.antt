@@ -19,7 +19,7 @@ use Rattle.bz_token.proofs.Stops.{token_ended, token_ends}
 use Rattle.bz_token.proofs.Progress.{newlines, newlines-append, column_from-append, reading_bytes, lines_of}
 
 -- white space up to a newline stays so, whatever follows
-note_more : (after b : List ℕ) → list_any is_newline after ≡ true → take (prefix_len (λ c. not (is_newline c)) (after ++ b)) (after ++ b) ≡ take (prefix_len (λ c. not (is_newline c)) after) after
+pub note_more : (after b : List ℕ) → list_any is_newline after ≡ true → take (prefix_len (λ c. not (is_newline c)) (after ++ b)) (after ++ b) ≡ take (prefix_len (λ c. not (is_newline c)) after) after
 note_more [] b h = absurd (false≢true h)
 note_more (c ∷ cs) b h = elim (cases_Bool (is_newline c)) [
   | inl hit ↦ rw hit refl

@@ -47,4 +47,12 @@ pub mod CutAnswers
 pub mod CutWords
 pub mod CutTests
 pub mod ChunkLaws
+pub mod Quiet
+pub mod Stands
+pub mod TokenLines
+pub mod ChunkForms
+pub mod BlockWords
+pub mod FirstLines
+pub mod LineEnds
+pub mod LinesRead
 mod ChunkExamples

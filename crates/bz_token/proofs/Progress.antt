@@ -2,6 +2,7 @@
 use Rattle.std.proofs.Common.{◌≡◌, ℕ, zero, suc, ◌+◌, ◌-◌, ◌<◌, ◌≤◌, ◌==◌, ◌&&◌, List, [], ◌∷◌, ◌++◌, length, take, drop, get_or, cond, Bool, true, false, not, refl, sym, ap, ap₂, subst, ◌∙◌, arith, inl, inr, IsUtf8, append_assoc, append-nil, length-append, take-append-drop}
 use Rattle.std.specs.Prelude.{count_by, nat_eq, Option, Some, None, Result, Ok, Err, IfOk, IfErr}
 use Rattle.std.specs.Option.{option_eq}
+use Rattle.std.specs.Result.{IsErrAnd}
 use Rattle.std.specs.List.{list_all, list_any}
 use Rattle.std.specs.Str.{IsCharBoundary}
 use Rattle.std.proofs.lemmas.Bool.{cases_Bool, and_parts, or_from, false≢true}
@@ -21,6 +22,7 @@ use Rattle.bz_token.specs.declared.brackets.Misfit.TheVariants.{TooDeep, NoMatch
 use Rattle.bz_token.specs.Faults.{IsFault, IsFaultAt, IsOpenBracket, IsBadCharacter, IsBadNumber, IsOpenText, IsBadBackslash, IsBadBracket, IsTooDeep}
 use Rattle.bz_token.specs.private.Scans.{IsBadPlace, bad_fault, IsMisfit, misfit_fault, IsLeftOpen}
 use Rattle.bz_token.specs.private.Steps.{IsRefused}
+pub use Rattle.bz_token.specs.private.Progress.{lines_of, Descends, newest, Progress, Grows}
 use Rattle.bz_token.proofs.Innermost.{step}
 use Rattle.bz_token.proofs.Scanning.{boundary_after}
 
@@ -74,11 +76,6 @@ pub bytes_of-push : (ps : List Piece) (p : Piece) → bytes_of (ps ++ p ∷ []) 
 bytes_of-push [] p = ap (λ x. p.gap ++ x) (append-nil p.text)
 bytes_of-push (q ∷ ps) p = rw (bytes_of-push ps p) (simp append_assoc)
 
--- the lines on which tokens of pieces begin, the newest first
-abbrev pub lines_of : ℕ → List ℕ → List ℕ → List Piece → List ℕ
-lines_of first before lines [] = lines
-lines_of first before lines (p ∷ ps) = lines_of first (before ++ (p.gap ++ p.text)) (line_at first (before ++ p.gap) ∷ lines) ps
-
 pub tokens_of-push : (first : ℕ) (before lines : List ℕ) (ps : List Piece) (p : Piece)
     → tokens_of first before lines (ps ++ p ∷ []) ≡ tokens_of first before lines ps ++ token_of first (before ++ (bytes_of ps ++ p.gap)) (lines_of first before lines ps) p ∷ []
 tokens_of-push first before lines [] p = refl
@@ -98,11 +95,6 @@ lines_of-push first before lines (q ∷ ps) p =
     lines_of-push first (before ++ (q.gap ++ q.text)) more ps p
     ∙ ap (λ b. line_at first b ∷ lines_of first (before ++ (q.gap ++ q.text)) more ps) same
 
--- lines that never fall, the newest first
-abbrev pub Descends : ℕ → List ℕ → Type 0
-Descends bound [] = Unit {0}
-Descends bound (l ∷ ls) = (l ≤ bound) × Descends l ls
-
 pub descends_more : (a b : ℕ) (ls : List ℕ) → a ≤ b → Descends a ls → Descends b ls
 descends_more a b [] h d = tt
 descends_more a b (l ∷ ls) h d = (omega (arith, d.0), d.1)
@@ -115,11 +107,6 @@ below bound line (l ∷ ls) d h =
   where
     differs : (a b : ℕ) → a < b → (a == b) ≡ false
     differs a b h = grind (arith, nat_tests)
-
--- the newest line
-abbrev pub newest : List ℕ → Option ℕ
-newest [] = None
-newest (l ∷ ls) = Some l
 
 abbrev pub same_line : Option ℕ → ℕ → Bool
 same_line None line = false
@@ -138,20 +125,6 @@ new_line line ls d fresh is = is ∙ ap not (found line ls d)
       | inl hit ↦ rw hit refl
       | inr miss ↦ rw miss (sym (below l line ls d.1 (less l line d.0 miss)))
     ]
-
--- the loop's invariant: what the tokens so far stand for, and the gap after them as far as it was passed
-pub record Progress (first depth : ℕ) (bytes : List ℕ) (tokens : List Placed) (opened : List ℕ) (last : Option ℕ) (rest : List ℕ) (line col : ℕ) : Type 0 where
-  pub pieces : List Piece
-  pub gap : List ℕ
-  pub reading : IsReading depth [] pieces (gap ++ rest) bytes
-  pub goes_on : (ys : List ℕ) → is_gap (is_inside (open_after [] pieces)) (gap ++ ys) ≡ is_gap (is_inside (open_after [] pieces)) ys
-  pub opened_are : opened ≡ open_after [] pieces
-  pub tokens_are : tokens ≡ tokens_of first [] [] pieces
-  pub last_is : last ≡ newest (lines_of first [] [] pieces)
-  pub descends : Descends (line_at first (bytes_of pieces)) (lines_of first [] [] pieces)
-  pub line_is : line ≡ line_at first (bytes_of pieces ++ gap)
-  pub col_is : col ≡ column_at (bytes_of pieces ++ gap)
-  pub utf8 : IsUtf8 rest
 
 -- the place after a gap
 pub record AfterGap (first depth : ℕ) (bytes : List ℕ) (tokens : List Placed) (opened : List ℕ) (last : Option ℕ) (gap after : List ℕ) (line col : ℕ) : Type 0 where
@@ -194,8 +167,15 @@ read_start first depth bytes opened none utf8 = record {
   utf8 = utf8;
 }
 
+-- the same of what stands for nothing
+pub read_fresh : (first depth : ℕ) (bytes : List ℕ) (tokens : List Placed) (opened : List ℕ) (last : Option ℕ) (rest : List ℕ) (line col : ℕ) → tokens ≡ [] → opened ≡ [] → last ≡ None → rest ≡ bytes → line ≡ first → col ≡ 1 → IsUtf8 bytes
+    → (p : Progress first depth bytes tokens opened last rest line col) × (p.pieces ≡ [])
+unfolding read_start
+read_fresh first depth bytes tokens opened last rest line col none closed no_line whole at_line at_col utf8 =
+    rw (none, no_line, whole, at_line, at_col) (read_start first depth bytes opened closed utf8, refl)
+
 -- reading goes on in a gap
-pub read_gap : (first depth : ℕ) (bytes : List ℕ) (tokens : List Placed) (opened : List ℕ) (last : Option ℕ) (rest following : List ℕ) (line col l c n : ℕ) → Progress first depth bytes tokens opened last rest line col
+read_gap : (first depth : ℕ) (bytes : List ℕ) (tokens : List Placed) (opened : List ℕ) (last : Option ℕ) (rest following : List ℕ) (line col l c n : ℕ) → Progress first depth bytes tokens opened last rest line col
     → ((ys : List ℕ) → is_gap (is_inside opened) (take n rest ++ ys) ≡ is_gap (is_inside opened) ys) → IsCharBoundary rest n
     → following ≡ drop n rest → l ≡ line + newlines (take n rest) → c ≡ column_from col (take n rest)
     → Progress first depth bytes tokens opened last following l c
@@ -218,6 +198,15 @@ read_gap first depth bytes tokens opened last rest following line col l c n p wh
       col_is = col_moves ∙ ap (λ k. column_from k (take n rest)) p.col_is ∙ sym (column_from-append 1 (bytes_of p.pieces ++ p.gap) (take n rest)) ∙ ap column_at longer;
       utf8 = rw rest_is (IsUtf8-drop rest n p.utf8 cut);
     }
+
+-- the same, with the pieces
+pub gap_read : (first depth : ℕ) (bytes : List ℕ) (tokens : List Placed) (opened : List ℕ) (last : Option ℕ) (rest following : List ℕ) (line col l c n : ℕ) (p : Progress first depth bytes tokens opened last rest line col)
+    → ((ys : List ℕ) → is_gap (is_inside opened) (take n rest ++ ys) ≡ is_gap (is_inside opened) ys) → IsCharBoundary rest n
+    → following ≡ drop n rest → l ≡ line + newlines (take n rest) → c ≡ column_from col (take n rest)
+    → (q : Progress first depth bytes tokens opened last following l c) × Grows None p.pieces q.pieces q.gap
+unfolding read_gap
+gap_read first depth bytes tokens opened last rest following line col l c n p white cut rest_is line_moves col_moves =
+    (read_gap first depth bytes tokens opened last rest following line col l c n p white cut rest_is line_moves col_moves, refl)
 
 -- no gap stands here
 pub after_gap : (first depth : ℕ) (bytes : List ℕ) (tokens : List Placed) (opened : List ℕ) (last : Option ℕ) (rest : List ℕ) (line col : ℕ) (p : Progress first depth bytes tokens opened last rest line col) → begins_gap (is_inside opened) rest ≡ false
@@ -242,7 +231,7 @@ newlines_split xs front back n is_front is_back =
     (omega (arith, ap newlines whole, newlines-append front back), omega (arith, ap length whole, length-append front back))
 
 -- reading goes on after a token
-pub after_token : (first depth : ℕ) (bytes : List ℕ) (tokens : List Placed) (opened opened' : List ℕ) (last : Option ℕ) (gap after text following : List ℕ) (kind : Kind) (line col l c : ℕ) (fresh : Bool)
+after_token : (first depth : ℕ) (bytes : List ℕ) (tokens : List Placed) (opened opened' : List ℕ) (last : Option ℕ) (gap after text following : List ℕ) (kind : Kind) (line col l c : ℕ) (fresh : Bool)
     → AfterGap first depth bytes tokens opened last gap after line col → after ≡ text ++ following → IsToken kind text following → fits depth opened kind text ≡ true → opened' ≡ open_after_token opened text
     → fresh ≡ not (same_line last line) → IsUtf8 following → l ≡ line + newlines text → c ≡ column_from col text
     → Progress first depth bytes (tokens ++ record { kind = kind; text = text; line = line; col = col; fresh = fresh } ∷ []) opened' (Some line) following l c
@@ -269,6 +258,17 @@ after_token first depth bytes tokens opened opened' last gap after text followin
       col_is = col_moves ∙ ap (λ k. column_from k text) before.col_is ∙ sym (column_from-append 1 (bytes_of ps ++ gap) text) ∙ ap column_at (sym whole ∙ sym (append-nil (bytes_of (ps ++ p ∷ []))));
       utf8 = utf8;
     }
+
+-- the same where no gap stands before the token, with the pieces
+pub token_read : (first depth : ℕ) (bytes : List ℕ) (tokens : List Placed) (opened opened' : List ℕ) (last : Option ℕ) (rest text following : List ℕ) (kind : Kind) (line col l c : ℕ) (fresh : Bool) (p : Progress first depth bytes tokens opened last rest line col)
+    → begins_gap (is_inside opened) rest ≡ false → rest ≡ text ++ following → IsToken kind text following → fits depth opened kind text ≡ true → opened' ≡ open_after_token opened text
+    → fresh ≡ not (same_line last line) → IsUtf8 following → l ≡ line + newlines text → c ≡ column_from col text
+    → (q : Progress first depth bytes (tokens ++ record { kind = kind; text = text; line = line; col = col; fresh = fresh } ∷ []) opened' (Some line) following l c) × Grows (Some kind) p.pieces q.pieces q.gap
+unfolding after_token after_gap
+token_read first depth bytes tokens opened opened' last rest text following kind line col l c fresh p none split token fit opens is_fresh utf8 line_moves col_moves = (
+  after_token first depth bytes tokens opened opened' last p.gap rest text following kind line col l c fresh (after_gap first depth bytes tokens opened last rest line col p none) split token fit opens is_fresh utf8 line_moves col_moves,
+  (record { gap = p.gap; kind = kind; text = text }, refl, refl, refl),
+)
 
 -- a fault after a gap
 pub fault_at : (first depth : ℕ) (bytes : List ℕ) (tokens : List Placed) (opened : List ℕ) (last : Option ℕ) (gap after : List ℕ) (line col : ℕ) (IsBad : List ℕ → List ℕ → Type 0) → AfterGap first depth bytes tokens opened last gap after line col → IsBad opened after
@@ -363,6 +363,11 @@ if_ok P Q (Err e) f h = tt
 pub if_err : {V E : Type 0} (P Q : E → Type 0) (r : Result V E) → ((e : E) → P e → Q e) → IfErr r P → IfErr r Q
 if_err P Q (Ok v) f h = tt
 if_err P Q (Err e) f h = f e h
+
+-- an error that `?` passes on
+pub passed_on : {V E : Type 0} (r : Result V E) (x : E) (P : E → Type 0) → IsErrAnd r (λ e. e ≡ x) → P x → IfErr r P
+passed_on (Ok v) x P h is = tt
+passed_on (Err e) x P h is = subst P (sym h) is
 
 both : (x y : Bool) → x ≡ true → y ≡ false → (x && not y) ≡ true
 both x y p q = rw (p, q) refl

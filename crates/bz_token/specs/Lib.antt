@@ -14,4 +14,7 @@ pub mod Blocks
 pub mod Chunks
 pub mod Cuts
 pub mod CutterState
+pub mod TokenLines
+pub mod ChunkForms
+pub mod FirstChunk
 pub mod private

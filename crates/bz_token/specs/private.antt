@@ -5,3 +5,5 @@ pub mod Scans
 pub mod Stages
 pub mod Steps
 pub mod Tables
+pub mod LineEnds
+pub mod Progress

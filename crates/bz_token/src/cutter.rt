@@ -1,6 +1,6 @@
 //! Where the chunks of a file end.
 
-mod block;
+pub mod block;
 mod scan;
 
 ghost use Rattle.std.specs.Prelude.{◌≡◌, ◌+◌, ◌<◌, ◌^◌, ◌++◌, ◌↔◌, [], List, ℕ, false, length, IsTrue};

@@ -1,6 +1,6 @@
 //! The tokens of a text.
 
-ghost use Rattle.std.specs.Prelude.{◌≡◌, ◌≤◌, ◌<◌, ◌+◌, ◌^◌, ◌==◌, ◌∷◌, [], List, ℕ, true, false, not, length, take, drop, count_by, map, IfOk, IfErr, IfSome, IfNone, Some, nat_eq};
+ghost use Rattle.std.specs.Prelude.{◌≡◌, ◌≤◌, ◌<◌, ◌+◌, ◌^◌, ◌==◌, ◌∷◌, [], List, ℕ, true, false, not, length, take, drop, count_by, map, IfOk, IfErr, IfSome, IfNone, Some, None, nat_eq};
 ghost use Rattle.std.specs.Option.{option_eq};
 ghost use Rattle.std.specs.List.{list_any};
 ghost use Rattle.bz_token.specs.Places.{Placed, placed, column_from};
@@ -10,13 +10,14 @@ ghost use Rattle.bz_token.specs.Faults.{IsFault};
 ghost use Rattle.bz_token.specs.Lexical.{is_newline};
 ghost use Rattle.bz_token.specs.private.Scans.{opened, bad_fault, misfit_fault, IsLeftOpen};
 ghost use Rattle.bz_token.specs.private.Steps.{IsTaken, IsRefused};
+ghost use Rattle.bz_token.specs.private.Progress.{HasRead, Grows, PlacesFit};
 
 use crate::brackets::{Brackets, Misfit, innermost};
 use crate::fault::LexFault;
 use crate::gap::{Place, advance, after_gap};
 use crate::scan_token::{Bad, Step, step_at};
-use crate::token::Token;
-use std::alloc::Global;
+use crate::token::{Kind, Token};
+use std::alloc::{AllocError, Global};
 
 /// The place after a token.
 #[inline(always)]
@@ -91,6 +92,120 @@ fn read_step(
     }
 }
 
+/// Where reading stands in a text.
+#[derive(Clone, Copy)]
+pub struct Spot<'a> {
+    /// What is still to be read.
+    pub rest: &'a str,
+    place: Place,
+    // The line on which the last token begins.
+    last_line: Option<u64>,
+}
+
+impl<'a> Spot<'a> {
+    /// The beginning of a text.
+    #[inline(always)]
+    pub fn start(text: &'a str, first_line: u64) -> Spot<'a>
+        ensures rest { result.rest.now ≡ text.now }
+        ensures line { result.place.line ≡ first_line }
+        ensures col { result.place.col ≡ 1 }
+        ensures none { result.last_line ≡ None }
+    {
+        Spot {
+            rest: text,
+            place: Place::start(first_line),
+            last_line: None,
+        }
+    }
+}
+
+/// The tokens that were read, and the brackets that are open after them.
+#[derive(Drop)]
+pub struct Lexer<'a> {
+    pub tokens: Vec<Token<'a>>,
+    brackets: Brackets,
+}
+
+impl<'a> Lexer<'a> {
+    /// Nothing is read yet.
+    #[inline(always)]
+    pub fn new(alloc: Global, capacity: usize) -> Result<Lexer<'a>, AllocError>
+        ensures { IfOk result (λ lexer. (lexer.tokens.items ≡ []) × (opened lexer.brackets ≡ [])) }
+    {
+        Ok(Lexer {
+            tokens: Vec::with_capacity(alloc, capacity)?,
+            brackets: Brackets::new(),
+        })
+    }
+
+    /// The tokens from this one on.
+    #[inline(always)]
+    pub fn tokens_from(&self, start: usize) -> &[Token<'a>]
+        requires { start ≤ length self.now.tokens.items }
+        ensures { result.now ≡ drop start self.now.tokens.items }
+    {
+        &self.tokens[start..]
+    }
+
+    /// Reads what stands here, a gap or a token: the spot after it, and the token's kind.
+    #[inline(always)]
+    pub fn step(
+        &mut self,
+        spot: Spot<'a>,
+        max_depth: u8,
+    ) -> Result<(Spot<'a>, Option<Kind>), LexFault>
+        requires some { 0 < length spot.rest.now }
+        requires places { (first : ℕ) × (bytes : List ℕ) × HasRead first max_depth bytes self.old spot
+            × PlacesFit first bytes }
+        ensures read { (first : ℕ) (bytes : List ℕ) (before : HasRead first max_depth bytes self.old spot.entry)
+            → IfOk result (λ passed. (after : HasRead first max_depth bytes self.new passed.0)
+            × Grows passed.1 before.pieces after.pieces after.gap) }
+        ensures shorter { IfOk result (λ passed. length passed.0.rest.now < length spot.entry.rest.now) }
+        ensures fault { (first : ℕ) (bytes : List ℕ) → HasRead first max_depth bytes self.old spot.entry
+            → IfErr result (IsFault first max_depth bytes) }
+    {
+        let Spot {
+            rest,
+            place,
+            last_line,
+        } = spot;
+        let bytes = rest.as_bytes();
+        let step = match read_step(&mut self.brackets, bytes, max_depth, place) {
+            Ok(step) => step,
+            Err(fault) => return Err(fault),
+        };
+        match step {
+            Step::Gap(gap) => Ok((
+                Spot {
+                    rest: rest.split_at(gap.len).1,
+                    place: after_gap(place, gap),
+                    last_line,
+                },
+                None,
+            )),
+            Step::Token(scanned) => {
+                let Place { line, col } = place;
+                let (token, following) = rest.split_at(scanned.len);
+                self.tokens.push(Token {
+                    kind: scanned.kind,
+                    text: token,
+                    line,
+                    col,
+                    fresh: is_fresh(last_line, line),
+                })?;
+                Ok((
+                    Spot {
+                        rest: following,
+                        place: pass(place, token.as_bytes(), scanned.has_newline),
+                        last_line: Some(line),
+                    },
+                    Some(scanned.kind),
+                ))
+            }
+        }
+    }
+}
+
 // Room for the tokens of a statement of so many bytes; the list of a long text grows.
 #[inline(always)]
 fn first_capacity(len: usize) -> usize {
@@ -121,40 +236,13 @@ pub fn tokens<'a>(
     ensures tokens { IfOk result (λ v. AreTokensOf first_line max_depth text.now (map placed v.items)) }
     ensures fault { IfErr result (IsFault first_line max_depth text.now) }
 {
-    let mut out = Vec::with_capacity(alloc, first_capacity(text.len()))?;
-    let mut brackets = Brackets::new();
-    let mut last_line = None;
-    let mut place = Place::start(first_line);
-    let mut rest = text;
-    while !rest.is_empty() {
-        let bytes = rest.as_bytes();
-        let step = match read_step(&mut brackets, bytes, max_depth, place) {
-            Ok(step) => step,
-            Err(fault) => return Err(fault),
-        };
-        match step {
-            Step::Gap(gap) => {
-                place = after_gap(place, gap);
-                rest = rest.split_at(gap.len).1;
-            }
-            Step::Token(scanned) => {
-                let Place { line, col } = place;
-                let (token, following) = rest.split_at(scanned.len);
-                out.push(Token {
-                    kind: scanned.kind,
-                    text: token,
-                    line,
-                    col,
-                    fresh: is_fresh(last_line, line),
-                })?;
-                last_line = Some(line);
-                place = pass(place, token.as_bytes(), scanned.has_newline);
-                rest = following;
-            }
-        }
+    let mut lexer = Lexer::new(alloc, first_capacity(text.len()))?;
+    let mut spot = Spot::start(text, first_line);
+    while !spot.rest.is_empty() {
+        spot = lexer.step(spot, max_depth)?.0;
     }
-    if brackets.is_inside() {
-        return closed(out);
+    if lexer.brackets.is_inside() {
+        return closed(lexer.tokens);
     }
-    Ok(out)
+    Ok(lexer.tokens)
 }

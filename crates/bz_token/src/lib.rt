@@ -2,6 +2,7 @@
 #![tactic(auto)]
 
 mod brackets;
+mod chunk;
 mod cutter;
 mod fault;
 mod gap;
@@ -15,6 +16,7 @@ mod table;
 mod token;
 mod utf8;
 
+pub use chunk::{FirstChunk, first_chunk};
 pub use cutter::{Cut, Cutter, Next};
 pub use fault::LexFault;
 pub use identifier::is_identifier;

@@ -9,7 +9,7 @@ use Rattle.bz_token.specs.Lexical.{is_text}
 use Rattle.bz_token.specs.Brackets.{is_inside, is_line, is_opening_bracket, bracket_fits, fits, open_after_token}
 use Rattle.bz_token.specs.Places.{Placed, line_at}
 use Rattle.bz_token.specs.Reading.{Piece, IsReading, tokens_of, AreTokensOf}
-use Rattle.bz_token_laws.proofs.Quiet.{both}
+use Rattle.bz_token.proofs.Quiet.{both}
 
 bracket_deeper : (d e : ℕ) (opened : List ℕ) (b : ℕ) → d ≤ e → bracket_fits d opened b ≡ true → bracket_fits e opened b ≡ true
 bracket_deeper d e opened b less h = elim (cases_Bool (is_opening_bracket b)) [

@@ -8,11 +8,11 @@ use Rattle.bz_token.specs.Lexical.{keywords, signs}
 use Rattle.bz_token.specs.FreshStart.{ends_in_line}
 use Rattle.bz_token.specs.Reading.{Piece, open_after}
 use Rattle.bz_token_laws.specs.Readable.{are_texts, are_ended, are_fitting}
-use Rattle.bz_token_laws.specs.TokenLines.{lines_of}
+use Rattle.bz_token.specs.TokenLines.{lines_of}
 use Rattle.bz_token.specs.Chunks.{chunk_goes_on}
 use Rattle.bz_token.specs.Groups.{grouped}
 use Rattle.bz_token.specs.LogicalLines.{lines}
-use Rattle.bz_token_laws.specs.ChunkForms.{are_comments, ends_chunk, are_forms}
+use Rattle.bz_token.specs.ChunkForms.{are_comments, ends_chunk, are_forms}
 
 abbrev piece : List ℕ → Kind → List ℕ → Piece
 piece gap kind text = record { gap = gap; kind = kind; text = text }

@@ -1,10 +1,10 @@
 pub mod Readable
 pub mod CloseTokens
-pub mod Quiet
-pub mod Stands
-pub mod TokenLines
-pub mod ChunkForms
 pub mod Deeper
-pub mod BlockWords
 mod Examples
 pub mod GapLines
+pub use Rattle.bz_token.proofs.Quiet
+pub use Rattle.bz_token.proofs.Stands
+pub use Rattle.bz_token.proofs.TokenLines
+pub use Rattle.bz_token.proofs.ChunkForms
+pub use Rattle.bz_token.proofs.BlockWords

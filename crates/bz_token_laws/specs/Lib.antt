@@ -1,3 +1,3 @@
 pub mod Readable
-pub mod TokenLines
-pub mod ChunkForms
+pub use Rattle.bz_token.specs.TokenLines
+pub use Rattle.bz_token.specs.ChunkForms

@@ -11,7 +11,7 @@ ghost use Rattle.bz_token.specs.Blocks.{opener_of, opener};
 ghost use Rattle.bz_token.specs.Chunks.{text_of, chunks};
 ghost use Rattle.bz_token.specs.Cuts.{IsChunk};
 ghost use Rattle.bz_token.specs.FreshStart.{AreLinesOf};
-ghost use Rattle.bz_token_laws.specs.ChunkForms.{are_comments, ends_chunk, are_forms};
+ghost use Rattle.bz_token.specs.ChunkForms.{are_comments, ends_chunk, are_forms};
 
 /// The chunks of a file are its logical lines in groups. A group is comment lines, if any, and then a blank line, or a
 /// statement line with the lines of its block, if it begins one; or, as the last of the file, comment lines alone.

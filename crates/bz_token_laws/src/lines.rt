@@ -8,7 +8,7 @@ ghost use Rattle.bz_token.specs.Brackets.{is_inside, is_line};
 ghost use Rattle.bz_token.specs.Reading.{is_gap, Piece, IsReading, open_after, bytes_of, tokens_of, AreTokensOf};
 ghost use Rattle.bz_token.specs.LogicalLines.{lines};
 ghost use Rattle.bz_token.specs.FreshStart.{ends_in_line, AreLinesOf};
-ghost use Rattle.bz_token_laws.specs.TokenLines.{is_newline_piece, line_of, lines_of};
+ghost use Rattle.bz_token.specs.TokenLines.{is_newline_piece, line_of, lines_of};
 
 /// Where a text has tokens, its logical lines are these cut after each newline token, and a line is blank, comments
 /// or a statement as it has no other token, comments alone, or another. After a text that a newline token ends,

@@ -1,11 +1,9 @@
-use Rattle.std.proofs.Common.{length, map}
-use Rattle.bz_token.specs.Places.{placed}
-use Rattle.bz_token.specs.private.Scans.{opened}
-use Rattle.bz_token.proofs.Progress.{Progress}
+use Rattle.std.proofs.Common.{length}
+use Rattle.bz_token.specs.private.Progress.{HasRead}
 use Rattle.bz_token.proofs.lexer.tokens.Given as goal
 
-abbrev pub invariant-loop-rest : goal.invariant-loop-rest
-invariant-loop-rest l = Progress l.first_line l.max_depth l.fn.text (map placed l.out.items) (opened l.brackets) l.last_line l.rest l.place.line l.place.col
+abbrev pub invariant-loop-spot : goal.invariant-loop-spot
+invariant-loop-spot l = HasRead l.first_line l.max_depth l.fn.text l.lexer l.spot
 
-abbrev pub decreases-loop-rest : goal.decreases-loop-rest
-decreases-loop-rest l = length l.rest
+abbrev pub decreases-loop-spot : goal.decreases-loop-spot
+decreases-loop-spot l = length l.spot.rest.now

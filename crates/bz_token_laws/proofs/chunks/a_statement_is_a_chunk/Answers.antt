@@ -1,4 +1,4 @@
-use Rattle.bz_token_laws.proofs.ChunkForms.{statement_chunk, comments_chunk}
+use Rattle.bz_token.proofs.ChunkForms.{statement_chunk, comments_chunk}
 use Rattle.bz_token_laws.proofs.chunks.a_statement_is_a_chunk.Goals as goal
 
 pub returns-clause-whole : goal.returns-clause-whole

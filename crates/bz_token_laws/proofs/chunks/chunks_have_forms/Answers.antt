@@ -2,7 +2,7 @@ use Rattle.std.proofs.Common.{refl}
 use Rattle.bz_token.specs.Groups.{grouped}
 use Rattle.bz_token.specs.LogicalLines.{lines}
 use Rattle.bz_token.specs.Chunks.{chunk_goes_on}
-use Rattle.bz_token_laws.proofs.ChunkForms.{have_forms, all_lines}
+use Rattle.bz_token.proofs.ChunkForms.{have_forms, all_lines}
 use Rattle.bz_token_laws.proofs.chunks.chunks_have_forms.Goals as goal
 
 pub returns : goal.returns

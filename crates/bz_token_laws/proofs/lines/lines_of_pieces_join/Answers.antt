@@ -1,4 +1,4 @@
-use Rattle.bz_token_laws.proofs.TokenLines.{lines_of_join, one_line}
+use Rattle.bz_token.proofs.TokenLines.{lines_of_join, one_line}
 use Rattle.bz_token_laws.proofs.lines.lines_of_pieces_join.Goals as goal
 
 pub returns-clause-joined : goal.returns-clause-joined

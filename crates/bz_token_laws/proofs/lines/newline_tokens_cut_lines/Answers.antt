@@ -1,4 +1,4 @@
-use Rattle.bz_token_laws.proofs.TokenLines.{lines_are_lines, tokens_in_lines, lines_join}
+use Rattle.bz_token.proofs.TokenLines.{lines_are_lines, tokens_in_lines, lines_join}
 use Rattle.bz_token_laws.proofs.lines.newline_tokens_cut_lines.Goals as goal
 
 pub returns-clause-reading : goal.returns-clause-reading

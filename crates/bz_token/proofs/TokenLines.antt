@@ -24,10 +24,10 @@ use Rattle.bz_token.proofs.CutSeen.{seen_lines}
 use Rattle.bz_token.proofs.CutLines.{lines_seen, lines_are}
 use Rattle.bz_token.proofs.CutStrings.{seen_step}
 use Rattle.bz_token.proofs.Joins.{line_text, join_reading}
-use Rattle.bz_token_laws.specs.TokenLines.{is_newline_piece, is_comment_piece, kind_of, line_of, lines_from, lines_of}
-use Rattle.bz_token_laws.proofs.Readable.{bytes_join, read_is_laid}
-use Rattle.bz_token_laws.proofs.Quiet.{quiet_end, seen_quiet}
-use Rattle.bz_token_laws.proofs.Stands.{Stands, stands_plain, stands_final, stands_first, kind_with, gap_after, token_after}
+use Rattle.bz_token.proofs.Progress.{reading_bytes, bytes_of-push}
+use Rattle.bz_token.specs.TokenLines.{is_newline_piece, is_comment_piece, kind_of, line_of, lines_from, lines_of}
+use Rattle.bz_token.proofs.Quiet.{quiet_end, seen_quiet}
+use Rattle.bz_token.proofs.Stands.{Stands, stands_plain, stands_final, stands_first, kind_with, gap_after, token_after}
 
 -- the kind of a line with one token more
 kinds : (a b : Bool) (kind : Kind) → (a ≡ true → b ≡ true) → (if a && (is_line kind && true) then Blank else (if b && ((is_line kind || is_note kind) && true) then Note else Statement)) ≡ kind_with (if a then Blank else (if b then Note else Statement)) kind
@@ -68,9 +68,6 @@ kind_snoc : (line : List Piece) (p : Piece) → kind_of (line ++ p ∷ []) ≡ k
 kind_snoc line p =
     (λ i. if list_all-append is_newline_piece line (p ∷ []) i then Blank else (if list_all-append is_comment_piece line (p ∷ []) i then Note else Statement))
     ∙ kinds (list_all is_newline_piece line) (list_all is_comment_piece line) p.kind (newlines_noted line)
-
-bytes_snoc : (line : List Piece) (p : Piece) → bytes_of (line ++ p ∷ []) ≡ bytes_of line ++ (p.gap ++ p.text)
-bytes_snoc line p = bytes_join line (p ∷ []) ∙ ap (λ x. bytes_of line ++ (p.gap ++ x)) (append-nil p.text)
 
 some_open : (opened : List ℕ) → is_inside opened ≡ true → 0 < length opened
 some_open [] h = absurd (false≢true h)
@@ -136,7 +133,7 @@ newline_joins s seen after none = seen_step s seen 10 after none
 
 whole_line : (line : List Piece) (p : Piece) → p.kind ≡ LineToken → p.text ≡ 10 ∷ [] → line_at ((bytes_of line ++ p.gap) ++ 10 ∷ []) (kind_of line) false ≡ line_of (line ++ p ∷ []) []
 whole_line line p kind text =
-    let bytes : (bytes_of line ++ p.gap) ++ 10 ∷ [] ≡ bytes_of (line ++ p ∷ []) ++ [] = append_assoc (bytes_of line) p.gap (10 ∷ []) ∙ ap (λ x. bytes_of line ++ (p.gap ++ x)) (sym text) ∙ sym (bytes_snoc line p) ∙ sym (append-nil (bytes_of (line ++ p ∷ []))) in
+    let bytes : (bytes_of line ++ p.gap) ++ 10 ∷ [] ≡ bytes_of (line ++ p ∷ []) ++ [] = append_assoc (bytes_of line) p.gap (10 ∷ []) ∙ ap (λ x. bytes_of line ++ (p.gap ++ x)) (sym text) ∙ sym (bytes_of-push line p) ∙ sym (append-nil (bytes_of (line ++ p ∷ []))) in
     let same : kind_of line ≡ kind_of (line ++ p ∷ []) = ap (kind_with (kind_of line)) (sym kind) ∙ sym (kind_snoc line p) in
     λ i. line_at (bytes i) (same i) false
 
@@ -170,10 +167,10 @@ piece_passed depth opened p bytes after s line piece st none =
           stays other (run (run s p.gap) p.text)
           (subst (λ x. Stands (run (run s p.gap) p.text) (length (open_after_token opened p.text)) x after) (sym (kind_snoc line p)) t.stands)
           (quiet_end p.text (run s p.gap) here t.quiet)
-          (ap (λ x. is_empty (x ++ after)) (bytes_snoc line p) ∙ front_some (bytes_of line) p.gap p.text after p.kind piece.token.whole)
+          (ap (λ x. is_empty (x ++ after)) (bytes_of-push line p) ∙ front_some (bytes_of line) p.gap p.text after p.kind piece.token.whole)
           (over
           ∙ seen_quiet p.text after (run s p.gap) (bytes_of line ++ p.gap) here t.quiet
-          ∙ ap (λ x. seen_lines (run (run s p.gap) p.text) x after) (append_assoc (bytes_of line) p.gap p.text ∙ sym (bytes_snoc line p)))
+          ∙ ap (λ x. seen_lines (run (run s p.gap) p.text) x after) (append_assoc (bytes_of line) p.gap p.text ∙ sym (bytes_of-push line p)))
     ]
 
 cut_here : (line : List Piece) (p : Piece) (ps : List Piece) (rest : List ℕ) → is_line p.kind ≡ true → lines_from line (p ∷ ps) rest ≡ line_of (line ++ p ∷ []) [] ∷ lines_from [] ps rest
@@ -253,7 +250,7 @@ pub lines_are_lines : (depth : ℕ) (ps : List Piece) (rest bytes : List ℕ) �
 lines_are_lines depth ps rest bytes r gap = lines_are bytes ∙ fresh_lines depth ps rest bytes r gap
 
 pub tokens_in_lines : (first depth : ℕ) (bytes : List ℕ) (ts : List Placed) → AreTokensOf first depth bytes ts → (ps : List Piece) × (rest : List ℕ) × (bytes ≡ bytes_of ps ++ rest) × (ts ≡ tokens_of first [] [] ps) × (lines bytes ≡ lines_of ps rest)
-tokens_in_lines first depth bytes ts a = (a.0, a.1, (read_is_laid depth [] a.0 a.1 bytes a.2).0, a.5, lines_are_lines depth a.0 a.1 bytes a.2 (ap (λ o. is_gap (is_inside o) a.1) a.4 ∙ a.3))
+tokens_in_lines first depth bytes ts a = (a.0, a.1, reading_bytes depth [] a.0 a.1 bytes a.2, a.5, lines_are_lines depth a.0 a.1 bytes a.2 (ap (λ o. is_gap (is_inside o) a.1) a.4 ∙ a.3))
 
 -- lines and what follows them
 pub lines_join : (first depth : ℕ) (a b : List ℕ) (ts : List Placed) → AreLinesOf first depth a ts → lines (a ++ b) ≡ lines a ++ lines b

@@ -19,7 +19,7 @@ use Rattle.bz_token.proofs.Ends.{comment_parts}
 use Rattle.bz_token.proofs.Stops.{token_ends}
 use Rattle.bz_token.proofs.CutSeen.{final_kind}
 use Rattle.bz_token.proofs.Agree.{IsAt, stands, Ready, acts, comments, token_run, visible}
-use Rattle.bz_token_laws.proofs.Quiet.{is_quiet, not_true, both, not_false, quiet_end, statement_step, statement_run, short_no_newline, plain_quiet, string_quiet}
+use Rattle.bz_token.proofs.Quiet.{is_quiet, not_true, both, not_false, quiet_end, statement_step, statement_run, short_no_newline, plain_quiet, string_quiet}
 
 -- The cutter acts as outside strings and comments in a line of this kind; or it is in a comment of which white space is left.
 pub data Stands (s : Scan) (d : ℕ) (k : LineKind) (after : List ℕ) : Type 0 where

@@ -16,11 +16,11 @@ use Rattle.bz_token.specs.Blocks.{is_white, continues, head_from, word_at, opene
 use Rattle.bz_token.proofs.Classes.{can_start, class_of, text_class, keyword_name, empty_no_text}
 use Rattle.bz_token.proofs.Stops.{token_ends}
 use Rattle.bz_token.proofs.Agree.{visible}
-use Rattle.bz_token_laws.proofs.Stands.{apart}
+use Rattle.bz_token.proofs.Stands.{apart}
 
--- at a byte that is no white space and no backslash the line's head is there
-head_here : (b : ℕ) (bs : List ℕ) → is_blank b ≡ false → (b == 10) ≡ false → (b == 92) ≡ false → head_from true (b ∷ bs) ≡ b ∷ bs
-head_here b bs blank line slash = let visible = none in rw (visible, head_from) refl
+-- at a byte that is no white space and no backslash the line's head is there, if this is column 1
+head_here : (first : Bool) (b : ℕ) (bs : List ℕ) → is_blank b ≡ false → (b == 10) ≡ false → (b == 92) ≡ false → head_from first (b ∷ bs) ≡ cond first (b ∷ bs) []
+head_here first b bs blank line slash = let visible = none in rw (visible, head_from) refl
   where
     none : (is_white b || continues b bs) ≡ false
     none = rw (blank, line, slash) refl
@@ -117,9 +117,17 @@ no_slash Sign = refl
 no_slash Note = refl
 no_slash Kept = refl
 
-pub no_block : (kind : Kind) (text after : List ℕ) → IsToken kind text after → is_line kind ≡ false → opener_of text ≡ None → opener (text ++ after) ≡ None
-no_block kind [] after token line none = absurd (empty_no_text kind token.whole)
-no_block kind (b ∷ bs) after token line none =
+-- the same wherever the token stands on its line
+pub no_block_from : (first : Bool) (kind : Kind) (text after : List ℕ) → IsToken kind text after → is_line kind ≡ false → opener_of text ≡ None → opener_of (word_at (head_from first (text ++ after))) ≡ None
+no_block_from first kind [] after token line none = absurd (empty_no_text kind token.whole)
+no_block_from first kind (b ∷ bs) after token line none =
     let h = text_class kind b bs token.whole in
-    ap (λ x. opener_of (word_at x)) (head_here b (bs ++ after) (visible kind b bs token.whole) (apart kind b 10 h (no_line kind line)) (apart kind b 92 h (no_slash kind)))
-    ∙ first_word kind b bs after token none
+    ap (λ x. opener_of (word_at x)) (head_here first b (bs ++ after) (visible kind b bs token.whole) (apart kind b 10 h (no_line kind line)) (apart kind b 92 h (no_slash kind)))
+    ∙ by first
+  where
+    by : (first : Bool) → opener_of (word_at (cond first (b ∷ (bs ++ after)) [])) ≡ None
+    by true = first_word kind b bs after token none
+    by false = refl
+
+pub no_block : (kind : Kind) (text after : List ℕ) → IsToken kind text after → is_line kind ≡ false → opener_of text ≡ None → opener (text ++ after) ≡ None
+no_block kind text after token line none = no_block_from true kind text after token line none

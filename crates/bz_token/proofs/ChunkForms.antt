@@ -15,8 +15,8 @@ use Rattle.bz_token.specs.Places.{Placed}
 use Rattle.bz_token.specs.FreshStart.{AreLinesOf}
 use Rattle.bz_token.proofs.CutStrings.{grouped_joins, grouped_apart}
 use Rattle.bz_token.proofs.ChunkLaws.{chunks_kept}
-use Rattle.bz_token_laws.specs.ChunkForms.{are_comments, ends_as, ends_chunk, are_of_block, are_more, is_rest, are_forms}
-use Rattle.bz_token_laws.proofs.TokenLines.{lines_join}
+use Rattle.bz_token.specs.ChunkForms.{are_comments, ends_as, ends_chunk, are_of_block, are_more, is_rest, are_forms}
+use Rattle.bz_token.proofs.TokenLines.{lines_join}
 
 after_all_comments : (comments ls : List Line) → are_comments comments ≡ true → after_comments (comments ++ ls) ≡ after_comments ls
 after_all_comments [] ls h = refl
@@ -29,7 +29,7 @@ joins_comments : (done : List Line) (l : Line) (ls : List Line) → are_comments
 joins_comments done l ls h =
     grouped_joins chunk_goes_on done l ls (ap (λ d. is_followed (after_comments d) l.text) (sym (append-nil done)) ∙ ap (λ rest. is_followed rest l.text) (after_all_comments done [] h))
 
-comments_snoc : (done : List Line) (l : Line) → are_comments done ≡ true → is_comment_line l.kind ≡ true → are_comments (done ++ l ∷ []) ≡ true
+pub comments_snoc : (done : List Line) (l : Line) → are_comments done ≡ true → is_comment_line l.kind ≡ true → are_comments (done ++ l ∷ []) ≡ true
 comments_snoc [] l h is = rw is refl
 comments_snoc (d ∷ ds) l h is =
     let p = and_parts (is_comment_line d.kind) (are_comments ds) h in

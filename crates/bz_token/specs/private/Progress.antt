@@ -1,0 +1,52 @@
+-- For private clauses: how far a text has been read.
+use Rattle.std.specs.Prelude.{◌≡◌, ℕ, ◌+◌, ◌≤◌, ◌<◌, ◌^◌, ◌==◌, List, [], ◌∷◌, ◌++◌, length, count_by, map, IsUtf8, Option, Some, None}
+use Rattle.bz_token.specs.declared.token.Kind.{Kind}
+use Rattle.bz_token.specs.declared.lexer.Lexer.{Lexer}
+use Rattle.bz_token.specs.declared.lexer.Spot.{Spot}
+use Rattle.bz_token.specs.Places.{Placed, placed, line_at, column_at}
+use Rattle.bz_token.specs.Brackets.{is_inside}
+use Rattle.bz_token.specs.Reading.{is_gap, Piece, IsReading, open_after, bytes_of, tokens_of}
+use Rattle.bz_token.specs.private.Scans.{opened}
+
+-- the lines on which tokens of pieces begin, the newest first
+abbrev pub lines_of : ℕ → List ℕ → List ℕ → List Piece → List ℕ
+lines_of first before lines [] = lines
+lines_of first before lines (p ∷ ps) = lines_of first (before ++ (p.gap ++ p.text)) (line_at first (before ++ p.gap) ∷ lines) ps
+
+-- lines that never fall, the newest first
+abbrev pub Descends : ℕ → List ℕ → Type 0
+Descends bound [] = Unit {0}
+Descends bound (l ∷ ls) = (l ≤ bound) × Descends l ls
+
+-- the newest line
+abbrev pub newest : List ℕ → Option ℕ
+newest [] = None
+newest (l ∷ ls) = Some l
+
+-- what the tokens so far stand for, and the gap after them as far as it was passed
+pub record Progress (first depth : ℕ) (bytes : List ℕ) (tokens : List Placed) (opened : List ℕ) (last : Option ℕ) (rest : List ℕ) (line col : ℕ) : Type 0 where
+  pub pieces : List Piece
+  pub gap : List ℕ
+  pub reading : IsReading depth [] pieces (gap ++ rest) bytes
+  pub goes_on : (ys : List ℕ) → is_gap (is_inside (open_after [] pieces)) (gap ++ ys) ≡ is_gap (is_inside (open_after [] pieces)) ys
+  pub opened_are : opened ≡ open_after [] pieces
+  pub tokens_are : tokens ≡ tokens_of first [] [] pieces
+  pub last_is : last ≡ newest (lines_of first [] [] pieces)
+  pub descends : Descends (line_at first (bytes_of pieces)) (lines_of first [] [] pieces)
+  pub line_is : line ≡ line_at first (bytes_of pieces ++ gap)
+  pub col_is : col ≡ column_at (bytes_of pieces ++ gap)
+  pub utf8 : IsUtf8 rest
+
+-- the text was read up to this spot
+abbrev pub HasRead : ℕ → ℕ → List ℕ → Lexer → Spot → Type 0
+HasRead first depth bytes lexer spot =
+    Progress first depth bytes (map placed lexer.tokens.items) (opened lexer.brackets) spot.last_line spot.rest.now spot.place.line spot.place.col
+
+-- the pieces after a step over a gap, or over a token of this kind
+abbrev pub Grows : Option Kind → List Piece → List Piece → List ℕ → Type 0
+Grows None before pieces gap = pieces ≡ before
+Grows (Some kind) before pieces gap = (p : Piece) × (pieces ≡ before ++ p ∷ []) × (p.kind ≡ kind) × (gap ≡ [])
+
+-- the lines and columns of the text fit in 64 bits
+abbrev pub PlacesFit : ℕ → List ℕ → Type 0
+PlacesFit first bytes = (first + count_by (λ b. b == 10) bytes < 2 ^ 64) × (length bytes + 1 < 2 ^ 64)

@@ -1,0 +1,91 @@
+//! The chunk that a text begins with, and its tokens, in one walk.
+
+ghost use Rattle.std.specs.Prelude.{◌≡◌, ◌+◌, ◌<◌, ◌^◌, ◌==◌, count_by, map, IfOk, IfSome};
+ghost use Rattle.bz_token.specs.Places.{placed};
+ghost use Rattle.bz_token.specs.FirstChunk.{IsFirstChunk};
+ghost use Rattle.bz_token.specs.private.LineEnds.{line_end};
+
+use crate::cutter::block::opener_at;
+use crate::fault::LexFault;
+use crate::lexer::{Lexer, Spot};
+use crate::token::{Kind, Token};
+use std::alloc::{AllocError, Global};
+
+/// A chunk and its tokens.
+#[derive(Drop)]
+pub struct FirstChunk<'a> {
+    pub text: &'a str,
+    pub tokens: Vec<Token<'a>>,
+}
+
+// What a logical line says of its chunk.
+#[derive(Clone, Copy)]
+enum LineEnd {
+    /// The next line joins it.
+    Joins,
+    /// It ends.
+    Ends,
+    /// The line may begin a block.
+    Block,
+}
+
+// Comments alone join the next line; a blank line and a statement end the chunk, unless a block begins.
+fn line_end(line: &[Token<'_>]) -> LineEnd
+    ensures { result ≡ line_end (map placed line.now) }
+{
+    if line.iter().all(|token| token.kind == Kind::Line) {
+        return LineEnd::Ends;
+    }
+    if line
+        .iter()
+        .all(|token| matches!(token.kind, Kind::Line | Kind::Note))
+    {
+        return LineEnd::Joins;
+    }
+    match line {
+        [first, ..] if opener_at(first.text.as_bytes()).is_some() => LineEnd::Block,
+        _ => LineEnd::Ends,
+    }
+}
+
+// Room for the tokens of most chunks.
+const FIRST_CAPACITY: usize = 128;
+
+/// The chunk that a text begins with, and its tokens, where the text shows that the chunk ends, whatever follows. The
+/// text's first line has this number, and at most so many brackets may be open at once. None: the text does not show it,
+/// the chunk has a lexical fault, or it begins a block. `Err`: memory was refused.
+pub fn first_chunk<'a>(
+    alloc: Global,
+    text: &'a str,
+    first_line: u64,
+    max_depth: u8,
+) -> Result<Option<FirstChunk<'a>>, AllocError>
+    requires { first_line + count_by (λ b. b == 10) text.now < 2 ^ 64 }
+    ensures chunk { IfOk result (λ o. IfSome o (IsFirstChunk first_line max_depth text.now)) }
+{
+    let mut lexer = Lexer::new(alloc, FIRST_CAPACITY)?;
+    let mut spot = Spot::start(text, first_line);
+    // The first token of the line that is being read.
+    let mut line_start = 0;
+    while !spot.rest.is_empty() {
+        let (next, kind) = match lexer.step(spot, max_depth) {
+            Ok(passed) => passed,
+            Err(LexFault::OutOfMemory) => return Err(AllocError),
+            Err(_) => return Ok(None),
+        };
+        spot = next;
+        if kind == Some(Kind::Line) {
+            match line_end(lexer.tokens_from(line_start)) {
+                LineEnd::Joins => line_start = lexer.tokens.len(),
+                LineEnd::Ends => {
+                    return Ok(Some(FirstChunk {
+                        text: text.split_at(text.len() - spot.rest.len()).0,
+                        tokens: lexer.tokens,
+                    }));
+                }
+                LineEnd::Block => return Ok(None),
+            }
+        }
+    }
+    Ok(None)
+}
