@@ -2,6 +2,7 @@
 
 use crate::table::plain;
 use crate::trees::kind_name;
+use bz_token::{LexFault, tokens};
 use bz_tree::{Part, Row, read_row};
 use std::alloc::{AllocError, Global};
 use std::test::Fail;
@@ -152,13 +153,22 @@ fn put_row(row: &Row<'_>, out: &mut String) -> Result<(), AllocError> {
     Ok(())
 }
 
-/// The row of a short chunk.
-fn shown(alloc: Global, text: &str) -> Result<String, AllocError> {
+/// The row of a short chunk. None: it has none, or no tokens.
+fn row_of<'a>(alloc: Global, text: &'a str) -> Result<Option<Row<'a>>, AllocError> {
     if text.len() > 1000 {
         return Err(AllocError);
     }
+    match tokens(alloc, text, 1, 100) {
+        Ok(tokens) => read_row(alloc, &tokens),
+        Err(LexFault::OutOfMemory) => Err(AllocError),
+        Err(_) => Ok(None),
+    }
+}
+
+/// The row of a chunk as text.
+fn shown(alloc: Global, text: &str) -> Result<String, AllocError> {
     let mut out = String::new(alloc);
-    match read_row(alloc, text, 1, 100)? {
+    match row_of(alloc, text)? {
         None => out.push_str("none")?,
         Some(row) => {
             put_row(&row, &mut out)?;

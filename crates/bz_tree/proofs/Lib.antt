@@ -15,6 +15,7 @@ pub mod Plain
 pub mod BlockLines
 pub mod KeptText
 pub mod Standing
+pub mod LastToken
 pub mod RowParts
 pub mod RowWalk
 pub mod RowClass

@@ -20,7 +20,7 @@ use Rattle.bz_tree.specs.Rows.{RowPart, above, beside_part, IsRowOf}
 use Rattle.bz_tree.specs.private.Machine.{accepts, may_end, is_load, is_nothing, is_statement}
 use Rattle.bz_tree.specs.private.Steps.{new_level, run}
 use Rattle.bz_tree.specs.private.LoadSteps.{is_load_row}
-use Rattle.bz_tree.specs.private.RowSteps.{start, RowState, row_next, RowView, row_view, read_class, is_lost, row_end, row_run, row_start, is_upright, IsUprightRow}
+use Rattle.bz_tree.specs.private.RowSteps.{start, RowState, row_next, RowView, row_view, read_class, is_lost, row_end, row_run, row_start, is_upright}
 use Rattle.bz_tree.proofs.Plain.{plain_is}
 use Rattle.bz_tree.proofs.Sound.{none_is_some, some_injective}
 use Rattle.bz_tree.proofs.RowParts.{Place, none, fresh, some, over, Bracket, bracket, read_items, shown, nodes_parts, accepts_read}
@@ -149,23 +149,20 @@ upright (Some t) ts h =
     (rw (p.0, word) refl, word)
 
 -- the row of a statement that stands upright
-pub upright_row : (ts : List Placed) (row : Row) → row_run row_start ts ≡ Some (row_view row) → IsSome (first_seen ts) → is_upright (first_token ts) ≡ true → IsUprightRow ts row
-upright_row ts row same seen stands =
+abbrev pub IsRowIn : List Placed → Row → Type 0
+IsRowIn ts row = (first depth : ℕ) (bytes : List ℕ) → AreTokensOf first depth bytes ts → (s : Statement) × IsStatementIn first depth bytes s × IsRowOf s row
+
+upright_row : (ts : List Placed) (row : Row) → row_run row_start ts ≡ Some (row_view row) → IsSome (first_seen ts) → is_upright (first_token ts) ≡ true → IsRowIn ts row
+upright_row ts row same seen stands first depth bytes are =
     let found = row_found ts (row_view row) same in
     let s = statement_with ts found.segment in
     let p = upright (first_token ts) ts stands in
-    let plain = plain_is ts found.segment s found.answer_is found.grammar refl in
-    record {
-      statement = s;
-      reads = λ first bytes. record { upright = p.0; some = seen; chunk = subst (λ b. IsOneOf b first bytes ts s) (sym p.1) plain };
-      row_of = record { parts = found.parts_are; class = found.class_is };
-    }
+    let plain = plain_is ts found.segment s found.answer_is found.grammar refl in (
+      s,
+      record { tokens = ts; are = are; reads = record { upright = p.0; some = seen; chunk = subst (λ b. IsOneOf b first bytes ts s) (sym p.1) plain } },
+      record { parts = found.parts_are; class = found.class_is },
+    )
 
-pub upright_rows : (ts : List Placed) (o : Option Row) → option_map row_view o ≡ row_run row_start ts → IsSome (first_seen ts) → is_upright (first_token ts) ≡ true → IfSome o (IsUprightRow ts)
+pub upright_rows : (ts : List Placed) (o : Option Row) → option_map row_view o ≡ row_run row_start ts → IsSome (first_seen ts) → is_upright (first_token ts) ≡ true → IfSome o (IsRowIn ts)
 upright_rows ts None same seen stands = tt
 upright_rows ts (Some row) same seen stands = upright_row ts row (sym same) seen stands
-
--- the tokens are those of a chunk
-pub row_in : (first depth : ℕ) (bytes : List ℕ) (ts : List Placed) → AreTokensOf first depth bytes ts → (o : Option Row) → IfSome o (IsUprightRow ts) → IfSome o (λ row. (s : Statement) × IsStatementIn first depth bytes s × IsRowOf s row)
-row_in first depth bytes ts are None h = tt
-row_in first depth bytes ts are (Some row) h = (h.statement, record { tokens = ts; are = are; reads = h.reads first bytes }, h.row_of)

@@ -8,7 +8,7 @@ use Rattle.bz_tree.specs.declared.stmt.Leaf.{Leaf}
 use Rattle.bz_tree.specs.declared.stmt.Node.{Token, Group}
 use Rattle.bz_tree.specs.declared.stmt.Group.{Group as GroupValue}
 use Rattle.bz_token.specs.Places.{Placed}
-use Rattle.bz_tree.specs.View.{text_of, node_view, group_view}
+use Rattle.bz_tree.specs.View.{node_view, group_view}
 use Rattle.bz_tree.specs.Kinds.{kind_after, is_for_at}
 use Rattle.bz_tree.specs.Owners.{node, comma}
 use Rattle.bz_tree.specs.Brackets.{leaf_of, after_item, is_for_item, end_line}

@@ -52,6 +52,7 @@ fn leaf_of<'a>(token: &Token<'a>) -> Leaf<'a>
 }
 
 // None: a segment is empty.
+#[inline(always)]
 fn closed<'a>(kind: GroupKind, walk: Walk<'a>) -> Result<Option<Group<'a>>, AllocError>
     ensures value { IfOk result (λ o. option_map group_view o ≡ closed (Some kind) (so_far walk.entry)) }
     ensures borrowed { IfOk result (λ o. IfSome o (λ g. group_owned g ≤ walk_owned walk.entry)) }
@@ -66,6 +67,15 @@ fn closed<'a>(kind: GroupKind, walk: Walk<'a>) -> Result<Option<Group<'a>>, Allo
         one_comma,
         end: content.end,
     }))
+}
+
+// How many segments there is room for at the first comma: a rule has some more arguments than most lists have elements.
+#[inline(always)]
+fn room_at_comma(kind: Option<GroupKind>) -> usize {
+    match kind {
+        Some(GroupKind::Call) => 8,
+        _ => 4,
+    }
 }
 
 // A segment ends before this token.
@@ -142,6 +152,7 @@ impl<'a> Frame<'a> {
             self.walk
                 .add_node(Node::Token(leaf_of(token)), token.line, "")?;
         } else {
+            self.walk.reserve_segments(room_at_comma(self.kind))?;
             self.walk.add_comma(alloc, token.line)?;
         }
         Ok(())
@@ -162,6 +173,7 @@ impl<'a> Frame<'a> {
         ensures borrowed { OnOk result (frame_owned self.new ≤ frame_owned self.old + group_owned group.entry) }
     {
         self.at = Preceding::Operand;
+        self.walk.reserve(true)?;
         self.walk.add_node(Node::Group(group), line, "")?;
         Ok(())
     }

@@ -1,7 +1,8 @@
 //! The statement of a chunk.
 
-ghost use Rattle.std.specs.Prelude.{◌≡◌, ◌+◌, ◌<◌, ◌^◌, ◌==◌, true, false, IfOk, IfErr, IfSome, IfNone, IsSome, IsNone, map, option_map, count_by};
+ghost use Rattle.std.specs.Prelude.{ℕ, ◌≡◌, ◌+◌, ◌<◌, ◌^◌, ◌==◌, true, false, IfOk, IfErr, IfSome, IfNone, IsSome, IsNone, map, option_map, count_by};
 ghost use Rattle.bz_token.specs.Places.{placed};
+ghost use Rattle.bz_token.specs.Reading.{AreTokensOf};
 ghost use Rattle.bz_tree.specs.Tree.{Statement};
 ghost use Rattle.bz_tree.specs.View.{texts, view, seg_view};
 ghost use Rattle.bz_tree.specs.Statement.{EndsFit, statement_with, first_token, first_seen, last_seen};
@@ -162,21 +163,24 @@ fn indent_fault(alloc: Global, tokens: &[Token<'_>]) -> Result<Option<u64>, Allo
     }
 }
 
-// The statement of a chunk with these tokens. None: it is blank.
-fn read_tokens<'a>(
+/// The statement of a chunk that has these tokens, its first line having this number. None: the chunk is blank. Every
+/// text of the statement is borrowed from the chunk. The rules are those of `parse`.
+pub fn parse_tokens<'a>(
     alloc: Global,
     text: &'a str,
     first_line: u64,
     tokens: &[Token<'a>],
 ) -> Result<Option<Stmt<'a>>, ParseFault>
     requires lines { first_line + count_by (λ b. b == 10) text.now < 2 ^ 64 }
-    requires ends { EndsFit (map placed tokens.now) }
-    requires standing { AreStanding first_line text.now (map placed tokens.now) }
-    ensures statement { IfOk result
-        (λ o. IfSome o (λ s. IsReadAs first_line text.now (map placed tokens.now) (view s))) }
-    ensures blank { IfOk result (λ o. IfNone o (IsNone (first_seen (map placed tokens.now)))) }
-    ensures fault { IfErr result (IsTokenFault first_line text.now (map placed tokens.now)) }
+    requires tokens { (depth : ℕ) × AreTokensOf first_line depth text.now (map placed tokens.now) }
+    ensures statement { IfOk result (λ o. IfSome o (λ s. (depth : ℕ)
+        → AreTokensOf first_line depth text.now (map placed tokens.now)
+        → IsStatementIn first_line depth text.now (view s))) }
     ensures borrowed { IfOk result (λ o. IfSome o (λ s. owned_texts s ≡ 0)) }
+    ensures blank { IfOk result (λ o. IfNone o ((depth : ℕ)
+        → AreTokensOf first_line depth text.now (map placed tokens.now) → IsBlank first_line depth text.now)) }
+    ensures fault { IfErr result (λ fault. (depth : ℕ)
+        → AreTokensOf first_line depth text.now (map placed tokens.now) → IsFaultIn first_line depth text.now fault) }
 {
     if first_seen(tokens).is_none() {
         return Ok(None);
@@ -208,7 +212,7 @@ pub fn parse<'a>(
     ensures fault { IfErr result (IsFaultIn first_line max_depth text.now) }
 {
     match tokens(alloc, text, first_line, max_depth) {
-        Ok(tokens) => read_tokens(alloc, text, first_line, &tokens),
+        Ok(tokens) => parse_tokens(alloc, text, first_line, &tokens),
         Err(LexFault::OutOfMemory) => Err(ParseFault::OutOfMemory),
         Err(fault) => Err(ParseFault::Lex(fault)),
     }

@@ -23,6 +23,7 @@ fn accepts(stage: Stage, nodes: &[Node<'_>]) -> bool
 }
 
 #[cycle(grammar)]
+#[inline(always)]
 fn role_of(node: &Node<'_>) -> Role
     ensures { result ≡ role_of (node_view node.now) }
 {

@@ -21,7 +21,7 @@ mod spot;
 mod stage;
 mod stmt;
 
-pub use chunk::parse;
+pub use chunk::{parse, parse_tokens};
 pub use fault::ParseFault;
 pub use parts::{push_nodes, push_parts};
 pub use role::Role;

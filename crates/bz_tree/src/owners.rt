@@ -1,6 +1,6 @@
 //! The segments of one bracket, and the owners of the comments that stand in it.
 
-ghost use Rattle.std.specs.Prelude.{◌≡◌, ◌+◌, ◌++◌, ◌==◌, true, false, map, count_by, IfOk, OnOk, Some, None, [], option_map, option_and_then, ◌≤◌, IfSome};
+ghost use Rattle.std.specs.Prelude.{◌≡◌, ◌+◌, ◌∷◌, ◌++◌, ◌==◌, true, false, map, count_by, IfOk, OnOk, Some, None, [], option_map, option_and_then, ◌≤◌, IfSome};
 ghost use Rattle.bz_tree.specs.View.{text_of, texts, node_view, seg_view};
 ghost use Rattle.bz_tree.specs.private.Steps.{walked, so_far, is_in_first, texts_of, content_view, at_start, after_node, after_comma, after_note, done, add_beside, to_last};
 ghost use Rattle.bz_tree.specs.Borrowed.{owned, owned_in, owned_of, node_owned, seg_owned};
@@ -76,9 +76,43 @@ fn put_before(seg: &mut Seg<'_>) -> Result<(), AllocError>
     ensures borrowed { OnOk result
         (owned_in seg.new.before.items ≡ owned_in seg.old.before.items + owned_of seg.old.suffix) }
 {
-    if let Some(text) = seg.suffix.take() {
-        seg.before.push(text)?;
+    if seg.suffix.is_some() {
+        if let Some(text) = seg.suffix.take() {
+            seg.before.push(text)?;
+        }
     }
+    Ok(())
+}
+
+// The comments after the last node stand above it once another node, or the comma, comes.
+#[inline(always)]
+fn put_above<'a>(
+    before: &mut Vec<CowStr<'a>>,
+    after: &mut Vec<CowStr<'a>>,
+) -> Result<(), AllocError>
+    ensures before { OnOk result (before.new.items ≡ before.old.items ++ after.old.items) }
+    ensures after { OnOk result (after.new.items ≡ []) }
+{
+    if after.is_empty() {
+        return Ok(());
+    }
+    if before.is_empty() {
+        mem::swap(before, after);
+        return Ok(());
+    }
+    before.append(after)?;
+    Ok(())
+}
+
+// The last segment of a bracket, which takes no more room than it needs where it is the only one.
+#[inline(always)]
+fn push_last<'a>(segs: &mut Vec<Seg<'a>>, seg: Seg<'a>) -> Result<(), AllocError>
+    ensures { OnOk result (segs.new.items ≡ segs.old.items ++ seg.entry ∷ []) }
+{
+    if segs.is_empty() {
+        segs.reserve_exact(1)?;
+    }
+    segs.push(seg)?;
     Ok(())
 }
 
@@ -134,16 +168,30 @@ impl<'a> Walk<'a> {
         self.whole && self.segs.is_empty()
     }
 
-    // Room for the node of a segment that has no other, and no more: most elements of a list are such.
+    // Room for the first node of a segment: alone, as most elements of a list are, or with two more, as in most arguments.
     #[inline(always)]
     pub(crate) fn reserve(&mut self, alone: bool) -> Result<(), AllocError>
         ensures value { OnOk result (walked self.new ≡ walked self.old) }
         ensures whole { self.new.whole ≡ self.old.whole }
         ensures borrowed { OnOk result (walk_owned self.new ≡ walk_owned self.old) }
     {
-        if alone && self.here.nodes.is_empty() {
-            self.here.nodes.reserve_exact(1)?;
+        if !self.here.nodes.is_empty() {
+            return Ok(());
         }
+        self.here.nodes.reserve_exact(if alone { 1 } else { 3 })?;
+        Ok(())
+    }
+
+    // Room for so many segments, where there are none.
+    #[inline(always)]
+    pub(crate) fn reserve_segments(&mut self, room: usize) -> Result<(), AllocError>
+        ensures value { OnOk result (so_far self.new ≡ so_far self.old) }
+        ensures borrowed { OnOk result (walk_owned self.new ≡ walk_owned self.old) }
+    {
+        if !self.segs.is_empty() {
+            return Ok(());
+        }
+        self.segs.reserve_exact(room)?;
         Ok(())
     }
 
@@ -161,7 +209,7 @@ impl<'a> Walk<'a> {
     {
         self.here.nodes.push(node)?;
         put_before(&mut self.here)?;
-        self.here.before.append(&mut self.after)?;
+        put_above(&mut self.here.before, &mut self.after)?;
         self.last = Before::Node(line, text);
         self.trailing = false;
         Ok(())
@@ -175,7 +223,7 @@ impl<'a> Walk<'a> {
             self.whole = false;
             return Ok(());
         }
-        self.here.before.append(&mut self.after)?;
+        put_above(&mut self.here.before, &mut self.after)?;
         self.segs
             .push(mem::replace(&mut self.here, empty_segment(alloc)))?;
         self.last = Before::Comma(line);
@@ -202,6 +250,7 @@ impl<'a> Walk<'a> {
     }
 
     // None: a segment is empty.
+    #[inline(always)]
     pub(crate) fn finish(self) -> Result<Option<Content<'a>>, AllocError>
         ensures value { IfOk result (λ o. option_map content_view o ≡ option_map done (so_far self.entry)) }
         ensures borrowed { IfOk result (λ o. IfSome o (λ c. content_owned c ≤ walk_owned self.entry)) }
@@ -223,7 +272,7 @@ impl<'a> Walk<'a> {
                 end: after,
             }));
         }
-        segs.push(here)?;
+        push_last(&mut segs, here)?;
         Ok(Some(Content {
             segs,
             trailing,

@@ -1,6 +1,6 @@
 //! What a token is to the grammar.
 
-ghost use Rattle.std.specs.Prelude.{◌≡◌};
+ghost use Rattle.std.specs.Prelude.{◌≡◌, ◌<◌, ◌∷◌, [], length};
 ghost use Rattle.bz_tree.specs.View.{text_of};
 ghost use Rattle.bz_tree.specs.Grammar.{word_role, sign_role, is_augmented, is_infix, leaf_role};
 
@@ -55,22 +55,46 @@ fn word_role(text: &str) -> Role
     }
 }
 
-/// What a sign is.
-pub(crate) fn sign_role(text: &str) -> Role
+// What a sign of one byte is.
+#[inline(always)]
+fn byte_role(byte: u8) -> Role
+    ensures { result ≡ sign_role (byte ∷ []) }
+{
+    match byte {
+        b'.' => Role::Dot,
+        b',' => Role::Comma,
+        b':' => Role::Colon,
+        b'=' => Role::Equals,
+        b'~' => Role::Tilde,
+        b'*' => Role::Star,
+        b'+' | b'-' => Role::Sum,
+        b'<' | b'>' | b'|' | b'^' | b'&' | b'/' | b'%' => Role::Operator,
+        _ => Role::Stray,
+    }
+}
+
+// What a sign of more bytes is.
+fn longer_role(text: &str) -> Role
+    requires { 1 < length text.now }
     ensures { result ≡ sign_role text.now }
 {
     match text {
-        "." => Role::Dot,
-        "," => Role::Comma,
-        ":" => Role::Colon,
-        "=" => Role::Equals,
-        "~" => Role::Tilde,
-        "*" => Role::Star,
         "**" => Role::Stars,
-        "+" | "-" => Role::Sum,
         _ if is_augmented(text) => Role::Augmented,
         _ if is_infix(text) => Role::Operator,
         _ => Role::Stray,
+    }
+}
+
+/// What a sign is.
+#[inline(always)]
+pub(crate) fn sign_role(text: &str) -> Role
+    ensures { result ≡ sign_role text.now }
+{
+    match text.as_bytes() {
+        [] => Role::Stray,
+        [byte] => byte_role(*byte),
+        _ => longer_role(text),
     }
 }
 

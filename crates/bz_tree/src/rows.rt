@@ -1,8 +1,9 @@
 //! The row of a chunk's statement: a walk over the tokens that pushes its parts in order.
 
-ghost use Rattle.std.specs.Prelude.{◌≡◌, ◌+◌, ◌<◌, ◌^◌, ◌==◌, ◌++◌, ◌&&◌, not, false, map, count_by, IfOk, IfSome, option_map};
+ghost use Rattle.std.specs.Prelude.{ℕ, List, ◌≡◌, ◌++◌, ◌&&◌, not, false, map, IfOk, IfSome, option_map};
 ghost use Rattle.std.specs.Bool.{then_some};
 ghost use Rattle.bz_token.specs.Places.{placed};
+ghost use Rattle.bz_token.specs.Reading.{AreTokensOf};
 ghost use Rattle.bz_tree.specs.Tree.{leaf, Statement};
 ghost use Rattle.bz_tree.specs.Statement.{first_token, is_load_word};
 ghost use Rattle.bz_tree.specs.Grammar.{leaf_role};
@@ -10,7 +11,7 @@ ghost use Rattle.bz_tree.specs.Chunk.{IsStatementIn};
 ghost use Rattle.bz_tree.specs.Kinds.{group_kind};
 ghost use Rattle.bz_tree.specs.Rows.{IsRowOf, part_view};
 ghost use Rattle.bz_tree.specs.private.Machine.{may_end};
-ghost use Rattle.bz_tree.specs.private.RowSteps.{here_view, row_state, leaf_next, top_comma_next, comma_next, note_part, after_note_next, note_next, open_next, last_end, close_next, row_next, row_end, row_view, row_run, row_start, is_stray, is_upright, IsUprightRow};
+ghost use Rattle.bz_tree.specs.private.RowSteps.{here_view, row_state, leaf_next, top_comma_next, comma_next, note_part, after_note_next, note_next, open_next, last_end, close_next, row_next, row_end, row_view, row_run, row_start, is_stray, is_upright};
 
 use crate::block::is_block_word;
 use crate::class::is_load_at;
@@ -22,7 +23,7 @@ use crate::span::{first_seen, first_token, newlines};
 use crate::spot::{Here, Spot, shown_kind};
 use crate::stage::may_end;
 use crate::stmt::GroupKind;
-use bz_token::{Kind, LexFault, Token, tokens};
+use bz_token::{Kind, Token};
 use std::alloc::{AllocError, Global};
 use std::mem;
 
@@ -283,33 +284,17 @@ fn row_of<'a>(alloc: Global, tokens: &[Token<'a>]) -> Result<Option<Row<'a>>, Al
     Ok(walk.finish())
 }
 
-// The row of the tokens of a chunk.
-fn upright_row<'a>(alloc: Global, tokens: &[Token<'a>]) -> Result<Option<Row<'a>>, AllocError>
-    ensures { IfOk result (λ o. IfSome o (IsUprightRow (map placed tokens.now))) }
+/// The row of the statement that these tokens of a chunk are. None: the chunk is blank or indented wrongly, no
+/// statement has these tokens, or it is one of those that `parse_tokens` alone reads: a block, a comprehension, an
+/// index, more after what would be a rule, a comment in the middle of a segment or before its comma. `Err`: memory was
+/// refused.
+pub fn read_row<'a>(alloc: Global, tokens: &[Token<'a>]) -> Result<Option<Row<'a>>, AllocError>
+    ensures row { IfOk result (λ o. IfSome o (λ row. (first depth : ℕ) (text : List ℕ)
+        → AreTokensOf first depth text (map placed tokens.now)
+        → (s : Statement) × IsStatementIn first depth text s × IsRowOf s row)) }
 {
     if first_seen(tokens).is_none() || !is_upright(tokens) {
         return Ok(None);
     }
     row_of(alloc, tokens)
-}
-
-/// The row of a chunk's statement, whose first line has this number, with at most so many brackets open at once. None:
-/// the chunk is blank, has a fault, or is one of those that `parse` alone reads: a block, a comprehension, an index,
-/// more after what would be a rule, a comment in the middle of a segment or before its comma. `Err`: memory was
-/// refused.
-pub fn read_row<'a>(
-    alloc: Global,
-    text: &'a str,
-    first_line: u64,
-    max_depth: u8,
-) -> Result<Option<Row<'a>>, AllocError>
-    requires { first_line + count_by (λ b. b == 10) text.now < 2 ^ 64 }
-    ensures row { IfOk result (λ o. IfSome o
-        (λ row. (s : Statement) × IsStatementIn first_line max_depth text.now s × IsRowOf s row)) }
-{
-    match tokens(alloc, text, first_line, max_depth) {
-        Ok(tokens) => upright_row(alloc, &tokens),
-        Err(LexFault::OutOfMemory) => Err(AllocError),
-        Err(_) => Ok(None),
-    }
 }

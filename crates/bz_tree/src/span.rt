@@ -47,16 +47,19 @@ pub(crate) fn first_seen<'a>(tokens: &[Token<'a>]) -> Option<Token<'a>>
     None
 }
 
+/// The last token that is no comment and no newline.
 pub(crate) fn last_token<'a>(tokens: &[Token<'a>]) -> Option<Token<'a>>
     ensures { option_map placed result ≡ last_token (map placed tokens.now) }
 {
-    let mut last = None;
-    for token in tokens {
+    let mut left = tokens.len();
+    while left > 0 {
+        left -= 1;
+        let token = &tokens[left];
         if !is_aside(token.kind) {
-            last = Some(*token);
+            return Some(*token);
         }
     }
-    last
+    None
 }
 
 /// The last token that is no newline.

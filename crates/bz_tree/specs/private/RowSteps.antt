@@ -28,11 +28,10 @@ use Rattle.bz_tree.specs.declared.row.Row.{Row}
 use Rattle.bz_tree.specs.Kinds.{mark_of, kind_after, is_for_at, group_kind, is_one, same_shape}
 use Rattle.bz_tree.specs.Brackets.{is_paren, end_line}
 use Rattle.bz_tree.specs.Blocks.{is_block_word}
-use Rattle.bz_tree.specs.Chunk.{IsReadAs}
-use Rattle.bz_tree.specs.Tree.{leaf, Statement}
+use Rattle.bz_tree.specs.Tree.{leaf}
 use Rattle.bz_tree.specs.Grammar.{leaf_role, is_assignment}
 use Rattle.bz_tree.specs.Statement.{is_ident, is_dot, is_call, is_load_word}
-use Rattle.bz_tree.specs.Rows.{RowPart, a_token, opening, closing, segment_end, above, beside, part_view, IsRowOf}
+use Rattle.bz_tree.specs.Rows.{RowPart, a_token, opening, closing, segment_end, above, beside, part_view}
 use Rattle.bz_tree.specs.private.Machine.{next, begin, may_end, group_role}
 use Rattle.bz_tree.specs.private.Steps.{shape_of}
 use Rattle.bz_tree.specs.private.LoadSteps.{is_load_row}
@@ -272,9 +271,3 @@ row_start = record { top = new_stand None; outer = []; parts = [] }
 abbrev pub is_upright : Option Placed → Bool
 is_upright None = true
 is_upright (Some t) = (t.col == 1) && not (is_block_word t)
-
--- the row of a statement with these tokens
-pub record IsUprightRow (tokens : List Placed) (row : Row) : Type 0 where
-  pub statement : Statement
-  pub reads : (first : ℕ) (bytes : List ℕ) → IsReadAs first bytes tokens statement
-  pub row_of : IsRowOf statement row

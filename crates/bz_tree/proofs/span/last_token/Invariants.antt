@@ -1,7 +1,11 @@
-use Rattle.std.proofs.Common.{◌≡◌, drop, map, option_map, None}
+use Rattle.std.proofs.Common.{◌≡◌, ◌≤◌, map, take, length}
 use Rattle.bz_token.specs.Places.{placed}
-use Rattle.bz_tree.specs.Statement.{bare_tokens, last_of}
+use Rattle.bz_tree.specs.Statement.{last_token}
 use Rattle.bz_tree.proofs.span.last_token.Given as goal
 
-abbrev pub invariant-loop-token : goal.invariant-loop-token
-invariant-loop-token l = last_of (option_map placed l.last) (bare_tokens (map placed (drop l.token-index l.tokens))) ≡ last_of None (bare_tokens (map placed l.tokens))
+-- the tokens that are left decide
+abbrev pub invariant-loop-left : goal.invariant-loop-left
+invariant-loop-left l = (l.left ≤ length l.tokens) × (last_token (map placed (take l.left l.tokens)) ≡ last_token (map placed l.tokens))
+
+abbrev pub decreases-loop-left : goal.decreases-loop-left
+decreases-loop-left l = l.left

@@ -10,8 +10,8 @@ use Rattle.bz_tree.proofs.owners.Walk.add_comma.Goals as goal
 pub returns-clause-borrowed : goal.returns-clause-borrowed
 returns-clause-borrowed c =
     let w = c.args.self.now in
-    let before = ap owned_in c.in_ok-append.ensures.items ∙ owned_more owned w.here.before.items w.after.items in
-    let after = ap owned_in c.in_ok-append.ensures.other_items in
+    let before = ap owned_in c.in_ok-put_above.ensures.before ∙ owned_more owned w.here.before.items w.after.items in
+    let after = ap owned_in c.in_ok-put_above.ensures.after in
     let before_moved = ap (λ (s : Seg). owned_in s.before.items) c.replace.ensures.value in
     let nodes_moved = ap (λ (s : Seg). nodes_owned s.nodes.items) c.replace.ensures.value in
     let suffix_moved = ap (λ (s : Seg). owned_of s.suffix) c.replace.ensures.value in
