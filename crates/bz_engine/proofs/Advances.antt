@@ -141,11 +141,11 @@ has_not_ended s end told is = absurd (false≢true (sym (ap has_ended is) ∙ ap
 pub same_end : (s : Stage) (end e : End) → (let answer : Result Stage RunFault = Ok s in answer) ≡ Ok (Ended end) → s ≡ Ended e → e ≡ end
 same_end s end e told is = ap end_in (sym is ∙ ap stage_in told)
 
-pub some_chunk : (found : Option ℕ) (most n : ℕ) (mid : Ahead) → IfSome found (IsNextChunk most mid) → found ≡ Some n → IsNextChunk most mid n
-some_chunk found most n mid h is = subst (λ o. IfSome o (IsNextChunk most mid)) is h
+pub some_of : {X : Type 0} (P : X → Type 0) (found : Option X) (x : X) → IfSome found P → found ≡ Some x → P x
+some_of P found x h is = subst (λ o. IfSome o P) is h
 
-pub no_chunk : (found : Option ℕ) (mid : Ahead) → IfNone found ((mid.bytes ≡ []) × IsTrue mid.ended) → found ≡ None → (mid.bytes ≡ []) × IsTrue mid.ended
-no_chunk found mid h is = subst (λ o. IfNone o ((mid.bytes ≡ []) × IsTrue mid.ended)) is h
+pub none_of : {X : Type 0} (P : Type 0) (found : Option X) → IfNone found P → found ≡ None → P
+none_of P found h is = subst (λ o. IfNone o P) is h
 
 -- a chunk has bytes
 pub take_some : (n : ℕ) (bytes : List ℕ) → 0 < n → n ≤ length bytes → 0 < length (take n bytes)

@@ -1,10 +1,11 @@
 -- What a session always keeps to, from one step to the next.
-use Rattle.std.proofs.Common.{◌≡◌, ℕ, ◌+◌, ◌*◌, ◌<◌, ◌≤◌, ◌^◌, Bool, true, false, List, length, length-append, take, drop, take-append-drop, refl, sym, ◌∙◌, ap, subst, arith}
+use Rattle.std.proofs.Common.{◌≡◌, ℕ, ◌+◌, ◌*◌, ◌<◌, ◌≤◌, ◌^◌, Bool, true, false, List, [], length, length-append, take, drop, take-append-drop, refl, sym, ◌∙◌, ap, subst, arith}
 use Rattle.std.specs.Prelude.{Option, Result, Ok, OnErr}
 use Rattle.std.proofs.lemmas.Bool.{false≢true}
 use Rattle.std.proofs.lemmas.List.{length-take-le}
 use Rattle.bz_devices.specs.Device.{joined}
 use Rattle.bz_devices.specs.Ahead.{Ahead, IsReadOn, IsNextChunk}
+use Rattle.bz_devices.proofs.ReadOn.{read_nothing}
 use Rattle.bz_passes.specs.Exchange.{Fits}
 use Rattle.bz_engine.specs.declared.session.Stage.{Stage}
 use Rattle.bz_engine.specs.declared.session.Stage.TheVariants.{Going, Ended, Stopped}
@@ -73,6 +74,19 @@ lines_fit v mid n read ready on limit within =
   where
     small : (line mb mr m n : ℕ) → line + mb ≤ 1 + 8192 * mr → mr ≤ m → m ≤ 2 ^ 50 → n ≤ mb → line + n < 2 ^ 64
     small line mb mr m n a b c d = omega arith
+
+-- the lines ahead are counted
+pub lines_ahead : (v : SessionValue) → IsReady v → v.ahead.reads ≤ v.options.max_reads → v.options.max_reads ≤ 2 ^ 50 → v.progress.line + length v.ahead.bytes < 2 ^ 64
+lines_ahead v ready made limit = small v.progress.line (length v.ahead.bytes) v.ahead.reads v.options.max_reads ready.lines made limit
+  where
+    small : (line b r m : ℕ) → line + b ≤ 1 + 8192 * r → r ≤ m → m ≤ 2 ^ 50 → line + b < 2 ^ 64
+    small line b r m x y z = omega arith
+
+-- nothing was read
+pub unread : (v w : SessionValue) (mid : Ahead) → v ≡ w → IsSession v → v.ahead ≡ mid → IsReadOn w.options.max_reads w.ahead mid []
+unread v w mid same kept is =
+    subst (λ x. IsReadOn x.options.max_reads x.ahead mid []) same
+    (subst (λ a. IsReadOn v.options.max_reads v.ahead a []) is (read_nothing v.options.max_reads v.ahead kept.made))
 
 -- a chunk was done and taken
 pub ready_next : (v e f : SessionValue) (mid : Ahead) (max_reads most n : ℕ) (read : List (List ℕ))

@@ -2,3 +2,4 @@ pub mod ChunkRead
 pub mod Edits
 pub mod Named
 pub mod Rows
+pub mod NextChunks

@@ -1,14 +1,15 @@
 //! The statement of a chunk.
 
-ghost use Rattle.std.specs.Prelude.{◌≡◌, ℕ, ◌+◌, ◌<◌, ◌≤◌, ◌^◌, ◌==◌, List, count_by, length, IfOk};
-ghost use Rattle.bz_token.specs.Places.{line_at, column_at};
+ghost use Rattle.std.specs.Prelude.{◌≡◌, ℕ, ◌+◌, ◌<◌, ◌≤◌, ◌^◌, ◌==◌, List, count_by, length, map, IfOk};
+ghost use Rattle.bz_token.specs.Places.{placed, line_at, column_at};
+ghost use Rattle.bz_token.specs.Reading.{AreTokensOf};
 ghost use Rattle.bz_engine.specs.private.ChunkRead.{IsReadAs};
 
 use crate::edit::Script;
 use crate::report::SyntaxFault;
 use crate::row::passed_row;
-use bz_token::check_utf8;
-use bz_tree::{ParseFault, Row, Stmt, parse};
+use bz_token::{LexFault, Token, check_utf8, tokens};
+use bz_tree::{ParseFault, Row, Stmt, parse_tokens};
 use memchr::memchr;
 use std::alloc::AllocError;
 
@@ -36,10 +37,29 @@ pub(crate) fn read_chunk<'a>(
         Ok(text) => text,
         Err(valid) => return Ok(ChunkRead::Faulty(not_utf8(first_line, &chunk[..valid]))),
     };
-    if let Some(row) = passed_row(script, text, first_line)? {
+    match tokens(script.alloc, text, first_line, script.max_depth) {
+        Ok(tokens) => read_tokens(script, text, first_line, &tokens),
+        Err(LexFault::OutOfMemory) => Err(AllocError),
+        Err(fault) => Ok(ChunkRead::Faulty(SyntaxFault::Parse(ParseFault::Lex(fault)))),
+    }
+}
+
+/// Reads the chunk that has these tokens.
+pub(crate) fn read_tokens<'a>(
+    script: Script<'_>,
+    chunk: &'a str,
+    first_line: u64,
+    tokens: &[Token<'a>],
+) -> Result<ChunkRead<'a>, AllocError>
+    requires lines { first_line + count_by (λ b. b == 10) chunk.now < 2 ^ 64 }
+    requires tokens { AreTokensOf first_line script.max_depth chunk.now (map placed tokens.now) }
+    ensures { IfOk result (IsReadAs
+        script.entry.home.now script.entry.passes.now script.entry.max_depth first_line chunk.now) }
+{
+    if let Some(row) = passed_row(script, tokens)? {
         return Ok(ChunkRead::Passed(row));
     }
-    match parse(script.alloc, text, first_line, script.max_depth) {
+    match parse_tokens(script.alloc, chunk, first_line, tokens) {
         Ok(None) => Ok(ChunkRead::Blank),
         Ok(Some(stmt)) => Ok(ChunkRead::Statement(stmt)),
         Err(ParseFault::OutOfMemory) => Err(AllocError),

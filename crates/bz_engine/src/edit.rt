@@ -10,9 +10,10 @@ ghost use Rattle.bz_layout.specs.Layout.{layout_text};
 ghost use Rattle.bz_passes.specs.Exchange.{Fits, log_alone};
 ghost use Rattle.bz_engine.specs.Outcome.{is_query, gap_text, failure_text, first_of};
 ghost use Rattle.bz_engine.specs.Progress.{IsKeptOf, last_class, text_following};
+ghost use Rattle.bz_engine.specs.private.ChunkRead.{IsReadAs};
 ghost use Rattle.bz_engine.specs.private.Edits.{IsEdited, IsScripted};
 
-use crate::chunk::{ChunkRead, newlines, read_chunk};
+use crate::chunk::{ChunkRead, newlines};
 use crate::entry::Entry;
 use crate::progress::Progress;
 use crate::report::SyntaxFault;
@@ -49,16 +50,18 @@ pub(crate) enum Edited {
     Failed(Option<Text>),
 }
 
-/// The script on the next chunk: what it leaves goes after the text, and what is kept is then that of the chunks with
-/// this one. After a refusal neither the text nor what is kept is of use.
-pub(crate) fn edit_chunk(
-    script: Script<'_>,
+/// The script on the next chunk, which is read as this: what it leaves goes after the text, and what is kept is then
+/// that of the chunks with this one. After a refusal neither the text nor what is kept is of use.
+pub(crate) fn edit_chunk<'a>(
+    script: Script<'a>,
     chunk: &[u8],
+    read: ChunkRead<'a>,
     progress: &mut Progress,
     text: &mut Vec<u8>,
 ) -> Result<Edited, AllocError>
     requires fits { Fits progress.old.kept script.passes.now }
     requires lines { progress.old.line + length chunk.now < 2 ^ 64 }
+    requires read { IsReadAs script.home.now script.passes.now script.max_depth progress.old.line chunk.now read }
     ensures fits { OnOk result (Fits progress.new.kept script.entry.passes.now) }
     ensures lines { OnOk result (progress.new.line ≤ progress.old.line + length chunk.now) }
     ensures edited { IfOk result (λ edited. (cs : List (List ℕ)) (statements : List Statement)
@@ -66,7 +69,7 @@ pub(crate) fn edit_chunk(
         → IsEdited script.entry.home.now script.entry.passes.now script.entry.keep_going script.entry.max_depth cs
         statements chunk.now progress.old progress.new text.old.items text.new.items edited) }
 {
-    let edited = match read_chunk(script, chunk, progress.line)? {
+    let edited = match read {
         ChunkRead::Faulty(fault) => return Ok(Edited::Faulty(fault)),
         ChunkRead::Blank => Edited::Done,
         ChunkRead::Passed(row) => {

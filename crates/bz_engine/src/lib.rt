@@ -11,6 +11,7 @@ mod edit;
 mod entry;
 pub mod laws;
 mod message;
+mod next_chunk;
 mod options;
 mod progress;
 mod report;

@@ -1,6 +1,8 @@
 //! Statements that the script passes by: no tree is made of them.
 
-ghost use Rattle.std.specs.Prelude.{◌≡◌, ◌+◌, ◌<◌, ◌^◌, ◌==◌, ◌++◌, Some, codes, map, option_map, count_by, IsTrue, IfOk, IfSome};
+ghost use Rattle.std.specs.Prelude.{◌≡◌, ◌++◌, ℕ, List, Some, codes, map, option_map, IsTrue, IfOk, IfSome};
+ghost use Rattle.bz_token.specs.Places.{placed};
+ghost use Rattle.bz_token.specs.Reading.{AreTokensOf};
 ghost use Rattle.bz_tree.specs.Tree.{Statement};
 ghost use Rattle.bz_tree.specs.Statement.{class_of};
 ghost use Rattle.bz_tree.specs.Rows.{IsRowOf, part_view, parts_of};
@@ -14,24 +16,23 @@ use crate::rules::Rules;
 use bz_command::plain_text;
 use bz_passes::index::Key;
 use bz_passes::script::passes_by;
-use bz_token::Kind;
+use bz_token::{Kind, Token};
 use bz_tree::{Class, Part, Row, read_row};
 use std::alloc::AllocError;
 
-/// The row of a text's statement, which the script passes by. None: the statement is to be read as a tree.
+/// The row of the statement that these tokens are, which the script passes by. None: it is to be read as a tree.
 pub(crate) fn passed_row<'a>(
     script: Script<'_>,
-    text: &'a str,
-    first_line: u64,
+    tokens: &[Token<'a>],
 ) -> Result<Option<Row<'a>>, AllocError>
-    requires { first_line + count_by (λ b. b == 10) text.now < 2 ^ 64 }
-    ensures { IfOk result (λ found. IfSome found (spec.IsPassedRow
-        script.entry.home.now script.entry.passes.now script.entry.max_depth first_line text.now)) }
+    ensures { IfOk result (λ found. IfSome found (λ row. (line max_depth : ℕ) (text : List ℕ)
+        → AreTokensOf line max_depth text (map placed tokens.now)
+        → spec.IsPassedRow script.entry.home.now script.entry.passes.now max_depth line text row)) }
 {
     if !script.passes.ask_for_names() {
         return Ok(None);
     }
-    let Some(row) = read_row(script.alloc, text, first_line, script.max_depth)? else {
+    let Some(row) = read_row(script.alloc, tokens)? else {
         return Ok(None);
     };
     if !is_passed_by(script, &row) {

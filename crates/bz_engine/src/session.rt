@@ -9,11 +9,13 @@ ghost use Rattle.bz_engine.specs.Messages.{fault_text};
 ghost use Rattle.bz_engine.specs.Outcome.{told_by};
 ghost use Rattle.bz_engine.specs.Progress.{IsKeptOf};
 ghost use Rattle.bz_engine.specs.private.Edits.{IsEdited};
+ghost use Rattle.bz_engine.specs.private.NextChunks.{IsNextEdited};
 ghost use Rattle.bz_engine.specs.SessionValue.{at_start, IsSameRun, IsReady, IsLeftByFault, IsRefused, HasOneMore, HasDone, HasEnded, told_at, told_of_progress, told_alone};
 ghost use Rattle.bz_engine.specs.declared.session.Stage.TheVariants.{Going, Ended, Stopped};
 
-use crate::edit::{Edited, Script, edit_chunk};
+use crate::edit::{Edited, Script};
 use crate::entry::Entry;
+use crate::next_chunk::{NextChunk, edit_bytes, edit_first};
 use crate::options::Options;
 use crate::progress::Progress;
 use crate::report::{End, Report};
@@ -248,13 +250,10 @@ impl Session {
             × (length (self.old.ahead.bytes ++ joined read) ≤ self.old.options.max_statement + 8192) }
         ensures runs { result ≢ Err RunFault.Stopped × (result ≢ Ok Stopped) }
     {
-        let line = self.progress.line;
-        let Some(len) = find_chunk(&mut self.ahead, source, self.options, line)? else {
+        let mut text = self.take_text();
+        let Some(NextChunk { len, edited }) = self.edit_next(source, &mut text)? else {
             return Ok(Stage::Ended(End::Whole));
         };
-        let mut text = mem::replace(&mut self.text, Vec::new(self.alloc));
-        text.clear();
-        let edited = self.edit(len, &mut text)?;
         let stage = match edited {
             Edited::Done => {
                 self.write(len, text.as_slice(), sink)?;
@@ -268,6 +267,79 @@ impl Session {
         };
         self.text = text;
         Ok(stage)
+    }
+
+    /// The buffer for the text of a chunk, empty.
+    fn take_text(&mut self) -> Vec<u8>
+        ensures same { self.new ≡ self.old }
+        ensures empty { result.items ≡ [] }
+    {
+        let mut text = mem::replace(&mut self.text, Vec::new(self.alloc));
+        text.clear();
+        text
+    }
+
+    /// The script on the next chunk; none where the input has ended. Most chunks end in the text ahead: then nothing
+    /// is read, and the walk that finds the end makes the tokens.
+    fn edit_next<S: Source>(
+        &mut self,
+        source: &mut S,
+        text: &mut Vec<u8>,
+    ) -> Result<Option<NextChunk>, RunFault>
+        requires stopped { self.old.stage ≡ Stopped }
+        requires ready { IsReady self.old }
+        ensures same { self.new ≡ record self.old { ahead = self.new.ahead; progress = self.new.progress } }
+        ensures read { (pieces : List (List ℕ)) × S.gave source.old pieces source.new
+            × IsReadOn self.old.options.max_reads self.old.ahead self.new.ahead pieces }
+        ensures bound { length self.new.ahead.bytes ≤ self.old.options.max_statement + 8192 }
+        ensures fits { OnOk result (Fits self.new.progress.kept self.new.passes) }
+        ensures chunk { IfOk result (λ found. IfSome found
+            (IsNextEdited self.old self.new text.old.items text.new.items)) }
+        ensures none { IfOk result (λ found. IfNone found ((self.new.progress ≡ self.old.progress)
+            × (self.new.ahead.bytes ≡ []) × IsTrue self.new.ahead.ended)) }
+        ensures too_long { result ≡ Err RunFault.InputTooLong
+            → (self.new.ahead.reads ≡ self.old.options.max_reads) × (self.new.ahead.ended ≡ false) }
+        ensures uncertain { result ≡ Err RunFault.InputTooLong
+            → IsUncertain self.new.ahead × (IsTooLong self.old.options.max_statement self.new.ahead → ⊥) }
+        ensures statement_too_long { (line : ℕ) → result ≡ Err (RunFault.StatementTooLong line)
+            → (line ≡ self.old.progress.line) × IsTooLong self.old.options.max_statement self.new.ahead }
+        ensures failed { result ≡ Err RunFault.ReadFailed → Rises (S.failures source.old) (S.failures source.new) }
+        ensures steady { result ≢ Err RunFault.ReadFailed → S.failures source.new ≡ S.failures source.old }
+        ensures runs { (result ≢ Err RunFault.Stopped) × (result ≢ Err RunFault.WriteFailed) }
+    {
+        if let Some(next) = self.edit_first(text)? {
+            return Ok(Some(next));
+        }
+        let line = self.progress.line;
+        let Some(len) = find_chunk(&mut self.ahead, source, self.options, line)? else {
+            return Ok(None);
+        };
+        let edited = self.edit(len, text)?;
+        Ok(Some(NextChunk { len, edited }))
+    }
+
+    /// The script on the first chunk of the text ahead; none where it is to be found in another way.
+    fn edit_first(&mut self, text: &mut Vec<u8>) -> Result<Option<NextChunk>, AllocError>
+        requires stopped { self.old.stage ≡ Stopped }
+        requires ready { IsReady self.old }
+        ensures same { self.new ≡ record self.old { progress = self.new.progress } }
+        ensures unread { IsReadOn self.old.options.max_reads self.old.ahead self.new.ahead [] }
+        ensures fits { OnOk result (Fits self.new.progress.kept self.new.passes) }
+        ensures chunk { IfOk result (λ found. IfSome found
+            (IsNextEdited self.old self.new text.old.items text.new.items)) }
+        ensures none { IfOk result (λ found. IfNone found
+            ((self.new.progress ≡ self.old.progress) × (text.new.items ≡ text.old.items))) }
+    {
+        let max_statement = self.options.max_statement;
+        let script = Script {
+            alloc: self.alloc,
+            home: &self.home,
+            passes: &self.passes,
+            keep_going: self.options.keep_going,
+            max_depth: self.options.max_depth,
+        };
+        let found = edit_first(script, &self.ahead, max_statement, &mut self.progress, text)?;
+        Ok(found)
     }
 
     /// The script on the chunk of the first bytes ahead.
@@ -291,7 +363,7 @@ impl Session {
             keep_going: self.options.keep_going,
             max_depth: self.options.max_depth,
         };
-        let edited = edit_chunk(script, &self.ahead.bytes()[..len], &mut self.progress, text)?;
+        let edited = edit_bytes(script, &self.ahead.bytes()[..len], &mut self.progress, text)?;
         Ok(edited)
     }
 

@@ -12,26 +12,25 @@ returns-clause-edited c cs statements kept =
     let chunk = c.args.chunk.now in
     let old = c.args.progress.now in
     let before = c.args.text.now.items in
-    let read : IsReadAs script.home.now script.passes.now script.max_depth old.line chunk c.in_ok-fault.field-0 =
-    subst (λ l. IsReadAs script.home.now script.passes.now script.max_depth l chunk c.in_ok-fault.field-0) (ap (λ p. p.line) c.progress.view_is) c.in_ok-fault.ensures in
-    elim c.match-branch-2.branch [
+    let read : IsReadAs script.home.now script.passes.now script.max_depth old.line chunk c.args.read = c.requires.read in
+    elim c.match-read.branch [
       | in-Blank w ↦
-          blank_edited script.home.now script.passes.now script.keep_going script.max_depth cs statements chunk old _ before _ c.match-branch-2.edited
+          blank_edited script.home.now script.passes.now script.keep_going script.max_depth cs statements chunk old _ before _ c.match-read.edited
           kept (subst (IsReadAs script.home.now script.passes.now script.max_depth old.line chunk) w.in-Blank.is read)
-          (line_moved _ old c.newlines.result chunk (c.progress-2.view_is ∙ w.progress-is) c.newlines.ensures)
+          (line_moved _ old c.newlines.result chunk (c.progress.view_is ∙ w.progress-is) c.newlines.ensures)
           (ap (λ t. t.items) w.text-is) w.edited-is
       | in-Passed+in_ok-put_passed-in-Passed w ↦
-          subst (λ t. IsEdited script.home.now script.passes.now script.keep_going script.max_depth cs statements chunk old _ before t c.match-branch-2.edited) (sym (ap (λ t. t.items) w.text-is))
-          (passed_edited script.home.now script.passes.now script.keep_going script.max_depth cs statements chunk w.in-Passed.row old w.put_passed.new.progress _ before w.put_passed.new.text.items c.match-branch-2.edited
+          subst (λ t. IsEdited script.home.now script.passes.now script.keep_going script.max_depth cs statements chunk old _ before t c.match-read.edited) (sym (ap (λ t. t.items) w.text-is))
+          (passed_edited script.home.now script.passes.now script.keep_going script.max_depth cs statements chunk w.in-Passed.row old w.put_passed.new.progress _ before w.put_passed.new.text.items c.match-read.edited
           kept (subst (IsReadAs script.home.now script.passes.now script.max_depth old.line chunk) w.in-Passed.is read)
           w.in_ok-put_passed-in-Passed.ensures.last w.in_ok-put_passed-in-Passed.ensures.text
-          (line_moved _ w.put_passed.new.progress c.newlines.result chunk (c.progress-2.view_is ∙ w.progress-is) c.newlines.ensures)
+          (line_moved _ w.put_passed.new.progress c.newlines.result chunk (c.progress.view_is ∙ w.progress-is) c.newlines.ensures)
           w.edited-is)
       | in-Statement+in_ok-edited-in-Statement w ↦
-          subst (λ t. IsEdited script.home.now script.passes.now script.keep_going script.max_depth cs statements chunk old _ before t c.match-branch-2.edited) (sym (ap (λ t. t.items) w.text-is))
+          subst (λ t. IsEdited script.home.now script.passes.now script.keep_going script.max_depth cs statements chunk old _ before t c.match-read.edited) (sym (ap (λ t. t.items) w.text-is))
           (subst (IsEdited script.home.now script.passes.now script.keep_going script.max_depth cs statements chunk old _ before w.edit_statement.new.text.items) (sym w.edited-is)
           (scripted_edited script.home.now script.passes.now script.keep_going script.max_depth cs statements chunk (view w.in-Statement.stmt) old w.edit_statement.new.progress _ before w.edit_statement.new.text.items w.in_ok-edited-in-Statement.edited
           kept (subst (IsReadAs script.home.now script.passes.now script.max_depth old.line chunk) w.in-Statement.is read)
           w.in_ok-edited-in-Statement.ensures.scripted
-          (line_moved _ w.edit_statement.new.progress c.newlines.result chunk (c.progress-2.view_is ∙ w.progress-is) c.newlines.ensures)))
+          (line_moved _ w.edit_statement.new.progress c.newlines.result chunk (c.progress.view_is ∙ w.progress-is) c.newlines.ensures)))
     ]

@@ -1,0 +1,23 @@
+-- What the script on the next chunk answers, for private clauses.
+use Rattle.std.specs.Prelude.{ℕ, ◌+◌, ◌≤◌, Bool, List, take}
+use Rattle.bz_tree.specs.Tree.{Statement}
+use Rattle.bz_command.specs.Labels.{Package}
+use Rattle.bz_devices.specs.Ahead.{Ahead, IsNextChunk}
+use Rattle.bz_engine.specs.Outcome.{Script}
+use Rattle.bz_engine.specs.Progress.{Progress, IsKeptOf}
+use Rattle.bz_engine.specs.SessionValue.{SessionValue}
+use Rattle.bz_engine.specs.private.Edits.{IsEdited}
+use Rattle.bz_engine.specs.declared.next_chunk.NextChunk.{NextChunk}
+
+-- The chunk stands ahead, it is not too long, and this is what the script made of it.
+pub record IsFirstEdited (home : Package) (passes : Script) (keep_going : Bool) (max_depth max_statement : ℕ) (ahead : Ahead)
+    (old new : Progress) (text_before text_following : List ℕ) (next : NextChunk) : Type 0 where
+  pub chunk : IsNextChunk max_statement ahead next.len
+  pub lines : new.line ≤ old.line + next.len
+  pub edited : (cs : List (List ℕ)) (statements : List Statement) → IsKeptOf home passes max_depth cs statements old
+      → IsEdited home passes keep_going max_depth cs statements (take next.len ahead.bytes) old new text_before text_following next.edited
+
+-- the same of a session
+abbrev pub IsNextEdited : SessionValue → SessionValue → List ℕ → List ℕ → NextChunk → Type 0
+IsNextEdited old new before after next = IsFirstEdited old.home old.passes old.options.keep_going old.options.max_depth old.options.max_statement
+    new.ahead old.progress new.progress before after next

@@ -1,0 +1,76 @@
+//! The script on the chunk that is found next.
+
+ghost use Rattle.std.specs.Prelude.{◌≡◌, ℕ, ◌+◌, ◌<◌, ◌≤◌, ◌^◌, List, length, IfOk, OnOk, IfSome, IfNone};
+ghost use Rattle.bz_tree.specs.Tree.{Statement};
+ghost use Rattle.bz_passes.specs.Exchange.{Fits};
+ghost use Rattle.bz_engine.specs.Progress.{IsKeptOf};
+ghost use Rattle.bz_engine.specs.private.Edits.{IsEdited};
+ghost use Rattle.bz_engine.specs.private.NextChunks.{IsFirstEdited};
+
+use crate::chunk::{read_chunk, read_tokens};
+use crate::edit::{Edited, Script, edit_chunk};
+use crate::progress::Progress;
+use bz_devices::ahead::Ahead;
+use bz_token::first_chunk;
+use std::alloc::AllocError;
+
+/// The next chunk, on which the script was run and which is not yet taken.
+#[derive(Drop)]
+pub(crate) struct NextChunk {
+    /// How many of the bytes ahead it has.
+    pub(crate) len: usize,
+    pub(crate) edited: Edited,
+}
+
+/// The script on the first chunk of the text ahead, which is read by the tokens that were made to find its end. None,
+/// with nothing done: the text does not show where it ends, it has a fault, it is a block, or it is too long.
+pub(crate) fn edit_first(
+    script: Script<'_>,
+    ahead: &Ahead,
+    max_statement: u64,
+    progress: &mut Progress,
+    text: &mut Vec<u8>,
+) -> Result<Option<NextChunk>, AllocError>
+    requires few { length ahead.now.bytes ≤ 8192 }
+    requires fits { Fits progress.old.kept script.passes.now }
+    requires lines { progress.old.line + length ahead.now.bytes < 2 ^ 64 }
+    ensures fits { OnOk result (Fits progress.new.kept script.entry.passes.now) }
+    ensures chunk { IfOk result (λ found. IfSome found (IsFirstEdited script.entry.home.now script.entry.passes.now
+        script.entry.keep_going script.entry.max_depth max_statement ahead.now progress.old progress.new
+        text.old.items text.new.items)) }
+    ensures none { IfOk result (λ found. IfNone found
+        ((progress.new ≡ progress.old) × (text.new.items ≡ text.old.items))) }
+{
+    let line = progress.line;
+    let Some(chunk) = first_chunk(script.alloc, ahead.text(), line, script.max_depth)? else {
+        return Ok(None);
+    };
+    let len = chunk.text.len();
+    if len as u64 > max_statement {
+        return Ok(None);
+    }
+    let read = read_tokens(script, chunk.text, line, &chunk.tokens)?;
+    let edited = edit_chunk(script, chunk.text.as_bytes(), read, progress, text)?;
+    Ok(Some(NextChunk { len, edited }))
+}
+
+/// The script on the chunk of these bytes.
+pub(crate) fn edit_bytes(
+    script: Script<'_>,
+    chunk: &[u8],
+    progress: &mut Progress,
+    text: &mut Vec<u8>,
+) -> Result<Edited, AllocError>
+    requires fits { Fits progress.old.kept script.passes.now }
+    requires lines { progress.old.line + length chunk.now < 2 ^ 64 }
+    ensures fits { OnOk result (Fits progress.new.kept script.entry.passes.now) }
+    ensures lines { OnOk result (progress.new.line ≤ progress.old.line + length chunk.now) }
+    ensures edited { IfOk result (λ edited. (cs : List (List ℕ)) (statements : List Statement)
+        → IsKeptOf script.entry.home.now script.entry.passes.now script.entry.max_depth cs statements progress.old
+        → IsEdited script.entry.home.now script.entry.passes.now script.entry.keep_going script.entry.max_depth cs
+        statements chunk.now progress.old progress.new text.old.items text.new.items edited) }
+{
+    let read = read_chunk(script, chunk, progress.line)?;
+    let edited = edit_chunk(script, chunk, read, progress, text)?;
+    Ok(edited)
+}
