@@ -17,6 +17,7 @@
 //! lines are those of `specs/Lines.antt`, and the newlines in a long string's text.
 #![tactic(auto)]
 
+mod append;
 mod broken;
 mod flat_text;
 mod gaps;
@@ -24,7 +25,6 @@ pub mod laws;
 mod marks;
 mod respell;
 mod row;
-mod sink;
 mod spacing;
 mod walk;
 mod write;

@@ -9,8 +9,8 @@ ghost use Rattle.bz_layout.specs.Layout.{layout_text};
 ghost use Rattle.bz_layout.specs.private.Kept.{IsBegunBy};
 ghost use Rattle.bz_layout.specs.private.RowLayout.{leading, after_leading, row_text};
 
+use crate::append::Append;
 use crate::marks::marks_of;
-use crate::sink::Sink;
 use crate::walk::Walk;
 use bz_tree::{Class, Part, Row, Stmt, push_parts};
 use std::alloc::{AllocError, Global};

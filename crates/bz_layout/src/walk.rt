@@ -7,9 +7,9 @@ ghost use Rattle.bz_layout.specs.private.Kept.{IsBegunBy};
 ghost use Rattle.bz_layout.specs.Pieces.{gap_bytes};
 ghost use Rattle.bz_layout.specs.private.RowLayout.{gap_for, top, first_gap, has_notes, start, with_token, opened, closed_by, is_last, ended, put_note, step, run, laid};
 
+use crate::append::Append;
 use crate::marks::Mark;
 use crate::respell::put_written;
-use crate::sink::Sink;
 use crate::spacing::{Edge, Gap, hugs, token_closes_up, token_edge};
 use crate::write::{closing, opening, put, put_new_line};
 use bz_token::Kind;
@@ -101,7 +101,7 @@ impl Walk {
 
     // The gap before the first node of a segment.
     #[inline(always)]
-    fn put_first<T: Sink>(&self, out: &mut T) -> Result<(), AllocError>
+    fn put_first<T: Append>(&self, out: &mut T) -> Result<(), AllocError>
         ensures ok { OnOk result
             (T.bytes out.new ≡ T.bytes out.old ++ gap_bytes (first_gap self.now.here self.now.level)) }
         ensures begun { IsBegunBy (T.bytes out.old) (T.bytes out.new) }
@@ -117,7 +117,7 @@ impl Walk {
 
     // The gap before what closes up or does not.
     #[inline(always)]
-    fn put_gap<T: Sink>(&self, closes: bool, out: &mut T) -> Result<(), AllocError>
+    fn put_gap<T: Append>(&self, closes: bool, out: &mut T) -> Result<(), AllocError>
         ensures ok { OnOk result (T.bytes out.new ≡ T.bytes out.old
             ++ gap_bytes (gap_for (first_gap self.now.here self.now.level) self.now.left closes)) }
         ensures begun { IsBegunBy (T.bytes out.old) (T.bytes out.new) }
@@ -132,7 +132,12 @@ impl Walk {
     }
 
     #[inline(always)]
-    fn put_token<T: Sink>(&mut self, kind: Kind, text: &str, out: &mut T) -> Result<(), AllocError>
+    fn put_token<T: Append>(
+        &mut self,
+        kind: Kind,
+        text: &str,
+        out: &mut T,
+    ) -> Result<(), AllocError>
         ensures laid { OnOk result
             (laid self.new (T.bytes out.new) ≡ with_token kind text.now (laid self.old (T.bytes out.old))) }
         ensures begun { IsBegunBy (T.bytes out.old) (T.bytes out.new) }
@@ -144,7 +149,12 @@ impl Walk {
     }
 
     #[inline(never)]
-    fn put_rarer<T: Sink>(&mut self, kind: Kind, text: &str, out: &mut T) -> Result<(), AllocError>
+    fn put_rarer<T: Append>(
+        &mut self,
+        kind: Kind,
+        text: &str,
+        out: &mut T,
+    ) -> Result<(), AllocError>
         ensures laid { OnOk result
             (laid self.new (T.bytes out.new) ≡ with_token kind text.now (laid self.old (T.bytes out.old))) }
         ensures begun { IsBegunBy (T.bytes out.old) (T.bytes out.new) }
@@ -154,7 +164,7 @@ impl Walk {
 
     // The tokens that most statements are made of are told apart once.
     #[inline(always)]
-    fn token<T: Sink>(&mut self, kind: Kind, text: &str, out: &mut T) -> Result<(), AllocError>
+    fn token<T: Append>(&mut self, kind: Kind, text: &str, out: &mut T) -> Result<(), AllocError>
         ensures laid { OnOk result
             (laid self.new (T.bytes out.new) ≡ with_token kind text.now (laid self.old (T.bytes out.old))) }
         ensures begun { IsBegunBy (T.bytes out.old) (T.bytes out.new) }
@@ -167,7 +177,7 @@ impl Walk {
         }
     }
 
-    fn open<T: Sink>(&mut self, kind: GroupKind, out: &mut T) -> Result<(), AllocError>
+    fn open<T: Append>(&mut self, kind: GroupKind, out: &mut T) -> Result<(), AllocError>
         ensures laid { OnOk result (laid self.new (T.bytes out.new) ≡ opened kind (laid self.old (T.bytes out.old))) }
         ensures begun { IsBegunBy (T.bytes out.old) (T.bytes out.new) }
     {
@@ -194,7 +204,7 @@ impl Walk {
         Ok(())
     }
 
-    fn close<T: Sink>(&mut self, one_comma: bool, out: &mut T) -> Result<(), AllocError>
+    fn close<T: Append>(&mut self, one_comma: bool, out: &mut T) -> Result<(), AllocError>
         ensures laid { OnOk result
             (laid self.new (T.bytes out.new) ≡ closed_by one_comma (laid self.old (T.bytes out.old))) }
         ensures begun { IsBegunBy (T.bytes out.old) (T.bytes out.new) }
@@ -218,7 +228,7 @@ impl Walk {
 
     // A segment ends, with these parts after it.
     #[inline(always)]
-    fn end<T: Sink>(&mut self, rest: &[Part<'_>], out: &mut T) -> Result<(), AllocError>
+    fn end<T: Append>(&mut self, rest: &[Part<'_>], out: &mut T) -> Result<(), AllocError>
         ensures laid { OnOk result (laid self.new (T.bytes out.new)
             ≡ ended (is_last (map part_view rest.now)) (laid self.old (T.bytes out.old))) }
         ensures begun { IsBegunBy (T.bytes out.old) (T.bytes out.new) }
@@ -236,7 +246,7 @@ impl Walk {
     }
 
     #[inline(never)]
-    fn note<T: Sink>(&mut self, gap: Gap, text: &str, out: &mut T) -> Result<(), AllocError>
+    fn note<T: Append>(&mut self, gap: Gap, text: &str, out: &mut T) -> Result<(), AllocError>
         ensures laid { OnOk result
             (laid self.new (T.bytes out.new) ≡ put_note gap text.now (laid self.old (T.bytes out.old))) }
         ensures begun { IsBegunBy (T.bytes out.old) (T.bytes out.new) }
@@ -248,7 +258,7 @@ impl Walk {
     }
 
     #[inline(always)]
-    fn step<T: Sink>(
+    fn step<T: Append>(
         &mut self,
         part: &Part<'_>,
         rest: &[Part<'_>],
@@ -268,7 +278,11 @@ impl Walk {
         }
     }
 
-    pub(crate) fn run<T: Sink>(&mut self, parts: &[Part<'_>], out: &mut T) -> Result<(), AllocError>
+    pub(crate) fn run<T: Append>(
+        &mut self,
+        parts: &[Part<'_>],
+        out: &mut T,
+    ) -> Result<(), AllocError>
         ensures laid { OnOk result
             (laid self.new (T.bytes out.new) ≡ run (map part_view parts.now) (laid self.old (T.bytes out.old))) }
         ensures begun { IsBegunBy (T.bytes out.old) (T.bytes out.new) }

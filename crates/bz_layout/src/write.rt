@@ -6,7 +6,7 @@ ghost use Rattle.bz_layout.specs.declared.spacing.Gap.TheVariants.{Line};
 ghost use Rattle.bz_layout.specs.Layout.{opening, closing, has_commas};
 ghost use Rattle.bz_layout.specs.private.Kept.{IsBegunBy};
 
-use crate::sink::Sink;
+use crate::append::Append;
 use crate::spacing::Gap;
 use bz_tree::GroupKind;
 use std::alloc::AllocError;
@@ -45,7 +45,7 @@ pub(crate) fn has_commas(kind: GroupKind, one_comma: bool, n: usize) -> bool
 }
 
 #[tactic(auto, using(crate::proofs::Pieces::indent_step))]
-fn put_indent<T: Sink>(level: usize, out: &mut T) -> Result<(), AllocError>
+fn put_indent<T: Append>(level: usize, out: &mut T) -> Result<(), AllocError>
     ensures ok { OnOk result (T.bytes out.new ≡ T.bytes out.old ++ indent level) }
     ensures begun { IsBegunBy (T.bytes out.old) (T.bytes out.new) }
 {
@@ -57,7 +57,7 @@ fn put_indent<T: Sink>(level: usize, out: &mut T) -> Result<(), AllocError>
 
 // Few lines are deeper than the levels whose gap is one text here.
 #[inline(never)]
-pub(crate) fn put_new_line<T: Sink>(level: usize, out: &mut T) -> Result<(), AllocError>
+pub(crate) fn put_new_line<T: Append>(level: usize, out: &mut T) -> Result<(), AllocError>
     ensures ok { OnOk result (T.bytes out.new ≡ T.bytes out.old ++ gap_bytes (Line level)) }
     ensures begun { IsBegunBy (T.bytes out.old) (T.bytes out.new) }
 {
@@ -75,7 +75,7 @@ pub(crate) fn put_new_line<T: Sink>(level: usize, out: &mut T) -> Result<(), All
 }
 
 #[inline(always)]
-fn put_gap<T: Sink>(gap: Gap, out: &mut T) -> Result<(), AllocError>
+fn put_gap<T: Append>(gap: Gap, out: &mut T) -> Result<(), AllocError>
     ensures ok { OnOk result (T.bytes out.new ≡ T.bytes out.old ++ gap_bytes gap) }
     ensures begun { IsBegunBy (T.bytes out.old) (T.bytes out.new) }
 {
@@ -88,7 +88,7 @@ fn put_gap<T: Sink>(gap: Gap, out: &mut T) -> Result<(), AllocError>
 }
 
 #[inline(always)]
-pub(crate) fn put<T: Sink>(gap: Gap, text: &str, out: &mut T) -> Result<(), AllocError>
+pub(crate) fn put<T: Append>(gap: Gap, text: &str, out: &mut T) -> Result<(), AllocError>
     ensures ok { OnOk result (T.bytes out.new ≡ T.bytes out.old ++ (gap_bytes gap ++ text.now)) }
     ensures begun { IsBegunBy (T.bytes out.old) (T.bytes out.new) }
 {

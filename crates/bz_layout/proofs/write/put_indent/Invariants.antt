@@ -5,6 +5,6 @@ use Rattle.bz_layout.proofs.write.put_indent.Given as goal
 
 abbrev pub invariant-loop : goal.invariant-loop
 invariant-loop g l = record {
-  put : g.T.Sink.bytes l.out ++ indent (l.level - l.counter) ≡ g.T.Sink.bytes l.initial.out ++ indent l.level;
-  begun : IsBegunBy (g.T.Sink.bytes l.initial.out) (g.T.Sink.bytes l.out);
+  put : g.T.Append.bytes l.out ++ indent (l.level - l.counter) ≡ g.T.Append.bytes l.initial.out ++ indent l.level;
+  begun : IsBegunBy (g.T.Append.bytes l.initial.out) (g.T.Append.bytes l.out);
 }

@@ -6,8 +6,8 @@ use Rattle.bz_layout.proofs.walk.Walk.run.Given as goal
 
 abbrev pub invariant-loop-rest : goal.invariant-loop-rest
 invariant-loop-rest g l = record {
-  laid : run (map part_view l.rest) (laid l.self (g.T.Sink.bytes l.out)) ≡ run (map part_view l.parts) (laid l.initial.self (g.T.Sink.bytes l.initial.out));
-  begun : IsBegunBy (g.T.Sink.bytes l.initial.out) (g.T.Sink.bytes l.out);
+  laid : run (map part_view l.rest) (laid l.self (g.T.Append.bytes l.out)) ≡ run (map part_view l.parts) (laid l.initial.self (g.T.Append.bytes l.initial.out));
+  begun : IsBegunBy (g.T.Append.bytes l.initial.out) (g.T.Append.bytes l.out);
 }
 
 abbrev pub decreases-loop-rest : goal.decreases-loop-rest

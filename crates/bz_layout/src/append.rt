@@ -6,7 +6,7 @@ ghost use Rattle.bz_layout.specs.private.Kept.{IsBegunBy};
 use std::alloc::AllocError;
 
 /// Bytes or a string, at whose end texts are put.
-pub(crate) trait Sink {
+pub(crate) trait Append {
     ghost bytes: { Self → List ℕ };
 
     /// Appends a text. `Err`: memory was refused.
@@ -15,7 +15,7 @@ pub(crate) trait Sink {
         ensures begun { IsBegunBy (bytes self.old) (bytes self.new) };
 }
 
-impl Sink for Vec<u8> {
+impl Append for Vec<u8> {
     ghost bytes = { λ v. v.items };
 
     #[inline(always)]
@@ -24,7 +24,7 @@ impl Sink for Vec<u8> {
     }
 }
 
-impl Sink for String {
+impl Append for String {
     ghost bytes = { string_bytes };
 
     #[inline(always)]
