@@ -10,7 +10,7 @@ use Rattle.bz_engine.proofs.row.passed_row.Goals as goal
 pub returns : goal.returns
 returns c line max_depth text are =
     let rows : (first depth : ℕ) (bytes : List ℕ) → AreTokensOf first depth bytes (map placed c.args.tokens.now)
-        → (s : Statement) × IsStatementIn first depth bytes s × IsRowOf s c.in-Some.row = rw c.in-Some.is at c.in_ok-row.ensures.row in
+    → (s : Statement) × IsStatementIn first depth bytes s × IsRowOf s c.in-Some.row = rw c.in-Some.is at c.in_ok-row.ensures.row in
     let read = rows line max_depth text are in
     record {
       statement = read.0;
