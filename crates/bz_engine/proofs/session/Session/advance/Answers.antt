@@ -1,4 +1,4 @@
-use Rattle.std.proofs.Common.{◌≡◌, ℕ, List, [], ◌∷◌, ◌++◌, ◌∙◌, ap, sym, subst, length, take, ◌≤◌, ◌^◌, refl}
+use Rattle.std.proofs.Common.{◌≡◌, ℕ, List, [], ◌∷◌, ◌++◌, ◌∙◌, ap, sym, subst, length, take, ◌≤◌, refl}
 use Rattle.std.specs.Prelude.{IsErrAnd, IsTrue, Ok, Err}
 use Rattle.std.proofs.lemmas.Result.{err_from_is_err_and}
 use Rattle.bz_engine.specs.declared.run_fault.RunFault.{RunFault}
@@ -14,14 +14,14 @@ use Rattle.bz_engine.proofs.Faults.{refused_as}
 use Rattle.bz_devices.proofs.ChunkAhead.{next_fits, nothing_fits}
 use Rattle.bz_engine.proofs.Sessions.{too_long_there, reads_within, read_within}
 use Rattle.bz_engine.proofs.Advances.{chunk_done, chunk_faulty, chunk_failed, left_by_write, on_err, goes_not_on, has_not_ended, same_end, some_of, none_of, take_some, take_few, whole_end}
-use Rattle.bz_engine.proofs.Kept.{ready_next}
+use Rattle.bz_engine.proofs.Kept.{ready_next, session_failed}
 use Rattle.bz_engine.proofs.Runs.{ok_is_no_err}
 use Rattle.bz_engine.proofs.session.Session.advance.Goals as goal
 use Rattle.bz_engine.proofs.session.Session.advance.Goals.{in-Done+in_ok-write-in-Done, in-Faulty, in-Failed}
 
 pub returns-in_err-len-clause-too_long : goal.returns-in_err-len-clause-too_long
 returns-in_err-len-clause-too_long g c told pieces cs text before =
-    let done = subst (λ v. HasDone v pieces cs text) (sym c.take_text.ensures.same) before in
+    let done = subst (λ v. HasDone v pieces cs text) (sym c.take_text-text.ensures.same) before in
     let read = c.edit_next.ensures.read in
     let same : (let fault : RunFault = InputTooLong in fault) ≡ c.in_err-len.field-0.0 = subst (λ r. IsErrAnd r (λ e. e ≡ c.in_err-len.field-0.0)) told c.from_residual.ensures.1 in
     let full = c.edit_next.ensures.too_long (c.in_err-len.was ∙ ap Err (sym same)) in
@@ -30,23 +30,23 @@ returns-in_err-len-clause-too_long g c told pieces cs text before =
 
 pub returns-clause-more : goal.returns-clause-more
 returns-clause-more g c going pieces cs text before =
-    let done = subst (λ v. HasDone v pieces cs text) (sym c.take_text.ensures.same) before in
+    let done = subst (λ v. HasDone v pieces cs text) (sym c.take_text-text.ensures.same) before in
     let read = c.edit_next.ensures.read in
-    let next = some_of (IsNextEdited c.take_text.new.self c.edit_next.new.self c.take_text.result.items c.edit_next.new.text.items) _ _ c.in_ok-len.ensures.chunk c.in-Some.is in
+    let next = some_of (IsNextEdited c.take_text-text.new.self c.edit_next.new.self c.take_text-text.result.items c.edit_next.new.text.items) _ _ c.in_ok-len.ensures.chunk c.in-Some.is in
     elim c.match-edited.branch [
       | in-Done+in_ok-write-in-Done w ↦ record {
         read = read.0;
-        chunk = take c.in-Some.len c.edit_next.new.self.ahead.bytes;
+        chunk = take c.in-Some.field-0.len c.edit_next.new.self.ahead.bytes;
         shown = c.edit_next.new.text.items;
         gave = read.1;
         took = subst (λ s. g.W.Sink.took c.args.sink.now c.edit_next.new.text.items s) (sym w.sink-is) (subst (λ t. g.W.Sink.took c.args.sink.now t w.write.new.sink) w.as_slice.ensures.value w.in_ok-write-in-Done.ensures.ok);
-        some = take_some c.in-Some.len c.edit_next.new.self.ahead.bytes next.chunk.some next.chunk.within;
-        size = subst (λ v. length (take c.in-Some.len c.edit_next.new.self.ahead.bytes) ≤ v.options.max_statement) (sym (c.self-2.view_is ∙ w.self-is ∙ w.in_ok-write-in-Done.ensures.taken))
-            (subst (λ v. length (take c.in-Some.len c.edit_next.new.self.ahead.bytes) ≤ v.options.max_statement) (sym c.edit_next.ensures.same) (take_few c.in-Some.len _ c.edit_next.new.self.ahead.bytes next.chunk.size next.chunk.within));
+        some = take_some c.in-Some.field-0.len c.edit_next.new.self.ahead.bytes next.chunk.some next.chunk.within;
+        size = subst (λ v. length (take c.in-Some.field-0.len c.edit_next.new.self.ahead.bytes) ≤ v.options.max_statement) (sym (c.self-2.view_is ∙ w.self-is ∙ w.in_ok-write-in-Done.ensures.taken))
+            (subst (λ v. length (take c.in-Some.field-0.len c.edit_next.new.self.ahead.bytes) ≤ v.options.max_statement) (sym c.edit_next.ensures.same) (take_few c.in-Some.field-0.len _ c.edit_next.new.self.ahead.bytes next.chunk.size next.chunk.within));
         few = read.2.few;
-        done = subst (λ v. HasDone v (pieces ++ read.0) (cs ++ take c.in-Some.len c.edit_next.new.self.ahead.bytes ∷ []) (text ++ c.edit_next.new.text.items)) (sym (c.self-2.view_is ∙ w.self-is))
-            (chunk_done _ c.edit_next.new.self w.write.new.self c.edit_next.new.self.ahead _ c.edit_next.new.text.items c.in-Some.edited _ _ c.in-Some.len pieces cs read.0 text
-            done read.2 next.chunk c.take_text.ensures.empty c.edit_next.ensures.same next.edited w.in-Done.is w.in_ok-write-in-Done.ensures.taken);
+        done = subst (λ v. HasDone v (pieces ++ read.0) (cs ++ take c.in-Some.field-0.len c.edit_next.new.self.ahead.bytes ∷ []) (text ++ c.edit_next.new.text.items)) (sym (c.self-2.view_is ∙ w.self-is))
+            (chunk_done _ c.edit_next.new.self w.write.new.self c.edit_next.new.self.ahead _ c.edit_next.new.text.items c.in-Some.field-0.edited _ _ c.in-Some.field-0.len pieces cs read.0 text
+            done read.2 next.chunk c.take_text-text.ensures.empty c.edit_next.ensures.same next.edited w.in-Done.is w.in_ok-write-in-Done.ensures.taken);
       }
       | in-Faulty w ↦ goes_not_on c.match-edited.stage (Syntax w.in-Faulty.fault) going w.stage-is
       | in-Failed w ↦ goes_not_on c.match-edited.stage FirstFailure going w.stage-is
@@ -54,9 +54,9 @@ returns-clause-more g c going pieces cs text before =
 
 pub returns-clause-end : goal.returns-clause-end
 returns-clause-end g c end ended pieces cs text before =
-    let done = subst (λ v. HasDone v pieces cs text) (sym c.take_text.ensures.same) before in
+    let done = subst (λ v. HasDone v pieces cs text) (sym c.take_text-text.ensures.same) before in
     let read = c.edit_next.ensures.read in
-    let next = some_of (IsNextEdited c.take_text.new.self c.edit_next.new.self c.take_text.result.items c.edit_next.new.text.items) _ _ c.in_ok-len.ensures.chunk c.in-Some.is in
+    let next = some_of (IsNextEdited c.take_text-text.new.self c.edit_next.new.self c.take_text-text.result.items c.edit_next.new.text.items) _ _ c.in_ok-len.ensures.chunk c.in-Some.is in
     elim c.match-edited.branch [
       | in-Done+in_ok-write-in-Done w ↦ has_not_ended c.match-edited.stage end ended w.stage-is
       | in-Faulty w ↦ (
@@ -67,12 +67,12 @@ returns-clause-end g c end ended pieces cs text before =
             (reads_within _ c.edit_next.new.self.ahead _ pieces cs read.0 text done read.2),
         subst (λ v. HasEnded v end (pieces ++ read.0) text) (sym (c.self-2.view_is ∙ w.self-is))
             (subst (λ e. HasEnded c.edit_next.new.self e (pieces ++ read.0) text) (same_end c.match-edited.stage end (Syntax w.in-Faulty.fault) ended w.stage-is)
-            (chunk_faulty _ c.edit_next.new.self c.edit_next.new.self.ahead _ c.edit_next.new.text.items c.in-Some.edited w.in-Faulty.fault _ _ c.in-Some.len pieces cs read.0 text
-            done read.2 next.chunk c.take_text.ensures.empty c.edit_next.ensures.same next.edited w.in-Faulty.is)),
+            (chunk_faulty _ c.edit_next.new.self c.edit_next.new.self.ahead _ c.edit_next.new.text.items c.in-Some.field-0.edited w.in-Faulty.fault _ _ c.in-Some.field-0.len pieces cs read.0 text
+            done read.2 next.chunk c.take_text-text.ensures.empty c.edit_next.ensures.same next.edited w.in-Faulty.is)),
       )
       | in-Failed w ↦
           let fails : SessionValue → SessionValue = λ x. record x { failure = w.in-Failed.message } in
-          let failed = w.self-is ∙ ap fails w.self-in-Failed.view_is in (
+          let failed = w.self-is ∙ ap fails w.self.view_is in (
             read.0,
             read.1,
             subst (λ s. g.W.Sink.took c.args.sink.now [] s) (sym w.sink-is) (g.met.W.Sink.took_nothing _),
@@ -80,16 +80,16 @@ returns-clause-end g c end ended pieces cs text before =
                 (reads_within _ c.edit_next.new.self.ahead _ pieces cs read.0 text done read.2),
             subst (λ v. HasEnded v end (pieces ++ read.0) text) (sym c.self-2.view_is)
                 (subst (λ e. HasEnded c.match-edited.self e (pieces ++ read.0) text) (same_end c.match-edited.stage end FirstFailure ended w.stage-is)
-                (chunk_failed _ c.edit_next.new.self c.match-edited.self c.edit_next.new.self.ahead _ c.edit_next.new.text.items c.in-Some.edited w.in-Failed.message _ _ c.in-Some.len pieces cs read.0 text
-                done read.2 next.chunk c.take_text.ensures.empty c.edit_next.ensures.same next.edited w.in-Failed.is failed)),
+                (chunk_failed _ c.edit_next.new.self c.match-edited.self c.edit_next.new.self.ahead _ c.edit_next.new.text.items c.in-Some.field-0.edited w.in-Failed.message _ _ c.in-Some.field-0.len pieces cs read.0 text
+                done read.2 next.chunk c.take_text-text.ensures.empty c.edit_next.ensures.same next.edited w.in-Failed.is failed)),
           )
     ]
 
 pub returns-in_default-clause-end : goal.returns-in_default-clause-end
 returns-in_default-clause-end g c end ended pieces cs text before =
-    let done = subst (λ v. HasDone v pieces cs text) (sym c.take_text.ensures.same) before in
+    let done = subst (λ v. HasDone v pieces cs text) (sym c.take_text-text.ensures.same) before in
     let read = c.edit_next.ensures.read in
-    let v = c.take_text.new.self in
+    let v = c.take_text-text.new.self in
     let mid = c.edit_next.new.self.ahead in
     let none = none_of ((c.edit_next.new.self.progress ≡ v.progress) × (mid.bytes ≡ []) × IsTrue mid.ended) _ c.in_ok-len.ensures.none c.in_default.is in
     let with_progress : Progress → SessionValue = λ p. record v { ahead = mid; progress = p } in
@@ -98,7 +98,7 @@ returns-in_default-clause-end g c end ended pieces cs text before =
       read.1,
       g.met.W.Sink.took_nothing _,
       subst (λ x. length (pieces ++ read.0) ≤ x.options.max_reads) (sym at) (reads_within v mid _ pieces cs read.0 text done read.2),
-      subst (λ x. HasEnded x end (pieces ++ read.0) text) (sym at) (whole_end v mid end _ pieces cs read.0 text done read.2 none.1 ended),
+      subst (λ x. HasEnded x end (pieces ++ read.0) text) (sym at) (whole_end v mid end _ pieces cs read.0 text done read.2 (none.1, none.2) ended),
     )
 
 pub returns-clause-devices : goal.returns-clause-devices
@@ -115,34 +115,34 @@ returns-clause-devices g c =
 pub returns-in_err-write-in-Done-clause-front : goal.returns-in_err-write-in-Done-clause-front
 returns-in_err-write-in-Done-clause-front g c =
     let read = c.edit_next.ensures.read in
-    let next = some_of (IsNextEdited c.take_text.new.self c.edit_next.new.self c.take_text.result.items c.edit_next.new.text.items) _ _ c.in_ok-len.ensures.chunk c.in-Some.is in
+    let next = some_of (IsNextEdited c.take_text-text.new.self c.edit_next.new.self c.take_text-text.result.items c.edit_next.new.text.items) _ _ c.in_ok-len.ensures.chunk c.in-Some.is in
     let cut = c.in_err-write-in-Done.ensures.front in
     let Gave : List (List ℕ) → Type 0 = λ r. g.S.Source.gave c.args.source.now r c.edit_next.new.source in
     let Took : List ℕ → Type 0 = λ s. g.W.Sink.took c.args.sink.now s c.write.new.sink in
-    on_err _ (subst (λ v. IsLeftByFault Gave Took v c.write.new.self) c.take_text.ensures.same
-    (left_by_write Gave Took _ c.edit_next.new.self c.write.new.self c.edit_next.new.self.ahead _ c.edit_next.new.text.items c.in-Some.edited _ c.in-Some.len cut.0 read.0
+    on_err _ (subst (λ v. IsLeftByFault Gave Took v c.write.new.self) c.take_text-text.ensures.same
+    (left_by_write Gave Took _ c.edit_next.new.self c.write.new.self c.edit_next.new.self.ahead _ c.edit_next.new.text.items c.in-Some.field-0.edited _ c.in-Some.field-0.len cut.0 read.0
     read.1 (subst (λ t. g.W.Sink.took c.args.sink.now (take cut.0 t) c.write.new.sink) c.as_slice.ensures.value cut.2)
-    read.2 next.chunk c.take_text.ensures.empty c.edit_next.ensures.same next.edited c.in-Done.is c.in_err-write-in-Done.ensures.same))
+    read.2 next.chunk c.take_text-text.ensures.empty c.edit_next.ensures.same next.edited c.in-Done.is c.in_err-write-in-Done.ensures.same))
 
 pub returns-in_err-len-clause-bound : goal.returns-in_err-len-clause-bound
 returns-in_err-len-clause-bound g c =
     let read = c.edit_next.ensures.read in
-    (read.0, read.1, read_within _ _ c.edit_next.new.self.ahead _ read.0 c.take_text.ensures.same read.2 c.edit_next.ensures.bound)
+    (read.0, read.1, read_within _ _ c.edit_next.new.self.ahead _ read.0 c.take_text-text.ensures.same read.2 c.edit_next.ensures.bound)
 
 pub returns-in_default-clause-bound : goal.returns-in_default-clause-bound
 returns-in_default-clause-bound g c =
     let read = c.edit_next.ensures.read in
-    (read.0, read.1, read_within _ _ c.edit_next.new.self.ahead _ read.0 c.take_text.ensures.same read.2 c.edit_next.ensures.bound)
+    (read.0, read.1, read_within _ _ c.edit_next.new.self.ahead _ read.0 c.take_text-text.ensures.same read.2 c.edit_next.ensures.bound)
 
 pub returns-in_err-write-in-Done-clause-bound : goal.returns-in_err-write-in-Done-clause-bound
 returns-in_err-write-in-Done-clause-bound g c =
     let read = c.edit_next.ensures.read in
-    (read.0, read.1, read_within _ _ c.edit_next.new.self.ahead _ read.0 c.take_text.ensures.same read.2 c.edit_next.ensures.bound)
+    (read.0, read.1, read_within _ _ c.edit_next.new.self.ahead _ read.0 c.take_text-text.ensures.same read.2 c.edit_next.ensures.bound)
 
 pub returns-clause-bound : goal.returns-clause-bound
 returns-clause-bound g c =
     let read = c.edit_next.ensures.read in
-    (read.0, read.1, read_within _ _ c.edit_next.new.self.ahead _ read.0 c.take_text.ensures.same read.2 c.edit_next.ensures.bound)
+    (read.0, read.1, read_within _ _ c.edit_next.new.self.ahead _ read.0 c.take_text-text.ensures.same read.2 c.edit_next.ensures.bound)
 
 pub returns-in_err-len-clause-refused : goal.returns-in_err-len-clause-refused
 returns-in_err-len-clause-refused g c other long =
@@ -157,37 +157,40 @@ pub returns-in_err-len-clause-uncertain : goal.returns-in_err-len-clause-uncerta
 returns-in_err-len-clause-uncertain g c told =
     let fault = c.from_residual in
     let p = err_from_is_err_and fault.result fault.ensures.1 in
-    let open = c.edit_next.ensures.uncertain (c.in_err-len.was ∙ passed_on fault.result p.0 c.in_err-len.field-0.0 InputTooLong p.1 p.2 told) in
-    (open.0, λ long. open.1 (subst (λ v. IsTooLong v.options.max_statement c.edit_next.new.self.ahead) c.edit_next.ensures.same long))
+    let there = c.edit_next.ensures.uncertain (c.in_err-len.was ∙ passed_on fault.result p.0 c.in_err-len.field-0.0 InputTooLong p.1 p.2 told) in
+    (there.0, λ long. there.1 (subst (λ v. IsTooLong v.options.max_statement c.edit_next.new.self.ahead) c.edit_next.ensures.same long))
 
 pub returns-in_default-clause-refused : goal.returns-in_default-clause-refused
 returns-in_default-clause-refused g c other long =
-    let none = none_of ((c.edit_next.new.self.progress ≡ c.take_text.new.self.progress) × (c.edit_next.new.self.ahead.bytes ≡ []) × IsTrue c.edit_next.new.self.ahead.ended) _ c.in_ok-len.ensures.none c.in_default.is in
-    absurd (nothing_fits _ c.edit_next.new.self.ahead none.1.0 long)
+    let none = none_of ((c.edit_next.new.self.progress ≡ c.take_text-text.new.self.progress) × (c.edit_next.new.self.ahead.bytes ≡ []) × IsTrue c.edit_next.new.self.ahead.ended) _ c.in_ok-len.ensures.none c.in_default.is in
+    absurd (nothing_fits _ c.edit_next.new.self.ahead none.1 long)
 
 pub returns-in_err-write-in-Done-clause-refused : goal.returns-in_err-write-in-Done-clause-refused
 returns-in_err-write-in-Done-clause-refused g c other long =
-    let next = some_of (IsNextEdited c.take_text.new.self c.edit_next.new.self c.take_text.result.items c.edit_next.new.text.items) _ _ c.in_ok-len.ensures.chunk c.in-Some.is in
-    absurd (next_fits _ c.in-Some.len c.edit_next.new.self.ahead next.chunk
+    let next = some_of (IsNextEdited c.take_text-text.new.self c.edit_next.new.self c.take_text-text.result.items c.edit_next.new.text.items) _ _ c.in_ok-len.ensures.chunk c.in-Some.is in
+    absurd (next_fits _ c.in-Some.field-0.len c.edit_next.new.self.ahead next.chunk
     (subst (λ v. IsTooLong v.options.max_statement v.ahead) (c.in_err-write-in-Done.ensures.same ∙ c.edit_next.ensures.same) long))
 
 pub returns-clause-refused : goal.returns-clause-refused
 returns-clause-refused g c other long =
-    let next = some_of (IsNextEdited c.take_text.new.self c.edit_next.new.self c.take_text.result.items c.edit_next.new.text.items) _ _ c.in_ok-len.ensures.chunk c.in-Some.is in
+    let next = some_of (IsNextEdited c.take_text-text.new.self c.edit_next.new.self c.take_text-text.result.items c.edit_next.new.text.items) _ _ c.in_ok-len.ensures.chunk c.in-Some.is in
     elim c.match-edited.branch [
       | in-Done+in_ok-write-in-Done w ↦ absurd (other (ap Ok w.stage-is))
-      | in-Faulty w ↦ absurd (next_fits _ c.in-Some.len c.edit_next.new.self.ahead next.chunk
+      | in-Faulty w ↦ absurd (next_fits _ c.in-Some.field-0.len c.edit_next.new.self.ahead next.chunk
           (subst (λ v. IsTooLong v.options.max_statement v.ahead) (c.self-2.view_is ∙ w.self-is ∙ c.edit_next.ensures.same) long))
       | in-Failed w ↦
           let fails : SessionValue → SessionValue = λ x. record x { failure = w.in-Failed.message } in
-          absurd (next_fits _ c.in-Some.len c.edit_next.new.self.ahead next.chunk
-          (subst (λ v. IsTooLong v.options.max_statement v.ahead) (c.self-2.view_is ∙ w.self-is ∙ ap fails (w.self-in-Failed.view_is ∙ c.edit_next.ensures.same)) long))
+          absurd (next_fits _ c.in-Some.field-0.len c.edit_next.new.self.ahead next.chunk
+          (subst (λ v. IsTooLong v.options.max_statement v.ahead) (c.self-2.view_is ∙ w.self-is ∙ ap fails (w.self.view_is ∙ c.edit_next.ensures.same)) long))
     ]
 
 pub write-requires-clause-within : goal.write-requires-clause-within
 write-requires-clause-within g c =
-    let next = some_of (IsNextEdited c.take_text.new.self c.edit_next.new.self c.take_text.result.items c.edit_next.new.text.items) _ _ c.in_ok-len.ensures.chunk c.in-Some.is in
+    let next = some_of (IsNextEdited c.take_text-text.new.self c.edit_next.new.self c.take_text-text.result.items c.edit_next.new.text.items) _ _ c.in_ok-len.ensures.chunk c.in-Some.is in
     next.chunk.within
+
+pub invariant_of-self : goal.invariant_of-self
+invariant_of-self g c = session_failed _ c.in-Failed.message c.self.invariant
 
 pub returns-in_err-len-clause-ready : goal.returns-in_err-len-clause-ready
 returns-in_err-len-clause-ready g c going =
@@ -205,12 +208,12 @@ returns-in_default-clause-ready g c going = goes_not_on (Ended Whole) Whole goin
 
 pub returns-clause-ready : goal.returns-clause-ready
 returns-clause-ready g c going =
-    let before = subst IsReady (sym c.take_text.ensures.same) c.requires.ready in
+    let before = subst IsReady (sym c.take_text-text.ensures.same) c.requires.ready in
     let read = c.edit_next.ensures.read in
-    let next = some_of (IsNextEdited c.take_text.new.self c.edit_next.new.self c.take_text.result.items c.edit_next.new.text.items) _ _ c.in_ok-len.ensures.chunk c.in-Some.is in
+    let next = some_of (IsNextEdited c.take_text-text.new.self c.edit_next.new.self c.take_text-text.result.items c.edit_next.new.text.items) _ _ c.in_ok-len.ensures.chunk c.in-Some.is in
     elim c.match-edited.branch [
       | in-Done+in_ok-write-in-Done w ↦ subst IsReady (sym (c.self-2.view_is ∙ w.self-is))
-          (ready_next _ c.edit_next.new.self w.write.new.self c.edit_next.new.self.ahead _ _ c.in-Some.len read.0 before read.2 next.chunk c.edit_next.ensures.same
+          (ready_next _ c.edit_next.new.self w.write.new.self c.edit_next.new.self.ahead _ _ c.in-Some.field-0.len read.0 before read.2 next.chunk c.edit_next.ensures.same
           c.in_ok-len.ensures.fits next.lines w.in_ok-write-in-Done.ensures.taken)
       | in-Faulty w ↦ goes_not_on c.match-edited.stage (Syntax w.in-Faulty.fault) going w.stage-is
       | in-Failed w ↦ goes_not_on c.match-edited.stage FirstFailure going w.stage-is

@@ -1,6 +1,8 @@
-use Rattle.std.proofs.Common.{◌∙◌, []}
+use Rattle.std.proofs.Common.{◌∙◌, [], ap, sym, subst}
 use Rattle.std.proofs.lemmas.Result.{err_from_is_err_and}
 use Rattle.bz_engine.specs.declared.run_fault.RunFault.TheVariants.{InputTooLong}
+use Rattle.bz_devices.specs.Ahead.{IsTooLong}
+use Rattle.bz_engine.specs.contracts.session.Session.{the_view}
 use Rattle.bz_devices.proofs.PassedOn.{passed_on}
 use Rattle.bz_engine.proofs.session.Session.edit_next.Goals as goal
 
@@ -14,4 +16,6 @@ pub returns-in_err-len-clause-uncertain : goal.returns-in_err-len-clause-uncerta
 returns-in_err-len-clause-uncertain g c told =
     let fault = c.from_residual-in_err-len in
     let p = err_from_is_err_and fault.result fault.ensures.1 in
-    c.find_chunk.ensures.uncertain (c.in_err-len.was ∙ passed_on fault.result p.0 c.in_err-len.field-0.0 InputTooLong p.1 p.2 told)
+    let there = c.find_chunk.ensures.uncertain (c.in_err-len.was ∙ passed_on fault.result p.0 c.in_err-len.field-0.0 InputTooLong p.1 p.2 told) in
+    let same = ap the_view c.self-inside.view_is ∙ c.self.view_is ∙ c.edit_first.ensures.same in
+    (there.0, λ long. there.1 (subst (λ v. IsTooLong v.options.max_statement c.find_chunk.new.ahead) (sym same) long))
