@@ -22,6 +22,7 @@ use Rattle.bz_token.specs.FreshStart.{ends_in_line, AreLinesOf}
 use Rattle.bz_token.specs.TokenLines.{is_newline_piece, line_of, lines_of}
 use Rattle.bz_token.specs.ChunkForms.{are_comments, ends_chunk}
 use Rattle.bz_token.specs.private.LineEnds.{line_end}
+use Rattle.bz_token.specs.private.LinesRead.{IsInLine, IsAfterLine}
 use Rattle.bz_token.specs.private.Progress.{HasRead, Grows}
 use Rattle.bz_token.specs.private.Scans.{opened}
 use Rattle.bz_token.proofs.Progress.{reading_bytes, bytes_of-push, gap_boundary, read_fresh}
@@ -31,33 +32,8 @@ use Rattle.bz_token.proofs.ChunkForms.{comments_snoc, statement_chunk}
 use Rattle.bz_token.proofs.FirstLines.{lines_reading, closed_lines, split_reading, ends_snoc}
 use Rattle.bz_token.proofs.LineEnds.{tokens_after, map_drop, joins_note, line_ends}
 
--- Comment lines were read, and the front of a line after them.
-pub record InLine (first depth : ℕ) (bytes : List ℕ) (lexer : Lexer) (spot : Spot) (start : ℕ) : Type 0 where
-  pub read : HasRead first depth bytes lexer spot
-  pub done : List Piece
-  pub line : List Piece
-  pub pieces_are : read.pieces ≡ done ++ line
-  pub ended : ends_in_line done ≡ true
-  pub comments : are_comments (lines_of done []) ≡ true
-  pub none : list_any is_newline_piece line ≡ false
-  pub start_is : start ≡ length done
-
--- and a whole line
-pub record AfterLine (first depth : ℕ) (bytes : List ℕ) (lexer : Lexer) (spot : Spot) (start : ℕ) : Type 0 where
-  pub read : HasRead first depth bytes lexer spot
-  pub done : List Piece
-  pub line : List Piece
-  pub last : Piece
-  pub pieces_are : read.pieces ≡ done ++ (line ++ last ∷ [])
-  pub gap_is : read.gap ≡ []
-  pub ended : ends_in_line done ≡ true
-  pub comments : are_comments (lines_of done []) ≡ true
-  pub none : list_any is_newline_piece line ≡ false
-  pub newline : is_line last.kind ≡ true
-  pub start_is : start ≡ length done
-
 -- before the first step
-pub started : (first depth : ℕ) (bytes : List ℕ) (lexer : Lexer) (spot : Spot) → lexer.tokens.items ≡ [] → opened lexer.brackets ≡ [] → spot.rest.now ≡ bytes → spot.place.line ≡ first → spot.place.col ≡ 1 → spot.last_line ≡ None → IsUtf8 bytes → InLine first depth bytes lexer spot 0
+pub started : (first depth : ℕ) (bytes : List ℕ) (lexer : Lexer) (spot : Spot) → lexer.tokens.items ≡ [] → opened lexer.brackets ≡ [] → spot.rest.now ≡ bytes → spot.place.line ≡ first → spot.place.col ≡ 1 → spot.last_line ≡ None → IsUtf8 bytes → IsInLine first depth bytes lexer spot 0
 started first depth bytes lexer spot no_tokens closed rest line col none utf8 =
     let r = read_fresh first depth bytes (map placed lexer.tokens.items) (opened lexer.brackets) spot.last_line spot.rest.now spot.place.line spot.place.col (ap (map placed) no_tokens) closed none rest line col utf8 in
     record { read = r.0; done = []; line = []; pieces_are = r.1; ended = refl; comments = refl; none = refl; start_is = refl }
@@ -66,8 +42,8 @@ no_newline : (ps : List Piece) (p : Piece) → list_any is_newline_piece ps ≡ 
 no_newline ps p none h = list_any-append is_newline_piece ps (p ∷ []) ∙ rw (none, h) refl
 
 -- after a gap, or a token within the line
-pub stays : (first depth : ℕ) (bytes : List ℕ) (before lexer : Lexer) (old spot : Spot) (start : ℕ) (kind : Option Kind) (i : InLine first depth bytes before old start) (r : HasRead first depth bytes lexer spot) → Grows kind i.read.pieces r.pieces r.gap → (kind ≡ Some Line → ⊥)
-    → InLine first depth bytes lexer spot start
+pub stays : (first depth : ℕ) (bytes : List ℕ) (before lexer : Lexer) (old spot : Spot) (start : ℕ) (kind : Option Kind) (i : IsInLine first depth bytes before old start) (r : HasRead first depth bytes lexer spot) → Grows kind i.read.pieces r.pieces r.gap → (kind ≡ Some Line → ⊥)
+    → IsInLine first depth bytes lexer spot start
 stays first depth bytes before lexer old spot start None i r grows other =
     record { read = r; done = i.done; line = i.line; pieces_are = grows ∙ i.pieces_are; ended = i.ended; comments = i.comments; none = i.none; start_is = i.start_is }
 stays first depth bytes before lexer old spot start (Some kind) i r grows other =
@@ -99,11 +75,11 @@ stays first depth bytes before lexer old spot start (Some kind) i r grows other 
     ]
 
 -- after the newline of a line
-pub line_read : (first depth : ℕ) (bytes : List ℕ) (before lexer : Lexer) (old spot : Spot) (start : ℕ) (kind : Option Kind) (i : InLine first depth bytes before old start) (r : HasRead first depth bytes lexer spot) → Grows kind i.read.pieces r.pieces r.gap → kind ≡ Some Line
-    → AfterLine first depth bytes lexer spot start
+pub line_read : (first depth : ℕ) (bytes : List ℕ) (before lexer : Lexer) (old spot : Spot) (start : ℕ) (kind : Option Kind) (i : IsInLine first depth bytes before old start) (r : HasRead first depth bytes lexer spot) → Grows kind i.read.pieces r.pieces r.gap → kind ≡ Some Line
+    → IsAfterLine first depth bytes lexer spot start
 line_read first depth bytes before lexer old spot start kind i r grows is = by (subst (λ k. Grows k i.read.pieces r.pieces r.gap) is grows)
   where
-    by : Grows (Some Line) i.read.pieces r.pieces r.gap → AfterLine first depth bytes lexer spot start
+    by : Grows (Some Line) i.read.pieces r.pieces r.gap → IsAfterLine first depth bytes lexer spot start
     by (p, pieces, kind, gap) = record {
       read = r;
       done = i.done;
@@ -130,12 +106,12 @@ count_of_map (t ∷ ts) = ap suc (count_of_map ts)
 pub token_count : (first depth : ℕ) (bytes : List ℕ) (lexer : Lexer) (spot : Spot) (r : HasRead first depth bytes lexer spot) → length lexer.tokens.items ≡ length r.pieces
 token_count first depth bytes lexer spot r = sym (count_of_map lexer.tokens.items) ∙ ap length r.tokens_are ∙ pieces_count first [] [] r.pieces
 
-pub start_within : (first depth : ℕ) (bytes : List ℕ) (lexer : Lexer) (spot : Spot) (start : ℕ) → AfterLine first depth bytes lexer spot start → start ≤ length lexer.tokens.items
+pub start_within : (first depth : ℕ) (bytes : List ℕ) (lexer : Lexer) (spot : Spot) (start : ℕ) → IsAfterLine first depth bytes lexer spot start → start ≤ length lexer.tokens.items
 start_within first depth bytes lexer spot start a =
     omega (arith, token_count first depth bytes lexer spot a.read, ap length a.pieces_are, length-append a.done (a.line ++ a.last ∷ []), a.start_is)
 
 -- the tokens of the line
-line_tokens : (first depth : ℕ) (bytes : List ℕ) (lexer : Lexer) (spot : Spot) (start : ℕ) (a : AfterLine first depth bytes lexer spot start) → (b ls : List ℕ) × (map placed (drop start lexer.tokens.items) ≡ tokens_of first b ls (a.line ++ a.last ∷ []))
+line_tokens : (first depth : ℕ) (bytes : List ℕ) (lexer : Lexer) (spot : Spot) (start : ℕ) (a : IsAfterLine first depth bytes lexer spot start) → (b ls : List ℕ) × (map placed (drop start lexer.tokens.items) ≡ tokens_of first b ls (a.line ++ a.last ∷ []))
 line_tokens first depth bytes lexer spot start a =
     let t = tokens_after first [] [] a.done (a.line ++ a.last ∷ []) in
     (t.0, t.1, map_drop start lexer.tokens.items ∙ ap (drop start) (a.read.tokens_are ∙ ap (tokens_of first [] []) a.pieces_are) ∙ ap (λ n. drop n (tokens_of first [] [] (a.done ++ (a.line ++ a.last ∷ [])))) a.start_is ∙ t.2)
@@ -147,7 +123,7 @@ lines_with : (done line : List Piece) (last : Piece) → ends_in_line done ≡ t
 lines_with done line last ended none newline = lines_of_join done (line ++ last ∷ []) [] ended ∙ ap (λ ls. lines_of done [] ++ ls) (one_line line last none newline)
 
 -- after a line of comments
-pub joined : (first depth : ℕ) (bytes : List ℕ) (lexer : Lexer) (spot : Spot) (start : ℕ) → AfterLine first depth bytes lexer spot start → line_end (map placed (drop start lexer.tokens.items)) ≡ Joins → InLine first depth bytes lexer spot (length lexer.tokens.items)
+pub joined : (first depth : ℕ) (bytes : List ℕ) (lexer : Lexer) (spot : Spot) (start : ℕ) → IsAfterLine first depth bytes lexer spot start → line_end (map placed (drop start lexer.tokens.items)) ≡ Joins → IsInLine first depth bytes lexer spot (length lexer.tokens.items)
 joined first depth bytes lexer spot start a h =
     let t = line_tokens first depth bytes lexer spot start a in
     let whole = a.line ++ a.last ∷ [] in
@@ -169,7 +145,7 @@ pub record Front (bytes rest : List ℕ) (text : List ℕ) : Type 0 where
   pub text_is : text ≡ inner ++ 10 ∷ []
   pub bytes_are : bytes ≡ inner ++ 10 ∷ rest
 
-pub front : (first depth : ℕ) (bytes : List ℕ) (lexer : Lexer) (spot : Spot) (start : ℕ) (a : AfterLine first depth bytes lexer spot start) → Front bytes spot.rest.now (bytes_of a.read.pieces)
+pub front : (first depth : ℕ) (bytes : List ℕ) (lexer : Lexer) (spot : Spot) (start : ℕ) (a : IsAfterLine first depth bytes lexer spot start) → Front bytes spot.rest.now (bytes_of a.read.pieces)
 front first depth bytes lexer spot start a =
     let before = a.done ++ a.line in
     let pieces : a.read.pieces ≡ before ++ a.last ∷ [] = a.pieces_are ∙ sym (append_assoc a.done a.line (a.last ∷ [])) in
@@ -222,7 +198,7 @@ pub record Shown (first depth : ℕ) (text : List ℕ) (tokens : List Placed) : 
   pub are_tokens : AreTokensOf first depth text tokens
   pub ends : IsChunk text
 
-pub shown : (first depth : ℕ) (bytes : List ℕ) (lexer : Lexer) (spot : Spot) (start : ℕ) (a : AfterLine first depth bytes lexer spot start) → line_end (map placed (drop start lexer.tokens.items)) ≡ Ends → Shown first depth (bytes_of a.read.pieces) (map placed lexer.tokens.items)
+pub shown : (first depth : ℕ) (bytes : List ℕ) (lexer : Lexer) (spot : Spot) (start : ℕ) (a : IsAfterLine first depth bytes lexer spot start) → line_end (map placed (drop start lexer.tokens.items)) ≡ Ends → Shown first depth (bytes_of a.read.pieces) (map placed lexer.tokens.items)
 shown first depth bytes lexer spot start a h =
     let ps = a.read.pieces in
     let whole = a.line ++ a.last ∷ [] in

@@ -7,3 +7,4 @@ pub mod Steps
 pub mod Tables
 pub mod LineEnds
 pub mod Progress
+pub mod LinesRead

@@ -70,24 +70,25 @@ pub fn first_chunk<'a>(
     // The first token of the line that is being read.
     let mut line_start = 0;
     while !spot.rest.is_empty() {
-        let (next, kind) = match lexer.step(spot, max_depth) {
+        let (next, ends) = match lexer.read_line(spot, max_depth) {
             Ok(passed) => passed,
             Err(LexFault::OutOfMemory) => return Err(AllocError),
             Err(_) => return Ok(None),
         };
+        if !ends {
+            return Ok(None);
+        }
         spot = next;
-        if kind == Some(Kind::Line) {
-            match line_end(lexer.tokens_from(line_start)) {
-                LineEnd::Joins => line_start = lexer.tokens.len(),
-                LineEnd::Ends => {
-                    return Ok(Some(FirstChunk {
-                        text: text.split_at(text.len() - spot.rest.len()).0,
-                        tokens: lexer.tokens,
-                        rest: spot.rest,
-                    }));
-                }
-                LineEnd::Block => return Ok(None),
+        match line_end(lexer.tokens_from(line_start)) {
+            LineEnd::Joins => line_start = lexer.tokens.len(),
+            LineEnd::Ends => {
+                return Ok(Some(FirstChunk {
+                    text: text.split_at(text.len() - spot.rest.len()).0,
+                    tokens: lexer.tokens,
+                    rest: spot.rest,
+                }));
             }
+            LineEnd::Block => return Ok(None),
         }
     }
     Ok(None)

@@ -1,6 +1,6 @@
 //! The tokens of a text.
 
-ghost use Rattle.std.specs.Prelude.{◌≡◌, ◌≤◌, ◌<◌, ◌+◌, ◌^◌, ◌==◌, ◌∷◌, [], List, ℕ, true, false, not, length, take, drop, count_by, map, IfOk, IfErr, IfSome, IfNone, Some, None, nat_eq};
+ghost use Rattle.std.specs.Prelude.{◌≡◌, ◌≤◌, ◌<◌, ◌+◌, ◌^◌, ◌==◌, ◌∷◌, [], List, ℕ, true, false, not, length, take, drop, count_by, map, IfOk, IfErr, IfSome, IfNone, IsTrue, Some, None, nat_eq};
 ghost use Rattle.std.specs.Option.{option_eq};
 ghost use Rattle.std.specs.List.{list_any};
 ghost use Rattle.bz_token.specs.Places.{Placed, placed, column_from};
@@ -10,6 +10,7 @@ ghost use Rattle.bz_token.specs.Faults.{IsFault};
 ghost use Rattle.bz_token.specs.Lexical.{is_newline};
 ghost use Rattle.bz_token.specs.private.Scans.{opened, bad_fault, misfit_fault, IsLeftOpen};
 ghost use Rattle.bz_token.specs.private.Steps.{IsTaken, IsRefused};
+ghost use Rattle.bz_token.specs.private.LinesRead.{IsInLine, IsAfterLine};
 ghost use Rattle.bz_token.specs.private.Progress.{HasRead, Grows, PlacesFit};
 
 use crate::brackets::{Brackets, Misfit, innermost};
@@ -149,11 +150,7 @@ impl<'a> Lexer<'a> {
 
     /// Reads what stands here, a gap or a token: the spot after it, and the token's kind.
     #[inline(always)]
-    pub fn step(
-        &mut self,
-        spot: Spot<'a>,
-        max_depth: u8,
-    ) -> Result<(Spot<'a>, Option<Kind>), LexFault>
+    fn step(&mut self, spot: Spot<'a>, max_depth: u8) -> Result<(Spot<'a>, Option<Kind>), LexFault>
         requires some { 0 < length spot.rest.now }
         requires places { (first : ℕ) × (bytes : List ℕ) × HasRead first max_depth bytes self.old spot
             × PlacesFit first bytes }
@@ -204,6 +201,32 @@ impl<'a> Lexer<'a> {
             }
         }
     }
+
+    /// Reads to the end of the logical line here, or of the text where no newline token ends it: the spot there, and
+    /// whether one does.
+    pub fn read_line(&mut self, spot: Spot<'a>, max_depth: u8) -> Result<(Spot<'a>, bool), LexFault>
+        requires some { 0 < length spot.rest.now }
+        requires places { (first : ℕ) × (bytes : List ℕ) × HasRead first max_depth bytes self.old spot
+            × PlacesFit first bytes }
+        ensures read { (first : ℕ) (bytes : List ℕ) → HasRead first max_depth bytes self.old spot.entry
+            → IfOk result (λ passed. HasRead first max_depth bytes self.new passed.0) }
+        ensures line { (first : ℕ) (bytes : List ℕ) (start : ℕ)
+            → IsInLine first max_depth bytes self.old spot.entry start
+            → IfOk result (λ passed. IsTrue passed.1 → IsAfterLine first max_depth bytes self.new passed.0 start) }
+        ensures shorter { IfOk result (λ passed. length passed.0.rest.now < length spot.entry.rest.now) }
+        ensures fault { (first : ℕ) (bytes : List ℕ) → HasRead first max_depth bytes self.old spot.entry
+            → IfErr result (IsFault first max_depth bytes) }
+    {
+        let mut spot = spot;
+        while !spot.rest.is_empty() {
+            let (next, kind) = self.step(spot, max_depth)?;
+            spot = next;
+            if kind == Some(Kind::Line) {
+                return Ok((spot, true));
+            }
+        }
+        Ok((spot, false))
+    }
 }
 
 // Room for the tokens of a statement of so many bytes; the list of a long text grows.
@@ -239,7 +262,7 @@ pub fn tokens<'a>(
     let mut lexer = Lexer::new(alloc, first_capacity(text.len()))?;
     let mut spot = Spot::start(text, first_line);
     while !spot.rest.is_empty() {
-        spot = lexer.step(spot, max_depth)?.0;
+        spot = lexer.read_line(spot, max_depth)?.0;
     }
     if lexer.brackets.is_inside() {
         return closed(lexer.tokens);

@@ -3,7 +3,7 @@ use Rattle.std.specs.Prelude.{Some}
 use Rattle.bz_token.specs.declared.token.Kind.TheVariants.{Line}
 use Rattle.bz_token.specs.Places.{placed}
 use Rattle.bz_token.specs.private.LineEnds.{line_end}
-use Rattle.bz_token.proofs.LinesRead.{started, stays, line_read, start_within, joined, front, front_within, front_boundary, shown, first_chunk_is}
+use Rattle.bz_token.proofs.LinesRead.{started, start_within, joined, front, front_within, front_boundary, shown, first_chunk_is}
 use Rattle.bz_token.proofs.chunk.first_chunk.Goals as goal
 
 pub loop-spot-init : goal.loop-spot-init
@@ -15,48 +15,32 @@ loop-spot-init c =
 pub tokens_from-requires : goal.tokens_from-requires
 tokens_from-requires c =
     let i = c.loop-spot.invariant in
-    let r = c.in-Ok.ensures.read c.args.first_line c.args.text.now i.read in
-    let newline : c.in-Ok.passed.1 ≡ Some Line = search (rules, tests) in
-    start_within _ _ _ _ _ _ (line_read c.args.first_line c.args.max_depth c.args.text.now c.loop-spot.lexer c.step.new.self c.loop-spot.spot c.in-Ok.passed.0 c.loop-spot.line_start c.in-Ok.passed.1 i r.0 r.1 newline)
+    start_within _ _ _ _ _ _ (c.in-Ok.ensures.line c.args.first_line c.args.text.now c.loop-spot.line_start i (search (rules, tests)))
 
-pub loop-spot-preserved-in-Joins : goal.loop-spot-preserved-in-Joins
-loop-spot-preserved-in-Joins c =
+pub loop-spot-preserved : goal.loop-spot-preserved
+loop-spot-preserved c =
     let i = c.loop-spot.invariant in
-    let r = c.in-Ok.ensures.read c.args.first_line c.args.text.now i.read in
-    let newline : c.in-Ok.passed.1 ≡ Some Line = search (rules, tests) in
-    let a = line_read c.args.first_line c.args.max_depth c.args.text.now c.loop-spot.lexer c.step.new.self c.loop-spot.spot c.in-Ok.passed.0 c.loop-spot.line_start c.in-Ok.passed.1 i r.0 r.1 newline in
+    let a = c.in-Ok.ensures.line c.args.first_line c.args.text.now c.loop-spot.line_start i (search (rules, tests)) in
     let told = ap (λ ts. line_end (map placed ts)) (sym c.tokens_from.ensures) ∙ sym c.line_end.ensures ∙ c.in-Joins.is in
-    let count : c.len-line_start.result ≡ length c.step.new.self.tokens.items = search (rules, tests) in
+    let count : c.len-line_start.result ≡ length c.read_line.new.self.tokens.items = search (rules, tests) in
     rw count (joined _ _ _ _ _ _ a told)
 
 pub overflow_sub-text : goal.overflow_sub-text
 overflow_sub-text c =
     let i = c.loop-spot.invariant in
-    let r = c.in-Ok.ensures.read c.args.first_line c.args.text.now i.read in
-    let newline : c.in-Ok.passed.1 ≡ Some Line = search (rules, tests) in
-    let a = line_read c.args.first_line c.args.max_depth c.args.text.now c.loop-spot.lexer c.step.new.self c.loop-spot.spot c.in-Ok.passed.0 c.loop-spot.line_start c.in-Ok.passed.1 i r.0 r.1 newline in
+    let a = c.in-Ok.ensures.line c.args.first_line c.args.text.now c.loop-spot.line_start i (search (rules, tests)) in
     front_within _ _ _ (front _ _ _ _ _ _ a)
 
 pub split_at-requires : goal.split_at-requires
 split_at-requires c =
     let i = c.loop-spot.invariant in
-    let r = c.in-Ok.ensures.read c.args.first_line c.args.text.now i.read in
-    let newline : c.in-Ok.passed.1 ≡ Some Line = search (rules, tests) in
-    let a = line_read c.args.first_line c.args.max_depth c.args.text.now c.loop-spot.lexer c.step.new.self c.loop-spot.spot c.in-Ok.passed.0 c.loop-spot.line_start c.in-Ok.passed.1 i r.0 r.1 newline in
+    let a = c.in-Ok.ensures.line c.args.first_line c.args.text.now c.loop-spot.line_start i (search (rules, tests)) in
     front_boundary _ _ _ (front _ _ _ _ _ _ a) c.utf8.text
 
 pub returns-in-Ends : goal.returns-in-Ends
 returns-in-Ends c =
     let i = c.loop-spot.invariant in
-    let r = c.in-Ok.ensures.read c.args.first_line c.args.text.now i.read in
-    let newline : c.in-Ok.passed.1 ≡ Some Line = search (rules, tests) in
-    let a = line_read c.args.first_line c.args.max_depth c.args.text.now c.loop-spot.lexer c.step.new.self c.loop-spot.spot c.in-Ok.passed.0 c.loop-spot.line_start c.in-Ok.passed.1 i r.0 r.1 newline in
+    let a = c.in-Ok.ensures.line c.args.first_line c.args.text.now c.loop-spot.line_start i (search (rules, tests)) in
     let told = ap (λ ts. line_end (map placed ts)) (sym c.tokens_from.ensures) ∙ sym c.line_end.ensures ∙ c.in-Ends.is in
     let f = front _ _ _ _ _ _ a in
     record { chunk = first_chunk_is _ _ _ _ _ _ f refl c.split_at.ensures.front (shown _ _ _ _ _ _ a told) }
-
-pub loop-spot-preserved : goal.loop-spot-preserved
-loop-spot-preserved c =
-    let i = c.loop-spot.invariant in
-    let r = c.in-Ok.ensures.read c.args.first_line c.args.text.now i.read in
-    stays c.args.first_line c.args.max_depth c.args.text.now c.loop-spot.lexer c.step.new.self c.loop-spot.spot c.in-Ok.passed.0 c.loop-spot.line_start c.in-Ok.passed.1 i r.0 r.1 (λ e. search (rules, tests))

@@ -1,0 +1,36 @@
+-- For private clauses: the lines of a chunk, as far as they were read.
+use Rattle.std.specs.Prelude.{◌≡◌, ℕ, List, [], ◌∷◌, ◌++◌, length, true, false}
+use Rattle.std.specs.List.{list_any}
+use Rattle.bz_token.specs.declared.lexer.Lexer.{Lexer}
+use Rattle.bz_token.specs.declared.lexer.Spot.{Spot}
+use Rattle.bz_token.specs.Brackets.{is_line}
+use Rattle.bz_token.specs.Reading.{Piece}
+use Rattle.bz_token.specs.FreshStart.{ends_in_line}
+use Rattle.bz_token.specs.TokenLines.{is_newline_piece, lines_of}
+use Rattle.bz_token.specs.ChunkForms.{are_comments}
+use Rattle.bz_token.specs.private.Progress.{HasRead}
+
+-- Comment lines were read, and the front of a line after them.
+pub record IsInLine (first depth : ℕ) (bytes : List ℕ) (lexer : Lexer) (spot : Spot) (start : ℕ) : Type 0 where
+  pub read : HasRead first depth bytes lexer spot
+  pub done : List Piece
+  pub line : List Piece
+  pub pieces_are : read.pieces ≡ done ++ line
+  pub ended : ends_in_line done ≡ true
+  pub comments : are_comments (lines_of done []) ≡ true
+  pub none : list_any is_newline_piece line ≡ false
+  pub start_is : start ≡ length done
+
+-- and a whole line
+pub record IsAfterLine (first depth : ℕ) (bytes : List ℕ) (lexer : Lexer) (spot : Spot) (start : ℕ) : Type 0 where
+  pub read : HasRead first depth bytes lexer spot
+  pub done : List Piece
+  pub line : List Piece
+  pub last : Piece
+  pub pieces_are : read.pieces ≡ done ++ (line ++ last ∷ [])
+  pub gap_is : read.gap ≡ []
+  pub ended : ends_in_line done ≡ true
+  pub comments : are_comments (lines_of done []) ≡ true
+  pub none : list_any is_newline_piece line ≡ false
+  pub newline : is_line last.kind ≡ true
+  pub start_is : start ≡ length done
