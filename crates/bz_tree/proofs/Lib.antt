@@ -17,6 +17,7 @@ pub mod KeptText
 pub mod Standing
 pub mod LastToken
 pub mod RowParts
+pub mod FromParts
 pub mod RowWalk
 pub mod RowClass
 pub mod RowLoad

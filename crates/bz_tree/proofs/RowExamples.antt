@@ -6,6 +6,7 @@ use Rattle.bz_tree.specs.declared.stmt.Class.TheVariants.{Load, Assign, Rule, Co
 use Rattle.bz_tree.specs.declared.stmt.GroupKind.TheVariants.{RuleCall, Load as LoadKind, Paren}
 use Rattle.bz_tree.specs.Tree.{leaf, group, no_items, item, no_segs, seg, Statement}
 use Rattle.bz_tree.specs.Rows.{a_token, opening, closing, segment_end, above, beside, parts_of}
+use Rattle.bz_tree.specs.FromParts.{nodes_of_parts}
 use Rattle.bz_tree.specs.private.RowSteps.{row_run, row_start}
 use Rattle.bz_tree.proofs.Examples.{at, a, b}
 
@@ -22,6 +23,9 @@ rule = record {
 
 rule_parts : parts_of rule ≡ above a ∷ a_token Ident (codes "f") ∷ opening RuleCall ∷ a_token Ident (codes "x") ∷ segment_end ∷ beside b ∷ above a ∷ closing false ∷ []
 rule_parts = refl
+
+rule_back : nodes_of_parts (parts_of rule) ≡ rule.nodes
+rule_back = refl
 
 -- and the walk over its tokens finds them
 rule_found : row_run row_start (at Note a 1 1 ∷ at Line (10 ∷ []) 1 4 ∷ at Ident (codes "f") 2 1 ∷ at Sign (codes "(") 2 2 ∷ at Ident (codes "x") 2 3 ∷ at Sign (codes ",") 2 4 ∷ at Note b 2 6 ∷ at Note a 3 1 ∷ at Sign (codes ")") 4 1 ∷ [])
@@ -41,6 +45,9 @@ tuple = record {
 
 tuple_parts : parts_of tuple ≡ a_token Ident (codes "x") ∷ a_token Sign (codes "=") ∷ opening Paren ∷ a_token Int (codes "1") ∷ segment_end ∷ closing true ∷ beside b ∷ []
 tuple_parts = refl
+
+tuple_back : nodes_of_parts (parts_of tuple) ≡ tuple.nodes
+tuple_back = refl
 
 tuple_found : row_run row_start (at Ident (codes "x") 1 1 ∷ at Sign (codes "=") 1 3 ∷ at Sign (codes "(") 1 5 ∷ at Int (codes "1") 1 6 ∷ at Sign (codes ",") 1 7 ∷ at Sign (codes ")") 1 8 ∷ at Note b 1 11 ∷ [])
     ≡ Some (record { parts = parts_of tuple; class = tuple.class })

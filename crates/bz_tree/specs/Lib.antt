@@ -9,5 +9,6 @@ pub mod Grammar
 pub mod Blocks
 pub mod Chunk
 pub mod Rows
+pub mod FromParts
 pub mod Comments
 pub mod private

@@ -10,6 +10,7 @@ mod fault;
 mod grammar;
 mod kept;
 mod kinds;
+pub mod laws;
 mod load;
 mod owners;
 mod parts;

@@ -1,0 +1,97 @@
+-- Nodes are read back from their parts.
+use Rattle.std.proofs.Common.{◌≡◌, ℕ, List, [], ◌∷◌, ◌++◌, map, Bool, Option, Some, None, refl, ap, sym, ◌∙◌, append_assoc, append-nil}
+use Rattle.bz_tree.specs.Tree.{Item, leaf, group, Items, no_items, item, Segs, no_segs, seg, Segment, Statement, items_of, list_of, segs_of, segments}
+use Rattle.bz_tree.specs.Rows.{RowPart, closing, segment_end, above, beside_part, item_parts, items_parts, segs_parts, parts_of}
+use Rattle.bz_tree.specs.FromParts.{Outer, Nest, beside_last, steps, nodes_of_parts}
+
+-- trees and lists, there and back
+pub listed_back : (xs : List Item) → list_of (items_of xs) ≡ xs
+listed_back [] = refl
+listed_back (x ∷ xs) = ap (λ ys. x ∷ ys) (listed_back xs)
+
+items_back : (xs : Items) → items_of (list_of xs) ≡ xs
+items_back no_items = refl
+items_back (item x xs) = ap (item x) (items_back xs)
+
+segs_back : (ss : Segs) → segs_of (segments ss) ≡ ss
+segs_back no_segs = refl
+segs_back (seg before nodes suffix ss) = λ i. seg before (items_back nodes i) suffix (segs_back ss i)
+
+abbrev segment : List (List ℕ) → List Item → Option (List ℕ) → Segment
+segment before nodes suffix = record { before = before; nodes = nodes; suffix = suffix }
+
+abbrev nest : List Segment → List (List ℕ) → List Item → List Outer → Nest
+nest segs comments nodes outer = record { here = record { segs = segs; comments = comments; nodes = nodes }; outer = outer }
+
+pub beside_push : (text : List ℕ) (ss : List Segment) (s : Segment) → beside_last text (ss ++ s ∷ []) ≡ ss ++ segment s.before s.nodes (Some text) ∷ []
+beside_push text [] s = refl
+beside_push text (r ∷ []) s = refl
+beside_push text (r ∷ q ∷ ss) s = ap (λ rs. r ∷ rs) (beside_push text (q ∷ ss) s)
+
+segs_joined : (ss : Segs) (end : List (List ℕ)) (one : Bool) (rest : List RowPart) → (segs_parts ss ++ (map above end ++ closing one ∷ [])) ++ rest ≡ segs_parts ss ++ (map above end ++ closing one ∷ rest)
+segs_joined ss end one rest = simp append_assoc
+
+seg_joined : (before : List (List ℕ)) (nodes : Items) (suffix : Option (List ℕ)) (ss : Segs) (rest : List RowPart) → segs_parts (seg before nodes suffix ss) ++ rest ≡ map above before ++ (items_parts nodes ++ (segment_end ∷ (beside_part suffix ++ (segs_parts ss ++ rest))))
+seg_joined before nodes suffix ss rest = simp append_assoc
+
+read_above : (notes : List (List ℕ)) (segs : List Segment) (comments : List (List ℕ)) (nodes : List Item) (outer : List Outer) (rest : List RowPart)
+    → steps (map above notes ++ rest) (nest segs comments nodes outer) ≡ steps rest (nest segs (comments ++ notes) nodes outer)
+read_above [] segs comments nodes outer rest = ap (λ cs. steps rest (nest segs cs nodes outer)) (sym (append-nil comments))
+read_above (note ∷ notes) segs comments nodes outer rest =
+    read_above notes segs (comments ++ note ∷ []) nodes outer rest ∙ ap (λ cs. steps rest (nest segs cs nodes outer)) (append_assoc comments (note ∷ []) notes)
+
+read_beside : (suffix : Option (List ℕ)) (segs : List Segment) (before : List (List ℕ)) (nodes : List Item) (outer : List Outer) (rest : List RowPart)
+    → steps (beside_part suffix ++ rest) (nest (segs ++ segment before nodes None ∷ []) [] [] outer) ≡ steps rest (nest (segs ++ segment before nodes suffix ∷ []) [] [] outer)
+read_beside None segs before nodes outer rest = refl
+read_beside (Some text) segs before nodes outer rest = ap (λ ss. steps rest (nest ss [] [] outer)) (beside_push text segs (segment before nodes None))
+
+mutual
+  read_item : (x : Item) (segs : List Segment) (comments : List (List ℕ)) (nodes : List Item) (outer : List Outer) (rest : List RowPart)
+      → steps (item_parts x ++ rest) (nest segs comments nodes outer) ≡ steps rest (nest segs comments (nodes ++ x ∷ []) outer)
+  read_item (leaf kind text) segs comments nodes outer rest = refl
+  read_item (group kind ss one_comma end) segs comments nodes outer rest =
+      let around = record { kind = kind; content = record { segs = segs; comments = comments; nodes = nodes } } ∷ outer in
+      let close = closing one_comma ∷ rest in
+      ap (λ ps. steps ps (nest [] [] [] around)) (segs_joined ss end one_comma rest)
+      ∙ (read_segs ss [] around (map above end ++ close)
+      ∙ (read_above end (segments ss) [] [] around close
+      ∙ ap (λ rs. steps rest (nest segs comments (nodes ++ group kind rs one_comma end ∷ []) outer)) (segs_back ss)))
+
+  read_items : (xs : Items) (segs : List Segment) (comments : List (List ℕ)) (nodes : List Item) (outer : List Outer) (rest : List RowPart)
+      → steps (items_parts xs ++ rest) (nest segs comments nodes outer) ≡ steps rest (nest segs comments (nodes ++ list_of xs) outer)
+  read_items no_items segs comments nodes outer rest = ap (λ ns. steps rest (nest segs comments ns outer)) (sym (append-nil nodes))
+  read_items (item x xs) segs comments nodes outer rest =
+      ap (λ ps. steps ps (nest segs comments nodes outer)) (append_assoc (item_parts x) (items_parts xs) rest)
+      ∙ (read_item x segs comments nodes outer (items_parts xs ++ rest)
+      ∙ (read_items xs segs comments (nodes ++ x ∷ []) outer rest
+      ∙ ap (λ ns. steps rest (nest segs comments ns outer)) (append_assoc nodes (x ∷ []) (list_of xs))))
+
+  read_segs : (ss : Segs) (segs : List Segment) (outer : List Outer) (rest : List RowPart) → steps (segs_parts ss ++ rest) (nest segs [] [] outer) ≡ steps rest (nest (segs ++ segments ss) [] [] outer)
+  read_segs no_segs segs outer rest = ap (λ rs. steps rest (nest rs [] [] outer)) (sym (append-nil segs))
+  read_segs (seg before nodes suffix ss) segs outer rest =
+      let after = segs_parts ss ++ rest in
+      let ended = segment_end ∷ (beside_part suffix ++ after) in
+      let s = segment before (list_of nodes) suffix in
+      ap (λ ps. steps ps (nest segs [] [] outer)) (seg_joined before nodes suffix ss rest)
+      ∙ (read_above before segs [] [] outer (items_parts nodes ++ ended)
+      ∙ (read_items nodes segs before [] outer ended
+      ∙ (read_beside suffix segs before (list_of nodes) outer after
+      ∙ (read_segs ss (segs ++ s ∷ []) outer rest
+      ∙ ap (λ rs. steps rest (nest rs [] [] outer)) (append_assoc segs (s ∷ []) (segments ss))))))
+
+abbrev nodes_in : Nest → List Item
+nodes_in n = n.here.nodes
+
+pub nodes_back : (xs : Items) → nodes_of_parts (items_parts xs) ≡ list_of xs
+nodes_back xs = ap nodes_in (ap (λ ps. steps ps (nest [] [] [] [])) (sym (append-nil (items_parts xs))) ∙ read_items xs [] [] [] [] [])
+
+-- a comment beside a statement is beside no segment
+suffix_left : (suffix : Option (List ℕ)) (comments : List (List ℕ)) (nodes : List Item) → steps (beside_part suffix) (nest [] comments nodes []) ≡ nest [] comments nodes []
+suffix_left None comments nodes = refl
+suffix_left (Some text) comments nodes = refl
+
+pub statement_back : (s : Statement) → nodes_of_parts (parts_of s) ≡ s.nodes
+statement_back s =
+    ap nodes_in (read_above s.before [] [] [] [] (items_parts (items_of s.nodes) ++ beside_part s.suffix)
+    ∙ (read_items (items_of s.nodes) [] s.before [] [] (beside_part s.suffix) ∙ suffix_left s.suffix s.before (list_of (items_of s.nodes))))
+    ∙ listed_back s.nodes
