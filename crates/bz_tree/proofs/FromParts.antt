@@ -1,6 +1,8 @@
 -- Nodes are read back from their parts.
-use Rattle.std.proofs.Common.{◌≡◌, ℕ, List, [], ◌∷◌, ◌++◌, map, Bool, Option, Some, None, refl, ap, sym, ◌∙◌, append_assoc, append-nil}
+use Rattle.std.proofs.Common.{◌≡◌, ℕ, zero, suc, List, [], ◌∷◌, ◌++◌, length, slice_index_or, slice_set, map, Bool, Option, Some, None, refl, ap, sym, ◌∙◌, append_assoc, append-nil, arith}
+use Rattle.bz_tree.specs.declared.stmt.Seg.{Seg}
 use Rattle.bz_tree.specs.Tree.{Item, leaf, group, Items, no_items, item, Segs, no_segs, seg, Segment, Statement, items_of, list_of, segs_of, segments}
+use Rattle.bz_tree.specs.View.{seg_view, segs_view}
 use Rattle.bz_tree.specs.Rows.{RowPart, closing, segment_end, above, beside_part, item_parts, items_parts, segs_parts, parts_of}
 use Rattle.bz_tree.specs.FromParts.{Outer, Nest, beside_last, steps, nodes_of_parts}
 
@@ -17,7 +19,7 @@ segs_back : (ss : Segs) → segs_of (segments ss) ≡ ss
 segs_back no_segs = refl
 segs_back (seg before nodes suffix ss) = λ i. seg before (items_back nodes i) suffix (segs_back ss i)
 
-abbrev segment : List (List ℕ) → List Item → Option (List ℕ) → Segment
+abbrev pub segment : List (List ℕ) → List Item → Option (List ℕ) → Segment
 segment before nodes suffix = record { before = before; nodes = nodes; suffix = suffix }
 
 abbrev nest : List Segment → List (List ℕ) → List Item → List Outer → Nest
@@ -27,6 +29,15 @@ pub beside_push : (text : List ℕ) (ss : List Segment) (s : Segment) → beside
 beside_push text [] s = refl
 beside_push text (r ∷ []) s = refl
 beside_push text (r ∷ q ∷ ss) s = ap (λ rs. r ∷ rs) (beside_push text (q ∷ ss) s)
+
+-- the last segment is written anew
+pub last_written : (text : List ℕ) (ss : List Seg) (i : ℕ) (s r : Seg) → suc i ≡ length ss → s ≡ slice_index_or ss i s → seg_view r ≡ segment (seg_view s).before (seg_view s).nodes (Some text)
+    → segs_view (slice_set ss i r) ≡ beside_last text (segs_view ss)
+last_written text [] i s r last here new = absurd (omega (arith, last))
+last_written text (x ∷ []) zero s r last here new = ap (λ z. z ∷ []) (new ∙ ap (λ (z : Seg). segment (seg_view z).before (seg_view z).nodes (Some text)) here)
+last_written text (x ∷ []) (suc i) s r last here new = absurd (omega (arith, last))
+last_written text (x ∷ y ∷ ss) zero s r last here new = absurd (omega (arith, last))
+last_written text (x ∷ y ∷ ss) (suc i) s r last here new = ap (λ zs. seg_view x ∷ zs) (last_written text (y ∷ ss) i s r (omega (arith, last)) here new)
 
 segs_joined : (ss : Segs) (end : List (List ℕ)) (one : Bool) (rest : List RowPart) → (segs_parts ss ++ (map above end ++ closing one ∷ [])) ++ rest ≡ segs_parts ss ++ (map above end ++ closing one ∷ rest)
 segs_joined ss end one rest = simp append_assoc

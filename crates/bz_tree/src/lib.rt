@@ -7,6 +7,7 @@ mod chunk;
 mod class;
 mod copy;
 mod fault;
+mod from_parts;
 mod grammar;
 mod kept;
 mod kinds;
@@ -24,6 +25,7 @@ mod stmt;
 
 pub use chunk::{parse, parse_tokens};
 pub use fault::ParseFault;
+pub use from_parts::nodes_of_parts;
 pub use parts::{push_nodes, push_parts};
 pub use role::Role;
 pub use row::{Part, Row};

@@ -1,0 +1,20 @@
+-- For private clauses: what the walk from parts to nodes holds.
+use Rattle.std.specs.Prelude.{List, map, reverse}
+use Rattle.bz_tree.specs.declared.from_parts.Inside.{Inside}
+use Rattle.bz_tree.specs.declared.from_parts.Around.{Around}
+use Rattle.bz_tree.specs.declared.from_parts.Nesting.{Nesting}
+use Rattle.bz_tree.specs.View.{texts, nodes_view, segs_view}
+use Rattle.bz_tree.specs.FromParts.{Content, Outer, Nest}
+
+abbrev pub content : Inside → Content
+content i = record { segs = segs_view i.segs.items; comments = texts i.comments.items; nodes = nodes_view i.nodes.items }
+
+abbrev pub outer_view : Around → Outer
+outer_view a = record { kind = a.kind; content = content a.inside }
+
+-- the innermost first
+abbrev pub outers : List Around → List Outer
+outers os = reverse (map outer_view os)
+
+abbrev pub nest : Nesting → Nest
+nest n = record { here = content n.here; outer = outers n.outer.items }

@@ -1,0 +1,167 @@
+//! The nodes that parts are of: one walk over the parts, with a stack of open brackets.
+
+ghost use Rattle.std.specs.Prelude.{◌≡◌, map, IfOk, OnOk};
+ghost use Rattle.bz_tree.specs.View.{node_view, nodes_view};
+ghost use Rattle.bz_tree.specs.Rows.{part_view};
+ghost use Rattle.bz_tree.specs.FromParts.{nothing, with_node, with_segment, with_beside, opened, closed, step, nodes_of_parts};
+ghost use Rattle.bz_tree.specs.private.PartSteps.{content, outers, nest};
+
+use crate::row::Part;
+use crate::stmt::{Group, GroupKind, Leaf, Node, Seg};
+use std::alloc::{AllocError, Global};
+use std::borrow::CowStr;
+use std::mem;
+
+// What stands in a bracket, or at the top, so far.
+#[derive(Drop)]
+pub(crate) struct Inside<'a> {
+    // The segments that have ended.
+    pub(crate) segs: Vec<Seg<'a>>,
+    // The comments after those.
+    pub(crate) comments: Vec<CowStr<'a>>,
+    // The nodes of the segment here.
+    pub(crate) nodes: Vec<Node<'a>>,
+}
+
+// A bracket that is open, and what stands before it in the one around it.
+#[derive(Drop)]
+pub(crate) struct Around<'a> {
+    pub(crate) kind: GroupKind,
+    pub(crate) inside: Inside<'a>,
+}
+
+#[derive(Drop)]
+pub(crate) struct Nesting<'a> {
+    pub(crate) here: Inside<'a>,
+    // The innermost is the last.
+    pub(crate) outer: Vec<Around<'a>>,
+}
+
+// No node of its segment follows, or no segment of its bracket.
+#[inline(always)]
+fn is_last(following: Option<&Part<'_>>) -> bool {
+    matches!(following, None | Some(Part::End | Part::Close(_)))
+}
+
+// What is alone takes no more room than it needs.
+#[inline(always)]
+fn reserve_nodes(nodes: &mut Vec<Node<'_>>, last: bool) -> Result<(), AllocError>
+    ensures { OnOk result (nodes.new.items ≡ nodes.old.items) }
+{
+    if last && nodes.is_empty() {
+        nodes.reserve_exact(1)?;
+    }
+    Ok(())
+}
+
+#[inline(always)]
+fn reserve_segs(segs: &mut Vec<Seg<'_>>, last: bool) -> Result<(), AllocError>
+    ensures { OnOk result (segs.new.items ≡ segs.old.items) }
+{
+    if last && segs.is_empty() {
+        segs.reserve_exact(1)?;
+    }
+    Ok(())
+}
+
+impl<'a> Inside<'a> {
+    #[inline(always)]
+    fn new(alloc: Global) -> Inside<'a>
+        ensures { content result ≡ nothing }
+    {
+        Inside {
+            segs: Vec::new(alloc),
+            comments: Vec::new(alloc),
+            nodes: Vec::new(alloc),
+        }
+    }
+
+    #[inline(always)]
+    fn add_node(&mut self, node: Node<'a>, last: bool) -> Result<(), AllocError>
+        ensures { OnOk result (content self.new ≡ with_node (node_view node.entry) (content self.old)) }
+    {
+        reserve_nodes(&mut self.nodes, last)?;
+        self.nodes.push(node)?;
+        Ok(())
+    }
+
+    fn end_segment(&mut self, alloc: Global, last: bool) -> Result<(), AllocError>
+        ensures { OnOk result (content self.new ≡ with_segment (content self.old)) }
+    {
+        reserve_segs(&mut self.segs, last)?;
+        self.segs.push(Seg {
+            before: mem::replace(&mut self.comments, Vec::new(alloc)),
+            nodes: mem::replace(&mut self.nodes, Vec::new(alloc)),
+            suffix: None,
+        })?;
+        Ok(())
+    }
+
+    fn put_beside(&mut self, text: &'a str)
+        ensures { content self.new ≡ with_beside text.now (content self.old) }
+    {
+        if let Some(seg) = self.segs.last_mut() {
+            seg.suffix = Some(CowStr::Borrowed(text));
+        }
+    }
+}
+
+impl<'a> Nesting<'a> {
+    fn open(&mut self, alloc: Global, kind: GroupKind) -> Result<(), AllocError>
+        ensures { OnOk result (nest self.new ≡ opened kind (nest self.old)) }
+    {
+        let inside = mem::replace(&mut self.here, Inside::new(alloc));
+        self.outer.push(Around { kind, inside })?;
+        Ok(())
+    }
+
+    fn close(&mut self, one_comma: bool, last: bool) -> Result<(), AllocError>
+        ensures { OnOk result (nest self.new
+            ≡ closed one_comma (content self.old.here) (outers self.old.outer.items)) }
+    {
+        let Some(Around { kind, inside }) = self.outer.pop() else {
+            return Ok(());
+        };
+        let Inside { segs, comments, .. } = mem::replace(&mut self.here, inside);
+        let group = Group {
+            kind,
+            segs,
+            one_comma,
+            end: comments,
+        };
+        self.here.add_node(Node::Group(group), last)
+    }
+
+    #[inline(always)]
+    fn step(&mut self, alloc: Global, part: Part<'a>, last: bool) -> Result<(), AllocError>
+        ensures { OnOk result (nest self.new ≡ step (part_view part.entry) (nest self.old)) }
+    {
+        match part {
+            Part::Token(kind, text) => {
+                let text = CowStr::Borrowed(text);
+                self.here.add_node(Node::Token(Leaf { kind, text }), last)?;
+            }
+            Part::Open(kind) => self.open(alloc, kind)?,
+            Part::Close(one_comma) => self.close(one_comma, last)?,
+            Part::End => self.here.end_segment(alloc, last)?,
+            Part::Above(text) => self.here.comments.push(CowStr::Borrowed(text))?,
+            Part::Beside(text) => self.here.put_beside(text),
+        }
+        Ok(())
+    }
+}
+
+/// The nodes whose parts these are, each text a slice of the same chunk. `Err`: memory was refused.
+pub fn nodes_of_parts<'a>(alloc: Global, parts: &[Part<'a>]) -> Result<Vec<Node<'a>>, AllocError>
+    ensures { IfOk result (λ nodes. nodes_view nodes.items ≡ nodes_of_parts (map part_view parts.now)) }
+{
+    let mut nesting = Nesting {
+        here: Inside::new(alloc),
+        outer: Vec::new(alloc),
+    };
+    for i in 0..parts.len() {
+        nesting.step(alloc, parts[i], is_last(parts.get(i + 1)))?;
+    }
+    let Nesting { here, .. } = nesting;
+    Ok(here.nodes)
+}
