@@ -13,7 +13,7 @@ use Rattle.bz_tree.specs.declared.row.Row.{Row}
 use Rattle.bz_tree.specs.declared.spot.Read.{Read}
 use Rattle.bz_tree.specs.Tree.{Item, Segment, Statement, items_of}
 use Rattle.bz_tree.specs.Kinds.{mark_of}
-use Rattle.bz_tree.specs.Statement.{class_of, first_token, first_seen, statement_with}
+use Rattle.bz_tree.specs.Statement.{class_of, first_token, first_seen, start_of, end_of, statement_with}
 use Rattle.bz_tree.specs.Blocks.{is_block_word}
 use Rattle.bz_tree.specs.Chunk.{begins_block, indent_at, IsOneOf, IsStatementIn}
 use Rattle.bz_tree.specs.Rows.{RowPart, above, beside_part, IsRowOf}
@@ -148,21 +148,25 @@ upright (Some t) ts h =
     let word : is_block_word t ≡ false = not_false (is_block_word t) p.1 in
     (rw (p.0, word) refl, word)
 
+-- the row has the lines of these tokens
+abbrev pub StandsOn : List Placed → Row → Type 0
+StandsOn ts row = (row.start ≡ start_of ts) × (row.end ≡ end_of ts)
+
 -- the row of a statement that stands upright
 abbrev pub IsRowIn : List Placed → Row → Type 0
 IsRowIn ts row = (first depth : ℕ) (bytes : List ℕ) → AreTokensOf first depth bytes ts → (s : Statement) × IsStatementIn first depth bytes s × IsRowOf s row
 
-upright_row : (ts : List Placed) (row : Row) → row_run row_start ts ≡ Some (row_view row) → IsSome (first_seen ts) → is_upright (first_token ts) ≡ true → IsRowIn ts row
-upright_row ts row same seen stands first depth bytes are =
+upright_row : (ts : List Placed) (row : Row) → row_run row_start ts ≡ Some (row_view row) → StandsOn ts row → IsSome (first_seen ts) → is_upright (first_token ts) ≡ true → IsRowIn ts row
+upright_row ts row same lines seen stands first depth bytes are =
     let found = row_found ts (row_view row) same in
     let s = statement_with ts found.segment in
     let p = upright (first_token ts) ts stands in
     let plain = plain_is ts found.segment s found.answer_is found.grammar refl in (
       s,
       record { tokens = ts; are = are; reads = record { upright = p.0; some = seen; chunk = subst (λ b. IsOneOf b first bytes ts s) (sym p.1) plain } },
-      record { parts = found.parts_are; class = found.class_is },
+      record { parts = found.parts_are; class = found.class_is; start = lines.0; end = lines.1 },
     )
 
-pub upright_rows : (ts : List Placed) (o : Option Row) → option_map row_view o ≡ row_run row_start ts → IsSome (first_seen ts) → is_upright (first_token ts) ≡ true → IfSome o (IsRowIn ts)
-upright_rows ts None same seen stands = tt
-upright_rows ts (Some row) same seen stands = upright_row ts row (sym same) seen stands
+pub upright_rows : (ts : List Placed) (start end : ℕ) (o : Option Row) → option_map row_view o ≡ row_run row_start ts → IfSome o (λ row. (row.start ≡ start) × (row.end ≡ end)) → start ≡ start_of ts → end ≡ end_of ts → IsSome (first_seen ts) → is_upright (first_token ts) ≡ true → IfSome o (IsRowIn ts)
+upright_rows ts start end None same lines starts ends seen stands = tt
+upright_rows ts start end (Some row) same lines starts ends seen stands = upright_row ts row (sym same) (lines.0 ∙ starts, lines.1 ∙ ends) seen stands

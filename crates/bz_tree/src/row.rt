@@ -24,4 +24,8 @@ pub enum Part<'a> {
 pub struct Row<'a> {
     pub parts: Vec<Part<'a>>,
     pub class: Class,
+    /// The line of its first token, comments not counted unless the class is Comment.
+    pub start: u64,
+    /// The line on which its last token ends, comments not counted unless the class is Comment.
+    pub end: u64,
 }

@@ -19,7 +19,7 @@ use crate::kinds::{Mark, Shape, group_kind, is_for_at, is_one, mark_of, same_sha
 use crate::owners::ends_on;
 use crate::role::{Role, sign_role, token_role};
 use crate::row::{Part, Row};
-use crate::span::{first_seen, first_token, newlines};
+use crate::span::{counted_end_of, first_seen, first_token, newlines, start_of};
 use crate::spot::{Here, Spot, shown_kind};
 use crate::stage::may_end;
 use crate::stmt::GroupKind;
@@ -225,16 +225,23 @@ impl<'a> RowWalk<'a> {
         }
     }
 
-    fn finish(self) -> Option<Row<'a>>
-        ensures { option_map row_view result
+    // The statement's first token is on the line `start`, and its last ends on `end`.
+    fn finish(self, start: u64, end: u64) -> Option<Row<'a>>
+        ensures row { option_map row_view result
             ≡ row_end self.entry.top.kind (row_state self.entry).outer (row_state self.entry) }
+        ensures lines { IfSome result (λ row. (row.start ≡ start) × (row.end ≡ end)) }
     {
         let RowWalk { parts, outer, top } = self;
         if top.kind.is_some() || !outer.is_empty() {
             return None;
         }
         let class = top.class(&parts)?;
-        Some(Row { parts, class })
+        Some(Row {
+            parts,
+            class,
+            start,
+            end,
+        })
     }
 }
 
@@ -267,9 +274,15 @@ fn is_upright(tokens: &[Token<'_>]) -> bool
     }
 }
 
-// The row of the tokens.
-fn row_of<'a>(alloc: Global, tokens: &[Token<'a>]) -> Result<Option<Row<'a>>, AllocError>
-    ensures { IfOk result (λ o. option_map row_view o ≡ row_run row_start (map placed tokens.now)) }
+// The row of the tokens, which stand on these lines.
+fn row_of<'a>(
+    alloc: Global,
+    tokens: &[Token<'a>],
+    start: u64,
+    end: u64,
+) -> Result<Option<Row<'a>>, AllocError>
+    ensures { IfOk result (λ o. (option_map row_view o ≡ row_run row_start (map placed tokens.now))
+        × IfSome o (λ row. (row.start ≡ start) × (row.end ≡ end))) }
 {
     let mut walk = RowWalk {
         parts: Vec::with_capacity(alloc, tokens.len().saturating_add(tokens.len() / 4))?,
@@ -281,7 +294,7 @@ fn row_of<'a>(alloc: Global, tokens: &[Token<'a>]) -> Result<Option<Row<'a>>, Al
             return Ok(None);
         }
     }
-    Ok(walk.finish())
+    Ok(walk.finish(start, end))
 }
 
 /// The row of the statement that these tokens of a chunk are. None: the chunk is blank or indented wrongly, no
@@ -296,5 +309,8 @@ pub fn read_row<'a>(alloc: Global, tokens: &[Token<'a>]) -> Result<Option<Row<'a
     if first_seen(tokens).is_none() || !is_upright(tokens) {
         return Ok(None);
     }
-    row_of(alloc, tokens)
+    let Some(end) = counted_end_of(tokens) else {
+        return Ok(None);
+    };
+    row_of(alloc, tokens, start_of(tokens), end)
 }
