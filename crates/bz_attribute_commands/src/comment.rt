@@ -152,30 +152,15 @@ fn comment_in_list(
         (node_view node.old)) }
     ensures err { OnErr result (node_view node.new ≡ node_view node.old) }
 {
-    match node {
-        Node::Token(_) => Ok(()),
-        Node::Group(group) => {
-            comment_first(alloc, home, value, text, &mut group.segs)?;
-            Ok(())
-        }
-    }
-}
-
-fn comment_first(
-    alloc: Global,
-    home: &Package,
-    value: &str,
-    text: &str,
-    elements: &mut [Seg<'_>],
-) -> Result<(), AllocError>
-    ensures ok { OnOk result (segs_view elements.new ≡ edit_first (equals home.now value.now)
-        (λ s. spec.with_comment (spec.comment_line text.now) s ∷ []) (segs_view elements.old)) }
-    ensures err { OnErr result (segs_view elements.new ≡ segs_view elements.old) }
-{
+    let Node::Group(group) = node else {
+        return Ok(());
+    };
+    let elements = group.segs.as_mut_slice();
     let Some(i) = find_equal(home, value, elements) else {
         return Ok(());
     };
-    push_line(alloc, text, &mut elements[i].before)
+    push_line(alloc, text, &mut elements[i].before)?;
+    Ok(())
 }
 
 // Adds the comment line of a text. An `Err` leaves the lines as they were.

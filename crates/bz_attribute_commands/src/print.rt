@@ -36,12 +36,10 @@ pub fn print(
     let Some(stmt) = slot else {
         return Ok(Done::quiet(false));
     };
-    let Some(rule) = rule_of(&stmt.nodes) else {
-        return Ok(Done::quiet(false));
-    };
-    match fields {
-        [] => print_name_and_kind(alloc, rule),
-        [_, ..] => print_fields(alloc, home, fields, stmt, rule),
+    match (rule_of(&stmt.nodes), fields) {
+        (None, _) => Ok(Done::quiet(false)),
+        (Some(rule), []) => print_name_and_kind(alloc, rule),
+        (Some(rule), _) => print_fields(alloc, home, fields, stmt, rule),
     }
 }
 
@@ -163,10 +161,16 @@ fn push_attribute<'f>(
 fn push_value(alloc: Global, text: &mut String, value: &[Node<'_>]) -> Result<(), AllocError>
     ensures { OnOk result (string_bytes text.new ≡ string_bytes text.old ++ spec.value_text (nodes_view value.now)) }
 {
-    match read_string(alloc, value)? {
-        Some(word) => push_word(alloc, text, word.as_str()),
-        None => push_list(alloc, text, value),
+    if let Some(word) = read_string(alloc, value)? {
+        return push_word(alloc, text, word.as_str());
     }
+    let Some(elements) = words_in(value) else {
+        let line = flat(alloc, value, Some(GroupKind::RuleCall))?;
+        return text.push_str(line.as_str());
+    };
+    text.push('[')?;
+    push_elements(alloc, text, elements)?;
+    text.push(']')
 }
 
 fn read_string(alloc: Global, nodes: &[Node<'_>]) -> Result<Option<String>, AllocError>
@@ -177,18 +181,6 @@ fn read_string(alloc: Global, nodes: &[Node<'_>]) -> Result<Option<String>, Allo
         return Ok(None);
     };
     read_value(alloc, literal)
-}
-
-fn push_list(alloc: Global, text: &mut String, value: &[Node<'_>]) -> Result<(), AllocError>
-    ensures { OnOk result (string_bytes text.new ≡ string_bytes text.old ++ spec.list_text (nodes_view value.now)) }
-{
-    let Some(elements) = words_in(value) else {
-        let line = flat(alloc, value, Some(GroupKind::RuleCall))?;
-        return text.push_str(line.as_str());
-    };
-    text.push('[')?;
-    push_elements(alloc, text, elements)?;
-    text.push(']')
 }
 
 // The elements of what is one list of strings with values.

@@ -54,16 +54,15 @@ fn in_nodes(alloc: Global, kind: &str, nodes: &mut Vec<Node<'_>>) -> Result<Done
 }
 
 // The tokens of a kind.
-fn kind_nodes<'a>(alloc: Global, kind: &str) -> Result<Vec<Node<'a>>, AllocError>
+fn kind_nodes<'a>(alloc: Global, mut kind: &str) -> Result<Vec<Node<'a>>, AllocError>
     ensures { IfOk result (λ nodes. nodes_view nodes.items ≡ spec.kind_items kind.now) }
 {
     let mut nodes = Vec::new(alloc);
-    let mut left = kind;
-    while let Some((name, rest)) = cut(left, '.') {
+    while let Some((name, rest)) = cut(kind, '.') {
         nodes.push(token(alloc, Kind::Ident, name)?)?;
         nodes.push(token(alloc, Kind::Sign, ".")?)?;
-        left = rest;
+        kind = rest;
     }
-    nodes.push(token(alloc, Kind::Ident, left)?)?;
+    nodes.push(token(alloc, Kind::Ident, kind)?)?;
     Ok(nodes)
 }

@@ -27,14 +27,13 @@ pub fn value_of(text: &str) -> Option<Bytes<'_>>
 }
 
 // What is left is closed, and each unit of it has a value.
-fn has_end(literal: Literal<'_>) -> bool
+fn has_end(mut literal: Literal<'_>) -> bool
     ensures { result ≡ is_some (inner_of literal.entry) }
 {
-    let mut left = literal;
-    while let Some((_, after)) = next_in(left) {
-        left = after;
+    while let Some((_, after)) = next_in(literal) {
+        literal = after;
     }
-    is_at_end(left)
+    is_at_end(literal)
 }
 
 /// The next byte, and what is left after it.
@@ -46,9 +45,6 @@ pub(crate) fn next<'a>(bytes: Bytes<'a>) -> Option<(u8, Bytes<'a>)>
     match bytes {
         Bytes::Plain([]) => None,
         Bytes::Plain([b, rest @ ..]) => Some((*b, Bytes::Plain(rest))),
-        Bytes::Inner(literal) => {
-            let (b, after) = next_in(literal)?;
-            Some((b, Bytes::Inner(after)))
-        }
+        Bytes::Inner(literal) => next_in(literal).map(|(b, after)| (b, Bytes::Inner(after))),
     }
 }

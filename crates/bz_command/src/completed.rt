@@ -106,54 +106,47 @@ fn is_path(text: Bytes<'_>) -> bool
     next(text).is_some_and(|(b, rest)| b == b'/' && starts_with(rest, b'/')) && !has_colon(text)
 }
 
-fn has_colon(text: Bytes<'_>) -> bool
+fn has_colon(mut text: Bytes<'_>) -> bool
     requires { IsTrue (is_good text) }
     ensures { result ≡ list_any is_colon (left text.entry) }
 {
-    let mut rest = text;
-    while let Some((b, after)) = next(rest) {
+    while let Some((b, after)) = next(text) {
         if b == b':' {
             return true;
         }
-        rest = after;
+        text = after;
     }
     false
 }
 
 // What stands after the last slash.
-fn last_part<'a>(path: Bytes<'a>) -> Bytes<'a>
+fn last_part<'a>(mut path: Bytes<'a>) -> Bytes<'a>
     requires { IsTrue (is_good path) }
     ensures last { left result ≡ last_of (parts_of (left path.entry)) }
     ensures good { IsTrue (is_good result) }
 {
     let mut last = path;
-    let mut rest = path;
-    while let Some((b, after)) = next(rest) {
+    while let Some((b, after)) = next(path) {
         if b == b'/' {
             last = after;
         }
-        rest = after;
+        path = after;
     }
     last
 }
 
 /// The two have the same bytes.
-pub(crate) fn equal(a: Chain<'_>, b: Chain<'_>) -> bool
+pub(crate) fn equal(mut a: Chain<'_>, mut b: Chain<'_>) -> bool
     requires a { IsTrue (is_good_chain a) }
     requires b { IsTrue (is_good_chain b) }
     ensures { result ≡ bytes_eq (chain_bytes a.entry) (chain_bytes b.entry) }
 {
-    let mut a = a;
-    let mut b = b;
     while let Some((byte, after)) = next_in(a) {
-        let Some((other, following)) = next_in(b) else {
-            return false;
-        };
-        if byte != other {
-            return false;
+        match next_in(b) {
+            Some((other, following)) if byte == other => b = following,
+            _ => return false,
         }
         a = after;
-        b = following;
     }
     next_in(b).is_none()
 }
@@ -174,8 +167,6 @@ fn next_in<'a>(chain: Chain<'a>) -> Option<(u8, Chain<'a>)>
     if let [b, colon @ ..] = chain.colon {
         return Some((*b, Chain { colon, ..chain }));
     }
-    if let Some((b, name)) = next(chain.name) {
-        return Some((b, Chain { name, ..chain }));
-    }
-    None
+    let (b, name) = next(chain.name)?;
+    Some((b, Chain { name, ..chain }))
 }

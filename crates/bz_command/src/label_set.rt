@@ -72,7 +72,7 @@ fn write_chain<H: Hasher>(chain: Chain<'_>, state: &mut H)
     write_bytes(chain.name, state);
 }
 
-fn write_bytes<H: Hasher>(bytes: Bytes<'_>, state: &mut H)
+fn write_bytes<H: Hasher>(mut bytes: Bytes<'_>, state: &mut H)
     requires { IsTrue (is_good bytes) }
     ensures { state.new ≡ fold H.write state.old (map (λ b. b ∷ []) (left bytes.entry)) }
 {
@@ -80,10 +80,9 @@ fn write_bytes<H: Hasher>(bytes: Bytes<'_>, state: &mut H)
         write_slice(slice, state);
         return;
     }
-    let mut rest = bytes;
-    while let Some((b, after)) = next(rest) {
+    while let Some((b, after)) = next(bytes) {
         state.write_u8(b);
-        rest = after;
+        bytes = after;
     }
 }
 
@@ -108,10 +107,8 @@ impl<'a> LabelSet<'a> {
         ensures home { result.home.now ≡ home.now }
         ensures empty { (text : List ℕ) → spec.has result text ≡ false }
     {
-        LabelSet {
-            home,
-            labels: HashSet::new(alloc),
-        }
+        let labels = HashSet::new(alloc);
+        LabelSet { home, labels }
     }
 
     /// The set is of this package.
@@ -132,12 +129,8 @@ impl<'a> LabelSet<'a> {
         ensures err { OnErr result ((other : List ℕ) → spec.has self.new other ≡ spec.has self.old other) }
         ensures home { self.new.home.now ≡ self.old.home.now }
     {
-        let label = Label {
-            home: self.home,
-            text,
-        };
-        let new = self.labels.insert(label)?;
-        Ok(new)
+        let home = self.home;
+        Ok(self.labels.insert(Label { home, text })?)
     }
 
     /// A label of the set is the same as the text.
@@ -145,10 +138,7 @@ impl<'a> LabelSet<'a> {
         requires { IsTrue (is_good text) }
         ensures { result ≡ spec.has self.now (left text.entry) }
     {
-        let label = Label {
-            home: self.home,
-            text,
-        };
-        self.labels.contains(&label)
+        let home = self.home;
+        self.labels.contains(&Label { home, text })
     }
 }

@@ -38,12 +38,10 @@ impl From<AllocError> for LabelFault {
 pub fn read_label(alloc: Global, text: &str) -> Result<(Package, Target), LabelFault>
     ensures { result ≢ Err LabelFault.OutOfMemory → result ≡ spec.label_of text.now }
 {
-    let Some((package, target)) = text.split_once(':') else {
-        return read_named(alloc, text);
-    };
-    let package = read_package(alloc, package)?;
-    let target = read_target(alloc, target)?;
-    Ok((package, target))
+    match text.split_once(':') {
+        Some((package, target)) => Ok((read_package(alloc, package)?, read_target(alloc, target)?)),
+        None => read_named(alloc, text),
+    }
 }
 
 // A label without a colon.
@@ -61,14 +59,13 @@ fn read_named(alloc: Global, text: &str) -> Result<(Package, Target), LabelFault
 }
 
 // What stands after the last slash.
-pub(crate) fn last_part(path: &str) -> &str
+fn last_part(mut path: &str) -> &str
     ensures { result.now ≡ spec.last_of (spec.parts_of path.now) }
 {
-    let mut last = path;
-    while let Some((_, rest)) = cut(last, '/') {
-        last = rest;
+    while let Some((_, rest)) = cut(path, '/') {
+        path = rest;
     }
-    last
+    path
 }
 
 fn read_package(alloc: Global, text: &str) -> Result<Package, LabelFault>

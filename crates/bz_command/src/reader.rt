@@ -223,10 +223,8 @@ fn field(word: Text) -> Field
 fn attribute(word: Text) -> Result<Text, CommandFault>
     ensures { result ≡ attribute_of word }
 {
-    if !is_identifier(word.as_str()) {
-        return Err(CommandFault::BadAttribute);
-    }
-    Ok(word)
+    let is_name = is_identifier(word.as_str());
+    is_name.then_some(word).ok_or(CommandFault::BadAttribute)
 }
 
 // A star means every attribute.
@@ -258,8 +256,6 @@ fn some_words(words: Vec<Text>) -> Result<Seq<Text>, CommandFault>
 fn no_words(words: Vec<Text>) -> Result<(), CommandFault>
     ensures { result ≡ none_of words.items }
 {
-    if words.len() != 0 {
-        return Err(CommandFault::WrongCount);
-    }
-    Ok(())
+    let are_none = words.len() == 0;
+    are_none.then_some(()).ok_or(CommandFault::WrongCount)
 }

@@ -15,10 +15,7 @@ use std::alloc::{AllocError, Global};
 pub fn value_is(token: &Token<'_>, value: &str) -> bool
     ensures { IsTrue result ↔ (spec.token_value token.now ≡ Some value.now) }
 {
-    match token.kind {
-        Kind::Text => has_value(token.text.as_bytes(), value.as_bytes()),
-        _ => false,
-    }
+    matches!(token.kind, Kind::Text) && has_value(token.text.as_bytes(), value.as_bytes())
 }
 
 /// The string literal that is written for a value, in double quotes. Its value is the value again.
@@ -52,10 +49,7 @@ pub fn plain_text(text: &str) -> Option<&str>
     ensures { IfSome result (λ value. spec.value_of text.now ≡ Some value.now) }
 {
     let inner = between_quotes(text)?;
-    if !has_value(text.as_bytes(), inner.as_bytes()) {
-        return None;
-    }
-    Some(inner)
+    has_value(text.as_bytes(), inner.as_bytes()).then_some(inner)
 }
 
 fn between_quotes(text: &str) -> Option<&str> {
@@ -69,13 +63,10 @@ fn between_quotes(text: &str) -> Option<&str> {
 pub fn has_value(text: &[u8], value: &[u8]) -> bool
     ensures { result ≡ is_value value.now (spec.value_of text.now) }
 {
-    open(text).is_some_and(|literal| literal_is(literal, value))
-}
-
-// A value without escapes is compared at once.
-fn literal_is(literal: Literal<'_>, value: &[u8]) -> bool
-    ensures { result ≡ is_value value.now (inner_of literal.entry) }
-{
+    let Some(literal) = open(text) else {
+        return false;
+    };
+    // A value without escapes is compared at once.
     match plain_value(literal) {
         Some(plain) => value == plain,
         None => inner_is(literal, value),
@@ -83,17 +74,15 @@ fn literal_is(literal: Literal<'_>, value: &[u8]) -> bool
 }
 
 // What is left of the literal has this value.
-fn inner_is(literal: Literal<'_>, value: &[u8]) -> bool
+fn inner_is(mut literal: Literal<'_>, mut value: &[u8]) -> bool
     ensures { result ≡ is_value value.now (inner_of literal.entry) }
 {
-    let mut inner = literal;
-    let mut left = value;
-    while let Some((byte, after)) = next_in(inner) {
-        let Some(rest) = left.strip_prefix(&[byte]) else {
+    while let Some((byte, after)) = next_in(literal) {
+        let Some(rest) = value.strip_prefix(&[byte]) else {
             return false;
         };
-        left = rest;
-        inner = after;
+        value = rest;
+        literal = after;
     }
-    is_at_end(inner) && left.len() == 0
+    is_at_end(literal) && value.len() == 0
 }

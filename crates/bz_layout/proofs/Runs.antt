@@ -1,5 +1,6 @@
 -- The walk forwards over parts writes the pieces of their tree.
-use Rattle.std.proofs.Common.{◌≡◌, codes, ℕ, ◌+◌, ◌-◌, List, [], ◌∷◌, ◌++◌, map, Bool, true, false, if◌then◌else◌, Option, Some, None, refl, ap, ◌∙◌, append_assoc, append-nil, arith}
+use Rattle.std.proofs.Common.{◌≡◌, codes, bytes_eq, ℕ, ◌+◌, ◌-◌, List, [], ◌∷◌, ◌++◌, map, Bool, true, false, not, ◌||◌, if◌then◌else◌, inl, inr, Option, Some, None, refl, ap, ◌∙◌, append_assoc, append-nil, arith}
+use Rattle.std.proofs.lemmas.Bool.{cases_Bool}
 use Rattle.bz_token.specs.declared.token.Kind.TheVariants.{Sign}
 use Rattle.bz_tree.specs.declared.stmt.GroupKind.{GroupKind}
 use Rattle.bz_tree.specs.Tree.{Item, leaf, group, Items, no_items, item, Segs, no_segs, seg}
@@ -13,10 +14,10 @@ use Rattle.bz_layout.specs.declared.spacing.Gap.TheVariants.{Closed, Space, Line
 use Rattle.bz_layout.specs.declared.broken.Style.{Style}
 use Rattle.bz_layout.specs.declared.broken.Style.TheVariants.{Flat, Broken}
 use Rattle.bz_layout.specs.Broken.{count, is_broken, segs_hold}
-use Rattle.bz_layout.specs.Spacing.{edge_after, gap_before, hugs}
+use Rattle.bz_layout.specs.Spacing.{edge_after, sign_edge, is_prefix, begins_argument, is_index_colon, gap_before, hugs}
 use Rattle.bz_layout.specs.Pieces.{Piece, piece, gap_bytes, bytes_of, comma_if, comments, suffix_piece}
 use Rattle.bz_layout.specs.Layout.{breaks, has_commas, item_pieces, items_pieces, broken_segs, flat_segs, opening as opening_text, closing as closing_text}
-use Rattle.bz_layout.specs.private.RowLayout.{Laid, gap_for, run, whole, first_frame, tail, comma_bytes, is_last, ended, first_gap, level_in}
+use Rattle.bz_layout.specs.private.RowLayout.{Laid, gap_for, run, whole, first_frame, tail, comma_bytes, due, is_start, step, first_gap, level_in}
 use Rattle.bz_layout.proofs.Rules.{gap_is}
 use Rattle.bz_layout.proofs.Pieces.{bytes_append}
 use Rattle.bz_layout.proofs.Scans.{mark_as, item_marks, items_marks, segs_marks}
@@ -35,9 +36,6 @@ broken_frame kind comma = record { within = Some kind; mark = record { broken = 
 abbrev flat_frame : GroupKind → Bool → Bool → Frame
 flat_frame kind later comma = record { within = Some kind; mark = record { broken = false; comma = comma }; later = later }
 
-abbrev flat_gap : Bool → Gap
-flat_gap later = if later then Space else Closed
-
 -- in flat text the walk has no marks, so that no bracket is broken
 abbrev pub supply : Style → List Mark → List Mark
 supply Flat ms = []
@@ -46,11 +44,6 @@ supply Broken ms = ms
 abbrev mark_in : Style → Mark → Mark
 mark_in Flat m = whole
 mark_in Broken m = m
-
--- segments in place from one on, its comma written
-abbrev flat_from : Style → ℕ → GroupKind → Gap → Segs → List Piece
-flat_from style n kind gap no_segs = []
-flat_from style n kind gap (seg before nodes suffix ss) = items_pieces style n (Some kind) gap Start nodes ++ flat_segs style n kind false ss
 
 down : (n : ℕ) → n + 1 - 1 ≡ n
 down n = omega arith
@@ -79,31 +72,69 @@ segs_joined ss end one rest = simp append_assoc
 seg_joined : (before : List (List ℕ)) (nodes : Items) (suffix : Option (List ℕ)) (ss : Segs) (rest : List RowPart) → segs_parts (seg before nodes suffix ss) ++ rest ≡ map above before ++ (items_parts nodes ++ (segment_end ∷ (beside_part suffix ++ (segs_parts ss ++ rest))))
 seg_joined before nodes suffix ss rest = simp append_assoc
 
-not_last : (before : List (List ℕ)) (nodes : Items) (suffix : Option (List ℕ)) (ss : Segs) (rest : List RowPart) → is_last (segs_parts (seg before nodes suffix ss) ++ rest) ≡ false
-not_last (note ∷ before) nodes suffix ss rest = not_last before nodes suffix ss rest
-not_last [] no_items suffix ss rest = refl
-not_last [] (item (leaf kind text) xs) suffix ss rest = refl
-not_last [] (item (group kind segs one_comma end) xs) suffix ss rest = refl
+-- what is due before nodes
+abbrev due_at : Edge → Items → List ℕ
+due_at left no_items = []
+due_at left (item x xs) = comma_bytes (is_start left)
 
-beside_last : (suffix : Option (List ℕ)) (ps : List RowPart) → is_last (beside_part suffix ++ ps) ≡ is_last ps
-beside_last None ps = refl
-beside_last (Some note) ps = refl
+abbrev pub due_items : Frame → Edge → Items → List ℕ
+due_items f left xs = if f.mark.broken then [] else (if f.later then due_at left xs else [])
 
-above_last : (notes : List (List ℕ)) (one : Bool) (rest : List RowPart) → is_last (map above notes ++ closing one ∷ rest) ≡ true
-above_last [] one rest = refl
-above_last (note ∷ notes) one rest = above_last notes one rest
+nothing_due : (broken later : Bool) (none : List ℕ) → none ≡ [] → (if broken then [] else (if later then none else [])) ≡ []
+nothing_due true later none h = refl
+nothing_due false true none h = h
+nothing_due false false none h = refl
+
+-- nothing is due after a node
+sign_leaves : (within : Option GroupKind) (left : Edge) (text : List ℕ) → is_start (sign_edge within left text) ≡ false
+sign_leaves within left text = elim (cases_Bool (bytes_eq text (codes "."))) [
+  | inl is ↦ rw is refl
+  | inr other ↦ elim (cases_Bool (is_prefix left text || begins_argument within left text || is_index_colon within text)) [
+    | inl holds ↦ rw (other, holds) refl
+    | inr free ↦ rw (other, free) refl
+  ]
+]
+
+item_leaves : (within : Option GroupKind) (left : Edge) (x : Item) → is_start (edge_after within left x) ≡ false
+item_leaves within left (group kind segs one_comma end) = refl
+item_leaves within left (leaf Sign text) = sign_leaves within left text
+item_leaves within left (leaf _ text) = refl
+
+items_leave : (within : Option GroupKind) (left : Edge) (xs : Items) → is_start left ≡ false → is_start (last_edge within left xs) ≡ false
+items_leave within left no_items h = h
+items_leave within left (item x xs) h = items_leave within (edge_after within left x) xs (item_leaves within left x)
+
+not_at : (left : Edge) (xs : Items) → is_start left ≡ false → due_at left xs ≡ []
+not_at left no_items h = refl
+not_at left (item x xs) h = rw h refl
+
+not_due : (f : Frame) (left : Edge) (xs : Items) → is_start left ≡ false → due_items f left xs ≡ []
+not_due f left xs h = nothing_due f.mark.broken f.later (due_at left xs) (not_at left xs h)
 
 -- a text that is written in two goes
-two : (t : List ℕ) (ps qs : List Piece) → (t ++ bytes_of ps) ++ bytes_of qs ≡ t ++ bytes_of (ps ++ qs)
-two t ps qs = rw (bytes_append ps qs) (append_assoc t (bytes_of ps) (bytes_of qs))
+two : (t d e : List ℕ) (ps qs : List Piece) → e ≡ [] → (t ++ (d ++ bytes_of ps)) ++ (e ++ bytes_of qs) ≡ t ++ (d ++ bytes_of (ps ++ qs))
+two t d e ps qs none = rw (none, bytes_append ps qs) (simp append_assoc)
+
+-- a segment in place, its comma before it
+abbrev in_place : Style → ℕ → GroupKind → Bool → Items → List Piece
+in_place style n kind first nodes =
+    if first then items_pieces style n (Some kind) Closed Start nodes else piece Closed Sign (codes ",") ∷ items_pieces style n (Some kind) Space Start nodes
+
+in_place_text : (style : Style) (n : ℕ) (kind : GroupKind) (later comma : Bool) (nodes : Items) (t : List ℕ) →
+    (t ++ (due_items (flat_frame kind later comma) Start nodes ++ bytes_of (items_pieces style n (Some kind) (first_gap (flat_frame kind later comma) n) Start nodes))) ++ due (flat_frame kind later comma) (last_edge (Some kind) Start nodes)
+    ≡ t ++ bytes_of (in_place style n kind (not later) nodes)
+in_place_text style n kind false comma nodes t = append-nil (t ++ bytes_of (items_pieces style n (Some kind) Closed Start nodes))
+in_place_text style n kind true comma no_items t = rw (append-nil t) refl
+in_place_text style n kind true comma (item x xs) t =
+    rw (items_leave (Some kind) (edge_after (Some kind) Start x) xs (item_leaves (Some kind) Start x))
+    (append-nil (t ++ (44 ∷ bytes_of (items_pieces style n (Some kind) Space Start (item x xs)))))
+
+next_text : (t : List ℕ) (a b : List Piece) (end : List ℕ) → (t ++ bytes_of a) ++ (bytes_of b ++ end) ≡ t ++ (bytes_of (a ++ b) ++ end)
+next_text t a b end = rw (bytes_append a b) (simp append_assoc)
 
 comma_is : (b : Bool) → comma_bytes b ≡ bytes_of (comma_if b)
 comma_is true = refl
 comma_is false = refl
-
-flat_is : (style : Style) (n : ℕ) (kind : GroupKind) (ss : Segs) → flat_from style n kind Closed ss ≡ flat_segs style n kind true ss
-flat_is style n kind no_segs = refl
-flat_is style n kind (seg before nodes suffix ss) = refl
 
 broken_seg_text : (t : List ℕ) (a b : List Piece) (comma : Bool) (c d : List Piece) → (((((t ++ bytes_of a) ++ bytes_of b) ++ comma_bytes comma) ++ bytes_of c) ++ bytes_of d) ≡ t ++ bytes_of (a ++ (b ++ (comma_if comma ++ (c ++ d))))
 broken_seg_text t a b comma c d = rw (comma_is comma, bytes_append a (b ++ (comma_if comma ++ (c ++ d))), bytes_append b (comma_if comma ++ (c ++ d)), bytes_append (comma_if comma) (c ++ d), bytes_append c d) (simp append_assoc)
@@ -121,13 +152,13 @@ group_rest style b n kind segs one end =
     then broken_segs style (n + 1) kind (has_commas kind one (count segs)) segs ++ (comments (n + 1) end ++ piece (Line n) Sign (closing_text kind) ∷ [])
     else flat_segs style n kind true segs ++ (comma_if one ++ piece Closed Sign (closing_text kind) ∷ [])
 
-abbrev opening_bytes : Gap → GroupKind → List ℕ
-opening_bytes gap kind = gap_bytes gap ++ opening_text kind
+abbrev opening_bytes : List ℕ → Gap → GroupKind → List ℕ
+opening_bytes d gap kind = d ++ (gap_bytes gap ++ opening_text kind)
 
 -- a bracket opens, and its mark is taken
 opens : (style : Style) (m : Mark) (marks : List Mark) (kind : GroupKind) (ps : List RowPart) (t : List ℕ) (o : List Frame) (h : Frame) (l : Edge) (n : ℕ) →
     run (opening kind ∷ ps) (at t (supply style (m ∷ marks)) o h l n)
-    ≡ run ps (at (t ++ opening_bytes (gap_for (first_gap h n) l (hugs kind)) kind) (supply style marks) (h ∷ o) (record { within = Some kind; mark = mark_in style m; later = false }) Start (level_in (mark_in style m) n))
+    ≡ run ps (at (t ++ opening_bytes (due h l) (gap_for (first_gap h n) l (hugs kind)) kind) (supply style marks) (h ∷ o) (record { within = Some kind; mark = mark_in style m; later = false }) Start (level_in (mark_in style m) n))
 opens Flat m marks kind ps t o h l n = refl
 opens Broken m marks kind ps t o h l n = refl
 
@@ -138,27 +169,27 @@ BrokenRuns style ss rest t ms o kind comma n =
 
 abbrev FlatRuns : Style → Segs → List (List ℕ) → List RowPart → List ℕ → List Mark → List Frame → GroupKind → Bool → Bool → Bool → ℕ → Type 0
 FlatRuns style ss end rest t ms o kind comma one later n =
-    run (segs_parts ss ++ (map above end ++ closing one ∷ rest)) (at t (supply style (segs_marks ss ++ ms)) o (flat_frame kind later comma) Start n) ≡ run rest (at (t ++ (bytes_of (flat_from style n kind (flat_gap later) ss) ++ (comma_bytes one ++ closing_text kind))) (supply style ms) (tail o) (first_frame o) Operand n)
+    run (segs_parts ss ++ (map above end ++ closing one ∷ rest)) (at t (supply style (segs_marks ss ++ ms)) o (flat_frame kind later comma) Start n) ≡ run rest (at (t ++ (bytes_of (flat_segs style n kind (not later) ss) ++ (comma_bytes one ++ closing_text kind))) (supply style ms) (tail o) (first_frame o) Operand n)
 
 -- a group in place, where its mark has any comma
-run_in_place : (style : Style) (comma : Bool) (kind : GroupKind) (segs : Segs) (one : Bool) (end : List (List ℕ)) (rest : List RowPart) (t : List ℕ) (ms : List Mark) (o : List Frame) (h : Frame) (gap : Gap) (n : ℕ) →
-    FlatRuns style segs end rest (t ++ opening_bytes gap kind) ms (h ∷ o) kind comma one false n →
-    run ((segs_parts segs ++ (map above end ++ closing one ∷ [])) ++ rest) (at (t ++ opening_bytes gap kind) (supply style (segs_marks segs ++ ms)) (h ∷ o) (flat_frame kind false comma) Start n)
-    ≡ run rest (at (t ++ (opening_bytes gap kind ++ bytes_of (group_rest style false n kind segs one end))) (supply style ms) o h Operand n)
-run_in_place style comma kind segs one end rest t ms o h gap n flat =
-    let begun = opening_bytes gap kind in
+run_in_place : (style : Style) (comma : Bool) (kind : GroupKind) (segs : Segs) (one : Bool) (end : List (List ℕ)) (rest : List RowPart) (t : List ℕ) (ms : List Mark) (o : List Frame) (h : Frame) (d : List ℕ) (gap : Gap) (n : ℕ) →
+    FlatRuns style segs end rest (t ++ opening_bytes d gap kind) ms (h ∷ o) kind comma one false n →
+    run ((segs_parts segs ++ (map above end ++ closing one ∷ [])) ++ rest) (at (t ++ opening_bytes d gap kind) (supply style (segs_marks segs ++ ms)) (h ∷ o) (flat_frame kind false comma) Start n)
+    ≡ run rest (at (t ++ (opening_bytes d gap kind ++ bytes_of (group_rest style false n kind segs one end))) (supply style ms) o h Operand n)
+run_in_place style comma kind segs one end rest t ms o h d gap n flat =
+    let begun = opening_bytes d gap kind in
     let joined = ap (λ (ps : List RowPart). run ps (at (t ++ begun) (supply style (segs_marks segs ++ ms)) (h ∷ o) (flat_frame kind false comma) Start n)) (segs_joined segs end one rest) in
-    let text = flat_group_text t begun (flat_from style n kind Closed segs) one (closing_text kind) ∙ ap (λ (ps : List Piece). t ++ (begun ++ bytes_of (ps ++ (comma_if one ++ piece Closed Sign (closing_text kind) ∷ [])))) (flat_is style n kind segs) in
+    let text = flat_group_text t begun (flat_segs style n kind true segs) one (closing_text kind) in
     joined ∙ (flat ∙ ap (λ (u : List ℕ). run rest (at u (supply style ms) o h Operand n)) text)
 
-run_group : (style : Style) (b : Bool) (kind : GroupKind) (segs : Segs) (one : Bool) (end : List (List ℕ)) (rest : List RowPart) (t : List ℕ) (ms : List Mark) (o : List Frame) (h : Frame) (gap : Gap) (n : ℕ) →
-    BrokenRuns style segs (map above end ++ closing one ∷ rest) (t ++ opening_bytes gap kind) ms (h ∷ o) kind (has_commas kind one (count segs)) (n + 1) →
-    ((comma : Bool) → FlatRuns style segs end rest (t ++ opening_bytes gap kind) ms (h ∷ o) kind comma one false n) →
-    run ((segs_parts segs ++ (map above end ++ closing one ∷ [])) ++ rest) (at (t ++ opening_bytes gap kind) (supply style (segs_marks segs ++ ms)) (h ∷ o) (record { within = Some kind; mark = mark_in style (mark_as b kind segs one); later = false }) Start (level_in (mark_in style (mark_as b kind segs one)) n))
-    ≡ run rest (at (t ++ (opening_bytes gap kind ++ bytes_of (group_rest style (breaks style b) n kind segs one end))) (supply style ms) o h Operand n)
-run_group Broken true kind segs one end rest t ms o h gap n broken flat =
+run_group : (style : Style) (b : Bool) (kind : GroupKind) (segs : Segs) (one : Bool) (end : List (List ℕ)) (rest : List RowPart) (t : List ℕ) (ms : List Mark) (o : List Frame) (h : Frame) (d : List ℕ) (gap : Gap) (n : ℕ) →
+    BrokenRuns style segs (map above end ++ closing one ∷ rest) (t ++ opening_bytes d gap kind) ms (h ∷ o) kind (has_commas kind one (count segs)) (n + 1) →
+    ((comma : Bool) → FlatRuns style segs end rest (t ++ opening_bytes d gap kind) ms (h ∷ o) kind comma one false n) →
+    run ((segs_parts segs ++ (map above end ++ closing one ∷ [])) ++ rest) (at (t ++ opening_bytes d gap kind) (supply style (segs_marks segs ++ ms)) (h ∷ o) (record { within = Some kind; mark = mark_in style (mark_as b kind segs one); later = false }) Start (level_in (mark_in style (mark_as b kind segs one)) n))
+    ≡ run rest (at (t ++ (opening_bytes d gap kind ++ bytes_of (group_rest style (breaks style b) n kind segs one end))) (supply style ms) o h Operand n)
+run_group Broken true kind segs one end rest t ms o h d gap n broken flat =
     let c = has_commas kind one (count segs) in
-    let begun = opening_bytes gap kind in
+    let begun = opening_bytes d gap kind in
     let a = broken_segs Broken (n + 1) kind c segs in
     let b = comments (n + 1) end in
     let t1 = (t ++ begun) ++ bytes_of a in
@@ -168,41 +199,36 @@ run_group Broken true kind segs one end rest t ms o h gap n broken flat =
     let level = ap (λ (k : ℕ). run rest (at (t2 ++ (gap_bytes (Line k) ++ closing_text kind)) ms o h Operand k)) (down n) in
     let text = ap (λ (u : List ℕ). run rest (at u ms o h Operand n)) (broken_group_text t begun a b (piece (Line n) Sign (closing_text kind))) in
     joined ∙ (broken ∙ (notes ∙ (level ∙ text)))
-run_group Broken false kind segs one end rest t ms o h gap n broken flat = let c = has_commas kind one (count segs) in run_in_place Broken c kind segs one end rest t ms o h gap n (flat c)
-run_group Flat b kind segs one end rest t ms o h gap n broken flat = run_in_place Flat false kind segs one end rest t ms o h gap n (flat false)
+run_group Broken false kind segs one end rest t ms o h d gap n broken flat = let c = has_commas kind one (count segs) in run_in_place Broken c kind segs one end rest t ms o h d gap n (flat c)
+run_group Flat b kind segs one end rest t ms o h d gap n broken flat = run_in_place Flat false kind segs one end rest t ms o h d gap n (flat false)
 
-group_text : (t p : List ℕ) (gap : Gap) (close : List ℕ) → t ++ ((gap_bytes gap ++ close) ++ p) ≡ t ++ (gap_bytes gap ++ (close ++ p))
-group_text t p gap close = simp append_assoc
-
-last_text : (t : List ℕ) (a : List Piece) (end : List ℕ) → ((t ++ bytes_of a) ++ []) ++ end ≡ t ++ (bytes_of (a ++ []) ++ end)
-last_text t a end = rw (append-nil a, append-nil (t ++ bytes_of a)) (append_assoc t (bytes_of a) end)
-
-next_text : (t : List ℕ) (a b : List Piece) (end : List ℕ) → ((t ++ bytes_of a) ++ codes ",") ++ (bytes_of b ++ end) ≡ t ++ (bytes_of (a ++ (piece Closed Sign (codes ",") ∷ b)) ++ end)
-next_text t a b end = rw (bytes_append a (piece Closed Sign (codes ",") ∷ b)) (simp append_assoc)
+group_text : (t d p : List ℕ) (gap : Gap) (close : List ℕ) → t ++ ((d ++ (gap_bytes gap ++ close)) ++ p) ≡ t ++ (d ++ (gap_bytes gap ++ (close ++ p)))
+group_text t d p gap close = simp append_assoc
 
 mutual
   pub run_item : (style : Style) (x : Item) (rest : List RowPart) (t : List ℕ) (ms : List Mark) (o : List Frame) (h : Frame) (l : Edge) (n : ℕ) →
-      run (item_parts x ++ rest) (at t (supply style (item_marks x ++ ms)) o h l n) ≡ run rest (at (t ++ bytes_of (item_pieces style n (gap_before (first_gap h n) l x) x)) (supply style ms) o h (edge_after h.within l x) n)
+      run (item_parts x ++ rest) (at t (supply style (item_marks x ++ ms)) o h l n) ≡ run rest (at (t ++ (due h l ++ bytes_of (item_pieces style n (gap_before (first_gap h n) l x) x))) (supply style ms) o h (edge_after h.within l x) n)
   run_item style (leaf kind text) rest t ms o h l n = rw (gap_is (first_gap h n) l (leaf kind text), append-nil) refl
   run_item style (group kind segs one end) rest t ms o h l n =
       let b = is_broken kind segs end (segs_hold segs) in
       let gap = gap_for (first_gap h n) l (hugs kind) in
-      let begun = opening_bytes gap kind in
+      let d = due h l in
+      let begun = opening_bytes d gap kind in
       let broken = run_broken style segs (map above end ++ closing one ∷ rest) (t ++ begun) ms (h ∷ o) kind (has_commas kind one (count segs)) (n + 1) in
       let flat : (comma : Bool) → FlatRuns style segs end rest (t ++ begun) ms (h ∷ o) kind comma one false n = λ comma. run_flat style segs end rest (t ++ begun) ms (h ∷ o) kind comma one false n in
-      let all = run_group style b kind segs one end rest t ms o h gap n broken flat in
+      let all = run_group style b kind segs one end rest t ms o h d gap n broken flat in
       let begin = opens style (mark_as b kind segs one) (segs_marks segs ++ ms) kind ((segs_parts segs ++ (map above end ++ closing one ∷ [])) ++ rest) t o h l n in
-      rw (gap_is (first_gap h n) l (group kind segs one end)) (begin ∙ (all ∙ ap (λ (u : List ℕ). run rest (at u (supply style ms) o h Operand n)) (group_text t (bytes_of (group_rest style (breaks style b) n kind segs one end)) gap (opening_text kind))))
+      rw (gap_is (first_gap h n) l (group kind segs one end)) (begin ∙ (all ∙ ap (λ (u : List ℕ). run rest (at u (supply style ms) o h Operand n)) (group_text t d (bytes_of (group_rest style (breaks style b) n kind segs one end)) gap (opening_text kind))))
 
   pub run_items : (style : Style) (xs : Items) (rest : List RowPart) (t : List ℕ) (ms : List Mark) (o : List Frame) (h : Frame) (l : Edge) (n : ℕ) →
-      run (items_parts xs ++ rest) (at t (supply style (items_marks xs ++ ms)) o h l n) ≡ run rest (at (t ++ bytes_of (items_pieces style n h.within (first_gap h n) l xs)) (supply style ms) o h (last_edge h.within l xs) n)
-  run_items style no_items rest t ms o h l n = rw (append-nil t) refl
+      run (items_parts xs ++ rest) (at t (supply style (items_marks xs ++ ms)) o h l n) ≡ run rest (at (t ++ (due_items h l xs ++ bytes_of (items_pieces style n h.within (first_gap h n) l xs))) (supply style ms) o h (last_edge h.within l xs) n)
+  run_items style no_items rest t ms o h l n = rw (nothing_due h.mark.broken h.later [] refl, append-nil t) refl
   run_items style (item x xs) rest t ms o h l n =
       let ps = item_pieces style n (gap_before (first_gap h n) l x) x in
       let left = edge_after h.within l x in
       rw (append_assoc (item_parts x) (items_parts xs) rest, append_assoc (item_marks x) (items_marks xs) ms)
-      (run_item style x (items_parts xs ++ rest) t (items_marks xs ++ ms) o h l n ∙ (run_items style xs rest (t ++ bytes_of ps) ms o h left n ∙
-      ap (λ (u : List ℕ). run rest (at u (supply style ms) o h (last_edge h.within left xs) n)) (two t ps (items_pieces style n h.within (first_gap h n) left xs))))
+      (run_item style x (items_parts xs ++ rest) t (items_marks xs ++ ms) o h l n ∙ (run_items style xs rest (t ++ (due h l ++ bytes_of ps)) ms o h left n ∙
+      ap (λ (u : List ℕ). run rest (at u (supply style ms) o h (last_edge h.within left xs) n)) (two t (due h l) (due_items h left xs) ps (items_pieces style n h.within (first_gap h n) left xs) (not_due h left xs (item_leaves h.within l x)))))
 
   pub run_broken : (style : Style) (ss : Segs) (rest : List RowPart) (t : List ℕ) (ms : List Mark) (o : List Frame) (kind : GroupKind) (comma : Bool) (n : ℕ) → BrokenRuns style ss rest t ms o kind comma n
   run_broken style no_segs rest t ms o kind comma n = rw (append-nil t) refl
@@ -223,27 +249,20 @@ mutual
 
   pub run_flat : (style : Style) (ss : Segs) (end : List (List ℕ)) (rest : List RowPart) (t : List ℕ) (ms : List Mark) (o : List Frame) (kind : GroupKind) (comma one later : Bool) (n : ℕ) → FlatRuns style ss end rest t ms o kind comma one later n
   run_flat style no_segs end rest t ms o kind comma one later n = skip_above end (closing one ∷ rest) t (supply style ms) o kind later comma Start n
-  run_flat style (seg before nodes suffix no_segs) end rest t ms o kind comma one later n =
+  run_flat style (seg before nodes suffix ss) end rest t ms o kind comma one later n =
       let frame = flat_frame kind later comma in
-      let a = items_pieces style n (Some kind) (flat_gap later) Start nodes in
+      let after = segs_parts ss ++ (map above end ++ closing one ∷ rest) in
+      let ending = segment_end ∷ (beside_part suffix ++ after) in
+      let marks = segs_marks ss ++ ms in
+      let a = in_place style n kind (not later) nodes in
       let t1 = t ++ bytes_of a in
-      let after = map above end ++ closing one ∷ rest in
-      let marks = supply style ms in
-      let none_next = ap (λ (last : Bool). run (beside_part suffix ++ after) (ended last (at t1 marks o frame (last_edge (Some kind) Start nodes) n))) (beside_last suffix after ∙ above_last end one rest) in
-      rw (seg_joined before nodes suffix no_segs after, append_assoc (items_marks nodes) [] ms)
-      (skip_above before (items_parts nodes ++ (segment_end ∷ (beside_part suffix ++ after))) t (supply style (items_marks nodes ++ ms)) o kind later comma Start n ∙ (run_items style nodes (segment_end ∷ (beside_part suffix ++ after)) t ms o frame Start n ∙ (none_next ∙
-      (skip_beside suffix after (t1 ++ []) marks o kind later comma Start n ∙ (skip_above end (closing one ∷ rest) (t1 ++ []) marks o kind later comma Start n ∙
-      ap (λ (u : List ℕ). run rest (at u marks (tail o) (first_frame o) Operand n)) (last_text t a (comma_bytes one ++ closing_text kind)))))))
-  run_flat style (seg before nodes suffix (seg before2 nodes2 suffix2 ss)) end rest t ms o kind comma one later n =
-      let frame = flat_frame kind later comma in
-      let a = items_pieces style n (Some kind) (flat_gap later) Start nodes in
-      let t1 = t ++ bytes_of a in
-      let more = seg before2 nodes2 suffix2 ss in
-      let closes = map above end ++ closing one ∷ rest in
-      let after = segs_parts more ++ closes in
-      let marks = segs_marks more ++ ms in
-      let comma_next = ap (λ (last : Bool). run (beside_part suffix ++ after) (ended last (at t1 (supply style marks) o frame (last_edge (Some kind) Start nodes) n))) (beside_last suffix after ∙ not_last before2 nodes2 suffix2 ss closes) in
-      rw (seg_joined before nodes suffix more closes, append_assoc (items_marks nodes) (segs_marks more) ms)
-      (skip_above before (items_parts nodes ++ (segment_end ∷ (beside_part suffix ++ after))) t (supply style (items_marks nodes ++ marks)) o kind later comma Start n ∙ (run_items style nodes (segment_end ∷ (beside_part suffix ++ after)) t marks o frame Start n ∙ (comma_next ∙
-      (skip_beside suffix after (t1 ++ codes ",") (supply style marks) o kind true comma Start n ∙ (run_flat style (seg before2 nodes2 suffix2 ss) end rest (t1 ++ codes ",") ms o kind comma one true n ∙
-      ap (λ (u : List ℕ). run rest (at u (supply style ms) (tail o) (first_frame o) Operand n)) (next_text t a (flat_from style n kind Space more) (comma_bytes one ++ closing_text kind)))))))
+      rw (seg_joined before nodes suffix ss (map above end ++ closing one ∷ rest), append_assoc (items_marks nodes) (segs_marks ss) ms)
+      (skip_above before (items_parts nodes ++ ending) t (supply style (items_marks nodes ++ marks)) o kind later comma Start n ∙ (run_items style nodes ending t marks o frame Start n ∙
+      (ap (λ (u : List ℕ). run (beside_part suffix ++ after) (at u (supply style marks) o (flat_frame kind true comma) Start n)) (in_place_text style n kind later comma nodes t) ∙
+      (skip_beside suffix after t1 (supply style marks) o kind true comma Start n ∙ (run_flat style ss end rest t1 ms o kind comma one true n ∙
+      ap (λ (u : List ℕ). run rest (at u (supply style ms) (tail o) (first_frame o) Operand n)) (next_text t a (flat_segs style n kind false ss) (comma_bytes one ++ closing_text kind)))))))
+
+-- parts in two runs
+pub run_append : (a b : List RowPart) (s : Laid) → run (a ++ b) s ≡ run b (run a s)
+run_append [] b s = refl
+run_append (p ∷ a) b s = run_append a b (step p s)

@@ -9,7 +9,7 @@ use Rattle.bz_layout.specs.declared.marks.Mark.{Mark}
 use Rattle.bz_layout.specs.declared.marks.Inside.{Inside}
 use Rattle.bz_layout.specs.Broken.{count, has_some, have_comments, breaks_by_count, is_broken, holds_broken, items_hold, segs_hold}
 use Rattle.bz_layout.specs.Layout.{has_commas}
-use Rattle.bz_layout.specs.private.RowLayout.{Scan, closed, one_more, mark_of, breaks_with, holding, below, opened_back, scan}
+use Rattle.bz_layout.specs.private.RowLayout.{Scan, closed, one_more, mark_of, breaks_with, holding, back, below, opened_back, scan, scan_onto}
 
 -- the mark of a group, and those in an item
 abbrev pub mark_as : Bool → GroupKind → Segs → Bool → Mark
@@ -117,13 +117,17 @@ marked kind ss end one = rw (breaks_as kind ss end, commas kind one ss) refl
 found_both : (a c : List Mark) (b d : Bool) (s : Scan) → found a b (found c d s) ≡ found (a ++ c) (b || d) s
 found_both a c b d s = rw (append_assoc a c s.marks, or_assoc b d s.here.holds) refl
 
-scan_above : (notes : List (List ℕ)) (rest : List RowPart) → scan (map above notes ++ rest) ≡ record { marks = (scan rest).marks; here = in_segs (has_some notes) false (scan rest).here.segs (scan rest).here; outer = (scan rest).outer }
+pub scan_above : (notes : List (List ℕ)) (rest : List RowPart) → scan (map above notes ++ rest) ≡ record { marks = (scan rest).marks; here = in_segs (has_some notes) false (scan rest).here.segs (scan rest).here; outer = (scan rest).outer }
 scan_above [] rest = refl
 scan_above (note ∷ notes) rest = rw (scan_above notes rest) refl
 
 scan_beside : (suffix : Option (List ℕ)) (rest : List RowPart) → scan (beside_part suffix ++ rest) ≡ record { marks = (scan rest).marks; here = in_segs (is_some suffix) false (scan rest).here.segs (scan rest).here; outer = (scan rest).outer }
 scan_beside None rest = refl
 scan_beside (Some note) rest = refl
+
+pub scan_append : (a b : List RowPart) → scan (a ++ b) ≡ scan_onto a (scan b)
+scan_append [] b = refl
+scan_append (p ∷ a) b = ap (back p) (scan_append a b)
 
 segs_joined : (ss : Segs) (end : List (List ℕ)) (one : Bool) (rest : List RowPart) → (segs_parts ss ++ (map above end ++ closing one ∷ [])) ++ rest ≡ segs_parts ss ++ (map above end ++ closing one ∷ rest)
 segs_joined ss end one rest = simp append_assoc

@@ -1,9 +1,10 @@
 -- The text of parts is that of their statement, or of their nodes.
-use Rattle.std.proofs.Common.{◌≡◌, codes, ℕ, List, [], ◌∷◌, ◌++◌, map, Option, Some, None, refl, ap, sym, ◌∙◌, append_assoc, append-nil, inl, inr}
+use Rattle.std.proofs.Common.{◌≡◌, codes, ℕ, ◌+◌, ◌<◌, List, [], ◌∷◌, ◌++◌, Bor, length, get_or, drop, drop-cons, add-one, map, Option, Some, None, refl, ap, sym, ◌∙◌, append_assoc, append-nil, inl, inr}
 use Rattle.std.proofs.lemmas.Bool.{cases_Bool}
 use Rattle.bz_tree.specs.Tree.{Item, leaf, group, Items, no_items, item, Statement, items_of}
-use Rattle.bz_tree.specs.Rows.{RowPart, above, beside_part, items_parts, parts_of, part_view, IsRowOf}
-use Rattle.bz_tree.specs.declared.row.Row.{Row}
+use Rattle.bz_tree.specs.Rows.{RowPart, above, beside_part, items_parts, parts_of, part_view}
+use Rattle.bz_tree.specs.declared.row.Part.{Part}
+use Rattle.bz_tree.specs.declared.stmt.Class.{Class}
 use Rattle.bz_tree.specs.declared.stmt.GroupKind.{GroupKind}
 use Rattle.bz_token.specs.declared.token.Kind.TheVariants.{Line as LineKind}
 use Rattle.bz_layout.specs.declared.marks.Mark.{Mark}
@@ -14,32 +15,38 @@ use Rattle.bz_layout.specs.declared.spacing.Gap.TheVariants.{Closed}
 use Rattle.bz_layout.specs.declared.broken.Style.TheVariants.{Flat, Broken}
 use Rattle.bz_layout.specs.Pieces.{Piece, piece, bytes_of, comment_lines, suffix_piece}
 use Rattle.bz_layout.specs.Layout.{items_pieces, statement_line, is_comment, layout_text, flat_text}
-use Rattle.bz_layout.specs.private.RowLayout.{leading, after_leading, Laid, line_text, row_text, run, scan, start, top}
+use Rattle.bz_layout.specs.Joined.{joined}
+use Rattle.bz_layout.specs.private.Kept.{IsBegunBy}
+use Rattle.bz_layout.specs.private.RowLayout.{leading, Laid, Scan, line_text, row_text, run, scan, scan_onto, start, top}
 use Rattle.bz_layout.proofs.Pieces.{bytes_append}
-use Rattle.bz_layout.proofs.Scans.{items_marks, scan_items}
-use Rattle.bz_layout.proofs.Runs.{at, last_edge, run_items}
+use Rattle.bz_layout.proofs.Scans.{items_marks, scan_above, scan_append, scan_items}
+use Rattle.bz_layout.proofs.Runs.{at, last_edge, run_append, run_items}
 
 -- the parts after the comments above the statement
 abbrev rest_of : Statement → List RowPart
 rest_of s = items_parts (items_of s.nodes) ++ beside_part s.suffix
 
-no_leading : (xs : Items) (suffix : Option (List ℕ)) → (leading (items_parts xs ++ beside_part suffix) ≡ []) × (after_leading (items_parts xs ++ beside_part suffix) ≡ items_parts xs ++ beside_part suffix)
-no_leading no_items None = (refl, refl)
-no_leading no_items (Some note) = (refl, refl)
-no_leading (item (leaf kind text) xs) suffix = (refl, refl)
-no_leading (item (group kind segs one_comma end) xs) suffix = (refl, refl)
+no_leading : (xs : Items) (suffix : Option (List ℕ)) → leading (items_parts xs ++ beside_part suffix) ≡ []
+no_leading no_items None = refl
+no_leading no_items (Some note) = refl
+no_leading (item (leaf kind text) xs) suffix = refl
+no_leading (item (group kind segs one_comma end) xs) suffix = refl
 
 leads : (notes : List (List ℕ)) (ps : List RowPart) → leading ps ≡ [] → leading (map above notes ++ ps) ≡ notes
 leads [] ps h = h
 leads (note ∷ notes) ps h = ap (λ ns. note ∷ ns) (leads notes ps h)
 
-follows : (notes : List (List ℕ)) (ps : List RowPart) → after_leading ps ≡ ps → after_leading (map above notes ++ ps) ≡ ps
-follows [] ps h = h
-follows (note ∷ notes) ps h = follows notes ps h
+-- the walk leaves them out
+skips : (notes : List (List ℕ)) (rest : List RowPart) (t : List ℕ) (ms : List Mark) (o : List Frame) (l : Edge) (n : ℕ) → run (map above notes ++ rest) (at t ms o (top None) l n) ≡ run rest (at t ms o (top None) l n)
+skips [] rest t ms o l n = refl
+skips (note ∷ notes) rest t ms o l n = ap (λ (u : List ℕ). run (map above notes ++ rest) (at u ms o (top None) l n)) (append-nil t) ∙ skips notes rest t ms o l n
 
 marks_are : (xs : Items) (suffix : Option (List ℕ)) → (scan (items_parts xs ++ beside_part suffix)).marks ≡ items_marks xs ++ []
 marks_are xs None = rw (scan_items xs []) refl
 marks_are xs (Some note) = rw (scan_items xs (beside_part (Some note))) refl
+
+all_marks : (s : Statement) → (scan (parts_of s)).marks ≡ items_marks (items_of s.nodes) ++ []
+all_marks s = ap (λ (z : Scan). z.marks) (scan_above s.before (rest_of s)) ∙ marks_are (items_of s.nodes) s.suffix
 
 beside_text : (suffix : Option (List ℕ)) (t : List ℕ) (ms : List Mark) (o : List Frame) (l : Edge) (n : ℕ) → (run (beside_part suffix) (at t ms o (top None) l n)).text ≡ t ++ bytes_of (suffix_piece suffix)
 beside_text None t ms o l n = sym (append-nil t)
@@ -48,27 +55,45 @@ beside_text (Some note) t ms o l n = rw (append-nil note) refl
 line_joined : (t : List ℕ) (a b : List Piece) → ((t ++ bytes_of a) ++ bytes_of b) ++ codes "\n" ≡ t ++ bytes_of (a ++ (b ++ piece Closed LineKind (codes "\n") ∷ []))
 line_joined t a b = rw (bytes_append a (b ++ piece Closed LineKind (codes "\n") ∷ []), bytes_append b (piece Closed LineKind (codes "\n") ∷ [])) (simp append_assoc)
 
-line_is : (t : List ℕ) (s : Statement) → line_text t (rest_of s) ≡ t ++ bytes_of (statement_line s)
+line_is : (t : List ℕ) (s : Statement) → line_text t (parts_of s) ≡ t ++ bytes_of (statement_line s)
 line_is t s =
     let xs = items_of s.nodes in
     let a = items_pieces Broken 0 None Closed Start xs in
-    let written = ap (λ (l : Laid). l.text) (run_items Broken xs (beside_part s.suffix) t [] [] (top None) Start 0) ∙ beside_text s.suffix (t ++ bytes_of a) [] [] (last_edge None Start xs) 0 in
-    rw (marks_are xs s.suffix) (ap (λ (u : List ℕ). u ++ codes "\n") written ∙ line_joined t a (suffix_piece s.suffix))
+    let skipped = skips s.before (rest_of s) t (items_marks xs ++ []) [] Start 0 in
+    let written = ap (λ (l : Laid). l.text) (skipped ∙ run_items Broken xs (beside_part s.suffix) t [] [] (top None) Start 0) ∙ beside_text s.suffix (t ++ bytes_of a) [] [] (last_edge None Start xs) 0 in
+    rw (all_marks s) (ap (λ (u : List ℕ). u ++ codes "\n") written ∙ line_joined t a (suffix_piece s.suffix))
 
 pub parts_laid : (t : List ℕ) (s : Statement) → row_text t (parts_of s) s.class ≡ t ++ layout_text s
 parts_laid t s =
-    let none = no_leading (items_of s.nodes) s.suffix in
-    let notes : leading (parts_of s) ≡ s.before = leads s.before (rest_of s) none.0 in
-    let rest : after_leading (parts_of s) ≡ rest_of s = follows s.before (rest_of s) none.1 in
-    rw (notes, rest) (elim (cases_Bool (is_comment s.class)) [
+    let notes : leading (parts_of s) ≡ s.before = leads s.before (rest_of s) (no_leading (items_of s.nodes) s.suffix) in
+    rw notes (elim (cases_Bool (is_comment s.class)) [
       | inl hit ↦ rw (hit, append-nil (comment_lines s.before)) refl
       | inr miss ↦
           let above = bytes_of (comment_lines s.before) in
           rw (miss, bytes_append (comment_lines s.before) (statement_line s)) (line_is (t ++ above) s ∙ append_assoc t above (bytes_of (statement_line s)))
     ])
 
-pub is_layout : (t : List ℕ) (s : Statement) (row : Row) → IsRowOf s row → row_text t (map part_view row.parts.items) row.class ≡ t ++ layout_text s
-is_layout t s row is = rw (is.parts, is.class) (parts_laid t s)
+pub is_layout : (t : List ℕ) (s : Statement) (ps : List RowPart) (class : Class) → ps ≡ parts_of s → class ≡ s.class → row_text t ps class ≡ t ++ layout_text s
+is_layout t s ps class parts is = rw (parts, is) (parts_laid t s)
+
+-- one piece more, forwards and backwards
+pub piece_split : (pieces : List (Bor (List Part))) (i : ℕ) (d : Bor (List Part)) → i < length pieces → map part_view (get_or pieces i d).now ++ joined (drop (i + 1) pieces) ≡ joined (drop i pieces)
+piece_split pieces i d h = rw (drop-cons pieces i d, add-one) refl
+
+pub next_piece : (pieces : List (Bor (List Part))) (i : ℕ) (d : Bor (List Part)) (s : Laid) → i < length pieces → run (joined (drop (i + 1) pieces)) (run (map part_view (get_or pieces i d).now) s) ≡ run (joined (drop i pieces)) s
+next_piece pieces i d s h = sym (run_append (map part_view (get_or pieces i d).now) (joined (drop (i + 1) pieces)) s) ∙ ap (λ (ps : List RowPart). run ps s) (piece_split pieces i d h)
+
+pub piece_before : (pieces : List (Bor (List Part))) (i j : ℕ) (d : Bor (List Part)) → i < length pieces → i + 1 ≡ j → scan_onto (map part_view (get_or pieces i d).now) (scan (joined (drop j pieces))) ≡ scan (joined (drop i pieces))
+piece_before pieces i j d h next =
+    ap (λ (k : ℕ). scan_onto (map part_view (get_or pieces i d).now) (scan (joined (drop k pieces)))) (sym next)
+    ∙ sym (scan_append (map part_view (get_or pieces i d).now) (joined (drop (i + 1) pieces)))
+    ∙ ap scan (piece_split pieces i d h)
+
+pub begun_further : (a b c : List ℕ) → IsBegunBy a b → IsBegunBy b c → IsBegunBy a c
+begun_further a b c first next = record { more = first.more ++ next.more; is = next.is ∙ ap (λ (t : List ℕ). t ++ next.more) first.is ∙ append_assoc a first.more next.more }
+
+pub one_piece : (piece : Bor (List Part)) → joined (piece ∷ []) ≡ map part_view piece.now
+one_piece piece = append-nil (map part_view piece.now)
 
 -- with no marks all brackets stand in place
 pub flat_laid : (within : Option GroupKind) (xs : List Item) → (run (items_parts (items_of xs)) (start [] [] within)).text ≡ flat_text within xs

@@ -1,13 +1,14 @@
 //! The canonical text of a statement, by its parts.
 
-ghost use Rattle.std.specs.Prelude.{◌≡◌, ◌++◌, IfOk, OnOk, OnErr, map};
+ghost use Rattle.std.specs.Prelude.{◌≡◌, ◌++◌, OnOk, OnErr, map};
 ghost use Rattle.bz_tree.specs.Tree.{Statement};
 ghost use Rattle.bz_tree.specs.View.{view};
-ghost use Rattle.bz_tree.specs.Rows.{IsRowOf, part_view};
+ghost use Rattle.bz_tree.specs.Rows.{IsRowOf, part_view, parts_of};
 ghost use Rattle.bz_layout.specs.Pieces.{bytes_of, comment_lines};
+ghost use Rattle.bz_layout.specs.Joined.{joined};
 ghost use Rattle.bz_layout.specs.Layout.{layout_text};
 ghost use Rattle.bz_layout.specs.private.Kept.{IsBegunBy};
-ghost use Rattle.bz_layout.specs.private.RowLayout.{leading, after_leading, row_text};
+ghost use Rattle.bz_layout.specs.private.RowLayout.{leading, row_text};
 
 use crate::append::Append;
 use crate::marks::marks_of;
@@ -18,62 +19,83 @@ use std::alloc::{AllocError, Global};
 // Most statements have no more parts.
 const FIRST_PARTS: usize = 40;
 
-// The comments above the statement, each with its newline, and the parts after them.
-fn put_leading<'r, 'a>(
-    parts: &'r [Part<'a>],
-    out: &mut Vec<u8>,
-) -> Result<&'r [Part<'a>], AllocError>
+// The comments above the statement, each with its newline.
+#[tactic(auto, using(crate::proofs::Texts::piece_split))]
+fn put_leading(pieces: &[&[Part<'_>]], out: &mut Vec<u8>) -> Result<(), AllocError>
     ensures text { OnOk result
-        (out.new.items ≡ out.old.items ++ bytes_of (comment_lines (leading (map part_view parts.now)))) }
-    ensures rest { IfOk result (λ rest. map part_view rest.now ≡ after_leading (map part_view parts.now)) }
+        (out.new.items ≡ out.old.items ++ bytes_of (comment_lines (leading (joined pieces.now)))) }
     ensures begun { IsBegunBy out.old.items out.new.items }
 {
-    for i in 0..parts.len() {
-        let Part::Above(note) = parts[i] else {
-            return Ok(&parts[i..]);
-        };
-        out.put(note)?;
-        out.put("\n")?;
+    for piece in pieces {
+        for part in *piece {
+            let Part::Above(note) = part else {
+                return Ok(());
+            };
+            out.put(note)?;
+            out.put("\n")?;
+        }
     }
-    Ok(&[])
+    Ok(())
 }
 
 // After a refusal some of the text may stand in `out`.
 fn put_text(
     alloc: Global,
-    parts: &[Part<'_>],
+    pieces: &[&[Part<'_>]],
     class: Class,
     out: &mut Vec<u8>,
 ) -> Result<(), AllocError>
-    ensures text { OnOk result (out.new.items ≡ row_text out.old.items (map part_view parts.now) class) }
+    ensures text { OnOk result (out.new.items ≡ row_text out.old.items (joined pieces.now) class) }
     ensures begun { IsBegunBy out.old.items out.new.items }
 {
-    let rest = put_leading(parts, out)?;
+    put_leading(pieces, out)?;
     if matches!(class, Class::Comment) {
         return Ok(());
     }
-    let marks = marks_of(alloc, rest)?;
+    let marks = marks_of(alloc, pieces)?;
     let mut walk = Walk::new(alloc, marks, None)?;
-    walk.run(rest, out)?;
+    for piece in pieces {
+        walk.run(piece, out)?;
+    }
     out.put("\n")
 }
 
-// A refusal leaves `out` as it was.
+/// Appends the canonical text of the statement whose parts stand in pieces, one piece after another, with its last
+/// newline. `Err`: memory was refused, and `out` is as it was.
+#[tactic(auto, using(crate::proofs::Texts::is_layout))]
+pub fn put_pieces(
+    alloc: Global,
+    pieces: &[&[Part<'_>]],
+    class: Class,
+    out: &mut Vec<u8>,
+) -> Result<(), AllocError>
+    ensures appended { OnOk result
+        ((s : Statement) → joined pieces.now ≡ parts_of s → class ≡ s.class
+        → out.new.items ≡ out.old.items ++ layout_text s) }
+    ensures unchanged { OnErr result (out.new.items ≡ out.old.items) }
+{
+    let len = out.len();
+    let put = put_text(alloc, pieces, class, out);
+    if put.is_err() {
+        out.truncate(len);
+    }
+    put
+}
+
+// All parts in one piece.
+#[tactic(auto, using(crate::proofs::Texts::one_piece))]
 fn put_parts(
     alloc: Global,
     parts: &[Part<'_>],
     class: Class,
     out: &mut Vec<u8>,
 ) -> Result<(), AllocError>
-    ensures text { OnOk result (out.new.items ≡ row_text out.old.items (map part_view parts.now) class) }
+    ensures appended { OnOk result
+        ((s : Statement) → map part_view parts.now ≡ parts_of s → class ≡ s.class
+        → out.new.items ≡ out.old.items ++ layout_text s) }
     ensures unchanged { OnErr result (out.new.items ≡ out.old.items) }
 {
-    let len = out.len();
-    let put = put_text(alloc, parts, class, out);
-    if put.is_err() {
-        out.truncate(len);
-    }
-    put
+    put_pieces(alloc, &[&*parts], class, out)
 }
 
 /// Appends the canonical text of a statement, with its last newline (the layout is this project's own). `Err`: memory
@@ -89,7 +111,6 @@ pub fn put_stmt(alloc: Global, stmt: &Stmt<'_>, out: &mut Vec<u8>) -> Result<(),
 
 /// Appends the canonical text of a row's statement, with its last newline. `Err`: memory was refused, and `out` is as
 /// it was.
-#[tactic(auto, using(crate::proofs::Texts::is_layout))]
 pub fn put_row(alloc: Global, row: &Row<'_>, out: &mut Vec<u8>) -> Result<(), AllocError>
     ensures appended { OnOk result
         ((s : Statement) → IsRowOf s row.now → out.new.items ≡ out.old.items ++ layout_text s) }

@@ -2,10 +2,10 @@
 
 ghost use Rattle.std.specs.Prelude.{◌≡◌, ◌++◌, ℕ, List, IfOk, OnOk, map, reverse};
 ghost use Rattle.bz_tree.specs.Rows.{part_view};
-ghost use Rattle.bz_layout.specs.declared.spacing.Gap.TheVariants.{Apart, Line};
+ghost use Rattle.bz_layout.specs.declared.spacing.Edge.TheVariants.{Start};
 ghost use Rattle.bz_layout.specs.private.Kept.{IsBegunBy};
 ghost use Rattle.bz_layout.specs.Pieces.{gap_bytes};
-ghost use Rattle.bz_layout.specs.private.RowLayout.{gap_for, top, first_gap, has_notes, start, with_token, opened, closed_by, is_last, ended, put_note, step, run, laid};
+ghost use Rattle.bz_layout.specs.private.RowLayout.{due, gap_for, top, first_gap, has_beside, start, with_token, opened, closed_by, ended, step, run, laid};
 
 use crate::append::Append;
 use crate::marks::Mark;
@@ -26,7 +26,7 @@ pub(crate) struct Frame {
     // None at the top.
     pub(crate) within: Option<GroupKind>,
     pub(crate) mark: Mark,
-    // In place, after a comma.
+    // In place, after a segment: a comma is due, which is written where the next one begins.
     pub(crate) later: bool,
 }
 
@@ -39,21 +39,6 @@ pub(crate) struct Walk {
     pub(crate) left: Edge,
     // That of the line which is being written.
     pub(crate) level: usize,
-}
-
-// The bracket is closed next, but for comments.
-#[inline(always)]
-fn is_last(rest: &[Part<'_>]) -> bool
-    ensures { result ≡ is_last (map part_view rest.now) }
-{
-    for part in rest {
-        match part {
-            Part::Above(_) | Part::Beside(_) => {}
-            Part::Close(_) => return true,
-            _ => return false,
-        }
-    }
-    false
 }
 
 impl Frame {
@@ -70,10 +55,10 @@ impl Frame {
         }
     }
 
-    // In place stand no comments, but at the top.
+    // In place no comment stands beside a segment, but at the top.
     #[inline(always)]
-    fn has_notes(self) -> bool
-        ensures { result ≡ has_notes self }
+    fn has_beside(self) -> bool
+        ensures { result ≡ has_beside self }
     {
         self.mark.broken || self.within.is_none()
     }
@@ -99,27 +84,28 @@ impl Walk {
         })
     }
 
-    // The gap before the first node of a segment.
+    // The comma that is due and the gap before the first node of a segment.
     #[inline(always)]
     fn put_first<T: Append>(&self, out: &mut T) -> Result<(), AllocError>
-        ensures ok { OnOk result
-            (T.bytes out.new ≡ T.bytes out.old ++ gap_bytes (first_gap self.now.here self.now.level)) }
+        ensures ok { OnOk result (T.bytes out.new ≡ T.bytes out.old
+            ++ (due self.now.here Start ++ gap_bytes (first_gap self.now.here self.now.level))) }
         ensures begun { IsBegunBy (T.bytes out.old) (T.bytes out.new) }
     {
         if self.here.mark.broken {
             put_new_line(self.level, out)
         } else if self.here.later {
-            out.put(" ")
+            out.put(", ")
         } else {
             Ok(())
         }
     }
 
-    // The gap before what closes up or does not.
+    // The gap before what closes up or does not, after the comma that is due.
     #[inline(always)]
     fn put_gap<T: Append>(&self, closes: bool, out: &mut T) -> Result<(), AllocError>
         ensures ok { OnOk result (T.bytes out.new ≡ T.bytes out.old
-            ++ gap_bytes (gap_for (first_gap self.now.here self.now.level) self.now.left closes)) }
+            ++ (due self.now.here self.now.left
+            ++ gap_bytes (gap_for (first_gap self.now.here self.now.level) self.now.left closes))) }
         ensures begun { IsBegunBy (T.bytes out.old) (T.bytes out.new) }
     {
         if matches!(self.left, Edge::Start) {
@@ -226,58 +212,44 @@ impl Walk {
         Ok(())
     }
 
-    // A segment ends, with these parts after it.
+    // A segment ends. One without nodes has not written the comma that is due.
     #[inline(always)]
-    fn end<T: Append>(&mut self, rest: &[Part<'_>], out: &mut T) -> Result<(), AllocError>
-        ensures laid { OnOk result (laid self.new (T.bytes out.new)
-            ≡ ended (is_last (map part_view rest.now)) (laid self.old (T.bytes out.old))) }
+    fn end<T: Append>(&mut self, out: &mut T) -> Result<(), AllocError>
+        ensures laid { OnOk result (laid self.new (T.bytes out.new) ≡ ended (laid self.old (T.bytes out.old))) }
         ensures begun { IsBegunBy (T.bytes out.old) (T.bytes out.new) }
     {
-        self.left = Edge::Start;
         if self.here.mark.broken {
             if self.here.mark.comma {
                 out.put(",")?;
             }
-        } else if !is_last(rest) {
-            out.put(",")?;
+        } else {
+            if self.here.later && matches!(self.left, Edge::Start) {
+                out.put(",")?;
+            }
             self.here.later = true;
         }
-        Ok(())
-    }
-
-    #[inline(never)]
-    fn note<T: Append>(&mut self, gap: Gap, text: &str, out: &mut T) -> Result<(), AllocError>
-        ensures laid { OnOk result
-            (laid self.new (T.bytes out.new) ≡ put_note gap text.now (laid self.old (T.bytes out.old))) }
-        ensures begun { IsBegunBy (T.bytes out.old) (T.bytes out.new) }
-    {
-        if self.here.has_notes() {
-            put(gap, text, out)?;
-        }
+        self.left = Edge::Start;
         Ok(())
     }
 
     #[inline(always)]
-    fn step<T: Append>(
-        &mut self,
-        part: &Part<'_>,
-        rest: &[Part<'_>],
-        out: &mut T,
-    ) -> Result<(), AllocError>
-        ensures laid { OnOk result (laid self.new (T.bytes out.new)
-            ≡ step (part_view part.now) (map part_view rest.now) (laid self.old (T.bytes out.old))) }
+    fn step<T: Append>(&mut self, part: Part<'_>, out: &mut T) -> Result<(), AllocError>
+        ensures laid { OnOk result
+            (laid self.new (T.bytes out.new) ≡ step (part_view part.entry) (laid self.old (T.bytes out.old))) }
         ensures begun { IsBegunBy (T.bytes out.old) (T.bytes out.new) }
     {
-        match *part {
+        match part {
             Part::Token(kind, text) => self.token(kind, text, out),
             Part::Open(kind) => self.open(kind, out),
             Part::Close(one_comma) => self.close(one_comma, out),
-            Part::End => self.end(rest, out),
-            Part::Above(text) => self.note(Gap::Line(self.level), text, out),
-            Part::Beside(text) => self.note(Gap::Apart, text, out),
+            Part::End => self.end(out),
+            Part::Above(text) if self.here.mark.broken => put(Gap::Line(self.level), text, out),
+            Part::Beside(text) if self.here.has_beside() => put(Gap::Apart, text, out),
+            Part::Above(_) | Part::Beside(_) => Ok(()),
         }
     }
 
+    // The parts may come in several slices, one run after another.
     pub(crate) fn run<T: Append>(
         &mut self,
         parts: &[Part<'_>],
@@ -287,10 +259,8 @@ impl Walk {
             (laid self.new (T.bytes out.new) ≡ run (map part_view parts.now) (laid self.old (T.bytes out.old))) }
         ensures begun { IsBegunBy (T.bytes out.old) (T.bytes out.new) }
     {
-        let mut rest = parts;
-        while let [part, after @ ..] = rest {
-            self.step(part, after, out)?;
-            rest = after;
+        for part in parts {
+            self.step(*part, out)?;
         }
         Ok(())
     }

@@ -87,7 +87,8 @@ fn put_gap<T: Append>(gap: Gap, out: &mut T) -> Result<(), AllocError>
     }
 }
 
-#[inline(always)]
+// Few parts are comments.
+#[inline(never)]
 pub(crate) fn put<T: Append>(gap: Gap, text: &str, out: &mut T) -> Result<(), AllocError>
     ensures ok { OnOk result (T.bytes out.new ≡ T.bytes out.old ++ (gap_bytes gap ++ text.now)) }
     ensures begun { IsBegunBy (T.bytes out.old) (T.bytes out.new) }

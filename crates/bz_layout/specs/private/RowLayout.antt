@@ -73,9 +73,13 @@ back segment_end s = here_as (counted s.here) s
 back (above text) s = here_as (noted s.here) s
 back (beside text) s = here_as (noted s.here) s
 
+-- the walk over some parts, ahead of what it read of those after them
+abbrev pub scan_onto : List RowPart → Scan → Scan
+scan_onto [] s = s
+scan_onto (p ∷ ps) s = back p (scan_onto ps s)
+
 abbrev pub scan : List RowPart → Scan
-scan [] = record { marks = []; here = closed false; outer = [] }
-scan (p ∷ ps) = back p (scan ps)
+scan ps = scan_onto ps (record { marks = []; here = closed false; outer = [] })
 
 abbrev pub scanned : Marks → Scan
 scanned m = record { marks = reverse m.marks.items; here = m.here; outer = reverse m.outer.items }
@@ -99,9 +103,20 @@ top within = record { within = within; mark = whole; later = false }
 abbrev pub first_gap : Frame → ℕ → Gap
 first_gap f level = if f.mark.broken then Line level else (if f.later then Space else Closed)
 
--- in place stand no comments, but at the top
-abbrev pub has_notes : Frame → Bool
-has_notes f = f.mark.broken || not (is_some f.within)
+-- in place a comma stands before each segment but the first; it is written where the segment begins ..
+abbrev pub comma_bytes : Bool → List ℕ
+comma_bytes b = if b then codes "," else []
+
+abbrev pub is_start : Edge → Bool
+is_start Start = true
+is_start _ = false
+
+abbrev pub due : Frame → Edge → List ℕ
+due f left = if f.mark.broken then [] else (if f.later then comma_bytes (is_start left) else [])
+
+-- comments stand on lines of their own in broken brackets, and beside their segment there and at the top
+abbrev pub has_beside : Frame → Bool
+has_beside f = f.mark.broken || not (is_some f.within)
 
 abbrev pub start : List ℕ → List Mark → Option GroupKind → Laid
 start text marks within = record { text = text; marks = marks; outer = []; here = top within; left = Start; level = 0 }
@@ -109,12 +124,12 @@ start text marks within = record { text = text; marks = marks; outer = []; here 
 abbrev pub laid : Walk → List ℕ → Laid
 laid w text = record { text = text; marks = reverse w.marks.items; outer = reverse w.outer.items; here = w.here; left = w.left; level = w.level }
 
-abbrev pub put_note : Gap → List ℕ → Laid → Laid
-put_note gap text s = record { text = s.text ++ (if has_notes s.here then gap_bytes gap ++ text else []); marks = s.marks; outer = s.outer; here = s.here; left = s.left; level = s.level }
+abbrev pub put_note : Bool → Gap → List ℕ → Laid → Laid
+put_note has gap text s = record { text = s.text ++ (if has then gap_bytes gap ++ text else []); marks = s.marks; outer = s.outer; here = s.here; left = s.left; level = s.level }
 
 abbrev pub with_token : Kind → List ℕ → Laid → Laid
 with_token kind text s = record {
-  text = s.text ++ (gap_bytes (gap_for (first_gap s.here s.level) s.left (closes_up (leaf kind text))) ++ respell kind text);
+  text = s.text ++ (due s.here s.left ++ (gap_bytes (gap_for (first_gap s.here s.level) s.left (closes_up (leaf kind text))) ++ respell kind text));
   marks = s.marks;
   outer = s.outer;
   here = s.here;
@@ -127,7 +142,7 @@ level_in mark level = if mark.broken then level + 1 else level
 
 abbrev pub opened_by : Mark → List Mark → GroupKind → Laid → Laid
 opened_by mark marks kind s = record {
-  text = s.text ++ (gap_bytes (gap_for (first_gap s.here s.level) s.left (hugs kind)) ++ opening_text kind);
+  text = s.text ++ (due s.here s.left ++ (gap_bytes (gap_for (first_gap s.here s.level) s.left (hugs kind)) ++ opening_text kind));
   marks = marks;
   outer = s.here ∷ s.outer;
   here = record { within = Some kind; mark = mark; later = false };
@@ -153,9 +168,6 @@ first_frame (f ∷ fs) = f
 abbrev pub level_out : Mark → ℕ → ℕ
 level_out mark level = if mark.broken then level - 1 else level
 
-abbrev pub comma_bytes : Bool → List ℕ
-comma_bytes b = if b then codes "," else []
-
 abbrev pub before_closing : Mark → Bool → ℕ → List ℕ
 before_closing mark one_comma level = if mark.broken then gap_bytes (Line (level - 1)) else comma_bytes one_comma
 
@@ -173,50 +185,36 @@ closed_by one_comma s = record {
   level = level_out s.here.mark s.level;
 }
 
--- what follows a segment: in place a comma before the next one
-abbrev pub after_segment : Mark → Bool → List ℕ
-after_segment mark last = if mark.broken then comma_bytes mark.comma else (if last then [] else codes ",")
+-- .. and of one without nodes where it ends
+abbrev pub after_segment : Frame → Edge → List ℕ
+after_segment f left = if f.mark.broken then comma_bytes f.mark.comma else due f left
 
-abbrev pub is_later : Frame → Bool → Bool
-is_later f last = if f.mark.broken then f.later else (if last then f.later else true)
-
-abbrev pub ended : Bool → Laid → Laid
-ended last s = record {
-  text = s.text ++ after_segment s.here.mark last;
+abbrev pub ended : Laid → Laid
+ended s = record {
+  text = s.text ++ after_segment s.here s.left;
   marks = s.marks;
   outer = s.outer;
-  here = record { within = s.here.within; mark = s.here.mark; later = is_later s.here last };
+  here = record { within = s.here.within; mark = s.here.mark; later = not s.here.mark.broken || s.here.later };
   left = Start;
   level = s.level;
 }
 
--- the bracket is closed next, but for comments
-abbrev pub is_last : List RowPart → Bool
-is_last (closing one_comma ∷ rest) = true
-is_last (above text ∷ rest) = is_last rest
-is_last (beside text ∷ rest) = is_last rest
-is_last _ = false
-
-abbrev pub step : RowPart → List RowPart → Laid → Laid
-step (a_token kind text) rest s = with_token kind text s
-step (opening kind) rest s = opened kind s
-step (closing one_comma) rest s = closed_by one_comma s
-step segment_end rest s = ended (is_last rest) s
-step (above text) rest s = put_note (Line s.level) text s
-step (beside text) rest s = put_note Apart text s
+abbrev pub step : RowPart → Laid → Laid
+step (a_token kind text) s = with_token kind text s
+step (opening kind) s = opened kind s
+step (closing one_comma) s = closed_by one_comma s
+step segment_end s = ended s
+step (above text) s = put_note s.here.mark.broken (Line s.level) text s
+step (beside text) s = put_note (has_beside s.here) Apart text s
 
 abbrev pub run : List RowPart → Laid → Laid
 run [] s = s
-run (p ∷ ps) s = run ps (step p ps s)
+run (p ∷ ps) s = run ps (step p s)
 
--- the comments above the statement, and the parts after them
+-- the comments above the statement
 abbrev pub leading : List RowPart → List (List ℕ)
 leading (above text ∷ ps) = text ∷ leading ps
 leading _ = []
-
-abbrev pub after_leading : List RowPart → List RowPart
-after_leading (above text ∷ ps) = after_leading ps
-after_leading ps = ps
 
 abbrev pub line_text : List ℕ → List RowPart → List ℕ
 line_text text ps = (run ps (start text (scan ps).marks None)).text ++ codes "\n"
@@ -225,4 +223,4 @@ line_text text ps = (run ps (start text (scan ps).marks None)).text ++ codes "\n
 abbrev pub row_text : List ℕ → List RowPart → Class → List ℕ
 row_text before ps class =
     let text = before ++ bytes_of (comment_lines (leading ps)) in
-    if is_comment class then text else line_text text (after_leading ps)
+    if is_comment class then text else line_text text ps

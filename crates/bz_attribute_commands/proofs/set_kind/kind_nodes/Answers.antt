@@ -10,11 +10,11 @@ use Rattle.bz_attribute_commands.proofs.set_kind.kind_nodes.Goals as goal
 pub loop-name-preserved : goal.loop-name-preserved
 loop-name-preserved c =
     let old = c.loop-name.nodes.items in
-    let parts : slice_split (λ b. b == 46) c.loop-name.left.now ≡ c.in-Some.name.now ∷ slice_split (λ b. b == 46) c.in-Some.rest.now = search rules in
+    let parts : slice_split (λ b. b == 46) c.loop-name.kind.now ≡ c.in-Some.name.now ∷ slice_split (λ b. b == 46) c.in-Some.rest.now = search rules in
     let name = ap nodes_view c.in_ok-push.ensures.items ∙ map-append node_view old (c.in_ok-token.field-0 ∷ []) ∙ ap (λ (n : Item). nodes_view old ++ n ∷ []) c.in_ok-token.ensures in
     let dot = ap nodes_view c.in_ok-push-2.ensures.items ∙ map-append node_view c.push.new.self.items (c.in_ok-token-2.field-0 ∷ []) ∙ ap (λ (n : Item). nodes_view c.push.new.self.items ++ n ∷ []) c.in_ok-token-2.ensures in
     let made = dot ∙ ap (λ (ns : List Item). ns ++ dot_item ∷ []) name in
     record {
       utf8 = search rules;
-      made = ap (λ (ns : List Item). ns ++ kind_items c.in-Some.rest.now) made ∙ kind_step (nodes_view old) c.loop-name.left.now c.in-Some.name.now c.in-Some.rest.now parts ∙ c.loop-name.invariant.made;
+      made = ap (λ (ns : List Item). ns ++ kind_items c.in-Some.rest.now) made ∙ kind_step (nodes_view old) c.loop-name.kind.now c.in-Some.name.now c.in-Some.rest.now parts ∙ c.loop-name.invariant.made;
     }

@@ -5,7 +5,7 @@ use Rattle.bz_attribute.specs.Setting.{kind_items}
 use Rattle.bz_attribute_commands.proofs.set_kind.kind_nodes.Given as goal
 
 abbrev pub invariant-loop-name : goal.invariant-loop-name
-invariant-loop-name l = record { utf8 : IsUtf8 l.left; made : nodes_view l.nodes.items ++ kind_items l.left ≡ kind_items l.kind }
+invariant-loop-name l = record { utf8 : IsUtf8 l.kind; made : nodes_view l.nodes.items ++ kind_items l.kind ≡ kind_items l.initial.kind }
 
 abbrev pub decreases-loop-name : goal.decreases-loop-name
-decreases-loop-name l = length l.left
+decreases-loop-name l = length l.kind

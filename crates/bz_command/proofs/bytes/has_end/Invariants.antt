@@ -4,7 +4,7 @@ use Rattle.bz_command.specs.private.ByteSteps.{inner_of}
 use Rattle.bz_command.proofs.bytes.has_end.Given as goal
 
 abbrev pub invariant-loop-after : goal.invariant-loop-after
-invariant-loop-after l = is_some (inner_of l.left) ≡ is_some (inner_of l.literal)
+invariant-loop-after l = is_some (inner_of l.literal) ≡ is_some (inner_of l.initial.literal)
 
 abbrev pub decreases-loop-after : goal.decreases-loop-after
-decreases-loop-after l = length l.left.rest.now
+decreases-loop-after l = length l.literal.rest.now

@@ -6,7 +6,7 @@ use Rattle.bz_command.specs.private.ByteSteps.{left, is_good}
 use Rattle.bz_command.proofs.completed.has_colon.Given as goal
 
 abbrev pub invariant-loop-b : goal.invariant-loop-b
-invariant-loop-b l = record { good : IsTrue (is_good l.rest); same : list_any is_colon (left l.rest) ≡ list_any is_colon (left l.text) }
+invariant-loop-b l = record { good : IsTrue (is_good l.text); same : list_any is_colon (left l.text) ≡ list_any is_colon (left l.initial.text) }
 
 abbrev pub decreases-loop-b : goal.decreases-loop-b
-decreases-loop-b l = length (left l.rest)
+decreases-loop-b l = length (left l.text)

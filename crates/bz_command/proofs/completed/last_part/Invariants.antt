@@ -5,7 +5,7 @@ use Rattle.bz_command.specs.private.ByteSteps.{left, is_good, last_from}
 use Rattle.bz_command.proofs.completed.last_part.Given as goal
 
 abbrev pub invariant-loop-b : goal.invariant-loop-b
-invariant-loop-b l = record { good : IsTrue (is_good l.rest); last : IsTrue (is_good l.last); same : last_from (left l.rest) (left l.last) ≡ last_of (parts_of (left l.path)) }
+invariant-loop-b l = record { good : IsTrue (is_good l.path); last : IsTrue (is_good l.last); same : last_from (left l.path) (left l.last) ≡ last_of (parts_of (left l.initial.path)) }
 
 abbrev pub decreases-loop-b : goal.decreases-loop-b
-decreases-loop-b l = length (left l.rest)
+decreases-loop-b l = length (left l.path)

@@ -4,7 +4,7 @@ use Rattle.bz_command.specs.Labels.{last_of, parts_of}
 use Rattle.bz_command.proofs.labels.last_part.Given as goal
 
 abbrev pub invariant-loop-rest : goal.invariant-loop-rest
-invariant-loop-rest l = record { utf8 : IsUtf8 l.last; same : last_of (parts_of l.last) ≡ last_of (parts_of l.path) }
+invariant-loop-rest l = record { utf8 : IsUtf8 l.path; same : last_of (parts_of l.path) ≡ last_of (parts_of l.initial.path) }
 
 abbrev pub decreases-loop-rest : goal.decreases-loop-rest
-decreases-loop-rest l = length l.last
+decreases-loop-rest l = length l.path

@@ -4,7 +4,7 @@ use Rattle.bz_command.specs.private.ByteSteps.{inner_of}
 use Rattle.bz_command.proofs.value.inner_is.Given as goal
 
 abbrev pub invariant-loop-byte : goal.invariant-loop-byte
-invariant-loop-byte l = is_value l.left (inner_of l.inner) ≡ is_value l.value (inner_of l.literal)
+invariant-loop-byte l = is_value l.value (inner_of l.literal) ≡ is_value l.initial.value (inner_of l.initial.literal)
 
 abbrev pub decreases-loop-byte : goal.decreases-loop-byte
-decreases-loop-byte l = length l.inner.rest.now
+decreases-loop-byte l = length l.literal.rest.now

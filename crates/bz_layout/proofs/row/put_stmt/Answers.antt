@@ -1,11 +1,14 @@
-use Rattle.std.proofs.Common.{◌≡◌, map, arith}
+use Rattle.std.proofs.Common.{◌≡◌, map, refl, Result, Ok, Err, OnOk, arith}
 use Rattle.std.proofs.lemmas.Grind.{common_steps}
 use Rattle.bz_tree.specs.View.{view}
 use Rattle.bz_tree.specs.Rows.{part_view, parts_of}
-use Rattle.bz_layout.proofs.Texts.{parts_laid}
 use Rattle.bz_layout.proofs.row.put_stmt.Goals as goal
+
+on_ok : {T E P Q : Type 0} (r : Result T E) → (P → Q) → OnOk r P → OnOk r Q
+on_ok (Ok x) f h = f h
+on_ok (Err e) f h = tt
 
 pub returns-clause-appended : goal.returns-clause-appended
 returns-clause-appended c =
-    let parts : map part_view c.push_parts.new.parts.items ≡ parts_of (view c.args.stmt.now) = grind (arith, common_steps) in
-    grind (arith, common_steps, parts, parts_laid c.args.out.now.items (view c.args.stmt.now))
+    let parts : map part_view c.deref.result.now ≡ parts_of (view c.args.stmt.now) = grind (arith, common_steps) in
+    on_ok c.put_parts.result (λ h. h (view c.args.stmt.now) parts refl) c.put_parts.ensures.appended

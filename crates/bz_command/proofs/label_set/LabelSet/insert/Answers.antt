@@ -7,5 +7,5 @@ use Rattle.bz_command.proofs.label_set.LabelSet.insert.Goals as goal
 
 pub returns-clause-ok : goal.returns-clause-ok
 returns-clause-ok c = λ other.
-    c.in_ok-new.ensures.updates.0 (completed c.args.self.now.home.now other)
+    c.in_ok-insert.ensures.updates.0 (completed c.args.self.now.home.now other)
     ∙ one_more (completed c.args.self.now.home.now (left c.args.text)) (completed c.args.self.now.home.now other) (has c.args.self.now other)

@@ -1,14 +1,11 @@
-use Rattle.std.proofs.Common.{◌≡◌, length, map}
+use Rattle.std.proofs.Common.{◌≡◌, drop, map}
 use Rattle.bz_tree.specs.Rows.{part_view}
 use Rattle.bz_layout.specs.private.Kept.{IsBegunBy}
 use Rattle.bz_layout.specs.private.RowLayout.{run, laid}
 use Rattle.bz_layout.proofs.walk.Walk.run.Given as goal
 
-abbrev pub invariant-loop-rest : goal.invariant-loop-rest
-invariant-loop-rest g l = record {
-  laid : run (map part_view l.rest) (laid l.self (g.T.Append.bytes l.out)) ≡ run (map part_view l.parts) (laid l.initial.self (g.T.Append.bytes l.initial.out));
+abbrev pub invariant-loop-part : goal.invariant-loop-part
+invariant-loop-part g l = record {
+  laid : run (map part_view (drop l.part-index l.parts)) (laid l.self (g.T.Append.bytes l.out)) ≡ run (map part_view l.parts) (laid l.initial.self (g.T.Append.bytes l.initial.out));
   begun : IsBegunBy (g.T.Append.bytes l.initial.out) (g.T.Append.bytes l.out);
 }
-
-abbrev pub decreases-loop-rest : goal.decreases-loop-rest
-decreases-loop-rest g l = length l.rest
