@@ -1,14 +1,14 @@
 //! Which statements a target marks.
 
 ghost use Rattle.std.specs.Prelude.{◌≡◌, bytes_eq};
-ghost use Rattle.bz_tree.specs.View.{nodes_view, view};
+ghost use Rattle.bz_tree.specs.View.{nodes_view, segs_view, view};
 ghost use Rattle.bz_command.specs.Labels.{Name};
 ghost use Rattle.bz_attribute.specs.Marks as spec;
-ghost use Rattle.bz_attribute.specs.Rules.{kind_text};
+ghost use Rattle.bz_attribute.specs.Rules.{is_text, name_in, kind_text};
 
 use crate::rule::{Rule, name_text, rule_of};
 use bz_command::{Marked, Target, has_value, plain_text};
-use bz_tree::{Node, Stmt};
+use bz_tree::{Node, Seg, Stmt};
 
 /// The target marks the statement: it is a rule that has the name, the kind or the first line that is meant.
 pub fn matches(target: &Target, stmt: &Stmt<'_>) -> bool
@@ -18,13 +18,18 @@ pub fn matches(target: &Target, stmt: &Stmt<'_>) -> bool
         return false;
     };
     match &target.marked {
-        Marked::Name(name) => name_text(&rule.call.segs)
-            .is_some_and(|text| has_value(text.as_bytes(), name.as_str().as_bytes())),
+        Marked::Name(name) => has_name(&rule.call.segs, name.as_str()),
         Marked::Pkg => is_kind(rule.kind, "package"),
         Marked::All => true,
         Marked::Kind(kind) => is_kind(rule.kind, kind.as_str()),
         Marked::Line(line) => stmt.start == *line,
     }
+}
+
+fn has_name(args: &[Seg<'_>], name: &str) -> bool
+    ensures { result ≡ is_text name.now (name_in (segs_view args.now)) }
+{
+    name_text(args).is_some_and(|text| has_value(text.as_bytes(), name.as_bytes()))
 }
 
 /// What the name of a rule says of the targets that ask for a name.
@@ -48,10 +53,7 @@ pub fn rule_name<'s>(stmt: &'s Stmt<'_>) -> RuleName<'s>
     let Some(text) = name_text(&call.segs) else {
         return RuleName::NoName;
     };
-    match plain_text(text) {
-        Some(name) => RuleName::Plain(name),
-        None => RuleName::Other,
-    }
+    plain_text(text).map_or(RuleName::Other, RuleName::Plain)
 }
 
 /// The nodes before the call have this text.
