@@ -1,6 +1,6 @@
 //! The elements of an attribute that a command chooses, and what is left without them.
 
-ghost use Rattle.std.specs.Prelude.{◌≡◌, ◌≤◌, length, not, ◌&&◌};
+ghost use Rattle.std.specs.Prelude.{◌≡◌, ◌≤◌, length};
 ghost use Rattle.std.specs.List.{list_any};
 ghost use Rattle.bz_tree.specs.View.{node_view, nodes_view, seg_view, segs_view};
 ghost use Rattle.bz_attribute.specs.Rules.{elements, value};
@@ -99,19 +99,13 @@ pub fn drop_in(home: &Package, chosen: Chosen<'_, '_>, arg: &mut Seg<'_>)
     drop_in_value(home, chosen, &mut arg.nodes[2..]);
 }
 
-fn loses_elements(home: &Package, chosen: Chosen<'_, '_>, elements: &[Seg<'_>]) -> bool
-    ensures { result ≡ (not (spec.is_nil (segs_view elements.now))
-        && spec.is_nil (spec.unchosen home.now (chosen_view chosen.entry) (segs_view elements.now))) }
-{
-    elements.len() != 0 && elements.iter().all(|seg| is_chosen(home, chosen, seg))
-}
-
 /// The argument's value is one list, all of whose elements are chosen, and there are some.
 pub fn loses_all(home: &Package, chosen: Chosen<'_, '_>, arg: &Seg<'_>) -> bool
     ensures { result ≡ spec.loses_all (spec.unchosen home.now (chosen_view chosen.entry)) (value (seg_view arg.now)) }
 {
-    match value_of(arg) {
-        [node] => is_list(node) && loses_elements(home, chosen, elements_at(node)),
-        _ => false,
-    }
+    let [node] = value_of(arg) else {
+        return false;
+    };
+    let elements = elements_at(node);
+    is_list(node) && !elements.is_empty() && elements.iter().all(|seg| is_chosen(home, chosen, seg))
 }

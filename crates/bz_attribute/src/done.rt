@@ -45,9 +45,8 @@ impl Done {
         ensures { result ≡ spec.failed note }
     {
         Done {
-            changed: false,
-            line: None,
             note: Some(note),
+            ..Done::quiet(false)
         }
     }
 }

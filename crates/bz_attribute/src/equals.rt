@@ -35,11 +35,8 @@ pub(crate) fn equals_other(home: &Package, element: &Seg<'_>, other: &Seg<'_>) -
     ensures { result
         ≡ spec.equals_any home.now (words_of (string_value (seg_view other.now).nodes)) (seg_view element.now) }
 {
-    let Some(word) = string_of(other) else {
-        return false;
-    };
-    match string_of(element) {
-        None => false,
-        Some(value) => same_label(home, value, word),
+    match (string_of(element), string_of(other)) {
+        (Some(value), Some(word)) => same_label(home, value, word),
+        _ => false,
     }
 }

@@ -38,8 +38,7 @@ pub fn literal<'a>(alloc: Global, value: &str) -> Result<Node<'a>, AllocError>
 pub fn string<'a>(alloc: Global, value: &str) -> Result<Seg<'a>, AllocError>
     ensures { IfOk result (λ seg. seg_view seg ≡ spec.string value.now) }
 {
-    let nodes = vec![in alloc; literal(alloc, value)?]?;
-    Ok(segment(alloc, nodes))
+    Ok(segment(alloc, vec![in alloc; literal(alloc, value)?]?))
 }
 
 /// An element of some nodes. It takes no memory.

@@ -53,10 +53,7 @@ pub fn rule_name<'s>(stmt: &'s Stmt<'_>) -> RuleName<'s>
     let Some(text) = name_text(&call.segs) else {
         return RuleName::NoName;
     };
-    match plain_text(text) {
-        Some(name) => RuleName::Plain(name),
-        None => RuleName::Other,
-    }
+    plain_text(text).map_or(RuleName::Other, RuleName::Plain)
 }
 
 /// The nodes before the call have this text.

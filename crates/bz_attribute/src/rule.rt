@@ -1,8 +1,8 @@
 //! The view of a statement as a rule: reading only, no memory.
 
-ghost use Rattle.std.specs.Prelude.{◌≡◌, false, option_map, true, IfNone, IfSome, None};
+ghost use Rattle.std.specs.Prelude.{◌≡◌, option_map, true, IfNone, IfSome, None};
 ghost use Rattle.bz_tree.specs.View.{node_view, nodes_view, seg_view, segs_view};
-ghost use Rattle.bz_attribute.specs.RuleViews.{IsCall, rule_view};
+ghost use Rattle.bz_attribute.specs.RuleViews.{rule_view};
 ghost use Rattle.bz_attribute.specs.private.Places.{IsFirst, IsAbsent, IsCallAt};
 ghost use Rattle.bz_attribute.specs.Rules as spec;
 
@@ -24,11 +24,12 @@ pub fn rule_of<'n, 'a>(nodes: &'n [Node<'a>]) -> Option<Rule<'n, 'a>>
     let [kind @ .., last] = nodes else {
         return None;
     };
-    let call = call_of(last)?;
-    if !are_dotted(kind) {
-        return None;
+    match last {
+        Node::Group(call) if call.kind == GroupKind::RuleCall && are_dotted(kind) => {
+            Some(Rule { kind, call })
+        }
+        _ => None,
     }
-    Some(Rule { kind, call })
 }
 
 /// Where the call of a rule stands, or nothing where the nodes are no rule.
@@ -38,16 +39,6 @@ pub fn call_at(nodes: &[Node<'_>]) -> Option<usize>
 {
     let _ = rule_of(nodes)?;
     Some(nodes.len() - 1)
-}
-
-fn call_of<'n, 'a>(node: &'n Node<'a>) -> Option<&'n Group<'a>>
-    ensures none { IfNone result (spec.is_call (node_view node.now) ≡ false) }
-    ensures some { IfSome result (λ call. IsCall (node_view node.now) call.now) }
-{
-    match node {
-        Node::Group(group) if group.kind == GroupKind::RuleCall => Some(group),
-        _ => None,
-    }
 }
 
 // Identifiers joined by dots.

@@ -16,7 +16,19 @@ pub fn label(alloc: Global, home: &Package, target: &Target) -> Result<String, A
 {
     let mut text = String::new(alloc);
     push_home(&mut text, home)?;
-    push_target(alloc, &mut text, target)?;
+    match &target.marked {
+        Marked::Name(name) => text.push_str(name.as_str())?,
+        Marked::Pkg => text.push_str("__pkg__")?,
+        Marked::All => text.push_str("*")?,
+        Marked::Kind(kind) => {
+            text.push_str("%")?;
+            text.push_str(kind.as_str())?
+        }
+        Marked::Line(line) => {
+            text.push_str("%")?;
+            text.push_str(line.to_string(alloc)?.as_str())?
+        }
+    }
     Ok(text)
 }
 
@@ -49,24 +61,6 @@ pub fn push_home(text: &mut String, home: &Package) -> Result<(), AllocError>
             text.push_str("//")?;
             text.push_str(path)?;
             text.push_str(":")
-        }
-    }
-}
-
-fn push_target(alloc: Global, text: &mut String, target: &Target) -> Result<(), AllocError>
-    ensures { OnOk result (string_bytes text.new ≡ string_bytes text.old ++ spec.target_text target.now) }
-{
-    match &target.marked {
-        Marked::Name(name) => text.push_str(name.as_str()),
-        Marked::Pkg => text.push_str("__pkg__"),
-        Marked::All => text.push_str("*"),
-        Marked::Kind(kind) => {
-            text.push_str("%")?;
-            text.push_str(kind.as_str())
-        }
-        Marked::Line(line) => {
-            text.push_str("%")?;
-            text.push_str(line.to_string(alloc)?.as_str())
         }
     }
 }

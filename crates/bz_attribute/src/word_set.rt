@@ -33,19 +33,15 @@ pub fn word_set<'a>(
     ensures { IfOk result (λ set. set.words.now ≡ words.now) }
 {
     if words.len() <= FEW {
-        return Ok(WordSet {
-            words,
-            labels: None,
-        });
+        let labels = None;
+        return Ok(WordSet { words, labels });
     }
     let mut labels = LabelSet::new(alloc, home);
     for word in words {
         labels.insert(Bytes::Plain(word.as_str().as_bytes()))?;
     }
-    Ok(WordSet {
-        words,
-        labels: Some(labels),
-    })
+    let labels = Some(labels);
+    Ok(WordSet { words, labels })
 }
 
 impl<'a> WordSet<'a> {

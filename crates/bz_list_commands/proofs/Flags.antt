@@ -5,7 +5,7 @@ use Rattle.std.specs.Result.{result_ok}
 use Rattle.std.specs.Global.{Vec}
 use Rattle.std.specs.List.{SwappedAt, list_any}
 use Rattle.std.proofs.lemmas.Bool.{cases_Bool}
-use Rattle.std.proofs.lemmas.List.{drop_more, drop_all, get_or_default, length-drop, length-map, map-append, append-nil}
+use Rattle.std.proofs.lemmas.List.{drop_more, get_or_default, length-drop, length-map, map-append, append-nil}
 use Rattle.std.proofs.lemmas.List.Folds.{list_any-append}
 use Rattle.bz_token.proofs.Classes.{same_bytes}
 use Rattle.bz_tree.specs.declared.stmt.Seg.{Seg}

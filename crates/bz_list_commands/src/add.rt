@@ -1,10 +1,9 @@
 //! `add`: values that are missing go to the end of a list.
 
 ghost use Rattle.std.specs.Prelude.{◌≡◌, ◌≤◌, ◌++◌, ◌∷◌, [], length, IfOk, IfSome, OnOk, OnErr};
-ghost use Rattle.std.specs.List.{list_any};
 ghost use Rattle.bz_tree.specs.View.{node_view, nodes_view, seg_view, segs_view};
 ghost use Rattle.bz_attribute.specs.Rules.{first_named};
-ghost use Rattle.bz_attribute.specs.Lists.{edit_list, parts, same};
+ghost use Rattle.bz_attribute.specs.Lists.{edit_list, parts};
 ghost use Rattle.bz_list_commands.specs.private.AddingSteps.{Knows, told};
 ghost use Rattle.bz_attribute.specs.Effects as spec;
 
@@ -104,19 +103,14 @@ fn is_fresh<'t>(
     ensures there { OnOk result
         (IfSome there.new (Knows home.now (parts (nodes_view value.now)) (earlier.now ++ word.now ∷ []))) }
 {
+    let label = Bytes::Plain(word.as_bytes());
     match there {
         None => Ok(
-            !is_any_chosen(home, Chosen::Value(word), value) && !is_any_same(home, word, earlier),
+            !is_any_chosen(home, Chosen::Value(word), value)
+                && !earlier.iter().any(|other| is_label(home, label, other)),
         ),
-        Some(set) => Ok(set.insert(Bytes::Plain(word.as_bytes()))?),
+        Some(set) => Ok(set.insert(label)?),
     }
-}
-
-fn is_any_same(home: &Package, word: &str, others: &[Text]) -> bool
-    ensures { result ≡ list_any (same home.now word.now) others.now }
-{
-    let word = Bytes::Plain(word.as_bytes());
-    others.iter().any(|other| is_label(home, word, other))
 }
 
 // Adds elements at the end of a list. An `Err` leaves the node as it was.

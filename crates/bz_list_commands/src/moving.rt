@@ -107,13 +107,10 @@ fn move_note(
 ) -> Result<Option<Note>, AllocError>
     ensures { IfOk result (λ note. note ≡ spec.move_note old.now new.now (segs_view args.now)) }
 {
-    if find(args, old).is_none() {
-        return Ok(Some(Note::NoAttribute(Text::from_str(alloc, old)?)));
+    match find(args, old) {
+        None => Ok(Some(Note::NoAttribute(Text::from_str(alloc, old)?))),
+        Some(_) => Ok(not_a_list(alloc, old, args)?.or(not_a_list(alloc, new, args)?)),
     }
-    if let Some(note) = not_a_list(alloc, old, args)? {
-        return Ok(Some(note));
-    }
-    not_a_list(alloc, new, args)
 }
 
 fn not_a_list(alloc: Global, attr: &str, args: &[Seg<'_>]) -> Result<Option<Note>, AllocError>
@@ -166,22 +163,16 @@ fn put_in<'a>(arg: &mut Seg<'a>, later: Vec<Seg<'a>>)
     }
 }
 
-fn put_in_list<'a>(node: &mut Node<'a>, later: Vec<Seg<'a>>)
+// The later elements have room for all: so nothing can fail.
+fn put_in_list<'a>(node: &mut Node<'a>, mut later: Vec<Seg<'a>>)
     requires { length (elements (node_view node.old)) + vec_len later ≤ vec_capacity later }
     ensures { node_view node.new ≡ edit_list (λ there. there ++ segs_view later.entry.items) (node_view node.old) }
 {
     if let Node::Group(group) = node {
-        put_after(&mut group.segs, later);
+        let elements = &mut group.segs;
+        let count = later.len();
+        let _ = later.append(elements);
+        later.rotate_left(count);
+        *elements = later;
     }
-}
-
-// The later elements have room for all: so nothing can fail.
-fn put_after<'a>(elements: &mut Vec<Seg<'a>>, mut later: Vec<Seg<'a>>)
-    requires { vec_len elements.old + vec_len later ≤ vec_capacity later }
-    ensures { elements.new.items ≡ elements.old.items ++ later.entry.items }
-{
-    let count = later.len();
-    let _ = later.append(elements);
-    later.rotate_left(count);
-    *elements = later;
 }

@@ -33,12 +33,10 @@ pub fn remove(
         (spec.removes home.now (attributes_view attributes.now) values.now (segs_view args.old.items))) }
     ensures err { OnErr result (segs_view args.new.items ≡ segs_view args.old.items) }
 {
-    match values {
-        [] => Ok(remove_whole(attributes, args)),
-        _ => match attributes {
-            Attributes::Every => remove_everywhere(alloc, home, values, args),
-            Attributes::Named(attr) => remove_values(alloc, home, attr.as_str(), values, args),
-        },
+    match (attributes, values) {
+        (_, []) => Ok(remove_whole(attributes, args)),
+        (Attributes::Every, _) => remove_everywhere(alloc, home, values, args),
+        (Attributes::Named(attr), _) => remove_values(alloc, home, attr.as_str(), values, args),
     }
 }
 
@@ -106,16 +104,11 @@ fn remove_everywhere<'v>(
 {
     let words = word_set(alloc, home, values)?;
     let chosen = Chosen::Words(&words);
-    let changed = chooses_anywhere(home, chosen, args);
+    let changed = args.iter().any(|arg| is_attribute(arg)
+        && is_any_chosen(home, chosen, value_of(arg)));
     args.retain(|arg| !is_attribute(arg) || !loses_all(home, chosen, arg));
     drop_everywhere(home, chosen, args);
     Ok(Done::quiet(changed))
-}
-
-fn chooses_anywhere(home: &Package, chosen: Chosen<'_, '_>, args: &[Seg<'_>]) -> bool
-    ensures { result ≡ spec.chooses_anywhere home.now (chosen_view chosen.entry) (segs_view args.now) }
-{
-    args.iter().any(|arg| is_attribute(arg) && is_any_chosen(home, chosen, value_of(arg)))
 }
 
 fn drop_everywhere(home: &Package, chosen: Chosen<'_, '_>, args: &mut [Seg<'_>])

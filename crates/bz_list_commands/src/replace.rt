@@ -72,12 +72,6 @@ fn replace_everywhere(
     Ok(Done::quiet(pool.len() < count))
 }
 
-fn is_replaced(change: Change<'_>, element: &Seg<'_>) -> bool
-    ensures { result ≡ goes change.entry (seg_view element.now) }
-{
-    equals(change.home, element, change.old) && !is_string(&element.nodes, change.new)
-}
-
 // How many elements of the attributes equal the old value: so many strings are enough.
 fn count_old(change: Change<'_>, args: &[Seg<'_>]) -> Result<usize, AllocError>
     ensures { IfOk result (λ n. n ≡ old_everywhere change.entry (segs_view args.now)) }
@@ -180,10 +174,9 @@ fn put_in_element<'a>(change: Change<'_>, element: &mut Seg<'a>, pool: &mut Vec<
     ensures pool { Uses change.entry (if goes change.entry (seg_view element.old) then 1 else 0)
         pool.old.items pool.new.items }
 {
-    if !is_replaced(change, element) {
-        return;
-    }
-    if let Some(string) = pool.pop() {
-        element.nodes = string.nodes;
+    if equals(change.home, element, change.old) && !is_string(&element.nodes, change.new) {
+        if let Some(string) = pool.pop() {
+            element.nodes = string.nodes;
+        }
     }
 }

@@ -57,13 +57,10 @@ pub(crate) fn count_in(choice: Choice<'_, '_, '_>, value: &[Node<'_>]) -> Result
 fn count_elements(choice: Choice<'_, '_, '_>, elements: &[Seg<'_>]) -> usize
     ensures { result ≡ length (leave choice.entry (segs_view elements.now)) }
 {
-    let mut count = 0;
-    for element in elements {
-        if is_chosen(choice.home, choice.chosen, element) {
-            count += 1;
-        }
-    }
-    count
+    elements
+        .iter()
+        .filter(|element| is_chosen(choice.home, choice.chosen, element))
+        .count()
 }
 
 /// Moves the chosen elements of the first argument of a name to the end of `taken`. The argument goes where none is
@@ -124,21 +121,10 @@ fn take_in_list<'a>(choice: Choice<'_, '_, '_>, node: &mut Node<'a>, taken: &mut
     ensures taken { Takes choice.entry (elements (node_view node.old)) taken.old taken.new }
 {
     if let Node::Group(group) = node {
-        take_chosen(choice, &mut group.segs, taken);
+        let elements = &mut group.segs;
+        let kept = part_elements(choice, elements, taken);
+        elements.truncate(kept);
     }
-}
-
-fn take_chosen<'a>(
-    choice: Choice<'_, '_, '_>,
-    elements: &mut Vec<Seg<'a>>,
-    taken: &mut Vec<Seg<'a>>,
-)
-    requires { HasRoom choice (segs_view elements.old.items) taken.old }
-    ensures left { segs_view elements.new.items ≡ stay choice.entry (segs_view elements.old.items) }
-    ensures taken { Takes choice.entry (segs_view elements.old.items) taken.old taken.new }
-{
-    let kept = part_elements(choice, elements, taken);
-    elements.truncate(kept);
 }
 
 // Moves the chosen elements, brings the others to the front and answers how many they are.
