@@ -107,8 +107,8 @@ impl Command {
         matches!(self.action, Action::Print(_))
     }
 
-    /// It mentions the attribute of this name, as `*` mentions each. Of the other arguments it looks at no value but that
-    /// of `name`, and changes none.
+    /// It mentions the attribute of this name, as `*` mentions each. It looks at no value of the others, but that of
+    /// `name`.
     pub fn mentions(&self, name: &str) -> bool
         ensures { result ≡ mentioned.mentions self.now name.now }
     {

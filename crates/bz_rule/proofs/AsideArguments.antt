@@ -1,21 +1,19 @@
 -- Each command on arguments, where what it does not mention is changed before it or after it.
-use Rattle.std.proofs.Common.{◌≡◌, ℕ, List, [], ◌∷◌, ◌++◌, Bool, true, false, not, ◌||◌, if◌then◌else◌, Option, Some, None, is_some, map, refl, ap, sym, ◌∙◌}
+use Rattle.std.proofs.Common.{◌≡◌, ℕ, List, [], ◌∷◌, ◌++◌, true, false, not, ◌||◌, if◌then◌else◌, Some, None, is_some, map, refl, ap, sym, ◌∙◌}
 use Rattle.std.specs.Prelude.{bytes_eq}
 use Rattle.std.proofs.lemmas.Bool.{or_right}
 use Rattle.std.proofs.lemmas.Slice.Eq.{bytes_eq-Decides}
-use Rattle.bz_tree.specs.Tree.{Item, Segment}
+use Rattle.bz_tree.specs.Tree.{Segment}
 use Rattle.bz_command.specs.Labels.{Package}
-use Rattle.bz_command.specs.Commands.{Command, Add, Remove, Set, SetIfAbsent, Delete, Rename, Move, Replace, Comment, Print, Attributes, Every, Named, Moved, Values, ToKind, ToValues, Rule as OfRule, Attribute, Value}
+use Rattle.bz_command.specs.Commands.{Command, Add, Remove, Set, SetIfAbsent, Delete, Rename, Move, Replace, Comment, Print, Every, Named, Moved, Values, ToKind, ToValues, Rule as OfRule, Attribute, Value}
 use Rattle.bz_command.specs.Mentions.{mentions}
 use Rattle.bz_attribute.specs.Rules.{first_named, is_named, is_text, name_of, value}
 use Rattle.bz_attribute.specs.Lists.{edit_first_part, edit_parts, parts, with_value}
-use Rattle.bz_attribute.specs.Effects.{add, argument, done, edit_first, filtered, has, list_item, loses_all, new_elements, no_parts, not_a_list, remove, removes, rename, rename_note, rename_to, unchosen, with_added}
-use Rattle.bz_attribute.specs.declared.done.Note.{Note}
+use Rattle.bz_attribute.specs.Effects.{add, argument, done, edit_first, filtered, has, list_item, loses_all, new_elements, no_parts, remove, removes, rename, rename_note, rename_to, unchosen, with_added}
 use Rattle.bz_attribute.specs.Setting.{New, is_value, new_of, new_value, set, set_if_absent, set_in}
 use Rattle.bz_attribute.specs.Moving.{arrivals, chosen_of, elements_of, move, move_note, moved, moved_where, moves, put_in}
-use Rattle.bz_attribute.specs.Replacing.{replace, replaced_in, replaces}
-use Rattle.bz_attribute.specs.Commenting.{comment_args, comment_attribute, comment_done, comment_element, comment_line, comment_note, comment_value, with_comment}
-use Rattle.bz_attribute.specs.declared.done.Done.{Done}
+use Rattle.bz_attribute.specs.Replacing.{replace, replaced_in}
+use Rattle.bz_attribute.specs.Commenting.{comment_attribute, comment_element, comment_line, comment_note, comment_value, with_comment}
 use Rattle.bz_rule.specs.Applied.{args_after, args_done}
 use Rattle.bz_rule.specs.Aside.{IsAside}
 use Rattle.bz_rule.proofs.NamesKept.{KeepsEach, Leaves, append_kept, each_stays, edit_kept, edit_one_kept, filter_kept, first_kept, has_kept, named_kept, put_kept}

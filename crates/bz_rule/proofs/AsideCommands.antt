@@ -1,5 +1,5 @@
 -- Commands and targets on statements, where what they do not look at is changed.
-use Rattle.std.proofs.Common.{◌≡◌, ℕ, List, ◌++◌, Option, Some, None, map, option_map, codes, refl, ap, ◌∙◌, if◌then◌else◌, true, false}
+use Rattle.std.proofs.Common.{◌≡◌, ℕ, List, ◌++◌, Option, Some, None, map, option_map, refl, ap, ◌∙◌, if◌then◌else◌, true, false}
 use Rattle.bz_tree.specs.Tree.{Segment, Statement}
 use Rattle.bz_command.specs.Labels.{Package, Target, Name, Pkg, All, Kind as OfKind, Line}
 use Rattle.bz_command.specs.Commands.{Command, Add, Remove, Set, SetIfAbsent, Delete, Rename, Move, Replace, Comment, Print, ToKind, ToValues, Rule as OfRule, Attribute, Value}
@@ -57,6 +57,9 @@ done_aside (Comment (Value attr value) text) home slot g aside = on_args_told (C
 done_aside (Print fields) home slot g aside = prints_aside fields home g aside slot
 
 -- targets look at names alone
+
+pub keeps_names : (c : Command) (g : Segment → Segment) → IsAside c g → KeepsNames g
+keeps_names c g aside = record { names = aside.names; name = aside.name }
 
 marks_rule_kept : (target : Target) (start : ℕ) (r : Rule) (g : Segment → Segment) → KeepsNames g → marks_rule target start (rule_with (map g) r) ≡ marks_rule target start r
 marks_rule_kept (Name text) start r g keeps = ap (is_text text) (name_kept g keeps.names keeps.name r.args)

@@ -8,11 +8,9 @@ use Rattle.bz_tree.specs.Tree.{Item, Segment, Statement}
 use Rattle.bz_command.specs.Labels.{Package}
 use Rattle.bz_command.specs.Commands.{Field, Label, Kind, StartLine, EndLine, ValueOf, Print}
 use Rattle.bz_command.specs.Mentions.{field_mentions}
-use Rattle.bz_attribute.specs.Rules.{Rule, first_named, is_named, rule_of, value}
+use Rattle.bz_attribute.specs.Rules.{Rule, rule_of, value}
 use Rattle.bz_attribute.specs.Texts.{home_text}
 use Rattle.bz_attribute.specs.Effects.{with_args}
-use Rattle.bz_attribute.specs.declared.done.Done.{Done}
-use Rattle.bz_attribute.specs.declared.done.Note.{Note}
 use Rattle.bz_attribute.specs.declared.done.Note.TheVariants.{Missing}
 use Rattle.bz_attribute_commands.specs.Printing.{field_name, field_text, fields_of, missing, printed, printed_of, prints, shown_field, spaced, value_text}
 use Rattle.bz_rule.specs.Aside.{IsAside}

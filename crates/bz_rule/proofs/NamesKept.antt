@@ -1,8 +1,8 @@
 -- Arguments of which each keeps its name, and those of one name stay as they are.
-use Rattle.std.proofs.Common.{◌≡◌, ℕ, List, [], ◌∷◌, ◌++◌, Bool, true, false, cond, not, ◌||◌, if◌then◌else◌, Some, None, is_some, map, filter, codes, refl, ap, sym, ◌∙◌}
+use Rattle.std.proofs.Common.{◌≡◌, ℕ, List, [], ◌∷◌, ◌++◌, Bool, true, false, cond, if◌then◌else◌, Some, map, filter, codes, refl, ap, sym, ◌∙◌}
 use Rattle.bz_tree.specs.Tree.{Item, Segment}
 use Rattle.bz_attribute.specs.Rules.{first_named, is_named, is_text, name_in, name_of, string_in}
-use Rattle.bz_attribute.specs.Lists.{is_attribute, with_value}
+use Rattle.bz_attribute.specs.Lists.{with_value}
 use Rattle.bz_attribute.specs.Effects.{argument, edit_first, has}
 use Rattle.bz_rule.proofs.Arguments.{attribute_named, name_put}
 use Rattle.bz_rule.proofs.SetLaws.{same_bytes}

@@ -1,5 +1,5 @@
 -- A statement with other arguments: the rule that it is.
-use Rattle.std.proofs.Common.{◌≡◌, ℕ, ◌<◌, ◌==◌, List, [], ◌∷◌, ◌++◌, Bool, true, false, ◌&&◌, Option, Some, None, is_some, option_map, length, if◌then◌else◌, refl, ap, sym, ◌∙◌, arith}
+use Rattle.std.proofs.Common.{◌≡◌, ℕ, ◌<◌, ◌==◌, List, [], ◌∷◌, ◌++◌, true, false, ◌&&◌, Option, Some, None, is_some, option_map, length, if◌then◌else◌, refl, ap, sym, ◌∙◌, arith}
 use Rattle.std.specs.Prelude.{bytes_eq}
 use Rattle.std.specs.List.{slice_split}
 use Rattle.std.proofs.lemmas.Bool.{and_parts}
@@ -57,8 +57,8 @@ holds_after f (Some s) = is_rule_after f s
 pub with_args_twice : (f h : List Segment → List Segment) (s : Statement) → with_args f (with_args h s) ≡ with_args (λ args. f (h args)) s
 with_args_twice f h s =
     let nodes : nodes_after f (with_args h s).nodes (rule_of (with_args h s).nodes) ≡ nodes_after (λ args. f (h args)) s.nodes (rule_of s.nodes) =
-      ap (nodes_after f (with_args h s).nodes) (rule_after h s)
-      ∙ elim (rule_of s.nodes) as (λ o. nodes_after f (nodes_after h s.nodes o) (option_map (rule_with h) o) ≡ nodes_after (λ args. f (h args)) s.nodes o) [ None ↦ refl | Some r ↦ refl ] in
+    ap (nodes_after f (with_args h s).nodes) (rule_after h s)
+    ∙ elim (rule_of s.nodes) as (λ o. nodes_after f (nodes_after h s.nodes o) (option_map (rule_with h) o) ≡ nodes_after (λ args. f (h args)) s.nodes o) [ None ↦ refl | Some r ↦ refl ] in
     ap (λ (nodes : List Item). record s { nodes = nodes }) nodes
 
 -- edits that are the same of each list
@@ -113,9 +113,9 @@ kind_nodes kind f nodes r e =
 pub kind_exchanged : (kind : List ℕ) (f : List Segment → List Segment) (s : Statement) → with_kind kind (with_args f s) ≡ with_args f (with_kind kind s)
 kind_exchanged kind f s =
     let nodes : kind_after kind (with_args f s).nodes (rule_of (with_args f s).nodes) ≡ nodes_after f (with_kind kind s).nodes (rule_of (with_kind kind s).nodes) =
-      ap (kind_after kind (with_args f s).nodes) (rule_after f s)
-      ∙ elim (rule_of s.nodes) as (λ o. rule_of s.nodes ≡ o → kind_after kind (nodes_after f s.nodes o) (option_map (rule_with f) o) ≡ nodes_after f (kind_after kind s.nodes o) (rule_of (kind_after kind s.nodes o)))
-      [ None ↦ λ e. rw e refl | Some r ↦ λ e. kind_nodes kind f s.nodes r e ] refl in
+    ap (kind_after kind (with_args f s).nodes) (rule_after f s)
+    ∙ elim (rule_of s.nodes) as (λ o. rule_of s.nodes ≡ o → kind_after kind (nodes_after f s.nodes o) (option_map (rule_with f) o) ≡ nodes_after f (kind_after kind s.nodes o) (rule_of (kind_after kind s.nodes o)))
+    [ None ↦ λ e. rw e refl | Some r ↦ λ e. kind_nodes kind f s.nodes r e ] refl in
     ap (λ (nodes : List Item). record s { nodes = nodes }) nodes
 
 pub slot_kind_exchanged : (kind : List ℕ) (f : List Segment → List Segment) (slot : Option Statement)
@@ -134,6 +134,6 @@ pub comment_exchanged : (text : List ℕ) (f : List Segment → List Segment) (s
 comment_exchanged text f None = refl
 comment_exchanged text f (Some s) =
     let before : comments_above s.before text (rule_of (with_args f s).nodes) ≡ comments_above s.before text (rule_of s.nodes) =
-      ap (comments_above s.before text) (rule_after f s)
-      ∙ elim (rule_of s.nodes) as (λ o. comments_above s.before text (option_map (rule_with f) o) ≡ comments_above s.before text o) [ None ↦ refl | Some r ↦ refl ] in
+    ap (comments_above s.before text) (rule_after f s)
+    ∙ elim (rule_of s.nodes) as (λ o. comments_above s.before text (option_map (rule_with f) o) ≡ comments_above s.before text o) [ None ↦ refl | Some r ↦ refl ] in
     ap (λ (lines : List (List ℕ)). Some (record (with_args f s) { before = lines })) before
