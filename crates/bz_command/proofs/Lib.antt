@@ -1,6 +1,7 @@
 pub mod Cuts
 mod Decoding
 mod Examples
+mod FieldViews
 mod Fields
 pub mod LabelSets
 mod LastParts

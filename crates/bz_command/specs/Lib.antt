@@ -3,6 +3,7 @@ pub mod Commands
 pub mod LabelSetViews
 pub mod LabelViews
 pub mod Labels
+pub mod Mentions
 pub mod Names
 pub mod Same
 pub mod Values

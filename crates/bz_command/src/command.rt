@@ -1,7 +1,10 @@
 //! Commands on one rule.
 
-ghost use Rattle.std.specs.Prelude.{◌≡◌};
+ghost use Rattle.std.specs.Prelude.{◌≡◌, map};
+ghost use Rattle.std.specs.List.{list_any};
 ghost use Rattle.bz_command.specs.Commands as spec;
+ghost use Rattle.bz_command.specs.CommandViews.{attributes_view, commented_view, field_view, setting_view};
+ghost use Rattle.bz_command.specs.Mentions as mentioned;
 
 use crate::list::{Seq, Text};
 use std::alloc::AllocError;
@@ -103,6 +106,86 @@ impl Command {
     {
         matches!(self.action, Action::Print(_))
     }
+
+    /// It mentions the attribute of this name, as `*` mentions each. It looks at no value of the others, but that of
+    /// `name`.
+    pub fn mentions(&self, name: &str) -> bool
+        ensures { result ≡ mentioned.mentions self.now name.now }
+    {
+        match &self.action {
+            Action::Add(attr, _) | Action::SetIfAbsent(attr, _) => attr.as_str() == name,
+            Action::Remove(attributes, _) | Action::Replace(attributes, _, _) => {
+                attributes.mention(name)
+            }
+            Action::Set(setting) => setting.mentions(name),
+            Action::Delete => false,
+            Action::Rename(old, new) | Action::Move(old, new, _) => {
+                old.as_str() == name || new.as_str() == name
+            }
+            Action::Comment(commented, _) => commented.mentions(name),
+            Action::Print(fields) => print_mentions(fields.as_slice(), name),
+        }
+    }
+}
+
+impl Attributes {
+    fn mention(&self, name: &str) -> bool
+        ensures { result ≡ mentioned.attributes_mention name.now (attributes_view self.now) }
+    {
+        match self {
+            Attributes::Every => true,
+            Attributes::Named(attr) => attr.as_str() == name,
+        }
+    }
+}
+
+impl Setting {
+    fn mentions(&self, name: &str) -> bool
+        ensures { result ≡ mentioned.setting_mentions name.now (setting_view self.now) }
+    {
+        match self {
+            Setting::ToKind(_) => false,
+            Setting::ToValues(attr, _) => attr.as_str() == name,
+        }
+    }
+}
+
+impl Commented {
+    fn mentions(&self, name: &str) -> bool
+        ensures { result ≡ mentioned.comment_mentions name.now (commented_view self.now) }
+    {
+        match self {
+            Commented::Rule => false,
+            Commented::Attribute(attr) | Commented::Value(attr, _) => attr.as_str() == name,
+        }
+    }
+}
+
+impl Field {
+    fn mentions(&self, name: &str) -> bool
+        ensures { result ≡ mentioned.field_mentions name.now (field_view self.now) }
+    {
+        match self {
+            Field::ValueOf(attr) => attr.as_str() == name,
+            Field::Label | Field::Kind | Field::StartLine | Field::EndLine => false,
+        }
+    }
+}
+
+// Without fields the name is printed.
+fn print_mentions(fields: &[Field], name: &str) -> bool
+    ensures { result ≡ mentioned.print_mentions name.now (map field_view fields.now) }
+{
+    match fields {
+        [] => name == "name",
+        [_, ..] => any_mentions(fields, name),
+    }
+}
+
+fn any_mentions(fields: &[Field], name: &str) -> bool
+    ensures { result ≡ list_any (mentioned.field_mentions name.now) (map field_view fields.now) }
+{
+    fields.iter().any(|field| field.mentions(name))
 }
 
 /// Why words are no command.

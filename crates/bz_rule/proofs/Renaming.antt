@@ -7,7 +7,7 @@ use Rattle.bz_attribute.specs.Rules.{ident_of, is_named, is_sign, is_text, name_
 use Rattle.bz_attribute.specs.Effects.{edit_first, has, rename, rename_note, rename_to, renamed}
 use Rattle.bz_attribute.specs.declared.done.Note.TheVariants.{AttributeExists, NoAttribute}
 
-named_now : (old new : List ℕ) (xs : List Item) → is_text old (name_of xs) ≡ true → is_text new (name_of (renamed new xs)) ≡ true
+pub named_now : (old new : List ℕ) (xs : List Item) → is_text old (name_of xs) ≡ true → is_text new (name_of (renamed new xs)) ≡ true
 named_now old new [] h = absurd cc
 named_now old new (x ∷ []) h = absurd cc
 named_now old new (x ∷ y ∷ xs) h =

@@ -1,6 +1,7 @@
 //! Labels, targets and commands on one rule.
 #![tactic(auto)]
 
+pub mod laws;
 mod slot;
 
 pub use bz_attribute::done::{Done, Note};

@@ -1,0 +1,139 @@
+-- A statement with other arguments: the rule that it is.
+use Rattle.std.proofs.Common.{◌≡◌, ℕ, ◌<◌, ◌==◌, List, [], ◌∷◌, ◌++◌, true, false, ◌&&◌, Option, Some, None, is_some, option_map, length, if◌then◌else◌, refl, ap, sym, ◌∙◌, arith}
+use Rattle.std.specs.Prelude.{bytes_eq}
+use Rattle.std.specs.List.{slice_split}
+use Rattle.std.proofs.lemmas.Bool.{and_parts}
+use Rattle.bz_tree.specs.declared.stmt.GroupKind.TheVariants.{RuleCall}
+use Rattle.bz_tree.specs.Tree.{Item, group, Segment, Statement, segs_of}
+use Rattle.bz_command.proofs.Cuts.{some_part}
+use Rattle.bz_attribute.specs.Rules.{Rule, call_at, comma_of, dotted, elements, end_of, is_call, kind_text, rule_from, rule_of}
+use Rattle.bz_attribute.specs.declared.done.Done.{Done}
+use Rattle.bz_attribute.specs.Effects.{done_in, holds_rule, nodes_after, nodes_of, slot_done, with_args}
+use Rattle.bz_attribute.specs.Setting.{joined_by_dots, kind_after, kind_items, sets_kind, sets_kind_of, with_kind}
+use Rattle.bz_attribute.specs.Commenting.{comment_rule, comments_above}
+use Rattle.bz_attribute.proofs.Calls.{rule_from_end}
+use Rattle.bz_attribute.proofs.RuleNodes.{rule_nodes}
+use Rattle.bz_attribute.proofs.Views.{segments_of}
+
+call_dotted : (kind : List Item) (x : Item) (r : Rule) → call_at kind x ≡ Some r → dotted true r.kind ≡ true
+call_dotted kind x r h =
+    elim (is_call x && dotted true kind) as (λ b. is_call x && dotted true kind ≡ b → (if b then Some (record { kind = kind; args = elements x; one_comma = comma_of x; end = end_of x }) else None) ≡ Some r → dotted true r.kind ≡ true) [
+      | true ↦ λ e k.
+          let is : record { kind = kind; args = elements x; one_comma = comma_of x; end = end_of x } ≡ r = cc in
+          ap (λ (z : Rule). dotted true z.kind) (sym is) ∙ (and_parts (is_call x) (dotted true kind) e).1
+      | false ↦ λ e k. absurd cc
+    ] refl h
+
+pub rule_dotted : (kind nodes : List Item) (r : Rule) → rule_from kind nodes ≡ Some r → dotted true r.kind ≡ true
+rule_dotted kind [] r h = absurd cc
+rule_dotted kind (x ∷ []) r h = call_dotted kind x r h
+rule_dotted kind (x ∷ y ∷ xs) r h = rule_dotted (kind ++ x ∷ []) (y ∷ xs) r h
+
+-- the nodes of a rule are read as this rule
+pub nodes_read : (r : Rule) → dotted true r.kind ≡ true → rule_of (nodes_of r) ≡ Some r
+nodes_read r dots = rule_from_end [] r.kind (group RuleCall (segs_of r.args) r.one_comma r.end) ∙ rw (dots, segments_of r.args) refl
+
+abbrev pub rule_with : (List Segment → List Segment) → Rule → Rule
+rule_with f r = record r { args = f r.args }
+
+-- with other arguments it is the same rule with these, and no rule stays none
+pub rule_after : (f : List Segment → List Segment) (s : Statement) → rule_of (with_args f s).nodes ≡ option_map (rule_with f) (rule_of s.nodes)
+rule_after f s =
+    elim (rule_of s.nodes) as (λ o. rule_of s.nodes ≡ o → rule_of (nodes_after f s.nodes o) ≡ option_map (rule_with f) o)
+    [ None ↦ λ e. e | Some r ↦ λ e. nodes_read (rule_with f r) (rule_dotted [] s.nodes r e) ] refl
+
+pub kinds_after : (f : List Segment → List Segment) (s : Statement) → option_map (λ r. r.kind) (rule_of (with_args f s).nodes) ≡ option_map (λ r. r.kind) (rule_of s.nodes)
+kinds_after f s =
+    ap (option_map (λ (r : Rule). r.kind)) (rule_after f s) ∙ elim (rule_of s.nodes) as (λ o. option_map (λ (r : Rule). r.kind) (option_map (rule_with f) o) ≡ option_map (λ (r : Rule). r.kind) o) [ None ↦ refl | Some r ↦ refl ]
+
+pub is_rule_after : (f : List Segment → List Segment) (s : Statement) → is_some (rule_of (with_args f s).nodes) ≡ is_some (rule_of s.nodes)
+is_rule_after f s = ap is_some (rule_after f s) ∙ elim (rule_of s.nodes) as (λ o. is_some (option_map (rule_with f) o) ≡ is_some o) [ None ↦ refl | Some r ↦ refl ]
+
+pub holds_after : (f : List Segment → List Segment) (slot : Option Statement) → holds_rule (option_map (with_args f) slot) ≡ holds_rule slot
+holds_after f None = refl
+holds_after f (Some s) = is_rule_after f s
+
+-- one edit after another
+pub with_args_twice : (f h : List Segment → List Segment) (s : Statement) → with_args f (with_args h s) ≡ with_args (λ args. f (h args)) s
+with_args_twice f h s =
+    let nodes : nodes_after f (with_args h s).nodes (rule_of (with_args h s).nodes) ≡ nodes_after (λ args. f (h args)) s.nodes (rule_of s.nodes) =
+    ap (nodes_after f (with_args h s).nodes) (rule_after h s)
+    ∙ elim (rule_of s.nodes) as (λ o. nodes_after f (nodes_after h s.nodes o) (option_map (rule_with h) o) ≡ nodes_after (λ args. f (h args)) s.nodes o) [ None ↦ refl | Some r ↦ refl ] in
+    ap (λ (nodes : List Item). record s { nodes = nodes }) nodes
+
+-- edits that are the same of each list
+pub with_args_alike : (f h : List Segment → List Segment) → ((args : List Segment) → f args ≡ h args) → (s : Statement) → with_args f s ≡ with_args h s
+with_args_alike f h alike s =
+    ap (λ (nodes : List Item). record s { nodes = nodes }) (elim (rule_of s.nodes) as (λ o. nodes_after f s.nodes o ≡ nodes_after h s.nodes o) [
+      | None ↦ refl
+      | Some r ↦ ap (λ (args : List Segment). nodes_of (record r { args = args })) (alike r.args)
+    ])
+
+-- an edit that leaves each list
+pub with_args_same : (f : List Segment → List Segment) → ((args : List Segment) → f args ≡ args) → (s : Statement) → with_args f s ≡ s
+with_args_same f same s =
+    ap (λ (nodes : List Item). record s { nodes = nodes }) (elim (rule_of s.nodes) as (λ o. rule_of s.nodes ≡ o → nodes_after f s.nodes o ≡ s.nodes) [
+      | None ↦ λ e. refl
+      | Some r ↦ λ e. ap (λ (args : List Segment). nodes_of (record r { args = args })) (same r.args) ∙ rule_nodes [] s.nodes r e
+    ] refl)
+
+-- edits whose order does not count
+pub slot_exchanged : (f h : List Segment → List Segment) → ((args : List Segment) → f (h args) ≡ h (f args)) → (slot : Option Statement)
+    → option_map (with_args f) (option_map (with_args h) slot) ≡ option_map (with_args h) (option_map (with_args f) slot)
+slot_exchanged f h exchanged None = refl
+slot_exchanged f h exchanged (Some s) =
+    ap (λ (z : Statement). Some z) (with_args_twice f h s ∙ with_args_alike (λ args. f (h args)) (λ args. h (f args)) exchanged s ∙ sym (with_args_twice h f s))
+
+-- what is told of each list before an edit as after it
+pub told_alike : (t : List Segment → Done) (f : List Segment → List Segment) → ((args : List Segment) → t (f args) ≡ t args) → (slot : Option Statement)
+    → slot_done t (option_map (with_args f) slot) ≡ slot_done t slot
+told_alike t f alike None = refl
+told_alike t f alike (Some s) =
+    ap (done_in t) (rule_after f s) ∙ elim (rule_of s.nodes) as (λ o. done_in t (option_map (rule_with f) o) ≡ done_in t o) [ None ↦ refl | Some r ↦ alike r.args ]
+
+-- `set kind`
+
+joined_dotted : (names : List (List ℕ)) → 0 < length names → dotted true (joined_by_dots names) ≡ true
+joined_dotted [] h = absurd (omega arith)
+joined_dotted (name ∷ []) h = refl
+joined_dotted (name ∷ other ∷ names) h = joined_dotted (other ∷ names) (omega arith)
+
+kind_dotted : (kind : List ℕ) → dotted true (kind_items kind) ≡ true
+kind_dotted kind = joined_dotted (slice_split (λ b. b == 46) kind) (some_part (λ b. b == 46) kind)
+
+kind_nodes : (kind : List ℕ) (f : List Segment → List Segment) (nodes : List Item) (r : Rule) → rule_of nodes ≡ Some r
+    → kind_after kind (nodes_of (rule_with f r)) (Some (rule_with f r)) ≡ nodes_after f (kind_after kind nodes (Some r)) (rule_of (kind_after kind nodes (Some r)))
+kind_nodes kind f nodes r e =
+    let new : Rule = record r { kind = kind_items kind } in
+    elim (bytes_eq (kind_text r.kind) kind) as (λ b. (if b then nodes_of (rule_with f r) else nodes_of (rule_with f new)) ≡ nodes_after f (if b then nodes else nodes_of new) (rule_of (if b then nodes else nodes_of new))) [
+      | true ↦ rw e refl
+      | false ↦ rw (nodes_read new (kind_dotted kind)) refl
+    ]
+
+pub kind_exchanged : (kind : List ℕ) (f : List Segment → List Segment) (s : Statement) → with_kind kind (with_args f s) ≡ with_args f (with_kind kind s)
+kind_exchanged kind f s =
+    let nodes : kind_after kind (with_args f s).nodes (rule_of (with_args f s).nodes) ≡ nodes_after f (with_kind kind s).nodes (rule_of (with_kind kind s).nodes) =
+    ap (kind_after kind (with_args f s).nodes) (rule_after f s)
+    ∙ elim (rule_of s.nodes) as (λ o. rule_of s.nodes ≡ o → kind_after kind (nodes_after f s.nodes o) (option_map (rule_with f) o) ≡ nodes_after f (kind_after kind s.nodes o) (rule_of (kind_after kind s.nodes o)))
+    [ None ↦ λ e. rw e refl | Some r ↦ λ e. kind_nodes kind f s.nodes r e ] refl in
+    ap (λ (nodes : List Item). record s { nodes = nodes }) nodes
+
+pub slot_kind_exchanged : (kind : List ℕ) (f : List Segment → List Segment) (slot : Option Statement)
+    → option_map (with_kind kind) (option_map (with_args f) slot) ≡ option_map (with_args f) (option_map (with_kind kind) slot)
+slot_kind_exchanged kind f None = refl
+slot_kind_exchanged kind f (Some s) = ap (λ (z : Statement). Some z) (kind_exchanged kind f s)
+
+pub kind_told : (kind : List ℕ) (f : List Segment → List Segment) (slot : Option Statement) → sets_kind_of kind (option_map (with_args f) slot) ≡ sets_kind_of kind slot
+kind_told kind f None = refl
+kind_told kind f (Some s) =
+    ap (sets_kind kind) (rule_after f s) ∙ elim (rule_of s.nodes) as (λ o. sets_kind kind (option_map (rule_with f) o) ≡ sets_kind kind o) [ None ↦ refl | Some r ↦ refl ]
+
+-- a comment above a rule
+pub comment_exchanged : (text : List ℕ) (f : List Segment → List Segment) (slot : Option Statement)
+    → option_map (comment_rule text) (option_map (with_args f) slot) ≡ option_map (with_args f) (option_map (comment_rule text) slot)
+comment_exchanged text f None = refl
+comment_exchanged text f (Some s) =
+    let before : comments_above s.before text (rule_of (with_args f s).nodes) ≡ comments_above s.before text (rule_of s.nodes) =
+    ap (comments_above s.before text) (rule_after f s)
+    ∙ elim (rule_of s.nodes) as (λ o. comments_above s.before text (option_map (rule_with f) o) ≡ comments_above s.before text o) [ None ↦ refl | Some r ↦ refl ] in
+    ap (λ (lines : List (List ℕ)). Some (record (with_args f s) { before = lines })) before

@@ -1,0 +1,8 @@
+use Rattle.bz_rule.proofs.Rebuilt.{with_args_same, with_args_twice}
+use Rattle.bz_rule.proofs.laws.edits_of_arguments_compose.Goals as goal
+
+pub returns-clause-twice : goal.returns-clause-twice
+returns-clause-twice c = with_args_twice
+
+pub returns-clause-same : goal.returns-clause-same
+returns-clause-same c = with_args_same
