@@ -1,12 +1,14 @@
-pub mod Adding
+pub mod Add
 pub mod Arguments
-mod CommentDiffers
-pub mod Differences
+pub mod Commands
+mod Comment
+mod Delete
 pub mod Kept
-mod MoveDiffers
+pub mod Lawful
+mod Move
 pub mod PartLaws
-pub mod Removal
-mod Renaming
-mod ReplaceDiffers
-pub mod SetLaws
-mod Stays
+mod Print
+pub mod Remove
+mod Rename
+mod Replace
+pub mod Set

@@ -10,7 +10,7 @@ use Rattle.bz_attribute.specs.Effects.{argument, edit_first, nodes_of, string}
 use Rattle.bz_attribute.specs.Setting.{New, NewStrings, is_list_attribute, is_number, is_constant, new_word, is_one_list, holds_list, new_of, new_value, is_value, set_in, set, sets, joined_by_dots, kind_items, kind_after, with_kind, sets_kind, sets_kind_of}
 use Rattle.bz_attribute.proofs.Calls.{rule_from_end}
 use Rattle.bz_command.proofs.Cuts.{some_part}
-use Rattle.bz_rule.proofs.SetLaws.{in_stays, in_value, is_written, kind_read, same_bytes, set_absent, set_present}
+use Rattle.bz_rule.proofs.Set.{in_stays, in_value, is_written, kind_read, same_bytes, set_absent, set_present}
 
 name_stays : (attr : List ℕ) (nodes new : List Item) → is_text attr (name_of nodes) ≡ true → is_text attr (name_of (take 2 nodes ++ new)) ≡ true
 name_stays attr [] new h = absurd cc
