@@ -14,7 +14,7 @@ use Rattle.bz_attribute.specs.declared.done.Note.TheVariants.{NotAList}
 use Rattle.bz_attribute.proofs.Views.{segments_of}
 use Rattle.bz_rule.proofs.PartLaws.{edit_head}
 use Rattle.bz_rule.proofs.Arguments.{attribute_named, first_after, has_first, is_first_named, name_put}
-use Rattle.bz_rule_laws.proofs.Likeness.{all_follow, chosen_alike, in_full, same_self, strings_chosen}
+use Rattle.bz_rule_laws.proofs.Likeness.{all_follow, chosen_alike, in_full, same_self, strings_chosen, or_none}
 use Rattle.bz_rule.proofs.Set.{same_bytes}
 use Rattle.bz_rule.proofs.Add.{add_kept, added_nothing, new_argument, parts_with}
 
@@ -98,10 +98,6 @@ found_in_added home values a h some =
     ∙ any_head (is_chosen home (Values (v ∷ []))) (map string new) lists some
     ∙ ap (λ (b : Bool). stands_in home lists v || b) (strings_chosen home v new) ∙ k) values (fresh_covers home lists [] values)
 
-or_none : (b : Bool) → b || false ≡ b
-or_none true = refl
-or_none false = refl
-
 parts_new : (home : Package) (attr : List ℕ) (values : List (List ℕ)) → parts (value (new_argument home attr values)) ≡ new_elements home [] values ∷ []
 parts_new home attr values = ap (λ (ss : List Segment). ss ∷ []) (segments_of (new_elements home [] values))
 
@@ -116,7 +112,7 @@ found_in_new home attr values =
 new_named : (home : Package) (attr : List ℕ) (values : List (List ℕ)) → is_named attr (new_argument home attr values) ≡ true
 new_named home attr values = same_bytes attr
 
-first_at_end : (attr : List ℕ) (args : List Segment) (x : Segment) → first_named attr args ≡ None → is_named attr x ≡ true → first_named attr (args ++ x ∷ []) ≡ Some x
+pub first_at_end : (attr : List ℕ) (args : List Segment) (x : Segment) → first_named attr args ≡ None → is_named attr x ≡ true → first_named attr (args ++ x ∷ []) ≡ Some x
 first_at_end attr [] x h named = rw named refl
 first_at_end attr (a ∷ args) x h named =
     elim (is_named attr a) as (λ b. (if b then Some a else first_named attr args) ≡ None → (if b then Some a else first_named attr (args ++ x ∷ [])) ≡ Some x)

@@ -37,7 +37,7 @@ chosen_alike home v w s h =
 string_chosen : (home : Package) (v w : List ℕ) → is_chosen home (Values (v ∷ [])) (string w) ≡ same home w v || false
 string_chosen home v w = ap (λ (o : Option (List ℕ)). same_value home v o || false) (quoted_value w)
 
-or_none : (b : Bool) → b || false ≡ b
+pub or_none : (b : Bool) → b || false ≡ b
 or_none true = refl
 or_none false = refl
 
