@@ -6,7 +6,6 @@ mod FileTokens
 mod FileFaults
 mod BadBytes
 mod WholeFileExamples
-mod NoRule
 mod ScriptSound
 mod RunText
 mod LeftExamples

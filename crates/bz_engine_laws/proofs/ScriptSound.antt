@@ -1,6 +1,6 @@
 -- What a script leaves of sound statements is sound: command by command on each slot.
-use Rattle.std.proofs.Common.{◌≡◌, ℕ, ◌≤◌, List, [], ◌∷◌, map, Bool, true, false, refl, sym, subst, inl, inr}
-use Rattle.std.specs.Prelude.{None, Some, if◌then◌else◌, ◌⊎◌}
+use Rattle.std.proofs.Common.{◌≡◌, ℕ, ◌≤◌, List, [], ◌∷◌, map, Bool, true, false, refl, sym, ap, ◌∙◌, subst, inl, inr}
+use Rattle.std.specs.Prelude.{None, Some, is_some, if◌then◌else◌, ◌⊎◌}
 use Rattle.std.specs.List.{AllByRecursion, list_all}
 use Rattle.std.specs.Str.{is_utf8}
 use Rattle.std.proofs.lemmas.Bool.{and_parts}
@@ -12,7 +12,7 @@ use Rattle.bz_command.specs.Labels.{Package}
 use Rattle.bz_command.specs.Passes.{Slot, Marked, marked, executed}
 use Rattle.bz_rule.specs.Applied.{after}
 use Rattle.bz_rule_laws.specs.CommandTexts.{command_passes}
-use Rattle.bz_rule_laws.proofs.StatementsFormed.{formed_after}
+use Rattle.bz_rule_laws.proofs.Commands.{formed_after}
 use Rattle.bz_rule_laws.proofs.Utf8Commands.{commands_utf8}
 use Rattle.bz_engine.specs.Changes.{AreCommands}
 use Rattle.bz_passes.specs.Exchange.{slot_after_commands, slot_after_pass, slot_after}
@@ -21,7 +21,9 @@ use Rattle.bz_engine.specs.Outcome.{Script, left_in, slots_of}
 use Rattle.bz_passes.proofs.ExchangeLaw.{slots_alone}
 use Rattle.bz_engine_laws.specs.Sound.{IsSound}
 use Rattle.bz_engine_laws.specs.Written.{HaveUtf8Words, left_by}
-use Rattle.bz_engine_laws.proofs.NoRule.{block_no_rule, no_rule_stays, stays_empty}
+use Rattle.bz_attribute.specs.Rules.{rule_of}
+use Rattle.bz_layout_laws.proofs.BlockBody.{body_of}
+use Rattle.bz_rule.proofs.Commands.{no_rule_stays}
 
 -- what stands in a slot is sound
 abbrev SoundSlot : ℕ → Slot Statement → Type 0
@@ -33,8 +35,14 @@ record Allowed (c : Command) : Type 0 where
   command : is_command c ≡ true
   words : command_passes is_utf8 c ≡ true
 
+-- a block is no rule
+block_no_rule : (depth : ℕ) (s : Statement) → IsKeptBlock depth s → rule_of s.nodes ≡ None
+block_no_rule depth s kept =
+    let body = body_of kept.first depth kept.bytes kept.found kept.read in
+    ap (λ (t : Statement). rule_of t.nodes) kept.is ∙ ap (λ (t : Statement). rule_of t.nodes) body.is
+
 after_sound : (depth : ℕ) → 2 ≤ depth → (home : Package) (c : Command) → Allowed c → (slot : Slot Statement) → SoundSlot depth slot → SoundSlot depth (after c home slot)
-after_sound depth two home c allowed None sound = subst (SoundSlot depth) (sym (stays_empty c home)) tt
+after_sound depth two home c allowed None sound = subst (SoundSlot depth) (sym (no_rule_stays c home None refl)) tt
 after_sound depth two home c allowed (Some s) sound = by sound.form
   where
     formed : IsWellFormed depth s → (slot : Slot Statement) → after c home (Some s) ≡ slot → SoundSlot depth slot
@@ -46,7 +54,7 @@ after_sound depth two home c allowed (Some s) sound = by sound.form
 
     by : IsWellFormed depth s ⊎ IsKeptBlock depth s → SoundSlot depth (after c home (Some s))
     by (inl is) = formed is (after c home (Some s)) refl
-    by (inr kept) = subst (SoundSlot depth) (sym (no_rule_stays c home s (block_no_rule depth s kept))) sound
+    by (inr kept) = subst (SoundSlot depth) (sym (no_rule_stays c home (Some s) (ap is_some (block_no_rule depth s kept)))) sound
 
 executed_sound : (depth : ℕ) → 2 ≤ depth → (home : Package) (c : Command) → Allowed c → (x : Marked Statement) → SoundSlot depth x.slot → SoundSlot depth (executed (meaning home) c x).slot
 executed_sound depth two home c allowed x sound = by x.mark

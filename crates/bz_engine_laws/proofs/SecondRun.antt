@@ -11,7 +11,7 @@ use Rattle.bz_engine.specs.Changes.{CommandsChange, PassChanges, Changes, AreCom
 use Rattle.bz_engine.specs.Meaning.{meaning}
 use Rattle.bz_engine.specs.declared.report.End.TheVariants.{Whole, FirstFailure}
 use Rattle.bz_engine.specs.Outcome.{Script, Told, IsOutcome, IsWholeRun, EndsAtFailure, is_query, left_in, slots_of, text_of, some_change, told_of}
-use Rattle.bz_rule.proofs.Differences.{changed_tells}
+use Rattle.bz_rule.proofs.Commands.{changed_tells}
 use Rattle.bz_engine.proofs.ChangesLaw.{changes_tell}
 use Rattle.bz_engine.proofs.OneOutcome.{one_give}
 use Rattle.bz_engine_laws.specs.Sound.{IsSound}

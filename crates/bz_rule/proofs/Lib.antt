@@ -1,17 +1,19 @@
-pub mod Adding
+pub mod Add
 pub mod Arguments
 pub mod AsideArguments
 pub mod AsideCommands
 mod AsideFields
-mod CommentDiffers
-pub mod Differences
+pub mod Commands
+mod Comment
+mod Delete
 pub mod Kept
-mod MoveDiffers
+pub mod Lawful
+mod Move
 pub mod NamesKept
 pub mod PartLaws
+mod Print
 pub mod Rebuilt
-pub mod Removal
-mod Renaming
-mod ReplaceDiffers
-pub mod SetLaws
-mod Stays
+pub mod Remove
+mod Rename
+mod Replace
+pub mod Set

@@ -24,7 +24,7 @@ rule_dotted kind (x ∷ []) r h = call_dotted kind x r h
 rule_dotted kind (x ∷ y ∷ xs) r h = rule_dotted (kind ++ x ∷ []) (y ∷ xs) r h
 
 -- with other arguments it is the same rule with these
-pub rule_back : (nodes : List Item) (r : Rule) (args : List Segment) → rule_of nodes ≡ Some r → rule_of (nodes_of (record r { args = args })) ≡ Some (record r { args = args })
+rule_back : (nodes : List Item) (r : Rule) (args : List Segment) → rule_of nodes ≡ Some r → rule_of (nodes_of (record r { args = args })) ≡ Some (record r { args = args })
 rule_back nodes r args h =
     let dots : dotted true r.kind ≡ true = rule_dotted [] nodes r h in
     rule_from_end [] r.kind (group RuleCall (segs_of args) r.one_comma r.end) ∙ rw (dots, segments_of args) refl

@@ -39,7 +39,7 @@ no_for depth [] h = refl
 no_for depth (s ∷ ss) h = inner_have (items_of s.nodes) (test_inner h.0.form)
 
 -- the nodes of a named argument
-abbrev pub named : List ℕ → List Item → List Item
+abbrev named : List ℕ → List Item → List Item
 named name nodes = leaf Ident name ∷ leaf Sign (codes "=") ∷ nodes
 
 pub record HasName (nodes : List Item) : Type 0 where

@@ -14,12 +14,12 @@ use Rattle.bz_attribute.specs.declared.done.Note.TheVariants.{NotAList}
 use Rattle.bz_attribute.proofs.Views.{segments_of}
 use Rattle.bz_rule.proofs.PartLaws.{edit_head}
 use Rattle.bz_rule.proofs.Arguments.{attribute_named, first_after, has_first, is_first_named, name_put}
-use Rattle.bz_rule_laws.proofs.Likeness.{all_follow, chosen_alike, in_full, same_self, strings_chosen}
-use Rattle.bz_rule.proofs.SetLaws.{same_bytes}
-use Rattle.bz_rule.proofs.Adding.{add_kept, added_nothing, new_argument, parts_with}
+use Rattle.bz_rule_laws.proofs.Likeness.{all_follow, chosen_alike, in_full, same_self, strings_chosen, or_none}
+use Rattle.bz_rule.proofs.Set.{same_bytes}
+use Rattle.bz_rule.proofs.Add.{add_kept, added_nothing, new_argument, parts_with}
 
 -- an element of some lists equals the word
-abbrev pub stands_in : Package → List (List Segment) → List ℕ → Bool
+abbrev stands_in : Package → List (List Segment) → List ℕ → Bool
 stands_in home lists v = list_any (list_any (is_chosen home (Values (v ∷ [])))) lists
 
 alike : (home : Package) (lists : List (List Segment)) (earlier : List (List ℕ)) (v w : List ℕ) → same home w v ≡ true
@@ -88,7 +88,7 @@ any_head p new [] h = absurd cc
 any_head p new (ss ∷ lists) h = rw (list_any-append p ss new) (grouped (list_any p ss) (list_any (list_any p) lists) (list_any p new))
 
 -- the values are found in the argument to which they were added
-pub found_in_added : (home : Package) (values : List (List ℕ)) (a : Segment) → is_attribute a ≡ true → no_parts (parts (value a)) ≡ false
+found_in_added : (home : Package) (values : List (List ℕ)) (a : Segment) → is_attribute a ≡ true → no_parts (parts (value a)) ≡ false
     → list_all (λ v. chooses home (Values (v ∷ [])) (with_added home values a)) values ≡ true
 found_in_added home values a h some =
     let lists : List (List Segment) = parts (value a) in
@@ -98,14 +98,10 @@ found_in_added home values a h some =
     ∙ any_head (is_chosen home (Values (v ∷ []))) (map string new) lists some
     ∙ ap (λ (b : Bool). stands_in home lists v || b) (strings_chosen home v new) ∙ k) values (fresh_covers home lists [] values)
 
-or_none : (b : Bool) → b || false ≡ b
-or_none true = refl
-or_none false = refl
-
 parts_new : (home : Package) (attr : List ℕ) (values : List (List ℕ)) → parts (value (new_argument home attr values)) ≡ new_elements home [] values ∷ []
 parts_new home attr values = ap (λ (ss : List Segment). ss ∷ []) (segments_of (new_elements home [] values))
 
-pub found_in_new : (home : Package) (attr : List ℕ) (values : List (List ℕ)) → list_all (λ v. chooses home (Values (v ∷ [])) (new_argument home attr values)) values ≡ true
+found_in_new : (home : Package) (attr : List ℕ) (values : List (List ℕ)) → list_all (λ v. chooses home (Values (v ∷ [])) (new_argument home attr values)) values ≡ true
 found_in_new home attr values =
     let new : List (List ℕ) = fresh home [] [] values in
     all_follow (λ v. stands_in home [] v || list_any (same home v) new) (λ v. chooses home (Values (v ∷ [])) (new_argument home attr values)) (λ v k.
@@ -116,13 +112,13 @@ found_in_new home attr values =
 new_named : (home : Package) (attr : List ℕ) (values : List (List ℕ)) → is_named attr (new_argument home attr values) ≡ true
 new_named home attr values = same_bytes attr
 
-first_at_end : (attr : List ℕ) (args : List Segment) (x : Segment) → first_named attr args ≡ None → is_named attr x ≡ true → first_named attr (args ++ x ∷ []) ≡ Some x
+pub first_at_end : (attr : List ℕ) (args : List Segment) (x : Segment) → first_named attr args ≡ None → is_named attr x ≡ true → first_named attr (args ++ x ∷ []) ≡ Some x
 first_at_end attr [] x h named = rw named refl
 first_at_end attr (a ∷ args) x h named =
     elim (is_named attr a) as (λ b. (if b then Some a else first_named attr args) ≡ None → (if b then Some a else first_named attr (args ++ x ∷ [])) ≡ Some x)
     [ true ↦ λ k. absurd cc | false ↦ λ k. first_at_end attr args x k named ] h
 
-pub added_named : (home : Package) (attr : List ℕ) (values : List (List ℕ)) (a : Segment) → is_named attr a ≡ true → is_named attr (with_added home values a) ≡ true
+added_named : (home : Package) (attr : List ℕ) (values : List (List ℕ)) (a : Segment) → is_named attr a ≡ true → is_named attr (with_added home values a) ≡ true
 added_named home attr values a h =
     elim (no_parts (parts (value a))) as (λ b. is_named attr (if b then a else with_value (edit_first_part (λ ss. ss ++ new_elements home (parts (value a)) values) (value a)) a) ≡ true) [
       | true ↦ h
@@ -130,11 +126,11 @@ added_named home attr values a h =
     ]
 
 -- the first argument of the name after `add`
-abbrev pub first_added : Package → List ℕ → List (List ℕ) → Option Segment → Segment
+abbrev first_added : Package → List ℕ → List (List ℕ) → Option Segment → Segment
 first_added home attr values None = new_argument home attr values
 first_added home attr values (Some a) = with_added home values a
 
-pub first_after_add : (home : Package) (attr : List ℕ) (values : List (List ℕ)) (args : List Segment) → first_named attr (add home attr values args) ≡ Some (first_added home attr values (first_named attr args))
+first_after_add : (home : Package) (attr : List ℕ) (values : List (List ℕ)) (args : List Segment) → first_named attr (add home attr values args) ≡ Some (first_added home attr values (first_named attr args))
 first_after_add home attr values args =
     elim (first_named attr args) as (λ o. first_named attr args ≡ o → first_named attr (add home attr values args) ≡ Some (first_added home attr values o)) [
       | None ↦ λ e.

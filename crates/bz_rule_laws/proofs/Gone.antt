@@ -10,7 +10,7 @@ use Rattle.bz_attribute.specs.Lists.{edit_parts, is_attribute, parts, with_value
 use Rattle.bz_attribute.specs.Effects.{chooses_anywhere, chooses_in, edit_first, filtered, has, is_chosen, loses_all, remove, remove_all, remove_attribute, unchosen}
 use Rattle.bz_rule.proofs.Kept.{none_left_in}
 use Rattle.bz_rule.proofs.Arguments.{attribute_named, name_put}
-use Rattle.bz_rule.proofs.Removal.{everywhere_left, parts_put}
+use Rattle.bz_rule.proofs.Remove.{everywhere_left, parts_put}
 
 nothing_chosen : (home : Package) (ss : List Segment) → list_any (is_chosen home (Values [])) ss ≡ false
 nothing_chosen home [] = refl

@@ -1,30 +1,32 @@
 mod Accepting
+mod Add
 mod Again
 mod AllComments
 mod ArgumentValues
-mod ArgumentsFormed
-mod CommentedFormed
+pub mod Commands
+mod Comment
+mod Delete
 mod Found
 mod Gone
-mod GoodAdditions
-mod GoodEffects
-mod GoodReplacements
+mod GoodArguments
 mod KindFormed
+mod Lawful
 mod Likeness
 mod ListParts
-mod MovedFormed
+mod Move
 mod NewTexts
 mod OwnComments
-mod PassingCommands
-mod PassingEffects
 mod PassingParts
-mod PassingSettings
+mod PassingRules
 mod PassingTexts
-mod RenamedFormed
+mod PassingWritten
+mod Print
+mod Remove
+mod Rename
+mod Replace
 mod RuleFormed
 mod Segments
+mod Set
 mod SetAgain
-mod SettingsFormed
-pub mod StatementsFormed
 mod Tests
 pub mod Utf8Commands

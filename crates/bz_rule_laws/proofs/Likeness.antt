@@ -11,7 +11,7 @@ use Rattle.bz_attribute.specs.Rules.{string_value}
 use Rattle.bz_attribute.specs.Lists.{same, same_value}
 use Rattle.bz_attribute.specs.Effects.{is_chosen, string}
 use Rattle.bz_command.proofs.ReadBack.{quoted_value}
-use Rattle.bz_rule.proofs.SetLaws.{same_bytes}
+use Rattle.bz_rule.proofs.Set.{same_bytes}
 
 pub same_self : (home : Package) (v : List ℕ) → same home v v ≡ true
 same_self home v = same_bytes (completed home v)
@@ -34,10 +34,10 @@ chosen_alike home v w s h =
     [ None ↦ refl | Some text ↦ ap (λ (z : List ℕ). bytes_eq (completed home text) z || false) h ]
 
 -- the element for a word equals what the word is the same as
-pub string_chosen : (home : Package) (v w : List ℕ) → is_chosen home (Values (v ∷ [])) (string w) ≡ same home w v || false
+string_chosen : (home : Package) (v w : List ℕ) → is_chosen home (Values (v ∷ [])) (string w) ≡ same home w v || false
 string_chosen home v w = ap (λ (o : Option (List ℕ)). same_value home v o || false) (quoted_value w)
 
-or_none : (b : Bool) → b || false ≡ b
+pub or_none : (b : Bool) → b || false ≡ b
 or_none true = refl
 or_none false = refl
 

@@ -1,29 +1,29 @@
 -- Values whose list parts are edited: they are well formed as before.
-use Rattle.std.proofs.Common.{◌≡◌, ℕ, suc, ◌≤◌, List, [], ◌∷◌, ◌++◌, Bool, true, false, ◌&&◌, if◌then◌else◌, refl, sym, ap, subst, ◌∙◌, arith}
-use Rattle.std.specs.List.{AllByRecursion, list_all, list_any}
+use Rattle.std.proofs.Common.{Bool, List, [], ap, arith, false, if◌then◌else◌, refl, subst, suc, sym, true, ℕ, ◌&&◌, ◌++◌, ◌∙◌, ◌∷◌, ◌≡◌, ◌≤◌}
 use Rattle.std.proofs.lemmas.Bool.{and_parts, false≢true}
-use Rattle.bz_tree.specs.declared.stmt.GroupKind.TheVariants.{List as ListKind}
+use Rattle.std.specs.List.{AllByRecursion, list_all, list_any}
+use Rattle.bz_attribute.proofs.RuleNodes.{segs_back}
+use Rattle.bz_attribute.specs.Commenting.{edit_element, edit_element_from}
+use Rattle.bz_attribute.specs.Effects.{edit_first, list_item}
+use Rattle.bz_attribute.specs.Lists.{edit_first_part, edit_from, edit_list, edit_one_from, edit_parts, ends, is_joint, is_list, is_part, is_plus, parts, parts_from}
+use Rattle.bz_attribute.specs.Rules.{elements}
+use Rattle.bz_layout_laws.specs.Inside.{HasShape}
+use Rattle.bz_layout_laws.specs.Legible.{item_depth, items_depth, segs_depth}
+use Rattle.bz_layout_laws.specs.Parsed.{HasKind, HaveKinds, SegsHaveKinds, have_for, is_comma}
+use Rattle.bz_layout_laws.specs.TextsOfKinds.{HasText, HaveTexts, SegsHaveTexts}
+use Rattle.bz_rule_laws.proofs.Accepting.{accepted_test, list_role, test_accepted, test_some}
+use Rattle.bz_rule_laws.proofs.ArgumentValues.{IsValue, no_for}
+use Rattle.bz_rule_laws.proofs.Segments.{AreFormed, form_tests, good_elements, taken_apart, either_way}
+use Rattle.bz_rule_laws.proofs.Tests.{Each, IsInner, is_list_kind, test_inner}
+use Rattle.bz_tree.specs.Brackets.{after_item}
+use Rattle.bz_tree.specs.Grammar.{AreTests, IsTest, list, no_suffix, operand, plain, primary, single}
+use Rattle.bz_tree.specs.Kinds.{group_kind}
+use Rattle.bz_tree.specs.Tree.{Item, Items, Segment, Segs, group, item, items_of, leaf, segments, segs_of}
 use Rattle.bz_tree.specs.declared.kinds.Preceding.{Preceding}
 use Rattle.bz_tree.specs.declared.kinds.Preceding.TheVariants.{Other}
 use Rattle.bz_tree.specs.declared.kinds.Shape.TheVariants.{Square}
-use Rattle.bz_tree.specs.Kinds.{group_kind}
-use Rattle.bz_tree.specs.Tree.{Item, leaf, group, Items, item, Segs, Segment, items_of, segs_of, segments}
-use Rattle.bz_tree.specs.Brackets.{after_item}
-use Rattle.bz_tree.specs.Grammar.{IsTest, AreTests, plain, single, primary, operand, no_suffix, list}
+use Rattle.bz_tree.specs.declared.stmt.GroupKind.TheVariants.{List as ListKind}
 use Rattle.bz_tree.specs.private.Machine.{accepts, next, role_of}
-use Rattle.bz_layout_laws.specs.Inside.{HasShape}
-use Rattle.bz_layout_laws.specs.Legible.{item_depth, items_depth, segs_depth}
-use Rattle.bz_layout_laws.specs.TextsOfKinds.{HasText, HaveTexts, SegsHaveTexts}
-use Rattle.bz_layout_laws.specs.Parsed.{is_comma, have_for, HasKind, HaveKinds, SegsHaveKinds}
-use Rattle.bz_attribute.specs.Rules.{elements}
-use Rattle.bz_attribute.specs.Lists.{edit_from, edit_list, edit_first_part, edit_one_from, edit_parts, ends, is_joint, is_list, is_part, is_plus, parts, parts_from}
-use Rattle.bz_attribute.specs.Effects.{edit_first, list_item}
-use Rattle.bz_attribute.specs.Commenting.{edit_element, edit_element_from}
-use Rattle.bz_attribute.proofs.RuleNodes.{segs_back}
-use Rattle.bz_rule_laws.proofs.Accepting.{list_role, test_accepted, accepted_test, test_some}
-use Rattle.bz_rule_laws.proofs.ArgumentValues.{IsValue, no_for}
-use Rattle.bz_rule_laws.proofs.Segments.{AreFormed, form_tests, good_elements, taken_apart}
-use Rattle.bz_rule_laws.proofs.Tests.{Each, IsInner, is_list_kind, test_inner}
 
 -- a node is itself, or a list with other elements
 data IsEdit (depth : ℕ) : Item → Item → Type 0 where
@@ -175,20 +175,17 @@ element_edits depth p g keep start (x ∷ xs) =
       | false ↦ λ e. more same (element_edits depth p g keep (is_plus x) xs)
     ] refl
 
-pub parts_edited : (depth : ℕ) (f : List Segment → List Segment) → KeepsGood depth f → (nodes : List Item) → IsValue (suc depth) nodes → IsValue (suc depth) (edit_parts f nodes)
-parts_edited depth f keep nodes v =
-    elim (list_all is_joint nodes) as (λ b. IsValue (suc depth) (if b then edit_from f true nodes else nodes))
-    [ true ↦ edited_value depth nodes (edit_from f true nodes) (from_edits depth f keep true nodes) v | false ↦ v ]
+pub edited_parts_good : (depth : ℕ) (f : List Segment → List Segment) → KeepsGood depth f → (nodes : List Item) → IsValue (suc depth) nodes → IsValue (suc depth) (edit_parts f nodes)
+edited_parts_good depth f keep nodes v =
+    either_way (IsValue (suc depth)) (list_all is_joint nodes) (edited_value depth nodes (edit_from f true nodes) (from_edits depth f keep true nodes) v) v
 
-pub first_part_edited : (depth : ℕ) (f : List Segment → List Segment) → KeepsGood depth f → (nodes : List Item) → IsValue (suc depth) nodes → IsValue (suc depth) (edit_first_part f nodes)
-first_part_edited depth f keep nodes v =
-    elim (list_all is_joint nodes) as (λ b. IsValue (suc depth) (if b then edit_one_from f true nodes else nodes))
-    [ true ↦ edited_value depth nodes (edit_one_from f true nodes) (one_edits depth f keep true nodes) v | false ↦ v ]
+pub edited_first_part_good : (depth : ℕ) (f : List Segment → List Segment) → KeepsGood depth f → (nodes : List Item) → IsValue (suc depth) nodes → IsValue (suc depth) (edit_first_part f nodes)
+edited_first_part_good depth f keep nodes v =
+    either_way (IsValue (suc depth)) (list_all is_joint nodes) (edited_value depth nodes (edit_one_from f true nodes) (one_edits depth f keep true nodes) v) v
 
-pub element_edited : (depth : ℕ) (p : Segment → Bool) (g : Segment → Segment) → KeepsGood depth (edit_first p (λ s. g s ∷ [])) → (nodes : List Item) → IsValue (suc depth) nodes → IsValue (suc depth) (edit_element p g nodes)
-element_edited depth p g keep nodes v =
-    elim (list_all is_joint nodes) as (λ b. IsValue (suc depth) (if b then edit_element_from p g true nodes else nodes))
-    [ true ↦ edited_value depth nodes (edit_element_from p g true nodes) (element_edits depth p g keep true nodes) v | false ↦ v ]
+pub edited_element_good : (depth : ℕ) (p : Segment → Bool) (g : Segment → Segment) → KeepsGood depth (edit_first p (λ s. g s ∷ [])) → (nodes : List Item) → IsValue (suc depth) nodes → IsValue (suc depth) (edit_element p g nodes)
+edited_element_good depth p g keep nodes v =
+    either_way (IsValue (suc depth)) (list_all is_joint nodes) (edited_value depth nodes (edit_element_from p g true nodes) (element_edits depth p g keep true nodes) v) v
 
 -- the elements of list parts
 part_elements : (depth : ℕ) (b : Preceding) (x : Item) → is_list x ≡ true → IsNode (suc depth) b x → AreFormed IsTest depth (elements x)
@@ -207,8 +204,7 @@ from_good depth b start (x ∷ xs) h =
 
 pub parts_good : (depth : ℕ) (nodes : List Item) → IsValue (suc depth) nodes → AllByRecursion (AreFormed IsTest depth) (parts nodes)
 parts_good depth nodes v =
-    elim (list_all is_joint nodes) as (λ b. AllByRecursion (AreFormed IsTest depth) (if b then parts_from true nodes else []))
-    [ true ↦ from_good depth Other true nodes (value_nodes (suc depth) nodes v) | false ↦ tt ]
+    either_way (AllByRecursion (AreFormed IsTest depth)) (list_all is_joint nodes) (from_good depth Other true nodes (value_nodes (suc depth) nodes v)) tt
 
 -- a value that is one list
 pub list_value : (depth : ℕ) (ss : List Segment) → AreFormed IsTest depth ss → IsValue (suc depth) (list_item ss ∷ [])

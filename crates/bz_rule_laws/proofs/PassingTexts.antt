@@ -1,5 +1,5 @@
 -- Nodes and segments whose texts pass a test.
-use Rattle.std.proofs.Common.{◌≡◌, ℕ, List, [], ◌∷◌, Bool, true, false, ◌&&◌, if◌then◌else◌, Option, Some, None, take, drop, refl, sym, subst}
+use Rattle.std.proofs.Common.{◌≡◌, ℕ, List, [], ◌∷◌, Bool, true, ◌&&◌, Option, Some, None, take, drop, refl, sym, subst}
 use Rattle.std.specs.List.{AllByRecursion, list_all}
 use Rattle.std.proofs.lemmas.Bool.{and_from, and_parts}
 use Rattle.bz_tree.specs.declared.stmt.GroupKind.{GroupKind}
@@ -9,7 +9,7 @@ use Rattle.bz_layout_laws.specs.EachText.{item_passes, items_pass, segs_pass}
 use Rattle.bz_attribute.specs.Rules.{elements, first_named, is_named}
 use Rattle.bz_attribute.specs.Lists.{with_value}
 use Rattle.bz_attribute.proofs.RuleNodes.{segs_back}
-use Rattle.bz_rule_laws.proofs.Segments.{all_appended}
+use Rattle.bz_rule_laws.proofs.Segments.{all_appended, either_way}
 
 abbrev pub NodePasses : (List ℕ → Bool) → Item → Type 0
 NodePasses q x = item_passes q x ≡ true
@@ -49,7 +49,7 @@ segments_in q (s ∷ ss) h =
     let c = and_parts (list_all q s.before) (items_pass q (items_of s.nodes)) b.0 in
     (record { before = c.0; nodes = nodes_in q s.nodes c.1; suffix = b.1 }, segments_in q ss a.1)
 
-pub segments_out : (q : List ℕ → Bool) (ss : List Segment) → SegmentsPass q ss → segs_pass q (segs_of ss) ≡ true
+segments_out : (q : List ℕ → Bool) (ss : List Segment) → SegmentsPass q ss → segs_pass q (segs_of ss) ≡ true
 segments_out q [] h = refl
 segments_out q (s ∷ ss) h =
     and_from (list_all q s.before && items_pass q (items_of s.nodes) && list_all q (beside s.suffix)) (segs_pass q (segs_of ss))
@@ -89,4 +89,4 @@ ArgumentPasses q (Some a) = SegmentPasses q a
 pub first_named_passes : (q : List ℕ → Bool) (name : List ℕ) (args : List Segment) → SegmentsPass q args → ArgumentPasses q (first_named name args)
 first_named_passes q name [] h = tt
 first_named_passes q name (a ∷ args) h =
-    elim (is_named name a) as (λ b. ArgumentPasses q (if b then Some a else first_named name args)) [ true ↦ h.0 | false ↦ first_named_passes q name args h.1 ]
+    either_way (ArgumentPasses q) (is_named name a) h.0 (first_named_passes q name args h.1)

@@ -1,5 +1,5 @@
 -- Arguments of a call and elements of a list that are well formed.
-use Rattle.std.proofs.Common.{◌≡◌, ℕ, ◌≤◌, List, [], ◌∷◌, ◌++◌, Bool, true, false, filter, map, cond, arith}
+use Rattle.std.proofs.Common.{◌≡◌, ℕ, ◌≤◌, List, [], ◌∷◌, ◌++◌, Bool, true, false, filter, map, cond, if◌then◌else◌, arith}
 use Rattle.std.specs.List.{AllByRecursion, flat_map}
 use Rattle.bz_tree.specs.Tree.{Items, Segment, items_of, segs_of}
 use Rattle.bz_tree.specs.Grammar.{IsTest, AreTests, no_test, one_test, IsArg, AreArgs, no_arg, one_arg}
@@ -63,6 +63,11 @@ good_elements depth ss h k = put_together IsTest depth ss h (tests_form ss k)
 
 pub good_arguments : (depth : ℕ) (ss : List Segment) → AreIn depth ss → AreArgs (segs_of ss) → AreFormed IsArg depth ss
 good_arguments depth ss h k = put_together IsArg depth ss h (args_form ss k)
+
+-- what is so of both cases of a test
+pub either_way : {X : Type 0} (P : X → Type 0) (b : Bool) {x y : X} → P x → P y → P (if b then x else y)
+either_way P true h k = h
+either_way P false h k = k
 
 -- lists of these
 pub all_appended : {A : Type 0} (P : A → Type 0) (xs ys : List A) → AllByRecursion P xs → AllByRecursion P ys → AllByRecursion P (xs ++ ys)

@@ -1,44 +1,28 @@
 -- A second `set` of the same changes nothing.
-use Rattle.std.proofs.Common.{◌≡◌, ℕ, ◌<◌, ◌==◌, List, [], ◌∷◌, ◌++◌, ◌||◌, true, false, not, Option, None, Some, option_map, length, take, refl, ap, sym, ◌∙◌, arith, inl, inr, if◌then◌else◌}
+use Rattle.std.proofs.Common.{◌≡◌, ℕ, ◌<◌, ◌==◌, List, [], ◌∷◌, ◌||◌, true, false, not, Option, None, Some, option_map, length, refl, ap, ◌∙◌, arith, inl, inr}
 use Rattle.std.specs.Prelude.{bytes_eq, codes}
 use Rattle.std.specs.List.{slice_split}
 use Rattle.std.proofs.lemmas.Bool.{cases_Bool, or_parts, or_from, or_right}
 use Rattle.bz_tree.specs.declared.stmt.GroupKind.TheVariants.{RuleCall}
 use Rattle.bz_tree.specs.Tree.{Item, group, Segment, Statement, segs_of}
-use Rattle.bz_attribute.specs.Rules.{Rule, rule_of, call_at, dotted, kind_text, is_named, is_text, name_of, first_named, value}
+use Rattle.bz_attribute.specs.Rules.{Rule, rule_of, call_at, dotted, kind_text, is_named, is_text, first_named, value}
 use Rattle.bz_attribute.specs.Effects.{argument, edit_first, nodes_of, string}
 use Rattle.bz_attribute.specs.Setting.{New, NewStrings, is_list_attribute, is_number, is_constant, new_word, is_one_list, holds_list, new_of, new_value, is_value, set_in, set, sets, joined_by_dots, kind_items, kind_after, with_kind, sets_kind, sets_kind_of}
 use Rattle.bz_attribute.proofs.Calls.{rule_from_end}
 use Rattle.bz_command.proofs.Cuts.{some_part}
-use Rattle.bz_rule.proofs.SetLaws.{in_stays, in_value, is_written, kind_read, same_bytes, set_absent, set_present}
-
-name_stays : (attr : List ℕ) (nodes new : List Item) → is_text attr (name_of nodes) ≡ true → is_text attr (name_of (take 2 nodes ++ new)) ≡ true
-name_stays attr [] new h = absurd cc
-name_stays attr (x ∷ []) new h = absurd cc
-name_stays attr (x ∷ y ∷ nodes) new h = h
+use Rattle.bz_rule.proofs.Arguments.{attribute_named, first_after, is_first_named, name_put}
+use Rattle.bz_rule.proofs.Set.{in_stays, in_value, is_written, kind_read, same_bytes, set_absent, set_present}
+use Rattle.bz_rule_laws.proofs.Found.{first_at_end}
 
 in_named : (attr : List ℕ) (new : New) (a : Segment) → is_named attr a ≡ true → is_named attr (set_in new a) ≡ true
 in_named attr new a named = elim (cases_Bool (is_value new (value a))) [
   | inl is ↦ rw is named
-  | inr other ↦ rw other (name_stays attr a.nodes (new_value new) named)
+  | inr other ↦ rw other (ap (is_text attr) (name_put (new_value new) a (attribute_named attr a named)) ∙ named)
 ]
 
 first_set : (attr : List ℕ) (new : New) (args : List Segment) (a : Segment) → first_named attr args ≡ Some a
     → first_named attr (edit_first (is_named attr) (λ s. set_in new s ∷ []) args) ≡ Some (set_in new a)
-first_set attr new [] a h = absurd cc
-first_set attr new (x ∷ args) a h =
-    elim (is_named attr x) as (λ b. is_named attr x ≡ b → (if b then Some x else first_named attr args) ≡ Some a → first_named attr (if b then (set_in new x ∷ []) ++ args else x ∷ edit_first (is_named attr) (λ s. set_in new s ∷ []) args) ≡ Some (set_in new a)) [
-      | true ↦ λ named k. let e : x ≡ a = cc in rw (in_named attr new x named) (ap (λ (s : Segment). Some (set_in new s)) e)
-      | false ↦ λ named k. rw named (first_set attr new args a k)
-    ] refl h
-
-named_first : (attr : List ℕ) (args : List Segment) (a : Segment) → first_named attr args ≡ Some a → is_named attr a ≡ true
-named_first attr [] a h = absurd cc
-named_first attr (x ∷ args) a h =
-    elim (is_named attr x) as (λ b. is_named attr x ≡ b → (if b then Some x else first_named attr args) ≡ Some a → is_named attr a ≡ true) [
-      | true ↦ λ named k. let e : x ≡ a = cc in ap (is_named attr) (sym e) ∙ named
-      | false ↦ λ named k. named_first attr args a k
-    ] refl h
+first_set attr new args a h = first_after attr (set_in new) args (in_named attr new) ∙ ap (option_map (set_in new)) h
 
 -- the words stand for the same again where the value is what they stood for
 
@@ -77,26 +61,20 @@ new_again attr (word ∷ other ∷ words) was a is = refl
 set_already : (attr : List ℕ) (words : List (List ℕ)) (was : Option Segment) (a : Segment) → value a ≡ new_value (new_of attr words was) → sets attr words (Some a) ≡ false
 set_already attr words was a is = rw (new_again attr words was a is, is, is_written (new_of attr words was)) refl
 
-first_added : (attr : List ℕ) (args : List Segment) (nodes : List Item) → first_named attr args ≡ None → first_named attr (args ++ argument attr nodes ∷ []) ≡ Some (argument attr nodes)
-first_added attr [] nodes h = rw (same_bytes attr) refl
-first_added attr (x ∷ args) nodes h =
-    elim (is_named attr x) as (λ b. (if b then Some x else first_named attr args) ≡ None → (if b then Some x else first_named attr (args ++ argument attr nodes ∷ [])) ≡ Some (argument attr nodes))
-    [ true ↦ λ k. absurd cc | false ↦ λ k. first_added attr args nodes k ] h
-
 -- a second time changes nothing
 pub set_again : (attr : List ℕ) (words : List (List ℕ)) (args : List Segment) → sets attr words (first_named attr (set attr words args)) ≡ false
 set_again attr words args =
     elim (first_named attr args) as (λ r. first_named attr args ≡ r → sets attr words (first_named attr (set attr words args)) ≡ false) [
       | None ↦ λ e.
           let new : List Item = new_value (new_of attr words None) in
-          let first : first_named attr (set attr words args) ≡ Some (argument attr new) = ap (first_named attr) (set_absent attr words args e) ∙ first_added attr args new e in
+          let first : first_named attr (set attr words args) ≡ Some (argument attr new) = ap (first_named attr) (set_absent attr words args e) ∙ first_at_end attr args (argument attr new) e (same_bytes attr) in
           ap (sets attr words) first ∙ set_already attr words None (argument attr new) refl
       | Some a ↦ λ e.
           let new : New = new_of attr words (Some a) in
           let first : first_named attr (set attr words args) ≡ Some (set_in new a) = ap (first_named attr) (set_present attr words args a e) ∙ first_set attr new args a e in
           ap (sets attr words) first ∙ elim (cases_Bool (is_value new (value a))) [
             | inl is ↦ ap (λ (s : Segment). sets attr words (Some s)) (in_stays new a is) ∙ ap not is
-            | inr other ↦ set_already attr words (Some a) (set_in new a) (in_value attr new a (named_first attr args a e) other)
+            | inr other ↦ set_already attr words (Some a) (set_in new a) (in_value attr new a (is_first_named attr args a e) other)
           ]
     ] refl
 

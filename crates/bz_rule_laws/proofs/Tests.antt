@@ -21,7 +21,7 @@ is_token Stray = false
 is_token _ = true
 
 -- what stands in a call or a list is in the grammar
-abbrev pub IsFilled : GroupKind → Segs → Type 0
+abbrev IsFilled : GroupKind → Segs → Type 0
 IsFilled kind segs = (is_call kind ≡ true → AreArgs segs) × (is_list_kind kind ≡ true → AreTests segs)
 
 abbrev pub IsInner : Item → Type 0

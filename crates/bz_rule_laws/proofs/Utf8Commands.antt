@@ -14,8 +14,8 @@ use Rattle.bz_command.specs.Values.{quoted, written}
 use Rattle.bz_attribute.specs.Commenting.{comment_line, is_blank, trimmed}
 use Rattle.bz_rule.specs.Applied.{after}
 use Rattle.bz_rule_laws.specs.CommandTexts.{command_passes}
-use Rattle.bz_rule_laws.proofs.PassingCommands.{commands_pass}
-use Rattle.bz_rule_laws.proofs.PassingSettings.{PassesWritten}
+use Rattle.bz_rule_laws.proofs.Commands.{commands_pass}
+use Rattle.bz_rule_laws.proofs.PassingWritten.{PassesWritten}
 use Rattle.bz_rule_laws.proofs.PassingTexts.{WordPasses}
 
 -- what stands after an ASCII byte

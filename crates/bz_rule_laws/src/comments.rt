@@ -14,6 +14,7 @@ ghost use Rattle.bz_attribute.specs.Setting as setting;
 ghost use Rattle.bz_attribute.specs.Rules.{value};
 
 /// These commands leave all comments of a statement, in their order.
+#[tactic(auto, using(crate::proofs::Commands::all_comments_stay))]
 pub fn comments_stay()
     ensures add { (home : Package) (attr : List ℕ) (values : List (List ℕ)) (slot : Option Statement)
         → option_map comments_of (after (Add attr values) home slot) ≡ option_map comments_of slot }
@@ -28,6 +29,7 @@ pub fn comments_stay()
 {}
 
 /// An argument that stays keeps its own comments, and a new one has none.
+#[tactic(auto, using(crate::proofs::Commands::own_comments_stay))]
 pub fn arguments_keep_comments()
     ensures add { (home : Package) (attr : List ℕ) (values : List (List ℕ)) (args : List Segment)
         → map own_comments (effects.add home attr values args)

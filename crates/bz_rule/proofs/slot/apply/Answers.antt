@@ -1,6 +1,5 @@
 use Rattle.bz_tree.specs.View.{slot_view}
-use Rattle.bz_rule.proofs.Differences.{told_of_slot}
-use Rattle.bz_rule.proofs.Stays.{failure_stays}
+use Rattle.bz_rule.proofs.Commands.{failure_stays, told_of_slot}
 use Rattle.bz_rule.proofs.slot.apply.Goals as goal
 
 pub returns-clause-failed : goal.returns-clause-failed

@@ -1,5 +1,6 @@
 use Rattle.bz_rule_laws.proofs.Found.{added_elements}
-use Rattle.bz_rule_laws.proofs.OwnComments.{element_keeps, left_elements, replace_elements}
+use Rattle.bz_rule_laws.proofs.Remove.{left_elements}
+use Rattle.bz_rule_laws.proofs.Replace.{element_keeps, replace_elements}
 use Rattle.bz_rule_laws.proofs.comments.elements_keep_comments.Goals as goal
 
 pub returns-clause-remove : goal.returns-clause-remove

@@ -2,7 +2,7 @@ use Rattle.bz_command.specs.Commands.{Values}
 use Rattle.bz_attribute.specs.Rules.{is_named}
 use Rattle.bz_attribute.specs.Effects.{filtered, goes_with_all, unchosen}
 use Rattle.bz_rule.proofs.Kept.{none_left}
-use Rattle.bz_rule.proofs.Removal.{filtered_left}
+use Rattle.bz_rule.proofs.Remove.{filtered_left}
 use Rattle.bz_rule_laws.proofs.Gone.{edited_at, removed_everywhere, removed_named}
 use Rattle.bz_rule_laws.proofs.effects.removed_is_gone.Goals as goal
 

@@ -1,4 +1,4 @@
-use Rattle.bz_rule_laws.proofs.StatementsFormed.{formed_after}
+use Rattle.bz_rule_laws.proofs.Commands.{formed_after}
 use Rattle.bz_rule_laws.proofs.well_formed.commands_keep_statements_well_formed.Goals as goal
 
 pub returns : goal.returns

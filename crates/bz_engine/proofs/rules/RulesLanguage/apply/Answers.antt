@@ -7,4 +7,4 @@ pub returns-clause-log : goal.returns-clause-log
 returns-clause-log c =
     let done = c.in_ok-done.ensures in
     c.in_ok-tell_done.ensures
-    ∙ ap (λ told. c.args.log.now ++ told) (says_found c.args.command.now c.args.self.now.home.now (slot_view c.args.slot.now) (slot_view c.apply.new.slot) c.in_ok-done.done done.slot done.done done.failed)
+    ∙ ap (λ told. c.args.log.now ++ told) (says_found c.args.command.now c.args.self.now.home.now (slot_view c.args.slot.now) (slot_view c.apply.new.slot) c.in_ok-done.done done.slot done.done)

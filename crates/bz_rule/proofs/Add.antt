@@ -9,6 +9,8 @@ use Rattle.bz_attribute.specs.Effects.{add, adds, argument, done, edit_first, ha
 use Rattle.bz_attribute.specs.declared.done.Note.TheVariants.{NotAList}
 use Rattle.bz_rule.proofs.PartLaws.{edit_head, first_part_stays, parts_first_edited}
 use Rattle.bz_rule.proofs.Arguments.{attribute_named, first_same, has_first, is_first_named, rest_same, value_back, value_put}
+use Rattle.bz_command.specs.Commands.{Add}
+use Rattle.bz_rule.proofs.Lawful.{Lawful, note_unchanged, on_arguments}
 
 pub parts_with : (home : Package) (values : List (List ℕ)) (a : Segment) → is_attribute a ≡ true → no_parts (parts (value a)) ≡ false
     → parts (value (with_added home values a)) ≡ edit_head (λ ss. ss ++ new_elements home (parts (value a)) values) (parts (value a))
@@ -45,7 +47,7 @@ nothing_new : (ss : List Segment) → not (is_nil ss) ≡ false → ss ≡ []
 nothing_new [] h = refl
 nothing_new (s ∷ ss) h = absurd cc
 
-pub add_stays : (home : Package) (attr : List ℕ) (values : List (List ℕ)) (args : List Segment) → (done (not_a_list attr (first_named attr args)) (adds home values (first_named attr args))).changed ≡ false → add home attr values args ≡ args
+add_stays : (home : Package) (attr : List ℕ) (values : List (List ℕ)) (args : List Segment) → (done (not_a_list attr (first_named attr args)) (adds home values (first_named attr args))).changed ≡ false → add home attr values args ≡ args
 add_stays home attr values args h =
     elim (first_named attr args) as (λ o. first_named attr args ≡ o → (done (not_a_list attr o) (adds home values o)).changed ≡ false → add home attr values args ≡ args) [
       | None ↦ λ e k. absurd cc
@@ -68,7 +70,7 @@ added_differs home values a h some told same =
     let clash : false ≡ true = ap (λ (z : List Segment). not (is_nil z)) (sym nothing) ∙ told in
     cc
 
-pub add_differs : (home : Package) (attr : List ℕ) (values : List (List ℕ)) (args : List Segment) → (done (not_a_list attr (first_named attr args)) (adds home values (first_named attr args))).changed ≡ true → add home attr values args ≡ args → ⊥
+add_differs : (home : Package) (attr : List ℕ) (values : List (List ℕ)) (args : List Segment) → (done (not_a_list attr (first_named attr args)) (adds home values (first_named attr args))).changed ≡ true → add home attr values args ≡ args → ⊥
 add_differs home attr values args h same =
     elim (first_named attr args) as (λ o. first_named attr args ≡ o → (done (not_a_list attr o) (adds home values o)).changed ≡ true → ⊥) [
       | None ↦ λ e k.
@@ -85,3 +87,10 @@ add_differs home attr values args h same =
           elim (no_parts (parts (value a))) as (λ b. no_parts (parts (value a)) ≡ b → (done (if b then Some (NotAList attr) else None) (adds home values (Some a))).changed ≡ true → ⊥)
           [ true ↦ λ n m. cc | false ↦ λ n m. added_differs home values a attribute n m is ] refl k
     ] refl h
+
+pub add_lawful : (home : Package) (attr : List ℕ) (values : List (List ℕ)) → Lawful (Add attr values) home
+add_lawful home attr values = on_arguments (Add attr values) home (λ slot. refl) (λ slot. refl) (record {
+  stays = λ args h. add_stays home attr values args h;
+  differs = λ read args h same. add_differs home attr values args h same;
+  noted = λ args h. note_unchanged (not_a_list attr (first_named attr args)) (adds home values (first_named attr args)) h;
+})

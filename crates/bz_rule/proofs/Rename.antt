@@ -2,10 +2,13 @@
 use Rattle.std.proofs.Common.{◌≡◌, ℕ, List, [], ◌∷◌, true, false, ◌||◌, Some, None, refl, ap, ◌∙◌, if◌then◌else◌, codes}
 use Rattle.std.proofs.lemmas.Bool.{or_right}
 use Rattle.bz_tree.specs.Tree.{Item, Segment}
-use Rattle.bz_rule.proofs.SetLaws.{same_bytes}
+use Rattle.bz_rule.proofs.Set.{same_bytes}
 use Rattle.bz_attribute.specs.Rules.{ident_of, is_named, is_sign, is_text, name_of}
 use Rattle.bz_attribute.specs.Effects.{edit_first, has, rename, rename_note, rename_to, renamed}
 use Rattle.bz_attribute.specs.declared.done.Note.TheVariants.{AttributeExists, NoAttribute}
+use Rattle.bz_command.specs.Commands.{Rename}
+use Rattle.bz_command.specs.Labels.{Package}
+use Rattle.bz_rule.proofs.Lawful.{Lawful, done_changed, guarded_same, note_unchanged, on_arguments}
 
 pub named_now : (old new : List ℕ) (xs : List Item) → is_text old (name_of xs) ≡ true → is_text new (name_of (renamed new xs)) ≡ true
 named_now old new [] h = absurd cc
@@ -23,7 +26,7 @@ renamed_has old new (a ∷ args) h =
     ] refl h
 
 -- the new name is there afterwards, and was not before
-pub rename_differs : (old new : List ℕ) (args : List Segment) → rename_note old new args ≡ None → rename old new args ≡ args → ⊥
+rename_differs : (old new : List ℕ) (args : List Segment) → rename_note old new args ≡ None → rename old new args ≡ args → ⊥
 rename_differs old new args quiet same =
     elim (has old args) as (λ h. has old args ≡ h → (if h then (if has new args then Some (AttributeExists new) else None) else Some (NoAttribute old)) ≡ None → ⊥) [
       | true ↦ λ here q.
@@ -36,3 +39,10 @@ rename_differs old new args quiet same =
           ] refl q
       | false ↦ λ absent q. cc
     ] refl quiet
+
+pub rename_lawful : (home : Package) (old new : List ℕ) → Lawful (Rename old new) home
+rename_lawful home old new = on_arguments (Rename old new) home (λ slot. refl) (λ slot. refl) (record {
+  stays = λ args h. guarded_same (rename_note old new args) true _ args (λ k. absurd cc) h;
+  differs = λ read args h same. rename_differs old new args (done_changed (rename_note old new args) true h).0 same;
+  noted = λ args h. note_unchanged (rename_note old new args) true h;
+})

@@ -6,13 +6,14 @@ use Rattle.std.proofs.lemmas.List.Folds.{list_any-append}
 use Rattle.bz_tree.specs.declared.stmt.GroupKind.TheVariants.{Call, RuleCall, Load, Paren, List as ListKind, Index, Dict, ListComp, DictComp}
 use Rattle.bz_tree.specs.Tree.{Item, leaf, group, Segment, segments}
 use Rattle.bz_command.specs.Labels.{Package}
-use Rattle.bz_command.specs.Commands.{Attributes, Every, Named, Moved, Values}
+use Rattle.bz_command.specs.Commands.{Remove, Attributes, Every, Named, Moved, Values}
 use Rattle.bz_attribute.specs.Rules.{is_named, first_named, value}
 use Rattle.bz_attribute.specs.Lists.{edit_parts, is_attribute, parts, with_value}
 use Rattle.bz_attribute.specs.Effects.{chooses, chooses_anywhere, chooses_in, filtered, filtered_everywhere, goes_with_all, has, is_chosen, is_nil, loses_all, remove, remove_values, removes, unchosen}
 use Rattle.bz_rule.proofs.Kept.{all_stay, all_stay_in, none_left_in, none_passes, none_passes_in}
 use Rattle.bz_rule.proofs.PartLaws.{parts_edited, parts_stay}
 use Rattle.bz_rule.proofs.Arguments.{attribute_named, first_same, is_first_named, rest_same, value_back, value_put}
+use Rattle.bz_rule.proofs.Lawful.{Lawful, on_arguments}
 
 empty_or_not : (ss : List Segment) → not (is_nil ss) && is_nil ss ≡ false
 empty_or_not [] = refl
@@ -96,15 +97,22 @@ values_differ home attr values args (Some a) e h same =
     let none : chooses home (Values values) a ≡ false = filtered_same home (Values values) a attribute (first_same attr (filtered (unchosen home (Values values))) args a e same) in
     cc
 
-pub remove_stays : (home : Package) (attrs : Attributes) (values : List (List ℕ)) (args : List Segment) → removes home attrs values args ≡ false → remove home attrs values args ≡ args
+remove_stays : (home : Package) (attrs : Attributes) (values : List (List ℕ)) (args : List Segment) → removes home attrs values args ≡ false → remove home attrs values args ≡ args
 remove_stays home Every [] args h = all_stay goes_with_all args h
 remove_stays home Every (v ∷ values) args h = everywhere_stays home (Values (v ∷ values)) args h
 remove_stays home (Named attr) [] args h = all_stay (is_named attr) args h
 remove_stays home (Named attr) (v ∷ values) args h = values_stay home attr (v ∷ values) args h
 
-pub remove_differs : (home : Package) (attrs : Attributes) (values : List (List ℕ)) (args : List Segment) → removes home attrs values args ≡ true → remove home attrs values args ≡ args → ⊥
+remove_differs : (home : Package) (attrs : Attributes) (values : List (List ℕ)) (args : List Segment) → removes home attrs values args ≡ true → remove home attrs values args ≡ args → ⊥
 remove_differs home Every [] args h same = let none : list_any goes_with_all args ≡ false = none_passes goes_with_all args same in cc
 remove_differs home Every (v ∷ values) args h same =
     let none : chooses_anywhere home (Values (v ∷ values)) args ≡ false = ap (chooses_anywhere home (Values (v ∷ values))) (sym same) ∙ everywhere_left home (Values (v ∷ values)) args in cc
 remove_differs home (Named attr) [] args h same = let none : has attr args ≡ false = none_passes (is_named attr) args same in cc
 remove_differs home (Named attr) (v ∷ values) args h same = values_differ home attr (v ∷ values) args (first_named attr args) refl h same
+
+pub remove_lawful : (home : Package) (attrs : Attributes) (values : List (List ℕ)) → Lawful (Remove attrs values) home
+remove_lawful home attrs values = on_arguments (Remove attrs values) home (λ slot. refl) (λ slot. refl) (record {
+  stays = λ args h. remove_stays home attrs values args h;
+  differs = λ read args h same. remove_differs home attrs values args h same;
+  noted = λ args h. absurd cc;
+})

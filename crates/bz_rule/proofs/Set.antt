@@ -1,5 +1,5 @@
 -- What `set`, `set_if_absent` and `set kind` change.
-use Rattle.std.proofs.Common.{◌≡◌, ℕ, ◌==◌, List, [], ◌∷◌, ◌++◌, ◌||◌, true, false, not, Option, None, Some, option_map, length, drop, take, map, refl, ap, sym, ◌∙◌, arith, if◌then◌else◌, length-append, append-nil}
+use Rattle.std.proofs.Common.{◌≡◌, ℕ, ◌==◌, List, [], ◌∷◌, ◌++◌, true, false, not, Option, None, Some, option_map, is_some, length, map, refl, ap, sym, ◌∙◌, arith, length-append, append-nil}
 use Rattle.std.specs.Prelude.{bytes_eq}
 use Rattle.std.specs.List.{slice_split, join_with_byte}
 use Rattle.std.proofs.lemmas.Bool.{not-true, not-false}
@@ -8,12 +8,16 @@ use Rattle.std.proofs.lemmas.List.Splits.{join_with_byte-slice_split}
 use Rattle.std.proofs.lemmas.Slice.Eq.{bytes_eq-Decides}
 use Rattle.bz_tree.specs.declared.stmt.GroupKind.TheVariants.{RuleCall}
 use Rattle.bz_tree.specs.Tree.{Item, group, Segment, Statement, segs_of}
-use Rattle.bz_attribute.specs.Rules.{Rule, rule_of, written, kind_text, is_named, is_text, name_of, first_named, value}
-use Rattle.bz_attribute.specs.Effects.{argument, edit_first, has, nodes_of, string}
+use Rattle.bz_attribute.specs.Rules.{Rule, rule_of, written, kind_text, is_named, first_named, value}
+use Rattle.bz_attribute.specs.Effects.{argument, edit_first, has, holds_rule, nodes_of, string}
 use Rattle.bz_attribute.specs.Setting.{New, NewString, NewNumber, NewConstant, NewStrings, new_of, new_value, are_strings, is_value, set_in, set, sets, set_if_absent, joined_by_dots, kind_items, kind_after, with_kind, sets_kind, sets_kind_of}
 use Rattle.bz_attribute.proofs.Views.{segments_of}
 use Rattle.bz_command.proofs.ReadBack.{quoted_value}
 use Rattle.bz_attribute.proofs.RuleNodes.{rule_nodes}
+use Rattle.bz_command.specs.Commands.{Set, SetIfAbsent, Setting, ToKind, ToValues}
+use Rattle.bz_command.specs.Labels.{Package}
+use Rattle.bz_rule.proofs.Arguments.{attribute_named, first_same, has_first, is_first_named, rest_same, value_put}
+use Rattle.bz_rule.proofs.Lawful.{Lawful, on_arguments}
 
 pub same_bytes : (bytes : List ℕ) → bytes_eq bytes bytes ≡ true
 same_bytes bytes = (bytes_eq-Decides bytes bytes).1 refl
@@ -32,16 +36,11 @@ is_written (NewStrings words) = rw (segments_of (map string words)) (strings_are
 
 -- a named argument with another value
 
-value_put : (attr : List ℕ) (nodes new : List Item) → is_text attr (name_of nodes) ≡ true → drop 2 (take 2 nodes ++ new) ≡ new
-value_put attr [] new h = absurd cc
-value_put attr (x ∷ []) new h = absurd cc
-value_put attr (x ∷ y ∷ nodes) new h = refl
-
 pub in_stays : (new : New) (a : Segment) → is_value new (value a) ≡ true → set_in new a ≡ a
 in_stays new a is = rw is refl
 
 pub in_value : (attr : List ℕ) (new : New) (a : Segment) → is_named attr a ≡ true → is_value new (value a) ≡ false → value (set_in new a) ≡ new_value new
-in_value attr new a named other = rw other (value_put attr a.nodes (new_value new) named)
+in_value attr new a named other = rw other (value_put (new_value new) a (attribute_named attr a named))
 
 in_differs : (attr : List ℕ) (new : New) (a : Segment) → is_named attr a ≡ true → is_value new (value a) ≡ false → set_in new a ≡ a → ⊥
 in_differs attr new a named other same =
@@ -51,35 +50,19 @@ in_differs attr new a named other same =
 
 -- the first argument of a name
 
-first_has : (attr : List ℕ) (args : List Segment) (a : Segment) → first_named attr args ≡ Some a → has attr args ≡ true
-first_has attr [] a h = absurd cc
-first_has attr (x ∷ args) a h =
-    elim (is_named attr x) as (λ b. (if b then Some x else first_named attr args) ≡ Some a → b || has attr args ≡ true)
-    [ true ↦ λ k. refl | false ↦ λ k. first_has attr args a k ] h
-
-first_absent : (attr : List ℕ) (args : List Segment) → first_named attr args ≡ None → has attr args ≡ false
-first_absent attr [] h = refl
-first_absent attr (x ∷ args) h =
-    elim (is_named attr x) as (λ b. (if b then Some x else first_named attr args) ≡ None → b || has attr args ≡ false)
-    [ true ↦ λ k. absurd cc | false ↦ λ k. first_absent attr args k ] h
-
 first_stays : (attr : List ℕ) (new : New) (args : List Segment) (a : Segment) → first_named attr args ≡ Some a → is_value new (value a) ≡ true
     → edit_first (is_named attr) (λ s. set_in new s ∷ []) args ≡ args
-first_stays attr new [] a h is = absurd cc
-first_stays attr new (x ∷ args) a h is =
-    elim (is_named attr x) as (λ b. (if b then Some x else first_named attr args) ≡ Some a → (if b then (set_in new x ∷ []) ++ args else x ∷ edit_first (is_named attr) (λ s. set_in new s ∷ []) args) ≡ x ∷ args) [
-      | true ↦ λ k. let e : x ≡ a = cc in ap (λ (s : Segment). s ∷ args) (in_stays new x (ap (λ (s : Segment). is_value new (value s)) e ∙ is))
-      | false ↦ λ k. ap (λ (ss : List Segment). x ∷ ss) (first_stays attr new args a k is)
-    ] h
+first_stays attr new args a h is = rest_same attr (λ s. set_in new s ∷ []) args (λ z first.
+    let found : Some z ≡ Some a = sym first ∙ h in
+    let here : z ≡ a = cc in
+    ap (λ (s : Segment). s ∷ []) (in_stays new z (ap (λ (s : Segment). is_value new (value s)) here ∙ is)))
 
 first_differs : (attr : List ℕ) (new : New) (args : List Segment) (a : Segment) → first_named attr args ≡ Some a → is_value new (value a) ≡ false
     → edit_first (is_named attr) (λ s. set_in new s ∷ []) args ≡ args → ⊥
-first_differs attr new [] a h other = absurd cc
-first_differs attr new (x ∷ args) a h other =
-    elim (is_named attr x) as (λ b. is_named attr x ≡ b → (if b then Some x else first_named attr args) ≡ Some a → (if b then (set_in new x ∷ []) ++ args else x ∷ edit_first (is_named attr) (λ s. set_in new s ∷ []) args) ≡ x ∷ args → ⊥) [
-      | true ↦ λ named k same. let e : x ≡ a = cc in let one : set_in new x ≡ x = cc in in_differs attr new x named (ap (λ (s : Segment). is_value new (value s)) e ∙ other) one
-      | false ↦ λ named k same. let rest : edit_first (is_named attr) (λ s. set_in new s ∷ []) args ≡ args = cc in first_differs attr new args a k other rest
-    ] refl h
+first_differs attr new args a h other same =
+    let kept : set_in new a ∷ [] ≡ a ∷ [] = first_same attr (λ s. set_in new s ∷ []) args a h same in
+    let one : set_in new a ≡ a = cc in
+    in_differs attr new a (is_first_named attr args a h) other one
 
 longer : (args : List Segment) (a : Segment) → args ++ a ∷ [] ≡ args → ⊥
 longer args a same = absurd (omega (arith, ap length same, length-append args (a ∷ [])))
@@ -88,21 +71,21 @@ longer args a same = absurd (omega (arith, ap length same, length-append args (a
 
 pub set_present : (attr : List ℕ) (words : List (List ℕ)) (args : List Segment) (a : Segment) → first_named attr args ≡ Some a
     → set attr words args ≡ edit_first (is_named attr) (λ s. set_in (new_of attr words (Some a)) s ∷ []) args
-set_present attr words args a h = rw (first_has attr args a h, h) refl
+set_present attr words args a h = let there : has attr args ≡ true = has_first attr args ∙ ap is_some h in rw (there, h) refl
 
 pub set_absent : (attr : List ℕ) (words : List (List ℕ)) (args : List Segment) → first_named attr args ≡ None
     → set attr words args ≡ args ++ argument attr (new_value (new_of attr words None)) ∷ []
-set_absent attr words args h = rw (first_absent attr args h, h) refl
+set_absent attr words args h = let absent : has attr args ≡ false = has_first attr args ∙ ap is_some h in rw (absent, h) refl
 
 -- the mark of change is that of the effect
-pub set_stays : (attr : List ℕ) (words : List (List ℕ)) (args : List Segment) → sets attr words (first_named attr args) ≡ false → set attr words args ≡ args
+set_stays : (attr : List ℕ) (words : List (List ℕ)) (args : List Segment) → sets attr words (first_named attr args) ≡ false → set attr words args ≡ args
 set_stays attr words args h =
     elim (first_named attr args) as (λ r. first_named attr args ≡ r → sets attr words r ≡ false → set attr words args ≡ args) [
       | None ↦ λ e k. absurd cc
       | Some a ↦ λ e k. set_present attr words args a e ∙ first_stays attr (new_of attr words (Some a)) args a e (not-false _ k)
     ] refl h
 
-pub set_differs : (attr : List ℕ) (words : List (List ℕ)) (args : List Segment) → sets attr words (first_named attr args) ≡ true → set attr words args ≡ args → ⊥
+set_differs : (attr : List ℕ) (words : List (List ℕ)) (args : List Segment) → sets attr words (first_named attr args) ≡ true → set attr words args ≡ args → ⊥
 set_differs attr words args h same =
     elim (first_named attr args) as (λ r. first_named attr args ≡ r → sets attr words r ≡ true → ⊥) [
       | None ↦ λ e k. longer args (argument attr (new_value (new_of attr words None))) (sym (set_absent attr words args e) ∙ same)
@@ -111,10 +94,10 @@ set_differs attr words args h same =
 
 -- `set_if_absent`
 
-pub set_if_absent_stays : (attr : List ℕ) (words : List (List ℕ)) (args : List Segment) → not (has attr args) ≡ false → set_if_absent attr words args ≡ args
+set_if_absent_stays : (attr : List ℕ) (words : List (List ℕ)) (args : List Segment) → not (has attr args) ≡ false → set_if_absent attr words args ≡ args
 set_if_absent_stays attr words args h = rw (not-false _ h) refl
 
-pub set_if_absent_differs : (attr : List ℕ) (words : List (List ℕ)) (args : List Segment) → not (has attr args) ≡ true → set_if_absent attr words args ≡ args → ⊥
+set_if_absent_differs : (attr : List ℕ) (words : List (List ℕ)) (args : List Segment) → not (has attr args) ≡ true → set_if_absent attr words args ≡ args → ⊥
 set_if_absent_differs attr words args h same =
     let absent : has attr args ≡ false = not-true _ h in
     let added : set_if_absent attr words args ≡ args ++ argument attr (new_value (new_of attr words None)) ∷ [] = rw absent refl in
@@ -149,12 +132,40 @@ nodes_differ kind nodes (Some r) e h same =
     let clash : true ≡ false = sym (same_bytes kind) ∙ ap (λ (bytes : List ℕ). bytes_eq bytes kind) (sym new ∙ old) ∙ other in
     absurd cc
 
-pub set_kind_stays : (kind : List ℕ) (slot : Option Statement) → (sets_kind_of kind slot).changed ≡ false → option_map (with_kind kind) slot ≡ slot
+set_kind_stays : (kind : List ℕ) (slot : Option Statement) → (sets_kind_of kind slot).changed ≡ false → option_map (with_kind kind) slot ≡ slot
 set_kind_stays kind None h = refl
 set_kind_stays kind (Some s) h = ap (λ (nodes : List Item). Some (record s { nodes = nodes })) (nodes_stay kind s.nodes (rule_of s.nodes) h)
 
-pub set_kind_differs : (kind : List ℕ) (slot : Option Statement) → (sets_kind_of kind slot).changed ≡ true → option_map (with_kind kind) slot ≡ slot → ⊥
+set_kind_differs : (kind : List ℕ) (slot : Option Statement) → (sets_kind_of kind slot).changed ≡ true → option_map (with_kind kind) slot ≡ slot → ⊥
 set_kind_differs kind None h same = absurd cc
 set_kind_differs kind (Some s) h same =
     let one : with_kind kind s ≡ s = cc in
     nodes_differ kind s.nodes (rule_of s.nodes) refl h (ap (λ (z : Statement). z.nodes) one)
+
+kind_noted : (kind : List ℕ) (slot : Option Statement) → is_some (sets_kind_of kind slot).note ≡ true → (sets_kind_of kind slot).changed ≡ false
+kind_noted kind None h = refl
+kind_noted kind (Some s) h = elim (rule_of s.nodes) as (λ r. is_some (sets_kind kind r).note ≡ true → (sets_kind kind r).changed ≡ false) [ None ↦ λ k. refl | Some r ↦ λ k. absurd cc ] h
+
+kind_no_rule : (kind : List ℕ) (slot : Option Statement) → holds_rule slot ≡ false → (sets_kind_of kind slot).changed ≡ false
+kind_no_rule kind None h = refl
+kind_no_rule kind (Some s) h = elim (rule_of s.nodes) as (λ r. is_some r ≡ false → (sets_kind kind r).changed ≡ false) [ None ↦ λ k. refl | Some r ↦ λ k. absurd cc ] h
+
+pub set_lawful : (home : Package) (setting : Setting) → Lawful (Set setting) home
+set_lawful home (ToKind kind) = record {
+  stays = λ slot h. set_kind_stays kind slot h;
+  differs = λ read slot h same. set_kind_differs kind slot h same;
+  noted = λ slot h. kind_noted kind slot h;
+  no_rule = λ slot h. kind_no_rule kind slot h;
+}
+set_lawful home (ToValues attr words) = on_arguments (Set (ToValues attr words)) home (λ slot. refl) (λ slot. refl) (record {
+  stays = λ args h. set_stays attr words args h;
+  differs = λ read args h same. set_differs attr words args h same;
+  noted = λ args h. absurd cc;
+})
+
+pub set_if_absent_lawful : (home : Package) (attr : List ℕ) (words : List (List ℕ)) → Lawful (SetIfAbsent attr words) home
+set_if_absent_lawful home attr words = on_arguments (SetIfAbsent attr words) home (λ slot. refl) (λ slot. refl) (record {
+  stays = λ args h. set_if_absent_stays attr words args h;
+  differs = λ read args h same. set_if_absent_differs attr words args h same;
+  noted = λ args h. absurd cc;
+})

@@ -1,17 +1,20 @@
 -- A comment changes what it stands before: a list of comment lines gets longer.
-use Rattle.std.proofs.Common.{◌≡◌, ℕ, ◌+◌, List, [], ◌∷◌, ◌++◌, Bool, true, false, Option, None, Some, length, take, drop, option_map, is_some, refl, ap, sym, ◌∙◌, arith, inl, inr}
+use Rattle.std.proofs.Common.{◌≡◌, ℕ, ◌+◌, List, [], ◌∷◌, ◌++◌, Bool, true, false, Option, None, Some, length, option_map, is_some, if◌then◌else◌, refl, ap, sym, ◌∙◌, arith, inl, inr}
 use Rattle.std.specs.List.{list_any, list_all}
 use Rattle.std.proofs.lemmas.Bool.{cases_Bool}
 use Rattle.std.proofs.lemmas.List.{length_push}
 use Rattle.bz_tree.specs.Tree.{Item, leaf, group, Segment, Statement}
 use Rattle.bz_command.specs.Labels.{Package}
-use Rattle.bz_attribute.specs.Rules.{rule_of, is_named, is_text, name_of, first_named, value, elements}
+use Rattle.bz_attribute.specs.Rules.{rule_of, is_named, first_named, value, elements}
 use Rattle.bz_attribute.specs.Lists.{edit_list, equals, is_joint, is_part, is_plus, parts, parts_from}
 use Rattle.bz_attribute.specs.declared.done.Note.{Note}
 use Rattle.bz_attribute.specs.declared.done.Note.TheVariants.{NoAttribute, NoValue}
-use Rattle.bz_attribute.specs.Effects.{edit_first, first_note, has, holds_rule, is_absent, not_a_list}
+use Rattle.bz_attribute.specs.Effects.{done, edit_first, first_note, has, holds_rule, is_absent, not_a_list}
 use Rattle.bz_attribute.specs.Commenting.{comment_attribute, comment_element, comment_line, comment_note, comment_rule, comment_value, comments_above, edit_element, edit_element_from, is_missing, with_comment}
 use Rattle.bz_attribute.proofs.Views.{segments_of}
+use Rattle.bz_command.specs.Commands.{Comment, Commented, Rule as OfRule, Attribute, Value}
+use Rattle.bz_rule.proofs.Arguments.{attribute_named, first_same, has_first, is_first_named, value_put}
+use Rattle.bz_rule.proofs.Lawful.{Lawful, done_changed, guarded_same, note_unchanged, on_arguments}
 
 push_longer : (xs : List (List ℕ)) (y : List ℕ) → xs ++ y ∷ [] ≡ xs → ⊥
 push_longer xs y h = let long : length xs + 1 ≡ length xs = sym (length_push xs y) ∙ ap length h in absurd (omega arith)
@@ -30,25 +33,8 @@ first_differs p f (s ∷ ss) differs any h = elim (cases_Bool (p s)) [
       first_differs p f ss differs rest cc
 ]
 
--- what became of the first argument of a name
-pub record IsKept (attr : List ℕ) (f : Segment → Segment) (args : List Segment) (a : Segment) : Type 0 where
-  pub first : first_named attr args ≡ Some a
-  pub named : is_named attr a ≡ true
-  pub kept : f a ≡ a
-
-first_kept : (attr : List ℕ) (f : Segment → Segment) (args : List Segment) → has attr args ≡ true → edit_first (is_named attr) (λ a. f a ∷ []) args ≡ args → (a : Segment) × IsKept attr f args a
-first_kept attr f [] any h = absurd cc
-first_kept attr f (a ∷ args) any h = elim (cases_Bool (is_named attr a)) [
-  | inl is ↦ let e : f a ∷ args ≡ a ∷ args = rw is at h in (a, record { first = rw is refl; named = is; kept = cc })
-  | inr other ↦
-      let e : a ∷ edit_first (is_named attr) (λ a. f a ∷ []) args ≡ a ∷ args = rw other at h in
-      let rest : has attr args ≡ true = rw other at any in
-      let found = first_kept attr f args rest cc in
-      (found.0, record { first = rw other found.1.first; named = found.1.named; kept = found.1.kept })
-]
-
 -- `comment <text>`
-pub comment_rule_stays : (text : List ℕ) (slot : Option Statement) → holds_rule slot ≡ false → option_map (comment_rule text) slot ≡ slot
+comment_rule_stays : (text : List ℕ) (slot : Option Statement) → holds_rule slot ≡ false → option_map (comment_rule text) slot ≡ slot
 comment_rule_stays text None h = refl
 comment_rule_stays text (Some s) h =
     elim (rule_of s.nodes) as (λ r. is_some r ≡ false → Some (record s { before = comments_above s.before text r }) ≡ Some s)
@@ -58,7 +44,7 @@ lines_of : Option Statement → List (List ℕ)
 lines_of None = []
 lines_of (Some s) = s.before
 
-pub comment_rule_differs : (text : List ℕ) (slot : Option Statement) → holds_rule slot ≡ true → option_map (comment_rule text) slot ≡ slot → ⊥
+comment_rule_differs : (text : List ℕ) (slot : Option Statement) → holds_rule slot ≡ true → option_map (comment_rule text) slot ≡ slot → ⊥
 unfolding lines_of
 comment_rule_differs text None h same = absurd cc
 comment_rule_differs text (Some s) h same =
@@ -73,7 +59,7 @@ present attr args h = elim (cases_Bool (has attr args)) [
   | inr other ↦ let note : Some (NoAttribute attr) ≡ None = rw other at h in absurd cc
 ]
 
-pub comment_attribute_differs : (attr text : List ℕ) (args : List Segment) → is_absent attr args ≡ None → comment_attribute attr text args ≡ args → ⊥
+comment_attribute_differs : (attr text : List ℕ) (args : List Segment) → is_absent attr args ≡ None → comment_attribute attr text args ≡ args → ⊥
 comment_attribute_differs attr text args h same =
     let is : has attr args ≡ true = present attr args h in
     let edited : edit_first (is_named attr) (λ a. with_comment (comment_line text) a ∷ []) args ≡ args = rw is at same in
@@ -112,26 +98,51 @@ element_differs p f nodes differs any h = elim (cases_Bool (list_all is_joint no
   | inr other ↦ let none : false ≡ true = rw other at any in absurd cc
 ]
 
-new_value : (attr : List ℕ) (nodes v : List Item) → is_text attr (name_of nodes) ≡ true → drop 2 (take 2 nodes ++ v) ≡ v
-new_value attr [] v h = absurd cc
-new_value attr (x ∷ []) v h = absurd cc
-new_value attr (x ∷ y ∷ xs) v h = refl
-
 both_none : (a b : Option Note) → first_note a b ≡ None → (a ≡ None) × (b ≡ None)
 both_none None b h = (refl, h)
 both_none (Some note) b h = absurd cc
 
-pub comment_value_differs : (home : Package) (attr v text : List ℕ) (args : List Segment) → comment_note home attr v args ≡ None → comment_value home attr v text args ≡ args → ⊥
+value_differs : (home : Package) (attr v text : List ℕ) (args : List Segment) (o : Option Segment) → first_named attr args ≡ o → is_some o ≡ true → is_missing home attr v o ≡ None
+    → edit_first (is_named attr) (λ a. comment_element home v text a ∷ []) args ≡ args → ⊥
+value_differs home attr v text args None e there found same = absurd cc
+value_differs home attr v text args (Some a) e there found same =
+    let some : list_any (list_any (equals home v)) (parts (value a)) ≡ true = elim (cases_Bool (list_any (list_any (equals home v)) (parts (value a)))) [
+      | inl is ↦ is
+      | inr other ↦ let note : Some (NoValue attr v) ≡ None = rw other at found in absurd cc
+    ] in
+    let one : comment_element home v text a ∷ [] ≡ a ∷ [] = first_same attr (λ z. comment_element home v text z ∷ []) args a e same in
+    let kept : comment_element home v text a ≡ a = cc in
+    let edited : List Item = edit_element (equals home v) (with_comment (comment_line text)) (value a) in
+    let put : edited ≡ value a = sym (value_put edited a (attribute_named attr a (is_first_named attr args a e))) ∙ ap value kept in
+    element_differs (equals home v) (with_comment (comment_line text)) (value a) (commented (comment_line text)) some put
+
+comment_value_differs : (home : Package) (attr v text : List ℕ) (args : List Segment) → comment_note home attr v args ≡ None → comment_value home attr v text args ≡ args → ⊥
 comment_value_differs home attr v text args h same =
     let edited : edit_first (is_named attr) (λ a. comment_element home v text a ∷ []) args ≡ args = rw h at same in
     let outer = both_none _ _ h in
     let inner = both_none (not_a_list attr (first_named attr args)) (is_missing home attr v (first_named attr args)) outer.1 in
-    let found = first_kept attr (comment_element home v text) args (present attr args outer.0) edited in
-    let a : Segment = found.0 in
-    let here : is_missing home attr v (Some a) ≡ None = ap (is_missing home attr v) (sym found.1.first) ∙ inner.1 in
-    let some : list_any (list_any (equals home v)) (parts (value a)) ≡ true = elim (cases_Bool (list_any (list_any (equals home v)) (parts (value a)))) [
-      | inl is ↦ is
-      | inr other ↦ let note : Some (NoValue attr v) ≡ None = rw other at here in absurd cc
-    ] in
-    let put : edit_element (equals home v) (with_comment (comment_line text)) (value a) ≡ value a = sym (new_value attr a.nodes (edit_element (equals home v) (with_comment (comment_line text)) (value a)) found.1.named) ∙ ap value found.1.kept in
-    element_differs (equals home v) (with_comment (comment_line text)) (value a) (commented (comment_line text)) some put
+    value_differs home attr v text args (first_named attr args) refl (sym (has_first attr args) ∙ present attr args outer.0) inner.1 edited
+
+absent_same : (attr text : List ℕ) (args : List Segment) → (done (is_absent attr args) true).changed ≡ false → comment_attribute attr text args ≡ args
+absent_same attr text args h =
+    elim (has attr args) as (λ b. (done (if b then None else Some (NoAttribute attr)) true).changed ≡ false
+    → (if b then edit_first (is_named attr) (λ a. with_comment (comment_line text) a ∷ []) args else args) ≡ args)
+    [ true ↦ λ k. absurd cc | false ↦ λ k. refl ] h
+
+pub comment_lawful : (home : Package) (place : Commented) (text : List ℕ) → Lawful (Comment place text) home
+comment_lawful home OfRule text = record {
+  stays = λ slot h. comment_rule_stays text slot h;
+  differs = λ read slot h same. comment_rule_differs text slot h same;
+  noted = λ slot h. absurd cc;
+  no_rule = λ slot h. h;
+}
+comment_lawful home (Attribute attr) text = on_arguments (Comment (Attribute attr) text) home (λ slot. refl) (λ slot. refl) (record {
+  stays = λ args h. absent_same attr text args h;
+  differs = λ read args h same. comment_attribute_differs attr text args (done_changed (is_absent attr args) true h).0 same;
+  noted = λ args h. note_unchanged (is_absent attr args) true h;
+})
+comment_lawful home (Value attr v) text = on_arguments (Comment (Value attr v) text) home (λ slot. refl) (λ slot. refl) (record {
+  stays = λ args h. guarded_same (comment_note home attr v args) true _ args (λ k. absurd cc) h;
+  differs = λ read args h same. comment_value_differs home attr v text args (done_changed (comment_note home attr v args) true h).0 same;
+  noted = λ args h. note_unchanged (comment_note home attr v args) true h;
+})

@@ -1,10 +1,10 @@
 -- A move changes something exactly where an element is chosen: afterwards it does not stand in the arguments of the old name.
 use Rattle.std.proofs.Common.{◌≡◌, ℕ, List, [], ◌∷◌, ◌++◌, Bool, true, false, cond, filter, Option, Some, None, if◌then◌else◌, refl, ap, sym, ◌∙◌, inl, inr, bytes_eq}
-use Rattle.std.proofs.lemmas.Bool.{cases_Bool}
+use Rattle.std.proofs.lemmas.Bool.{and_parts, cases_Bool, not-true}
 use Rattle.std.proofs.lemmas.List.{append-nil, append_cancel_right}
 use Rattle.bz_tree.specs.Tree.{Item, Segment}
 use Rattle.bz_command.specs.Labels.{Package}
-use Rattle.bz_command.specs.Commands.{Moved}
+use Rattle.bz_command.specs.Commands.{Move, Moved, is_command, is_moved}
 use Rattle.bz_attribute.specs.Rules.{first_named, is_named, is_text, name_of, value}
 use Rattle.bz_attribute.specs.Lists.{edit_first_part, edit_parts, with_value}
 use Rattle.bz_attribute.specs.Effects.{argument, chooses_in, edit_first, filtered, has, list_item, loses_all, unchosen}
@@ -12,7 +12,10 @@ use Rattle.bz_attribute.specs.Moving.{arrivals, chosen_of, elements_of, move, mo
 use Rattle.bz_rule.proofs.Arguments.{attribute_named, is_first_named, name_put}
 use Rattle.bz_list_commands.proofs.Arriving.{text_of_one}
 use Rattle.bz_list_commands.proofs.Leaving.{filter-append}
-use Rattle.bz_rule.proofs.Removal.{filtered_same}
+use Rattle.bz_rule.proofs.Remove.{filtered_same}
+use Rattle.bz_command.specs.Names.{is_identifier}
+use Rattle.std.specs.Prelude.{not, ◌&&◌}
+use Rattle.bz_rule.proofs.Lawful.{Lawful, done_changed, guarded_same, note_unchanged, on_arguments}
 
 -- an argument of the new name has not the old one
 not_old : (old new : List ℕ) (name : Option (List ℕ)) → bytes_eq old new ≡ false → is_text new name ≡ true → is_text old name ≡ false
@@ -78,9 +81,23 @@ first_chosen home old new chosen args (Some a) e other same =
     sym (named_put old new (arrivals home (elements_of (first_named new args)) (chosen_of home chosen (first_named old args))) left other) ∙ ap (filter (is_named old)) same in
     filtered_same home chosen a (attribute_named old a (is_first_named old args a e)) (first_left old (unchosen home chosen) args a e named)
 
-pub move_differs : (home : Package) (old new : List ℕ) (chosen : Moved) (args : List Segment) → bytes_eq old new ≡ false → move_note old new args ≡ None
+move_differs : (home : Package) (old new : List ℕ) (chosen : Moved) (args : List Segment) → bytes_eq old new ≡ false → move_note old new args ≡ None
     → moves home old chosen args ≡ true → move home old new chosen args ≡ args → ⊥
 move_differs home old new chosen args other noted some same =
     let made : moved home old new chosen args ≡ args = rw (noted, some) at same in
     let clash : true ≡ false = sym some ∙ first_chosen home old new chosen args (first_named old args) refl other made in
     absurd cc
+
+others : (old new : List ℕ) (chosen : Moved) → is_command (Move old new chosen) ≡ true → bytes_eq old new ≡ false
+others old new chosen h =
+    let parts = and_parts ((is_identifier old && is_identifier new) && not (bytes_eq old new)) (is_moved chosen) h in
+    not-true (bytes_eq old new) (and_parts (is_identifier old && is_identifier new) (not (bytes_eq old new)) parts.0).1
+
+pub move_lawful : (home : Package) (old new : List ℕ) (chosen : Moved) → Lawful (Move old new chosen) home
+move_lawful home old new chosen = on_arguments (Move old new chosen) home (λ slot. refl) (λ slot. refl) (record {
+  stays = λ args h. guarded_same (move_note old new args) (moves home old chosen args) (if moves home old chosen args then moved home old new chosen args else args) args (λ k. rw k refl) h;
+  differs = λ read args h same.
+      let told = done_changed (move_note old new args) (moves home old chosen args) h in
+      move_differs home old new chosen args (others old new chosen read) told.0 told.1 same;
+  noted = λ args h. note_unchanged (move_note old new args) (moves home old chosen args) h;
+})
