@@ -70,8 +70,8 @@ pub fn ident_of<'n>(node: &'n Node<'_>) -> Option<&'n str>
     }
 }
 
-// The name of an argument `name = value`.
-pub(crate) fn name_of<'n>(nodes: &'n [Node<'_>]) -> Option<&'n str>
+/// The name of an argument `name = value`.
+pub fn name_of<'n>(nodes: &'n [Node<'_>]) -> Option<&'n str>
     ensures { option_map (λ text. text.now) result ≡ spec.name_of (nodes_view nodes.now) }
 {
     match nodes {

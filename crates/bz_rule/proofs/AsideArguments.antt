@@ -17,8 +17,8 @@ use Rattle.bz_attribute.specs.Commenting.{comment_attribute, comment_element, co
 use Rattle.bz_rule.specs.Applied.{args_after, args_done}
 use Rattle.bz_rule.specs.Aside.{IsAside}
 use Rattle.bz_rule.proofs.NamesKept.{KeepsEach, Leaves, append_kept, each_stays, edit_kept, edit_one_kept, filter_kept, first_kept, has_kept, named_kept, put_kept}
-use Rattle.bz_rule.proofs.Renaming.{named_now}
-use Rattle.bz_rule.proofs.SetLaws.{same_bytes}
+use Rattle.bz_rule.proofs.Rename.{named_now}
+use Rattle.bz_rule.proofs.Set.{same_bytes}
 
 -- what a command mentions stays
 

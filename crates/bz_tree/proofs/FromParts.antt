@@ -1,10 +1,14 @@
 -- Nodes are read back from their parts.
-use Rattle.std.proofs.Common.{◌≡◌, ℕ, zero, suc, List, [], ◌∷◌, ◌++◌, length, slice_index_or, slice_set, map, Bool, Option, Some, None, refl, ap, sym, ◌∙◌, append_assoc, append-nil, arith}
+use Rattle.std.proofs.Common.{◌≡◌, ℕ, zero, suc, List, [], ◌∷◌, ◌++◌, length, slice_index_or, slice_set, map, Bool, Option, Some, None, refl, ap, sym, ◌∙◌, append_assoc, append-nil, ◌≤◌, ◌-◌, get_or, arith}
+use Rattle.bz_tree.specs.declared.row.Part.{Part}
+use Rattle.bz_tree.specs.Rows.{part_view}
 use Rattle.bz_tree.specs.declared.stmt.Seg.{Seg}
 use Rattle.bz_tree.specs.Tree.{Item, leaf, group, Items, no_items, item, Segs, no_segs, seg, Segment, Statement, items_of, list_of, segs_of, segments}
 use Rattle.bz_tree.specs.View.{seg_view, segs_view}
-use Rattle.bz_tree.specs.Rows.{RowPart, closing, segment_end, above, beside_part, item_parts, items_parts, segs_parts, parts_of}
-use Rattle.bz_tree.specs.FromParts.{Outer, Nest, beside_last, steps, nodes_of_parts}
+use Rattle.bz_tree.specs.declared.stmt.Class.{Class}
+use Rattle.bz_tree.specs.private.PartSteps.{beside_text, content_of, last_beside}
+use Rattle.bz_tree.specs.Rows.{RowPart, a_token, opening, closing, segment_end, above, beside, beside_part, item_parts, items_parts, segs_parts, parts_of}
+use Rattle.bz_tree.specs.FromParts.{Content, Outer, Nest, beside_last, steps, nodes_of_parts}
 
 -- trees and lists, there and back
 pub listed_back : (xs : List Item) → list_of (items_of xs) ≡ xs
@@ -106,3 +110,54 @@ statement_back s =
     ap nodes_in (read_above s.before [] [] [] [] (items_parts (items_of s.nodes) ++ beside_part s.suffix)
     ∙ (read_items (items_of s.nodes) [] s.before [] [] (beside_part s.suffix) ∙ suffix_left s.suffix s.before (list_of (items_of s.nodes))))
     ∙ listed_back s.nodes
+
+content_back : (s : Statement) → content_of (parts_of s) ≡ record { segs = []; comments = s.before; nodes = s.nodes }
+content_back s =
+    ap (λ (n : Nest). n.here) (read_above s.before [] [] [] [] (items_parts (items_of s.nodes) ++ beside_part s.suffix)
+    ∙ (read_items (items_of s.nodes) [] s.before [] [] (beside_part s.suffix) ∙ suffix_left s.suffix s.before (list_of (items_of s.nodes))))
+    ∙ ap (λ (nodes : List Item). record { segs = []; comments = s.before; nodes = nodes }) (listed_back s.nodes)
+
+last_is : (ps : List RowPart) (p : RowPart) → last_beside (ps ++ p ∷ []) ≡ beside_text p
+last_is [] p = refl
+last_is (q ∷ []) p = refl
+last_is (q ∷ r ∷ ps) p = last_is (r ∷ ps) p
+
+last_of_items : (xs : Items) (ps : List RowPart) → last_beside ps ≡ None → last_beside (ps ++ items_parts xs) ≡ None
+last_of_items no_items ps h = ap last_beside (append-nil ps) ∙ h
+last_of_items (item (leaf kind text) xs) ps h =
+    ap last_beside (sym (append_assoc ps (a_token kind text ∷ []) (items_parts xs))) ∙ last_of_items xs (ps ++ a_token kind text ∷ []) (last_is ps (a_token kind text))
+last_of_items (item (group kind ss one_comma end) xs) ps h =
+    let inner : List RowPart = opening kind ∷ (segs_parts ss ++ map above end) in
+    let split : ps ++ items_parts (item (group kind ss one_comma end) xs) ≡ ((ps ++ inner) ++ closing one_comma ∷ []) ++ items_parts xs = simp append_assoc in
+    ap last_beside split ∙ last_of_items xs ((ps ++ inner) ++ closing one_comma ∷ []) (last_is (ps ++ inner) (closing one_comma))
+
+last_of_above : (notes : List (List ℕ)) → last_beside (map above notes) ≡ None
+last_of_above [] = refl
+last_of_above (note ∷ []) = refl
+last_of_above (note ∷ other ∷ notes) = last_of_above (other ∷ notes)
+
+suffix_back : (s : Statement) → last_beside (parts_of s) ≡ s.suffix
+suffix_back s =
+    let front : List RowPart = map above s.before ++ items_parts (items_of s.nodes) in
+    elim s.suffix as (λ o. last_beside (map above s.before ++ (items_parts (items_of s.nodes) ++ beside_part o)) ≡ o) [
+      | None ↦ ap (λ (ps : List RowPart). last_beside (map above s.before ++ ps)) (append-nil (items_parts (items_of s.nodes))) ∙ last_of_items (items_of s.nodes) (map above s.before) (last_of_above s.before)
+      | Some text ↦ ap last_beside (sym (append_assoc (map above s.before) (items_parts (items_of s.nodes)) (beside text ∷ []))) ∙ last_is front (beside text)
+    ]
+
+abbrev pub made : Content → Option (List ℕ) → Class → ℕ → ℕ → Statement
+made c suffix class start end = record { before = c.comments; nodes = c.nodes; suffix = suffix; class = class; start = start; end = end }
+
+-- a statement by its parts
+pub statement_of_parts : (s : Statement) (ps : List RowPart) (c : Content) (suffix : Option (List ℕ)) (class : Class) (start end : ℕ) → ps ≡ parts_of s → c ≡ content_of ps → suffix ≡ last_beside ps
+    → made c suffix class start end ≡ record s { class = class; start = start; end = end }
+statement_of_parts s ps c suffix class start end parts content ends =
+    let c_is : c ≡ record { segs = []; comments = s.before; nodes = s.nodes } = content ∙ ap content_of parts ∙ content_back s in
+    let suffix_is : suffix ≡ s.suffix = ends ∙ ap last_beside parts ∙ suffix_back s in
+    λ i. record { before = (c_is i).comments; nodes = (c_is i).nodes; suffix = suffix_is i; class = class; start = start; end = end }
+
+pub last_view : (ps : List Part) (d : Part) → 1 ≤ length ps → last_beside (map part_view ps) ≡ beside_text (part_view (get_or ps (length ps - 1) d))
+last_view [] d h = absurd (omega arith)
+last_view (p ∷ []) d h = refl
+last_view (p ∷ q ∷ ps) d h =
+    let at : length (p ∷ q ∷ ps) - 1 ≡ suc (length (q ∷ ps) - 1) = omega arith in
+    last_view (q ∷ ps) d (omega arith) ∙ ap (λ (i : ℕ). beside_text (part_view (get_or (p ∷ q ∷ ps) i d))) (sym at)

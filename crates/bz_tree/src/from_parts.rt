@@ -1,13 +1,14 @@
 //! The nodes that parts are of: one walk over the parts, with a stack of open brackets.
 
-ghost use Rattle.std.specs.Prelude.{◌≡◌, map, IfOk, OnOk};
-ghost use Rattle.bz_tree.specs.View.{node_view, nodes_view};
-ghost use Rattle.bz_tree.specs.Rows.{part_view};
+ghost use Rattle.std.specs.Prelude.{◌≡◌, map, IfOk, OnOk, option_map};
+ghost use Rattle.bz_tree.specs.Tree.{Statement};
+ghost use Rattle.bz_tree.specs.View.{node_view, nodes_view, text_of, view};
+ghost use Rattle.bz_tree.specs.Rows.{part_view, parts_of};
 ghost use Rattle.bz_tree.specs.FromParts.{nothing, with_node, with_segment, with_beside, opened, closed, step, nodes_of_parts};
-ghost use Rattle.bz_tree.specs.private.PartSteps.{content, outers, nest};
+ghost use Rattle.bz_tree.specs.private.PartSteps.{beside_text, content, content_of, last_beside, outers, nest};
 
 use crate::row::Part;
-use crate::stmt::{Group, GroupKind, Leaf, Node, Seg};
+use crate::stmt::{Class, Group, GroupKind, Leaf, Node, Seg, Stmt};
 use std::alloc::{AllocError, Global};
 use std::borrow::CowStr;
 use std::mem;
@@ -151,9 +152,9 @@ impl<'a> Nesting<'a> {
     }
 }
 
-/// The nodes whose parts these are, each text a slice of the same chunk. `Err`: memory was refused.
-pub fn nodes_of_parts<'a>(alloc: Global, parts: &[Part<'a>]) -> Result<Vec<Node<'a>>, AllocError>
-    ensures { IfOk result (λ nodes. nodes_view nodes.items ≡ nodes_of_parts (map part_view parts.now)) }
+// What the parts come to.
+fn read_parts<'a>(alloc: Global, parts: &[Part<'a>]) -> Result<Inside<'a>, AllocError>
+    ensures { IfOk result (λ inside. content inside ≡ content_of (map part_view parts.now)) }
 {
     let mut nesting = Nesting {
         here: Inside::new(alloc),
@@ -163,5 +164,58 @@ pub fn nodes_of_parts<'a>(alloc: Global, parts: &[Part<'a>]) -> Result<Vec<Node<
         nesting.step(alloc, parts[i], is_last(parts.get(i + 1)))?;
     }
     let Nesting { here, .. } = nesting;
-    Ok(here.nodes)
+    Ok(here)
+}
+
+/// The nodes whose parts these are, each text a slice of the same chunk. `Err`: memory was refused.
+pub fn nodes_of_parts<'a>(alloc: Global, parts: &[Part<'a>]) -> Result<Vec<Node<'a>>, AllocError>
+    ensures { IfOk result (λ nodes. nodes_view nodes.items ≡ nodes_of_parts (map part_view parts.now)) }
+{
+    let Inside { nodes, .. } = read_parts(alloc, parts)?;
+    Ok(nodes)
+}
+
+fn beside_text<'a>(part: &Part<'a>) -> Option<CowStr<'a>>
+    ensures { option_map text_of result ≡ beside_text (part_view part.now) }
+{
+    match part {
+        Part::Beside(text) => Some(CowStr::Borrowed(*text)),
+        _ => None,
+    }
+}
+
+// The comment with which the parts end, beside what stands before it.
+fn last_beside<'a>(parts: &[Part<'a>]) -> Option<CowStr<'a>>
+    ensures { option_map text_of result ≡ last_beside (map part_view parts.now) }
+{
+    let [.., last] = parts else {
+        return None;
+    };
+    beside_text(last)
+}
+
+/// The statement whose parts these are, of this class and on these lines. `Err`: memory was refused.
+pub fn stmt_of_parts<'a>(
+    alloc: Global,
+    parts: &[Part<'a>],
+    class: Class,
+    start: u64,
+    end: u64,
+) -> Result<Stmt<'a>, AllocError>
+    ensures { IfOk result (λ stmt. (s : Statement) → map part_view parts.now ≡ parts_of s
+        → view stmt ≡ record s { class = class; start = start; end = end }) }
+{
+    let Inside {
+        comments,
+        nodes,
+        ..
+    } = read_parts(alloc, parts)?;
+    Ok(Stmt {
+        before: comments,
+        nodes,
+        suffix: last_beside(parts),
+        class,
+        start,
+        end,
+    })
 }

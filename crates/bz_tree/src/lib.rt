@@ -25,8 +25,8 @@ mod stmt;
 
 pub use chunk::{parse, parse_tokens};
 pub use fault::ParseFault;
-pub use from_parts::nodes_of_parts;
-pub use parts::{push_nodes, push_parts};
+pub use from_parts::{nodes_of_parts, stmt_of_parts};
+pub use parts::{push_above, push_beside, push_nodes, push_parts};
 pub use role::Role;
 pub use row::{Part, Row};
 pub use rows::read_row;

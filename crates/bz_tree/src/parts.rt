@@ -19,7 +19,8 @@ pub fn push_parts<'s>(stmt: &'s Stmt<'_>, parts: &mut Vec<Part<'s>>) -> Result<(
     push_beside(&stmt.suffix, parts)
 }
 
-fn push_above<'s>(notes: &'s [CowStr<'_>], parts: &mut Vec<Part<'s>>) -> Result<(), AllocError>
+/// Appends comments that stand above something. `Err`: memory was refused, and some of them may have been appended.
+pub fn push_above<'s>(notes: &'s [CowStr<'_>], parts: &mut Vec<Part<'s>>) -> Result<(), AllocError>
     ensures { OnOk result (map part_view parts.new.items
         ≡ map part_view parts.old.items ++ map above (texts notes.now)) }
 {
@@ -29,7 +30,8 @@ fn push_above<'s>(notes: &'s [CowStr<'_>], parts: &mut Vec<Part<'s>>) -> Result<
     Ok(())
 }
 
-fn push_beside<'s>(
+/// Appends the comment that stands beside something, if there is one. `Err`: memory was refused.
+pub fn push_beside<'s>(
     note: &'s Option<CowStr<'_>>,
     parts: &mut Vec<Part<'s>>,
 ) -> Result<(), AllocError>

@@ -1,10 +1,11 @@
 -- For private clauses: what the walk from parts to nodes holds.
-use Rattle.std.specs.Prelude.{List, map, reverse}
+use Rattle.std.specs.Prelude.{ℕ, List, [], ◌∷◌, Option, None, Some, map, reverse}
 use Rattle.bz_tree.specs.declared.from_parts.Inside.{Inside}
 use Rattle.bz_tree.specs.declared.from_parts.Around.{Around}
 use Rattle.bz_tree.specs.declared.from_parts.Nesting.{Nesting}
 use Rattle.bz_tree.specs.View.{texts, nodes_view, segs_view}
-use Rattle.bz_tree.specs.FromParts.{Content, Outer, Nest}
+use Rattle.bz_tree.specs.FromParts.{Content, Outer, Nest, nothing, steps}
+use Rattle.bz_tree.specs.Rows.{RowPart, beside}
 
 abbrev pub content : Inside → Content
 content i = record { segs = segs_view i.segs.items; comments = texts i.comments.items; nodes = nodes_view i.nodes.items }
@@ -18,3 +19,17 @@ outers os = reverse (map outer_view os)
 
 abbrev pub nest : Nesting → Nest
 nest n = record { here = content n.here; outer = outers n.outer.items }
+
+-- what parts come to at the top
+abbrev pub content_of : List RowPart → Content
+content_of ps = (steps ps (record { here = nothing; outer = [] })).here
+
+abbrev pub beside_text : RowPart → Option (List ℕ)
+beside_text (beside text) = Some text
+beside_text _ = None
+
+-- the comment with which parts end
+abbrev pub last_beside : List RowPart → Option (List ℕ)
+last_beside [] = None
+last_beside (p ∷ []) = beside_text p
+last_beside (p ∷ q ∷ ps) = last_beside (q ∷ ps)
