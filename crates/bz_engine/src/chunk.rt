@@ -3,13 +3,15 @@
 ghost use Rattle.std.specs.Prelude.{◌≡◌, ℕ, ◌+◌, ◌<◌, ◌≤◌, ◌^◌, ◌==◌, List, count_by, length, map, IfOk};
 ghost use Rattle.bz_token.specs.Places.{placed, line_at, column_at};
 ghost use Rattle.bz_token.specs.Reading.{AreTokensOf};
+ghost use Rattle.std.specs.Str.{IsUtf8};
 ghost use Rattle.bz_engine.specs.private.ChunkRead.{IsReadAs};
+ghost use Rattle.bz_engine.specs.private.Rows.{IsStatementRow};
 
 use crate::edit::Script;
 use crate::report::SyntaxFault;
-use crate::row::passed_row;
+use crate::row::is_passed_by;
 use bz_token::{LexFault, Token, check_utf8, tokens};
-use bz_tree::{ParseFault, Row, Stmt, parse_tokens};
+use bz_tree::{ParseFault, Row, Stmt, parse_tokens, read_row};
 use memchr::memchr;
 use std::alloc::AllocError;
 
@@ -19,6 +21,7 @@ pub(crate) enum ChunkRead<'a> {
     Blank,
     /// The script passes it by.
     Passed(Row<'a>),
+    Row(Row<'a>),
     Statement(Stmt<'a>),
     Faulty(SyntaxFault),
 }
@@ -56,8 +59,8 @@ pub(crate) fn read_tokens<'a>(
     ensures { IfOk result (IsReadAs
         script.entry.home.now script.entry.passes.now script.entry.max_depth first_line chunk.now) }
 {
-    if let Some(row) = passed_row(script, tokens)? {
-        return Ok(ChunkRead::Passed(row));
+    if let Some(row) = read_row(script.alloc, tokens)? {
+        return Ok(read_as(script, row));
     }
     match parse_tokens(script.alloc, chunk, first_line, tokens) {
         Ok(None) => Ok(ChunkRead::Blank),
@@ -65,6 +68,17 @@ pub(crate) fn read_tokens<'a>(
         Err(ParseFault::OutOfMemory) => Err(AllocError),
         Err(fault) => Ok(ChunkRead::Faulty(SyntaxFault::Parse(fault))),
     }
+}
+
+// A statement that was read as a row.
+fn read_as<'a>(script: Script<'_>, row: Row<'a>) -> ChunkRead<'a>
+    ensures { (line max_depth : ℕ) (chunk : List ℕ) → IsUtf8 chunk → IsStatementRow line max_depth chunk row.entry
+        → IsReadAs script.entry.home.now script.entry.passes.now max_depth line chunk result }
+{
+    if is_passed_by(script, &row) {
+        return ChunkRead::Passed(row);
+    }
+    ChunkRead::Row(row)
 }
 
 /// The fault after the bytes of a chunk that are UTF-8.

@@ -1,8 +1,6 @@
-//! Statements that the script passes by: no tree is made of them.
+//! Statements that the script passes by: they are laid out by their rows.
 
 ghost use Rattle.std.specs.Prelude.{◌≡◌, ◌++◌, ℕ, List, Some, codes, map, option_map, IsTrue, IfOk, IfSome};
-ghost use Rattle.bz_token.specs.Places.{placed};
-ghost use Rattle.bz_token.specs.Reading.{AreTokensOf};
 ghost use Rattle.bz_tree.specs.Tree.{Statement};
 ghost use Rattle.bz_tree.specs.Statement.{class_of};
 ghost use Rattle.bz_tree.specs.Rows.{IsRowOf, part_view, parts_of};
@@ -16,37 +14,18 @@ use crate::rules::Rules;
 use bz_command::plain_text;
 use bz_passes::index::Key;
 use bz_passes::script::passes_by;
-use bz_token::{Kind, Token};
-use bz_tree::{Class, Part, Row, read_row};
-use std::alloc::AllocError;
-
-/// The row of the statement that these tokens are, which the script passes by. None: it is to be read as a tree.
-pub(crate) fn passed_row<'a>(
-    script: Script<'_>,
-    tokens: &[Token<'a>],
-) -> Result<Option<Row<'a>>, AllocError>
-    ensures { IfOk result (λ found. IfSome found (λ row. (line max_depth : ℕ) (text : List ℕ)
-        → AreTokensOf line max_depth text (map placed tokens.now)
-        → spec.IsPassedRow script.entry.home.now script.entry.passes.now max_depth line text row)) }
-{
-    if !script.passes.ask_for_names() {
-        return Ok(None);
-    }
-    let Some(row) = read_row(script.alloc, tokens)? else {
-        return Ok(None);
-    };
-    if !is_passed_by(script, &row) {
-        return Ok(None);
-    }
-    Ok(Some(row))
-}
+use bz_token::Kind;
+use bz_tree::{Class, Part, Row};
 
 /// No pass of the script may mark the statement of the row.
-fn is_passed_by(script: Script<'_>, row: &Row<'_>) -> bool
+pub(crate) fn is_passed_by(script: Script<'_>, row: &Row<'_>) -> bool
     ensures { IsTrue result → (s : Statement) → s.class ≡ class_of s.nodes → IsRowOf s row.now
         → IsPassedBy (meaning script.entry.home.now) (changes script.entry.home.now) (fails_on script.entry.home.now)
         script.entry.passes.now (Some s) }
 {
+    if !script.passes.ask_for_names() {
+        return false;
+    }
     let rules = Rules {
         alloc: script.alloc,
         home: script.home,

@@ -2,8 +2,8 @@
 
 ghost use Rattle.std.specs.Prelude.{◌≡◌, [], ◌∷◌, ◌++◌, Some, Option, IfOk, OnOk, string_bytes};
 ghost use Rattle.bz_tree.specs.Tree.{Statement};
-ghost use Rattle.bz_tree.specs.View.{slot_view};
 ghost use Rattle.bz_attribute.specs.Effects.{fails};
+ghost use Rattle.bz_rule.specs.ShallowViews.{shallow_slot};
 ghost use Rattle.bz_engine.specs.Meaning.{line_told, note_told, done_told, shown_slot};
 
 use crate::entry::Entry;
@@ -11,10 +11,7 @@ use crate::message;
 use bz_passes::index::Key;
 use bz_passes::language::{Facts, Language};
 use bz_passes::log::Log;
-use bz_rule::{
-    Command, Done, Note, Package, RuleName, Target, Text, apply, matches, rule_name, shown,
-};
-use bz_tree::Stmt;
+use bz_rule::{Command, Done, Note, Package, RuleName, ShallowStmt, Target, Text, apply_shallow};
 use std::alloc::{AllocError, Global};
 
 /// Targets and commands on the rules of a package, whose statements borrow from the file.
@@ -25,7 +22,7 @@ pub(crate) struct Rules<'a> {
 }
 
 impl<'a> Language for Rules<'a> {
-    type Statement = Stmt<'a>;
+    type Statement = ShallowStmt<'a>;
 
     type Target = Target;
 
@@ -37,7 +34,7 @@ impl<'a> Language for Rules<'a> {
 
     ghost Seen = { Statement };
 
-    ghost seen = { slot_view };
+    ghost seen = { shallow_slot };
 
     ghost meaning = { λ rules. meaning rules.home.now };
 
@@ -45,18 +42,18 @@ impl<'a> Language for Rules<'a> {
 
     ghost fails = { λ rules. fails_on rules.home.now };
 
-    fn marks(&self, target: &Target, slot: &Option<Stmt<'a>>) -> bool {
+    fn marks(&self, target: &Target, slot: &Option<ShallowStmt<'a>>) -> bool {
         match slot {
             None => false,
-            Some(stmt) => matches(target, stmt),
+            Some(stmt) => stmt.is_marked_by(target),
         }
     }
 
-    fn key<'s>(&self, slot: &'s Option<Stmt<'a>>) -> Key<'s> {
+    fn key<'s>(&self, slot: &'s Option<ShallowStmt<'a>>) -> Key<'s> {
         let Some(stmt) = slot else {
             return Key::NoName;
         };
-        match rule_name(stmt) {
+        match stmt.rule_name() {
             RuleName::NoName => Key::NoName,
             RuleName::Plain(name) => Key::Name(name),
             RuleName::Other => Key::Unknown,
@@ -75,10 +72,10 @@ impl<'a> Language for Rules<'a> {
     fn apply(
         &self,
         command: &Command,
-        slot: &mut Option<Stmt<'a>>,
+        slot: &mut Option<ShallowStmt<'a>>,
         log: &mut Log<Entry>,
     ) -> Result<Facts, AllocError> {
-        let done = apply(self.alloc, command, self.home, slot)?;
+        let done = apply_shallow(self.alloc, command, self.home, slot)?;
         let facts = facts_of(&done);
         // Where there is a note, the slot is as the command found it.
         tell_done(self.alloc, self.home, slot, done, log)?;
@@ -110,11 +107,11 @@ fn is_failure(note: &Option<Note>) -> bool
 fn tell_done(
     alloc: Global,
     home: &Package,
-    slot: &Option<Stmt<'_>>,
+    slot: &Option<ShallowStmt<'_>>,
     done: Done,
     log: &mut Log<Entry>,
 ) -> Result<(), AllocError>
-    ensures { OnOk result (log.new ≡ log.old ++ done_told (shown_slot home.now (slot_view slot.now)) done) }
+    ensures { OnOk result (log.new ≡ log.old ++ done_told (shown_slot home.now (shallow_slot slot.now)) done) }
 {
     let Done { line, note, .. } = done;
     tell_line(line, log)?;
@@ -134,11 +131,11 @@ fn tell_line(line: Option<Text>, log: &mut Log<Entry>) -> Result<(), AllocError>
 fn tell_note(
     alloc: Global,
     home: &Package,
-    slot: &Option<Stmt<'_>>,
+    slot: &Option<ShallowStmt<'_>>,
     note: Option<Note>,
     log: &mut Log<Entry>,
 ) -> Result<(), AllocError>
-    ensures { OnOk result (log.new ≡ log.old ++ note_told (shown_slot home.now (slot_view slot.now)) note) }
+    ensures { OnOk result (log.new ≡ log.old ++ note_told (shown_slot home.now (shallow_slot slot.now)) note) }
 {
     let Some(note) = note else {
         return Ok(());
@@ -150,12 +147,16 @@ fn tell_note(
 }
 
 /// The rule in a slot, as it is shown; empty where there is none.
-fn shown_slot(alloc: Global, home: &Package, slot: &Option<Stmt<'_>>) -> Result<String, AllocError>
-    ensures { IfOk result (λ text. string_bytes text ≡ shown_slot home.now (slot_view slot.now)) }
+fn shown_slot(
+    alloc: Global,
+    home: &Package,
+    slot: &Option<ShallowStmt<'_>>,
+) -> Result<String, AllocError>
+    ensures { IfOk result (λ text. string_bytes text ≡ shown_slot home.now (shallow_slot slot.now)) }
 {
     match slot {
         None => Ok(String::new(alloc)),
-        Some(stmt) => shown(alloc, home, stmt),
+        Some(stmt) => stmt.shown(alloc, home),
     }
 }
 

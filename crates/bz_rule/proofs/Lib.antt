@@ -6,12 +6,14 @@ mod AsideFields
 pub mod Commands
 mod Comment
 mod Delete
+mod Hollowed
 pub mod Kept
 pub mod Lawful
 mod Move
 pub mod NamesKept
 pub mod PartLaws
 mod Print
+mod PutBack
 pub mod Rebuilt
 pub mod Remove
 mod Rename

@@ -1,8 +1,13 @@
 //! Labels, targets and commands on one rule.
 #![tactic(auto)]
 
+mod fill;
+mod hollow;
 pub mod laws;
+pub mod shallow;
 mod slot;
+mod values;
+mod whole;
 
 pub use bz_attribute::done::{Done, Note};
 pub use bz_attribute::marks::{RuleName, matches, rule_name};
@@ -11,4 +16,5 @@ pub use bz_command::{
     Command, CommandFault, LabelFault, Package, Target, Text, quote, read_command, read_label,
     same, value_is,
 };
+pub use shallow::{ShallowStmt, apply_shallow};
 pub use slot::apply;

@@ -2,6 +2,7 @@
 use Rattle.std.specs.Prelude.{◌≡◌, ℕ, List, [], ◌∷◌, Bool, true, false, ◌&&◌, if◌then◌else◌, Option, None, Some, codes}
 use Rattle.bz_tree.specs.declared.row.Row.{Row}
 use Rattle.bz_tree.specs.Tree.{Statement, leaf}
+use Rattle.bz_tree.specs.Statement.{class_of}
 use Rattle.bz_tree.specs.Chunk.{IsStatementIn}
 use Rattle.bz_tree.specs.Rows.{RowPart, a_token, opening, segment_end, above, IsRowOf}
 use Rattle.bz_command.specs.Labels.{Package, Target}
@@ -18,7 +19,14 @@ use Rattle.bz_engine.specs.Outcome.{Script}
 abbrev pub HasKey : Statement → Key → Type 0
 HasKey s key = (target : Target) → marks target s ≡ true → may_mark key (asked_by target) ≡ true
 
--- The row of the statement of a text. The script passes it by.
+-- The row of the statement of a text.
+pub record IsStatementRow (line max_depth : ℕ) (text : List ℕ) (row : Row) : Type 0 where
+  pub statement : Statement
+  pub read : IsStatementIn line max_depth text statement
+  pub parts : IsRowOf statement row
+  pub class : statement.class ≡ class_of statement.nodes
+
+-- The script passes it by.
 pub record IsPassedRow (home : Package) (passes : Script) (max_depth line : ℕ) (text : List ℕ) (row : Row) : Type 0 where
   pub statement : Statement
   pub read : IsStatementIn line max_depth text statement

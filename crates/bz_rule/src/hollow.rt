@@ -1,0 +1,246 @@
+//! A rule's parts without the values of its arguments, which stand apart.
+
+ghost use Rattle.std.specs.Prelude.{◌≡◌, ◌||◌, not, IfOk, OnOk, length, map};
+ghost use Rattle.std.specs.List.{list_any};
+ghost use Rattle.bz_tree.specs.Rows.{part_view};
+ghost use Rattle.bz_rule.specs.private.Hollow.{parts_view, option_parts, spot, walk, put, pass, sound_after, is_end, is_equals, is_of, lacks_value, has_long_value, may_go, after_name, begun, inside_next, in_argument, before, ended, goes_on, goes_in, step, run, start};
+
+use crate::values::Unread;
+use bz_token::Kind;
+use bz_tree::{GroupKind, Part};
+use std::alloc::{AllocError, Global};
+
+// Few rules have more values that are not short.
+const MOST_APART: usize = 16;
+
+/// Where the walk stands.
+#[derive(Clone, Copy)]
+pub(crate) enum Place<'a> {
+    // Not in the call.
+    Outside,
+    // Before the first node of an argument.
+    Begin,
+    // Before the equals sign of an argument whose value is taken apart.
+    Equals(&'a str),
+    // After the first node of an argument, in so many brackets. Its value is taken apart that begins with these parts.
+    Inside(Option<Unread<'a>>, usize),
+}
+
+#[derive(Drop)]
+pub(crate) struct Hollow<'a> {
+    pub(crate) parts: Vec<Part<'a>>,
+    pub(crate) unread: Vec<Unread<'a>>,
+    pub(crate) place: Place<'a>,
+    // No argument lacks a value.
+    pub(crate) sound: bool,
+}
+
+fn is_end(part: Part<'_>) -> bool
+    ensures { result ≡ is_end (part_view part.entry) }
+{
+    matches!(part, Part::End)
+}
+
+fn is_equals(part: Part<'_>) -> bool
+    ensures { result ≡ is_equals (part_view part.entry) }
+{
+    match part {
+        Part::Token(Kind::Sign, text) => text == "=",
+        _ => false,
+    }
+}
+
+// After a name, no value.
+fn lacks_value(rest: &[Part<'_>]) -> bool
+    ensures { result ≡ lacks_value (map part_view rest.now) }
+{
+    match rest {
+        [sign, first, ..] => is_equals(*sign) && is_end(*first),
+        _ => false,
+    }
+}
+
+// After a name, a value of at least two parts.
+fn has_long_value(rest: &[Part<'_>]) -> bool
+    ensures { result ≡ has_long_value (map part_view rest.now) }
+{
+    match rest {
+        [sign, first, second, ..] => { is_equals(*sign) && !(is_end(*first) || is_end(*second)) }
+        _ => false,
+    }
+}
+
+fn inside_next<'a>(
+    left: Option<Unread<'a>>,
+    depth: usize,
+    part: Part<'a>,
+) -> Result<Place<'a>, AllocError>
+    ensures { IfOk result (λ place. spot place ≡ inside_next (option_parts left.entry) depth (part_view part.entry)) }
+{
+    match part {
+        Part::Open(_) => {
+            // No memory holds so many brackets.
+            let Some(inner) = depth.checked_add(1) else {
+                return Err(AllocError);
+            };
+            Ok(Place::Inside(left, inner))
+        }
+        Part::Close(_) => {
+            if depth == 0 {
+                return Ok(Place::Outside);
+            }
+            Ok(Place::Inside(left, depth - 1))
+        }
+        _ => Ok(Place::Inside(left, depth)),
+    }
+}
+
+// Of the value that begins with the parts what stands before an end after which these are left.
+fn value_before<'a>(value: Unread<'a>, rest: &[Part<'_>]) -> Unread<'a>
+    ensures name { result.name.now ≡ value.entry.name.now }
+    ensures parts { map part_view result.parts.now ≡ before (map part_view value.entry.parts.now) (map part_view rest.now) }
+{
+    let Unread { name, parts } = value;
+    let len = parts.len().saturating_sub(rest.len()).saturating_sub(1);
+    Unread {
+        name,
+        parts: &parts[..len],
+    }
+}
+
+// A value of this name stands apart.
+fn has_value_of(unread: &[Unread<'_>], name: &str) -> bool
+    ensures { result ≡ list_any (is_of name.now) (map parts_view unread.now) }
+{
+    for value in unread {
+        if value.name == name {
+            return true;
+        }
+    }
+    false
+}
+
+impl<'a> Hollow<'a> {
+    // The part stays, and the walk then stands there.
+    fn put(&mut self, part: Part<'a>, place: Place<'a>) -> Result<(), AllocError>
+        ensures { OnOk result (walk self.new ≡ put (part_view part.entry) (spot place.entry) (walk self.old)) }
+    {
+        self.parts.push(part)?;
+        self.place = place;
+        Ok(())
+    }
+
+    // The first bracket is the call of a rule, or there is nothing to take apart.
+    fn go_in(&mut self, part: Part<'a>) -> Result<(), AllocError>
+        ensures { OnOk result (walk self.new ≡ goes_in (part_view part.entry) (walk self.old)) }
+    {
+        match part {
+            Part::Open(kind) => {
+                self.sound = self.sound && kind == GroupKind::RuleCall;
+                self.put(part, Place::Begin)
+            }
+            _ => self.put(part, Place::Outside),
+        }
+    }
+
+    fn may_go(&self, name: &str) -> bool
+        ensures { result ≡ may_go name.now (walk self.now).unread }
+    {
+        name != "name" && self.unread.len() < MOST_APART && !has_value_of(&self.unread, name)
+    }
+
+    fn after_name(&self, name: &'a str, rest: &'a [Part<'a>]) -> Place<'a>
+        ensures { spot result ≡ after_name name.now (map part_view rest.now) (walk self.now).unread }
+    {
+        if has_long_value(rest) && self.may_go(name) {
+            Place::Equals(name)
+        } else {
+            Place::Inside(None, 0)
+        }
+    }
+
+    fn begin(&mut self, part: Part<'a>, rest: &'a [Part<'a>]) -> Result<(), AllocError>
+        ensures { OnOk result
+            (walk self.new ≡ begun (part_view part.entry) (map part_view rest.now) (walk self.old)) }
+    {
+        match part {
+            Part::Token(Kind::Ident, name) => {
+                let place = self.after_name(name, rest);
+                self.sound = self.sound && !lacks_value(rest);
+                self.put(part, place)
+            }
+            Part::Token(_, _) => self.put(part, Place::Inside(None, 0)),
+            Part::Open(_) => self.put(part, Place::Inside(None, 1)),
+            Part::Close(_) => self.put(part, Place::Outside),
+            _ => self.put(part, Place::Begin),
+        }
+    }
+
+    // A segment ends, and these parts are left.
+    fn end(&mut self, left: Option<Unread<'a>>, rest: &'a [Part<'a>]) -> Result<(), AllocError>
+        ensures { OnOk result
+            (walk self.new ≡ ended (option_parts left.entry) (map part_view rest.now) (walk self.old)) }
+    {
+        let Some(value) = left else {
+            return self.put(Part::End, Place::Begin);
+        };
+        self.unread.push(value_before(value, rest))?;
+        self.put(Part::End, Place::Begin)
+    }
+
+    fn inside(
+        &mut self,
+        left: Option<Unread<'a>>,
+        depth: usize,
+        part: Part<'a>,
+        rest: &'a [Part<'a>],
+    ) -> Result<(), AllocError>
+        ensures { OnOk result (walk self.new
+            ≡ goes_on (option_parts left.entry) depth (part_view part.entry) (map part_view rest.now) (walk self.old)) }
+    {
+        if is_end(part) && depth == 0 {
+            return self.end(left, rest);
+        }
+        let place = inside_next(left, depth, part)?;
+        match left {
+            None => self.put(part, place),
+            Some(_) => {
+                self.place = place;
+                Ok(())
+            }
+        }
+    }
+
+    fn step(&mut self, part: Part<'a>, rest: &'a [Part<'a>]) -> Result<(), AllocError>
+        ensures { OnOk result
+            (walk self.new ≡ step (part_view part.entry) (map part_view rest.now) (walk self.old)) }
+    {
+        match self.place {
+            Place::Outside => self.go_in(part),
+            Place::Begin => self.begin(part, rest),
+            Place::Equals(name) => {
+                let value = Unread { name, parts: rest };
+                self.put(part, Place::Inside(Some(value), 0))
+            }
+            Place::Inside(left, depth) => self.inside(left, depth, part, rest),
+        }
+    }
+}
+
+/// The parts of a rule, and the values of its arguments that are taken apart.
+pub(crate) fn hollow_of<'a>(alloc: Global, parts: &'a [Part<'a>]) -> Result<Hollow<'a>, AllocError>
+    ensures { IfOk result (λ hollow. walk hollow ≡ run (map part_view parts.now) start) }
+{
+    let mut walk = Hollow {
+        parts: Vec::with_capacity(alloc, parts.len())?,
+        unread: Vec::with_capacity(alloc, MOST_APART)?,
+        place: Place::Outside,
+        sound: true,
+    };
+    let mut rest = parts;
+    while let [part, after @ ..] = rest {
+        walk.step(*part, after)?;
+        rest = after;
+    }
+    Ok(walk)
+}
