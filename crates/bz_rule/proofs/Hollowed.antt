@@ -1,5 +1,5 @@
 -- The walk that takes values of arguments apart leaves a rule that is whole with them.
-use Rattle.std.proofs.Common.{◌≡◌, ℕ, zero, suc, ◌+◌, ◌-◌, ◌==◌, List, [], ◌∷◌, ◌++◌, map, length, take, drop, Bool, true, false, not, ◌&&◌, ◌||◌, if◌then◌else◌, nat_lt, Option, Some, None, refl, sym, ◌∙◌, ap, subst, append_assoc, append-nil, bytes_eq, is_some, arith, rules}
+use Rattle.std.proofs.Common.{◌≡◌, ℕ, suc, ◌+◌, ◌-◌, ◌==◌, List, [], ◌∷◌, ◌++◌, map, length, take, drop, Bool, true, false, not, ◌&&◌, ◌||◌, if◌then◌else◌, nat_lt, Option, Some, None, refl, sym, ◌∙◌, ap, subst, append_assoc, append-nil, bytes_eq, is_some, arith, rules}
 use Rattle.std.specs.Prelude.{codes}
 use Rattle.std.specs.List.{list_any}
 use Rattle.std.proofs.lemmas.Bool.{false≢true, and_parts, ne_eqb}
@@ -8,21 +8,20 @@ use Rattle.bz_token.specs.declared.token.Kind.{Kind}
 use Rattle.bz_token.specs.declared.token.Kind.TheVariants.{Ident, Sign}
 use Rattle.bz_tree.specs.declared.stmt.GroupKind.{GroupKind}
 use Rattle.bz_tree.specs.declared.stmt.GroupKind.TheVariants.{RuleCall}
-use Rattle.bz_tree.specs.Tree.{Item, leaf, group, Items, no_items, item, Segs, no_segs, seg, Segment, Statement, items_of, list_of, segs_of}
+use Rattle.bz_tree.specs.Tree.{Item, leaf, group, Items, no_items, item, Segs, no_segs, seg, Segment, Statement, items_of, segs_of}
 use Rattle.bz_tree.specs.Rows.{RowPart, a_token, opening, closing, segment_end, above, beside, beside_part, item_parts, items_parts, segs_parts, parts_of}
 use Rattle.bz_tree.specs.declared.stmt.Class.TheVariants.{Rule as RuleClass, Block, Load as LoadClass, Assign, Other as OtherClass}
 use Rattle.bz_tree.specs.Statement.{class_of, has_assign, is_rule, is_rule_after, is_nothing, is_kept, is_load_word, is_ident, is_dot, is_call as is_call_kind}
 use Rattle.bz_tree.specs.FromParts.{nodes_of_parts}
 use Rattle.bz_tree.specs.Tree.{segments}
 use Rattle.bz_tree.proofs.FromParts.{nodes_back, listed_back}
-use Rattle.bz_attribute.specs.Rules.{Rule, rule_of, dotted, name_of, ident_of, is_sign, value}
-use Rattle.bz_attribute.specs.Lists.{with_value}
-use Rattle.bz_attribute.specs.Effects.{nodes_after, with_args}
+use Rattle.bz_attribute.specs.Rules.{rule_of, dotted, name_of, ident_of, is_sign, value}
+use Rattle.bz_attribute.specs.Effects.{nodes_after}
 use Rattle.bz_attribute.proofs.Calls.{rule_from_end}
 use Rattle.bz_attribute.proofs.RuleNodes.{segs_back}
 use Rattle.bz_attribute.proofs.Views.{segments_of}
 use Rattle.bz_rule.specs.Shallow.{Apart, value_for, value_named, with_nodes, is_empty, filled, whole}
-use Rattle.bz_rule.specs.private.Hollow.{apart, all_apart, IsApart, AreApart, Parts, Spot, outside, begin, equals, inside, Walk, put, pass, is_end, is_equals, lacks_value, has_long_value, is_of, may_go, after_name, sound_after, begun, inside_next, in_argument, before, ended, goes_on, goes_in, is_rule_call, step_at, step, run, start}
+use Rattle.bz_rule.specs.private.Hollow.{all_apart, AreApart, Parts, Spot, outside, begin, equals, inside, Walk, is_end, is_equals, lacks_value, has_long_value, is_of, may_go, inside_next, before, is_rule_call, step, run, start}
 
 same_bytes : (xs ys : List ℕ) → bytes_eq xs ys ≡ true → xs ≡ ys
 same_bytes xs ys h = search (rules, bytes_eq-Decides)

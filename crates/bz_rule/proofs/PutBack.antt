@@ -8,18 +8,16 @@ use Rattle.bz_tree.specs.Tree.{Item, Segment, Statement, items_of, segs_of}
 use Rattle.bz_tree.specs.Rows.{RowPart, part_view, above, beside_part, segment_end, item_parts, items_parts, segs_parts}
 use Rattle.bz_tree.specs.FromParts.{nodes_of_parts}
 use Rattle.bz_tree.specs.declared.row.Part.{Part}
-use Rattle.bz_command.specs.Labels.{Package, Target, Name}
 use Rattle.bz_command.specs.Commands.{Command}
 use Rattle.bz_command.specs.Mentions.{mentions}
 use Rattle.bz_attribute.specs.declared.marks.RuleName.{RuleName}
 use Rattle.bz_attribute.specs.declared.marks.RuleName.TheVariants.{NoName, Plain, Other}
-use Rattle.bz_attribute.specs.Marks.{marks, IsNamed}
-use Rattle.bz_attribute.specs.Rules.{name_of, is_named, is_text, is_sign, ident_of, value}
-use Rattle.bz_attribute.specs.Lists.{with_value}
+use Rattle.bz_attribute.specs.Marks.{IsNamed}
+use Rattle.bz_attribute.specs.Rules.{name_of, is_named, is_text, value}
 use Rattle.bz_attribute.specs.Effects.{with_args}
 use Rattle.bz_rule.specs.Aside.{IsAside, KeepsNames}
 use Rattle.bz_rule.specs.Shallow.{Apart, value_for, value_named, with_nodes, is_empty, filled, whole}
-use Rattle.bz_rule.specs.private.Hollow.{Parts, apart, all_apart, IsApart, AreApart, MentionsNone, IsRead, parts_for, parts_named, found, is_mentioned, before}
+use Rattle.bz_rule.specs.private.Hollow.{Parts, apart, all_apart, IsApart, AreApart, MentionsNone, IsRead, parts_for, parts_named, found, before}
 use Rattle.bz_rule.proofs.Rebuilt.{with_args_twice, with_args_alike, with_args_same}
 
 same_bytes : (xs ys : List ℕ) → bytes_eq xs ys ≡ true → xs ≡ ys

@@ -1,12 +1,11 @@
 -- For private clauses: the walk over the parts of a rule that takes the values of its arguments apart.
 use Rattle.std.specs.Prelude.{◌≡◌, ℕ, ◌+◌, ◌-◌, ◌==◌, List, [], ◌∷◌, ◌++◌, Bool, true, false, not, ◌&&◌, ◌||◌, if◌then◌else◌, nat_lt, Option, Some, None, map, take, length, codes, bytes_eq}
 use Rattle.std.specs.List.{list_any}
-use Rattle.bz_token.specs.declared.token.Kind.{Kind}
 use Rattle.bz_token.specs.declared.token.Kind.TheVariants.{Ident}
 use Rattle.bz_tree.specs.declared.stmt.GroupKind.{GroupKind}
 use Rattle.bz_tree.specs.declared.stmt.GroupKind.TheVariants.{RuleCall}
 use Rattle.bz_tree.specs.Tree.{leaf, items_of, Segment, Statement}
-use Rattle.bz_tree.specs.Rows.{RowPart, a_token, opening, closing, segment_end, above, beside, items_parts, part_view}
+use Rattle.bz_tree.specs.Rows.{RowPart, a_token, opening, closing, segment_end, items_parts, part_view}
 use Rattle.bz_tree.specs.FromParts.{nodes_of_parts}
 use Rattle.bz_attribute.specs.Rules as rules
 use Rattle.bz_command.specs.Commands.{Command}

@@ -1,7 +1,6 @@
-use Rattle.std.proofs.Common.{◌≡◌, ◌++◌, ◌∙◌, List, ap, sym, map}
+use Rattle.std.proofs.Common.{◌++◌, ◌∙◌, List, ap, sym, map}
 use Rattle.bz_tree.specs.Tree.{Item, Segment}
 use Rattle.bz_tree.specs.View.{seg_view}
-use Rattle.bz_tree.specs.Rows.{part_view}
 use Rattle.bz_tree.specs.FromParts.{nodes_of_parts}
 use Rattle.bz_rule.specs.private.Hollow.{parts_view}
 use Rattle.bz_attribute.proofs.Groups.{view_of_seg}

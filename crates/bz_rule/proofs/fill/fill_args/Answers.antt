@@ -1,4 +1,4 @@
-use Rattle.std.proofs.Common.{◌<◌, length, map, ◌∙◌, ap, sym, arith}
+use Rattle.std.proofs.Common.{◌<◌, length, map, ◌∙◌, ap, arith}
 use Rattle.bz_tree.specs.declared.stmt.Seg.{Seg}
 use Rattle.bz_tree.specs.View.{seg_view}
 use Rattle.std.proofs.lemmas.List.{length-set}

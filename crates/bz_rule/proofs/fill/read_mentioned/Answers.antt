@@ -1,9 +1,9 @@
-use Rattle.std.proofs.Common.{◌≡◌, ◌∙◌, List, ap, sym, subst, map, filter, not, false}
-use Rattle.bz_tree.specs.Tree.{Item, Statement}
+use Rattle.std.proofs.Common.{◌≡◌, ◌∙◌, List, ap, sym, subst, map, filter, not}
+use Rattle.bz_tree.specs.Tree.{Item}
 use Rattle.bz_tree.specs.View.{view, nodes_view}
 use Rattle.bz_command.specs.Mentions.{mentions}
 use Rattle.bz_attribute.specs.Rules.{rule_of}
-use Rattle.bz_attribute.specs.Effects.{nodes_after, with_args}
+use Rattle.bz_attribute.specs.Effects.{nodes_after}
 use Rattle.bz_rule.specs.Shallow.{filled}
 use Rattle.bz_rule.specs.private.Hollow.{Parts, all_apart, parts_view, AreApart, IsRead, is_mentioned}
 use Rattle.bz_rule.proofs.PutBack.{none_read, some_read}

@@ -1,4 +1,4 @@
-use Rattle.std.proofs.Common.{◌≡◌, ◌∙◌, map, Option, Some, ap, sym, option_map}
+use Rattle.std.proofs.Common.{◌≡◌, ◌∙◌, Option, Some, ap, sym, option_map}
 use Rattle.bz_tree.specs.Tree.{Statement}
 use Rattle.bz_tree.specs.View.{view}
 use Rattle.bz_rule.specs.declared.shallow.ShallowStmt.{ShallowStmt}

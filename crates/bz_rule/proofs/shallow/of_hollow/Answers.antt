@@ -1,10 +1,9 @@
-use Rattle.std.proofs.Common.{◌≡◌, ◌∙◌, ap, sym, subst, map, true, List}
-use Rattle.bz_tree.specs.Tree.{Statement}
+use Rattle.std.proofs.Common.{◌≡◌, ◌∙◌, ap, sym, subst, map, List}
 use Rattle.bz_tree.specs.View.{view}
 use Rattle.bz_tree.specs.Rows.{RowPart, part_view, parts_of}
 use Rattle.bz_rule.specs.Shallow.{whole}
 use Rattle.bz_rule.specs.private.Hollow.{Walk, AreApart, all_apart, walk, run, start}
-use Rattle.bz_rule.proofs.Hollowed.{hollowed, IsHollowOf}
+use Rattle.bz_rule.proofs.Hollowed.{hollowed}
 use Rattle.bz_rule.proofs.shallow.of_hollow.Goals as goal
 
 pub new-values-requires : goal.new-values-requires

@@ -1,9 +1,8 @@
-use Rattle.std.proofs.Common.{◌≡◌, ◌++◌, ◌∷◌, [], drop, map}
+use Rattle.std.proofs.Common.{◌≡◌, ◌++◌, drop, map}
 use Rattle.bz_tree.specs.declared.stmt.Group.{out-Group}
-use Rattle.bz_tree.specs.declared.stmt.GroupKind.TheVariants.{RuleCall}
 use Rattle.bz_tree.specs.Tree.{segs_of}
 use Rattle.bz_tree.specs.View.{segs_view}
-use Rattle.bz_tree.specs.Rows.{opening, part_view, segs_parts}
+use Rattle.bz_tree.specs.Rows.{part_view, segs_parts}
 use Rattle.bz_rule.specs.Shallow.{filled}
 use Rattle.bz_rule.specs.private.Hollow.{all_apart, parts_view}
 use Rattle.bz_rule.proofs.whole.push_call.Given as goal

@@ -1,4 +1,4 @@
-use Rattle.std.proofs.Common.{◌≡◌, ◌++◌, ◌∙◌, List, Option, Some, ap, sym, map, append_assoc}
+use Rattle.std.proofs.Common.{◌++◌, ◌∙◌, List, Option, ap, sym, map, append_assoc}
 use Rattle.bz_tree.specs.declared.stmt.GroupKind.TheVariants.{RuleCall}
 use Rattle.bz_tree.specs.declared.stmt.Group.{out-Group}
 use Rattle.bz_tree.specs.Tree.{Item, group, items_of, segs_of}
@@ -7,7 +7,7 @@ use Rattle.bz_tree.specs.Rows.{RowPart, item_parts, items_parts, part_view}
 use Rattle.bz_attribute.specs.Rules as spec
 use Rattle.bz_attribute.specs.Effects.{nodes_after}
 use Rattle.bz_rule.specs.Shallow.{filled}
-use Rattle.bz_rule.specs.private.Hollow.{Parts, all_apart, parts_view}
+use Rattle.bz_rule.specs.private.Hollow.{Parts, all_apart}
 use Rattle.bz_rule.proofs.PutBack.{rule_parts}
 use Rattle.bz_rule.proofs.whole.push_whole_nodes.Goals as goal
 

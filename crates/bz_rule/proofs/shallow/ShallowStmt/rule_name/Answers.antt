@@ -1,4 +1,4 @@
-use Rattle.std.proofs.Common.{◌∙◌, ℕ, List, ap, sym}
+use Rattle.std.proofs.Common.{◌∙◌, ap, sym}
 use Rattle.bz_tree.specs.Tree.{Statement}
 use Rattle.bz_tree.specs.View.{view}
 use Rattle.bz_command.specs.Labels.{Name}
