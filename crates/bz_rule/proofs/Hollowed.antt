@@ -1,15 +1,17 @@
 -- The walk that takes values of arguments apart leaves a rule that is whole with them.
-use Rattle.std.proofs.Common.{◌≡◌, ℕ, suc, ◌+◌, ◌-◌, ◌==◌, List, [], ◌∷◌, ◌++◌, map, length, take, drop, Bool, true, false, not, ◌&&◌, ◌||◌, if◌then◌else◌, nat_lt, Option, Some, None, refl, sym, ◌∙◌, ap, subst, append_assoc, append-nil, bytes_eq, is_some, arith, rules}
+use Rattle.std.proofs.Common.{◌≡◌, ◌<◌, ℕ, zero, suc, get_or, ◌+◌, ◌-◌, ◌==◌, List, [], ◌∷◌, ◌++◌, map, length, take, drop, Bool, true, false, not, ◌&&◌, ◌||◌, if◌then◌else◌, nat_lt, Option, Some, None, option_map, refl, sym, ◌∙◌, ap, subst, append_assoc, append-nil, bytes_eq, is_some, arith, rules}
 use Rattle.std.specs.Prelude.{codes}
 use Rattle.std.specs.List.{list_any}
 use Rattle.std.proofs.lemmas.Bool.{false≢true, and_parts, ne_eqb}
+use Rattle.std.proofs.lemmas.List.{at_drop_more, drop-map, drop_all}
 use Rattle.std.proofs.lemmas.Slice.Eq.{bytes_eq-Decides}
+use Rattle.bz_tree.specs.declared.row.Part.{Part}
 use Rattle.bz_token.specs.declared.token.Kind.{Kind}
 use Rattle.bz_token.specs.declared.token.Kind.TheVariants.{Ident, Sign}
 use Rattle.bz_tree.specs.declared.stmt.GroupKind.{GroupKind}
 use Rattle.bz_tree.specs.declared.stmt.GroupKind.TheVariants.{RuleCall}
 use Rattle.bz_tree.specs.Tree.{Item, leaf, group, Items, no_items, item, Segs, no_segs, seg, Segment, Statement, items_of, segs_of}
-use Rattle.bz_tree.specs.Rows.{RowPart, a_token, opening, closing, segment_end, above, beside, beside_part, item_parts, items_parts, segs_parts, parts_of}
+use Rattle.bz_tree.specs.Rows.{RowPart, part_view, a_token, opening, closing, segment_end, above, beside, beside_part, item_parts, items_parts, segs_parts, parts_of}
 use Rattle.bz_tree.specs.declared.stmt.Class.TheVariants.{Rule as RuleClass, Block, Load as LoadClass, Assign, Other as OtherClass}
 use Rattle.bz_tree.specs.Statement.{class_of, has_assign, is_rule, is_rule_after, is_nothing, is_kept, is_load_word, is_ident, is_dot, is_call as is_call_kind}
 use Rattle.bz_tree.specs.FromParts.{nodes_of_parts}
@@ -21,7 +23,7 @@ use Rattle.bz_attribute.proofs.Calls.{rule_from_end}
 use Rattle.bz_attribute.proofs.RuleNodes.{segs_back}
 use Rattle.bz_attribute.proofs.Views.{segments_of}
 use Rattle.bz_rule.specs.Shallow.{Apart, value_for, value_named, with_nodes, is_empty, filled, whole}
-use Rattle.bz_rule.specs.private.Hollow.{all_apart, AreApart, Parts, Spot, outside, begin, equals, inside, Walk, is_end, is_equals, lacks_value, has_long_value, is_of, may_go, inside_next, before, is_rule_call, step, run, start}
+use Rattle.bz_rule.specs.private.Hollow.{all_apart, AreApart, Parts, Spot, outside, begin, equals, inside, Walk, pass, one_more, or_ended, passed, ended, is_end, is_equals, lacks_value, has_long_value, is_of, may_go, inside_next, before, is_rule_call, step, run, start}
 
 same_bytes : (xs ys : List ℕ) → bytes_eq xs ys ≡ true → xs ≡ ys
 same_bytes xs ys h = search (rules, bytes_eq-Decides)
@@ -71,6 +73,84 @@ one : (v : Option Parts) (n : ℕ) (p : RowPart) (ps : List RowPart) (us : List 
     → step p rest (at ps us (inside v n) b) ≡ at (add v ps (p ∷ [])) us (inside_next v n p) b
 one None n p ps us b rest h = rw h refl
 one (Some v) n p ps us b rest h = rw h refl
+
+abbrev AreAsPassed : ℕ → List RowPart → Parts → Walk → Type 0
+AreAsPassed d rest v w =
+    run rest (pass (inside (Some v) d) w) ≡ run (drop (passed d rest).1 rest) (pass (inside (Some v) (passed d rest).0) w)
+
+-- what a walk over a value does at a part that may end it
+abbrev at_part : (d : ℕ) (rest : List RowPart) (next : Option ℕ) → ℕ × ℕ
+at_part d rest next = or_ended d (option_map (λ (e : ℕ). passed e rest) next)
+
+abbrev after_value : List RowPart → Parts → Walk → ℕ × ℕ → Walk
+after_value ps v w value = run (drop value.1 ps) (pass (inside (Some v) value.0) w)
+
+ended_at : (d : ℕ) (rest : List RowPart) (zero : Bool) → (d == 0) ≡ zero → (v : Parts) (w : Walk) → AreAsPassed d rest v w
+    → AreAsPassed d (segment_end ∷ rest) v w
+ended_at d rest true h v w more =
+    ap (after_value (segment_end ∷ rest) v w)
+    (sym (ap (λ (z : Bool). at_part d rest (if z then None else Some d)) h))
+ended_at d rest false h v w more =
+    ap (λ (z : Bool). run rest (if z then ended (Some v) rest (pass (inside (Some v) d) w) else pass (inside (Some v) d) w)) h
+    ∙ more
+    ∙ ap (after_value (segment_end ∷ rest) v w)
+    (sym (ap (λ (z : Bool). at_part d rest (if z then None else Some d)) h))
+
+closed_at : (d : ℕ) (rest : List RowPart) (c : Bool) (zero : Bool) → (d == 0) ≡ zero → (v : Parts) (w : Walk)
+    → AreAsPassed (d - 1) rest v w → AreAsPassed d (closing c ∷ rest) v w
+closed_at d rest c true h v w more =
+    ap (after_value (closing c ∷ rest) v w)
+    (sym (ap (λ (z : Bool). at_part d rest (if z then None else Some (d - 1))) h))
+closed_at d rest c false h v w more =
+    ap (λ (z : Bool). run rest (pass (if z then outside else inside (Some v) (d - 1)) w)) h
+    ∙ more
+    ∙ ap (after_value (closing c ∷ rest) v w)
+    (sym (ap (λ (z : Bool). at_part d rest (if z then None else Some (d - 1))) h))
+
+-- a value that is taken apart is walked over as far as its end
+value_passed : (d : ℕ) (rest : List RowPart) (v : Parts) (w : Walk)
+    → AreAsPassed d rest v w
+value_passed d [] v w = refl
+value_passed d (segment_end ∷ rest) v w = ended_at d rest (d == 0) refl v w (value_passed d rest v w)
+value_passed d (closing one_comma ∷ rest) v w = closed_at d rest one_comma (d == 0) refl v w (value_passed (d - 1) rest v w)
+value_passed d (opening kind ∷ rest) v w = value_passed (d + 1) rest v w
+value_passed d (a_token kind text ∷ rest) v w = value_passed d rest v w
+value_passed d (above text ∷ rest) v w = value_passed d rest v w
+value_passed d (beside text ∷ rest) v w = value_passed d rest v w
+
+pub value_passes : (rest : List RowPart) (depth count : ℕ) (v : Parts) (w : Walk) → passed 0 rest ≡ (depth, count)
+    → run rest (pass (inside (Some v) 0) w) ≡ run (drop count rest) (pass (inside (Some v) depth) w)
+value_passes rest depth count v w h = value_passed 0 rest v w ∙ ap (after_value rest v w) h
+
+-- parts that have been counted, and what the value has after them
+abbrev pub counted : ℕ → ℕ × ℕ → ℕ × ℕ
+counted n value = (value.0, n + value.1)
+
+pub none_counted : (value : ℕ × ℕ) → counted 0 value ≡ value
+none_counted value = ap (λ (m : ℕ). (value.0, m)) (omega arith)
+
+pub one_counted : (n : ℕ) (value : ℕ × ℕ) → counted n (one_more value) ≡ counted (n + 1) value
+one_counted n value = ap (λ (m : ℕ). (value.0, m)) (omega arith)
+
+pub counted_end : (n depth : ℕ) → counted n (depth, 0) ≡ (depth, n)
+counted_end n depth = ap (λ (m : ℕ). (depth, m)) (omega arith)
+
+drop_on : (m n : ℕ) (ps : List RowPart) → drop n (drop m ps) ≡ drop (m + n) ps
+drop_on zero n ps = let on : zero + n ≡ n = omega arith in ap (λ (k : ℕ). drop k ps) (sym on)
+drop_on (suc m) n [] = drop_all n [] (omega arith) ∙ sym (drop_all (suc m + n) [] (omega arith))
+drop_on (suc m) n (p ∷ ps) = let on : suc m + n ≡ suc (m + n) = omega arith in drop_on m n ps ∙ ap (λ (k : ℕ). drop k (p ∷ ps)) (sym on)
+
+-- a step at a part, and over those that it passes of the parts after it
+pub step_on : (parts after : List Part) (at passed : ℕ) (d : Part) (old new : Walk) → at < length parts → after ≡ drop (at + 1) parts
+    → run (drop passed (map part_view after)) new ≡ run (part_view (get_or parts at d) ∷ map part_view after) old
+    → run (map part_view (drop (at + 1 + passed) parts)) new ≡ run (map part_view (drop at parts)) old
+step_on parts after at passed d old new lt is h =
+    ap (λ (ps : List RowPart). run ps new)
+    (sym (drop-map part_view (at + 1 + passed) parts) ∙ sym (drop_on (at + 1) passed (map part_view parts)) ∙ ap (drop passed) (drop-map part_view (at + 1) parts))
+    ∙ ap (λ (ps : List Part). run (drop passed (map part_view ps)) new) (sym is)
+    ∙ h
+    ∙ ap (λ (ps : List Part). run (part_view (get_or parts at d) ∷ map part_view ps) old) is
+    ∙ sym (at_drop_more (λ (qs : List Part). run (map part_view qs) old) parts at d lt)
 
 run_above : (v : Option Parts) (n : ℕ) (texts : List (List ℕ)) (rest ps : List RowPart) (us : List Parts) (b : Bool)
     → run (map above texts ++ rest) (at ps us (inside v n) b) ≡ run rest (at (add v ps (map above texts)) us (inside v n) b)

@@ -19,3 +19,4 @@ pub mod Remove
 mod Rename
 mod Replace
 pub mod Set
+mod WovenParts

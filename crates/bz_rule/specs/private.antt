@@ -1,1 +1,2 @@
 pub mod Hollow
+pub mod Woven

@@ -1,9 +1,9 @@
 //! A rule's parts without the values of its arguments, which stand apart.
 
-ghost use Rattle.std.specs.Prelude.{◌≡◌, ◌||◌, not, IfOk, OnOk, length, map};
+ghost use Rattle.std.specs.Prelude.{◌≡◌, ◌≤◌, ◌∷◌, ◌||◌, not, IfOk, OnOk, drop, length, map};
 ghost use Rattle.std.specs.List.{list_any};
 ghost use Rattle.bz_tree.specs.Rows.{part_view};
-ghost use Rattle.bz_rule.specs.private.Hollow.{parts_view, option_parts, spot, walk, put, pass, sound_after, is_end, is_equals, is_of, lacks_value, has_long_value, may_go, after_name, begun, inside_next, in_argument, before, ended, goes_on, goes_in, step, run, start};
+ghost use Rattle.bz_rule.specs.private.Hollow.{parts_view, option_parts, spot, walk, put, pass, sound_after, is_end, is_equals, is_of, lacks_value, has_long_value, may_go, after_name, begun, inside_next, in_argument, before, ended, goes_on, goes_in, next_depth, passed, equals, step_at, run, start};
 
 use crate::values::Unread;
 use bz_token::Kind;
@@ -93,6 +93,39 @@ fn inside_next<'a>(
         }
         _ => Ok(Place::Inside(left, depth)),
     }
+}
+
+// How many brackets are open after a part of a value, none where the part is not of the value.
+fn next_depth(depth: usize, part: &Part<'_>) -> Result<Option<usize>, AllocError>
+    ensures { IfOk result (λ next. next ≡ next_depth depth (part_view part.now)) }
+{
+    match part {
+        Part::Open(_) => {
+            // No memory holds so many brackets.
+            let Some(inner) = depth.checked_add(1) else {
+                return Err(AllocError);
+            };
+            Ok(Some(inner))
+        }
+        Part::Close(_) => Ok(depth.checked_sub(1)),
+        Part::End if depth == 0 => Ok(None),
+        _ => Ok(Some(depth)),
+    }
+}
+
+// The value that begins with the parts ends with so many brackets open, and has so many parts.
+fn pass_value(parts: &[Part<'_>]) -> Result<(usize, usize), AllocError>
+    ensures passed { IfOk result (λ value. passed 0 (map part_view parts.now) ≡ (value.0, value.1)) }
+    ensures within { IfOk result (λ value. value.1 ≤ length parts.now) }
+{
+    let mut depth: usize = 0;
+    for (count, part) in parts.iter().enumerate() {
+        match next_depth(depth, part)? {
+            None => return Ok((depth, count)),
+            Some(next) => depth = next,
+        }
+    }
+    Ok((depth, parts.len()))
 }
 
 // Of the value that begins with the parts what stands before an end after which these are left.
@@ -211,19 +244,58 @@ impl<'a> Hollow<'a> {
         }
     }
 
-    fn step(&mut self, part: Part<'a>, rest: &'a [Part<'a>]) -> Result<(), AllocError>
-        ensures { OnOk result
-            (walk self.new ≡ step (part_view part.entry) (map part_view rest.now) (walk self.old)) }
+    // The value that is taken apart begins after its equals sign. Gives the number of its parts, which are passed.
+    fn pass(
+        &mut self,
+        name: &'a str,
+        part: Part<'a>,
+        rest: &'a [Part<'a>],
+    ) -> Result<usize, AllocError>
+        ensures walk { IfOk result (λ passed. run (drop passed (map part_view rest.now)) (walk self.new)
+            ≡ run (map part_view rest.now)
+            (step_at (equals name.now) (part_view part.entry) (map part_view rest.now) (walk self.old))) }
+        ensures within { IfOk result (λ passed. passed ≤ length rest.now) }
+    {
+        let (depth, passed) = pass_value(rest)?;
+        let value = Unread { name, parts: rest };
+        self.put(part, Place::Inside(Some(value), depth))?;
+        Ok(passed)
+    }
+
+    // A step, and all steps over a value that is taken apart. Gives the number of parts after this one that are passed.
+    fn step(&mut self, part: Part<'a>, rest: &'a [Part<'a>]) -> Result<usize, AllocError>
+        ensures walk { IfOk result (λ passed. run (drop passed (map part_view rest.now)) (walk self.new)
+            ≡ run (part_view part.entry ∷ map part_view rest.now) (walk self.old)) }
+        ensures within { IfOk result (λ passed. passed ≤ length rest.now) }
     {
         match self.place {
-            Place::Outside => self.go_in(part),
-            Place::Begin => self.begin(part, rest),
-            Place::Equals(name) => {
-                let value = Unread { name, parts: rest };
-                self.put(part, Place::Inside(Some(value), 0))
+            Place::Outside => {
+                self.go_in(part)?;
+                Ok(0)
             }
-            Place::Inside(left, depth) => self.inside(left, depth, part, rest),
+            Place::Begin => {
+                self.begin(part, rest)?;
+                Ok(0)
+            }
+            Place::Equals(name) => self.pass(name, part, rest),
+            Place::Inside(left, depth) => {
+                self.inside(left, depth, part, rest)?;
+                Ok(0)
+            }
         }
+    }
+
+    fn run(&mut self, parts: &'a [Part<'a>]) -> Result<(), AllocError>
+        ensures { OnOk result (walk self.new ≡ run (map part_view parts.now) (walk self.old)) }
+    {
+        let mut at = 0;
+        while at < parts.len() {
+            let part = parts[at];
+            at += 1;
+            let passed = self.step(part, &parts[at..])?;
+            at += passed;
+        }
+        Ok(())
     }
 }
 
@@ -237,10 +309,6 @@ pub(crate) fn hollow_of<'a>(alloc: Global, parts: &'a [Part<'a>]) -> Result<Holl
         place: Place::Outside,
         sound: true,
     };
-    let mut rest = parts;
-    while let [part, after @ ..] = rest {
-        walk.step(*part, after)?;
-        rest = after;
-    }
+    walk.run(parts)?;
     Ok(walk)
 }

@@ -8,6 +8,7 @@ pub mod shallow;
 mod slot;
 mod values;
 mod whole;
+mod woven;
 
 pub use bz_attribute::done::{Done, Note};
 pub use bz_attribute::marks::{RuleName, matches, rule_name};

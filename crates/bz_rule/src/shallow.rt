@@ -20,17 +20,13 @@ use crate::fill::read_mentioned;
 use crate::hollow::{Hollow, hollow_of};
 use crate::slot::apply;
 use crate::values::Values;
-use crate::whole::push_whole;
+use crate::whole::whole_parts;
 use bz_attribute::done::Done;
 use bz_attribute::marks::{RuleName, matches, rule_name};
 use bz_attribute::texts::shown;
 use bz_command::{Command, Package, Target};
-use bz_layout::put_row;
 use bz_tree::{Class, Row, Stmt, stmt_of_parts};
 use std::alloc::{AllocError, Global};
-
-// Most statements have no more parts.
-const FIRST_PARTS: usize = 64;
 
 /// A statement.
 #[derive(Drop)]
@@ -108,25 +104,10 @@ impl<'a> ShallowStmt<'a> {
         ensures appended { OnOk result (out.new.items ≡ out.old.items ++ layout_text (shallow_view self.now)) }
         ensures unchanged { OnErr result (out.new.items ≡ out.old.items) }
     {
-        let row = row_of(alloc, self)?;
-        put_row(alloc, &row, out)?;
+        let woven = whole_parts(alloc, &self.stmt, &self.values)?;
+        woven.put(alloc, self.stmt.class, out)?;
         Ok(())
     }
-}
-
-// The row of the whole statement.
-fn row_of<'s>(alloc: Global, shallow: &'s ShallowStmt<'_>) -> Result<Row<'s>, AllocError>
-    ensures { IfOk result (IsRowOf (shallow_view shallow.now)) }
-{
-    let ShallowStmt { stmt, values } = shallow;
-    let mut parts = Vec::with_capacity(alloc, FIRST_PARTS)?;
-    push_whole(stmt, values, &mut parts)?;
-    Ok(Row {
-        parts,
-        class: stmt.class,
-        start: stmt.start,
-        end: stmt.end,
-    })
 }
 
 // The statement of a rule's row.

@@ -1,5 +1,5 @@
 -- For private clauses: the walk over the parts of a rule that takes the values of its arguments apart.
-use Rattle.std.specs.Prelude.{◌≡◌, ℕ, ◌+◌, ◌-◌, ◌==◌, List, [], ◌∷◌, ◌++◌, Bool, true, false, not, ◌&&◌, ◌||◌, if◌then◌else◌, nat_lt, Option, Some, None, map, take, length, codes, bytes_eq}
+use Rattle.std.specs.Prelude.{◌≡◌, ℕ, suc, ◌+◌, ◌-◌, ◌==◌, List, [], ◌∷◌, ◌++◌, Bool, true, false, not, ◌&&◌, ◌||◌, if◌then◌else◌, nat_lt, Option, Some, None, map, option_map, take, length, codes, bytes_eq}
 use Rattle.std.specs.List.{list_any}
 use Rattle.bz_token.specs.declared.token.Kind.TheVariants.{Ident}
 use Rattle.bz_tree.specs.declared.stmt.GroupKind.{GroupKind}
@@ -134,6 +134,25 @@ abbrev pub inside_next : Option Parts → ℕ → RowPart → Spot
 inside_next left depth (opening kind) = inside left (depth + 1)
 inside_next left depth (closing one_comma) = if depth == 0 then outside else inside left (depth - 1)
 inside_next left depth p = inside left depth
+
+-- after a part of a value so many brackets are open; none where the value is at its end
+abbrev pub next_depth : ℕ → RowPart → Option ℕ
+next_depth depth segment_end = if depth == 0 then None else Some depth
+next_depth depth (opening kind) = Some (depth + 1)
+next_depth depth (closing one_comma) = if depth == 0 then None else Some (depth - 1)
+next_depth depth p = Some depth
+
+abbrev pub one_more : ℕ × ℕ → ℕ × ℕ
+one_more value = (value.0, suc value.1)
+
+abbrev pub or_ended : ℕ → Option (ℕ × ℕ) → ℕ × ℕ
+or_ended depth None = (depth, 0)
+or_ended depth (Some value) = one_more value
+
+-- the brackets that are open where a value ends that begins in so many, and how many parts it has
+abbrev pub passed : ℕ → List RowPart → ℕ × ℕ
+passed depth [] = (depth, 0)
+passed depth (p ∷ ps) = or_ended depth (option_map (λ next. passed next ps) (next_depth depth p))
 
 abbrev pub in_argument : Option Parts → ℕ → RowPart → Walk → Walk
 in_argument None depth p w = put p (inside_next None depth p) w

@@ -3,26 +3,31 @@ use Rattle.bz_tree.specs.declared.stmt.GroupKind.TheVariants.{RuleCall}
 use Rattle.bz_tree.specs.declared.stmt.Group.{out-Group}
 use Rattle.bz_tree.specs.Tree.{Item, group, items_of, segs_of}
 use Rattle.bz_tree.specs.View.{nodes_view, segs_view, texts}
-use Rattle.bz_tree.specs.Rows.{RowPart, item_parts, items_parts, part_view}
+use Rattle.bz_tree.specs.Rows.{RowPart, item_parts, items_parts}
 use Rattle.bz_attribute.specs.Rules as spec
 use Rattle.bz_attribute.specs.Effects.{nodes_after}
 use Rattle.bz_rule.specs.Shallow.{filled}
 use Rattle.bz_rule.specs.private.Hollow.{Parts, all_apart}
+use Rattle.bz_rule.specs.private.Woven.{all}
 use Rattle.bz_rule.proofs.PutBack.{rule_parts}
 use Rattle.bz_rule.proofs.whole.push_whole_nodes.Goals as goal
 
 pub returns-in_ok-push_call-in-Some : goal.returns-in_ok-push_call-in-Some
-returns-in_ok-push_call-in-Some c =
+returns-in_ok-push_call-in-Some c = λ fits.
     let rule = c.in-Some.rule in
     let f = map (filled (all_apart c.args.values.now)) in
-    let old = map part_view c.args.parts.now.items in
+    let old = all c.args.woven.now in
     let kind = nodes_view rule.kind.now in
     let with_values : List Parts → Item =
     λ vs. group RuleCall (segs_of (map (filled (all_apart vs)) (segs_view (out-Group rule.call.now).segs.items))) (out-Group rule.call.now).one_comma (texts (out-Group rule.call.now).end.items) in
     let call = with_values c.args.values.now in
-    c.in_ok-push_call-in-Some.ensures
-    ∙ ap (λ (vs : List Parts). map part_view c.push_nodes-in-Some.new.parts.items ++ item_parts (with_values vs)) c.as_slice.ensures.values
-    ∙ ap (λ (ps : List RowPart). ps ++ item_parts call) c.in_ok-push_nodes-in-Some.ensures
-    ∙ append_assoc old (items_parts (items_of kind)) (item_parts call)
-    ∙ ap (λ (ps : List RowPart). old ++ ps) (sym (rule_parts kind call))
-    ∙ ap (λ (o : Option spec.Rule). old ++ items_parts (items_of (nodes_after f (nodes_view c.args.nodes.now) o))) c.in-Some.ensures
+    let w1 = c.in_ok-push_nodes-in-Some.ensures fits in
+    let w2 = c.in_ok-push_call-in-Some.ensures w1.0 in (
+      w2.0,
+      w2.1
+          ∙ ap (λ (vs : List Parts). all c.push_nodes-in-Some.new.self ++ item_parts (with_values vs)) c.as_slice.ensures.values
+          ∙ ap (λ (ps : List RowPart). ps ++ item_parts call) w1.1
+          ∙ append_assoc old (items_parts (items_of kind)) (item_parts call)
+          ∙ ap (λ (ps : List RowPart). old ++ ps) (sym (rule_parts kind call))
+          ∙ ap (λ (o : Option spec.Rule). old ++ items_parts (items_of (nodes_after f (nodes_view c.args.nodes.now) o))) c.in-Some.ensures,
+    )
