@@ -42,7 +42,7 @@ no_newline : (ps : List Piece) (p : Piece) → list_any is_newline_piece ps ≡ 
 no_newline ps p none h = list_any-append is_newline_piece ps (p ∷ []) ∙ rw (none, h) refl
 
 -- after a gap, or a token within the line
-pub stays : (first depth : ℕ) (bytes : List ℕ) (before lexer : Lexer) (old spot : Spot) (start : ℕ) (kind : Option Kind) (i : IsInLine first depth bytes before old start) (r : HasRead first depth bytes lexer spot) → Grows kind i.read.pieces r.pieces r.gap → (kind ≡ Some Line → ⊥)
+pub stays : (first depth : ℕ) (bytes : List ℕ) (before lexer : Lexer) (old spot : Spot) (start : ℕ) (kind : Option Kind) (i : IsInLine first depth bytes before old start) (r : HasRead first depth bytes [] lexer spot) → Grows kind i.read.pieces r.pieces r.gap → (kind ≡ Some Line → ⊥)
     → IsInLine first depth bytes lexer spot start
 stays first depth bytes before lexer old spot start None i r grows other =
     record { read = r; done = i.done; line = i.line; pieces_are = grows ∙ i.pieces_are; ended = i.ended; comments = i.comments; none = i.none; start_is = i.start_is }
@@ -75,7 +75,7 @@ stays first depth bytes before lexer old spot start (Some kind) i r grows other 
     ]
 
 -- after the newline of a line
-pub line_read : (first depth : ℕ) (bytes : List ℕ) (before lexer : Lexer) (old spot : Spot) (start : ℕ) (kind : Option Kind) (i : IsInLine first depth bytes before old start) (r : HasRead first depth bytes lexer spot) → Grows kind i.read.pieces r.pieces r.gap → kind ≡ Some Line
+pub line_read : (first depth : ℕ) (bytes : List ℕ) (before lexer : Lexer) (old spot : Spot) (start : ℕ) (kind : Option Kind) (i : IsInLine first depth bytes before old start) (r : HasRead first depth bytes [] lexer spot) → Grows kind i.read.pieces r.pieces r.gap → kind ≡ Some Line
     → IsAfterLine first depth bytes lexer spot start
 line_read first depth bytes before lexer old spot start kind i r grows is = by (subst (λ k. Grows k i.read.pieces r.pieces r.gap) is grows)
   where
@@ -103,7 +103,7 @@ count_of_map [] = refl
 count_of_map (t ∷ ts) = ap suc (count_of_map ts)
 
 -- as many tokens as pieces
-pub token_count : (first depth : ℕ) (bytes : List ℕ) (lexer : Lexer) (spot : Spot) (r : HasRead first depth bytes lexer spot) → length lexer.tokens.items ≡ length r.pieces
+pub token_count : (first depth : ℕ) (bytes : List ℕ) (lexer : Lexer) (spot : Spot) (r : HasRead first depth bytes [] lexer spot) → length lexer.tokens.items ≡ length r.pieces
 token_count first depth bytes lexer spot r = sym (count_of_map lexer.tokens.items) ∙ ap length r.tokens_are ∙ pieces_count first [] [] r.pieces
 
 pub start_within : (first depth : ℕ) (bytes : List ℕ) (lexer : Lexer) (spot : Spot) (start : ℕ) → IsAfterLine first depth bytes lexer spot start → start ≤ length lexer.tokens.items

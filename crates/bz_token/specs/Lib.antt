@@ -17,4 +17,5 @@ pub mod CutterState
 pub mod TokenLines
 pub mod ChunkForms
 pub mod FirstChunk
+pub mod Batches
 pub mod private

@@ -70,7 +70,7 @@ pub fn first_chunk<'a>(
     // The first token of the line that is being read.
     let mut line_start = 0;
     while !spot.rest.is_empty() {
-        let (next, ends) = match lexer.read_line(spot, max_depth) {
+        let (next, ends) = match lexer.read_line(spot, max_depth, usize::MAX) {
             Ok(passed) => passed,
             Err(LexFault::OutOfMemory) => return Err(AllocError),
             Err(_) => return Ok(None),

@@ -124,7 +124,7 @@ impl<'a> Spot<'a> {
 #[derive(Drop)]
 pub struct Lexer<'a> {
     pub tokens: Vec<Token<'a>>,
-    brackets: Brackets,
+    pub brackets: Brackets,
 }
 
 impl<'a> Lexer<'a> {
@@ -152,14 +152,15 @@ impl<'a> Lexer<'a> {
     #[inline(always)]
     fn step(&mut self, spot: Spot<'a>, max_depth: u8) -> Result<(Spot<'a>, Option<Kind>), LexFault>
         requires some { 0 < length spot.rest.now }
-        requires places { (first : ℕ) × (bytes : List ℕ) × HasRead first max_depth bytes self.old spot
-            × PlacesFit first bytes }
-        ensures read { (first : ℕ) (bytes : List ℕ) (before : HasRead first max_depth bytes self.old spot.entry)
-            → IfOk result (λ passed. (after : HasRead first max_depth bytes self.new passed.0)
+        requires places { (first : ℕ) × (bytes : List ℕ) × (given : List Placed)
+            × HasRead first max_depth bytes given self.old spot × PlacesFit first bytes }
+        ensures read { (first : ℕ) (bytes : List ℕ) (given : List Placed)
+            (before : HasRead first max_depth bytes given self.old spot.entry)
+            → IfOk result (λ passed. (after : HasRead first max_depth bytes given self.new passed.0)
             × Grows passed.1 before.pieces after.pieces after.gap) }
         ensures shorter { IfOk result (λ passed. length passed.0.rest.now < length spot.entry.rest.now) }
-        ensures fault { (first : ℕ) (bytes : List ℕ) → HasRead first max_depth bytes self.old spot.entry
-            → IfErr result (IsFault first max_depth bytes) }
+        ensures fault { (first : ℕ) (bytes : List ℕ) (given : List Placed)
+            → HasRead first max_depth bytes given self.old spot.entry → IfErr result (IsFault first max_depth bytes) }
     {
         let Spot {
             rest,
@@ -202,20 +203,27 @@ impl<'a> Lexer<'a> {
         }
     }
 
-    /// Reads to the end of the logical line here, or of the text where no newline token ends it: the spot there, and
-    /// whether one does.
-    pub fn read_line(&mut self, spot: Spot<'a>, max_depth: u8) -> Result<(Spot<'a>, bool), LexFault>
+    /// Reads to the end of the logical line here, or of the text where no newline token ends it, or until the list has
+    /// so many tokens: the spot there, and whether a newline token ends the line. The list may be of what was read
+    /// after tokens that were given away.
+    pub fn read_line(
+        &mut self,
+        spot: Spot<'a>,
+        max_depth: u8,
+        most: usize,
+    ) -> Result<(Spot<'a>, bool), LexFault>
         requires some { 0 < length spot.rest.now }
-        requires places { (first : ℕ) × (bytes : List ℕ) × HasRead first max_depth bytes self.old spot
-            × PlacesFit first bytes }
-        ensures read { (first : ℕ) (bytes : List ℕ) → HasRead first max_depth bytes self.old spot.entry
-            → IfOk result (λ passed. HasRead first max_depth bytes self.new passed.0) }
+        requires places { (first : ℕ) × (bytes : List ℕ) × (given : List Placed)
+            × HasRead first max_depth bytes given self.old spot × PlacesFit first bytes }
+        ensures read { (first : ℕ) (bytes : List ℕ) (given : List Placed)
+            → HasRead first max_depth bytes given self.old spot.entry
+            → IfOk result (λ passed. HasRead first max_depth bytes given self.new passed.0) }
         ensures line { (first : ℕ) (bytes : List ℕ) (start : ℕ)
             → IsInLine first max_depth bytes self.old spot.entry start
             → IfOk result (λ passed. IsTrue passed.1 → IsAfterLine first max_depth bytes self.new passed.0 start) }
         ensures shorter { IfOk result (λ passed. length passed.0.rest.now < length spot.entry.rest.now) }
-        ensures fault { (first : ℕ) (bytes : List ℕ) → HasRead first max_depth bytes self.old spot.entry
-            → IfErr result (IsFault first max_depth bytes) }
+        ensures fault { (first : ℕ) (bytes : List ℕ) (given : List Placed)
+            → HasRead first max_depth bytes given self.old spot.entry → IfErr result (IsFault first max_depth bytes) }
     {
         let mut spot = spot;
         while !spot.rest.is_empty() {
@@ -223,6 +231,9 @@ impl<'a> Lexer<'a> {
             spot = next;
             if kind == Some(Kind::Line) {
                 return Ok((spot, true));
+            }
+            if self.tokens.len() >= most {
+                return Ok((spot, false));
             }
         }
         Ok((spot, false))
@@ -262,7 +273,7 @@ pub fn tokens<'a>(
     let mut lexer = Lexer::new(alloc, first_capacity(text.len()))?;
     let mut spot = Spot::start(text, first_line);
     while !spot.rest.is_empty() {
-        spot = lexer.read_line(spot, max_depth)?.0;
+        spot = lexer.read_line(spot, max_depth, usize::MAX)?.0;
     }
     if lexer.brackets.is_inside() {
         return closed(lexer.tokens);

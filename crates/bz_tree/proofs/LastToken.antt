@@ -5,7 +5,7 @@ use Rattle.bz_token.specs.declared.token.Token.{Token}
 use Rattle.bz_token.specs.Places.{Placed, placed}
 use Rattle.bz_tree.specs.Statement.{is_aside, bare_tokens, last_of, last_token}
 
-bare_append : (xs ys : List Placed) → bare_tokens (xs ++ ys) ≡ bare_tokens xs ++ bare_tokens ys
+pub bare_append : (xs ys : List Placed) → bare_tokens (xs ++ ys) ≡ bare_tokens xs ++ bare_tokens ys
 bare_append [] ys = refl
 bare_append (x ∷ xs) ys = at (is_aside x.kind) (bare_append xs ys)
   where

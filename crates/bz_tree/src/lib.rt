@@ -22,6 +22,7 @@ mod span;
 mod spot;
 mod stage;
 mod stmt;
+mod text_row;
 
 pub use chunk::{parse, parse_tokens};
 pub use fault::ParseFault;
@@ -31,3 +32,4 @@ pub use role::Role;
 pub use row::{Part, Row};
 pub use rows::read_row;
 pub use stmt::{Class, Group, GroupKind, Leaf, Node, Seg, Stmt};
+pub use text_row::row_of_text;

@@ -1,17 +1,17 @@
 //! The row of a chunk's statement: a walk over the tokens that pushes its parts in order.
 
-ghost use Rattle.std.specs.Prelude.{ℕ, List, ◌≡◌, ◌++◌, ◌&&◌, not, false, map, IfOk, IfSome, option_map};
+ghost use Rattle.std.specs.Prelude.{ℕ, List, [], ◌≡◌, ◌++◌, ◌&&◌, not, false, map, IfOk, IfSome, IsTrue, option_map};
 ghost use Rattle.std.specs.Bool.{then_some};
-ghost use Rattle.bz_token.specs.Places.{placed};
+ghost use Rattle.bz_token.specs.Places.{Placed, placed};
 ghost use Rattle.bz_token.specs.Reading.{AreTokensOf};
 ghost use Rattle.bz_tree.specs.Tree.{leaf, Statement};
-ghost use Rattle.bz_tree.specs.Statement.{first_token, is_load_word};
+ghost use Rattle.bz_tree.specs.Statement.{is_load_word};
 ghost use Rattle.bz_tree.specs.Grammar.{leaf_role};
 ghost use Rattle.bz_tree.specs.Chunk.{IsStatementIn};
 ghost use Rattle.bz_tree.specs.Kinds.{group_kind};
 ghost use Rattle.bz_tree.specs.Rows.{IsRowOf, part_view};
 ghost use Rattle.bz_tree.specs.private.Machine.{may_end};
-ghost use Rattle.bz_tree.specs.private.RowSteps.{here_view, row_state, leaf_next, top_comma_next, comma_next, note_part, after_note_next, note_next, open_next, last_end, close_next, row_next, row_end, row_view, row_run, row_start, is_stray, is_upright};
+ghost use Rattle.bz_tree.specs.private.RowSteps.{here_view, row_state, leaf_next, top_comma_next, comma_next, note_part, after_note_next, note_next, open_next, last_end, close_next, row_next, row_view, row_run, row_start, is_stray, is_upright};
 
 use crate::block::is_block_word;
 use crate::class::is_load_at;
@@ -37,6 +37,17 @@ pub(crate) struct RowWalk<'a> {
 
 // False: the statement is left to its tree. So it is in all that follow.
 impl<'a> RowWalk<'a> {
+    /// Before the first token, with room for so many parts.
+    pub(crate) fn new(alloc: Global, room: usize) -> Result<RowWalk<'a>, AllocError>
+        ensures { IfOk result (λ walk. row_state walk ≡ row_start) }
+    {
+        Ok(RowWalk {
+            parts: Vec::with_capacity(alloc, room)?,
+            outer: Vec::new(alloc),
+            top: Spot::new(None),
+        })
+    }
+
     // One more node, a token of this role.
     #[inline(always)]
     fn push_leaf(&mut self, token: &Token<'a>, kind: Kind, role: Role) -> Result<bool, AllocError>
@@ -225,10 +236,22 @@ impl<'a> RowWalk<'a> {
         }
     }
 
-    // The statement's first token is on the line `start`, and its last ends on `end`.
-    fn finish(self, start: u64, end: u64) -> Option<Row<'a>>
-        ensures row { option_map row_view result
-            ≡ row_end self.entry.top.kind (row_state self.entry).outer (row_state self.entry) }
+    /// Goes over these tokens, whatever follows them.
+    pub(crate) fn add_tokens(&mut self, tokens: &[Token<'a>]) -> Result<bool, AllocError>
+        ensures { (rest : List Placed) → IfOk result (λ some. IsTrue some
+            → row_run (row_state self.new) rest ≡ row_run (row_state self.old) (map placed tokens.now ++ rest)) }
+    {
+        for token in tokens {
+            if !self.step(token)? {
+                return Ok(false);
+            }
+        }
+        Ok(true)
+    }
+
+    /// The statement's first token is on the line `start`, and its last ends on `end`.
+    pub(crate) fn finish(self, start: u64, end: u64) -> Option<Row<'a>>
+        ensures row { option_map row_view result ≡ row_run (row_state self.entry) [] }
         ensures lines { IfSome result (λ row. (row.start ≡ start) × (row.end ≡ end)) }
     {
         let RowWalk { parts, outer, top } = self;
@@ -264,37 +287,14 @@ fn comment_part<'a>(on_line: bool, text: &'a str) -> Part<'a>
     }
 }
 
-// The statement begins in column 1, and is no block, or it is comment lines alone.
-fn is_upright(tokens: &[Token<'_>]) -> bool
-    ensures { result ≡ is_upright (first_token (map placed tokens.now)) }
+/// Whether a statement whose first token this is begins in column 1, and is no block; comment lines alone have none.
+pub(crate) fn is_upright(first: Option<Token<'_>>) -> bool
+    ensures { result ≡ is_upright (option_map placed first.entry) }
 {
-    match first_token(tokens) {
+    match first {
         Some(token) => token.col == 1 && !is_block_word(&token),
         None => true,
     }
-}
-
-// The row of the tokens, which stand on these lines.
-fn row_of<'a>(
-    alloc: Global,
-    tokens: &[Token<'a>],
-    start: u64,
-    end: u64,
-) -> Result<Option<Row<'a>>, AllocError>
-    ensures { IfOk result (λ o. (option_map row_view o ≡ row_run row_start (map placed tokens.now))
-        × IfSome o (λ row. (row.start ≡ start) × (row.end ≡ end))) }
-{
-    let mut walk = RowWalk {
-        parts: Vec::with_capacity(alloc, tokens.len().saturating_add(tokens.len() / 4))?,
-        outer: Vec::new(alloc),
-        top: Spot::new(None),
-    };
-    for token in tokens {
-        if !walk.step(token)? {
-            return Ok(None);
-        }
-    }
-    Ok(walk.finish(start, end))
 }
 
 /// The row of the statement that these tokens of a chunk are. None: the chunk is blank or indented wrongly, no
@@ -306,11 +306,15 @@ pub fn read_row<'a>(alloc: Global, tokens: &[Token<'a>]) -> Result<Option<Row<'a
         → AreTokensOf first depth text (map placed tokens.now)
         → (s : Statement) × IsStatementIn first depth text s × IsRowOf s row)) }
 {
-    if first_seen(tokens).is_none() || !is_upright(tokens) {
+    if first_seen(tokens).is_none() || !is_upright(first_token(tokens)) {
         return Ok(None);
     }
     let Some(end) = counted_end_of(tokens) else {
         return Ok(None);
     };
-    row_of(alloc, tokens, start_of(tokens), end)
+    let mut walk = RowWalk::new(alloc, tokens.len().saturating_add(tokens.len() / 4))?;
+    if !walk.add_tokens(tokens)? {
+        return Ok(None);
+    }
+    Ok(walk.finish(start_of(tokens), end))
 }

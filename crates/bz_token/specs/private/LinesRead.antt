@@ -12,7 +12,7 @@ use Rattle.bz_token.specs.private.Progress.{HasRead}
 
 -- Comment lines were read, and the front of a line after them.
 pub record IsInLine (first depth : ℕ) (bytes : List ℕ) (lexer : Lexer) (spot : Spot) (start : ℕ) : Type 0 where
-  pub read : HasRead first depth bytes lexer spot
+  pub read : HasRead first depth bytes [] lexer spot
   pub done : List Piece
   pub line : List Piece
   pub pieces_are : read.pieces ≡ done ++ line
@@ -23,7 +23,7 @@ pub record IsInLine (first depth : ℕ) (bytes : List ℕ) (lexer : Lexer) (spot
 
 -- and a whole line
 pub record IsAfterLine (first depth : ℕ) (bytes : List ℕ) (lexer : Lexer) (spot : Spot) (start : ℕ) : Type 0 where
-  pub read : HasRead first depth bytes lexer spot
+  pub read : HasRead first depth bytes [] lexer spot
   pub done : List Piece
   pub line : List Piece
   pub last : Piece

@@ -37,10 +37,10 @@ pub record Progress (first depth : ℕ) (bytes : List ℕ) (tokens : List Placed
   pub col_is : col ≡ column_at (bytes_of pieces ++ gap)
   pub utf8 : IsUtf8 rest
 
--- the text was read up to this spot
-abbrev pub HasRead : ℕ → ℕ → List ℕ → Lexer → Spot → Type 0
-HasRead first depth bytes lexer spot =
-    Progress first depth bytes (map placed lexer.tokens.items) (opened lexer.brackets) spot.last_line spot.rest.now spot.place.line spot.place.col
+-- the text was read up to this spot: tokens that were given away, and then those of the list
+abbrev pub HasRead : ℕ → ℕ → List ℕ → List Placed → Lexer → Spot → Type 0
+HasRead first depth bytes given lexer spot =
+    Progress first depth bytes (given ++ map placed lexer.tokens.items) (opened lexer.brackets) spot.last_line spot.rest.now spot.place.line spot.place.col
 
 -- the pieces after a step over a gap, or over a token of this kind
 abbrev pub Grows : Option Kind → List Piece → List Piece → List ℕ → Type 0

@@ -1,6 +1,4 @@
 use Rattle.std.proofs.Common.{rules, tests, ◌≡◌, ◌∙◌, sym, refl, ap, map, length}
-use Rattle.std.specs.Prelude.{Some}
-use Rattle.bz_token.specs.declared.token.Kind.TheVariants.{Line}
 use Rattle.bz_token.specs.Places.{placed}
 use Rattle.bz_token.specs.private.LineEnds.{line_end}
 use Rattle.bz_token.proofs.LinesRead.{started, start_within, joined, front, front_within, front_boundary, shown, first_chunk_is}

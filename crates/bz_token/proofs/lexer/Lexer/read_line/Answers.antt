@@ -1,4 +1,4 @@
-use Rattle.std.proofs.Common.{rules, tests, arith}
+use Rattle.std.proofs.Common.{rules, tests, arith, []}
 use Rattle.bz_token.specs.Faults.{IsFault}
 use Rattle.bz_token.proofs.Progress.{passed_on}
 use Rattle.bz_token.proofs.LinesRead.{stays, line_read}
@@ -7,19 +7,19 @@ use Rattle.bz_token.proofs.lexer.Lexer.read_line.Goals as goal
 pub step-requires-clause-places : goal.step-requires-clause-places
 step-requires-clause-places c =
     let p = c.requires.places in
-    (p.0, p.1, c.loop-self.invariant.read p.0 p.1 p.2, p.3)
+    (p.0, p.1, p.2, c.loop-self.invariant.read p.0 p.1 p.2 p.3, p.4)
 
 pub returns-in_err-next-clause-fault : goal.returns-in_err-next-clause-fault
-returns-in_err-next-clause-fault c first bytes before =
-    passed_on c.from_residual.result c.in_err-next.field-0.0 (IsFault first c.args.max_depth bytes) c.from_residual.ensures.1 (c.in_err-next.ensures.fault first bytes (c.loop-self.invariant.read first bytes before))
+returns-in_err-next-clause-fault c first bytes given before =
+    passed_on c.from_residual.result c.in_err-next.field-0.0 (IsFault first c.args.max_depth bytes) c.from_residual.ensures.1 (c.in_err-next.ensures.fault first bytes given (c.loop-self.invariant.read first bytes given before))
 
 pub returns-then-eq-clause-read : goal.returns-then-eq-clause-read
-returns-then-eq-clause-read c first bytes before = (c.in_ok-next.ensures.read first bytes (c.loop-self.invariant.read first bytes before)).0
+returns-then-eq-clause-read c first bytes given before = (c.in_ok-next.ensures.read first bytes given (c.loop-self.invariant.read first bytes given before)).0
 
 pub returns-then-eq-clause-line : goal.returns-then-eq-clause-line
 returns-then-eq-clause-line c first bytes start before told =
     let i = c.loop-self.invariant.line first bytes start before in
-    let r = c.in_ok-next.ensures.read first bytes i.read in
+    let r = c.in_ok-next.ensures.read first bytes [] i.read in
     line_read first c.args.max_depth bytes c.loop-self.self c.step.new.self c.loop-self.spot c.in_ok-next.next start c.in_ok-next.kind i r.0 r.1 (search (rules, tests))
 
 pub loop-self-preserved : goal.loop-self-preserved
@@ -27,10 +27,13 @@ loop-self-preserved c =
     let i = c.loop-self.invariant in
     let passed = c.in_ok-next.ensures in
     record {
-      read = λ first bytes before. (passed.read first bytes (i.read first bytes before)).0;
+      read = λ first bytes given before. (passed.read first bytes given (i.read first bytes given before)).0;
       line = λ first bytes start before.
           let here = i.line first bytes start before in
-          let r = passed.read first bytes here.read in
+          let r = passed.read first bytes [] here.read in
           stays first c.args.max_depth bytes c.loop-self.self c.step.new.self c.loop-self.spot c.in_ok-next.next start c.in_ok-next.kind here r.0 r.1 (λ e. search (rules, tests));
       shorter = omega (arith, i.shorter, passed.shorter);
     }
+
+pub returns-then-len-most-clause-read : goal.returns-then-len-most-clause-read
+returns-then-len-most-clause-read c first bytes given before = (c.in_ok-next.ensures.read first bytes given (c.loop-self.invariant.read first bytes given before)).0

@@ -1,11 +1,12 @@
 use Rattle.std.proofs.Common.{ℕ, List, length, ◌≤◌}
+use Rattle.bz_token.specs.Places.{Placed}
 use Rattle.bz_token.specs.private.Progress.{HasRead}
 use Rattle.bz_token.specs.private.LinesRead.{IsInLine}
 use Rattle.bz_token.proofs.lexer.Lexer.read_line.Given as goal
 
 abbrev pub invariant-loop-self : goal.invariant-loop-self
 invariant-loop-self l = record {
-  read : (first : ℕ) (bytes : List ℕ) → HasRead first l.max_depth bytes l.initial.self l.initial.spot → HasRead first l.max_depth bytes l.self l.spot;
+  read : (first : ℕ) (bytes : List ℕ) (given : List Placed) → HasRead first l.max_depth bytes given l.initial.self l.initial.spot → HasRead first l.max_depth bytes given l.self l.spot;
   line : (first : ℕ) (bytes : List ℕ) (start : ℕ) → IsInLine first l.max_depth bytes l.initial.self l.initial.spot start → IsInLine first l.max_depth bytes l.self l.spot start;
   shorter : length l.spot.rest.now ≤ length l.initial.spot.rest.now;
 }

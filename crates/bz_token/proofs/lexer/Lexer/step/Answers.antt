@@ -1,4 +1,4 @@
-use Rattle.std.proofs.Common.{rules, ◌≡◌, ◌++◌, map, is_ok, sym, refl, ap, ◌∙◌, arith, take-append-drop, not}
+use Rattle.std.proofs.Common.{rules, ◌≡◌, ◌++◌, map, is_ok, sym, refl, ap, ◌∙◌, arith, take-append-drop, append_assoc, not}
 use Rattle.std.proofs.ResultArms.{chosen}
 use Rattle.std.proofs.lemmas.Str.{IsUtf8-drop}
 use Rattle.bz_token.specs.Places.{placed}
@@ -10,32 +10,32 @@ use Rattle.bz_token.proofs.Fitting.{token_fits}
 use Rattle.bz_token.proofs.lexer.Lexer.step.Goals as goal
 
 pub returns-in-Err-clause-fault : goal.returns-in-Err-clause-fault
-returns-in-Err-clause-fault c first bytes before =
+returns-in-Err-clause-fault c first bytes given before =
     refused_at _ _ _ _ _ _ _ _ _ _ c.in-Err.fault before c.as_bytes-bytes.ensures.value (search rules) c.in-Err.ensures.fault
 
 pub after_gap-requires-clause-line_fits : goal.after_gap-requires-clause-line_fits
 after_gap-requires-clause-line_fits c =
     let gap = (gap_of_step _ _ _ _ _ _ c.in-Gap.gap c.as_bytes-bytes.ensures.value c.in-Gap.is c.in-Ok.ensures.step).0 in
-    let fits = places_fit _ _ _ _ _ _ _ _ _ c.requires.places.2 in
+    let fits = places_fit _ _ _ _ _ _ _ _ _ c.requires.places.3 in
     let parts = newlines_split c.args.spot.rest.now _ _ c.in-Gap.gap.len refl refl in
-    omega (arith, fits.0, parts.0, gap.lines, c.requires.places.3.0)
+    omega (arith, fits.0, parts.0, gap.lines, c.requires.places.4.0)
 
 pub after_gap-requires-clause-col_fits : goal.after_gap-requires-clause-col_fits
 after_gap-requires-clause-col_fits c =
     let gap = (gap_of_step _ _ _ _ _ _ c.in-Gap.gap c.as_bytes-bytes.ensures.value c.in-Gap.is c.in-Ok.ensures.step).0 in
-    let fits = places_fit _ _ _ _ _ _ _ _ _ c.requires.places.2 in
-    omega (arith, fits.1, gap.within, gap.on_line, c.requires.places.3.1)
+    let fits = places_fit _ _ _ _ _ _ _ _ _ c.requires.places.3 in
+    omega (arith, fits.1, gap.within, gap.on_line, c.requires.places.4.1)
 
 pub after_gap-requires-clause-col_counts : goal.after_gap-requires-clause-col_counts
-after_gap-requires-clause-col_counts c = (places_fit _ _ _ _ _ _ _ _ _ c.requires.places.2).2
+after_gap-requires-clause-col_counts c = (places_fit _ _ _ _ _ _ _ _ _ c.requires.places.3).2
 
 pub split_at-requires : goal.split_at-requires
 split_at-requires c =
     let gap = (gap_of_step _ _ _ _ _ _ c.in-Gap.gap c.as_bytes-bytes.ensures.value c.in-Gap.is c.in-Ok.ensures.step).0 in
-    gap_boundary c.args.spot.rest.now c.in-Gap.gap.len c.requires.places.2.utf8 gap.within (λ some. gap.ascii)
+    gap_boundary c.args.spot.rest.now c.in-Gap.gap.len c.requires.places.3.utf8 gap.within (λ some. gap.ascii)
 
 pub returns-in-Gap-clause-read : goal.returns-in-Gap-clause-read
-returns-in-Gap-clause-read c first bytes before =
+returns-in-Gap-clause-read c first bytes given before =
     let taken = gap_of_step _ _ _ _ _ _ c.in-Gap.gap c.as_bytes-bytes.ensures.value c.in-Gap.is c.in-Ok.ensures.step in
     let gap = taken.0 in
     let place = c.args.spot.place in
@@ -46,21 +46,21 @@ returns-in-Gap-clause-read c first bytes before =
 
 pub pass-requires-clause-line_fits : goal.pass-requires-clause-line_fits
 pass-requires-clause-line_fits c =
-    let fits = places_fit _ _ _ _ _ _ _ _ _ c.requires.places.2 in
+    let fits = places_fit _ _ _ _ _ _ _ _ _ c.requires.places.3 in
     let parts = newlines_split c.args.spot.rest.now c.as_bytes.result.now _ _ (c.as_bytes.ensures.value ∙ c.split_at-in-Token.ensures.front) c.split_at-in-Token.ensures.back in
-    omega (arith, fits.0, parts.0, c.requires.places.3.0)
+    omega (arith, fits.0, parts.0, c.requires.places.4.0)
 
 pub pass-requires-clause-col_fits : goal.pass-requires-clause-col_fits
 pass-requires-clause-col_fits c =
-    let fits = places_fit _ _ _ _ _ _ _ _ _ c.requires.places.2 in
+    let fits = places_fit _ _ _ _ _ _ _ _ _ c.requires.places.3 in
     let parts = newlines_split c.args.spot.rest.now c.as_bytes.result.now _ _ (c.as_bytes.ensures.value ∙ c.split_at-in-Token.ensures.front) c.split_at-in-Token.ensures.back in
-    omega (arith, fits.1, parts.1, c.requires.places.3.1)
+    omega (arith, fits.1, parts.1, c.requires.places.4.1)
 
 pub pass-requires-clause-col_counts : goal.pass-requires-clause-col_counts
-pass-requires-clause-col_counts c = (places_fit _ _ _ _ _ _ _ _ _ c.requires.places.2).2
+pass-requires-clause-col_counts c = (places_fit _ _ _ _ _ _ _ _ _ c.requires.places.3).2
 
 pub returns-in_ok-push-in-Token-clause-read : goal.returns-in_ok-push-in-Token-clause-read
-returns-in_ok-push-in-Token-clause-read c first bytes before =
+returns-in_ok-push-in-Token-clause-read c first bytes given before =
     let found = token_of_step _ _ _ _ _ _ c.in-Token.scanned c.as_bytes-bytes.ensures.value c.in-Token.is c.in-Ok.ensures.step in
     let here = c.args.spot.rest.now in
     let cut = c.split_at-in-Token.ensures in
@@ -71,7 +71,7 @@ returns-in_ok-push-in-Token-clause-read c first bytes before =
     let fitting = token_fits c.args.max_depth c.in-Token.scanned.kind (opened c.args.self.now.brackets) here token following c.in-Token.scanned.len found.1.some found.1.within cut.front split whole found.0 found.2 in
     let pushed = chosen _ _ _ _ c.push.ensures.items (ap is_ok c.in_ok-push-in-Token.was) in
     let utf8 = IsUtf8-drop here c.in-Token.scanned.len before.utf8 (found.1.boundary before.utf8) in
-    rw (ap (map placed) pushed ∙ map_push c.args.self.now.tokens.items _)
+    rw (ap (λ ts. given ++ map placed ts) pushed ∙ (ap (λ ts. given ++ ts) (map_push c.args.self.now.tokens.items _) ∙ sym (append_assoc given (map placed c.args.self.now.tokens.items) _)))
     (token_read first c.args.max_depth bytes _ (opened c.args.self.now.brackets) (opened c.read_step.new.brackets) c.args.spot.last_line here token following c.in-Token.scanned.kind
     _ _ c.pass.result.line c.pass.result.col c.is_fresh.result before found.0 split (rw (← cut.front, ← cut.back) at found.1.token) fitting.0 (found.3 ∙ fitting.1) (c.is_fresh.ensures ∙ ap not (same_as c.args.spot.last_line c.args.spot.place.line)) (rw (← cut.back) at utf8)
     (rw c.as_bytes.ensures.value at c.pass.ensures.line)

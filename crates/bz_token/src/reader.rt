@@ -1,0 +1,84 @@
+//! The tokens of a text, a batch at a time.
+
+ghost use Rattle.std.specs.Prelude.{◌≡◌, ◌+◌, ◌++◌, ◌<◌, ◌^◌, ◌==◌, ℕ, List, [], true, length, count_by, map, IfOk, IsTrue};
+ghost use Rattle.bz_token.specs.Places.{Placed, placed};
+ghost use Rattle.bz_token.specs.Reading.{AreTokensOf};
+ghost use Rattle.bz_token.specs.Batches.{HasGiven, batch, left};
+
+use crate::fault::LexFault;
+use crate::lexer::{Lexer, Spot};
+use crate::token::Token;
+use std::alloc::{AllocError, Global};
+
+// So many tokens are a batch, or fewer.
+const MOST: usize = 256;
+
+/// Reads the tokens of a text in batches, so that the list of all of them is never there.
+#[derive(Drop)]
+pub struct TokenReader<'a> {
+    lexer: Lexer<'a>,
+    spot: Spot<'a>,
+    max_depth: u8,
+}
+
+impl<'a> TokenReader<'a> {
+    /// Before the first batch. The text's first line has this number, and at most so many brackets may be open at once.
+    pub fn new(
+        alloc: Global,
+        text: &'a str,
+        first_line: u64,
+        max_depth: u8,
+    ) -> Result<TokenReader<'a>, AllocError>
+        requires { first_line + count_by (λ b. b == 10) text.now < 2 ^ 64 }
+        ensures { IfOk result (HasGiven first_line max_depth text.now []) }
+    {
+        Ok(TokenReader {
+            lexer: Lexer::new(alloc, MOST)?,
+            spot: Spot::start(text, first_line),
+            max_depth,
+        })
+    }
+
+    /// The tokens of the last batch.
+    pub fn tokens(&self) -> &[Token<'a>]
+        ensures { map placed result.now ≡ batch self.now }
+    {
+        &self.lexer.tokens
+    }
+
+    /// Whether the whole text was read.
+    pub fn is_at_end(&self) -> bool
+        ensures { result ≡ (left self.now == 0) }
+    {
+        self.spot.rest.is_empty()
+    }
+
+    /// Reads the next batch, in place of the last. False: the text has a lexical fault.
+    pub fn read(&mut self) -> Result<bool, AllocError>
+        requires some { 0 < left self.old }
+        requires reader { (first : ℕ) × (depth : ℕ) × (text : List ℕ) × (given : List Placed)
+            × HasGiven first depth text given self.old }
+        ensures given { (first : ℕ) (depth : ℕ) (text : List ℕ) (given : List Placed)
+            → HasGiven first depth text given self.old
+            → IfOk result (λ read. IsTrue read → HasGiven first depth text (given ++ batch self.new) self.new) }
+        ensures shorter { IfOk result (λ read. IsTrue read → left self.new < left self.old) }
+    {
+        self.lexer.tokens.clear();
+        match self.lexer.read_line(self.spot, self.max_depth, MOST) {
+            Ok((spot, _)) => {
+                self.spot = spot;
+                Ok(true)
+            }
+            Err(LexFault::OutOfMemory) => Err(AllocError),
+            Err(_) => Ok(false),
+        }
+    }
+
+    /// Whether the whole text was read, and no bracket is open.
+    pub fn is_complete(&self) -> bool
+        ensures { (first : ℕ) (depth : ℕ) (text : List ℕ) (given : List Placed)
+            → HasGiven first depth text given self.now → IsTrue result → AreTokensOf first depth text given }
+    {
+        self.spot.rest.is_empty() && !self.lexer.brackets.is_inside()
+    }
+}

@@ -1,0 +1,47 @@
+//! The row of a text, whose tokens are read and dropped a batch at a time.
+
+ghost use Rattle.std.specs.Prelude.{◌≡◌, ◌+◌, ◌<◌, ◌^◌, ◌==◌, count_by, IfOk, IfSome};
+ghost use Rattle.bz_tree.specs.Tree.{Statement};
+ghost use Rattle.bz_tree.specs.Chunk.{IsStatementIn};
+ghost use Rattle.bz_tree.specs.Rows.{IsRowOf};
+
+use crate::row::Row;
+use crate::rows::{RowWalk, is_upright};
+use crate::span::{end_line, first_token, last_token};
+use bz_token::TokenReader;
+use std::alloc::{AllocError, Global};
+
+/// The row that `read_row` gives for the tokens of a chunk, whose list is never there: it would take more memory than
+/// the row. The chunk's first line has this number, and at most so many brackets may be open at once. None: the chunk
+/// has a fault or comments alone, or `read_row` has no row of it. `Err`: memory was refused.
+pub fn row_of_text<'a>(
+    alloc: Global,
+    text: &'a str,
+    first_line: u64,
+    max_depth: u8,
+) -> Result<Option<Row<'a>>, AllocError>
+    requires { first_line + count_by (λ b. b == 10) text.now < 2 ^ 64 }
+    ensures row { IfOk result (λ o. IfSome o
+        (λ row. (s : Statement) × IsStatementIn first_line max_depth text.now s × IsRowOf s row)) }
+{
+    let mut reader = TokenReader::new(alloc, text, first_line, max_depth)?;
+    let mut walk = RowWalk::new(alloc, text.len() / 4)?;
+    let mut first = None;
+    let mut last = None;
+    while !reader.is_at_end() {
+        if !reader.read()? {
+            return Ok(None);
+        }
+        first = first.or(first_token(reader.tokens()));
+        last = last_token(reader.tokens()).or(last);
+        if !is_upright(first) || !walk.add_tokens(reader.tokens())? {
+            return Ok(None);
+        }
+    }
+    match (first, last) {
+        (Some(first), Some(last)) if reader.is_complete() => {
+            Ok(walk.finish(first.line, end_line(&last)))
+        }
+        _ => Ok(None),
+    }
+}
