@@ -1,8 +1,6 @@
 -- The values that `add` adds, found one by one.
-use Rattle.std.proofs.Common.{◌≡◌, ℕ, ◌+◌, ◌<◌, List, [], ◌∷◌, ◌++◌, length, get_or, drop, take, map, Bool, true, false, ◌||◌, refl, ap, sym, ◌∙◌, if◌then◌else◌, append_assoc}
-use Rattle.std.specs.List.{list_any}
+use Rattle.std.proofs.Common.{◌≡◌, ℕ, ◌+◌, ◌<◌, List, [], ◌∷◌, ◌++◌, length, get_or, drop, take, map, ap, sym, ◌∙◌, if◌then◌else◌, append_assoc}
 use Rattle.std.proofs.lemmas.List.{drop_more, take_more, map-append}
-use Rattle.std.proofs.lemmas.List.Folds.{list_any_more}
 use Rattle.bz_tree.specs.Tree.{Segment}
 use Rattle.bz_command.specs.Labels.{Package}
 use Rattle.bz_attribute.specs.Effects.{is_fresh, fresh, string}
@@ -19,18 +17,3 @@ fresh_step home lists values i w d new added h at made =
     ∙ append_assoc new (map string one) (map string later)
     ∙ ap (λ (z : List Segment). new ++ z) (sym (map-append string one later))
     ∙ ap (λ (z : List (List ℕ)). new ++ map string z) (ap (λ (e : List (List ℕ)). one ++ fresh home lists e (drop (i + 1) values)) read ∙ sym (ap (fresh home lists (take i values)) here))
-
-or_last : (a b c : Bool) → (c || (a || b)) ≡ (a || (b || c))
-or_last true b true = refl
-or_last true b false = refl
-or_last false true true = refl
-or_last false true false = refl
-or_last false false true = refl
-or_last false false false = refl
-
--- one value more
-pub there_step : (p : List ℕ → Bool) (values : List (List ℕ)) (i : ℕ) (w d : List ℕ) (b : Bool) → i < length values → w ≡ get_or values i d → (p w || (b || list_any p (take i values))) ≡ (b || list_any p (take (i + 1) values))
-there_step p values i w d b h at =
-    or_last b (list_any p (take i values)) (p w)
-    ∙ ap (λ (z : List ℕ). b || (list_any p (take i values) || p z)) at
-    ∙ ap (λ (z : Bool). b || z) (sym (list_any_more p values i d h))

@@ -1,27 +1,27 @@
-//! The words of a command. Few are compared one by one, many are looked up by hashing.
+//! The words of a command. Few are compared one by one, many are sorted and searched.
 
 ghost use Rattle.std.specs.Prelude.{◌≡◌, ℕ, List, IfOk, IfSome, IsTrue};
 ghost use Rattle.std.specs.List.{list_any};
 ghost use Rattle.std.proofs.Props.{props};
 ghost use Rattle.bz_tree.specs.View.{seg_view};
 ghost use Rattle.bz_attribute.specs.Lists.{equals_any, same};
-ghost use Rattle.bz_command.specs.LabelSetViews.{has};
+ghost use Rattle.bz_command.specs.LabelSetViews.{holds};
 ghost use Rattle.bz_command.specs.private.ByteSteps.{is_good, left};
 
 use crate::equals::string_of;
-use bz_command::{Bytes, LabelSet, Package, Text, same_label};
+use bz_command::{Bytes, Package, SortedLabels, Text, same_label};
 use bz_tree::Seg;
 use std::alloc::{AllocError, Global};
 
-/// So many words are compared one by one, and more are looked up in a set.
+/// So many words are compared one by one, and more are searched.
 pub const FEW: usize = 8;
 
-/// Words, and where these are many the set of them as labels of a package.
+/// Words, and where these are many the labels that they are in a package.
 #[derive(Drop)]
 pub struct WordSet<'a> {
     words: &'a [Text],
-    labels: Option<LabelSet<'a>>,
-    ghost all: { IfSome labels (λ set. (text : List ℕ) → has set text ≡ list_any (same set.home.now text) words.now) } by { Prim.hlevel props },
+    labels: Option<SortedLabels<'a>>,
+    ghost all: { IfSome labels (λ some. (text : List ℕ) → holds some.home.now some.labels.items text ≡ list_any (same some.home.now text) words.now) } by { Prim.hlevel props },
 }
 
 /// Takes memory for many words alone.
@@ -32,15 +32,11 @@ pub fn word_set<'a>(
 ) -> Result<WordSet<'a>, AllocError>
     ensures { IfOk result (λ set. set.words.now ≡ words.now) }
 {
-    if words.len() <= FEW {
-        let labels = None;
-        return Ok(WordSet { words, labels });
-    }
-    let mut labels = LabelSet::new(alloc, home);
-    for word in words {
-        labels.insert(Bytes::Plain(word.as_str().as_bytes()))?;
-    }
-    let labels = Some(labels);
+    let labels = if words.len() <= FEW {
+        None
+    } else {
+        Some(SortedLabels::new(alloc, home, words)?)
+    };
     Ok(WordSet { words, labels })
 }
 
@@ -53,7 +49,7 @@ impl<'a> WordSet<'a> {
             return false;
         };
         match &self.labels {
-            Some(labels) if labels.is_of(home) => labels.contains(value),
+            Some(labels) if labels.are_of(home) => labels.contains(value),
             _ => self.words.iter().any(|word| is_label(home, value, word)),
         }
     }

@@ -1,18 +1,21 @@
-//! A label of a package in full, byte by byte.
+//! A label of a package in full.
 
-ghost use Rattle.std.specs.Prelude.{◌≡◌, IsTrue, MatchOption, IfSome, None, Some, [], ◌∷◌, ◌++◌, bytes_eq};
+ghost use Rattle.std.specs.Prelude.{◌≡◌, IsTrue, MatchOption, IfSome, None, Some, [], ◌∷◌, ◌++◌};
 ghost use Rattle.std.specs.List.{list_any};
+ghost use Rattle.std.specs.Ordering.{nat_cmp};
+ghost use Rattle.std.specs.Cmp.Lexicographic.{slice_cmp};
 ghost use Rattle.bz_command.specs.Labels.{is_colon, last_of, parts_of};
 ghost use Rattle.bz_command.specs.Same as same;
 ghost use Rattle.bz_command.specs.private.ByteSteps.{left, is_good, chain_bytes, is_good_chain, begins, is_bare_path};
 
 use crate::bytes::{Bytes, next};
 use crate::package::Package;
+use std::cmp::Ordering;
 
-/// A label in full: texts in a row.
+/// A label in full: texts in a row. The slashes are in front, and so is what is left of a text once it is begun.
 #[derive(Clone, Copy)]
 pub(crate) struct Chain<'a> {
-    pub(crate) slashes: &'a [u8],
+    pub(crate) front: &'a [u8],
     pub(crate) path: Bytes<'a>,
     pub(crate) colon: &'a [u8],
     pub(crate) name: Bytes<'a>,
@@ -43,7 +46,7 @@ pub(crate) fn without_path<'a>(colon: &'a [u8], name: Bytes<'a>) -> Chain<'a>
     ensures good { IsTrue (is_good_chain result) }
 {
     Chain {
-        slashes: b"",
+        front: b"",
         path: Bytes::Plain(b""),
         colon,
         name,
@@ -59,7 +62,7 @@ fn in_package<'a>(home: &'a Package, colon: &'a [u8], name: Bytes<'a>) -> Chain<
         return without_path(colon, name);
     };
     Chain {
-        slashes: b"//",
+        front: b"//",
         path: Bytes::Plain(path.as_bytes()),
         colon,
         name,
@@ -76,7 +79,7 @@ fn with_name<'a>(path: Bytes<'a>, name: Bytes<'a>) -> Chain<'a>
         return without_path(b"", path);
     }
     Chain {
-        slashes: b"",
+        front: b"",
         path,
         colon: b":",
         name,
@@ -135,38 +138,82 @@ fn last_part<'a>(mut path: Bytes<'a>) -> Bytes<'a>
     last
 }
 
-/// The two have the same bytes.
-pub(crate) fn equal(mut a: Chain<'_>, mut b: Chain<'_>) -> bool
+/// How the bytes of the two are ordered. What lies in one slice is compared as a slice.
+pub(crate) fn order(mut a: Chain<'_>, mut b: Chain<'_>) -> Ordering
     requires a { IsTrue (is_good_chain a) }
     requires b { IsTrue (is_good_chain b) }
-    ensures { result ≡ bytes_eq (chain_bytes a.entry) (chain_bytes b.entry) }
+    ensures { result ≡ slice_cmp nat_cmp (chain_bytes a.entry) (chain_bytes b.entry) }
 {
     while let Some((byte, after)) = next_in(a) {
-        match next_in(b) {
-            Some((other, following)) if byte == other => b = following,
-            _ => return false,
+        let Some((other, following)) = next_in(b) else {
+            return Ordering::Greater;
+        };
+        if byte != other {
+            return byte.cmp(&other);
         }
-        a = after;
+        let both = after.front.len().min(following.front.len());
+        let (x, x_rest) = after.front.split_at(both);
+        let (y, y_rest) = following.front.split_at(both);
+        let found = x.cmp(&y);
+        if found.is_ne() {
+            return found;
+        }
+        a = Chain {
+            front: x_rest,
+            ..after
+        };
+        b = Chain {
+            front: y_rest,
+            ..following
+        };
     }
-    next_in(b).is_none()
+    if next_in(b).is_none() {
+        Ordering::Equal
+    } else {
+        Ordering::Less
+    }
 }
 
-/// The next byte, and what is left after it.
+/// The next byte, and what is left after it. The rest of a slice that is begun goes to the front.
 fn next_in<'a>(chain: Chain<'a>) -> Option<(u8, Chain<'a>)>
     requires { IsTrue (is_good_chain chain) }
     ensures next { MatchOption result (chain_bytes chain.entry ≡ [])
         (λ p. chain_bytes chain.entry ≡ p.0 ∷ chain_bytes p.1) }
     ensures good { IfSome result (λ p. IsTrue (is_good_chain p.1)) }
 {
-    if let [b, slashes @ ..] = chain.slashes {
-        return Some((*b, Chain { slashes, ..chain }));
+    if let [b, front @ ..] = chain.front {
+        return Some((*b, Chain { front, ..chain }));
     }
     if let Some((b, path)) = next(chain.path) {
-        return Some((b, Chain { path, ..chain }));
+        let (front, path) = begun(path);
+        let after = Chain {
+            front,
+            path,
+            ..chain
+        };
+        return Some((b, after));
     }
     if let [b, colon @ ..] = chain.colon {
         return Some((*b, Chain { colon, ..chain }));
     }
     let (b, name) = next(chain.name)?;
-    Some((b, Chain { name, ..chain }))
+    let (front, name) = begun(name);
+    let after = Chain {
+        front,
+        name,
+        ..chain
+    };
+    Some((b, after))
+}
+
+// What lies in one slice, and the rest.
+fn begun<'a>(bytes: Bytes<'a>) -> (&'a [u8], Bytes<'a>)
+    requires { IsTrue (is_good bytes) }
+    ensures bytes { result.0.now ++ left result.1 ≡ left bytes.entry }
+    ensures good { IsTrue (is_good result.1) }
+{
+    match bytes {
+        Bytes::Plain(slice) => (slice, Bytes::Plain(b"")),
+        Bytes::Inner(_) => (b"", bytes),
+    }
 }

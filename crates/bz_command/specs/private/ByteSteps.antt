@@ -49,7 +49,7 @@ abbrev pub is_good : Bytes → Bool
 is_good b = is_some (value_left b)
 
 abbrev pub chain_bytes : Chain → List ℕ
-chain_bytes c = c.slashes.now ++ (left c.path ++ (c.colon.now ++ left c.name))
+chain_bytes c = c.front.now ++ (left c.path ++ (c.colon.now ++ left c.name))
 
 abbrev pub is_good_chain : Chain → Bool
 is_good_chain c = is_good c.path && is_good c.name

@@ -1,0 +1,69 @@
+//! The labels that words are in one package, sorted once: in these any text is looked up, and takes no memory.
+
+ghost use Rattle.std.specs.Prelude.{◌≡◌, ℕ, List, true, IsTrue, IfOk};
+ghost use Rattle.std.specs.List.{list_any};
+ghost use Rattle.std.specs.List.Sorted.{IsSorted};
+ghost use Rattle.std.specs.Str.{bytes_eq};
+ghost use Rattle.std.specs.Cmp.Lexicographic.{slice_cmp};
+ghost use Rattle.std.specs.Ordering.{nat_cmp};
+ghost use Rattle.std.proofs.Props.{props};
+ghost use Rattle.bz_command.specs.private.ByteSteps.{left, is_good};
+ghost use Rattle.bz_command.specs.Same.{completed};
+ghost use Rattle.bz_command.specs.LabelSetViews.{holds};
+
+use crate::bytes::Bytes;
+use crate::label::Label;
+use crate::list::Text;
+use crate::package::Package;
+use std::alloc::{AllocError, Global};
+
+/// The labels that words are in one package.
+#[derive(Drop)]
+pub struct SortedLabels<'a> {
+    home: &'a Package,
+    labels: Vec<Label<'a>>,
+    ghost sorted: { IsSorted (slice_cmp nat_cmp) labels.items } by { Prim.hlevel props },
+}
+
+impl<'a> SortedLabels<'a> {
+    /// The labels of all words. They take memory once.
+    pub fn new(
+        alloc: Global,
+        home: &'a Package,
+        words: &'a [Text],
+    ) -> Result<SortedLabels<'a>, AllocError>
+        ensures home { IfOk result (λ labels. labels.home.now ≡ home.now) }
+        ensures all { IfOk result (λ labels. (text : List ℕ) → holds labels.home.now labels.labels.items text
+            ≡ list_any (λ word. bytes_eq (completed labels.home.now text) (completed labels.home.now word)) words.now) }
+    {
+        let mut labels = Vec::with_capacity(alloc, words.len())?;
+        for word in words {
+            labels.push(Label::new(home, Bytes::Plain(word.as_str().as_bytes())))?;
+        }
+        labels.sort_unstable();
+        Ok(SortedLabels { home, labels })
+    }
+
+    /// They are labels of this package.
+    pub fn are_of(&self, home: &Package) -> bool
+        ensures { result ≡ true → self.now.home.now ≡ home.now }
+    {
+        self.home == home
+    }
+
+    /// One of them is the same as the text.
+    pub fn contains(&self, text: Bytes<'_>) -> bool
+        requires { IsTrue (is_good text) }
+        ensures { result ≡ holds self.now.home.now self.now.labels.items (left text.entry) }
+    {
+        is_among(&self.labels, &Label::new(self.home, text))
+    }
+}
+
+// Both at one lifetime, since labels are compared with their own kind alone.
+fn is_among<'a>(labels: &'a [Label<'a>], label: &'a Label<'a>) -> bool
+    requires { IsSorted (slice_cmp nat_cmp) labels.now }
+    ensures { result ≡ list_any (bytes_eq label.now) labels.now }
+{
+    labels.binary_search(label).is_ok()
+}
