@@ -11,7 +11,7 @@ use crate::edit::Script;
 use crate::report::SyntaxFault;
 use crate::row::is_passed_by;
 use bz_token::{LexFault, Token, check_utf8, tokens};
-use bz_tree::{ParseFault, Row, Stmt, parse_tokens, read_row};
+use bz_tree::{ParseFault, Row, Stmt, parse_tokens, read_row, row_of_text};
 use memchr::memchr;
 use std::alloc::AllocError;
 
@@ -40,6 +40,10 @@ pub(crate) fn read_chunk<'a>(
         Ok(text) => text,
         Err(valid) => return Ok(ChunkRead::Faulty(not_utf8(first_line, &chunk[..valid]))),
     };
+    // The list of a long chunk's tokens takes more memory than its row, so it is made only where there is no row.
+    if let Some(row) = row_of_text(script.alloc, text, first_line, script.max_depth)? {
+        return Ok(read_as(script, row));
+    }
     match tokens(script.alloc, text, first_line, script.max_depth) {
         Ok(tokens) => read_tokens(script, text, first_line, &tokens),
         Err(LexFault::OutOfMemory) => Err(AllocError),
