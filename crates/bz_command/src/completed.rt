@@ -45,9 +45,19 @@ pub(crate) fn without_path<'a>(colon: &'a [u8], name: Bytes<'a>) -> Chain<'a>
     ensures bytes { chain_bytes result ≡ colon.now ++ left name.entry }
     ensures good { IsTrue (is_good_chain result) }
 {
+    let path = Bytes::Plain(b"");
+    if colon.is_empty() {
+        let (front, name) = begun(name);
+        return Chain {
+            front,
+            path,
+            colon: b"",
+            name,
+        };
+    }
     Chain {
         front: b"",
-        path: Bytes::Plain(b""),
+        path,
         colon,
         name,
     }
@@ -78,8 +88,9 @@ fn with_name<'a>(path: Bytes<'a>, name: Bytes<'a>) -> Chain<'a>
     if next(name).is_none() {
         return without_path(b"", path);
     }
+    let (front, path) = begun(path);
     Chain {
-        front: b"",
+        front,
         path,
         colon: b":",
         name,
@@ -138,8 +149,24 @@ fn last_part<'a>(mut path: Bytes<'a>) -> Bytes<'a>
     last
 }
 
-/// How the bytes of the two are ordered. What lies in one slice is compared as a slice.
-pub(crate) fn order(mut a: Chain<'_>, mut b: Chain<'_>) -> Ordering
+/// How the bytes of the two are ordered. Mostly their fronts tell.
+pub(crate) fn order(a: &Chain<'_>, b: &Chain<'_>) -> Ordering
+    requires a { IsTrue (is_good_chain a.now) }
+    requires b { IsTrue (is_good_chain b.now) }
+    ensures { result ≡ slice_cmp nat_cmp (chain_bytes a.now) (chain_bytes b.now) }
+{
+    let both = a.front.len().min(b.front.len());
+    let (x, _) = a.front.split_at(both);
+    let (y, _) = b.front.split_at(both);
+    let found = x.cmp(&y);
+    if found.is_ne() {
+        return found;
+    }
+    order_parts(*a, *b)
+}
+
+// What lies in one slice is compared as a slice.
+fn order_parts(mut a: Chain<'_>, mut b: Chain<'_>) -> Ordering
     requires a { IsTrue (is_good_chain a) }
     requires b { IsTrue (is_good_chain b) }
     ensures { result ≡ slice_cmp nat_cmp (chain_bytes a.entry) (chain_bytes b.entry) }
