@@ -1,12 +1,12 @@
 //! A label of a package in full.
 
-ghost use Rattle.std.specs.Prelude.{◌≡◌, IsTrue, MatchOption, IfSome, None, Some, [], ◌∷◌, ◌++◌};
+ghost use Rattle.std.specs.Prelude.{◌≡◌, IsTrue, MatchOption, IfSome, None, Some, true, [], ◌∷◌, ◌++◌};
 ghost use Rattle.std.specs.List.{list_any};
 ghost use Rattle.std.specs.Ordering.{nat_cmp};
 ghost use Rattle.std.specs.Cmp.Lexicographic.{slice_cmp};
 ghost use Rattle.bz_command.specs.Labels.{is_colon, last_of, parts_of};
 ghost use Rattle.bz_command.specs.Same as same;
-ghost use Rattle.bz_command.specs.private.ByteSteps.{left, is_good, chain_bytes, is_good_chain, begins, is_bare_path};
+ghost use Rattle.bz_command.specs.private.ByteSteps.{left, is_good, chain_bytes, is_good_chain, IsBeside, begins, is_bare_path};
 
 use crate::bytes::{Bytes, next};
 use crate::package::Package;
@@ -149,7 +149,7 @@ fn last_part<'a>(mut path: Bytes<'a>) -> Bytes<'a>
     last
 }
 
-/// How the bytes of the two are ordered. Mostly their fronts tell.
+/// How the bytes of the two are ordered. Mostly their fronts tell, or their names in one package.
 pub(crate) fn order(a: &Chain<'_>, b: &Chain<'_>) -> Ordering
     requires a { IsTrue (is_good_chain a.now) }
     requires b { IsTrue (is_good_chain b.now) }
@@ -162,7 +162,39 @@ pub(crate) fn order(a: &Chain<'_>, b: &Chain<'_>) -> Ordering
     if found.is_ne() {
         return found;
     }
-    order_parts(*a, *b)
+    match order_names(a, b) {
+        Some(found) => found,
+        None => order_parts(*a, *b),
+    }
+}
+
+// By the names alone, where all before these is the same.
+fn order_names(a: &Chain<'_>, b: &Chain<'_>) -> Option<Ordering>
+    ensures { IfSome result (λ found. found ≡ slice_cmp nat_cmp (chain_bytes a.now) (chain_bytes b.now)) }
+{
+    let Bytes::Plain(name) = a.name else {
+        return None;
+    };
+    let Bytes::Plain(other) = b.name else {
+        return None;
+    };
+    if are_beside(a, b) {
+        return Some(name.cmp(&other));
+    }
+    None
+}
+
+// All before the names is the same.
+fn are_beside(a: &Chain<'_>, b: &Chain<'_>) -> bool
+    ensures { result ≡ true → IsBeside a.now b.now }
+{
+    let Bytes::Plain(path) = a.path else {
+        return false;
+    };
+    let Bytes::Plain(other) = b.path else {
+        return false;
+    };
+    a.front == b.front && path == other && a.colon == b.colon
 }
 
 // What lies in one slice is compared as a slice.
