@@ -37,6 +37,22 @@ fronts_first (x ∷ f) (y ∷ g) r s h =
     let rest : length f ≡ length g = omega arith in
     ap (ordering_then (nat_cmp x y)) (fronts_first f g r s rest) ∙ then_twice (nat_cmp x y) (slice_cmp nat_cmp f g) (slice_cmp nat_cmp r s)
 
+-- fronts of one length that differ tell how the whole is ordered
+pub fronts_tell : (front other f g f_rest g_rest r s : List ℕ) → length f ≡ length g → front ≡ f ++ f_rest → other ≡ g ++ g_rest → is_ne (slice_cmp nat_cmp f g) ≡ true → slice_cmp nat_cmp f g ≡ slice_cmp nat_cmp (front ++ r) (other ++ s)
+fronts_tell front other f g f_rest g_rest r s long cut cut_other differ =
+    let first : front ++ r ≡ f ++ (f_rest ++ r) = ap (λ (zs : List ℕ). zs ++ r) cut ∙ append_assoc f f_rest r in
+    let second : other ++ s ≡ g ++ (g_rest ++ s) = ap (λ (zs : List ℕ). zs ++ s) cut_other ∙ append_assoc g g_rest s in
+    sym ((λ i. slice_cmp nat_cmp (first i) (second i)) ∙ fronts_first f g (f_rest ++ r) (g_rest ++ s) long ∙ decided (slice_cmp nat_cmp f g) (slice_cmp nat_cmp (f_rest ++ r) (g_rest ++ s)) differ)
+
+same_fronts : (f r s : List ℕ) → slice_cmp nat_cmp r s ≡ slice_cmp nat_cmp (f ++ r) (f ++ s)
+same_fronts f r s = sym (fronts_first f f r s refl ∙ ap (λ (o : Ordering). ordering_then o (slice_cmp nat_cmp r s)) (tied_itself nat_list_cmp_total f))
+
+-- where all before the names is the same, these tell
+pub names_tell : (f g p q c d r s : List ℕ) → f ≡ g → p ≡ q → c ≡ d → slice_cmp nat_cmp r s ≡ slice_cmp nat_cmp (f ++ (p ++ (c ++ r))) (g ++ (q ++ (d ++ s)))
+names_tell f g p q c d r s fronts paths colons =
+    same_fronts c r s ∙ same_fronts p (c ++ r) (c ++ s) ∙ same_fronts f (p ++ (c ++ r)) (p ++ (c ++ s))
+    ∙ (λ i. slice_cmp nat_cmp (f ++ (p ++ (c ++ r))) (fronts i ++ (paths i ++ (colons i ++ s))))
+
 -- after an equal byte, the fronts f and g of one length decide, and then what follows
 pub fronts_decide : (x y : ℕ) (xs ys front other f g f_rest g_rest r s : List ℕ) → x ≡ y → length f ≡ length g → xs ≡ x ∷ (front ++ r) → ys ≡ y ∷ (other ++ s) → front ≡ f ++ f_rest → other ≡ g ++ g_rest
     → slice_cmp nat_cmp xs ys ≡ ordering_then (slice_cmp nat_cmp f g) (slice_cmp nat_cmp (f_rest ++ r) (g_rest ++ s))

@@ -1,12 +1,12 @@
 //! A label of a package in full.
 
-ghost use Rattle.std.specs.Prelude.{◌≡◌, IsTrue, MatchOption, IfSome, None, Some, [], ◌∷◌, ◌++◌};
+ghost use Rattle.std.specs.Prelude.{◌≡◌, IsTrue, MatchOption, IfSome, None, Some, true, [], ◌∷◌, ◌++◌};
 ghost use Rattle.std.specs.List.{list_any};
 ghost use Rattle.std.specs.Ordering.{nat_cmp};
 ghost use Rattle.std.specs.Cmp.Lexicographic.{slice_cmp};
 ghost use Rattle.bz_command.specs.Labels.{is_colon, last_of, parts_of};
 ghost use Rattle.bz_command.specs.Same as same;
-ghost use Rattle.bz_command.specs.private.ByteSteps.{left, is_good, chain_bytes, is_good_chain, begins, is_bare_path};
+ghost use Rattle.bz_command.specs.private.ByteSteps.{left, is_good, chain_bytes, is_good_chain, IsBeside, begins, is_bare_path};
 
 use crate::bytes::{Bytes, next};
 use crate::package::Package;
@@ -45,9 +45,19 @@ pub(crate) fn without_path<'a>(colon: &'a [u8], name: Bytes<'a>) -> Chain<'a>
     ensures bytes { chain_bytes result ≡ colon.now ++ left name.entry }
     ensures good { IsTrue (is_good_chain result) }
 {
+    let path = Bytes::Plain(b"");
+    if colon.is_empty() {
+        let (front, name) = begun(name);
+        return Chain {
+            front,
+            path,
+            colon: b"",
+            name,
+        };
+    }
     Chain {
         front: b"",
-        path: Bytes::Plain(b""),
+        path,
         colon,
         name,
     }
@@ -78,8 +88,9 @@ fn with_name<'a>(path: Bytes<'a>, name: Bytes<'a>) -> Chain<'a>
     if next(name).is_none() {
         return without_path(b"", path);
     }
+    let (front, path) = begun(path);
     Chain {
-        front: b"",
+        front,
         path,
         colon: b":",
         name,
@@ -138,8 +149,56 @@ fn last_part<'a>(mut path: Bytes<'a>) -> Bytes<'a>
     last
 }
 
-/// How the bytes of the two are ordered. What lies in one slice is compared as a slice.
-pub(crate) fn order(mut a: Chain<'_>, mut b: Chain<'_>) -> Ordering
+/// How the bytes of the two are ordered. Mostly their fronts tell, or their names in one package.
+pub(crate) fn order(a: &Chain<'_>, b: &Chain<'_>) -> Ordering
+    requires a { IsTrue (is_good_chain a.now) }
+    requires b { IsTrue (is_good_chain b.now) }
+    ensures { result ≡ slice_cmp nat_cmp (chain_bytes a.now) (chain_bytes b.now) }
+{
+    let both = a.front.len().min(b.front.len());
+    let (x, _) = a.front.split_at(both);
+    let (y, _) = b.front.split_at(both);
+    let found = x.cmp(&y);
+    if found.is_ne() {
+        return found;
+    }
+    match order_names(a, b) {
+        Some(found) => found,
+        None => order_parts(*a, *b),
+    }
+}
+
+// By the names alone, where all before these is the same.
+fn order_names(a: &Chain<'_>, b: &Chain<'_>) -> Option<Ordering>
+    ensures { IfSome result (λ found. found ≡ slice_cmp nat_cmp (chain_bytes a.now) (chain_bytes b.now)) }
+{
+    let Bytes::Plain(name) = a.name else {
+        return None;
+    };
+    let Bytes::Plain(other) = b.name else {
+        return None;
+    };
+    if are_beside(a, b) {
+        return Some(name.cmp(&other));
+    }
+    None
+}
+
+// All before the names is the same.
+fn are_beside(a: &Chain<'_>, b: &Chain<'_>) -> bool
+    ensures { result ≡ true → IsBeside a.now b.now }
+{
+    let Bytes::Plain(path) = a.path else {
+        return false;
+    };
+    let Bytes::Plain(other) = b.path else {
+        return false;
+    };
+    a.front == b.front && path == other && a.colon == b.colon
+}
+
+// What lies in one slice is compared as a slice.
+fn order_parts(mut a: Chain<'_>, mut b: Chain<'_>) -> Ordering
     requires a { IsTrue (is_good_chain a) }
     requires b { IsTrue (is_good_chain b) }
     ensures { result ≡ slice_cmp nat_cmp (chain_bytes a.entry) (chain_bytes b.entry) }

@@ -47,7 +47,7 @@ impl<'a> PartialEq for Label<'a> {
     ghost laws = { partial_equiv_from_equiv nat_list_eq_equiv };
 
     fn eq(&self, other: &Label<'a>) -> bool {
-        order(self.chain, other.chain).is_eq()
+        order(&self.chain, &other.chain).is_eq()
     }
 }
 
@@ -75,6 +75,6 @@ impl<'a> Ord for Label<'a> {
     ghost matches_eq = { texts_ties };
 
     fn cmp(&self, other: &Label<'a>) -> Ordering {
-        order(self.chain, other.chain)
+        order(&self.chain, &other.chain)
     }
 }

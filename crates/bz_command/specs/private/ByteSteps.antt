@@ -51,6 +51,12 @@ is_good b = is_some (value_left b)
 abbrev pub chain_bytes : Chain → List ℕ
 chain_bytes c = c.front.now ++ (left c.path ++ (c.colon.now ++ left c.name))
 
+-- all before the names is the same
+pub record IsBeside (a b : Chain) : Type 0 where
+  pub front : a.front.now ≡ b.front.now
+  pub path : left a.path ≡ left b.path
+  pub colon : a.colon.now ≡ b.colon.now
+
 abbrev pub is_good_chain : Chain → Bool
 is_good_chain c = is_good c.path && is_good c.name
 

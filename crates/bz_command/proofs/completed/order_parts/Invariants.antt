@@ -3,7 +3,7 @@ use Rattle.std.specs.Prelude.{IsTrue}
 use Rattle.std.specs.Cmp.Lexicographic.{slice_cmp}
 use Rattle.std.specs.Ordering.{nat_cmp}
 use Rattle.bz_command.specs.private.ByteSteps.{chain_bytes, is_good_chain}
-use Rattle.bz_command.proofs.completed.order.Given as goal
+use Rattle.bz_command.proofs.completed.order_parts.Given as goal
 
 abbrev pub invariant-loop-byte : goal.invariant-loop-byte
 invariant-loop-byte l = record { a : IsTrue (is_good_chain l.a); b : IsTrue (is_good_chain l.b); same : slice_cmp nat_cmp (chain_bytes l.a) (chain_bytes l.b) ≡ slice_cmp nat_cmp (chain_bytes l.initial.a) (chain_bytes l.initial.b) }
