@@ -13,6 +13,9 @@ use std::alloc::{AllocError, Global};
 // Few rules have more values that are not short.
 const MOST_APART: usize = 16;
 
+// Few rules have more parts without those.
+const MOST_KEPT: usize = 40;
+
 /// Where the walk stands.
 #[derive(Clone, Copy)]
 pub(crate) enum Place<'a> {
@@ -304,7 +307,7 @@ pub(crate) fn hollow_of<'a>(alloc: Global, parts: &'a [Part<'a>]) -> Result<Holl
     ensures { IfOk result (λ hollow. walk hollow ≡ run (map part_view parts.now) start) }
 {
     let mut walk = Hollow {
-        parts: Vec::with_capacity(alloc, parts.len())?,
+        parts: Vec::with_capacity(alloc, parts.len().min(MOST_KEPT))?,
         unread: Vec::with_capacity(alloc, MOST_APART)?,
         place: Place::Outside,
         sound: true,

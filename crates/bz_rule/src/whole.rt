@@ -108,7 +108,7 @@ pub(crate) fn whole_parts<'s>(
     ensures fits { IfOk result (λ woven. Fits woven) }
     ensures parts { IfOk result (λ woven. all woven ≡ parts_of (whole (all_apart values.now) (view stmt.now))) }
 {
-    let mut woven = Woven::new(alloc)?;
+    let mut woven = Woven::new(alloc, values.as_slice().len())?;
     woven.push_above(&stmt.before)?;
     push_whole_nodes(&stmt.nodes, values, &mut woven)?;
     woven.push_beside(&stmt.suffix)?;

@@ -14,7 +14,7 @@ use std::alloc::{AllocError, Global};
 use std::borrow::CowStr;
 
 // Most rules have no more parts of their own.
-const FIRST_PARTS: usize = 64;
+const FIRST_PARTS: usize = 40;
 
 /// A slice that stands after so many own parts.
 #[derive(Clone, Copy)]
@@ -32,13 +32,14 @@ pub(crate) struct Woven<'s> {
 
 // Each method that adds parts adds them at the end. After an `Err` some of them may have been added.
 impl<'s> Woven<'s> {
-    pub(crate) fn new(alloc: Global) -> Result<Woven<'s>, AllocError>
+    /// Without parts, and with room for so many inserts.
+    pub(crate) fn new(alloc: Global, inserts: usize) -> Result<Woven<'s>, AllocError>
         ensures fits { IfOk result (λ woven. Fits woven) }
         ensures empty { IfOk result (λ woven. all woven ≡ []) }
     {
         Ok(Woven {
             own: Vec::with_capacity(alloc, FIRST_PARTS)?,
-            inserts: Vec::new(alloc),
+            inserts: Vec::with_capacity(alloc, inserts)?,
         })
     }
 
@@ -91,7 +92,8 @@ impl<'s> Woven<'s> {
         requires { Fits self.now }
         ensures { IfOk result (λ pieces. joined pieces.items ≡ all self.now) }
     {
-        let mut pieces = Vec::new(alloc);
+        let room = self.inserts.len().saturating_mul(2).saturating_add(1);
+        let mut pieces = Vec::with_capacity(alloc, room)?;
         let mut from = 0;
         for insert in &self.inserts {
             pieces.push(self.between(from, insert.after))?;
