@@ -25,7 +25,8 @@ pub fn row_of_text<'a>(
         (λ row. (s : Statement) × IsStatementIn first_line max_depth text.now s × IsRowOf s row)) }
 {
     let mut reader = TokenReader::new(alloc, text, first_line, max_depth)?;
-    let mut walk = RowWalk::new(alloc, text.len() / 4)?;
+    // Most texts have fewer parts. Doubled twice, it is room for a list of elements of one byte.
+    let mut walk = RowWalk::new(alloc, text.len() / 4 + 8)?;
     let mut first = None;
     let mut last = None;
     while !reader.is_at_end() {
