@@ -100,7 +100,8 @@ impl<'s> Woven<'s> {
             pieces.push(insert.parts)?;
             from = insert.after;
         }
-        pieces.push(self.between(from, self.own.len()))?;
+        let end = self.own.len();
+        pieces.push(self.between(from, end))?;
         Ok(pieces)
     }
 

@@ -30,7 +30,7 @@ returns c =
     let inserts = c.args.self.now.inserts.items in
     let i = c.loop-insert.insert-index in
     let end : length inserts ≤ i = search rules in
-    let to : c.len.result ≡ length own = search rules in
+    let to : c.len-end.result ≡ length own = search rules in
     ap joined c.in_ok-push-3.ensures.items
     ∙ last_piece c.loop-insert.pieces.items _ own c.loop-insert.from i inserts end
     (subst (λ n. map part_view c.between-2.result.now ≡ drop c.loop-insert.from (take n (map part_view own))) to c.between-2.ensures)
