@@ -11,6 +11,7 @@ use Rattle.bz_token.proofs.Classes.{same_bytes}
 use Rattle.bz_tree.specs.declared.stmt.Seg.{Seg}
 use Rattle.bz_tree.specs.Tree.{Segment}
 use Rattle.bz_tree.specs.View.{seg_view, segs_view}
+use Rattle.bz_command.specs.Commands.{All}
 use Rattle.bz_command.specs.Labels.{Package}
 use Rattle.bz_command.specs.Same.{completed}
 use Rattle.bz_attribute.specs.Rules.{string_value}
@@ -76,7 +77,7 @@ told home p there (s ∷ ss) h =
       | inr new ↦ rw new (λ j. not ((value ∙ new) j) ∷ told home (λ text. equals home text s || p text) (there ++ s ∷ []) ss (told_more home p there s h) j)
     ]
 
-pub in_joined : (home : Package) (lists : List (List Segment)) (text : List ℕ) → is_in home lists text ≡ list_any (equals home text) (joined lists)
+pub in_joined : (home : Package) (lists : List (List Segment)) (text : List ℕ) → is_in home All lists text ≡ list_any (equals home text) (joined lists)
 in_joined home lists text = (λ j. list_any (list_any (λ (s : Segment). or_false (equals home text s) j)) lists) ∙ sym (any-joined (equals home text) lists)
 
 -- one element on

@@ -1,21 +1,30 @@
 -- A set that has the labels of elements and of values.
-use Rattle.std.proofs.Common.{◌≡◌, ℕ, List, [], ◌∷◌, ◌++◌, Bool, true, false, ◌||◌, Option, take, length, get_or, nat_lt, not, ◌<◌, ◌+◌, map, if◌then◌else◌, refl, ap, sym, ◌∙◌}
-use Rattle.std.specs.Prelude.{IfSome}
+use Rattle.std.proofs.Common.{◌≡◌, ℕ, List, [], ◌∷◌, ◌++◌, Bool, true, false, ◌&&◌, ◌||◌, Option, Some, None, take, length, get_or, nat_lt, not, ◌<◌, ◌+◌, map, if◌then◌else◌, refl, ap, sym, ◌∙◌, inl, inr, bytes_eq}
 use Rattle.std.specs.List.{list_any}
+use Rattle.std.proofs.lemmas.Bool.{cases_Bool, false≢true}
+use Rattle.std.proofs.lemmas.Cmp.{nat_list_eq_equiv}
 use Rattle.std.proofs.lemmas.List.{take_more, map-append, append-nil}
-use Rattle.std.proofs.lemmas.List.Folds.{list_any-append}
+use Rattle.std.proofs.lemmas.List.Folds.{list_any-append, list_any_at}
+use Rattle.bz_token.proofs.Classes.{same_bytes}
 use Rattle.bz_tree.specs.declared.stmt.Seg.{Seg}
 use Rattle.bz_tree.specs.Tree.{Segment}
 use Rattle.bz_tree.specs.View.{seg_view, segs_view}
 use Rattle.bz_command.specs.Labels.{Package}
+use Rattle.bz_command.specs.Same.{completed}
+use Rattle.bz_command.specs.Commands.{All, Values}
 use Rattle.bz_command.specs.declared.label_set.LabelSet.{LabelSet}
 use Rattle.bz_command.specs.LabelSetViews.{Gains, has}
-use Rattle.bz_attribute.specs.Lists.{same}
-use Rattle.bz_attribute.specs.Effects.{is_fresh, is_nil, string}
+use Rattle.bz_attribute.specs.Lists.{same, same_value}
+use Rattle.bz_attribute.specs.Rules.{string_value}
+use Rattle.bz_attribute.specs.Effects.{is_chosen, is_fresh, is_nil, string}
 use Rattle.bz_attribute.specs.private.ElementSets.{is_in}
 use Rattle.bz_attribute.proofs.LabelSets.{or_false}
 use Rattle.bz_list_commands.specs.private.AddingSteps.{Knows}
 use Rattle.bz_list_commands.proofs.Arriving.{some_more}
+
+and_false : (a : Bool) → (a && false) ≡ false
+and_false true = refl
+and_false false = refl
 
 or_last : (a b c : Bool) → (c || (a || b)) ≡ (a || (b || (c || false)))
 or_last true b true = refl
@@ -25,29 +34,46 @@ or_last false true false = refl
 or_last false false true = refl
 or_last false false false = refl
 
--- a set of the elements alone
-pub knows_elements : (home : Package) (lists : List (List Segment)) (set : LabelSet) → set.home.now ≡ home → ((text : List ℕ) → has set text ≡ is_in home lists text) → Knows home lists [] set
-knows_elements home lists set is all = record { of = is; all = λ text. all text ∙ sym (or_false (is_in home lists text)) }
+same_for : (home : Package) (words : List (List ℕ)) (text : List ℕ) (value : Option (List ℕ)) → list_any (same home text) words ≡ true → (same_value home text value || false) ≡ true → list_any (λ w. same_value home w value) words ≡ true
+same_for home words text None among is = absurd (false≢true is)
+same_for home words text (Some value) among is =
+    let alike : completed home value ≡ completed home text = same_bytes (completed home value) (completed home text) (sym (or_false (same home value text)) ∙ is) in
+    (λ j. list_any (λ w. bytes_eq (alike j) (completed home w)) words) ∙ among
 
--- with a word more
-pub knows_more : (home : Package) (lists : List (List Segment)) (earlier : List (List ℕ)) (word : List ℕ) (old new : LabelSet) → Knows home lists earlier old → Gains (λ text. same old.home.now text word) old new → new.home.now ≡ old.home.now
-    → Knows home lists (earlier ++ word ∷ []) new
-knows_more home lists earlier word old new h more is = record {
-  of = is ∙ h.of;
+-- words choose each element that is the same label as one of them
+one_word : (home : Package) (words : List (List ℕ)) (text : List ℕ) → list_any (same home text) words ≡ true → (s : Segment) → (is_chosen home (Values words) s && is_chosen home (Values (text ∷ [])) s) ≡ is_chosen home (Values (text ∷ [])) s
+one_word home words text among s = elim (cases_Bool (is_chosen home (Values (text ∷ [])) s)) [
+  | inl is ↦ rw is (ap (λ (b : Bool). b && true) (same_for home words text (string_value s.nodes) among is))
+  | inr differs ↦ rw differs (and_false (is_chosen home (Values words) s))
+]
+
+-- so among all elements it is the same label as one exactly where it is among those
+pub among_chosen : (home : Package) (words : List (List ℕ)) (lists : List (List Segment)) (text : List ℕ) → list_any (same home text) words ≡ true → is_in home (Values words) lists text ≡ is_in home All lists text
+among_chosen home words lists text among = λ j. list_any (list_any (λ (s : Segment). one_word home words text among s j)) lists
+
+-- with the value at i
+pub knows_more : (home : Package) (lists : List (List Segment)) (values : List (List ℕ)) (i : ℕ) (word : List ℕ) (old new : LabelSet) → i < length values → word ≡ get_or values i []
+    → Knows home lists values i old → Gains (λ text. same old.home.now text word) old new → new.home.now ≡ old.home.now → Knows home lists values (i + 1) new
+knows_more home lists values i word old new h at known more is = record {
+  of = is ∙ known.of;
   all = λ text.
+      let there : Bool = is_in home (Values values) lists text in
+      let read : take (i + 1) values ≡ take i values ++ word ∷ [] = take_more values i [] h ∙ ap (λ (w : List ℕ). take i values ++ w ∷ []) (sym at) in
       more text
-      ∙ ap (λ (p : Package). same p text word || has old text) h.of
-      ∙ ap (λ (b : Bool). same home text word || b) (h.all text)
-      ∙ or_last (is_in home lists text) (list_any (same home text) earlier) (same home text word)
-      ∙ ap (λ (b : Bool). is_in home lists text || b) (sym (list_any-append (same home text) earlier (word ∷ [])));
+      ∙ ap (λ (p : Package). same p text word || has old text) known.of
+      ∙ ap (λ (b : Bool). same home text word || b) (known.all text)
+      ∙ or_last there (list_any (same home text) (take i values)) (same home text word)
+      ∙ ap (λ (b : Bool). there || b) (sym (list_any-append (same home text) (take i values) (word ∷ [])) ∙ ap (list_any (same home text)) (sym read));
 }
 
--- where there is a set, it knows one value more
-pub knows_one_more : (home : Package) (lists : List (List Segment)) (values : List (List ℕ)) (i : ℕ) (word d : List ℕ) (o : Option LabelSet) → i < length values → word ≡ get_or values i d
-    → IfSome o (Knows home lists (take i values ++ word ∷ [])) → IfSome o (Knows home lists (take (i + 1) values))
-knows_one_more home lists values i word d o h at known =
-    let read : take (i + 1) values ≡ take i values ++ word ∷ [] = take_more values i d h ∙ ap (λ (w : List ℕ). take i values ++ w ∷ []) (sym at) in
-    rw read known
+-- it tells whether the value at i is fresh
+pub knows_fresh : (home : Package) (lists : List (List Segment)) (values : List (List ℕ)) (i : ℕ) (word : List ℕ) (set : LabelSet) → i < length values → word ≡ get_or values i [] → Knows home lists values i set
+    → not (has set word) ≡ is_fresh home lists (take i values) (get_or values i [])
+knows_fresh home lists values i word set h at known =
+    let itself : same home word (get_or values i []) ≡ true = ap (same home word) (sym at) ∙ nat_list_eq_equiv.refl (completed home word) in
+    let among : list_any (same home word) values ≡ true = list_any_at (same home word) values i [] h itself in
+    ap not (known.all word ∙ ap (λ (b : Bool). b || list_any (same home word) (take i values)) (among_chosen home values lists word among))
+    ∙ ap (is_fresh home lists (take i values)) at
 
 -- an element for a word that is fresh, and none for another
 pub fresh_pushed : (home : Package) (lists : List (List Segment)) (earlier : List (List ℕ)) (word : List ℕ) (new added : List Seg) (x : Seg) → is_fresh home lists earlier word ≡ true → added ≡ new ++ x ∷ [] → seg_view x ≡ string word

@@ -1,6 +1,6 @@
 //! `add`: values that are missing go to the end of a list.
 
-ghost use Rattle.std.specs.Prelude.{◌≡◌, ◌≤◌, ◌++◌, ◌∷◌, [], length, IfOk, IfSome, OnOk, OnErr};
+ghost use Rattle.std.specs.Prelude.{◌≡◌, ◌≤◌, ◌<◌, ◌+◌, ◌++◌, [], length, take, get_or, IfOk, IfSome, OnOk, OnErr};
 ghost use Rattle.bz_tree.specs.View.{node_view, nodes_view, seg_view, segs_view};
 ghost use Rattle.bz_attribute.specs.Rules.{first_named};
 ghost use Rattle.bz_attribute.specs.Lists.{edit_list, parts};
@@ -13,7 +13,7 @@ use bz_attribute::list_labels::labels_in;
 use bz_attribute::lists::first_part;
 use bz_attribute::make::{argument, list, string};
 use bz_attribute::rule::find;
-use bz_attribute::word_set::{FEW, is_label};
+use bz_attribute::word_set::{FEW, is_label, word_set};
 use bz_command::{Bytes, LabelSet, Package, Text};
 use bz_tree::{Node, Seg};
 use std::alloc::{AllocError, Global};
@@ -64,7 +64,7 @@ fn add_in(
 }
 
 // The elements for the values that are missing in a value's list parts. Of many values each is looked up in a set of the
-// elements and of the values before it.
+// values before it and of the elements that are among the values: no other element needs to be in it.
 fn new_elements<'a>(
     alloc: Global,
     home: &Package,
@@ -77,32 +77,49 @@ fn new_elements<'a>(
     let mut there = if values.len() <= FEW {
         None
     } else {
-        Some(labels_in(alloc, home, value)?)
+        Some(labels_there(alloc, home, value, values)?)
     };
     let mut new = Vec::new(alloc);
     for i in 0..values.len() {
-        let word = values[i].as_str();
-        if is_fresh(home, value, &values[..i], word, &mut there)? {
-            new.push(string(alloc, word)?)?;
+        if is_fresh(home, value, values, i, &mut there)? {
+            new.push(string(alloc, values[i].as_str())?)?;
         }
     }
     Ok(new)
 }
 
-// No element and no earlier value is the same label: these are compared, or the word goes into the set of them.
+// The labels of the elements of a value's list parts that are among the values.
+fn labels_there<'s>(
+    alloc: Global,
+    home: &'s Package,
+    value: &'s [Node<'_>],
+    values: &'s [Text],
+) -> Result<LabelSet<'s>, AllocError>
+    ensures { IfOk result (Knows home.now (parts (nodes_view value.now)) values.now 0) }
+{
+    let words = word_set(alloc, home, values)?;
+    labels_in(alloc, home, Chosen::Words(&words), value)
+}
+
+// No element and no earlier value is the same label as the value at i: these are compared, or it goes into the set of
+// them.
 fn is_fresh<'t>(
     home: &Package,
     value: &[Node<'_>],
-    earlier: &[Text],
-    word: &'t str,
+    values: &'t [Text],
+    i: usize,
     there: &mut Option<LabelSet<'t>>,
 ) -> Result<bool, AllocError>
-    requires { IfSome there.old (Knows home.now (parts (nodes_view value.now)) earlier.now) }
+    requires i { i < length values.now }
+    requires there { IfSome there.old (Knows home.now (parts (nodes_view value.now)) values.now i) }
     ensures fresh { IfOk result
-        (λ fresh. fresh ≡ spec.is_fresh home.now (parts (nodes_view value.now)) earlier.now word.now) }
+        (λ fresh. fresh
+        ≡ spec.is_fresh home.now (parts (nodes_view value.now)) (take i values.now) (get_or values.now i [])) }
     ensures there { OnOk result
-        (IfSome there.new (Knows home.now (parts (nodes_view value.now)) (earlier.now ++ word.now ∷ []))) }
+        (IfSome there.new (Knows home.now (parts (nodes_view value.now)) values.now (i + 1))) }
 {
+    let earlier = &values[..i];
+    let word = values[i].as_str();
     let label = Bytes::Plain(word.as_bytes());
     match there {
         None => Ok(

@@ -76,7 +76,7 @@ fn arriving(
         (λ arrive. arrive.items
         ≡ flags home.now (spec.joined (parts (nodes_view value.now))) (segs_view elements.now)) }
 {
-    let mut there = labels_in(alloc, home, value)?;
+    let mut there = labels_in(alloc, home, Chosen::All, value)?;
     let mut arrive = Vec::with_capacity(alloc, elements.len())?;
     for i in 0..elements.len() {
         arrive.push(is_new(&elements[i], &mut there)?)?;

@@ -1,7 +1,8 @@
 -- For private clauses alone: a set of what `add` finds there.
-use Rattle.std.specs.Prelude.{◌≡◌, ℕ, List, ◌||◌, Some}
+use Rattle.std.specs.Prelude.{◌≡◌, ℕ, List, take, ◌||◌, Some}
 use Rattle.std.specs.List.{list_any}
 use Rattle.bz_command.specs.Labels.{Package}
+use Rattle.bz_command.specs.Commands.{Values}
 use Rattle.bz_attribute.specs.Effects.{adds, done, not_a_list}
 use Rattle.bz_attribute.specs.Lists.{same}
 use Rattle.bz_attribute.specs.declared.done.Done.{Done}
@@ -14,7 +15,7 @@ use Rattle.bz_attribute.specs.private.ElementSets.{is_in}
 abbrev pub told : Package → List ℕ → List (List ℕ) → Segment → Done
 told home attr values a = done (not_a_list attr (Some a)) (adds home values (Some a))
 
--- the set has the labels of the elements of these lists, and of these values
-pub record Knows (home : Package) (lists : List (List Segment)) (earlier : List (List ℕ)) (set : LabelSet) : Type 0 where
+-- the set has the labels of the elements of these lists that are among the values, and of the first i values
+pub record Knows (home : Package) (lists : List (List Segment)) (values : List (List ℕ)) (i : ℕ) (set : LabelSet) : Type 0 where
   pub of : set.home.now ≡ home
-  pub all : (text : List ℕ) → has set text ≡ (is_in home lists text || list_any (same home text) earlier)
+  pub all : (text : List ℕ) → has set text ≡ (is_in home (Values values) lists text || list_any (same home text) (take i values))

@@ -1,24 +1,42 @@
-use Rattle.std.proofs.Common.{◌≡◌, Bool, ◌||◌, not, [], ◌∷◌, ◌++◌, rules, tests, ap, sym, ◌∙◌}
+use Rattle.std.proofs.Common.{◌≡◌, Bool, ◌||◌, not, [], take, rules, tests, ap, sym, ◌∙◌}
 use Rattle.std.specs.List.{list_any}
 use Rattle.std.proofs.lemmas.Iterator.{YieldsList-from_slice}
 use Rattle.std.proofs.lemmas.Iterator.Search.{any_from_yields_List}
+use Rattle.std.proofs.lemmas.List.{get_or_default}
 use Rattle.bz_tree.specs.View.{nodes_view}
+use Rattle.bz_attribute.specs.Effects.{is_fresh}
 use Rattle.bz_attribute.specs.Lists.{parts, same}
-use Rattle.bz_list_commands.proofs.Known.{knows_more}
+use Rattle.bz_list_commands.proofs.Known.{knows_fresh, knows_more}
 use Rattle.bz_list_commands.specs.private.AddingSteps.{Knows}
 use Rattle.bz_list_commands.proofs.add.is_fresh.Goals as goal
 
 pub returns-in_ok-insert-in-Some-clause-there : goal.returns-in_ok-insert-in-Some-clause-there
 returns-in_ok-insert-in-Some-clause-there c =
-    let home = c.args.home.now in
-    let lists = parts (nodes_view c.args.value.now) in
-    let known : Knows home lists c.args.earlier.now c.in-Some.set = rw c.in-Some.is at c.requires in
-    let more : Knows home lists (c.args.earlier.now ++ c.as_bytes.result.now ∷ []) c.insert.new.self = knows_more home lists c.args.earlier.now c.as_bytes.result.now c.in-Some.set c.insert.new.self known c.in_ok-insert-in-Some.ensures.ok c.in_ok-insert-in-Some.ensures.home in
-    rw c.as_bytes.ensures.value at more
+    let values = c.args.values.now in
+    let known : Knows c.args.home.now (parts (nodes_view c.args.value.now)) values c.args.i c.in-Some.set = rw c.in-Some.is at c.requires.there in
+    let read = c.as_bytes.ensures.value ∙ c.as_str-word.ensures ∙ c.index-values-i.is ∙ get_or_default values c.args.i _ [] c.requires.i in
+    knows_more c.args.home.now (parts (nodes_view c.args.value.now)) values c.args.i c.as_bytes.result.now c.in-Some.set c.insert.new.self c.requires.i read known c.in_ok-insert-in-Some.ensures.ok c.in_ok-insert-in-Some.ensures.home
+
+pub returns-in_ok-insert-in-Some-clause-fresh : goal.returns-in_ok-insert-in-Some-clause-fresh
+returns-in_ok-insert-in-Some-clause-fresh c =
+    let values = c.args.values.now in
+    let known : Knows c.args.home.now (parts (nodes_view c.args.value.now)) values c.args.i c.in-Some.set = rw c.in-Some.is at c.requires.there in
+    let read = c.as_bytes.ensures.value ∙ c.as_str-word.ensures ∙ c.index-values-i.is ∙ get_or_default values c.args.i _ [] c.requires.i in
+    c.in_ok-insert-in-Some.ensures.new ∙ knows_fresh c.args.home.now (parts (nodes_view c.args.value.now)) values c.args.i c.as_bytes.result.now c.in-Some.set c.requires.i read known
 
 pub returns-then-not-is_any_chosen-clause-fresh : goal.returns-then-not-is_any_chosen-clause-fresh
 returns-then-not-is_any_chosen-clause-fresh c =
-    let earlier : Bool = list_any (same c.args.home.now c.args.word.now) c.args.earlier.now in
-    let any : c.any.result ≡ list_any (same c.args.home.now c.args.word.now) c.args.earlier.now =
-    any_from_yields_List (same c.args.home.now c.args.word.now) _ _ c.any.result c.any.ensures.ran (YieldsList-from_slice c.args.earlier.now cc) (λ x b q k. search (rules, tests)) in
+    let values = c.args.values.now in
+    let word = c.as_str-word.result.now in
+    let earlier : Bool = list_any (same c.args.home.now word) (take c.args.i values) in
+    let any : c.any.result ≡ list_any (same c.args.home.now c.as_str-word.result.now) (take c.args.i c.args.values.now) =
+    any_from_yields_List (same c.args.home.now word) _ _ c.any.result c.any.ensures.ran (YieldsList-from_slice (take c.args.i values) cc) (λ x b q k. search (rules, tests)) in
     ap not (any ∙ sym (ap (λ (b : Bool). b || earlier) (sym c.is_any_chosen.ensures ∙ c.if-not-is_any_chosen.true)))
+    ∙ ap (is_fresh c.args.home.now (parts (nodes_view c.args.value.now)) (take c.args.i values)) (c.as_str-word.ensures ∙ c.index-values-i.is ∙ get_or_default values c.args.i _ [] c.requires.i)
+
+pub returns-else-not-is_any_chosen-clause-fresh : goal.returns-else-not-is_any_chosen-clause-fresh
+returns-else-not-is_any_chosen-clause-fresh c =
+    let values = c.args.values.now in
+    let earlier : Bool = list_any (same c.args.home.now c.as_str-word.result.now) (take c.args.i values) in
+    ap not (c.if-not-is_any_chosen.false ∙ sym (ap (λ (b : Bool). b || earlier) (sym c.is_any_chosen.ensures ∙ c.if-not-is_any_chosen.false)))
+    ∙ ap (is_fresh c.args.home.now (parts (nodes_view c.args.value.now)) (take c.args.i values)) (c.as_str-word.ensures ∙ c.index-values-i.is ∙ get_or_default values c.args.i _ [] c.requires.i)

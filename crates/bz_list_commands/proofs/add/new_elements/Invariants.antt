@@ -8,6 +8,6 @@ use Rattle.bz_list_commands.proofs.add.new_elements.Given as goal
 
 abbrev pub invariant-loop-i : goal.invariant-loop-i
 invariant-loop-i l = record {
-  there : IfSome l.there (Knows l.fn.home (parts (nodes_view l.fn.value)) (take l.i l.fn.values));
+  there : IfSome l.there (Knows l.fn.home (parts (nodes_view l.fn.value)) l.fn.values l.i);
   added : segs_view l.new.items ++ map string (fresh l.fn.home (parts (nodes_view l.fn.value)) (take l.i l.fn.values) (drop l.i l.fn.values)) ≡ new_elements l.fn.home (parts (nodes_view l.fn.value)) l.fn.values;
 }
