@@ -4,6 +4,7 @@ pub mod First
 pub mod FirstPart
 pub mod Fresh
 pub mod Groups
+pub mod Headed
 pub mod LabelSets
 pub mod Mapped
 pub mod PartEdits

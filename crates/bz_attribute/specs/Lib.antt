@@ -1,5 +1,6 @@
 pub mod Commenting
 pub mod Effects
+pub mod Heads
 pub mod Lists
 pub mod Marks
 pub mod Moving

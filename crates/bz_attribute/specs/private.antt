@@ -1,3 +1,4 @@
 pub mod ChosenViews
 pub mod ElementSets
+pub mod HeadParts
 pub mod Places

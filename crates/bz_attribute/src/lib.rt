@@ -4,6 +4,7 @@
 pub mod chosen;
 pub mod done;
 pub mod equals;
+pub mod head;
 pub mod list_labels;
 pub mod lists;
 pub mod make;

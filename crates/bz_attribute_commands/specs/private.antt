@@ -1,3 +1,4 @@
 pub mod CommentPlaces
+pub mod HeadFields
 pub mod PrintSteps
 pub mod SettingViews

@@ -219,7 +219,7 @@ fn push_element(alloc: Global, text: &mut String, element: &Seg<'_>) -> Result<(
 }
 
 // Writes a value as a word.
-fn push_word(alloc: Global, text: &mut String, word: &str) -> Result<(), AllocError>
+pub(crate) fn push_word(alloc: Global, text: &mut String, word: &str) -> Result<(), AllocError>
     ensures { OnOk result (string_bytes text.new ≡ string_bytes text.old ++ spec.word_form word.now) }
 {
     if is_plain(word.as_bytes()) {

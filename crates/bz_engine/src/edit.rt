@@ -4,7 +4,7 @@ ghost use Rattle.std.specs.Prelude.{◌≡◌, ℕ, ◌+◌, ◌<◌, ◌≤◌,
 ghost use Rattle.std.specs.List.{flat_map};
 ghost use Rattle.bz_tree.specs.Rows.{IsRowOf};
 ghost use Rattle.bz_tree.specs.Tree.{Statement};
-ghost use Rattle.bz_rule.specs.ShallowViews.{shallow_view, shallow_slot};
+ghost use Rattle.bz_rule.specs.LazyViews.{lazy_view, lazy_slot};
 ghost use Rattle.bz_layout.specs.Gaps.{blank_between as is_gap};
 ghost use Rattle.bz_layout.specs.Layout.{layout_text};
 ghost use Rattle.bz_passes.specs.Exchange.{Fits, log_alone};
@@ -24,7 +24,7 @@ use bz_passes::kept::Kept;
 use bz_passes::language::Facts;
 use bz_passes::log::Log;
 use bz_passes::script::run_script;
-use bz_rule::{Package, ShallowStmt, Text};
+use bz_rule::{Package, LazyStmt, Text};
 use bz_tree::{Class, Row};
 use std::alloc::{AllocError, Global};
 
@@ -77,11 +77,11 @@ pub(crate) fn edit_chunk<'a>(
             Edited::Done
         }
         ChunkRead::Row(row) => {
-            let stmt = ShallowStmt::of_row(script.alloc, &row)?;
+            let stmt = LazyStmt::of_row(script.alloc, &row)?;
             edit_statement(script, stmt, progress, text)?
         }
         ChunkRead::Statement(stmt) => {
-            edit_statement(script, ShallowStmt::new(script.alloc, stmt), progress, text)?
+            edit_statement(script, LazyStmt::new(script.alloc, stmt), progress, text)?
         }
     };
     progress.line += newlines(chunk);
@@ -110,14 +110,14 @@ fn put_passed(
 /// The script on one statement.
 fn edit_statement<'a>(
     script: Script<'a>,
-    stmt: ShallowStmt<'a>,
+    stmt: LazyStmt<'a>,
     progress: &mut Progress,
     text: &mut Vec<u8>,
 ) -> Result<Edited, AllocError>
     requires { Fits progress.old.kept script.passes.now }
     ensures fits { OnOk result (Fits progress.new.kept script.entry.passes.now) }
     ensures scripted { IfOk result
-        (IsScripted script.entry.home.now script.entry.passes.now script.entry.keep_going (shallow_view stmt.entry)
+        (IsScripted script.entry.home.now script.entry.passes.now script.entry.keep_going (lazy_view stmt.entry)
         progress.old progress.new text.old.items text.new.items) }
 {
     let rules = Rules {
@@ -144,8 +144,8 @@ fn edit_statement<'a>(
 }
 
 /// The class of the last statement that is left, where this slot is the last.
-fn last_class(last: Option<Class>, slot: &Option<ShallowStmt<'_>>) -> Option<Class>
-    ensures { result ≡ last_class last (shallow_slot slot.now ∷ []) }
+fn last_class(last: Option<Class>, slot: &Option<LazyStmt<'_>>) -> Option<Class>
+    ensures { result ≡ last_class last (lazy_slot slot.now ∷ []) }
 {
     match slot {
         None => last,
@@ -157,11 +157,11 @@ fn last_class(last: Option<Class>, slot: &Option<ShallowStmt<'_>>) -> Option<Cla
 fn put_slot(
     script: Script<'_>,
     last: Option<Class>,
-    slot: &Option<ShallowStmt<'_>>,
+    slot: &Option<LazyStmt<'_>>,
     text: &mut Vec<u8>,
 ) -> Result<(), AllocError>
     ensures { OnOk result (text.new.items ≡ text.old.items
-        ++ (if is_query script.entry.passes.now then [] else text_following last (shallow_slot slot.now ∷ []))) }
+        ++ (if is_query script.entry.passes.now then [] else text_following last (lazy_slot slot.now ∷ []))) }
 {
     let Some(stmt) = slot else {
         return Ok(());
@@ -177,11 +177,11 @@ fn put_slot(
 fn put_after(
     alloc: Global,
     last: Option<Class>,
-    stmt: &ShallowStmt<'_>,
+    stmt: &LazyStmt<'_>,
     text: &mut Vec<u8>,
 ) -> Result<(), AllocError>
     ensures { OnOk result (text.new.items ≡ text.old.items
-        ++ (gap_text (is_gap last (shallow_view stmt.now).class) ++ layout_text (shallow_view stmt.now))) }
+        ++ (gap_text (is_gap last (lazy_view stmt.now).class) ++ layout_text (lazy_view stmt.now))) }
 {
     put_gap(last, stmt.class(), text)?;
     stmt.put(alloc, text)?;

@@ -3,7 +3,7 @@
 ghost use Rattle.std.specs.Prelude.{◌≡◌, [], ◌∷◌, ◌++◌, Some, Option, IfOk, OnOk, string_bytes};
 ghost use Rattle.bz_tree.specs.Tree.{Statement};
 ghost use Rattle.bz_attribute.specs.Effects.{fails};
-ghost use Rattle.bz_rule.specs.ShallowViews.{shallow_slot};
+ghost use Rattle.bz_rule.specs.LazyViews.{lazy_slot};
 ghost use Rattle.bz_engine.specs.Meaning.{line_told, note_told, done_told, shown_slot};
 
 use crate::entry::Entry;
@@ -11,7 +11,7 @@ use crate::message;
 use bz_passes::index::Key;
 use bz_passes::language::{Facts, Language};
 use bz_passes::log::Log;
-use bz_rule::{Command, Done, Note, Package, RuleName, ShallowStmt, Target, Text, apply_shallow};
+use bz_rule::{Command, Done, Note, Package, RuleName, LazyStmt, Target, Text, apply_lazy};
 use std::alloc::{AllocError, Global};
 
 /// Targets and commands on the rules of a package, whose statements borrow from the file.
@@ -22,7 +22,7 @@ pub(crate) struct Rules<'a> {
 }
 
 impl<'a> Language for Rules<'a> {
-    type Statement = ShallowStmt<'a>;
+    type Statement = LazyStmt<'a>;
 
     type Target = Target;
 
@@ -34,7 +34,7 @@ impl<'a> Language for Rules<'a> {
 
     ghost Seen = { Statement };
 
-    ghost seen = { shallow_slot };
+    ghost seen = { lazy_slot };
 
     ghost meaning = { λ rules. meaning rules.home.now };
 
@@ -42,14 +42,14 @@ impl<'a> Language for Rules<'a> {
 
     ghost fails = { λ rules. fails_on rules.home.now };
 
-    fn marks(&self, target: &Target, slot: &Option<ShallowStmt<'a>>) -> bool {
+    fn marks(&self, target: &Target, slot: &Option<LazyStmt<'a>>) -> bool {
         match slot {
             None => false,
             Some(stmt) => stmt.is_marked_by(target),
         }
     }
 
-    fn key<'s>(&self, slot: &'s Option<ShallowStmt<'a>>) -> Key<'s> {
+    fn key<'s>(&self, slot: &'s Option<LazyStmt<'a>>) -> Key<'s> {
         let Some(stmt) = slot else {
             return Key::NoName;
         };
@@ -72,10 +72,10 @@ impl<'a> Language for Rules<'a> {
     fn apply(
         &self,
         command: &Command,
-        slot: &mut Option<ShallowStmt<'a>>,
+        slot: &mut Option<LazyStmt<'a>>,
         log: &mut Log<Entry>,
     ) -> Result<Facts, AllocError> {
-        let done = apply_shallow(self.alloc, command, self.home, slot)?;
+        let done = apply_lazy(self.alloc, command, self.home, slot)?;
         let facts = facts_of(&done);
         // Where there is a note, the slot is as the command found it.
         tell_done(self.alloc, self.home, slot, done, log)?;
@@ -107,11 +107,11 @@ fn is_failure(note: &Option<Note>) -> bool
 fn tell_done(
     alloc: Global,
     home: &Package,
-    slot: &Option<ShallowStmt<'_>>,
+    slot: &Option<LazyStmt<'_>>,
     done: Done,
     log: &mut Log<Entry>,
 ) -> Result<(), AllocError>
-    ensures { OnOk result (log.new ≡ log.old ++ done_told (shown_slot home.now (shallow_slot slot.now)) done) }
+    ensures { OnOk result (log.new ≡ log.old ++ done_told (shown_slot home.now (lazy_slot slot.now)) done) }
 {
     let Done { line, note, .. } = done;
     tell_line(line, log)?;
@@ -131,11 +131,11 @@ fn tell_line(line: Option<Text>, log: &mut Log<Entry>) -> Result<(), AllocError>
 fn tell_note(
     alloc: Global,
     home: &Package,
-    slot: &Option<ShallowStmt<'_>>,
+    slot: &Option<LazyStmt<'_>>,
     note: Option<Note>,
     log: &mut Log<Entry>,
 ) -> Result<(), AllocError>
-    ensures { OnOk result (log.new ≡ log.old ++ note_told (shown_slot home.now (shallow_slot slot.now)) note) }
+    ensures { OnOk result (log.new ≡ log.old ++ note_told (shown_slot home.now (lazy_slot slot.now)) note) }
 {
     let Some(note) = note else {
         return Ok(());
@@ -150,9 +150,9 @@ fn tell_note(
 fn shown_slot(
     alloc: Global,
     home: &Package,
-    slot: &Option<ShallowStmt<'_>>,
+    slot: &Option<LazyStmt<'_>>,
 ) -> Result<String, AllocError>
-    ensures { IfOk result (λ text. string_bytes text ≡ shown_slot home.now (shallow_slot slot.now)) }
+    ensures { IfOk result (λ text. string_bytes text ≡ shown_slot home.now (lazy_slot slot.now)) }
 {
     match slot {
         None => Ok(String::new(alloc)),

@@ -20,6 +20,7 @@ use Rattle.bz_tree.proofs.FromParts.{nodes_back, listed_back}
 use Rattle.bz_attribute.specs.Rules.{rule_of, dotted, name_of, ident_of, is_sign, value}
 use Rattle.bz_attribute.specs.Effects.{nodes_after}
 use Rattle.bz_attribute.proofs.Calls.{rule_from_end}
+use Rattle.bz_attribute.proofs.Headed.{class_called}
 use Rattle.bz_attribute.proofs.RuleNodes.{segs_back}
 use Rattle.bz_attribute.proofs.Views.{segments_of}
 use Rattle.bz_rule.specs.Shallow.{Apart, value_for, value_named, with_nodes, is_empty, filled, whole}
@@ -660,20 +661,6 @@ mutual
   called_after (group kind segs one_comma end ∷ xs) h =
       let two = and_parts (is_call_kind kind) (is_nothing xs) h in
       record { kind = []; bracket = kind; segs = segs; one_comma = one_comma; end = end; are = ap (λ (ys : List Item). group kind segs one_comma end ∷ ys) (nothing_is xs two.1); dots = refl }
-
-class_called : (nodes : List Item) → class_of nodes ≡ RuleClass → is_rule nodes ≡ true
-class_called [] h = absurd cc
-class_called (x ∷ xs) h =
-    elim (is_kept x) as (λ k. (if k then Block else (if is_load_word x then LoadClass else (if has_assign (x ∷ xs) then Assign else (if is_rule (x ∷ xs) then RuleClass else OtherClass)))) ≡ RuleClass → is_rule (x ∷ xs) ≡ true) [
-      | true ↦ λ e. absurd cc
-      | false ↦ elim (is_load_word x) as (λ k. (if k then LoadClass else (if has_assign (x ∷ xs) then Assign else (if is_rule (x ∷ xs) then RuleClass else OtherClass))) ≡ RuleClass → is_rule (x ∷ xs) ≡ true) [
-        | true ↦ λ e. absurd cc
-        | false ↦ elim (has_assign (x ∷ xs)) as (λ k. (if k then Assign else (if is_rule (x ∷ xs) then RuleClass else OtherClass)) ≡ RuleClass → is_rule (x ∷ xs) ≡ true) [
-          | true ↦ λ e. absurd cc
-          | false ↦ elim (is_rule (x ∷ xs)) as (λ k. (if k then RuleClass else OtherClass) ≡ RuleClass → k ≡ true) [ true ↦ λ e. refl | false ↦ λ e. absurd cc ]
-        ]
-      ]
-    ] h
 
 -- the walk over the parts of a rule
 record IsRun (s : Statement) (kind : List Item) (bracket : GroupKind) (args : List Segment) (one_comma : Bool) (end : List (List ℕ)) : Type 0 where

@@ -14,6 +14,7 @@ pub mod NamesKept
 pub mod PartLaws
 mod Print
 mod PutBack
+mod RowStatements
 pub mod Rebuilt
 pub mod Remove
 mod Rename

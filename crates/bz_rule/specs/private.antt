@@ -1,2 +1,3 @@
 pub mod Hollow
+pub mod NamedRows
 pub mod Woven

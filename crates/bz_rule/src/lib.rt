@@ -4,6 +4,8 @@
 mod fill;
 mod hollow;
 pub mod laws;
+pub mod lazy;
+pub mod named_row;
 pub mod shallow;
 mod slot;
 mod values;
@@ -17,5 +19,7 @@ pub use bz_command::{
     Command, CommandFault, LabelFault, Package, Target, Text, quote, read_command, read_label,
     same, value_is,
 };
+pub use lazy::{LazyStmt, apply_lazy};
+pub use named_row::NamedRow;
 pub use shallow::{ShallowStmt, apply_shallow};
 pub use slot::apply;

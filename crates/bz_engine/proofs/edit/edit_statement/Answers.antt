@@ -1,7 +1,7 @@
 use Rattle.std.proofs.Common.{◌||◌, ◌++◌, ◌∷◌, [], List, ◌∙◌, ap, subst}
 use Rattle.std.specs.Prelude.{Some}
 use Rattle.bz_tree.specs.Tree.{Statement}
-use Rattle.bz_rule.specs.ShallowViews.{shallow_view}
+use Rattle.bz_rule.specs.LazyViews.{lazy_view}
 use Rattle.bz_command.specs.Passes.{Slot}
 use Rattle.bz_passes.specs.Exchange.{IsLeftBy, some_alone}
 use Rattle.bz_engine.specs.Meaning.{meaning, changes, fails_on}
@@ -12,7 +12,7 @@ pub returns-then-not-script-clause-scripted : goal.returns-then-not-script-claus
 returns-then-not-script-clause-scripted c =
     let home = c.args.script.home.now in
     let passes = c.args.script.passes.now in
-    let s = shallow_view c.args.stmt in
+    let s = lazy_view c.args.stmt in
     let new = c.run_script.new in
     let left : (slots : List (Slot Statement)) → IsLeftBy (meaning home) (changes home) (fails_on home) passes slots c.progress.inside.kept.items c.progress.inside.changed c.progress.inside.failed
     → IsLeftBy (meaning home) (changes home) (fails_on home) passes (slots ++ Some s ∷ []) new.kept new.facts.changed new.facts.failed =

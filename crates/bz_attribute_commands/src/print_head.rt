@@ -1,0 +1,109 @@
+//! `print` of what the head of a rule tells.
+
+ghost use Rattle.std.specs.Prelude.{◌≡◌, [], ◌∷◌, IfOk, IfSome, IsTrue, Some, map, string_bytes};
+ghost use Rattle.bz_tree.specs.Tree.{Statement};
+ghost use Rattle.bz_command.specs.CommandViews.{field_view};
+ghost use Rattle.bz_attribute.specs.Heads.{IsHeadOf};
+ghost use Rattle.bz_attribute_commands.specs.Printing.{fields_of, prints};
+ghost use Rattle.bz_attribute_commands.specs.private.HeadFields.{HasTold, head_word, head_words};
+
+use crate::print::push_word;
+use bz_attribute::done::Done;
+use bz_attribute::head::Head;
+use bz_attribute::texts::push_home;
+use bz_command::{Field, Package, Text};
+use std::alloc::{AllocError, Global};
+
+/// Prints fields of the rule that has this head, as `print` does. None: the head does not tell one of them.
+pub fn print_head(
+    alloc: Global,
+    home: &Package,
+    fields: &[Field],
+    head: Head<'_>,
+) -> Result<Option<Done>, AllocError>
+    ensures { IfOk result (λ told. IfSome told (λ done. (s : Statement) → IsHeadOf head.entry s
+        → done ≡ prints home.now (map field_view fields.now) (Some s))) }
+{
+    let mut line = String::new(alloc);
+    if !push_told(alloc, &mut line, home, fields, head)? {
+        return Ok(None);
+    }
+    Ok(Some(Done {
+        changed: false,
+        line: Some(Text::from_string(line)),
+        note: None,
+    }))
+}
+
+// Writes fields, or the name and the kind where none is named. False: one is not told.
+fn push_told(
+    alloc: Global,
+    text: &mut String,
+    home: &Package,
+    fields: &[Field],
+    head: Head<'_>,
+) -> Result<bool, AllocError>
+    ensures { IfOk result (λ told. IsTrue told → HasTold (fields_of (map field_view fields.now))
+        (head_words home.now head.entry (fields_of (map field_view fields.now))) (string_bytes text.old) (string_bytes text.new)) }
+{
+    match fields {
+        [] => {
+            push_word(alloc, text, head.name)?;
+            text.push(' ')?;
+            text.push_str(head.kind)?;
+            Ok(true)
+        }
+        _ => push_fields(alloc, text, home, fields, head),
+    }
+}
+
+// Writes fields with a space between them. False: one is not told.
+fn push_fields(
+    alloc: Global,
+    text: &mut String,
+    home: &Package,
+    fields: &[Field],
+    head: Head<'_>,
+) -> Result<bool, AllocError>
+    ensures { IfOk result (λ told. IsTrue told → HasTold (map field_view fields.now)
+        (head_words home.now head.entry (map field_view fields.now)) (string_bytes text.old) (string_bytes text.new)) }
+{
+    let mut space = "";
+    for field in fields {
+        text.push_str(space)?;
+        if !push_field(alloc, text, home, head, field)? {
+            return Ok(false);
+        }
+        space = " ";
+    }
+    Ok(true)
+}
+
+// Writes a field. False: it is not told.
+fn push_field(
+    alloc: Global,
+    text: &mut String,
+    home: &Package,
+    head: Head<'_>,
+    field: &Field,
+) -> Result<bool, AllocError>
+    ensures { IfOk result (λ told. IsTrue told → HasTold (field_view field.now ∷ [])
+        (head_word home.now head.entry (field_view field.now)) (string_bytes text.old) (string_bytes text.new)) }
+{
+    match field {
+        Field::Label => {
+            push_home(text, home)?;
+            text.push_str(head.name)?;
+        }
+        Field::Kind => text.push_str(head.kind)?,
+        Field::StartLine => write!(text, "{}", head.start)?,
+        Field::EndLine => write!(text, "{}", head.end)?,
+        Field::ValueOf(attr) => {
+            if attr.as_str() != "name" {
+                return Ok(false);
+            }
+            push_word(alloc, text, head.name)?;
+        }
+    }
+    Ok(true)
+}

@@ -1,0 +1,8 @@
+use Rattle.std.proofs.Common.{◌∙◌, ap}
+use Rattle.bz_rule.specs.RowViews.{row_value, row_statement}
+use Rattle.bz_rule.proofs.named_row.NamedRow.read.Goals as goal
+
+pub returns : goal.returns
+returns c =
+    c.in_ok-read.ensures (row_statement (row_value c.self.inside.row.now)) c.self.invariant.class c.self.invariant.is
+    ∙ ap row_statement c.self.view_is
