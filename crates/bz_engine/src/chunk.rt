@@ -12,7 +12,6 @@ use crate::report::SyntaxFault;
 use crate::row::is_passed_by;
 use bz_token::{LexFault, Token, check_utf8, tokens};
 use bz_tree::{ParseFault, Row, Stmt, parse_tokens, read_row, row_of_text};
-use memchr::memchr;
 use std::alloc::AllocError;
 
 /// What a chunk is read as.
@@ -109,9 +108,26 @@ pub(crate) fn newlines(bytes: &[u8]) -> u64
 {
     let mut count = 0;
     let mut rest = bytes;
-    while let Some(at) = memchr(b'\n', rest) {
-        count += 1;
-        rest = &rest[at + 1..];
+    while rest.len() > MOST_AT_ONCE {
+        count += u64::from(few_newlines(&rest[..MOST_AT_ONCE]));
+        rest = &rest[MOST_AT_ONCE..];
+    }
+    count + u64::from(few_newlines(rest))
+}
+
+// A byte counts as many.
+const MOST_AT_ONCE: usize = 255;
+
+// Counted in a byte, so that the compiler counts several bytes at once.
+fn few_newlines(bytes: &[u8]) -> u8
+    requires { length bytes.now ≤ 255 }
+    ensures { result ≡ count_by (λ b. b == 10) bytes.now }
+{
+    let mut count: u8 = 0;
+    for b in bytes {
+        if *b == b'\n' {
+            count += 1;
+        }
     }
     count
 }

@@ -1,25 +1,25 @@
-use Rattle.std.proofs.Common.{◌≡◌, ◌+◌, ◌-◌, ◌==◌, take, drop, length, arith, rules, ap}
+use Rattle.std.proofs.Common.{◌≡◌, ◌<◌, ℕ, List, ◌+◌, ◌-◌, ◌≤◌, ◌==◌, take, drop, length, arith, rules, ap, sym, cond}
 use Rattle.std.specs.Prelude.{count_by}
-use Rattle.std.proofs.lemmas.List.{take_rest}
-use Rattle.bz_devices.proofs.ChunkLines.{newline_counted, none_counted}
+use Rattle.std.proofs.lemmas.List.{take_rest, length-take-le, length-drop}
+use Rattle.std.proofs.lemmas.List.Sums.{sum_by-take-drop, count_by-le-length}
 use Rattle.bz_engine.proofs.chunk.newlines.Goals as goal
 
-pub overflow_add-rest : goal.overflow_add-rest
-overflow_add-rest c =
-    let high = c.in-Some.ensures.0.high in
-    let shorter = c.loop-at.invariant.shorter in
-    search (arith, rules)
+whole : (rest : List ℕ) → 255 < length rest → length (take 255 rest) ≡ 255
+whole rest h = length-take-le 255 rest (omega (arith, h))
 
-pub loop-at-preserved : goal.loop-at-preserved
-loop-at-preserved c =
-    let rest = c.loop-at.rest.now in
-    let n = c.in-Some.at in
-    let left : take (length rest - (n + 1)) (drop (n + 1) rest) ≡ drop (n + 1) rest = take_rest rest (n + 1) in
-    let counted = newline_counted rest n c.in-Some.ensures in
+pub slice_bounds-few_newlines-end : goal.slice_bounds-few_newlines-end
+slice_bounds-few_newlines-end c = sym (whole c.loop-rest.rest.now c.loop-rest-test.true)
+
+pub few_newlines-requires : goal.few_newlines-requires
+few_newlines-requires c = omega (arith, whole c.loop-rest.rest.now c.loop-rest-test.true)
+
+pub loop-rest-preserved : goal.loop-rest-preserved
+loop-rest-preserved c =
+    let rest = c.loop-rest.rest.now in
+    let left : take (length rest - 255) (drop 255 rest) ≡ drop 255 rest = take_rest rest 255 in
+    let both : count_by (λ (b : ℕ). b == 10) (take 255 rest) + count_by (λ (b : ℕ). b == 10) (drop 255 rest) ≡ count_by (λ (b : ℕ). b == 10) rest = sum_by-take-drop (λ (b : ℕ). cond (b == 10) 1 0) rest 255 in
+    let few = count_by-le-length (λ (b : ℕ). b == 10) (take 255 rest) in
     record {
-      counted = omega (arith, ap (count_by (λ b. b == 10)) left, counted, c.loop-at.invariant.counted);
-      shorter = omega (arith, c.loop-at.invariant.shorter);
+      counted = omega (arith, ap (count_by (λ b. b == 10)) left, both, c.from-count.ensures, c.few_newlines.ensures, c.loop-rest.invariant.counted);
+      shorter = omega (arith, ap length left, length-drop 255 rest, few, whole rest c.loop-rest-test.true, c.loop-rest-test.true, c.from-count.ensures, c.few_newlines.ensures, c.loop-rest.invariant.shorter);
     }
-
-pub returns : goal.returns
-returns c = omega (arith, c.loop-at.invariant.counted, none_counted c.loop-at.rest.now c.in_default.ensures)

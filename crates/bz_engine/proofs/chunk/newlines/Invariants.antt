@@ -2,11 +2,11 @@ use Rattle.std.proofs.Common.{◌≡◌, ◌+◌, ◌≤◌, ◌==◌, length}
 use Rattle.std.specs.Prelude.{count_by}
 use Rattle.bz_engine.proofs.chunk.newlines.Given as goal
 
-abbrev pub invariant-loop-at : goal.invariant-loop-at
-invariant-loop-at l = record {
+abbrev pub invariant-loop-rest : goal.invariant-loop-rest
+invariant-loop-rest l = record {
   counted : l.count + count_by (λ b. b == 10) l.rest ≡ count_by (λ b. b == 10) l.bytes;
-  shorter : length l.rest ≤ length l.bytes;
+  shorter : l.count + length l.rest ≤ length l.bytes;
 }
 
-abbrev pub decreases-loop-at : goal.decreases-loop-at
-decreases-loop-at l = length l.rest
+abbrev pub decreases-loop-rest : goal.decreases-loop-rest
+decreases-loop-rest l = length l.rest
