@@ -4,7 +4,7 @@ use Rattle.std.specs.Prelude.{codes}
 use Rattle.std.proofs.lemmas.Bool.{false≢true, and_parts}
 use Rattle.std.proofs.lemmas.Slice.Eq.{bytes_eq-Decides}
 use Rattle.bz_token.specs.declared.token.Kind.{Kind}
-use Rattle.bz_token.specs.declared.token.Kind.TheVariants.{Ident, Text, Sign}
+use Rattle.bz_token.specs.declared.token.Kind.TheVariants.{Identifier, String, Operator}
 use Rattle.bz_tree.specs.declared.stmt.GroupKind.TheVariants.{RuleCall}
 use Rattle.bz_tree.specs.declared.stmt.Class.TheVariants.{Rule as RuleClass, Block, Load as LoadClass, Assign, Other as OtherClass}
 use Rattle.bz_tree.specs.Tree.{Item, leaf, group, Items, no_items, item, Segs, no_segs, seg, Segment, Statement, items_of, list_of, segments}
@@ -58,17 +58,17 @@ no_more (item (leaf k t) xs) after ps h = absurd cc
 no_more (item (group k segs one_comma end) xs) after ps h = absurd cc
 
 abbrev name_parts : List ℕ → List RowPart → List RowPart
-name_parts literal after = a_token Ident (codes "name") ∷ a_token Sign (codes "=") ∷ a_token Text literal ∷ segment_end ∷ after
+name_parts literal after = a_token Identifier (codes "name") ∷ a_token Operator (codes "=") ∷ a_token String literal ∷ segment_end ∷ after
 
 abbrev name_items : List ℕ → Items
-name_items literal = item (leaf Ident (codes "name")) (item (leaf Sign (codes "=")) (item (leaf Text literal) no_items))
+name_items literal = item (leaf Identifier (codes "name")) (item (leaf Operator (codes "=")) (item (leaf String literal) no_items))
 
 nodes_are : (xs : Items) (after rest : List RowPart) (literal : List ℕ) → items_parts xs ++ segment_end ∷ after ≡ name_parts literal rest → xs ≡ name_items literal
 nodes_are xs after rest literal h =
-    let a = one_more xs after _ Ident (codes "name") h in
-    let b = one_more a.rest after _ Sign (codes "=") a.parts in
-    let c = one_more b.rest after _ Text literal b.parts in
-    a.are ∙ ap (λ (ys : Items). item (leaf Ident (codes "name")) ys) (b.are ∙ ap (λ (ys : Items). item (leaf Sign (codes "=")) ys) (c.are ∙ ap (λ (ys : Items). item (leaf Text literal) ys) (no_more c.rest after rest c.parts)))
+    let a = one_more xs after _ Identifier (codes "name") h in
+    let b = one_more a.rest after _ Operator (codes "=") a.parts in
+    let c = one_more b.rest after _ String literal b.parts in
+    a.are ∙ ap (λ (ys : Items). item (leaf Identifier (codes "name")) ys) (b.are ∙ ap (λ (ys : Items). item (leaf Operator (codes "=")) ys) (c.are ∙ ap (λ (ys : Items). item (leaf String literal) ys) (no_more c.rest after rest c.parts)))
 
 -- the first argument is the name
 record IsNamedFirst (segs : Segs) (literal : List ℕ) : Type 0 where
@@ -108,11 +108,11 @@ pub record IsNamedRule (kind name : List ℕ) (s : Statement) : Type 0 where
   pub name_is : string_value (value first) ≡ Some name
 
 abbrev head_parts : List ℕ → List ℕ → List RowPart → List RowPart
-head_parts kind literal after = a_token Ident kind ∷ opening RuleCall ∷ name_parts literal after
+head_parts kind literal after = a_token Identifier kind ∷ opening RuleCall ∷ name_parts literal after
 
 -- what stands after the identifier
 called : (s : Statement) (text : List ℕ) (nodes : List Item) (ends : List RowPart) (kind literal name : List ℕ) (after : List RowPart)
-    → s.nodes ≡ leaf Ident text ∷ nodes → is_rule_after nodes ≡ true → text ≡ kind
+    → s.nodes ≡ leaf Identifier text ∷ nodes → is_rule_after nodes ≡ true → text ≡ kind
     → items_parts (items_of nodes) ++ ends ≡ opening RuleCall ∷ name_parts literal after → value_of literal ≡ Some name → IsNamedRule kind name s
 called s text [] ends kind literal name after are is same h value_is = absurd (false≢true is)
 called s text (leaf k t ∷ nodes) ends kind literal name after are is same h value_is = absurd cc
@@ -125,8 +125,8 @@ called s text (group k segs one_comma end ∷ nodes) ends kind literal name afte
     let first = named_first segs end one_comma (items_parts (items_of nodes) ++ ends) after literal
     (sym (append_assoc (segs_parts segs ++ closed) (items_parts (items_of nodes)) ends ∙ append_assoc (segs_parts segs) closed (items_parts (items_of nodes) ++ ends)) ∙ parts) in
     record {
-      rule = record { kind = leaf Ident text ∷ []; args = segments segs; one_comma = one_comma; end = end };
-      is = ap rule_of (are ∙ (λ i. leaf Ident text ∷ group (call i) segs one_comma end ∷ none i));
+      rule = record { kind = leaf Identifier text ∷ []; args = segments segs; one_comma = one_comma; end = end };
+      is = ap rule_of (are ∙ (λ i. leaf Identifier text ∷ group (call i) segs one_comma end ∷ none i));
       kind_is = append-nil text ∙ same;
       first = first.first;
       named = first.named;
@@ -138,7 +138,7 @@ begun : (s : Statement) (nodes : List Item) (ends : List RowPart) (kind literal 
     → after_comments (items_parts (items_of nodes) ++ ends) ≡ head_parts kind literal after → value_of literal ≡ Some name → IsNamedRule kind name s
 begun s [] ends kind literal name after are is h value_is = absurd (false≢true is)
 begun s (group k segs one_comma end ∷ nodes) ends kind literal name after are is h value_is = absurd (false≢true is)
-begun s (leaf Ident text ∷ nodes) ends kind literal name after are is h value_is =
+begun s (leaf Identifier text ∷ nodes) ends kind literal name after are is h value_is =
     let same : text ≡ kind = cc in
     let parts : items_parts (items_of nodes) ++ ends ≡ opening RuleCall ∷ name_parts literal after = cc in
     called s text nodes ends kind literal name after are is same parts value_is
@@ -149,13 +149,13 @@ record IsNameFirst (ps : List RowPart) (literal : List ℕ) : Type 0 where
   after : List RowPart
   are : ps ≡ name_parts literal after
 
-name_at : (p : RowPart) → is_text (codes "name") (row.ident_of p) ≡ true → p ≡ a_token Ident (codes "name")
-name_at (a_token Ident text) h = ap (a_token Ident) (sym (same_bytes (codes "name") text h))
+name_at : (p : RowPart) → is_text (codes "name") (row.ident_of p) ≡ true → p ≡ a_token Identifier (codes "name")
+name_at (a_token Identifier text) h = ap (a_token Identifier) (sym (same_bytes (codes "name") text h))
 name_at (a_token _ text) h = absurd (false≢true h)
 name_at _ h = absurd (false≢true h)
 
-sign_at : (p : RowPart) → row.is_sign (codes "=") p ≡ true → p ≡ a_token Sign (codes "=")
-sign_at (a_token Sign text) h = ap (a_token Sign) (same_bytes text (codes "=") h)
+sign_at : (p : RowPart) → row.is_sign (codes "=") p ≡ true → p ≡ a_token Operator (codes "=")
+sign_at (a_token Operator text) h = ap (a_token Operator) (same_bytes text (codes "=") h)
 sign_at (a_token _ text) h = absurd (false≢true h)
 sign_at _ h = absurd (false≢true h)
 
@@ -163,13 +163,13 @@ end_at : (p : RowPart) → row.is_end p ≡ true → p ≡ segment_end
 end_at segment_end h = refl
 end_at _ h = absurd (false≢true h)
 
-literal_at : (p : RowPart) (literal : List ℕ) → row.text_of p ≡ Some literal → p ≡ a_token Text literal
-literal_at (a_token Text text) literal h = let is : text ≡ literal = cc in ap (a_token Text) is
+literal_at : (p : RowPart) (literal : List ℕ) → row.text_of p ≡ Some literal → p ≡ a_token String literal
+literal_at (a_token String text) literal h = let is : text ≡ literal = cc in ap (a_token String) is
 literal_at (a_token _ text) literal h = absurd cc
 literal_at _ literal h = absurd cc
 
-ident_at : (p : RowPart) (text : List ℕ) → row.ident_of p ≡ Some text → p ≡ a_token Ident text
-ident_at (a_token Ident other) text h = let is : other ≡ text = cc in ap (a_token Ident) is
+ident_at : (p : RowPart) (text : List ℕ) → row.ident_of p ≡ Some text → p ≡ a_token Identifier text
+ident_at (a_token Identifier other) text h = let is : other ≡ text = cc in ap (a_token Identifier) is
 ident_at (a_token _ other) text h = absurd cc
 ident_at _ text h = absurd cc
 

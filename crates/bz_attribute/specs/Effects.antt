@@ -1,7 +1,7 @@
 -- What each command does to the arguments of a rule (buildozer README, edit commands; the failures are this project's own rule).
 use Rattle.std.specs.Prelude.{ℕ, List, [], ◌∷◌, ◌++◌, Bool, true, false, ◌&&◌, ◌||◌, not, if◌then◌else◌, Option, Some, None, map, is_some, filter, codes}
 use Rattle.std.specs.List.{list_any, flat_map}
-use Rattle.bz_token.specs.declared.token.Kind.TheVariants.{Ident, Sign, Text}
+use Rattle.bz_token.specs.declared.token.Kind.TheVariants.{Identifier, Operator, String}
 use Rattle.bz_tree.specs.declared.stmt.GroupKind.TheVariants.{RuleCall, List as ListKind}
 use Rattle.bz_tree.specs.Tree.{Item, leaf, group, Segment, Statement, segs_of}
 use Rattle.bz_command.specs.Labels.{Package}
@@ -94,7 +94,7 @@ chooses_anywhere home chosen args = list_any (λ a. is_attribute a && chooses ho
 
 -- the literal of a new string
 abbrev pub string_item : List ℕ → Item
-string_item v = leaf Text (quoted v)
+string_item v = leaf String (quoted v)
 
 -- a new element
 abbrev pub string : List ℕ → Segment
@@ -105,7 +105,7 @@ list_item ss = group ListKind (segs_of ss) false []
 
 -- a new argument
 abbrev pub argument : List ℕ → List Item → Segment
-argument attr nodes = record { before = []; nodes = leaf Ident attr ∷ leaf Sign (codes "=") ∷ nodes; suffix = None }
+argument attr nodes = record { before = []; nodes = leaf Identifier attr ∷ leaf Operator (codes "=") ∷ nodes; suffix = None }
 
 abbrev pub no_parts : List (List Segment) → Bool
 no_parts [] = true
@@ -149,7 +149,7 @@ rename_note old new args = if has old args then (if has new args then Some (Attr
 
 abbrev pub renamed : List ℕ → List Item → List Item
 renamed name [] = []
-renamed name (x ∷ xs) = leaf Ident name ∷ xs
+renamed name (x ∷ xs) = leaf Identifier name ∷ xs
 
 abbrev pub rename_to : List ℕ → Segment → Segment
 rename_to name a = record a { nodes = renamed name a.nodes }

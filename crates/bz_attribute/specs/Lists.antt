@@ -1,7 +1,7 @@
 -- The list parts of a value, and which elements equal a word (this project's own rule).
 use Rattle.std.specs.Prelude.{ℕ, List, [], ◌∷◌, ◌++◌, Bool, true, false, ◌&&◌, ◌||◌, not, if◌then◌else◌, Option, Some, None, codes, filter, take, is_some, bytes_eq}
 use Rattle.std.specs.List.{list_any, list_all}
-use Rattle.bz_token.specs.declared.token.Kind.TheVariants.{Word, Sign}
+use Rattle.bz_token.specs.declared.token.Kind.TheVariants.{Keyword, Operator}
 use Rattle.bz_tree.specs.declared.stmt.GroupKind.TheVariants.{List as ListKind}
 use Rattle.bz_tree.specs.Tree.{Item, leaf, group, Segment, segs_of, segments}
 use Rattle.bz_command.specs.Labels.{Package}
@@ -30,8 +30,8 @@ without home words ss = filter (λ s. not (equals_any home words s)) ss
 -- A value has list parts where all that stands in it at depth 0 is operands, plus signs and dots. It is split at each
 -- plus sign, and a piece that is one list is a part.
 abbrev pub is_joint : Item → Bool
-is_joint (leaf Word text) = false
-is_joint (leaf Sign text) = bytes_eq text (codes "+") || bytes_eq text (codes ".")
+is_joint (leaf Keyword text) = false
+is_joint (leaf Operator text) = bytes_eq text (codes "+") || bytes_eq text (codes ".")
 is_joint _ = true
 
 abbrev pub is_plus : Item → Bool

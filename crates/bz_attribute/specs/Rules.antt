@@ -2,18 +2,18 @@
 -- attributes are the keyword arguments.
 use Rattle.std.specs.Prelude.{ℕ, List, [], ◌∷◌, ◌++◌, Bool, true, false, ◌&&◌, if◌then◌else◌, Option, Some, None, codes, drop, bytes_eq}
 use Rattle.std.specs.List.{flat_map}
-use Rattle.bz_token.specs.declared.token.Kind.TheVariants.{Ident, Text, Sign}
+use Rattle.bz_token.specs.declared.token.Kind.TheVariants.{Identifier, String, Operator}
 use Rattle.bz_tree.specs.declared.stmt.GroupKind.TheVariants.{RuleCall}
 use Rattle.bz_tree.specs.Tree.{Item, leaf, group, Segment, segments}
 use Rattle.bz_command.specs.Values.{value_of}
 
 abbrev pub is_sign : List ℕ → Item → Bool
-is_sign sign (leaf Sign text) = bytes_eq text sign
+is_sign sign (leaf Operator text) = bytes_eq text sign
 is_sign sign _ = false
 
 -- the text of an identifier
 abbrev pub ident_of : Item → Option (List ℕ)
-ident_of (leaf Ident text) = Some text
+ident_of (leaf Identifier text) = Some text
 ident_of _ = None
 
 abbrev pub is_text : List ℕ → Option (List ℕ) → Bool
@@ -34,7 +34,7 @@ abbrev pub value : Segment → List Item
 value s = drop 2 s.nodes
 
 abbrev pub text_of : Item → Option (List ℕ)
-text_of (leaf Text text) = Some text
+text_of (leaf String text) = Some text
 text_of _ = None
 
 -- the text of what is one string token
@@ -62,7 +62,7 @@ pub record Rule : Type 0 where
 abbrev pub dotted : Bool → List Item → Bool
 dotted true [] = false
 dotted false [] = true
-dotted true (leaf Ident text ∷ xs) = dotted false xs
+dotted true (leaf Identifier text ∷ xs) = dotted false xs
 dotted true (x ∷ xs) = false
 dotted false (x ∷ xs) = is_sign (codes ".") x && dotted true xs
 

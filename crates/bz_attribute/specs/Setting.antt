@@ -1,7 +1,7 @@
 -- What `set` and `set_if_absent` do (buildozer README, edit commands; what a word stands for is this project's own rule).
 use Rattle.std.specs.Prelude.{ℕ, ◌==◌, List, [], ◌∷◌, ◌++◌, Bool, true, false, ◌&&◌, ◌||◌, not, if◌then◌else◌, Option, Some, None, map, codes, nat_le, bytes_eq}
 use Rattle.std.specs.List.{list_any, list_all, slice_split}
-use Rattle.bz_token.specs.declared.token.Kind.TheVariants.{Ident, Int, Sign}
+use Rattle.bz_token.specs.declared.token.Kind.TheVariants.{Identifier, Integer, Operator}
 use Rattle.bz_tree.specs.Tree.{Item, leaf, Segment, Statement}
 use Rattle.bz_attribute.specs.Rules.{Rule, rule_of, kind_text, is_named, is_text, first_named, value, string_value, elements}
 use Rattle.bz_attribute.specs.Lists.{is_list, with_value}
@@ -68,8 +68,8 @@ new_of attr (word ∷ other ∷ words) was = NewStrings (word ∷ other ∷ word
 -- the nodes that are written
 abbrev pub new_value : New → List Item
 new_value (NewString word) = string_item word ∷ []
-new_value (NewNumber digits) = leaf Int digits ∷ []
-new_value (NewConstant name) = leaf Ident name ∷ []
+new_value (NewNumber digits) = leaf Integer digits ∷ []
+new_value (NewConstant name) = leaf Identifier name ∷ []
 new_value (NewStrings words) = list_item (map string words) ∷ []
 
 abbrev pub is_string : List ℕ → Segment → Bool
@@ -83,11 +83,11 @@ are_strings (word ∷ words) [] = false
 are_strings (word ∷ words) (s ∷ ss) = is_string word s && are_strings words ss
 
 abbrev pub is_int : List ℕ → Item → Bool
-is_int digits (leaf Int text) = bytes_eq text digits
+is_int digits (leaf Integer text) = bytes_eq text digits
 is_int digits _ = false
 
 abbrev pub is_ident : List ℕ → Item → Bool
-is_ident name (leaf Ident text) = bytes_eq text name
+is_ident name (leaf Identifier text) = bytes_eq text name
 is_ident name _ = false
 
 abbrev pub is_only : (Item → Bool) → List Item → Bool
@@ -121,10 +121,10 @@ abbrev pub set_if_absent : List ℕ → List (List ℕ) → List Segment → Lis
 set_if_absent attr words args = if has attr args then args else args ++ argument attr (new_value (new_of attr words None)) ∷ []
 
 abbrev pub ident_item : List ℕ → Item
-ident_item name = leaf Ident name
+ident_item name = leaf Identifier name
 
 abbrev pub dot_item : Item
-dot_item = leaf Sign (codes ".")
+dot_item = leaf Operator (codes ".")
 
 abbrev pub joined_by_dots : List (List ℕ) → List Item
 joined_by_dots [] = []

@@ -122,7 +122,7 @@ fn ident_of<'a>(part: &Part<'a>) -> Option<&'a str>
     ensures { option_map (λ text. text.now) result ≡ spec.ident_of (part_view part.now) }
 {
     match part {
-        Part::Token(Kind::Ident, text) => Some(*text),
+        Part::Token(Kind::Identifier, text) => Some(*text),
         _ => None,
     }
 }
@@ -131,7 +131,7 @@ fn is_name(part: &Part<'_>) -> bool
     ensures { result ≡ is_text (codes "name") (spec.ident_of (part_view part.now)) }
 {
     match part {
-        Part::Token(Kind::Ident, text) => *text == "name",
+        Part::Token(Kind::Identifier, text) => *text == "name",
         _ => false,
     }
 }
@@ -140,7 +140,7 @@ fn is_equals(part: &Part<'_>) -> bool
     ensures { result ≡ spec.is_sign (codes "=") (part_view part.now) }
 {
     match part {
-        Part::Token(Kind::Sign, text) => *text == "=",
+        Part::Token(Kind::Operator, text) => *text == "=",
         _ => false,
     }
 }
@@ -156,7 +156,7 @@ fn text_of<'a>(part: &Part<'a>) -> Option<&'a str>
     ensures { option_map (λ text. text.now) result ≡ spec.text_of (part_view part.now) }
 {
     match part {
-        Part::Token(Kind::Text, text) => Some(*text),
+        Part::Token(Kind::String, text) => Some(*text),
         _ => None,
     }
 }

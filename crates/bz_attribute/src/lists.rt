@@ -23,8 +23,8 @@ fn is_joint(node: &Node<'_>) -> bool
 {
     match node {
         Node::Token(leaf) => match leaf.kind {
-            Kind::Word => false,
-            Kind::Sign => matches!(leaf.text.as_str(), "+" | "."),
+            Kind::Keyword => false,
+            Kind::Operator => matches!(leaf.text.as_str(), "+" | "."),
             _ => true,
         },
         Node::Group(_) => true,

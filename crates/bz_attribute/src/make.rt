@@ -31,7 +31,7 @@ fn leaf<'a>(kind: Kind, text: String) -> Node<'a>
 pub fn literal<'a>(alloc: Global, value: &str) -> Result<Node<'a>, AllocError>
     ensures { IfOk result (λ node. node_view node ≡ spec.string_item value.now) }
 {
-    Ok(leaf(Kind::Text, quote(alloc, value)?))
+    Ok(leaf(Kind::String, quote(alloc, value)?))
 }
 
 /// An element that is a new string.
@@ -79,7 +79,7 @@ pub fn list<'a>(alloc: Global, elements: Vec<Seg<'a>>) -> Node<'a>
 pub fn argument<'a>(alloc: Global, attr: &str, value: Node<'a>) -> Result<Seg<'a>, AllocError>
     ensures { IfOk result (λ seg. seg_view seg ≡ spec.argument attr.now (node_view value.entry ∷ [])) }
 {
-    let name = token(alloc, Kind::Ident, attr)?;
-    let nodes = vec![in alloc; name, token(alloc, Kind::Sign, "=")?, value]?;
+    let name = token(alloc, Kind::Identifier, attr)?;
+    let nodes = vec![in alloc; name, token(alloc, Kind::Operator, "=")?, value]?;
     Ok(segment(alloc, nodes))
 }

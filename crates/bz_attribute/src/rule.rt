@@ -58,14 +58,14 @@ fn are_dotted(kind: &[Node<'_>]) -> bool
 pub fn is_sign(node: &Node<'_>, sign: &str) -> bool
     ensures { result ≡ spec.is_sign sign.now (node_view node.now) }
 {
-    matches!(node, Node::Token(leaf) if matches!(leaf.kind, Kind::Sign) && leaf.text.as_str() == sign)
+    matches!(node, Node::Token(leaf) if matches!(leaf.kind, Kind::Operator) && leaf.text.as_str() == sign)
 }
 
 pub fn ident_of<'n>(node: &'n Node<'_>) -> Option<&'n str>
     ensures { option_map (λ text. text.now) result ≡ spec.ident_of (node_view node.now) }
 {
     match node {
-        Node::Token(leaf) if matches!(leaf.kind, Kind::Ident) => Some(leaf.text.as_str()),
+        Node::Token(leaf) if matches!(leaf.kind, Kind::Identifier) => Some(leaf.text.as_str()),
         _ => None,
     }
 }
@@ -120,7 +120,7 @@ pub fn only_text<'n>(nodes: &'n [Node<'_>]) -> Option<&'n str>
         return None;
     };
     match node {
-        Node::Token(leaf) if matches!(leaf.kind, Kind::Text) => Some(leaf.text.as_str()),
+        Node::Token(leaf) if matches!(leaf.kind, Kind::String) => Some(leaf.text.as_str()),
         _ => None,
     }
 }

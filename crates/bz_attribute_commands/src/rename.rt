@@ -29,7 +29,7 @@ pub fn rename<'a>(
     if find(args, new).is_some() {
         return Ok(Done::failure(Note::AttributeExists(Text::from_str(alloc, new)?)));
     }
-    let name = token(alloc, Kind::Ident, new)?;
+    let name = token(alloc, Kind::Identifier, new)?;
     args[i].nodes[0] = name;
     Ok(Done::quiet(true))
 }

@@ -156,8 +156,8 @@ fn new_node<'a>(alloc: Global, new: New<'_>) -> Result<Node<'a>, AllocError>
 {
     match new {
         New::String(word) => literal(alloc, word),
-        New::Number(digits) => token(alloc, Kind::Int, digits),
-        New::Constant(name) => token(alloc, Kind::Ident, name),
+        New::Number(digits) => token(alloc, Kind::Integer, digits),
+        New::Constant(name) => token(alloc, Kind::Identifier, name),
         New::Strings(words) => Ok(list(alloc, strings(alloc, words)?)),
     }
 }
@@ -177,7 +177,7 @@ fn is_value(new: New<'_>, value: &[Node<'_>]) -> bool
 fn is_int(digits: &str, node: &Node<'_>) -> bool
     ensures { result ≡ spec.is_int digits.now (node_view node.now) }
 {
-    matches!(node, Node::Token(leaf) if leaf.kind == Kind::Int && leaf.text.as_str() == digits)
+    matches!(node, Node::Token(leaf) if leaf.kind == Kind::Integer && leaf.text.as_str() == digits)
 }
 
 // Strings with these values, one for each word.

@@ -59,10 +59,10 @@ fn kind_nodes<'a>(alloc: Global, mut kind: &str) -> Result<Vec<Node<'a>>, AllocE
 {
     let mut nodes = Vec::new(alloc);
     while let Some((name, rest)) = cut(kind, '.') {
-        nodes.push(token(alloc, Kind::Ident, name)?)?;
-        nodes.push(token(alloc, Kind::Sign, ".")?)?;
+        nodes.push(token(alloc, Kind::Identifier, name)?)?;
+        nodes.push(token(alloc, Kind::Operator, ".")?)?;
         kind = rest;
     }
-    nodes.push(token(alloc, Kind::Ident, kind)?)?;
+    nodes.push(token(alloc, Kind::Identifier, kind)?)?;
     Ok(nodes)
 }

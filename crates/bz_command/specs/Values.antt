@@ -2,7 +2,7 @@
 use Rattle.std.specs.Prelude.{ℕ, nat_eq, ◌==◌, List, [], ◌∷◌, ◌++◌, Bool, true, false, ◌&&◌, ◌||◌, if◌then◌else◌, Option, Some, None, option_map, is_some, codes, length, drop, bytes_eq}
 use Rattle.std.specs.List.{before_first, starts_with, list_any, flat_map}
 use Rattle.bz_token.specs.declared.token.Kind.{Kind}
-use Rattle.bz_token.specs.declared.token.Kind.TheVariants.{Text}
+use Rattle.bz_token.specs.declared.token.Kind.TheVariants.{String}
 use Rattle.bz_token.specs.declared.token.Token.{Token}
 
 -- A list in groups: an element joins the group before it where the test holds of both.
@@ -92,7 +92,7 @@ value_of text =
 
 -- the value of a token: only a string has one
 abbrev pub value_at : Kind → List ℕ → Option (List ℕ)
-value_at Text text = value_of text
+value_at String text = value_of text
 value_at _ text = None
 
 abbrev pub token_value : Token → Option (List ℕ)

@@ -15,7 +15,7 @@ use std::alloc::{AllocError, Global};
 pub fn value_is(token: &Token<'_>, value: &str) -> bool
     ensures { IsTrue result ↔ (spec.token_value token.now ≡ Some value.now) }
 {
-    matches!(token.kind, Kind::Text) && has_value(token.text.as_bytes(), value.as_bytes())
+    matches!(token.kind, Kind::String) && has_value(token.text.as_bytes(), value.as_bytes())
 }
 
 /// The string literal that is written for a value, in double quotes. Its value is the value again.

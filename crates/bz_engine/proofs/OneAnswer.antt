@@ -6,7 +6,7 @@ use Rattle.std.proofs.lemmas.Bool.{false≢true}
 use Rattle.std.proofs.lemmas.Option.{none-some}
 use Rattle.std.proofs.lemmas.Str.{utf8_valid_len-IsValidUpTo}
 use Rattle.bz_token.specs.declared.token.Kind.{Kind}
-use Rattle.bz_token.specs.declared.token.Kind.TheVariants.{Line, Sign}
+use Rattle.bz_token.specs.declared.token.Kind.TheVariants.{Newline, Operator}
 use Rattle.bz_token.specs.declared.fault.LexFault.{LexFault}
 use Rattle.bz_token.specs.declared.fault.LexFault.TheVariants as lex
 use Rattle.bz_token.specs.Places.{Placed}
@@ -43,8 +43,8 @@ sign_no_line : (t : List ℕ) → is_line (sign_mark t) ≡ false
 sign_no_line t = not_line (bytes_eq t (codes "(")) (bytes_eq t (codes "[")) (bytes_eq t (codes "{")) (bytes_eq t (codes ")")) (bytes_eq t (codes "]")) (bytes_eq t (codes "}")) (bytes_eq t (codes ","))
 
 line_aside : (kind : Kind) (t : List ℕ) → is_line (kind_mark kind t) ≡ true → is_aside kind ≡ true
-line_aside Line t is = refl
-line_aside Sign t is = absurd (false≢true (sym (sign_no_line t) ∙ is))
+line_aside Newline t is = refl
+line_aside Operator t is = absurd (false≢true (sym (sign_no_line t) ∙ is))
 line_aside _ t is = absurd (false≢true is)
 
 -- tokens of which none is seen are newlines

@@ -1,19 +1,17 @@
 -- What is known of the name of a row's statement.
-use Rattle.std.proofs.Common.{◌≡◌, ℕ, Bool, true, false, ◌&&◌, List, [], ◌∷◌, ◌++◌, map, refl, sym, ◌∙◌, ap, append_assoc, append-nil, bytes_eq, is_none, rules, Bor}
-use Rattle.std.specs.Prelude.{Option, None, Some, IfSome, codes, if◌then◌else◌, drop}
+use Rattle.std.proofs.Common.{◌≡◌, ℕ, Bool, true, false, ◌&&◌, List, [], ◌∷◌, ◌++◌, refl, sym, ◌∙◌, ap, bytes_eq, is_none, rules}
+use Rattle.std.specs.Prelude.{Option, None, Some, IfSome, codes, if◌then◌else◌}
 use Rattle.std.proofs.lemmas.Bool.{false≢true}
 use Rattle.std.proofs.lemmas.Option.{none-some}
 use Rattle.std.proofs.lemmas.Slice.Eq.{bytes_eq-Decides}
-use Rattle.bz_token.specs.declared.token.Kind.{Kind}
-use Rattle.bz_token.specs.declared.token.Kind.TheVariants.{Ident, Text, Sign}
+use Rattle.bz_token.specs.declared.token.Kind.TheVariants.{Identifier, Operator}
 use Rattle.bz_tree.specs.declared.stmt.GroupKind.TheVariants.{RuleCall}
 use Rattle.bz_tree.specs.declared.stmt.Class.TheVariants.{Rule as RuleClass}
-use Rattle.bz_tree.specs.Tree.{Item, leaf, group, Segs, Segment, Statement, items_of, segs_of}
+use Rattle.bz_tree.specs.Tree.{Item, leaf, group, Segs, Statement, segs_of}
 use Rattle.bz_tree.specs.Statement.{class_of, has_assign, is_rule, is_rule_after}
 use Rattle.bz_tree.specs.declared.row.Row.{Row}
-use Rattle.bz_tree.specs.Rows.{IsRowOf, RowPart, a_token, closing, segment_end, above, beside_part, items_parts, segs_parts, parts_of}
+use Rattle.bz_tree.specs.Rows.{IsRowOf}
 use Rattle.bz_command.specs.Labels.{Name, Pkg, All, Kind as OfKind, Line}
-use Rattle.bz_command.specs.Values.{value_of}
 use Rattle.bz_attribute.specs.Rules.{Rule, rule_of, rule_from, call_at, is_call, dotted, elements, comma_of, end_of, is_sign, is_text, string_in}
 use Rattle.bz_attribute.specs.Marks.{marks_if}
 use Rattle.bz_attribute.specs.Heads.{IsHeadOf}
@@ -47,8 +45,8 @@ rule_dotted kind [] r h = absurd cc
 rule_dotted kind (x ∷ []) r h = call_dotted kind x r h
 rule_dotted kind (x ∷ y ∷ xs) r h = rule_dotted (kind ++ x ∷ []) (y ∷ xs) r h
 
-sign_is : (sign : List ℕ) (x : Item) → is_sign sign x ≡ true → x ≡ leaf Sign sign
-sign_is sign (leaf Sign text) h = ap (leaf Sign) (same_bytes text sign h)
+sign_is : (sign : List ℕ) (x : Item) → is_sign sign x ≡ true → x ≡ leaf Operator sign
+sign_is sign (leaf Operator text) h = ap (leaf Operator) (same_bytes text sign h)
 sign_is sign (leaf _ text) h = absurd (false≢true h)
 sign_is sign (group kind segs one_comma end) h = absurd (false≢true h)
 
@@ -56,7 +54,7 @@ sign_is sign (group kind segs one_comma end) h = absurd (false≢true h)
 no_assign : (name : Bool) (kind : List Item) (segs : Segs) (one_comma : Bool) (end : List (List ℕ)) → dotted name kind ≡ true
     → has_assign (kind ++ group RuleCall segs one_comma end ∷ []) ≡ false
 no_assign name [] segs one_comma end h = refl
-no_assign true (leaf Ident text ∷ kind) segs one_comma end h = no_assign false kind segs one_comma end h
+no_assign true (leaf Identifier text ∷ kind) segs one_comma end h = no_assign false kind segs one_comma end h
 no_assign true (leaf _ text ∷ kind) segs one_comma end h = absurd (false≢true h)
 no_assign true (group _ inner comma after ∷ kind) segs one_comma end h = absurd (false≢true h)
 no_assign false (x ∷ kind) segs one_comma end h =
@@ -67,7 +65,7 @@ mutual
   a_rule : (kind : List Item) (segs : Segs) (one_comma : Bool) (end : List (List ℕ)) → dotted true kind ≡ true
       → is_rule (kind ++ group RuleCall segs one_comma end ∷ []) ≡ true
   a_rule [] segs one_comma end h = absurd (false≢true h)
-  a_rule (leaf Ident text ∷ kind) segs one_comma end h = a_rule_after kind segs one_comma end h
+  a_rule (leaf Identifier text ∷ kind) segs one_comma end h = a_rule_after kind segs one_comma end h
   a_rule (leaf _ text ∷ kind) segs one_comma end h = absurd (false≢true h)
   a_rule (group _ inner comma after ∷ kind) segs one_comma end h = absurd (false≢true h)
 
@@ -81,7 +79,7 @@ mutual
 dotted_class : (kind : List Item) (segs : Segs) (one_comma : Bool) (end : List (List ℕ)) → dotted true kind ≡ true
     → class_of (kind ++ group RuleCall segs one_comma end ∷ []) ≡ RuleClass
 dotted_class [] segs one_comma end h = absurd (false≢true h)
-dotted_class (leaf Ident text ∷ kind) segs one_comma end h = rw (no_assign false kind segs one_comma end h, a_rule_after kind segs one_comma end h) refl
+dotted_class (leaf Identifier text ∷ kind) segs one_comma end h = rw (no_assign false kind segs one_comma end h, a_rule_after kind segs one_comma end h) refl
 dotted_class (leaf _ text ∷ kind) segs one_comma end h = absurd (false≢true h)
 dotted_class (group _ inner comma after ∷ kind) segs one_comma end h = absurd (false≢true h)
 

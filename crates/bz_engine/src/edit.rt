@@ -24,7 +24,7 @@ use bz_passes::kept::Kept;
 use bz_passes::language::Facts;
 use bz_passes::log::Log;
 use bz_passes::script::run_script;
-use bz_rule::{Package, LazyStmt, Text};
+use bz_rule::{LazyStmt, Package, Text};
 use bz_tree::{Class, Row};
 use std::alloc::{AllocError, Global};
 

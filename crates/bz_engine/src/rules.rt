@@ -11,7 +11,7 @@ use crate::message;
 use bz_passes::index::Key;
 use bz_passes::language::{Facts, Language};
 use bz_passes::log::Log;
-use bz_rule::{Command, Done, Note, Package, RuleName, LazyStmt, Target, Text, apply_lazy};
+use bz_rule::{Command, Done, LazyStmt, Note, Package, RuleName, Target, Text, apply_lazy};
 use std::alloc::{AllocError, Global};
 
 /// Targets and commands on the rules of a package, whose statements borrow from the file.

@@ -3,7 +3,7 @@ use Rattle.std.proofs.Common.{◌≡◌, ℕ, List, [], ◌∷◌, false, refl}
 use Rattle.std.specs.Prelude.{codes, None, Some}
 use Rattle.std.specs.Str.{is_utf8, chars}
 use lib.Utf8.{encode}
-use Rattle.bz_token.specs.declared.token.Kind.TheVariants.{Ident, Text, Sign, Kept}
+use Rattle.bz_token.specs.declared.token.Kind.TheVariants.{Identifier, String, Operator, Kept}
 use Rattle.bz_token.specs.Lexical.{keywords}
 use Rattle.bz_tree.specs.declared.stmt.Class.{Class}
 use Rattle.bz_tree.specs.declared.stmt.Class.TheVariants.{Rule, Block}
@@ -26,8 +26,8 @@ statement class nodes = record { before = []; nodes = nodes; suffix = None; clas
 abbrev rule : List ℕ → Statement
 rule name =
     statement Rule (
-    leaf Ident (codes "r")
-    ∷ group RuleCall (segs_of (record { before = []; nodes = leaf Ident (codes "name") ∷ leaf Sign (codes "=") ∷ leaf Text name ∷ []; suffix = None } ∷ [])) false []
+    leaf Identifier (codes "r")
+    ∷ group RuleCall (segs_of (record { before = []; nodes = leaf Identifier (codes "name") ∷ leaf Operator (codes "=") ∷ leaf String name ∷ []; suffix = None } ∷ [])) false []
     ∷ []
     )
 

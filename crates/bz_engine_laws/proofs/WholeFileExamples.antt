@@ -4,7 +4,7 @@ use Rattle.std.specs.Prelude.{codes, Some, None, Ok, Err}
 use Rattle.std.specs.Str.{IsUtf8}
 use Rattle.bz_token.specs.declared.fault.LexFault.TheVariants.{BadBracket}
 use Rattle.bz_token.specs.declared.token.Kind.{Kind}
-use Rattle.bz_token.specs.declared.token.Kind.TheVariants.{Ident, Line, Note}
+use Rattle.bz_token.specs.declared.token.Kind.TheVariants.{Identifier, Newline, Comment as CommentToken}
 use Rattle.bz_token.specs.Chunks.{chunks}
 use Rattle.bz_token.specs.Lexical.{keywords}
 use Rattle.bz_token.specs.Places.{Placed}
@@ -30,20 +30,20 @@ abbrev newline : List ℕ
 newline = codes "\n"
 
 abbrev name : Placed
-name = record { kind = Ident; text = codes "x"; line = 1; col = 1; fresh = true }
+name = record { kind = Identifier; text = codes "x"; line = 1; col = 1; fresh = true }
 
 -- `x` and a newline, and a blank line
 abbrev tokens : List Placed
 tokens =
     name
-    ∷ record { kind = Line; text = newline; line = 1; col = 2; fresh = false }
-    ∷ record { kind = Line; text = newline; line = 2; col = 1; fresh = true }
+    ∷ record { kind = Newline; text = newline; line = 1; col = 2; fresh = false }
+    ∷ record { kind = Newline; text = newline; line = 2; col = 1; fresh = true }
     ∷ []
 
 abbrev x : Statement
 x = record { before = []; nodes = leaf_of name ∷ []; suffix = None; class = Other; start = 1; end = 1 }
 
-x_read : IsReadAs 1 (codes "x\n") (name ∷ record { kind = Line; text = newline; line = 1; col = 2; fresh = false } ∷ []) x
+x_read : IsReadAs 1 (codes "x\n") (name ∷ record { kind = Newline; text = newline; line = 1; col = 2; fresh = false } ∷ []) x
 x_read = record {
   upright = refl;
   some = refl;
@@ -61,21 +61,21 @@ file_chunks : chunks file ≡ codes "x\n" ∷ newline ∷ codes "# c\n" ∷ []
 file_chunks = refl
 
 abbrev note : Placed
-note = record { kind = Note; text = codes "# c"; line = 3; col = 1; fresh = true }
+note = record { kind = CommentToken; text = codes "# c"; line = 3; col = 1; fresh = true }
 
 abbrev file_tokens : List Placed
 file_tokens =
     name
-    ∷ record { kind = Line; text = newline; line = 1; col = 2; fresh = false }
-    ∷ record { kind = Line; text = newline; line = 2; col = 1; fresh = true }
+    ∷ record { kind = Newline; text = newline; line = 1; col = 2; fresh = false }
+    ∷ record { kind = Newline; text = newline; line = 2; col = 1; fresh = true }
     ∷ note
-    ∷ record { kind = Line; text = newline; line = 3; col = 4; fresh = false }
+    ∷ record { kind = Newline; text = newline; line = 3; col = 4; fresh = false }
     ∷ []
 
 abbrev remark : Statement
 remark = record { before = codes "# c" ∷ []; nodes = []; suffix = None; class = Comment; start = 3; end = 3 }
 
-remark_read : IsReadAs 3 (codes "# c\n") (note ∷ record { kind = Line; text = newline; line = 3; col = 4; fresh = false } ∷ []) remark
+remark_read : IsReadAs 3 (codes "# c\n") (note ∷ record { kind = Newline; text = newline; line = 3; col = 4; fresh = false } ∷ []) remark
 remark_read = record {
   upright = refl;
   some = refl;
@@ -88,21 +88,21 @@ on_lines = (Some x, x_read, (remark ∷ [], refl, (None, refl, (Some remark, rem
 are_tokens : AreTokensOf 1 1 file file_tokens
 unfolding keywords
 are_tokens = (
-  piece Ident (codes "x") ∷ piece Line newline ∷ piece Line newline ∷ piece Note (codes "# c") ∷ piece Line newline ∷ [],
+  piece Identifier (codes "x") ∷ piece Newline newline ∷ piece Newline newline ∷ piece CommentToken (codes "# c") ∷ piece Newline newline ∷ [],
   [],
   (
     codes "\n\n# c\n",
-    record { bytes_are = refl; gap = refl; token = token_ended Ident (codes "x") (codes "\n\n# c\n") refl refl; fits = refl },
+    record { bytes_are = refl; gap = refl; token = token_ended Identifier (codes "x") (codes "\n\n# c\n") refl refl; fits = refl },
     (
       codes "\n# c\n",
-      record { bytes_are = refl; gap = refl; token = token_ended Line newline (codes "\n# c\n") refl refl; fits = refl },
+      record { bytes_are = refl; gap = refl; token = token_ended Newline newline (codes "\n# c\n") refl refl; fits = refl },
       (
         codes "# c\n",
-        record { bytes_are = refl; gap = refl; token = token_ended Line newline (codes "# c\n") refl refl; fits = refl },
+        record { bytes_are = refl; gap = refl; token = token_ended Newline newline (codes "# c\n") refl refl; fits = refl },
         (
           newline,
-          record { bytes_are = refl; gap = refl; token = token_ended Note (codes "# c") newline refl refl; fits = refl },
-          ([], record { bytes_are = refl; gap = refl; token = token_ended Line newline [] refl refl; fits = refl }, refl),
+          record { bytes_are = refl; gap = refl; token = token_ended CommentToken (codes "# c") newline refl refl; fits = refl },
+          ([], record { bytes_are = refl; gap = refl; token = token_ended Newline newline [] refl refl; fits = refl }, refl),
         ),
       ),
     ),
@@ -128,16 +128,16 @@ unfolding keywords
 up_to_fault = (
   λ e. cc,
   record {
-    pieces = piece Ident (codes "x") ∷ piece Line newline ∷ piece Line newline ∷ [];
+    pieces = piece Identifier (codes "x") ∷ piece Newline newline ∷ piece Newline newline ∷ [];
     gap = [];
     place = codes ")\n";
     reading = (
       codes "\n\n)\n",
-      record { bytes_are = refl; gap = refl; token = token_ended Ident (codes "x") (codes "\n\n)\n") refl refl; fits = refl },
+      record { bytes_are = refl; gap = refl; token = token_ended Identifier (codes "x") (codes "\n\n)\n") refl refl; fits = refl },
       (
         codes "\n)\n",
-        record { bytes_are = refl; gap = refl; token = token_ended Line newline (codes "\n)\n") refl refl; fits = refl },
-        (codes ")\n", record { bytes_are = refl; gap = refl; token = token_ended Line newline (codes ")\n") refl refl; fits = refl }, refl),
+        record { bytes_are = refl; gap = refl; token = token_ended Newline newline (codes "\n)\n") refl refl; fits = refl },
+        (codes ")\n", record { bytes_are = refl; gap = refl; token = token_ended Newline newline (codes ")\n") refl refl; fits = refl }, refl),
       ),
     );
     is_gap = refl;

@@ -1,7 +1,7 @@
 -- The definitions compute.
 use Rattle.std.specs.Prelude.{◌≡◌, ℕ, List, [], ◌∷◌, true, false, codes, refl}
 use Rattle.std.specs.Prelude.Option.{Some, None}
-use Rattle.bz_token.specs.declared.token.Kind.TheVariants.{Ident, Word, Int, Text, Sign, Kept}
+use Rattle.bz_token.specs.declared.token.Kind.TheVariants.{Identifier, Keyword, Integer, String, Operator, Kept}
 use Rattle.bz_tree.specs.declared.stmt.GroupKind.TheVariants.{Call, RuleCall, Paren, List as ListKind, Index, Dict}
 use Rattle.bz_tree.specs.declared.stmt.Class.TheVariants.{Load, Assign, Rule, Comment, Block}
 use Rattle.bz_tree.specs.Tree.{Item, leaf, group, Segment, Statement, segs_of}
@@ -12,16 +12,16 @@ use Rattle.bz_layout.specs.private.RowLayout.{row_text}
 use Rattle.bz_tree.specs.Rows.{a_token, opening, closing, segment_end, above, beside, parts_of}
 
 abbrev pub name : List ℕ → Item
-name text = leaf Ident text
+name text = leaf Identifier text
 
 abbrev pub int : List ℕ → Item
-int text = leaf Int text
+int text = leaf Integer text
 
 abbrev pub text : List ℕ → Item
-text t = leaf Text t
+text t = leaf String t
 
 abbrev pub sign : List ℕ → Item
-sign t = leaf Sign t
+sign t = leaf Operator t
 
 abbrev pub plain : List Item → Segment
 plain xs = record { before = []; nodes = xs; suffix = None }
@@ -31,7 +31,7 @@ slice : flat_text None (name (codes "x") ∷ group Index (segs_of (plain (int (c
 slice = refl
 
 -- `not -f(*a, **k)`
-prefixes : flat_text None (leaf Word (codes "not") ∷ sign (codes "-") ∷ name (codes "f") ∷ group Call (segs_of (plain (sign (codes "*") ∷ name (codes "a") ∷ []) ∷ plain (sign (codes "**") ∷ name (codes "k") ∷ []) ∷ [])) false [] ∷ []) ≡ codes "not -f(*a, **k)"
+prefixes : flat_text None (leaf Keyword (codes "not") ∷ sign (codes "-") ∷ name (codes "f") ∷ group Call (segs_of (plain (sign (codes "*") ∷ name (codes "a") ∷ []) ∷ plain (sign (codes "**") ∷ name (codes "k") ∷ []) ∷ [])) false [] ∷ []) ≡ codes "not -f(*a, **k)"
 prefixes = refl
 
 -- `['a', b'x']` within a dict after its colon
@@ -84,17 +84,17 @@ comments : blank_between (Some Comment) Comment ≡ true
 comments = refl
 
 -- a row: its parts, and its text by the two walks
-row_parts : parts_of commented ≡ above (codes "# top") ∷ a_token Ident (codes "x") ∷ a_token Sign (codes "=") ∷ opening ListKind ∷ above (codes "# a") ∷ a_token Int (codes "1") ∷ segment_end ∷ beside (codes "# b") ∷ above (codes "# c") ∷ closing false ∷ beside (codes "# d") ∷ []
+row_parts : parts_of commented ≡ above (codes "# top") ∷ a_token Identifier (codes "x") ∷ a_token Operator (codes "=") ∷ opening ListKind ∷ above (codes "# a") ∷ a_token Integer (codes "1") ∷ segment_end ∷ beside (codes "# b") ∷ above (codes "# c") ∷ closing false ∷ beside (codes "# d") ∷ []
 row_parts = refl
 
 row_places : row_text [] (parts_of commented) Assign ≡ codes "# top\nx = [\n    # a\n    1,  # b\n    # c\n]  # d\n"
 row_places = refl
 
 -- `f((1,), [2, -b])`: the tuple stays in place
-row_nested : row_text [] (a_token Ident (codes "f") ∷ opening RuleCall ∷ opening Paren ∷ a_token Int (codes "1") ∷ segment_end ∷ closing true ∷ segment_end ∷ opening ListKind ∷ a_token Int (codes "2") ∷ segment_end ∷ a_token Sign (codes "-") ∷ a_token Ident (codes "b") ∷ segment_end ∷ closing false ∷ segment_end ∷ closing false ∷ []) Rule ≡ codes "f(\n    (1,),\n    [\n        2,\n        -b,\n    ],\n)\n"
+row_nested : row_text [] (a_token Identifier (codes "f") ∷ opening RuleCall ∷ opening Paren ∷ a_token Integer (codes "1") ∷ segment_end ∷ closing true ∷ segment_end ∷ opening ListKind ∷ a_token Integer (codes "2") ∷ segment_end ∷ a_token Operator (codes "-") ∷ a_token Identifier (codes "b") ∷ segment_end ∷ closing false ∷ segment_end ∷ closing false ∷ []) Rule ≡ codes "f(\n    (1,),\n    [\n        2,\n        -b,\n    ],\n)\n"
 row_nested = refl
 
-row_in_place : row_text [] (a_token Ident (codes "x") ∷ a_token Sign (codes "=") ∷ a_token Ident (codes "f") ∷ opening Call ∷ a_token Int (codes "1") ∷ segment_end ∷ a_token Ident (codes "k") ∷ a_token Sign (codes "=") ∷ a_token Text (codes "'v'") ∷ segment_end ∷ closing false ∷ []) Assign ≡ codes "x = f(1, k = \"v\")\n"
+row_in_place : row_text [] (a_token Identifier (codes "x") ∷ a_token Operator (codes "=") ∷ a_token Identifier (codes "f") ∷ opening Call ∷ a_token Integer (codes "1") ∷ segment_end ∷ a_token Identifier (codes "k") ∷ a_token Operator (codes "=") ∷ a_token String (codes "'v'") ∷ segment_end ∷ closing false ∷ []) Assign ≡ codes "x = f(1, k = \"v\")\n"
 row_in_place = refl
 
 row_comments : row_text [] (above (codes "# a") ∷ above (codes "# b") ∷ []) Comment ≡ codes "# a\n# b\n"

@@ -6,7 +6,7 @@ use Rattle.std.specs.Str.{bytes_eq}
 use Rattle.std.proofs.lemmas.Bool.{cases_Bool, and_parts, false≢true}
 use Rattle.std.proofs.lemmas.Slice.Eq.{bytes_eq-Decides}
 use Rattle.bz_tree.specs.Tree.{Statement, items_of}
-use Rattle.bz_token.specs.declared.token.Kind.TheVariants.{Line as LineKind}
+use Rattle.bz_token.specs.declared.token.Kind.TheVariants.{Newline}
 use Rattle.bz_layout.specs.declared.spacing.Edge.TheVariants.{Start}
 use Rattle.bz_layout.specs.declared.spacing.Gap.{Gap}
 use Rattle.bz_layout.specs.declared.spacing.Gap.TheVariants.{Closed, Space, Apart, Line}
@@ -62,7 +62,7 @@ ends_after (p ∷ r ∷ ps) qs h = ends_after (r ∷ ps) qs h
 
 statement_ends : (s : Statement) → ends_line (statement_line s) ≡ true
 statement_ends s =
-    let newline = piece Closed LineKind (codes "\n") ∷ [] in
+    let newline = piece Closed Newline (codes "\n") ∷ [] in
     ends_after (items_pieces Broken 0 None Closed Start (items_of s.nodes)) (suffix_piece s.suffix ++ newline) (ends_after (suffix_piece s.suffix) newline refl)
 
 comments_end : (note : List ℕ) (notes : List (List ℕ)) → ends_line (comment_lines (note ∷ notes)) ≡ true

@@ -6,7 +6,7 @@ use Rattle.std.proofs.lemmas.Bool.{cases_Bool, and_parts, false≢true}
 use Rattle.std.proofs.lemmas.Slice.Eq.{bytes_eq-Decides}
 use Rattle.std.proofs.lemmas.List.{take_at}
 use Rattle.bz_layout.specs.Respell.{is_plain, content, is_single, respell}
-use Rattle.bz_token.specs.declared.token.Kind.TheVariants.{Text}
+use Rattle.bz_token.specs.declared.token.Kind.TheVariants.{String}
 
 pub content_is : (text inner : List ℕ) → text ≡ 39 ∷ (inner ++ 39 ∷ []) → content text ≡ inner
 content_is text inner e = rw e (ap (drop 1) (take_at (39 ∷ inner) (39 ∷ []) _ (sym n)))
@@ -14,13 +14,13 @@ content_is text inner e = rw e (ap (drop 1) (take_at (39 ∷ inner) (39 ∷ []) 
     n : length (39 ∷ (inner ++ 39 ∷ [])) - 1 ≡ length (39 ∷ inner)
     n = omega (arith, length-append inner (39 ∷ []))
 
-pub respell_some : (text inner : List ℕ) → text ≡ 39 ∷ (inner ++ 39 ∷ []) → list_all is_plain inner ≡ true → respell Text text ≡ 34 ∷ (inner ++ 34 ∷ [])
+pub respell_some : (text inner : List ℕ) → text ≡ 39 ∷ (inner ++ 39 ∷ []) → list_all is_plain inner ≡ true → respell String text ≡ 34 ∷ (inner ++ 34 ∷ [])
 respell_some text inner e plain =
     let k = content_is text inner e in
     let same : bytes_eq text (39 ∷ (inner ++ 39 ∷ [])) ≡ true = (bytes_eq-Decides text (39 ∷ (inner ++ 39 ∷ []))).1 e in
     rw (k, same, plain) refl
 
-pub respell_none : (text : List ℕ) → ((inner : List ℕ) → text ≡ 39 ∷ (inner ++ 39 ∷ []) → list_all is_plain inner ≡ false) → respell Text text ≡ text
+pub respell_none : (text : List ℕ) → ((inner : List ℕ) → text ≡ 39 ∷ (inner ++ 39 ∷ []) → list_all is_plain inner ≡ false) → respell String text ≡ text
 respell_none text none =
     elim (cases_Bool (is_single text)) [
       | inl hit ↦

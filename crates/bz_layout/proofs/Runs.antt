@@ -1,7 +1,7 @@
 -- The walk forwards over parts writes the pieces of their tree.
 use Rattle.std.proofs.Common.{◌≡◌, codes, bytes_eq, ℕ, ◌+◌, ◌-◌, List, [], ◌∷◌, ◌++◌, map, Bool, true, false, not, ◌||◌, if◌then◌else◌, inl, inr, Option, Some, None, refl, ap, ◌∙◌, append_assoc, append-nil, arith}
 use Rattle.std.proofs.lemmas.Bool.{cases_Bool}
-use Rattle.bz_token.specs.declared.token.Kind.TheVariants.{Sign}
+use Rattle.bz_token.specs.declared.token.Kind.TheVariants.{Operator}
 use Rattle.bz_tree.specs.declared.stmt.GroupKind.{GroupKind}
 use Rattle.bz_tree.specs.Tree.{Item, leaf, group, Items, no_items, item, Segs, no_segs, seg}
 use Rattle.bz_tree.specs.Rows.{RowPart, opening, closing, segment_end, above, beside_part, item_parts, items_parts, segs_parts}
@@ -97,7 +97,7 @@ sign_leaves within left text = elim (cases_Bool (bytes_eq text (codes "."))) [
 
 item_leaves : (within : Option GroupKind) (left : Edge) (x : Item) → is_start (edge_after within left x) ≡ false
 item_leaves within left (group kind segs one_comma end) = refl
-item_leaves within left (leaf Sign text) = sign_leaves within left text
+item_leaves within left (leaf Operator text) = sign_leaves within left text
 item_leaves within left (leaf _ text) = refl
 
 items_leave : (within : Option GroupKind) (left : Edge) (xs : Items) → is_start left ≡ false → is_start (last_edge within left xs) ≡ false
@@ -118,7 +118,7 @@ two t d e ps qs none = rw (none, bytes_append ps qs) (simp append_assoc)
 -- a segment in place, its comma before it
 abbrev in_place : Style → ℕ → GroupKind → Bool → Items → List Piece
 in_place style n kind first nodes =
-    if first then items_pieces style n (Some kind) Closed Start nodes else piece Closed Sign (codes ",") ∷ items_pieces style n (Some kind) Space Start nodes
+    if first then items_pieces style n (Some kind) Closed Start nodes else piece Closed Operator (codes ",") ∷ items_pieces style n (Some kind) Space Start nodes
 
 in_place_text : (style : Style) (n : ℕ) (kind : GroupKind) (later comma : Bool) (nodes : Items) (t : List ℕ) →
     (t ++ (due_items (flat_frame kind later comma) Start nodes ++ bytes_of (items_pieces style n (Some kind) (first_gap (flat_frame kind later comma) n) Start nodes))) ++ due (flat_frame kind later comma) (last_edge (Some kind) Start nodes)
@@ -142,15 +142,15 @@ broken_seg_text t a b comma c d = rw (comma_is comma, bytes_append a (b ++ (comm
 broken_group_text : (t p : List ℕ) (a b : List Piece) (q : Piece) → (((t ++ p) ++ bytes_of a) ++ bytes_of b) ++ (gap_bytes q.gap ++ q.text) ≡ t ++ (p ++ bytes_of (a ++ (b ++ q ∷ [])))
 broken_group_text t p a b q = rw (bytes_append a (b ++ q ∷ []), bytes_append b (q ∷ []), append-nil q.text) (simp append_assoc)
 
-flat_group_text : (t p : List ℕ) (a : List Piece) (comma : Bool) (close : List ℕ) → (t ++ p) ++ (bytes_of a ++ (comma_bytes comma ++ close)) ≡ t ++ (p ++ bytes_of (a ++ (comma_if comma ++ piece Closed Sign close ∷ [])))
-flat_group_text t p a comma close = rw (comma_is comma, bytes_append a (comma_if comma ++ piece Closed Sign close ∷ []), bytes_append (comma_if comma) (piece Closed Sign close ∷ []), append-nil close) (simp append_assoc)
+flat_group_text : (t p : List ℕ) (a : List Piece) (comma : Bool) (close : List ℕ) → (t ++ p) ++ (bytes_of a ++ (comma_bytes comma ++ close)) ≡ t ++ (p ++ bytes_of (a ++ (comma_if comma ++ piece Closed Operator close ∷ [])))
+flat_group_text t p a comma close = rw (comma_is comma, bytes_append a (comma_if comma ++ piece Closed Operator close ∷ []), bytes_append (comma_if comma) (piece Closed Operator close ∷ []), append-nil close) (simp append_assoc)
 
 -- what is written of a group after its opening bracket
 abbrev group_rest : Style → Bool → ℕ → GroupKind → Segs → Bool → List (List ℕ) → List Piece
 group_rest style b n kind segs one end =
     if b
-    then broken_segs style (n + 1) kind (has_commas kind one (count segs)) segs ++ (comments (n + 1) end ++ piece (Line n) Sign (closing_text kind) ∷ [])
-    else flat_segs style n kind true segs ++ (comma_if one ++ piece Closed Sign (closing_text kind) ∷ [])
+    then broken_segs style (n + 1) kind (has_commas kind one (count segs)) segs ++ (comments (n + 1) end ++ piece (Line n) Operator (closing_text kind) ∷ [])
+    else flat_segs style n kind true segs ++ (comma_if one ++ piece Closed Operator (closing_text kind) ∷ [])
 
 abbrev opening_bytes : List ℕ → Gap → GroupKind → List ℕ
 opening_bytes d gap kind = d ++ (gap_bytes gap ++ opening_text kind)
@@ -197,7 +197,7 @@ run_group Broken true kind segs one end rest t ms o h d gap n broken flat =
     let joined = ap (λ (ps : List RowPart). run ps (at (t ++ begun) (segs_marks segs ++ ms) (h ∷ o) (broken_frame kind c) Start (n + 1))) (segs_joined segs end one rest) in
     let notes = run_above end (closing one ∷ rest) t1 ms (h ∷ o) kind c Start (n + 1) in
     let level = ap (λ (k : ℕ). run rest (at (t2 ++ (gap_bytes (Line k) ++ closing_text kind)) ms o h Operand k)) (down n) in
-    let text = ap (λ (u : List ℕ). run rest (at u ms o h Operand n)) (broken_group_text t begun a b (piece (Line n) Sign (closing_text kind))) in
+    let text = ap (λ (u : List ℕ). run rest (at u ms o h Operand n)) (broken_group_text t begun a b (piece (Line n) Operator (closing_text kind))) in
     joined ∙ (broken ∙ (notes ∙ (level ∙ text)))
 run_group Broken false kind segs one end rest t ms o h d gap n broken flat = let c = has_commas kind one (count segs) in run_in_place Broken c kind segs one end rest t ms o h d gap n (flat c)
 run_group Flat b kind segs one end rest t ms o h d gap n broken flat = run_in_place Flat false kind segs one end rest t ms o h d gap n (flat false)

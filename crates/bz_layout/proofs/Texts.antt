@@ -6,7 +6,7 @@ use Rattle.bz_tree.specs.Rows.{RowPart, above, beside_part, items_parts, parts_o
 use Rattle.bz_tree.specs.declared.row.Part.{Part}
 use Rattle.bz_tree.specs.declared.stmt.Class.{Class}
 use Rattle.bz_tree.specs.declared.stmt.GroupKind.{GroupKind}
-use Rattle.bz_token.specs.declared.token.Kind.TheVariants.{Line as LineKind}
+use Rattle.bz_token.specs.declared.token.Kind.TheVariants.{Newline}
 use Rattle.bz_layout.specs.declared.marks.Mark.{Mark}
 use Rattle.bz_layout.specs.declared.walk.Frame.{Frame}
 use Rattle.bz_layout.specs.declared.spacing.Edge.{Edge}
@@ -52,8 +52,8 @@ beside_text : (suffix : Option (List ℕ)) (t : List ℕ) (ms : List Mark) (o : 
 beside_text None t ms o l n = sym (append-nil t)
 beside_text (Some note) t ms o l n = rw (append-nil note) refl
 
-line_joined : (t : List ℕ) (a b : List Piece) → ((t ++ bytes_of a) ++ bytes_of b) ++ codes "\n" ≡ t ++ bytes_of (a ++ (b ++ piece Closed LineKind (codes "\n") ∷ []))
-line_joined t a b = rw (bytes_append a (b ++ piece Closed LineKind (codes "\n") ∷ []), bytes_append b (piece Closed LineKind (codes "\n") ∷ [])) (simp append_assoc)
+line_joined : (t : List ℕ) (a b : List Piece) → ((t ++ bytes_of a) ++ bytes_of b) ++ codes "\n" ≡ t ++ bytes_of (a ++ (b ++ piece Closed Newline (codes "\n") ∷ []))
+line_joined t a b = rw (bytes_append a (b ++ piece Closed Newline (codes "\n") ∷ []), bytes_append b (piece Closed Newline (codes "\n") ∷ [])) (simp append_assoc)
 
 line_is : (t : List ℕ) (s : Statement) → line_text t (parts_of s) ≡ t ++ bytes_of (statement_line s)
 line_is t s =

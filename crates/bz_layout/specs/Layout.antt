@@ -1,7 +1,7 @@
 -- The canonical text of a statement (this project's own layout): its tokens and comments in order, each after its gap.
 use Rattle.std.specs.Prelude.{codes, ℕ, ◌+◌, List, [], ◌∷◌, ◌++◌, Bool, true, false, ◌||◌, if◌then◌else◌, Option, nat_le}
 use Rattle.std.specs.Prelude.Option.{Some, None}
-use Rattle.bz_token.specs.declared.token.Kind.TheVariants.{Sign, Line as LineKind}
+use Rattle.bz_token.specs.declared.token.Kind.TheVariants.{Operator, Newline}
 use Rattle.bz_tree.specs.declared.stmt.GroupKind.{GroupKind}
 use Rattle.bz_tree.specs.declared.stmt.GroupKind.TheVariants.{Call, RuleCall, Load, Paren, List as ListKind, Index, Dict, ListComp, DictComp}
 use Rattle.bz_tree.specs.declared.stmt.Class.{Class}
@@ -58,10 +58,10 @@ abbrev mutual
   pub item_pieces : Style → ℕ → Gap → Item → List Piece
   item_pieces style level gap (leaf kind text) = piece gap kind (respell kind text) ∷ []
   item_pieces style level gap (group kind segs one_comma end) =
-      piece gap Sign (opening kind) ∷
+      piece gap Operator (opening kind) ∷
       (if breaks style (is_broken kind segs end (segs_hold segs))
-      then broken_segs style (level + 1) kind (has_commas kind one_comma (count segs)) segs ++ (comments (level + 1) end ++ piece (Line level) Sign (closing kind) ∷ [])
-      else flat_segs style level kind true segs ++ (comma_if one_comma ++ piece Closed Sign (closing kind) ∷ []))
+      then broken_segs style (level + 1) kind (has_commas kind one_comma (count segs)) segs ++ (comments (level + 1) end ++ piece (Line level) Operator (closing kind) ∷ [])
+      else flat_segs style level kind true segs ++ (comma_if one_comma ++ piece Closed Operator (closing kind) ∷ []))
 
   -- the nodes of a segment or statement
   pub items_pieces : Style → ℕ → Option GroupKind → Gap → Edge → Items → List Piece
@@ -78,11 +78,11 @@ abbrev mutual
   pub flat_segs : Style → ℕ → GroupKind → Bool → Segs → List Piece
   flat_segs style level kind first no_segs = []
   flat_segs style level kind first (seg before nodes suffix ss) =
-      (if first then items_pieces style level (Some kind) Closed Start nodes else piece Closed Sign (codes ",") ∷ items_pieces style level (Some kind) Space Start nodes) ++ flat_segs style level kind false ss
+      (if first then items_pieces style level (Some kind) Closed Start nodes else piece Closed Operator (codes ",") ∷ items_pieces style level (Some kind) Space Start nodes) ++ flat_segs style level kind false ss
 
 -- the nodes, two spaces and the suffix if there is one, a newline
 abbrev pub statement_line : Statement → List Piece
-statement_line s = items_pieces Broken 0 None Closed Start (items_of s.nodes) ++ (suffix_piece s.suffix ++ piece Closed LineKind (codes "\n") ∷ [])
+statement_line s = items_pieces Broken 0 None Closed Start (items_of s.nodes) ++ (suffix_piece s.suffix ++ piece Closed Newline (codes "\n") ∷ [])
 
 abbrev pub is_comment : Class → Bool
 is_comment Comment = true

@@ -2,7 +2,7 @@
 use Rattle.std.specs.Prelude.{codes, ℕ, List, [], ◌∷◌, ◌++◌, Bool, true, false, ◌&&◌, if◌then◌else◌}
 use Rattle.std.specs.Str.{bytes_eq}
 use Rattle.bz_token.specs.declared.token.Kind.{Kind}
-use Rattle.bz_token.specs.declared.token.Kind.TheVariants.{Line as LineKind}
+use Rattle.bz_token.specs.declared.token.Kind.TheVariants.{Newline}
 use Rattle.bz_layout.specs.declared.spacing.Gap.{Gap}
 use Rattle.bz_layout.specs.declared.spacing.Gap.TheVariants.{Line}
 use Rattle.bz_layout.specs.Pieces.{Piece, indent, gap_bytes}
@@ -20,7 +20,7 @@ lines_text [] = []
 lines_text (l ∷ ls) = indent l.level ++ (l.text ++ (10 ∷ lines_text ls))
 
 abbrev pub is_line_kind : Kind → Bool
-is_line_kind LineKind = true
+is_line_kind Newline = true
 is_line_kind _ = false
 
 -- the newline after a statement or a comment above it

@@ -2,7 +2,7 @@
 use Rattle.std.specs.Prelude.{codes, ℕ, zero, suc, List, [], ◌∷◌, ◌++◌, Bool, if◌then◌else◌, Option}
 use Rattle.std.specs.Prelude.Option.{Some, None}
 use Rattle.bz_token.specs.declared.token.Kind.{Kind}
-use Rattle.bz_token.specs.declared.token.Kind.TheVariants.{Sign, Line as LineKind, Note}
+use Rattle.bz_token.specs.declared.token.Kind.TheVariants.{Operator, Newline, Comment}
 use Rattle.bz_layout.specs.declared.spacing.Gap.{Gap}
 use Rattle.bz_layout.specs.declared.spacing.Gap.TheVariants.{Closed, Space, Apart, Line}
 
@@ -33,19 +33,19 @@ bytes_of [] = []
 bytes_of (p ∷ ps) = gap_bytes p.gap ++ (p.text ++ bytes_of ps)
 
 abbrev pub comma_if : Bool → List Piece
-comma_if b = if b then piece Closed Sign (codes ",") ∷ [] else []
+comma_if b = if b then piece Closed Operator (codes ",") ∷ [] else []
 
 -- comments in a broken group, each on a line of its own
 abbrev pub comments : ℕ → List (List ℕ) → List Piece
 comments level [] = []
-comments level (note ∷ notes) = piece (Line level) Note note ∷ comments level notes
+comments level (note ∷ notes) = piece (Line level) Comment note ∷ comments level notes
 
 -- comments above a statement, each with its newline
 abbrev pub comment_lines : List (List ℕ) → List Piece
 comment_lines [] = []
-comment_lines (note ∷ notes) = piece Closed Note note ∷ piece Closed LineKind (codes "\n") ∷ comment_lines notes
+comment_lines (note ∷ notes) = piece Closed Comment note ∷ piece Closed Newline (codes "\n") ∷ comment_lines notes
 
 -- two spaces and the comment after a segment or statement
 abbrev pub suffix_piece : Option (List ℕ) → List Piece
 suffix_piece None = []
-suffix_piece (Some note) = piece Apart Note note ∷ []
+suffix_piece (Some note) = piece Apart Comment note ∷ []

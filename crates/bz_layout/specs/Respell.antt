@@ -3,7 +3,7 @@ use Rattle.std.specs.Prelude.{ℕ, ◌-◌, List, [], ◌∷◌, ◌++◌, Bool,
 use Rattle.std.specs.List.{list_all}
 use Rattle.std.specs.Str.{bytes_eq}
 use Rattle.bz_token.specs.declared.token.Kind.{Kind}
-use Rattle.bz_token.specs.declared.token.Kind.TheVariants.{Text}
+use Rattle.bz_token.specs.declared.token.Kind.TheVariants.{String}
 
 -- neither a quote nor a backslash
 abbrev pub is_plain : ℕ → Bool
@@ -18,5 +18,5 @@ abbrev pub is_single : List ℕ → Bool
 is_single text = bytes_eq text (39 ∷ (content text ++ 39 ∷ [])) && list_all is_plain (content text)
 
 abbrev pub respell : Kind → List ℕ → List ℕ
-respell Text text = if is_single text then 34 ∷ (content text ++ 34 ∷ []) else text
+respell String text = if is_single text then 34 ∷ (content text ++ 34 ∷ []) else text
 respell _ text = text

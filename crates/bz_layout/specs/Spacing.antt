@@ -2,7 +2,7 @@
 use Rattle.std.specs.Prelude.{codes, ℕ, List, Bool, true, false, ◌&&◌, ◌||◌, if◌then◌else◌, Option}
 use Rattle.std.specs.Prelude.Option.{Some}
 use Rattle.std.specs.Str.{bytes_eq}
-use Rattle.bz_token.specs.declared.token.Kind.TheVariants.{Word, Sign}
+use Rattle.bz_token.specs.declared.token.Kind.TheVariants.{Keyword, Operator as OperatorToken}
 use Rattle.bz_tree.specs.declared.stmt.GroupKind.{GroupKind}
 use Rattle.bz_tree.specs.declared.stmt.GroupKind.TheVariants.{Call, RuleCall, Load, Index}
 use Rattle.bz_layout.specs.declared.spacing.Edge.{Edge}
@@ -21,7 +21,7 @@ hugs _ = false
 
 -- no space stands before `.`, `,`, `:` and a group that hugs
 abbrev pub closes_up : Item → Bool
-closes_up (leaf Sign text) = bytes_eq text (codes ".") || bytes_eq text (codes ",") || bytes_eq text (codes ":")
+closes_up (leaf OperatorToken text) = bytes_eq text (codes ".") || bytes_eq text (codes ",") || bytes_eq text (codes ":")
 closes_up (leaf _ text) = false
 closes_up (group kind segs one_comma end) = hugs kind
 
@@ -61,8 +61,8 @@ sign_edge within left text =
 
 -- what a node leaves to the one after it
 abbrev pub edge_after : Option GroupKind → Edge → Item → Edge
-edge_after within left (leaf Sign text) = sign_edge within left text
-edge_after within left (leaf Word text) = Operator
+edge_after within left (leaf OperatorToken text) = sign_edge within left text
+edge_after within left (leaf Keyword text) = Operator
 edge_after within left (leaf _ text) = Operand
 edge_after within left (group kind segs one_comma end) = Operand
 

@@ -2,7 +2,7 @@
 
 ghost use Rattle.std.specs.Prelude.{◌≡◌, ◌++◌, ◌∷◌, [], List, ℕ, true, false, IfSome, IfNone, OnOk};
 ghost use Rattle.std.specs.List.{list_all};
-ghost use Rattle.bz_token.specs.declared.token.Kind.TheVariants.{Text};
+ghost use Rattle.bz_token.specs.declared.token.Kind.TheVariants.{String};
 ghost use Rattle.bz_layout.specs.Respell.{is_plain, respell};
 ghost use Rattle.bz_layout.specs.private.Kept.{IsBegunBy};
 
@@ -52,7 +52,7 @@ fn stripped(text: &str) -> Option<&str>
 // Appends the written form of a string that begins with a single quote.
 #[inline(never)]
 fn put_single<T: Append>(text: &str, out: &mut T) -> Result<(), AllocError>
-    ensures ok { OnOk result (T.bytes out.new ≡ T.bytes out.old ++ respell Text text.now) }
+    ensures ok { OnOk result (T.bytes out.new ≡ T.bytes out.old ++ respell String text.now) }
     ensures begun { IsBegunBy (T.bytes out.old) (T.bytes out.new) }
 {
     match stripped(text) {
@@ -72,7 +72,7 @@ pub(crate) fn put_written<T: Append>(kind: Kind, text: &str, out: &mut T) -> Res
     ensures begun { IsBegunBy (T.bytes out.old) (T.bytes out.new) }
 {
     match (kind, text.as_bytes()) {
-        (Kind::Text, [b'\'', ..]) => put_single(text, out),
+        (Kind::String, [b'\'', ..]) => put_single(text, out),
         _ => out.put(text),
     }
 }

@@ -47,7 +47,7 @@ pub(crate) fn hugs(kind: GroupKind) -> bool
 pub(crate) fn token_closes_up(kind: Kind, text: &str) -> bool
     ensures { result ≡ closes_up (leaf kind text.now) }
 {
-    matches!(kind, Kind::Sign) && (text == "." || text == "," || text == ":")
+    matches!(kind, Kind::Operator) && (text == "." || text == "," || text == ":")
 }
 
 #[inline(always)]
@@ -113,8 +113,8 @@ pub(crate) fn token_edge(within: Option<GroupKind>, left: Edge, kind: Kind, text
     ensures { result ≡ edge_after within left (leaf kind text.now) }
 {
     match kind {
-        Kind::Sign => sign_edge(within, left, text),
-        Kind::Word => Edge::Operator,
+        Kind::Operator => sign_edge(within, left, text),
+        Kind::Keyword => Edge::Operator,
         _ => Edge::Operand,
     }
 }

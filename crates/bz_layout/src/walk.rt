@@ -156,9 +156,9 @@ impl Walk {
         ensures begun { IsBegunBy (T.bytes out.old) (T.bytes out.new) }
     {
         match kind {
-            Kind::Ident => self.put_token(Kind::Ident, text, out),
-            Kind::Text => self.put_token(Kind::Text, text, out),
-            Kind::Sign if text == "=" => self.put_token(Kind::Sign, "=", out),
+            Kind::Identifier => self.put_token(Kind::Identifier, text, out),
+            Kind::String => self.put_token(Kind::String, text, out),
+            Kind::Operator if text == "=" => self.put_token(Kind::Operator, "=", out),
             _ => self.put_rarer(kind, text, out),
         }
     }

@@ -4,7 +4,7 @@ use Rattle.std.specs.Prelude.{codes, if◌then◌else◌}
 use Rattle.std.specs.List.{list_any}
 use Rattle.std.proofs.lemmas.Bool.{false≢true}
 use Rattle.bz_token.specs.declared.token.Kind.{Kind}
-use Rattle.bz_token.specs.declared.token.Kind.TheVariants.{Sign, Line as LineKind, Note}
+use Rattle.bz_token.specs.declared.token.Kind.TheVariants.{Operator, Newline, Comment}
 use Rattle.bz_token.specs.Lexical.{is_newline}
 use Rattle.bz_token.specs.Ends.{is_note}
 use Rattle.bz_tree.specs.declared.stmt.GroupKind.{GroupKind}
@@ -75,20 +75,20 @@ none = record { each = λ token. tt }
 at_token : {ps : List Piece} → Always ps → Beside true ps
 at_token a = record { all = a.each true }
 
-sign : (gap : Gap) (text : List ℕ) → is_apart gap ≡ false → Always (piece gap Sign text ∷ [])
+sign : (gap : Gap) (text : List ℕ) → is_apart gap ≡ false → Always (piece gap Operator text ∷ [])
 sign gap text h = record { each = λ token. (sym h, tt) }
 
-sign_last : (gap : Gap) (text : List ℕ) → Tokens (piece gap Sign text ∷ [])
+sign_last : (gap : Gap) (text : List ℕ) → Tokens (piece gap Operator text ∷ [])
 sign_last gap text = record { last = λ token. refl }
 
 leaf_always : (gap : Gap) (kind : Kind) (text other : List ℕ) → is_apart gap ≡ false → is_leaf_mark (kind_mark kind other) ≡ true → Always (piece gap kind text ∷ [])
-leaf_always gap LineKind text other h mark = absurd (false≢true mark)
-leaf_always gap Note text other h mark = absurd (false≢true mark)
+leaf_always gap Newline text other h mark = absurd (false≢true mark)
+leaf_always gap Comment text other h mark = absurd (false≢true mark)
 leaf_always gap _ text other h mark = record { each = λ token. (sym h, tt) }
 
 leaf_last : (gap : Gap) (kind : Kind) (text other : List ℕ) → is_leaf_mark (kind_mark kind other) ≡ true → Tokens (piece gap kind text ∷ [])
-leaf_last gap LineKind text other mark = absurd (false≢true mark)
-leaf_last gap Note text other mark = absurd (false≢true mark)
+leaf_last gap Newline text other mark = absurd (false≢true mark)
+leaf_last gap Comment text other mark = absurd (false≢true mark)
 leaf_last gap _ text other mark = record { last = λ token. refl }
 
 commas : (b : Bool) → Always (comma_if b)
@@ -98,7 +98,7 @@ commas false = none
 own_lines : (level : ℕ) (texts : List (List ℕ)) → Always (comments level texts)
 own_lines level [] = none
 own_lines level (text ∷ texts) =
-    let one : Always (piece (Line level) Note text ∷ []) = record { each = λ token. (no_token token, tt) } in
+    let one : Always (piece (Line level) Comment text ∷ []) = record { each = λ token. (no_token token, tt) } in
     join one (own_lines level texts)
   where
     no_token : (token : Bool) → (token && false) ≡ false
@@ -116,8 +116,8 @@ mutual
   item_always style level gap (leaf kind text) first h = leaf_always gap kind (respell kind text) text first h.1
   item_always style level gap (group kind segs one_comma end) first h =
       let comma = has_commas kind one_comma (count segs) in
-      let last : List Piece = piece (Line level) Sign (closing kind) ∷ [] in
-      let close : List Piece = piece Closed Sign (closing kind) ∷ [] in
+      let last : List Piece = piece (Line level) Operator (closing kind) ∷ [] in
+      let close : List Piece = piece Closed Operator (closing kind) ∷ [] in
       join (sign gap (opening kind) first)
       (either_way Always (breaks style (is_broken kind segs end (segs_hold segs))) (broken_segs style (level + 1) kind comma segs ++ (comments (level + 1) end ++ last)) (flat_segs style level kind true segs ++ (comma_if one_comma ++ close))
       (join (broken_always style (level + 1) kind comma segs h.0) (join (own_lines (level + 1) end) (sign (Line level) (closing kind) refl)))
@@ -147,9 +147,9 @@ mutual
   item_last style level gap (leaf kind text) h = leaf_last gap kind (respell kind text) text h.1
   item_last style level gap (group kind segs one_comma end) h =
       let comma = has_commas kind one_comma (count segs) in
-      let last : List Piece = piece (Line level) Sign (closing kind) ∷ [] in
-      let close : List Piece = piece Closed Sign (closing kind) ∷ [] in
-      last_join (piece gap Sign (opening kind) ∷ [])
+      let last : List Piece = piece (Line level) Operator (closing kind) ∷ [] in
+      let close : List Piece = piece Closed Operator (closing kind) ∷ [] in
+      last_join (piece gap Operator (opening kind) ∷ [])
       (either_way Tokens (breaks style (is_broken kind segs end (segs_hold segs))) (broken_segs style (level + 1) kind comma segs ++ (comments (level + 1) end ++ last)) (flat_segs style level kind true segs ++ (comma_if one_comma ++ close))
       (last_join (broken_segs style (level + 1) kind comma segs) (last_join (comments (level + 1) end) (sign_last (Line level) (closing kind))))
       (last_join (flat_segs style level kind true segs) (last_join (comma_if one_comma) (sign_last Closed (closing kind)))))
@@ -163,7 +163,7 @@ mutual
 line_always : (s : Statement) → are_some (items_of s.nodes) ≡ true → IsLegible s → Always (statement_line s)
 line_always s some h =
     join_token (items_always Broken 0 None Closed Start (items_of s.nodes) refl h.nodes) (items_last Broken 0 None Closed Start (items_of s.nodes) some h.nodes)
-    (suffixed false s.suffix (piece Closed LineKind (codes "\n") ∷ []) (record { each = λ token. (refl, tt) }))
+    (suffixed false s.suffix (piece Closed Newline (codes "\n") ∷ []) (record { each = λ token. (refl, tt) }))
 
 above : (texts : List (List ℕ)) (ps : List Piece) → Always ps → AllBeside false (comment_lines texts ++ ps)
 above [] ps a = a.each false

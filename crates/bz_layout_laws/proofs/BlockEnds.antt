@@ -4,7 +4,7 @@ use Rattle.std.specs.Prelude.{if◌then◌else◌}
 use Rattle.std.specs.List.{list_all}
 use Rattle.std.proofs.lemmas.Bool.{false≢true, and_parts}
 use Rattle.bz_token.specs.declared.token.Kind.{Kind}
-use Rattle.bz_token.specs.declared.token.Kind.TheVariants.{Line as LineKind}
+use Rattle.bz_token.specs.declared.token.Kind.TheVariants.{Newline}
 use Rattle.bz_token.specs.Brackets.{is_line}
 use Rattle.bz_token.specs.Places.{Placed}
 use Rattle.bz_tree.specs.declared.kinds.Mark.{Mark}
@@ -25,7 +25,7 @@ empties [] = []
 empties (t ∷ ts) = [] ∷ empties ts
 
 line_with : (kind : Kind) (text : List ℕ) (t : Placed) (ls : List (List Placed)) → is_line kind ≡ true → with_token (kind_mark kind text) t ls ≡ [] ∷ ls
-line_with LineKind text t ls h = refl
+line_with Newline text t ls h = refl
 line_with _ text t ls h = absurd (false≢true h)
 
 newline_lines : (ns : List Placed) → are_newlines ns ≡ true → logical_lines ns ≡ [] ∷ empties ns

@@ -5,7 +5,7 @@ use Rattle.std.specs.List.{list_all, prefix_len}
 use Rattle.std.proofs.lemmas.Bool.{cases_Bool, and_parts, and_from, false≢true, eqb-true}
 use Rattle.std.proofs.lemmas.List.Folds.{list_all-append}
 use Rattle.bz_token.specs.declared.token.Kind.{Kind}
-use Rattle.bz_token.specs.declared.token.Kind.TheVariants.{Line as LineKind, Note as NoteKind}
+use Rattle.bz_token.specs.declared.token.Kind.TheVariants.{Newline as LineKind, Comment}
 use Rattle.bz_token.specs.declared.cutter.scan.LineKind.{LineKind as Form}
 use Rattle.bz_token.specs.declared.cutter.scan.LineKind.TheVariants.{Blank, Note, Statement}
 use Rattle.bz_token.specs.Brackets.{is_line}
@@ -66,7 +66,7 @@ front_ends (p ∷ []) header qs rest aside ended gap word =
 
     by : (kind : Kind) → is_aside kind ≡ true → ends kind p.text (bytes_of (header ∷ qs) ++ rest) ≡ true → is_line kind ≡ true
     by LineKind a e = refl
-    by NoteKind a e = absurd (false≢true (sym (no_comment header.gap header.kind header.text (bytes_of qs ++ rest) gap word) ∙ ap is_blank_line (regroup header.gap header.text (bytes_of qs)) ∙ e))
+    by Comment a e = absurd (false≢true (sym (no_comment header.gap header.kind header.text (bytes_of qs ++ rest) gap word) ∙ ap is_blank_line (regroup header.gap header.text (bytes_of qs)) ∙ e))
     by _ a e = absurd (false≢true a)
 
 -- and after it begins column 1
@@ -122,7 +122,7 @@ aside_comments (p ∷ ps) h =
   where
     by : (kind : Kind) → is_aside kind ≡ true → (is_line kind || is_note kind) ≡ true
     by LineKind h = refl
-    by NoteKind h = refl
+    by Comment h = refl
     by _ h = absurd (false≢true h)
 
 -- in one chunk with the block no blank line stands above it

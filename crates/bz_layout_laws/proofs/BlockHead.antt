@@ -4,7 +4,7 @@ use Rattle.std.specs.Prelude.{codes, bytes_eq}
 use Rattle.std.proofs.lemmas.Bool.{cases_Bool, and_parts, or_cases, false≢true, eqb-true}
 use Rattle.std.proofs.lemmas.Bool.Decides.{nat_tests}
 use Rattle.bz_token.specs.declared.token.Kind.{Kind}
-use Rattle.bz_token.specs.declared.token.Kind.TheVariants.{Word}
+use Rattle.bz_token.specs.declared.token.Kind.TheVariants.{Keyword}
 use Rattle.bz_token.specs.declared.cutter.block.Opener.{Opener}
 use Rattle.bz_token.specs.declared.cutter.block.Opener.TheVariants.{Def, For, If}
 use Rattle.bz_token.specs.Blocks.{head_from, word_at, opener_of, opener, goes_on}
@@ -19,7 +19,7 @@ use Rattle.bz_layout_laws.proofs.BranchWords.{other_word, stops_word, whole_word
 
 -- what holds of the three words holds of a word that begins a block
 pub by_word : (P : List ℕ → Type 0) (kind : Kind) (text : List ℕ) → is_block_word_at kind text ≡ true → P (codes "def") → P (codes "for") → P (codes "if") → P text
-by_word P Word text h of_def of_for of_if = elim (or_cases (bytes_eq text (codes "def") || bytes_eq text (codes "for")) (bytes_eq text (codes "if")) h) [
+by_word P Keyword text h of_def of_for of_if = elim (or_cases (bytes_eq text (codes "def") || bytes_eq text (codes "for")) (bytes_eq text (codes "if")) h) [
   | inr is ↦ subst P (sym (same_bytes text (codes "if") is)) of_if
   | inl other ↦ elim (or_cases (bytes_eq text (codes "def")) (bytes_eq text (codes "for")) other) [
     | inl is ↦ subst P (sym (same_bytes text (codes "def") is)) of_def
@@ -35,17 +35,17 @@ pub word_opens : (kind : Kind) (text : List ℕ) → is_block_word_at kind text 
 word_opens kind text h = by_word (λ t. (word : Opener) × (opener_of t ≡ Some word)) kind text h (Def, refl) (For, refl) (If, refl)
 
 pub word_no_line : (kind : Kind) (text : List ℕ) → is_block_word_at kind text ≡ true → is_line kind ≡ false
-word_no_line Word text h = refl
+word_no_line Keyword text h = refl
 word_no_line _ text h = absurd (false≢true h)
 
 pub word_no_note : (kind : Kind) (text : List ℕ) → is_block_word_at kind text ≡ true → is_note kind ≡ false
-word_no_note Word text h = refl
+word_no_note Keyword text h = refl
 word_no_note _ text h = absurd (false≢true h)
 
 -- no letter, digit or underscore follows the word
 pub word_ended : (kind : Kind) (text after : List ℕ) → is_block_word_at kind text ≡ true → ends kind text after ≡ true → stops_word after ≡ true
-word_ended Word text [] h stop = refl
-word_ended Word text (b ∷ bs) h stop = stop
+word_ended Keyword text [] h stop = refl
+word_ended Keyword text (b ∷ bs) h stop = stop
 word_ended _ text after h stop = absurd (false≢true h)
 
 pub blank_no_line : (b : ℕ) → is_blank b ≡ true → (b == 10) ≡ false

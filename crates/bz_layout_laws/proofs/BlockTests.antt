@@ -4,7 +4,7 @@ use Rattle.std.specs.Prelude.{codes, None}
 use Rattle.std.specs.List.{list_all, prefix_len}
 use Rattle.std.proofs.lemmas.Bool.{cases_Bool, false≢true, and_parts}
 use Rattle.bz_token.specs.declared.token.Kind.{Kind}
-use Rattle.bz_token.specs.declared.token.Kind.TheVariants.{Line as LineKind, Note}
+use Rattle.bz_token.specs.declared.token.Kind.TheVariants.{Newline, Comment as CommentToken}
 use Rattle.bz_token.specs.Brackets.{is_line, fits, open_after_token}
 use Rattle.bz_token.specs.Ends.{ends, stops_at}
 use Rattle.bz_token.specs.Lexical.{is_blank, is_newline, is_text}
@@ -43,7 +43,7 @@ stops_before kind text (b ∷ bs) after rest is h = h
 
 -- what ends a text ends it where a newline comes earlier
 ends_before : (kind : Kind) (text bytes after rest : List ℕ) → is_text kind text ≡ true → ends kind text (bytes ++ after) ≡ true → ends kind text (bytes ++ 10 ∷ rest) ≡ true
-ends_before Note text bytes after rest is h = note_before bytes after rest h
+ends_before CommentToken text bytes after rest is h = note_before bytes after rest h
 ends_before kind text bytes after rest is h = stops_before kind text bytes after rest is h
 
 ended_before : (ps : List Piece) (after rest : List ℕ) → are_texts ps ≡ true → are_ended ps after ≡ true → are_ended ps (10 ∷ rest) ≡ true
@@ -55,8 +55,8 @@ ended_before (p ∷ ps) after rest texts h =
 
 -- comments and newlines open and close no brackets
 aside_open : (kind : Kind) (text opened : List ℕ) → is_aside kind ≡ true → is_text kind text ≡ true → open_after_token opened text ≡ opened
-aside_open Note text opened h is = free_open opened text (other_free Note text refl is)
-aside_open LineKind text opened h is = free_open opened text (other_free LineKind text refl is)
+aside_open CommentToken text opened h is = free_open opened text (other_free CommentToken text refl is)
+aside_open Newline text opened h is = free_open opened text (other_free Newline text refl is)
 aside_open _ text opened h is = absurd (false≢true h)
 
 pub asides_open : (ps : List Piece) (opened : List ℕ) → list_all is_aside_piece ps ≡ true → are_texts ps ≡ true → open_after opened ps ≡ opened
@@ -67,7 +67,7 @@ asides_open (p ∷ ps) opened h texts =
     ap (λ o. open_after o ps) (aside_open p.kind p.text opened a.0 t.0) ∙ asides_open ps opened a.1 t.1
 
 line_open : (kind : Kind) (text opened : List ℕ) → is_line kind ≡ true → is_text kind text ≡ true → open_after_token opened text ≡ opened
-line_open LineKind text opened h is = free_open opened text (other_free LineKind text refl is)
+line_open Newline text opened h is = free_open opened text (other_free Newline text refl is)
 line_open _ text opened h is = absurd (false≢true h)
 
 newlines_open : (ps : List Piece) (opened : List ℕ) → list_all is_newline_piece ps ≡ true → are_texts ps ≡ true → open_after opened ps ≡ opened
@@ -104,9 +104,9 @@ comments_pass depth texts rest h =
 
 -- newlines
 abbrev pub newline : Piece
-newline = record { gap = []; kind = LineKind; text = codes "\n" }
+newline = record { gap = []; kind = Newline; text = codes "\n" }
 
-newline_ends : (after : List ℕ) → ends LineKind (codes "\n") after ≡ true
+newline_ends : (after : List ℕ) → ends Newline (codes "\n") after ≡ true
 newline_ends [] = refl
 newline_ends (b ∷ bs) = refl
 
@@ -116,7 +116,7 @@ newlines_pass depth (suc n) rest =
     let more = newlines_pass depth n rest in
     record {
       texts = more.texts;
-      ended = both (ends LineKind (codes "\n") (bytes_of (replicate n newline) ++ rest)) (are_ended (replicate n newline) rest) (newline_ends (bytes_of (replicate n newline) ++ rest)) more.ended;
+      ended = both (ends Newline (codes "\n") (bytes_of (replicate n newline) ++ rest)) (are_ended (replicate n newline) rest) (newline_ends (bytes_of (replicate n newline) ++ rest)) more.ended;
       fitting = more.fitting;
       closed = more.closed;
     }

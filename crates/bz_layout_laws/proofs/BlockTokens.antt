@@ -4,7 +4,7 @@ use Rattle.std.specs.Prelude.{is_some, option_map, if◌then◌else◌}
 use Rattle.std.specs.List.{list_all}
 use Rattle.std.proofs.lemmas.Bool.{false≢true, and_parts}
 use Rattle.bz_token.specs.declared.token.Kind.{Kind}
-use Rattle.bz_token.specs.declared.token.Kind.TheVariants.{Line as LineKind, Note}
+use Rattle.bz_token.specs.declared.token.Kind.TheVariants.{Newline, Comment as CommentToken}
 use Rattle.bz_token.specs.Places.{Placed}
 use Rattle.bz_tree.specs.declared.kinds.Mark.{Mark}
 use Rattle.bz_tree.specs.declared.kinds.Mark.TheVariants.{Open, Close, Comma, Comment, NewLine, Plain}
@@ -106,13 +106,13 @@ abbrev pub are_aside : List Placed → Bool
 are_aside ts = list_all (λ t. is_aside t.kind) ts
 
 aside_bad : (kind : Kind) (text : List ℕ) (t : Placed) (ls : List (List Placed)) (columns : List ℕ) (opens : Bool) → is_aside kind ≡ true → bad_line columns opens (with_token (kind_mark kind text) t ls) ≡ bad_line columns opens ls
-aside_bad Note text t ls columns opens h = refl
-aside_bad LineKind text t ls columns opens h = refl
+aside_bad CommentToken text t ls columns opens h = refl
+aside_bad Newline text t ls columns opens h = refl
 aside_bad _ text t ls columns opens h = absurd (false≢true h)
 
 aside_header : (kind : Kind) (text : List ℕ) (t : Placed) (ls : List (List Placed)) → is_aside kind ≡ true → header_line (with_token (kind_mark kind text) t ls) ≡ header_line ls
-aside_header Note text t ls h = refl
-aside_header LineKind text t ls h = refl
+aside_header CommentToken text t ls h = refl
+aside_header Newline text t ls h = refl
 aside_header _ text t ls h = absurd (false≢true h)
 
 pub front_bad : (aa ts : List Placed) (columns : List ℕ) (opens : Bool) → are_aside aa ≡ true → bad_line columns opens (logical_lines (aa ++ ts)) ≡ bad_line columns opens (logical_lines ts)

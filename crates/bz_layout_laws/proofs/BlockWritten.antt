@@ -4,7 +4,7 @@ use Rattle.std.specs.Prelude.{codes}
 use Rattle.std.specs.List.{list_all}
 use Rattle.std.proofs.lemmas.Bool.{false≢true}
 use Rattle.bz_token.specs.declared.token.Kind.{Kind}
-use Rattle.bz_token.specs.declared.token.Kind.TheVariants.{Word, Line as LineKind, Kept}
+use Rattle.bz_token.specs.declared.token.Kind.TheVariants.{Keyword, Newline, Kept}
 use Rattle.bz_token.specs.Places.{column_at}
 use Rattle.bz_token.specs.Reading.{Piece, bytes_of, tokens_of}
 use Rattle.bz_token.proofs.Progress.{column_from-append}
@@ -54,7 +54,7 @@ text_is texts header mid start end more =
     ∙ ap (λ x. bytes_of (lines_above texts) ++ x) (bytes_join (close header ∷ mid) (replicate (suc more) newline) ∙ ap (λ x. kept ++ 10 ∷ x) (newline_bytes more))
     ∙ ap (λ x. x ++ (kept ++ 10 ∷ replicate more 10)) (read_bytes (comment_lines texts))
     ∙ regroup (layout_bytes (comment_lines texts)) kept (replicate more 10)
-    ∙ ap (λ x. x ++ replicate more 10) (sym (bytes_append (comment_lines texts) (piece Closed Kept kept ∷ piece Closed LineKind (codes "\n") ∷ [])))
+    ∙ ap (λ x. x ++ replicate more 10) (sym (bytes_append (comment_lines texts) (piece Closed Kept kept ∷ piece Closed Newline (codes "\n") ∷ [])))
   where
     regroup : (a k n : List ℕ) → a ++ (k ++ 10 ∷ n) ≡ (a ++ (k ++ 10 ∷ [])) ++ n
     regroup a k n = simp append_assoc
@@ -75,7 +75,7 @@ lines_column (text ∷ texts) before h =
 
 -- the comments of the lines
 above_counted : (kind : Kind) (text word : List ℕ) (later : List (List ℕ)) → is_block_word_at kind text ≡ true → above_at (kind_mark kind text) word later ≡ []
-above_counted Word text word later h = refl
+above_counted Keyword text word later h = refl
 above_counted _ text word later h = absurd (false≢true h)
 
 pub above_lines : (first : ℕ) (texts : List (List ℕ)) (header : Piece) (ps : List Piece) (before lines : List ℕ) → is_block_word_at header.kind header.text ≡ true → above (tokens_of first before lines (lines_above texts ++ (header ∷ ps))) ≡ texts

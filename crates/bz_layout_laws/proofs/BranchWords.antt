@@ -6,7 +6,7 @@ use Rattle.std.specs.Char.{is_ascii_digit}
 use Rattle.std.proofs.lemmas.Bool.{cases_Bool, and_parts, false≢true, eqb-true}
 use Rattle.std.proofs.lemmas.List.Sums.{take_while-cons}
 use Rattle.bz_token.specs.declared.token.Kind.{Kind}
-use Rattle.bz_token.specs.declared.token.Kind.TheVariants.{Ident, Word, Int, Text, Sign, Line, Note, Kept}
+use Rattle.bz_token.specs.declared.token.Kind.TheVariants.{Identifier, Keyword, Integer, String, Operator, Newline, Comment, Kept}
 use Rattle.bz_token.specs.declared.cutter.block.Opener.TheVariants.{If}
 use Rattle.bz_token.specs.Pieces.{is_quote}
 use Rattle.bz_token.specs.Lexical.{is_name, is_keyword, is_string, IsToken, is_word_byte}
@@ -53,31 +53,31 @@ string_first x text is = elim (cases_Bool (x == 101)) [
 ]
 
 first_word : (kind : Kind) (b : ℕ) (bs after : List ℕ) → IsToken kind (b ∷ bs) after → is_branch (b ∷ bs) ≡ false → is_branch (word_at ((b ∷ bs) ++ after)) ≡ false
-first_word Ident b bs after token none = ap is_branch (whole_word (b ∷ bs) after (words (and_parts (is_name (b ∷ bs)) (not (is_keyword (b ∷ bs))) token.whole).0) (stop after (token_ends Ident (b ∷ bs) after token))) ∙ none
+first_word Identifier b bs after token none = ap is_branch (whole_word (b ∷ bs) after (words (and_parts (is_name (b ∷ bs)) (not (is_keyword (b ∷ bs))) token.whole).0) (stop after (token_ends Identifier (b ∷ bs) after token))) ∙ none
   where
     words : is_name (b ∷ bs) ≡ true → list_all is_word_byte (b ∷ bs) ≡ true
     words name = (and_parts (not (is_ascii_digit b)) (list_all is_word_byte (b ∷ bs)) name).1
 
-    stop : (after : List ℕ) → stops_at Ident (b ∷ bs) after ≡ true → stops_word after ≡ true
+    stop : (after : List ℕ) → stops_at Identifier (b ∷ bs) after ≡ true → stops_word after ≡ true
     stop [] h = refl
     stop (c ∷ cs) h = (and_parts (not (is_word_byte c)) (not (is_quote c && is_prefix (b ∷ bs))) h).0
-first_word Word b bs after token none = ap is_branch (whole_word (b ∷ bs) after (words (keyword_name (b ∷ bs) token.whole)) (stop after (token_ends Word (b ∷ bs) after token))) ∙ none
+first_word Keyword b bs after token none = ap is_branch (whole_word (b ∷ bs) after (words (keyword_name (b ∷ bs) token.whole)) (stop after (token_ends Keyword (b ∷ bs) after token))) ∙ none
   where
     words : is_name (b ∷ bs) ≡ true → list_all is_word_byte (b ∷ bs) ≡ true
     words name = (and_parts (not (is_ascii_digit b)) (list_all is_word_byte (b ∷ bs)) name).1
 
-    stop : (after : List ℕ) → stops_at Word (b ∷ bs) after ≡ true → stops_word after ≡ true
+    stop : (after : List ℕ) → stops_at Keyword (b ∷ bs) after ≡ true → stops_word after ≡ true
     stop [] h = refl
     stop (c ∷ cs) h = h
-first_word Text b bs after token none = other_word b (bs ++ after) (string_first b bs token.whole)
-first_word Int b bs after token none = other_word b (bs ++ after) (apart Int b 101 (text_class Int b bs token.whole) refl)
-first_word Sign b bs after token none = other_word b (bs ++ after) (apart Sign b 101 (text_class Sign b bs token.whole) refl)
-first_word Note b bs after token none = other_word b (bs ++ after) (apart Note b 101 (text_class Note b bs token.whole) refl)
-first_word Line b bs after token none = other_word b (bs ++ after) (apart Line b 101 (text_class Line b bs token.whole) refl)
+first_word String b bs after token none = other_word b (bs ++ after) (string_first b bs token.whole)
+first_word Integer b bs after token none = other_word b (bs ++ after) (apart Integer b 101 (text_class Integer b bs token.whole) refl)
+first_word Operator b bs after token none = other_word b (bs ++ after) (apart Operator b 101 (text_class Operator b bs token.whole) refl)
+first_word Comment b bs after token none = other_word b (bs ++ after) (apart Comment b 101 (text_class Comment b bs token.whole) refl)
+first_word Newline b bs after token none = other_word b (bs ++ after) (apart Newline b 101 (text_class Newline b bs token.whole) refl)
 first_word Kept b bs after token none = absurd (false≢true token.whole)
 
 no_line : (kind : Kind) → is_line kind ≡ false → can_start kind (class_of 10) ≡ false
-no_line Line h = absurd (false≢true (sym h))
+no_line Newline h = absurd (false≢true (sym h))
 no_line _ h = refl
 
 pub no_branch : (kind : Kind) (text after : List ℕ) → IsToken kind text after → is_line kind ≡ false → is_branch text ≡ false → goes_on If (text ++ after) ≡ false

@@ -1,7 +1,7 @@
 -- Comment lines and the empty line after them are a chunk.
 use Rattle.std.proofs.Common.{◌≡◌, ℕ, ◌≤◌, List, [], ◌∷◌, ◌++◌, true, refl, sym, ap, subst, ◌∙◌, append-nil, arith}
 use Rattle.std.specs.Prelude.{codes, if◌then◌else◌}
-use Rattle.bz_token.specs.declared.token.Kind.TheVariants.{Line as LineKind}
+use Rattle.bz_token.specs.declared.token.Kind.TheVariants.{Newline}
 use Rattle.bz_token.specs.Cuts.{IsChunk}
 use Rattle.bz_token.specs.FreshStart.{ends_in_line, AreLinesOf}
 use Rattle.bz_token.specs.LogicalLines.{lines}
@@ -23,7 +23,7 @@ use Rattle.bz_layout_laws.proofs.TokensBack.{layout_read, layout_ends}
 use Rattle.bz_layout_laws.proofs.WholeChunk.{comments_are}
 
 abbrev pub newline : ReadPiece
-newline = record { gap = []; kind = LineKind; text = codes "\n" }
+newline = record { gap = []; kind = Newline; text = codes "\n" }
 
 last_line : (ps : List ReadPiece) → ends_in_line (ps ++ newline ∷ []) ≡ true
 last_line [] = refl

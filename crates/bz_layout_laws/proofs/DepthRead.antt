@@ -8,7 +8,7 @@ use Rattle.std.proofs.lemmas.Bool.{false≢true, and_parts}
 use Rattle.std.proofs.lemmas.Bool.Decides.{nat_tests}
 use Rattle.std.proofs.lemmas.Slice.Eq.{bytes_eq-Decides}
 use Rattle.bz_token.specs.declared.token.Kind.{Kind}
-use Rattle.bz_token.specs.declared.token.Kind.TheVariants.{Sign}
+use Rattle.bz_token.specs.declared.token.Kind.TheVariants.{Operator}
 use Rattle.bz_token.specs.Brackets.{is_inside, is_line as is_line_kind, is_opening_bracket, is_closing_bracket, bracket_fits, fits, open_after_token}
 use Rattle.bz_token.specs.Lexical.{is_text, is_comment}
 use Rattle.bz_token.specs.Places.{Placed, line_at}
@@ -69,7 +69,7 @@ sign_other text = by (bytes_eq text (codes "(")) (bytes_eq text (codes "[")) (by
     by false false false false false false false = refl
 
 other_mark_free : (kind : Kind) (text : List ℕ) → is_other_mark (kind_mark kind text) ≡ true → is_text kind text ≡ true → is_free text ≡ true
-other_mark_free Sign text h is = sign_free text (sym (sign_other text) ∙ h)
+other_mark_free Operator text h is = sign_free text (sym (sign_other text) ∙ h)
 other_mark_free kind text h is = other_free kind text refl is
 
 line_other : (m : Mark) → is_line m ≡ true → is_other_mark m ≡ true
@@ -140,11 +140,11 @@ sign_closes text h = by (bytes_eq text (codes "(")) (bytes_eq text (codes "[")) 
     by false false false false false false false p q r k = absurd (false≢true k)
 
 kind_opens : (kind : Kind) (text : List ℕ) → is_open_mark (kind_mark kind text) ≡ true → Opens text
-kind_opens Sign text h = sign_opens text h
+kind_opens Operator text h = sign_opens text h
 kind_opens _ text h = absurd (false≢true h)
 
 kind_closes : (kind : Kind) (text : List ℕ) → is_close_mark (kind_mark kind text) ≡ true → Closes text
-kind_closes Sign text h = sign_closes text h
+kind_closes Operator text h = sign_closes text h
 kind_closes _ text h = absurd (false≢true h)
 
 open_more : (opened : List ℕ) (text : List ℕ) (o : Opens text) → open_after_token opened text ≡ o.0 ∷ opened

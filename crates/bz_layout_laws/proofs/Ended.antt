@@ -4,7 +4,7 @@ use Rattle.std.specs.Prelude.{codes}
 use Rattle.std.proofs.lemmas.Bool.{false≢true, eqb-true}
 use Rattle.std.proofs.lemmas.List.{map-append}
 use Rattle.bz_token.specs.declared.token.Kind.{Kind}
-use Rattle.bz_token.specs.declared.token.Kind.TheVariants.{Sign, Line as LineKind, Note}
+use Rattle.bz_token.specs.declared.token.Kind.TheVariants.{Operator, Newline, Comment}
 use Rattle.bz_token.specs.Lexical.{begins, is_newline}
 use Rattle.bz_token.specs.Ends.{stops_at, ends}
 use Rattle.bz_token.specs.Reading.{bytes_of as bytes_read}
@@ -61,18 +61,18 @@ one : {rest : List ℕ} (gap : Gap) (kind : Kind) (text : List ℕ) → ends kin
 one gap kind text h = more gap kind text h ended_none
 
 -- a newline ends a comment, and anything brackets and commas
-note_ended : (text after : List ℕ) → begins is_newline after ≡ true → ends Note text after ≡ true
+note_ended : (text after : List ℕ) → begins is_newline after ≡ true → ends Comment text after ≡ true
 note_ended text [] h = refl
 note_ended text (b ∷ bs) h = let same : b ≡ 10 = eqb-true b 10 h in rw same refl
 
-comma_ends : (after : List ℕ) → ends Sign (codes ",") after ≡ true
+comma_ends : (after : List ℕ) → ends Operator (codes ",") after ≡ true
 comma_ends [] = refl
 comma_ends (b ∷ bs) = whole_stops 44 b refl
 
-opening_ends : (kind : GroupKind) (after : List ℕ) → ends Sign (opening kind) after ≡ true
-opening_ends kind after = stopped_at_ends Sign (opening kind) after (by kind after)
+opening_ends : (kind : GroupKind) (after : List ℕ) → ends Operator (opening kind) after ≡ true
+opening_ends kind after = stopped_at_ends Operator (opening kind) after (by kind after)
   where
-    by : (kind : GroupKind) (after : List ℕ) → stops_at Sign (opening kind) after ≡ true
+    by : (kind : GroupKind) (after : List ℕ) → stops_at Operator (opening kind) after ≡ true
     by kind [] = refl
     by ListKind (b ∷ bs) = whole_stops 91 b refl
     by Index (b ∷ bs) = whole_stops 91 b refl
@@ -81,10 +81,10 @@ opening_ends kind after = stopped_at_ends Sign (opening kind) after (by kind aft
     by DictComp (b ∷ bs) = whole_stops 123 b refl
     by _ (b ∷ bs) = whole_stops 40 b refl
 
-closing_ends : (kind : GroupKind) (after : List ℕ) → ends Sign (closing kind) after ≡ true
-closing_ends kind after = stopped_at_ends Sign (closing kind) after (by kind after)
+closing_ends : (kind : GroupKind) (after : List ℕ) → ends Operator (closing kind) after ≡ true
+closing_ends kind after = stopped_at_ends Operator (closing kind) after (by kind after)
   where
-    by : (kind : GroupKind) (after : List ℕ) → stops_at Sign (closing kind) after ≡ true
+    by : (kind : GroupKind) (after : List ℕ) → stops_at Operator (closing kind) after ≡ true
     by kind [] = refl
     by ListKind (b ∷ bs) = whole_stops 93 b refl
     by Index (b ∷ bs) = whole_stops 93 b refl
@@ -93,17 +93,17 @@ closing_ends kind after = stopped_at_ends Sign (closing kind) after (by kind aft
     by DictComp (b ∷ bs) = whole_stops 125 b refl
     by _ (b ∷ bs) = whole_stops 41 b refl
 
-closing_stops : (gap : Gap) (kind : GroupKind) (rest : List ℕ) → stops_all (before (piece Closed Sign (closing kind) ∷ []) rest) ≡ true
+closing_stops : (gap : Gap) (kind : GroupKind) (rest : List ℕ) → stops_all (before (piece Closed Operator (closing kind) ∷ []) rest) ≡ true
 closing_stops gap Call rest = refl
 closing_stops gap _ rest = refl
 
 comma_ended : (b : Bool) (rest : List ℕ) → AreEnded (comma_if b) rest
-comma_ended true rest = one Closed Sign (codes ",") (comma_ends rest)
+comma_ended true rest = one Closed Operator (codes ",") (comma_ends rest)
 comma_ended false rest = ended_none
 
 notes_ended : (level : ℕ) (texts : List (List ℕ)) (rest : List ℕ) → begins is_newline rest ≡ true → AreEnded (comments level texts) rest
 notes_ended level [] rest h = ended_none
-notes_ended level (text ∷ texts) rest h = more (Line level) Note text (note_ended text (before (comments level texts) rest) (notes_begin level texts rest h)) (notes_ended level texts rest h)
+notes_ended level (text ∷ texts) rest h = more (Line level) Comment text (note_ended text (before (comments level texts) rest) (notes_begin level texts rest h)) (notes_ended level texts rest h)
   where
     notes_begin : (level : ℕ) (texts : List (List ℕ)) (rest : List ℕ) → begins is_newline rest ≡ true → begins is_newline (before (comments level texts) rest) ≡ true
     notes_begin level [] rest h = h
@@ -111,18 +111,18 @@ notes_ended level (text ∷ texts) rest h = more (Line level) Note text (note_en
 
 suffix_ended : (suffix : Option (List ℕ)) (rest : List ℕ) → begins is_newline rest ≡ true → AreEnded (suffix_piece suffix) rest
 suffix_ended None rest h = ended_none
-suffix_ended (Some text) rest h = one Apart Note text (note_ended text rest h)
+suffix_ended (Some text) rest h = one Apart Comment text (note_ended text rest h)
 
-newline_ends : (after : List ℕ) → ends LineKind (codes "\n") after ≡ true
+newline_ends : (after : List ℕ) → ends Newline (codes "\n") after ≡ true
 newline_ends [] = refl
 newline_ends (b ∷ bs) = refl
 
 lines_ended : (texts : List (List ℕ)) (rest : List ℕ) → AreEnded (comment_lines texts) rest
 lines_ended [] rest = ended_none
-lines_ended (text ∷ texts) rest = more Closed Note text (note_ended text (before (piece Closed LineKind (codes "\n") ∷ comment_lines texts) rest) refl) (more Closed LineKind (codes "\n") (newline_ends _) (lines_ended texts rest))
+lines_ended (text ∷ texts) rest = more Closed Comment text (note_ended text (before (piece Closed Newline (codes "\n") ∷ comment_lines texts) rest) refl) (more Closed Newline (codes "\n") (newline_ends _) (lines_ended texts rest))
 
 -- the end comments and the bracket of a broken group begin on a new line
-end_begins : (level : ℕ) (texts : List (List ℕ)) (upper : ℕ) (kind : GroupKind) (rest : List ℕ) → begins is_newline (before (comments level texts ++ piece (Line upper) Sign (closing kind) ∷ []) rest) ≡ true
+end_begins : (level : ℕ) (texts : List (List ℕ)) (upper : ℕ) (kind : GroupKind) (rest : List ℕ) → begins is_newline (before (comments level texts ++ piece (Line upper) Operator (closing kind) ∷ []) rest) ≡ true
 end_begins level [] upper kind rest = refl
 end_begins level (text ∷ texts) upper kind rest = refl
 
@@ -147,7 +147,7 @@ flat_stops : (style : Style) (level : ℕ) (kind : GroupKind) (ss : Segs) (rest 
 flat_stops style level kind no_segs rest h = h
 flat_stops style level kind (seg befores nodes suffix ss) rest h = refl
 
-close_stops : (one_comma : Bool) (kind : GroupKind) (rest : List ℕ) → stops_all (before (comma_if one_comma ++ piece Closed Sign (closing kind) ∷ []) rest) ≡ true
+close_stops : (one_comma : Bool) (kind : GroupKind) (rest : List ℕ) → stops_all (before (comma_if one_comma ++ piece Closed Operator (closing kind) ∷ []) rest) ≡ true
 close_stops true kind rest = refl
 close_stops false kind rest = closing_stops Closed kind rest
 
@@ -160,12 +160,12 @@ mutual
   item_ended style level gap within left (leaf kind text) rest h stands = one gap kind _ (leaf_ended within left kind text rest h stands)
   item_ended style level gap within left (group kind segs one_comma end) rest h stands =
       let comma = has_commas kind one_comma (count segs) in
-      let last : List Piece = piece (Line level) Sign (closing kind) ∷ [] in
-      let close : List Piece = piece Closed Sign (closing kind) ∷ [] in
-      more gap Sign (opening kind) (opening_ends kind _)
+      let last : List Piece = piece (Line level) Operator (closing kind) ∷ [] in
+      let close : List Piece = piece Closed Operator (closing kind) ∷ [] in
+      more gap Operator (opening kind) (opening_ends kind _)
       (either_way (λ ps. AreEnded ps rest) (breaks style (is_broken kind segs end (segs_hold segs))) (broken_segs style (level + 1) kind comma segs ++ (comments (level + 1) end ++ last)) (flat_segs style level kind true segs ++ (comma_if one_comma ++ close))
-      (join (broken_ended style (level + 1) kind comma segs _ h.0 (end_begins (level + 1) end level kind rest)) (join (notes_ended (level + 1) end _ refl) (one (Line level) Sign (closing kind) (closing_ends kind rest))))
-      (join (flat_ended style level kind true segs _ h.0 (close_stops one_comma kind rest)) (join (comma_ended one_comma _) (one Closed Sign (closing kind) (closing_ends kind rest)))))
+      (join (broken_ended style (level + 1) kind comma segs _ h.0 (end_begins (level + 1) end level kind rest)) (join (notes_ended (level + 1) end _ refl) (one (Line level) Operator (closing kind) (closing_ends kind rest))))
+      (join (flat_ended style level kind true segs _ h.0 (close_stops one_comma kind rest)) (join (comma_ended one_comma _) (one Closed Operator (closing kind) (closing_ends kind rest)))))
 
   items_ended : (style : Style) (level : ℕ) (within : Option GroupKind) (first : Gap) (left : Edge) (xs : Items) (rest : List ℕ) → AreLegible within left xs → stops_all rest ≡ true → AreEnded (items_pieces style level within first left xs) rest
   items_ended style level within first left no_items rest h stops = ended_none
@@ -189,17 +189,17 @@ mutual
   flat_ended style level kind true (seg befores nodes suffix ss) rest h stops =
       join (items_ended style level (Some kind) Closed Start nodes (before (flat_segs style level kind false ss) rest) h.2 (flat_stops style level kind ss rest stops)) (flat_ended style level kind false ss rest h.4 stops)
   flat_ended style level kind false (seg befores nodes suffix ss) rest h stops =
-      more Closed Sign (codes ",") (comma_ends _)
+      more Closed Operator (codes ",") (comma_ends _)
       (join (items_ended style level (Some kind) Space Start nodes (before (flat_segs style level kind false ss) rest) h.2 (flat_stops style level kind ss rest stops)) (flat_ended style level kind false ss rest h.4 stops))
 
-suffix_stops : (suffix : Option (List ℕ)) (rest : List ℕ) → stops_all (before (suffix_piece suffix ++ piece Closed LineKind (codes "\n") ∷ []) rest) ≡ true
+suffix_stops : (suffix : Option (List ℕ)) (rest : List ℕ) → stops_all (before (suffix_piece suffix ++ piece Closed Newline (codes "\n") ∷ []) rest) ≡ true
 suffix_stops None rest = refl
 suffix_stops (Some text) rest = refl
 
 pub line_ended : (s : Statement) (rest : List ℕ) → IsLegible s → AreEnded (statement_line s) rest
 line_ended s rest h =
     join (items_ended Broken 0 None Closed Start (items_of s.nodes) _ h.nodes (suffix_stops s.suffix rest))
-    (join (suffix_ended s.suffix _ refl) (one Closed LineKind (codes "\n") (newline_ends rest)))
+    (join (suffix_ended s.suffix _ refl) (one Closed Newline (codes "\n") (newline_ends rest)))
 
 pub layout_ended : (s : Statement) (rest : List ℕ) → IsLegible s → AreEnded (layout s) rest
 layout_ended s rest h = join (lines_ended s.before _) (either_way (λ ps. AreEnded ps rest) (is_comment_class s.class) [] (statement_line s) ended_none (line_ended s rest h))

@@ -3,7 +3,7 @@ use Rattle.std.proofs.Common.{◌≡◌, ℕ, List, [], ◌∷◌, true, false, 
 use Rattle.std.specs.Prelude.{codes}
 use Rattle.std.specs.Prelude.Option.{Some, None}
 use Rattle.std.proofs.lemmas.Bool.{false≢true}
-use Rattle.bz_token.specs.declared.token.Kind.TheVariants.{Ident, Word, Text, Sign, Line, Note}
+use Rattle.bz_token.specs.declared.token.Kind.TheVariants.{Identifier, Keyword, String, Operator, Newline, Comment}
 use Rattle.bz_token.specs.Lexical.{keywords, signs}
 use Rattle.bz_tree.specs.declared.stmt.GroupKind.TheVariants.{List as ListKind, Paren, Index, ListComp}
 use Rattle.bz_tree.specs.declared.stmt.Class.TheVariants.{Assign}
@@ -18,15 +18,15 @@ use Rattle.bz_layout_laws.specs.Spelled.{spelled_statement}
 use Rattle.bz_layout_laws.specs.Lineless.{lineless}
 
 abbrev sign : List ℕ → Item
-sign text = leaf Sign text
+sign text = leaf Operator text
 
 -- `x = [-'a']` with a comment in each place
 abbrev example : Statement
 example = record {
   before = codes "# top" ∷ [];
   nodes =
-      leaf Ident (codes "x") ∷ leaf Sign (codes "=")
-      ∷ group ListKind (segs_of (record { before = codes "# a" ∷ []; nodes = leaf Sign (codes "-") ∷ leaf Text (codes "'a'") ∷ []; suffix = Some (codes "# b") } ∷ [])) false (codes "# c" ∷ [])
+      leaf Identifier (codes "x") ∷ leaf Operator (codes "=")
+      ∷ group ListKind (segs_of (record { before = codes "# a" ∷ []; nodes = leaf Operator (codes "-") ∷ leaf String (codes "'a'") ∷ []; suffix = Some (codes "# b") } ∷ [])) false (codes "# c" ∷ [])
       ∷ [];
   suffix = Some (codes "# d");
   class = Assign;
@@ -53,11 +53,11 @@ no_block : begins_block (items_of example.nodes) ≡ false
 no_block = refl
 
 abbrev beside : List ℕ → Lexeme
-beside text = record { kind = Note; text = text; beside = true }
+beside text = record { kind = Comment; text = text; beside = true }
 
 lexemes : lexemes_of example
-    ≡ lexeme Note (codes "# top") ∷ lexeme Line (codes "\n") ∷ lexeme Ident (codes "x") ∷ lexeme Sign (codes "=") ∷ lexeme Sign (codes "[") ∷ lexeme Note (codes "# a") ∷ lexeme Sign (codes "-")
-    ∷ lexeme Text (codes "\"a\"") ∷ lexeme Sign (codes ",") ∷ beside (codes "# b") ∷ lexeme Note (codes "# c") ∷ lexeme Sign (codes "]") ∷ beside (codes "# d") ∷ lexeme Line (codes "\n") ∷ []
+    ≡ lexeme Comment (codes "# top") ∷ lexeme Newline (codes "\n") ∷ lexeme Identifier (codes "x") ∷ lexeme Operator (codes "=") ∷ lexeme Operator (codes "[") ∷ lexeme Comment (codes "# a") ∷ lexeme Operator (codes "-")
+    ∷ lexeme String (codes "\"a\"") ∷ lexeme Operator (codes ",") ∷ beside (codes "# b") ∷ lexeme Comment (codes "# c") ∷ lexeme Operator (codes "]") ∷ beside (codes "# d") ∷ lexeme Newline (codes "\n") ∷ []
 lexemes = refl
 
 -- spelled as it is written, and elsewhere
@@ -69,15 +69,15 @@ one_sign : AreLegible None Start (items_of (sign (codes "-") ∷ sign (codes "="
 one_sign h = false≢true h.2.0
 
 -- a block's word
-block : begins_block (items_of (leaf Word (codes "if") ∷ leaf Ident (codes "x") ∷ [])) ≡ true
+block : begins_block (items_of (leaf Keyword (codes "if") ∷ leaf Identifier (codes "x") ∷ [])) ≡ true
 block = refl
 
 -- `(x,)` and `x[1]` have the shape, and a comprehension of two segments has none
 abbrev one_segment : Segs
-one_segment = segs_of (record { before = []; nodes = leaf Ident (codes "x") ∷ []; suffix = None } ∷ [])
+one_segment = segs_of (record { before = []; nodes = leaf Identifier (codes "x") ∷ []; suffix = None } ∷ [])
 
 abbrev two_segments : Segs
-two_segments = segs_of (record { before = []; nodes = leaf Ident (codes "x") ∷ []; suffix = None } ∷ record { before = []; nodes = leaf Ident (codes "y") ∷ []; suffix = None } ∷ [])
+two_segments = segs_of (record { before = []; nodes = leaf Identifier (codes "x") ∷ []; suffix = None } ∷ record { before = []; nodes = leaf Identifier (codes "y") ∷ []; suffix = None } ∷ [])
 
 tuple : HasShape Paren one_segment true
 tuple = record { one = λ e. refl; comma = λ e. (refl, refl) }
@@ -88,5 +88,5 @@ index = record { one = λ e. refl; comma = λ e. absurd (false≢true e) }
 comprehension : HasShape ListComp two_segments false → ⊥
 comprehension h = false≢true (h.one refl)
 
-entries : entries_lexemes (written_entries true (segments one_segment) (codes "# c" ∷ [])) ≡ lexeme Ident (codes "x") ∷ lexeme Sign (codes ",") ∷ lexeme Note (codes "# c") ∷ []
+entries : entries_lexemes (written_entries true (segments one_segment) (codes "# c" ∷ [])) ≡ lexeme Identifier (codes "x") ∷ lexeme Operator (codes ",") ∷ lexeme Comment (codes "# c") ∷ []
 entries = refl

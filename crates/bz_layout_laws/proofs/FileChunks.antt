@@ -5,7 +5,7 @@ use Rattle.std.specs.Prelude.Option.{Some, None}
 use Rattle.std.specs.List.{AllByRecursion}
 use Rattle.std.proofs.lemmas.Bool.{false≢true}
 use Rattle.bz_token.specs.declared.cutter.block.Opener.TheVariants.{If}
-use Rattle.bz_token.specs.declared.token.Kind.TheVariants.{Line}
+use Rattle.bz_token.specs.declared.token.Kind.TheVariants.{Newline}
 use Rattle.bz_token.specs.Blocks.{goes_on}
 use Rattle.bz_token.specs.Chunks.{chunks}
 use Rattle.bz_token.specs.Cuts.{IsChunk}
@@ -25,7 +25,7 @@ use Rattle.bz_layout_laws.specs.ReadBack.{IsReadBack}
 
 -- an empty line as a text
 abbrev newlines : List Piece
-newlines = record { gap = []; kind = Line; text = codes "\n" } ∷ []
+newlines = record { gap = []; kind = Newline; text = codes "\n" } ∷ []
 
 -- its tokens
 abbrev pub blank_tokens : ℕ → List Placed

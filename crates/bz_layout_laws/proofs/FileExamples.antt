@@ -5,7 +5,7 @@ use Rattle.std.specs.Prelude.Option.{None}
 use Rattle.std.specs.List.{AllByRecursion}
 use Rattle.std.proofs.lemmas.Bool.{false≢true}
 use Rattle.bz_token.specs.declared.cutter.block.Opener.TheVariants.{If}
-use Rattle.bz_token.specs.declared.token.Kind.TheVariants.{Ident, Word, Int, Text, Sign, Kept}
+use Rattle.bz_token.specs.declared.token.Kind.TheVariants.{Identifier, Keyword, Integer, String, Operator, Kept}
 use Rattle.bz_token.specs.Blocks.{goes_on}
 use Rattle.bz_token.specs.Chunks.{chunks}
 use Rattle.bz_tree.specs.declared.stmt.Class.{Class}
@@ -27,19 +27,19 @@ abbrev statement : Class → List Item → Statement
 statement class nodes = record { before = []; nodes = nodes; suffix = None; class = class; start = 1; end = 1 }
 
 abbrev load : List ℕ → List ℕ → Statement
-load file name = statement LoadClass (leaf Word (codes "load") ∷ group Load (segs_of (segment (leaf Text file ∷ []) ∷ segment (leaf Text name ∷ []) ∷ [])) false [] ∷ [])
+load file name = statement LoadClass (leaf Keyword (codes "load") ∷ group Load (segs_of (segment (leaf String file ∷ []) ∷ segment (leaf String name ∷ []) ∷ [])) false [] ∷ [])
 
 abbrev lines : Statement
 lines = record { before = codes "# c" ∷ []; nodes = []; suffix = None; class = Comment; start = 1; end = 1 }
 
 abbrev rule : Statement
-rule = statement Rule (leaf Ident (codes "r") ∷ group RuleCall (segs_of (segment (leaf Int (codes "1") ∷ []) ∷ [])) false [] ∷ [])
+rule = statement Rule (leaf Identifier (codes "r") ∷ group RuleCall (segs_of (segment (leaf Integer (codes "1") ∷ []) ∷ [])) false [] ∷ [])
 
 abbrev block : Statement
 block = statement Block (leaf Kept (codes "if x:\n  y") ∷ [])
 
 abbrev assignment : Statement
-assignment = statement Assign (leaf Ident (codes "z") ∷ leaf Sign (codes "=") ∷ leaf Int (codes "1") ∷ [])
+assignment = statement Assign (leaf Identifier (codes "z") ∷ leaf Operator (codes "=") ∷ leaf Integer (codes "1") ∷ [])
 
 -- two loads, comment lines, a rule, a block and an assignment
 abbrev file : List Statement

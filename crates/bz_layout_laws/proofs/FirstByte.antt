@@ -3,7 +3,7 @@ use Rattle.std.proofs.Common.{◌≡◌, ℕ, ◌==◌, ◌&&◌, not, None, Lis
 use Rattle.std.specs.Prelude.{codes, if◌then◌else◌}
 use Rattle.std.proofs.lemmas.Bool.{cases_Bool, and_parts, false≢true, eqb-true}
 use Rattle.bz_token.specs.declared.token.Kind.{Kind}
-use Rattle.bz_token.specs.declared.token.Kind.TheVariants.{Text, Sign, Line as LineKind}
+use Rattle.bz_token.specs.declared.token.Kind.TheVariants.{String, Operator, Newline}
 use Rattle.bz_token.specs.declared.cutter.block.Opener.TheVariants.{If}
 use Rattle.bz_token.specs.Blocks.{goes_on}
 use Rattle.bz_token.specs.Brackets.{is_line}
@@ -38,7 +38,7 @@ begins_branch (item (group kind segs one_comma end) xs) = false
 
 -- a string that is spelled anew is none
 spelled_branch : (kind : Kind) (text : List ℕ) → is_branch text ≡ false → is_branch (respell kind text) ≡ false
-spelled_branch Text text h = elim (cases_Bool (is_single text)) [ inl hit ↦ rw hit refl | inr miss ↦ rw miss h ]
+spelled_branch String text h = elim (cases_Bool (is_single text)) [ inl hit ↦ rw hit refl | inr miss ↦ rw miss h ]
 spelled_branch _ text h = h
 
 opening_branch : (kind : GroupKind) → is_branch (opening kind) ≡ false
@@ -68,7 +68,7 @@ nodes_begin no_items ps rest some h none texts ended = absurd (false≢true some
 nodes_begin (item (leaf kind text) xs) ps rest some h none texts ended =
     first_piece kind (respell kind text) (tail_of (nodes_of (item (leaf kind text) xs) ++ ps)) rest (leaf_line kind text h.1.1) (spelled_branch kind text none) texts ended
 nodes_begin (item (group kind segs one_comma end) xs) ps rest some h none texts ended =
-    first_piece Sign (opening kind) (tail_of (nodes_of (item (group kind segs one_comma end) xs) ++ ps)) rest refl (opening_branch kind) texts ended
+    first_piece Operator (opening kind) (tail_of (nodes_of (item (group kind segs one_comma end) xs) ++ ps)) rest refl (opening_branch kind) texts ended
 
 -- a comment begins with a number sign
 pub note_begins : (note rest : List ℕ) → is_comment_text note ≡ true → goes_on If (note ++ rest) ≡ false
@@ -87,11 +87,11 @@ text_begins s h lines none rest = above s.before refl
   where
     by : (b : Bool) → is_comment s.class ≡ b → s.before ≡ [] → goes_on If (bytes_of (if b then [] else statement_line s) ++ rest) ≡ false
     by true class e = absurd (false≢true (sym (ap has_some e) ∙ lines class))
-    by false class e = nodes_begin (items_of s.nodes) (suffix_piece s.suffix ++ piece Closed LineKind (codes "\n") ∷ []) rest (h.some class) h.nodes none (line_whole s h).texts (line_ended s rest h).ended
+    by false class e = nodes_begin (items_of s.nodes) (suffix_piece s.suffix ++ piece Closed Newline (codes "\n") ∷ []) rest (h.some class) h.nodes none (line_whole s h).texts (line_ended s rest h).ended
 
     above : (before : List (List ℕ)) → s.before ≡ before → goes_on If (bytes_of (comment_lines s.before ++ (if is_comment s.class then [] else statement_line s)) ++ rest) ≡ false
     above [] e = rw e (by (is_comment s.class) refl e)
     above (note ∷ notes) e =
         rw e
-        (ap (goes_on If) (append_assoc note (bytes_of (piece Closed LineKind (codes "\n") ∷ (comment_lines notes ++ (if is_comment s.class then [] else statement_line s)))) rest)
+        (ap (goes_on If) (append_assoc note (bytes_of (piece Closed Newline (codes "\n") ∷ (comment_lines notes ++ (if is_comment s.class then [] else statement_line s)))) rest)
         ∙ note_begins note _ (and_parts (is_comment_text note) _ (rw e at h.before)).0)

@@ -4,7 +4,7 @@ use Rattle.std.specs.Prelude.{codes, is_some, if◌then◌else◌}
 use Rattle.std.specs.Str.{bytes_eq}
 use Rattle.std.proofs.lemmas.Bool.{false≢true}
 use Rattle.bz_token.specs.declared.token.Kind.{Kind}
-use Rattle.bz_token.specs.declared.token.Kind.TheVariants.{Word}
+use Rattle.bz_token.specs.declared.token.Kind.TheVariants.{Keyword}
 use Rattle.bz_token.specs.Blocks.{opener_of}
 use Rattle.bz_token.specs.Places.{Placed, line_at, column_from, column_at}
 use Rattle.bz_token.specs.Reading.{tokens_of}
@@ -57,7 +57,7 @@ no_opener false false true x y z h = absurd (false≢true (sym h))
 no_opener false false false x y z h = refl
 
 no_word : (kind : Kind) (text : List ℕ) → is_some (opener_of text) ≡ false → is_block_word_at kind (respell kind text) ≡ false
-no_word Word text h = no_opener (bytes_eq text (codes "def")) (bytes_eq text (codes "for")) (bytes_eq text (codes "if")) _ _ _ h
+no_word Keyword text h = no_opener (bytes_eq text (codes "def")) (bytes_eq text (codes "for")) (bytes_eq text (codes "if")) _ _ _ h
 no_word _ text h = refl
 
 front_token : (t : Placed) (ts : List Placed) → is_aside t.kind ≡ false → t.col ≡ 1 → is_block_word t ≡ false → Front (t ∷ ts)

@@ -7,7 +7,7 @@ use Rattle.std.proofs.lemmas.Bool.{and_parts}
 use Rattle.std.proofs.lemmas.Bool.Decides.{nat_tests}
 use Rattle.std.proofs.lemmas.List.{map-append}
 use Rattle.bz_token.specs.declared.token.Kind.{Kind}
-use Rattle.bz_token.specs.declared.token.Kind.TheVariants.{Sign, Line as LineKind, Note}
+use Rattle.bz_token.specs.declared.token.Kind.TheVariants.{Operator as OperatorToken, Newline, Comment}
 use Rattle.bz_token.specs.Lexical.{is_comment}
 use Rattle.bz_token.specs.Brackets.{is_inside, is_line, fits}
 use Rattle.bz_token.specs.Reading.{is_gap, open_after}
@@ -63,10 +63,10 @@ fits_free depth opened gap kind text stands free line = record {
   leaves = free_open opened text free;
 }
 
-fits_note : (depth : ℕ) (opened : List ℕ) (gap : Gap) (text : List ℕ) → Stands opened gap → is_comment text ≡ true → Fits depth opened (piece gap Note text ∷ []) opened
-fits_note depth opened gap text stands is = fits_free depth opened gap Note text stands (other_free Note text refl is) refl
+fits_note : (depth : ℕ) (opened : List ℕ) (gap : Gap) (text : List ℕ) → Stands opened gap → is_comment text ≡ true → Fits depth opened (piece gap Comment text ∷ []) opened
+fits_note depth opened gap text stands is = fits_free depth opened gap Comment text stands (other_free Comment text refl is) refl
 
-fits_comma : (depth : ℕ) (opened : List ℕ) → Fits depth opened (piece Closed Sign (codes ",") ∷ []) opened
+fits_comma : (depth : ℕ) (opened : List ℕ) → Fits depth opened (piece Closed OperatorToken (codes ",") ∷ []) opened
 fits_comma depth opened = record { fitting = refl; leaves = refl }
 
 -- the byte of an opening bracket
@@ -81,23 +81,23 @@ opener ListComp = 91
 opener Dict = 123
 opener DictComp = 123
 
-fits_opening : (depth : ℕ) (opened : List ℕ) (gap : Gap) (kind : GroupKind) → Stands opened gap → nat_lt (length opened) depth ≡ true → Fits depth opened (piece gap Sign (opening kind) ∷ []) (opener kind ∷ opened)
+fits_opening : (depth : ℕ) (opened : List ℕ) (gap : Gap) (kind : GroupKind) → Stands opened gap → nat_lt (length opened) depth ≡ true → Fits depth opened (piece gap OperatorToken (opening kind) ∷ []) (opener kind ∷ opened)
 fits_opening depth opened gap kind stands room = by kind
   where
     fit : ((is_gap (is_inside opened) (gap_bytes gap) && nat_lt (length opened) depth) && true) ≡ true
     fit = both _ true (both (is_gap (is_inside opened) (gap_bytes gap)) (nat_lt (length opened) depth) stands room) refl
 
-    by : (kind : GroupKind) → Fits depth opened (piece gap Sign (opening kind) ∷ []) (opener kind ∷ opened)
+    by : (kind : GroupKind) → Fits depth opened (piece gap OperatorToken (opening kind) ∷ []) (opener kind ∷ opened)
     by Call = record { fitting = fit; leaves = refl }
     by _ = record { fitting = fit; leaves = refl }
 
-fits_closing : (depth : ℕ) (opened : List ℕ) (gap : Gap) (kind : GroupKind) → is_gap true (gap_bytes gap) ≡ true → Fits depth (opener kind ∷ opened) (piece gap Sign (closing kind) ∷ []) opened
+fits_closing : (depth : ℕ) (opened : List ℕ) (gap : Gap) (kind : GroupKind) → is_gap true (gap_bytes gap) ≡ true → Fits depth (opener kind ∷ opened) (piece gap OperatorToken (closing kind) ∷ []) opened
 fits_closing depth opened gap kind stands = by kind
   where
     fit : ((is_gap true (gap_bytes gap) && true) && true) ≡ true
     fit = both _ true (both (is_gap true (gap_bytes gap)) true stands refl) refl
 
-    by : (kind : GroupKind) → Fits depth (opener kind ∷ opened) (piece gap Sign (closing kind) ∷ []) opened
+    by : (kind : GroupKind) → Fits depth (opener kind ∷ opened) (piece gap OperatorToken (closing kind) ∷ []) opened
     by Call = record { fitting = fit; leaves = refl }
     by _ = record { fitting = fit; leaves = refl }
 
@@ -119,7 +119,7 @@ lines_fit : (depth : ℕ) (texts : List (List ℕ)) → AreComments texts → Fi
 lines_fit depth [] h = fits_none
 lines_fit depth (text ∷ texts) h =
     let p = and_parts (is_comment text) (list_all is_comment texts) h in
-    let newline : Fits depth [] (piece Closed LineKind (codes "\n") ∷ []) [] = record { fitting = refl; leaves = refl } in
+    let newline : Fits depth [] (piece Closed Newline (codes "\n") ∷ []) [] = record { fitting = refl; leaves = refl } in
     fits_join (fits_note depth [] Closed text refl p.0) (fits_join newline (lines_fit depth texts p.1))
 
 gap_stands : (opened : List ℕ) (first : Gap) (left : Edge) (x : Item) → Stands opened first → Stands opened (gap_before first left x)
@@ -158,8 +158,8 @@ mutual
       let comma = has_commas kind one_comma (count segs) in
       let o = opener kind ∷ opened in
       let more = room_inside (length opened) (segs_depth segs) depth room in
-      let last : List Piece = piece (Line level) Sign (closing kind) ∷ [] in
-      let close : List Piece = piece Closed Sign (closing kind) ∷ [] in
+      let last : List Piece = piece (Line level) OperatorToken (closing kind) ∷ [] in
+      let close : List Piece = piece Closed OperatorToken (closing kind) ∷ [] in
       fits_join (fits_opening depth opened gap kind stands (room_first (length opened) (segs_depth segs) depth room))
       (either_way (λ ps. Fits depth o ps opened) (breaks style (is_broken kind segs end (segs_hold segs))) (broken_segs style (level + 1) kind comma segs ++ (comments (level + 1) end ++ last)) (flat_segs style level kind true segs ++ (comma_if one_comma ++ close))
       (fits_join (broken_fits depth (opener kind) opened style (level + 1) kind comma segs h.0 more) (fits_join (notes_fit depth (opener kind) opened (level + 1) end h.1) (fits_closing depth opened (Line level) kind (indent_stands level))))
@@ -193,7 +193,7 @@ mutual
 
 line_fits : (depth : ℕ) (s : Statement) → IsLegible s → depth_of s ≤ depth → Fits depth [] (statement_line s) []
 line_fits depth s h room =
-    let newline : Fits depth [] (piece Closed LineKind (codes "\n") ∷ []) [] = record { fitting = refl; leaves = refl } in
+    let newline : Fits depth [] (piece Closed Newline (codes "\n") ∷ []) [] = record { fitting = refl; leaves = refl } in
     fits_join (items_fit depth [] Broken 0 None Closed Start (items_of s.nodes) refl h.nodes (omega (arith, room))) (fits_join (suffix_fits depth [] s.suffix h.suffix) newline)
 
 pub layout_fits : (depth : ℕ) (s : Statement) → IsLegible s → depth_of s ≤ depth → Fits depth [] (layout s) []

@@ -2,7 +2,7 @@
 use Rattle.std.proofs.Common.{◌≡◌, ℕ, ◌||◌, List, [], ◌∷◌, ◌++◌, map, Bool, true, false, Option, Some, None, refl, sym, ap, ◌∙◌}
 use Rattle.std.specs.Prelude.{if◌then◌else◌}
 use Rattle.std.proofs.lemmas.Bool.{false≢true}
-use Rattle.bz_token.specs.declared.token.Kind.TheVariants.{Text}
+use Rattle.bz_token.specs.declared.token.Kind.TheVariants.{String}
 use Rattle.bz_token.specs.Places.{Placed}
 use Rattle.bz_tree.specs.declared.kinds.Mark.{Mark}
 use Rattle.bz_tree.specs.declared.kinds.Mark.TheVariants.{Open, Close, Comma, Comment, NewLine, Plain}
@@ -49,12 +49,12 @@ owns_have_for false at b (elem (bracket shape opening inner closing) xs) h = own
 -- the spelling of strings plays no part
 comma_spelled : (x : Item) → is_comma (spelled x) ≡ is_comma x
 comma_spelled (group kind segs one_comma end) = refl
-comma_spelled (leaf Text text) = refl
+comma_spelled (leaf String text) = refl
 comma_spelled (leaf _ text) = refl
 
 for_spelled : (x : Item) → is_for_item (spelled x) ≡ is_for_item x
 for_spelled (group kind segs one_comma end) = refl
-for_spelled (leaf Text text) = refl
+for_spelled (leaf String text) = refl
 for_spelled (leaf _ text) = refl
 
 nodes_for_spelled : (xs : Items) → nodes_have_for (spelled_items xs) ≡ nodes_have_for xs

@@ -4,7 +4,7 @@ use Rattle.std.specs.Prelude.{codes}
 use Rattle.std.specs.Prelude.Option.{None}
 use Rattle.bz_token.specs.declared.cutter.block.Opener.TheVariants.{If}
 use Rattle.bz_token.specs.declared.token.Kind.{Kind}
-use Rattle.bz_token.specs.declared.token.Kind.TheVariants.{Ident, Word, Sign, Line, Kept}
+use Rattle.bz_token.specs.declared.token.Kind.TheVariants.{Identifier, Keyword, Operator, Newline, Kept}
 use Rattle.bz_token.specs.Blocks.{goes_on}
 use Rattle.bz_token.specs.Chunks.{chunks}
 use Rattle.bz_token.specs.Lexical.{keywords, signs}
@@ -32,8 +32,8 @@ after gap kind text = record { gap = gap; kind = kind; text = text }
 
 abbrev pieces : List Piece
 pieces =
-    after [] Word (codes "def") ∷ after (codes " ") Ident (codes "f") ∷ after [] Sign (codes "(") ∷ after [] Sign (codes ")") ∷ after [] Sign (codes ":") ∷ after [] Line (codes "\n")
-    ∷ after (codes "  ") Word (codes "pass") ∷ after (codes " ") Line (codes "\n") ∷ after [] Line (codes "\n") ∷ []
+    after [] Keyword (codes "def") ∷ after (codes " ") Identifier (codes "f") ∷ after [] Operator (codes "(") ∷ after [] Operator (codes ")") ∷ after [] Operator (codes ":") ∷ after [] Newline (codes "\n")
+    ∷ after (codes "  ") Keyword (codes "pass") ∷ after (codes " ") Newline (codes "\n") ∷ after [] Newline (codes "\n") ∷ []
 
 abbrev tokens : List Placed
 tokens = tokens_of 1 [] [] pieces
@@ -54,8 +54,8 @@ reads = record {
   upright = refl;
   some = refl;
   chunk = record {
-    header = record { kind = Word; text = codes "def"; line = 1; col = 1; fresh = true };
-    last = record { kind = Word; text = codes "pass"; line = 2; col = 3; fresh = true };
+    header = record { kind = Keyword; text = codes "def"; line = 1; col = 1; fresh = true };
+    last = record { kind = Keyword; text = codes "pass"; line = 2; col = 3; fresh = true };
     kept = kept;
     is_header = refl;
     is_last = refl;

@@ -4,7 +4,7 @@ use Rattle.std.specs.Prelude.{codes, is_some}
 use Rattle.std.specs.Str.{bytes_eq}
 use Rattle.std.proofs.lemmas.Bool.{cases_Bool, false≢true}
 use Rattle.bz_token.specs.declared.token.Kind.{Kind}
-use Rattle.bz_token.specs.declared.token.Kind.TheVariants.{Word, Text}
+use Rattle.bz_token.specs.declared.token.Kind.TheVariants.{Keyword, String}
 use Rattle.bz_token.specs.Blocks.{opener_of}
 use Rattle.bz_token.specs.Lexical.{is_text, keywords, signs}
 use Rattle.bz_token.proofs.Classes.{same_bytes}
@@ -40,7 +40,7 @@ is_leading kind text = is_text kind text && leads (leaf_role kind text)
 
 none_leads : (kind : Kind) → (is_leading kind (codes "def") || is_leading kind (codes "for") || is_leading kind (codes "if")) ≡ false
 unfolding keywords signs
-none_leads Text = refl
+none_leads String = refl
 none_leads _ = refl
 
 none_of_three : (a b c : Bool) → (a || b || c) ≡ false → (a ≡ false) × (b ≡ false) × (c ≡ false)
@@ -120,7 +120,7 @@ expr_begins (last_test t) = test_begins t
 expr_begins (test {xs} {a} {b} c is t rc more) = ap begins_operand is ∙ join_begins a (item c b) (test_begins t)
 
 load_no_block : (w : Item) (xs : Items) → is_load_word w ≡ true → begins_block (item w xs) ≡ false
-load_no_block (leaf Word text) xs is = ap (λ t. is_some (opener_of t)) (same_bytes text (codes "load") is)
+load_no_block (leaf Keyword text) xs is = ap (λ t. is_some (opener_of t)) (same_bytes text (codes "load") is)
 load_no_block (leaf _ text) xs is = absurd (false≢true is)
 load_no_block (group kind segs one_comma end) xs is = refl
 

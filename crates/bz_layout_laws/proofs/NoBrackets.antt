@@ -2,7 +2,7 @@
 use Rattle.std.proofs.Common.{◌≡◌, ℕ, ◌==◌, ◌||◌, List, [], ◌∷◌, Bool, true, false, not, refl, sym, ap, ◌∙◌, inl, inr}
 use Rattle.std.proofs.lemmas.Bool.{cases_Bool, or_cases, false≢true, eqb-true}
 use Rattle.bz_token.specs.declared.token.Kind.{Kind}
-use Rattle.bz_token.specs.declared.token.Kind.TheVariants.{Text, Sign, Line, Note}
+use Rattle.bz_token.specs.declared.token.Kind.TheVariants.{String, Operator, Newline, Comment}
 use Rattle.bz_token.specs.Lexical.{is_text}
 use Rattle.bz_token.specs.Brackets.{is_opening_bracket, is_closing_bracket, is_line, fits, open_after_token}
 use Rattle.bz_token.proofs.Classes.{mark, can_start, text_class}
@@ -41,11 +41,11 @@ free_open opened (b ∷ []) free =
 free_open opened (b ∷ c ∷ bs) free = refl
 
 abbrev pub is_sign_kind : Kind → Bool
-is_sign_kind Sign = true
+is_sign_kind Operator = true
 is_sign_kind _ = false
 
 pub mark_starts : (kind : Kind) → is_sign_kind kind ≡ false → can_start kind mark ≡ true → ⊥
-mark_starts Sign none h = false≢true (sym none)
+mark_starts Operator none h = false≢true (sym none)
 mark_starts _ none h = false≢true h
 
 -- only signs are brackets
@@ -82,12 +82,12 @@ sign_free (b ∷ c ∷ bs) h = refl
 
 -- the token of a leaf, as it is spelled
 pub leaf_free : (kind : Kind) (text : List ℕ) → is_text kind (respell kind text) ≡ true → is_leaf_mark (kind_mark kind text) ≡ true → is_free (respell kind text) ≡ true
-leaf_free Sign text is leaf = sign_free text leaf
-leaf_free Text text is leaf = other_free Text (respell Text text) refl is
-leaf_free Line text is leaf = absurd (false≢true leaf)
-leaf_free Note text is leaf = absurd (false≢true leaf)
+leaf_free Operator text is leaf = sign_free text leaf
+leaf_free String text is leaf = other_free String (respell String text) refl is
+leaf_free Newline text is leaf = absurd (false≢true leaf)
+leaf_free Comment text is leaf = absurd (false≢true leaf)
 leaf_free kind text is leaf = other_free kind text refl is
 
 pub leaf_line : (kind : Kind) (text : List ℕ) → is_leaf_mark (kind_mark kind text) ≡ true → is_line kind ≡ false
-leaf_line Line text leaf = absurd (false≢true leaf)
+leaf_line Newline text leaf = absurd (false≢true leaf)
 leaf_line _ text leaf = refl

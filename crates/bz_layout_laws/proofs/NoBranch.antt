@@ -3,7 +3,7 @@ use Rattle.std.proofs.Common.{◌≡◌, ℕ, ◌||◌, List, true, false, refl,
 use Rattle.std.specs.Prelude.{codes}
 use Rattle.std.proofs.lemmas.Bool.{false≢true, or_parts}
 use Rattle.bz_token.specs.declared.token.Kind.{Kind}
-use Rattle.bz_token.specs.declared.token.Kind.TheVariants.{Word, Text}
+use Rattle.bz_token.specs.declared.token.Kind.TheVariants.{Keyword, String}
 use Rattle.bz_token.specs.Lexical.{is_text, keywords, signs}
 use Rattle.bz_token.proofs.Classes.{same_bytes}
 use Rattle.bz_tree.specs.Grammar.{IsLoad, load, IsStatement, comments, load_statement, expression, assignment}
@@ -17,7 +17,7 @@ use Rattle.bz_layout_laws.proofs.NoBlock.{begins_operand, is_leading, other_text
 -- no operand and no prefix is one
 none_leads : (kind : Kind) → (is_leading kind (codes "elif") || is_leading kind (codes "else")) ≡ false
 unfolding keywords signs
-none_leads Text = refl
+none_leads String = refl
 none_leads _ = refl
 
 leading_no_branch : (kind : Kind) (text : List ℕ) → is_leading kind text ≡ true → is_branch text ≡ false
@@ -33,7 +33,7 @@ operand_no_branch (item (leaf kind text) xs) h are = leading_no_branch kind text
 operand_no_branch (item (group kind segs one_comma end) xs) h are = refl
 
 load_no_branch : (w : Item) (xs : Items) → is_load_word w ≡ true → begins_branch (item w xs) ≡ false
-load_no_branch (leaf Word text) xs is = ap is_branch (same_bytes text (codes "load") is)
+load_no_branch (leaf Keyword text) xs is = ap is_branch (same_bytes text (codes "load") is)
 load_no_branch (leaf _ text) xs is = absurd (false≢true is)
 load_no_branch (group kind segs one_comma end) xs is = refl
 

@@ -4,7 +4,7 @@ use Rattle.std.specs.Prelude.{codes}
 use Rattle.std.specs.List.{list_any}
 use Rattle.std.proofs.lemmas.Bool.{or_parts, or_from}
 use Rattle.bz_token.specs.declared.token.Kind.{Kind}
-use Rattle.bz_token.specs.declared.token.Kind.TheVariants.{Sign, Note}
+use Rattle.bz_token.specs.declared.token.Kind.TheVariants.{Operator, Comment}
 use Rattle.bz_token.specs.Brackets.{is_line}
 use Rattle.bz_token.specs.TokenLines.{is_newline_piece}
 use Rattle.bz_tree.specs.declared.stmt.GroupKind.{GroupKind}
@@ -44,28 +44,28 @@ one : (gap : Gap) (kind : Kind) (text : List ℕ) → is_line kind ≡ false →
 one gap kind text h = record { none = or_from (is_line kind) false h refl }
 
 commas : (b : Bool) → HasNoLine (comma_if b)
-commas true = one Closed Sign (codes ",") refl
+commas true = one Closed Operator (codes ",") refl
 commas false = nothing
 
 notes : (level : ℕ) (texts : List (List ℕ)) → HasNoLine (comments level texts)
 notes level [] = nothing
-notes level (text ∷ texts) = join (one (Line level) Note text refl) (notes level texts)
+notes level (text ∷ texts) = join (one (Line level) Comment text refl) (notes level texts)
 
 pub suffix_no_line : (suffix : Option (List ℕ)) → HasNoLine (suffix_piece suffix)
 suffix_no_line None = nothing
-suffix_no_line (Some text) = one Apart Note text refl
+suffix_no_line (Some text) = one Apart Comment text refl
 
 mutual
   item_no_line : (style : Style) (level : ℕ) (gap : Gap) (x : Item) → IsLegibleItem x → HasNoLine (item_pieces style level gap x)
   item_no_line style level gap (leaf kind text) h = one gap kind (respell kind text) (leaf_line kind text h.1)
   item_no_line style level gap (group kind segs one_comma end) h =
       let comma = has_commas kind one_comma (count segs) in
-      let last : List Piece = piece (Line level) Sign (closing kind) ∷ [] in
-      let close : List Piece = piece Closed Sign (closing kind) ∷ [] in
-      join (one gap Sign (opening kind) refl)
+      let last : List Piece = piece (Line level) Operator (closing kind) ∷ [] in
+      let close : List Piece = piece Closed Operator (closing kind) ∷ [] in
+      join (one gap Operator (opening kind) refl)
       (either_way HasNoLine (breaks style (is_broken kind segs end (segs_hold segs))) (broken_segs style (level + 1) kind comma segs ++ (comments (level + 1) end ++ last)) (flat_segs style level kind true segs ++ (comma_if one_comma ++ close))
-      (join (broken_no_line style (level + 1) kind comma segs h.0) (join (notes (level + 1) end) (one (Line level) Sign (closing kind) refl)))
-      (join (flat_no_line style level kind true segs h.0) (join (commas one_comma) (one Closed Sign (closing kind) refl))))
+      (join (broken_no_line style (level + 1) kind comma segs h.0) (join (notes (level + 1) end) (one (Line level) Operator (closing kind) refl)))
+      (join (flat_no_line style level kind true segs h.0) (join (commas one_comma) (one Closed Operator (closing kind) refl))))
 
   pub items_no_line : (style : Style) (level : ℕ) (within : Option GroupKind) (first : Gap) (left : Edge) (xs : Items) → AreLegible within left xs → HasNoLine (items_pieces style level within first left xs)
   items_no_line style level within first left no_items h = nothing
@@ -83,4 +83,4 @@ mutual
   flat_no_line style level kind true (seg before nodes suffix ss) h =
       join (items_no_line style level (Some kind) Closed Start nodes h.2) (flat_no_line style level kind false ss h.4)
   flat_no_line style level kind false (seg before nodes suffix ss) h =
-      join (one Closed Sign (codes ",") refl) (join (items_no_line style level (Some kind) Space Start nodes h.2) (flat_no_line style level kind false ss h.4))
+      join (one Closed Operator (codes ",") refl) (join (items_no_line style level (Some kind) Space Start nodes h.2) (flat_no_line style level kind false ss h.4))

@@ -3,7 +3,7 @@ use Rattle.std.proofs.Common.{◌≡◌, ℕ, List, [], ◌∷◌, true, false, 
 use Rattle.std.specs.Prelude.{codes}
 use Rattle.std.specs.Prelude.Option.{None}
 use Rattle.std.proofs.lemmas.Bool.{false≢true}
-use Rattle.bz_token.specs.declared.token.Kind.TheVariants.{Ident, Word, Sign}
+use Rattle.bz_token.specs.declared.token.Kind.TheVariants.{Identifier, Keyword, Operator}
 use Rattle.bz_token.specs.Lexical.{keywords, signs}
 use Rattle.bz_tree.specs.declared.stmt.GroupKind.TheVariants.{RuleCall, ListComp, Call}
 use Rattle.bz_tree.specs.declared.stmt.Class.TheVariants.{Rule, Comment}
@@ -16,17 +16,17 @@ use Rattle.bz_layout_laws.specs.Legible.{IsLegible, begins_block}
 use Rattle.bz_layout_laws.specs.Parsed.{IsParsed, have_for}
 
 abbrev word : List ℕ → Item
-word text = leaf Word text
+word text = leaf Keyword text
 
 abbrev name : List ℕ → Item
-name text = leaf Ident text
+name text = leaf Identifier text
 
 -- `x for x in y`
 abbrev clause : Segs
 clause = segs_of (record { before = []; nodes = name (codes "x") ∷ word (codes "for") ∷ name (codes "x") ∷ word (codes "in") ∷ name (codes "y") ∷ []; suffix = None } ∷ [])
 
 abbrev arguments : Segs
-arguments = segs_of (record { before = []; nodes = name (codes "srcs") ∷ leaf Sign (codes "=") ∷ group ListComp clause false [] ∷ []; suffix = None } ∷ [])
+arguments = segs_of (record { before = []; nodes = name (codes "srcs") ∷ leaf Operator (codes "=") ∷ group ListComp clause false [] ∷ []; suffix = None } ∷ [])
 
 -- `rule(srcs = [x for x in y])`
 abbrev rule : Statement

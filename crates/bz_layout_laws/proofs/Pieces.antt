@@ -2,7 +2,7 @@
 use Rattle.std.proofs.Common.{◌≡◌, ℕ, ◌+◌, List, [], ◌∷◌, ◌++◌, Bool, true, false, Option, Some, None, refl, ap, ◌∙◌}
 use Rattle.std.specs.Prelude.{codes, if◌then◌else◌}
 use Rattle.std.proofs.lemmas.List.{map-append}
-use Rattle.bz_token.specs.declared.token.Kind.TheVariants.{Sign, Line as LineKind, Note}
+use Rattle.bz_token.specs.declared.token.Kind.TheVariants.{Operator as OperatorToken, Newline, Comment}
 use Rattle.bz_tree.specs.declared.stmt.GroupKind.{GroupKind}
 use Rattle.bz_tree.specs.Tree.{Item, leaf, group, Items, no_items, item, Segs, no_segs, seg, Statement, items_of}
 use Rattle.bz_layout.specs.declared.spacing.Edge.{Edge}
@@ -26,7 +26,7 @@ commas false = refl
 
 note_pieces : (level : ℕ) (texts : List (List ℕ)) → piece_lexemes (comments level texts) ≡ notes texts
 note_pieces level [] = refl
-note_pieces level (text ∷ texts) = ap (λ l. lexeme Note text ∷ l) (note_pieces level texts)
+note_pieces level (text ∷ texts) = ap (λ l. lexeme Comment text ∷ l) (note_pieces level texts)
 
 suffix_pieces : (suffix : Option (List ℕ)) → piece_lexemes (suffix_piece suffix) ≡ suffix_lexemes suffix
 suffix_pieces None = refl
@@ -34,7 +34,7 @@ suffix_pieces (Some text) = refl
 
 line_pieces : (texts : List (List ℕ)) → piece_lexemes (comment_lines texts) ≡ note_lines texts
 line_pieces [] = refl
-line_pieces (text ∷ texts) = ap (λ l. lexeme Note text ∷ lexeme LineKind (codes "\n") ∷ l) (line_pieces texts)
+line_pieces (text ∷ texts) = ap (λ l. lexeme Comment text ∷ lexeme Newline (codes "\n") ∷ l) (line_pieces texts)
 
 either : (b : Bool) (ps qs : List Piece) → piece_lexemes (if b then ps else qs) ≡ (if b then piece_lexemes ps else piece_lexemes qs)
 either true ps qs = refl
@@ -60,12 +60,12 @@ mutual
   item_pieces_are level gap (leaf kind text) h = rw h refl
   item_pieces_are level gap (group kind segs one_comma end) h =
       let comma = has_commas kind one_comma (count segs) in
-      let last : List Piece = piece (Line level) Sign (closing kind) ∷ [] in
-      let close : List Piece = piece Closed Sign (closing kind) ∷ [] in
+      let last : List Piece = piece (Line level) OperatorToken (closing kind) ∷ [] in
+      let close : List Piece = piece Closed OperatorToken (closing kind) ∷ [] in
       let broken = broken_segs Broken (level + 1) kind comma segs in
       let flat = flat_segs Broken level kind true segs in
-      ap (λ b. record { kind = Sign; text = opening kind; beside = b } ∷ piece_lexemes (if is_broken kind segs end (segs_hold segs) then broken ++ (comments (level + 1) end ++ last) else flat ++ (comma_if one_comma ++ close))) h
-      ∙ ap (λ l. lexeme Sign (opening kind) ∷ l)
+      ap (λ b. record { kind = OperatorToken; text = opening kind; beside = b } ∷ piece_lexemes (if is_broken kind segs end (segs_hold segs) then broken ++ (comments (level + 1) end ++ last) else flat ++ (comma_if one_comma ++ close))) h
+      ∙ ap (λ l. lexeme OperatorToken (opening kind) ∷ l)
       (either (is_broken kind segs end (segs_hold segs)) (broken ++ (comments (level + 1) end ++ last)) (flat ++ (comma_if one_comma ++ close))
       ∙ rw (
         join broken (comments (level + 1) end ++ last),
@@ -107,14 +107,14 @@ mutual
       join (items_pieces Broken level (Some kind) Closed Start nodes) (flat_segs Broken level kind false ss)
       ∙ rw (items_pieces_are level (Some kind) Closed Start nodes refl, flat_pieces_are level kind false ss) refl
   flat_pieces_are level kind false (seg before nodes suffix ss) =
-      ap (λ l. lexeme Sign (codes ",") ∷ l)
+      ap (λ l. lexeme OperatorToken (codes ",") ∷ l)
       (join (items_pieces Broken level (Some kind) Space Start nodes) (flat_segs Broken level kind false ss)
       ∙ rw (items_pieces_are level (Some kind) Space Start nodes refl, flat_pieces_are level kind false ss) refl)
 
 line_pieces_are : (s : Statement) → piece_lexemes (statement_line s) ≡ line_lexemes s
 line_pieces_are s =
     let nodes = items_pieces Broken 0 None Closed Start (items_of s.nodes) in
-    let newline : List Piece = piece Closed LineKind (codes "\n") ∷ [] in
+    let newline : List Piece = piece Closed Newline (codes "\n") ∷ [] in
     join nodes (suffix_piece s.suffix ++ newline)
     ∙ rw (join (suffix_piece s.suffix) newline, items_pieces_are 0 None Closed Start (items_of s.nodes) refl, suffix_pieces s.suffix) refl
 

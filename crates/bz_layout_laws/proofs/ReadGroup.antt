@@ -1,7 +1,7 @@
 -- A bracket is read as its group.
 use Rattle.std.proofs.Common.{◌≡◌, ℕ, ◌+◌, ◌==◌, ◌&&◌, List, [], ◌∷◌, ◌++◌, length, Bool, true, false, Some, None, refl, sym, ap, subst, ◌∙◌, append_assoc, arith}
 use Rattle.std.specs.Prelude.{count_by}
-use Rattle.bz_token.specs.declared.token.Kind.TheVariants.{Sign}
+use Rattle.bz_token.specs.declared.token.Kind.TheVariants.{Operator}
 use Rattle.bz_token.specs.Places.{Placed}
 use Rattle.bz_tree.specs.declared.stmt.GroupKind.{GroupKind}
 use Rattle.bz_tree.specs.declared.stmt.GroupKind.TheVariants.{Call}
@@ -65,14 +65,14 @@ closed_up o c inner others = simp append_assoc
 pub read_group : (one : Bool) (b : Preceding) (kind : GroupKind) (ss : Segs) (one_comma : Bool) (end : List (List ℕ)) (trailing : Bool) (ls : List Lexeme) (es : List Entry) (tail : List Lexeme) (shape : Shape) → kind ≡ group_kind shape b (have_for ss) → HaveNodes (segments (spelled_segs ss))
     → (is_paren kind && (length (segments ss) == 1) && (trailing && is_filled (segments ss))) ≡ one_comma
     → ((after : List Lexeme) → Reads (is_one kind) Other (entries_lexemes (written_entries trailing (segments ss) end)) (written_entries trailing (segments (spelled_segs ss)) end) after)
-    → ((after : List Lexeme) → begins_beside (entries_lexemes (written_entries trailing (segments ss) end) ++ (lexeme Sign (closing kind) ∷ after)) ≡ false)
+    → ((after : List Lexeme) → begins_beside (entries_lexemes (written_entries trailing (segments ss) end) ++ (lexeme Operator (closing kind) ∷ after)) ≡ false)
     → Reads one Operand ls es tail
-    → Reads one b ((lexeme Sign (opening kind) ∷ (entries_lexemes (written_entries trailing (segments ss) end) ++ lexeme Sign (closing kind) ∷ [])) ++ ls) (a_node (spelled (group kind ss one_comma end)) ∷ es) tail
+    → Reads one b ((lexeme Operator (opening kind) ∷ (entries_lexemes (written_entries trailing (segments ss) end) ++ lexeme Operator (closing kind) ∷ [])) ++ ls) (a_node (spelled (group kind ss one_comma end)) ∷ es) tail
 read_group one b kind ss one_comma end trailing ls es tail shape kind_is nodes comma_is inner begins next = record {
   each = λ at last ts agree h.
       let w = written_entries trailing (segments ss) end in
-      let o : Lexeme = lexeme Sign (opening kind) in
-      let c : Lexeme = lexeme Sign (closing kind) in
+      let o : Lexeme = lexeme Operator (opening kind) in
+      let c : Lexeme = lexeme Operator (closing kind) in
       let after = c ∷ (ls ++ tail) in
       let f = take_first last ts o (entries_lexemes w ++ after) (h ∙ spread o c (entries_lexemes w) ls tail) in
       let open_at = placed_at o f.line f.col f.fresh in

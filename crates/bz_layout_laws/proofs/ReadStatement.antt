@@ -4,7 +4,7 @@ use Rattle.std.specs.Prelude.{if◌then◌else◌}
 use Rattle.std.proofs.lemmas.Bool.{false≢true}
 use Rattle.bz_token.specs.Places.{Placed}
 use Rattle.bz_token.specs.Reading.{AreTokensOf}
-use Rattle.bz_token.specs.declared.token.Kind.TheVariants.{Sign}
+use Rattle.bz_token.specs.declared.token.Kind.TheVariants.{Operator}
 use Rattle.bz_tree.specs.declared.stmt.GroupKind.{GroupKind}
 use Rattle.bz_tree.specs.declared.stmt.GroupKind.TheVariants.{Call, RuleCall}
 use Rattle.bz_tree.specs.declared.stmt.Class.{Class}
@@ -53,7 +53,7 @@ top_reads b (group RuleCall segs one_comma end) ls es tail legible kinds next =
     subst (λ l. Reads true b (l ++ ls) (a_node (spelled (group Call segs one_comma end)) ∷ es) tail) (sym (bracket_written RuleCall segs one_comma end shape))
     (read_group true b Call segs one_comma end trailing ls es tail kinds.0 kinds.1 (have_nodes RuleCall segs legible.0) (comma_read RuleCall segs one_comma end shape)
     (λ after. segs_reads false RuleCall trailing segs end after legible.0 kinds.3 (few_segs RuleCall segs one_comma end shape))
-    (λ after. segs_begin RuleCall trailing segs end (lexeme Sign (closing Call) ∷ after) legible.0 refl) next)
+    (λ after. segs_begin RuleCall trailing segs end (lexeme Operator (closing Call) ∷ after) legible.0 refl) next)
 top_reads b (group kind segs one_comma end) ls es tail legible kinds next = item_reads true b (group kind segs one_comma end) ls es tail legible (λ e. refl) kinds next
 
 after_plain : (x : Item) → after_item (plain_call x) ≡ after_item x

@@ -6,7 +6,7 @@ use Rattle.std.proofs.lemmas.Bool.{false≢true}
 use Rattle.std.proofs.lemmas.Bool.Decides.{nat_tests}
 use Rattle.std.proofs.lemmas.Slice.Eq.{bytes_eq-Decides}
 use Rattle.bz_token.specs.declared.token.Kind.{Kind}
-use Rattle.bz_token.specs.declared.token.Kind.TheVariants.{Text, Sign, Line as LineKind, Note}
+use Rattle.bz_token.specs.declared.token.Kind.TheVariants.{String, Operator, Newline, Comment as CommentToken}
 use Rattle.bz_token.specs.Places.{Placed}
 use Rattle.bz_tree.specs.declared.kinds.Shape.TheVariants.{Round, Square, Curly}
 use Rattle.bz_tree.specs.declared.kinds.Mark.{Mark}
@@ -63,10 +63,10 @@ agree_comma : (line end : ℕ) → line ≡ end → Agree (end_of_comma line) (S
 agree_comma line end e = record { same = λ other. same_line line end other e }
 
 -- a comment
-pub read_note : (one : Bool) (b : Preceding) (beside : Bool) (text : List ℕ) (ls : List Lexeme) (es : List Entry) (tail : List Lexeme) → Reads one b ls es tail → Reads one b (record { kind = Note; text = text; beside = beside } ∷ ls) (a_note beside text ∷ es) tail
+pub read_note : (one : Bool) (b : Preceding) (beside : Bool) (text : List ℕ) (ls : List Lexeme) (es : List Entry) (tail : List Lexeme) → Reads one b ls es tail → Reads one b (record { kind = CommentToken; text = text; beside = beside } ∷ ls) (a_note beside text ∷ es) tail
 read_note one b beside text ls es tail next = record {
   each = λ at last ts agree h.
-      let l : Lexeme = record { kind = Note; text = text; beside = beside } in
+      let l : Lexeme = record { kind = CommentToken; text = text; beside = beside } in
       let f = take_first last ts l (ls ++ tail) h in
       let t = placed_at l f.line f.col f.fresh in
       let r = next.each no_token None f.others agree_none f.rest in
@@ -84,10 +84,10 @@ read_note one b beside text ls es tail next = record {
 }
 
 -- a comma between segments
-pub read_comma : (b : Preceding) (ls : List Lexeme) (es : List Entry) (tail : List Lexeme) → Reads false Other ls es tail → Reads false b (lexeme Sign (codes ",") ∷ ls) (a_comma ∷ es) tail
+pub read_comma : (b : Preceding) (ls : List Lexeme) (es : List Entry) (tail : List Lexeme) → Reads false Other ls es tail → Reads false b (lexeme Operator (codes ",") ∷ ls) (a_comma ∷ es) tail
 read_comma b ls es tail next = record {
   each = λ at last ts agree h.
-      let l : Lexeme = lexeme Sign (codes ",") in
+      let l : Lexeme = lexeme Operator (codes ",") in
       let f = take_first last ts l (ls ++ tail) h in
       let t = placed_at l f.line f.col f.fresh in
       let r = next.each (end_of_comma f.line) (Some (end_line t)) f.others (agree_comma f.line (end_line t) (omega (arith))) f.rest in
@@ -126,8 +126,8 @@ record LeafOwn (one : Bool) (b : Preceding) (t : Placed) : Type 0 where
   agree : Agree (end_of_node line) (end_after t)
 
 pub no_aside : (kind : Kind) (text : List ℕ) → is_leaf_mark (kind_mark kind text) ≡ true → is_aside kind ≡ false
-no_aside LineKind text h = absurd (false≢true h)
-no_aside Note text h = absurd (false≢true h)
+no_aside Newline text h = absurd (false≢true h)
+no_aside CommentToken text h = absurd (false≢true h)
 no_aside _ text h = refl
 
 skip : (b : Bool) (m r : Mark) → is_comma_mark m ≡ false → is_comma_mark (if b then m else r) ≡ true → is_comma_mark r ≡ true
@@ -146,7 +146,7 @@ comma_sign text h =
     search (rules, bytes_eq-Decides)
 
 pub comma_leaf : (kind : Kind) (text : List ℕ) → is_comma_mark (kind_mark kind text) ≡ true → (kind_after kind text ≡ Other) × (text ≡ codes ",")
-comma_leaf Sign text h = (refl, comma_sign text h)
+comma_leaf Operator text h = (refl, comma_sign text h)
 comma_leaf _ text h = absurd (false≢true h)
 
 ends_there : (t : Placed) (line : ℕ) → is_aside t.kind ≡ false → line ≡ end_line t → Agree (end_of_node line) (end_after t)
@@ -176,11 +176,11 @@ leaf_own one b t Comment e token single_is = absurd (false≢true token)
 leaf_own one b t NewLine e token single_is = absurd (false≢true token)
 
 pub same_mark : (kind : Kind) (text : List ℕ) → kind_mark kind (respell kind text) ≡ kind_mark kind text
-same_mark Text text = refl
+same_mark String text = refl
 same_mark _ text = refl
 
 pub same_after : (kind : Kind) (text : List ℕ) → kind_after kind (respell kind text) ≡ kind_after kind text
-same_after Text text = refl
+same_after String text = refl
 same_after _ text = refl
 
 pub read_leaf : (one : Bool) (b : Preceding) (kind : Kind) (text : List ℕ) (ls : List Lexeme) (es : List Entry) (tail : List Lexeme) → is_leaf_mark (kind_mark kind text) ≡ true → (is_comma_mark (kind_mark kind text) ≡ true → one ≡ true)

@@ -3,7 +3,7 @@ use Rattle.std.proofs.Common.{◌≡◌, ℕ, ◌||◌, List, [], ◌∷◌, ◌
 use Rattle.std.specs.Prelude.{nat_le, suc, if◌then◌else◌}
 use Rattle.std.proofs.lemmas.Bool.{false≢true}
 use Rattle.std.proofs.lemmas.Bool.Decides.{nat_tests}
-use Rattle.bz_token.specs.declared.token.Kind.TheVariants.{Sign}
+use Rattle.bz_token.specs.declared.token.Kind.TheVariants.{Operator}
 use Rattle.bz_tree.specs.declared.stmt.GroupKind.{GroupKind}
 use Rattle.bz_tree.specs.declared.stmt.GroupKind.TheVariants.{Index, ListComp, DictComp}
 use Rattle.bz_tree.specs.declared.kinds.Preceding.{Preceding}
@@ -126,7 +126,7 @@ mutual
       subst (λ l. Reads one b (l ++ ls) (a_node (spelled (group kind segs one_comma end)) ∷ es) tail) (sym (bracket_written kind segs one_comma end kinds.2))
       (read_group one b kind segs one_comma end trailing ls es tail kinds.0 kinds.1 (have_nodes kind segs legible.0) (comma_read kind segs one_comma end kinds.2)
       (λ after. segs_reads (is_one kind) kind trailing segs end after legible.0 kinds.3 (few_segs kind segs one_comma end kinds.2))
-      (λ after. segs_begin kind trailing segs end (lexeme Sign (closing kind) ∷ after) legible.0 refl) next)
+      (λ after. segs_begin kind trailing segs end (lexeme Operator (closing kind) ∷ after) legible.0 refl) next)
 
   items_reads : (one : Bool) (b : Preceding) (within : Option GroupKind) (left : Edge) (xs : Items) (ls : List Lexeme) (es : List Entry) (tail : List Lexeme) → AreLegible within left xs → HaveKinds one b xs → ((p : Preceding) → Reads one p ls es tail)
       → Reads one b (items_lexemes xs ++ ls) (map a_node (list_of (spelled_items xs)) ++ es) tail

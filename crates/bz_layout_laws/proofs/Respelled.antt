@@ -5,7 +5,7 @@ use Rattle.std.specs.List.{list_all}
 use Rattle.std.specs.Str.{bytes_eq}
 use Rattle.std.proofs.lemmas.Bool.{cases_Bool, and_parts, not-true, false≢true}
 use Rattle.bz_token.specs.declared.token.Kind.{Kind}
-use Rattle.bz_token.specs.declared.token.Kind.TheVariants.{Text}
+use Rattle.bz_token.specs.declared.token.Kind.TheVariants.{String}
 use Rattle.bz_token.specs.declared.scan_string.Quotes.{Quotes}
 use Rattle.bz_token.specs.declared.scan_string.Opening.{Opening}
 use Rattle.bz_token.specs.declared.scan_string.Escape.TheVariants.{Unescaped, AfterBackslash}
@@ -84,7 +84,7 @@ string_stays inner plain h =
     string_by_closing 34 inner refl refl refl (λ b p. (plain_byte b p).0) plain
     ∙ other_closes inner plain (sym (string_by_closing 39 inner refl refl refl (λ b p. (plain_byte b p).1) plain) ∙ h)
 
-respelled_string : (text : List ℕ) → is_string text ≡ true → is_string (respell Text text) ≡ true
+respelled_string : (text : List ℕ) → is_string text ≡ true → is_string (respell String text) ≡ true
 respelled_string text h = elim (cases_Bool (is_single text)) [
   | inr miss ↦ rw miss h
   | inl hit ↦
@@ -93,27 +93,27 @@ respelled_string text h = elim (cases_Bool (is_single text)) [
 ]
 
 pub respelled_text : (kind : Kind) (text : List ℕ) → is_text kind text ≡ true → is_text kind (respell kind text) ≡ true
-respelled_text Text text h = respelled_string text h
+respelled_text String text h = respelled_string text h
 respelled_text _ text h = h
 
-double_again : (inner : List ℕ) → respell Text (within 34 inner) ≡ within 34 inner
+double_again : (inner : List ℕ) → respell String (within 34 inner) ≡ within 34 inner
 double_again inner = refl
 
-respelled_string_once : (text : List ℕ) → respell Text (respell Text text) ≡ respell Text text
+respelled_string_once : (text : List ℕ) → respell String (respell String text) ≡ respell String text
 respelled_string_once text = elim (cases_Bool (is_single text)) [
   | inl hit ↦ rw hit (double_again (content text))
   | inr miss ↦ rw (miss, miss) refl
 ]
 
 pub respelled_once : (kind : Kind) (text : List ℕ) → respell kind (respell kind text) ≡ respell kind text
-respelled_once Text text = respelled_string_once text
+respelled_once String text = respelled_string_once text
 respelled_once _ text = refl
 
 lines_within : (inner : List ℕ) → count_by (λ b. b == 10) (inner ++ 34 ∷ []) ≡ count_by (λ b. b == 10) (inner ++ 39 ∷ [])
 lines_within inner = newlines-append inner (34 ∷ []) ∙ sym (newlines-append inner (39 ∷ []))
 
 pub respelled_lines : (kind : Kind) (text : List ℕ) → count_by (λ b. b == 10) (respell kind text) ≡ count_by (λ b. b == 10) text
-respelled_lines Text text = elim (cases_Bool (is_single text)) [
+respelled_lines String text = elim (cases_Bool (is_single text)) [
   | inr miss ↦ rw miss refl
   | inl hit ↦
       let p = single_parts text hit in
@@ -122,5 +122,5 @@ respelled_lines Text text = elim (cases_Bool (is_single text)) [
 respelled_lines _ text = refl
 
 pub others_stand : (kind : Kind) (text : List ℕ) → is_string_kind kind ≡ false → respell kind text ≡ text
-others_stand Text text h = absurd (false≢true (sym h))
+others_stand String text h = absurd (false≢true (sym h))
 others_stand _ text h = refl

@@ -4,7 +4,7 @@ use Rattle.std.specs.Prelude.{codes, Option, if◌then◌else◌}
 use Rattle.std.specs.Str.{bytes_eq}
 use Rattle.std.proofs.lemmas.Bool.{cases_Bool, or_cases, false≢true, eqb-true}
 use Rattle.bz_token.specs.declared.token.Kind.{Kind}
-use Rattle.bz_token.specs.declared.token.Kind.TheVariants.{Ident, Word, Int, Text, Sign}
+use Rattle.bz_token.specs.declared.token.Kind.TheVariants.{Identifier, Keyword, Integer, String, Operator as OperatorToken}
 use Rattle.bz_token.specs.Lexical.{begins, is_text}
 use Rattle.bz_token.proofs.Classes.{mark, class_of, can_start, same_bytes, text_class}
 use Rattle.bz_tree.specs.declared.stmt.GroupKind.{GroupKind}
@@ -115,11 +115,11 @@ sign_begins text =
     (λ h. absurd (false≢true h)))))))))))
 
 leaf_begins : (kind : Kind) (text : List ℕ) → stands_apart (leaf_role kind text) ≡ true → is_text kind text ≡ true → begins is_later text ≡ false
-leaf_begins Sign text h is = sign_begins text h
-leaf_begins Ident text h is = other_begins Ident text refl is
-leaf_begins Word text h is = other_begins Word text refl is
-leaf_begins Int text h is = other_begins Int text refl is
-leaf_begins Text text h is = other_begins Text text refl is
+leaf_begins OperatorToken text h is = sign_begins text h
+leaf_begins Identifier text h is = other_begins Identifier text refl is
+leaf_begins Keyword text h is = other_begins Keyword text refl is
+leaf_begins Integer text h is = other_begins Integer text refl is
+leaf_begins String text h is = other_begins String text refl is
 leaf_begins _ text h is = absurd (false≢true h)
 
 pub stands_inside : (x : Item) → is_stray (token_role x) ≡ false → MayStandIn x
@@ -152,7 +152,7 @@ sign_no_operand text =
     (either_role (is_infix text) Operator Stray refl refl)))))))))
 
 operand_rests : (x : Item) → is_operand (token_role x) ≡ true → (within : Option GroupKind) (left : Edge) → holds_on (edge_after within left x) ≡ false
-operand_rests (leaf Sign text) h within left = absurd (false≢true (sym (sign_no_operand text) ∙ h))
+operand_rests (leaf OperatorToken text) h within left = absurd (false≢true (sym (sign_no_operand text) ∙ h))
 operand_rests (leaf _ text) h within left = refl
 operand_rests (group kind segs one_comma end) h within left = refl
 
@@ -167,6 +167,6 @@ token_alone x h is = record { node = token_apart x (operand_apart (token_role x)
 
 -- the keyword `load`
 pub load_apart : (w : Item) → is_load_word w ≡ true → StandsApart w
-load_apart (leaf Word text) is = record { apart = ap (begins is_later) (same_bytes text (codes "load") is); inside = tt }
+load_apart (leaf Keyword text) is = record { apart = ap (begins is_later) (same_bytes text (codes "load") is); inside = tt }
 load_apart (leaf _ text) is = absurd (false≢true is)
 load_apart (group kind segs one_comma end) is = absurd (false≢true is)

@@ -1,7 +1,7 @@
 -- Whether nodes are in the grammar does not hang on the spelling of strings.
 use Rattle.std.proofs.Common.{◌≡◌, ℕ, ◌&&◌, ◌||◌, List, refl, ap, ◌∙◌}
 use Rattle.bz_token.specs.declared.token.Kind.{Kind}
-use Rattle.bz_token.specs.declared.token.Kind.TheVariants.{Text}
+use Rattle.bz_token.specs.declared.token.Kind.TheVariants.{String}
 use Rattle.bz_tree.specs.Grammar.{leaf_role, IsStatement}
 use Rattle.bz_tree.specs.Tree.{Item, leaf, group, Items, no_items, item, Segs, no_segs, seg, Statement, items_of}
 use Rattle.bz_tree.specs.private.Machine.{begin, is_single, accepts, role_of, each, is_value, is_name, is_equals, is_string_item, is_string, is_renamed, are_load_arguments, is_load_kind, are_loaded, is_load_group, is_load, is_nothing, is_statement, next}
@@ -13,7 +13,7 @@ use Rattle.bz_layout_laws.proofs.SameTests.{load_spelled}
 use Rattle.bz_layout_laws.proofs.SpelledAgain.{list_spelled}
 
 leaf_spelled : (kind : Kind) (text : List ℕ) → leaf_role kind (respell kind text) ≡ leaf_role kind text
-leaf_spelled Text text = refl
+leaf_spelled String text = refl
 leaf_spelled _ text = refl
 
 single_spelled : (ss : Segs) → is_single (spelled_segs ss) ≡ is_single ss

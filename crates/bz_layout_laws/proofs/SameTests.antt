@@ -2,7 +2,7 @@
 use Rattle.std.proofs.Common.{◌≡◌, ℕ, ◌&&◌, ◌||◌, List, [], ◌∷◌, map, Bool, true, false, refl, sym, ap, ◌∙◌}
 use Rattle.std.specs.Prelude.{if◌then◌else◌}
 use Rattle.bz_token.specs.declared.token.Kind.{Kind}
-use Rattle.bz_token.specs.declared.token.Kind.TheVariants.{Text}
+use Rattle.bz_token.specs.declared.token.Kind.TheVariants.{String}
 use Rattle.bz_tree.specs.declared.stmt.Class.TheVariants.{Load, Assign, Rule, Other, Block}
 use Rattle.bz_tree.specs.Statement.{is_ident, is_dot, is_call, is_nothing, is_rule, is_rule_after, as_rule_call, rule_call, is_assign, has_assign, is_load_word, is_kept, class_of}
 use Rattle.bz_tree.specs.Tree.{Item, leaf, group}
@@ -11,21 +11,21 @@ use Rattle.bz_layout_laws.specs.Spelled.{spelled}
 
 kept_spelled : (x : Item) → is_kept (spelled x) ≡ is_kept x
 kept_spelled (group kind segs one_comma end) = refl
-kept_spelled (leaf Text text) = refl
+kept_spelled (leaf String text) = refl
 kept_spelled (leaf _ text) = refl
 
 pub load_spelled : (x : Item) → is_load_word (spelled x) ≡ is_load_word x
 load_spelled (group kind segs one_comma end) = refl
-load_spelled (leaf Text text) = refl
+load_spelled (leaf String text) = refl
 load_spelled (leaf _ text) = refl
 
 assign_spelled : (x : Item) → is_assign (spelled x) ≡ is_assign x
 assign_spelled (group kind segs one_comma end) = refl
-assign_spelled (leaf Text text) = refl
+assign_spelled (leaf String text) = refl
 assign_spelled (leaf _ text) = refl
 
 dot_spelled : (kind : Kind) (text : List ℕ) → is_dot kind (respell kind text) ≡ is_dot kind text
-dot_spelled Text text = refl
+dot_spelled String text = refl
 dot_spelled _ text = refl
 
 nothing_spelled : (xs : List Item) → is_nothing (map spelled xs) ≡ is_nothing xs

@@ -1,6 +1,6 @@
 -- Strings that are spelled as they are written are written so again.
 use Rattle.std.proofs.Common.{◌≡◌, ℕ, ◌+◌, List, [], ◌∷◌, Bool, true, false, Option, Some, map, refl, ap, ◌∙◌}
-use Rattle.bz_token.specs.declared.token.Kind.TheVariants.{Text}
+use Rattle.bz_token.specs.declared.token.Kind.TheVariants.{String}
 use Rattle.bz_tree.specs.declared.stmt.GroupKind.{GroupKind}
 use Rattle.bz_tree.specs.Tree.{Item, leaf, group, Items, no_items, item, Segs, no_segs, seg, Statement, items_of}
 use Rattle.bz_layout.specs.declared.spacing.Edge.{Edge}
@@ -16,12 +16,12 @@ use Rattle.bz_layout_laws.specs.Spelled.{spelled, spelled_items, spelled_segs, s
 use Rattle.bz_layout_laws.proofs.Respelled.{respelled_once}
 
 closes_spelled : (x : Item) → closes_up (spelled x) ≡ closes_up x
-closes_spelled (leaf Text text) = refl
+closes_spelled (leaf String text) = refl
 closes_spelled (leaf _ text) = refl
 closes_spelled (group kind segs one_comma end) = refl
 
 edge_spelled : (within : Option GroupKind) (left : Edge) (x : Item) → edge_after within left (spelled x) ≡ edge_after within left x
-edge_spelled within left (leaf Text text) = refl
+edge_spelled within left (leaf String text) = refl
 edge_spelled within left (leaf _ text) = refl
 edge_spelled within left (group kind segs one_comma end) = refl
 

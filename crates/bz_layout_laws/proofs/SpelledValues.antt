@@ -3,7 +3,7 @@ use Rattle.std.proofs.Common.{◌≡◌, ℕ, ◌==◌, ◌&&◌, List, [], ◌�
 use Rattle.std.specs.List.{list_all}
 use Rattle.std.proofs.lemmas.Bool.{cases_Bool, and_parts, eqb-false, ne_eqb}
 use Rattle.bz_token.specs.declared.token.Kind.{Kind}
-use Rattle.bz_token.specs.declared.token.Kind.TheVariants.{Text}
+use Rattle.bz_token.specs.declared.token.Kind.TheVariants.{String}
 use Rattle.bz_command.specs.Values.{and_then, opening, value_of, value_at}
 use Rattle.bz_command.specs.private.ValueSteps.{first_len, inner_value, value_in}
 use Rattle.bz_command.proofs.Literals.{step}
@@ -71,7 +71,7 @@ value_double inner plain = rw (opening_double inner plain) refl
 value_single : (inner : List ℕ) → list_all is_plain inner ≡ true → value_of (within 39 inner) ≡ closed_value 39 inner
 value_single inner plain = rw (opening_single inner plain) refl
 
-string_value : (text : List ℕ) → value_of (respell Text text) ≡ value_of text
+string_value : (text : List ℕ) → value_of (respell String text) ≡ value_of text
 string_value text = elim (cases_Bool (is_single text)) [
   | inr miss ↦ rw miss refl
   | inl hit ↦
@@ -81,5 +81,5 @@ string_value text = elim (cases_Bool (is_single text)) [
 ]
 
 pub respelled_value : (kind : Kind) (text : List ℕ) → value_at kind (respell kind text) ≡ value_at kind text
-respelled_value Text text = string_value text
+respelled_value String text = string_value text
 respelled_value _ text = refl

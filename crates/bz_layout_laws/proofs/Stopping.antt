@@ -3,7 +3,7 @@ use Rattle.std.proofs.Common.{◌≡◌, ℕ, ◌&&◌, ◌||◌, List, [], ◌�
 use Rattle.std.specs.Prelude.{codes, bytes_eq, if◌then◌else◌}
 use Rattle.std.proofs.lemmas.Bool.{cases_Bool, and_parts, or_cases, not-true, false≢true, eqb-true}
 use Rattle.bz_token.specs.declared.token.Kind.{Kind}
-use Rattle.bz_token.specs.declared.token.Kind.TheVariants.{Text, Sign, Line as LineKind, Note, Kept}
+use Rattle.bz_token.specs.declared.token.Kind.TheVariants.{String, Operator as OperatorToken, Newline, Comment, Kept}
 use Rattle.bz_token.specs.Pieces.{is_quote}
 use Rattle.bz_token.specs.Lexical.{begins, is_newline, is_text, is_word_byte}
 use Rattle.bz_token.specs.Ends.{is_note, stops_at, ends}
@@ -63,28 +63,28 @@ pub ended_plain : (kind : Kind) (text after : List ℕ) → is_text kind text �
 ended_plain kind text after is note h = stopped_at_ends kind text after (stopped_plain kind text after is note h)
 
 -- a sign, and no byte after it that lengthens one
-ended_sign : (text after : List ℕ) → is_text Sign text ≡ true → not (begins is_later after) ≡ true → ends Sign text after ≡ true
+ended_sign : (text after : List ℕ) → is_text OperatorToken text ≡ true → not (begins is_later after) ≡ true → ends OperatorToken text after ≡ true
 ended_sign text [] is h = refl
 ended_sign text (b ∷ bs) is h = sign_stops text b is (not-true _ h)
 
-sign_by_edge : (e : Edge) (text after : List ℕ) → is_text Sign text ≡ true → may_stand e after ≡ true → ends Sign text after ≡ true
+sign_by_edge : (e : Edge) (text after : List ℕ) → is_text OperatorToken text ≡ true → may_stand e after ≡ true → ends OperatorToken text after ≡ true
 sign_by_edge Joined text after is h = ended_sign text after is h
 sign_by_edge Dotted text after is h = ended_sign text after is h
-sign_by_edge _ text after is h = ended_plain Sign text after is refl h
+sign_by_edge _ text after is h = ended_plain OperatorToken text after is refl h
 
 -- a leaf is ended by what may stand after it
 pub leaf_ended : (within : Option GroupKind) (left : Edge) (kind : Kind) (text : List ℕ) (after : List ℕ) → IsLegibleItem (leaf kind text) → may_stand (edge_after within left (leaf kind text)) after ≡ true
     → ends kind (respell kind text) after ≡ true
-leaf_ended within left Sign text after h stands = sign_by_edge (edge_after within left (leaf Sign text)) text after h.0 stands
-leaf_ended within left Text text after h stands = ended_plain Text (respell Text text) after (respelled_text Text text h.0) refl stands
-leaf_ended within left LineKind text after h stands = absurd (false≢true h.1)
-leaf_ended within left Note text after h stands = absurd (false≢true h.1)
+leaf_ended within left OperatorToken text after h stands = sign_by_edge (edge_after within left (leaf OperatorToken text)) text after h.0 stands
+leaf_ended within left String text after h stands = ended_plain String (respell String text) after (respelled_text String text h.0) refl stands
+leaf_ended within left Newline text after h stands = absurd (false≢true h.1)
+leaf_ended within left Comment text after h stands = absurd (false≢true h.1)
 leaf_ended within left Kept text after h stands = absurd (false≢true h.0)
 leaf_ended within left kind text after h stands = ended_plain kind text after h.0 refl stands
 
 -- what is after a node is no start
 pub edge_started : (within : Option GroupKind) (left : Edge) (x : Item) → is_start (edge_after within left x) ≡ false
-edge_started within left (leaf Sign text) = by (bytes_eq text (codes ".")) (is_prefix left text || begins_argument within left text || is_index_colon within text)
+edge_started within left (leaf OperatorToken text) = by (bytes_eq text (codes ".")) (is_prefix left text || begins_argument within left text || is_index_colon within text)
   where
     by : (a b : Bool) → is_start (if a then Dotted else (if b then Joined else Operator)) ≡ false
     by true b = refl
@@ -99,7 +99,7 @@ begins_append p kind [] more is = absurd (empty_no_text kind is)
 begins_append p kind (b ∷ bs) more is = refl
 
 respelled_begins : (kind : Kind) (text : List ℕ) → begins is_later text ≡ false → begins is_later (respell kind text) ≡ false
-respelled_begins Text text h = elim (cases_Bool (is_single text)) [ inl hit ↦ rw hit refl | inr miss ↦ rw miss h ]
+respelled_begins String text h = elim (cases_Bool (is_single text)) [ inl hit ↦ rw hit refl | inr miss ↦ rw miss h ]
 respelled_begins _ text h = h
 
 -- directly after what holds on to it
@@ -132,7 +132,7 @@ mark_stops_all text more rest h = elim (or_cases (bytes_eq text (codes ".") || b
     at t is h = ap (λ x. stops_all ((x ++ more) ++ rest)) (same_bytes text t is) ∙ h
 
 closed_up : (kind : Kind) (text : List ℕ) (more rest : List ℕ) → closes_up (leaf kind text) ≡ true → stops_all ((respell kind text ++ more) ++ rest) ≡ true
-closed_up Sign text more rest h = mark_stops_all text more rest h
+closed_up OperatorToken text more rest h = mark_stops_all text more rest h
 closed_up _ text more rest h = absurd (false≢true h)
 
 abbrev spaced : Bool → Gap

@@ -4,7 +4,7 @@ use Rattle.std.specs.Prelude.{codes, if◌then◌else◌}
 use Rattle.std.specs.List.{list_all}
 use Rattle.std.proofs.lemmas.Bool.{and_parts}
 use Rattle.bz_token.specs.declared.token.Kind.{Kind}
-use Rattle.bz_token.specs.declared.token.Kind.TheVariants.{Sign, Line as LineKind, Note}
+use Rattle.bz_token.specs.declared.token.Kind.TheVariants.{Operator, Newline, Comment}
 use Rattle.bz_token.specs.Lexical.{signs, is_text, is_comment}
 use Rattle.bz_token_laws.specs.Readable.{are_texts}
 use Rattle.bz_tree.specs.declared.stmt.GroupKind.{GroupKind}
@@ -55,29 +55,29 @@ whole_more {ps} gap kind text h a = whole (both (is_text kind text) (are_texts (
 whole_piece : (gap : Gap) (kind : Kind) (text : List ℕ) → is_text kind text ≡ true → AreWhole (piece gap kind text ∷ [])
 whole_piece gap kind text h = whole (both (is_text kind text) true h refl)
 
-pub comma_text : is_text Sign (codes ",") ≡ true
+pub comma_text : is_text Operator (codes ",") ≡ true
 unfolding signs
 comma_text = refl
 
-pub opening_text : (kind : GroupKind) → is_text Sign (opening kind) ≡ true
+pub opening_text : (kind : GroupKind) → is_text Operator (opening kind) ≡ true
 unfolding signs
 opening_text Call = refl
 opening_text _ = refl
 
-pub closing_text : (kind : GroupKind) → is_text Sign (closing kind) ≡ true
+pub closing_text : (kind : GroupKind) → is_text Operator (closing kind) ≡ true
 unfolding signs
 closing_text Call = refl
 closing_text _ = refl
 
 comma_whole : (b : Bool) → AreWhole (comma_if b)
-comma_whole true = whole_piece Closed Sign (codes ",") comma_text
+comma_whole true = whole_piece Closed Operator (codes ",") comma_text
 comma_whole false = whole refl
 
 notes_whole : (level : ℕ) (texts : List (List ℕ)) → AreComments texts → AreWhole (comments level texts)
 notes_whole level [] h = whole refl
 notes_whole level (text ∷ texts) h =
     let p = and_parts (is_comment text) (list_all is_comment texts) h in
-    whole_more (Line level) Note text p.0 (notes_whole level texts p.1)
+    whole_more (Line level) Comment text p.0 (notes_whole level texts p.1)
 
 suffix_whole : (suffix : Option (List ℕ)) → AreComments (beside suffix) → AreWhole (suffix_piece suffix)
 suffix_whole None h = whole refl
@@ -87,19 +87,19 @@ lines_whole : (texts : List (List ℕ)) → AreComments texts → AreWhole (comm
 lines_whole [] h = whole refl
 lines_whole (text ∷ texts) h =
     let p = and_parts (is_comment text) (list_all is_comment texts) h in
-    whole_more Closed Note text p.0 (whole_more Closed LineKind (codes "\n") refl (lines_whole texts p.1))
+    whole_more Closed Comment text p.0 (whole_more Closed Newline (codes "\n") refl (lines_whole texts p.1))
 
 mutual
   item_whole : (style : Style) (level : ℕ) (gap : Gap) (x : Item) → IsLegibleItem x → AreWhole (item_pieces style level gap x)
   item_whole style level gap (leaf kind text) h = whole_piece gap kind _ (respelled_text kind text h.0)
   item_whole style level gap (group kind segs one_comma end) h =
       let comma = has_commas kind one_comma (count segs) in
-      let last : List Piece = piece (Line level) Sign (closing kind) ∷ [] in
-      let close : List Piece = piece Closed Sign (closing kind) ∷ [] in
-      whole_more gap Sign (opening kind) (opening_text kind)
+      let last : List Piece = piece (Line level) Operator (closing kind) ∷ [] in
+      let close : List Piece = piece Closed Operator (closing kind) ∷ [] in
+      whole_more gap Operator (opening kind) (opening_text kind)
       (either_way AreWhole (breaks style (is_broken kind segs end (segs_hold segs))) (broken_segs style (level + 1) kind comma segs ++ (comments (level + 1) end ++ last)) (flat_segs style level kind true segs ++ (comma_if one_comma ++ close))
-      (whole_join (broken_whole style (level + 1) kind comma segs h.0) (whole_join (notes_whole (level + 1) end h.1) (whole_piece (Line level) Sign (closing kind) (closing_text kind))))
-      (whole_join (flat_whole style level kind true segs h.0) (whole_join (comma_whole one_comma) (whole_piece Closed Sign (closing kind) (closing_text kind)))))
+      (whole_join (broken_whole style (level + 1) kind comma segs h.0) (whole_join (notes_whole (level + 1) end h.1) (whole_piece (Line level) Operator (closing kind) (closing_text kind))))
+      (whole_join (flat_whole style level kind true segs h.0) (whole_join (comma_whole one_comma) (whole_piece Closed Operator (closing kind) (closing_text kind)))))
 
   items_whole : (style : Style) (level : ℕ) (within : Option GroupKind) (first : Gap) (left : Edge) (xs : Items) → AreLegible within left xs → AreWhole (items_pieces style level within first left xs)
   items_whole style level within first left no_items h = whole refl
@@ -118,9 +118,9 @@ mutual
   flat_whole style level kind true (seg before nodes suffix ss) h =
       whole_join (items_whole style level (Some kind) Closed Start nodes h.2) (flat_whole style level kind false ss h.4)
   flat_whole style level kind false (seg before nodes suffix ss) h =
-      whole_more Closed Sign (codes ",") comma_text (whole_join (items_whole style level (Some kind) Space Start nodes h.2) (flat_whole style level kind false ss h.4))
+      whole_more Closed Operator (codes ",") comma_text (whole_join (items_whole style level (Some kind) Space Start nodes h.2) (flat_whole style level kind false ss h.4))
 
-newline_whole : AreWhole (piece Closed LineKind (codes "\n") ∷ [])
+newline_whole : AreWhole (piece Closed Newline (codes "\n") ∷ [])
 newline_whole = whole refl
 
 pub line_whole : (s : Statement) → IsLegible s → AreWhole (statement_line s)

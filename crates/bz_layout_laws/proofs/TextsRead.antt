@@ -5,7 +5,7 @@ use Rattle.std.specs.Str.{bytes_eq}
 use Rattle.std.specs.List.{list_all}
 use Rattle.std.proofs.lemmas.Bool.{false≢true, and_parts}
 use Rattle.bz_token.specs.declared.token.Kind.{Kind}
-use Rattle.bz_token.specs.declared.token.Kind.TheVariants.{Sign, Note}
+use Rattle.bz_token.specs.declared.token.Kind.TheVariants.{Operator, Comment as CommentToken}
 use Rattle.bz_token.specs.Lexical.{is_text, is_comment}
 use Rattle.bz_token.specs.Places.{Placed}
 use Rattle.bz_token.specs.Reading.{AreTokensOf}
@@ -87,8 +87,8 @@ sign_comment text = by (bytes_eq text (codes "(")) (bytes_eq text (codes "[")) (
     by false false false false false false false = refl
 
 pub note_text : (kind : Kind) (text : List ℕ) → kind_mark kind text ≡ Comment → is_text kind text ≡ true → is_comment text ≡ true
-note_text Note text e is = is
-note_text Sign text e is = absurd (false≢true (sym (sign_comment text) ∙ ap is_comment_mark e))
+note_text CommentToken text e is = is
+note_text Operator text e is = absurd (false≢true (sym (sign_comment text) ∙ ap is_comment_mark e))
 note_text _ text e is = absurd (false≢true (ap is_comment_mark e))
 
 -- one more token

@@ -2,7 +2,7 @@
 use Rattle.std.proofs.Common.{◌≡◌, ℕ, ◌+◌, ◌≤◌, ◌==◌, ◌&&◌, not, List, [], ◌∷◌, ◌++◌, Bool, true, false, Option, Some, None, refl, sym, ap, subst, ◌∙◌, append-nil, append_assoc}
 use Rattle.std.specs.Prelude.{codes, count_by, if◌then◌else◌}
 use Rattle.std.proofs.lemmas.Bool.{false≢true}
-use Rattle.bz_token.specs.declared.token.Kind.TheVariants.{Line as LineKind}
+use Rattle.bz_token.specs.declared.token.Kind.TheVariants.{Newline}
 use Rattle.bz_token.specs.Brackets.{is_line}
 use Rattle.bz_token.specs.FreshStart.{ends_in_line, AreLinesOf}
 use Rattle.bz_token.specs.Places.{Placed, line_at}
@@ -77,7 +77,7 @@ comments_end (text ∷ next ∷ texts) = comments_end (next ∷ texts)
 
 line_ends : (s : Statement) → ends_line (statement_line s) ≡ true
 line_ends s =
-    let newline : List Piece = piece Closed LineKind (codes "\n") ∷ [] in
+    let newline : List Piece = piece Closed Newline (codes "\n") ∷ [] in
     ends_after (items_pieces Broken 0 None Closed Start (items_of s.nodes)) (suffix_piece s.suffix ++ newline) (ends_after (suffix_piece s.suffix) newline refl)
 
 pub layout_ends : (s : Statement) → ends_in_line (read_pieces (layout s)) ≡ true

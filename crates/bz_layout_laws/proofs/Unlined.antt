@@ -5,7 +5,7 @@ use Rattle.std.specs.List.{list_any}
 use Rattle.std.specs.Str.{bytes_eq}
 use Rattle.std.proofs.lemmas.Bool.{false≢true, and_parts, or_parts, or_cases}
 use Rattle.bz_token.specs.declared.token.Kind.{Kind}
-use Rattle.bz_token.specs.declared.token.Kind.TheVariants.{Sign, Line as LineKind, Note}
+use Rattle.bz_token.specs.declared.token.Kind.TheVariants.{Operator, Newline, Comment}
 use Rattle.bz_token.specs.Brackets.{is_line}
 use Rattle.bz_token.specs.Ends.{is_note}
 use Rattle.bz_token.specs.Places.{Placed}
@@ -47,12 +47,12 @@ no_line false false false false false false true = refl
 no_line false false false false false false false = refl
 
 pub line_mark : (kind : Kind) (text : List ℕ) → is_line_mark (kind_mark kind text) ≡ is_line kind
-line_mark Sign text = no_line (bytes_eq text (codes "(")) (bytes_eq text (codes "[")) (bytes_eq text (codes "{")) (bytes_eq text (codes ")")) (bytes_eq text (codes "]")) (bytes_eq text (codes "}")) (bytes_eq text (codes ","))
+line_mark Operator text = no_line (bytes_eq text (codes "(")) (bytes_eq text (codes "[")) (bytes_eq text (codes "{")) (bytes_eq text (codes ")")) (bytes_eq text (codes "]")) (bytes_eq text (codes "}")) (bytes_eq text (codes ","))
 line_mark _ text = refl
 
 pub line_aside : (kind : Kind) → is_line kind ≡ true → is_aside kind ≡ true
-line_aside LineKind h = refl
-line_aside Note h = refl
+line_aside Newline h = refl
+line_aside Comment h = refl
 line_aside _ h = h
 
 none_after : (t : Placed) → is_aside t.kind ≡ true → end_after t ≡ None
@@ -98,7 +98,7 @@ nodes_none s h =
     let ps = items_pieces Broken 0 None Closed Start (items_of s.nodes) in
     ap (list_any (λ l. is_line l.kind)) (sym (items_pieces_are 0 None Closed Start (items_of s.nodes) refl)) ∙ any_line ps ∙ (items_no_line Broken 0 None Closed Start (items_of s.nodes) h.nodes).none
 
-newline_last : (suffix : Option (List ℕ)) (aside : Bool) → newlines_end aside (suffix_lexemes suffix ++ lexeme LineKind (codes "\n") ∷ []) ≡ true
+newline_last : (suffix : Option (List ℕ)) (aside : Bool) → newlines_end aside (suffix_lexemes suffix ++ lexeme Newline (codes "\n") ∷ []) ≡ true
 newline_last None true = refl
 newline_last None false = refl
 newline_last (Some text) aside = refl
@@ -112,7 +112,7 @@ whole_end s h = above_end s.before (if is_comment s.class then [] else line_lexe
   where
     by : (b a : Bool) → newlines_end a (if b then [] else line_lexemes s) ≡ true
     by true a = refl
-    by false a = no_newline (items_lexemes (items_of s.nodes)) (suffix_lexemes s.suffix ++ lexeme LineKind (codes "\n") ∷ []) a (nodes_none s h) (newline_last s.suffix)
+    by false a = no_newline (items_lexemes (items_of s.nodes)) (suffix_lexemes s.suffix ++ lexeme Newline (codes "\n") ∷ []) a (nodes_none s h) (newline_last s.suffix)
 
 pub lines_out : (s : Statement) (tokens : List Placed) → IsLegible s → token_lexemes tokens ≡ lexemes_of s → lexemes_from None (without_lines tokens) ≡ without_newlines (lexemes_of s)
 lines_out s tokens h e = unlined false None tokens (λ f. absurd (false≢true f)) (ap (newlines_end false) e ∙ whole_end s h) ∙ ap without_newlines e

@@ -9,7 +9,7 @@ use Rattle.std.proofs.lemmas.Bool.Decides.{nat_tests}
 use Rattle.std.proofs.lemmas.Str.{IsUtf8-take, IsUtf8-drop, IsUtf8-nil, is_utf8-from_IsUtf8}
 use Rattle.std.proofs.lemmas.List.{length-append, append-nil}
 use Rattle.bz_token.specs.declared.token.Kind.{Kind}
-use Rattle.bz_token.specs.declared.token.Kind.TheVariants.{Text}
+use Rattle.bz_token.specs.declared.token.Kind.TheVariants.{String}
 use Rattle.bz_token.specs.Lexical.{is_text}
 use Rattle.bz_token.specs.Brackets.{is_inside, open_after_token}
 use Rattle.bz_token.specs.Places.{Placed, line_at}
@@ -34,7 +34,7 @@ high_unknown : (b : ℕ) → 128 ≤ b → class_of b ≡ unknown
 high_unknown b h = grind (arith, nat_tests)
 
 starts_none : (kind : Kind) → can_start kind unknown ≡ false
-starts_none Text = refl
+starts_none String = refl
 starts_none _ = refl
 
 is_low : (b : ℕ) → nat_lt b 128 ≡ true → b < 128

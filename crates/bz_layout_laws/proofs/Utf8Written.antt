@@ -7,7 +7,7 @@ use Rattle.std.proofs.lemmas.Bool.{and_parts}
 use lib.Utf8.{low_scalar}
 use Rattle.std.proofs.lemmas.Str.{encode_ascii, IsUtf8-append, IsUtf8-past_char, IsUtf8-nil, is_utf8-from_IsUtf8, IsUtf8-from_is_utf8}
 use Rattle.bz_token.specs.declared.token.Kind.{Kind}
-use Rattle.bz_token.specs.declared.token.Kind.TheVariants.{Text, Sign, Line as LineKind, Note}
+use Rattle.bz_token.specs.declared.token.Kind.TheVariants.{String, Operator, Newline, Comment}
 use Rattle.bz_token.proofs.Classes.{same_bytes}
 use Rattle.bz_token.proofs.Quiet.{both}
 use Rattle.bz_tree.specs.declared.stmt.GroupKind.{GroupKind}
@@ -55,7 +55,7 @@ single_utf8 text single u =
     IsUtf8-append (34 ∷ []) (content text ++ 34 ∷ []) quote (IsUtf8-append (content text) (34 ∷ []) plain quote)
 
 pub respelled_utf8 : (kind : Kind) (text : List ℕ) → is_utf8 text ≡ true → is_utf8 (respell kind text) ≡ true
-respelled_utf8 Text text h = by (is_single text) refl
+respelled_utf8 String text h = by (is_single text) refl
   where
     by : (b : Bool) → is_single text ≡ b → is_utf8 (if b then 34 ∷ (content text ++ 34 ∷ []) else text) ≡ true
     by true single = is_utf8-from_IsUtf8 _ (single_utf8 text single (IsUtf8-from_is_utf8 text h))
@@ -82,7 +82,7 @@ closing_utf8 DictComp = ascii_utf8 125 (omega arith)
 closing_utf8 _ = ascii_utf8 41 (omega arith)
 
 comma_utf8 : (b : Bool) → AreUtf8 (comma_lexemes b)
-comma_utf8 true = one_utf8 (lexeme Sign (codes ",")) [] (ascii_utf8 44 (omega arith)) refl
+comma_utf8 true = one_utf8 (lexeme Operator (codes ",")) [] (ascii_utf8 44 (omega arith)) refl
 comma_utf8 false = refl
 
 newline_utf8 : is_utf8 (codes "\n") ≡ true
@@ -90,7 +90,7 @@ newline_utf8 = ascii_utf8 10 (omega arith)
 
 notes_utf8 : (texts : List (List ℕ)) → list_all is_utf8 texts ≡ true → AreUtf8 (notes texts)
 notes_utf8 [] h = refl
-notes_utf8 (text ∷ texts) h = let p = and_parts (is_utf8 text) (list_all is_utf8 texts) h in one_utf8 (lexeme Note text) (notes texts) p.0 (notes_utf8 texts p.1)
+notes_utf8 (text ∷ texts) h = let p = and_parts (is_utf8 text) (list_all is_utf8 texts) h in one_utf8 (lexeme Comment text) (notes texts) p.0 (notes_utf8 texts p.1)
 
 suffix_utf8 : (suffix : Option (List ℕ)) → list_all is_utf8 (beside suffix) ≡ true → AreUtf8 (suffix_lexemes suffix)
 suffix_utf8 None h = refl
@@ -114,8 +114,8 @@ mutual
   item_utf8 (leaf kind text) h = one_utf8 (lexeme kind (respell kind text)) [] (respelled_utf8 kind text h) refl
   item_utf8 (group kind segs one_comma end) h =
       let p = and_parts (segs_pass is_utf8 segs) (list_all is_utf8 end) h in
-      let close = one_utf8 (lexeme Sign (closing kind)) [] (closing_utf8 kind) refl in
-      one_utf8 (lexeme Sign (opening kind)) _ (opening_utf8 kind)
+      let close = one_utf8 (lexeme Operator (closing kind)) [] (closing_utf8 kind) refl in
+      one_utf8 (lexeme Operator (opening kind)) _ (opening_utf8 kind)
       (either_utf8 (is_broken kind segs end (segs_hold segs)) _ _
       (join_utf8 (ended_lexemes (has_commas kind one_comma (count segs)) segs) _ (ended_utf8 (has_commas kind one_comma (count segs)) segs p.0) (join_utf8 (notes end) _ (notes_utf8 end p.1) close))
       (join_utf8 (separated_lexemes true segs) _ (separated_utf8 true segs p.0) (join_utf8 (comma_lexemes one_comma) _ (comma_utf8 one_comma) close)))
@@ -139,13 +139,13 @@ mutual
       join_utf8 (items_lexemes nodes) _ (items_utf8 nodes p.1) (separated_utf8 false ss p.3)
   separated_utf8 false (seg before nodes suffix ss) h =
       let p = segs_parts before nodes suffix ss h in
-      join_utf8 (lexeme Sign (codes ",") ∷ items_lexemes nodes) _ (one_utf8 (lexeme Sign (codes ",")) (items_lexemes nodes) (ascii_utf8 44 (omega arith)) (items_utf8 nodes p.1)) (separated_utf8 false ss p.3)
+      join_utf8 (lexeme Operator (codes ",") ∷ items_lexemes nodes) _ (one_utf8 (lexeme Operator (codes ",")) (items_lexemes nodes) (ascii_utf8 44 (omega arith)) (items_utf8 nodes p.1)) (separated_utf8 false ss p.3)
 
 lines_utf8 : (texts : List (List ℕ)) → list_all is_utf8 texts ≡ true → AreUtf8 (note_lines texts)
 lines_utf8 [] h = refl
 lines_utf8 (text ∷ texts) h =
     let p = and_parts (is_utf8 text) (list_all is_utf8 texts) h in
-    one_utf8 (lexeme Note text) (lexeme LineKind (codes "\n") ∷ note_lines texts) p.0 (one_utf8 (lexeme LineKind (codes "\n")) (note_lines texts) newline_utf8 (lines_utf8 texts p.1))
+    one_utf8 (lexeme Comment text) (lexeme Newline (codes "\n") ∷ note_lines texts) p.0 (one_utf8 (lexeme Newline (codes "\n")) (note_lines texts) newline_utf8 (lines_utf8 texts p.1))
 
 statement_utf8 : (s : Statement) → HasUtf8 s → AreUtf8 (lexemes_of s)
 statement_utf8 s h =
@@ -154,7 +154,7 @@ statement_utf8 s h =
     join_utf8 (note_lines s.before) _ (lines_utf8 s.before b.0)
     (either_utf8 (is_comment s.class) [] (line_lexemes s) refl
     (join_utf8 (items_lexemes (items_of s.nodes)) _ (items_utf8 (items_of s.nodes) b.1)
-    (join_utf8 (suffix_lexemes s.suffix) (lexeme LineKind (codes "\n") ∷ []) (suffix_utf8 s.suffix a.1) (one_utf8 (lexeme LineKind (codes "\n")) [] newline_utf8 refl))))
+    (join_utf8 (suffix_lexemes s.suffix) (lexeme Newline (codes "\n") ∷ []) (suffix_utf8 s.suffix a.1) (one_utf8 (lexeme Newline (codes "\n")) [] newline_utf8 refl))))
 
 two_utf8 : IsUtf8 (32 ∷ 32 ∷ [])
 two_utf8 = let space = low_utf8 32 (omega arith) in IsUtf8-append (32 ∷ []) (32 ∷ []) space space

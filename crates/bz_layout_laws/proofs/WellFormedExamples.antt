@@ -3,7 +3,7 @@ use Rattle.std.proofs.Common.{◌≡◌, ℕ, ◌≤◌, List, [], ◌∷◌, tr
 use Rattle.std.specs.Prelude.{codes}
 use Rattle.std.specs.Prelude.Option.{None}
 use Rattle.std.proofs.lemmas.Bool.{false≢true}
-use Rattle.bz_token.specs.declared.token.Kind.TheVariants.{Ident, Word, Int, Sign}
+use Rattle.bz_token.specs.declared.token.Kind.TheVariants.{Identifier, Keyword, Integer, Operator}
 use Rattle.bz_token.specs.Lexical.{keywords, signs}
 use Rattle.bz_tree.specs.declared.stmt.GroupKind.TheVariants.{RuleCall, Call, Index}
 use Rattle.bz_tree.specs.declared.stmt.Class.TheVariants.{Rule}
@@ -22,17 +22,17 @@ use Rattle.bz_layout_laws.specs.TextsOfKinds.{HasTexts}
 use Rattle.bz_layout_laws.specs.WellFormed.{IsWellFormed}
 
 abbrev sign : List ℕ → Item
-sign text = leaf Sign text
+sign text = leaf Operator text
 
 abbrev name : List ℕ → Item
-name text = leaf Ident text
+name text = leaf Identifier text
 
 abbrev one : List Item → Segment
 one nodes = record { before = []; nodes = nodes; suffix = None }
 
 -- `::-1`
 abbrev range : Segs
-range = segs_of (one (sign (codes ":") ∷ sign (codes ":") ∷ sign (codes "-") ∷ leaf Int (codes "1") ∷ []) ∷ [])
+range = segs_of (one (sign (codes ":") ∷ sign (codes ":") ∷ sign (codes "-") ∷ leaf Integer (codes "1") ∷ []) ∷ [])
 
 -- `*x[::-1]`
 abbrev arguments : Segs
@@ -115,5 +115,5 @@ not_in_grammar : IsStatement one_sign → ⊥
 not_in_grammar h = false≢true (statement_accepted h)
 
 -- nor is what begins with a block's word
-block_not_in_grammar : IsStatement (items_of (leaf Word (codes "if") ∷ name (codes "x") ∷ [])) → ⊥
+block_not_in_grammar : IsStatement (items_of (leaf Keyword (codes "if") ∷ name (codes "x") ∷ [])) → ⊥
 block_not_in_grammar h = false≢true (statement_accepted h)

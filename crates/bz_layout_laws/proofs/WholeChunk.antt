@@ -4,7 +4,7 @@ use Rattle.std.specs.Prelude.{codes, is_some, if◌then◌else◌}
 use Rattle.std.proofs.lemmas.Bool.{cases_Bool, and_parts, false≢true}
 use Rattle.std.proofs.lemmas.List.{map-append}
 use Rattle.bz_token.specs.declared.token.Kind.{Kind}
-use Rattle.bz_token.specs.declared.token.Kind.TheVariants.{Text, Sign, Line as LineKind, Note}
+use Rattle.bz_token.specs.declared.token.Kind.TheVariants.{String, Operator, Newline, Comment}
 use Rattle.bz_token.specs.declared.cutter.block.Opener.{Opener}
 use Rattle.bz_token.specs.Blocks.{opener_of, opener}
 use Rattle.bz_token.specs.Brackets.{is_inside, is_line}
@@ -58,16 +58,16 @@ comments_are (text ∷ texts) = comments_are texts
 -- the line of the nodes is one
 line_is_one : (s : Statement) → IsLegible s → lines_of (read_pieces (statement_line s)) [] ≡ line_of (read_pieces (statement_line s)) [] ∷ []
 line_is_one s h =
-    let newline : List Piece = piece Closed LineKind (codes "\n") ∷ [] in
+    let newline : List Piece = piece Closed Newline (codes "\n") ∷ [] in
     let nodes = items_pieces Broken 0 None Closed Start (items_of s.nodes) in
     let none = join (items_no_line Broken 0 None Closed Start (items_of s.nodes) h.nodes) (suffix_no_line s.suffix) in
-    let parts : read_pieces (statement_line s) ≡ read_pieces (nodes ++ suffix_piece s.suffix) ++ read_piece (piece Closed LineKind (codes "\n")) ∷ [] =
+    let parts : read_pieces (statement_line s) ≡ read_pieces (nodes ++ suffix_piece s.suffix) ++ read_piece (piece Closed Newline (codes "\n")) ∷ [] =
     ap read_pieces (sym (append_assoc nodes (suffix_piece s.suffix) newline)) ∙ map-append read_piece (nodes ++ suffix_piece s.suffix) newline in
-    ap (λ ps. lines_of ps []) parts ∙ one_line (read_pieces (nodes ++ suffix_piece s.suffix)) (read_piece (piece Closed LineKind (codes "\n"))) none.none refl ∙ sym (ap (λ ps. line_of ps [] ∷ []) parts)
+    ap (λ ps. lines_of ps []) parts ∙ one_line (read_pieces (nodes ++ suffix_piece s.suffix)) (read_piece (piece Closed Newline (codes "\n"))) none.none refl ∙ sym (ap (λ ps. line_of ps [] ∷ []) parts)
 
 -- a word that is spelled anew begins no block
 spelled_opener : (kind : Kind) (text : List ℕ) → opener_of text ≡ None → opener_of (respell kind text) ≡ None
-spelled_opener Text text h = elim (cases_Bool (is_single text)) [ inl hit ↦ rw hit refl | inr miss ↦ rw miss h ]
+spelled_opener String text h = elim (cases_Bool (is_single text)) [ inl hit ↦ rw hit refl | inr miss ↦ rw miss h ]
 spelled_opener _ text h = h
 
 opening_opener : (kind : GroupKind) → opener_of (opening kind) ≡ None
@@ -89,7 +89,7 @@ first_piece kind text ps line note none texts ended =
     rw (line, note) (ap (λ o. not (is_some o)) no)
 
 leaf_note : (kind : Kind) (text : List ℕ) → IsLegibleItem (leaf kind text) → is_note kind ≡ false
-leaf_note Note text h = absurd (false≢true h.1)
+leaf_note Comment text h = absurd (false≢true h.1)
 leaf_note _ text h = refl
 
 abbrev tail_of : List Piece → List Piece
@@ -106,7 +106,7 @@ nodes_end no_items ps some h none texts ended = absurd (false≢true some)
 nodes_end (item (leaf kind text) xs) ps some h none texts ended =
     first_piece kind (respell kind text) (read_pieces (tail_of (nodes_of (item (leaf kind text) xs) ++ ps))) (leaf_line kind text h.1.1) (leaf_note kind text h.1) (spelled_opener kind text (is_none (opener_of text) none)) texts ended
 nodes_end (item (group kind segs one_comma end) xs) ps some h none texts ended =
-    first_piece Sign (opening kind) (read_pieces (tail_of (nodes_of (item (group kind segs one_comma end) xs) ++ ps))) refl refl (opening_opener kind) texts ended
+    first_piece Operator (opening kind) (read_pieces (tail_of (nodes_of (item (group kind segs one_comma end) xs) ++ ps))) refl refl (opening_opener kind) texts ended
 
 pub statement_chunked : (s : Statement) → IsLegible s → is_comment s.class ≡ false → begins_block (items_of s.nodes) ≡ false → IsChunk (layout_text s)
 statement_chunked s h class none =
@@ -117,12 +117,12 @@ statement_chunked s h class none =
     let are : lines (layout_text s) ≡ notes ++ last ∷ [] =
     text_lines s h ∙ ap (λ ps. lines_of ps []) parts ∙ lines_of_join (read_pieces (comment_lines s.before)) (read_pieces (statement_line s)) [] (comments_end s.before) ∙ ap (λ ls. notes ++ ls) (line_is_one s h) in
     let ends : ends_chunk last ≡ true =
-    nodes_end (items_of s.nodes) (suffix_piece s.suffix ++ piece Closed LineKind (codes "\n") ∷ []) (h.some class) h.nodes none (line_whole s h).texts (line_ended s [] h).ended in
+    nodes_end (items_of s.nodes) (suffix_piece s.suffix ++ piece Closed Newline (codes "\n") ∷ []) (h.some class) h.nodes none (line_whole s h).texts (line_ended s [] h).ended in
     statement_chunk 1 (depth_of s) (layout_text s) (tokens_back 1 s) notes last (read_lines 1 (depth_of s) s h (omega arith)) are (comments_are s.before) ends
 
 pub comments_chunked : (s : Statement) (text : List ℕ) (texts : List (List ℕ)) → IsLegible s → is_comment s.class ≡ true → s.before ≡ text ∷ texts → chunks (layout_text s) ≡ layout_text s ∷ []
 comments_chunked s text texts h class e =
-    let one = line_of (read_pieces (piece Closed Note text ∷ piece Closed LineKind (codes "\n") ∷ [])) [] in
+    let one = line_of (read_pieces (piece Closed Comment text ∷ piece Closed Newline (codes "\n") ∷ [])) [] in
     let more = lines_of (read_pieces (comment_lines texts)) [] in
     let parts : read_pieces (layout s) ≡ read_pieces (comment_lines (text ∷ texts)) =
     ap (λ b. read_pieces (comment_lines s.before ++ (if b then [] else statement_line s))) class ∙ ap read_pieces (append-nil (comment_lines s.before)) ∙ ap (λ ts. read_pieces (comment_lines ts)) e in

@@ -3,7 +3,7 @@ use Rattle.std.proofs.Common.{◌≡◌, ℕ, suc, ◌==◌, ◌&&◌, ◌||◌,
 use Rattle.std.specs.Prelude.{codes, nat_le, is_some, if◌then◌else◌}
 use Rattle.std.proofs.lemmas.Bool.{cases_Bool, or_parts, false≢true, eqb-true}
 use Rattle.std.proofs.lemmas.Bool.Decides.{nat_tests}
-use Rattle.bz_token.specs.declared.token.Kind.TheVariants.{Sign, Note}
+use Rattle.bz_token.specs.declared.token.Kind.TheVariants.{Operator, Comment}
 use Rattle.bz_tree.specs.declared.stmt.GroupKind.{GroupKind}
 use Rattle.bz_tree.specs.declared.stmt.GroupKind.TheVariants.{Paren, Index, ListComp, DictComp}
 use Rattle.bz_tree.specs.Brackets.{is_paren}
@@ -22,7 +22,7 @@ join (x ∷ xs) ys = ap (λ l. entry_lexemes x ++ l) (join xs ys) ∙ sym (appen
 
 pub own_lines_are : (texts : List (List ℕ)) → entries_lexemes (own_lines texts) ≡ notes texts
 own_lines_are [] = refl
-own_lines_are (text ∷ texts) = ap (λ l. lexeme Note text ∷ l) (own_lines_are texts)
+own_lines_are (text ∷ texts) = ap (λ l. lexeme Comment text ∷ l) (own_lines_are texts)
 
 nodes_are : (xs : Items) → entries_lexemes (map a_node (list_of xs)) ≡ items_lexemes xs
 nodes_are no_items = refl
@@ -111,10 +111,10 @@ separated_are (seg before nodes suffix (seg b n s ss)) false none some =
     let aside = no_suffix suffix q.1 in
     let es = written_entries false (segments (seg b n s ss)) [] in
     let rest : separated_lexemes true (seg b n s ss) ++ [] ≡ entries_lexemes es = separated_are (seg b n s ss) false p.1 (λ e. absurd (false≢true e)) in
-    spread (items_lexemes nodes) (items_lexemes n) (separated_lexemes false ss) ∙ ap (λ l. items_lexemes nodes ++ (lexeme Sign (codes ",") ∷ l)) rest
+    spread (items_lexemes nodes) (items_lexemes n) (separated_lexemes false ss) ∙ ap (λ l. items_lexemes nodes ++ (lexeme Operator (codes ",") ∷ l)) rest
     ∙ sym (segment_is before nodes true suffix es ∙ rw (above, aside) refl)
   where
-    spread : (x y z : List Lexeme) → (x ++ ((lexeme Sign (codes ",") ∷ y) ++ z)) ++ [] ≡ x ++ (lexeme Sign (codes ",") ∷ ((y ++ z) ++ []))
+    spread : (x y z : List Lexeme) → (x ++ ((lexeme Operator (codes ",") ∷ y) ++ z)) ++ [] ≡ x ++ (lexeme Operator (codes ",") ∷ ((y ++ z) ++ []))
     spread x y z = simp append_assoc
 
 -- where no comma is written after a segment, there is one at most
@@ -137,21 +137,21 @@ no_end [] h = refl
 no_end (text ∷ texts) h = absurd (false≢true (sym h))
 
 pub bracket_written : (kind : GroupKind) (segs : Segs) (one_comma : Bool) (end : List (List ℕ)) → HasShape kind segs one_comma
-    → item_lexemes (group kind segs one_comma end) ≡ lexeme Sign (opening kind) ∷ (entries_lexemes (written_entries (has_last_comma kind segs one_comma end) (segments segs) end) ++ lexeme Sign (closing kind) ∷ [])
-bracket_written kind segs one_comma end h = ap (λ l. lexeme Sign (opening kind) ∷ l) (by (is_broken kind segs end (segs_hold segs)) refl)
+    → item_lexemes (group kind segs one_comma end) ≡ lexeme Operator (opening kind) ∷ (entries_lexemes (written_entries (has_last_comma kind segs one_comma end) (segments segs) end) ++ lexeme Operator (closing kind) ∷ [])
+bracket_written kind segs one_comma end h = ap (λ l. lexeme Operator (opening kind) ∷ l) (by (is_broken kind segs end (segs_hold segs)) refl)
   where
     by : (b : Bool) → is_broken kind segs end (segs_hold segs) ≡ b
-        → (if b then ended_lexemes (has_commas kind one_comma (count segs)) segs ++ (notes end ++ lexeme Sign (closing kind) ∷ []) else separated_lexemes true segs ++ (comma_lexemes one_comma ++ lexeme Sign (closing kind) ∷ []))
-        ≡ entries_lexemes (written_entries (if b then has_commas kind one_comma (count segs) else one_comma) (segments segs) end) ++ lexeme Sign (closing kind) ∷ []
+        → (if b then ended_lexemes (has_commas kind one_comma (count segs)) segs ++ (notes end ++ lexeme Operator (closing kind) ∷ []) else separated_lexemes true segs ++ (comma_lexemes one_comma ++ lexeme Operator (closing kind) ∷ []))
+        ≡ entries_lexemes (written_entries (if b then has_commas kind one_comma (count segs) else one_comma) (segments segs) end) ++ lexeme Operator (closing kind) ∷ []
     by true e =
-        sym (append_assoc (ended_lexemes (has_commas kind one_comma (count segs)) segs) (notes end) (lexeme Sign (closing kind) ∷ []))
-        ∙ ap (λ l. l ++ lexeme Sign (closing kind) ∷ []) (ended_are kind one_comma segs end h (has_commas kind one_comma (count segs)) refl)
+        sym (append_assoc (ended_lexemes (has_commas kind one_comma (count segs)) segs) (notes end) (lexeme Operator (closing kind) ∷ []))
+        ∙ ap (λ l. l ++ lexeme Operator (closing kind) ∷ []) (ended_are kind one_comma segs end h (has_commas kind one_comma (count segs)) refl)
     by false e =
         let p = or_parts (has_some end || have_comments segs || breaks_by_count kind (count segs)) (nat_le 2 (count segs) && segs_hold segs) e in
         let q = or_parts (has_some end || have_comments segs) (breaks_by_count kind (count segs)) p.0 in
         let r = or_parts (has_some end) (have_comments segs) q.0 in
-        sym (append_assoc (separated_lexemes true segs) (comma_lexemes one_comma) (lexeme Sign (closing kind) ∷ []))
-        ∙ ap (λ l. l ++ lexeme Sign (closing kind) ∷ []) (separated_are segs one_comma r.1 (λ is. (h.comma is).1) ∙ ap (λ ts. entries_lexemes (written_entries one_comma (segments segs) ts)) (sym (no_end end r.0)))
+        sym (append_assoc (separated_lexemes true segs) (comma_lexemes one_comma) (lexeme Operator (closing kind) ∷ []))
+        ∙ ap (λ l. l ++ lexeme Operator (closing kind) ∷ []) (separated_are segs one_comma r.1 (λ is. (h.comma is).1) ∙ ap (λ ts. entries_lexemes (written_entries one_comma (segments segs) ts)) (sym (no_end end r.0)))
 
 segments_count : (ss : Segs) → length (segments ss) ≡ count ss
 segments_count no_segs = refl

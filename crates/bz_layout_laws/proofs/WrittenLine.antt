@@ -3,7 +3,7 @@ use Rattle.std.proofs.Common.{◌≡◌, ℕ, List, [], ◌∷◌, ◌++◌, map
 use Rattle.std.specs.Prelude.{codes, if◌then◌else◌}
 use Rattle.std.specs.List.{list_any}
 use Rattle.std.proofs.lemmas.Bool.{or_parts}
-use Rattle.bz_token.specs.declared.token.Kind.TheVariants.{Line as LineKind, Note}
+use Rattle.bz_token.specs.declared.token.Kind.TheVariants.{Newline, Comment}
 use Rattle.bz_token.specs.Brackets.{is_line}
 use Rattle.bz_token.specs.TokenLines.{is_newline_piece}
 use Rattle.bz_tree.specs.Owners.{a_node}
@@ -46,9 +46,9 @@ nodes_stay s h =
 
 above : (texts : List (List ℕ)) → without_newlines (note_lines texts) ≡ notes texts
 above [] = refl
-above (text ∷ texts) = ap (λ l. lexeme Note text ∷ l) (above texts)
+above (text ∷ texts) = ap (λ l. lexeme Comment text ∷ l) (above texts)
 
-aside : (suffix : Option (List ℕ)) → without_newlines (suffix_lexemes suffix ++ lexeme LineKind (codes "\n") ∷ []) ≡ suffix_lexemes suffix
+aside : (suffix : Option (List ℕ)) → without_newlines (suffix_lexemes suffix ++ lexeme Newline (codes "\n") ∷ []) ≡ suffix_lexemes suffix
 aside None = refl
 aside (Some text) = refl
 
@@ -58,7 +58,7 @@ same_nodes (x ∷ xs) = ap (λ l. x ∷ l) (same_nodes xs)
 
 line_stays : (s : Statement) → IsLegible s → without_newlines (line_lexemes s) ≡ items_lexemes (items_of s.nodes) ++ suffix_lexemes s.suffix
 line_stays s h =
-    without_join (items_lexemes (items_of s.nodes)) (suffix_lexemes s.suffix ++ lexeme LineKind (codes "\n") ∷ []) ∙ rw (nodes_stay s h, aside s.suffix) refl
+    without_join (items_lexemes (items_of s.nodes)) (suffix_lexemes s.suffix ++ lexeme Newline (codes "\n") ∷ []) ∙ rw (nodes_stay s h, aside s.suffix) refl
 
 -- comments, nodes and the comment beside them, without newlines
 pub statement_line_is : (s : Statement) → IsLegible s → is_comment s.class ≡ false → without_newlines (lexemes_of s) ≡ notes s.before ++ (items_lexemes (items_of s.nodes) ++ (suffix_lexemes s.suffix ++ []))

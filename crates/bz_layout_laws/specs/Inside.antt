@@ -1,6 +1,6 @@
 -- What stands in a bracket as lexemes, and the form of groups that parsing gives.
 use Rattle.std.specs.Prelude.{◌≡◌, codes, ℕ, nat_le, List, [], ◌∷◌, ◌++◌, Bool, true, if◌then◌else◌}
-use Rattle.bz_token.specs.declared.token.Kind.TheVariants.{Sign, Note}
+use Rattle.bz_token.specs.declared.token.Kind.TheVariants.{Operator, Comment}
 use Rattle.bz_token.specs.Brackets.{is_line}
 use Rattle.bz_tree.specs.declared.stmt.GroupKind.{GroupKind}
 use Rattle.bz_tree.specs.declared.stmt.GroupKind.TheVariants.{Paren}
@@ -13,8 +13,8 @@ use Rattle.bz_layout_laws.specs.Lexemes.{Lexeme, lexeme, item_lexemes}
 
 abbrev pub entry_lexemes : Entry → List Lexeme
 entry_lexemes (a_node x) = item_lexemes x
-entry_lexemes a_comma = lexeme Sign (codes ",") ∷ []
-entry_lexemes (a_note beside text) = record { kind = Note; text = text; beside = beside } ∷ []
+entry_lexemes a_comma = lexeme Operator (codes ",") ∷ []
+entry_lexemes (a_note beside text) = record { kind = Comment; text = text; beside = beside } ∷ []
 
 abbrev pub entries_lexemes : List Entry → List Lexeme
 entries_lexemes [] = []

@@ -2,7 +2,7 @@
 -- spelling of strings, the commas of broken groups and which comments stand beside a token, but no gap.
 use Rattle.std.specs.Prelude.{codes, ℕ, ◌==◌, List, [], ◌∷◌, ◌++◌, map, Bool, true, false, ◌&&◌, if◌then◌else◌, Option, Some, None}
 use Rattle.bz_token.specs.declared.token.Kind.{Kind}
-use Rattle.bz_token.specs.declared.token.Kind.TheVariants.{Sign, Line, Note}
+use Rattle.bz_token.specs.declared.token.Kind.TheVariants.{Operator, Newline, Comment}
 use Rattle.bz_token.specs.Ends.{is_note}
 use Rattle.bz_token.specs.Places.{Placed}
 use Rattle.bz_tree.specs.Tree.{Item, leaf, group, Items, no_items, item, Segs, no_segs, seg, Statement, items_of}
@@ -23,11 +23,11 @@ lexeme kind text = record { kind = kind; text = text; beside = false }
 
 -- comments on lines of their own, and the one beside a token
 abbrev pub notes : List (List ℕ) → List Lexeme
-notes texts = map (lexeme Note) texts
+notes texts = map (lexeme Comment) texts
 
 abbrev pub suffix_lexemes : Option (List ℕ) → List Lexeme
 suffix_lexemes None = []
-suffix_lexemes (Some text) = record { kind = Note; text = text; beside = true } ∷ []
+suffix_lexemes (Some text) = record { kind = Comment; text = text; beside = true } ∷ []
 
 -- the line on which a token ends; on that of a comment or newline nothing stands after it
 abbrev pub end_after : Placed → Option ℕ
@@ -46,7 +46,7 @@ abbrev pub token_lexemes : List Placed → List Lexeme
 token_lexemes ts = lexemes_from None ts
 
 abbrev pub comma_lexemes : Bool → List Lexeme
-comma_lexemes b = if b then lexeme Sign (codes ",") ∷ [] else []
+comma_lexemes b = if b then lexeme Operator (codes ",") ∷ [] else []
 
 -- A broken group shows its comments, and has its commas after its segments; any other group has no comments, and its commas stand
 -- between its segments, and after the one of `(x,)`.
@@ -54,10 +54,10 @@ abbrev mutual
   pub item_lexemes : Item → List Lexeme
   item_lexemes (leaf kind text) = lexeme kind (respell kind text) ∷ []
   item_lexemes (group kind segs one_comma end) =
-      lexeme Sign (opening kind) ∷
+      lexeme Operator (opening kind) ∷
       (if is_broken kind segs end (segs_hold segs)
-      then ended_lexemes (has_commas kind one_comma (count segs)) segs ++ (notes end ++ lexeme Sign (closing kind) ∷ [])
-      else separated_lexemes true segs ++ (comma_lexemes one_comma ++ lexeme Sign (closing kind) ∷ []))
+      then ended_lexemes (has_commas kind one_comma (count segs)) segs ++ (notes end ++ lexeme Operator (closing kind) ∷ [])
+      else separated_lexemes true segs ++ (comma_lexemes one_comma ++ lexeme Operator (closing kind) ∷ []))
 
   pub items_lexemes : Items → List Lexeme
   items_lexemes no_items = []
@@ -73,15 +73,15 @@ abbrev mutual
   pub separated_lexemes : Bool → Segs → List Lexeme
   separated_lexemes first no_segs = []
   separated_lexemes first (seg before nodes suffix ss) =
-      (if first then items_lexemes nodes else lexeme Sign (codes ",") ∷ items_lexemes nodes) ++ separated_lexemes false ss
+      (if first then items_lexemes nodes else lexeme Operator (codes ",") ∷ items_lexemes nodes) ++ separated_lexemes false ss
 
 -- comments above a statement, each with the newline after it
 abbrev pub note_lines : List (List ℕ) → List Lexeme
 note_lines [] = []
-note_lines (text ∷ texts) = lexeme Note text ∷ lexeme Line (codes "\n") ∷ note_lines texts
+note_lines (text ∷ texts) = lexeme Comment text ∷ lexeme Newline (codes "\n") ∷ note_lines texts
 
 abbrev pub line_lexemes : Statement → List Lexeme
-line_lexemes s = items_lexemes (items_of s.nodes) ++ (suffix_lexemes s.suffix ++ lexeme Line (codes "\n") ∷ [])
+line_lexemes s = items_lexemes (items_of s.nodes) ++ (suffix_lexemes s.suffix ++ lexeme Newline (codes "\n") ∷ [])
 
 -- the comments above, the nodes, the comment beside them, a newline; comment lines alone have no more
 abbrev pub lexemes_of : Statement → List Lexeme

@@ -1,7 +1,7 @@
 //! Laws on brackets and statements: what stands in them is written in the form from which bz_tree_laws reads it back.
 
 ghost use Rattle.std.specs.Prelude.{◌≡◌, ◌++◌, ◌∷◌, ◌&&◌, ◌==◌, ℕ, List, Bool, [], length, true, false};
-ghost use Rattle.bz_token.specs.declared.token.Kind.TheVariants.{Sign};
+ghost use Rattle.bz_token.specs.declared.token.Kind.TheVariants.{Operator};
 ghost use Rattle.bz_tree.specs.declared.stmt.GroupKind.{GroupKind};
 ghost use Rattle.bz_tree.specs.Brackets.{is_paren};
 ghost use Rattle.bz_tree.specs.Owners.{is_filled};
@@ -17,9 +17,9 @@ ghost use Rattle.bz_layout_laws.specs.Legible.{IsLegible};
 pub fn brackets_are_written_to_be_read()
     ensures inside { (kind : GroupKind) (segs : Segs) (one_comma : Bool) (end : List (List ℕ))
         → HasShape kind segs one_comma → item_lexemes (group kind segs one_comma end)
-        ≡ lexeme Sign (opening kind)
+        ≡ lexeme Operator (opening kind)
         ∷ (entries_lexemes (written_entries (has_last_comma kind segs one_comma end) (segments segs) end)
-        ++ lexeme Sign (closing kind) ∷ []) }
+        ++ lexeme Operator (closing kind) ∷ []) }
     ensures comma { (kind : GroupKind) (segs : Segs) (one_comma : Bool) (end : List (List ℕ))
         → HasShape kind segs one_comma → (is_paren kind && (length (segments segs) == 1)
         && (has_last_comma kind segs one_comma end && is_filled (segments segs))) ≡ one_comma }

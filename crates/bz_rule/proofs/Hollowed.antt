@@ -7,7 +7,7 @@ use Rattle.std.proofs.lemmas.List.{at_drop_more, drop-map, drop_all}
 use Rattle.std.proofs.lemmas.Slice.Eq.{bytes_eq-Decides}
 use Rattle.bz_tree.specs.declared.row.Part.{Part}
 use Rattle.bz_token.specs.declared.token.Kind.{Kind}
-use Rattle.bz_token.specs.declared.token.Kind.TheVariants.{Ident, Sign}
+use Rattle.bz_token.specs.declared.token.Kind.TheVariants.{Identifier, Operator}
 use Rattle.bz_tree.specs.declared.stmt.GroupKind.{GroupKind}
 use Rattle.bz_tree.specs.declared.stmt.GroupKind.TheVariants.{RuleCall}
 use Rattle.bz_tree.specs.Tree.{Item, leaf, group, Items, no_items, item, Segs, no_segs, seg, Segment, Statement, items_of, segs_of}
@@ -294,17 +294,17 @@ abbrev does_go : List ℕ → List Item → List RowPart → List Parts → Bool
 does_go name xs more us = has_long_value (tail_parts xs more) && may_go name us
 
 abbrev left_nodes : List Parts → List Item → List RowPart → List Item
-left_nodes us (leaf Ident name ∷ leaf kind text ∷ value) more =
-    if does_go name (leaf kind text ∷ value) more us then leaf Ident name ∷ leaf kind text ∷ [] else leaf Ident name ∷ leaf kind text ∷ value
+left_nodes us (leaf Identifier name ∷ leaf kind text ∷ value) more =
+    if does_go name (leaf kind text ∷ value) more us then leaf Identifier name ∷ leaf kind text ∷ [] else leaf Identifier name ∷ leaf kind text ∷ value
 left_nodes us nodes more = nodes
 
 abbrev now_apart : List Parts → List Item → List RowPart → List Parts
-now_apart us (leaf Ident name ∷ leaf kind text ∷ value) more =
+now_apart us (leaf Identifier name ∷ leaf kind text ∷ value) more =
     if does_go name (leaf kind text ∷ value) more us then us ++ (record { name = name; parts = items_parts (items_of value) }) ∷ [] else us
 now_apart us nodes more = us
 
 abbrev sound_with : Bool → List Item → List RowPart → Bool
-sound_with b (leaf Ident name ∷ xs) more = b && not (lacks_value (tail_parts xs more))
+sound_with b (leaf Identifier name ∷ xs) more = b && not (lacks_value (tail_parts xs more))
 sound_with b nodes more = b
 
 abbrev NodesRun : List Item → List RowPart → List RowPart → List Parts → Bool → Type 0
@@ -318,34 +318,34 @@ first_stays p xs more ps us b =
     stays xs more (ps ++ p ∷ []) us b ∙ ap (λ (qs : List RowPart). run more (at qs us begin b)) (append_assoc ps (p ∷ []) (items_parts xs ++ segment_end ∷ []))
 
 named_run : (name : List ℕ) (kind : Kind) (text : List ℕ) (value : List Item) (more ps : List RowPart) (us : List Parts) (b : Bool)
-    → NodesRun (leaf Ident name ∷ leaf kind text ∷ value) more ps us b
+    → NodesRun (leaf Identifier name ∷ leaf kind text ∷ value) more ps us b
 named_run name kind text value more ps us b =
     let xs : List Item = leaf kind text ∷ value in
     let sound : Bool = b && not (lacks_value (tail_parts xs more)) in
     let v : Parts = record { name = name; parts = tail_parts value more } in
     let apart : Parts = record { name = name; parts = items_parts (items_of value) } in
     elim (does_go name xs more us) as (λ g.
-    run (tail_parts xs more) (at (ps ++ a_token Ident name ∷ []) us (if g then equals name else inside None 0) sound)
-    ≡ run more (at (ps ++ (items_parts (items_of (if g then leaf Ident name ∷ leaf kind text ∷ [] else leaf Ident name ∷ xs)) ++ segment_end ∷ [])) (if g then us ++ apart ∷ [] else us) begin sound)) [
+    run (tail_parts xs more) (at (ps ++ a_token Identifier name ∷ []) us (if g then equals name else inside None 0) sound)
+    ≡ run more (at (ps ++ (items_parts (items_of (if g then leaf Identifier name ∷ leaf kind text ∷ [] else leaf Identifier name ∷ xs)) ++ segment_end ∷ [])) (if g then us ++ apart ∷ [] else us) begin sound)) [
       | true ↦
-          goes_apart name (items_of value) more ((ps ++ a_token Ident name ∷ []) ++ a_token kind text ∷ []) us sound
-          ∙ ap (λ (qs : List RowPart). run more (at qs (us ++ apart ∷ []) begin sound)) (append_assoc (ps ++ a_token Ident name ∷ []) (a_token kind text ∷ []) (segment_end ∷ []) ∙ append_assoc ps (a_token Ident name ∷ []) (a_token kind text ∷ segment_end ∷ []))
-      | false ↦ first_stays (a_token Ident name) (items_of xs) more ps us sound
+          goes_apart name (items_of value) more ((ps ++ a_token Identifier name ∷ []) ++ a_token kind text ∷ []) us sound
+          ∙ ap (λ (qs : List RowPart). run more (at qs (us ++ apart ∷ []) begin sound)) (append_assoc (ps ++ a_token Identifier name ∷ []) (a_token kind text ∷ []) (segment_end ∷ []) ∙ append_assoc ps (a_token Identifier name ∷ []) (a_token kind text ∷ segment_end ∷ []))
+      | false ↦ first_stays (a_token Identifier name) (items_of xs) more ps us sound
     ]
 
 stays_named : (name : List ℕ) (xs : List Item) (more ps : List RowPart) (us : List Parts) (b : Bool) → has_long_value (tail_parts xs more) ≡ false
-    → run (tail_parts (leaf Ident name ∷ xs) more) (at ps us begin b)
-    ≡ run more (at (ps ++ (a_token Ident name ∷ (items_parts (items_of xs) ++ segment_end ∷ []))) us begin (b && not (lacks_value (tail_parts xs more))))
+    → run (tail_parts (leaf Identifier name ∷ xs) more) (at ps us begin b)
+    ≡ run more (at (ps ++ (a_token Identifier name ∷ (items_parts (items_of xs) ++ segment_end ∷ []))) us begin (b && not (lacks_value (tail_parts xs more))))
 stays_named name xs more ps us b no_go =
     let sound : Bool = b && not (lacks_value (tail_parts xs more)) in
-    ap (λ (l : Bool). run (tail_parts xs more) (at (ps ++ a_token Ident name ∷ []) us (if l && may_go name us then equals name else inside None 0) sound)) no_go
-    ∙ first_stays (a_token Ident name) (items_of xs) more ps us sound
+    ap (λ (l : Bool). run (tail_parts xs more) (at (ps ++ a_token Identifier name ∷ []) us (if l && may_go name us then equals name else inside None 0) sound)) no_go
+    ∙ first_stays (a_token Identifier name) (items_of xs) more ps us sound
 
 run_nodes : (nodes : List Item) (more ps : List RowPart) (us : List Parts) (b : Bool) → NodesRun nodes more ps us b
 run_nodes [] more ps us b = refl
-run_nodes (leaf Ident name ∷ []) more ps us b = stays_named name [] more ps us b (no_value_end more)
-run_nodes (leaf Ident name ∷ leaf kind text ∷ value) more ps us b = named_run name kind text value more ps us b
-run_nodes (leaf Ident name ∷ group kind segs one_comma end ∷ value) more ps us b =
+run_nodes (leaf Identifier name ∷ []) more ps us b = stays_named name [] more ps us b (no_value_end more)
+run_nodes (leaf Identifier name ∷ leaf kind text ∷ value) more ps us b = named_run name kind text value more ps us b
+run_nodes (leaf Identifier name ∷ group kind segs one_comma end ∷ value) more ps us b =
     let xs : List Item = group kind segs one_comma end ∷ value in
     let joined : tail_parts xs more ≡ opening kind ∷ ((segs_parts segs ++ (map above end ++ closing one_comma ∷ [])) ++ tail_parts value more) = append_assoc (item_parts (group kind segs one_comma end)) (items_parts (items_of value)) (segment_end ∷ more) in
     let no_go : has_long_value (tail_parts xs more) ≡ false = ap has_long_value joined ∙ no_value_open kind ((segs_parts segs ++ (map above end ++ closing one_comma ∷ [])) ++ tail_parts value more) in
@@ -381,7 +381,7 @@ needs_none vs a h =
 abbrev is_bare : List Item → Bool
 is_bare nodes = is_empty (drop 2 nodes) && is_some (name_of nodes)
 
-bare_lacks : (name : List ℕ) (x : Item) (xs : List Item) (more : List RowPart) → is_bare (leaf Ident name ∷ x ∷ xs) ≡ true → lacks_value (tail_parts (x ∷ xs) more) ≡ true
+bare_lacks : (name : List ℕ) (x : Item) (xs : List Item) (more : List RowPart) → is_bare (leaf Identifier name ∷ x ∷ xs) ≡ true → lacks_value (tail_parts (x ∷ xs) more) ≡ true
 bare_lacks name (leaf kind text) [] more h =
     elim (is_sign (codes "=") (leaf kind text)) as (λ b. is_some (if b then Some name else None) ≡ true → b && true ≡ true) [ true ↦ λ k. refl | false ↦ λ k. absurd (false≢true k) ] h
 bare_lacks name (leaf kind text) (y ∷ ys) more h = absurd (false≢true h)
@@ -397,8 +397,8 @@ no_name_but_ident x y xs h = elim (is_empty xs) as (λ e. e && is_some (if is_si
 sound_not_bare : (b : Bool) (nodes : List Item) (more : List RowPart) → sound_with b nodes more ≡ true → is_bare nodes ≡ false
 sound_not_bare b [] more h = refl
 sound_not_bare b (x ∷ []) more h = refl
-sound_not_bare b (leaf Ident name ∷ x ∷ xs) more h =
-    elim (is_bare (leaf Ident name ∷ x ∷ xs)) as (λ z. is_bare (leaf Ident name ∷ x ∷ xs) ≡ z → z ≡ false) [
+sound_not_bare b (leaf Identifier name ∷ x ∷ xs) more h =
+    elim (is_bare (leaf Identifier name ∷ x ∷ xs)) as (λ z. is_bare (leaf Identifier name ∷ x ∷ xs) ≡ z → z ≡ false) [
       | true ↦ λ e. absurd (false≢true (sym (and_not b) ∙ ap (λ (l : Bool). b && not l) (sym (bare_lacks name x xs more e)) ∙ h))
       | false ↦ λ e. refl
     ] refl
@@ -407,23 +407,23 @@ sound_not_bare b (group kind segs one_comma end ∷ y ∷ xs) more h = no_name_b
 
 sound_before : (b : Bool) (nodes : List Item) (more : List RowPart) → sound_with b nodes more ≡ true → b ≡ true
 sound_before b [] more h = h
-sound_before b (leaf Ident name ∷ xs) more h = (and_parts b (not (lacks_value (tail_parts xs more))) h).0
+sound_before b (leaf Identifier name ∷ xs) more h = (and_parts b (not (lacks_value (tail_parts xs more))) h).0
 sound_before b (leaf kind text ∷ xs) more h = h
 sound_before b (group kind segs one_comma end ∷ xs) more h = h
 
 -- what an argument adds to the values that stand apart
 abbrev newly : List Parts → List Item → List RowPart → List Parts
-newly us (leaf Ident name ∷ leaf kind text ∷ value) more =
+newly us (leaf Identifier name ∷ leaf kind text ∷ value) more =
     if does_go name (leaf kind text ∷ value) more us then (record { name = name; parts = items_parts (items_of value) }) ∷ [] else []
 newly us nodes more = []
 
 now_newly : (us : List Parts) (nodes : List Item) (more : List RowPart) → now_apart us nodes more ≡ us ++ newly us nodes more
 now_newly us [] more = sym (append-nil us)
-now_newly us (leaf Ident name ∷ []) more = sym (append-nil us)
-now_newly us (leaf Ident name ∷ leaf kind text ∷ value) more =
+now_newly us (leaf Identifier name ∷ []) more = sym (append-nil us)
+now_newly us (leaf Identifier name ∷ leaf kind text ∷ value) more =
     let v : Parts = record { name = name; parts = items_parts (items_of value) } in
     elim (does_go name (leaf kind text ∷ value) more us) as (λ g. (if g then us ++ v ∷ [] else us) ≡ us ++ (if g then v ∷ [] else [])) [ true ↦ refl | false ↦ sym (append-nil us) ]
-now_newly us (leaf Ident name ∷ group kind segs one_comma end ∷ value) more = sym (append-nil us)
+now_newly us (leaf Identifier name ∷ group kind segs one_comma end ∷ value) more = sym (append-nil us)
 now_newly us (leaf kind text ∷ xs) more = sym (append-nil us)
 now_newly us (group kind segs one_comma end ∷ xs) more = sym (append-nil us)
 
@@ -434,8 +434,8 @@ left us a more = record { before = a.before; nodes = left_nodes us a.nodes more;
 abbrev IsWhole : List Parts → Segment → List RowPart → List Parts → Type 0
 IsWhole us a more later = filled (all_apart (us ++ (newly us a.nodes more ++ later))) (left us a more) ≡ a
 
-equals_at : (kind : Kind) (text : List ℕ) → is_sign (codes "=") (leaf kind text) ≡ true → leaf kind text ≡ leaf Sign (codes "=")
-equals_at Sign text h = ap (leaf Sign) (same_bytes text (codes "=") h)
+equals_at : (kind : Kind) (text : List ℕ) → is_sign (codes "=") (leaf kind text) ≡ true → leaf kind text ≡ leaf Operator (codes "=")
+equals_at Operator text h = ap (leaf Operator) (same_bytes text (codes "=") h)
 equals_at _ text h = absurd (false≢true h)
 
 long_equals : (p : RowPart) (ps : List RowPart) → has_long_value (p ∷ ps) ≡ true → is_equals p ≡ true
@@ -445,8 +445,8 @@ long_equals p (q ∷ r ∷ ps) h = (and_parts (is_equals p) (not (is_end q || is
 
 gone_whole : (notes : List (List ℕ)) (suffix : Option (List ℕ)) (name : List ℕ) (kind : Kind) (text : List ℕ) (value : List Item) (more : List RowPart) (us later : List Parts)
     → does_go name (leaf kind text ∷ value) more us ≡ true
-    → filled (all_apart (us ++ (record { name = name; parts = items_parts (items_of value) }) ∷ later)) (record { before = notes; nodes = leaf Ident name ∷ leaf kind text ∷ []; suffix = suffix })
-    ≡ record { before = notes; nodes = leaf Ident name ∷ leaf kind text ∷ value; suffix = suffix }
+    → filled (all_apart (us ++ (record { name = name; parts = items_parts (items_of value) }) ∷ later)) (record { before = notes; nodes = leaf Identifier name ∷ leaf kind text ∷ []; suffix = suffix })
+    ≡ record { before = notes; nodes = leaf Identifier name ∷ leaf kind text ∷ value; suffix = suffix }
 gone_whole notes suffix name kind text value more us later h =
     let v : Parts = record { name = name; parts = items_parts (items_of value) } in
     let two = and_parts (has_long_value (tail_parts (leaf kind text ∷ value) more)) (may_go name us) h in
@@ -461,17 +461,17 @@ with_them notes nodes suffix = record { before = notes; nodes = nodes; suffix = 
 is_whole : (us : List Parts) (b : Bool) (notes : List (List ℕ)) (nodes : List Item) (suffix : Option (List ℕ)) (more : List RowPart) (later : List Parts)
     → sound_with b nodes more ≡ true → IsWhole us (with_them notes nodes suffix) more later
 is_whole us b notes [] suffix more later h = needs_none (all_apart (us ++ later)) (with_them notes [] suffix) refl
-is_whole us b notes (leaf Ident name ∷ []) suffix more later h = needs_none (all_apart (us ++ later)) (with_them notes (leaf Ident name ∷ []) suffix) refl
-is_whole us b notes (leaf Ident name ∷ leaf kind text ∷ value) suffix more later h =
+is_whole us b notes (leaf Identifier name ∷ []) suffix more later h = needs_none (all_apart (us ++ later)) (with_them notes (leaf Identifier name ∷ []) suffix) refl
+is_whole us b notes (leaf Identifier name ∷ leaf kind text ∷ value) suffix more later h =
     let v : Parts = record { name = name; parts = items_parts (items_of value) } in
-    let nodes : List Item = leaf Ident name ∷ leaf kind text ∷ value in
+    let nodes : List Item = leaf Identifier name ∷ leaf kind text ∷ value in
     elim (does_go name (leaf kind text ∷ value) more us) as (λ g. does_go name (leaf kind text ∷ value) more us ≡ g
-    → filled (all_apart (us ++ ((if g then v ∷ [] else []) ++ later))) (with_them notes (if g then leaf Ident name ∷ leaf kind text ∷ [] else nodes) suffix) ≡ with_them notes nodes suffix) [
+    → filled (all_apart (us ++ ((if g then v ∷ [] else []) ++ later))) (with_them notes (if g then leaf Identifier name ∷ leaf kind text ∷ [] else nodes) suffix) ≡ with_them notes nodes suffix) [
       | true ↦ λ e. gone_whole notes suffix name kind text value more us later e
       | false ↦ λ e. needs_none (all_apart (us ++ later)) (with_them notes nodes suffix) (sound_not_bare b nodes more h)
     ] refl
-is_whole us b notes (leaf Ident name ∷ group kind segs one_comma end ∷ value) suffix more later h =
-    let nodes : List Item = leaf Ident name ∷ group kind segs one_comma end ∷ value in
+is_whole us b notes (leaf Identifier name ∷ group kind segs one_comma end ∷ value) suffix more later h =
+    let nodes : List Item = leaf Identifier name ∷ group kind segs one_comma end ∷ value in
     needs_none (all_apart (us ++ later)) (with_them notes nodes suffix) (sound_not_bare b nodes more h)
 is_whole us b notes (leaf kind text ∷ xs) suffix more later h = needs_none (all_apart (us ++ later)) (with_them notes (leaf kind text ∷ xs) suffix) (sound_not_bare b (leaf kind text ∷ xs) more h)
 is_whole us b notes (group kind segs one_comma end ∷ xs) suffix more later h =
@@ -510,8 +510,8 @@ apart_append (u ∷ us) vs h k = (h.0, apart_append us vs h.1 k)
 
 newly_apart : (us : List Parts) (nodes : List Item) (more : List RowPart) → AreApart (newly us nodes more)
 newly_apart us [] more = tt
-newly_apart us (leaf Ident name ∷ []) more = tt
-newly_apart us (leaf Ident name ∷ leaf kind text ∷ rest) more =
+newly_apart us (leaf Identifier name ∷ []) more = tt
+newly_apart us (leaf Identifier name ∷ leaf kind text ∷ rest) more =
     let v : Parts = record { name = name; parts = items_parts (items_of rest) } in
     elim (does_go name (leaf kind text ∷ rest) more us) as (λ g. does_go name (leaf kind text ∷ rest) more us ≡ g → AreApart (if g then v ∷ [] else [])) [
       | true ↦ λ e.
@@ -520,7 +520,7 @@ newly_apart us (leaf Ident name ∷ leaf kind text ∷ rest) more =
           (record { parts = ap (λ (xs : List Item). items_parts (items_of xs)) (nodes_back_list rest); other = not_true (bytes_eq name (codes "name")) other.0 }, tt)
       | false ↦ λ e. tt
     ] refl
-newly_apart us (leaf Ident name ∷ group kind segs one_comma end ∷ value) more = tt
+newly_apart us (leaf Identifier name ∷ group kind segs one_comma end ∷ value) more = tt
 newly_apart us (leaf kind text ∷ xs) more = tt
 newly_apart us (group kind segs one_comma end ∷ xs) more = tt
 
@@ -575,9 +575,9 @@ outside_beside (Some text) ps us b = refl
 dots_stay : (name : Bool) (kind : List Item) (rest ps : List RowPart) (us : List Parts) (b : Bool) → dotted name kind ≡ true
     → run (items_parts (items_of kind) ++ rest) (at ps us outside b) ≡ run rest (at (ps ++ items_parts (items_of kind)) us outside b)
 dots_stay name [] rest ps us b h = rw (append-nil ps) refl
-dots_stay true (leaf Ident text ∷ kind) rest ps us b h =
-    dots_stay false kind rest (ps ++ a_token Ident text ∷ []) us b h
-    ∙ ap (λ (qs : List RowPart). run rest (at qs us outside b)) (append_assoc ps (a_token Ident text ∷ []) (items_parts (items_of kind)))
+dots_stay true (leaf Identifier text ∷ kind) rest ps us b h =
+    dots_stay false kind rest (ps ++ a_token Identifier text ∷ []) us b h
+    ∙ ap (λ (qs : List RowPart). run rest (at qs us outside b)) (append_assoc ps (a_token Identifier text ∷ []) (items_parts (items_of kind)))
 dots_stay true (leaf _ text ∷ kind) rest ps us b h = absurd (false≢true h)
 dots_stay true (group _ segs one_comma end ∷ kind) rest ps us b h = absurd (false≢true h)
 dots_stay false (leaf k text ∷ kind) rest ps us b h =
@@ -626,12 +626,12 @@ nothing_is : (xs : List Item) → is_nothing xs ≡ true → xs ≡ []
 nothing_is [] h = refl
 nothing_is (x ∷ xs) h = absurd (false≢true h)
 
-ident_is : (kind : Kind) → is_ident kind ≡ true → kind ≡ Ident
-ident_is Ident h = refl
+ident_is : (kind : Kind) → is_ident kind ≡ true → kind ≡ Identifier
+ident_is Identifier h = refl
 ident_is _ h = absurd (false≢true h)
 
 dot_is : (kind : Kind) (text : List ℕ) → is_dot kind text ≡ true → is_sign (codes ".") (leaf kind text) ≡ true
-dot_is Sign text h = h
+dot_is Operator text h = h
 dot_is _ text h = absurd (false≢true h)
 
 one_before : (name other : Bool) (x : Item) (xs : List Item) → ((kind : List Item) → dotted other kind ≡ true → dotted name (x ∷ kind) ≡ true) → IsCalled other xs → IsCalled name (x ∷ xs)

@@ -48,7 +48,7 @@ fn is_equals(part: Part<'_>) -> bool
     ensures { result ≡ is_equals (part_view part.entry) }
 {
     match part {
-        Part::Token(Kind::Sign, text) => text == "=",
+        Part::Token(Kind::Operator, text) => text == "=",
         _ => false,
     }
 }
@@ -200,7 +200,7 @@ impl<'a> Hollow<'a> {
             (walk self.new ≡ begun (part_view part.entry) (map part_view rest.now) (walk self.old)) }
     {
         match part {
-            Part::Token(Kind::Ident, name) => {
+            Part::Token(Kind::Identifier, name) => {
                 let place = self.after_name(name, rest);
                 self.sound = self.sound && !lacks_value(rest);
                 self.put(part, place)

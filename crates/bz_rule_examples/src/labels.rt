@@ -42,7 +42,7 @@ fn check_values(rt: &impl Abort, alloc: Global, table: &str, wanted: bool) -> Re
         let (literal, value) = row.split_once(" ! ").ok_or("a row without an answer")?;
         let literal = plain(alloc, literal)?;
         let value = plain(alloc, value)?;
-        let token = token(Kind::Text, literal.as_str());
+        let token = token(Kind::String, literal.as_str());
         assert_eq!(rt; value_is(&token, value.as_str()), wanted, "{row}");
     }
     Ok(())
@@ -53,9 +53,9 @@ fn values_of_strings(rt: HostRuntime) -> Result<(), Fail> {
     let alloc = rt.alloc();
     check_values(&rt, alloc, VALUES, true)?;
     check_values(&rt, alloc, NO_VALUES, false)?;
-    let bells = token(Kind::Text, "'\\a\\b\\f\\v'");
+    let bells = token(Kind::String, "'\\a\\b\\f\\v'");
     assert!(rt; value_is(&bells, "\x07\x08\x0c\x0b"));
-    assert!(rt; !value_is(&token(Kind::Ident, "'a'"), "a"));
+    assert!(rt; !value_is(&token(Kind::Identifier, "'a'"), "a"));
     assert_eq!(rt; quote(alloc, "a\"b\\\n")?.as_str(), "\"a\\\"b\\\\\\n\"");
     assert_eq!(rt; quote(alloc, "\r\té")?.as_str(), "\"\\r\\té\"");
     Ok(())

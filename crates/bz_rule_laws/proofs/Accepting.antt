@@ -1,7 +1,7 @@
 -- Tests and arguments by what the recognizer accepts, which looks at the roles of nodes alone.
 use Rattle.std.proofs.Common.{◌≡◌, ℕ, List, [], Bool, true, false, None, refl, inl, inr}
 use Rattle.std.proofs.lemmas.Bool.{cases_Bool, and_parts, false≢true}
-use Rattle.bz_token.specs.declared.token.Kind.TheVariants.{Ident}
+use Rattle.bz_token.specs.declared.token.Kind.TheVariants.{Identifier}
 use Rattle.bz_tree.specs.declared.stmt.GroupKind.TheVariants.{Call, List as ListKind}
 use Rattle.bz_tree.specs.declared.role.Role.TheVariants.{Value}
 use Rattle.bz_tree.specs.Tree.{leaf, group, Items, no_items, item, Segs, no_segs, seg}
@@ -16,7 +16,7 @@ abbrev one_list : Segs → Items
 one_list segs = item (group ListKind segs false []) no_items
 
 abbrev one_call : Segs → Items
-one_call segs = item (leaf Ident []) (item (group Call segs false []) no_items)
+one_call segs = item (leaf Identifier []) (item (group Call segs false []) no_items)
 
 list_statement : (segs : Segs) → AreTests segs → IsStatement (one_list segs)
 list_statement segs h = expression (last_test (plain (single (primary (operand (list h) no_suffix)))))

@@ -20,7 +20,7 @@ use Rattle.bz_rule_laws.proofs.PassingWritten.{PassesWritten, argument_added, el
 use Rattle.bz_rule_laws.proofs.Segments.{AreFormed, IsFormed, all_appended, either_way}
 use Rattle.bz_rule_laws.specs.OwnComments.{no_comments, own_comments}
 use Rattle.bz_token.specs.Lexical.{is_text}
-use Rattle.bz_token.specs.declared.token.Kind.TheVariants.{Ident}
+use Rattle.bz_token.specs.declared.token.Kind.TheVariants.{Identifier}
 use Rattle.bz_tree.specs.Comments.{comments_of}
 use Rattle.bz_tree.specs.Grammar.{IsArg}
 use Rattle.bz_tree.specs.Tree.{Segment, Statement}
@@ -31,7 +31,7 @@ added_good depth home values a h good =
     either_way (IsFormed IsArg (suc depth)) (no_parts (parts (value a))) good
     (good_with (suc depth) (edit_first_part (λ ss. ss ++ more) (value a)) a h good (edited_first_part_good depth (λ ss. ss ++ more) (appended_good depth more (strings_good depth (fresh home (parts (value a)) [] values))) (value a) (good_value (suc depth) a h good)))
 
-add_good : (depth : ℕ) (home : Package) (attr : List ℕ) (values : List (List ℕ)) (args : List Segment) → is_text Ident attr ≡ true → AreFormed IsArg (suc depth) args → AreFormed IsArg (suc depth) (add home attr values args)
+add_good : (depth : ℕ) (home : Package) (attr : List ℕ) (values : List (List ℕ)) (args : List Segment) → is_text Identifier attr ≡ true → AreFormed IsArg (suc depth) args → AreFormed IsArg (suc depth) (add home attr values args)
 add_good depth home attr values args name h =
     either_way (AreFormed IsArg (suc depth)) (has attr args) (first_good (suc depth) attr (λ a. with_added home values a ∷ []) (λ a n good. (added_good depth home values a n good, tt)) args h)
     (all_appended (IsFormed IsArg (suc depth)) args _ h (argument_good (suc depth) attr (list_item (new_elements home [] values) ∷ []) name (list_value depth _ (strings_good depth (fresh home [] [] values))), tt))

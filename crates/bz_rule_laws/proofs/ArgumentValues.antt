@@ -2,7 +2,7 @@
 use Rattle.std.proofs.Common.{◌≡◌, ℕ, ◌≤◌, List, [], ◌∷◌, ◌++◌, Bool, true, false, ◌||◌, Option, None, is_some, drop, take, refl, sym, ap, subst, ◌∙◌, inl, inr, arith}
 use Rattle.std.specs.Prelude.{codes, bytes_eq, if◌then◌else◌}
 use Rattle.std.proofs.lemmas.Bool.{cases_Bool, false≢true}
-use Rattle.bz_token.specs.declared.token.Kind.TheVariants.{Ident, Word, Sign}
+use Rattle.bz_token.specs.declared.token.Kind.TheVariants.{Identifier, Keyword, Operator}
 use Rattle.bz_token.specs.Lexical.{is_text}
 use Rattle.bz_token.proofs.Classes.{same_bytes}
 use Rattle.bz_tree.specs.Tree.{Item, leaf, group, Items, no_items, item, Segment, items_of, segs_of}
@@ -26,7 +26,7 @@ word_for bytes h = elim (cases_Bool (bytes_eq bytes (codes "for"))) [
 
 inner_for : (x : Item) → IsInner x → is_for_item x ≡ false
 inner_for (group kind segs one_comma end) h = refl
-inner_for (leaf Word bytes) h = word_for bytes h
+inner_for (leaf Keyword bytes) h = word_for bytes h
 inner_for (leaf _ bytes) h = refl
 
 inner_have : (xs : Items) → Each IsInner xs → nodes_have_for xs ≡ false
@@ -40,20 +40,20 @@ no_for depth (s ∷ ss) h = inner_have (items_of s.nodes) (test_inner h.0.form)
 
 -- the nodes of a named argument
 abbrev named : List ℕ → List Item → List Item
-named name nodes = leaf Ident name ∷ leaf Sign (codes "=") ∷ nodes
+named name nodes = leaf Identifier name ∷ leaf Operator (codes "=") ∷ nodes
 
 pub record HasName (nodes : List Item) : Type 0 where
   pub name : List ℕ
   pub are : nodes ≡ named name (drop 2 nodes)
 
-pub sign_is : (sign : List ℕ) (x : Item) → is_sign sign x ≡ true → x ≡ leaf Sign sign
+pub sign_is : (sign : List ℕ) (x : Item) → is_sign sign x ≡ true → x ≡ leaf Operator sign
 sign_is sign (group kind segs one_comma end) h = absurd (false≢true h)
-sign_is sign (leaf Sign bytes) h = ap (λ bs. leaf Sign bs) (same_bytes bytes sign h)
+sign_is sign (leaf Operator bytes) h = ap (λ bs. leaf Operator bs) (same_bytes bytes sign h)
 sign_is sign (leaf _ bytes) h = absurd (false≢true h)
 
-ident_is : (x : Item) → is_some (ident_of x) ≡ true → (name : List ℕ) × (x ≡ leaf Ident name)
+ident_is : (x : Item) → is_some (ident_of x) ≡ true → (name : List ℕ) × (x ≡ leaf Identifier name)
 ident_is (group kind segs one_comma end) h = absurd (false≢true h)
-ident_is (leaf Ident bytes) h = (bytes, refl)
+ident_is (leaf Identifier bytes) h = (bytes, refl)
 ident_is (leaf _ bytes) h = absurd (false≢true h)
 
 name_parts : (b : Bool) (o : Option (List ℕ)) → is_some (if b then o else None) ≡ true → (b ≡ true) × (is_some o ≡ true)
@@ -90,7 +90,7 @@ good_value depth a h good =
     }
 
 -- a name and a value with comments
-pub named_good : (depth : ℕ) (name : List ℕ) (nodes : List Item) (a : Segment) → AreComments a.before → AreComments (beside a.suffix) → a.nodes ≡ named name nodes → is_text Ident name ≡ true → IsValue depth nodes → IsFormed IsArg depth a
+pub named_good : (depth : ℕ) (name : List ℕ) (nodes : List Item) (a : Segment) → AreComments a.before → AreComments (beside a.suffix) → a.nodes ≡ named name nodes → is_text Identifier name ≡ true → IsValue depth nodes → IsFormed IsArg depth a
 named_good depth name nodes a before suffix are n v =
     let fits : items_depth (items_of nodes) ≤ depth = v.nodes_are.depth_fits in
     let all : AreNodes depth (named name nodes) = record {

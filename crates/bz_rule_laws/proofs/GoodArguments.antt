@@ -11,7 +11,7 @@ use Rattle.bz_rule_laws.proofs.ListParts.{KeepsGood, edited_parts_good}
 use Rattle.bz_rule_laws.proofs.NewTexts.{quoted_text}
 use Rattle.bz_rule_laws.proofs.Segments.{AreFormed, IsFormed, all_appended, all_filtered, either_way}
 use Rattle.bz_token.specs.Lexical.{is_text}
-use Rattle.bz_token.specs.declared.token.Kind.TheVariants.{Ident}
+use Rattle.bz_token.specs.declared.token.Kind.TheVariants.{Identifier}
 use Rattle.bz_tree.specs.Grammar.{IsArg, IsTest, no_suffix, operand, plain, primary, single, text}
 use Rattle.bz_tree.specs.Tree.{Item, Segment}
 
@@ -44,7 +44,7 @@ strings_good depth (word ∷ words) =
     let v = string_good_value depth word in
     (record { before = refl; suffix = refl; nodes = v.nodes_are; form = v.test }, strings_good depth words)
 
-pub argument_good : (depth : ℕ) (attr : List ℕ) (nodes : List Item) → is_text Ident attr ≡ true → IsValue depth nodes → IsFormed IsArg depth (argument attr nodes)
+pub argument_good : (depth : ℕ) (attr : List ℕ) (nodes : List Item) → is_text Identifier attr ≡ true → IsValue depth nodes → IsFormed IsArg depth (argument attr nodes)
 argument_good depth attr nodes name v = named_good depth attr nodes (argument attr nodes) refl refl refl name v
 
 pub appended_good : (depth : ℕ) (more : List Segment) → AreFormed IsTest depth more → KeepsGood depth (λ ss. ss ++ more)

@@ -2,7 +2,7 @@
 use Rattle.std.proofs.Common.{◌≡◌, ℕ, ◌<◌, List, [], ◌∷◌, true, codes, length, ◌==◌, sym, subst, arith}
 use Rattle.std.specs.List.{list_all, slice_split}
 use Rattle.std.proofs.lemmas.Bool.{and_parts, false≢true}
-use Rattle.bz_token.specs.declared.token.Kind.TheVariants.{Ident, Sign}
+use Rattle.bz_token.specs.declared.token.Kind.TheVariants.{Identifier, Operator}
 use Rattle.bz_token.specs.Lexical.{is_text}
 use Rattle.bz_tree.specs.Tree.{Item, leaf, group, items_of}
 use Rattle.bz_command.specs.Names.{is_identifier, is_kind}
@@ -13,26 +13,26 @@ use Rattle.bz_attribute.specs.Setting.{joined_by_dots, kind_items}
 use Rattle.bz_rule_laws.proofs.ArgumentValues.{sign_is}
 
 pub data IsDotted : List Item → Type 0 where
-  last_name : {text : List ℕ} → is_text Ident text ≡ true → IsDotted (leaf Ident text ∷ [])
-  name_before : {text : List ℕ} {kind : List Item} → is_text Ident text ≡ true → IsDotted kind → IsDotted (leaf Ident text ∷ leaf Sign (codes ".") ∷ kind)
+  last_name : {text : List ℕ} → is_text Identifier text ≡ true → IsDotted (leaf Identifier text ∷ [])
+  name_before : {text : List ℕ} {kind : List Item} → is_text Identifier text ≡ true → IsDotted kind → IsDotted (leaf Identifier text ∷ leaf Operator (codes ".") ∷ kind)
 
 -- the kind of a rule that is well formed
 pub dotted_is : (kind : List Item) → dotted true kind ≡ true → HaveTexts (items_of kind) → IsDotted kind
 dotted_is [] h k = absurd (false≢true h)
-dotted_is (leaf Ident text ∷ []) h k = last_name k.0.0
-dotted_is (leaf Ident text ∷ x ∷ kind) h k =
+dotted_is (leaf Identifier text ∷ []) h k = last_name k.0.0
+dotted_is (leaf Identifier text ∷ x ∷ kind) h k =
     let parts = and_parts (is_sign (codes ".") x) (dotted true kind) h in
     let dot = sign_is (codes ".") x parts.0 in
-    subst (λ (z : Item). IsDotted (leaf Ident text ∷ z ∷ kind)) (sym dot) (name_before k.0.0 (dotted_is kind parts.1 k.1.1))
+    subst (λ (z : Item). IsDotted (leaf Identifier text ∷ z ∷ kind)) (sym dot) (name_before k.0.0 (dotted_is kind parts.1 k.1.1))
 dotted_is (leaf _ text ∷ kind) h k = absurd (false≢true h)
 dotted_is (group kind segs one_comma end ∷ xs) h k = absurd (false≢true h)
 
 -- the kind that is set
-joined_is : (names : List (List ℕ)) → 0 < length names → list_all (is_text Ident) names ≡ true → IsDotted (joined_by_dots names)
+joined_is : (names : List (List ℕ)) → 0 < length names → list_all (is_text Identifier) names ≡ true → IsDotted (joined_by_dots names)
 joined_is [] some h = absurd (omega arith)
-joined_is (name ∷ []) some h = last_name (and_parts (is_text Ident name) true h).0
+joined_is (name ∷ []) some h = last_name (and_parts (is_text Identifier name) true h).0
 joined_is (name ∷ other ∷ names) some h =
-    let parts = and_parts (is_text Ident name) (list_all (is_text Ident) (other ∷ names)) h in
+    let parts = and_parts (is_text Identifier name) (list_all (is_text Identifier) (other ∷ names)) h in
     name_before parts.0 (joined_is (other ∷ names) (omega arith) parts.1)
 
 pub kind_is : (kind : List ℕ) → is_kind kind ≡ true → IsDotted (kind_items kind)

@@ -19,7 +19,7 @@ use Rattle.bz_rule_laws.proofs.PassingTexts.{ArgumentPasses, SegmentPasses, Segm
 use Rattle.bz_rule_laws.proofs.PassingWritten.{PassesWritten, argument_added, elements_added, filtered_passes, first_of_name_edited, list_passes}
 use Rattle.bz_rule_laws.proofs.Segments.{AreFormed, IsFormed, all_appended, all_filtered, either_way}
 use Rattle.bz_token.specs.Lexical.{is_text}
-use Rattle.bz_token.specs.declared.token.Kind.TheVariants.{Ident}
+use Rattle.bz_token.specs.declared.token.Kind.TheVariants.{Identifier}
 use Rattle.bz_tree.specs.Grammar.{IsArg, IsTest}
 use Rattle.bz_tree.specs.Tree.{Segment}
 
@@ -45,7 +45,7 @@ arrivals_formed depth home there (s ∷ ss) h =
     either_way (AreFormed IsTest depth) (is_among home there (string_value s.nodes)) (arrivals_formed depth home there ss h.1) (h.0, arrivals_formed depth home (there ++ s ∷ []) ss h.1)
 
 -- where they go
-put_in_formed : (depth : ℕ) (new : List ℕ) (ss args : List Segment) → is_text Ident new ≡ true → AreFormed IsTest depth ss → AreFormed IsArg (suc depth) args → AreFormed IsArg (suc depth) (put_in new ss args)
+put_in_formed : (depth : ℕ) (new : List ℕ) (ss args : List Segment) → is_text Identifier new ≡ true → AreFormed IsTest depth ss → AreFormed IsArg (suc depth) args → AreFormed IsArg (suc depth) (put_in new ss args)
 put_in_formed depth new ss args name k h =
     either_way (AreFormed IsArg (suc depth)) (has new args) (first_good (suc depth) new (λ a. with_value (edit_first_part (λ there. there ++ ss) (value a)) a ∷ []) (λ a n good. (with_more a n good, tt)) args h)
     (all_appended (IsFormed IsArg (suc depth)) args _ h (argument_good (suc depth) new (list_item ss ∷ []) name (list_value depth ss k), tt))
@@ -55,7 +55,7 @@ put_in_formed depth new ss args name k h =
         good_with (suc depth) (edit_first_part (λ there. there ++ ss) (value a)) a n good
         (edited_first_part_good depth (λ there. there ++ ss) (appended_good depth ss k) (value a) (good_value (suc depth) a n good))
 
-moved_formed : (depth : ℕ) (home : Package) (old new : List ℕ) (chosen : Moved) (args : List Segment) → is_text Ident new ≡ true → AreFormed IsArg (suc depth) args → AreFormed IsArg (suc depth) (moved home old new chosen args)
+moved_formed : (depth : ℕ) (home : Package) (old new : List ℕ) (chosen : Moved) (args : List Segment) → is_text Identifier new ≡ true → AreFormed IsArg (suc depth) args → AreFormed IsArg (suc depth) (moved home old new chosen args)
 moved_formed depth home old new chosen args name h =
     let there : List Segment = elements_of (first_named new args) in
     let leaving : List Segment = chosen_of home chosen (first_named old args) in
@@ -63,7 +63,7 @@ moved_formed depth home old new chosen args name h =
     (arrivals_formed depth home there leaving (chosen_formed depth home old chosen args h))
     (first_good (suc depth) old (filtered (unchosen home chosen)) (filtered_good depth home chosen) args h)
 
-move_formed : (depth : ℕ) (home : Package) (old new : List ℕ) (chosen : Moved) (args : List Segment) → is_text Ident new ≡ true → AreFormed IsArg (suc depth) args → AreFormed IsArg (suc depth) (move home old new chosen args)
+move_formed : (depth : ℕ) (home : Package) (old new : List ℕ) (chosen : Moved) (args : List Segment) → is_text Identifier new ≡ true → AreFormed IsArg (suc depth) args → AreFormed IsArg (suc depth) (move home old new chosen args)
 move_formed depth home old new chosen args name h =
     either_way (AreFormed IsArg (suc depth)) (is_some (move_note old new args)) h
     (either_way (AreFormed IsArg (suc depth)) (moves home old chosen args) (moved_formed depth home old new chosen args name h) h)

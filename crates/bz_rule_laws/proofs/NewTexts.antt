@@ -4,7 +4,7 @@ use Rattle.std.specs.Prelude.{codes, bytes_eq, if◌then◌else◌}
 use Rattle.std.specs.List.{list_all, list_any, flat_map}
 use Rattle.std.specs.Char.{is_ascii_digit}
 use Rattle.std.proofs.lemmas.Bool.{cases_Bool, and_parts, or_parts, false≢true}
-use Rattle.bz_token.specs.declared.token.Kind.TheVariants.{Ident, Int, Text, Sign}
+use Rattle.bz_token.specs.declared.token.Kind.TheVariants.{Identifier, Integer, String, Operator}
 use Rattle.bz_token.specs.declared.scan_string.Quotes.{Quotes}
 use Rattle.bz_token.specs.declared.scan_string.Escape.TheVariants.{Unescaped}
 use Rattle.bz_token.specs.Lexical.{are_two, ends_blank, is_blank, is_comment, is_newline, is_number, is_text, keywords, signs}
@@ -72,14 +72,14 @@ opens_once : (value : List ℕ) → are_two 34 (flat_map written value ++ 34 ∷
 opens_once [] = refl
 opens_once (b ∷ value) = ap (are_two 34) (append_assoc (written b) (flat_map written value) (34 ∷ [])) ∙ one_quote b (flat_map written value ++ 34 ∷ [])
 
-pub quoted_text : (value : List ℕ) → is_text Text (quoted value) ≡ true
+pub quoted_text : (value : List ℕ) → is_text String (quoted value) ≡ true
 quoted_text value = rw (opens_once value) (sym (closes_units double (flat_map written value ++ 34 ∷ []) refl) ∙ written_closed value)
 
-pub equals_text : is_text Sign (codes "=") ≡ true
+pub equals_text : is_text Operator (codes "=") ≡ true
 unfolding signs
 equals_text = refl
 
-pub dot_text : is_text Sign (codes ".") ≡ true
+pub dot_text : is_text Operator (codes ".") ≡ true
 unfolding signs
 dot_text = refl
 
@@ -89,7 +89,7 @@ digits bs h = h
 either : (a b : Bool) → a ≡ true → (a || b) ≡ true
 either a b h = rw h refl
 
-pub number_text : (bs : List ℕ) → is_digits bs ≡ true → is_text Int bs ≡ true
+pub number_text : (bs : List ℕ) → is_digits bs ≡ true → is_text Integer bs ≡ true
 number_text [] h = absurd (false≢true h)
 number_text (b ∷ bs) h = elim (cases_Bool (bytes_eq (b ∷ bs) (codes "0"))) [
   | inl zero_ ↦ ap is_number (same_bytes (b ∷ bs) (codes "0") zero_)
@@ -98,25 +98,25 @@ number_text (b ∷ bs) h = elim (cases_Bool (bytes_eq (b ∷ bs) (codes "0"))) [
       either (list_all is_ascii_digit (b ∷ bs)) _ (digits (b ∷ bs) (and_parts (list_all is_digit (b ∷ bs)) (not (b == 48)) more).0)
 ]
 
-true_text : is_text Ident (codes "True") ≡ true
+true_text : is_text Identifier (codes "True") ≡ true
 unfolding keywords
 true_text = refl
 
-false_text : is_text Ident (codes "False") ≡ true
+false_text : is_text Identifier (codes "False") ≡ true
 unfolding keywords
 false_text = refl
 
-none_text : is_text Ident (codes "None") ≡ true
+none_text : is_text Identifier (codes "None") ≡ true
 unfolding keywords
 none_text = refl
 
-pub constant_text : (word : List ℕ) → is_constant word ≡ true → is_text Ident word ≡ true
+pub constant_text : (word : List ℕ) → is_constant word ≡ true → is_text Identifier word ≡ true
 constant_text word h = elim (cases_Bool (bytes_eq word (codes "True"))) [
-  | inl is ↦ ap (is_text Ident) (same_bytes word (codes "True") is) ∙ true_text
+  | inl is ↦ ap (is_text Identifier) (same_bytes word (codes "True") is) ∙ true_text
   | inr first ↦ elim (cases_Bool (bytes_eq word (codes "False"))) [
-    | inl is ↦ ap (is_text Ident) (same_bytes word (codes "False") is) ∙ false_text
+    | inl is ↦ ap (is_text Identifier) (same_bytes word (codes "False") is) ∙ false_text
     | inr second ↦ elim (cases_Bool (bytes_eq word (codes "None"))) [
-      | inl is ↦ ap (is_text Ident) (same_bytes word (codes "None") is) ∙ none_text
+      | inl is ↦ ap (is_text Identifier) (same_bytes word (codes "None") is) ∙ none_text
       | inr third ↦ absurd (false≢true (rw (first, second, third) at h))
     ]
   ]

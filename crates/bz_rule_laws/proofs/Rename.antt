@@ -18,17 +18,17 @@ use Rattle.bz_rule_laws.proofs.PassingWritten.{first_of_name_edited}
 use Rattle.bz_rule_laws.proofs.Segments.{AreFormed, IsFormed, either_way}
 use Rattle.bz_rule_laws.specs.OwnComments.{own_comments}
 use Rattle.bz_token.specs.Lexical.{is_text}
-use Rattle.bz_token.specs.declared.token.Kind.TheVariants.{Ident}
+use Rattle.bz_token.specs.declared.token.Kind.TheVariants.{Identifier}
 use Rattle.bz_tree.specs.Comments.{beside, comments_of}
 use Rattle.bz_tree.specs.Grammar.{IsArg}
 use Rattle.bz_tree.specs.Tree.{Item, Segment, Statement, group, leaf}
 
-renamed_formed : (depth : ℕ) (new : List ℕ) (a : Segment) → is_text Ident new ≡ true → is_attribute a ≡ true → IsFormed IsArg depth a → IsFormed IsArg depth (rename_to new a)
+renamed_formed : (depth : ℕ) (new : List ℕ) (a : Segment) → is_text Identifier new ≡ true → is_attribute a ≡ true → IsFormed IsArg depth a → IsFormed IsArg depth (rename_to new a)
 renamed_formed depth new a name h good =
     let n = has_name a.nodes h in
     named_good depth new (value a) (rename_to new a) good.before good.suffix (ap (renamed new) n.are) name (good_value depth a h good)
 
-rename_formed : (depth : ℕ) (old new : List ℕ) (args : List Segment) → is_text Ident new ≡ true → AreFormed IsArg depth args → AreFormed IsArg depth (rename old new args)
+rename_formed : (depth : ℕ) (old new : List ℕ) (args : List Segment) → is_text Identifier new ≡ true → AreFormed IsArg depth args → AreFormed IsArg depth (rename old new args)
 rename_formed depth old new args name h =
     either_way (AreFormed IsArg depth) (is_some (rename_note old new args)) h (first_good depth old (λ a. rename_to new a ∷ []) (λ a n good. (renamed_formed depth new a name n good, tt)) args h)
 

@@ -1,7 +1,7 @@
 -- Rules that are well formed: their parts, and back.
 use Rattle.std.proofs.Common.{◌≡◌, ℕ, suc, ◌≤◌, List, [], ◌∷◌, ◌++◌, Bool, true, false, Some, if◌then◌else◌, codes, refl, sym, ap, subst, ◌∙◌, arith}
 use Rattle.std.proofs.lemmas.Bool.{false≢true}
-use Rattle.bz_token.specs.declared.token.Kind.TheVariants.{Ident, Sign}
+use Rattle.bz_token.specs.declared.token.Kind.TheVariants.{Identifier, Operator}
 use Rattle.bz_tree.specs.declared.stmt.GroupKind.TheVariants.{Call, RuleCall}
 use Rattle.bz_tree.specs.declared.stmt.Class.TheVariants.{Rule as RuleClass}
 use Rattle.bz_tree.specs.declared.kinds.Shape.TheVariants.{Round}
@@ -119,8 +119,8 @@ rule_call_more (name_before n more) x r = refl
 rule_call_back : {kind : List Item} → IsDotted kind → (r : Rule) → rule_call (plain_calls (and_then kind (rule_call_of r))) ≡ and_then kind (rule_call_of r)
 rule_call_back (last_name n) r = refl
 rule_call_back (name_before {text} {kind} n more) r =
-    ap (λ (xs : List Item). leaf Ident text ∷ xs) (rule_call_more more (leaf Sign (codes ".")) r)
-    ∙ ap (λ (xs : List Item). leaf Ident text ∷ leaf Sign (codes ".") ∷ xs) (rule_call_back more r)
+    ap (λ (xs : List Item). leaf Identifier text ∷ xs) (rule_call_more more (leaf Operator (codes ".")) r)
+    ∙ ap (λ (xs : List Item). leaf Identifier text ∷ leaf Operator (codes ".") ∷ xs) (rule_call_back more r)
 
 one_rule : {kind : List Item} → IsDotted kind → (r : Rule) → and_then kind (rule_call_of r) ≡ (if is_rule (plain_calls (and_then kind (rule_call_of r))) then rule_call (plain_calls (and_then kind (rule_call_of r))) else plain_calls (and_then kind (rule_call_of r)))
 one_rule d r = rw (plain_rule d r) (sym (rule_call_back d r))

@@ -29,20 +29,20 @@ use Rattle.bz_rule_laws.proofs.RuleFormed.{rule_formed, rule_parts}
 use Rattle.bz_rule_laws.proofs.Segments.{AreFormed, IsFormed, all_appended, either_way}
 use Rattle.bz_rule_laws.specs.OwnComments.{no_comments, own_comments}
 use Rattle.bz_token.specs.Lexical.{is_text}
-use Rattle.bz_token.specs.declared.token.Kind.TheVariants.{Ident, Int, Kept, Line, Note as NoteKind, Sign, Text, Word}
+use Rattle.bz_token.specs.declared.token.Kind.TheVariants.{Identifier, Integer, Kept, Newline, Comment, Operator, String, Keyword}
 use Rattle.bz_tree.specs.Comments.{beside, comments_of}
 use Rattle.bz_tree.specs.Grammar.{IsArg, ident, no_suffix, number, operand, plain, primary, single}
 use Rattle.bz_tree.specs.Tree.{Item, Segment, Statement, group, leaf, segs_of}
 use Rattle.bz_tree.specs.declared.stmt.GroupKind.TheVariants.{RuleCall}
 
 -- what words stand for
-number_value : (depth : ℕ) (digits : List ℕ) → is_number digits ≡ true → IsValue depth (leaf Int digits ∷ [])
+number_value : (depth : ℕ) (digits : List ℕ) → is_number digits ≡ true → IsValue depth (leaf Integer digits ∷ [])
 number_value depth digits h = record {
   nodes_are = record { texts = ((number_text digits h, refl), tt); kinds = (λ e. e, tt, tt); depth_fits = omega arith };
   test = plain (single (primary (number refl no_suffix refl)));
 }
 
-constant_value : (depth : ℕ) (name : List ℕ) → is_constant name ≡ true → IsValue depth (leaf Ident name ∷ [])
+constant_value : (depth : ℕ) (name : List ℕ) → is_constant name ≡ true → IsValue depth (leaf Identifier name ∷ [])
 constant_value depth name h = record {
   nodes_are = record { texts = ((constant_text name h, refl), tt); kinds = (λ e. e, tt, tt); depth_fits = omega arith };
   test = plain (single (primary (operand (ident refl) no_suffix)));
@@ -78,17 +78,17 @@ set_in_formed : (depth : ℕ) (new : New) (a : Segment) → IsWritten depth new 
 set_in_formed depth new a v h good =
     either_way (IsFormed IsArg (suc depth)) (is_value new (value a)) good (good_with (suc depth) (new_value new) a h good v)
 
-appended_formed : (depth : ℕ) (attr : List ℕ) (new : New) (args : List Segment) → is_text Ident attr ≡ true → IsWritten depth new → AreFormed IsArg (suc depth) args → AreFormed IsArg (suc depth) (args ++ argument attr (new_value new) ∷ [])
+appended_formed : (depth : ℕ) (attr : List ℕ) (new : New) (args : List Segment) → is_text Identifier attr ≡ true → IsWritten depth new → AreFormed IsArg (suc depth) args → AreFormed IsArg (suc depth) (args ++ argument attr (new_value new) ∷ [])
 appended_formed depth attr new args name v h = all_appended (IsFormed IsArg (suc depth)) args _ h (argument_good (suc depth) attr (new_value new) name v, tt)
 
-set_formed : (depth : ℕ) (attr : List ℕ) (words : List (List ℕ)) (args : List Segment) → is_text Ident attr ≡ true → AreFormed IsArg (suc depth) args → AreFormed IsArg (suc depth) (set attr words args)
+set_formed : (depth : ℕ) (attr : List ℕ) (words : List (List ℕ)) (args : List Segment) → is_text Identifier attr ≡ true → AreFormed IsArg (suc depth) args → AreFormed IsArg (suc depth) (set attr words args)
 set_formed depth attr words args name h =
     let new : New = new_of attr words (first_named attr args) in
     let v : IsWritten depth new = new_written depth attr words (first_named attr args) in
     either_way (AreFormed IsArg (suc depth)) (has attr args) (first_good (suc depth) attr (λ a. set_in new a ∷ []) (λ a n good. (set_in_formed depth new a v n good, tt)) args h)
     (appended_formed depth attr new args name v h)
 
-set_if_absent_formed : (depth : ℕ) (attr : List ℕ) (words : List (List ℕ)) (args : List Segment) → is_text Ident attr ≡ true → AreFormed IsArg (suc depth) args → AreFormed IsArg (suc depth) (set_if_absent attr words args)
+set_if_absent_formed : (depth : ℕ) (attr : List ℕ) (words : List (List ℕ)) (args : List Segment) → is_text Identifier attr ≡ true → AreFormed IsArg (suc depth) args → AreFormed IsArg (suc depth) (set_if_absent attr words args)
 set_if_absent_formed depth attr words args name h =
     let new : New = new_of attr words None in
     either_way (AreFormed IsArg (suc depth)) (has attr args) h (appended_formed depth attr new args name (new_written depth attr words None) h)
@@ -187,13 +187,13 @@ set_if_absent_leaves_all attr words args =
 kind_none : (ident : Bool) (kind : List Item) → dotted ident kind ≡ true → in_nodes kind ≡ []
 kind_none true [] h = absurd cc
 kind_none false [] h = refl
-kind_none true (leaf Ident text ∷ xs) h = kind_none false xs h
-kind_none true (leaf Word text ∷ xs) h = absurd cc
-kind_none true (leaf Int text ∷ xs) h = absurd cc
-kind_none true (leaf Text text ∷ xs) h = absurd cc
-kind_none true (leaf Sign text ∷ xs) h = absurd cc
-kind_none true (leaf Line text ∷ xs) h = absurd cc
-kind_none true (leaf NoteKind text ∷ xs) h = absurd cc
+kind_none true (leaf Identifier text ∷ xs) h = kind_none false xs h
+kind_none true (leaf Keyword text ∷ xs) h = absurd cc
+kind_none true (leaf Integer text ∷ xs) h = absurd cc
+kind_none true (leaf String text ∷ xs) h = absurd cc
+kind_none true (leaf Operator text ∷ xs) h = absurd cc
+kind_none true (leaf Newline text ∷ xs) h = absurd cc
+kind_none true (leaf Comment text ∷ xs) h = absurd cc
 kind_none true (leaf Kept text ∷ xs) h = absurd cc
 kind_none true (group kind segs one_comma end ∷ xs) h = absurd cc
 kind_none false (leaf kind text ∷ xs) h = kind_none true xs (and_parts (is_sign (codes ".") (leaf kind text)) (dotted true xs) h).1

@@ -7,7 +7,7 @@ use Rattle.std.proofs.lemmas.Bool.{cases_Bool, and_parts, or_cases, false≢true
 use Rattle.std.proofs.Math.Seq.{drop-append-add}
 use Rattle.std.proofs.lemmas.Bool.Decides.{nat_tests, Decides-eqb}
 use Rattle.bz_token.specs.declared.token.Kind.{Kind}
-use Rattle.bz_token.specs.declared.token.Kind.TheVariants.{Ident, Word, Int, Text, Sign, Line, Note, Kept}
+use Rattle.bz_token.specs.declared.token.Kind.TheVariants.{Identifier, Keyword, Integer, String, Operator, Newline, Comment as CommentToken, Kept}
 use Rattle.bz_token.specs.declared.scan_string.Escape.{Escape}
 use Rattle.bz_token.specs.declared.scan_string.Escape.TheVariants.{Unescaped, AfterBackslash, AfterReturn}
 use Rattle.bz_token.specs.declared.cutter.scan.Quote.{Quote}
@@ -484,12 +484,12 @@ dropped : (xs : List ℕ) → length (drop 1 xs) ≡ length xs - 1
 dropped [] = omega arith
 dropped (x ∷ xs) = omega arith
 
-sign_token_run : (s : Scan) (opened : List ℕ) (b : ℕ) (bs after : List ℕ) → is_sign (b ∷ bs) ≡ true → (k : LineKind) × (next s b ≡ outside (length opened) k b) → AfterToken (run s (b ∷ bs)) (length (open_after_token opened (b ∷ bs))) Sign after
+sign_token_run : (s : Scan) (opened : List ℕ) (b : ℕ) (bs after : List ℕ) → is_sign (b ∷ bs) ≡ true → (k : LineKind) × (next s b ≡ outside (length opened) k b) → AfterToken (run s (b ∷ bs)) (length (open_after_token opened (b ∷ bs))) Operator after
 sign_token_run s opened b bs after is m =
     let parts = and_parts (list_all is_sign_plain (b ∷ bs)) (list_all (λ x. not (is_bracket_byte x)) bs) (sign_plain (b ∷ bs) is) in
     let plain = and_parts (is_sign_plain b) (list_all is_sign_plain bs) parts.0 in
     let step = m.1 ∙ sign_step (length opened) m.0 b plain.0 in
-    after_plain (run s (b ∷ bs)) (length (open_after_token opened (b ∷ bs))) Sign after (signs_run bs (next s b) (length (open_after_token opened (b ∷ bs))) (first bs is step) plain.1 parts.1)
+    after_plain (run s (b ∷ bs)) (length (open_after_token opened (b ∷ bs))) Operator after (signs_run bs (next s b) (length (open_after_token opened (b ∷ bs))) (first bs is step) plain.1 parts.1)
   where
     first : (bs : List ℕ) → is_sign (b ∷ bs) ≡ true → next s b ≡ (if is_opening_bracket b then at Plain (length opened + 1) Statement else (if is_closing_bracket b then at Plain (length opened - 1) Statement else at Plain (length opened) Statement)) → IsAt (next s b) Plain (length (open_after_token opened (b ∷ bs)))
     first [] is step = elim (cases_Bool (is_opening_bracket b)) [
@@ -500,7 +500,7 @@ sign_token_run s opened b bs after is m =
       ]
     ]
     first (c ∷ cs) is step =
-        let none = or_none (is_opening_bracket b) (is_closing_bracket b) (no_bracket Sign b c cs is) in
+        let none = or_none (is_opening_bracket b) (is_closing_bracket b) (no_bracket Operator b c cs is) in
         let n = none.0 in
         let o = none.1 in
         subst (λ t. IsAt t Plain (length opened)) (sym (step ∙ rw (n, o) refl)) (stands Plain (length opened) Statement)
@@ -512,24 +512,24 @@ comment_run (x ∷ xs) s d h none =
     let other = p.0 in
     comment_run xs (next s x) d (moves s Comment Comment d x h (λ k. rw other refl)) p.1
 
-comment_token_run : (s : Scan) (opened : List ℕ) (b : ℕ) (bs after : List ℕ) → IsToken Note (b ∷ bs) after → (k : LineKind) × (next s b ≡ outside (length opened) k b) → AfterToken (run s (b ∷ bs)) (length (open_after_token opened (b ∷ bs))) Note after
+comment_token_run : (s : Scan) (opened : List ℕ) (b : ℕ) (bs after : List ℕ) → IsToken CommentToken (b ∷ bs) after → (k : LineKind) × (next s b ≡ outside (length opened) k b) → AfterToken (run s (b ∷ bs)) (length (open_after_token opened (b ∷ bs))) CommentToken after
 comment_token_run s opened b bs after token m =
     let parts = comment_parts (b ∷ bs) token.whole in
     let same : b ≡ 35 = eqb-true b 35 parts.0 in
     let here : IsAt (next s b) Comment (length opened) = subst (λ t. IsAt t Comment (length opened)) (sym (m.1 ∙ ap (outside (length opened) m.0) same)) (stands Comment (length opened) (with_note m.0)) in
     let end = comment_run bs (next s b) (length opened) here (or_none (is_newline b) (list_any is_newline bs) parts.1).1 in
-    same_depth (run s (b ∷ bs)) (length opened) _ Note after (ap length (sym (open_same opened b bs (ap is_opening_bracket same) (ap is_closing_bracket same))))
-    (record { ready = comments end (token_ends Note (b ∷ bs) after token); ended = λ e. absurd (not_ended (run s (b ∷ bs)) Comment (length opened) end refl e) })
+    same_depth (run s (b ∷ bs)) (length opened) _ CommentToken after (ap length (sym (open_same opened b bs (ap is_opening_bracket same) (ap is_closing_bracket same))))
+    (record { ready = comments end (token_ends CommentToken (b ∷ bs) after token); ended = λ e. absurd (not_ended (run s (b ∷ bs)) Comment (length opened) end refl e) })
 
-line_token_run : (depth : ℕ) (s : Scan) (opened : List ℕ) (b : ℕ) (bs after : List ℕ) → is_text Line (b ∷ bs) ≡ true → fits depth opened Line (b ∷ bs) ≡ true → (k : LineKind) × (next s b ≡ outside (length opened) k b) → AfterToken (run s (b ∷ bs)) (length (open_after_token opened (b ∷ bs))) Line after
+line_token_run : (depth : ℕ) (s : Scan) (opened : List ℕ) (b : ℕ) (bs after : List ℕ) → is_text Newline (b ∷ bs) ≡ true → fits depth opened Newline (b ∷ bs) ≡ true → (k : LineKind) × (next s b ≡ outside (length opened) k b) → AfterToken (run s (b ∷ bs)) (length (open_after_token opened (b ∷ bs))) Newline after
 line_token_run depth s opened b bs after is fit m =
     let whole = same_bytes (b ∷ bs) (10 ∷ []) is in
-    subst (λ t. AfterToken (run s t) (length (open_after_token opened t)) Line after) (sym whole) (at_line opened (subst (λ t. fits depth opened Line t ≡ true) whole fit) (m.0, first b whole m.1))
+    subst (λ t. AfterToken (run s t) (length (open_after_token opened t)) Newline after) (sym whole) (at_line opened (subst (λ t. fits depth opened Newline t ≡ true) whole fit) (m.0, first b whole m.1))
   where
     first : (b : ℕ) → b ∷ bs ≡ 10 ∷ [] → next s b ≡ outside (length opened) m.0 b → next s 10 ≡ outside (length opened) m.0 10
     first b e h = let same : b ≡ 10 = cc in subst (λ x. next s x ≡ outside (length opened) m.0 x) same h
 
-    at_line : (opened : List ℕ) → fits depth opened Line (10 ∷ []) ≡ true → (k : LineKind) × (next s 10 ≡ outside (length opened) k 10) → AfterToken (next s 10) (length (open_after_token opened (10 ∷ []))) Line after
+    at_line : (opened : List ℕ) → fits depth opened Newline (10 ∷ []) ≡ true → (k : LineKind) × (next s 10 ≡ outside (length opened) k 10) → AfterToken (next s 10) (length (open_after_token opened (10 ∷ []))) Newline after
     at_line (a ∷ opened) fit m = absurd (false≢true fit)
     at_line [] fit m =
         let here : IsAt (next s 10) Ended 0 = subst (λ t. IsAt t Ended 0) (sym m.1) (stands Ended 0 m.0) in
@@ -639,25 +639,25 @@ letters_run (a ∷ letters) q s d words first =
     let here : IsAt (next s a) Plain d = subst (λ t. IsAt t Plain d) (sym (m.1 ∙ word_step d m.0 a p.0)) (stands Plain d Statement) in
     letters_run letters q (next s a) d p.1 (λ b bs e. step_from (next s a) Plain d b here)
 
-text_no_bracket : (b : ℕ) (bs : List ℕ) → is_text Text (b ∷ bs) ≡ true → is_bracket_byte b ≡ false
+text_no_bracket : (b : ℕ) (bs : List ℕ) → is_text String (b ∷ bs) ≡ true → is_bracket_byte b ≡ false
 text_no_bracket b bs is = elim (cases_Bool (is_bracket_byte b)) [
   | inr miss ↦ miss
-  | inl hit ↦ absurd (false≢true (ap (can_start Text) (sym (bracket_class b hit)) ∙ text_class Text b bs is))
+  | inl hit ↦ absurd (false≢true (ap (can_start String) (sym (bracket_class b hit)) ∙ text_class String b bs is))
 ]
 
 -- after an empty short string no third quote stands
-no_third : (q : Quote) (text after : List ℕ) (o : Opening) → IsToken Text text after → opening text ≡ Some o → o.quotes.byte ≡ byte_of q → o.quotes.long ≡ false → length text ≡ o.prefix + 2 → (b : ℕ) (bs : List ℕ) → after ≡ b ∷ bs → (b == byte_of q) ≡ false
+no_third : (q : Quote) (text after : List ℕ) (o : Opening) → IsToken String text after → opening text ≡ Some o → o.quotes.byte ≡ byte_of q → o.quotes.long ≡ false → length text ≡ o.prefix + 2 → (b : ℕ) (bs : List ℕ) → after ≡ b ∷ bs → (b == byte_of q) ≡ false
 no_third q text after o token opens byte short size b bs e = elim (cases_Bool (b == byte_of q)) [
   | inr miss ↦ miss
   | inl hit ↦
-      let stop = subst (λ x. stops_at Text text x ≡ true) e (token_ends Text text after token) in
+      let stop = subst (λ x. stops_at String text x ≡ true) e (token_ends String text after token) in
       let here = (Decides-eqb (length text) (o.prefix + 2)).1 size in
       let same : (b == o.quotes.byte) ≡ true = ap (λ x. b == x) byte ∙ hit in
       let third : is_empty_string (opening text) text b ≡ true = ap (λ x. is_empty_string x text b) opens ∙ rw (short, here, same) refl in
       absurd (false≢true (sym (rw third refl) ∙ stop))
 ]
 
-string_token_run : (s : Scan) (opened : List ℕ) (b : ℕ) (bs after : List ℕ) → IsToken Text (b ∷ bs) after → (k : LineKind) × (next s b ≡ outside (length opened) k b) → AfterToken (run s (b ∷ bs)) (length (open_after_token opened (b ∷ bs))) Text after
+string_token_run : (s : Scan) (opened : List ℕ) (b : ℕ) (bs after : List ℕ) → IsToken String (b ∷ bs) after → (k : LineKind) × (next s b ≡ outside (length opened) k b) → AfterToken (run s (b ∷ bs)) (length (open_after_token opened (b ∷ bs))) String after
 string_token_run s opened b bs after token m =
     let text = b ∷ bs in
     let d = length opened in
@@ -674,10 +674,10 @@ string_token_run s opened b bs after token m =
     let closed : closes (long_quotes q o.quotes.long) 0 Unescaped (drop (closing_row o.quotes.long - 1) parts.inside) ≡ true = ap₂ (λ x y. closes x 0 Unescaped y) (sym quotes) (sym tail) ∙ found.2 in
     let end : Found q d parts.inside o.quotes.long (run s1 parts.inside) = quoted_run q d parts.inside o.quotes.long s1 opened_at (ap (λ x. are_two x parts.inside) (sym quote.1) ∙ parts.long) closed in
     let brackets = or_none (is_opening_bracket b) (is_closing_bracket b) (text_no_bracket b bs token.whole) in
-    same_depth (run s text) d _ Text after (ap length (sym (open_same opened b bs brackets.0 brackets.1)))
-    (subst (λ t. AfterToken t d Text after) (sym (ap (run s) whole ∙ run_append (parts.letters ++ byte_of q ∷ []) parts.inside s))
+    same_depth (run s text) d _ String after (ap length (sym (open_same opened b bs brackets.0 brackets.1)))
+    (subst (λ t. AfterToken t d String after) (sym (ap (run s) whole ∙ run_append (parts.letters ++ byte_of q ∷ []) parts.inside s))
     (elim end [
-      | plainly h ↦ after_plain (run s1 parts.inside) d Text after h
+      | plainly h ↦ after_plain (run s1 parts.inside) d String after h
       | twice h one short ↦
           let size : length text ≡ o.prefix + 2 = omega (arith, ap length parts.text_is, length-append parts.letters (o.quotes.byte ∷ parts.inside), one, parts.prefix) in
           record {
@@ -709,13 +709,13 @@ token_run depth s opened kind (b ∷ bs) after token fit ready = by_kind kind to
     name_words name = (and_parts (not (is_ascii_digit b)) (list_all is_word_byte (b ∷ bs)) name).1
 
     by_kind : (kind : Kind) → IsToken kind (b ∷ bs) after → fits depth opened kind (b ∷ bs) ≡ true → (k : LineKind) × (next s b ≡ outside (length opened) k b) → AfterToken (run s (b ∷ bs)) (length (open_after_token opened (b ∷ bs))) kind after
-    by_kind Ident token fit m = words_token Ident s opened b bs after (name_words (and_parts (is_name (b ∷ bs)) (not (is_keyword (b ∷ bs))) token.whole).0) m
-    by_kind Word token fit m = words_token Word s opened b bs after (name_words (keyword_name (b ∷ bs) token.whole)) m
-    by_kind Int token fit m = words_token Int s opened b bs after (number_words (b ∷ bs) token.whole) m
-    by_kind Text token fit m = string_token_run s opened b bs after token m
-    by_kind Sign token fit m = sign_token_run s opened b bs after token.whole m
-    by_kind Line token fit m = line_token_run depth s opened b bs after token.whole fit m
-    by_kind Note token fit m = comment_token_run s opened b bs after token m
+    by_kind Identifier token fit m = words_token Identifier s opened b bs after (name_words (and_parts (is_name (b ∷ bs)) (not (is_keyword (b ∷ bs))) token.whole).0) m
+    by_kind Keyword token fit m = words_token Keyword s opened b bs after (name_words (keyword_name (b ∷ bs) token.whole)) m
+    by_kind Integer token fit m = words_token Integer s opened b bs after (number_words (b ∷ bs) token.whole) m
+    by_kind String token fit m = string_token_run s opened b bs after token m
+    by_kind Operator token fit m = sign_token_run s opened b bs after token.whole m
+    by_kind Newline token fit m = line_token_run depth s opened b bs after token.whole fit m
+    by_kind CommentToken token fit m = comment_token_run s opened b bs after token m
     by_kind Kept token fit m = absurd (false≢true token.whole)
 
 some_open : (opened : List ℕ) → is_inside opened ≡ true → 0 < length opened

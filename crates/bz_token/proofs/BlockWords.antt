@@ -6,7 +6,7 @@ use Rattle.std.specs.Char.{is_ascii_digit}
 use Rattle.std.proofs.lemmas.Bool.{cases_Bool, and_parts, or_parts, or_cases, false≢true, eqb-true}
 use Rattle.std.proofs.lemmas.List.Sums.{take_while-cons}
 use Rattle.bz_token.specs.declared.token.Kind.{Kind}
-use Rattle.bz_token.specs.declared.token.Kind.TheVariants.{Ident, Word, Int, Text, Sign, Line, Note, Kept}
+use Rattle.bz_token.specs.declared.token.Kind.TheVariants.{Identifier, Keyword, Integer, String, Operator, Newline, Comment, Kept}
 use Rattle.bz_token.specs.declared.scan_string.Opening.{Opening}
 use Rattle.bz_token.specs.Pieces.{is_quote}
 use Rattle.bz_token.specs.Lexical.{is_blank, is_name, is_keyword, is_string, is_closed, opening, IsToken, is_word_byte}
@@ -71,50 +71,50 @@ string_first x text is =
     some (Some o) h = refl
 
 first_word : (kind : Kind) (b : ℕ) (bs after : List ℕ) → IsToken kind (b ∷ bs) after → opener_of (b ∷ bs) ≡ None → opener_of (word_at ((b ∷ bs) ++ after)) ≡ None
-first_word Ident b bs after token none = ap opener_of (whole_word (b ∷ bs) after (words (and_parts (is_name (b ∷ bs)) (not (is_keyword (b ∷ bs))) token.whole).0) (stop after (token_ends Ident (b ∷ bs) after token))) ∙ none
+first_word Identifier b bs after token none = ap opener_of (whole_word (b ∷ bs) after (words (and_parts (is_name (b ∷ bs)) (not (is_keyword (b ∷ bs))) token.whole).0) (stop after (token_ends Identifier (b ∷ bs) after token))) ∙ none
   where
     words : is_name (b ∷ bs) ≡ true → list_all is_word_byte (b ∷ bs) ≡ true
     words name = (and_parts (not (is_ascii_digit b)) (list_all is_word_byte (b ∷ bs)) name).1
 
-    stop : (after : List ℕ) → stops_at Ident (b ∷ bs) after ≡ true → stops_word after ≡ true
+    stop : (after : List ℕ) → stops_at Identifier (b ∷ bs) after ≡ true → stops_word after ≡ true
     stop [] h = refl
     stop (c ∷ cs) h = (and_parts (not (is_word_byte c)) (not (is_quote c && is_prefix (b ∷ bs))) h).0
-first_word Word b bs after token none = ap opener_of (whole_word (b ∷ bs) after (words (keyword_name (b ∷ bs) token.whole)) (stop after (token_ends Word (b ∷ bs) after token))) ∙ none
+first_word Keyword b bs after token none = ap opener_of (whole_word (b ∷ bs) after (words (keyword_name (b ∷ bs) token.whole)) (stop after (token_ends Keyword (b ∷ bs) after token))) ∙ none
   where
     words : is_name (b ∷ bs) ≡ true → list_all is_word_byte (b ∷ bs) ≡ true
     words name = (and_parts (not (is_ascii_digit b)) (list_all is_word_byte (b ∷ bs)) name).1
 
-    stop : (after : List ℕ) → stops_at Word (b ∷ bs) after ≡ true → stops_word after ≡ true
+    stop : (after : List ℕ) → stops_at Keyword (b ∷ bs) after ≡ true → stops_word after ≡ true
     stop [] h = refl
     stop (c ∷ cs) h = h
-first_word Text b bs after token none =
+first_word String b bs after token none =
     let p = or_parts (b == 100 || b == 102) (b == 105) (string_first b bs token.whole) in
     let q = or_parts (b == 100) (b == 102) p.0 in
     other_word b (bs ++ after) q.0 q.1 p.1
-first_word Int b bs after token none = let h = text_class Int b bs token.whole in other_word b (bs ++ after) (apart Int b 100 h refl) (apart Int b 102 h refl) (apart Int b 105 h refl)
-first_word Sign b bs after token none = let h = text_class Sign b bs token.whole in other_word b (bs ++ after) (apart Sign b 100 h refl) (apart Sign b 102 h refl) (apart Sign b 105 h refl)
-first_word Note b bs after token none = let h = text_class Note b bs token.whole in other_word b (bs ++ after) (apart Note b 100 h refl) (apart Note b 102 h refl) (apart Note b 105 h refl)
-first_word Line b bs after token none = let h = text_class Line b bs token.whole in other_word b (bs ++ after) (apart Line b 100 h refl) (apart Line b 102 h refl) (apart Line b 105 h refl)
+first_word Integer b bs after token none = let h = text_class Integer b bs token.whole in other_word b (bs ++ after) (apart Integer b 100 h refl) (apart Integer b 102 h refl) (apart Integer b 105 h refl)
+first_word Operator b bs after token none = let h = text_class Operator b bs token.whole in other_word b (bs ++ after) (apart Operator b 100 h refl) (apart Operator b 102 h refl) (apart Operator b 105 h refl)
+first_word Comment b bs after token none = let h = text_class Comment b bs token.whole in other_word b (bs ++ after) (apart Comment b 100 h refl) (apart Comment b 102 h refl) (apart Comment b 105 h refl)
+first_word Newline b bs after token none = let h = text_class Newline b bs token.whole in other_word b (bs ++ after) (apart Newline b 100 h refl) (apart Newline b 102 h refl) (apart Newline b 105 h refl)
 first_word Kept b bs after token none = absurd (false≢true token.whole)
 
 no_line : (kind : Kind) → is_line kind ≡ false → can_start kind (class_of 10) ≡ false
-no_line Line h = absurd (false≢true (sym h))
-no_line Ident h = refl
-no_line Word h = refl
-no_line Int h = refl
-no_line Text h = refl
-no_line Sign h = refl
-no_line Note h = refl
+no_line Newline h = absurd (false≢true (sym h))
+no_line Identifier h = refl
+no_line Keyword h = refl
+no_line Integer h = refl
+no_line String h = refl
+no_line Operator h = refl
+no_line Comment h = refl
 no_line Kept h = refl
 
 no_slash : (kind : Kind) → can_start kind (class_of 92) ≡ false
-no_slash Line = refl
-no_slash Ident = refl
-no_slash Word = refl
-no_slash Int = refl
-no_slash Text = refl
-no_slash Sign = refl
-no_slash Note = refl
+no_slash Newline = refl
+no_slash Identifier = refl
+no_slash Keyword = refl
+no_slash Integer = refl
+no_slash String = refl
+no_slash Operator = refl
+no_slash Comment = refl
 no_slash Kept = refl
 
 -- the same wherever the token stands on its line

@@ -6,7 +6,7 @@ use Rattle.std.proofs.lemmas.Bool.{cases_Bool, false≢true}
 use Rattle.bz_token.specs.declared.fault.LexFault.{LexFault}
 use Rattle.bz_token.specs.declared.fault.LexFault.TheVariants as faults
 use Rattle.bz_token.specs.declared.scan_string.Opening.{Opening}
-use Rattle.bz_token.specs.declared.token.Kind.TheVariants.{Text}
+use Rattle.bz_token.specs.declared.token.Kind.TheVariants.{String}
 use Rattle.bz_token.specs.declared.cutter.scan.Scan.{Scan}
 use Rattle.bz_token.specs.declared.cutter.scan.LineKind.{LineKind}
 use Rattle.bz_token.specs.declared.cutter.scan.LineKind.TheVariants.{Blank}
@@ -122,7 +122,7 @@ number_more place r h bad = record {
   where
     unquoted : (place : List ℕ) → begins is_ascii_digit place ≡ true → opening place ≡ None
     unquoted [] d = absurd (false≢true d)
-    unquoted (b ∷ bs) d = no_opening b bs (ap (can_start Text) (digit_class b d))
+    unquoted (b ∷ bs) d = no_opening b bs (ap (can_start String) (digit_class b d))
 
 character_more : (place r : List ℕ) → has_newline place ≡ true → IsBadCharacter place → IsBadCharacter (place ++ r)
 character_more place r h bad = record {

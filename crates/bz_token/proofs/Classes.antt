@@ -7,7 +7,7 @@ use Rattle.std.proofs.lemmas.Bool.{cases_Bool, and_parts, or_cases, false≢true
 use Rattle.std.proofs.lemmas.Bool.Decides.{nat_tests}
 use Rattle.std.proofs.lemmas.Slice.Eq.{bytes_eq-Decides}
 use Rattle.bz_token.specs.declared.token.Kind.{Kind}
-use Rattle.bz_token.specs.declared.token.Kind.TheVariants.{Ident, Word, Int, Text, Sign, Line, Note, Kept}
+use Rattle.bz_token.specs.declared.token.Kind.TheVariants.{Identifier, Keyword, Integer, String, Operator, Newline, Comment, Kept}
 use Rattle.bz_token.specs.Pieces.{is_quote}
 use Rattle.bz_token.specs.Lexical.{is_word_byte, is_newline, is_one_of, keywords, is_keyword, signs, is_sign, is_name, is_number, are_based, is_string, opening, is_text, begins, ends_blank, is_closed}
 use Rattle.bz_token.specs.declared.scan_string.Opening.{Opening}
@@ -30,14 +30,14 @@ class_of b =
     else (if is_quote b then quote else (if b == 10 then newline else (if b == 35 then hash else (if is_mark b then mark else unknown))))
 
 abbrev pub can_start : Kind → Class → Bool
-can_start Ident letter = true
-can_start Word letter = true
-can_start Int digit = true
-can_start Text letter = true
-can_start Text quote = true
-can_start Sign mark = true
-can_start Line newline = true
-can_start Note hash = true
+can_start Identifier letter = true
+can_start Keyword letter = true
+can_start Integer digit = true
+can_start String letter = true
+can_start String quote = true
+can_start Operator mark = true
+can_start Newline newline = true
+can_start Comment hash = true
 can_start _ _ = false
 
 pub same_bytes : (xs ys : List ℕ) → bytes_eq xs ys ≡ true → xs ≡ ys
@@ -52,13 +52,13 @@ one_of p (t ∷ texts) text all is =
       | inr later ↦ one_of p texts text (and_parts (p t) (list_all p texts) all).1 later
     ]
 
-keyword_starts : (text : List ℕ) → is_keyword text ≡ true → begins (λ b. can_start Word (class_of b)) text ≡ true
+keyword_starts : (text : List ℕ) → is_keyword text ≡ true → begins (λ b. can_start Keyword (class_of b)) text ≡ true
 unfolding keywords
-keyword_starts text is = one_of (λ s. begins (λ b. can_start Word (class_of b)) s) keywords text refl is
+keyword_starts text is = one_of (λ s. begins (λ b. can_start Keyword (class_of b)) s) keywords text refl is
 
-sign_starts : (text : List ℕ) → is_sign text ≡ true → begins (λ b. can_start Sign (class_of b)) text ≡ true
+sign_starts : (text : List ℕ) → is_sign text ≡ true → begins (λ b. can_start Operator (class_of b)) text ≡ true
 unfolding signs
-sign_starts text is = one_of (λ s. begins (λ b. can_start Sign (class_of b)) s) signs text refl is
+sign_starts text is = one_of (λ s. begins (λ b. can_start Operator (class_of b)) s) signs text refl is
 
 pub letter_class : (b : ℕ) → is_word_byte b ≡ true → is_ascii_digit b ≡ false → class_of b ≡ letter
 letter_class b word none = rw (word, none) refl
@@ -98,7 +98,7 @@ number_starts b bs is =
     ]
 
 -- a string begins with a letter of its prefix or with a quote
-pub opening_starts : (x : ℕ) (text : List ℕ) → is_some (opening (x ∷ text)) ≡ true → can_start Text (class_of x) ≡ true
+pub opening_starts : (x : ℕ) (text : List ℕ) → is_some (opening (x ∷ text)) ≡ true → can_start String (class_of x) ≡ true
 opening_starts x text is =
     elim (cases_Bool (x == 114)) [
       | inl r ↦ let same : x ≡ 114 = eqb-true x 114 r in rw same refl
@@ -111,7 +111,7 @@ opening_starts x text is =
       ]
     ]
 
-string_starts : (x : ℕ) (text : List ℕ) → is_string (x ∷ text) ≡ true → can_start Text (class_of x) ≡ true
+string_starts : (x : ℕ) (text : List ℕ) → is_string (x ∷ text) ≡ true → can_start String (class_of x) ≡ true
 string_starts x text is = opening_starts x text (some (opening (x ∷ text)) is)
   where
     some : (o : Option Opening) → is_closed o (x ∷ text) ≡ true → is_some o ≡ true
@@ -119,28 +119,28 @@ string_starts x text is = opening_starts x text (some (opening (x ∷ text)) is)
     some (Some o) h = refl
 
 pub text_class : (kind : Kind) (x : ℕ) (text : List ℕ) → is_text kind (x ∷ text) ≡ true → can_start kind (class_of x) ≡ true
-text_class Ident x text is =
+text_class Identifier x text is =
     let name = name_parts x text (and_parts (is_name (x ∷ text)) (not (is_keyword (x ∷ text))) is).0 in
     rw (letter_class x name.1 name.0) refl
-text_class Word x text is = keyword_starts (x ∷ text) is
-text_class Int x text is = rw (digit_class x (number_starts x text is)) refl
-text_class Text x text is = string_starts x text is
-text_class Sign x text is = sign_starts (x ∷ text) is
-text_class Line x text is = let same : x ≡ 10 = first_same (same_bytes (x ∷ text) (10 ∷ []) is) in rw same refl
+text_class Keyword x text is = keyword_starts (x ∷ text) is
+text_class Integer x text is = rw (digit_class x (number_starts x text is)) refl
+text_class String x text is = string_starts x text is
+text_class Operator x text is = sign_starts (x ∷ text) is
+text_class Newline x text is = let same : x ≡ 10 = first_same (same_bytes (x ∷ text) (10 ∷ []) is) in rw same refl
   where
     first_same : x ∷ text ≡ 10 ∷ [] → x ≡ 10
     first_same e = cc
-text_class Note x text is =
+text_class Comment x text is =
     let same : x ≡ 35 = eqb-true x 35 (and_parts (x == 35) (not (list_any is_newline (x ∷ text))) (and_parts (begins (λ b. b == 35) (x ∷ text) && not (list_any is_newline (x ∷ text))) (not (ends_blank (x ∷ text))) is).0).0 in
     rw same refl
 text_class Kept x text is = absurd (false≢true is)
 
 pub empty_no_text : (kind : Kind) → is_text kind [] ≡ true → ⊥
-empty_no_text Ident is = false≢true is
-empty_no_text Word is = false≢true (keyword_starts [] is)
-empty_no_text Int is = false≢true is
-empty_no_text Text is = false≢true is
-empty_no_text Sign is = false≢true (sign_starts [] is)
-empty_no_text Line is = false≢true is
-empty_no_text Note is = false≢true is
+empty_no_text Identifier is = false≢true is
+empty_no_text Keyword is = false≢true (keyword_starts [] is)
+empty_no_text Integer is = false≢true is
+empty_no_text String is = false≢true is
+empty_no_text Operator is = false≢true (sign_starts [] is)
+empty_no_text Newline is = false≢true is
+empty_no_text Comment is = false≢true is
 empty_no_text Kept is = false≢true is

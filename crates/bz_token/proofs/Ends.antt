@@ -12,7 +12,7 @@ use Rattle.bz_token.specs.declared.scan_string.Opening.{Opening}
 use Rattle.bz_token.specs.declared.scan_string.Quotes.{Quotes}
 use Rattle.bz_token.specs.declared.scan_string.Escape.TheVariants.{Unescaped}
 use Rattle.bz_token.specs.declared.token.Kind.{Kind}
-use Rattle.bz_token.specs.declared.token.Kind.TheVariants.{Ident, Word, Int, Text, Sign, Line, Note, Kept}
+use Rattle.bz_token.specs.declared.token.Kind.TheVariants.{Identifier, Keyword, Integer, String, Operator, Newline, Comment, Kept}
 use Rattle.bz_token.specs.Pieces.{is_quote}
 use Rattle.bz_token.specs.Lexical.{is_word_byte, is_blank, is_newline, signs, is_sign, is_keyword, is_name, is_empty, ends_blank, are_based, is_octal_digit, is_number, is_string, is_comment, closing_row, are_two, opening, opening_length, is_closed, is_long, is_text, begins, counts, is_number_kind, is_string_kind, IsToken, HasNoToken}
 use Rattle.bz_token.specs.private.Closing.{closes}
@@ -71,7 +71,7 @@ no_string place text rest none split is =
     absurd_some b e = cc
 
 -- a name
-pub name_token_at : (kind : Kind) (b : ℕ) (bs after : List ℕ) → is_text kind (b ∷ bs) ≡ true → is_name (b ∷ bs) ≡ true → opening ((b ∷ bs) ++ after) ≡ None → stops_at Int [] after ≡ true → IsToken kind (b ∷ bs) after
+pub name_token_at : (kind : Kind) (b : ℕ) (bs after : List ℕ) → is_text kind (b ∷ bs) ≡ true → is_name (b ∷ bs) ≡ true → opening ((b ∷ bs) ++ after) ≡ None → stops_at Integer [] after ≡ true → IsToken kind (b ∷ bs) after
 name_token_at kind b bs after whole name unquoted stop =
     token_from kind (b ∷ bs) after whole (counts_free ((b ∷ bs) ++ after) (b ∷ bs) kind unquoted parts.0) longer
   where
@@ -93,16 +93,16 @@ name_token_at kind b bs after whole name unquoted stop =
     started other m more is = ap (can_start other) (sym class) ∙ text_class other b (bs ++ m ∷ more) is
 
     longer : NoLonger (b ∷ bs) after
-    longer Ident m more rest split is counted = longer_name m more rest split (and_parts (is_name ((b ∷ bs) ++ m ∷ more)) (not (is_keyword ((b ∷ bs) ++ m ∷ more))) is).0
-    longer Word m more rest split is counted = longer_name m more rest split (keyword_name ((b ∷ bs) ++ m ∷ more) is)
-    longer Text m more rest split is counted = no_string ((b ∷ bs) ++ after) ((b ∷ bs) ++ m ∷ more) rest unquoted (ap (λ x. (b ∷ bs) ++ x) split ∙ simp append_assoc) is
-    longer Int m more rest split is counted = false≢true (started Int m more is)
-    longer Sign m more rest split is counted = false≢true (started Sign m more is)
-    longer Line m more rest split is counted = false≢true (started Line m more is)
-    longer Note m more rest split is counted = false≢true (started Note m more is)
+    longer Identifier m more rest split is counted = longer_name m more rest split (and_parts (is_name ((b ∷ bs) ++ m ∷ more)) (not (is_keyword ((b ∷ bs) ++ m ∷ more))) is).0
+    longer Keyword m more rest split is counted = longer_name m more rest split (keyword_name ((b ∷ bs) ++ m ∷ more) is)
+    longer String m more rest split is counted = no_string ((b ∷ bs) ++ after) ((b ∷ bs) ++ m ∷ more) rest unquoted (ap (λ x. (b ∷ bs) ++ x) split ∙ simp append_assoc) is
+    longer Integer m more rest split is counted = false≢true (started Integer m more is)
+    longer Operator m more rest split is counted = false≢true (started Operator m more is)
+    longer Newline m more rest split is counted = false≢true (started Newline m more is)
+    longer Comment m more rest split is counted = false≢true (started Comment m more is)
     longer Kept m more rest split is counted = false≢true is
 
-ends_word : (text after : List ℕ) → ends_name text after ≡ true → stops_at Int [] after ≡ true
+ends_word : (text after : List ℕ) → ends_name text after ≡ true → stops_at Integer [] after ≡ true
 ends_word text [] stop = refl
 ends_word text (b ∷ bs) stop = (and_parts (not (is_word_byte b)) (not (is_quote b && is_prefix text)) stop).0
 
@@ -118,7 +118,7 @@ run_length p (b ∷ bs) after all none =
     let parts = and_parts (p b) (list_all p bs) all in
     rw (parts.0, one-add) (ap suc (run_length p bs after parts.1 none))
 
-pub stops_run : (after : List ℕ) → stops_at Int [] after ≡ true → prefix_len is_word_byte after ≡ 0
+pub stops_run : (after : List ℕ) → stops_at Integer [] after ≡ true → prefix_len is_word_byte after ≡ 0
 stops_run [] stop = refl
 stops_run (b ∷ bs) stop = rw (not_true (is_word_byte b) stop) refl
 
@@ -179,19 +179,19 @@ number_words (b ∷ bs) is =
     ]
 
 -- a number's first byte
-pub number_token : (b : ℕ) (bs after : List ℕ) → is_number (b ∷ bs) ≡ true → prefix_len is_word_byte after ≡ 0 → IsToken Int (b ∷ bs) after
-number_token b bs after whole stop = token_from Int (b ∷ bs) after whole counted longer
+pub number_token : (b : ℕ) (bs after : List ℕ) → is_number (b ∷ bs) ≡ true → prefix_len is_word_byte after ≡ 0 → IsToken Integer (b ∷ bs) after
+number_token b bs after whole stop = token_from Integer (b ∷ bs) after whole counted longer
   where
     first : is_ascii_digit b ≡ true
     first = number_starts b bs whole
 
     unquoted : opening ((b ∷ bs) ++ after) ≡ None
-    unquoted = no_opening b (bs ++ after) (ap (can_start Text) (digit_class b first))
+    unquoted = no_opening b (bs ++ after) (ap (can_start String) (digit_class b first))
 
     run : prefix_len is_word_byte ((b ∷ bs) ++ after) ≡ length (b ∷ bs)
     run = run_length is_word_byte (b ∷ bs) after (number_words (b ∷ bs) whole) stop
 
-    counted : counts ((b ∷ bs) ++ after) Int (b ∷ bs) ≡ true
+    counted : counts ((b ∷ bs) ++ after) Integer (b ∷ bs) ≡ true
     counted = rw (unquoted, first, counts) ((Decides-eqb (length (b ∷ bs)) (prefix_len is_word_byte ((b ∷ bs) ++ after))).1 (sym run))
 
     longer : NoLonger (b ∷ bs) after
@@ -201,21 +201,21 @@ number_token b bs after whole stop = token_from Int (b ∷ bs) after whole count
         absurd (omega (arith, same, run, length-append (b ∷ bs) (m ∷ more)))
 
 -- a place whose first byte begins no string and no number
-free : (kind : Kind) (b : ℕ) (bs after : List ℕ) → is_text kind (b ∷ bs) ≡ true → can_start Text (class_of b) ≡ false → is_ascii_digit b ≡ false → NoLonger (b ∷ bs) after → IsToken kind (b ∷ bs) after
+free : (kind : Kind) (b : ℕ) (bs after : List ℕ) → is_text kind (b ∷ bs) ≡ true → can_start String (class_of b) ≡ false → is_ascii_digit b ≡ false → NoLonger (b ∷ bs) after → IsToken kind (b ∷ bs) after
 free kind b bs after whole unquoted plain never =
     token_from kind (b ∷ bs) after whole (counts_free ((b ∷ bs) ++ after) (b ∷ bs) kind (no_opening b (bs ++ after) unquoted) plain) never
 
-pub no_digit : (b : ℕ) (c : Class) → class_of b ≡ c → can_start Int c ≡ false → is_ascii_digit b ≡ false
+pub no_digit : (b : ℕ) (c : Class) → class_of b ≡ c → can_start Integer c ≡ false → is_ascii_digit b ≡ false
 no_digit b c is never = elim (cases_Bool (is_ascii_digit b)) [
-  | inl hit ↦ absurd (false≢true (sym never ∙ ap (can_start Int) (sym is ∙ digit_class b hit)))
+  | inl hit ↦ absurd (false≢true (sym never ∙ ap (can_start Integer) (sym is ∙ digit_class b hit)))
   | inr miss ↦ miss
 ]
 
 -- the sign byte's class is mark
-pub mark_of : (b : ℕ) → can_start Sign (class_of b) ≡ true → class_of b ≡ mark
+pub mark_of : (b : ℕ) → can_start Operator (class_of b) ≡ true → class_of b ≡ mark
 mark_of b h = only (class_of b) h
   where
-    only : (c : Class) → can_start Sign c ≡ true → c ≡ mark
+    only : (c : Class) → can_start Operator c ≡ true → c ≡ mark
     only letter h = absurd (false≢true h)
     only digit h = absurd (false≢true h)
     only quote h = absurd (false≢true h)
@@ -241,37 +241,37 @@ sign_goes_on a (b ∷ bs) (c ∷ more) m is =
     too_long : (x y n : ℕ) → nat_le n 3 ≡ true → n ≡ suc (suc x) + suc (suc y) → ⊥
     too_long x y n h e = grind (arith, nat_tests)
 
-pub sign_token : (b : ℕ) (bs after : List ℕ) → is_sign (b ∷ bs) ≡ true → stops_at Sign (b ∷ bs) after ≡ true → IsToken Sign (b ∷ bs) after
-sign_token b bs after whole stop = free Sign b bs after whole (ap (can_start Text) class) (no_digit b mark class refl) longer
+pub sign_token : (b : ℕ) (bs after : List ℕ) → is_sign (b ∷ bs) ≡ true → stops_at Operator (b ∷ bs) after ≡ true → IsToken Operator (b ∷ bs) after
+sign_token b bs after whole stop = free Operator b bs after whole (ap (can_start String) class) (no_digit b mark class refl) longer
   where
     class : class_of b ≡ mark
-    class = mark_of b (text_class Sign b bs whole)
+    class = mark_of b (text_class Operator b bs whole)
 
     started : (k : Kind) (m : ℕ) (more : List ℕ) → is_text k ((b ∷ bs) ++ m ∷ more) ≡ true → can_start k mark ≡ true
     started k m more is = ap (can_start k) (sym class) ∙ text_class k b (bs ++ m ∷ more) is
 
     longer : NoLonger (b ∷ bs) after
-    longer Sign m more rest split is counted =
-        false≢true (sym (not_true (is_sign ((b ∷ bs) ++ m ∷ [])) (stops_first Sign (b ∷ bs) after m more rest stop split)) ∙ sign_goes_on b bs more m is)
-    longer Ident m more rest split is counted = false≢true (started Ident m more is)
-    longer Word m more rest split is counted = false≢true (started Word m more is)
-    longer Int m more rest split is counted = false≢true (started Int m more is)
-    longer Text m more rest split is counted = false≢true (started Text m more is)
-    longer Line m more rest split is counted = false≢true (started Line m more is)
-    longer Note m more rest split is counted = false≢true (started Note m more is)
+    longer Operator m more rest split is counted =
+        false≢true (sym (not_true (is_sign ((b ∷ bs) ++ m ∷ [])) (stops_first Operator (b ∷ bs) after m more rest stop split)) ∙ sign_goes_on b bs more m is)
+    longer Identifier m more rest split is counted = false≢true (started Identifier m more is)
+    longer Keyword m more rest split is counted = false≢true (started Keyword m more is)
+    longer Integer m more rest split is counted = false≢true (started Integer m more is)
+    longer String m more rest split is counted = false≢true (started String m more is)
+    longer Newline m more rest split is counted = false≢true (started Newline m more is)
+    longer Comment m more rest split is counted = false≢true (started Comment m more is)
     longer Kept m more rest split is counted = false≢true is
 
-pub line_token : (after : List ℕ) → IsToken Line (10 ∷ []) after
-line_token after = free Line 10 [] after refl refl refl longer
+pub line_token : (after : List ℕ) → IsToken Newline (10 ∷ []) after
+line_token after = free Newline 10 [] after refl refl refl longer
   where
     longer : NoLonger (10 ∷ []) after
-    longer Line m more rest split is counted = false≢true is
-    longer Ident m more rest split is counted = false≢true (text_class Ident 10 (m ∷ more) is)
-    longer Word m more rest split is counted = false≢true (text_class Word 10 (m ∷ more) is)
-    longer Int m more rest split is counted = false≢true (text_class Int 10 (m ∷ more) is)
-    longer Text m more rest split is counted = false≢true (text_class Text 10 (m ∷ more) is)
-    longer Sign m more rest split is counted = false≢true (text_class Sign 10 (m ∷ more) is)
-    longer Note m more rest split is counted = false≢true (text_class Note 10 (m ∷ more) is)
+    longer Newline m more rest split is counted = false≢true is
+    longer Identifier m more rest split is counted = false≢true (text_class Identifier 10 (m ∷ more) is)
+    longer Keyword m more rest split is counted = false≢true (text_class Keyword 10 (m ∷ more) is)
+    longer Integer m more rest split is counted = false≢true (text_class Integer 10 (m ∷ more) is)
+    longer String m more rest split is counted = false≢true (text_class String 10 (m ∷ more) is)
+    longer Operator m more rest split is counted = false≢true (text_class Operator 10 (m ∷ more) is)
+    longer Comment m more rest split is counted = false≢true (text_class Comment 10 (m ∷ more) is)
     longer Kept m more rest split is counted = false≢true is
 
 -- the parts of a comment
@@ -300,8 +300,8 @@ blank_end [] (c ∷ more) m h = blank_end [] more c (and_parts (is_blank m) (lis
 blank_end (x ∷ []) more m h = blank_end [] more m h
 blank_end (x ∷ y ∷ xs) more m h = blank_end (y ∷ xs) more m h
 
-pub note_token : (b : ℕ) (bs after : List ℕ) → is_comment (b ∷ bs) ≡ true → list_all is_blank (take (prefix_len (λ c. not (is_newline c)) after) after) ≡ true → IsToken Note (b ∷ bs) after
-note_token b bs after whole stop = free Note b bs after whole (ap (can_start Text) class) (no_digit b hash class refl) longer
+pub note_token : (b : ℕ) (bs after : List ℕ) → is_comment (b ∷ bs) ≡ true → list_all is_blank (take (prefix_len (λ c. not (is_newline c)) after) after) ≡ true → IsToken Comment (b ∷ bs) after
+note_token b bs after whole stop = free Comment b bs after whole (ap (can_start String) class) (no_digit b hash class refl) longer
   where
     class : class_of b ≡ hash
     class = let same : b ≡ 35 = eqb-true b 35 (comment_parts (b ∷ bs) whole).0 in rw same refl
@@ -317,13 +317,13 @@ note_token b bs after whole stop = free Note b bs after whole (ap (can_start Tex
         false≢true (sym parts.2 ∙ blank_end (b ∷ bs) more m blank)
 
     longer : NoLonger (b ∷ bs) after
-    longer Note m more rest split is counted = longer_note m more rest split is
-    longer Ident m more rest split is counted = false≢true (started Ident m more is)
-    longer Word m more rest split is counted = false≢true (started Word m more is)
-    longer Int m more rest split is counted = false≢true (started Int m more is)
-    longer Text m more rest split is counted = false≢true (started Text m more is)
-    longer Sign m more rest split is counted = false≢true (started Sign m more is)
-    longer Line m more rest split is counted = false≢true (started Line m more is)
+    longer Comment m more rest split is counted = longer_note m more rest split is
+    longer Identifier m more rest split is counted = false≢true (started Identifier m more is)
+    longer Keyword m more rest split is counted = false≢true (started Keyword m more is)
+    longer Integer m more rest split is counted = false≢true (started Integer m more is)
+    longer String m more rest split is counted = false≢true (started String m more is)
+    longer Operator m more rest split is counted = false≢true (started Operator m more is)
+    longer Newline m more rest split is counted = false≢true (started Newline m more is)
     longer Kept m more rest split is counted = false≢true is
 
 some_long : (text : List ℕ) (a : Opening) → opening text ≡ Some a → (long : Bool) → (is_long (opening text) || not long) ≡ true → long ≡ true → a.quotes.long ≡ true
@@ -346,13 +346,13 @@ counts_string : (place text : List ℕ) (kind : Kind) (o : Opening) → opening 
 counts_string place text kind o opens counted = and_parts (is_string_kind kind) (is_long (opening text) || not o.quotes.long) (rw (opens, counts) at counted)
 
 only_strings : (kind : Kind) (text : List ℕ) → is_string_kind kind ≡ true → is_text kind text ≡ true → is_string text ≡ true
-only_strings Text text h is = is
-only_strings Ident text h is = absurd (false≢true h)
-only_strings Word text h is = absurd (false≢true h)
-only_strings Int text h is = absurd (false≢true h)
-only_strings Sign text h is = absurd (false≢true h)
-only_strings Line text h is = absurd (false≢true h)
-only_strings Note text h is = absurd (false≢true h)
+only_strings String text h is = is
+only_strings Identifier text h is = absurd (false≢true h)
+only_strings Keyword text h is = absurd (false≢true h)
+only_strings Integer text h is = absurd (false≢true h)
+only_strings Operator text h is = absurd (false≢true h)
+only_strings Newline text h is = absurd (false≢true h)
+only_strings Comment text h is = absurd (false≢true h)
 only_strings Kept text h is = absurd (false≢true h)
 
 -- what closes stands after the opening quotes
@@ -369,7 +369,7 @@ closes_within q n text h =
     drop-all (suc n) (x ∷ xs) h = drop-all n xs (omega arith)
 
 -- a closed string opens the same whatever ends it
-string_place : (text after : List ℕ) (o : Opening) → opening text ≡ Some o → closes o.quotes 0 Unescaped (drop (opening_length o) text) ≡ true → stops_at Text text after ≡ true → opening (text ++ after) ≡ Some o
+string_place : (text after : List ℕ) (o : Opening) → opening text ≡ Some o → closes o.quotes 0 Unescaped (drop (opening_length o) text) ≡ true → stops_at String text after ≡ true → opening (text ++ after) ≡ Some o
 string_place text after o opens closed stop =
     let m = opening_more text after o opens in
     let same : m.more ≡ o = opening_same m.more o m.prefix m.byte (long m.more m.opens m.prefix m.byte m.long) in
@@ -399,15 +399,15 @@ string_place text after o opens closed stop =
       ]
     ]
       where
-        never_third : (xs : List ℕ) → begins (λ b. b == o.quotes.byte) xs ≡ true → o.quotes.long ≡ false → length text ≡ o.prefix + 2 → stops_at Text text xs ≡ true → ⊥
+        never_third : (xs : List ℕ) → begins (λ b. b == o.quotes.byte) xs ≡ true → o.quotes.long ≡ false → length text ≡ o.prefix + 2 → stops_at String text xs ≡ true → ⊥
         never_third [] first short size stop = false≢true first
         never_third (x ∷ xs) first short size stop =
             let here = (Decides-eqb (length text) (o.prefix + 2)).1 size in
             let empty : is_empty_string (opening text) text x ≡ true = ap (λ y. is_empty_string y text x) opens ∙ rw (short, here, first) refl in
             false≢true (sym (rw empty refl) ∙ stop)
 
-pub string_token_at : (text after : List ℕ) (o : Opening) → opening text ≡ Some o → opening (text ++ after) ≡ Some o → closes o.quotes 0 Unescaped (drop (opening_length o) text) ≡ true → IsToken Text text after
-string_token_at text after o opens place closed = token_from Text text after whole counted longer
+pub string_token_at : (text after : List ℕ) (o : Opening) → opening text ≡ Some o → opening (text ++ after) ≡ Some o → closes o.quotes 0 Unescaped (drop (opening_length o) text) ≡ true → IsToken String text after
+string_token_at text after o opens place closed = token_from String text after whole counted longer
   where
     whole : is_string text ≡ true
     whole = rw (opens, is_closed) (sym (closes_units o.quotes (drop (opening_length o) text) (opening_facts text o opens).quoted) ∙ closed)
@@ -416,7 +416,7 @@ string_token_at text after o opens place closed = token_from Text text after who
     long_or_not true = refl
     long_or_not false = refl
 
-    counted : counts (text ++ after) Text text ≡ true
+    counted : counts (text ++ after) String text ≡ true
     counted = rw (place, counts) (ap (λ x. is_long x || not o.quotes.long) opens ∙ long_or_not o.quotes.long)
 
     longer : NoLonger text after
@@ -429,7 +429,7 @@ string_token_at text after o opens place closed = token_from Text text after who
         closes_once o.quotes 0 Unescaped (drop (opening_length o) text) more m closed
         (ap (closes o.quotes 0 Unescaped) (sym (drop-append-le (opening_length o) text (m ∷ more) (omega (arith, within)))) ∙ again)
 
-pub string_token : (text after : List ℕ) (o : Opening) → opening text ≡ Some o → closes o.quotes 0 Unescaped (drop (opening_length o) text) ≡ true → stops_at Text text after ≡ true → IsToken Text text after
+pub string_token : (text after : List ℕ) (o : Opening) → opening text ≡ Some o → closes o.quotes 0 Unescaped (drop (opening_length o) text) ≡ true → stops_at String text after ≡ true → IsToken String text after
 string_token text after o opens closed stop = string_token_at text after o opens (string_place text after o opens closed stop) closed
 
 -- where a string opens that no front closes there is no token
@@ -444,19 +444,19 @@ open_string place o opens never kind text rest split is counted =
     false≢true (sym (never n) ∙ ap (closes o.quotes 0 Unescaped) front ∙ closed)
 
 only_numbers : (kind : Kind) (text : List ℕ) → is_number_kind kind ≡ true → is_text kind text ≡ true → is_number text ≡ true
-only_numbers Int text h is = is
-only_numbers Ident text h is = absurd (false≢true h)
-only_numbers Word text h is = absurd (false≢true h)
-only_numbers Text text h is = absurd (false≢true h)
-only_numbers Sign text h is = absurd (false≢true h)
-only_numbers Line text h is = absurd (false≢true h)
-only_numbers Note text h is = absurd (false≢true h)
+only_numbers Integer text h is = is
+only_numbers Identifier text h is = absurd (false≢true h)
+only_numbers Keyword text h is = absurd (false≢true h)
+only_numbers String text h is = absurd (false≢true h)
+only_numbers Operator text h is = absurd (false≢true h)
+only_numbers Newline text h is = absurd (false≢true h)
+only_numbers Comment text h is = absurd (false≢true h)
 only_numbers Kept text h is = absurd (false≢true h)
 
 -- at a digit where the whole run is no number there is no token
 pub bad_number : (b : ℕ) (bs : List ℕ) → is_ascii_digit b ≡ true → is_number (take (prefix_len is_word_byte (b ∷ bs)) (b ∷ bs)) ≡ false → HasNoToken (b ∷ bs)
 bad_number b bs first bad kind text rest split is counted =
-    let unquoted = no_opening b bs (ap (can_start Text) (digit_class b first)) in
+    let unquoted = no_opening b bs (ap (can_start String) (digit_class b first)) in
     let test = and_parts (is_number_kind kind) (length text == prefix_len is_word_byte (b ∷ bs)) (rw (unquoted, first, counts) at counted) in
     let same : length text ≡ prefix_len is_word_byte (b ∷ bs) = eqb-true _ _ test.1 in
     let front : take (prefix_len is_word_byte (b ∷ bs)) (b ∷ bs) ≡ text = ap (take (prefix_len is_word_byte (b ∷ bs))) split ∙ take_at text rest (prefix_len is_word_byte (b ∷ bs)) same in
@@ -471,11 +471,11 @@ bad_byte b bs none never kind (x ∷ text) rest split is counted =
     never kind text rest again (ap (λ y. is_text kind (y ∷ text)) (sym same) ∙ is)
 
 -- at a byte of no class, or one of a sign where no sign stands
-pub no_sign : (b : ℕ) (bs : List ℕ) → (c : Class) → class_of b ≡ c → ((kind : Kind) → can_start kind c ≡ true → kind ≡ Sign) → ((n : ℕ) → is_sign (take n (b ∷ bs)) ≡ false) → HasNoToken (b ∷ bs)
+pub no_sign : (b : ℕ) (bs : List ℕ) → (c : Class) → class_of b ≡ c → ((kind : Kind) → can_start kind c ≡ true → kind ≡ Operator) → ((n : ℕ) → is_sign (take n (b ∷ bs)) ≡ false) → HasNoToken (b ∷ bs)
 no_sign b bs c is only none = bad_byte b bs empty_no_text never
   where
     never : (kind : Kind) (text rest : List ℕ) → b ∷ bs ≡ (b ∷ text) ++ rest → is_text kind (b ∷ text) ≡ true → ⊥
     never kind text rest split whole =
-        let sign : kind ≡ Sign = only kind (ap (can_start kind) (sym is) ∙ text_class kind b text whole) in
+        let sign : kind ≡ Operator = only kind (ap (can_start kind) (sym is) ∙ text_class kind b text whole) in
         let front : take (length (b ∷ text)) (b ∷ bs) ≡ b ∷ text = ap (take (length (b ∷ text))) split ∙ take_at (b ∷ text) rest (length (b ∷ text)) refl in
         false≢true (sym (none (length (b ∷ text))) ∙ ap is_sign front ∙ subst (λ k. is_text k (b ∷ text) ≡ true) sign whole)

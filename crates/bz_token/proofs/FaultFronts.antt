@@ -6,7 +6,7 @@ use Rattle.std.specs.Char.{is_ascii_digit}
 use Rattle.std.proofs.lemmas.Bool.{cases_Bool, cases_lt, and_parts, or_cases, false≢true, eqb-true}
 use Rattle.std.proofs.lemmas.Bool.Decides.{nat_tests}
 use Rattle.bz_token.specs.declared.token.Kind.{Kind}
-use Rattle.bz_token.specs.declared.token.Kind.TheVariants.{Ident, Word, Int, Text, Sign, Line, Note, Kept}
+use Rattle.bz_token.specs.declared.token.Kind.TheVariants.{Identifier, Keyword, Integer, String, Operator, Newline, Comment, Kept}
 use Rattle.bz_token.specs.declared.scan_string.Opening.{Opening}
 use Rattle.bz_token.specs.Pieces.{is_quote}
 use Rattle.bz_token.specs.Lexical.{is_word_byte, is_newline, begins, opens_after, opening, is_name, is_keyword, is_string, is_text, is_long, is_string_kind, is_number_kind, counts, HasNoToken}
@@ -127,21 +127,21 @@ all_no_newline p none (x ∷ xs) all h =
 
 -- only strings and Line tokens hold newlines
 newline_text : (kind : Kind) (text : List ℕ) → is_text kind text ≡ true → has_newline text ≡ true → (is_string text ≡ true → ⊥) → text ≡ 10 ∷ []
-newline_text Ident text is h none = absurd (in_name text (and_parts (is_name text) (not (is_keyword text)) is).0 h)
+newline_text Identifier text is h none = absurd (in_name text (and_parts (is_name text) (not (is_keyword text)) is).0 h)
   where
     in_name : (text : List ℕ) → is_name text ≡ true → has_newline text ≡ true → ⊥
     in_name [] name h = false≢true h
     in_name (b ∷ bs) name h = all_no_newline is_word_byte word_no_newline (b ∷ bs) (and_parts (not (is_ascii_digit b)) (list_all is_word_byte (b ∷ bs)) name).1 h
-newline_text Word text is h none = absurd (in_name text (keyword_name text is) h)
+newline_text Keyword text is h none = absurd (in_name text (keyword_name text is) h)
   where
     in_name : (text : List ℕ) → is_name text ≡ true → has_newline text ≡ true → ⊥
     in_name [] name h = false≢true h
     in_name (b ∷ bs) name h = all_no_newline is_word_byte word_no_newline (b ∷ bs) (and_parts (not (is_ascii_digit b)) (list_all is_word_byte (b ∷ bs)) name).1 h
-newline_text Int text is h none = absurd (all_no_newline is_word_byte word_no_newline text (number_words text is) h)
-newline_text Text text is h none = absurd (none is)
-newline_text Sign text is h none = absurd (all_no_newline is_sign_plain sign_no_newline text (and_parts (list_all is_sign_plain text) _ (sign_plain text is)).0 h)
-newline_text Line text is h none = same_bytes text (10 ∷ []) is
-newline_text Note text is h none = absurd (false≢true (sym (comment_parts text is).1 ∙ h))
+newline_text Integer text is h none = absurd (all_no_newline is_word_byte word_no_newline text (number_words text is) h)
+newline_text String text is h none = absurd (none is)
+newline_text Operator text is h none = absurd (all_no_newline is_sign_plain sign_no_newline text (and_parts (list_all is_sign_plain text) _ (sign_plain text is)).0 h)
+newline_text Newline text is h none = same_bytes text (10 ∷ []) is
+newline_text Comment text is h none = absurd (false≢true (sym (comment_parts text is).1 ∙ h))
 newline_text Kept text is h none = absurd (false≢true is)
 
 some_bytes : (xs : List ℕ) → has_newline xs ≡ true → 0 < length xs

@@ -3,7 +3,7 @@ use Rattle.std.proofs.Common.{◌≡◌, ℕ, List, [], ◌∷◌, ◌++◌, tru
 use Rattle.std.specs.List.{list_all, list_any}
 use Rattle.std.proofs.lemmas.Bool.{false≢true}
 use Rattle.bz_token.specs.declared.token.Kind.{Kind}
-use Rattle.bz_token.specs.declared.token.Kind.TheVariants.{Ident, Word, Int, Text, Sign, Line, Note, Kept}
+use Rattle.bz_token.specs.declared.token.Kind.TheVariants.{Identifier, Keyword, Integer, String, Operator, Newline, Comment, Kept}
 use Rattle.bz_token.specs.Lexical.{is_newline, is_blank, is_text, IsToken}
 use Rattle.bz_token.specs.Ends.{ends, stops_at}
 use Rattle.bz_token.specs.Brackets.{is_line, fits, open_after_token}
@@ -20,13 +20,13 @@ first_less kind text (c ∷ cs) b stop = stop
 
 -- what ends a text before a line's end ends it, whatever followed
 ends_less : (kind : Kind) (text after b : List ℕ) → list_any is_newline after ≡ true → ends kind text (after ++ b) ≡ true → ends kind text after ≡ true
-ends_less Note text after b h stop = ap (list_all is_blank) (sym (note_more after b h)) ∙ stop
-ends_less Ident text after b h stop = first_less Ident text after b stop
-ends_less Word text after b h stop = first_less Word text after b stop
-ends_less Int text after b h stop = first_less Int text after b stop
-ends_less Text text after b h stop = first_less Text text after b stop
-ends_less Sign text after b h stop = first_less Sign text after b stop
-ends_less Line text after b h stop = first_less Line text after b stop
+ends_less Comment text after b h stop = ap (list_all is_blank) (sym (note_more after b h)) ∙ stop
+ends_less Identifier text after b h stop = first_less Identifier text after b stop
+ends_less Keyword text after b h stop = first_less Keyword text after b stop
+ends_less Integer text after b h stop = first_less Integer text after b stop
+ends_less String text after b h stop = first_less String text after b stop
+ends_less Operator text after b h stop = first_less Operator text after b stop
+ends_less Newline text after b h stop = first_less Newline text after b stop
 ends_less Kept text after b h stop = first_less Kept text after b stop
 
 token_less : (kind : Kind) (text after b : List ℕ) → IsToken kind text (after ++ b) → list_any is_newline after ≡ true → IsToken kind text after
@@ -35,7 +35,7 @@ token_less kind text after b token h = token_ended kind text after token.whole (
 pub lines_reading : (depth : ℕ) (opened : List ℕ) (ps : List Piece) (s bytes : List ℕ) → IsReading depth opened ps s bytes → ends_in_line ps ≡ true → IsReading depth opened ps [] (bytes_of ps)
 lines_reading depth opened [] s bytes r last = refl
 lines_reading depth opened (p ∷ []) s bytes r last =
-    let token : IsToken p.kind p.text [] = subst (λ k. IsToken k p.text []) (sym (line_kind p.kind last)) (subst (λ t. IsToken Line t []) (sym (line_text p.kind p.text last r.1.token.whole)) (line_token [])) in
+    let token : IsToken p.kind p.text [] = subst (λ k. IsToken k p.text []) (sym (line_kind p.kind last)) (subst (λ t. IsToken Newline t []) (sym (line_text p.kind p.text last r.1.token.whole)) (line_token [])) in
     ([], record { bytes_are = refl; gap = r.1.gap; token = token; fits = r.1.fits }, refl)
 lines_reading depth opened (p ∷ q ∷ ps) s bytes r last =
     let opened' = open_after_token opened p.text in
@@ -49,9 +49,9 @@ lines_reading depth opened (p ∷ q ∷ ps) s bytes r last =
 newline_closes : (depth : ℕ) (opened : List ℕ) (kind : Kind) (text : List ℕ) → is_line kind ≡ true → is_text kind text ≡ true → fits depth opened kind text ≡ true → open_after_token opened text ≡ []
 newline_closes depth opened kind text line is fit =
     let bare = line_text kind text line is in
-    by opened bare (subst (λ t. fits depth opened Line t ≡ true) bare (subst (λ k. fits depth opened k text ≡ true) (line_kind kind line) fit))
+    by opened bare (subst (λ t. fits depth opened Newline t ≡ true) bare (subst (λ k. fits depth opened k text ≡ true) (line_kind kind line) fit))
   where
-    by : (opened : List ℕ) → text ≡ 10 ∷ [] → fits depth opened Line (10 ∷ []) ≡ true → open_after_token opened text ≡ []
+    by : (opened : List ℕ) → text ≡ 10 ∷ [] → fits depth opened Newline (10 ∷ []) ≡ true → open_after_token opened text ≡ []
     by [] bare fit = ap (open_after_token []) bare
     by (a ∷ opened) bare fit = absurd (false≢true fit)
 

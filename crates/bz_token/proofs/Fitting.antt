@@ -2,7 +2,7 @@
 use Rattle.std.proofs.Common.{◌≡◌, ℕ, zero, suc, ◌<◌, ◌≤◌, ◌==◌, ◌&&◌, ◌||◌, List, [], ◌∷◌, ◌++◌, length, take, get_or, Bool, true, false, not, refl, sym, ap, subst, ◌∙◌, arith, inl, inr}
 use Rattle.std.proofs.lemmas.Bool.{cases_Bool, or_cases, false≢true, eqb-true}
 use Rattle.bz_token.specs.declared.token.Kind.{Kind}
-use Rattle.bz_token.specs.declared.token.Kind.TheVariants.{Ident, Word, Int, Text, Sign, Line, Note, Kept}
+use Rattle.bz_token.specs.declared.token.Kind.TheVariants.{Identifier, Keyword, Integer, String, Operator, Newline, Comment, Kept}
 use Rattle.bz_token.specs.Lexical.{signs, is_sign, is_text}
 use Rattle.bz_token.specs.Brackets.{is_inside, is_opening_bracket, is_closing_bracket, is_line, bracket_fits, fits, open_after_byte, open_after_token}
 use Rattle.bz_token.specs.Reading.{begins_gap, is_white, continues}
@@ -53,7 +53,7 @@ pub no_bracket : (kind : Kind) (b c : ℕ) (bs : List ℕ) → is_text kind (b �
 no_bracket kind b c bs is = elim (cases_Bool (is_bracket_byte b)) [
   | inr miss ↦ miss
   | inl hit ↦
-      let sign : kind ≡ Sign = marks kind (ap (can_start kind) (sym (bracket_class b hit)) ∙ text_class kind b (c ∷ bs) is) in
+      let sign : kind ≡ Operator = marks kind (ap (can_start kind) (sym (bracket_class b hit)) ∙ text_class kind b (c ∷ bs) is) in
       absurd (false≢true (sym (ap not hit) ∙ sign_alone (b ∷ c ∷ bs) (subst (λ k. is_text k (b ∷ c ∷ bs) ≡ true) sign is)))
 ]
 
@@ -84,16 +84,16 @@ fits_first depth kind opened b [] following is gap fit = both _ _ (outside kind 
     newline (a ∷ opened) same none = absurd (false≢true (sym none ∙ rw same refl))
 
     outside : (kind : Kind) → is_text kind (b ∷ []) ≡ true → not (is_line kind && is_inside opened) ≡ true
-    outside Line is = newline opened (first_same (same_bytes (b ∷ []) (10 ∷ []) is)) (or_none (is_white (is_inside opened) b) (continues (b ∷ following)) gap).0
+    outside Newline is = newline opened (first_same (same_bytes (b ∷ []) (10 ∷ []) is)) (or_none (is_white (is_inside opened) b) (continues (b ∷ following)) gap).0
       where
         first_same : b ∷ [] ≡ 10 ∷ [] → b ≡ 10
         first_same e = cc
-    outside Ident is = refl
-    outside Word is = refl
-    outside Int is = refl
-    outside Text is = refl
-    outside Sign is = refl
-    outside Note is = refl
+    outside Identifier is = refl
+    outside Keyword is = refl
+    outside Integer is = refl
+    outside String is = refl
+    outside Operator is = refl
+    outside Comment is = refl
     outside Kept is = refl
 
 -- the same of the front of some bytes

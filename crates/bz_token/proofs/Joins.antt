@@ -6,7 +6,7 @@ use Rattle.std.proofs.lemmas.Bool.{cases_Bool, and_parts, false≢true}
 use Rattle.std.proofs.lemmas.Bool.Decides.{nat_tests}
 use Rattle.std.proofs.lemmas.List.Folds.{list_any-append}
 use Rattle.bz_token.specs.declared.token.Kind.{Kind}
-use Rattle.bz_token.specs.declared.token.Kind.TheVariants.{Ident, Word, Int, Text, Sign, Line, Note, Kept}
+use Rattle.bz_token.specs.declared.token.Kind.TheVariants.{Identifier, Keyword, Integer, String, Operator, Newline, Comment, Kept}
 use Rattle.bz_token.specs.Places.{Placed, line_at, column_from, column_at}
 use Rattle.bz_token.specs.Lexical.{is_newline, is_blank, is_text, IsToken}
 use Rattle.bz_token.specs.Ends.{ends, stops_at}
@@ -34,26 +34,26 @@ first_more kind text (c ∷ cs) b h stop = stop
 
 -- what ends a text before a line's end ends it, whatever follows
 ends_more : (kind : Kind) (text after b : List ℕ) → list_any is_newline after ≡ true → ends kind text after ≡ true → ends kind text (after ++ b) ≡ true
-ends_more Note text after b h stop = ap (list_all is_blank) (note_more after b h) ∙ stop
-ends_more Ident text after b h stop = first_more Ident text after b h stop
-ends_more Word text after b h stop = first_more Word text after b h stop
-ends_more Int text after b h stop = first_more Int text after b h stop
-ends_more Text text after b h stop = first_more Text text after b h stop
-ends_more Sign text after b h stop = first_more Sign text after b h stop
-ends_more Line text after b h stop = first_more Line text after b h stop
+ends_more Comment text after b h stop = ap (list_all is_blank) (note_more after b h) ∙ stop
+ends_more Identifier text after b h stop = first_more Identifier text after b h stop
+ends_more Keyword text after b h stop = first_more Keyword text after b h stop
+ends_more Integer text after b h stop = first_more Integer text after b h stop
+ends_more String text after b h stop = first_more String text after b h stop
+ends_more Operator text after b h stop = first_more Operator text after b h stop
+ends_more Newline text after b h stop = first_more Newline text after b h stop
 ends_more Kept text after b h stop = first_more Kept text after b h stop
 
 pub token_more : (kind : Kind) (text after b : List ℕ) → IsToken kind text after → list_any is_newline after ≡ true → IsToken kind text (after ++ b)
 token_more kind text after b token h = token_ended kind text (after ++ b) token.whole (ends_more kind text after b h (token_ends kind text after token))
 
-pub line_kind : (kind : Kind) → is_line kind ≡ true → kind ≡ Line
-line_kind Line h = refl
-line_kind Ident h = absurd (false≢true h)
-line_kind Word h = absurd (false≢true h)
-line_kind Int h = absurd (false≢true h)
-line_kind Text h = absurd (false≢true h)
-line_kind Sign h = absurd (false≢true h)
-line_kind Note h = absurd (false≢true h)
+pub line_kind : (kind : Kind) → is_line kind ≡ true → kind ≡ Newline
+line_kind Newline h = refl
+line_kind Identifier h = absurd (false≢true h)
+line_kind Keyword h = absurd (false≢true h)
+line_kind Integer h = absurd (false≢true h)
+line_kind String h = absurd (false≢true h)
+line_kind Operator h = absurd (false≢true h)
+line_kind Comment h = absurd (false≢true h)
 line_kind Kept h = absurd (false≢true h)
 
 pub line_text : (kind : Kind) (text : List ℕ) → is_line kind ≡ true → is_text kind text ≡ true → text ≡ 10 ∷ []
@@ -88,7 +88,7 @@ piece_more depth opened p bytes after b piece token = record {
 pub join_reading : (depth : ℕ) (opened : List ℕ) (ps qs : List Piece) (a b s : List ℕ) → IsReading depth opened ps [] a → ends_in_line ps ≡ true → IsReading depth (open_after opened ps) qs s b → IsReading depth opened (ps ++ qs) s (a ++ b)
 join_reading depth opened [] qs a b s r line more = subst (λ x. IsReading depth opened qs s (x ++ b)) (sym r) more
 join_reading depth opened (p ∷ []) qs a b s r line more =
-    let token : IsToken p.kind p.text (r.0 ++ b) = subst (λ k. IsToken k p.text (r.0 ++ b)) (sym (line_kind p.kind line)) (subst (λ t. IsToken Line t (r.0 ++ b)) (sym (line_text p.kind p.text line r.1.token.whole)) (line_token (r.0 ++ b))) in
+    let token : IsToken p.kind p.text (r.0 ++ b) = subst (λ k. IsToken k p.text (r.0 ++ b)) (sym (line_kind p.kind line)) (subst (λ t. IsToken Newline t (r.0 ++ b)) (sym (line_text p.kind p.text line r.1.token.whole)) (line_token (r.0 ++ b))) in
     (r.0 ++ b, piece_more depth opened p a r.0 b r.1 token, subst (λ x. IsReading depth (open_after_token opened p.text) qs s (x ++ b)) (sym r.2) more)
 join_reading depth opened (p ∷ q ∷ ps) qs a b s r line more =
     let whole = reading_bytes depth (open_after_token opened p.text) (q ∷ ps) [] r.0 r.2 ∙ append-nil (bytes_of (q ∷ ps)) in

@@ -5,7 +5,7 @@ use Rattle.std.specs.List.{list_any}
 use Rattle.std.specs.Str.{IsCharBoundary}
 use Rattle.std.proofs.lemmas.List.Folds.{list_any-append}
 use Rattle.bz_token.specs.declared.token.Kind.{Kind}
-use Rattle.bz_token.specs.declared.token.Kind.TheVariants.{Ident, Word, Int, Text, Sign, Line, Note, Kept}
+use Rattle.bz_token.specs.declared.token.Kind.TheVariants.{Identifier, Keyword, Integer, String, Operator, Newline, Comment, Kept}
 use Rattle.bz_token.specs.declared.token.Token.{Token}
 use Rattle.bz_token.specs.declared.chunk.LineEnd.TheVariants.{Joins, Ends}
 use Rattle.bz_token.specs.declared.chunk.FirstChunk.{FirstChunk}
@@ -42,7 +42,7 @@ no_newline : (ps : List Piece) (p : Piece) → list_any is_newline_piece ps ≡ 
 no_newline ps p none h = list_any-append is_newline_piece ps (p ∷ []) ∙ rw (none, h) refl
 
 -- after a gap, or a token within the line
-pub stays : (first depth : ℕ) (bytes : List ℕ) (before lexer : Lexer) (old spot : Spot) (start : ℕ) (kind : Option Kind) (i : IsInLine first depth bytes before old start) (r : HasRead first depth bytes [] lexer spot) → Grows kind i.read.pieces r.pieces r.gap → (kind ≡ Some Line → ⊥)
+pub stays : (first depth : ℕ) (bytes : List ℕ) (before lexer : Lexer) (old spot : Spot) (start : ℕ) (kind : Option Kind) (i : IsInLine first depth bytes before old start) (r : HasRead first depth bytes [] lexer spot) → Grows kind i.read.pieces r.pieces r.gap → (kind ≡ Some Newline → ⊥)
     → IsInLine first depth bytes lexer spot start
 stays first depth bytes before lexer old spot start None i r grows other =
     record { read = r; done = i.done; line = i.line; pieces_are = grows ∙ i.pieces_are; ended = i.ended; comments = i.comments; none = i.none; start_is = i.start_is }
@@ -58,28 +58,28 @@ stays first depth bytes before lexer old spot start (Some kind) i r grows other 
       start_is = i.start_is;
     }
   where
-    is_kind : (kind : Kind) → (is_line kind ≡ false) ⊎ (kind ≡ Line)
-    is_kind Line = inr refl
-    is_kind Ident = inl refl
-    is_kind Word = inl refl
-    is_kind Int = inl refl
-    is_kind Text = inl refl
-    is_kind Sign = inl refl
-    is_kind Note = inl refl
+    is_kind : (kind : Kind) → (is_line kind ≡ false) ⊎ (kind ≡ Newline)
+    is_kind Newline = inr refl
+    is_kind Identifier = inl refl
+    is_kind Keyword = inl refl
+    is_kind Integer = inl refl
+    is_kind String = inl refl
+    is_kind Operator = inl refl
+    is_kind Comment = inl refl
     is_kind Kept = inl refl
 
-    no_line : (kind found : Kind) → found ≡ kind → (Some kind ≡ Some Line → ⊥) → is_line found ≡ false
+    no_line : (kind found : Kind) → found ≡ kind → (Some kind ≡ Some Newline → ⊥) → is_line found ≡ false
     no_line kind found same other = elim (is_kind found) [
       | inl none ↦ none
       | inr is ↦ absurd (other (ap (λ k. Some k) (sym same ∙ is)))
     ]
 
 -- after the newline of a line
-pub line_read : (first depth : ℕ) (bytes : List ℕ) (before lexer : Lexer) (old spot : Spot) (start : ℕ) (kind : Option Kind) (i : IsInLine first depth bytes before old start) (r : HasRead first depth bytes [] lexer spot) → Grows kind i.read.pieces r.pieces r.gap → kind ≡ Some Line
+pub line_read : (first depth : ℕ) (bytes : List ℕ) (before lexer : Lexer) (old spot : Spot) (start : ℕ) (kind : Option Kind) (i : IsInLine first depth bytes before old start) (r : HasRead first depth bytes [] lexer spot) → Grows kind i.read.pieces r.pieces r.gap → kind ≡ Some Newline
     → IsAfterLine first depth bytes lexer spot start
 line_read first depth bytes before lexer old spot start kind i r grows is = by (subst (λ k. Grows k i.read.pieces r.pieces r.gap) is grows)
   where
-    by : Grows (Some Line) i.read.pieces r.pieces r.gap → IsAfterLine first depth bytes lexer spot start
+    by : Grows (Some Newline) i.read.pieces r.pieces r.gap → IsAfterLine first depth bytes lexer spot start
     by (p, pieces, kind, gap) = record {
       read = r;
       done = i.done;

@@ -8,7 +8,7 @@ use Rattle.bz_token.specs.declared.fault.LexFault.{LexFault}
 use Rattle.bz_token.specs.declared.fault.LexFault.TheVariants as faults
 use Rattle.bz_token.specs.declared.scan_string.Opening.{Opening}
 use Rattle.bz_token.specs.declared.token.Kind.{Kind}
-use Rattle.bz_token.specs.declared.token.Kind.TheVariants.{Ident, Word, Int, Text, Sign, Line, Note, Kept}
+use Rattle.bz_token.specs.declared.token.Kind.TheVariants.{Identifier, Keyword, Integer, String, Operator, Newline, Comment, Kept}
 use Rattle.bz_token.specs.Places.{Placed, line_at, column_at}
 use Rattle.bz_token.specs.Lexical.{begins, is_sign, signs, opening, counts, IsToken, HasNoToken}
 use Rattle.bz_token.specs.Brackets.{is_inside, is_opening_bracket, is_closing_bracket, closes_innermost, bracket_fits, fits, open_tokens}
@@ -80,13 +80,13 @@ pub open_text_sort : (depth : ℕ) (opened place : List ℕ) → IsOpenText plac
 open_text_sort depth opened [] bad = absurd (false≢true bad.quoted)
 open_text_sort depth opened (b ∷ bs) bad = record { some = omega arith; sort_is = let q = bad.quoted in rw q refl; never = no_token_fits depth opened (b ∷ bs) bad.none }
 
-unopened : (b : ℕ) (bs : List ℕ) → can_start Text (class_of b) ≡ false → is_some (opening (b ∷ bs)) ≡ false
+unopened : (b : ℕ) (bs : List ℕ) → can_start String (class_of b) ≡ false → is_some (opening (b ∷ bs)) ≡ false
 unopened b bs none = ap is_some (no_opening b bs none)
 
 pub number_sort : (depth : ℕ) (opened place : List ℕ) → IsBadNumber place → IsBadSort depth opened place bad_number
 number_sort depth opened [] bad = absurd (false≢true bad.digit)
 number_sort depth opened (b ∷ bs) bad =
-    let unquoted = unopened b bs (ap (can_start Text) (digit_class b bad.digit)) in
+    let unquoted = unopened b bs (ap (can_start String) (digit_class b bad.digit)) in
     let d = bad.digit in
     record { some = omega arith; sort_is = rw (unquoted, d) refl; never = no_token_fits depth opened (b ∷ bs) bad.none }
 
@@ -94,20 +94,20 @@ backslash_class : (b : ℕ) → (b == 92) ≡ true → class_of b ≡ unknown
 backslash_class b h = let same : b ≡ 92 = eqb-true b 92 h in rw same refl
 
 nothing_unknown : (kind : Kind) → can_start kind unknown ≡ true → ⊥
-nothing_unknown Ident h = false≢true h
-nothing_unknown Word h = false≢true h
-nothing_unknown Int h = false≢true h
-nothing_unknown Text h = false≢true h
-nothing_unknown Sign h = false≢true h
-nothing_unknown Line h = false≢true h
-nothing_unknown Note h = false≢true h
+nothing_unknown Identifier h = false≢true h
+nothing_unknown Keyword h = false≢true h
+nothing_unknown Integer h = false≢true h
+nothing_unknown String h = false≢true h
+nothing_unknown Operator h = false≢true h
+nothing_unknown Newline h = false≢true h
+nothing_unknown Comment h = false≢true h
 nothing_unknown Kept h = false≢true h
 
 pub backslash_sort : (depth : ℕ) (opened place : List ℕ) → IsBadBackslash place → IsBadSort depth opened place bad_backslash
 backslash_sort depth opened [] bad = absurd (false≢true bad)
 backslash_sort depth opened (b ∷ bs) bad =
     let class = backslash_class b bad in
-    let unquoted = unopened b bs (ap (can_start Text) class) in
+    let unquoted = unopened b bs (ap (can_start String) class) in
     let plain = no_digit b unknown class refl in
     record { some = omega arith; sort_is = rw (unquoted, plain, bad) refl; never = never }
   where
@@ -121,7 +121,7 @@ backslash_sort depth opened (b ∷ bs) bad =
 bracket_parts : (b : ℕ) (bs : List ℕ) → is_bracket_byte b ≡ true → (is_some (opening (b ∷ bs)) ≡ false) × (is_ascii_digit b ≡ false) × ((b == 92) ≡ false)
 bracket_parts b bs h =
     let class = bracket_class b h in
-    (unopened b bs (ap (can_start Text) class), no_digit b mark class refl, no_slash class)
+    (unopened b bs (ap (can_start String) class), no_digit b mark class refl, no_slash class)
   where
     no_slash : class_of b ≡ mark → (b == 92) ≡ false
     no_slash class = elim (cases_Bool (b == 92)) [
@@ -222,7 +222,7 @@ character_sort depth opened (b ∷ bs) bad =
     no_brackets : (is_opening_bracket b ≡ false) × (is_closing_bracket b ≡ false)
     no_brackets = elim (cases_Bool (is_bracket_byte b)) [
       | inr miss ↦ or_none (is_opening_bracket b) (is_closing_bracket b) miss
-      | inl hit ↦ absurd (bad.none Sign (b ∷ []) bs refl (bracket_sign b hit) (counts_free (b ∷ bs) (b ∷ []) Sign (none_of (opening (b ∷ bs)) bad.unquoted) bad.no_digit))
+      | inl hit ↦ absurd (bad.none Operator (b ∷ []) bs refl (bracket_sign b hit) (counts_free (b ∷ bs) (b ∷ []) Operator (none_of (opening (b ∷ bs)) bad.unquoted) bad.no_digit))
     ]
 
 pub told_at : (first depth : ℕ) (bytes : List ℕ) (IsBad : List ℕ → List ℕ → Type 0) (line col : ℕ) (sort : Sort) → ((opened place : List ℕ) → IsBad opened place → IsBadSort depth opened place sort) → IsFaultAt first depth bytes IsBad line col → IsToldAt first depth bytes (told sort line col)

@@ -10,7 +10,7 @@ use Rattle.bz_token.specs.declared.scan_string.Opening.{Opening}
 use Rattle.bz_token.specs.declared.scan_string.Quotes.{Quotes}
 use Rattle.bz_token.specs.declared.scan_string.Escape.{Escape}
 use Rattle.bz_token.specs.declared.scan_string.Escape.TheVariants.{Unescaped}
-use Rattle.bz_token.specs.declared.token.Kind.TheVariants.{Text}
+use Rattle.bz_token.specs.declared.token.Kind.TheVariants.{String}
 use Rattle.bz_token.specs.Pieces.{is_quote}
 use Rattle.bz_token.specs.Lexical.{is_word_byte, closing_row, are_two, opens_after, prefix_letters, opening, opening_length, is_empty, is_newline, begins}
 use Rattle.bz_token.specs.private.Closing.{is_escaped, escape_after, closes}
@@ -192,7 +192,7 @@ name_opening a bs after word words ends =
         ]
 
 -- no string opens at a byte of a class that begins none
-pub no_opening : (x : ℕ) (text : List ℕ) → can_start Text (class_of x) ≡ false → opening (x ∷ text) ≡ None
+pub no_opening : (x : ℕ) (text : List ℕ) → can_start String (class_of x) ≡ false → opening (x ∷ text) ≡ None
 no_opening x text never = none_of (opening (x ∷ text)) (λ is. false≢true (sym never ∙ opening_starts x text is))
   where
     none_of : (o : Option Opening) → (is_some o ≡ true → ⊥) → o ≡ None

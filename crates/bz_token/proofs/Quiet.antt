@@ -5,7 +5,7 @@ use Rattle.std.specs.Char.{is_ascii_digit}
 use Rattle.std.proofs.lemmas.Bool.{cases_Bool, and_parts, false≢true}
 use Rattle.std.proofs.lemmas.Bool.Decides.{nat_tests}
 use Rattle.bz_token.specs.declared.token.Kind.{Kind}
-use Rattle.bz_token.specs.declared.token.Kind.TheVariants.{Ident, Word, Int, Text, Sign, Line, Note as NoteToken, Kept}
+use Rattle.bz_token.specs.declared.token.Kind.TheVariants.{Identifier, Keyword, Integer, String, Operator, Newline, Comment as CommentToken, Kept}
 use Rattle.bz_token.specs.declared.cutter.scan.LineKind.{LineKind}
 use Rattle.bz_token.specs.declared.cutter.scan.LineKind.TheVariants.{Statement}
 use Rattle.bz_token.specs.declared.cutter.scan.Inside.{Inside}
@@ -129,20 +129,20 @@ name_no_newline (b ∷ bs) name = all_no_newline is_word_byte word_no_newline (b
 
 -- names, keywords, numbers and signs hold no newline
 abbrev pub is_short_kind : Kind → Bool
-is_short_kind Ident = true
-is_short_kind Word = true
-is_short_kind Int = true
-is_short_kind Sign = true
+is_short_kind Identifier = true
+is_short_kind Keyword = true
+is_short_kind Integer = true
+is_short_kind Operator = true
 is_short_kind _ = false
 
 pub short_no_newline : (kind : Kind) (text : List ℕ) → is_short_kind kind ≡ true → is_text kind text ≡ true → has_newline text ≡ false
-short_no_newline Ident text short is = name_no_newline text (and_parts (is_name text) (not (is_keyword text)) is).0
-short_no_newline Word text short is = name_no_newline text (keyword_name text is)
-short_no_newline Int text short is = all_no_newline is_word_byte word_no_newline text (number_words text is)
-short_no_newline Sign text short is = all_no_newline is_sign_plain sign_no_newline text (and_parts (list_all is_sign_plain text) _ (sign_plain text is)).0
-short_no_newline Text text short is = absurd (false≢true short)
-short_no_newline Line text short is = absurd (false≢true short)
-short_no_newline NoteToken text short is = absurd (false≢true short)
+short_no_newline Identifier text short is = name_no_newline text (and_parts (is_name text) (not (is_keyword text)) is).0
+short_no_newline Keyword text short is = name_no_newline text (keyword_name text is)
+short_no_newline Integer text short is = all_no_newline is_word_byte word_no_newline text (number_words text is)
+short_no_newline Operator text short is = all_no_newline is_sign_plain sign_no_newline text (and_parts (list_all is_sign_plain text) _ (sign_plain text is)).0
+short_no_newline String text short is = absurd (false≢true short)
+short_no_newline Newline text short is = absurd (false≢true short)
+short_no_newline CommentToken text short is = absurd (false≢true short)
 short_no_newline Kept text short is = absurd (false≢true short)
 
 any_front : (xs ys : List ℕ) → has_newline xs ≡ true → has_newline (xs ++ ys) ≡ true
@@ -157,7 +157,7 @@ pub plain_quiet : (bs : List ℕ) (s : Scan) → has_newline bs ≡ false → is
 plain_quiet bs s none = quiet_fronts bs s (λ x xs ys e ended. false≢true (sym none ∙ ap has_newline e ∙ any_front (x ∷ xs) ys (ended_newline x xs s ended)))
 
 -- a string
-pub string_quiet : (text : List ℕ) (s : Scan) (d : ℕ) → is_text Text text ≡ true → ((b : ℕ) (bs : List ℕ) → text ≡ b ∷ bs → (k : LineKind) × (next s b ≡ outside d k b)) → (is_ended (run s text).inside ≡ true → ⊥) → is_quiet s text ≡ true
+pub string_quiet : (text : List ℕ) (s : Scan) (d : ℕ) → is_text String text ≡ true → ((b : ℕ) (bs : List ℕ) → text ≡ b ∷ bs → (k : LineKind) × (next s b ≡ outside d k b)) → (is_ended (run s text).inside ≡ true → ⊥) → is_quiet s text ≡ true
 string_quiet text s d is first last = quiet_fronts text s fronts
   where
     fronts : (x : ℕ) (xs ys : List ℕ) → text ≡ (x ∷ xs) ++ ys → is_ended (run s (x ∷ xs)).inside ≡ true → ⊥

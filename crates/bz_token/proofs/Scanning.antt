@@ -15,7 +15,7 @@ use Rattle.bz_token.specs.declared.scan_string.Opening.{Opening}
 use Rattle.bz_token.specs.declared.scan_string.Escape.TheVariants.{Unescaped}
 use Rattle.bz_token.specs.declared.scan_token.Scanned.{Scanned}
 use Rattle.bz_token.specs.declared.token.Kind.{Kind}
-use Rattle.bz_token.specs.declared.token.Kind.TheVariants.{Ident, Word, Int, Text, Sign, Line, Note, Kept}
+use Rattle.bz_token.specs.declared.token.Kind.TheVariants.{Identifier, Keyword, Integer, String, Operator, Newline, Comment, Kept}
 use Rattle.bz_token.specs.Pieces.{is_quote}
 use Rattle.bz_token.specs.Lexical.{begins, is_word_byte, is_blank, is_newline, is_name, is_number, is_sign, is_comment, opens_after, opening, opening_length, is_text, IsToken}
 use Rattle.bz_token.specs.private.Closing.{closes}
@@ -52,7 +52,7 @@ or_no x y a b = rw (a, b) refl
 
 -- a string up to its closing quotes
 pub string_scanned : (bytes : List ℕ) (o : Opening) (n : ℕ) (nl : Bool) → opening bytes ≡ Some o → 0 < n → n ≤ length (drop (opening_length o) bytes) → closes o.quotes 0 Unescaped (take n (drop (opening_length o) bytes)) ≡ true
-    → (nl ≡ false → list_any is_newline (take n (drop (opening_length o) bytes)) ≡ false) → IsScanned bytes (record { kind = Text; len = opening_length o + n; has_newline = nl })
+    → (nl ≡ false → list_any is_newline (take n (drop (opening_length o) bytes)) ≡ false) → IsScanned bytes (record { kind = String; len = opening_length o + n; has_newline = nl })
 string_scanned bytes o n nl opens some fits closed one_line =
     let front = opening_front bytes o opens in
     let s = opening_length o in
@@ -97,7 +97,7 @@ words_line (x ∷ xs) h =
     let parts = and_parts (is_word_byte x) (list_all is_word_byte xs) h in
     or_no _ _ (word_no_newline x parts.0) (words_line xs parts.1)
 
-no_word_after : (xs : List ℕ) → prefix_len is_word_byte xs ≡ 0 → stops_at Int [] xs ≡ true
+no_word_after : (xs : List ℕ) → prefix_len is_word_byte xs ≡ 0 → stops_at Integer [] xs ≡ true
 no_word_after [] h = refl
 no_word_after (x ∷ xs) h = elim (cases_Bool (is_word_byte x)) [
   | inl hit ↦ absurd (omega (arith, rw hit at h))
@@ -123,13 +123,13 @@ run_scanned kind bytes some token = record {
 digit_word : (b : ℕ) → is_ascii_digit b ≡ true → is_word_byte b ≡ true
 digit_word b h = grind (arith, nat_tests)
 
-pub number_scanned : (bytes : List ℕ) → begins is_ascii_digit bytes ≡ true → is_number (take (prefix_len is_word_byte bytes) bytes) ≡ true → IsScanned bytes (record { kind = Int; len = prefix_len is_word_byte bytes; has_newline = false })
+pub number_scanned : (bytes : List ℕ) → begins is_ascii_digit bytes ≡ true → is_number (take (prefix_len is_word_byte bytes) bytes) ≡ true → IsScanned bytes (record { kind = Integer; len = prefix_len is_word_byte bytes; has_newline = false })
 number_scanned [] first is = absurd (false≢true first)
 number_scanned (b ∷ bs) first is =
     let word : is_word_byte b ≡ true = digit_word b first in
     let run : prefix_len is_word_byte (b ∷ bs) ≡ suc (prefix_len is_word_byte bs) = rw (word, one-add) refl in
-    run_scanned Int (b ∷ bs) (omega arith)
-    (subst (λ n. IsToken Int (take n (b ∷ bs)) (drop n (b ∷ bs))) (sym run)
+    run_scanned Integer (b ∷ bs) (omega arith)
+    (subst (λ n. IsToken Integer (take n (b ∷ bs)) (drop n (b ∷ bs))) (sym run)
     (number_token b (take (prefix_len is_word_byte bs) bs) (drop (prefix_len is_word_byte bs) bs) (subst (λ n. is_number (take n (b ∷ bs)) ≡ true) run is) (stops_after is_word_byte bs)))
 
 pub no_number : (bytes : List ℕ) → begins is_ascii_digit bytes ≡ true → is_number (take (prefix_len is_word_byte bytes) bytes) ≡ false → IsBadNumber bytes
@@ -150,7 +150,7 @@ name_scanned kind (b ∷ bs) unquoted word plain is =
     (subst (λ n. IsToken kind (take n (b ∷ bs)) (drop n (b ∷ bs))) (sym run)
     (name_token_at kind b (take (prefix_len is_word_byte bs) bs) (drop (prefix_len is_word_byte bs) bs) whole name place (no_word_after (drop (prefix_len is_word_byte bs) bs) (stops_after is_word_byte bs))))
 
-pub line_scanned : (bytes : List ℕ) → 0 < length bytes → get_or bytes 0 0 ≡ 10 → IsScanned bytes (record { kind = Line; len = 1; has_newline = true })
+pub line_scanned : (bytes : List ℕ) → 0 < length bytes → get_or bytes 0 0 ≡ 10 → IsScanned bytes (record { kind = Newline; len = 1; has_newline = true })
 line_scanned [] some first = absurd (omega arith)
 line_scanned (b ∷ bs) some first = record {
   some = omega arith;
@@ -177,7 +177,7 @@ all_at p (x ∷ xs) (suc i) h less = all_at p xs i (and_parts (p x) (list_all p 
 sign_ascii : (x : ℕ) → is_sign_byte x ≡ true → x < 128
 sign_ascii x h = grind (arith, nat_tests)
 
-pub sign_scanned : (bytes : List ℕ) (n : ℕ) → 0 < n → n ≤ length bytes → is_sign (take n bytes) ≡ true → stops_at Sign (take n bytes) (drop n bytes) ≡ true → IsScanned bytes (record { kind = Sign; len = n; has_newline = false })
+pub sign_scanned : (bytes : List ℕ) (n : ℕ) → 0 < n → n ≤ length bytes → is_sign (take n bytes) ≡ true → stops_at Operator (take n bytes) (drop n bytes) ≡ true → IsScanned bytes (record { kind = Operator; len = n; has_newline = false })
 sign_scanned [] n some fits is stop = absurd (omega arith)
 sign_scanned (b ∷ bs) zero some fits is stop = absurd (omega arith)
 sign_scanned (b ∷ bs) (suc n) some fits is stop =
@@ -233,7 +233,7 @@ note_boundary bytes r fits blank =
     not_false false h = absurd (false≢true (sym h))
 
 pub note_scanned : (bytes : List ℕ) (r : ℕ) → 0 < r → r ≤ length bytes → r ≤ prefix_len (λ b. not (is_newline b)) bytes → is_comment (take r bytes) ≡ true → list_all is_blank (drop r (take (prefix_len (λ b. not (is_newline b)) bytes) bytes)) ≡ true
-    → IsScanned bytes (record { kind = Note; len = r; has_newline = false })
+    → IsScanned bytes (record { kind = Comment; len = r; has_newline = false })
 note_scanned [] r some fits line is blank = absurd (omega arith)
 note_scanned (b ∷ bs) zero some fits line is blank = absurd (omega arith)
 note_scanned (b ∷ bs) (suc r) some fits line is blank = record {
@@ -264,24 +264,24 @@ no_string_quote b bs unquoted none = elim (cases_Bool (is_quote b)) [
     quoted : (b : ℕ) (bs : List ℕ) → is_quote b ≡ true → opens_after 0 (b ∷ bs) ≡ None → ⊥
     quoted b bs hit h = some_none (rw hit at h)
 
-pub marks : (kind : Kind) → can_start kind mark ≡ true → kind ≡ Sign
-marks Ident h = absurd (false≢true h)
-marks Word h = absurd (false≢true h)
-marks Int h = absurd (false≢true h)
-marks Text h = absurd (false≢true h)
-marks Sign h = refl
-marks Line h = absurd (false≢true h)
-marks Note h = absurd (false≢true h)
+pub marks : (kind : Kind) → can_start kind mark ≡ true → kind ≡ Operator
+marks Identifier h = absurd (false≢true h)
+marks Keyword h = absurd (false≢true h)
+marks Integer h = absurd (false≢true h)
+marks String h = absurd (false≢true h)
+marks Operator h = refl
+marks Newline h = absurd (false≢true h)
+marks Comment h = absurd (false≢true h)
 marks Kept h = absurd (false≢true h)
 
-unknowns : (kind : Kind) → can_start kind unknown ≡ true → kind ≡ Sign
-unknowns Ident h = absurd (false≢true h)
-unknowns Word h = absurd (false≢true h)
-unknowns Int h = absurd (false≢true h)
-unknowns Text h = absurd (false≢true h)
-unknowns Sign h = refl
-unknowns Line h = absurd (false≢true h)
-unknowns Note h = absurd (false≢true h)
+unknowns : (kind : Kind) → can_start kind unknown ≡ true → kind ≡ Operator
+unknowns Identifier h = absurd (false≢true h)
+unknowns Keyword h = absurd (false≢true h)
+unknowns Integer h = absurd (false≢true h)
+unknowns String h = absurd (false≢true h)
+unknowns Operator h = refl
+unknowns Newline h = absurd (false≢true h)
+unknowns Comment h = absurd (false≢true h)
 unknowns Kept h = absurd (false≢true h)
 
 -- a byte that begins nothing

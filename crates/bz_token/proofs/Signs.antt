@@ -5,7 +5,7 @@ use Rattle.std.specs.List.{list_all}
 use Rattle.std.proofs.Math.Seq.{take-nil}
 use Rattle.std.proofs.lemmas.Bool.{and_parts, false≢true}
 use Rattle.std.proofs.lemmas.Bool.Decides.{nat_tests}
-use Rattle.bz_token.specs.declared.token.Kind.TheVariants.{Sign}
+use Rattle.bz_token.specs.declared.token.Kind.TheVariants.{Operator}
 use Rattle.bz_token.specs.Lexical.{signs, is_sign}
 use Rattle.bz_token.specs.Ends.{stops_at}
 use Rattle.bz_token.proofs.Classes.{one_of}
@@ -57,7 +57,7 @@ pub record IsSignLength (a b c r : ℕ) : Type 0 where
 pub record IsSignAt (bytes : List ℕ) (r : ℕ) : Type 0 where
   pub in_range : r ≤ length bytes
   pub sign : 0 < r → is_sign (take r bytes) ≡ true
-  pub stops : 0 < r → stops_at Sign (take r bytes) (drop r bytes) ≡ true
+  pub stops : 0 < r → stops_at Operator (take r bytes) (drop r bytes) ≡ true
   pub none : r ≡ 0 → (n : ℕ) → is_sign (take n bytes) ≡ false
 
 take_none : (n : ℕ) → is_sign (take n []) ≡ false

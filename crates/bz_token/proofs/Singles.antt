@@ -3,7 +3,7 @@ use Rattle.std.proofs.Common.{◌≡◌, ℕ, ◌<◌, ◌==◌, List, [], ◌�
 use Rattle.std.specs.List.{list_any}
 use Rattle.std.proofs.lemmas.Bool.{or_cases, eqb-true, false≢true}
 use Rattle.std.proofs.lemmas.Bool.Decides.{nat_tests}
-use Rattle.bz_token.specs.declared.token.Kind.TheVariants.{Sign}
+use Rattle.bz_token.specs.declared.token.Kind.TheVariants.{Operator}
 use Rattle.bz_token.specs.Lexical.{signs, is_sign}
 use Rattle.bz_token.specs.private.Scans.{IsScanned}
 use Rattle.bz_token.specs.private.Tables.{is_single}
@@ -52,7 +52,7 @@ all_single b c = (
 listed : (a : ℕ) → is_single a ≡ true → list_any (λ x. a == x) singles ≡ true
 listed a is = grind (arith, nat_tests)
 
-pub single_scanned : (bytes : List ℕ) → 0 < length bytes → is_single (get_or bytes 0 0) ≡ true → IsScanned bytes (record { kind = Sign; len = 1; has_newline = false })
+pub single_scanned : (bytes : List ℕ) → 0 < length bytes → is_single (get_or bytes 0 0) ≡ true → IsScanned bytes (record { kind = Operator; len = 1; has_newline = false })
 single_scanned bytes some is =
     let a = get_or bytes 0 0 in
     let b = get_or bytes 1 0 in

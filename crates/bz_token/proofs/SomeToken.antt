@@ -11,7 +11,7 @@ use Rattle.bz_token.specs.declared.scan_string.Escape.TheVariants.{Unescaped}
 use Rattle.bz_token.specs.declared.scan_token.Scanned.{Scanned}
 use Rattle.bz_token.specs.declared.scan_token.Bad.{Bad}
 use Rattle.bz_token.specs.declared.scan_token.Bad.TheVariants.{Character, Number, OpenText, Backslash}
-use Rattle.bz_token.specs.declared.token.Kind.TheVariants.{Ident, Word, Int, Text, Sign, Line, Note}
+use Rattle.bz_token.specs.declared.token.Kind.TheVariants.{Identifier, Keyword, Integer, String, Operator, Newline, Comment}
 use Rattle.bz_token.specs.Lexical.{begins, is_word_byte, is_blank, is_newline, is_keyword, is_number, is_sign, opening, opening_length}
 use Rattle.bz_token.specs.private.Closing.{closes}
 use Rattle.bz_token.specs.private.Scans.{IsScanned, IsBadPlace}
@@ -54,7 +54,7 @@ take_past (x ∷ xs) (suc n) h = ap (λ ys. x ∷ ys) (take_past xs n (omega ari
 
 string_or_open : (bytes : List ℕ) (o : Opening) → opening bytes ≡ Some o → HasTokenOrIsBad bytes
 string_or_open bytes o opens = elim (greatest test (length inside)) [
-  | inl r ↦ inl (record { kind = Text; len = opening_length o + r.0; has_newline = true }, string_scanned bytes o r.0 true opens (some r.0 r.2) r.1 r.2 (λ h. absurd (false≢true (sym h))))
+  | inl r ↦ inl (record { kind = String; len = opening_length o + r.0; has_newline = true }, string_scanned bytes o r.0 true opens (some r.0 r.2) r.1 r.2 (λ h. absurd (false≢true (sym h))))
   | inr none ↦ inr (OpenText, open_text bytes o opens (λ n. never none n))
 ]
   where
@@ -76,14 +76,14 @@ string_or_open bytes o opens = elim (greatest test (length inside)) [
 
 number_or_bad : (bytes : List ℕ) → begins is_ascii_digit bytes ≡ true → HasTokenOrIsBad bytes
 number_or_bad bytes digit = elim (cases_Bool (is_number (take (prefix_len is_word_byte bytes) bytes))) [
-  | inl is ↦ inl (record { kind = Int; len = prefix_len is_word_byte bytes; has_newline = false }, number_scanned bytes digit is)
+  | inl is ↦ inl (record { kind = Integer; len = prefix_len is_word_byte bytes; has_newline = false }, number_scanned bytes digit is)
   | inr none ↦ inr (Number, no_number bytes digit none)
 ]
 
 name_or_word : (bytes : List ℕ) → opening bytes ≡ None → begins is_word_byte bytes ≡ true → begins is_ascii_digit bytes ≡ false → HasTokenOrIsBad bytes
 name_or_word bytes unquoted word plain = elim (cases_Bool (is_keyword (take (prefix_len is_word_byte bytes) bytes))) [
-  | inl is ↦ inl (record { kind = Word; len = prefix_len is_word_byte bytes; has_newline = false }, name_scanned Word bytes unquoted word plain (λ name. is))
-  | inr none ↦ inl (record { kind = Ident; len = prefix_len is_word_byte bytes; has_newline = false }, name_scanned Ident bytes unquoted word plain (λ name. rw (name, none) refl))
+  | inl is ↦ inl (record { kind = Keyword; len = prefix_len is_word_byte bytes; has_newline = false }, name_scanned Keyword bytes unquoted word plain (λ name. is))
+  | inr none ↦ inl (record { kind = Identifier; len = prefix_len is_word_byte bytes; has_newline = false }, name_scanned Identifier bytes unquoted word plain (λ name. rw (name, none) refl))
 ]
 
 sign_length : (a b c : ℕ) → (r : ℕ) × IsSignLength a b c r
@@ -97,7 +97,7 @@ sign_or_bad bytes some unquoted none line note slash =
     let r = sign_length (get_or bytes 0 0) (get_or bytes 1 0) (get_or bytes 2 0) in
     let at = sign_at bytes r.0 r.1 in
     elim (cases_lt 0 r.0) [
-      | inl long ↦ inl (record { kind = Sign; len = r.0; has_newline = false }, sign_scanned bytes r.0 long at.in_range (at.sign long) (at.stops long))
+      | inl long ↦ inl (record { kind = Operator; len = r.0; has_newline = false }, sign_scanned bytes r.0 long at.in_range (at.sign long) (at.stops long))
       | inr empty ↦ inr (Character, no_character bytes some unquoted none line note slash (at.none (omega arith)))
     ]
 
@@ -122,7 +122,7 @@ note_here b bs hash =
     let some : 0 < t.0 = more t.0 t.3 in
     let fits : t.0 ≤ n = omega (arith, t.1, size) in
     inl (
-      record { kind = Note; len = t.0; has_newline = false },
+      record { kind = Comment; len = t.0; has_newline = false },
       note_scanned (b ∷ bs) t.0 some (omega arith) fits (comment_front (b ∷ bs) n t.0 hash refl some fits (λ h. t.2 some)) t.3,
     )
   where
@@ -132,7 +132,7 @@ note_here b bs hash =
 
 mark_or_bad : (b : ℕ) (bs : List ℕ) → opening (b ∷ bs) ≡ None → is_word_byte b ≡ false → HasTokenOrIsBad (b ∷ bs)
 mark_or_bad b bs unquoted none = elim (cases_Bool (b == 10)) [
-  | inl newline ↦ inl (record { kind = Line; len = 1; has_newline = true }, line_scanned (b ∷ bs) (omega arith) (eqb-true b 10 newline))
+  | inl newline ↦ inl (record { kind = Newline; len = 1; has_newline = true }, line_scanned (b ∷ bs) (omega arith) (eqb-true b 10 newline))
   | inr no_line ↦ elim (cases_Bool (b == 35)) [
     | inl hash ↦ note_here b bs hash
     | inr no_note ↦ elim (cases_Bool (b == 92)) [

@@ -4,7 +4,7 @@ use Rattle.std.specs.List.{list_all, list_any, prefix_len}
 use Rattle.std.proofs.lemmas.Bool.{cases_Bool, and_parts, or_cases, false≢true, eqb-true}
 use Rattle.std.proofs.lemmas.Bool.Decides.{nat_tests}
 use Rattle.bz_token.specs.declared.token.Kind.{Kind}
-use Rattle.bz_token.specs.declared.token.Kind.TheVariants.{Ident, Word, Int, Text, Sign, Line as LineToken, Note as NoteToken, Kept}
+use Rattle.bz_token.specs.declared.token.Kind.TheVariants.{Identifier, Keyword, Integer, String, Operator, Newline, Comment as CommentToken, Kept}
 use Rattle.bz_token.specs.declared.cutter.scan.LineKind.{LineKind}
 use Rattle.bz_token.specs.declared.cutter.scan.LineKind.TheVariants.{Statement}
 use Rattle.bz_token.specs.declared.cutter.scan.Inside.{Inside}
@@ -134,8 +134,8 @@ mutual
 
 -- what a token makes of its line
 abbrev pub kind_with : LineKind → Kind → LineKind
-kind_with k LineToken = k
-kind_with k NoteToken = with_note k
+kind_with k Newline = k
+kind_with k CommentToken = with_note k
 kind_with k _ = Statement
 
 -- a byte outside comments, white space and continued lines begins a statement
@@ -220,7 +220,7 @@ first_hash : (opened : List ℕ) (b : ℕ) (bs : List ℕ) → b ≡ 35 → open
 first_hash opened b [] same = ap (λ x. open_after_token opened (x ∷ [])) same
 first_hash opened b (c ∷ bs) same = refl
 
-note_after : (s : Scan) (opened : List ℕ) (k : LineKind) (b : ℕ) (bs after : List ℕ) → IsToken NoteToken (b ∷ bs) after → Stands s (length opened) k (b ∷ bs ++ after) → After s (run s (b ∷ bs)) (length (open_after_token opened (b ∷ bs))) (with_note k) after (b ∷ bs)
+note_after : (s : Scan) (opened : List ℕ) (k : LineKind) (b : ℕ) (bs after : List ℕ) → IsToken CommentToken (b ∷ bs) after → Stands s (length opened) k (b ∷ bs ++ after) → After s (run s (b ∷ bs)) (length (open_after_token opened (b ∷ bs))) (with_note k) after (b ∷ bs)
 note_after s opened k b bs after token st =
     let d = length opened in
     let parts = comment_parts (b ∷ bs) token.whole in
@@ -229,7 +229,7 @@ note_after s opened k b bs after token st =
     let here : next s b ≡ at Comment d (with_note k) = stands_first s d k b (bs ++ after) st (ap is_blank same) ∙ ap (outside d k) same in
     let end = comment_over bs (next s b) d (with_note k) clean here in
     record {
-      stands = subst (λ n. Stands (run s (b ∷ bs)) n (with_note k) after) (ap length (sym (first_hash opened b bs same))) (in_comment end (token_ends NoteToken (b ∷ bs) after token));
+      stands = subst (λ n. Stands (run s (b ∷ bs)) n (with_note k) after) (ap length (sym (first_hash opened b bs same))) (in_comment end (token_ends CommentToken (b ∷ bs) after token));
       quiet = plain_quiet (b ∷ bs) s parts.1;
     }
   where
@@ -256,20 +256,20 @@ statement_after depth s opened k kind b bs after token fit st none noline line n
 pub token_after : (depth : ℕ) (s : Scan) (opened : List ℕ) (k : LineKind) (kind : Kind) (text after : List ℕ) → IsToken kind text after → fits depth opened kind text ≡ true → Stands s (length opened) k (text ++ after)
     → is_ended s.inside ≡ false → is_line kind ≡ false → After s (run s text) (length (open_after_token opened text)) (kind_with k kind) after text
 token_after depth s opened k kind [] after token fit st none line = absurd (empty_no_text kind token.whole)
-token_after depth s opened k Ident (b ∷ bs) after token fit st none line = statement_after depth s opened k Ident b bs after token fit st none refl refl refl refl (plain_quiet (b ∷ bs) s (short_no_newline Ident (b ∷ bs) refl token.whole))
-token_after depth s opened k Word (b ∷ bs) after token fit st none line = statement_after depth s opened k Word b bs after token fit st none refl refl refl refl (plain_quiet (b ∷ bs) s (short_no_newline Word (b ∷ bs) refl token.whole))
-token_after depth s opened k Int (b ∷ bs) after token fit st none line = statement_after depth s opened k Int b bs after token fit st none refl refl refl refl (plain_quiet (b ∷ bs) s (short_no_newline Int (b ∷ bs) refl token.whole))
-token_after depth s opened k Sign (b ∷ bs) after token fit st none line = statement_after depth s opened k Sign b bs after token fit st none refl refl refl refl (plain_quiet (b ∷ bs) s (short_no_newline Sign (b ∷ bs) refl token.whole))
-token_after depth s opened k Text (b ∷ bs) after token fit st none line =
+token_after depth s opened k Identifier (b ∷ bs) after token fit st none line = statement_after depth s opened k Identifier b bs after token fit st none refl refl refl refl (plain_quiet (b ∷ bs) s (short_no_newline Identifier (b ∷ bs) refl token.whole))
+token_after depth s opened k Keyword (b ∷ bs) after token fit st none line = statement_after depth s opened k Keyword b bs after token fit st none refl refl refl refl (plain_quiet (b ∷ bs) s (short_no_newline Keyword (b ∷ bs) refl token.whole))
+token_after depth s opened k Integer (b ∷ bs) after token fit st none line = statement_after depth s opened k Integer b bs after token fit st none refl refl refl refl (plain_quiet (b ∷ bs) s (short_no_newline Integer (b ∷ bs) refl token.whole))
+token_after depth s opened k Operator (b ∷ bs) after token fit st none line = statement_after depth s opened k Operator b bs after token fit st none refl refl refl refl (plain_quiet (b ∷ bs) s (short_no_newline Operator (b ∷ bs) refl token.whole))
+token_after depth s opened k String (b ∷ bs) after token fit st none line =
     let d = length opened in
-    let t = token_run depth s opened Text (b ∷ bs) after token fit (stands_ready s d k (b ∷ bs ++ after) st) in
-    statement_after depth s opened k Text b bs after token fit st none refl refl refl refl
+    let t = token_run depth s opened String (b ∷ bs) after token fit (stands_ready s d k (b ∷ bs ++ after) st) in
+    statement_after depth s opened k String b bs after token fit st none refl refl refl refl
     (string_quiet (b ∷ bs) s d token.whole (λ c cs e. first c cs e) (λ e. false≢true (t.ended e)))
   where
     first : (c : ℕ) (cs : List ℕ) → b ∷ bs ≡ c ∷ cs → (j : LineKind) × (next s c ≡ outside (length opened) j c)
     first c cs e =
         let same : b ≡ c = cc in
-        (k, subst (λ x. next s x ≡ outside (length opened) k x) same (stands_first s (length opened) k b (bs ++ after) st (visible Text b bs token.whole)))
-token_after depth s opened k NoteToken (b ∷ bs) after token fit st none line = note_after s opened k b bs after token st
-token_after depth s opened k LineToken (b ∷ bs) after token fit st none line = absurd (false≢true (sym line))
+        (k, subst (λ x. next s x ≡ outside (length opened) k x) same (stands_first s (length opened) k b (bs ++ after) st (visible String b bs token.whole)))
+token_after depth s opened k CommentToken (b ∷ bs) after token fit st none line = note_after s opened k b bs after token st
+token_after depth s opened k Newline (b ∷ bs) after token fit st none line = absurd (false≢true (sym line))
 token_after depth s opened k Kept (b ∷ bs) after token fit st none line = absurd (false≢true token.whole)

@@ -9,7 +9,7 @@ use Rattle.std.proofs.lemmas.List.Folds.{list_any-append}
 use Rattle.bz_token.specs.declared.scan_string.Opening.{Opening}
 use Rattle.bz_token.specs.declared.scan_string.Escape.TheVariants.{Unescaped}
 use Rattle.bz_token.specs.declared.token.Kind.{Kind}
-use Rattle.bz_token.specs.declared.token.Kind.TheVariants.{Ident, Word, Int, Text, Sign, Line, Note, Kept}
+use Rattle.bz_token.specs.declared.token.Kind.TheVariants.{Identifier, Keyword, Integer, String, Operator, Newline, Comment, Kept}
 use Rattle.bz_token.specs.Pieces.{is_quote}
 use Rattle.bz_token.specs.Lexical.{is_word_byte, is_blank, is_newline, is_one_of, signs, is_sign, keywords, is_keyword, is_name, is_comment, ends_blank, closing_row, are_two, opens_after, opening, opening_length, is_long, is_text, counts, is_string_kind, IsToken}
 use Rattle.bz_token.specs.private.Closing.{closes}
@@ -33,29 +33,29 @@ not_false x h = rw h refl
 -- a text is the token where what follows ends it
 pub token_ended : (kind : Kind) (text after : List ℕ) → is_text kind text ≡ true → ends kind text after ≡ true → IsToken kind text after
 token_ended kind [] after is end = absurd (empty_no_text kind is)
-token_ended Ident (b ∷ bs) after is end = name_token Ident b bs after is (and_parts (is_name (b ∷ bs)) (not (is_keyword (b ∷ bs))) is).0 (named after end)
+token_ended Identifier (b ∷ bs) after is end = name_token Identifier b bs after is (and_parts (is_name (b ∷ bs)) (not (is_keyword (b ∷ bs))) is).0 (named after end)
   where
-    named : (after : List ℕ) → stops_at Ident (b ∷ bs) after ≡ true → ends_name (b ∷ bs) after ≡ true
+    named : (after : List ℕ) → stops_at Identifier (b ∷ bs) after ≡ true → ends_name (b ∷ bs) after ≡ true
     named [] h = refl
     named (c ∷ cs) h = h
-token_ended Word (b ∷ bs) after is end = name_token Word b bs after is (keyword_name (b ∷ bs) is) (named after end)
+token_ended Keyword (b ∷ bs) after is end = name_token Keyword b bs after is (keyword_name (b ∷ bs) is) (named after end)
   where
-    named : (after : List ℕ) → stops_at Word (b ∷ bs) after ≡ true → ends_name (b ∷ bs) after ≡ true
+    named : (after : List ℕ) → stops_at Keyword (b ∷ bs) after ≡ true → ends_name (b ∷ bs) after ≡ true
     named [] h = refl
     named (c ∷ cs) h = both (is_word_byte c) (is_quote c) (is_prefix (b ∷ bs)) h (not_true (is_prefix (b ∷ bs)) (keyword_no_prefix (b ∷ bs) is))
       where
         both : (x y z : Bool) → not x ≡ true → z ≡ false → (not x && not (y && z)) ≡ true
         both x true z h none = rw (h, none) refl
         both x false z h none = rw h refl
-token_ended Int (b ∷ bs) after is end = number_token b bs after is (stops_run after (first after end))
+token_ended Integer (b ∷ bs) after is end = number_token b bs after is (stops_run after (first after end))
   where
-    first : (after : List ℕ) → stops_at Int (b ∷ bs) after ≡ true → stops_at Int [] after ≡ true
+    first : (after : List ℕ) → stops_at Integer (b ∷ bs) after ≡ true → stops_at Integer [] after ≡ true
     first [] h = refl
     first (c ∷ cs) h = h
-token_ended Text (b ∷ bs) after is end = let s = string_opens (b ∷ bs) is in string_token (b ∷ bs) after s.0 s.1 s.2 end
-token_ended Sign (b ∷ bs) after is end = sign_token b bs after is end
-token_ended Line (b ∷ bs) after is end = subst (λ t. IsToken Line t after) (sym (same_bytes (b ∷ bs) (10 ∷ []) is)) (line_token after)
-token_ended Note (b ∷ bs) after is end = note_token b bs after is end
+token_ended String (b ∷ bs) after is end = let s = string_opens (b ∷ bs) is in string_token (b ∷ bs) after s.0 s.1 s.2 end
+token_ended Operator (b ∷ bs) after is end = sign_token b bs after is end
+token_ended Newline (b ∷ bs) after is end = subst (λ t. IsToken Newline t after) (sym (same_bytes (b ∷ bs) (10 ∷ []) is)) (line_token after)
+token_ended Comment (b ∷ bs) after is end = note_token b bs after is end
 token_ended Kept (b ∷ bs) after is end = absurd (false≢true is)
 
 -- bytes that stand second or later in a sign
@@ -71,8 +71,8 @@ all_last p [] m h = (and_parts (p m) true h).0
 all_last p (b ∷ bs) m h = all_last p bs m (and_parts (p b) (list_all p (bs ++ m ∷ [])) h).1
 
 -- another byte stops every sign
-pub sign_stops : (text : List ℕ) (b : ℕ) → is_text Sign text ≡ true → is_later b ≡ false → stops Sign text b ≡ true
-sign_stops [] b is later = absurd (empty_no_text Sign is)
+pub sign_stops : (text : List ℕ) (b : ℕ) → is_text Operator text ≡ true → is_later b ≡ false → stops Operator text b ≡ true
+sign_stops [] b is later = absurd (empty_no_text Operator is)
 sign_stops (a ∷ bs) b is later = elim (cases_Bool (is_sign ((a ∷ bs) ++ b ∷ []))) [
   | inr miss ↦ not_false _ miss
   | inl hit ↦ absurd (false≢true (sym later ∙ all_last is_later bs b (sign_later ((a ∷ bs) ++ b ∷ []) hit)))
@@ -80,10 +80,10 @@ sign_stops (a ∷ bs) b is later = elim (cases_Bool (is_sign ((a ∷ bs) ++ b �
 
 -- a byte that is no letter, digit, underscore, quote nor a later byte of a sign stops every text but a comment's
 pub plain_stops : (kind : Kind) (text : List ℕ) (b : ℕ) → is_text kind text ≡ true → is_note kind ≡ false → is_word_byte b ≡ false → is_quote b ≡ false → is_later b ≡ false → stops kind text b ≡ true
-plain_stops Ident text b is note word quoted later = rw (word, quoted) refl
-plain_stops Word text b is note word quoted later = rw word refl
-plain_stops Int text b is note word quoted later = rw word refl
-plain_stops Text text b is note word quoted later =
+plain_stops Identifier text b is note word quoted later = rw (word, quoted) refl
+plain_stops Keyword text b is note word quoted later = rw word refl
+plain_stops Integer text b is note word quoted later = rw word refl
+plain_stops String text b is note word quoted later =
     let s = string_opens text is in
     not_false _ (ap (λ o. is_empty_string o text b) s.1 ∙ apart (not s.0.quotes.long && (length text == s.0.prefix + 2)) (b == s.0.quotes.byte) (other s.0.quotes.byte (opening_facts text s.0 s.1).quoted))
   where
@@ -96,30 +96,30 @@ plain_stops Text text b is note word quoted later =
       | inr miss ↦ miss
       | inl hit ↦ absurd (false≢true (sym quoted ∙ ap is_quote (eqb-true b q hit) ∙ h))
     ]
-plain_stops Sign text b is note word quoted later = sign_stops text b is later
-plain_stops Line text b is note word quoted later = refl
-plain_stops Note text b is note word quoted later = absurd (false≢true (sym note))
+plain_stops Operator text b is note word quoted later = sign_stops text b is later
+plain_stops Newline text b is note word quoted later = refl
+plain_stops Comment text b is note word quoted later = absurd (false≢true (sym note))
 plain_stops Kept text b is note word quoted later = refl
 
 -- one byte that stops a text ends it, whatever follows
 pub stopped_ends : (kind : Kind) (text : List ℕ) (b : ℕ) (rest : List ℕ) → stops kind text b ≡ true → ends kind text (b ∷ rest) ≡ true
-stopped_ends Note text b rest h = let same : b ≡ 10 = eqb-true b 10 h in rw same refl
-stopped_ends Ident text b rest h = h
-stopped_ends Word text b rest h = h
-stopped_ends Int text b rest h = h
-stopped_ends Text text b rest h = h
-stopped_ends Sign text b rest h = h
-stopped_ends Line text b rest h = h
+stopped_ends Comment text b rest h = let same : b ≡ 10 = eqb-true b 10 h in rw same refl
+stopped_ends Identifier text b rest h = h
+stopped_ends Keyword text b rest h = h
+stopped_ends Integer text b rest h = h
+stopped_ends String text b rest h = h
+stopped_ends Operator text b rest h = h
+stopped_ends Newline text b rest h = h
 stopped_ends Kept text b rest h = h
 
 pub newline_stops : (kind : Kind) (text : List ℕ) → is_text kind text ≡ true → stops kind text 10 ≡ true
-newline_stops Note text is = refl
-newline_stops Ident text is = plain_stops Ident text 10 is refl refl refl refl
-newline_stops Word text is = plain_stops Word text 10 is refl refl refl refl
-newline_stops Int text is = plain_stops Int text 10 is refl refl refl refl
-newline_stops Text text is = plain_stops Text text 10 is refl refl refl refl
-newline_stops Sign text is = plain_stops Sign text 10 is refl refl refl refl
-newline_stops Line text is = refl
+newline_stops Comment text is = refl
+newline_stops Identifier text is = plain_stops Identifier text 10 is refl refl refl refl
+newline_stops Keyword text is = plain_stops Keyword text 10 is refl refl refl refl
+newline_stops Integer text is = plain_stops Integer text 10 is refl refl refl refl
+newline_stops String text is = plain_stops String text 10 is refl refl refl refl
+newline_stops Operator text is = plain_stops Operator text 10 is refl refl refl refl
+newline_stops Newline text is = refl
 newline_stops Kept text is = refl
 
 pub space_stops : (kind : Kind) (text : List ℕ) → is_text kind text ≡ true → is_note kind ≡ false → stops kind text 32 ≡ true
@@ -224,8 +224,8 @@ name_ends kind b bs (c ∷ cs) no_text name token = both (is_word_byte c) (is_qu
           let free = counts_free ((b ∷ bs) ++ c ∷ cs) ((b ∷ bs) ++ c ∷ []) in
           let plain = (name_parts b bs name).0 in
           absurd (elim (cases_Bool (is_keyword ((b ∷ bs) ++ c ∷ []))) [
-            | inl word ↦ not_nil c [] (token.longest Word (c ∷ []) cs refl word (free Word unquoted plain))
-            | inr none ↦ not_nil c [] (token.longest Ident (c ∷ []) cs refl (rw (longer, none) refl) (free Ident unquoted plain))
+            | inl word ↦ not_nil c [] (token.longest Keyword (c ∷ []) cs refl word (free Keyword unquoted plain))
+            | inr none ↦ not_nil c [] (token.longest Identifier (c ∷ []) cs refl (rw (longer, none) refl) (free Identifier unquoted plain))
           ])
     ]
 
@@ -241,13 +241,13 @@ run_more p (x ∷ xs) ys h =
     let first = parts.0 in
     rw first (omega (arith, run_more p xs ys parts.1))
 
-number_ends : (b : ℕ) (bs after : List ℕ) → IsToken Int (b ∷ bs) after → stops_at Int (b ∷ bs) after ≡ true
+number_ends : (b : ℕ) (bs after : List ℕ) → IsToken Integer (b ∷ bs) after → stops_at Integer (b ∷ bs) after ≡ true
 number_ends b bs [] token = refl
 number_ends b bs (c ∷ cs) token = elim (cases_Bool (is_word_byte c)) [
   | inr miss ↦ not_false (is_word_byte c) miss
   | inl hit ↦
       let first = number_starts b bs token.whole in
-      let unquoted = no_opening b (bs ++ c ∷ cs) (ap (can_start Text) (digit_class b first)) in
+      let unquoted = no_opening b (bs ++ c ∷ cs) (ap (can_start String) (digit_class b first)) in
       let test = rw (unquoted, first, counts) at token.counted in
       let same = eqb-true (length (b ∷ bs)) (prefix_len is_word_byte ((b ∷ bs) ++ c ∷ cs)) test in
       let run = run_more is_word_byte (b ∷ bs) (c ∷ cs) (number_words (b ∷ bs) token.whole) in
@@ -255,18 +255,18 @@ number_ends b bs (c ∷ cs) token = elim (cases_Bool (is_word_byte c)) [
       absurd (omega (arith, same, run, some))
 ]
 
-sign_ends : (b : ℕ) (bs after : List ℕ) → IsToken Sign (b ∷ bs) after → stops_at Sign (b ∷ bs) after ≡ true
+sign_ends : (b : ℕ) (bs after : List ℕ) → IsToken Operator (b ∷ bs) after → stops_at Operator (b ∷ bs) after ≡ true
 sign_ends b bs [] token = refl
 sign_ends b bs (c ∷ cs) token = elim (cases_Bool (is_sign ((b ∷ bs) ++ c ∷ []))) [
   | inr miss ↦ not_false (is_sign ((b ∷ bs) ++ c ∷ [])) miss
   | inl hit ↦
-      let class = mark_of b (text_class Sign b bs token.whole) in
-      absurd (not_nil c [] (token.longest Sign (c ∷ []) cs refl hit
-      (counts_free ((b ∷ bs) ++ c ∷ cs) ((b ∷ bs) ++ c ∷ []) Sign (no_opening b (bs ++ c ∷ cs) (ap (can_start Text) class)) (no_digit b mark class refl))))
+      let class = mark_of b (text_class Operator b bs token.whole) in
+      absurd (not_nil c [] (token.longest Operator (c ∷ []) cs refl hit
+      (counts_free ((b ∷ bs) ++ c ∷ cs) ((b ∷ bs) ++ c ∷ []) Operator (no_opening b (bs ++ c ∷ cs) (ap (can_start String) class)) (no_digit b mark class refl))))
 ]
 
 -- a string that is empty is followed by no third quote
-string_ends : (text after : List ℕ) → IsToken Text text after → stops_at Text text after ≡ true
+string_ends : (text after : List ℕ) → IsToken String text after → stops_at String text after ≡ true
 string_ends text [] token = refl
 string_ends text (b ∷ bs) token =
     let s = string_opens text token.whole in
@@ -337,7 +337,7 @@ line_part (x ∷ xs) = elim (cases_Bool (is_newline x)) [
   | inr miss ↦ let more = line_part xs in rw (miss, one-add, miss) more
 ]
 
-note_ends : (b : ℕ) (bs after : List ℕ) → IsToken Note (b ∷ bs) after → list_all is_blank (take (prefix_len (λ c. not (is_newline c)) after) after) ≡ true
+note_ends : (b : ℕ) (bs after : List ℕ) → IsToken Comment (b ∷ bs) after → list_all is_blank (take (prefix_len (λ c. not (is_newline c)) after) after) ≡ true
 note_ends b bs after token = elim (cases_Bool (list_all is_blank (take (prefix_len (λ c. not (is_newline c)) after) after))) [
   | inl hit ↦ hit
   | inr miss ↦
@@ -352,8 +352,8 @@ note_ends b bs after token = elim (cases_Bool (list_all is_blank (take (prefix_l
       let same : b ≡ 35 = eqb-true b 35 hash in
       let class : class_of b ≡ hash_class = rw same refl in
       let split : after ≡ (r.0 ∷ r.1) ++ (r.2 ++ drop n after) = sym (take-append-drop n after) ∙ ap (λ x. x ++ drop n after) r.3 ∙ append_assoc (r.0 ∷ r.1) r.2 (drop n after) in
-      absurd (not_nil r.0 r.1 (token.longest Note (r.0 ∷ r.1) (r.2 ++ drop n after) split longer
-      (counts_free ((b ∷ bs) ++ after) ((b ∷ bs) ++ r.0 ∷ r.1) Note (no_opening b (bs ++ after) (ap (can_start Text) class)) (no_digit b hash_class class refl))))
+      absurd (not_nil r.0 r.1 (token.longest Comment (r.0 ∷ r.1) (r.2 ++ drop n after) split longer
+      (counts_free ((b ∷ bs) ++ after) ((b ∷ bs) ++ r.0 ∷ r.1) Comment (no_opening b (bs ++ after) (ap (can_start String) class)) (no_digit b hash_class class refl))))
 ]
   where
     neither : (x y : Bool) → x ≡ false → y ≡ false → (x || y) ≡ false
@@ -365,20 +365,20 @@ note_ends b bs after token = elim (cases_Bool (list_all is_blank (take (prefix_l
 -- what follows a token ends it
 pub token_ends : (kind : Kind) (text after : List ℕ) → IsToken kind text after → ends kind text after ≡ true
 token_ends kind [] after token = absurd (empty_no_text kind token.whole)
-token_ends Ident (b ∷ bs) after token = as_stops after (name_ends Ident b bs after refl (and_parts (is_name (b ∷ bs)) (not (is_keyword (b ∷ bs))) token.whole).0 token)
+token_ends Identifier (b ∷ bs) after token = as_stops after (name_ends Identifier b bs after refl (and_parts (is_name (b ∷ bs)) (not (is_keyword (b ∷ bs))) token.whole).0 token)
   where
-    as_stops : (after : List ℕ) → ends_name (b ∷ bs) after ≡ true → stops_at Ident (b ∷ bs) after ≡ true
+    as_stops : (after : List ℕ) → ends_name (b ∷ bs) after ≡ true → stops_at Identifier (b ∷ bs) after ≡ true
     as_stops [] h = refl
     as_stops (c ∷ cs) h = h
-token_ends Word (b ∷ bs) after token = as_stops after (name_ends Word b bs after refl (keyword_name (b ∷ bs) token.whole) token)
+token_ends Keyword (b ∷ bs) after token = as_stops after (name_ends Keyword b bs after refl (keyword_name (b ∷ bs) token.whole) token)
   where
-    as_stops : (after : List ℕ) → ends_name (b ∷ bs) after ≡ true → stops_at Word (b ∷ bs) after ≡ true
+    as_stops : (after : List ℕ) → ends_name (b ∷ bs) after ≡ true → stops_at Keyword (b ∷ bs) after ≡ true
     as_stops [] h = refl
     as_stops (c ∷ cs) h = (and_parts (not (is_word_byte c)) (not (is_quote c && is_prefix (b ∷ bs))) h).0
-token_ends Int (b ∷ bs) after token = number_ends b bs after token
-token_ends Text (b ∷ bs) after token = string_ends (b ∷ bs) after token
-token_ends Sign (b ∷ bs) after token = sign_ends b bs after token
-token_ends Line (b ∷ bs) [] token = refl
-token_ends Line (b ∷ bs) (c ∷ cs) token = refl
-token_ends Note (b ∷ bs) after token = note_ends b bs after token
+token_ends Integer (b ∷ bs) after token = number_ends b bs after token
+token_ends String (b ∷ bs) after token = string_ends (b ∷ bs) after token
+token_ends Operator (b ∷ bs) after token = sign_ends b bs after token
+token_ends Newline (b ∷ bs) [] token = refl
+token_ends Newline (b ∷ bs) (c ∷ cs) token = refl
+token_ends Comment (b ∷ bs) after token = note_ends b bs after token
 token_ends Kept (b ∷ bs) after token = absurd (false≢true token.whole)

@@ -2,7 +2,7 @@
 use Rattle.std.proofs.Common.{◌≡◌, ℕ, List, [], ◌∷◌, true, false, refl}
 use Rattle.std.specs.Prelude.{codes, Some, None}
 use Rattle.bz_token.specs.declared.fault.LexFault.TheVariants.{BadBracket, OpenBracket}
-use Rattle.bz_token.specs.declared.token.Kind.TheVariants.{Ident, Word, Int, Text, Sign, Line, Note}
+use Rattle.bz_token.specs.declared.token.Kind.TheVariants.{Identifier, Keyword, Integer, String, Operator, Newline, Comment}
 use Rattle.bz_token.specs.Lexical.{keywords, signs, is_text, counts}
 use Rattle.bz_token.specs.Brackets.{fits}
 use Rattle.bz_token.specs.Reading.{is_gap, begins_gap, Piece, IsReading, bytes_of, tokens_of}
@@ -13,61 +13,61 @@ use Rattle.bz_token.proofs.Stops.{token_ended}
 abbrev newline : List ℕ
 newline = 10 ∷ []
 
-names : is_text Ident (codes "x1_") ≡ true
+names : is_text Identifier (codes "x1_") ≡ true
 unfolding keywords
 names = refl
 
-keyword : is_text Ident (codes "for") ≡ false
+keyword : is_text Identifier (codes "for") ≡ false
 unfolding keywords
 keyword = refl
 
-word : is_text Word (codes "for") ≡ true
+word : is_text Keyword (codes "for") ≡ true
 unfolding keywords
 word = refl
 
-binary : is_text Int (codes "0b1") ≡ false
+binary : is_text Integer (codes "0b1") ≡ false
 binary = refl
 
-hexadecimal : is_text Int (codes "0X1f") ≡ true
+hexadecimal : is_text Integer (codes "0X1f") ≡ true
 hexadecimal = refl
 
-no_front_of_a_number : counts (codes "0b1") Int (codes "0") ≡ false
+no_front_of_a_number : counts (codes "0b1") Integer (codes "0") ≡ false
 no_front_of_a_number = refl
 
-short_string : is_text Text (codes "rb'a\\'b'") ≡ true
+short_string : is_text String (codes "rb'a\\'b'") ≡ true
 short_string = refl
 
-escaped_quote : is_text Text (codes "r'a\\'") ≡ false
+escaped_quote : is_text String (codes "r'a\\'") ≡ false
 escaped_quote = refl
 
-empty_string : is_text Text (codes "\"\"") ≡ true
+empty_string : is_text String (codes "\"\"") ≡ true
 empty_string = refl
 
-long_string : is_text Text (codes "\"\"\"a\n\"\"b\"\"\"") ≡ true
+long_string : is_text String (codes "\"\"\"a\n\"\"b\"\"\"") ≡ true
 long_string = refl
 
-three_quotes : counts (codes "\"\"\"") Text (codes "\"\"") ≡ false
+three_quotes : counts (codes "\"\"\"") String (codes "\"\"") ≡ false
 three_quotes = refl
 
-no_identifier_before_a_quote : counts (codes "b\"\"") Ident (codes "b") ≡ false
+no_identifier_before_a_quote : counts (codes "b\"\"") Identifier (codes "b") ≡ false
 no_identifier_before_a_quote = refl
 
-broken_string : is_text Text (codes "\"a\nb\"") ≡ false
+broken_string : is_text String (codes "\"a\nb\"") ≡ false
 broken_string = refl
 
-continued_string : is_text Text (codes "\"a\\\r\nb\"") ≡ true
+continued_string : is_text String (codes "\"a\\\r\nb\"") ≡ true
 continued_string = refl
 
-broken_by_second_newline : is_text Text (codes "\"a\\\n\nb\"") ≡ false
+broken_by_second_newline : is_text String (codes "\"a\\\n\nb\"") ≡ false
 broken_by_second_newline = refl
 
-comment : is_text Note (codes "# a\rb") ≡ true
+comment : is_text Comment (codes "# a\rb") ≡ true
 comment = refl
 
-comment_with_blank : is_text Note (codes "# a ") ≡ false
+comment_with_blank : is_text Comment (codes "# a ") ≡ false
 comment_with_blank = refl
 
-sign : is_text Sign (codes "//=") ≡ true
+sign : is_text Operator (codes "//=") ≡ true
 unfolding signs
 sign = refl
 
@@ -83,65 +83,65 @@ inner_gap = refl
 bad_backslash : begins_gap true (codes "\\ y") ≡ false
 bad_backslash = refl
 
-mismatch : fits 100 (40 ∷ []) Sign (codes "]") ≡ false
+mismatch : fits 100 (40 ∷ []) Operator (codes "]") ≡ false
 mismatch = refl
 
-deep : fits 1 (40 ∷ []) Sign (codes "(") ≡ false
+deep : fits 1 (40 ∷ []) Operator (codes "(") ≡ false
 deep = refl
 
 -- `x=1` and a newline
 abbrev assignment : List Piece
 assignment =
-    record { gap = []; kind = Ident; text = codes "x" }
-    ∷ record { gap = []; kind = Sign; text = codes "=" }
-    ∷ record { gap = []; kind = Int; text = codes "1" }
-    ∷ record { gap = []; kind = Line; text = newline }
+    record { gap = []; kind = Identifier; text = codes "x" }
+    ∷ record { gap = []; kind = Operator; text = codes "=" }
+    ∷ record { gap = []; kind = Integer; text = codes "1" }
+    ∷ record { gap = []; kind = Newline; text = newline }
     ∷ []
 
 assignment_bytes : bytes_of assignment ≡ codes "x=1\n"
 assignment_bytes = refl
 
 assignment_tokens : tokens_of 1 [] [] assignment
-    ≡ record { kind = Ident; text = codes "x"; line = 1; col = 1; fresh = true }
-    ∷ record { kind = Sign; text = codes "="; line = 1; col = 2; fresh = false }
-    ∷ record { kind = Int; text = codes "1"; line = 1; col = 3; fresh = false }
-    ∷ record { kind = Line; text = newline; line = 1; col = 4; fresh = false }
+    ≡ record { kind = Identifier; text = codes "x"; line = 1; col = 1; fresh = true }
+    ∷ record { kind = Operator; text = codes "="; line = 1; col = 2; fresh = false }
+    ∷ record { kind = Integer; text = codes "1"; line = 1; col = 3; fresh = false }
+    ∷ record { kind = Newline; text = newline; line = 1; col = 4; fresh = false }
     ∷ []
 assignment_tokens = refl
 
 -- a long string over two lines, and a token after it
 abbrev strings : List Piece
-strings = record { gap = codes "\\\n "; kind = Text; text = codes "'''\n'''" } ∷ record { gap = codes " "; kind = Ident; text = codes "x" } ∷ []
+strings = record { gap = codes "\\\n "; kind = String; text = codes "'''\n'''" } ∷ record { gap = codes " "; kind = Identifier; text = codes "x" } ∷ []
 
 string_tokens : tokens_of 7 [] [] strings
-    ≡ record { kind = Text; text = codes "'''\n'''"; line = 8; col = 2; fresh = true }
-    ∷ record { kind = Ident; text = codes "x"; line = 9; col = 5; fresh = true }
+    ≡ record { kind = String; text = codes "'''\n'''"; line = 8; col = 2; fresh = true }
+    ∷ record { kind = Identifier; text = codes "x"; line = 9; col = 5; fresh = true }
     ∷ []
 string_tokens = refl
 
 -- `x)`: the token before the fault
 abbrev name : Piece
-name = record { gap = []; kind = Ident; text = codes "x" }
+name = record { gap = []; kind = Identifier; text = codes "x" }
 
 abbrev closing : List ℕ
 closing = codes ")"
 
 name_read : IsReading 100 [] (name ∷ []) closing (codes "x)")
 unfolding keywords
-name_read = (closing, record { bytes_are = refl; gap = refl; token = token_ended Ident (codes "x") closing refl refl; fits = refl }, refl)
+name_read = (closing, record { bytes_are = refl; gap = refl; token = token_ended Identifier (codes "x") closing refl refl; fits = refl }, refl)
 
-before_bad_bracket : IsReadAs 1 100 (codes "x)") (record { kind = Ident; text = codes "x"; line = 1; col = 1; fresh = true } ∷ []) (Some (BadBracket 1 2))
+before_bad_bracket : IsReadAs 1 100 (codes "x)") (record { kind = Identifier; text = codes "x"; line = 1; col = 1; fresh = true } ∷ []) (Some (BadBracket 1 2))
 before_bad_bracket = (λ e. cc, record { pieces = name ∷ []; gap = []; place = closing; reading = name_read; is_gap = refl; after_gap = refl; bad = refl; line_is = refl; col_is = refl }, refl)
 
 -- ` (` and a newline: all tokens stand before the open bracket's fault
 abbrev bracket : Piece
-bracket = record { gap = codes " "; kind = Sign; text = codes "(" }
+bracket = record { gap = codes " "; kind = Operator; text = codes "(" }
 
 bracket_read : IsReading 100 [] (bracket ∷ []) newline (codes " (\n")
 unfolding signs
-bracket_read = (newline, record { bytes_are = refl; gap = refl; token = token_ended Sign (codes "(") newline refl refl; fits = refl }, refl)
+bracket_read = (newline, record { bytes_are = refl; gap = refl; token = token_ended Operator (codes "(") newline refl refl; fits = refl }, refl)
 
-before_open_bracket : IsReadAs 7 100 (codes " (\n") (record { kind = Sign; text = codes "("; line = 7; col = 2; fresh = true } ∷ []) (Some (OpenBracket 7 2))
+before_open_bracket : IsReadAs 7 100 (codes " (\n") (record { kind = Operator; text = codes "("; line = 7; col = 2; fresh = true } ∷ []) (Some (OpenBracket 7 2))
 before_open_bracket = (
   λ e. cc,
   record {
@@ -149,7 +149,7 @@ before_open_bracket = (
     rest = newline;
     reading = bracket_read;
     is_gap = refl;
-    bracket = record { kind = Sign; text = codes "("; line = 7; col = 2; fresh = true };
+    bracket = record { kind = Operator; text = codes "("; line = 7; col = 2; fresh = true };
     outer = [];
     opened = refl;
     line_is = refl;

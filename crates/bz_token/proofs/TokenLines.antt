@@ -5,7 +5,7 @@ use Rattle.std.specs.List.{list_all, list_any}
 use Rattle.std.proofs.lemmas.Bool.{cases_Bool, and_parts, or_parts, false≢true}
 use Rattle.std.proofs.lemmas.List.Folds.{list_all-append}
 use Rattle.bz_token.specs.declared.token.Kind.{Kind}
-use Rattle.bz_token.specs.declared.token.Kind.TheVariants.{Ident, Word, Int, Text, Sign, Line as LineToken, Note as NoteToken, Kept}
+use Rattle.bz_token.specs.declared.token.Kind.TheVariants.{Identifier, Keyword, Integer, String, Operator, Newline, Comment as CommentToken, Kept}
 use Rattle.bz_token.specs.declared.cutter.scan.LineKind.{LineKind}
 use Rattle.bz_token.specs.declared.cutter.scan.LineKind.TheVariants.{Blank, Note, Statement}
 use Rattle.bz_token.specs.declared.cutter.scan.Inside.{Inside}
@@ -31,30 +31,30 @@ use Rattle.bz_token.proofs.Stands.{Stands, stands_plain, stands_final, stands_fi
 
 -- the kind of a line with one token more
 kinds : (a b : Bool) (kind : Kind) → (a ≡ true → b ≡ true) → (if a && (is_line kind && true) then Blank else (if b && ((is_line kind || is_note kind) && true) then Note else Statement)) ≡ kind_with (if a then Blank else (if b then Note else Statement)) kind
-kinds true true Ident h = refl
-kinds true true Word h = refl
-kinds true true Int h = refl
-kinds true true Text h = refl
-kinds true true Sign h = refl
-kinds true true LineToken h = refl
-kinds true true NoteToken h = refl
+kinds true true Identifier h = refl
+kinds true true Keyword h = refl
+kinds true true Integer h = refl
+kinds true true String h = refl
+kinds true true Operator h = refl
+kinds true true Newline h = refl
+kinds true true CommentToken h = refl
 kinds true true Kept h = refl
 kinds true false kind h = absurd (false≢true (h refl))
-kinds false true Ident h = refl
-kinds false true Word h = refl
-kinds false true Int h = refl
-kinds false true Text h = refl
-kinds false true Sign h = refl
-kinds false true LineToken h = refl
-kinds false true NoteToken h = refl
+kinds false true Identifier h = refl
+kinds false true Keyword h = refl
+kinds false true Integer h = refl
+kinds false true String h = refl
+kinds false true Operator h = refl
+kinds false true Newline h = refl
+kinds false true CommentToken h = refl
 kinds false true Kept h = refl
-kinds false false Ident h = refl
-kinds false false Word h = refl
-kinds false false Int h = refl
-kinds false false Text h = refl
-kinds false false Sign h = refl
-kinds false false LineToken h = refl
-kinds false false NoteToken h = refl
+kinds false false Identifier h = refl
+kinds false false Keyword h = refl
+kinds false false Integer h = refl
+kinds false false String h = refl
+kinds false false Operator h = refl
+kinds false false Newline h = refl
+kinds false false CommentToken h = refl
 kinds false false Kept h = refl
 
 newlines_noted : (line : List Piece) → list_all is_newline_piece line ≡ true → list_all is_comment_piece line ≡ true
@@ -103,18 +103,18 @@ line_ended s d k seen [] h = ap (λ t. seen_lines t seen []) h
 line_ended s d k seen (b ∷ bs) h = ap (λ t. seen_lines t seen (b ∷ bs)) h
 
 -- over a newline outside brackets
-newline_after : (depth : ℕ) (s : Scan) (opened : List ℕ) (k : LineKind) (after : List ℕ) → fits depth opened LineToken (10 ∷ []) ≡ true → Stands s (length opened) k (10 ∷ after) → (opened ≡ []) × (next s 10 ≡ at Ended 0 k)
+newline_after : (depth : ℕ) (s : Scan) (opened : List ℕ) (k : LineKind) (after : List ℕ) → fits depth opened Newline (10 ∷ []) ≡ true → Stands s (length opened) k (10 ∷ after) → (opened ≡ []) × (next s 10 ≡ at Ended 0 k)
 newline_after depth s [] k after fit st = (refl, stands_first s 0 k 10 after st refl)
 newline_after depth s (a ∷ opened) k after fit st = absurd (false≢true fit)
 
-line_kind : (kind : Kind) → is_line kind ≡ true → kind ≡ LineToken
-line_kind LineToken h = refl
-line_kind Ident h = absurd (false≢true h)
-line_kind Word h = absurd (false≢true h)
-line_kind Int h = absurd (false≢true h)
-line_kind Text h = absurd (false≢true h)
-line_kind Sign h = absurd (false≢true h)
-line_kind NoteToken h = absurd (false≢true h)
+line_kind : (kind : Kind) → is_line kind ≡ true → kind ≡ Newline
+line_kind Newline h = refl
+line_kind Identifier h = absurd (false≢true h)
+line_kind Keyword h = absurd (false≢true h)
+line_kind Integer h = absurd (false≢true h)
+line_kind String h = absurd (false≢true h)
+line_kind Operator h = absurd (false≢true h)
+line_kind CommentToken h = absurd (false≢true h)
 line_kind Kept h = absurd (false≢true h)
 
 -- a text is not empty
@@ -131,7 +131,7 @@ start_stands after = stands_plain start 0 Blank after refl
 newline_joins : (s : Scan) (seen after : List ℕ) → is_ended s.inside ≡ false → seen_lines s seen (10 ∷ after) ≡ seen_lines (next s 10) (seen ++ 10 ∷ []) after
 newline_joins s seen after none = seen_step s seen 10 after none
 
-whole_line : (line : List Piece) (p : Piece) → p.kind ≡ LineToken → p.text ≡ 10 ∷ [] → line_at ((bytes_of line ++ p.gap) ++ 10 ∷ []) (kind_of line) false ≡ line_of (line ++ p ∷ []) []
+whole_line : (line : List Piece) (p : Piece) → p.kind ≡ Newline → p.text ≡ 10 ∷ [] → line_at ((bytes_of line ++ p.gap) ++ 10 ∷ []) (kind_of line) false ≡ line_of (line ++ p ∷ []) []
 whole_line line p kind text =
     let bytes : (bytes_of line ++ p.gap) ++ 10 ∷ [] ≡ bytes_of (line ++ p ∷ []) ++ [] = append_assoc (bytes_of line) p.gap (10 ∷ []) ∙ ap (λ x. bytes_of line ++ (p.gap ++ x)) (sym text) ∙ sym (bytes_of-push line p) ∙ sym (append-nil (bytes_of (line ++ p ∷ []))) in
     let same : kind_of line ≡ kind_of (line ++ p ∷ []) = ap (kind_with (kind_of line)) (sym kind) ∙ sym (kind_snoc line p) in
@@ -153,8 +153,8 @@ piece_passed depth opened p bytes after s line piece st none =
     elim (cases_Bool (is_line p.kind)) [
       | inl end ↦
           let text : p.text ≡ 10 ∷ [] = line_text p.kind p.text end piece.token.whole in
-          let kind : p.kind ≡ LineToken = line_kind p.kind end in
-          let fit = subst (λ t. fits depth opened LineToken t ≡ true) text (subst (λ x. fits depth opened x p.text ≡ true) kind piece.fits) in
+          let kind : p.kind ≡ Newline = line_kind p.kind end in
+          let fit = subst (λ t. fits depth opened Newline t ≡ true) text (subst (λ x. fits depth opened x p.text ≡ true) kind piece.fits) in
           let n = newline_after depth (run s p.gap) opened k after fit (subst (λ t. Stands (run s p.gap) d k (t ++ after)) text g.stands) in
           ends_line end (λ i. open_after_token (n.0 i) (text i))
           (over

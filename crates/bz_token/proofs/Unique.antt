@@ -4,7 +4,7 @@ use Rattle.std.specs.Prelude.{Option, Some, None}
 use Rattle.std.proofs.lemmas.Bool.{cases_Bool, cases_lt, and_parts, or_cases, false≢true, eqb-true}
 use Rattle.bz_token.specs.declared.scan_string.Opening.{Opening}
 use Rattle.bz_token.specs.declared.token.Kind.{Kind}
-use Rattle.bz_token.specs.declared.token.Kind.TheVariants.{Ident, Word, Int, Text, Sign, Line, Note, Kept}
+use Rattle.bz_token.specs.declared.token.Kind.TheVariants.{Identifier, Keyword, Integer, String, Operator, Newline, Comment, Kept}
 use Rattle.bz_token.specs.Lexical.{is_blank, is_keyword, is_name, is_string, opening, is_text, is_string_kind, counts, IsToken}
 use Rattle.bz_token.specs.Brackets.{is_inside, fits, open_after_token}
 use Rattle.bz_token.specs.Reading.{is_white, is_gap, continues_gap, feeds_gap, continues, begins_gap, Piece, IsPiece, IsReading, open_after}
@@ -101,23 +101,23 @@ blank_class b h =
     ]
 
 pub nothing_unknown : (kind : Kind) → can_start kind unknown ≡ true → ⊥
-nothing_unknown Ident h = false≢true h
-nothing_unknown Word h = false≢true h
-nothing_unknown Int h = false≢true h
-nothing_unknown Text h = false≢true h
-nothing_unknown Sign h = false≢true h
-nothing_unknown Line h = false≢true h
-nothing_unknown Note h = false≢true h
+nothing_unknown Identifier h = false≢true h
+nothing_unknown Keyword h = false≢true h
+nothing_unknown Integer h = false≢true h
+nothing_unknown String h = false≢true h
+nothing_unknown Operator h = false≢true h
+nothing_unknown Newline h = false≢true h
+nothing_unknown Comment h = false≢true h
 nothing_unknown Kept h = false≢true h
 
-only_line : (kind : Kind) → can_start kind newline ≡ true → kind ≡ Line
-only_line Line h = refl
-only_line Ident h = absurd (false≢true h)
-only_line Word h = absurd (false≢true h)
-only_line Int h = absurd (false≢true h)
-only_line Text h = absurd (false≢true h)
-only_line Sign h = absurd (false≢true h)
-only_line Note h = absurd (false≢true h)
+only_line : (kind : Kind) → can_start kind newline ≡ true → kind ≡ Newline
+only_line Newline h = refl
+only_line Identifier h = absurd (false≢true h)
+only_line Keyword h = absurd (false≢true h)
+only_line Integer h = absurd (false≢true h)
+only_line String h = absurd (false≢true h)
+only_line Operator h = absurd (false≢true h)
+only_line Comment h = absurd (false≢true h)
 only_line Kept h = absurd (false≢true h)
 
 -- a token that fits begins with no byte of a gap
@@ -132,12 +132,12 @@ token_no_gap depth opened kind b bs is fit h =
         | inr line ↦
             let parts = and_parts (is_inside opened) (b == 10) line in
             let same : b ≡ 10 = eqb-true b 10 parts.1 in
-            let kind_is : kind ≡ Line = only_line kind (ap (λ x. can_start kind (class_of x)) (sym same) ∙ text_class kind b bs is) in
+            let kind_is : kind ≡ Newline = only_line kind (ap (λ x. can_start kind (class_of x)) (sym same) ∙ text_class kind b bs is) in
             lines opened bs (subst (λ k. is_text k (b ∷ bs) ≡ true) kind_is is) (subst (λ k. fits depth opened k (b ∷ bs) ≡ true) kind_is fit) parts.0
       ]
     ]
   where
-    lines : (opened bs : List ℕ) → is_text Line (b ∷ bs) ≡ true → fits depth opened Line (b ∷ bs) ≡ true → is_inside opened ≡ true → ⊥
+    lines : (opened bs : List ℕ) → is_text Newline (b ∷ bs) ≡ true → fits depth opened Newline (b ∷ bs) ≡ true → is_inside opened ≡ true → ⊥
     lines [] bs is fit inside = false≢true inside
     lines (a ∷ opened) [] is fit inside = false≢true fit
     lines (a ∷ opened) (c ∷ bs) is fit inside = more (same_bytes (b ∷ c ∷ bs) (10 ∷ []) is)
@@ -174,64 +174,64 @@ token_shorter k l s t a b longest other same =
           absurd (omega (arith, ap length r.1, length-append s r.0, ap length none))
     ]
 
-is_strings : (kind : Kind) → is_string_kind kind ≡ true → kind ≡ Text
-is_strings Text h = refl
-is_strings Ident h = absurd (false≢true h)
-is_strings Word h = absurd (false≢true h)
-is_strings Int h = absurd (false≢true h)
-is_strings Sign h = absurd (false≢true h)
-is_strings Line h = absurd (false≢true h)
-is_strings Note h = absurd (false≢true h)
+is_strings : (kind : Kind) → is_string_kind kind ≡ true → kind ≡ String
+is_strings String h = refl
+is_strings Identifier h = absurd (false≢true h)
+is_strings Keyword h = absurd (false≢true h)
+is_strings Integer h = absurd (false≢true h)
+is_strings Operator h = absurd (false≢true h)
+is_strings Newline h = absurd (false≢true h)
+is_strings Comment h = absurd (false≢true h)
 is_strings Kept h = absurd (false≢true h)
 
-only_int : (kind : Kind) → can_start kind digit ≡ true → kind ≡ Int
-only_int Int h = refl
-only_int Ident h = absurd (false≢true h)
-only_int Word h = absurd (false≢true h)
-only_int Text h = absurd (false≢true h)
-only_int Sign h = absurd (false≢true h)
-only_int Line h = absurd (false≢true h)
-only_int Note h = absurd (false≢true h)
+only_int : (kind : Kind) → can_start kind digit ≡ true → kind ≡ Integer
+only_int Integer h = refl
+only_int Identifier h = absurd (false≢true h)
+only_int Keyword h = absurd (false≢true h)
+only_int String h = absurd (false≢true h)
+only_int Operator h = absurd (false≢true h)
+only_int Newline h = absurd (false≢true h)
+only_int Comment h = absurd (false≢true h)
 only_int Kept h = absurd (false≢true h)
 
-only_text : (kind : Kind) → can_start kind quote ≡ true → kind ≡ Text
-only_text Text h = refl
-only_text Ident h = absurd (false≢true h)
-only_text Word h = absurd (false≢true h)
-only_text Int h = absurd (false≢true h)
-only_text Sign h = absurd (false≢true h)
-only_text Line h = absurd (false≢true h)
-only_text Note h = absurd (false≢true h)
+only_text : (kind : Kind) → can_start kind quote ≡ true → kind ≡ String
+only_text String h = refl
+only_text Identifier h = absurd (false≢true h)
+only_text Keyword h = absurd (false≢true h)
+only_text Integer h = absurd (false≢true h)
+only_text Operator h = absurd (false≢true h)
+only_text Newline h = absurd (false≢true h)
+only_text Comment h = absurd (false≢true h)
 only_text Kept h = absurd (false≢true h)
 
-only_note : (kind : Kind) → can_start kind hash ≡ true → kind ≡ Note
-only_note Note h = refl
-only_note Ident h = absurd (false≢true h)
-only_note Word h = absurd (false≢true h)
-only_note Int h = absurd (false≢true h)
-only_note Text h = absurd (false≢true h)
-only_note Sign h = absurd (false≢true h)
-only_note Line h = absurd (false≢true h)
+only_note : (kind : Kind) → can_start kind hash ≡ true → kind ≡ Comment
+only_note Comment h = refl
+only_note Identifier h = absurd (false≢true h)
+only_note Keyword h = absurd (false≢true h)
+only_note Integer h = absurd (false≢true h)
+only_note String h = absurd (false≢true h)
+only_note Operator h = absurd (false≢true h)
+only_note Newline h = absurd (false≢true h)
 only_note Kept h = absurd (false≢true h)
 
-only_sign : (kind : Kind) → can_start kind mark ≡ true → kind ≡ Sign
-only_sign Sign h = refl
-only_sign Ident h = absurd (false≢true h)
-only_sign Word h = absurd (false≢true h)
-only_sign Int h = absurd (false≢true h)
-only_sign Text h = absurd (false≢true h)
-only_sign Line h = absurd (false≢true h)
-only_sign Note h = absurd (false≢true h)
+only_sign : (kind : Kind) → can_start kind mark ≡ true → kind ≡ Operator
+only_sign Operator h = refl
+only_sign Identifier h = absurd (false≢true h)
+only_sign Keyword h = absurd (false≢true h)
+only_sign Integer h = absurd (false≢true h)
+only_sign String h = absurd (false≢true h)
+only_sign Newline h = absurd (false≢true h)
+only_sign Comment h = absurd (false≢true h)
 only_sign Kept h = absurd (false≢true h)
 
-name_kind : (kind : Kind) (text : List ℕ) → can_start kind letter ≡ true → is_text kind text ≡ true → (is_string text ≡ true → ⊥) → (kind ≡ Ident) ⊎ (kind ≡ Word)
-name_kind Ident text h is none = inl refl
-name_kind Word text h is none = inr refl
-name_kind Text text h is none = absurd (none is)
-name_kind Int text h is none = absurd (false≢true h)
-name_kind Sign text h is none = absurd (false≢true h)
-name_kind Line text h is none = absurd (false≢true h)
-name_kind Note text h is none = absurd (false≢true h)
+name_kind : (kind : Kind) (text : List ℕ) → can_start kind letter ≡ true → is_text kind text ≡ true → (is_string text ≡ true → ⊥) → (kind ≡ Identifier) ⊎ (kind ≡ Keyword)
+name_kind Identifier text h is none = inl refl
+name_kind Keyword text h is none = inr refl
+name_kind String text h is none = absurd (none is)
+name_kind Integer text h is none = absurd (false≢true h)
+name_kind Operator text h is none = absurd (false≢true h)
+name_kind Newline text h is none = absurd (false≢true h)
+name_kind Comment text h is none = absurd (false≢true h)
 name_kind Kept text h is none = absurd (false≢true h)
 
 -- a text that counts at a place has one kind
@@ -239,7 +239,7 @@ kinds_same : (k l : Kind) (text rest : List ℕ) → is_text k text ≡ true →
 kinds_same k l [] rest a b ca cb = absurd (empty_no_text k a)
 kinds_same k l (x ∷ text) rest a b ca cb = by_place (opening (x ∷ text ++ rest)) refl
   where
-    apart : is_text Ident (x ∷ text) ≡ true → is_text Word (x ∷ text) ≡ true → ⊥
+    apart : is_text Identifier (x ∷ text) ≡ true → is_text Keyword (x ∷ text) ≡ true → ⊥
     apart i w = false≢true (sym (not_true _ (and_parts (is_name (x ∷ text)) (not (is_keyword (x ∷ text))) i).1) ∙ w)
       where
         not_true : (x : Bool) → not x ≡ true → x ≡ false

@@ -2,7 +2,7 @@
 -- is white space; the greatest depth is this project's own rule). Open brackets are listed from the innermost outwards.
 use Rattle.std.specs.Prelude.{ℕ, List, [], ◌∷◌, length, drop, Bool, true, false, not, ◌&&◌, ◌||◌, ◌==◌, nat_lt, if◌then◌else◌}
 use Rattle.bz_token.specs.declared.token.Kind.{Kind}
-use Rattle.bz_token.specs.declared.token.Kind.TheVariants.{Line}
+use Rattle.bz_token.specs.declared.token.Kind.TheVariants.{Newline}
 use Rattle.bz_token.specs.Places.{Placed}
 
 abbrev pub is_opening_bracket : ℕ → Bool
@@ -30,7 +30,7 @@ bracket_fits depth opened b =
     if is_opening_bracket b then nat_lt (length opened) depth else (if is_closing_bracket b then closes_innermost opened b else true)
 
 abbrev pub is_line : Kind → Bool
-is_line Line = true
+is_line Newline = true
 is_line _ = false
 
 -- a token fits where these brackets are open; newlines are tokens outside brackets alone

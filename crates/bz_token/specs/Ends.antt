@@ -2,7 +2,7 @@
 use Rattle.std.specs.Prelude.{ℕ, ◌+◌, List, [], ◌∷◌, ◌++◌, length, take, codes, Bool, true, false, not, ◌&&◌, ◌==◌, Option, Some, None}
 use Rattle.std.specs.List.{list_all, prefix_len}
 use Rattle.bz_token.specs.declared.token.Kind.{Kind}
-use Rattle.bz_token.specs.declared.token.Kind.TheVariants.{Ident, Word, Int, Text, Sign, Line, Note, Kept}
+use Rattle.bz_token.specs.declared.token.Kind.TheVariants.{Identifier, Keyword, Integer, String, Operator, Newline, Comment, Kept}
 use Rattle.bz_token.specs.declared.scan_string.Opening.{Opening}
 use Rattle.bz_token.specs.Pieces.{is_quote}
 use Rattle.bz_token.specs.Lexical.{is_word_byte, is_blank, is_newline, is_one_of, is_sign, opening}
@@ -17,13 +17,13 @@ is_empty_string (Some o) text b = not o.quotes.long && (length text == o.prefix 
 
 -- the byte after a text of this kind ends it; of a comment only a newline is sure to
 abbrev pub stops : Kind → List ℕ → ℕ → Bool
-stops Ident text b = not (is_word_byte b) && not (is_quote b && is_prefix text)
-stops Word text b = not (is_word_byte b)
-stops Int text b = not (is_word_byte b)
-stops Text text b = not (is_empty_string (opening text) text b)
-stops Sign text b = not (is_sign (text ++ b ∷ []))
-stops Line text b = true
-stops Note text b = b == 10
+stops Identifier text b = not (is_word_byte b) && not (is_quote b && is_prefix text)
+stops Keyword text b = not (is_word_byte b)
+stops Integer text b = not (is_word_byte b)
+stops String text b = not (is_empty_string (opening text) text b)
+stops Operator text b = not (is_sign (text ++ b ∷ []))
+stops Newline text b = true
+stops Comment text b = b == 10
 stops Kept text b = true
 
 abbrev pub stops_at : Kind → List ℕ → List ℕ → Bool
@@ -31,7 +31,7 @@ stops_at kind text [] = true
 stops_at kind text (b ∷ bs) = stops kind text b
 
 abbrev pub is_note : Kind → Bool
-is_note Note = true
+is_note Comment = true
 is_note _ = false
 
 -- what follows a text of this kind ends it: of a comment, white space up to the line's end

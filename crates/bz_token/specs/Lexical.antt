@@ -6,7 +6,7 @@ use Rattle.std.specs.Char.{is_ascii_digit, is_ascii_hexdigit, is_ascii_alphabeti
 use Rattle.bz_token.specs.declared.token.Kind.{Kind}
 use Rattle.bz_token.specs.declared.scan_string.Quotes.{Quotes}
 use Rattle.bz_token.specs.declared.scan_string.Opening.{Opening}
-use Rattle.bz_token.specs.declared.token.Kind.TheVariants.{Ident, Word, Int, Text, Sign, Line, Note, Kept}
+use Rattle.bz_token.specs.declared.token.Kind.TheVariants.{Identifier, Keyword, Integer, String, Operator, Newline, Comment, Kept}
 use Rattle.bz_token.specs.Pieces.{is_byte, is_quote, units, but_last, stops_short, three_in_a_row}
 
 -- ASCII letters, digits and underscores
@@ -122,13 +122,13 @@ is_comment text = begins (λ b. b == 35) text && not (list_any is_newline text) 
 
 -- a text of this kind
 abbrev pub is_text : Kind → List ℕ → Bool
-is_text Ident text = is_name text && not (is_keyword text)
-is_text Word text = is_keyword text
-is_text Int text = is_number text
-is_text Text text = is_string text
-is_text Sign text = is_sign text
-is_text Line text = bytes_eq text (10 ∷ [])
-is_text Note text = is_comment text
+is_text Identifier text = is_name text && not (is_keyword text)
+is_text Keyword text = is_keyword text
+is_text Integer text = is_number text
+is_text String text = is_string text
+is_text Operator text = is_sign text
+is_text Newline text = bytes_eq text (10 ∷ [])
+is_text Comment text = is_comment text
 is_text Kept text = false
 
 -- whether three quotes open a string
@@ -137,11 +137,11 @@ is_long None = false
 is_long (Some o) = o.quotes.long
 
 abbrev pub is_number_kind : Kind → Bool
-is_number_kind Int = true
+is_number_kind Integer = true
 is_number_kind _ = false
 
 abbrev pub is_string_kind : Kind → Bool
-is_string_kind Text = true
+is_string_kind String = true
 is_string_kind _ = false
 
 -- At a string's opening quotes only strings count, at three quotes only long ones; at a digit only all letters, digits and

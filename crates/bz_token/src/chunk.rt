@@ -35,13 +35,10 @@ enum LineEnd {
 fn line_end(line: &[Token<'_>]) -> LineEnd
     ensures { result ≡ line_end (map placed line.now) }
 {
-    if line.iter().all(|token| token.kind == Kind::Line) {
+    if line.iter().all(|token| token.kind == Kind::Newline) {
         return LineEnd::Ends;
     }
-    if line
-        .iter()
-        .all(|token| matches!(token.kind, Kind::Line | Kind::Note))
-    {
+    if line.iter().all(|token| matches!(token.kind, Kind::Newline | Kind::Comment)) {
         return LineEnd::Joins;
     }
     match line {

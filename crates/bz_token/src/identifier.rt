@@ -2,7 +2,7 @@
 
 ghost use Rattle.std.specs.Prelude.{◌≡◌};
 ghost use Rattle.std.specs.List.{list_all};
-ghost use Rattle.bz_token.specs.declared.token.Kind.TheVariants.{Ident};
+ghost use Rattle.bz_token.specs.declared.token.Kind.TheVariants.{Identifier};
 ghost use Rattle.bz_token.specs.Lexical as spec;
 
 use crate::scan::is_keyword;
@@ -11,7 +11,7 @@ use crate::table::is_word_byte;
 /// The text is an identifier: ASCII letters, digits and underscores that begin with no digit, and no keyword (Starlark
 /// specification, "Lexical elements").
 pub fn is_identifier(text: &str) -> bool
-    ensures { result ≡ spec.is_text Ident text.now }
+    ensures { result ≡ spec.is_text Identifier text.now }
 {
     is_name(text.as_bytes()) && !is_keyword(text.as_bytes())
 }

@@ -5,7 +5,7 @@ ghost use Rattle.std.specs.List.{list_any, concat};
 ghost use Rattle.bz_token.specs.Ends.{stops, ends, is_note};
 ghost use Rattle.bz_token.specs.Lexical.{is_text, IsToken};
 ghost use Rattle.bz_token.specs.declared.token.Kind.{Kind};
-ghost use Rattle.bz_token.specs.declared.token.Kind.TheVariants.{Sign};
+ghost use Rattle.bz_token.specs.declared.token.Kind.TheVariants.{Operator};
 ghost use Rattle.bz_token.specs.Places.{Placed, line_at};
 ghost use Rattle.bz_token.specs.FreshStart.{AreLinesOf, AreTokensOfChunks, tokens_on_lines, fault_on_lines};
 ghost use Rattle.bz_token.specs.Chunks.{chunks};
@@ -65,8 +65,8 @@ pub fn bytes_that_end_tokens()
         → stops kind text 32 ≡ true }
     ensures mark { (kind : Kind) (text : List ℕ) (b : ℕ) → is_text kind text ≡ true → is_note kind ≡ false
         → list_any (λ c. b == c) (codes ".,:)]}") ≡ true → stops kind text b ≡ true }
-    ensures sign { (text : List ℕ) (b : ℕ) → is_text Sign text ≡ true → list_any (λ c. b == c) (codes "/*<>=") ≡ false
-        → stops Sign text b ≡ true }
+    ensures sign { (text : List ℕ) (b : ℕ) → is_text Operator text ≡ true → list_any (λ c. b == c) (codes "/*<>=") ≡ false
+        → stops Operator text b ≡ true }
 {}
 
 /// After a text that a newline outside brackets ends, reading starts afresh: what follows is read as it is as a text of

@@ -229,7 +229,7 @@ impl<'a> Lexer<'a> {
         while !spot.rest.is_empty() {
             let (next, kind) = self.step(spot, max_depth)?;
             spot = next;
-            if kind == Some(Kind::Line) {
+            if kind == Some(Kind::Newline) {
                 return Ok((spot, true));
             }
             if self.tokens.len() >= most {

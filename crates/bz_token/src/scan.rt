@@ -3,7 +3,7 @@
 ghost use Rattle.std.specs.Prelude.{◌≡◌, ◌≤◌, ◌<◌, ◌+◌, ◌-◌, ◌++◌, ◌==◌, ◌∷◌, [], ℕ, true, false, not, length, take, drop, slice_index, map, IfOk, IfErr, IfSome, IfNone, IsTrue, bytes_eq};
 ghost use Rattle.std.specs.Char.{is_ascii_digit, is_ascii_hexdigit};
 ghost use Rattle.std.specs.List.{list_all, list_any, prefix_len};
-ghost use Rattle.bz_token.specs.declared.token.Kind.TheVariants.{Sign};
+ghost use Rattle.bz_token.specs.declared.token.Kind.TheVariants.{Operator};
 ghost use Rattle.bz_token.specs.Ends.{stops_at};
 ghost use Rattle.bz_token.specs.Lexical.{signs, keywords, begins, is_blank, is_word_byte, is_octal_digit, are_based, is_number, is_keyword, is_one_of, is_sign, is_comment, is_newline};
 
@@ -174,7 +174,7 @@ fn byte_at(bytes: &[u8], at: usize) -> u8
 pub fn sign_len(bytes: &[u8]) -> usize
     ensures in_range { result ≤ length bytes.now }
     ensures sign { 0 < result → is_sign (take result bytes.now) ≡ true }
-    ensures stops { 0 < result → stops_at Sign (take result bytes.now) (drop result bytes.now) ≡ true }
+    ensures stops { 0 < result → stops_at Operator (take result bytes.now) (drop result bytes.now) ≡ true }
     ensures none { result ≡ 0 → (n : ℕ) → is_sign (take n bytes.now) ≡ false }
 {
     sign_of(byte_at(bytes, 0), byte_at(bytes, 1), byte_at(bytes, 2))

@@ -62,7 +62,7 @@ fn scan_string(opened: Opening, bytes: &[u8]) -> Result<Step, Bad>
         return Err(Bad::OpenText);
     };
     Ok(Step::Token(Scanned {
-        kind: Kind::Text,
+        kind: Kind::String,
         len: start + inside.len,
         has_newline: inside.has_newline,
     }))
@@ -78,7 +78,7 @@ fn scan_number(bytes: &[u8]) -> Result<Step, Bad>
     if !is_number(&bytes[..len]) {
         return Err(Bad::Number);
     }
-    Ok(Step::Token(on_one_line(Kind::Int, len)))
+    Ok(Step::Token(on_one_line(Kind::Integer, len)))
 }
 
 #[inline(always)]
@@ -90,9 +90,9 @@ fn scan_name(bytes: &[u8]) -> Scanned
 {
     let len = word_len(bytes);
     if is_keyword(&bytes[..len]) {
-        on_one_line(Kind::Word, len)
+        on_one_line(Kind::Keyword, len)
     } else {
-        on_one_line(Kind::Ident, len)
+        on_one_line(Kind::Identifier, len)
     }
 }
 
@@ -115,7 +115,7 @@ fn scan_note(bytes: &[u8]) -> Scanned
     requires { begins (λ b. b == 35) bytes.now ≡ true }
     ensures { IsScanned bytes.now result }
 {
-    on_one_line(Kind::Note, comment_len(bytes))
+    on_one_line(Kind::Comment, comment_len(bytes))
 }
 
 #[inline(always)]
@@ -127,7 +127,7 @@ fn scan_sign(bytes: &[u8]) -> Result<Step, Bad>
 {
     match sign_len(bytes) {
         0 => Err(Bad::Character),
-        len => Ok(Step::Token(on_one_line(Kind::Sign, len))),
+        len => Ok(Step::Token(on_one_line(Kind::Operator, len))),
     }
 }
 
@@ -137,7 +137,7 @@ fn scan_single(bytes: &[u8]) -> Scanned
     requires single { is_single (slice_index bytes.now 0) ≡ true }
     ensures { IsScanned bytes.now result }
 {
-    on_one_line(Kind::Sign, 1)
+    on_one_line(Kind::Operator, 1)
 }
 
 // The newline here: a token, or white space inside brackets.
@@ -151,7 +151,7 @@ fn line_end(inside: bool, bytes: &[u8]) -> Step
         return Step::Gap(newline(bytes));
     }
     Step::Token(Scanned {
-        kind: Kind::Line,
+        kind: Kind::Newline,
         len: 1,
         has_newline: true,
     })

@@ -4,19 +4,19 @@
 #[derive(Clone, Copy, Debug, PartialEq, Eq)]
 pub enum Kind {
     /// An identifier, as `name` or `True`.
-    Ident,
+    Identifier,
     /// A keyword, as `for`.
-    Word,
+    Keyword,
     /// An integer literal.
-    Int,
+    Integer,
     /// A string literal, with its prefix and quotes.
-    Text,
+    String,
     /// An operator or a bracket.
-    Sign,
+    Operator,
     /// A newline outside brackets.
-    Line,
+    Newline,
     /// A comment, from its `#`, without trailing white space.
-    Note,
+    Comment,
     /// A block that is kept as it was written. No tokenizer gives it.
     Kept,
 }

@@ -2,7 +2,7 @@
 use Rattle.std.proofs.Common.{◌≡◌, ℕ, List, [], ◌∷◌, true, false, refl}
 use Rattle.std.specs.Prelude.{codes}
 use Rattle.bz_token.specs.declared.token.Kind.{Kind}
-use Rattle.bz_token.specs.declared.token.Kind.TheVariants.{Ident, Int, Sign, Line as LineToken, Note as NoteToken}
+use Rattle.bz_token.specs.declared.token.Kind.TheVariants.{Identifier, Integer, Operator, Newline, Comment}
 use Rattle.bz_token.specs.declared.cutter.scan.LineKind.TheVariants.{Note, Statement}
 use Rattle.bz_token.specs.Lexical.{keywords, signs}
 use Rattle.bz_token.specs.FreshStart.{ends_in_line}
@@ -20,10 +20,10 @@ piece gap kind text = record { gap = gap; kind = kind; text = text }
 -- a comment line, and a call over two lines with a comment inside and one after it
 abbrev example : List Piece
 example =
-    piece [] NoteToken (codes "# a") ∷ piece [] LineToken (codes "\n")
-    ∷ piece [] Ident (codes "x") ∷ piece (codes " ") Sign (codes "=") ∷ piece (codes " ") Ident (codes "f") ∷ piece [] Sign (codes "(")
-    ∷ piece (codes "  ") NoteToken (codes "# b") ∷ piece (codes "\n    ") Sign (codes "-") ∷ piece [] Int (codes "1") ∷ piece [] Sign (codes ",")
-    ∷ piece (codes "\n") Sign (codes ")") ∷ piece (codes "  ") NoteToken (codes "# c") ∷ piece [] LineToken (codes "\n") ∷ []
+    piece [] Comment (codes "# a") ∷ piece [] Newline (codes "\n")
+    ∷ piece [] Identifier (codes "x") ∷ piece (codes " ") Operator (codes "=") ∷ piece (codes " ") Identifier (codes "f") ∷ piece [] Operator (codes "(")
+    ∷ piece (codes "  ") Comment (codes "# b") ∷ piece (codes "\n    ") Operator (codes "-") ∷ piece [] Integer (codes "1") ∷ piece [] Operator (codes ",")
+    ∷ piece (codes "\n") Operator (codes ")") ∷ piece (codes "  ") Comment (codes "# c") ∷ piece [] Newline (codes "\n") ∷ []
 
 texts : are_texts example ≡ true
 unfolding keywords signs
@@ -58,11 +58,11 @@ block : ends_chunk (record { text = codes "def f():\n"; kind = Statement; broken
 block = refl
 
 -- a newline outside brackets is no gap
-unfitting : are_fitting 1 [] (piece [] Ident (codes "x") ∷ piece (codes "\n") Ident (codes "y") ∷ []) ≡ false
+unfitting : are_fitting 1 [] (piece [] Identifier (codes "x") ∷ piece (codes "\n") Identifier (codes "y") ∷ []) ≡ false
 unfitting = refl
 
 -- two names with nothing between them are one
-joined : are_ended (piece [] Ident (codes "x") ∷ piece [] Ident (codes "y") ∷ []) [] ≡ false
+joined : are_ended (piece [] Identifier (codes "x") ∷ piece [] Identifier (codes "y") ∷ []) [] ≡ false
 joined = refl
 
 -- chunks of the three forms; a statement and a blank line are none, nor are comment lines that a statement follows

@@ -2,7 +2,7 @@
 use Rattle.std.proofs.Common.{◌≡◌, ℕ, ◌&&◌, List, [], ◌∷◌, ◌++◌, Bool, true, false, refl, sym, ap, subst, ◌∙◌, append_assoc, append-nil}
 use Rattle.std.proofs.lemmas.Bool.{and_parts}
 use Rattle.bz_token.specs.declared.token.Kind.{Kind}
-use Rattle.bz_token.specs.declared.token.Kind.TheVariants.{Ident, Word, Int, Text, Sign, Line, Note, Kept}
+use Rattle.bz_token.specs.declared.token.Kind.TheVariants.{Identifier, Keyword, Integer, String, Operator, Newline, Comment, Kept}
 use Rattle.bz_token.specs.Lexical.{is_text}
 use Rattle.bz_token.specs.Ends.{stops_at, ends}
 use Rattle.bz_token.specs.Brackets.{is_inside, fits, open_after_token}
@@ -79,11 +79,11 @@ open_join opened (p ∷ ps) qs = open_join (open_after_token opened p.text) ps q
 
 pub stopped_at_ends : (kind : Kind) (text after : List ℕ) → stops_at kind text after ≡ true → ends kind text after ≡ true
 stopped_at_ends kind text (b ∷ bs) h = stopped_ends kind text b bs h
-stopped_at_ends Ident text [] h = refl
-stopped_at_ends Word text [] h = refl
-stopped_at_ends Int text [] h = refl
-stopped_at_ends Text text [] h = refl
-stopped_at_ends Sign text [] h = refl
-stopped_at_ends Line text [] h = refl
-stopped_at_ends Note text [] h = refl
+stopped_at_ends Identifier text [] h = refl
+stopped_at_ends Keyword text [] h = refl
+stopped_at_ends Integer text [] h = refl
+stopped_at_ends String text [] h = refl
+stopped_at_ends Operator text [] h = refl
+stopped_at_ends Newline text [] h = refl
+stopped_at_ends Comment text [] h = refl
 stopped_at_ends Kept text [] h = refl

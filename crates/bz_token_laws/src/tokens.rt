@@ -3,7 +3,7 @@
 ghost use Rattle.std.specs.Prelude.{◌≡◌, ◌≤◌, ◌++◌, ◌&&◌, ◌==◌, ◌∷◌, ℕ, List, true, false, [], codes};
 ghost use Rattle.std.specs.List.{list_all, list_any};
 ghost use Rattle.bz_token.specs.declared.token.Kind.{Kind};
-ghost use Rattle.bz_token.specs.declared.token.Kind.TheVariants.{Sign};
+ghost use Rattle.bz_token.specs.declared.token.Kind.TheVariants.{Operator};
 ghost use Rattle.bz_token.specs.Pieces.{is_quote};
 ghost use Rattle.bz_token.specs.Lexical.{is_word_byte, is_text};
 ghost use Rattle.bz_token.specs.Places.{Placed};
@@ -55,8 +55,8 @@ pub fn tokens_may_stand_close()
         → is_word_byte b ≡ false → is_quote b ≡ false → list_any (λ c. b == c) (codes "/*<>=") ≡ false
         → stops kind text b ≡ true }
     ensures first { (kind : Kind) (b : ℕ) (bs : List ℕ) → is_text kind (b ∷ bs) ≡ true
-        → list_any (λ c. b == c) (codes "/*<>=") ≡ true → kind ≡ Sign }
-    ensures alone { (m b : ℕ) → list_any (λ c. m == c) (codes "()[]{},;.:~") ≡ true → stops Sign (m ∷ []) b ≡ true }
+        → list_any (λ c. b == c) (codes "/*<>=") ≡ true → kind ≡ Operator }
+    ensures alone { (m b : ℕ) → list_any (λ c. m == c) (codes "()[]{},;.:~") ≡ true → stops Operator (m ∷ []) b ≡ true }
 {}
 
 /// Each token is a text of its kind. A text has the same tokens where more brackets may be open.

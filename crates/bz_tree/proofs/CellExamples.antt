@@ -1,15 +1,15 @@
 -- Worked examples of the definition by cells.
 use Rattle.std.proofs.Common.{◌≡◌, ℕ, List, [], ◌∷◌, true, false, Some, None, refl, codes}
-use Rattle.bz_token.specs.declared.token.Kind.TheVariants.{Ident, Sign}
+use Rattle.bz_token.specs.declared.token.Kind.TheVariants.{Identifier, Operator}
 use Rattle.bz_token.specs.Places.{Placed}
 use Rattle.bz_tree.specs.Tree.{Item, leaf, Segment}
 use Rattle.bz_tree.specs.Owners.{node, comma, note, no_token, inside, a_node, a_comma, a_note, inside_by_cells, entries_of}
 
 abbrev x : Item
-x = leaf Ident (codes "x")
+x = leaf Identifier (codes "x")
 
 abbrev y : Item
-y = leaf Ident (codes "y")
+y = leaf Identifier (codes "y")
 
 abbrev a : List ℕ
 a = codes "# a"
@@ -85,7 +85,7 @@ below_last_comma : inside_by_cells (a_node x ∷ a_comma ∷ a_note false a ∷ 
 below_last_comma = refl
 
 abbrev at_line : ℕ → Placed
-at_line line = record { kind = Sign; text = codes ","; line = line; col = 1; fresh = false }
+at_line line = record { kind = Operator; text = codes ","; line = line; col = 1; fresh = false }
 
 -- the flags, from lines: `[x # a`, `# b`, `, # c`, `# d`, `]`
 from_lines : entries_of no_token (node 1 x ∷ note 1 a ∷ note 2 b ∷ comma (at_line 3) ∷ note 3 c ∷ note 4 d ∷ [])

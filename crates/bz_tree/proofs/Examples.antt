@@ -7,7 +7,7 @@ use Rattle.std.specs.declared.borrow.CowStr.TheVariants.{Borrowed, Owned}
 use Rattle.std.specs.declared.string.String.{String}
 use Rattle.std.specs.declared.alloc.Global.{Global}
 use Rattle.bz_token.specs.declared.token.Kind.{Kind}
-use Rattle.bz_token.specs.declared.token.Kind.TheVariants.{Ident, Word, Sign, Line, Note}
+use Rattle.bz_token.specs.declared.token.Kind.TheVariants.{Identifier, Keyword, Operator, Newline, Comment as CommentToken}
 use Rattle.bz_token.specs.Places.{Placed}
 use Rattle.bz_tree.specs.declared.stmt.Class.TheVariants.{Comment, Other}
 use Rattle.bz_tree.specs.declared.stmt.GroupKind.TheVariants.{Call}
@@ -21,7 +21,7 @@ use Rattle.bz_tree.specs.Chunk.{indent_fault}
 use Rattle.bz_tree.specs.Comments.{Lists, owners_of, AreDealt}
 
 abbrev x : Placed
-x = record { kind = Ident; text = codes "x"; line = 1; col = 1; fresh = true }
+x = record { kind = Identifier; text = codes "x"; line = 1; col = 1; fresh = true }
 
 abbrev pub at : Kind → List ℕ → ℕ → ℕ → Placed
 at kind text line col = record { kind = kind; text = text; line = line; col = col; fresh = false }
@@ -33,11 +33,11 @@ abbrev pub b : List ℕ
 b = codes "# b"
 
 -- after the last comma on its line: the last segment's suffix; on the next line: an end comment
-after_last_comma : inside (node 1 (leaf_of x) ∷ comma (at Sign (codes ",") 1 2) ∷ note 1 a ∷ note 2 b ∷ []) ≡ record { segs = record { before = []; nodes = leaf_of x ∷ []; suffix = Some a } ∷ []; trailing = true; end = b ∷ [] }
+after_last_comma : inside (node 1 (leaf_of x) ∷ comma (at Operator (codes ",") 1 2) ∷ note 1 a ∷ note 2 b ∷ []) ≡ record { segs = record { before = []; nodes = leaf_of x ∷ []; suffix = Some a } ∷ []; trailing = true; end = b ∷ [] }
 after_last_comma = refl
 
 -- between a node and its comma on the next line: the suffix of its segment
-before_comma : inside (node 1 (leaf_of x) ∷ note 1 a ∷ comma (at Sign (codes ",") 2 1) ∷ node 2 (leaf_of x) ∷ [])
+before_comma : inside (node 1 (leaf_of x) ∷ note 1 a ∷ comma (at Operator (codes ",") 2 1) ∷ node 2 (leaf_of x) ∷ [])
     ≡ record { segs = record { before = []; nodes = leaf_of x ∷ []; suffix = Some a } ∷ record { before = []; nodes = leaf_of x ∷ []; suffix = None } ∷ []; trailing = false; end = [] }
 before_comma = refl
 
@@ -67,25 +67,25 @@ not_turned : AreDealt (a ∷ b ∷ []) ((b ∷ a ∷ []) ∷ []) → ⊥
 not_turned d = not_first d.1.front d.1.back d.1.rest d.1.lists_are
 
 -- no segment is empty
-two_commas : no_empty false (node 1 (leaf_of x) ∷ comma (at Sign (codes ",") 1 2) ∷ comma (at Sign (codes ",") 1 3) ∷ []) ≡ false
+two_commas : no_empty false (node 1 (leaf_of x) ∷ comma (at Operator (codes ",") 1 2) ∷ comma (at Operator (codes ",") 1 3) ∷ []) ≡ false
 two_commas = refl
 
 -- `x = 1` and a comment
-lines_of_one : start_of (at Note a 1 1 ∷ at Line (10 ∷ []) 1 4 ∷ at Ident (codes "x") 2 1 ∷ at Note b 2 3 ∷ []) ≡ 2
+lines_of_one : start_of (at CommentToken a 1 1 ∷ at Newline (10 ∷ []) 1 4 ∷ at Identifier (codes "x") 2 1 ∷ at CommentToken b 2 3 ∷ []) ≡ 2
 lines_of_one = refl
 
 -- `def f:`, two columns on `x`, one column on `y`
-wrong_indent : block_indent (at Word (codes "def") 1 1 ∷ at Ident (codes "f") 1 5 ∷ at Sign (codes ":") 1 6 ∷ at Line (10 ∷ []) 1 7 ∷ at Ident (codes "x") 2 3 ∷ at Line (10 ∷ []) 2 4 ∷ at Ident (codes "y") 3 2 ∷ []) ≡ Some 3
+wrong_indent : block_indent (at Keyword (codes "def") 1 1 ∷ at Identifier (codes "f") 1 5 ∷ at Operator (codes ":") 1 6 ∷ at Newline (10 ∷ []) 1 7 ∷ at Identifier (codes "x") 2 3 ∷ at Newline (10 ∷ []) 2 4 ∷ at Identifier (codes "y") 3 2 ∷ []) ≡ Some 3
 wrong_indent = refl
 
-right_indent : block_indent (at Word (codes "def") 1 1 ∷ at Ident (codes "f") 1 5 ∷ at Sign (codes ":") 1 6 ∷ at Line (10 ∷ []) 1 7 ∷ at Ident (codes "x") 2 3 ∷ at Line (10 ∷ []) 2 4 ∷ at Ident (codes "y") 3 3 ∷ []) ≡ None
+right_indent : block_indent (at Keyword (codes "def") 1 1 ∷ at Identifier (codes "f") 1 5 ∷ at Operator (codes ":") 1 6 ∷ at Newline (10 ∷ []) 1 7 ∷ at Identifier (codes "x") 2 3 ∷ at Newline (10 ∷ []) 2 4 ∷ at Identifier (codes "y") 3 3 ∷ []) ≡ None
 right_indent = refl
 
 -- a header without anything after its colon
-open_block : is_block (at Word (codes "def") 1 1 ∷ at Ident (codes "f") 1 5 ∷ at Sign (codes ":") 1 6 ∷ at Line (10 ∷ []) 1 7 ∷ []) ≡ false
+open_block : is_block (at Keyword (codes "def") 1 1 ∷ at Identifier (codes "f") 1 5 ∷ at Operator (codes ":") 1 6 ∷ at Newline (10 ∷ []) 1 7 ∷ []) ≡ false
 open_block = refl
 
-second_column : indent_fault (at Ident (codes "x") 4 2 ∷ []) ≡ Some 4
+second_column : indent_fault (at Identifier (codes "x") 4 2 ∷ []) ≡ Some 4
 second_column = refl
 
 nothing_there : class_of [] ≡ Comment

@@ -2,7 +2,7 @@
 use Rattle.std.proofs.Common.{◌≡◌, ℕ, List, Bool, true, false, not, ◌&&◌, cond, refl, sym, ap, subst, ◌∙◌, ◌⊎◌, inl, inr}
 use Rattle.std.proofs.lemmas.Bool.{false≢true, and_parts}
 use Rattle.bz_token.specs.declared.token.Kind.{Kind}
-use Rattle.bz_token.specs.declared.token.Kind.TheVariants.{Word, Sign}
+use Rattle.bz_token.specs.declared.token.Kind.TheVariants.{Keyword as KeywordToken, Operator as OperatorToken}
 use Rattle.bz_tree.specs.declared.stmt.GroupKind.{GroupKind}
 use Rattle.bz_tree.specs.declared.stmt.GroupKind.TheVariants.{Call, RuleCall, Load, Paren, List as ListKind, Index, Dict, ListComp, DictComp}
 use Rattle.bz_tree.specs.declared.role.Role.{Role}
@@ -642,8 +642,8 @@ sign_plain word =
     sign_chain (bytes_eq word (codes ".")) (bytes_eq word (codes ",")) (bytes_eq word (codes ":")) (bytes_eq word (codes "=")) (bytes_eq word (codes "~")) (bytes_eq word (codes "*")) (bytes_eq word (codes "**")) (is_among word (codes "+" ∷ codes "-" ∷ [])) (is_among word (codes "+=" ∷ codes "-=" ∷ codes "*=" ∷ codes "/=" ∷ codes "//=" ∷ codes "%=" ∷ codes "&=" ∷ codes "|=" ∷ codes "^=" ∷ codes "<<=" ∷ codes ">>=" ∷ [])) (is_among word (codes "==" ∷ codes "!=" ∷ codes "<" ∷ codes ">" ∷ codes "<=" ∷ codes ">=" ∷ codes "|" ∷ codes "^" ∷ codes "&" ∷ codes "<<" ∷ codes ">>" ∷ codes "/" ∷ codes "//" ∷ codes "%" ∷ []))
 
 leaf_plain : (kind : Kind) (word : List ℕ) → is_suffix_role (leaf_role kind word) ≡ false
-leaf_plain Word word = word_plain word
-leaf_plain Sign word = sign_plain word
+leaf_plain KeywordToken word = word_plain word
+leaf_plain OperatorToken word = sign_plain word
 leaf_plain _ word = refl
 
 token_means : (x : Item) (r : Role) → token_role x ≡ r → is_suffix_role r ≡ false → RoleMeans r x

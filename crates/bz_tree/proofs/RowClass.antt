@@ -5,7 +5,7 @@ use Rattle.std.specs.Str.{bytes_eq}
 use Rattle.std.proofs.lemmas.Bool.{false≢true, and_parts}
 use Rattle.std.proofs.lemmas.Slice.Eq.{bytes_eq-Decides}
 use Rattle.bz_token.specs.declared.token.Kind.{Kind}
-use Rattle.bz_token.specs.declared.token.Kind.TheVariants.{Word, Sign, Kept}
+use Rattle.bz_token.specs.declared.token.Kind.TheVariants.{Keyword, Operator as OperatorToken, Kept}
 use Rattle.bz_tree.specs.declared.stmt.GroupKind.{GroupKind}
 use Rattle.bz_tree.specs.declared.stmt.GroupKind.TheVariants.{Call, RuleCall}
 use Rattle.bz_tree.specs.declared.stmt.Class.TheVariants.{Assign, Rule, Other}
@@ -190,8 +190,8 @@ word_assigns : (text : List ℕ) → is_assignment (word_role text) ≡ false
 word_assigns text = word_chain (bytes_eq text (codes "if")) (bytes_eq text (codes "else")) (bytes_eq text (codes "for")) (bytes_eq text (codes "in")) (bytes_eq text (codes "not")) (is_among text (codes "and" ∷ codes "or" ∷ []))
 
 leaf_assigns : (kind : Kind) (text : List ℕ) → is_assignment (leaf_role kind text) ≡ is_assign (leaf kind text)
-leaf_assigns Sign text = sign_assigns text
-leaf_assigns Word text = word_assigns text
+leaf_assigns OperatorToken text = sign_assigns text
+leaf_assigns Keyword text = word_assigns text
 leaf_assigns _ text = refl
 
 or_none : (b : Bool) → b ≡ (b || false)
@@ -261,7 +261,7 @@ load_role text true is xs h = absurd (refused (items_of xs) (ap (λ t. accepts (
 
 first_is : (x : Item) (xs : List Item) → accepts (Wants Left false) (items_of (x ∷ xs)) ≡ true → (is_kept x ≡ false) × (is_load_word x ≡ false)
 first_is (leaf Kept text) xs h = absurd (refused (items_of xs) h)
-first_is (leaf Word text) xs h = (refl, load_role text (bytes_eq text (codes "load")) refl xs h)
+first_is (leaf Keyword text) xs h = (refl, load_role text (bytes_eq text (codes "load")) refl xs h)
 first_is (leaf _ text) xs h = (refl, refl)
 first_is (group kind segs one_comma end) xs h = (refl, refl)
 

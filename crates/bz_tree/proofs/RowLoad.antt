@@ -2,7 +2,7 @@
 use Rattle.std.proofs.Common.{◌≡◌, ℕ, List, [], ◌∷◌, ◌++◌, map, Bool, true, false, cond, ◌||◌, Option, Some, None, refl, sym, ap, ◌∙◌, append_assoc}
 use Rattle.std.proofs.lemmas.Bool.{false≢true, and_parts}
 use Rattle.bz_token.specs.declared.token.Kind.{Kind}
-use Rattle.bz_token.specs.declared.token.Kind.TheVariants.{Word as WordKind}
+use Rattle.bz_token.specs.declared.token.Kind.TheVariants.{Keyword}
 use Rattle.bz_tree.specs.declared.stmt.Class.TheVariants.{Load as LoadClass}
 use Rattle.bz_tree.specs.declared.stmt.GroupKind.{GroupKind}
 use Rattle.bz_tree.specs.declared.stmt.GroupKind.TheVariants.{Load}
@@ -182,7 +182,7 @@ load_parts before nodes suffix h = word_run (items_of nodes) suffix (sym (above_
 
 -- its class
 word_is : (x : Item) → is_load_word x ≡ true → is_kept x ≡ false
-word_is (leaf WordKind text) h = refl
+word_is (leaf Keyword text) h = refl
 word_is (leaf _ text) h = absurd (false≢true h)
 word_is (group kind segs one_comma end) h = absurd (false≢true h)
 

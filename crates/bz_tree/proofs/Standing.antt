@@ -6,7 +6,7 @@ use Rattle.std.proofs.lemmas.Bool.{false≢true, and_parts}
 use Rattle.std.proofs.lemmas.Bool.Decides.{nat_tests}
 use Rattle.std.proofs.lemmas.Slice.Eq.{bytes_eq-Decides}
 use Rattle.bz_token.specs.declared.token.Kind.{Kind}
-use Rattle.bz_token.specs.declared.token.Kind.TheVariants.{Word, Sign, Line}
+use Rattle.bz_token.specs.declared.token.Kind.TheVariants.{Keyword, Operator, Newline}
 use Rattle.bz_token.specs.Places.{Placed, line_at}
 use Rattle.bz_token.specs.Lexical.{is_text}
 use Rattle.bz_token.specs.Brackets.{is_inside, open_after_token}
@@ -81,8 +81,8 @@ newline_front : (t after : List ℕ) → t ≡ 10 ∷ [] → IsAsciiFront (t ++ 
 newline_front t after is = subst (λ x. IsAsciiFront (x ++ after)) (sym is) (let h : 10 < 128 = omega arith in h)
 
 line_front : (kind : Kind) (t after : List ℕ) → is_line (kind_mark kind t) ≡ true → is_text kind t ≡ true → IsAsciiFront (t ++ after)
-line_front Line t after is whole = newline_front t after ((bytes_eq-Decides t (10 ∷ [])).0 whole)
-line_front Sign t after is whole = absurd (false≢true (sym (sign_no_line t) ∙ is))
+line_front Newline t after is whole = newline_front t after ((bytes_eq-Decides t (10 ∷ [])).0 whole)
+line_front Operator t after is whole = absurd (false≢true (sym (sign_no_line t) ∙ is))
 line_front _ t after is whole = absurd (false≢true is)
 
 front_of : (gap more : List ℕ) → IsAsciiFront gap → IsAsciiFront more → IsAsciiFront (gap ++ more)
@@ -177,8 +177,8 @@ last_found first (p ∷ ps) = λ depth before lines opened bs rest last reading 
 
 -- a list without tokens has no first one
 line_aside : (kind : Kind) (t : List ℕ) → is_line (kind_mark kind t) ≡ true → is_aside kind ≡ true
-line_aside Line t is = refl
-line_aside Sign t is = absurd (false≢true (sym (sign_no_line t) ∙ is))
+line_aside Newline t is = refl
+line_aside Operator t is = absurd (false≢true (sym (sign_no_line t) ∙ is))
 line_aside _ t is = absurd (false≢true is)
 
 bare_empty : (ts : List Placed) → without_lines ts ≡ [] → bare_tokens ts ≡ []
@@ -273,8 +273,8 @@ both_from first p ps depth before lines opened bs rest header last reading gap h
 
 -- a token that counts is no newline
 counted_mark : (kind : Kind) (t : List ℕ) → is_aside kind ≡ false → is_line (kind_mark kind t) ≡ false
-counted_mark Sign t e = sign_no_line t
-counted_mark Line t e = absurd (false≢true (sym e))
+counted_mark Operator t e = sign_no_line t
+counted_mark Newline t e = absurd (false≢true (sym e))
 counted_mark _ t e = refl
 
 both_found : (first : ℕ) (ps : List Piece) → BothFound first ps
@@ -304,7 +304,7 @@ word_front : (t more word : List ℕ) → bytes_eq t word ≡ true → IsAsciiFr
 word_front t more word is ascii = subst (λ x. IsAsciiFront (x ++ more)) (sym ((bytes_eq-Decides t word).0 is)) ascii
 
 block_front : (kind : Kind) (t more : List ℕ) → is_block_word_at kind t ≡ true → IsAsciiFront (t ++ more)
-block_front Word t more h =
+block_front Keyword t more h =
     elim (or_cases (bytes_eq t (codes "def") || bytes_eq t (codes "for")) (bytes_eq t (codes "if")) h) [
       | inl l ↦ elim (or_cases (bytes_eq t (codes "def")) (bytes_eq t (codes "for")) l) [
         | inl d ↦ word_front t more (codes "def") d (let n : 100 < 128 = omega arith in n)

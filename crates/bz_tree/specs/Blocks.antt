@@ -2,7 +2,7 @@
 use Rattle.std.specs.Prelude.{codes, ℕ, ◌+◌, ◌-◌, List, [], ◌∷◌, ◌++◌, Bool, true, false, not, if◌then◌else◌, ◌≡◌, ◌==◌, ◌&&◌, ◌||◌, nat_lt, Option, Some, None}
 use Rattle.std.specs.Str.{bytes_eq}
 use Rattle.bz_token.specs.declared.token.Kind.{Kind}
-use Rattle.bz_token.specs.declared.token.Kind.TheVariants.{Word, Sign, Kept}
+use Rattle.bz_token.specs.declared.token.Kind.TheVariants.{Keyword, Operator, Kept}
 use Rattle.bz_token.specs.Places.{Placed, line_at, column_at}
 use Rattle.bz_tree.specs.declared.stmt.Class.TheVariants.{Block}
 use Rattle.bz_tree.specs.declared.kinds.Mark.{Mark}
@@ -14,14 +14,14 @@ use Rattle.bz_tree.specs.Statement.{first_token, last_token, last_seen}
 
 -- the words that begin a block
 abbrev pub is_block_word_at : Kind → List ℕ → Bool
-is_block_word_at Word text = bytes_eq text (codes "def") || bytes_eq text (codes "for") || bytes_eq text (codes "if")
+is_block_word_at Keyword text = bytes_eq text (codes "def") || bytes_eq text (codes "for") || bytes_eq text (codes "if")
 is_block_word_at _ text = false
 
 abbrev pub is_block_word : Placed → Bool
 is_block_word t = is_block_word_at t.kind t.text
 
 abbrev pub is_colon_at : Kind → List ℕ → Bool
-is_colon_at Sign text = bytes_eq text (codes ":")
+is_colon_at Operator text = bytes_eq text (codes ":")
 is_colon_at _ text = false
 
 abbrev pub is_colon : Placed → Bool

@@ -3,7 +3,7 @@
 use Rattle.std.specs.Prelude.{codes, ◌≡◌, ℕ, List, [], ◌∷◌, Bool, true, false, ◌||◌, if◌then◌else◌, Option}
 use Rattle.std.specs.Str.{bytes_eq}
 use Rattle.bz_token.specs.declared.token.Kind.{Kind}
-use Rattle.bz_token.specs.declared.token.Kind.TheVariants.{Ident, Word, Int, Text, Sign}
+use Rattle.bz_token.specs.declared.token.Kind.TheVariants.{Identifier, Keyword, Integer, String, Operator as OperatorToken}
 use Rattle.bz_tree.specs.declared.stmt.GroupKind.{GroupKind}
 use Rattle.bz_tree.specs.declared.stmt.GroupKind.TheVariants.{Load, Paren, List as ListKind, Index, Dict, ListComp, DictComp}
 use Rattle.bz_tree.specs.declared.role.Role.{Role}
@@ -47,11 +47,11 @@ sign_role text =
 
 -- what a token is to the grammar
 abbrev pub leaf_role : Kind → List ℕ → Role
-leaf_role Ident text = Name
-leaf_role Int text = Number
-leaf_role Text text = Value
-leaf_role Word text = word_role text
-leaf_role Sign text = sign_role text
+leaf_role Identifier text = Name
+leaf_role Integer text = Number
+leaf_role String text = Value
+leaf_role Keyword text = word_role text
+leaf_role OperatorToken text = sign_role text
 leaf_role _ text = Stray
 
 abbrev pub token_role : Item → Role

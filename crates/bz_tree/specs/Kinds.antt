@@ -2,7 +2,7 @@
 use Rattle.std.specs.Prelude.{codes, ℕ, List, Bool, true, false, if◌then◌else◌, Option, Some}
 use Rattle.std.specs.Str.{bytes_eq}
 use Rattle.bz_token.specs.declared.token.Kind.{Kind}
-use Rattle.bz_token.specs.declared.token.Kind.TheVariants.{Ident, Word, Int, Text, Sign, Line, Note}
+use Rattle.bz_token.specs.declared.token.Kind.TheVariants.{Identifier, Keyword, Integer, String, Operator, Newline, Comment as CommentToken}
 use Rattle.bz_token.specs.Places.{Placed}
 use Rattle.bz_tree.specs.declared.stmt.GroupKind.{GroupKind}
 use Rattle.bz_tree.specs.declared.stmt.GroupKind.TheVariants.{Call, Load, Paren, List as ListKind, Index, Dict, ListComp, DictComp}
@@ -26,9 +26,9 @@ sign_mark text =
 
 -- what a token is to the brackets
 abbrev pub kind_mark : Kind → List ℕ → Mark
-kind_mark Sign text = sign_mark text
-kind_mark Note text = Comment
-kind_mark Line text = NewLine
+kind_mark Operator text = sign_mark text
+kind_mark CommentToken text = Comment
+kind_mark Newline text = NewLine
 kind_mark _ text = Plain
 
 abbrev pub mark_of : Placed → Mark
@@ -42,15 +42,15 @@ same_shape _ _ = false
 
 -- what a bracket may stand after: an operand (then it is a call or an index), the keyword `load`, anything else
 abbrev pub kind_after : Kind → List ℕ → Preceding
-kind_after Ident text = Operand
-kind_after Int text = Operand
-kind_after Text text = Operand
-kind_after Word text = if bytes_eq text (codes "load") then LoadWord else Other
+kind_after Identifier text = Operand
+kind_after Integer text = Operand
+kind_after String text = Operand
+kind_after Keyword text = if bytes_eq text (codes "load") then LoadWord else Other
 kind_after _ text = Other
 
 -- the keyword `for`
 abbrev pub is_for_at : Kind → List ℕ → Bool
-is_for_at Word text = bytes_eq text (codes "for")
+is_for_at Keyword text = bytes_eq text (codes "for")
 is_for_at _ text = false
 
 -- the kind of a bracket, by its shape, what it stands after, and whether it is a comprehension (Starlark specification, Comprehensions: one

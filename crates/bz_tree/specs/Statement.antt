@@ -2,7 +2,7 @@
 use Rattle.std.specs.Prelude.{codes, ℕ, List, [], ◌∷◌, ◌++◌, Bool, true, false, if◌then◌else◌, ◌≡◌, ◌<◌, ◌^◌, ◌&&◌, ◌||◌, None, Option, Some, ◌<◌, ◌^◌}
 use Rattle.std.specs.Str.{bytes_eq}
 use Rattle.bz_token.specs.declared.token.Kind.{Kind}
-use Rattle.bz_token.specs.declared.token.Kind.TheVariants.{Ident, Word, Sign, Note, Line, Kept}
+use Rattle.bz_token.specs.declared.token.Kind.TheVariants.{Identifier, Keyword, Operator, Comment as CommentToken, Newline, Kept}
 use Rattle.bz_token.specs.Places.{Placed}
 use Rattle.bz_tree.specs.declared.stmt.GroupKind.{GroupKind}
 use Rattle.bz_tree.specs.declared.stmt.GroupKind.TheVariants.{Call, RuleCall}
@@ -19,11 +19,11 @@ one_segment [] end = record { before = end; nodes = []; suffix = None }
 one_segment (s ∷ ss) end = record { before = s.before ++ end; nodes = s.nodes; suffix = s.suffix }
 
 abbrev pub is_ident : Kind → Bool
-is_ident Ident = true
+is_ident Identifier = true
 is_ident _ = false
 
 abbrev pub is_dot : Kind → List ℕ → Bool
-is_dot Sign text = bytes_eq text (codes ".")
+is_dot Operator text = bytes_eq text (codes ".")
 is_dot _ text = false
 
 abbrev pub is_call : GroupKind → Bool
@@ -77,7 +77,7 @@ abbrev pub is_assign_sign : List ℕ → Bool
 is_assign_sign text = is_one_of text (codes "=" ∷ codes "+=" ∷ codes "-=" ∷ codes "*=" ∷ codes "/=" ∷ codes "//=" ∷ codes "%=" ∷ codes "&=" ∷ codes "|=" ∷ codes "^=" ∷ codes "<<=" ∷ codes ">>=" ∷ [])
 
 abbrev pub is_assign : Item → Bool
-is_assign (leaf Sign text) = is_assign_sign text
+is_assign (leaf Operator text) = is_assign_sign text
 is_assign _ = false
 
 abbrev pub has_assign : List Item → Bool
@@ -85,7 +85,7 @@ has_assign [] = false
 has_assign (x ∷ xs) = is_assign x || has_assign xs
 
 abbrev pub is_load_word : Item → Bool
-is_load_word (leaf Word text) = bytes_eq text (codes "load")
+is_load_word (leaf Keyword text) = bytes_eq text (codes "load")
 is_load_word _ = false
 
 abbrev pub is_kept : Item → Bool
@@ -104,8 +104,8 @@ class_of (x ∷ xs) =
 
 -- a comment or a newline
 abbrev pub is_aside : Kind → Bool
-is_aside Note = true
-is_aside Line = true
+is_aside CommentToken = true
+is_aside Newline = true
 is_aside _ = false
 
 -- the tokens without comments and newlines

@@ -20,13 +20,13 @@ use std::borrow::CowStr;
 pub(crate) fn is_block_word(token: &Token<'_>) -> bool
     ensures { result ≡ is_block_word (placed token.now) }
 {
-    token.kind == Kind::Word && matches!(token.text, "def" | "for" | "if")
+    token.kind == Kind::Keyword && matches!(token.text, "def" | "for" | "if")
 }
 
 fn is_colon(token: &Token<'_>) -> bool
     ensures { result ≡ is_colon (placed token.now) }
 {
-    token.kind == Kind::Sign && token.text == ":"
+    token.kind == Kind::Operator && token.text == ":"
 }
 
 // The lines of a block that are still open, by the columns of their first tokens.

@@ -27,7 +27,7 @@ fn is_rule(nodes: &[Node<'_>]) -> bool
     let mut phase = Phase::Name;
     for node in nodes {
         phase = match (phase, node) {
-            (Phase::Name, Node::Token(leaf)) if leaf.kind == Kind::Ident => Phase::Join,
+            (Phase::Name, Node::Token(leaf)) if leaf.kind == Kind::Identifier => Phase::Join,
             (Phase::Join, Node::Token(leaf)) if is_dot(leaf) => Phase::Name,
             (Phase::Join, Node::Group(group)) if is_call(group.kind) => Phase::End,
             _ => return false,
@@ -41,7 +41,7 @@ fn is_rule(nodes: &[Node<'_>]) -> bool
 pub(crate) fn is_dot_at(kind: Kind, text: &str) -> bool
     ensures { result ≡ is_dot kind text.now }
 {
-    kind == Kind::Sign && text == "."
+    kind == Kind::Operator && text == "."
 }
 
 fn is_dot(leaf: &Leaf<'_>) -> bool
@@ -107,7 +107,7 @@ fn is_assign(node: &Node<'_>) -> bool
     ensures { result ≡ is_assign (node_view node.now) }
 {
     match node {
-        Node::Token(leaf) => leaf.kind == Kind::Sign && is_assign_sign(leaf.text.as_str()),
+        Node::Token(leaf) => leaf.kind == Kind::Operator && is_assign_sign(leaf.text.as_str()),
         Node::Group(_) => false,
     }
 }
@@ -127,7 +127,7 @@ fn has_assign(nodes: &[Node<'_>]) -> bool
 pub(crate) fn is_load_at(kind: Kind, text: &str) -> bool
     ensures { result ≡ is_load_word (leaf kind text.now) }
 {
-    kind == Kind::Word && text == "load"
+    kind == Kind::Keyword && text == "load"
 }
 
 pub(crate) fn is_load_word(node: &Node<'_>) -> bool

@@ -41,9 +41,9 @@ pub(crate) fn mark_of(token: &Token<'_>) -> Mark
     ensures { result ≡ mark_of (placed token.now) }
 {
     match token.kind {
-        Kind::Note => Mark::Comment,
-        Kind::Line => Mark::NewLine,
-        Kind::Sign => sign_mark(token.text),
+        Kind::Comment => Mark::Comment,
+        Kind::Newline => Mark::NewLine,
+        Kind::Operator => sign_mark(token.text),
         _ => Mark::Plain,
     }
 }
@@ -108,8 +108,8 @@ pub(crate) fn kind_after(kind: Kind, text: &str) -> Preceding
     ensures { result ≡ kind_after kind text.now }
 {
     match kind {
-        Kind::Ident | Kind::Int | Kind::Text => Preceding::Operand,
-        Kind::Word if text == "load" => Preceding::LoadWord,
+        Kind::Identifier | Kind::Integer | Kind::String => Preceding::Operand,
+        Kind::Keyword if text == "load" => Preceding::LoadWord,
         _ => Preceding::Other,
     }
 }
@@ -119,7 +119,7 @@ pub(crate) fn kind_after(kind: Kind, text: &str) -> Preceding
 pub(crate) fn is_for_at(kind: Kind, text: &str) -> bool
     ensures { result ≡ is_for_at kind text.now }
 {
-    kind == Kind::Word && text == "for"
+    kind == Kind::Keyword && text == "for"
 }
 
 pub(crate) fn group_kind(shape: Shape, at: Preceding, comprehension: bool) -> GroupKind

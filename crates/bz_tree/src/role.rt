@@ -125,11 +125,11 @@ pub(crate) fn token_role(kind: Kind, text: &str) -> Role
     ensures { result ≡ leaf_role kind text.now }
 {
     match kind {
-        Kind::Ident => Role::Name,
-        Kind::Int => Role::Number,
-        Kind::Text => Role::Value,
-        Kind::Word => word_role(text),
-        Kind::Sign => sign_role(text),
+        Kind::Identifier => Role::Name,
+        Kind::Integer => Role::Number,
+        Kind::String => Role::Value,
+        Kind::Keyword => word_role(text),
+        Kind::Operator => sign_role(text),
         _ => Role::Stray,
     }
 }

@@ -72,9 +72,9 @@ impl<'a> RowWalk<'a> {
             (λ some. then_some some (row_state self.new) ≡ leaf_next (placed token.now) (row_state self.old)) }
     {
         match token.kind {
-            Kind::Ident => self.push_leaf(token, Kind::Ident, Role::Name),
-            Kind::Text => self.push_leaf(token, Kind::Text, Role::Value),
-            Kind::Sign => self.push_leaf(token, Kind::Sign, sign_role(token.text)),
+            Kind::Identifier => self.push_leaf(token, Kind::Identifier, Role::Name),
+            Kind::String => self.push_leaf(token, Kind::String, Role::Value),
+            Kind::Operator => self.push_leaf(token, Kind::Operator, sign_role(token.text)),
             kind => self.push_leaf(token, kind, token_role(kind, token.text)),
         }
     }

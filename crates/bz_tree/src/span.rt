@@ -13,7 +13,7 @@ use bz_token::{Kind, Token};
 fn is_aside(kind: Kind) -> bool
     ensures { result ≡ is_aside kind }
 {
-    matches!(kind, Kind::Note | Kind::Line)
+    matches!(kind, Kind::Comment | Kind::Newline)
 }
 
 #[inline(always)]

@@ -74,7 +74,7 @@ fn named(naming: Naming, kind: Kind, text: &str) -> Naming
     ensures { result ≡ named naming kind text.now }
 {
     match naming {
-        Naming::Name if kind == Kind::Ident => Naming::Join,
+        Naming::Name if kind == Kind::Identifier => Naming::Join,
         Naming::Join if is_dot_at(kind, text) => Naming::Name,
         Naming::End | Naming::Lost => Naming::Lost,
         _ => Naming::Never,

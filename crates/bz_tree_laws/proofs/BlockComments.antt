@@ -5,7 +5,7 @@ use Rattle.std.specs.Str.{bytes_eq}
 use Rattle.std.proofs.lemmas.Bool.{false≢true, and_parts}
 use Rattle.std.proofs.lemmas.Bool.Decides.{nat_tests}
 use Rattle.bz_token.specs.declared.token.Kind.{Kind}
-use Rattle.bz_token.specs.declared.token.Kind.TheVariants.{Sign, Line, Note}
+use Rattle.bz_token.specs.declared.token.Kind.TheVariants.{Operator, Newline, Comment}
 use Rattle.bz_token.specs.Places.{Placed, line_at}
 use Rattle.bz_token.specs.Brackets.{is_inside, open_after_token}
 use Rattle.bz_token.specs.Reading.{is_white, is_gap, continues_gap, feeds_gap, Piece, IsReading, tokens_of, AreTokensOf}
@@ -107,14 +107,14 @@ above_sign : (t : List ℕ) (later : List (List ℕ)) → above_at (sign_mark t)
 above_sign t later = no_aside (bytes_eq t (codes "(")) (bytes_eq t (codes "[")) (bytes_eq t (codes "{")) (bytes_eq t (codes ")")) (bytes_eq t (codes "]")) (bytes_eq t (codes "}")) (bytes_eq t (codes ",")) t later
 
 above_counted : (kind : Kind) (t : List ℕ) (later : List (List ℕ)) → is_aside kind ≡ false → above_at (kind_mark kind t) t later ≡ []
-above_counted Sign t later e = above_sign t later
-above_counted Note t later e = absurd (false≢true (sym e))
-above_counted Line t later e = absurd (false≢true (sym e))
+above_counted Operator t later e = above_sign t later
+above_counted Comment t later e = absurd (false≢true (sym e))
+above_counted Newline t later e = absurd (false≢true (sym e))
 above_counted _ t later e = refl
 
 above_aside : (kind : Kind) (t : List ℕ) (later : List (List ℕ)) → is_aside kind ≡ true → above_at (kind_mark kind t) t later ≡ note_of (kind_mark kind t) t ++ later
-above_aside Note t later e = refl
-above_aside Line t later e = refl
+above_aside Comment t later e = refl
+above_aside Newline t later e = refl
 above_aside _ t later e = absurd (false≢true e)
 
 record FromHeader (tokens : List Placed) (header last : Placed) : Type 0 where

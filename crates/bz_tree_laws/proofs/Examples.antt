@@ -1,15 +1,15 @@
 -- Worked examples of the definitions.
 use Rattle.std.proofs.Common.{◌≡◌, ℕ, List, [], ◌∷◌, true, false, Some, None, refl, codes}
-use Rattle.bz_token.specs.declared.token.Kind.TheVariants.{Ident}
+use Rattle.bz_token.specs.declared.token.Kind.TheVariants.{Identifier}
 use Rattle.bz_tree.specs.Tree.{Item, leaf, Segment}
 use Rattle.bz_tree.specs.Owners.{a_node, a_comma, a_note}
 use Rattle.bz_tree_laws.specs.Written.{written_entries}
 
 abbrev x : Item
-x = leaf Ident (codes "x")
+x = leaf Identifier (codes "x")
 
 abbrev y : Item
-y = leaf Ident (codes "y")
+y = leaf Identifier (codes "y")
 
 abbrev a : List ℕ
 a = codes "# a"

@@ -1,7 +1,7 @@
 -- For private clauses: the walk over the parts of a rule that takes the values of its arguments apart.
 use Rattle.std.specs.Prelude.{◌≡◌, ℕ, suc, ◌+◌, ◌-◌, ◌==◌, List, [], ◌∷◌, ◌++◌, Bool, true, false, not, ◌&&◌, ◌||◌, if◌then◌else◌, nat_lt, Option, Some, None, map, option_map, take, length, codes, bytes_eq}
 use Rattle.std.specs.List.{list_any}
-use Rattle.bz_token.specs.declared.token.Kind.TheVariants.{Ident}
+use Rattle.bz_token.specs.declared.token.Kind.TheVariants.{Identifier}
 use Rattle.bz_tree.specs.declared.stmt.GroupKind.{GroupKind}
 use Rattle.bz_tree.specs.declared.stmt.GroupKind.TheVariants.{RuleCall}
 use Rattle.bz_tree.specs.Tree.{leaf, items_of, Segment, Statement}
@@ -124,7 +124,7 @@ abbrev pub sound_after : List RowPart → Walk → Walk
 sound_after rest w = record { parts = w.parts; unread = w.unread; spot = w.spot; sound = w.sound && not (lacks_value rest) }
 
 abbrev pub begun : RowPart → List RowPart → Walk → Walk
-begun (a_token Ident name) rest w = put (a_token Ident name) (after_name name rest w.unread) (sound_after rest w)
+begun (a_token Identifier name) rest w = put (a_token Identifier name) (after_name name rest w.unread) (sound_after rest w)
 begun (a_token kind text) rest w = put (a_token kind text) (inside None 0) w
 begun (opening kind) rest w = put (opening kind) (inside None 1) w
 begun (closing one_comma) rest w = put (closing one_comma) outside w

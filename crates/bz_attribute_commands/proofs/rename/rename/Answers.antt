@@ -1,6 +1,6 @@
 use Rattle.std.proofs.Common.{◌≡◌, ℕ, ◌≤◌, List, [], ◌∷◌, false, Option, Some, None, IfNone, true, if◌then◌else◌, is_some, length, get_or, set, refl, ap, sym, ◌∙◌, arith}
 use Rattle.std.specs.Vec.{with_item}
-use Rattle.bz_token.specs.declared.token.Kind.TheVariants.{Ident}
+use Rattle.bz_token.specs.declared.token.Kind.TheVariants.{Identifier}
 use Rattle.bz_tree.specs.declared.stmt.Node.{Node}
 use Rattle.bz_tree.specs.declared.stmt.Seg.{Seg, roll-Seg}
 use Rattle.bz_tree.specs.Tree.{Item, leaf, Segment}
@@ -20,11 +20,11 @@ absent name args (Some i) h none = absurd cc
 no_note : (old name : List ℕ) (args : List Segment) → has old args ≡ true → has name args ≡ false → rename_note old name args ≡ None
 no_note old name args there free = rw (there, free) refl
 
-renamed_nodes : (name : List ℕ) (ns : List Node) (m : Node) → 2 ≤ length ns → node_view m ≡ leaf Ident name → nodes_view (set ns 0 m) ≡ renamed name (nodes_view ns)
+renamed_nodes : (name : List ℕ) (ns : List Node) (m : Node) → 2 ≤ length ns → node_view m ≡ leaf Identifier name → nodes_view (set ns 0 m) ≡ renamed name (nodes_view ns)
 renamed_nodes name [] m h is = absurd (omega arith)
 renamed_nodes name (x ∷ ns) m h is = ap (λ (z : Item). z ∷ nodes_view ns) is
 
-rename_put : (old name : List ℕ) (args : List Seg) (i : ℕ) (a : Seg) (m : Node) → IsFirst old args i → has name (segs_view args) ≡ false → node_view m ≡ leaf Ident name
+rename_put : (old name : List ℕ) (args : List Seg) (i : ℕ) (a : Seg) (m : Node) → IsFirst old args i → has name (segs_view args) ≡ false → node_view m ≡ leaf Identifier name
     → segs_view (set args i (roll-Seg (record { before = (get_or args i a).before; nodes = with_item (get_or args i a).nodes 0 m; suffix = (get_or args i a).suffix }))) ≡ rename old name (segs_view args)
 rename_put old name args i a m first free is =
     let s : Seg = get_or args i a in

@@ -1,4 +1,4 @@
-use Rattle.bz_token.specs.declared.token.Kind.TheVariants.{Note}
+use Rattle.bz_token.specs.declared.token.Kind.TheVariants.{Comment}
 use Rattle.bz_token.proofs.Scanning.{note_scanned, scanned_as}
 use Rattle.bz_token.proofs.scan_token.scan_note.Goals as goal
 
@@ -6,5 +6,5 @@ pub returns : goal.returns
 returns c =
     let made = c.on_one_line.ensures in
     let found = c.comment_len.ensures in
-    scanned_as c.args.bytes.now c.on_one_line.result Note c.comment_len.result made.kind made.len made.newline
+    scanned_as c.args.bytes.now c.on_one_line.result Comment c.comment_len.result made.kind made.len made.newline
     (note_scanned c.args.bytes.now c.comment_len.result found.in_range.0 found.in_range.1 found.in_line found.comment found.longest)

@@ -1,5 +1,5 @@
 use Rattle.std.proofs.Common.{◌<◌, arith}
-use Rattle.bz_token.specs.declared.token.Kind.TheVariants.{Sign}
+use Rattle.bz_token.specs.declared.token.Kind.TheVariants.{Operator}
 use Rattle.bz_token.specs.Lexical.{is_word_byte}
 use Rattle.bz_token.proofs.Scanning.{sign_scanned, no_character, scanned_as}
 use Rattle.bz_token.proofs.Tables.{mark_opens, begins_so}
@@ -15,5 +15,5 @@ returns-in_default-clause-token c =
     let made = c.on_one_line.ensures in
     let found = c.sign_len.ensures in
     let some : 0 < c.sign_len.result = omega arith in
-    scanned_as c.args.bytes.now c.on_one_line.result Sign c.sign_len.result made.kind made.len made.newline
+    scanned_as c.args.bytes.now c.on_one_line.result Operator c.sign_len.result made.kind made.len made.newline
     (sign_scanned c.args.bytes.now c.sign_len.result some found.in_range (found.sign some) (found.stops some))
