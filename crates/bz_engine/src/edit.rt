@@ -3,6 +3,7 @@
 ghost use Rattle.std.specs.Prelude.{◌≡◌, ℕ, ◌+◌, ◌<◌, ◌≤◌, ◌^◌, ◌++◌, Bool, true, false, if◌then◌else◌, List, [], ◌∷◌, Option, None, Some, length, IfOk, OnOk, OnErr, option_map, option_to_list};
 ghost use Rattle.std.specs.List.{flat_map};
 ghost use Rattle.bz_tree.specs.Rows.{IsRowOf};
+ghost use Rattle.bz_tree.specs.Statement.{class_of};
 ghost use Rattle.bz_tree.specs.Tree.{Statement};
 ghost use Rattle.bz_rule.specs.LazyViews.{lazy_view, lazy_slot};
 ghost use Rattle.bz_layout.specs.Gaps.{blank_between as is_gap};
@@ -24,7 +25,7 @@ use bz_passes::kept::Kept;
 use bz_passes::language::Facts;
 use bz_passes::log::Log;
 use bz_passes::script::run_script;
-use bz_rule::{LazyStmt, Package, Text};
+use bz_rule::{LazyStmt, Package, ShallowStmt, Text};
 use bz_tree::{Class, Row};
 use std::alloc::{AllocError, Global};
 
@@ -77,7 +78,7 @@ pub(crate) fn edit_chunk<'a>(
             Edited::Done
         }
         ChunkRead::Row(row) => {
-            let stmt = LazyStmt::of_row(script.alloc, &row)?;
+            let stmt = read_row(script, &row)?;
             edit_statement(script, stmt, progress, text)?
         }
         ChunkRead::Statement(stmt) => {
@@ -86,6 +87,18 @@ pub(crate) fn edit_chunk<'a>(
     };
     progress.line += newlines(chunk);
     Ok(edited)
+}
+
+/// The statement of a row. Where all commands print, the head of a rule may be all that they ask for.
+fn read_row<'a>(script: Script<'_>, row: &'a Row<'a>) -> Result<LazyStmt<'a>, AllocError>
+    requires { (s : Statement) × ((s.class ≡ class_of s.nodes) × IsRowOf s row.now) }
+    ensures { IfOk result (λ read. (s : Statement) → s.class ≡ class_of s.nodes → IsRowOf s row.now → lazy_view read ≡ s) }
+{
+    if script.passes.is_query() {
+        return LazyStmt::of_row(script.alloc, row);
+    }
+    let read = ShallowStmt::of_row(script.alloc, row)?;
+    Ok(LazyStmt::Read(read))
 }
 
 /// Lays out a statement that the script passes by.
