@@ -13,52 +13,52 @@ const TOKENS: &str = r##"
 ---
 x=1
 ->
-Ident "x" 1:1 first
-Sign "=" 1:2
-Int "1" 1:3
-Line "\n" 1:4
+Identifier "x" 1:1 first
+Operator "=" 1:2
+Integer "1" 1:3
+Newline "\n" 1:4
 ---
 x = 0X1f␄
 ->
-Ident "x" 1:1 first
-Sign "=" 1:3
-Int "0X1f" 1:5
+Identifier "x" 1:1 first
+Operator "=" 1:3
+Integer "0X1f" 1:5
 ---
 for\␍
  rb'\''# a ␉␍
 ->
-Word "for" 1:1 first
-Text "rb'\\''" 2:2 first
-Note "# a" 2:8
-Line "\n" 2:14
+Keyword "for" 1:1 first
+String "rb'\\''" 2:2 first
+Comment "# a" 2:8
+Newline "\n" 2:14
 ---
 (␍
 #
 '\␍
 ')␍
 ->
-Sign "(" 1:1 first
-Note "#" 2:1 first
-Text "'\\\r\n'" 3:1 first
-Sign ")" 4:2 first
-Line "\n" 4:4
+Operator "(" 1:1 first
+Comment "#" 2:1 first
+String "'\\\r\n'" 3:1 first
+Operator ")" 4:2 first
+Newline "\n" 4:4
 ---
 """#
 ""
 \""""//=x
 ->
-Text "\"\"\"#\n\"\"\n\\\"\"\"\"" 1:1 first
-Sign "//=" 3:6 first
-Ident "x" 3:9
-Line "\n" 3:10
+String "\"\"\"#\n\"\"\n\\\"\"\"\"" 1:1 first
+Operator "//=" 3:6 first
+Identifier "x" 3:9
+Newline "\n" 3:10
 ---
 xr"é""" != y␄
 ->
-Ident "xr" 1:1 first
-Text "\"é\"" 1:3
-Text "\"\"" 1:7
-Sign "!=" 1:10
-Ident "y" 1:13
+Identifier "xr" 1:1 first
+String "\"é\"" 1:3
+String "\"\"" 1:7
+Operator "!=" 1:10
+Identifier "y" 1:13
 ---
 x = $
 ->
@@ -163,7 +163,7 @@ fn after(header: &[u8], ahead: &str, at_end: bool) -> Option<Next>
 }
 
 /// What follows an `if`, whether that is all, and whether it goes on with the block.
-const BEHIND_IF: &str = "els more Short
+const AFTER_IF: &str = "els more Short
 else end Goes
 else: more Goes
 elsewhere more Ends
@@ -179,7 +179,7 @@ elif: more Goes
 #[test]
 fn blocks_go_on(rt: HostRuntime) -> Result<(), Fail> {
     let alloc = rt.alloc();
-    for row in BEHIND_IF.lines() {
+    for row in AFTER_IF.lines() {
         let (ahead, rest) = row.split_once(' ').ok_or("a row without an answer")?;
         let (end, wanted) = rest.split_once(' ').ok_or("a row without an answer")?;
         let ahead = plain(alloc, ahead)?;
