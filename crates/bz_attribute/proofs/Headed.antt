@@ -154,10 +154,10 @@ name_at (a_token Identifier text) h = ap (a_token Identifier) (sym (same_bytes (
 name_at (a_token _ text) h = absurd (false≢true h)
 name_at _ h = absurd (false≢true h)
 
-sign_at : (p : RowPart) → row.is_sign (codes "=") p ≡ true → p ≡ a_token Operator (codes "=")
-sign_at (a_token Operator text) h = ap (a_token Operator) (same_bytes text (codes "=") h)
-sign_at (a_token _ text) h = absurd (false≢true h)
-sign_at _ h = absurd (false≢true h)
+operator_at : (p : RowPart) → row.is_operator_item (codes "=") p ≡ true → p ≡ a_token Operator (codes "=")
+operator_at (a_token Operator text) h = ap (a_token Operator) (same_bytes text (codes "=") h)
+operator_at (a_token _ text) h = absurd (false≢true h)
+operator_at _ h = absurd (false≢true h)
 
 end_at : (p : RowPart) → row.is_end p ≡ true → p ≡ segment_end
 end_at segment_end h = refl
@@ -184,12 +184,12 @@ name_first (n ∷ []) literal h = absurd cc
 name_first (n ∷ e ∷ []) literal h = absurd cc
 name_first (n ∷ e ∷ l ∷ []) literal h = absurd cc
 name_first (n ∷ e ∷ l ∷ z ∷ ps) literal h =
-    elim (is_text (codes "name") (row.ident_of n) && row.is_sign (codes "=") e && row.is_end z) as (λ b. (is_text (codes "name") (row.ident_of n) && row.is_sign (codes "=") e && row.is_end z) ≡ b
+    elim (is_text (codes "name") (row.ident_of n) && row.is_operator_item (codes "=") e && row.is_end z) as (λ b. (is_text (codes "name") (row.ident_of n) && row.is_operator_item (codes "=") e && row.is_end z) ≡ b
     → (if b then row.text_of l else None) ≡ Some literal → IsNameFirst (n ∷ e ∷ l ∷ z ∷ ps) literal) [
       | true ↦ λ all k.
-          let last = and_parts (is_text (codes "name") (row.ident_of n) && row.is_sign (codes "=") e) (row.is_end z) all in
-          let two = and_parts (is_text (codes "name") (row.ident_of n)) (row.is_sign (codes "=") e) last.0 in
-          record { after = ps; are = λ i. name_at n two.0 i ∷ sign_at e two.1 i ∷ literal_at l literal k i ∷ end_at z last.1 i ∷ ps }
+          let last = and_parts (is_text (codes "name") (row.ident_of n) && row.is_operator_item (codes "=") e) (row.is_end z) all in
+          let two = and_parts (is_text (codes "name") (row.ident_of n)) (row.is_operator_item (codes "=") e) last.0 in
+          record { after = ps; are = λ i. name_at n two.0 i ∷ operator_at e two.1 i ∷ literal_at l literal k i ∷ end_at z last.1 i ∷ ps }
       | false ↦ λ all k. absurd cc
     ] refl h
 

@@ -6,7 +6,7 @@ use Rattle.bz_tree.specs.declared.stmt.GroupKind.TheVariants.{List as ListKind}
 use Rattle.bz_tree.specs.Tree.{Item, leaf, group, Segment, segs_of, segments}
 use Rattle.bz_command.specs.Labels.{Package}
 use Rattle.bz_command.specs.Same.{completed}
-use Rattle.bz_attribute.specs.Rules.{is_sign, elements, value, name_of, string_value}
+use Rattle.bz_attribute.specs.Rules.{is_operator_item, elements, value, name_of, string_value}
 
 -- the two are the same label
 abbrev pub same : Package → List ℕ → List ℕ → Bool
@@ -27,15 +27,15 @@ equals_any home words element = list_any (λ word. equals home word element) wor
 abbrev pub without : Package → List (List ℕ) → List Segment → List Segment
 without home words ss = filter (λ s. not (equals_any home words s)) ss
 
--- A value has list parts where all that stands in it at depth 0 is operands, plus signs and dots. It is split at each
--- plus sign, and a piece that is one list is a part.
+-- A value has list parts where all that stands in it at depth 0 is operands, plus operators and dots. It is split at each
+-- plus operator, and a piece that is one list is a part.
 abbrev pub is_joint : Item → Bool
 is_joint (leaf Keyword text) = false
 is_joint (leaf Operator text) = bytes_eq text (codes "+") || bytes_eq text (codes ".")
 is_joint _ = true
 
 abbrev pub is_plus : Item → Bool
-is_plus x = is_sign (codes "+") x
+is_plus x = is_operator_item (codes "+") x
 
 abbrev pub is_list : Item → Bool
 is_list (group ListKind segs one_comma end) = true

@@ -7,9 +7,9 @@ use Rattle.bz_tree.specs.declared.stmt.GroupKind.TheVariants.{RuleCall}
 use Rattle.bz_tree.specs.Tree.{Item, leaf, group, Segment, segments}
 use Rattle.bz_command.specs.Values.{value_of}
 
-abbrev pub is_sign : List ℕ → Item → Bool
-is_sign sign (leaf Operator text) = bytes_eq text sign
-is_sign sign _ = false
+abbrev pub is_operator_item : List ℕ → Item → Bool
+is_operator_item operator (leaf Operator text) = bytes_eq text operator
+is_operator_item operator _ = false
 
 -- the text of an identifier
 abbrev pub ident_of : Item → Option (List ℕ)
@@ -24,7 +24,7 @@ is_text text (Some other) = bytes_eq text other
 abbrev pub name_of : List Item → Option (List ℕ)
 name_of [] = None
 name_of (x ∷ []) = None
-name_of (x ∷ y ∷ value) = if is_sign (codes "=") y then ident_of x else None
+name_of (x ∷ y ∷ value) = if is_operator_item (codes "=") y then ident_of x else None
 
 abbrev pub is_named : List ℕ → Segment → Bool
 is_named name s = is_text name (name_of s.nodes)
@@ -64,7 +64,7 @@ dotted true [] = false
 dotted false [] = true
 dotted true (leaf Identifier text ∷ xs) = dotted false xs
 dotted true (x ∷ xs) = false
-dotted false (x ∷ xs) = is_sign (codes ".") x && dotted true xs
+dotted false (x ∷ xs) = is_operator_item (codes ".") x && dotted true xs
 
 abbrev pub is_call : Item → Bool
 is_call (group RuleCall segs one_comma end) = true

@@ -10,7 +10,7 @@ ghost use Rattle.bz_attribute.specs.Effects as spec;
 
 use crate::equals::{equals, equals_other};
 use crate::lists::{are_joints, elements_at, is_list, is_part};
-use crate::rule::{is_sign, value_of};
+use crate::rule::{is_operator_item, value_of};
 use crate::word_set::WordSet;
 use bz_command::Package;
 use bz_tree::{Node, Seg};
@@ -58,7 +58,7 @@ pub fn is_any_chosen(home: &Package, chosen: Chosen<'_, '_>, value: &[Node<'_>])
         if is_part(start, value, i) && any_chosen(home, chosen, elements_at(&value[i])) {
             return true;
         }
-        start = is_sign(&value[i], "+");
+        start = is_operator_item(&value[i], "+");
     }
     false
 }
@@ -81,7 +81,7 @@ fn drop_in_value(home: &Package, chosen: Chosen<'_, '_>, value: &mut [Node<'_>])
     }
     let mut start = true;
     for i in 0..value.len() {
-        let next = is_sign(&value[i], "+");
+        let next = is_operator_item(&value[i], "+");
         if is_part(start, value, i) {
             drop_in_list(home, chosen, &mut value[i]);
         }

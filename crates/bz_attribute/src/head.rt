@@ -137,7 +137,7 @@ fn is_name(part: &Part<'_>) -> bool
 }
 
 fn is_equals(part: &Part<'_>) -> bool
-    ensures { result ≡ spec.is_sign (codes "=") (part_view part.now) }
+    ensures { result ≡ spec.is_operator_item (codes "=") (part_view part.now) }
 {
     match part {
         Part::Token(Kind::Operator, text) => *text == "=",

@@ -10,7 +10,7 @@ ghost use Rattle.bz_attribute.specs.private.ElementSets.{is_among, is_in};
 use crate::chosen::{Chosen, is_chosen};
 use crate::equals::string_of;
 use crate::lists::{are_joints, elements_at, is_part};
-use crate::rule::is_sign;
+use crate::rule::is_operator_item;
 use bz_command::{LabelSet, Package};
 use bz_tree::{Node, Seg};
 use std::alloc::{AllocError, Global};
@@ -36,7 +36,7 @@ pub fn labels_in<'s>(
         if is_part(start, value, i) {
             insert_chosen(home, chosen, elements_at(&value[i]), &mut set)?;
         }
-        start = is_sign(&value[i], "+");
+        start = is_operator_item(&value[i], "+");
     }
     Ok(set)
 }

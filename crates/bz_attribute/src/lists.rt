@@ -7,7 +7,7 @@ ghost use Rattle.bz_attribute.specs.Rules.{elements};
 ghost use Rattle.bz_attribute.specs.Lists as spec;
 ghost use Rattle.bz_attribute.specs.private.Places.{IsFirstPart};
 
-use crate::rule::{is_sign, name_of};
+use crate::rule::{is_operator_item, name_of};
 use bz_token::Kind;
 use bz_tree::{GroupKind, Node, Seg};
 
@@ -59,7 +59,7 @@ pub fn is_part(start: bool, value: &[Node<'_>], i: usize) -> bool
     ensures { (d : _)
         → result ≡ spec.is_part start (node_view (get_or value.now i d)) (nodes_view (drop (i + 1) value.now)) }
 {
-    start && is_list(&value[i]) && (i + 1 == value.len() || is_sign(&value[i + 1], "+"))
+    start && is_list(&value[i]) && (i + 1 == value.len() || is_operator_item(&value[i + 1], "+"))
 }
 
 /// Where the first list part of a value stands.
@@ -75,7 +75,7 @@ pub fn first_part(value: &[Node<'_>]) -> Option<usize>
         if is_part(start, value, i) {
             return Some(i);
         }
-        start = is_sign(&value[i], "+");
+        start = is_operator_item(&value[i], "+");
     }
     None
 }

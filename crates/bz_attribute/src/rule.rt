@@ -47,7 +47,7 @@ fn are_dotted(kind: &[Node<'_>]) -> bool
 {
     let mut left = kind;
     while let [name, dot, rest @ ..] = left {
-        if ident_of(name).is_none() || !is_sign(dot, ".") {
+        if ident_of(name).is_none() || !is_operator_item(dot, ".") {
             return false;
         }
         left = rest;
@@ -55,10 +55,10 @@ fn are_dotted(kind: &[Node<'_>]) -> bool
     matches!(left, [name] if ident_of(name).is_some())
 }
 
-pub fn is_sign(node: &Node<'_>, sign: &str) -> bool
-    ensures { result ≡ spec.is_sign sign.now (node_view node.now) }
+pub fn is_operator_item(node: &Node<'_>, operator: &str) -> bool
+    ensures { result ≡ spec.is_operator_item operator.now (node_view node.now) }
 {
-    matches!(node, Node::Token(leaf) if matches!(leaf.kind, Kind::Operator) && leaf.text.as_str() == sign)
+    matches!(node, Node::Token(leaf) if matches!(leaf.kind, Kind::Operator) && leaf.text.as_str() == operator)
 }
 
 pub fn ident_of<'n>(node: &'n Node<'_>) -> Option<&'n str>
@@ -75,7 +75,7 @@ pub fn name_of<'n>(nodes: &'n [Node<'_>]) -> Option<&'n str>
     ensures { option_map (λ text. text.now) result ≡ spec.name_of (nodes_view nodes.now) }
 {
     match nodes {
-        [name, equals, ..] if is_sign(equals, "=") => ident_of(name),
+        [name, equals, ..] if is_operator_item(equals, "=") => ident_of(name),
         _ => None,
     }
 }

@@ -13,7 +13,7 @@ ghost use Rattle.bz_attribute.specs.Commenting as spec;
 use bz_attribute::done::{Done, Note};
 use bz_attribute::equals::equals;
 use bz_attribute::lists::{are_joints, elements_at, first_part, is_part};
-use bz_attribute::rule::{call_at, find, is_sign};
+use bz_attribute::rule::{call_at, find, is_operator_item};
 use bz_command::{Commented, Package, Text};
 use bz_tree::{Node, Seg, Stmt};
 use std::alloc::{AllocError, Global};
@@ -124,7 +124,7 @@ fn part_with(home: &Package, value: &str, nodes: &[Node<'_>]) -> Option<usize>
         if is_part(start, nodes, i) && find_equal(home, value, elements_at(&nodes[i])).is_some() {
             return Some(i);
         }
-        start = is_sign(&nodes[i], "+");
+        start = is_operator_item(&nodes[i], "+");
     }
     None
 }

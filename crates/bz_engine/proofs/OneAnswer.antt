@@ -17,7 +17,7 @@ use Rattle.bz_tree.specs.declared.fault.ParseFault.TheVariants as parse
 use Rattle.bz_tree.specs.declared.kinds.Shape.TheVariants.{Round, Square, Curly}
 use Rattle.bz_tree.specs.declared.kinds.Mark.TheVariants.{Open, Close, Comma, Plain}
 use Rattle.bz_tree.specs.Tree.{Statement}
-use Rattle.bz_tree.specs.Kinds.{sign_mark, kind_mark, mark_of}
+use Rattle.bz_tree.specs.Kinds.{operator_mark, kind_mark, mark_of}
 use Rattle.bz_tree.specs.Brackets.{no_elems, is_line, without_lines}
 use Rattle.bz_tree.specs.Statement.{is_aside, bare_tokens, first_of, first_seen, segment_of, statement_with}
 use Rattle.bz_tree.specs.Grammar.{comments}
@@ -39,12 +39,12 @@ not_line false false false false false true g = refl
 not_line false false false false false false true = refl
 not_line false false false false false false false = refl
 
-sign_no_line : (t : List ℕ) → is_line (sign_mark t) ≡ false
-sign_no_line t = not_line (bytes_eq t (codes "(")) (bytes_eq t (codes "[")) (bytes_eq t (codes "{")) (bytes_eq t (codes ")")) (bytes_eq t (codes "]")) (bytes_eq t (codes "}")) (bytes_eq t (codes ","))
+operator_no_line : (t : List ℕ) → is_line (operator_mark t) ≡ false
+operator_no_line t = not_line (bytes_eq t (codes "(")) (bytes_eq t (codes "[")) (bytes_eq t (codes "{")) (bytes_eq t (codes ")")) (bytes_eq t (codes "]")) (bytes_eq t (codes "}")) (bytes_eq t (codes ","))
 
 line_aside : (kind : Kind) (t : List ℕ) → is_line (kind_mark kind t) ≡ true → is_aside kind ≡ true
 line_aside Newline t is = refl
-line_aside Operator t is = absurd (false≢true (sym (sign_no_line t) ∙ is))
+line_aside Operator t is = absurd (false≢true (sym (operator_no_line t) ∙ is))
 line_aside _ t is = absurd (false≢true is)
 
 -- tokens of which none is seen are newlines

@@ -12,7 +12,7 @@ use Rattle.bz_tree.specs.Statement.{class_of, has_assign, is_rule, is_rule_after
 use Rattle.bz_tree.specs.declared.row.Row.{Row}
 use Rattle.bz_tree.specs.Rows.{IsRowOf}
 use Rattle.bz_command.specs.Labels.{Name, Pkg, All, Kind as OfKind, Line}
-use Rattle.bz_attribute.specs.Rules.{Rule, rule_of, rule_from, call_at, is_call, dotted, elements, comma_of, end_of, is_sign, is_text, string_in}
+use Rattle.bz_attribute.specs.Rules.{Rule, rule_of, rule_from, call_at, is_call, dotted, elements, comma_of, end_of, is_operator_item, is_text, string_in}
 use Rattle.bz_attribute.specs.Marks.{marks_if}
 use Rattle.bz_attribute.specs.Heads.{IsHeadOf}
 use Rattle.bz_attribute.specs.declared.head.Head.{Head}
@@ -45,10 +45,10 @@ rule_dotted kind [] r h = absurd cc
 rule_dotted kind (x ∷ []) r h = call_dotted kind x r h
 rule_dotted kind (x ∷ y ∷ xs) r h = rule_dotted (kind ++ x ∷ []) (y ∷ xs) r h
 
-sign_is : (sign : List ℕ) (x : Item) → is_sign sign x ≡ true → x ≡ leaf Operator sign
-sign_is sign (leaf Operator text) h = ap (leaf Operator) (same_bytes text sign h)
-sign_is sign (leaf _ text) h = absurd (false≢true h)
-sign_is sign (group kind segs one_comma end) h = absurd (false≢true h)
+operator_is : (operator : List ℕ) (x : Item) → is_operator_item operator x ≡ true → x ≡ leaf Operator operator
+operator_is operator (leaf Operator text) h = ap (leaf Operator) (same_bytes text operator h)
+operator_is operator (leaf _ text) h = absurd (false≢true h)
+operator_is operator (group kind segs one_comma end) h = absurd (false≢true h)
 
 -- the class of a rule
 no_assign : (name : Bool) (kind : List Item) (segs : Segs) (one_comma : Bool) (end : List (List ℕ)) → dotted name kind ≡ true
@@ -58,8 +58,8 @@ no_assign true (leaf Identifier text ∷ kind) segs one_comma end h = no_assign 
 no_assign true (leaf _ text ∷ kind) segs one_comma end h = absurd (false≢true h)
 no_assign true (group _ inner comma after ∷ kind) segs one_comma end h = absurd (false≢true h)
 no_assign false (x ∷ kind) segs one_comma end h =
-    let dot = both (is_sign (codes ".") x) (dotted true kind) h in
-    rw (sign_is (codes ".") x dot.0) (no_assign true kind segs one_comma end dot.1)
+    let dot = both (is_operator_item (codes ".") x) (dotted true kind) h in
+    rw (operator_is (codes ".") x dot.0) (no_assign true kind segs one_comma end dot.1)
 
 mutual
   a_rule : (kind : List Item) (segs : Segs) (one_comma : Bool) (end : List (List ℕ)) → dotted true kind ≡ true
@@ -73,8 +73,8 @@ mutual
       → is_rule_after (kind ++ group RuleCall segs one_comma end ∷ []) ≡ true
   a_rule_after [] segs one_comma end h = refl
   a_rule_after (x ∷ kind) segs one_comma end h =
-      let dot = both (is_sign (codes ".") x) (dotted true kind) h in
-      rw (sign_is (codes ".") x dot.0) (a_rule kind segs one_comma end dot.1)
+      let dot = both (is_operator_item (codes ".") x) (dotted true kind) h in
+      rw (operator_is (codes ".") x dot.0) (a_rule kind segs one_comma end dot.1)
 
 dotted_class : (kind : List Item) (segs : Segs) (one_comma : Bool) (end : List (List ℕ)) → dotted true kind ≡ true
     → class_of (kind ++ group RuleCall segs one_comma end ∷ []) ≡ RuleClass

@@ -20,29 +20,29 @@ int text = leaf Integer text
 abbrev pub text : List ℕ → Item
 text t = leaf String t
 
-abbrev pub sign : List ℕ → Item
-sign t = leaf Operator t
+abbrev pub operator : List ℕ → Item
+operator t = leaf Operator t
 
 abbrev pub plain : List Item → Segment
 plain xs = record { before = []; nodes = xs; suffix = None }
 
 -- `x[1:-2]`
-slice : flat_text None (name (codes "x") ∷ group Index (segs_of (plain (int (codes "1") ∷ sign (codes ":") ∷ sign (codes "-") ∷ int (codes "2") ∷ []) ∷ [])) false [] ∷ []) ≡ codes "x[1:-2]"
+slice : flat_text None (name (codes "x") ∷ group Index (segs_of (plain (int (codes "1") ∷ operator (codes ":") ∷ operator (codes "-") ∷ int (codes "2") ∷ []) ∷ [])) false [] ∷ []) ≡ codes "x[1:-2]"
 slice = refl
 
 -- `not -f(*a, **k)`
-prefixes : flat_text None (leaf Keyword (codes "not") ∷ sign (codes "-") ∷ name (codes "f") ∷ group Call (segs_of (plain (sign (codes "*") ∷ name (codes "a") ∷ []) ∷ plain (sign (codes "**") ∷ name (codes "k") ∷ []) ∷ [])) false [] ∷ []) ≡ codes "not -f(*a, **k)"
+prefixes : flat_text None (leaf Keyword (codes "not") ∷ operator (codes "-") ∷ name (codes "f") ∷ group Call (segs_of (plain (operator (codes "*") ∷ name (codes "a") ∷ []) ∷ plain (operator (codes "**") ∷ name (codes "k") ∷ []) ∷ [])) false [] ∷ []) ≡ codes "not -f(*a, **k)"
 prefixes = refl
 
 -- `['a', b'x']` within a dict after its colon
-strings : flat_text (Some Dict) (text (codes "'k'") ∷ sign (codes ":") ∷ group ListKind (segs_of (plain (text (codes "'a'") ∷ []) ∷ plain (text (codes "b'x'") ∷ []) ∷ [])) false [] ∷ []) ≡ codes "\"k\": [\"a\", b'x']"
+strings : flat_text (Some Dict) (text (codes "'k'") ∷ operator (codes ":") ∷ group ListKind (segs_of (plain (text (codes "'a'") ∷ []) ∷ plain (text (codes "b'x'") ∷ []) ∷ [])) false [] ∷ []) ≡ codes "\"k\": [\"a\", b'x']"
 strings = refl
 
 -- `x = [..]` with a comment in each place
 abbrev pub commented : Statement
 commented = record {
   before = codes "# top" ∷ [];
-  nodes = name (codes "x") ∷ sign (codes "=") ∷ group ListKind (segs_of (record { before = codes "# a" ∷ []; nodes = int (codes "1") ∷ []; suffix = Some (codes "# b") } ∷ [])) false (codes "# c" ∷ []) ∷ [];
+  nodes = name (codes "x") ∷ operator (codes "=") ∷ group ListKind (segs_of (record { before = codes "# a" ∷ []; nodes = int (codes "1") ∷ []; suffix = Some (codes "# b") } ∷ [])) false (codes "# c" ∷ []) ∷ [];
   suffix = Some (codes "# d");
   class = Assign;
   start = 2;
@@ -56,7 +56,7 @@ lines : lines_of (layout commented) ≡ text_line 0 (codes "# top") ∷ text_lin
 lines = refl
 
 -- `f({"a": [1, 2]})`: a dict breaks in place, and the list in it one level deeper
-nested : layout_text (record { before = []; nodes = name (codes "f") ∷ group Call (segs_of (plain (group Dict (segs_of (plain (text (codes "'a'") ∷ sign (codes ":") ∷ group ListKind (segs_of (plain (int (codes "1") ∷ []) ∷ plain (int (codes "2") ∷ []) ∷ [])) false [] ∷ []) ∷ [])) false [] ∷ []) ∷ [])) false [] ∷ []; suffix = None; class = Rule; start = 1; end = 1 }) ≡ codes "f({\n    \"a\": [\n        1,\n        2,\n    ],\n})\n"
+nested : layout_text (record { before = []; nodes = name (codes "f") ∷ group Call (segs_of (plain (group Dict (segs_of (plain (text (codes "'a'") ∷ operator (codes ":") ∷ group ListKind (segs_of (plain (int (codes "1") ∷ []) ∷ plain (int (codes "2") ∷ []) ∷ [])) false [] ∷ []) ∷ [])) false [] ∷ []) ∷ [])) false [] ∷ []; suffix = None; class = Rule; start = 1; end = 1 }) ≡ codes "f({\n    \"a\": [\n        1,\n        2,\n    ],\n})\n"
 nested = refl
 
 -- `(1)` and `(1,)`

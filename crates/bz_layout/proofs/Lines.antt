@@ -65,13 +65,13 @@ statement_ends s =
     let newline = piece Closed Newline (codes "\n") ∷ [] in
     ends_after (items_pieces Broken 0 None Closed Start (items_of s.nodes)) (suffix_piece s.suffix ++ newline) (ends_after (suffix_piece s.suffix) newline refl)
 
-comments_end : (note : List ℕ) (notes : List (List ℕ)) → ends_line (comment_lines (note ∷ notes)) ≡ true
-comments_end note [] = refl
-comments_end note (n ∷ notes) = comments_end n notes
+comments_end : (comment : List ℕ) (comments : List (List ℕ)) → ends_line (comment_lines (comment ∷ comments)) ≡ true
+comments_end comment [] = refl
+comments_end comment (n ∷ comments) = comments_end n comments
 
-comments_read : (notes : List (List ℕ)) → bytes_of (comment_lines notes) ≡ lines_text (lines_of (comment_lines notes))
+comments_read : (comments : List (List ℕ)) → bytes_of (comment_lines comments) ≡ lines_text (lines_of (comment_lines comments))
 comments_read [] = refl
-comments_read (n ∷ notes) = from_lines (comment_lines (n ∷ notes)) 0 [] (comments_end n notes)
+comments_read (n ∷ comments) = from_lines (comment_lines (n ∷ comments)) 0 [] (comments_end n comments)
 
 pub text_is_lines : (s : Statement) → layout_text s ≡ lines_text (lines_of (layout s))
 text_is_lines s = elim (cases_Bool (is_comment s.class)) [

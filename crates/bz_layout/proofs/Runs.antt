@@ -14,7 +14,7 @@ use Rattle.bz_layout.specs.declared.spacing.Gap.TheVariants.{Closed, Space, Line
 use Rattle.bz_layout.specs.declared.broken.Style.{Style}
 use Rattle.bz_layout.specs.declared.broken.Style.TheVariants.{Flat, Broken}
 use Rattle.bz_layout.specs.Broken.{count, is_broken, segs_hold}
-use Rattle.bz_layout.specs.Spacing.{edge_after, sign_edge, is_prefix, begins_argument, is_index_colon, gap_before, hugs}
+use Rattle.bz_layout.specs.Spacing.{edge_after, operator_edge, is_prefix, begins_argument, is_index_colon, gap_before, hugs}
 use Rattle.bz_layout.specs.Pieces.{Piece, piece, gap_bytes, bytes_of, comma_if, comments, suffix_piece}
 use Rattle.bz_layout.specs.Layout.{breaks, has_commas, item_pieces, items_pieces, broken_segs, flat_segs, opening as opening_text, closing as closing_text}
 use Rattle.bz_layout.specs.private.RowLayout.{Laid, gap_for, run, whole, first_frame, tail, comma_bytes, due, is_start, step, first_gap, level_in}
@@ -49,22 +49,22 @@ down : (n : ℕ) → n + 1 - 1 ≡ n
 down n = omega arith
 
 -- comments in a broken bracket are written
-run_above : (notes : List (List ℕ)) (rest : List RowPart) (t : List ℕ) (ms : List Mark) (o : List Frame) (kind : GroupKind) (comma : Bool) (l : Edge) (n : ℕ) → run (map above notes ++ rest) (at t ms o (broken_frame kind comma) l n) ≡ run rest (at (t ++ bytes_of (comments n notes)) ms o (broken_frame kind comma) l n)
+run_above : (comment_texts : List (List ℕ)) (rest : List RowPart) (t : List ℕ) (ms : List Mark) (o : List Frame) (kind : GroupKind) (comma : Bool) (l : Edge) (n : ℕ) → run (map above comment_texts ++ rest) (at t ms o (broken_frame kind comma) l n) ≡ run rest (at (t ++ bytes_of (comments n comment_texts)) ms o (broken_frame kind comma) l n)
 run_above [] rest t ms o kind comma l n = rw (append-nil t) refl
-run_above (note ∷ notes) rest t ms o kind comma l n = run_above notes rest (t ++ (gap_bytes (Line n) ++ note)) ms o kind comma l n ∙ ap (λ (u : List ℕ). run rest (at u ms o (broken_frame kind comma) l n)) (simp append_assoc)
+run_above (comment ∷ comment_texts) rest t ms o kind comma l n = run_above comment_texts rest (t ++ (gap_bytes (Line n) ++ comment)) ms o kind comma l n ∙ ap (λ (u : List ℕ). run rest (at u ms o (broken_frame kind comma) l n)) (simp append_assoc)
 
 run_beside : (suffix : Option (List ℕ)) (rest : List RowPart) (t : List ℕ) (ms : List Mark) (o : List Frame) (kind : GroupKind) (comma : Bool) (l : Edge) (n : ℕ) → run (beside_part suffix ++ rest) (at t ms o (broken_frame kind comma) l n) ≡ run rest (at (t ++ bytes_of (suffix_piece suffix)) ms o (broken_frame kind comma) l n)
 run_beside None rest t ms o kind comma l n = rw (append-nil t) refl
-run_beside (Some note) rest t ms o kind comma l n = rw (append-nil note) refl
+run_beside (Some comment) rest t ms o kind comma l n = rw (append-nil comment) refl
 
 -- in place they are left out
-skip_above : (notes : List (List ℕ)) (rest : List RowPart) (t : List ℕ) (ms : List Mark) (o : List Frame) (kind : GroupKind) (later comma : Bool) (l : Edge) (n : ℕ) → run (map above notes ++ rest) (at t ms o (flat_frame kind later comma) l n) ≡ run rest (at t ms o (flat_frame kind later comma) l n)
+skip_above : (comment_texts : List (List ℕ)) (rest : List RowPart) (t : List ℕ) (ms : List Mark) (o : List Frame) (kind : GroupKind) (later comma : Bool) (l : Edge) (n : ℕ) → run (map above comment_texts ++ rest) (at t ms o (flat_frame kind later comma) l n) ≡ run rest (at t ms o (flat_frame kind later comma) l n)
 skip_above [] rest t ms o kind later comma l n = refl
-skip_above (note ∷ notes) rest t ms o kind later comma l n = ap (λ (u : List ℕ). run (map above notes ++ rest) (at u ms o (flat_frame kind later comma) l n)) (append-nil t) ∙ skip_above notes rest t ms o kind later comma l n
+skip_above (comment ∷ comment_texts) rest t ms o kind later comma l n = ap (λ (u : List ℕ). run (map above comment_texts ++ rest) (at u ms o (flat_frame kind later comma) l n)) (append-nil t) ∙ skip_above comment_texts rest t ms o kind later comma l n
 
 skip_beside : (suffix : Option (List ℕ)) (rest : List RowPart) (t : List ℕ) (ms : List Mark) (o : List Frame) (kind : GroupKind) (later comma : Bool) (l : Edge) (n : ℕ) → run (beside_part suffix ++ rest) (at t ms o (flat_frame kind later comma) l n) ≡ run rest (at t ms o (flat_frame kind later comma) l n)
 skip_beside None rest t ms o kind later comma l n = refl
-skip_beside (Some note) rest t ms o kind later comma l n = ap (λ (u : List ℕ). run rest (at u ms o (flat_frame kind later comma) l n)) (append-nil t)
+skip_beside (Some comment) rest t ms o kind later comma l n = ap (λ (u : List ℕ). run rest (at u ms o (flat_frame kind later comma) l n)) (append-nil t)
 
 segs_joined : (ss : Segs) (end : List (List ℕ)) (one : Bool) (rest : List RowPart) → (segs_parts ss ++ (map above end ++ closing one ∷ [])) ++ rest ≡ segs_parts ss ++ (map above end ++ closing one ∷ rest)
 segs_joined ss end one rest = simp append_assoc
@@ -86,8 +86,8 @@ nothing_due false true none h = h
 nothing_due false false none h = refl
 
 -- nothing is due after a node
-sign_leaves : (within : Option GroupKind) (left : Edge) (text : List ℕ) → is_start (sign_edge within left text) ≡ false
-sign_leaves within left text = elim (cases_Bool (bytes_eq text (codes "."))) [
+operator_leaves : (within : Option GroupKind) (left : Edge) (text : List ℕ) → is_start (operator_edge within left text) ≡ false
+operator_leaves within left text = elim (cases_Bool (bytes_eq text (codes "."))) [
   | inl is ↦ rw is refl
   | inr other ↦ elim (cases_Bool (is_prefix left text || begins_argument within left text || is_index_colon within text)) [
     | inl holds ↦ rw (other, holds) refl
@@ -97,7 +97,7 @@ sign_leaves within left text = elim (cases_Bool (bytes_eq text (codes "."))) [
 
 item_leaves : (within : Option GroupKind) (left : Edge) (x : Item) → is_start (edge_after within left x) ≡ false
 item_leaves within left (group kind segs one_comma end) = refl
-item_leaves within left (leaf Operator text) = sign_leaves within left text
+item_leaves within left (leaf Operator text) = operator_leaves within left text
 item_leaves within left (leaf _ text) = refl
 
 items_leave : (within : Option GroupKind) (left : Edge) (xs : Items) → is_start left ≡ false → is_start (last_edge within left xs) ≡ false
@@ -195,10 +195,10 @@ run_group Broken true kind segs one end rest t ms o h d gap n broken flat =
     let t1 = (t ++ begun) ++ bytes_of a in
     let t2 = t1 ++ bytes_of b in
     let joined = ap (λ (ps : List RowPart). run ps (at (t ++ begun) (segs_marks segs ++ ms) (h ∷ o) (broken_frame kind c) Start (n + 1))) (segs_joined segs end one rest) in
-    let notes = run_above end (closing one ∷ rest) t1 ms (h ∷ o) kind c Start (n + 1) in
+    let comment_texts = run_above end (closing one ∷ rest) t1 ms (h ∷ o) kind c Start (n + 1) in
     let level = ap (λ (k : ℕ). run rest (at (t2 ++ (gap_bytes (Line k) ++ closing_text kind)) ms o h Operand k)) (down n) in
     let text = ap (λ (u : List ℕ). run rest (at u ms o h Operand n)) (broken_group_text t begun a b (piece (Line n) Operator (closing_text kind))) in
-    joined ∙ (broken ∙ (notes ∙ (level ∙ text)))
+    joined ∙ (broken ∙ (comment_texts ∙ (level ∙ text)))
 run_group Broken false kind segs one end rest t ms o h d gap n broken flat = let c = has_commas kind one (count segs) in run_in_place Broken c kind segs one end rest t ms o h d gap n (flat c)
 run_group Flat b kind segs one end rest t ms o h d gap n broken flat = run_in_place Flat false kind segs one end rest t ms o h d gap n (flat false)
 

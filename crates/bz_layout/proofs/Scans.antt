@@ -37,7 +37,7 @@ add no_segs n = n
 add (seg before nodes suffix ss) n = one_more (add ss n)
 
 abbrev in_segs : Bool → Bool → ℕ → Inside → Inside
-in_segs notes holds n i = record { one_comma = i.one_comma; notes = notes || i.notes; holds = holds || i.holds; segs = n }
+in_segs comments holds n i = record { one_comma = i.one_comma; comments = comments || i.comments; holds = holds || i.holds; segs = n }
 
 abbrev seen : Segs → Scan → Scan
 seen ss s = record { marks = segs_marks ss ++ s.marks; here = in_segs (have_comments ss) (segs_hold ss) (add ss s.here.segs) s.here; outer = s.outer }
@@ -117,13 +117,13 @@ marked kind ss end one = rw (breaks_as kind ss end, commas kind one ss) refl
 found_both : (a c : List Mark) (b d : Bool) (s : Scan) → found a b (found c d s) ≡ found (a ++ c) (b || d) s
 found_both a c b d s = rw (append_assoc a c s.marks, or_assoc b d s.here.holds) refl
 
-pub scan_above : (notes : List (List ℕ)) (rest : List RowPart) → scan (map above notes ++ rest) ≡ record { marks = (scan rest).marks; here = in_segs (has_some notes) false (scan rest).here.segs (scan rest).here; outer = (scan rest).outer }
+pub scan_above : (comments : List (List ℕ)) (rest : List RowPart) → scan (map above comments ++ rest) ≡ record { marks = (scan rest).marks; here = in_segs (has_some comments) false (scan rest).here.segs (scan rest).here; outer = (scan rest).outer }
 scan_above [] rest = refl
-scan_above (note ∷ notes) rest = rw (scan_above notes rest) refl
+scan_above (comment ∷ comments) rest = rw (scan_above comments rest) refl
 
 scan_beside : (suffix : Option (List ℕ)) (rest : List RowPart) → scan (beside_part suffix ++ rest) ≡ record { marks = (scan rest).marks; here = in_segs (is_some suffix) false (scan rest).here.segs (scan rest).here; outer = (scan rest).outer }
 scan_beside None rest = refl
-scan_beside (Some note) rest = refl
+scan_beside (Some comment) rest = refl
 
 pub scan_append : (a b : List RowPart) → scan (a ++ b) ≡ scan_onto a (scan b)
 scan_append [] b = refl
@@ -150,7 +150,7 @@ seg_seen : (before : List (List ℕ)) (nodes : Items) (suffix : Option (List ℕ
       here = in_segs (has_some before) false (one_more (add ss s.here.segs)) (holding (items_hold nodes) (in_segs (is_some suffix) false (one_more (add ss s.here.segs)) (in_segs (have_comments ss) (segs_hold ss) (add ss s.here.segs) s.here)));
       outer = s.outer;
     } ≡ seen (seg before nodes suffix ss) s
-seg_seen before nodes suffix ss s = rw (append_assoc (items_marks nodes) (segs_marks ss) s.marks, or_four (has_some before) (is_some suffix) (have_comments ss) s.here.notes, or_assoc (items_hold nodes) (segs_hold ss) s.here.holds) refl
+seg_seen before nodes suffix ss s = rw (append_assoc (items_marks nodes) (segs_marks ss) s.marks, or_four (has_some before) (is_some suffix) (have_comments ss) s.here.comments, or_assoc (items_hold nodes) (segs_hold ss) s.here.holds) refl
 
 mutual
   pub scan_item : (x : Item) (rest : List RowPart) → scan (item_parts x ++ rest) ≡ found (item_marks x) (holds_broken x) (scan rest)

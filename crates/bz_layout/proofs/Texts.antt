@@ -28,29 +28,29 @@ rest_of s = items_parts (items_of s.nodes) ++ beside_part s.suffix
 
 no_leading : (xs : Items) (suffix : Option (List ℕ)) → leading (items_parts xs ++ beside_part suffix) ≡ []
 no_leading no_items None = refl
-no_leading no_items (Some note) = refl
+no_leading no_items (Some comment) = refl
 no_leading (item (leaf kind text) xs) suffix = refl
 no_leading (item (group kind segs one_comma end) xs) suffix = refl
 
-leads : (notes : List (List ℕ)) (ps : List RowPart) → leading ps ≡ [] → leading (map above notes ++ ps) ≡ notes
+leads : (comments : List (List ℕ)) (ps : List RowPart) → leading ps ≡ [] → leading (map above comments ++ ps) ≡ comments
 leads [] ps h = h
-leads (note ∷ notes) ps h = ap (λ ns. note ∷ ns) (leads notes ps h)
+leads (comment ∷ comments) ps h = ap (λ ns. comment ∷ ns) (leads comments ps h)
 
 -- the walk leaves them out
-skips : (notes : List (List ℕ)) (rest : List RowPart) (t : List ℕ) (ms : List Mark) (o : List Frame) (l : Edge) (n : ℕ) → run (map above notes ++ rest) (at t ms o (top None) l n) ≡ run rest (at t ms o (top None) l n)
+skips : (comments : List (List ℕ)) (rest : List RowPart) (t : List ℕ) (ms : List Mark) (o : List Frame) (l : Edge) (n : ℕ) → run (map above comments ++ rest) (at t ms o (top None) l n) ≡ run rest (at t ms o (top None) l n)
 skips [] rest t ms o l n = refl
-skips (note ∷ notes) rest t ms o l n = ap (λ (u : List ℕ). run (map above notes ++ rest) (at u ms o (top None) l n)) (append-nil t) ∙ skips notes rest t ms o l n
+skips (comment ∷ comments) rest t ms o l n = ap (λ (u : List ℕ). run (map above comments ++ rest) (at u ms o (top None) l n)) (append-nil t) ∙ skips comments rest t ms o l n
 
 marks_are : (xs : Items) (suffix : Option (List ℕ)) → (scan (items_parts xs ++ beside_part suffix)).marks ≡ items_marks xs ++ []
 marks_are xs None = rw (scan_items xs []) refl
-marks_are xs (Some note) = rw (scan_items xs (beside_part (Some note))) refl
+marks_are xs (Some comment) = rw (scan_items xs (beside_part (Some comment))) refl
 
 all_marks : (s : Statement) → (scan (parts_of s)).marks ≡ items_marks (items_of s.nodes) ++ []
 all_marks s = ap (λ (z : Scan). z.marks) (scan_above s.before (rest_of s)) ∙ marks_are (items_of s.nodes) s.suffix
 
 beside_text : (suffix : Option (List ℕ)) (t : List ℕ) (ms : List Mark) (o : List Frame) (l : Edge) (n : ℕ) → (run (beside_part suffix) (at t ms o (top None) l n)).text ≡ t ++ bytes_of (suffix_piece suffix)
 beside_text None t ms o l n = sym (append-nil t)
-beside_text (Some note) t ms o l n = rw (append-nil note) refl
+beside_text (Some comment) t ms o l n = rw (append-nil comment) refl
 
 line_joined : (t : List ℕ) (a b : List Piece) → ((t ++ bytes_of a) ++ bytes_of b) ++ codes "\n" ≡ t ++ bytes_of (a ++ (b ++ piece Closed Newline (codes "\n") ∷ []))
 line_joined t a b = rw (bytes_append a (b ++ piece Closed Newline (codes "\n") ∷ []), bytes_append b (piece Closed Newline (codes "\n") ∷ [])) (simp append_assoc)
@@ -65,8 +65,8 @@ line_is t s =
 
 pub parts_laid : (t : List ℕ) (s : Statement) → row_text t (parts_of s) s.class ≡ t ++ layout_text s
 parts_laid t s =
-    let notes : leading (parts_of s) ≡ s.before = leads s.before (rest_of s) (no_leading (items_of s.nodes) s.suffix) in
-    rw notes (elim (cases_Bool (is_comment s.class)) [
+    let comments : leading (parts_of s) ≡ s.before = leads s.before (rest_of s) (no_leading (items_of s.nodes) s.suffix) in
+    rw comments (elim (cases_Bool (is_comment s.class)) [
       | inl hit ↦ rw (hit, append-nil (comment_lines s.before)) refl
       | inr miss ↦
           let above = bytes_of (comment_lines s.before) in

@@ -10,7 +10,7 @@ count (seg before nodes suffix ss) = suc (count ss)
 
 abbrev pub has_some : List (List ℕ) → Bool
 has_some [] = false
-has_some (note ∷ notes) = true
+has_some (comment ∷ comments) = true
 
 -- a segment has a comment above it or after it
 abbrev pub have_comments : Segs → Bool

@@ -38,14 +38,14 @@ comma_if b = if b then piece Closed Operator (codes ",") ∷ [] else []
 -- comments in a broken group, each on a line of its own
 abbrev pub comments : ℕ → List (List ℕ) → List Piece
 comments level [] = []
-comments level (note ∷ notes) = piece (Line level) Comment note ∷ comments level notes
+comments level (comment ∷ comment_texts) = piece (Line level) Comment comment ∷ comments level comment_texts
 
 -- comments above a statement, each with its newline
 abbrev pub comment_lines : List (List ℕ) → List Piece
 comment_lines [] = []
-comment_lines (note ∷ notes) = piece Closed Comment note ∷ piece Closed Newline (codes "\n") ∷ comment_lines notes
+comment_lines (comment ∷ comment_texts) = piece Closed Comment comment ∷ piece Closed Newline (codes "\n") ∷ comment_lines comment_texts
 
 -- two spaces and the comment after a segment or statement
 abbrev pub suffix_piece : Option (List ℕ) → List Piece
 suffix_piece None = []
-suffix_piece (Some note) = piece Apart Comment note ∷ []
+suffix_piece (Some comment) = piece Apart Comment comment ∷ []

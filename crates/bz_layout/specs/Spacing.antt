@@ -34,7 +34,7 @@ is_call (Some Call) = true
 is_call (Some RuleCall) = true
 is_call _ = false
 
--- at the start, after a sign other than `.` and after a keyword a sign begins an operand
+-- at the start, after a operator other than `.` and after a keyword a operator begins an operand
 abbrev pub awaits_operand : Edge → Bool
 awaits_operand Dotted = false
 awaits_operand Operand = false
@@ -54,14 +54,14 @@ begins_argument within left text = is_call within && is_start left && (bytes_eq 
 abbrev pub is_index_colon : Option GroupKind → List ℕ → Bool
 is_index_colon within text = is_index within && bytes_eq text (codes ":")
 
-abbrev pub sign_edge : Option GroupKind → Edge → List ℕ → Edge
-sign_edge within left text =
+abbrev pub operator_edge : Option GroupKind → Edge → List ℕ → Edge
+operator_edge within left text =
     if bytes_eq text (codes ".") then Dotted else
     (if is_prefix left text || begins_argument within left text || is_index_colon within text then Joined else Operator)
 
 -- what a node leaves to the one after it
 abbrev pub edge_after : Option GroupKind → Edge → Item → Edge
-edge_after within left (leaf OperatorToken text) = sign_edge within left text
+edge_after within left (leaf OperatorToken text) = operator_edge within left text
 edge_after within left (leaf Keyword text) = Operator
 edge_after within left (leaf _ text) = Operand
 edge_after within left (group kind segs one_comma end) = Operand

@@ -24,11 +24,11 @@ fn breaks_by_count(kind: GroupKind, n: usize) -> bool
     }
 }
 
-// Whether a group of `n` segments is broken, where `notes` tells whether it has comments, and `inside` whether a segment
+// Whether a group of `n` segments is broken, where `comments` tells whether it has comments, and `inside` whether a segment
 // of it holds a broken one.
 #[inline(always)]
-pub(crate) fn breaks_with(kind: GroupKind, notes: bool, n: usize, inside: bool) -> bool
-    ensures { result ≡ breaks_with kind notes n inside }
+pub(crate) fn breaks_with(kind: GroupKind, comments: bool, n: usize, inside: bool) -> bool
+    ensures { result ≡ breaks_with kind comments n inside }
 {
-    notes || breaks_by_count(kind, n) || (n >= 2 && inside)
+    comments || breaks_by_count(kind, n) || (n >= 2 && inside)
 }

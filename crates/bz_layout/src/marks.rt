@@ -28,7 +28,7 @@ const FIRST_CAPACITY: usize = 16;
 pub(crate) struct Inside {
     pub(crate) one_comma: bool,
     // It has comments.
-    pub(crate) notes: bool,
+    pub(crate) comments: bool,
     // A segment of it holds a broken bracket.
     pub(crate) holds: bool,
     // The number of its segments, at most 2.
@@ -50,7 +50,7 @@ impl Inside {
     {
         Inside {
             one_comma,
-            notes: false,
+            comments: false,
             holds: false,
             segs: 0,
         }
@@ -70,7 +70,7 @@ fn mark_of(kind: GroupKind, inside: Inside) -> Mark
 {
     let segs = usize::from(inside.segs);
     Mark {
-        broken: breaks_with(kind, inside.notes, segs, inside.holds),
+        broken: breaks_with(kind, inside.comments, segs, inside.holds),
         comma: has_commas(kind, inside.one_comma, segs),
     }
 }
@@ -103,7 +103,7 @@ impl Marks {
                 self.here = Inside::closed(one_comma);
             }
             Part::End => self.here.segs = one_more(self.here.segs),
-            Part::Above(_) | Part::Beside(_) => self.here.notes = true,
+            Part::Above(_) | Part::Beside(_) => self.here.comments = true,
         }
         Ok(())
     }

@@ -28,10 +28,10 @@ fn put_leading(pieces: &[&[Part<'_>]], out: &mut Vec<u8>) -> Result<(), AllocErr
 {
     for piece in pieces {
         for part in *piece {
-            let Part::Above(note) = part else {
+            let Part::Above(comment) = part else {
                 return Ok(());
             };
-            out.put(note)?;
+            out.put(comment)?;
             out.put("\n")?;
         }
     }

@@ -2,7 +2,7 @@
 
 ghost use Rattle.std.specs.Prelude.{◌≡◌};
 ghost use Rattle.bz_tree.specs.Tree.{leaf};
-ghost use Rattle.bz_layout.specs.Spacing.{hugs, closes_up, is_index, is_call, awaits_operand, is_prefix, begins_argument, is_index_colon, sign_edge, edge_after};
+ghost use Rattle.bz_layout.specs.Spacing.{hugs, closes_up, is_index, is_call, awaits_operand, is_prefix, begins_argument, is_index_colon, operator_edge, edge_after};
 
 use bz_token::Kind;
 use bz_tree::GroupKind;
@@ -16,7 +16,7 @@ pub enum Edge {
     Joined,
     /// A `.`.
     Dotted,
-    /// Any other sign, or a keyword.
+    /// Any other operator, or a keyword.
     Operator,
     /// A name, a literal or a group.
     Operand,
@@ -93,8 +93,8 @@ fn is_index_colon(within: Option<GroupKind>, text: &str) -> bool
 }
 
 #[inline(always)]
-fn sign_edge(within: Option<GroupKind>, left: Edge, text: &str) -> Edge
-    ensures { result ≡ sign_edge within left text.now }
+fn operator_edge(within: Option<GroupKind>, left: Edge, text: &str) -> Edge
+    ensures { result ≡ operator_edge within left text.now }
 {
     if text == "." {
         Edge::Dotted
@@ -113,7 +113,7 @@ pub(crate) fn token_edge(within: Option<GroupKind>, left: Edge, kind: Kind, text
     ensures { result ≡ edge_after within left (leaf kind text.now) }
 {
     match kind {
-        Kind::Operator => sign_edge(within, left, text),
+        Kind::Operator => operator_edge(within, left, text),
         Kind::Keyword => Edge::Operator,
         _ => Edge::Operand,
     }

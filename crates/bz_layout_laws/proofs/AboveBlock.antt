@@ -8,14 +8,14 @@ use Rattle.bz_token.specs.Places.{Placed}
 use Rattle.bz_token_laws.proofs.Deeper.{tokens_are_texts}
 use Rattle.bz_token.proofs.Quiet.{both}
 use Rattle.bz_tree.specs.declared.kinds.Mark.{Mark}
-use Rattle.bz_tree.specs.declared.kinds.Mark.TheVariants.{Open, Close, Comma, Comment, NewLine, Plain}
+use Rattle.bz_tree.specs.declared.kinds.Mark.TheVariants.{Open, Close, Comma, Comment, Newline, Plain}
 use Rattle.bz_tree.specs.Blocks.{above_at, above, IsBlockOf}
 use Rattle.bz_tree.specs.Chunk.{IsOneOf}
 use Rattle.bz_tree.specs.Kinds.{mark_of}
 use Rattle.bz_tree.specs.Tree.{Statement}
 use Rattle.bz_layout_laws.specs.BlockIn.{IsBlockIn}
 use Rattle.bz_layout_laws.specs.Legible.{AreComments}
-use Rattle.bz_layout_laws.proofs.TextsRead.{is_token_text, note_text}
+use Rattle.bz_layout_laws.proofs.TextsRead.{is_token_text, comment_text}
 use Rattle.bz_layout_laws.proofs.Utf8Tokens.{is_utf8_token, tokens_utf8}
 
 abbrev Passed : (Placed → Bool) → (List ℕ → Bool) → Type 0
@@ -23,7 +23,7 @@ Passed test q = (t : Placed) → mark_of t ≡ Comment → test t ≡ true → q
 
 one_passes : (q : List ℕ → Bool) (m : Mark) (text : List ℕ) (later : List (List ℕ)) → (m ≡ Comment → q text ≡ true) → list_all q later ≡ true → list_all q (above_at m text later) ≡ true
 one_passes q Comment text later here rest = both (q text) (list_all q later) (here refl) rest
-one_passes q NewLine text later here rest = rest
+one_passes q Newline text later here rest = rest
 one_passes q (Open shape) text later here rest = refl
 one_passes q (Close shape) text later here rest = refl
 one_passes q Comma text later here rest = refl
@@ -44,7 +44,7 @@ before_above first depth bytes s b = ap (λ (t : Statement). t.before) (block_of
 pub block_comments : (first depth : ℕ) (bytes : List ℕ) (s : Statement) → IsBlockIn first depth bytes s → AreComments s.before
 block_comments first depth bytes s b =
     subst AreComments (sym (before_above first depth bytes s b))
-    (above_pass is_token_text is_comment (λ t e is. note_text t.kind t.text e is) b.tokens (tokens_are_texts first depth bytes b.tokens b.are))
+    (above_pass is_token_text is_comment (λ t e is. comment_text t.kind t.text e is) b.tokens (tokens_are_texts first depth bytes b.tokens b.are))
 
 pub block_comments_utf8 : (first depth : ℕ) (bytes : List ℕ) (s : Statement) → IsUtf8 bytes → IsBlockIn first depth bytes s → list_all is_utf8 s.before ≡ true
 block_comments_utf8 first depth bytes s u b =

@@ -6,7 +6,7 @@ use Rattle.std.proofs.lemmas.Bool.{false≢true}
 use Rattle.bz_token.specs.declared.token.Kind.{Kind}
 use Rattle.bz_token.specs.declared.token.Kind.TheVariants.{Operator, Newline, Comment}
 use Rattle.bz_token.specs.Lexical.{is_newline}
-use Rattle.bz_token.specs.Ends.{is_note}
+use Rattle.bz_token.specs.Ends.{is_comment_kind}
 use Rattle.bz_tree.specs.declared.stmt.GroupKind.{GroupKind}
 use Rattle.bz_tree.specs.Kinds.{kind_mark}
 use Rattle.bz_tree.specs.Statement.{is_aside}
@@ -29,7 +29,7 @@ use Rattle.bz_layout_laws.proofs.Pieces.{gap_is}
 
 -- a comment on the line of a token before it, if one is there
 abbrev pub is_beside : Bool → Piece → Bool
-is_beside token p = is_note p.kind && (token && not (list_any is_newline (gap_bytes p.gap)))
+is_beside token p = is_comment_kind p.kind && (token && not (list_any is_newline (gap_bytes p.gap)))
 
 -- whether the last piece is neither a comment nor a newline
 abbrev pub ends_token : Bool → List Piece → Bool
@@ -75,11 +75,11 @@ none = record { each = λ token. tt }
 at_token : {ps : List Piece} → Always ps → Beside true ps
 at_token a = record { all = a.each true }
 
-sign : (gap : Gap) (text : List ℕ) → is_apart gap ≡ false → Always (piece gap Operator text ∷ [])
-sign gap text h = record { each = λ token. (sym h, tt) }
+operator : (gap : Gap) (text : List ℕ) → is_apart gap ≡ false → Always (piece gap Operator text ∷ [])
+operator gap text h = record { each = λ token. (sym h, tt) }
 
-sign_last : (gap : Gap) (text : List ℕ) → Tokens (piece gap Operator text ∷ [])
-sign_last gap text = record { last = λ token. refl }
+operator_last : (gap : Gap) (text : List ℕ) → Tokens (piece gap Operator text ∷ [])
+operator_last gap text = record { last = λ token. refl }
 
 leaf_always : (gap : Gap) (kind : Kind) (text other : List ℕ) → is_apart gap ≡ false → is_leaf_mark (kind_mark kind other) ≡ true → Always (piece gap kind text ∷ [])
 leaf_always gap Newline text other h mark = absurd (false≢true mark)
@@ -92,7 +92,7 @@ leaf_last gap Comment text other mark = absurd (false≢true mark)
 leaf_last gap _ text other mark = record { last = λ token. refl }
 
 commas : (b : Bool) → Always (comma_if b)
-commas true = sign Closed (codes ",") refl
+commas true = operator Closed (codes ",") refl
 commas false = none
 
 own_lines : (level : ℕ) (texts : List (List ℕ)) → Always (comments level texts)
@@ -118,10 +118,10 @@ mutual
       let comma = has_commas kind one_comma (count segs) in
       let last : List Piece = piece (Line level) Operator (closing kind) ∷ [] in
       let close : List Piece = piece Closed Operator (closing kind) ∷ [] in
-      join (sign gap (opening kind) first)
+      join (operator gap (opening kind) first)
       (either_way Always (breaks style (is_broken kind segs end (segs_hold segs))) (broken_segs style (level + 1) kind comma segs ++ (comments (level + 1) end ++ last)) (flat_segs style level kind true segs ++ (comma_if one_comma ++ close))
-      (join (broken_always style (level + 1) kind comma segs h.0) (join (own_lines (level + 1) end) (sign (Line level) (closing kind) refl)))
-      (join (flat_always style level kind true segs h.0) (join (commas one_comma) (sign Closed (closing kind) refl))))
+      (join (broken_always style (level + 1) kind comma segs h.0) (join (own_lines (level + 1) end) (operator (Line level) (closing kind) refl)))
+      (join (flat_always style level kind true segs h.0) (join (commas one_comma) (operator Closed (closing kind) refl))))
 
   items_always : (style : Style) (level : ℕ) (within : Option GroupKind) (first : Gap) (left : Edge) (xs : Items) → is_apart first ≡ false → AreLegible within left xs → Always (items_pieces style level within first left xs)
   items_always style level within first left no_items h legible = none
@@ -140,7 +140,7 @@ mutual
   flat_always style level kind true (seg before nodes suffix ss) h =
       join (items_always style level (Some kind) Closed Start nodes refl h.2) (flat_always style level kind false ss h.4)
   flat_always style level kind false (seg before nodes suffix ss) h =
-      join (sign Closed (codes ",") refl) (join (items_always style level (Some kind) Space Start nodes refl h.2) (flat_always style level kind false ss h.4))
+      join (operator Closed (codes ",") refl) (join (items_always style level (Some kind) Space Start nodes refl h.2) (flat_always style level kind false ss h.4))
 
   -- nodes end with a token
   item_last : (style : Style) (level : ℕ) (gap : Gap) (x : Item) → IsLegibleItem x → Tokens (item_pieces style level gap x)
@@ -151,8 +151,8 @@ mutual
       let close : List Piece = piece Closed Operator (closing kind) ∷ [] in
       last_join (piece gap Operator (opening kind) ∷ [])
       (either_way Tokens (breaks style (is_broken kind segs end (segs_hold segs))) (broken_segs style (level + 1) kind comma segs ++ (comments (level + 1) end ++ last)) (flat_segs style level kind true segs ++ (comma_if one_comma ++ close))
-      (last_join (broken_segs style (level + 1) kind comma segs) (last_join (comments (level + 1) end) (sign_last (Line level) (closing kind))))
-      (last_join (flat_segs style level kind true segs) (last_join (comma_if one_comma) (sign_last Closed (closing kind)))))
+      (last_join (broken_segs style (level + 1) kind comma segs) (last_join (comments (level + 1) end) (operator_last (Line level) (closing kind))))
+      (last_join (flat_segs style level kind true segs) (last_join (comma_if one_comma) (operator_last Closed (closing kind)))))
 
   items_last : (style : Style) (level : ℕ) (within : Option GroupKind) (first : Gap) (left : Edge) (xs : Items) → are_some xs ≡ true → AreLegible within left xs → Tokens (items_pieces style level within first left xs)
   items_last style level within first left no_items h legible = absurd (false≢true h)

@@ -74,14 +74,14 @@ block_again first second depth bytes s b texts more h =
     let upright : indent_fault tokens ≡ None =
     ap (λ o. indent_at o tokens) t.is_header ∙ ap (λ n. if n == 1 then (if is_block_word here then block_indent tokens else None) else Some here.line) column
     ∙ ap (λ w. if w then block_indent tokens else None) b.word ∙ indent in
-    let notes : above tokens ≡ texts = above_lines second texts header (b.mid ++ replicate (suc more) newline) [] [] b.word in
+    let comments : above tokens ≡ texts = above_lines second texts header (b.mid ++ replicate (suc more) newline) [] [] b.word in
     record {
       tokens = tokens;
       are = are;
       begins = begins;
       found = found;
       reads = record { upright = upright; some = some_seen tokens t.last t.is_last; chunk = subst (λ w. IsOneOf w second text tokens found) (sym begins) is };
-      same = ap (λ ns. lineless (with_above ns found)) notes ∙ ap (λ x. lineless (with_above texts x)) (sym b.is);
+      same = ap (λ ns. lineless (with_above ns found)) comments ∙ ap (λ x. lineless (with_above texts x)) (sym b.is);
     }
   where
     body_shown : (first second : ℕ) (a c over under : List ℕ) (header : Piece) (mid : List Piece) → column_at (a ++ []) ≡ column_at (c ++ header.gap) → all_shown (tokens_of second a over (close header ∷ mid)) ≡ all_shown (tokens_of first c under (header ∷ mid))

@@ -8,7 +8,7 @@ use Rattle.bz_token.specs.declared.token.Kind.TheVariants.{Newline}
 use Rattle.bz_token.specs.Brackets.{is_line}
 use Rattle.bz_token.specs.Places.{Placed}
 use Rattle.bz_tree.specs.declared.kinds.Mark.{Mark}
-use Rattle.bz_tree.specs.declared.kinds.Mark.TheVariants.{Open, Close, Comma, Comment, NewLine, Plain}
+use Rattle.bz_tree.specs.declared.kinds.Mark.TheVariants.{Open, Close, Comma, Comment, Newline as NewlineMark, Plain}
 use Rattle.bz_tree.specs.Blocks.{is_colon, with_token, logical_lines, indented, ends_open, bad_line, block_indent, header_line, has_colon, is_open_end, is_block}
 use Rattle.bz_tree.specs.Kinds.{kind_mark, mark_of}
 use Rattle.bz_tree.specs.Owners.{is_filled}
@@ -36,7 +36,7 @@ newline_lines (n ∷ ns) h =
 
 filled_with : (m : Mark) (t : Placed) (ls : List (List Placed)) → is_filled ls ≡ true → is_filled (with_token m t ls) ≡ true
 filled_with m t [] h = absurd (false≢true h)
-filled_with NewLine t (l ∷ ls) h = refl
+filled_with NewlineMark t (l ∷ ls) h = refl
 filled_with Comment t (l ∷ ls) h = refl
 filled_with Comma t (l ∷ ls) h = refl
 filled_with Plain t (l ∷ ls) h = refl
@@ -49,7 +49,7 @@ filled_lines (t ∷ ts) = filled_with (mark_of t) t (logical_lines ts) (filled_l
 
 with_more : (m : Mark) (t : Placed) (ls es : List (List Placed)) → is_filled ls ≡ true → with_token m t (ls ++ es) ≡ with_token m t ls ++ es
 with_more m t [] es h = absurd (false≢true h)
-with_more NewLine t (l ∷ ls) es h = refl
+with_more NewlineMark t (l ∷ ls) es h = refl
 with_more Comment t (l ∷ ls) es h = refl
 with_more Comma t (l ∷ ls) es h = refl
 with_more Plain t (l ∷ ls) es h = refl

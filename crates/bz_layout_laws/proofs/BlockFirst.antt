@@ -14,7 +14,7 @@ use Rattle.bz_token.specs.Reading.{is_gap, Piece, bytes_of}
 use Rattle.bz_token.specs.TokenLines.{line_of, lines_from, lines_of}
 use Rattle.bz_token_laws.proofs.Readable.{bytes_join}
 use Rattle.bz_tree.specs.Blocks.{is_block_word_at}
-use Rattle.bz_layout_laws.proofs.BlockHead.{by_word, word_no_line, word_no_note, word_ended, head_opens}
+use Rattle.bz_layout_laws.proofs.BlockHead.{by_word, word_no_line, word_no_comment, word_ended, head_opens}
 use Rattle.bz_layout_laws.proofs.BlockLines.{cut_line, keep_line, stops_front}
 use Rattle.bz_layout_laws.proofs.BranchWords.{stops_word}
 
@@ -84,7 +84,7 @@ pub headed : (word : Opener) (header : Piece) (qs : List Piece) (rest : List ℕ
     → ends header.kind header.text (bytes_of qs ++ rest) ≡ true → Headed word header qs rest
 headed word header qs rest is opens gap column ended =
     let line = word_no_line header.kind header.text is in
-    let note = word_no_note header.kind header.text is in
+    let comment = word_no_comment header.kind header.text is in
     let f = first_line (header ∷ []) qs rest (ap (λ x. is_empty (header.gap ++ x)) (append-nil header.text) ∙ some_text header.gap header.text (by_word (λ t. is_empty t ≡ false) header.kind header.text is refl refl refl)) in
     let after = bytes_of f.pieces ++ f.end in
     let stops = stops_front after f.after (ap stops_word (sym f.bytes_are) ∙ word_ended header.kind header.text (bytes_of qs ++ rest) is ended) in
@@ -94,7 +94,7 @@ headed word header qs rest is opens gap column ended =
       others = f.others;
       lines_are = keep_line [] header qs rest line ∙ f.lines_are;
       begun = f.lines_are;
-      kind = rw (line, note) refl;
+      kind = rw (line, comment) refl;
       opens = ap opener text ∙ head_opens header.gap header.kind header.text after gap column is stops ∙ opens;
     }
   where

@@ -20,7 +20,7 @@ pub record AreBlockLines (word : Opener) (ls : List Line) : Type 0 where
   pub head : Line
   pub others : List Line
   pub are : ls ≡ comments ++ head ∷ others
-  pub notes : are_comments comments ≡ true
+  pub comment_texts : are_comments comments ≡ true
   pub kind : head.kind ≡ Statement
   pub opens : opener head.text ≡ Some word
   pub whole : are_whole (head ∷ others) ≡ true
@@ -37,35 +37,35 @@ pub from_head : (head : Line) (others : List Line) → head.kind ≡ Statement �
 from_head head others is = let other : is_comment_line head.kind ≡ false = ap is_comment_line is in rw (other, after_comments) refl
 
 -- comment lines take any line
-notes_followed : (done : List Line) (text : List ℕ) → are_comments done ≡ true → is_followed (after_comments done) text ≡ true
-notes_followed done text h = ap (λ ls. is_followed (after_comments ls) text) (sym (append-nil done)) ∙ ap (λ ls. is_followed ls text) (after_all done [] h)
+comments_followed : (done : List Line) (text : List ℕ) → are_comments done ≡ true → is_followed (after_comments done) text ≡ true
+comments_followed done text h = ap (λ ls. is_followed (after_comments ls) text) (sym (append-nil done)) ∙ ap (λ ls. is_followed ls text) (after_all done [] h)
 
-notes_snoc : (done : List Line) (l : Line) → are_comments done ≡ true → is_comment_line l.kind ≡ true → are_comments (done ++ l ∷ []) ≡ true
-notes_snoc [] l h is = ap (λ b. b && true) is
-notes_snoc (d ∷ ds) l h is =
+comments_snoc : (done : List Line) (l : Line) → are_comments done ≡ true → is_comment_line l.kind ≡ true → are_comments (done ++ l ∷ []) ≡ true
+comments_snoc [] l h is = ap (λ b. b && true) is
+comments_snoc (d ∷ ds) l h is =
     let p = and_parts (is_comment_line d.kind) (are_comments ds) h in
-    and_from (is_comment_line d.kind) (are_comments (ds ++ l ∷ [])) p.0 (notes_snoc ds l p.1 is)
+    and_from (is_comment_line d.kind) (are_comments (ds ++ l ∷ [])) p.0 (comments_snoc ds l p.1 is)
 
-notes_take : (done comments ls : List Line) → are_comments done ≡ true → are_comments comments ≡ true → grouped_from chunk_goes_on done (comments ++ ls) ≡ grouped_from chunk_goes_on (done ++ comments) ls
-notes_take done [] ls h g = ap (λ d. grouped_from chunk_goes_on d ls) (sym (append-nil done))
-notes_take done (c ∷ cs) ls h g =
+comments_take : (done comments ls : List Line) → are_comments done ≡ true → are_comments comments ≡ true → grouped_from chunk_goes_on done (comments ++ ls) ≡ grouped_from chunk_goes_on (done ++ comments) ls
+comments_take done [] ls h g = ap (λ d. grouped_from chunk_goes_on d ls) (sym (append-nil done))
+comments_take done (c ∷ cs) ls h g =
     let p = and_parts (is_comment_line c.kind) (are_comments cs) g in
-    grouped_joins chunk_goes_on done c (cs ++ ls) (notes_followed done c.text h)
-    ∙ notes_take (done ++ c ∷ []) cs ls (notes_snoc done c h p.0) p.1
+    grouped_joins chunk_goes_on done c (cs ++ ls) (comments_followed done c.text h)
+    ∙ comments_take (done ++ c ∷ []) cs ls (comments_snoc done c h p.0) p.1
     ∙ ap (λ d. grouped_from chunk_goes_on d ls) (append_assoc done (c ∷ []) cs)
 
 head_taken : (comments : List Line) (head : Line) (ls : List Line) → are_comments comments ≡ true → grouped chunk_goes_on (comments ++ head ∷ ls) ≡ grouped_from chunk_goes_on (comments ++ head ∷ []) ls
 head_taken [] head ls h = refl
 head_taken (c ∷ cs) head ls h =
     let p = and_parts (is_comment_line c.kind) (are_comments cs) h in
-    notes_take (c ∷ []) cs (head ∷ ls) (ap (λ b. b && true) p.0) p.1
-    ∙ grouped_joins chunk_goes_on (c ∷ cs) head ls (notes_followed (c ∷ cs) head.text h)
+    comments_take (c ∷ []) cs (head ∷ ls) (ap (λ b. b && true) p.0) p.1
+    ∙ grouped_joins chunk_goes_on (c ∷ cs) head ls (comments_followed (c ∷ cs) head.text h)
 
 -- lines of a block take what goes on with it
 block_followed : (word : Opener) (comments : List Line) (head : Line) (ms : List Line) (text : List ℕ) → are_comments comments ≡ true → head.kind ≡ Statement → opener head.text ≡ Some word → are_whole (head ∷ ms) ≡ true
     → is_followed (after_comments (comments ++ head ∷ ms)) text ≡ goes_on word text
-block_followed word comments head ms text notes kind opens whole =
-    ap (λ ls. is_followed ls text) (after_all comments (head ∷ ms) notes ∙ from_head head ms kind)
+block_followed word comments head ms text comment_texts kind opens whole =
+    ap (λ ls. is_followed ls text) (after_all comments (head ∷ ms) comment_texts ∙ from_head head ms kind)
     ∙ ap (λ k. takes_on (block_word k head.text) (head ∷ ms) text) kind
     ∙ ap (λ w. takes_on w (head ∷ ms) text) opens
     ∙ ap (λ b. b && goes_on word text) whole
@@ -80,20 +80,20 @@ whole_front (x ∷ xs) ys h = by x.broken (whole_front xs ys) h
 
 block_takes : (word : Opener) (comments : List Line) (head : Line) (ms more next : List Line) → are_comments comments ≡ true → head.kind ≡ Statement → opener head.text ≡ Some word → are_whole (head ∷ (ms ++ more)) ≡ true
     → all_go_on word more ≡ true → grouped_from chunk_goes_on (comments ++ head ∷ ms) (more ++ next) ≡ grouped_from chunk_goes_on (comments ++ head ∷ (ms ++ more)) next
-block_takes word comments head ms [] next notes kind opens whole goes = ap (λ ls. grouped_from chunk_goes_on (comments ++ head ∷ ls) next) (sym (append-nil ms))
-block_takes word comments head ms (m ∷ more) next notes kind opens whole goes =
+block_takes word comments head ms [] next comment_texts kind opens whole goes = ap (λ ls. grouped_from chunk_goes_on (comments ++ head ∷ ls) next) (sym (append-nil ms))
+block_takes word comments head ms (m ∷ more) next comment_texts kind opens whole goes =
     let p = and_parts (goes_on word m.text) (all_go_on word more) goes in
-    grouped_joins chunk_goes_on (comments ++ head ∷ ms) m (more ++ next) (block_followed word comments head ms m.text notes kind opens (whole_front (head ∷ ms) (m ∷ more) whole) ∙ p.0)
+    grouped_joins chunk_goes_on (comments ++ head ∷ ms) m (more ++ next) (block_followed word comments head ms m.text comment_texts kind opens (whole_front (head ∷ ms) (m ∷ more) whole) ∙ p.0)
     ∙ ap (λ ls. grouped_from chunk_goes_on ls (more ++ next)) (append_assoc comments (head ∷ ms) (m ∷ []))
-    ∙ block_takes word comments head (ms ++ m ∷ []) more next notes kind opens (ap (λ ls. are_whole (head ∷ ls)) (append_assoc ms (m ∷ []) more) ∙ whole) p.1
+    ∙ block_takes word comments head (ms ++ m ∷ []) more next comment_texts kind opens (ap (λ ls. are_whole (head ∷ ls)) (append_assoc ms (m ∷ []) more) ∙ whole) p.1
     ∙ ap (λ ls. grouped_from chunk_goes_on (comments ++ head ∷ ls) next) (append_assoc ms (m ∷ []) more)
 
 one_group : (word : Opener) (ls next : List Line) → AreBlockLines word ls → grouped chunk_goes_on (ls ++ next) ≡ grouped_from chunk_goes_on ls next
 one_group word ls next a =
     ap (λ x. grouped chunk_goes_on (x ++ next)) a.are
     ∙ ap (grouped chunk_goes_on) (append_assoc a.comments (a.head ∷ a.others) next)
-    ∙ head_taken a.comments a.head (a.others ++ next) a.notes
-    ∙ block_takes word a.comments a.head [] a.others next a.notes a.kind a.opens a.whole a.goes
+    ∙ head_taken a.comments a.head (a.others ++ next) a.comment_texts
+    ∙ block_takes word a.comments a.head [] a.others next a.comment_texts a.kind a.opens a.whole a.goes
     ∙ ap (λ x. grouped_from chunk_goes_on x next) (sym a.are)
 
 one_text : (word : Opener) (bytes : List ℕ) → AreBlockLines word (lines bytes) → chunks bytes ≡ text_of (lines bytes) ∷ []
@@ -109,7 +109,7 @@ block_ends word bytes a = one_text word bytes a ∙ ap (λ t. t ∷ []) (whole_t
 -- where a line follows that does not go on with it
 block_apart : (word : Opener) (ls : List Line) (l : Line) (next : List Line) → AreBlockLines word ls → goes_on word l.text ≡ false → grouped_from chunk_goes_on ls (l ∷ next) ≡ ls ∷ grouped chunk_goes_on (l ∷ next)
 block_apart word ls l next a stops =
-    grouped_apart chunk_goes_on ls l next (ap (λ x. is_followed (after_comments x) l.text) a.are ∙ block_followed word a.comments a.head a.others l.text a.notes a.kind a.opens a.whole ∙ stops)
+    grouped_apart chunk_goes_on ls l next (ap (λ x. is_followed (after_comments x) l.text) a.are ∙ block_followed word a.comments a.head a.others l.text a.comment_texts a.kind a.opens a.whole ∙ stops)
 
 pub block_before : (word : Opener) (bytes rest : List ℕ) (l : Line) (next : List Line) → AreBlockLines word (lines bytes) → lines (bytes ++ rest) ≡ lines bytes ++ lines rest → lines rest ≡ l ∷ next → goes_on word l.text ≡ false
     → chunks (bytes ++ rest) ≡ bytes ∷ chunks rest

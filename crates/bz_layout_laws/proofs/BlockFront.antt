@@ -7,10 +7,10 @@ use Rattle.std.proofs.lemmas.List.Folds.{list_all-append}
 use Rattle.bz_token.specs.declared.token.Kind.{Kind}
 use Rattle.bz_token.specs.declared.token.Kind.TheVariants.{Newline as LineKind, Comment}
 use Rattle.bz_token.specs.declared.cutter.scan.LineKind.{LineKind as Form}
-use Rattle.bz_token.specs.declared.cutter.scan.LineKind.TheVariants.{Blank, Note, Statement}
+use Rattle.bz_token.specs.declared.cutter.scan.LineKind.TheVariants.{Blank, CommentLine, Statement}
 use Rattle.bz_token.specs.Brackets.{is_line}
 use Rattle.bz_token.specs.Chunks.{after_comments}
-use Rattle.bz_token.specs.Ends.{is_note, ends}
+use Rattle.bz_token.specs.Ends.{is_comment_kind, ends}
 use Rattle.bz_token.specs.FreshStart.{ends_in_line}
 use Rattle.bz_token.specs.Lexical.{is_blank, is_newline, is_empty}
 use Rattle.bz_token.specs.LogicalLines.{Line}
@@ -85,16 +85,16 @@ front_column (p ∷ ps) line texts = lines_end 1 p ps line texts
 -- comments and newlines are blank lines and comment lines
 abbrev is_no_statement : Form → Bool
 is_no_statement Blank = true
-is_no_statement Note = true
+is_no_statement CommentLine = true
 is_no_statement Statement = false
 
 abbrev are_no_statements : List Line → Bool
 are_no_statements ls = list_all (λ l. is_no_statement l.kind) ls
 
 comment_form : (line : List Piece) → list_all is_comment_piece line ≡ true → is_no_statement (kind_of line) ≡ true
-comment_form line h = ap (λ b. is_no_statement (if list_all is_newline_piece line then Blank else (if b then Note else Statement))) h ∙ by (list_all is_newline_piece line)
+comment_form line h = ap (λ b. is_no_statement (if list_all is_newline_piece line then Blank else (if b then CommentLine else Statement))) h ∙ by (list_all is_newline_piece line)
   where
-    by : (b : Bool) → is_no_statement (if b then Blank else Note) ≡ true
+    by : (b : Bool) → is_no_statement (if b then Blank else CommentLine) ≡ true
     by true = refl
     by false = refl
 
@@ -118,9 +118,9 @@ aside_comments : (ps : List Piece) → list_all is_aside_piece ps ≡ true → l
 aside_comments [] h = refl
 aside_comments (p ∷ ps) h =
     let a = and_parts (is_aside p.kind) (list_all is_aside_piece ps) h in
-    and_from (is_line p.kind || is_note p.kind) (list_all is_comment_piece ps) (by p.kind a.0) (aside_comments ps a.1)
+    and_from (is_line p.kind || is_comment_kind p.kind) (list_all is_comment_piece ps) (by p.kind a.0) (aside_comments ps a.1)
   where
-    by : (kind : Kind) → is_aside kind ≡ true → (is_line kind || is_note kind) ≡ true
+    by : (kind : Kind) → is_aside kind ≡ true → (is_line kind || is_comment_kind kind) ≡ true
     by LineKind h = refl
     by Comment h = refl
     by _ h = absurd (false≢true h)
@@ -137,7 +137,7 @@ none_blank (n ∷ ns) l ls h form =
     alone (m ∷ ms) form is = false≢true (rw is at form)
 
     by : (form : Form) → n.kind ≡ form → is_no_statement form ≡ true → (is_rest (after_comments (ns ++ l ∷ ls)) ≡ true → are_comments ns ≡ true) → are_comments (n ∷ ns) ≡ true
-    by Note is here more = rw is (more (rw (is, after_comments) at form))
+    by CommentLine is here more = rw is (more (rw (is, after_comments) at form))
     by Blank is here more = absurd (alone ns (rw (is, after_comments) at form) is)
     by Statement is here more = absurd (false≢true here)
 

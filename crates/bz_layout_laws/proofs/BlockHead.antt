@@ -9,7 +9,7 @@ use Rattle.bz_token.specs.declared.cutter.block.Opener.{Opener}
 use Rattle.bz_token.specs.declared.cutter.block.Opener.TheVariants.{Def, For, If}
 use Rattle.bz_token.specs.Blocks.{head_from, word_at, opener_of, opener, goes_on}
 use Rattle.bz_token.specs.Brackets.{is_line}
-use Rattle.bz_token.specs.Ends.{is_note, ends}
+use Rattle.bz_token.specs.Ends.{is_comment_kind, ends}
 use Rattle.bz_token.specs.Lexical.{is_blank}
 use Rattle.bz_token.specs.Places.{column_from}
 use Rattle.bz_token.specs.Reading.{is_gap, continues_gap, feeds_gap}
@@ -38,9 +38,9 @@ pub word_no_line : (kind : Kind) (text : List ℕ) → is_block_word_at kind tex
 word_no_line Keyword text h = refl
 word_no_line _ text h = absurd (false≢true h)
 
-pub word_no_note : (kind : Kind) (text : List ℕ) → is_block_word_at kind text ≡ true → is_note kind ≡ false
-word_no_note Keyword text h = refl
-word_no_note _ text h = absurd (false≢true h)
+pub word_no_comment : (kind : Kind) (text : List ℕ) → is_block_word_at kind text ≡ true → is_comment_kind kind ≡ false
+word_no_comment Keyword text h = refl
+word_no_comment _ text h = absurd (false≢true h)
 
 -- no letter, digit or underscore follows the word
 pub word_ended : (kind : Kind) (text after : List ℕ) → is_block_word_at kind text ≡ true → ends kind text after ≡ true → stops_word after ≡ true

@@ -28,13 +28,13 @@ use Rattle.bz_layout_laws.proofs.TokensBack.{layout_read}
 abbrev blank_to_newline : List ℕ → Bool
 blank_to_newline xs = list_all is_blank (take (prefix_len (λ b. not (is_newline b)) xs) xs)
 
-note_before : (bytes after rest : List ℕ) → blank_to_newline (bytes ++ after) ≡ true → blank_to_newline (bytes ++ 10 ∷ rest) ≡ true
-note_before [] after rest h = refl
-note_before (b ∷ bs) after rest h = elim (cases_Bool (is_newline b)) [
+comment_before : (bytes after rest : List ℕ) → blank_to_newline (bytes ++ after) ≡ true → blank_to_newline (bytes ++ 10 ∷ rest) ≡ true
+comment_before [] after rest h = refl
+comment_before (b ∷ bs) after rest h = elim (cases_Bool (is_newline b)) [
   | inl hit ↦ rw hit refl
   | inr miss ↦
       let p = and_parts (is_blank b) (blank_to_newline (bs ++ after)) (rw (miss, one-add) at h) in
-      rw (miss, one-add) (both (is_blank b) (blank_to_newline (bs ++ 10 ∷ rest)) p.0 (note_before bs after rest p.1))
+      rw (miss, one-add) (both (is_blank b) (blank_to_newline (bs ++ 10 ∷ rest)) p.0 (comment_before bs after rest p.1))
 ]
 
 stops_before : (kind : Kind) (text bytes after rest : List ℕ) → is_text kind text ≡ true → stops_at kind text (bytes ++ after) ≡ true → stops_at kind text (bytes ++ 10 ∷ rest) ≡ true
@@ -43,7 +43,7 @@ stops_before kind text (b ∷ bs) after rest is h = h
 
 -- what ends a text ends it where a newline comes earlier
 ends_before : (kind : Kind) (text bytes after rest : List ℕ) → is_text kind text ≡ true → ends kind text (bytes ++ after) ≡ true → ends kind text (bytes ++ 10 ∷ rest) ≡ true
-ends_before CommentToken text bytes after rest is h = note_before bytes after rest h
+ends_before CommentToken text bytes after rest is h = comment_before bytes after rest h
 ends_before kind text bytes after rest is h = stops_before kind text bytes after rest is h
 
 ended_before : (ps : List Piece) (after rest : List ℕ) → are_texts ps ≡ true → are_ended ps after ≡ true → are_ended ps (10 ∷ rest) ≡ true

@@ -7,7 +7,7 @@ use Rattle.bz_token.specs.declared.token.Kind.{Kind}
 use Rattle.bz_token.specs.declared.token.Kind.TheVariants.{Newline, Comment as CommentToken}
 use Rattle.bz_token.specs.Places.{Placed}
 use Rattle.bz_tree.specs.declared.kinds.Mark.{Mark}
-use Rattle.bz_tree.specs.declared.kinds.Mark.TheVariants.{Open, Close, Comma, Comment, NewLine, Plain}
+use Rattle.bz_tree.specs.declared.kinds.Mark.TheVariants.{Open, Close, Comma, Comment, Newline as NewlineMark, Plain}
 use Rattle.bz_tree.specs.Blocks.{is_colon, with_token, logical_lines, indented, ends_open, bad_line, block_indent, header_line, depth_after, has_colon, is_open_end, is_block}
 use Rattle.bz_tree.specs.Kinds.{kind_mark, mark_of}
 use Rattle.bz_tree.specs.Statement.{is_aside, bare_tokens, last_of, last_token}
@@ -20,7 +20,7 @@ abbrev pub all_shown : List Placed → List Placed
 all_shown ts = map shown ts
 
 shown_with : (m : Mark) (t : Placed) (ls : List (List Placed)) → with_token m (shown t) (map all_shown ls) ≡ map all_shown (with_token m t ls)
-shown_with NewLine t ls = refl
+shown_with NewlineMark t ls = refl
 shown_with Comment t ls = refl
 shown_with Comma t [] = refl
 shown_with Comma t (l ∷ ls) = refl

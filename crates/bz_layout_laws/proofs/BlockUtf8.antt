@@ -48,5 +48,5 @@ block_utf8 first depth bytes s u b =
     let read = subst (IsReading depth [] whole body.rest) (sym body.bytes_are) (laid_reading depth [] whole body.rest body.passes.texts body.passes.ended body.passes.fitting) in
     let low = subst StartsLow (append-nil body.rest) (gap_low false body.rest [] body.gap tt) in
     let kept = kept_utf8 depth body.front body.header body.mid body.newlines body.rest bytes read low u in
-    let notes : list_all is_utf8 body.before ≡ true = subst (λ texts. list_all is_utf8 texts ≡ true) (ap (λ (t : Statement). t.before) body.is) (block_comments_utf8 first depth bytes s u b) in
-    subst HasUtf8 (sym body.is) (both _ true (both _ _ notes (both _ true (is_utf8-from_IsUtf8 (body.header.text ++ bytes_of body.mid) kept) refl)) refl)
+    let comments : list_all is_utf8 body.before ≡ true = subst (λ texts. list_all is_utf8 texts ≡ true) (ap (λ (t : Statement). t.before) body.is) (block_comments_utf8 first depth bytes s u b) in
+    subst HasUtf8 (sym body.is) (both _ true (both _ _ comments (both _ true (is_utf8-from_IsUtf8 (body.header.text ++ bytes_of body.mid) kept) refl)) refl)

@@ -59,9 +59,9 @@ comments_and_blank s h class =
     let d = depth_of s in
     let t = tests d s h (omega arith) in
     let are : AreLinesOf 1 d (bytes_read all) (tokens_of 1 [] [] all) = laid_lines 1 d all t.0 t.1 t.2 t.3 (last_line ps) in
-    let notes = lines_of ps [] in
-    let cut : lines (bytes_read all) ≡ notes ++ line_of (newline ∷ []) [] ∷ [] = ap lines (sym (append-nil (bytes_read all))) ∙ lines_are_lines d all [] (bytes_read all ++ []) (laid_reading d [] all [] t.0 t.1 t.2) refl ∙ lines_of_join ps (newline ∷ []) [] (layout_ends s) in
+    let comment_texts = lines_of ps [] in
+    let cut : lines (bytes_read all) ≡ comment_texts ++ line_of (newline ∷ []) [] ∷ [] = ap lines (sym (append-nil (bytes_read all))) ∙ lines_are_lines d all [] (bytes_read all ++ []) (laid_reading d [] all [] t.0 t.1 t.2) refl ∙ lines_of_join ps (newline ∷ []) [] (layout_ends s) in
     let parts : ps ≡ read_pieces (comment_lines s.before) =
     ap (λ b. read_pieces (comment_lines s.before ++ (if b then [] else statement_line s))) class ∙ ap read_pieces (append-nil (comment_lines s.before)) in
-    let comments : are_comments notes ≡ true = ap (λ qs. are_comments (lines_of qs [])) parts ∙ comments_are s.before in
-    subst IsChunk (bytes_are s) (statement_chunk 1 d (bytes_read all) (tokens_of 1 [] [] all) notes (line_of (newline ∷ []) []) are cut comments refl)
+    let comments : are_comments comment_texts ≡ true = ap (λ qs. are_comments (lines_of qs [])) parts ∙ comments_are s.before in
+    subst IsChunk (bytes_are s) (statement_chunk 1 d (bytes_read all) (tokens_of 1 [] [] all) comment_texts (line_of (newline ∷ []) []) are cut comments refl)

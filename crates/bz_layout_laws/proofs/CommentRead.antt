@@ -18,7 +18,7 @@ use Rattle.bz_layout_laws.specs.ReadPieces.{read_pieces}
 use Rattle.bz_layout_laws.specs.Spelled.{spelled_statement}
 use Rattle.bz_layout_laws.specs.Lineless.{lineless}
 use Rattle.bz_layout_laws.proofs.CommentChunk.{newline, with_newline, lines_and_blank}
-use Rattle.bz_layout_laws.proofs.ParsedAgain.{notes_bare, notes_seen}
+use Rattle.bz_layout_laws.proofs.ParsedAgain.{comments_bare, comments_seen}
 use Rattle.bz_layout_laws.proofs.ReadStatement.{none_there, statement_reads}
 use Rattle.bz_layout_laws.proofs.SameGrammar.{grammar_stays}
 use Rattle.bz_layout_laws.proofs.TokensBack.{tokens_back, read_lines, lines_are_tokens}
@@ -45,12 +45,12 @@ seen_same first s = newline_out first (read_pieces (layout s)) [] []
 no_token : (first : ℕ) (s : Statement) → is_comment s.class ≡ true → first_token (tokens_and_blank first s) ≡ None
 no_token first s class =
     ap first_of (newline_bare first (read_pieces (layout s)) [] []
-    ∙ ap (λ b. bare_tokens (tokens_of first [] [] (read_pieces (comment_lines s.before ++ (if b then [] else statement_line s))))) class ∙ notes_bare first s.before [] [])
+    ∙ ap (λ b. bare_tokens (tokens_of first [] [] (read_pieces (comment_lines s.before ++ (if b then [] else statement_line s))))) class ∙ comments_bare first s.before [] [])
 
 some_seen : (first : ℕ) (s : Statement) → IsParsed s → is_comment s.class ≡ true → IsSome (first_seen (tokens_and_blank first s))
 some_seen first s parsed class =
     let none = none_there s.nodes (ap is_comment (sym parsed.class) ∙ class) in
-    subst (λ ts. IsSome (first_of ts)) (sym (seen_same first s)) (notes_seen first s.before (if is_comment s.class then [] else statement_line s) (parsed.lines none))
+    subst (λ ts. IsSome (first_of ts)) (sym (seen_same first s)) (comments_seen first s.before (if is_comment s.class then [] else statement_line s) (parsed.lines none))
 
 pub comments_read : (first depth : ℕ) (s : Statement) → IsLegible s → IsParsed s → depth_of s ≤ depth → IsStatement (items_of s.nodes) → is_comment s.class ≡ true
     → (t : Statement) × IsStatementIn first depth (layout_text s ++ codes "\n") t × (lineless t ≡ lineless (spelled_statement s))

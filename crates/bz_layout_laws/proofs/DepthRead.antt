@@ -15,20 +15,20 @@ use Rattle.bz_token.specs.Places.{Placed, line_at}
 use Rattle.bz_token.specs.Reading.{Piece, IsReading, tokens_of, AreTokensOf}
 use Rattle.bz_token_laws.proofs.Deeper.{tokens_are_texts}
 use Rattle.bz_tree.specs.declared.kinds.Mark.{Mark}
-use Rattle.bz_tree.specs.declared.kinds.Mark.TheVariants.{Open, Close, Comma, Comment, NewLine, Plain}
+use Rattle.bz_tree.specs.declared.kinds.Mark.TheVariants.{Open, Close, Comma, Comment, Newline, Plain}
 use Rattle.bz_tree.specs.declared.kinds.Preceding.{Preceding}
 use Rattle.bz_tree.specs.declared.kinds.Preceding.TheVariants.{Other}
 use Rattle.bz_tree.specs.declared.kinds.Shape.TheVariants.{Round, Square, Curly}
 use Rattle.bz_tree.specs.Brackets.{Elem, single, bracket, Elems, no_elems, elem, elems_tokens, own_items, own_of, preceding, elem_own, elems_own, has_for, is_single, is_line, without_lines, AreWell, end_line}
-use Rattle.bz_tree.specs.Kinds.{mark_of, kind_mark, sign_mark, group_kind, is_one}
+use Rattle.bz_tree.specs.Kinds.{mark_of, kind_mark, operator_mark, group_kind, is_one}
 use Rattle.bz_tree.specs.Owners.{Own, Last, no_token, end_of_node, end_of_comma, entries_of, inside}
 use Rattle.bz_tree.specs.Statement.{is_rule, rule_call, one_segment, IsStatementOf}
 use Rattle.bz_tree.specs.Tree.{Item, leaf, group, Items, no_items, item, Segs, no_segs, seg, Segment, Statement, items_of, segs_of}
 use Rattle.bz_layout_laws.specs.Legible.{is_leaf_mark, item_depth, items_depth, segs_depth, depth_of}
 use Rattle.bz_layout_laws.proofs.EachRead.{Each, EachNode, EachSegment, inside_each}
-use Rattle.bz_layout_laws.proofs.NoBrackets.{is_free, free_open, other_free, sign_free}
+use Rattle.bz_layout_laws.proofs.NoBrackets.{is_free, free_open, other_free, operator_free}
 use Rattle.bz_layout_laws.proofs.SameTests.{rule_nodes}
-use Rattle.bz_layout_laws.proofs.TextsRead.{is_token_text, ElemsTexts, elems_texts, unlined_texts, note_text}
+use Rattle.bz_layout_laws.proofs.TextsRead.{is_token_text, ElemsTexts, elems_texts, unlined_texts, comment_text}
 
 left_of : (a b n : ℕ) → max a b ≤ n → a ≤ n
 left_of a b n h = omega (arith, h, le-max_left a b)
@@ -52,8 +52,8 @@ is_other_mark (Open shape) = false
 is_other_mark (Close shape) = false
 is_other_mark _ = true
 
-sign_other : (text : List ℕ) → is_other_mark (sign_mark text) ≡ is_leaf_mark (sign_mark text)
-sign_other text = by (bytes_eq text (codes "(")) (bytes_eq text (codes "[")) (bytes_eq text (codes "{")) (bytes_eq text (codes ")")) (bytes_eq text (codes "]")) (bytes_eq text (codes "}")) (bytes_eq text (codes ","))
+operator_other : (text : List ℕ) → is_other_mark (operator_mark text) ≡ is_leaf_mark (operator_mark text)
+operator_other text = by (bytes_eq text (codes "(")) (bytes_eq text (codes "[")) (bytes_eq text (codes "{")) (bytes_eq text (codes ")")) (bytes_eq text (codes "]")) (bytes_eq text (codes "}")) (bytes_eq text (codes ","))
   where
     mark : Bool → Bool → Bool → Bool → Bool → Bool → Bool → Mark
     mark a b c d e f g = if a then Open Round else (if b then Open Square else (if c then Open Curly else (if d then Close Round else (if e then Close Square else (if f then Close Curly else (if g then Comma else Plain))))))
@@ -69,11 +69,11 @@ sign_other text = by (bytes_eq text (codes "(")) (bytes_eq text (codes "[")) (by
     by false false false false false false false = refl
 
 other_mark_free : (kind : Kind) (text : List ℕ) → is_other_mark (kind_mark kind text) ≡ true → is_text kind text ≡ true → is_free text ≡ true
-other_mark_free Operator text h is = sign_free text (sym (sign_other text) ∙ h)
+other_mark_free Operator text h is = operator_free text (sym (operator_other text) ∙ h)
 other_mark_free kind text h is = other_free kind text refl is
 
 line_other : (m : Mark) → is_line m ≡ true → is_other_mark m ≡ true
-line_other NewLine h = refl
+line_other Newline h = refl
 line_other (Open shape) h = absurd (false≢true h)
 line_other (Close shape) h = absurd (false≢true h)
 line_other Comma h = refl
@@ -81,7 +81,7 @@ line_other Comment h = refl
 line_other Plain h = refl
 
 single_other : (m : Mark) → is_single m ≡ true → is_other_mark m ≡ true
-single_other NewLine h = refl
+single_other Newline h = refl
 single_other (Open shape) h = absurd (false≢true h)
 single_other (Close shape) h = absurd (false≢true h)
 single_other Comma h = refl
@@ -111,8 +111,8 @@ abbrev is_close_mark : Mark → Bool
 is_close_mark (Close shape) = true
 is_close_mark _ = false
 
-sign_opens : (text : List ℕ) → is_open_mark (sign_mark text) ≡ true → Opens text
-sign_opens text h = by (bytes_eq text (codes "(")) (bytes_eq text (codes "[")) (bytes_eq text (codes "{")) (bytes_eq text (codes ")")) (bytes_eq text (codes "]")) (bytes_eq text (codes "}")) (bytes_eq text (codes ",")) refl refl refl h
+operator_opens : (text : List ℕ) → is_open_mark (operator_mark text) ≡ true → Opens text
+operator_opens text h = by (bytes_eq text (codes "(")) (bytes_eq text (codes "[")) (bytes_eq text (codes "{")) (bytes_eq text (codes ")")) (bytes_eq text (codes "]")) (bytes_eq text (codes "}")) (bytes_eq text (codes ",")) refl refl refl h
   where
     by : (a b c d e f g : Bool) → bytes_eq text (codes "(") ≡ a → bytes_eq text (codes "[") ≡ b → bytes_eq text (codes "{") ≡ c
         → is_open_mark (if a then Open Round else (if b then Open Square else (if c then Open Curly else (if d then Close Round else (if e then Close Square else (if f then Close Curly else (if g then Comma else Plain))))))) ≡ true → Opens text
@@ -125,8 +125,8 @@ sign_opens text h = by (bytes_eq text (codes "(")) (bytes_eq text (codes "[")) (
     by false false false false false false true p q r k = absurd (false≢true k)
     by false false false false false false false p q r k = absurd (false≢true k)
 
-sign_closes : (text : List ℕ) → is_close_mark (sign_mark text) ≡ true → Closes text
-sign_closes text h = by (bytes_eq text (codes "(")) (bytes_eq text (codes "[")) (bytes_eq text (codes "{")) (bytes_eq text (codes ")")) (bytes_eq text (codes "]")) (bytes_eq text (codes "}")) (bytes_eq text (codes ",")) refl refl refl h
+operator_closes : (text : List ℕ) → is_close_mark (operator_mark text) ≡ true → Closes text
+operator_closes text h = by (bytes_eq text (codes "(")) (bytes_eq text (codes "[")) (bytes_eq text (codes "{")) (bytes_eq text (codes ")")) (bytes_eq text (codes "]")) (bytes_eq text (codes "}")) (bytes_eq text (codes ",")) refl refl refl h
   where
     by : (a b c d e f g : Bool) → bytes_eq text (codes ")") ≡ d → bytes_eq text (codes "]") ≡ e → bytes_eq text (codes "}") ≡ f
         → is_close_mark (if a then Open Round else (if b then Open Square else (if c then Open Curly else (if d then Close Round else (if e then Close Square else (if f then Close Curly else (if g then Comma else Plain))))))) ≡ true → Closes text
@@ -140,11 +140,11 @@ sign_closes text h = by (bytes_eq text (codes "(")) (bytes_eq text (codes "[")) 
     by false false false false false false false p q r k = absurd (false≢true k)
 
 kind_opens : (kind : Kind) (text : List ℕ) → is_open_mark (kind_mark kind text) ≡ true → Opens text
-kind_opens Operator text h = sign_opens text h
+kind_opens Operator text h = operator_opens text h
 kind_opens _ text h = absurd (false≢true h)
 
 kind_closes : (kind : Kind) (text : List ℕ) → is_close_mark (kind_mark kind text) ≡ true → Closes text
-kind_closes Operator text h = sign_closes text h
+kind_closes Operator text h = operator_closes text h
 kind_closes _ text h = absurd (false≢true h)
 
 open_more : (opened : List ℕ) (text : List ℕ) (o : Opens text) → open_after_token opened text ≡ o.0 ∷ opened
@@ -236,13 +236,13 @@ more_depth : (n : ℕ) (one : Bool) (at : Last) (m : Mark) (t : Placed) (owns : 
     → Each (IsNoDeeper n) is_comment (entries_of at (own_items one (own_of m t ∷ owns)))
 more_depth n true at Comma t owns e ok is rest = (least n, rest (end_of_node t.line))
 more_depth n false at Comma t owns e ok is rest = rest (end_of_comma t.line)
-more_depth n true at Comment t owns e ok is rest = (note_text t.kind t.text e is, rest no_token)
-more_depth n false at Comment t owns e ok is rest = (note_text t.kind t.text e is, rest no_token)
+more_depth n true at Comment t owns e ok is rest = (comment_text t.kind t.text e is, rest no_token)
+more_depth n false at Comment t owns e ok is rest = (comment_text t.kind t.text e is, rest no_token)
 more_depth n true at Plain t owns e ok is rest = (least n, rest (end_of_node (end_line t)))
 more_depth n false at Plain t owns e ok is rest = (least n, rest (end_of_node (end_line t)))
 more_depth n one at (Open shape) t owns e ok is rest = absurd (false≢true ok)
 more_depth n one at (Close shape) t owns e ok is rest = absurd (false≢true ok)
-more_depth n one at NewLine t owns e ok is rest = absurd (false≢true ok)
+more_depth n one at Newline t owns e ok is rest = absurd (false≢true ok)
 
 depth_along : (n : ℕ) (one : Bool) (at : Last) (b : Preceding) (xs : Elems) → AreWell b xs → ElemsTexts is_token_text xs → elems_depth xs ≤ n → Each (IsNoDeeper n) is_comment (entries_of at (own_items one (elems_own b xs)))
 depth_along n one at b no_elems h texts deep = tt

@@ -5,7 +5,7 @@ use Rattle.std.specs.List.{list_all}
 use Rattle.std.proofs.lemmas.Bool.{false≢true, and_parts}
 use Rattle.bz_token.proofs.Quiet.{both}
 use Rattle.bz_tree.specs.Comments.{beside}
-use Rattle.bz_tree.specs.Owners.{Entry, a_node, a_comma, a_note, first_cell, other_cells, same_line, later_lines, nodes_in, is_filled, has_node, notes_in, above_last, beside_last, below_last, first, others, cell_segment, with_segment, segments_from, end_from, inside_by_cells}
+use Rattle.bz_tree.specs.Owners.{Entry, a_node, a_comma, a_comment, first_cell, other_cells, same_line, later_lines, nodes_in, is_filled, has_node, comments_in, above_last, beside_last, below_last, first, others, cell_segment, with_segment, segments_from, end_from, inside_by_cells}
 use Rattle.bz_tree.specs.Tree.{Item, Items, no_items, item, Segs, no_segs, seg, Segment, items_of, segs_of}
 use Rattle.bz_layout_laws.specs.Legible.{are_some}
 
@@ -18,7 +18,7 @@ abbrev pub Each : (Item → Type 0) → (List ℕ → Bool) → List Entry → T
 Each P q [] = Unit {0}
 Each P q (a_node x ∷ es) = P x × Each P q es
 Each P q (a_comma ∷ es) = Each P q es
-Each P q (a_note on text ∷ es) = (q text ≡ true) × Each P q es
+Each P q (a_comment on text ∷ es) = (q text ≡ true) × Each P q es
 
 abbrev EachCell : (Item → Type 0) → (List ℕ → Bool) → List (List Entry) → Type 0
 EachCell P q [] = Unit {0}
@@ -49,57 +49,57 @@ first_each : (P : Item → Type 0) (q : List ℕ → Bool) (es : List Entry) →
 first_each P q [] h = tt
 first_each P q (a_node x ∷ es) h = (h.0, first_each P q es h.1)
 first_each P q (a_comma ∷ es) h = tt
-first_each P q (a_note on text ∷ es) h = (h.0, first_each P q es h.1)
+first_each P q (a_comment on text ∷ es) h = (h.0, first_each P q es h.1)
 
 other_each : (P : Item → Type 0) (q : List ℕ → Bool) (es : List Entry) → Each P q es → EachCell P q (other_cells es)
 other_each P q [] h = tt
 other_each P q (a_node x ∷ es) h = other_each P q es h.1
 other_each P q (a_comma ∷ es) h = (first_each P q es h, other_each P q es h)
-other_each P q (a_note on text ∷ es) h = other_each P q es h.1
+other_each P q (a_comment on text ∷ es) h = other_each P q es h.1
 
 later_each : (P : Item → Type 0) (q : List ℕ → Bool) (es : List Entry) → Each P q es → Each P q (later_lines es)
 later_each P q [] h = tt
 later_each P q (a_node x ∷ es) h = h
 later_each P q (a_comma ∷ es) h = h
-later_each P q (a_note true text ∷ es) h = h.1
-later_each P q (a_note false text ∷ es) h = h
+later_each P q (a_comment true text ∷ es) h = h.1
+later_each P q (a_comment false text ∷ es) h = h
 
 nodes_each : (P : Item → Type 0) (q : List ℕ → Bool) (es : List Entry) → Each P q es → EachNode P (items_of (nodes_in es))
 nodes_each P q [] h = tt
 nodes_each P q (a_node x ∷ es) h = (h.0, nodes_each P q es h.1)
 nodes_each P q (a_comma ∷ es) h = nodes_each P q es h
-nodes_each P q (a_note on text ∷ es) h = nodes_each P q es h.1
+nodes_each P q (a_comment on text ∷ es) h = nodes_each P q es h.1
 
-notes_each : (P : Item → Type 0) (q : List ℕ → Bool) (es : List Entry) → Each P q es → AllPass q (notes_in es)
-notes_each P q [] h = refl
-notes_each P q (a_node x ∷ es) h = notes_each P q es h.1
-notes_each P q (a_comma ∷ es) h = notes_each P q es h
-notes_each P q (a_note on text ∷ es) h = one_more q text (notes_in es) h.0 (notes_each P q es h.1)
+comments_each : (P : Item → Type 0) (q : List ℕ → Bool) (es : List Entry) → Each P q es → AllPass q (comments_in es)
+comments_each P q [] h = refl
+comments_each P q (a_node x ∷ es) h = comments_each P q es h.1
+comments_each P q (a_comma ∷ es) h = comments_each P q es h
+comments_each P q (a_comment on text ∷ es) h = one_more q text (comments_in es) h.0 (comments_each P q es h.1)
 
 same_each : (P : Item → Type 0) (q : List ℕ → Bool) (es : List Entry) → Each P q es → AllPass q (same_line es)
 same_each P q [] h = refl
 same_each P q (a_node x ∷ es) h = refl
 same_each P q (a_comma ∷ es) h = refl
-same_each P q (a_note true text ∷ es) h = one_more q text [] h.0 refl
-same_each P q (a_note false text ∷ es) h = refl
+same_each P q (a_comment true text ∷ es) h = one_more q text [] h.0 refl
+same_each P q (a_comment false text ∷ es) h = refl
 
 above_each : (P : Item → Type 0) (q : List ℕ → Bool) (es : List Entry) → Each P q es → AllPass q (above_last es)
 above_each P q [] h = refl
 above_each P q (a_node x ∷ es) h = above_each P q es h.1
 above_each P q (a_comma ∷ es) h = above_each P q es h
-above_each P q (a_note on text ∷ es) h = pick q (has_node es) (text ∷ above_last es) [] (one_more q text (above_last es) h.0 (above_each P q es h.1)) refl
+above_each P q (a_comment on text ∷ es) h = pick q (has_node es) (text ∷ above_last es) [] (one_more q text (above_last es) h.0 (above_each P q es h.1)) refl
 
 beside_each : (P : Item → Type 0) (q : List ℕ → Bool) (es : List Entry) → Each P q es → AllPass q (beside_last es)
 beside_each P q [] h = refl
 beside_each P q (a_node x ∷ es) h = pick q (has_node es) (beside_last es) (same_line es) (beside_each P q es h.1) (same_each P q es h.1)
 beside_each P q (a_comma ∷ es) h = beside_each P q es h
-beside_each P q (a_note on text ∷ es) h = beside_each P q es h.1
+beside_each P q (a_comment on text ∷ es) h = beside_each P q es h.1
 
 below_each : (P : Item → Type 0) (q : List ℕ → Bool) (es : List Entry) → Each P q es → AllPass q (below_last es)
 below_each P q [] h = refl
-below_each P q (a_node x ∷ es) h = pick q (has_node es) (below_last es) (notes_in (later_lines es)) (below_each P q es h.1) (notes_each P q (later_lines es) (later_each P q es h.1))
+below_each P q (a_node x ∷ es) h = pick q (has_node es) (below_last es) (comments_in (later_lines es)) (below_each P q es h.1) (comments_each P q (later_lines es) (later_each P q es h.1))
 below_each P q (a_comma ∷ es) h = below_each P q es h
-below_each P q (a_note on text ∷ es) h = pick q (has_node es) (below_last es) (text ∷ notes_in es) (below_each P q es h.1) (one_more q text (notes_in es) h.0 (notes_each P q es h.1))
+below_each P q (a_comment on text ∷ es) h = pick q (has_node es) (below_last es) (text ∷ comments_in es) (below_each P q es h.1) (one_more q text (comments_in es) h.0 (comments_each P q es h.1))
 
 first_comment : (q : List ℕ → Bool) (texts : List (List ℕ)) → AllPass q texts → AllPass q (beside (first texts))
 first_comment q [] h = refl

@@ -61,9 +61,9 @@ one : {rest : List ℕ} (gap : Gap) (kind : Kind) (text : List ℕ) → ends kin
 one gap kind text h = more gap kind text h ended_none
 
 -- a newline ends a comment, and anything brackets and commas
-note_ended : (text after : List ℕ) → begins is_newline after ≡ true → ends Comment text after ≡ true
-note_ended text [] h = refl
-note_ended text (b ∷ bs) h = let same : b ≡ 10 = eqb-true b 10 h in rw same refl
+comment_ended : (text after : List ℕ) → begins is_newline after ≡ true → ends Comment text after ≡ true
+comment_ended text [] h = refl
+comment_ended text (b ∷ bs) h = let same : b ≡ 10 = eqb-true b 10 h in rw same refl
 
 comma_ends : (after : List ℕ) → ends Operator (codes ",") after ≡ true
 comma_ends [] = refl
@@ -101,17 +101,17 @@ comma_ended : (b : Bool) (rest : List ℕ) → AreEnded (comma_if b) rest
 comma_ended true rest = one Closed Operator (codes ",") (comma_ends rest)
 comma_ended false rest = ended_none
 
-notes_ended : (level : ℕ) (texts : List (List ℕ)) (rest : List ℕ) → begins is_newline rest ≡ true → AreEnded (comments level texts) rest
-notes_ended level [] rest h = ended_none
-notes_ended level (text ∷ texts) rest h = more (Line level) Comment text (note_ended text (before (comments level texts) rest) (notes_begin level texts rest h)) (notes_ended level texts rest h)
+comments_ended : (level : ℕ) (texts : List (List ℕ)) (rest : List ℕ) → begins is_newline rest ≡ true → AreEnded (comments level texts) rest
+comments_ended level [] rest h = ended_none
+comments_ended level (text ∷ texts) rest h = more (Line level) Comment text (comment_ended text (before (comments level texts) rest) (comments_begin level texts rest h)) (comments_ended level texts rest h)
   where
-    notes_begin : (level : ℕ) (texts : List (List ℕ)) (rest : List ℕ) → begins is_newline rest ≡ true → begins is_newline (before (comments level texts) rest) ≡ true
-    notes_begin level [] rest h = h
-    notes_begin level (text ∷ texts) rest h = refl
+    comments_begin : (level : ℕ) (texts : List (List ℕ)) (rest : List ℕ) → begins is_newline rest ≡ true → begins is_newline (before (comments level texts) rest) ≡ true
+    comments_begin level [] rest h = h
+    comments_begin level (text ∷ texts) rest h = refl
 
 suffix_ended : (suffix : Option (List ℕ)) (rest : List ℕ) → begins is_newline rest ≡ true → AreEnded (suffix_piece suffix) rest
 suffix_ended None rest h = ended_none
-suffix_ended (Some text) rest h = one Apart Comment text (note_ended text rest h)
+suffix_ended (Some text) rest h = one Apart Comment text (comment_ended text rest h)
 
 newline_ends : (after : List ℕ) → ends Newline (codes "\n") after ≡ true
 newline_ends [] = refl
@@ -119,7 +119,7 @@ newline_ends (b ∷ bs) = refl
 
 lines_ended : (texts : List (List ℕ)) (rest : List ℕ) → AreEnded (comment_lines texts) rest
 lines_ended [] rest = ended_none
-lines_ended (text ∷ texts) rest = more Closed Comment text (note_ended text (before (piece Closed Newline (codes "\n") ∷ comment_lines texts) rest) refl) (more Closed Newline (codes "\n") (newline_ends _) (lines_ended texts rest))
+lines_ended (text ∷ texts) rest = more Closed Comment text (comment_ended text (before (piece Closed Newline (codes "\n") ∷ comment_lines texts) rest) refl) (more Closed Newline (codes "\n") (newline_ends _) (lines_ended texts rest))
 
 -- the end comments and the bracket of a broken group begin on a new line
 end_begins : (level : ℕ) (texts : List (List ℕ)) (upper : ℕ) (kind : GroupKind) (rest : List ℕ) → begins is_newline (before (comments level texts ++ piece (Line upper) Operator (closing kind) ∷ []) rest) ≡ true
@@ -164,7 +164,7 @@ mutual
       let close : List Piece = piece Closed Operator (closing kind) ∷ [] in
       more gap Operator (opening kind) (opening_ends kind _)
       (either_way (λ ps. AreEnded ps rest) (breaks style (is_broken kind segs end (segs_hold segs))) (broken_segs style (level + 1) kind comma segs ++ (comments (level + 1) end ++ last)) (flat_segs style level kind true segs ++ (comma_if one_comma ++ close))
-      (join (broken_ended style (level + 1) kind comma segs _ h.0 (end_begins (level + 1) end level kind rest)) (join (notes_ended (level + 1) end _ refl) (one (Line level) Operator (closing kind) (closing_ends kind rest))))
+      (join (broken_ended style (level + 1) kind comma segs _ h.0 (end_begins (level + 1) end level kind rest)) (join (comments_ended (level + 1) end _ refl) (one (Line level) Operator (closing kind) (closing_ends kind rest))))
       (join (flat_ended style level kind true segs _ h.0 (close_stops one_comma kind rest)) (join (comma_ended one_comma _) (one Closed Operator (closing kind) (closing_ends kind rest)))))
 
   items_ended : (style : Style) (level : ℕ) (within : Option GroupKind) (first : Gap) (left : Edge) (xs : Items) (rest : List ℕ) → AreLegible within left xs → stops_all rest ≡ true → AreEnded (items_pieces style level within first left xs) rest
@@ -180,7 +180,7 @@ mutual
       let others = broken_segs style level kind comma ss in
       let others_begin = segs_begin style level kind comma ss rest h.4 line in
       let tail = comma_if comma ++ (suffix_piece suffix ++ others) in
-      join (notes_ended level befores _ (nodes_begin style level (Some kind) level nodes tail rest h.1))
+      join (comments_ended level befores _ (nodes_begin style level (Some kind) level nodes tail rest h.1))
       (join (items_ended style level (Some kind) (Line level) Start nodes (before tail rest) h.2 (comma_stops comma suffix others rest others_begin))
       (join (comma_ended comma _) (join (suffix_ended suffix (before others rest) others_begin) (broken_ended style level kind comma ss rest h.4 line))))
 

@@ -4,7 +4,7 @@ use Rattle.std.specs.Prelude.{codes}
 use Rattle.std.specs.Prelude.Option.{Some, None}
 use Rattle.std.proofs.lemmas.Bool.{false≢true}
 use Rattle.bz_token.specs.declared.token.Kind.TheVariants.{Identifier, Keyword, String, Operator, Newline, Comment}
-use Rattle.bz_token.specs.Lexical.{keywords, signs}
+use Rattle.bz_token.specs.Lexical.{keywords, operators}
 use Rattle.bz_tree.specs.declared.stmt.GroupKind.TheVariants.{List as ListKind, Paren, Index, ListComp}
 use Rattle.bz_tree.specs.declared.stmt.Class.TheVariants.{Assign}
 use Rattle.bz_tree.specs.Tree.{Item, leaf, group, Statement, Segs, items_of, segs_of, segments}
@@ -17,8 +17,8 @@ use Rattle.bz_layout_laws.specs.Inside.{HasShape, entries_lexemes}
 use Rattle.bz_layout_laws.specs.Spelled.{spelled_statement}
 use Rattle.bz_layout_laws.specs.Lineless.{lineless}
 
-abbrev sign : List ℕ → Item
-sign text = leaf Operator text
+abbrev operator : List ℕ → Item
+operator text = leaf Operator text
 
 -- `x = [-'a']` with a comment in each place
 abbrev example : Statement
@@ -38,7 +38,7 @@ text : layout_text example ≡ codes "# top\nx = [\n    # a\n    -\"a\",  # b\n 
 text = refl
 
 legible : IsLegible example
-unfolding keywords signs
+unfolding keywords operators
 legible = record {
   some = λ e. refl;
   before = refl;
@@ -64,9 +64,9 @@ lexemes = refl
 again : layout_text (lineless (spelled_statement example)) ≡ layout_text example
 again = refl
 
--- `-` and `=` after it would be read as one sign
-one_sign : AreLegible None Start (items_of (sign (codes "-") ∷ sign (codes "=") ∷ [])) → ⊥
-one_sign h = false≢true h.2.0
+-- `-` and `=` after it would be read as one operator
+one_operator : AreLegible None Start (items_of (operator (codes "-") ∷ operator (codes "=") ∷ [])) → ⊥
+one_operator h = false≢true h.2.0
 
 -- a block's word
 block : begins_block (items_of (leaf Keyword (codes "if") ∷ leaf Identifier (codes "x") ∷ [])) ≡ true

@@ -70,10 +70,10 @@ nodes_begin (item (leaf kind text) xs) ps rest some h none texts ended =
 nodes_begin (item (group kind segs one_comma end) xs) ps rest some h none texts ended =
     first_piece Operator (opening kind) (tail_of (nodes_of (item (group kind segs one_comma end) xs) ++ ps)) rest refl (opening_branch kind) texts ended
 
--- a comment begins with a number sign
-pub note_begins : (note rest : List ℕ) → is_comment_text note ≡ true → goes_on If (note ++ rest) ≡ false
-note_begins [] rest h = absurd (false≢true h)
-note_begins (b ∷ bs) rest h = by b (and_parts (b == 35) _ (and_parts ((b == 35) && not (list_any is_newline (b ∷ bs))) (not (ends_blank (b ∷ bs))) h).0).0
+-- a comment begins with a number operator
+pub comment_begins : (comment rest : List ℕ) → is_comment_text comment ≡ true → goes_on If (comment ++ rest) ≡ false
+comment_begins [] rest h = absurd (false≢true h)
+comment_begins (b ∷ bs) rest h = by b (and_parts (b == 35) _ (and_parts ((b == 35) && not (list_any is_newline (b ∷ bs))) (not (ends_blank (b ∷ bs))) h).0).0
   where
     by : (b : ℕ) → (b == 35) ≡ true → goes_on If (b ∷ (bs ++ rest)) ≡ false
     by b is = let same : b ≡ 35 = eqb-true b 35 is in rw same refl
@@ -91,7 +91,7 @@ text_begins s h lines none rest = above s.before refl
 
     above : (before : List (List ℕ)) → s.before ≡ before → goes_on If (bytes_of (comment_lines s.before ++ (if is_comment s.class then [] else statement_line s)) ++ rest) ≡ false
     above [] e = rw e (by (is_comment s.class) refl e)
-    above (note ∷ notes) e =
+    above (comment ∷ comments) e =
         rw e
-        (ap (goes_on If) (append_assoc note (bytes_of (piece Closed Newline (codes "\n") ∷ (comment_lines notes ++ (if is_comment s.class then [] else statement_line s)))) rest)
-        ∙ note_begins note _ (and_parts (is_comment_text note) _ (rw e at h.before)).0)
+        (ap (goes_on If) (append_assoc comment (bytes_of (piece Closed Newline (codes "\n") ∷ (comment_lines comments ++ (if is_comment s.class then [] else statement_line s)))) rest)
+        ∙ comment_begins comment _ (and_parts (is_comment_text comment) _ (rw e at h.before)).0)

@@ -33,8 +33,8 @@ pub record Front (tokens : List Placed) : Type 0 where
   pub col : token.col ≡ 1
   pub word : is_block_word token ≡ false
 
-front_note : (t n : Placed) (ts : List Placed) → is_aside t.kind ≡ true → is_aside n.kind ≡ true → Front ts → Front (t ∷ n ∷ ts)
-front_note t n ts p q f = record {
+front_comment : (t n : Placed) (ts : List Placed) → is_aside t.kind ≡ true → is_aside n.kind ≡ true → Front ts → Front (t ∷ n ∷ ts)
+front_comment t n ts p q f = record {
   token = f.token;
   first = ap (λ b. first_of (if b then bare_tokens (n ∷ ts) else t ∷ bare_tokens (n ∷ ts))) p ∙ ap (λ b. first_of (if b then bare_tokens ts else n ∷ bare_tokens ts)) q ∙ f.first;
   col = f.col;
@@ -42,12 +42,12 @@ front_note t n ts p q f = record {
 }
 
 -- after comment lines
-after_notes : (first : ℕ) (texts : List (List ℕ)) (rest : List Piece) (before lines : List ℕ) → column_at before ≡ 1 → ((bs ls : List ℕ) → column_at bs ≡ 1 → Front (tokens_of first bs ls (read_pieces rest)))
+after_comments : (first : ℕ) (texts : List (List ℕ)) (rest : List Piece) (before lines : List ℕ) → column_at before ≡ 1 → ((bs ls : List ℕ) → column_at bs ≡ 1 → Front (tokens_of first bs ls (read_pieces rest)))
     → Front (tokens_of first before lines (read_pieces (comment_lines texts ++ rest)))
-after_notes first [] rest before lines column next = next before lines column
-after_notes first (text ∷ texts) rest before lines column next =
+after_comments first [] rest before lines column next = next before lines column
+after_comments first (text ∷ texts) rest before lines column next =
     let ended = (before ++ ([] ++ text)) ++ ([] ++ codes "\n") in
-    front_note _ _ _ refl refl (after_notes first texts rest ended (line_at first ((before ++ ([] ++ text)) ++ []) ∷ line_at first (before ++ []) ∷ lines) (column_newline 1 (before ++ ([] ++ text))) next)
+    front_comment _ _ _ refl refl (after_comments first texts rest ended (line_at first ((before ++ ([] ++ text)) ++ []) ∷ line_at first (before ++ []) ∷ lines) (column_newline 1 (before ++ ([] ++ text))) next)
 
 -- no word that begins a block
 no_opener : {A : Type 0} (a b c : Bool) (x y z : A) → is_some (cond a (Some x) (cond b (Some y) (cond c (Some z) None))) ≡ false → (a || b || c) ≡ false
@@ -74,7 +74,7 @@ line_front first s (item (group kind segs one_comma end) xs) rest before lines s
 pub layout_front : (first : ℕ) (s : Statement) → IsLegible s → is_comment s.class ≡ false → begins_block (items_of s.nodes) ≡ false → Front (tokens_of first [] [] (read_pieces (layout s)))
 layout_front first s h class word =
     subst (λ b. Front (tokens_of first [] [] (read_pieces (comment_lines s.before ++ (if b then [] else statement_line s))))) (sym class)
-    (after_notes first s.before (statement_line s) [] [] refl (λ bs ls column. line_front first s (items_of s.nodes) _ bs ls (h.some class) h.nodes word column))
+    (after_comments first s.before (statement_line s) [] [] refl (λ bs ls column. line_front first s (items_of s.nodes) _ bs ls (h.some class) h.nodes word column))
 
 -- so no line is indented, and no block begins
 pub upright : (tokens : List Placed) → Front tokens → (indent_fault tokens ≡ None) × (begins_block_at (first_token tokens) ≡ false)

@@ -63,8 +63,8 @@ fits_free depth opened gap kind text stands free line = record {
   leaves = free_open opened text free;
 }
 
-fits_note : (depth : ℕ) (opened : List ℕ) (gap : Gap) (text : List ℕ) → Stands opened gap → is_comment text ≡ true → Fits depth opened (piece gap Comment text ∷ []) opened
-fits_note depth opened gap text stands is = fits_free depth opened gap Comment text stands (other_free Comment text refl is) refl
+fits_comment : (depth : ℕ) (opened : List ℕ) (gap : Gap) (text : List ℕ) → Stands opened gap → is_comment text ≡ true → Fits depth opened (piece gap Comment text ∷ []) opened
+fits_comment depth opened gap text stands is = fits_free depth opened gap Comment text stands (other_free Comment text refl is) refl
 
 fits_comma : (depth : ℕ) (opened : List ℕ) → Fits depth opened (piece Closed OperatorToken (codes ",") ∷ []) opened
 fits_comma depth opened = record { fitting = refl; leaves = refl }
@@ -105,22 +105,22 @@ commas_fit : (depth : ℕ) (opened : List ℕ) (b : Bool) → Fits depth opened 
 commas_fit depth opened true = fits_comma depth opened
 commas_fit depth opened false = fits_none
 
-notes_fit : (depth : ℕ) (a : ℕ) (opened : List ℕ) (level : ℕ) (texts : List (List ℕ)) → AreComments texts → Fits depth (a ∷ opened) (comments level texts) (a ∷ opened)
-notes_fit depth a opened level [] h = fits_none
-notes_fit depth a opened level (text ∷ texts) h =
+comments_fit : (depth : ℕ) (a : ℕ) (opened : List ℕ) (level : ℕ) (texts : List (List ℕ)) → AreComments texts → Fits depth (a ∷ opened) (comments level texts) (a ∷ opened)
+comments_fit depth a opened level [] h = fits_none
+comments_fit depth a opened level (text ∷ texts) h =
     let p = and_parts (is_comment text) (list_all is_comment texts) h in
-    fits_join (fits_note depth (a ∷ opened) (Line level) text (indent_stands level) p.0) (notes_fit depth a opened level texts p.1)
+    fits_join (fits_comment depth (a ∷ opened) (Line level) text (indent_stands level) p.0) (comments_fit depth a opened level texts p.1)
 
 suffix_fits : (depth : ℕ) (opened : List ℕ) (suffix : Option (List ℕ)) → AreComments (beside suffix) → Fits depth opened (suffix_piece suffix) opened
 suffix_fits depth opened None h = fits_none
-suffix_fits depth opened (Some text) h = fits_note depth opened Apart text refl (and_parts (is_comment text) true h).0
+suffix_fits depth opened (Some text) h = fits_comment depth opened Apart text refl (and_parts (is_comment text) true h).0
 
 lines_fit : (depth : ℕ) (texts : List (List ℕ)) → AreComments texts → Fits depth [] (comment_lines texts) []
 lines_fit depth [] h = fits_none
 lines_fit depth (text ∷ texts) h =
     let p = and_parts (is_comment text) (list_all is_comment texts) h in
     let newline : Fits depth [] (piece Closed Newline (codes "\n") ∷ []) [] = record { fitting = refl; leaves = refl } in
-    fits_join (fits_note depth [] Closed text refl p.0) (fits_join newline (lines_fit depth texts p.1))
+    fits_join (fits_comment depth [] Closed text refl p.0) (fits_join newline (lines_fit depth texts p.1))
 
 gap_stands : (opened : List ℕ) (first : Gap) (left : Edge) (x : Item) → Stands opened first → Stands opened (gap_before first left x)
 gap_stands opened first Start x h = h
@@ -162,7 +162,7 @@ mutual
       let close : List Piece = piece Closed OperatorToken (closing kind) ∷ [] in
       fits_join (fits_opening depth opened gap kind stands (room_first (length opened) (segs_depth segs) depth room))
       (either_way (λ ps. Fits depth o ps opened) (breaks style (is_broken kind segs end (segs_hold segs))) (broken_segs style (level + 1) kind comma segs ++ (comments (level + 1) end ++ last)) (flat_segs style level kind true segs ++ (comma_if one_comma ++ close))
-      (fits_join (broken_fits depth (opener kind) opened style (level + 1) kind comma segs h.0 more) (fits_join (notes_fit depth (opener kind) opened (level + 1) end h.1) (fits_closing depth opened (Line level) kind (indent_stands level))))
+      (fits_join (broken_fits depth (opener kind) opened style (level + 1) kind comma segs h.0 more) (fits_join (comments_fit depth (opener kind) opened (level + 1) end h.1) (fits_closing depth opened (Line level) kind (indent_stands level))))
       (fits_join (flat_fits depth o style level kind true segs h.0 more) (fits_join (commas_fit depth o one_comma) (fits_closing depth opened Closed kind refl))))
 
   items_fit : (depth : ℕ) (opened : List ℕ) (style : Style) (level : ℕ) (within : Option GroupKind) (first : Gap) (left : Edge) (xs : Items) → Stands opened first → AreLegible within left xs → length opened + items_depth xs ≤ depth
@@ -177,7 +177,7 @@ mutual
   broken_fits depth a opened style level kind comma no_segs h room = fits_none
   broken_fits depth a opened style level kind comma (seg before nodes suffix ss) h room =
       let o = a ∷ opened in
-      fits_join (notes_fit depth a opened level before h.0)
+      fits_join (comments_fit depth a opened level before h.0)
       (fits_join (items_fit depth o style level (Some kind) (Line level) Start nodes (indent_stands level) h.2 (room_left (suc (length opened)) (items_depth nodes) (segs_depth ss) depth room))
       (fits_join (commas_fit depth o comma) (fits_join (suffix_fits depth o suffix h.3) (broken_fits depth a opened style level kind comma ss h.4 (room_right (suc (length opened)) (items_depth nodes) (segs_depth ss) depth room)))))
 

@@ -5,11 +5,11 @@ use Rattle.std.proofs.lemmas.Bool.{false≢true}
 use Rattle.bz_token.specs.declared.token.Kind.TheVariants.{String}
 use Rattle.bz_token.specs.Places.{Placed}
 use Rattle.bz_tree.specs.declared.kinds.Mark.{Mark}
-use Rattle.bz_tree.specs.declared.kinds.Mark.TheVariants.{Open, Close, Comma, Comment, NewLine, Plain}
+use Rattle.bz_tree.specs.declared.kinds.Mark.TheVariants.{Open, Close, Comma, Comment, Newline, Plain}
 use Rattle.bz_tree.specs.declared.kinds.Preceding.{Preceding}
 use Rattle.bz_tree.specs.Brackets.{single, bracket, Elems, no_elems, elem, leaf_of, own_items, own_of, preceding, elems_own, has_for, is_for_item, is_single, AreWell, end_line}
 use Rattle.bz_tree.specs.Kinds.{mark_of}
-use Rattle.bz_tree.specs.Owners.{Own, Last, no_token, end_of_node, Entry, a_node, a_comma, a_note, is_filled, entries_of}
+use Rattle.bz_tree.specs.Owners.{Own, Last, no_token, end_of_node, Entry, a_node, a_comma, a_comment, is_filled, entries_of}
 use Rattle.bz_tree.specs.Tree.{Item, leaf, group, Items, no_items, item, Segs, no_segs, seg, list_of, segments}
 use Rattle.bz_tree_laws.specs.Written.{own_lines, suffix_entry, written_entries}
 use Rattle.bz_layout_laws.specs.Parsed.{is_comma_mark, is_comma, nodes_have_for, have_for}
@@ -20,7 +20,7 @@ abbrev pub entries_have_for : List Entry → Bool
 entries_have_for [] = false
 entries_have_for (a_node x ∷ es) = if is_comma x then false else (is_for_item x || entries_have_for es)
 entries_have_for (a_comma ∷ es) = false
-entries_have_for (a_note on text ∷ es) = entries_have_for es
+entries_have_for (a_comment on text ∷ es) = entries_have_for es
 
 -- one more token
 one_more : (one : Bool) (at : Last) (m : Mark) (t : Placed) (owns : List Own) → mark_of t ≡ m → is_single m ≡ true → ((last : Last) → has_for owns ≡ entries_have_for (entries_of last (own_items one owns)))
@@ -37,7 +37,7 @@ one_more false at Plain t owns e ok rest =
     ∙ ap (λ m. if is_comma_mark m then false else (is_for_item (leaf_of t) || entries_have_for (entries_of (end_of_node (end_line t)) (own_items false owns)))) (sym e)
 one_more one at (Open shape) t owns e ok rest = absurd (false≢true ok)
 one_more one at (Close shape) t owns e ok rest = absurd (false≢true ok)
-one_more one at NewLine t owns e ok rest = absurd (false≢true ok)
+one_more one at Newline t owns e ok rest = absurd (false≢true ok)
 
 pub owns_have_for : (one : Bool) (at : Last) (b : Preceding) (xs : Elems) → AreWell b xs → has_for (elems_own b xs) ≡ entries_have_for (entries_of at (own_items one (elems_own b xs)))
 owns_have_for one at b no_elems h = refl

@@ -1,4 +1,4 @@
--- By the grammar no node makes one sign with what it stands after.
+-- By the grammar no node makes one operator with what it stands after.
 use Rattle.std.proofs.Common.{◌≡◌, ℕ, List, Bool, true, false, Option, Some, None, refl, sym, ap, subst, ◌∙◌}
 use Rattle.std.proofs.lemmas.Bool.{false≢true}
 use Rattle.bz_tree.specs.declared.stmt.GroupKind.{GroupKind}

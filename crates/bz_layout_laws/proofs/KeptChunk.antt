@@ -108,8 +108,8 @@ found_goes first depth bytes s b word opens alone =
     ∙ lines_of_join b.front (b.header ∷ qs) b.rest line
     ∙ ap (λ ls. above ++ ls) h.lines_are in
     let form : is_rest (after_comments (above ++ h.head ∷ h.others)) ≡ true = ap (λ ls. is_rest (after_comments ls)) (sym lines_are) ∙ alone_form bytes alone in
-    let notes = front_comments b.front h.head h.others b.parts.asides form in
-    let own : is_rest (h.head ∷ h.others) ≡ true = ap is_rest (sym (after_all above (h.head ∷ h.others) notes ∙ from_head h.head h.others h.kind)) ∙ form in
+    let comment_texts = front_comments b.front h.head h.others b.parts.asides form in
+    let own : is_rest (h.head ∷ h.others) ≡ true = ap is_rest (sym (after_all above (h.head ∷ h.others) comment_texts ∙ from_head h.head h.others h.kind)) ∙ form in
     let more : are_of_block word h.head h.others ≡ true =
     sym (ap (λ k. are_more (block_word k h.head.text) h.head h.others) h.kind ∙ ap (λ w. are_more w h.head h.others) h.opens) ∙ own in
     ap (λ ls. all_go_on word (without_first ls)) h.begun ∙ of_block word h.head h.others more
@@ -137,7 +137,7 @@ written_block first depth bytes s b word texts more opens alone comments =
           ∙ lines_are_lines depth ps [] (bytes_of ps ++ []) (laid_reading depth [] ps [] p.texts p.ended p.fitting) refl
           ∙ lines_of_join front (header ∷ qs) [] (comments_end texts)
           ∙ ap (λ ls. lines_of front [] ++ ls) h.lines_are;
-      notes = comments_are texts;
+      comment_texts = comments_are texts;
       kind = h.kind;
       opens = h.opens;
       whole = ap are_whole (sym h.lines_are) ∙ all_whole [] (header ∷ qs) [];

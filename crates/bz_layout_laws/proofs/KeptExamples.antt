@@ -7,7 +7,7 @@ use Rattle.bz_token.specs.declared.token.Kind.{Kind}
 use Rattle.bz_token.specs.declared.token.Kind.TheVariants.{Identifier, Keyword, Operator, Newline, Kept}
 use Rattle.bz_token.specs.Blocks.{goes_on}
 use Rattle.bz_token.specs.Chunks.{chunks}
-use Rattle.bz_token.specs.Lexical.{keywords, signs}
+use Rattle.bz_token.specs.Lexical.{keywords, operators}
 use Rattle.bz_token.specs.Places.{Placed}
 use Rattle.bz_token.specs.Reading.{Piece, tokens_of, AreTokensOf}
 use Rattle.bz_token_laws.proofs.Readable.{laid_tokens}
@@ -39,7 +39,7 @@ abbrev tokens : List Placed
 tokens = tokens_of 1 [] [] pieces
 
 are : AreTokensOf 1 1 chunk tokens
-unfolding keywords signs
+unfolding keywords operators
 are = laid_tokens 1 1 pieces [] refl refl refl refl refl
 
 -- from the first token to the end of the last

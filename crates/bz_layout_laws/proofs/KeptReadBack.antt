@@ -26,7 +26,7 @@ use Rattle.bz_layout_laws.proofs.BlockHead.{word_begins, word_opens}
 use Rattle.bz_layout_laws.proofs.BlockLines.{goes_less}
 use Rattle.bz_layout_laws.proofs.BlockTests.{newline, close}
 use Rattle.bz_layout_laws.proofs.BlockWritten.{lines_above, written, written_passes, written_text}
-use Rattle.bz_layout_laws.proofs.FirstByte.{note_begins}
+use Rattle.bz_layout_laws.proofs.FirstByte.{comment_begins}
 use Rattle.bz_layout_laws.proofs.KeptChunk.{written_block}
 use Rattle.bz_layout_laws.proofs.KeptStays.{kept_class, kept_text, kept_read}
 
@@ -36,7 +36,7 @@ written_begins [] header mid more rest comments word =
     let after = bytes_of (mid ++ replicate (suc more) newline) in
     ap (goes_on If) (append_assoc header.text after rest) ∙ word_begins header.kind header.text (after ++ rest) word
 written_begins (text ∷ texts) header mid more rest comments word =
-    ap (goes_on If) (append_assoc text _ rest) ∙ note_begins text _ (and_parts (is_comment text) (list_all is_comment texts) comments).0
+    ap (goes_on If) (append_assoc text _ rest) ∙ comment_begins text _ (and_parts (is_comment text) (list_all is_comment texts) comments).0
 
 -- its last piece is a newline
 newline_last : (ps : List Piece) (more : ℕ) → ends_in_line (ps ++ replicate (suc more) newline) ≡ true

@@ -6,12 +6,12 @@ use Rattle.bz_token.specs.Places.{Placed}
 use Rattle.bz_tree.specs.declared.stmt.GroupKind.{GroupKind}
 use Rattle.bz_tree.specs.declared.stmt.GroupKind.TheVariants.{Paren}
 use Rattle.bz_tree.specs.declared.kinds.Mark.{Mark}
-use Rattle.bz_tree.specs.declared.kinds.Mark.TheVariants.{Open, Close, Comma, Comment, NewLine, Plain}
+use Rattle.bz_tree.specs.declared.kinds.Mark.TheVariants.{Open, Close, Comma, Comment, Newline, Plain}
 use Rattle.bz_tree.specs.declared.kinds.Preceding.{Preceding}
 use Rattle.bz_tree.specs.declared.kinds.Preceding.TheVariants.{Other}
 use Rattle.bz_tree.specs.Brackets.{Elem, single, bracket, Elems, no_elems, elem, own_items, own_of, preceding, elems_own, has_for, is_for_item, is_single, is_paren, IsWell, AreWell, after_item, group_of, end_line}
 use Rattle.bz_tree.specs.Kinds.{mark_of, group_kind, is_one}
-use Rattle.bz_tree.specs.Owners.{Own, node, comma, note, Last, no_token, end_of_node, end_of_comma, Entry, a_node, a_comma, a_note, is_filled, first_cell, other_cells, later_lines, same_line, below_last, nodes_in, cell_segment, with_segment, segments_from, no_empty, Inside, inside, inside_by_cells, entries_of}
+use Rattle.bz_tree.specs.Owners.{Own, node, comma, comment, Last, no_token, end_of_node, end_of_comma, Entry, a_node, a_comma, a_comment, is_filled, first_cell, other_cells, later_lines, same_line, below_last, nodes_in, cell_segment, with_segment, segments_from, no_empty, Inside, inside, inside_by_cells, entries_of}
 use Rattle.bz_tree.specs.Tree.{Item, Segment, items_of, segs_of}
 use Rattle.bz_layout.specs.Broken.{count}
 use Rattle.bz_layout_laws.specs.Inside.{HasShape}
@@ -26,7 +26,7 @@ abbrev Along : Bool → Preceding → List Entry → Type 0
 Along one b [] = Unit {0}
 Along one b (a_node x ∷ es) = (is_comma x ≡ true → one ≡ true) × HasKind b x × Along one (after_item x) es
 Along one b (a_comma ∷ es) = Along one Other es
-Along one b (a_note on text ∷ es) = Along one b es
+Along one b (a_comment on text ∷ es) = Along one b es
 
 -- so in each cell
 abbrev InCells : Bool → List (List Entry) → Type 0
@@ -37,20 +37,20 @@ first_kinds : (one : Bool) (b : Preceding) (es : List Entry) → Along one b es 
 first_kinds one b [] h = tt
 first_kinds one b (a_node x ∷ es) h = (h.0, h.1, first_kinds one (after_item x) es h.2)
 first_kinds one b (a_comma ∷ es) h = tt
-first_kinds one b (a_note on text ∷ es) h = first_kinds one b es h
+first_kinds one b (a_comment on text ∷ es) h = first_kinds one b es h
 
 other_kinds : (one : Bool) (b : Preceding) (es : List Entry) → Along one b es → InCells one (other_cells es)
 other_kinds one b [] h = tt
 other_kinds one b (a_node x ∷ es) h = other_kinds one (after_item x) es h.2
 other_kinds one b (a_comma ∷ es) h = (first_kinds one Other es h, other_kinds one Other es h)
-other_kinds one b (a_note on text ∷ es) h = other_kinds one b es h
+other_kinds one b (a_comment on text ∷ es) h = other_kinds one b es h
 
 later_nodes : (es : List Entry) → nodes_in (later_lines es) ≡ nodes_in es
 later_nodes [] = refl
 later_nodes (a_node x ∷ es) = refl
 later_nodes (a_comma ∷ es) = refl
-later_nodes (a_note true text ∷ es) = refl
-later_nodes (a_note false text ∷ es) = refl
+later_nodes (a_comment true text ∷ es) = refl
+later_nodes (a_comment false text ∷ es) = refl
 
 with_kinds : (one : Bool) (s : Segment) (ss : List Segment) → HaveKinds one Other (items_of s.nodes) → SegsHaveKinds one (segs_of ss) → SegsHaveKinds one (segs_of (with_segment s ss))
 with_kinds one s ss h rest = by (is_filled s.nodes)
@@ -73,13 +73,13 @@ first_for : (es : List Entry) → entries_have_for es ≡ nodes_have_for (items_
 first_for [] = refl
 first_for (a_node x ∷ es) = ap (λ b. if is_comma x then false else (is_for_item x || b)) (first_for es)
 first_for (a_comma ∷ es) = refl
-first_for (a_note on text ∷ es) = first_for es
+first_for (a_comment on text ∷ es) = first_for es
 
 first_filled : (at : Last) (os : List Own) → no_empty false os ≡ true → is_filled (nodes_in (first_cell (entries_of at os))) ≡ false → other_cells (entries_of at os) ≡ []
 first_filled at [] h none = refl
 first_filled at (node line x ∷ os) h none = absurd (false≢true (sym none))
 first_filled at (comma t ∷ os) h none = absurd (false≢true h)
-first_filled at (note line text ∷ os) h none = first_filled no_token os h none
+first_filled at (comment line text ∷ os) h none = first_filled no_token os h none
 
 segments_for : (cell : List Entry) (cells : List (List Entry)) → (is_filled (nodes_in cell) ≡ false → cells ≡ []) → have_for (segs_of (segments_from cell cells)) ≡ nodes_have_for (items_of (nodes_in cell))
 segments_for cell [] h = by (nodes_in cell)
@@ -104,7 +104,7 @@ pub no_cells : (at : Last) (os : List Own) → other_cells (entries_of at (own_i
 no_cells at [] = refl
 no_cells at (node line x ∷ os) = no_cells (end_of_node line) os
 no_cells at (comma t ∷ os) = no_cells (end_of_node t.line) os
-no_cells at (note line text ∷ os) = no_cells no_token os
+no_cells at (comment line text ∷ os) = no_cells no_token os
 
 one_cell : (s : Segment) → nat_le (count (segs_of (with_segment s []))) 1 ≡ true
 one_cell s = by (is_filled s.nodes)
@@ -147,7 +147,7 @@ more_along true at Plain t b owns e ok rest = (λ is. refl, tt, rest (end_of_nod
 more_along false at Plain t b owns e ok rest = (λ is. absurd (false≢true (sym (ap is_comma_mark e) ∙ is)), tt, rest (end_of_node (end_line t)))
 more_along one at (Open shape) t b owns e ok rest = absurd (false≢true ok)
 more_along one at (Close shape) t b owns e ok rest = absurd (false≢true ok)
-more_along one at NewLine t b owns e ok rest = absurd (false≢true ok)
+more_along one at Newline t b owns e ok rest = absurd (false≢true ok)
 
 bracket_kind : (b : Preceding) (shape : Shape) (opening : Placed) (inner : Elems) (closing : Placed) → IsWell b (bracket shape opening inner closing) → ((one : Bool) → Along one Other (entries_of no_token (own_items one (elems_own Other inner))))
     → HasKind b (group_of (group_kind shape b (has_for (elems_own Other inner))) (elems_own Other inner))

@@ -4,11 +4,11 @@ use Rattle.std.specs.Prelude.{ℕ, if◌then◌else◌, None, IsSome}
 use Rattle.std.proofs.lemmas.Bool.{false≢true}
 use Rattle.bz_token.specs.Places.{Placed}
 use Rattle.bz_tree.specs.declared.kinds.Mark.{Mark}
-use Rattle.bz_tree.specs.declared.kinds.Mark.TheVariants.{Open, Close, Comma, Comment, NewLine, Plain}
+use Rattle.bz_tree.specs.declared.kinds.Mark.TheVariants.{Open, Close, Comma, Comment, Newline, Plain}
 use Rattle.bz_tree.specs.declared.kinds.Preceding.TheVariants.{Other}
 use Rattle.bz_tree.specs.Brackets.{single, bracket, Elems, no_elems, elem, elems_tokens, elems_own, own_items, own_of, as_node}
 use Rattle.bz_tree.specs.Kinds.{mark_of}
-use Rattle.bz_tree.specs.Owners.{Own, no_token, Entry, a_node, a_comma, a_note, is_filled, first_cell, other_cells, later_lines, same_line, below_last, nodes_in, notes_in, cell_segment, with_segment, segments_from, end_from, inside, entries_of}
+use Rattle.bz_tree.specs.Owners.{Own, no_token, Entry, a_node, a_comma, a_comment, is_filled, first_cell, other_cells, later_lines, same_line, below_last, nodes_in, comments_in, cell_segment, with_segment, segments_from, end_from, inside, entries_of}
 use Rattle.bz_tree.specs.Statement.{is_rule, rule_call, one_segment, first_of, first_seen, IsStatementOf}
 use Rattle.bz_tree.specs.Tree.{Item, Segment, Statement}
 use Rattle.bz_layout.specs.Broken.{has_some}
@@ -65,11 +65,11 @@ cell_lines : (cell : List Entry) → starts cell ≡ true → (one_segment (segm
 cell_lines [] h none = absurd (false≢true h)
 cell_lines (a_comma ∷ es) h none = absurd (false≢true h)
 cell_lines (a_node x ∷ es) h none = absurd (false≢true (sym (ap is_filled none)))
-cell_lines (a_note on text ∷ es) h none = by (is_filled (nodes_in es)) refl none
+cell_lines (a_comment on text ∷ es) h none = by (is_filled (nodes_in es)) refl none
   where
     by : (b : Bool) → is_filled (nodes_in es) ≡ b
-        → (one_segment (if b then cell_segment (a_note on text ∷ es) [] [] ∷ [] else []) (if b then below_last es else text ∷ notes_in es)).nodes ≡ []
-        → has_some (one_segment (if b then cell_segment (a_note on text ∷ es) [] [] ∷ [] else []) (if b then below_last es else text ∷ notes_in es)).before ≡ true
+        → (one_segment (if b then cell_segment (a_comment on text ∷ es) [] [] ∷ [] else []) (if b then below_last es else text ∷ comments_in es)).nodes ≡ []
+        → has_some (one_segment (if b then cell_segment (a_comment on text ∷ es) [] [] ∷ [] else []) (if b then below_last es else text ∷ comments_in es)).before ≡ true
     by true e gone = absurd (false≢true (sym (ap is_filled gone) ∙ e))
     by false e gone = refl
 
@@ -78,7 +78,7 @@ token_starts (Open shape) t os = refl
 token_starts (Close shape) t os = refl
 token_starts Comma t os = refl
 token_starts Comment t os = refl
-token_starts NewLine t os = refl
+token_starts Newline t os = refl
 token_starts Plain t os = refl
 
 some_starts : (xs : Elems) → IsSome (first_of (elems_tokens xs)) → starts (first_cell (entries_of no_token (own_items true (elems_own Other xs)))) ≡ true

@@ -6,7 +6,7 @@ use Rattle.std.proofs.lemmas.Bool.{cases_Bool, false≢true}
 use Rattle.bz_token.specs.declared.token.Kind.{Kind}
 use Rattle.bz_token.specs.declared.token.Kind.TheVariants.{Keyword, String}
 use Rattle.bz_token.specs.Blocks.{opener_of}
-use Rattle.bz_token.specs.Lexical.{is_text, keywords, signs}
+use Rattle.bz_token.specs.Lexical.{is_text, keywords, operators}
 use Rattle.bz_token.proofs.Classes.{same_bytes}
 use Rattle.bz_tree.specs.declared.role.Role.{Role}
 use Rattle.bz_tree.specs.declared.role.Role.TheVariants.{Name, Number, Value, Not, Tilde, Sum}
@@ -39,7 +39,7 @@ abbrev pub is_leading : Kind → List ℕ → Bool
 is_leading kind text = is_text kind text && leads (leaf_role kind text)
 
 none_leads : (kind : Kind) → (is_leading kind (codes "def") || is_leading kind (codes "for") || is_leading kind (codes "if")) ≡ false
-unfolding keywords signs
+unfolding keywords operators
 none_leads String = refl
 none_leads _ = refl
 

@@ -7,7 +7,7 @@ use Rattle.bz_token.specs.Lexical.{is_text}
 use Rattle.bz_token.specs.Brackets.{is_opening_bracket, is_closing_bracket, is_line, fits, open_after_token}
 use Rattle.bz_token.proofs.Classes.{mark, can_start, text_class}
 use Rattle.bz_token.proofs.Fitting.{is_bracket_byte, bracket_class}
-use Rattle.bz_tree.specs.Kinds.{kind_mark, sign_mark}
+use Rattle.bz_tree.specs.Kinds.{kind_mark, operator_mark}
 use Rattle.bz_layout.specs.Respell.{respell}
 use Rattle.bz_layout_laws.specs.Legible.{is_leaf_mark}
 
@@ -40,16 +40,16 @@ free_open opened (b ∷ []) free =
     rw (opens, closes) refl
 free_open opened (b ∷ c ∷ bs) free = refl
 
-abbrev pub is_sign_kind : Kind → Bool
-is_sign_kind Operator = true
-is_sign_kind _ = false
+abbrev pub is_operator_kind : Kind → Bool
+is_operator_kind Operator = true
+is_operator_kind _ = false
 
-pub mark_starts : (kind : Kind) → is_sign_kind kind ≡ false → can_start kind mark ≡ true → ⊥
+pub mark_starts : (kind : Kind) → is_operator_kind kind ≡ false → can_start kind mark ≡ true → ⊥
 mark_starts Operator none h = false≢true (sym none)
 mark_starts _ none h = false≢true h
 
--- only signs are brackets
-pub other_free : (kind : Kind) (text : List ℕ) → is_sign_kind kind ≡ false → is_text kind text ≡ true → is_free text ≡ true
+-- only operators are brackets
+pub other_free : (kind : Kind) (text : List ℕ) → is_operator_kind kind ≡ false → is_text kind text ≡ true → is_free text ≡ true
 other_free kind [] none is = refl
 other_free kind (b ∷ []) none is = elim (cases_Bool (is_bracket_byte b)) [
   | inr miss ↦ rw miss refl
@@ -57,7 +57,7 @@ other_free kind (b ∷ []) none is = elim (cases_Bool (is_bracket_byte b)) [
 ]
 other_free kind (b ∷ c ∷ bs) none is = refl
 
-bracket_mark : (b : ℕ) → is_bracket_byte b ≡ true → is_leaf_mark (sign_mark (b ∷ [])) ≡ false
+bracket_mark : (b : ℕ) → is_bracket_byte b ≡ true → is_leaf_mark (operator_mark (b ∷ [])) ≡ false
 bracket_mark b h = elim (or_cases (is_opening_bracket b) (is_closing_bracket b) h) [
   | inl opens ↦ elim (or_cases (b == 40 || b == 91) (b == 123) opens) [
     | inr is ↦ at 123 is refl
@@ -69,20 +69,20 @@ bracket_mark b h = elim (or_cases (is_opening_bracket b) (is_closing_bracket b) 
   ]
 ]
   where
-    at : (c : ℕ) → (b == c) ≡ true → is_leaf_mark (sign_mark (c ∷ [])) ≡ false → is_leaf_mark (sign_mark (b ∷ [])) ≡ false
-    at c is h = ap (λ x. is_leaf_mark (sign_mark (x ∷ []))) (eqb-true b c is) ∙ h
+    at : (c : ℕ) → (b == c) ≡ true → is_leaf_mark (operator_mark (c ∷ [])) ≡ false → is_leaf_mark (operator_mark (b ∷ [])) ≡ false
+    at c is h = ap (λ x. is_leaf_mark (operator_mark (x ∷ []))) (eqb-true b c is) ∙ h
 
-pub sign_free : (text : List ℕ) → is_leaf_mark (sign_mark text) ≡ true → is_free text ≡ true
-sign_free [] h = refl
-sign_free (b ∷ []) h = elim (cases_Bool (is_bracket_byte b)) [
+pub operator_free : (text : List ℕ) → is_leaf_mark (operator_mark text) ≡ true → is_free text ≡ true
+operator_free [] h = refl
+operator_free (b ∷ []) h = elim (cases_Bool (is_bracket_byte b)) [
   | inr miss ↦ rw miss refl
   | inl hit ↦ absurd (false≢true (sym (bracket_mark b hit) ∙ h))
 ]
-sign_free (b ∷ c ∷ bs) h = refl
+operator_free (b ∷ c ∷ bs) h = refl
 
 -- the token of a leaf, as it is spelled
 pub leaf_free : (kind : Kind) (text : List ℕ) → is_text kind (respell kind text) ≡ true → is_leaf_mark (kind_mark kind text) ≡ true → is_free (respell kind text) ≡ true
-leaf_free Operator text is leaf = sign_free text leaf
+leaf_free Operator text is leaf = operator_free text leaf
 leaf_free String text is leaf = other_free String (respell String text) refl is
 leaf_free Newline text is leaf = absurd (false≢true leaf)
 leaf_free Comment text is leaf = absurd (false≢true leaf)

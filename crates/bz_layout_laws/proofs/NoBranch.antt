@@ -4,7 +4,7 @@ use Rattle.std.specs.Prelude.{codes}
 use Rattle.std.proofs.lemmas.Bool.{false≢true, or_parts}
 use Rattle.bz_token.specs.declared.token.Kind.{Kind}
 use Rattle.bz_token.specs.declared.token.Kind.TheVariants.{Keyword, String}
-use Rattle.bz_token.specs.Lexical.{is_text, keywords, signs}
+use Rattle.bz_token.specs.Lexical.{is_text, keywords, operators}
 use Rattle.bz_token.proofs.Classes.{same_bytes}
 use Rattle.bz_tree.specs.Grammar.{IsLoad, load, IsStatement, comments, load_statement, expression, assignment}
 use Rattle.bz_tree.specs.Statement.{is_load_word}
@@ -16,7 +16,7 @@ use Rattle.bz_layout_laws.proofs.NoBlock.{begins_operand, is_leading, other_text
 
 -- no operand and no prefix is one
 none_leads : (kind : Kind) → (is_leading kind (codes "elif") || is_leading kind (codes "else")) ≡ false
-unfolding keywords signs
+unfolding keywords operators
 none_leads String = refl
 none_leads _ = refl
 

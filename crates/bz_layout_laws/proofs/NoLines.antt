@@ -47,9 +47,9 @@ commas : (b : Bool) → HasNoLine (comma_if b)
 commas true = one Closed Operator (codes ",") refl
 commas false = nothing
 
-notes : (level : ℕ) (texts : List (List ℕ)) → HasNoLine (comments level texts)
-notes level [] = nothing
-notes level (text ∷ texts) = join (one (Line level) Comment text refl) (notes level texts)
+comment_texts : (level : ℕ) (texts : List (List ℕ)) → HasNoLine (comments level texts)
+comment_texts level [] = nothing
+comment_texts level (text ∷ texts) = join (one (Line level) Comment text refl) (comment_texts level texts)
 
 pub suffix_no_line : (suffix : Option (List ℕ)) → HasNoLine (suffix_piece suffix)
 suffix_no_line None = nothing
@@ -64,7 +64,7 @@ mutual
       let close : List Piece = piece Closed Operator (closing kind) ∷ [] in
       join (one gap Operator (opening kind) refl)
       (either_way HasNoLine (breaks style (is_broken kind segs end (segs_hold segs))) (broken_segs style (level + 1) kind comma segs ++ (comments (level + 1) end ++ last)) (flat_segs style level kind true segs ++ (comma_if one_comma ++ close))
-      (join (broken_no_line style (level + 1) kind comma segs h.0) (join (notes (level + 1) end) (one (Line level) Operator (closing kind) refl)))
+      (join (broken_no_line style (level + 1) kind comma segs h.0) (join (comment_texts (level + 1) end) (one (Line level) Operator (closing kind) refl)))
       (join (flat_no_line style level kind true segs h.0) (join (commas one_comma) (one Closed Operator (closing kind) refl))))
 
   pub items_no_line : (style : Style) (level : ℕ) (within : Option GroupKind) (first : Gap) (left : Edge) (xs : Items) → AreLegible within left xs → HasNoLine (items_pieces style level within first left xs)
@@ -75,7 +75,7 @@ mutual
   broken_no_line : (style : Style) (level : ℕ) (kind : GroupKind) (comma : Bool) (ss : Segs) → AreLegibleSegs kind ss → HasNoLine (broken_segs style level kind comma ss)
   broken_no_line style level kind comma no_segs h = nothing
   broken_no_line style level kind comma (seg before nodes suffix ss) h =
-      join (notes level before)
+      join (comment_texts level before)
       (join (items_no_line style level (Some kind) (Line level) Start nodes h.2) (join (commas comma) (join (suffix_no_line suffix) (broken_no_line style level kind comma ss h.4))))
 
   flat_no_line : (style : Style) (level : ℕ) (kind : GroupKind) (first : Bool) (ss : Segs) → AreLegibleSegs kind ss → HasNoLine (flat_segs style level kind first ss)

@@ -49,21 +49,21 @@ record Upright (tokens : List Placed) : Type 0 where
   some : IsSome (first_seen tokens)
 
 -- comment lines alone
-pub notes_bare : (first : ℕ) (texts : List (List ℕ)) (before lines : List ℕ) → bare_tokens (tokens_of first before lines (read_pieces (comment_lines texts ++ []))) ≡ []
-notes_bare first [] before lines = refl
-notes_bare first (text ∷ texts) before lines = notes_bare first texts _ _
+pub comments_bare : (first : ℕ) (texts : List (List ℕ)) (before lines : List ℕ) → bare_tokens (tokens_of first before lines (read_pieces (comment_lines texts ++ []))) ≡ []
+comments_bare first [] before lines = refl
+comments_bare first (text ∷ texts) before lines = comments_bare first texts _ _
 
-pub notes_seen : (first : ℕ) (texts : List (List ℕ)) (rest : List Piece) → has_some texts ≡ true → IsSome (first_seen (tokens_of first [] [] (read_pieces (comment_lines texts ++ rest))))
-notes_seen first [] rest h = absurd (false≢true h)
-notes_seen first (text ∷ texts) rest h = refl
+pub comments_seen : (first : ℕ) (texts : List (List ℕ)) (rest : List Piece) → has_some texts ≡ true → IsSome (first_seen (tokens_of first [] [] (read_pieces (comment_lines texts ++ rest))))
+comments_seen first [] rest h = absurd (false≢true h)
+comments_seen first (text ∷ texts) rest h = refl
 
 lines_upright : (first : ℕ) (s : Statement) → IsParsed s → is_comment s.class ≡ true → Upright (tokens_back first s)
 lines_upright first s parsed class =
     let none = none_there s.nodes (ap is_comment (sym parsed.class) ∙ class) in
     subst (λ b. Upright (tokens_of first [] [] (read_pieces (comment_lines s.before ++ (if b then [] else statement_line s))))) (sym class)
     (let tokens = tokens_of first [] [] (read_pieces (comment_lines s.before ++ [])) in
-    let bare : first_token tokens ≡ None = ap first_of (notes_bare first s.before [] []) in
-    record { indent = ap (λ o. indent_at o tokens) bare; block = ap begins_block_at bare; some = notes_seen first s.before [] (parsed.lines none) })
+    let bare : first_token tokens ≡ None = ap first_of (comments_bare first s.before [] []) in
+    record { indent = ap (λ o. indent_at o tokens) bare; block = ap begins_block_at bare; some = comments_seen first s.before [] (parsed.lines none) })
 
 is_upright : (first : ℕ) (s : Statement) → IsLegible s → IsParsed s → begins_block (items_of s.nodes) ≡ false → Upright (tokens_back first s)
 is_upright first s legible parsed word = by (is_comment s.class) refl

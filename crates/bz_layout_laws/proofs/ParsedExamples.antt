@@ -4,7 +4,7 @@ use Rattle.std.specs.Prelude.{codes}
 use Rattle.std.specs.Prelude.Option.{None}
 use Rattle.std.proofs.lemmas.Bool.{false≢true}
 use Rattle.bz_token.specs.declared.token.Kind.TheVariants.{Identifier, Keyword, Operator}
-use Rattle.bz_token.specs.Lexical.{keywords, signs}
+use Rattle.bz_token.specs.Lexical.{keywords, operators}
 use Rattle.bz_tree.specs.declared.stmt.GroupKind.TheVariants.{RuleCall, ListComp, Call}
 use Rattle.bz_tree.specs.declared.stmt.Class.TheVariants.{Rule, Comment}
 use Rattle.bz_tree.specs.declared.kinds.Shape.TheVariants.{Round, Square}
@@ -82,7 +82,7 @@ parsed = record {
 }
 
 legible : IsLegible rule
-unfolding keywords signs
+unfolding keywords operators
 legible = record {
   some = λ e. refl;
   before = refl;

@@ -14,7 +14,7 @@ use Rattle.bz_layout.specs.Spacing.{closes_up, edge_after, gap_before}
 use Rattle.bz_layout.specs.Broken.{count, is_broken, segs_hold}
 use Rattle.bz_layout.specs.Pieces.{Piece, piece, comma_if, comments, comment_lines, suffix_piece}
 use Rattle.bz_layout.specs.Layout.{opening, closing, has_commas, item_pieces, items_pieces, broken_segs, flat_segs, statement_line, is_comment, layout}
-use Rattle.bz_layout_laws.specs.Lexemes.{lexeme, notes, suffix_lexemes, comma_lexemes, item_lexemes, items_lexemes, ended_lexemes, separated_lexemes, note_lines, line_lexemes, lexemes_of}
+use Rattle.bz_layout_laws.specs.Lexemes.{lexeme, comment_lexemes, suffix_lexemes, comma_lexemes, item_lexemes, items_lexemes, ended_lexemes, separated_lexemes, comment_line_lexemes, line_lexemes, lexemes_of}
 use Rattle.bz_layout_laws.specs.ReadPieces.{is_apart, piece_lexeme, piece_lexemes}
 
 join : (ps qs : List Piece) → piece_lexemes (ps ++ qs) ≡ piece_lexemes ps ++ piece_lexemes qs
@@ -24,15 +24,15 @@ commas : (b : Bool) → piece_lexemes (comma_if b) ≡ comma_lexemes b
 commas true = refl
 commas false = refl
 
-note_pieces : (level : ℕ) (texts : List (List ℕ)) → piece_lexemes (comments level texts) ≡ notes texts
-note_pieces level [] = refl
-note_pieces level (text ∷ texts) = ap (λ l. lexeme Comment text ∷ l) (note_pieces level texts)
+comment_pieces : (level : ℕ) (texts : List (List ℕ)) → piece_lexemes (comments level texts) ≡ comment_lexemes texts
+comment_pieces level [] = refl
+comment_pieces level (text ∷ texts) = ap (λ l. lexeme Comment text ∷ l) (comment_pieces level texts)
 
 suffix_pieces : (suffix : Option (List ℕ)) → piece_lexemes (suffix_piece suffix) ≡ suffix_lexemes suffix
 suffix_pieces None = refl
 suffix_pieces (Some text) = refl
 
-line_pieces : (texts : List (List ℕ)) → piece_lexemes (comment_lines texts) ≡ note_lines texts
+line_pieces : (texts : List (List ℕ)) → piece_lexemes (comment_lines texts) ≡ comment_line_lexemes texts
 line_pieces [] = refl
 line_pieces (text ∷ texts) = ap (λ l. lexeme Comment text ∷ lexeme Newline (codes "\n") ∷ l) (line_pieces texts)
 
@@ -71,7 +71,7 @@ mutual
         join broken (comments (level + 1) end ++ last),
         join (comments (level + 1) end) last,
         broken_pieces_are (level + 1) kind comma segs,
-        note_pieces (level + 1) end,
+        comment_pieces (level + 1) end,
         join flat (comma_if one_comma ++ close),
         join (comma_if one_comma) close,
         flat_pieces_are level kind true segs,
@@ -94,7 +94,7 @@ mutual
         join nodes_are (comma_if comma ++ (suffix_piece suffix ++ rest)),
         join (comma_if comma) (suffix_piece suffix ++ rest),
         join (suffix_piece suffix) rest,
-        note_pieces level before,
+        comment_pieces level before,
         items_pieces_are level (Some kind) (Line level) Start nodes refl,
         commas comma,
         suffix_pieces suffix,

@@ -11,7 +11,7 @@ use Rattle.bz_tree.specs.declared.kinds.Mark.TheVariants.{Open, Close}
 use Rattle.bz_tree.specs.declared.kinds.Preceding.{Preceding}
 use Rattle.bz_tree.specs.declared.kinds.Preceding.TheVariants.{Operand, LoadWord, Other}
 use Rattle.bz_tree.specs.Brackets.{bracket, elems_tokens, elems_own, has_for, is_paren, own_items, group_of, end_line}
-use Rattle.bz_tree.specs.Kinds.{sign_mark, group_kind, is_one}
+use Rattle.bz_tree.specs.Kinds.{operator_mark, group_kind, is_one}
 use Rattle.bz_tree.specs.Owners.{Entry, a_node, no_token, end_of_node, no_empty, is_filled}
 use Rattle.bz_tree.specs.Tree.{group, Segs, segments}
 use Rattle.bz_tree_laws.specs.Written.{written_entries, HaveNodes}
@@ -26,7 +26,7 @@ use Rattle.bz_layout_laws.proofs.Fors.{same_for}
 use Rattle.bz_layout_laws.proofs.SameInside.{group_same}
 
 -- brackets of a kind are those of its shape
-opens : (shape : Shape) (b : Preceding) (comp : Bool) → sign_mark (opening (group_kind shape b comp)) ≡ Open shape
+opens : (shape : Shape) (b : Preceding) (comp : Bool) → operator_mark (opening (group_kind shape b comp)) ≡ Open shape
 opens Round Operand comp = refl
 opens Round LoadWord comp = refl
 opens Round Other comp = refl
@@ -38,7 +38,7 @@ opens Square Other false = refl
 opens Curly b true = refl
 opens Curly b false = refl
 
-closes : (shape : Shape) (b : Preceding) (comp : Bool) → sign_mark (closing (group_kind shape b comp)) ≡ Close shape
+closes : (shape : Shape) (b : Preceding) (comp : Bool) → operator_mark (closing (group_kind shape b comp)) ≡ Close shape
 closes Round Operand comp = refl
 closes Round LoadWord comp = refl
 closes Round Other comp = refl
@@ -85,7 +85,7 @@ read_group one b kind ss one_comma end trailing ls es tail shape kind_is nodes c
       let back = group_same kind owns trailing ss one_comma end nodes comma_is r.entries in
       subst (λ x. Read one b at ts (a_node x ∷ es) tail) (ap (λ k. group_of k owns) found ∙ back.0)
       (add_node one b at (bracket shape open_at r.elems close_at) g.line (group_of (group_kind shape b (has_for owns)) owns) es tail ts g.others
-      (ap (λ k. sign_mark (opening k)) kind_is ∙ opens shape b (have_for ss), ap (λ k. sign_mark (closing k)) kind_is ∙ closes shape b (have_for ss), r.well, ap (λ k. no_empty false (own_items (is_one k) owns)) found ∙ back.1)
+      (ap (λ k. operator_mark (opening k)) kind_is ∙ opens shape b (have_for ss), ap (λ k. operator_mark (closing k)) kind_is ∙ closes shape b (have_for ss), r.well, ap (λ k. no_empty false (own_items (is_one k) owns)) found ∙ back.1)
       (own_node one g.line (group_of (group_kind shape b (has_for owns)) owns))
       (f.are ∙ ap (λ us. open_at ∷ us) (r.tokens ∙ ap (λ us. elems_tokens r.elems ++ us) g.are) ∙ closed_up open_at close_at (elems_tokens r.elems) g.others)
       n);

@@ -24,13 +24,13 @@ use Rattle.bz_layout.specs.Spacing.{edge_after}
 use Rattle.bz_layout.specs.Layout.{closing, is_comment, layout_text}
 use Rattle.bz_layout_laws.specs.Inside.{HasShape, has_last_comma, without_newlines, own_segment}
 use Rattle.bz_layout_laws.specs.Legible.{are_some, IsLegibleItem, AreLegible, IsLegible, depth_of}
-use Rattle.bz_layout_laws.specs.Lexemes.{Lexeme, lexeme, notes, suffix_lexemes, item_lexemes, items_lexemes, lexemes_from, token_lexemes, lexemes_of}
+use Rattle.bz_layout_laws.specs.Lexemes.{Lexeme, lexeme, comment_lexemes, suffix_lexemes, item_lexemes, items_lexemes, lexemes_from, token_lexemes, lexemes_of}
 use Rattle.bz_layout_laws.specs.Parsed.{HasKind, HaveKinds, plain_call, plain_calls, IsParsed}
 use Rattle.bz_layout_laws.specs.Spelled.{spelled, spelled_statement}
 use Rattle.bz_layout_laws.specs.Lineless.{lineless}
 use Rattle.bz_layout_laws.proofs.ReadGroup.{read_group}
 use Rattle.bz_layout_laws.proofs.ReadSteps.{Reads, read_nothing}
-use Rattle.bz_layout_laws.proofs.ReadTree.{read_notes, read_end, read_suffix, segs_begin, few_segs, item_reads, segs_reads}
+use Rattle.bz_layout_laws.proofs.ReadTree.{read_comments, read_end, read_suffix, segs_begin, few_segs, item_reads, segs_reads}
 use Rattle.bz_layout_laws.proofs.SameInside.{have_nodes}
 use Rattle.bz_layout_laws.proofs.SameTests.{nodes_spelled, class_spelled}
 use Rattle.bz_layout_laws.proofs.SpelledAgain.{written_again}
@@ -108,8 +108,8 @@ some_nodes (x ∷ xs) h = refl
 -- a statement that has nodes
 statement_tree : (s : Statement) (tokens : List Placed) → IsLegible s → IsParsed s → is_comment s.class ≡ false → lexemes_from None (without_lines tokens) ≡ without_newlines (lexemes_of s) → Tree s tokens
 statement_tree s tokens legible parsed class lexemes =
-    tree_of s tokens (notes s.before ++ (items_lexemes (items_of s.nodes) ++ (suffix_lexemes s.suffix ++ []))) (written_entries false (plain_segment s ∷ []) []) (lexemes ∙ statement_line_is s legible class)
-    (read_notes true Other s.before (items_lexemes (items_of s.nodes) ++ (suffix_lexemes s.suffix ++ [])) (map a_node (map spelled (plain_calls s.nodes)) ++ (suffix_entry s.suffix ++ [])) []
+    tree_of s tokens (comment_lexemes s.before ++ (items_lexemes (items_of s.nodes) ++ (suffix_lexemes s.suffix ++ []))) (written_entries false (plain_segment s ∷ []) []) (lexemes ∙ statement_line_is s legible class)
+    (read_comments true Other s.before (items_lexemes (items_of s.nodes) ++ (suffix_lexemes s.suffix ++ [])) (map a_node (map spelled (plain_calls s.nodes)) ++ (suffix_entry s.suffix ++ [])) []
     (tops_read Other None Start s.nodes (suffix_lexemes s.suffix ++ []) (suffix_entry s.suffix ++ []) [] legible.nodes parsed.kinds (λ p. read_suffix true p s.suffix [] [] [] (read_nothing true p []))))
     (λ owns e. statement_back owns (plain_segment s) (some_nodes s.nodes (legible.some class)) e
     ∙ ap (λ xs. record { before = s.before; nodes = xs; suffix = s.suffix }) (sym (nodes_spelled (plain_calls s.nodes)) ∙ ap (map spelled) (sym parsed.rule)))

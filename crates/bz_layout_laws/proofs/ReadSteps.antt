@@ -10,12 +10,12 @@ use Rattle.bz_token.specs.declared.token.Kind.TheVariants.{String, Operator, New
 use Rattle.bz_token.specs.Places.{Placed}
 use Rattle.bz_tree.specs.declared.kinds.Shape.TheVariants.{Round, Square, Curly}
 use Rattle.bz_tree.specs.declared.kinds.Mark.{Mark}
-use Rattle.bz_tree.specs.declared.kinds.Mark.TheVariants.{Open, Close, Comma, Comment, NewLine, Plain}
+use Rattle.bz_tree.specs.declared.kinds.Mark.TheVariants.{Open, Close, Comma, Comment, Newline as NewlineMark, Plain}
 use Rattle.bz_tree.specs.declared.kinds.Preceding.{Preceding}
 use Rattle.bz_tree.specs.declared.kinds.Preceding.TheVariants.{Other}
 use Rattle.bz_tree.specs.Brackets.{Elem, single, Elems, no_elems, elem, elem_tokens, elems_tokens, leaf_of, own_item, own_items, own_of, preceding, elem_own, elems_own, is_single, IsWell, AreWell, end_line}
-use Rattle.bz_tree.specs.Kinds.{kind_mark, sign_mark, mark_of, kind_after}
-use Rattle.bz_tree.specs.Owners.{node, comma, note, Last, no_token, end_of_node, end_of_comma, Entry, a_node, a_comma, a_note, entries_of}
+use Rattle.bz_tree.specs.Kinds.{kind_mark, operator_mark, mark_of, kind_after}
+use Rattle.bz_tree.specs.Owners.{node, comma, comment, Last, no_token, end_of_node, end_of_comma, Entry, a_node, a_comma, a_comment, entries_of}
 use Rattle.bz_tree.specs.Statement.{is_aside}
 use Rattle.bz_tree.specs.Tree.{Item, leaf}
 use Rattle.bz_layout.specs.Respell.{respell}
@@ -46,9 +46,9 @@ pub own_node : (one : Bool) (line : ℕ) (x : Item) → own_item one (node line 
 own_node true line x = refl
 own_node false line x = refl
 
-own_note : (one : Bool) (line : ℕ) (text : List ℕ) → own_item one (note line text) ≡ note line text
-own_note true line text = refl
-own_note false line text = refl
+own_comment : (one : Bool) (line : ℕ) (text : List ℕ) → own_item one (comment line text) ≡ comment line text
+own_comment true line text = refl
+own_comment false line text = refl
 
 same_line : (end other line : ℕ) → end ≡ other → (end == line) ≡ (line == other)
 same_line end other line e = ap (λ n. n == line) e ∙ turned other line
@@ -63,8 +63,8 @@ agree_comma : (line end : ℕ) → line ≡ end → Agree (end_of_comma line) (S
 agree_comma line end e = record { same = λ other. same_line line end other e }
 
 -- a comment
-pub read_note : (one : Bool) (b : Preceding) (beside : Bool) (text : List ℕ) (ls : List Lexeme) (es : List Entry) (tail : List Lexeme) → Reads one b ls es tail → Reads one b (record { kind = CommentToken; text = text; beside = beside } ∷ ls) (a_note beside text ∷ es) tail
-read_note one b beside text ls es tail next = record {
+pub read_comment : (one : Bool) (b : Preceding) (beside : Bool) (text : List ℕ) (ls : List Lexeme) (es : List Entry) (tail : List Lexeme) → Reads one b ls es tail → Reads one b (record { kind = CommentToken; text = text; beside = beside } ∷ ls) (a_comment beside text ∷ es) tail
+read_comment one b beside text ls es tail next = record {
   each = λ at last ts agree h.
       let l : Lexeme = record { kind = CommentToken; text = text; beside = beside } in
       let f = take_first last ts l (ls ++ tail) h in
@@ -78,8 +78,8 @@ read_note one b beside text ls es tail next = record {
         rest = r.rest;
         well = (refl, r.well);
         entries =
-            ap (λ o. entries_of at (o ∷ own_items one (elems_own b r.elems))) (own_note one f.line text)
-            ∙ (λ i. a_note ((agree.same f.line ∙ f.beside) i) text ∷ r.entries i);
+            ap (λ o. entries_of at (o ∷ own_items one (elems_own b r.elems))) (own_comment one f.line text)
+            ∙ (λ i. a_comment ((agree.same f.line ∙ f.beside) i) text ∷ r.entries i);
       };
 }
 
@@ -138,15 +138,15 @@ last_test : (b : Bool) → is_comma_mark (if b then Comma else Plain) ≡ true �
 last_test true h = refl
 last_test false h = h
 
-comma_sign : (text : List ℕ) → is_comma_mark (sign_mark text) ≡ true → text ≡ codes ","
-comma_sign text h =
+comma_operator : (text : List ℕ) → is_comma_mark (operator_mark text) ≡ true → text ≡ codes ","
+comma_operator text h =
     let is : bytes_eq text (codes ",") ≡ true =
     last_test (bytes_eq text (codes ",")) (skip (bytes_eq text (codes "}")) (Close Curly) _ refl (skip (bytes_eq text (codes "]")) (Close Square) _ refl (skip (bytes_eq text (codes ")")) (Close Round) _ refl
     (skip (bytes_eq text (codes "{")) (Open Curly) _ refl (skip (bytes_eq text (codes "[")) (Open Square) _ refl (skip (bytes_eq text (codes "(")) (Open Round) _ refl h)))))) in
     search (rules, bytes_eq-Decides)
 
 pub comma_leaf : (kind : Kind) (text : List ℕ) → is_comma_mark (kind_mark kind text) ≡ true → (kind_after kind text ≡ Other) × (text ≡ codes ",")
-comma_leaf Operator text h = (refl, comma_sign text h)
+comma_leaf Operator text h = (refl, comma_operator text h)
 comma_leaf _ text h = absurd (false≢true h)
 
 ends_there : (t : Placed) (line : ℕ) → is_aside t.kind ≡ false → line ≡ end_line t → Agree (end_of_node line) (end_after t)
@@ -173,7 +173,7 @@ leaf_own one b t Comma e token single_is =
 leaf_own one b t (Open shape) e token single_is = absurd (false≢true token)
 leaf_own one b t (Close shape) e token single_is = absurd (false≢true token)
 leaf_own one b t Comment e token single_is = absurd (false≢true token)
-leaf_own one b t NewLine e token single_is = absurd (false≢true token)
+leaf_own one b t NewlineMark e token single_is = absurd (false≢true token)
 
 pub same_mark : (kind : Kind) (text : List ℕ) → kind_mark kind (respell kind text) ≡ kind_mark kind text
 same_mark String text = refl

@@ -19,28 +19,28 @@ use Rattle.bz_layout.specs.Broken.{count, is_broken, segs_hold}
 use Rattle.bz_layout.specs.Spacing.{edge_after}
 use Rattle.bz_layout.specs.Layout.{closing, has_commas}
 use Rattle.bz_layout_laws.specs.Legible.{are_some, IsLegibleItem, AreLegible, AreLegibleSegs}
-use Rattle.bz_layout_laws.specs.Lexemes.{Lexeme, lexeme, notes, suffix_lexemes, comma_lexemes, item_lexemes, items_lexemes}
+use Rattle.bz_layout_laws.specs.Lexemes.{Lexeme, lexeme, comment_lexemes, suffix_lexemes, comma_lexemes, item_lexemes, items_lexemes}
 use Rattle.bz_layout_laws.specs.Inside.{HasShape, entries_lexemes, has_last_comma}
 use Rattle.bz_layout_laws.specs.Parsed.{is_comma, HasKind, HaveKinds, SegsHaveKinds}
 use Rattle.bz_layout_laws.specs.Spelled.{spelled, spelled_items, spelled_segs}
 use Rattle.bz_layout_laws.proofs.Written.{comma_entry, segment_entries, segment_is, too_many, bracket_written, comma_read}
 use Rattle.bz_layout_laws.proofs.Taken.{begins_beside}
-use Rattle.bz_layout_laws.proofs.ReadSteps.{Reads, read_nothing, read_note, read_comma, read_leaf}
+use Rattle.bz_layout_laws.proofs.ReadSteps.{Reads, read_nothing, read_comment, read_comma, read_leaf}
 use Rattle.bz_layout_laws.proofs.SameInside.{filled_spelled, have_nodes}
 use Rattle.bz_layout_laws.proofs.ReadGroup.{read_group}
 
 -- comments on lines of their own
-pub read_notes : (one : Bool) (b : Preceding) (texts : List (List ℕ)) (ls : List Lexeme) (es : List Entry) (tail : List Lexeme) → Reads one b ls es tail → Reads one b (notes texts ++ ls) (own_lines texts ++ es) tail
-read_notes one b [] ls es tail next = next
-read_notes one b (text ∷ texts) ls es tail next = read_note one b false text (notes texts ++ ls) (own_lines texts ++ es) tail (read_notes one b texts ls es tail next)
+pub read_comments : (one : Bool) (b : Preceding) (texts : List (List ℕ)) (ls : List Lexeme) (es : List Entry) (tail : List Lexeme) → Reads one b ls es tail → Reads one b (comment_lexemes texts ++ ls) (own_lines texts ++ es) tail
+read_comments one b [] ls es tail next = next
+read_comments one b (text ∷ texts) ls es tail next = read_comment one b false text (comment_lexemes texts ++ ls) (own_lines texts ++ es) tail (read_comments one b texts ls es tail next)
 
 pub read_end : (one : Bool) (b : Preceding) (end : List (List ℕ)) (tail : List Lexeme) → Reads one b (entries_lexemes (own_lines end)) (own_lines end) tail
 read_end one b [] tail = read_nothing one b tail
-read_end one b (text ∷ texts) tail = read_note one b false text (entries_lexemes (own_lines texts)) (own_lines texts) tail (read_end one b texts tail)
+read_end one b (text ∷ texts) tail = read_comment one b false text (entries_lexemes (own_lines texts)) (own_lines texts) tail (read_end one b texts tail)
 
 pub read_suffix : (one : Bool) (b : Preceding) (suffix : Option (List ℕ)) (ls : List Lexeme) (es : List Entry) (tail : List Lexeme) → Reads one b ls es tail → Reads one b (suffix_lexemes suffix ++ ls) (suffix_entry suffix ++ es) tail
 read_suffix one b None ls es tail next = next
-read_suffix one b (Some text) ls es tail next = read_note one b true text ls es tail next
+read_suffix one b (Some text) ls es tail next = read_comment one b true text ls es tail next
 
 -- a comma after a segment, or none
 read_comma_if : (one : Bool) (b : Preceding) (c : Bool) (ls : List Lexeme) (es : List Entry) (tail : List Lexeme) → (c ≡ true → one ≡ false) → ((p : Preceding) → (c ≡ true → p ≡ Other) → Reads one p ls es tail)
@@ -60,9 +60,9 @@ later one p true (seg before nodes suffix ss) end tail is next = subst (λ q. Se
 later one p false (seg before nodes suffix ss) end tail is next = subst (λ q. SegsRead one q false (seg before nodes suffix ss) end tail) (sym (is refl)) next
 
 -- no comment of a bracket stands on the line of the opening bracket
-notes_begin : (texts : List (List ℕ)) (ls : List Lexeme) → begins_beside ls ≡ false → begins_beside (notes texts ++ ls) ≡ false
-notes_begin [] ls h = h
-notes_begin (text ∷ texts) ls h = refl
+comments_begin : (texts : List (List ℕ)) (ls : List Lexeme) → begins_beside ls ≡ false → begins_beside (comment_lexemes texts ++ ls) ≡ false
+comments_begin [] ls h = h
+comments_begin (text ∷ texts) ls h = refl
 
 nodes_begin : (xs : Items) (ls : List Lexeme) → are_some xs ≡ true → begins_beside (items_lexemes xs ++ ls) ≡ false
 nodes_begin no_items ls h = absurd (false≢true h)
@@ -80,8 +80,8 @@ segs_begin kind trailing (seg before nodes suffix ss) end ls h none =
     let es = written_entries trailing (segments ss) end in
     let rest = comma_lexemes c ++ (suffix_lexemes suffix ++ entries_lexemes es) in
     ap (λ l. begins_beside (l ++ ls)) (segment_is before nodes c suffix es)
-    ∙ ap begins_beside (append_assoc (notes before) (items_lexemes nodes ++ rest) ls ∙ ap (λ l. notes before ++ l) (append_assoc (items_lexemes nodes) rest ls))
-    ∙ notes_begin before (items_lexemes nodes ++ (rest ++ ls)) (nodes_begin nodes (rest ++ ls) h.1)
+    ∙ ap begins_beside (append_assoc (comment_lexemes before) (items_lexemes nodes ++ rest) ls ∙ ap (λ l. comment_lexemes before ++ l) (append_assoc (items_lexemes nodes) rest ls))
+    ∙ comments_begin before (items_lexemes nodes ++ (rest ++ ls)) (nodes_begin nodes (rest ++ ls) h.1)
 
 -- a bracket of one segment has no comma after it
 pub record Few (one trailing : Bool) (ss : Segs) : Type 0 where
@@ -145,7 +145,7 @@ mutual
       let rest = segs_reads one kind trailing ss end tail legible.4 kinds.1 (few_later one trailing before nodes suffix ss few) in
       subst (λ f. Reads one Other (entries_lexemes (segment_entries before nodes c suffix (written_entries trailing (segments ss) end))) (segment_entries before (spelled_items nodes) (trailing || f) suffix es) tail) (sym (filled_spelled ss))
       (subst (λ l. Reads one Other l (segment_entries before (spelled_items nodes) c suffix es) tail) (sym (segment_is before nodes c suffix (written_entries trailing (segments ss) end)))
-      (read_notes one Other before (items_lexemes nodes ++ (comma_lexemes c ++ (suffix_lexemes suffix ++ ls))) (map a_node (list_of (spelled_items nodes)) ++ (comma_entry c ++ (suffix_entry suffix ++ es))) tail
+      (read_comments one Other before (items_lexemes nodes ++ (comma_lexemes c ++ (suffix_lexemes suffix ++ ls))) (map a_node (list_of (spelled_items nodes)) ++ (comma_entry c ++ (suffix_entry suffix ++ es))) tail
       (items_reads one Other (Some kind) Start nodes (comma_lexemes c ++ (suffix_lexemes suffix ++ ls)) (comma_entry c ++ (suffix_entry suffix ++ es)) tail legible.2 kinds.0
       (λ b. read_comma_if one b c (suffix_lexemes suffix ++ ls) (suffix_entry suffix ++ es) tail (is_many one trailing before nodes suffix ss few)
       (λ p is. read_suffix one p suffix ls es tail (later one p trailing ss end tail is rest))))))

@@ -1,4 +1,4 @@
--- What a token is to the grammar tells whether it may stand directly after a sign, and whether something may stand so after it.
+-- What a token is to the grammar tells whether it may stand directly after a operator, and whether something may stand so after it.
 use Rattle.std.proofs.Common.{◌≡◌, ℕ, ◌==◌, List, [], ◌∷◌, Bool, true, false, refl, sym, ap, ◌∙◌, inl, inr}
 use Rattle.std.specs.Prelude.{codes, Option, if◌then◌else◌}
 use Rattle.std.specs.Str.{bytes_eq}
@@ -10,7 +10,7 @@ use Rattle.bz_token.proofs.Classes.{mark, class_of, can_start, same_bytes, text_
 use Rattle.bz_tree.specs.declared.stmt.GroupKind.{GroupKind}
 use Rattle.bz_tree.specs.declared.role.Role.{Role}
 use Rattle.bz_tree.specs.declared.role.Role.TheVariants.{Name, Number, Value, Dot, Comma, Colon, Equals, Augmented, If, Else, For, In, Not, Tilde, Sum, Star, Stars, Operator, Stray}
-use Rattle.bz_tree.specs.Grammar.{is_among, is_augmented, is_infix, sign_role, leaf_role, token_role}
+use Rattle.bz_tree.specs.Grammar.{is_among, is_augmented, is_infix, operator_role, leaf_role, token_role}
 use Rattle.bz_tree.specs.Statement.{is_load_word}
 use Rattle.bz_tree.specs.Tree.{Item, leaf, group}
 use Rattle.bz_layout.specs.declared.spacing.Edge.{Edge}
@@ -18,9 +18,9 @@ use Rattle.bz_layout.specs.Spacing.{edge_after, holds_on}
 use Rattle.bz_layout_laws.specs.Following.{MayStandIn}
 use Rattle.bz_layout_laws.specs.Legible.{is_later, begins_later}
 use Rattle.bz_layout_laws.specs.TextsOfKinds.{HasText}
-use Rattle.bz_layout_laws.proofs.NoBrackets.{is_sign_kind, mark_starts}
+use Rattle.bz_layout_laws.proofs.NoBrackets.{is_operator_kind, mark_starts}
 
--- tokens that begin with no byte that stands second or third in a sign
+-- tokens that begin with no byte that stands second or third in a operator
 abbrev pub stands_apart : Role → Bool
 stands_apart Name = true
 stands_apart Number = true
@@ -48,7 +48,7 @@ abbrev pub is_stray : Role → Bool
 is_stray Stray = true
 is_stray _ = false
 
--- a node that may stand directly after a sign
+-- a node that may stand directly after a operator
 pub record StandsApart (x : Item) : Type 0 where
   pub apart : begins_later x ≡ false
   pub inside : MayStandIn x
@@ -58,7 +58,7 @@ pub record StandsAlone (x : Item) : Type 0 where
   pub node : StandsApart x
   pub rests : (within : Option GroupKind) (left : Edge) → holds_on (edge_after within left x) ≡ false
 
--- only signs begin so
+-- only operators begin so
 later_mark : (b : ℕ) → is_later b ≡ true → class_of b ≡ mark
 later_mark b h = elim (or_cases (b == 47) _ h) [
   | inl is ↦ ap class_of (eqb-true b 47 is)
@@ -74,14 +74,14 @@ later_mark b h = elim (or_cases (b == 47) _ h) [
   ]
 ]
 
-other_begins : (kind : Kind) (text : List ℕ) → is_sign_kind kind ≡ false → is_text kind text ≡ true → begins is_later text ≡ false
+other_begins : (kind : Kind) (text : List ℕ) → is_operator_kind kind ≡ false → is_text kind text ≡ true → begins is_later text ≡ false
 other_begins kind [] none is = refl
 other_begins kind (b ∷ bs) none is = elim (cases_Bool (is_later b)) [
   | inr miss ↦ miss
   | inl hit ↦ absurd (mark_starts kind none (ap (can_start kind) (sym (later_mark b hit)) ∙ text_class kind b bs is))
 ]
 
--- the role of a sign, one text after the other
+-- the role of a operator, one text after the other
 abbrev BeginsApart : List ℕ → Role → Type 0
 BeginsApart text r = stands_apart r ≡ true → begins is_later text ≡ false
 
@@ -100,8 +100,8 @@ two_texts true text one two r next is first second rest h = elim (or_cases (byte
   | inr more ↦ elim (or_cases (bytes_eq text two) false more) [ inl there ↦ ap (begins is_later) (same_bytes text two there) ∙ second | inr none ↦ absurd (false≢true none) ]
 ]
 
-sign_begins : (text : List ℕ) → BeginsApart text (sign_role text)
-sign_begins text =
+operator_begins : (text : List ℕ) → BeginsApart text (operator_role text)
+operator_begins text =
     one_text (bytes_eq text (codes ".")) text (codes ".") Dot _ refl refl
     (one_text (bytes_eq text (codes ",")) text (codes ",") Comma _ refl refl
     (one_text (bytes_eq text (codes ":")) text (codes ":") Colon _ refl refl
@@ -115,7 +115,7 @@ sign_begins text =
     (λ h. absurd (false≢true h)))))))))))
 
 leaf_begins : (kind : Kind) (text : List ℕ) → stands_apart (leaf_role kind text) ≡ true → is_text kind text ≡ true → begins is_later text ≡ false
-leaf_begins OperatorToken text h is = sign_begins text h
+leaf_begins OperatorToken text h is = operator_begins text h
 leaf_begins Identifier text h is = other_begins Identifier text refl is
 leaf_begins Keyword text h is = other_begins Keyword text refl is
 leaf_begins Integer text h is = other_begins Integer text refl is
@@ -130,7 +130,7 @@ pub token_apart : (x : Item) → stands_apart (token_role x) ≡ true → HasTex
 token_apart (leaf kind text) h is = record { apart = leaf_begins kind text h is.0; inside = tt }
 token_apart (group kind segs one_comma end) h is = absurd (false≢true h)
 
--- no sign is an operand
+-- no operator is an operand
 abbrev no_operand : Role → Type 0
 no_operand r = is_operand r ≡ false
 
@@ -138,8 +138,8 @@ either_role : (b : Bool) (r next : Role) → no_operand r → no_operand next �
 either_role true r next h rest = h
 either_role false r next h rest = rest
 
-sign_no_operand : (text : List ℕ) → no_operand (sign_role text)
-sign_no_operand text =
+operator_no_operand : (text : List ℕ) → no_operand (operator_role text)
+operator_no_operand text =
     either_role (bytes_eq text (codes ".")) Dot _ refl
     (either_role (bytes_eq text (codes ",")) Comma _ refl
     (either_role (bytes_eq text (codes ":")) Colon _ refl
@@ -152,7 +152,7 @@ sign_no_operand text =
     (either_role (is_infix text) Operator Stray refl refl)))))))))
 
 operand_rests : (x : Item) → is_operand (token_role x) ≡ true → (within : Option GroupKind) (left : Edge) → holds_on (edge_after within left x) ≡ false
-operand_rests (leaf OperatorToken text) h within left = absurd (false≢true (sym (sign_no_operand text) ∙ h))
+operand_rests (leaf OperatorToken text) h within left = absurd (false≢true (sym (operator_no_operand text) ∙ h))
 operand_rests (leaf _ text) h within left = refl
 operand_rests (group kind segs one_comma end) h within left = refl
 

@@ -6,9 +6,9 @@ use Rattle.bz_token.specs.declared.token.Kind.{Kind}
 use Rattle.bz_token.specs.declared.token.Kind.TheVariants.{String, Operator as OperatorToken, Newline, Comment, Kept}
 use Rattle.bz_token.specs.Pieces.{is_quote}
 use Rattle.bz_token.specs.Lexical.{begins, is_newline, is_text, is_word_byte}
-use Rattle.bz_token.specs.Ends.{is_note, stops_at, ends}
+use Rattle.bz_token.specs.Ends.{is_comment_kind, stops_at, ends}
 use Rattle.bz_token.proofs.Classes.{same_bytes, empty_no_text}
-use Rattle.bz_token.proofs.Stops.{sign_stops, plain_stops}
+use Rattle.bz_token.proofs.Stops.{operator_stops, plain_stops}
 use Rattle.bz_token_laws.proofs.Readable.{stopped_at_ends}
 use Rattle.bz_tree.specs.declared.stmt.GroupKind.{GroupKind}
 use Rattle.bz_tree.specs.declared.stmt.GroupKind.TheVariants.{Call}
@@ -52,30 +52,30 @@ newline_stops_all [] h = refl
 newline_stops_all (b ∷ bs) h = let same : b ≡ 10 = eqb-true b 10 h in rw same refl
 
 -- a text but a comment's, and such a byte after it
-stopped_plain : (kind : Kind) (text after : List ℕ) → is_text kind text ≡ true → is_note kind ≡ false → stops_all after ≡ true → stops_at kind text after ≡ true
-stopped_plain kind text [] is note h = refl
-stopped_plain kind text (b ∷ bs) is note h =
+stopped_plain : (kind : Kind) (text after : List ℕ) → is_text kind text ≡ true → is_comment_kind kind ≡ false → stops_all after ≡ true → stops_at kind text after ≡ true
+stopped_plain kind text [] is comment h = refl
+stopped_plain kind text (b ∷ bs) is comment h =
     let p = and_parts (not (is_word_byte b) && not (is_quote b)) (not (is_later b)) h in
     let q = and_parts (not (is_word_byte b)) (not (is_quote b)) p.0 in
-    plain_stops kind text b is note (not-true _ q.0) (not-true _ q.1) (not-true _ p.1)
+    plain_stops kind text b is comment (not-true _ q.0) (not-true _ q.1) (not-true _ p.1)
 
-pub ended_plain : (kind : Kind) (text after : List ℕ) → is_text kind text ≡ true → is_note kind ≡ false → stops_all after ≡ true → ends kind text after ≡ true
-ended_plain kind text after is note h = stopped_at_ends kind text after (stopped_plain kind text after is note h)
+pub ended_plain : (kind : Kind) (text after : List ℕ) → is_text kind text ≡ true → is_comment_kind kind ≡ false → stops_all after ≡ true → ends kind text after ≡ true
+ended_plain kind text after is comment h = stopped_at_ends kind text after (stopped_plain kind text after is comment h)
 
--- a sign, and no byte after it that lengthens one
-ended_sign : (text after : List ℕ) → is_text OperatorToken text ≡ true → not (begins is_later after) ≡ true → ends OperatorToken text after ≡ true
-ended_sign text [] is h = refl
-ended_sign text (b ∷ bs) is h = sign_stops text b is (not-true _ h)
+-- a operator, and no byte after it that lengthens one
+ended_operator : (text after : List ℕ) → is_text OperatorToken text ≡ true → not (begins is_later after) ≡ true → ends OperatorToken text after ≡ true
+ended_operator text [] is h = refl
+ended_operator text (b ∷ bs) is h = operator_stops text b is (not-true _ h)
 
-sign_by_edge : (e : Edge) (text after : List ℕ) → is_text OperatorToken text ≡ true → may_stand e after ≡ true → ends OperatorToken text after ≡ true
-sign_by_edge Joined text after is h = ended_sign text after is h
-sign_by_edge Dotted text after is h = ended_sign text after is h
-sign_by_edge _ text after is h = ended_plain OperatorToken text after is refl h
+operator_by_edge : (e : Edge) (text after : List ℕ) → is_text OperatorToken text ≡ true → may_stand e after ≡ true → ends OperatorToken text after ≡ true
+operator_by_edge Joined text after is h = ended_operator text after is h
+operator_by_edge Dotted text after is h = ended_operator text after is h
+operator_by_edge _ text after is h = ended_plain OperatorToken text after is refl h
 
 -- a leaf is ended by what may stand after it
 pub leaf_ended : (within : Option GroupKind) (left : Edge) (kind : Kind) (text : List ℕ) (after : List ℕ) → IsLegibleItem (leaf kind text) → may_stand (edge_after within left (leaf kind text)) after ≡ true
     → ends kind (respell kind text) after ≡ true
-leaf_ended within left OperatorToken text after h stands = sign_by_edge (edge_after within left (leaf OperatorToken text)) text after h.0 stands
+leaf_ended within left OperatorToken text after h stands = operator_by_edge (edge_after within left (leaf OperatorToken text)) text after h.0 stands
 leaf_ended within left String text after h stands = ended_plain String (respell String text) after (respelled_text String text h.0) refl stands
 leaf_ended within left Newline text after h stands = absurd (false≢true h.1)
 leaf_ended within left Comment text after h stands = absurd (false≢true h.1)

@@ -1,7 +1,7 @@
 -- The first token of tokens whose lexemes are known.
 use Rattle.std.proofs.Common.{◌≡◌, ℕ, ◌&&◌, List, [], ◌∷◌, Bool, true, false, Option, None, refl, sym, ap, ◌∙◌}
 use Rattle.std.proofs.lemmas.Bool.{false≢true}
-use Rattle.bz_token.specs.Ends.{is_note}
+use Rattle.bz_token.specs.Ends.{is_comment_kind}
 use Rattle.bz_token.specs.Places.{Placed}
 use Rattle.bz_tree.specs.Owners.{is_filled, Last, no_token, is_on as is_on_line}
 use Rattle.bz_layout_laws.specs.Lexemes.{Lexeme, end_after, is_on, lexemes_from}
@@ -24,13 +24,13 @@ pub record First (last : Option ℕ) (ts : List Placed) (l : Lexeme) (ls : List 
   pub fresh : Bool
   pub others : List Placed
   pub are : ts ≡ placed_at l line col fresh ∷ others
-  pub beside : (is_note l.kind && is_on last line) ≡ l.beside
+  pub beside : (is_comment_kind l.kind && is_on last line) ≡ l.beside
   pub rest : lexemes_from (end_after (placed_at l line col fresh)) others ≡ ls
 
 pub take_first : (last : Option ℕ) (ts : List Placed) (l : Lexeme) (ls : List Lexeme) → lexemes_from last ts ≡ l ∷ ls → First last ts l ls
 take_first last [] l ls h = absurd (false≢true (ap is_filled h))
 take_first last (t ∷ ts) l ls h =
-    let first : record { kind = t.kind; text = t.text; beside = is_note t.kind && is_on last t.line } ≡ l = ap (head_or l) h in
+    let first : record { kind = t.kind; text = t.text; beside = is_comment_kind t.kind && is_on last t.line } ≡ l = ap (head_or l) h in
     let same : t ≡ placed_at l t.line t.col t.fresh = λ i. record { kind = (first i).kind; text = (first i).text; line = t.line; col = t.col; fresh = t.fresh } in
     record {
       line = t.line;
@@ -38,7 +38,7 @@ take_first last (t ∷ ts) l ls h =
       fresh = t.fresh;
       others = ts;
       are = ap (λ x. x ∷ ts) same;
-      beside = ap (λ x. is_note x.kind && is_on last t.line) (sym same) ∙ ap (λ x. x.beside) first;
+      beside = ap (λ x. is_comment_kind x.kind && is_on last t.line) (sym same) ∙ ap (λ x. x.beside) first;
       rest = ap (λ x. lexemes_from (end_after x) ts) (sym same) ∙ ap rest_of h;
     }
 
@@ -54,7 +54,7 @@ begins_beside (l ∷ ls) = l.beside
 pub from_none : (last : Option ℕ) (ts : List Placed) (ls : List Lexeme) → lexemes_from last ts ≡ ls → begins_beside ls ≡ false → lexemes_from None ts ≡ ls
 from_none last [] ls h none = h
 from_none last (t ∷ ts) ls h none =
-    ap (λ b. record { kind = t.kind; text = t.text; beside = b } ∷ lexemes_from (end_after t) ts) (not_on (is_note t.kind) ∙ sym (ap begins_beside h ∙ none)) ∙ h
+    ap (λ b. record { kind = t.kind; text = t.text; beside = b } ∷ lexemes_from (end_after t) ts) (not_on (is_comment_kind t.kind) ∙ sym (ap begins_beside h ∙ none)) ∙ h
   where
     not_on : (b : Bool) → (b && false) ≡ false
     not_on true = refl

@@ -5,7 +5,7 @@ use Rattle.std.specs.List.{list_all}
 use Rattle.std.proofs.lemmas.Bool.{and_parts}
 use Rattle.bz_token.specs.declared.token.Kind.{Kind}
 use Rattle.bz_token.specs.declared.token.Kind.TheVariants.{Operator, Newline, Comment}
-use Rattle.bz_token.specs.Lexical.{signs, is_text, is_comment}
+use Rattle.bz_token.specs.Lexical.{operators, is_text, is_comment}
 use Rattle.bz_token_laws.specs.Readable.{are_texts}
 use Rattle.bz_tree.specs.declared.stmt.GroupKind.{GroupKind}
 use Rattle.bz_tree.specs.declared.stmt.GroupKind.TheVariants.{Call}
@@ -56,16 +56,16 @@ whole_piece : (gap : Gap) (kind : Kind) (text : List ℕ) → is_text kind text 
 whole_piece gap kind text h = whole (both (is_text kind text) true h refl)
 
 pub comma_text : is_text Operator (codes ",") ≡ true
-unfolding signs
+unfolding operators
 comma_text = refl
 
 pub opening_text : (kind : GroupKind) → is_text Operator (opening kind) ≡ true
-unfolding signs
+unfolding operators
 opening_text Call = refl
 opening_text _ = refl
 
 pub closing_text : (kind : GroupKind) → is_text Operator (closing kind) ≡ true
-unfolding signs
+unfolding operators
 closing_text Call = refl
 closing_text _ = refl
 
@@ -73,11 +73,11 @@ comma_whole : (b : Bool) → AreWhole (comma_if b)
 comma_whole true = whole_piece Closed Operator (codes ",") comma_text
 comma_whole false = whole refl
 
-notes_whole : (level : ℕ) (texts : List (List ℕ)) → AreComments texts → AreWhole (comments level texts)
-notes_whole level [] h = whole refl
-notes_whole level (text ∷ texts) h =
+comments_whole : (level : ℕ) (texts : List (List ℕ)) → AreComments texts → AreWhole (comments level texts)
+comments_whole level [] h = whole refl
+comments_whole level (text ∷ texts) h =
     let p = and_parts (is_comment text) (list_all is_comment texts) h in
-    whole_more (Line level) Comment text p.0 (notes_whole level texts p.1)
+    whole_more (Line level) Comment text p.0 (comments_whole level texts p.1)
 
 suffix_whole : (suffix : Option (List ℕ)) → AreComments (beside suffix) → AreWhole (suffix_piece suffix)
 suffix_whole None h = whole refl
@@ -98,7 +98,7 @@ mutual
       let close : List Piece = piece Closed Operator (closing kind) ∷ [] in
       whole_more gap Operator (opening kind) (opening_text kind)
       (either_way AreWhole (breaks style (is_broken kind segs end (segs_hold segs))) (broken_segs style (level + 1) kind comma segs ++ (comments (level + 1) end ++ last)) (flat_segs style level kind true segs ++ (comma_if one_comma ++ close))
-      (whole_join (broken_whole style (level + 1) kind comma segs h.0) (whole_join (notes_whole (level + 1) end h.1) (whole_piece (Line level) Operator (closing kind) (closing_text kind))))
+      (whole_join (broken_whole style (level + 1) kind comma segs h.0) (whole_join (comments_whole (level + 1) end h.1) (whole_piece (Line level) Operator (closing kind) (closing_text kind))))
       (whole_join (flat_whole style level kind true segs h.0) (whole_join (comma_whole one_comma) (whole_piece Closed Operator (closing kind) (closing_text kind)))))
 
   items_whole : (style : Style) (level : ℕ) (within : Option GroupKind) (first : Gap) (left : Edge) (xs : Items) → AreLegible within left xs → AreWhole (items_pieces style level within first left xs)
@@ -109,7 +109,7 @@ mutual
   broken_whole : (style : Style) (level : ℕ) (kind : GroupKind) (comma : Bool) (ss : Segs) → AreLegibleSegs kind ss → AreWhole (broken_segs style level kind comma ss)
   broken_whole style level kind comma no_segs h = whole refl
   broken_whole style level kind comma (seg before nodes suffix ss) h =
-      whole_join (notes_whole level before h.0)
+      whole_join (comments_whole level before h.0)
       (whole_join (items_whole style level (Some kind) (Line level) Start nodes h.2)
       (whole_join (comma_whole comma) (whole_join (suffix_whole suffix h.3) (broken_whole style level kind comma ss h.4))))
 

@@ -12,13 +12,13 @@ use Rattle.bz_token.specs.Reading.{AreTokensOf}
 use Rattle.bz_token_laws.proofs.Deeper.{tokens_are_texts}
 use Rattle.bz_token.proofs.Quiet.{both}
 use Rattle.bz_tree.specs.declared.kinds.Mark.{Mark}
-use Rattle.bz_tree.specs.declared.kinds.Mark.TheVariants.{Open, Close, Comma, Comment, NewLine, Plain}
+use Rattle.bz_tree.specs.declared.kinds.Mark.TheVariants.{Open, Close, Comma, Comment, Newline, Plain}
 use Rattle.bz_tree.specs.declared.kinds.Preceding.{Preceding}
 use Rattle.bz_tree.specs.declared.kinds.Preceding.TheVariants.{Other}
 use Rattle.bz_tree.specs.declared.kinds.Shape.TheVariants.{Round, Square, Curly}
 use Rattle.bz_tree.specs.Brackets.{Elem, single, bracket, Elems, no_elems, elem, elem_tokens, elems_tokens, own_items, own_of, preceding, elems_own, has_for, is_single, is_line, without_lines, AreWell, end_line}
 use Rattle.bz_tree.specs.Comments.{beside}
-use Rattle.bz_tree.specs.Kinds.{mark_of, kind_mark, sign_mark, group_kind, is_one}
+use Rattle.bz_tree.specs.Kinds.{mark_of, kind_mark, operator_mark, group_kind, is_one}
 use Rattle.bz_tree.specs.Owners.{Own, Last, no_token, end_of_node, end_of_comma, entries_of, inside}
 use Rattle.bz_tree.specs.Statement.{is_rule, rule_call, one_segment, class_of, IsStatementOf}
 use Rattle.bz_tree.specs.Tree.{Item, leaf, group, Items, no_items, item, Segs, no_segs, seg, Segment, Statement, items_of, segs_of}
@@ -73,8 +73,8 @@ abbrev pub is_comment_mark : Mark → Bool
 is_comment_mark Comment = true
 is_comment_mark _ = false
 
-pub sign_comment : (text : List ℕ) → is_comment_mark (sign_mark text) ≡ false
-sign_comment text = by (bytes_eq text (codes "(")) (bytes_eq text (codes "[")) (bytes_eq text (codes "{")) (bytes_eq text (codes ")")) (bytes_eq text (codes "]")) (bytes_eq text (codes "}")) (bytes_eq text (codes ","))
+pub operator_comment : (text : List ℕ) → is_comment_mark (operator_mark text) ≡ false
+operator_comment text = by (bytes_eq text (codes "(")) (bytes_eq text (codes "[")) (bytes_eq text (codes "{")) (bytes_eq text (codes ")")) (bytes_eq text (codes "]")) (bytes_eq text (codes "}")) (bytes_eq text (codes ","))
   where
     by : (a b c d e f g : Bool) → is_comment_mark (if a then Open Round else (if b then Open Square else (if c then Open Curly else (if d then Close Round else (if e then Close Square else (if f then Close Curly else (if g then Comma else Plain))))))) ≡ false
     by true b c d e f g = refl
@@ -86,23 +86,23 @@ sign_comment text = by (bytes_eq text (codes "(")) (bytes_eq text (codes "[")) (
     by false false false false false false true = refl
     by false false false false false false false = refl
 
-pub note_text : (kind : Kind) (text : List ℕ) → kind_mark kind text ≡ Comment → is_text kind text ≡ true → is_comment text ≡ true
-note_text CommentToken text e is = is
-note_text Operator text e is = absurd (false≢true (sym (sign_comment text) ∙ ap is_comment_mark e))
-note_text _ text e is = absurd (false≢true (ap is_comment_mark e))
+pub comment_text : (kind : Kind) (text : List ℕ) → kind_mark kind text ≡ Comment → is_text kind text ≡ true → is_comment text ≡ true
+comment_text CommentToken text e is = is
+comment_text Operator text e is = absurd (false≢true (sym (operator_comment text) ∙ ap is_comment_mark e))
+comment_text _ text e is = absurd (false≢true (ap is_comment_mark e))
 
 -- one more token
 more_texts : (one : Bool) (at : Last) (m : Mark) (t : Placed) (owns : List Own) → mark_of t ≡ m → is_single m ≡ true → is_token_text t ≡ true → ((last : Last) → Each HasText is_comment (entries_of last (own_items one owns)))
     → Each HasText is_comment (entries_of at (own_items one (own_of m t ∷ owns)))
 more_texts true at Comma t owns e ok is rest = ((is, ap is_leaf_mark e), rest (end_of_node t.line))
 more_texts false at Comma t owns e ok is rest = rest (end_of_comma t.line)
-more_texts true at Comment t owns e ok is rest = (note_text t.kind t.text e is, rest no_token)
-more_texts false at Comment t owns e ok is rest = (note_text t.kind t.text e is, rest no_token)
+more_texts true at Comment t owns e ok is rest = (comment_text t.kind t.text e is, rest no_token)
+more_texts false at Comment t owns e ok is rest = (comment_text t.kind t.text e is, rest no_token)
 more_texts true at Plain t owns e ok is rest = ((is, ap is_leaf_mark e), rest (end_of_node (end_line t)))
 more_texts false at Plain t owns e ok is rest = ((is, ap is_leaf_mark e), rest (end_of_node (end_line t)))
 more_texts one at (Open shape) t owns e ok is rest = absurd (false≢true ok)
 more_texts one at (Close shape) t owns e ok is rest = absurd (false≢true ok)
-more_texts one at NewLine t owns e ok is rest = absurd (false≢true ok)
+more_texts one at Newline t owns e ok is rest = absurd (false≢true ok)
 
 nodes_texts : (xs : Items) → EachNode HasText xs → HaveTexts xs
 nodes_texts no_items h = tt

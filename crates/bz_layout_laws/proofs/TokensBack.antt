@@ -11,7 +11,7 @@ use Rattle.bz_token.proofs.OneFault.{one_tokens}
 use Rattle.bz_token_laws.specs.Readable.{are_texts, are_ended, are_fitting}
 use Rattle.bz_token_laws.proofs.GapLines.{line_stays, last_line_of}
 use Rattle.bz_token_laws.proofs.Readable.{laid_lines}
-use Rattle.bz_token.specs.Ends.{is_note}
+use Rattle.bz_token.specs.Ends.{is_comment_kind}
 use Rattle.bz_tree.specs.Statement.{is_aside}
 use Rattle.bz_tree.specs.Tree.{Statement, items_of}
 use Rattle.bz_layout.specs.declared.spacing.Edge.TheVariants.{Start}
@@ -42,8 +42,8 @@ pieces_read first before lines token (p ∷ ps) h =
     let rest = pieces_read first next (line ∷ lines) (not (is_aside p.kind)) ps h.1 in
     λ i. record { kind = p.kind; text = p.text; beside = (beside_is token ∙ h.0) i } ∷ (ap (λ last. lexemes_from last (tokens_of first next (line ∷ lines) (read_pieces ps))) (ends_is (is_aside p.kind)) ∙ rest) i
   where
-    beside_is : (token : Bool) → (is_note p.kind && is_on (ended_on token (line_at first before)) (line_at first (before ++ gap_bytes p.gap))) ≡ is_beside token p
-    beside_is true = ap (λ b. is_note p.kind && b) (line_stays first before (gap_bytes p.gap))
+    beside_is : (token : Bool) → (is_comment_kind p.kind && is_on (ended_on token (line_at first before)) (line_at first (before ++ gap_bytes p.gap))) ≡ is_beside token p
+    beside_is true = ap (λ b. is_comment_kind p.kind && b) (line_stays first before (gap_bytes p.gap))
     beside_is false = refl
 
     end_is : line_at first (before ++ gap_bytes p.gap) + count_by (λ b. b == 10) p.text ≡ line_at first (before ++ (gap_bytes p.gap ++ p.text))

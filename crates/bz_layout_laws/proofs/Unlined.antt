@@ -7,7 +7,7 @@ use Rattle.std.proofs.lemmas.Bool.{false≢true, and_parts, or_parts, or_cases}
 use Rattle.bz_token.specs.declared.token.Kind.{Kind}
 use Rattle.bz_token.specs.declared.token.Kind.TheVariants.{Operator, Newline, Comment}
 use Rattle.bz_token.specs.Brackets.{is_line}
-use Rattle.bz_token.specs.Ends.{is_note}
+use Rattle.bz_token.specs.Ends.{is_comment_kind}
 use Rattle.bz_token.specs.Places.{Placed}
 use Rattle.bz_token.specs.TokenLines.{is_newline_piece}
 use Rattle.bz_tree.specs.Brackets.{is_line as is_line_mark, without_lines, end_line}
@@ -24,7 +24,7 @@ use Rattle.bz_layout.specs.Pieces.{Piece}
 use Rattle.bz_layout.specs.Layout.{items_pieces, is_comment}
 use Rattle.bz_layout_laws.specs.Inside.{without_newlines}
 use Rattle.bz_layout_laws.specs.Legible.{IsLegible}
-use Rattle.bz_layout_laws.specs.Lexemes.{Lexeme, lexeme, end_after, is_on, lexemes_from, token_lexemes, suffix_lexemes, items_lexemes, note_lines, line_lexemes, lexemes_of}
+use Rattle.bz_layout_laws.specs.Lexemes.{Lexeme, lexeme, end_after, is_on, lexemes_from, token_lexemes, suffix_lexemes, items_lexemes, comment_line_lexemes, line_lexemes, lexemes_of}
 use Rattle.bz_layout_laws.specs.ReadPieces.{piece_lexemes, read_pieces}
 use Rattle.bz_layout_laws.proofs.NoLines.{items_no_line}
 use Rattle.bz_layout_laws.proofs.Pieces.{items_pieces_are}
@@ -35,7 +35,7 @@ abbrev newlines_end : Bool → List Lexeme → Bool
 newlines_end aside [] = true
 newlines_end aside (l ∷ ls) = (if is_line l.kind then aside || not (is_filled ls) else true) && newlines_end (is_aside l.kind) ls
 
--- no sign is a newline
+-- no operator is a newline
 no_line : (a b c d e f g : Bool) → is_line_mark (if a then Open Round else (if b then Open Square else (if c then Open Curly else (if d then Close Round else (if e then Close Square else (if f then Close Curly else (if g then Comma else Plain))))))) ≡ false
 no_line true b c d e f g = refl
 no_line false true c d e f g = refl
@@ -64,7 +64,7 @@ nothing_there (x ∷ xs) h = absurd (false≢true h)
 
 -- as `lexemes_from` has it
 abbrev lexeme_at : Option ℕ → Placed → Lexeme
-lexeme_at last t = record { kind = t.kind; text = t.text; beside = is_note t.kind && is_on last t.line }
+lexeme_at last t = record { kind = t.kind; text = t.text; beside = is_comment_kind t.kind && is_on last t.line }
 
 unlined : (aside : Bool) (last : Option ℕ) (ts : List Placed) → (aside ≡ true → last ≡ None) → newlines_end aside (lexemes_from last ts) ≡ true → lexemes_from last (without_lines ts) ≡ without_newlines (lexemes_from last ts)
 unlined aside last [] none h = refl
@@ -103,7 +103,7 @@ newline_last None true = refl
 newline_last None false = refl
 newline_last (Some text) aside = refl
 
-above_end : (texts : List (List ℕ)) (rest : List Lexeme) (aside : Bool) → ((a : Bool) → newlines_end a rest ≡ true) → newlines_end aside (note_lines texts ++ rest) ≡ true
+above_end : (texts : List (List ℕ)) (rest : List Lexeme) (aside : Bool) → ((a : Bool) → newlines_end a rest ≡ true) → newlines_end aside (comment_line_lexemes texts ++ rest) ≡ true
 above_end [] rest aside h = h aside
 above_end (text ∷ texts) rest aside h = above_end texts rest true h
 

@@ -8,7 +8,7 @@ use Rattle.bz_token.specs.Places.{Placed}
 use Rattle.bz_token.specs.Reading.{AreTokensOf}
 use Rattle.bz_token.proofs.Quiet.{both}
 use Rattle.bz_tree.specs.declared.kinds.Mark.{Mark}
-use Rattle.bz_tree.specs.declared.kinds.Mark.TheVariants.{Open, Close, Comma, Comment, NewLine, Plain}
+use Rattle.bz_tree.specs.declared.kinds.Mark.TheVariants.{Open, Close, Comma, Comment, Newline, Plain}
 use Rattle.bz_tree.specs.declared.kinds.Preceding.{Preceding}
 use Rattle.bz_tree.specs.declared.kinds.Preceding.TheVariants.{Other}
 use Rattle.bz_tree.specs.Brackets.{single, bracket, Elems, no_elems, elem, own_items, own_of, preceding, elems_own, has_for, is_single, AreWell, end_line}
@@ -39,7 +39,7 @@ more_passes q true at Plain t owns e ok is rest = (is, rest (end_of_node (end_li
 more_passes q false at Plain t owns e ok is rest = (is, rest (end_of_node (end_line t)))
 more_passes q one at (Open shape) t owns e ok is rest = absurd (false≢true ok)
 more_passes q one at (Close shape) t owns e ok is rest = absurd (false≢true ok)
-more_passes q one at NewLine t owns e ok is rest = absurd (false≢true ok)
+more_passes q one at Newline t owns e ok is rest = absurd (false≢true ok)
 
 nodes_pass : (q : List ℕ → Bool) (xs : Items) → EachNode (Passes q) xs → items_pass q xs ≡ true
 nodes_pass q no_items h = refl

@@ -21,7 +21,7 @@ use Rattle.bz_layout.specs.Layout.{opening, closing, has_commas, is_comment, lay
 use Rattle.bz_layout.specs.Pieces.{Piece, indent, gap_bytes, bytes_of}
 use Rattle.bz_layout.specs.Respell.{is_plain, content, is_single, respell}
 use Rattle.bz_layout_laws.specs.EachText.{item_passes, items_pass, segs_pass, HasUtf8}
-use Rattle.bz_layout_laws.specs.Lexemes.{Lexeme, lexeme, notes, suffix_lexemes, comma_lexemes, item_lexemes, items_lexemes, ended_lexemes, separated_lexemes, note_lines, line_lexemes, lexemes_of}
+use Rattle.bz_layout_laws.specs.Lexemes.{Lexeme, lexeme, comment_lexemes, suffix_lexemes, comma_lexemes, item_lexemes, items_lexemes, ended_lexemes, separated_lexemes, comment_line_lexemes, line_lexemes, lexemes_of}
 use Rattle.bz_layout_laws.specs.ReadPieces.{piece_lexemes}
 use Rattle.bz_layout_laws.proofs.Pieces.{layout_lexemes}
 use Rattle.bz_layout_laws.proofs.Utf8Tokens.{cut_low}
@@ -88,9 +88,9 @@ comma_utf8 false = refl
 newline_utf8 : is_utf8 (codes "\n") ≡ true
 newline_utf8 = ascii_utf8 10 (omega arith)
 
-notes_utf8 : (texts : List (List ℕ)) → list_all is_utf8 texts ≡ true → AreUtf8 (notes texts)
-notes_utf8 [] h = refl
-notes_utf8 (text ∷ texts) h = let p = and_parts (is_utf8 text) (list_all is_utf8 texts) h in one_utf8 (lexeme Comment text) (notes texts) p.0 (notes_utf8 texts p.1)
+comments_utf8 : (texts : List (List ℕ)) → list_all is_utf8 texts ≡ true → AreUtf8 (comment_lexemes texts)
+comments_utf8 [] h = refl
+comments_utf8 (text ∷ texts) h = let p = and_parts (is_utf8 text) (list_all is_utf8 texts) h in one_utf8 (lexeme Comment text) (comment_lexemes texts) p.0 (comments_utf8 texts p.1)
 
 suffix_utf8 : (suffix : Option (List ℕ)) → list_all is_utf8 (beside suffix) ≡ true → AreUtf8 (suffix_lexemes suffix)
 suffix_utf8 None h = refl
@@ -117,7 +117,7 @@ mutual
       let close = one_utf8 (lexeme Operator (closing kind)) [] (closing_utf8 kind) refl in
       one_utf8 (lexeme Operator (opening kind)) _ (opening_utf8 kind)
       (either_utf8 (is_broken kind segs end (segs_hold segs)) _ _
-      (join_utf8 (ended_lexemes (has_commas kind one_comma (count segs)) segs) _ (ended_utf8 (has_commas kind one_comma (count segs)) segs p.0) (join_utf8 (notes end) _ (notes_utf8 end p.1) close))
+      (join_utf8 (ended_lexemes (has_commas kind one_comma (count segs)) segs) _ (ended_utf8 (has_commas kind one_comma (count segs)) segs p.0) (join_utf8 (comment_lexemes end) _ (comments_utf8 end p.1) close))
       (join_utf8 (separated_lexemes true segs) _ (separated_utf8 true segs p.0) (join_utf8 (comma_lexemes one_comma) _ (comma_utf8 one_comma) close)))
 
   items_utf8 : (xs : Items) → items_pass is_utf8 xs ≡ true → AreUtf8 (items_lexemes xs)
@@ -128,7 +128,7 @@ mutual
   ended_utf8 comma no_segs h = refl
   ended_utf8 comma (seg before nodes suffix ss) h =
       let p = segs_parts before nodes suffix ss h in
-      join_utf8 (notes before) _ (notes_utf8 before p.0)
+      join_utf8 (comment_lexemes before) _ (comments_utf8 before p.0)
       (join_utf8 (items_lexemes nodes) _ (items_utf8 nodes p.1)
       (join_utf8 (comma_lexemes comma) _ (comma_utf8 comma) (join_utf8 (suffix_lexemes suffix) _ (suffix_utf8 suffix p.2) (ended_utf8 comma ss p.3))))
 
@@ -141,17 +141,17 @@ mutual
       let p = segs_parts before nodes suffix ss h in
       join_utf8 (lexeme Operator (codes ",") ∷ items_lexemes nodes) _ (one_utf8 (lexeme Operator (codes ",")) (items_lexemes nodes) (ascii_utf8 44 (omega arith)) (items_utf8 nodes p.1)) (separated_utf8 false ss p.3)
 
-lines_utf8 : (texts : List (List ℕ)) → list_all is_utf8 texts ≡ true → AreUtf8 (note_lines texts)
+lines_utf8 : (texts : List (List ℕ)) → list_all is_utf8 texts ≡ true → AreUtf8 (comment_line_lexemes texts)
 lines_utf8 [] h = refl
 lines_utf8 (text ∷ texts) h =
     let p = and_parts (is_utf8 text) (list_all is_utf8 texts) h in
-    one_utf8 (lexeme Comment text) (lexeme Newline (codes "\n") ∷ note_lines texts) p.0 (one_utf8 (lexeme Newline (codes "\n")) (note_lines texts) newline_utf8 (lines_utf8 texts p.1))
+    one_utf8 (lexeme Comment text) (lexeme Newline (codes "\n") ∷ comment_line_lexemes texts) p.0 (one_utf8 (lexeme Newline (codes "\n")) (comment_line_lexemes texts) newline_utf8 (lines_utf8 texts p.1))
 
 statement_utf8 : (s : Statement) → HasUtf8 s → AreUtf8 (lexemes_of s)
 statement_utf8 s h =
     let a = and_parts (list_all is_utf8 s.before && items_pass is_utf8 (items_of s.nodes)) (list_all is_utf8 (beside s.suffix)) h in
     let b = and_parts (list_all is_utf8 s.before) (items_pass is_utf8 (items_of s.nodes)) a.0 in
-    join_utf8 (note_lines s.before) _ (lines_utf8 s.before b.0)
+    join_utf8 (comment_line_lexemes s.before) _ (lines_utf8 s.before b.0)
     (either_utf8 (is_comment s.class) [] (line_lexemes s) refl
     (join_utf8 (items_lexemes (items_of s.nodes)) _ (items_utf8 (items_of s.nodes) b.1)
     (join_utf8 (suffix_lexemes s.suffix) (lexeme Newline (codes "\n") ∷ []) (suffix_utf8 s.suffix a.1) (one_utf8 (lexeme Newline (codes "\n")) [] newline_utf8 refl))))

@@ -1,10 +1,10 @@
--- A statement in which signs stand beside each other is well-formed.
+-- A statement in which operators stand beside each other is well-formed.
 use Rattle.std.proofs.Common.{◌≡◌, ℕ, ◌≤◌, List, [], ◌∷◌, true, false, refl, sym, ap, arith}
 use Rattle.std.specs.Prelude.{codes}
 use Rattle.std.specs.Prelude.Option.{None}
 use Rattle.std.proofs.lemmas.Bool.{false≢true}
 use Rattle.bz_token.specs.declared.token.Kind.TheVariants.{Identifier, Keyword, Integer, Operator}
-use Rattle.bz_token.specs.Lexical.{keywords, signs}
+use Rattle.bz_token.specs.Lexical.{keywords, operators}
 use Rattle.bz_tree.specs.declared.stmt.GroupKind.TheVariants.{RuleCall, Call, Index}
 use Rattle.bz_tree.specs.declared.stmt.Class.TheVariants.{Rule}
 use Rattle.bz_tree.specs.declared.kinds.Shape.TheVariants.{Round, Square}
@@ -21,8 +21,8 @@ use Rattle.bz_layout_laws.specs.Parsed.{IsParsed}
 use Rattle.bz_layout_laws.specs.TextsOfKinds.{HasTexts}
 use Rattle.bz_layout_laws.specs.WellFormed.{IsWellFormed}
 
-abbrev sign : List ℕ → Item
-sign text = leaf Operator text
+abbrev operator : List ℕ → Item
+operator text = leaf Operator text
 
 abbrev name : List ℕ → Item
 name text = leaf Identifier text
@@ -32,11 +32,11 @@ one nodes = record { before = []; nodes = nodes; suffix = None }
 
 -- `::-1`
 abbrev range : Segs
-range = segs_of (one (sign (codes ":") ∷ sign (codes ":") ∷ sign (codes "-") ∷ leaf Integer (codes "1") ∷ []) ∷ [])
+range = segs_of (one (operator (codes ":") ∷ operator (codes ":") ∷ operator (codes "-") ∷ leaf Integer (codes "1") ∷ []) ∷ [])
 
 -- `*x[::-1]`
 abbrev arguments : Segs
-arguments = segs_of (one (sign (codes "*") ∷ name (codes "x") ∷ group Index range false [] ∷ []) ∷ [])
+arguments = segs_of (one (operator (codes "*") ∷ name (codes "x") ∷ group Index range false [] ∷ []) ∷ [])
 
 -- `f(*x[::-1])`
 abbrev example : Statement
@@ -46,7 +46,7 @@ written : layout_text example ≡ codes "f(*x[::-1])\n"
 written = refl
 
 texts : HasTexts example
-unfolding keywords signs
+unfolding keywords operators
 texts = record {
   some = λ e. refl;
   before = refl;
@@ -104,14 +104,14 @@ two_deep = omega (arith)
 formed : IsWellFormed 2 example
 formed = record { texts = texts; parsed = parsed; grammar = in_grammar; depth_fits = two_deep }
 
--- `-` and `=` after it would be read as one sign, and are not in the grammar
-abbrev one_sign : Items
-one_sign = items_of (sign (codes "-") ∷ sign (codes "=") ∷ name (codes "x") ∷ [])
+-- `-` and `=` after it would be read as one operator, and are not in the grammar
+abbrev one_operator : Items
+one_operator = items_of (operator (codes "-") ∷ operator (codes "=") ∷ name (codes "x") ∷ [])
 
-may_not_follow : MayFollow None Start one_sign → ⊥
+may_not_follow : MayFollow None Start one_operator → ⊥
 may_not_follow h = false≢true h.2.0
 
-not_in_grammar : IsStatement one_sign → ⊥
+not_in_grammar : IsStatement one_operator → ⊥
 not_in_grammar h = false≢true (statement_accepted h)
 
 -- nor is what begins with a block's word

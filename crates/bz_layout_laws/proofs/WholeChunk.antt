@@ -10,7 +10,7 @@ use Rattle.bz_token.specs.Blocks.{opener_of, opener}
 use Rattle.bz_token.specs.Brackets.{is_inside, is_line}
 use Rattle.bz_token.specs.Chunks.{chunks}
 use Rattle.bz_token.specs.Cuts.{IsChunk}
-use Rattle.bz_token.specs.Ends.{is_note, ends}
+use Rattle.bz_token.specs.Ends.{is_comment_kind, ends}
 use Rattle.bz_token.specs.Lexical.{is_text}
 use Rattle.bz_token.specs.LogicalLines.{lines}
 use Rattle.bz_token.specs.Reading.{Piece as ReadPiece, is_gap, open_after, bytes_of as bytes_read}
@@ -79,18 +79,18 @@ is_none None h = refl
 is_none (Some word) h = absurd (false≢true (sym h))
 
 -- a line whose first piece is another token than these, and begins no block
-first_piece : (kind : Kind) (text : List ℕ) (ps : List ReadPiece) → is_line kind ≡ false → is_note kind ≡ false → opener_of text ≡ None → are_texts (record { gap = []; kind = kind; text = text } ∷ ps) ≡ true
+first_piece : (kind : Kind) (text : List ℕ) (ps : List ReadPiece) → is_line kind ≡ false → is_comment_kind kind ≡ false → opener_of text ≡ None → are_texts (record { gap = []; kind = kind; text = text } ∷ ps) ≡ true
     → are_ended (record { gap = []; kind = kind; text = text } ∷ ps) [] ≡ true → ends_chunk (line_of (record { gap = []; kind = kind; text = text } ∷ ps) []) ≡ true
-first_piece kind text ps line note none texts ended =
+first_piece kind text ps line comment none texts ended =
     let is = (and_parts (is_text kind text) (are_texts ps) texts).0 in
     let ends_here = (and_parts (ends kind text (bytes_read ps ++ [])) (are_ended ps []) ended).0 in
     let token = token_ended kind text (bytes_read ps ++ []) is ends_here in
     let no = ap opener (append_assoc text (bytes_read ps) []) ∙ no_block kind text (bytes_read ps ++ []) token line none in
-    rw (line, note) (ap (λ o. not (is_some o)) no)
+    rw (line, comment) (ap (λ o. not (is_some o)) no)
 
-leaf_note : (kind : Kind) (text : List ℕ) → IsLegibleItem (leaf kind text) → is_note kind ≡ false
-leaf_note Comment text h = absurd (false≢true h.1)
-leaf_note _ text h = refl
+leaf_comment : (kind : Kind) (text : List ℕ) → IsLegibleItem (leaf kind text) → is_comment_kind kind ≡ false
+leaf_comment Comment text h = absurd (false≢true h.1)
+leaf_comment _ text h = refl
 
 abbrev tail_of : List Piece → List Piece
 tail_of [] = []
@@ -104,21 +104,21 @@ nodes_end : (xs : Items) (ps : List Piece) → are_some xs ≡ true → AreLegib
     → ends_chunk (line_of (read_pieces (nodes_of xs ++ ps)) []) ≡ true
 nodes_end no_items ps some h none texts ended = absurd (false≢true some)
 nodes_end (item (leaf kind text) xs) ps some h none texts ended =
-    first_piece kind (respell kind text) (read_pieces (tail_of (nodes_of (item (leaf kind text) xs) ++ ps))) (leaf_line kind text h.1.1) (leaf_note kind text h.1) (spelled_opener kind text (is_none (opener_of text) none)) texts ended
+    first_piece kind (respell kind text) (read_pieces (tail_of (nodes_of (item (leaf kind text) xs) ++ ps))) (leaf_line kind text h.1.1) (leaf_comment kind text h.1) (spelled_opener kind text (is_none (opener_of text) none)) texts ended
 nodes_end (item (group kind segs one_comma end) xs) ps some h none texts ended =
     first_piece Operator (opening kind) (read_pieces (tail_of (nodes_of (item (group kind segs one_comma end) xs) ++ ps))) refl refl (opening_opener kind) texts ended
 
 pub statement_chunked : (s : Statement) → IsLegible s → is_comment s.class ≡ false → begins_block (items_of s.nodes) ≡ false → IsChunk (layout_text s)
 statement_chunked s h class none =
     let last = line_of (read_pieces (statement_line s)) [] in
-    let notes = lines_of (read_pieces (comment_lines s.before)) [] in
+    let comments = lines_of (read_pieces (comment_lines s.before)) [] in
     let parts : read_pieces (layout s) ≡ read_pieces (comment_lines s.before) ++ read_pieces (statement_line s) =
     ap (λ b. read_pieces (comment_lines s.before ++ (if b then [] else statement_line s))) class ∙ map-append read_piece (comment_lines s.before) (statement_line s) in
-    let are : lines (layout_text s) ≡ notes ++ last ∷ [] =
-    text_lines s h ∙ ap (λ ps. lines_of ps []) parts ∙ lines_of_join (read_pieces (comment_lines s.before)) (read_pieces (statement_line s)) [] (comments_end s.before) ∙ ap (λ ls. notes ++ ls) (line_is_one s h) in
+    let are : lines (layout_text s) ≡ comments ++ last ∷ [] =
+    text_lines s h ∙ ap (λ ps. lines_of ps []) parts ∙ lines_of_join (read_pieces (comment_lines s.before)) (read_pieces (statement_line s)) [] (comments_end s.before) ∙ ap (λ ls. comments ++ ls) (line_is_one s h) in
     let ends : ends_chunk last ≡ true =
     nodes_end (items_of s.nodes) (suffix_piece s.suffix ++ piece Closed Newline (codes "\n") ∷ []) (h.some class) h.nodes none (line_whole s h).texts (line_ended s [] h).ended in
-    statement_chunk 1 (depth_of s) (layout_text s) (tokens_back 1 s) notes last (read_lines 1 (depth_of s) s h (omega arith)) are (comments_are s.before) ends
+    statement_chunk 1 (depth_of s) (layout_text s) (tokens_back 1 s) comments last (read_lines 1 (depth_of s) s h (omega arith)) are (comments_are s.before) ends
 
 pub comments_chunked : (s : Statement) (text : List ℕ) (texts : List (List ℕ)) → IsLegible s → is_comment s.class ≡ true → s.before ≡ text ∷ texts → chunks (layout_text s) ≡ layout_text s ∷ []
 comments_chunked s text texts h class e =

@@ -12,7 +12,7 @@ use Rattle.bz_tree.specs.Tree.{group, Items, no_items, item, Segs, no_segs, seg,
 use Rattle.bz_tree_laws.specs.Written.{own_lines, suffix_entry, written_entries}
 use Rattle.bz_layout.specs.Broken.{count, has_some, have_comments, breaks_by_count, is_broken, segs_hold}
 use Rattle.bz_layout.specs.Layout.{opening, closing, has_commas}
-use Rattle.bz_layout_laws.specs.Lexemes.{Lexeme, lexeme, notes, suffix_lexemes, comma_lexemes, item_lexemes, items_lexemes, ended_lexemes, separated_lexemes}
+use Rattle.bz_layout_laws.specs.Lexemes.{Lexeme, lexeme, comment_lexemes, suffix_lexemes, comma_lexemes, item_lexemes, items_lexemes, ended_lexemes, separated_lexemes}
 use Rattle.bz_layout_laws.proofs.Texts.{both}
 use Rattle.bz_layout_laws.specs.Inside.{entry_lexemes, entries_lexemes, has_last_comma, HasShape}
 
@@ -20,7 +20,7 @@ join : (xs ys : List Entry) → entries_lexemes (xs ++ ys) ≡ entries_lexemes x
 join [] ys = refl
 join (x ∷ xs) ys = ap (λ l. entry_lexemes x ++ l) (join xs ys) ∙ sym (append_assoc (entry_lexemes x) (entries_lexemes xs) (entries_lexemes ys))
 
-pub own_lines_are : (texts : List (List ℕ)) → entries_lexemes (own_lines texts) ≡ notes texts
+pub own_lines_are : (texts : List (List ℕ)) → entries_lexemes (own_lines texts) ≡ comment_lexemes texts
 own_lines_are [] = refl
 own_lines_are (text ∷ texts) = ap (λ l. lexeme Comment text ∷ l) (own_lines_are texts)
 
@@ -43,7 +43,7 @@ comma_is false = refl
 abbrev pub segment_entries : List (List ℕ) → Items → Bool → Option (List ℕ) → List Entry → List Entry
 segment_entries before nodes c suffix es = own_lines before ++ (map a_node (list_of nodes) ++ (comma_entry c ++ (suffix_entry suffix ++ es)))
 
-pub segment_is : (before : List (List ℕ)) (nodes : Items) (c : Bool) (suffix : Option (List ℕ)) (es : List Entry) → entries_lexemes (segment_entries before nodes c suffix es) ≡ notes before ++ (items_lexemes nodes ++ (comma_lexemes c ++ (suffix_lexemes suffix ++ entries_lexemes es)))
+pub segment_is : (before : List (List ℕ)) (nodes : Items) (c : Bool) (suffix : Option (List ℕ)) (es : List Entry) → entries_lexemes (segment_entries before nodes c suffix es) ≡ comment_lexemes before ++ (items_lexemes nodes ++ (comma_lexemes c ++ (suffix_lexemes suffix ++ entries_lexemes es)))
 segment_is before nodes c suffix es =
     let a = own_lines before in
     let b = map a_node (list_of nodes) in
@@ -51,14 +51,14 @@ segment_is before nodes c suffix es =
     ∙ rw (join b (comma_entry c ++ (suffix_entry suffix ++ es)), join (comma_entry c) (suffix_entry suffix ++ es), join (suffix_entry suffix) es, own_lines_are before, nodes_are nodes, comma_is c, suffix_is suffix) refl
 
 -- broken over lines, with a comma after each segment
-ended_true : (ss : Segs) (end : List (List ℕ)) → ended_lexemes true ss ++ notes end ≡ entries_lexemes (written_entries true (segments ss) end)
+ended_true : (ss : Segs) (end : List (List ℕ)) → ended_lexemes true ss ++ comment_lexemes end ≡ entries_lexemes (written_entries true (segments ss) end)
 ended_true no_segs end = sym (own_lines_are end)
 ended_true (seg before nodes suffix ss) end =
     let rest = ended_true ss end in
-    spread before nodes suffix (ended_lexemes true ss) (notes end) ∙ ap (λ l. notes before ++ (items_lexemes nodes ++ (comma_lexemes true ++ (suffix_lexemes suffix ++ l)))) rest
+    spread before nodes suffix (ended_lexemes true ss) (comment_lexemes end) ∙ ap (λ l. comment_lexemes before ++ (items_lexemes nodes ++ (comma_lexemes true ++ (suffix_lexemes suffix ++ l)))) rest
     ∙ sym (segment_is before nodes true suffix (written_entries true (segments ss) end))
   where
-    spread : (before : List (List ℕ)) (nodes : Items) (suffix : Option (List ℕ)) (x y : List Lexeme) → (notes before ++ (items_lexemes nodes ++ (comma_lexemes true ++ (suffix_lexemes suffix ++ x)))) ++ y ≡ notes before ++ (items_lexemes nodes ++ (comma_lexemes true ++ (suffix_lexemes suffix ++ (x ++ y))))
+    spread : (before : List (List ℕ)) (nodes : Items) (suffix : Option (List ℕ)) (x y : List Lexeme) → (comment_lexemes before ++ (items_lexemes nodes ++ (comma_lexemes true ++ (suffix_lexemes suffix ++ x)))) ++ y ≡ comment_lexemes before ++ (items_lexemes nodes ++ (comma_lexemes true ++ (suffix_lexemes suffix ++ (x ++ y))))
     spread before nodes suffix x y = simp append_assoc
 
 pub too_many : (n : ℕ) → nat_le (suc (suc n)) 1 ≡ true → ⊥
@@ -68,20 +68,20 @@ none_is_not_one : count no_segs ≡ 1 → ⊥
 none_is_not_one e = omega (arith, e)
 
 -- or with none, where there is one segment at most
-ended_false : (ss : Segs) (end : List (List ℕ)) → nat_le (count ss) 1 ≡ true → ended_lexemes false ss ++ notes end ≡ entries_lexemes (written_entries false (segments ss) end)
+ended_false : (ss : Segs) (end : List (List ℕ)) → nat_le (count ss) 1 ≡ true → ended_lexemes false ss ++ comment_lexemes end ≡ entries_lexemes (written_entries false (segments ss) end)
 ended_false no_segs end h = sym (own_lines_are end)
 ended_false (seg before nodes suffix (seg b n s ss)) end h = absurd (too_many (count ss) h)
 ended_false (seg before nodes suffix no_segs) end h =
-    spread before nodes suffix (notes end) ∙ ap (λ l. notes before ++ (items_lexemes nodes ++ (comma_lexemes false ++ (suffix_lexemes suffix ++ l)))) (sym (own_lines_are end))
+    spread before nodes suffix (comment_lexemes end) ∙ ap (λ l. comment_lexemes before ++ (items_lexemes nodes ++ (comma_lexemes false ++ (suffix_lexemes suffix ++ l)))) (sym (own_lines_are end))
     ∙ sym (segment_is before nodes false suffix (own_lines end))
   where
-    spread : (before : List (List ℕ)) (nodes : Items) (suffix : Option (List ℕ)) (y : List Lexeme) → (notes before ++ (items_lexemes nodes ++ (comma_lexemes false ++ (suffix_lexemes suffix ++ [])))) ++ y ≡ notes before ++ (items_lexemes nodes ++ (comma_lexemes false ++ (suffix_lexemes suffix ++ y)))
+    spread : (before : List (List ℕ)) (nodes : Items) (suffix : Option (List ℕ)) (y : List Lexeme) → (comment_lexemes before ++ (items_lexemes nodes ++ (comma_lexemes false ++ (suffix_lexemes suffix ++ [])))) ++ y ≡ comment_lexemes before ++ (items_lexemes nodes ++ (comma_lexemes false ++ (suffix_lexemes suffix ++ y)))
     spread before nodes suffix y = simp append_assoc
 
 -- on one line
-no_notes : (before : List (List ℕ)) → has_some before ≡ false → notes before ≡ []
-no_notes [] h = refl
-no_notes (text ∷ texts) h = absurd (false≢true (sym h))
+no_comments : (before : List (List ℕ)) → has_some before ≡ false → comment_lexemes before ≡ []
+no_comments [] h = refl
+no_comments (text ∷ texts) h = absurd (false≢true (sym h))
 
 no_suffix : (suffix : Option (List ℕ)) → is_some suffix ≡ false → suffix_lexemes suffix ≡ []
 no_suffix None h = refl
@@ -93,7 +93,7 @@ separated_are no_segs false none some = refl
 separated_are (seg before nodes suffix no_segs) c none some =
     let p = or_parts (has_some before || is_some suffix) false none in
     let q = or_parts (has_some before) (is_some suffix) p.0 in
-    let above = no_notes before q.0 in
+    let above = no_comments before q.0 in
     let aside = no_suffix suffix q.1 in
     ap (λ l. l ++ comma_lexemes c) (append-nil (items_lexemes nodes)) ∙ sym (ap (λ b. entries_lexemes (segment_entries before nodes b suffix [])) (alone c) ∙ segment_is before nodes c suffix [] ∙ rw (above, aside, append-nil (comma_lexemes c)) refl)
   where
@@ -107,7 +107,7 @@ separated_are (seg before nodes suffix (seg b n s ss)) true none some = absurd (
 separated_are (seg before nodes suffix (seg b n s ss)) false none some =
     let p = or_parts (has_some before || is_some suffix) (have_comments (seg b n s ss)) none in
     let q = or_parts (has_some before) (is_some suffix) p.0 in
-    let above = no_notes before q.0 in
+    let above = no_comments before q.0 in
     let aside = no_suffix suffix q.1 in
     let es = written_entries false (segments (seg b n s ss)) [] in
     let rest : separated_lexemes true (seg b n s ss) ++ [] ≡ entries_lexemes es = separated_are (seg b n s ss) false p.1 (λ e. absurd (false≢true e)) in
@@ -128,7 +128,7 @@ few Paren one_comma ss h none = less (count ss) (or_parts one_comma (nat_le 2 (c
     less n h = grind (arith, nat_tests)
 few _ one_comma ss h none = absurd (false≢true (sym none))
 
-ended_are : (kind : GroupKind) (one_comma : Bool) (ss : Segs) (end : List (List ℕ)) → HasShape kind ss one_comma → (c : Bool) → has_commas kind one_comma (count ss) ≡ c → ended_lexemes c ss ++ notes end ≡ entries_lexemes (written_entries c (segments ss) end)
+ended_are : (kind : GroupKind) (one_comma : Bool) (ss : Segs) (end : List (List ℕ)) → HasShape kind ss one_comma → (c : Bool) → has_commas kind one_comma (count ss) ≡ c → ended_lexemes c ss ++ comment_lexemes end ≡ entries_lexemes (written_entries c (segments ss) end)
 ended_are kind one_comma ss end h true e = ended_true ss end
 ended_are kind one_comma ss end h false e = ended_false ss end (few kind one_comma ss h e)
 
@@ -141,10 +141,10 @@ pub bracket_written : (kind : GroupKind) (segs : Segs) (one_comma : Bool) (end :
 bracket_written kind segs one_comma end h = ap (λ l. lexeme Operator (opening kind) ∷ l) (by (is_broken kind segs end (segs_hold segs)) refl)
   where
     by : (b : Bool) → is_broken kind segs end (segs_hold segs) ≡ b
-        → (if b then ended_lexemes (has_commas kind one_comma (count segs)) segs ++ (notes end ++ lexeme Operator (closing kind) ∷ []) else separated_lexemes true segs ++ (comma_lexemes one_comma ++ lexeme Operator (closing kind) ∷ []))
+        → (if b then ended_lexemes (has_commas kind one_comma (count segs)) segs ++ (comment_lexemes end ++ lexeme Operator (closing kind) ∷ []) else separated_lexemes true segs ++ (comma_lexemes one_comma ++ lexeme Operator (closing kind) ∷ []))
         ≡ entries_lexemes (written_entries (if b then has_commas kind one_comma (count segs) else one_comma) (segments segs) end) ++ lexeme Operator (closing kind) ∷ []
     by true e =
-        sym (append_assoc (ended_lexemes (has_commas kind one_comma (count segs)) segs) (notes end) (lexeme Operator (closing kind) ∷ []))
+        sym (append_assoc (ended_lexemes (has_commas kind one_comma (count segs)) segs) (comment_lexemes end) (lexeme Operator (closing kind) ∷ []))
         ∙ ap (λ l. l ++ lexeme Operator (closing kind) ∷ []) (ended_are kind one_comma segs end h (has_commas kind one_comma (count segs)) refl)
     by false e =
         let p = or_parts (has_some end || have_comments segs || breaks_by_count kind (count segs)) (nat_le 2 (count segs) && segs_hold segs) e in

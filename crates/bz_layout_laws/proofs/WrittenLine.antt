@@ -16,7 +16,7 @@ use Rattle.bz_layout.specs.Pieces.{Piece}
 use Rattle.bz_layout.specs.Layout.{items_pieces, is_comment}
 use Rattle.bz_layout_laws.specs.Inside.{entries_lexemes, own_segment, without_newlines}
 use Rattle.bz_layout_laws.specs.Legible.{IsLegible}
-use Rattle.bz_layout_laws.specs.Lexemes.{Lexeme, lexeme, notes, suffix_lexemes, items_lexemes, note_lines, line_lexemes, lexemes_of}
+use Rattle.bz_layout_laws.specs.Lexemes.{Lexeme, lexeme, comment_lexemes, suffix_lexemes, items_lexemes, comment_line_lexemes, line_lexemes, lexemes_of}
 use Rattle.bz_layout_laws.specs.ReadPieces.{piece_lexemes, read_pieces}
 use Rattle.bz_layout_laws.proofs.NoLines.{items_no_line}
 use Rattle.bz_layout_laws.proofs.Pieces.{items_pieces_are}
@@ -44,7 +44,7 @@ nodes_stay s h =
     let are = items_pieces_are 0 None Closed Start (items_of s.nodes) refl in
     ap without_newlines (sym are) ∙ pieces_stay ps (items_no_line Broken 0 None Closed Start (items_of s.nodes) h.nodes).none ∙ are
 
-above : (texts : List (List ℕ)) → without_newlines (note_lines texts) ≡ notes texts
+above : (texts : List (List ℕ)) → without_newlines (comment_line_lexemes texts) ≡ comment_lexemes texts
 above [] = refl
 above (text ∷ texts) = ap (λ l. lexeme Comment text ∷ l) (above texts)
 
@@ -61,11 +61,11 @@ line_stays s h =
     without_join (items_lexemes (items_of s.nodes)) (suffix_lexemes s.suffix ++ lexeme Newline (codes "\n") ∷ []) ∙ rw (nodes_stay s h, aside s.suffix) refl
 
 -- comments, nodes and the comment beside them, without newlines
-pub statement_line_is : (s : Statement) → IsLegible s → is_comment s.class ≡ false → without_newlines (lexemes_of s) ≡ notes s.before ++ (items_lexemes (items_of s.nodes) ++ (suffix_lexemes s.suffix ++ []))
+pub statement_line_is : (s : Statement) → IsLegible s → is_comment s.class ≡ false → without_newlines (lexemes_of s) ≡ comment_lexemes s.before ++ (items_lexemes (items_of s.nodes) ++ (suffix_lexemes s.suffix ++ []))
 statement_line_is s h class =
-    ap (λ b. without_newlines (note_lines s.before ++ (if b then [] else line_lexemes s))) class
-    ∙ without_join (note_lines s.before) (line_lexemes s)
-    ∙ rw (above s.before, line_stays s h) (ap (λ l. notes s.before ++ (items_lexemes (items_of s.nodes) ++ l)) (sym (append-nil (suffix_lexemes s.suffix))))
+    ap (λ b. without_newlines (comment_line_lexemes s.before ++ (if b then [] else line_lexemes s))) class
+    ∙ without_join (comment_line_lexemes s.before) (line_lexemes s)
+    ∙ rw (above s.before, line_stays s h) (ap (λ l. comment_lexemes s.before ++ (items_lexemes (items_of s.nodes) ++ l)) (sym (append-nil (suffix_lexemes s.suffix))))
 
 pub statement_written : (s : Statement) → IsLegible s → is_comment s.class ≡ false → without_newlines (lexemes_of s) ≡ entries_lexemes (written_entries false (own_segment s ∷ []) [])
 statement_written s h class =
@@ -75,5 +75,5 @@ statement_written s h class =
 
 pub comments_written : (s : Statement) → is_comment s.class ≡ true → without_newlines (lexemes_of s) ≡ entries_lexemes (written_entries false [] s.before)
 comments_written s class =
-    ap (λ b. without_newlines (note_lines s.before ++ (if b then [] else line_lexemes s))) class
-    ∙ ap without_newlines (append-nil (note_lines s.before)) ∙ above s.before ∙ sym (own_lines_are s.before)
+    ap (λ b. without_newlines (comment_line_lexemes s.before ++ (if b then [] else line_lexemes s))) class
+    ∙ ap without_newlines (append-nil (comment_line_lexemes s.before)) ∙ above s.before ∙ sym (own_lines_are s.before)

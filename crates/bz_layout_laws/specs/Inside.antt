@@ -5,7 +5,7 @@ use Rattle.bz_token.specs.Brackets.{is_line}
 use Rattle.bz_tree.specs.declared.stmt.GroupKind.{GroupKind}
 use Rattle.bz_tree.specs.declared.stmt.GroupKind.TheVariants.{Paren}
 use Rattle.bz_tree.specs.Kinds.{is_one}
-use Rattle.bz_tree.specs.Owners.{Entry, a_node, a_comma, a_note}
+use Rattle.bz_tree.specs.Owners.{Entry, a_node, a_comma, a_comment}
 use Rattle.bz_tree.specs.Tree.{Segs, Segment, Statement}
 use Rattle.bz_layout.specs.Broken.{count, is_broken, segs_hold}
 use Rattle.bz_layout.specs.Layout.{has_commas}
@@ -14,7 +14,7 @@ use Rattle.bz_layout_laws.specs.Lexemes.{Lexeme, lexeme, item_lexemes}
 abbrev pub entry_lexemes : Entry → List Lexeme
 entry_lexemes (a_node x) = item_lexemes x
 entry_lexemes a_comma = lexeme Operator (codes ",") ∷ []
-entry_lexemes (a_note beside text) = record { kind = Comment; text = text; beside = beside } ∷ []
+entry_lexemes (a_comment beside text) = record { kind = Comment; text = text; beside = beside } ∷ []
 
 abbrev pub entries_lexemes : List Entry → List Lexeme
 entries_lexemes [] = []

@@ -21,7 +21,7 @@ is_leaf_mark Comma = true
 is_leaf_mark Plain = true
 is_leaf_mark _ = false
 
--- bytes that stand second or third in a sign
+-- bytes that stand second or third in a operator
 abbrev pub is_later : ℕ → Bool
 is_later b = list_any (λ c. b == c) (codes "/*<>=")
 
@@ -30,7 +30,7 @@ begins_later (leaf kind text) = begins is_later text
 begins_later (group kind segs one_comma end) = false
 
 -- A node stands directly after `.`, a prefix, an argument's star and the colon of an index. There it begins with no byte that
--- makes one sign of two, as in `-` and `=`; by the grammar none does.
+-- makes one operator of two, as in `-` and `=`; by the grammar none does.
 abbrev pub may_follow : Edge → Item → Bool
 may_follow left x = not (holds_on left && begins_later x)
 

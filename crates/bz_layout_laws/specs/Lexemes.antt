@@ -3,7 +3,7 @@
 use Rattle.std.specs.Prelude.{codes, ℕ, ◌==◌, List, [], ◌∷◌, ◌++◌, map, Bool, true, false, ◌&&◌, if◌then◌else◌, Option, Some, None}
 use Rattle.bz_token.specs.declared.token.Kind.{Kind}
 use Rattle.bz_token.specs.declared.token.Kind.TheVariants.{Operator, Newline, Comment}
-use Rattle.bz_token.specs.Ends.{is_note}
+use Rattle.bz_token.specs.Ends.{is_comment_kind}
 use Rattle.bz_token.specs.Places.{Placed}
 use Rattle.bz_tree.specs.Tree.{Item, leaf, group, Items, no_items, item, Segs, no_segs, seg, Statement, items_of}
 use Rattle.bz_tree.specs.Brackets.{end_line}
@@ -22,8 +22,8 @@ abbrev pub lexeme : Kind → List ℕ → Lexeme
 lexeme kind text = record { kind = kind; text = text; beside = false }
 
 -- comments on lines of their own, and the one beside a token
-abbrev pub notes : List (List ℕ) → List Lexeme
-notes texts = map (lexeme Comment) texts
+abbrev pub comment_lexemes : List (List ℕ) → List Lexeme
+comment_lexemes texts = map (lexeme Comment) texts
 
 abbrev pub suffix_lexemes : Option (List ℕ) → List Lexeme
 suffix_lexemes None = []
@@ -40,7 +40,7 @@ is_on (Some end) line = line == end
 -- the lexemes of tokens, where what stands before them ends on this line
 abbrev pub lexemes_from : Option ℕ → List Placed → List Lexeme
 lexemes_from last [] = []
-lexemes_from last (t ∷ ts) = record { kind = t.kind; text = t.text; beside = is_note t.kind && is_on last t.line } ∷ lexemes_from (end_after t) ts
+lexemes_from last (t ∷ ts) = record { kind = t.kind; text = t.text; beside = is_comment_kind t.kind && is_on last t.line } ∷ lexemes_from (end_after t) ts
 
 abbrev pub token_lexemes : List Placed → List Lexeme
 token_lexemes ts = lexemes_from None ts
@@ -56,7 +56,7 @@ abbrev mutual
   item_lexemes (group kind segs one_comma end) =
       lexeme Operator (opening kind) ∷
       (if is_broken kind segs end (segs_hold segs)
-      then ended_lexemes (has_commas kind one_comma (count segs)) segs ++ (notes end ++ lexeme Operator (closing kind) ∷ [])
+      then ended_lexemes (has_commas kind one_comma (count segs)) segs ++ (comment_lexemes end ++ lexeme Operator (closing kind) ∷ [])
       else separated_lexemes true segs ++ (comma_lexemes one_comma ++ lexeme Operator (closing kind) ∷ []))
 
   pub items_lexemes : Items → List Lexeme
@@ -67,7 +67,7 @@ abbrev mutual
   pub ended_lexemes : Bool → Segs → List Lexeme
   ended_lexemes comma no_segs = []
   ended_lexemes comma (seg before nodes suffix ss) =
-      notes before ++ (items_lexemes nodes ++ (comma_lexemes comma ++ (suffix_lexemes suffix ++ ended_lexemes comma ss)))
+      comment_lexemes before ++ (items_lexemes nodes ++ (comma_lexemes comma ++ (suffix_lexemes suffix ++ ended_lexemes comma ss)))
 
   -- a comma before each segment but the first
   pub separated_lexemes : Bool → Segs → List Lexeme
@@ -76,13 +76,13 @@ abbrev mutual
       (if first then items_lexemes nodes else lexeme Operator (codes ",") ∷ items_lexemes nodes) ++ separated_lexemes false ss
 
 -- comments above a statement, each with the newline after it
-abbrev pub note_lines : List (List ℕ) → List Lexeme
-note_lines [] = []
-note_lines (text ∷ texts) = lexeme Comment text ∷ lexeme Newline (codes "\n") ∷ note_lines texts
+abbrev pub comment_line_lexemes : List (List ℕ) → List Lexeme
+comment_line_lexemes [] = []
+comment_line_lexemes (text ∷ texts) = lexeme Comment text ∷ lexeme Newline (codes "\n") ∷ comment_line_lexemes texts
 
 abbrev pub line_lexemes : Statement → List Lexeme
 line_lexemes s = items_lexemes (items_of s.nodes) ++ (suffix_lexemes s.suffix ++ lexeme Newline (codes "\n") ∷ [])
 
 -- the comments above, the nodes, the comment beside them, a newline; comment lines alone have no more
 abbrev pub lexemes_of : Statement → List Lexeme
-lexemes_of s = note_lines s.before ++ (if is_comment s.class then [] else line_lexemes s)
+lexemes_of s = comment_line_lexemes s.before ++ (if is_comment s.class then [] else line_lexemes s)

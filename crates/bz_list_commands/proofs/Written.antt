@@ -25,7 +25,7 @@ value_stays a = ap (λ (ns : List Item). record a { nodes = ns }) (take-append-d
 pub value_read : (s : Seg) (v : List Node) → v ≡ s.nodes.items → nodes_view (take (length v - 2) (drop 2 v)) ≡ value (seg_view s)
 value_read s v is = ap nodes_view (take_rest v 2) ∙ value_there s v is
 
--- other nodes after the name and the sign
+-- other nodes after the name and the operator
 nodes_put : (s : Seg) (v : Vec Node) (m : List Node) → v.items ≡ take 2 s.nodes.items ++ m → seg_view (roll-Seg (record { before = s.before; nodes = v; suffix = s.suffix })) ≡ with_value (nodes_view m) (seg_view s)
 nodes_put s v m is =
     let nodes : nodes_view v.items ≡ take 2 (nodes_view s.nodes.items) ++ nodes_view m =
@@ -75,7 +75,7 @@ part_read s v i n is read at =
     let first : IsFirstPart (drop 2 s.nodes.items) i = first_of s v i is read in
     ap (λ (ns : List Item). first_list (parts ns)) (sym (value_there s s.nodes.items refl)) ∙ first.list n ∙ ap (λ (z : Node). elements (node_view z)) (get_or-drop 2 s.nodes.items i n ∙ sym at)
 
--- an attribute has a name and a sign
+-- an attribute has a name and a operator
 named_long : (xs : List Item) → is_some (name_of xs) ≡ true → 2 ≤ length xs
 named_long [] h = absurd cc
 named_long (x ∷ []) h = absurd cc

@@ -17,7 +17,7 @@ use bz_attribute::done::Done;
 use bz_attribute::equals::equals;
 use bz_attribute::lists::{are_joints, is_attribute, is_part};
 use bz_attribute::make::string;
-use bz_attribute::rule::{find, is_sign, is_string, value_of};
+use bz_attribute::rule::{find, is_operator_item, is_string, value_of};
 use bz_command::{Attributes, Package};
 use bz_tree::{Node, Seg};
 use std::alloc::{AllocError, Global};
@@ -137,7 +137,7 @@ fn put_in_value<'a>(change: Change<'_>, value: &mut [Node<'a>], pool: &mut Vec<S
     }
     let mut start = true;
     for i in 0..value.len() {
-        let next = is_sign(&value[i], "+");
+        let next = is_operator_item(&value[i], "+");
         if is_part(start, value, i) {
             put_in_list(change, &mut value[i], pool);
         }

@@ -12,7 +12,7 @@ ghost use Rattle.bz_list_commands.specs.private.TakingSteps.{HasRoom, Takes, lea
 use bz_attribute::chosen::{Chosen, is_chosen, loses_all};
 use bz_attribute::lists::{are_joints, elements_at, is_part};
 use bz_attribute::make::segment;
-use bz_attribute::rule::{find, is_sign};
+use bz_attribute::rule::{find, is_operator_item};
 use bz_command::Package;
 use bz_tree::{Node, Seg};
 use std::alloc::{AllocError, Global};
@@ -49,7 +49,7 @@ pub(crate) fn count_in(choice: Choice<'_, '_, '_>, value: &[Node<'_>]) -> Result
             let more = count_elements(choice, elements_at(&value[i]));
             count = count.checked_add(more).ok_or(AllocError)?;
         }
-        start = is_sign(&value[i], "+");
+        start = is_operator_item(&value[i], "+");
     }
     Ok(count)
 }
@@ -107,7 +107,7 @@ fn take_in_value<'a>(choice: Choice<'_, '_, '_>, value: &mut [Node<'a>], taken: 
     }
     let mut start = true;
     for i in 0..value.len() {
-        let next = is_sign(&value[i], "+");
+        let next = is_operator_item(&value[i], "+");
         if is_part(start, value, i) {
             take_in_list(choice, &mut value[i], taken);
         }

@@ -17,7 +17,7 @@ use Rattle.bz_tree.specs.Statement.{class_of, has_assign, is_rule, is_rule_after
 use Rattle.bz_tree.specs.FromParts.{nodes_of_parts}
 use Rattle.bz_tree.specs.Tree.{segments}
 use Rattle.bz_tree.proofs.FromParts.{nodes_back, listed_back}
-use Rattle.bz_attribute.specs.Rules.{rule_of, dotted, name_of, ident_of, is_sign, value}
+use Rattle.bz_attribute.specs.Rules.{rule_of, dotted, name_of, ident_of, is_operator_item, value}
 use Rattle.bz_attribute.specs.Effects.{nodes_after}
 use Rattle.bz_attribute.proofs.Calls.{rule_from_end}
 use Rattle.bz_attribute.proofs.Headed.{class_called}
@@ -383,14 +383,14 @@ is_bare nodes = is_empty (drop 2 nodes) && is_some (name_of nodes)
 
 bare_lacks : (name : List ℕ) (x : Item) (xs : List Item) (more : List RowPart) → is_bare (leaf Identifier name ∷ x ∷ xs) ≡ true → lacks_value (tail_parts (x ∷ xs) more) ≡ true
 bare_lacks name (leaf kind text) [] more h =
-    elim (is_sign (codes "=") (leaf kind text)) as (λ b. is_some (if b then Some name else None) ≡ true → b && true ≡ true) [ true ↦ λ k. refl | false ↦ λ k. absurd (false≢true k) ] h
+    elim (is_operator_item (codes "=") (leaf kind text)) as (λ b. is_some (if b then Some name else None) ≡ true → b && true ≡ true) [ true ↦ λ k. refl | false ↦ λ k. absurd (false≢true k) ] h
 bare_lacks name (leaf kind text) (y ∷ ys) more h = absurd (false≢true h)
 bare_lacks name (group kind segs one_comma end) [] more h = absurd (false≢true h)
 bare_lacks name (group kind segs one_comma end) (y ∷ ys) more h = absurd (false≢true h)
 
 no_name_but_ident : (x y : Item) (xs : List Item) → is_some (ident_of x) ≡ false → is_bare (x ∷ y ∷ xs) ≡ false
-no_name_but_ident x y xs h = elim (is_empty xs) as (λ e. e && is_some (if is_sign (codes "=") y then ident_of x else None) ≡ false) [
-  | true ↦ elim (is_sign (codes "=") y) as (λ b. is_some (if b then ident_of x else None) ≡ false) [ true ↦ h | false ↦ refl ]
+no_name_but_ident x y xs h = elim (is_empty xs) as (λ e. e && is_some (if is_operator_item (codes "=") y then ident_of x else None) ≡ false) [
+  | true ↦ elim (is_operator_item (codes "=") y) as (λ b. is_some (if b then ident_of x else None) ≡ false) [ true ↦ h | false ↦ refl ]
   | false ↦ refl
 ]
 
@@ -434,7 +434,7 @@ left us a more = record { before = a.before; nodes = left_nodes us a.nodes more;
 abbrev IsWhole : List Parts → Segment → List RowPart → List Parts → Type 0
 IsWhole us a more later = filled (all_apart (us ++ (newly us a.nodes more ++ later))) (left us a more) ≡ a
 
-equals_at : (kind : Kind) (text : List ℕ) → is_sign (codes "=") (leaf kind text) ≡ true → leaf kind text ≡ leaf Operator (codes "=")
+equals_at : (kind : Kind) (text : List ℕ) → is_operator_item (codes "=") (leaf kind text) ≡ true → leaf kind text ≡ leaf Operator (codes "=")
 equals_at Operator text h = ap (leaf Operator) (same_bytes text (codes "=") h)
 equals_at _ text h = absurd (false≢true h)
 
@@ -450,10 +450,10 @@ gone_whole : (notes : List (List ℕ)) (suffix : Option (List ℕ)) (name : List
 gone_whole notes suffix name kind text value more us later h =
     let v : Parts = record { name = name; parts = items_parts (items_of value) } in
     let two = and_parts (has_long_value (tail_parts (leaf kind text ∷ value) more)) (may_go name us) h in
-    let sign : is_sign (codes "=") (leaf kind text) ≡ true = long_equals (a_token kind text) (tail_parts value more) two.0 in
+    let operator : is_operator_item (codes "=") (leaf kind text) ≡ true = long_equals (a_token kind text) (tail_parts value more) two.0 in
     let may = and_parts (not (bytes_eq name (codes "name"))) (nat_lt (length us) 16 && not (list_any (is_of name) us)) two.1 in
     let fresh = not_true (list_any (is_of name) us) (and_parts (nat_lt (length us) 16) (not (list_any (is_of name) us)) may.1).1 in
-    rw (sign, value_after us v later fresh, nodes_back_list value) refl
+    rw (operator, value_after us v later fresh, nodes_back_list value) refl
 
 abbrev with_them : List (List ℕ) → List Item → Option (List ℕ) → Segment
 with_them notes nodes suffix = record { before = notes; nodes = nodes; suffix = suffix }
@@ -581,7 +581,7 @@ dots_stay true (leaf Identifier text ∷ kind) rest ps us b h =
 dots_stay true (leaf _ text ∷ kind) rest ps us b h = absurd (false≢true h)
 dots_stay true (group _ segs one_comma end ∷ kind) rest ps us b h = absurd (false≢true h)
 dots_stay false (leaf k text ∷ kind) rest ps us b h =
-    dots_stay true kind rest (ps ++ a_token k text ∷ []) us b (and_parts (is_sign (codes ".") (leaf k text)) (dotted true kind) h).1
+    dots_stay true kind rest (ps ++ a_token k text ∷ []) us b (and_parts (is_operator_item (codes ".") (leaf k text)) (dotted true kind) h).1
     ∙ ap (λ (qs : List RowPart). run rest (at qs us outside b)) (append_assoc ps (a_token k text ∷ []) (items_parts (items_of kind)))
 dots_stay false (group _ segs one_comma end ∷ kind) rest ps us b h = absurd (false≢true h)
 
@@ -630,7 +630,7 @@ ident_is : (kind : Kind) → is_ident kind ≡ true → kind ≡ Identifier
 ident_is Identifier h = refl
 ident_is _ h = absurd (false≢true h)
 
-dot_is : (kind : Kind) (text : List ℕ) → is_dot kind text ≡ true → is_sign (codes ".") (leaf kind text) ≡ true
+dot_is : (kind : Kind) (text : List ℕ) → is_dot kind text ≡ true → is_operator_item (codes ".") (leaf kind text) ≡ true
 dot_is Operator text h = h
 dot_is _ text h = absurd (false≢true h)
 

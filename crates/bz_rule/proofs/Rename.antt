@@ -3,7 +3,7 @@ use Rattle.std.proofs.Common.{◌≡◌, ℕ, List, [], ◌∷◌, true, false, 
 use Rattle.std.proofs.lemmas.Bool.{or_right}
 use Rattle.bz_tree.specs.Tree.{Item, Segment}
 use Rattle.bz_rule.proofs.Set.{same_bytes}
-use Rattle.bz_attribute.specs.Rules.{ident_of, is_named, is_sign, is_text, name_of}
+use Rattle.bz_attribute.specs.Rules.{ident_of, is_named, is_operator_item, is_text, name_of}
 use Rattle.bz_attribute.specs.Effects.{edit_first, has, rename, rename_note, rename_to, renamed}
 use Rattle.bz_attribute.specs.declared.done.Note.TheVariants.{AttributeExists, NoAttribute}
 use Rattle.bz_command.specs.Commands.{Rename}
@@ -14,7 +14,7 @@ pub named_now : (old new : List ℕ) (xs : List Item) → is_text old (name_of x
 named_now old new [] h = absurd cc
 named_now old new (x ∷ []) h = absurd cc
 named_now old new (x ∷ y ∷ xs) h =
-    elim (is_sign (codes "=") y) as (λ b. is_text old (if b then ident_of x else None) ≡ true → is_text new (if b then Some new else None) ≡ true)
+    elim (is_operator_item (codes "=") y) as (λ b. is_text old (if b then ident_of x else None) ≡ true → is_text new (if b then Some new else None) ≡ true)
     [ true ↦ λ k. same_bytes new | false ↦ λ k. absurd cc ] h
 
 renamed_has : (old new : List ℕ) (args : List Segment) → has old args ≡ true → has new (edit_first (is_named old) (λ a. rename_to new a ∷ []) args) ≡ true

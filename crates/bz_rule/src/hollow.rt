@@ -58,7 +58,7 @@ fn lacks_value(rest: &[Part<'_>]) -> bool
     ensures { result ≡ lacks_value (map part_view rest.now) }
 {
     match rest {
-        [sign, first, ..] => is_equals(*sign) && is_end(*first),
+        [operator, first, ..] => is_equals(*operator) && is_end(*first),
         _ => false,
     }
 }
@@ -68,7 +68,9 @@ fn has_long_value(rest: &[Part<'_>]) -> bool
     ensures { result ≡ has_long_value (map part_view rest.now) }
 {
     match rest {
-        [sign, first, second, ..] => { is_equals(*sign) && !(is_end(*first) || is_end(*second)) }
+        [operator, first, second, ..] => {
+            is_equals(*operator) && !(is_end(*first) || is_end(*second))
+        }
         _ => false,
     }
 }

@@ -11,7 +11,7 @@ use Rattle.bz_tree.specs.Comments.{beside}
 use Rattle.bz_tree.specs.Grammar.{IsTest, IsArg, positional, keyword, starred, word_role}
 use Rattle.bz_layout_laws.specs.Legible.{AreComments, items_depth}
 use Rattle.bz_layout_laws.specs.Parsed.{is_comma, nodes_have_for, have_for}
-use Rattle.bz_attribute.specs.Rules.{ident_of, is_sign, name_of, value}
+use Rattle.bz_attribute.specs.Rules.{ident_of, is_operator_item, name_of, value}
 use Rattle.bz_attribute.specs.Lists.{is_attribute, with_value}
 use Rattle.bz_rule_laws.proofs.NewTexts.{equals_text}
 use Rattle.bz_rule_laws.proofs.Segments.{AreNodes, IsFormed, AreFormed}
@@ -46,10 +46,10 @@ pub record HasName (nodes : List Item) : Type 0 where
   pub name : List ℕ
   pub are : nodes ≡ named name (drop 2 nodes)
 
-pub sign_is : (sign : List ℕ) (x : Item) → is_sign sign x ≡ true → x ≡ leaf Operator sign
-sign_is sign (group kind segs one_comma end) h = absurd (false≢true h)
-sign_is sign (leaf Operator bytes) h = ap (λ bs. leaf Operator bs) (same_bytes bytes sign h)
-sign_is sign (leaf _ bytes) h = absurd (false≢true h)
+pub operator_is : (operator : List ℕ) (x : Item) → is_operator_item operator x ≡ true → x ≡ leaf Operator operator
+operator_is operator (group kind segs one_comma end) h = absurd (false≢true h)
+operator_is operator (leaf Operator bytes) h = ap (λ bs. leaf Operator bs) (same_bytes bytes operator h)
+operator_is operator (leaf _ bytes) h = absurd (false≢true h)
 
 ident_is : (x : Item) → is_some (ident_of x) ≡ true → (name : List ℕ) × (x ≡ leaf Identifier name)
 ident_is (group kind segs one_comma end) h = absurd (false≢true h)
@@ -64,9 +64,9 @@ pub has_name : (nodes : List Item) → is_some (name_of nodes) ≡ true → HasN
 has_name [] h = absurd (false≢true h)
 has_name (x ∷ []) h = absurd (false≢true h)
 has_name (x ∷ y ∷ nodes) h =
-    let p = name_parts (is_sign (codes "=") y) (ident_of x) h in
+    let p = name_parts (is_operator_item (codes "=") y) (ident_of x) h in
     let n = ident_is x p.1 in
-    let e = sign_is (codes "=") y p.0 in
+    let e = operator_is (codes "=") y p.0 in
     record { name = n.0; are = λ i. n.1 i ∷ e i ∷ nodes }
 
 -- a value: nodes that are a test

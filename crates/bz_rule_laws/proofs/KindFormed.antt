@@ -8,9 +8,9 @@ use Rattle.bz_tree.specs.Tree.{Item, leaf, group, items_of}
 use Rattle.bz_command.specs.Names.{is_identifier, is_kind}
 use Rattle.bz_command.proofs.Cuts.{some_part}
 use Rattle.bz_layout_laws.specs.TextsOfKinds.{HaveTexts}
-use Rattle.bz_attribute.specs.Rules.{dotted, is_sign}
+use Rattle.bz_attribute.specs.Rules.{dotted, is_operator_item}
 use Rattle.bz_attribute.specs.Setting.{joined_by_dots, kind_items}
-use Rattle.bz_rule_laws.proofs.ArgumentValues.{sign_is}
+use Rattle.bz_rule_laws.proofs.ArgumentValues.{operator_is}
 
 pub data IsDotted : List Item → Type 0 where
   last_name : {text : List ℕ} → is_text Identifier text ≡ true → IsDotted (leaf Identifier text ∷ [])
@@ -21,8 +21,8 @@ pub dotted_is : (kind : List Item) → dotted true kind ≡ true → HaveTexts (
 dotted_is [] h k = absurd (false≢true h)
 dotted_is (leaf Identifier text ∷ []) h k = last_name k.0.0
 dotted_is (leaf Identifier text ∷ x ∷ kind) h k =
-    let parts = and_parts (is_sign (codes ".") x) (dotted true kind) h in
-    let dot = sign_is (codes ".") x parts.0 in
+    let parts = and_parts (is_operator_item (codes ".") x) (dotted true kind) h in
+    let dot = operator_is (codes ".") x parts.0 in
     subst (λ (z : Item). IsDotted (leaf Identifier text ∷ z ∷ kind)) (sym dot) (name_before k.0.0 (dotted_is kind parts.1 k.1.1))
 dotted_is (leaf _ text ∷ kind) h k = absurd (false≢true h)
 dotted_is (group kind segs one_comma end ∷ xs) h k = absurd (false≢true h)

@@ -7,7 +7,7 @@ use Rattle.std.proofs.lemmas.Bool.{cases_Bool, and_parts, or_parts, false≢true
 use Rattle.bz_token.specs.declared.token.Kind.TheVariants.{Identifier, Integer, String, Operator}
 use Rattle.bz_token.specs.declared.scan_string.Quotes.{Quotes}
 use Rattle.bz_token.specs.declared.scan_string.Escape.TheVariants.{Unescaped}
-use Rattle.bz_token.specs.Lexical.{are_two, ends_blank, is_blank, is_comment, is_newline, is_number, is_text, keywords, signs}
+use Rattle.bz_token.specs.Lexical.{are_two, ends_blank, is_blank, is_comment, is_newline, is_number, is_text, keywords, operators}
 use Rattle.bz_token.specs.private.Closing.{closes}
 use Rattle.bz_token.proofs.StringUnits.{closes_units}
 use Rattle.bz_token.proofs.Classes.{same_bytes}
@@ -76,11 +76,11 @@ pub quoted_text : (value : List ℕ) → is_text String (quoted value) ≡ true
 quoted_text value = rw (opens_once value) (sym (closes_units double (flat_map written value ++ 34 ∷ []) refl) ∙ written_closed value)
 
 pub equals_text : is_text Operator (codes "=") ≡ true
-unfolding signs
+unfolding operators
 equals_text = refl
 
 pub dot_text : is_text Operator (codes ".") ≡ true
-unfolding signs
+unfolding operators
 dot_text = refl
 
 digits : (bs : List ℕ) → list_all is_digit bs ≡ true → list_all is_ascii_digit bs ≡ true

@@ -3,7 +3,7 @@ use Rattle.std.proofs.Common.{Bool, List, None, Option, [], ap, codes, false, if
 use Rattle.std.proofs.lemmas.Bool.{and_parts}
 use Rattle.bz_attribute.specs.Effects.{rename, rename_note, rename_to, renamed}
 use Rattle.bz_attribute.specs.Lists.{is_attribute}
-use Rattle.bz_attribute.specs.Rules.{ident_of, is_sign, is_text as is_word, name_of, value}
+use Rattle.bz_attribute.specs.Rules.{ident_of, is_operator_item, is_text as is_word, name_of, value}
 use Rattle.bz_command.specs.Commands.{Rename}
 use Rattle.bz_command.specs.Labels.{Package}
 use Rattle.bz_command.specs.Names.{is_identifier}
@@ -51,7 +51,7 @@ name_keeps old new [] h = refl
 name_keeps old new (x ∷ []) h = absurd cc
 name_keeps old new (leaf kind text ∷ y ∷ xs) h = refl
 name_keeps old new (group kind segs one_comma end ∷ y ∷ xs) h =
-    elim (is_sign (codes "=") y) as (λ b. is_word old (if b then ident_of (group kind segs one_comma end) else None) ≡ true → in_nodes (renamed new (group kind segs one_comma end ∷ y ∷ xs)) ≡ in_nodes (group kind segs one_comma end ∷ y ∷ xs))
+    elim (is_operator_item (codes "=") y) as (λ b. is_word old (if b then ident_of (group kind segs one_comma end) else None) ≡ true → in_nodes (renamed new (group kind segs one_comma end ∷ y ∷ xs)) ≡ in_nodes (group kind segs one_comma end ∷ y ∷ xs))
     [ true ↦ λ k. absurd cc | false ↦ λ k. absurd cc ] h
 
 rename_leaves_all : (old new : List ℕ) (args : List Segment) → in_all (rename old new args) ≡ in_all args

@@ -6,7 +6,7 @@ use Rattle.std.specs.List.{AllByRecursion, list_all, slice_split}
 use Rattle.bz_attribute.proofs.RuleNodes.{rule_nodes}
 use Rattle.bz_attribute.specs.Effects.{argument, has, nodes_of, string}
 use Rattle.bz_attribute.specs.Lists.{is_attribute}
-use Rattle.bz_attribute.specs.Rules.{Rule, dotted, first_named, is_sign, kind_text, rule_of, value}
+use Rattle.bz_attribute.specs.Rules.{Rule, dotted, first_named, is_operator_item, kind_text, rule_of, value}
 use Rattle.bz_attribute.specs.Setting.{New, NewConstant, NewNumber, NewString, NewStrings, holds_list, is_constant, is_list_attribute, is_number, is_value, joined_by_dots, kind_after, kind_items, new_of, new_value, new_word, set, set_if_absent, set_in, with_kind}
 use Rattle.bz_command.specs.Commands.{Set, SetIfAbsent, Setting, ToKind, ToValues}
 use Rattle.bz_command.specs.Labels.{Package}
@@ -196,7 +196,7 @@ kind_none true (leaf Newline text ∷ xs) h = absurd cc
 kind_none true (leaf Comment text ∷ xs) h = absurd cc
 kind_none true (leaf Kept text ∷ xs) h = absurd cc
 kind_none true (group kind segs one_comma end ∷ xs) h = absurd cc
-kind_none false (leaf kind text ∷ xs) h = kind_none true xs (and_parts (is_sign (codes ".") (leaf kind text)) (dotted true xs) h).1
+kind_none false (leaf kind text ∷ xs) h = kind_none true xs (and_parts (is_operator_item (codes ".") (leaf kind text)) (dotted true xs) h).1
 kind_none false (group kind segs one_comma end ∷ xs) h = absurd cc
 
 names_none : (names : List (List ℕ)) → in_nodes (joined_by_dots names) ≡ []

@@ -12,8 +12,8 @@ blank_line = refl
 comment : is_skipped (codes "\t # print name|:a") ≡ true
 comment = refl
 
-sign_in_a_field : is_skipped (codes "comment # no|:a") ≡ false
-sign_in_a_field = refl
+operator_in_a_field : is_skipped (codes "comment # no|:a") ≡ false
+operator_in_a_field = refl
 
 -- spaces are dropped round a field, and tabs stay
 fields : fields_of (codes " set n  1 |\t:a |:b") ≡ codes "set n  1" ∷ codes "\t:a" ∷ codes ":b" ∷ []

@@ -20,14 +20,14 @@ is_space b = b == 32
 abbrev pub is_blank : ℕ → Bool
 is_blank b = b == 32 || b == 9
 
--- a number sign, or nothing
-abbrev pub is_sign_or_none : Option ℕ → Bool
-is_sign_or_none None = true
-is_sign_or_none (Some b) = b == 35
+-- a number operator, or nothing
+abbrev pub is_operator_or_none : Option ℕ → Bool
+is_operator_or_none None = true
+is_operator_or_none (Some b) = b == 35
 
--- spaces and tabs alone, or a comment: its first character other than these is a number sign
+-- spaces and tabs alone, or a comment: its first character other than these is a number operator
 abbrev pub is_skipped : List ℕ → Bool
-is_skipped line = is_sign_or_none (find (λ b. not (is_blank b)) line)
+is_skipped line = is_operator_or_none (find (λ b. not (is_blank b)) line)
 
 -- without the spaces at its front
 abbrev pub front_trimmed : List ℕ → List ℕ

@@ -17,9 +17,9 @@ use Rattle.bz_token.specs.declared.cutter.scan.LineKind.TheVariants.{Blank, Stat
 use Rattle.bz_token.specs.declared.cutter.scan.Inside.{Inside}
 use Rattle.bz_token.specs.declared.cutter.scan.Inside.TheVariants.{Plain, Ended, Backslash, BackslashReturn, Comment, Opened, OpenedTwice, Short, ShortEscape, ShortEscapeReturn, Long, LongQuote, LongTwoQuotes, LongEscape}
 use Rattle.bz_token.specs.declared.cutter.scan.Scan.{Scan}
-use Rattle.bz_token.specs.private.CutSteps.{is_ended, byte_of, at, outside, in_short, in_long, next_in, next, start, run, with_note}
+use Rattle.bz_token.specs.private.CutSteps.{is_ended, byte_of, at, outside, in_short, in_long, next_in, next, start, run, with_comment}
 use Rattle.bz_token.specs.Pieces.{is_quote}
-use Rattle.bz_token.specs.Lexical.{is_word_byte, is_blank, is_newline, closing_row, are_two, opens_after, opening, opening_length, is_empty, is_name, is_keyword, signs, is_sign, is_text, IsToken}
+use Rattle.bz_token.specs.Lexical.{is_word_byte, is_blank, is_newline, closing_row, are_two, opens_after, opening, opening_length, is_empty, is_name, is_keyword, operators, is_operator_text, is_text, IsToken}
 use Rattle.bz_token.specs.private.Closing.{closes}
 use Rattle.bz_token.specs.Brackets.{is_inside, is_line, is_opening_bracket, is_closing_bracket, fits, open_after_token}
 use Rattle.bz_token.proofs.Classes.{Class, class_of, keyword_name, can_start, text_class, one_of, same_bytes, empty_no_text}
@@ -433,24 +433,24 @@ words_token kind s opened b bs after all m =
     same_depth (run s (b ∷ bs)) (length opened) _ kind after (ap length (sym (open_same opened b bs (word_no_opening b parts.0) (word_no_closing b parts.0))))
     (after_plain (run s (b ∷ bs)) (length opened) kind after (words_run bs (next s b) (length opened) here parts.1))
 
--- bytes of signs
-abbrev pub is_sign_plain : ℕ → Bool
-is_sign_plain b = not (b == 10 || b == 32 || b == 9 || b == 13 || b == 35 || b == 92 || b == 34 || b == 39)
+-- bytes of operators
+abbrev pub is_operator_plain : ℕ → Bool
+is_operator_plain b = not (b == 10 || b == 32 || b == 9 || b == 13 || b == 35 || b == 92 || b == 34 || b == 39)
 
-abbrev pub is_plain_sign : List ℕ → Bool
-is_plain_sign text = list_all is_sign_plain text && list_all (λ b. not (is_bracket_byte b)) (drop 1 text)
+abbrev pub is_plain_operator : List ℕ → Bool
+is_plain_operator text = list_all is_operator_plain text && list_all (λ b. not (is_bracket_byte b)) (drop 1 text)
 
-pub sign_plain : (text : List ℕ) → is_sign text ≡ true → is_plain_sign text ≡ true
-unfolding signs
-sign_plain text is = one_of is_plain_sign signs text refl is
+pub operator_plain : (text : List ℕ) → is_operator_text text ≡ true → is_plain_operator text ≡ true
+unfolding operators
+operator_plain text is = one_of is_plain_operator operators text refl is
 
 or_none : (x y : Bool) → (x || y) ≡ false → (x ≡ false) × (y ≡ false)
 or_none true y h = absurd (false≢true (sym h))
 or_none false y h = (refl, h)
 
--- a bracket, or another byte of a sign
-sign_step : (d : ℕ) (k : LineKind) (b : ℕ) → is_sign_plain b ≡ true → outside d k b ≡ (if is_opening_bracket b then at Plain (d + 1) Statement else (if is_closing_bracket b then at Plain (d - 1) Statement else at Plain d Statement))
-sign_step d k b h =
+-- a bracket, or another byte of a operator
+operator_step : (d : ℕ) (k : LineKind) (b : ℕ) → is_operator_plain b ≡ true → outside d k b ≡ (if is_opening_bracket b then at Plain (d + 1) Statement else (if is_closing_bracket b then at Plain (d - 1) Statement else at Plain d Statement))
+operator_step d k b h =
     let p39 = or_none (b == 10 || b == 32 || b == 9 || b == 13 || b == 35 || b == 92 || b == 34) (b == 39) (not_true _ h) in
     let p34 = or_none (b == 10 || b == 32 || b == 9 || b == 13 || b == 35 || b == 92) (b == 34) p39.0 in
     let p92 = or_none (b == 10 || b == 32 || b == 9 || b == 13 || b == 35) (b == 92) p34.0 in
@@ -468,30 +468,30 @@ sign_step d k b h =
     let n10 = p32.0 in
     simp (n10, n32, n9, n13, n35, n92, n34, n39)
 
-signs_run : (xs : List ℕ) (s : Scan) (d : ℕ) → IsAt s Plain d → list_all is_sign_plain xs ≡ true → list_all (λ b. not (is_bracket_byte b)) xs ≡ true → IsAt (run s xs) Plain d
-signs_run [] s d h all none = h
-signs_run (x ∷ xs) s d h all none =
-    let p = and_parts (is_sign_plain x) (list_all is_sign_plain xs) all in
+operators_run : (xs : List ℕ) (s : Scan) (d : ℕ) → IsAt s Plain d → list_all is_operator_plain xs ≡ true → list_all (λ b. not (is_bracket_byte b)) xs ≡ true → IsAt (run s xs) Plain d
+operators_run [] s d h all none = h
+operators_run (x ∷ xs) s d h all none =
+    let p = and_parts (is_operator_plain x) (list_all is_operator_plain xs) all in
     let q = and_parts (not (is_bracket_byte x)) (list_all (λ b. not (is_bracket_byte b)) xs) none in
     let brackets = or_none (is_opening_bracket x) (is_closing_bracket x) (not_true _ q.0) in
     let o = brackets.0 in
     let c = brackets.1 in
     let m = step_from s Plain d x h in
     let plain : (if is_opening_bracket x then at Plain (d + 1) Statement else (if is_closing_bracket x then at Plain (d - 1) Statement else at Plain d Statement)) ≡ at Plain d Statement = rw (o, c) refl in
-    signs_run xs (next s x) d (subst (λ t. IsAt t Plain d) (sym (m.1 ∙ sign_step d m.0 x p.0 ∙ plain)) (stands Plain d Statement)) p.1 q.1
+    operators_run xs (next s x) d (subst (λ t. IsAt t Plain d) (sym (m.1 ∙ operator_step d m.0 x p.0 ∙ plain)) (stands Plain d Statement)) p.1 q.1
 
 dropped : (xs : List ℕ) → length (drop 1 xs) ≡ length xs - 1
 dropped [] = omega arith
 dropped (x ∷ xs) = omega arith
 
-sign_token_run : (s : Scan) (opened : List ℕ) (b : ℕ) (bs after : List ℕ) → is_sign (b ∷ bs) ≡ true → (k : LineKind) × (next s b ≡ outside (length opened) k b) → AfterToken (run s (b ∷ bs)) (length (open_after_token opened (b ∷ bs))) Operator after
-sign_token_run s opened b bs after is m =
-    let parts = and_parts (list_all is_sign_plain (b ∷ bs)) (list_all (λ x. not (is_bracket_byte x)) bs) (sign_plain (b ∷ bs) is) in
-    let plain = and_parts (is_sign_plain b) (list_all is_sign_plain bs) parts.0 in
-    let step = m.1 ∙ sign_step (length opened) m.0 b plain.0 in
-    after_plain (run s (b ∷ bs)) (length (open_after_token opened (b ∷ bs))) Operator after (signs_run bs (next s b) (length (open_after_token opened (b ∷ bs))) (first bs is step) plain.1 parts.1)
+operator_token_run : (s : Scan) (opened : List ℕ) (b : ℕ) (bs after : List ℕ) → is_operator_text (b ∷ bs) ≡ true → (k : LineKind) × (next s b ≡ outside (length opened) k b) → AfterToken (run s (b ∷ bs)) (length (open_after_token opened (b ∷ bs))) Operator after
+operator_token_run s opened b bs after is m =
+    let parts = and_parts (list_all is_operator_plain (b ∷ bs)) (list_all (λ x. not (is_bracket_byte x)) bs) (operator_plain (b ∷ bs) is) in
+    let plain = and_parts (is_operator_plain b) (list_all is_operator_plain bs) parts.0 in
+    let step = m.1 ∙ operator_step (length opened) m.0 b plain.0 in
+    after_plain (run s (b ∷ bs)) (length (open_after_token opened (b ∷ bs))) Operator after (operators_run bs (next s b) (length (open_after_token opened (b ∷ bs))) (first bs is step) plain.1 parts.1)
   where
-    first : (bs : List ℕ) → is_sign (b ∷ bs) ≡ true → next s b ≡ (if is_opening_bracket b then at Plain (length opened + 1) Statement else (if is_closing_bracket b then at Plain (length opened - 1) Statement else at Plain (length opened) Statement)) → IsAt (next s b) Plain (length (open_after_token opened (b ∷ bs)))
+    first : (bs : List ℕ) → is_operator_text (b ∷ bs) ≡ true → next s b ≡ (if is_opening_bracket b then at Plain (length opened + 1) Statement else (if is_closing_bracket b then at Plain (length opened - 1) Statement else at Plain (length opened) Statement)) → IsAt (next s b) Plain (length (open_after_token opened (b ∷ bs)))
     first [] is step = elim (cases_Bool (is_opening_bracket b)) [
       | inl o ↦ rw o (subst (λ t. IsAt t Plain (suc (length opened))) (sym (step ∙ rw (o, add-one) refl)) (stands Plain (suc (length opened)) Statement))
       | inr n ↦ elim (cases_Bool (is_closing_bracket b)) [
@@ -516,7 +516,7 @@ comment_token_run : (s : Scan) (opened : List ℕ) (b : ℕ) (bs after : List �
 comment_token_run s opened b bs after token m =
     let parts = comment_parts (b ∷ bs) token.whole in
     let same : b ≡ 35 = eqb-true b 35 parts.0 in
-    let here : IsAt (next s b) Comment (length opened) = subst (λ t. IsAt t Comment (length opened)) (sym (m.1 ∙ ap (outside (length opened) m.0) same)) (stands Comment (length opened) (with_note m.0)) in
+    let here : IsAt (next s b) Comment (length opened) = subst (λ t. IsAt t Comment (length opened)) (sym (m.1 ∙ ap (outside (length opened) m.0) same)) (stands Comment (length opened) (with_comment m.0)) in
     let end = comment_run bs (next s b) (length opened) here (or_none (is_newline b) (list_any is_newline bs) parts.1).1 in
     same_depth (run s (b ∷ bs)) (length opened) _ CommentToken after (ap length (sym (open_same opened b bs (ap is_opening_bracket same) (ap is_closing_bracket same))))
     (record { ready = comments end (token_ends CommentToken (b ∷ bs) after token); ended = λ e. absurd (not_ended (run s (b ∷ bs)) Comment (length opened) end refl e) })
@@ -713,7 +713,7 @@ token_run depth s opened kind (b ∷ bs) after token fit ready = by_kind kind to
     by_kind Keyword token fit m = words_token Keyword s opened b bs after (name_words (keyword_name (b ∷ bs) token.whole)) m
     by_kind Integer token fit m = words_token Integer s opened b bs after (number_words (b ∷ bs) token.whole) m
     by_kind String token fit m = string_token_run s opened b bs after token m
-    by_kind Operator token fit m = sign_token_run s opened b bs after token.whole m
+    by_kind Operator token fit m = operator_token_run s opened b bs after token.whole m
     by_kind Newline token fit m = line_token_run depth s opened b bs after token.whole fit m
     by_kind CommentToken token fit m = comment_token_run s opened b bs after token m
     by_kind Kept token fit m = absurd (false≢true token.whole)

@@ -5,7 +5,7 @@ use Rattle.std.specs.List.{concat, flat_map, list_any}
 use Rattle.std.proofs.lemmas.Bool.{and_parts, cases_Bool, both_ways, false≢true}
 use Rattle.bz_token.specs.declared.cutter.block.Opener.{Opener}
 use Rattle.bz_token.specs.declared.cutter.scan.LineKind.{LineKind}
-use Rattle.bz_token.specs.declared.cutter.scan.LineKind.TheVariants.{Blank, Note, Statement}
+use Rattle.bz_token.specs.declared.cutter.scan.LineKind.TheVariants.{Blank, CommentLine, Statement}
 use Rattle.bz_token.specs.Groups.{grouped, grouped_from}
 use Rattle.bz_token.specs.LogicalLines.{Line, lines}
 use Rattle.bz_token.specs.Blocks.{opener, goes_on}
@@ -45,7 +45,7 @@ alone l h text = by l.kind refl h
 
     by : (kind : LineKind) → l.kind ≡ kind → ends_as kind l.text ≡ true → is_followed (after_comments (l ∷ [])) text ≡ false
     by Blank is h = rw is refl
-    by Note is h = absurd (false≢true h)
+    by CommentLine is h = absurd (false≢true h)
     by Statement is h = rw is (statement (opener l.text) (record { text = l.text; kind = Statement; broken = l.broken }) h)
 
 -- after a chunk that has such a line after its comments another begins
@@ -124,7 +124,7 @@ one_line l = by l.kind refl
 
     by : (kind : LineKind) → l.kind ≡ kind → is_rest (after_comments (l ∷ [])) ≡ true
     by Blank is = rw is refl
-    by Note is = rw is refl
+    by CommentLine is = rw is refl
     by Statement is = rw is (word (opener l.text) (record { text = l.text; kind = Statement; broken = l.broken }))
 
 form_snoc : (done : List Line) (l : Line) → is_rest (after_comments done) ≡ true → chunk_goes_on done l ≡ true → is_rest (after_comments (done ++ l ∷ [])) ≡ true

@@ -5,7 +5,7 @@ use Rattle.std.specs.List.{concat}
 use Rattle.bz_token.specs.declared.cutter.scan.LineKind.TheVariants.{Blank}
 use Rattle.bz_token.specs.declared.cutter.scan.Scan.{Scan}
 use Rattle.bz_token.specs.declared.cutter.block.Stage.{Stage}
-use Rattle.bz_token.specs.declared.cutter.block.Stage.TheVariants.{Notes}
+use Rattle.bz_token.specs.declared.cutter.block.Stage.TheVariants.{Comments}
 use Rattle.bz_token.specs.Chunks.{chunks}
 use Rattle.bz_token.specs.private.Stages.{stage_after, takes}
 use Rattle.bz_token.specs.Cuts.{ends_in_newline}
@@ -66,7 +66,7 @@ first_cut (b ∷ bs) s stage before part right = elim (cases_Bool (is_ended s.in
           bytes_are = refl;
           chunks_are =
               chunk_cut s stage before part b bs ended stops
-              ∙ (λ i. sym (append-nil (before ++ part)) i ∷ seen_chunks (ended_restarts s.inside s.depth s.kind b ended i) Notes [] (b ∷ []) bs);
+              ∙ (λ i. sym (append-nil (before ++ part)) i ∷ seen_chunks (ended_restarts s.inside s.depth s.kind b ended i) Comments [] (b ∷ []) bs);
           alone = ap (λ c. c ∷ []) (sym (append-nil (before ++ part)));
           ends = inr (r.0, append-nil part ∙ r.1);
         }
@@ -90,7 +90,7 @@ pub record FirstChunk (bytes : List ℕ) : Type 0 where
 
 pub first_chunk : (b : ℕ) (bs : List ℕ) → FirstChunk (b ∷ bs)
 first_chunk b bs =
-    let f = first_cut bs (outside 0 Blank b) Notes [] (b ∷ []) (ends_right start [] b) in
+    let f = first_cut bs (outside 0 Blank b) Comments [] (b ∷ []) (ends_right start [] b) in
     record {
       chunk = b ∷ f.front;
       rest = f.rest;
@@ -108,10 +108,10 @@ kept (b ∷ bs) s stage before part = elim (cases_Bool (is_ended s.inside)) [
   | inr inside ↦ ap concat (chunk_step s stage before part b bs inside) ∙ kept bs (next s b) stage before (part ++ b ∷ []) ∙ simp append_assoc
   | inl ended ↦ elim (cases_Bool (takes (stage_after stage (line_here s part)) (b ∷ bs))) [
     | inl goes ↦ ap concat (chunk_goes s stage before part b bs ended goes) ∙ kept bs (next s b) (stage_after stage (line_here s part)) (before ++ part) (b ∷ []) ∙ append_assoc (before ++ part) (b ∷ []) bs
-    | inr stops ↦ ap concat (chunk_cut s stage before part b bs ended stops) ∙ ap (λ t. (before ++ part) ++ t) (kept bs (next s b) Notes [] (b ∷ []))
+    | inr stops ↦ ap concat (chunk_cut s stage before part b bs ended stops) ∙ ap (λ t. (before ++ part) ++ t) (kept bs (next s b) Comments [] (b ∷ []))
   ]
 ]
 
 pub chunks_kept : (bytes : List ℕ) → concat (chunks bytes) ≡ bytes
 chunks_kept [] = refl
-chunks_kept (b ∷ bs) = ap concat (chunks_are (b ∷ bs)) ∙ kept bs (outside 0 Blank b) Notes [] (b ∷ [])
+chunks_kept (b ∷ bs) = ap concat (chunks_are (b ∷ bs)) ∙ kept bs (outside 0 Blank b) Comments [] (b ∷ [])

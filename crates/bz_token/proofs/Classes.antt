@@ -9,7 +9,7 @@ use Rattle.std.proofs.lemmas.Slice.Eq.{bytes_eq-Decides}
 use Rattle.bz_token.specs.declared.token.Kind.{Kind}
 use Rattle.bz_token.specs.declared.token.Kind.TheVariants.{Identifier, Keyword, Integer, String, Operator, Newline, Comment, Kept}
 use Rattle.bz_token.specs.Pieces.{is_quote}
-use Rattle.bz_token.specs.Lexical.{is_word_byte, is_newline, is_one_of, keywords, is_keyword, signs, is_sign, is_name, is_number, are_based, is_string, opening, is_text, begins, ends_blank, is_closed}
+use Rattle.bz_token.specs.Lexical.{is_word_byte, is_newline, is_one_of, keywords, is_keyword, operators, is_operator_text, is_name, is_number, are_based, is_string, opening, is_text, begins, ends_blank, is_closed}
 use Rattle.bz_token.specs.declared.scan_string.Opening.{Opening}
 
 pub data Class : Type 0 where
@@ -56,9 +56,9 @@ keyword_starts : (text : List ℕ) → is_keyword text ≡ true → begins (λ b
 unfolding keywords
 keyword_starts text is = one_of (λ s. begins (λ b. can_start Keyword (class_of b)) s) keywords text refl is
 
-sign_starts : (text : List ℕ) → is_sign text ≡ true → begins (λ b. can_start Operator (class_of b)) text ≡ true
-unfolding signs
-sign_starts text is = one_of (λ s. begins (λ b. can_start Operator (class_of b)) s) signs text refl is
+operator_starts : (text : List ℕ) → is_operator_text text ≡ true → begins (λ b. can_start Operator (class_of b)) text ≡ true
+unfolding operators
+operator_starts text is = one_of (λ s. begins (λ b. can_start Operator (class_of b)) s) operators text refl is
 
 pub letter_class : (b : ℕ) → is_word_byte b ≡ true → is_ascii_digit b ≡ false → class_of b ≡ letter
 letter_class b word none = rw (word, none) refl
@@ -125,7 +125,7 @@ text_class Identifier x text is =
 text_class Keyword x text is = keyword_starts (x ∷ text) is
 text_class Integer x text is = rw (digit_class x (number_starts x text is)) refl
 text_class String x text is = string_starts x text is
-text_class Operator x text is = sign_starts (x ∷ text) is
+text_class Operator x text is = operator_starts (x ∷ text) is
 text_class Newline x text is = let same : x ≡ 10 = first_same (same_bytes (x ∷ text) (10 ∷ []) is) in rw same refl
   where
     first_same : x ∷ text ≡ 10 ∷ [] → x ≡ 10
@@ -140,7 +140,7 @@ empty_no_text Identifier is = false≢true is
 empty_no_text Keyword is = false≢true (keyword_starts [] is)
 empty_no_text Integer is = false≢true is
 empty_no_text String is = false≢true is
-empty_no_text Operator is = false≢true (sign_starts [] is)
+empty_no_text Operator is = false≢true (operator_starts [] is)
 empty_no_text Newline is = false≢true is
 empty_no_text Comment is = false≢true is
 empty_no_text Kept is = false≢true is

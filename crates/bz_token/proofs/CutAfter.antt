@@ -2,11 +2,11 @@
 use Rattle.std.proofs.Common.{◌≡◌, ℕ, ◌<◌, ◌≤◌, List, [], ◌∷◌, ◌++◌, Bool, true, false, not, cond, length, Option, refl, sym, ap, subst, ◌∙◌, arith, inl, inr, append_assoc, append-nil, length-append}
 use Rattle.std.proofs.lemmas.Bool.{cases_Bool, both_ways, and_parts, not-true, false≢true, true≢false}
 use Rattle.bz_token.specs.declared.cutter.scan.LineKind.{LineKind}
-use Rattle.bz_token.specs.declared.cutter.scan.LineKind.TheVariants.{Blank, Note, Statement}
+use Rattle.bz_token.specs.declared.cutter.scan.LineKind.TheVariants.{Blank, CommentLine, Statement}
 use Rattle.bz_token.specs.declared.cutter.scan.Scan.{Scan}
 use Rattle.bz_token.specs.declared.cutter.block.Opener.{Opener}
 use Rattle.bz_token.specs.declared.cutter.block.Stage.{Stage}
-use Rattle.bz_token.specs.declared.cutter.block.Stage.TheVariants.{Notes, InBlock, Done}
+use Rattle.bz_token.specs.declared.cutter.block.Stage.TheVariants.{Comments, InBlock, Done}
 use Rattle.bz_token.specs.declared.cutter.Cutter.{Cutter}
 use Rattle.bz_token.specs.Blocks.{word_at, opener, opener_of, goes_on}
 use Rattle.bz_token.specs.Chunks.{chunks}
@@ -36,7 +36,7 @@ begins (b ∷ bs) s stage before part = elim (cases_Bool (is_ended s.inside)) [
     | inl goes ↦
         let r = begins bs (next s b) (stage_after stage (line_here s part)) (before ++ part) (b ∷ []) in
         (b ∷ r.0, r.1, chunk_goes s stage before part b bs ended goes ∙ r.2 ∙ ap (λ t. t ∷ r.1) (append_assoc (before ++ part) (b ∷ []) r.0))
-    | inr stops ↦ ([], seen_chunks (next s b) Notes [] (b ∷ []) bs, chunk_cut s stage before part b bs ended stops ∙ ap (λ t. t ∷ seen_chunks (next s b) Notes [] (b ∷ []) bs) (sym (append-nil (before ++ part))))
+    | inr stops ↦ ([], seen_chunks (next s b) Comments [] (b ∷ []) bs, chunk_cut s stage before part b bs ended stops ∙ ap (λ t. t ∷ seen_chunks (next s b) Comments [] (b ∷ []) bs) (sym (append-nil (before ++ part))))
   ]
 ]
 
@@ -126,9 +126,9 @@ open_after_token c seen x xs b n h t inside = record {
 
 -- a logical line has ended: the stage that the definition finds is the one that the cutter finds
 blank_step : (stage : Stage) (k : LineKind) (v w : Option Opener) (broken : Bool) → is_blank_kind k ≡ true → stage_step stage k v broken ≡ stage_step stage k w broken
-blank_step Notes Blank v w broken h = refl
-blank_step Notes Note v w broken h = absurd (false≢true h)
-blank_step Notes Statement v w broken h = absurd (false≢true h)
+blank_step Comments Blank v w broken h = refl
+blank_step Comments CommentLine v w broken h = absurd (false≢true h)
+blank_step Comments Statement v w broken h = absurd (false≢true h)
 blank_step (InBlock word) k v w broken h = refl
 blank_step Done k v w broken h = refl
 
@@ -145,7 +145,7 @@ ends_here c seen x xs stage b n h t ended is (y ∷ rest) stops =
     let s = run c.scan (x ∷ xs) in
     follows_line c seen x xs (y ∷ rest) b h (takes_more c x xs (y ∷ rest) n t)
     ∙ chunk_cut s c.stage b.before (b.part ++ x ∷ xs) y rest ended (ap (λ g. takes g (y ∷ rest)) is ∙ stops)
-    ∙ (λ i. whole c seen (x ∷ xs) b i ∷ seen_chunks (ended_restarts s.inside s.depth s.kind y ended i) Notes [] (y ∷ []) rest)
+    ∙ (λ i. whole c seen (x ∷ xs) b i ∷ seen_chunks (ended_restarts s.inside s.depth s.kind y ended i) Comments [] (y ∷ []) rest)
     ∙ ap (λ cs. (seen ++ x ∷ xs) ∷ cs) (sym (chunks_are (y ∷ rest)))
 
 -- or goes on
@@ -156,8 +156,8 @@ goes_here c seen x xs stage b n h t ended is y rest goes =
     ∙ chunk_goes s c.stage b.before (b.part ++ x ∷ xs) y rest ended (ap (λ g. takes g (y ∷ rest)) is ∙ goes)
     ∙ (λ i. seen_chunks (ended_restarts s.inside s.depth s.kind y ended i) (is i) (whole c seen (x ∷ xs) b i) (y ∷ []) rest)
 
-pub notes_after : (c : Cutter) (seen : List ℕ) (x : ℕ) (xs : List ℕ) → (b : IsAfter c seen) → ends_in_newline (x ∷ xs) ≡ true → is_physical_line (x ∷ xs) ≡ true → Takes c (x ∷ xs) → is_ended (run c.scan (x ∷ xs)).inside ≡ true → stage_after c.stage (line_here (run c.scan (x ∷ xs)) (b.part ++ x ∷ xs)) ≡ Notes → IsAfter fresh (seen ++ x ∷ xs)
-notes_after c seen x xs b n h t ended is = record {
+pub comments_after : (c : Cutter) (seen : List ℕ) (x : ℕ) (xs : List ℕ) → (b : IsAfter c seen) → ends_in_newline (x ∷ xs) ≡ true → is_physical_line (x ∷ xs) ≡ true → Takes c (x ∷ xs) → is_ended (run c.scan (x ∷ xs)).inside ≡ true → stage_after c.stage (line_here (run c.scan (x ∷ xs)) (b.part ++ x ∷ xs)) ≡ Comments → IsAfter fresh (seen ++ x ∷ xs)
+comments_after c seen x xs b n h t ended is = record {
   before = seen ++ x ∷ xs;
   part = [];
   seen_is = sym (append-nil (seen ++ x ∷ xs));
@@ -166,7 +166,7 @@ notes_after c seen x xs b n h t ended is = record {
   blank = λ e. (λ y. refl, λ more. refl);
   head = λ e. absurd (true≢false e);
   last = λ some. last_line c seen x xs b h t;
-  follows = λ y rest free. goes_here c seen x xs Notes b n h t ended is y rest refl;
+  follows = λ y rest free. goes_here c seen x xs Comments b n h t ended is y rest refl;
   ends = λ e. absurd (false≢true e);
 }
 

@@ -6,7 +6,7 @@ use Rattle.bz_token.specs.declared.cutter.scan.Scan.{Scan}
 use Rattle.bz_token.specs.declared.cutter.block.Opener.{Opener}
 use Rattle.bz_token.specs.declared.cutter.block.Opener.TheVariants.{Def, For, If}
 use Rattle.bz_token.specs.declared.cutter.block.Stage.{Stage}
-use Rattle.bz_token.specs.declared.cutter.block.Stage.TheVariants.{Notes, InBlock, Done}
+use Rattle.bz_token.specs.declared.cutter.block.Stage.TheVariants.{Comments, InBlock, Done}
 use Rattle.bz_token.specs.declared.cutter.Cutter.{Cutter}
 use Rattle.bz_token.specs.declared.cutter.Cut.{Cut}
 use Rattle.bz_token.specs.declared.cutter.Cut.TheVariants.{More, Whole, Block}
@@ -22,7 +22,7 @@ use Rattle.bz_token.specs.private.Decided.{DecidesAhead}
 use Rattle.bz_token.specs.CutterState.{Takes, IsAfter, IsAtBlock, AwaitsNext}
 use Rattle.bz_token.proofs.CutMachine.{next_inside}
 use Rattle.bz_token.proofs.CutLaws.{chunk_step, same_takes}
-use Rattle.bz_token.proofs.CutAfter.{begins, whole, follows_line, last_line, open_after_token, stage_is, ends_here, notes_after, block_after, fresh_after}
+use Rattle.bz_token.proofs.CutAfter.{begins, whole, follows_line, last_line, open_after_token, stage_is, ends_here, comments_after, block_after, fresh_after}
 
 -- the first line of a text and what is after it
 abbrev after_line : List ℕ → List ℕ
@@ -195,8 +195,8 @@ abbrev pub Ended : Stage → List ℕ → Type 0
 Ended stage bytes = IsCut (cut_at stage) bytes × IsAfter (cutter_at stage) (left (cut_at stage) bytes)
 
 ended_at : (c : Cutter) (seen : List ℕ) (x : ℕ) (xs : List ℕ) (stage : Stage) → (b : IsAfter c seen) → ends_in_newline (x ∷ xs) ≡ true → is_physical_line (x ∷ xs) ≡ true → Takes c (x ∷ xs) → is_ended (run c.scan (x ∷ xs)).inside ≡ true → stage_after c.stage (line_here (run c.scan (x ∷ xs)) (b.part ++ x ∷ xs)) ≡ stage → Ended stage (seen ++ x ∷ xs)
-ended_at c seen x xs Notes b n h t ended is =
-    let now = notes_after c seen x xs b n h t ended is in
+ended_at c seen x xs Comments b n h t ended is =
+    let now = comments_after c seen x xs b n h t ended is in
     (part_of fresh (seen ++ x ∷ xs) now (λ text e. absurd (false≢true e)), now)
 ended_at c seen x xs (InBlock word) b n h t ended is =
     let now = block_after c seen x xs word b n h t ended is in

@@ -4,7 +4,7 @@ use Rattle.std.proofs.lemmas.Bool.{cases_Bool, both_ways, and_parts}
 use Rattle.std.proofs.lemmas.List.Folds.{list_all-append, concat-append}
 use Rattle.std.specs.List.{list_all, concat}
 use Rattle.bz_token.specs.declared.cutter.scan.LineKind.{LineKind}
-use Rattle.bz_token.specs.declared.cutter.scan.LineKind.TheVariants.{Blank, Note, Statement}
+use Rattle.bz_token.specs.declared.cutter.scan.LineKind.TheVariants.{Blank, CommentLine, Statement}
 use Rattle.bz_token.specs.declared.cutter.scan.Inside.{Inside}
 use Rattle.bz_token.specs.declared.cutter.scan.Inside.TheVariants.{Plain, Ended, BrokenOff}
 use Rattle.bz_token.specs.declared.cutter.scan.Scan.{Scan}
@@ -12,7 +12,7 @@ use Rattle.bz_token.specs.Groups.{grouped, grouped_from}
 use Rattle.bz_token.specs.Munch.{IsLongest, AreMunched}
 use Rattle.bz_token.specs.Pieces.{is_byte, is_comment, is_broken_off, is_piece, pieces}
 use Rattle.bz_token.specs.LogicalLines.{Line, count, ends_line, breaks_off, line_goes_on, is_gap, kind_of, line_of, lines}
-use Rattle.bz_token.specs.private.CutSteps.{is_broken, line_at, at, with_note, outside}
+use Rattle.bz_token.specs.private.CutSteps.{is_broken, line_at, at, with_comment, outside}
 use Rattle.bz_token.proofs.CutMunch.{munched_are}
 use Rattle.bz_token.proofs.CutSeen.{seen_lines, final_kind, kind_with, after_piece}
 use Rattle.bz_token.proofs.CutStrings.{grouped_joins, grouped_apart}
@@ -36,7 +36,7 @@ breaks_snoc [] p = refl
 breaks_snoc (q ∷ []) p = refl
 breaks_snoc (q ∷ r ∷ rs) p = breaks_snoc (r ∷ rs) p
 
-kinds : (a b g c : Bool) → (a ≡ true → b ≡ true) → cond (a && (g && true)) Blank (cond (b && ((g || c) && true)) Note Statement) ≡ cond g (cond a Blank (cond b Note Statement)) (cond c (with_note (cond a Blank (cond b Note Statement))) Statement)
+kinds : (a b g c : Bool) → (a ≡ true → b ≡ true) → cond (a && (g && true)) Blank (cond (b && ((g || c) && true)) CommentLine Statement) ≡ cond g (cond a Blank (cond b CommentLine Statement)) (cond c (with_comment (cond a Blank (cond b CommentLine Statement))) Statement)
 kinds true true true true h = refl
 kinds true true true false h = refl
 kinds true true false true h = refl
@@ -51,18 +51,18 @@ kinds false false true false h = refl
 kinds false false false true h = refl
 kinds false false false false h = refl
 
-abbrev noted : List ℕ → Bool
-noted p = is_gap p || is_comment p
+abbrev commented : List ℕ → Bool
+commented p = is_gap p || is_comment p
 
-gaps_noted : (line : List (List ℕ)) → list_all is_gap line ≡ true → list_all noted line ≡ true
-gaps_noted [] h = refl
-gaps_noted (p ∷ ps) h =
+gaps_commented : (line : List (List ℕ)) → list_all is_gap line ≡ true → list_all commented line ≡ true
+gaps_commented [] h = refl
+gaps_commented (p ∷ ps) h =
     let parts = and_parts (is_gap p) (list_all is_gap ps) h in
-    rw (parts.0) (gaps_noted ps parts.1)
+    rw (parts.0) (gaps_commented ps parts.1)
 
 kind_snoc : (line : List (List ℕ)) (p : List ℕ) → kind_of (line ++ p ∷ []) ≡ kind_with (kind_of line) p
 kind_snoc line p =
-    rw (list_all-append is_gap line (p ∷ []), list_all-append noted line (p ∷ [])) (kinds (list_all is_gap line) (list_all noted line) (is_gap p) (is_comment p) (gaps_noted line))
+    rw (list_all-append is_gap line (p ∷ []), list_all-append commented line (p ∷ [])) (kinds (list_all is_gap line) (list_all commented line) (is_gap p) (is_comment p) (gaps_commented line))
 
 -- where the steps are after a part of a line
 abbrev pub inside_of : Bool → Bool → Inside

@@ -4,13 +4,13 @@ use Rattle.std.specs.Prelude.{if◌then◌else◌}
 use Rattle.std.proofs.lemmas.Bool.{both_ways, and_parts, not-true, false≢true}
 use Rattle.std.proofs.lemmas.Bool.Decides.{nat_tests}
 use Rattle.bz_token.specs.declared.cutter.scan.LineKind.{LineKind}
-use Rattle.bz_token.specs.declared.cutter.scan.LineKind.TheVariants.{Blank, Note, Statement}
+use Rattle.bz_token.specs.declared.cutter.scan.LineKind.TheVariants.{Blank, CommentLine, Statement}
 use Rattle.bz_token.specs.declared.cutter.scan.Quote.{Quote}
 use Rattle.bz_token.specs.declared.cutter.scan.Inside.{Inside}
 use Rattle.bz_token.specs.declared.cutter.scan.Inside.TheVariants.{Plain, Ended, BrokenOff, Backslash, BackslashReturn, Comment, Opened, OpenedTwice, Short, ShortEscape, ShortEscapeReturn, Long, LongQuote, LongTwoQuotes, LongEscape}
 use Rattle.bz_token.specs.declared.cutter.scan.Scan.{Scan}
 use Rattle.bz_token.specs.Cuts.{is_physical_line}
-use Rattle.bz_token.specs.private.CutSteps.{is_ended, is_blank_kind, byte_of, with_note, at, outside, in_short, in_long, next_in, next, run}
+use Rattle.bz_token.specs.private.CutSteps.{is_ended, is_blank_kind, byte_of, with_comment, at, outside, in_short, in_long, next_in, next, run}
 
 pub ended_restarts : (i : Inside) (d : ℕ) (k : LineKind) (b : ℕ) → is_ended i ≡ true → next_in i d k b ≡ outside 0 Blank b
 ended_restarts Ended d k b h = refl
@@ -111,9 +111,9 @@ line_quiet b (c ∷ cs) s h =
     rw (next_inside s.inside s.depth s.kind b (not-true _ parts.0)) (line_quiet c cs (next s b) parts.1)
 
 -- within a line the kind never goes back to Blank
-is_kept : (k : LineKind) → is_blank_kind k ≡ false → is_blank_kind (with_note k) ≡ false
+is_kept : (k : LineKind) → is_blank_kind k ≡ false → is_blank_kind (with_comment k) ≡ false
 is_kept Blank h = absurd (both_ways _ h refl)
-is_kept Note h = refl
+is_kept CommentLine h = refl
 is_kept Statement h = refl
 
 outside_kept : (d : ℕ) (k : LineKind) (b : ℕ) → is_blank_kind k ≡ false → is_blank_kind (outside d k b).kind ≡ false

@@ -12,7 +12,7 @@ use Rattle.bz_token.specs.declared.cutter.scan.Inside.TheVariants.{Plain, Backsl
 use Rattle.bz_token.specs.Groups.{grouped_from}
 use Rattle.bz_token.specs.Munch.{IsLongest}
 use Rattle.bz_token.specs.Pieces.{is_byte, escape_takes, units, but_last, is_quote, stops_short, three_in_a_row, is_one, is_comment, is_continued, is_short_string, is_long_string, is_broken_off, is_piece}
-use Rattle.bz_token.specs.private.CutSteps.{byte_of, at, with_note, in_short, next}
+use Rattle.bz_token.specs.private.CutSteps.{byte_of, at, with_comment, in_short, next}
 use Rattle.bz_token.proofs.CutSeen.{seen_lines, by_byte, plain_byte, comment_run, after_piece}
 use Rattle.bz_token.proofs.CutStrings.{grouped_joins, grouped_apart, but_last_cons, short_run, short_from, stop_last, long_run, long_from, three_step, three_now, third, row, short_end}
 
@@ -39,8 +39,8 @@ comment_end bs (x ∷ xs) d k seen none l = by_byte (λ y. IsLongest is_piece (3
 
 comment_passes : (bs after : List ℕ) (d : ℕ) (k : LineKind) (seen : List ℕ) → list_any (λ c. c == 10) bs ≡ false → IsLongest is_piece (35 ∷ bs) after → seen_lines (at Plain d k) seen ((35 ∷ bs) ++ after) ≡ seen_lines (after_piece d k (35 ∷ bs)) (seen ++ (35 ∷ bs)) after
 comment_passes bs after d k seen none l =
-    comment_run bs after d (with_note k) (seen ++ 35 ∷ []) none
-    ∙ comment_end bs after d (with_note k) ((seen ++ 35 ∷ []) ++ bs) none l
+    comment_run bs after d (with_comment k) (seen ++ 35 ∷ []) none
+    ∙ comment_end bs after d (with_comment k) ((seen ++ 35 ∷ []) ++ bs) none l
     ∙ rw (append_assoc, none) refl
 
 -- a backslash that continues no line

@@ -9,7 +9,7 @@ use Rattle.bz_token.specs.declared.cutter.scan.Inside.TheVariants.{Plain, Ended,
 use Rattle.bz_token.specs.declared.cutter.scan.Scan.{Scan}
 use Rattle.bz_token.specs.Pieces.{is_byte, is_comment, is_broken_off}
 use Rattle.bz_token.specs.LogicalLines.{Line, is_gap, count}
-use Rattle.bz_token.specs.private.CutSteps.{is_ended, is_broken, line_at, at, with_note, outside, next}
+use Rattle.bz_token.specs.private.CutSteps.{is_ended, is_broken, line_at, at, with_comment, outside, next}
 
 -- a backslash that is still open continues no line at the end
 abbrev pub final_kind : Inside → LineKind → LineKind
@@ -26,7 +26,7 @@ seen_lines s seen (b ∷ bs) = elim (is_ended s.inside) [
 
 -- the state after a piece
 abbrev pub kind_with : LineKind → List ℕ → LineKind
-kind_with k p = cond (is_gap p) k (cond (is_comment p) (with_note k) Statement)
+kind_with k p = cond (is_gap p) k (cond (is_comment p) (with_comment k) Statement)
 
 abbrev pub after_piece : ℕ → LineKind → List ℕ → Scan
 after_piece d k p = at (cond (is_broken_off p) BrokenOff (cond (is_byte 10 p && d == 0) Ended Plain)) (count d p) (kind_with k p)

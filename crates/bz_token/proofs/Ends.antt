@@ -14,7 +14,7 @@ use Rattle.bz_token.specs.declared.scan_string.Escape.TheVariants.{Unescaped}
 use Rattle.bz_token.specs.declared.token.Kind.{Kind}
 use Rattle.bz_token.specs.declared.token.Kind.TheVariants.{Identifier, Keyword, Integer, String, Operator, Newline, Comment, Kept}
 use Rattle.bz_token.specs.Pieces.{is_quote}
-use Rattle.bz_token.specs.Lexical.{is_word_byte, is_blank, is_newline, signs, is_sign, is_keyword, is_name, is_empty, ends_blank, are_based, is_octal_digit, is_number, is_string, is_comment, closing_row, are_two, opening, opening_length, is_closed, is_long, is_text, begins, counts, is_number_kind, is_string_kind, IsToken, HasNoToken}
+use Rattle.bz_token.specs.Lexical.{is_word_byte, is_blank, is_newline, operators, is_operator_text, is_keyword, is_name, is_empty, ends_blank, are_based, is_octal_digit, is_number, is_string, is_comment, closing_row, are_two, opening, opening_length, is_closed, is_long, is_text, begins, counts, is_number_kind, is_string_kind, IsToken, HasNoToken}
 use Rattle.bz_token.specs.private.Closing.{closes}
 use Rattle.bz_token.specs.Ends.{is_prefix, is_empty_string, stops, stops_at}
 use Rattle.bz_token.proofs.Classes.{Class, letter, digit, quote, newline, hash, mark, unknown, class_of, can_start, text_class, letter_class, digit_class, name_parts, keyword_name, number_starts, one_of, empty_no_text}
@@ -211,7 +211,7 @@ no_digit b c is never = elim (cases_Bool (is_ascii_digit b)) [
   | inr miss ↦ miss
 ]
 
--- the sign byte's class is mark
+-- the operator byte's class is mark
 pub mark_of : (b : ℕ) → can_start Operator (class_of b) ≡ true → class_of b ≡ mark
 mark_of b h = only (class_of b) h
   where
@@ -224,25 +224,25 @@ mark_of b h = only (class_of b) h
     only mark h = refl
     only unknown h = absurd (false≢true h)
 
--- a longer sign goes on by a sign
+-- a longer operator goes on by a operator
 abbrev pub is_in_steps : List ℕ → Bool
-is_in_steps text = is_sign (take 2 text) && nat_le (length text) 3
+is_in_steps text = is_operator_text (take 2 text) && nat_le (length text) 3
 
-pub sign_steps : (text : List ℕ) → is_sign text ≡ true → is_in_steps text ≡ true
-unfolding signs
-sign_steps text is = one_of is_in_steps signs text refl is
+pub operator_steps : (text : List ℕ) → is_operator_text text ≡ true → is_in_steps text ≡ true
+unfolding operators
+operator_steps text is = one_of is_in_steps operators text refl is
 
-sign_goes_on : (a : ℕ) (bs more : List ℕ) (m : ℕ) → is_sign ((a ∷ bs) ++ m ∷ more) ≡ true → is_sign ((a ∷ bs) ++ m ∷ []) ≡ true
-sign_goes_on a bs [] m is = is
-sign_goes_on a [] (c ∷ more) m is = (and_parts (is_sign (a ∷ m ∷ [])) _ (sign_steps (a ∷ m ∷ c ∷ more) is)).0
-sign_goes_on a (b ∷ bs) (c ∷ more) m is =
-    absurd (too_long (length bs) (length more) _ (and_parts _ (nat_le (length ((a ∷ b ∷ bs) ++ m ∷ c ∷ more)) 3) (sign_steps ((a ∷ b ∷ bs) ++ m ∷ c ∷ more) is)).1 (length-append (a ∷ b ∷ bs) (m ∷ c ∷ more)))
+operator_goes_on : (a : ℕ) (bs more : List ℕ) (m : ℕ) → is_operator_text ((a ∷ bs) ++ m ∷ more) ≡ true → is_operator_text ((a ∷ bs) ++ m ∷ []) ≡ true
+operator_goes_on a bs [] m is = is
+operator_goes_on a [] (c ∷ more) m is = (and_parts (is_operator_text (a ∷ m ∷ [])) _ (operator_steps (a ∷ m ∷ c ∷ more) is)).0
+operator_goes_on a (b ∷ bs) (c ∷ more) m is =
+    absurd (too_long (length bs) (length more) _ (and_parts _ (nat_le (length ((a ∷ b ∷ bs) ++ m ∷ c ∷ more)) 3) (operator_steps ((a ∷ b ∷ bs) ++ m ∷ c ∷ more) is)).1 (length-append (a ∷ b ∷ bs) (m ∷ c ∷ more)))
   where
     too_long : (x y n : ℕ) → nat_le n 3 ≡ true → n ≡ suc (suc x) + suc (suc y) → ⊥
     too_long x y n h e = grind (arith, nat_tests)
 
-pub sign_token : (b : ℕ) (bs after : List ℕ) → is_sign (b ∷ bs) ≡ true → stops_at Operator (b ∷ bs) after ≡ true → IsToken Operator (b ∷ bs) after
-sign_token b bs after whole stop = free Operator b bs after whole (ap (can_start String) class) (no_digit b mark class refl) longer
+pub operator_token : (b : ℕ) (bs after : List ℕ) → is_operator_text (b ∷ bs) ≡ true → stops_at Operator (b ∷ bs) after ≡ true → IsToken Operator (b ∷ bs) after
+operator_token b bs after whole stop = free Operator b bs after whole (ap (can_start String) class) (no_digit b mark class refl) longer
   where
     class : class_of b ≡ mark
     class = mark_of b (text_class Operator b bs whole)
@@ -252,7 +252,7 @@ sign_token b bs after whole stop = free Operator b bs after whole (ap (can_start
 
     longer : NoLonger (b ∷ bs) after
     longer Operator m more rest split is counted =
-        false≢true (sym (not_true (is_sign ((b ∷ bs) ++ m ∷ [])) (stops_first Operator (b ∷ bs) after m more rest stop split)) ∙ sign_goes_on b bs more m is)
+        false≢true (sym (not_true (is_operator_text ((b ∷ bs) ++ m ∷ [])) (stops_first Operator (b ∷ bs) after m more rest stop split)) ∙ operator_goes_on b bs more m is)
     longer Identifier m more rest split is counted = false≢true (started Identifier m more is)
     longer Keyword m more rest split is counted = false≢true (started Keyword m more is)
     longer Integer m more rest split is counted = false≢true (started Integer m more is)
@@ -300,8 +300,8 @@ blank_end [] (c ∷ more) m h = blank_end [] more c (and_parts (is_blank m) (lis
 blank_end (x ∷ []) more m h = blank_end [] more m h
 blank_end (x ∷ y ∷ xs) more m h = blank_end (y ∷ xs) more m h
 
-pub note_token : (b : ℕ) (bs after : List ℕ) → is_comment (b ∷ bs) ≡ true → list_all is_blank (take (prefix_len (λ c. not (is_newline c)) after) after) ≡ true → IsToken Comment (b ∷ bs) after
-note_token b bs after whole stop = free Comment b bs after whole (ap (can_start String) class) (no_digit b hash class refl) longer
+pub comment_token : (b : ℕ) (bs after : List ℕ) → is_comment (b ∷ bs) ≡ true → list_all is_blank (take (prefix_len (λ c. not (is_newline c)) after) after) ≡ true → IsToken Comment (b ∷ bs) after
+comment_token b bs after whole stop = free Comment b bs after whole (ap (can_start String) class) (no_digit b hash class refl) longer
   where
     class : class_of b ≡ hash
     class = let same : b ≡ 35 = eqb-true b 35 (comment_parts (b ∷ bs) whole).0 in rw same refl
@@ -309,15 +309,15 @@ note_token b bs after whole stop = free Comment b bs after whole (ap (can_start 
     started : (k : Kind) (m : ℕ) (more : List ℕ) → is_text k ((b ∷ bs) ++ m ∷ more) ≡ true → can_start k hash ≡ true
     started k m more is = ap (can_start k) (sym class) ∙ text_class k b (bs ++ m ∷ more) is
 
-    longer_note : (m : ℕ) (more rest : List ℕ) → after ≡ (m ∷ more) ++ rest → is_comment ((b ∷ bs) ++ m ∷ more) ≡ true → ⊥
-    longer_note m more rest split is =
+    longer_comment : (m : ℕ) (more rest : List ℕ) → after ≡ (m ∷ more) ++ rest → is_comment ((b ∷ bs) ++ m ∷ more) ≡ true → ⊥
+    longer_comment m more rest split is =
         let parts = comment_parts ((b ∷ bs) ++ m ∷ more) is in
         let lines = or_none (list_any is_newline (b ∷ bs)) (list_any is_newline (m ∷ more)) (sym (list_any-append is_newline (b ∷ bs) (m ∷ more)) ∙ parts.1) in
         let blank = blank_front (m ∷ more) rest lines.1 (rw split at stop) in
         false≢true (sym parts.2 ∙ blank_end (b ∷ bs) more m blank)
 
     longer : NoLonger (b ∷ bs) after
-    longer Comment m more rest split is counted = longer_note m more rest split is
+    longer Comment m more rest split is counted = longer_comment m more rest split is
     longer Identifier m more rest split is counted = false≢true (started Identifier m more is)
     longer Keyword m more rest split is counted = false≢true (started Keyword m more is)
     longer Integer m more rest split is counted = false≢true (started Integer m more is)
@@ -470,12 +470,12 @@ bad_byte b bs none never kind (x ∷ text) rest split is counted =
     let again : b ∷ bs ≡ (b ∷ text) ++ rest = cc in
     never kind text rest again (ap (λ y. is_text kind (y ∷ text)) (sym same) ∙ is)
 
--- at a byte of no class, or one of a sign where no sign stands
-pub no_sign : (b : ℕ) (bs : List ℕ) → (c : Class) → class_of b ≡ c → ((kind : Kind) → can_start kind c ≡ true → kind ≡ Operator) → ((n : ℕ) → is_sign (take n (b ∷ bs)) ≡ false) → HasNoToken (b ∷ bs)
-no_sign b bs c is only none = bad_byte b bs empty_no_text never
+-- at a byte of no class, or one of a operator where no operator stands
+pub no_operator : (b : ℕ) (bs : List ℕ) → (c : Class) → class_of b ≡ c → ((kind : Kind) → can_start kind c ≡ true → kind ≡ Operator) → ((n : ℕ) → is_operator_text (take n (b ∷ bs)) ≡ false) → HasNoToken (b ∷ bs)
+no_operator b bs c is only none = bad_byte b bs empty_no_text never
   where
     never : (kind : Kind) (text rest : List ℕ) → b ∷ bs ≡ (b ∷ text) ++ rest → is_text kind (b ∷ text) ≡ true → ⊥
     never kind text rest split whole =
-        let sign : kind ≡ Operator = only kind (ap (can_start kind) (sym is) ∙ text_class kind b text whole) in
+        let operator : kind ≡ Operator = only kind (ap (can_start kind) (sym is) ∙ text_class kind b text whole) in
         let front : take (length (b ∷ text)) (b ∷ bs) ≡ b ∷ text = ap (take (length (b ∷ text))) split ∙ take_at (b ∷ text) rest (length (b ∷ text)) refl in
-        false≢true (sym (none (length (b ∷ text))) ∙ ap is_sign front ∙ subst (λ k. is_text k (b ∷ text) ≡ true) sign whole)
+        false≢true (sym (none (length (b ∷ text))) ∙ ap is_operator_text front ∙ subst (λ k. is_text k (b ∷ text) ≡ true) operator whole)

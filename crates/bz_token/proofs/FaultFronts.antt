@@ -14,7 +14,7 @@ use Rattle.bz_token.specs.Reading.{continues}
 use Rattle.bz_token.proofs.Classes.{keyword_name, same_bytes}
 use Rattle.bz_token.proofs.Openings.{opens_r, opens_rb, opens_b, opens_br, opens_plain}
 use Rattle.bz_token.proofs.Ends.{number_words, comment_parts}
-use Rattle.bz_token.proofs.Agree.{is_sign_plain, sign_plain}
+use Rattle.bz_token.proofs.Agree.{is_operator_plain, operator_plain}
 use Rattle.bz_token.proofs.Unique.{longer_front}
 use Rattle.bz_token.proofs.Joins.{any_left}
 
@@ -50,8 +50,8 @@ continues_more (a ∷ b ∷ c ∷ cs) r h = refl
 word_no_newline : (b : ℕ) → is_word_byte b ≡ true → is_newline b ≡ false
 word_no_newline b h = grind (arith, nat_tests)
 
-sign_no_newline : (b : ℕ) → is_sign_plain b ≡ true → is_newline b ≡ false
-sign_no_newline b h = grind (arith, nat_tests)
+operator_no_newline : (b : ℕ) → is_operator_plain b ≡ true → is_newline b ≡ false
+operator_no_newline b h = grind (arith, nat_tests)
 
 pub words_more : (xs r : List ℕ) → has_newline xs ≡ true → prefix_len is_word_byte (xs ++ r) ≡ prefix_len is_word_byte xs
 words_more [] r h = absurd (false≢true h)
@@ -139,7 +139,7 @@ newline_text Keyword text is h none = absurd (in_name text (keyword_name text is
     in_name (b ∷ bs) name h = all_no_newline is_word_byte word_no_newline (b ∷ bs) (and_parts (not (is_ascii_digit b)) (list_all is_word_byte (b ∷ bs)) name).1 h
 newline_text Integer text is h none = absurd (all_no_newline is_word_byte word_no_newline text (number_words text is) h)
 newline_text String text is h none = absurd (none is)
-newline_text Operator text is h none = absurd (all_no_newline is_sign_plain sign_no_newline text (and_parts (list_all is_sign_plain text) _ (sign_plain text is)).0 h)
+newline_text Operator text is h none = absurd (all_no_newline is_operator_plain operator_no_newline text (and_parts (list_all is_operator_plain text) _ (operator_plain text is)).0 h)
 newline_text Newline text is h none = same_bytes text (10 ∷ []) is
 newline_text Comment text is h none = absurd (false≢true (sym (comment_parts text is).1 ∙ h))
 newline_text Kept text is h none = absurd (false≢true is)

@@ -12,7 +12,7 @@ use Rattle.bz_token.specs.FreshStart.{ends_in_line}
 use Rattle.bz_token.proofs.Ends.{line_token}
 use Rattle.bz_token.proofs.Stops.{token_ended, token_ends}
 use Rattle.bz_token.proofs.Progress.{reading_bytes}
-use Rattle.bz_token.proofs.Joins.{note_more, line_kind, line_text, any_right, lines_newline}
+use Rattle.bz_token.proofs.Joins.{comment_more, line_kind, line_text, any_right, lines_newline}
 
 first_less : (kind : Kind) (text after b : List ℕ) → stops_at kind text (after ++ b) ≡ true → stops_at kind text after ≡ true
 first_less kind text [] b stop = refl
@@ -20,7 +20,7 @@ first_less kind text (c ∷ cs) b stop = stop
 
 -- what ends a text before a line's end ends it, whatever followed
 ends_less : (kind : Kind) (text after b : List ℕ) → list_any is_newline after ≡ true → ends kind text (after ++ b) ≡ true → ends kind text after ≡ true
-ends_less Comment text after b h stop = ap (list_all is_blank) (sym (note_more after b h)) ∙ stop
+ends_less Comment text after b h stop = ap (list_all is_blank) (sym (comment_more after b h)) ∙ stop
 ends_less Identifier text after b h stop = first_less Identifier text after b stop
 ends_less Keyword text after b h stop = first_less Keyword text after b stop
 ends_less Integer text after b h stop = first_less Integer text after b stop

@@ -3,7 +3,7 @@ use Rattle.std.proofs.Common.{◌≡◌, ℕ, zero, suc, ◌<◌, ◌≤◌, ◌
 use Rattle.std.proofs.lemmas.Bool.{cases_Bool, or_cases, false≢true, eqb-true}
 use Rattle.bz_token.specs.declared.token.Kind.{Kind}
 use Rattle.bz_token.specs.declared.token.Kind.TheVariants.{Identifier, Keyword, Integer, String, Operator, Newline, Comment, Kept}
-use Rattle.bz_token.specs.Lexical.{signs, is_sign, is_text}
+use Rattle.bz_token.specs.Lexical.{operators, is_operator_text, is_text}
 use Rattle.bz_token.specs.Brackets.{is_inside, is_opening_bracket, is_closing_bracket, is_line, bracket_fits, fits, open_after_byte, open_after_token}
 use Rattle.bz_token.specs.Reading.{begins_gap, is_white, continues}
 use Rattle.bz_token.proofs.Classes.{mark, class_of, can_start, text_class, one_of, same_bytes}
@@ -12,15 +12,15 @@ use Rattle.bz_token.proofs.Scanning.{marks}
 abbrev pub is_bracket_byte : ℕ → Bool
 is_bracket_byte b = is_opening_bracket b || is_closing_bracket b
 
--- a bracket is a sign of its own
+-- a bracket is a operator of its own
 abbrev stands_alone : List ℕ → Bool
 stands_alone [] = true
 stands_alone (b ∷ []) = true
 stands_alone (b ∷ c ∷ bs) = not (is_bracket_byte b)
 
-sign_alone : (text : List ℕ) → is_sign text ≡ true → stands_alone text ≡ true
-unfolding signs
-sign_alone text is = one_of stands_alone signs text refl is
+operator_alone : (text : List ℕ) → is_operator_text text ≡ true → stands_alone text ≡ true
+unfolding operators
+operator_alone text is = one_of stands_alone operators text refl is
 
 opening_class : (b : ℕ) → is_opening_bracket b ≡ true → class_of b ≡ mark
 opening_class b h =
@@ -53,8 +53,8 @@ pub no_bracket : (kind : Kind) (b c : ℕ) (bs : List ℕ) → is_text kind (b �
 no_bracket kind b c bs is = elim (cases_Bool (is_bracket_byte b)) [
   | inr miss ↦ miss
   | inl hit ↦
-      let sign : kind ≡ Operator = marks kind (ap (can_start kind) (sym (bracket_class b hit)) ∙ text_class kind b (c ∷ bs) is) in
-      absurd (false≢true (sym (ap not hit) ∙ sign_alone (b ∷ c ∷ bs) (subst (λ k. is_text k (b ∷ c ∷ bs) ≡ true) sign is)))
+      let operator : kind ≡ Operator = marks kind (ap (can_start kind) (sym (bracket_class b hit)) ∙ text_class kind b (c ∷ bs) is) in
+      absurd (false≢true (sym (ap not hit) ∙ operator_alone (b ∷ c ∷ bs) (subst (λ k. is_text k (b ∷ c ∷ bs) ≡ true) operator is)))
 ]
 
 or_none : (x y : Bool) → (x || y) ≡ false → (x ≡ false) × (y ≡ false)

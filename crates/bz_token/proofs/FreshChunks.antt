@@ -3,7 +3,7 @@ use Rattle.std.proofs.Common.{◌≡◌, ℕ, ◌<◌, ◌≤◌, List, [], ◌�
 use Rattle.std.proofs.lemmas.Bool.{cases_Bool}
 use Rattle.bz_token.specs.declared.cutter.scan.Scan.{Scan}
 use Rattle.bz_token.specs.declared.cutter.block.Stage.{Stage}
-use Rattle.bz_token.specs.declared.cutter.block.Stage.TheVariants.{Notes}
+use Rattle.bz_token.specs.declared.cutter.block.Stage.TheVariants.{Comments}
 use Rattle.bz_token.specs.declared.cutter.scan.LineKind.TheVariants.{Blank}
 use Rattle.bz_token.specs.Chunks.{chunks}
 use Rattle.bz_token.specs.private.Stages.{takes, stage_after}
@@ -26,7 +26,7 @@ seen_takes : (s : Scan) (stage : Stage) (before part : List ℕ) (b : ℕ) (bs :
 seen_takes s stage before part b bs h t = rw (h, t, seen_chunks) refl
 
 seen_cut : (s : Scan) (stage : Stage) (before part : List ℕ) (b : ℕ) (bs : List ℕ) → is_ended s.inside ≡ true → takes (stage_after stage (line_here s part)) (b ∷ bs) ≡ false
-    → seen_chunks s stage before part (b ∷ bs) ≡ (before ++ part) ∷ seen_chunks (next s b) Notes [] (b ∷ []) bs
+    → seen_chunks s stage before part (b ∷ bs) ≡ (before ++ part) ∷ seen_chunks (next s b) Comments [] (b ∷ []) bs
 seen_cut s stage before part b bs h t = rw (h, t, seen_chunks) refl
 
 -- the first chunk is not shorter than what was seen
@@ -46,7 +46,7 @@ first_chunk (b ∷ bs) s stage before part = elim (cases_Bool (is_ended s.inside
     | inl on ↦
         let r = first_chunk bs (next s b) (stage_after stage (line_here s part)) (before ++ part) (b ∷ []) in
         record { chunk = r.chunk; others = r.others; chunks_are = seen_takes s stage before part b bs ended on ∙ r.chunks_are; enough = omega (arith, r.enough, length-append (before ++ part) (b ∷ [])) }
-    | inr off ↦ record { chunk = before ++ part; others = seen_chunks (next s b) Notes [] (b ∷ []) bs; chunks_are = seen_cut s stage before part b bs ended off; enough = omega arith }
+    | inr off ↦ record { chunk = before ++ part; others = seen_chunks (next s b) Comments [] (b ∷ []) bs; chunks_are = seen_cut s stage before part b bs ended off; enough = omega arith }
   ]
 ]
 
@@ -71,7 +71,7 @@ ends_there (x ∷ xs) b rest s stage before part cs e = elim (cases_Bool (is_end
         let same : (before ++ part) ++ x ∷ xs ≡ ((before ++ part) ++ x ∷ []) ++ xs = simp append_assoc in
         ends_there xs b rest (next s x) (stage_after stage (line_here s part)) (before ++ part) (x ∷ []) cs (sym (seen_takes s stage before part x (xs ++ b ∷ rest) ended on) ∙ e ∙ ap (λ c. c ∷ cs) same)
     | inr off ↦
-        let same = same_first (before ++ part) ((before ++ part) ++ x ∷ xs) (seen_chunks (next s x) Notes [] (x ∷ []) (xs ++ b ∷ rest)) cs (sym (seen_cut s stage before part x (xs ++ b ∷ rest) ended off) ∙ e) in
+        let same = same_first (before ++ part) ((before ++ part) ++ x ∷ xs) (seen_chunks (next s x) Comments [] (x ∷ []) (xs ++ b ∷ rest)) cs (sym (seen_cut s stage before part x (xs ++ b ∷ rest) ended off) ∙ e) in
         absurd (omega (arith, ap length same, length-append (before ++ part) (x ∷ xs)))
   ]
 ]
@@ -79,7 +79,7 @@ ends_there (x ∷ xs) b rest s stage before part cs e = elim (cases_Bool (is_end
 -- a chunk that something follows ends a logical line
 pub chunk_ends_line : (c : List ℕ) (b : ℕ) (rest : List ℕ) → EndsBefore c (b ∷ rest) → 0 < length c → is_ended (run start c).inside ≡ true
 chunk_ends_line [] b rest e some = absurd (omega arith)
-chunk_ends_line (x ∷ xs) b rest e some = ends_there xs b rest (outside 0 Blank x) Notes [] (x ∷ []) (chunks (b ∷ rest)) (sym (chunks_are (x ∷ xs ++ b ∷ rest)) ∙ e)
+chunk_ends_line (x ∷ xs) b rest e some = ends_there xs b rest (outside 0 Blank x) Comments [] (x ∷ []) (chunks (b ∷ rest)) (sym (chunks_are (x ∷ xs ++ b ∷ rest)) ∙ e)
 
 -- the tokens of a chunk that something follows end with its newline
 pub chunk_lines : (first depth : ℕ) (c : List ℕ) (b : ℕ) (rest : List ℕ) (ts : List Placed) → EndsBefore c (b ∷ rest) → 0 < length c → AreTokensOf first depth c ts → AreLinesOf first depth c ts

@@ -52,7 +52,7 @@ none_before p (x ∷ xs) (suc n) h =
 not_false : (b : Bool) → b ≡ false → not b ≡ true
 not_false b h = rw h refl
 
--- a number sign is no blank
+-- a number operator is no blank
 hash_no_blank : (b : ℕ) → (b == 35) ≡ true → is_blank b ≡ false
 hash_no_blank b h = grind (arith, nat_tests)
 

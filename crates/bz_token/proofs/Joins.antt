@@ -19,13 +19,13 @@ use Rattle.bz_token.proofs.Stops.{token_ended, token_ends}
 use Rattle.bz_token.proofs.Progress.{newlines, newlines-append, column_from-append, reading_bytes, lines_of}
 
 -- white space up to a newline stays so, whatever follows
-pub note_more : (after b : List ℕ) → list_any is_newline after ≡ true → take (prefix_len (λ c. not (is_newline c)) (after ++ b)) (after ++ b) ≡ take (prefix_len (λ c. not (is_newline c)) after) after
-note_more [] b h = absurd (false≢true h)
-note_more (c ∷ cs) b h = elim (cases_Bool (is_newline c)) [
+pub comment_more : (after b : List ℕ) → list_any is_newline after ≡ true → take (prefix_len (λ c. not (is_newline c)) (after ++ b)) (after ++ b) ≡ take (prefix_len (λ c. not (is_newline c)) after) after
+comment_more [] b h = absurd (false≢true h)
+comment_more (c ∷ cs) b h = elim (cases_Bool (is_newline c)) [
   | inl hit ↦ rw hit refl
   | inr miss ↦
       let rest : list_any is_newline cs ≡ true = sym (ap (λ x. x || list_any is_newline cs) miss) ∙ h in
-      rw (miss, one-add, one-add) (ap (λ xs. c ∷ xs) (note_more cs b rest))
+      rw (miss, one-add, one-add) (ap (λ xs. c ∷ xs) (comment_more cs b rest))
 ]
 
 first_more : (kind : Kind) (text after b : List ℕ) → list_any is_newline after ≡ true → stops_at kind text after ≡ true → stops_at kind text (after ++ b) ≡ true
@@ -34,7 +34,7 @@ first_more kind text (c ∷ cs) b h stop = stop
 
 -- what ends a text before a line's end ends it, whatever follows
 ends_more : (kind : Kind) (text after b : List ℕ) → list_any is_newline after ≡ true → ends kind text after ≡ true → ends kind text (after ++ b) ≡ true
-ends_more Comment text after b h stop = ap (list_all is_blank) (note_more after b h) ∙ stop
+ends_more Comment text after b h stop = ap (list_all is_blank) (comment_more after b h) ∙ stop
 ends_more Identifier text after b h stop = first_more Identifier text after b h stop
 ends_more Keyword text after b h stop = first_more Keyword text after b h stop
 ends_more Integer text after b h stop = first_more Integer text after b h stop

@@ -7,7 +7,7 @@ pub mod Stack
 pub mod Classes
 pub mod Openings
 pub mod Ends
-pub mod Signs
+pub mod Operators
 pub mod Tables
 pub mod Scanning
 pub mod Singles

@@ -5,7 +5,7 @@ use Rattle.std.specs.List.{list_all, list_any}
 use Rattle.std.proofs.lemmas.Bool.{cases_Bool, and_parts, or_parts, false≢true, eqb-true}
 use Rattle.std.proofs.lemmas.Bool.Decides.{nat_tests}
 use Rattle.bz_token.specs.declared.token.Token.{Token}
-use Rattle.bz_token.specs.declared.cutter.scan.LineKind.TheVariants.{Note}
+use Rattle.bz_token.specs.declared.cutter.scan.LineKind.TheVariants.{CommentLine}
 use Rattle.bz_token.specs.declared.chunk.LineEnd.{LineEnd}
 use Rattle.bz_token.specs.declared.chunk.LineEnd.TheVariants.{Joins, Ends, Block}
 use Rattle.bz_token.specs.Lexical.{is_blank}
@@ -129,8 +129,8 @@ joins_only false false false h = absurd (apart h)
     apart e = cc
 
 -- comments alone
-pub joins_note : (first : ℕ) (before lines : List ℕ) (ps : List Piece) → line_end (tokens_of first before lines ps) ≡ Joins → kind_of ps ≡ Note
-joins_note first before lines ps h =
+pub joins_comment : (first : ℕ) (before lines : List ℕ) (ps : List Piece) → line_end (tokens_of first before lines ps) ≡ Joins → kind_of ps ≡ CommentLine
+joins_comment first before lines ps h =
     let parts = joins_only (list_all is_newline_token (tokens_of first before lines ps)) (list_all is_comment_token (tokens_of first before lines ps)) (begins_block (tokens_of first before lines ps)) h in
     let newlines = sym (newlines_are first before lines ps) ∙ parts.0 in
     let comments = sym (comments_are first before lines ps) ∙ parts.1 in

@@ -30,7 +30,7 @@ use Rattle.bz_token.proofs.Joins.{line_text}
 use Rattle.bz_token.proofs.TokenLines.{lines_are_lines, lines_of_join, one_line}
 use Rattle.bz_token.proofs.ChunkForms.{comments_snoc, statement_chunk}
 use Rattle.bz_token.proofs.FirstLines.{lines_reading, closed_lines, split_reading, ends_snoc}
-use Rattle.bz_token.proofs.LineEnds.{tokens_after, map_drop, joins_note, line_ends}
+use Rattle.bz_token.proofs.LineEnds.{tokens_after, map_drop, joins_comment, line_ends}
 
 -- before the first step
 pub started : (first depth : ℕ) (bytes : List ℕ) (lexer : Lexer) (spot : Spot) → lexer.tokens.items ≡ [] → opened lexer.brackets ≡ [] → spot.rest.now ≡ bytes → spot.place.line ≡ first → spot.place.col ≡ 1 → spot.last_line ≡ None → IsUtf8 bytes → IsInLine first depth bytes lexer spot 0
@@ -127,14 +127,14 @@ pub joined : (first depth : ℕ) (bytes : List ℕ) (lexer : Lexer) (spot : Spot
 joined first depth bytes lexer spot start a h =
     let t = line_tokens first depth bytes lexer spot start a in
     let whole = a.line ++ a.last ∷ [] in
-    let note = joins_note first t.0 t.1 whole (ap line_end (sym t.2) ∙ h) in
+    let comment = joins_comment first t.0 t.1 whole (ap line_end (sym t.2) ∙ h) in
     record {
       read = a.read;
       done = a.done ++ whole;
       line = [];
       pieces_are = a.pieces_are ∙ sym (append-nil (a.done ++ whole));
       ended = all_ended a.done a.line a.last a.newline;
-      comments = ap are_comments (lines_with a.done a.line a.last a.ended a.none a.newline) ∙ comments_snoc (lines_of a.done []) (line_of whole []) a.comments (ap is_comment_line note);
+      comments = ap are_comments (lines_with a.done a.line a.last a.ended a.none a.newline) ∙ comments_snoc (lines_of a.done []) (line_of whole []) a.comments (ap is_comment_line comment);
       none = refl;
       start_is = token_count first depth bytes lexer spot a.read ∙ ap length a.pieces_are;
     }

@@ -10,7 +10,7 @@ use Rattle.bz_token.specs.declared.scan_string.Opening.{Opening}
 use Rattle.bz_token.specs.declared.token.Kind.{Kind}
 use Rattle.bz_token.specs.declared.token.Kind.TheVariants.{Identifier, Keyword, Integer, String, Operator, Newline, Comment, Kept}
 use Rattle.bz_token.specs.Places.{Placed, line_at, column_at}
-use Rattle.bz_token.specs.Lexical.{begins, is_sign, signs, opening, counts, IsToken, HasNoToken}
+use Rattle.bz_token.specs.Lexical.{begins, is_operator_text, operators, opening, counts, IsToken, HasNoToken}
 use Rattle.bz_token.specs.Brackets.{is_inside, is_opening_bracket, is_closing_bracket, closes_innermost, bracket_fits, fits, open_tokens}
 use Rattle.bz_token.specs.Reading.{is_gap, begins_gap, Piece, IsReading, open_after, bytes_of, tokens_of, AreTokensOf}
 use Rattle.bz_token.specs.Faults.{IsOpenText, IsBadNumber, IsBadBackslash, IsBadCharacter, IsBadBracket, IsTooDeep, IsFaultAt, IsOpenBracket, IsFault}
@@ -195,10 +195,10 @@ deep_sort depth opened (b ∷ bs) bad =
     first : is_opening_bracket b ≡ true → is_bracket_byte b ≡ true
     first h = rw h refl
 
--- a bracket is a sign
-bracket_sign : (b : ℕ) → is_bracket_byte b ≡ true → is_sign (b ∷ []) ≡ true
-unfolding signs
-bracket_sign b h = grind (arith, nat_tests)
+-- a bracket is a operator
+bracket_operator : (b : ℕ) → is_bracket_byte b ≡ true → is_operator_text (b ∷ []) ≡ true
+unfolding operators
+bracket_operator b h = grind (arith, nat_tests)
 
 pub character_sort : (depth : ℕ) (opened place : List ℕ) → IsBadCharacter place → IsBadSort depth opened place bad_character
 character_sort depth opened [] bad = absurd (omega (arith, bad.some))
@@ -222,7 +222,7 @@ character_sort depth opened (b ∷ bs) bad =
     no_brackets : (is_opening_bracket b ≡ false) × (is_closing_bracket b ≡ false)
     no_brackets = elim (cases_Bool (is_bracket_byte b)) [
       | inr miss ↦ or_none (is_opening_bracket b) (is_closing_bracket b) miss
-      | inl hit ↦ absurd (bad.none Operator (b ∷ []) bs refl (bracket_sign b hit) (counts_free (b ∷ bs) (b ∷ []) Operator (none_of (opening (b ∷ bs)) bad.unquoted) bad.no_digit))
+      | inl hit ↦ absurd (bad.none Operator (b ∷ []) bs refl (bracket_operator b hit) (counts_free (b ∷ bs) (b ∷ []) Operator (none_of (opening (b ∷ bs)) bad.unquoted) bad.no_digit))
     ]
 
 pub told_at : (first depth : ℕ) (bytes : List ℕ) (IsBad : List ℕ → List ℕ → Type 0) (line col : ℕ) (sort : Sort) → ((opened place : List ℕ) → IsBad opened place → IsBadSort depth opened place sort) → IsFaultAt first depth bytes IsBad line col → IsToldAt first depth bytes (told sort line col)

@@ -15,7 +15,7 @@ use Rattle.bz_token.specs.Lexical.{is_word_byte, is_newline, is_name, is_keyword
 use Rattle.bz_token.specs.private.CutSteps.{is_ended, outside, next_in, next, run}
 use Rattle.bz_token.proofs.Classes.{keyword_name}
 use Rattle.bz_token.proofs.Ends.{number_words, string_opens}
-use Rattle.bz_token.proofs.Agree.{is_sign_plain, sign_plain}
+use Rattle.bz_token.proofs.Agree.{is_operator_plain, operator_plain}
 use Rattle.bz_token.proofs.FaultFronts.{has_newline, opening_same_more}
 use Rattle.bz_token.proofs.OpenStrings.{string_within}
 use Rattle.bz_token.proofs.CutMachine.{next_inside}
@@ -112,8 +112,8 @@ quiet_fronts (b ∷ bs) s none =
 word_no_newline : (b : ℕ) → is_word_byte b ≡ true → is_newline b ≡ false
 word_no_newline b h = grind (arith, nat_tests)
 
-sign_no_newline : (b : ℕ) → is_sign_plain b ≡ true → is_newline b ≡ false
-sign_no_newline b h = grind (arith, nat_tests)
+operator_no_newline : (b : ℕ) → is_operator_plain b ≡ true → is_newline b ≡ false
+operator_no_newline b h = grind (arith, nat_tests)
 
 all_no_newline : (p : ℕ → Bool) → ((b : ℕ) → p b ≡ true → is_newline b ≡ false) → (xs : List ℕ) → list_all p xs ≡ true → has_newline xs ≡ false
 all_no_newline p none [] all = refl
@@ -127,7 +127,7 @@ name_no_newline : (text : List ℕ) → is_name text ≡ true → has_newline te
 name_no_newline [] name = refl
 name_no_newline (b ∷ bs) name = all_no_newline is_word_byte word_no_newline (b ∷ bs) (and_parts (not (is_ascii_digit b)) (list_all is_word_byte (b ∷ bs)) name).1
 
--- names, keywords, numbers and signs hold no newline
+-- names, keywords, numbers and operators hold no newline
 abbrev pub is_short_kind : Kind → Bool
 is_short_kind Identifier = true
 is_short_kind Keyword = true
@@ -139,7 +139,7 @@ pub short_no_newline : (kind : Kind) (text : List ℕ) → is_short_kind kind �
 short_no_newline Identifier text short is = name_no_newline text (and_parts (is_name text) (not (is_keyword text)) is).0
 short_no_newline Keyword text short is = name_no_newline text (keyword_name text is)
 short_no_newline Integer text short is = all_no_newline is_word_byte word_no_newline text (number_words text is)
-short_no_newline Operator text short is = all_no_newline is_sign_plain sign_no_newline text (and_parts (list_all is_sign_plain text) _ (sign_plain text is)).0
+short_no_newline Operator text short is = all_no_newline is_operator_plain operator_no_newline text (and_parts (list_all is_operator_plain text) _ (operator_plain text is)).0
 short_no_newline String text short is = absurd (false≢true short)
 short_no_newline Newline text short is = absurd (false≢true short)
 short_no_newline CommentToken text short is = absurd (false≢true short)

@@ -17,15 +17,15 @@ use Rattle.bz_token.specs.declared.scan_token.Scanned.{Scanned}
 use Rattle.bz_token.specs.declared.token.Kind.{Kind}
 use Rattle.bz_token.specs.declared.token.Kind.TheVariants.{Identifier, Keyword, Integer, String, Operator, Newline, Comment, Kept}
 use Rattle.bz_token.specs.Pieces.{is_quote}
-use Rattle.bz_token.specs.Lexical.{begins, is_word_byte, is_blank, is_newline, is_name, is_number, is_sign, is_comment, opens_after, opening, opening_length, is_text, IsToken}
+use Rattle.bz_token.specs.Lexical.{begins, is_word_byte, is_blank, is_newline, is_name, is_number, is_operator_text, is_comment, opens_after, opening, opening_length, is_text, IsToken}
 use Rattle.bz_token.specs.private.Closing.{closes}
 use Rattle.bz_token.specs.Faults.{IsBadCharacter, IsBadNumber, IsOpenText}
 use Rattle.bz_token.specs.Ends.{stops_at}
 use Rattle.bz_token.specs.private.Scans.{IsScanned}
 use Rattle.bz_token.proofs.Classes.{mark, unknown, can_start, is_mark}
 use Rattle.bz_token.proofs.Openings.{opens_plain, opening_front, closes_last, opening_facts}
-use Rattle.bz_token.proofs.Ends.{name_token_at, number_token, sign_token, line_token, note_token, string_token_at, open_string, bad_number, no_sign, comment_parts}
-use Rattle.bz_token.proofs.Signs.{is_sign_byte, sign_bytes}
+use Rattle.bz_token.proofs.Ends.{name_token_at, number_token, operator_token, line_token, comment_token, string_token_at, open_string, bad_number, no_operator, comment_parts}
+use Rattle.bz_token.proofs.Operators.{is_operator_byte, operator_bytes}
 
 pub boundary_after : (bytes : List ℕ) (n : ℕ) → 0 < n → n ≤ length bytes → get_or bytes (n - 1) 0 < 128 → IsUtf8 bytes → IsCharBoundary bytes n
 boundary_after bytes n some fits ascii utf8 =
@@ -160,37 +160,37 @@ line_scanned (b ∷ bs) some first = record {
   boundary = boundary_after (b ∷ bs) 1 (omega arith) (omega arith) (rw first (omega arith));
 }
 
-signs_line : (xs : List ℕ) → list_all is_sign_byte xs ≡ true → list_any is_newline xs ≡ false
-signs_line [] h = refl
-signs_line (x ∷ xs) h =
-    let parts = and_parts (is_sign_byte x) (list_all is_sign_byte xs) h in
-    or_no _ _ (sign_no_newline x parts.0) (signs_line xs parts.1)
+operators_line : (xs : List ℕ) → list_all is_operator_byte xs ≡ true → list_any is_newline xs ≡ false
+operators_line [] h = refl
+operators_line (x ∷ xs) h =
+    let parts = and_parts (is_operator_byte x) (list_all is_operator_byte xs) h in
+    or_no _ _ (operator_no_newline x parts.0) (operators_line xs parts.1)
   where
-    sign_no_newline : (x : ℕ) → is_sign_byte x ≡ true → is_newline x ≡ false
-    sign_no_newline x h = grind (arith, nat_tests)
+    operator_no_newline : (x : ℕ) → is_operator_byte x ≡ true → is_newline x ≡ false
+    operator_no_newline x h = grind (arith, nat_tests)
 
 all_at : (p : ℕ → Bool) (xs : List ℕ) (i : ℕ) → list_all p xs ≡ true → i < length xs → p (get_or xs i 0) ≡ true
 all_at p [] i h less = absurd (omega arith)
 all_at p (x ∷ xs) zero h less = (and_parts (p x) (list_all p xs) h).0
 all_at p (x ∷ xs) (suc i) h less = all_at p xs i (and_parts (p x) (list_all p xs) h).1 (omega arith)
 
-sign_ascii : (x : ℕ) → is_sign_byte x ≡ true → x < 128
-sign_ascii x h = grind (arith, nat_tests)
+operator_ascii : (x : ℕ) → is_operator_byte x ≡ true → x < 128
+operator_ascii x h = grind (arith, nat_tests)
 
-pub sign_scanned : (bytes : List ℕ) (n : ℕ) → 0 < n → n ≤ length bytes → is_sign (take n bytes) ≡ true → stops_at Operator (take n bytes) (drop n bytes) ≡ true → IsScanned bytes (record { kind = Operator; len = n; has_newline = false })
-sign_scanned [] n some fits is stop = absurd (omega arith)
-sign_scanned (b ∷ bs) zero some fits is stop = absurd (omega arith)
-sign_scanned (b ∷ bs) (suc n) some fits is stop =
-    let bytes = sign_bytes (b ∷ take n bs) is in
+pub operator_scanned : (bytes : List ℕ) (n : ℕ) → 0 < n → n ≤ length bytes → is_operator_text (take n bytes) ≡ true → stops_at Operator (take n bytes) (drop n bytes) ≡ true → IsScanned bytes (record { kind = Operator; len = n; has_newline = false })
+operator_scanned [] n some fits is stop = absurd (omega arith)
+operator_scanned (b ∷ bs) zero some fits is stop = absurd (omega arith)
+operator_scanned (b ∷ bs) (suc n) some fits is stop =
+    let bytes = operator_bytes (b ∷ take n bs) is in
     let size : length (take (suc n) (b ∷ bs)) ≡ suc n = length-take-le (suc n) (b ∷ bs) fits in
-    let last : is_sign_byte (get_or (take (suc n) (b ∷ bs)) n 0) ≡ true = all_at is_sign_byte (take (suc n) (b ∷ bs)) n bytes (omega arith) in
+    let last : is_operator_byte (get_or (take (suc n) (b ∷ bs)) n 0) ≡ true = all_at is_operator_byte (take (suc n) (b ∷ bs)) n bytes (omega arith) in
     let here : get_or (b ∷ bs) (suc n - 1) 0 ≡ get_or (take (suc n) (b ∷ bs)) n 0 = rw sub-one (sym (get_or-take (suc n) (b ∷ bs) n 0 (omega arith))) in
     record {
       some = some;
       within = fits;
-      token = sign_token b (take n bs) (drop n bs) is stop;
-      one_line = λ h. signs_line (b ∷ take n bs) bytes;
-      boundary = boundary_after (b ∷ bs) (suc n) some fits (subst (λ x. x < 128) (sym here) (sign_ascii _ last));
+      token = operator_token b (take n bs) (drop n bs) is stop;
+      one_line = λ h. operators_line (b ∷ take n bs) bytes;
+      boundary = boundary_after (b ∷ bs) (suc n) some fits (subst (λ x. x < 128) (sym here) (operator_ascii _ last));
     }
 
 -- what is left of a line
@@ -203,8 +203,8 @@ line_rest p (x ∷ xs) (suc r) fits = elim (cases_Bool (p x)) [
 ]
 
 -- a comment ends before white space, a newline or the end
-note_boundary : (bytes : List ℕ) (r : ℕ) → r ≤ prefix_len (λ b. not (is_newline b)) bytes → list_all is_blank (drop r (take (prefix_len (λ b. not (is_newline b)) bytes) bytes)) ≡ true → IsCharBoundary bytes r
-note_boundary bytes r fits blank =
+comment_boundary : (bytes : List ℕ) (r : ℕ) → r ≤ prefix_len (λ b. not (is_newline b)) bytes → list_all is_blank (drop r (take (prefix_len (λ b. not (is_newline b)) bytes) bytes)) ≡ true → IsCharBoundary bytes r
+comment_boundary bytes r fits blank =
     elim (cases_lt r (prefix_len (λ b. not (is_newline b)) bytes)) [
       | inl inside ↦
           let n = prefix_len (λ b. not (is_newline b)) bytes in
@@ -232,16 +232,16 @@ note_boundary bytes r fits blank =
     not_false true h = refl
     not_false false h = absurd (false≢true (sym h))
 
-pub note_scanned : (bytes : List ℕ) (r : ℕ) → 0 < r → r ≤ length bytes → r ≤ prefix_len (λ b. not (is_newline b)) bytes → is_comment (take r bytes) ≡ true → list_all is_blank (drop r (take (prefix_len (λ b. not (is_newline b)) bytes) bytes)) ≡ true
+pub comment_scanned : (bytes : List ℕ) (r : ℕ) → 0 < r → r ≤ length bytes → r ≤ prefix_len (λ b. not (is_newline b)) bytes → is_comment (take r bytes) ≡ true → list_all is_blank (drop r (take (prefix_len (λ b. not (is_newline b)) bytes) bytes)) ≡ true
     → IsScanned bytes (record { kind = Comment; len = r; has_newline = false })
-note_scanned [] r some fits line is blank = absurd (omega arith)
-note_scanned (b ∷ bs) zero some fits line is blank = absurd (omega arith)
-note_scanned (b ∷ bs) (suc r) some fits line is blank = record {
+comment_scanned [] r some fits line is blank = absurd (omega arith)
+comment_scanned (b ∷ bs) zero some fits line is blank = absurd (omega arith)
+comment_scanned (b ∷ bs) (suc r) some fits line is blank = record {
   some = some;
   within = fits;
-  token = note_token b (take r bs) (drop r bs) is (subst (λ xs. list_all is_blank xs ≡ true) (line_rest (λ c. not (is_newline c)) (b ∷ bs) (suc r) line) blank);
+  token = comment_token b (take r bs) (drop r bs) is (subst (λ xs. list_all is_blank xs ≡ true) (line_rest (λ c. not (is_newline c)) (b ∷ bs) (suc r) line) blank);
   one_line = λ h. (comment_parts (b ∷ take r bs) is).1;
-  boundary = λ utf8. note_boundary (b ∷ bs) (suc r) line blank;
+  boundary = λ utf8. comment_boundary (b ∷ bs) (suc r) line blank;
 }
 
 no_string_quote : (b : ℕ) (bs : List ℕ) → opening (b ∷ bs) ≡ None → is_word_byte b ≡ false → is_quote b ≡ false
@@ -286,16 +286,16 @@ unknowns Kept h = absurd (false≢true h)
 
 -- a byte that begins nothing
 pub no_character : (bytes : List ℕ) → 0 < length bytes → opening bytes ≡ None → begins is_word_byte bytes ≡ false → (get_or bytes 0 0 == 10) ≡ false → (get_or bytes 0 0 == 35) ≡ false → (get_or bytes 0 0 == 92) ≡ false
-    → ((n : ℕ) → is_sign (take n bytes) ≡ false) → IsBadCharacter bytes
-no_character [] some unquoted none line note slash sign = absurd (omega arith)
-no_character (b ∷ bs) some unquoted none line note slash sign = record {
+    → ((n : ℕ) → is_operator_text (take n bytes) ≡ false) → IsBadCharacter bytes
+no_character [] some unquoted none line comment slash operator = absurd (omega arith)
+no_character (b ∷ bs) some unquoted none line comment slash operator = record {
   some = some;
   unquoted = ap is_some unquoted;
   no_digit = plain;
   no_backslash = slash;
   none = elim (cases_Bool (is_mark b)) [
-    | inl hit ↦ no_sign b bs mark (rw (none, quoteless, line, note, hit) refl) marks sign
-    | inr miss ↦ no_sign b bs unknown (rw (none, quoteless, line, note, miss) refl) unknowns sign
+    | inl hit ↦ no_operator b bs mark (rw (none, quoteless, line, comment, hit) refl) marks operator
+    | inr miss ↦ no_operator b bs unknown (rw (none, quoteless, line, comment, miss) refl) unknowns operator
   ];
 }
   where

@@ -12,12 +12,12 @@ use Rattle.bz_token.specs.declared.scan_token.Scanned.{Scanned}
 use Rattle.bz_token.specs.declared.scan_token.Bad.{Bad}
 use Rattle.bz_token.specs.declared.scan_token.Bad.TheVariants.{Character, Number, OpenText, Backslash}
 use Rattle.bz_token.specs.declared.token.Kind.TheVariants.{Identifier, Keyword, Integer, String, Operator, Newline, Comment}
-use Rattle.bz_token.specs.Lexical.{begins, is_word_byte, is_blank, is_newline, is_keyword, is_number, is_sign, opening, opening_length}
+use Rattle.bz_token.specs.Lexical.{begins, is_word_byte, is_blank, is_newline, is_keyword, is_number, is_operator_text, opening, opening_length}
 use Rattle.bz_token.specs.private.Closing.{closes}
 use Rattle.bz_token.specs.private.Scans.{IsScanned, IsBadPlace}
 use Rattle.bz_token.proofs.Gaps.{comment_front}
-use Rattle.bz_token.proofs.Signs.{IsSignLength, sign_at}
-use Rattle.bz_token.proofs.Scanning.{string_scanned, open_text, number_scanned, no_number, name_scanned, line_scanned, sign_scanned, note_scanned, no_character}
+use Rattle.bz_token.proofs.Operators.{IsOperatorLength, operator_at}
+use Rattle.bz_token.proofs.Scanning.{string_scanned, open_text, number_scanned, no_number, name_scanned, line_scanned, operator_scanned, comment_scanned, no_character}
 
 abbrev pub HasTokenOrIsBad : List ℕ → Type 0
 HasTokenOrIsBad place = ((s : Scanned) × IsScanned place s) ⊎ ((bad : Bad) × IsBadPlace place bad)
@@ -86,19 +86,19 @@ name_or_word bytes unquoted word plain = elim (cases_Bool (is_keyword (take (pre
   | inr none ↦ inl (record { kind = Identifier; len = prefix_len is_word_byte bytes; has_newline = false }, name_scanned Identifier bytes unquoted word plain (λ name. rw (name, none) refl))
 ]
 
-sign_length : (a b c : ℕ) → (r : ℕ) × IsSignLength a b c r
-sign_length a b c = elim (greatest (λ n. is_sign (take n (a ∷ b ∷ c ∷ []))) 3) [
-  | inl r ↦ (r.0, record { at_most = r.1; sign = λ h. r.2; longer_1 = λ h. r.3 1 h (omega arith); longer_2 = λ h. r.3 2 h (omega arith); longer_3 = λ h. r.3 3 h (omega arith) })
-  | inr none ↦ (0, record { at_most = omega arith; sign = λ h. absurd (omega arith); longer_1 = λ h. none 1 (omega arith); longer_2 = λ h. none 2 (omega arith); longer_3 = λ h. none 3 (omega arith) })
+operator_length : (a b c : ℕ) → (r : ℕ) × IsOperatorLength a b c r
+operator_length a b c = elim (greatest (λ n. is_operator_text (take n (a ∷ b ∷ c ∷ []))) 3) [
+  | inl r ↦ (r.0, record { at_most = r.1; operator = λ h. r.2; longer_1 = λ h. r.3 1 h (omega arith); longer_2 = λ h. r.3 2 h (omega arith); longer_3 = λ h. r.3 3 h (omega arith) })
+  | inr none ↦ (0, record { at_most = omega arith; operator = λ h. absurd (omega arith); longer_1 = λ h. none 1 (omega arith); longer_2 = λ h. none 2 (omega arith); longer_3 = λ h. none 3 (omega arith) })
 ]
 
-sign_or_bad : (bytes : List ℕ) → 0 < length bytes → opening bytes ≡ None → begins is_word_byte bytes ≡ false → (get_or bytes 0 0 == 10) ≡ false → (get_or bytes 0 0 == 35) ≡ false → (get_or bytes 0 0 == 92) ≡ false → HasTokenOrIsBad bytes
-sign_or_bad bytes some unquoted none line note slash =
-    let r = sign_length (get_or bytes 0 0) (get_or bytes 1 0) (get_or bytes 2 0) in
-    let at = sign_at bytes r.0 r.1 in
+operator_or_bad : (bytes : List ℕ) → 0 < length bytes → opening bytes ≡ None → begins is_word_byte bytes ≡ false → (get_or bytes 0 0 == 10) ≡ false → (get_or bytes 0 0 == 35) ≡ false → (get_or bytes 0 0 == 92) ≡ false → HasTokenOrIsBad bytes
+operator_or_bad bytes some unquoted none line comment slash =
+    let r = operator_length (get_or bytes 0 0) (get_or bytes 1 0) (get_or bytes 2 0) in
+    let at = operator_at bytes r.0 r.1 in
     elim (cases_lt 0 r.0) [
-      | inl long ↦ inl (record { kind = Operator; len = r.0; has_newline = false }, sign_scanned bytes r.0 long at.in_range (at.sign long) (at.stops long))
-      | inr empty ↦ inr (Character, no_character bytes some unquoted none line note slash (at.none (omega arith)))
+      | inl long ↦ inl (record { kind = Operator; len = r.0; has_newline = false }, operator_scanned bytes r.0 long at.in_range (at.operator long) (at.stops long))
+      | inr empty ↦ inr (Character, no_character bytes some unquoted none line comment slash (at.none (omega arith)))
     ]
 
 -- a list without its last white space
@@ -113,8 +113,8 @@ trimmed (x ∷ xs) = longer (trimmed xs).0 (trimmed xs).1 (trimmed xs).2 (trimme
       | inr miss ↦ (1, omega arith, λ h. miss, blank)
     ]
 
-note_here : (b : ℕ) (bs : List ℕ) → (b == 35) ≡ true → HasTokenOrIsBad (b ∷ bs)
-note_here b bs hash =
+comment_here : (b : ℕ) (bs : List ℕ) → (b == 35) ≡ true → HasTokenOrIsBad (b ∷ bs)
+comment_here b bs hash =
     let n = prefix_len (λ c. not (is_newline c)) (b ∷ bs) in
     let t = trimmed (take n (b ∷ bs)) in
     let within : n ≤ length (b ∷ bs) = prefix_len-le-length (λ c. not (is_newline c)) (b ∷ bs) in
@@ -123,7 +123,7 @@ note_here b bs hash =
     let fits : t.0 ≤ n = omega (arith, t.1, size) in
     inl (
       record { kind = Comment; len = t.0; has_newline = false },
-      note_scanned (b ∷ bs) t.0 some (omega arith) fits (comment_front (b ∷ bs) n t.0 hash refl some fits (λ h. t.2 some)) t.3,
+      comment_scanned (b ∷ bs) t.0 some (omega arith) fits (comment_front (b ∷ bs) n t.0 hash refl some fits (λ h. t.2 some)) t.3,
     )
   where
     more : (r : ℕ) → list_all is_blank (drop r (take (prefix_len (λ c. not (is_newline c)) (b ∷ bs)) (b ∷ bs))) ≡ true → 0 < r
@@ -134,10 +134,10 @@ mark_or_bad : (b : ℕ) (bs : List ℕ) → opening (b ∷ bs) ≡ None → is_w
 mark_or_bad b bs unquoted none = elim (cases_Bool (b == 10)) [
   | inl newline ↦ inl (record { kind = Newline; len = 1; has_newline = true }, line_scanned (b ∷ bs) (omega arith) (eqb-true b 10 newline))
   | inr no_line ↦ elim (cases_Bool (b == 35)) [
-    | inl hash ↦ note_here b bs hash
-    | inr no_note ↦ elim (cases_Bool (b == 92)) [
+    | inl hash ↦ comment_here b bs hash
+    | inr no_comment ↦ elim (cases_Bool (b == 92)) [
       | inl slash ↦ inr (Backslash, slash)
-      | inr no_slash ↦ sign_or_bad (b ∷ bs) (omega arith) unquoted none no_line no_note no_slash
+      | inr no_slash ↦ operator_or_bad (b ∷ bs) (omega arith) unquoted none no_line no_comment no_slash
     ]
   ]
 ]

@@ -4,9 +4,9 @@ use Rattle.std.specs.Prelude.{Option, Some, None}
 use Rattle.std.specs.List.{list_any}
 use Rattle.std.proofs.lemmas.Bool.{cases_Bool}
 use Rattle.bz_token.specs.declared.cutter.scan.LineKind.{LineKind}
-use Rattle.bz_token.specs.declared.cutter.scan.LineKind.TheVariants.{Blank, Note, Statement}
+use Rattle.bz_token.specs.declared.cutter.scan.LineKind.TheVariants.{Blank, CommentLine, Statement}
 use Rattle.bz_token.specs.declared.cutter.block.Opener.{Opener}
-use Rattle.bz_token.specs.declared.cutter.block.Stage.TheVariants.{Notes, InBlock, Done}
+use Rattle.bz_token.specs.declared.cutter.block.Stage.TheVariants.{Comments, InBlock, Done}
 use Rattle.bz_token.specs.LogicalLines.{Line}
 use Rattle.bz_token.specs.Blocks.{opener, goes_on}
 use Rattle.bz_token.specs.Chunks.{takes_on, is_followed, after_comments}
@@ -23,18 +23,18 @@ in_block word (l ∷ ls) text = elim (cases_Bool l.broken) [
   | inr whole ↦ rw (whole, list_any) (in_block word ls text)
 ]
 
-head_takes : (found : Option Opener) (l : Line) (ls : List Line) (text : List ℕ) → opener l.text ≡ found → takes (stage_from (stage_step Notes Statement found l.broken) ls) text ≡ takes_on found (l ∷ ls) text
+head_takes : (found : Option Opener) (l : Line) (ls : List Line) (text : List ℕ) → opener l.text ≡ found → takes (stage_from (stage_step Comments Statement found l.broken) ls) text ≡ takes_on found (l ∷ ls) text
 head_takes None l ls text is = done_takes ls text
 head_takes (Some word) l ls text is = elim (cases_Bool l.broken) [
   | inl broken ↦ rw (broken, list_any) (done_takes ls text)
   | inr whole ↦ rw (whole, list_any) (in_block word ls text)
 ]
 
-kind_takes : (kind : LineKind) (l : Line) (ls : List Line) (text : List ℕ) → l.kind ≡ kind → takes (stage_from Notes ls) text ≡ is_followed (after_comments ls) text → takes (stage_from (stage_after Notes l) ls) text ≡ is_followed (after_comments (l ∷ ls)) text
+kind_takes : (kind : LineKind) (l : Line) (ls : List Line) (text : List ℕ) → l.kind ≡ kind → takes (stage_from Comments ls) text ≡ is_followed (after_comments ls) text → takes (stage_from (stage_after Comments l) ls) text ≡ is_followed (after_comments (l ∷ ls)) text
 kind_takes Blank l ls text is more = rw is (done_takes ls text)
-kind_takes Note l ls text is more = rw is more
+kind_takes CommentLine l ls text is more = rw is more
 kind_takes Statement l ls text is more = rw is (head_takes (opener l.text) (record { text = l.text; kind = Statement; broken = l.broken }) ls text refl)
 
-pub stage_takes : (chunk : List Line) (text : List ℕ) → takes (stage_from Notes chunk) text ≡ is_followed (after_comments chunk) text
+pub stage_takes : (chunk : List Line) (text : List ℕ) → takes (stage_from Comments chunk) text ≡ is_followed (after_comments chunk) text
 stage_takes [] text = refl
 stage_takes (l ∷ ls) text = kind_takes l.kind l ls text refl (stage_takes ls text)

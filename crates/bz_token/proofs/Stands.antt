@@ -10,7 +10,7 @@ use Rattle.bz_token.specs.declared.cutter.scan.LineKind.TheVariants.{Statement}
 use Rattle.bz_token.specs.declared.cutter.scan.Inside.{Inside}
 use Rattle.bz_token.specs.declared.cutter.scan.Inside.TheVariants.{Plain, Ended, BrokenOff, Backslash, BackslashReturn, Comment, Opened, OpenedTwice, Short, ShortEscape, ShortEscapeReturn, Long, LongQuote, LongTwoQuotes, LongEscape}
 use Rattle.bz_token.specs.declared.cutter.scan.Scan.{Scan}
-use Rattle.bz_token.specs.private.CutSteps.{is_ended, at, outside, next_in, next, run, with_note}
+use Rattle.bz_token.specs.private.CutSteps.{is_ended, at, outside, next_in, next, run, with_comment}
 use Rattle.bz_token.specs.Lexical.{is_blank, is_newline, is_text, IsToken}
 use Rattle.bz_token.specs.Brackets.{is_line, fits, open_after_token}
 use Rattle.bz_token.specs.Reading.{is_white, is_gap, continues_gap, feeds_gap}
@@ -135,7 +135,7 @@ mutual
 -- what a token makes of its line
 abbrev pub kind_with : LineKind → Kind → LineKind
 kind_with k Newline = k
-kind_with k CommentToken = with_note k
+kind_with k CommentToken = with_comment k
 kind_with k _ = Statement
 
 -- a byte outside comments, white space and continued lines begins a statement
@@ -149,9 +149,9 @@ apart kind b c h none = elim (cases_Bool (b == c)) [
 ]
 
 statement_starts : (d : ℕ) (k : LineKind) (kind : Kind) (b : ℕ) (bs : List ℕ) → is_text kind (b ∷ bs) ≡ true → can_start kind newline ≡ false → can_start kind hash ≡ false → can_start kind unknown ≡ false → (outside d k b).kind ≡ Statement
-statement_starts d k kind b bs is line note none =
+statement_starts d k kind b bs is line comment none =
     let h = text_class kind b bs is in
-    statement_byte d k b (apart kind b 10 h line) (visible kind b bs is) (apart kind b 35 h note) (apart kind b 92 h none)
+    statement_byte d k b (apart kind b 10 h line) (visible kind b bs is) (apart kind b 35 h comment) (apart kind b 92 h none)
 
 -- in a statement it does not matter what else the line was
 outside_statement : (d : ℕ) (k : LineKind) (b : ℕ) → (outside d k b).kind ≡ Statement → outside d k b ≡ outside d Statement b
@@ -220,16 +220,16 @@ first_hash : (opened : List ℕ) (b : ℕ) (bs : List ℕ) → b ≡ 35 → open
 first_hash opened b [] same = ap (λ x. open_after_token opened (x ∷ [])) same
 first_hash opened b (c ∷ bs) same = refl
 
-note_after : (s : Scan) (opened : List ℕ) (k : LineKind) (b : ℕ) (bs after : List ℕ) → IsToken CommentToken (b ∷ bs) after → Stands s (length opened) k (b ∷ bs ++ after) → After s (run s (b ∷ bs)) (length (open_after_token opened (b ∷ bs))) (with_note k) after (b ∷ bs)
-note_after s opened k b bs after token st =
+comment_after : (s : Scan) (opened : List ℕ) (k : LineKind) (b : ℕ) (bs after : List ℕ) → IsToken CommentToken (b ∷ bs) after → Stands s (length opened) k (b ∷ bs ++ after) → After s (run s (b ∷ bs)) (length (open_after_token opened (b ∷ bs))) (with_comment k) after (b ∷ bs)
+comment_after s opened k b bs after token st =
     let d = length opened in
     let parts = comment_parts (b ∷ bs) token.whole in
     let same : b ≡ 35 = eqb-true b 35 parts.0 in
     let clean : list_any is_newline bs ≡ false = (or_none (is_newline b) (list_any is_newline bs) parts.1).1 in
-    let here : next s b ≡ at Comment d (with_note k) = stands_first s d k b (bs ++ after) st (ap is_blank same) ∙ ap (outside d k) same in
-    let end = comment_over bs (next s b) d (with_note k) clean here in
+    let here : next s b ≡ at Comment d (with_comment k) = stands_first s d k b (bs ++ after) st (ap is_blank same) ∙ ap (outside d k) same in
+    let end = comment_over bs (next s b) d (with_comment k) clean here in
     record {
-      stands = subst (λ n. Stands (run s (b ∷ bs)) n (with_note k) after) (ap length (sym (first_hash opened b bs same))) (in_comment end (token_ends CommentToken (b ∷ bs) after token));
+      stands = subst (λ n. Stands (run s (b ∷ bs)) n (with_comment k) after) (ap length (sym (first_hash opened b bs same))) (in_comment end (token_ends CommentToken (b ∷ bs) after token));
       quiet = plain_quiet (b ∷ bs) s parts.1;
     }
   where
@@ -241,11 +241,11 @@ note_after s opened k b bs after token st =
 statement_after : (depth : ℕ) (s : Scan) (opened : List ℕ) (k : LineKind) (kind : Kind) (b : ℕ) (bs after : List ℕ) → IsToken kind (b ∷ bs) after → fits depth opened kind (b ∷ bs) ≡ true → Stands s (length opened) k (b ∷ bs ++ after)
     → is_ended s.inside ≡ false → is_line kind ≡ false → can_start kind newline ≡ false → can_start kind hash ≡ false → can_start kind unknown ≡ false → is_quiet s (b ∷ bs) ≡ true
     → After s (run s (b ∷ bs)) (length (open_after_token opened (b ∷ bs))) Statement after (b ∷ bs)
-statement_after depth s opened k kind b bs after token fit st none noline line note other quiet =
+statement_after depth s opened k kind b bs after token fit st none noline line comment other quiet =
     let d = length opened in
     let parts = and_parts (not (is_ended (next s b).inside)) (is_quiet (next s b) bs) quiet in
     let first = stands_first s d k b (bs ++ after) st (visible kind b bs token.whole) in
-    let begun : (next s b).kind ≡ Statement = ap (λ t. t.kind) first ∙ statement_starts d k kind b bs token.whole line note other in
+    let begun : (next s b).kind ≡ Statement = ap (λ t. t.kind) first ∙ statement_starts d k kind b bs token.whole line comment other in
     let t = token_run depth s opened kind (b ∷ bs) after token fit (stands_ready s d k (b ∷ bs ++ after) st) in
     record {
       stands = ready_stands (run s (b ∷ bs)) (length (open_after_token opened (b ∷ bs))) after t.ready (quiet_end (b ∷ bs) s none quiet) (statement_run bs (next s b) (not_true (is_ended (next s b).inside) parts.0) parts.1 begun);
@@ -270,6 +270,6 @@ token_after depth s opened k String (b ∷ bs) after token fit st none line =
     first c cs e =
         let same : b ≡ c = cc in
         (k, subst (λ x. next s x ≡ outside (length opened) k x) same (stands_first s (length opened) k b (bs ++ after) st (visible String b bs token.whole)))
-token_after depth s opened k CommentToken (b ∷ bs) after token fit st none line = note_after s opened k b bs after token st
+token_after depth s opened k CommentToken (b ∷ bs) after token fit st none line = comment_after s opened k b bs after token st
 token_after depth s opened k Newline (b ∷ bs) after token fit st none line = absurd (false≢true (sym line))
 token_after depth s opened k Kept (b ∷ bs) after token fit st none line = absurd (false≢true token.whole)

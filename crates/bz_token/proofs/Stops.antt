@@ -11,13 +11,13 @@ use Rattle.bz_token.specs.declared.scan_string.Escape.TheVariants.{Unescaped}
 use Rattle.bz_token.specs.declared.token.Kind.{Kind}
 use Rattle.bz_token.specs.declared.token.Kind.TheVariants.{Identifier, Keyword, Integer, String, Operator, Newline, Comment, Kept}
 use Rattle.bz_token.specs.Pieces.{is_quote}
-use Rattle.bz_token.specs.Lexical.{is_word_byte, is_blank, is_newline, is_one_of, signs, is_sign, keywords, is_keyword, is_name, is_comment, ends_blank, closing_row, are_two, opens_after, opening, opening_length, is_long, is_text, counts, is_string_kind, IsToken}
+use Rattle.bz_token.specs.Lexical.{is_word_byte, is_blank, is_newline, is_one_of, operators, is_operator_text, keywords, is_keyword, is_name, is_comment, ends_blank, closing_row, are_two, opens_after, opening, opening_length, is_long, is_text, counts, is_string_kind, IsToken}
 use Rattle.bz_token.specs.private.Closing.{closes}
-use Rattle.bz_token.specs.Ends.{is_prefix, is_empty_string, stops, stops_at, is_note, ends}
+use Rattle.bz_token.specs.Ends.{is_prefix, is_empty_string, stops, stops_at, is_comment_kind, ends}
 use Rattle.bz_token.proofs.Classes.{hash as hash_class}
 use Rattle.bz_token.proofs.Classes.{mark, class_of, can_start, text_class, digit_class, name_parts, keyword_name, number_starts, one_of, same_bytes, empty_no_text}
 use Rattle.bz_token.proofs.Openings.{opens_r, opens_b, opens_rb, opens_br, opening_more, opening_facts, no_opening, ends_name}
-use Rattle.bz_token.proofs.Ends.{name_token, number_token, sign_token, line_token, note_token, string_token, string_opens, stops_run, number_words, counts_free, no_digit, mark_of, comment_parts}
+use Rattle.bz_token.proofs.Ends.{name_token, number_token, operator_token, line_token, comment_token, string_token, string_opens, stops_run, number_words, counts_free, no_digit, mark_of, comment_parts}
 
 keyword_no_prefix : (text : List ℕ) → is_keyword text ≡ true → not (is_prefix text) ≡ true
 unfolding keywords
@@ -53,37 +53,37 @@ token_ended Integer (b ∷ bs) after is end = number_token b bs after is (stops_
     first [] h = refl
     first (c ∷ cs) h = h
 token_ended String (b ∷ bs) after is end = let s = string_opens (b ∷ bs) is in string_token (b ∷ bs) after s.0 s.1 s.2 end
-token_ended Operator (b ∷ bs) after is end = sign_token b bs after is end
+token_ended Operator (b ∷ bs) after is end = operator_token b bs after is end
 token_ended Newline (b ∷ bs) after is end = subst (λ t. IsToken Newline t after) (sym (same_bytes (b ∷ bs) (10 ∷ []) is)) (line_token after)
-token_ended Comment (b ∷ bs) after is end = note_token b bs after is end
+token_ended Comment (b ∷ bs) after is end = comment_token b bs after is end
 token_ended Kept (b ∷ bs) after is end = absurd (false≢true is)
 
--- bytes that stand second or later in a sign
+-- bytes that stand second or later in a operator
 abbrev pub is_later : ℕ → Bool
 is_later b = list_any (λ c. b == c) (codes "/*<>=")
 
-sign_later : (text : List ℕ) → is_sign text ≡ true → list_all is_later (drop 1 text) ≡ true
-unfolding signs
-sign_later text is = one_of (λ s. list_all is_later (drop 1 s)) signs text refl is
+operator_later : (text : List ℕ) → is_operator_text text ≡ true → list_all is_later (drop 1 text) ≡ true
+unfolding operators
+operator_later text is = one_of (λ s. list_all is_later (drop 1 s)) operators text refl is
 
 all_last : (p : ℕ → Bool) (bs : List ℕ) (m : ℕ) → list_all p (bs ++ m ∷ []) ≡ true → p m ≡ true
 all_last p [] m h = (and_parts (p m) true h).0
 all_last p (b ∷ bs) m h = all_last p bs m (and_parts (p b) (list_all p (bs ++ m ∷ [])) h).1
 
--- another byte stops every sign
-pub sign_stops : (text : List ℕ) (b : ℕ) → is_text Operator text ≡ true → is_later b ≡ false → stops Operator text b ≡ true
-sign_stops [] b is later = absurd (empty_no_text Operator is)
-sign_stops (a ∷ bs) b is later = elim (cases_Bool (is_sign ((a ∷ bs) ++ b ∷ []))) [
+-- another byte stops every operator
+pub operator_stops : (text : List ℕ) (b : ℕ) → is_text Operator text ≡ true → is_later b ≡ false → stops Operator text b ≡ true
+operator_stops [] b is later = absurd (empty_no_text Operator is)
+operator_stops (a ∷ bs) b is later = elim (cases_Bool (is_operator_text ((a ∷ bs) ++ b ∷ []))) [
   | inr miss ↦ not_false _ miss
-  | inl hit ↦ absurd (false≢true (sym later ∙ all_last is_later bs b (sign_later ((a ∷ bs) ++ b ∷ []) hit)))
+  | inl hit ↦ absurd (false≢true (sym later ∙ all_last is_later bs b (operator_later ((a ∷ bs) ++ b ∷ []) hit)))
 ]
 
--- a byte that is no letter, digit, underscore, quote nor a later byte of a sign stops every text but a comment's
-pub plain_stops : (kind : Kind) (text : List ℕ) (b : ℕ) → is_text kind text ≡ true → is_note kind ≡ false → is_word_byte b ≡ false → is_quote b ≡ false → is_later b ≡ false → stops kind text b ≡ true
-plain_stops Identifier text b is note word quoted later = rw (word, quoted) refl
-plain_stops Keyword text b is note word quoted later = rw word refl
-plain_stops Integer text b is note word quoted later = rw word refl
-plain_stops String text b is note word quoted later =
+-- a byte that is no letter, digit, underscore, quote nor a later byte of a operator stops every text but a comment's
+pub plain_stops : (kind : Kind) (text : List ℕ) (b : ℕ) → is_text kind text ≡ true → is_comment_kind kind ≡ false → is_word_byte b ≡ false → is_quote b ≡ false → is_later b ≡ false → stops kind text b ≡ true
+plain_stops Identifier text b is comment word quoted later = rw (word, quoted) refl
+plain_stops Keyword text b is comment word quoted later = rw word refl
+plain_stops Integer text b is comment word quoted later = rw word refl
+plain_stops String text b is comment word quoted later =
     let s = string_opens text is in
     not_false _ (ap (λ o. is_empty_string o text b) s.1 ∙ apart (not s.0.quotes.long && (length text == s.0.prefix + 2)) (b == s.0.quotes.byte) (other s.0.quotes.byte (opening_facts text s.0 s.1).quoted))
   where
@@ -96,10 +96,10 @@ plain_stops String text b is note word quoted later =
       | inr miss ↦ miss
       | inl hit ↦ absurd (false≢true (sym quoted ∙ ap is_quote (eqb-true b q hit) ∙ h))
     ]
-plain_stops Operator text b is note word quoted later = sign_stops text b is later
-plain_stops Newline text b is note word quoted later = refl
-plain_stops Comment text b is note word quoted later = absurd (false≢true (sym note))
-plain_stops Kept text b is note word quoted later = refl
+plain_stops Operator text b is comment word quoted later = operator_stops text b is later
+plain_stops Newline text b is comment word quoted later = refl
+plain_stops Comment text b is comment word quoted later = absurd (false≢true (sym comment))
+plain_stops Kept text b is comment word quoted later = refl
 
 -- one byte that stops a text ends it, whatever follows
 pub stopped_ends : (kind : Kind) (text : List ℕ) (b : ℕ) (rest : List ℕ) → stops kind text b ≡ true → ends kind text (b ∷ rest) ≡ true
@@ -122,8 +122,8 @@ newline_stops Operator text is = plain_stops Operator text 10 is refl refl refl 
 newline_stops Newline text is = refl
 newline_stops Kept text is = refl
 
-pub space_stops : (kind : Kind) (text : List ℕ) → is_text kind text ≡ true → is_note kind ≡ false → stops kind text 32 ≡ true
-space_stops kind text is note = plain_stops kind text 32 is note refl refl refl
+pub space_stops : (kind : Kind) (text : List ℕ) → is_text kind text ≡ true → is_comment_kind kind ≡ false → stops kind text 32 ≡ true
+space_stops kind text is comment = plain_stops kind text 32 is comment refl refl refl
 
 abbrev is_end_mark : ℕ → Bool
 is_end_mark b = list_any (λ c. b == c) (codes ".,:)]}")
@@ -137,8 +137,8 @@ mark_quote b h = grind (arith, nat_tests)
 mark_later : (b : ℕ) → is_end_mark b ≡ true → is_later b ≡ false
 mark_later b h = grind (arith, nat_tests)
 
-pub mark_stops : (kind : Kind) (text : List ℕ) (b : ℕ) → is_text kind text ≡ true → is_note kind ≡ false → list_any (λ c. b == c) (codes ".,:)]}") ≡ true → stops kind text b ≡ true
-mark_stops kind text b is note h = plain_stops kind text b is note (mark_word b h) (mark_quote b h) (mark_later b h)
+pub mark_stops : (kind : Kind) (text : List ℕ) (b : ℕ) → is_text kind text ≡ true → is_comment_kind kind ≡ false → list_any (λ c. b == c) (codes ".,:)]}") ≡ true → stops kind text b ≡ true
+mark_stops kind text b is comment h = plain_stops kind text b is comment (mark_word b h) (mark_quote b h) (mark_later b h)
 
 -- a prefix before a quote opens a string
 prefix_opens : (text : List ℕ) (b : ℕ) (bs : List ℕ) → is_prefix text ≡ true → is_quote b ≡ true → is_some (opening (text ++ b ∷ bs)) ≡ true
@@ -255,10 +255,10 @@ number_ends b bs (c ∷ cs) token = elim (cases_Bool (is_word_byte c)) [
       absurd (omega (arith, same, run, some))
 ]
 
-sign_ends : (b : ℕ) (bs after : List ℕ) → IsToken Operator (b ∷ bs) after → stops_at Operator (b ∷ bs) after ≡ true
-sign_ends b bs [] token = refl
-sign_ends b bs (c ∷ cs) token = elim (cases_Bool (is_sign ((b ∷ bs) ++ c ∷ []))) [
-  | inr miss ↦ not_false (is_sign ((b ∷ bs) ++ c ∷ [])) miss
+operator_ends : (b : ℕ) (bs after : List ℕ) → IsToken Operator (b ∷ bs) after → stops_at Operator (b ∷ bs) after ≡ true
+operator_ends b bs [] token = refl
+operator_ends b bs (c ∷ cs) token = elim (cases_Bool (is_operator_text ((b ∷ bs) ++ c ∷ []))) [
+  | inr miss ↦ not_false (is_operator_text ((b ∷ bs) ++ c ∷ [])) miss
   | inl hit ↦
       let class = mark_of b (text_class Operator b bs token.whole) in
       absurd (not_nil c [] (token.longest Operator (c ∷ []) cs refl hit
@@ -337,8 +337,8 @@ line_part (x ∷ xs) = elim (cases_Bool (is_newline x)) [
   | inr miss ↦ let more = line_part xs in rw (miss, one-add, miss) more
 ]
 
-note_ends : (b : ℕ) (bs after : List ℕ) → IsToken Comment (b ∷ bs) after → list_all is_blank (take (prefix_len (λ c. not (is_newline c)) after) after) ≡ true
-note_ends b bs after token = elim (cases_Bool (list_all is_blank (take (prefix_len (λ c. not (is_newline c)) after) after))) [
+comment_ends : (b : ℕ) (bs after : List ℕ) → IsToken Comment (b ∷ bs) after → list_all is_blank (take (prefix_len (λ c. not (is_newline c)) after) after) ≡ true
+comment_ends b bs after token = elim (cases_Bool (list_all is_blank (take (prefix_len (λ c. not (is_newline c)) after) after))) [
   | inl hit ↦ hit
   | inr miss ↦
       let n = prefix_len (λ c. not (is_newline c)) after in
@@ -377,8 +377,8 @@ token_ends Keyword (b ∷ bs) after token = as_stops after (name_ends Keyword b 
     as_stops (c ∷ cs) h = (and_parts (not (is_word_byte c)) (not (is_quote c && is_prefix (b ∷ bs))) h).0
 token_ends Integer (b ∷ bs) after token = number_ends b bs after token
 token_ends String (b ∷ bs) after token = string_ends (b ∷ bs) after token
-token_ends Operator (b ∷ bs) after token = sign_ends b bs after token
+token_ends Operator (b ∷ bs) after token = operator_ends b bs after token
 token_ends Newline (b ∷ bs) [] token = refl
 token_ends Newline (b ∷ bs) (c ∷ cs) token = refl
-token_ends Comment (b ∷ bs) after token = note_ends b bs after token
+token_ends Comment (b ∷ bs) after token = comment_ends b bs after token
 token_ends Kept (b ∷ bs) after token = absurd (false≢true token.whole)

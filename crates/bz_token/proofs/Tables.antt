@@ -10,9 +10,9 @@ use Rattle.bz_token.specs.Pieces.{is_quote}
 use Rattle.bz_token.specs.Lexical.{begins, is_word_byte, is_blank, are_two, opening}
 use Rattle.bz_token.specs.Brackets.{is_opening_bracket, is_closing_bracket}
 use Rattle.bz_token.specs.private.CutSteps.{is_quiet}
-use Rattle.bz_token.specs.private.Tables.{is_prefix_letter, is_point, is_sign_start, is_single, class_of, is_quiet_class, IsMark, IsSolid}
+use Rattle.bz_token.specs.private.Tables.{is_prefix_letter, is_point, is_operator_start, is_single, class_of, is_quiet_class, IsMark, IsSolid}
 use Rattle.bz_token.specs.declared.table.Class.{Class}
-use Rattle.bz_token.specs.declared.table.Class.TheVariants.{Unknown, Space, Newline, Letter, Prefix, Digit, Quote, Hash, Backslash, Open, Close, Point, Sign}
+use Rattle.bz_token.specs.declared.table.Class.TheVariants.{Unknown, Space, Newline, Letter, Prefix, Digit, Quote, Hash, Backslash, Open, Close, Point, Operator}
 use Rattle.bz_token.specs.declared.table.TheConstants.{CLASS, WORD}
 use Rattle.bz_token.proofs.Openings.{opens_plain}
 
@@ -48,7 +48,7 @@ Fact Backslash b = b ≡ 92
 Fact Open b = (is_opening_bracket b ≡ true) × IsSolid b
 Fact Close b = (is_closing_bracket b ≡ true) × IsSolid b
 Fact Point b = (is_point b ≡ true) × IsSolid b
-Fact Sign b = (is_blank b ≡ false) × IsMark b
+Fact Operator b = (is_blank b ≡ false) × IsMark b
 Fact Unknown b = (is_blank b ≡ false) × IsMark b
 
 word_solid : (b : ℕ) → is_word_byte b ≡ true → IsSolid b
@@ -79,8 +79,8 @@ mark_fact b word blank line quote hash slash =
         | inl closing ↦ rw (word, blank, line, quote, hash, slash, no_open, closing) (closing, solid)
         | inr no_close ↦ elim (cases_Bool (is_point b)) [
           | inl point ↦ rw (word, blank, line, quote, hash, slash, no_open, no_close, point) (point, solid)
-          | inr no_point ↦ elim (cases_Bool (is_sign_start b)) [
-            | inl sign ↦ rw (word, blank, line, quote, hash, slash, no_open, no_close, no_point, sign) told
+          | inr no_point ↦ elim (cases_Bool (is_operator_start b)) [
+            | inl operator ↦ rw (word, blank, line, quote, hash, slash, no_open, no_close, no_point, operator) told
             | inr none ↦ rw (word, blank, line, quote, hash, slash, no_open, no_close, no_point, none) told
           ]
         ]
@@ -162,7 +162,7 @@ solid_at b Hash is solid = (fact_at b Hash is).1
 solid_at b Open is solid = (fact_at b Open is).1
 solid_at b Close is solid = (fact_at b Close is).1
 solid_at b Point is solid = (fact_at b Point is).1
-solid_at b Sign is solid = let m = fact_at b Sign is in (m.0, m.1.2, m.1.4)
+solid_at b Operator is solid = let m = fact_at b Operator is in (m.0, m.1.2, m.1.4)
 solid_at b Unknown is solid = let m = fact_at b Unknown is in (m.0, m.1.2, m.1.4)
 
 -- one of these classes
@@ -182,8 +182,8 @@ single_at b c is one = elim one [
     or_right true y h = refl
     or_right false y h = h
 
-pub mark_at : (b : ℕ) (c : Class) → class_of b ≡ c → (c ≡ Sign) ⊎ (c ≡ Unknown) → IsMark b × IsSolid b
+pub mark_at : (b : ℕ) (c : Class) → class_of b ≡ c → (c ≡ Operator) ⊎ (c ≡ Unknown) → IsMark b × IsSolid b
 mark_at b c is one = elim one [
-  | inl e ↦ let m = fact_at b Sign (is ∙ e) in (m.1, (m.0, m.1.2, m.1.4))
+  | inl e ↦ let m = fact_at b Operator (is ∙ e) in (m.1, (m.0, m.1.2, m.1.4))
   | inr e ↦ let m = fact_at b Unknown (is ∙ e) in (m.1, (m.0, m.1.2, m.1.4))
 ]

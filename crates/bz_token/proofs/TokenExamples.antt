@@ -3,7 +3,7 @@ use Rattle.std.proofs.Common.{◌≡◌, ℕ, List, [], ◌∷◌, true, false, 
 use Rattle.std.specs.Prelude.{codes, Some, None}
 use Rattle.bz_token.specs.declared.fault.LexFault.TheVariants.{BadBracket, OpenBracket}
 use Rattle.bz_token.specs.declared.token.Kind.TheVariants.{Identifier, Keyword, Integer, String, Operator, Newline, Comment}
-use Rattle.bz_token.specs.Lexical.{keywords, signs, is_text, counts}
+use Rattle.bz_token.specs.Lexical.{keywords, operators, is_text, counts}
 use Rattle.bz_token.specs.Brackets.{fits}
 use Rattle.bz_token.specs.Reading.{is_gap, begins_gap, Piece, IsReading, bytes_of, tokens_of}
 use Rattle.bz_token.specs.UpToFault.{IsReadAs}
@@ -67,9 +67,9 @@ comment = refl
 comment_with_blank : is_text Comment (codes "# a ") ≡ false
 comment_with_blank = refl
 
-sign : is_text Operator (codes "//=") ≡ true
-unfolding signs
-sign = refl
+operator : is_text Operator (codes "//=") ≡ true
+unfolding operators
+operator = refl
 
 gap : is_gap false (codes " \t\r\\\n\\\r\n") ≡ true
 gap = refl
@@ -138,7 +138,7 @@ abbrev bracket : Piece
 bracket = record { gap = codes " "; kind = Operator; text = codes "(" }
 
 bracket_read : IsReading 100 [] (bracket ∷ []) newline (codes " (\n")
-unfolding signs
+unfolding operators
 bracket_read = (newline, record { bytes_are = refl; gap = refl; token = token_ended Operator (codes "(") newline refl refl; fits = refl }, refl)
 
 before_open_bracket : IsReadAs 7 100 (codes " (\n") (record { kind = Operator; text = codes "("; line = 7; col = 2; fresh = true } ∷ []) (Some (OpenBracket 7 2))

@@ -7,13 +7,13 @@ use Rattle.std.proofs.lemmas.List.Folds.{list_all-append}
 use Rattle.bz_token.specs.declared.token.Kind.{Kind}
 use Rattle.bz_token.specs.declared.token.Kind.TheVariants.{Identifier, Keyword, Integer, String, Operator, Newline, Comment as CommentToken, Kept}
 use Rattle.bz_token.specs.declared.cutter.scan.LineKind.{LineKind}
-use Rattle.bz_token.specs.declared.cutter.scan.LineKind.TheVariants.{Blank, Note, Statement}
+use Rattle.bz_token.specs.declared.cutter.scan.LineKind.TheVariants.{Blank, CommentLine, Statement}
 use Rattle.bz_token.specs.declared.cutter.scan.Inside.{Inside}
 use Rattle.bz_token.specs.declared.cutter.scan.Inside.TheVariants.{Plain, Ended, BrokenOff, Backslash, BackslashReturn, Comment, Opened, OpenedTwice, Short, ShortEscape, ShortEscapeReturn, Long, LongQuote, LongTwoQuotes, LongEscape}
 use Rattle.bz_token.specs.declared.cutter.scan.Scan.{Scan}
 use Rattle.bz_token.specs.private.CutSteps.{is_ended, is_broken, line_at, at, next, start, run}
 use Rattle.bz_token.specs.Lexical.{is_empty, is_text}
-use Rattle.bz_token.specs.Ends.{is_note}
+use Rattle.bz_token.specs.Ends.{is_comment_kind}
 use Rattle.bz_token.specs.Brackets.{is_inside, is_line, fits, open_after_token}
 use Rattle.bz_token.specs.LogicalLines.{Line, lines}
 use Rattle.bz_token.specs.Places.{Placed}
@@ -30,7 +30,7 @@ use Rattle.bz_token.proofs.Quiet.{quiet_end, seen_quiet}
 use Rattle.bz_token.proofs.Stands.{Stands, stands_plain, stands_final, stands_first, kind_with, gap_after, token_after}
 
 -- the kind of a line with one token more
-kinds : (a b : Bool) (kind : Kind) → (a ≡ true → b ≡ true) → (if a && (is_line kind && true) then Blank else (if b && ((is_line kind || is_note kind) && true) then Note else Statement)) ≡ kind_with (if a then Blank else (if b then Note else Statement)) kind
+kinds : (a b : Bool) (kind : Kind) → (a ≡ true → b ≡ true) → (if a && (is_line kind && true) then Blank else (if b && ((is_line kind || is_comment_kind kind) && true) then CommentLine else Statement)) ≡ kind_with (if a then Blank else (if b then CommentLine else Statement)) kind
 kinds true true Identifier h = refl
 kinds true true Keyword h = refl
 kinds true true Integer h = refl
@@ -57,17 +57,17 @@ kinds false false Newline h = refl
 kinds false false CommentToken h = refl
 kinds false false Kept h = refl
 
-newlines_noted : (line : List Piece) → list_all is_newline_piece line ≡ true → list_all is_comment_piece line ≡ true
-newlines_noted [] h = refl
-newlines_noted (p ∷ ps) h =
+newlines_commented : (line : List Piece) → list_all is_newline_piece line ≡ true → list_all is_comment_piece line ≡ true
+newlines_commented [] h = refl
+newlines_commented (p ∷ ps) h =
     let parts = and_parts (is_line p.kind) (list_all is_newline_piece ps) h in
     let first = parts.0 in
-    rw first (newlines_noted ps parts.1)
+    rw first (newlines_commented ps parts.1)
 
 kind_snoc : (line : List Piece) (p : Piece) → kind_of (line ++ p ∷ []) ≡ kind_with (kind_of line) p.kind
 kind_snoc line p =
-    (λ i. if list_all-append is_newline_piece line (p ∷ []) i then Blank else (if list_all-append is_comment_piece line (p ∷ []) i then Note else Statement))
-    ∙ kinds (list_all is_newline_piece line) (list_all is_comment_piece line) p.kind (newlines_noted line)
+    (λ i. if list_all-append is_newline_piece line (p ∷ []) i then Blank else (if list_all-append is_comment_piece line (p ∷ []) i then CommentLine else Statement))
+    ∙ kinds (list_all is_newline_piece line) (list_all is_comment_piece line) p.kind (newlines_commented line)
 
 some_open : (opened : List ℕ) → is_inside opened ≡ true → 0 < length opened
 some_open [] h = absurd (false≢true h)

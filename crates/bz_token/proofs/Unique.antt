@@ -204,25 +204,25 @@ only_text Newline h = absurd (false≢true h)
 only_text Comment h = absurd (false≢true h)
 only_text Kept h = absurd (false≢true h)
 
-only_note : (kind : Kind) → can_start kind hash ≡ true → kind ≡ Comment
-only_note Comment h = refl
-only_note Identifier h = absurd (false≢true h)
-only_note Keyword h = absurd (false≢true h)
-only_note Integer h = absurd (false≢true h)
-only_note String h = absurd (false≢true h)
-only_note Operator h = absurd (false≢true h)
-only_note Newline h = absurd (false≢true h)
-only_note Kept h = absurd (false≢true h)
+only_comment : (kind : Kind) → can_start kind hash ≡ true → kind ≡ Comment
+only_comment Comment h = refl
+only_comment Identifier h = absurd (false≢true h)
+only_comment Keyword h = absurd (false≢true h)
+only_comment Integer h = absurd (false≢true h)
+only_comment String h = absurd (false≢true h)
+only_comment Operator h = absurd (false≢true h)
+only_comment Newline h = absurd (false≢true h)
+only_comment Kept h = absurd (false≢true h)
 
-only_sign : (kind : Kind) → can_start kind mark ≡ true → kind ≡ Operator
-only_sign Operator h = refl
-only_sign Identifier h = absurd (false≢true h)
-only_sign Keyword h = absurd (false≢true h)
-only_sign Integer h = absurd (false≢true h)
-only_sign String h = absurd (false≢true h)
-only_sign Newline h = absurd (false≢true h)
-only_sign Comment h = absurd (false≢true h)
-only_sign Kept h = absurd (false≢true h)
+only_operator : (kind : Kind) → can_start kind mark ≡ true → kind ≡ Operator
+only_operator Operator h = refl
+only_operator Identifier h = absurd (false≢true h)
+only_operator Keyword h = absurd (false≢true h)
+only_operator Integer h = absurd (false≢true h)
+only_operator String h = absurd (false≢true h)
+only_operator Newline h = absurd (false≢true h)
+only_operator Comment h = absurd (false≢true h)
+only_operator Kept h = absurd (false≢true h)
 
 name_kind : (kind : Kind) (text : List ℕ) → can_start kind letter ≡ true → is_text kind text ≡ true → (is_string text ≡ true → ⊥) → (kind ≡ Identifier) ⊎ (kind ≡ Keyword)
 name_kind Identifier text h is none = inl refl
@@ -260,8 +260,8 @@ kinds_same k l (x ∷ text) rest a b ca cb = by_place (opening (x ∷ text ++ re
     by_class digit p q none = only_int k p ∙ sym (only_int l q)
     by_class quote p q none = only_text k p ∙ sym (only_text l q)
     by_class newline p q none = only_line k p ∙ sym (only_line l q)
-    by_class hash p q none = only_note k p ∙ sym (only_note l q)
-    by_class mark p q none = only_sign k p ∙ sym (only_sign l q)
+    by_class hash p q none = only_comment k p ∙ sym (only_comment l q)
+    by_class mark p q none = only_operator k p ∙ sym (only_operator l q)
     by_class unknown p q none = absurd (nothing_unknown k p)
 
     by_place : (o : Option Opening) → opening (x ∷ text ++ rest) ≡ o → k ≡ l

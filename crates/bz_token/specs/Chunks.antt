@@ -3,7 +3,7 @@
 use Rattle.std.specs.Prelude.{Option, Some, None, ℕ, List, [], ◌∷◌, map, Bool, true, false, not, ◌&&◌}
 use Rattle.std.specs.List.{concat, list_any}
 use Rattle.bz_token.specs.declared.cutter.scan.LineKind.{LineKind}
-use Rattle.bz_token.specs.declared.cutter.scan.LineKind.TheVariants.{Blank, Note, Statement}
+use Rattle.bz_token.specs.declared.cutter.scan.LineKind.TheVariants.{Blank, CommentLine, Statement}
 use Rattle.bz_token.specs.declared.cutter.block.Opener.{Opener}
 use Rattle.bz_token.specs.Groups.{grouped}
 use Rattle.bz_token.specs.LogicalLines.{Line, lines}
@@ -11,7 +11,7 @@ use Rattle.bz_token.specs.Blocks.{opener, goes_on}
 
 abbrev pub is_comment_line : LineKind → Bool
 is_comment_line Blank = false
-is_comment_line Note = true
+is_comment_line CommentLine = true
 is_comment_line Statement = false
 
 -- the lines of a chunk from the first that is no comment
@@ -22,7 +22,7 @@ after_comments (l ∷ ls) = elim (is_comment_line l.kind) [ true ↦ after_comme
 -- the word of a block that a statement line begins with
 abbrev pub block_word : LineKind → List ℕ → Option Opener
 block_word Blank text = None
-block_word Note text = None
+block_word CommentLine text = None
 block_word Statement text = opener text
 
 -- whether lines that begin with such a word go on with a text: it goes on with the block, and no string broke off before

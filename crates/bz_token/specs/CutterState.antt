@@ -7,7 +7,7 @@ use Rattle.bz_token.specs.declared.cutter.Next.{Next}
 use Rattle.bz_token.specs.declared.cutter.Next.TheVariants.{Goes, Ends, Short}
 use Rattle.bz_token.specs.declared.cutter.Cutter.{Cutter}
 use Rattle.bz_token.specs.declared.cutter.block.Stage.{Stage}
-use Rattle.bz_token.specs.declared.cutter.block.Stage.TheVariants.{Notes, InBlock, Done}
+use Rattle.bz_token.specs.declared.cutter.block.Stage.TheVariants.{Comments, InBlock, Done}
 use Rattle.bz_token.specs.Blocks.{opener}
 use Rattle.bz_token.specs.Chunks.{chunks}
 use Rattle.bz_token.specs.private.Stages.{takes}
@@ -35,7 +35,7 @@ pub record IsAfter (cutter : Cutter) (seen : List ℕ) : Type 0 where
   pub ends : is_ended cutter.scan.inside ≡ true → (rest : List ℕ) → takes cutter.stage rest ≡ false → EndsBefore seen rest
 
 abbrev pub is_block : Stage → Bool
-is_block Notes = false
+is_block Comments = false
 is_block (InBlock word) = true
 is_block Done = false
 

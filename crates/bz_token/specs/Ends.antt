@@ -5,7 +5,7 @@ use Rattle.bz_token.specs.declared.token.Kind.{Kind}
 use Rattle.bz_token.specs.declared.token.Kind.TheVariants.{Identifier, Keyword, Integer, String, Operator, Newline, Comment, Kept}
 use Rattle.bz_token.specs.declared.scan_string.Opening.{Opening}
 use Rattle.bz_token.specs.Pieces.{is_quote}
-use Rattle.bz_token.specs.Lexical.{is_word_byte, is_blank, is_newline, is_one_of, is_sign, opening}
+use Rattle.bz_token.specs.Lexical.{is_word_byte, is_blank, is_newline, is_one_of, is_operator_text, opening}
 
 abbrev pub is_prefix : List ℕ → Bool
 is_prefix text = is_one_of (codes "r" ∷ codes "b" ∷ codes "rb" ∷ codes "br" ∷ []) text
@@ -21,7 +21,7 @@ stops Identifier text b = not (is_word_byte b) && not (is_quote b && is_prefix t
 stops Keyword text b = not (is_word_byte b)
 stops Integer text b = not (is_word_byte b)
 stops String text b = not (is_empty_string (opening text) text b)
-stops Operator text b = not (is_sign (text ++ b ∷ []))
+stops Operator text b = not (is_operator_text (text ++ b ∷ []))
 stops Newline text b = true
 stops Comment text b = b == 10
 stops Kept text b = true
@@ -30,13 +30,13 @@ abbrev pub stops_at : Kind → List ℕ → List ℕ → Bool
 stops_at kind text [] = true
 stops_at kind text (b ∷ bs) = stops kind text b
 
-abbrev pub is_note : Kind → Bool
-is_note Comment = true
-is_note _ = false
+abbrev pub is_comment_kind : Kind → Bool
+is_comment_kind Comment = true
+is_comment_kind _ = false
 
 -- what follows a text of this kind ends it: of a comment, white space up to the line's end
 abbrev pub ends : Kind → List ℕ → List ℕ → Bool
-ends kind text after = elim (is_note kind) [
+ends kind text after = elim (is_comment_kind kind) [
   | true ↦ list_all is_blank (take (prefix_len (λ b. not (is_newline b)) after) after)
   | false ↦ stops_at kind text after
 ]

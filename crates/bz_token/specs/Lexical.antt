@@ -59,16 +59,16 @@ abbrev pub is_number : List ℕ → Bool
 is_number [] = false
 is_number (b ∷ bs) = list_all is_ascii_digit (b ∷ bs) || (b == 48 && are_based bs)
 
-unfoldable pub signs : List (List ℕ)
-signs =
+unfoldable pub operators : List (List ℕ)
+operators =
     codes "+" ∷ codes "-" ∷ codes "*" ∷ codes "/" ∷ codes "//" ∷ codes "%" ∷ codes "**" ∷ codes "~" ∷ codes "&" ∷ codes "|"
     ∷ codes "^" ∷ codes "<<" ∷ codes ">>" ∷ codes "." ∷ codes "," ∷ codes "=" ∷ codes ";" ∷ codes ":" ∷ codes "(" ∷ codes ")"
     ∷ codes "[" ∷ codes "]" ∷ codes "{" ∷ codes "}" ∷ codes "<" ∷ codes ">" ∷ codes ">=" ∷ codes "<=" ∷ codes "==" ∷ codes "!="
     ∷ codes "+=" ∷ codes "-=" ∷ codes "*=" ∷ codes "/=" ∷ codes "//=" ∷ codes "%=" ∷ codes "&=" ∷ codes "|=" ∷ codes "^="
     ∷ codes "<<=" ∷ codes ">>=" ∷ []
 
-abbrev pub is_sign : List ℕ → Bool
-is_sign text = is_one_of signs text
+abbrev pub is_operator_text : List ℕ → Bool
+is_operator_text text = is_one_of operators text
 
 -- so many quotes in a row close a string
 abbrev pub closing_row : Bool → ℕ
@@ -111,7 +111,7 @@ is_closed (Some o) text = is_closed_inside o.quotes (units (drop (opening_length
 abbrev pub is_string : List ℕ → Bool
 is_string text = is_closed (opening text) text
 
--- a number sign and what follows it on its line, without trailing white space
+-- a number operator and what follows it on its line, without trailing white space
 abbrev pub ends_blank : List ℕ → Bool
 ends_blank [] = false
 ends_blank (b ∷ []) = is_blank b
@@ -126,7 +126,7 @@ is_text Identifier text = is_name text && not (is_keyword text)
 is_text Keyword text = is_keyword text
 is_text Integer text = is_number text
 is_text String text = is_string text
-is_text Operator text = is_sign text
+is_text Operator text = is_operator_text text
 is_text Newline text = bytes_eq text (10 ∷ [])
 is_text Comment text = is_comment text
 is_text Kept text = false

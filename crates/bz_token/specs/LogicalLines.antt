@@ -3,7 +3,7 @@
 use Rattle.std.specs.Prelude.{ℕ, ◌+◌, ◌-◌, List, [], ◌∷◌, map, Bool, false, not, ◌&&◌, ◌||◌, ◌==◌, if◌then◌else◌, codes}
 use Rattle.std.specs.List.{list_all, list_any, concat}
 use Rattle.bz_token.specs.declared.cutter.scan.LineKind.{LineKind}
-use Rattle.bz_token.specs.declared.cutter.scan.LineKind.TheVariants.{Blank, Note, Statement}
+use Rattle.bz_token.specs.declared.cutter.scan.LineKind.TheVariants.{Blank, CommentLine, Statement}
 use Rattle.bz_token.specs.Groups.{grouped}
 use Rattle.bz_token.specs.Pieces.{is_byte, is_comment, is_continued, is_broken_off, pieces}
 
@@ -33,7 +33,7 @@ abbrev pub is_gap : List ℕ → Bool
 is_gap piece = is_continued piece || is_one_of (32 ∷ 9 ∷ 13 ∷ 10 ∷ []) piece
 
 abbrev pub kind_of : List (List ℕ) → LineKind
-kind_of line = if list_all is_gap line then Blank else (if list_all (λ p. is_gap p || is_comment p) line then Note else Statement)
+kind_of line = if list_all is_gap line then Blank else (if list_all (λ p. is_gap p || is_comment p) line then CommentLine else Statement)
 
 -- a logical line; whether its newline breaks off a string
 pub record Line : Type 0 where

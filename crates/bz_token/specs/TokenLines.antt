@@ -2,9 +2,9 @@
 use Rattle.std.specs.Prelude.{List, [], ◌∷◌, ◌++◌, ℕ, Bool, true, false, ◌||◌, if◌then◌else◌}
 use Rattle.std.specs.List.{list_all}
 use Rattle.bz_token.specs.declared.cutter.scan.LineKind.{LineKind}
-use Rattle.bz_token.specs.declared.cutter.scan.LineKind.TheVariants.{Blank, Note, Statement}
+use Rattle.bz_token.specs.declared.cutter.scan.LineKind.TheVariants.{Blank, CommentLine, Statement}
 use Rattle.bz_token.specs.Lexical.{is_empty}
-use Rattle.bz_token.specs.Ends.{is_note}
+use Rattle.bz_token.specs.Ends.{is_comment_kind}
 use Rattle.bz_token.specs.Brackets.{is_line}
 use Rattle.bz_token.specs.Reading.{Piece, bytes_of}
 use Rattle.bz_token.specs.LogicalLines.{Line}
@@ -13,11 +13,11 @@ abbrev pub is_newline_piece : Piece → Bool
 is_newline_piece p = is_line p.kind
 
 abbrev pub is_comment_piece : Piece → Bool
-is_comment_piece p = is_line p.kind || is_note p.kind
+is_comment_piece p = is_line p.kind || is_comment_kind p.kind
 
 -- no token but the newline, comments alone, or another token
 abbrev pub kind_of : List Piece → LineKind
-kind_of line = if list_all is_newline_piece line then Blank else (if list_all is_comment_piece line then Note else Statement)
+kind_of line = if list_all is_newline_piece line then Blank else (if list_all is_comment_piece line then CommentLine else Statement)
 
 -- a line of these pieces, with these bytes after them
 abbrev pub line_of : List Piece → List ℕ → Line

@@ -109,7 +109,7 @@ impl Cutter {
     {
         Cutter {
             scan: Scan::start(),
-            stage: Stage::Notes,
+            stage: Stage::Comments,
             opener: None,
         }
     }
@@ -119,7 +119,7 @@ impl Cutter {
         ensures { result ≡ cutter_at stage }
     {
         match stage {
-            Stage::Notes | Stage::Done => Cutter::fresh(),
+            Stage::Comments | Stage::Done => Cutter::fresh(),
             Stage::InBlock(_) => Cutter {
                 scan: Scan {
                     inside: Inside::Ended,
@@ -156,7 +156,7 @@ fn cut_at(stage: Stage) -> Cut
     ensures { result ≡ cut_at stage }
 {
     match stage {
-        Stage::Notes => Cut::More,
+        Stage::Comments => Cut::More,
         Stage::InBlock(_) => Cut::Block,
         Stage::Done => Cut::Whole,
     }

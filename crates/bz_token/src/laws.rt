@@ -2,7 +2,7 @@
 
 ghost use Rattle.std.specs.Prelude.{◌≡◌, ◌↔◌, ◌==◌, ◌∷◌, ◌++◌, ◌<◌, ◌⊎◌, length, [], ℕ, List, Option, Some, None, true, false, codes};
 ghost use Rattle.std.specs.List.{list_any, concat};
-ghost use Rattle.bz_token.specs.Ends.{stops, ends, is_note};
+ghost use Rattle.bz_token.specs.Ends.{stops, ends, is_comment_kind};
 ghost use Rattle.bz_token.specs.Lexical.{is_text, IsToken};
 ghost use Rattle.bz_token.specs.declared.token.Kind.{Kind};
 ghost use Rattle.bz_token.specs.declared.token.Kind.TheVariants.{Operator};
@@ -58,14 +58,14 @@ pub fn what_ends_a_token()
     ensures some { (kind : Kind) → is_text kind [] ≡ true → ⊥ }
 {}
 
-/// Bytes that end the texts before them: newlines all texts, spaces and marks all but comments, and most bytes signs.
+/// Bytes that end the texts before them: newlines all texts, spaces and marks all but comments, and most bytes operators.
 pub fn bytes_that_end_tokens()
     ensures newline { (kind : Kind) (text : List ℕ) → is_text kind text ≡ true → stops kind text 10 ≡ true }
-    ensures space { (kind : Kind) (text : List ℕ) → is_text kind text ≡ true → is_note kind ≡ false
+    ensures space { (kind : Kind) (text : List ℕ) → is_text kind text ≡ true → is_comment_kind kind ≡ false
         → stops kind text 32 ≡ true }
-    ensures mark { (kind : Kind) (text : List ℕ) (b : ℕ) → is_text kind text ≡ true → is_note kind ≡ false
+    ensures mark { (kind : Kind) (text : List ℕ) (b : ℕ) → is_text kind text ≡ true → is_comment_kind kind ≡ false
         → list_any (λ c. b == c) (codes ".,:)]}") ≡ true → stops kind text b ≡ true }
-    ensures sign { (text : List ℕ) (b : ℕ) → is_text Operator text ≡ true → list_any (λ c. b == c) (codes "/*<>=") ≡ false
+    ensures operator { (text : List ℕ) (b : ℕ) → is_text Operator text ≡ true → list_any (λ c. b == c) (codes "/*<>=") ≡ false
         → stops Operator text b ≡ true }
 {}
 

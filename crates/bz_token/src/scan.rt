@@ -5,7 +5,7 @@ ghost use Rattle.std.specs.Char.{is_ascii_digit, is_ascii_hexdigit};
 ghost use Rattle.std.specs.List.{list_all, list_any, prefix_len};
 ghost use Rattle.bz_token.specs.declared.token.Kind.TheVariants.{Operator};
 ghost use Rattle.bz_token.specs.Ends.{stops_at};
-ghost use Rattle.bz_token.specs.Lexical.{signs, keywords, begins, is_blank, is_word_byte, is_octal_digit, are_based, is_number, is_keyword, is_one_of, is_sign, is_comment, is_newline};
+ghost use Rattle.bz_token.specs.Lexical.{operators, keywords, begins, is_blank, is_word_byte, is_octal_digit, are_based, is_number, is_keyword, is_one_of, is_operator_text, is_comment, is_newline};
 
 use crate::table::is_word_byte;
 
@@ -96,15 +96,15 @@ pub fn is_keyword(bytes: &[u8]) -> bool
     }
 }
 
-/// The length of the sign that begins with the first of these bytes, or 0.
-#[tactic(auto, unfolding(crate::specs::Lexical::signs))]
+/// The length of the operator that begins with the first of these bytes, or 0.
+#[tactic(auto, unfolding(crate::specs::Lexical::operators))]
 #[inline(always)]
-fn sign_of(a: u8, b: u8, c: u8) -> usize
+fn operator_of(a: u8, b: u8, c: u8) -> usize
     ensures at_most { result ≤ 3 }
-    ensures sign { 0 < result → is_sign (take result (a ∷ b ∷ c ∷ [])) ≡ true }
-    ensures longer_1 { result < 1 → is_sign (a ∷ []) ≡ false }
-    ensures longer_2 { result < 2 → is_sign (a ∷ b ∷ []) ≡ false }
-    ensures longer_3 { result < 3 → is_sign (a ∷ b ∷ c ∷ []) ≡ false }
+    ensures operator { 0 < result → is_operator_text (take result (a ∷ b ∷ c ∷ [])) ≡ true }
+    ensures longer_1 { result < 1 → is_operator_text (a ∷ []) ≡ false }
+    ensures longer_2 { result < 2 → is_operator_text (a ∷ b ∷ []) ≡ false }
+    ensures longer_3 { result < 3 → is_operator_text (a ∷ b ∷ c ∷ []) ≡ false }
 {
     match a {
         b'~' | b'.' | b',' | b';' | b':' | b'(' | b')' | b'[' | b']' | b'{' | b'}' => 1,
@@ -169,13 +169,13 @@ fn byte_at(bytes: &[u8], at: usize) -> u8
     bytes.get(at).copied().unwrap_or(0)
 }
 
-/// The length of the sign here, or 0.
+/// The length of the operator here, or 0.
 #[inline(always)]
-pub fn sign_len(bytes: &[u8]) -> usize
+pub fn operator_len(bytes: &[u8]) -> usize
     ensures in_range { result ≤ length bytes.now }
-    ensures sign { 0 < result → is_sign (take result bytes.now) ≡ true }
+    ensures operator { 0 < result → is_operator_text (take result bytes.now) ≡ true }
     ensures stops { 0 < result → stops_at Operator (take result bytes.now) (drop result bytes.now) ≡ true }
-    ensures none { result ≡ 0 → (n : ℕ) → is_sign (take n bytes.now) ≡ false }
+    ensures none { result ≡ 0 → (n : ℕ) → is_operator_text (take n bytes.now) ≡ false }
 {
-    sign_of(byte_at(bytes, 0), byte_at(bytes, 1), byte_at(bytes, 2))
+    operator_of(byte_at(bytes, 0), byte_at(bytes, 1), byte_at(bytes, 2))
 }

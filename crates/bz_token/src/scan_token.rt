@@ -8,7 +8,7 @@ ghost use Rattle.bz_token.specs.private.Steps.{IsStep, IsTokenStep, IsBadStep};
 ghost use Rattle.bz_token.specs.private.Tables.{is_single, IsMark};
 
 use crate::gap::{Gap, blanks, continued, newline};
-use crate::scan::{comment_len, is_keyword, is_number, sign_len, word_len};
+use crate::scan::{comment_len, is_keyword, is_number, operator_len, word_len};
 use crate::scan_string::{Opening, closing_row, inside_at, opening_at, quoted_at};
 use crate::table::{Class, class_at};
 use crate::token::Kind;
@@ -111,7 +111,7 @@ fn scan_prefixed(bytes: &[u8]) -> Result<Step, Bad>
 }
 
 #[inline(always)]
-fn scan_note(bytes: &[u8]) -> Scanned
+fn scan_comment(bytes: &[u8]) -> Scanned
     requires { begins (λ b. b == 35) bytes.now ≡ true }
     ensures { IsScanned bytes.now result }
 {
@@ -119,13 +119,13 @@ fn scan_note(bytes: &[u8]) -> Scanned
 }
 
 #[inline(always)]
-fn scan_sign(bytes: &[u8]) -> Result<Step, Bad>
+fn scan_operator(bytes: &[u8]) -> Result<Step, Bad>
     requires some { 0 < length bytes.now }
     requires mark { IsMark (slice_index bytes.now 0) }
     ensures token { IfOk result (λ step. IsTokenStep bytes.now step) }
     ensures bad { IfErr result (λ bad. IsBadPlace bytes.now bad) }
 {
-    match sign_len(bytes) {
+    match operator_len(bytes) {
         0 => Err(Bad::Character),
         len => Ok(Step::Token(on_one_line(Kind::Operator, len))),
     }
@@ -186,8 +186,8 @@ pub fn step_at(inside: bool, bytes: &[u8]) -> Result<Step, Bad>
         Class::Prefix => scan_prefixed(bytes),
         Class::Digit => scan_number(bytes),
         Class::Quote => scan_string(quoted_at(bytes), bytes),
-        Class::Hash => Ok(Step::Token(scan_note(bytes))),
+        Class::Hash => Ok(Step::Token(scan_comment(bytes))),
         Class::Open | Class::Close | Class::Point => Ok(Step::Token(scan_single(bytes))),
-        Class::Sign | Class::Unknown => scan_sign(bytes),
+        Class::Operator | Class::Unknown => scan_operator(bytes),
     }
 }

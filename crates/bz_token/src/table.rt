@@ -21,10 +21,10 @@ pub enum Class {
     Backslash,
     Open,
     Close,
-    /// Another sign that is whole, whatever follows it.
+    /// Another operator that is whole, whatever follows it.
     Point,
-    /// Any other sign.
-    Sign,
+    /// Any other operator.
+    Operator,
 }
 
 #[rattlefmt::skip]
@@ -33,18 +33,18 @@ static CLASS: [Class; 256] = [
     Class::Unknown, Class::Space, Class::Newline, Class::Unknown, Class::Unknown, Class::Space, Class::Unknown, Class::Unknown,
     Class::Unknown, Class::Unknown, Class::Unknown, Class::Unknown, Class::Unknown, Class::Unknown, Class::Unknown, Class::Unknown,
     Class::Unknown, Class::Unknown, Class::Unknown, Class::Unknown, Class::Unknown, Class::Unknown, Class::Unknown, Class::Unknown,
-    Class::Space, Class::Sign, Class::Quote, Class::Hash, Class::Unknown, Class::Sign, Class::Sign, Class::Quote,
-    Class::Open, Class::Close, Class::Sign, Class::Sign, Class::Point, Class::Sign, Class::Point, Class::Sign,
+    Class::Space, Class::Operator, Class::Quote, Class::Hash, Class::Unknown, Class::Operator, Class::Operator, Class::Quote,
+    Class::Open, Class::Close, Class::Operator, Class::Operator, Class::Point, Class::Operator, Class::Point, Class::Operator,
     Class::Digit, Class::Digit, Class::Digit, Class::Digit, Class::Digit, Class::Digit, Class::Digit, Class::Digit,
-    Class::Digit, Class::Digit, Class::Point, Class::Point, Class::Sign, Class::Sign, Class::Sign, Class::Unknown,
+    Class::Digit, Class::Digit, Class::Point, Class::Point, Class::Operator, Class::Operator, Class::Operator, Class::Unknown,
     Class::Unknown, Class::Letter, Class::Letter, Class::Letter, Class::Letter, Class::Letter, Class::Letter, Class::Letter,
     Class::Letter, Class::Letter, Class::Letter, Class::Letter, Class::Letter, Class::Letter, Class::Letter, Class::Letter,
     Class::Letter, Class::Letter, Class::Letter, Class::Letter, Class::Letter, Class::Letter, Class::Letter, Class::Letter,
-    Class::Letter, Class::Letter, Class::Letter, Class::Open, Class::Backslash, Class::Close, Class::Sign, Class::Letter,
+    Class::Letter, Class::Letter, Class::Letter, Class::Open, Class::Backslash, Class::Close, Class::Operator, Class::Letter,
     Class::Unknown, Class::Letter, Class::Prefix, Class::Letter, Class::Letter, Class::Letter, Class::Letter, Class::Letter,
     Class::Letter, Class::Letter, Class::Letter, Class::Letter, Class::Letter, Class::Letter, Class::Letter, Class::Letter,
     Class::Letter, Class::Letter, Class::Prefix, Class::Letter, Class::Letter, Class::Letter, Class::Letter, Class::Letter,
-    Class::Letter, Class::Letter, Class::Letter, Class::Open, Class::Sign, Class::Close, Class::Point, Class::Unknown,
+    Class::Letter, Class::Letter, Class::Letter, Class::Open, Class::Operator, Class::Close, Class::Point, Class::Unknown,
     Class::Unknown, Class::Unknown, Class::Unknown, Class::Unknown, Class::Unknown, Class::Unknown, Class::Unknown, Class::Unknown,
     Class::Unknown, Class::Unknown, Class::Unknown, Class::Unknown, Class::Unknown, Class::Unknown, Class::Unknown, Class::Unknown,
     Class::Unknown, Class::Unknown, Class::Unknown, Class::Unknown, Class::Unknown, Class::Unknown, Class::Unknown, Class::Unknown,

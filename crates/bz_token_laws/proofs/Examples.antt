@@ -3,8 +3,8 @@ use Rattle.std.proofs.Common.{◌≡◌, ℕ, List, [], ◌∷◌, true, false, 
 use Rattle.std.specs.Prelude.{codes}
 use Rattle.bz_token.specs.declared.token.Kind.{Kind}
 use Rattle.bz_token.specs.declared.token.Kind.TheVariants.{Identifier, Integer, Operator, Newline, Comment}
-use Rattle.bz_token.specs.declared.cutter.scan.LineKind.TheVariants.{Note, Statement}
-use Rattle.bz_token.specs.Lexical.{keywords, signs}
+use Rattle.bz_token.specs.declared.cutter.scan.LineKind.TheVariants.{CommentLine, Statement}
+use Rattle.bz_token.specs.Lexical.{keywords, operators}
 use Rattle.bz_token.specs.FreshStart.{ends_in_line}
 use Rattle.bz_token.specs.Reading.{Piece, open_after}
 use Rattle.bz_token_laws.specs.Readable.{are_texts, are_ended, are_fitting}
@@ -26,11 +26,11 @@ example =
     ∷ piece (codes "\n") Operator (codes ")") ∷ piece (codes "  ") Comment (codes "# c") ∷ piece [] Newline (codes "\n") ∷ []
 
 texts : are_texts example ≡ true
-unfolding keywords signs
+unfolding keywords operators
 texts = refl
 
 ended : are_ended example [] ≡ true
-unfolding signs
+unfolding operators
 ended = refl
 
 fitting : are_fitting 1 [] example ≡ true
@@ -45,10 +45,10 @@ closed = refl
 last : ends_in_line example ≡ true
 last = refl
 
-cut : lines_of example [] ≡ record { text = codes "# a\n"; kind = Note; broken = false } ∷ record { text = codes "x = f(  # b\n    -1,\n)  # c\n"; kind = Statement; broken = false } ∷ []
+cut : lines_of example [] ≡ record { text = codes "# a\n"; kind = CommentLine; broken = false } ∷ record { text = codes "x = f(  # b\n    -1,\n)  # c\n"; kind = Statement; broken = false } ∷ []
 cut = refl
 
-comment : are_comments (record { text = codes "# a\n"; kind = Note; broken = false } ∷ []) ≡ true
+comment : are_comments (record { text = codes "# a\n"; kind = CommentLine; broken = false } ∷ []) ≡ true
 comment = refl
 
 statement : ends_chunk (record { text = codes "x = f(  # b\n    -1,\n)  # c\n"; kind = Statement; broken = false }) ≡ true

@@ -7,7 +7,7 @@ ghost use Rattle.bz_token.specs.declared.token.Kind.TheVariants.{Operator};
 ghost use Rattle.bz_token.specs.Pieces.{is_quote};
 ghost use Rattle.bz_token.specs.Lexical.{is_word_byte, is_text};
 ghost use Rattle.bz_token.specs.Places.{Placed};
-ghost use Rattle.bz_token.specs.Ends.{stops, stops_at, ends, is_note};
+ghost use Rattle.bz_token.specs.Ends.{stops, stops_at, ends, is_comment_kind};
 ghost use Rattle.bz_token.specs.Reading.{is_gap, Piece, IsReading, open_after, bytes_of, tokens_of, AreTokensOf};
 ghost use Rattle.bz_token.specs.FreshStart.{ends_in_line, AreLinesOf};
 ghost use Rattle.bz_token_laws.specs.Readable.{are_texts, are_ended, are_fitting};
@@ -46,12 +46,12 @@ pub fn pieces_may_be_joined()
 {}
 
 /// Which tokens may stand close: an opening bracket ends all texts but comments, and so does every byte that is no
-/// letter, digit, underscore or quote and stands second in no sign. Only signs begin with a byte that may lengthen
-/// a sign. Brackets, commas, semicolons, points, colons and tildes are lengthened by nothing.
+/// letter, digit, underscore or quote and stands second in no operator. Only operators begin with a byte that may lengthen
+/// a operator. Brackets, commas, semicolons, points, colons and tildes are lengthened by nothing.
 pub fn tokens_may_stand_close()
-    ensures opening { (kind : Kind) (text : List ℕ) (b : ℕ) → is_text kind text ≡ true → is_note kind ≡ false
+    ensures opening { (kind : Kind) (text : List ℕ) (b : ℕ) → is_text kind text ≡ true → is_comment_kind kind ≡ false
         → list_any (λ c. b == c) (codes "([{") ≡ true → stops kind text b ≡ true }
-    ensures plain { (kind : Kind) (text : List ℕ) (b : ℕ) → is_text kind text ≡ true → is_note kind ≡ false
+    ensures plain { (kind : Kind) (text : List ℕ) (b : ℕ) → is_text kind text ≡ true → is_comment_kind kind ≡ false
         → is_word_byte b ≡ false → is_quote b ≡ false → list_any (λ c. b == c) (codes "/*<>=") ≡ false
         → stops kind text b ≡ true }
     ensures first { (kind : Kind) (b : ℕ) (bs : List ℕ) → is_text kind (b ∷ bs) ≡ true

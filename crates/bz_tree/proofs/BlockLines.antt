@@ -2,7 +2,7 @@
 use Rattle.std.proofs.Common.{◌≡◌, ℕ, ◌==◌, List, [], ◌∷◌, Bool, true, false, ◌&&◌, ◌||◌, cond, Option, Some, None, option_map, refl, sym, ap, ◌∙◌}
 use Rattle.bz_token.specs.Places.{Placed}
 use Rattle.bz_tree.specs.declared.kinds.Mark.{Mark}
-use Rattle.bz_tree.specs.declared.kinds.Mark.TheVariants.{Open, Close, Comma, Comment, NewLine, Plain}
+use Rattle.bz_tree.specs.declared.kinds.Mark.TheVariants.{Open, Close, Comma, Comment, Newline, Plain}
 use Rattle.bz_tree.specs.Kinds.{mark_of}
 use Rattle.bz_tree.specs.Blocks.{is_colon, in_front, with_token, logical_lines, indented, ends_open, bad_line, block_indent, header_line, depth_after, has_colon}
 use Rattle.bz_tree.specs.private.BlockSteps.{Lines, begun, next_counted, next_indent, indent_run, first_lines, colon_at, ends_header, begins_header, colon_run}
@@ -44,7 +44,7 @@ line_found ts more columns opens false = more columns opens false
 
 mark_found : (m : Mark) (t : Placed) (ts : List Placed) → Found ts → (columns : List ℕ) (opens inside : Bool)
     → line_after t ts (next_indent m t (record { columns = columns; opens = opens; inside = inside })) ≡ found_in inside (record { columns = columns; opens = opens; inside = inside }) (with_token m t (logical_lines ts))
-mark_found NewLine t ts more columns opens inside = line_found ts more columns opens inside
+mark_found Newline t ts more columns opens inside = line_found ts more columns opens inside
 mark_found Comment t ts more columns opens inside = more columns opens inside
 mark_found Comma t ts more columns opens inside = counted_found t ts more columns opens inside (logical_lines ts) refl
 mark_found Plain t ts more columns opens inside = counted_found t ts more columns opens inside (logical_lines ts) refl
@@ -86,7 +86,7 @@ line_colon ts more depth true = refl
 line_colon ts more depth false = more depth false
 
 mark_colon : (m : Mark) (t : Placed) (ts : List Placed) → mark_of t ≡ m → Colon ts → (depth : ℕ) (inside : Bool) → colon_step m t ts depth inside ≡ has_colon depth (header_of inside (with_token m t (logical_lines ts)))
-mark_colon NewLine t ts is more depth inside = line_colon ts more depth inside
+mark_colon Newline t ts is more depth inside = line_colon ts more depth inside
 mark_colon Comment t ts is more depth inside = more depth inside
 mark_colon Comma t ts is more depth inside = ap (λ m. (depth == 0 && is_colon t) || colon_run (depth_after m depth) true ts) (sym is) ∙ front_colon Comma t ts more depth inside (logical_lines ts) refl
 mark_colon Plain t ts is more depth inside = ap (λ m. (depth == 0 && is_colon t) || colon_run (depth_after m depth) true ts) (sym is) ∙ front_colon Plain t ts more depth inside (logical_lines ts) refl

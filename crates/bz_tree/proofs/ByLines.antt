@@ -2,7 +2,7 @@
 use Rattle.std.proofs.Common.{ℕ, ◌≡◌, ◌==◌, List, [], ◌∷◌, ◌++◌, map, Bool, true, false, not, cond, ◌&&◌, ◌||◌, if◌then◌else◌, Option, Some, None, refl, sym, ap, ◌∙◌}
 use Rattle.std.proofs.lemmas.Bool.{false≢true}
 use Rattle.bz_tree.specs.Tree.{Item, Segment}
-use Rattle.bz_tree.specs.Owners.{Own, node, comma, note, Last, no_token, end_of_node, end_of_comma, is_on, Inside, inside, Entry, a_node, a_comma, a_note, first_cell, other_cells, same_line, later_lines, nodes_in, has_node, notes_in, above_last, beside_last, below_last, first, others, with_segment, segments_from, end_from, has_trailing_comma, entries_of}
+use Rattle.bz_tree.specs.Owners.{Own, node, comma, comment, Last, no_token, end_of_node, end_of_comma, is_on, Inside, inside, Entry, a_node, a_comma, a_comment, first_cell, other_cells, same_line, later_lines, nodes_in, has_node, comments_in, above_last, beside_last, below_last, first, others, with_segment, segments_from, end_from, has_trailing_comma, entries_of}
 
 abbrev pub is_after_comma : Last → ℕ → Bool
 is_after_comma (end_of_comma end) line = end == line
@@ -11,13 +11,13 @@ is_after_comma _ line = false
 -- a node or a comma is among these
 abbrev pub has_token : List Own → Bool
 has_token [] = false
-has_token (note line text ∷ rest) = has_token rest
+has_token (comment line text ∷ rest) = has_token rest
 has_token (_ ∷ rest) = true
 
 -- a node stands among these before a comma does
 abbrev pub goes_on : List Own → Bool
 goes_on [] = false
-goes_on (note line text ∷ rest) = goes_on rest
+goes_on (comment line text ∷ rest) = goes_on rest
 goes_on (comma t ∷ rest) = false
 goes_on (node line x ∷ rest) = true
 
@@ -91,14 +91,14 @@ part last (node line x ∷ after) =
 part last (comma t ∷ after) =
     let p = part (end_of_comma t.line) after in
     record { earlier = []; comments = map beside_comma p.earlier; nodes = []; later = segments p; end = p.end }
-part last (note line text ∷ after) = with_comment (owner last line after) (is_beside last line after, text) (part no_token after)
+part last (comment line text ∷ after) = with_comment (owner last line after) (is_beside last line after, text) (part no_token after)
 
 -- a comma stands after the last segment
 abbrev pub is_trailing : Bool → List Own → Bool
 is_trailing after_comma [] = after_comma
 is_trailing after_comma (node line x ∷ rest) = is_trailing false rest
 is_trailing after_comma (comma t ∷ rest) = is_trailing true rest
-is_trailing after_comma (note line text ∷ rest) = is_trailing after_comma rest
+is_trailing after_comma (comment line text ∷ rest) = is_trailing after_comma rest
 
 -- the inside of a bracket
 abbrev pub inside_by_lines : List Own → Inside
@@ -109,7 +109,7 @@ abbrev Settled : Bool → List Entry → Type 0
 Settled b [] = Unit {0}
 Settled b (a_node x ∷ es) = Settled true es
 Settled b (a_comma ∷ es) = ⊥
-Settled b (a_note on text ∷ es) = (on ≡ true → b ≡ true) × Settled false es
+Settled b (a_comment on text ∷ es) = (on ≡ true → b ≡ true) × Settled false es
 
 abbrev is_token : Last → Bool
 is_token no_token = false
@@ -130,22 +130,22 @@ flags_settled : (last : Last) (os : List Own) → Settled (is_token last) (first
 flags_settled last [] = tt
 flags_settled last (node line x ∷ os) = flags_settled (end_of_node line) os
 flags_settled last (comma t ∷ os) = tt
-flags_settled last (note line text ∷ os) = (flag_settled last line, flags_settled no_token os)
+flags_settled last (comment line text ∷ os) = (flag_settled last line, flags_settled no_token os)
 
 off_settled : (end : ℕ) (os : List Own) → Settled false (later_lines (first_cell (entries_of (end_of_comma end) os)))
 off_settled end [] = tt
 off_settled end (node line x ∷ os) = flags_settled (end_of_node line) os
 off_settled end (comma t ∷ os) = tt
-off_settled end (note line text ∷ os) = at_flag (end == line)
+off_settled end (comment line text ∷ os) = at_flag (end == line)
   where
-    at_flag : (b : Bool) → Settled false (later_lines (a_note b text ∷ first_cell (entries_of no_token os)))
+    at_flag : (b : Bool) → Settled false (later_lines (a_comment b text ∷ first_cell (entries_of no_token os)))
     at_flag true = flags_settled no_token os
     at_flag false = (λ e. e, flags_settled no_token os)
 
 -- a cell's comments, each with whether it stands beside the last node; of the last cell without the end comments
 abbrev marked : Bool → List Entry → List Comment
 marked last [] = []
-marked last (a_note on text ∷ es) = cond (last && (not on && not (has_node es))) (marked last es) ((on && not (has_node es), text) ∷ marked last es)
+marked last (a_comment on text ∷ es) = cond (last && (not on && not (has_node es))) (marked last es) ((on && not (has_node es), text) ∷ marked last es)
 marked last (e ∷ es) = marked last es
 
 texts_of_comma : (more : List (List ℕ)) → map (λ c. c.1) (map beside_comma more) ≡ more
@@ -155,16 +155,16 @@ texts_of_comma (t ∷ ts) = ap (λ l. t ∷ l) (texts_of_comma ts)
 -- The definitions with the flags alone: what stands after the last node with a flag, and without.
 abbrev flag_beside : List Entry → List (List ℕ)
 flag_beside [] = []
-flag_beside (a_note on text ∷ es) = cond (on && not (has_node es)) (text ∷ flag_beside es) (flag_beside es)
+flag_beside (a_comment on text ∷ es) = cond (on && not (has_node es)) (text ∷ flag_beside es) (flag_beside es)
 flag_beside (e ∷ es) = flag_beside es
 
 abbrev flag_below : List Entry → List (List ℕ)
 flag_below [] = []
-flag_below (a_note on text ∷ es) = cond (not on && not (has_node es)) (text ∷ flag_below es) (flag_below es)
+flag_below (a_comment on text ∷ es) = cond (not on && not (has_node es)) (text ∷ flag_below es) (flag_below es)
 flag_below (e ∷ es) = flag_below es
 
 abbrev flag_segment_of : List Entry → List (List ℕ) → List (List ℕ) → Segment
-flag_segment_of cell under comment = record { before = above_last cell ++ (under ++ others (flag_beside cell ++ comment)); nodes = nodes_in cell; suffix = first (flag_beside cell ++ comment) }
+flag_segment_of cell under on_comma = record { before = above_last cell ++ (under ++ others (flag_beside cell ++ on_comma)); nodes = nodes_in cell; suffix = first (flag_beside cell ++ on_comma) }
 
 abbrev flag_segments_from : List Entry → List (List Entry) → List Segment
 flag_segments_from cell [] = with_segment (flag_segment_of cell [] []) []
@@ -183,23 +183,23 @@ above_none : (es : List Entry) → has_node es ≡ false → above_last es ≡ [
 above_none [] h = refl
 above_none (a_node x ∷ es) h = absurd (false≢true (sym h))
 above_none (a_comma ∷ es) h = above_none es h
-above_none (a_note on text ∷ es) h = rw h refl
+above_none (a_comment on text ∷ es) h = rw h refl
 
 beside_none : (es : List Entry) → has_node es ≡ false → Settled false es → flag_beside es ≡ []
 beside_none [] h s = refl
 beside_none (a_node x ∷ es) h s = absurd (false≢true (sym h))
 beside_none (a_comma ∷ es) h s = elim s [ ]
-beside_none (a_note true text ∷ es) h s = absurd (false≢true (s.0 refl))
-beside_none (a_note false text ∷ es) h s = beside_none es h s.1
+beside_none (a_comment true text ∷ es) h s = absurd (false≢true (s.0 refl))
+beside_none (a_comment false text ∷ es) h s = beside_none es h s.1
 
 marked_none : (last : Bool) (es : List Entry) → has_node es ≡ false → Settled false es → map (λ c. c.1) (marked last es) ≡ cond last [] (flag_below es)
 marked_none true [] h s = refl
 marked_none false [] h s = refl
 marked_none last (a_node x ∷ es) h s = absurd (false≢true (sym h))
 marked_none last (a_comma ∷ es) h s = elim s [ ]
-marked_none last (a_note true text ∷ es) h s = absurd (false≢true (s.0 refl))
-marked_none true (a_note false text ∷ es) h s = rw h (marked_none true es h s.1)
-marked_none false (a_note false text ∷ es) h s = rw h (ap (λ l. text ∷ l) (marked_none false es h s.1))
+marked_none last (a_comment true text ∷ es) h s = absurd (false≢true (s.0 refl))
+marked_none true (a_comment false text ∷ es) h s = rw h (marked_none true es h s.1)
+marked_none false (a_comment false text ∷ es) h s = rw h (ap (λ l. text ∷ l) (marked_none false es h s.1))
 
 -- the suffix
 suffix_is : (last : Bool) (es : List Entry) (more : List (List ℕ)) → suffix_of (marked last es ++ map beside_comma more) ≡ first (flag_beside es ++ more)
@@ -207,10 +207,10 @@ suffix_is last [] [] = refl
 suffix_is last [] (t ∷ ts) = refl
 suffix_is last (a_node x ∷ es) more = suffix_is last es more
 suffix_is last (a_comma ∷ es) more = suffix_is last es more
-suffix_is last (a_note on text ∷ es) more = at_place last on (has_node es) refl (suffix_is last es more)
+suffix_is last (a_comment on text ∷ es) more = at_place last on (has_node es) refl (suffix_is last es more)
   where
     at_place : (last on h : Bool) → has_node es ≡ h → suffix_of (marked last es ++ map beside_comma more) ≡ first (flag_beside es ++ more)
-        → suffix_of (marked last (a_note on text ∷ es) ++ map beside_comma more) ≡ first (flag_beside (a_note on text ∷ es) ++ more)
+        → suffix_of (marked last (a_comment on text ∷ es) ++ map beside_comma more) ≡ first (flag_beside (a_comment on text ∷ es) ++ more)
     at_place true true true e ih = rw e ih
     at_place true true false e ih = rw e refl
     at_place true false true e ih = rw e ih
@@ -229,10 +229,10 @@ before_is b true [] (t ∷ ts) s = texts_of_comma ts
 before_is b false [] (t ∷ ts) s = texts_of_comma ts
 before_is b last (a_node x ∷ es) more s = before_is true last es more s
 before_is b last (a_comma ∷ es) more s = elim s [ ]
-before_is b last (a_note on text ∷ es) more s = at_place last on (has_node es) refl (before_is false last es more s.1)
+before_is b last (a_comment on text ∷ es) more s = at_place last on (has_node es) refl (before_is false last es more s.1)
   where
     at_place : (last on h : Bool) → has_node es ≡ h → before_of (marked last es ++ map beside_comma more) ≡ above_last es ++ (cond last [] (flag_below es) ++ others (flag_beside es ++ more))
-        → before_of (marked last (a_note on text ∷ es) ++ map beside_comma more) ≡ above_last (a_note on text ∷ es) ++ (cond last [] (flag_below (a_note on text ∷ es)) ++ others (flag_beside (a_note on text ∷ es) ++ more))
+        → before_of (marked last (a_comment on text ∷ es) ++ map beside_comma more) ≡ above_last (a_comment on text ∷ es) ++ (cond last [] (flag_below (a_comment on text ∷ es)) ++ others (flag_beside (a_comment on text ∷ es) ++ more))
     at_place true true true e ih = rw e (ap (λ l. text ∷ l) ih)
     at_place true true false e ih = rw (e, texts_append (marked true es) (map beside_comma more), marked_none true es e s.1, texts_of_comma more, beside_none es e s.1) refl
     at_place true false true e ih = rw e (ap (λ l. text ∷ l) ih)
@@ -280,8 +280,8 @@ off_nodes : (cell : List Entry) → nodes_in (later_lines cell) ≡ nodes_in cel
 off_nodes [] = refl
 off_nodes (a_node x ∷ es) = refl
 off_nodes (a_comma ∷ es) = refl
-off_nodes (a_note true text ∷ es) = refl
-off_nodes (a_note false text ∷ es) = refl
+off_nodes (a_comment true text ∷ es) = refl
+off_nodes (a_comment false text ∷ es) = refl
 
 abbrev with_node : Item → Part → Part
 with_node x p = record { earlier = p.earlier; comments = p.comments; nodes = x ∷ p.nodes; later = p.later; end = p.end }
@@ -303,12 +303,12 @@ comma_is b cell cells s = rw (sym (off_nodes cell), segments_are (later_lines ce
     at_flag false = refl
 
 -- a comment that is not its comma's
-note_is : (on : Bool) (text : List ℕ) (cell : List Entry) (cells : List (List Entry))
-    → with_comment (cond (not on && not (has_node cell || not (is_none_after cells))) the_end segment_here) (on && not (has_node cell), text) (held false cell cells) ≡ held false (a_note on text ∷ cell) cells
-note_is on text cell cells = at_place on (has_node cell) cells refl
+comment_is : (on : Bool) (text : List ℕ) (cell : List Entry) (cells : List (List Entry))
+    → with_comment (cond (not on && not (has_node cell || not (is_none_after cells))) the_end segment_here) (on && not (has_node cell), text) (held false cell cells) ≡ held false (a_comment on text ∷ cell) cells
+comment_is on text cell cells = at_place on (has_node cell) cells refl
   where
     at_place : (on h : Bool) (cells : List (List Entry)) → has_node cell ≡ h
-        → with_comment (cond (not on && not (has_node cell || not (is_none_after cells))) the_end segment_here) (on && not (has_node cell), text) (held false cell cells) ≡ held false (a_note on text ∷ cell) cells
+        → with_comment (cond (not on && not (has_node cell || not (is_none_after cells))) the_end segment_here) (on && not (has_node cell), text) (held false cell cells) ≡ held false (a_comment on text ∷ cell) cells
     at_place true h [] e = refl
     at_place true h (next ∷ cells) e = refl
     at_place false true [] e = rw e refl
@@ -320,13 +320,13 @@ tokens_are : (last : Last) (os : List Own) → has_token os ≡ (has_node (first
 tokens_are last [] = refl
 tokens_are last (node line x ∷ os) = refl
 tokens_are last (comma t ∷ os) = refl
-tokens_are last (note line text ∷ os) = tokens_are no_token os
+tokens_are last (comment line text ∷ os) = tokens_are no_token os
 
 nodes_are : (last : Last) (os : List Own) → goes_on os ≡ has_node (first_cell (entries_of last os))
 nodes_are last [] = refl
 nodes_are last (node line x ∷ os) = refl
 nodes_are last (comma t ∷ os) = refl
-nodes_are last (note line text ∷ os) = nodes_are no_token os
+nodes_are last (comment line text ∷ os) = nodes_are no_token os
 
 part_is : (last : Last) (os : List Own) → part last os ≡ held (is_comma last) (first_cell (entries_of last os)) (other_cells (entries_of last os))
 part_is no_token [] = refl
@@ -334,15 +334,15 @@ part_is (end_of_node end) [] = refl
 part_is (end_of_comma end) [] = refl
 part_is last (node line x ∷ os) = ap (with_node x) (part_is (end_of_node line) os) ∙ at_node (is_comma last) x (first_cell (entries_of (end_of_node line) os)) (other_cells (entries_of (end_of_node line) os))
 part_is last (comma t ∷ os) = ap at_comma (part_is (end_of_comma t.line) os) ∙ comma_is (is_comma last) (first_cell (entries_of (end_of_comma t.line) os)) (other_cells (entries_of (end_of_comma t.line) os)) (off_settled t.line os)
-part_is no_token (note line text ∷ os) = rw (tokens_are no_token os, part_is no_token os) (note_is false text (first_cell (entries_of no_token os)) (other_cells (entries_of no_token os)))
-part_is (end_of_node end) (note line text ∷ os) =
-    rw (tokens_are no_token os, nodes_are no_token os, part_is no_token os) (note_is (end == line) text (first_cell (entries_of no_token os)) (other_cells (entries_of no_token os)))
-part_is (end_of_comma end) (note line text ∷ os) = at_flag (end == line) refl (part_is no_token os)
+part_is no_token (comment line text ∷ os) = rw (tokens_are no_token os, part_is no_token os) (comment_is false text (first_cell (entries_of no_token os)) (other_cells (entries_of no_token os)))
+part_is (end_of_node end) (comment line text ∷ os) =
+    rw (tokens_are no_token os, nodes_are no_token os, part_is no_token os) (comment_is (end == line) text (first_cell (entries_of no_token os)) (other_cells (entries_of no_token os)))
+part_is (end_of_comma end) (comment line text ∷ os) = at_flag (end == line) refl (part_is no_token os)
   where
     at_flag : (b : Bool) → (end == line) ≡ b → part no_token os ≡ held false (first_cell (entries_of no_token os)) (other_cells (entries_of no_token os))
-        → part (end_of_comma end) (note line text ∷ os) ≡ held true (first_cell (entries_of (end_of_comma end) (note line text ∷ os))) (other_cells (entries_of (end_of_comma end) (note line text ∷ os)))
+        → part (end_of_comma end) (comment line text ∷ os) ≡ held true (first_cell (entries_of (end_of_comma end) (comment line text ∷ os))) (other_cells (entries_of (end_of_comma end) (comment line text ∷ os)))
     at_flag true e ih = rw (e, ih) refl
-    at_flag false e ih = rw (e, tokens_are no_token os, ih) (note_is false text (first_cell (entries_of no_token os)) (other_cells (entries_of no_token os)))
+    at_flag false e ih = rw (e, tokens_are no_token os, ih) (comment_is false text (first_cell (entries_of no_token os)) (other_cells (entries_of no_token os)))
 
 -- whether a comma stands after the last node
 abbrev pub trails : Bool → List Entry → List (List Entry) → Bool
@@ -358,42 +358,42 @@ pub trails_comma : (cell : List Entry) (cells : List (List Entry)) → trails tr
 trails_comma cell [] = refl
 trails_comma cell (next ∷ cells) = refl
 
-pub trails_note : (b on : Bool) (text : List ℕ) (cell : List Entry) (cells : List (List Entry)) → trails b cell cells ≡ trails b (a_note on text ∷ cell) cells
-trails_note b on text cell [] = refl
-trails_note b on text cell (next ∷ cells) = refl
+pub trails_comment : (b on : Bool) (text : List ℕ) (cell : List Entry) (cells : List (List Entry)) → trails b cell cells ≡ trails b (a_comment on text ∷ cell) cells
+trails_comment b on text cell [] = refl
+trails_comment b on text cell (next ∷ cells) = refl
 
 trailing_is : (b : Bool) (last : Last) (os : List Own) → is_trailing b os ≡ trails b (first_cell (entries_of last os)) (other_cells (entries_of last os))
 trailing_is true last [] = refl
 trailing_is false last [] = refl
 trailing_is b last (node line x ∷ os) = trailing_is false (end_of_node line) os ∙ trails_node b x (first_cell (entries_of (end_of_node line) os)) (other_cells (entries_of (end_of_node line) os))
 trailing_is b last (comma t ∷ os) = trailing_is true (end_of_comma t.line) os ∙ trails_comma (first_cell (entries_of (end_of_comma t.line) os)) (other_cells (entries_of (end_of_comma t.line) os))
-trailing_is b last (note line text ∷ os) = trailing_is b no_token os ∙ trails_note b (is_on last line) text (first_cell (entries_of no_token os)) (other_cells (entries_of no_token os))
+trailing_is b last (comment line text ∷ os) = trailing_is b no_token os ∙ trails_comment b (is_on last line) text (first_cell (entries_of no_token os)) (other_cells (entries_of no_token os))
 
 pub trailed_is : (cell : List Entry) (cells : List (List Entry)) → trails false cell cells ≡ has_trailing_comma cells
 trailed_is cell [] = refl
 trailed_is cell (next ∷ cells) = refl
 
 -- after a node, and where no node follows
-below_settled : (es : List Entry) → has_node es ≡ false → Settled false es → flag_below es ≡ notes_in es
+below_settled : (es : List Entry) → has_node es ≡ false → Settled false es → flag_below es ≡ comments_in es
 below_settled [] h s = refl
 below_settled (a_node x ∷ es) h s = absurd (false≢true (sym h))
 below_settled (a_comma ∷ es) h s = elim s [ ]
-below_settled (a_note true text ∷ es) h s = absurd (false≢true (s.0 refl))
-below_settled (a_note false text ∷ es) h s = rw h (ap (λ l. text ∷ l) (below_settled es h s.1))
+below_settled (a_comment true text ∷ es) h s = absurd (false≢true (s.0 refl))
+below_settled (a_comment false text ∷ es) h s = rw h (ap (λ l. text ∷ l) (below_settled es h s.1))
 
 beside_on : (es : List Entry) → has_node es ≡ false → Settled true es → flag_beside es ≡ same_line es
 beside_on [] h s = refl
 beside_on (a_node x ∷ es) h s = absurd (false≢true (sym h))
 beside_on (a_comma ∷ es) h s = elim s [ ]
-beside_on (a_note true text ∷ es) h s = rw h (ap (λ l. text ∷ l) (beside_none es h s.1))
-beside_on (a_note false text ∷ es) h s = beside_none es h s.1
+beside_on (a_comment true text ∷ es) h s = rw h (ap (λ l. text ∷ l) (beside_none es h s.1))
+beside_on (a_comment false text ∷ es) h s = beside_none es h s.1
 
-below_off : (es : List Entry) → has_node es ≡ false → Settled true es → flag_below es ≡ notes_in (later_lines es)
+below_off : (es : List Entry) → has_node es ≡ false → Settled true es → flag_below es ≡ comments_in (later_lines es)
 below_off [] h s = refl
 below_off (a_node x ∷ es) h s = absurd (false≢true (sym h))
 below_off (a_comma ∷ es) h s = elim s [ ]
-below_off (a_note true text ∷ es) h s = below_settled es h s.1
-below_off (a_note false text ∷ es) h s = rw h (ap (λ l. text ∷ l) (below_settled es h s.1))
+below_off (a_comment true text ∷ es) h s = below_settled es h s.1
+below_off (a_comment false text ∷ es) h s = rw h (ap (λ l. text ∷ l) (below_settled es h s.1))
 
 -- a flag at no node's line plays no part
 abbrev Starts : Bool → List Entry → Type 0
@@ -408,31 +408,31 @@ beside_same b (a_node x ∷ es) s f = at_node (has_node es) refl (λ h. beside_s
     at_node true e more = rw e (more e)
     at_node false e more = rw e (beside_on es e s)
 beside_same b (a_comma ∷ es) s f = elim s [ ]
-beside_same true (a_note on text ∷ es) s f = at_flag on (beside_same false es s.1 tt)
+beside_same true (a_comment on text ∷ es) s f = at_flag on (beside_same false es s.1 tt)
   where
-    at_flag : (on : Bool) → flag_beside es ≡ beside_last es → flag_beside (a_note on text ∷ es) ≡ beside_last es
+    at_flag : (on : Bool) → flag_beside es ≡ beside_last es → flag_beside (a_comment on text ∷ es) ≡ beside_last es
     at_flag true ih = rw f ih
     at_flag false ih = ih
-beside_same false (a_note true text ∷ es) s f = absurd (false≢true (s.0 refl))
-beside_same false (a_note false text ∷ es) s f = beside_same false es s.1 tt
+beside_same false (a_comment true text ∷ es) s f = absurd (false≢true (s.0 refl))
+beside_same false (a_comment false text ∷ es) s f = beside_same false es s.1 tt
 
 below_same : (b : Bool) (es : List Entry) → Settled b es → Starts b es → flag_below es ≡ below_last es
 below_same b [] s f = refl
 below_same b (a_node x ∷ es) s f = at_node (has_node es) refl (λ h. below_same true es s h)
   where
-    at_node : (h : Bool) → has_node es ≡ h → (has_node es ≡ true → flag_below es ≡ below_last es) → flag_below es ≡ cond (has_node es) (below_last es) (notes_in (later_lines es))
+    at_node : (h : Bool) → has_node es ≡ h → (has_node es ≡ true → flag_below es ≡ below_last es) → flag_below es ≡ cond (has_node es) (below_last es) (comments_in (later_lines es))
     at_node true e more = rw e (more e)
     at_node false e more = rw e (below_off es e s)
 below_same b (a_comma ∷ es) s f = elim s [ ]
-below_same true (a_note on text ∷ es) s f = at_flag on (below_same false es s.1 tt)
+below_same true (a_comment on text ∷ es) s f = at_flag on (below_same false es s.1 tt)
   where
-    at_flag : (on : Bool) → flag_below es ≡ below_last es → flag_below (a_note on text ∷ es) ≡ below_last (a_note on text ∷ es)
+    at_flag : (on : Bool) → flag_below es ≡ below_last es → flag_below (a_comment on text ∷ es) ≡ below_last (a_comment on text ∷ es)
     at_flag true ih = rw f ih
     at_flag false ih = rw f ih
-below_same false (a_note true text ∷ es) s f = absurd (false≢true (s.0 refl))
-below_same false (a_note false text ∷ es) s f = at_node (has_node es) refl (below_same false es s.1 tt)
+below_same false (a_comment true text ∷ es) s f = absurd (false≢true (s.0 refl))
+below_same false (a_comment false text ∷ es) s f = at_node (has_node es) refl (below_same false es s.1 tt)
   where
-    at_node : (h : Bool) → has_node es ≡ h → flag_below es ≡ below_last es → flag_below (a_note false text ∷ es) ≡ below_last (a_note false text ∷ es)
+    at_node : (h : Bool) → has_node es ≡ h → flag_below es ≡ below_last es → flag_below (a_comment false text ∷ es) ≡ below_last (a_comment false text ∷ es)
     at_node true e ih = rw e ih
     at_node false e ih = rw e (ap (λ l. text ∷ l) (below_settled es e s.1))
 
@@ -444,7 +444,7 @@ cells_settled : (last : Last) (os : List Own) → AreSettled (other_cells (entri
 cells_settled last [] = tt
 cells_settled last (node line x ∷ os) = cells_settled (end_of_node line) os
 cells_settled last (comma t ∷ os) = (off_settled t.line os, cells_settled (end_of_comma t.line) os)
-cells_settled last (note line text ∷ os) = cells_settled no_token os
+cells_settled last (comment line text ∷ os) = cells_settled no_token os
 
 segments_same : (cell : List Entry) (cells : List (List Entry)) → Settled false cell → AreSettled cells → flag_segments_from cell cells ≡ segments_from cell cells
 segments_same cell [] s all = rw (beside_same false cell s tt) refl

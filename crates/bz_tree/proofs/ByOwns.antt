@@ -3,21 +3,21 @@
 use Rattle.std.specs.Prelude.{List, [], ◌∷◌, ◌++◌, Bool, true, if◌then◌else◌, Option, Some, None, option_map, option_and_then}
 use Rattle.bz_tree.specs.declared.kinds.Shape.{Shape}
 use Rattle.bz_tree.specs.declared.kinds.Mark.{Mark}
-use Rattle.bz_tree.specs.declared.kinds.Mark.TheVariants.{Open, Close, NewLine}
+use Rattle.bz_tree.specs.declared.kinds.Mark.TheVariants.{Open, Close, Newline}
 use Rattle.bz_tree.specs.declared.kinds.Preceding.{Preceding}
 use Rattle.bz_tree.specs.declared.kinds.Preceding.TheVariants.{Other}
 use Rattle.bz_token.specs.Places.{Placed}
 use Rattle.bz_tree.specs.Tree.{Item, Segment}
 use Rattle.bz_tree.specs.Kinds.{mark_of, is_one, group_kind, same_shape}
-use Rattle.bz_tree.specs.Owners.{Own, node, comma, note, Inside}
+use Rattle.bz_tree.specs.Owners.{Own, node, comma, comment, Inside}
 use Rattle.bz_tree.specs.Brackets.{own_items, own_of, preceding, has_for, group_with}
 use Rattle.bz_tree.specs.Statement.{segment_with}
-use Rattle.bz_tree.specs.private.Steps.{Walked, at_start, after_node, after_comma, after_note, done}
+use Rattle.bz_tree.specs.private.Steps.{Walked, at_start, after_node, after_comma, after_comment, done}
 
 abbrev pub after : Own → Walked → Option Walked
 after (node line x) w = Some (after_node line x w)
 after (comma t) w = after_comma t.line w
-after (note line text) w = Some (after_note line text w)
+after (comment line text) w = Some (after_comment line text w)
 
 abbrev pub walk : Walked → List Own → Option Inside
 walk w [] = Some (done w)
@@ -47,7 +47,7 @@ abbrev pub closed : Shape → Preceding → List Own → Option Item
 closed shape b owns = let kind = group_kind shape b (has_for owns) in option_map (group_with kind) (content (is_one kind) owns)
 
 abbrev pub next_at : Mark → Placed → Level → List Level → Option Levels
-next_at NewLine t top outer = Some (top, outer)
+next_at Newline t top outer = Some (top, outer)
 next_at (Open shape) t top outer = Some (new_level (Some shape), top ∷ outer)
 next_at (Close shape) t top [] = None
 next_at (Close shape) t top (below ∷ outer) =

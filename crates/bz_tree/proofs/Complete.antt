@@ -4,7 +4,7 @@ use Rattle.std.proofs.lemmas.Bool.{false≢true}
 use Rattle.bz_tree.specs.declared.kinds.Shape.{Shape}
 use Rattle.bz_tree.specs.declared.kinds.Shape.TheVariants.{Round, Square, Curly}
 use Rattle.bz_tree.specs.declared.kinds.Mark.{Mark}
-use Rattle.bz_tree.specs.declared.kinds.Mark.TheVariants.{Open, Close, Comma, Comment, NewLine, Plain}
+use Rattle.bz_tree.specs.declared.kinds.Mark.TheVariants.{Open, Close, Comma, Comment, Newline, Plain}
 use Rattle.bz_tree.specs.declared.kinds.Preceding.{Preceding}
 use Rattle.bz_tree.specs.declared.kinds.Preceding.TheVariants.{Other}
 use Rattle.bz_token.specs.Places.{Placed}
@@ -34,7 +34,7 @@ single_step : (m : Mark) (t : Placed) → is_single m ≡ true → (top : Level)
 single_step Comma t alone top outer = refl
 single_step Comment t alone top outer = refl
 single_step Plain t alone top outer = refl
-single_step NewLine t alone top outer = absurd (false≢true alone)
+single_step Newline t alone top outer = absurd (false≢true alone)
 single_step (Open s) t alone top outer = absurd (false≢true alone)
 single_step (Close s) t alone top outer = absurd (false≢true alone)
 
@@ -81,7 +81,7 @@ token_same : (m : Mark) (t : Placed) → mark_of t ≡ m → (ts rest : List Pla
 token_same m t is ts rest same top outer = rest_same ts rest same (next_at m t top outer) ∙ ap (λ k. rest_run rest (next_at k t top outer)) (sym is)
 
 mark_same : (m : Mark) (t : Placed) → mark_of t ≡ m → (ts rest : List Placed) → Same ts rest → (top : Level) (outer : List Level) → rest_run ts (next_at m t top outer) ≡ run top outer (cond (is_line m) rest (t ∷ rest))
-mark_same NewLine t is ts rest same top outer = same top outer
+mark_same Newline t is ts rest same top outer = same top outer
 mark_same Comma t is ts rest same top outer = token_same Comma t is ts rest same top outer
 mark_same Comment t is ts rest same top outer = token_same Comment t is ts rest same top outer
 mark_same Plain t is ts rest same top outer = token_same Plain t is ts rest same top outer

@@ -14,7 +14,7 @@ use Rattle.bz_tree.specs.declared.stmt.GroupKind.TheVariants.{Call}
 use Rattle.bz_tree.specs.Tree.{group, no_items, item, no_segs, seg, Statement}
 use Rattle.bz_tree.specs.Borrowed.{owned_in}
 use Rattle.bz_tree.specs.Brackets.{leaf_of}
-use Rattle.bz_tree.specs.Owners.{node, comma, note, inside, no_empty}
+use Rattle.bz_tree.specs.Owners.{node, comma, comment, inside, no_empty}
 use Rattle.bz_tree.specs.Statement.{class_of, start_of}
 use Rattle.bz_tree.specs.Blocks.{block_indent, is_block}
 use Rattle.bz_tree.specs.Chunk.{indent_fault}
@@ -33,16 +33,16 @@ abbrev pub b : List ℕ
 b = codes "# b"
 
 -- after the last comma on its line: the last segment's suffix; on the next line: an end comment
-after_last_comma : inside (node 1 (leaf_of x) ∷ comma (at Operator (codes ",") 1 2) ∷ note 1 a ∷ note 2 b ∷ []) ≡ record { segs = record { before = []; nodes = leaf_of x ∷ []; suffix = Some a } ∷ []; trailing = true; end = b ∷ [] }
+after_last_comma : inside (node 1 (leaf_of x) ∷ comma (at Operator (codes ",") 1 2) ∷ comment 1 a ∷ comment 2 b ∷ []) ≡ record { segs = record { before = []; nodes = leaf_of x ∷ []; suffix = Some a } ∷ []; trailing = true; end = b ∷ [] }
 after_last_comma = refl
 
 -- between a node and its comma on the next line: the suffix of its segment
-before_comma : inside (node 1 (leaf_of x) ∷ note 1 a ∷ comma (at Operator (codes ",") 2 1) ∷ node 2 (leaf_of x) ∷ [])
+before_comma : inside (node 1 (leaf_of x) ∷ comment 1 a ∷ comma (at Operator (codes ",") 2 1) ∷ node 2 (leaf_of x) ∷ [])
     ≡ record { segs = record { before = []; nodes = leaf_of x ∷ []; suffix = Some a } ∷ record { before = []; nodes = leaf_of x ∷ []; suffix = None } ∷ []; trailing = false; end = [] }
 before_comma = refl
 
 -- above a node: before its segment
-above_node : inside (note 1 a ∷ node 2 (leaf_of x) ∷ []) ≡ record { segs = record { before = a ∷ []; nodes = leaf_of x ∷ []; suffix = None } ∷ []; trailing = false; end = [] }
+above_node : inside (comment 1 a ∷ node 2 (leaf_of x) ∷ []) ≡ record { segs = record { before = a ∷ []; nodes = leaf_of x ∷ []; suffix = None } ∷ []; trailing = false; end = [] }
 above_node = refl
 
 -- `# b` above `(x # a`, and `# b` before the closing bracket: the comments above and after the statement, those above and after the

@@ -49,11 +49,11 @@ segs_joined ss end one rest = simp append_assoc
 seg_joined : (before : List (List ℕ)) (nodes : Items) (suffix : Option (List ℕ)) (ss : Segs) (rest : List RowPart) → segs_parts (seg before nodes suffix ss) ++ rest ≡ map above before ++ (items_parts nodes ++ (segment_end ∷ (beside_part suffix ++ (segs_parts ss ++ rest))))
 seg_joined before nodes suffix ss rest = simp append_assoc
 
-read_above : (notes : List (List ℕ)) (segs : List Segment) (comments : List (List ℕ)) (nodes : List Item) (outer : List Outer) (rest : List RowPart)
-    → steps (map above notes ++ rest) (nest segs comments nodes outer) ≡ steps rest (nest segs (comments ++ notes) nodes outer)
+read_above : (comment_texts : List (List ℕ)) (segs : List Segment) (comments : List (List ℕ)) (nodes : List Item) (outer : List Outer) (rest : List RowPart)
+    → steps (map above comment_texts ++ rest) (nest segs comments nodes outer) ≡ steps rest (nest segs (comments ++ comment_texts) nodes outer)
 read_above [] segs comments nodes outer rest = ap (λ cs. steps rest (nest segs cs nodes outer)) (sym (append-nil comments))
-read_above (note ∷ notes) segs comments nodes outer rest =
-    read_above notes segs (comments ++ note ∷ []) nodes outer rest ∙ ap (λ cs. steps rest (nest segs cs nodes outer)) (append_assoc comments (note ∷ []) notes)
+read_above (comment ∷ comment_texts) segs comments nodes outer rest =
+    read_above comment_texts segs (comments ++ comment ∷ []) nodes outer rest ∙ ap (λ cs. steps rest (nest segs cs nodes outer)) (append_assoc comments (comment ∷ []) comment_texts)
 
 read_beside : (suffix : Option (List ℕ)) (segs : List Segment) (before : List (List ℕ)) (nodes : List Item) (outer : List Outer) (rest : List RowPart)
     → steps (beside_part suffix ++ rest) (nest (segs ++ segment before nodes None ∷ []) [] [] outer) ≡ steps rest (nest (segs ++ segment before nodes suffix ∷ []) [] [] outer)
@@ -131,10 +131,10 @@ last_of_items (item (group kind ss one_comma end) xs) ps h =
     let split : ps ++ items_parts (item (group kind ss one_comma end) xs) ≡ ((ps ++ inner) ++ closing one_comma ∷ []) ++ items_parts xs = simp append_assoc in
     ap last_beside split ∙ last_of_items xs ((ps ++ inner) ++ closing one_comma ∷ []) (last_is (ps ++ inner) (closing one_comma))
 
-last_of_above : (notes : List (List ℕ)) → last_beside (map above notes) ≡ None
+last_of_above : (comment_texts : List (List ℕ)) → last_beside (map above comment_texts) ≡ None
 last_of_above [] = refl
-last_of_above (note ∷ []) = refl
-last_of_above (note ∷ other ∷ notes) = last_of_above (other ∷ notes)
+last_of_above (comment ∷ []) = refl
+last_of_above (comment ∷ other ∷ comment_texts) = last_of_above (other ∷ comment_texts)
 
 suffix_back : (s : Statement) → last_beside (parts_of s) ≡ s.suffix
 suffix_back s =

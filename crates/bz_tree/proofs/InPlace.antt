@@ -5,16 +5,16 @@ use Rattle.bz_tree.specs.declared.stmt.GroupKind.{GroupKind}
 use Rattle.bz_tree.specs.declared.kinds.Shape.{Shape}
 use Rattle.bz_tree.specs.declared.kinds.Shape.TheVariants.{Round, Square, Curly}
 use Rattle.bz_tree.specs.declared.kinds.Mark.{Mark}
-use Rattle.bz_tree.specs.declared.kinds.Mark.TheVariants.{Open, Close, Comma, Comment, NewLine, Plain}
+use Rattle.bz_tree.specs.declared.kinds.Mark.TheVariants.{Open, Close, Comma, Comment, Newline, Plain}
 use Rattle.bz_tree.specs.declared.kinds.Preceding.{Preceding}
 use Rattle.bz_tree.specs.declared.kinds.Preceding.TheVariants.{Operand, LoadWord, Other}
 use Rattle.bz_token.specs.Places.{Placed}
 use Rattle.bz_tree.specs.Tree.{Item, Segment}
 use Rattle.bz_tree.specs.Kinds.{mark_of, group_kind, is_one, same_shape}
-use Rattle.bz_tree.specs.Owners.{Own, node, comma, note, Last, no_token, end_of_node, end_of_comma, is_on, is_filled}
+use Rattle.bz_tree.specs.Owners.{Own, node, comma, comment, Last, no_token, end_of_node, end_of_comma, is_on, is_filled}
 use Rattle.bz_tree.specs.Brackets.{own_item, own_items, own_of, preceding, has_for, is_for_item, group_with}
 use Rattle.bz_tree.specs.Statement.{segment_with}
-use Rattle.bz_tree.specs.private.Steps.{Walked, at_start, after_own, after_node, after_comma, after_note, noted, to_last, done, Level, Levels, is_for, is_in_first, has_one, as_comprehension, shape_of, with_own, new_level, closed, next_at, finish, run}
+use Rattle.bz_tree.specs.private.Steps.{Walked, at_start, after_own, after_node, after_comma, after_comment, commented, to_last, done, Level, Levels, is_for, is_in_first, has_one, as_comprehension, shape_of, with_own, new_level, closed, next_at, finish, run}
 use Rattle.bz_tree.proofs.ByOwns.{after, walk, content}
 use Rattle.bz_tree.proofs.ByOwns as by_owns
 
@@ -56,10 +56,10 @@ after_item true (node line x) None = refl
 after_item true (node line x) (Some w) = refl
 after_item false (node line x) None = refl
 after_item false (node line x) (Some w) = refl
-after_item true (note line text) None = refl
-after_item true (note line text) (Some w) = refl
-after_item false (note line text) None = refl
-after_item false (note line text) (Some w) = refl
+after_item true (comment line text) None = refl
+after_item true (comment line text) (Some w) = refl
+after_item false (comment line text) None = refl
+after_item false (comment line text) (Some w) = refl
 after_item true (comma t) None = refl
 after_item true (comma t) (Some w) = refl
 after_item false (comma t) p = refl
@@ -71,13 +71,13 @@ abbrev has_comma : List Own → Bool
 has_comma [] = false
 has_comma (node line x ∷ os) = has_comma os
 has_comma (comma t ∷ os) = true
-has_comma (note line text ∷ os) = has_comma os
+has_comma (comment line text ∷ os) = has_comma os
 
 same_items : (os : List Own) → has_comma os ≡ false → own_items true os ≡ own_items false os
 same_items [] none = refl
 same_items (node line x ∷ os) none = ap (λ ps. node line x ∷ ps) (same_items os none)
 same_items (comma t ∷ os) none = absurd (false≢true (sym none))
-same_items (note line text ∷ os) none = ap (λ ps. note line text ∷ ps) (same_items os none)
+same_items (comment line text ∷ os) none = ap (λ ps. comment line text ∷ ps) (same_items os none)
 
 for_push : (os : List Own) (o : Own) → has_for (os ++ o ∷ []) ≡ has_for os || (not (has_comma os) && is_for o)
 for_push [] (node line x) = or_none (is_for_item x)
@@ -86,14 +86,14 @@ for_push [] (node line x) = or_none (is_for_item x)
     or_none true = refl
     or_none false = refl
 for_push [] (comma t) = refl
-for_push [] (note line text) = refl
+for_push [] (comment line text) = refl
 for_push (node line x ∷ os) o = first (for_push os o) (is_for_item x)
   where
     first : has_for (os ++ o ∷ []) ≡ has_for os || (not (has_comma os) && is_for o) → (b : Bool) → b || has_for (os ++ o ∷ []) ≡ (b || has_for os) || (not (has_comma os) && is_for o)
     first more true = refl
     first more false = more
 for_push (comma t ∷ os) o = refl
-for_push (note line text ∷ os) o = for_push os o
+for_push (comment line text ∷ os) o = for_push os o
 
 pub filled_push : (ss : List Segment) (s : Segment) → is_filled (ss ++ s ∷ []) ≡ true
 filled_push [] s = refl
@@ -104,13 +104,13 @@ filled_last text [] = refl
 filled_last text (s ∷ []) = refl
 filled_last text (s ∷ r ∷ ss) = refl
 
-filled_noted : (last : Last) (on : Bool) (text : List ℕ) (w : Walked) → is_filled (noted last on text w).segs ≡ is_filled w.segs
-filled_noted (end_of_node end) true text w = refl
-filled_noted (end_of_comma end) true text w = filled_last text w.segs
-filled_noted no_token true text w = refl
-filled_noted no_token false text w = refl
-filled_noted (end_of_node end) false text w = refl
-filled_noted (end_of_comma end) false text w = refl
+filled_commented : (last : Last) (on : Bool) (text : List ℕ) (w : Walked) → is_filled (commented last on text w).segs ≡ is_filled w.segs
+filled_commented (end_of_node end) true text w = refl
+filled_commented (end_of_comma end) true text w = filled_last text w.segs
+filled_commented no_token true text w = refl
+filled_commented no_token false text w = refl
+filled_commented (end_of_node end) false text w = refl
+filled_commented (end_of_comma end) false text w = refl
 
 -- whether a comma was met
 not_first : (os : List Own) (w : Walked) → is_in_first (steps w (own_items false os)) ≡ not (is_filled w.segs || has_comma os)
@@ -120,7 +120,7 @@ not_first [] w = or_none (is_filled w.segs)
     or_none true = refl
     or_none false = refl
 not_first (node line x ∷ os) w = not_first os (after_node line x w)
-not_first (note line text ∷ os) w = not_first os (after_note line text w) ∙ ap (λ b. not (b || has_comma os)) (filled_noted w.last (is_on w.last line) text w)
+not_first (comment line text ∷ os) w = not_first os (after_comment line text w) ∙ ap (λ b. not (b || has_comma os)) (filled_commented w.last (is_on w.last line) text w)
 not_first (comma t ∷ os) w = at_nodes (λ v. not_first os v) w.nodes refl
   where
     or_some : (b : Bool) → false ≡ not (b || true)
@@ -177,7 +177,7 @@ stays k e owns at own =
 after_for : (own : Own) → is_for own ≡ true → (p : Option Walked) → after_own false own p ≡ after_own true own p
 after_for (node line x) e p = refl
 after_for (comma t) e p = absurd (false≢true e)
-after_for (note line text) e p = refl
+after_for (comment line text) e p = refl
 
 -- a bracket that `for` makes a comprehension
 abbrev pick : GroupKind → GroupKind → Bool → GroupKind
@@ -284,7 +284,7 @@ close_same s t (Some r) owns at below outer =
         ∙ at_group (by_owns.closed s below.at owns)
 
 next_same : (m : Mark) (t : Placed) (top : by_owns.Level) (outer : List by_owns.Level) → next_at m t (image (before_of outer) top) (images outer) ≡ option_map image_of (by_owns.next_at m t top outer)
-next_same NewLine t top outer = refl
+next_same Newline t top outer = refl
 next_same (Open s) t top outer = refl
 next_same (Close s) t top [] = refl
 next_same (Close s) t top (below ∷ outer) = close_same s t top.shape top.owns top.at below outer

@@ -16,7 +16,7 @@ use Rattle.bz_tree.specs.Grammar.{token_role, is_prefix, is_operator, is_star, i
 use Rattle.bz_tree.specs.private.Machine.{ends, is_target, in_chain, after_part, next_wanted, next_after, next_after_number, next_begun, next_argument, next_keyword, next, accepts, role_of, each, is_whole, group_role, begin}
 use Rattle.std.specs.Prelude.{codes, [], ◌∷◌}
 use Rattle.std.specs.Str.{bytes_eq}
-use Rattle.bz_tree.specs.Grammar.{leaf_role, is_among, word_role, sign_role, IsExpr, last_test, test}
+use Rattle.bz_tree.specs.Grammar.{leaf_role, is_among, word_role, operator_role, IsExpr, last_test, test}
 use Rattle.bz_tree.specs.private.Machine.{may_end, may_be_empty, is_single, leaves, after_left, after_right, after_element, after_target, after_clause, at_colon, at_end, after_condition, next_name, next_excluded}
 use Rattle.bz_tree.proofs.Accepted.{join_empty, join_assoc}
 
@@ -38,7 +38,7 @@ test_from : (a q : Items) → IsChain a → TestRest q → IsTest (join a q)
 test_from a q first no_condition = subst IsTest (sym (join_empty a)) (plain first)
 test_from a q first (condition i e is ri second re third) = conditional i e (ap (join a) is) first ri second re third
 
--- an Expr, or two and an assignment sign
+-- an Expr, or two and an assignment operator_text
 pub data Sides : Items → Type 0 where
   one_side : {xs : Items} → IsExpr xs → Sides xs
   two_sides : {xs a b : Items} (s : Item) → xs ≡ join a (item s b) → IsExpr a → is_assignment (token_role s) ≡ true → IsExpr b → Sides xs
@@ -46,7 +46,7 @@ pub data Sides : Items → Type 0 where
 data FollowLeft : Items → Type 0 where
   left_end : FollowLeft no_items
   left_comma : {xs b : Items} (c : Item) → xs ≡ item c b → token_role c ≡ Comma → Sides b → FollowLeft xs
-  left_sign : {xs b : Items} (s : Item) → xs ≡ item s b → is_assignment (token_role s) ≡ true → IsExpr b → FollowLeft xs
+  left_operator : {xs b : Items} (s : Item) → xs ≡ item s b → is_assignment (token_role s) ≡ true → IsExpr b → FollowLeft xs
 
 data FollowRight : Items → Type 0 where
   right_end : FollowRight no_items
@@ -71,11 +71,11 @@ record InClause (xs : Items) : Type 0 where
 -- variables, `in`, a Chain and the clauses after it
 record TargetsIn (xs : Items) : Type 0 where
   targets : Items
-  sign : Item
+  operator_text : Item
   after : Items
-  is : xs ≡ join targets (item sign after)
+  is : xs ≡ join targets (item operator_text after)
   are : AreTargets targets
-  role : token_role sign ≡ In
+  role : token_role operator_text ≡ In
   clause : InClause after
 
 data FollowTarget : Items → Type 0 where
@@ -123,10 +123,10 @@ Tail Clause xs = AreClauses xs
 Tail p xs = TestTail p xs
 
 record AtElse (p : Part) (xs : Items) : Type 0 where
-  sign : Item
+  operator_text : Item
   after : Items
-  is : xs ≡ item sign after
-  role : token_role sign ≡ Else
+  is : xs ≡ item operator_text after
+  role : token_role operator_text ≡ Else
   whole : Whole p after
 
 abbrev Preceding : Part → Bool → Items → Type 0
@@ -167,10 +167,10 @@ record Named (p : Part) (c : Bool) (xs : Items) : Type 0 where
   had : Had p c true after
 
 record Excluded (p : Part) (c : Bool) (xs : Items) : Type 0 where
-  sign : Item
+  operator_text : Item
   after : Items
-  is : xs ≡ item sign after
-  role : token_role sign ≡ In
+  is : xs ≡ item operator_text after
+  role : token_role operator_text ≡ In
   wanted : Wanted p c after
 
 abbrev Begun : Part → Items → Type 0
@@ -221,9 +221,9 @@ at_empty xs t r is empty = sym (is ∙ ap (join t) empty ∙ join_empty t)
 sides_with : (xs t r : Items) → xs ≡ join t r → IsTest t → FollowLeft r → Sides xs
 sides_with xs t r is first left_end = one_side (last_test (subst IsTest (at_empty xs t no_items is refl) first))
 sides_with xs t r is first (left_comma c e comma (one_side more)) = one_side (test c (is ∙ ap (join t) e) first comma more)
-sides_with xs t r is first (left_comma {xs = ys} {b = zs} c e comma (two_sides {xs = us} {a} {b} s split left sign right)) =
-    two_sides {a = join t (item c a)} s (is ∙ ap (join t) (e ∙ ap (item c) split) ∙ sym (join_assoc t (item c a) (item s b))) (test c refl first comma left) sign right
-sides_with xs t r is first (left_sign s e sign right) = two_sides s (is ∙ ap (join t) e) (last_test first) sign right
+sides_with xs t r is first (left_comma {xs = ys} {b = zs} c e comma (two_sides {xs = us} {a} {b} s split left operator_text right)) =
+    two_sides {a = join t (item c a)} s (is ∙ ap (join t) (e ∙ ap (item c) split) ∙ sym (join_assoc t (item c a) (item s b))) (test c refl first comma left) operator_text right
+sides_with xs t r is first (left_operator s e operator_text right) = two_sides s (is ∙ ap (join t) e) (last_test first) operator_text right
 
 sides_of : (xs : Items) → Whole Left xs → Sides xs
 sides_of xs w = sides_with xs w.head w.rest w.is w.is_head w.follow
@@ -267,14 +267,14 @@ begun_of _ xs w = tt
 targets_with : (xs t r : Items) → xs ≡ join t r → IsPrimary t → FollowTarget r → TargetsIn xs
 targets_with xs t r is first (target_comma c e comma m) = record {
   targets = join t (item c m.targets);
-  sign = m.sign;
+  operator_text = m.operator_text;
   after = m.after;
-  is = is ∙ ap (join t) (e ∙ ap (item c) m.is) ∙ sym (join_assoc t (item c m.targets) (item m.sign m.after));
+  is = is ∙ ap (join t) (e ∙ ap (item c) m.is) ∙ sym (join_assoc t (item c m.targets) (item m.operator_text m.after));
   are = target c refl first comma m.are;
   role = m.role;
   clause = m.clause;
 }
-targets_with xs t r is first (target_in {xs = ys} {b} i e role m) = record { targets = t; sign = i; after = b; is = is ∙ ap (join t) e; are = last_target first; role = role; clause = m }
+targets_with xs t r is first (target_in {xs = ys} {b} i e role m) = record { targets = t; operator_text = i; after = b; is = is ∙ ap (join t) e; are = last_target first; role = role; clause = m }
 
 targets_of : (xs : Items) → Whole Target xs → TargetsIn xs
 targets_of xs w = targets_with xs w.head w.rest w.is w.is_head w.follow
@@ -283,7 +283,7 @@ clause_of : (xs : Items) → Whole Clause xs → InClause xs
 clause_of xs w = record { chain = w.head; more = w.rest; is = w.is; is_chain = w.is_head; clauses = w.follow }
 
 for_of : (f : Item) (xs : Items) → token_role f ≡ For → TargetsIn xs → IsFor (item f xs)
-for_of f xs role m = for f m.sign (ap (item f) (m.is ∙ ap (λ ys. join m.targets (item m.sign ys)) m.clause.is)) role m.are m.role m.clause.is_chain m.clause.clauses
+for_of f xs role m = for f m.operator_text (ap (item f) (m.is ∙ ap (λ ys. join m.targets (item m.operator_text ys)) m.clause.is)) role m.are m.role m.clause.is_chain m.clause.clauses
 
 -- after a Test: nothing more of it
 tail : (p : Part) (xs : Items) → Follow p xs → TestTail p xs
@@ -292,17 +292,17 @@ tail p xs follow = record { tail = no_items; rest = xs; is = refl; is_tail = no_
 -- the parts of a Test's condition
 condition_tail : (p : Part) (i : Item) (xs b r : Items) → xs ≡ join b r → IsChain b → (e : AtElse p r) → token_role i ≡ If → IsTest e.whole.head → TestTail p (item i xs)
 condition_tail p i xs b r is second e ri third = record {
-  tail = item i (join b (item e.sign e.whole.head));
+  tail = item i (join b (item e.operator_text e.whole.head));
   rest = e.whole.rest;
-  is = ap (item i) (is ∙ ap (join b) (e.is ∙ ap (item e.sign) e.whole.is) ∙ sym (join_assoc b (item e.sign e.whole.head) e.whole.rest));
-  is_tail = condition i e.sign refl ri second e.role third;
+  is = ap (item i) (is ∙ ap (join b) (e.is ∙ ap (item e.operator_text) e.whole.is) ∙ sym (join_assoc b (item e.operator_text e.whole.head) e.whole.rest));
+  is_tail = condition i e.operator_text refl ri second e.role third;
   follow = e.whole.follow;
 }
 
 left_tail : (x : Item) (xs : Items) (r : Role) → RoleMeans r x → Means (after_left r) xs → TestTail Left (item x xs)
 left_tail x xs Comma k m = tail Left (item x xs) (left_comma x refl k (sides_of xs (wanted_whole Left xs m)))
-left_tail x xs Equals k m = tail Left (item x xs) (left_sign x refl (ap is_assignment k) (expr_of xs (wanted_whole Right xs m)))
-left_tail x xs Augmented k m = tail Left (item x xs) (left_sign x refl (ap is_assignment k) (expr_of xs (wanted_whole Right xs m)))
+left_tail x xs Equals k m = tail Left (item x xs) (left_operator x refl (ap is_assignment k) (expr_of xs (wanted_whole Right xs m)))
+left_tail x xs Augmented k m = tail Left (item x xs) (left_operator x refl (ap is_assignment k) (expr_of xs (wanted_whole Right xs m)))
 left_tail x xs If k m = condition_tail Left x xs m.chain m.rest m.is m.is_chain m.after k m.after.whole.is_head
 left_tail x xs _ k m = absurd m
 
@@ -355,7 +355,7 @@ clause_tail x xs If k m = let w = clause_of xs (wanted_whole Clause xs m) in if_
 clause_tail x xs _ k m = absurd m
 
 else_tail : (p : Part) (x : Item) (xs : Items) (r : Role) → RoleMeans r x → Means (after_condition p r) xs → AtElse p (item x xs)
-else_tail p x xs Else k m = record { sign = x; after = xs; is = refl; role = k; whole = wanted_whole p xs m }
+else_tail p x xs Else k m = record { operator_text = x; after = xs; is = refl; role = k; whole = wanted_whole p xs m }
 else_tail p x xs _ k m = absurd m
 
 leaves_means : (p : Part) (c : Bool) (x : Item) (xs : Items) (r : Role) → RoleMeans r x → Means (leaves p c r) xs → Preceding p c (item x xs)
@@ -433,7 +433,7 @@ operator_had p c d o xs op m = record {
 
 excluded_had : (p : Part) (c d : Bool) (x : Item) (xs : Items) → token_role x ≡ Not → (is_target p ≡ false) × Excluded p c xs → Had p c d (item x xs)
 excluded_had p c d x xs k m =
-    let h = operator_had p c d (item x (item m.1.sign no_items)) m.1.after (not_in k m.1.role) (m.0, m.1.wanted) in
+    let h = operator_had p c d (item x (item m.1.operator_text no_items)) m.1.after (not_in k m.1.role) (m.0, m.1.wanted) in
     subst (Had p c d) (ap (item x) (sym m.1.is)) h
 
 after_had : (p : Part) (c d : Bool) (xs : Items) → Preceding p c xs → Had p c d xs
@@ -484,7 +484,7 @@ name_means p c x xs Name k m = record { name = x; after = xs; is = refl; role = 
 name_means p c x xs _ k m = absurd m
 
 excluded_means : (p : Part) (c : Bool) (x : Item) (xs : Items) (r : Role) → RoleMeans r x → Means (next_excluded p c r) xs → Excluded p c (item x xs)
-excluded_means p c x xs In k m = record { sign = x; after = xs; is = refl; role = k; wanted = m }
+excluded_means p c x xs In k m = record { operator_text = x; after = xs; is = refl; role = k; wanted = m }
 excluded_means p c x xs _ k m = absurd m
 
 colon_begun : (p : Part) (x : Item) (xs : Items) → token_role x ≡ Colon → Means (after_part p Colon) xs → Begun p (item x xs)
@@ -621,29 +621,29 @@ word_chain false false false false true f = refl
 word_chain false false false false false true = refl
 word_chain false false false false false false = refl
 
-sign_chain : (a b c d e f g h i j : Bool) → is_suffix_role (cond a Dot (cond b Comma (cond c Colon (cond d Equals (cond e Tilde (cond f Star (cond g Stars (cond h Sum (cond i Augmented (cond j Operator Stray)))))))))) ≡ false
-sign_chain true b c d e f g h i j = refl
-sign_chain false true c d e f g h i j = refl
-sign_chain false false true d e f g h i j = refl
-sign_chain false false false true e f g h i j = refl
-sign_chain false false false false true f g h i j = refl
-sign_chain false false false false false true g h i j = refl
-sign_chain false false false false false false true h i j = refl
-sign_chain false false false false false false false true i j = refl
-sign_chain false false false false false false false false true j = refl
-sign_chain false false false false false false false false false true = refl
-sign_chain false false false false false false false false false false = refl
+operator_chain : (a b c d e f g h i j : Bool) → is_suffix_role (cond a Dot (cond b Comma (cond c Colon (cond d Equals (cond e Tilde (cond f Star (cond g Stars (cond h Sum (cond i Augmented (cond j Operator Stray)))))))))) ≡ false
+operator_chain true b c d e f g h i j = refl
+operator_chain false true c d e f g h i j = refl
+operator_chain false false true d e f g h i j = refl
+operator_chain false false false true e f g h i j = refl
+operator_chain false false false false true f g h i j = refl
+operator_chain false false false false false true g h i j = refl
+operator_chain false false false false false false true h i j = refl
+operator_chain false false false false false false false true i j = refl
+operator_chain false false false false false false false false true j = refl
+operator_chain false false false false false false false false false true = refl
+operator_chain false false false false false false false false false false = refl
 
 word_plain : (word : List ℕ) → is_suffix_role (word_role word) ≡ false
 word_plain word = word_chain (bytes_eq word (codes "if")) (bytes_eq word (codes "else")) (bytes_eq word (codes "for")) (bytes_eq word (codes "in")) (bytes_eq word (codes "not")) (is_among word (codes "and" ∷ codes "or" ∷ []))
 
-sign_plain : (word : List ℕ) → is_suffix_role (sign_role word) ≡ false
-sign_plain word =
-    sign_chain (bytes_eq word (codes ".")) (bytes_eq word (codes ",")) (bytes_eq word (codes ":")) (bytes_eq word (codes "=")) (bytes_eq word (codes "~")) (bytes_eq word (codes "*")) (bytes_eq word (codes "**")) (is_among word (codes "+" ∷ codes "-" ∷ [])) (is_among word (codes "+=" ∷ codes "-=" ∷ codes "*=" ∷ codes "/=" ∷ codes "//=" ∷ codes "%=" ∷ codes "&=" ∷ codes "|=" ∷ codes "^=" ∷ codes "<<=" ∷ codes ">>=" ∷ [])) (is_among word (codes "==" ∷ codes "!=" ∷ codes "<" ∷ codes ">" ∷ codes "<=" ∷ codes ">=" ∷ codes "|" ∷ codes "^" ∷ codes "&" ∷ codes "<<" ∷ codes ">>" ∷ codes "/" ∷ codes "//" ∷ codes "%" ∷ []))
+operator_plain : (word : List ℕ) → is_suffix_role (operator_role word) ≡ false
+operator_plain word =
+    operator_chain (bytes_eq word (codes ".")) (bytes_eq word (codes ",")) (bytes_eq word (codes ":")) (bytes_eq word (codes "=")) (bytes_eq word (codes "~")) (bytes_eq word (codes "*")) (bytes_eq word (codes "**")) (is_among word (codes "+" ∷ codes "-" ∷ [])) (is_among word (codes "+=" ∷ codes "-=" ∷ codes "*=" ∷ codes "/=" ∷ codes "//=" ∷ codes "%=" ∷ codes "&=" ∷ codes "|=" ∷ codes "^=" ∷ codes "<<=" ∷ codes ">>=" ∷ [])) (is_among word (codes "==" ∷ codes "!=" ∷ codes "<" ∷ codes ">" ∷ codes "<=" ∷ codes ">=" ∷ codes "|" ∷ codes "^" ∷ codes "&" ∷ codes "<<" ∷ codes ">>" ∷ codes "/" ∷ codes "//" ∷ codes "%" ∷ []))
 
 leaf_plain : (kind : Kind) (word : List ℕ) → is_suffix_role (leaf_role kind word) ≡ false
 leaf_plain KeywordToken word = word_plain word
-leaf_plain OperatorToken word = sign_plain word
+leaf_plain OperatorToken word = operator_plain word
 leaf_plain _ word = refl
 
 token_means : (x : Item) (r : Role) → token_role x ≡ r → is_suffix_role r ≡ false → RoleMeans r x
@@ -668,7 +668,7 @@ mutual
 pub statement_means : (xs : Items) → accepts (Wants Left false) xs ≡ true → Sides xs
 statement_means xs h = sides_of xs (wanted_whole Left xs (accepts_means xs (Wants Left false) h))
 
--- the name and the sign of an argument
+-- the name and the operator_text of an argument
 pub named_token : (x : Item) → role_of x ≡ Name → token_role x ≡ Name
 named_token x e = subst (λ r. RoleMeans r x) e (role_means x)
 

@@ -2,11 +2,11 @@
 use Rattle.std.proofs.Common.{◌≡◌, ℕ, ◌==◌, List, [], ◌∷◌, ◌++◌, map, Bool, true, false, not, cond, Option, Some, None, refl, sym, ap, ◌∙◌, append_assoc, append-nil}
 use Rattle.bz_token.specs.Places.{Placed}
 use Rattle.bz_tree.specs.Tree.{Item, Segment}
-use Rattle.bz_tree.specs.Owners.{Own, node, comma, note, Last, no_token, end_of_node, end_of_comma, is_on, no_empty, Inside, inside}
+use Rattle.bz_tree.specs.Owners.{Own, node, comma, comment, Last, no_token, end_of_node, end_of_comma, is_on, no_empty, Inside, inside}
 use Rattle.bz_tree.proofs.ByLines.{is_after_comma, the_end, segment_here, with_comment, has_token, goes_on, Comment, beside_comma, suffix_of, before_of, first_segment, segments, part, is_trailing, inside_by_lines, inside_is}
 use Rattle.bz_tree.specs.Brackets.{own_items}
 use Rattle.bz_tree.specs.Statement.{as_rule_call, rule_call}
-use Rattle.bz_tree.specs.private.Steps.{Walked, texts_of, at_start, after_node, add_beside, to_last, noted, after_note, done}
+use Rattle.bz_tree.specs.private.Steps.{Walked, texts_of, at_start, after_node, add_beside, to_last, commented, after_comment, done}
 use Rattle.bz_tree.proofs.ByOwns.{walk}
 
 -- a comment that is no suffix
@@ -157,20 +157,20 @@ at_comma_is t os segs before x xs suffix after last trailing =
     (ap (λ ss. record { segs = ss; trailing = is_trailing true os; end = q.end }) (append_assoc segs _ (segments q)))
 
 -- a comment on the line on which a node ends
-at_note-node : (end line : ℕ) (text : List ℕ) (os : List Own) (segs : List Segment) (before : List (List ℕ)) (nodes : List Item) (trailing : Bool) → (end == line) ≡ true
-    → joined (walked_of segs before nodes (Some text) [] no_token trailing) os ≡ joined (walked_of segs before nodes None [] (end_of_node end) trailing) (note line text ∷ os)
-at_note-node end line text os segs before nodes trailing on =
+at_comment-node : (end line : ℕ) (text : List ℕ) (os : List Own) (segs : List Segment) (before : List (List ℕ)) (nodes : List Item) (trailing : Bool) → (end == line) ≡ true
+    → joined (walked_of segs before nodes (Some text) [] no_token trailing) os ≡ joined (walked_of segs before nodes None [] (end_of_node end) trailing) (comment line text ∷ os)
+at_comment-node end line text os segs before nodes trailing on =
     rw (on, same_either {A = List Comment} (has_token os) [], same_either {A = List (List ℕ)} (has_token os) []) refl
 
 -- a comment on a comma's line
-at_note-comma : (end line : ℕ) (text : List ℕ) (os : List Own) (segs : List Segment) (before : List (List ℕ)) (nodes : List Item) (suffix : Option (List ℕ)) (after : List (List ℕ)) (trailing : Bool) → (end == line) ≡ true
-    → joined (walked_of (to_last text segs) before nodes suffix after no_token trailing) os ≡ joined (walked_of segs before nodes suffix after (end_of_comma end) trailing) (note line text ∷ os)
-at_note-comma end line text os segs before nodes suffix after trailing on = rw on refl
+at_comment-comma : (end line : ℕ) (text : List ℕ) (os : List Own) (segs : List Segment) (before : List (List ℕ)) (nodes : List Item) (suffix : Option (List ℕ)) (after : List (List ℕ)) (trailing : Bool) → (end == line) ≡ true
+    → joined (walked_of (to_last text segs) before nodes suffix after no_token trailing) os ≡ joined (walked_of segs before nodes suffix after (end_of_comma end) trailing) (comment line text ∷ os)
+at_comment-comma end line text os segs before nodes suffix after trailing on = rw on refl
 
 -- any other comment
-at_note-alone : (last : Last) (line : ℕ) (text : List ℕ) (os : List Own) (w : Walked) → is_on last line ≡ false → is_after_comma last line ≡ false
-    → joined (walked_of w.segs w.before w.nodes w.suffix (w.after ++ text ∷ []) no_token w.trailing) os ≡ joined (walked_of w.segs w.before w.nodes w.suffix w.after last w.trailing) (note line text ∷ os)
-at_note-alone last line text os w off apart = rw (off, apart) (at_rest (has_token os) refl)
+at_comment-alone : (last : Last) (line : ℕ) (text : List ℕ) (os : List Own) (w : Walked) → is_on last line ≡ false → is_after_comma last line ≡ false
+    → joined (walked_of w.segs w.before w.nodes w.suffix (w.after ++ text ∷ []) no_token w.trailing) os ≡ joined (walked_of w.segs w.before w.nodes w.suffix w.after last w.trailing) (comment line text ∷ os)
+at_comment-alone last line text os w off apart = rw (off, apart) (at_rest (has_token os) refl)
   where
     at_rest : (b : Bool) → has_token os ≡ b
         → joined (walked_of w.segs w.before w.nodes w.suffix (w.after ++ text ∷ []) no_token w.trailing) os
@@ -186,33 +186,33 @@ at_note-alone last line text os w off apart = rw (off, apart) (at_rest (has_toke
 abbrev after_last : Walked → Last → Walked
 after_last w last = walked_of w.segs w.before w.nodes w.suffix w.after last w.trailing
 
-noted_is : (last : Last) (b : Bool) (line : ℕ) (text : List ℕ) (os : List Own) (w : Walked) → is_on last line ≡ b → Fits last w.suffix w.after
-    → joined (noted last b text (after_last w last)) os ≡ joined (after_last w last) (note line text ∷ os)
-noted_is no_token true line text os w on fits = at_note-alone no_token line text os w refl refl
-noted_is no_token false line text os w on fits = at_note-alone no_token line text os w refl refl
-noted_is (end_of_node end) true line text os w on fits = rw (fits.0, fits.1) (at_note-node end line text os w.segs w.before w.nodes w.trailing on)
-noted_is (end_of_node end) false line text os w off fits = at_note-alone (end_of_node end) line text os w off refl
-noted_is (end_of_comma end) true line text os w on fits = at_note-comma end line text os w.segs w.before w.nodes w.suffix w.after w.trailing on
-noted_is (end_of_comma end) false line text os w off fits = at_note-alone (end_of_comma end) line text os w off off
+commented_is : (last : Last) (b : Bool) (line : ℕ) (text : List ℕ) (os : List Own) (w : Walked) → is_on last line ≡ b → Fits last w.suffix w.after
+    → joined (commented last b text (after_last w last)) os ≡ joined (after_last w last) (comment line text ∷ os)
+commented_is no_token true line text os w on fits = at_comment-alone no_token line text os w refl refl
+commented_is no_token false line text os w on fits = at_comment-alone no_token line text os w refl refl
+commented_is (end_of_node end) true line text os w on fits = rw (fits.0, fits.1) (at_comment-node end line text os w.segs w.before w.nodes w.trailing on)
+commented_is (end_of_node end) false line text os w off fits = at_comment-alone (end_of_node end) line text os w off refl
+commented_is (end_of_comma end) true line text os w on fits = at_comment-comma end line text os w.segs w.before w.nodes w.suffix w.after w.trailing on
+commented_is (end_of_comma end) false line text os w off fits = at_comment-alone (end_of_comma end) line text os w off off
 
-at_note : (line : ℕ) (text : List ℕ) (os : List Own) (w : Walked) → Fits w.last w.suffix w.after → joined (after_note line text w) os ≡ joined w (note line text ∷ os)
-at_note line text os w fits = noted_is w.last (is_on w.last line) line text os w refl fits
+at_comment : (line : ℕ) (text : List ℕ) (os : List Own) (w : Walked) → Fits w.last w.suffix w.after → joined (after_comment line text w) os ≡ joined w (comment line text ∷ os)
+at_comment line text os w fits = commented_is w.last (is_on w.last line) line text os w refl fits
 
-noted_nodes : (last : Last) (b : Bool) (text : List ℕ) (w : Walked) → (noted last b text w).nodes ≡ w.nodes
-noted_nodes no_token true text w = refl
-noted_nodes no_token false text w = refl
-noted_nodes (end_of_node end) true text w = refl
-noted_nodes (end_of_node end) false text w = refl
-noted_nodes (end_of_comma end) true text w = refl
-noted_nodes (end_of_comma end) false text w = refl
+commented_nodes : (last : Last) (b : Bool) (text : List ℕ) (w : Walked) → (commented last b text w).nodes ≡ w.nodes
+commented_nodes no_token true text w = refl
+commented_nodes no_token false text w = refl
+commented_nodes (end_of_node end) true text w = refl
+commented_nodes (end_of_node end) false text w = refl
+commented_nodes (end_of_comma end) true text w = refl
+commented_nodes (end_of_comma end) false text w = refl
 
-noted_fits : (last : Last) (b : Bool) (text : List ℕ) (w : Walked) → Fits (noted last b text w).last (noted last b text w).suffix (noted last b text w).after
-noted_fits no_token true text w = tt
-noted_fits no_token false text w = tt
-noted_fits (end_of_node end) true text w = tt
-noted_fits (end_of_node end) false text w = tt
-noted_fits (end_of_comma end) true text w = tt
-noted_fits (end_of_comma end) false text w = tt
+commented_fits : (last : Last) (b : Bool) (text : List ℕ) (w : Walked) → Fits (commented last b text w).last (commented last b text w).suffix (commented last b text w).after
+commented_fits no_token true text w = tt
+commented_fits no_token false text w = tt
+commented_fits (end_of_node end) true text w = tt
+commented_fits (end_of_node end) false text w = tt
+commented_fits (end_of_comma end) true text w = tt
+commented_fits (end_of_comma end) false text w = tt
 
 -- the walk, from any place on
 walk_is : (os : List Own) (w : Walked) → Fits w.last w.suffix w.after → walk w os ≡ whole w os
@@ -224,11 +224,11 @@ walk_is (comma t ∷ os) w fits = at_nodes w.nodes (λ v f. walk_is os v f)
     at_nodes [] more = refl
     at_nodes (x ∷ xs) more = more (walked_of (w.segs ++ segment (w.before ++ w.after) (x ∷ xs) w.suffix ∷ []) [] [] None [] (end_of_comma t.line) true) tt
         ∙ rw (at_comma_is t os w.segs w.before x xs w.suffix w.after w.last w.trailing) refl
-walk_is (note line text ∷ os) w fits =
-    let nodes = noted_nodes w.last (is_on w.last line) text w in
-    let same = at_note line text os w fits in
-    let more : whole (after_note line text w) os ≡ whole w (note line text ∷ os) = λ i. cond (no_empty (has_nodes (nodes i)) os) (Some (same i)) None in
-    walk_is os (after_note line text w) (noted_fits w.last (is_on w.last line) text w) ∙ more
+walk_is (comment line text ∷ os) w fits =
+    let nodes = commented_nodes w.last (is_on w.last line) text w in
+    let same = at_comment line text os w fits in
+    let more : whole (after_comment line text w) os ≡ whole w (comment line text ∷ os) = λ i. cond (no_empty (has_nodes (nodes i)) os) (Some (same i)) None in
+    walk_is os (after_comment line text w) (commented_fits w.last (is_on w.last line) text w) ∙ more
 
 at_start_is : (os : List Own) → joined at_start os ≡ inside_by_lines os
 at_start_is os = rw (same_either {A = List Comment} (has_token os) [], same_either {A = List (List ℕ)} (has_token os) [], add_all-none (part no_token os).earlier) refl
@@ -241,7 +241,7 @@ pub nodes_alone : (b : Bool) (os : List Own) → no_empty b (own_items true os) 
 nodes_alone b [] = refl
 nodes_alone b (node line x ∷ os) = nodes_alone true os
 nodes_alone b (comma t ∷ os) = nodes_alone true os
-nodes_alone b (note line text ∷ os) = nodes_alone b os
+nodes_alone b (comment line text ∷ os) = nodes_alone b os
 
 pub rule_call-push : (xs : List Item) (x : Item) → rule_call (xs ++ x ∷ []) ≡ xs ++ as_rule_call x ∷ []
 rule_call-push [] x = refl

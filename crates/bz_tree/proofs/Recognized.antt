@@ -32,10 +32,10 @@ expr_run (last_test t) p r of_test e acc = test_run t p r of_test acc
 expr_run (test {xs} {a} {b} c is t rc more) p r of_test e acc =
     rw (is, join_assoc a (item c b) r) (test_run t p (item c (join b r)) of_test (leave p false c (join b r) Comma (Wants p false) (role_known c Comma rc refl) e e (expr_run more p r of_test e acc)))
 
-sign_run : (s : Item) (r : Role) → token_role s ≡ r → is_assignment r ≡ true → (xs : Items) → accepts (Wants Right false) xs ≡ true → Accepts Left false (item s xs)
-sign_run s Equals e is xs h = leave Left false s xs Equals (Wants Right false) (role_known s Equals e refl) refl refl h
-sign_run s Augmented e is xs h = leave Left false s xs Augmented (Wants Right false) (role_known s Augmented e refl) refl refl h
-sign_run s _ e is xs h = absurd (false≢true is)
+operator_run : (s : Item) (r : Role) → token_role s ≡ r → is_assignment r ≡ true → (xs : Items) → accepts (Wants Right false) xs ≡ true → Accepts Left false (item s xs)
+operator_run s Equals e is xs h = leave Left false s xs Equals (Wants Right false) (role_known s Equals e refl) refl refl h
+operator_run s Augmented e is xs h = leave Left false s xs Augmented (Wants Right false) (role_known s Augmented e refl) refl refl h
+operator_run s _ e is xs h = absurd (false≢true is)
 
 -- loads
 string_item : (x : Item) → token_role x ≡ Value → is_string_item x ≡ true
@@ -65,7 +65,7 @@ statement_accepted (load_statement {xs} l) = or_left (is_nothing xs || is_load x
 statement_accepted (expression {xs} e) = or_right (is_nothing xs || is_load xs) (accepts (Wants Left false) xs) (whole (Wants Left false) xs (expr_run e Left no_items refl refl (refl, refl)))
 statement_accepted (assignment {xs} {a} {b} s is ea es eb) =
     let right : accepts (Wants Right false) b ≡ true = whole (Wants Right false) b (expr_run eb Right no_items refl refl (refl, refl)) in
-    let all : accepts (Wants Left false) (join a (item s b)) ≡ true = expr_run ea Left (item s b) refl refl (sign_run s (token_role s) refl es b right) in
+    let all : accepts (Wants Left false) (join a (item s b)) ≡ true = expr_run ea Left (item s b) refl refl (operator_run s (token_role s) refl es b right) in
     or_right (is_nothing xs || is_load xs) (accepts (Wants Left false) xs) (ap (accepts (Wants Left false)) is ∙ all)
 
 -- and the other way

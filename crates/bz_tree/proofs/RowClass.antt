@@ -17,8 +17,8 @@ use Rattle.bz_tree.specs.declared.spot.Naming.{Naming}
 use Rattle.bz_tree.specs.declared.spot.Naming.TheVariants.{Name, Join, End, Never, Lost}
 use Rattle.bz_tree.specs.declared.spot.Read.{Read}
 use Rattle.bz_tree.specs.Tree.{Item, leaf, group, Segs, items_of}
-use Rattle.bz_tree.specs.Grammar.{leaf_role, word_role, sign_role, is_among, is_augmented, is_infix, is_assignment}
-use Rattle.bz_tree.specs.Statement.{is_ident, is_dot, is_call, is_nothing, is_rule, is_rule_after, as_rule_call, rule_call, is_assign_sign, is_assign, has_assign, is_load_word, is_kept, class_of}
+use Rattle.bz_tree.specs.Grammar.{leaf_role, word_role, operator_role, is_among, is_augmented, is_infix, is_assignment}
+use Rattle.bz_tree.specs.Statement.{is_ident, is_dot, is_call, is_nothing, is_rule, is_rule_after, as_rule_call, rule_call, is_assign_operator, is_assign, has_assign, is_load_word, is_kept, class_of}
 use Rattle.bz_tree.specs.private.Machine.{next, accepts}
 use Rattle.bz_tree.specs.private.RowSteps.{named, called, is_rule_read, is_lost, read_class}
 use Rattle.bz_tree.proofs.Accepted.{refused}
@@ -145,35 +145,35 @@ with_rule xs = cond (is_rule xs) (rule_call xs) xs
 pub shown_rule : (xs : List Item) (r : Read) → r.naming ≡ Name → is_lost (read_items r xs).naming ≡ false → shown r xs ≡ with_rule xs
 shown_rule xs r e h = shown_from xs r h ∙ ap (λ n. cond (from n xs) (rule_call xs) xs) e
 
--- assignment signs
-no_assign : (text word : List ℕ) → bytes_eq text word ≡ true → is_assign_sign word ≡ false → is_assign_sign text ≡ false
-no_assign text word is none = ap is_assign_sign ((bytes_eq-Decides text word).0 is) ∙ none
+-- assignment operators
+no_assign : (text word : List ℕ) → bytes_eq text word ≡ true → is_assign_operator word ≡ false → is_assign_operator text ≡ false
+no_assign text word is none = ap is_assign_operator ((bytes_eq-Decides text word).0 is) ∙ none
 
-no_assign_among : (text first second : List ℕ) (b : Bool) → bytes_eq text first ≡ b → (b || (bytes_eq text second || false)) ≡ true → is_assign_sign first ≡ false → is_assign_sign second ≡ false → is_assign_sign text ≡ false
+no_assign_among : (text first second : List ℕ) (b : Bool) → bytes_eq text first ≡ b → (b || (bytes_eq text second || false)) ≡ true → is_assign_operator first ≡ false → is_assign_operator second ≡ false → is_assign_operator text ≡ false
 no_assign_among text first second true is h none_first none_second = no_assign text first is none_first
 no_assign_among text first second false is h none_first none_second = at_second (bytes_eq text second) refl h
   where
-    at_second : (c : Bool) → bytes_eq text second ≡ c → (c || false) ≡ true → is_assign_sign text ≡ false
+    at_second : (c : Bool) → bytes_eq text second ≡ c → (c || false) ≡ true → is_assign_operator text ≡ false
     at_second true e k = no_assign text second e none_second
     at_second false e k = absurd (false≢true k)
 
-sign_chain : (a b c d e f g h i j : Bool) (v : Bool) → (a ≡ true → v ≡ false) → (b ≡ true → v ≡ false) → (c ≡ true → v ≡ false) → (e ≡ true → v ≡ false) → (f ≡ true → v ≡ false) → (g ≡ true → v ≡ false) → (h ≡ true → v ≡ false) → v ≡ (d || i)
+operator_chain : (a b c d e f g h i j : Bool) (v : Bool) → (a ≡ true → v ≡ false) → (b ≡ true → v ≡ false) → (c ≡ true → v ≡ false) → (e ≡ true → v ≡ false) → (f ≡ true → v ≡ false) → (g ≡ true → v ≡ false) → (h ≡ true → v ≡ false) → v ≡ (d || i)
     → is_assignment (cond a Dot (cond b Comma (cond c Colon (cond d Equals (cond e Tilde (cond f Star (cond g Stars (cond h Sum (cond i Augmented (cond j Operator Stray)))))))))) ≡ v
-sign_chain true b c d e f g h i j v na nb nc ne nf ng nh is = sym (na refl)
-sign_chain false true c d e f g h i j v na nb nc ne nf ng nh is = sym (nb refl)
-sign_chain false false true d e f g h i j v na nb nc ne nf ng nh is = sym (nc refl)
-sign_chain false false false true e f g h i j v na nb nc ne nf ng nh is = sym is
-sign_chain false false false false true f g h i j v na nb nc ne nf ng nh is = sym (ne refl)
-sign_chain false false false false false true g h i j v na nb nc ne nf ng nh is = sym (nf refl)
-sign_chain false false false false false false true h i j v na nb nc ne nf ng nh is = sym (ng refl)
-sign_chain false false false false false false false true i j v na nb nc ne nf ng nh is = sym (nh refl)
-sign_chain false false false false false false false false true j v na nb nc ne nf ng nh is = sym is
-sign_chain false false false false false false false false false true v na nb nc ne nf ng nh is = sym is
-sign_chain false false false false false false false false false false v na nb nc ne nf ng nh is = sym is
+operator_chain true b c d e f g h i j v na nb nc ne nf ng nh is = sym (na refl)
+operator_chain false true c d e f g h i j v na nb nc ne nf ng nh is = sym (nb refl)
+operator_chain false false true d e f g h i j v na nb nc ne nf ng nh is = sym (nc refl)
+operator_chain false false false true e f g h i j v na nb nc ne nf ng nh is = sym is
+operator_chain false false false false true f g h i j v na nb nc ne nf ng nh is = sym (ne refl)
+operator_chain false false false false false true g h i j v na nb nc ne nf ng nh is = sym (nf refl)
+operator_chain false false false false false false true h i j v na nb nc ne nf ng nh is = sym (ng refl)
+operator_chain false false false false false false false true i j v na nb nc ne nf ng nh is = sym (nh refl)
+operator_chain false false false false false false false false true j v na nb nc ne nf ng nh is = sym is
+operator_chain false false false false false false false false false true v na nb nc ne nf ng nh is = sym is
+operator_chain false false false false false false false false false false v na nb nc ne nf ng nh is = sym is
 
-sign_assigns : (text : List ℕ) → is_assignment (sign_role text) ≡ is_assign_sign text
-sign_assigns text =
-    sign_chain (bytes_eq text (codes ".")) (bytes_eq text (codes ",")) (bytes_eq text (codes ":")) (bytes_eq text (codes "=")) (bytes_eq text (codes "~")) (bytes_eq text (codes "*")) (bytes_eq text (codes "**")) (is_among text (codes "+" ∷ codes "-" ∷ [])) (is_augmented text) (is_infix text) (is_assign_sign text)
+operator_assigns : (text : List ℕ) → is_assignment (operator_role text) ≡ is_assign_operator text
+operator_assigns text =
+    operator_chain (bytes_eq text (codes ".")) (bytes_eq text (codes ",")) (bytes_eq text (codes ":")) (bytes_eq text (codes "=")) (bytes_eq text (codes "~")) (bytes_eq text (codes "*")) (bytes_eq text (codes "**")) (is_among text (codes "+" ∷ codes "-" ∷ [])) (is_augmented text) (is_infix text) (is_assign_operator text)
     (λ e. no_assign text (codes ".") e refl) (λ e. no_assign text (codes ",") e refl) (λ e. no_assign text (codes ":") e refl) (λ e. no_assign text (codes "~") e refl) (λ e. no_assign text (codes "*") e refl) (λ e. no_assign text (codes "**") e refl)
     (λ e. no_assign_among text (codes "+") (codes "-") (bytes_eq text (codes "+")) refl e refl refl) refl
 
@@ -190,7 +190,7 @@ word_assigns : (text : List ℕ) → is_assignment (word_role text) ≡ false
 word_assigns text = word_chain (bytes_eq text (codes "if")) (bytes_eq text (codes "else")) (bytes_eq text (codes "for")) (bytes_eq text (codes "in")) (bytes_eq text (codes "not")) (is_among text (codes "and" ∷ codes "or" ∷ []))
 
 leaf_assigns : (kind : Kind) (text : List ℕ) → is_assignment (leaf_role kind text) ≡ is_assign (leaf kind text)
-leaf_assigns OperatorToken text = sign_assigns text
+leaf_assigns OperatorToken text = operator_assigns text
 leaf_assigns Keyword text = word_assigns text
 leaf_assigns _ text = refl
 

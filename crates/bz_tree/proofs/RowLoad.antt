@@ -65,10 +65,10 @@ string_run (item (group kind segs one_comma end) xs) ps h = absurd (no_group Str
 
 -- after a name
 record Renames (xs : Items) (ps : List RowPart) : Type 0 where
-  sign : Item
+  operator : Item
   rest : Items
-  xs_are : xs ≡ item sign rest
-  equals : is_equals (role_of sign) ≡ true
+  xs_are : xs ≡ item operator rest
+  equals : is_equals (role_of operator) ≡ true
   string : is_string rest ≡ true
   more : load_run More ps ≡ true
 
@@ -78,7 +78,7 @@ equal_leaf _ xs ps h = absurd (no_run (ended xs ps) h)
 
 equal_run : (xs : Items) (ps : List RowPart) → load_run Equal (ended xs ps) ≡ true → Renames xs ps
 equal_run no_items ps h = absurd (no_run ps h)
-equal_run (item (leaf kind text) xs) ps h = let p = equal_leaf (leaf_role kind text) xs ps h in record { sign = leaf kind text; rest = xs; xs_are = refl; equals = p.0; string = p.1; more = p.2 }
+equal_run (item (leaf kind text) xs) ps h = let p = equal_leaf (leaf_role kind text) xs ps h in record { operator = leaf kind text; rest = xs; xs_are = refl; equals = p.0; string = p.1; more = p.2 }
 equal_run (item (group kind segs one_comma end) xs) ps h = absurd (no_group Equal kind segs one_comma end xs (segment_end ∷ ps) refl h)
 
 renamed_is : (n e : Item) (xs : Items) → is_name (role_of n) ≡ true → is_equals (role_of e) ≡ true → is_string xs ≡ true → is_renamed (item n (item e xs)) ≡ true
@@ -103,7 +103,7 @@ argument_leaf kind text Value e xs ps h =
 argument_leaf kind text Name e xs ps h =
     let p = equal_run xs ps h in
     let renamed : is_renamed (item (leaf kind text) xs) ≡ true =
-    ap (λ ys. is_renamed (item (leaf kind text) ys)) p.xs_are ∙ renamed_is (leaf kind text) p.sign p.rest (ap is_name e) p.equals p.string in
+    ap (λ ys. is_renamed (item (leaf kind text) ys)) p.xs_are ∙ renamed_is (leaf kind text) p.operator p.rest (ap is_name e) p.equals p.string in
     (or_right (is_string (item (leaf kind text) xs)) (is_renamed (item (leaf kind text) xs)) renamed, p.more)
 argument_leaf kind text _ e xs ps h = absurd (no_run (ended xs ps) h)
 

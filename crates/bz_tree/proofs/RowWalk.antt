@@ -9,18 +9,18 @@ use Rattle.bz_token.specs.Places.{Placed}
 use Rattle.bz_tree.specs.declared.stmt.GroupKind.{GroupKind}
 use Rattle.bz_tree.specs.declared.kinds.Shape.{Shape}
 use Rattle.bz_tree.specs.declared.kinds.Mark.{Mark}
-use Rattle.bz_tree.specs.declared.kinds.Mark.TheVariants.{Open, Close, Comma, Comment, NewLine, Plain}
+use Rattle.bz_tree.specs.declared.kinds.Mark.TheVariants.{Open, Close, Comma, Comment, Newline, Plain}
 use Rattle.bz_tree.specs.declared.kinds.Preceding.{Preceding}
 use Rattle.bz_tree.specs.declared.kinds.Preceding.TheVariants.{Operand, Other}
 use Rattle.bz_tree.specs.declared.spot.Read.{Read}
 use Rattle.bz_tree.specs.Tree.{Item, Segment, segs_of}
 use Rattle.bz_tree.specs.Kinds.{kind_mark, mark_of, kind_after, is_for_at, group_kind, is_one, same_shape}
-use Rattle.bz_tree.specs.Owners.{node, comma, note, no_token, end_of_node, end_of_comma, is_filled, Inside}
+use Rattle.bz_tree.specs.Owners.{node, comma, comment, no_token, end_of_node, end_of_comma, is_filled, Inside}
 use Rattle.bz_tree.specs.Brackets.{leaf_of, is_for_item, is_paren, group_with, end_line}
 use Rattle.bz_tree.specs.Rows.{RowPart, opening, closing, segment_end, above, beside, beside_part, item_parts}
 use Rattle.bz_tree.specs.private.Machine.{next, may_end, begin, each, role_of, group_role}
-use Rattle.bz_tree.specs.private.Steps.{Walked, after_own, noted, to_last, done, has_one, kind_with, shape_of, Level, Levels, with_own, next_at}
-use Rattle.bz_tree.specs.private.RowSteps.{is_ended, called, shown_kind, start, read_group, Stand, with_node, with_here, RowState, step_to, is_refused, note_part, after_note_next, last_end, is_single, is_one_comma, close_on, close_below, row_next_at}
+use Rattle.bz_tree.specs.private.Steps.{Walked, after_own, commented, to_last, done, has_one, kind_with, shape_of, Level, Levels, with_own, next_at}
+use Rattle.bz_tree.specs.private.RowSteps.{is_ended, called, shown_kind, start, read_group, Stand, with_node, with_here, RowState, step_to, is_refused, comment_part, after_comment_next, last_end, is_single, is_one_comma, close_on, close_below, row_next_at}
 use Rattle.bz_tree.proofs.Complete.{same_itself}
 use Rattle.bz_tree.proofs.InPlace.{filled_push, filled_last}
 use Rattle.bz_tree.proofs.Sound.{none_is_some, some_injective, same_shape_is}
@@ -177,17 +177,17 @@ leaf_leads t g gs new same good goods =
     node_leads g gs (leaf_of t) (end_line t) _ _ _ new r.0 r.1 refl refl p.1 refl good goods
 
 -- a comma at the top
-comma_sign : (kind : Kind) (text : List ℕ) → kind_mark kind text ≡ Comma → (is_for_at kind text ≡ false) × (kind_after kind text ≡ Other)
-comma_sign Operator text e = (refl, refl)
-comma_sign _ text e = cc
+comma_operator : (kind : Kind) (text : List ℕ) → kind_mark kind text ≡ Comma → (is_for_at kind text ≡ false) × (kind_after kind text ≡ Other)
+comma_operator Operator text e = (refl, refl)
+comma_operator _ text e = cc
 
 top_comma_leads : (t : Placed) → mark_of t ≡ Comma → (segs : List Segment) (place : Place) (gs : List Bracket) (new : RowState) → row_next_at Comma t (image (bracket None segs place) gs) ≡ Some new
     → IsGoodAt None segs place → AreGood gs → Leads (next_at Comma t (level_of (bracket None segs place)) (map level_of gs)) new
 top_comma_leads t is segs place gs new same good goods =
     let p = passed (is_ended (at_place place)) _ new same in
-    let sign = comma_sign t.kind t.text is in
-    node_leads (bracket None segs place) gs (leaf_of t) t.line _ _ _ new sign.0 p.0 refl refl p.1
-    (ap (λ l. Some (l, map level_of gs)) (level_is None _ _ _ Other _ (sym (ap (λ b. kind_with b (Some (walked_of segs place)) None) sign.0)) refl (sym sign.1))) good goods
+    let operator = comma_operator t.kind t.text is in
+    node_leads (bracket None segs place) gs (leaf_of t) t.line _ _ _ new operator.0 p.0 refl refl p.1
+    (ap (λ l. Some (l, map level_of gs)) (level_is None _ _ _ Other _ (sym (ap (λ b. kind_with b (Some (walked_of segs place)) None) operator.0)) refl (sym operator.1))) good goods
 
 -- a comma in a bracket
 abbrev with_last : List Segment → List (List ℕ) → List Item → Option (List ℕ) → List Segment
@@ -228,18 +228,18 @@ above_leads t kind segs after gs new same good goods =
     stays kind segs segs (none after) (none (after ++ t.text ∷ [])) gs (above t.text ∷ []) _ _ new (some_injective _ new same) refl
     (ap (λ ps. all_segs_parts segs ++ ps) (map-append above after (t.text ∷ [])) ∙ simp append_assoc) refl good goods
 
-comma_note_leads : (t : Placed) (kind : GroupKind) (segs : List Segment) (end : ℕ) (on : Bool) → (end == t.line) ≡ on → (gs : List Bracket) (new : RowState)
-    → step_to (with_here (at_place (none [])) (stand_of (bracket (Some kind) segs (fresh end)))) (note_part on t.text ∷ []) (image (bracket (Some kind) segs (fresh end)) gs) ≡ new
+comma_comment_leads : (t : Placed) (kind : GroupKind) (segs : List Segment) (end : ℕ) (on : Bool) → (end == t.line) ≡ on → (gs : List Bracket) (new : RowState)
+    → step_to (with_here (at_place (none [])) (stand_of (bracket (Some kind) segs (fresh end)))) (comment_part on t.text ∷ []) (image (bracket (Some kind) segs (fresh end)) gs) ≡ new
     → IsGoodAt (Some kind) segs (fresh end) → AreGood gs → Leads (next_at Comment t (level_of (bracket (Some kind) segs (fresh end))) (map level_of gs)) new
-comma_note_leads t kind segs end false e gs new is good goods =
+comma_comment_leads t kind segs end false e gs new is good goods =
     stays (Some kind) segs segs (fresh end) (none (t.text ∷ [])) gs (above t.text ∷ []) _ _ new is refl (ap (λ ps. ps ++ above t.text ∷ []) (sym (append-nil (all_segs_parts segs))))
-    (ap (λ b. Some (leveled (Some kind) (Some (noted (end_of_comma end) b t.text (walked_of segs (fresh end)))) Other, map level_of gs)) e) (good.0, good.1, tt) goods
-comma_note_leads t kind segs end true e gs new is good goods =
+    (ap (λ b. Some (leveled (Some kind) (Some (commented (end_of_comma end) b t.text (walked_of segs (fresh end)))) Other, map level_of gs)) e) (good.0, good.1, tt) goods
+comma_comment_leads t kind segs end true e gs new is good goods =
     let rr = to_last t.text segs in
     stays (Some kind) segs rr (fresh end) (none []) gs (beside t.text ∷ []) _ _ new is
     (ap (λ d. record { kind = Some kind; done = d; here = at_place (none []); read = start (Some kind) }) (sym (done_last segs t.text)))
     (append-nil (all_segs_parts rr) ∙ (beside_last segs t.text good.2 ∙ ap (λ ps. ps ++ beside t.text ∷ []) (sym (append-nil (all_segs_parts segs)))))
-    (ap (λ b. Some (leveled (Some kind) (Some (noted (end_of_comma end) b t.text (walked_of segs (fresh end)))) Other, map level_of gs)) e
+    (ap (λ b. Some (leveled (Some kind) (Some (commented (end_of_comma end) b t.text (walked_of segs (fresh end)))) Other, map level_of gs)) e
     ∙ ap (λ b. Some (leveled (Some kind) (Some (record { segs = rr; before = []; nodes = []; suffix = None; after = []; last = no_token; trailing = b })) Other, map level_of gs)) (sym (filled_last t.text segs)))
     (good.0, each_last segs t.text (begin kind) ∙ good.1, tt) goods
 
@@ -249,40 +249,40 @@ ended_place true text before x xs = over before x xs (Some text) []
 ended_place false text before x xs = over before x xs None (text ∷ [])
 
 ended_level : (t : Placed) (kind : Option GroupKind) (segs : List Segment) (before : List (List ℕ)) (x : Item) (xs : List Item) (end : ℕ) (on : Bool) → (end == t.line) ≡ on
-    → with_own (level_of (bracket kind segs (some before x xs end))) (note t.line t.text) ≡ level_of (bracket kind segs (ended_place on t.text before x xs))
-ended_level t kind segs before x xs end true e = ap (λ b. leveled kind (Some (noted (end_of_node end) b t.text (walked_of segs (some before x xs end)))) (read_items (start kind) (x ∷ xs)).at) e
-ended_level t kind segs before x xs end false e = ap (λ b. leveled kind (Some (noted (end_of_node end) b t.text (walked_of segs (some before x xs end)))) (read_items (start kind) (x ∷ xs)).at) e
+    → with_own (level_of (bracket kind segs (some before x xs end))) (comment t.line t.text) ≡ level_of (bracket kind segs (ended_place on t.text before x xs))
+ended_level t kind segs before x xs end true e = ap (λ b. leveled kind (Some (commented (end_of_node end) b t.text (walked_of segs (some before x xs end)))) (read_items (start kind) (x ∷ xs)).at) e
+ended_level t kind segs before x xs end false e = ap (λ b. leveled kind (Some (commented (end_of_node end) b t.text (walked_of segs (some before x xs end)))) (read_items (start kind) (x ∷ xs)).at) e
 
-node_note_leads : (t : Placed) (kind : Option GroupKind) (segs : List Segment) (before : List (List ℕ)) (x : Item) (xs : List Item) (end : ℕ) (on : Bool) → (end == t.line) ≡ on → (gs : List Bracket) (new : RowState)
-    → after_note_next kind on t.text (image (bracket kind segs (some before x xs end)) gs) ≡ Some new
+node_comment_leads : (t : Placed) (kind : Option GroupKind) (segs : List Segment) (before : List (List ℕ)) (x : Item) (xs : List Item) (end : ℕ) (on : Bool) → (end == t.line) ≡ on → (gs : List Bracket) (new : RowState)
+    → after_comment_next kind on t.text (image (bracket kind segs (some before x xs end)) gs) ≡ Some new
     → IsGoodAt kind segs (some before x xs end) → AreGood gs → Leads (next_at Comment t (level_of (bracket kind segs (some before x xs end))) (map level_of gs)) new
-node_note_leads t None segs before x xs end false e gs new same good goods = absurd (none_is_some new same)
-node_note_leads t None segs before x xs end true e gs new same good goods =
+node_comment_leads t None segs before x xs end false e gs new same good goods = absurd (none_is_some new same)
+node_comment_leads t None segs before x xs end true e gs new same good goods =
     stays None segs segs (some before x xs end) (over before x xs (Some t.text) []) gs (beside t.text ∷ []) _ _ new (some_injective _ new same) refl (simp append_assoc)
     (ap (λ l. Some (l, map level_of gs)) (ended_level t None segs before x xs end true e)) (good.0, refl) goods
-node_note_leads t (Some kind) segs before x xs end true e gs new same good goods =
+node_comment_leads t (Some kind) segs before x xs end true e gs new same good goods =
     stays (Some kind) segs segs (some before x xs end) (over before x xs (Some t.text) []) gs (segment_end ∷ beside t.text ∷ []) _ _ new (some_injective _ new same) refl (simp append_assoc)
     (ap (λ l. Some (l, map level_of gs)) (ended_level t (Some kind) segs before x xs end true e)) (good.0, good.1, tt) goods
-node_note_leads t (Some kind) segs before x xs end false e gs new same good goods =
+node_comment_leads t (Some kind) segs before x xs end false e gs new same good goods =
     stays (Some kind) segs segs (some before x xs end) (over before x xs None (t.text ∷ [])) gs (segment_end ∷ above t.text ∷ []) _ _ new (some_injective _ new same) refl (simp append_assoc)
     (ap (λ l. Some (l, map level_of gs)) (ended_level t (Some kind) segs before x xs end false e)) (good.0, good.1, tt) goods
 
-end_note_leads : (t : Placed) (kind : GroupKind) (segs : List Segment) (before : List (List ℕ)) (x : Item) (xs : List Item) (suffix : Option (List ℕ)) (after : List (List ℕ)) (gs : List Bracket) (new : RowState)
+end_comment_leads : (t : Placed) (kind : GroupKind) (segs : List Segment) (before : List (List ℕ)) (x : Item) (xs : List Item) (suffix : Option (List ℕ)) (after : List (List ℕ)) (gs : List Bracket) (new : RowState)
     → row_next_at Comment t (image (bracket (Some kind) segs (over before x xs suffix after)) gs) ≡ Some new
     → IsGoodAt (Some kind) segs (over before x xs suffix after) → AreGood gs → Leads (next_at Comment t (level_of (bracket (Some kind) segs (over before x xs suffix after))) (map level_of gs)) new
-end_note_leads t kind segs before x xs suffix after gs new same good goods =
+end_comment_leads t kind segs before x xs suffix after gs new same good goods =
     stays (Some kind) segs segs (over before x xs suffix after) (over before x xs suffix (after ++ t.text ∷ [])) gs (above t.text ∷ []) _ _ new (some_injective _ new same) refl (simp (map-append, append_assoc))
     refl (good.0, good.1, tt) goods
 
-note_leads : (t : Placed) (kind : Option GroupKind) (segs : List Segment) (place : Place) (gs : List Bracket) (new : RowState) → row_next_at Comment t (image (bracket kind segs place) gs) ≡ Some new
+comment_leads : (t : Placed) (kind : Option GroupKind) (segs : List Segment) (place : Place) (gs : List Bracket) (new : RowState) → row_next_at Comment t (image (bracket kind segs place) gs) ≡ Some new
     → IsGoodAt kind segs place → AreGood gs → Leads (next_at Comment t (level_of (bracket kind segs place)) (map level_of gs)) new
-note_leads t None segs (none after) gs new same good goods = above_leads t None segs after gs new same (good.0, refl) goods
-note_leads t (Some kind) segs (none after) gs new same good goods = above_leads t (Some kind) segs after gs new same (good.0, good.1, tt) goods
-note_leads t None segs (fresh end) gs new same good goods = absurd (false≢true good.1)
-note_leads t (Some kind) segs (fresh end) gs new same good goods = comma_note_leads t kind segs end (end == t.line) refl gs new (some_injective _ new same) good goods
-note_leads t kind segs (some before x xs end) gs new same good goods = node_note_leads t kind segs before x xs end (end == t.line) refl gs new same good goods
-note_leads t None segs (over before x xs suffix after) gs new same good goods = absurd (none_is_some new same)
-note_leads t (Some kind) segs (over before x xs suffix after) gs new same good goods = end_note_leads t kind segs before x xs suffix after gs new same good goods
+comment_leads t None segs (none after) gs new same good goods = above_leads t None segs after gs new same (good.0, refl) goods
+comment_leads t (Some kind) segs (none after) gs new same good goods = above_leads t (Some kind) segs after gs new same (good.0, good.1, tt) goods
+comment_leads t None segs (fresh end) gs new same good goods = absurd (false≢true good.1)
+comment_leads t (Some kind) segs (fresh end) gs new same good goods = comma_comment_leads t kind segs end (end == t.line) refl gs new (some_injective _ new same) good goods
+comment_leads t kind segs (some before x xs end) gs new same good goods = node_comment_leads t kind segs before x xs end (end == t.line) refl gs new same good goods
+comment_leads t None segs (over before x xs suffix after) gs new same good goods = absurd (none_is_some new same)
+comment_leads t (Some kind) segs (over before x xs suffix after) gs new same good goods = end_comment_leads t kind segs before x xs suffix after gs new same good goods
 
 open_leads : (shape : Shape) (t : Placed) (g : Bracket) (gs : List Bracket) (new : RowState) → row_next_at (Open shape) t (image g gs) ≡ Some new → IsGood g → AreGood gs
     → Leads (next_at (Open shape) t (level_of g) (map level_of gs)) new
@@ -412,7 +412,7 @@ close_leads shape t (Some kind) segs place gs new same good goods = at_shape (sa
 -- a step, here and there
 pub next_leads : (m : Mark) (t : Placed) → mark_of t ≡ m → (g : Bracket) (gs : List Bracket) (new : RowState) → row_next_at m t (image g gs) ≡ Some new → IsGood g → AreGood gs
     → Leads (next_at m t (level_of g) (map level_of gs)) new
-next_leads NewLine t is g gs new same good goods = record { to = g; around = gs; state_is = sym (some_injective (image g gs) new same); step_is = refl; good = good; goods = goods }
+next_leads Newline t is g gs new same good goods = record { to = g; around = gs; state_is = sym (some_injective (image g gs) new same); step_is = refl; good = good; goods = goods }
 next_leads Plain t is g gs new same good goods = leaf_leads t g gs new same good goods
 next_leads Comma t is g gs new same good goods = at_kind g.kind g.segs g.place new same good
   where
@@ -420,6 +420,6 @@ next_leads Comma t is g gs new same good goods = at_kind g.kind g.segs g.place n
         → Leads (next_at Comma t (level_of (bracket kind segs place)) (map level_of gs)) new
     at_kind None segs place new same good = top_comma_leads t is segs place gs new same good goods
     at_kind (Some kind) segs place new same good = segment_leads t kind segs place gs new same good goods
-next_leads Comment t is g gs new same good goods = note_leads t g.kind g.segs g.place gs new same good goods
+next_leads Comment t is g gs new same good goods = comment_leads t g.kind g.segs g.place gs new same good goods
 next_leads (Open shape) t is g gs new same good goods = open_leads shape t g gs new same good goods
 next_leads (Close shape) t is g gs new same good goods = close_leads shape t g.kind g.segs g.place gs new same good goods

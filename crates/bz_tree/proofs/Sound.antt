@@ -4,7 +4,7 @@ use Rattle.std.proofs.lemmas.Bool.{false≢true}
 use Rattle.bz_tree.specs.declared.kinds.Shape.{Shape}
 use Rattle.bz_tree.specs.declared.kinds.Shape.TheVariants.{Round, Square, Curly}
 use Rattle.bz_tree.specs.declared.kinds.Mark.{Mark}
-use Rattle.bz_tree.specs.declared.kinds.Mark.TheVariants.{Open, Close, Comma, Comment, NewLine, Plain}
+use Rattle.bz_tree.specs.declared.kinds.Mark.TheVariants.{Open, Close, Comma, Comment, Newline, Plain}
 use Rattle.bz_tree.specs.declared.kinds.Preceding.{Preceding}
 use Rattle.bz_tree.specs.declared.kinds.Preceding.TheVariants.{Other}
 use Rattle.bz_token.specs.Places.{Placed}
@@ -164,7 +164,7 @@ abbrev step_tokens : Mark → Placed → List Placed
 step_tokens m t = cond (is_line m) [] (t ∷ [])
 
 next_leads : (m : Mark) (t : Placed) → mark_of t ≡ m → (top : Raw) (outer : List Raw) (new : Levels) → next_at m t (image top) (map image outer) ≡ Some new → IsWellRaw top → AreWellRaws outer → Leads top outer (step_tokens m t) new
-next_leads NewLine t is top outer new same well wells = record {
+next_leads Newline t is top outer new same well wells = record {
   raw = top;
   raws = outer;
   levels_are = sym (some_injective (image top, map image outer) new same);
@@ -224,7 +224,7 @@ finish_found None elems (r ∷ outer) s same well = absurd (none_is_some s same)
 finish_found (Some o) elems outer s same well = absurd (none_is_some s same)
 
 step_tokens_are : (m : Mark) (t : Placed) (ts : List Placed) → step_tokens m t ++ ts ≡ cond (is_line m) ts (t ∷ ts)
-step_tokens_are NewLine t ts = refl
+step_tokens_are Newline t ts = refl
 step_tokens_are Comma t ts = refl
 step_tokens_are Comment t ts = refl
 step_tokens_are Plain t ts = refl

@@ -13,7 +13,7 @@ use Rattle.bz_token.specs.Brackets.{is_inside, open_after_token}
 use Rattle.bz_token.specs.Reading.{is_white, is_gap, continues_gap, Piece, IsReading, token_of, tokens_of, AreTokensOf}
 use Rattle.bz_tree.specs.declared.kinds.Shape.TheVariants.{Round, Square, Curly}
 use Rattle.bz_tree.specs.declared.kinds.Mark.TheVariants.{Open, Close, Comma, Plain}
-use Rattle.bz_tree.specs.Kinds.{sign_mark, kind_mark, mark_of}
+use Rattle.bz_tree.specs.Kinds.{operator_mark, kind_mark, mark_of}
 use Rattle.bz_tree.specs.Brackets.{is_line, without_lines}
 use Rattle.bz_tree.specs.Statement.{is_aside, bare_tokens, first_of, last_of, EndsFit}
 use Rattle.bz_tree.specs.Blocks.{IsAt, is_block_word_at}
@@ -74,15 +74,15 @@ not_line false false false false false true g = refl
 not_line false false false false false false true = refl
 not_line false false false false false false false = refl
 
-sign_no_line : (t : List ℕ) → is_line (sign_mark t) ≡ false
-sign_no_line t = not_line (bytes_eq t (codes "(")) (bytes_eq t (codes "[")) (bytes_eq t (codes "{")) (bytes_eq t (codes ")")) (bytes_eq t (codes "]")) (bytes_eq t (codes "}")) (bytes_eq t (codes ","))
+operator_no_line : (t : List ℕ) → is_line (operator_mark t) ≡ false
+operator_no_line t = not_line (bytes_eq t (codes "(")) (bytes_eq t (codes "[")) (bytes_eq t (codes "{")) (bytes_eq t (codes ")")) (bytes_eq t (codes "]")) (bytes_eq t (codes "}")) (bytes_eq t (codes ","))
 
 newline_front : (t after : List ℕ) → t ≡ 10 ∷ [] → IsAsciiFront (t ++ after)
 newline_front t after is = subst (λ x. IsAsciiFront (x ++ after)) (sym is) (let h : 10 < 128 = omega arith in h)
 
 line_front : (kind : Kind) (t after : List ℕ) → is_line (kind_mark kind t) ≡ true → is_text kind t ≡ true → IsAsciiFront (t ++ after)
 line_front Newline t after is whole = newline_front t after ((bytes_eq-Decides t (10 ∷ [])).0 whole)
-line_front Operator t after is whole = absurd (false≢true (sym (sign_no_line t) ∙ is))
+line_front Operator t after is whole = absurd (false≢true (sym (operator_no_line t) ∙ is))
 line_front _ t after is whole = absurd (false≢true is)
 
 front_of : (gap more : List ℕ) → IsAsciiFront gap → IsAsciiFront more → IsAsciiFront (gap ++ more)
@@ -178,7 +178,7 @@ last_found first (p ∷ ps) = λ depth before lines opened bs rest last reading 
 -- a list without tokens has no first one
 line_aside : (kind : Kind) (t : List ℕ) → is_line (kind_mark kind t) ≡ true → is_aside kind ≡ true
 line_aside Newline t is = refl
-line_aside Operator t is = absurd (false≢true (sym (sign_no_line t) ∙ is))
+line_aside Operator t is = absurd (false≢true (sym (operator_no_line t) ∙ is))
 line_aside _ t is = absurd (false≢true is)
 
 bare_empty : (ts : List Placed) → without_lines ts ≡ [] → bare_tokens ts ≡ []
@@ -273,7 +273,7 @@ both_from first p ps depth before lines opened bs rest header last reading gap h
 
 -- a token that counts is no newline
 counted_mark : (kind : Kind) (t : List ℕ) → is_aside kind ≡ false → is_line (kind_mark kind t) ≡ false
-counted_mark Operator t e = sign_no_line t
+counted_mark Operator t e = operator_no_line t
 counted_mark Newline t e = absurd (false≢true (sym e))
 counted_mark _ t e = refl
 

@@ -6,7 +6,7 @@ use Rattle.bz_token.specs.declared.token.Kind.TheVariants.{Keyword, Operator, Ke
 use Rattle.bz_token.specs.Places.{Placed, line_at, column_at}
 use Rattle.bz_tree.specs.declared.stmt.Class.TheVariants.{Block}
 use Rattle.bz_tree.specs.declared.kinds.Mark.{Mark}
-use Rattle.bz_tree.specs.declared.kinds.Mark.TheVariants.{Open, Close, Comment, NewLine}
+use Rattle.bz_tree.specs.declared.kinds.Mark.TheVariants.{Open, Close, Comment, Newline}
 use Rattle.bz_tree.specs.Tree.{leaf, Statement}
 use Rattle.bz_tree.specs.Kinds.{mark_of}
 use Rattle.bz_tree.specs.Brackets.{end_line}
@@ -33,7 +33,7 @@ in_front t [] = (t ∷ []) ∷ []
 in_front t (line ∷ lines) = (t ∷ line) ∷ lines
 
 abbrev pub with_token : Mark → Placed → List (List Placed) → List (List Placed)
-with_token NewLine t lines = [] ∷ lines
+with_token Newline t lines = [] ∷ lines
 with_token Comment t lines = lines
 with_token _ t lines = in_front t lines
 
@@ -102,7 +102,7 @@ is_block tokens = has_colon 0 (header_line (logical_lines tokens)) && not (is_op
 -- the comments above the first token
 abbrev pub above_at : Mark → List ℕ → List (List ℕ) → List (List ℕ)
 above_at Comment text later = text ∷ later
-above_at NewLine text later = later
+above_at Newline text later = later
 above_at _ text later = []
 
 abbrev pub above : List Placed → List (List ℕ)

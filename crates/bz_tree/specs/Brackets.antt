@@ -5,12 +5,12 @@ use Rattle.bz_tree.specs.declared.stmt.GroupKind.{GroupKind}
 use Rattle.bz_tree.specs.declared.stmt.GroupKind.TheVariants.{Paren}
 use Rattle.bz_tree.specs.declared.kinds.Shape.{Shape}
 use Rattle.bz_tree.specs.declared.kinds.Mark.{Mark}
-use Rattle.bz_tree.specs.declared.kinds.Mark.TheVariants.{Open, Close, Comma, Comment, NewLine, Plain}
+use Rattle.bz_tree.specs.declared.kinds.Mark.TheVariants.{Open, Close, Comma, Comment, Newline, Plain}
 use Rattle.bz_tree.specs.declared.kinds.Preceding.{Preceding}
 use Rattle.bz_tree.specs.declared.kinds.Preceding.TheVariants.{Operand, Other}
 use Rattle.bz_tree.specs.Tree.{Item, leaf, group, segs_of}
 use Rattle.bz_tree.specs.Kinds.{mark_of, kind_after, is_for_at, group_kind, is_one}
-use Rattle.bz_tree.specs.Owners.{Own, node, comma, note, Inside, inside, no_empty}
+use Rattle.bz_tree.specs.Owners.{Own, node, comma, comment, Inside, inside, no_empty}
 
 -- a token that is no bracket, or an opening bracket, what stands in it, and its closing bracket
 mutual
@@ -44,7 +44,7 @@ after_item (group kind segs one_comma end) = Operand
 abbrev pub preceding : Preceding → Own → Preceding
 preceding b (node line x) = after_item x
 preceding b (comma t) = Other
-preceding b (note line text) = b
+preceding b (comment line text) = b
 
 abbrev pub is_for_item : Item → Bool
 is_for_item (leaf kind text) = is_for_at kind text
@@ -55,7 +55,7 @@ abbrev pub has_for : List Own → Bool
 has_for [] = false
 has_for (node line x ∷ xs) = is_for_item x || has_for xs
 has_for (comma t ∷ xs) = false
-has_for (note line text ∷ xs) = has_for xs
+has_for (comment line text ∷ xs) = has_for xs
 
 abbrev pub as_node : Own → Own
 as_node (comma t) = node t.line (leaf_of t)
@@ -84,7 +84,7 @@ end_line t = t.line + count_by (λ b. b == 10) t.text
 
 abbrev pub own_of : Mark → Placed → Own
 own_of Comma t = comma t
-own_of Comment t = note t.line t.text
+own_of Comment t = comment t.line t.text
 own_of _ t = node (end_line t) (leaf_of t)
 
 -- what stands in a bracket, after `b`
@@ -119,7 +119,7 @@ abbrev mutual
   AreWell b (elem x xs) = IsWell b x × AreWell (preceding b (elem_own b x)) xs
 
 abbrev pub is_line : Mark → Bool
-is_line NewLine = true
+is_line Newline = true
 is_line _ = false
 
 abbrev pub without_lines : List Placed → List Placed

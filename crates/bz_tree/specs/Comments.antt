@@ -41,14 +41,14 @@ joined (texts ∷ lists) = texts ++ joined lists
 abbrev pub comments_of : Statement → List (List ℕ)
 comments_of s = joined (owners_of s)
 
-abbrev pub note_of : Mark → List ℕ → List (List ℕ)
-note_of Comment text = text ∷ []
-note_of _ text = []
+abbrev pub comment_of : Mark → List ℕ → List (List ℕ)
+comment_of Comment text = text ∷ []
+comment_of _ text = []
 
 -- the comments among tokens
-abbrev pub notes : List Placed → List (List ℕ)
-notes [] = []
-notes (t ∷ ts) = note_of (mark_of t) t.text ++ notes ts
+abbrev pub comments_among : List Placed → List (List ℕ)
+comments_among [] = []
+comments_among (t ∷ ts) = comment_of (mark_of t) t.text ++ comments_among ts
 
 -- The text is the first one of a list; `less` are the lists without it.
 pub record IsTaken (text : List ℕ) (lists less : Lists) : Type 0 where

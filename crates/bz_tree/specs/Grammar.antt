@@ -31,8 +31,8 @@ is_augmented text = is_among text (codes "+=" ∷ codes "-=" ∷ codes "*=" ∷ 
 abbrev pub is_infix : List ℕ → Bool
 is_infix text = is_among text (codes "==" ∷ codes "!=" ∷ codes "<" ∷ codes ">" ∷ codes "<=" ∷ codes ">=" ∷ codes "|" ∷ codes "^" ∷ codes "&" ∷ codes "<<" ∷ codes ">>" ∷ codes "/" ∷ codes "//" ∷ codes "%" ∷ [])
 
-abbrev pub sign_role : List ℕ → Role
-sign_role text =
+abbrev pub operator_role : List ℕ → Role
+operator_role text =
     if bytes_eq text (codes ".") then Dot
     else (if bytes_eq text (codes ",") then Comma
     else (if bytes_eq text (codes ":") then Colon
@@ -51,7 +51,7 @@ leaf_role Identifier text = Name
 leaf_role Integer text = Number
 leaf_role String text = Value
 leaf_role Keyword text = word_role text
-leaf_role OperatorToken text = sign_role text
+leaf_role OperatorToken text = operator_role text
 leaf_role _ text = Stray
 
 abbrev pub token_role : Item → Role
@@ -230,7 +230,7 @@ pub data AreLoadArgs : Segs → Type 0 where
 pub data IsLoad : Items → Type 0 where
   load : {w : Item} {before : List (List ℕ)} {nodes : Items} {beside : Option (List ℕ)} {segs : Segs} {one_comma : Bool} {end : List (List ℕ)} → is_load_word w ≡ true → IsString nodes → AreLoadArgs segs → IsLoad (item w (item (group Load (seg before nodes beside segs) one_comma end) no_items))
 
--- Statement: Load, or Expr, or Expr AssignSign Expr; of comment lines alone, nothing
+-- Statement: Load, or Expr, or Expr AssignOperator Expr; of comment lines alone, nothing
 pub data IsStatement : Items → Type 0 where
   comments : IsStatement no_items
   load_statement : {xs : Items} → IsLoad xs → IsStatement xs

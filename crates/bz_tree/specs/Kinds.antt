@@ -9,12 +9,12 @@ use Rattle.bz_tree.specs.declared.stmt.GroupKind.TheVariants.{Call, Load, Paren,
 use Rattle.bz_tree.specs.declared.kinds.Shape.{Shape}
 use Rattle.bz_tree.specs.declared.kinds.Shape.TheVariants.{Round, Square, Curly}
 use Rattle.bz_tree.specs.declared.kinds.Mark.{Mark}
-use Rattle.bz_tree.specs.declared.kinds.Mark.TheVariants.{Open, Close, Comma, Comment, NewLine, Plain}
+use Rattle.bz_tree.specs.declared.kinds.Mark.TheVariants.{Open, Close, Comma, Comment, Newline as NewlineMark, Plain}
 use Rattle.bz_tree.specs.declared.kinds.Preceding.{Preceding}
 use Rattle.bz_tree.specs.declared.kinds.Preceding.TheVariants.{Operand, LoadWord, Other}
 
-abbrev pub sign_mark : List ℕ → Mark
-sign_mark text =
+abbrev pub operator_mark : List ℕ → Mark
+operator_mark text =
     if bytes_eq text (codes "(") then Open Round
     else (if bytes_eq text (codes "[") then Open Square
     else (if bytes_eq text (codes "{") then Open Curly
@@ -26,9 +26,9 @@ sign_mark text =
 
 -- what a token is to the brackets
 abbrev pub kind_mark : Kind → List ℕ → Mark
-kind_mark Operator text = sign_mark text
+kind_mark Operator text = operator_mark text
 kind_mark CommentToken text = Comment
-kind_mark Newline text = NewLine
+kind_mark Newline text = NewlineMark
 kind_mark _ text = Plain
 
 abbrev pub mark_of : Placed → Mark

@@ -9,7 +9,7 @@ pub data Own : Type 0 where
   node : ℕ → Item → Own
   comma : Placed → Own
   -- a comment: its line and its text
-  note : ℕ → List ℕ → Own
+  comment : ℕ → List ℕ → Own
 
 -- What stands directly before a comment: nothing or a comment, or a node or a comma that ends on a line. A comment ends its line, so
 -- nothing before another comment is on the line of the next.
@@ -34,7 +34,7 @@ pub record Inside : Type 0 where
 pub data Entry : Type 0 where
   a_node : Item → Entry
   a_comma : Entry
-  a_note : Bool → List ℕ → Entry
+  a_comment : Bool → List ℕ → Entry
 
 -- what stands before the first comma
 abbrev pub first_cell : List Entry → List Entry
@@ -50,12 +50,12 @@ other_cells (e ∷ es) = other_cells es
 
 -- a comment that stands first, on the line on which what stands before it ends
 abbrev pub same_line : List Entry → List (List ℕ)
-same_line (a_note true text ∷ es) = text ∷ []
+same_line (a_comment true text ∷ es) = text ∷ []
 same_line es = []
 
 -- what stands after that comment; everything, where there is none
 abbrev pub later_lines : List Entry → List Entry
-later_lines (a_note true text ∷ es) = es
+later_lines (a_comment true text ∷ es) = es
 later_lines es = es
 
 abbrev pub nodes_in : List Entry → List Item
@@ -70,15 +70,15 @@ is_filled (x ∷ xs) = true
 abbrev pub has_node : List Entry → Bool
 has_node es = is_filled (nodes_in es)
 
-abbrev pub notes_in : List Entry → List (List ℕ)
-notes_in [] = []
-notes_in (a_note on text ∷ es) = text ∷ notes_in es
-notes_in (e ∷ es) = notes_in es
+abbrev pub comments_in : List Entry → List (List ℕ)
+comments_in [] = []
+comments_in (a_comment on text ∷ es) = text ∷ comments_in es
+comments_in (e ∷ es) = comments_in es
 
 -- a cell's comments before its last node
 abbrev pub above_last : List Entry → List (List ℕ)
 above_last [] = []
-above_last (a_note on text ∷ es) = if has_node es then text ∷ above_last es else []
+above_last (a_comment on text ∷ es) = if has_node es then text ∷ above_last es else []
 above_last (e ∷ es) = above_last es
 
 -- the comment directly after its last node, on the line on which that node ends
@@ -90,8 +90,8 @@ beside_last (e ∷ es) = beside_last es
 -- its other comments after its last node
 abbrev pub below_last : List Entry → List (List ℕ)
 below_last [] = []
-below_last (a_node x ∷ es) = if has_node es then below_last es else notes_in (later_lines es)
-below_last (a_note on text ∷ es) = if has_node es then below_last es else text ∷ notes_in es
+below_last (a_node x ∷ es) = if has_node es then below_last es else comments_in (later_lines es)
+below_last (a_comment on text ∷ es) = if has_node es then below_last es else text ∷ comments_in es
 below_last (a_comma ∷ es) = below_last es
 
 abbrev pub first : List (List ℕ) → Option (List ℕ)
@@ -106,8 +106,8 @@ others (text ∷ texts) = texts
 -- after it. Of the comment beside the last node and this one the first is the suffix. All others stand before the segment, in
 -- their order.
 abbrev pub cell_segment : List Entry → List (List ℕ) → List (List ℕ) → Segment
-cell_segment cell below_it comment =
-    let shown = beside_last cell ++ comment in
+cell_segment cell below_it on_comma =
+    let shown = beside_last cell ++ on_comma in
     record { before = above_last cell ++ (below_it ++ others shown); nodes = nodes_in cell; suffix = first shown }
 
 -- a segment, if it has a node
@@ -143,14 +143,14 @@ abbrev pub entries_of : Last → List Own → List Entry
 entries_of last [] = []
 entries_of last (node line x ∷ os) = a_node x ∷ entries_of (end_of_node line) os
 entries_of last (comma t ∷ os) = a_comma ∷ entries_of (end_of_comma t.line) os
-entries_of last (note line text ∷ os) = a_note (is_on last line) text ∷ entries_of no_token os
+entries_of last (comment line text ∷ os) = a_comment (is_on last line) text ∷ entries_of no_token os
 
 -- no segment is empty: a node stands before each comma, after the comma before
 abbrev pub no_empty : Bool → List Own → Bool
 no_empty has_node [] = true
 no_empty has_node (node line x ∷ rest) = no_empty true rest
 no_empty has_node (comma t ∷ rest) = has_node && no_empty false rest
-no_empty has_node (note line text ∷ rest) = no_empty has_node rest
+no_empty has_node (comment line text ∷ rest) = no_empty has_node rest
 
 -- the inside of a bracket
 abbrev pub inside : List Own → Inside

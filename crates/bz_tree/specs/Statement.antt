@@ -73,11 +73,11 @@ is_one_of text [] = false
 is_one_of text (word ∷ words) = bytes_eq text word || is_one_of text words
 
 -- `=` and the augmented assignments (Starlark specification, "Assignments")
-abbrev pub is_assign_sign : List ℕ → Bool
-is_assign_sign text = is_one_of text (codes "=" ∷ codes "+=" ∷ codes "-=" ∷ codes "*=" ∷ codes "/=" ∷ codes "//=" ∷ codes "%=" ∷ codes "&=" ∷ codes "|=" ∷ codes "^=" ∷ codes "<<=" ∷ codes ">>=" ∷ [])
+abbrev pub is_assign_operator : List ℕ → Bool
+is_assign_operator text = is_one_of text (codes "=" ∷ codes "+=" ∷ codes "-=" ∷ codes "*=" ∷ codes "/=" ∷ codes "//=" ∷ codes "%=" ∷ codes "&=" ∷ codes "|=" ∷ codes "^=" ∷ codes "<<=" ∷ codes ">>=" ∷ [])
 
 abbrev pub is_assign : Item → Bool
-is_assign (leaf Operator text) = is_assign_sign text
+is_assign (leaf Operator text) = is_assign_operator text
 is_assign _ = false
 
 abbrev pub has_assign : List Item → Bool

@@ -97,7 +97,7 @@ fn next_indent(lines: &mut Indents, token: &Token<'_>) -> Result<bool, AllocErro
         ≡ next_indent (mark_of (placed token.now)) (placed token.now) (lines_view lines.old)) }
 {
     match mark_of(token) {
-        Mark::NewLine => {
+        Mark::Newline => {
             lines.inside = false;
             Ok(true)
         }
@@ -155,8 +155,8 @@ fn colon_walk(tokens: &[Token<'_>]) -> bool
     let mut inside = false;
     for token in tokens {
         match mark_of(token) {
-            Mark::NewLine if inside => return false,
-            Mark::NewLine | Mark::Comment => {}
+            Mark::Newline if inside => return false,
+            Mark::Newline | Mark::Comment => {}
             mark => {
                 if depth == 0 && is_colon(token) {
                     return true;
@@ -205,7 +205,7 @@ pub(crate) fn comments_above<'a>(
     for token in tokens {
         match mark_of(token) {
             Mark::Comment => comments.push(CowStr::Borrowed(token.text))?,
-            Mark::NewLine => {}
+            Mark::Newline => {}
             _ => return Ok(comments),
         }
     }

@@ -229,7 +229,7 @@ impl<'a> State<'a> {
         ensures borrowed { OnOk result (state_owned self.new ≤ state_owned self.old) }
     {
         match mark_of(token) {
-            Mark::NewLine => {}
+            Mark::Newline => {}
             Mark::Plain => self.top.add_leaf(token, following)?,
             Mark::Comma => self.top.add_comma(alloc, token)?,
             Mark::Comment => self.top.add_comment(token)?,

@@ -3,7 +3,7 @@
 ghost use Rattle.std.specs.Prelude.{◌≡◌, map, IfOk, ◌≤◌, ◌+◌};
 ghost use Rattle.bz_tree.specs.Tree.{leaf};
 ghost use Rattle.bz_tree.specs.View.{text_of, node_view, nodes_view, seg_view};
-ghost use Rattle.bz_tree.specs.Statement.{is_rule, is_dot, is_call, as_rule_call, rule_call, with_rule_call, is_assign_sign, is_assign, has_assign, is_kept, is_load_word, class_of};
+ghost use Rattle.bz_tree.specs.Statement.{is_rule, is_dot, is_call, as_rule_call, rule_call, with_rule_call, is_assign_operator, is_assign, has_assign, is_kept, is_load_word, class_of};
 ghost use Rattle.bz_tree.specs.private.Steps.{rule_from};
 ghost use Rattle.bz_tree.specs.Borrowed.{node_owned, seg_owned};
 ghost use Rattle.bz_tree.specs.private.BorrowedSteps.{nodes_owned};
@@ -97,8 +97,8 @@ pub(crate) fn with_rule_call(seg: Seg<'_>) -> Result<Seg<'_>, AllocError>
     })
 }
 
-fn is_assign_sign(text: &str) -> bool
-    ensures { result ≡ is_assign_sign text.now }
+fn is_assign_operator(text: &str) -> bool
+    ensures { result ≡ is_assign_operator text.now }
 {
     text == "=" || is_augmented(text)
 }
@@ -107,7 +107,7 @@ fn is_assign(node: &Node<'_>) -> bool
     ensures { result ≡ is_assign (node_view node.now) }
 {
     match node {
-        Node::Token(leaf) => leaf.kind == Kind::Operator && is_assign_sign(leaf.text.as_str()),
+        Node::Token(leaf) => leaf.kind == Kind::Operator && is_assign_operator(leaf.text.as_str()),
         Node::Group(_) => false,
     }
 }

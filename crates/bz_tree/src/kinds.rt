@@ -2,7 +2,7 @@
 
 ghost use Rattle.std.specs.Prelude.{◌≡◌, Some};
 ghost use Rattle.bz_token.specs.Places.{placed};
-ghost use Rattle.bz_tree.specs.Kinds.{mark_of, sign_mark, kind_after, is_for_at, group_kind, is_one, same_shape};
+ghost use Rattle.bz_tree.specs.Kinds.{mark_of, operator_mark, kind_after, is_for_at, group_kind, is_one, same_shape};
 ghost use Rattle.bz_tree.specs.private.Steps.{shape_of, as_comprehension};
 
 use crate::stmt::GroupKind;
@@ -23,7 +23,7 @@ pub enum Mark {
     Close(Shape),
     Comma,
     Comment,
-    NewLine,
+    Newline,
     Plain,
 }
 
@@ -42,15 +42,15 @@ pub(crate) fn mark_of(token: &Token<'_>) -> Mark
 {
     match token.kind {
         Kind::Comment => Mark::Comment,
-        Kind::Newline => Mark::NewLine,
-        Kind::Operator => sign_mark(token.text),
+        Kind::Newline => Mark::Newline,
+        Kind::Operator => operator_mark(token.text),
         _ => Mark::Plain,
     }
 }
 
 #[inline(always)]
-fn sign_mark(text: &str) -> Mark
-    ensures { result ≡ sign_mark text.now }
+fn operator_mark(text: &str) -> Mark
+    ensures { result ≡ operator_mark text.now }
 {
     let bytes = text.as_bytes();
     if bytes.len() != 1 {

@@ -2,7 +2,7 @@
 
 ghost use Rattle.std.specs.Prelude.{◌≡◌, ◌+◌, ◌∷◌, ◌++◌, ◌==◌, true, false, map, count_by, IfOk, OnOk, Some, None, [], option_map, option_and_then, ◌≤◌, IfSome};
 ghost use Rattle.bz_tree.specs.View.{text_of, texts, node_view, seg_view};
-ghost use Rattle.bz_tree.specs.private.Steps.{walked, so_far, is_in_first, texts_of, content_view, at_start, after_node, after_comma, after_note, done, add_beside, to_last};
+ghost use Rattle.bz_tree.specs.private.Steps.{walked, so_far, is_in_first, texts_of, content_view, at_start, after_node, after_comma, after_comment, done, add_beside, to_last};
 ghost use Rattle.bz_tree.specs.Borrowed.{owned, owned_in, owned_of, node_owned, seg_owned};
 ghost use Rattle.bz_tree.specs.private.BorrowedSteps.{segs_owned, walk_owned, content_owned};
 
@@ -233,7 +233,7 @@ impl<'a> Walk<'a> {
     }
 
     pub(crate) fn add_comment(&mut self, line: u64, text: CowStr<'a>) -> Result<(), AllocError>
-        ensures value { OnOk result (walked self.new ≡ after_note line (text_of text.entry) (walked self.old)) }
+        ensures value { OnOk result (walked self.new ≡ after_comment line (text_of text.entry) (walked self.old)) }
         ensures whole { self.new.whole ≡ self.old.whole }
         ensures borrowed { OnOk result (walk_owned self.new ≤ walk_owned self.old + owned text.entry) }
     {

@@ -20,25 +20,28 @@ pub fn push_parts<'s>(stmt: &'s Stmt<'_>, parts: &mut Vec<Part<'s>>) -> Result<(
 }
 
 /// Appends comments that stand above something. `Err`: memory was refused, and some of them may have been appended.
-pub fn push_above<'s>(notes: &'s [CowStr<'_>], parts: &mut Vec<Part<'s>>) -> Result<(), AllocError>
+pub fn push_above<'s>(
+    comments: &'s [CowStr<'_>],
+    parts: &mut Vec<Part<'s>>,
+) -> Result<(), AllocError>
     ensures { OnOk result (map part_view parts.new.items
-        ≡ map part_view parts.old.items ++ map above (texts notes.now)) }
+        ≡ map part_view parts.old.items ++ map above (texts comments.now)) }
 {
-    for note in notes {
-        parts.push(Part::Above(note.as_str()))?;
+    for comment in comments {
+        parts.push(Part::Above(comment.as_str()))?;
     }
     Ok(())
 }
 
 /// Appends the comment that stands beside something, if there is one. `Err`: memory was refused.
 pub fn push_beside<'s>(
-    note: &'s Option<CowStr<'_>>,
+    comment: &'s Option<CowStr<'_>>,
     parts: &mut Vec<Part<'s>>,
 ) -> Result<(), AllocError>
     ensures { OnOk result
-        (map part_view parts.new.items ≡ map part_view parts.old.items ++ beside_part (option_map text_of note.now)) }
+        (map part_view parts.new.items ≡ map part_view parts.old.items ++ beside_part (option_map text_of comment.now)) }
 {
-    match note {
+    match comment {
         None => Ok(()),
         Some(text) => Ok(parts.push(Part::Beside(text.as_str()))?),
     }

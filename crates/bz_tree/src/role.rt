@@ -2,7 +2,7 @@
 
 ghost use Rattle.std.specs.Prelude.{◌≡◌, ◌<◌, ◌∷◌, [], length};
 ghost use Rattle.bz_tree.specs.View.{text_of};
-ghost use Rattle.bz_tree.specs.Grammar.{word_role, sign_role, is_augmented, is_infix, leaf_role};
+ghost use Rattle.bz_tree.specs.Grammar.{word_role, operator_role, is_augmented, is_infix, leaf_role};
 
 use crate::stmt::Leaf;
 use bz_token::Kind;
@@ -55,10 +55,10 @@ fn word_role(text: &str) -> Role
     }
 }
 
-// What a sign of one byte is.
+// What a operator of one byte is.
 #[inline(always)]
 fn byte_role(byte: u8) -> Role
-    ensures { result ≡ sign_role (byte ∷ []) }
+    ensures { result ≡ operator_role (byte ∷ []) }
 {
     match byte {
         b'.' => Role::Dot,
@@ -73,10 +73,10 @@ fn byte_role(byte: u8) -> Role
     }
 }
 
-// What a sign of more bytes is.
+// What a operator of more bytes is.
 fn longer_role(text: &str) -> Role
     requires { 1 < length text.now }
-    ensures { result ≡ sign_role text.now }
+    ensures { result ≡ operator_role text.now }
 {
     match text {
         "**" => Role::Stars,
@@ -86,10 +86,10 @@ fn longer_role(text: &str) -> Role
     }
 }
 
-/// What a sign is.
+/// What a operator is.
 #[inline(always)]
-pub(crate) fn sign_role(text: &str) -> Role
-    ensures { result ≡ sign_role text.now }
+pub(crate) fn operator_role(text: &str) -> Role
+    ensures { result ≡ operator_role text.now }
 {
     match text.as_bytes() {
         [] => Role::Stray,
@@ -129,7 +129,7 @@ pub(crate) fn token_role(kind: Kind, text: &str) -> Role
         Kind::Integer => Role::Number,
         Kind::String => Role::Value,
         Kind::Keyword => word_role(text),
-        Kind::Operator => sign_role(text),
+        Kind::Operator => operator_role(text),
         _ => Role::Stray,
     }
 }

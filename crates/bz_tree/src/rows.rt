@@ -11,13 +11,13 @@ ghost use Rattle.bz_tree.specs.Chunk.{IsStatementIn};
 ghost use Rattle.bz_tree.specs.Kinds.{group_kind};
 ghost use Rattle.bz_tree.specs.Rows.{IsRowOf, part_view};
 ghost use Rattle.bz_tree.specs.private.Machine.{may_end};
-ghost use Rattle.bz_tree.specs.private.RowSteps.{here_view, row_state, leaf_next, top_comma_next, comma_next, note_part, after_note_next, note_next, open_next, last_end, close_next, row_next, row_view, row_run, row_start, is_stray, is_upright};
+ghost use Rattle.bz_tree.specs.private.RowSteps.{here_view, row_state, leaf_next, top_comma_next, comma_next, comment_part, after_comment_next, comment_next, open_next, last_end, close_next, row_next, row_view, row_run, row_start, is_stray, is_upright};
 
 use crate::block::is_block_word;
 use crate::class::is_load_at;
 use crate::kinds::{Mark, Shape, group_kind, is_for_at, is_one, mark_of, same_shape, shape_of};
 use crate::owners::ends_on;
-use crate::role::{Role, sign_role, token_role};
+use crate::role::{Role, operator_role, token_role};
 use crate::row::{Part, Row};
 use crate::span::{counted_end_of, first_seen, first_token, newlines, start_of};
 use crate::spot::{Here, Spot, shown_kind};
@@ -74,7 +74,7 @@ impl<'a> RowWalk<'a> {
         match token.kind {
             Kind::Identifier => self.push_leaf(token, Kind::Identifier, Role::Name),
             Kind::String => self.push_leaf(token, Kind::String, Role::Value),
-            Kind::Operator => self.push_leaf(token, Kind::Operator, sign_role(token.text)),
+            Kind::Operator => self.push_leaf(token, Kind::Operator, operator_role(token.text)),
             kind => self.push_leaf(token, kind, token_role(kind, token.text)),
         }
     }
@@ -116,7 +116,7 @@ impl<'a> RowWalk<'a> {
     // A comment after the last node of a segment, on its line or not.
     fn add_last_comment(&mut self, on_line: bool, text: &'a str) -> Result<bool, AllocError>
         ensures { IfOk result (λ some. then_some some (row_state self.new)
-            ≡ after_note_next self.old.top.kind on_line text.now (row_state self.old)) }
+            ≡ after_comment_next self.old.top.kind on_line text.now (row_state self.old)) }
     {
         if self.top.kind.is_some() {
             self.parts.push(Part::End)?;
@@ -130,7 +130,7 @@ impl<'a> RowWalk<'a> {
 
     fn add_comment(&mut self, token: &Token<'a>) -> Result<bool, AllocError>
         ensures { IfOk result (λ some. then_some some (row_state self.new)
-            ≡ note_next (here_view self.old.top.here) token.now.line token.now.text.now (row_state self.old)) }
+            ≡ comment_next (here_view self.old.top.here) token.now.line token.now.text.now (row_state self.old)) }
     {
         match self.top.here {
             Here::Nothing => {
@@ -227,7 +227,7 @@ impl<'a> RowWalk<'a> {
             (λ some. then_some some (row_state self.new) ≡ row_next (placed token.now) (row_state self.old)) }
     {
         match mark_of(token) {
-            Mark::NewLine => Ok(true),
+            Mark::Newline => Ok(true),
             Mark::Plain => self.add_leaf(token),
             Mark::Comma => self.add_comma(token),
             Mark::Comment => self.add_comment(token),
@@ -278,7 +278,7 @@ fn is_stray(role: Role, kind: Kind, text: &str) -> bool
 
 #[inline(always)]
 fn comment_part<'a>(on_line: bool, text: &'a str) -> Part<'a>
-    ensures { part_view result ≡ note_part on_line text.now }
+    ensures { part_view result ≡ comment_part on_line text.now }
 {
     if on_line {
         Part::Beside(text)

@@ -20,7 +20,7 @@ fn is_aside(kind: Kind) -> bool
 fn is_line(token: &Token<'_>) -> bool
     ensures { result ≡ is_line (mark_of (placed token.now)) }
 {
-    matches!(mark_of(token), Mark::NewLine)
+    matches!(mark_of(token), Mark::Newline)
 }
 
 /// The first token that is no comment and no newline.

@@ -55,7 +55,7 @@ pub(crate) struct Read {
     pub(crate) stage: Stage,
     pub(crate) at: Preceding,
     pub(crate) naming: Naming,
-    // One of them is an assignment sign.
+    // One of them is an assignment operator.
     pub(crate) assigns: bool,
 }
 

@@ -9,9 +9,9 @@ use crate::stmt::GroupKind;
 /// What is being read: a Test with what may follow it, or (Target) a Primary, or (Clause) a Chain.
 #[derive(Clone, Copy)]
 pub(crate) enum Part {
-    /// The tests of a statement, before an assignment sign too.
+    /// The tests of a statement, before an assignment operator too.
     Left,
-    /// The tests after an assignment sign.
+    /// The tests after an assignment operator.
     Right,
     /// A test and nothing more.
     Alone,

@@ -12,11 +12,11 @@ use Rattle.bz_token.specs.Reading.{is_white, is_gap, continues_gap, feeds_gap, P
 use Rattle.bz_tree.specs.declared.kinds.Shape.TheVariants.{Round, Square, Curly}
 use Rattle.bz_tree.specs.declared.kinds.Mark.TheVariants.{Open, Close, Comma, Plain}
 use Rattle.bz_tree.specs.Tree.{Statement}
-use Rattle.bz_tree.specs.Kinds.{sign_mark, kind_mark, mark_of}
+use Rattle.bz_tree.specs.Kinds.{operator_mark, kind_mark, mark_of}
 use Rattle.bz_tree.specs.Brackets.{is_line, without_lines}
 use Rattle.bz_tree.specs.Statement.{is_aside, bare_tokens, first_of, last_of}
 use Rattle.bz_tree.specs.Blocks.{IsAt, IsKeptText, above_at, above, IsBlockOf}
-use Rattle.bz_tree.specs.Comments.{note_of, notes}
+use Rattle.bz_tree.specs.Comments.{comment_of, comments_among}
 use Rattle.bz_tree_laws.specs.BlockComments.{AreWritten, AreKept}
 use Rattle.bz_tree_laws.proofs.KeptSame.{kept_same}
 use Rattle.bz_tree.proofs.Sound.{none_is_some, some_injective}
@@ -103,16 +103,16 @@ no_aside false false false false false true g text later = refl
 no_aside false false false false false false true text later = refl
 no_aside false false false false false false false text later = refl
 
-above_sign : (t : List ℕ) (later : List (List ℕ)) → above_at (sign_mark t) t later ≡ []
-above_sign t later = no_aside (bytes_eq t (codes "(")) (bytes_eq t (codes "[")) (bytes_eq t (codes "{")) (bytes_eq t (codes ")")) (bytes_eq t (codes "]")) (bytes_eq t (codes "}")) (bytes_eq t (codes ",")) t later
+above_operator : (t : List ℕ) (later : List (List ℕ)) → above_at (operator_mark t) t later ≡ []
+above_operator t later = no_aside (bytes_eq t (codes "(")) (bytes_eq t (codes "[")) (bytes_eq t (codes "{")) (bytes_eq t (codes ")")) (bytes_eq t (codes "]")) (bytes_eq t (codes "}")) (bytes_eq t (codes ",")) t later
 
 above_counted : (kind : Kind) (t : List ℕ) (later : List (List ℕ)) → is_aside kind ≡ false → above_at (kind_mark kind t) t later ≡ []
-above_counted Operator t later e = above_sign t later
+above_counted Operator t later e = above_operator t later
 above_counted Comment t later e = absurd (false≢true (sym e))
 above_counted Newline t later e = absurd (false≢true (sym e))
 above_counted _ t later e = refl
 
-above_aside : (kind : Kind) (t : List ℕ) (later : List (List ℕ)) → is_aside kind ≡ true → above_at (kind_mark kind t) t later ≡ note_of (kind_mark kind t) t ++ later
+above_aside : (kind : Kind) (t : List ℕ) (later : List (List ℕ)) → is_aside kind ≡ true → above_at (kind_mark kind t) t later ≡ comment_of (kind_mark kind t) t ++ later
 above_aside Comment t later e = refl
 above_aside Newline t later e = refl
 above_aside _ t later e = absurd (false≢true e)
@@ -122,7 +122,7 @@ record FromHeader (tokens : List Placed) (header last : Placed) : Type 0 where
   more : List Placed
   tokens_are : tokens ≡ front ++ (header ∷ more)
   asides : bare_tokens front ≡ []
-  comments : above tokens ≡ notes front
+  comments : above tokens ≡ comments_among front
   is_last : last_of None (without_lines (header ∷ more)) ≡ Some last
 
 from_header : (tokens : List Placed) (header last : Placed) → first_of (bare_tokens tokens) ≡ Some header → last_of None (without_lines tokens) ≡ Some last → FromHeader tokens header last
@@ -138,7 +138,7 @@ from_header (t ∷ ts) header last some is = at_kind (is_aside t.kind) refl (λ 
           more = h.more;
           tokens_are = ap (λ l. t ∷ l) h.tokens_are;
           asides = ap (λ b. cond b (bare_tokens h.front) (t ∷ bare_tokens h.front)) e ∙ h.asides;
-          comments = above_aside t.kind t.text (above ts) e ∙ ap (λ l. note_of (mark_of t) t.text ++ l) h.comments;
+          comments = above_aside t.kind t.text (above ts) e ∙ ap (λ l. comment_of (mark_of t) t.text ++ l) h.comments;
           is_last = h.is_last;
         }
     at_kind false e more some =

@@ -2,7 +2,7 @@
 use Rattle.std.proofs.Common.{◌≡◌, ℕ, List, [], ◌∷◌, true, false, Some, None, refl, codes}
 use Rattle.bz_token.specs.declared.token.Kind.TheVariants.{Identifier}
 use Rattle.bz_tree.specs.Tree.{Item, leaf, Segment}
-use Rattle.bz_tree.specs.Owners.{a_node, a_comma, a_note}
+use Rattle.bz_tree.specs.Owners.{a_node, a_comma, a_comment}
 use Rattle.bz_tree_laws.specs.Written.{written_entries}
 
 abbrev x : Item
@@ -31,9 +31,9 @@ seg' before nodes suffix = record { before = before; nodes = nodes; suffix = Som
 
 -- two segments and an end comment, as they are written
 two_written : written_entries true (seg' (a ∷ b ∷ []) (x ∷ y ∷ []) c ∷ seg [] (y ∷ []) ∷ []) (d ∷ [])
-    ≡ a_note false a ∷ a_note false b ∷ a_node x ∷ a_node y ∷ a_comma ∷ a_note true c ∷ a_node y ∷ a_comma ∷ a_note false d ∷ []
+    ≡ a_comment false a ∷ a_comment false b ∷ a_node x ∷ a_node y ∷ a_comma ∷ a_comment true c ∷ a_node y ∷ a_comma ∷ a_comment false d ∷ []
 two_written = refl
 
 -- where no comma is written after the last segment
-one_written : written_entries false (seg' (a ∷ []) (x ∷ []) c ∷ []) (d ∷ []) ≡ a_note false a ∷ a_node x ∷ a_note true c ∷ a_note false d ∷ []
+one_written : written_entries false (seg' (a ∷ []) (x ∷ []) c ∷ []) (d ∷ []) ≡ a_comment false a ∷ a_node x ∷ a_comment true c ∷ a_comment false d ∷ []
 one_written = refl

@@ -5,17 +5,17 @@ use Rattle.bz_token.specs.Places.{Placed}
 use Rattle.bz_tree.specs.declared.stmt.GroupKind.{GroupKind}
 use Rattle.bz_tree.specs.declared.kinds.Shape.{Shape}
 use Rattle.bz_tree.specs.declared.kinds.Mark.{Mark}
-use Rattle.bz_tree.specs.declared.kinds.Mark.TheVariants.{Open, Close, Comma, Comment as Remark, NewLine, Plain}
+use Rattle.bz_tree.specs.declared.kinds.Mark.TheVariants.{Open, Close, Comma, Comment as Remark, Newline, Plain}
 use Rattle.bz_tree.specs.declared.kinds.Preceding.{Preceding}
 use Rattle.bz_tree.specs.declared.kinds.Preceding.TheVariants.{Other}
 use Rattle.bz_tree.specs.Tree.{Item, leaf, group, Segment, Statement, items_of, segs_of}
 use Rattle.bz_tree.specs.Kinds.{mark_of, group_kind, is_one}
-use Rattle.bz_tree.specs.Owners.{Own, node, comma, note, Last, no_token, end_of_node, end_of_comma, is_on, Inside, inside, no_empty}
+use Rattle.bz_tree.specs.Owners.{Own, node, comma, comment, Last, no_token, end_of_node, end_of_comma, is_on, Inside, inside, no_empty}
 use Rattle.bz_tree.specs.Brackets.{own_item, own_items, has_for, group_of, Elem, single, bracket, Elems, no_elems, elem, elem_tokens, elems_tokens, elem_own, elems_own, preceding, own_of, is_single, IsWell, AreWell, is_line, without_lines}
 use Rattle.bz_tree.specs.Statement.{one_segment, as_rule_call, rule_call, is_rule, segment_of, statement_with, IsStatementOf}
-use Rattle.bz_tree.specs.private.Steps.{Walked, texts_of, at_start, after_node, add_beside, to_last, noted, after_note, done}
+use Rattle.bz_tree.specs.private.Steps.{Walked, texts_of, at_start, after_node, add_beside, to_last, commented, after_comment, done}
 use Rattle.bz_tree.proofs.ByOwns.{walk}
-use Rattle.bz_tree.specs.Comments.{Lists, beside, item_owners, items_owners, segs_owners, owners_of, comments_of, note_of, notes, AreDealt, times}
+use Rattle.bz_tree.specs.Comments.{Lists, beside, item_owners, items_owners, segs_owners, owners_of, comments_of, comment_of, comments_among, AreDealt, times}
 use Rattle.bz_tree_laws.proofs.Dealt.{Mixed, mixed_swap, mixed_left, mixed_right, mixed_after, mixed_more, left_more, right_more, AreMixed, one_mixed, one_alone, both_mixed, mixed_following, to_end, list_more, lists_more, dealt_of, times_all}
 use Rattle.bz_tree.proofs.OneBracket.{inside_found, nodes_alone}
 
@@ -32,7 +32,7 @@ segments_owners ss = segs_owners (segs_of ss)
 abbrev own_owners : Own → Lists
 own_owners (node line x) = item_owners x
 own_owners (comma t) = []
-own_owners (note line text) = (text ∷ []) ∷ []
+own_owners (comment line text) = (text ∷ []) ∷ []
 
 abbrev inside_owners : Inside → Lists
 inside_owners i = segments_owners i.segs ++ i.end ∷ []
@@ -161,9 +161,9 @@ last_more : (text : List ℕ) (s : Segment) (ss : List Segment) (texts : List (L
 last_more text s [] texts m = beside_more text s.before s.nodes s.suffix [] texts m
 last_more text s (r ∷ ss) texts m = lists_more (segment_owners s) (segments_owners (r ∷ ss)) (segments_owners (to_last text (r ∷ ss))) (text ∷ []) (λ ts k. last_more text r ss ts k) texts m
 
-comma_note_holds : (text : List ℕ) (s : Segment) (ss : List Segment) (before : List (List ℕ)) (nodes : List Item) (suffix : Option (List ℕ)) (after : List (List ℕ)) (last : Last) (trailing : Bool) (texts : List (List ℕ))
+comma_comment_holds : (text : List ℕ) (s : Segment) (ss : List Segment) (before : List (List ℕ)) (nodes : List Item) (suffix : Option (List ℕ)) (after : List (List ℕ)) (last : Last) (trailing : Bool) (texts : List (List ℕ))
     → Holds (walked_of (s ∷ ss) before nodes suffix after last trailing) texts → Holds (walked_of (to_last text (s ∷ ss)) before nodes suffix after no_token trailing) (texts ++ text ∷ [])
-comma_note_holds text s ss before nodes suffix after last trailing texts h = record {
+comma_comment_holds text s ss before nodes suffix after last trailing texts h = record {
   finished = h.finished ++ text ∷ [];
   rest = h.rest;
   inner = h.inner;
@@ -191,40 +191,40 @@ alone_grown text before suffix after = simp append_assoc
 suffix_grown : (text : List ℕ) (before : List (List ℕ)) (suffix : Option (List ℕ)) (after : List (List ℕ)) → suffix ≡ None → after ≡ [] → before ++ (text ∷ after) ≡ (before ++ (texts_of suffix ++ after)) ++ text ∷ []
 suffix_grown text before suffix after none empty = rw (none, empty) (sym (append_assoc before [] (text ∷ [])))
 
-noted_holds : (last : Last) (on : Bool) (text : List ℕ) (segs : List Segment) (before : List (List ℕ)) (nodes : List Item) (suffix : Option (List ℕ)) (after : List (List ℕ)) (trailing : Bool) (texts : List (List ℕ))
+commented_holds : (last : Last) (on : Bool) (text : List ℕ) (segs : List Segment) (before : List (List ℕ)) (nodes : List Item) (suffix : Option (List ℕ)) (after : List (List ℕ)) (trailing : Bool) (texts : List (List ℕ))
     → AfterLast last segs nodes suffix after → Holds (walked_of segs before nodes suffix after last trailing) texts
-    → Holds (noted last on text (walked_of segs before nodes suffix after last trailing)) (texts ++ text ∷ [])
-noted_holds no_token true text segs before nodes suffix after trailing texts fits h = here_more _ _ text texts refl refl (alone_grown text before suffix after) h
-noted_holds no_token false text segs before nodes suffix after trailing texts fits h = here_more _ _ text texts refl refl (alone_grown text before suffix after) h
-noted_holds (end_of_node line) true text segs before nodes suffix after trailing texts fits h = here_more _ _ text texts refl refl (suffix_grown text before suffix after fits.0 fits.1) h
-noted_holds (end_of_node line) false text segs before nodes suffix after trailing texts fits h = here_more _ _ text texts refl refl (alone_grown text before suffix after) h
-noted_holds (end_of_comma line) true text [] before nodes suffix after trailing texts fits h = absurd fits
-noted_holds (end_of_comma line) true text (s ∷ ss) before nodes suffix after trailing texts fits h = comma_note_holds text s ss before nodes suffix after (end_of_comma line) trailing texts h
-noted_holds (end_of_comma line) false text segs before nodes suffix after trailing texts fits h = here_more _ _ text texts refl refl (alone_grown text before suffix after) h
+    → Holds (commented last on text (walked_of segs before nodes suffix after last trailing)) (texts ++ text ∷ [])
+commented_holds no_token true text segs before nodes suffix after trailing texts fits h = here_more _ _ text texts refl refl (alone_grown text before suffix after) h
+commented_holds no_token false text segs before nodes suffix after trailing texts fits h = here_more _ _ text texts refl refl (alone_grown text before suffix after) h
+commented_holds (end_of_node line) true text segs before nodes suffix after trailing texts fits h = here_more _ _ text texts refl refl (suffix_grown text before suffix after fits.0 fits.1) h
+commented_holds (end_of_node line) false text segs before nodes suffix after trailing texts fits h = here_more _ _ text texts refl refl (alone_grown text before suffix after) h
+commented_holds (end_of_comma line) true text [] before nodes suffix after trailing texts fits h = absurd fits
+commented_holds (end_of_comma line) true text (s ∷ ss) before nodes suffix after trailing texts fits h = comma_comment_holds text s ss before nodes suffix after (end_of_comma line) trailing texts h
+commented_holds (end_of_comma line) false text segs before nodes suffix after trailing texts fits h = here_more _ _ text texts refl refl (alone_grown text before suffix after) h
 
-noted_fits : (last : Last) (on : Bool) (text : List ℕ) (segs : List Segment) (before : List (List ℕ)) (nodes : List Item) (suffix : Option (List ℕ)) (after : List (List ℕ)) (trailing : Bool)
-    → NoNodes nodes before suffix → AfterLast last segs nodes suffix after → Fits (noted last on text (walked_of segs before nodes suffix after last trailing))
-noted_fits no_token true text segs before nodes suffix after trailing none fits = record { nodes = none; last = tt }
-noted_fits no_token false text segs before nodes suffix after trailing none fits = record { nodes = none; last = tt }
-noted_fits (end_of_node line) true text segs before nodes suffix after trailing none fits = record { nodes = with_suffix nodes before (Some text) fits.2; last = tt }
-noted_fits (end_of_node line) false text segs before nodes suffix after trailing none fits = record { nodes = none; last = tt }
-noted_fits (end_of_comma line) true text segs before nodes suffix after trailing none fits = record { nodes = none; last = tt }
-noted_fits (end_of_comma line) false text segs before nodes suffix after trailing none fits = record { nodes = none; last = tt }
+commented_fits : (last : Last) (on : Bool) (text : List ℕ) (segs : List Segment) (before : List (List ℕ)) (nodes : List Item) (suffix : Option (List ℕ)) (after : List (List ℕ)) (trailing : Bool)
+    → NoNodes nodes before suffix → AfterLast last segs nodes suffix after → Fits (commented last on text (walked_of segs before nodes suffix after last trailing))
+commented_fits no_token true text segs before nodes suffix after trailing none fits = record { nodes = none; last = tt }
+commented_fits no_token false text segs before nodes suffix after trailing none fits = record { nodes = none; last = tt }
+commented_fits (end_of_node line) true text segs before nodes suffix after trailing none fits = record { nodes = with_suffix nodes before (Some text) fits.2; last = tt }
+commented_fits (end_of_node line) false text segs before nodes suffix after trailing none fits = record { nodes = none; last = tt }
+commented_fits (end_of_comma line) true text segs before nodes suffix after trailing none fits = record { nodes = none; last = tt }
+commented_fits (end_of_comma line) false text segs before nodes suffix after trailing none fits = record { nodes = none; last = tt }
 
 -- without commas no segment is finished
 abbrev has_comma : List Own → Bool
 has_comma [] = false
 has_comma (comma t ∷ os) = true
 has_comma (node line x ∷ os) = has_comma os
-has_comma (note line text ∷ os) = has_comma os
+has_comma (comment line text ∷ os) = has_comma os
 
-noted_alone : (last : Last) (on : Bool) (text : List ℕ) (w : Walked) → w.segs ≡ [] → (noted last on text w).segs ≡ []
-noted_alone no_token true text w none = none
-noted_alone no_token false text w none = none
-noted_alone (end_of_node line) true text w none = none
-noted_alone (end_of_node line) false text w none = none
-noted_alone (end_of_comma line) true text w none = ap (to_last text) none
-noted_alone (end_of_comma line) false text w none = none
+commented_alone : (last : Last) (on : Bool) (text : List ℕ) (w : Walked) → w.segs ≡ [] → (commented last on text w).segs ≡ []
+commented_alone no_token true text w none = none
+commented_alone no_token false text w none = none
+commented_alone (end_of_node line) true text w none = none
+commented_alone (end_of_node line) false text w none = none
+commented_alone (end_of_comma line) true text w none = ap (to_last text) none
+commented_alone (end_of_comma line) false text w none = none
 
 -- the end of a walk
 record Ended (w : Walked) (os : List Own) (texts : List (List ℕ)) (i : Inside) : Type 0 where
@@ -264,13 +264,13 @@ walk_ends (comma t ∷ os) w i texts more all all_is fits h spelled is =
         let v : Walked = walked_of (w.segs ++ s ∷ []) [] [] None [] (end_of_comma t.line) true in
         let e = ends v (record { nodes = (refl, refl); last = segment_push w.segs s }) (comma_holds t.line w.segs w.before (x ∷ xs) w.suffix w.after w.last w.trailing texts h) is in
         record { last = e.last; holds = e.holds; fits = e.fits; is = e.is; alone = λ one none. absurd (false≢true (sym one)) }
-walk_ends (note line text ∷ os) w i texts more all all_is fits h spelled is =
-    let now = noted_fits w.last (is_on w.last line) text w.segs w.before w.nodes w.suffix w.after w.trailing fits.nodes fits.last in
-    let noted_now = noted_holds w.last (is_on w.last line) text w.segs w.before w.nodes w.suffix w.after w.trailing texts fits.last h in
+walk_ends (comment line text ∷ os) w i texts more all all_is fits h spelled is =
+    let now = commented_fits w.last (is_on w.last line) text w.segs w.before w.nodes w.suffix w.after w.trailing fits.nodes fits.last in
+    let commented_now = commented_holds w.last (is_on w.last line) text w.segs w.before w.nodes w.suffix w.after w.trailing texts fits.last h in
     let one : spelled.0 ≡ text ∷ [] = one_alone (text ∷ []) spelled.0 spelled.3 in
     let split : all ≡ (texts ++ text ∷ []) ++ spelled.1 = all_is ∙ ap (λ l. texts ++ l) (spelled.2 ∙ ap (λ l. l ++ spelled.1) one) ∙ sym (append_assoc texts (text ∷ []) spelled.1) in
-    let e = walk_ends os (after_note line text w) i (texts ++ text ∷ []) spelled.1 all split now noted_now spelled.4 is in
-    record { last = e.last; holds = e.holds; fits = e.fits; is = e.is; alone = λ one none. e.alone one (noted_alone w.last (is_on w.last line) text w none) }
+    let e = walk_ends os (after_comment line text w) i (texts ++ text ∷ []) spelled.1 all split now commented_now spelled.4 is in
+    record { last = e.last; holds = e.holds; fits = e.fits; is = e.is; alone = λ one none. e.alone one (commented_alone w.last (is_on w.last line) text w none) }
 
 -- the inside of a bracket
 done_mixed : (segs : List Segment) (before : List (List ℕ)) (nodes : List Item) (suffix : Option (List ℕ)) (after : List (List ℕ)) (last : Last) (trailing : Bool) (texts : List (List ℕ))
@@ -318,22 +318,22 @@ inside_mixed os texts full spelled =
 own_item_owners : (one : Bool) (o : Own) → own_owners (own_item one o) ≡ own_owners o
 own_item_owners true (node line x) = refl
 own_item_owners true (comma t) = refl
-own_item_owners true (note line text) = refl
+own_item_owners true (comment line text) = refl
 own_item_owners false o = refl
 
 items_spelled : (one : Bool) (os : List Own) (texts : List (List ℕ)) → AreSpelled os texts → AreSpelled (own_items one os) texts
 items_spelled one [] texts s = s
 items_spelled one (o ∷ os) texts s = (s.0, s.1, s.2, subst (AreMixed s.0) (sym (own_item_owners one o)) s.3, items_spelled one os s.1 s.4)
 
-notes_append : (xs ys : List Placed) → notes (xs ++ ys) ≡ notes xs ++ notes ys
-notes_append [] ys = refl
-notes_append (t ∷ xs) ys = ap (λ l. note_of (mark_of t) t.text ++ l) (notes_append xs ys) ∙ sym (append_assoc (note_of (mark_of t) t.text) (notes xs) (notes ys))
+comments_append : (xs ys : List Placed) → comments_among (xs ++ ys) ≡ comments_among xs ++ comments_among ys
+comments_append [] ys = refl
+comments_append (t ∷ xs) ys = ap (λ l. comment_of (mark_of t) t.text ++ l) (comments_append xs ys) ∙ sym (append_assoc (comment_of (mark_of t) t.text) (comments_among xs) (comments_among ys))
 
-single_mixed : (m : Mark) (t : Placed) → is_single m ≡ true → AreMixed (note_of m t.text) (own_owners (own_of m t))
+single_mixed : (m : Mark) (t : Placed) → is_single m ≡ true → AreMixed (comment_of m t.text) (own_owners (own_of m t))
 single_mixed Comma t alone = refl
 single_mixed Remark t alone = one_mixed (t.text ∷ [])
 single_mixed Plain t alone = refl
-single_mixed NewLine t alone = absurd (false≢true alone)
+single_mixed Newline t alone = absurd (false≢true alone)
 single_mixed (Open s) t alone = absurd (false≢true alone)
 single_mixed (Close s) t alone = absurd (false≢true alone)
 
@@ -341,31 +341,31 @@ group_mixed : (kind : GroupKind) (owns : List Own) (texts : List (List ℕ)) →
 group_mixed kind owns texts full spelled = inside_mixed (own_items (is_one kind) owns) texts full (items_spelled (is_one kind) owns texts spelled)
 
 -- brackets are no comments
-bracket_notes : (s : Shape) (opening : Placed) (inner : List Placed) (closing : Placed) → mark_of opening ≡ Open s → mark_of closing ≡ Close s → notes (opening ∷ inner ++ closing ∷ []) ≡ notes inner
-bracket_notes s opening inner closing opens closes =
-    let front : note_of (mark_of opening) opening.text ≡ [] = ap (λ m. note_of m opening.text) opens in
-    let end : notes (closing ∷ []) ≡ [] = ap (λ m. note_of m closing.text ++ []) closes in
-    ap (λ l. l ++ notes (inner ++ closing ∷ [])) front ∙ notes_append inner (closing ∷ []) ∙ ap (λ l. notes inner ++ l) end ∙ append-nil (notes inner)
+bracket_comments : (s : Shape) (opening : Placed) (inner : List Placed) (closing : Placed) → mark_of opening ≡ Open s → mark_of closing ≡ Close s → comments_among (opening ∷ inner ++ closing ∷ []) ≡ comments_among inner
+bracket_comments s opening inner closing opens closes =
+    let front : comment_of (mark_of opening) opening.text ≡ [] = ap (λ m. comment_of m opening.text) opens in
+    let end : comments_among (closing ∷ []) ≡ [] = ap (λ m. comment_of m closing.text ++ []) closes in
+    ap (λ l. l ++ comments_among (inner ++ closing ∷ [])) front ∙ comments_append inner (closing ∷ []) ∙ ap (λ l. comments_among inner ++ l) end ∙ append-nil (comments_among inner)
 
 mutual
-  elem_mixed : (x : Elem) (b : Preceding) → IsWell b x → AreMixed (notes (elem_tokens x)) (own_owners (elem_own b x))
-  elem_mixed (single t) b well = subst (λ l. AreMixed l (own_owners (elem_own b (single t)))) (sym (append-nil (note_of (mark_of t) t.text))) (single_mixed (mark_of t) t well)
+  elem_mixed : (x : Elem) (b : Preceding) → IsWell b x → AreMixed (comments_among (elem_tokens x)) (own_owners (elem_own b x))
+  elem_mixed (single t) b well = subst (λ l. AreMixed l (own_owners (elem_own b (single t)))) (sym (append-nil (comment_of (mark_of t) t.text))) (single_mixed (mark_of t) t well)
   elem_mixed (bracket s opening inner closing) b well =
       let owns = elems_own Other inner in
-      let mixed = group_mixed (group_kind s b (has_for owns)) owns (notes (elems_tokens inner)) well.3 (elems_spelled inner Other well.2) in
-      subst (λ l. AreMixed l (own_owners (elem_own b (bracket s opening inner closing)))) (sym (bracket_notes s opening (elems_tokens inner) closing well.0 well.1)) mixed
+      let mixed = group_mixed (group_kind s b (has_for owns)) owns (comments_among (elems_tokens inner)) well.3 (elems_spelled inner Other well.2) in
+      subst (λ l. AreMixed l (own_owners (elem_own b (bracket s opening inner closing)))) (sym (bracket_comments s opening (elems_tokens inner) closing well.0 well.1)) mixed
 
-  elems_spelled : (xs : Elems) (b : Preceding) → AreWell b xs → AreSpelled (elems_own b xs) (notes (elems_tokens xs))
+  elems_spelled : (xs : Elems) (b : Preceding) → AreWell b xs → AreSpelled (elems_own b xs) (comments_among (elems_tokens xs))
   elems_spelled no_elems b well = refl
   elems_spelled (elem x xs) b well =
-      (notes (elem_tokens x), notes (elems_tokens xs), notes_append (elem_tokens x) (elems_tokens xs), elem_mixed x b well.0, elems_spelled xs (preceding b (elem_own b x)) well.1)
+      (comments_among (elem_tokens x), comments_among (elems_tokens xs), comments_append (elem_tokens x) (elems_tokens xs), elem_mixed x b well.0, elems_spelled xs (preceding b (elem_own b x)) well.1)
 
 -- At depth 0 there is one segment, and the end comments stand above it.
 no_commas : (os : List Own) → has_comma (own_items true os) ≡ false
 no_commas [] = refl
 no_commas (node line x ∷ os) = no_commas os
 no_commas (comma t ∷ os) = no_commas os
-no_commas (note line text ∷ os) = no_commas os
+no_commas (comment line text ∷ os) = no_commas os
 
 alone_mixed : (segs : List Segment) (before : List (List ℕ)) (nodes : List Item) (suffix : Option (List ℕ)) (after : List (List ℕ)) (last : Last) (trailing : Bool) (texts : List (List ℕ))
     → segs ≡ [] → NoNodes nodes before suffix → Holds (walked_of segs before nodes suffix after last trailing) texts
@@ -405,27 +405,27 @@ segment_mixed owns texts spelled =
     subst (λ l. AreMixed texts (s.before ∷ beside s.suffix ∷ l)) (sym (marked_owners (is_rule s.nodes) s.nodes)) here
 
 -- newlines are no comments
-line_notes : (m : Mark) (t : Placed) (ts : List Placed) → mark_of t ≡ m → notes (cond (is_line m) ts (t ∷ ts)) ≡ note_of m t.text ++ notes ts
-line_notes NewLine t ts e = refl
-line_notes Comma t ts e = ap (λ k. note_of k t.text ++ notes ts) e
-line_notes Remark t ts e = ap (λ k. note_of k t.text ++ notes ts) e
-line_notes Plain t ts e = ap (λ k. note_of k t.text ++ notes ts) e
-line_notes (Open s) t ts e = ap (λ k. note_of k t.text ++ notes ts) e
-line_notes (Close s) t ts e = ap (λ k. note_of k t.text ++ notes ts) e
+line_comments : (m : Mark) (t : Placed) (ts : List Placed) → mark_of t ≡ m → comments_among (cond (is_line m) ts (t ∷ ts)) ≡ comment_of m t.text ++ comments_among ts
+line_comments Newline t ts e = refl
+line_comments Comma t ts e = ap (λ k. comment_of k t.text ++ comments_among ts) e
+line_comments Remark t ts e = ap (λ k. comment_of k t.text ++ comments_among ts) e
+line_comments Plain t ts e = ap (λ k. comment_of k t.text ++ comments_among ts) e
+line_comments (Open s) t ts e = ap (λ k. comment_of k t.text ++ comments_among ts) e
+line_comments (Close s) t ts e = ap (λ k. comment_of k t.text ++ comments_among ts) e
 
-pub lines_notes : (ts : List Placed) → notes (without_lines ts) ≡ notes ts
-lines_notes [] = refl
-lines_notes (t ∷ ts) = line_notes (mark_of t) t (without_lines ts) refl ∙ ap (λ l. note_of (mark_of t) t.text ++ l) (lines_notes ts)
+pub lines_comments : (ts : List Placed) → comments_among (without_lines ts) ≡ comments_among ts
+lines_comments [] = refl
+lines_comments (t ∷ ts) = line_comments (mark_of t) t (without_lines ts) refl ∙ ap (λ l. comment_of (mark_of t) t.text ++ l) (lines_comments ts)
 
-statement_mixed : (tokens : List Placed) (s : Statement) → IsStatementOf tokens s → AreMixed (notes tokens) (owners_of s)
+statement_mixed : (tokens : List Placed) (s : Statement) → IsStatementOf tokens s → AreMixed (comments_among tokens) (owners_of s)
 statement_mixed tokens s is =
     let owns = elems_own Other is.elems in
-    let mixed : AreMixed (notes (elems_tokens is.elems)) (owners_of (statement_with tokens (segment_of owns))) = segment_mixed owns (notes (elems_tokens is.elems)) (elems_spelled is.elems Other is.well) in
-    let same : notes (elems_tokens is.elems) ≡ notes tokens = sym (ap notes is.tokens_are) ∙ lines_notes tokens in
-    subst (λ l. AreMixed l (owners_of s)) same (subst (λ (x : Statement). AreMixed (notes (elems_tokens is.elems)) (owners_of x)) (sym is.is) mixed)
+    let mixed : AreMixed (comments_among (elems_tokens is.elems)) (owners_of (statement_with tokens (segment_of owns))) = segment_mixed owns (comments_among (elems_tokens is.elems)) (elems_spelled is.elems Other is.well) in
+    let same : comments_among (elems_tokens is.elems) ≡ comments_among tokens = sym (ap comments_among is.tokens_are) ∙ lines_comments tokens in
+    subst (λ l. AreMixed l (owners_of s)) same (subst (λ (x : Statement). AreMixed (comments_among (elems_tokens is.elems)) (owners_of x)) (sym is.is) mixed)
 
-pub comments_in_order : (tokens : List Placed) (s : Statement) → IsStatementOf tokens s → AreDealt (notes tokens) (owners_of s)
-comments_in_order tokens s is = dealt_of (notes tokens) (owners_of s) (statement_mixed tokens s is)
+pub comments_in_order : (tokens : List Placed) (s : Statement) → IsStatementOf tokens s → AreDealt (comments_among tokens) (owners_of s)
+comments_in_order tokens s is = dealt_of (comments_among tokens) (owners_of s) (statement_mixed tokens s is)
 
-pub comments_kept : (tokens : List Placed) (s : Statement) (c : List ℕ) → IsStatementOf tokens s → times c (comments_of s) ≡ times c (notes tokens)
-comments_kept tokens s c is = times_all c (owners_of s) (notes tokens) (statement_mixed tokens s is)
+pub comments_kept : (tokens : List Placed) (s : Statement) (c : List ℕ) → IsStatementOf tokens s → times c (comments_of s) ≡ times c (comments_among tokens)
+comments_kept tokens s c is = times_all c (owners_of s) (comments_among tokens) (statement_mixed tokens s is)

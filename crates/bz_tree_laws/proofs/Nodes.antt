@@ -1,7 +1,7 @@
 -- Whose the comments are does not hang on what the nodes are.
 use Rattle.std.proofs.Common.{◌≡◌, ℕ, List, [], ◌∷◌, ◌++◌, map, true, false, not, cond, refl, ap, ◌∙◌}
 use Rattle.bz_tree.specs.Tree.{Item, Segment}
-use Rattle.bz_tree.specs.Owners.{Entry, a_node, a_comma, a_note, first_cell, other_cells, same_line, later_lines, nodes_in, is_filled, has_node, notes_in, above_last, beside_last, below_last, first, others, cell_segment, with_segment, segments_from, end_from, has_trailing_comma, inside_by_cells}
+use Rattle.bz_tree.specs.Owners.{Entry, a_node, a_comma, a_comment, first_cell, other_cells, same_line, later_lines, nodes_in, is_filled, has_node, comments_in, above_last, beside_last, below_last, first, others, cell_segment, with_segment, segments_from, end_from, has_trailing_comma, inside_by_cells}
 use Rattle.bz_tree_laws.specs.Nodes.{entry_mapped, segment_mapped, inside_mapped}
 
 abbrev over : (Item → Item) → List Entry → List Entry
@@ -11,66 +11,66 @@ first_over : (f : Item → Item) (es : List Entry) → first_cell (over f es) �
 first_over f [] = refl
 first_over f (a_node x ∷ es) = ap (λ l. a_node (f x) ∷ l) (first_over f es)
 first_over f (a_comma ∷ es) = refl
-first_over f (a_note on text ∷ es) = ap (λ l. a_note on text ∷ l) (first_over f es)
+first_over f (a_comment on text ∷ es) = ap (λ l. a_comment on text ∷ l) (first_over f es)
 
 others_over : (f : Item → Item) (es : List Entry) → other_cells (over f es) ≡ map (over f) (other_cells es)
 others_over f [] = refl
 others_over f (a_node x ∷ es) = others_over f es
 others_over f (a_comma ∷ es) = λ i. first_over f es i ∷ others_over f es i
-others_over f (a_note on text ∷ es) = others_over f es
+others_over f (a_comment on text ∷ es) = others_over f es
 
 nodes_over : (f : Item → Item) (es : List Entry) → nodes_in (over f es) ≡ map f (nodes_in es)
 nodes_over f [] = refl
 nodes_over f (a_node x ∷ es) = ap (λ l. f x ∷ l) (nodes_over f es)
 nodes_over f (a_comma ∷ es) = nodes_over f es
-nodes_over f (a_note on text ∷ es) = nodes_over f es
+nodes_over f (a_comment on text ∷ es) = nodes_over f es
 
 has_over : (f : Item → Item) (es : List Entry) → has_node (over f es) ≡ has_node es
 has_over f [] = refl
 has_over f (a_node x ∷ es) = refl
 has_over f (a_comma ∷ es) = has_over f es
-has_over f (a_note on text ∷ es) = has_over f es
+has_over f (a_comment on text ∷ es) = has_over f es
 
 on_over : (f : Item → Item) (es : List Entry) → same_line (over f es) ≡ same_line es
 on_over f [] = refl
 on_over f (a_node x ∷ es) = refl
 on_over f (a_comma ∷ es) = refl
-on_over f (a_note true text ∷ es) = refl
-on_over f (a_note false text ∷ es) = refl
+on_over f (a_comment true text ∷ es) = refl
+on_over f (a_comment false text ∷ es) = refl
 
 off_over : (f : Item → Item) (es : List Entry) → later_lines (over f es) ≡ over f (later_lines es)
 off_over f [] = refl
 off_over f (a_node x ∷ es) = refl
 off_over f (a_comma ∷ es) = refl
-off_over f (a_note true text ∷ es) = refl
-off_over f (a_note false text ∷ es) = refl
+off_over f (a_comment true text ∷ es) = refl
+off_over f (a_comment false text ∷ es) = refl
 
-notes_over : (f : Item → Item) (es : List Entry) → notes_in (over f es) ≡ notes_in es
-notes_over f [] = refl
-notes_over f (a_node x ∷ es) = notes_over f es
-notes_over f (a_comma ∷ es) = notes_over f es
-notes_over f (a_note on text ∷ es) = ap (λ l. text ∷ l) (notes_over f es)
+comments_over : (f : Item → Item) (es : List Entry) → comments_in (over f es) ≡ comments_in es
+comments_over f [] = refl
+comments_over f (a_node x ∷ es) = comments_over f es
+comments_over f (a_comma ∷ es) = comments_over f es
+comments_over f (a_comment on text ∷ es) = ap (λ l. text ∷ l) (comments_over f es)
 
-notes_off-over : (f : Item → Item) (es : List Entry) → notes_in (later_lines (over f es)) ≡ notes_in (later_lines es)
-notes_off-over f es = ap (λ l. notes_in l) (off_over f es) ∙ notes_over f (later_lines es)
+comments_off-over : (f : Item → Item) (es : List Entry) → comments_in (later_lines (over f es)) ≡ comments_in (later_lines es)
+comments_off-over f es = ap (λ l. comments_in l) (off_over f es) ∙ comments_over f (later_lines es)
 
 above_over : (f : Item → Item) (es : List Entry) → above_last (over f es) ≡ above_last es
 above_over f [] = refl
 above_over f (a_node x ∷ es) = above_over f es
 above_over f (a_comma ∷ es) = above_over f es
-above_over f (a_note on text ∷ es) = λ i. cond (has_over f es i) (text ∷ above_over f es i) []
+above_over f (a_comment on text ∷ es) = λ i. cond (has_over f es i) (text ∷ above_over f es i) []
 
 beside_over : (f : Item → Item) (es : List Entry) → beside_last (over f es) ≡ beside_last es
 beside_over f [] = refl
 beside_over f (a_node x ∷ es) = λ i. cond (has_over f es i) (beside_over f es i) (on_over f es i)
 beside_over f (a_comma ∷ es) = beside_over f es
-beside_over f (a_note on text ∷ es) = beside_over f es
+beside_over f (a_comment on text ∷ es) = beside_over f es
 
 below_over : (f : Item → Item) (es : List Entry) → below_last (over f es) ≡ below_last es
 below_over f [] = refl
-below_over f (a_node x ∷ es) = λ i. cond (has_over f es i) (below_over f es i) (notes_off-over f es i)
+below_over f (a_node x ∷ es) = λ i. cond (has_over f es i) (below_over f es i) (comments_off-over f es i)
 below_over f (a_comma ∷ es) = below_over f es
-below_over f (a_note on text ∷ es) = λ i. cond (has_over f es i) (below_over f es i) (text ∷ notes_over f es i)
+below_over f (a_comment on text ∷ es) = λ i. cond (has_over f es i) (below_over f es i) (text ∷ comments_over f es i)
 
 segment_over : (f : Item → Item) (cell : List Entry) (under comment : List (List ℕ)) → cell_segment (over f cell) under comment ≡ segment_mapped f (cell_segment cell under comment)
 segment_over f cell under comment =

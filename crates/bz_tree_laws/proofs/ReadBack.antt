@@ -2,9 +2,9 @@
 use Rattle.std.proofs.Common.{◌≡◌, ℕ, List, [], ◌∷◌, ◌++◌, map, Bool, true, false, cond, ◌&&◌, ◌||◌, Option, Some, None, refl, sym, ap, ◌∙◌, append-nil}
 use Rattle.std.proofs.lemmas.Bool.{false≢true}
 use Rattle.bz_tree.specs.Tree.{Item, Segment}
-use Rattle.bz_tree.specs.Owners.{Own, node, comma, note, Last, no_token, end_of_node, end_of_comma, is_on, no_empty, Inside, inside, Entry, a_node, a_comma, a_note, first_cell, other_cells, same_line, later_lines, nodes_in, is_filled, has_node, notes_in, above_last, beside_last, below_last, first, others, cell_segment, with_segment, segments_from, end_from, has_trailing_comma, inside_by_cells, entries_of}
+use Rattle.bz_tree.specs.Owners.{Own, node, comma, comment, Last, no_token, end_of_node, end_of_comma, is_on, no_empty, Inside, inside, Entry, a_node, a_comma, a_comment, first_cell, other_cells, same_line, later_lines, nodes_in, is_filled, has_node, comments_in, above_last, beside_last, below_last, first, others, cell_segment, with_segment, segments_from, end_from, has_trailing_comma, inside_by_cells, entries_of}
 use Rattle.bz_tree_laws.specs.Written.{own_lines, suffix_entry, written_entries, HaveNodes}
-use Rattle.bz_tree.proofs.ByLines.{trails, trails_comma, trails_note, trailed_is}
+use Rattle.bz_tree.proofs.ByLines.{trails, trails_comma, trails_comment, trailed_is}
 
 -- each cell but the last has a node
 abbrev are_filled : List Entry → List (List Entry) → Bool
@@ -27,15 +27,15 @@ filled_comma false cell [] = refl
 filled_comma true cell (next ∷ cells) = refl
 filled_comma false cell (next ∷ cells) = refl
 
-filled_note : (b on : Bool) (text : List ℕ) (cell : List Entry) (cells : List (List Entry)) → filled b cell cells ≡ filled b (a_note on text ∷ cell) cells
-filled_note b on text cell [] = refl
-filled_note b on text cell (next ∷ cells) = refl
+filled_comment : (b on : Bool) (text : List ℕ) (cell : List Entry) (cells : List (List Entry)) → filled b cell cells ≡ filled b (a_comment on text ∷ cell) cells
+filled_comment b on text cell [] = refl
+filled_comment b on text cell (next ∷ cells) = refl
 
 filled_is : (b : Bool) (last : Last) (os : List Own) → no_empty b os ≡ filled b (first_cell (entries_of last os)) (other_cells (entries_of last os))
 filled_is b last [] = refl
 filled_is b last (node line x ∷ os) = filled_is true (end_of_node line) os ∙ filled_node b x (first_cell (entries_of (end_of_node line) os)) (other_cells (entries_of (end_of_node line) os))
 filled_is b last (comma t ∷ os) = ap (λ r. b && r) (filled_is false (end_of_comma t.line) os) ∙ filled_comma b (first_cell (entries_of (end_of_comma t.line) os)) (other_cells (entries_of (end_of_comma t.line) os))
-filled_is b last (note line text ∷ os) = filled_is b no_token os ∙ filled_note b (is_on last line) text (first_cell (entries_of no_token os)) (other_cells (entries_of no_token os))
+filled_is b last (comment line text ∷ os) = filled_is b no_token os ∙ filled_comment b (is_on last line) text (first_cell (entries_of no_token os)) (other_cells (entries_of no_token os))
 
 filled_start : (cell : List Entry) (cells : List (List Entry)) → filled false cell cells ≡ are_filled cell cells
 filled_start cell [] = refl
@@ -47,7 +47,7 @@ no_empty_is os = filled_is false no_token os ∙ filled_start (first_cell (entri
 -- comments on lines of their own
 alone_first : (ts : List (List ℕ)) (r : List Entry) → first_cell (own_lines ts ++ r) ≡ own_lines ts ++ first_cell r
 alone_first [] r = refl
-alone_first (t ∷ ts) r = ap (λ l. a_note false t ∷ l) (alone_first ts r)
+alone_first (t ∷ ts) r = ap (λ l. a_comment false t ∷ l) (alone_first ts r)
 
 alone_others : (ts : List (List ℕ)) (r : List Entry) → other_cells (own_lines ts ++ r) ≡ other_cells r
 alone_others [] r = refl
@@ -75,7 +75,7 @@ alone_below (t ∷ ts) r h = rw (alone_has ts r, h) (alone_below ts r h)
 -- end comments
 end_first : (ts : List (List ℕ)) → first_cell (own_lines ts) ≡ own_lines ts
 end_first [] = refl
-end_first (t ∷ ts) = ap (λ l. a_note false t ∷ l) (end_first ts)
+end_first (t ∷ ts) = ap (λ l. a_comment false t ∷ l) (end_first ts)
 
 end_others : (ts : List (List ℕ)) → other_cells (own_lines ts) ≡ []
 end_others [] = refl
@@ -93,13 +93,13 @@ end_beside : (ts : List (List ℕ)) → beside_last (own_lines ts) ≡ []
 end_beside [] = refl
 end_beside (t ∷ ts) = end_beside ts
 
-end_notes : (ts : List (List ℕ)) → notes_in (own_lines ts) ≡ ts
-end_notes [] = refl
-end_notes (t ∷ ts) = ap (λ l. t ∷ l) (end_notes ts)
+end_comments : (ts : List (List ℕ)) → comments_in (own_lines ts) ≡ ts
+end_comments [] = refl
+end_comments (t ∷ ts) = ap (λ l. t ∷ l) (end_comments ts)
 
 end_below : (ts : List (List ℕ)) → below_last (own_lines ts) ≡ ts
 end_below [] = refl
-end_below (t ∷ ts) = rw (end_nodes ts) (ap (λ l. t ∷ l) (end_notes ts))
+end_below (t ∷ ts) = rw (end_nodes ts) (ap (λ l. t ∷ l) (end_comments ts))
 
 end_on : (ts : List (List ℕ)) → same_line (own_lines ts) ≡ []
 end_on [] = refl
@@ -131,7 +131,7 @@ nodes_beside [] r h none = absurd (false≢true h)
 nodes_beside (x ∷ []) r h none = rw none refl
 nodes_beside (x ∷ y ∷ xs) r h none = nodes_beside (y ∷ xs) r refl none
 
-nodes_below : (xs : List Item) (r : List Entry) → is_filled xs ≡ true → has_node r ≡ false → below_last (map a_node xs ++ r) ≡ notes_in (later_lines r)
+nodes_below : (xs : List Item) (r : List Entry) → is_filled xs ≡ true → has_node r ≡ false → below_last (map a_node xs ++ r) ≡ comments_in (later_lines r)
 nodes_below [] r h none = absurd (false≢true h)
 nodes_below (x ∷ []) r h none = rw none refl
 nodes_below (x ∷ y ∷ xs) r h none = nodes_below (y ∷ xs) r refl none
@@ -162,7 +162,7 @@ content_above s r h none = alone_above s.before (map a_node s.nodes ++ r) (nodes
 content_beside : (s : Segment) (r : List Entry) → is_filled s.nodes ≡ true → has_node r ≡ false → beside_last (content s r) ≡ same_line r
 content_beside s r h none = alone_beside s.before (map a_node s.nodes ++ r) ∙ nodes_beside s.nodes r h none
 
-content_below : (s : Segment) (r : List Entry) → is_filled s.nodes ≡ true → has_node r ≡ false → below_last (content s r) ≡ notes_in (later_lines r)
+content_below : (s : Segment) (r : List Entry) → is_filled s.nodes ≡ true → has_node r ≡ false → below_last (content s r) ≡ comments_in (later_lines r)
 content_below s r h none = alone_below s.before (map a_node s.nodes ++ r) (nodes_has s.nodes r h) ∙ nodes_below s.nodes r h none
 
 -- suffixes
@@ -232,7 +232,7 @@ comma_segments s r h p =
     whole s.before s.nodes s.suffix (cell_segment (content s []) (below_last (content s [])) (texts_of s.suffix)) (rw (content_above s [] h refl, content_below s [] h refl, content_beside s [] h refl, content_nodes s [] refl) refl) in
     let next = suffix_entry s.suffix ++ first_cell r in
     let step : segments_from (content s []) (next ∷ other_cells r) ≡ s ∷ segments_in r =
-    ap (λ comment. with_segment (cell_segment (content s []) (below_last (content s [])) comment) (segments_from (later_lines next) (other_cells r))) (directly_comma s.suffix (first_cell r) p)
+    ap (λ on_comma. with_segment (cell_segment (content s []) (below_last (content s [])) on_comma) (segments_from (later_lines next) (other_cells r))) (directly_comma s.suffix (first_cell r) p)
     ∙ (ap (λ cell. with_segment (cell_segment (content s []) (below_last (content s [])) (texts_of s.suffix)) (segments_from cell (other_cells r))) (directly_own s.suffix (first_cell r) p)
     ∙ (ap (λ t. with_segment t (segments_in r)) same ∙ filled_segment s (segments_in r) h)) in
     rw (comma_first s r, comma_others s r) step
@@ -261,9 +261,9 @@ back_on : (suffix : Option (List ℕ)) (end : List (List ℕ)) → same_line (la
 back_on None end = end_on end
 back_on (Some text) end = refl
 
-back_off : (suffix : Option (List ℕ)) (end : List (List ℕ)) → notes_in (later_lines (last_back suffix end)) ≡ end
-back_off None end = rw (end_off end) (end_notes end)
-back_off (Some text) end = end_notes end
+back_off : (suffix : Option (List ℕ)) (end : List (List ℕ)) → comments_in (later_lines (last_back suffix end)) ≡ end
+back_off None end = rw (end_off end) (end_comments end)
+back_off (Some text) end = end_comments end
 
 last_first : (s : Segment) (end : List (List ℕ)) → first_cell (content s (last_back s.suffix end)) ≡ content s (last_back s.suffix end)
 last_first s end = content_first s (last_back s.suffix end) ∙ rw (directly_first s.suffix (own_lines end), end_first end) refl
@@ -301,7 +301,7 @@ trails_in b es = trails b (first_cell es) (other_cells es)
 
 trails_directly : (suffix : Option (List ℕ)) (cell : List Entry) (cells : List (List Entry)) → trails true (suffix_entry suffix ++ cell) cells ≡ trails true cell cells
 trails_directly None cell cells = refl
-trails_directly (Some text) cell cells = sym (trails_note true true text cell cells)
+trails_directly (Some text) cell cells = sym (trails_comment true true text cell cells)
 
 comma_trails : (b : Bool) (s : Segment) (r : List Entry) → trails_in b (with_comma s r) ≡ trails_in true r
 comma_trails b s r = rw (comma_first s r, comma_others s r) (sym (trails_comma (suffix_entry s.suffix ++ first_cell r) (other_cells r)) ∙ trails_directly s.suffix (first_cell r) (other_cells r))
@@ -372,11 +372,11 @@ pub lines_back : (owns : List Own) (trailing : Bool) (ss : List Segment) (end : 
 lines_back owns trailing ss end h e = (lines_read_back owns trailing ss end h e, lines_filled owns trailing ss end h e)
 
 -- the flag of a comment that stands first in its bracket plays no part
-pub first_flag : (text : List ℕ) (es : List Entry) → inside_by_cells (a_note true text ∷ es) ≡ inside_by_cells (a_note false text ∷ es)
+pub first_flag : (text : List ℕ) (es : List Entry) → inside_by_cells (a_comment true text ∷ es) ≡ inside_by_cells (a_comment false text ∷ es)
 first_flag text es = at_cells (first_cell es) (other_cells es)
   where
     at_cells : (cell : List Entry) (cells : List (List Entry))
-        → ◌≡◌ {A = Inside} (record { segs = segments_from (a_note true text ∷ cell) cells; trailing = has_trailing_comma cells; end = end_from (a_note true text ∷ cell) cells })
-        (record { segs = segments_from (a_note false text ∷ cell) cells; trailing = has_trailing_comma cells; end = end_from (a_note false text ∷ cell) cells })
+        → ◌≡◌ {A = Inside} (record { segs = segments_from (a_comment true text ∷ cell) cells; trailing = has_trailing_comma cells; end = end_from (a_comment true text ∷ cell) cells })
+        (record { segs = segments_from (a_comment false text ∷ cell) cells; trailing = has_trailing_comma cells; end = end_from (a_comment false text ∷ cell) cells })
     at_cells cell [] = refl
     at_cells cell (next ∷ cells) = refl

@@ -7,7 +7,7 @@ use Rattle.bz_tree.specs.Tree.{leaf, Statement}
 use Rattle.bz_tree.specs.Brackets.{without_lines}
 use Rattle.bz_tree.specs.Statement.{bare_tokens, first_of, first_token}
 use Rattle.bz_tree.specs.Blocks.{IsAt}
-use Rattle.bz_tree.specs.Comments.{notes}
+use Rattle.bz_tree.specs.Comments.{comments_among}
 
 -- The bytes are these tokens in order, each at its place, with white space and continued lines alone before each. `before` are the
 -- bytes in front of them.
@@ -27,7 +27,7 @@ pub record AreKept (first : ℕ) (bytes : List ℕ) (tokens : List Placed) (s : 
   pub only_aside : bare_tokens above ≡ []
   pub begins : first_of inside ≡ first_token tokens
   pub only_newlines : without_lines newlines ≡ []
-  pub comments_are : s.before ≡ notes above
+  pub comments_are : s.before ≡ comments_among above
   pub no_suffix : s.suffix ≡ None
   pub kept : List ℕ
   pub node_is : s.nodes ≡ leaf Kept kept ∷ []

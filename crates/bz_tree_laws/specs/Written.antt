@@ -1,16 +1,16 @@
 -- A form in which segments may stand in a bracket, and from which they are read back.
 use Rattle.std.specs.Prelude.{◌≡◌, ℕ, List, [], ◌∷◌, ◌++◌, map, Bool, true, false, ◌||◌, if◌then◌else◌, Option, Some, None}
 use Rattle.bz_tree.specs.Tree.{Segment}
-use Rattle.bz_tree.specs.Owners.{Entry, a_node, a_comma, a_note, is_filled}
+use Rattle.bz_tree.specs.Owners.{Entry, a_node, a_comma, a_comment, is_filled}
 
 -- comments on lines of their own
 abbrev pub own_lines : List (List ℕ) → List Entry
-own_lines texts = map (a_note false) texts
+own_lines texts = map (a_comment false) texts
 
 -- a comment on the line on which what stands directly before it ends
 abbrev pub suffix_entry : Option (List ℕ) → List Entry
 suffix_entry None = []
-suffix_entry (Some text) = a_note true text ∷ []
+suffix_entry (Some text) = a_comment true text ∷ []
 
 -- Segments and end comments in this form: the comments before a segment on lines of their own, its nodes, a comma, and its
 -- suffix directly after it. After the last segment the comma is optional; where there is none the suffix stands directly after the node.

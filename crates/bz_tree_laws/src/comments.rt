@@ -3,10 +3,10 @@
 ghost use Rattle.std.specs.Prelude.{◌≡◌, ℕ, List, ◌∷◌, map, true, false};
 ghost use Rattle.bz_token.specs.Places.{Placed};
 ghost use Rattle.bz_tree.specs.Tree.{Statement, Item};
-ghost use Rattle.bz_tree.specs.Owners.{Entry, a_note, inside_by_cells};
+ghost use Rattle.bz_tree.specs.Owners.{Entry, a_comment, inside_by_cells};
 ghost use Rattle.bz_tree_laws.specs.Nodes.{entry_mapped, inside_mapped};
 ghost use Rattle.bz_tree.specs.Statement.{IsStatementOf};
-ghost use Rattle.bz_tree.specs.Comments.{owners_of, comments_of, notes, AreDealt, times};
+ghost use Rattle.bz_tree.specs.Comments.{owners_of, comments_of, comments_among, AreDealt, times};
 ghost use Rattle.bz_token.specs.Reading.{AreTokensOf};
 ghost use Rattle.bz_tree.specs.Blocks.{IsBlockOf};
 ghost use Rattle.bz_tree_laws.specs.BlockComments.{AreKept};
@@ -14,14 +14,14 @@ ghost use Rattle.bz_tree_laws.specs.BlockComments.{AreKept};
 /// The comments of the tokens, as they stand in the text, are dealt to the owners in the statement: none is lost, none
 /// is there twice, and each owner has its comments in their order.
 pub fn comments_in_order()
-    ensures { (tokens : List Placed) (s : Statement) → IsStatementOf tokens s → AreDealt (notes tokens) (owners_of s) }
+    ensures { (tokens : List Placed) (s : Statement) → IsStatementOf tokens s → AreDealt (comments_among tokens) (owners_of s) }
 {}
 
 /// No comment of the tokens is lost, and none is in the statement twice: each text is as often among the comments of
 /// the one as of the other.
 pub fn comments_kept()
     ensures { (tokens : List Placed) (s : Statement) (text : List ℕ) → IsStatementOf tokens s
-        → times text (comments_of s) ≡ times text (notes tokens) }
+        → times text (comments_of s) ≡ times text (comments_among tokens) }
 {}
 
 /// No comment of a block is lost, and none is there twice: those above its first token are the statement's, in their
@@ -40,5 +40,5 @@ pub fn nodes_play_no_part()
 /// A comment that stands first in a bracket has the same owner whether or not it is on the line of the bracket.
 pub fn first_line_plays_no_part()
     ensures { (text : List ℕ) (entries : List Entry)
-        → inside_by_cells (a_note true text ∷ entries) ≡ inside_by_cells (a_note false text ∷ entries) }
+        → inside_by_cells (a_comment true text ∷ entries) ≡ inside_by_cells (a_comment false text ∷ entries) }
 {}

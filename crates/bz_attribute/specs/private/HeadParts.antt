@@ -19,9 +19,9 @@ abbrev pub ident_of : RowPart → Option (List ℕ)
 ident_of (a_token kind text) = rules.ident_of (leaf kind text)
 ident_of _ = None
 
-abbrev pub is_sign : List ℕ → RowPart → Bool
-is_sign sign (a_token kind text) = rules.is_sign sign (leaf kind text)
-is_sign sign _ = false
+abbrev pub is_operator_item : List ℕ → RowPart → Bool
+is_operator_item operator (a_token kind text) = rules.is_operator_item operator (leaf kind text)
+is_operator_item operator _ = false
 
 abbrev pub text_of : RowPart → Option (List ℕ)
 text_of (a_token kind text) = rules.text_of (leaf kind text)
@@ -34,7 +34,7 @@ is_end _ = false
 -- the literal of a segment `name = literal` with which the parts begin
 abbrev pub name_literal : List RowPart → Option (List ℕ)
 name_literal (name ∷ equals ∷ literal ∷ end ∷ ps) =
-    if rules.is_text (codes "name") (ident_of name) && is_sign (codes "=") equals && is_end end then text_of literal else None
+    if rules.is_text (codes "name") (ident_of name) && is_operator_item (codes "=") equals && is_end end then text_of literal else None
 name_literal _ = None
 
 -- a kind, and in its call `name = literal` as the first argument

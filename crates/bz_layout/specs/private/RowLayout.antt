@@ -28,7 +28,7 @@ gap_for first left closes = if holds_on left || closes then Closed else Space
 
 -- .. and whether a group is broken, by whether it has comments, its number of segments, and whether one of them holds a broken group
 abbrev pub breaks_with : GroupKind → Bool → ℕ → Bool → Bool
-breaks_with kind notes n inside = notes || breaks_by_count kind n || (nat_le 2 n && inside)
+breaks_with kind comments n inside = comments || breaks_by_count kind n || (nat_le 2 n && inside)
 
 -- The walk backwards: marks of the brackets after it, the first one first, and what stands in the brackets that it is in, the innermost first.
 pub record Scan : Type 0 where
@@ -37,22 +37,22 @@ pub record Scan : Type 0 where
   pub outer : List Inside
 
 abbrev pub closed : Bool → Inside
-closed one_comma = record { one_comma = one_comma; notes = false; holds = false; segs = 0 }
+closed one_comma = record { one_comma = one_comma; comments = false; holds = false; segs = 0 }
 
 abbrev pub one_more : ℕ → ℕ
 one_more n = if nat_lt n 2 then n + 1 else n
 
 abbrev pub mark_of : GroupKind → Inside → Mark
-mark_of kind i = record { broken = breaks_with kind i.notes i.segs i.holds; comma = has_commas kind i.one_comma i.segs }
+mark_of kind i = record { broken = breaks_with kind i.comments i.segs i.holds; comma = has_commas kind i.one_comma i.segs }
 
 abbrev pub holding : Bool → Inside → Inside
-holding holds i = record { one_comma = i.one_comma; notes = i.notes; holds = holds || i.holds; segs = i.segs }
+holding holds i = record { one_comma = i.one_comma; comments = i.comments; holds = holds || i.holds; segs = i.segs }
 
-abbrev pub noted : Inside → Inside
-noted i = record { one_comma = i.one_comma; notes = true; holds = i.holds; segs = i.segs }
+abbrev pub commented : Inside → Inside
+commented i = record { one_comma = i.one_comma; comments = true; holds = i.holds; segs = i.segs }
 
 abbrev pub counted : Inside → Inside
-counted i = record { one_comma = i.one_comma; notes = i.notes; holds = i.holds; segs = one_more i.segs }
+counted i = record { one_comma = i.one_comma; comments = i.comments; holds = i.holds; segs = one_more i.segs }
 
 abbrev pub here_as : Inside → Scan → Scan
 here_as i s = record { marks = s.marks; here = i; outer = s.outer }
@@ -70,8 +70,8 @@ back (a_token kind text) s = s
 back (opening kind) s = opened_back kind s
 back (closing one_comma) s = record { marks = s.marks; here = closed one_comma; outer = s.here ∷ s.outer }
 back segment_end s = here_as (counted s.here) s
-back (above text) s = here_as (noted s.here) s
-back (beside text) s = here_as (noted s.here) s
+back (above text) s = here_as (commented s.here) s
+back (beside text) s = here_as (commented s.here) s
 
 -- the walk over some parts, ahead of what it read of those after them
 abbrev pub scan_onto : List RowPart → Scan → Scan
@@ -124,8 +124,8 @@ start text marks within = record { text = text; marks = marks; outer = []; here 
 abbrev pub laid : Walk → List ℕ → Laid
 laid w text = record { text = text; marks = reverse w.marks.items; outer = reverse w.outer.items; here = w.here; left = w.left; level = w.level }
 
-abbrev pub put_note : Bool → Gap → List ℕ → Laid → Laid
-put_note has gap text s = record { text = s.text ++ (if has then gap_bytes gap ++ text else []); marks = s.marks; outer = s.outer; here = s.here; left = s.left; level = s.level }
+abbrev pub put_comment : Bool → Gap → List ℕ → Laid → Laid
+put_comment has gap text s = record { text = s.text ++ (if has then gap_bytes gap ++ text else []); marks = s.marks; outer = s.outer; here = s.here; left = s.left; level = s.level }
 
 abbrev pub with_token : Kind → List ℕ → Laid → Laid
 with_token kind text s = record {
@@ -204,8 +204,8 @@ step (a_token kind text) s = with_token kind text s
 step (opening kind) s = opened kind s
 step (closing one_comma) s = closed_by one_comma s
 step segment_end s = ended s
-step (above text) s = put_note s.here.mark.broken (Line s.level) text s
-step (beside text) s = put_note (has_beside s.here) Apart text s
+step (above text) s = put_comment s.here.mark.broken (Line s.level) text s
+step (beside text) s = put_comment (has_beside s.here) Apart text s
 
 abbrev pub run : List RowPart → Laid → Laid
 run [] s = s

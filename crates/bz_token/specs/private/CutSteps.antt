@@ -3,14 +3,14 @@ use Rattle.std.specs.Prelude.{ℕ, ◌+◌, ◌-◌, List, [], ◌∷◌, ◌++�
 use Rattle.bz_token.specs.declared.cutter.scan.Quote.{Quote}
 use Rattle.bz_token.specs.declared.cutter.scan.Quote.TheVariants.{Single, Double}
 use Rattle.bz_token.specs.declared.cutter.scan.LineKind.{LineKind}
-use Rattle.bz_token.specs.declared.cutter.scan.LineKind.TheVariants.{Blank, Note, Statement}
+use Rattle.bz_token.specs.declared.cutter.scan.LineKind.TheVariants.{Blank, CommentLine, Statement}
 use Rattle.bz_token.specs.declared.cutter.scan.Inside.{Inside}
 use Rattle.bz_token.specs.declared.cutter.scan.Inside.TheVariants.{Plain, Ended, BrokenOff, Backslash, BackslashReturn, Comment, Opened, OpenedTwice, Short, ShortEscape, ShortEscapeReturn, Long, LongQuote, LongTwoQuotes, LongEscape}
 use Rattle.bz_token.specs.declared.cutter.scan.Scan.{Scan}
 use Rattle.bz_token.specs.declared.cutter.Cutter.{Cutter}
 use Rattle.bz_token.specs.declared.cutter.block.Opener.{Opener}
 use Rattle.bz_token.specs.declared.cutter.block.Stage.{Stage}
-use Rattle.bz_token.specs.declared.cutter.block.Stage.TheVariants.{Notes, InBlock, Done}
+use Rattle.bz_token.specs.declared.cutter.block.Stage.TheVariants.{Comments, InBlock, Done}
 use Rattle.bz_token.specs.LogicalLines.{Line}
 use Rattle.bz_token.specs.declared.cutter.Cut.{Cut}
 use Rattle.bz_token.specs.declared.cutter.Cut.TheVariants.{Whole, More, Block}
@@ -26,10 +26,10 @@ abbrev pub byte_of : Quote → ℕ
 byte_of Single = 39
 byte_of Double = 34
 
-abbrev pub with_note : LineKind → LineKind
-with_note Blank = Note
-with_note Note = Note
-with_note Statement = Statement
+abbrev pub with_comment : LineKind → LineKind
+with_comment Blank = CommentLine
+with_comment CommentLine = CommentLine
+with_comment Statement = Statement
 
 abbrev pub at : Inside → ℕ → LineKind → Scan
 at inside depth kind = record { inside = inside; depth = depth; kind = kind }
@@ -39,7 +39,7 @@ abbrev pub outside : ℕ → LineKind → ℕ → Scan
 outside depth kind b =
     if b == 10 then (if depth == 0 then at Ended depth kind else at Plain depth kind)
     else (if b == 32 || b == 9 || b == 13 then at Plain depth kind
-    else (if b == 35 then at Comment depth (with_note kind)
+    else (if b == 35 then at Comment depth (with_comment kind)
     else (if b == 92 then at Backslash depth kind
     else (if b == 34 then at (Opened Double) depth Statement
     else (if b == 39 then at (Opened Single) depth Statement
@@ -108,13 +108,13 @@ seen_chunks s stage before part (b ∷ bs) = elim (is_ended s.inside) [
   | false ↦ seen_chunks (next s b) stage before (part ++ b ∷ []) bs
   | true ↦ elim (takes (stage_after stage (line_here s part)) (b ∷ bs)) [
     | true ↦ seen_chunks (next s b) (stage_after stage (line_here s part)) (before ++ part) (b ∷ []) bs
-    | false ↦ (before ++ part) ∷ seen_chunks (next s b) Notes [] (b ∷ []) bs
+    | false ↦ (before ++ part) ∷ seen_chunks (next s b) Comments [] (b ∷ []) bs
   ]
 ]
 
 abbrev pub is_blank_kind : LineKind → Bool
 is_blank_kind Blank = true
-is_blank_kind Note = false
+is_blank_kind CommentLine = false
 is_blank_kind Statement = false
 
 -- the word of a block that a logical line begins with, as far as it is known after a physical line
@@ -131,18 +131,18 @@ stage_now cutter = stage_step cutter.stage cutter.scan.kind cutter.opener (is_br
 
 -- the cutter at the beginning of a line in no block, and after a line of a block
 abbrev pub fresh : Cutter
-fresh = record { scan = start; stage = Notes; opener = None }
+fresh = record { scan = start; stage = Comments; opener = None }
 
 abbrev pub between : Opener → Cutter
 between word = record { scan = at Ended 0 Blank; stage = InBlock word; opener = None }
 
 -- the answer and the cutter after a logical line that has ended
 abbrev pub cut_at : Stage → Cut
-cut_at Notes = More
+cut_at Comments = More
 cut_at (InBlock word) = Block
 cut_at Done = Whole
 
 abbrev pub cutter_at : Stage → Cutter
-cutter_at Notes = fresh
+cutter_at Comments = fresh
 cutter_at (InBlock word) = between word
 cutter_at Done = fresh

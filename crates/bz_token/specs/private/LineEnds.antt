@@ -5,14 +5,14 @@ use Rattle.bz_token.specs.declared.chunk.LineEnd.{LineEnd}
 use Rattle.bz_token.specs.declared.chunk.LineEnd.TheVariants.{Joins, Ends, Block}
 use Rattle.bz_token.specs.Blocks.{word_at, opener_of}
 use Rattle.bz_token.specs.Brackets.{is_line}
-use Rattle.bz_token.specs.Ends.{is_note}
+use Rattle.bz_token.specs.Ends.{is_comment_kind}
 use Rattle.bz_token.specs.Places.{Placed}
 
 abbrev pub is_newline_token : Placed → Bool
 is_newline_token t = is_line t.kind
 
 abbrev pub is_comment_token : Placed → Bool
-is_comment_token t = is_line t.kind || is_note t.kind
+is_comment_token t = is_line t.kind || is_comment_kind t.kind
 
 -- the first token is the word of a block
 abbrev pub begins_block : List Placed → Bool

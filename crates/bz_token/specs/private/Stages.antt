@@ -1,10 +1,10 @@
 -- For private clauses: what a chunk is, a logical line at a time.
 use Rattle.std.specs.Prelude.{cond, Option, Some, None, ℕ, List, [], ◌∷◌, Bool, true, false}
 use Rattle.bz_token.specs.declared.cutter.scan.LineKind.{LineKind}
-use Rattle.bz_token.specs.declared.cutter.scan.LineKind.TheVariants.{Blank, Note, Statement}
+use Rattle.bz_token.specs.declared.cutter.scan.LineKind.TheVariants.{Blank, CommentLine, Statement}
 use Rattle.bz_token.specs.declared.cutter.block.Opener.{Opener}
 use Rattle.bz_token.specs.declared.cutter.block.Stage.{Stage}
-use Rattle.bz_token.specs.declared.cutter.block.Stage.TheVariants.{Notes, InBlock, Done}
+use Rattle.bz_token.specs.declared.cutter.block.Stage.TheVariants.{Comments, InBlock, Done}
 use Rattle.bz_token.specs.LogicalLines.{Line}
 use Rattle.bz_token.specs.Blocks.{opener, goes_on}
 
@@ -15,9 +15,9 @@ stage_of (Some word) broken = cond broken Done (InBlock word)
 
 -- after one line more
 abbrev pub stage_step : Stage → LineKind → Option Opener → Bool → Stage
-stage_step Notes Blank word broken = Done
-stage_step Notes Note word broken = Notes
-stage_step Notes Statement word broken = stage_of word broken
+stage_step Comments Blank word broken = Done
+stage_step Comments CommentLine word broken = Comments
+stage_step Comments Statement word broken = stage_of word broken
 stage_step (InBlock word) kind other broken = cond broken Done (InBlock word)
 stage_step Done kind word broken = Done
 
@@ -30,6 +30,6 @@ stage_from stage (l ∷ ls) = stage_from (stage_after stage l) ls
 
 -- whether the line that follows joins the chunk
 abbrev pub takes : Stage → List ℕ → Bool
-takes Notes text = true
+takes Comments text = true
 takes (InBlock word) text = goes_on word text
 takes Done text = false

@@ -2,7 +2,7 @@
 use Rattle.std.specs.Prelude.{◌≡◌, ℕ, Bool, true, false, ◌||◌, ◌==◌, if◌then◌else◌}
 use Rattle.std.specs.Char.{is_ascii_digit}
 use Rattle.bz_token.specs.declared.table.Class.{Class}
-use Rattle.bz_token.specs.declared.table.Class.TheVariants.{Unknown, Space, Newline, Letter, Prefix, Digit, Quote, Hash, Backslash, Open, Close, Point, Sign}
+use Rattle.bz_token.specs.declared.table.Class.TheVariants.{Unknown, Space, Newline, Letter, Prefix, Digit, Quote, Hash, Backslash, Open, Close, Point, Operator}
 use Rattle.bz_token.specs.Pieces.{is_quote}
 use Rattle.bz_token.specs.Lexical.{is_word_byte, is_blank}
 use Rattle.bz_token.specs.Brackets.{is_opening_bracket, is_closing_bracket}
@@ -11,13 +11,13 @@ use Rattle.bz_token.specs.Brackets.{is_opening_bracket, is_closing_bracket}
 abbrev pub is_prefix_letter : ℕ → Bool
 is_prefix_letter b = b == 114 || b == 98
 
--- a sign that is no bracket, and whole whatever follows it
+-- a operator that is no bracket, and whole whatever follows it
 abbrev pub is_point : ℕ → Bool
 is_point b = b == 126 || b == 46 || b == 44 || b == 59 || b == 58
 
--- the first bytes of the other signs
-abbrev pub is_sign_start : ℕ → Bool
-is_sign_start b =
+-- the first bytes of the other operators
+abbrev pub is_operator_start : ℕ → Bool
+is_operator_start b =
     b == 43 || b == 45 || b == 42 || b == 47 || b == 37 || b == 38 || b == 124 || b == 94 || b == 60 || b == 62 || b == 61 || b == 33
 
 abbrev pub class_of : ℕ → Class
@@ -31,7 +31,7 @@ class_of b =
     else (if is_opening_bracket b then Open
     else (if is_closing_bracket b then Close
     else (if is_point b then Point
-    else (if is_sign_start b then Sign else Unknown)))))))))
+    else (if is_operator_start b then Operator else Unknown)))))))))
 
 -- neither a newline, a comment, a backslash, a string nor a bracket
 abbrev pub is_quiet_class : Class → Bool
@@ -43,7 +43,7 @@ is_quiet_class Open = false
 is_quiet_class Close = false
 is_quiet_class _ = true
 
--- nothing begins with the byte but a sign, if one does
+-- nothing begins with the byte but a operator, if one does
 abbrev pub IsMark : ℕ → Type 0
 IsMark b = (is_word_byte b ≡ false) × (is_quote b ≡ false) × ((b == 10) ≡ false) × ((b == 35) ≡ false) × ((b == 92) ≡ false)
 
@@ -51,6 +51,6 @@ IsMark b = (is_word_byte b ≡ false) × (is_quote b ≡ false) × ((b == 10) �
 abbrev pub IsSolid : ℕ → Type 0
 IsSolid b = (is_blank b ≡ false) × ((b == 10) ≡ false) × ((b == 92) ≡ false)
 
--- a sign that is whole, whatever follows it
+-- a operator that is whole, whatever follows it
 abbrev pub is_single : ℕ → Bool
 is_single b = is_opening_bracket b || is_closing_bracket b || is_point b

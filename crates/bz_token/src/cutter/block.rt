@@ -23,7 +23,7 @@ pub enum Opener {
 #[derive(Clone, Copy)]
 pub enum Stage {
     /// Comment lines alone.
-    Notes,
+    Comments,
     /// A block, with the word that begins it.
     InBlock(Opener),
     /// Whole.
@@ -78,8 +78,8 @@ pub fn stage_step(stage: Stage, kind: LineKind, word: Option<Opener>, broken: bo
     ensures { result ≡ stage_step stage kind word broken }
 {
     match stage {
-        Stage::Notes => match kind {
-            LineKind::Note => Stage::Notes,
+        Stage::Comments => match kind {
+            LineKind::CommentLine => Stage::Comments,
             LineKind::Blank => Stage::Done,
             LineKind::Statement => stage_of(word, broken),
         },

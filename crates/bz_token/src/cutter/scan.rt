@@ -2,7 +2,7 @@
 
 ghost use Rattle.std.specs.Prelude.{◌≡◌, ◌+◌, ◌-◌, ◌≤◌, ◌<◌, ◌^◌, ◌==◌, true, false, not, length, take, drop};
 ghost use Rattle.std.specs.List.{prefix_len};
-ghost use Rattle.bz_token.specs.private.CutSteps.{is_ended, is_quiet, byte_of, with_note, at, outside, in_short, in_long, next, start, run};
+ghost use Rattle.bz_token.specs.private.CutSteps.{is_ended, is_quiet, byte_of, with_comment, at, outside, in_short, in_long, next, start, run};
 
 use crate::scan::line_len;
 use crate::table::{class_at, is_quiet_class};
@@ -13,7 +13,7 @@ pub enum LineKind {
     /// White space and continued lines.
     Blank,
     /// A comment beside these.
-    Note,
+    CommentLine,
     /// Anything else.
     Statement,
 }
@@ -111,11 +111,11 @@ fn byte_of(quote: Quote) -> u8
 }
 
 #[inline(always)]
-fn with_note(kind: LineKind) -> LineKind
-    ensures { result ≡ with_note kind }
+fn with_comment(kind: LineKind) -> LineKind
+    ensures { result ≡ with_comment kind }
 {
     match kind {
-        LineKind::Blank | LineKind::Note => LineKind::Note,
+        LineKind::Blank | LineKind::CommentLine => LineKind::CommentLine,
         LineKind::Statement => LineKind::Statement,
     }
 }
@@ -132,7 +132,9 @@ fn outside(scan: Scan, b: u8) -> Scan
     match b {
         b'\n' if scan.depth == 0 => plain.within(Inside::Ended),
         b'\n' | b' ' | b'\t' | b'\r' => plain,
-        b'#' => plain.of_kind(with_note(scan.kind)).within(Inside::Comment),
+        b'#' => plain
+            .of_kind(with_comment(scan.kind))
+            .within(Inside::Comment),
         b'\\' => plain.within(Inside::Backslash),
         b'"' => statement.within(Inside::Opened(Quote::Double)),
         b'\'' => statement.within(Inside::Opened(Quote::Single)),

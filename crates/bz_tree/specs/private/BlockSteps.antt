@@ -2,7 +2,7 @@
 use Rattle.std.specs.Prelude.{ℕ, ◌+◌, ◌≡◌, ◌<◌, ◌++◌, List, [], ◌∷◌, reverse, Bool, true, false, if◌then◌else◌, ◌==◌, ◌&&◌, ◌||◌, Option, Some, None, option_map}
 use Rattle.bz_token.specs.Places.{Placed}
 use Rattle.bz_tree.specs.declared.kinds.Mark.{Mark}
-use Rattle.bz_tree.specs.declared.kinds.Mark.TheVariants.{Comment, NewLine}
+use Rattle.bz_tree.specs.declared.kinds.Mark.TheVariants.{Comment, Newline}
 use Rattle.bz_tree.specs.declared.block.Indents.{Indents}
 use Rattle.bz_tree.specs.Kinds.{mark_of}
 use Rattle.bz_tree.specs.Blocks.{is_colon, indented, depth_after, IsAt, is_block_word}
@@ -25,7 +25,7 @@ next_counted true t s = Some (begun t s.columns)
 next_counted false t s = option_map (begun t) (indented s.opens t.col s.columns)
 
 abbrev pub next_indent : Mark → Placed → Lines → Option Lines
-next_indent NewLine t s = Some (record { columns = s.columns; opens = s.opens; inside = false })
+next_indent Newline t s = Some (record { columns = s.columns; opens = s.opens; inside = false })
 next_indent Comment t s = Some s
 next_indent _ t s = next_counted s.inside t s
 
@@ -38,16 +38,16 @@ first_lines = record { columns = 1 ∷ []; opens = false; inside = false }
 
 -- in the header line, so many brackets being open; `inside`: it has begun
 abbrev pub colon_at : Mark → Placed → ℕ → Bool → Bool → Bool
-colon_at NewLine t depth inside later = later
+colon_at Newline t depth inside later = later
 colon_at Comment t depth inside later = later
 colon_at _ t depth inside later = (depth == 0 && is_colon t) || later
 
 abbrev pub ends_header : Mark → Bool → Bool
-ends_header NewLine inside = inside
+ends_header Newline inside = inside
 ends_header _ inside = false
 
 abbrev pub begins_header : Mark → Bool → Bool
-begins_header NewLine inside = inside
+begins_header Newline inside = inside
 begins_header Comment inside = inside
 begins_header _ inside = true
 

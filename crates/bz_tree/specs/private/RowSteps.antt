@@ -9,7 +9,7 @@ use Rattle.bz_tree.specs.declared.stmt.Class.{Class}
 use Rattle.bz_tree.specs.declared.stmt.Class.TheVariants.{Assign, Rule, Load as LoadClass, Comment as CommentClass, Other as OtherClass}
 use Rattle.bz_tree.specs.declared.kinds.Shape.{Shape}
 use Rattle.bz_tree.specs.declared.kinds.Mark.{Mark}
-use Rattle.bz_tree.specs.declared.kinds.Mark.TheVariants.{Open, Close, Comma, Comment, NewLine, Plain}
+use Rattle.bz_tree.specs.declared.kinds.Mark.TheVariants.{Open, Close, Comma, Comment, Newline, Plain}
 use Rattle.bz_tree.specs.declared.kinds.Preceding.TheVariants.{Operand, Other}
 use Rattle.bz_tree.specs.declared.role.Role.{Role}
 use Rattle.bz_tree.specs.declared.role.Role.TheVariants.{Stray}
@@ -159,24 +159,24 @@ comma_next None t s = top_comma_next t s
 comma_next (Some kind) t s = segment_next t.line s.top.here s
 
 -- a comment that is on the line of what stands before it, or not
-abbrev pub note_part : Bool → List ℕ → RowPart
-note_part true text = beside text
-note_part false text = above text
+abbrev pub comment_part : Bool → List ℕ → RowPart
+comment_part true text = beside text
+comment_part false text = above text
 
-abbrev pub after_note_next : Option GroupKind → Bool → List ℕ → RowState → Option RowState
-after_note_next None true text s = Some (step_to (with_here an_end s.top) (beside text ∷ []) s)
-after_note_next None false text s = None
-after_note_next (Some kind) on text s = Some (step_to (with_here an_end s.top) (segment_end ∷ note_part on text ∷ []) s)
+abbrev pub after_comment_next : Option GroupKind → Bool → List ℕ → RowState → Option RowState
+after_comment_next None true text s = Some (step_to (with_here an_end s.top) (beside text ∷ []) s)
+after_comment_next None false text s = None
+after_comment_next (Some kind) on text s = Some (step_to (with_here an_end s.top) (segment_end ∷ comment_part on text ∷ []) s)
 
-abbrev pub end_note_next : Option GroupKind → List ℕ → RowState → Option RowState
-end_note_next None text s = None
-end_note_next (Some kind) text s = Some (step_to s.top (above text ∷ []) s)
+abbrev pub end_comment_next : Option GroupKind → List ℕ → RowState → Option RowState
+end_comment_next None text s = None
+end_comment_next (Some kind) text s = Some (step_to s.top (above text ∷ []) s)
 
-abbrev pub note_next : At → ℕ → List ℕ → RowState → Option RowState
-note_next nothing line text s = Some (step_to s.top (above text ∷ []) s)
-note_next (a_comma end) line text s = Some (step_to (with_here nothing s.top) (note_part (end == line) text ∷ []) s)
-note_next (a_node end) line text s = after_note_next s.top.kind (end == line) text s
-note_next an_end line text s = end_note_next s.top.kind text s
+abbrev pub comment_next : At → ℕ → List ℕ → RowState → Option RowState
+comment_next nothing line text s = Some (step_to s.top (above text ∷ []) s)
+comment_next (a_comma end) line text s = Some (step_to (with_here nothing s.top) (comment_part (end == line) text ∷ []) s)
+comment_next (a_node end) line text s = after_comment_next s.top.kind (end == line) text s
+comment_next an_end line text s = end_comment_next s.top.kind text s
 
 abbrev pub open_next : GroupKind → RowState → Option RowState
 open_next kind s =
@@ -220,10 +220,10 @@ close_next (Some kind) shape line s =
     else None
 
 abbrev pub row_next_at : Mark → Placed → RowState → Option RowState
-row_next_at NewLine t s = Some s
+row_next_at Newline t s = Some s
 row_next_at Plain t s = leaf_next t s
 row_next_at Comma t s = comma_next s.top.kind t s
-row_next_at Comment t s = note_next s.top.here t.line t.text s
+row_next_at Comment t s = comment_next s.top.here t.line t.text s
 row_next_at (Open shape) t s = open_next (group_kind shape s.top.read.at false) s
 row_next_at (Close shape) t s = close_next s.top.kind shape t.line s
 

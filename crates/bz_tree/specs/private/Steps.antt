@@ -5,7 +5,7 @@ use Rattle.bz_tree.specs.declared.stmt.GroupKind.TheVariants.{Call, RuleCall, Lo
 use Rattle.bz_tree.specs.declared.kinds.Shape.{Shape}
 use Rattle.bz_tree.specs.declared.kinds.Shape.TheVariants.{Round, Square, Curly}
 use Rattle.bz_tree.specs.declared.kinds.Mark.{Mark}
-use Rattle.bz_tree.specs.declared.kinds.Mark.TheVariants.{Open, Close, NewLine}
+use Rattle.bz_tree.specs.declared.kinds.Mark.TheVariants.{Open, Close, Newline}
 use Rattle.bz_tree.specs.declared.kinds.Preceding.{Preceding}
 use Rattle.bz_tree.specs.declared.kinds.Preceding.TheVariants.{Other}
 use Rattle.bz_tree.specs.declared.owners.Before.{Before}
@@ -21,7 +21,7 @@ use Rattle.bz_tree.specs.declared.stmt.Leaf.{Leaf}
 use Rattle.bz_tree.specs.Tree.{Item, leaf, Segment}
 use Rattle.bz_tree.specs.View.{text_of, texts, node_view, seg_view}
 use Rattle.bz_tree.specs.Kinds.{mark_of, is_one, group_kind, same_shape}
-use Rattle.bz_tree.specs.Owners.{Own, node, comma, note, Last, no_token, end_of_node, end_of_comma, is_on, Inside, is_filled}
+use Rattle.bz_tree.specs.Owners.{Own, node, comma, comment, Last, no_token, end_of_node, end_of_comma, is_on, Inside, is_filled}
 use Rattle.bz_tree.specs.Brackets.{leaf_of, own_of, preceding, is_for_item, group_with}
 use Rattle.bz_tree.specs.Statement.{segment_with, is_rule, is_rule_after, is_nothing}
 
@@ -89,13 +89,13 @@ on_node text w = record { segs = w.segs; before = w.before; nodes = w.nodes; suf
 abbrev pub alone : List ℕ → Walked → Walked
 alone text w = record { segs = w.segs; before = w.before; nodes = w.nodes; suffix = w.suffix; after = w.after ++ text ∷ []; last = no_token; trailing = w.trailing }
 
-abbrev pub noted : Last → Bool → List ℕ → Walked → Walked
-noted (end_of_node end) true text w = on_node text w
-noted (end_of_comma end) true text w = on_comma text w
-noted last on text w = alone text w
+abbrev pub commented : Last → Bool → List ℕ → Walked → Walked
+commented (end_of_node end) true text w = on_node text w
+commented (end_of_comma end) true text w = on_comma text w
+commented last on text w = alone text w
 
-abbrev pub after_note : ℕ → List ℕ → Walked → Walked
-after_note line text w = noted w.last (is_on w.last line) text w
+abbrev pub after_comment : ℕ → List ℕ → Walked → Walked
+after_comment line text w = commented w.last (is_on w.last line) text w
 
 abbrev pub done : Walked → Inside
 done w = at_end w.nodes
@@ -142,12 +142,12 @@ kind_with is_for w kind = if is_for && is_in_first w then as_comprehension kind 
 abbrev pub is_for : Own → Bool
 is_for (node line x) = is_for_item x
 is_for (comma t) = false
-is_for (note line text) = false
+is_for (comment line text) = false
 
 -- one more thing, unless a segment is empty; where all is one segment, a comma is a node
 abbrev pub after_own : Bool → Own → Option Walked → Option Walked
 after_own one (node line x) w = option_map (after_node line x) w
-after_own one (note line text) w = option_map (after_note line text) w
+after_own one (comment line text) w = option_map (after_comment line text) w
 after_own true (comma t) w = option_map (after_node t.line (leaf_of t)) w
 after_own false (comma t) w = option_and_then (after_comma t.line) w
 
@@ -183,7 +183,7 @@ closed None w = None
 closed (Some kind) w = option_map (group_with kind) (option_map done w)
 
 abbrev pub next_at : Mark → Placed → Level → List Level → Option Levels
-next_at NewLine t top outer = Some (top, outer)
+next_at Newline t top outer = Some (top, outer)
 next_at (Open shape) t top outer = Some (new_level (Some (group_kind shape top.at false)), top ∷ outer)
 next_at (Close shape) t top [] = None
 next_at (Close shape) t top (below ∷ outer) =

@@ -40,7 +40,7 @@ loop-i-preserved c =
         home = ap (λ (s : LabelSet). s.home.now) w.set-is ∙ w.in_ok-insert_chosen.ensures.home ∙ c.loop-i.invariant.home;
         same = λ text.
             part_step (λ ss. is_among c.args.home.now (chosen_view c.args.chosen) ss text) c.loop-i.start _ true c.args.value.now c.loop-i.i w.index-value-i.result c.index-value-i-in-loop-i.result _ _ (has c.loop-i.set text) (has c.if-is_part.set text)
-            (omega (arith, c.loop-i-test.true)) w.index-value-i.is c.index-value-i-in-loop-i.is c.is_sign-start.ensures (sym (c.is_part.ensures _) ∙ w.if-is_part.true)
+            (omega (arith, c.loop-i-test.true)) w.index-value-i.is c.index-value-i-in-loop-i.is c.is_operator_item-start.ensures (sym (c.is_part.ensures _) ∙ w.if-is_part.true)
             (ap (λ (s : LabelSet). has s text) w.set-is ∙ w.in_ok-insert_chosen.ensures.ok text ∙ ap (λ (ss : List Segment). is_among c.args.home.now (chosen_view c.args.chosen) ss text || has c.loop-i.set text) w.elements_at.ensures)
             ∙ c.loop-i.invariant.same text;
       }
@@ -48,7 +48,7 @@ loop-i-preserved c =
         home = ap (λ (s : LabelSet). s.home.now) w.set-is ∙ c.loop-i.invariant.home;
         same = λ text.
             part_step (λ ss. is_among c.args.home.now (chosen_view c.args.chosen) ss text) c.loop-i.start _ false c.args.value.now c.loop-i.i c.index-value-i-in-loop-i.result c.index-value-i-in-loop-i.result _ _ (has c.loop-i.set text) (has c.if-is_part.set text)
-            (omega (arith, c.loop-i-test.true)) c.index-value-i-in-loop-i.is c.index-value-i-in-loop-i.is c.is_sign-start.ensures (sym (c.is_part.ensures _) ∙ w.if-is_part.false)
+            (omega (arith, c.loop-i-test.true)) c.index-value-i-in-loop-i.is c.index-value-i-in-loop-i.is c.is_operator_item-start.ensures (sym (c.is_part.ensures _) ∙ w.if-is_part.false)
             (ap (λ (s : LabelSet). has s text) w.set-is)
             ∙ c.loop-i.invariant.same text;
       }

@@ -13,18 +13,18 @@ loop-i-preserved c =
     elim c.if-is_part.branch [
       | then-is_part w ↦
           let part = sym (c.is_part.ensures c.index-value-i.result) ∙ w.if-is_part.true in
-          let numbers = part_taken (goes c.args.change) c.loop-i.start _ c.loop-i.value _ c.loop-i.i _ _ _ c.index-value-i.result _ _ _ _ h w.value-is c.is_sign-next.ensures part w.put_in_list.ensures.pool.left c.loop-i.invariant.enough c.loop-i.invariant.left in
+          let numbers = part_taken (goes c.args.change) c.loop-i.start _ c.loop-i.value _ c.loop-i.i _ _ _ c.index-value-i.result _ _ _ _ h w.value-is c.is_operator_item-next.ensures part w.put_in_list.ensures.pool.left c.loop-i.invariant.enough c.loop-i.invariant.left in
           record {
-            edited = edit_node_step (put c.args.change) c.loop-i.start _ c.loop-i.value _ c.loop-i.i _ _ _ c.index-value-i.result h w.value-is c.is_sign-next.ensures part w.put_in_list.ensures.node ∙ c.loop-i.invariant.edited;
+            edited = edit_node_step (put c.args.change) c.loop-i.start _ c.loop-i.value _ c.loop-i.i _ _ _ c.index-value-i.result h w.value-is c.is_operator_item-next.ensures part w.put_in_list.ensures.node ∙ c.loop-i.invariant.edited;
             strings = rw w.pool-is w.put_in_list.ensures.pool.strings;
             enough = rw w.pool-is numbers.0;
             left = rw w.pool-is numbers.1;
           }
       | else-is_part w ↦
           let part = sym (c.is_part.ensures c.index-value-i.result) ∙ w.if-is_part.false in
-          let numbers = part_passed (goes c.args.change) c.loop-i.start _ c.loop-i.value _ c.loop-i.i _ c.index-value-i.result _ _ _ h w.value-is c.is_sign-next.ensures part c.loop-i.invariant.enough c.loop-i.invariant.left in
+          let numbers = part_passed (goes c.args.change) c.loop-i.start _ c.loop-i.value _ c.loop-i.i _ c.index-value-i.result _ _ _ h w.value-is c.is_operator_item-next.ensures part c.loop-i.invariant.enough c.loop-i.invariant.left in
           record {
-            edited = keep_node_step (put c.args.change) c.loop-i.start _ c.loop-i.value _ c.loop-i.i _ c.index-value-i.result h w.value-is c.is_sign-next.ensures part ∙ c.loop-i.invariant.edited;
+            edited = keep_node_step (put c.args.change) c.loop-i.start _ c.loop-i.value _ c.loop-i.i _ c.index-value-i.result h w.value-is c.is_operator_item-next.ensures part ∙ c.loop-i.invariant.edited;
             strings = rw w.pool-is c.loop-i.invariant.strings;
             enough = rw w.pool-is numbers.0;
             left = rw w.pool-is numbers.1;

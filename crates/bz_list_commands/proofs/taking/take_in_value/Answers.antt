@@ -16,21 +16,21 @@ pub loop-i-preserved : goal.loop-i-preserved
 loop-i-preserved c =
     elim c.if-is_part.branch [
       | then-is_part w ↦
-          let taken = taken_step (is_meant c.args.choice) c.loop-i.start _ c.loop-i.value _ c.loop-i.i _ _ _ c.index-value-i.result c.loop-i.taken.items c.if-is_part.taken.items (omega arith) w.value-is c.is_sign-next.ensures (sym (c.is_part.ensures _) ∙ w.if-is_part.true) ((λ j. segs_view (w.taken-is j).items) ∙ w.take_in_list.ensures.taken.items) in
+          let taken = taken_step (is_meant c.args.choice) c.loop-i.start _ c.loop-i.value _ c.loop-i.i _ _ _ c.index-value-i.result c.loop-i.taken.items c.if-is_part.taken.items (omega arith) w.value-is c.is_operator_item-next.ensures (sym (c.is_part.ensures _) ∙ w.if-is_part.true) ((λ j. segs_view (w.taken-is j).items) ∙ w.take_in_list.ensures.taken.items) in
           let room : vec_capacity c.if-is_part.taken ≡ vec_capacity c.loop-i.taken = (λ j. vec_capacity (w.taken-is j)) ∙ w.take_in_list.ensures.taken.capacity in
-          let long : length (segs_view c.if-is_part.taken.items) + length (filter (is_meant c.args.choice) (joined (parts_from c.is_sign-next.result (nodes_view (drop (c.loop-i.i + 1) c.if-is_part.value))))) ≡ length (segs_view c.loop-i.taken.items) + length (filter (is_meant c.args.choice) (joined (parts_from c.loop-i.start (nodes_view (drop c.loop-i.i c.loop-i.value))))) = same_length _ _ _ _ taken in
+          let long : length (segs_view c.if-is_part.taken.items) + length (filter (is_meant c.args.choice) (joined (parts_from c.is_operator_item-next.result (nodes_view (drop (c.loop-i.i + 1) c.if-is_part.value))))) ≡ length (segs_view c.loop-i.taken.items) + length (filter (is_meant c.args.choice) (joined (parts_from c.loop-i.start (nodes_view (drop c.loop-i.i c.loop-i.value))))) = same_length _ _ _ _ taken in
           record {
-            left = edit_node_step (stay c.args.choice) c.loop-i.start _ c.loop-i.value _ c.loop-i.i _ _ _ c.index-value-i.result (omega arith) w.value-is c.is_sign-next.ensures (sym (c.is_part.ensures _) ∙ w.if-is_part.true) w.take_in_list.ensures.left ∙ c.loop-i.invariant.left;
+            left = edit_node_step (stay c.args.choice) c.loop-i.start _ c.loop-i.value _ c.loop-i.i _ _ _ c.index-value-i.result (omega arith) w.value-is c.is_operator_item-next.ensures (sym (c.is_part.ensures _) ∙ w.if-is_part.true) w.take_in_list.ensures.left ∙ c.loop-i.invariant.left;
             taken = taken ∙ c.loop-i.invariant.taken;
             room = omega (arith, long, c.if-is_part.taken.ok.0, c.loop-i.taken.ok.0, length-map c.if-is_part.taken.items seg_view, length-map c.loop-i.taken.items seg_view, room, c.loop-i.invariant.room);
             capacity = room ∙ c.loop-i.invariant.capacity;
           }
       | else-is_part w ↦
-          let taken = passed_step (is_meant c.args.choice) c.loop-i.start _ c.loop-i.value _ c.loop-i.i _ c.index-value-i.result c.loop-i.taken.items c.if-is_part.taken.items (omega arith) w.value-is c.is_sign-next.ensures (sym (c.is_part.ensures _) ∙ w.if-is_part.false) (λ j. (w.taken-is j).items) in
+          let taken = passed_step (is_meant c.args.choice) c.loop-i.start _ c.loop-i.value _ c.loop-i.i _ c.index-value-i.result c.loop-i.taken.items c.if-is_part.taken.items (omega arith) w.value-is c.is_operator_item-next.ensures (sym (c.is_part.ensures _) ∙ w.if-is_part.false) (λ j. (w.taken-is j).items) in
           let room : vec_capacity c.if-is_part.taken ≡ vec_capacity c.loop-i.taken = (λ j. vec_capacity (w.taken-is j)) in
-          let long : length (segs_view c.if-is_part.taken.items) + length (filter (is_meant c.args.choice) (joined (parts_from c.is_sign-next.result (nodes_view (drop (c.loop-i.i + 1) c.if-is_part.value))))) ≡ length (segs_view c.loop-i.taken.items) + length (filter (is_meant c.args.choice) (joined (parts_from c.loop-i.start (nodes_view (drop c.loop-i.i c.loop-i.value))))) = same_length _ _ _ _ taken in
+          let long : length (segs_view c.if-is_part.taken.items) + length (filter (is_meant c.args.choice) (joined (parts_from c.is_operator_item-next.result (nodes_view (drop (c.loop-i.i + 1) c.if-is_part.value))))) ≡ length (segs_view c.loop-i.taken.items) + length (filter (is_meant c.args.choice) (joined (parts_from c.loop-i.start (nodes_view (drop c.loop-i.i c.loop-i.value))))) = same_length _ _ _ _ taken in
           record {
-            left = keep_node_step (stay c.args.choice) c.loop-i.start _ c.loop-i.value _ c.loop-i.i _ c.index-value-i.result (omega arith) w.value-is c.is_sign-next.ensures (sym (c.is_part.ensures _) ∙ w.if-is_part.false) ∙ c.loop-i.invariant.left;
+            left = keep_node_step (stay c.args.choice) c.loop-i.start _ c.loop-i.value _ c.loop-i.i _ c.index-value-i.result (omega arith) w.value-is c.is_operator_item-next.ensures (sym (c.is_part.ensures _) ∙ w.if-is_part.false) ∙ c.loop-i.invariant.left;
             taken = taken ∙ c.loop-i.invariant.taken;
             room = omega (arith, long, c.if-is_part.taken.ok.0, c.loop-i.taken.ok.0, length-map c.if-is_part.taken.items seg_view, length-map c.loop-i.taken.items seg_view, room, c.loop-i.invariant.room);
             capacity = room ∙ c.loop-i.invariant.capacity;

@@ -55,10 +55,10 @@ returns-in-Quote-clause-step c =
     let solid = solid_at (get_or c.args.bytes.now 0 0) Quote (sym c.class_at.ensures ∙ c.in-Quote.is) refl in
     token_step c.args.inside c.args.bytes.now c.scan_string.result (solid_gap c.args.inside c.args.bytes.now c.requires solid) c.scan_string.ensures.token
 
-pub returns-in-Sign-clause-step : goal.returns-in-Sign-clause-step
-returns-in-Sign-clause-step c =
-    let solid = (mark_at (get_or c.args.bytes.now 0 0) c.class_at.result (sym c.class_at.ensures) c.in-Sign.is).1 in
-    token_step c.args.inside c.args.bytes.now c.scan_sign.result (solid_gap c.args.inside c.args.bytes.now c.requires solid) c.scan_sign.ensures.token
+pub returns-in-Operator-clause-step : goal.returns-in-Operator-clause-step
+returns-in-Operator-clause-step c =
+    let solid = (mark_at (get_or c.args.bytes.now 0 0) c.class_at.result (sym c.class_at.ensures) c.in-Operator.is).1 in
+    token_step c.args.inside c.args.bytes.now c.scan_operator.result (solid_gap c.args.inside c.args.bytes.now c.requires solid) c.scan_operator.ensures.token
 
 pub returns-in-Prefix-clause-step : goal.returns-in-Prefix-clause-step
 returns-in-Prefix-clause-step c =
@@ -81,15 +81,15 @@ returns-in-Quote-clause-bad c =
     bad_step c.args.inside c.args.bytes.now c.scan_string.result (solid_gap c.args.inside c.args.bytes.now c.requires (solid_at (get_or c.args.bytes.now 0 0) Quote (sym c.class_at.ensures ∙ c.in-Quote.is) refl)) c.scan_string.ensures.bad
 
 pub returns-in-Hash-clause-step : goal.returns-in-Hash-clause-step
-returns-in-Hash-clause-step c = (solid_gap c.args.inside c.args.bytes.now c.requires (solid_at (get_or c.args.bytes.now 0 0) Hash (sym c.class_at.ensures ∙ c.in-Hash.is) refl), c.scan_note.ensures)
+returns-in-Hash-clause-step c = (solid_gap c.args.inside c.args.bytes.now c.requires (solid_at (get_or c.args.bytes.now 0 0) Hash (sym c.class_at.ensures ∙ c.in-Hash.is) refl), c.scan_comment.ensures)
 
-pub returns-in-Sign-clause-bad : goal.returns-in-Sign-clause-bad
-returns-in-Sign-clause-bad c =
-    let solid = (mark_at (get_or c.args.bytes.now 0 0) c.class_at.result (sym c.class_at.ensures) c.in-Sign.is).1 in
-    bad_step c.args.inside c.args.bytes.now c.scan_sign.result (solid_gap c.args.inside c.args.bytes.now c.requires solid) c.scan_sign.ensures.bad
+pub returns-in-Operator-clause-bad : goal.returns-in-Operator-clause-bad
+returns-in-Operator-clause-bad c =
+    let solid = (mark_at (get_or c.args.bytes.now 0 0) c.class_at.result (sym c.class_at.ensures) c.in-Operator.is).1 in
+    bad_step c.args.inside c.args.bytes.now c.scan_operator.result (solid_gap c.args.inside c.args.bytes.now c.requires solid) c.scan_operator.ensures.bad
 
-pub scan_sign-requires-clause-mark : goal.scan_sign-requires-clause-mark
-scan_sign-requires-clause-mark c = (mark_at (get_or c.args.bytes.now 0 0) c.class_at.result (sym c.class_at.ensures) c.in-Sign.is).0
+pub scan_operator-requires-clause-mark : goal.scan_operator-requires-clause-mark
+scan_operator-requires-clause-mark c = (mark_at (get_or c.args.bytes.now 0 0) c.class_at.result (sym c.class_at.ensures) c.in-Operator.is).0
 
 pub returns-in-Open-clause-step : goal.returns-in-Open-clause-step
 returns-in-Open-clause-step c =
@@ -104,7 +104,7 @@ scan_number-requires c =
     let f = fact_at (get_or c.args.bytes.now 0 0) Digit (sym c.class_at.ensures ∙ c.in-Digit.is) in
     record { digit = begins_so is_ascii_digit true c.args.bytes.now c.requires f.0 }
 
-pub scan_note-requires : goal.scan_note-requires
-scan_note-requires c =
+pub scan_comment-requires : goal.scan_comment-requires
+scan_comment-requires c =
     let f = fact_at (get_or c.args.bytes.now 0 0) Hash (sym c.class_at.ensures ∙ c.in-Hash.is) in
     begins_so (λ b. b == 35) true c.args.bytes.now c.requires f.0

@@ -5,8 +5,8 @@ use Rattle.bz_tree.proofs.block.colon_walk.Goals as goal
 pub loop-token-preserved : goal.loop-token-preserved
 loop-token-preserved c = grind (arith, common_steps)
 
-pub returns-in-NewLine : goal.returns-in-NewLine
-returns-in-NewLine c = grind (arith, common_steps)
+pub returns-in-Newline : goal.returns-in-Newline
+returns-in-Newline c = grind (arith, common_steps)
 
 pub returns-then-is_colon : goal.returns-then-is_colon
 returns-then-is_colon c = grind (arith, common_steps)

@@ -1,10 +1,10 @@
 use Rattle.bz_token.specs.declared.token.Kind.TheVariants.{Comment}
-use Rattle.bz_token.proofs.Scanning.{note_scanned, scanned_as}
-use Rattle.bz_token.proofs.scan_token.scan_note.Goals as goal
+use Rattle.bz_token.proofs.Scanning.{comment_scanned, scanned_as}
+use Rattle.bz_token.proofs.scan_token.scan_comment.Goals as goal
 
 pub returns : goal.returns
 returns c =
     let made = c.on_one_line.ensures in
     let found = c.comment_len.ensures in
     scanned_as c.args.bytes.now c.on_one_line.result Comment c.comment_len.result made.kind made.len made.newline
-    (note_scanned c.args.bytes.now c.comment_len.result found.in_range.0 found.in_range.1 found.in_line found.comment found.longest)
+    (comment_scanned c.args.bytes.now c.comment_len.result found.in_range.0 found.in_range.1 found.in_line found.comment found.longest)
