@@ -101,13 +101,13 @@ abbrev pub is_equals : RowPart → Bool
 is_equals (a_token kind text) = rules.is_operator_item (codes "=") (leaf kind text)
 is_equals _ = false
 
--- after an argument's name: a operator `=` and nothing more; a operator `=` and at least two parts
+-- after an argument's name: an operator `=` and nothing more; an operator `=` and at least two parts
 abbrev pub lacks_value : List RowPart → Bool
-lacks_value (operator ∷ first ∷ rest) = is_equals sign && is_end first
+lacks_value (operator ∷ first ∷ rest) = is_equals operator && is_end first
 lacks_value _ = false
 
 abbrev pub has_long_value : List RowPart → Bool
-has_long_value (operator ∷ first ∷ second ∷ rest) = is_equals sign && not (is_end first || is_end second)
+has_long_value (operator ∷ first ∷ second ∷ rest) = is_equals operator && not (is_end first || is_end second)
 has_long_value _ = false
 
 abbrev pub is_of : List ℕ → Parts → Bool
