@@ -65,7 +65,7 @@ put_first p f args i s d at h made =
     let known : f (get_or (segs_view args) (position_or_len p (segs_view args)) (seg_view d)) ≡ seg_view s ∷ [] = ap (λ (n : ℕ). f (get_or (segs_view args) n (seg_view d))) (sym at) ∙ ap f read ∙ made in
     map-set seg_view args i s ∙ ap (λ (n : ℕ). set (segs_view args) n (seg_view s)) at ∙ sym (edit_first_put p f (segs_view args) (seg_view s) (seg_view d) long known)
 
--- a named argument has a name and a operator
+-- a named argument has a name and an operator
 named_nodes : (name : List ℕ) (xs : List Item) → is_text name (name_of xs) ≡ true → 2 ≤ length xs
 named_nodes name [] h = absurd cc
 named_nodes name (x ∷ []) h = absurd cc

@@ -34,7 +34,7 @@ is_call (Some Call) = true
 is_call (Some RuleCall) = true
 is_call _ = false
 
--- at the start, after a operator other than `.` and after a keyword a operator begins an operand
+-- at the start, after an operator other than `.` and after a keyword an operator begins an operand
 abbrev pub awaits_operand : Edge → Bool
 awaits_operand Dotted = false
 awaits_operand Operand = false

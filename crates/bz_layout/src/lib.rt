@@ -7,7 +7,7 @@
 //! Tokens: a text is read as gaps and longest tokens in turn, so it is enough that each piece has a text of its kind and
 //! that the byte after it ends this text. A space, a newline, a bracket, a comma and a colon end every token but a
 //! comment, a newline ends that too, and no byte lengthens a bracket. After `.`, a prefix, an argument's star and the
-//! colon of an index stands no token that begins with one of the bytes `/ * < > =`, and only these lengthen a operator.
+//! colon of an index stands no token that begins with one of the bytes `/ * < > =`, and only these lengthen an operator.
 //!
 //! Tree: the pieces without comments are the tokens of the tree, except for the comma after the last segment of a broken
 //! group, which the grammar allows where it is written. A gap with a new line stands only inside a bracket, a newline

@@ -1,4 +1,4 @@
--- What a token is to the grammar tells whether it may stand directly after a operator, and whether something may stand so after it.
+-- What a token is to the grammar tells whether it may stand directly after an operator, and whether something may stand so after it.
 use Rattle.std.proofs.Common.{◌≡◌, ℕ, ◌==◌, List, [], ◌∷◌, Bool, true, false, refl, sym, ap, ◌∙◌, inl, inr}
 use Rattle.std.specs.Prelude.{codes, Option, if◌then◌else◌}
 use Rattle.std.specs.Str.{bytes_eq}
@@ -20,7 +20,7 @@ use Rattle.bz_layout_laws.specs.Legible.{is_later, begins_later}
 use Rattle.bz_layout_laws.specs.TextsOfKinds.{HasText}
 use Rattle.bz_layout_laws.proofs.NoBrackets.{is_operator_kind, mark_starts}
 
--- tokens that begin with no byte that stands second or third in a operator
+-- tokens that begin with no byte that stands second or third in an operator
 abbrev pub stands_apart : Role → Bool
 stands_apart Name = true
 stands_apart Number = true
@@ -48,7 +48,7 @@ abbrev pub is_stray : Role → Bool
 is_stray Stray = true
 is_stray _ = false
 
--- a node that may stand directly after a operator
+-- a node that may stand directly after an operator
 pub record StandsApart (x : Item) : Type 0 where
   pub apart : begins_later x ≡ false
   pub inside : MayStandIn x
@@ -81,7 +81,7 @@ other_begins kind (b ∷ bs) none is = elim (cases_Bool (is_later b)) [
   | inl hit ↦ absurd (mark_starts kind none (ap (can_start kind) (sym (later_mark b hit)) ∙ text_class kind b bs is))
 ]
 
--- the role of a operator, one text after the other
+-- the role of an operator, one text after the other
 abbrev BeginsApart : List ℕ → Role → Type 0
 BeginsApart text r = stands_apart r ≡ true → begins is_later text ≡ false
 

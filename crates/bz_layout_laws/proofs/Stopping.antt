@@ -62,7 +62,7 @@ stopped_plain kind text (b ∷ bs) is comment h =
 pub ended_plain : (kind : Kind) (text after : List ℕ) → is_text kind text ≡ true → is_comment_kind kind ≡ false → stops_all after ≡ true → ends kind text after ≡ true
 ended_plain kind text after is comment h = stopped_at_ends kind text after (stopped_plain kind text after is comment h)
 
--- a operator, and no byte after it that lengthens one
+-- an operator, and no byte after it that lengthens one
 ended_operator : (text after : List ℕ) → is_text OperatorToken text ≡ true → not (begins is_later after) ≡ true → ends OperatorToken text after ≡ true
 ended_operator text [] is h = refl
 ended_operator text (b ∷ bs) is h = operator_stops text b is (not-true _ h)

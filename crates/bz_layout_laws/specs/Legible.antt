@@ -21,7 +21,7 @@ is_leaf_mark Comma = true
 is_leaf_mark Plain = true
 is_leaf_mark _ = false
 
--- bytes that stand second or third in a operator
+-- bytes that stand second or third in an operator
 abbrev pub is_later : ℕ → Bool
 is_later b = list_any (λ c. b == c) (codes "/*<>=")
 

@@ -75,7 +75,7 @@ part_read s v i n is read at =
     let first : IsFirstPart (drop 2 s.nodes.items) i = first_of s v i is read in
     ap (λ (ns : List Item). first_list (parts ns)) (sym (value_there s s.nodes.items refl)) ∙ first.list n ∙ ap (λ (z : Node). elements (node_view z)) (get_or-drop 2 s.nodes.items i n ∙ sym at)
 
--- an attribute has a name and a operator
+-- an attribute has a name and an operator
 named_long : (xs : List Item) → is_some (name_of xs) ≡ true → 2 ≤ length xs
 named_long [] h = absurd cc
 named_long (x ∷ []) h = absurd cc

@@ -212,19 +212,19 @@ mutual
   run_segs : (v : Option Parts) (n : ℕ) (ss : Segs) (rest ps : List RowPart) (us : List Parts) (b : Bool)
       → run (segs_parts ss ++ rest) (at ps us (inside v (n + 1)) b) ≡ run rest (at (add v ps (segs_parts ss)) us (inside v (n + 1)) b)
   run_segs v n no_segs rest ps us b = rw (none_more v ps) refl
-  run_segs v n (seg notes nodes suffix ss) rest ps us b =
+  run_segs v n (seg comments nodes suffix ss) rest ps us b =
       let d : ℕ = n + 1 in
-      let joined : segs_parts (seg notes nodes suffix ss) ++ rest ≡ map above notes ++ (items_parts nodes ++ (segment_end ∷ (beside_part suffix ++ (segs_parts ss ++ rest)))) = simp append_assoc in
-      let ps1 : List RowPart = add v ps (map above notes) in
+      let joined : segs_parts (seg comments nodes suffix ss) ++ rest ≡ map above comments ++ (items_parts nodes ++ (segment_end ∷ (beside_part suffix ++ (segs_parts ss ++ rest)))) = simp append_assoc in
+      let ps1 : List RowPart = add v ps (map above comments) in
       let ps2 : List RowPart = add v ps1 (items_parts nodes) in
       let ps3 : List RowPart = add v ps2 (segment_end ∷ []) in
       let ps4 : List RowPart = add v ps3 (beside_part suffix) in
       let after : List RowPart = beside_part suffix ++ (segs_parts ss ++ rest) in
-      let all : add v ps4 (segs_parts ss) ≡ add v ps (segs_parts (seg notes nodes suffix ss)) =
+      let all : add v ps4 (segs_parts ss) ≡ add v ps (segs_parts (seg comments nodes suffix ss)) =
       twice v ps3 (beside_part suffix) (segs_parts ss) ∙ twice v ps2 (segment_end ∷ []) (beside_part suffix ++ segs_parts ss)
-      ∙ twice v ps1 (items_parts nodes) (segment_end ∷ (beside_part suffix ++ segs_parts ss)) ∙ twice v ps (map above notes) (items_parts nodes ++ (segment_end ∷ (beside_part suffix ++ segs_parts ss))) in
+      ∙ twice v ps1 (items_parts nodes) (segment_end ∷ (beside_part suffix ++ segs_parts ss)) ∙ twice v ps (map above comments) (items_parts nodes ++ (segment_end ∷ (beside_part suffix ++ segs_parts ss))) in
       ap (λ (qs : List RowPart). run qs (at ps us (inside v d) b)) joined
-      ∙ run_above v d notes (items_parts nodes ++ (segment_end ∷ after)) ps us b
+      ∙ run_above v d comments (items_parts nodes ++ (segment_end ∷ after)) ps us b
       ∙ run_items v d nodes (segment_end ∷ after) ps1 us b
       ∙ ap (run after) (one v d segment_end ps2 us b after (nonzero n))
       ∙ run_beside v d suffix (segs_parts ss ++ rest) ps3 us b
@@ -443,11 +443,11 @@ long_equals p [] h = absurd (false≢true h)
 long_equals p (q ∷ []) h = absurd (false≢true h)
 long_equals p (q ∷ r ∷ ps) h = (and_parts (is_equals p) (not (is_end q || is_end r)) h).0
 
-gone_whole : (notes : List (List ℕ)) (suffix : Option (List ℕ)) (name : List ℕ) (kind : Kind) (text : List ℕ) (value : List Item) (more : List RowPart) (us later : List Parts)
+gone_whole : (comments : List (List ℕ)) (suffix : Option (List ℕ)) (name : List ℕ) (kind : Kind) (text : List ℕ) (value : List Item) (more : List RowPart) (us later : List Parts)
     → does_go name (leaf kind text ∷ value) more us ≡ true
-    → filled (all_apart (us ++ (record { name = name; parts = items_parts (items_of value) }) ∷ later)) (record { before = notes; nodes = leaf Identifier name ∷ leaf kind text ∷ []; suffix = suffix })
-    ≡ record { before = notes; nodes = leaf Identifier name ∷ leaf kind text ∷ value; suffix = suffix }
-gone_whole notes suffix name kind text value more us later h =
+    → filled (all_apart (us ++ (record { name = name; parts = items_parts (items_of value) }) ∷ later)) (record { before = comments; nodes = leaf Identifier name ∷ leaf kind text ∷ []; suffix = suffix })
+    ≡ record { before = comments; nodes = leaf Identifier name ∷ leaf kind text ∷ value; suffix = suffix }
+gone_whole comments suffix name kind text value more us later h =
     let v : Parts = record { name = name; parts = items_parts (items_of value) } in
     let two = and_parts (has_long_value (tail_parts (leaf kind text ∷ value) more)) (may_go name us) h in
     let operator : is_operator_item (codes "=") (leaf kind text) ≡ true = long_equals (a_token kind text) (tail_parts value more) two.0 in
@@ -456,26 +456,26 @@ gone_whole notes suffix name kind text value more us later h =
     rw (operator, value_after us v later fresh, nodes_back_list value) refl
 
 abbrev with_them : List (List ℕ) → List Item → Option (List ℕ) → Segment
-with_them notes nodes suffix = record { before = notes; nodes = nodes; suffix = suffix }
+with_them comments nodes suffix = record { before = comments; nodes = nodes; suffix = suffix }
 
-is_whole : (us : List Parts) (b : Bool) (notes : List (List ℕ)) (nodes : List Item) (suffix : Option (List ℕ)) (more : List RowPart) (later : List Parts)
-    → sound_with b nodes more ≡ true → IsWhole us (with_them notes nodes suffix) more later
-is_whole us b notes [] suffix more later h = needs_none (all_apart (us ++ later)) (with_them notes [] suffix) refl
-is_whole us b notes (leaf Identifier name ∷ []) suffix more later h = needs_none (all_apart (us ++ later)) (with_them notes (leaf Identifier name ∷ []) suffix) refl
-is_whole us b notes (leaf Identifier name ∷ leaf kind text ∷ value) suffix more later h =
+is_whole : (us : List Parts) (b : Bool) (comments : List (List ℕ)) (nodes : List Item) (suffix : Option (List ℕ)) (more : List RowPart) (later : List Parts)
+    → sound_with b nodes more ≡ true → IsWhole us (with_them comments nodes suffix) more later
+is_whole us b comments [] suffix more later h = needs_none (all_apart (us ++ later)) (with_them comments [] suffix) refl
+is_whole us b comments (leaf Identifier name ∷ []) suffix more later h = needs_none (all_apart (us ++ later)) (with_them comments (leaf Identifier name ∷ []) suffix) refl
+is_whole us b comments (leaf Identifier name ∷ leaf kind text ∷ value) suffix more later h =
     let v : Parts = record { name = name; parts = items_parts (items_of value) } in
     let nodes : List Item = leaf Identifier name ∷ leaf kind text ∷ value in
     elim (does_go name (leaf kind text ∷ value) more us) as (λ g. does_go name (leaf kind text ∷ value) more us ≡ g
-    → filled (all_apart (us ++ ((if g then v ∷ [] else []) ++ later))) (with_them notes (if g then leaf Identifier name ∷ leaf kind text ∷ [] else nodes) suffix) ≡ with_them notes nodes suffix) [
-      | true ↦ λ e. gone_whole notes suffix name kind text value more us later e
-      | false ↦ λ e. needs_none (all_apart (us ++ later)) (with_them notes nodes suffix) (sound_not_bare b nodes more h)
+    → filled (all_apart (us ++ ((if g then v ∷ [] else []) ++ later))) (with_them comments (if g then leaf Identifier name ∷ leaf kind text ∷ [] else nodes) suffix) ≡ with_them comments nodes suffix) [
+      | true ↦ λ e. gone_whole comments suffix name kind text value more us later e
+      | false ↦ λ e. needs_none (all_apart (us ++ later)) (with_them comments nodes suffix) (sound_not_bare b nodes more h)
     ] refl
-is_whole us b notes (leaf Identifier name ∷ group kind segs one_comma end ∷ value) suffix more later h =
+is_whole us b comments (leaf Identifier name ∷ group kind segs one_comma end ∷ value) suffix more later h =
     let nodes : List Item = leaf Identifier name ∷ group kind segs one_comma end ∷ value in
-    needs_none (all_apart (us ++ later)) (with_them notes nodes suffix) (sound_not_bare b nodes more h)
-is_whole us b notes (leaf kind text ∷ xs) suffix more later h = needs_none (all_apart (us ++ later)) (with_them notes (leaf kind text ∷ xs) suffix) (sound_not_bare b (leaf kind text ∷ xs) more h)
-is_whole us b notes (group kind segs one_comma end ∷ xs) suffix more later h =
-    needs_none (all_apart (us ++ later)) (with_them notes (group kind segs one_comma end ∷ xs) suffix) (sound_not_bare b (group kind segs one_comma end ∷ xs) more h)
+    needs_none (all_apart (us ++ later)) (with_them comments nodes suffix) (sound_not_bare b nodes more h)
+is_whole us b comments (leaf kind text ∷ xs) suffix more later h = needs_none (all_apart (us ++ later)) (with_them comments (leaf kind text ∷ xs) suffix) (sound_not_bare b (leaf kind text ∷ xs) more h)
+is_whole us b comments (group kind segs one_comma end ∷ xs) suffix more later h =
+    needs_none (all_apart (us ++ later)) (with_them comments (group kind segs one_comma end ∷ xs) suffix) (sound_not_bare b (group kind segs one_comma end ∷ xs) more h)
 
 run_segment : (a : Segment) (ss : Segs) (rest ps : List RowPart) (us : List Parts) (b : Bool)
     → let more : List RowPart = beside_part a.suffix ++ (segs_parts ss ++ rest) in
@@ -524,9 +524,9 @@ newly_apart us (leaf Identifier name ∷ group kind segs one_comma end ∷ value
 newly_apart us (leaf kind text ∷ xs) more = tt
 newly_apart us (group kind segs one_comma end ∷ xs) more = tt
 
-one_segment_more : (notes : List (List ℕ)) (nodes : List Item) (suffix : Option (List ℕ)) (args : List Segment)
-    → segs_parts (seg notes (items_of nodes) suffix no_segs) ++ segs_parts (segs_of args) ≡ segs_parts (seg notes (items_of nodes) suffix (segs_of args))
-one_segment_more notes nodes suffix args = rw (append-nil (beside_part suffix)) (simp append_assoc)
+one_segment_more : (comments : List (List ℕ)) (nodes : List Item) (suffix : Option (List ℕ)) (args : List Segment)
+    → segs_parts (seg comments (items_of nodes) suffix no_segs) ++ segs_parts (segs_of args) ≡ segs_parts (seg comments (items_of nodes) suffix (segs_of args))
+one_segment_more comments nodes suffix args = rw (append-nil (beside_part suffix)) (simp append_assoc)
 
 are_taken : (args : List Segment) (rest ps : List RowPart) (us : List Parts) (b : Bool) → AreTaken args rest ps us b
 are_taken [] rest ps us b = record {

@@ -38,7 +38,7 @@ keeps_name None x y a h = ap name_of h
 keeps_name (Some nodes) x y a h = ap (λ (xs : List Item). name_of (take 2 xs ++ nodes)) h
 
 abbrev with_them : List (List ℕ) → List Item → Option (List ℕ) → Segment
-with_them notes nodes suffix = record { before = notes; nodes = nodes; suffix = suffix }
+with_them comments nodes suffix = record { before = comments; nodes = nodes; suffix = suffix }
 
 names_of : (vs : List Apart) (b : List (List ℕ)) (nodes : List Item) (s : Option (List ℕ)) → name_of (filled vs (with_them b nodes s)).nodes ≡ name_of nodes
 names_of vs b [] s = refl

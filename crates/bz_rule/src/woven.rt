@@ -50,17 +50,17 @@ impl<'s> Woven<'s> {
         Ok(())
     }
 
-    pub(crate) fn push_above(&mut self, notes: &'s [CowStr<'_>]) -> Result<(), AllocError>
-        ensures { OnOk result (Adds (map above (texts notes.now)) self.old self.new) }
+    pub(crate) fn push_above(&mut self, comments: &'s [CowStr<'_>]) -> Result<(), AllocError>
+        ensures { OnOk result (Adds (map above (texts comments.now)) self.old self.new) }
     {
-        push_above(notes, &mut self.own)?;
+        push_above(comments, &mut self.own)?;
         Ok(())
     }
 
-    pub(crate) fn push_beside(&mut self, note: &'s Option<CowStr<'_>>) -> Result<(), AllocError>
-        ensures { OnOk result (Adds (beside_part (option_map text_of note.now)) self.old self.new) }
+    pub(crate) fn push_beside(&mut self, comment: &'s Option<CowStr<'_>>) -> Result<(), AllocError>
+        ensures { OnOk result (Adds (beside_part (option_map text_of comment.now)) self.old self.new) }
     {
-        push_beside(note, &mut self.own)?;
+        push_beside(comment, &mut self.own)?;
         Ok(())
     }
 

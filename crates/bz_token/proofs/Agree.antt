@@ -448,7 +448,7 @@ or_none : (x y : Bool) → (x || y) ≡ false → (x ≡ false) × (y ≡ false)
 or_none true y h = absurd (false≢true (sym h))
 or_none false y h = (refl, h)
 
--- a bracket, or another byte of a operator
+-- a bracket, or another byte of an operator
 operator_step : (d : ℕ) (k : LineKind) (b : ℕ) → is_operator_plain b ≡ true → outside d k b ≡ (if is_opening_bracket b then at Plain (d + 1) Statement else (if is_closing_bracket b then at Plain (d - 1) Statement else at Plain d Statement))
 operator_step d k b h =
     let p39 = or_none (b == 10 || b == 32 || b == 9 || b == 13 || b == 35 || b == 92 || b == 34) (b == 39) (not_true _ h) in

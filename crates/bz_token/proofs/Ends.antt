@@ -224,7 +224,7 @@ mark_of b h = only (class_of b) h
     only mark h = refl
     only unknown h = absurd (false≢true h)
 
--- a longer operator goes on by a operator
+-- a longer operator goes on by an operator
 abbrev pub is_in_steps : List ℕ → Bool
 is_in_steps text = is_operator_text (take 2 text) && nat_le (length text) 3
 
@@ -470,7 +470,7 @@ bad_byte b bs none never kind (x ∷ text) rest split is counted =
     let again : b ∷ bs ≡ (b ∷ text) ++ rest = cc in
     never kind text rest again (ap (λ y. is_text kind (y ∷ text)) (sym same) ∙ is)
 
--- at a byte of no class, or one of a operator where no operator stands
+-- at a byte of no class, or one of an operator where no operator stands
 pub no_operator : (b : ℕ) (bs : List ℕ) → (c : Class) → class_of b ≡ c → ((kind : Kind) → can_start kind c ≡ true → kind ≡ Operator) → ((n : ℕ) → is_operator_text (take n (b ∷ bs)) ≡ false) → HasNoToken (b ∷ bs)
 no_operator b bs c is only none = bad_byte b bs empty_no_text never
   where

@@ -12,7 +12,7 @@ use Rattle.bz_token.proofs.Scanning.{marks}
 abbrev pub is_bracket_byte : ℕ → Bool
 is_bracket_byte b = is_opening_bracket b || is_closing_bracket b
 
--- a bracket is a operator of its own
+-- a bracket is an operator of its own
 abbrev stands_alone : List ℕ → Bool
 stands_alone [] = true
 stands_alone (b ∷ []) = true

@@ -195,7 +195,7 @@ deep_sort depth opened (b ∷ bs) bad =
     first : is_opening_bracket b ≡ true → is_bracket_byte b ≡ true
     first h = rw h refl
 
--- a bracket is a operator
+-- a bracket is an operator
 bracket_operator : (b : ℕ) → is_bracket_byte b ≡ true → is_operator_text (b ∷ []) ≡ true
 unfolding operators
 bracket_operator b h = grind (arith, nat_tests)

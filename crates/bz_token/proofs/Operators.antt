@@ -11,7 +11,7 @@ use Rattle.bz_token.specs.Ends.{stops_at}
 use Rattle.bz_token.proofs.Classes.{one_of}
 use Rattle.bz_token.proofs.Ends.{operator_steps}
 
--- each byte of a operator is ASCII, and neither 0 nor a newline
+-- each byte of an operator is ASCII, and neither 0 nor a newline
 abbrev pub is_operator_byte : ℕ → Bool
 is_operator_byte b = nat_lt 10 b && nat_lt b 128
 

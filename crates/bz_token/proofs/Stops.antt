@@ -58,7 +58,7 @@ token_ended Newline (b ∷ bs) after is end = subst (λ t. IsToken Newline t aft
 token_ended Comment (b ∷ bs) after is end = comment_token b bs after is end
 token_ended Kept (b ∷ bs) after is end = absurd (false≢true is)
 
--- bytes that stand second or later in a operator
+-- bytes that stand second or later in an operator
 abbrev pub is_later : ℕ → Bool
 is_later b = list_any (λ c. b == c) (codes "/*<>=")
 
@@ -78,7 +78,7 @@ operator_stops (a ∷ bs) b is later = elim (cases_Bool (is_operator_text ((a �
   | inl hit ↦ absurd (false≢true (sym later ∙ all_last is_later bs b (operator_later ((a ∷ bs) ++ b ∷ []) hit)))
 ]
 
--- a byte that is no letter, digit, underscore, quote nor a later byte of a operator stops every text but a comment's
+-- a byte that is no letter, digit, underscore, quote nor a later byte of an operator stops every text but a comment's
 pub plain_stops : (kind : Kind) (text : List ℕ) (b : ℕ) → is_text kind text ≡ true → is_comment_kind kind ≡ false → is_word_byte b ≡ false → is_quote b ≡ false → is_later b ≡ false → stops kind text b ≡ true
 plain_stops Identifier text b is comment word quoted later = rw (word, quoted) refl
 plain_stops Keyword text b is comment word quoted later = rw word refl

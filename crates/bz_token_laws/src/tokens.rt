@@ -47,7 +47,7 @@ pub fn pieces_may_be_joined()
 
 /// Which tokens may stand close: an opening bracket ends all texts but comments, and so does every byte that is no
 /// letter, digit, underscore or quote and stands second in no operator. Only operators begin with a byte that may lengthen
-/// a operator. Brackets, commas, semicolons, points, colons and tildes are lengthened by nothing.
+/// an operator. Brackets, commas, semicolons, points, colons and tildes are lengthened by nothing.
 pub fn tokens_may_stand_close()
     ensures opening { (kind : Kind) (text : List ℕ) (b : ℕ) → is_text kind text ≡ true → is_comment_kind kind ≡ false
         → list_any (λ c. b == c) (codes "([{") ≡ true → stops kind text b ≡ true }

@@ -55,7 +55,7 @@ fn word_role(text: &str) -> Role
     }
 }
 
-// What a operator of one byte is.
+// What an operator of one byte is.
 #[inline(always)]
 fn byte_role(byte: u8) -> Role
     ensures { result ≡ operator_role (byte ∷ []) }
@@ -73,7 +73,7 @@ fn byte_role(byte: u8) -> Role
     }
 }
 
-// What a operator of more bytes is.
+// What an operator of more bytes is.
 fn longer_role(text: &str) -> Role
     requires { 1 < length text.now }
     ensures { result ≡ operator_role text.now }
@@ -86,7 +86,7 @@ fn longer_role(text: &str) -> Role
     }
 }
 
-/// What a operator is.
+/// What an operator is.
 #[inline(always)]
 pub(crate) fn operator_role(text: &str) -> Role
     ensures { result ≡ operator_role text.now }

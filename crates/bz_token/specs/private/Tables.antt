@@ -11,7 +11,7 @@ use Rattle.bz_token.specs.Brackets.{is_opening_bracket, is_closing_bracket}
 abbrev pub is_prefix_letter : ℕ → Bool
 is_prefix_letter b = b == 114 || b == 98
 
--- a operator that is no bracket, and whole whatever follows it
+-- an operator that is no bracket, and whole whatever follows it
 abbrev pub is_point : ℕ → Bool
 is_point b = b == 126 || b == 46 || b == 44 || b == 59 || b == 58
 
@@ -43,7 +43,7 @@ is_quiet_class Open = false
 is_quiet_class Close = false
 is_quiet_class _ = true
 
--- nothing begins with the byte but a operator, if one does
+-- nothing begins with the byte but an operator, if one does
 abbrev pub IsMark : ℕ → Type 0
 IsMark b = (is_word_byte b ≡ false) × (is_quote b ≡ false) × ((b == 10) ≡ false) × ((b == 35) ≡ false) × ((b == 92) ≡ false)
 
@@ -51,6 +51,6 @@ IsMark b = (is_word_byte b ≡ false) × (is_quote b ≡ false) × ((b == 10) �
 abbrev pub IsSolid : ℕ → Type 0
 IsSolid b = (is_blank b ≡ false) × ((b == 10) ≡ false) × ((b == 92) ≡ false)
 
--- a operator that is whole, whatever follows it
+-- an operator that is whole, whatever follows it
 abbrev pub is_single : ℕ → Bool
 is_single b = is_opening_bracket b || is_closing_bracket b || is_point b
