@@ -38,12 +38,14 @@ pub(crate) struct Hollow<'a> {
     pub(crate) sound: bool,
 }
 
+#[inline(always)]
 fn is_end(part: Part<'_>) -> bool
     ensures { result ≡ is_end (part_view part.entry) }
 {
     matches!(part, Part::End)
 }
 
+#[inline(always)]
 fn is_equals(part: Part<'_>) -> bool
     ensures { result ≡ is_equals (part_view part.entry) }
 {
@@ -75,6 +77,7 @@ fn has_long_value(rest: &[Part<'_>]) -> bool
     }
 }
 
+#[inline(always)]
 fn inside_next<'a>(
     left: Option<Unread<'a>>,
     depth: usize,
@@ -101,6 +104,7 @@ fn inside_next<'a>(
 }
 
 // How many brackets are open after a part of a value, none where the part is not of the value.
+#[inline(always)]
 fn next_depth(depth: usize, part: &Part<'_>) -> Result<Option<usize>, AllocError>
     ensures { IfOk result (λ next. next ≡ next_depth depth (part_view part.now)) }
 {
@@ -160,6 +164,7 @@ fn has_value_of(unread: &[Unread<'_>], name: &str) -> bool
 
 impl<'a> Hollow<'a> {
     // The part stays, and the walk then stands there.
+    #[inline(always)]
     fn put(&mut self, part: Part<'a>, place: Place<'a>) -> Result<(), AllocError>
         ensures { OnOk result (walk self.new ≡ put (part_view part.entry) (spot place.entry) (walk self.old)) }
     {
@@ -226,6 +231,7 @@ impl<'a> Hollow<'a> {
         self.put(Part::End, Place::Begin)
     }
 
+    #[inline(always)]
     fn inside(
         &mut self,
         left: Option<Unread<'a>>,

@@ -1,6 +1,6 @@
 //! Places in a text, and what stands between its tokens.
 
-ghost use Rattle.std.specs.Prelude.{◌≡◌, ◌<◌, ◌+◌, ◌^◌, ◌==◌, slice_index, Bool, true, false, length, count_by, if◌then◌else◌, IfSome, IfNone};
+ghost use Rattle.std.specs.Prelude.{◌≡◌, ◌<◌, ◌≤◌, ◌+◌, ◌^◌, ◌==◌, slice_index, Bool, true, false, length, drop, count_by, if◌then◌else◌, IfSome, IfNone};
 ghost use Rattle.std.specs.List.{prefix_len};
 ghost use Rattle.bz_token.specs.Places.{column_from};
 ghost use Rattle.bz_token.specs.Lexical.{is_blank, begins};
@@ -87,6 +87,27 @@ fn blank_len(bytes: &[u8]) -> usize
     bytes.iter().take_while(|b| is_blank(**b)).count()
 }
 
+// Whether four spaces stand here.
+#[inline(always)]
+fn begins_indent(bytes: &[u8]) -> bool
+    ensures within { result ≡ true → 4 ≤ length bytes.now }
+    ensures blank { result ≡ true → prefix_len is_blank bytes.now ≡ 4 + prefix_len is_blank (drop 4 bytes.now) }
+{
+    matches!(bytes, [b' ', b' ', b' ', b' ', ..])
+}
+
+// The number of blanks here, most of them spaces by fours.
+#[inline(always)]
+fn indent_len(bytes: &[u8]) -> usize
+    ensures { result ≡ prefix_len is_blank bytes.now }
+{
+    let mut len = 0;
+    while begins_indent(&bytes[len..]) {
+        len += 4;
+    }
+    len + blank_len(&bytes[len..])
+}
+
 /// The blanks here.
 #[inline(always)]
 pub fn blanks(bytes: &[u8]) -> Gap
@@ -108,7 +129,7 @@ pub fn newline(bytes: &[u8]) -> Gap
     requires newline { slice_index bytes.now 0 ≡ 10 }
     ensures { IsGapHere true bytes.now result }
 {
-    let on_line = blank_len(&bytes[1..]);
+    let on_line = indent_len(&bytes[1..]);
     Gap {
         len: 1 + on_line,
         has_newline: true,

@@ -13,6 +13,9 @@ use std::alloc::{AllocError, Global};
 use std::borrow::CowStr;
 use std::mem;
 
+// Most rules have fewer arguments.
+const FIRST_ARGUMENTS: usize = 12;
+
 // What stands in a bracket, or at the top, so far.
 #[derive(Drop)]
 pub(crate) struct Inside<'a> {
@@ -44,13 +47,38 @@ fn is_last(following: Option<&Part<'_>>) -> bool {
     matches!(following, None | Some(Part::End | Part::Close(_)))
 }
 
-// What is alone takes no more room than it needs.
+// How many nodes a segment has, as far as these parts tell that stand after its first.
 #[inline(always)]
-fn reserve_nodes(nodes: &mut Vec<Node<'_>>, last: bool) -> Result<(), AllocError>
+fn nodes_with(following: &[Part<'_>]) -> usize {
+    if is_last(following.first()) {
+        1
+    } else if is_last(following.get(1)) {
+        2
+    } else if is_last(following.get(2)) {
+        3
+    } else {
+        4
+    }
+}
+
+// Short segments, as most are, take no more room than they need.
+#[inline(always)]
+fn reserve_nodes(nodes: &mut Vec<Node<'_>>, following: &[Part<'_>]) -> Result<(), AllocError>
     ensures { OnOk result (nodes.new.items ≡ nodes.old.items) }
 {
-    if last && nodes.is_empty() {
-        nodes.reserve_exact(1)?;
+    if nodes.is_empty() {
+        nodes.reserve_exact(nodes_with(following))?;
+    }
+    Ok(())
+}
+
+// Room for the segments of a bracket. A rule has some arguments, and may get one more.
+#[inline(always)]
+fn reserve_arguments(segs: &mut Vec<Seg<'_>>, kind: GroupKind) -> Result<(), AllocError>
+    ensures { OnOk result (segs.new.items ≡ segs.old.items) }
+{
+    if kind == GroupKind::RuleCall {
+        segs.reserve_exact(FIRST_ARGUMENTS)?;
     }
     Ok(())
 }
@@ -78,10 +106,10 @@ impl<'a> Inside<'a> {
     }
 
     #[inline(always)]
-    fn add_node(&mut self, node: Node<'a>, last: bool) -> Result<(), AllocError>
+    fn add_node(&mut self, node: Node<'a>, following: &[Part<'a>]) -> Result<(), AllocError>
         ensures { OnOk result (content self.new ≡ with_node (node_view node.entry) (content self.old)) }
     {
-        reserve_nodes(&mut self.nodes, last)?;
+        reserve_nodes(&mut self.nodes, following)?;
         self.nodes.push(node)?;
         Ok(())
     }
@@ -111,12 +139,14 @@ impl<'a> Nesting<'a> {
     fn open(&mut self, alloc: Global, kind: GroupKind) -> Result<(), AllocError>
         ensures { OnOk result (nest self.new ≡ opened kind (nest self.old)) }
     {
-        let inside = mem::replace(&mut self.here, Inside::new(alloc));
+        let mut inner = Inside::new(alloc);
+        reserve_arguments(&mut inner.segs, kind)?;
+        let inside = mem::replace(&mut self.here, inner);
         self.outer.push(Around { kind, inside })?;
         Ok(())
     }
 
-    fn close(&mut self, one_comma: bool, last: bool) -> Result<(), AllocError>
+    fn close(&mut self, one_comma: bool, following: &[Part<'a>]) -> Result<(), AllocError>
         ensures { OnOk result (nest self.new
             ≡ closed one_comma (content self.old.here) (outers self.old.outer.items)) }
     {
@@ -130,21 +160,27 @@ impl<'a> Nesting<'a> {
             one_comma,
             end: comments,
         };
-        self.here.add_node(Node::Group(group), last)
+        self.here.add_node(Node::Group(group), following)
     }
 
     #[inline(always)]
-    fn step(&mut self, alloc: Global, part: Part<'a>, last: bool) -> Result<(), AllocError>
+    fn step(
+        &mut self,
+        alloc: Global,
+        part: Part<'a>,
+        following: &[Part<'a>],
+    ) -> Result<(), AllocError>
         ensures { OnOk result (nest self.new ≡ step (part_view part.entry) (nest self.old)) }
     {
         match part {
             Part::Token(kind, text) => {
                 let text = CowStr::Borrowed(text);
-                self.here.add_node(Node::Token(Leaf { kind, text }), last)?;
+                self.here
+                    .add_node(Node::Token(Leaf { kind, text }), following)?;
             }
             Part::Open(kind) => self.open(alloc, kind)?,
-            Part::Close(one_comma) => self.close(one_comma, last)?,
-            Part::End => self.here.end_segment(alloc, last)?,
+            Part::Close(one_comma) => self.close(one_comma, following)?,
+            Part::End => self.here.end_segment(alloc, is_last(following.first()))?,
             Part::Above(text) => self.here.comments.push(CowStr::Borrowed(text))?,
             Part::Beside(text) => self.here.put_beside(text),
         }
@@ -161,7 +197,7 @@ fn read_parts<'a>(alloc: Global, parts: &[Part<'a>]) -> Result<Inside<'a>, Alloc
         outer: Vec::new(alloc),
     };
     for i in 0..parts.len() {
-        nesting.step(alloc, parts[i], is_last(parts.get(i + 1)))?;
+        nesting.step(alloc, parts[i], &parts[i + 1..])?;
     }
     let Nesting { here, .. } = nesting;
     Ok(here)

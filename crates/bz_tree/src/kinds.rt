@@ -48,8 +48,9 @@ pub(crate) fn mark_of(token: &Token<'_>) -> Mark
     }
 }
 
+/// What an operator, bracket or comma of this text is to the brackets.
 #[inline(always)]
-fn operator_mark(text: &str) -> Mark
+pub(crate) fn operator_mark(text: &str) -> Mark
     ensures { result ≡ operator_mark text.now }
 {
     let bytes = text.as_bytes();

@@ -8,14 +8,17 @@ ghost use Rattle.bz_tree.specs.Tree.{leaf, Statement};
 ghost use Rattle.bz_tree.specs.Statement.{is_load_word};
 ghost use Rattle.bz_tree.specs.Grammar.{leaf_role};
 ghost use Rattle.bz_tree.specs.Chunk.{IsStatementIn};
-ghost use Rattle.bz_tree.specs.Kinds.{group_kind};
+ghost use Rattle.bz_token.specs.declared.token.Kind.TheVariants.{Operator};
+ghost use Rattle.bz_tree.specs.Kinds.{group_kind, operator_mark};
 ghost use Rattle.bz_tree.specs.Rows.{IsRowOf, part_view};
 ghost use Rattle.bz_tree.specs.private.Machine.{may_end};
-ghost use Rattle.bz_tree.specs.private.RowSteps.{here_view, row_state, leaf_next, top_comma_next, comma_next, comment_part, after_comment_next, comment_next, open_next, last_end, close_next, row_next, row_view, row_run, row_start, is_stray, is_upright};
+ghost use Rattle.bz_tree.specs.private.RowSteps.{here_view, row_state, leaf_next, top_comma_next, comma_next, comment_part, after_comment_next, comment_next, open_next, last_end, close_next, row_next, row_next_at, row_view, row_run, row_start, is_stray, is_upright};
 
 use crate::block::is_block_word;
 use crate::class::is_load_at;
-use crate::kinds::{Mark, Shape, group_kind, is_for_at, is_one, mark_of, same_shape, shape_of};
+use crate::kinds::{
+    Mark, Shape, group_kind, is_for_at, is_one, operator_mark, same_shape, shape_of,
+};
 use crate::owners::ends_on;
 use crate::role::{Role, operator_role, token_role};
 use crate::row::{Part, Row};
@@ -63,20 +66,6 @@ impl<'a> RowWalk<'a> {
         self.top.read.add_leaf(kind, token.text, role);
         self.top.here = Here::Node(token.line, token.text);
         Ok(true)
-    }
-
-    // The kinds of most tokens are told apart once.
-    #[inline(always)]
-    fn add_leaf(&mut self, token: &Token<'a>) -> Result<bool, AllocError>
-        ensures { IfOk result
-            (λ some. then_some some (row_state self.new) ≡ leaf_next (placed token.now) (row_state self.old)) }
-    {
-        match token.kind {
-            Kind::Identifier => self.push_leaf(token, Kind::Identifier, Role::Name),
-            Kind::String => self.push_leaf(token, Kind::String, Role::Value),
-            Kind::Operator => self.push_leaf(token, Kind::Operator, operator_role(token.text)),
-            kind => self.push_leaf(token, kind, token_role(kind, token.text)),
-        }
     }
 
     // At the top a comma is a node.
@@ -222,17 +211,34 @@ impl<'a> RowWalk<'a> {
     }
 
     #[inline(always)]
-    fn step(&mut self, token: &Token<'a>) -> Result<bool, AllocError>
-        ensures { IfOk result
-            (λ some. then_some some (row_state self.new) ≡ row_next (placed token.now) (row_state self.old)) }
+    fn add_operator(&mut self, token: &Token<'a>) -> Result<bool, AllocError>
+        requires { token.now.kind ≡ Operator }
+        ensures { IfOk result (λ some. then_some some (row_state self.new)
+            ≡ row_next_at (operator_mark token.now.text.now) (placed token.now) (row_state self.old)) }
     {
-        match mark_of(token) {
+        match operator_mark(token.text) {
             Mark::Newline => Ok(true),
-            Mark::Plain => self.add_leaf(token),
+            Mark::Plain => { self.push_leaf(token, Kind::Operator, operator_role(token.text)) }
             Mark::Comma => self.add_comma(token),
             Mark::Comment => self.add_comment(token),
             Mark::Open(shape) => self.open(shape),
             Mark::Close(shape) => self.close(shape, token.line),
+        }
+    }
+
+    // The kinds are told apart once.
+    #[inline(always)]
+    fn step(&mut self, token: &Token<'a>) -> Result<bool, AllocError>
+        ensures { IfOk result
+            (λ some. then_some some (row_state self.new) ≡ row_next (placed token.now) (row_state self.old)) }
+    {
+        match token.kind {
+            Kind::Identifier => self.push_leaf(token, Kind::Identifier, Role::Name),
+            Kind::String => self.push_leaf(token, Kind::String, Role::Value),
+            Kind::Operator => self.add_operator(token),
+            Kind::Newline => Ok(true),
+            Kind::Comment => self.add_comment(token),
+            kind => self.push_leaf(token, kind, token_role(kind, token.text)),
         }
     }
 

@@ -7,9 +7,9 @@ use Rattle.bz_token.proofs.gap.newline.Goals as goal
 
 pub overflow_add-result : goal.overflow_add-result
 overflow_add-result c =
-    let counted = rw take_rest at c.blank_len-on_line.ensures in
+    let counted = rw take_rest at c.indent_len-on_line.ensures in
     let within = prefix_len-le-length is_blank (drop 1 c.args.bytes.now) in
     omega (arith, counted, within, length-drop 1 c.args.bytes.now)
 
 pub returns : goal.returns
-returns c = newline_here c.args.bytes.now _ c.requires.some c.requires.newline (rw take_rest at c.blank_len-on_line.ensures) refl refl
+returns c = newline_here c.args.bytes.now _ c.requires.some c.requires.newline (rw take_rest at c.indent_len-on_line.ensures) refl refl
