@@ -89,12 +89,12 @@ pub(crate) fn edit_chunk<'a>(
     Ok(edited)
 }
 
-/// The statement of a row. Where all commands print, the head of a rule may be all that they ask for.
+/// The statement of a row. A rule's row is kept where a command may be done by it alone.
 fn read_row<'a>(script: Script<'_>, row: &'a Row<'a>) -> Result<LazyStmt<'a>, AllocError>
     requires { (s : Statement) × ((s.class ≡ class_of s.nodes) × IsRowOf s row.now) }
     ensures { IfOk result (λ read. (s : Statement) → s.class ≡ class_of s.nodes → IsRowOf s row.now → lazy_view read ≡ s) }
 {
-    if script.passes.is_query() {
+    if script.passes.has_command_by_row() {
         return LazyStmt::of_row(script.alloc, row);
     }
     let read = ShallowStmt::of_row(script.alloc, row)?;

@@ -9,6 +9,7 @@ mod Delete
 mod Hollowed
 pub mod Kept
 pub mod Lawful
+mod LongerRows
 mod Move
 pub mod NamesKept
 pub mod PartLaws

@@ -1,3 +1,4 @@
 pub mod Hollow
+pub mod LongerRows
 pub mod NamedRows
 pub mod Woven

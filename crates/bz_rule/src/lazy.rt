@@ -1,6 +1,6 @@
 //! A statement of which no more is read than commands look at.
 
-ghost use Rattle.std.specs.Prelude.{◌≡◌, ◌++◌, IfOk, IfSome, OnOk, OnErr, string_bytes, option_map};
+ghost use Rattle.std.specs.Prelude.{◌≡◌, ◌++◌, IfOk, IfSome, IfNone, OnOk, OnErr, string_bytes, option_map};
 ghost use Rattle.bz_tree.specs.Tree.{Statement};
 ghost use Rattle.bz_tree.specs.View.{view};
 ghost use Rattle.bz_tree.specs.Statement.{class_of};
@@ -13,6 +13,7 @@ ghost use Rattle.bz_rule.specs.Applied as applied;
 ghost use Rattle.bz_rule.specs.ShallowViews.{shallow_view, shallow_slot};
 ghost use Rattle.bz_rule.specs.LazyViews.{lazy_view, lazy_slot};
 
+use crate::longer::LongerRow;
 use crate::named_row::NamedRow;
 use crate::shallow::{ShallowStmt, apply_shallow};
 use bz_attribute::done::Done;
@@ -24,8 +25,8 @@ use std::alloc::{AllocError, Global};
 /// A statement.
 #[derive(Drop)]
 pub enum LazyStmt<'a> {
-    /// A rule of which no command has looked at more than the head.
-    Row(NamedRow<'a>),
+    /// A rule of which no command has looked at more than the head, and which words its arguments have.
+    Row(LongerRow<'a>),
     Read(ShallowStmt<'a>),
 }
 
@@ -43,7 +44,7 @@ impl<'a> LazyStmt<'a> {
         ensures { IfOk result (λ read. (s : Statement) → s.class ≡ class_of s.nodes → IsRowOf s row.now → lazy_view read ≡ s) }
     {
         if let Some(named) = NamedRow::of_row(row) {
-            return Ok(LazyStmt::Row(named));
+            return Ok(LazyStmt::Row(LongerRow::new(alloc, named)));
         }
         let read = ShallowStmt::of_row(alloc, row)?;
         Ok(LazyStmt::Read(read))
@@ -125,6 +126,9 @@ pub fn apply_lazy(
     if let Some(done) = by_head(alloc, command, home, slot)? {
         return Ok(done);
     }
+    if let Some(done) = after_row(alloc, command, home, slot)? {
+        return Ok(done);
+    }
     let mut read = read_slot(alloc, slot.take())?;
     let done = apply_shallow(alloc, command, home, &mut read)?;
     *slot = read.map(LazyStmt::Read);
@@ -147,6 +151,25 @@ fn by_head(
         (Some(LazyStmt::Row(row)), Action::Print(fields)) => {
             row.print(alloc, home, fields.as_slice())
         }
+        _ => Ok(None),
+    }
+}
+
+// What a command does that adds arguments after those of a row. None: it may be another, and nothing was done.
+fn after_row(
+    alloc: Global,
+    command: &Command,
+    home: &Package,
+    slot: &mut Option<LazyStmt<'_>>,
+) -> Result<Option<Done>, AllocError>
+    ensures slot { IfOk result (λ told. IfSome told (λ done.
+        lazy_slot slot.new ≡ applied.after command.now home.now (lazy_slot slot.old))) }
+    ensures done { IfOk result (λ told. IfSome told (λ done.
+        done ≡ applied.done_of command.now home.now (lazy_slot slot.old))) }
+    ensures same { IfOk result (λ told. IfNone told (lazy_slot slot.new ≡ lazy_slot slot.old)) }
+{
+    match slot {
+        Some(LazyStmt::Row(row)) => row.set(alloc, command, home),
         _ => Ok(None),
     }
 }

@@ -5,6 +5,7 @@ mod fill;
 mod hollow;
 pub mod laws;
 pub mod lazy;
+pub mod longer;
 pub mod named_row;
 pub mod shallow;
 mod slot;
@@ -20,6 +21,7 @@ pub use bz_command::{
     same, value_is,
 };
 pub use lazy::{LazyStmt, apply_lazy};
+pub use longer::LongerRow;
 pub use named_row::NamedRow;
 pub use shallow::{ShallowStmt, apply_shallow};
 pub use slot::apply;

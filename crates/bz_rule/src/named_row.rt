@@ -3,7 +3,8 @@
 ghost use Rattle.std.specs.Prelude.{◌≡◌, ◌++◌, IfOk, IfSome, OnOk, OnErr, map, string_bytes, Some};
 ghost use Rattle.bz_tree.specs.Tree.{Statement};
 ghost use Rattle.bz_tree.specs.Statement.{class_of};
-ghost use Rattle.bz_tree.specs.Rows.{IsRowOf};
+ghost use Rattle.bz_tree.specs.View.{view};
+ghost use Rattle.bz_tree.specs.Rows.{IsRowOf, part_view, parts_of};
 ghost use Rattle.bz_command.specs.CommandViews.{field_view};
 ghost use Rattle.bz_command.specs.Labels.{Name};
 ghost use Rattle.bz_attribute.specs.Marks as marks;
@@ -13,6 +14,7 @@ ghost use Rattle.bz_attribute_commands.specs.Printing.{prints};
 ghost use Rattle.bz_layout.specs.Layout.{layout_text};
 ghost use Rattle.bz_rule.specs.RowViews.{row_statement};
 ghost use Rattle.bz_rule.specs.ShallowViews.{shallow_view};
+ghost use Rattle.bz_rule.specs.private.LongerRows.{HasName};
 
 use crate::shallow::ShallowStmt;
 use bz_attribute::done::Done;
@@ -21,7 +23,7 @@ use bz_attribute::marks::RuleName;
 use bz_attribute_commands::print_head::print_head;
 use bz_command::{Field, Package, Target};
 use bz_layout::put_row;
-use bz_tree::{Class, Row};
+use bz_tree::{Class, Part, Row, Stmt, stmt_of_parts};
 use std::alloc::{AllocError, Global};
 use std::marker::Model;
 
@@ -102,6 +104,15 @@ impl<'a> NamedRow<'a> {
         Ok(read)
     }
 
+    /// The rule as a tree.
+    pub(crate) fn tree(self, alloc: Global) -> Result<Stmt<'a>, AllocError>
+        ensures { IfOk result (λ stmt. view stmt ≡ row_statement self.entry) }
+    {
+        let row = self.row;
+        let stmt = stmt_of_parts(alloc, &row.parts, row.class, row.start, row.end)?;
+        Ok(stmt)
+    }
+
     /// Appends the canonical text of the rule, with its last newline. `Err`: memory was refused, and `out` is as it was.
     pub fn put(&self, alloc: Global, out: &mut Vec<u8>) -> Result<(), AllocError>
         ensures appended { OnOk result (out.new.items ≡ out.old.items ++ layout_text (row_statement self.now)) }
@@ -109,5 +120,13 @@ impl<'a> NamedRow<'a> {
     {
         put_row(alloc, self.row, out)?;
         Ok(())
+    }
+
+    // Its parts; it is a rule that has a name.
+    pub(crate) fn parts(&self) -> &[Part<'a>]
+        ensures parts { map part_view result.now ≡ parts_of (row_statement self.now) }
+        ensures named { HasName (row_statement self.now) }
+    {
+        &self.row.parts
     }
 }

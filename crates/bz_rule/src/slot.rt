@@ -122,7 +122,7 @@ fn in_call(
     }
 }
 
-fn in_args(
+pub(crate) fn in_args(
     alloc: Global,
     command: &Command,
     home: &Package,

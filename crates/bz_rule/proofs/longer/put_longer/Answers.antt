@@ -1,0 +1,8 @@
+use Rattle.std.proofs.Common.{◌∙◌}
+use Rattle.std.proofs.lemmas.List.{take_rest}
+use Rattle.bz_rule.proofs.LongerRows.{three_pieces}
+use Rattle.bz_rule.proofs.longer.put_longer.Goals as goal
+
+pub returns-clause-appended : goal.returns-clause-appended
+returns-clause-appended c = λ s parts class.
+    c.in_ok-put_pieces.ensures.appended s (rw take_rest (three_pieces c.args.parts.now c.args.added.now c.args_end-end.result c.args_end-end.ensures.end) ∙ parts) class
