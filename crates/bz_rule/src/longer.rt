@@ -199,7 +199,7 @@ impl<'a> LongerRow<'a> {
     pub fn is_marked_by(&self, target: &Target) -> bool
         ensures { result ≡ marks.marks target.now (longer_view self.now) }
     {
-        let _ = self.row.parts();
+        self.row.has_name();
         self.row.is_marked_by(target)
     }
 
@@ -207,7 +207,7 @@ impl<'a> LongerRow<'a> {
     pub fn rule_name(&self) -> RuleName<'_>
         ensures { marks.IsNamed (λ name. marks.marks (Name name) (longer_view self.now)) result }
     {
-        let _ = self.row.parts();
+        self.row.has_name();
         self.row.rule_name()
     }
 
@@ -215,7 +215,7 @@ impl<'a> LongerRow<'a> {
     pub fn shown(&self, alloc: Global, home: &Package) -> Result<String, AllocError>
         ensures { IfOk result (λ text. string_bytes text ≡ shown_text home.now (longer_view self.now)) }
     {
-        let _ = self.row.parts();
+        self.row.has_name();
         let text = self.row.shown(alloc, home)?;
         Ok(text)
     }

@@ -122,11 +122,17 @@ impl<'a> NamedRow<'a> {
         Ok(())
     }
 
-    // Its parts; it is a rule that has a name.
     pub(crate) fn parts(&self) -> &[Part<'a>]
         ensures parts { map part_view result.now ≡ parts_of (row_statement self.now) }
         ensures named { HasName (row_statement self.now) }
     {
         &self.row.parts
+    }
+
+    // What is true of each.
+    pub(crate) fn has_name(&self)
+        ensures { HasName (row_statement self.now) }
+    {
+        let _ = self.parts();
     }
 }

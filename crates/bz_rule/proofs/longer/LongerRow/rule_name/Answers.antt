@@ -12,4 +12,4 @@ pub returns : goal.returns
 returns c =
     let s = row_statement c.args.self.now.row in
     named_alike (λ name. marks (Name name) s) (λ name. marks (Name name) (longer_view c.args.self.now)) c.rule_name.result
-    (λ name. sym (marks_more (Name name) s (segs_view c.args.self.now.more.items) c.parts.ensures.named)) c.rule_name.ensures
+    (λ name. sym (marks_more (Name name) s (segs_view c.args.self.now.more.items) c.has_name.ensures)) c.rule_name.ensures

@@ -5,4 +5,4 @@ use Rattle.bz_rule.proofs.LongerRows.{shown_more}
 use Rattle.bz_rule.proofs.longer.LongerRow.shown.Goals as goal
 
 pub returns : goal.returns
-returns c = c.in_ok-text.ensures ∙ sym (shown_more c.args.home.now (row_statement c.args.self.now.row) (segs_view c.args.self.now.more.items) c.parts.ensures.named)
+returns c = c.in_ok-text.ensures ∙ sym (shown_more c.args.home.now (row_statement c.args.self.now.row) (segs_view c.args.self.now.more.items) c.has_name.ensures)
