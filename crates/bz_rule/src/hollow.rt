@@ -39,7 +39,7 @@ pub(crate) struct Hollow<'a> {
 }
 
 #[inline(always)]
-fn is_end(part: Part<'_>) -> bool
+pub(crate) fn is_end(part: Part<'_>) -> bool
     ensures { result ≡ is_end (part_view part.entry) }
 {
     matches!(part, Part::End)

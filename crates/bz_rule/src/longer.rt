@@ -18,9 +18,9 @@ ghost use Rattle.bz_rule.specs.Applied as applied;
 ghost use Rattle.bz_rule.specs.RowViews.{row_statement};
 ghost use Rattle.bz_rule.specs.ShallowViews.{shallow_view};
 ghost use Rattle.bz_rule.specs.LongerViews.{longer_view};
-ghost use Rattle.bz_rule.specs.private.Hollow.{is_end};
 ghost use Rattle.bz_rule.specs.private.LongerRows.{HasName, Lacks, adds_to, is_word, besides, args_end, with_added};
 
+use crate::hollow::is_end;
 use crate::named_row::NamedRow;
 use crate::shallow::ShallowStmt;
 use crate::slot::in_args;
@@ -66,13 +66,6 @@ fn has_word(name: &str, parts: &[Part<'_>]) -> bool
 }
 
 #[inline(always)]
-fn is_end(part: &Part<'_>) -> bool
-    ensures { result ≡ is_end (part_view part.now) }
-{
-    matches!(part, Part::End)
-}
-
-#[inline(always)]
 fn besides(parts: &[Part<'_>]) -> usize
     ensures { result ≡ besides (map part_view parts.now) }
 {
@@ -89,7 +82,7 @@ fn args_end(parts: &[Part<'_>]) -> usize
 {
     let mut at = parts.len();
     while at > 0 {
-        if is_end(&parts[at - 1]) {
+        if is_end(parts[at - 1]) {
             return at + besides(&parts[at..]);
         }
         at -= 1;
@@ -211,7 +204,7 @@ impl<'a> LongerRow<'a> {
         self.row.rule_name()
     }
 
-    /// The rule by its name.
+    /// The rule by its name. `Err`: memory was refused.
     pub fn shown(&self, alloc: Global, home: &Package) -> Result<String, AllocError>
         ensures { IfOk result (λ text. string_bytes text ≡ shown_text home.now (longer_view self.now)) }
     {
@@ -220,7 +213,7 @@ impl<'a> LongerRow<'a> {
         Ok(text)
     }
 
-    /// What is printed of the rule. None: it takes more than the head.
+    /// What is printed of the rule. None: it takes more than the head. `Err`: memory was refused.
     pub fn print(
         &self,
         alloc: Global,
@@ -246,7 +239,7 @@ impl<'a> LongerRow<'a> {
     }
 
     /// Applies a command that adds an attribute which the row has not, or changes one that was added. None: it may be
-    /// another command, and the rule is as it was.
+    /// another command, and the rule is as it was. `Err`: memory was refused, and the rule is as it was.
     pub fn set(
         &mut self,
         alloc: Global,
@@ -258,6 +251,7 @@ impl<'a> LongerRow<'a> {
         ensures done { IfOk result (λ told. IfSome told (λ done.
             done ≡ applied.done_of command.now home.now (Some (longer_view self.old)))) }
         ensures same { IfOk result (λ told. IfNone told (longer_view self.new ≡ longer_view self.old)) }
+        ensures err { OnErr result (longer_view self.new ≡ longer_view self.old) }
     {
         let Some(name) = added_attribute(command) else {
             return Ok(None);
@@ -269,7 +263,7 @@ impl<'a> LongerRow<'a> {
         Ok(Some(done))
     }
 
-    /// The rule as far as commands look at it.
+    /// The rule as far as commands look at it. `Err`: memory was refused.
     pub fn read(self, alloc: Global) -> Result<ShallowStmt<'a>, AllocError>
         ensures { IfOk result (λ read. shallow_view read ≡ longer_view self.entry) }
     {
