@@ -1,6 +1,6 @@
 mod TokenExamples
 pub mod Strings
-pub mod Plain
+pub mod Blocks
 pub mod PlainStrings
 pub mod Gaps
 pub mod Stack
@@ -54,5 +54,6 @@ pub mod ChunkForms
 pub mod BlockWords
 pub mod FirstLines
 pub mod LineEnds
+pub mod LineFronts
 pub mod LinesRead
 mod ChunkExamples

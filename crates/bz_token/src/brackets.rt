@@ -1,6 +1,6 @@
 //! The brackets that are open where a token stands.
 
-ghost use Rattle.std.specs.Prelude.{◌≡◌, ◌≤◌, ◌<◌, ◌+◌, ◌-◌, true, false, length, drop, map, IfSome, IfNone, OnOk, IfErr, [], ◌∷◌, Err, List};
+ghost use Rattle.std.specs.Prelude.{◌≡◌, ◌≤◌, ◌<◌, ◌+◌, ◌-◌, ◌||◌, true, false, length, drop, map, IfSome, IfNone, OnOk, IfErr, [], ◌∷◌, Err, List};
 ghost use Rattle.bz_token.specs.Places.{Placed, placed};
 ghost use Rattle.bz_token.specs.declared.brackets.Bracket.TheVariants.{Opening, Closing, Neither};
 ghost use Rattle.bz_token.specs.Brackets.{is_opening_bracket, is_closing_bracket, is_pair, is_inside, is_bracket, bracket_fits, closes_innermost, open_after_byte, open_tokens};
@@ -37,6 +37,13 @@ pub fn is_closing_bracket(b: u8) -> bool
     ensures { result ≡ is_closing_bracket b }
 {
     matches!(class_at(b), Class::Close)
+}
+
+#[inline(always)]
+pub fn is_bracket_byte(b: u8) -> bool
+    ensures { result ≡ (is_opening_bracket b || is_closing_bracket b) }
+{
+    is_opening_bracket(b) || is_closing_bracket(b)
 }
 
 #[inline(always)]

@@ -13,10 +13,10 @@ ghost use Rattle.bz_token.specs.private.Steps.{IsTaken, IsRefused};
 ghost use Rattle.bz_token.specs.private.LinesRead.{IsInLine, IsAfterLine};
 ghost use Rattle.bz_token.specs.private.Progress.{HasRead, Grows, PlacesFit};
 
-use crate::brackets::{Brackets, Misfit, innermost};
+use crate::brackets::{Brackets, Misfit, innermost, is_bracket_byte};
 use crate::fault::LexFault;
 use crate::gap::{Place, advance, after_gap};
-use crate::scan_token::{Bad, Step, step_at};
+use crate::scan_token::{Bad, Step, scan_bracket, step_at};
 use crate::token::{Kind, Token};
 use std::alloc::{AllocError, Global};
 
@@ -71,7 +71,7 @@ fn misfit_fault(misfit: Misfit, place: Place) -> LexFault
     }
 }
 
-// What stands here; the first byte of a token is taken among the open brackets.
+// What stands here; a bracket is taken among the open ones.
 #[inline(always)]
 fn read_step(
     brackets: &mut Brackets,
@@ -83,13 +83,15 @@ fn read_step(
     ensures step { IfOk result (IsTaken max_depth (opened brackets.old) (opened brackets.new) bytes.now) }
     ensures fault { IfErr result (IsRefused max_depth (opened brackets.old) bytes.now place.line place.col) }
 {
-    match step_at(brackets.is_inside(), bytes) {
-        Ok(Step::Gap(gap)) => Ok(Step::Gap(gap)),
-        Ok(Step::Token(scanned)) => match brackets.take(bytes[0], max_depth) {
-            Ok(()) => Ok(Step::Token(scanned)),
-            Err(misfit) => Err(misfit_fault(misfit, place)),
-        },
-        Err(bad) => Err(bad_fault(bad, place)),
+    if !is_bracket_byte(bytes[0]) {
+        return match step_at(brackets.is_inside(), bytes) {
+            Ok(step) => Ok(step),
+            Err(bad) => Err(bad_fault(bad, place)),
+        };
+    }
+    match brackets.take(bytes[0], max_depth) {
+        Ok(()) => Ok(Step::Token(scan_bracket(bytes))),
+        Err(misfit) => Err(misfit_fault(misfit, place)),
     }
 }
 

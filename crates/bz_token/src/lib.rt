@@ -9,6 +9,7 @@ mod gap;
 mod identifier;
 pub mod laws;
 mod lexer;
+mod plain;
 mod reader;
 mod scan;
 mod scan_string;

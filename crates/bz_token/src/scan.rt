@@ -8,6 +8,7 @@ ghost use Rattle.bz_token.specs.Ends.{stops_at};
 ghost use Rattle.bz_token.specs.Lexical.{operators, keywords, begins, is_blank, is_word_byte, is_octal_digit, are_based, is_number, is_keyword, is_one_of, is_operator_text, is_comment, is_newline};
 
 use crate::table::is_word_byte;
+use memchr::memchr;
 
 #[inline(always)]
 pub fn is_blank(b: u8) -> bool
@@ -131,7 +132,10 @@ fn operator_of(a: u8, b: u8, c: u8) -> usize
 pub fn line_len(bytes: &[u8]) -> usize
     ensures { result ≡ prefix_len (λ b. not (is_newline b)) bytes.now }
 {
-    bytes.iter().take_while(|b| **b != b'\n').count()
+    match memchr(b'\n', bytes) {
+        Some(len) => len,
+        None => bytes.len(),
+    }
 }
 
 /// The length without trailing white space, at least 1.

@@ -5,10 +5,9 @@ ghost use Rattle.std.specs.List.{list_any, prefix_len};
 ghost use Rattle.bz_token.specs.Pieces.{is_quote};
 ghost use Rattle.bz_token.specs.Lexical.{is_newline, closing_row, prefix_letters, are_two, opening};
 ghost use Rattle.bz_token.specs.private.Closing.{is_escaped, escape_after, closes};
-ghost use Rattle.bz_token.specs.private.Scans.{is_plain};
 ghost use Rattle.bz_token.specs.declared.scan_string.Escape.TheVariants.{Unescaped};
 
-use memchr::memchr3;
+use crate::plain::plain_len;
 
 /// What stands before a byte of a string: nothing that escapes it, a backslash, or a backslash and a carriage return.
 #[derive(Clone, Copy)]
@@ -129,17 +128,6 @@ pub fn quoted_at(bytes: &[u8]) -> Opening
         long: are_two(byte, &bytes[1..]),
     };
     Opening { prefix: 0, quotes }
-}
-
-// How many bytes here neither end a short string with this quote nor escape the next byte.
-#[inline(always)]
-fn plain_len(quote: u8, bytes: &[u8]) -> usize
-    ensures { result ≡ prefix_len (is_plain quote) bytes.now }
-{
-    match memchr3(quote, b'\n', b'\\', bytes) {
-        Some(len) => len,
-        None => bytes.len(),
-    }
 }
 
 /// What stands after these opening quotes, up to the closing ones, if there are any.

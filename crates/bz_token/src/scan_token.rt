@@ -1,8 +1,10 @@
 //! The token at a place.
 
-ghost use Rattle.std.specs.Prelude.{◌≡◌, ◌<◌, ◌≤◌, ◌==◌, ℕ, Bool, List, Some, None, true, false, length, slice_index, IfOk, IfErr};
+ghost use Rattle.std.specs.Prelude.{◌≡◌, ◌<◌, ◌≤◌, ◌==◌, ◌||◌, ℕ, Bool, List, Some, None, true, false, length, slice_index, IfOk, IfErr};
 ghost use Rattle.std.specs.Char.{is_ascii_digit};
 ghost use Rattle.bz_token.specs.Lexical.{begins, opening, is_word_byte};
+ghost use Rattle.bz_token.specs.Brackets.{is_opening_bracket, is_closing_bracket};
+ghost use Rattle.bz_token.specs.Reading.{begins_gap};
 ghost use Rattle.bz_token.specs.private.Scans.{IsScanned, IsBadPlace};
 ghost use Rattle.bz_token.specs.private.Steps.{IsStep, IsTokenStep, IsBadStep};
 ghost use Rattle.bz_token.specs.private.Tables.{is_single, IsMark};
@@ -138,6 +140,17 @@ fn scan_single(bytes: &[u8]) -> Scanned
     ensures { IsScanned bytes.now result }
 {
     on_one_line(Kind::Operator, 1)
+}
+
+/// The bracket here.
+#[inline(always)]
+pub fn scan_bracket(bytes: &[u8]) -> Scanned
+    requires some { 0 < length bytes.now }
+    requires bracket { (is_opening_bracket (slice_index bytes.now 0) || is_closing_bracket (slice_index bytes.now 0)) ≡ true }
+    ensures token { IsScanned bytes.now result }
+    ensures solid { (inside : Bool) → begins_gap inside bytes.now ≡ false }
+{
+    scan_single(bytes)
 }
 
 // The newline here: a token, or white space inside brackets.

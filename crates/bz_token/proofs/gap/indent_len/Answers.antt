@@ -1,4 +1,4 @@
-use Rattle.std.proofs.Common.{refl, drop, ◌∙◌, ap, ◌+◌, length, arith, length-drop}
+use Rattle.std.proofs.Common.{refl, drop, ap, arith, length-drop}
 use Rattle.std.specs.List.{prefix_len}
 use Rattle.std.proofs.lemmas.List.{take_rest, drop-drop}
 use Rattle.std.proofs.lemmas.List.Sums.{prefix_len-le-length}
