@@ -4,6 +4,7 @@ ghost use Rattle.std.specs.Prelude.{◌≡◌, [], ◌∷◌, ◌++◌, List, On
 
 use std::alloc::{AllocError, AllocFailed, Global};
 use std::marker::Model;
+use std::mem;
 
 /// Entries of a log, in the order in which they were told.
 #[derive(Drop)]
@@ -34,10 +35,14 @@ impl<M> Log<M> {
         self.entries.push(entry)
     }
 
-    /// Moves the entries of another log to the end.
+    /// Moves the entries of another log to the end. To an empty log it takes no memory.
     pub fn append(&mut self, other: &mut Log<M>) -> Result<(), AllocError>
         ensures { OnOk result (self.new ≡ self.old ++ other.old) }
     {
+        if self.entries.is_empty() {
+            mem::swap(&mut self.entries, &mut other.entries);
+            return Ok(());
+        }
         self.entries.append(&mut other.entries)
     }
 
