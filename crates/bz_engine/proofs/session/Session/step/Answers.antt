@@ -7,11 +7,12 @@ use Rattle.bz_engine.specs.declared.session.Stage.TheVariants.{Going, Stopped}
 use Rattle.bz_devices.specs.Device.{joined}
 use Rattle.bz_devices.specs.Ahead.{IsTooLong}
 use Rattle.bz_engine.specs.SessionValue.{HasDone, IsLeftByFault, HasEnded}
-use Rattle.bz_devices.proofs.PassedOn.{not_passed_on}
+use Rattle.bz_devices.proofs.PassedOn.{passed_on, not_passed_on}
 use Rattle.bz_engine.proofs.Faults.{refused_on, not_refused}
 use Rattle.bz_engine.proofs.Runs.{ok_is_no_err}
 use Rattle.bz_engine.proofs.Advances.{restaged, left_before, on_err, which_end, more_is_no_end, end_is_not_more, ok_same}
 use Rattle.bz_engine.proofs.Kept.{session_stopped, session_at, ready_with, ok_on_err}
+use Rattle.bz_engine.proofs.Stages.{going_not_ended, going_not_stopped, ended_not_stopped, stage_is, stopped_alone}
 use Rattle.bz_engine.proofs.session.Session.step.Goals as goal
 use Rattle.bz_engine.proofs.session.Session.step.Goals.{in-Going-stage, in_default}
 
@@ -171,3 +172,219 @@ returns-in-Stopped-clause-steady g c = (λ _. refl, λ _. refl)
 
 pub returns-in-Ended-clause-steady : goal.returns-in-Ended-clause-steady
 returns-in-Ended-clause-steady g c = (λ _. refl, λ _. refl)
+
+pub returns-in-Stopped-clause-same : goal.returns-in-Stopped-clause-same
+returns-in-Stopped-clause-same g c = record { home = refl; passes = refl; options = refl }
+
+pub returns-in-Stopped-clause-stopped : goal.returns-in-Stopped-clause-stopped
+returns-in-Stopped-clause-stopped g c before = (refl, refl, refl)
+
+pub returns-in-Stopped-clause-ended : goal.returns-in-Stopped-clause-ended
+returns-in-Stopped-clause-ended g c end before = ended_not_stopped _ end before (stage_is _ _ _ c.self.view_is c.in-Stopped.is)
+
+pub returns-in-Stopped-clause-more : goal.returns-in-Stopped-clause-more
+returns-in-Stopped-clause-more g c told = absurd (ok_is_no_err _ _ _ told refl)
+
+pub returns-in-Stopped-clause-end : goal.returns-in-Stopped-clause-end
+returns-in-Stopped-clause-end g c told before = absurd (ok_is_no_err _ _ _ told refl)
+
+pub returns-in-Stopped-clause-too_long : goal.returns-in-Stopped-clause-too_long
+returns-in-Stopped-clause-too_long g c told = stopped_alone _ InputTooLong refl refl told
+
+pub returns-in-Stopped-clause-uncertain : goal.returns-in-Stopped-clause-uncertain
+returns-in-Stopped-clause-uncertain g c told = stopped_alone _ InputTooLong refl refl told
+
+pub returns-in-Stopped-clause-statement_too_long : goal.returns-in-Stopped-clause-statement_too_long
+returns-in-Stopped-clause-statement_too_long g c line told = stopped_alone _ (StatementTooLong line) refl refl told
+
+pub returns-in-Stopped-clause-refused : goal.returns-in-Stopped-clause-refused
+returns-in-Stopped-clause-refused g c going = going_not_stopped _ going (stage_is _ _ _ c.self.view_is c.in-Stopped.is)
+
+pub returns-in-Stopped-clause-front : goal.returns-in-Stopped-clause-front
+returns-in-Stopped-clause-front g c going = going_not_stopped _ going (stage_is _ _ _ c.self.view_is c.in-Stopped.is)
+
+pub returns-in-Stopped-clause-bound : goal.returns-in-Stopped-clause-bound
+returns-in-Stopped-clause-bound g c going = going_not_stopped _ going (stage_is _ _ _ c.self.view_is c.in-Stopped.is)
+
+pub returns-in-Stopped-clause-runs : goal.returns-in-Stopped-clause-runs
+returns-in-Stopped-clause-runs g c going = going_not_stopped _ going (stage_is _ _ _ c.self.view_is c.in-Stopped.is)
+
+pub returns-in-Stopped-clause-unwritten : goal.returns-in-Stopped-clause-unwritten
+returns-in-Stopped-clause-unwritten g c other = refl
+
+pub returns-in-Stopped-clause-read_failed : goal.returns-in-Stopped-clause-read_failed
+returns-in-Stopped-clause-read_failed g c told = stopped_alone _ ReadFailed refl refl told
+
+pub returns-in-Stopped-clause-write_failed : goal.returns-in-Stopped-clause-write_failed
+returns-in-Stopped-clause-write_failed g c told = stopped_alone _ WriteFailed refl refl told
+
+pub returns-in-Stopped-clause-stops : goal.returns-in-Stopped-clause-stops
+returns-in-Stopped-clause-stops g c = stage_is _ _ _ c.self.view_is c.in-Stopped.is
+
+pub returns-in-Ended-clause-same : goal.returns-in-Ended-clause-same
+returns-in-Ended-clause-same g c = record { home = refl; passes = refl; options = refl }
+
+pub returns-in-Ended-clause-stopped : goal.returns-in-Ended-clause-stopped
+returns-in-Ended-clause-stopped g c before = ended_not_stopped _ _ (stage_is _ _ _ c.self.view_is c.in-Ended.is) before
+
+pub returns-in-Ended-clause-ended : goal.returns-in-Ended-clause-ended
+returns-in-Ended-clause-ended g c end before = (refl, refl, refl, refl)
+
+pub returns-in-Ended-clause-more : goal.returns-in-Ended-clause-more
+returns-in-Ended-clause-more g c told = more_is_no_end _ told refl
+
+pub returns-in-Ended-clause-end : goal.returns-in-Ended-clause-end
+returns-in-Ended-clause-end g c told going = going_not_ended _ _ going (stage_is _ _ _ c.self.view_is c.in-Ended.is)
+
+pub returns-in-Ended-clause-too_long : goal.returns-in-Ended-clause-too_long
+returns-in-Ended-clause-too_long g c told = absurd (ok_is_no_err _ _ InputTooLong refl told)
+
+pub returns-in-Ended-clause-uncertain : goal.returns-in-Ended-clause-uncertain
+returns-in-Ended-clause-uncertain g c told = absurd (ok_is_no_err _ _ InputTooLong refl told)
+
+pub returns-in-Ended-clause-read_failed : goal.returns-in-Ended-clause-read_failed
+returns-in-Ended-clause-read_failed g c told = absurd (ok_is_no_err _ _ ReadFailed refl told)
+
+pub returns-in-Ended-clause-write_failed : goal.returns-in-Ended-clause-write_failed
+returns-in-Ended-clause-write_failed g c told = absurd (ok_is_no_err _ _ WriteFailed refl told)
+
+pub returns-in-Ended-clause-statement_too_long : goal.returns-in-Ended-clause-statement_too_long
+returns-in-Ended-clause-statement_too_long g c line told = absurd (ok_is_no_err _ _ (StatementTooLong line) refl told)
+
+pub returns-in-Ended-clause-refused : goal.returns-in-Ended-clause-refused
+returns-in-Ended-clause-refused g c going = going_not_ended _ _ going (stage_is _ _ _ c.self.view_is c.in-Ended.is)
+
+pub returns-in-Ended-clause-bound : goal.returns-in-Ended-clause-bound
+returns-in-Ended-clause-bound g c going = going_not_ended _ _ going (stage_is _ _ _ c.self.view_is c.in-Ended.is)
+
+pub returns-in-Ended-clause-runs : goal.returns-in-Ended-clause-runs
+returns-in-Ended-clause-runs g c going = going_not_ended _ _ going (stage_is _ _ _ c.self.view_is c.in-Ended.is)
+
+pub returns-in-Ended-clause-front : goal.returns-in-Ended-clause-front
+returns-in-Ended-clause-front g c = tt
+
+pub returns-in-Ended-clause-unwritten : goal.returns-in-Ended-clause-unwritten
+returns-in-Ended-clause-unwritten g c = tt
+
+pub returns-in-Ended-clause-stops : goal.returns-in-Ended-clause-stops
+returns-in-Ended-clause-stops g c = tt
+
+pub returns-in_err-self-inside-clause-devices : goal.returns-in_err-self-inside-clause-devices
+returns-in_err-self-inside-clause-devices g c = c.advance.ensures.devices
+
+pub returns-in_err-self-inside-clause-same : goal.returns-in_err-self-inside-clause-same
+returns-in_err-self-inside-clause-same g c =
+    let adv = c.advance.ensures.same in
+    record {
+      home = adv.home ∙ ap (λ v. v.home) c.self.view_is;
+      passes = adv.passes ∙ ap (λ v. v.passes) c.self.view_is;
+      options = adv.options ∙ ap (λ v. v.options) c.self.view_is;
+    }
+
+pub returns-in_err-self-inside-clause-ended : goal.returns-in_err-self-inside-clause-ended
+returns-in_err-self-inside-clause-ended g c end before = going_not_ended _ end (stage_is _ _ _ c.self.view_is c.in-Going.is) before
+
+pub returns-in_err-self-inside-clause-stopped : goal.returns-in_err-self-inside-clause-stopped
+returns-in_err-self-inside-clause-stopped g c before = going_not_stopped _ (stage_is _ _ _ c.self.view_is c.in-Going.is) before
+
+pub returns-in_err-self-inside-clause-end : goal.returns-in_err-self-inside-clause-end
+returns-in_err-self-inside-clause-end g c told going =
+    let fault = c.from_residual in
+    let p = err_from_is_err_and fault.result fault.ensures.1 in
+    absurd (ok_is_no_err fault.result _ p.0 told p.1)
+
+pub returns-in_err-self-inside-clause-more : goal.returns-in_err-self-inside-clause-more
+returns-in_err-self-inside-clause-more g c told =
+    let fault = c.from_residual in
+    let p = err_from_is_err_and fault.result fault.ensures.1 in
+    absurd (ok_is_no_err fault.result _ p.0 told p.1)
+
+pub returns-in_err-self-inside-clause-read_failed : goal.returns-in_err-self-inside-clause-read_failed
+returns-in_err-self-inside-clause-read_failed g c told =
+    let fault = c.from_residual in
+    let p = err_from_is_err_and fault.result fault.ensures.1 in
+    c.advance.ensures.read_failed (c.in_err-self-inside.was ∙ passed_on fault.result p.0 c.in_err-self-inside.field-0.0 ReadFailed p.1 p.2 told)
+
+pub returns-in_err-self-inside-clause-write_failed : goal.returns-in_err-self-inside-clause-write_failed
+returns-in_err-self-inside-clause-write_failed g c told =
+    let fault = c.from_residual in
+    let p = err_from_is_err_and fault.result fault.ensures.1 in
+    c.advance.ensures.write_failed (c.in_err-self-inside.was ∙ passed_on fault.result p.0 c.in_err-self-inside.field-0.0 WriteFailed p.1 p.2 told)
+
+pub returns-in_err-self-inside-clause-runs : goal.returns-in_err-self-inside-clause-runs
+returns-in_err-self-inside-clause-runs g c going told =
+    let fault = c.from_residual in
+    let p = err_from_is_err_and fault.result fault.ensures.1 in
+    c.advance.ensures.runs.0 (c.in_err-self-inside.was ∙ passed_on fault.result p.0 c.in_err-self-inside.field-0.0 _ p.1 p.2 told)
+
+pub returns-in_err-self-inside-clause-uncertain : goal.returns-in_err-self-inside-clause-uncertain
+returns-in_err-self-inside-clause-uncertain g c told =
+    let fault = c.from_residual in
+    let p = err_from_is_err_and fault.result fault.ensures.1 in
+    c.advance.ensures.uncertain (c.in_err-self-inside.was ∙ passed_on fault.result p.0 c.in_err-self-inside.field-0.0 InputTooLong p.1 p.2 told)
+
+pub returns-in_err-self-inside-clause-statement_too_long : goal.returns-in_err-self-inside-clause-statement_too_long
+returns-in_err-self-inside-clause-statement_too_long g c line told =
+    let fault = c.from_residual in
+    let p = err_from_is_err_and fault.result fault.ensures.1 in
+    let there = c.advance.ensures.statement_too_long line (c.in_err-self-inside.was ∙ passed_on fault.result p.0 c.in_err-self-inside.field-0.0 (StatementTooLong line) p.1 p.2 told) in
+    (there.0 ∙ ap (λ v. v.progress.line) c.self.view_is, there.1)
+
+pub returns-in_err-self-inside-clause-stops : goal.returns-in_err-self-inside-clause-stops
+returns-in_err-self-inside-clause-stops g c = on_err _ c.advance.ensures.stage
+
+pub returns-in_err-self-inside-clause-unwritten : goal.returns-in_err-self-inside-clause-unwritten
+returns-in_err-self-inside-clause-unwritten g c =
+    let fault = c.from_residual in
+    let p = err_from_is_err_and fault.result fault.ensures.1 in
+    let kept : fault.result ≢ Err WriteFailed → c.advance.new.sink ≡ c.args.sink.now = λ other. c.in_err-self-inside.ensures.unwritten (not_passed_on fault.result p.0 c.in_err-self-inside.field-0.0 WriteFailed p.1 p.2 other) in
+    on_err _ kept
+
+pub returns-clause-devices : goal.returns-clause-devices
+returns-clause-devices g c = c.advance.ensures.devices
+
+pub returns-clause-same : goal.returns-clause-same
+returns-clause-same g c =
+    let adv = c.advance.ensures.same in
+    record {
+      home = ap (λ v. v.home) c.self-2.view_is ∙ adv.home ∙ ap (λ v. v.home) c.self.view_is;
+      passes = ap (λ v. v.passes) c.self-2.view_is ∙ adv.passes ∙ ap (λ v. v.passes) c.self.view_is;
+      options = ap (λ v. v.options) c.self-2.view_is ∙ adv.options ∙ ap (λ v. v.options) c.self.view_is;
+    }
+
+pub returns-clause-ended : goal.returns-clause-ended
+returns-clause-ended g c end before = going_not_ended _ end (stage_is _ _ _ c.self.view_is c.in-Going.is) before
+
+pub returns-clause-stopped : goal.returns-clause-stopped
+returns-clause-stopped g c before = going_not_stopped _ (stage_is _ _ _ c.self.view_is c.in-Going.is) before
+
+pub returns-clause-runs : goal.returns-clause-runs
+returns-clause-runs g c going told =
+    elim c.match-self-2.branch [
+      | in-Going-stage w ↦ ok_is_no_err c.match-self-2.result _ _ w.result-is told
+      | in_default w ↦ ok_is_no_err c.match-self-2.result _ _ w.result-is told
+    ]
+
+pub returns-clause-uncertain : goal.returns-clause-uncertain
+returns-clause-uncertain g c told =
+    elim c.match-self-2.branch [
+      | in-Going-stage w ↦ absurd (ok_is_no_err c.match-self-2.result _ InputTooLong w.result-is told)
+      | in_default w ↦ absurd (ok_is_no_err c.match-self-2.result _ InputTooLong w.result-is told)
+    ]
+
+pub returns-clause-write_failed : goal.returns-clause-write_failed
+returns-clause-write_failed g c told =
+    elim c.match-self-2.branch [
+      | in-Going-stage w ↦ absurd (ok_is_no_err c.match-self-2.result _ WriteFailed w.result-is told)
+      | in_default w ↦ absurd (ok_is_no_err c.match-self-2.result _ WriteFailed w.result-is told)
+    ]
+
+pub returns-clause-stops : goal.returns-clause-stops
+returns-clause-stops g c =
+    elim c.match-self-2.branch [
+      | in-Going-stage w ↦ ok_on_err _ c.match-self-2.result _ w.result-is
+      | in_default w ↦ ok_on_err _ c.match-self-2.result _ w.result-is
+    ]
+
+pub advance-requires-clause-stopped : goal.advance-requires-clause-stopped
+advance-requires-clause-stopped g c = refl
