@@ -1,6 +1,6 @@
 -- Stages and answers that differ.
-use Rattle.std.proofs.Common.{◌≡◌, Bool, true, false, sym, ◌∙◌, ap}
-use Rattle.std.specs.Prelude.{Result, Err}
+use Rattle.std.proofs.Common.{◌≡◌, Bool, true, false, sym, ◌∙◌, ap, subst}
+use Rattle.std.specs.Prelude.{Result, Err, OnOk}
 use Rattle.std.proofs.lemmas.Bool.{false≢true}
 use Rattle.bz_devices.proofs.PassedOn.{err_is}
 use Rattle.bz_engine.specs.declared.report.End.{End}
@@ -8,7 +8,9 @@ use Rattle.bz_engine.specs.declared.run_fault.RunFault.{RunFault}
 use Rattle.bz_engine.specs.declared.run_fault.RunFault.TheVariants as fault
 use Rattle.bz_engine.specs.declared.session.Stage.{Stage}
 use Rattle.bz_engine.specs.declared.session.Stage.TheVariants.{Going, Ended, Stopped}
-use Rattle.bz_engine.specs.SessionValue.{SessionValue}
+use Rattle.bz_devices.specs.Ahead.{Ahead}
+use Rattle.bz_engine.specs.Progress.{Progress}
+use Rattle.bz_engine.specs.SessionValue.{SessionValue, IsSameRun}
 
 abbrev is_going : Stage → Bool
 is_going Going = true
@@ -43,3 +45,32 @@ is_stop fault.Stopped = true
 -- a session that was stopped tells no other fault
 pub stopped_alone : {T X : Type 0} (r : Result T RunFault) (e : RunFault) → is_stop e ≡ false → r ≡ Err fault.Stopped → r ≡ Err e → X
 stopped_alone r e other stopped told = absurd (false≢true (sym other ∙ ap is_stop (sym (err_is fault.Stopped e (sym stopped ∙ told)))))
+
+abbrev is_write : RunFault → Bool
+is_write fault.OutOfMemory = false
+is_write fault.ReadFailed = false
+is_write fault.WriteFailed = true
+is_write fault.InputTooLong = false
+is_write (fault.StatementTooLong line) = false
+is_write fault.Stopped = false
+
+-- nor a write that failed
+pub unwritten_alone : {T X : Type 0} (r : Result T RunFault) (e : RunFault) → is_write e ≡ false → r ≡ Err fault.WriteFailed → r ≡ Err e → X
+unwritten_alone r e other failed told = absurd (false≢true (sym other ∙ ap is_write (sym (err_is fault.WriteFailed e (sym failed ∙ told)))))
+
+-- a fault is no answer
+pub err_on_ok : {T E : Type 0} (P : Type 0) (r : Result T E) (e : E) → r ≡ Err e → OnOk r P
+err_on_ok P r e is = subst (λ s. OnOk s P) (sym is) tt
+
+-- the next chunk was read, or done
+pub same_run : (u v w : SessionValue) (ahead : Ahead) (progress : Progress) → v ≡ u
+    → (let after : SessionValue = record v { ahead = ahead; progress = progress } in w ≡ after) → IsSameRun u w
+same_run u v w ahead progress same is = record {
+  home = ap (λ x. x.home) is ∙ ap (λ x. x.home) same;
+  passes = ap (λ x. x.passes) is ∙ ap (λ x. x.passes) same;
+  options = ap (λ x. x.options) is ∙ ap (λ x. x.options) same;
+}
+
+pub same_stage : (u v w : SessionValue) (ahead : Ahead) (progress : Progress) → v ≡ u
+    → (let after : SessionValue = record v { ahead = ahead; progress = progress } in w ≡ after) → w.stage ≡ u.stage
+same_stage u v w ahead progress same is = ap (λ x. x.stage) is ∙ ap (λ x. x.stage) same

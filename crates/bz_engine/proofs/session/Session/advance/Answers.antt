@@ -1,21 +1,23 @@
-use Rattle.std.proofs.Common.{◌≡◌, ℕ, List, [], ◌∷◌, ◌++◌, ◌∙◌, ap, sym, subst, length, take, ◌≤◌, refl}
+use Rattle.std.proofs.Common.{◌≡◌, ◌≢◌, ℕ, List, [], ◌∷◌, ◌++◌, ◌∙◌, ap, sym, subst, length, take, ◌≤◌, refl}
 use Rattle.std.specs.Prelude.{IsErrAnd, IsTrue, Ok, Err}
 use Rattle.std.proofs.lemmas.Result.{err_from_is_err_and}
 use Rattle.bz_engine.specs.declared.run_fault.RunFault.{RunFault}
-use Rattle.bz_engine.specs.declared.run_fault.RunFault.TheVariants.{InputTooLong, ReadFailed, Stopped, WriteFailed}
+use Rattle.bz_engine.specs.declared.run_fault.RunFault.TheVariants.{InputTooLong, StatementTooLong, ReadFailed, Stopped, WriteFailed}
 use Rattle.bz_engine.specs.declared.report.End.TheVariants.{Whole, Syntax, FirstFailure}
 use Rattle.bz_engine.specs.declared.session.Stage.TheVariants.{Ended}
 use Rattle.bz_devices.specs.Ahead.{IsTooLong}
 use Rattle.bz_engine.specs.Progress.{Progress}
 use Rattle.bz_engine.specs.private.NextChunks.{IsNextEdited}
-use Rattle.bz_engine.specs.SessionValue.{SessionValue, IsReady, HasDone, IsLeftByFault, HasEnded}
-use Rattle.bz_devices.proofs.PassedOn.{passed_on, not_passed_on}
+use Rattle.bz_engine.specs.SessionValue.{SessionValue, IsSameRun, IsReady, HasDone, IsLeftByFault, HasEnded}
+use Rattle.bz_devices.proofs.PassedOn.{err_is, passed_on, not_passed_on}
 use Rattle.bz_engine.proofs.Faults.{refused_as}
 use Rattle.bz_devices.proofs.ChunkAhead.{next_fits, nothing_fits}
 use Rattle.bz_engine.proofs.Sessions.{too_long_there, reads_within, read_within}
-use Rattle.bz_engine.proofs.Advances.{chunk_done, chunk_faulty, chunk_failed, left_by_write, on_err, goes_not_on, has_not_ended, same_end, some_of, none_of, take_some, take_few, whole_end}
+use Rattle.bz_engine.proofs.Advances.{chunk_done, chunk_faulty, chunk_failed, left_by_write, left_by_read, on_err, ok_same, goes_not_on, has_not_ended, same_end, some_of, none_of, take_some, take_few, whole_end}
 use Rattle.bz_engine.proofs.Kept.{ready_next, session_failed}
 use Rattle.bz_engine.proofs.Runs.{ok_is_no_err}
+use Rattle.bz_passes.specs.Exchange.{Fits}
+use Rattle.bz_engine.proofs.Stages.{going_not_stopped, ended_not_stopped, unwritten_alone, err_on_ok, same_run, same_stage}
 use Rattle.bz_engine.proofs.session.Session.advance.Goals as goal
 use Rattle.bz_engine.proofs.session.Session.advance.Goals.{in-Done+in_ok-write-in-Done, in-Faulty, in-Failed}
 
@@ -236,3 +238,269 @@ returns-clause-steady g c = (
     | in-Failed w ↦ ap g.W.Sink.failures w.sink-is
   ],
 )
+
+pub returns-in_err-len-clause-devices : goal.returns-in_err-len-clause-devices
+returns-in_err-len-clause-devices g c =
+    let read = c.edit_next.ensures.read in
+    (read.0, [], read.1, g.met.W.Sink.took_nothing _)
+
+pub returns-in_err-len-clause-end : goal.returns-in_err-len-clause-end
+returns-in_err-len-clause-end g c end ended =
+    let fault = c.from_residual in
+    let p = err_from_is_err_and fault.result fault.ensures.1 in
+    absurd (ok_is_no_err fault.result _ p.0 ended p.1)
+
+pub returns-in_err-len-clause-more : goal.returns-in_err-len-clause-more
+returns-in_err-len-clause-more g c going =
+    let fault = c.from_residual in
+    let p = err_from_is_err_and fault.result fault.ensures.1 in
+    absurd (ok_is_no_err fault.result _ p.0 going p.1)
+
+pub returns-in_err-len-clause-fits : goal.returns-in_err-len-clause-fits
+returns-in_err-len-clause-fits g c =
+    let fault = c.from_residual in
+    let p = err_from_is_err_and fault.result fault.ensures.1 in
+    err_on_ok _ fault.result p.0 p.1
+
+pub returns-in_err-len-clause-front : goal.returns-in_err-len-clause-front
+returns-in_err-len-clause-front g c =
+    let read = c.edit_next.ensures.read in
+    let Gave : List (List ℕ) → Type 0 = λ r. g.S.Source.gave c.args.source.now r c.edit_next.new.source in
+    let Took : List ℕ → Type 0 = λ s. g.W.Sink.took c.args.sink.now s c.args.sink.now in
+    on_err _ (subst (λ v. IsLeftByFault Gave Took v c.edit_next.new.self) c.take_text-text.ensures.same
+    (left_by_read Gave Took _ c.edit_next.new.self c.edit_next.new.self.ahead read.0 read.1 (g.met.W.Sink.took_nothing _) read.2 refl))
+
+pub returns-in_err-len-clause-read_failed : goal.returns-in_err-len-clause-read_failed
+returns-in_err-len-clause-read_failed g c told =
+    let fault = c.from_residual in
+    let p = err_from_is_err_and fault.result fault.ensures.1 in
+    c.edit_next.ensures.failed (c.in_err-len.was ∙ passed_on fault.result p.0 c.in_err-len.field-0.0 ReadFailed p.1 p.2 told)
+
+pub returns-in_err-len-clause-write_failed : goal.returns-in_err-len-clause-write_failed
+returns-in_err-len-clause-write_failed g c told =
+    let fault = c.from_residual in
+    let p = err_from_is_err_and fault.result fault.ensures.1 in
+    absurd (c.edit_next.ensures.runs.1 (c.in_err-len.was ∙ passed_on fault.result p.0 c.in_err-len.field-0.0 WriteFailed p.1 p.2 told))
+
+pub returns-in_err-len-clause-runs : goal.returns-in_err-len-clause-runs
+returns-in_err-len-clause-runs g c =
+    let fault = c.from_residual in
+    let p = err_from_is_err_and fault.result fault.ensures.1 in
+    (λ told. c.edit_next.ensures.runs.0 (c.in_err-len.was ∙ passed_on fault.result p.0 c.in_err-len.field-0.0 Stopped p.1 p.2 told), λ ok. ok_is_no_err fault.result _ p.0 ok p.1)
+
+pub returns-in_err-len-clause-same : goal.returns-in_err-len-clause-same
+returns-in_err-len-clause-same g c = same_run _ c.take_text-text.new.self c.edit_next.new.self c.edit_next.new.self.ahead c.edit_next.new.self.progress c.take_text-text.ensures.same c.edit_next.ensures.same
+
+pub returns-in_err-len-clause-stage : goal.returns-in_err-len-clause-stage
+returns-in_err-len-clause-stage g c = same_stage _ c.take_text-text.new.self c.edit_next.new.self c.edit_next.new.self.ahead c.edit_next.new.self.progress c.take_text-text.ensures.same c.edit_next.ensures.same
+
+pub returns-in_err-len-clause-statement_too_long : goal.returns-in_err-len-clause-statement_too_long
+returns-in_err-len-clause-statement_too_long g c line told =
+    let fault = c.from_residual in
+    let p = err_from_is_err_and fault.result fault.ensures.1 in
+    let there = c.edit_next.ensures.statement_too_long line (c.in_err-len.was ∙ passed_on fault.result p.0 c.in_err-len.field-0.0 (StatementTooLong line) p.1 p.2 told) in
+    (there.0 ∙ ap (λ v. v.progress.line) c.take_text-text.ensures.same, subst (λ v. IsTooLong v.options.max_statement c.edit_next.new.self.ahead) (sym c.edit_next.ensures.same) there.1)
+
+pub returns-in_err-len-clause-unwritten : goal.returns-in_err-len-clause-unwritten
+returns-in_err-len-clause-unwritten g c =
+    let same : c.from_residual.result ≢ Err WriteFailed → c.args.sink.now ≡ c.args.sink.now = λ other. refl in
+    on_err _ same
+
+pub returns-in_err-write-in-Done-clause-devices : goal.returns-in_err-write-in-Done-clause-devices
+returns-in_err-write-in-Done-clause-devices g c =
+    let read = c.edit_next.ensures.read in
+    let shown = c.write.ensures.devices in
+    (read.0, shown.0, read.1, shown.1)
+
+pub returns-in_err-write-in-Done-clause-end : goal.returns-in_err-write-in-Done-clause-end
+returns-in_err-write-in-Done-clause-end g c end ended =
+    let fault = c.from_residual-in_err-write-in-Done in
+    let p = err_from_is_err_and fault.result fault.ensures.1 in
+    absurd (ok_is_no_err fault.result _ p.0 ended p.1)
+
+pub returns-in_err-write-in-Done-clause-more : goal.returns-in_err-write-in-Done-clause-more
+returns-in_err-write-in-Done-clause-more g c going =
+    let fault = c.from_residual-in_err-write-in-Done in
+    let p = err_from_is_err_and fault.result fault.ensures.1 in
+    absurd (ok_is_no_err fault.result _ p.0 going p.1)
+
+pub returns-in_err-write-in-Done-clause-fits : goal.returns-in_err-write-in-Done-clause-fits
+returns-in_err-write-in-Done-clause-fits g c =
+    let fault = c.from_residual-in_err-write-in-Done in
+    let p = err_from_is_err_and fault.result fault.ensures.1 in
+    err_on_ok _ fault.result p.0 p.1
+
+pub returns-in_err-write-in-Done-clause-read_failed : goal.returns-in_err-write-in-Done-clause-read_failed
+returns-in_err-write-in-Done-clause-read_failed g c told =
+    let fault = c.from_residual-in_err-write-in-Done in
+    let p = err_from_is_err_and fault.result fault.ensures.1 in
+    let is : fault.result ≡ Err WriteFailed = p.1 ∙ ap Err (p.2 ∙ err_is c.in_err-write-in-Done.field-0.0 WriteFailed c.in_err-write-in-Done.ensures.fault) in
+    unwritten_alone fault.result ReadFailed refl is told
+
+pub returns-in_err-write-in-Done-clause-too_long : goal.returns-in_err-write-in-Done-clause-too_long
+returns-in_err-write-in-Done-clause-too_long g c told =
+    let fault = c.from_residual-in_err-write-in-Done in
+    let p = err_from_is_err_and fault.result fault.ensures.1 in
+    let is : fault.result ≡ Err WriteFailed = p.1 ∙ ap Err (p.2 ∙ err_is c.in_err-write-in-Done.field-0.0 WriteFailed c.in_err-write-in-Done.ensures.fault) in
+    unwritten_alone fault.result InputTooLong refl is told
+
+pub returns-in_err-write-in-Done-clause-uncertain : goal.returns-in_err-write-in-Done-clause-uncertain
+returns-in_err-write-in-Done-clause-uncertain g c told =
+    let fault = c.from_residual-in_err-write-in-Done in
+    let p = err_from_is_err_and fault.result fault.ensures.1 in
+    let is : fault.result ≡ Err WriteFailed = p.1 ∙ ap Err (p.2 ∙ err_is c.in_err-write-in-Done.field-0.0 WriteFailed c.in_err-write-in-Done.ensures.fault) in
+    unwritten_alone fault.result InputTooLong refl is told
+
+pub returns-in_err-write-in-Done-clause-statement_too_long : goal.returns-in_err-write-in-Done-clause-statement_too_long
+returns-in_err-write-in-Done-clause-statement_too_long g c line told =
+    let fault = c.from_residual-in_err-write-in-Done in
+    let p = err_from_is_err_and fault.result fault.ensures.1 in
+    let is : fault.result ≡ Err WriteFailed = p.1 ∙ ap Err (p.2 ∙ err_is c.in_err-write-in-Done.field-0.0 WriteFailed c.in_err-write-in-Done.ensures.fault) in
+    unwritten_alone fault.result (StatementTooLong line) refl is told
+
+pub returns-in_err-write-in-Done-clause-runs : goal.returns-in_err-write-in-Done-clause-runs
+returns-in_err-write-in-Done-clause-runs g c =
+    let fault = c.from_residual-in_err-write-in-Done in
+    let p = err_from_is_err_and fault.result fault.ensures.1 in
+    let is : fault.result ≡ Err WriteFailed = p.1 ∙ ap Err (p.2 ∙ err_is c.in_err-write-in-Done.field-0.0 WriteFailed c.in_err-write-in-Done.ensures.fault) in
+    (λ told. unwritten_alone fault.result Stopped refl is told, λ ok. ok_is_no_err fault.result _ p.0 ok p.1)
+
+pub returns-in_err-write-in-Done-clause-same : goal.returns-in_err-write-in-Done-clause-same
+returns-in_err-write-in-Done-clause-same g c = same_run _ c.take_text-text.new.self c.write.new.self c.edit_next.new.self.ahead c.edit_next.new.self.progress c.take_text-text.ensures.same (c.in_err-write-in-Done.ensures.same ∙ c.edit_next.ensures.same)
+
+pub returns-in_err-write-in-Done-clause-stage : goal.returns-in_err-write-in-Done-clause-stage
+returns-in_err-write-in-Done-clause-stage g c = same_stage _ c.take_text-text.new.self c.write.new.self c.edit_next.new.self.ahead c.edit_next.new.self.progress c.take_text-text.ensures.same (c.in_err-write-in-Done.ensures.same ∙ c.edit_next.ensures.same)
+
+pub returns-in_err-write-in-Done-clause-steady : goal.returns-in_err-write-in-Done-clause-steady
+returns-in_err-write-in-Done-clause-steady g c =
+    let fault = c.from_residual-in_err-write-in-Done in
+    let p = err_from_is_err_and fault.result fault.ensures.1 in
+    let is : fault.result ≡ Err WriteFailed = p.1 ∙ ap Err (p.2 ∙ err_is c.in_err-write-in-Done.field-0.0 WriteFailed c.in_err-write-in-Done.ensures.fault) in
+    (λ _. c.edit_next.ensures.steady (λ h. ok_is_no_err _ _ ReadFailed c.in_ok-len.was h), λ other. absurd (other is))
+
+pub returns-in_err-write-in-Done-clause-unwritten : goal.returns-in_err-write-in-Done-clause-unwritten
+returns-in_err-write-in-Done-clause-unwritten g c =
+    let fault = c.from_residual-in_err-write-in-Done in
+    let p = err_from_is_err_and fault.result fault.ensures.1 in
+    let is : fault.result ≡ Err WriteFailed = p.1 ∙ ap Err (p.2 ∙ err_is c.in_err-write-in-Done.field-0.0 WriteFailed c.in_err-write-in-Done.ensures.fault) in
+    let same : fault.result ≢ Err WriteFailed → c.write.new.sink ≡ c.args.sink.now = λ other. absurd (other is) in
+    on_err _ same
+
+pub returns-in_err-write-in-Done-clause-write_failed : goal.returns-in_err-write-in-Done-clause-write_failed
+returns-in_err-write-in-Done-clause-write_failed g c told = c.in_err-write-in-Done.ensures.failed
+
+pub returns-in_default-clause-devices : goal.returns-in_default-clause-devices
+returns-in_default-clause-devices g c =
+    let read = c.edit_next.ensures.read in
+    (read.0, [], read.1, g.met.W.Sink.took_nothing _)
+
+pub returns-in_default-clause-fits : goal.returns-in_default-clause-fits
+returns-in_default-clause-fits g c = c.in_ok-len.ensures.fits
+
+pub returns-in_default-clause-front : goal.returns-in_default-clause-front
+returns-in_default-clause-front g c = tt
+
+pub returns-in_default-clause-unwritten : goal.returns-in_default-clause-unwritten
+returns-in_default-clause-unwritten g c = tt
+
+pub returns-clause-front : goal.returns-clause-front
+returns-clause-front g c = tt
+
+pub returns-clause-unwritten : goal.returns-clause-unwritten
+returns-clause-unwritten g c = tt
+
+pub returns-in_default-clause-more : goal.returns-in_default-clause-more
+returns-in_default-clause-more g c going = goes_not_on (Ended Whole) Whole going refl
+
+pub returns-in_default-clause-too_long : goal.returns-in_default-clause-too_long
+returns-in_default-clause-too_long g c told = absurd (ok_is_no_err _ _ InputTooLong refl told)
+
+pub returns-in_default-clause-uncertain : goal.returns-in_default-clause-uncertain
+returns-in_default-clause-uncertain g c told = absurd (ok_is_no_err _ _ InputTooLong refl told)
+
+pub returns-in_default-clause-read_failed : goal.returns-in_default-clause-read_failed
+returns-in_default-clause-read_failed g c told = absurd (ok_is_no_err _ _ ReadFailed refl told)
+
+pub returns-in_default-clause-write_failed : goal.returns-in_default-clause-write_failed
+returns-in_default-clause-write_failed g c told = absurd (ok_is_no_err _ _ WriteFailed refl told)
+
+pub returns-in_default-clause-statement_too_long : goal.returns-in_default-clause-statement_too_long
+returns-in_default-clause-statement_too_long g c line told = absurd (ok_is_no_err _ _ (StatementTooLong line) refl told)
+
+pub returns-clause-too_long : goal.returns-clause-too_long
+returns-clause-too_long g c told = absurd (ok_is_no_err _ _ InputTooLong refl told)
+
+pub returns-clause-uncertain : goal.returns-clause-uncertain
+returns-clause-uncertain g c told = absurd (ok_is_no_err _ _ InputTooLong refl told)
+
+pub returns-clause-read_failed : goal.returns-clause-read_failed
+returns-clause-read_failed g c told = absurd (ok_is_no_err _ _ ReadFailed refl told)
+
+pub returns-clause-write_failed : goal.returns-clause-write_failed
+returns-clause-write_failed g c told = absurd (ok_is_no_err _ _ WriteFailed refl told)
+
+pub returns-clause-statement_too_long : goal.returns-clause-statement_too_long
+returns-clause-statement_too_long g c line told = absurd (ok_is_no_err _ _ (StatementTooLong line) refl told)
+
+pub returns-in_default-clause-runs : goal.returns-in_default-clause-runs
+returns-in_default-clause-runs g c = (λ told. ok_is_no_err _ _ _ refl told, λ ok. ended_not_stopped (Ended Whole) Whole refl (ok_same _ _ _ refl ok))
+
+pub returns-in_default-clause-same : goal.returns-in_default-clause-same
+returns-in_default-clause-same g c = same_run _ c.take_text-text.new.self c.edit_next.new.self c.edit_next.new.self.ahead c.edit_next.new.self.progress c.take_text-text.ensures.same c.edit_next.ensures.same
+
+pub returns-in_default-clause-stage : goal.returns-in_default-clause-stage
+returns-in_default-clause-stage g c = same_stage _ c.take_text-text.new.self c.edit_next.new.self c.edit_next.new.self.ahead c.edit_next.new.self.progress c.take_text-text.ensures.same c.edit_next.ensures.same
+
+pub returns-in_default-clause-steady : goal.returns-in_default-clause-steady
+returns-in_default-clause-steady g c = (λ _. c.edit_next.ensures.steady (λ h. ok_is_no_err _ _ ReadFailed c.in_ok-len.was h), λ _. refl)
+
+pub returns-clause-runs : goal.returns-clause-runs
+returns-clause-runs g c = (
+  λ told. ok_is_no_err _ _ _ refl told,
+  λ ok. elim c.match-edited.branch [
+    | in-Done+in_ok-write-in-Done w ↦ going_not_stopped c.match-edited.stage w.stage-is (ok_same _ _ _ refl ok)
+    | in-Faulty w ↦ ended_not_stopped c.match-edited.stage _ w.stage-is (ok_same _ _ _ refl ok)
+    | in-Failed w ↦ ended_not_stopped c.match-edited.stage _ w.stage-is (ok_same _ _ _ refl ok)
+  ],
+)
+
+pub returns-clause-fits : goal.returns-clause-fits
+returns-clause-fits g c =
+    elim c.match-edited.branch [
+      | in-Done+in_ok-write-in-Done w ↦ subst (λ x. Fits x.progress.kept x.passes) (sym (c.self-2.view_is ∙ w.self-is ∙ w.in_ok-write-in-Done.ensures.taken)) c.in_ok-len.ensures.fits
+      | in-Faulty w ↦ subst (λ x. Fits x.progress.kept x.passes) (sym (c.self-2.view_is ∙ w.self-is)) c.in_ok-len.ensures.fits
+      | in-Failed w ↦
+          let fails : SessionValue → SessionValue = λ x. record x { failure = w.in-Failed.message } in
+          subst (λ x. Fits x.progress.kept x.passes) (sym (c.self-2.view_is ∙ w.self-is ∙ ap fails w.self.view_is)) c.in_ok-len.ensures.fits
+    ]
+
+pub returns-clause-same : goal.returns-clause-same
+returns-clause-same g c =
+    let same : IsSameRun c.args.self.now c.edit_next.new.self = same_run _ c.take_text-text.new.self c.edit_next.new.self c.edit_next.new.self.ahead c.edit_next.new.self.progress c.take_text-text.ensures.same c.edit_next.ensures.same in
+    elim c.match-edited.branch [
+      | in-Done+in_ok-write-in-Done w ↦ subst (λ x. IsSameRun c.args.self.now x) (sym (c.self-2.view_is ∙ w.self-is ∙ w.in_ok-write-in-Done.ensures.taken)) (record { home = same.home; passes = same.passes; options = same.options })
+      | in-Faulty w ↦ subst (λ x. IsSameRun c.args.self.now x) (sym (c.self-2.view_is ∙ w.self-is)) same
+      | in-Failed w ↦
+          let fails : SessionValue → SessionValue = λ x. record x { failure = w.in-Failed.message } in
+          subst (λ x. IsSameRun c.args.self.now x) (sym (c.self-2.view_is ∙ w.self-is ∙ ap fails w.self.view_is)) (record { home = same.home; passes = same.passes; options = same.options })
+    ]
+
+pub returns-clause-stage : goal.returns-clause-stage
+returns-clause-stage g c =
+    let same : c.edit_next.new.self.stage ≡ c.args.self.now.stage = same_stage _ c.take_text-text.new.self c.edit_next.new.self c.edit_next.new.self.ahead c.edit_next.new.self.progress c.take_text-text.ensures.same c.edit_next.ensures.same in
+    elim c.match-edited.branch [
+      | in-Done+in_ok-write-in-Done w ↦ subst (λ x. x.stage ≡ c.args.self.now.stage) (sym (c.self-2.view_is ∙ w.self-is ∙ w.in_ok-write-in-Done.ensures.taken)) same
+      | in-Faulty w ↦ subst (λ x. x.stage ≡ c.args.self.now.stage) (sym (c.self-2.view_is ∙ w.self-is)) same
+      | in-Failed w ↦
+          let fails : SessionValue → SessionValue = λ x. record x { failure = w.in-Failed.message } in
+          subst (λ x. x.stage ≡ c.args.self.now.stage) (sym (c.self-2.view_is ∙ w.self-is ∙ ap fails w.self.view_is)) same
+    ]
+
+pub edit_next-requires-clause-ready : goal.edit_next-requires-clause-ready
+edit_next-requires-clause-ready g c = subst IsReady (sym c.take_text-text.ensures.same) c.requires.ready
+
+pub edit_next-requires-clause-stopped : goal.edit_next-requires-clause-stopped
+edit_next-requires-clause-stopped g c = ap (λ x. x.stage) c.take_text-text.ensures.same ∙ c.requires.stopped
+
+pub write-requires-clause-stopped : goal.write-requires-clause-stopped
+write-requires-clause-stopped g c = same_stage _ c.take_text-text.new.self c.edit_next.new.self c.edit_next.new.self.ahead c.edit_next.new.self.progress c.take_text-text.ensures.same c.edit_next.ensures.same ∙ c.requires.stopped
