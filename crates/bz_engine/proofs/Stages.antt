@@ -1,6 +1,6 @@
 -- Stages and answers that differ.
-use Rattle.std.proofs.Common.{◌≡◌, Bool, true, false, sym, ◌∙◌, ap, subst}
-use Rattle.std.specs.Prelude.{Result, Err, OnOk}
+use Rattle.std.proofs.Common.{◌≡◌, ℕ, ◌+◌, ◌≤◌, Bool, true, false, length, arith, sym, ◌∙◌, ap, subst}
+use Rattle.std.specs.Prelude.{Result, Err, OnOk, IfOk}
 use Rattle.std.proofs.lemmas.Bool.{false≢true}
 use Rattle.bz_devices.proofs.PassedOn.{err_is}
 use Rattle.bz_engine.specs.declared.report.End.{End}
@@ -74,3 +74,40 @@ same_run u v w ahead progress same is = record {
 pub same_stage : (u v w : SessionValue) (ahead : Ahead) (progress : Progress) → v ≡ u
     → (let after : SessionValue = record v { ahead = ahead; progress = progress } in w ≡ after) → w.stage ≡ u.stage
 same_stage u v w ahead progress same is = ap (λ x. x.stage) is ∙ ap (λ x. x.stage) same
+
+pub err_if_ok : {T E : Type 0} (P : T → Type 0) (r : Result T E) (e : E) → r ≡ Err e → IfOk r P
+err_if_ok P r e is = subst (λ s. IfOk s P) (sym is) tt
+
+-- nothing was read
+pub with_ahead : (v w : SessionValue) → (let after : SessionValue = record v { progress = w.progress } in w ≡ after)
+    → (let both : SessionValue = record v { ahead = w.ahead; progress = w.progress } in w ≡ both)
+with_ahead v w is =
+    let at : Ahead → SessionValue = λ a. record v { ahead = a; progress = w.progress } in
+    is ∙ ap at (sym (ap (λ x. x.ahead) is))
+
+pub few_ahead : (v w : SessionValue) → (let after : SessionValue = record v { progress = w.progress } in w ≡ after) → length v.ahead.bytes ≤ 8192
+    → length w.ahead.bytes ≤ v.options.max_statement + 8192
+few_ahead v w is few =
+    let most : ℕ = v.options.max_statement in
+    subst (λ a. length a.bytes ≤ most + 8192) (sym (ap (λ x. x.ahead) is)) (more (length v.ahead.bytes) most few)
+  where
+    more : (n most : ℕ) → n ≤ 8192 → n ≤ most + 8192
+    more n most h = omega arith
+
+-- more was read
+pub with_more : (v e i : SessionValue) (mid : Ahead) → i ≡ e → (let after : SessionValue = record v { progress = e.progress } in e ≡ after)
+    → (let read : SessionValue = record i { ahead = mid } in let both : SessionValue = record v { ahead = mid; progress = i.progress } in read ≡ both)
+with_more v e i mid same is =
+    let reads : SessionValue → SessionValue = λ x. record x { ahead = mid } in
+    let at : Progress → SessionValue = λ p. record v { ahead = mid; progress = p } in
+    ap reads (same ∙ is) ∙ ap at (sym (ap (λ x. x.progress) same))
+
+-- and a chunk done
+pub with_edit : (v i w : SessionValue) (mid : Ahead) (progress : Progress)
+    → (let both : SessionValue = record v { ahead = mid; progress = progress } in i ≡ both)
+    → (let after : SessionValue = record i { progress = w.progress } in w ≡ after)
+    → (let both : SessionValue = record v { ahead = w.ahead; progress = w.progress } in w ≡ both)
+with_edit v i w mid progress read is =
+    let edits : SessionValue → SessionValue = λ x. record x { progress = w.progress } in
+    let at : Ahead → SessionValue = λ a. record v { ahead = a; progress = w.progress } in
+    is ∙ ap edits read ∙ ap at (sym (ap (λ x. x.ahead) (is ∙ ap edits read)))
