@@ -1,4 +1,4 @@
-use Rattle.std.proofs.Common.{◌≡◌, ◌≤◌, ◌+◌, length, refl, ◌∙◌, [], ap, sym, subst}
+use Rattle.std.proofs.Common.{◌≡◌, ◌≤◌, ◌<◌, ◌+◌, ◌^◌, length, refl, ◌∙◌, [], ap, sym, subst}
 use Rattle.std.specs.Prelude.{Err, IsTrue}
 use Rattle.std.proofs.lemmas.Result.{err_from_is_err_and}
 use Rattle.bz_engine.specs.declared.run_fault.RunFault.TheVariants.{OutOfMemory, ReadFailed, WriteFailed, InputTooLong, StatementTooLong, Stopped}
@@ -7,6 +7,7 @@ use Rattle.bz_engine.specs.contracts.session.Session.{the_view}
 use Rattle.bz_devices.proofs.PassedOn.{passed_on, not_passed_on}
 use Rattle.bz_engine.proofs.Advances.{on_err, some_of, none_of}
 use Rattle.bz_engine.proofs.Faults.{memory_alone}
+use Rattle.bz_engine.proofs.Kept.{lines_fit, session_ahead}
 use Rattle.bz_engine.proofs.Runs.{ok_is_no_err}
 use Rattle.bz_engine.proofs.Stages.{err_on_ok, err_if_ok, with_ahead, few_ahead, with_more, with_edit}
 use Rattle.bz_engine.specs.private.NextChunks.{IsNextEdited}
@@ -362,3 +363,25 @@ pub returns-clause-same : goal.returns-clause-same
 returns-clause-same g c = with_edit c.args.self.now _ c.edit.new.self c.find_chunk.new.ahead _
     (with_more c.args.self.now c.edit_first.new.self _ c.find_chunk.new.ahead (ap the_view c.self-inside.view_is ∙ c.self.view_is) c.edit_first.ensures.same)
     c.edit.ensures.same
+
+pub edit-requires-clause-fits : goal.edit-requires-clause-fits
+edit-requires-clause-fits g c = subst (λ v. Fits v.progress.kept v.passes) (sym (ap the_view c.self-inside.view_is ∙ c.self.view_is)) c.in_ok-next.ensures.fits
+
+pub edit-requires-clause-stopped : goal.edit-requires-clause-stopped
+edit-requires-clause-stopped g c = ap (λ v. v.stage) (ap the_view c.self-inside.view_is ∙ c.self.view_is ∙ c.edit_first.ensures.same) ∙ c.requires.stopped
+
+pub edit-requires-clause-lines : goal.edit-requires-clause-lines
+edit-requires-clause-lines g c =
+    let there = ap the_view c.self-inside.view_is ∙ c.self.view_is in
+    let same = there ∙ c.edit_first.ensures.same in
+    let none = none_of ((c.edit_first.new.self.progress ≡ c.args.self.now.progress) × (c.edit_first.new.text.items ≡ c.args.text.now.items)) _ c.in_ok-next.ensures.none c.in_default.is in
+    let read = c.find_chunk.ensures.read in
+    let next = some_of _ _ c.in-Some-2.len c.in_ok-len.ensures.chunk c.in-Some-2.is in
+    let limit = subst (λ v. v.options.max_reads ≤ 2 ^ 50) (c.self.view_is ∙ c.edit_first.ensures.same) c.self.invariant.limit in
+    let small = lines_fit c.args.self.now c.find_chunk.new.ahead c.in-Some-2.len read.0 c.requires.ready (subst (λ v. IsReadOn v.options.max_reads v.ahead c.find_chunk.new.ahead read.0) same read.2) limit next.within in
+    subst (λ n. n + c.in-Some-2.len < 2 ^ 64) (sym (ap (λ v. v.progress.line) there ∙ ap (λ p. p.line) none.0)) small
+
+pub invariant_of-self : goal.invariant_of-self
+invariant_of-self g c =
+    let read = c.find_chunk.ensures.read in
+    session_ahead _ _ c.find_chunk.new.ahead read.0 (ap the_view c.self-inside.view_is) c.self.invariant (ap (λ v. v.stage) (c.self.view_is ∙ c.edit_first.ensures.same) ∙ c.requires.stopped) read.2
