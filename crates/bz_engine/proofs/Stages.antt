@@ -1,5 +1,5 @@
--- Stages and answers that differ.
-use Rattle.std.proofs.Common.{◌≡◌, ℕ, ◌+◌, ◌≤◌, Bool, true, false, length, arith, sym, ◌∙◌, ap, subst}
+-- Stages and answers that differ, and what a session keeps from one call to the next.
+use Rattle.std.proofs.Common.{◌≡◌, ℕ, ◌+◌, ◌≤◌, Bool, true, false, List, length, take, arith, sym, ◌∙◌, ap, subst}
 use Rattle.std.specs.Prelude.{Result, Err, OnOk, IfOk}
 use Rattle.std.proofs.lemmas.Bool.{false≢true}
 use Rattle.bz_devices.proofs.PassedOn.{err_is}
@@ -8,8 +8,12 @@ use Rattle.bz_engine.specs.declared.run_fault.RunFault.{RunFault}
 use Rattle.bz_engine.specs.declared.run_fault.RunFault.TheVariants as fault
 use Rattle.bz_engine.specs.declared.session.Stage.{Stage}
 use Rattle.bz_engine.specs.declared.session.Stage.TheVariants.{Going, Ended, Stopped}
-use Rattle.bz_devices.specs.Ahead.{Ahead}
-use Rattle.bz_engine.specs.Progress.{Progress}
+use Rattle.bz_devices.specs.Ahead.{Ahead, IsNextChunk}
+use Rattle.bz_tree.specs.Tree.{Statement}
+use Rattle.bz_engine.specs.Progress.{Progress, IsKeptOf}
+use Rattle.bz_engine.specs.declared.next_chunk.NextChunk.{NextChunk}
+use Rattle.bz_engine.specs.private.Edits.{IsEdited}
+use Rattle.bz_engine.specs.private.NextChunks.{IsFirstEdited, IsNextEdited}
 use Rattle.bz_engine.specs.SessionValue.{SessionValue, IsSameRun}
 
 abbrev is_going : Stage → Bool
@@ -111,3 +115,18 @@ with_edit v i w mid progress read is =
     let edits : SessionValue → SessionValue = λ x. record x { progress = w.progress } in
     let at : Ahead → SessionValue = λ a. record v { ahead = a; progress = w.progress } in
     is ∙ ap edits read ∙ ap at (sym (ap (λ x. x.ahead) (is ∙ ap edits read)))
+
+pub next_edited : (v i w : SessionValue) (mid : Ahead) (before following : List ℕ) (next : NextChunk)
+    → (let read : SessionValue = record v { ahead = mid } in i ≡ read)
+    → (let after : SessionValue = record i { progress = w.progress } in w ≡ after)
+    → IsNextChunk i.options.max_statement mid next.len → w.progress.line ≤ i.progress.line + next.len
+    → ((cs : List (List ℕ)) (ss : List Statement) → IsKeptOf i.home i.passes i.options.max_depth cs ss i.progress
+    → IsEdited i.home i.passes i.options.keep_going i.options.max_depth cs ss (take next.len mid.bytes) i.progress w.progress before following next.edited)
+    → IsNextEdited v w before following next
+next_edited v i w mid before following next read is chunk lines edited =
+    let edits : SessionValue → SessionValue = λ x. record x { progress = w.progress } in
+    let first : IsFirstEdited i.home i.passes i.options.keep_going i.options.max_depth i.options.max_statement mid i.progress w.progress before following next =
+    record { chunk = chunk; lines = lines; edited = edited } in
+    subst (λ a. IsFirstEdited v.home v.passes v.options.keep_going v.options.max_depth v.options.max_statement a v.progress w.progress before following next)
+    (sym (ap (λ x. x.ahead) (is ∙ ap edits read)))
+    (subst (λ x. IsFirstEdited x.home x.passes x.options.keep_going x.options.max_depth x.options.max_statement mid x.progress w.progress before following next) read first)

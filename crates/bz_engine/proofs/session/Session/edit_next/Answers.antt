@@ -9,7 +9,10 @@ use Rattle.bz_engine.proofs.Advances.{on_err, some_of, none_of}
 use Rattle.bz_engine.proofs.Faults.{memory_alone}
 use Rattle.bz_engine.proofs.Kept.{lines_fit, session_ahead}
 use Rattle.bz_engine.proofs.Runs.{ok_is_no_err}
-use Rattle.bz_engine.proofs.Stages.{err_on_ok, err_if_ok, with_ahead, few_ahead, with_more, with_edit}
+use Rattle.bz_engine.proofs.Stages.{err_on_ok, err_if_ok, with_ahead, few_ahead, with_more, with_edit, next_edited}
+use Rattle.bz_engine.specs.Progress.{Progress}
+use Rattle.bz_engine.specs.declared.next_chunk.NextChunk.{NextChunk}
+use Rattle.bz_engine.specs.SessionValue.{SessionValue}
 use Rattle.bz_engine.specs.private.NextChunks.{IsNextEdited}
 use Rattle.bz_passes.specs.Exchange.{Fits}
 use Rattle.bz_engine.proofs.session.Session.edit_next.Goals as goal
@@ -385,3 +388,17 @@ pub invariant_of-self : goal.invariant_of-self
 invariant_of-self g c =
     let read = c.find_chunk.ensures.read in
     session_ahead _ _ c.find_chunk.new.ahead read.0 (ap the_view c.self-inside.view_is) c.self.invariant (ap (λ v. v.stage) (c.self.view_is ∙ c.edit_first.ensures.same) ∙ c.requires.stopped) read.2
+
+pub returns-clause-chunk : goal.returns-clause-chunk
+returns-clause-chunk g c =
+    let v = c.args.self.now in
+    let mid = c.find_chunk.new.ahead in
+    let there = ap the_view c.self-inside.view_is ∙ c.self.view_is in
+    let none = none_of ((c.edit_first.new.self.progress ≡ c.args.self.now.progress) × (c.edit_first.new.text.items ≡ c.args.text.now.items)) _ c.in_ok-next.ensures.none c.in_default.is in
+    let with_progress : Progress → SessionValue = λ p. record v { ahead = mid; progress = p } in
+    let next = some_of _ _ c.in-Some-2.len c.in_ok-len.ensures.chunk c.in-Some-2.is in
+    let answer : NextChunk = record { len = c.in-Some-2.len; edited = c.in_ok-edited.edited } in
+    subst (λ before. IsNextEdited v c.edit.new.self before c.edit.new.text.items answer) none.1
+    (next_edited v _ c.edit.new.self mid c.edit_first.new.text.items c.edit.new.text.items answer
+    (with_more v c.edit_first.new.self _ mid there c.edit_first.ensures.same ∙ ap with_progress (ap (λ x. x.progress) there ∙ none.0))
+    c.edit.ensures.same next c.in_ok-edited.ensures.lines c.in_ok-edited.ensures.edited)
