@@ -1,3 +1,4 @@
+pub mod Kept
 pub mod Pieces
 pub mod Quotes
 pub mod Rules

@@ -1,5 +1,5 @@
 -- The text of parts is that of their statement, or of their nodes.
-use Rattle.std.proofs.Common.{◌≡◌, codes, ℕ, ◌+◌, ◌<◌, List, [], ◌∷◌, ◌++◌, Bor, length, get_or, drop, drop-cons, add-one, map, Option, Some, None, refl, ap, sym, ◌∙◌, append_assoc, append-nil, inl, inr}
+use Rattle.std.proofs.Common.{◌≡◌, codes, ℕ, suc, ◌+◌, ◌<◌, List, [], ◌∷◌, ◌++◌, Bor, length, get_or, drop, drop-cons, add-one, map, Option, Some, None, refl, ap, sym, ◌∙◌, append_assoc, append-nil, inl, inr}
 use Rattle.std.proofs.lemmas.Bool.{cases_Bool}
 use Rattle.bz_tree.specs.Tree.{Item, leaf, group, Items, no_items, item, Statement, items_of}
 use Rattle.bz_tree.specs.Rows.{RowPart, above, beside_part, items_parts, parts_of, part_view}
@@ -16,7 +16,6 @@ use Rattle.bz_layout.specs.declared.broken.Style.TheVariants.{Flat, Broken}
 use Rattle.bz_layout.specs.Pieces.{Piece, piece, bytes_of, comment_lines, suffix_piece}
 use Rattle.bz_layout.specs.Layout.{items_pieces, statement_line, is_comment, layout_text, flat_text}
 use Rattle.bz_layout.specs.Joined.{joined}
-use Rattle.bz_layout.specs.private.Kept.{IsBegunBy}
 use Rattle.bz_layout.specs.private.RowLayout.{leading, Laid, Scan, line_text, row_text, run, scan, scan_onto, start, top}
 use Rattle.bz_layout.proofs.Pieces.{bytes_append}
 use Rattle.bz_layout.proofs.Scans.{items_marks, scan_above, scan_append, scan_items}
@@ -80,6 +79,25 @@ is_layout t s ps class parts is = rw (parts, is) (parts_laid t s)
 pub piece_split : (pieces : List (Bor (List Part))) (i : ℕ) (d : Bor (List Part)) → i < length pieces → map part_view (get_or pieces i d).now ++ joined (drop (i + 1) pieces) ≡ joined (drop i pieces)
 piece_split pieces i d h = rw (drop-cons pieces i d, add-one) refl
 
+-- the comments that are still to be written: one less after a part above, none after any other
+pub comment_put : (before one two : List ℕ) (parts : List Part) (k : ℕ) (d : Part) (comment : Bor (List ℕ)) (rest : List RowPart) → k < length parts → get_or parts k d ≡ Part.Above comment → one ≡ before ++ comment.now → two ≡ one ++ codes "\n" → two ++ bytes_of (comment_lines (leading (map part_view (drop (k + 1) parts) ++ rest))) ≡ before ++ bytes_of (comment_lines (leading (map part_view (drop k parts) ++ rest)))
+comment_put before one two parts k d comment rest h is first second =
+    let later = bytes_of (comment_lines (leading (map part_view (drop (suc k) parts) ++ rest))) in
+    rw (drop-cons parts k d, is, add-one k, second, first) (append_assoc (before ++ comment.now) (codes "\n") later ∙ append_assoc before comment.now (codes "\n" ++ later))
+
+leads_none : (p : Part) (rest : List RowPart) → ((comment : Bor (List ℕ)) → p ≡ Part.Above comment → ⊥) → leading (part_view p ∷ rest) ≡ []
+leads_none (Part.Token kind text) rest other = refl
+leads_none (Part.Open kind) rest other = refl
+leads_none (Part.Close one_comma) rest other = refl
+leads_none Part.End rest other = refl
+leads_none (Part.Above comment) rest other = absurd (other comment refl)
+leads_none (Part.Beside text) rest other = refl
+
+pub comments_end : (out all : List ℕ) (parts : List Part) (k : ℕ) (d : Part) (rest : List RowPart) → k < length parts → ((comment : Bor (List ℕ)) → get_or parts k d ≡ Part.Above comment → ⊥) → out ++ bytes_of (comment_lines (leading (map part_view (drop k parts) ++ rest))) ≡ all → out ≡ all
+comments_end out all parts k d rest h other is =
+    let none : leading (map part_view (drop k parts) ++ rest) ≡ [] = rw (drop-cons parts k d) (leads_none (get_or parts k d) (map part_view (drop (suc k) parts) ++ rest) other) in
+    sym (append-nil out) ∙ rw none at is
+
 pub next_piece : (pieces : List (Bor (List Part))) (i : ℕ) (d : Bor (List Part)) (s : Laid) → i < length pieces → run (joined (drop (i + 1) pieces)) (run (map part_view (get_or pieces i d).now) s) ≡ run (joined (drop i pieces)) s
 next_piece pieces i d s h = sym (run_append (map part_view (get_or pieces i d).now) (joined (drop (i + 1) pieces)) s) ∙ ap (λ (ps : List RowPart). run ps s) (piece_split pieces i d h)
 
@@ -88,9 +106,6 @@ piece_before pieces i j d h next =
     ap (λ (k : ℕ). scan_onto (map part_view (get_or pieces i d).now) (scan (joined (drop k pieces)))) (sym next)
     ∙ sym (scan_append (map part_view (get_or pieces i d).now) (joined (drop (i + 1) pieces)))
     ∙ ap scan (piece_split pieces i d h)
-
-pub begun_further : (a b c : List ℕ) → IsBegunBy a b → IsBegunBy b c → IsBegunBy a c
-begun_further a b c first next = record { more = first.more ++ next.more; is = next.is ∙ ap (λ (t : List ℕ). t ++ next.more) first.is ∙ append_assoc a first.more next.more }
 
 pub one_piece : (piece : Bor (List Part)) → joined (piece ∷ []) ≡ map part_view piece.now
 one_piece piece = append-nil (map part_view piece.now)

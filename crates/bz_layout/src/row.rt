@@ -20,7 +20,6 @@ use std::alloc::{AllocError, Global};
 const FIRST_PARTS: usize = 40;
 
 // The comments above the statement, each with its newline.
-#[tactic(auto, using(crate::proofs::Texts::piece_split))]
 fn put_leading(pieces: &[&[Part<'_>]], out: &mut Vec<u8>) -> Result<(), AllocError>
     ensures text { OnOk result
         (out.new.items ≡ out.old.items ++ bytes_of (comment_lines (leading (joined pieces.now)))) }

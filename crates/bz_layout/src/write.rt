@@ -44,7 +44,6 @@ pub(crate) fn has_commas(kind: GroupKind, one_comma: bool, n: usize) -> bool
     }
 }
 
-#[tactic(auto, using(crate::proofs::Pieces::indent_step))]
 fn put_indent<T: Append>(level: usize, out: &mut T) -> Result<(), AllocError>
     ensures ok { OnOk result (T.bytes out.new ≡ T.bytes out.old ++ indent level) }
     ensures begun { IsBegunBy (T.bytes out.old) (T.bytes out.new) }

@@ -2,7 +2,8 @@ use Rattle.std.proofs.Common.{◌+◌, [], drop, ap, ◌∙◌, arith}
 use Rattle.std.proofs.lemmas.Grind.{common_steps}
 use Rattle.bz_layout.specs.Joined.{joined}
 use Rattle.bz_layout.specs.private.RowLayout.{laid, run}
-use Rattle.bz_layout.proofs.Texts.{begun_further, next_piece}
+use Rattle.bz_layout.proofs.Kept.{begun_further}
+use Rattle.bz_layout.proofs.Texts.{next_piece}
 use Rattle.bz_layout.proofs.row.put_text.Goals as goal
 
 pub loop-piece-preserved : goal.loop-piece-preserved
