@@ -1,5 +1,5 @@
 -- Bytes that stay, step after step.
-use Rattle.std.proofs.Common.{◌≡◌, ℕ, List, [], ◌++◌, ap, sym, ◌∙◌, append_assoc, append-nil}
+use Rattle.std.proofs.Common.{ℕ, List, [], ◌++◌, ap, sym, ◌∙◌, append_assoc, append-nil}
 use Rattle.bz_layout.specs.private.Kept.{IsBegunBy}
 
 pub begun_here : (a : List ℕ) → IsBegunBy a a
