@@ -1,4 +1,4 @@
-use Rattle.std.proofs.Common.{◌≡◌, ◌==◌, ℕ, suc, ◌≤◌, List, [], ◌∷◌, length, map, reverse, Bool, true, false, Option, Some, None, Result, Ok, Err, IfOk, IfSome, is_some, option_map, arith, refl, sym, ap, ◌∙◌}
+use Rattle.std.proofs.Common.{◌≡◌, ◌==◌, ℕ, suc, ◌≤◌, List, [], ◌∷◌, length, map, true, false, Option, Some, None, Result, Ok, Err, IfOk, IfSome, is_some, option_map, arith, refl, sym, ap, ◌∙◌}
 use Rattle.std.specs.declared.alloc.AllocError.{AllocError}
 use Rattle.std.proofs.lemmas.Bool.{false≢true}
 use Rattle.std.proofs.lemmas.Bool.Decides.{nat_tests}
@@ -8,7 +8,7 @@ use Rattle.bz_tree.specs.declared.stmt.GroupKind.{GroupKind}
 use Rattle.bz_tree.specs.declared.stmt.Seg.{Seg}
 use Rattle.bz_tree.specs.Statement.{segment_with}
 use Rattle.bz_tree.specs.Borrowed.{seg_owned}
-use Rattle.bz_tree.specs.private.Steps.{Walked, Level, level, levels, so_far, done, finish, finished, state}
+use Rattle.bz_tree.specs.private.Steps.{Walked, Level, level, levels, so_far, done, finish}
 use Rattle.bz_tree.proofs.build.State.finish.Goals.{then-is_some-via-then-is_some, then-is_some-via-else-is_some+then-not-is_empty}
 use Rattle.bz_tree.proofs.build.State.finish.Goals as goal
 
