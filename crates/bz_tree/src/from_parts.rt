@@ -176,15 +176,17 @@ impl<'a> Nesting<'a> {
             Part::Token(kind, text) => {
                 let text = CowStr::Borrowed(text);
                 self.here
-                    .add_node(Node::Token(Leaf { kind, text }), following)?;
+                    .add_node(Node::Token(Leaf { kind, text }), following)
             }
-            Part::Open(kind) => self.open(alloc, kind)?,
-            Part::Close(one_comma) => self.close(one_comma, following)?,
-            Part::End => self.here.end_segment(alloc, is_last(following.first()))?,
-            Part::Above(text) => self.here.comments.push(CowStr::Borrowed(text))?,
-            Part::Beside(text) => self.here.put_beside(text),
+            Part::Open(kind) => self.open(alloc, kind),
+            Part::Close(one_comma) => self.close(one_comma, following),
+            Part::End => self.here.end_segment(alloc, is_last(following.first())),
+            Part::Above(text) => Ok(self.here.comments.push(CowStr::Borrowed(text))?),
+            Part::Beside(text) => {
+                self.here.put_beside(text);
+                Ok(())
+            }
         }
-        Ok(())
     }
 }
 
