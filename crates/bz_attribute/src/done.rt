@@ -1,9 +1,11 @@
 //! What a command did to a statement.
 
-ghost use Rattle.std.specs.Prelude.{◌≡◌, None};
+ghost use Rattle.std.specs.Prelude.{◌≡◌, None, IfOk};
+ghost use Rattle.bz_attribute.specs.declared.done.Note.TheVariants.{NoAttribute, NotAList};
 ghost use Rattle.bz_attribute.specs.Effects as spec;
 
 use bz_command::Text;
+use std::alloc::{AllocError, Global};
 
 /// What an execution of a command did.
 #[derive(Drop)]
@@ -48,5 +50,19 @@ impl Done {
             note: Some(note),
             ..Done::quiet(false)
         }
+    }
+
+    /// The failure where the attribute is absent.
+    pub fn no_attribute(alloc: Global, attr: &str) -> Result<Done, AllocError>
+        ensures { IfOk result (λ done. done ≡ spec.failed (NoAttribute attr.now)) }
+    {
+        Ok(Done::failure(Note::NoAttribute(Text::from_str(alloc, attr)?)))
+    }
+
+    /// The failure where the attribute has no list part.
+    pub fn not_a_list(alloc: Global, attr: &str) -> Result<Done, AllocError>
+        ensures { IfOk result (λ done. done ≡ spec.failed (NotAList attr.now)) }
+    {
+        Ok(Done::failure(Note::NotAList(Text::from_str(alloc, attr)?)))
     }
 }

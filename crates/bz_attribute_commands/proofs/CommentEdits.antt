@@ -12,12 +12,13 @@ use Rattle.bz_tree.specs.Tree.{Item, Segment}
 use Rattle.bz_tree.specs.View.{node_view, nodes_view, seg_view, segs_view}
 use Rattle.bz_attribute.specs.Rules.{elements, first_named, is_named, value}
 use Rattle.bz_attribute.specs.Lists.{edit_list, equals, is_part, is_joint, parts_from, parts}
-use Rattle.bz_attribute.specs.Effects.{edit_first, has, no_parts}
+use Rattle.bz_attribute.specs.Effects.{done, edit_first, failed, first_note, has, no_parts}
 use Rattle.bz_command.specs.Labels.{Package}
 use Rattle.bz_attribute.specs.declared.done.Note.{Note}
-use Rattle.bz_attribute.specs.private.Places.{IsFirst}
+use Rattle.bz_attribute.specs.declared.done.Note.TheVariants.{NoAttribute, NoValue, NotAList}
+use Rattle.bz_attribute.specs.private.Places.{IsAbsent, IsFirst}
 use Rattle.bz_attribute.specs.Commenting.{is_blank, trimmed, comment_element, comment_line, comment_note, comment_value, edit_element, edit_element_from, with_comment}
-use Rattle.bz_attribute_commands.specs.private.CommentPlaces.{IsFirstOf, IsNowhere, IsPartWith, ends_blank}
+use Rattle.bz_attribute_commands.specs.private.CommentPlaces.{IsFirstOf, IsNowhere, IsPartWith, ends_blank, no_value_note}
 use Rattle.bz_attribute.proofs.First.{has_one, has_none, put_first, edit_first_none}
 use Rattle.bz_attribute.proofs.Groups.{view_of_seg}
 use Rattle.bz_attribute.proofs.Mapped.{position_or_len-map}
@@ -147,6 +148,40 @@ comment_kept attr args i k a m e first within kept =
 pub part_read : (p : Segment → Bool) (args : List Seg) (i k : ℕ) (x y : Seg) (v : List Node) → i < length args → v ≡ (get_or args i x).nodes.items → IsPartWith p (take (length v - 2) (drop 2 v)) k → IsPartWith p (drop 2 (get_or args i y).nodes.items) k
 part_read p args i k x y v h is found =
     subst (λ (ns : List Node). IsPartWith p ns k) (take_rest v 2 ∙ ap (drop 2) (is ∙ ap (λ (z : Seg). z.nodes.items) (get_or_default args i x y h))) found
+
+-- the nodes that were read are the value
+value_read : (args : List Seg) (i : ℕ) (x y : Seg) (v : List Node) → i < length args → v ≡ (get_or args i x).nodes.items → nodes_view (take (length v - 2) (drop 2 v)) ≡ value (seg_view (get_or args i y))
+value_read args i x y v h is =
+    ap nodes_view (take_rest v 2 ∙ ap (drop 2) (is ∙ ap (λ (z : Seg). z.nodes.items) (get_or_default args i x y h)))
+    ∙ sym (drop-map node_view 2 (get_or args i y).nodes.items)
+    ∙ ap value (sym (view_of_seg (get_or args i y)))
+
+missing_note : (home : Package) (attr v : List ℕ) (args : List Segment) (a : Segment) → has attr args ≡ true → first_named attr args ≡ Some a → list_any (list_any (equals home v)) (parts (value a)) ≡ false → comment_note home attr v args ≡ Some (no_value_note attr v (parts (value a)))
+missing_note home attr v args a there first none =
+    rw (there, first, none) (elim (no_parts (parts (value a))) as (λ b. first_note (if b then Some (NotAList attr) else None) (Some (NoValue attr v)) ≡ Some (if b then NotAList attr else NoValue attr v)) [ true ↦ refl | false ↦ refl ])
+
+-- where there is a note the arguments stay, and the note is told
+pub comment_stays : (home : Package) (attr v text : List ℕ) (args : List Segment) (n : Note) → comment_note home attr v args ≡ Some n → args ≡ comment_value home attr v text args
+comment_stays home attr v text args n is =
+    sym (ap (λ (m : Option Note). if is_some m then args else edit_first (is_named attr) (λ z. comment_element home v text z ∷ []) args) is)
+
+absent_note : (home : Package) (attr v : List ℕ) (args : List Segment) → has attr args ≡ false → comment_note home attr v args ≡ Some (NoAttribute attr)
+absent_note home attr v args none = rw none refl
+
+pub absent_stays : (home : Package) (attr v text : List ℕ) (args : List Seg) → IsAbsent attr args → segs_view args ≡ comment_value home attr v text (segs_view args)
+absent_stays home attr v text args none = comment_stays home attr v text (segs_view args) (NoAttribute attr) (absent_note home attr v (segs_view args) none.absent)
+
+pub absent_told : (home : Package) (attr v : List ℕ) (args : List Seg) → IsAbsent attr args → failed (NoAttribute attr) ≡ done (comment_note home attr v (segs_view args)) true
+absent_told home attr v args none = sym (ap (λ (n : Option Note). done n true) (absent_note home attr v (segs_view args) none.absent))
+
+-- the attribute has no such element
+pub missing : (home : Package) (attr v : List ℕ) (args : List Seg) (i : ℕ) (x : Seg) (ns : List Node) → IsFirst attr args i → ns ≡ (get_or args i x).nodes.items
+    → list_any (list_any (equals home v)) (parts (nodes_view (take (length ns - 2) (drop 2 ns)))) ≡ false
+    → comment_note home attr v (segs_view args) ≡ Some (no_value_note attr v (parts (nodes_view (take (length ns - 2) (drop 2 ns)))))
+missing home attr v args i x ns first is none =
+    let read : nodes_view (take (length ns - 2) (drop 2 ns)) ≡ value (seg_view (get_or args i x)) = value_read args i x x ns first.within is in
+    missing_note home attr v (segs_view args) (seg_view (get_or args i x)) first.there (first.first x) (sym (ap (λ (zs : List Item). list_any (list_any (equals home v)) (parts zs)) read) ∙ none)
+    ∙ sym (ap (λ (zs : List Item). Some (no_value_note attr v (parts zs))) read)
 
 -- no list part before i has an element that passes, and a piece begins at i where `start`
 pub record NoneYet (p : Segment → Bool) (ns : List Node) (i : ℕ) (start : Bool) : Type 0 where

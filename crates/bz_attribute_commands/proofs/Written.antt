@@ -1,5 +1,5 @@
--- A segment with another node, and a call that failed.
-use Rattle.std.proofs.Common.{◌≡◌, ℕ, set, ap, sym, ◌∙◌, Result, Ok, Err, OnErr}
+-- A segment with another node, and what a call that may fail leaves.
+use Rattle.std.proofs.Common.{◌≡◌, ℕ, set, ap, sym, ◌∙◌, Result, Ok, Err, IfOk, OnErr, OnOk}
 use Rattle.std.specs.Vec.{with_item}
 use Rattle.bz_tree.specs.declared.stmt.Node.{Node}
 use Rattle.bz_tree.specs.declared.stmt.Seg.{Seg, roll-Seg}
@@ -15,3 +15,12 @@ nodes_written s j m =
 pub on_err : {T E P : Type 0} (r : Result T E) → P → OnErr r P
 on_err (Ok x) h = tt
 on_err (Err e) h = h
+
+pub on_ok : {T E P : Type 0} (r : Result T E) → P → OnOk r P
+on_ok (Ok x) h = h
+on_ok (Err e) h = tt
+
+-- another word for the value of a call that succeeds
+pub if_ok : {T E : Type 0} (r : Result T E) (x y : T) → x ≡ y → IfOk r (λ z. z ≡ x) → IfOk r (λ z. z ≡ y)
+if_ok (Ok z) x y same is = is ∙ same
+if_ok (Err e) x y same is = tt

@@ -73,7 +73,7 @@ fn comment_attribute(
     ensures err { OnErr result (segs_view args.new ≡ segs_view args.old) }
 {
     let Some(i) = find(args, attr) else {
-        return Ok(Done::failure(Note::NoAttribute(Text::from_str(alloc, attr)?)));
+        return Done::no_attribute(alloc, attr);
     };
     push_line(alloc, text, &mut args[i].before)?;
     Ok(Done::quiet(true))
@@ -95,19 +95,26 @@ fn comment_value(
     ensures err { OnErr result (segs_view args.new ≡ segs_view args.old) }
 {
     let Some(i) = find(args, attr) else {
-        return Ok(Done::failure(Note::NoAttribute(Text::from_str(alloc, attr)?)));
+        return Done::no_attribute(alloc, attr);
     };
     let nodes = &args[i].nodes[2..];
-    if first_part(nodes).is_none() {
-        return Ok(Done::failure(Note::NotAList(Text::from_str(alloc, attr)?)));
-    }
     let Some(part) = part_with(home, value, nodes) else {
-        let attr = Text::from_str(alloc, attr)?;
-        let value = Text::from_str(alloc, value)?;
-        return Ok(Done::failure(Note::NoValue { attr, value }));
+        return no_value(alloc, attr, value, nodes);
     };
     comment_in_list(alloc, home, value, text, &mut args[i].nodes[2 + part])?;
     Ok(Done::quiet(true))
+}
+
+// The failure where no element of an attribute equals a value.
+fn no_value(alloc: Global, attr: &str, value: &str, nodes: &[Node<'_>]) -> Result<Done, AllocError>
+    ensures { IfOk result (λ d. d ≡ place.no_value attr.now value.now (parts (nodes_view nodes.now))) }
+{
+    if first_part(nodes).is_none() {
+        return Done::not_a_list(alloc, attr);
+    }
+    let attr = Text::from_str(alloc, attr)?;
+    let value = Text::from_str(alloc, value)?;
+    Ok(Done::failure(Note::NoValue { attr, value }))
 }
 
 // Where the first list part with an element that equals the value stands.

@@ -24,7 +24,7 @@ pub fn rename<'a>(
     ensures err { OnErr result (segs_view args.new ≡ segs_view args.old) }
 {
     let Some(i) = find(args, old) else {
-        return Ok(Done::failure(Note::NoAttribute(Text::from_str(alloc, old)?)));
+        return Done::no_attribute(alloc, old);
     };
     if find(args, new).is_some() {
         return Ok(Done::failure(Note::AttributeExists(Text::from_str(alloc, new)?)));

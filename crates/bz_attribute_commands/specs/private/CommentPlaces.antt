@@ -1,13 +1,16 @@
 -- For private clauses alone: where the first segment that passes a test stands, where the first list part with one stands,
 -- and what becomes of the whole where they are edited.
-use Rattle.std.specs.Prelude.{◌≡◌, ℕ, ◌<◌, ◌-◌, List, [], ◌∷◌, Bool, length, get_or, set, true, false}
+use Rattle.std.specs.Prelude.{◌≡◌, ℕ, ◌<◌, ◌-◌, List, [], ◌∷◌, Bool, length, get_or, set, true, false, if◌then◌else◌}
 use Rattle.std.specs.List.{list_any}
 use Rattle.bz_tree.specs.declared.stmt.Seg.{Seg}
 use Rattle.bz_tree.specs.declared.stmt.Node.{Node}
 use Rattle.bz_tree.specs.Tree.{Segment}
 use Rattle.bz_tree.specs.View.{seg_view, segs_view, node_view, nodes_view}
 use Rattle.bz_attribute.specs.Lists.{edit_list, parts}
-use Rattle.bz_attribute.specs.Effects.{edit_first}
+use Rattle.bz_attribute.specs.Effects.{edit_first, failed, no_parts}
+use Rattle.bz_attribute.specs.declared.done.Done.{Done}
+use Rattle.bz_attribute.specs.declared.done.Note.{Note}
+use Rattle.bz_attribute.specs.declared.done.Note.TheVariants.{NoValue, NotAList}
 use Rattle.bz_attribute.specs.Commenting.{edit_element, is_blank}
 
 pub record IsFirstOf (p : Segment → Bool) (segs : List Seg) (i : ℕ) : Type 0 where
@@ -32,3 +35,10 @@ pub record IsPartWith (p : Segment → Bool) (value : List Node) (i : ℕ) : Typ
 abbrev pub ends_blank : List ℕ → Bool
 ends_blank [] = false
 ends_blank (b ∷ bs) = is_blank (get_or (b ∷ bs) (length (b ∷ bs) - 1) 0)
+
+-- what is told where no element of the list parts equals the value
+abbrev pub no_value_note : List ℕ → List ℕ → List (List Segment) → Note
+no_value_note attr v lists = if no_parts lists then NotAList attr else NoValue attr v
+
+abbrev pub no_value : List ℕ → List ℕ → List (List Segment) → Done
+no_value attr v lists = failed (no_value_note attr v lists)
