@@ -1,7 +1,7 @@
 //! What a command did to a statement.
 
 ghost use Rattle.std.specs.Prelude.{◌≡◌, None, IfOk};
-ghost use Rattle.bz_attribute.specs.declared.done.Note.TheVariants.{NoAttribute, NotAList};
+ghost use Rattle.bz_attribute.specs.declared.done.Note.TheVariants.{AttributeExists, NoAttribute, NotAList};
 ghost use Rattle.bz_attribute.specs.Effects as spec;
 
 use bz_command::Text;
@@ -57,6 +57,13 @@ impl Done {
         ensures { IfOk result (λ done. done ≡ spec.failed (NoAttribute attr.now)) }
     {
         Ok(Done::failure(Note::NoAttribute(Text::from_str(alloc, attr)?)))
+    }
+
+    /// The failure where there is an attribute of the new name.
+    pub fn attribute_exists(alloc: Global, attr: &str) -> Result<Done, AllocError>
+        ensures { IfOk result (λ done. done ≡ spec.failed (AttributeExists attr.now)) }
+    {
+        Ok(Done::failure(Note::AttributeExists(Text::from_str(alloc, attr)?)))
     }
 
     /// The failure where the attribute has no list part.

@@ -4,10 +4,9 @@ ghost use Rattle.std.specs.Prelude.{◌≡◌, IfOk, OnOk, OnErr, true};
 ghost use Rattle.bz_tree.specs.View.{segs_view};
 ghost use Rattle.bz_attribute.specs.Effects as spec;
 
-use bz_attribute::done::{Done, Note};
+use bz_attribute::done::Done;
 use bz_attribute::make::token;
 use bz_attribute::rule::find;
-use bz_command::Text;
 use bz_token::Kind;
 use bz_tree::Seg;
 use std::alloc::{AllocError, Global};
@@ -27,7 +26,7 @@ pub fn rename<'a>(
         return Done::no_attribute(alloc, old);
     };
     if find(args, new).is_some() {
-        return Ok(Done::failure(Note::AttributeExists(Text::from_str(alloc, new)?)));
+        return Done::attribute_exists(alloc, new);
     }
     let name = token(alloc, Kind::Identifier, new)?;
     args[i].nodes[0] = name;

@@ -1,6 +1,7 @@
 //! `set kind`: other tokens before the call of a rule.
 
 ghost use Rattle.std.specs.Prelude.{◌≡◌, ◌-◌, ◌++◌, ◌∷◌, [], None, false, length, drop, option_map, IfOk, IsOk, OnOk, OnErr};
+ghost use Rattle.bz_tree.specs.Tree.{leaf};
 ghost use Rattle.bz_tree.specs.View.{nodes_view, slot_view};
 ghost use Rattle.bz_attribute.specs.Rules.{rule_of};
 ghost use Rattle.bz_attribute.specs.Effects.{holds_rule};
@@ -59,10 +60,22 @@ fn kind_nodes<'a>(alloc: Global, mut kind: &str) -> Result<Vec<Node<'a>>, AllocE
 {
     let mut nodes = Vec::new(alloc);
     while let Some((name, rest)) = cut(kind, '.') {
-        nodes.push(token(alloc, Kind::Identifier, name)?)?;
-        nodes.push(token(alloc, Kind::Operator, ".")?)?;
+        push_token(alloc, Kind::Identifier, name, &mut nodes)?;
+        push_token(alloc, Kind::Operator, ".", &mut nodes)?;
         kind = rest;
     }
-    nodes.push(token(alloc, Kind::Identifier, kind)?)?;
+    push_token(alloc, Kind::Identifier, kind, &mut nodes)?;
     Ok(nodes)
+}
+
+fn push_token(
+    alloc: Global,
+    kind: Kind,
+    text: &str,
+    nodes: &mut Vec<Node<'_>>,
+) -> Result<(), AllocError>
+    ensures { OnOk result (nodes_view nodes.new.items ≡ nodes_view nodes.old.items ++ leaf kind text.now ∷ []) }
+{
+    nodes.push(token(alloc, kind, text)?)?;
+    Ok(())
 }

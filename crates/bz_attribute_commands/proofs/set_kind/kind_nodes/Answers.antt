@@ -1,8 +1,7 @@
 use Rattle.std.proofs.Common.{◌≡◌, ◌==◌, ◌∷◌, [], ◌++◌, List, ap, ◌∙◌, rules}
 use Rattle.std.specs.List.{slice_split}
-use Rattle.std.proofs.lemmas.List.{map-append}
 use Rattle.bz_tree.specs.Tree.{Item}
-use Rattle.bz_tree.specs.View.{node_view, nodes_view}
+use Rattle.bz_tree.specs.View.{nodes_view}
 use Rattle.bz_attribute.specs.Setting.{dot_item, kind_items}
 use Rattle.bz_attribute_commands.proofs.KindEdits.{kind_step}
 use Rattle.bz_attribute_commands.proofs.set_kind.kind_nodes.Goals as goal
@@ -11,9 +10,7 @@ pub loop-name-preserved : goal.loop-name-preserved
 loop-name-preserved c =
     let old = c.loop-name.nodes.items in
     let parts : slice_split (λ b. b == 46) c.loop-name.kind.now ≡ c.in-Some.name.now ∷ slice_split (λ b. b == 46) c.in-Some.rest.now = search rules in
-    let name = ap nodes_view c.in_ok-push.ensures.items ∙ map-append node_view old (c.in_ok-token.field-0 ∷ []) ∙ ap (λ (n : Item). nodes_view old ++ n ∷ []) c.in_ok-token.ensures in
-    let dot = ap nodes_view c.in_ok-push-2.ensures.items ∙ map-append node_view c.push.new.self.items (c.in_ok-token-2.field-0 ∷ []) ∙ ap (λ (n : Item). nodes_view c.push.new.self.items ++ n ∷ []) c.in_ok-token-2.ensures in
-    let made = dot ∙ ap (λ (ns : List Item). ns ++ dot_item ∷ []) name in
+    let made = c.in_ok-push_token-2.ensures ∙ ap (λ (ns : List Item). ns ++ dot_item ∷ []) c.in_ok-push_token.ensures in
     record {
       utf8 = search rules;
       made = ap (λ (ns : List Item). ns ++ kind_items c.in-Some.rest.now) made ∙ kind_step (nodes_view old) c.loop-name.kind.now c.in-Some.name.now c.in-Some.rest.now parts ∙ c.loop-name.invariant.made;
