@@ -174,9 +174,16 @@ fn put_in_element<'a>(change: Change<'_>, element: &mut Seg<'a>, pool: &mut Vec<
     ensures pool { Uses change.entry (if goes change.entry (seg_view element.old) then 1 else 0)
         pool.old.items pool.new.items }
 {
-    if equals(change.home, element, change.old) && !is_string(&element.nodes, change.new) {
-        if let Some(string) = pool.pop() {
-            element.nodes = string.nodes;
-        }
+    if !is_replaced(change, element) {
+        return;
     }
+    if let Some(string) = pool.pop() {
+        element.nodes = string.nodes;
+    }
+}
+
+fn is_replaced(change: Change<'_>, element: &Seg<'_>) -> bool
+    ensures { result ≡ goes change.entry (seg_view element.now) }
+{
+    equals(change.home, element, change.old) && !is_string(&element.nodes, change.new)
 }
