@@ -1,18 +1,63 @@
-use Rattle.std.proofs.Common.{◌≡◌, List, Option, Some, length, get_or, ap, sym, ◌∙◌, arith}
+use Rattle.std.proofs.Common.{◌≡◌, ℕ, ◌+◌, ◌≤◌, ◌++◌, List, Option, Some, length, refl, ap, subst, sym, ◌∙◌}
+use Rattle.std.specs.Global.{Vec}
+use Rattle.std.specs.Vec.{vec_len, vec_capacity}
+use Rattle.std.proofs.lemmas.List.{append-nil}
 use Rattle.bz_tree.specs.declared.stmt.Seg.{Seg}
 use Rattle.bz_tree.specs.Tree.{Segment}
 use Rattle.bz_tree.specs.View.{seg_view, segs_view}
-use Rattle.bz_attribute.specs.Rules.{first_named}
-use Rattle.bz_attribute.specs.Moving.{elements_of}
-use Rattle.bz_list_commands.specs.private.TakingSteps.{leave}
+use Rattle.bz_attribute.specs.Rules.{first_named, value}
+use Rattle.bz_attribute.specs.Lists.{parts}
+use Rattle.bz_attribute.specs.Effects.{filtered}
+use Rattle.bz_attribute.specs.Moving.{elements_of, joined}
+use Rattle.bz_attribute.specs.private.Places.{IsAbsent}
+use Rattle.bz_list_commands.specs.declared.taking.Choice.{Choice}
+use Rattle.bz_list_commands.specs.private.TakingSteps.{HasRoom, Takes, leave, stay}
+use Rattle.bz_list_commands.proofs.FirstFiltered.{absent_stays, first_edited, first_lost_edited, first_read}
 use Rattle.bz_list_commands.proofs.taking.take_from.Goals as goal
+
+room : (c : Choice) (o : Option Segment) (a : Segment) (taken : Vec Seg) → o ≡ Some a → HasRoom c (elements_of o) taken → HasRoom c (joined (parts (value a))) taken
+room c o a taken is h = subst (λ (n : ℕ). vec_len taken + n ≤ vec_capacity taken) (ap (λ (o : Option Segment). length (leave c (elements_of o))) is) h
+
+takes_none : (c : Choice) (attr : List ℕ) (read args : List Seg) (taken : Vec Seg) → IsAbsent attr read → read ≡ args → Takes c (elements_of (first_named attr (segs_view args))) taken taken
+takes_none c attr read args taken none is = record {
+  items = sym (ap (λ (o : Option Segment). segs_view taken.items ++ leave c (elements_of o)) (ap (λ (ss : List Seg). first_named attr (segs_view ss)) (sym is) ∙ none.none) ∙ append-nil (segs_view taken.items));
+  capacity = refl;
+}
+
+takes : (c : Choice) (o : Option Segment) (a : Segment) (old new : Vec Seg) → o ≡ Some a → Takes c (joined (parts (value a))) old new → Takes c (elements_of o) old new
+takes c o a old new is h = record {
+  items = h.items ∙ sym (ap (λ (o : Option Segment). segs_view old.items ++ leave c (elements_of o)) is);
+  capacity = h.capacity;
+}
 
 pub take_in-requires-clause-room : goal.take_in-requires-clause-room
 take_in-requires-clause-room c =
-    let here : Seg = c.index_mut.result.now in
-    let read : first_named c.args.attr.now (segs_view c.args.args.now.items) ≡ Some (seg_view c.index_mut.result.now) =
-    ap (λ (ss : List Seg). first_named c.args.attr.now (segs_view ss)) (sym c.deref.ensures.value)
-    ∙ c.in-Some.ensures.some.first here
-    ∙ ap (λ (ss : List Seg). Some (seg_view (get_or ss c.in-Some.i here))) c.deref.ensures.value
-    ∙ ap (λ (s : Seg). Some (seg_view s)) (sym c.index_mut.ensures.value) in
-    omega (arith, ap (λ (o : Option Segment). length (leave c.args.choice (elements_of o))) read, c.requires)
+    room c.args.choice (first_named c.args.attr.now (segs_view c.args.args.now.items)) (seg_view c.index_mut.result.now) c.args.taken.now
+    (first_read c.args.attr.now c.deref.result.now c.args.args.now.items c.in-Some.i c.index_mut.result.now c.in-Some.ensures.some c.deref.ensures.value c.index_mut.ensures.value)
+    c.requires
+
+pub returns-in_default-clause-left : goal.returns-in_default-clause-left
+returns-in_default-clause-left c = absent_stays c.args.attr.now (filtered (stay c.args.choice)) c.deref.result.now c.args.args.now.items c.in_default.ensures.none c.deref.ensures.value
+
+pub returns-in_default-clause-taken : goal.returns-in_default-clause-taken
+returns-in_default-clause-taken c = takes_none c.args.choice c.args.attr.now c.deref.result.now c.args.args.now.items c.args.taken.now c.in_default.ensures.none c.deref.ensures.value
+
+pub returns-then-goes-clause-left : goal.returns-then-goes-clause-left
+returns-then-goes-clause-left c =
+    first_lost_edited c.args.attr.now (stay c.args.choice) c.deref.result.now c.args.args.now.items c.remove.new.self.items c.in-Some.i c.index.result.now c.take_in.new.arg c.in-Some.ensures.some c.deref.ensures.value c.index.ensures c.if-goes.ensures c.remove.ensures.items
+
+pub returns-then-goes-clause-taken : goal.returns-then-goes-clause-taken
+returns-then-goes-clause-taken c =
+    takes c.args.choice (first_named c.args.attr.now (segs_view c.args.args.now.items)) (seg_view c.index_mut.result.now) c.args.taken.now c.take_in.new.taken
+    (first_read c.args.attr.now c.deref.result.now c.args.args.now.items c.in-Some.i c.index_mut.result.now c.in-Some.ensures.some c.deref.ensures.value c.index_mut.ensures.value)
+    c.take_in.ensures.taken
+
+pub returns-else-goes-clause-left : goal.returns-else-goes-clause-left
+returns-else-goes-clause-left c =
+    first_edited c.args.attr.now (stay c.args.choice) c.deref.result.now c.args.args.now.items c.in-Some.i c.index.result.now c.index_mut.result.now c.take_in.new.arg c.in-Some.ensures.some c.deref.ensures.value c.index.ensures c.index_mut.ensures.value c.if-goes.ensures c.take_in.ensures.left
+
+pub returns-else-goes-clause-taken : goal.returns-else-goes-clause-taken
+returns-else-goes-clause-taken c =
+    takes c.args.choice (first_named c.args.attr.now (segs_view c.args.args.now.items)) (seg_view c.index_mut.result.now) c.args.taken.now c.take_in.new.taken
+    (first_read c.args.attr.now c.deref.result.now c.args.args.now.items c.in-Some.i c.index_mut.result.now c.in-Some.ensures.some c.deref.ensures.value c.index_mut.ensures.value)
+    c.take_in.ensures.taken
