@@ -1,6 +1,6 @@
 -- One argument in which elements are replaced, as a slice of the arguments.
 use Rattle.std.proofs.Common.{◌≡◌, ℕ, suc, ◌+◌, ◌<◌, List, [], ◌∷◌, ◌++◌, Bool, true, false, ◌&&◌, ◌||◌, Option, None, Some, is_some, length, get_or, set, take, drop, refl, ap, sym, ◌∙◌, arith, rules, if◌then◌else◌}
-use Rattle.std.specs.Prelude.{Result, Ok, Err, OnOk, OnErr}
+use Rattle.std.specs.Prelude.{Result, Ok, Err, IfOk, OnOk, OnErr}
 use Rattle.std.proofs.lemmas.List.{drop_more, map-append, set_split, take-append-drop}
 use borrow.Rule.Slice.PartMut.{post_of}
 use Rattle.bz_tree.specs.declared.stmt.Seg.{Seg}
@@ -25,6 +25,15 @@ where_err f (Err e) p = f p
 pub on_err : {T E P : Type 0} (r : Result T E) → P → OnErr r P
 on_err (Ok x) p = search rules
 on_err (Err e) p = p
+
+pub on_ok : {T E P : Type 0} (r : Result T E) → P → OnOk r P
+on_ok (Ok x) p = p
+on_ok (Err e) p = search rules
+
+-- another word for the value of a call that succeeds
+pub if_ok : {T E : Type 0} (r : Result T E) (x y : T) → x ≡ y → IfOk r (λ z. z ≡ x) → IfOk r (λ z. z ≡ y)
+if_ok (Ok z) x y same is = is ∙ same
+if_ok (Err e) x y same is = search rules
 
 -- an argument that has a name is an attribute
 has_name : (name : List ℕ) (o : Option (List ℕ)) → is_text name o ≡ true → is_some o ≡ true

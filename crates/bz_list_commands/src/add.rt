@@ -8,7 +8,7 @@ ghost use Rattle.bz_list_commands.specs.private.AddingSteps.{Knows, told};
 ghost use Rattle.bz_attribute.specs.Effects as spec;
 
 use bz_attribute::chosen::{Chosen, is_any_chosen};
-use bz_attribute::done::{Done, Note};
+use bz_attribute::done::Done;
 use bz_attribute::list_labels::labels_in;
 use bz_attribute::lists::first_part;
 use bz_attribute::make::{argument, list, string};
@@ -55,7 +55,7 @@ fn add_in(
 {
     let value = &arg.nodes[2..];
     let Some(part) = first_part(value) else {
-        return Ok(Done::failure(Note::NotAList(Text::from_str(alloc, attr)?)));
+        return Done::not_a_list(alloc, attr);
     };
     let new = new_elements(alloc, home, value, values)?;
     let changed = new.len() > 0;

@@ -109,19 +109,23 @@ fn move_note(
 {
     match find(args, old) {
         None => Ok(Some(Note::NoAttribute(Text::from_str(alloc, old)?))),
-        Some(_) => Ok(not_a_list(alloc, old, args)?.or(not_a_list(alloc, new, args)?)),
+        Some(_) => match not_a_list(alloc, old, args)? {
+            None => not_a_list(alloc, new, args),
+            note => Ok(note),
+        },
     }
 }
 
 fn not_a_list(alloc: Global, attr: &str, args: &[Seg<'_>]) -> Result<Option<Note>, AllocError>
     ensures { IfOk result (λ note. note ≡ effects.not_a_list attr.now (first_named attr.now (segs_view args.now))) }
 {
-    match find(args, attr) {
-        Some(i) if first_part(&args[i].nodes[2..]).is_none() => {
-            Ok(Some(Note::NotAList(Text::from_str(alloc, attr)?)))
-        }
-        _ => Ok(None),
+    let Some(i) = find(args, attr) else {
+        return Ok(None);
+    };
+    if first_part(&args[i].nodes[2..]).is_some() {
+        return Ok(None);
     }
+    Ok(Some(Note::NotAList(Text::from_str(alloc, attr)?)))
 }
 
 // How many elements stand in the first list part of a value.
