@@ -1,6 +1,6 @@
 //! New tokens, elements and arguments. What cannot be made for want of memory leaves nothing after.
 
-ghost use Rattle.std.specs.Prelude.{◌≡◌, IfOk, map, string_bytes, ◌∷◌, []};
+ghost use Rattle.std.specs.Prelude.{◌≡◌, IfOk, OnErr, OnOk, map, string_bytes, ◌++◌, ◌∷◌, []};
 ghost use Rattle.bz_tree.specs.View.{node_view, nodes_view, seg_view, segs_view};
 ghost use Rattle.bz_tree.specs.Tree.{leaf};
 ghost use Rattle.bz_attribute.specs.Effects as spec;
@@ -41,6 +41,14 @@ pub fn string<'a>(alloc: Global, value: &str) -> Result<Seg<'a>, AllocError>
     Ok(segment(alloc, vec![in alloc; literal(alloc, value)?]?))
 }
 
+/// Adds an element that is a new string.
+pub fn push_string(alloc: Global, value: &str, segs: &mut Vec<Seg<'_>>) -> Result<(), AllocError>
+    ensures { OnOk result (segs_view segs.new.items ≡ segs_view segs.old.items ++ spec.string value.now ∷ []) }
+{
+    segs.push(string(alloc, value)?)?;
+    Ok(())
+}
+
 /// An element of some nodes. It takes no memory.
 pub fn segment<'a>(alloc: Global, nodes: Vec<Node<'a>>) -> Seg<'a>
     ensures { seg_view result ≡ record { before = []; nodes = nodes_view nodes.entry.items; suffix = None } }
@@ -58,7 +66,7 @@ pub fn strings<'a>(alloc: Global, values: &[Text]) -> Result<Vec<Seg<'a>>, Alloc
 {
     let mut segs = Vec::with_capacity(alloc, values.len())?;
     for value in values {
-        segs.push(string(alloc, value.as_str())?)?;
+        push_string(alloc, value.as_str(), &mut segs)?;
     }
     Ok(segs)
 }
@@ -82,4 +90,20 @@ pub fn argument<'a>(alloc: Global, attr: &str, value: Node<'a>) -> Result<Seg<'a
     let name = token(alloc, Kind::Identifier, attr)?;
     let nodes = vec![in alloc; name, token(alloc, Kind::Operator, "=")?, value]?;
     Ok(segment(alloc, nodes))
+}
+
+/// Adds a new argument whose value is one node. An `Err` leaves the arguments as they were.
+pub fn push_argument<'a>(
+    alloc: Global,
+    attr: &str,
+    value: Node<'a>,
+    args: &mut Vec<Seg<'a>>,
+) -> Result<(), AllocError>
+    ensures ok { OnOk result
+        (segs_view args.new.items
+        ≡ segs_view args.old.items ++ spec.argument attr.now (node_view value.entry ∷ []) ∷ []) }
+    ensures err { OnErr result (segs_view args.new.items ≡ segs_view args.old.items) }
+{
+    args.push(argument(alloc, attr, value)?)?;
+    Ok(())
 }

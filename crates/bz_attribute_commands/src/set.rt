@@ -10,7 +10,7 @@ ghost use Rattle.bz_attribute.specs.Setting as spec;
 
 use crate::value::one_list;
 use bz_attribute::done::Done;
-use bz_attribute::make::{argument, list, literal, strings, token};
+use bz_attribute::make::{list, literal, push_argument, strings, token};
 use bz_attribute::rule::{find, ident_of, is_string, value_of};
 use bz_command::Text;
 use bz_token::Kind;
@@ -84,7 +84,7 @@ fn add_argument(
     ensures err { OnErr result (segs_view args.new.items ≡ segs_view args.old.items) }
 {
     let value = new_node(alloc, new_of(attr, words, &[]))?;
-    args.push(argument(alloc, attr, value)?)?;
+    push_argument(alloc, attr, value, args)?;
     Ok(Done::quiet(true))
 }
 

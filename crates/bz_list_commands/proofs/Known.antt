@@ -3,12 +3,12 @@ use Rattle.std.proofs.Common.{◌≡◌, ℕ, List, [], ◌∷◌, ◌++◌, Boo
 use Rattle.std.specs.List.{list_any}
 use Rattle.std.proofs.lemmas.Bool.{cases_Bool, false≢true}
 use Rattle.std.proofs.lemmas.Cmp.{nat_list_eq_equiv}
-use Rattle.std.proofs.lemmas.List.{take_more, map-append, append-nil}
+use Rattle.std.proofs.lemmas.List.{take_more, append-nil}
 use Rattle.std.proofs.lemmas.List.Folds.{list_any-append, list_any_at}
 use Rattle.bz_token.proofs.Classes.{same_bytes}
 use Rattle.bz_tree.specs.declared.stmt.Seg.{Seg}
 use Rattle.bz_tree.specs.Tree.{Segment}
-use Rattle.bz_tree.specs.View.{seg_view, segs_view}
+use Rattle.bz_tree.specs.View.{segs_view}
 use Rattle.bz_command.specs.Labels.{Package}
 use Rattle.bz_command.specs.Same.{completed}
 use Rattle.bz_command.specs.Commands.{All, Values}
@@ -76,9 +76,9 @@ knows_fresh home lists values i word set h at known =
     ∙ ap (is_fresh home lists (take i values)) at
 
 -- an element for a word that is fresh, and none for another
-pub fresh_pushed : (home : Package) (lists : List (List Segment)) (earlier : List (List ℕ)) (word : List ℕ) (new added : List Seg) (x : Seg) → is_fresh home lists earlier word ≡ true → added ≡ new ++ x ∷ [] → seg_view x ≡ string word
+pub fresh_pushed : (home : Package) (lists : List (List Segment)) (earlier : List (List ℕ)) (word : List ℕ) (new added : List Seg) → is_fresh home lists earlier word ≡ true → segs_view added ≡ segs_view new ++ string word ∷ []
     → segs_view added ≡ segs_view new ++ map string (if is_fresh home lists earlier word then word ∷ [] else [])
-fresh_pushed home lists earlier word new added x fresh made is = rw fresh (ap segs_view made ∙ map-append seg_view new (x ∷ []) ∙ ap (λ (z : Segment). segs_view new ++ z ∷ []) is)
+fresh_pushed home lists earlier word new added fresh made = rw fresh made
 
 pub known_passed : (home : Package) (lists : List (List Segment)) (earlier : List (List ℕ)) (word : List ℕ) (new added : List Seg) → is_fresh home lists earlier word ≡ false → added ≡ new
     → segs_view added ≡ segs_view new ++ map string (if is_fresh home lists earlier word then word ∷ [] else [])

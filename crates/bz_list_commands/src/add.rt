@@ -11,7 +11,7 @@ use bz_attribute::chosen::{Chosen, is_any_chosen};
 use bz_attribute::done::Done;
 use bz_attribute::list_labels::labels_in;
 use bz_attribute::lists::first_part;
-use bz_attribute::make::{argument, list, string};
+use bz_attribute::make::{list, push_argument, push_string};
 use bz_attribute::rule::find;
 use bz_attribute::word_set::{FEW, is_label, word_set};
 use bz_command::{Bytes, LabelSet, Package, Text};
@@ -37,7 +37,7 @@ pub fn add(
         return add_in(alloc, home, attr, values, &mut args[i]);
     }
     let elements = new_elements(alloc, home, &[], values)?;
-    args.push(argument(alloc, attr, list(alloc, elements))?)?;
+    push_argument(alloc, attr, list(alloc, elements), args)?;
     Ok(Done::quiet(true))
 }
 
@@ -74,31 +74,30 @@ fn new_elements<'a>(
     ensures { IfOk result
         (λ new. segs_view new.items ≡ spec.new_elements home.now (parts (nodes_view value.now)) values.now) }
 {
-    let mut there = if values.len() <= FEW {
-        None
-    } else {
-        Some(labels_there(alloc, home, value, values)?)
-    };
+    let mut there = labels_there(alloc, home, value, values)?;
     let mut new = Vec::new(alloc);
     for i in 0..values.len() {
         if is_fresh(home, value, values, i, &mut there)? {
-            new.push(string(alloc, values[i].as_str())?)?;
+            push_string(alloc, values[i].as_str(), &mut new)?;
         }
     }
     Ok(new)
 }
 
-// The labels of the elements of a value's list parts that are among the values.
+// The labels of the elements of a value's list parts that are among the values. None for few values.
 fn labels_there<'s>(
     alloc: Global,
     home: &'s Package,
     value: &'s [Node<'_>],
     values: &'s [Text],
-) -> Result<LabelSet<'s>, AllocError>
-    ensures { IfOk result (Knows home.now (parts (nodes_view value.now)) values.now 0) }
+) -> Result<Option<LabelSet<'s>>, AllocError>
+    ensures { IfOk result (λ there. IfSome there (Knows home.now (parts (nodes_view value.now)) values.now 0)) }
 {
+    if values.len() <= FEW {
+        return Ok(None);
+    }
     let words = word_set(alloc, home, values)?;
-    labels_in(alloc, home, Chosen::Words(&words), value)
+    Ok(Some(labels_in(alloc, home, Chosen::Words(&words), value)?))
 }
 
 // No element and no earlier value is the same label as the value at i: these are compared, or it goes into the set of

@@ -17,7 +17,7 @@ use crate::taking::{Choice, count_in, take_from, value_at};
 use bz_attribute::chosen::Chosen;
 use bz_attribute::done::{Done, Note};
 use bz_attribute::lists::{elements_at, first_part};
-use bz_attribute::make::{argument, list};
+use bz_attribute::make::{list, push_argument};
 use bz_attribute::rule::find;
 use bz_attribute::word_set::word_set;
 use bz_command::{Moved, Package, Text};
@@ -95,8 +95,7 @@ fn give_list(alloc: Global, attr: &str, args: &mut Vec<Seg<'_>>) -> Result<(), A
     if find(args, attr).is_some() {
         return Ok(());
     }
-    args.push(argument(alloc, attr, list(alloc, Vec::new(alloc)))?)?;
-    Ok(())
+    push_argument(alloc, attr, list(alloc, Vec::new(alloc)), args)
 }
 
 fn move_note(

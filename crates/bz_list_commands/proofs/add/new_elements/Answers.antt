@@ -1,4 +1,5 @@
-use Rattle.std.proofs.Common.{ℕ, List, [], ◌++◌, get_or, map, refl, ap, sym, ◌∙◌, arith, rules, take, ◌<◌, length}
+use Rattle.std.proofs.Common.{ℕ, List, [], ◌∷◌, ◌++◌, get_or, map, refl, ap, sym, ◌∙◌, arith, take, ◌<◌, length}
+use Rattle.std.specs.Global.{Vec}
 use Rattle.std.proofs.lemmas.List.{get_or_default}
 use Rattle.bz_tree.specs.declared.stmt.Seg.{Seg}
 use Rattle.bz_tree.specs.View.{nodes_view, segs_view}
@@ -7,17 +8,14 @@ use Rattle.bz_attribute.specs.Effects.{fresh, string}
 use Rattle.bz_attribute.proofs.Fresh.{fresh_step}
 use Rattle.bz_list_commands.proofs.Known.{fresh_pushed, known_passed}
 use Rattle.bz_list_commands.proofs.add.new_elements.Goals as goal
-use Rattle.bz_list_commands.proofs.add.new_elements.Goals.{then-values-le-FEW, else-values-le-FEW+in_ok-labels_there, then-branch+in_ok-string+in_ok-push, else-branch}
+use Rattle.bz_list_commands.proofs.add.new_elements.Goals.{then-branch+in_ok-push_string, else-branch}
 
 pub loop-i-init : goal.loop-i-init
 loop-i-init c =
     let home = c.args.home.now in
     let lists = parts (nodes_view c.args.value.now) in
     record {
-      there = elim c.if-values-le-FEW.branch [
-        | then-values-le-FEW w ↦ rw w.there-is (search rules)
-        | else-values-le-FEW+in_ok-labels_there w ↦ rw w.there-is w.in_ok-labels_there.ensures
-      ];
+      there = c.in_ok-there.ensures;
       added = ap (λ (ss : List Seg). segs_view ss ++ map string (fresh home lists [] c.args.values.now)) c.new-new.ensures.items;
     }
 
@@ -31,10 +29,10 @@ loop-i-preserved c =
     record {
       there = c.in_ok-is_fresh.ensures.there;
       added = elim c.if-branch.branch [
-        | then-branch+in_ok-string+in_ok-push w ↦
+        | then-branch+in_ok-push_string w ↦
             fresh_step home lists values c.loop-i.i word [] (segs_view c.loop-i.new.items) (segs_view c.if-branch.new.items) h refl
-            (fresh_pushed home lists (take c.loop-i.i values) word c.loop-i.new.items c.if-branch.new.items _ (sym c.in_ok-is_fresh.ensures.fresh ∙ w.if-branch.true) ((λ j. (w.new-is j).items) ∙ w.in_ok-push.ensures.items)
-            (w.in_ok-string.ensures ∙ ap string (w.as_str.ensures ∙ w.index-values-i.is ∙ get_or_default values c.loop-i.i _ [] h)))
+            (fresh_pushed home lists (take c.loop-i.i values) word c.loop-i.new.items c.if-branch.new.items (sym c.in_ok-is_fresh.ensures.fresh ∙ w.if-branch.true)
+            (ap (λ (v : Vec Seg). segs_view v.items) w.new-is ∙ w.in_ok-push_string.ensures ∙ ap (λ (name : List ℕ). segs_view c.loop-i.new.items ++ string name ∷ []) (w.as_str.ensures ∙ w.index-values-i.is ∙ get_or_default values c.loop-i.i _ [] h)))
             ∙ c.loop-i.invariant.added
         | else-branch w ↦
             fresh_step home lists values c.loop-i.i word [] (segs_view c.loop-i.new.items) (segs_view c.if-branch.new.items) h refl
