@@ -1,6 +1,7 @@
 //! New tokens, elements and arguments. What cannot be made for want of memory leaves nothing after.
 
 ghost use Rattle.std.specs.Prelude.{◌≡◌, IfOk, OnErr, OnOk, map, string_bytes, ◌++◌, ◌∷◌, []};
+ghost use Rattle.bz_token.specs.declared.token.Kind.TheVariants.{Operator};
 ghost use Rattle.bz_tree.specs.View.{node_view, nodes_view, seg_view, segs_view};
 ghost use Rattle.bz_tree.specs.Tree.{leaf};
 ghost use Rattle.bz_attribute.specs.Effects as spec;
@@ -16,6 +17,16 @@ pub fn token<'a>(alloc: Global, kind: Kind, text: &str) -> Result<Node<'a>, Allo
     ensures { IfOk result (λ node. node_view node ≡ leaf kind text.now) }
 {
     Ok(leaf(kind, String::from_str(alloc, text)?))
+}
+
+/// An operator. It takes no memory.
+pub fn operator<'a>(text: &'static str) -> Node<'a>
+    ensures { node_view result ≡ leaf Operator text.now }
+{
+    Node::Token(Leaf {
+        kind: Kind::Operator,
+        text: CowStr::Borrowed(text),
+    })
 }
 
 fn leaf<'a>(kind: Kind, text: String) -> Node<'a>
@@ -88,7 +99,7 @@ pub fn argument<'a>(alloc: Global, attr: &str, value: Node<'a>) -> Result<Seg<'a
     ensures { IfOk result (λ seg. seg_view seg ≡ spec.argument attr.now (node_view value.entry ∷ [])) }
 {
     let name = token(alloc, Kind::Identifier, attr)?;
-    let nodes = vec![in alloc; name, token(alloc, Kind::Operator, "=")?, value]?;
+    let nodes = vec![in alloc; name, operator("="), value]?;
     Ok(segment(alloc, nodes))
 }
 

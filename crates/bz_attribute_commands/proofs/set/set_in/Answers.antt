@@ -1,0 +1,34 @@
+use Rattle.std.proofs.Common.{◌≡◌, ℕ, List, Bool, true, false, Option, None, Some, not, if◌then◌else◌, ap, sym, ◌∙◌}
+use Rattle.bz_tree.specs.Tree.{Item, Segment}
+use Rattle.bz_tree.specs.View.{nodes_view, seg_view}
+use Rattle.bz_attribute.specs.Rules.{value}
+use Rattle.bz_attribute.specs.Lists.{with_value}
+use Rattle.bz_attribute.specs.Effects.{done}
+use Rattle.bz_attribute.specs.Setting.{New, holds_list, is_one_list, is_value, new_of, new_value}
+use Rattle.bz_attribute_commands.specs.private.SettingViews.{new_view}
+use Rattle.bz_attribute_commands.proofs.set.set_in.Goals as goal
+
+-- what was tested of the value that is there
+tested : (attr : List ℕ) (words : List (List ℕ)) (a : Segment) (new : New) (first second : List Item) (b : Bool) → ((was : Option Segment) → holds_list was ≡ is_one_list first → new ≡ new_of attr words was)
+    → first ≡ value a → second ≡ value a → b ≡ is_value new second → b ≡ is_value (new_of attr words (Some a)) (value a)
+tested attr words a new first second b told one other is =
+    let same : new ≡ new_of attr words (Some a) = told (Some a) (ap is_one_list (sym one)) in
+    is ∙ (λ j. is_value (same j) (other j))
+
+pub returns-then-is_value-clause-arg : goal.returns-then-is_value-clause-arg
+returns-then-is_value-clause-arg c =
+    let a = seg_view c.args.arg.now in
+    let is = tested c.args.attr.now c.args.words.now a (new_view c.new_of-new.result) (nodes_view c.value_of.result.now) (nodes_view c.value_of-2.result.now) true c.new_of-new.ensures c.value_of.ensures c.value_of-2.ensures c.if-is_value.ensures in
+    ap (λ (b : Bool). if b then a else with_value (new_value (new_of c.args.attr.now c.args.words.now (Some a))) a) is
+
+pub returns-then-is_value-clause-done : goal.returns-then-is_value-clause-done
+returns-then-is_value-clause-done c =
+    let a = seg_view c.args.arg.now in
+    let is = tested c.args.attr.now c.args.words.now a (new_view c.new_of-new.result) (nodes_view c.value_of.result.now) (nodes_view c.value_of-2.result.now) true c.new_of-new.ensures c.value_of.ensures c.value_of-2.ensures c.if-is_value.ensures in
+    c.quiet.ensures ∙ ap (λ (b : Bool). done None (not b)) is
+
+pub returns-clause-done : goal.returns-clause-done
+returns-clause-done c =
+    let a = seg_view c.args.arg.now in
+    let is = tested c.args.attr.now c.args.words.now a (new_view c.new_of-new.result) (nodes_view c.value_of.result.now) (nodes_view c.value_of-2.result.now) false c.new_of-new.ensures c.value_of.ensures c.value_of-2.ensures c.if-is_value.ensures in
+    c.quiet-2.ensures ∙ ap (λ (b : Bool). done None (not b)) is
