@@ -16,30 +16,36 @@ pub fn label(alloc: Global, home: &Package, target: &Target) -> Result<String, A
 {
     let mut text = String::new(alloc);
     push_home(&mut text, home)?;
+    push_target(alloc, &mut text, target)?;
+    Ok(text)
+}
+
+fn push_target(alloc: Global, text: &mut String, target: &Target) -> Result<(), AllocError>
+    ensures { OnOk result (string_bytes text.new ≡ string_bytes text.old ++ spec.target_text target.now) }
+{
     match &target.marked {
-        Marked::Name(name) => text.push_str(name.as_str())?,
-        Marked::Pkg => text.push_str("__pkg__")?,
-        Marked::All => text.push_str("*")?,
+        Marked::Name(name) => text.push_str(name.as_str()),
+        Marked::Pkg => text.push_str("__pkg__"),
+        Marked::All => text.push_str("*"),
         Marked::Kind(kind) => {
             text.push_str("%")?;
-            text.push_str(kind.as_str())?
+            text.push_str(kind.as_str())
         }
         Marked::Line(line) => {
             text.push_str("%")?;
-            text.push_str(line.to_string(alloc)?.as_str())?
+            text.push_str(line.to_string(alloc)?.as_str())
         }
     }
-    Ok(text)
 }
 
 /// A rule of a package, by its name or by `%` and its kind; empty for a statement that is no rule.
 pub fn shown(alloc: Global, home: &Package, stmt: &Stmt<'_>) -> Result<String, AllocError>
     ensures { IfOk result (λ text. string_bytes text ≡ spec.shown_text home.now (view stmt.now)) }
 {
-    let mut text = String::new(alloc);
     let Some(rule) = rule_of(&stmt.nodes) else {
-        return Ok(text);
+        return Ok(String::new(alloc));
     };
+    let mut text = String::new(alloc);
     push_home(&mut text, home)?;
     match read_name(alloc, &rule.call.segs)? {
         Some(name) => text.push_str(name.as_str())?,
