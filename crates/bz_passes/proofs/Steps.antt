@@ -1,6 +1,6 @@
 -- One turn of a loop that goes over a list and writes each element.
 use Rattle.std.proofs.Common.{◌≡◌, ℕ, suc, ◌<◌, ◌+◌, Bool, true, false, ◌||◌, List, [], ◌∷◌, ◌++◌, length, map, take, drop, get_or, refl, sym, ◌∙◌, ap, append_assoc}
-use Rattle.std.proofs.lemmas.List.{drop_more, take_more_set, length-map}
+use Rattle.std.proofs.lemmas.List.{drop_more, take_more_set, map_more, length-map}
 use Rattle.std.proofs.Math.Nat.{suc_inj}
 use Rattle.std.proofs.lemmas.Grind.{common_steps}
 use Rattle.std.proofs.Common.{arith}
@@ -80,3 +80,7 @@ kept_and_fits m (p ∷ ps) slot (k ∷ ks) h =
 pub no_slot_fits : {T C : Type 0} (M : Type 0) (ps : List (Pass T C)) → Fits {M = M} (map no_slot ps) ps
 no_slot_fits M [] = tt
 no_slot_fits M (p ∷ ps) = (length-map p.commands (λ command. []), no_slot_fits M ps)
+
+-- one more element is put after those that the first i elements give
+pub mapped_more : {X Y : Type 0} (f : X → Y) (ys pushed : List Y) (y : Y) (xs : List X) (i : ℕ) (x : X) → i < length xs → pushed ≡ ys ++ y ∷ [] → y ≡ f (get_or xs i x) → ys ≡ map f (take i xs) → pushed ≡ map f (take (i + 1) xs)
+mapped_more f ys pushed y xs i x h e same before = rw (e, map_more f xs i x h, before, same) refl

@@ -1,8 +1,7 @@
-use Rattle.std.proofs.Common.{◌≡◌, ℕ, ◌+◌, ◌<◌, Bool, List, [], ◌∷◌, ◌++◌, length, take, get_or, refl, sym, ap, ◌∙◌, arith}
-use Rattle.std.proofs.lemmas.Grind.{common_steps}
+use Rattle.std.proofs.Common.{◌≡◌, ℕ, ◌+◌, ◌<◌, Bool, List, [], ◌∷◌, ◌++◌, length, take, get_or, refl, sym, ap, ◌∙◌}
 use Rattle.std.specs.Prelude.{bytes_eq}
 use Rattle.std.specs.List.{list_any}
-use Rattle.std.proofs.lemmas.List.{take_more}
+use Rattle.std.proofs.lemmas.List.{take_all, take_more}
 use Rattle.std.proofs.lemmas.List.Folds.{list_any-append}
 use Rattle.std.proofs.lemmas.List.Sorted.{list_any-IsPermutation}
 use Rattle.bz_command.specs.Same.{completed}
@@ -17,11 +16,12 @@ more p q labels pushed label words i d h e same before =
 pub loop-word-preserved : goal.loop-word-preserved
 loop-word-preserved c = λ q.
     let word = get_or c.args.words.now c.loop-word.word-index c.word-item.result in
-    let is : c.new.result ≡ completed c.args.home.now word = cc in
+    let is : c.new.result ≡ completed c.args.home.now word = c.new.ensures ∙ ap (completed c.args.home.now) (c.as_bytes.ensures.value ∙ c.as_str.ensures ∙ c.word-item.is) in
     more (bytes_eq q) (λ text. bytes_eq q (completed c.args.home.now text)) c.loop-word.labels.items c.push.new.self.items c.new.result c.args.words.now c.loop-word.word-index c.word-item.result c.loop-word-test.true c.in_ok-push.ensures.items
     (ap (bytes_eq q) is) (c.loop-word.invariant q)
 
 pub returns-clause-all : goal.returns-clause-all
 returns-clause-all c = λ text.
     sym (list_any-IsPermutation (bytes_eq (completed c.args.home.now text)) c.loop-word.labels.items c.sort_unstable.new.self.items c.sort_unstable.ensures.permutation)
-    ∙ grind (arith, common_steps, c.loop-word.invariant text)
+    ∙ c.loop-word.invariant (completed c.args.home.now text)
+    ∙ ap (list_any (λ word. bytes_eq (completed c.args.home.now text) (completed c.args.home.now word))) (take_all c.loop-word.word-index c.args.words.now c.loop-word-test.false)
