@@ -1,5 +1,5 @@
 -- Reads, one after another.
-use Rattle.std.proofs.Common.{◌≡◌, ℕ, ◌≤◌, ◌+◌, Bool, true, false, List, [], ◌∷◌, ◌++◌, length, length-append, take, drop, refl, sym, ◌∙◌, ap, subst, append-nil, append_assoc, arith}
+use Rattle.std.proofs.Common.{rules, ◌<◌, ◌-◌, ◌==◌, ◌≡◌, ℕ, ◌≤◌, ◌+◌, Bool, true, false, List, [], ◌∷◌, ◌++◌, length, length-append, take, drop, refl, sym, ◌∙◌, ap, subst, append-nil, append_assoc, arith}
 use Rattle.std.specs.Prelude.{IsTrue, ◌||◌}
 use Rattle.std.proofs.lemmas.Bool.{false≢true}
 use Rattle.std.proofs.lemmas.List.{drop-append-le, take-append-le}
@@ -16,6 +16,44 @@ read_nothing max ahead within =
     or_false : (b : Bool) → b ≡ (b || false)
     or_false true = refl
     or_false false = refl
+
+-- a read that failed left the bytes
+pub read_failed : (max : ℕ) (old : Ahead) (items left : List ℕ) (start reads : ℕ) (ended : Bool) → record { bytes = drop start items; reads = reads; ended = ended } ≡ old → left ≡ items → old.reads ≤ max
+    → IsReadOn max old (record { bytes = drop start left; reads = reads; ended = ended }) []
+read_failed max old items left start reads ended view same made =
+    subst (λ l. IsReadOn max old (record { bytes = drop start l; reads = reads; ended = ended }) []) (sym same)
+    (subst (λ a. IsReadOn max old a []) (sym view) (read_nothing max old made))
+
+pub nothing_within : (most : ℕ) → length (joined []) ≤ most
+nothing_within most = omega arith
+
+-- a read gave a piece
+pub read_once : (max most : ℕ) (old new : Ahead) (items all piece : List ℕ) (start text_len reads n : ℕ) (ended : Bool) → record { bytes = drop start items; reads = reads; ended = ended } ≡ old
+    → new ≡ record { bytes = drop start all; reads = reads + 1; ended = n == 0 } → all ≡ items ++ piece → n ≡ length piece → n ≤ most → most ≤ 8192 → start + text_len ≤ length items → 0 < max - reads → old.ended ≡ false
+    → IsReadOn max old new (piece ∷ []) × (length (joined (piece ∷ [])) ≤ most)
+read_once max most old new items all piece start text_len reads n ended view made same size within few fits left going =
+    let whole : length (joined (piece ∷ [])) ≡ length piece = ap length (append-nil piece) in
+    let before : ended ≡ false = ap (λ (a : Ahead). a.ended) view ∙ going in
+    let is : IsReadOn max (record { bytes = drop start items; reads = reads; ended = ended }) (record { bytes = drop start all; reads = reads + 1; ended = n == 0 }) (piece ∷ []) = record {
+      bytes = ap (drop start) same ∙ drop-append-le start items piece (omega arith) ∙ ap (λ l. drop start items ++ l) (sym (append-nil piece));
+      reads = refl;
+      within = omega arith;
+      ended = ap (λ k. k == 0) size ∙ met_end piece ∙ ap (λ b. b || ends (piece ∷ [])) (sym before);
+      stays = λ h. absurd (false≢true (sym before ∙ h));
+      none_ends = λ h. (some_bytes piece (ap (λ k. k == 0) (sym size) ∙ h), tt);
+      few = omega (arith, whole, size, within, few);
+    } in (
+      subst (λ a. IsReadOn max a new (piece ∷ [])) view (subst (λ a. IsReadOn max (record { bytes = drop start items; reads = reads; ended = ended }) a (piece ∷ [])) (sym made) is),
+      omega (arith, whole, size, within),
+    )
+  where
+    met_end : (piece : List ℕ) → (length piece == 0) ≡ ends (piece ∷ [])
+    met_end [] = refl
+    met_end (b ∷ bs) = search rules
+
+    some_bytes : (piece : List ℕ) → (length piece == 0) ≡ false → 0 < length piece
+    some_bytes [] h = absurd (false≢true (sym h))
+    some_bytes (b ∷ bs) h = omega arith
 
 none_append : (xs ys : List (List ℕ)) → NoneEnds xs → NoneEnds ys → NoneEnds (xs ++ ys)
 none_append [] ys h k = k

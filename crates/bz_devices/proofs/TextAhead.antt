@@ -1,5 +1,5 @@
 -- The front of the bytes ahead that is known to be text.
-use Rattle.std.proofs.Common.{◌≡◌, ℕ, zero, suc, ◌+◌, ◌-◌, ◌≤◌, ◌<◌, List, ◌++◌, length, take, drop, take-append-drop, sym, ◌∙◌, ap, subst, arith}
+use Rattle.std.proofs.Common.{length-append, ◌≡◌, ℕ, zero, suc, ◌+◌, ◌-◌, ◌≤◌, ◌<◌, List, ◌++◌, length, take, drop, take-append-drop, sym, ◌∙◌, ap, subst, arith}
 use Rattle.std.specs.Prelude.{IsUtf8}
 use Rattle.std.proofs.lemmas.List.{take-take, drop-take, drop-drop, drop-append-le, take-append-le, length-drop, length-take-le}
 use Rattle.std.proofs.lemmas.Str.{IsUtf8-append, IsUtf8-nil}
@@ -18,6 +18,12 @@ text_stays items piece start k within text =
     let left : length (drop start items) ≡ length items - start = length-drop start items in
     subst (λ l. IsUtf8 (take k l)) (sym (drop-append-le start items piece (omega arith)))
     (subst IsUtf8 (sym (take-append-le k (drop start items) piece (omega arith))) text)
+
+pub text_grown : (items piece all : List ℕ) (start k : ℕ) → all ≡ items ++ piece → (start + k ≤ length items) × IsUtf8 (take k (drop start items)) → (start + k ≤ length all) × IsUtf8 (take k (drop start all))
+text_grown items piece all start k e h =
+    let longer : length all ≡ length items + length piece = ap length e ∙ length-append items piece in
+    let within : start + k ≤ length items = h.0 in
+    (omega (arith, within, longer), subst (λ l. IsUtf8 (take k (drop start l))) (sym e) (text_stays items piece start k within h.1))
 
 -- the first n bytes are taken, and m bytes of the text are left
 left_after : (bytes : List ℕ) (k n m : ℕ) → k ≤ length bytes → (0 < m → n + m ≤ k) → IsUtf8 (take m (drop n (take k bytes))) → IsUtf8 (take m (drop n bytes))
