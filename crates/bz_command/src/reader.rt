@@ -1,10 +1,10 @@
 //! How a command is read from its words.
 
-ghost use Rattle.std.specs.Prelude.{◌≡◌, ◌≢◌, ◌∷◌, [], Err, IfOk, IsTrue, MatchResult, map};
+ghost use Rattle.std.specs.Prelude.{◌≡◌, ◌≢◌, ◌∷◌, [], Err, IfOk, IsTrue, MatchResult, Some, map};
 ghost use Rattle.std.specs.List.{list_all, list_any};
 ghost use Rattle.std.specs.Result.{result_map_both};
 ghost use Rattle.bz_command.specs.Commands as spec;
-ghost use Rattle.bz_command.specs.private.CommandSteps.{attribute_of, attributes_of, some_of, none_of};
+ghost use Rattle.bz_command.specs.private.CommandSteps.{attribute_of, attributes_of, command_read, some_of, none_of};
 ghost use Rattle.bz_command.specs.CommandViews.{attributes_view, commented_view, field_view, moved_view};
 
 use crate::command::{Action, Attributes, Command, CommandFault, Commented, Field, Moved, Setting};
@@ -22,18 +22,28 @@ pub fn read_command(alloc: Global, text: &str) -> Result<Option<Command>, Comman
     let Some(name) = take_word(&mut words) else {
         return Ok(None);
     };
-    match name.as_str() {
-        "add" => Ok(Some(read_add(words)?)),
-        "remove" => Ok(Some(read_remove(words)?)),
-        "set" => Ok(Some(read_set(words)?)),
-        "set_if_absent" => Ok(Some(read_set_if_absent(words)?)),
-        "delete" => Ok(Some(read_delete(words)?)),
-        "rename" => Ok(Some(read_rename(words)?)),
-        "move" => Ok(Some(read_move(words)?)),
-        "replace" => Ok(Some(read_replace(words)?)),
-        "comment" => Ok(Some(read_comment(words)?)),
-        "print" => Ok(Some(read_print(alloc, words)?)),
-        _ => Ok(None),
+    match read_named(alloc, name.as_str(), words) {
+        Some(command) => Ok(Some(command?)),
+        None => Ok(None),
+    }
+}
+
+// The words after a command's name; `None` for another name.
+fn read_named(alloc: Global, name: &str, words: Vec<Text>) -> Option<Result<Command, CommandFault>>
+    ensures { result ≢ Some (Err CommandFault.OutOfMemory) → command_read result ≡ spec.named_command name.now words.items }
+{
+    match name {
+        "add" => Some(read_add(words)),
+        "remove" => Some(read_remove(words)),
+        "set" => Some(read_set(words)),
+        "set_if_absent" => Some(read_set_if_absent(words)),
+        "delete" => Some(read_delete(words)),
+        "rename" => Some(read_rename(words)),
+        "move" => Some(read_move(words)),
+        "replace" => Some(read_replace(words)),
+        "comment" => Some(read_comment(words)),
+        "print" => Some(read_print(alloc, words)),
+        _ => None,
     }
 }
 

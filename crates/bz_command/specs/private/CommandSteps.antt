@@ -1,8 +1,8 @@
 -- For private clauses alone: what the words of a command give.
-use Rattle.std.specs.Prelude.{ℕ, List, [], ◌∷◌, if◌then◌else◌, Result, Ok, Err}
+use Rattle.std.specs.Prelude.{ℕ, List, [], ◌∷◌, if◌then◌else◌, Option, Some, None, Result, Ok, Err}
 use Rattle.bz_command.specs.declared.command.CommandFault.{CommandFault}
 use Rattle.bz_command.specs.declared.command.CommandFault.TheVariants.{WrongCount, BadAttribute}
-use Rattle.bz_command.specs.Commands.{Attributes, Every, Named, is_star}
+use Rattle.bz_command.specs.Commands.{Attributes, Every, Named, Command, a_command, is_star}
 use Rattle.bz_command.specs.Names.{is_identifier}
 
 abbrev pub attribute_of : List ℕ → Result (List ℕ) CommandFault
@@ -21,3 +21,8 @@ some_of (word ∷ words) = Ok (word ∷ words)
 abbrev pub none_of : List (List ℕ) → Result (Unit {0}) CommandFault
 none_of [] = Ok tt
 none_of (word ∷ words) = Err WrongCount
+
+-- what is read where a name may be no command's
+abbrev pub command_read : Option (Result Command CommandFault) → Result (Option Command) CommandFault
+command_read None = Ok None
+command_read (Some read) = a_command read
