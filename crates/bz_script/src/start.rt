@@ -29,17 +29,21 @@ pub fn requested(
 ) -> Result<(Flags, Script), StartFault> {
     let (flags, words) = read_flags(alloc, words)?;
     let script = match &flags.file {
-        Some(file) => {
-            let bytes = command_bytes(rt, alloc, file.as_str())?;
-            read_command_file(alloc, bytes.as_slice())?
-        }
-        None => {
-            let words = texts(alloc, words).map_err(|_| UsageFault::OutOfMemory)?;
-            read_group(alloc, COMMAND_LINE, words.as_slice())?
-        }
+        Some(file) => script_in_file(rt, alloc, file.as_str())?,
+        None => script_of_words(alloc, words)?,
     };
     check_inputs(&flags, script.as_slice())?;
     Ok((flags, script))
+}
+
+fn script_in_file(rt: &HostRuntime, alloc: Global, path: &str) -> Result<Script, StartFault> {
+    let bytes = command_bytes(rt, alloc, path)?;
+    Ok(read_command_file(alloc, bytes.as_slice())?)
+}
+
+fn script_of_words(alloc: Global, words: &[String]) -> Result<Script, UsageFault> {
+    let words = texts(alloc, words)?;
+    read_group(alloc, COMMAND_LINE, words.as_slice())
 }
 
 /// The bytes of a command file; `-` is standard input.
