@@ -1,4 +1,4 @@
-use Rattle.std.proofs.Common.{◌≡◌, ◌≤◌, length, take, arith, ◌∙◌}
+use Rattle.std.proofs.Common.{Result, Ok, Err, OnErr, ◌≡◌, ◌≤◌, length, take, arith, ◌∙◌}
 use Rattle.std.proofs.lemmas.Grind.{common_steps}
 use Rattle.bz_devices.proofs.Pieces.{read_after}
 use Rattle.bz_devices.proofs.input.read_at_most.Goals as goal
@@ -9,3 +9,10 @@ returns-in-Ok-clause-read g c =
     let within : n ≤ length c.read.new.buf = c.in-Ok.ensures.within in
     let front : take c.len-start.result c.deref_mut.result.now ≡ c.args.bytes.now.items = grind (arith, common_steps, c.deref_mut.ensures.value, c.in_ok-resize.ensures.items, c.len-start.ensures) in
     (take n c.read.new.buf, c.in-Ok.ensures.ok, c.truncate.ensures.items ∙ read_after c.deref_mut.result.now c.args.bytes.now.items c.read.new.buf _ _ c.len-start.result n c.resize.new.self.len front (grind (arith, common_steps)) within (grind (arith, common_steps)), grind (arith, common_steps), grind (arith, common_steps))
+
+on_err : {T E P : Type 0} (r : Result T E) → P → OnErr r P
+on_err (Ok x) h = tt
+on_err (Err e) h = h
+
+pub returns-in_err-resize-clause-err : goal.returns-in_err-resize-clause-err
+returns-in_err-resize-clause-err g c = on_err c.from_residual.result (g.met.S.Source.gave_nothing _, c.in_err-resize.ensures.items)
