@@ -69,24 +69,6 @@ fn closed<'a>(kind: GroupKind, walk: Walk<'a>) -> Result<Option<Group<'a>>, Allo
     }))
 }
 
-// How many segments there is room for at the first comma: a rule has some more arguments than most lists have elements.
-#[inline(always)]
-fn room_at_comma(kind: Option<GroupKind>) -> usize {
-    match kind {
-        Some(GroupKind::Call) => 8,
-        _ => 4,
-    }
-}
-
-// A segment ends before this token.
-#[inline(always)]
-fn ends_segment(following: Option<&Token<'_>>) -> bool {
-    match following {
-        Some(token) => matches!(mark_of(token), Mark::Comma | Mark::Close(_)),
-        None => false,
-    }
-}
-
 impl<'a> Frame<'a> {
     #[inline(always)]
     fn new(alloc: Global, kind: Option<GroupKind>) -> Frame<'a>
@@ -124,19 +106,13 @@ impl<'a> Frame<'a> {
         }
     }
 
-    // The token that follows tells whether this one is a segment alone.
     #[inline(always)]
-    fn add_leaf(
-        &mut self,
-        token: &Token<'a>,
-        following: Option<&Token<'a>>,
-    ) -> Result<(), AllocError>
+    fn add_leaf(&mut self, token: &Token<'a>) -> Result<(), AllocError>
         ensures value { OnOk result (level self.new ≡ with_own (level self.old) (own_of Plain (placed token.now))) }
         ensures borrowed { OnOk result (frame_owned self.new ≤ frame_owned self.old) }
     {
         self.kind = self.kind_with(token);
         self.at = kind_after(token.kind, token.text);
-        self.walk.reserve(ends_segment(following))?;
         self.walk
             .add_node(Node::Token(leaf_of(token)), token.line, token.text)?;
         Ok(())
@@ -152,7 +128,6 @@ impl<'a> Frame<'a> {
             self.walk
                 .add_node(Node::Token(leaf_of(token)), token.line, "")?;
         } else {
-            self.walk.reserve_segments(room_at_comma(self.kind))?;
             self.walk.add_comma(alloc, token.line)?;
         }
         Ok(())
@@ -173,7 +148,6 @@ impl<'a> Frame<'a> {
         ensures borrowed { OnOk result (frame_owned self.new ≤ frame_owned self.old + group_owned group.entry) }
     {
         self.at = Preceding::Operand;
-        self.walk.reserve(true)?;
         self.walk.add_node(Node::Group(group), line, "")?;
         Ok(())
     }
@@ -218,19 +192,14 @@ impl<'a> State<'a> {
 
     // False: there is no tree.
     #[inline(always)]
-    fn step(
-        &mut self,
-        alloc: Global,
-        token: &Token<'a>,
-        following: Option<&Token<'a>>,
-    ) -> Result<bool, AllocError>
+    fn step(&mut self, alloc: Global, token: &Token<'a>) -> Result<bool, AllocError>
         ensures value { IfOk result (λ some. then_some some (state self.new)
             ≡ next (placed token.now) (state self.old)) }
         ensures borrowed { OnOk result (state_owned self.new ≤ state_owned self.old) }
     {
         match mark_of(token) {
             Mark::Newline => {}
-            Mark::Plain => self.top.add_leaf(token, following)?,
+            Mark::Plain => self.top.add_leaf(token)?,
             Mark::Comma => self.top.add_comma(alloc, token)?,
             Mark::Comment => self.top.add_comment(token)?,
             Mark::Open(shape) => self.open(alloc, shape)?,
@@ -245,8 +214,8 @@ impl<'a> State<'a> {
             ≡ run (level self.old.top) (levels self.old.outer.items) (map placed tokens.now)) }
         ensures borrowed { OnOk result (state_owned self.new ≤ state_owned self.old) }
     {
-        for i in 0..tokens.len() {
-            if !self.step(alloc, &tokens[i], tokens.get(i + 1))? {
+        for token in tokens {
+            if !self.step(alloc, token)? {
                 return Ok(false);
             }
         }

@@ -104,18 +104,6 @@ fn put_above<'a>(
     Ok(())
 }
 
-// The last segment of a bracket, which takes no more room than it needs where it is the only one.
-#[inline(always)]
-fn push_last<'a>(segs: &mut Vec<Seg<'a>>, seg: Seg<'a>) -> Result<(), AllocError>
-    ensures { OnOk result (segs.new.items ≡ segs.old.items ++ seg.entry ∷ []) }
-{
-    if segs.is_empty() {
-        segs.reserve_exact(1)?;
-    }
-    segs.push(seg)?;
-    Ok(())
-}
-
 #[inline(always)]
 fn put_suffix<'a>(suffix: &mut Option<CowStr<'a>>, text: CowStr<'a>)
     ensures { suffix.new ≡ Some text.entry }
@@ -166,34 +154,6 @@ impl<'a> Walk<'a> {
         ensures { result ≡ is_in_first (so_far self.now) }
     {
         self.whole && self.segs.is_empty()
-    }
-
-    // Room for the first node of a segment: alone, as most elements of a list are, or with two more, as in most
-    // arguments.
-    #[inline(always)]
-    pub(crate) fn reserve(&mut self, alone: bool) -> Result<(), AllocError>
-        ensures value { OnOk result (walked self.new ≡ walked self.old) }
-        ensures whole { self.new.whole ≡ self.old.whole }
-        ensures borrowed { OnOk result (walk_owned self.new ≡ walk_owned self.old) }
-    {
-        if !self.here.nodes.is_empty() {
-            return Ok(());
-        }
-        self.here.nodes.reserve_exact(if alone { 1 } else { 3 })?;
-        Ok(())
-    }
-
-    // Room for so many segments, where there are none.
-    #[inline(always)]
-    pub(crate) fn reserve_segments(&mut self, room: usize) -> Result<(), AllocError>
-        ensures value { OnOk result (so_far self.new ≡ so_far self.old) }
-        ensures borrowed { OnOk result (walk_owned self.new ≡ walk_owned self.old) }
-    {
-        if !self.segs.is_empty() {
-            return Ok(());
-        }
-        self.segs.reserve_exact(room)?;
-        Ok(())
     }
 
     #[inline(always)]
@@ -273,7 +233,7 @@ impl<'a> Walk<'a> {
                 end: after,
             }));
         }
-        push_last(&mut segs, here)?;
+        segs.push(here)?;
         Ok(Some(Content {
             segs,
             trailing,

@@ -4,8 +4,8 @@ use Rattle.bz_tree.specs.private.Steps.{run, state}
 use Rattle.bz_tree.specs.private.BorrowedSteps.{state_owned}
 use Rattle.bz_tree.proofs.build.State.walk.Given as goal
 
-abbrev pub invariant-loop-i : goal.invariant-loop-i
-invariant-loop-i l = record {
-  same : run (state l.self).0 (state l.self).1 (map placed (drop l.i l.tokens)) ≡ run (state l.initial.self).0 (state l.initial.self).1 (map placed l.tokens);
+abbrev pub invariant-loop-token : goal.invariant-loop-token
+invariant-loop-token l = record {
+  same : run (state l.self).0 (state l.self).1 (map placed (drop l.token-index l.tokens)) ≡ run (state l.initial.self).0 (state l.initial.self).1 (map placed l.tokens);
   borrowed : state_owned l.self ≤ state_owned l.initial.self;
 }

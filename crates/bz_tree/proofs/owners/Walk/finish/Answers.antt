@@ -7,7 +7,7 @@ use Rattle.bz_tree.proofs.owners.Walk.finish.Goals as goal
 
 pub returns-clause-borrowed : goal.returns-clause-borrowed
 returns-clause-borrowed c =
-    let segs = ap segs_owned c.in_ok-push_last.ensures ∙ seg_push c.args.self.segs.items _ in
+    let segs = ap segs_owned c.in_ok-push.ensures.items ∙ seg_push c.args.self.segs.items _ in
     omega (arith, segs)
 
 pub returns-clause-value : goal.returns-clause-value
