@@ -1,9 +1,17 @@
 //! What a text is appended to.
 
 ghost use Rattle.std.specs.Prelude.{◌≡◌, ℕ, List, ◌++◌, OnOk, string_bytes};
+ghost use Rattle.bz_layout.specs.Pieces.{gap_bytes};
+ghost use Rattle.bz_layout.specs.declared.spacing.Gap.TheVariants.{Line};
 ghost use Rattle.bz_layout.specs.private.Kept.{IsBegunBy};
 
+use crate::write::put_new_line;
 use std::alloc::AllocError;
+
+// A newline with the indent of the last level that is cut from one text.
+const NEW_LINE: &str = "\n                ";
+
+const LAST_CUT: usize = 4;
 
 /// Bytes or a string, at whose end texts are put.
 pub(crate) trait Append {
@@ -13,6 +21,19 @@ pub(crate) trait Append {
     fn put(&mut self, text: &str) -> Result<(), AllocError>
         ensures put { OnOk result (bytes self.new ≡ bytes self.old ++ text.now) }
         ensures begun { IsBegunBy (bytes self.old) (bytes self.new) };
+
+    /// The same of a text that is mostly a byte.
+    fn put_short(&mut self, text: &str) -> Result<(), AllocError>
+        ensures put { OnOk result (bytes self.new ≡ bytes self.old ++ text.now) }
+        ensures begun { IsBegunBy (bytes self.old) (bytes self.new) };
+}
+
+/// Where lines are begun.
+pub(crate) trait NewLine: Append {
+    /// Appends a newline and the indent of a level. `Err`: memory was refused.
+    fn new_line(&mut self, level: usize) -> Result<(), AllocError>
+        ensures put { OnOk result (Self.bytes self.new ≡ Self.bytes self.old ++ gap_bytes (Line level)) }
+        ensures begun { IsBegunBy (Self.bytes self.old) (Self.bytes self.new) };
 }
 
 impl Append for Vec<u8> {
@@ -22,6 +43,31 @@ impl Append for Vec<u8> {
     fn put(&mut self, text: &str) -> Result<(), AllocError> {
         self.extend_from_slice(text.as_bytes())
     }
+
+    #[inline(always)]
+    fn put_short(&mut self, text: &str) -> Result<(), AllocError> {
+        match text.as_bytes() {
+            [byte] => {
+                self.push(*byte)?;
+                Ok(())
+            }
+            bytes => self.extend_from_slice(bytes),
+        }
+    }
+}
+
+impl NewLine for Vec<u8> {
+    // One copy of a known length and a cut cost less than a copy of any length.
+    #[inline(always)]
+    fn new_line(&mut self, level: usize) -> Result<(), AllocError> {
+        if level > LAST_CUT {
+            return put_new_line(level, self);
+        }
+        let len = self.len();
+        self.extend_from_slice(NEW_LINE.as_bytes())?;
+        self.truncate(len + 1 + 4 * level);
+        Ok(())
+    }
 }
 
 impl Append for String {
@@ -30,5 +76,16 @@ impl Append for String {
     #[inline(always)]
     fn put(&mut self, text: &str) -> Result<(), AllocError> {
         self.push_str(text)
+    }
+
+    #[inline(always)]
+    fn put_short(&mut self, text: &str) -> Result<(), AllocError> {
+        self.push_str(text)
+    }
+}
+
+impl NewLine for String {
+    fn new_line(&mut self, level: usize) -> Result<(), AllocError> {
+        put_new_line(level, self)
     }
 }

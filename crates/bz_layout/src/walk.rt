@@ -7,11 +7,11 @@ ghost use Rattle.bz_layout.specs.private.Kept.{IsBegunBy};
 ghost use Rattle.bz_layout.specs.Pieces.{gap_bytes};
 ghost use Rattle.bz_layout.specs.private.RowLayout.{due, gap_for, top, first_gap, has_beside, start, with_token, opened, closed_by, ended, step, run, laid};
 
-use crate::append::Append;
+use crate::append::NewLine;
 use crate::marks::Mark;
 use crate::respell::put_written;
 use crate::spacing::{Edge, Gap, hugs, token_closes_up, token_edge};
-use crate::write::{closing, opening, put, put_new_line};
+use crate::write::{closing, opening, put};
 use bz_token::Kind;
 use bz_tree::{GroupKind, Part};
 use std::alloc::{AllocError, Global};
@@ -86,13 +86,13 @@ impl Walk {
 
     // The comma that is due and the gap before the first node of a segment.
     #[inline(always)]
-    fn put_first<T: Append>(&self, out: &mut T) -> Result<(), AllocError>
+    fn put_first<T: NewLine>(&self, out: &mut T) -> Result<(), AllocError>
         ensures ok { OnOk result (T.bytes out.new ≡ T.bytes out.old
             ++ (due self.now.here Start ++ gap_bytes (first_gap self.now.here self.now.level))) }
         ensures begun { IsBegunBy (T.bytes out.old) (T.bytes out.new) }
     {
         if self.here.mark.broken {
-            put_new_line(self.level, out)
+            out.new_line(self.level)
         } else if self.here.later {
             out.put(", ")
         } else {
@@ -102,7 +102,7 @@ impl Walk {
 
     // The gap before what closes up or does not, after the comma that is due.
     #[inline(always)]
-    fn put_gap<T: Append>(&self, closes: bool, out: &mut T) -> Result<(), AllocError>
+    fn put_gap<T: NewLine>(&self, closes: bool, out: &mut T) -> Result<(), AllocError>
         ensures ok { OnOk result (T.bytes out.new ≡ T.bytes out.old
             ++ (due self.now.here self.now.left
             ++ gap_bytes (gap_for (first_gap self.now.here self.now.level) self.now.left closes))) }
@@ -114,11 +114,11 @@ impl Walk {
         if closes || matches!(self.left, Edge::Joined | Edge::Dotted) {
             return Ok(());
         }
-        out.put(" ")
+        out.put_short(" ")
     }
 
     #[inline(always)]
-    fn put_token<T: Append>(
+    fn put_token<T: NewLine>(
         &mut self,
         kind: Kind,
         text: &str,
@@ -135,7 +135,7 @@ impl Walk {
     }
 
     #[inline(never)]
-    fn put_rarer<T: Append>(
+    fn put_rarer<T: NewLine>(
         &mut self,
         kind: Kind,
         text: &str,
@@ -150,7 +150,7 @@ impl Walk {
 
     // The tokens that most statements are made of are told apart once.
     #[inline(always)]
-    fn token<T: Append>(&mut self, kind: Kind, text: &str, out: &mut T) -> Result<(), AllocError>
+    fn token<T: NewLine>(&mut self, kind: Kind, text: &str, out: &mut T) -> Result<(), AllocError>
         ensures laid { OnOk result
             (laid self.new (T.bytes out.new) ≡ with_token kind text.now (laid self.old (T.bytes out.old))) }
         ensures begun { IsBegunBy (T.bytes out.old) (T.bytes out.new) }
@@ -163,12 +163,12 @@ impl Walk {
         }
     }
 
-    fn open<T: Append>(&mut self, kind: GroupKind, out: &mut T) -> Result<(), AllocError>
+    fn open<T: NewLine>(&mut self, kind: GroupKind, out: &mut T) -> Result<(), AllocError>
         ensures laid { OnOk result (laid self.new (T.bytes out.new) ≡ opened kind (laid self.old (T.bytes out.old))) }
         ensures begun { IsBegunBy (T.bytes out.old) (T.bytes out.new) }
     {
         self.put_gap(hugs(kind), out)?;
-        out.put(opening(kind))?;
+        out.put_short(opening(kind))?;
         self.outer.push(self.here)?;
         let mark = match self.marks.pop() {
             Some(mark) => mark,
@@ -190,19 +190,19 @@ impl Walk {
         Ok(())
     }
 
-    fn close<T: Append>(&mut self, one_comma: bool, out: &mut T) -> Result<(), AllocError>
+    fn close<T: NewLine>(&mut self, one_comma: bool, out: &mut T) -> Result<(), AllocError>
         ensures laid { OnOk result
             (laid self.new (T.bytes out.new) ≡ closed_by one_comma (laid self.old (T.bytes out.old))) }
         ensures begun { IsBegunBy (T.bytes out.old) (T.bytes out.new) }
     {
         if self.here.mark.broken {
             self.level = self.level.saturating_sub(1);
-            put_new_line(self.level, out)?;
+            out.new_line(self.level)?;
         } else if one_comma {
-            out.put(",")?;
+            out.put_short(",")?;
         }
         if let Some(kind) = self.here.within {
-            out.put(closing(kind))?;
+            out.put_short(closing(kind))?;
         }
         self.here = match self.outer.pop() {
             Some(below) => below,
@@ -214,17 +214,17 @@ impl Walk {
 
     // A segment ends. One without nodes has not written the comma that is due.
     #[inline(always)]
-    fn end<T: Append>(&mut self, out: &mut T) -> Result<(), AllocError>
+    fn end<T: NewLine>(&mut self, out: &mut T) -> Result<(), AllocError>
         ensures laid { OnOk result (laid self.new (T.bytes out.new) ≡ ended (laid self.old (T.bytes out.old))) }
         ensures begun { IsBegunBy (T.bytes out.old) (T.bytes out.new) }
     {
         if self.here.mark.broken {
             if self.here.mark.comma {
-                out.put(",")?;
+                out.put_short(",")?;
             }
         } else {
             if self.here.later && matches!(self.left, Edge::Start) {
-                out.put(",")?;
+                out.put_short(",")?;
             }
             self.here.later = true;
         }
@@ -233,12 +233,12 @@ impl Walk {
     }
 
     #[inline(always)]
-    fn step<T: Append>(&mut self, part: Part<'_>, out: &mut T) -> Result<(), AllocError>
+    fn step<T: NewLine>(&mut self, part: &Part<'_>, out: &mut T) -> Result<(), AllocError>
         ensures laid { OnOk result
-            (laid self.new (T.bytes out.new) ≡ step (part_view part.entry) (laid self.old (T.bytes out.old))) }
+            (laid self.new (T.bytes out.new) ≡ step (part_view part.now) (laid self.old (T.bytes out.old))) }
         ensures begun { IsBegunBy (T.bytes out.old) (T.bytes out.new) }
     {
-        match part {
+        match *part {
             Part::Token(kind, text) => self.token(kind, text, out),
             Part::Open(kind) => self.open(kind, out),
             Part::Close(one_comma) => self.close(one_comma, out),
@@ -250,7 +250,7 @@ impl Walk {
     }
 
     // The parts may come in several slices, one run after another.
-    pub(crate) fn run<T: Append>(
+    pub(crate) fn run<T: NewLine>(
         &mut self,
         parts: &[Part<'_>],
         out: &mut T,
@@ -260,7 +260,7 @@ impl Walk {
         ensures begun { IsBegunBy (T.bytes out.old) (T.bytes out.new) }
     {
         for part in parts {
-            self.step(*part, out)?;
+            self.step(part, out)?;
         }
         Ok(())
     }
