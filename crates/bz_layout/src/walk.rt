@@ -1,7 +1,8 @@
 //! The walk forwards over the parts of a statement, which writes them.
 
-ghost use Rattle.std.specs.Prelude.{◌≡◌, ◌++◌, ℕ, List, IfOk, OnOk, map, reverse};
-ghost use Rattle.bz_tree.specs.Rows.{part_view};
+ghost use Rattle.std.specs.Prelude.{codes, ◌≡◌, ◌++◌, ℕ, List, IfOk, OnOk, IsTrue, map, reverse};
+ghost use Rattle.bz_token.specs.declared.token.Kind.TheVariants.{Identifier, Operator};
+ghost use Rattle.bz_tree.specs.Rows.{part_view, a_token};
 ghost use Rattle.bz_layout.specs.declared.spacing.Edge.TheVariants.{Start};
 ghost use Rattle.bz_layout.specs.private.Kept.{IsBegunBy};
 ghost use Rattle.bz_layout.specs.Pieces.{gap_bytes};
@@ -61,6 +62,16 @@ impl Frame {
         ensures { result ≡ has_beside self }
     {
         self.mark.broken || self.within.is_none()
+    }
+}
+
+#[inline(always)]
+fn is_equals(part: &Part<'_>) -> bool
+    ensures { IsTrue result → part_view part.now ≡ a_token Operator (codes "=") }
+{
+    match *part {
+        Part::Token(Kind::Operator, text) => matches!(text.as_bytes(), [b'=']),
+        _ => false,
     }
 }
 
@@ -158,9 +169,22 @@ impl Walk {
         match kind {
             Kind::Identifier => self.put_token(Kind::Identifier, text, out),
             Kind::String => self.put_token(Kind::String, text, out),
-            Kind::Operator if text == "=" => self.put_token(Kind::Operator, "=", out),
             _ => self.put_rarer(kind, text, out),
         }
+    }
+
+    // A name and the `=` after it, as most arguments begin.
+    #[inline(always)]
+    fn put_name<T: NewLine>(&mut self, name: &str, out: &mut T) -> Result<(), AllocError>
+        ensures laid { OnOk result (laid self.new (T.bytes out.new)
+            ≡ with_token Operator (codes "=") (with_token Identifier name.now (laid self.old (T.bytes out.old)))) }
+        ensures begun { IsBegunBy (T.bytes out.old) (T.bytes out.new) }
+    {
+        self.put_gap(false, out)?;
+        out.put(name)?;
+        out.put(" =")?;
+        self.left = Edge::Operator;
+        Ok(())
     }
 
     fn open<T: NewLine>(&mut self, kind: GroupKind, out: &mut T) -> Result<(), AllocError>
@@ -259,8 +283,17 @@ impl Walk {
             (laid self.new (T.bytes out.new) ≡ run (map part_view parts.now) (laid self.old (T.bytes out.old))) }
         ensures begun { IsBegunBy (T.bytes out.old) (T.bytes out.new) }
     {
-        for part in parts {
-            self.step(part, out)?;
+        let mut i = 0;
+        while i < parts.len() {
+            let part = &parts[i];
+            i += 1;
+            match *part {
+                Part::Token(Kind::Identifier, name) if i < parts.len() && is_equals(&parts[i]) => {
+                    self.put_name(name, out)?;
+                    i += 1;
+                }
+                _ => self.step(part, out)?,
+            }
         }
         Ok(())
     }
