@@ -92,10 +92,10 @@ impl Marks {
     }
 
     #[inline(always)]
-    fn step(&mut self, part: Part<'_>) -> Result<(), AllocError>
-        ensures { OnOk result (scanned self.new ≡ back (part_view part.entry) (scanned self.old)) }
+    fn step(&mut self, part: &Part<'_>) -> Result<(), AllocError>
+        ensures { OnOk result (scanned self.new ≡ back (part_view part.now) (scanned self.old)) }
     {
-        match part {
+        match *part {
             Part::Token(_, _) => {}
             Part::Open(kind) => self.open(kind)?,
             Part::Close(one_comma) => {
@@ -114,7 +114,7 @@ impl Marks {
         let mut i = parts.len();
         while i > 0 {
             i -= 1;
-            self.step(parts[i])?;
+            self.step(&parts[i])?;
         }
         Ok(())
     }

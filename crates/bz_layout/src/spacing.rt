@@ -1,6 +1,6 @@
 //! Where a space stands between two neighbouring nodes.
 
-ghost use Rattle.std.specs.Prelude.{◌≡◌};
+ghost use Rattle.std.specs.Prelude.{◌≡◌, ◌≢◌, ◌∷◌, [], MatchBool};
 ghost use Rattle.bz_tree.specs.Tree.{leaf};
 ghost use Rattle.bz_layout.specs.Spacing.{hugs, closes_up, is_index, is_call, awaits_operand, is_prefix, begins_argument, is_index_colon, operator_edge, edge_after};
 
@@ -43,11 +43,23 @@ pub(crate) fn hugs(kind: GroupKind) -> bool
     )
 }
 
+// A text of one byte is told by its length and that byte.
+#[inline(always)]
+fn is_byte(text: &str, byte: u8) -> bool
+    ensures { MatchBool result (text.now ≡ byte ∷ []) (text.now ≢ byte ∷ []) }
+{
+    match text.as_bytes() {
+        [one] => *one == byte,
+        _ => false,
+    }
+}
+
 #[inline(always)]
 pub(crate) fn token_closes_up(kind: Kind, text: &str) -> bool
     ensures { result ≡ closes_up (leaf kind text.now) }
 {
-    matches!(kind, Kind::Operator) && (text == "." || text == "," || text == ":")
+    matches!(kind, Kind::Operator)
+        && (is_byte(text, b'.') || is_byte(text, b',') || is_byte(text, b':'))
 }
 
 #[inline(always)]
@@ -75,28 +87,28 @@ fn awaits_operand(left: Edge) -> bool
 fn is_prefix(left: Edge, text: &str) -> bool
     ensures { result ≡ is_prefix left text.now }
 {
-    awaits_operand(left) && (text == "+" || text == "-" || text == "~")
+    awaits_operand(left) && (is_byte(text, b'+') || is_byte(text, b'-') || is_byte(text, b'~'))
 }
 
 #[inline(always)]
 fn begins_argument(within: Option<GroupKind>, left: Edge, text: &str) -> bool
     ensures { result ≡ begins_argument within left text.now }
 {
-    is_call(within) && matches!(left, Edge::Start) && (text == "*" || text == "**")
+    is_call(within) && matches!(left, Edge::Start) && (is_byte(text, b'*') || text == "**")
 }
 
 #[inline(always)]
 fn is_index_colon(within: Option<GroupKind>, text: &str) -> bool
     ensures { result ≡ is_index_colon within text.now }
 {
-    is_index(within) && text == ":"
+    is_index(within) && is_byte(text, b':')
 }
 
 #[inline(always)]
 fn operator_edge(within: Option<GroupKind>, left: Edge, text: &str) -> Edge
     ensures { result ≡ operator_edge within left text.now }
 {
-    if text == "." {
+    if is_byte(text, b'.') {
         Edge::Dotted
     } else if is_prefix(left, text)
         || begins_argument(within, left, text)

@@ -169,6 +169,7 @@ impl Walk {
         match kind {
             Kind::Identifier => self.put_token(Kind::Identifier, text, out),
             Kind::String => self.put_token(Kind::String, text, out),
+            Kind::Integer => self.put_token(Kind::Integer, text, out),
             _ => self.put_rarer(kind, text, out),
         }
     }
