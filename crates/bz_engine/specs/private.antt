@@ -1,3 +1,4 @@
+pub mod ChunkFaults
 pub mod ChunkRead
 pub mod Edits
 pub mod Named

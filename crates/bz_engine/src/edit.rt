@@ -1,6 +1,6 @@
 //! A whole script on one chunk.
 
-ghost use Rattle.std.specs.Prelude.{◌≡◌, ℕ, ◌+◌, ◌<◌, ◌≤◌, ◌^◌, ◌++◌, Bool, true, false, if◌then◌else◌, List, [], ◌∷◌, Option, None, Some, length, IfOk, OnOk, OnErr, option_map, option_to_list};
+ghost use Rattle.std.specs.Prelude.{◌≡◌, ℕ, ◌+◌, ◌<◌, ◌≤◌, ◌^◌, ◌++◌, if◌then◌else◌, List, [], ◌∷◌, Option, None, Some, length, IfOk, OnOk, option_map, option_to_list};
 ghost use Rattle.std.specs.List.{flat_map};
 ghost use Rattle.bz_tree.specs.Rows.{IsRowOf};
 ghost use Rattle.bz_tree.specs.Statement.{class_of};
@@ -77,16 +77,31 @@ pub(crate) fn edit_chunk<'a>(
             put_passed(script, &row, progress, text)?;
             Edited::Done
         }
-        ChunkRead::Row(row) => {
-            let stmt = read_row(script, &row)?;
-            edit_statement(script, stmt, progress, text)?
-        }
+        ChunkRead::Row(row) => edit_row(script, &row, progress, text)?,
         ChunkRead::Statement(stmt) => {
             edit_statement(script, LazyStmt::new(script.alloc, stmt), progress, text)?
         }
     };
     progress.line += newlines(chunk);
     Ok(edited)
+}
+
+/// The script on the statement of a row.
+fn edit_row<'a>(
+    script: Script<'a>,
+    row: &'a Row<'a>,
+    progress: &mut Progress,
+    text: &mut Vec<u8>,
+) -> Result<Edited, AllocError>
+    requires fits { Fits progress.old.kept script.passes.now }
+    requires row { (s : Statement) × ((s.class ≡ class_of s.nodes) × IsRowOf s row.now) }
+    ensures fits { OnOk result (Fits progress.new.kept script.entry.passes.now) }
+    ensures scripted { IfOk result (λ edited. (s : Statement) → s.class ≡ class_of s.nodes → IsRowOf s row.now
+        → IsScripted script.entry.home.now script.entry.passes.now script.entry.keep_going s
+        progress.old progress.new text.old.items text.new.items edited) }
+{
+    let stmt = read_row(script, row)?;
+    edit_statement(script, stmt, progress, text)
 }
 
 /// The statement of a row. A rule's row is kept where a command may be done by it alone.
@@ -133,26 +148,42 @@ fn edit_statement<'a>(
         (IsScripted script.entry.home.now script.entry.passes.now script.entry.keep_going (lazy_view stmt.entry)
         progress.old progress.new text.old.items text.new.items) }
 {
+    let mut slot = Some(stmt);
+    edit_slot(script, &mut slot, progress, text)
+}
+
+/// The script on what is in a slot.
+fn edit_slot<'a>(
+    script: Script<'a>,
+    slot: &mut Option<LazyStmt<'a>>,
+    progress: &mut Progress,
+    text: &mut Vec<u8>,
+) -> Result<Edited, AllocError>
+    requires { Fits progress.old.kept script.passes.now }
+    ensures fits { OnOk result (Fits progress.new.kept script.entry.passes.now) }
+    ensures scripted { IfOk result (λ edited. (s : Statement) → lazy_slot slot.old ≡ Some s
+        → IsScripted script.entry.home.now script.entry.passes.now script.entry.keep_going s
+        progress.old progress.new text.old.items text.new.items edited) }
+{
     let rules = Rules {
         alloc: script.alloc,
         home: script.home,
     };
-    let mut slot = Some(stmt);
     let mut facts = Facts {
         changed: progress.changed,
         failed: progress.failed,
     };
     let kept = progress.kept.as_mut_slice();
     let passes = script.passes.indexed();
-    run_script(&rules, passes, &mut slot, &mut *kept, &mut facts)?;
+    run_script(&rules, passes, slot, &mut *kept, &mut facts)?;
     if facts.failed && !script.keep_going {
         let failure = first_failure(script.alloc, kept)?;
         return Ok(Edited::Failed(failure));
     }
     progress.changed = facts.changed;
     progress.failed = facts.failed;
-    put_slot(script, progress.last, &slot, text)?;
-    progress.last = last_class(progress.last, &slot);
+    put_slot(script, progress.last, slot, text)?;
+    progress.last = last_class(progress.last, slot);
     Ok(Edited::Done)
 }
 
@@ -182,8 +213,7 @@ fn put_slot(
     if script.passes.is_query() {
         return Ok(());
     }
-    put_after(script.alloc, last, stmt, text)?;
-    Ok(())
+    put_after(script.alloc, last, stmt, text)
 }
 
 /// Writes a statement after another.
@@ -197,8 +227,7 @@ fn put_after(
         ++ (gap_text (is_gap last (lazy_view stmt.now).class) ++ layout_text (lazy_view stmt.now))) }
 {
     put_gap(last, stmt.class(), text)?;
-    stmt.put(alloc, text)?;
-    Ok(())
+    stmt.put(alloc, text)
 }
 
 /// Writes what stands between two statements of these classes.

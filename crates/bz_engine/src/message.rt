@@ -1,6 +1,6 @@
 //! The texts of messages.
 
-ghost use Rattle.std.specs.Prelude.{◌≡◌, IfOk};
+ghost use Rattle.std.specs.Prelude.{◌≡◌, ◌++◌, IfOk};
 ghost use Rattle.bz_engine.specs.Messages.{not_found_text, note_text, lex_text, parse_text, fault_text, placed, lined};
 
 use crate::report::SyntaxFault;
@@ -23,39 +23,39 @@ pub(crate) fn note_text(alloc: Global, rule: &str, note: &Note) -> Result<Text, 
     ensures { IfOk result (λ t. t ≡ note_text rule.now note.now) }
 {
     match note {
-        Note::Missing(attr) => missing(alloc, rule, attr.as_str()),
-        Note::NoAttribute(attr) => no_attribute(alloc, rule, attr.as_str()),
-        Note::AttributeExists(attr) => attribute_exists(alloc, rule, attr.as_str()),
-        Note::NotAList(attr) => no_list(alloc, rule, attr.as_str()),
+        Note::Missing(attr) => {
+            of_attribute(alloc, rule, ": no attribute '", attr.as_str(), "' to print")
+        }
+        Note::NoAttribute(attr) => {
+            of_attribute(alloc, rule, ": no attribute '", attr.as_str(), "'")
+        }
+        Note::AttributeExists(attr) => {
+            of_attribute(
+                alloc,
+                rule,
+                ": attribute '",
+                attr.as_str(),
+                "' is already there",
+            )
+        }
+        Note::NotAList(attr) => {
+            of_attribute(alloc, rule, ": attribute '", attr.as_str(), "' has no list")
+        }
         Note::NoValue { attr, value } => no_value(alloc, rule, attr.as_str(), value.as_str()),
     }
 }
 
-fn missing(alloc: Global, rule: &str, attr: &str) -> Result<Text, AllocError>
-    ensures { IfOk result (λ t. t ≡ note_text rule.now (Note.Missing attr.now)) }
+/// A rule, and what is said of one of its attributes.
+fn of_attribute(
+    alloc: Global,
+    rule: &str,
+    before: &str,
+    attr: &str,
+    after: &str,
+) -> Result<Text, AllocError>
+    ensures { IfOk result (λ t. t ≡ rule.now ++ before.now ++ attr.now ++ after.now) }
 {
-    let text = format!(in alloc; "{rule}: no attribute '{attr}' to print")?;
-    Ok(Text::from_string(text))
-}
-
-fn no_attribute(alloc: Global, rule: &str, attr: &str) -> Result<Text, AllocError>
-    ensures { IfOk result (λ t. t ≡ note_text rule.now (Note.NoAttribute attr.now)) }
-{
-    let text = format!(in alloc; "{rule}: no attribute '{attr}'")?;
-    Ok(Text::from_string(text))
-}
-
-fn attribute_exists(alloc: Global, rule: &str, attr: &str) -> Result<Text, AllocError>
-    ensures { IfOk result (λ t. t ≡ note_text rule.now (Note.AttributeExists attr.now)) }
-{
-    let text = format!(in alloc; "{rule}: attribute '{attr}' is already there")?;
-    Ok(Text::from_string(text))
-}
-
-fn no_list(alloc: Global, rule: &str, attr: &str) -> Result<Text, AllocError>
-    ensures { IfOk result (λ t. t ≡ note_text rule.now (Note.NotAList attr.now)) }
-{
-    let text = format!(in alloc; "{rule}: attribute '{attr}' has no list")?;
+    let text = format!(in alloc; "{rule}{before}{attr}{after}")?;
     Ok(Text::from_string(text))
 }
 

@@ -1,6 +1,8 @@
 //! The script on the chunk that is found next.
 
-ghost use Rattle.std.specs.Prelude.{◌≡◌, ℕ, ◌+◌, ◌<◌, ◌≤◌, ◌^◌, List, length, IfOk, OnOk, IfSome, IfNone};
+ghost use Rattle.std.specs.Prelude.{◌≡◌, ℕ, ◌+◌, ◌<◌, ◌≤◌, ◌^◌, List, length, map, IfOk, OnOk, IfSome, IfNone};
+ghost use Rattle.bz_token.specs.Places.{placed};
+ghost use Rattle.bz_token.specs.Reading.{AreTokensOf};
 ghost use Rattle.bz_tree.specs.Tree.{Statement};
 ghost use Rattle.bz_passes.specs.Exchange.{Fits};
 ghost use Rattle.bz_engine.specs.Progress.{IsKeptOf};
@@ -11,7 +13,7 @@ use crate::chunk::{read_chunk, read_tokens};
 use crate::edit::{Edited, Script, edit_chunk};
 use crate::progress::Progress;
 use bz_devices::ahead::Ahead;
-use bz_token::first_chunk;
+use bz_token::{Token, first_chunk};
 use std::alloc::AllocError;
 
 /// The next chunk, on which the script was run and which is not yet taken.
@@ -49,9 +51,30 @@ pub(crate) fn edit_first(
     if len as u64 > max_statement {
         return Ok(None);
     }
-    let read = read_tokens(script, chunk.text, line, &chunk.tokens)?;
-    let edited = edit_chunk(script, chunk.text.as_bytes(), read, progress, text)?;
+    let edited = edit_tokens(script, chunk.text, &chunk.tokens, progress, text)?;
     Ok(Some(NextChunk { len, edited }))
+}
+
+/// The script on the chunk that has these tokens.
+fn edit_tokens<'a>(
+    script: Script<'a>,
+    chunk: &'a str,
+    tokens: &[Token<'a>],
+    progress: &mut Progress,
+    text: &mut Vec<u8>,
+) -> Result<Edited, AllocError>
+    requires fits { Fits progress.old.kept script.passes.now }
+    requires lines { progress.old.line + length chunk.now < 2 ^ 64 }
+    requires tokens { AreTokensOf progress.old.line script.max_depth chunk.now (map placed tokens.now) }
+    ensures fits { OnOk result (Fits progress.new.kept script.entry.passes.now) }
+    ensures lines { OnOk result (progress.new.line ≤ progress.old.line + length chunk.now) }
+    ensures edited { IfOk result (λ edited. (cs : List (List ℕ)) (statements : List Statement)
+        → IsKeptOf script.entry.home.now script.entry.passes.now script.entry.max_depth cs statements progress.old
+        → IsEdited script.entry.home.now script.entry.passes.now script.entry.keep_going script.entry.max_depth cs
+        statements chunk.now progress.old progress.new text.old.items text.new.items edited) }
+{
+    let read = read_tokens(script, chunk, progress.line, tokens)?;
+    edit_chunk(script, chunk.as_bytes(), read, progress, text)
 }
 
 /// The script on the chunk of these bytes.
@@ -71,6 +94,5 @@ pub(crate) fn edit_bytes(
         statements chunk.now progress.old progress.new text.old.items text.new.items edited) }
 {
     let read = read_chunk(script, chunk, progress.line)?;
-    let edited = edit_chunk(script, chunk, read, progress, text)?;
-    Ok(edited)
+    edit_chunk(script, chunk, read, progress, text)
 }

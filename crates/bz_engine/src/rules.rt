@@ -75,10 +75,10 @@ impl<'a> Language for Rules<'a> {
         slot: &mut Option<LazyStmt<'a>>,
         log: &mut Log<Entry>,
     ) -> Result<Facts, AllocError> {
-        let done = apply_lazy(self.alloc, command, self.home, slot)?;
+        let mut done = apply_lazy(self.alloc, command, self.home, slot)?;
         let facts = facts_of(&done);
         // Where there is a note, the slot is as the command found it.
-        tell_done(self.alloc, self.home, slot, done, log)?;
+        tell_done(self.alloc, self.home, slot, &mut done, log)?;
         Ok(facts)
     }
 }
@@ -108,14 +108,13 @@ fn tell_done(
     alloc: Global,
     home: &Package,
     slot: &Option<LazyStmt<'_>>,
-    done: Done,
+    done: &mut Done,
     log: &mut Log<Entry>,
 ) -> Result<(), AllocError>
-    ensures { OnOk result (log.new ≡ log.old ++ done_told (shown_slot home.now (lazy_slot slot.now)) done) }
+    ensures { OnOk result (log.new ≡ log.old ++ done_told (shown_slot home.now (lazy_slot slot.now)) done.old) }
 {
-    let Done { line, note, .. } = done;
-    tell_line(line, log)?;
-    tell_note(alloc, home, slot, note, log)?;
+    tell_line(done.line.take(), log)?;
+    tell_note(alloc, home, slot, &done.note, log)?;
     Ok(())
 }
 
@@ -132,18 +131,28 @@ fn tell_note(
     alloc: Global,
     home: &Package,
     slot: &Option<LazyStmt<'_>>,
-    note: Option<Note>,
+    note: &Option<Note>,
     log: &mut Log<Entry>,
 ) -> Result<(), AllocError>
-    ensures { OnOk result (log.new ≡ log.old ++ note_told (shown_slot home.now (lazy_slot slot.now)) note) }
+    ensures { OnOk result (log.new ≡ log.old ++ note_told (shown_slot home.now (lazy_slot slot.now)) note.now) }
 {
-    let Some(note) = note else {
-        return Ok(());
-    };
-    let rule = shown_slot(alloc, home, slot)?;
-    let entry = note_entry(alloc, rule.as_str(), &note)?;
-    log.push(entry)?;
+    if let Some(note) = note {
+        log.push(entry_on(alloc, home, slot, note)?)?;
+    }
     Ok(())
+}
+
+/// What is told of a note on the rule in a slot.
+fn entry_on(
+    alloc: Global,
+    home: &Package,
+    slot: &Option<LazyStmt<'_>>,
+    note: &Note,
+) -> Result<Entry, AllocError>
+    ensures { IfOk result (λ entry. entry ∷ [] ≡ note_told (shown_slot home.now (lazy_slot slot.now)) (Some note.now)) }
+{
+    let rule = shown_slot(alloc, home, slot)?;
+    note_entry(alloc, rule.as_str(), note)
 }
 
 /// The rule in a slot, as it is shown; empty where there is none.

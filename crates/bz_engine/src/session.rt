@@ -1,20 +1,19 @@
 //! A run, a chunk at a time.
 
-ghost use Rattle.std.specs.Prelude.{◌≡◌, ◌≢◌, ℕ, ◌+◌, ◌<◌, ◌≤◌, ◌^◌, ◌++◌, false, List, [], ◌∷◌, length, take, drop, IfOk, OnOk, OnErr, IfSome, IfNone, IsTrue, option_to_list};
+ghost use Rattle.std.specs.Prelude.{◌≡◌, ◌≢◌, ℕ, ◌+◌, ◌<◌, ◌≤◌, ◌^◌, ◌++◌, false, List, [], length, take, drop, IfOk, OnOk, OnErr, IfSome, IfNone, IsTrue};
 ghost use Rattle.bz_tree.specs.Tree.{Statement};
 ghost use Rattle.bz_devices.specs.Device.{joined, NoneEnds, Rises};
 ghost use Rattle.bz_passes.specs.Exchange.{Fits};
 ghost use Rattle.bz_devices.specs.Ahead.{IsReadOn, IsNextChunk, IsTooLong, IsUncertain};
-ghost use Rattle.bz_engine.specs.Messages.{fault_text};
 ghost use Rattle.bz_engine.specs.Outcome.{told_by};
 ghost use Rattle.bz_engine.specs.Progress.{IsKeptOf};
+ghost use Rattle.bz_engine.specs.private.ChunkFaults.{fault_at};
 ghost use Rattle.bz_engine.specs.private.Edits.{IsEdited};
 ghost use Rattle.bz_engine.specs.private.NextChunks.{IsNextEdited};
-ghost use Rattle.bz_engine.specs.SessionValue.{at_start, IsSameRun, IsReady, IsLeftByFault, IsRefused, HasOneMore, HasDone, HasEnded, told_at, told_of_progress, told_alone};
+ghost use Rattle.bz_engine.specs.SessionValue.{at_start, IsSameRun, IsReady, IsLeftByFault, IsRefused, HasOneMore, HasDone, HasEnded, told_at};
 ghost use Rattle.bz_engine.specs.declared.session.Stage.TheVariants.{Going, Ended, Stopped};
 
 use crate::edit::{Edited, Script};
-use crate::entry::Entry;
 use crate::next_chunk::{NextChunk, edit_bytes, edit_first};
 use crate::options::Options;
 use crate::progress::Progress;
@@ -22,7 +21,7 @@ use crate::report::{End, Report};
 use crate::rule_passes::RulePasses;
 use crate::rules::Rules;
 use crate::run_fault::RunFault;
-use crate::telling::{report_of_all, report_of_failure, report_of_fault};
+use crate::telling::{report_of_all, report_of_fault, report_of_one};
 use bz_command::Pass;
 use bz_devices::ahead::{Ahead, ChunkFault, next_chunk};
 use bz_devices::device::{Failed, Sink, Source};
@@ -34,7 +33,7 @@ use std::marker::Model;
 use std::mem;
 
 /// Whether a session goes on.
-#[derive(Clone, Copy, Debug, PartialEq, Eq)]
+#[derive(Clone, Copy)]
 pub(crate) enum Stage {
     Going,
     Ended(End),
@@ -180,7 +179,7 @@ impl Session {
     }
 
     /// What the run tells, once it has ended.
-    pub fn finish(self) -> Result<Report, RunFault>
+    pub fn finish(mut self) -> Result<Report, RunFault>
         ensures report { (end : _) → self.stage ≡ Ended end
             → IfOk result (λ report. told_by report ≡ told_at self end) }
         // Where it has ended, only a lack of memory keeps the report back; else it is refused.
@@ -190,16 +189,32 @@ impl Session {
         let Stage::Ended(end) = self.stage else {
             return Err(RunFault::Stopped);
         };
-        let Session {
-            alloc,
-            home,
-            passes,
-            progress,
-            failure,
-            ..
-        } = self;
-        let report = report_at(alloc, &home, passes.as_slice(), progress, failure, end)?;
+        // What is kept is then of no use.
+        self.stage = Stage::Stopped;
+        let report = self.report_at(end)?;
         Ok(report)
+    }
+
+    /// The report of a session that ended in this way.
+    fn report_at(&mut self, end: End) -> Result<Report, AllocError>
+        requires stopped { self.old.stage ≡ Stopped }
+        requires fits { Fits self.old.progress.kept self.old.passes }
+        ensures { IfOk result (λ report. told_by report ≡ told_at self.old end) }
+    {
+        match end {
+            End::Whole => {
+                let rules = Rules {
+                    alloc: self.alloc,
+                    home: &self.home,
+                };
+                report_of_all(rules, self.passes.as_slice(), &mut self.progress)
+            }
+            End::Syntax(fault) => report_of_fault(self.alloc, fault, self.progress.changed),
+            End::FirstFailure => {
+                let failure = self.failure.take();
+                report_of_one(self.alloc, failure, self.progress.changed, end)
+            }
+        }
     }
 
     /// Takes the next chunk, and answers whether the session goes on. What is kept is of no use after a fault.
@@ -338,8 +353,7 @@ impl Session {
             keep_going: self.options.keep_going,
             max_depth: self.options.max_depth,
         };
-        let found = edit_first(script, &self.ahead, max_statement, &mut self.progress, text)?;
-        Ok(found)
+        edit_first(script, &self.ahead, max_statement, &mut self.progress, text)
     }
 
     /// The script on the chunk of the first bytes ahead.
@@ -363,8 +377,7 @@ impl Session {
             keep_going: self.options.keep_going,
             max_depth: self.options.max_depth,
         };
-        let edited = edit_bytes(script, &self.ahead.bytes()[..len], &mut self.progress, text)?;
-        Ok(edited)
+        edit_bytes(script, &self.ahead.bytes()[..len], &mut self.progress, text)
     }
 
     /// Writes the text of the chunk, which is then taken.
@@ -389,38 +402,6 @@ impl Session {
             Err(Failed) => Err(RunFault::WriteFailed),
         }
     }
-}
-
-/// The report of a session that ended in this way.
-fn report_at(
-    alloc: Global,
-    home: &Package,
-    passes: &[Pass<Target, Command>],
-    progress: Progress,
-    failure: Option<Text>,
-    end: End,
-) -> Result<Report, AllocError>
-    requires { Fits progress.kept passes.now }
-    ensures whole { end ≡ End.Whole
-        → IfOk result (λ report. told_by report ≡ told_of_progress home.now passes.now progress) }
-    ensures fault { (fault : _) → end ≡ End.Syntax fault
-        → IfOk result (λ report. told_by report ≡ told_alone (fault_text fault ∷ []) progress.changed end) }
-    ensures failure { end ≡ End.FirstFailure
-        → IfOk result (λ report. told_by report ≡ told_alone (option_to_list failure) progress.changed end) }
-{
-    let Progress {
-        mut kept,
-        changed,
-        failed,
-        ..
-    } = progress;
-    let rules = Rules { alloc, home };
-    let report = match end {
-        End::Whole => report_of_all(rules, passes, kept.as_mut_slice(), changed, failed)?,
-        End::Syntax(fault) => report_of_fault(alloc, fault, changed)?,
-        End::FirstFailure => report_of_failure(alloc, failure, changed)?,
-    };
-    Ok(report)
 }
 
 /// The length of the next chunk in bytes, which begins on this line; none where the input has ended.
@@ -449,9 +430,18 @@ fn find_chunk<S: Source>(
 {
     match next_chunk(ahead, source, options.max_statement, options.max_reads) {
         Ok(found) => Ok(found),
-        Err(ChunkFault::OutOfMemory) => Err(RunFault::OutOfMemory),
-        Err(ChunkFault::ReadFailed) => Err(RunFault::ReadFailed),
-        Err(ChunkFault::InputTooLong) => Err(RunFault::InputTooLong),
-        Err(ChunkFault::StatementTooLong) => Err(RunFault::StatementTooLong { line }),
+        Err(fault) => Err(fault_at(fault, line)),
+    }
+}
+
+/// What a run answers where it finds no chunk that begins on this line.
+fn fault_at(fault: ChunkFault, line: u64) -> RunFault
+    ensures { result ≡ fault_at line fault }
+{
+    match fault {
+        ChunkFault::OutOfMemory => RunFault::OutOfMemory,
+        ChunkFault::ReadFailed => RunFault::ReadFailed,
+        ChunkFault::InputTooLong => RunFault::InputTooLong,
+        ChunkFault::StatementTooLong => RunFault::StatementTooLong { line },
     }
 }

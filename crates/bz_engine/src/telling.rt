@@ -1,18 +1,19 @@
 //! The report of a run that has ended.
 
-ghost use Rattle.std.specs.Prelude.{◌≡◌, ◌||◌, ◌++◌, true, [], ◌∷◌, IfOk, option_to_list};
+ghost use Rattle.std.specs.Prelude.{◌≡◌, [], ◌∷◌, IfOk, option_to_list};
 ghost use Rattle.std.specs.List.{flat_map};
-ghost use Rattle.bz_passes.specs.Exchange.{Fits, told, some_not_found};
-ghost use Rattle.bz_engine.specs.Meaning.{meaning};
+ghost use Rattle.bz_passes.specs.Exchange.{Fits};
 ghost use Rattle.bz_engine.specs.Messages.{fault_text};
-ghost use Rattle.bz_engine.specs.Outcome.{line_text, message_text};
+ghost use Rattle.bz_engine.specs.Outcome.{line_text, message_text, told_by};
+ghost use Rattle.bz_engine.specs.SessionValue.{told_of_progress, told_alone};
 
 use crate::entry::Entry;
 use crate::message;
+use crate::progress::Progress;
 use crate::report::{End, Report, SyntaxFault};
 use crate::rules::Rules;
 use bz_command::Pass;
-use bz_passes::kept::{Kept, is_some_not_found, tell};
+use bz_passes::kept::{is_some_not_found, tell};
 use bz_passes::log::Log;
 use bz_rule::{Command, Target, Text};
 use std::alloc::{AllocError, Global};
@@ -34,48 +35,36 @@ fn split(alloc: Global, log: Log<Entry>) -> Result<(Log<Text>, Log<Text>), Alloc
     Ok((lines, messages))
 }
 
-/// What is told of a file without fault: all that was kept.
+/// What is told of a file without fault: all that was kept, which is then of no use.
 pub(crate) fn report_of_all(
     rules: Rules<'_>,
     passes: &[Pass<Target, Command>],
-    kept: &mut [Kept<Entry>],
-    changed: bool,
-    failed: bool,
+    progress: &mut Progress,
 ) -> Result<Report, AllocError>
-    requires { Fits kept.old passes.now }
-    ensures lines { IfOk result
-        (λ report. report.lines ≡ flat_map line_text (told (meaning rules.entry.home.now) passes.now kept.old)) }
-    ensures messages { IfOk result
-        (λ report. report.messages ≡ flat_map message_text (told (meaning rules.entry.home.now) passes.now kept.old)) }
-    ensures changed { IfOk result (λ report. report.changed ≡ changed) }
-    ensures failed { IfOk result
-        (λ report. report.failed ≡ (failed || some_not_found (meaning rules.entry.home.now) passes.now kept.old)) }
-    ensures end { IfOk result (λ report. report.end ≡ End.Whole) }
+    requires { Fits progress.old.kept passes.now }
+    ensures { IfOk result (λ report. told_by report ≡ told_of_progress rules.entry.home.now passes.now progress.old) }
 {
-    let failed = failed || is_some_not_found(&rules, passes, kept);
+    let kept = progress.kept.as_mut_slice();
+    let failed = progress.failed || is_some_not_found(&rules, passes, kept);
     let log = tell(rules.alloc, &rules, passes, kept)?;
     let (lines, messages) = split(rules.alloc, log)?;
     Ok(Report {
         lines,
         messages,
-        changed,
+        changed: progress.changed,
         failed,
         end: End::Whole,
     })
 }
 
 /// What is told of a run that ended before the end of its file: one message, and no lines.
-fn report_of_one(
+pub(crate) fn report_of_one(
     alloc: Global,
     message: Option<Text>,
     changed: bool,
     end: End,
 ) -> Result<Report, AllocError>
-    ensures lines { IfOk result (λ report. report.lines ≡ []) }
-    ensures messages { IfOk result (λ report. report.messages ≡ option_to_list message) }
-    ensures changed { IfOk result (λ report. report.changed ≡ changed) }
-    ensures failed { IfOk result (λ report. report.failed ≡ true) }
-    ensures end { IfOk result (λ report. report.end ≡ end) }
+    ensures { IfOk result (λ report. told_by report ≡ told_alone (option_to_list message) changed end) }
 {
     let mut messages = Log::new(alloc);
     if let Some(message) = message {
@@ -96,29 +85,8 @@ pub(crate) fn report_of_fault(
     fault: SyntaxFault,
     changed: bool,
 ) -> Result<Report, AllocError>
-    ensures lines { IfOk result (λ report. report.lines ≡ []) }
-    ensures messages { IfOk result (λ report. report.messages ≡ fault_text fault ∷ []) }
-    ensures changed { IfOk result (λ report. report.changed ≡ changed) }
-    ensures failed { IfOk result (λ report. report.failed ≡ true) }
-    ensures end { IfOk result (λ report. report.end ≡ End.Syntax fault) }
+    ensures { IfOk result (λ report. told_by report ≡ told_alone (fault_text fault ∷ []) changed (End.Syntax fault)) }
 {
     let message = message::fault_text(alloc, fault)?;
-    let report = report_of_one(alloc, Some(message), changed, End::Syntax(fault))?;
-    Ok(report)
-}
-
-/// What is told where the first failure ended the run.
-pub(crate) fn report_of_failure(
-    alloc: Global,
-    message: Option<Text>,
-    changed: bool,
-) -> Result<Report, AllocError>
-    ensures lines { IfOk result (λ report. report.lines ≡ []) }
-    ensures messages { IfOk result (λ report. report.messages ≡ option_to_list message) }
-    ensures changed { IfOk result (λ report. report.changed ≡ changed) }
-    ensures failed { IfOk result (λ report. report.failed ≡ true) }
-    ensures end { IfOk result (λ report. report.end ≡ End.FirstFailure) }
-{
-    let report = report_of_one(alloc, message, changed, End::FirstFailure)?;
-    Ok(report)
+    report_of_one(alloc, Some(message), changed, End::Syntax(fault))
 }

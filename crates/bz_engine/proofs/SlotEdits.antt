@@ -1,0 +1,52 @@
+-- What the script did to the statement in a slot.
+use Rattle.std.proofs.Common.{◌≡◌, ℕ, Bool, false, ◌||◌, List, [], ◌∷◌, ◌++◌, sym, ◌∙◌, ap, subst}
+use Rattle.std.specs.Prelude.{Option, Some, if◌then◌else◌}
+use Rattle.bz_tree.specs.Tree.{Statement}
+use Rattle.bz_tree.specs.declared.stmt.Class.{Class}
+use Rattle.bz_command.specs.Labels.{Package}
+use Rattle.bz_command.specs.Passes.{Slot}
+use Rattle.bz_passes.specs.Exchange.{Kept, IsLeftBy, slot_after, some_alone}
+use Rattle.bz_engine.specs.declared.entry.Entry.{Entry}
+use Rattle.bz_engine.specs.Meaning.{meaning, changes, fails_on}
+use Rattle.bz_engine.specs.Outcome.{Script, is_query}
+use Rattle.bz_engine.specs.Progress.{Progress, last_class, text_following}
+use Rattle.bz_engine.specs.private.Edits.{IsLaidOut}
+
+-- the script ran on what is in the slot, and this is kept and known then
+pub record HasRun (home : Package) (passes : Script) (slot : Slot Statement) (old : Progress) (kept : List (Kept Entry)) (changed failed : Bool) : Type 0 where
+  pub fails : failed ≡ (old.failed || some_alone (meaning home) (fails_on home) passes slot)
+  pub left : (slots : List (Slot Statement)) → IsLeftBy (meaning home) (changes home) (fails_on home) passes slots old.kept old.changed old.failed
+      → IsLeftBy (meaning home) (changes home) (fails_on home) passes (slots ++ slot ∷ []) kept changed failed
+
+pub has_run : (home : Package) (passes read : Script) (slot : Slot Statement) (s : Statement) (old mid : Progress) (from kept : List (Kept Entry)) (changed failed : Bool)
+    → read ≡ passes → slot ≡ Some s → mid ≡ old → from ≡ mid.kept
+    → failed ≡ (mid.failed || some_alone (meaning home) (fails_on home) read slot)
+    → ((slots : List (Slot Statement)) → IsLeftBy (meaning home) (changes home) (fails_on home) read slots from mid.changed mid.failed
+    → IsLeftBy (meaning home) (changes home) (fails_on home) read (slots ++ slot ∷ []) kept changed failed)
+    → HasRun home passes (Some s) old kept changed failed
+has_run home passes read slot s old mid from kept changed failed same is at begins fails left =
+    subst (λ p. HasRun home passes (Some s) p kept changed failed) at
+    (subst (λ x. HasRun home passes x mid kept changed failed) is
+    (subst (λ r. HasRun home r slot mid kept changed failed) same (record {
+      fails = fails;
+      left = subst (λ k. (slots : List (Slot Statement)) → IsLeftBy (meaning home) (changes home) (fails_on home) read slots k mid.changed mid.failed
+          → IsLeftBy (meaning home) (changes home) (fails_on home) read (slots ++ slot ∷ []) kept changed failed) begins left;
+    })))
+
+-- and what it left was laid out
+pub laid_out : (home : Package) (passes : Script) (keep_going : Bool) (s : Statement) (old new : Progress) (kept : List (Kept Entry))
+    (slot : Slot Statement) (last : Option Class) (before after : List ℕ)
+    → HasRun home passes (Some s) old kept new.changed new.failed → new.kept ≡ kept
+    → slot ≡ slot_after (meaning home) passes (Some s) → last ≡ old.last
+    → new.last ≡ last_class last (slot ∷ []) → new.line ≡ old.line
+    → after ≡ before ++ (if is_query passes then [] else text_following last (slot ∷ []))
+    → (keep_going ≡ false → new.failed ≡ false)
+    → IsLaidOut home passes keep_going s old new before after
+laid_out home passes keep_going s old new kept slot last before after ran kept_is slot_is from last_is line_is text_is calm = record {
+  left = λ slots left. subst (λ k. IsLeftBy (meaning home) (changes home) (fails_on home) passes (slots ++ Some s ∷ []) k new.changed new.failed) (sym kept_is) (ran.left slots left);
+  last = last_is ∙ ap (λ l. last_class l (slot ∷ [])) from ∙ ap (λ x. last_class old.last (x ∷ [])) slot_is;
+  line = line_is;
+  text = text_is ∙ ap (λ l. before ++ (if is_query passes then [] else text_following l (slot ∷ []))) from
+      ∙ ap (λ x. before ++ (if is_query passes then [] else text_following old.last (x ∷ []))) slot_is;
+  calm = calm;
+}
