@@ -191,17 +191,17 @@ impl Session {
         };
         // What is kept is then of no use.
         self.stage = Stage::Stopped;
-        let report = self.report_at(end)?;
-        Ok(report)
+        self.report_at(end)
     }
 
     /// The report of a session that ended in this way.
-    fn report_at(&mut self, end: End) -> Result<Report, AllocError>
+    fn report_at(&mut self, end: End) -> Result<Report, RunFault>
         requires stopped { self.old.stage ≡ Stopped }
         requires fits { Fits self.old.progress.kept self.old.passes }
-        ensures { IfOk result (λ report. told_by report ≡ told_at self.old end) }
+        ensures told { IfOk result (λ report. told_by report ≡ told_at self.old end) }
+        ensures memory { OnErr result (result ≡ Err RunFault.OutOfMemory) }
     {
-        match end {
+        let report = match end {
             End::Whole => {
                 let rules = Rules {
                     alloc: self.alloc,
@@ -214,7 +214,8 @@ impl Session {
                 let failure = self.failure.take();
                 report_of_one(self.alloc, failure, self.progress.changed, end)
             }
-        }
+        }?;
+        Ok(report)
     }
 
     /// Takes the next chunk, and answers whether the session goes on. What is kept is of no use after a fault.

@@ -28,8 +28,7 @@ fn split(alloc: Global, log: Log<Entry>) -> Result<(Log<Text>, Log<Text>), Alloc
     for entry in log.into_entries() {
         match entry {
             Entry::Line(text) => lines.push(text)?,
-            Entry::Warning(text) => messages.push(text)?,
-            Entry::Failure(text) => messages.push(text)?,
+            Entry::Warning(text) | Entry::Failure(text) => messages.push(text)?,
         }
     }
     Ok((lines, messages))

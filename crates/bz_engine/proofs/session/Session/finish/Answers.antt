@@ -1,0 +1,24 @@
+use Rattle.std.proofs.Common.{◌≡◌, refl, sym, ◌∙◌, ap}
+use Rattle.bz_engine.specs.declared.report.End.{End}
+use Rattle.bz_engine.specs.declared.report.End.TheVariants.{Whole, Syntax, FirstFailure}
+use Rattle.bz_engine.specs.declared.session.Stage.{Stage}
+use Rattle.bz_engine.specs.declared.session.Stage.TheVariants.{Ended, Stopped}
+use Rattle.bz_engine.specs.SessionValue.{SessionValue, told_at}
+use Rattle.bz_engine.specs.contracts.session.Session.{the_view}
+use Rattle.bz_engine.proofs.Runs.{where_ok}
+use Rattle.bz_engine.proofs.session.Session.finish.Goals as goal
+
+-- what is told is the same at each stage
+staged : (v : SessionValue) (stage : Stage) (end : End) → (let after : SessionValue = record v { stage = stage } in told_at after end) ≡ told_at v end
+staged v stage Whole = refl
+staged v stage (Syntax fault) = refl
+staged v stage FirstFailure = refl
+
+ended_so : (e f : End) → (let stage : Stage = Ended e in stage) ≡ Ended f → e ≡ f
+ended_so e f h = cc
+
+pub returns-clause-report : goal.returns-clause-report
+returns-clause-report c end is =
+    let same : c.in-Ended.end ≡ end = ended_so c.in-Ended.end end (sym c.in-Ended.is ∙ ap (λ v. v.stage) c.self.view_is ∙ is) in
+    where_ok c.report_at.result (λ report told. told ∙ staged (the_view c.self.inside) Stopped c.in-Ended.end ∙ ap (λ v. told_at v c.in-Ended.end) c.self.view_is ∙ ap (told_at c.args.self) same)
+    c.report_at.ensures.told
