@@ -12,8 +12,8 @@ use Rattle.bz_tree.specs.declared.stmt.GroupKind.{GroupKind}
 use Rattle.bz_tree.specs.declared.stmt.GroupKind.TheVariants.{RuleCall}
 use Rattle.bz_tree.specs.Tree.{Item, leaf, group, Items, no_items, item, Segs, no_segs, seg, Segment, Statement, items_of, segs_of}
 use Rattle.bz_tree.specs.Rows.{RowPart, part_view, a_token, opening, closing, segment_end, above, beside, beside_part, item_parts, items_parts, segs_parts, parts_of}
-use Rattle.bz_tree.specs.declared.stmt.Class.TheVariants.{Rule as RuleClass, Block, Load as LoadClass, Assign, Other as OtherClass}
-use Rattle.bz_tree.specs.Statement.{class_of, has_assign, is_rule, is_rule_after, is_nothing, is_kept, is_load_word, is_ident, is_dot, is_call as is_call_kind}
+use Rattle.bz_tree.specs.declared.stmt.Class.TheVariants.{Rule as RuleClass}
+use Rattle.bz_tree.specs.Statement.{class_of, is_rule, is_rule_after, is_nothing, is_ident, is_dot, is_call as is_call_kind}
 use Rattle.bz_tree.specs.FromParts.{nodes_of_parts}
 use Rattle.bz_tree.specs.Tree.{segments}
 use Rattle.bz_tree.proofs.FromParts.{nodes_back, listed_back}

@@ -4,17 +4,15 @@ use Rattle.std.specs.Prelude.{codes, bytes_eq}
 use Rattle.std.specs.List.{list_any}
 use Rattle.std.proofs.lemmas.List.Folds.{list_any-append}
 use Rattle.std.proofs.Math.Seq.{drop-append_seam, take-append_seam}
-use Rattle.bz_token.specs.declared.token.Kind.{Kind}
 use Rattle.bz_token.specs.declared.token.Kind.TheVariants.{Identifier, Keyword, Integer, String, Operator, Newline, Comment as CommentToken, Kept}
 use Rattle.bz_tree.specs.declared.stmt.GroupKind.TheVariants.{RuleCall}
 use Rattle.bz_tree.specs.Tree.{Item, leaf, group, Segment, Statement, items_of, segs_of}
 use Rattle.bz_tree.specs.View.{seg_view, segs_view}
 use Rattle.bz_tree.specs.declared.stmt.Seg.{Seg}
 use Rattle.bz_tree.specs.declared.row.Part.{Part}
-use Rattle.bz_tree.specs.Rows.{part_view, RowPart, a_token, opening, closing, segment_end, above, beside, beside_part, item_parts, items_parts, segs_parts, parts_of}
+use Rattle.bz_tree.specs.Rows.{part_view, RowPart, opening, closing, segment_end, above, beside_part, item_parts, items_parts, segs_parts, parts_of}
 use Rattle.bz_command.specs.Labels.{Package, Target, Name, Pkg, All, Kind as KindOf, Line}
-use Rattle.bz_command.specs.Commands.{Command, Add, Remove, Set, SetIfAbsent, Delete, Rename, Move, Replace, Comment, Print, ToKind, ToValues, Rule as WholeRule}
-use Rattle.bz_attribute.specs.declared.done.Done.{Done}
+use Rattle.bz_command.specs.Commands.{Command, Add, Remove, Set, SetIfAbsent, Delete, Rename, Move, Replace, Comment, Print, ToKind, ToValues}
 use Rattle.bz_attribute.specs.Marks.{marks, marks_if, marks_rule}
 use Rattle.bz_attribute.specs.Rules.{Rule, rule_of, name_of, ident_of, is_operator_item, is_text, is_named, first_named, name_in, string_in}
 use Rattle.bz_attribute.specs.Effects.{has, edit_first, argument, nodes_of, nodes_after, with_args, done, done_in, slot_done}

@@ -1,5 +1,5 @@
 -- A row is of one statement.
-use Rattle.std.proofs.Common.{◌≡◌, ◌∙◌, List, ap, map, refl, sym, subst}
+use Rattle.std.proofs.Common.{◌≡◌, ◌∙◌, List, map, refl, sym, subst}
 use Rattle.std.specs.Prelude.{Option, None, Some, IfSome}
 use Rattle.bz_tree.specs.Tree.{Statement}
 use Rattle.bz_tree.specs.Statement.{class_of}

@@ -162,6 +162,24 @@ fn split<'a>(
 {
     let mut mentioned = Vec::new(alloc);
     let mut others = Vec::with_capacity(alloc, unread.len())?;
+    split_into(command, unread, &mut mentioned, &mut others)?;
+    Ok((mentioned, others))
+}
+
+// Each value comes after those that the command mentions, or after the others.
+fn split_into<'a>(
+    command: &Command,
+    unread: &[Unread<'a>],
+    mentioned: &mut Vec<Unread<'a>>,
+    others: &mut Vec<Unread<'a>>,
+) -> Result<(), AllocError>
+    ensures mentioned { OnOk result (map parts_view mentioned.new.items
+        ≡ map parts_view mentioned.old.items
+        ++ filter (λ v. mentions command.now v.name) (map parts_view unread.now)) }
+    ensures others { OnOk result (map parts_view others.new.items
+        ≡ map parts_view others.old.items
+        ++ filter (λ v. not (mentions command.now v.name)) (map parts_view unread.now)) }
+{
     for value in unread {
         if command.mentions(value.name) {
             mentioned.push(*value)?;
@@ -169,5 +187,5 @@ fn split<'a>(
             others.push(*value)?;
         }
     }
-    Ok((mentioned, others))
+    Ok(())
 }

@@ -1,6 +1,6 @@
 //! A statement of which no more is read than commands look at.
 
-ghost use Rattle.std.specs.Prelude.{◌≡◌, ◌++◌, IfOk, IfSome, IfNone, OnOk, OnErr, string_bytes, option_map};
+ghost use Rattle.std.specs.Prelude.{◌≡◌, ◌++◌, IfOk, IfSome, IfNone, OnOk, OnErr, Some, string_bytes, option_map};
 ghost use Rattle.bz_tree.specs.Tree.{Statement};
 ghost use Rattle.bz_tree.specs.View.{view};
 ghost use Rattle.bz_tree.specs.Statement.{class_of};
@@ -10,6 +10,7 @@ ghost use Rattle.bz_attribute.specs.Marks as marks;
 ghost use Rattle.bz_attribute.specs.Texts.{shown_text};
 ghost use Rattle.bz_layout.specs.Layout.{layout_text};
 ghost use Rattle.bz_rule.specs.Applied as applied;
+ghost use Rattle.bz_rule.specs.LongerViews.{longer_view};
 ghost use Rattle.bz_rule.specs.ShallowViews.{shallow_view, shallow_slot};
 ghost use Rattle.bz_rule.specs.LazyViews.{lazy_view, lazy_slot};
 
@@ -123,40 +124,14 @@ pub fn apply_lazy(
     ensures slot { OnOk result (lazy_slot slot.new ≡ applied.after command.now home.now (lazy_slot slot.old)) }
     ensures done { IfOk result (λ done. done ≡ applied.done_of command.now home.now (lazy_slot slot.old)) }
 {
-    if let Some(done) = by_head(alloc, command, home, slot)? {
-        return Ok(done);
-    }
-    if let Some(done) = after_row(alloc, command, home, slot)? {
-        return Ok(done);
-    }
-    let mut read = read_slot(alloc, slot.take())?;
-    let done = apply_shallow(alloc, command, home, &mut read)?;
-    *slot = read.map(LazyStmt::Read);
-    Ok(done)
-}
-
-// What a command does that changes nothing and looks at the head alone. None: it may be another.
-fn by_head(
-    alloc: Global,
-    command: &Command,
-    home: &Package,
-    slot: &Option<LazyStmt<'_>>,
-) -> Result<Option<Done>, AllocError>
-    ensures slot { IfOk result (λ told. IfSome told (λ done.
-        lazy_slot slot.now ≡ applied.after command.now home.now (lazy_slot slot.now))) }
-    ensures done { IfOk result (λ told. IfSome told (λ done.
-        done ≡ applied.done_of command.now home.now (lazy_slot slot.now))) }
-{
-    match (slot, &command.action) {
-        (Some(LazyStmt::Row(row)), Action::Print(fields)) => {
-            row.print(alloc, home, fields.as_slice())
-        }
-        _ => Ok(None),
+    match by_row(alloc, command, home, slot)? {
+        Some(done) => Ok(done),
+        None => apply_read(alloc, command, home, slot),
     }
 }
 
-// What a command does that adds arguments after those of a row. None: it may be another, and nothing was done.
-fn after_row(
+// What a command does to a statement that is no more than a row. None: it may be another, and nothing was done.
+fn by_row(
     alloc: Global,
     command: &Command,
     home: &Package,
@@ -169,9 +144,44 @@ fn after_row(
     ensures same { IfOk result (λ told. IfNone told (lazy_slot slot.new ≡ lazy_slot slot.old)) }
 {
     match slot {
-        Some(LazyStmt::Row(row)) => row.set(alloc, command, home),
+        Some(LazyStmt::Row(row)) => on_row(alloc, command, home, row),
         _ => Ok(None),
     }
+}
+
+// A command that changes nothing looks at the head alone, or one adds arguments after those of the row.
+fn on_row(
+    alloc: Global,
+    command: &Command,
+    home: &Package,
+    row: &mut LongerRow<'_>,
+) -> Result<Option<Done>, AllocError>
+    ensures rule { IfOk result (λ told. IfSome told (λ done.
+        Some (longer_view row.new) ≡ applied.after command.now home.now (Some (longer_view row.old)))) }
+    ensures done { IfOk result (λ told. IfSome told (λ done.
+        done ≡ applied.done_of command.now home.now (Some (longer_view row.old)))) }
+    ensures same { IfOk result (λ told. IfNone told (longer_view row.new ≡ longer_view row.old)) }
+{
+    match &command.action {
+        Action::Print(fields) => row.print(alloc, home, fields.as_slice()),
+        _ => row.set(alloc, command, home),
+    }
+}
+
+// The same to a statement that is read.
+fn apply_read(
+    alloc: Global,
+    command: &Command,
+    home: &Package,
+    slot: &mut Option<LazyStmt<'_>>,
+) -> Result<Done, AllocError>
+    ensures slot { OnOk result (lazy_slot slot.new ≡ applied.after command.now home.now (lazy_slot slot.old)) }
+    ensures done { IfOk result (λ done. done ≡ applied.done_of command.now home.now (lazy_slot slot.old)) }
+{
+    let mut read = read_slot(alloc, slot.take())?;
+    let done = apply_shallow(alloc, command, home, &mut read);
+    *slot = read.map(LazyStmt::Read);
+    done
 }
 
 fn read_slot<'a>(

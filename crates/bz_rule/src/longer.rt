@@ -17,7 +17,7 @@ ghost use Rattle.bz_layout.specs.Layout.{layout_text};
 ghost use Rattle.bz_rule.specs.Applied as applied;
 ghost use Rattle.bz_rule.specs.RowViews.{row_statement};
 ghost use Rattle.bz_rule.specs.ShallowViews.{shallow_view};
-ghost use Rattle.bz_rule.specs.LongerViews.{longer_view};
+ghost use Rattle.bz_rule.specs.LongerViews.{longer_view, with_more};
 ghost use Rattle.bz_rule.specs.private.LongerRows.{HasName, Lacks, adds_to, is_word, besides, args_end, with_added};
 
 use crate::hollow::is_end;
@@ -149,10 +149,7 @@ fn append_in_call<'a>(call: &mut Node<'a>, more: &mut Vec<Seg<'a>>) -> Result<()
 {
     match call {
         Node::Token(_) => Ok(()),
-        Node::Group(group) => {
-            group.segs.append(more)?;
-            Ok(())
-        }
+        Node::Group(group) => group.segs.append(more),
     }
 }
 
@@ -169,6 +166,20 @@ fn append_args<'a>(nodes: &mut Vec<Node<'a>>, more: &mut Vec<Seg<'a>>) -> Result
             Ok(())
         }
     }
+}
+
+// The rule of a row with more arguments, as a tree.
+fn longer_tree<'a>(
+    alloc: Global,
+    row: NamedRow<'a>,
+    more: &mut Vec<Seg<'a>>,
+) -> Result<ShallowStmt<'a>, AllocError>
+    ensures { IfOk result
+        (λ read. shallow_view read ≡ with_more (segs_view more.old.items) (row_statement row.entry)) }
+{
+    let mut stmt = row.tree(alloc)?;
+    append_args(&mut stmt.nodes, more)?;
+    Ok(ShallowStmt::new(alloc, stmt))
 }
 
 impl<'a> LongerRow<'a> {
@@ -209,8 +220,7 @@ impl<'a> LongerRow<'a> {
         ensures { IfOk result (λ text. string_bytes text ≡ shown_text home.now (longer_view self.now)) }
     {
         self.row.has_name();
-        let text = self.row.shown(alloc, home)?;
-        Ok(text)
+        self.row.shown(alloc, home)
     }
 
     /// What is printed of the rule. None: it takes more than the head. `Err`: memory was refused.
@@ -226,8 +236,7 @@ impl<'a> LongerRow<'a> {
         if !self.more.is_empty() {
             return Ok(None);
         }
-        let told = self.row.print(alloc, home, fields)?;
-        Ok(told)
+        self.row.print(alloc, home, fields)
     }
 
     // None of the row's arguments has this name; or one may have it.
@@ -269,12 +278,9 @@ impl<'a> LongerRow<'a> {
     {
         let LongerRow { row, mut more } = self;
         if more.is_empty() {
-            let read = row.read(alloc)?;
-            return Ok(read);
+            return row.read(alloc);
         }
-        let mut stmt = row.tree(alloc)?;
-        append_args(&mut stmt.nodes, &mut more)?;
-        Ok(ShallowStmt::new(alloc, stmt))
+        longer_tree(alloc, row, &mut more)
     }
 
     /// Appends the canonical text of the rule, with its last newline. `Err`: memory was refused, and `out` is as it was.

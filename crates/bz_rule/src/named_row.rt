@@ -79,8 +79,7 @@ impl<'a> NamedRow<'a> {
     pub fn shown(&self, alloc: Global, home: &Package) -> Result<String, AllocError>
         ensures { IfOk result (λ text. string_bytes text ≡ shown_text home.now (row_statement self.now)) }
     {
-        let text = self.head.shown(alloc, home)?;
-        Ok(text)
+        self.head.shown(alloc, home)
     }
 
     /// What is printed of the rule. None: it takes more than the head.
@@ -92,16 +91,14 @@ impl<'a> NamedRow<'a> {
     ) -> Result<Option<Done>, AllocError>
         ensures { IfOk result (λ told. IfSome told (λ done. done ≡ prints home.now (map field_view fields.now) (Some (row_statement self.now)))) }
     {
-        let told = print_head(alloc, home, fields, self.head)?;
-        Ok(told)
+        print_head(alloc, home, fields, self.head)
     }
 
     /// The rule as far as commands look at it.
     pub fn read(self, alloc: Global) -> Result<ShallowStmt<'a>, AllocError>
         ensures { IfOk result (λ read. shallow_view read ≡ row_statement self.entry) }
     {
-        let read = ShallowStmt::of_row(alloc, self.row)?;
-        Ok(read)
+        ShallowStmt::of_row(alloc, self.row)
     }
 
     /// The rule as a tree.
@@ -109,8 +106,7 @@ impl<'a> NamedRow<'a> {
         ensures { IfOk result (λ stmt. view stmt ≡ row_statement self.entry) }
     {
         let row = self.row;
-        let stmt = stmt_of_parts(alloc, &row.parts, row.class, row.start, row.end)?;
-        Ok(stmt)
+        stmt_of_parts(alloc, &row.parts, row.class, row.start, row.end)
     }
 
     /// Appends the canonical text of the rule, with its last newline. `Err`: memory was refused, and `out` is as it was.

@@ -1,7 +1,7 @@
 //! A statement that is read as far as commands look at it: values of arguments stand apart, as the parts they are
 //! written in, until a command mentions the argument.
 
-ghost use Rattle.std.specs.Prelude.{◌≡◌, ◌++◌, IfOk, OnOk, OnErr, string_bytes, map, option_map, true};
+ghost use Rattle.std.specs.Prelude.{◌≡◌, ◌++◌, IfOk, OnOk, OnErr, string_bytes, map, option_map, Some, true};
 ghost use Rattle.bz_tree.specs.Tree.{Statement};
 ghost use Rattle.bz_tree.specs.View.{slot_view, view};
 ghost use Rattle.bz_tree.specs.Statement.{class_of};
@@ -139,15 +139,31 @@ pub fn apply_shallow(
     ensures slot { OnOk result (shallow_slot slot.new ≡ applied.after command.now home.now (shallow_slot slot.old)) }
     ensures done { IfOk result (λ done. done ≡ applied.done_of command.now home.now (shallow_slot slot.old)) }
 {
-    let Some(ShallowStmt { mut stmt, values }) = slot.take() else {
-        let done = apply(alloc, command, home, &mut None)?;
-        return Ok(done);
-    };
+    match slot.take() {
+        None => apply(alloc, command, home, &mut None),
+        Some(read) => apply_to(alloc, command, home, read, slot),
+    }
+}
+
+// The slot gets what a command makes of a statement.
+fn apply_to<'a>(
+    alloc: Global,
+    command: &Command,
+    home: &Package,
+    read: ShallowStmt<'a>,
+    slot: &mut Option<ShallowStmt<'a>>,
+) -> Result<Done, AllocError>
+    ensures slot { OnOk result
+        (shallow_slot slot.new ≡ applied.after command.now home.now (Some (shallow_view read.entry))) }
+    ensures done { IfOk result
+        (λ done. done ≡ applied.done_of command.now home.now (Some (shallow_view read.entry))) }
+{
+    let ShallowStmt { mut stmt, values } = read;
     let values = read_mentioned(alloc, command, &mut stmt, values)?;
     let mut inner = Some(stmt);
-    let done = apply(alloc, command, home, &mut inner)?;
+    let done = apply(alloc, command, home, &mut inner);
     *slot = with_values(inner, values);
-    Ok(done)
+    done
 }
 
 fn with_values<'a>(slot: Option<Stmt<'a>>, values: Values<'a>) -> Option<ShallowStmt<'a>>

@@ -118,7 +118,7 @@ fn in_call(
 {
     match call {
         Node::Token(_) => in_args(alloc, command, home, &mut Vec::new(alloc)),
-        Node::Group(group) => Ok(in_args(alloc, command, home, &mut group.segs)?),
+        Node::Group(group) => in_args(alloc, command, home, &mut group.segs),
     }
 }
 

@@ -1,4 +1,4 @@
-use Rattle.std.proofs.Common.{◌∙◌, List, ap, sym}
+use Rattle.std.proofs.Common.{◌∙◌, ap, sym}
 use Rattle.std.specs.List.{list_any}
 use Rattle.bz_rule.specs.RowViews.{row_statement}
 use Rattle.bz_rule.specs.private.LongerRows.{is_word}

@@ -1,5 +1,5 @@
 use Rattle.std.proofs.Common.{◌≡◌, arith, length, map, sym, subst, tests}
-use Rattle.std.specs.Prelude.{Some, IfSome}
+use Rattle.std.specs.Prelude.{IfOk, Some, IfSome}
 use Rattle.bz_tree.specs.Tree.{Statement}
 use Rattle.bz_command.specs.CommandViews.{field_view}
 use Rattle.bz_attribute_commands.specs.Printing.{prints}
@@ -12,4 +12,4 @@ returns c =
     let row = c.args.self.now.row in
     let more = c.args.self.now.more.items in
     let none : length more ≡ 0 = grind (arith, tests, c.if-not-is_empty.false, c.is_empty.ensures) in
-    subst (λ (s : Statement). IfSome c.in_ok-told.told (λ done. done ≡ prints c.args.home.now (map field_view c.args.fields.now) (Some s))) (sym (none_more (row_statement row) more none)) c.in_ok-told.ensures
+    subst (λ (s : Statement). IfOk c.print.result (λ told. IfSome told (λ done. done ≡ prints c.args.home.now (map field_view c.args.fields.now) (Some s)))) (sym (none_more (row_statement row) more none)) c.print.ensures

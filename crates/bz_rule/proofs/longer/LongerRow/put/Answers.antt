@@ -1,4 +1,4 @@
-use Rattle.std.proofs.Common.{◌≡◌, ◌++◌, ◌∙◌, List, ap, map, refl}
+use Rattle.std.proofs.Common.{◌≡◌, ◌++◌, ◌∙◌, List, ap, map}
 use Rattle.bz_tree.specs.Tree.{segs_of}
 use Rattle.bz_tree.specs.View.{segs_view}
 use Rattle.bz_tree.specs.declared.stmt.Seg.{Seg}

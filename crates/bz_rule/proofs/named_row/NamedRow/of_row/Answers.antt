@@ -1,8 +1,3 @@
-use Rattle.std.proofs.Common.{◌∙◌, ap, sym, subst}
-use Rattle.bz_tree.specs.Tree.{Statement}
-use Rattle.bz_tree.specs.Statement.{class_of}
-use Rattle.bz_tree.specs.Rows.{IsRowOf}
-use Rattle.bz_attribute.specs.Heads.{IsHeadOf}
 use Rattle.bz_rule.proofs.RowStatements.{statement_of_row, named_row}
 use Rattle.bz_rule.proofs.named_row.NamedRow.of_row.Goals as goal
 

@@ -1,4 +1,4 @@
-use Rattle.std.proofs.Common.{◌∙◌, ◌++◌, ℕ, List, ap}
+use Rattle.std.proofs.Common.{◌∙◌, ◌++◌, ap}
 use Rattle.bz_layout.specs.Layout.{layout_text}
 use Rattle.bz_rule.specs.RowViews.{RowValue, row_value, row_statement}
 use Rattle.bz_rule.proofs.named_row.NamedRow.put.Goals as goal
