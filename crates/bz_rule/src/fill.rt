@@ -62,10 +62,7 @@ fn fill_arg<'a>(alloc: Global, arg: &mut Seg<'a>, unread: &[Unread<'a>]) -> Resu
 {
     match unread_value(arg, unread) {
         None => Ok(()),
-        Some(value) => {
-            add_nodes(alloc, &mut arg.nodes, value.parts)?;
-            Ok(())
-        }
+        Some(value) => add_nodes(alloc, &mut arg.nodes, value.parts),
     }
 }
 
@@ -93,10 +90,7 @@ fn fill_call<'a>(
 {
     match call {
         Node::Token(_) => Ok(()),
-        Node::Group(group) => {
-            fill_args(alloc, &mut group.segs, unread)?;
-            Ok(())
-        }
+        Node::Group(group) => fill_args(alloc, &mut group.segs, unread),
     }
 }
 
@@ -112,10 +106,7 @@ fn fill_nodes<'a>(
 {
     match call_at(nodes) {
         None => Ok(()),
-        Some(call) => {
-            fill_call(alloc, &mut nodes[call], unread)?;
-            Ok(())
-        }
+        Some(call) => fill_call(alloc, &mut nodes[call], unread),
     }
 }
 

@@ -108,8 +108,7 @@ fn push_arg<'s>(arg: &'s Seg<'_>, parts: &mut Vec<Part<'s>>) -> Result<(), Alloc
     push_above(&arg.before, parts)?;
     push_nodes(&arg.nodes, parts)?;
     parts.push(Part::End)?;
-    push_beside(&arg.suffix, parts)?;
-    Ok(())
+    push_beside(&arg.suffix, parts)
 }
 
 // Appends the parts of arguments. `Err`: memory was refused.
@@ -139,8 +138,7 @@ fn put_longer<'s>(
     let end = args_end(parts);
     let front = &parts[..end];
     let back = &parts[end..];
-    put_pieces(alloc, &[&*front, &*added, &*back], class, out)?;
-    Ok(())
+    put_pieces(alloc, &[&*front, &*added, &*back], class, out)
 }
 
 fn append_in_call<'a>(call: &mut Node<'a>, more: &mut Vec<Seg<'a>>) -> Result<(), AllocError>
@@ -161,10 +159,7 @@ fn append_args<'a>(nodes: &mut Vec<Node<'a>>, more: &mut Vec<Seg<'a>>) -> Result
 {
     match call_at(nodes) {
         None => Ok(()),
-        Some(call) => {
-            append_in_call(&mut nodes[call], more)?;
-            Ok(())
-        }
+        Some(call) => append_in_call(&mut nodes[call], more),
     }
 }
 
@@ -290,7 +285,6 @@ impl<'a> LongerRow<'a> {
     {
         let mut added = Vec::with_capacity(alloc, FIRST_PARTS)?;
         push_args(&self.more, &mut added)?;
-        put_longer(alloc, self.row.parts(), &added, self.row.class(), out)?;
-        Ok(())
+        put_longer(alloc, self.row.parts(), &added, self.row.class(), out)
     }
 }

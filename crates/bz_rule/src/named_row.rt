@@ -114,8 +114,7 @@ impl<'a> NamedRow<'a> {
         ensures appended { OnOk result (out.new.items ≡ out.old.items ++ layout_text (row_statement self.now)) }
         ensures unchanged { OnErr result (out.new.items ≡ out.old.items) }
     {
-        put_row(alloc, self.row, out)?;
-        Ok(())
+        put_row(alloc, self.row, out)
     }
 
     pub(crate) fn parts(&self) -> &[Part<'a>]

@@ -105,8 +105,7 @@ impl<'a> ShallowStmt<'a> {
         ensures unchanged { OnErr result (out.new.items ≡ out.old.items) }
     {
         let woven = whole_parts(alloc, &self.stmt, &self.values)?;
-        woven.put(alloc, self.stmt.class, out)?;
-        Ok(())
+        woven.put(alloc, self.stmt.class, out)
     }
 }
 

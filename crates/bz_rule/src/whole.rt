@@ -33,10 +33,7 @@ fn push_filled<'s>(
     woven.push_nodes(&arg.nodes)?;
     match unread_value(arg, unread) {
         None => Ok(()),
-        Some(value) => {
-            woven.insert(value.parts)?;
-            Ok(())
-        }
+        Some(value) => woven.insert(value.parts),
     }
 }
 
@@ -53,8 +50,7 @@ fn push_arg<'s>(
     woven.push_above(&arg.before)?;
     push_filled(arg, unread, woven)?;
     woven.push(Part::End)?;
-    woven.push_beside(&arg.suffix)?;
-    Ok(())
+    woven.push_beside(&arg.suffix)
 }
 
 fn push_call<'s>(
@@ -93,8 +89,7 @@ fn push_whole_nodes<'s>(
         }
         Some(rule) => {
             woven.push_nodes(rule.kind)?;
-            push_call(rule.call, values.as_slice(), woven)?;
-            Ok(())
+            push_call(rule.call, values.as_slice(), woven)
         }
     }
 }

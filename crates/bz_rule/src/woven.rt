@@ -53,22 +53,19 @@ impl<'s> Woven<'s> {
     pub(crate) fn push_above(&mut self, comments: &'s [CowStr<'_>]) -> Result<(), AllocError>
         ensures { OnOk result (Adds (map above (texts comments.now)) self.old self.new) }
     {
-        push_above(comments, &mut self.own)?;
-        Ok(())
+        push_above(comments, &mut self.own)
     }
 
     pub(crate) fn push_beside(&mut self, comment: &'s Option<CowStr<'_>>) -> Result<(), AllocError>
         ensures { OnOk result (Adds (beside_part (option_map text_of comment.now)) self.old self.new) }
     {
-        push_beside(comment, &mut self.own)?;
-        Ok(())
+        push_beside(comment, &mut self.own)
     }
 
     pub(crate) fn push_nodes(&mut self, nodes: &'s [Node<'_>]) -> Result<(), AllocError>
         ensures { OnOk result (Adds (items_parts (items_of (nodes_view nodes.now))) self.old self.new) }
     {
-        push_nodes(nodes, &mut self.own)?;
-        Ok(())
+        push_nodes(nodes, &mut self.own)
     }
 
     pub(crate) fn insert(&mut self, parts: &'s [Part<'s>]) -> Result<(), AllocError>

@@ -1,4 +1,5 @@
 use Rattle.std.proofs.Common.{◌++◌, ◌∙◌, List, Option, ap, sym, map, append_assoc}
+use Rattle.std.proofs.lemmas.Result.{on_ok_weaker}
 use Rattle.bz_tree.specs.declared.stmt.GroupKind.TheVariants.{RuleCall}
 use Rattle.bz_tree.specs.declared.stmt.Group.{out-Group}
 use Rattle.bz_tree.specs.Tree.{Item, group, items_of, segs_of}
@@ -12,8 +13,8 @@ use Rattle.bz_rule.specs.private.Woven.{all}
 use Rattle.bz_rule.proofs.PutBack.{rule_parts}
 use Rattle.bz_rule.proofs.whole.push_whole_nodes.Goals as goal
 
-pub returns-in_ok-push_call-in-Some : goal.returns-in_ok-push_call-in-Some
-returns-in_ok-push_call-in-Some c = λ fits.
+pub returns-in_ok-push_nodes-in-Some : goal.returns-in_ok-push_nodes-in-Some
+returns-in_ok-push_nodes-in-Some c = on_ok_weaker c.push_call.result (λ called fits.
     let rule = c.in-Some.rule in
     let f = map (filled (all_apart c.args.values.now)) in
     let old = all c.args.woven.now in
@@ -22,7 +23,7 @@ returns-in_ok-push_call-in-Some c = λ fits.
     λ vs. group RuleCall (segs_of (map (filled (all_apart vs)) (segs_view (out-Group rule.call.now).segs.items))) (out-Group rule.call.now).one_comma (texts (out-Group rule.call.now).end.items) in
     let call = with_values c.args.values.now in
     let w1 = c.in_ok-push_nodes-in-Some.ensures fits in
-    let w2 = c.in_ok-push_call-in-Some.ensures w1.0 in (
+    let w2 = called w1.0 in (
       w2.0,
       w2.1
           ∙ ap (λ (vs : List Parts). all c.push_nodes-in-Some.new.self ++ item_parts (with_values vs)) c.as_slice.ensures.values
@@ -30,4 +31,4 @@ returns-in_ok-push_call-in-Some c = λ fits.
           ∙ append_assoc old (items_parts (items_of kind)) (item_parts call)
           ∙ ap (λ (ps : List RowPart). old ++ ps) (sym (rule_parts kind call))
           ∙ ap (λ (o : Option spec.Rule). old ++ items_parts (items_of (nodes_after f (nodes_view c.args.nodes.now) o))) c.in-Some.ensures,
-    )
+    )) c.push_call.ensures

@@ -1,4 +1,5 @@
 use Rattle.std.proofs.Common.{◌≡◌, ◌++◌, ◌∙◌, List, ap, map}
+use Rattle.std.proofs.lemmas.Result.{on_ok_weaker}
 use Rattle.bz_tree.specs.Tree.{segs_of}
 use Rattle.bz_tree.specs.View.{segs_view}
 use Rattle.bz_tree.specs.declared.stmt.Seg.{Seg}
@@ -20,4 +21,6 @@ returns-clause-appended c =
     ∙ c.in_ok-push_args.ensures
     ∙ ap (λ (ps : List Part). map part_view ps ++ segs_parts (segs_of (segs_view c.deref.result.now))) c.in_ok-added.ensures.items
     ∙ ap (λ (segs : List Seg). segs_parts (segs_of (segs_view segs))) c.deref.ensures.value in
-    c.in_ok-put_longer.ensures.appended (longer_view c.args.self.now) ((λ i. with_added (added i) (c.parts.ensures.parts i)) ∙ longer_parts s (segs_view more) c.parts.ensures.named) c.class.ensures
+    on_ok_weaker c.put_longer.result
+    (λ appended. appended (longer_view c.args.self.now) ((λ i. with_added (added i) (c.parts.ensures.parts i)) ∙ longer_parts s (segs_view more) c.parts.ensures.named) c.class.ensures)
+    c.put_longer.ensures.appended
