@@ -125,7 +125,7 @@ fn is_fresh<'t>(
             !is_any_chosen(home, Chosen::Value(word), value)
                 && !earlier.iter().any(|other| is_label(home, label, other)),
         ),
-        Some(set) => Ok(set.insert(label)?),
+        Some(set) => set.insert(label),
     }
 }
 

@@ -94,7 +94,7 @@ fn is_new<'s>(element: &'s Seg<'_>, there: &mut LabelSet<'s>) -> Result<bool, Al
 {
     match string_of(element) {
         None => Ok(true),
-        Some(value) => Ok(there.insert(value)?),
+        Some(value) => there.insert(value),
     }
 }
 

@@ -4,7 +4,9 @@ ghost use Rattle.std.specs.Prelude.{◌≡◌, [], None, map, IfOk, OnOk, OnErr}
 ghost use Rattle.bz_tree.specs.View.{seg_view, segs_view};
 ghost use Rattle.bz_attribute.specs.Effects as spec;
 ghost use Rattle.bz_command.specs.CommandViews.{attributes_view};
+ghost use Rattle.bz_attribute.specs.Rules.{first_named, is_named};
 ghost use Rattle.bz_attribute.specs.private.ChosenViews.{chosen_view};
+ghost use Rattle.bz_attribute.specs.private.Places.{IsFirst};
 ghost use Rattle.bz_list_commands.specs.private.EditSteps.{any_has_any, cleared, edit_attribute, goes, has_any};
 
 use bz_attribute::chosen::{Chosen, drop_in, is_any_chosen, loses_all};
@@ -79,14 +81,26 @@ fn remove_values<'v>(
         return Ok(Done::quiet(false));
     };
     let words = word_set(alloc, home, values)?;
-    let chosen = Chosen::Words(&words);
+    Ok(drop_chosen(home, Chosen::Words(&words), i, args))
+}
+
+// Drops the chosen elements of an argument, and the argument where none is left.
+fn drop_chosen(home: &Package, chosen: Chosen<'_, '_>, i: usize, args: &mut Vec<Seg<'_>>) -> Done
+    requires { (attr : _) × IsFirst attr args.old.items i }
+    ensures args { (attr : _) → IsFirst attr args.old.items i → segs_view args.new.items
+        ≡ spec.edit_first (is_named attr) (spec.filtered (spec.unchosen home.now (chosen_view chosen.entry)))
+        (segs_view args.old.items) }
+    ensures done { (attr : _) → IsFirst attr args.old.items i → result
+        ≡ spec.done None (spec.chooses_in home.now (chosen_view chosen.entry)
+        (first_named attr (segs_view args.old.items))) }
+{
     let changed = is_any_chosen(home, chosen, value_of(&args[i]));
     if loses_all(home, chosen, &args[i]) {
         let _ = args.remove(i);
     } else {
         drop_in(home, chosen, &mut args[i]);
     }
-    Ok(Done::quiet(changed))
+    Done::quiet(changed)
 }
 
 // Drops the elements that equal a value from each attribute, and each attribute where none is left.

@@ -3,6 +3,7 @@ use Rattle.std.specs.List.{list_any}
 use Rattle.std.proofs.lemmas.Iterator.{YieldsList-from_slice}
 use Rattle.std.proofs.lemmas.Iterator.Search.{any_from_yields_List}
 use Rattle.std.proofs.lemmas.List.{get_or_default}
+use Rattle.std.proofs.lemmas.Result.{IfOk-weaker, on_ok_weaker}
 use Rattle.bz_tree.specs.View.{nodes_view}
 use Rattle.bz_attribute.specs.Effects.{is_fresh}
 use Rattle.bz_attribute.specs.Lists.{parts, same}
@@ -10,19 +11,23 @@ use Rattle.bz_list_commands.proofs.Known.{knows_fresh, knows_more}
 use Rattle.bz_list_commands.specs.private.AddingSteps.{Knows}
 use Rattle.bz_list_commands.proofs.add.is_fresh.Goals as goal
 
-pub returns-in_ok-insert-in-Some-clause-there : goal.returns-in_ok-insert-in-Some-clause-there
-returns-in_ok-insert-in-Some-clause-there c =
+pub returns-in-Some-clause-there : goal.returns-in-Some-clause-there
+returns-in-Some-clause-there c =
     let values = c.args.values.now in
     let known : Knows c.args.home.now (parts (nodes_view c.args.value.now)) values c.args.i c.in-Some.set = rw c.in-Some.is at c.requires.there in
     let read = c.as_bytes.ensures.value ∙ c.as_str-word.ensures ∙ c.index-values-i.is ∙ get_or_default values c.args.i _ [] c.requires.i in
-    knows_more c.args.home.now (parts (nodes_view c.args.value.now)) values c.args.i c.as_bytes.result.now c.in-Some.set c.insert.new.self c.requires.i read known c.in_ok-insert-in-Some.ensures.ok c.in_ok-insert-in-Some.ensures.home
+    on_ok_weaker c.insert.result
+    (λ gains. knows_more c.args.home.now (parts (nodes_view c.args.value.now)) values c.args.i c.as_bytes.result.now c.in-Some.set c.insert.new.self c.requires.i read known gains c.insert.ensures.home)
+    c.insert.ensures.ok
 
-pub returns-in_ok-insert-in-Some-clause-fresh : goal.returns-in_ok-insert-in-Some-clause-fresh
-returns-in_ok-insert-in-Some-clause-fresh c =
+pub returns-in-Some-clause-fresh : goal.returns-in-Some-clause-fresh
+returns-in-Some-clause-fresh c =
     let values = c.args.values.now in
     let known : Knows c.args.home.now (parts (nodes_view c.args.value.now)) values c.args.i c.in-Some.set = rw c.in-Some.is at c.requires.there in
     let read = c.as_bytes.ensures.value ∙ c.as_str-word.ensures ∙ c.index-values-i.is ∙ get_or_default values c.args.i _ [] c.requires.i in
-    c.in_ok-insert-in-Some.ensures.new ∙ knows_fresh c.args.home.now (parts (nodes_view c.args.value.now)) values c.args.i c.as_bytes.result.now c.in-Some.set c.requires.i read known
+    IfOk-weaker c.insert.result _ _
+    (λ fresh h. h ∙ knows_fresh c.args.home.now (parts (nodes_view c.args.value.now)) values c.args.i c.as_bytes.result.now c.in-Some.set c.requires.i read known)
+    c.insert.ensures.new
 
 pub returns-then-not-is_any_chosen-clause-fresh : goal.returns-then-not-is_any_chosen-clause-fresh
 returns-then-not-is_any_chosen-clause-fresh c =
