@@ -1,7 +1,7 @@
 -- A pool of new strings, and how many of them a replacement takes.
 use Rattle.std.proofs.Common.{◌≡◌, ℕ, ◌+◌, ◌<◌, ◌≤◌, List, [], ◌∷◌, ◌++◌, Bool, true, false, not, cond, ◌||◌, ◌&&◌, nat_lt, if◌then◌else◌, filter, length, get_or, drop, set, refl, ap, sym, ◌∙◌, arith}
 use Rattle.std.specs.List.{list_any, list_all}
-use Rattle.std.proofs.lemmas.List.{drop_more, drop-set-lt, get_or_default, length-append}
+use Rattle.std.proofs.lemmas.List.{drop_all, drop_more, drop-set-lt, get_or_default, length-append}
 use Rattle.std.proofs.lemmas.Bool.Decides.{nat_tests}
 use Rattle.bz_tree.specs.declared.stmt.Node.{Node}
 use Rattle.bz_tree.specs.declared.stmt.Seg.{Seg}
@@ -25,6 +25,26 @@ count_nodes p start ns i d h = ap (λ (xs : List Node). count_from p start (node
 
 pub count_args : (p : Segment → Bool) (ss : List Seg) (i : ℕ) (d : Seg) → i < length ss → count_everywhere p (segs_view (drop i ss)) ≡ count_at p (seg_view (get_or ss i d)) + count_everywhere p (segs_view (drop (i + 1) ss))
 count_args p ss i d h = ap (λ (xs : List Seg). count_everywhere p (segs_view xs)) (drop_more ss i d h)
+
+-- the first of what is left to count is at most what the pool holds
+pub first_fits : (here one rest held : ℕ) → here ≡ one + rest → here ≤ held → one ≤ held
+first_fits here one rest held a b = omega arith
+
+-- nothing is left to count
+none_left : (n held all first : ℕ) → n ≡ 0 → held + all ≡ first + n → held + all ≡ first
+none_left n held all first a b = omega arith
+
+pub all_counted : (p : Segment → Bool) (ss : List Seg) (i held all first : ℕ) → length ss ≤ i → held + all ≡ first + count p (segs_view (drop i ss)) → held + all ≡ first
+all_counted p ss i held all first end is = none_left _ held all first (ap (λ (xs : List Seg). count p (segs_view xs)) (drop_all i ss end)) is
+
+pub all_args_counted : (p : Segment → Bool) (ss : List Seg) (i held all first : ℕ) → length ss ≤ i → held + all ≡ first + count_everywhere p (segs_view (drop i ss)) → held + all ≡ first
+all_args_counted p ss i held all first end is = none_left _ held all first (ap (λ (xs : List Seg). count_everywhere p (segs_view xs)) (drop_all i ss end)) is
+
+pub all_nodes_counted : (p : Segment → Bool) (start : Bool) (ns : List Node) (i held all first : ℕ) → length ns ≤ i → held + all ≡ first + count_from p start (nodes_view (drop i ns)) → held + all ≡ first
+all_nodes_counted p start ns i held all first end is = none_left _ held all first (ap (λ (xs : List Node). count_from p start (nodes_view xs)) (drop_all i ns end)) is
+
+pub none_taken : (held n : ℕ) → n ≡ 0 → held + n ≡ held
+none_taken held n none = omega arith
 
 -- what was left to count is at most what the pool held, and so it stays
 pub taken : (here one rest after held left all first : ℕ) → here ≡ one + rest → after ≡ rest → left + one ≡ held → here ≤ held → held + all ≡ first + here → (after ≤ left) × (left + all ≡ first + after)
