@@ -20,7 +20,7 @@ use Rattle.bz_tree.specs.Brackets.{leaf_of, is_for_item, is_paren, group_with, e
 use Rattle.bz_tree.specs.Rows.{RowPart, opening, closing, segment_end, above, beside, beside_part, item_parts}
 use Rattle.bz_tree.specs.private.Machine.{next, may_end, begin, each, role_of, group_role}
 use Rattle.bz_tree.specs.private.Steps.{Walked, after_own, commented, to_last, done, has_one, kind_with, shape_of, Level, Levels, with_own, next_at}
-use Rattle.bz_tree.specs.private.RowSteps.{is_ended, called, shown_kind, start, read_group, Stand, with_node, with_here, RowState, step_to, is_refused, comment_part, after_comment_next, last_end, is_single, is_one_comma, close_on, close_below, row_next_at}
+use Rattle.bz_tree.specs.private.RowSteps.{At, nothing, a_comma, a_node, an_end, is_ended, called, shown_kind, start, read_group, Stand, around, with_node, with_here, RowState, step_to, is_refused, comment_part, after_comment_next, last_end, is_single, is_one_comma, close_on, close_below, row_next_at}
 use Rattle.bz_tree.proofs.Complete.{same_itself}
 use Rattle.bz_tree.proofs.InPlace.{filled_push, filled_last}
 use Rattle.bz_tree.proofs.Sound.{none_is_some, some_injective, same_shape_is}
@@ -36,8 +36,11 @@ walked_of segs (over before x xs suffix after) = record { segs = segs; before = 
 abbrev pub level_of : Bracket → Level
 level_of g = record { kind = g.kind; walked = Some (walked_of g.segs g.place); at = (read_of g).at }
 
+abbrev around_of : Bracket → Stand
+around_of g = around (stand_of g)
+
 abbrev pub image : Bracket → List Bracket → RowState
-image g gs = record { top = stand_of g; outer = map stand_of gs; parts = all_parts g gs }
+image g gs = record { top = stand_of g; outer = map around_of gs; parts = all_parts g gs }
 
 -- at the top there is one segment, and no comment after its suffix
 abbrev pub is_top : Place → Bool
@@ -97,7 +100,7 @@ stays : (kind : Option GroupKind) (ss rr : List Segment) (p q : Place) (gs : Lis
 stays kind ss rr p q gs ps top step new is top_is parts_are step_is good goods = record {
   to = bracket kind rr q;
   around = gs;
-  state_is = sym is ∙ (ap (λ s. step_to s ps (image (bracket kind ss p) gs)) top_is ∙ ap (λ xs. record { top = stand_of (bracket kind rr q); outer = map stand_of gs; parts = xs }) (sym (all_push kind ss rr p q gs ps parts_are)));
+  state_is = sym is ∙ (ap (λ s. step_to s ps (image (bracket kind ss p) gs)) top_is ∙ ap (λ xs. record { top = stand_of (bracket kind rr q); outer = map around_of gs; parts = xs }) (sym (all_push kind ss rr p q gs ps parts_are)));
   step_is = step_is;
   good = good;
   goods = goods;
@@ -362,12 +365,18 @@ closes kind segs (over before x xs suffix after) ends same good =
 read_group_is : (kind : GroupKind) (segs : List Segment) (place : Place) (r : Read) → IsReadGroup kind segs place → read_group kind r ≡ read_item (group_at kind segs place) r
 read_group_is kind segs place r is = ap (λ role. record { stage = next r.stage role; at = Operand; naming = called r.naming kind; assigns = r.assigns }) (sym is)
 
+around_ended : (a : At) → is_ended (cond (is_ended a) an_end nothing) ≡ is_ended a
+around_ended nothing = refl
+around_ended (a_comma line) = refl
+around_ended (a_node line) = refl
+around_ended an_end = refl
+
 close_leads_at : (shape : Shape) (t : Placed) (kind : GroupKind) (segs : List Segment) (place : Place) (h : Bracket) (hs : List Bracket) (ends : List RowPart) (new : RowState) → shape_of kind ≡ shape
     → last_end (at_place place) (may_end (read_items (start (Some kind)) (nodes_of place)).stage) ≡ Some ends
-    → close_on kind t.line ends (stand_of h) (map stand_of hs) (image (bracket (Some kind) segs place) (h ∷ hs)) ≡ Some new
+    → close_on kind t.line ends (around_of h) (map around_of hs) (image (bracket (Some kind) segs place) (h ∷ hs)) ≡ Some new
     → IsGoodAt (Some kind) segs place → IsGood h → AreGood hs → Leads (next_at (Close shape) t (level_of (bracket (Some kind) segs place)) (map level_of (h ∷ hs))) new
 close_leads_at shape t kind segs place h hs ends new fits ends_are same good good_h goods =
-    let p = passed (is_ended (at_place h.place)) _ new same in
+    let p = passed (is_ended (around_of h).here) _ new same in
     let c = closes kind segs place ends ends_are good in
     let i = done (walked_of segs place) in
     let one = is_one_comma kind (stand_of (bracket (Some kind) segs place)) in
@@ -379,9 +388,9 @@ close_leads_at shape t kind segs place h hs ends new fits ends_are same good goo
     sym (ap (λ qs. all_parts h hs ++ (opening (shown_kind n kind) ∷ qs)) (sym (c.parts_are one)) ∙ simp append_assoc) in
     let step_is : next_at (Close shape) t (level_of (bracket (Some kind) segs place)) (map level_of (h ∷ hs)) ≡ Some (with_own (level_of h) (node t.line g), map level_of hs) =
     ap (λ b. cond b (Some (with_own (level_of h) (node t.line g), map level_of hs)) None) (ap (λ s. same_shape (Some s) shape) fits ∙ same_itself shape) in
-    node_leads h hs g t.line (read_group kind (read_of h)) ps _ new refl p.0 (read_group_is kind segs place (read_of h) c.role_is)
+    node_leads h hs g t.line (read_group kind (read_of h)) ps _ new refl (sym (around_ended (at_place h.place)) ∙ p.0) (read_group_is kind segs place (read_of h) c.role_is)
     (ap (λ b. opening (shown_kind n kind) ∷ (all_segs_parts i.segs ++ (map above i.end ++ closing b ∷ []))) (one_comma_is kind segs place))
-    (ap (λ qs. record { top = with_node t.line (read_group kind (read_of h)) (stand_of h); outer = map stand_of hs; parts = qs }) (sym parts_are) ∙ p.1)
+    (ap (λ qs. record { top = with_node t.line (read_group kind (read_of h)) (stand_of h); outer = map around_of hs; parts = qs }) (sym parts_are) ∙ p.1)
     step_is good_h goods
 
 close_leads : (shape : Shape) (t : Placed) (kind : Option GroupKind) (segs : List Segment) (place : Place) (gs : List Bracket) (new : RowState) → row_next_at (Close shape) t (image (bracket kind segs place) gs) ≡ Some new
@@ -393,7 +402,7 @@ close_leads shape t (Some kind) segs place gs new same good goods = at_shape (sa
     s = image (bracket (Some kind) segs place) gs
 
     at_outer : (hs : List Bracket) (ends : List RowPart) → shape_of kind ≡ shape → last_end (at_place place) (may_end (read_items (start (Some kind)) (nodes_of place)).stage) ≡ Some ends
-        → close_below kind t.line ends (map stand_of hs) (image (bracket (Some kind) segs place) hs) ≡ Some new → AreGood hs
+        → close_below kind t.line ends (map around_of hs) (image (bracket (Some kind) segs place) hs) ≡ Some new → AreGood hs
         → Leads (next_at (Close shape) t (level_of (bracket (Some kind) segs place)) (map level_of hs)) new
     at_outer [] ends fits ends_are same goods = absurd (none_is_some new same)
     at_outer (h ∷ hs) ends fits ends_are same goods = close_leads_at shape t kind segs place h hs ends new fits ends_are same good goods.0 goods.1

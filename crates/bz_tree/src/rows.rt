@@ -23,18 +23,17 @@ use crate::owners::ends_on;
 use crate::role::{Role, operator_role, token_role};
 use crate::row::{Part, Row};
 use crate::span::{counted_end_of, first_seen, first_token, newlines, start_of};
-use crate::spot::{Here, Spot, shown_kind};
+use crate::spot::{Around, Here, Spot, shown_kind};
 use crate::stage::may_end;
 use crate::stmt::GroupKind;
 use bz_token::{Kind, Token};
 use std::alloc::{AllocError, Global};
-use std::mem;
 
 // The parts so far, the bracket that is open here, and those around it.
 #[derive(Drop)]
 pub(crate) struct RowWalk<'a> {
     pub(crate) parts: Vec<Part<'a>>,
-    pub(crate) outer: Vec<Spot<'a>>,
+    pub(crate) outer: Vec<Around>,
     pub(crate) top: Spot<'a>,
 }
 
@@ -59,16 +58,27 @@ impl<'a> RowWalk<'a> {
         ensures { IfOk result
             (λ some. then_some some (row_state self.new) ≡ leaf_next (placed token.now) (row_state self.old)) }
     {
-        if is_stray(role, kind, token.text) || is_for_at(kind, token.text) || self.top.is_ended() {
+        let text = token.text;
+        if is_stray(role, kind, text) || is_for_at(kind, text) || self.top.is_ended() {
             return Ok(false);
         }
-        self.parts.push(Part::Token(kind, token.text))?;
-        self.top.read.add_leaf(kind, token.text, role);
-        self.top.here = Here::Node(token.line, token.text);
+        self.parts.push(Part::Token(kind, text))?;
+        self.top.read.add_leaf(kind, text, role);
+        self.top.here = Here::Node(token.line, text);
         Ok(true)
     }
 
+    // A keyword or a number, or what stands in no row.
+    #[inline(never)]
+    fn push_other(&mut self, token: &Token<'a>) -> Result<bool, AllocError>
+        ensures { IfOk result
+            (λ some. then_some some (row_state self.new) ≡ leaf_next (placed token.now) (row_state self.old)) }
+    {
+        self.push_leaf(token, token.kind, token_role(token.kind, token.text))
+    }
+
     // At the top a comma is a node.
+    #[inline(never)]
     fn add_top_comma(&mut self, token: &Token<'a>) -> Result<bool, AllocError>
         ensures { IfOk result
             (λ some. then_some some (row_state self.new) ≡ top_comma_next (placed token.now) (row_state self.old)) }
@@ -84,7 +94,6 @@ impl<'a> RowWalk<'a> {
         Ok(true)
     }
 
-    #[inline(always)]
     fn add_comma(&mut self, token: &Token<'a>) -> Result<bool, AllocError>
         ensures { IfOk result (λ some. then_some some (row_state self.new)
             ≡ comma_next self.old.top.kind (placed token.now) (row_state self.old)) }
@@ -117,6 +126,7 @@ impl<'a> RowWalk<'a> {
         Ok(true)
     }
 
+    #[inline(never)]
     fn add_comment(&mut self, token: &Token<'a>) -> Result<bool, AllocError>
         ensures { IfOk result (λ some. then_some some (row_state self.new)
             ≡ comment_next (here_view self.old.top.here) token.now.line token.now.text.now (row_state self.old)) }
@@ -145,7 +155,6 @@ impl<'a> RowWalk<'a> {
         }
     }
 
-    #[inline(always)]
     fn open(&mut self, shape: Shape) -> Result<bool, AllocError>
         ensures { IfOk result (λ some. then_some some (row_state self.new)
             ≡ open_next (group_kind shape self.old.top.read.at false) (row_state self.old)) }
@@ -156,13 +165,17 @@ impl<'a> RowWalk<'a> {
         }
         self.parts
             .push(Part::Open(shown_kind(self.top.read.naming, kind)))?;
-        self.outer
-            .push(mem::replace(&mut self.top, Spot::new(Some(kind))))?;
+        self.outer.push(Around {
+            kind: self.top.kind,
+            done: self.top.done,
+            ended: self.top.is_ended(),
+            read: self.top.read,
+        })?;
+        self.top = Spot::new(Some(kind));
         Ok(true)
     }
 
     // The last segment of a bracket ends, if there is one.
-    #[inline(always)]
     fn end_last(&mut self) -> Result<bool, AllocError>
         ensures outer { self.new.outer ≡ self.old.outer }
         ensures top { self.new.top ≡ self.old.top }
@@ -201,16 +214,19 @@ impl<'a> RowWalk<'a> {
         let Some(below) = self.outer.pop() else {
             return Ok(false);
         };
-        if below.is_ended() {
+        if below.ended {
             return Ok(false);
         }
-        self.top = below;
+        self.top = Spot {
+            kind: below.kind,
+            done: below.done,
+            here: Here::Node(line, ""),
+            read: below.read,
+        };
         self.top.read.add_group(kind);
-        self.top.here = Here::Node(line, "");
         Ok(true)
     }
 
-    #[inline(always)]
     fn add_operator(&mut self, token: &Token<'a>) -> Result<bool, AllocError>
         requires { token.now.kind ≡ Operator }
         ensures { IfOk result (λ some. then_some some (row_state self.new)
@@ -226,7 +242,7 @@ impl<'a> RowWalk<'a> {
         }
     }
 
-    // The kinds are told apart once.
+    // The kinds are told apart once. What is rare is a call, so that the loop over the tokens stays small.
     #[inline(always)]
     fn step(&mut self, token: &Token<'a>) -> Result<bool, AllocError>
         ensures { IfOk result
@@ -238,7 +254,7 @@ impl<'a> RowWalk<'a> {
             Kind::Operator => self.add_operator(token),
             Kind::Newline => Ok(true),
             Kind::Comment => self.add_comment(token),
-            kind => self.push_leaf(token, kind, token_role(kind, token.text)),
+            _ => self.push_other(token),
         }
     }
 

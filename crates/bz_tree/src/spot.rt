@@ -12,7 +12,7 @@ use crate::kinds::{Preceding, kind_after};
 use crate::load::is_load_row;
 use crate::role::Role;
 use crate::row::Part as RowPart;
-use crate::stage::{Part, Stage, begin, group_role, may_end, next};
+use crate::stage::{Part, Stage, advance, begin, group_role, may_end};
 use crate::stmt::{Class, GroupKind};
 use bz_token::Kind;
 
@@ -69,7 +69,17 @@ pub(crate) struct Spot<'a> {
     pub(crate) read: Read,
 }
 
-#[inline(always)]
+// The same while another bracket is open in it: what stands directly before matters no more, but for a segment's end.
+#[derive(Clone, Copy)]
+pub(crate) struct Around {
+    pub(crate) kind: Option<GroupKind>,
+    pub(crate) done: Done,
+    pub(crate) ended: bool,
+    pub(crate) read: Read,
+}
+
+// Not called in a bracket, where it is Never.
+#[inline(never)]
 fn named(naming: Naming, kind: Kind, text: &str) -> Naming
     ensures { result ≡ named naming kind text.now }
 {
@@ -81,7 +91,7 @@ fn named(naming: Naming, kind: Kind, text: &str) -> Naming
     }
 }
 
-#[inline(always)]
+#[inline(never)]
 fn called(naming: Naming, kind: GroupKind) -> Naming
     ensures { result ≡ called naming kind }
 {
@@ -140,9 +150,11 @@ impl Read {
         requires { role ≡ leaf_role kind text.now }
         ensures { self.new ≡ read_leaf kind text.now self.old }
     {
-        self.stage = next(self.stage, role);
+        advance(&mut self.stage, role);
         self.at = kind_after(kind, text);
-        self.naming = named(self.naming, kind, text);
+        if !matches!(self.naming, Naming::Never) {
+            self.naming = named(self.naming, kind, text);
+        }
         self.assigns = self.assigns || matches!(role, Role::Equals | Role::Augmented);
     }
 
@@ -150,9 +162,11 @@ impl Read {
     pub(crate) fn add_group(&mut self, kind: GroupKind)
         ensures { self.new ≡ read_group kind self.old }
     {
-        self.stage = next(self.stage, group_role(kind));
+        advance(&mut self.stage, group_role(kind));
         self.at = Preceding::Operand;
-        self.naming = called(self.naming, kind);
+        if !matches!(self.naming, Naming::Never) {
+            self.naming = called(self.naming, kind);
+        }
     }
 
     // The class of a statement of these nodes. None: it is left to its tree.

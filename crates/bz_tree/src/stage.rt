@@ -1,7 +1,7 @@
 //! The recognizer of the grammar: what may come next in a segment.
 
 ghost use Rattle.std.specs.Prelude.{◌≡◌, true, false};
-ghost use Rattle.bz_tree.specs.private.Machine.{ends, may_be_empty, may_end, after_left, after_right, after_element, after_target, after_clause, at_colon, at_end, after_part, after_condition, leaves, in_chain, next_wanted, next_after, next_after_number, next_name, next_excluded, next_begun, next_argument, next_keyword, next, begin, group_role};
+ghost use Rattle.bz_tree.specs.private.Machine.{ends, may_be_empty, may_end, after_left, after_right, after_element, after_target, after_clause, at_colon, at_end, after_part, leaves, in_chain, next_wanted, next_after, next_after_number, next_begun, next_argument, next_keyword, next, begin, group_role};
 
 use crate::role::Role;
 use crate::stmt::GroupKind;
@@ -72,6 +72,7 @@ fn may_be_empty(part: Part) -> bool
 }
 
 /// Whether a segment may end here.
+#[inline(always)]
 pub(crate) fn may_end(stage: Stage) -> bool
     ensures { result ≡ may_end stage }
 {
@@ -174,23 +175,14 @@ fn after_part(part: Part, role: Role) -> Stage
     }
 }
 
-fn after_condition(part: Part, role: Role) -> Stage
-    ensures { result ≡ after_condition part role }
-{
-    match role {
-        Role::Else => Stage::Wants(part, false),
-        _ => Stage::Refused,
-    }
-}
-
 #[inline(always)]
 fn leaves(part: Part, asked: bool, role: Role) -> Stage
     ensures { result ≡ leaves part asked role }
 {
-    if asked {
-        after_condition(part, role)
-    } else {
-        after_part(part, role)
+    match role {
+        _ if !asked => after_part(part, role),
+        Role::Else => Stage::Wants(part, false),
+        _ => Stage::Refused,
     }
 }
 
@@ -240,24 +232,6 @@ fn next_after_number(part: Part, asked: bool, role: Role) -> Stage
     }
 }
 
-fn next_name(part: Part, asked: bool, role: Role) -> Stage
-    ensures { result ≡ next_name part asked role }
-{
-    match role {
-        Role::Name => Stage::Has(part, asked),
-        _ => Stage::Refused,
-    }
-}
-
-fn next_excluded(part: Part, asked: bool, role: Role) -> Stage
-    ensures { result ≡ next_excluded part asked role }
-{
-    match role {
-        Role::In => Stage::Wants(part, asked),
-        _ => Stage::Refused,
-    }
-}
-
 fn next_begun(part: Part, role: Role) -> Stage
     ensures { result ≡ next_begun part role }
 {
@@ -292,15 +266,36 @@ pub(crate) fn next(stage: Stage, role: Role) -> Stage
     ensures { result ≡ next stage role }
 {
     match stage {
-        Stage::Refused => Stage::Refused,
         Stage::Wants(part, asked) => next_wanted(part, asked, role),
         Stage::Has(part, asked) => next_after(part, asked, role),
         Stage::HasNumber(part, asked) => next_after_number(part, asked, role),
-        Stage::Names(part, asked) => next_name(part, asked, role),
-        Stage::Excludes(part, asked) => next_excluded(part, asked, role),
+        Stage::Names(part, asked) if matches!(role, Role::Name) => Stage::Has(part, asked),
+        Stage::Excludes(part, asked) if matches!(role, Role::In) => Stage::Wants(part, asked),
         Stage::Begins(part) => next_begun(part, role),
         Stage::Argument => next_argument(role),
         Stage::Keyword => next_keyword(role),
+        _ => Stage::Refused,
+    }
+}
+
+#[inline(never)]
+fn advance_rarely(stage: &mut Stage, role: Role)
+    ensures { stage.new ≡ next stage.old role }
+{
+    *stage = next(*stage, role);
+}
+
+/// To the stage after a node of this role. The commonest steps come first.
+#[inline(always)]
+pub(crate) fn advance(stage: &mut Stage, role: Role)
+    ensures { stage.new ≡ next stage.old role }
+{
+    match (*stage, role) {
+        (Stage::Wants(part, asked), Role::Name | Role::Value) => *stage = Stage::Has(part, asked),
+        (Stage::Argument, Role::Name) => *stage = Stage::Keyword,
+        (Stage::Keyword, Role::Equals) => *stage = Stage::Wants(Part::Alone, false),
+        (Stage::Has(_, _), Role::Suffix) => {}
+        _ => advance_rarely(stage, role),
     }
 }
 

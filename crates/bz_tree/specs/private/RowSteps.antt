@@ -23,6 +23,7 @@ use Rattle.bz_tree.specs.declared.spot.Here.{Here}
 use Rattle.bz_tree.specs.declared.spot.Here.TheVariants.{Nothing, Comma as AfterComma, Node as AfterNode, Ended}
 use Rattle.bz_tree.specs.declared.spot.Read.{Read}
 use Rattle.bz_tree.specs.declared.spot.Spot.{Spot}
+use Rattle.bz_tree.specs.declared.spot.Around.{Around}
 use Rattle.bz_tree.specs.declared.rows.RowWalk.{RowWalk}
 use Rattle.bz_tree.specs.declared.row.Row.{Row}
 use Rattle.bz_tree.specs.Kinds.{mark_of, kind_after, is_for_at, group_kind, is_one, same_shape}
@@ -105,6 +106,13 @@ pub record Stand : Type 0 where
 abbrev pub stand : Spot → Stand
 stand s = record { kind = s.kind; done = s.done; here = here_view s.here; read = s.read }
 
+-- the same while another bracket is open in it: of what stands directly before, only an end is told
+abbrev pub around : Stand → Stand
+around s = record { kind = s.kind; done = s.done; here = if is_ended s.here then an_end else nothing; read = s.read }
+
+abbrev pub around_view : Around → Stand
+around_view a = record { kind = a.kind; done = a.done; here = if a.ended then an_end else nothing; read = a.read }
+
 abbrev pub new_stand : Option GroupKind → Stand
 new_stand kind = record { kind = kind; done = Zero; here = nothing; read = start kind }
 
@@ -126,7 +134,7 @@ pub record RowState : Type 0 where
   pub parts : List RowPart
 
 abbrev pub row_state : RowWalk → RowState
-row_state w = record { top = stand w.top; outer = reverse (map stand w.outer.items); parts = map part_view w.parts.items }
+row_state w = record { top = stand w.top; outer = reverse (map around_view w.outer.items); parts = map part_view w.parts.items }
 
 abbrev pub step_to : Stand → List RowPart → RowState → RowState
 step_to top parts s = record { top = top; outer = s.outer; parts = s.parts ++ parts }
@@ -181,7 +189,7 @@ comment_next an_end line text s = end_comment_next s.top.kind text s
 abbrev pub open_next : GroupKind → RowState → Option RowState
 open_next kind s =
     if is_one kind then None
-    else Some (record { top = new_stand (Some kind); outer = s.top ∷ s.outer; parts = s.parts ++ opening (shown_kind s.top.read.naming kind) ∷ [] })
+    else Some (record { top = new_stand (Some kind); outer = around s.top ∷ s.outer; parts = s.parts ++ opening (shown_kind s.top.read.naming kind) ∷ [] })
 
 -- what ends the last segment, if it may end
 abbrev pub last_end : At → Bool → Option (List RowPart)

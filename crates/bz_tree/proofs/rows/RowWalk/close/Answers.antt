@@ -9,11 +9,12 @@ use Rattle.bz_tree.specs.declared.kinds.Shape.{Shape}
 use Rattle.bz_tree.specs.declared.row.Part.{Part}
 use Rattle.bz_tree.specs.declared.spot.Read.{Read}
 use Rattle.bz_tree.specs.declared.spot.Spot.{Spot}
+use Rattle.bz_tree.specs.declared.spot.Around.{Around}
 use Rattle.bz_tree.specs.Kinds.{same_shape}
 use Rattle.bz_tree.specs.Rows.{RowPart, closing, part_view}
 use Rattle.bz_tree.specs.private.Machine.{may_end}
 use Rattle.bz_tree.specs.private.Steps.{shape_of}
-use Rattle.bz_tree.specs.private.RowSteps.{Stand, RowState, stand, with_node, is_ended, a_node, read_group, is_one_comma, last_end, close_below, close_next}
+use Rattle.bz_tree.specs.private.RowSteps.{Stand, RowState, stand, around_view, with_node, is_ended, nothing, a_node, an_end, read_group, is_one_comma, last_end, close_below, close_next}
 use Rattle.bz_tree.proofs.Sound.{none_is_some, some_injective}
 use Rattle.bz_tree.proofs.rows.RowWalk.close.Goals as goal
 
@@ -40,12 +41,16 @@ ended false x old o on h = absurd (false≢true on)
 ended true x old None on h = absurd (none_is_some x (sym h))
 ended true x old (Some ps) on h = (ps, refl, some_injective x (old ++ ps) h)
 
-popped : (old new : List Spot) (r : Option Spot) (below : Spot) → old ≡ new ++ option_to_list r → r ≡ Some below → stand below ∷ reverse (map stand new) ≡ reverse (map stand old)
+popped : (old new : List Around) (r : Option Around) (below : Around) → old ≡ new ++ option_to_list r → r ≡ Some below → around_view below ∷ reverse (map around_view new) ≡ reverse (map around_view old)
 popped old new r below items is =
-    sym (reverse-append (map stand new) (stand below ∷ []))
-    ∙ ap reverse (sym (map-append stand new (below ∷ [])))
-    ∙ ap (λ (o : Option Spot). reverse (map stand (new ++ option_to_list o))) (sym is)
-    ∙ ap (λ (xs : List Spot). reverse (map stand xs)) (sym items)
+    sym (reverse-append (map around_view new) (around_view below ∷ []))
+    ∙ ap reverse (sym (map-append around_view new (below ∷ [])))
+    ∙ ap (λ (o : Option Around). reverse (map around_view (new ++ option_to_list o))) (sym is)
+    ∙ ap (λ (xs : List Around). reverse (map around_view xs)) (sym items)
+
+ended_is : (b : Bool) → is_ended (cond b an_end nothing) ≡ b
+ended_is true = refl
+ended_is false = refl
 
 -- on the bracket below
 closes : (kind : Option GroupKind) (k : GroupKind) (own shape : Shape) (line : ℕ) (s : RowState) (below : Stand) (outer : List Stand) (x : List RowPart) (ok last : Bool) → kind ≡ Some k → own ≡ shape_of k → true ≡ same_shape (Some own) shape
@@ -59,9 +64,9 @@ closes kind k own shape line s below outer x ok last is own_is same on ends oute
     ∙ ap (λ (o : Option (List RowPart)). option_and_then (λ parts. close_below k line parts s.outer s) o) e.1
     ∙ fits kind k own shape line s true is own_is same
 
-row_is : (line : ℕ) (k : GroupKind) (below : Spot) (read : Read) (outer : List Stand) (parts all : List Part) (one comma : Bool) → read ≡ read_group k below.read → all ≡ parts ++ Part.Close one ∷ [] → one ≡ comma
+row_is : (line : ℕ) (k : GroupKind) (below : Around) (read : Read) (outer : List Stand) (parts all : List Part) (one comma : Bool) → read ≡ read_group k below.read → all ≡ parts ++ Part.Close one ∷ [] → one ≡ comma
     → ◌≡◌ {A = Option RowState} (Some (record { top = record { kind = below.kind; done = below.done; here = a_node (line + 0); read = read }; outer = outer; parts = map part_view all }))
-    (Some (record { top = with_node line (read_group k below.read) (stand below); outer = outer; parts = map part_view parts ++ closing comma ∷ [] }))
+    (Some (record { top = with_node line (read_group k below.read) (around_view below); outer = outer; parts = map part_view parts ++ closing comma ∷ [] }))
 row_is line k below read outer parts all one comma read_is all_is one_is =
     let line_is : line + 0 ≡ line = omega arith in
     rw (line_is, read_is, all_is, one_is, map-append part_view parts (Part.Close comma ∷ [])) refl
@@ -78,14 +83,14 @@ returns-then-not-branch c = left_open c.args.self.now.top.kind c.in-Some.kind c.
 pub returns-in_default-pop : goal.returns-in_default-pop
 returns-in_default-pop c = grind (arith, common_steps)
 
-pub returns-then-is_ended : goal.returns-then-is_ended
-returns-then-is_ended c =
+pub returns-then-below : goal.returns-then-below
+returns-then-below c =
     let outer = popped c.args.self.now.outer.items c.pop.new.self.items c.pop.result c.in-Some-pop.below (ap (λ v. v.items) (sym c.in_ok-end_last.ensures.outer) ∙ c.pop.ensures.items) c.in-Some-pop.is in
-    closes c.args.self.now.top.kind c.in-Some.kind c.shape_of.result c.args.shape c.args.line _ _ _ _ c.in_ok-end_last.field-0 true c.in-Some.is c.shape_of.ensures c.if-not-same_shape.ensures c.if-not-branch.false c.in_ok-end_last.ensures.parts outer c.if-is_ended.ensures
+    closes c.args.self.now.top.kind c.in-Some.kind c.shape_of.result c.args.shape c.args.line _ _ _ _ c.in_ok-end_last.field-0 true c.in-Some.is c.shape_of.ensures c.if-not-same_shape.ensures c.if-not-branch.false c.in_ok-end_last.ensures.parts outer (sym c.if-below.true ∙ sym (ended_is c.in-Some-pop.below.ended))
 
 pub returns : goal.returns
 returns c =
     let outer = popped c.args.self.now.outer.items c.pop.new.self.items c.pop.result c.in-Some-pop.below (ap (λ v. v.items) (sym c.in_ok-end_last.ensures.outer) ∙ c.pop.ensures.items) c.in-Some-pop.is in
     let one = c.is_one_comma-one_comma.ensures ∙ ap (λ (s : Spot). is_one_comma c.in-Some.kind (stand s)) c.in_ok-end_last.ensures.top in
     row_is c.args.line c.in-Some.kind c.in-Some-pop.below c.add_group.new.self _ c.end_last.new.self.parts.items c.push.new.self.items c.is_one_comma-one_comma.result _ c.add_group.ensures c.in_ok-push.ensures.items one
-    ∙ closes c.args.self.now.top.kind c.in-Some.kind c.shape_of.result c.args.shape c.args.line _ _ _ _ c.in_ok-end_last.field-0 false c.in-Some.is c.shape_of.ensures c.if-not-same_shape.ensures c.if-not-branch.false c.in_ok-end_last.ensures.parts outer c.if-is_ended.ensures
+    ∙ closes c.args.self.now.top.kind c.in-Some.kind c.shape_of.result c.args.shape c.args.line _ _ _ _ c.in_ok-end_last.field-0 false c.in-Some.is c.shape_of.ensures c.if-not-same_shape.ensures c.if-not-branch.false c.in_ok-end_last.ensures.parts outer (sym c.if-below.false ∙ sym (ended_is c.in-Some-pop.below.ended))
