@@ -4,8 +4,7 @@ use Rattle.bz_tree.specs.Tree.{Item, Segment}
 use Rattle.bz_attribute.specs.Rules.{first_named, is_named, is_text, name_in, name_of, string_in}
 use Rattle.bz_attribute.specs.Lists.{with_value}
 use Rattle.bz_attribute.specs.Effects.{argument, edit_first, has}
-use Rattle.bz_rule.proofs.Arguments.{attribute_named, name_put}
-use Rattle.bz_rule.proofs.Set.{same_bytes}
+use Rattle.bz_rule.proofs.Arguments.{attribute_named, name_put, same_bytes}
 
 abbrev pub KeepsEach : (Segment → Segment) → Type 0
 KeepsEach g = (a : Segment) → name_of (g a).nodes ≡ name_of a.nodes
