@@ -11,7 +11,7 @@ use Rattle.bz_rule.proofs.PartLaws.{edit_head, first_part_stays, parts_first_edi
 use Rattle.bz_rule.proofs.Arguments.{attribute_named, first_same, has_first, is_first_named, rest_same, same_bytes, value_back, value_put}
 use Rattle.bz_command.specs.Commands.{Add}
 use Rattle.bz_rule.proofs.Lawful.{Lawful, note_unchanged, on_arguments}
-use Rattle.bz_rule.proofs.NamesKept.{KeepsEach, Leaves, append_kept, edit_one_kept, first_kept, has_kept, put_kept}
+use Rattle.bz_rule.proofs.NamesKept.{KeepsEach, Leaves, append_kept, edit_one_kept, first_kept, has_kept, put_kept, taken}
 use Rattle.bz_rule.proofs.Aside.{leaves_mentioned}
 
 pub parts_with : (home : Package) (values : List (List ℕ)) (a : Segment) → is_attribute a ≡ true → no_parts (parts (value a)) ≡ false
@@ -98,17 +98,14 @@ with_added_kept g home attr values leaves a named =
 
 add_aside : (g : Segment → Segment) → KeepsEach g → (home : Package) (attr : List ℕ) (values : List (List ℕ)) → Leaves attr g → (args : List Segment) → add home attr values (map g args) ≡ map g (add home attr values args)
 add_aside g names home attr values leaves args =
-    elim (has attr args) as (λ b. has attr args ≡ b → add home attr values (map g args) ≡ map g (if b then edit_first (is_named attr) (λ a. with_added home values a ∷ []) args else args ++ argument attr (list_item (new_elements home [] values) ∷ []) ∷ [])) [
-      | true ↦ λ e. rw (has_kept g names attr args ∙ e) (edit_one_kept g names attr leaves (with_added home values) (with_added_kept g home attr values leaves) args)
-      | false ↦ λ e. rw (has_kept g names attr args ∙ e) (append_kept g attr leaves _ args)
-    ] refl
+    taken (map g) (has_kept g names attr args) (edit_one_kept g names attr leaves (with_added home values) (with_added_kept g home attr values leaves) args) (append_kept g attr leaves _ args)
 
 pub add_lawful : (home : Package) (attr : List ℕ) (values : List (List ℕ)) → Lawful (Add attr values) home
 add_lawful home attr values = on_arguments (Add attr values) home (λ slot. refl) (λ slot. refl) (record {
   stays = λ args h. add_stays home attr values args h;
   differs = λ read args h same. add_differs home attr values args h same;
   noted = λ args h. note_unchanged (not_a_list attr (first_named attr args)) (adds home values (first_named attr args)) h;
-  aside = λ g aside args. add_aside g aside.names home attr values (leaves_mentioned (Add attr values) g aside attr (same_bytes attr)) args;
-  told = λ g aside args. rw (first_kept g aside.names attr (leaves_mentioned (Add attr values) g aside attr (same_bytes attr)) args) refl;
+  aside = λ g aside args. add_aside g aside.names home attr values (leaves_mentioned aside attr (same_bytes attr)) args;
+  told = λ g aside args. rw (first_kept g aside.names attr (leaves_mentioned aside attr (same_bytes attr)) args) refl;
   appends = tt;
 })

@@ -15,7 +15,7 @@ use Rattle.bz_attribute.proofs.Views.{segments_of}
 use Rattle.bz_command.specs.Commands.{Comment, Commented, Rule as OfRule, Attribute, Value}
 use Rattle.bz_rule.proofs.Arguments.{attribute_named, first_same, has_first, is_first_named, same_bytes, value_put}
 use Rattle.bz_rule.proofs.Lawful.{Lawful, done_changed, guarded_same, note_unchanged, on_arguments}
-use Rattle.bz_rule.proofs.NamesKept.{KeepsEach, Leaves, edit_one_kept, first_kept, has_kept, put_kept}
+use Rattle.bz_rule.proofs.NamesKept.{KeepsEach, Leaves, edit_one_kept, first_kept, has_kept, put_kept, taken}
 use Rattle.bz_rule.proofs.Aside.{leaves_mentioned}
 use Rattle.bz_rule.proofs.Rebuilt.{comment_exchanged, holds_after}
 
@@ -136,10 +136,7 @@ absent_same attr text args h =
 
 comment_attribute_aside : (g : Segment → Segment) → KeepsEach g → (attr text : List ℕ) → Leaves attr g → (args : List Segment) → comment_attribute attr text (map g args) ≡ map g (comment_attribute attr text args)
 comment_attribute_aside g names attr text leaves args =
-    elim (has attr args) as (λ b. has attr args ≡ b → comment_attribute attr text (map g args) ≡ map g (if b then edit_first (is_named attr) (λ a. with_comment (comment_line text) a ∷ []) args else args)) [
-      | true ↦ λ e. rw (has_kept g names attr args ∙ e) (edit_one_kept g names attr leaves (with_comment (comment_line text)) (λ a named. leaves (with_comment (comment_line text) a) named) args)
-      | false ↦ λ e. rw (has_kept g names attr args ∙ e) refl
-    ] refl
+    taken (map g) (has_kept g names attr args) (edit_one_kept g names attr leaves (with_comment (comment_line text)) (λ a named. leaves (with_comment (comment_line text) a) named) args) refl
 
 note_comment : (g : Segment → Segment) → KeepsEach g → (home : Package) (attr v : List ℕ) → Leaves attr g → (args : List Segment) → comment_note home attr v (map g args) ≡ comment_note home attr v args
 note_comment g names home attr v leaves args = rw (has_kept g names attr args, first_kept g names attr leaves args) refl
@@ -147,10 +144,8 @@ note_comment g names home attr v leaves args = rw (has_kept g names attr args, f
 comment_value_aside : (g : Segment → Segment) → KeepsEach g → (home : Package) (attr v text : List ℕ) → Leaves attr g → (args : List Segment)
     → comment_value home attr v text (map g args) ≡ map g (comment_value home attr v text args)
 comment_value_aside g names home attr v text leaves args =
-    elim (is_some (comment_note home attr v args)) as (λ b. is_some (comment_note home attr v args) ≡ b → comment_value home attr v text (map g args) ≡ map g (if b then args else edit_first (is_named attr) (λ a. comment_element home v text a ∷ []) args)) [
-      | true ↦ λ e. rw (ap is_some (note_comment g names home attr v leaves args) ∙ e) refl
-      | false ↦ λ e. rw (ap is_some (note_comment g names home attr v leaves args) ∙ e) (edit_one_kept g names attr leaves (comment_element home v text) (λ a named. put_kept g attr leaves _ a named) args)
-    ] refl
+    taken (map g) (ap is_some (note_comment g names home attr v leaves args)) refl
+    (edit_one_kept g names attr leaves (comment_element home v text) (λ a named. put_kept g attr leaves _ a named) args)
 
 pub comment_lawful : (home : Package) (place : Commented) (text : List ℕ) → Lawful (Comment place text) home
 comment_lawful home OfRule text = record {
@@ -166,7 +161,7 @@ comment_lawful home (Attribute attr) text = on_arguments (Comment (Attribute att
   stays = λ args h. absent_same attr text args h;
   differs = λ read args h same. comment_attribute_differs attr text args (done_changed (is_absent attr args) true h).0 same;
   noted = λ args h. note_unchanged (is_absent attr args) true h;
-  aside = λ g aside args. comment_attribute_aside g aside.names attr text (leaves_mentioned (Comment (Attribute attr) text) g aside attr (same_bytes attr)) args;
+  aside = λ g aside args. comment_attribute_aside g aside.names attr text (leaves_mentioned aside attr (same_bytes attr)) args;
   told = λ g aside args. rw (has_kept g aside.names attr args) refl;
   appends = tt;
 })
@@ -174,7 +169,7 @@ comment_lawful home (Value attr v) text = on_arguments (Comment (Value attr v) t
   stays = λ args h. guarded_same (comment_note home attr v args) true _ args (λ k. absurd cc) h;
   differs = λ read args h same. comment_value_differs home attr v text args (done_changed (comment_note home attr v args) true h).0 same;
   noted = λ args h. note_unchanged (comment_note home attr v args) true h;
-  aside = λ g aside args. comment_value_aside g aside.names home attr v text (leaves_mentioned (Comment (Value attr v) text) g aside attr (same_bytes attr)) args;
-  told = λ g aside args. rw (note_comment g aside.names home attr v (leaves_mentioned (Comment (Value attr v) text) g aside attr (same_bytes attr)) args) refl;
+  aside = λ g aside args. comment_value_aside g aside.names home attr v text (leaves_mentioned aside attr (same_bytes attr)) args;
+  told = λ g aside args. rw (note_comment g aside.names home attr v (leaves_mentioned aside attr (same_bytes attr)) args) refl;
   appends = tt;
 })

@@ -8,7 +8,7 @@ use Rattle.bz_command.specs.Commands.{Move, Moved, is_command, is_moved}
 use Rattle.bz_attribute.specs.Rules.{first_named, is_named, is_text, name_of, value}
 use Rattle.bz_attribute.specs.Lists.{edit_first_part, edit_parts, with_value}
 use Rattle.bz_attribute.specs.Effects.{argument, chooses_in, edit_first, filtered, has, list_item, loses_all, unchosen}
-use Rattle.bz_attribute.specs.Moving.{arrivals, chosen_of, elements_of, move, move_note, moved, moved_where, moves, put_in}
+use Rattle.bz_attribute.specs.Moving.{arrivals, chosen_of, elements_of, move, move_note, moved, moves, put_in}
 use Rattle.bz_rule.proofs.Arguments.{attribute_named, is_first_named, name_put}
 use Rattle.bz_list_commands.proofs.Arriving.{text_of_one}
 use Rattle.bz_list_commands.proofs.Leaving.{filter-append}
@@ -16,7 +16,7 @@ use Rattle.bz_rule.proofs.Remove.{filtered_kept, filtered_same}
 use Rattle.bz_command.specs.Names.{is_identifier}
 use Rattle.std.specs.Prelude.{not, ◌&&◌}
 use Rattle.bz_rule.proofs.Lawful.{Lawful, done_changed, guarded_same, note_unchanged, on_arguments}
-use Rattle.bz_rule.proofs.NamesKept.{KeepsEach, Leaves, append_kept, edit_kept, edit_one_kept, first_kept, has_kept, put_kept}
+use Rattle.bz_rule.proofs.NamesKept.{KeepsEach, Leaves, append_kept, edit_kept, edit_one_kept, first_kept, has_kept, put_kept, taken}
 use Rattle.bz_rule.proofs.Aside.{leaves_both}
 
 -- an argument of the new name has not the old one
@@ -100,10 +100,7 @@ others old new chosen h =
 put_in_kept : (g : Segment → Segment) → KeepsEach g → (new : List ℕ) (ss : List Segment) → Leaves new g → (args : List Segment) → put_in new ss (map g args) ≡ map g (put_in new ss args)
 put_in_kept g names new ss leaves args =
     let put : Segment → Segment = λ a. with_value (edit_first_part (λ there. there ++ ss) (value a)) a in
-    elim (has new args) as (λ b. has new args ≡ b → put_in new ss (map g args) ≡ map g (if b then edit_first (is_named new) (λ a. put a ∷ []) args else args ++ argument new (list_item ss ∷ []) ∷ [])) [
-      | true ↦ λ e. rw (has_kept g names new args ∙ e) (edit_one_kept g names new leaves put (λ a named. put_kept g new leaves _ a named) args)
-      | false ↦ λ e. rw (has_kept g names new args ∙ e) (append_kept g new leaves _ args)
-    ] refl
+    taken (map g) (has_kept g names new args) (edit_one_kept g names new leaves put (λ a named. put_kept g new leaves _ a named) args) (append_kept g new leaves _ args)
 
 moved_kept : (g : Segment → Segment) → KeepsEach g → (home : Package) (old new : List ℕ) (chosen : Moved) → Leaves old g → Leaves new g → (args : List Segment)
     → moved home old new chosen (map g args) ≡ map g (moved home old new chosen args)
@@ -119,21 +116,11 @@ moves_kept g names home old chosen leaves args = rw (first_kept g names old leav
 note_move : (g : Segment → Segment) → KeepsEach g → (old new : List ℕ) → Leaves old g → Leaves new g → (args : List Segment) → move_note old new (map g args) ≡ move_note old new args
 note_move g names old new leaves_old leaves_new args = rw (has_kept g names old args, first_kept g names old leaves_old args, first_kept g names new leaves_new args) refl
 
-moved_where_kept : (g : Segment → Segment) → KeepsEach g → (home : Package) (old new : List ℕ) (chosen : Moved) → Leaves old g → Leaves new g → (args : List Segment)
-    → moved_where home old new chosen (map g args) ≡ map g (moved_where home old new chosen args)
-moved_where_kept g names home old new chosen leaves_old leaves_new args =
-    elim (moves home old chosen args) as (λ b. moves home old chosen args ≡ b → moved_where home old new chosen (map g args) ≡ map g (if b then moved home old new chosen args else args)) [
-      | true ↦ λ e. rw (moves_kept g names home old chosen leaves_old args ∙ e) (moved_kept g names home old new chosen leaves_old leaves_new args)
-      | false ↦ λ e. rw (moves_kept g names home old chosen leaves_old args ∙ e) refl
-    ] refl
-
 move_aside : (g : Segment → Segment) → KeepsEach g → (home : Package) (old new : List ℕ) (chosen : Moved) → Leaves old g → Leaves new g → (args : List Segment)
     → move home old new chosen (map g args) ≡ map g (move home old new chosen args)
 move_aside g names home old new chosen leaves_old leaves_new args =
-    elim (is_some (move_note old new args)) as (λ b. is_some (move_note old new args) ≡ b → move home old new chosen (map g args) ≡ map g (if b then args else moved_where home old new chosen args)) [
-      | true ↦ λ e. rw (ap is_some (note_move g names old new leaves_old leaves_new args) ∙ e) refl
-      | false ↦ λ e. rw (ap is_some (note_move g names old new leaves_old leaves_new args) ∙ e) (moved_where_kept g names home old new chosen leaves_old leaves_new args)
-    ] refl
+    taken (map g) (ap is_some (note_move g names old new leaves_old leaves_new args)) refl
+    (taken (map g) (moves_kept g names home old chosen leaves_old args) (moved_kept g names home old new chosen leaves_old leaves_new args) refl)
 
 pub move_lawful : (home : Package) (old new : List ℕ) (chosen : Moved) → Lawful (Move old new chosen) home
 move_lawful home old new chosen = on_arguments (Move old new chosen) home (λ slot. refl) (λ slot. refl) (record {
@@ -142,9 +129,9 @@ move_lawful home old new chosen = on_arguments (Move old new chosen) home (λ sl
       let told = done_changed (move_note old new args) (moves home old chosen args) h in
       move_differs home old new chosen args (others old new chosen read) told.0 told.1 same;
   noted = λ args h. note_unchanged (move_note old new args) (moves home old chosen args) h;
-  aside = λ g aside args. let leaves = leaves_both (Move old new chosen) g aside old new (λ attr. refl) in move_aside g aside.names home old new chosen leaves.0 leaves.1 args;
+  aside = λ g aside args. let leaves = leaves_both aside old new (λ attr. refl) in move_aside g aside.names home old new chosen leaves.0 leaves.1 args;
   told = λ g aside args.
-      let leaves = leaves_both (Move old new chosen) g aside old new (λ attr. refl) in
+      let leaves = leaves_both aside old new (λ attr. refl) in
       rw (note_move g aside.names old new leaves.0 leaves.1 args, moves_kept g aside.names home old chosen leaves.0 args) refl;
   appends = tt;
 })

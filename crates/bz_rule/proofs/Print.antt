@@ -69,13 +69,13 @@ printed_kept g names name home s nodes r fields leaves =
     λ i. record { changed = false; line = Some (spaced (texts i)); note = note i }
 
 shown_mentioned : (fields : List Field) (g : Segment → Segment) → IsAside (Print fields) g → LeavesShown (fields_of fields) g
-shown_mentioned [] g aside attr h = leaves_mentioned (Print []) g aside attr (name_alone attr h)
+shown_mentioned [] g aside attr h = leaves_mentioned aside attr (name_alone attr h)
   where
     name_alone : (attr : List ℕ) → bytes_eq (codes "name") attr || false ≡ true → bytes_eq attr (codes "name") ≡ true
     name_alone attr h =
         elim (bytes_eq (codes "name") attr) as (λ b. bytes_eq (codes "name") attr ≡ b → b || false ≡ true → bytes_eq attr (codes "name") ≡ true)
         [ true ↦ λ e k. (bytes_eq-Decides attr (codes "name")).1 (sym ((bytes_eq-Decides (codes "name") attr).0 e)) | false ↦ λ e k. absurd cc ] refl h
-shown_mentioned (field ∷ fields) g aside attr h = leaves_mentioned (Print (field ∷ fields)) g aside attr h
+shown_mentioned (field ∷ fields) g aside attr h = leaves_mentioned aside attr h
 
 prints_aside : (fields : List Field) (home : Package) (g : Segment → Segment) → IsAside (Print fields) g → (slot : Option Statement)
     → prints home fields (option_map (with_args (map g)) slot) ≡ prints home fields slot

@@ -121,16 +121,16 @@ filtered_kept g f attr leaves a named =
     [ true ↦ refl | false ↦ ap (λ (z : Segment). z ∷ []) (put_kept g attr leaves (edit_parts f (value a)) a named) ]
 
 remove_aside : (home : Package) (attrs : Attributes) (values : List (List ℕ)) (g : Segment → Segment) → IsAside (Remove attrs values) g → (args : List Segment) → remove home attrs values (map g args) ≡ map g (remove home attrs values args)
-remove_aside home Every values g aside args = all_aside (Remove Every values) g aside (λ attr. refl) (remove home Every values) args
+remove_aside home Every values g aside args = all_aside aside (λ attr. refl) (remove home Every values) args
 remove_aside home (Named attr) [] g aside args = filter_kept g (λ a. not (is_named attr a)) (λ a. ap not (named_kept g aside.names attr a)) args
 remove_aside home (Named attr) (v ∷ values) g aside args =
-    let leaves = leaves_mentioned (Remove (Named attr) (v ∷ values)) g aside attr (same_bytes attr) in
+    let leaves = leaves_mentioned aside attr (same_bytes attr) in
     edit_kept g aside.names attr leaves (filtered (unchosen home (Values (v ∷ values)))) (filtered_kept g (unchosen home (Values (v ∷ values))) attr leaves) args
 
 remove_told : (home : Package) (attrs : Attributes) (values : List (List ℕ)) (g : Segment → Segment) → IsAside (Remove attrs values) g → (args : List Segment) → removes home attrs values (map g args) ≡ removes home attrs values args
-remove_told home Every values g aside args = ap (removes home Every values) (leaves_all (Remove Every values) g aside (λ attr. refl) args)
+remove_told home Every values g aside args = ap (removes home Every values) (leaves_all aside (λ attr. refl) args)
 remove_told home (Named attr) [] g aside args = has_kept g aside.names attr args
-remove_told home (Named attr) (v ∷ values) g aside args = rw (first_kept g aside.names attr (leaves_mentioned (Remove (Named attr) (v ∷ values)) g aside attr (same_bytes attr)) args) refl
+remove_told home (Named attr) (v ∷ values) g aside args = rw (first_kept g aside.names attr (leaves_mentioned aside attr (same_bytes attr)) args) refl
 
 pub remove_lawful : (home : Package) (attrs : Attributes) (values : List (List ℕ)) → Lawful (Remove attrs values) home
 remove_lawful home attrs values = on_arguments (Remove attrs values) home (λ slot. refl) (λ slot. refl) (record {

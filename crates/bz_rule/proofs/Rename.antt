@@ -9,7 +9,7 @@ use Rattle.bz_command.specs.Commands.{Rename}
 use Rattle.bz_command.specs.Labels.{Package}
 use Rattle.bz_rule.proofs.Lawful.{Lawful, done_changed, guarded_same, note_unchanged, on_arguments}
 use Rattle.bz_rule.proofs.Arguments.{same_bytes}
-use Rattle.bz_rule.proofs.NamesKept.{KeepsEach, Leaves, edit_one_kept, has_kept}
+use Rattle.bz_rule.proofs.NamesKept.{KeepsEach, Leaves, edit_one_kept, has_kept, taken}
 use Rattle.bz_rule.proofs.Aside.{leaves_both}
 
 named_now : (old new : List ℕ) (xs : List Item) → is_text old (name_of xs) ≡ true → is_text new (name_of (renamed new xs)) ≡ true
@@ -49,18 +49,15 @@ note_rename g names old new args = rw (has_kept g names old args, has_kept g nam
 
 rename_aside : (g : Segment → Segment) → KeepsEach g → (old new : List ℕ) → Leaves old g → Leaves new g → (args : List Segment) → rename old new (map g args) ≡ map g (rename old new args)
 rename_aside g names old new leaves_old leaves_new args =
-    elim (is_some (rename_note old new args)) as (λ b. is_some (rename_note old new args) ≡ b → rename old new (map g args) ≡ map g (if b then args else edit_first (is_named old) (λ a. rename_to new a ∷ []) args)) [
-      | true ↦ λ e. rw (ap is_some (note_rename g names old new args) ∙ e) refl
-      | false ↦ λ e. rw (ap is_some (note_rename g names old new args) ∙ e)
-          (edit_one_kept g names old leaves_old (rename_to new) (λ a named. leaves_new (rename_to new a) (named_now old new a.nodes named)) args)
-    ] refl
+    taken (map g) (ap is_some (note_rename g names old new args)) refl
+    (edit_one_kept g names old leaves_old (rename_to new) (λ a named. leaves_new (rename_to new a) (named_now old new a.nodes named)) args)
 
 pub rename_lawful : (home : Package) (old new : List ℕ) → Lawful (Rename old new) home
 rename_lawful home old new = on_arguments (Rename old new) home (λ slot. refl) (λ slot. refl) (record {
   stays = λ args h. guarded_same (rename_note old new args) true _ args (λ k. absurd cc) h;
   differs = λ read args h same. rename_differs old new args (done_changed (rename_note old new args) true h).0 same;
   noted = λ args h. note_unchanged (rename_note old new args) true h;
-  aside = λ g aside args. let leaves = leaves_both (Rename old new) g aside old new (λ attr. refl) in rename_aside g aside.names old new leaves.0 leaves.1 args;
+  aside = λ g aside args. let leaves = leaves_both aside old new (λ attr. refl) in rename_aside g aside.names old new leaves.0 leaves.1 args;
   told = λ g aside args. rw (note_rename g aside.names old new args) refl;
   appends = tt;
 })

@@ -121,14 +121,14 @@ replace_stays home Every old new args h = every_stays home old new args h
 -- beside changes of other arguments
 
 replace_aside : (home : Package) (attrs : Attributes) (old new : List ℕ) (g : Segment → Segment) → IsAside (Replace attrs old new) g → (args : List Segment) → replace home attrs old new (map g args) ≡ map g (replace home attrs old new args)
-replace_aside home Every old new g aside args = all_aside (Replace Every old new) g aside (λ attr. refl) (replace home Every old new) args
+replace_aside home Every old new g aside args = all_aside aside (λ attr. refl) (replace home Every old new) args
 replace_aside home (Named attr) old new g aside args =
-    let leaves = leaves_mentioned (Replace (Named attr) old new) g aside attr (same_bytes attr) in
+    let leaves = leaves_mentioned aside attr (same_bytes attr) in
     edit_one_kept g aside.names attr leaves (replaced_in home old new) (λ a named. put_kept g attr leaves _ a named) args
 
 replace_told : (home : Package) (attrs : Attributes) (old new : List ℕ) (g : Segment → Segment) → IsAside (Replace attrs old new) g → (args : List Segment) → replaces home attrs old new (map g args) ≡ replaces home attrs old new args
-replace_told home Every old new g aside args = ap (replaces home Every old new) (leaves_all (Replace Every old new) g aside (λ attr. refl) args)
-replace_told home (Named attr) old new g aside args = rw (first_kept g aside.names attr (leaves_mentioned (Replace (Named attr) old new) g aside attr (same_bytes attr)) args) refl
+replace_told home Every old new g aside args = ap (replaces home Every old new) (leaves_all aside (λ attr. refl) args)
+replace_told home (Named attr) old new g aside args = rw (first_kept g aside.names attr (leaves_mentioned aside attr (same_bytes attr)) args) refl
 
 pub replace_lawful : (home : Package) (attrs : Attributes) (old new : List ℕ) → Lawful (Replace attrs old new) home
 replace_lawful home attrs old new = on_arguments (Replace attrs old new) home (λ slot. refl) (λ slot. refl) (record {

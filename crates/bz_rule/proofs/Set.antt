@@ -19,7 +19,7 @@ use Rattle.bz_command.specs.Labels.{Package}
 use Rattle.bz_attribute.specs.Lists.{with_value}
 use Rattle.bz_rule.proofs.Arguments.{attribute_named, first_same, has_first, is_first_named, rest_same, same_bytes, value_put}
 use Rattle.bz_rule.proofs.Lawful.{Lawful, on_arguments}
-use Rattle.bz_rule.proofs.NamesKept.{KeepsEach, Leaves, append_kept, edit_one_kept, first_kept, has_kept, put_kept}
+use Rattle.bz_rule.proofs.NamesKept.{KeepsEach, Leaves, append_kept, edit_one_kept, first_kept, has_kept, put_kept, taken}
 use Rattle.bz_rule.proofs.Aside.{leaves_mentioned}
 use Rattle.bz_rule.proofs.Rebuilt.{kind_told, slot_kind_exchanged}
 
@@ -114,17 +114,11 @@ set_in_kept g attr new leaves a named =
 set_aside : (g : Segment → Segment) → KeepsEach g → (attr : List ℕ) (values : List (List ℕ)) → Leaves attr g → (args : List Segment) → set attr values (map g args) ≡ map g (set attr values args)
 set_aside g names attr values leaves args =
     let new : New = new_of attr values (first_named attr args) in
-    elim (has attr args) as (λ b. has attr args ≡ b → set attr values (map g args) ≡ map g (if b then edit_first (is_named attr) (λ a. set_in new a ∷ []) args else args ++ argument attr (new_value new) ∷ [])) [
-      | true ↦ λ e. rw (first_kept g names attr leaves args, has_kept g names attr args ∙ e) (edit_one_kept g names attr leaves (set_in new) (set_in_kept g attr new leaves) args)
-      | false ↦ λ e. rw (first_kept g names attr leaves args, has_kept g names attr args ∙ e) (append_kept g attr leaves (new_value new) args)
-    ] refl
+    rw (first_kept g names attr leaves args)
+    (taken (map g) (has_kept g names attr args) (edit_one_kept g names attr leaves (set_in new) (set_in_kept g attr new leaves) args) (append_kept g attr leaves (new_value new) args))
 
 set_if_absent_aside : (g : Segment → Segment) → KeepsEach g → (attr : List ℕ) (values : List (List ℕ)) → Leaves attr g → (args : List Segment) → set_if_absent attr values (map g args) ≡ map g (set_if_absent attr values args)
-set_if_absent_aside g names attr values leaves args =
-    elim (has attr args) as (λ b. has attr args ≡ b → set_if_absent attr values (map g args) ≡ map g (if b then args else args ++ argument attr (new_value (new_of attr values None)) ∷ [])) [
-      | true ↦ λ e. rw (has_kept g names attr args ∙ e) refl
-      | false ↦ λ e. rw (has_kept g names attr args ∙ e) (append_kept g attr leaves _ args)
-    ] refl
+set_if_absent_aside g names attr values leaves args = taken (map g) (has_kept g names attr args) refl (append_kept g attr leaves _ args)
 
 -- after arguments of other names
 
@@ -144,31 +138,15 @@ edit_after name f (x ∷ args) more h =
     elim (is_named name x) as (λ b. b || list_any (is_named name) args ≡ false → (if b then f x ++ (args ++ more) else x ∷ edit_first (is_named name) f (args ++ more)) ≡ x ∷ (args ++ edit_first (is_named name) f more))
     [ true ↦ λ e. absurd cc | false ↦ λ e. ap (λ (ss : List Segment). x ∷ ss) (edit_after name f args more e) ] h
 
-abbrev set_as : List ℕ → New → Bool → List Segment → List Segment
-set_as attr new there args = if there then edit_first (is_named attr) (λ a. set_in new a ∷ []) args else args ++ argument attr (new_value new) ∷ []
-
-set_as_after : (attr : List ℕ) (new : New) (there : Bool) (args more : List Segment) → has attr args ≡ false
-    → set_as attr new there (args ++ more) ≡ args ++ set_as attr new there more
-set_as_after attr new true args more h = edit_after attr (λ a. set_in new a ∷ []) args more h
-set_as_after attr new false args more h = append_assoc args more (argument attr (new_value new) ∷ [])
-
 set_after : (attr : List ℕ) (words : List (List ℕ)) (args more : List Segment) → has attr args ≡ false → set attr words (args ++ more) ≡ args ++ set attr words more
 set_after attr words args more h =
-    (λ i. set_as attr (new_of attr words (first_after attr args more h i)) (has_after attr args more h i) (args ++ more))
-    ∙ set_as_after attr (new_of attr words (first_named attr more)) (has attr more) args more h
-
-abbrev absent_as : List ℕ → Segment → Bool → List Segment → List Segment
-absent_as attr a there args = if there then args else args ++ a ∷ []
-
-absent_after : (attr : List ℕ) (a : Segment) (there : Bool) (args more : List Segment) → absent_as attr a there (args ++ more) ≡ args ++ absent_as attr a there more
-absent_after attr a true args more = refl
-absent_after attr a false args more = append_assoc args more (a ∷ [])
+    let new : New = new_of attr words (first_named attr more) in
+    rw (first_after attr args more h)
+    (taken (λ ss. args ++ ss) (has_after attr args more h) (edit_after attr (λ a. set_in new a ∷ []) args more h) (append_assoc args more (argument attr (new_value new) ∷ [])))
 
 set_if_absent_after : (attr : List ℕ) (words : List (List ℕ)) (args more : List Segment) → has attr args ≡ false
     → set_if_absent attr words (args ++ more) ≡ args ++ set_if_absent attr words more
-set_if_absent_after attr words args more h =
-    let a = argument attr (new_value (new_of attr words None)) in
-    ap (λ (b : Bool). absent_as attr a b (args ++ more)) (has_after attr args more h) ∙ absent_after attr a (has attr more) args more
+set_if_absent_after attr words args more h = taken (λ ss. args ++ ss) (has_after attr args more h) refl (append_assoc args more _)
 
 -- `set kind`
 
@@ -231,8 +209,8 @@ set_lawful home (ToValues attr words) = on_arguments (Set (ToValues attr words))
   stays = λ args h. set_stays attr words args h;
   differs = λ read args h same. set_differs attr words args h same;
   noted = λ args h. absurd cc;
-  aside = λ g aside args. set_aside g aside.names attr words (leaves_mentioned (Set (ToValues attr words)) g aside attr (same_bytes attr)) args;
-  told = λ g aside args. rw (first_kept g aside.names attr (leaves_mentioned (Set (ToValues attr words)) g aside attr (same_bytes attr)) args) refl;
+  aside = λ g aside args. set_aside g aside.names attr words (leaves_mentioned aside attr (same_bytes attr)) args;
+  told = λ g aside args. rw (first_kept g aside.names attr (leaves_mentioned aside attr (same_bytes attr)) args) refl;
   appends = record {
     args = λ args more h. set_after attr words args more h;
     told = λ args more h. ap (λ (o : Option Segment). done None (sets attr words o)) (first_after attr args more h);
@@ -246,7 +224,7 @@ set_if_absent_lawful home attr words = on_arguments (SetIfAbsent attr words) hom
   stays = λ args h. set_if_absent_stays attr words args h;
   differs = λ read args h same. set_if_absent_differs attr words args h same;
   noted = λ args h. absurd cc;
-  aside = λ g aside args. set_if_absent_aside g aside.names attr words (leaves_mentioned (SetIfAbsent attr words) g aside attr (same_bytes attr)) args;
+  aside = λ g aside args. set_if_absent_aside g aside.names attr words (leaves_mentioned aside attr (same_bytes attr)) args;
   told = λ g aside args. rw (has_kept g aside.names attr args) refl;
   appends = record {
     args = λ args more h. set_if_absent_after attr words args more h;
