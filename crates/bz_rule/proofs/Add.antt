@@ -1,5 +1,5 @@
--- `add` changes something exactly where it says so.
-use Rattle.std.proofs.Common.{◌≡◌, ℕ, List, [], ◌∷◌, ◌++◌, true, false, not, if◌then◌else◌, Some, None, is_some, refl, ap, sym, ◌∙◌, append-nil}
+-- What is owed of `add`, which changes something exactly where it says so.
+use Rattle.std.proofs.Common.{◌≡◌, ℕ, List, [], ◌∷◌, ◌++◌, true, false, not, if◌then◌else◌, Some, None, is_some, map, refl, ap, sym, ◌∙◌, append-nil}
 use Rattle.std.proofs.lemmas.List.{append_cancel_left}
 use Rattle.bz_tree.specs.Tree.{Segment}
 use Rattle.bz_command.specs.Labels.{Package}
@@ -8,9 +8,11 @@ use Rattle.bz_attribute.specs.Lists.{edit_first_part, is_attribute, parts, same,
 use Rattle.bz_attribute.specs.Effects.{add, adds, argument, done, edit_first, has, is_nil, list_item, new_elements, no_parts, not_a_list, with_added}
 use Rattle.bz_attribute.specs.declared.done.Note.TheVariants.{NotAList}
 use Rattle.bz_rule.proofs.PartLaws.{edit_head, first_part_stays, parts_first_edited}
-use Rattle.bz_rule.proofs.Arguments.{attribute_named, first_same, has_first, is_first_named, rest_same, value_back, value_put}
+use Rattle.bz_rule.proofs.Arguments.{attribute_named, first_same, has_first, is_first_named, rest_same, same_bytes, value_back, value_put}
 use Rattle.bz_command.specs.Commands.{Add}
 use Rattle.bz_rule.proofs.Lawful.{Lawful, note_unchanged, on_arguments}
+use Rattle.bz_rule.proofs.NamesKept.{KeepsEach, Leaves, append_kept, edit_one_kept, first_kept, has_kept, put_kept, taken}
+use Rattle.bz_rule.proofs.Aside.{leaves_mentioned}
 
 pub parts_with : (home : Package) (values : List (List ℕ)) (a : Segment) → is_attribute a ≡ true → no_parts (parts (value a)) ≡ false
     → parts (value (with_added home values a)) ≡ edit_head (λ ss. ss ++ new_elements home (parts (value a)) values) (parts (value a))
@@ -88,9 +90,22 @@ add_differs home attr values args h same =
           [ true ↦ λ n m. cc | false ↦ λ n m. added_differs home values a attribute n m is ] refl k
     ] refl h
 
+-- beside changes of other arguments
+with_added_kept : (g : Segment → Segment) (home : Package) (attr : List ℕ) (values : List (List ℕ)) → Leaves attr g → (a : Segment) → is_named attr a ≡ true → g (with_added home values a) ≡ with_added home values a
+with_added_kept g home attr values leaves a named =
+    elim (no_parts (parts (value a))) as (λ b. let new : Segment = if b then a else with_value (edit_first_part (λ ss. ss ++ new_elements home (parts (value a)) values) (value a)) a in g new ≡ new)
+    [ true ↦ leaves a named | false ↦ put_kept g attr leaves _ a named ]
+
+add_aside : (g : Segment → Segment) → KeepsEach g → (home : Package) (attr : List ℕ) (values : List (List ℕ)) → Leaves attr g → (args : List Segment) → add home attr values (map g args) ≡ map g (add home attr values args)
+add_aside g names home attr values leaves args =
+    taken (map g) (has_kept g names attr args) (edit_one_kept g names attr leaves (with_added home values) (with_added_kept g home attr values leaves) args) (append_kept g attr leaves _ args)
+
 pub add_lawful : (home : Package) (attr : List ℕ) (values : List (List ℕ)) → Lawful (Add attr values) home
 add_lawful home attr values = on_arguments (Add attr values) home (λ slot. refl) (λ slot. refl) (record {
   stays = λ args h. add_stays home attr values args h;
   differs = λ read args h same. add_differs home attr values args h same;
   noted = λ args h. note_unchanged (not_a_list attr (first_named attr args)) (adds home values (first_named attr args)) h;
+  aside = λ g aside args. add_aside g aside.names home attr values (leaves_mentioned aside attr (same_bytes attr)) args;
+  told = λ g aside args. rw (first_kept g aside.names attr (leaves_mentioned aside attr (same_bytes attr)) args) refl;
+  appends = tt;
 })

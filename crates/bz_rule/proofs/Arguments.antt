@@ -1,10 +1,15 @@
 -- Arguments with another value, and the first of a name.
 use Rattle.std.proofs.Common.{◌≡◌, ℕ, List, [], ◌∷◌, ◌++◌, true, false, ◌||◌, if◌then◌else◌, Some, None, option_map, is_some, drop, take, refl, ap, sym, ◌∙◌}
+use Rattle.std.specs.Prelude.{bytes_eq}
 use Rattle.std.proofs.lemmas.List.{append_cancel_right}
+use Rattle.std.proofs.lemmas.Slice.Eq.{bytes_eq-Decides}
 use Rattle.bz_tree.specs.Tree.{Item, Segment}
 use Rattle.bz_attribute.specs.Rules.{is_named, is_text, first_named, name_of, value}
 use Rattle.bz_attribute.specs.Lists.{is_attribute, with_value}
 use Rattle.bz_attribute.specs.Effects.{edit_first, has}
+
+pub same_bytes : (bytes : List ℕ) → bytes_eq bytes bytes ≡ true
+same_bytes bytes = (bytes_eq-Decides bytes bytes).1 refl
 
 pub attribute_named : (attr : List ℕ) (a : Segment) → is_named attr a ≡ true → is_attribute a ≡ true
 attribute_named attr a h = elim (name_of a.nodes) as (λ n. is_text attr n ≡ true → is_some n ≡ true) [ None ↦ λ k. absurd cc | Some n ↦ λ k. refl ] h

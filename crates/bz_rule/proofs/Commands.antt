@@ -1,13 +1,16 @@
 -- Each command owes what `Lawful` says, and what follows of all of them.
-use Rattle.std.proofs.Common.{◌≡◌, ◌↔◌, Bool, true, false, Option, Some, None, is_some, refl, ap, sym, ◌∙◌}
-use Rattle.bz_tree.specs.Tree.{Statement}
+use Rattle.std.proofs.Common.{◌≡◌, ◌↔◌, ℕ, List, Bool, true, false, Option, Some, None, map, option_map, is_some, refl, ap, sym, ◌∙◌, subst}
+use Rattle.std.specs.Prelude.{IfSome}
+use Rattle.bz_tree.specs.Tree.{Segment, Statement}
 use Rattle.bz_command.specs.Labels.{Package}
 use Rattle.bz_command.specs.Commands.{Command, Add, Remove, Set, SetIfAbsent, Delete, Rename, Move, Replace, Comment, Print, is_command}
 use Rattle.bz_attribute.specs.declared.done.Done.{Done}
 use Rattle.bz_attribute.specs.declared.done.Note.{Note}
-use Rattle.bz_attribute.specs.Effects.{fails, holds_rule}
+use Rattle.bz_attribute.specs.Effects.{fails, holds_rule, with_args}
 use Rattle.bz_rule.specs.Applied.{after, done_of}
-use Rattle.bz_rule.proofs.Lawful.{Lawful}
+use Rattle.bz_rule.specs.Aside.{IsAside}
+use Rattle.bz_rule.specs.private.LongerRows.{adds_to}
+use Rattle.bz_rule.proofs.Lawful.{Appends, Lawful}
 use Rattle.bz_rule.proofs.Add.{add_lawful}
 use Rattle.bz_rule.proofs.Comment.{comment_lawful}
 use Rattle.bz_rule.proofs.Delete.{delete_lawful}
@@ -29,6 +32,16 @@ lawful (Move old new chosen) home = move_lawful home old new chosen
 lawful (Replace attrs old new) home = replace_lawful home attrs old new
 lawful (Comment commented text) home = comment_lawful home commented text
 lawful (Print fields) home = print_lawful home fields
+
+-- what a command does not mention may be changed before it or after it, and it tells the same
+pub after_aside : (c : Command) (home : Package) (slot : Option Statement) (g : Segment → Segment) → IsAside c g → after c home (option_map (with_args (map g)) slot) ≡ option_map (with_args (map g)) (after c home slot)
+after_aside c home slot g aside = let law = lawful c home in law.aside g aside slot
+
+pub done_aside : (c : Command) (home : Package) (slot : Option Statement) (g : Segment → Segment) → IsAside c g → done_of c home (option_map (with_args (map g)) slot) ≡ done_of c home slot
+done_aside c home slot g aside = let law = lawful c home in law.told g aside slot
+
+pub appends : (c : Command) (home : Package) (name : List ℕ) → adds_to c ≡ Some name → Appends c home name
+appends c home name h = let law = lawful c home in subst (λ o. IfSome o (Appends c home)) h law.appends
 
 -- where there is a note, or no rule, all stays
 pub noted_stays : (c : Command) (home : Package) (slot : Option Statement) → is_some (done_of c home slot).note ≡ true → after c home slot ≡ slot

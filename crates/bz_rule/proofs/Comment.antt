@@ -1,5 +1,5 @@
--- A comment changes what it stands before: a list of comment lines gets longer.
-use Rattle.std.proofs.Common.{◌≡◌, ℕ, ◌+◌, List, [], ◌∷◌, ◌++◌, Bool, true, false, Option, None, Some, length, option_map, is_some, if◌then◌else◌, refl, ap, sym, ◌∙◌, arith, inl, inr}
+-- What is owed of `comment`, which changes what it stands before: a list of comment lines gets longer.
+use Rattle.std.proofs.Common.{◌≡◌, ℕ, ◌+◌, List, [], ◌∷◌, ◌++◌, Bool, true, false, Option, None, Some, length, option_map, is_some, if◌then◌else◌, map, refl, ap, sym, ◌∙◌, arith, inl, inr}
 use Rattle.std.specs.List.{list_any, list_all}
 use Rattle.std.proofs.lemmas.Bool.{cases_Bool}
 use Rattle.std.proofs.lemmas.List.{length_push}
@@ -13,8 +13,11 @@ use Rattle.bz_attribute.specs.Effects.{done, edit_first, first_note, has, holds_
 use Rattle.bz_attribute.specs.Commenting.{comment_attribute, comment_element, comment_line, comment_note, comment_rule, comment_value, comments_above, edit_element, edit_element_from, is_missing, with_comment}
 use Rattle.bz_attribute.proofs.Views.{segments_of}
 use Rattle.bz_command.specs.Commands.{Comment, Commented, Rule as OfRule, Attribute, Value}
-use Rattle.bz_rule.proofs.Arguments.{attribute_named, first_same, has_first, is_first_named, value_put}
+use Rattle.bz_rule.proofs.Arguments.{attribute_named, first_same, has_first, is_first_named, same_bytes, value_put}
 use Rattle.bz_rule.proofs.Lawful.{Lawful, done_changed, guarded_same, note_unchanged, on_arguments}
+use Rattle.bz_rule.proofs.NamesKept.{KeepsEach, Leaves, edit_one_kept, first_kept, has_kept, put_kept, taken}
+use Rattle.bz_rule.proofs.Aside.{leaves_mentioned}
+use Rattle.bz_rule.proofs.Rebuilt.{comment_exchanged, holds_after}
 
 push_longer : (xs : List (List ℕ)) (y : List ℕ) → xs ++ y ∷ [] ≡ xs → ⊥
 push_longer xs y h = let long : length xs + 1 ≡ length xs = sym (length_push xs y) ∙ ap length h in absurd (omega arith)
@@ -129,20 +132,44 @@ absent_same attr text args h =
     → (if b then edit_first (is_named attr) (λ a. with_comment (comment_line text) a ∷ []) args else args) ≡ args)
     [ true ↦ λ k. absurd cc | false ↦ λ k. refl ] h
 
+-- beside changes of other arguments
+
+comment_attribute_aside : (g : Segment → Segment) → KeepsEach g → (attr text : List ℕ) → Leaves attr g → (args : List Segment) → comment_attribute attr text (map g args) ≡ map g (comment_attribute attr text args)
+comment_attribute_aside g names attr text leaves args =
+    taken (map g) (has_kept g names attr args) (edit_one_kept g names attr leaves (with_comment (comment_line text)) (λ a named. leaves (with_comment (comment_line text) a) named) args) refl
+
+note_comment : (g : Segment → Segment) → KeepsEach g → (home : Package) (attr v : List ℕ) → Leaves attr g → (args : List Segment) → comment_note home attr v (map g args) ≡ comment_note home attr v args
+note_comment g names home attr v leaves args = rw (has_kept g names attr args, first_kept g names attr leaves args) refl
+
+comment_value_aside : (g : Segment → Segment) → KeepsEach g → (home : Package) (attr v text : List ℕ) → Leaves attr g → (args : List Segment)
+    → comment_value home attr v text (map g args) ≡ map g (comment_value home attr v text args)
+comment_value_aside g names home attr v text leaves args =
+    taken (map g) (ap is_some (note_comment g names home attr v leaves args)) refl
+    (edit_one_kept g names attr leaves (comment_element home v text) (λ a named. put_kept g attr leaves _ a named) args)
+
 pub comment_lawful : (home : Package) (place : Commented) (text : List ℕ) → Lawful (Comment place text) home
 comment_lawful home OfRule text = record {
   stays = λ slot h. comment_rule_stays text slot h;
   differs = λ read slot h same. comment_rule_differs text slot h same;
   noted = λ slot h. absurd cc;
   no_rule = λ slot h. h;
+  aside = λ g aside slot. comment_exchanged text (map g) slot;
+  told = λ g aside slot. ap (done None) (holds_after (map g) slot);
+  appends = tt;
 }
 comment_lawful home (Attribute attr) text = on_arguments (Comment (Attribute attr) text) home (λ slot. refl) (λ slot. refl) (record {
   stays = λ args h. absent_same attr text args h;
   differs = λ read args h same. comment_attribute_differs attr text args (done_changed (is_absent attr args) true h).0 same;
   noted = λ args h. note_unchanged (is_absent attr args) true h;
+  aside = λ g aside args. comment_attribute_aside g aside.names attr text (leaves_mentioned aside attr (same_bytes attr)) args;
+  told = λ g aside args. rw (has_kept g aside.names attr args) refl;
+  appends = tt;
 })
 comment_lawful home (Value attr v) text = on_arguments (Comment (Value attr v) text) home (λ slot. refl) (λ slot. refl) (record {
   stays = λ args h. guarded_same (comment_note home attr v args) true _ args (λ k. absurd cc) h;
   differs = λ read args h same. comment_value_differs home attr v text args (done_changed (comment_note home attr v args) true h).0 same;
   noted = λ args h. note_unchanged (comment_note home attr v args) true h;
+  aside = λ g aside args. comment_value_aside g aside.names home attr v text (leaves_mentioned aside attr (same_bytes attr)) args;
+  told = λ g aside args. rw (note_comment g aside.names home attr v (leaves_mentioned aside attr (same_bytes attr)) args) refl;
+  appends = tt;
 })

@@ -1,5 +1,6 @@
--- What a command owes to what it tells; of a command on the arguments of a rule it follows from what it does to them.
-use Rattle.std.proofs.Common.{◌≡◌, List, [], ◌∷◌, Bool, true, false, Option, Some, None, option_map, is_some, if◌then◌else◌, refl, ap, sym, ◌∙◌}
+-- What is owed of a command; of one on the arguments of a rule it follows from what it does to them.
+use Rattle.std.proofs.Common.{◌≡◌, ℕ, List, [], ◌∷◌, ◌++◌, Bool, true, false, Option, Some, None, map, option_map, is_some, if◌then◌else◌, refl, ap, sym, ◌∙◌}
+use Rattle.std.specs.Prelude.{IfSome}
 use Rattle.std.proofs.lemmas.List.{append_cancel_left}
 use Rattle.bz_tree.specs.declared.stmt.GroupKind.TheVariants.{RuleCall}
 use Rattle.bz_tree.specs.Tree.{Item, group, Segment, Statement, segs_of, segments}
@@ -8,23 +9,40 @@ use Rattle.bz_command.specs.Commands.{Command, is_command}
 use Rattle.bz_attribute.specs.Rules.{Rule, rule_of}
 use Rattle.bz_attribute.specs.declared.done.Done.{Done}
 use Rattle.bz_attribute.specs.declared.done.Note.{Note}
-use Rattle.bz_attribute.specs.Effects.{done, done_in, holds_rule, nodes_after, nodes_of, slot_done, with_args}
+use Rattle.bz_attribute.specs.Effects.{done, done_in, has, holds_rule, nodes_after, nodes_of, slot_done, with_args}
 use Rattle.bz_rule.specs.Applied.{after, args_after, args_done, done_of}
+use Rattle.bz_rule.specs.Aside.{IsAside}
+use Rattle.bz_rule.specs.private.LongerRows.{adds_to}
 use Rattle.bz_attribute.proofs.Views.{segments_of}
 use Rattle.bz_attribute.proofs.RuleNodes.{rule_nodes}
+use Rattle.bz_rule.proofs.Rebuilt.{slot_exchanged, told_alike}
+
+-- Of a command that adds an argument after all others: where none has this name, it does with more arguments what it does with these alone.
+pub record Appends (c : Command) (home : Package) (name : List ℕ) : Type 0 where
+  pub args : (args more : List Segment) → has name args ≡ false → args_after c home (args ++ more) ≡ args ++ args_after c home more
+  pub told : (args more : List Segment) → has name args ≡ false → args_done c home (args ++ more) ≡ args_done c home more
+  pub slot : (s : Statement) → after c home (Some s) ≡ Some (with_args (args_after c home) s)
+  pub done : (s : Statement) → done_of c home (Some s) ≡ slot_done (args_done c home) (Some s)
 
 -- Where it tells no change, all stays, else something differs. With a note there is no change, and none of what is no rule.
+-- Arguments that it does not mention may be changed before it or after it, and it tells the same.
 pub record Lawful (c : Command) (home : Package) : Type 0 where
   pub stays : (slot : Option Statement) → (done_of c home slot).changed ≡ false → after c home slot ≡ slot
   pub differs : is_command c ≡ true → (slot : Option Statement) → (done_of c home slot).changed ≡ true → after c home slot ≡ slot → ⊥
   pub noted : (slot : Option Statement) → is_some (done_of c home slot).note ≡ true → (done_of c home slot).changed ≡ false
   pub no_rule : (slot : Option Statement) → holds_rule slot ≡ false → (done_of c home slot).changed ≡ false
+  pub aside : (g : Segment → Segment) → IsAside c g → (slot : Option Statement) → after c home (option_map (with_args (map g)) slot) ≡ option_map (with_args (map g)) (after c home slot)
+  pub told : (g : Segment → Segment) → IsAside c g → (slot : Option Statement) → done_of c home (option_map (with_args (map g)) slot) ≡ done_of c home slot
+  pub appends : IfSome (adds_to c) (Appends c home)
 
 -- the same of arguments
 pub record OnArguments (c : Command) (home : Package) : Type 0 where
   pub stays : (args : List Segment) → (args_done c home args).changed ≡ false → args_after c home args ≡ args
   pub differs : is_command c ≡ true → (args : List Segment) → (args_done c home args).changed ≡ true → args_after c home args ≡ args → ⊥
   pub noted : (args : List Segment) → is_some (args_done c home args).note ≡ true → (args_done c home args).changed ≡ false
+  pub aside : (g : Segment → Segment) → IsAside c g → (args : List Segment) → args_after c home (map g args) ≡ map g (args_after c home args)
+  pub told : (g : Segment → Segment) → IsAside c g → (args : List Segment) → args_done c home (map g args) ≡ args_done c home args
+  pub appends : IfSome (adds_to c) (Appends c home)
 
 -- where there is a note, nothing is changed
 pub note_unchanged : (n : Option Note) (b : Bool) → is_some (done n b).note ≡ true → (done n b).changed ≡ false
@@ -88,4 +106,8 @@ on_arguments c home is told law = record {
   differs = λ read slot h same. slot_differs c home law read slot (ap (λ (d : Done). d.changed) (sym (told slot)) ∙ h) (sym (is slot) ∙ same);
   noted = λ slot h. ap (λ (d : Done). d.changed) (told slot) ∙ slot_noted c home law slot (ap (λ (d : Done). is_some d.note) (sym (told slot)) ∙ h);
   no_rule = λ slot h. ap (λ (d : Done). d.changed) (told slot) ∙ slot_no_rule (args_done c home) slot h;
+  aside = λ g aside slot.
+      is (option_map (with_args (map g)) slot) ∙ slot_exchanged (args_after c home) (map g) (law.aside g aside) slot ∙ ap (option_map (with_args (map g))) (sym (is slot));
+  told = λ g aside slot. told (option_map (with_args (map g)) slot) ∙ told_alike (args_done c home) (map g) (law.told g aside) slot ∙ sym (told slot);
+  appends = law.appends;
 }

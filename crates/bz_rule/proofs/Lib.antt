@@ -1,8 +1,7 @@
 pub mod Add
 pub mod Arguments
-pub mod AsideArguments
-pub mod AsideCommands
-mod AsideFields
+mod Aside
+mod AsideTargets
 pub mod Commands
 mod Comment
 mod Delete

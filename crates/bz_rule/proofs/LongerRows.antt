@@ -2,7 +2,6 @@
 use Rattle.std.proofs.Common.{◌≡◌, ℕ, ◌+◌, ◌-◌, ◌≤◌, suc, length, zero, ◌<◌, get_or, List, [], ◌∷◌, ◌++◌, map, take, drop, Bool, true, false, not, ◌||◌, if◌then◌else◌, Option, Some, None, option_map, refl, sym, ◌∙◌, ap, subst, append_assoc, append-nil, arith, length-append}
 use Rattle.std.specs.Prelude.{codes, bytes_eq}
 use Rattle.std.specs.List.{list_any}
-use Rattle.std.proofs.lemmas.List.Folds.{list_any-append}
 use Rattle.std.proofs.Math.Seq.{drop-append_seam, take-append_seam}
 use Rattle.bz_token.specs.declared.token.Kind.TheVariants.{Identifier, Keyword, Integer, String, Operator, Newline, Comment as CommentToken, Kept}
 use Rattle.bz_tree.specs.declared.stmt.GroupKind.TheVariants.{RuleCall}
@@ -12,17 +11,17 @@ use Rattle.bz_tree.specs.declared.stmt.Seg.{Seg}
 use Rattle.bz_tree.specs.declared.row.Part.{Part}
 use Rattle.bz_tree.specs.Rows.{part_view, RowPart, opening, closing, segment_end, above, beside_part, item_parts, items_parts, segs_parts, parts_of}
 use Rattle.bz_command.specs.Labels.{Package, Target, Name, Pkg, All, Kind as KindOf, Line}
-use Rattle.bz_command.specs.Commands.{Command, Add, Remove, Set, SetIfAbsent, Delete, Rename, Move, Replace, Comment, Print, ToKind, ToValues}
+use Rattle.bz_command.specs.Commands.{Command}
 use Rattle.bz_attribute.specs.Marks.{marks, marks_if, marks_rule}
 use Rattle.bz_attribute.specs.Rules.{Rule, rule_of, name_of, ident_of, is_operator_item, is_text, is_named, first_named, name_in, string_in}
-use Rattle.bz_attribute.specs.Effects.{has, edit_first, argument, nodes_of, nodes_after, with_args, done, done_in, slot_done}
-use Rattle.bz_attribute.specs.Setting.{New, new_of, new_value, set_in, set, sets, set_if_absent}
+use Rattle.bz_attribute.specs.Effects.{has, nodes_of, nodes_after, with_args, done_in}
 use Rattle.bz_attribute.specs.Texts.{shown_text, rule_text, home_text, name_or_kind}
 use Rattle.bz_attribute.proofs.RuleNodes.{rule_nodes}
 use Rattle.bz_rule.specs.Applied.{after, args_after, args_done, done_of}
 use Rattle.bz_rule.specs.LongerViews.{with_more}
 use Rattle.bz_rule.specs.private.Hollow.{is_end}
 use Rattle.bz_rule.specs.private.LongerRows.{HasName, Lacks, adds_to, is_word, besides, args_end, with_added}
+use Rattle.bz_rule.proofs.Commands.{appends}
 use Rattle.bz_rule.proofs.PutBack.{rule_parts}
 use Rattle.bz_rule.proofs.Rebuilt.{rule_after, rule_with, with_args_twice, with_args_same}
 
@@ -64,85 +63,6 @@ shown_more home s more h =
 
 pub no_more : (s : Statement) → with_more [] s ≡ s
 no_more s = with_args_same (adding []) append-nil s
-
--- what looks at the first argument of a name passes those before it
-first_after : (name : List ℕ) (args more : List Segment) → has name args ≡ false → first_named name (args ++ more) ≡ first_named name more
-first_after name [] more h = refl
-first_after name (x ∷ args) more h =
-    elim (is_named name x) as (λ b. b || list_any (is_named name) args ≡ false → (if b then Some x else first_named name (args ++ more)) ≡ first_named name more)
-    [ true ↦ λ e. absurd cc | false ↦ λ e. first_after name args more e ] h
-
-has_after : (name : List ℕ) (args more : List Segment) → has name args ≡ false → has name (args ++ more) ≡ has name more
-has_after name args more h = list_any-append (is_named name) args more ∙ ap (λ (b : Bool). b || has name more) h
-
-edit_after : (name : List ℕ) (f : Segment → List Segment) (args more : List Segment) → has name args ≡ false
-    → edit_first (is_named name) f (args ++ more) ≡ args ++ edit_first (is_named name) f more
-edit_after name f [] more h = refl
-edit_after name f (x ∷ args) more h =
-    elim (is_named name x) as (λ b. b || list_any (is_named name) args ≡ false → (if b then f x ++ (args ++ more) else x ∷ edit_first (is_named name) f (args ++ more)) ≡ x ∷ (args ++ edit_first (is_named name) f more))
-    [ true ↦ λ e. absurd cc | false ↦ λ e. ap (λ (ss : List Segment). x ∷ ss) (edit_after name f args more e) ] h
-
-abbrev set_as : List ℕ → New → Bool → List Segment → List Segment
-set_as attr new there args = if there then edit_first (is_named attr) (λ a. set_in new a ∷ []) args else args ++ argument attr (new_value new) ∷ []
-
-set_as_after : (attr : List ℕ) (new : New) (there : Bool) (args more : List Segment) → has attr args ≡ false
-    → set_as attr new there (args ++ more) ≡ args ++ set_as attr new there more
-set_as_after attr new true args more h = edit_after attr (λ a. set_in new a ∷ []) args more h
-set_as_after attr new false args more h = append_assoc args more (argument attr (new_value new) ∷ [])
-
-set_after : (attr : List ℕ) (words : List (List ℕ)) (args more : List Segment) → has attr args ≡ false → set attr words (args ++ more) ≡ args ++ set attr words more
-set_after attr words args more h =
-    (λ i. set_as attr (new_of attr words (first_after attr args more h i)) (has_after attr args more h i) (args ++ more))
-    ∙ set_as_after attr (new_of attr words (first_named attr more)) (has attr more) args more h
-
-abbrev absent_as : List ℕ → Segment → Bool → List Segment → List Segment
-absent_as attr a there args = if there then args else args ++ a ∷ []
-
-absent_after : (attr : List ℕ) (a : Segment) (there : Bool) (args more : List Segment) → absent_as attr a there (args ++ more) ≡ args ++ absent_as attr a there more
-absent_after attr a true args more = refl
-absent_after attr a false args more = append_assoc args more (a ∷ [])
-
-set_if_absent_after : (attr : List ℕ) (words : List (List ℕ)) (args more : List Segment) → has attr args ≡ false
-    → set_if_absent attr words (args ++ more) ≡ args ++ set_if_absent attr words more
-set_if_absent_after attr words args more h =
-    let a = argument attr (new_value (new_of attr words None)) in
-    ap (λ (b : Bool). absent_as attr a b (args ++ more)) (has_after attr args more h) ∙ absent_after attr a (has attr more) args more
-
--- what is owed of a command that adds an argument
-record Appends (c : Command) (home : Package) (name : List ℕ) : Type 0 where
-  args : (args more : List Segment) → has name args ≡ false → args_after c home (args ++ more) ≡ args ++ args_after c home more
-  told : (args more : List Segment) → has name args ≡ false → args_done c home (args ++ more) ≡ args_done c home more
-  slot : (s : Statement) → after c home (Some s) ≡ Some (with_args (args_after c home) s)
-  done : (s : Statement) → done_of c home (Some s) ≡ slot_done (args_done c home) (Some s)
-
-set_appends : (attr : List ℕ) (words : List (List ℕ)) (home : Package) → Appends (Set (ToValues attr words)) home attr
-set_appends attr words home = record {
-  args = set_after attr words;
-  told = λ args more h. ap (λ (o : Option Segment). done None (sets attr words o)) (first_after attr args more h);
-  slot = λ s. refl;
-  done = λ s. refl;
-}
-
-absent_appends : (attr : List ℕ) (words : List (List ℕ)) (home : Package) → Appends (SetIfAbsent attr words) home attr
-absent_appends attr words home = record {
-  args = set_if_absent_after attr words;
-  told = λ args more h. ap (λ (b : Bool). done None (not b)) (has_after attr args more h);
-  slot = λ s. refl;
-  done = λ s. refl;
-}
-
-appends : (c : Command) (home : Package) (name : List ℕ) → adds_to c ≡ Some name → Appends c home name
-appends (Set (ToValues attr words)) home name h = let same : attr ≡ name = cc in subst (λ n. Appends (Set (ToValues attr words)) home n) same (set_appends attr words home)
-appends (SetIfAbsent attr words) home name h = let same : attr ≡ name = cc in subst (λ n. Appends (SetIfAbsent attr words) home n) same (absent_appends attr words home)
-appends (Set (ToKind kind)) home name h = absurd cc
-appends (Add attr values) home name h = absurd cc
-appends (Remove attrs values) home name h = absurd cc
-appends Delete home name h = absurd cc
-appends (Rename old new) home name h = absurd cc
-appends (Move old new chosen) home name h = absurd cc
-appends (Replace attrs old new) home name h = absurd cc
-appends (Comment commented text) home name h = absurd cc
-appends (Print fields) home name h = absurd cc
 
 with_args_at : (f g : List Segment → List Segment) (s : Statement) → ((r : Rule) → rule_of s.nodes ≡ Some r → f r.args ≡ g r.args) → with_args f s ≡ with_args g s
 with_args_at f g s h =

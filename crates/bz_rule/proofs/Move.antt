@@ -1,5 +1,5 @@
--- A move changes something exactly where an element is chosen: afterwards it does not stand in the arguments of the old name.
-use Rattle.std.proofs.Common.{◌≡◌, ℕ, List, [], ◌∷◌, ◌++◌, Bool, true, false, cond, filter, Option, Some, None, if◌then◌else◌, refl, ap, sym, ◌∙◌, inl, inr, bytes_eq}
+-- What is owed of `move`: it changes something exactly where an element is chosen, which afterwards does not stand in the arguments of the old name.
+use Rattle.std.proofs.Common.{◌≡◌, ℕ, List, [], ◌∷◌, ◌++◌, Bool, true, false, cond, filter, Option, Some, None, if◌then◌else◌, map, is_some, refl, ap, sym, ◌∙◌, inl, inr, bytes_eq}
 use Rattle.std.proofs.lemmas.Bool.{and_parts, cases_Bool, not-true}
 use Rattle.std.proofs.lemmas.List.{append-nil, append_cancel_right}
 use Rattle.bz_tree.specs.Tree.{Item, Segment}
@@ -12,10 +12,12 @@ use Rattle.bz_attribute.specs.Moving.{arrivals, chosen_of, elements_of, move, mo
 use Rattle.bz_rule.proofs.Arguments.{attribute_named, is_first_named, name_put}
 use Rattle.bz_list_commands.proofs.Arriving.{text_of_one}
 use Rattle.bz_list_commands.proofs.Leaving.{filter-append}
-use Rattle.bz_rule.proofs.Remove.{filtered_same}
+use Rattle.bz_rule.proofs.Remove.{filtered_kept, filtered_same}
 use Rattle.bz_command.specs.Names.{is_identifier}
 use Rattle.std.specs.Prelude.{not, ◌&&◌}
 use Rattle.bz_rule.proofs.Lawful.{Lawful, done_changed, guarded_same, note_unchanged, on_arguments}
+use Rattle.bz_rule.proofs.NamesKept.{KeepsEach, Leaves, append_kept, edit_kept, edit_one_kept, first_kept, has_kept, put_kept, taken}
+use Rattle.bz_rule.proofs.Aside.{leaves_both}
 
 -- an argument of the new name has not the old one
 not_old : (old new : List ℕ) (name : Option (List ℕ)) → bytes_eq old new ≡ false → is_text new name ≡ true → is_text old name ≡ false
@@ -93,6 +95,33 @@ others old new chosen h =
     let parts = and_parts ((is_identifier old && is_identifier new) && not (bytes_eq old new)) (is_moved chosen) h in
     not-true (bytes_eq old new) (and_parts (is_identifier old && is_identifier new) (not (bytes_eq old new)) parts.0).1
 
+-- beside changes of other arguments
+
+put_in_kept : (g : Segment → Segment) → KeepsEach g → (new : List ℕ) (ss : List Segment) → Leaves new g → (args : List Segment) → put_in new ss (map g args) ≡ map g (put_in new ss args)
+put_in_kept g names new ss leaves args =
+    let put : Segment → Segment = λ a. with_value (edit_first_part (λ there. there ++ ss) (value a)) a in
+    taken (map g) (has_kept g names new args) (edit_one_kept g names new leaves put (λ a named. put_kept g new leaves _ a named) args) (append_kept g new leaves _ args)
+
+moved_kept : (g : Segment → Segment) → KeepsEach g → (home : Package) (old new : List ℕ) (chosen : Moved) → Leaves old g → Leaves new g → (args : List Segment)
+    → moved home old new chosen (map g args) ≡ map g (moved home old new chosen args)
+moved_kept g names home old new chosen leaves_old leaves_new args =
+    let ss : List Segment = arrivals home (elements_of (first_named new args)) (chosen_of home chosen (first_named old args)) in
+    let left : List Segment → List Segment = edit_first (is_named old) (filtered (unchosen home chosen)) in
+    let emptied : left (map g args) ≡ map g (left args) = edit_kept g names old leaves_old (filtered (unchosen home chosen)) (filtered_kept g (unchosen home chosen) old leaves_old) args in
+    rw (first_kept g names new leaves_new args, first_kept g names old leaves_old args) (ap (put_in new ss) emptied ∙ put_in_kept g names new ss leaves_new (left args))
+
+moves_kept : (g : Segment → Segment) → KeepsEach g → (home : Package) (old : List ℕ) (chosen : Moved) → Leaves old g → (args : List Segment) → moves home old chosen (map g args) ≡ moves home old chosen args
+moves_kept g names home old chosen leaves args = rw (first_kept g names old leaves args) refl
+
+note_move : (g : Segment → Segment) → KeepsEach g → (old new : List ℕ) → Leaves old g → Leaves new g → (args : List Segment) → move_note old new (map g args) ≡ move_note old new args
+note_move g names old new leaves_old leaves_new args = rw (has_kept g names old args, first_kept g names old leaves_old args, first_kept g names new leaves_new args) refl
+
+move_aside : (g : Segment → Segment) → KeepsEach g → (home : Package) (old new : List ℕ) (chosen : Moved) → Leaves old g → Leaves new g → (args : List Segment)
+    → move home old new chosen (map g args) ≡ map g (move home old new chosen args)
+move_aside g names home old new chosen leaves_old leaves_new args =
+    taken (map g) (ap is_some (note_move g names old new leaves_old leaves_new args)) refl
+    (taken (map g) (moves_kept g names home old chosen leaves_old args) (moved_kept g names home old new chosen leaves_old leaves_new args) refl)
+
 pub move_lawful : (home : Package) (old new : List ℕ) (chosen : Moved) → Lawful (Move old new chosen) home
 move_lawful home old new chosen = on_arguments (Move old new chosen) home (λ slot. refl) (λ slot. refl) (record {
   stays = λ args h. guarded_same (move_note old new args) (moves home old chosen args) (if moves home old chosen args then moved home old new chosen args else args) args (λ k. rw k refl) h;
@@ -100,4 +129,9 @@ move_lawful home old new chosen = on_arguments (Move old new chosen) home (λ sl
       let told = done_changed (move_note old new args) (moves home old chosen args) h in
       move_differs home old new chosen args (others old new chosen read) told.0 told.1 same;
   noted = λ args h. note_unchanged (move_note old new args) (moves home old chosen args) h;
+  aside = λ g aside args. let leaves = leaves_both aside old new (λ attr. refl) in move_aside g aside.names home old new chosen leaves.0 leaves.1 args;
+  told = λ g aside args.
+      let leaves = leaves_both aside old new (λ attr. refl) in
+      rw (note_move g aside.names old new leaves.0 leaves.1 args, moves_kept g aside.names home old chosen leaves.0 args) refl;
+  appends = tt;
 })

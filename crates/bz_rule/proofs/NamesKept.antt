@@ -4,8 +4,7 @@ use Rattle.bz_tree.specs.Tree.{Item, Segment}
 use Rattle.bz_attribute.specs.Rules.{first_named, is_named, is_text, name_in, name_of, string_in}
 use Rattle.bz_attribute.specs.Lists.{with_value}
 use Rattle.bz_attribute.specs.Effects.{argument, edit_first, has}
-use Rattle.bz_rule.proofs.Arguments.{attribute_named, name_put}
-use Rattle.bz_rule.proofs.Set.{same_bytes}
+use Rattle.bz_rule.proofs.Arguments.{attribute_named, name_put, same_bytes}
 
 abbrev pub KeepsEach : (Segment → Segment) → Type 0
 KeepsEach g = (a : Segment) → name_of (g a).nodes ≡ name_of a.nodes
@@ -77,3 +76,8 @@ pub append_kept : (g : Segment → Segment) (attr : List ℕ) → Leaves attr g 
     → map g args ++ argument attr nodes ∷ [] ≡ map g (args ++ argument attr nodes ∷ [])
 append_kept g attr leaves nodes [] = ap (λ (z : Segment). z ∷ []) (sym (leaves (argument attr nodes) (same_bytes attr)))
 append_kept g attr leaves nodes (a ∷ args) = ap (λ (zs : List Segment). g a ∷ zs) (append_kept g attr leaves nodes args)
+
+-- where each outcome of a test is f of another, the one that is taken is
+pub taken : (f : List Segment → List Segment) {now before : Bool} {xs ys ms ns : List Segment} → now ≡ before → xs ≡ f ms → ys ≡ f ns → (if now then xs else ys) ≡ f (if before then ms else ns)
+taken f {now} {before} {xs} {ys} {ms} {ns} test first second =
+    (λ i. if test i then first i else second i) ∙ elim before as (λ b. (if b then f ms else f ns) ≡ f (if b then ms else ns)) [ true ↦ refl | false ↦ refl ]

@@ -1,4 +1,4 @@
--- `remove` changes something exactly where it says so.
+-- What is owed of `remove`, which changes something exactly where it says so.
 use Rattle.std.proofs.Common.{◌≡◌, ℕ, List, [], ◌∷◌, Bool, true, false, ◌&&◌, not, if◌then◌else◌, Option, Some, None, map, filter, refl, ap, sym, ◌∙◌}
 use Rattle.std.specs.List.{list_any}
 use Rattle.std.proofs.lemmas.Bool.{or_parts, and_right}
@@ -9,11 +9,14 @@ use Rattle.bz_command.specs.Labels.{Package}
 use Rattle.bz_command.specs.Commands.{Remove, Attributes, Every, Named, Moved, Values}
 use Rattle.bz_attribute.specs.Rules.{is_named, first_named, value}
 use Rattle.bz_attribute.specs.Lists.{edit_parts, is_attribute, parts, with_value}
-use Rattle.bz_attribute.specs.Effects.{chooses, chooses_anywhere, chooses_in, filtered, filtered_everywhere, goes_with_all, has, is_chosen, is_nil, loses_all, remove, remove_values, removes, unchosen}
+use Rattle.bz_attribute.specs.Effects.{chooses, chooses_anywhere, chooses_in, done, filtered, filtered_everywhere, goes_with_all, has, is_chosen, is_nil, loses_all, remove, remove_values, removes, unchosen}
+use Rattle.bz_rule.specs.Aside.{IsAside}
 use Rattle.bz_rule.proofs.Kept.{all_stay, all_stay_in, none_left_in, none_passes, none_passes_in}
 use Rattle.bz_rule.proofs.PartLaws.{parts_edited, parts_stay}
-use Rattle.bz_rule.proofs.Arguments.{attribute_named, first_same, is_first_named, rest_same, value_back, value_put}
+use Rattle.bz_rule.proofs.Arguments.{attribute_named, first_same, is_first_named, rest_same, same_bytes, value_back, value_put}
 use Rattle.bz_rule.proofs.Lawful.{Lawful, on_arguments}
+use Rattle.bz_rule.proofs.NamesKept.{Leaves, edit_kept, filter_kept, first_kept, has_kept, named_kept, put_kept}
+use Rattle.bz_rule.proofs.Aside.{all_aside, leaves_all, leaves_mentioned}
 
 empty_or_not : (ss : List Segment) → not (is_nil ss) && is_nil ss ≡ false
 empty_or_not [] = refl
@@ -110,9 +113,31 @@ remove_differs home Every (v ∷ values) args h same =
 remove_differs home (Named attr) [] args h same = let none : has attr args ≡ false = none_passes (is_named attr) args same in cc
 remove_differs home (Named attr) (v ∷ values) args h same = values_differ home attr (v ∷ values) args (first_named attr args) refl h same
 
+-- beside changes of other arguments
+
+pub filtered_kept : (g : Segment → Segment) (f : List Segment → List Segment) (attr : List ℕ) → Leaves attr g → (a : Segment) → is_named attr a ≡ true → map g (filtered f a) ≡ filtered f a
+filtered_kept g f attr leaves a named =
+    elim (loses_all f (value a)) as (λ b. let new : List Segment = if b then [] else with_value (edit_parts f (value a)) a ∷ [] in map g new ≡ new)
+    [ true ↦ refl | false ↦ ap (λ (z : Segment). z ∷ []) (put_kept g attr leaves (edit_parts f (value a)) a named) ]
+
+remove_aside : (home : Package) (attrs : Attributes) (values : List (List ℕ)) (g : Segment → Segment) → IsAside (Remove attrs values) g → (args : List Segment) → remove home attrs values (map g args) ≡ map g (remove home attrs values args)
+remove_aside home Every values g aside args = all_aside aside (λ attr. refl) (remove home Every values) args
+remove_aside home (Named attr) [] g aside args = filter_kept g (λ a. not (is_named attr a)) (λ a. ap not (named_kept g aside.names attr a)) args
+remove_aside home (Named attr) (v ∷ values) g aside args =
+    let leaves = leaves_mentioned aside attr (same_bytes attr) in
+    edit_kept g aside.names attr leaves (filtered (unchosen home (Values (v ∷ values)))) (filtered_kept g (unchosen home (Values (v ∷ values))) attr leaves) args
+
+remove_told : (home : Package) (attrs : Attributes) (values : List (List ℕ)) (g : Segment → Segment) → IsAside (Remove attrs values) g → (args : List Segment) → removes home attrs values (map g args) ≡ removes home attrs values args
+remove_told home Every values g aside args = ap (removes home Every values) (leaves_all aside (λ attr. refl) args)
+remove_told home (Named attr) [] g aside args = has_kept g aside.names attr args
+remove_told home (Named attr) (v ∷ values) g aside args = rw (first_kept g aside.names attr (leaves_mentioned aside attr (same_bytes attr)) args) refl
+
 pub remove_lawful : (home : Package) (attrs : Attributes) (values : List (List ℕ)) → Lawful (Remove attrs values) home
 remove_lawful home attrs values = on_arguments (Remove attrs values) home (λ slot. refl) (λ slot. refl) (record {
   stays = λ args h. remove_stays home attrs values args h;
   differs = λ read args h same. remove_differs home attrs values args h same;
   noted = λ args h. absurd cc;
+  aside = λ g aside args. remove_aside home attrs values g aside args;
+  told = λ g aside args. ap (done None) (remove_told home attrs values g aside args);
+  appends = tt;
 })

@@ -1,16 +1,18 @@
--- `rename` changes something exactly where it tells nothing.
-use Rattle.std.proofs.Common.{◌≡◌, ℕ, List, [], ◌∷◌, true, false, ◌||◌, Some, None, refl, ap, ◌∙◌, if◌then◌else◌, codes}
+-- What is owed of `rename`, which changes something exactly where it tells nothing.
+use Rattle.std.proofs.Common.{◌≡◌, ℕ, List, [], ◌∷◌, true, false, ◌||◌, Some, None, map, is_some, refl, ap, ◌∙◌, if◌then◌else◌, codes}
 use Rattle.std.proofs.lemmas.Bool.{or_right}
 use Rattle.bz_tree.specs.Tree.{Item, Segment}
-use Rattle.bz_rule.proofs.Set.{same_bytes}
 use Rattle.bz_attribute.specs.Rules.{ident_of, is_named, is_operator_item, is_text, name_of}
 use Rattle.bz_attribute.specs.Effects.{edit_first, has, rename, rename_note, rename_to, renamed}
 use Rattle.bz_attribute.specs.declared.done.Note.TheVariants.{AttributeExists, NoAttribute}
 use Rattle.bz_command.specs.Commands.{Rename}
 use Rattle.bz_command.specs.Labels.{Package}
 use Rattle.bz_rule.proofs.Lawful.{Lawful, done_changed, guarded_same, note_unchanged, on_arguments}
+use Rattle.bz_rule.proofs.Arguments.{same_bytes}
+use Rattle.bz_rule.proofs.NamesKept.{KeepsEach, Leaves, edit_one_kept, has_kept, taken}
+use Rattle.bz_rule.proofs.Aside.{leaves_both}
 
-pub named_now : (old new : List ℕ) (xs : List Item) → is_text old (name_of xs) ≡ true → is_text new (name_of (renamed new xs)) ≡ true
+named_now : (old new : List ℕ) (xs : List Item) → is_text old (name_of xs) ≡ true → is_text new (name_of (renamed new xs)) ≡ true
 named_now old new [] h = absurd cc
 named_now old new (x ∷ []) h = absurd cc
 named_now old new (x ∷ y ∷ xs) h =
@@ -40,9 +42,22 @@ rename_differs old new args quiet same =
       | false ↦ λ absent q. cc
     ] refl quiet
 
+-- beside changes of other arguments
+
+note_rename : (g : Segment → Segment) → KeepsEach g → (old new : List ℕ) (args : List Segment) → rename_note old new (map g args) ≡ rename_note old new args
+note_rename g names old new args = rw (has_kept g names old args, has_kept g names new args) refl
+
+rename_aside : (g : Segment → Segment) → KeepsEach g → (old new : List ℕ) → Leaves old g → Leaves new g → (args : List Segment) → rename old new (map g args) ≡ map g (rename old new args)
+rename_aside g names old new leaves_old leaves_new args =
+    taken (map g) (ap is_some (note_rename g names old new args)) refl
+    (edit_one_kept g names old leaves_old (rename_to new) (λ a named. leaves_new (rename_to new a) (named_now old new a.nodes named)) args)
+
 pub rename_lawful : (home : Package) (old new : List ℕ) → Lawful (Rename old new) home
 rename_lawful home old new = on_arguments (Rename old new) home (λ slot. refl) (λ slot. refl) (record {
   stays = λ args h. guarded_same (rename_note old new args) true _ args (λ k. absurd cc) h;
   differs = λ read args h same. rename_differs old new args (done_changed (rename_note old new args) true h).0 same;
   noted = λ args h. note_unchanged (rename_note old new args) true h;
+  aside = λ g aside args. let leaves = leaves_both aside old new (λ attr. refl) in rename_aside g aside.names old new leaves.0 leaves.1 args;
+  told = λ g aside args. rw (note_rename g aside.names old new args) refl;
+  appends = tt;
 })

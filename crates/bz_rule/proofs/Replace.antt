@@ -1,4 +1,4 @@
--- A replacement changes something where an element equals `old` and is not exactly `new`: afterwards there is none.
+-- What is owed of `replace`: it changes something where an element equals `old` and is not exactly `new`, and afterwards there is none.
 use Rattle.std.proofs.Common.{◌≡◌, ℕ, List, [], ◌∷◌, Bool, true, false, not, ◌&&◌, ◌||◌, Option, Some, None, option_map, map, if◌then◌else◌, refl, ap, sym, ◌∙◌, inl, inr}
 use Rattle.std.specs.List.{list_any}
 use Rattle.std.proofs.lemmas.Bool.{cases_Bool, or_parts}
@@ -8,12 +8,15 @@ use Rattle.bz_command.specs.Labels.{Package}
 use Rattle.bz_command.specs.Commands.{Replace, Attributes, Every, Named}
 use Rattle.bz_attribute.specs.Rules.{is_named, is_text, first_named, string_value, value}
 use Rattle.bz_attribute.specs.Lists.{edit_parts, equals, is_attribute, parts, with_value}
-use Rattle.bz_attribute.specs.Effects.{edit_first, string_item}
+use Rattle.bz_attribute.specs.Effects.{done, edit_first, string_item}
 use Rattle.bz_attribute.specs.Replacing.{is_replaced, replaced, replaced_in, replace, replaces, replaces_first, replaces_in}
 use Rattle.bz_command.proofs.ReadBack.{quoted_value}
-use Rattle.bz_rule.proofs.Arguments.{attribute_named, first_after, is_first_named, name_put, rest_same, value_back, value_put}
+use Rattle.bz_rule.specs.Aside.{IsAside}
+use Rattle.bz_rule.proofs.Arguments.{attribute_named, first_after, is_first_named, name_put, rest_same, same_bytes, value_back, value_put}
 use Rattle.bz_rule.proofs.Lawful.{Lawful, on_arguments}
 use Rattle.bz_rule.proofs.PartLaws.{parts_edited, parts_stay}
+use Rattle.bz_rule.proofs.NamesKept.{edit_one_kept, first_kept, put_kept}
+use Rattle.bz_rule.proofs.Aside.{all_aside, leaves_all, leaves_mentioned}
 
 -- an element that was replaced is exactly `new`
 settled : (home : Package) (old new : List ℕ) (s : Segment) → is_replaced home old new (replaced home old new s) ≡ false
@@ -115,9 +118,24 @@ replace_stays : (home : Package) (attrs : Attributes) (old new : List ℕ) (args
 replace_stays home (Named attr) old new args h = first_stays home attr old new args h
 replace_stays home Every old new args h = every_stays home old new args h
 
+-- beside changes of other arguments
+
+replace_aside : (home : Package) (attrs : Attributes) (old new : List ℕ) (g : Segment → Segment) → IsAside (Replace attrs old new) g → (args : List Segment) → replace home attrs old new (map g args) ≡ map g (replace home attrs old new args)
+replace_aside home Every old new g aside args = all_aside aside (λ attr. refl) (replace home Every old new) args
+replace_aside home (Named attr) old new g aside args =
+    let leaves = leaves_mentioned aside attr (same_bytes attr) in
+    edit_one_kept g aside.names attr leaves (replaced_in home old new) (λ a named. put_kept g attr leaves _ a named) args
+
+replace_told : (home : Package) (attrs : Attributes) (old new : List ℕ) (g : Segment → Segment) → IsAside (Replace attrs old new) g → (args : List Segment) → replaces home attrs old new (map g args) ≡ replaces home attrs old new args
+replace_told home Every old new g aside args = ap (replaces home Every old new) (leaves_all aside (λ attr. refl) args)
+replace_told home (Named attr) old new g aside args = rw (first_kept g aside.names attr (leaves_mentioned aside attr (same_bytes attr)) args) refl
+
 pub replace_lawful : (home : Package) (attrs : Attributes) (old new : List ℕ) → Lawful (Replace attrs old new) home
 replace_lawful home attrs old new = on_arguments (Replace attrs old new) home (λ slot. refl) (λ slot. refl) (record {
   stays = λ args h. replace_stays home attrs old new args h;
   differs = λ read args h same. replace_differs home attrs old new args h same;
   noted = λ args h. absurd cc;
+  aside = λ g aside args. replace_aside home attrs old new g aside args;
+  told = λ g aside args. ap (done None) (replace_told home attrs old new g aside args);
+  appends = tt;
 })

@@ -1,26 +1,27 @@
--- What `set`, `set_if_absent` and `set kind` change.
-use Rattle.std.proofs.Common.{◌≡◌, ℕ, ◌==◌, List, [], ◌∷◌, ◌++◌, true, false, not, Option, None, Some, option_map, is_some, length, map, refl, ap, sym, ◌∙◌, arith, length-append, append-nil}
+-- What is owed of `set`, `set_if_absent` and `set kind`.
+use Rattle.std.proofs.Common.{◌≡◌, ℕ, ◌==◌, List, [], ◌∷◌, ◌++◌, Bool, true, false, not, ◌||◌, Option, None, Some, option_map, is_some, length, map, if◌then◌else◌, refl, ap, sym, ◌∙◌, arith, length-append, append_assoc, append-nil}
 use Rattle.std.specs.Prelude.{bytes_eq}
-use Rattle.std.specs.List.{slice_split, join_with_byte}
+use Rattle.std.specs.List.{slice_split, join_with_byte, list_any}
 use Rattle.std.proofs.lemmas.Bool.{not-true, not-false}
 use Rattle.std.proofs.lemmas.Grind.{flat_map-append}
 use Rattle.std.proofs.lemmas.List.Splits.{join_with_byte-slice_split}
-use Rattle.std.proofs.lemmas.Slice.Eq.{bytes_eq-Decides}
+use Rattle.std.proofs.lemmas.List.Folds.{list_any-append}
 use Rattle.bz_tree.specs.declared.stmt.GroupKind.TheVariants.{RuleCall}
 use Rattle.bz_tree.specs.Tree.{Item, group, Segment, Statement, segs_of}
 use Rattle.bz_attribute.specs.Rules.{Rule, rule_of, written, kind_text, is_named, first_named, value}
-use Rattle.bz_attribute.specs.Effects.{argument, edit_first, has, holds_rule, nodes_of, string}
+use Rattle.bz_attribute.specs.Effects.{argument, done, edit_first, has, holds_rule, nodes_of, string}
 use Rattle.bz_attribute.specs.Setting.{New, NewString, NewNumber, NewConstant, NewStrings, new_of, new_value, are_strings, is_value, set_in, set, sets, set_if_absent, joined_by_dots, kind_items, kind_after, with_kind, sets_kind, sets_kind_of}
 use Rattle.bz_attribute.proofs.Views.{segments_of}
 use Rattle.bz_command.proofs.ReadBack.{quoted_value}
 use Rattle.bz_attribute.proofs.RuleNodes.{rule_nodes}
 use Rattle.bz_command.specs.Commands.{Set, SetIfAbsent, Setting, ToKind, ToValues}
 use Rattle.bz_command.specs.Labels.{Package}
-use Rattle.bz_rule.proofs.Arguments.{attribute_named, first_same, has_first, is_first_named, rest_same, value_put}
+use Rattle.bz_attribute.specs.Lists.{with_value}
+use Rattle.bz_rule.proofs.Arguments.{attribute_named, first_same, has_first, is_first_named, rest_same, same_bytes, value_put}
 use Rattle.bz_rule.proofs.Lawful.{Lawful, on_arguments}
-
-pub same_bytes : (bytes : List ℕ) → bytes_eq bytes bytes ≡ true
-same_bytes bytes = (bytes_eq-Decides bytes bytes).1 refl
+use Rattle.bz_rule.proofs.NamesKept.{KeepsEach, Leaves, append_kept, edit_one_kept, first_kept, has_kept, put_kept, taken}
+use Rattle.bz_rule.proofs.Aside.{leaves_mentioned}
+use Rattle.bz_rule.proofs.Rebuilt.{kind_told, slot_kind_exchanged}
 
 -- what is written is what was meant
 
@@ -103,6 +104,50 @@ set_if_absent_differs attr words args h same =
     let added : set_if_absent attr words args ≡ args ++ argument attr (new_value (new_of attr words None)) ∷ [] = rw absent refl in
     longer args (argument attr (new_value (new_of attr words None))) (sym added ∙ same)
 
+-- beside changes of other arguments
+
+set_in_kept : (g : Segment → Segment) (attr : List ℕ) (new : New) → Leaves attr g → (a : Segment) → is_named attr a ≡ true → g (set_in new a) ≡ set_in new a
+set_in_kept g attr new leaves a named =
+    elim (is_value new (value a)) as (λ b. let is : Segment = if b then a else with_value (new_value new) a in g is ≡ is)
+    [ true ↦ leaves a named | false ↦ put_kept g attr leaves (new_value new) a named ]
+
+set_aside : (g : Segment → Segment) → KeepsEach g → (attr : List ℕ) (values : List (List ℕ)) → Leaves attr g → (args : List Segment) → set attr values (map g args) ≡ map g (set attr values args)
+set_aside g names attr values leaves args =
+    let new : New = new_of attr values (first_named attr args) in
+    rw (first_kept g names attr leaves args)
+    (taken (map g) (has_kept g names attr args) (edit_one_kept g names attr leaves (set_in new) (set_in_kept g attr new leaves) args) (append_kept g attr leaves (new_value new) args))
+
+set_if_absent_aside : (g : Segment → Segment) → KeepsEach g → (attr : List ℕ) (values : List (List ℕ)) → Leaves attr g → (args : List Segment) → set_if_absent attr values (map g args) ≡ map g (set_if_absent attr values args)
+set_if_absent_aside g names attr values leaves args = taken (map g) (has_kept g names attr args) refl (append_kept g attr leaves _ args)
+
+-- after arguments of other names
+
+first_after : (name : List ℕ) (args more : List Segment) → has name args ≡ false → first_named name (args ++ more) ≡ first_named name more
+first_after name [] more h = refl
+first_after name (x ∷ args) more h =
+    elim (is_named name x) as (λ b. b || list_any (is_named name) args ≡ false → (if b then Some x else first_named name (args ++ more)) ≡ first_named name more)
+    [ true ↦ λ e. absurd cc | false ↦ λ e. first_after name args more e ] h
+
+has_after : (name : List ℕ) (args more : List Segment) → has name args ≡ false → has name (args ++ more) ≡ has name more
+has_after name args more h = list_any-append (is_named name) args more ∙ ap (λ (b : Bool). b || has name more) h
+
+edit_after : (name : List ℕ) (f : Segment → List Segment) (args more : List Segment) → has name args ≡ false
+    → edit_first (is_named name) f (args ++ more) ≡ args ++ edit_first (is_named name) f more
+edit_after name f [] more h = refl
+edit_after name f (x ∷ args) more h =
+    elim (is_named name x) as (λ b. b || list_any (is_named name) args ≡ false → (if b then f x ++ (args ++ more) else x ∷ edit_first (is_named name) f (args ++ more)) ≡ x ∷ (args ++ edit_first (is_named name) f more))
+    [ true ↦ λ e. absurd cc | false ↦ λ e. ap (λ (ss : List Segment). x ∷ ss) (edit_after name f args more e) ] h
+
+set_after : (attr : List ℕ) (words : List (List ℕ)) (args more : List Segment) → has attr args ≡ false → set attr words (args ++ more) ≡ args ++ set attr words more
+set_after attr words args more h =
+    let new : New = new_of attr words (first_named attr more) in
+    rw (first_after attr args more h)
+    (taken (λ ss. args ++ ss) (has_after attr args more h) (edit_after attr (λ a. set_in new a ∷ []) args more h) (append_assoc args more (argument attr (new_value new) ∷ [])))
+
+set_if_absent_after : (attr : List ℕ) (words : List (List ℕ)) (args more : List Segment) → has attr args ≡ false
+    → set_if_absent attr words (args ++ more) ≡ args ++ set_if_absent attr words more
+set_if_absent_after attr words args more h = taken (λ ss. args ++ ss) (has_after attr args more h) refl (append_assoc args more _)
+
 -- `set kind`
 
 joined_text : (names : List (List ℕ)) → kind_text (joined_by_dots names) ≡ join_with_byte 46 names
@@ -156,11 +201,22 @@ set_lawful home (ToKind kind) = record {
   differs = λ read slot h same. set_kind_differs kind slot h same;
   noted = λ slot h. kind_noted kind slot h;
   no_rule = λ slot h. kind_no_rule kind slot h;
+  aside = λ g aside slot. slot_kind_exchanged kind (map g) slot;
+  told = λ g aside slot. kind_told kind (map g) slot;
+  appends = tt;
 }
 set_lawful home (ToValues attr words) = on_arguments (Set (ToValues attr words)) home (λ slot. refl) (λ slot. refl) (record {
   stays = λ args h. set_stays attr words args h;
   differs = λ read args h same. set_differs attr words args h same;
   noted = λ args h. absurd cc;
+  aside = λ g aside args. set_aside g aside.names attr words (leaves_mentioned aside attr (same_bytes attr)) args;
+  told = λ g aside args. rw (first_kept g aside.names attr (leaves_mentioned aside attr (same_bytes attr)) args) refl;
+  appends = record {
+    args = λ args more h. set_after attr words args more h;
+    told = λ args more h. ap (λ (o : Option Segment). done None (sets attr words o)) (first_after attr args more h);
+    slot = λ s. refl;
+    done = λ s. refl;
+  };
 })
 
 pub set_if_absent_lawful : (home : Package) (attr : List ℕ) (words : List (List ℕ)) → Lawful (SetIfAbsent attr words) home
@@ -168,4 +224,12 @@ set_if_absent_lawful home attr words = on_arguments (SetIfAbsent attr words) hom
   stays = λ args h. set_if_absent_stays attr words args h;
   differs = λ read args h same. set_if_absent_differs attr words args h same;
   noted = λ args h. absurd cc;
+  aside = λ g aside args. set_if_absent_aside g aside.names attr words (leaves_mentioned aside attr (same_bytes attr)) args;
+  told = λ g aside args. rw (has_kept g aside.names attr args) refl;
+  appends = record {
+    args = λ args more h. set_if_absent_after attr words args more h;
+    told = λ args more h. ap (λ (b : Bool). done None (not b)) (has_after attr args more h);
+    slot = λ s. refl;
+    done = λ s. refl;
+  };
 })

@@ -13,9 +13,8 @@ use Rattle.bz_attribute.specs.Effects.{add, chooses, chooses_in, fresh, has, is_
 use Rattle.bz_attribute.specs.declared.done.Note.TheVariants.{NotAList}
 use Rattle.bz_attribute.proofs.Views.{segments_of}
 use Rattle.bz_rule.proofs.PartLaws.{edit_head}
-use Rattle.bz_rule.proofs.Arguments.{attribute_named, first_after, has_first, is_first_named, name_put}
+use Rattle.bz_rule.proofs.Arguments.{attribute_named, first_after, has_first, is_first_named, name_put, same_bytes}
 use Rattle.bz_rule_laws.proofs.Likeness.{all_follow, chosen_alike, in_full, same_self, strings_chosen, or_none}
-use Rattle.bz_rule.proofs.Set.{same_bytes}
 use Rattle.bz_rule.proofs.Add.{add_kept, added_nothing, new_argument, parts_with}
 
 -- an element of some lists equals the word

@@ -11,7 +11,7 @@ use Rattle.bz_attribute.specs.Rules.{string_value}
 use Rattle.bz_attribute.specs.Lists.{same, same_value}
 use Rattle.bz_attribute.specs.Effects.{is_chosen, string}
 use Rattle.bz_command.proofs.ReadBack.{quoted_value}
-use Rattle.bz_rule.proofs.Set.{same_bytes}
+use Rattle.bz_rule.proofs.Arguments.{same_bytes}
 
 pub same_self : (home : Package) (v : List ℕ) → same home v v ≡ true
 same_self home v = same_bytes (completed home v)

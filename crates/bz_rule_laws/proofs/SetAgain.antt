@@ -10,8 +10,8 @@ use Rattle.bz_attribute.specs.Effects.{argument, edit_first, nodes_of, string}
 use Rattle.bz_attribute.specs.Setting.{New, NewStrings, is_list_attribute, is_number, is_constant, new_word, is_one_list, holds_list, new_of, new_value, is_value, set_in, set, sets, joined_by_dots, kind_items, kind_after, with_kind, sets_kind, sets_kind_of}
 use Rattle.bz_attribute.proofs.Calls.{rule_from_end}
 use Rattle.bz_command.proofs.Cuts.{some_part}
-use Rattle.bz_rule.proofs.Arguments.{attribute_named, first_after, is_first_named, name_put}
-use Rattle.bz_rule.proofs.Set.{in_stays, in_value, is_written, kind_read, same_bytes, set_absent, set_present}
+use Rattle.bz_rule.proofs.Arguments.{attribute_named, first_after, is_first_named, name_put, same_bytes}
+use Rattle.bz_rule.proofs.Set.{in_stays, in_value, is_written, kind_read, set_absent, set_present}
 use Rattle.bz_rule_laws.proofs.Found.{first_at_end}
 
 in_named : (attr : List ℕ) (new : New) (a : Segment) → is_named attr a ≡ true → is_named attr (set_in new a) ≡ true

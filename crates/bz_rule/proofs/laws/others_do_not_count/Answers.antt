@@ -1,4 +1,4 @@
-use Rattle.bz_rule.proofs.AsideCommands.{after_aside, done_aside}
+use Rattle.bz_rule.proofs.Commands.{after_aside, done_aside}
 use Rattle.bz_rule.proofs.laws.others_do_not_count.Goals as goal
 
 pub returns-clause-after : goal.returns-clause-after

@@ -1,4 +1,4 @@
-use Rattle.bz_rule.proofs.AsideCommands.{marks_kept, shown_kept}
+use Rattle.bz_rule.proofs.AsideTargets.{marks_kept, shown_kept}
 use Rattle.bz_rule.proofs.laws.targets_look_at_names.Goals as goal
 
 pub returns-clause-marks : goal.returns-clause-marks

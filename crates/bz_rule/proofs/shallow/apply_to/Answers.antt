@@ -5,7 +5,7 @@ use Rattle.bz_tree.specs.View.{view}
 use Rattle.bz_rule.specs.Applied.{after, done_of}
 use Rattle.bz_rule.specs.Shallow.{filled, whole}
 use Rattle.bz_rule.specs.private.Hollow.{all_apart}
-use Rattle.bz_rule.proofs.AsideCommands.{after_aside, done_aside}
+use Rattle.bz_rule.proofs.Commands.{after_aside, done_aside}
 use Rattle.bz_rule.proofs.PutBack.{is_aside}
 use Rattle.bz_rule.proofs.shallow.apply_to.Goals as goal
 

@@ -4,7 +4,7 @@ use Rattle.bz_tree.specs.View.{view}
 use Rattle.bz_attribute.specs.Marks.{marks}
 use Rattle.bz_rule.specs.Shallow.{filled}
 use Rattle.bz_rule.specs.private.Hollow.{all_apart}
-use Rattle.bz_rule.proofs.AsideCommands.{marks_kept}
+use Rattle.bz_rule.proofs.AsideTargets.{marks_kept}
 use Rattle.bz_rule.proofs.PutBack.{keeps_names}
 use Rattle.bz_rule.proofs.shallow.ShallowStmt.is_marked_by.Goals as goal
 

@@ -5,7 +5,7 @@ use Rattle.bz_command.specs.Labels.{Name}
 use Rattle.bz_attribute.specs.Marks.{marks}
 use Rattle.bz_rule.specs.Shallow.{filled, whole}
 use Rattle.bz_rule.specs.private.Hollow.{all_apart}
-use Rattle.bz_rule.proofs.AsideCommands.{marks_kept}
+use Rattle.bz_rule.proofs.AsideTargets.{marks_kept}
 use Rattle.bz_rule.proofs.PutBack.{keeps_names, named_alike}
 use Rattle.bz_rule.proofs.shallow.ShallowStmt.rule_name.Goals as goal
 

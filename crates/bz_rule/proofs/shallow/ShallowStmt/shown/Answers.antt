@@ -5,7 +5,7 @@ use Rattle.bz_tree.specs.View.{view}
 use Rattle.bz_attribute.specs.Texts.{shown_text}
 use Rattle.bz_rule.specs.Shallow.{filled}
 use Rattle.bz_rule.specs.private.Hollow.{all_apart}
-use Rattle.bz_rule.proofs.AsideCommands.{shown_kept}
+use Rattle.bz_rule.proofs.AsideTargets.{shown_kept}
 use Rattle.bz_rule.proofs.PutBack.{keeps_names}
 use Rattle.bz_rule.proofs.shallow.ShallowStmt.shown.Goals as goal
 
