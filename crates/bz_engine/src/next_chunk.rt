@@ -1,6 +1,6 @@
 //! The script on the chunk that is found next.
 
-ghost use Rattle.std.specs.Prelude.{◌≡◌, ℕ, ◌+◌, ◌<◌, ◌≤◌, ◌^◌, List, length, map, IfOk, OnOk, IfSome, IfNone};
+ghost use Rattle.std.specs.Prelude.{◌≡◌, ℕ, ◌+◌, ◌<◌, ◌≤◌, ◌^◌, ◌∷◌, List, length, map, IfOk, OnOk, IfSome, IfNone, IsTrue};
 ghost use Rattle.bz_token.specs.Places.{placed};
 ghost use Rattle.bz_token.specs.Reading.{AreTokensOf};
 ghost use Rattle.bz_tree.specs.Tree.{Statement};
@@ -43,8 +43,16 @@ pub(crate) fn edit_first(
     ensures none { IfOk result (λ found. IfNone found
         ((progress.new ≡ progress.old) × (text.new.items ≡ text.old.items))) }
 {
+    let text_ahead = ahead.text();
+    if begins_blank(text_ahead) && 0 < max_statement {
+        progress.line += 1;
+        return Ok(Some(NextChunk {
+            len: 1,
+            edited: Edited::Done,
+        }));
+    }
     let line = progress.line;
-    let Some(chunk) = first_chunk(script.alloc, ahead.text(), line, script.max_depth)? else {
+    let Some(chunk) = first_chunk(script.alloc, text_ahead, line, script.max_depth)? else {
         return Ok(None);
     };
     let len = chunk.text.len();
@@ -53,6 +61,13 @@ pub(crate) fn edit_first(
     }
     let edited = edit_tokens(script, chunk.text, &chunk.tokens, progress, text)?;
     Ok(Some(NextChunk { len, edited }))
+}
+
+/// Whether the text begins with an empty line, which is a chunk.
+fn begins_blank(text: &str) -> bool
+    ensures { IsTrue result → (rest : List ℕ) × (text.now ≡ 10 ∷ rest) }
+{
+    matches!(text.as_bytes(), [b'\n', ..])
 }
 
 /// The script on the chunk that has these tokens.
