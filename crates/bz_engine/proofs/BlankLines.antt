@@ -1,20 +1,17 @@
 -- An empty line is a chunk, and no statement stands in it.
-use Rattle.std.proofs.Common.{◌≡◌, ℕ, false, zero, suc, ◌+◌, ◌≤◌, Bool, List, [], ◌∷◌, length, take, refl, sym, ap, subst, arith}
+use Rattle.std.proofs.Common.{◌≡◌, ℕ, false, zero, suc, ◌+◌, ◌≤◌, Bool, List, [], ◌∷◌, length, take, refl, ap, subst, arith}
 use Rattle.std.specs.Prelude.{None, Ok}
 use Rattle.std.specs.Str.{IsUtf8}
 use Rattle.bz_token.specs.Cuts.{IsChunk}
 use Rattle.bz_token.specs.declared.token.Kind.TheVariants.{Newline}
 use Rattle.std.proofs.lemmas.Str.{IsUtf8-encode, encode_ascii}
-use Rattle.bz_token.specs.Groups.{grouped}
-use Rattle.bz_token.specs.LogicalLines.{Line, lines}
-use Rattle.bz_token.specs.Pieces.{pieces}
 use Rattle.bz_token.specs.Reading.{Piece, tokens_of}
 use Rattle.bz_token.specs.declared.cutter.scan.LineKind.TheVariants.{Blank}
 use Rattle.bz_token.proofs.ChunkForms.{statement_chunk}
 use Rattle.bz_token.proofs.Ends.{line_token}
 use Rattle.bz_tree.specs.Chunk.{IsBlank}
 use Rattle.bz_command.specs.Labels.{Package}
-use Rattle.bz_devices.specs.Ahead.{Ahead, IsNextChunk}
+use Rattle.bz_devices.specs.Ahead.{Ahead}
 use Rattle.bz_engine.specs.File.{Gives}
 use Rattle.bz_engine.specs.Outcome.{Script}
 use Rattle.bz_engine.specs.Progress.{Progress}
