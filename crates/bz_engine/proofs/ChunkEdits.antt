@@ -1,5 +1,5 @@
 -- What is kept of the chunks that are done, with one chunk more.
-use Rattle.std.proofs.Common.{◌≡◌, ℕ, ◌+◌, ◌==◌, count_by, Bool, false, List, [], ◌∷◌, ◌++◌, sym, ◌∙◌, ap, subst, append-nil}
+use Rattle.std.proofs.Common.{◌≡◌, ℕ, Bool, false, List, [], ◌∷◌, ◌++◌, sym, ◌∙◌, ap, subst, append-nil}
 use Rattle.std.specs.Prelude.{None, Some, Ok, if◌then◌else◌}
 use Rattle.bz_token.specs.Places.{line_at}
 use Rattle.bz_tree.specs.Tree.{Statement}
@@ -11,13 +11,15 @@ use Rattle.bz_engine.specs.Outcome.{Script, slots_of, is_query}
 use Rattle.bz_command.specs.Passes.{slots_after}
 use Rattle.bz_engine.specs.Progress.{Progress, IsKeptOf, last_class, text_following}
 use Rattle.bz_engine.specs.declared.edit.Edited.{Edited}
-use Rattle.bz_engine.specs.declared.edit.Edited.TheVariants.{Done, Faulty, Failed}
+use Rattle.bz_engine.specs.declared.edit.Edited.TheVariants.{Done}
+use Rattle.bz_engine.specs.declared.edit.Scripted.{Scripted}
+use Rattle.bz_engine.specs.declared.edit.Scripted.TheVariants as scripts
 use Rattle.bz_engine.specs.private.Rows.{IsPassedRow}
 use Rattle.bz_tree.specs.Rows.{IsRowOf}
 use Rattle.bz_tree.specs.declared.row.Row.{Row}
 use Rattle.std.specs.Str.{IsUtf8}
 use Rattle.bz_command.specs.Passes.{Slot}
-use Rattle.bz_engine.specs.private.Edits.{IsDone, IsLaidOut, IsScripted, IsEdited}
+use Rattle.bz_engine.specs.private.Edits.{IsDone, IsLaidOut, IsScripted, IsEdited, edited_of}
 use Rattle.bz_passes.proofs.ExchangeLaw.{map_more}
 use Rattle.bz_engine.proofs.Given.{give_blank, give_statement, line_following}
 use Rattle.bz_engine.proofs.MoreText.{text_after_more, last_after_more, text_after_none}
@@ -106,15 +108,14 @@ passed_edited home passes keep_going depth cs ss chunk row old mid new before af
 
 -- what the script on a statement made of its chunk
 pub scripted_edited : (home : Package) (passes : Script) (keep_going : Bool) (depth : ℕ) (cs : List (List ℕ)) (ss : List Statement) (chunk : List ℕ) (s : Statement)
-    (old mid new : Progress) (before after : List ℕ) (edited : Edited)
+    (old mid new : Progress) (before after : List ℕ) (scripted : Scripted)
     → IsKeptOf home passes depth cs ss old → Gives depth old.line chunk (Ok (Some s))
-    → IsScripted home passes keep_going s old mid before after edited
+    → IsScripted home passes keep_going s old mid before after scripted
     → new ≡ record mid { line = line_at mid.line chunk }
-    → IsEdited home passes keep_going depth cs ss chunk old new before after edited
-scripted_edited home passes keep_going depth cs ss chunk s old mid new before after Done kept gives laid is =
+    → IsEdited home passes keep_going depth cs ss chunk old new before after (edited_of scripted)
+scripted_edited home passes keep_going depth cs ss chunk s old mid new before after scripts.Done kept gives laid is =
     statement_done home passes keep_going depth cs ss chunk s old mid new before after kept gives laid is
-scripted_edited home passes keep_going depth cs ss chunk s old mid new before after (Faulty fault) kept gives none is = absurd none
-scripted_edited home passes keep_going depth cs ss chunk s old mid new before after (Failed message) kept gives ended is = record {
+scripted_edited home passes keep_going depth cs ss chunk s old mid new before after (scripts.Failed message) kept gives ended is = record {
   ends = ended.ends;
   statement = s;
   read = gives;
@@ -135,9 +136,5 @@ blank_edited home passes keep_going depth cs ss chunk old new before after edite
     (blank_done home passes keep_going depth cs ss chunk old new before kept gives is))
 
 -- the line after the chunk
-pub line_moved : (p q : Progress) (n : ℕ) (chunk : List ℕ) → p ≡ q → n ≡ count_by (λ b. b == 10) chunk
-    → (let moved : Progress = record p { line = p.line + n } in moved) ≡ record q { line = line_at q.line chunk }
-line_moved p q n chunk same is =
-    let at : ℕ → Progress = λ m. record p { line = p.line + m } in
-    let after : Progress → Progress = λ r. record r { line = line_at r.line chunk } in
-    ap at is ∙ ap after same
+abbrev pub line_passed : List ℕ → Progress → Progress
+line_passed chunk p = record p { line = line_at p.line chunk }

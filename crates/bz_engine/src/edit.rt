@@ -12,12 +12,15 @@ ghost use Rattle.bz_passes.specs.Exchange.{Fits, log_alone};
 ghost use Rattle.bz_engine.specs.Outcome.{is_query, gap_text, failure_text, first_of};
 ghost use Rattle.bz_engine.specs.Progress.{IsKeptOf, last_class, text_following};
 ghost use Rattle.bz_engine.specs.private.ChunkRead.{IsReadAs};
-ghost use Rattle.bz_engine.specs.private.Edits.{IsEdited, IsScripted};
+ghost use Rattle.bz_engine.specs.private.Edits.{IsEdited, IsScripted, edited_of};
+ghost use Rattle.bz_engine.specs.private.Rows.{IsStatementRow};
+ghost use Rattle.std.specs.Str.{IsUtf8};
 
-use crate::chunk::{ChunkRead, newlines};
+use crate::chunk::ChunkRead;
 use crate::entry::Entry;
 use crate::progress::Progress;
 use crate::report::SyntaxFault;
+use crate::row::is_passed_by;
 use crate::rule_passes::RulePasses;
 use crate::rules::Rules;
 use bz_layout::{blank_between, put_row};
@@ -51,6 +54,24 @@ pub(crate) enum Edited {
     Failed(Option<Text>),
 }
 
+/// What the script made of a statement: a small value, since one is made of each.
+#[derive(Drop)]
+pub(crate) enum Scripted {
+    Done,
+    /// An execution failed, and failures end the run: the message of the first.
+    Failed(Option<Text>),
+}
+
+/// What the script made of the chunk of a statement.
+fn edited_of(scripted: Scripted) -> Edited
+    ensures { result ≡ edited_of scripted }
+{
+    match scripted {
+        Scripted::Done => Edited::Done,
+        Scripted::Failed(message) => Edited::Failed(message),
+    }
+}
+
 /// The script on the next chunk, which is read as this: what it leaves goes after the text, and what is kept is then
 /// that of the chunks with this one. After a refusal neither the text nor what is kept is of use.
 pub(crate) fn edit_chunk<'a>(
@@ -62,7 +83,7 @@ pub(crate) fn edit_chunk<'a>(
 ) -> Result<Edited, AllocError>
     requires fits { Fits progress.old.kept script.passes.now }
     requires lines { progress.old.line + length chunk.now < 2 ^ 64 }
-    requires read { IsReadAs script.home.now script.passes.now script.max_depth progress.old.line chunk.now read }
+    requires read { IsReadAs script.max_depth progress.old.line chunk.now read }
     ensures fits { OnOk result (Fits progress.new.kept script.entry.passes.now) }
     ensures lines { OnOk result (progress.new.line ≤ progress.old.line + length chunk.now) }
     ensures edited { IfOk result (λ edited. (cs : List (List ℕ)) (statements : List Statement)
@@ -73,32 +94,57 @@ pub(crate) fn edit_chunk<'a>(
     let edited = match read {
         ChunkRead::Faulty(fault) => return Ok(Edited::Faulty(fault)),
         ChunkRead::Blank => Edited::Done,
-        ChunkRead::Passed(row) => {
-            put_passed(script, &row, progress, text)?;
-            Edited::Done
-        }
-        ChunkRead::Row(row) => edit_row(script, &row, progress, text)?,
         ChunkRead::Statement(stmt) => {
-            edit_statement(script, LazyStmt::new(script.alloc, stmt), progress, text)?
+            let stmt = LazyStmt::new(script.alloc, stmt);
+            edited_of(edit_statement(script, stmt, progress, text)?)
         }
     };
-    progress.line += newlines(chunk);
+    progress.pass_lines(chunk);
     Ok(edited)
 }
 
-/// The script on the statement of a row.
-fn edit_row<'a>(
+/// The same where the chunk's statement was read as a row.
+pub(crate) fn edit_row<'a>(
     script: Script<'a>,
-    row: &'a Row<'a>,
+    chunk: &[u8],
+    row: Row<'a>,
     progress: &mut Progress,
     text: &mut Vec<u8>,
 ) -> Result<Edited, AllocError>
     requires fits { Fits progress.old.kept script.passes.now }
+    requires lines { progress.old.line + length chunk.now < 2 ^ 64 }
+    requires utf8 { IsUtf8 chunk.now }
+    requires row { IsStatementRow progress.old.line script.max_depth chunk.now row }
+    ensures fits { OnOk result (Fits progress.new.kept script.entry.passes.now) }
+    ensures lines { OnOk result (progress.new.line ≤ progress.old.line + length chunk.now) }
+    ensures edited { IfOk result (λ edited. (cs : List (List ℕ)) (statements : List Statement)
+        → IsKeptOf script.entry.home.now script.entry.passes.now script.entry.max_depth cs statements progress.old
+        → IsEdited script.entry.home.now script.entry.passes.now script.entry.keep_going script.entry.max_depth cs
+        statements chunk.now progress.old progress.new text.old.items text.new.items edited) }
+{
+    let scripted = if is_passed_by(script, &row) {
+        put_passed(script, &row, progress, text)?;
+        Scripted::Done
+    } else {
+        edit_marked(script, &row, progress, text)?
+    };
+    progress.pass_lines(chunk);
+    Ok(edited_of(scripted))
+}
+
+/// The script on the statement of a row, which a pass may mark.
+fn edit_marked<'a>(
+    script: Script<'a>,
+    row: &'a Row<'a>,
+    progress: &mut Progress,
+    text: &mut Vec<u8>,
+) -> Result<Scripted, AllocError>
+    requires fits { Fits progress.old.kept script.passes.now }
     requires row { (s : Statement) × ((s.class ≡ class_of s.nodes) × IsRowOf s row.now) }
     ensures fits { OnOk result (Fits progress.new.kept script.entry.passes.now) }
-    ensures scripted { IfOk result (λ edited. (s : Statement) → s.class ≡ class_of s.nodes → IsRowOf s row.now
+    ensures scripted { IfOk result (λ scripted. (s : Statement) → s.class ≡ class_of s.nodes → IsRowOf s row.now
         → IsScripted script.entry.home.now script.entry.passes.now script.entry.keep_going s
-        progress.old progress.new text.old.items text.new.items edited) }
+        progress.old progress.new text.old.items text.new.items scripted) }
 {
     let stmt = read_row(script, row)?;
     edit_statement(script, stmt, progress, text)
@@ -141,7 +187,7 @@ fn edit_statement<'a>(
     stmt: LazyStmt<'a>,
     progress: &mut Progress,
     text: &mut Vec<u8>,
-) -> Result<Edited, AllocError>
+) -> Result<Scripted, AllocError>
     requires { Fits progress.old.kept script.passes.now }
     ensures fits { OnOk result (Fits progress.new.kept script.entry.passes.now) }
     ensures scripted { IfOk result
@@ -158,12 +204,12 @@ fn edit_slot<'a>(
     slot: &mut Option<LazyStmt<'a>>,
     progress: &mut Progress,
     text: &mut Vec<u8>,
-) -> Result<Edited, AllocError>
+) -> Result<Scripted, AllocError>
     requires { Fits progress.old.kept script.passes.now }
     ensures fits { OnOk result (Fits progress.new.kept script.entry.passes.now) }
-    ensures scripted { IfOk result (λ edited. (s : Statement) → lazy_slot slot.old ≡ Some s
+    ensures scripted { IfOk result (λ scripted. (s : Statement) → lazy_slot slot.old ≡ Some s
         → IsScripted script.entry.home.now script.entry.passes.now script.entry.keep_going s
-        progress.old progress.new text.old.items text.new.items edited) }
+        progress.old progress.new text.old.items text.new.items scripted) }
 {
     let rules = Rules {
         alloc: script.alloc,
@@ -178,13 +224,13 @@ fn edit_slot<'a>(
     run_script(&rules, passes, slot, &mut *kept, &mut facts)?;
     if facts.failed && !script.keep_going {
         let failure = first_failure(script.alloc, kept)?;
-        return Ok(Edited::Failed(failure));
+        return Ok(Scripted::Failed(failure));
     }
     progress.changed = facts.changed;
     progress.failed = facts.failed;
     put_slot(script, progress.last, slot, text)?;
     progress.last = last_class(progress.last, slot);
-    Ok(Edited::Done)
+    Ok(Scripted::Done)
 }
 
 /// The class of the last statement that is left, where this slot is the last.

@@ -1,6 +1,6 @@
 //! The script on the chunk that is found next.
 
-ghost use Rattle.std.specs.Prelude.{◌≡◌, ℕ, ◌+◌, ◌<◌, ◌≤◌, ◌^◌, List, length, map, IfOk, OnOk, IfSome, IfNone};
+ghost use Rattle.std.specs.Prelude.{◌≡◌, ℕ, ◌+◌, ◌<◌, ◌≤◌, ◌^◌, ◌∷◌, List, length, map, IfOk, OnOk, IfSome, IfNone, IsTrue};
 ghost use Rattle.bz_token.specs.Places.{placed};
 ghost use Rattle.bz_token.specs.Reading.{AreTokensOf};
 ghost use Rattle.bz_tree.specs.Tree.{Statement};
@@ -9,11 +9,13 @@ ghost use Rattle.bz_engine.specs.Progress.{IsKeptOf};
 ghost use Rattle.bz_engine.specs.private.Edits.{IsEdited};
 ghost use Rattle.bz_engine.specs.private.NextChunks.{IsFirstEdited};
 
-use crate::chunk::{read_chunk, read_tokens};
-use crate::edit::{Edited, Script, edit_chunk};
+use crate::chunk::{not_utf8, read_chunk};
+use crate::edit::{Edited, Script, edit_chunk, edit_row};
 use crate::progress::Progress;
+use crate::report::SyntaxFault;
 use bz_devices::ahead::Ahead;
-use bz_token::{Token, first_chunk};
+use bz_token::{LexFault, Token, check_utf8, first_chunk, tokens};
+use bz_tree::{ParseFault, read_row, row_of_text};
 use std::alloc::AllocError;
 
 /// The next chunk, on which the script was run and which is not yet taken.
@@ -43,8 +45,16 @@ pub(crate) fn edit_first(
     ensures none { IfOk result (λ found. IfNone found
         ((progress.new ≡ progress.old) × (text.new.items ≡ text.old.items))) }
 {
+    let text_ahead = ahead.text();
+    if begins_blank(text_ahead) && 0 < max_statement {
+        progress.line += 1;
+        return Ok(Some(NextChunk {
+            len: 1,
+            edited: Edited::Done,
+        }));
+    }
     let line = progress.line;
-    let Some(chunk) = first_chunk(script.alloc, ahead.text(), line, script.max_depth)? else {
+    let Some(chunk) = first_chunk(script.alloc, text_ahead, line, script.max_depth)? else {
         return Ok(None);
     };
     let len = chunk.text.len();
@@ -53,6 +63,13 @@ pub(crate) fn edit_first(
     }
     let edited = edit_tokens(script, chunk.text, &chunk.tokens, progress, text)?;
     Ok(Some(NextChunk { len, edited }))
+}
+
+/// Whether the text begins with an empty line, which is a chunk.
+fn begins_blank(text: &str) -> bool
+    ensures { IsTrue result → (rest : List ℕ) × (text.now ≡ 10 ∷ rest) }
+{
+    matches!(text.as_bytes(), [b'\n', ..])
 }
 
 /// The script on the chunk that has these tokens.
@@ -73,7 +90,32 @@ fn edit_tokens<'a>(
         → IsEdited script.entry.home.now script.entry.passes.now script.entry.keep_going script.entry.max_depth cs
         statements chunk.now progress.old progress.new text.old.items text.new.items edited) }
 {
-    let read = read_tokens(script, chunk, progress.line, tokens)?;
+    match read_row(script.alloc, tokens)? {
+        Some(row) => edit_row(script, chunk.as_bytes(), row, progress, text),
+        None => edit_parsed(script, chunk, tokens, progress, text),
+    }
+}
+
+/// The same where the tokens have no row.
+#[inline(never)]
+fn edit_parsed<'a>(
+    script: Script<'a>,
+    chunk: &'a str,
+    tokens: &[Token<'a>],
+    progress: &mut Progress,
+    text: &mut Vec<u8>,
+) -> Result<Edited, AllocError>
+    requires fits { Fits progress.old.kept script.passes.now }
+    requires lines { progress.old.line + length chunk.now < 2 ^ 64 }
+    requires tokens { AreTokensOf progress.old.line script.max_depth chunk.now (map placed tokens.now) }
+    ensures fits { OnOk result (Fits progress.new.kept script.entry.passes.now) }
+    ensures lines { OnOk result (progress.new.line ≤ progress.old.line + length chunk.now) }
+    ensures edited { IfOk result (λ edited. (cs : List (List ℕ)) (statements : List Statement)
+        → IsKeptOf script.entry.home.now script.entry.passes.now script.entry.max_depth cs statements progress.old
+        → IsEdited script.entry.home.now script.entry.passes.now script.entry.keep_going script.entry.max_depth cs
+        statements chunk.now progress.old progress.new text.old.items text.new.items edited) }
+{
+    let read = read_chunk(script, chunk, progress.line, tokens)?;
     edit_chunk(script, chunk.as_bytes(), read, progress, text)
 }
 
@@ -93,6 +135,18 @@ pub(crate) fn edit_bytes(
         → IsEdited script.entry.home.now script.entry.passes.now script.entry.keep_going script.entry.max_depth cs
         statements chunk.now progress.old progress.new text.old.items text.new.items edited) }
 {
-    let read = read_chunk(script, chunk, progress.line)?;
-    edit_chunk(script, chunk, read, progress, text)
+    let line = progress.line;
+    let whole = match check_utf8(chunk) {
+        Ok(whole) => whole,
+        Err(valid) => return Ok(Edited::Faulty(not_utf8(line, &chunk[..valid]))),
+    };
+    // The list of a long chunk's tokens takes more memory than its row, so it is made only where there is no row.
+    if let Some(row) = row_of_text(script.alloc, whole, line, script.max_depth)? {
+        return edit_row(script, chunk, row, progress, text);
+    }
+    match tokens(script.alloc, whole, line, script.max_depth) {
+        Ok(tokens) => edit_parsed(script, whole, &tokens, progress, text),
+        Err(LexFault::OutOfMemory) => Err(AllocError),
+        Err(fault) => Ok(Edited::Faulty(SyntaxFault::Parse(ParseFault::Lex(fault)))),
+    }
 }

@@ -1,5 +1,9 @@
 //! What a run keeps of the chunks that are done.
 
+ghost use Rattle.std.specs.Prelude.{◌≡◌, ◌+◌, ◌<◌, ◌^◌, length};
+ghost use Rattle.bz_token.specs.Places.{line_at};
+
+use crate::chunk::newlines;
 use crate::entry::Entry;
 use bz_passes::kept::Kept;
 use bz_tree::Class;
@@ -27,4 +31,14 @@ impl Model for Progress {
 
     ghost view = { λ p.
         record { kept = p.kept.items; changed = p.changed; failed = p.failed; last = p.last; line = p.line } };
+}
+
+impl Progress {
+    /// The lines of a chunk are passed.
+    pub(crate) fn pass_lines(&mut self, chunk: &[u8])
+        requires { self.old.line + length chunk.now < 2 ^ 64 }
+        ensures { self.new ≡ record self.old { line = line_at self.old.line chunk.now } }
+    {
+        self.line += newlines(chunk);
+    }
 }

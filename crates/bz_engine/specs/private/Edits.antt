@@ -4,6 +4,8 @@ use Rattle.bz_tree.specs.Tree.{Statement}
 use Rattle.bz_command.specs.Labels.{Package}
 use Rattle.bz_engine.specs.declared.edit.Edited.{Edited}
 use Rattle.bz_engine.specs.declared.edit.Edited.TheVariants.{Done, Faulty, Failed}
+use Rattle.bz_engine.specs.declared.edit.Scripted.{Scripted}
+use Rattle.bz_engine.specs.declared.edit.Scripted.TheVariants as scripted
 use Rattle.bz_engine.specs.declared.report.SyntaxFault.{SyntaxFault}
 use Rattle.bz_engine.specs.File.{Gives}
 use Rattle.bz_command.specs.Passes.{Slot}
@@ -64,7 +66,11 @@ pub record IsEnded (home : Package) (passes : Script) (keep_going : Bool) (s : S
   pub line : new.line ≡ old.line
   pub nothing : after ≡ before
 
-abbrev pub IsScripted : Package → Script → Bool → Statement → Progress → Progress → List ℕ → List ℕ → Edited → Type 0
-IsScripted home passes keep_going s old new before after Done = IsLaidOut home passes keep_going s old new before after
-IsScripted home passes keep_going s old new before after (Faulty fault) = ⊥
-IsScripted home passes keep_going s old new before after (Failed message) = IsEnded home passes keep_going s message old new before after
+abbrev pub IsScripted : Package → Script → Bool → Statement → Progress → Progress → List ℕ → List ℕ → Scripted → Type 0
+IsScripted home passes keep_going s old new before after scripted.Done = IsLaidOut home passes keep_going s old new before after
+IsScripted home passes keep_going s old new before after (scripted.Failed message) = IsEnded home passes keep_going s message old new before after
+
+-- what the script made of the statement's chunk
+abbrev pub edited_of : Scripted → Edited
+edited_of scripted.Done = Done
+edited_of (scripted.Failed message) = Failed message
