@@ -9,7 +9,7 @@ use Rattle.bz_attribute.specs.Effects.{add, adds, argument, done, edit_first, ha
 use Rattle.bz_attribute.specs.declared.done.Note.TheVariants.{NotAList}
 use Rattle.bz_rule.proofs.PartLaws.{edit_head, first_part_stays, parts_first_edited}
 use Rattle.bz_rule.proofs.Arguments.{attribute_named, first_same, has_first, is_first_named, rest_same, value_back, value_put}
-use Rattle.bz_command.specs.Commands.{Add}
+use Rattle.bz_command.specs.declared.command.Action.TheVariants.{Add}
 use Rattle.bz_rule.proofs.Lawful.{Lawful, note_unchanged, on_arguments}
 
 pub parts_with : (home : Package) (values : List (List ℕ)) (a : Segment) → is_attribute a ≡ true → no_parts (parts (value a)) ≡ false

@@ -5,8 +5,13 @@ use Rattle.std.proofs.lemmas.Bool.{or_right}
 use Rattle.std.proofs.lemmas.Slice.Eq.{bytes_eq-Decides}
 use Rattle.bz_tree.specs.Tree.{Segment}
 use Rattle.bz_command.specs.Labels.{Package}
-use Rattle.bz_command.specs.Commands.{Command, Add, Remove, Set, SetIfAbsent, Delete, Rename, Move, Replace, Comment, Print, Every, Named, Moved, Values, ToKind, ToValues, Rule as OfRule, Attribute, Value}
-use Rattle.bz_command.specs.Mentions.{mentions}
+use Rattle.bz_command.specs.Commands.{Command, mentions}
+use Rattle.bz_command.specs.declared.command.Attributes.TheVariants.{Every, Named}
+use Rattle.bz_command.specs.declared.command.Setting.TheVariants.{ToKind, ToValues}
+use Rattle.bz_command.specs.declared.command.Moved.{Moved}
+use Rattle.bz_command.specs.declared.command.Moved.TheVariants.{Values}
+use Rattle.bz_command.specs.declared.command.Commented.TheVariants.{Rule as OfRule, Attribute, Value}
+use Rattle.bz_command.specs.declared.command.Action.TheVariants.{Add, Remove, Set, SetIfAbsent, Delete, Rename, Move, Replace, Comment, Print}
 use Rattle.bz_attribute.specs.Rules.{first_named, is_named, is_text, name_of, value}
 use Rattle.bz_attribute.specs.Lists.{edit_first_part, edit_parts, parts, with_value}
 use Rattle.bz_attribute.specs.Effects.{add, argument, done, edit_first, filtered, has, list_item, loses_all, new_elements, no_parts, remove, removes, rename, rename_note, rename_to, unchosen, with_added}

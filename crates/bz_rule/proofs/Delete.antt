@@ -2,7 +2,7 @@
 use Rattle.std.proofs.Common.{◌≡◌, true, false, Option, Some, None, is_some, if◌then◌else◌, refl}
 use Rattle.bz_tree.specs.Tree.{Statement}
 use Rattle.bz_command.specs.Labels.{Package}
-use Rattle.bz_command.specs.Commands.{Delete}
+use Rattle.bz_command.specs.declared.command.Action.TheVariants.{Delete}
 use Rattle.bz_attribute.specs.Rules.{rule_of}
 use Rattle.bz_attribute.specs.Effects.{holds_rule}
 use Rattle.bz_rule.proofs.Lawful.{Lawful}

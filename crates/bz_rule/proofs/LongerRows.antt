@@ -12,7 +12,9 @@ use Rattle.bz_tree.specs.declared.stmt.Seg.{Seg}
 use Rattle.bz_tree.specs.declared.row.Part.{Part}
 use Rattle.bz_tree.specs.Rows.{part_view, RowPart, opening, closing, segment_end, above, beside_part, item_parts, items_parts, segs_parts, parts_of}
 use Rattle.bz_command.specs.Labels.{Package, Target, Name, Pkg, All, Kind as KindOf, Line}
-use Rattle.bz_command.specs.Commands.{Command, Add, Remove, Set, SetIfAbsent, Delete, Rename, Move, Replace, Comment, Print, ToKind, ToValues}
+use Rattle.bz_command.specs.Commands.{Command}
+use Rattle.bz_command.specs.declared.command.Setting.TheVariants.{ToKind, ToValues}
+use Rattle.bz_command.specs.declared.command.Action.TheVariants.{Add, Remove, Set, SetIfAbsent, Delete, Rename, Move, Replace, Comment, Print}
 use Rattle.bz_attribute.specs.Marks.{marks, marks_if, marks_rule}
 use Rattle.bz_attribute.specs.Rules.{Rule, rule_of, name_of, ident_of, is_operator_item, is_text, is_named, first_named, name_in, string_in}
 use Rattle.bz_attribute.specs.Effects.{has, edit_first, argument, nodes_of, nodes_after, with_args, done, done_in, slot_done}

@@ -2,7 +2,8 @@
 use Rattle.std.proofs.Common.{◌≡◌, List, true, false, Option, Some, None, refl, sym, ◌∙◌}
 use Rattle.bz_tree.specs.Tree.{Statement}
 use Rattle.bz_command.specs.Labels.{Package}
-use Rattle.bz_command.specs.Commands.{Field, Print}
+use Rattle.bz_command.specs.declared.command.Field.{Field}
+use Rattle.bz_command.specs.declared.command.Action.TheVariants.{Print}
 use Rattle.bz_attribute.specs.Rules.{rule_of}
 use Rattle.bz_attribute_commands.specs.Printing.{printed_of, prints}
 use Rattle.bz_rule.proofs.Lawful.{Lawful}
