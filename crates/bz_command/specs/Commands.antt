@@ -1,4 +1,4 @@
--- The commands on a rule and how their words are read (buildozer README, edit commands; the refusals are this project's own rule).
+-- The commands on a rule: how their words are read (buildozer README, edit commands; the refusals are this project's own rule), which attributes they mention, and a test of their words.
 use Rattle.std.specs.Prelude.{ℕ, ◌==◌, List, [], ◌∷◌, Bool, true, false, ◌&&◌, ◌||◌, not, if◌then◌else◌, Option, Some, None, Result, Ok, Err, map, length, codes, bytes_eq}
 use Rattle.std.specs.List.{list_all, list_any}
 use Rattle.bz_command.specs.declared.command.Attributes.{Attributes}
@@ -18,7 +18,7 @@ use Rattle.bz_command.specs.declared.command.CommandFault.TheVariants.{WrongCoun
 use Rattle.bz_command.specs.Names.{is_identifier, is_kind}
 use Rattle.bz_command.specs.Words.{words_of}
 
--- the enum of the source; the types of what is in it stand beside it
+-- a command is the enum of the source
 abbrev pub Command : Type 0
 Command = Action
 
@@ -184,8 +184,6 @@ abbrev pub is_print : Command → Bool
 is_print (Print fields) = true
 is_print _ = false
 
--- Which attributes a command mentions. It looks at no other argument's value, but for that of a rule's name, and changes none.
-
 -- `*` mentions every name
 abbrev pub attributes_mention : List ℕ → Attributes → Bool
 attributes_mention name Every = true
@@ -209,6 +207,7 @@ abbrev pub print_mentions : List ℕ → List Field → Bool
 print_mentions name [] = bytes_eq name (codes "name")
 print_mentions name (field ∷ fields) = list_any (field_mentions name) (field ∷ fields)
 
+-- the attributes that a command mentions; it looks at no other argument's value, but for that of a rule's name, and changes none
 abbrev pub mentions : Command → List ℕ → Bool
 mentions (Add attr values) name = bytes_eq attr name
 mentions (Remove attrs values) name = attributes_mention name attrs
@@ -220,8 +219,6 @@ mentions (Move old new moved) name = bytes_eq old name || bytes_eq new name
 mentions (Replace attrs old new) name = attributes_mention name attrs
 mentions (Comment commented text) name = comment_mentions name commented
 mentions (Print fields) name = print_mentions name fields
-
--- A test of each word that a command holds, but for those of `print`, which writes none into a file.
 
 abbrev pub attributes_pass : (List ℕ → Bool) → Attributes → Bool
 attributes_pass test Every = true
@@ -240,6 +237,7 @@ commented_passes test Rule = true
 commented_passes test (Attribute attr) = test attr
 commented_passes test (Value attr value) = test attr && test value
 
+-- a test of each word that a command holds, but for those of `print`, which writes none into a file
 abbrev pub command_passes : (List ℕ → Bool) → Command → Bool
 command_passes test (Add attr values) = test attr && list_all test values
 command_passes test (Remove attrs values) = attributes_pass test attrs && list_all test values
