@@ -6,7 +6,10 @@ use Rattle.bz_tree.specs.declared.stmt.GroupKind.TheVariants.{RuleCall, List as 
 use Rattle.bz_tree.specs.Tree.{Item, leaf, group, Segment, Statement, segs_of}
 use Rattle.bz_command.specs.Labels.{Package}
 use Rattle.bz_command.specs.Values.{quoted}
-use Rattle.bz_command.specs.Commands.{Attributes, Every, Named, Moved, All, Values}
+use Rattle.bz_command.specs.declared.command.Attributes.{Attributes}
+use Rattle.bz_command.specs.declared.command.Attributes.TheVariants.{Every, Named}
+use Rattle.bz_command.specs.declared.command.Moved.{Moved}
+use Rattle.bz_command.specs.declared.command.Moved.TheVariants.{All, Values}
 use Rattle.bz_attribute.specs.Rules.{Rule, rule_of, elements, is_named, first_named, value}
 use Rattle.bz_attribute.specs.Lists.{is_attribute, with_value, parts, edit_parts, edit_first_part, is_list, equals_any, same}
 use Rattle.bz_attribute.specs.declared.done.Done.{Done}

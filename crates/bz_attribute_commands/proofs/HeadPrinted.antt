@@ -7,7 +7,8 @@ use Rattle.std.proofs.lemmas.Bool.{and_parts}
 use Rattle.std.proofs.lemmas.Slice.Eq.{bytes_eq-Decides}
 use Rattle.bz_tree.specs.Tree.{Segment, Statement}
 use Rattle.bz_command.specs.Labels.{Package}
-use Rattle.bz_command.specs.Commands.{Field, Label, Kind, StartLine, EndLine, ValueOf}
+use Rattle.bz_command.specs.declared.command.Field.{Field}
+use Rattle.bz_command.specs.declared.command.Field.TheVariants.{Label, Kind, StartLine, EndLine, ValueOf}
 use Rattle.bz_attribute.specs.Rules.{first_named, string_in, value}
 use Rattle.bz_attribute.specs.Texts.{home_text}
 use Rattle.bz_attribute.specs.Heads.{IsHeadOf}
@@ -22,11 +23,11 @@ same_bytes xs ys h = search (rules, bytes_eq-Decides)
 told_first : (field : Field) (fields : List Field) (told : Bool) → told ≡ list_all is_told (field ∷ fields) → is_told field ≡ true → told ≡ list_all is_told fields
 told_first field fields told h is = h ∙ ap (λ (b : Bool). b && list_all is_told fields) is
 
-pub next_told : {X : Type 0} (g : X → Field) (xs : List X) (x : X) (i : ℕ) (told : Bool) → i < length xs → x ≡ get_or xs i x → list_all is_told (g x ∷ []) ≡ true
-    → told ≡ list_all is_told (map g (drop i xs)) → told ≡ list_all is_told (map g (drop (i + 1) xs))
-next_told g xs x i told h is this before =
-    let at : drop i xs ≡ x ∷ drop (i + 1) xs = rw (drop-cons xs i x, ← is, add-one) refl in
-    told_first (g x) (map g (drop (i + 1) xs)) told (before ∙ ap (λ (ys : List _). list_all is_told (map g ys)) at) (and_parts (is_told (g x)) true this).0
+pub next_told : (fields : List Field) (field : Field) (i : ℕ) (told : Bool) → i < length fields → field ≡ get_or fields i field → list_all is_told (field ∷ []) ≡ true
+    → told ≡ list_all is_told (drop i fields) → told ≡ list_all is_told (drop (i + 1) fields)
+next_told fields field i told h is this before =
+    let at : drop i fields ≡ field ∷ drop (i + 1) fields = rw (drop-cons fields i field, ← is, add-one) refl in
+    told_first field (drop (i + 1) fields) told (before ∙ ap (list_all is_told) at) (and_parts (is_told field) true this).0
 
 -- a field that is told
 field_told : (home : Package) (head : Head) (s : Statement) (h : IsHeadOf head s) (field : Field) → is_told field ≡ true → field_text home s h.rule field ≡ Some (head_word home head field)

@@ -3,7 +3,7 @@ use Rattle.std.proofs.Common.{◌≡◌, ℕ, suc, ◌+◌, ◌<◌, List, [], �
 use Rattle.std.specs.Option.{option_or}
 use Rattle.bz_tree.specs.Tree.{Statement}
 use Rattle.bz_command.specs.Labels.{Package}
-use Rattle.bz_command.specs.Commands.{Field}
+use Rattle.bz_command.specs.declared.command.Field.{Field}
 use Rattle.bz_attribute.specs.Rules.{Rule}
 use Rattle.bz_attribute.specs.Effects.{first_note}
 use Rattle.bz_attribute_commands.specs.Printing.{spaced, missing, field_text, field_name}
@@ -17,9 +17,15 @@ spaced_all (word ∷ []) = append-nil word
 spaced_all (word ∷ other ∷ words) = ap (λ (z : List ℕ). word ++ 32 ∷ z) (spaced_all (other ∷ words))
 
 -- what stands before a word, and the word
-pub next_word : {X Y : Type 0} (f : Y → List ℕ) (g : X → Y) (xs : List X) (x : X) (i : ℕ) (old mid new space : List ℕ) → i < length xs → x ≡ get_or xs i x → mid ≡ old ++ space → new ≡ mid ++ f (g x)
+pub next_word : {X : Type 0} (f : X → List ℕ) (xs : List X) (x : X) (i : ℕ) (old mid new space : List ℕ) → i < length xs → x ≡ get_or xs i x → mid ≡ old ++ space → new ≡ mid ++ f x
+    → new ++ spaced_from (32 ∷ []) (map f (drop (i + 1) xs)) ≡ old ++ spaced_from space (map f (drop i xs))
+next_word f xs x i old mid new space h is before pushed =
+    rw (pushed, before, drop-cons xs i x, ← is, add-one, append_assoc, append_assoc) refl
+
+-- the like where the list has views
+pub next_viewed : {X Y : Type 0} (f : Y → List ℕ) (g : X → Y) (xs : List X) (x : X) (i : ℕ) (old mid new space : List ℕ) → i < length xs → x ≡ get_or xs i x → mid ≡ old ++ space → new ≡ mid ++ f (g x)
     → new ++ spaced_from (32 ∷ []) (map f (map g (drop (i + 1) xs))) ≡ old ++ spaced_from space (map f (map g (drop i xs)))
-next_word f g xs x i old mid new space h is before pushed =
+next_viewed f g xs x i old mid new space h is before pushed =
     rw (pushed, before, drop-cons xs i x, ← is, add-one, append_assoc, append_assoc) refl
 
 -- the note of the first field, and else that of the others
@@ -39,8 +45,8 @@ missing_after : {X : Type 0} (note : X → Note) (new told here : Option X) (hom
 missing_after note new (Some name) here home s r field fields joined is = rw joined refl
 missing_after note new None here home s r field fields joined is = rw joined (first_missing (option_map note here) home s r field fields is)
 
-pub next_missing : {X Y : Type 0} (g : X → Field) (note : Y → Note) (xs : List X) (x : X) (i : ℕ) (new told here : Option Y) (home : Package) (s : Statement) (r : Rule)
-    → i < length xs → x ≡ get_or xs i x → new ≡ option_or told here → option_map note here ≡ missing home s r (g x ∷ [])
-    → first_note (option_map note new) (missing home s r (map g (drop (i + 1) xs))) ≡ first_note (option_map note told) (missing home s r (map g (drop i xs)))
-next_missing g note xs x i new told here home s r h is joined shown =
-    rw (drop-cons xs i x, ← is, add-one) (missing_after note new told here home s r (g x) (map g (drop (suc i) xs)) joined shown)
+pub next_missing : {X : Type 0} (note : X → Note) (fields : List Field) (field : Field) (i : ℕ) (new told here : Option X) (home : Package) (s : Statement) (r : Rule)
+    → i < length fields → field ≡ get_or fields i field → new ≡ option_or told here → option_map note here ≡ missing home s r (field ∷ [])
+    → first_note (option_map note new) (missing home s r (drop (i + 1) fields)) ≡ first_note (option_map note told) (missing home s r (drop i fields))
+next_missing note fields field i new told here home s r h is joined shown =
+    rw (drop-cons fields i field, ← is, add-one) (missing_after note new told here home s r field (drop (suc i) fields) joined shown)

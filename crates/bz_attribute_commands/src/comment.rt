@@ -3,7 +3,6 @@
 ghost use Rattle.std.specs.Prelude.{◌≡◌, ◌++◌, ◌∷◌, [], false, string_bytes, option_map, IfOk, IfSome, IfNone, IsOk, OnOk, OnErr, None, true};
 ghost use Rattle.std.specs.List.{list_any};
 ghost use Rattle.bz_tree.specs.View.{node_view, nodes_view, segs_view, slot_view, texts};
-ghost use Rattle.bz_command.specs.CommandViews.{commented_view};
 ghost use Rattle.bz_attribute.specs.Lists.{edit_list, equals, parts};
 ghost use Rattle.bz_attribute.specs.Effects.{done, edit_first, holds_rule, is_absent};
 ghost use Rattle.bz_attribute_commands.specs.private.CommentPlaces.{IsFirstOf, IsNowhere, IsPartWith};
@@ -47,9 +46,9 @@ pub fn comment(
     args: &mut [Seg<'_>],
 ) -> Result<Done, AllocError>
     ensures args { OnOk result
-        (segs_view args.new ≡ spec.comment_args (commented_view commented.now) home.now text.now (segs_view args.old)) }
+        (segs_view args.new ≡ spec.comment_args commented.now home.now text.now (segs_view args.old)) }
     ensures done { IfOk result
-        (λ d. d ≡ spec.comment_done (commented_view commented.now) home.now (segs_view args.old)) }
+        (λ d. d ≡ spec.comment_done commented.now home.now (segs_view args.old)) }
     ensures err { OnErr result (segs_view args.new ≡ segs_view args.old) }
 {
     match commented {

@@ -4,7 +4,6 @@ ghost use Rattle.std.specs.Prelude.{◌≡◌, ◌++◌, ◌∷◌, [], codes, m
 ghost use Rattle.std.specs.Fmt.{decimal};
 ghost use Rattle.std.specs.List.{list_all};
 ghost use Rattle.bz_tree.specs.View.{nodes_view, seg_view, segs_view, slot_view, view};
-ghost use Rattle.bz_command.specs.CommandViews.{field_view};
 ghost use Rattle.bz_attribute.specs.RuleViews.{rule_view};
 ghost use Rattle.bz_attribute.specs.Rules.{string_value};
 ghost use Rattle.bz_attribute.specs.Effects.{holds_rule};
@@ -30,7 +29,7 @@ pub fn print(
     fields: &[Field],
     slot: &Option<Stmt<'_>>,
 ) -> Result<Done, AllocError>
-    ensures done { IfOk result (λ done. done ≡ spec.prints home.now (map field_view fields.now) (slot_view slot.now)) }
+    ensures done { IfOk result (λ done. done ≡ spec.prints home.now fields.now (slot_view slot.now)) }
     ensures no_rule { holds_rule (slot_view slot.now) ≡ false → IsOk result }
 {
     let Some(stmt) = slot else {
@@ -62,7 +61,7 @@ fn print_fields(
     rule: Rule<'_, '_>,
 ) -> Result<Done, AllocError>
     ensures { IfOk result
-        (λ done. done ≡ spec.printed home.now (view stmt.now) (rule_view rule.entry) (map field_view fields.now)) }
+        (λ done. done ≡ spec.printed home.now (view stmt.now) (rule_view rule.entry) fields.now) }
 {
     let mut line = String::new(alloc);
     let mut missing = None;
@@ -101,10 +100,10 @@ fn push_field<'f>(
 ) -> Result<Option<&'f str>, AllocError>
     ensures line { OnOk result
         (string_bytes text.new ≡ string_bytes text.old ++ spec.shown_field
-        (spec.field_text home.now (view stmt.now) (rule_view rule.entry) (field_view field.now))) }
+        (spec.field_text home.now (view stmt.now) (rule_view rule.entry) field.now)) }
     ensures missing { IfOk result
         (λ missing. option_map (λ name. Missing name.now) missing
-        ≡ spec.missing home.now (view stmt.now) (rule_view rule.entry) (field_view field.now ∷ [])) }
+        ≡ spec.missing home.now (view stmt.now) (rule_view rule.entry) (field.now ∷ [])) }
 {
     match field {
         Field::Label => return push_label(alloc, text, home, &rule.call.segs),

@@ -1,8 +1,7 @@
 //! `print` of what the head of a rule tells.
 
-ghost use Rattle.std.specs.Prelude.{◌≡◌, [], ◌∷◌, IfOk, IfSome, IsTrue, Some, map, string_bytes};
+ghost use Rattle.std.specs.Prelude.{◌≡◌, [], ◌∷◌, IfOk, IfSome, IsTrue, Some, string_bytes};
 ghost use Rattle.bz_tree.specs.Tree.{Statement};
-ghost use Rattle.bz_command.specs.CommandViews.{field_view};
 ghost use Rattle.bz_attribute.specs.Heads.{IsHeadOf};
 ghost use Rattle.bz_attribute_commands.specs.Printing.{fields_of, prints};
 ghost use Rattle.bz_attribute_commands.specs.private.HeadFields.{HasTold, head_word, head_words};
@@ -22,7 +21,7 @@ pub fn print_head(
     head: Head<'_>,
 ) -> Result<Option<Done>, AllocError>
     ensures { IfOk result (λ told. IfSome told (λ done. (s : Statement) → IsHeadOf head.entry s
-        → done ≡ prints home.now (map field_view fields.now) (Some s))) }
+        → done ≡ prints home.now fields.now (Some s))) }
 {
     let mut line = String::new(alloc);
     if !push_told(alloc, &mut line, home, fields, head)? {
@@ -43,8 +42,8 @@ fn push_told(
     fields: &[Field],
     head: Head<'_>,
 ) -> Result<bool, AllocError>
-    ensures { IfOk result (λ told. IsTrue told → HasTold (fields_of (map field_view fields.now))
-        (head_words home.now head.entry (fields_of (map field_view fields.now))) (string_bytes text.old) (string_bytes text.new)) }
+    ensures { IfOk result (λ told. IsTrue told → HasTold (fields_of fields.now)
+        (head_words home.now head.entry (fields_of fields.now)) (string_bytes text.old) (string_bytes text.new)) }
 {
     match fields {
         [] => {
@@ -65,8 +64,8 @@ fn push_fields(
     fields: &[Field],
     head: Head<'_>,
 ) -> Result<bool, AllocError>
-    ensures { IfOk result (λ told. IsTrue told → HasTold (map field_view fields.now)
-        (head_words home.now head.entry (map field_view fields.now)) (string_bytes text.old) (string_bytes text.new)) }
+    ensures { IfOk result (λ told. IsTrue told → HasTold fields.now
+        (head_words home.now head.entry fields.now) (string_bytes text.old) (string_bytes text.new)) }
 {
     let mut space = "";
     for field in fields {
@@ -87,8 +86,8 @@ fn push_field(
     head: Head<'_>,
     field: &Field,
 ) -> Result<bool, AllocError>
-    ensures { IfOk result (λ told. IsTrue told → HasTold (field_view field.now ∷ [])
-        (head_word home.now head.entry (field_view field.now)) (string_bytes text.old) (string_bytes text.new)) }
+    ensures { IfOk result (λ told. IsTrue told → HasTold (field.now ∷ [])
+        (head_word home.now head.entry field.now) (string_bytes text.old) (string_bytes text.new)) }
 {
     match field {
         Field::Label => {

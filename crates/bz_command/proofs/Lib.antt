@@ -1,7 +1,6 @@
 pub mod Cuts
 mod Decoding
 mod Examples
-mod FieldViews
 mod Fields
 pub mod LabelSets
 mod LastParts

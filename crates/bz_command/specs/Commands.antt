@@ -1,56 +1,26 @@
--- The commands on a rule and how their words are read (buildozer README, edit commands; the refusals are this project's own rule).
+-- The commands on a rule: how their words are read (buildozer README, edit commands; the refusals are this project's own rule), which attributes they mention, and a test of their words.
 use Rattle.std.specs.Prelude.{ℕ, ◌==◌, List, [], ◌∷◌, Bool, true, false, ◌&&◌, ◌||◌, not, if◌then◌else◌, Option, Some, None, Result, Ok, Err, map, length, codes, bytes_eq}
 use Rattle.std.specs.List.{list_all, list_any}
+use Rattle.bz_command.specs.declared.command.Attributes.{Attributes}
+use Rattle.bz_command.specs.declared.command.Attributes.TheVariants.{Every, Named}
+use Rattle.bz_command.specs.declared.command.Setting.{Setting}
+use Rattle.bz_command.specs.declared.command.Setting.TheVariants.{ToKind, ToValues}
+use Rattle.bz_command.specs.declared.command.Moved.{Moved}
+use Rattle.bz_command.specs.declared.command.Moved.TheVariants.{All, Values}
+use Rattle.bz_command.specs.declared.command.Commented.{Commented}
+use Rattle.bz_command.specs.declared.command.Commented.TheVariants.{Rule, Attribute, Value}
+use Rattle.bz_command.specs.declared.command.Field.{Field}
+use Rattle.bz_command.specs.declared.command.Field.TheVariants.{Label, Kind, StartLine, EndLine, ValueOf}
+use Rattle.bz_command.specs.declared.command.Action.{Action}
+use Rattle.bz_command.specs.declared.command.Action.TheVariants.{Add, Remove, Set, SetIfAbsent, Delete, Rename, Move, Replace, Comment, Print}
 use Rattle.bz_command.specs.declared.command.CommandFault.{CommandFault}
 use Rattle.bz_command.specs.declared.command.CommandFault.TheVariants.{WrongCount, BadAttribute, BadKind, CommentLine, SameAttribute}
 use Rattle.bz_command.specs.Names.{is_identifier, is_kind}
 use Rattle.bz_command.specs.Words.{words_of}
 
--- the attributes that a command speaks of
-pub data Attributes : Type 0 where
-  Every : Attributes
-  Named : List ℕ → Attributes
-
--- what `set` sets: the kind of the rule, or an attribute to one or more values
-pub data Setting : Type 0 where
-  ToKind : List ℕ → Setting
-  ToValues : List ℕ → List (List ℕ) → Setting
-
--- the elements that `move` moves
-pub data Moved : Type 0 where
-  All : Moved
-  Values : List (List ℕ) → Moved
-
--- what a comment stands before
-pub data Commented : Type 0 where
-  Rule : Commented
-  Attribute : List ℕ → Commented
-  Value : List ℕ → List ℕ → Commented
-
--- what `print` prints
-pub data Field : Type 0 where
-  Label : Field
-  Kind : Field
-  StartLine : Field
-  EndLine : Field
-  ValueOf : List ℕ → Field
-
-pub data Command : Type 0 where
-  -- an attribute and its new values
-  Add : List ℕ → List (List ℕ) → Command
-  -- attributes, and the values to go; no values: the attributes go
-  Remove : Attributes → List (List ℕ) → Command
-  Set : Setting → Command
-  SetIfAbsent : List ℕ → List (List ℕ) → Command
-  Delete : Command
-  -- from one name to another
-  Rename : List ℕ → List ℕ → Command
-  -- from one attribute to another
-  Move : List ℕ → List ℕ → Moved → Command
-  -- attributes, a value, and the one that takes its place
-  Replace : Attributes → List ℕ → List ℕ → Command
-  Comment : Commented → List ℕ → Command
-  Print : List Field → Command
+-- a command is the enum of the source
+abbrev pub Command : Type 0
+Command = Action
 
 abbrev pub is_star : List ℕ → Bool
 is_star word = bytes_eq word (codes "*")
@@ -213,3 +183,69 @@ is_command (Print fields) = list_all is_named_field fields
 abbrev pub is_print : Command → Bool
 is_print (Print fields) = true
 is_print _ = false
+
+-- `*` mentions every name
+abbrev pub attributes_mention : List ℕ → Attributes → Bool
+attributes_mention name Every = true
+attributes_mention name (Named attr) = bytes_eq attr name
+
+abbrev pub setting_mentions : List ℕ → Setting → Bool
+setting_mentions name (ToKind kind) = false
+setting_mentions name (ToValues attr values) = bytes_eq attr name
+
+abbrev pub comment_mentions : List ℕ → Commented → Bool
+comment_mentions name Rule = false
+comment_mentions name (Attribute attr) = bytes_eq attr name
+comment_mentions name (Value attr value) = bytes_eq attr name
+
+abbrev pub field_mentions : List ℕ → Field → Bool
+field_mentions name (ValueOf attr) = bytes_eq attr name
+field_mentions name _ = false
+
+-- without fields the name is printed
+abbrev pub print_mentions : List ℕ → List Field → Bool
+print_mentions name [] = bytes_eq name (codes "name")
+print_mentions name (field ∷ fields) = list_any (field_mentions name) (field ∷ fields)
+
+-- the attributes that a command mentions; it looks at no other argument's value, but for that of a rule's name, and changes none
+abbrev pub mentions : Command → List ℕ → Bool
+mentions (Add attr values) name = bytes_eq attr name
+mentions (Remove attrs values) name = attributes_mention name attrs
+mentions (Set setting) name = setting_mentions name setting
+mentions (SetIfAbsent attr values) name = bytes_eq attr name
+mentions Delete name = false
+mentions (Rename old new) name = bytes_eq old name || bytes_eq new name
+mentions (Move old new moved) name = bytes_eq old name || bytes_eq new name
+mentions (Replace attrs old new) name = attributes_mention name attrs
+mentions (Comment commented text) name = comment_mentions name commented
+mentions (Print fields) name = print_mentions name fields
+
+abbrev pub attributes_pass : (List ℕ → Bool) → Attributes → Bool
+attributes_pass test Every = true
+attributes_pass test (Named attr) = test attr
+
+abbrev pub setting_passes : (List ℕ → Bool) → Setting → Bool
+setting_passes test (ToKind kind) = test kind
+setting_passes test (ToValues attr values) = test attr && list_all test values
+
+abbrev pub moved_passes : (List ℕ → Bool) → Moved → Bool
+moved_passes test All = true
+moved_passes test (Values values) = list_all test values
+
+abbrev pub commented_passes : (List ℕ → Bool) → Commented → Bool
+commented_passes test Rule = true
+commented_passes test (Attribute attr) = test attr
+commented_passes test (Value attr value) = test attr && test value
+
+-- a test of each word that a command holds, but for those of `print`, which writes none into a file
+abbrev pub command_passes : (List ℕ → Bool) → Command → Bool
+command_passes test (Add attr values) = test attr && list_all test values
+command_passes test (Remove attrs values) = attributes_pass test attrs && list_all test values
+command_passes test (Set setting) = setting_passes test setting
+command_passes test (SetIfAbsent attr values) = test attr && list_all test values
+command_passes test Delete = true
+command_passes test (Rename old new) = test old && test new
+command_passes test (Move old new moved) = test old && test new && moved_passes test moved
+command_passes test (Replace attrs old new) = attributes_pass test attrs && test old && test new
+command_passes test (Comment place text) = commented_passes test place && test text
+command_passes test (Print fields) = true

@@ -1,9 +1,7 @@
-pub mod CommandViews
 pub mod Commands
 pub mod LabelSetViews
 pub mod LabelViews
 pub mod Labels
-pub mod Mentions
 pub mod Names
 pub mod Same
 pub mod Values

@@ -1,10 +1,8 @@
 //! Commands on one rule.
 
-ghost use Rattle.std.specs.Prelude.{◌≡◌, map};
+ghost use Rattle.std.specs.Prelude.{◌≡◌};
 ghost use Rattle.std.specs.List.{list_any};
 ghost use Rattle.bz_command.specs.Commands as spec;
-ghost use Rattle.bz_command.specs.CommandViews.{attributes_view, commented_view, field_view, setting_view};
-ghost use Rattle.bz_command.specs.Mentions as mentioned;
 
 use crate::list::{Seq, Text};
 use std::alloc::AllocError;
@@ -92,11 +90,9 @@ impl Model for Command {
 
     ghost Value = { spec.Command };
 
-    ghost use Rattle.bz_command.specs.CommandViews.{command_view};
+    ghost view = { λ c. c.action };
 
-    ghost view = { λ c. command_view c.action };
-
-    ghost invariant = { λ c. IsTrue (spec.is_command (command_view c.action)) };
+    ghost invariant = { λ c. IsTrue (spec.is_command c.action) };
 }
 
 impl Command {
@@ -110,7 +106,7 @@ impl Command {
     /// It mentions the attribute of this name, as `*` mentions each. It looks at no value of the others, but that of
     /// `name`.
     pub fn mentions(&self, name: &str) -> bool
-        ensures { result ≡ mentioned.mentions self.now name.now }
+        ensures { result ≡ spec.mentions self.now name.now }
     {
         match &self.action {
             Action::Add(attr, _) | Action::SetIfAbsent(attr, _) => attr.as_str() == name,
@@ -130,7 +126,7 @@ impl Command {
 
 impl Attributes {
     fn mention(&self, name: &str) -> bool
-        ensures { result ≡ mentioned.attributes_mention name.now (attributes_view self.now) }
+        ensures { result ≡ spec.attributes_mention name.now self.now }
     {
         match self {
             Attributes::Every => true,
@@ -141,7 +137,7 @@ impl Attributes {
 
 impl Setting {
     fn mentions(&self, name: &str) -> bool
-        ensures { result ≡ mentioned.setting_mentions name.now (setting_view self.now) }
+        ensures { result ≡ spec.setting_mentions name.now self.now }
     {
         match self {
             Setting::ToKind(_) => false,
@@ -152,7 +148,7 @@ impl Setting {
 
 impl Commented {
     fn mentions(&self, name: &str) -> bool
-        ensures { result ≡ mentioned.comment_mentions name.now (commented_view self.now) }
+        ensures { result ≡ spec.comment_mentions name.now self.now }
     {
         match self {
             Commented::Rule => false,
@@ -163,7 +159,7 @@ impl Commented {
 
 impl Field {
     fn mentions(&self, name: &str) -> bool
-        ensures { result ≡ mentioned.field_mentions name.now (field_view self.now) }
+        ensures { result ≡ spec.field_mentions name.now self.now }
     {
         match self {
             Field::ValueOf(attr) => attr.as_str() == name,
@@ -174,7 +170,7 @@ impl Field {
 
 // Without fields the name is printed.
 fn print_mentions(fields: &[Field], name: &str) -> bool
-    ensures { result ≡ mentioned.print_mentions name.now (map field_view fields.now) }
+    ensures { result ≡ spec.print_mentions name.now fields.now }
 {
     match fields {
         [] => name == "name",
@@ -183,7 +179,7 @@ fn print_mentions(fields: &[Field], name: &str) -> bool
 }
 
 fn any_mentions(fields: &[Field], name: &str) -> bool
-    ensures { result ≡ list_any (mentioned.field_mentions name.now) (map field_view fields.now) }
+    ensures { result ≡ list_any (spec.field_mentions name.now) fields.now }
 {
     fields.iter().any(|field| field.mentions(name))
 }

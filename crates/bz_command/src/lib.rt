@@ -22,6 +22,7 @@ mod reader;
 mod sameness;
 mod sorted_labels;
 mod target;
+mod utf8;
 mod value;
 mod words;
 
@@ -39,4 +40,5 @@ pub use reader::read_command;
 pub use sameness::{same, same_label};
 pub use sorted_labels::SortedLabels;
 pub use target::{Marked, Target};
+pub use utf8::words_are_utf8;
 pub use value::{has_value, plain_text, quote, value_is};

@@ -2,10 +2,8 @@
 
 ghost use Rattle.std.specs.Prelude.{◌≡◌, ◌≢◌, ◌∷◌, [], Err, IfOk, IsTrue, MatchResult, Some, map};
 ghost use Rattle.std.specs.List.{list_all, list_any};
-ghost use Rattle.std.specs.Result.{result_map_both};
 ghost use Rattle.bz_command.specs.Commands as spec;
 ghost use Rattle.bz_command.specs.private.CommandSteps.{attribute_of, attributes_of, command_read, some_of, none_of};
-ghost use Rattle.bz_command.specs.CommandViews.{attributes_view, commented_view, field_view, moved_view};
 
 use crate::command::{Action, Attributes, Command, CommandFault, Commented, Field, Moved, Setting};
 use crate::list::{Seq, Text};
@@ -135,7 +133,7 @@ fn read_move(mut words: Vec<Text>) -> Result<Command, CommandFault>
 
 // One star means all elements.
 fn moved(values: Seq<Text>) -> Moved
-    ensures { moved_view result ≡ spec.moved_of values }
+    ensures { result ≡ spec.moved_of values }
 {
     match values.as_slice() {
         [value] if value.as_str() == "*" => Moved::All,
@@ -169,8 +167,8 @@ fn read_comment(mut words: Vec<Text>) -> Result<Command, CommandFault>
 }
 
 fn comment_before(place: Commented, text: Text) -> Result<Command, CommandFault>
-    requires { IsTrue (spec.is_commented (commented_view place)) }
-    ensures { result ≡ spec.comment_before (commented_view place) text }
+    requires { IsTrue (spec.is_commented place) }
+    ensures { result ≡ spec.comment_before place text }
 {
     if breaks_line(text.as_str()) {
         return Err(CommandFault::CommentLine);
@@ -197,7 +195,7 @@ fn read_print(alloc: Global, words: Vec<Text>) -> Result<Command, CommandFault>
 }
 
 fn read_fields(alloc: Global, words: Vec<Text>) -> Result<Vec<Field>, AllocError>
-    ensures { IfOk result (λ fields. map field_view fields.items ≡ map spec.field_of words.items) }
+    ensures { IfOk result (λ fields. fields.items ≡ map spec.field_of words.items) }
 {
     let mut fields = Vec::with_capacity(alloc, words.len())?;
     for word in words {
@@ -219,7 +217,7 @@ fn is_field(word: &str) -> bool
 }
 
 fn field(word: Text) -> Field
-    ensures { field_view result ≡ spec.field_of word }
+    ensures { result ≡ spec.field_of word }
 {
     match word.as_str() {
         "label" => Field::Label,
@@ -239,7 +237,7 @@ fn attribute(word: Text) -> Result<Text, CommandFault>
 
 // A star means every attribute.
 fn attributes(word: Text) -> Result<Attributes, CommandFault>
-    ensures { result_map_both attributes_view (λ fault. fault) result ≡ attributes_of word }
+    ensures { result ≡ attributes_of word }
 {
     if word.as_str() == "*" {
         return Ok(Attributes::Every);

@@ -7,11 +7,10 @@ use Rattle.std.proofs.lemmas.Bool.{and_parts}
 use Rattle.bz_tree.specs.Tree.{Statement}
 use Rattle.bz_layout_laws.specs.KeptBlock.{IsKeptBlock}
 use Rattle.bz_layout_laws.specs.WellFormed.{IsWellFormed}
-use Rattle.bz_command.specs.Commands.{Command, is_command}
+use Rattle.bz_command.specs.Commands.{Command, is_command, command_passes}
 use Rattle.bz_command.specs.Labels.{Package}
 use Rattle.bz_command.specs.Passes.{Slot, Marked, marked, executed}
 use Rattle.bz_rule.specs.Applied.{after}
-use Rattle.bz_rule_laws.specs.CommandTexts.{command_passes}
 use Rattle.bz_rule_laws.proofs.Commands.{formed_after}
 use Rattle.bz_rule_laws.proofs.Utf8Commands.{commands_utf8}
 use Rattle.bz_engine.specs.Changes.{AreCommands}

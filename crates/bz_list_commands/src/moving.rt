@@ -5,7 +5,6 @@ ghost use Rattle.std.specs.Vec.{vec_len, vec_capacity};
 ghost use Rattle.bz_tree.specs.View.{node_view, nodes_view, seg_view, segs_view};
 ghost use Rattle.bz_attribute.specs.Rules.{elements, first_named, is_named, value};
 ghost use Rattle.bz_attribute.specs.Lists.{edit_list, parts};
-ghost use Rattle.bz_command.specs.CommandViews.{moved_view};
 ghost use Rattle.bz_attribute.specs.private.Places.{first_length, first_list};
 ghost use Rattle.bz_attribute.specs.Effects as effects;
 ghost use Rattle.bz_attribute.specs.Moving as spec;
@@ -37,10 +36,10 @@ pub fn move_elements(
     requires { bytes_eq old.now new.now ≡ false }
     ensures args { OnOk result
         (segs_view args.new.items
-        ≡ spec.move home.now old.now new.now (moved_view moved.now) (segs_view args.old.items)) }
+        ≡ spec.move home.now old.now new.now moved.now (segs_view args.old.items)) }
     ensures done { IfOk result
         (λ done. done ≡ effects.done (spec.move_note old.now new.now (segs_view args.old.items))
-        (spec.moves home.now old.now (moved_view moved.now) (segs_view args.old.items))) }
+        (spec.moves home.now old.now moved.now (segs_view args.old.items))) }
     ensures err { OnErr result (segs_view args.new.items ≡ segs_view args.old.items) }
 {
     if let Some(note) = move_note(alloc, old, new, args)? {

@@ -3,7 +3,6 @@
 ghost use Rattle.std.specs.Prelude.{◌≡◌, [], None, map, IfOk, OnOk, OnErr};
 ghost use Rattle.bz_tree.specs.View.{seg_view, segs_view};
 ghost use Rattle.bz_attribute.specs.Effects as spec;
-ghost use Rattle.bz_command.specs.CommandViews.{attributes_view};
 ghost use Rattle.bz_attribute.specs.Rules.{first_named, is_named};
 ghost use Rattle.bz_attribute.specs.private.ChosenViews.{chosen_view};
 ghost use Rattle.bz_attribute.specs.private.Places.{IsFirst};
@@ -28,11 +27,11 @@ pub fn remove(
 ) -> Result<Done, AllocError>
     ensures args { OnOk result
         (segs_view args.new.items
-        ≡ spec.remove home.now (attributes_view attributes.now) values.now (segs_view args.old.items)) }
+        ≡ spec.remove home.now attributes.now values.now (segs_view args.old.items)) }
     ensures done { IfOk result
         (λ done. done
         ≡ spec.done None
-        (spec.removes home.now (attributes_view attributes.now) values.now (segs_view args.old.items))) }
+        (spec.removes home.now attributes.now values.now (segs_view args.old.items))) }
     ensures err { OnErr result (segs_view args.new.items ≡ segs_view args.old.items) }
 {
     match (attributes, values) {
@@ -45,9 +44,9 @@ pub fn remove(
 // Drops each argument of the name, or each keyword argument but `name`.
 fn remove_whole(attributes: &Attributes, args: &mut Vec<Seg<'_>>) -> Done
     ensures args { (home : _) → segs_view args.new.items
-        ≡ spec.remove home (attributes_view attributes.now) [] (segs_view args.old.items) }
+        ≡ spec.remove home attributes.now [] (segs_view args.old.items) }
     ensures done { (home : _) → result
-        ≡ spec.done None (spec.removes home (attributes_view attributes.now) [] (segs_view args.old.items)) }
+        ≡ spec.done None (spec.removes home attributes.now [] (segs_view args.old.items)) }
 {
     let before = args.len();
     args.retain(|arg| !goes(attributes, arg));
@@ -55,7 +54,7 @@ fn remove_whole(attributes: &Attributes, args: &mut Vec<Seg<'_>>) -> Done
 }
 
 fn goes(attributes: &Attributes, arg: &Seg<'_>) -> bool
-    ensures { result ≡ goes (attributes_view attributes.now) (seg_view arg.now) }
+    ensures { result ≡ goes attributes.now (seg_view arg.now) }
 {
     match attributes {
         Attributes::Every => is_attribute(arg) && !is_named(arg, "name"),

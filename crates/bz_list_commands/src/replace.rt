@@ -2,8 +2,7 @@
 
 ghost use Rattle.std.specs.Prelude.{◌≡◌, ◌<◌, None, map, length, if◌then◌else◌, IfOk, OnOk, OnErr};
 ghost use Rattle.bz_tree.specs.View.{node_view, nodes_view, seg_view, segs_view};
-ghost use Rattle.bz_command.specs.CommandViews.{attributes_view};
-ghost use Rattle.bz_command.specs.Commands.{Every, Named};
+ghost use Rattle.bz_command.specs.declared.command.Attributes.TheVariants.{Every, Named};
 ghost use Rattle.bz_attribute.specs.Rules.{elements};
 ghost use Rattle.bz_attribute.specs.Lists.{edit_list, edit_parts};
 ghost use Rattle.bz_attribute.specs.Effects.{done};
@@ -41,10 +40,10 @@ pub fn replace(
 ) -> Result<Done, AllocError>
     ensures args { OnOk result
         (segs_view args.new
-        ≡ spec.replace home.now (attributes_view attributes.now) old.now new.now (segs_view args.old)) }
+        ≡ spec.replace home.now attributes.now old.now new.now (segs_view args.old)) }
     ensures done { IfOk result
         (λ d. d
-        ≡ done None (spec.replaces home.now (attributes_view attributes.now) old.now new.now (segs_view args.old))) }
+        ≡ done None (spec.replaces home.now attributes.now old.now new.now (segs_view args.old))) }
     ensures err { OnErr result (segs_view args.new ≡ segs_view args.old) }
 {
     let change = Change { home, old, new };

@@ -12,7 +12,9 @@ use Rattle.bz_attribute.specs.declared.done.Note.TheVariants.{NoAttribute, NoVal
 use Rattle.bz_attribute.specs.Effects.{done, edit_first, first_note, has, holds_rule, is_absent, not_a_list}
 use Rattle.bz_attribute.specs.Commenting.{comment_attribute, comment_element, comment_line, comment_note, comment_rule, comment_value, comments_above, edit_element, edit_element_from, is_missing, with_comment}
 use Rattle.bz_attribute.proofs.Views.{segments_of}
-use Rattle.bz_command.specs.Commands.{Comment, Commented, Rule as OfRule, Attribute, Value}
+use Rattle.bz_command.specs.declared.command.Commented.{Commented}
+use Rattle.bz_command.specs.declared.command.Commented.TheVariants.{Rule as OfRule, Attribute, Value}
+use Rattle.bz_command.specs.declared.command.Action.TheVariants.{Comment}
 use Rattle.bz_rule.proofs.Arguments.{attribute_named, first_same, has_first, is_first_named, same_bytes, value_put}
 use Rattle.bz_rule.proofs.Lawful.{Lawful, done_changed, guarded_same, note_unchanged, on_arguments}
 use Rattle.bz_rule.proofs.NamesKept.{KeepsEach, Leaves, edit_one_kept, first_kept, has_kept, put_kept, taken}

@@ -14,7 +14,9 @@ use Rattle.bz_attribute.specs.Setting.{New, NewString, NewNumber, NewConstant, N
 use Rattle.bz_attribute.proofs.Views.{segments_of}
 use Rattle.bz_command.proofs.ReadBack.{quoted_value}
 use Rattle.bz_attribute.proofs.RuleNodes.{rule_nodes}
-use Rattle.bz_command.specs.Commands.{Set, SetIfAbsent, Setting, ToKind, ToValues}
+use Rattle.bz_command.specs.declared.command.Setting.{Setting}
+use Rattle.bz_command.specs.declared.command.Setting.TheVariants.{ToKind, ToValues}
+use Rattle.bz_command.specs.declared.command.Action.TheVariants.{Set, SetIfAbsent}
 use Rattle.bz_command.specs.Labels.{Package}
 use Rattle.bz_attribute.specs.Lists.{with_value}
 use Rattle.bz_rule.proofs.Arguments.{attribute_named, first_same, has_first, is_first_named, rest_same, same_bytes, value_put}

@@ -2,7 +2,10 @@
 use Rattle.std.specs.Prelude.{List, true, false, if◌then◌else◌, not, Option, None, option_map}
 use Rattle.bz_tree.specs.Tree.{Segment, Statement}
 use Rattle.bz_command.specs.Labels.{Package}
-use Rattle.bz_command.specs.Commands.{Command, Add, Remove, Set, SetIfAbsent, Delete, Rename, Move, Replace, Comment, Print, ToKind, ToValues, Rule}
+use Rattle.bz_command.specs.Commands.{Command}
+use Rattle.bz_command.specs.declared.command.Setting.TheVariants.{ToKind, ToValues}
+use Rattle.bz_command.specs.declared.command.Commented.TheVariants.{Rule}
+use Rattle.bz_command.specs.declared.command.Action.TheVariants.{Add, Remove, Set, SetIfAbsent, Delete, Rename, Move, Replace, Comment, Print}
 use Rattle.bz_attribute.specs.Rules.{first_named}
 use Rattle.bz_attribute.specs.Effects.{has, done, add, adds, not_a_list, remove, removes, rename, rename_note, with_args, slot_done, holds_rule}
 use Rattle.bz_attribute.specs.Setting.{set, sets, set_if_absent, with_kind, sets_kind_of}

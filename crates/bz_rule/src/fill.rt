@@ -1,7 +1,7 @@
 //! Values that stand apart, put back where they are asked for.
 
 ghost use Rattle.std.specs.Prelude.{◌≡◌, ◌++◌, IfOk, OnOk, map, filter, not, option_map};
-ghost use Rattle.bz_command.specs.Mentions.{mentions};
+ghost use Rattle.bz_command.specs.Commands.{mentions};
 ghost use Rattle.bz_tree.specs.FromParts.{nodes_of_parts};
 ghost use Rattle.bz_tree.specs.Rows.{part_view};
 ghost use Rattle.bz_tree.specs.View.{node_view, nodes_view, seg_view, segs_view, view};

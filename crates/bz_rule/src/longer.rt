@@ -5,7 +5,6 @@ ghost use Rattle.std.specs.List.{list_any};
 ghost use Rattle.bz_tree.specs.Tree.{Statement, segs_of};
 ghost use Rattle.bz_tree.specs.View.{node_view, nodes_view, seg_view, segs_view};
 ghost use Rattle.bz_tree.specs.Rows.{part_view, parts_of, segs_parts};
-ghost use Rattle.bz_command.specs.CommandViews.{field_view};
 ghost use Rattle.bz_command.specs.Labels.{Name};
 ghost use Rattle.bz_attribute.specs.Marks as marks;
 ghost use Rattle.bz_attribute.specs.Rules.{rule_of};
@@ -226,7 +225,7 @@ impl<'a> LongerRow<'a> {
         fields: &[Field],
     ) -> Result<Option<Done>, AllocError>
         ensures { IfOk result (λ told. IfSome told
-            (λ done. done ≡ prints home.now (map field_view fields.now) (Some (longer_view self.now)))) }
+            (λ done. done ≡ prints home.now fields.now (Some (longer_view self.now)))) }
     {
         if !self.more.is_empty() {
             return Ok(None);

@@ -5,7 +5,6 @@ ghost use Rattle.bz_tree.specs.Tree.{Statement};
 ghost use Rattle.bz_tree.specs.Statement.{class_of};
 ghost use Rattle.bz_tree.specs.View.{view};
 ghost use Rattle.bz_tree.specs.Rows.{IsRowOf, part_view, parts_of};
-ghost use Rattle.bz_command.specs.CommandViews.{field_view};
 ghost use Rattle.bz_command.specs.Labels.{Name};
 ghost use Rattle.bz_attribute.specs.Marks as marks;
 ghost use Rattle.bz_attribute.specs.Heads.{IsHeadOf};
@@ -89,7 +88,7 @@ impl<'a> NamedRow<'a> {
         home: &Package,
         fields: &[Field],
     ) -> Result<Option<Done>, AllocError>
-        ensures { IfOk result (λ told. IfSome told (λ done. done ≡ prints home.now (map field_view fields.now) (Some (row_statement self.now)))) }
+        ensures { IfOk result (λ told. IfSome told (λ done. done ≡ prints home.now fields.now (Some (row_statement self.now)))) }
     {
         print_head(alloc, home, fields, self.head)
     }

@@ -4,7 +4,8 @@ ghost use Rattle.std.specs.Prelude.{◌≡◌, ◌↔◌, IfOk, IsOk, OnOk, OnEr
 ghost use Rattle.bz_tree.specs.View.{node_view, nodes_view, segs_view, view, slot_view};
 ghost use Rattle.bz_attribute.specs.Rules.{rule_of, elements};
 ghost use Rattle.bz_attribute.specs.Lists.{edit_list};
-ghost use Rattle.bz_command.specs.Commands as commands;
+ghost use Rattle.bz_command.specs.Commands.{is_command};
+ghost use Rattle.bz_command.specs.declared.command.Action.TheVariants.{Delete};
 ghost use Rattle.bz_attribute.specs.Effects as spec;
 ghost use Rattle.bz_rule.specs.Applied as applied;
 
@@ -48,7 +49,7 @@ fn carry_out(
     home: &Package,
     slot: &mut Option<Stmt<'_>>,
 ) -> Result<Done, AllocError>
-    ensures command { IsTrue (commands.is_command command.now) }
+    ensures command { IsTrue (is_command command.now) }
     ensures slot { OnOk result (slot_view slot.new ≡ applied.after command.now home.now (slot_view slot.old)) }
     ensures done { IfOk result (λ done. done ≡ applied.done_of command.now home.now (slot_view slot.old)) }
     ensures no_rule { spec.holds_rule (slot_view slot.old) ≡ false → IsOk result }
@@ -65,8 +66,8 @@ fn carry_out(
 
 // Takes a rule out of its slot.
 fn delete(slot: &mut Option<Stmt<'_>>) -> Done
-    ensures slot { (home : _) → slot_view slot.new ≡ applied.after commands.Delete home (slot_view slot.old) }
-    ensures done { (home : _) → result ≡ applied.done_of commands.Delete home (slot_view slot.old) }
+    ensures slot { (home : _) → slot_view slot.new ≡ applied.after Delete home (slot_view slot.old) }
+    ensures done { (home : _) → result ≡ applied.done_of Delete home (slot_view slot.old) }
 {
     if holds_rule(slot) {
         *slot = None;

@@ -5,7 +5,7 @@ use Rattle.std.specs.List.{AllByRecursion, list_all}
 use Rattle.bz_attribute.specs.Effects.{add, fresh, has, is_fresh, list_item, new_elements, no_parts, with_added}
 use Rattle.bz_attribute.specs.Lists.{edit_first_part, is_attribute, parts}
 use Rattle.bz_attribute.specs.Rules.{value}
-use Rattle.bz_command.specs.Commands.{Add}
+use Rattle.bz_command.specs.declared.command.Action.TheVariants.{Add}
 use Rattle.bz_command.specs.Labels.{Package}
 use Rattle.bz_command.specs.Names.{is_identifier}
 use Rattle.bz_rule.specs.Applied.{after}

@@ -2,12 +2,12 @@
 use Rattle.std.proofs.Common.{◌≡◌, ℕ, zero, suc, ◌≤◌, List, Bool, true, Some, subst, arith}
 use Rattle.bz_tree.specs.Grammar.{IsArg}
 use Rattle.bz_tree.specs.Tree.{Segment, Statement}
-use Rattle.bz_command.specs.Commands.{Command, Add, Remove, Set, SetIfAbsent, Delete, Rename, Move, Replace, Comment, Print, is_command}
+use Rattle.bz_command.specs.Commands.{Command, is_command, command_passes}
+use Rattle.bz_command.specs.declared.command.Action.TheVariants.{Add, Remove, Set, SetIfAbsent, Delete, Rename, Move, Replace, Comment, Print}
 use Rattle.bz_command.specs.Labels.{Package}
 use Rattle.bz_layout_laws.specs.EachText.{statement_passes}
 use Rattle.bz_layout_laws.specs.WellFormed.{IsWellFormed}
 use Rattle.bz_rule.specs.Applied.{after, args_after}
-use Rattle.bz_rule_laws.specs.CommandTexts.{command_passes}
 use Rattle.bz_rule_laws.proofs.Add.{add_comments, add_keeps, add_lawful}
 use Rattle.bz_rule_laws.proofs.Comment.{comment_lawful}
 use Rattle.bz_rule_laws.proofs.Delete.{delete_lawful}

@@ -8,7 +8,10 @@ use Rattle.bz_attribute.specs.Commenting.{comment_attribute, comment_element, co
 use Rattle.bz_attribute.specs.Effects.{edit_first, has}
 use Rattle.bz_attribute.specs.Lists.{equals, is_attribute}
 use Rattle.bz_attribute.specs.Rules.{Rule, rule_of, value}
-use Rattle.bz_command.specs.Commands.{Attribute, Comment, Commented, Value, breaks_line, is_command, is_commented, Rule as OfRule}
+use Rattle.bz_command.specs.Commands.{breaks_line, is_command, is_commented}
+use Rattle.bz_command.specs.declared.command.Commented.{Commented}
+use Rattle.bz_command.specs.declared.command.Commented.TheVariants.{Attribute, Value, Rule as OfRule}
+use Rattle.bz_command.specs.declared.command.Action.TheVariants.{Comment}
 use Rattle.bz_command.specs.Labels.{Package}
 use Rattle.bz_layout_laws.proofs.EachRead.{comments_join}
 use Rattle.bz_layout_laws.specs.EachText.{items_pass}

@@ -1,6 +1,6 @@
 -- `delete` leaves what is well formed so, and texts that pass a test.
 use Rattle.std.proofs.Common.{suc, is_some}
-use Rattle.bz_command.specs.Commands.{Delete}
+use Rattle.bz_command.specs.declared.command.Action.TheVariants.{Delete}
 use Rattle.bz_command.specs.Labels.{Package}
 use Rattle.bz_attribute.specs.Rules.{rule_of}
 use Rattle.bz_rule_laws.proofs.Lawful.{Lawful, SlotFormed}

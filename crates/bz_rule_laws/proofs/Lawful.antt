@@ -2,13 +2,12 @@
 use Rattle.std.proofs.Common.{◌≡◌, ℕ, suc, List, Bool, true, Option, None, Some, option_map, refl, sym, subst}
 use Rattle.bz_tree.specs.Grammar.{IsArg}
 use Rattle.bz_tree.specs.Tree.{Segment, Statement}
-use Rattle.bz_command.specs.Commands.{Command, is_command}
+use Rattle.bz_command.specs.Commands.{Command, is_command, command_passes}
 use Rattle.bz_command.specs.Labels.{Package}
 use Rattle.bz_layout_laws.specs.WellFormed.{IsWellFormed}
 use Rattle.bz_attribute.specs.Effects.{nodes_after, with_args}
 use Rattle.bz_attribute.specs.Rules.{rule_of}
 use Rattle.bz_rule.specs.Applied.{after, args_after}
-use Rattle.bz_rule_laws.specs.CommandTexts.{command_passes}
 use Rattle.bz_rule_laws.proofs.PassingParts.{KeepsPassing}
 use Rattle.bz_rule_laws.proofs.PassingRules.{SlotPasses, StatementPasses, args_nodes_pass, with_nodes}
 use Rattle.bz_rule_laws.proofs.PassingWritten.{PassesWritten}

@@ -6,7 +6,9 @@ use Rattle.bz_attribute.specs.Effects.{edit_first, filtered, has, is_chosen, lis
 use Rattle.bz_attribute.specs.Lists.{edit_first_part, is_attribute, parts, with_value}
 use Rattle.bz_attribute.specs.Moving.{arrivals, chosen_of, elements_of, is_among, joined, move, move_note, moved, moves, put_in}
 use Rattle.bz_attribute.specs.Rules.{first_named, is_named, string_value, value}
-use Rattle.bz_command.specs.Commands.{Move, Moved, is_command, is_moved}
+use Rattle.bz_command.specs.Commands.{is_command, is_moved}
+use Rattle.bz_command.specs.declared.command.Moved.{Moved}
+use Rattle.bz_command.specs.declared.command.Action.TheVariants.{Move}
 use Rattle.bz_command.specs.Labels.{Package}
 use Rattle.bz_command.specs.Names.{is_identifier}
 use Rattle.bz_rule.proofs.Arguments.{attribute_named}

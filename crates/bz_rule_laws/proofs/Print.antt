@@ -1,6 +1,7 @@
 -- `print` leaves all as it was.
 use Rattle.std.proofs.Common.{List}
-use Rattle.bz_command.specs.Commands.{Field, Print}
+use Rattle.bz_command.specs.declared.command.Field.{Field}
+use Rattle.bz_command.specs.declared.command.Action.TheVariants.{Print}
 use Rattle.bz_command.specs.Labels.{Package}
 use Rattle.bz_rule_laws.proofs.Lawful.{Lawful}
 

@@ -3,7 +3,11 @@ use Rattle.std.proofs.Common.{Bool, List, [], ap, false, if◌then◌else◌, ma
 use Rattle.bz_attribute.specs.Effects.{filtered, goes_with_all, loses_all, remove, unchosen}
 use Rattle.bz_attribute.specs.Lists.{edit_parts, is_attribute, parts, with_value}
 use Rattle.bz_attribute.specs.Rules.{is_named, value}
-use Rattle.bz_command.specs.Commands.{Attributes, Every, Moved, Named, Remove, Values}
+use Rattle.bz_command.specs.declared.command.Attributes.{Attributes}
+use Rattle.bz_command.specs.declared.command.Attributes.TheVariants.{Every, Named}
+use Rattle.bz_command.specs.declared.command.Moved.{Moved}
+use Rattle.bz_command.specs.declared.command.Moved.TheVariants.{Values}
+use Rattle.bz_command.specs.declared.command.Action.TheVariants.{Remove}
 use Rattle.bz_command.specs.Labels.{Package}
 use Rattle.bz_rule.proofs.Arguments.{value_put}
 use Rattle.bz_rule.proofs.PartLaws.{parts_edited}

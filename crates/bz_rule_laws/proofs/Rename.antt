@@ -4,7 +4,7 @@ use Rattle.std.proofs.lemmas.Bool.{and_parts}
 use Rattle.bz_attribute.specs.Effects.{rename, rename_note, rename_to, renamed}
 use Rattle.bz_attribute.specs.Lists.{is_attribute}
 use Rattle.bz_attribute.specs.Rules.{ident_of, is_operator_item, is_text as is_word, name_of, value}
-use Rattle.bz_command.specs.Commands.{Rename}
+use Rattle.bz_command.specs.declared.command.Action.TheVariants.{Rename}
 use Rattle.bz_command.specs.Labels.{Package}
 use Rattle.bz_command.specs.Names.{is_identifier}
 use Rattle.bz_rule.specs.Applied.{after}

@@ -5,7 +5,9 @@ use Rattle.bz_attribute.specs.Effects.{string_item}
 use Rattle.bz_attribute.specs.Lists.{edit_parts, equals, is_attribute, parts, same_value}
 use Rattle.bz_attribute.specs.Replacing.{is_replaced, replace, replaced, replaced_in}
 use Rattle.bz_attribute.specs.Rules.{is_text, string_value, value}
-use Rattle.bz_command.specs.Commands.{Attributes, Every, Named, Replace}
+use Rattle.bz_command.specs.declared.command.Attributes.{Attributes}
+use Rattle.bz_command.specs.declared.command.Attributes.TheVariants.{Every, Named}
+use Rattle.bz_command.specs.declared.command.Action.TheVariants.{Replace}
 use Rattle.bz_command.specs.Labels.{Package}
 use Rattle.bz_rule.proofs.Arguments.{value_put}
 use Rattle.bz_rule.proofs.PartLaws.{parts_edited}

@@ -8,7 +8,9 @@ use Rattle.bz_attribute.specs.Effects.{argument, has, nodes_of, string}
 use Rattle.bz_attribute.specs.Lists.{is_attribute}
 use Rattle.bz_attribute.specs.Rules.{Rule, dotted, first_named, is_operator_item, kind_text, rule_of, value}
 use Rattle.bz_attribute.specs.Setting.{New, NewConstant, NewNumber, NewString, NewStrings, holds_list, is_constant, is_list_attribute, is_number, is_value, joined_by_dots, kind_after, kind_items, new_of, new_value, new_word, set, set_if_absent, set_in, with_kind}
-use Rattle.bz_command.specs.Commands.{Set, SetIfAbsent, Setting, ToKind, ToValues}
+use Rattle.bz_command.specs.declared.command.Setting.{Setting}
+use Rattle.bz_command.specs.declared.command.Setting.TheVariants.{ToKind, ToValues}
+use Rattle.bz_command.specs.declared.command.Action.TheVariants.{Set, SetIfAbsent}
 use Rattle.bz_command.specs.Labels.{Package}
 use Rattle.bz_command.specs.Names.{is_identifier, is_kind}
 use Rattle.bz_layout_laws.specs.WellFormed.{IsWellFormed}

@@ -1,3 +1,2 @@
-pub mod CommandTexts
 pub mod OwnComments
 pub mod WellFormedSegments

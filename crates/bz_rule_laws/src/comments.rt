@@ -4,7 +4,10 @@ ghost use Rattle.std.specs.Prelude.{◌≡◌, ◌++◌, ◌∷◌, if◌then◌
 ghost use Rattle.bz_tree.specs.Comments.{comments_of};
 ghost use Rattle.bz_tree.specs.Tree.{Segment, Statement};
 ghost use Rattle.bz_rule.specs.Applied.{after};
-ghost use Rattle.bz_command.specs.Commands.{Add, Attributes, Moved, Rename, Replace, Set, SetIfAbsent, ToKind};
+ghost use Rattle.bz_command.specs.declared.command.Attributes.{Attributes};
+ghost use Rattle.bz_command.specs.declared.command.Setting.TheVariants.{ToKind};
+ghost use Rattle.bz_command.specs.declared.command.Moved.{Moved};
+ghost use Rattle.bz_command.specs.declared.command.Action.TheVariants.{Add, Rename, Replace, Set, SetIfAbsent};
 ghost use Rattle.bz_attribute.specs.Effects as effects;
 ghost use Rattle.bz_command.specs.Labels.{Package};
 ghost use Rattle.bz_attribute.specs.Lists.{is_attribute, parts};

@@ -4,7 +4,10 @@ ghost use Rattle.std.specs.Prelude.{◌≡◌, ◌≤◌, ◌++◌, ◌∷◌, �
 ghost use Rattle.std.specs.List.{list_all, list_any};
 ghost use Rattle.bz_tree.specs.Tree.{Segment, Statement};
 ghost use Rattle.bz_rule.specs.Applied.{after, done_of};
-ghost use Rattle.bz_command.specs.Commands.{Add, Every, Named, Set, ToKind, ToValues, Values};
+ghost use Rattle.bz_command.specs.declared.command.Attributes.TheVariants.{Every, Named};
+ghost use Rattle.bz_command.specs.declared.command.Setting.TheVariants.{ToKind, ToValues};
+ghost use Rattle.bz_command.specs.declared.command.Moved.TheVariants.{Values};
+ghost use Rattle.bz_command.specs.declared.command.Action.TheVariants.{Add, Set};
 ghost use Rattle.bz_attribute.specs.Effects as effects;
 ghost use Rattle.bz_command.specs.Labels.{Package};
 ghost use Rattle.bz_attribute.specs.Lists.{is_attribute};

@@ -2,7 +2,9 @@
 use Rattle.std.specs.Prelude.{ℕ, List, [], ◌∷◌, if◌then◌else◌, Option, Some, None, Result, Ok, Err}
 use Rattle.bz_command.specs.declared.command.CommandFault.{CommandFault}
 use Rattle.bz_command.specs.declared.command.CommandFault.TheVariants.{WrongCount, BadAttribute}
-use Rattle.bz_command.specs.Commands.{Attributes, Every, Named, Command, a_command, is_star}
+use Rattle.bz_command.specs.Commands.{Command, a_command, is_star}
+use Rattle.bz_command.specs.declared.command.Attributes.{Attributes}
+use Rattle.bz_command.specs.declared.command.Attributes.TheVariants.{Every, Named}
 use Rattle.bz_command.specs.Names.{is_identifier}
 
 abbrev pub attribute_of : List ℕ → Result (List ℕ) CommandFault

@@ -1,7 +1,7 @@
 use Rattle.std.proofs.Common.{rules, ◌∙◌, map, string_bytes, ap, ◌++◌, List, ℕ}
 use Rattle.bz_tree.specs.View.{seg_view, segs_view}
 use Rattle.bz_attribute_commands.specs.private.PrintSteps.{element_word}
-use Rattle.bz_attribute_commands.proofs.Printed.{spaced_all, next_word}
+use Rattle.bz_attribute_commands.proofs.Printed.{spaced_all, next_viewed}
 use Rattle.bz_attribute_commands.proofs.print.push_elements.Goals as goal
 
 pub loop-element-init : goal.loop-element-init
@@ -14,7 +14,7 @@ pub loop-element-preserved : goal.loop-element-preserved
 loop-element-preserved c = record {
   utf8 = search rules;
   written =
-      next_word element_word seg_view c.args.elements.now c.element-item.result c.loop-element.element-index _ _ _ c.loop-element.space.now c.loop-element-test.true c.element-item.is
+      next_viewed element_word seg_view c.args.elements.now c.element-item.result c.loop-element.element-index _ _ _ c.loop-element.space.now c.loop-element-test.true c.element-item.is
       c.in_ok-push_str.ensures.bytes c.in_ok-push_element.ensures
       ∙ c.loop-element.invariant.written;
 }

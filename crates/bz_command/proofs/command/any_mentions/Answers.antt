@@ -1,12 +1,9 @@
-use Rattle.std.proofs.Common.{rules, tests, ◌∙◌}
+use Rattle.std.proofs.Common.{rules, tests}
 use Rattle.std.proofs.lemmas.Iterator.{YieldsList-from_slice}
 use Rattle.std.proofs.lemmas.Iterator.Search.{any_from_yields_List}
-use Rattle.bz_command.specs.CommandViews.{field_view}
-use Rattle.bz_command.specs.Mentions.{field_mentions}
-use Rattle.bz_command.proofs.FieldViews.{any_viewed}
+use Rattle.bz_command.specs.Commands.{field_mentions}
 use Rattle.bz_command.proofs.command.any_mentions.Goals as goal
 
 pub returns : goal.returns
 returns c =
-    any_from_yields_List (λ field. field_mentions c.args.name.now (field_view field)) _ _ c.any.result c.any.ensures.ran (YieldsList-from_slice c.args.fields.now cc) (λ x b q k. search (rules, tests))
-    ∙ any_viewed c.args.name.now c.args.fields.now
+    any_from_yields_List (field_mentions c.args.name.now) _ _ c.any.result c.any.ensures.ran (YieldsList-from_slice c.args.fields.now cc) (λ x b q k. search (rules, tests))

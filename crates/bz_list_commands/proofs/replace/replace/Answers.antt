@@ -1,7 +1,7 @@
 use Rattle.std.proofs.Common.{◌≡◌, ℕ, ◌+◌, ◌-◌, Bool, None, take, drop, ap, subst, sym, ◌∙◌, arith}
 use Rattle.std.specs.Prelude.{IfOk}
-use Rattle.bz_command.specs.Commands.{Attributes, Every, Named}
-use Rattle.bz_command.specs.CommandViews.{attributes_view}
+use Rattle.bz_command.specs.declared.command.Attributes.{Attributes}
+use Rattle.bz_command.specs.declared.command.Attributes.TheVariants.{Every, Named}
 use Rattle.bz_tree.specs.View.{segs_view}
 use Rattle.bz_attribute.specs.Effects.{done}
 use Rattle.bz_attribute.specs.Replacing.{replace, replaces}
@@ -10,7 +10,7 @@ use Rattle.bz_list_commands.proofs.replace.replace.Goals as goal
 
 pub returns-in-Some-clause-args : goal.returns-in-Some-clause-args
 returns-in-Some-clause-args c =
-    let named : attributes_view c.args.attributes.now ≡ Named c.as_str.result.now = ap attributes_view c.in-Named.is ∙ ap Named (sym c.as_str.ensures) in
+    let named : c.args.attributes.now ≡ Named c.as_str.result.now = c.in-Named.is ∙ ap Named (sym c.as_str.ensures) in
     let n : ℕ = c.in-Some.i + 1 - c.in-Some.i in
     where_ok
     (λ (made : segs_view c.replace_everywhere-in-Some.new.args ≡ replace c.args.home.now Every c.args.old.now c.args.new.now (segs_view (take (c.in-Some.i + 1 - c.in-Some.i) (drop c.in-Some.i c.args.args.now)))).
@@ -20,7 +20,7 @@ returns-in-Some-clause-args c =
 
 pub returns-in-Some-clause-done : goal.returns-in-Some-clause-done
 returns-in-Some-clause-done c =
-    let named : attributes_view c.args.attributes.now ≡ Named c.as_str.result.now = ap attributes_view c.in-Named.is ∙ ap Named (sym c.as_str.ensures) in
+    let named : c.args.attributes.now ≡ Named c.as_str.result.now = c.in-Named.is ∙ ap Named (sym c.as_str.ensures) in
     subst (λ (b : Bool). IfOk c.replace_everywhere-in-Some.result (λ d. d ≡ done None b))
     (replaces_one c.args.home.now c.args.old.now c.args.new.now c.as_str.result.now c.args.args.now c.in-Some.i (c.in-Some.i + 1 - c.in-Some.i) c.in-Some.ensures.some (omega arith)
     ∙ sym (ap (λ (attributes : Attributes). replaces c.args.home.now attributes c.args.old.now c.args.new.now (segs_view c.args.args.now)) named))

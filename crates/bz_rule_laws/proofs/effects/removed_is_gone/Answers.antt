@@ -1,4 +1,4 @@
-use Rattle.bz_command.specs.Commands.{Values}
+use Rattle.bz_command.specs.declared.command.Moved.TheVariants.{Values}
 use Rattle.bz_attribute.specs.Rules.{is_named}
 use Rattle.bz_attribute.specs.Effects.{filtered, goes_with_all, unchosen}
 use Rattle.bz_rule.proofs.Kept.{none_left}

@@ -1,4 +1,5 @@
-use Rattle.bz_command.specs.Commands.{Set, ToValues}
+use Rattle.bz_command.specs.declared.command.Setting.TheVariants.{ToValues}
+use Rattle.bz_command.specs.declared.command.Action.TheVariants.{Set}
 use Rattle.bz_rule.specs.Applied.{args_after, args_done}
 use Rattle.bz_rule_laws.proofs.Again.{slot_again}
 use Rattle.bz_rule_laws.proofs.SetAgain.{set_again, set_kind_again}
