@@ -23,7 +23,8 @@ pub fn print_head(
     ensures { IfOk result (λ told. IfSome told (λ done. (s : Statement) → IsHeadOf head.entry s
         → done ≡ prints home.now fields.now (Some s))) }
 {
-    let mut line = String::new(alloc);
+    // Most often the name is all that is printed.
+    let mut line = String::with_capacity(alloc, head.name.len())?;
     if !push_told(alloc, &mut line, home, fields, head)? {
         return Ok(None);
     }
