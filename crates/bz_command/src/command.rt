@@ -72,6 +72,49 @@ pub enum Action {
     Print(Seq<Field>),
 }
 
+/// How the commands are written, a line each.
+pub const USAGE: &str = "\
+commands (words are separated by spaces; \"\\ \" is a space inside a word):
+  add ATTR VALUE..             adds values to a list
+  remove ATTR [VALUE..]        removes an attribute, or values from its list (* for all attributes)
+  set ATTR VALUE..             sets an attribute ('set kind KIND' the rule's kind)
+  set_if_absent ATTR VALUE..   sets an attribute that is not there
+  rename OLD NEW               renames an attribute
+  move OLD NEW VALUE..         moves values from one list to another (* for all)
+  replace ATTR OLD NEW         replaces a value in a list (* for all attributes)
+  comment [ATTR [VALUE]] TEXT  adds a comment before a rule, an attribute or a value
+  delete                       removes the rule
+  print [FIELD..]              prints attributes, or label, kind, startline, endline
+";
+
+/// The commands of Bazel's own buildozer (its README, "Edit commands" and "Print commands") that this program does not
+/// have.
+pub const LEFT_OUT: [&str; 23] = [
+    "copy",
+    "copy_no_overwrite",
+    "dict_add",
+    "dict_delete",
+    "dict_list_add",
+    "dict_list_remove",
+    "dict_remove",
+    "dict_replace_if_equal",
+    "dict_set",
+    "fix",
+    "format",
+    "new",
+    "new_load",
+    "print_comment",
+    "remove_comment",
+    "remove_if_equal",
+    "replace_load",
+    "set_select",
+    "substitute",
+    "substitute_load",
+    "use_repo_add",
+    "use_repo_remove",
+    "version",
+];
+
 /// A command on one rule. [`read_command`](crate::read_command) makes it.
 pub struct Command {
     pub action: Action,

@@ -27,7 +27,9 @@ mod value;
 mod words;
 
 pub use bytes::{Bytes, value_of};
-pub use command::{Action, Attributes, Command, CommandFault, Commented, Field, Moved, Setting};
+pub use command::{
+    Action, Attributes, Command, CommandFault, Commented, Field, LEFT_OUT, Moved, Setting, USAGE,
+};
 pub use decode::read_value;
 pub use label_set::LabelSet;
 pub use labels::{LabelFault, read_label};
