@@ -9,6 +9,7 @@ mod file_run;
 mod package;
 mod run;
 
+use bz_command::USAGE;
 use bz_engine::{FromRead, ToWrite};
 use bz_folder::{Draft, OnDisk};
 use bz_script::flags::Flags;
