@@ -47,8 +47,7 @@ pub fn comment(
 ) -> Result<Done, AllocError>
     ensures args { OnOk result
         (segs_view args.new ≡ spec.comment_args commented.now home.now text.now (segs_view args.old)) }
-    ensures done { IfOk result
-        (λ d. d ≡ spec.comment_done commented.now home.now (segs_view args.old)) }
+    ensures done { IfOk result (λ d. d ≡ spec.comment_done commented.now home.now (segs_view args.old)) }
     ensures err { OnErr result (segs_view args.new ≡ segs_view args.old) }
 {
     match commented {

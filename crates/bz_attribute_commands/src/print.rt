@@ -60,8 +60,7 @@ fn print_fields(
     stmt: &Stmt<'_>,
     rule: Rule<'_, '_>,
 ) -> Result<Done, AllocError>
-    ensures { IfOk result
-        (λ done. done ≡ spec.printed home.now (view stmt.now) (rule_view rule.entry) fields.now) }
+    ensures { IfOk result (λ done. done ≡ spec.printed home.now (view stmt.now) (rule_view rule.entry) fields.now) }
 {
     let mut line = String::new(alloc);
     let mut missing = None;

@@ -30,8 +30,7 @@ pub fn remove(
         ≡ spec.remove home.now attributes.now values.now (segs_view args.old.items)) }
     ensures done { IfOk result
         (λ done. done
-        ≡ spec.done None
-        (spec.removes home.now attributes.now values.now (segs_view args.old.items))) }
+        ≡ spec.done None (spec.removes home.now attributes.now values.now (segs_view args.old.items))) }
     ensures err { OnErr result (segs_view args.new.items ≡ segs_view args.old.items) }
 {
     match (attributes, values) {
