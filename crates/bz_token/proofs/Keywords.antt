@@ -1,12 +1,12 @@
 -- Which bytes are no keyword.
-use Rattle.std.proofs.Common.{◌≡◌, ℕ, List, [], ◌∷◌, ◌==◌, ◌||◌, Bool, true, false, length, get_or, ◌<◌, arith, refl, sym, ap, ◌∙◌, inl, inr}
+use Rattle.std.proofs.Common.{◌≡◌, ℕ, List, ◌==◌, ◌||◌, Bool, true, length, get_or, refl, sym, ap, ◌∙◌, inl, inr}
 use Rattle.std.specs.Prelude.{codes, bytes_eq}
-use Rattle.std.proofs.lemmas.Bool.{cases_Bool, or_cases, false≢true}
+use Rattle.std.proofs.lemmas.Bool.{cases_Bool, or_cases, eqb-true, false≢true}
 use Rattle.bz_token.specs.Lexical.{keywords, is_keyword}
 use Rattle.bz_token.specs.private.Keywords.{keyword_len}
 use Rattle.bz_token.proofs.Classes.{one_of, same_bytes}
 
-abbrev pub fits : List ℕ → Bool
+abbrev fits : List ℕ → Bool
 fits bytes = length bytes == keyword_len (get_or bytes 0 0)
 
 lambda_is : is_keyword (codes "lambda") ≡ true
@@ -18,10 +18,10 @@ unfolding keywords
 all_fit bytes is = one_of (λ t. fits t || bytes_eq t (codes "lambda")) keywords bytes refl is
 
 -- of another length than the keywords that begin so
-pub of_other_length : (bytes : List ℕ) → fits bytes ≡ false → is_keyword bytes ≡ bytes_eq bytes (codes "lambda")
+pub of_other_length : (bytes : List ℕ) → (length bytes ≡ keyword_len (get_or bytes 0 0) → ⊥) → is_keyword bytes ≡ bytes_eq bytes (codes "lambda")
 of_other_length bytes other = elim (cases_Bool (is_keyword bytes)) [
   | inl is ↦ elim (or_cases (fits bytes) (bytes_eq bytes (codes "lambda")) (all_fit bytes is)) [
-    | inl fit ↦ absurd (false≢true (sym other ∙ fit))
+    | inl fit ↦ absurd (other (eqb-true (length bytes) (keyword_len (get_or bytes 0 0)) fit))
     | inr lambda ↦ is ∙ sym lambda
   ]
   | inr none ↦ elim (cases_Bool (bytes_eq bytes (codes "lambda"))) [
@@ -29,8 +29,3 @@ of_other_length bytes other = elim (cases_Bool (is_keyword bytes)) [
     | inr miss ↦ none ∙ sym miss
   ]
 ]
-
-pub of_none : (bytes : List ℕ) → length bytes < 1 → is_keyword bytes ≡ bytes_eq bytes (codes "lambda")
-unfolding keywords
-of_none [] none = refl
-of_none (b ∷ bs) none = absurd (omega arith)

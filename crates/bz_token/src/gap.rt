@@ -53,9 +53,9 @@ pub fn advance(place: Place, bytes: &[u8]) -> Place
 #[derive(Clone, Copy)]
 pub struct Gap {
     pub len: usize,
-    pub has_newline: bool,
     /// The bytes after the newline, or all where there is none.
     pub on_line: usize,
+    pub has_newline: bool,
 }
 
 /// The place after a gap.
@@ -84,7 +84,10 @@ pub fn after_gap(place: Place, gap: Gap) -> Place
 fn blank_len(bytes: &[u8]) -> usize
     ensures { result ≡ prefix_len is_blank bytes.now }
 {
-    bytes.iter().take_while(|b| is_blank(**b)).count()
+    match bytes {
+        [b' ', b, ..] if !is_blank(*b) => 1,
+        _ => bytes.iter().take_while(|b| is_blank(**b)).count(),
+    }
 }
 
 // Whether four spaces stand here.
@@ -117,8 +120,8 @@ pub fn blanks(bytes: &[u8]) -> Gap
     let len = blank_len(bytes);
     Gap {
         len,
-        has_newline: false,
         on_line: len,
+        has_newline: false,
     }
 }
 
@@ -132,8 +135,8 @@ pub fn newline(bytes: &[u8]) -> Gap
     let on_line = indent_len(&bytes[1..]);
     Gap {
         len: 1 + on_line,
-        has_newline: true,
         on_line,
+        has_newline: true,
     }
 }
 
@@ -148,13 +151,13 @@ pub fn continued(bytes: &[u8]) -> Option<Gap>
     match bytes {
         [_, b'\n', ..] => Some(Gap {
             len: 2,
-            has_newline: true,
             on_line: 0,
+            has_newline: true,
         }),
         [_, b'\r', b'\n', ..] => Some(Gap {
             len: 3,
-            has_newline: true,
             on_line: 0,
+            has_newline: true,
         }),
         _ => None,
     }

@@ -1,6 +1,6 @@
 //! How long the token at the front of some bytes is.
 
-ghost use Rattle.std.specs.Prelude.{◌≡◌, ◌≤◌, ◌<◌, ◌+◌, ◌-◌, ◌++◌, ◌==◌, ◌∷◌, [], ℕ, true, false, not, length, take, drop, slice_index, map, IfOk, IfErr, IfSome, IfNone, IsTrue, bytes_eq, codes};
+ghost use Rattle.std.specs.Prelude.{◌≡◌, ◌≤◌, ◌<◌, ◌+◌, ◌-◌, ◌++◌, ◌==◌, ◌∷◌, [], ℕ, true, false, not, length, take, drop, slice_index, map, IfOk, IfErr, IfSome, IfNone, IsTrue, bytes_eq};
 ghost use Rattle.std.specs.Char.{is_ascii_digit, is_ascii_hexdigit};
 ghost use Rattle.std.specs.List.{list_all, list_any, prefix_len};
 ghost use Rattle.bz_token.specs.declared.token.Kind.TheVariants.{Operator};
@@ -94,24 +94,14 @@ fn keyword_len(first: u8) -> usize
     }
 }
 
-// False for most names: at a glance, they are not one of the keywords but for `lambda`.
-#[inline(always)]
-fn may_be_keyword(bytes: &[u8]) -> bool
-    ensures { result ≡ false → is_keyword bytes.now ≡ bytes_eq bytes.now (codes "lambda") }
-{
-    match bytes {
-        [] => false,
-        [first, ..] => bytes.len() == keyword_len(*first),
-    }
-}
-
 /// Whether the bytes are a keyword.
 #[tactic(auto, unfolding(crate::specs::Lexical::keywords))]
 #[inline(always)]
 pub fn is_keyword(bytes: &[u8]) -> bool
     ensures { result ≡ is_keyword bytes.now }
 {
-    if !may_be_keyword(bytes) {
+    // Most names are told at a glance.
+    if bytes.len() != keyword_len(byte_at(bytes, 0)) {
         return are(bytes, b"lambda");
     }
     match bytes.len() {
