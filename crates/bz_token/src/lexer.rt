@@ -188,13 +188,10 @@ impl<'a> Lexer<'a> {
     {
         let Spot { rest, place, fresh } = spot;
         let bytes = rest.as_bytes();
-        let step = match read_step(&mut self.brackets, bytes, max_depth, place) {
-            Ok(step) => step,
-            Err(fault) => return Err(fault),
-        };
-        match step {
-            Step::Gap(gap) => Ok((self.pass_gap(spot, gap), None)),
-            Step::Token(scanned) => {
+        match read_step(&mut self.brackets, bytes, max_depth, place) {
+            Err(fault) => Err(fault),
+            Ok(Step::Gap(gap)) => Ok((self.pass_gap(spot, gap), None)),
+            Ok(Step::Token(scanned)) => {
                 let Place { line, col } = place;
                 let (token, following) = rest.split_at(scanned.len);
                 self.tokens.push(Token {

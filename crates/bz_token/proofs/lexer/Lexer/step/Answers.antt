@@ -15,18 +15,18 @@ returns-in-Err-clause-fault c first bytes given before =
 
 pub pass_gap-requires-clause-gap : goal.pass_gap-requires-clause-gap
 pass_gap-requires-clause-gap c =
-    let taken = gap_of_step _ _ _ _ _ _ c.in-Gap.gap c.as_bytes-bytes.ensures.value c.in-Gap.is c.in-Ok.ensures.step in
+    let taken = gap_of_step _ _ _ _ _ _ c.in-Ok-Gap.gap c.as_bytes-bytes.ensures.value c.in-Ok-Gap.field-0-is c.in-Ok-Gap.ensures.step in
     rw taken.1 taken.0
 
 pub pass_gap-requires-clause-read : goal.pass_gap-requires-clause-read
 pass_gap-requires-clause-read c =
-    let taken = gap_of_step _ _ _ _ _ _ c.in-Gap.gap c.as_bytes-bytes.ensures.value c.in-Gap.is c.in-Ok.ensures.step in
+    let taken = gap_of_step _ _ _ _ _ _ c.in-Ok-Gap.gap c.as_bytes-bytes.ensures.value c.in-Ok-Gap.field-0-is c.in-Ok-Gap.ensures.step in
     let p = c.requires.places in
     (p.0, c.args.max_depth, p.1, p.2, rw taken.1 p.3, p.4)
 
-pub returns-in-Gap-clause-read : goal.returns-in-Gap-clause-read
-returns-in-Gap-clause-read c first bytes given before =
-    let taken = gap_of_step _ _ _ _ _ _ c.in-Gap.gap c.as_bytes-bytes.ensures.value c.in-Gap.is c.in-Ok.ensures.step in
+pub returns-in-Ok-Gap-clause-read : goal.returns-in-Ok-Gap-clause-read
+returns-in-Ok-Gap-clause-read c first bytes given before =
+    let taken = gap_of_step _ _ _ _ _ _ c.in-Ok-Gap.gap c.as_bytes-bytes.ensures.value c.in-Ok-Gap.field-0-is c.in-Ok-Gap.ensures.step in
     rw taken.1 ((rw taken.1 at c.pass_gap.ensures.read first c.args.max_depth bytes given) before)
 
 pub pass-place-requires-clause-line_fits : goal.pass-place-requires-clause-line_fits
@@ -44,20 +44,20 @@ pass-place-requires-clause-col_fits c =
 pub pass-place-requires-clause-col_counts : goal.pass-place-requires-clause-col_counts
 pass-place-requires-clause-col_counts c = (places_fit _ _ _ _ _ _ _ _ _ c.requires.places.3).2
 
-pub returns-in_ok-push-in-Token-clause-read : goal.returns-in_ok-push-in-Token-clause-read
-returns-in_ok-push-in-Token-clause-read c first bytes given before =
-    let found = token_of_step _ _ _ _ _ _ c.in-Token.scanned c.as_bytes-bytes.ensures.value c.in-Token.is c.in-Ok.ensures.step in
+pub returns-in_ok-push-in-Ok-Token-clause-read : goal.returns-in_ok-push-in-Ok-Token-clause-read
+returns-in_ok-push-in-Ok-Token-clause-read c first bytes given before =
+    let found = token_of_step _ _ _ _ _ _ c.in-Ok-Token.scanned c.as_bytes-bytes.ensures.value c.in-Ok-Token.field-0-is c.in-Ok-Token.ensures.step in
     let here = c.args.spot.rest.now in
     let cut = c.split_at.ensures in
     let token = c.split_at.result.0.now in
     let following = c.split_at.result.1.now in
     let split : c.args.spot.rest.now ≡ token ++ following = rw (cut.front, cut.back, take-append-drop) refl in
     let whole = rw (← cut.front) at found.1.token.whole in
-    let fitting = token_fits c.args.max_depth c.in-Token.scanned.kind (opened c.args.self.now.brackets) here token following c.in-Token.scanned.len found.1.some found.1.within cut.front split whole found.0 found.2 in
-    let pushed = chosen _ _ _ _ c.push.ensures.items (ap is_ok c.in_ok-push-in-Token.was) in
-    let utf8 = IsUtf8-drop here c.in-Token.scanned.len before.utf8 (found.1.boundary before.utf8) in
+    let fitting = token_fits c.args.max_depth c.in-Ok-Token.scanned.kind (opened c.args.self.now.brackets) here token following c.in-Ok-Token.scanned.len found.1.some found.1.within cut.front split whole found.0 found.2 in
+    let pushed = chosen _ _ _ _ c.push.ensures.items (ap is_ok c.in_ok-push-in-Ok-Token.was) in
+    let utf8 = IsUtf8-drop here c.in-Ok-Token.scanned.len before.utf8 (found.1.boundary before.utf8) in
     rw (ap (λ ts. given ++ map placed ts) pushed ∙ (ap (λ ts. given ++ ts) (map_push c.args.self.now.tokens.items _) ∙ sym (append_assoc given (map placed c.args.self.now.tokens.items) _)))
-    (token_read first c.args.max_depth bytes _ (opened c.args.self.now.brackets) (opened c.read_step.new.brackets) c.args.spot.fresh here token following c.in-Token.scanned.kind
+    (token_read first c.args.max_depth bytes _ (opened c.args.self.now.brackets) (opened c.read_step.new.brackets) c.args.spot.fresh here token following c.in-Ok-Token.scanned.kind
     _ _ c.pass-place.result.line c.pass-place.result.col _ before found.0 split (rw (← cut.front, ← cut.back) at found.1.token) fitting.0 (found.3 ∙ fitting.1) refl (rw (← cut.back) at utf8)
     (rw c.as_bytes.ensures.value at c.pass-place.ensures.line)
     (rw c.as_bytes.ensures.value at c.pass-place.ensures.col))
