@@ -9,7 +9,6 @@ mod file_run;
 mod package;
 mod run;
 
-use bz_command::USAGE;
 use bz_engine::{FromRead, ToWrite};
 use bz_folder::{Draft, OnDisk};
 use bz_script::flags::Flags;
@@ -57,7 +56,7 @@ fn edit(rt: &HostRuntime, alloc: Global, flags: &Flags, script: Script) -> Resul
 /// Tells why the words ask for nothing.
 fn tell_usage(rt: &HostRuntime, fault: &StartFault, words: &[String]) {
     if help::is_wanted(fault, words) {
-        let _ = eprint!(rt; "{}{}{}", help::BEGINNING, USAGE, help::END);
+        let _ = eprint!(rt; "{}{}{}", help::BEGINNING, bz_command::USAGE, help::END);
         return;
     }
     let _ = eprintln!(rt; "buildozer: {fault}");
