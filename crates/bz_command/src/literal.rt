@@ -1,6 +1,6 @@
 //! A string literal, opened and read byte by byte: the one reader of its escapes.
 
-ghost use Rattle.std.specs.Prelude.{◌≡◌, ◌<◌, MatchOption, IfSome, Some, length, option_map};
+ghost use Rattle.std.specs.Prelude.{◌≡◌, ◌<◌, MatchOption, IfSome, Some, length, take, option_map};
 ghost use Rattle.std.specs.List.{prefix_len};
 ghost use Rattle.bz_command.specs.Values as spec;
 ghost use Rattle.bz_command.specs.private.ValueSteps.{is_plain, opened_value, taken};
@@ -60,7 +60,8 @@ pub(crate) fn next_in<'a>(literal: Literal<'a>) -> Option<(u8, Literal<'a>)>
 
 /// The value where each byte of it stands for itself, in a string of one quote: a slice of the text.
 pub(crate) fn plain_value(literal: Literal<'_>) -> Option<&[u8]>
-    ensures { IfSome result (λ value. inner_of literal.entry ≡ Some value.now) }
+    ensures value { IfSome result (λ value. inner_of literal.entry ≡ Some value.now) }
+    ensures front { IfSome result (λ value. value.now ≡ take (length value.now) literal.entry.rest.now) }
 {
     let [quote] = literal.quotes else {
         return None;

@@ -186,7 +186,9 @@ fn drop_front(bytes: &mut Vec<u8>, n: usize)
     requires { n ≤ length bytes.old.items }
     ensures { bytes.new.items ≡ drop n bytes.old.items }
 {
-    bytes.drain(..n);
+    let left = bytes.len() - n;
+    bytes.copy_within(n.., 0);
+    bytes.truncate(left);
 }
 
 /// Where the first line ends, after its newline.

@@ -69,8 +69,8 @@ pub(crate) fn newlines(bytes: &[u8]) -> u64
     count + u64::from(few_newlines(rest))
 }
 
-// A byte counts as many.
-const MOST_AT_ONCE: usize = 255;
+// A byte counts as many, and they are a multiple of what is counted at once.
+const MOST_AT_ONCE: usize = 240;
 
 // Counted in a byte, so that the compiler counts several bytes at once.
 fn few_newlines(bytes: &[u8]) -> u8

@@ -1,4 +1,4 @@
-use Rattle.std.proofs.Common.{◌≡◌, ◌∙◌, ◌≤◌, ◌<◌, List, ℕ, [], ◌∷◌, get_or, length, true, refl, sym, ap, take, drop, arith, inl, inr}
+use Rattle.std.proofs.Common.{◌≡◌, ◌∙◌, ◌≤◌, ◌<◌, List, ℕ, zero, suc, [], ◌∷◌, get_or, length, true, refl, sym, ap, take, drop, arith, inl, inr}
 use Rattle.std.specs.Prelude.{Some}
 use Rattle.std.specs.List.{prefix_len}
 use Rattle.std.proofs.lemmas.Bool.{cases_Bool}
@@ -29,5 +29,18 @@ value_is c is =
     ∙ plain_value c.args.literal.raw quote rest (cut ∙ same ∙ one)
     ∙ ap (λ (xs : List ℕ). Some xs) (ap (λ (n : ℕ). take n rest) (sym c.plain_len-len.ensures) ∙ sym c.split_at.ensures.front)
 
-pub returns : goal.returns
-returns c = rw (c.then_some.ensures) (elim (cases_Bool c.eq.result) [ inl is ↦ rw is (value_is c is) | inr other ↦ rw other tt ])
+-- a front is as many as it has
+front_is : (n : ℕ) (xs : List ℕ) → take n xs ≡ take (length (take n xs)) xs
+front_is zero xs = refl
+front_is (suc n) [] = refl
+front_is (suc n) (x ∷ xs) = ap (λ (ys : List ℕ). x ∷ ys) (front_is n xs)
+
+front_of : (n : ℕ) (front xs : List ℕ) → front ≡ take n xs → front ≡ take (length front) xs
+front_of n front xs is = rw is (front_is n xs)
+
+pub returns-clause-value : goal.returns-clause-value
+returns-clause-value c = rw (c.then_some.ensures) (elim (cases_Bool c.eq.result) [ inl is ↦ rw is (value_is c is) | inr other ↦ rw other tt ])
+
+pub returns-clause-front : goal.returns-clause-front
+returns-clause-front c =
+    rw (c.then_some.ensures) (elim (cases_Bool c.eq.result) [ inl is ↦ rw is (front_of _ c.split_at.result.0.now c.args.literal.rest.now c.split_at.ensures.front) | inr other ↦ rw other tt ])
