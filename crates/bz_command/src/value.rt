@@ -48,15 +48,9 @@ fn push_written(text: &mut String, c: char) -> Result<(), AllocError>
 pub fn plain_text(text: &str) -> Option<&str>
     ensures { IfSome result (λ value. spec.value_of text.now ≡ Some value.now) }
 {
-    let inner = between_quotes(text)?;
+    let end = text.len().checked_sub(1)?;
+    let inner = text.get(1..end)?;
     has_value(text.as_bytes(), inner.as_bytes()).then_some(inner)
-}
-
-fn between_quotes(text: &str) -> Option<&str> {
-    match text.strip_prefix('"') {
-        Some(rest) => rest.strip_suffix('"'),
-        None => text.strip_prefix('\'')?.strip_suffix('\''),
-    }
 }
 
 /// The text is a literal with this value.
