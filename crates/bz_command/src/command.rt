@@ -1,7 +1,8 @@
 //! Commands on one rule.
 
-ghost use Rattle.std.specs.Prelude.{◌≡◌};
-ghost use Rattle.std.specs.List.{list_any};
+ghost use Rattle.std.specs.Prelude.{◌≡◌, true};
+ghost use Rattle.std.specs.List.{list_all, list_any};
+ghost use Rattle.std.specs.Str.{is_utf8};
 ghost use Rattle.bz_command.specs.Commands as spec;
 
 use crate::list::{Seq, Text};
@@ -167,6 +168,51 @@ impl Command {
     }
 }
 
+/// The words of a command, but for those of `print`, are UTF-8. The body takes each as a `&str`, since of that the
+/// prover knows it; it does nothing else.
+pub fn words_are_utf8(command: &Command)
+    ensures { spec.command_passes is_utf8 command.now ≡ true }
+{
+    command.action.words_are_utf8();
+}
+
+impl Action {
+    fn words_are_utf8(&self)
+        ensures { spec.command_passes is_utf8 self.now ≡ true }
+    {
+        match self {
+            Action::Add(attr, values) | Action::SetIfAbsent(attr, values) => {
+                word_is_utf8(attr);
+                each_word_is_utf8(values);
+            }
+            Action::Remove(attributes, values) => {
+                attributes.words_are_utf8();
+                each_word_is_utf8(values);
+            }
+            Action::Set(setting) => setting.words_are_utf8(),
+            Action::Delete | Action::Print(_) => {}
+            Action::Rename(old, new) => {
+                word_is_utf8(old);
+                word_is_utf8(new);
+            }
+            Action::Move(old, new, moved) => {
+                word_is_utf8(old);
+                word_is_utf8(new);
+                moved.words_are_utf8();
+            }
+            Action::Replace(attributes, old, new) => {
+                attributes.words_are_utf8();
+                word_is_utf8(old);
+                word_is_utf8(new);
+            }
+            Action::Comment(commented, text) => {
+                commented.words_are_utf8();
+                word_is_utf8(text);
+            }
+        }
+    }
+}
+
 impl Attributes {
     fn mention(&self, name: &str) -> bool
         ensures { result ≡ spec.attributes_mention name.now self.now }
@@ -176,15 +222,44 @@ impl Attributes {
             Attributes::Named(attr) => attr.as_str() == name,
         }
     }
+
+    fn words_are_utf8(&self)
+        ensures { spec.attributes_pass is_utf8 self.now ≡ true }
+    {
+        match self {
+            Attributes::Every => {}
+            Attributes::Named(attr) => word_is_utf8(attr),
+        }
+    }
 }
 
 impl Setting {
     fn mentions(&self, name: &str) -> bool
         ensures { result ≡ spec.setting_mentions name.now self.now }
     {
+        matches!(self, Setting::ToValues(attr, _) if attr.as_str() == name)
+    }
+
+    fn words_are_utf8(&self)
+        ensures { spec.setting_passes is_utf8 self.now ≡ true }
+    {
         match self {
-            Setting::ToKind(_) => false,
-            Setting::ToValues(attr, _) => attr.as_str() == name,
+            Setting::ToKind(kind) => word_is_utf8(kind),
+            Setting::ToValues(attr, values) => {
+                word_is_utf8(attr);
+                each_word_is_utf8(values);
+            }
+        }
+    }
+}
+
+impl Moved {
+    fn words_are_utf8(&self)
+        ensures { spec.moved_passes is_utf8 self.now ≡ true }
+    {
+        match self {
+            Moved::All => {}
+            Moved::Values(values) => each_word_is_utf8(values),
         }
     }
 }
@@ -198,16 +273,26 @@ impl Commented {
             Commented::Attribute(attr) | Commented::Value(attr, _) => attr.as_str() == name,
         }
     }
+
+    fn words_are_utf8(&self)
+        ensures { spec.commented_passes is_utf8 self.now ≡ true }
+    {
+        match self {
+            Commented::Rule => {}
+            Commented::Attribute(attr) => word_is_utf8(attr),
+            Commented::Value(attr, value) => {
+                word_is_utf8(attr);
+                word_is_utf8(value);
+            }
+        }
+    }
 }
 
 impl Field {
     fn mentions(&self, name: &str) -> bool
         ensures { result ≡ spec.field_mentions name.now self.now }
     {
-        match self {
-            Field::ValueOf(attr) => attr.as_str() == name,
-            Field::Label | Field::Kind | Field::StartLine | Field::EndLine => false,
-        }
+        matches!(self, Field::ValueOf(attr) if attr.as_str() == name)
     }
 }
 
@@ -225,6 +310,20 @@ fn any_mentions(fields: &[Field], name: &str) -> bool
     ensures { result ≡ list_any (spec.field_mentions name.now) fields.now }
 {
     fields.iter().any(|field| field.mentions(name))
+}
+
+fn each_word_is_utf8(words: &Seq<Text>)
+    ensures { list_all is_utf8 words.now ≡ true }
+{
+    for word in words.as_slice() {
+        word_is_utf8(word);
+    }
+}
+
+fn word_is_utf8(word: &Text)
+    ensures { is_utf8 word.now ≡ true }
+{
+    let _text = word.as_str();
 }
 
 /// Why words are no command.

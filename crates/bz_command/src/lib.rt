@@ -22,13 +22,13 @@ mod reader;
 mod sameness;
 mod sorted_labels;
 mod target;
-mod utf8;
 mod value;
 mod words;
 
 pub use bytes::{Bytes, value_of};
 pub use command::{
     Action, Attributes, Command, CommandFault, Commented, Field, LEFT_OUT, Moved, Setting, USAGE,
+    words_are_utf8,
 };
 pub use decode::read_value;
 pub use label_set::LabelSet;
@@ -42,5 +42,4 @@ pub use reader::read_command;
 pub use sameness::{same, same_label};
 pub use sorted_labels::SortedLabels;
 pub use target::{Marked, Target};
-pub use utf8::words_are_utf8;
 pub use value::{has_value, plain_text, quote, value_is};

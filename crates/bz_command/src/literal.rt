@@ -30,11 +30,10 @@ fn open_quotes(raw: bool, literal: &[u8]) -> Option<Literal<'_>>
     ensures value { opened result ≡ opened_value raw literal.now }
     ensures place { IfSome result (λ opened. StandsIn literal.now opened) }
 {
-    let n = match literal {
-        [b'"', b'"', b'"', ..] | [b'\'', b'\'', b'\'', ..] => 3,
-        [b'"' | b'\'', ..] => 1,
-        _ => return None,
+    let [quote @ (b'"' | b'\''), rest @ ..] = literal else {
+        return None;
     };
+    let n = if rest.starts_with(&[*quote; 2]) { 3 } else { 1 };
     Some(Literal {
         raw,
         quotes: &literal[..n],

@@ -37,9 +37,10 @@ pub(crate) fn read_words(alloc: Global, text: &str) -> Result<Vec<Text>, AllocEr
 fn keep(words: &mut Vec<Text>, word: String) -> Result<(), AllocError>
     ensures { OnOk result (words.new.items ≡ words.old.items ++ kept (string_bytes word)) }
 {
-    if word.len() > 0 {
-        words.push(Text::from_string(word))?;
+    if word.is_empty() {
+        return Ok(());
     }
+    words.push(Text::from_string(word))?;
     Ok(())
 }
 
