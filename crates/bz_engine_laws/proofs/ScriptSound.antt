@@ -11,8 +11,8 @@ use Rattle.bz_command.specs.Commands.{Command, is_command, command_passes}
 use Rattle.bz_command.specs.Labels.{Package}
 use Rattle.bz_command.specs.Passes.{Slot, Marked, marked, executed}
 use Rattle.bz_rule.specs.Applied.{after}
-use Rattle.bz_rule_laws.proofs.Commands.{formed_after}
-use Rattle.bz_rule_laws.proofs.Utf8Commands.{commands_utf8}
+use Rattle.bz_rule.proofs.Commands.{formed_after, no_rule_stays}
+use Rattle.bz_rule.proofs.Utf8Commands.{commands_utf8}
 use Rattle.bz_engine.specs.Changes.{AreCommands}
 use Rattle.bz_passes.specs.Exchange.{slot_after_commands, slot_after_pass, slot_after}
 use Rattle.bz_engine.specs.Meaning.{meaning}
@@ -22,7 +22,6 @@ use Rattle.bz_engine_laws.specs.Sound.{IsSound}
 use Rattle.bz_engine_laws.specs.Written.{HaveUtf8Words, left_by}
 use Rattle.bz_attribute.specs.Rules.{rule_of}
 use Rattle.bz_layout_laws.proofs.BlockBody.{body_of}
-use Rattle.bz_rule.proofs.Commands.{no_rule_stays}
 
 -- what stands in a slot is sound
 abbrev SoundSlot : ℕ → Slot Statement → Type 0

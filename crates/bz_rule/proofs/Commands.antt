@@ -1,26 +1,33 @@
 -- Each command owes what `Lawful` says, and what follows of all of them.
-use Rattle.std.proofs.Common.{◌≡◌, ◌↔◌, ℕ, List, Bool, true, false, Option, Some, None, map, option_map, is_some, refl, ap, sym, ◌∙◌, subst}
+use Rattle.std.proofs.Common.{◌≡◌, ◌↔◌, ℕ, List, Bool, true, false, Option, Some, None, map, option_map, is_some, refl, ap, sym, ◌∙◌, subst, zero, suc, ◌≤◌, arith}
 use Rattle.std.specs.Prelude.{IfSome}
 use Rattle.bz_tree.specs.Tree.{Segment, Statement}
 use Rattle.bz_command.specs.Labels.{Package}
-use Rattle.bz_command.specs.Commands.{Command, is_command}
+use Rattle.bz_command.specs.Commands.{Command, is_command, command_passes}
 use Rattle.bz_command.specs.declared.command.Action.TheVariants.{Add, Remove, Set, SetIfAbsent, Delete, Rename, Move, Replace, Comment, Print}
 use Rattle.bz_attribute.specs.declared.done.Done.{Done}
 use Rattle.bz_attribute.specs.declared.done.Note.{Note}
 use Rattle.bz_attribute.specs.Effects.{fails, holds_rule, with_args}
-use Rattle.bz_rule.specs.Applied.{after, done_of}
+use Rattle.bz_rule.specs.Applied.{after, done_of, args_after, keeps_comments}
 use Rattle.bz_rule.specs.Aside.{IsAside}
 use Rattle.bz_rule.specs.private.LongerRows.{adds_to}
-use Rattle.bz_rule.proofs.Lawful.{Appends, Lawful}
-use Rattle.bz_rule.proofs.Add.{add_lawful}
+use Rattle.bz_rule.proofs.Lawful.{Appends, Lawful, SlotFormed}
+use Rattle.bz_rule.proofs.Add.{add_lawful, add_keeps}
 use Rattle.bz_rule.proofs.Comment.{comment_lawful}
 use Rattle.bz_rule.proofs.Delete.{delete_lawful}
 use Rattle.bz_rule.proofs.Move.{move_lawful}
 use Rattle.bz_rule.proofs.Print.{print_lawful}
-use Rattle.bz_rule.proofs.Remove.{remove_lawful}
-use Rattle.bz_rule.proofs.Rename.{rename_lawful}
-use Rattle.bz_rule.proofs.Replace.{replace_lawful}
-use Rattle.bz_rule.proofs.Set.{set_if_absent_lawful, set_lawful}
+use Rattle.bz_rule.proofs.Remove.{remove_lawful, left_keeps}
+use Rattle.bz_rule.proofs.Rename.{rename_lawful, rename_keeps}
+use Rattle.bz_rule.proofs.Replace.{replace_lawful, replace_keeps}
+use Rattle.bz_rule.proofs.Set.{set_if_absent_lawful, set_lawful, set_if_absent_keeps, set_keeps}
+use Rattle.bz_tree.specs.Grammar.{IsArg}
+use Rattle.bz_layout_laws.specs.EachText.{statement_passes}
+use Rattle.bz_layout_laws.specs.WellFormed.{IsWellFormed}
+use Rattle.bz_rule.proofs.PassingRules.{SlotPasses}
+use Rattle.bz_rule.proofs.PassingWritten.{PassesWritten}
+use Rattle.bz_rule.proofs.Segments.{AreFormed}
+use Rattle.bz_tree.specs.Comments.{comments_of}
 
 lawful : (c : Command) (home : Package) → Lawful c home
 lawful (Add attr values) home = add_lawful home attr values
@@ -69,3 +76,23 @@ changed_tells c home slot h = let law = lawful c home in both_ways (done_of c ho
 -- what a command tells of a slot is so of what it made of it
 pub told_of_slot : (c : Command) (home : Package) (slot new : Option Statement) (d : Done) → is_command c ≡ true → new ≡ after c home slot → d ≡ done_of c home slot → (d.changed ≡ true) ↔ (new ≡ slot → ⊥)
 told_of_slot c home slot new d h is told = rw (told, is) (changed_tells c home slot h)
+
+-- what is well formed stays so, and texts pass a test that those before it and the words of the command pass
+pub arguments_formed : (depth : ℕ) (c : Command) (home : Package) (args : List Segment) → is_command c ≡ true → AreFormed IsArg (suc depth) args → AreFormed IsArg (suc depth) (args_after c home args)
+arguments_formed depth c home args h good = (lawful c home).arguments depth args h good
+
+pub formed_after : (depth : ℕ) (c : Command) (home : Package) (s t : Statement) → is_command c ≡ true → 2 ≤ depth → IsWellFormed depth s → after c home (Some s) ≡ Some t → IsWellFormed depth t
+formed_after zero c home s t h k w e = absurd (omega arith)
+formed_after (suc zero) c home s t h k w e = absurd (omega arith)
+formed_after (suc (suc depth)) c home s t h k w e = subst (SlotFormed (suc (suc depth))) e ((lawful c home).statement depth s h w)
+
+pub commands_pass : (q : List ℕ → Bool) → PassesWritten q → (c : Command) (home : Package) (s t : Statement) → command_passes q c ≡ true → after c home (Some s) ≡ Some t → statement_passes q s ≡ true
+    → statement_passes q t ≡ true
+commands_pass q w c home s t h is k = subst (SlotPasses q) is ((lawful c home).texts q w s h k)
+
+-- comments stay where the command is one that leaves them
+pub comments_after : (c : Command) (home : Package) (slot : Option Statement) → keeps_comments c ≡ true → option_map comments_of (after c home slot) ≡ option_map comments_of slot
+comments_after c home slot keeps = let law = lawful c home in law.comments keeps slot
+
+-- what arguments keep of their comments
+pub ruleset own_comments_stay = (add_keeps, left_keeps, rename_keeps, replace_keeps, set_if_absent_keeps, set_keeps)

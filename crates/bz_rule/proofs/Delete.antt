@@ -1,13 +1,15 @@
 -- What is owed of `delete`, which takes a rule out, and nothing else.
-use Rattle.std.proofs.Common.{◌≡◌, List, true, false, Option, Some, None, is_some, if◌then◌else◌, map, option_map, refl, ap, ◌∙◌}
+use Rattle.std.proofs.Common.{◌≡◌, List, true, false, Option, Some, None, is_some, if◌then◌else◌, map, option_map, refl, ap, ◌∙◌, suc}
 use Rattle.bz_tree.specs.Tree.{Segment, Statement}
 use Rattle.bz_command.specs.Labels.{Package}
 use Rattle.bz_command.specs.declared.command.Action.TheVariants.{Delete}
 use Rattle.bz_attribute.specs.Rules.{rule_of}
 use Rattle.bz_attribute.specs.Effects.{done, holds_rule, with_args}
 use Rattle.bz_rule.specs.Applied.{after}
-use Rattle.bz_rule.proofs.Lawful.{Lawful}
+use Rattle.bz_rule.proofs.Lawful.{Lawful, SlotFormed}
 use Rattle.bz_rule.proofs.Rebuilt.{holds_after}
+use Rattle.bz_rule.proofs.PassingRules.{SlotPasses}
+use Rattle.bz_rule.proofs.Segments.{either_way}
 
 deleted_differs : (slot : Option Statement) → holds_rule slot ≡ true → (if holds_rule slot then None else slot) ≡ slot → ⊥
 deleted_differs None h same = absurd cc
@@ -28,4 +30,8 @@ delete_lawful home = record {
   aside = λ g aside slot. delete_aside home (map g) slot;
   told = λ g aside slot. ap (done None) (holds_after (map g) slot);
   appends = tt;
+  arguments = λ depth args h good. good;
+  statement = λ depth s h w. either_way (SlotFormed (suc (suc depth))) (is_some (rule_of s.nodes)) tt w;
+  texts = λ q w s h k. either_way (SlotPasses q) (is_some (rule_of s.nodes)) tt k;
+  comments = λ k. absurd cc;
 }

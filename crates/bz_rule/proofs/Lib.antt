@@ -1,23 +1,44 @@
-pub mod Add
-pub mod Arguments
+mod Accepting
+mod Add
+mod Again
+mod AllComments
+mod ArgumentValues
+mod Arguments
 mod Aside
 mod AsideTargets
 pub mod Commands
 mod Comment
 mod Delete
+mod Found
+mod Gone
+mod GoodArguments
 mod Hollowed
-pub mod Kept
-pub mod Lawful
+mod Kept
+mod KindFormed
+mod Lawful
+mod Likeness
+mod ListParts
 mod LongerRows
 mod Move
-pub mod NamesKept
-pub mod PartLaws
+mod NamesKept
+mod NewTexts
+mod OwnComments
+mod PartLaws
+mod PassingParts
+mod PassingRules
+mod PassingTexts
+mod PassingWritten
 mod Print
 mod PutBack
-mod RowStatements
-pub mod Rebuilt
-pub mod Remove
+mod Rebuilt
+mod Remove
 mod Rename
 mod Replace
-pub mod Set
+mod RowStatements
+mod RuleFormed
+mod Segments
+mod Set
+mod SetAgain
+mod Tests
+pub mod Utf8Commands
 mod WovenParts

@@ -1,5 +1,5 @@
--- What is owed of `move`: it changes something exactly where an element is chosen, which afterwards does not stand in the arguments of the old name.
-use Rattle.std.proofs.Common.{◌≡◌, ℕ, List, [], ◌∷◌, ◌++◌, Bool, true, false, cond, filter, Option, Some, None, if◌then◌else◌, map, is_some, refl, ap, sym, ◌∙◌, inl, inr, bytes_eq}
+-- What is owed of `move`: it changes something exactly where an element is chosen, which afterwards does not stand in the arguments of the old name; it leaves what is well formed so, and texts that pass a test.
+use Rattle.std.proofs.Common.{◌≡◌, ℕ, List, [], ◌∷◌, ◌++◌, Bool, true, false, cond, filter, Option, Some, None, if◌then◌else◌, map, is_some, refl, ap, sym, ◌∙◌, inl, inr, bytes_eq, suc}
 use Rattle.std.proofs.lemmas.Bool.{and_parts, cases_Bool, not-true}
 use Rattle.std.proofs.lemmas.List.{append-nil, append_cancel_right}
 use Rattle.bz_tree.specs.Tree.{Item, Segment}
@@ -7,10 +7,10 @@ use Rattle.bz_command.specs.Labels.{Package}
 use Rattle.bz_command.specs.Commands.{is_command, is_moved}
 use Rattle.bz_command.specs.declared.command.Moved.{Moved}
 use Rattle.bz_command.specs.declared.command.Action.TheVariants.{Move}
-use Rattle.bz_attribute.specs.Rules.{first_named, is_named, is_text, name_of, value}
-use Rattle.bz_attribute.specs.Lists.{edit_first_part, edit_parts, with_value}
-use Rattle.bz_attribute.specs.Effects.{argument, chooses_in, edit_first, filtered, has, list_item, loses_all, unchosen}
-use Rattle.bz_attribute.specs.Moving.{arrivals, chosen_of, elements_of, move, move_note, moved, moves, put_in}
+use Rattle.bz_attribute.specs.Rules.{first_named, is_named, is_text as is_word, name_of, value, string_value}
+use Rattle.bz_attribute.specs.Lists.{edit_first_part, edit_parts, with_value, is_attribute, parts}
+use Rattle.bz_attribute.specs.Effects.{argument, chooses_in, edit_first, filtered, has, list_item, loses_all, unchosen, is_chosen}
+use Rattle.bz_attribute.specs.Moving.{arrivals, chosen_of, elements_of, move, move_note, moved, moves, put_in, is_among, joined}
 use Rattle.bz_rule.proofs.Arguments.{attribute_named, is_first_named, name_put}
 use Rattle.bz_list_commands.proofs.Arriving.{text_of_one}
 use Rattle.bz_list_commands.proofs.Leaving.{filter-append}
@@ -20,10 +20,21 @@ use Rattle.std.specs.Prelude.{not, ◌&&◌}
 use Rattle.bz_rule.proofs.Lawful.{Lawful, done_changed, guarded_same, note_unchanged, on_arguments}
 use Rattle.bz_rule.proofs.NamesKept.{KeepsEach, Leaves, append_kept, edit_kept, edit_one_kept, first_kept, has_kept, put_kept, taken}
 use Rattle.bz_rule.proofs.Aside.{leaves_both}
+use Rattle.std.specs.List.{AllByRecursion}
+use Rattle.bz_rule.proofs.ArgumentValues.{good_value, good_with}
+use Rattle.bz_rule.proofs.GoodArguments.{appended_good, argument_good, filtered_good, first_good}
+use Rattle.bz_rule.proofs.ListParts.{edited_first_part_good, list_value, parts_good}
+use Rattle.bz_rule.proofs.PassingParts.{edited_first_passes, parts_pass}
+use Rattle.bz_rule.proofs.PassingTexts.{ArgumentPasses, SegmentPasses, SegmentsPass, first_named_passes, value_passes}
+use Rattle.bz_rule.proofs.PassingWritten.{PassesWritten, argument_added, elements_added, filtered_passes, first_of_name_edited, list_passes}
+use Rattle.bz_rule.proofs.Segments.{AreFormed, IsFormed, all_appended, all_filtered, either_way}
+use Rattle.bz_token.specs.Lexical.{is_text}
+use Rattle.bz_token.specs.declared.token.Kind.TheVariants.{Identifier}
+use Rattle.bz_tree.specs.Grammar.{IsArg, IsTest}
 
 -- an argument of the new name has not the old one
-not_old : (old new : List ℕ) (name : Option (List ℕ)) → bytes_eq old new ≡ false → is_text new name ≡ true → is_text old name ≡ false
-not_old old new name other is = elim (cases_Bool (is_text old name)) [
+not_old : (old new : List ℕ) (name : Option (List ℕ)) → bytes_eq old new ≡ false → is_word new name ≡ true → is_word old name ≡ false
+not_old old new name other is = elim (cases_Bool (is_word old name)) [
   | inl both ↦ let clash : true ≡ false = sym is ∙ text_of_one old new name other both in absurd cc
   | inr differs ↦ differs
 ]
@@ -34,7 +45,7 @@ others_kept old new g [] other = refl
 others_kept old new g (a ∷ args) other = elim (cases_Bool (is_named new a)) [
   | inl is ↦
       let before : is_named old a ≡ false = not_old old new (name_of a.nodes) other is in
-      let now : is_named old (with_value (g a) a) ≡ false = ap (is_text old) (name_put (g a) a (attribute_named new a is)) ∙ before in
+      let now : is_named old (with_value (g a) a) ≡ false = ap (is_word old) (name_put (g a) a (attribute_named new a is)) ∙ before in
       rw (is, before, now) refl
   | inr differs ↦ rw differs (ap (λ (zs : List Segment). cond (is_named old a) (a ∷ zs) zs) (others_kept old new g args other))
 ]
@@ -50,7 +61,7 @@ named_put old new ss args other =
 
 filtered_named : (old : List ℕ) (f : List Segment → List Segment) (a : Segment) → is_named old a ≡ true → filter (is_named old) (filtered f a) ≡ filtered f a
 filtered_named old f a is =
-    let now : is_named old (with_value (edit_parts f (value a)) a) ≡ true = ap (is_text old) (name_put (edit_parts f (value a)) a (attribute_named old a is)) ∙ is in
+    let now : is_named old (with_value (edit_parts f (value a)) a) ≡ true = ap (is_word old) (name_put (edit_parts f (value a)) a (attribute_named old a is)) ∙ is in
     elim (loses_all f (value a)) as (λ b. filter (is_named old) (if b then [] else with_value (edit_parts f (value a)) a ∷ []) ≡ (if b then [] else with_value (edit_parts f (value a)) a ∷ []))
     [ true ↦ refl | false ↦ rw now refl ]
 
@@ -124,7 +135,90 @@ move_aside g names home old new chosen leaves_old leaves_new args =
     taken (map g) (ap is_some (note_move g names old new leaves_old leaves_new args)) refl
     (taken (map g) (moves_kept g names home old chosen leaves_old args) (moved_kept g names home old new chosen leaves_old leaves_new args) refl)
 
+-- what it leaves is well formed, and passes a test
+
+-- the elements that leave
+joined_formed : (depth : ℕ) (lists : List (List Segment)) → AllByRecursion (AreFormed IsTest depth) lists → AreFormed IsTest depth (joined lists)
+joined_formed depth [] h = tt
+joined_formed depth (ss ∷ lists) h = all_appended (IsFormed IsTest depth) ss (joined lists) h.0 (joined_formed depth lists h.1)
+
+elements_formed : (depth : ℕ) (attr : List ℕ) (args : List Segment) → AreFormed IsArg (suc depth) args → AreFormed IsTest depth (elements_of (first_named attr args))
+elements_formed depth attr [] h = tt
+elements_formed depth attr (a ∷ args) h =
+    elim (is_named attr a) as (λ b. is_named attr a ≡ b → AreFormed IsTest depth (elements_of (if b then Some a else first_named attr args))) [
+      | true ↦ λ e. joined_formed depth (parts (value a)) (parts_good depth (value a) (good_value (suc depth) a (attribute_named attr a e) h.0))
+      | false ↦ λ e. elements_formed depth attr args h.1
+    ] refl
+
+chosen_formed : (depth : ℕ) (home : Package) (old : List ℕ) (chosen : Moved) (args : List Segment) → AreFormed IsArg (suc depth) args → AreFormed IsTest depth (chosen_of home chosen (first_named old args))
+chosen_formed depth home old chosen args h = all_filtered (IsFormed IsTest depth) (is_chosen home chosen) (elements_of (first_named old args)) (elements_formed depth old args h)
+
+arrivals_formed : (depth : ℕ) (home : Package) (there ss : List Segment) → AreFormed IsTest depth ss → AreFormed IsTest depth (arrivals home there ss)
+arrivals_formed depth home there [] h = tt
+arrivals_formed depth home there (s ∷ ss) h =
+    either_way (AreFormed IsTest depth) (is_among home there (string_value s.nodes)) (arrivals_formed depth home there ss h.1) (h.0, arrivals_formed depth home (there ++ s ∷ []) ss h.1)
+
+-- where they go
+put_in_formed : (depth : ℕ) (new : List ℕ) (ss args : List Segment) → is_text Identifier new ≡ true → AreFormed IsTest depth ss → AreFormed IsArg (suc depth) args → AreFormed IsArg (suc depth) (put_in new ss args)
+put_in_formed depth new ss args name k h =
+    either_way (AreFormed IsArg (suc depth)) (has new args) (first_good (suc depth) new (λ a. with_value (edit_first_part (λ there. there ++ ss) (value a)) a ∷ []) (λ a n good. (with_more a n good, tt)) args h)
+    (all_appended (IsFormed IsArg (suc depth)) args _ h (argument_good (suc depth) new (list_item ss ∷ []) name (list_value depth ss k), tt))
+  where
+    with_more : (a : Segment) → is_attribute a ≡ true → IsFormed IsArg (suc depth) a → IsFormed IsArg (suc depth) (with_value (edit_first_part (λ there. there ++ ss) (value a)) a)
+    with_more a n good =
+        good_with (suc depth) (edit_first_part (λ there. there ++ ss) (value a)) a n good
+        (edited_first_part_good depth (λ there. there ++ ss) (appended_good depth ss k) (value a) (good_value (suc depth) a n good))
+
+moved_formed : (depth : ℕ) (home : Package) (old new : List ℕ) (chosen : Moved) (args : List Segment) → is_text Identifier new ≡ true → AreFormed IsArg (suc depth) args → AreFormed IsArg (suc depth) (moved home old new chosen args)
+moved_formed depth home old new chosen args name h =
+    let there : List Segment = elements_of (first_named new args) in
+    let leaving : List Segment = chosen_of home chosen (first_named old args) in
+    put_in_formed depth new (arrivals home there leaving) (edit_first (is_named old) (filtered (unchosen home chosen)) args) name
+    (arrivals_formed depth home there leaving (chosen_formed depth home old chosen args h))
+    (first_good (suc depth) old (filtered (unchosen home chosen)) (filtered_good depth home chosen) args h)
+
+move_formed : (depth : ℕ) (home : Package) (old new : List ℕ) (chosen : Moved) (args : List Segment) → is_text Identifier new ≡ true → AreFormed IsArg (suc depth) args → AreFormed IsArg (suc depth) (move home old new chosen args)
+move_formed depth home old new chosen args name h =
+    either_way (AreFormed IsArg (suc depth)) (is_some (move_note old new args)) h
+    (either_way (AreFormed IsArg (suc depth)) (moves home old chosen args) (moved_formed depth home old new chosen args name h) h)
+
+-- elements that are moved
+joined_passes : (q : List ℕ → Bool) (lists : List (List Segment)) → AllByRecursion (SegmentsPass q) lists → SegmentsPass q (joined lists)
+joined_passes q [] h = tt
+joined_passes q (ss ∷ lists) h = all_appended (SegmentPasses q) ss (joined lists) h.0 (joined_passes q lists h.1)
+
+elements_of_pass : (q : List ℕ → Bool) (argument : Option Segment) → ArgumentPasses q argument → SegmentsPass q (elements_of argument)
+elements_of_pass q None h = tt
+elements_of_pass q (Some a) h = joined_passes q (parts (value a)) (parts_pass q (value a) (value_passes q a.nodes h.nodes))
+
+arrivals_pass : (q : List ℕ → Bool) (home : Package) (there ss : List Segment) → SegmentsPass q ss → SegmentsPass q (arrivals home there ss)
+arrivals_pass q home there [] h = tt
+arrivals_pass q home there (s ∷ ss) h =
+    either_way (SegmentsPass q) (is_among home there (string_value s.nodes)) (arrivals_pass q home there ss h.1) (h.0, arrivals_pass q home (there ++ s ∷ []) ss h.1)
+
+put_in_passes : (q : List ℕ → Bool) → PassesWritten q → (new : List ℕ) (ss args : List Segment) → q new ≡ true → SegmentsPass q ss → SegmentsPass q args → SegmentsPass q (put_in new ss args)
+put_in_passes q w new ss args name k h =
+    either_way (SegmentsPass q) (has new args) (first_of_name_edited q new (λ a. with_value (edit_first_part (λ there. there ++ ss) (value a)) a) (λ a p. elements_added q ss a k p) args h)
+    (argument_added q w new (list_item ss ∷ []) args name (list_passes q ss k) h)
+
+moved_passes : (q : List ℕ → Bool) → PassesWritten q → (home : Package) (old new : List ℕ) (chosen : Moved) (args : List Segment) → q new ≡ true → SegmentsPass q args → SegmentsPass q (moved home old new chosen args)
+moved_passes q w home old new chosen args name h =
+    let leaving = all_filtered (SegmentPasses q) (is_chosen home chosen) (elements_of (first_named old args)) (elements_of_pass q (first_named old args) (first_named_passes q old args h)) in
+    put_in_passes q w new (arrivals home (elements_of (first_named new args)) (chosen_of home chosen (first_named old args))) (edit_first (is_named old) (filtered (unchosen home chosen)) args) name
+    (arrivals_pass q home (elements_of (first_named new args)) (chosen_of home chosen (first_named old args)) leaving)
+    (edited_first_passes q (is_named old) (filtered (unchosen home chosen)) (filtered_passes q home chosen) args h)
+
+move_passes : (q : List ℕ → Bool) → PassesWritten q → (home : Package) (old new : List ℕ) (chosen : Moved) (args : List Segment) → q new ≡ true → SegmentsPass q args → SegmentsPass q (move home old new chosen args)
+move_passes q w home old new chosen args name h =
+    either_way (SegmentsPass q) (is_some (move_note old new args)) h
+    (either_way (SegmentsPass q) (moves home old chosen args) (moved_passes q w home old new chosen args name h) h)
+
+moved_to : (old new : List ℕ) (chosen : Moved) → is_command (Move old new chosen) ≡ true → is_identifier new ≡ true
+moved_to old new chosen h =
+    (and_parts (is_identifier old) (is_identifier new) (and_parts _ (not (bytes_eq old new)) (and_parts _ (is_moved chosen) h).0).0).1
+
 pub move_lawful : (home : Package) (old new : List ℕ) (chosen : Moved) → Lawful (Move old new chosen) home
+unfolding is_identifier
 move_lawful home old new chosen = on_arguments (Move old new chosen) home (λ slot. refl) (λ slot. refl) (record {
   stays = λ args h. guarded_same (move_note old new args) (moves home old chosen args) (if moves home old chosen args then moved home old new chosen args else args) args (λ k. rw k refl) h;
   differs = λ read args h same.
@@ -136,4 +230,7 @@ move_lawful home old new chosen = on_arguments (Move old new chosen) home (λ sl
       let leaves = leaves_both aside old new (λ attr. refl) in
       rw (note_move g aside.names old new leaves.0 leaves.1 args, moves_kept g aside.names home old chosen leaves.0 args) refl;
   appends = tt;
+  formed = λ depth args h good. move_formed depth home old new chosen args (moved_to old new chosen h) good;
+  passes = λ q w h args k. move_passes q w home old new chosen args (and_parts (q old) (q new) (and_parts (q old && q new) _ h).0).1 k;
+  comments = λ k. absurd cc;
 })

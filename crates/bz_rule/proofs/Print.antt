@@ -98,4 +98,8 @@ print_lawful home fields = record {
   aside = λ g aside slot. refl;
   told = λ g aside slot. prints_aside fields home g aside slot;
   appends = tt;
+  arguments = λ depth args h good. good;
+  statement = λ depth s h w. w;
+  texts = λ q w s h k. k;
+  comments = λ k slot. refl;
 }

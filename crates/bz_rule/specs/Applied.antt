@@ -1,5 +1,5 @@
--- The ten commands on what a slot holds: the statement after a command, and what the command tells (buildozer README, edit commands).
-use Rattle.std.specs.Prelude.{List, true, false, if◌then◌else◌, not, Option, None, option_map}
+-- The ten commands on what a slot holds: the statement after a command, what the command tells, and which commands leave all comments (buildozer README, edit commands).
+use Rattle.std.specs.Prelude.{List, Bool, true, false, if◌then◌else◌, not, Option, None, option_map}
 use Rattle.bz_tree.specs.Tree.{Segment, Statement}
 use Rattle.bz_command.specs.Labels.{Package}
 use Rattle.bz_command.specs.Commands.{Command}
@@ -54,3 +54,13 @@ done_of (Set (ToKind kind)) home slot = sets_kind_of kind slot
 done_of (Comment Rule text) home slot = done None (holds_rule slot)
 done_of (Print fields) home slot = prints home fields slot
 done_of command home slot = slot_done (args_done command home) slot
+
+-- The commands that leave all comments of a statement.
+abbrev pub keeps_comments : Command → Bool
+keeps_comments (Add attr values) = true
+keeps_comments (Set (ToKind kind)) = true
+keeps_comments (SetIfAbsent attr values) = true
+keeps_comments (Rename old new) = true
+keeps_comments (Replace attrs old new) = true
+keeps_comments (Print fields) = true
+keeps_comments _ = false

@@ -2,7 +2,9 @@ pub mod Applied
 pub mod Aside
 pub mod LazyViews
 pub mod LongerViews
+pub mod OwnComments
 pub mod RowViews
 pub mod Shallow
 pub mod ShallowViews
+pub mod WellFormedSegments
 pub mod private

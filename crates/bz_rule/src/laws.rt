@@ -1,4 +1,11 @@
-//! Laws of what commands and targets do not look at. Each function does nothing: its contract is the law.
+//! Laws of commands and targets: here, of what they do not look at. Each function does nothing: its contract is the law.
+
+pub mod changes;
+pub mod comments;
+pub mod effects;
+pub mod targets;
+pub mod texts;
+pub mod well_formed;
 
 ghost use Rattle.std.specs.Prelude.{◌≡◌, List, Option, map, option_map};
 ghost use Rattle.bz_tree.specs.Tree.{Segment, Statement};

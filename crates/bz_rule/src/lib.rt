@@ -1,4 +1,4 @@
-//! Labels, targets and commands on one rule.
+//! Labels, targets and commands on one rule, and their laws.
 #![tactic(auto)]
 
 mod fill;

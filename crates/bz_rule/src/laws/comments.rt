@@ -1,0 +1,60 @@
+//! Laws of comments: which commands keep which.
+
+ghost use Rattle.std.specs.Prelude.{◌≡◌, ◌++◌, ◌∷◌, if◌then◌else◌, ℕ, List, [], Option, map, option_map, true};
+ghost use Rattle.bz_tree.specs.Comments.{comments_of};
+ghost use Rattle.bz_tree.specs.Tree.{Segment, Statement};
+ghost use Rattle.bz_rule.specs.Applied.{after, keeps_comments};
+ghost use Rattle.bz_command.specs.Commands.{Command};
+ghost use Rattle.bz_command.specs.declared.command.Attributes.{Attributes};
+ghost use Rattle.bz_command.specs.declared.command.Moved.{Moved};
+ghost use Rattle.bz_attribute.specs.Effects as effects;
+ghost use Rattle.bz_command.specs.Labels.{Package};
+ghost use Rattle.bz_attribute.specs.Lists.{is_attribute, parts};
+ghost use Rattle.bz_rule.specs.OwnComments.{no_comments, own_comments};
+ghost use Rattle.bz_attribute.specs.Replacing as replacing;
+ghost use Rattle.bz_attribute.specs.Setting as setting;
+ghost use Rattle.bz_attribute.specs.Rules.{value};
+
+/// The commands that `keeps_comments` names leave all comments of a statement, in their order.
+pub fn comments_stay()
+    ensures { (command : Command) (home : Package) (slot : Option Statement) → keeps_comments command ≡ true
+        → option_map comments_of (after command home slot) ≡ option_map comments_of slot }
+{}
+
+/// An argument that stays keeps its own comments, and a new one has none.
+#[tactic(auto, using(crate::proofs::Commands::own_comments_stay))]
+pub fn arguments_keep_comments()
+    ensures add { (home : Package) (attr : List ℕ) (values : List (List ℕ)) (args : List Segment)
+        → map own_comments (effects.add home attr values args)
+        ≡ map own_comments args ++ (if effects.has attr args then [] else no_comments ∷ []) }
+    ensures set { (attr : List ℕ) (values : List (List ℕ)) (args : List Segment)
+        → map own_comments (setting.set attr values args) ≡ map own_comments args
+        ++ (if effects.has attr args then [] else no_comments ∷ []) }
+    ensures set_if_absent { (attr : List ℕ) (values : List (List ℕ)) (args : List Segment)
+        → map own_comments (setting.set_if_absent attr values args)
+        ≡ map own_comments args ++ (if effects.has attr args then [] else no_comments ∷ []) }
+    ensures rename { (old new : List ℕ) (args : List Segment)
+        → map own_comments (effects.rename old new args) ≡ map own_comments args }
+    ensures replace { (home : Package) (attrs : Attributes) (old new : List ℕ) (args : List Segment)
+        → map own_comments (replacing.replace home attrs old new args) ≡ map own_comments args }
+    ensures remove { (home : Package) (chosen : Moved) (a : Segment)
+        → map own_comments (effects.filtered (effects.unchosen home chosen) a)
+        ≡ (if effects.loses_all (effects.unchosen home chosen) (value a) then [] else own_comments a ∷ []) }
+{}
+
+/// Of the elements of an attribute, those that stay are as they were, comments included; one that is replaced keeps its
+/// own comments.
+pub fn elements_keep_comments()
+    ensures remove { (home : Package) (chosen : Moved) (a b : Segment) → is_attribute a ≡ true
+        → effects.filtered (effects.unchosen home chosen) a ≡ b ∷ []
+        → parts (value b) ≡ map (effects.unchosen home chosen) (parts (value a)) }
+    ensures add { (home : Package) (values : List (List ℕ)) (a : Segment) (ss : List Segment)
+        (lists : List (List Segment)) → is_attribute a ≡ true → parts (value a) ≡ ss ∷ lists
+        → parts (value (effects.with_added home values a)) ≡ (ss ++ effects.new_elements home (ss ∷ lists) values)
+        ∷ lists }
+    ensures replace { (home : Package) (old new : List ℕ) (a : Segment) → is_attribute a ≡ true
+        → parts (value (replacing.replaced_in home old new a))
+        ≡ map (map (replacing.replaced home old new)) (parts (value a)) }
+    ensures replaced { (home : Package) (old new : List ℕ) (s : Segment)
+        → own_comments (replacing.replaced home old new s) ≡ own_comments s }
+{}

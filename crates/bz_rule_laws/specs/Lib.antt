@@ -1,2 +1,0 @@
-pub mod OwnComments
-pub mod WellFormedSegments
