@@ -1,9 +1,9 @@
 //! Labels, targets, the values of strings, and how rules are shown.
 
-use crate::table::{plain, read};
-use bz_rule::{Package, label, matches, quote, read_label, same, shown, value_is};
+use crate::table::{check_lines, plain, statement};
+use bz_rule::{Package, Target, label, matches, quote, read_label, same, shown, value_is};
 use bz_token::{Kind, Token};
-use std::alloc::Global;
+use std::alloc::{AllocError, Global};
 use std::collections::HashMap;
 use std::process::Abort;
 use std::test::Fail;
@@ -37,13 +37,17 @@ b'a' ! a
 'a' ! b
 a ! a"##;
 
+fn is_value(alloc: Global, literal: &str, value: &str) -> Result<bool, AllocError> {
+    let literal = plain(alloc, literal)?;
+    let value = plain(alloc, value)?;
+    let token = token(Kind::String, literal.as_str());
+    Ok(value_is(&token, value.as_str()))
+}
+
 fn check_values(rt: &impl Abort, alloc: Global, table: &str, wanted: bool) -> Result<(), Fail> {
     for row in table.lines() {
         let (literal, value) = row.split_once(" ! ").ok_or("a row without an answer")?;
-        let literal = plain(alloc, literal)?;
-        let value = plain(alloc, value)?;
-        let token = token(Kind::String, literal.as_str());
-        assert_eq!(rt; value_is(&token, value.as_str()), wanted, "{row}");
+        assert_eq!(rt; is_value(alloc, literal, value)?, wanted, "{row}");
     }
     Ok(())
 }
@@ -56,9 +60,22 @@ fn values_of_strings(rt: HostRuntime) -> Result<(), Fail> {
     let bells = token(Kind::String, "'\\a\\b\\f\\v'");
     assert!(rt; value_is(&bells, "\x07\x08\x0c\x0b"));
     assert!(rt; !value_is(&token(Kind::Identifier, "'a'"), "a"));
-    assert_eq!(rt; quote(alloc, "a\"b\\\n")?.as_str(), "\"a\\\"b\\\\\\n\"");
-    assert_eq!(rt; quote(alloc, "\r\té")?.as_str(), "\"\\r\\té\"");
     Ok(())
+}
+
+/// Values, and their literals.
+const QUOTED: &str = r##"a"b\␊ ! "a\"b\\\n"
+␍␉é ! "\r\té""##;
+
+fn quoted(alloc: Global, text: &str) -> Result<String, Fail> {
+    let literal = quote(alloc, text)?;
+    Ok(literal)
+}
+
+#[test]
+fn quotes(rt: HostRuntime) -> Result<(), Fail> {
+    let alloc = rt.alloc();
+    check_lines(&rt, alloc, QUOTED, |text| quoted(alloc, text))
 }
 
 /// Labels, and how they are shown, or why they are refused.
@@ -88,33 +105,31 @@ new f x ! BadPackage
 //p:%for ! BadTarget
 //p:%18446744073709551616 ! BadTarget"##;
 
+fn shown_target(alloc: Global, home: &Package, target: &Target) -> Result<String, AllocError> {
+    let mut shown = label(alloc, home, target)?;
+    shown.push_str(if target.must_mark() {
+        ", has to mark"
+    } else {
+        ", may mark nothing"
+    })?;
+    Ok(shown)
+}
+
 fn shown_label(alloc: Global, text: &str) -> Result<String, Fail> {
-    let text = match read_label(alloc, text) {
-        Ok((home, target)) => {
-            let mut shown = label(alloc, &home, &target)?;
-            let asks = target.must_mark();
-            shown.push_str(if asks {
-                ", has to mark"
-            } else {
-                ", may mark nothing"
-            })?;
-            shown
-        }
+    let shown = match read_label(alloc, text) {
+        Ok((home, target)) => shown_target(alloc, &home, &target)?,
         Err(fault) => format!(in alloc; "{fault:?}")?,
     };
-    Ok(text)
+    Ok(shown)
 }
 
 #[test]
 fn labels(rt: HostRuntime) -> Result<(), Fail> {
-    for row in LABELS.lines() {
-        let (text, wanted) = row.split_once(" ! ").ok_or("a row without an answer")?;
-        assert_eq!(rt; shown_label(rt.alloc(), text)?.as_str(), wanted, "{row}");
-    }
-    Ok(())
+    let alloc = rt.alloc();
+    check_lines(&rt, alloc, LABELS, |text| shown_label(alloc, text))
 }
 
-fn package(alloc: Global, label: &str) -> Result<Package, Fail> {
+pub fn package(alloc: Global, label: &str) -> Result<Package, Fail> {
     let (package, _) = read_label(alloc, label)?;
     Ok(package)
 }
@@ -133,52 +148,68 @@ fn packages(rt: HostRuntime) -> Result<(), Fail> {
     Ok(())
 }
 
+/// A label of a package, and two labels there, of which the first may be empty.
+const SAME: &str = r##"//p:a :x //p:x ! same
+//p:a //a/b //a/b:b ! same
+//p:a x :x ! same
+//p:a x //q:x ! others
+//p:a /x :/x ! others
+//p:a @x :@x ! others
+//p:a  : ! others
+-:a x :x ! same
+-:a x //-:x ! others"##;
+
+fn are_same(alloc: Global, home: &str, a: &str, b: &str) -> Result<bool, Fail> {
+    let home = package(alloc, home)?;
+    Ok(same(a, b, &home))
+}
+
+fn shown_same(alloc: Global, asked: &str) -> Result<String, Fail> {
+    let (home, labels) = asked.split_once(' ').ok_or("a row without labels")?;
+    let (a, b) = labels.split_once(' ').ok_or("a row of one label")?;
+    let are_same = are_same(alloc, home, a, b)?;
+    let shown = String::from_str(alloc, if are_same { "same" } else { "others" })?;
+    Ok(shown)
+}
+
 #[test]
 fn same_labels(rt: HostRuntime) -> Result<(), Fail> {
-    let home = package(rt.alloc(), "//p:a")?;
-    for (a, b) in [(":x", "//p:x"), ("//a/b", "//a/b:b"), ("x", ":x")] {
-        assert!(rt; same(a, b, &home), "{a:?} {b:?}");
-    }
-    for (a, b) in [("x", "//q:x"), ("/x", ":/x"), ("@x", ":@x"), ("", ":")] {
-        assert!(rt; !same(a, b, &home), "{a:?} {b:?}");
-    }
-    let home = package(rt.alloc(), "-:a")?;
-    assert!(rt; same("x", ":x", &home));
-    assert!(rt; !same("x", "//-:x", &home));
-    Ok(())
+    let alloc = rt.alloc();
+    check_lines(&rt, alloc, SAME, |asked| shown_same(alloc, asked))
 }
 
 /// Labels and statements, and whether they are marked.
-const MARKS: &str = r##"//p:%f ! f() ! marked
-//p:* ! f() ! marked
-//p:* ! x = 1 ! not
-//p:a ! f(name = 'a') ! marked
-//p:a ! f() ! not
-//p:a ! f(name = r'a\b') ! not
-//p:b ! f(name = 'a') ! not
-//p:%g ! f(name = 'a') ! not
-//p:__pkg__ ! f(name = 'a') ! not
-//p:__pkg__ ! package() ! marked
-//p:%3 ! # c␊# d␊f(name = 'a') ! marked
-//p:%1 ! # c␊# d␊f(name = 'a') ! not
-//p:%3 ! # c␊# d␊x = 1 ! not"##;
+const MARKS: &str = r##"//p:%f f() ! marked
+//p:* f() ! marked
+//p:* x = 1 ! not
+//p:a f(name = 'a') ! marked
+//p:a f() ! not
+//p:a f(name = r'a\b') ! not
+//p:b f(name = 'a') ! not
+//p:%g f(name = 'a') ! not
+//p:__pkg__ f(name = 'a') ! not
+//p:__pkg__ package() ! marked
+//p:%3 # c␊# d␊f(name = 'a') ! marked
+//p:%1 # c␊# d␊f(name = 'a') ! not
+//p:%3 # c␊# d␊x = 1 ! not"##;
 
-fn is_marked(alloc: Global, label: &str, text: &str) -> Result<bool, Fail> {
+fn is_marked(alloc: Global, target: &Target, text: &str) -> Result<bool, Fail> {
+    let stmt = statement(alloc, text)?;
+    Ok(matches(target, &stmt))
+}
+
+fn shown_mark(alloc: Global, asked: &str) -> Result<String, Fail> {
+    let (label, text) = asked.split_once(' ').ok_or("a row without a statement")?;
     let (_, target) = read_label(alloc, label)?;
-    let text = plain(alloc, text)?;
-    let stmt = read(alloc, text.as_str())?.ok_or("no statement")?;
-    Ok(matches(&target, &stmt))
+    let is_marked = is_marked(alloc, &target, text)?;
+    let shown = String::from_str(alloc, if is_marked { "marked" } else { "not" })?;
+    Ok(shown)
 }
 
 #[test]
 fn marks(rt: HostRuntime) -> Result<(), Fail> {
-    for row in MARKS.lines() {
-        let (label, rest) = row.split_once(" ! ").ok_or("a row without a statement")?;
-        let (text, wanted) = rest.split_once(" ! ").ok_or("a row without an answer")?;
-        let found = is_marked(rt.alloc(), label, text)?;
-        assert_eq!(rt; found, wanted == "marked", "{row}");
-    }
-    Ok(())
+    let alloc = rt.alloc();
+    check_lines(&rt, alloc, MARKS, |asked| shown_mark(alloc, asked))
 }
 
 /// Statements, and how they are shown in package `p`.
@@ -190,23 +221,21 @@ f(name = r'a') ! //p:a
 f(name = b'a') ! //p:%f
 f(name = '') ! //p:"##;
 
+fn shown_rule(alloc: Global, home: &Package, text: &str) -> Result<String, Fail> {
+    let stmt = statement(alloc, text)?;
+    let shown = shown(alloc, home, &stmt)?;
+    Ok(shown)
+}
+
 fn shown_in(alloc: Global, home: &str, text: &str) -> Result<String, Fail> {
     let home = package(alloc, home)?;
-    let text = plain(alloc, text)?;
-    let stmt = read(alloc, text.as_str())?.ok_or("no statement")?;
-    let text = shown(alloc, &home, &stmt)?;
-    Ok(text)
+    shown_rule(alloc, &home, text)
 }
 
 #[test]
 fn shown_rules(rt: HostRuntime) -> Result<(), Fail> {
     let alloc = rt.alloc();
-    for row in SHOWN.lines() {
-        let (text, wanted) = row.split_once(" ! ").ok_or("a row without an answer")?;
-        let wanted = plain(alloc, wanted)?;
-        let found = shown_in(alloc, "//p:a", text)?;
-        assert_eq!(rt; found.as_str(), wanted.as_str(), "{row}");
-    }
+    check_lines(&rt, alloc, SHOWN, |text| shown_in(alloc, "//p:a", text))?;
     assert_eq!(rt; shown_in(alloc, "-:a", "f(name = '')")?.as_str(), "-:");
     Ok(())
 }

@@ -1,6 +1,6 @@
 //! Canonical texts, texts on one line, and empty lines.
 
-use crate::table::{plain, read};
+use crate::table::{check_lines, plain, read, statement};
 use crate::trees;
 use bz_layout::{blank_between, flat, put_stmt};
 use bz_tree::{Class, Group, Node, ParseFault};
@@ -394,17 +394,30 @@ fn is_same_statement(alloc: Global, a: &str, b: &str) -> Result<bool, AllocError
     Ok(a.contains('\'') || trees::shown(alloc, a)? == trees::shown(alloc, b)?)
 }
 
+/// What is wrong with a text that has to be written for a chunk.
+fn fault_of(alloc: Global, text: &str, wanted: &str) -> Result<&'static str, ParseFault> {
+    if !is_written(alloc, text, wanted)? {
+        Ok("not written")
+    } else if !is_written(alloc, wanted, wanted)? {
+        Ok("not written again as it stands")
+    } else if !is_same_statement(alloc, text, wanted)? {
+        Ok("another statement")
+    } else {
+        Ok("none")
+    }
+}
+
+fn fault_of_row(alloc: Global, text: &str, wanted: &str) -> Result<&'static str, ParseFault> {
+    let text = plain(alloc, text)?;
+    fault_of(alloc, text.as_str(), wanted)
+}
+
 // What is written is the same statement, and is written again as it stands.
 #[test]
 fn canonical_texts(rt: HostRuntime) -> Result<(), Fail> {
-    let alloc = rt.alloc();
     for row in TEXTS.split("---\n").skip(1) {
         let (text, wanted) = row.split_once("->\n").ok_or("a row without an answer")?;
-        let text = plain(alloc, text)?;
-        let text = text.as_str();
-        assert!(rt; is_written(alloc, text, wanted)?, "{text}");
-        assert!(rt; is_written(alloc, wanted, wanted)?, "{wanted}");
-        assert!(rt; is_same_statement(alloc, text, wanted)?, "{text}");
+        assert_eq!(rt; fault_of_row(rt.alloc(), text, wanted)?, "none", "{text}");
     }
     Ok(())
 }
@@ -484,30 +497,29 @@ fn first_group<'s, 'a>(nodes: &'s [Node<'a>]) -> Option<&'s Group<'a>> {
 }
 
 fn flat_text(alloc: Global, text: &str) -> Result<String, Fail> {
-    let stmt = read(alloc, text)?.ok_or("no statement")?;
+    let stmt = statement(alloc, text)?;
     let text = flat(alloc, &stmt.nodes, None)?;
     Ok(text)
 }
 
-fn flat_segment(alloc: Global, text: &str) -> Result<String, Fail> {
-    let stmt = read(alloc, text)?.ok_or("no statement")?;
-    let group = first_group(&stmt.nodes).ok_or("no bracket")?;
+/// The first segment of the first bracket.
+fn first_segment(alloc: Global, nodes: &[Node<'_>]) -> Result<String, Fail> {
+    let group = first_group(nodes).ok_or("no bracket")?;
     let segment = group.segs.first().ok_or("no segment")?;
     let text = flat(alloc, &segment.nodes, Some(group.kind))?;
     Ok(text)
 }
 
+fn flat_segment(alloc: Global, text: &str) -> Result<String, Fail> {
+    let stmt = statement(alloc, text)?;
+    first_segment(alloc, &stmt.nodes)
+}
+
 #[test]
 fn texts_on_one_line(rt: HostRuntime) -> Result<(), Fail> {
-    for row in FLAT.lines() {
-        let (text, wanted) = row.split_once(" ! ").ok_or("a row without an answer")?;
-        assert_eq!(rt; flat_text(rt.alloc(), text)?.as_str(), wanted, "{text}");
-    }
-    for row in FLAT_SEGMENTS.lines() {
-        let (text, wanted) = row.split_once(" ! ").ok_or("a row without an answer")?;
-        assert_eq!(rt; flat_segment(rt.alloc(), text)?.as_str(), wanted, "{text}");
-    }
-    Ok(())
+    let alloc = rt.alloc();
+    check_lines(&rt, alloc, FLAT, |text| flat_text(alloc, text))?;
+    check_lines(&rt, alloc, FLAT_SEGMENTS, |text| flat_segment(alloc, text))
 }
 
 #[test]

@@ -3,7 +3,7 @@
 ghost use Rattle.std.specs.Prelude.{IsTrue};
 ghost use Rattle.bz_token.specs.Cuts.{is_physical_line};
 
-use crate::table::plain;
+use crate::table::{check_lines, check_rows};
 use bz_token::{Cut, Cutter, LexFault, Next, Token, check_utf8, first_chunk, tokens};
 use std::alloc::{AllocError, Global};
 use std::test::Fail;
@@ -115,30 +115,34 @@ fn put_token(alloc: Global, token: &Token<'_>, out: &mut String) -> Result<(), A
     out.push_str(shown.as_str())
 }
 
-fn shown(alloc: Global, text: &str) -> Result<String, AllocError> {
+fn shown_tokens(alloc: Global, tokens: &[Token<'_>]) -> Result<String, AllocError> {
     let mut out = String::new(alloc);
+    for token in tokens {
+        put_token(alloc, token, &mut out)?;
+    }
+    Ok(out)
+}
+
+fn shown(alloc: Global, text: &str) -> Result<String, Fail> {
     if text.len() > 1000 {
-        return Ok(out);
+        return Err("a long text".into());
     }
-    match tokens(alloc, text, 1, 100) {
-        Ok(found) => {
-            for token in &found {
-                put_token(alloc, token, &mut out)?;
-            }
-            Ok(out)
-        }
-        Err(fault) => format!(in alloc; "{fault:?}\n"),
-    }
+    let shown = match tokens(alloc, text, 1, 100) {
+        Ok(found) => shown_tokens(alloc, &found)?,
+        Err(fault) => format!(in alloc; "{fault:?}\n")?,
+    };
+    Ok(shown)
 }
 
 #[test]
 fn tokens_of_texts(rt: HostRuntime) -> Result<(), Fail> {
     let alloc = rt.alloc();
-    for row in TOKENS.split("---\n").skip(1) {
-        let (text, wanted) = row.split_once("->\n").ok_or("a row without an answer")?;
-        let text = plain(alloc, text)?;
-        assert_eq!(rt; shown(alloc, text.as_str())?.as_str(), wanted, "{text}");
-    }
+    check_rows(&rt, alloc, TOKENS, |text| shown(alloc, text))
+}
+
+#[test]
+fn faults_and_utf8(rt: HostRuntime) -> Result<(), Fail> {
+    let alloc = rt.alloc();
     for (text, max_depth, fault) in [
         (")", 0, LexFault::BadBracket { line: 1, col: 1 }),
         ("((", 1, LexFault::TooDeep { line: 1, col: 2 }),
@@ -163,30 +167,34 @@ fn after(header: &[u8], ahead: &str, at_end: bool) -> Option<Next>
 }
 
 /// What follows an `if`, whether that is all, and whether it goes on with the block.
-const AFTER_IF: &str = "els more Short
-else end Goes
-else: more Goes
-elsewhere more Ends
-else more Short
-el end Ends
-e more Short
-elif end Goes
-elif: more Goes
-␍␊ more Goes
-# more Ends
-\\ more Ends";
+const AFTER_IF: &str = r##"els more ! Short
+else end ! Goes
+else: more ! Goes
+elsewhere more ! Ends
+else more ! Short
+el end ! Ends
+e more ! Short
+elif end ! Goes
+elif: more ! Goes
+␍␊ more ! Goes
+# more ! Ends
+\ more ! Ends"##;
+
+fn after_if(alloc: Global, asked: &str) -> Result<String, Fail> {
+    let (ahead, end) = asked.split_once(' ').ok_or("a row without an end")?;
+    let next = after(b"if a:\n", ahead, end == "end").ok_or("no block")?;
+    let shown = format!(in alloc; "{next:?}")?;
+    Ok(shown)
+}
 
 #[test]
-fn blocks_go_on(rt: HostRuntime) -> Result<(), Fail> {
+fn if_blocks_go_on(rt: HostRuntime) -> Result<(), Fail> {
     let alloc = rt.alloc();
-    for row in AFTER_IF.lines() {
-        let (ahead, rest) = row.split_once(' ').ok_or("a row without an answer")?;
-        let (end, wanted) = rest.split_once(' ').ok_or("a row without an answer")?;
-        let ahead = plain(alloc, ahead)?;
-        let next = after(b"if a:\n", ahead.as_str(), end == "end").ok_or("no block")?;
-        let next = format!(in alloc; "{next:?}")?;
-        assert_eq!(rt; next.as_str(), wanted, "{row}");
-    }
+    check_lines(&rt, alloc, AFTER_IF, |asked| after_if(alloc, asked))
+}
+
+#[test]
+fn blocks_go_on(rt: HostRuntime) {
     let def = b"def f():\n";
     assert_eq!(rt; after(def, "else:", false), Some(Next::Ends));
     assert_eq!(rt; after(def, " x", false), Some(Next::Goes));
@@ -197,7 +205,34 @@ fn blocks_go_on(rt: HostRuntime) -> Result<(), Fail> {
     assert_eq!(rt; after(b" if a:\n", " ", false), None);
     assert_eq!(rt; after(b"iff = 1\n", " ", false), None);
     assert_eq!(rt; after(b"def f('\n", " ", false), None);
-    Ok(())
+}
+
+/// Texts, and the length of the chunk that they begin with, and the number of its tokens.
+const CHUNKS: &str = r##"x = 1␊y = 2␊ ! 6 4
+x # a␊y ! 6 3
+f(␊␊# a␊)␊y ! 10 5
+'''␊'''␊x ! 8 2
+ \␊ x␊ ! 6 2
+iff␊ ! 4 2
+␊x␊ ! 1 1
+ ␊␊ ! 2 1
+# a␊  # b␊␊x␊ ! 11 5
+# a␊f(␊)␊x␊ ! 9 6
+␄ ! none
+x = 1 ! none
+f(␊ ! none
+# a␊# b␊ ! none
+def f():␊  pass␊␊ ! none
+# a␊for x in y:␊ ! none
+if x:␊ ! none
+x = $␊␊ ! none
+)␊␊ ! none"##;
+
+fn shown_chunk(alloc: Global, text: &str) -> Result<String, AllocError> {
+    match first_of(alloc, text)? {
+        Some((length, tokens)) => format!(in alloc; "{length} {tokens}"),
+        None => String::from_str(alloc, "none"),
+    }
 }
 
 /// The length of the chunk that a text begins with, and the number of its tokens.
@@ -212,28 +247,5 @@ fn first_of(alloc: Global, text: &str) -> Result<Option<(usize, usize)>, AllocEr
 #[test]
 fn first_chunks(rt: HostRuntime) -> Result<(), Fail> {
     let alloc = rt.alloc();
-    for (text, wanted) in [
-        ("x = 1\ny = 2\n", Some((6, 4))),
-        ("x # a\ny", Some((6, 3))),
-        ("f(\n\n# a\n)\ny", Some((10, 5))),
-        ("'''\n'''\nx", Some((8, 2))),
-        (" \\\n x\n", Some((6, 2))),
-        ("iff\n", Some((4, 2))),
-        ("\nx\n", Some((1, 1))),
-        (" \n\n", Some((2, 1))),
-        ("# a\n  # b\n\nx\n", Some((11, 5))),
-        ("# a\nf(\n)\nx\n", Some((9, 6))),
-        ("", None),
-        ("x = 1", None),
-        ("f(\n", None),
-        ("# a\n# b\n", None),
-        ("def f():\n  pass\n\n", None),
-        ("# a\nfor x in y:\n", None),
-        ("if x:\n", None),
-        ("x = $\n\n", None),
-        (")\n\n", None),
-    ] {
-        assert_eq!(rt; first_of(alloc, text)?, wanted, "{text}");
-    }
-    Ok(())
+    check_lines(&rt, alloc, CHUNKS, |text| Ok(shown_chunk(alloc, text)?))
 }

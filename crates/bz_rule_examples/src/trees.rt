@@ -1,6 +1,6 @@
 //! Trees, owners of comments, the grammar, blocks and faults.
 
-use crate::table::{plain, read};
+use crate::table::{check_rows, read, statement};
 use bz_tree::{Class, Group, GroupKind, Node, Seg, Stmt};
 use std::alloc::{AllocError, Global};
 use std::borrow::CowStr;
@@ -325,6 +325,24 @@ fn put_texts(texts: &[CowStr<'_>], out: &mut String) -> Result<(), AllocError> {
     Ok(())
 }
 
+fn put_suffix(suffix: Option<&CowStr<'_>>, out: &mut String) -> Result<(), AllocError> {
+    out.push(':')?;
+    if let Some(text) = suffix {
+        out.push_str(text.as_str())?;
+    }
+    Ok(())
+}
+
+/// The end of a bracket.
+fn put_close(group: &Group<'_>, out: &mut String) -> Result<(), AllocError> {
+    if group.one_comma {
+        out.push(',')?;
+    }
+    out.push('|')?;
+    put_texts(&group.end, out)?;
+    out.push('}')
+}
+
 #[cycle(show)]
 fn put_nodes(nodes: &[Node<'_>], out: &mut String) -> Result<(), AllocError> {
     for node in nodes {
@@ -343,10 +361,7 @@ fn put_seg(seg: &Seg<'_>, out: &mut String) -> Result<(), AllocError> {
     put_texts(&seg.before, out)?;
     out.push(':')?;
     put_nodes(&seg.nodes, out)?;
-    out.push(':')?;
-    if let Some(text) = &seg.suffix {
-        out.push_str(text.as_str())?;
-    }
+    put_suffix(seg.suffix.as_ref(), out)?;
     out.push('>')
 }
 
@@ -371,54 +386,51 @@ fn put_group(group: &Group<'_>, out: &mut String) -> Result<(), AllocError> {
     for seg in &group.segs {
         put_seg(seg, out)?;
     }
-    if group.one_comma {
-        out.push(',')?;
+    put_close(group, out)
+}
+
+pub fn class_name(class: Class) -> &'static str {
+    match class {
+        Class::Load => "Load",
+        Class::Assign => "Assign",
+        Class::Rule => "Rule",
+        Class::Other => "Other",
+        Class::Comment => "Comment",
+        Class::Block => "Block",
     }
-    out.push('|')?;
-    put_texts(&group.end, out)?;
-    out.push('}')
 }
 
 fn put_tree(stmt: &Stmt<'_>, out: &mut String) -> Result<(), AllocError> {
-    out.push_str(match stmt.class {
-        Class::Load => "Load ",
-        Class::Assign => "Assign ",
-        Class::Rule => "Rule ",
-        Class::Other => "Other ",
-        Class::Comment => "Comment ",
-        Class::Block => "Block ",
-    })?;
+    out.push_str(class_name(stmt.class))?;
+    out.push(' ')?;
     put_texts(&stmt.before, out)?;
     out.push(':')?;
     put_nodes(&stmt.nodes, out)?;
-    out.push(':')?;
-    if let Some(text) = &stmt.suffix {
-        out.push_str(text.as_str())?;
-    }
-    Ok(())
+    put_suffix(stmt.suffix.as_ref(), out)
+}
+
+/// The copy of a statement.
+fn shown_tree(alloc: Global, stmt: &Stmt<'_>) -> Result<String, AllocError> {
+    let copy = stmt.copy(alloc)?;
+    let mut out = String::new(alloc);
+    put_tree(&copy, &mut out)?;
+    out.push('\n')?;
+    Ok(out)
 }
 
 /// The copy of the statement of a chunk, or its fault.
 pub fn shown(alloc: Global, text: &str) -> Result<String, AllocError> {
-    let mut out = String::new(alloc);
     match read(alloc, text) {
-        Ok(None) => out.push_str("blank")?,
-        Ok(Some(stmt)) => put_tree(&stmt.copy(alloc)?, &mut out)?,
-        Err(fault) => return format!(in alloc; "{fault:?}\n"),
+        Ok(None) => String::from_str(alloc, "blank\n"),
+        Ok(Some(stmt)) => shown_tree(alloc, &stmt),
+        Err(fault) => format!(in alloc; "{fault:?}\n"),
     }
-    out.push('\n')?;
-    Ok(out)
 }
 
 #[test]
 fn trees_of_chunks(rt: HostRuntime) -> Result<(), Fail> {
     let alloc = rt.alloc();
-    for row in TREES.split("---\n").skip(1) {
-        let (text, wanted) = row.split_once("->\n").ok_or("a row without an answer")?;
-        let text = plain(alloc, text)?;
-        assert_eq!(rt; shown(alloc, text.as_str())?.as_str(), wanted, "{text}");
-    }
-    Ok(())
+    check_rows(&rt, alloc, TREES, |text| Ok(shown(alloc, text)?))
 }
 
 /// What the grammar accepts, and what it refuses.
@@ -509,16 +521,15 @@ if a:
 2 4
 "##;
 
+fn shown_lines(alloc: Global, text: &str) -> Result<String, Fail> {
+    let stmt = statement(alloc, text)?;
+    let Stmt { start, end, .. } = stmt;
+    let shown = format!(in alloc; "{start} {end}\n")?;
+    Ok(shown)
+}
+
 #[test]
 fn lines_of_statements(rt: HostRuntime) -> Result<(), Fail> {
     let alloc = rt.alloc();
-    for row in LINES.split("---\n").skip(1) {
-        let (text, wanted) = row.split_once("->\n").ok_or("a row without an answer")?;
-        let text = plain(alloc, text)?;
-        let stmt = read(alloc, text.as_str())?.ok_or("no statement")?;
-        let Stmt { start, end, .. } = stmt;
-        let shown = format!(in alloc; "{start} {end}\n")?;
-        assert_eq!(rt; shown.as_str(), wanted, "{text}");
-    }
-    Ok(())
+    check_rows(&rt, alloc, LINES, |text| shown_lines(alloc, text))
 }
