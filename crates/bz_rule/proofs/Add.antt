@@ -147,6 +147,7 @@ add_passes q w home attr values args name k h =
     either_way (SegmentsPass q) (has attr args) (first_of_name_edited q attr (with_added home values) (added_passes q w home values k) args h)
     (argument_added q w attr (list_item (new_elements home [] values) ∷ []) args name (list_passes q (new_elements home [] values) (new_elements_pass q w home [] values k)) h)
 
+-- comments stay
 pub add_keeps : (home : Package) (attr : List ℕ) (values : List (List ℕ)) (args : List Segment) → map own_comments (add home attr values args) ≡ map own_comments args ++ (if has attr args then [] else no_comments ∷ [])
 add_keeps home attr values args = seen_or_new attr (with_added home values) (list_item (new_elements home [] values) ∷ []) (λ a.
     either_way (λ (z : Segment). own_comments z ≡ own_comments a) (no_parts (parts (value a))) refl refl) args

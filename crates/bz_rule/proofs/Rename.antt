@@ -86,6 +86,7 @@ rename_passes q old new args name h =
     either_way (SegmentsPass q) (is_some (rename_note old new args)) h
     (first_of_name_edited q old (rename_to new) (λ a k. record { before = k.before; nodes = renamed_passes q new a.nodes name k.nodes; suffix = k.suffix }) args h)
 
+-- comments stay
 pub rename_keeps : (old new : List ℕ) (args : List Segment) → map own_comments (rename old new args) ≡ map own_comments args
 rename_keeps old new args =
     either_way (λ (zs : List Segment). map own_comments zs ≡ map own_comments args) (is_some (rename_note old new args)) refl (seen_first own_comments old (rename_to new) (λ a. refl) args)

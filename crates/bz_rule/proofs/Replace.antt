@@ -187,6 +187,7 @@ replace_passes q w home (Named attr) old new args word h = first_of_name_edited 
 replace_passes q w home Every old new args word h =
     all_mapped (SegmentPasses q) (SegmentPasses q) (λ a. if is_attribute a then replaced_in home old new a else a) (attribute_passes q w home old new word) args h
 
+-- comments stay
 pub replace_keeps : (home : Package) (attrs : Attributes) (old new : List ℕ) (args : List Segment) → map own_comments (replace home attrs old new args) ≡ map own_comments args
 replace_keeps home (Named attr) old new args = seen_first own_comments attr (replaced_in home old new) (λ a. refl) args
 replace_keeps home Every old new [] = refl

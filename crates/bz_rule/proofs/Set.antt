@@ -347,6 +347,7 @@ kind_nodes_pass q w kind nodes word h =
           (let p = rule_in q nodes r e h in let names = names_pass q w (slice_split (λ b. b == 46) kind) (w.names kind word) in rule_out q (record r { kind = kind_items kind }) (record { kind = names; args = p.args; end = p.end }))
     ] refl
 
+-- comments stay
 pub set_keeps : (attr : List ℕ) (words : List (List ℕ)) (args : List Segment) → map own_comments (set attr words args) ≡ map own_comments args ++ (if has attr args then [] else no_comments ∷ [])
 set_keeps attr words args = seen_or_new attr (set_in (new_of attr words (first_named attr args))) (new_value (new_of attr words (first_named attr args))) (λ a.
     either_way (λ (z : Segment). own_comments z ≡ own_comments a) (is_value (new_of attr words (first_named attr args)) (value a)) refl refl) args
