@@ -24,13 +24,10 @@ f(
     ] + ["//p:z"],
 )
 ---
-remove deps x z
-f(name = "a", deps = [":x", 'y'] + ["//p:z"])
+remove deps 1 2 3 4 5 6 7 8 //q //p:c
+f(deps = ["//q:q"] + ["c", "d"])
 ->
-f(
-    name = "a",
-    deps = ["y"] + [],
-)
+f(deps = [] + ["d"])
 ---
 remove *
 f(name = "a", copts = [])
@@ -64,13 +61,20 @@ f(deps = ["x"])
 f(srcs = ["x"])
 ---
 move deps data *
-f(name = "a", data = ["z"], deps = ["x"])
+f(name = "a", deps = ["a", ":b", "//p:b", "c", A, A, "//p:a", "d", "e", "//p:e", "//q:e"], data = [":c", "z"])
 ->
 f(
     name = "a",
     data = [
+        ":c",
         "z",
-        "x",
+        "a",
+        ":b",
+        A,
+        A,
+        "d",
+        "e",
+        "//q:e",
     ],
 )
 ---
