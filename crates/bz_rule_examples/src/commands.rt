@@ -1,5 +1,5 @@
-//! Each command once on a statement of package `p`, by the calls of the library. What commands make of statements, tell
-//! and refuse stands in the rows of `tests/commands`, which need no proof.
+//! Each command, once or twice, on a statement of package `p`, by the calls of the library. What commands make of
+//! statements, tell and refuse stands in the rows of `tests/commands`, which need no proof.
 
 use crate::labels::package;
 use crate::table::{check_rows, read};
