@@ -1,5 +1,5 @@
-//! Each command once on a statement of package `p`, by the calls of the library. What commands make of statements, tell
-//! and refuse stands in the rows of `tests/commands`, which need no proof.
+//! Each command, once or twice, on a statement of package `p`, by the calls of the library. What commands make of
+//! statements, tell and refuse stands in the rows of `tests/commands`, which need no proof.
 
 use crate::labels::package;
 use crate::table::{check_rows, read};
@@ -24,13 +24,10 @@ f(
     ] + ["//p:z"],
 )
 ---
-remove deps x z
-f(name = "a", deps = [":x", 'y'] + ["//p:z"])
+remove deps 1 2 3 4 5 6 7 8 //q //p:c
+f(deps = ["//q:q"] + ["c", "d"])
 ->
-f(
-    name = "a",
-    deps = ["y"] + [],
-)
+f(deps = [] + ["d"])
 ---
 remove *
 f(name = "a", copts = [])
@@ -64,13 +61,20 @@ f(deps = ["x"])
 f(srcs = ["x"])
 ---
 move deps data *
-f(name = "a", data = ["z"], deps = ["x"])
+f(name = "a", deps = ["a", ":b", "//p:b", "c", A, A, "//p:a", "d", "e", "//p:e", "//q:e"], data = [":c", "z"])
 ->
 f(
     name = "a",
     data = [
+        ":c",
         "z",
-        "x",
+        "a",
+        ":b",
+        A,
+        A,
+        "d",
+        "e",
+        "//q:e",
     ],
 )
 ---
