@@ -1,21 +1,20 @@
 //! The tokens of a text.
 
-ghost use Rattle.std.specs.Prelude.{◌≡◌, ◌≤◌, ◌<◌, ◌+◌, ◌^◌, ◌==◌, ◌∷◌, [], List, ℕ, true, false, not, length, take, drop, count_by, map, IfOk, IfErr, IfSome, IfNone, IsTrue, Some, None, nat_eq};
-ghost use Rattle.std.specs.Option.{option_eq};
+ghost use Rattle.std.specs.Prelude.{◌≡◌, ◌≤◌, ◌<◌, ◌+◌, ◌^◌, ◌==◌, ◌∷◌, [], List, ℕ, true, false, length, take, drop, count_by, map, IfOk, IfErr, IfSome, IfNone, IsTrue};
 ghost use Rattle.std.specs.List.{list_any};
 ghost use Rattle.bz_token.specs.Places.{Placed, placed, column_from};
-ghost use Rattle.bz_token.specs.Brackets.{open_tokens};
+ghost use Rattle.bz_token.specs.Brackets.{open_tokens, is_inside};
 ghost use Rattle.bz_token.specs.Reading.{AreTokensOf};
 ghost use Rattle.bz_token.specs.Faults.{IsFault};
 ghost use Rattle.bz_token.specs.Lexical.{is_newline};
 ghost use Rattle.bz_token.specs.private.Scans.{opened, bad_fault, misfit_fault, IsLeftOpen};
-ghost use Rattle.bz_token.specs.private.Steps.{IsTaken, IsRefused};
+ghost use Rattle.bz_token.specs.private.Steps.{IsGapHere, IsTaken, IsRefused};
 ghost use Rattle.bz_token.specs.private.LinesRead.{IsInLine, IsAfterLine};
-ghost use Rattle.bz_token.specs.private.Progress.{HasRead, Grows, PlacesFit};
+ghost use Rattle.bz_token.specs.private.Progress.{HasRead, Grows, PlacesFit, IsReadTo, PassesWhite};
 
 use crate::brackets::{Brackets, Misfit, innermost, is_bracket_byte};
 use crate::fault::LexFault;
-use crate::gap::{Place, advance, after_gap};
+use crate::gap::{Gap, Place, advance, after_gap, blanks, newline};
 use crate::scan_token::{Bad, Step, scan_bracket, step_at};
 use crate::token::{Kind, Token};
 use std::alloc::{AllocError, Global};
@@ -37,14 +36,6 @@ fn pass(place: Place, text: &[u8], has_newline: bool) -> Place
         line: place.line,
         col: place.col + text.len() as u64,
     }
-}
-
-// Whether the last token begins on no such line.
-#[inline(always)]
-fn is_fresh(last_line: Option<u64>, line: u64) -> bool
-    ensures { result ≡ not (option_eq nat_eq last_line (Some line)) }
-{
-    last_line != Some(line)
 }
 
 // The fault of a place where no token stands.
@@ -101,8 +92,8 @@ pub struct Spot<'a> {
     /// What is still to be read.
     pub rest: &'a str,
     place: Place,
-    // The line on which the last token begins.
-    last_line: Option<u64>,
+    // Whether no token begins before it on its line.
+    fresh: bool,
 }
 
 impl<'a> Spot<'a> {
@@ -112,12 +103,12 @@ impl<'a> Spot<'a> {
         ensures rest { result.rest.now ≡ text.now }
         ensures line { result.place.line ≡ first_line }
         ensures col { result.place.col ≡ 1 }
-        ensures none { result.last_line ≡ None }
+        ensures fresh { result.fresh ≡ true }
     {
         Spot {
             rest: text,
             place: Place::start(first_line),
-            last_line: None,
+            fresh: true,
         }
     }
 }
@@ -150,6 +141,37 @@ impl<'a> Lexer<'a> {
         &self.tokens[start..]
     }
 
+    // The spot after this gap.
+    #[inline(always)]
+    fn pass_gap(&self, spot: Spot<'a>, gap: Gap) -> Spot<'a>
+        requires gap { IsGapHere (is_inside (opened self.now.brackets)) spot.rest.now gap }
+        requires read { IsReadTo self.now spot }
+        ensures read { PassesWhite self.now spot.entry result }
+        ensures shorter { length result.rest.now < length spot.entry.rest.now }
+    {
+        let place = after_gap(spot.place, gap);
+        Spot {
+            rest: spot.rest.split_at(gap.len).1,
+            place,
+            fresh: spot.fresh || place.line != spot.place.line,
+        }
+    }
+
+    // The spot after what most often stands between two tokens, if it is here.
+    #[inline(always)]
+    fn pass_white(&self, spot: Spot<'a>) -> Spot<'a>
+        requires { IsReadTo self.now spot }
+        ensures read { PassesWhite self.now spot.entry result }
+        ensures not_longer { length result.rest.now ≤ length spot.entry.rest.now }
+    {
+        let bytes = spot.rest.as_bytes();
+        match bytes {
+            [b' ', ..] => self.pass_gap(spot, blanks(bytes)),
+            [b'\n', ..] if self.brackets.is_inside() => self.pass_gap(spot, newline(bytes)),
+            _ => spot,
+        }
+    }
+
     /// Reads what stands here, a gap or a token: the spot after it, and the token's kind.
     #[inline(always)]
     fn step(&mut self, spot: Spot<'a>, max_depth: u8) -> Result<(Spot<'a>, Option<Kind>), LexFault>
@@ -164,26 +186,12 @@ impl<'a> Lexer<'a> {
         ensures fault { (first : ℕ) (bytes : List ℕ) (given : List Placed)
             → HasRead first max_depth bytes given self.old spot.entry → IfErr result (IsFault first max_depth bytes) }
     {
-        let Spot {
-            rest,
-            place,
-            last_line,
-        } = spot;
+        let Spot { rest, place, fresh } = spot;
         let bytes = rest.as_bytes();
-        let step = match read_step(&mut self.brackets, bytes, max_depth, place) {
-            Ok(step) => step,
-            Err(fault) => return Err(fault),
-        };
-        match step {
-            Step::Gap(gap) => Ok((
-                Spot {
-                    rest: rest.split_at(gap.len).1,
-                    place: after_gap(place, gap),
-                    last_line,
-                },
-                None,
-            )),
-            Step::Token(scanned) => {
+        match read_step(&mut self.brackets, bytes, max_depth, place) {
+            Err(fault) => Err(fault),
+            Ok(Step::Gap(gap)) => Ok((self.pass_gap(spot, gap), None)),
+            Ok(Step::Token(scanned)) => {
                 let Place { line, col } = place;
                 let (token, following) = rest.split_at(scanned.len);
                 self.tokens.push(Token {
@@ -191,16 +199,15 @@ impl<'a> Lexer<'a> {
                     text: token,
                     line,
                     col,
-                    fresh: is_fresh(last_line, line),
+                    fresh,
                 })?;
-                Ok((
-                    Spot {
-                        rest: following,
-                        place: pass(place, token.as_bytes(), scanned.has_newline),
-                        last_line: Some(line),
-                    },
-                    Some(scanned.kind),
-                ))
+                let place = pass(place, token.as_bytes(), scanned.has_newline);
+                let spot = Spot {
+                    rest: following,
+                    place,
+                    fresh: place.line != line,
+                };
+                Ok((spot, Some(scanned.kind)))
             }
         }
     }
@@ -230,13 +237,13 @@ impl<'a> Lexer<'a> {
         let mut spot = spot;
         while !spot.rest.is_empty() {
             let (next, kind) = self.step(spot, max_depth)?;
-            spot = next;
             if kind == Some(Kind::Newline) {
-                return Ok((spot, true));
+                return Ok((next, true));
             }
             if self.tokens.len() >= most {
-                return Ok((spot, false));
+                return Ok((next, false));
             }
+            spot = self.pass_white(next);
         }
         Ok((spot, false))
     }
