@@ -33,9 +33,9 @@ use Rattle.bz_token.proofs.FirstLines.{lines_reading, closed_lines, split_readin
 use Rattle.bz_token.proofs.LineEnds.{tokens_after, map_drop, joins_comment, line_ends}
 
 -- before the first step
-pub started : (first depth : ℕ) (bytes : List ℕ) (lexer : Lexer) (spot : Spot) → lexer.tokens.items ≡ [] → opened lexer.brackets ≡ [] → spot.rest.now ≡ bytes → spot.place.line ≡ first → spot.place.col ≡ 1 → spot.fresh ≡ true → IsUtf8 bytes → IsInLine first depth bytes lexer spot 0
+pub started : (first depth : ℕ) (bytes : List ℕ) (lexer : Lexer) (spot : Spot) → lexer.tokens.items ≡ [] → opened lexer.brackets ≡ [] → spot.rest.now ≡ bytes → spot.place.line ≡ first → spot.place.col ≡ 1 → spot.last_line ≡ None → IsUtf8 bytes → IsInLine first depth bytes lexer spot 0
 started first depth bytes lexer spot no_tokens closed rest line col none utf8 =
-    let r = read_fresh first depth bytes (map placed lexer.tokens.items) (opened lexer.brackets) spot.fresh spot.rest.now spot.place.line spot.place.col (ap (map placed) no_tokens) closed none rest line col utf8 in
+    let r = read_fresh first depth bytes (map placed lexer.tokens.items) (opened lexer.brackets) spot.last_line spot.rest.now spot.place.line spot.place.col (ap (map placed) no_tokens) closed none rest line col utf8 in
     record { read = r.0; done = []; line = []; pieces_are = r.1; ended = refl; comments = refl; none = refl; start_is = refl }
 
 no_newline : (ps : List Piece) (p : Piece) → list_any is_newline_piece ps ≡ false → is_line p.kind ≡ false → list_any is_newline_piece (ps ++ p ∷ []) ≡ false

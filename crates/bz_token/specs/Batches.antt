@@ -15,6 +15,6 @@ left reader = length reader.spot.rest.now
 
 -- These are the tokens of the text so far, the last batch with them.
 pub record HasGiven (first depth : ℕ) (text : List ℕ) (given : List Placed) (reader : TokenReader) : Type 0 where
-  pub read : Progress first depth text given (opened reader.lexer.brackets) reader.spot.fresh reader.spot.rest.now reader.spot.place.line reader.spot.place.col
+  pub read : Progress first depth text given (opened reader.lexer.brackets) reader.spot.last_line reader.spot.rest.now reader.spot.place.line reader.spot.place.col
   pub depth_is : reader.max_depth ≡ depth
   pub fit : PlacesFit first text

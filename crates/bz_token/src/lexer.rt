@@ -1,6 +1,7 @@
 //! The tokens of a text.
 
-ghost use Rattle.std.specs.Prelude.{◌≡◌, ◌≤◌, ◌<◌, ◌+◌, ◌^◌, ◌==◌, ◌∷◌, [], List, ℕ, true, false, length, take, drop, count_by, map, IfOk, IfErr, IfSome, IfNone, IsTrue};
+ghost use Rattle.std.specs.Prelude.{◌≡◌, ◌≤◌, ◌<◌, ◌+◌, ◌^◌, ◌==◌, ◌∷◌, [], List, ℕ, true, false, not, length, take, drop, count_by, map, IfOk, IfErr, IfSome, IfNone, IsTrue, Some, None, nat_eq};
+ghost use Rattle.std.specs.Option.{option_eq};
 ghost use Rattle.std.specs.List.{list_any};
 ghost use Rattle.bz_token.specs.Places.{Placed, placed, column_from};
 ghost use Rattle.bz_token.specs.Brackets.{open_tokens, is_inside};
@@ -36,6 +37,14 @@ fn pass(place: Place, text: &[u8], has_newline: bool) -> Place
         line: place.line,
         col: place.col + text.len() as u64,
     }
+}
+
+// Whether the last token begins on no such line.
+#[inline(always)]
+fn is_fresh(last_line: Option<u64>, line: u64) -> bool
+    ensures { result ≡ not (option_eq nat_eq last_line (Some line)) }
+{
+    last_line != Some(line)
 }
 
 // The fault of a place where no token stands.
@@ -92,8 +101,8 @@ pub struct Spot<'a> {
     /// What is still to be read.
     pub rest: &'a str,
     place: Place,
-    // Whether no token begins before it on its line.
-    fresh: bool,
+    // The line on which the last token begins.
+    last_line: Option<u64>,
 }
 
 impl<'a> Spot<'a> {
@@ -103,12 +112,12 @@ impl<'a> Spot<'a> {
         ensures rest { result.rest.now ≡ text.now }
         ensures line { result.place.line ≡ first_line }
         ensures col { result.place.col ≡ 1 }
-        ensures fresh { result.fresh ≡ true }
+        ensures none { result.last_line ≡ None }
     {
         Spot {
             rest: text,
             place: Place::start(first_line),
-            fresh: true,
+            last_line: None,
         }
     }
 }
@@ -149,11 +158,10 @@ impl<'a> Lexer<'a> {
         ensures read { PassesWhite self.now spot.entry result }
         ensures shorter { length result.rest.now < length spot.entry.rest.now }
     {
-        let place = after_gap(spot.place, gap);
         Spot {
             rest: spot.rest.split_at(gap.len).1,
-            place,
-            fresh: spot.fresh || place.line != spot.place.line,
+            place: after_gap(spot.place, gap),
+            last_line: spot.last_line,
         }
     }
 
@@ -186,7 +194,11 @@ impl<'a> Lexer<'a> {
         ensures fault { (first : ℕ) (bytes : List ℕ) (given : List Placed)
             → HasRead first max_depth bytes given self.old spot.entry → IfErr result (IsFault first max_depth bytes) }
     {
-        let Spot { rest, place, fresh } = spot;
+        let Spot {
+            rest,
+            place,
+            last_line,
+        } = spot;
         let bytes = rest.as_bytes();
         match read_step(&mut self.brackets, bytes, max_depth, place) {
             Err(fault) => Err(fault),
@@ -199,13 +211,12 @@ impl<'a> Lexer<'a> {
                     text: token,
                     line,
                     col,
-                    fresh,
+                    fresh: is_fresh(last_line, line),
                 })?;
-                let place = pass(place, token.as_bytes(), scanned.has_newline);
                 let spot = Spot {
                     rest: following,
-                    place,
-                    fresh: place.line != line,
+                    place: pass(place, token.as_bytes(), scanned.has_newline),
+                    last_line: Some(line),
                 };
                 Ok((spot, Some(scanned.kind)))
             }

@@ -8,7 +8,7 @@ pub loop-spot-init : goal.loop-spot-init
 loop-spot-init c =
     let e = c.in_ok-lexer.ensures in
     let s = c.start-spot.ensures in
-    started c.args.first_line c.args.max_depth c.args.text.now c.in_ok-lexer.lexer c.start-spot.result e.0 e.1 s.rest s.line s.col s.fresh c.utf8.text
+    started c.args.first_line c.args.max_depth c.args.text.now c.in_ok-lexer.lexer c.start-spot.result e.0 e.1 s.rest s.line s.col s.none c.utf8.text
 
 pub tokens_from-requires : goal.tokens_from-requires
 tokens_from-requires c =
