@@ -1,11 +1,14 @@
 -- Gaps, a step at a time.
-use Rattle.std.proofs.Common.{◌≡◌, ℕ, zero, suc, ◌+◌, ◌-◌, ◌<◌, ◌≤◌, ◌==◌, ◌&&◌, List, [], ◌∷◌, ◌++◌, length, take, get_or, true, false, not, cond, refl, sym, ap, ◌∙◌, arith, Bool, inl, inr, sub-one}
+use Rattle.std.proofs.Common.{◌≡◌, ℕ, zero, suc, ◌+◌, ◌-◌, ◌<◌, ◌≤◌, ◌==◌, ◌&&◌, List, [], ◌∷◌, ◌++◌, length, take, get_or, true, false, not, cond, refl, sym, ap, ◌∙◌, arith, Bool, inl, inr, sub-one, drop, map, replicate, eqb, subst, w8, ◌^◌, ◌%◌}
 use Rattle.std.proofs.lemmas.Bool.{cases_Bool, false≢true}
 use Rattle.std.proofs.lemmas.List.{length-take-le, get_or-take}
 use Rattle.std.proofs.lemmas.List.Sums.{prefix_len-le-length, prefix_len_passes}
 use Rattle.std.proofs.lemmas.Grind.{common_steps}
 use Rattle.std.proofs.lemmas.Bool.Decides.{nat_tests}
 use Rattle.std.specs.List.{list_any, prefix_len}
+use Rattle.std.specs.Simd.Lanes.{zip2, mask_l, top}
+use Rattle.std.specs.Int.Count.{count_trailing_zeros}
+use Rattle.std.proofs.lemmas.Simd.{bitmask_splat, trailing_mask_l}
 use Rattle.bz_token.specs.Lexical.{is_blank, is_newline, begins, ends_blank, is_comment}
 use Rattle.bz_token.specs.Reading.{is_white, is_gap, continues_gap}
 
@@ -71,3 +74,41 @@ comment_front (b ∷ bs) n zero hash whole some fits trimmed = absurd (omega ari
 comment_front (b ∷ bs) n (suc r) hash whole some fits trimmed =
     let within : n ≤ suc (length bs) = omega (arith, prefix_len-le-length (λ c. not (is_newline c)) (b ∷ bs)) in
     simp (hash, none_before is_newline (b ∷ bs) (suc r) (omega arith), last_blank b (take r bs)) (not_false _ (last_trimmed b bs n r hash within fits trimmed))
+
+-- sixteen bytes at once: those that are no space, as a mask
+abbrev pub others_of : List ℕ → ℕ
+others_of xs = mask_l (map (top 7) (zip2 (λ a b. cond (not (eqb a b)) 255 0) xs (replicate 16 32))) % 2 ^ 64
+
+abbrev no_other : ℕ → Bool
+no_other b = not (not (eqb b 32))
+
+-- what passes so is blank
+space_run : (bs : List ℕ) (k : ℕ) → prefix_len is_blank bs ≡ prefix_len no_other (take k bs) + prefix_len is_blank (drop (prefix_len no_other (take k bs)) bs)
+space_run [] zero = refl
+space_run [] (suc k) = refl
+space_run (b ∷ bs) zero = omega arith
+space_run (b ∷ bs) (suc k) = by (eqb b 32) refl (space_run bs k)
+  where
+    n : ℕ
+    n = prefix_len no_other (take k bs)
+
+    by : (t : Bool) → eqb b 32 ≡ t → prefix_len is_blank bs ≡ n + prefix_len is_blank (drop n bs)
+        → prefix_len is_blank (b ∷ bs) ≡ cond (not (not t)) (1 + n) 0 + prefix_len is_blank (drop (cond (not (not t)) (1 + n) 0) (b ∷ bs))
+    by true e rest =
+        let one : 1 + n ≡ suc n = omega arith in
+        rw (one, e) (omega (arith, rest))
+    by false e rest = omega arith
+
+pub spaces_before : (bs : List ℕ) → 16 ≤ length bs → (others_of (take 16 bs) ≡ 0 → ⊥)
+    → (count_trailing_zeros 64 (others_of (take 16 bs)) ≤ length bs)
+    × (prefix_len is_blank bs ≡ count_trailing_zeros 64 (others_of (take 16 bs)) + prefix_len is_blank (drop (count_trailing_zeros 64 (others_of (take 16 bs))) bs))
+spaces_before bs long some =
+    let xs = take 16 bs in
+    let few = length-take-le 16 bs long in
+    let m = bitmask_splat w8 (λ a b. not (eqb a b)) xs 16 32 few (omega arith) in
+    let n : count_trailing_zeros 64 (others_of xs) ≡ prefix_len no_other xs = ap (count_trailing_zeros 64) m ∙ trailing_mask_l (λ b. not (eqb b 32)) 64 xs (omega (arith, few)) (above (mask_l (map (λ b. not (eqb b 32)) xs)) (λ e. some (m ∙ e))) in
+    (omega (arith, n, prefix_len-le-length no_other xs, few, long), subst (λ k. prefix_len is_blank bs ≡ k + prefix_len is_blank (drop k bs)) (sym n) (space_run bs 16))
+  where
+    above : (m : ℕ) → (m ≡ 0 → ⊥) → 0 < m
+    above zero no_zero = absurd (no_zero refl)
+    above (suc m) no_zero = omega arith

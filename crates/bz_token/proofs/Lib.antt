@@ -5,6 +5,7 @@ pub mod PlainStrings
 pub mod Gaps
 pub mod Stack
 pub mod Classes
+pub mod Keywords
 pub mod Openings
 pub mod Ends
 pub mod Operators

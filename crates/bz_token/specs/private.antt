@@ -5,6 +5,7 @@ pub mod Scans
 pub mod Stages
 pub mod Steps
 pub mod Tables
+pub mod Keywords
 pub mod LineEnds
 pub mod Progress
 pub mod LinesRead

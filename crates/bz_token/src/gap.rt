@@ -8,6 +8,7 @@ ghost use Rattle.bz_token.specs.Reading.{begins_gap};
 ghost use Rattle.bz_token.specs.private.Steps.{IsGapHere};
 
 use crate::scan::is_blank;
+use std::simd::prelude::*;
 
 /// A place in a text: its line, and its column in bytes from 1.
 #[derive(Clone, Copy)]
@@ -53,9 +54,9 @@ pub fn advance(place: Place, bytes: &[u8]) -> Place
 #[derive(Clone, Copy)]
 pub struct Gap {
     pub len: usize,
-    pub has_newline: bool,
     /// The bytes after the newline, or all where there is none.
     pub on_line: usize,
+    pub has_newline: bool,
 }
 
 /// The place after a gap.
@@ -87,25 +88,31 @@ fn blank_len(bytes: &[u8]) -> usize
     bytes.iter().take_while(|b| is_blank(**b)).count()
 }
 
-// Whether four spaces stand here.
+// Some of the spaces here: all of them, up to 16, where so many bytes are left.
 #[inline(always)]
-fn begins_indent(bytes: &[u8]) -> bool
-    ensures within { result ≡ true → 4 ≤ length bytes.now }
-    ensures blank { result ≡ true → prefix_len is_blank bytes.now ≡ 4 + prefix_len is_blank (drop 4 bytes.now) }
+fn some_spaces(bytes: &[u8]) -> usize
+    ensures within { result ≤ length bytes.now }
+    ensures blank { prefix_len is_blank bytes.now ≡ result + prefix_len is_blank (drop result bytes.now) }
 {
-    matches!(bytes, [b' ', b' ', b' ', b' ', ..])
+    if bytes.len() < 16 {
+        return 0;
+    }
+    let others = u8x16::from_slice(bytes)
+        .simd_ne(u8x16::splat(b' '))
+        .to_bitmask();
+    if others == 0 {
+        return 16;
+    }
+    others.trailing_zeros() as usize
 }
 
-// The number of blanks here, most of them spaces by fours.
+// The number of blanks here, most of them spaces.
 #[inline(always)]
 fn indent_len(bytes: &[u8]) -> usize
     ensures { result ≡ prefix_len is_blank bytes.now }
 {
-    let mut len = 0;
-    while begins_indent(&bytes[len..]) {
-        len += 4;
-    }
-    len + blank_len(&bytes[len..])
+    let spaces = some_spaces(bytes);
+    spaces + blank_len(&bytes[spaces..])
 }
 
 /// The blanks here.
@@ -114,11 +121,14 @@ pub fn blanks(bytes: &[u8]) -> Gap
     requires { begins is_blank bytes.now ≡ true }
     ensures { (inside : Bool) → IsGapHere inside bytes.now result }
 {
-    let len = blank_len(bytes);
+    let len = match bytes {
+        [b' ', b, ..] if !is_blank(*b) => 1,
+        _ => blank_len(bytes),
+    };
     Gap {
         len,
-        has_newline: false,
         on_line: len,
+        has_newline: false,
     }
 }
 
@@ -132,8 +142,8 @@ pub fn newline(bytes: &[u8]) -> Gap
     let on_line = indent_len(&bytes[1..]);
     Gap {
         len: 1 + on_line,
-        has_newline: true,
         on_line,
+        has_newline: true,
     }
 }
 
@@ -148,13 +158,13 @@ pub fn continued(bytes: &[u8]) -> Option<Gap>
     match bytes {
         [_, b'\n', ..] => Some(Gap {
             len: 2,
-            has_newline: true,
             on_line: 0,
+            has_newline: true,
         }),
         [_, b'\r', b'\n', ..] => Some(Gap {
             len: 3,
-            has_newline: true,
             on_line: 0,
+            has_newline: true,
         }),
         _ => None,
     }

@@ -4,18 +4,18 @@ ghost use Rattle.std.specs.Prelude.{◌≡◌, ◌≤◌, ◌<◌, ◌+◌, ◌^
 ghost use Rattle.std.specs.Option.{option_eq};
 ghost use Rattle.std.specs.List.{list_any};
 ghost use Rattle.bz_token.specs.Places.{Placed, placed, column_from};
-ghost use Rattle.bz_token.specs.Brackets.{open_tokens};
+ghost use Rattle.bz_token.specs.Brackets.{open_tokens, is_inside};
 ghost use Rattle.bz_token.specs.Reading.{AreTokensOf};
 ghost use Rattle.bz_token.specs.Faults.{IsFault};
 ghost use Rattle.bz_token.specs.Lexical.{is_newline};
 ghost use Rattle.bz_token.specs.private.Scans.{opened, bad_fault, misfit_fault, IsLeftOpen};
-ghost use Rattle.bz_token.specs.private.Steps.{IsTaken, IsRefused};
+ghost use Rattle.bz_token.specs.private.Steps.{IsGapHere, IsTaken, IsRefused};
 ghost use Rattle.bz_token.specs.private.LinesRead.{IsInLine, IsAfterLine};
-ghost use Rattle.bz_token.specs.private.Progress.{HasRead, Grows, PlacesFit};
+ghost use Rattle.bz_token.specs.private.Progress.{HasRead, Grows, PlacesFit, IsReadTo, PassesWhite};
 
 use crate::brackets::{Brackets, Misfit, innermost, is_bracket_byte};
 use crate::fault::LexFault;
-use crate::gap::{Place, advance, after_gap};
+use crate::gap::{Gap, Place, advance, after_gap, blanks, newline};
 use crate::scan_token::{Bad, Step, scan_bracket, step_at};
 use crate::token::{Kind, Token};
 use std::alloc::{AllocError, Global};
@@ -150,6 +150,36 @@ impl<'a> Lexer<'a> {
         &self.tokens[start..]
     }
 
+    // The spot after this gap.
+    #[inline(always)]
+    fn pass_gap(&self, spot: Spot<'a>, gap: Gap) -> Spot<'a>
+        requires gap { IsGapHere (is_inside (opened self.now.brackets)) spot.rest.now gap }
+        requires read { IsReadTo self.now spot }
+        ensures read { PassesWhite self.now spot.entry result }
+        ensures shorter { length result.rest.now < length spot.entry.rest.now }
+    {
+        Spot {
+            rest: spot.rest.split_at(gap.len).1,
+            place: after_gap(spot.place, gap),
+            last_line: spot.last_line,
+        }
+    }
+
+    // The spot after what most often stands between two tokens, if it is here.
+    #[inline(always)]
+    fn pass_white(&self, spot: Spot<'a>) -> Spot<'a>
+        requires { IsReadTo self.now spot }
+        ensures read { PassesWhite self.now spot.entry result }
+        ensures not_longer { length result.rest.now ≤ length spot.entry.rest.now }
+    {
+        let bytes = spot.rest.as_bytes();
+        match bytes {
+            [b' ', ..] => self.pass_gap(spot, blanks(bytes)),
+            [b'\n', ..] if self.brackets.is_inside() => self.pass_gap(spot, newline(bytes)),
+            _ => spot,
+        }
+    }
+
     /// Reads what stands here, a gap or a token: the spot after it, and the token's kind.
     #[inline(always)]
     fn step(&mut self, spot: Spot<'a>, max_depth: u8) -> Result<(Spot<'a>, Option<Kind>), LexFault>
@@ -170,20 +200,10 @@ impl<'a> Lexer<'a> {
             last_line,
         } = spot;
         let bytes = rest.as_bytes();
-        let step = match read_step(&mut self.brackets, bytes, max_depth, place) {
-            Ok(step) => step,
-            Err(fault) => return Err(fault),
-        };
-        match step {
-            Step::Gap(gap) => Ok((
-                Spot {
-                    rest: rest.split_at(gap.len).1,
-                    place: after_gap(place, gap),
-                    last_line,
-                },
-                None,
-            )),
-            Step::Token(scanned) => {
+        match read_step(&mut self.brackets, bytes, max_depth, place) {
+            Err(fault) => Err(fault),
+            Ok(Step::Gap(gap)) => Ok((self.pass_gap(spot, gap), None)),
+            Ok(Step::Token(scanned)) => {
                 let Place { line, col } = place;
                 let (token, following) = rest.split_at(scanned.len);
                 self.tokens.push(Token {
@@ -193,14 +213,12 @@ impl<'a> Lexer<'a> {
                     col,
                     fresh: is_fresh(last_line, line),
                 })?;
-                Ok((
-                    Spot {
-                        rest: following,
-                        place: pass(place, token.as_bytes(), scanned.has_newline),
-                        last_line: Some(line),
-                    },
-                    Some(scanned.kind),
-                ))
+                let spot = Spot {
+                    rest: following,
+                    place: pass(place, token.as_bytes(), scanned.has_newline),
+                    last_line: Some(line),
+                };
+                Ok((spot, Some(scanned.kind)))
             }
         }
     }
@@ -230,13 +248,13 @@ impl<'a> Lexer<'a> {
         let mut spot = spot;
         while !spot.rest.is_empty() {
             let (next, kind) = self.step(spot, max_depth)?;
-            spot = next;
             if kind == Some(Kind::Newline) {
-                return Ok((spot, true));
+                return Ok((next, true));
             }
             if self.tokens.len() >= most {
-                return Ok((spot, false));
+                return Ok((next, false));
             }
+            spot = self.pass_white(next);
         }
         Ok((spot, false))
     }

@@ -5,6 +5,7 @@ ghost use Rattle.std.specs.Char.{is_ascii_digit, is_ascii_hexdigit};
 ghost use Rattle.std.specs.List.{list_all, list_any, prefix_len};
 ghost use Rattle.bz_token.specs.declared.token.Kind.TheVariants.{Operator};
 ghost use Rattle.bz_token.specs.Ends.{stops_at};
+ghost use Rattle.bz_token.specs.private.Keywords.{keyword_len};
 ghost use Rattle.bz_token.specs.Lexical.{operators, keywords, begins, is_blank, is_word_byte, is_octal_digit, are_based, is_number, is_keyword, is_one_of, is_operator_text, is_comment, is_newline};
 
 use crate::table::is_word_byte;
@@ -77,12 +78,32 @@ fn are(bytes: &[u8], word: &[u8]) -> bool
     bytes == word
 }
 
+// The length of the keywords that begin so, but for `lambda`, or 0.
+#[inline(always)]
+fn keyword_len(first: u8) -> usize
+    ensures { result ≡ keyword_len first }
+{
+    match first {
+        b'i' | b'o' => 2,
+        b'a' | b'd' | b'f' | b'n' => 3,
+        b'e' | b'l' | b'p' => 4,
+        b'b' => 5,
+        b'r' => 6,
+        b'c' => 8,
+        _ => 0,
+    }
+}
+
 /// Whether the bytes are a keyword.
 #[tactic(auto, unfolding(crate::specs::Lexical::keywords))]
 #[inline(always)]
 pub fn is_keyword(bytes: &[u8]) -> bool
     ensures { result ≡ is_keyword bytes.now }
 {
+    // Most names are told at a glance.
+    if bytes.len() != keyword_len(byte_at(bytes, 0)) {
+        return are(bytes, b"lambda");
+    }
     match bytes.len() {
         2 => are(bytes, b"if") || are(bytes, b"in") || are(bytes, b"or"),
         3 => are(bytes, b"and") || are(bytes, b"def") || are(bytes, b"for") || are(bytes, b"not"),

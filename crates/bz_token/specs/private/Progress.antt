@@ -50,3 +50,13 @@ Grows (Some kind) before pieces gap = (p : Piece) × (pieces ≡ before ++ p ∷
 -- the lines and columns of the text fit in 64 bits
 abbrev pub PlacesFit : ℕ → List ℕ → Type 0
 PlacesFit first bytes = (first + count_by (λ b. b == 10) bytes < 2 ^ 64) × (length bytes + 1 < 2 ^ 64)
+
+-- some text was read up to this spot
+abbrev pub IsReadTo : Lexer → Spot → Type 0
+IsReadTo lexer spot = (first : ℕ) × (depth : ℕ) × (bytes : List ℕ) × (given : List Placed) × HasRead first depth bytes given lexer spot × PlacesFit first bytes
+
+-- from one spot to the next there is at most white space
+abbrev pub PassesWhite : Lexer → Spot → Spot → Type 0
+PassesWhite lexer from to =
+    (first : ℕ) (depth : ℕ) (bytes : List ℕ) (given : List Placed) (before : HasRead first depth bytes given lexer from)
+    → (after : HasRead first depth bytes given lexer to) × Grows None before.pieces after.pieces after.gap

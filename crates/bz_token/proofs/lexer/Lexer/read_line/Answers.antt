@@ -1,4 +1,4 @@
-use Rattle.std.proofs.Common.{rules, tests, arith, []}
+use Rattle.std.proofs.Common.{rules, tests, arith, [], None}
 use Rattle.bz_token.specs.Faults.{IsFault}
 use Rattle.bz_token.proofs.Progress.{passed_on}
 use Rattle.bz_token.proofs.LinesRead.{stays, line_read}
@@ -22,17 +22,26 @@ returns-then-eq-clause-line c first bytes start before told =
     let r = c.in_ok-next.ensures.read first bytes [] i.read in
     line_read first c.args.max_depth bytes c.loop-self.self c.step.new.self c.loop-self.spot c.in_ok-next.next start c.in_ok-next.kind i r.0 r.1 (search (rules, tests))
 
+pub pass_white-spot-requires : goal.pass_white-spot-requires
+pass_white-spot-requires c =
+    let p = c.requires.places in
+    (p.0, c.args.max_depth, p.1, p.2, (c.in_ok-next.ensures.read p.0 p.1 p.2 (c.loop-self.invariant.read p.0 p.1 p.2 p.3)).0, p.4)
+
 pub loop-self-preserved : goal.loop-self-preserved
 loop-self-preserved c =
     let i = c.loop-self.invariant in
     let passed = c.in_ok-next.ensures in
+    let white = c.pass_white-spot.ensures in
+    let depth = c.args.max_depth in
     record {
-      read = λ first bytes given before. (passed.read first bytes given (i.read first bytes given before)).0;
+      read = λ first bytes given before. (white.read first depth bytes given (passed.read first bytes given (i.read first bytes given before)).0).0;
       line = λ first bytes start before.
           let here = i.line first bytes start before in
           let r = passed.read first bytes [] here.read in
-          stays first c.args.max_depth bytes c.loop-self.self c.step.new.self c.loop-self.spot c.in_ok-next.next start c.in_ok-next.kind here r.0 r.1 (λ e. search (rules, tests));
-      shorter = omega (arith, i.shorter, passed.shorter);
+          let next = stays first depth bytes c.loop-self.self c.step.new.self c.loop-self.spot c.in_ok-next.next start c.in_ok-next.kind here r.0 r.1 (λ e. search (rules, tests)) in
+          let w = white.read first depth bytes [] next.read in
+          stays first depth bytes c.step.new.self c.step.new.self c.in_ok-next.next c.pass_white-spot.result start None next w.0 w.1 (λ e. search (rules, tests));
+      shorter = omega (arith, i.shorter, passed.shorter, white.not_longer);
     }
 
 pub returns-then-len-most-clause-read : goal.returns-then-len-most-clause-read

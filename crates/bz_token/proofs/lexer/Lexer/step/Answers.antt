@@ -4,7 +4,7 @@ use Rattle.std.proofs.lemmas.Str.{IsUtf8-drop}
 use Rattle.bz_token.specs.Places.{placed}
 use Rattle.bz_token.specs.private.Scans.{opened}
 use Rattle.bz_token.proofs.Steps.{gap_of_step, token_of_step}
-use Rattle.bz_token.proofs.Progress.{places_fit, gap_read, token_read, newlines_split, refused_at, gap_boundary, same_as}
+use Rattle.bz_token.proofs.Progress.{places_fit, token_read, newlines_split, refused_at, same_as}
 use Rattle.bz_token.proofs.Innermost.{map_push}
 use Rattle.bz_token.proofs.Fitting.{token_fits}
 use Rattle.bz_token.proofs.lexer.Lexer.step.Goals as goal
@@ -13,66 +13,51 @@ pub returns-in-Err-clause-fault : goal.returns-in-Err-clause-fault
 returns-in-Err-clause-fault c first bytes given before =
     refused_at _ _ _ _ _ _ _ _ _ _ c.in-Err.fault before c.as_bytes-bytes.ensures.value (search rules) c.in-Err.ensures.fault
 
-pub after_gap-requires-clause-line_fits : goal.after_gap-requires-clause-line_fits
-after_gap-requires-clause-line_fits c =
-    let gap = (gap_of_step _ _ _ _ _ _ c.in-Gap.gap c.as_bytes-bytes.ensures.value c.in-Gap.is c.in-Ok.ensures.step).0 in
-    let fits = places_fit _ _ _ _ _ _ _ _ _ c.requires.places.3 in
-    let parts = newlines_split c.args.spot.rest.now _ _ c.in-Gap.gap.len refl refl in
-    omega (arith, fits.0, parts.0, gap.lines, c.requires.places.4.0)
+pub pass_gap-requires-clause-gap : goal.pass_gap-requires-clause-gap
+pass_gap-requires-clause-gap c =
+    let taken = gap_of_step _ _ _ _ _ _ c.in-Ok-Gap.gap c.as_bytes-bytes.ensures.value c.in-Ok-Gap.field-0-is c.in-Ok-Gap.ensures.step in
+    rw taken.1 taken.0
 
-pub after_gap-requires-clause-col_fits : goal.after_gap-requires-clause-col_fits
-after_gap-requires-clause-col_fits c =
-    let gap = (gap_of_step _ _ _ _ _ _ c.in-Gap.gap c.as_bytes-bytes.ensures.value c.in-Gap.is c.in-Ok.ensures.step).0 in
-    let fits = places_fit _ _ _ _ _ _ _ _ _ c.requires.places.3 in
-    omega (arith, fits.1, gap.within, gap.on_line, c.requires.places.4.1)
+pub pass_gap-requires-clause-read : goal.pass_gap-requires-clause-read
+pass_gap-requires-clause-read c =
+    let taken = gap_of_step _ _ _ _ _ _ c.in-Ok-Gap.gap c.as_bytes-bytes.ensures.value c.in-Ok-Gap.field-0-is c.in-Ok-Gap.ensures.step in
+    let p = c.requires.places in
+    (p.0, c.args.max_depth, p.1, p.2, rw taken.1 p.3, p.4)
 
-pub after_gap-requires-clause-col_counts : goal.after_gap-requires-clause-col_counts
-after_gap-requires-clause-col_counts c = (places_fit _ _ _ _ _ _ _ _ _ c.requires.places.3).2
-
-pub split_at-requires : goal.split_at-requires
-split_at-requires c =
-    let gap = (gap_of_step _ _ _ _ _ _ c.in-Gap.gap c.as_bytes-bytes.ensures.value c.in-Gap.is c.in-Ok.ensures.step).0 in
-    gap_boundary c.args.spot.rest.now c.in-Gap.gap.len c.requires.places.3.utf8 gap.within (λ some. gap.ascii)
-
-pub returns-in-Gap-clause-read : goal.returns-in-Gap-clause-read
-returns-in-Gap-clause-read c first bytes given before =
-    let taken = gap_of_step _ _ _ _ _ _ c.in-Gap.gap c.as_bytes-bytes.ensures.value c.in-Gap.is c.in-Ok.ensures.step in
-    let gap = taken.0 in
-    let place = c.args.spot.place in
-    rw taken.1
-    (gap_read first _ bytes _ _ _ c.args.spot.rest.now c.split_at.result.1.now place.line place.col _ _ c.in-Gap.gap.len before gap.goes_on
-    (gap_boundary c.args.spot.rest.now c.in-Gap.gap.len before.utf8 gap.within (λ some. gap.ascii)) c.split_at.ensures.back
-    (omega (arith, c.after_gap.ensures.line, gap.lines)) (c.after_gap.ensures.col ∙ sym (gap.column place.col)))
+pub returns-in-Ok-Gap-clause-read : goal.returns-in-Ok-Gap-clause-read
+returns-in-Ok-Gap-clause-read c first bytes given before =
+    let taken = gap_of_step _ _ _ _ _ _ c.in-Ok-Gap.gap c.as_bytes-bytes.ensures.value c.in-Ok-Gap.field-0-is c.in-Ok-Gap.ensures.step in
+    rw taken.1 ((rw taken.1 at c.pass_gap.ensures.read first c.args.max_depth bytes given) before)
 
 pub pass-requires-clause-line_fits : goal.pass-requires-clause-line_fits
 pass-requires-clause-line_fits c =
     let fits = places_fit _ _ _ _ _ _ _ _ _ c.requires.places.3 in
-    let parts = newlines_split c.args.spot.rest.now c.as_bytes.result.now _ _ (c.as_bytes.ensures.value ∙ c.split_at-in-Token.ensures.front) c.split_at-in-Token.ensures.back in
+    let parts = newlines_split c.args.spot.rest.now c.as_bytes.result.now _ _ (c.as_bytes.ensures.value ∙ c.split_at.ensures.front) c.split_at.ensures.back in
     omega (arith, fits.0, parts.0, c.requires.places.4.0)
 
 pub pass-requires-clause-col_fits : goal.pass-requires-clause-col_fits
 pass-requires-clause-col_fits c =
     let fits = places_fit _ _ _ _ _ _ _ _ _ c.requires.places.3 in
-    let parts = newlines_split c.args.spot.rest.now c.as_bytes.result.now _ _ (c.as_bytes.ensures.value ∙ c.split_at-in-Token.ensures.front) c.split_at-in-Token.ensures.back in
+    let parts = newlines_split c.args.spot.rest.now c.as_bytes.result.now _ _ (c.as_bytes.ensures.value ∙ c.split_at.ensures.front) c.split_at.ensures.back in
     omega (arith, fits.1, parts.1, c.requires.places.4.1)
 
 pub pass-requires-clause-col_counts : goal.pass-requires-clause-col_counts
 pass-requires-clause-col_counts c = (places_fit _ _ _ _ _ _ _ _ _ c.requires.places.3).2
 
-pub returns-in_ok-push-in-Token-clause-read : goal.returns-in_ok-push-in-Token-clause-read
-returns-in_ok-push-in-Token-clause-read c first bytes given before =
-    let found = token_of_step _ _ _ _ _ _ c.in-Token.scanned c.as_bytes-bytes.ensures.value c.in-Token.is c.in-Ok.ensures.step in
+pub returns-in_ok-push-in-Ok-Token-clause-read : goal.returns-in_ok-push-in-Ok-Token-clause-read
+returns-in_ok-push-in-Ok-Token-clause-read c first bytes given before =
+    let found = token_of_step _ _ _ _ _ _ c.in-Ok-Token.scanned c.as_bytes-bytes.ensures.value c.in-Ok-Token.field-0-is c.in-Ok-Token.ensures.step in
     let here = c.args.spot.rest.now in
-    let cut = c.split_at-in-Token.ensures in
-    let token = c.split_at-in-Token.result.0.now in
-    let following = c.split_at-in-Token.result.1.now in
+    let cut = c.split_at.ensures in
+    let token = c.split_at.result.0.now in
+    let following = c.split_at.result.1.now in
     let split : c.args.spot.rest.now ≡ token ++ following = rw (cut.front, cut.back, take-append-drop) refl in
     let whole = rw (← cut.front) at found.1.token.whole in
-    let fitting = token_fits c.args.max_depth c.in-Token.scanned.kind (opened c.args.self.now.brackets) here token following c.in-Token.scanned.len found.1.some found.1.within cut.front split whole found.0 found.2 in
-    let pushed = chosen _ _ _ _ c.push.ensures.items (ap is_ok c.in_ok-push-in-Token.was) in
-    let utf8 = IsUtf8-drop here c.in-Token.scanned.len before.utf8 (found.1.boundary before.utf8) in
+    let fitting = token_fits c.args.max_depth c.in-Ok-Token.scanned.kind (opened c.args.self.now.brackets) here token following c.in-Ok-Token.scanned.len found.1.some found.1.within cut.front split whole found.0 found.2 in
+    let pushed = chosen _ _ _ _ c.push.ensures.items (ap is_ok c.in_ok-push-in-Ok-Token.was) in
+    let utf8 = IsUtf8-drop here c.in-Ok-Token.scanned.len before.utf8 (found.1.boundary before.utf8) in
     rw (ap (λ ts. given ++ map placed ts) pushed ∙ (ap (λ ts. given ++ ts) (map_push c.args.self.now.tokens.items _) ∙ sym (append_assoc given (map placed c.args.self.now.tokens.items) _)))
-    (token_read first c.args.max_depth bytes _ (opened c.args.self.now.brackets) (opened c.read_step.new.brackets) c.args.spot.last_line here token following c.in-Token.scanned.kind
+    (token_read first c.args.max_depth bytes _ (opened c.args.self.now.brackets) (opened c.read_step.new.brackets) c.args.spot.last_line here token following c.in-Ok-Token.scanned.kind
     _ _ c.pass.result.line c.pass.result.col c.is_fresh.result before found.0 split (rw (← cut.front, ← cut.back) at found.1.token) fitting.0 (found.3 ∙ fitting.1) (c.is_fresh.ensures ∙ ap not (same_as c.args.spot.last_line c.args.spot.place.line)) (rw (← cut.back) at utf8)
     (rw c.as_bytes.ensures.value at c.pass.ensures.line)
     (rw c.as_bytes.ensures.value at c.pass.ensures.col))
