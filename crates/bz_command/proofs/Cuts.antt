@@ -1,12 +1,12 @@
 -- A text in parts.
-use Rattle.std.proofs.Common.{◌≡◌, ℕ, zero, suc, ◌+◌, ◌<◌, ◌&&◌, not, List, [], ◌∷◌, length, drop, Bool, true, false, refl, arith, tests, inl, inr}
+use Rattle.std.proofs.Common.{◌≡◌, ℕ, zero, suc, ◌+◌, ◌<◌, ◌&&◌, not, List, [], ◌∷◌, length, drop, Bool, true, false, refl, arith, inl, inr}
 use Rattle.std.specs.Prelude.{bytes_eq}
 use Rattle.std.specs.List.{list_all, slice_split, onto_first, position_or_len}
 use Rattle.std.proofs.lemmas.Bool.{cases_Bool, and_parts, or_parts, not-true}
 use Rattle.std.proofs.lemmas.List.Splits.{length-slice_split}
-use Rattle.std.specs.Prelude.{◌||◌, nat_eq, nat_lt, codes, Result, Some, None, Ok, Err}
+use Rattle.std.specs.Prelude.{◌||◌, nat_eq, codes, Some, None, Ok, Err}
 use Rattle.std.specs.List.{starts_with}
-use Rattle.bz_command.specs.Labels.{Package, Name, named_of, label_of, last_of, is_part, parts_of, path_of, package_of, is_slash, is_colon, is_plain, is_target, is_path}
+use Rattle.bz_command.specs.Labels.{last_of, is_part, parts_of, path_of, package_of, is_slash, is_colon, is_plain, is_target, is_path}
 use Rattle.bz_command.specs.declared.labels.LabelFault.{LabelFault}
 
 onto_one : {X : Type 0} (p : X → Bool) (x : X) (xs : List X) → p x ≡ false → slice_split p xs ≡ xs ∷ [] → slice_split p (x ∷ xs) ≡ (x ∷ xs) ∷ []
@@ -102,12 +102,3 @@ named_target text path colons h some =
     let last = last_of (parts_of path) in
     rw (part_some last (last_passes is_part (parts_of path) (some_part is_slash path) parts))
     (all_both is_plain (λ b. not (is_colon b)) last (last_all is_plain is_slash path plain) (last_all (λ b. not (is_colon b)) is_slash path no_colon))
-
-pub named : (read : Result Package LabelFault) (home : Package) (path name : List ℕ) → read ≡ Ok (Some path) → home ≡ Some path → bytes_eq path [] ≡ false → name ≡ last_of (parts_of path) → Ok (home, Name name) ≡ named_of read
-named read home path name is same some last = rw (is, same, some, last) refl
-
-not_less : (m n : ℕ) → m ≡ n → nat_lt m n ≡ false
-not_less m n h = grind (arith, tests)
-
-pub uncut_label : (text : List ℕ) → position_or_len is_colon text ≡ length text → named_of (package_of text) ≡ label_of text
-uncut_label text none = rw (not_less _ _ none) refl

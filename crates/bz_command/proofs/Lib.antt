@@ -6,8 +6,8 @@ pub mod LabelSets
 mod LastParts
 pub mod Literals
 mod Mended
+mod Moves
 mod Numbers
 mod Opened
 mod Quoting
 pub mod ReadBack
-mod Readings

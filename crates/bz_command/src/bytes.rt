@@ -45,9 +45,6 @@ pub(crate) fn next<'a>(bytes: Bytes<'a>) -> Option<(u8, Bytes<'a>)>
     match bytes {
         Bytes::Plain([]) => None,
         Bytes::Plain([b, rest @ ..]) => Some((*b, Bytes::Plain(rest))),
-        Bytes::Inner(literal) => {
-            let (b, after) = next_in(literal)?;
-            Some((b, Bytes::Inner(after)))
-        }
+        Bytes::Inner(literal) => next_in(literal).map(|(b, after)| (b, Bytes::Inner(after))),
     }
 }

@@ -180,7 +180,7 @@ fn comment_before(place: Commented, text: Text) -> Result<Command, CommandFault>
 fn breaks_line(text: &str) -> bool
     ensures { result ≡ list_any spec.breaks_line text.now }
 {
-    text.as_bytes().iter().any(|b| matches!(b, b'\n' | b'\r'))
+    text.as_bytes().iter().any(|b| *b == b'\n' || *b == b'\r')
 }
 
 fn read_print(alloc: Global, words: Vec<Text>) -> Result<Command, CommandFault>

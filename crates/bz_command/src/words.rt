@@ -37,10 +37,9 @@ pub(crate) fn read_words(alloc: Global, text: &str) -> Result<Vec<Text>, AllocEr
 fn keep(words: &mut Vec<Text>, word: String) -> Result<(), AllocError>
     ensures { OnOk result (words.new.items ≡ words.old.items ++ kept (string_bytes word)) }
 {
-    if word.is_empty() {
-        return Ok(());
+    if word.len() > 0 {
+        words.push(Text::from_string(word))?;
     }
-    words.push(Text::from_string(word))?;
     Ok(())
 }
 

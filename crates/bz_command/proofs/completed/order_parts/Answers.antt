@@ -1,4 +1,4 @@
-use Rattle.std.proofs.Common.{◌≡◌, List, ℕ, [], ◌∷◌, Greater, true, false, ◌++◌, refl, ap, sym, ◌∙◌, arith}
+use Rattle.std.proofs.Common.{◌≡◌, List, ℕ, true, false, ◌++◌, ap, sym, ◌∙◌, arith}
 use Rattle.std.specs.Ordering.{is_ne, nat_cmp}
 use Rattle.std.specs.Cmp.Lexicographic.{slice_cmp}
 use Rattle.bz_command.specs.private.ByteSteps.{left, chain_bytes}
@@ -8,12 +8,6 @@ use Rattle.bz_command.proofs.completed.order_parts.Goals as goal
 
 abbrev past_front : Chain → List ℕ
 past_front c = left c.path ++ (c.colon.now ++ left c.name)
-
-ended : (x : ℕ) (xs a b : List ℕ) → a ≡ x ∷ xs → b ≡ [] → Greater ≡ slice_cmp nat_cmp a b
-ended x xs a b e h = rw (e, h) refl
-
-pub returns-in_default-next_in : goal.returns-in_default-next_in
-returns-in_default-next_in c = ended c.in-Some.byte (chain_bytes c.in-Some.after) (chain_bytes c.loop-byte.a) (chain_bytes c.loop-byte.b) c.in-Some.ensures.next c.in_default-next_in.ensures.next ∙ c.loop-byte.invariant.same
 
 pub returns-then-is_ne : goal.returns-then-is_ne
 returns-then-is_ne c =

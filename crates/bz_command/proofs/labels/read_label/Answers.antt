@@ -1,15 +1,10 @@
-use Rattle.std.proofs.Common.{rules, ◌≡◌, ◌∙◌, length}
+use Rattle.std.proofs.Common.{rules, ◌≡◌, length}
 use Rattle.std.specs.List.{position_or_len}
 use Rattle.bz_command.specs.Labels.{is_colon}
-use Rattle.bz_command.proofs.Cuts.{none_passes, uncut_label}
+use Rattle.bz_command.proofs.Cuts.{none_passes}
 use Rattle.bz_command.proofs.labels.read_label.Goals as goal
 
 pub read_named-requires : goal.read_named-requires
 read_named-requires c =
     let none : position_or_len is_colon c.args.text.now ≡ length c.args.text.now = search rules in
     none_passes is_colon c.args.text.now none
-
-pub returns-in-None : goal.returns-in-None
-returns-in-None c = λ known.
-    let none : position_or_len is_colon c.args.text.now ≡ length c.args.text.now = search rules in
-    c.read_named.ensures known ∙ uncut_label c.args.text.now none

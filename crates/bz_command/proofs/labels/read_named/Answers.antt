@@ -1,7 +1,7 @@
 use Rattle.std.proofs.Common.{rules, ◌≡◌, [], false, Ok, Some, sym, ap, ◌∙◌}
 use Rattle.std.specs.Prelude.{bytes_eq}
 use Rattle.bz_command.specs.Labels.{Package, package_of}
-use Rattle.bz_command.proofs.Cuts.{named, named_target}
+use Rattle.bz_command.proofs.Cuts.{named_target}
 use Rattle.bz_command.proofs.labels.read_named.Goals as goal
 
 pub invariant_of-result : goal.invariant_of-result
@@ -9,9 +9,3 @@ invariant_of-result c =
     let is : package_of c.args.text.now ≡ Ok (Some c.in-Some.path.now) = sym (c.in_ok-package.ensures (λ k. cc)) ∙ ap (λ (p : Package). Ok p) (sym c.in-Some.ensures.value) in
     let some : bytes_eq c.in-Some.path.now [] ≡ false = search rules in
     rw (c.in_ok-from_str.ensures, c.last_part.ensures) (named_target c.args.text.now c.in-Some.path.now c.requires is some)
-
-pub returns : goal.returns
-returns c = λ _.
-    let is : package_of c.args.text.now ≡ Ok (Some c.in-Some.path.now) = sym (c.in_ok-package.ensures (λ k. cc)) ∙ ap (λ (p : Package). Ok p) (sym c.in-Some.ensures.value) in
-    let some : bytes_eq c.in-Some.path.now [] ≡ false = search rules in
-    named (package_of c.args.text.now) c.in_ok-package.package c.in-Some.path.now c.in_ok-from_str.field-0 is (sym c.in-Some.ensures.value) some (c.in_ok-from_str.ensures ∙ c.last_part.ensures)

@@ -2,7 +2,7 @@ use Rattle.std.proofs.Common.{rules, ◌≡◌, ◌∙◌, false, Ok, ap}
 use Rattle.std.specs.Prelude.{bytes_eq}
 use Rattle.bz_command.specs.declared.command.Moved.{Moved}
 use Rattle.bz_command.specs.declared.command.Action.TheVariants.{Move}
-use Rattle.bz_command.proofs.Readings.{moved, moves}
+use Rattle.bz_command.proofs.Moves.{moved, moves}
 use Rattle.bz_command.proofs.reader.read_move.Goals as goal
 
 pub returns : goal.returns

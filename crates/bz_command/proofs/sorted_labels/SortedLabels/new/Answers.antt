@@ -25,12 +25,3 @@ returns-clause-all c = λ text.
     sym (list_any-IsPermutation (bytes_eq (completed c.args.home.now text)) c.loop-word.labels.items c.sort_unstable.new.self.items c.sort_unstable.ensures.permutation)
     ∙ c.loop-word.invariant (completed c.args.home.now text)
     ∙ ap (list_any (λ word. bytes_eq (completed c.args.home.now text) (completed c.args.home.now word))) (take_all c.loop-word.word-index c.args.words.now c.loop-word-test.false)
-
-pub returns-clause-home : goal.returns-clause-home
-returns-clause-home c = refl
-
-pub loop-word-init : goal.loop-word-init
-loop-word-init c = λ q. ap (list_any (bytes_eq q)) c.in_ok-labels.ensures.items
-
-pub invariant_of-result : goal.invariant_of-result
-invariant_of-result c = record { sorted = c.sort_unstable.ensures.sorted }
