@@ -2,3 +2,4 @@ pub mod Edited
 pub mod Fronts
 pub mod Handling
 pub mod Turns
+pub mod Written

@@ -6,8 +6,7 @@ ghost use Rattle.buildozer.specs.Console.{Shows};
 ghost use Rattle.buildozer.specs.Texts.{line_of, message_of, lines_text, messages_text, fixed_text};
 
 use bz_devices::buffered::Buffered;
-use bz_engine::{Failed, Report, Sink};
-use bz_rule::Text;
+use bz_engine::{Failed, Report, Sink, Texts};
 use std::alloc::{AllocError, Global};
 
 /// Standard output and standard error, each with a buffer before it.
@@ -37,8 +36,8 @@ impl<O: Sink, E: Sink> Console<O, E> {
         ensures { Shows O.took E.took self.old (lines_text report.now.lines)
             (messages_text file.now report.now.messages) self.new }
     {
-        put_lines(&mut self.out, report.lines.as_slice());
-        put_messages(&mut self.err, file, report.messages.as_slice());
+        put_lines(&mut self.out, &report.lines);
+        put_messages(&mut self.err, file, &report.messages);
     }
 
     /// Puts a message on standard error, after the name of the file that it is of.
@@ -77,11 +76,12 @@ fn put_line<W: Sink>(sink: &mut Buffered<W>, line: &str)
     sink.put(b"\n");
 }
 
-fn put_lines<W: Sink>(sink: &mut Buffered<W>, lines: &[Text])
+fn put_lines<W: Sink>(sink: &mut Buffered<W>, lines: &Texts)
     ensures { Took W.took sink.old (lines_text lines.now) sink.new }
 {
-    for line in lines {
-        put_line(sink, line.as_str());
+    let mut rest = lines.iter();
+    while let Some(line) = rest.next() {
+        put_line(sink, line);
     }
 }
 
@@ -93,10 +93,11 @@ fn put_message<W: Sink>(sink: &mut Buffered<W>, file: &str, message: &str)
     put_line(sink, message);
 }
 
-fn put_messages<W: Sink>(sink: &mut Buffered<W>, file: &str, messages: &[Text])
+fn put_messages<W: Sink>(sink: &mut Buffered<W>, file: &str, messages: &Texts)
     ensures { Took W.took sink.old (messages_text file.now messages.now) sink.new }
 {
-    for message in messages {
-        put_message(sink, file, message.as_str());
+    let mut rest = messages.iter();
+    while let Some(message) = rest.next() {
+        put_message(sink, file, message);
     }
 }

@@ -10,11 +10,12 @@ use Rattle.bz_attribute.specs.Effects.{fails}
 use Rattle.bz_rule.specs.Applied.{done_of}
 use Rattle.bz_attribute.specs.declared.done.Note.{Note}
 use Rattle.bz_attribute.specs.declared.done.Note.TheVariants.{Missing, NoAttribute, AttributeExists, NotAList, NoValue}
-use Rattle.bz_engine.specs.declared.entry.Entry.{Entry}
+use Rattle.bz_passes.specs.declared.entry.Entry.{Entry}
 use Rattle.bz_command.specs.Passes.{Slot}
 use Rattle.bz_passes.specs.Exchange.{Kept, IsLeftBy, log_alone, some_alone}
 use Rattle.bz_engine.specs.Meaning.{meaning, changes, fails_on, says, line_told, note_told, shown_slot}
-use Rattle.bz_engine.specs.Outcome.{Script, failure_text, first_of}
+use Rattle.bz_engine.specs.Outcome.{Script}
+use Rattle.bz_passes.specs.Entries.{failure_text, first_of}
 use Rattle.bz_engine.specs.Progress.{Progress}
 use Rattle.bz_engine.specs.private.Edits.{IsEnded}
 use Rattle.bz_passes.proofs.Failures.{failures_alone}

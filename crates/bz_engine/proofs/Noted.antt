@@ -7,7 +7,7 @@ use Rattle.bz_attribute.specs.declared.done.Done.{Done}
 use Rattle.bz_attribute.specs.declared.done.Note.{Note}
 use Rattle.bz_rule.specs.Applied.{after, done_of}
 use Rattle.bz_rule.proofs.Commands.{noted_stays}
-use Rattle.bz_engine.specs.declared.entry.Entry.{Entry}
+use Rattle.bz_passes.specs.declared.entry.Entry.{Entry}
 use Rattle.bz_engine.specs.Meaning.{done_told, line_told, note_told, says, shown_slot}
 
 -- what is told of a slot that stays where there is a note

@@ -15,7 +15,8 @@ use Rattle.bz_devices.specs.Ahead.{Ahead, IsReadOn, IsNextChunk}
 use Rattle.bz_engine.specs.Meaning.{meaning}
 use Rattle.bz_engine.specs.File.{Give, Gives}
 use Rattle.bz_engine.specs.Messages.{fault_text}
-use Rattle.bz_engine.specs.Outcome.{Script, slots_of, text_after, told_of_all, failures_at, first_of}
+use Rattle.bz_engine.specs.Outcome.{Script, slots_of, text_after, told_of_all, failures_at}
+use Rattle.bz_passes.specs.Entries.{first_of}
 use Rattle.bz_engine.specs.Progress.{Progress, IsKeptOf}
 use Rattle.bz_engine.specs.private.Edits.{IsDone, IsFailed}
 use Rattle.bz_engine.specs.SessionValue.{SessionValue, IsSession, HasDone, HasEnded, told_of_progress, told_alone}

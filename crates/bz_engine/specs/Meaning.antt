@@ -10,8 +10,8 @@ use Rattle.bz_rule.specs.Applied.{after, done_of}
 use Rattle.bz_attribute.specs.declared.done.Done.{Done}
 use Rattle.bz_attribute.specs.declared.done.Note.{Note}
 use Rattle.bz_attribute.specs.declared.done.Note.TheVariants.{Missing}
-use Rattle.bz_engine.specs.declared.entry.Entry.{Entry}
-use Rattle.bz_engine.specs.declared.entry.Entry.TheVariants.{Line, Warning, Failure}
+use Rattle.bz_passes.specs.declared.entry.Entry.{Entry}
+use Rattle.bz_passes.specs.declared.entry.Entry.TheVariants.{Line, Warning, Failure}
 use Rattle.bz_engine.specs.Messages.{not_found_text, note_text}
 use Rattle.bz_command.specs.Passes.{Meaning, Slot}
 

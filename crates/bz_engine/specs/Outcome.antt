@@ -7,8 +7,7 @@ use Rattle.bz_layout.specs.Layout.{layout_text}
 use Rattle.bz_layout.specs.Gaps.{gap_between}
 use Rattle.bz_command.specs.Labels.{Package, Target}
 use Rattle.bz_command.specs.Commands.{Command, is_print}
-use Rattle.bz_engine.specs.declared.entry.Entry.{Entry}
-use Rattle.bz_engine.specs.declared.entry.Entry.TheVariants.{Line, Warning, Failure}
+use Rattle.bz_passes.specs.Entries.{line_text, message_text, failure_text, first_of}
 use Rattle.bz_engine.specs.declared.report.SyntaxFault.{SyntaxFault}
 use Rattle.bz_engine.specs.declared.report.End.{End}
 use Rattle.bz_engine.specs.declared.report.End.TheVariants.{Whole, Syntax, FirstFailure}
@@ -51,22 +50,6 @@ shown_text passes slots = if is_query passes then [] else text_of (left_in slots
 -- the text of the statements as the script left them
 abbrev pub text_after : Package → Script → List Statement → List ℕ
 text_after home passes statements = shown_text passes (slots_after (meaning home) passes (slots_of statements))
-
--- the text of an entry where it is a line, where it is a message, and where it is the message of a failure
-abbrev pub line_text : Entry → List (List ℕ)
-line_text (Line text) = text ∷ []
-line_text (Warning text) = []
-line_text (Failure text) = []
-
-abbrev pub message_text : Entry → List (List ℕ)
-message_text (Line text) = []
-message_text (Warning text) = text ∷ []
-message_text (Failure text) = text ∷ []
-
-abbrev pub failure_text : Entry → List (List ℕ)
-failure_text (Line text) = []
-failure_text (Warning text) = []
-failure_text (Failure text) = text ∷ []
 
 -- what a run tells beside its text
 pub record Told : Type 0 where
@@ -118,10 +101,6 @@ fails_at home passes s = some_failure home passes (s ∷ [])
 
 abbrev pub failures_at : Package → Script → Statement → List (List ℕ)
 failures_at home passes s = flat_map failure_text (said (meaning home) passes (slots_of (s ∷ [])))
-
-abbrev pub first_of : List (List ℕ) → List (List ℕ)
-first_of [] = []
-first_of (text ∷ texts) = text ∷ []
 
 -- what is told where the run ends at a statement: the first failure there is the only message
 abbrev pub told_of_failure : Package → Script → List Statement → Statement → Told

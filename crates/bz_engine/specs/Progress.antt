@@ -7,7 +7,7 @@ use Rattle.bz_tree.specs.declared.stmt.Class.{Class}
 use Rattle.bz_layout.specs.Gaps.{blank_between}
 use Rattle.bz_layout.specs.Layout.{layout_text}
 use Rattle.bz_command.specs.Labels.{Package}
-use Rattle.bz_engine.specs.declared.entry.Entry.{Entry}
+use Rattle.bz_passes.specs.declared.entry.Entry.{Entry}
 use Rattle.bz_command.specs.Passes.{Slot, slots_after}
 use Rattle.bz_passes.specs.Exchange.{Kept, IsLeftBy, slot_after}
 use Rattle.bz_engine.specs.Meaning.{meaning, changes, fails_on}

@@ -18,7 +18,8 @@ use Rattle.bz_passes.specs.Exchange.{no_slot, told, some_not_found, Fits}
 use Rattle.bz_engine.specs.Progress.{Progress, IsKeptOf}
 use Rattle.bz_engine.specs.Meaning.{meaning}
 use Rattle.bz_engine.specs.Messages.{fault_text}
-use Rattle.bz_engine.specs.Outcome.{Script, Told, IsOutcome, IsFrontOf, text_after, line_text, message_text}
+use Rattle.bz_engine.specs.Outcome.{Script, Told, IsOutcome, IsFrontOf, text_after}
+use Rattle.bz_passes.specs.Entries.{line_text, message_text}
 
 -- The package, the passes and the options; what is kept of the chunks that are done; the bytes ahead, with the reads made and whether the end
 -- was met; whether it goes on, ended or was stopped, and the message of the failure that ended it.

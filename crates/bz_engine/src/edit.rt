@@ -9,7 +9,8 @@ ghost use Rattle.bz_rule.specs.LazyViews.{lazy_view, lazy_slot};
 ghost use Rattle.bz_layout.specs.Gaps.{blank_between as is_gap};
 ghost use Rattle.bz_layout.specs.Layout.{layout_text};
 ghost use Rattle.bz_passes.specs.Exchange.{Fits, log_alone};
-ghost use Rattle.bz_engine.specs.Outcome.{is_query, gap_text, failure_text, first_of};
+ghost use Rattle.bz_engine.specs.Outcome.{is_query, gap_text};
+ghost use Rattle.bz_passes.specs.Entries.{failure_text, first_of};
 ghost use Rattle.bz_engine.specs.Progress.{IsKeptOf, last_class, text_following};
 ghost use Rattle.bz_engine.specs.private.ChunkRead.{IsReadAs};
 ghost use Rattle.bz_engine.specs.private.Edits.{IsEdited, IsScripted, edited_of};
@@ -17,7 +18,6 @@ ghost use Rattle.bz_engine.specs.private.Rows.{IsStatementRow};
 ghost use Rattle.std.specs.Str.{IsUtf8};
 
 use crate::chunk::ChunkRead;
-use crate::entry::Entry;
 use crate::progress::Progress;
 use crate::report::SyntaxFault;
 use crate::row::is_passed_by;
@@ -26,7 +26,6 @@ use crate::rules::Rules;
 use bz_layout::{blank_between, put_row};
 use bz_passes::kept::Kept;
 use bz_passes::language::Facts;
-use bz_passes::log::Log;
 use bz_passes::script::run_script;
 use bz_rule::{LazyStmt, Package, ShallowStmt, Text};
 use bz_tree::{Class, Row};
@@ -287,35 +286,24 @@ fn put_gap(last: Option<Class>, class: Class, text: &mut Vec<u8>) -> Result<(), 
 }
 
 /// The message of the first failure that was told, by pass and command.
-fn first_failure(alloc: Global, kept: &[Kept<Entry>]) -> Result<Option<Text>, AllocError>
+fn first_failure(alloc: Global, kept: &[Kept]) -> Result<Option<Text>, AllocError>
     ensures { IfOk result (λ message. option_to_list message ≡ first_of (flat_map failure_text (log_alone kept.now))) }
 {
     for pass in kept {
         if let Some(message) = first_in_pass(pass) {
-            let message = Text::from_str(alloc, message.as_str())?;
+            let message = Text::from_str(alloc, message)?;
             return Ok(Some(message));
         }
     }
     Ok(None)
 }
 
-fn first_in_pass(pass: &Kept<Entry>) -> Option<&Text>
+fn first_in_pass(pass: &Kept) -> Option<&str>
     ensures { option_to_list (option_map (λ text. text.now) result)
         ≡ first_of (flat_map failure_text (flat_map (λ log. log) pass.now.logs)) }
 {
     for log in &pass.logs {
-        if let Some(message) = first_in_log(log) {
-            return Some(message);
-        }
-    }
-    None
-}
-
-fn first_in_log(log: &Log<Entry>) -> Option<&Text>
-    ensures { option_to_list (option_map (λ text. text.now) result) ≡ first_of (flat_map failure_text log.now) }
-{
-    for entry in log.as_slice() {
-        if let Entry::Failure(message) = entry {
+        if let Some(message) = log.first_failure() {
             return Some(message);
         }
     }

@@ -8,7 +8,6 @@
 
 mod chunk;
 mod edit;
-mod entry;
 pub mod laws;
 mod message;
 mod next_chunk;
@@ -27,7 +26,7 @@ pub use bz_command::Pass;
 pub use bz_devices::device::{Failed, Sink, Source};
 pub use bz_devices::output::write_all;
 pub use bz_devices::std_device::{FromRead, ToWrite};
-pub use bz_passes::log::Log;
+pub use bz_passes::texts::{EachText, Texts};
 pub use options::Options;
 pub use report::{End, Report, SyntaxFault};
 pub use rule_passes::is_query;

@@ -4,7 +4,6 @@ ghost use Rattle.std.specs.Prelude.{◌≡◌, ◌+◌, ◌<◌, ◌^◌, length
 ghost use Rattle.bz_token.specs.Places.{line_at};
 
 use crate::chunk::newlines;
-use crate::entry::Entry;
 use bz_passes::kept::Kept;
 use bz_tree::Class;
 use std::marker::Model;
@@ -13,7 +12,7 @@ use std::marker::Model;
 #[derive(Drop)]
 pub(crate) struct Progress {
     /// For each pass whether it marked something, and for each of its commands what was told.
-    pub(crate) kept: Vec<Kept<Entry>>,
+    pub(crate) kept: Vec<Kept>,
     /// Some execution changed its statement.
     pub(crate) changed: bool,
     /// Some execution failed.

@@ -2,8 +2,7 @@
 
 ghost use Rattle.std.specs.Prelude.{◌≡◌};
 
-use bz_passes::log::Log;
-use bz_rule::Text;
+use bz_passes::texts::Texts;
 use bz_tree::ParseFault;
 
 /// Why a file has no further statements.
@@ -29,9 +28,9 @@ pub enum End {
 #[derive(Drop)]
 pub struct Report {
     /// What was printed, in order.
-    pub lines: Log<Text>,
+    pub lines: Texts,
     /// What went wrong, in order.
-    pub messages: Log<Text>,
+    pub messages: Texts,
     /// Some command left some statement different from what it found.
     pub changed: bool,
     /// Some command failed, a target that had to mark something marked nothing, or a statement could not be read.

@@ -6,8 +6,8 @@ ghost use Rattle.bz_attribute.specs.Effects.{fails};
 ghost use Rattle.bz_rule.specs.LazyViews.{lazy_slot};
 ghost use Rattle.bz_engine.specs.Meaning.{line_told, note_told, done_told, shown_slot};
 
-use crate::entry::Entry;
 use crate::message;
+use bz_passes::entry::Entry;
 use bz_passes::index::Key;
 use bz_passes::language::{Facts, Language};
 use bz_passes::log::Log;
@@ -27,8 +27,6 @@ impl<'a> Language for Rules<'a> {
     type Target = Target;
 
     type Command = Command;
-
-    type Entry = Entry;
 
     ghost use Rattle.bz_engine.specs.Meaning.{meaning, changes, fails_on};
 
@@ -73,7 +71,7 @@ impl<'a> Language for Rules<'a> {
         &self,
         command: &Command,
         slot: &mut Option<LazyStmt<'a>>,
-        log: &mut Log<Entry>,
+        log: &mut Log,
     ) -> Result<Facts, AllocError> {
         let mut done = apply_lazy(self.alloc, command, self.home, slot)?;
         let facts = facts_of(&done);
@@ -109,7 +107,7 @@ fn tell_done(
     home: &Package,
     slot: &Option<LazyStmt<'_>>,
     done: &mut Done,
-    log: &mut Log<Entry>,
+    log: &mut Log,
 ) -> Result<(), AllocError>
     ensures { OnOk result (log.new ≡ log.old ++ done_told (shown_slot home.now (lazy_slot slot.now)) done.old) }
 {
@@ -118,7 +116,7 @@ fn tell_done(
     Ok(())
 }
 
-fn tell_line(line: Option<Text>, log: &mut Log<Entry>) -> Result<(), AllocError>
+fn tell_line(line: Option<Text>, log: &mut Log) -> Result<(), AllocError>
     ensures { OnOk result (log.new ≡ log.old ++ line_told line) }
 {
     if let Some(text) = line {
@@ -132,7 +130,7 @@ fn tell_note(
     home: &Package,
     slot: &Option<LazyStmt<'_>>,
     note: &Option<Note>,
-    log: &mut Log<Entry>,
+    log: &mut Log,
 ) -> Result<(), AllocError>
     ensures { OnOk result (log.new ≡ log.old ++ note_told (shown_slot home.now (lazy_slot slot.now)) note.now) }
 {

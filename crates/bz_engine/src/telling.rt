@@ -1,38 +1,20 @@
 //! The report of a run that has ended.
 
 ghost use Rattle.std.specs.Prelude.{◌≡◌, [], ◌∷◌, IfOk, option_to_list};
-ghost use Rattle.std.specs.List.{flat_map};
 ghost use Rattle.bz_passes.specs.Exchange.{Fits};
 ghost use Rattle.bz_engine.specs.Messages.{fault_text};
-ghost use Rattle.bz_engine.specs.Outcome.{line_text, message_text, told_by};
+ghost use Rattle.bz_engine.specs.Outcome.{told_by};
 ghost use Rattle.bz_engine.specs.SessionValue.{told_of_progress, told_alone};
 
-use crate::entry::Entry;
 use crate::message;
 use crate::progress::Progress;
 use crate::report::{End, Report, SyntaxFault};
 use crate::rules::Rules;
 use bz_command::Pass;
 use bz_passes::kept::{is_some_not_found, tell};
-use bz_passes::log::Log;
+use bz_passes::texts::Texts;
 use bz_rule::{Command, Target, Text};
 use std::alloc::{AllocError, Global};
-
-/// The lines and the messages of a log, each in order.
-fn split(alloc: Global, log: Log<Entry>) -> Result<(Log<Text>, Log<Text>), AllocError>
-    ensures lines { IfOk result (λ texts. texts.0 ≡ flat_map line_text log) }
-    ensures messages { IfOk result (λ texts. texts.1 ≡ flat_map message_text log) }
-{
-    let mut lines = Log::new(alloc);
-    let mut messages = Log::new(alloc);
-    for entry in log.into_entries() {
-        match entry {
-            Entry::Line(text) => lines.push(text)?,
-            Entry::Warning(text) | Entry::Failure(text) => messages.push(text)?,
-        }
-    }
-    Ok((lines, messages))
-}
 
 /// What is told of a file without fault: all that was kept, which is then of no use.
 pub(crate) fn report_of_all(
@@ -46,7 +28,7 @@ pub(crate) fn report_of_all(
     let kept = progress.kept.as_mut_slice();
     let failed = progress.failed || is_some_not_found(&rules, passes, kept);
     let log = tell(rules.alloc, &rules, passes, kept)?;
-    let (lines, messages) = split(rules.alloc, log)?;
+    let (lines, messages) = log.into_texts();
     Ok(Report {
         lines,
         messages,
@@ -65,12 +47,12 @@ pub(crate) fn report_of_one(
 ) -> Result<Report, AllocError>
     ensures { IfOk result (λ report. told_by report ≡ told_alone (option_to_list message) changed end) }
 {
-    let mut messages = Log::new(alloc);
+    let mut messages = Texts::new(alloc);
     if let Some(message) = message {
-        messages.push(message)?;
+        messages.push(message.as_str())?;
     }
     Ok(Report {
-        lines: Log::new(alloc),
+        lines: Texts::new(alloc),
         messages,
         changed,
         failed: true,

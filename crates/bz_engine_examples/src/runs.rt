@@ -250,14 +250,16 @@ fn run_all(alloc: Global, script: &str, input: &[u8], most: usize) -> Result<Out
 /// What a report tells.
 fn told(alloc: Global, report: &Report) -> Result<String, AllocError> {
     let mut out = String::new(alloc);
-    for line in report.lines.as_slice() {
+    let mut lines = report.lines.iter();
+    while let Some(line) = lines.next() {
         out.push_str("line: ")?;
-        out.push_str(line.as_str())?;
+        out.push_str(line)?;
         out.push('\n')?;
     }
-    for message in report.messages.as_slice() {
+    let mut messages = report.messages.iter();
+    while let Some(message) = messages.next() {
         out.push_str("message: ")?;
-        out.push_str(message.as_str())?;
+        out.push_str(message)?;
         out.push('\n')?;
     }
     let status = report.status();

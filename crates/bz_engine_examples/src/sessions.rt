@@ -74,8 +74,8 @@ fn takes_a_chunk_each(rt: HostRuntime) -> Result<(), Fail> {
     let report = session.finish()?;
     assert_eq!(rt; report.end, End::Whole);
     assert_eq!(rt; report.status(), 0);
-    assert!(rt; report.lines.as_slice().is_empty());
-    assert!(rt; report.messages.as_slice().is_empty());
+    assert!(rt; report.lines.is_empty());
+    assert!(rt; report.messages.is_empty());
     Ok(())
 }
 

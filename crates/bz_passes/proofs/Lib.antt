@@ -1,3 +1,4 @@
+pub mod Cuts
 pub mod ExchangeLaw
 pub mod Steps
 pub mod Slots
@@ -5,3 +6,4 @@ pub mod Failures
 pub mod Positions
 pub mod Skips
 pub mod PassedBy
+pub mod Woven

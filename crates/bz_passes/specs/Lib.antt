@@ -1,3 +1,4 @@
 pub mod Asked
+pub mod Entries
 pub mod Exchange
 pub mod private

@@ -10,24 +10,26 @@ use crate::log::Log;
 use bz_command::Pass;
 use std::alloc::{AllocError, Global};
 use std::marker::Model;
+use std::mem;
 
 /// Of one pass: whether its target marked something so far, and what each of its commands told.
 #[derive(Drop)]
-pub struct Kept<M> {
+pub struct Kept {
     pub found: bool,
-    pub logs: Vec<Log<M>>,
+    pub logs: Vec<Log>,
 }
 
-impl<M> Model for Kept<M> {
+impl Model for Kept {
+    ghost use Rattle.bz_passes.specs.declared.entry.Entry.{Entry};
     ghost use Rattle.bz_passes.specs.Exchange as spec;
 
-    ghost Value = { spec.Kept M };
+    ghost Value = { spec.Kept Entry };
 
     ghost view = { λ k. record { found = k.found; logs = k.logs.items } };
 }
 
 /// A place for what each command tells.
-fn nothing_told<C, M: Drop>(alloc: Global, commands: &[C]) -> Result<Vec<Log<M>>, AllocError>
+fn nothing_told<C>(alloc: Global, commands: &[C]) -> Result<Vec<Log>, AllocError>
     ensures { IfOk result (λ logs. logs.items ≡ map (λ command. []) commands.now) }
 {
     let mut logs = Vec::with_capacity(alloc, commands.len())?;
@@ -38,10 +40,7 @@ fn nothing_told<C, M: Drop>(alloc: Global, commands: &[C]) -> Result<Vec<Log<M>>
 }
 
 /// Before the first slot: a place for each pass and each command, with nothing in it.
-pub fn nothing_kept<T, C, M: Drop>(
-    alloc: Global,
-    passes: &[Pass<T, C>],
-) -> Result<Vec<Kept<M>>, AllocError>
+pub fn nothing_kept<T, C>(alloc: Global, passes: &[Pass<T, C>]) -> Result<Vec<Kept>, AllocError>
     ensures nothing { IfOk result (λ kept. kept.items ≡ map no_slot passes.now) }
     ensures fits { IfOk result (λ kept. Fits kept.items passes.now) }
 {
@@ -54,11 +53,12 @@ pub fn nothing_kept<T, C, M: Drop>(
 }
 
 /// Moves what the commands of a pass told after the log, command by command.
-fn append_all<M>(logs: &mut [Log<M>], log: &mut Log<M>) -> Result<(), AllocError>
+fn append_all(alloc: Global, logs: &mut [Log], log: &mut Log) -> Result<(), AllocError>
     ensures { OnOk result (log.new ≡ log.old ++ flat_map (λ said. said) logs.old) }
 {
     for i in 0..logs.len() {
-        log.append(&mut logs[i])?;
+        let said = mem::replace(&mut logs[i], Log::new(alloc));
+        log.append(said)?;
     }
     Ok(())
 }
@@ -67,7 +67,7 @@ fn append_all<M>(logs: &mut [Log<M>], log: &mut Log<M>) -> Result<(), AllocError
 fn target_is_missing<L: Language>(
     language: &L,
     pass: &Pass<L::Target, L::Command>,
-    kept: &Kept<L::Entry>,
+    kept: &Kept,
 ) -> bool
     ensures { result ≡ is_missing (L.meaning language.now) pass.now.target kept.now.found }
 {
@@ -76,10 +76,11 @@ fn target_is_missing<L: Language>(
 
 /// What is told of one pass: first that its target was not found, then what its commands told.
 fn tell_pass<L: Language>(
+    alloc: Global,
     language: &L,
     pass: &Pass<L::Target, L::Command>,
-    kept: &mut Kept<L::Entry>,
-    log: &mut Log<L::Entry>,
+    kept: &mut Kept,
+    log: &mut Log,
 ) -> Result<(), AllocError>
     ensures { OnOk result (log.new ≡ log.old
         ++ (missing (L.meaning language.now) pass.now.target kept.old.found
@@ -88,21 +89,22 @@ fn tell_pass<L: Language>(
     if target_is_missing(language, pass, kept) {
         log.push(language.not_found(&pass.target)?)?;
     }
-    append_all(kept.logs.as_mut_slice(), log)
+    append_all(alloc, kept.logs.as_mut_slice(), log)
 }
 
 /// What is told of the passes, one after another.
 fn tell_passes<L: Language>(
+    alloc: Global,
     language: &L,
     passes: &[Pass<L::Target, L::Command>],
-    kept: &mut [Kept<L::Entry>],
-    log: &mut Log<L::Entry>,
+    kept: &mut [Kept],
+    log: &mut Log,
 ) -> Result<(), AllocError>
     requires { Fits kept.old passes.now }
     ensures { OnOk result (log.new ≡ log.old ++ told (L.meaning language.now) passes.now kept.old) }
 {
     for i in 0..passes.len() {
-        tell_pass(language, &passes[i], &mut kept[i], log)?;
+        tell_pass(alloc, language, &passes[i], &mut kept[i], log)?;
     }
     Ok(())
 }
@@ -113,8 +115,8 @@ pub fn tell<L: Language>(
     alloc: Global,
     language: &L,
     passes: &[Pass<L::Target, L::Command>],
-    kept: &mut [Kept<L::Entry>],
-) -> Result<Log<L::Entry>, AllocError>
+    kept: &mut [Kept],
+) -> Result<Log, AllocError>
     requires { Fits kept.old passes.now }
     ensures told { IfOk result (λ log. log ≡ told (L.meaning language.now) passes.now kept.old) }
     ensures whole { IfOk result (λ log. (slots : List (Slot L.Seen))
@@ -122,7 +124,7 @@ pub fn tell<L: Language>(
         → log ≡ log_of (L.meaning language.now) passes.now slots) }
 {
     let mut log = Log::new(alloc);
-    tell_passes(language, passes, kept, &mut log)?;
+    tell_passes(alloc, language, passes, kept, &mut log)?;
     Ok(log)
 }
 
@@ -130,7 +132,7 @@ pub fn tell<L: Language>(
 pub fn is_some_not_found<L: Language>(
     language: &L,
     passes: &[Pass<L::Target, L::Command>],
-    kept: &[Kept<L::Entry>],
+    kept: &[Kept],
 ) -> bool
     requires { Fits kept.now passes.now }
     ensures { result ≡ some_not_found (L.meaning language.now) passes.now kept.now }

@@ -2,8 +2,10 @@
 
 ghost use Rattle.std.specs.Prelude.{◌≡◌, ◌++◌, Bool, true, Option, IfOk, OnOk};
 ghost use Rattle.bz_command.specs.Passes.{Meaning, Slot};
+ghost use Rattle.bz_passes.specs.declared.entry.Entry.{Entry};
 ghost use Rattle.bz_passes.specs.private.Indexes.{may_mark};
 
+use crate::entry::Entry;
 use crate::index::Key;
 use crate::log::Log;
 use crate::passes::Keyed;
@@ -27,15 +29,13 @@ pub trait Language {
 
     type Command;
 
-    type Entry: Drop;
-
     // What contracts see of a slot.
     ghost Seen: { Type 0 };
 
     ghost seen: { Option Self.Statement → Slot Seen };
 
     // What each target marks, and what each command does to a slot and tells of it.
-    ghost meaning: { Self → Meaning Seen Self.Target Self.Command Self.Entry };
+    ghost meaning: { Self → Meaning Seen Self.Target Self.Command Entry };
 
     // Whether a command changes what it finds in a slot, and whether it fails there.
     ghost changes: { Self → Self.Command → Slot Seen → Bool };
@@ -56,7 +56,7 @@ pub trait Language {
         ensures { result ≡ (meaning self.now).must_mark target.now };
 
     /// What is told of such a pass.
-    fn not_found(&self, target: &Self::Target) -> Result<Self::Entry, AllocError>
+    fn not_found(&self, target: &Self::Target) -> Result<Entry, AllocError>
         ensures { IfOk result (λ entry. entry ≡ (meaning self.now).not_found target.now) };
 
     /// One command on a slot. What it tells goes after the log.
@@ -64,7 +64,7 @@ pub trait Language {
         &self,
         command: &Self::Command,
         slot: &mut Option<Self::Statement>,
-        log: &mut Log<Self::Entry>,
+        log: &mut Log,
     ) -> Result<Facts, AllocError>
         ensures slot { OnOk result (seen slot.new ≡ (meaning self.now).after command.now (seen slot.old)) }
         ensures log { OnOk result (log.new ≡ log.old ++ (meaning self.now).says command.now (seen slot.old)) }

@@ -7,6 +7,7 @@
 //! each command over the whole file.
 #![tactic(auto)]
 
+pub mod entry;
 pub mod index;
 pub mod kept;
 pub mod language;
@@ -15,3 +16,4 @@ pub mod log;
 pub mod passes;
 pub mod script;
 pub mod target;
+pub mod texts;

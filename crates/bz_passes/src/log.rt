@@ -1,63 +1,158 @@
 //! The log of a run. Lines and messages are entries of one type, since their order is one.
 
-ghost use Rattle.std.specs.Prelude.{◌≡◌, [], ◌∷◌, ◌++◌, List, OnOk};
+ghost use Rattle.std.specs.Prelude.{◌≡◌, [], ◌∷◌, ◌++◌, List, OnOk, OnErr, option_map, option_to_list};
+ghost use Rattle.std.specs.List.{flat_map};
+ghost use Rattle.bz_passes.specs.Entries.{line_text, message_text, failure_text, first_of};
+ghost use Rattle.bz_passes.specs.private.Logs.{kind_of};
 
-use std::alloc::{AllocError, AllocFailed, Global};
+use crate::entry::{Entry, Kind};
+use crate::texts::Texts;
+use std::alloc::{AllocError, Global};
 use std::marker::Model;
-use std::mem;
 
-/// Entries of a log, in the order in which they were told.
+/// Entries of a log, in the order in which they were told. An entry costs its text, the text's length and one byte.
 #[derive(Drop)]
-pub struct Log<M> {
-    entries: Vec<M>,
+pub struct Log {
+    parts: Parts,
 }
 
-impl<M> Model for Log<M> {
-    ghost Value = { List M };
-
-    ghost view = { λ log. log.entries.items };
+/// What each entry is in turn, and the texts of lines and of messages.
+#[derive(Drop)]
+struct Parts {
+    kinds: Vec<Kind>,
+    lines: Texts,
+    messages: Texts,
 }
 
-impl<M> Log<M> {
+impl Model for Log {
+    ghost use Rattle.std.specs.Prelude.{List};
+    ghost use Rattle.bz_passes.specs.declared.entry.Entry.{Entry};
+    ghost use Rattle.bz_passes.specs.private.Logs.{woven, AreWoven};
+
+    ghost Value = { List Entry };
+
+    ghost view = { λ log. woven log.parts.kinds.items log.parts.lines log.parts.messages };
+
+    ghost invariant = { λ log. AreWoven log.parts.kinds.items log.parts.lines log.parts.messages };
+}
+
+impl Log {
     /// A log without entries. Takes no memory.
-    pub fn new(alloc: Global) -> Log<M>
+    pub fn new(alloc: Global) -> Log
         ensures { result ≡ [] }
     {
         Log {
-            entries: Vec::new(alloc),
+            parts: Parts {
+                kinds: Vec::new(alloc),
+                lines: Texts::new(alloc),
+                messages: Texts::new(alloc),
+            },
         }
     }
 
     /// Puts an entry at the end.
-    pub fn push(&mut self, entry: M) -> Result<(), AllocFailed<M>>
+    pub fn push(&mut self, entry: Entry) -> Result<(), AllocError>
         ensures { OnOk result (self.new ≡ self.old ++ entry ∷ []) }
     {
-        self.entries.push(entry)
+        self.parts.kinds.reserve(1)?;
+        self.parts.put_text(&entry)?;
+        self.parts.kinds.push(kind_of(&entry))?;
+        Ok(())
     }
 
-    /// Moves the entries of another log to the end. To an empty log it takes no memory.
-    pub fn append(&mut self, other: &mut Log<M>) -> Result<(), AllocError>
-        ensures { OnOk result (self.new ≡ self.old ++ other.old) }
+    /// Moves the entries of another log to the end. To an empty log it takes no memory. Where memory is refused, the log
+    /// is left empty.
+    pub fn append(&mut self, other: Log) -> Result<(), AllocError>
+        ensures { OnOk result (self.new ≡ self.old ++ other) }
     {
-        if self.entries.is_empty() {
-            mem::swap(&mut self.entries, &mut other.entries);
+        if self.parts.kinds.is_empty() {
+            *self = other;
             return Ok(());
         }
-        self.entries.append(&mut other.entries)
+        let Log { parts } = other;
+        match self.parts.append(parts) {
+            Ok(()) => Ok(()),
+            Err(refused) => {
+                self.parts.clear();
+                Err(refused)
+            }
+        }
     }
 
-    /// The entries in order.
-    pub fn as_slice(&self) -> &[M]
-        ensures { result.now ≡ self.now }
+    /// The text of the first failure.
+    pub fn first_failure(&self) -> Option<&str>
+        ensures { option_to_list (option_map (λ text. text.now) result)
+            ≡ first_of (flat_map failure_text self.now) }
     {
-        self.entries.as_slice()
+        let mut messages = self.parts.messages.iter();
+        for kind in &self.parts.kinds {
+            match kind {
+                Kind::Line => {}
+                Kind::Warning => {
+                    let _warning = messages.next();
+                }
+                Kind::Failure => return messages.next(),
+            }
+        }
+        None
     }
 
-    /// The entries in order. Takes no memory.
-    pub fn into_entries(self) -> Vec<M>
-        ensures { result.items ≡ self }
+    /// The lines and the messages, each in order. Takes no memory.
+    pub fn into_texts(self) -> (Texts, Texts)
+        ensures lines { result.0 ≡ flat_map line_text self }
+        ensures messages { result.1 ≡ flat_map message_text self }
     {
-        let Log { entries } = self;
-        entries
+        let Log { parts } = self;
+        let Parts {
+            kinds: _kinds,
+            lines,
+            messages,
+        } = parts;
+        (lines, messages)
+    }
+}
+
+impl Parts {
+    /// Puts the text of an entry after those of lines, or of messages.
+    fn put_text(&mut self, entry: &Entry) -> Result<(), AllocError>
+        ensures kinds { self.new.kinds ≡ self.old.kinds }
+        ensures lines { OnOk result (self.new.lines ≡ self.old.lines ++ line_text entry.now) }
+        ensures messages { OnOk result (self.new.messages ≡ self.old.messages ++ message_text entry.now) }
+        ensures stays { OnErr result ((self.new.lines ≡ self.old.lines) × (self.new.messages ≡ self.old.messages)) }
+    {
+        match entry {
+            Entry::Line(text) => self.lines.push(text.as_str()),
+            Entry::Warning(text) | Entry::Failure(text) => self.messages.push(text.as_str()),
+        }
+    }
+
+    /// Puts each part of another log after the same part of this one.
+    fn append(&mut self, other: Parts) -> Result<(), AllocError>
+        ensures kinds { OnOk result (self.new.kinds.items ≡ self.old.kinds.items ++ other.kinds.items) }
+        ensures lines { OnOk result (self.new.lines ≡ self.old.lines ++ other.lines) }
+        ensures messages { OnOk result (self.new.messages ≡ self.old.messages ++ other.messages) }
+    {
+        let mut other = other;
+        self.kinds.append(&mut other.kinds)?;
+        self.lines.append(other.lines)?;
+        self.messages.append(other.messages)
+    }
+
+    fn clear(&mut self)
+        ensures { (self.new.kinds.items ≡ []) × (self.new.lines ≡ []) × (self.new.messages ≡ []) }
+    {
+        self.kinds.clear();
+        self.lines.clear();
+        self.messages.clear();
+    }
+}
+
+fn kind_of(entry: &Entry) -> Kind
+    ensures { result ≡ kind_of entry.now }
+{
+    match entry {
+        Entry::Line(_) => Kind::Line,
+        Entry::Warning(_) => Kind::Warning,
+        Entry::Failure(_) => Kind::Failure,
     }
 }

@@ -19,7 +19,7 @@ fn execute<L: Language>(
     command: &L::Command,
     mark: bool,
     slot: &mut Option<L::Statement>,
-    log: &mut Log<L::Entry>,
+    log: &mut Log,
     facts: &mut Facts,
 ) -> Result<(), AllocError>
     ensures slot { OnOk result (with_mark mark (L.seen slot.new)
@@ -46,7 +46,7 @@ fn run_commands<L: Language>(
     commands: &[L::Command],
     mark: bool,
     slot: &mut Option<L::Statement>,
-    logs: &mut [Log<L::Entry>],
+    logs: &mut [Log],
     facts: &mut Facts,
 ) -> Result<(), AllocError>
     requires { length logs.old ≡ length commands.now }
@@ -70,7 +70,7 @@ fn run_pass<L: Language>(
     language: &L,
     pass: &Pass<L::Target, L::Command>,
     slot: &mut Option<L::Statement>,
-    kept: &mut Kept<L::Entry>,
+    kept: &mut Kept,
     facts: &mut Facts,
 ) -> Result<(), AllocError>
     requires { length kept.old.logs ≡ length pass.now.commands }
@@ -143,7 +143,7 @@ fn run_passes<L: Language>(
     language: &L,
     passes: &Passes<L::Target, L::Command>,
     slot: &mut Option<L::Statement>,
-    kept: &mut [Kept<L::Entry>],
+    kept: &mut [Kept],
     facts: &mut Facts,
 ) -> Result<(), AllocError>
     requires { Fits kept.old passes.now }
@@ -172,7 +172,7 @@ pub fn run_script<L: Language>(
     language: &L,
     passes: &Passes<L::Target, L::Command>,
     slot: &mut Option<L::Statement>,
-    kept: &mut [Kept<L::Entry>],
+    kept: &mut [Kept],
     facts: &mut Facts,
 ) -> Result<(), AllocError>
     // There is a place for each pass and each command, before and after.

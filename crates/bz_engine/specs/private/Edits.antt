@@ -11,7 +11,8 @@ use Rattle.bz_engine.specs.File.{Gives}
 use Rattle.bz_command.specs.Passes.{Slot}
 use Rattle.bz_passes.specs.Exchange.{IsLeftBy, slot_after}
 use Rattle.bz_engine.specs.Meaning.{meaning, changes, fails_on}
-use Rattle.bz_engine.specs.Outcome.{Script, is_query, text_after, fails_at, failures_at, first_of}
+use Rattle.bz_engine.specs.Outcome.{Script, is_query, text_after, fails_at, failures_at}
+use Rattle.bz_passes.specs.Entries.{first_of}
 use Rattle.bz_engine.specs.Progress.{Progress, IsKeptOf, last_class, text_following}
 
 -- The chunk is done: what is kept is that of the chunks with it, and its text stands after the text that was there.

@@ -1,15 +1,22 @@
-use Rattle.std.proofs.Common.{◌++◌, subst}
-use Rattle.bz_devices.specs.Buffer.{Took, took_more_lem}
+use Rattle.std.proofs.Common.{[], ◌++◌, ap}
+use Rattle.bz_devices.specs.Buffer.{took_nothing_lem, took_more_lem}
 use Rattle.buildozer.specs.Texts.{line_of, lines_text}
-use Rattle.bz_script.proofs.Loops.{written_next}
+use Rattle.buildozer.proofs.Written.{written_next}
 use Rattle.buildozer.proofs.console.put_lines.Goals as goal
+
+pub loop-line-init : goal.loop-line-init
+loop-line-init g c = record {
+  done = [];
+  took = took_nothing_lem g.W.Sink.took g.met.W.Sink.took_nothing c.args.sink.now;
+  all = ap lines_text c.iter-rest.ensures;
+}
 
 pub loop-line-preserved : goal.loop-line-preserved
 loop-line-preserved g c =
     let inv = c.loop-line.invariant in
-    let put = subst (λ text. Took g.W.Sink.took c.loop-line.sink (line_of text) c.put_line.new.sink) c.as_str.ensures c.put_line.ensures in
+    let line = c.in-Some.line.now in
     record {
-      done = inv.done ++ line_of c.line-item.result;
-      took = took_more_lem g.W.Sink.took g.met.W.Sink.took_more c.args.sink.now c.loop-line.sink c.put_line.new.sink inv.done (line_of c.line-item.result) inv.took put;
-      rest = written_next line_of inv.done (lines_text c.args.lines.now) c.args.lines.now c.loop-line.line-index c.line-item.result c.loop-line-test.true c.line-item.is inv.rest;
+      done = inv.done ++ line_of line;
+      took = took_more_lem g.W.Sink.took g.met.W.Sink.took_more c.args.sink.now c.loop-line.sink c.put_line.new.sink inv.done (line_of line) inv.took c.put_line.ensures;
+      all = written_next line_of inv.done (lines_text c.args.lines.now) c.loop-line.rest c.next.new.self line c.in-Some.ensures.some inv.all;
     }

@@ -1,7 +1,7 @@
 use Rattle.std.proofs.Common.{◌≡◌, drop}
 use Rattle.std.specs.List.{flat_map}
 use Rattle.bz_passes.specs.Exchange.{log_alone}
-use Rattle.bz_engine.specs.Outcome.{failure_text, first_of}
+use Rattle.bz_passes.specs.Entries.{failure_text, first_of}
 use Rattle.bz_engine.proofs.edit.first_failure.Given as goal
 
 -- no failure was passed

@@ -1,6 +1,6 @@
 use Rattle.std.proofs.Common.{◌≡◌, drop}
 use Rattle.std.specs.List.{flat_map}
-use Rattle.bz_engine.specs.Outcome.{failure_text, first_of}
+use Rattle.bz_passes.specs.Entries.{failure_text, first_of}
 use Rattle.bz_engine.proofs.edit.first_in_pass.Given as goal
 
 -- no failure was passed

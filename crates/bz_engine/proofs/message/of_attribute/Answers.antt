@@ -1,5 +1,5 @@
 use Rattle.std.proofs.Common.{◌∙◌}
-use Rattle.bz_engine.proofs.Texts.{around}
+use Rattle.bz_engine.proofs.MessageParts.{around}
 use Rattle.bz_engine.proofs.message.of_attribute.Goals as goal
 
 pub returns : goal.returns

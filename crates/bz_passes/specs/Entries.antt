@@ -1,0 +1,24 @@
+-- The texts of what a run tells, each kind by itself.
+use Rattle.std.specs.Prelude.{ℕ, List, [], ◌∷◌}
+use Rattle.bz_passes.specs.declared.entry.Entry.{Entry}
+use Rattle.bz_passes.specs.declared.entry.Entry.TheVariants.{Line, Warning, Failure}
+
+-- the text of an entry where it is a line, where it is a message, and where it is the message of a failure
+abbrev pub line_text : Entry → List (List ℕ)
+line_text (Line text) = text ∷ []
+line_text (Warning text) = []
+line_text (Failure text) = []
+
+abbrev pub message_text : Entry → List (List ℕ)
+message_text (Line text) = []
+message_text (Warning text) = text ∷ []
+message_text (Failure text) = text ∷ []
+
+abbrev pub failure_text : Entry → List (List ℕ)
+failure_text (Line text) = []
+failure_text (Warning text) = []
+failure_text (Failure text) = text ∷ []
+
+abbrev pub first_of : List (List ℕ) → List (List ℕ)
+first_of [] = []
+first_of (text ∷ texts) = text ∷ []

@@ -1,0 +1,130 @@
+//! Many texts in little memory.
+
+ghost use Rattle.std.specs.Prelude.{◌≡◌, ℕ, List, [], ◌∷◌, ◌++◌, length, ◌==◌, OnOk, OnErr, IfSome, IfNone};
+
+use std::alloc::{AllocError, Global};
+use std::marker::Model;
+use std::str::from_utf8;
+
+/// Texts, one after another in one buffer. Each costs its bytes and its length.
+#[derive(Drop)]
+pub struct Texts {
+    bytes: Vec<u8>,
+    lens: Vec<usize>,
+}
+
+impl Model for Texts {
+    ghost use Rattle.std.specs.Prelude.{ℕ, List};
+    ghost use Rattle.bz_passes.specs.private.Cuts.{cut, AreTexts};
+
+    ghost Value = { List (List ℕ) };
+
+    ghost view = { λ t. cut t.lens.items t.bytes.items };
+
+    ghost invariant = { λ t. AreTexts t.lens.items t.bytes.items };
+}
+
+impl Texts {
+    /// No texts. Takes no memory.
+    pub fn new(alloc: Global) -> Texts
+        ensures { result ≡ [] }
+    {
+        Texts {
+            bytes: Vec::new(alloc),
+            lens: Vec::new(alloc),
+        }
+    }
+
+    /// How many texts there are.
+    pub fn len(&self) -> usize
+        ensures { result ≡ length self.now }
+    {
+        self.lens.as_slice().len()
+    }
+
+    /// Whether there is none.
+    pub fn is_empty(&self) -> bool
+        ensures { result ≡ (length self.now == 0) }
+    {
+        self.len() == 0
+    }
+
+    /// Puts a text at the end. Where memory is refused, all stays as it is.
+    pub fn push(&mut self, text: &str) -> Result<(), AllocError>
+        ensures pushed { OnOk result (self.new ≡ self.old ++ text.now ∷ []) }
+        ensures stays { OnErr result (self.new ≡ self.old) }
+    {
+        self.lens.reserve(1)?;
+        self.bytes.extend_from_slice(text.as_bytes())?;
+        self.lens.push(text.len())?;
+        Ok(())
+    }
+
+    /// Moves the texts of another to the end. Where there are none yet, it takes no memory. Where memory is refused, all
+    /// stays as it is.
+    pub fn append(&mut self, other: Texts) -> Result<(), AllocError>
+        ensures appended { OnOk result (self.new ≡ self.old ++ other) }
+        ensures stays { OnErr result (self.new ≡ self.old) }
+    {
+        if self.lens.is_empty() {
+            *self = other;
+            return Ok(());
+        }
+        self.lens.reserve(other.lens.len())?;
+        self.bytes.extend_from_slice(other.bytes.as_slice())?;
+        self.lens.extend_from_slice(other.lens.as_slice())?;
+        Ok(())
+    }
+
+    /// Drops all texts.
+    pub fn clear(&mut self)
+        ensures { self.new ≡ [] }
+    {
+        self.bytes.clear();
+        self.lens.clear();
+    }
+
+    /// The texts in order.
+    pub fn iter(&self) -> EachText<'_>
+        ensures { result ≡ self.now }
+    {
+        EachText {
+            bytes: self.bytes.as_slice(),
+            lens: self.lens.as_slice(),
+        }
+    }
+}
+
+/// Texts that are still to come, in order.
+#[derive(Drop)]
+pub struct EachText<'a> {
+    bytes: &'a [u8],
+    lens: &'a [usize],
+}
+
+impl<'a> Model for EachText<'a> {
+    ghost use Rattle.std.specs.Prelude.{ℕ, List};
+    ghost use Rattle.bz_passes.specs.private.Cuts.{cut, AreTexts};
+
+    ghost Value = { List (List ℕ) };
+
+    ghost view = { λ t. cut t.lens.now t.bytes.now };
+
+    ghost invariant = { λ t. AreTexts t.lens.now t.bytes.now };
+}
+
+impl<'a> EachText<'a> {
+    /// The next text; none where all were given.
+    pub fn next(&mut self) -> Option<&'a str>
+        ensures some { IfSome result (λ text. self.old ≡ text.now ∷ self.new) }
+        ensures none { IfNone result ((self.old ≡ []) × (self.new ≡ [])) }
+    {
+        let Some((len, lens)) = self.lens.split_first() else {
+            return None;
+        };
+        let (text, bytes) = self.bytes.split_at(*len);
+        self.lens = lens;
+        self.bytes = bytes;
+        from_utf8(text).ok()
+    }
+}
