@@ -108,12 +108,18 @@ no_note : (home : Package) (attr v : List ℕ) (args : List Segment) (a : Segmen
 no_note home attr v args a there first any = rw (there, first, some_parts (list_any (equals home v)) (parts (value a)) any, any) refl
 
 -- the attribute has such an element
-pub comment_told : (home : Package) (attr v : List ℕ) (args : List Seg) (i k : ℕ) (a : Seg) → IsFirst attr args i → IsPartWith (equals home v) (drop 2 (get_or args i a).nodes.items) k → comment_note home attr v (segs_view args) ≡ None
+comment_told : (home : Package) (attr v : List ℕ) (args : List Seg) (i k : ℕ) (a : Seg) → IsFirst attr args i → IsPartWith (equals home v) (drop 2 (get_or args i a).nodes.items) k → comment_note home attr v (segs_view args) ≡ None
 comment_told home attr v args i k a first part =
     let s : Seg = get_or args i a in
     let any : list_any (list_any (equals home v)) (parts (value (seg_view s))) ≡ true =
     ap (λ (z : Segment). list_any (list_any (equals home v)) (parts (value z))) (view_of_seg s) ∙ ap (λ (zs : List Item). list_any (list_any (equals home v)) (parts zs)) (drop-map node_view 2 s.nodes.items) ∙ part.there in
     no_note home attr v (segs_view args) (seg_view s) first.there (first.first a) any
+
+pub comment_done : (home : Package) (attr v : List ℕ) (args : List Seg) (i k : ℕ) (a : Seg) (e : Node) → IsFirst attr args i → IsPartWith (equals home v) (drop 2 (get_or args i a).nodes.items) k
+    → done None (list_any (equals home v) (elements (node_view (get_or (get_or args i a).nodes.items (2 + k) e)))) ≡ done (comment_note home attr v (segs_view args)) true
+comment_done home attr v args i k a e first part =
+    ap (λ (z : Node). done None (list_any (equals home v) (elements (node_view z)))) (sym (get_or-drop 2 (get_or args i a).nodes.items k e)) ∙ ap (done None) (part.has e)
+    ∙ sym (ap (λ (n : Option Note). done n true) (comment_told home attr v args i k a first part))
 
 pub comment_put : (home : Package) (attr v text : List ℕ) (args : List Seg) (i k : ℕ) (a : Seg) (m e : Node) → IsFirst attr args i → IsPartWith (equals home v) (drop 2 (get_or args i a).nodes.items) k
     → node_view m ≡ edit_list (edit_first (equals home v) (λ s. with_comment (comment_line text) s ∷ [])) (node_view (get_or (get_or args i a).nodes.items (2 + k) e))
@@ -194,6 +200,7 @@ part_with p ns i start n joints h before told at has =
     let passes : (d : Node) → list_any p (elements (node_view (get_or ns i d))) ≡ true = λ d. ap (λ (z : Node). list_any p (elements (node_view z))) (get_or_default ns i d n h ∙ sym at) ∙ has in
     record {
       within = h;
+      has = passes;
       there =
           let whole : parts (nodes_view ns) ≡ parts_from true (nodes_view ns) = rw joints refl in
           let step : list_any (list_any p) (parts_from start (node_view (get_or ns i n) ∷ nodes_view (drop (i + 1) ns))) ≡ true = rw (told n, passes n) refl in

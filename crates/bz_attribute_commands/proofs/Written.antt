@@ -12,9 +12,13 @@ nodes_written s j m =
     view_of_seg (roll-Seg (record { before = s.before; nodes = with_item s.nodes j m; suffix = s.suffix }))
     ∙ sym (ap (λ (z : Segment). record z { nodes = nodes_view (set s.nodes.items j m) }) (view_of_seg s))
 
-pub on_err : {T E P : Type 0} (r : Result T E) → P → OnErr r P
-on_err (Ok x) h = tt
-on_err (Err e) h = h
+pub then_err : {T E P Q : Type 0} (r : Result T E) → (P → Q) → OnErr r P → OnErr r Q
+then_err (Ok x) f h = tt
+then_err (Err e) f h = f h
+
+pub then_ok : {T E P Q : Type 0} (r : Result T E) → (P → Q) → OnOk r P → OnOk r Q
+then_ok (Ok x) f h = f h
+then_ok (Err e) f h = tt
 
 pub on_ok : {T E P : Type 0} (r : Result T E) → P → OnOk r P
 on_ok (Ok x) h = h

@@ -4,6 +4,7 @@ ghost use Rattle.std.specs.Prelude.{◌≡◌, ◌++◌, ◌∷◌, [], false, s
 ghost use Rattle.std.specs.List.{list_any};
 ghost use Rattle.bz_tree.specs.View.{node_view, nodes_view, segs_view, slot_view, texts};
 ghost use Rattle.bz_attribute.specs.Lists.{edit_list, equals, parts};
+ghost use Rattle.bz_attribute.specs.Rules.{elements};
 ghost use Rattle.bz_attribute.specs.Effects.{done, edit_first, holds_rule, is_absent};
 ghost use Rattle.bz_attribute_commands.specs.private.CommentPlaces.{IsFirstOf, IsNowhere, IsPartWith};
 ghost use Rattle.bz_attribute_commands.specs.private.CommentPlaces as place;
@@ -30,10 +31,9 @@ pub fn comment_rule(
     ensures err { OnErr result (slot_view slot.new ≡ slot_view slot.old) }
 {
     match slot {
-        Some(stmt) if call_at(&stmt.nodes).is_some() => push_line(alloc, text, &mut stmt.before)?,
-        _ => return Ok(Done::quiet(false)),
+        Some(stmt) if call_at(&stmt.nodes).is_some() => push_line(alloc, text, &mut stmt.before),
+        _ => Ok(Done::quiet(false)),
     }
-    Ok(Done::quiet(true))
 }
 
 /// Adds a comment line above an argument or an element of one; for one above the rule it does nothing. An `Err` leaves
@@ -73,8 +73,7 @@ fn comment_attribute(
     let Some(i) = find(args, attr) else {
         return Done::no_attribute(alloc, attr);
     };
-    push_line(alloc, text, &mut args[i].before)?;
-    Ok(Done::quiet(true))
+    push_line(alloc, text, &mut args[i].before)
 }
 
 // Adds a comment line above the first element of an attribute that equals a value. An `Err` leaves all as it was.
@@ -99,8 +98,7 @@ fn comment_value(
     let Some(part) = part_with(home, value, nodes) else {
         return no_value(alloc, attr, value, nodes);
     };
-    comment_in_list(alloc, home, value, text, &mut args[i].nodes[2 + part])?;
-    Ok(Done::quiet(true))
+    comment_in_list(alloc, home, value, text, &mut args[i].nodes[2 + part])
 }
 
 // The failure where no element of an attribute equals a value.
@@ -151,33 +149,35 @@ fn comment_in_list(
     value: &str,
     text: &str,
     node: &mut Node<'_>,
-) -> Result<(), AllocError>
+) -> Result<Done, AllocError>
     ensures ok { OnOk result (node_view node.new ≡ edit_list
         (edit_first (equals home.now value.now) (λ s. spec.with_comment (spec.comment_line text.now) s ∷ []))
         (node_view node.old)) }
+    ensures done { IfOk result
+        (λ d. d ≡ done None (list_any (equals home.now value.now) (elements (node_view node.old)))) }
     ensures err { OnErr result (node_view node.new ≡ node_view node.old) }
 {
     let Node::Group(group) = node else {
-        return Ok(());
+        return Ok(Done::quiet(false));
     };
     let elements = group.segs.as_mut_slice();
     let Some(i) = find_equal(home, value, elements) else {
-        return Ok(());
+        return Ok(Done::quiet(false));
     };
-    push_line(alloc, text, &mut elements[i].before)?;
-    Ok(())
+    push_line(alloc, text, &mut elements[i].before)
 }
 
-// Adds the comment line of a text. An `Err` leaves the lines as they were.
-fn push_line(alloc: Global, text: &str, lines: &mut Vec<CowStr<'_>>) -> Result<(), AllocError>
+// Adds the comment line of a text, and tells a change. An `Err` leaves the lines as they were.
+fn push_line(alloc: Global, text: &str, lines: &mut Vec<CowStr<'_>>) -> Result<Done, AllocError>
     ensures ok { OnOk result (texts lines.new.items ≡ texts lines.old.items ++ spec.comment_line text.now ∷ []) }
+    ensures done { IfOk result (λ d. d ≡ done None true) }
     ensures err { OnErr result (texts lines.new.items ≡ texts lines.old.items) }
 {
     let mut line = String::from_str(alloc, "# ")?;
     line.push_str(text)?;
     trim(&mut line);
     lines.push(CowStr::Owned(line))?;
-    Ok(())
+    Ok(Done::quiet(true))
 }
 
 // Drops the spaces and tabs at the end.

@@ -108,10 +108,16 @@ fn push_field<'f>(
         Field::Label => return push_label(alloc, text, home, &rule.call.segs),
         Field::ValueOf(attr) => return push_attribute(alloc, text, attr.as_str(), &rule.call.segs),
         Field::Kind => push_kind(text, rule.kind)?,
-        Field::StartLine => write!(text, "{}", stmt.start)?,
-        Field::EndLine => write!(text, "{}", stmt.end)?,
+        Field::StartLine => push_number(text, stmt.start)?,
+        Field::EndLine => push_number(text, stmt.end)?,
     }
     Ok(None)
+}
+
+pub(crate) fn push_number(text: &mut String, number: u64) -> Result<(), AllocError>
+    ensures { OnOk result (string_bytes text.new ≡ string_bytes text.old ++ decimal number) }
+{
+    write!(text, "{number}")
 }
 
 fn push_label(

@@ -6,7 +6,7 @@ ghost use Rattle.bz_attribute.specs.Heads.{IsHeadOf};
 ghost use Rattle.bz_attribute_commands.specs.Printing.{fields_of, prints};
 ghost use Rattle.bz_attribute_commands.specs.private.HeadFields.{HasTold, head_word, head_words};
 
-use crate::print::push_word;
+use crate::print::{push_number, push_word};
 use bz_attribute::done::Done;
 use bz_attribute::head::Head;
 use bz_attribute::texts::push_home;
@@ -96,8 +96,8 @@ fn push_field(
             text.push_str(head.name)?;
         }
         Field::Kind => text.push_str(head.kind)?,
-        Field::StartLine => write!(text, "{}", head.start)?,
-        Field::EndLine => write!(text, "{}", head.end)?,
+        Field::StartLine => push_number(text, head.start)?,
+        Field::EndLine => push_number(text, head.end)?,
         Field::ValueOf(attr) => {
             if attr.as_str() != "name" {
                 return Ok(false);

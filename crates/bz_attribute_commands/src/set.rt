@@ -100,8 +100,8 @@ fn set_in(alloc: Global, attr: &str, words: &[Text], arg: &mut Seg<'_>) -> Resul
     if is_value(new, value_of(arg)) {
         return Ok(Done::quiet(false));
     }
-    let value = new_node(alloc, new)?;
     arg.nodes.reserve(1)?;
+    let value = new_node(alloc, new)?;
     arg.nodes.truncate(2);
     arg.nodes.push_reserved(value);
     Ok(Done::quiet(true))

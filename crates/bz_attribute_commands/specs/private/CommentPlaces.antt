@@ -7,6 +7,7 @@ use Rattle.bz_tree.specs.declared.stmt.Node.{Node}
 use Rattle.bz_tree.specs.Tree.{Segment}
 use Rattle.bz_tree.specs.View.{seg_view, segs_view, node_view, nodes_view}
 use Rattle.bz_attribute.specs.Lists.{edit_list, parts}
+use Rattle.bz_attribute.specs.Rules.{elements}
 use Rattle.bz_attribute.specs.Effects.{edit_first, failed, no_parts}
 use Rattle.bz_attribute.specs.declared.done.Done.{Done}
 use Rattle.bz_attribute.specs.declared.done.Note.{Note}
@@ -28,6 +29,7 @@ pub record IsNowhere (p : Segment → Bool) (segs : List Seg) : Type 0 where
 pub record IsPartWith (p : Segment → Bool) (value : List Node) (i : ℕ) : Type 0 where
   pub within : i < length value
   pub there : list_any (list_any p) (parts (nodes_view value)) ≡ true
+  pub has : (d : Node) → list_any p (elements (node_view (get_or value i d))) ≡ true
   pub put : (f : Segment → Segment) (m d : Node) → node_view m ≡ edit_list (edit_first p (λ s. f s ∷ [])) (node_view (get_or value i d)) → nodes_view (set value i m) ≡ edit_element p f (nodes_view value)
   pub same : (m d : Node) → node_view m ≡ node_view (get_or value i d) → nodes_view (set value i m) ≡ nodes_view value
 
