@@ -1,21 +1,10 @@
--- How a loop that writes each element of a list goes on.
-use Rattle.std.proofs.Common.{◌≡◌, ℕ, ◌+◌, ◌<◌, List, ◌∷◌, ◌++◌, length, get_or, drop, sym, ◌∙◌, ap, append_assoc, add-one, drop-cons}
+-- How a loop over a list goes on, and what an Ok promises.
+use Rattle.std.proofs.Common.{◌≡◌, ℕ, ◌+◌, ◌<◌, List, ◌∷◌, length, get_or, drop, sym, ◌∙◌, ap, add-one, drop-cons}
 use Rattle.std.specs.Prelude.{Result, Ok, Err, OnOk, IfOk}
-use Rattle.std.specs.List.{flat_map}
 
 -- the elements from a place on begin with the one that stands there
 pub drop_at : {A : Type 0} (xs : List A) (i : ℕ) (x : A) → i < length xs → drop i xs ≡ get_or xs i x ∷ drop (i + 1) xs
 drop_at xs i x inside = drop-cons xs i x inside ∙ ap (λ n. get_or xs i x ∷ drop n xs) (sym (add-one i))
-
--- what was written of the elements before, and of one more
-pub written_next : {A : Type 0} (f : A → List ℕ) (done whole : List ℕ) (xs : List A) (i : ℕ) (x : A)
-    → i < length xs → x ≡ get_or xs i x → done ++ flat_map f (drop i xs) ≡ whole
-    → (done ++ f x) ++ flat_map f (drop (i + 1) xs) ≡ whole
-written_next f done whole xs i x inside is before =
-    ap (λ y. (done ++ f y) ++ flat_map f (drop (i + 1) xs)) is
-    ∙ append_assoc done (f (get_or xs i x)) (flat_map f (drop (i + 1) xs))
-    ∙ ap (λ ys. done ++ flat_map f ys) (sym (drop_at xs i x inside))
-    ∙ before
 
 -- what an Ok promises, said otherwise
 pub on_ok : {T E : Type 0} {P Q : Type 0} → (P → Q) → (r : Result T E) → OnOk r P → OnOk r Q
