@@ -3,9 +3,10 @@
 ghost use Rattle.std.specs.Prelude.{◌≡◌, ◌++◌, IfOk, OnOk, option_map, string_bytes};
 ghost use Rattle.bz_tree.specs.View.{nodes_view, segs_view, view};
 ghost use Rattle.bz_attribute.specs.Rules.{kind_text, name_in};
+ghost use Rattle.bz_attribute.specs.RuleViews.{rule_view};
 ghost use Rattle.bz_attribute.specs.Texts as spec;
 
-use crate::rule::{name_text, rule_of};
+use crate::rule::{Rule, name_text, rule_of};
 use bz_command::{Marked, Package, Target, read_value};
 use bz_tree::{Node, Seg, Stmt};
 use std::alloc::{AllocError, Global};
@@ -16,11 +17,11 @@ pub fn label(alloc: Global, home: &Package, target: &Target) -> Result<String, A
 {
     let mut text = String::new(alloc);
     push_home(&mut text, home)?;
-    push_target(alloc, &mut text, target)?;
+    push_target(&mut text, target)?;
     Ok(text)
 }
 
-fn push_target(alloc: Global, text: &mut String, target: &Target) -> Result<(), AllocError>
+fn push_target(text: &mut String, target: &Target) -> Result<(), AllocError>
     ensures { OnOk result (string_bytes text.new ≡ string_bytes text.old ++ spec.target_text target.now) }
 {
     match &target.marked {
@@ -31,10 +32,7 @@ fn push_target(alloc: Global, text: &mut String, target: &Target) -> Result<(), 
             text.push_str("%")?;
             text.push_str(kind.as_str())
         }
-        Marked::Line(line) => {
-            text.push_str("%")?;
-            text.push_str(line.to_string(alloc)?.as_str())
-        }
+        Marked::Line(line) => write!(text, "%{line}"),
     }
 }
 
@@ -42,19 +40,25 @@ fn push_target(alloc: Global, text: &mut String, target: &Target) -> Result<(), 
 pub fn shown(alloc: Global, home: &Package, stmt: &Stmt<'_>) -> Result<String, AllocError>
     ensures { IfOk result (λ text. string_bytes text ≡ spec.shown_text home.now (view stmt.now)) }
 {
-    let Some(rule) = rule_of(&stmt.nodes) else {
-        return Ok(String::new(alloc));
-    };
     let mut text = String::new(alloc);
-    push_home(&mut text, home)?;
-    match read_name(alloc, &rule.call.segs)? {
-        Some(name) => text.push_str(name.as_str())?,
-        None => {
-            text.push_str("%")?;
-            push_kind(&mut text, rule.kind)?;
-        }
+    if let Some(rule) = rule_of(&stmt.nodes) {
+        push_home(&mut text, home)?;
+        push_rule(alloc, &mut text, rule)?;
     }
     Ok(text)
+}
+
+fn push_rule(alloc: Global, text: &mut String, rule: Rule<'_, '_>) -> Result<(), AllocError>
+    ensures { OnOk result (string_bytes text.new ≡ string_bytes text.old
+        ++ spec.name_or_kind (name_in (rule_view rule.entry).args) (rule_view rule.entry).kind) }
+{
+    match read_name(alloc, &rule.call.segs)? {
+        Some(name) => text.push_str(name.as_str()),
+        None => {
+            text.push_str("%")?;
+            push_kind(text, rule.kind)
+        }
+    }
 }
 
 /// Writes a package and the colon after it.
