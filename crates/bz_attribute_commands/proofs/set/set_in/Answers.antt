@@ -1,4 +1,5 @@
 use Rattle.std.proofs.Common.{◌≡◌, ℕ, List, Bool, true, false, Option, None, Some, not, if◌then◌else◌, ap, sym, ◌∙◌}
+use Rattle.std.proofs.lemmas.Bool.{true≢false}
 use Rattle.bz_tree.specs.Tree.{Item, Segment}
 use Rattle.bz_tree.specs.View.{nodes_view, seg_view}
 use Rattle.bz_attribute.specs.Rules.{value}
@@ -32,3 +33,14 @@ returns-clause-done c =
     let a = seg_view c.args.arg.now in
     let is = tested c.args.attr.now c.args.words.now a (new_view c.new_of-new.result) (nodes_view c.value_of.result.now) (nodes_view c.value_of-2.result.now) false c.new_of-new.ensures c.value_of.ensures c.value_of-2.ensures c.if-is_value.ensures in
     c.quiet-2.ensures ∙ ap (λ (b : Bool). done None (not b)) is
+
+-- another value is set
+pub returns-in_err-reserve-clause-unchanged : goal.returns-in_err-reserve-clause-unchanged
+returns-in_err-reserve-clause-unchanged c h =
+    let is = tested c.args.attr.now c.args.words.now (seg_view c.args.arg.now) (new_view c.new_of-new.result) (nodes_view c.value_of.result.now) (nodes_view c.value_of-2.result.now) false c.new_of-new.ensures c.value_of.ensures c.value_of-2.ensures c.if-is_value.ensures in
+    absurd (true≢false (ap not is ∙ h))
+
+pub returns-in_err-value-clause-unchanged : goal.returns-in_err-value-clause-unchanged
+returns-in_err-value-clause-unchanged c h =
+    let is = tested c.args.attr.now c.args.words.now (seg_view c.args.arg.now) (new_view c.new_of-new.result) (nodes_view c.value_of.result.now) (nodes_view c.value_of-2.result.now) false c.new_of-new.ensures c.value_of.ensures c.value_of-2.ensures c.if-is_value.ensures in
+    absurd (true≢false (ap not is ∙ h))
