@@ -38,6 +38,7 @@ pub mod CutStrings
 pub mod StringUnits
 pub mod CutPasses
 pub mod CutMachine
+pub mod CutDepth
 pub mod CutQuiet
 pub mod CutLines
 pub mod Stages

@@ -1,9 +1,10 @@
 //! The chunk that a text begins with, and its tokens, in one walk.
 
 ghost use Rattle.std.specs.Prelude.{◌≡◌, ◌+◌, ◌<◌, ◌^◌, ◌==◌, count_by, map, IfOk, IfSome};
+ghost use Rattle.std.specs.List.{list_all};
 ghost use Rattle.bz_token.specs.Places.{placed};
 ghost use Rattle.bz_token.specs.FirstChunk.{IsFirstChunk};
-ghost use Rattle.bz_token.specs.private.LineEnds.{line_end};
+ghost use Rattle.bz_token.specs.private.LineEnds.{is_newline_token, is_comment_token, begins_block, line_end};
 
 use crate::cutter::block::opener_at;
 use crate::fault::LexFault;
@@ -31,20 +32,41 @@ enum LineEnd {
     Block,
 }
 
+fn are_newlines(line: &[Token<'_>]) -> bool
+    ensures { result ≡ list_all is_newline_token (map placed line.now) }
+{
+    line.iter().all(|token| token.kind == Kind::Newline)
+}
+
+fn are_comments(line: &[Token<'_>]) -> bool
+    ensures { result ≡ list_all is_comment_token (map placed line.now) }
+{
+    line.iter().all(|token| matches!(token.kind, Kind::Newline | Kind::Comment))
+}
+
+fn begins_block(line: &[Token<'_>]) -> bool
+    ensures { result ≡ begins_block (map placed line.now) }
+{
+    match line {
+        [first, ..] => opener_at(first.text.as_bytes()).is_some(),
+        [] => false,
+    }
+}
+
 // Comments alone join the next line; a blank line and a statement end the chunk, unless a block begins.
 fn line_end(line: &[Token<'_>]) -> LineEnd
     ensures { result ≡ line_end (map placed line.now) }
 {
-    if line.iter().all(|token| token.kind == Kind::Newline) {
+    if are_newlines(line) {
         return LineEnd::Ends;
     }
-    if line.iter().all(|token| matches!(token.kind, Kind::Newline | Kind::Comment)) {
+    if are_comments(line) {
         return LineEnd::Joins;
     }
-    match line {
-        [first, ..] if opener_at(first.text.as_bytes()).is_some() => LineEnd::Block,
-        _ => LineEnd::Ends,
+    if begins_block(line) {
+        return LineEnd::Block;
     }
+    LineEnd::Ends
 }
 
 // Room for the tokens of most chunks.

@@ -124,8 +124,7 @@ fn with_comment(kind: LineKind) -> LineKind
 #[inline(always)]
 fn outside(scan: Scan, b: u8) -> Scan
     requires { scan.depth + 1 < 2 ^ 64 }
-    ensures scan { result ≡ outside scan.depth scan.kind b }
-    ensures depth { result.depth ≤ scan.depth + 1 }
+    ensures { result ≡ outside scan.depth scan.kind b }
 {
     let plain = scan.within(Inside::Plain);
     let statement = plain.of_kind(LineKind::Statement);
@@ -147,8 +146,7 @@ fn outside(scan: Scan, b: u8) -> Scan
 // A byte in a short string that no backslash stands before.
 #[inline(always)]
 fn in_short(scan: Scan, quote: Quote, b: u8) -> Scan
-    ensures scan { result ≡ in_short quote scan.depth scan.kind b }
-    ensures depth { result.depth ≡ scan.depth }
+    ensures { result ≡ in_short quote scan.depth scan.kind b }
 {
     if b == byte_of(quote) {
         scan.within(Inside::Plain)
@@ -164,8 +162,7 @@ fn in_short(scan: Scan, quote: Quote, b: u8) -> Scan
 // A byte in a long string that no backslash stands before; a quote leads to `quoted`.
 #[inline(always)]
 fn in_long(scan: Scan, quote: Quote, quoted: Inside, b: u8) -> Scan
-    ensures scan { result ≡ in_long quoted quote scan.depth scan.kind b }
-    ensures depth { result.depth ≡ scan.depth }
+    ensures { result ≡ in_long quoted quote scan.depth scan.kind b }
 {
     if b == byte_of(quote) {
         scan.within(quoted)
@@ -179,8 +176,7 @@ fn in_long(scan: Scan, quote: Quote, quoted: Inside, b: u8) -> Scan
 #[inline(always)]
 fn advance(scan: Scan, b: u8) -> Scan
     requires { scan.depth + 1 < 2 ^ 64 }
-    ensures scan { result ≡ next scan b }
-    ensures depth { result.depth ≤ scan.depth + 1 }
+    ensures { result ≡ next scan b }
 {
     match scan.inside {
         Inside::Plain => outside(scan, b),
@@ -198,14 +194,29 @@ fn advance(scan: Scan, b: u8) -> Scan
             b'\n' => outside(scan, b),
             _ => scan,
         },
-        Inside::Opened(quote) if b == byte_of(quote) => scan.within(Inside::OpenedTwice(quote)),
-        Inside::OpenedTwice(quote) if b == byte_of(quote) => scan.within(Inside::Long(quote)),
-        Inside::OpenedTwice(_) => outside(scan, b),
-        Inside::Opened(quote) | Inside::Short(quote) => in_short(scan, quote, b),
-        Inside::ShortEscape(quote) if b == b'\r' => scan.within(Inside::ShortEscapeReturn(quote)),
-        Inside::ShortEscape(quote) => scan.within(Inside::Short(quote)),
-        Inside::ShortEscapeReturn(quote) if b == b'\n' => scan.within(Inside::Short(quote)),
-        Inside::ShortEscapeReturn(quote) => in_short(scan, quote, b),
+        Inside::Opened(quote) => {
+            if b == byte_of(quote) {
+                scan.within(Inside::OpenedTwice(quote))
+            } else {
+                in_short(scan, quote, b)
+            }
+        }
+        Inside::OpenedTwice(quote) => {
+            if b == byte_of(quote) {
+                scan.within(Inside::Long(quote))
+            } else {
+                outside(scan, b)
+            }
+        }
+        Inside::Short(quote) => in_short(scan, quote, b),
+        Inside::ShortEscape(quote) => match b {
+            b'\r' => scan.within(Inside::ShortEscapeReturn(quote)),
+            _ => scan.within(Inside::Short(quote)),
+        },
+        Inside::ShortEscapeReturn(quote) => match b {
+            b'\n' => scan.within(Inside::Short(quote)),
+            _ => in_short(scan, quote, b),
+        },
         Inside::Long(quote) => in_long(scan, quote, Inside::LongQuote(quote), b),
         Inside::LongQuote(quote) => in_long(scan, quote, Inside::LongTwoQuotes(quote), b),
         Inside::LongTwoQuotes(quote) => in_long(scan, quote, Inside::Plain, b),
