@@ -1,12 +1,13 @@
 -- One turn of a loop that goes over a list and writes each element.
-use Rattle.std.proofs.Common.{◌≡◌, ℕ, suc, ◌<◌, ◌+◌, Bool, true, false, ◌||◌, List, [], ◌∷◌, ◌++◌, length, map, take, drop, get_or, refl, sym, ◌∙◌, ap, append_assoc}
-use Rattle.std.proofs.lemmas.List.{drop_more, take_more_set, map_more, length-map}
+use Rattle.std.proofs.Common.{◌≡◌, ℕ, suc, ◌<◌, ◌≤◌, ◌+◌, Bool, true, false, ◌||◌, List, [], ◌∷◌, ◌++◌, length, map, take, drop, get_or, refl, sym, ◌∙◌, ap, append_assoc, append-nil}
+use Rattle.std.specs.List.{flat_map}
+use Rattle.std.proofs.lemmas.List.{drop_all, drop_more, take_more_set, map_more, length-map}
 use Rattle.std.proofs.Math.Nat.{suc_inj}
 use Rattle.std.proofs.lemmas.Grind.{common_steps}
 use Rattle.std.proofs.Common.{arith}
 use Rattle.std.proofs.Math.ListN.{set}
-use Rattle.bz_command.specs.Passes.{Slot, Meaning, Pass, Marked, executed, marked}
-use Rattle.bz_passes.specs.Exchange.{Kept, logs_alone, logs_and, slot_after_pass, slot_after, kept_alone, kept_and, Fits, pass_and, pass_alone, no_slot, some_of_commands_alone, some_alone}
+use Rattle.bz_command.specs.Passes.{Slot, Meaning, Pass, Marked, executed, marked, missing, is_missing}
+use Rattle.bz_passes.specs.Exchange.{Kept, logs_alone, logs_and, slot_after_pass, slot_after, kept_alone, kept_and, Fits, pass_and, pass_alone, no_slot, some_of_commands_alone, some_alone, told, some_not_found}
 
 -- the element at i is written, and the rest is still to come
 pub rest_after_write : {X : Type 0} (xs : List X) (i : ℕ) (y : X) → i < length xs → drop (i + 1) (set xs i y) ≡ drop (i + 1) xs
@@ -84,3 +85,26 @@ no_slot_fits M (p ∷ ps) = (length-map p.commands (λ command. []), no_slot_fit
 -- one more element is put after those that the first i elements give
 pub mapped_more : {X Y : Type 0} (f : X → Y) (ys pushed : List Y) (y : Y) (xs : List X) (i : ℕ) (x : X) → i < length xs → pushed ≡ ys ++ y ∷ [] → y ≡ f (get_or xs i x) → ys ≡ map f (take i xs) → pushed ≡ map f (take (i + 1) xs)
 mapped_more f ys pushed y xs i x h e same before = rw (e, map_more f xs i x h, before, same) refl
+
+-- what is told of one pass, and of the passes after it
+pub told_rest : {S T C M : Type 0} (m : Meaning S T C M) (ps : List (Pass T C)) (i : ℕ) (p : Pass T C) (ks : List (Kept M)) (e k : Kept M) (before after whole : List M) → i < length ps → p ≡ get_or ps i p → i < length ks
+    → after ≡ before ++ (missing m p.target (get_or ks i e).found ++ flat_map (λ log. log) (get_or ks i e).logs)
+    → before ++ told m (drop i ps) (drop i ks) ≡ whole → after ++ told m (drop (i + 1) ps) (drop (i + 1) (set ks i k)) ≡ whole
+told_rest m ps i p ks e k before after whole h is l said all =
+    let a = missing m p.target (get_or ks i e).found in
+    let b = flat_map (λ log. log) (get_or ks i e).logs in
+    let rest = told m (drop (i + 1) ps) (drop (i + 1) ks) in
+    let step : after ++ told m (drop (i + 1) ps) (drop (i + 1) (set ks i k)) ≡ before ++ told m (drop i ps) (drop i ks) =
+    rw (rest_after_write ks i k l, rest_of ps i p h is, drop_more ks i e l, said) (append_assoc before (a ++ b) rest) in
+    step ∙ all
+
+pub told_all : {S T C M : Type 0} (m : Meaning S T C M) (ps : List (Pass T C)) (ks : List (Kept M)) (i : ℕ) (log whole : List M) → length ps ≤ i → log ++ told m (drop i ps) ks ≡ whole → log ≡ whole
+told_all m ps ks i log whole h all = sym (append-nil log) ∙ rw (drop_all i ps h) at all
+
+-- whether the target of a pass was not found, or of one after it
+pub not_found_here : {S T C M : Type 0} (m : Meaning S T C M) (ps : List (Pass T C)) (ks : List (Kept M)) (i : ℕ) (p : Pass T C) (k : Kept M) → i < length ps → i < length ks → p ≡ get_or ps i p → k ≡ get_or ks i k
+    → some_not_found m (drop i ps) (drop i ks) ≡ (is_missing m p.target k.found || some_not_found m (drop (i + 1) ps) (drop (i + 1) ks))
+not_found_here m ps ks i p k h l is e = rw (rest_of ps i p h is, rest_of ks i k l e) refl
+
+pub none_after : {S T C M : Type 0} (m : Meaning S T C M) (ps : List (Pass T C)) (ks : List (Kept M)) (i : ℕ) → length ps ≤ i → some_not_found m (drop i ps) ks ≡ false
+none_after m ps ks i h = rw (drop_all i ps h) refl

@@ -4,7 +4,7 @@ use Rattle.std.specs.Prelude.{Some, None}
 use Rattle.std.specs.List.{range_with_len}
 use Rattle.std.specs.Char.{is_ascii_digit}
 use Rattle.std.proofs.lemmas.List.FromFn.{get_or-map-range_with_len}
-use Rattle.std.proofs.lemmas.Bool.{cases_Bool, eqb-true, false≢true}
+use Rattle.std.proofs.lemmas.Bool.{cases_Bool, or_cases, eqb-true, false≢true}
 use Rattle.std.proofs.lemmas.Bool.Decides.{nat_tests}
 use Rattle.bz_token.specs.Pieces.{is_quote}
 use Rattle.bz_token.specs.Lexical.{begins, is_word_byte, is_blank, are_two, opening}
@@ -110,6 +110,28 @@ fact_of b = elim (cases_Bool (is_word_byte b)) [
 
 pub fact_at : (b : ℕ) (c : Class) → class_of b ≡ c → Fact c b
 fact_at b c is = subst (λ x. Fact x b) is (fact_of b)
+
+-- a byte of three has the class that each of them has
+one_class : (b x y z : ℕ) (c : Class) → class_of x ≡ c → class_of y ≡ c → class_of z ≡ c → (b == x || b == y || b == z) ≡ true → class_of b ≡ c
+one_class b x y z c first second third h = elim (or_cases (b == x || b == y) (b == z) h) [
+  | inr is ↦ ap class_of (eqb-true b z is) ∙ third
+  | inl two ↦ elim (or_cases (b == x) (b == y) two) [
+    | inl is ↦ ap class_of (eqb-true b x is) ∙ first
+    | inr is ↦ ap class_of (eqb-true b y is) ∙ second
+  ]
+]
+
+pub opens_no_other : (b : ℕ) (c : Class) → class_of b ≡ c → (c ≡ Open → ⊥) → is_opening_bracket b ≡ false
+opens_no_other b c is other = elim (cases_Bool (is_opening_bracket b)) [
+  | inl opens ↦ absurd (other (sym is ∙ one_class b 40 91 123 Open refl refl refl opens))
+  | inr none ↦ none
+]
+
+pub closes_no_other : (b : ℕ) (c : Class) → class_of b ≡ c → (c ≡ Close → ⊥) → is_closing_bracket b ≡ false
+closes_no_other b c is other = elim (cases_Bool (is_closing_bracket b)) [
+  | inl closes ↦ absurd (other (sym is ∙ one_class b 41 93 125 Close refl refl refl closes))
+  | inr none ↦ none
+]
 
 pub begins_so : (test : ℕ → Bool) (t : Bool) (bytes : List ℕ) → 0 < length bytes → test (get_or bytes 0 0) ≡ t → begins test bytes ≡ t
 begins_so test t [] some h = absurd (omega arith)

@@ -2,9 +2,10 @@ use Rattle.std.proofs.Common.{rules, ◌≡◌, map, sym, ap, subst, []}
 use Rattle.bz_token.specs.Places.{placed}
 use Rattle.bz_token.specs.Reading.{AreTokensOf}
 use Rattle.bz_token.specs.Faults.{IsFault}
+use Rattle.bz_token.specs.declared.fault.LexFault.TheVariants.{OutOfMemory}
 use Rattle.bz_token.specs.private.Scans.{opened}
 use Rattle.bz_token.proofs.Steps.{end_gap}
-use Rattle.bz_token.proofs.Progress.{read_fresh, after_gap, if_ok, passed_on, all_read, none_opened, outside, empty_from_test}
+use Rattle.bz_token.proofs.Progress.{read_fresh, after_gap, if_ok, if_err, passed_on, all_read, none_opened, outside, left_open, empty_from_test, some_from_test}
 use Rattle.bz_token.proofs.lexer.tokens.Goals as goal
 
 pub loop-spot-init : goal.loop-spot-init
@@ -21,13 +22,28 @@ loop-spot-preserved c = c.in_ok-spot.ensures.read c.args.first_line c.args.text.
 
 pub returns-then-is_inside-clause-tokens : goal.returns-then-is_inside-clause-tokens
 returns-then-is_inside-clause-tokens c =
-    let done : c.loop-spot.spot.rest.now ≡ [] = empty_from_test c.loop-spot.spot.rest.now (search rules) in
+    let done : c.loop-spot.spot.rest.now ≡ [] = empty_from_test c.loop-spot.spot.rest.now (sym c.loop-spot-test.ensures) in
     let b = after_gap _ _ _ _ _ _ _ _ _ c.loop-spot.invariant (end_gap _ _ done) in
     if_ok _ _ c.closed.result
     (λ v h. subst (λ ts. AreTokensOf c.args.first_line c.args.max_depth c.args.text.now (map placed ts)) (sym h.0) (all_read _ _ _ _ _ _ _ _ _ _ b done (none_opened _ _ _ _ _ _ _ _ _ _ b h.1))) c.closed.ensures.tokens
 
 pub returns-clause-tokens : goal.returns-clause-tokens
 returns-clause-tokens c =
-    let done : c.loop-spot.spot.rest.now ≡ [] = empty_from_test c.loop-spot.spot.rest.now (search rules) in
+    let done : c.loop-spot.spot.rest.now ≡ [] = empty_from_test c.loop-spot.spot.rest.now (sym c.loop-spot-test.ensures) in
     let b = after_gap _ _ _ _ _ _ _ _ _ c.loop-spot.invariant (end_gap _ _ done) in
     all_read _ _ _ _ _ _ _ _ _ _ b done (outside (opened c.loop-spot.lexer.brackets) (search rules))
+
+pub read_line-requires-clause-some : goal.read_line-requires-clause-some
+read_line-requires-clause-some c = some_from_test c.loop-spot.spot.rest.now (sym c.loop-spot-test.ensures)
+
+pub loop-spot-smaller : goal.loop-spot-smaller
+loop-spot-smaller c = c.in_ok-spot.ensures.shorter
+
+pub returns-then-is_inside-clause-fault : goal.returns-then-is_inside-clause-fault
+returns-then-is_inside-clause-fault c =
+    let done : c.loop-spot.spot.rest.now ≡ [] = empty_from_test c.loop-spot.spot.rest.now (sym c.loop-spot-test.ensures) in
+    let b = after_gap _ _ _ _ _ _ _ _ _ c.loop-spot.invariant (end_gap _ _ done) in
+    if_err _ _ c.closed.result (λ fault left. left_open _ _ _ _ _ _ _ _ _ _ fault b done left) c.closed.ensures.fault
+
+pub returns-in_err-lexer-clause-fault : goal.returns-in_err-lexer-clause-fault
+returns-in_err-lexer-clause-fault c = passed_on c.from_residual.result OutOfMemory (IsFault c.args.first_line c.args.max_depth c.args.text.now) c.from_residual.ensures.1 tt

@@ -1,10 +1,12 @@
-use Rattle.std.proofs.Common.{rules, ◌≡◌, ◌++◌, map, is_ok, sym, refl, ap, ◌∙◌, arith, take-append-drop, append_assoc, not}
+use Rattle.std.proofs.Common.{rules, ◌≡◌, ◌++◌, length, map, is_ok, sym, refl, ap, ◌∙◌, arith, length-drop, take-append-drop, append_assoc, not}
 use Rattle.std.proofs.ResultArms.{chosen}
 use Rattle.std.proofs.lemmas.Str.{IsUtf8-drop}
 use Rattle.bz_token.specs.Places.{placed}
+use Rattle.bz_token.specs.Faults.{IsFault}
+use Rattle.bz_token.specs.declared.fault.LexFault.TheVariants.{OutOfMemory}
 use Rattle.bz_token.specs.private.Scans.{opened}
 use Rattle.bz_token.proofs.Steps.{gap_of_step, token_of_step}
-use Rattle.bz_token.proofs.Progress.{places_fit, token_read, newlines_split, refused_at, same_as}
+use Rattle.bz_token.proofs.Progress.{places_fit, token_read, newlines_split, passed_on, refused_at, same_as}
 use Rattle.bz_token.proofs.Innermost.{map_push}
 use Rattle.bz_token.proofs.Fitting.{token_fits}
 use Rattle.bz_token.proofs.lexer.Lexer.step.Goals as goal
@@ -61,3 +63,25 @@ returns-in_ok-push-in-Ok-Token-clause-read c first bytes given before =
     _ _ c.pass.result.line c.pass.result.col c.is_fresh.result before found.0 split (rw (← cut.front, ← cut.back) at found.1.token) fitting.0 (found.3 ∙ fitting.1) (c.is_fresh.ensures ∙ ap not (same_as c.args.spot.last_line c.args.spot.place.line)) (rw (← cut.back) at utf8)
     (rw c.as_bytes.ensures.value at c.pass.ensures.line)
     (rw c.as_bytes.ensures.value at c.pass.ensures.col))
+
+pub returns-in_err-push-in-Ok-Token-clause-fault : goal.returns-in_err-push-in-Ok-Token-clause-fault
+returns-in_err-push-in-Ok-Token-clause-fault c first bytes given before =
+    passed_on c.from_residual.result OutOfMemory (IsFault first c.args.max_depth bytes) c.from_residual.ensures.1 tt
+
+pub returns-in-Ok-Gap-clause-shorter : goal.returns-in-Ok-Gap-clause-shorter
+returns-in-Ok-Gap-clause-shorter c = c.pass_gap.ensures.shorter
+
+pub returns-in_ok-push-in-Ok-Token-clause-shorter : goal.returns-in_ok-push-in-Ok-Token-clause-shorter
+returns-in_ok-push-in-Ok-Token-clause-shorter c =
+    let found = token_of_step _ _ _ _ _ _ c.in-Ok-Token.scanned c.as_bytes-bytes.ensures.value c.in-Ok-Token.field-0-is c.in-Ok-Token.ensures.step in
+    omega (arith, found.1.some, found.1.within, ap length c.split_at.ensures.back, length-drop c.in-Ok-Token.scanned.len c.args.spot.rest.now)
+
+pub split_at-requires : goal.split_at-requires
+split_at-requires c =
+    let found = token_of_step _ _ _ _ _ _ c.in-Ok-Token.scanned c.as_bytes-bytes.ensures.value c.in-Ok-Token.field-0-is c.in-Ok-Token.ensures.step in
+    found.1.boundary c.requires.places.3.utf8
+
+pub pass-requires-clause-one_line : goal.pass-requires-clause-one_line
+pass-requires-clause-one_line c none =
+    let found = token_of_step _ _ _ _ _ _ c.in-Ok-Token.scanned c.as_bytes-bytes.ensures.value c.in-Ok-Token.field-0-is c.in-Ok-Token.ensures.step in
+    rw (c.as_bytes.ensures.value, c.split_at.ensures.front) (found.1.one_line none)
