@@ -19,7 +19,7 @@ use Rattle.bz_token.specs.private.CutSteps.{is_ended, line_here, next, run, move
 use Rattle.bz_token.specs.declared.cutter.Next.{Next}
 use Rattle.bz_token.specs.declared.cutter.Next.TheVariants.{Goes, Ends, Short}
 use Rattle.bz_token.specs.private.Decided.{DecidesAhead}
-use Rattle.bz_token.specs.CutterState.{Takes, IsAfter, IsAtBlock, AwaitsNext}
+use Rattle.bz_token.specs.CutterState.{is_block as is_block_stage, Takes, IsAfter, IsAtBlock, Awaits, AwaitsNext}
 use Rattle.bz_token.proofs.CutMachine.{next_inside}
 use Rattle.bz_token.proofs.CutLaws.{chunk_step, same_takes}
 use Rattle.bz_token.proofs.CutAfter.{begins, whole, follows_line, last_line, open_after_token, stage_is, ends_here, comments_after, block_after, fresh_after}
@@ -240,3 +240,15 @@ after_next c Short other seen b = b
 
 pub nothing_yet : IsPart []
 nothing_yet = part_of fresh [] fresh_after (λ text e. absurd (false≢true e))
+
+-- a chunk that is a block has its word
+pub no_word : (s : Stage) → is_block_stage s ≡ true → ((word : Opener) → s ≡ InBlock word → ⊥) → ⊥
+no_word Comments h none = false≢true h
+no_word (InBlock word) h none = none word refl
+no_word Done h none = false≢true h
+
+-- what the cutter waits for after a logical line that has ended
+pub awaits_after : (s : Stage) → Awaits (cut_at s) (cutter_at s)
+awaits_after Comments = λ line ended. absurd (false≢true ended)
+awaits_after (InBlock word) = record { in_block = refl; ended = refl }
+awaits_after Done = λ line ended. absurd (false≢true ended)

@@ -10,7 +10,7 @@ use Rattle.bz_token.specs.declared.gap.Gap.{Gap}
 use Rattle.bz_token.specs.Brackets.{is_opening_bracket, is_closing_bracket, is_inside, bracket_fits, open_after_byte}
 use Rattle.bz_token.specs.Lexical.{begins, is_blank}
 use Rattle.bz_token.specs.Reading.{is_gap, begins_gap}
-use Rattle.bz_token.specs.private.Scans.{IsScanned, IsBadPlace, bad_fault, IsMisfit, misfit_fault}
+use Rattle.bz_token.specs.private.Scans.{IsBadPlace, bad_fault, IsMisfit, misfit_fault}
 use Rattle.bz_token.specs.private.Steps.{IsTaken, IsRefused, IsGapHere, IsStep, IsTokenStep, IsBadStep}
 use Rattle.bz_token.specs.declared.brackets.Misfit.{Misfit}
 use Rattle.bz_token.specs.declared.scan_token.Bad.{Bad}

@@ -1,6 +1,6 @@
-use Rattle.std.proofs.Common.{◌≡◌, ◌||◌, get_or, true, sym, subst}
-use Rattle.bz_token.specs.Brackets.{is_opening_bracket, is_closing_bracket, is_inside}
-use Rattle.bz_token.specs.private.Scans.{opened, bad_fault, misfit_fault}
+use Rattle.std.proofs.Common.{sym, subst}
+use Rattle.bz_token.specs.Brackets.{is_inside}
+use Rattle.bz_token.specs.private.Scans.{opened}
 use Rattle.bz_token.specs.private.Steps.{IsStep, IsBadStep, IsRefused}
 use Rattle.bz_token.proofs.Steps.{step_taken, bad_refused, misfit_refused}
 use Rattle.bz_token.proofs.lexer.read_step.Goals as goal

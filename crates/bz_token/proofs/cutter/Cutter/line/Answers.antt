@@ -2,7 +2,7 @@ use Rattle.std.proofs.Common.{◌≡◌, ◌∙◌, true, false, sym, ap}
 use Rattle.std.proofs.lemmas.Bool.{both_ways}
 use Rattle.bz_token.specs.declared.cutter.Cut.TheVariants.{More}
 use Rattle.bz_token.specs.private.CutSteps.{is_ended, run, moved, stage_now, cut_at, cutter_at}
-use Rattle.bz_token.proofs.CutAnswers.{exactly_whole, exactly_block, open_cut, open_part, open_answers, open_last, ended_newline, ended_line, answers_of}
+use Rattle.bz_token.proofs.CutAnswers.{exactly_whole, exactly_block, open_cut, open_part, open_answers, open_last, ended_newline, ended_line, answers_of, awaits_after}
 use Rattle.bz_token.proofs.cutter.Cutter.line.Goals as goal
 
 pub returns-then-not-is_ended-clause-cut : goal.returns-then-not-is_ended-clause-cut
@@ -72,3 +72,6 @@ returns-clause-after c n seen b =
     let now : c.at.result ≡ cutter_at (stage_now (moved c.args.self.now c.args.line.now)) =
     c.at.ensures ∙ ap cutter_at (c.stage_now-stage.ensures ∙ ap stage_now c.read_line.ensures) in
     rw (is, now) (ended_line c.args.self.now c.args.line.now c.requires.one_line c.requires.takes ended seen b).1
+
+pub returns-clause-awaits : goal.returns-clause-awaits
+returns-clause-awaits c = rw (c.cut_at.ensures, c.at.ensures) (awaits_after c.stage_now-stage.result)
