@@ -32,18 +32,21 @@ enum LineEnd {
     Block,
 }
 
+// Whether nothing but newlines is here.
 fn are_newlines(line: &[Token<'_>]) -> bool
     ensures { result ≡ list_all is_newline_token (map placed line.now) }
 {
     line.iter().all(|token| token.kind == Kind::Newline)
 }
 
+// Whether nothing but comments and newlines is here.
 fn are_comments(line: &[Token<'_>]) -> bool
     ensures { result ≡ list_all is_comment_token (map placed line.now) }
 {
     line.iter().all(|token| matches!(token.kind, Kind::Newline | Kind::Comment))
 }
 
+// Whether the first token is the word of a block.
 fn begins_block(line: &[Token<'_>]) -> bool
     ensures { result ≡ begins_block (map placed line.now) }
 {
