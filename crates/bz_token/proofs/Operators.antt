@@ -1,9 +1,9 @@
 -- The longest operator at a place, from its first three bytes.
-use Rattle.std.proofs.Common.{◌≡◌, ℕ, zero, suc, ◌<◌, ◌≤◌, ◌&&◌, List, [], ◌∷◌, ◌++◌, length, take, drop, get_or, Bool, true, false, not, refl, ap, subst, ◌∙◌, arith, inl, inr}
-use Rattle.std.specs.Prelude.{nat_le, nat_lt, if◌then◌else◌}
+use Rattle.std.proofs.Common.{◌≡◌, ℕ, zero, suc, ◌<◌, ◌≤◌, ◌&&◌, List, [], ◌∷◌, ◌++◌, length, take, drop, get_or, Bool, true, false, not, refl, ap, subst, ◌∙◌, arith}
+use Rattle.std.specs.Prelude.{nat_le, nat_lt}
 use Rattle.std.specs.List.{list_all}
 use Rattle.std.proofs.Math.Seq.{take-nil}
-use Rattle.std.proofs.lemmas.Bool.{and_parts, cases_Bool, false≢true}
+use Rattle.std.proofs.lemmas.Bool.{and_parts, false≢true}
 use Rattle.std.proofs.lemmas.Bool.Decides.{nat_tests}
 use Rattle.bz_token.specs.declared.token.Kind.TheVariants.{Operator}
 use Rattle.bz_token.specs.Lexical.{operators, is_operator_text}
@@ -52,26 +52,6 @@ pub record IsOperatorLength (a b c r : ℕ) : Type 0 where
   pub longer_1 : r < 1 → is_operator_text (a ∷ []) ≡ false
   pub longer_2 : r < 2 → is_operator_text (a ∷ b ∷ []) ≡ false
   pub longer_3 : r < 3 → is_operator_text (a ∷ b ∷ c ∷ []) ≡ false
-
-pub operator_length : (a b c r : ℕ) → r ≡ (if is_operator_text (a ∷ b ∷ c ∷ []) then 3 else (if is_operator_text (a ∷ b ∷ []) then 2 else (if is_operator_text (a ∷ []) then 1 else 0))) → IsOperatorLength a b c r
-operator_length a b c r told = elim (cases_Bool (is_operator_text (a ∷ b ∷ c ∷ []))) [
-  | inl three ↦
-      let is : r ≡ 3 = rw three at told in
-      record { at_most = omega arith; operator = λ h. rw is three; longer_1 = λ h. absurd (omega arith); longer_2 = λ h. absurd (omega arith); longer_3 = λ h. absurd (omega arith) }
-  | inr no_three ↦ elim (cases_Bool (is_operator_text (a ∷ b ∷ []))) [
-    | inl two ↦
-        let is : r ≡ 2 = rw (no_three, two) at told in
-        record { at_most = omega arith; operator = λ h. rw is two; longer_1 = λ h. absurd (omega arith); longer_2 = λ h. absurd (omega arith); longer_3 = λ h. no_three }
-    | inr no_two ↦ elim (cases_Bool (is_operator_text (a ∷ []))) [
-      | inl one ↦
-          let is : r ≡ 1 = rw (no_three, no_two, one) at told in
-          record { at_most = omega arith; operator = λ h. rw is one; longer_1 = λ h. absurd (omega arith); longer_2 = λ h. no_two; longer_3 = λ h. no_three }
-      | inr no_one ↦
-          let is : r ≡ 0 = rw (no_three, no_two, no_one) at told in
-          record { at_most = omega arith; operator = λ h. absurd (omega arith); longer_1 = λ h. no_one; longer_2 = λ h. no_two; longer_3 = λ h. no_three }
-    ]
-  ]
-]
 
 -- the same in the bytes here
 pub record IsOperatorAt (bytes : List ℕ) (r : ℕ) : Type 0 where

@@ -1,6 +1,6 @@
 //! How long the token at the front of some bytes is.
 
-ghost use Rattle.std.specs.Prelude.{◌≡◌, ◌≤◌, ◌<◌, ◌+◌, ◌-◌, ◌++◌, ◌==◌, ◌∷◌, [], ℕ, true, false, not, length, take, drop, slice_index, map, if◌then◌else◌, IfOk, IfErr, IfSome, IfNone, IsTrue, bytes_eq};
+ghost use Rattle.std.specs.Prelude.{◌≡◌, ◌≤◌, ◌<◌, ◌+◌, ◌-◌, ◌++◌, ◌==◌, ◌∷◌, [], ℕ, true, false, not, length, take, drop, slice_index, map, IfOk, IfErr, IfSome, IfNone, IsTrue, bytes_eq};
 ghost use Rattle.std.specs.Char.{is_ascii_digit, is_ascii_hexdigit};
 ghost use Rattle.std.specs.List.{list_all, list_any, prefix_len};
 ghost use Rattle.bz_token.specs.declared.token.Kind.TheVariants.{Operator};
@@ -122,8 +122,11 @@ pub fn is_keyword(bytes: &[u8]) -> bool
 #[tactic(auto, unfolding(crate::specs::Lexical::operators))]
 #[inline(always)]
 fn operator_of(a: u8, b: u8, c: u8) -> usize
-    ensures { result ≡ (if is_operator_text (a ∷ b ∷ c ∷ []) then 3
-        else (if is_operator_text (a ∷ b ∷ []) then 2 else (if is_operator_text (a ∷ []) then 1 else 0))) }
+    ensures at_most { result ≤ 3 }
+    ensures operator { 0 < result → is_operator_text (take result (a ∷ b ∷ c ∷ [])) ≡ true }
+    ensures longer_1 { result < 1 → is_operator_text (a ∷ []) ≡ false }
+    ensures longer_2 { result < 2 → is_operator_text (a ∷ b ∷ []) ≡ false }
+    ensures longer_3 { result < 3 → is_operator_text (a ∷ b ∷ c ∷ []) ≡ false }
 {
     match a {
         b'~' | b'.' | b',' | b';' | b':' | b'(' | b')' | b'[' | b']' | b'{' | b'}' => 1,
