@@ -266,7 +266,7 @@ fn statement<'a>(alloc: Global, walk: Walk<'a>) -> Result<Option<Seg<'a>>, Alloc
         return Ok(None);
     };
     let seg = one_segment(alloc, content)?;
-    Ok(Some(with_rule_call(seg)?))
+    Ok(Some(with_rule_call(seg)))
 }
 
 /// The statement's segment. None: there is no tree.

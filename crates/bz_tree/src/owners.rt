@@ -61,7 +61,7 @@ fn add_to_last<'a>(segs: &mut Vec<Seg<'a>>, text: CowStr<'a>) -> Result<(), Allo
 {
     if let Some(mut seg) = segs.pop() {
         add_beside(&mut seg, text)?;
-        segs.push(seg)?;
+        segs.push_reserved(seg);
     }
     Ok(())
 }
