@@ -100,8 +100,7 @@ fn put_above<'a>(
         mem::swap(before, after);
         return Ok(());
     }
-    before.append(after)?;
-    Ok(())
+    before.append(after)
 }
 
 #[inline(always)]
