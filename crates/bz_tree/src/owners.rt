@@ -167,12 +167,11 @@ impl<'a> Walk<'a> {
         ensures whole { self.new.whole ≡ self.old.whole }
         ensures borrowed { OnOk result (walk_owned self.new ≤ walk_owned self.old + node_owned node.entry) }
     {
-        self.here.nodes.push(node)?;
-        put_before(&mut self.here)?;
-        put_above(&mut self.here.before, &mut self.after)?;
         self.last = Before::Node(line, text);
         self.trailing = false;
-        Ok(())
+        self.here.nodes.push(node)?;
+        put_before(&mut self.here)?;
+        put_above(&mut self.here.before, &mut self.after)
     }
 
     pub(crate) fn add_comma(&mut self, alloc: Global, line: u64) -> Result<(), AllocError>
