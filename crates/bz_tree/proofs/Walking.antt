@@ -1,5 +1,5 @@
 -- One more thing in an open bracket, at its level.
-use Rattle.std.proofs.Common.{◌≡◌, ℕ, ◌+◌, ◌==◌, Bool, true, false, cond, Option, Some, None, option_map, count_by, arith, refl, sym, ap, ◌∙◌}
+use Rattle.std.proofs.Common.{◌≡◌, ℕ, ◌+◌, ◌==◌, Bool, true, false, cond, Option, Some, None, option_map, count_by, Result, Ok, Err, OnOk, arith, refl, sym, ap, ◌∙◌}
 use Rattle.bz_tree.specs.declared.stmt.GroupKind.{GroupKind}
 use Rattle.bz_tree.specs.declared.kinds.Preceding.{Preceding}
 use Rattle.bz_tree.specs.declared.kinds.Preceding.TheVariants.{Operand, Other}
@@ -14,6 +14,15 @@ use Rattle.bz_tree.specs.Owners.{node, comma}
 use Rattle.bz_tree.specs.Brackets.{leaf_of, after_item, is_for_item, end_line}
 use Rattle.bz_tree.specs.private.Steps.{Walked, walked, so_far, leaf_view, has_one, kind_with, after_node, after_own, Level, with_own}
 use Rattle.bz_tree.proofs.Views.{view-Token, view-Group, view-group}
+
+-- what follows where it did not fail
+pub on_ok : {X E A B : Type 0} → (r : Result X E) → (A → B) → OnOk r A → OnOk r B
+on_ok (Ok x) f a = f a
+on_ok (Err e) f a = tt
+
+pub on_both : {X E A B C : Type 0} → (r : Result X E) → (A → B → C) → OnOk r A → OnOk r B → OnOk r C
+on_both (Ok x) f a b = f a b
+on_both (Err e) f a b = tt
 
 plus_zero : (n : ℕ) → n + 0 ≡ n
 plus_zero n = search (arith)

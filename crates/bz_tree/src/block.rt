@@ -40,17 +40,16 @@ pub(crate) struct Indents {
 }
 
 // False: no line that is open stands in this column.
-fn popped(columns: &mut Vec<u64>, column: u64) -> Result<bool, AllocError>
-    ensures { IfOk result (λ some. then_some some (reverse columns.new.items)
-        ≡ popped column (reverse columns.old.items)) }
+fn popped(columns: &mut Vec<u64>, column: u64) -> bool
+    ensures { then_some result (reverse columns.new.items) ≡ popped column (reverse columns.old.items) }
 {
     while let Some(last) = columns.pop() {
         if last == column {
-            columns.push(last)?;
-            return Ok(true);
+            columns.push_reserved(last);
+            return true;
         }
     }
-    Ok(false)
+    false
 }
 
 // False: the column is not to the right of the line above.
@@ -75,7 +74,7 @@ fn indented(opens: bool, column: u64, columns: &mut Vec<u64>) -> Result<bool, Al
     if opens {
         pushed(columns, column)
     } else {
-        popped(columns, column)
+        Ok(popped(columns, column))
     }
 }
 

@@ -114,8 +114,7 @@ impl<'a> Frame<'a> {
         self.kind = self.kind_with(token);
         self.at = kind_after(token.kind, token.text);
         self.walk
-            .add_node(Node::Token(leaf_of(token)), token.line, token.text)?;
-        Ok(())
+            .add_node(Node::Token(leaf_of(token)), token.line, token.text)
     }
 
     #[inline(always)]
@@ -126,11 +125,10 @@ impl<'a> Frame<'a> {
         self.at = Preceding::Other;
         if self.is_one() {
             self.walk
-                .add_node(Node::Token(leaf_of(token)), token.line, "")?;
+                .add_node(Node::Token(leaf_of(token)), token.line, "")
         } else {
-            self.walk.add_comma(alloc, token.line)?;
+            self.walk.add_comma(alloc, token.line)
         }
-        Ok(())
     }
 
     #[inline(always)]
@@ -148,8 +146,7 @@ impl<'a> Frame<'a> {
         ensures borrowed { OnOk result (frame_owned self.new ≤ frame_owned self.old + group_owned group.entry) }
     {
         self.at = Preceding::Operand;
-        self.walk.add_node(Node::Group(group), line, "")?;
-        Ok(())
+        self.walk.add_node(Node::Group(group), line, "")
     }
 }
 
@@ -266,7 +263,7 @@ fn statement<'a>(alloc: Global, walk: Walk<'a>) -> Result<Option<Seg<'a>>, Alloc
         return Ok(None);
     };
     let seg = one_segment(alloc, content)?;
-    Ok(Some(with_rule_call(seg)?))
+    Ok(Some(with_rule_call(seg)))
 }
 
 /// The statement's segment. None: there is no tree.

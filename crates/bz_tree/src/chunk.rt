@@ -73,11 +73,11 @@ fn kept_statement<'a>(
         (λ s. view s ≡ kept_statement (texts before.entry.items) kept.now (placed header.now) end) }
     ensures borrowed { IfOk result (λ s. owned_texts s ≡ owned_in before.entry.items) }
 {
-    let mut nodes = Vec::new(alloc);
-    nodes.push(Node::Token(Leaf {
+    let mut nodes = Vec::with_capacity(alloc, 1)?;
+    nodes.push_reserved(Node::Token(Leaf {
         kind: Kind::Kept,
         text: CowStr::Borrowed(kept),
-    }))?;
+    }));
     Ok(Stmt {
         before,
         nodes,

@@ -1,6 +1,6 @@
 //! What a statement is to the layout and to the commands.
 
-ghost use Rattle.std.specs.Prelude.{◌≡◌, map, IfOk, ◌≤◌, ◌+◌};
+ghost use Rattle.std.specs.Prelude.{◌≡◌, map, ◌≤◌, ◌+◌};
 ghost use Rattle.bz_tree.specs.Tree.{leaf};
 ghost use Rattle.bz_tree.specs.View.{text_of, node_view, nodes_view, seg_view};
 ghost use Rattle.bz_tree.specs.Statement.{is_rule, is_dot, is_call, as_rule_call, rule_call, with_rule_call, is_assign_operator, is_assign, has_assign, is_kept, is_load_word, class_of};
@@ -11,7 +11,6 @@ ghost use Rattle.bz_tree.specs.private.BorrowedSteps.{nodes_owned};
 use crate::role::is_augmented;
 use crate::stmt::{Class, Group, GroupKind, Leaf, Node, Seg};
 use bz_token::Kind;
-use std::alloc::AllocError;
 
 // What may come next in a rule: an identifier, `.` or the call, nothing.
 #[derive(Clone, Copy)]
@@ -71,30 +70,30 @@ fn as_rule_call(node: Node<'_>) -> Node<'_>
     }
 }
 
-fn rule_call(nodes: Vec<Node<'_>>) -> Result<Vec<Node<'_>>, AllocError>
-    ensures value { IfOk result (λ v. nodes_view v.items ≡ rule_call (nodes_view nodes.entry.items)) }
-    ensures borrowed { IfOk result (λ v. nodes_owned v.items ≤ nodes_owned nodes.entry.items) }
+fn rule_call(nodes: Vec<Node<'_>>) -> Vec<Node<'_>>
+    ensures value { nodes_view result.items ≡ rule_call (nodes_view nodes.entry.items) }
+    ensures borrowed { nodes_owned result.items ≤ nodes_owned nodes.entry.items }
 {
     let mut nodes = nodes;
     if let Some(node) = nodes.pop() {
-        nodes.push(as_rule_call(node))?;
+        nodes.push_reserved(as_rule_call(node));
     }
-    Ok(nodes)
+    nodes
 }
 
 /// The segment, its call marked where it is a rule.
-pub(crate) fn with_rule_call(seg: Seg<'_>) -> Result<Seg<'_>, AllocError>
-    ensures value { IfOk result (λ s. seg_view s ≡ with_rule_call (seg_view seg.entry)) }
-    ensures borrowed { IfOk result (λ s. seg_owned s ≤ seg_owned seg.entry) }
+pub(crate) fn with_rule_call(seg: Seg<'_>) -> Seg<'_>
+    ensures value { seg_view result ≡ with_rule_call (seg_view seg.entry) }
+    ensures borrowed { seg_owned result ≤ seg_owned seg.entry }
 {
     if !is_rule(&seg.nodes) {
-        return Ok(seg);
+        return seg;
     }
-    Ok(Seg {
+    Seg {
         before: seg.before,
-        nodes: rule_call(seg.nodes)?,
+        nodes: rule_call(seg.nodes),
         suffix: seg.suffix,
-    })
+    }
 }
 
 fn is_assign_operator(text: &str) -> bool

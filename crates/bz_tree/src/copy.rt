@@ -51,7 +51,7 @@ fn copy_texts<'a>(alloc: Global, comments: &[CowStr<'a>]) -> Result<Vec<CowStr<'
 {
     let mut copies = Vec::with_capacity(alloc, comments.len())?;
     for text in comments {
-        copies.push(copy_text(text)?)?;
+        copies.push_reserved(copy_text(text)?);
     }
     Ok(copies)
 }
@@ -101,7 +101,7 @@ fn copy_nodes<'a>(alloc: Global, nodes: &[Node<'a>]) -> Result<Vec<Node<'a>>, Al
 {
     let mut copies = Vec::with_capacity(alloc, nodes.len())?;
     for node in nodes {
-        copies.push(copy_node(alloc, node)?)?;
+        copies.push_reserved(copy_node(alloc, node)?);
     }
     Ok(copies)
 }
@@ -136,7 +136,7 @@ fn copy_segs<'a>(alloc: Global, segs: &[Seg<'a>]) -> Result<Vec<Seg<'a>>, AllocE
 {
     let mut copies = Vec::with_capacity(alloc, segs.len())?;
     for seg in segs {
-        copies.push(copy_parts(alloc, &seg.before, &seg.nodes, &seg.suffix)?)?;
+        copies.push_reserved(copy_parts(alloc, &seg.before, &seg.nodes, &seg.suffix)?);
     }
     Ok(copies)
 }

@@ -67,9 +67,10 @@ fn reserve_nodes(nodes: &mut Vec<Node<'_>>, following: &[Part<'_>]) -> Result<()
     ensures { OnOk result (nodes.new.items ≡ nodes.old.items) }
 {
     if nodes.is_empty() {
-        nodes.reserve_exact(nodes_with(following))?;
+        nodes.reserve_exact(nodes_with(following))
+    } else {
+        Ok(())
     }
-    Ok(())
 }
 
 // Room for the segments of a bracket. A rule has some arguments, and may get one more.
@@ -78,9 +79,10 @@ fn reserve_arguments(segs: &mut Vec<Seg<'_>>, kind: GroupKind) -> Result<(), All
     ensures { OnOk result (segs.new.items ≡ segs.old.items) }
 {
     if kind == GroupKind::RuleCall {
-        segs.reserve_exact(FIRST_ARGUMENTS)?;
+        segs.reserve_exact(FIRST_ARGUMENTS)
+    } else {
+        Ok(())
     }
-    Ok(())
 }
 
 #[inline(always)]
@@ -88,9 +90,10 @@ fn reserve_segs(segs: &mut Vec<Seg<'_>>, last: bool) -> Result<(), AllocError>
     ensures { OnOk result (segs.new.items ≡ segs.old.items) }
 {
     if last && segs.is_empty() {
-        segs.reserve_exact(1)?;
+        segs.reserve_exact(1)
+    } else {
+        Ok(())
     }
-    Ok(())
 }
 
 impl<'a> Inside<'a> {

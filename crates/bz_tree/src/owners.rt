@@ -61,7 +61,7 @@ fn add_to_last<'a>(segs: &mut Vec<Seg<'a>>, text: CowStr<'a>) -> Result<(), Allo
 {
     if let Some(mut seg) = segs.pop() {
         add_beside(&mut seg, text)?;
-        segs.push(seg)?;
+        segs.push_reserved(seg);
     }
     Ok(())
 }
@@ -100,8 +100,7 @@ fn put_above<'a>(
         mem::swap(before, after);
         return Ok(());
     }
-    before.append(after)?;
-    Ok(())
+    before.append(after)
 }
 
 #[inline(always)]
@@ -168,12 +167,11 @@ impl<'a> Walk<'a> {
         ensures whole { self.new.whole ≡ self.old.whole }
         ensures borrowed { OnOk result (walk_owned self.new ≤ walk_owned self.old + node_owned node.entry) }
     {
-        self.here.nodes.push(node)?;
-        put_before(&mut self.here)?;
-        put_above(&mut self.here.before, &mut self.after)?;
         self.last = Before::Node(line, text);
         self.trailing = false;
-        Ok(())
+        self.here.nodes.push(node)?;
+        put_before(&mut self.here)?;
+        put_above(&mut self.here.before, &mut self.after)
     }
 
     pub(crate) fn add_comma(&mut self, alloc: Global, line: u64) -> Result<(), AllocError>
