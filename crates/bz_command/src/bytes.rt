@@ -43,8 +43,15 @@ pub(crate) fn next<'a>(bytes: Bytes<'a>) -> Option<(u8, Bytes<'a>)>
     ensures good { IfSome result (λ p. IsTrue (is_good p.1)) }
 {
     match bytes {
-        Bytes::Plain([]) => None,
-        Bytes::Plain([b, rest @ ..]) => Some((*b, Bytes::Plain(rest))),
-        Bytes::Inner(literal) => next_in(literal).map(|(b, after)| (b, Bytes::Inner(after))),
+        Bytes::Plain(slice) => {
+            let [b, rest @ ..] = slice else {
+                return None;
+            };
+            Some((*b, Bytes::Plain(rest)))
+        }
+        Bytes::Inner(literal) => {
+            let (b, after) = next_in(literal)?;
+            Some((b, Bytes::Inner(after)))
+        }
     }
 }

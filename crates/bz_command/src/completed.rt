@@ -101,7 +101,7 @@ fn starts_with(text: Bytes<'_>, byte: u8) -> bool
     requires { IsTrue (is_good text) }
     ensures { result ≡ begins byte (left text.entry) }
 {
-    next(text).is_some_and(|(b, _)| b == byte)
+    matches!(next(text), Some((b, _)) if b == byte)
 }
 
 // A name alone.
@@ -109,7 +109,7 @@ fn is_local(text: Bytes<'_>) -> bool
     requires { IsTrue (is_good text) }
     ensures { result ≡ same.is_local (left text.entry) }
 {
-    next(text).is_some_and(|(b, _)| b != b'/' && b != b'@') && !has_colon(text)
+    matches!(next(text), Some((b, _)) if b != b'/' && b != b'@') && !has_colon(text)
 }
 
 // A path without a colon.
@@ -117,7 +117,7 @@ fn is_path(text: Bytes<'_>) -> bool
     requires { IsTrue (is_good text) }
     ensures { result ≡ is_bare_path (left text.entry) }
 {
-    next(text).is_some_and(|(b, rest)| b == b'/' && starts_with(rest, b'/')) && !has_colon(text)
+    matches!(next(text), Some((b'/', rest)) if starts_with(rest, b'/')) && !has_colon(text)
 }
 
 fn has_colon(mut text: Bytes<'_>) -> bool

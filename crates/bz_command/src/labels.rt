@@ -39,9 +39,17 @@ pub fn read_label(alloc: Global, text: &str) -> Result<(Package, Target), LabelF
     ensures { result ≢ Err LabelFault.OutOfMemory → result ≡ spec.label_of text.now }
 {
     match text.split_once(':') {
-        Some((package, target)) => Ok((read_package(alloc, package)?, read_target(alloc, target)?)),
+        Some((path, target)) => read_pair(alloc, path, target),
         None => read_named(alloc, text),
     }
+}
+
+// What stands before the colon, and what stands after it.
+fn read_pair(alloc: Global, path: &str, target: &str) -> Result<(Package, Target), LabelFault>
+    ensures { result ≢ Err LabelFault.OutOfMemory
+        → result ≡ spec.pair_of (spec.package_of path.now) (spec.target_of target.now) }
+{
+    Ok((read_package(alloc, path)?, read_target(alloc, target)?))
 }
 
 // A label without a colon.

@@ -156,14 +156,25 @@ fn read_comment(mut words: Vec<Text>) -> Result<Command, CommandFault>
     ensures { result ≡ spec.comment_of words.items }
 {
     let first = next_word(&mut words)?;
-    let Some(second) = take_word(&mut words) else {
-        return comment_before(Commented::Rule, first);
-    };
-    let Some(third) = take_word(&mut words) else {
-        return comment_before(Commented::Attribute(attribute(first)?), second);
+    match take_word(&mut words) {
+        Some(second) => read_attribute_comment(first, second, words),
+        None => comment_before(Commented::Rule, first),
+    }
+}
+
+// Before an attribute, or before a value of it where a third word follows.
+fn read_attribute_comment(
+    attr: Text,
+    second: Text,
+    mut words: Vec<Text>,
+) -> Result<Command, CommandFault>
+    ensures { result ≡ spec.comment_of (attr ∷ second ∷ words.items) }
+{
+    let Some(text) = take_word(&mut words) else {
+        return comment_before(Commented::Attribute(attribute(attr)?), second);
     };
     no_words(words)?;
-    comment_before(Commented::Value(attribute(first)?, second), third)
+    comment_before(Commented::Value(attribute(attr)?, second), text)
 }
 
 fn comment_before(place: Commented, text: Text) -> Result<Command, CommandFault>
