@@ -1,13 +1,12 @@
 //! `remove`: attributes go, or elements of them.
 
-ghost use Rattle.std.specs.Prelude.{◌≡◌, ◌&&◌, [], None, map, IfOk, OnOk, OnErr};
+ghost use Rattle.std.specs.Prelude.{◌≡◌, [], None, map, IfOk, OnOk, OnErr};
 ghost use Rattle.bz_tree.specs.View.{seg_view, segs_view};
 ghost use Rattle.bz_attribute.specs.Effects as spec;
-ghost use Rattle.bz_attribute.specs.Lists.{is_attribute};
 ghost use Rattle.bz_attribute.specs.Rules.{first_named, is_named};
 ghost use Rattle.bz_attribute.specs.private.ChosenViews.{chosen_view};
 ghost use Rattle.bz_attribute.specs.private.Places.{IsFirst};
-ghost use Rattle.bz_list_commands.specs.private.EditSteps.{any_has_any, cleared, edit_attribute, goes, has_any, is_lost};
+ghost use Rattle.bz_list_commands.specs.private.EditSteps.{any_has_any, cleared, edit_attribute, goes, has_any};
 
 use bz_attribute::chosen::{Chosen, drop_in, is_any_chosen, loses_all};
 use bz_attribute::done::Done;
@@ -117,25 +116,11 @@ fn remove_everywhere<'v>(
 {
     let words = word_set(alloc, home, values)?;
     let chosen = Chosen::Words(&words);
-    let changed = args.iter().any(|arg| has_chosen(home, chosen, arg));
-    args.retain(|arg| !is_lost(home, chosen, arg));
+    let changed = args.iter().any(|arg| is_attribute(arg)
+        && is_any_chosen(home, chosen, value_of(arg)));
+    args.retain(|arg| !is_attribute(arg) || !loses_all(home, chosen, arg));
     drop_everywhere(home, chosen, args);
     Ok(Done::quiet(changed))
-}
-
-// It is an attribute that has a chosen element.
-fn has_chosen(home: &Package, chosen: Chosen<'_, '_>, arg: &Seg<'_>) -> bool
-    ensures { result ≡ (is_attribute (seg_view arg.now)
-        && spec.chooses home.now (chosen_view chosen.entry) (seg_view arg.now)) }
-{
-    is_attribute(arg) && is_any_chosen(home, chosen, value_of(arg))
-}
-
-// It is an attribute that loses all its elements.
-fn is_lost(home: &Package, chosen: Chosen<'_, '_>, arg: &Seg<'_>) -> bool
-    ensures { result ≡ is_lost (spec.unchosen home.now (chosen_view chosen.entry)) (seg_view arg.now) }
-{
-    is_attribute(arg) && loses_all(home, chosen, arg)
 }
 
 fn drop_everywhere(home: &Package, chosen: Chosen<'_, '_>, args: &mut [Seg<'_>])

@@ -1,15 +1,11 @@
-use Rattle.std.proofs.Common.{◌≡◌, ℕ, ◌≤◌, ◌+◌, ◌++◌, List, Bool, length, take, drop, refl, ap, sym, subst, ◌∙◌, arith, rules, if◌then◌else◌, true}
+use Rattle.std.proofs.Common.{◌≡◌, ℕ, ◌≤◌, ◌+◌, ◌++◌, List, Bool, length, take, drop, refl, ap, ◌∙◌, arith, rules, if◌then◌else◌, true}
 use Rattle.std.specs.Result.{is_ok}
 use Rattle.std.specs.Vec.{vec_len, vec_capacity}
 use Rattle.std.proofs.lemmas.List.{drop_at, length-map, map-append, take_at}
-use Rattle.bz_tree.specs.declared.stmt.Node.{Node, Token}
-use Rattle.bz_tree.specs.declared.stmt.Leaf.{Leaf}
+use Rattle.bz_tree.specs.declared.stmt.Node.{Node}
 use Rattle.bz_tree.specs.declared.stmt.Group.{out-Group}
 use Rattle.bz_tree.specs.declared.stmt.Seg.{Seg}
 use Rattle.bz_tree.specs.View.{node_view, seg_view, segs_view}
-use Rattle.bz_tree.specs.Tree.{Segment}
-use Rattle.bz_tree.proofs.Views.{view-Token}
-use Rattle.bz_attribute.specs.Lists.{edit_list}
 use Rattle.bz_attribute.specs.Rules.{elements}
 use Rattle.bz_attribute.proofs.Groups.{edited_group, elements_group}
 use Rattle.bz_list_commands.proofs.moving.put_in_list.Goals as goal
@@ -30,11 +26,3 @@ returns-in-Group c =
     let count : length c.args.later.items ≡ c.len-count.result = omega (arith, c.len-count.ensures, c.args.later.ok.0) in
     let after = c.rotate_left.ensures.items ∙ turned there.items c.args.later.items c.append.new.self.items c.len-count.result joined count in
     rw c.in-Group.is (edited_group (λ there. there ++ segs_view c.args.later.items) c.in-Group.group _ refl refl refl (ap segs_view after ∙ map-append seg_view there.items c.args.later.items))
-
-token_stays : (f : List Segment → List Segment) (t : Leaf) → node_view (Token t) ≡ edit_list f (node_view (Token t))
-token_stays f t = view-Token t ∙ sym (ap (edit_list f) (view-Token t))
-
-pub returns-in_default : goal.returns-in_default
-returns-in_default c =
-    let f : List Segment → List Segment = λ there. there ++ segs_view c.args.later.items in
-    subst (λ (z : Node). node_view z ≡ edit_list f (node_view z)) (sym c.in_default.is) (token_stays f c.in_default.field-0)

@@ -1,11 +1,8 @@
-use Rattle.std.proofs.Common.{◌≡◌, ℕ, List, Option, None, ap, sym, ◌∙◌}
-use Rattle.bz_tree.specs.declared.stmt.Seg.{Seg}
-use Rattle.bz_tree.specs.Tree.{Segment}
+use Rattle.std.proofs.Common.{ℕ, List, None, ap, ◌∙◌}
 use Rattle.bz_tree.specs.View.{segs_view}
 use Rattle.bz_command.specs.declared.command.Moved.TheVariants.{Values}
 use Rattle.bz_attribute.specs.Rules.{first_named, is_named}
 use Rattle.bz_attribute.specs.Effects.{chooses_in, done, edit_first, filtered, unchosen}
-use Rattle.bz_list_commands.proofs.FirstFiltered.{absent_stays}
 use Rattle.bz_list_commands.proofs.remove.remove_values.Goals as goal
 
 pub drop_chosen-requires : goal.drop_chosen-requires
@@ -20,11 +17,3 @@ pub returns-clause-done : goal.returns-clause-done
 returns-clause-done c =
     c.drop_chosen.ensures.done c.args.attr.now (rw c.deref.ensures.value at c.in-Some.ensures.some)
     ∙ ap (λ (words : List (List ℕ)). done None (chooses_in c.args.home.now (Values words) (first_named c.args.attr.now (segs_view c.args.args.now.items)))) c.in_ok-words.ensures
-
-pub returns-in_default-clause-args : goal.returns-in_default-clause-args
-returns-in_default-clause-args c = absent_stays c.args.attr.now (filtered (unchosen c.args.home.now (Values c.args.values.now))) c.deref.result.now c.args.args.now.items c.in_default.ensures.none c.deref.ensures.value
-
-pub returns-in_default-clause-done : goal.returns-in_default-clause-done
-returns-in_default-clause-done c =
-    let none : first_named c.args.attr.now (segs_view c.args.args.now.items) ≡ None = ap (λ (ss : List Seg). first_named c.args.attr.now (segs_view ss)) (sym c.deref.ensures.value) ∙ c.in_default.ensures.none.none in
-    c.quiet.ensures ∙ sym (ap (λ (a : Option Segment). done None (chooses_in c.args.home.now (Values c.args.values.now) a)) none)

@@ -1,17 +1,11 @@
-use Rattle.std.proofs.Common.{◌≡◌, ℕ, ◌+◌, List, ◌∷◌, Bool, drop, ap, sym, ◌∙◌, arith, if◌then◌else◌}
-use Rattle.std.proofs.lemmas.List.{drop_all, drop_more}
+use Rattle.std.proofs.Common.{◌≡◌, ◌+◌, List, ◌∷◌, Bool, drop, ap, sym, ◌∙◌, arith, if◌then◌else◌}
+use Rattle.std.proofs.lemmas.List.{drop_more}
 use Rattle.bz_tree.specs.declared.stmt.Seg.{Seg}
 use Rattle.bz_tree.specs.View.{seg_view, segs_view}
 use Rattle.bz_attribute.specs.Rules.{value}
 use Rattle.bz_list_commands.specs.private.ReplaceSteps.{old_at, old_everywhere, old_in}
 use Rattle.bz_list_commands.proofs.replace.count_old.Goals as goal
 use Rattle.bz_list_commands.proofs.replace.count_old.Goals.{then-is_attribute+in_ok-more+in_ok-count, else-is_attribute}
-
-nothing_yet : (n : ℕ) → 0 + n ≡ n
-nothing_yet n = omega arith
-
-none_left : (count rest all : ℕ) → rest ≡ 0 → count + rest ≡ all → count ≡ all
-none_left count rest all none h = omega arith
 
 pub loop-arg-preserved : goal.loop-arg-preserved
 loop-arg-preserved c =
@@ -28,9 +22,3 @@ loop-arg-preserved c =
           let none : old_at c.args.change (seg_view x) ≡ 0 = ap (λ (b : Bool). if b then old_in c.args.change (value (seg_view x)) else 0) (sym c.is_attribute.ensures ∙ w.if-is_attribute.false) in
           omega (arith, w.count-is, none, here, c.loop-arg.invariant)
     ]
-
-pub loop-arg-init : goal.loop-arg-init
-loop-arg-init c = nothing_yet (old_everywhere c.args.change (segs_view c.args.args.now))
-
-pub returns : goal.returns
-returns c = none_left c.loop-arg.count _ _ (ap (λ (ss : List Seg). old_everywhere c.args.change (segs_view ss)) (drop_all c.loop-arg.arg-index c.args.args.now c.loop-arg-test.false)) c.loop-arg.invariant

@@ -1,4 +1,4 @@
-use Rattle.std.proofs.Common.{◌≡◌, ℕ, ◌+◌, ◌<◌, ◌≤◌, List, [], ◌∷◌, ◌++◌, Bool, true, false, if◌then◌else◌, length, drop, get_or, refl, ap, subst, sym, ◌∙◌, arith}
+use Rattle.std.proofs.Common.{◌≡◌, ℕ, ◌+◌, ◌<◌, ◌≤◌, List, [], ◌∷◌, ◌++◌, Bool, true, false, if◌then◌else◌, length, refl, ap, subst, sym, ◌∙◌, arith}
 use Rattle.std.proofs.lemmas.List.{length-append}
 use Rattle.bz_tree.specs.declared.stmt.Seg.{Seg, roll-Seg}
 use Rattle.bz_tree.specs.Tree.{Item, Segment}
@@ -22,10 +22,10 @@ takes_none c s n pool has h = record {
 
 -- the last of the strings
 last_string : (v : List ℕ) (pool : List Seg) (s : Seg) → AreStrings v (pool ++ s ∷ []) → AreStrings v pool × (seg_view s ≡ string v)
-last_string v [] s h = (refl, ap (λ (ss : List Segment). get_or ss 0 (string v)) h)
+last_string v [] s h = (refl, cc)
 last_string v (p ∷ pool) s h =
-    let rest = last_string v pool s (ap (λ (ss : List Segment). drop 1 ss) h) in
-    ((λ i. get_or (h i) 0 (string v) ∷ rest.0 i), rest.1)
+    let rest = last_string v pool s cc in
+    (ap (λ (ss : List Segment). seg_view p ∷ ss) rest.0 ∙ cc, rest.1)
 
 is_put : (c : Change) (s string : Seg) (n : ℕ) (old pool : List Seg) → HasStrings c n old → true ≡ goes c (seg_view s) → old ≡ pool ++ string ∷ []
     → seg_view (roll-Seg (record { before = s.before; nodes = string.nodes; suffix = s.suffix })) ≡ replaced c.home.now c.old.now c.new.now (seg_view s)

@@ -16,6 +16,3 @@ pub returns-clause-done : goal.returns-clause-done
 returns-clause-done c =
     let all : c.len.result + count_everywhere (goes c.args.change) (segs_view c.args.args.now) ≡ c.in_ok-count.count = omega (arith, c.len.ensures, c.put_in_args.new.pool.ok.0, c.put_in_args.ensures.pool.left, c.in_ok-pool.ensures.count) in
     c.quiet.ensures ∙ ap (λ (b : Bool). done None b) (shorter c.len.result (count_everywhere (goes c.args.change) (segs_view c.args.args.now)) c.in_ok-count.count all ∙ sym (any_everywhere (goes c.args.change) (segs_view c.args.args.now)))
-
-pub returns-clause-args : goal.returns-clause-args
-returns-clause-args c = c.put_in_args.ensures.args

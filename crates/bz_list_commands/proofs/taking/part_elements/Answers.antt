@@ -1,34 +1,11 @@
-use Rattle.std.proofs.Common.{◌≡◌, ◌+◌, ◌<◌, List, true, false, length, filter, get_or, ◌≤◌, suc, ℕ, Bool, refl, subst, ap, sym, ◌∙◌, arith}
+use Rattle.std.proofs.Common.{◌≡◌, ◌+◌, ◌<◌, List, true, false, length, filter, get_or, ap, sym, ◌∙◌, arith}
 use Rattle.std.proofs.lemmas.List.{drop-set-lt, get_or_default, take-map}
 use Rattle.bz_tree.specs.declared.stmt.Seg.{Seg}
-use Rattle.bz_tree.specs.Tree.{Segment}
 use Rattle.bz_tree.specs.View.{seg_view, segs_view}
-use Rattle.bz_list_commands.proofs.Leaving.{Parted, fails_at, parted_keep, parted_left, parted_out, parted_take, passes_at, swapped_rest}
+use Rattle.bz_list_commands.proofs.Leaving.{fails_at, parted_keep, parted_left, parted_out, parted_take, passes_at, swapped_rest}
 use Rattle.bz_list_commands.specs.private.TakingSteps.{is_meant}
 use Rattle.bz_list_commands.proofs.taking.part_elements.Goals as goal
 use Rattle.bz_list_commands.proofs.taking.part_elements.Goals.{then-is_chosen, else-is_chosen}
-
-starts : (p : Segment → Bool) (old before : List Seg) → Parted p old before old before 0 0
-starts p old before = record { after = omega arith; out = refl; left = refl }
-
-has_room : (held n m capacity : ℕ) → n ≡ suc m → held + n ≤ capacity → held < capacity
-has_room held n m capacity some fits = omega arith
-
-below : (k i n : ℕ) → k ≤ i → i < n → k < n
-below k i n a b = omega arith
-
-pub loop-i-init : goal.loop-i-init
-loop-i-init c = record { parted = starts (is_meant c.args.choice) c.args.elements.now c.args.taken.now.items; room = c.requires; capacity = refl }
-
-pub push_reserved-requires : goal.push_reserved-requires
-push_reserved-requires c =
-    let within : c.loop-i.i < length c.loop-i.elements = subst (λ (n : ℕ). c.loop-i.i < n) (sym c.loop-i.auto.elements) c.loop-i-test.true in
-    has_room _ _ _ _ (ap length (passes_at (is_meant c.args.choice) c.loop-i.elements c.loop-i.i c.index-elements-i.result within (sym c.is_chosen.ensures ∙ c.if-is_chosen.true))) c.loop-i.invariant.room
-
-pub swap-requires : goal.swap-requires
-swap-requires c =
-    let within : c.loop-i.i < length c.loop-i.elements = subst (λ (n : ℕ). c.loop-i.i < n) (sym c.loop-i.auto.elements) c.loop-i-test.true in
-    record { a_in_bounds = below c.loop-i.kept c.loop-i.i _ c.loop-i.invariant.parted.after within; b_in_bounds = within }
 
 pub returns-clause-left : goal.returns-clause-left
 returns-clause-left c = take-map seg_view _ _ ∙ parted_left _ _ _ _ _ _ _ c.loop-i.invariant.parted (omega (arith, c.loop-i-test.false, c.loop-i.auto.elements))
