@@ -2,7 +2,6 @@
 
 ghost use Rattle.std.specs.Prelude.{◌≡◌, ◌<◌, ◌+◌, length, get_or, drop, IfSome, IfNone, []};
 ghost use Rattle.std.specs.List.{list_all};
-ghost use Rattle.bz_tree.specs.Tree.{leaf};
 ghost use Rattle.bz_tree.specs.View.{node_view, nodes_view, seg_view, segs_view};
 ghost use Rattle.bz_attribute.specs.Rules.{elements};
 ghost use Rattle.bz_attribute.specs.Lists as spec;
@@ -23,19 +22,12 @@ fn is_joint(node: &Node<'_>) -> bool
     ensures { result ≡ spec.is_joint (node_view node.now) }
 {
     match node {
-        Node::Token(leaf) => is_joint_token(leaf.kind, leaf.text.as_str()),
+        Node::Token(leaf) => match leaf.kind {
+            Kind::Keyword => false,
+            Kind::Operator => matches!(leaf.text.as_str(), "+" | "."),
+            _ => true,
+        },
         Node::Group(_) => true,
-    }
-}
-
-#[inline(always)]
-fn is_joint_token(kind: Kind, text: &str) -> bool
-    ensures { result ≡ spec.is_joint (leaf kind text.now) }
-{
-    match kind {
-        Kind::Keyword => false,
-        Kind::Operator => text == "+" || text == ".",
-        _ => true,
     }
 }
 
