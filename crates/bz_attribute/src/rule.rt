@@ -128,6 +128,7 @@ pub fn only_text<'n>(nodes: &'n [Node<'_>]) -> Option<&'n str>
     }
 }
 
+#[inline(always)]
 fn text_of<'n>(node: &'n Node<'_>) -> Option<&'n str>
     ensures { option_map (λ text. text.now) result ≡ spec.text_of (node_view node.now) }
 {
