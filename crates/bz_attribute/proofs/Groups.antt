@@ -6,6 +6,7 @@ use Rattle.bz_tree.specs.declared.stmt.Node.TheOpen.{Group-F}
 use Rattle.bz_tree.specs.declared.stmt.Group.{Group as GroupValue, out-Group, roll-Group}
 use Rattle.bz_tree.specs.declared.stmt.Seg.{Seg}
 use Rattle.bz_tree.specs.Tree.{group, Segment, segs_of}
+use Rattle.bz_tree.proofs.Views.{view-seg}
 use Rattle.bz_tree.specs.View.{node_view, seg_view, nodes_view, segs_view, texts}
 use Rattle.bz_attribute.specs.Lists.{edit_list}
 use Rattle.bz_attribute.specs.Rules.{elements}
@@ -23,4 +24,4 @@ pub elements_group : (g : GroupValue) → elements (node_view (Group g)) ≡ seg
 elements_group g = rw (view_of_group g) (segments_of (segs_view (out-Group g).segs.items))
 
 pub view_of_seg : (s : Seg) → seg_view s ≡ record { before = texts s.before.items; nodes = nodes_view s.nodes.items; suffix = option_map cow_str_bytes s.suffix }
-view_of_seg s = search (rules, the_lemmas)
+view_of_seg s = view-seg s

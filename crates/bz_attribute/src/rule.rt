@@ -52,7 +52,10 @@ fn are_dotted(kind: &[Node<'_>]) -> bool
         }
         left = rest;
     }
-    matches!(left, [name] if ident_of(name).is_some())
+    match left {
+        [name] => ident_of(name).is_some(),
+        _ => false,
+    }
 }
 
 pub fn is_operator_item(node: &Node<'_>, operator: &str) -> bool
@@ -83,7 +86,10 @@ pub fn name_of<'n>(nodes: &'n [Node<'_>]) -> Option<&'n str>
 pub fn is_named(arg: &Seg<'_>, name: &str) -> bool
     ensures { result ≡ spec.is_named name.now (seg_view arg.now) }
 {
-    name_of(&arg.nodes).is_some_and(|other| other == name)
+    match name_of(&arg.nodes) {
+        None => false,
+        Some(other) => name == other,
+    }
 }
 
 /// Where the first argument of a name stands.
@@ -116,9 +122,16 @@ pub fn value_of<'n, 'a>(arg: &'n Seg<'a>) -> &'n [Node<'a>]
 pub fn only_text<'n>(nodes: &'n [Node<'_>]) -> Option<&'n str>
     ensures { option_map (λ text. text.now) result ≡ spec.only_text (nodes_view nodes.now) }
 {
-    let [node] = nodes else {
-        return None;
-    };
+    match nodes {
+        [node] => text_of(node),
+        _ => None,
+    }
+}
+
+#[inline(always)]
+fn text_of<'n>(node: &'n Node<'_>) -> Option<&'n str>
+    ensures { option_map (λ text. text.now) result ≡ spec.text_of (node_view node.now) }
+{
     match node {
         Node::Token(leaf) if matches!(leaf.kind, Kind::String) => Some(leaf.text.as_str()),
         _ => None,
@@ -129,7 +142,10 @@ pub fn only_text<'n>(nodes: &'n [Node<'_>]) -> Option<&'n str>
 pub fn is_string(nodes: &[Node<'_>], value: &str) -> bool
     ensures { result ≡ spec.is_text value.now (spec.string_value (nodes_view nodes.now)) }
 {
-    only_text(nodes).is_some_and(|text| has_value(text.as_bytes(), value.as_bytes()))
+    match only_text(nodes) {
+        None => false,
+        Some(text) => has_value(text.as_bytes(), value.as_bytes()),
+    }
 }
 
 /// The text of the string token that the first argument `name` of a rule is.

@@ -57,10 +57,13 @@ pub(crate) fn count_in(choice: Choice<'_, '_, '_>, value: &[Node<'_>]) -> Result
 fn count_elements(choice: Choice<'_, '_, '_>, elements: &[Seg<'_>]) -> usize
     ensures { result ≡ length (leave choice.entry (segs_view elements.now)) }
 {
-    elements
-        .iter()
-        .filter(|element| is_chosen(choice.home, choice.chosen, element))
-        .count()
+    let mut count = 0;
+    for element in elements {
+        if is_chosen(choice.home, choice.chosen, element) {
+            count += 1;
+        }
+    }
+    count
 }
 
 /// Moves the chosen elements of the first argument of a name to the end of `taken`. The argument goes where none is

@@ -1,5 +1,6 @@
 use Rattle.std.proofs.Common.{◌≡◌, ℕ, ◌+◌, ◌<◌, List, [], ◌∷◌, ◌++◌, length, get_or, drop, map, ap, sym, ◌∙◌, append_assoc}
-use Rattle.std.proofs.lemmas.List.{drop_more}
+use Rattle.std.proofs.lemmas.List.{append-nil, drop_all, drop_more}
+use Rattle.bz_tree.specs.declared.stmt.Seg.{Seg}
 use Rattle.bz_tree.specs.Tree.{Segment}
 use Rattle.bz_tree.specs.View.{segs_view}
 use Rattle.bz_attribute.specs.Effects.{string}
@@ -16,3 +17,13 @@ pub loop-value-preserved : goal.loop-value-preserved
 loop-value-preserved c =
     one_more c.args.values.now c.value-item.result c.value-item.result c.loop-value.value-index _ _ c.loop-value-test.true c.value-item.is
     (c.in_ok-push_string.ensures ∙ ap (λ (w : List ℕ). segs_view c.loop-value.segs.items ++ string w ∷ []) c.as_str.ensures) ∙ c.loop-value.invariant
+
+pub loop-value-init : goal.loop-value-init
+loop-value-init c = ap (λ (ss : List Seg). segs_view ss ++ map string c.args.values.now) c.in_ok-segs.ensures.items
+
+pub returns : goal.returns
+returns c =
+    let made = segs_view c.loop-value.segs.items in
+    sym (append-nil made)
+    ∙ sym (ap (λ (ws : List (List ℕ)). made ++ map string ws) (drop_all c.loop-value.value-index c.args.values.now c.loop-value-test.false))
+    ∙ c.loop-value.invariant

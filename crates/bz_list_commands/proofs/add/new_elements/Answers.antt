@@ -1,6 +1,6 @@
 use Rattle.std.proofs.Common.{ℕ, List, [], ◌∷◌, ◌++◌, get_or, map, refl, ap, sym, ◌∙◌, arith, take, ◌<◌, length}
 use Rattle.std.specs.Global.{Vec}
-use Rattle.std.proofs.lemmas.List.{get_or_default}
+use Rattle.std.proofs.lemmas.List.{append-nil, drop_all, get_or_default}
 use Rattle.bz_tree.specs.declared.stmt.Seg.{Seg}
 use Rattle.bz_tree.specs.View.{nodes_view, segs_view}
 use Rattle.bz_attribute.specs.Lists.{parts}
@@ -40,3 +40,11 @@ loop-i-preserved c =
             ∙ c.loop-i.invariant.added
       ];
     }
+
+pub returns : goal.returns
+returns c =
+    let values = c.args.values.now in
+    let made = segs_view c.loop-i.new.items in
+    sym (append-nil made)
+    ∙ sym (ap (λ (ws : List (List ℕ)). made ++ map string (fresh c.args.home.now (parts (nodes_view c.args.value.now)) (take c.loop-i.i values) ws)) (drop_all c.loop-i.i values c.loop-i-test.false))
+    ∙ c.loop-i.invariant.added
