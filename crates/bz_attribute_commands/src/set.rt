@@ -96,8 +96,9 @@ fn set_in(alloc: Global, attr: &str, words: &[Text], arg: &mut Seg<'_>) -> Resul
     ensures unchanged { spec.sets attr.now words.now (Some (seg_view arg.old)) ≡ false → IsOk result }
     ensures err { OnErr result (seg_view arg.new ≡ seg_view arg.old) }
 {
-    let new = new_of(attr, words, value_of(arg));
-    if is_value(new, value_of(arg)) {
+    let value = value_of(arg);
+    let new = new_of(attr, words, value);
+    if is_value(new, value) {
         return Ok(Done::quiet(false));
     }
     arg.nodes.reserve(1)?;
@@ -119,15 +120,31 @@ fn new_of<'w>(attr: &str, words: &'w [Text], was: &[Node<'_>]) -> New<'w>
     }
 }
 
-// The attribute is a list in all rules.
+// The attributes that are lists in all rules.
+const LIST_ATTRIBUTES: [&str; 17] = [
+    "srcs",
+    "hdrs",
+    "textual_hdrs",
+    "deps",
+    "runtime_deps",
+    "exports",
+    "data",
+    "tools",
+    "outs",
+    "visibility",
+    "default_visibility",
+    "tags",
+    "copts",
+    "defines",
+    "includes",
+    "linkopts",
+    "features",
+];
+
 fn is_list_attribute(attr: &str) -> bool
     ensures { result ≡ spec.is_list_attribute attr.now }
 {
-    match attr {
-        "srcs" | "hdrs" | "textual_hdrs" | "deps" | "runtime_deps" | "exports" | "data" => true,
-        "tools" | "outs" | "visibility" | "default_visibility" | "tags" | "copts" => true,
-        _ => matches!(attr, "defines" | "includes" | "linkopts" | "features"),
-    }
+    LIST_ATTRIBUTES.contains(&attr)
 }
 
 fn new_word(word: &str) -> New<'_>
@@ -168,9 +185,36 @@ fn is_value(new: New<'_>, value: &[Node<'_>]) -> bool
 {
     match new {
         New::String(word) => is_string(value, word),
-        New::Number(digits) => matches!(value, [node] if is_int(digits, node)),
-        New::Constant(name) => matches!(value, [node] if ident_of(node) == Some(name)),
-        New::Strings(words) => one_list(value).is_some_and(|elements| are_strings(words, elements)),
+        New::Number(digits) => is_only_int(digits, value),
+        New::Constant(name) => is_only_ident(name, value),
+        New::Strings(words) => is_list_of(words, value),
+    }
+}
+
+fn is_only_int(digits: &str, value: &[Node<'_>]) -> bool
+    ensures { result ≡ spec.is_only (spec.is_int digits.now) (nodes_view value.now) }
+{
+    match value {
+        [node] => is_int(digits, node),
+        _ => false,
+    }
+}
+
+fn is_only_ident(name: &str, value: &[Node<'_>]) -> bool
+    ensures { result ≡ spec.is_only (spec.is_ident name.now) (nodes_view value.now) }
+{
+    match value {
+        [node] => ident_of(node) == Some(name),
+        _ => false,
+    }
+}
+
+fn is_list_of(words: &[Text], value: &[Node<'_>]) -> bool
+    ensures { result ≡ spec.is_value (spec.NewStrings words.now) (nodes_view value.now) }
+{
+    match one_list(value) {
+        None => false,
+        Some(elements) => are_strings(words, elements),
     }
 }
 

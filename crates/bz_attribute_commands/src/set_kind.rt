@@ -76,6 +76,8 @@ fn push_token(
 ) -> Result<(), AllocError>
     ensures { OnOk result (nodes_view nodes.new.items ≡ nodes_view nodes.old.items ++ leaf kind text.now ∷ []) }
 {
-    nodes.push(token(alloc, kind, text)?)?;
+    nodes.reserve(1)?;
+    let node = token(alloc, kind, text)?;
+    nodes.push_reserved(node);
     Ok(())
 }

@@ -10,37 +10,37 @@ use Rattle.bz_attribute_commands.specs.private.SettingViews.{new_view}
 use Rattle.bz_attribute_commands.proofs.set.set_in.Goals as goal
 
 -- what was tested of the value that is there
-tested : (attr : List ℕ) (words : List (List ℕ)) (a : Segment) (new : New) (first second : List Item) (b : Bool) → ((was : Option Segment) → holds_list was ≡ is_one_list first → new ≡ new_of attr words was)
-    → first ≡ value a → second ≡ value a → b ≡ is_value new second → b ≡ is_value (new_of attr words (Some a)) (value a)
-tested attr words a new first second b told one other is =
-    let same : new ≡ new_of attr words (Some a) = told (Some a) (ap is_one_list (sym one)) in
-    is ∙ (λ j. is_value (same j) (other j))
+tested : (attr : List ℕ) (words : List (List ℕ)) (a : Segment) (new : New) (read : List Item) (b : Bool) → ((was : Option Segment) → holds_list was ≡ is_one_list read → new ≡ new_of attr words was)
+    → read ≡ value a → b ≡ is_value new read → b ≡ is_value (new_of attr words (Some a)) (value a)
+tested attr words a new read b told same_value is =
+    let same : new ≡ new_of attr words (Some a) = told (Some a) (ap is_one_list (sym same_value)) in
+    is ∙ (λ j. is_value (same j) (same_value j))
 
 pub returns-then-is_value-clause-arg : goal.returns-then-is_value-clause-arg
 returns-then-is_value-clause-arg c =
     let a = seg_view c.args.arg.now in
-    let is = tested c.args.attr.now c.args.words.now a (new_view c.new_of-new.result) (nodes_view c.value_of.result.now) (nodes_view c.value_of-2.result.now) true c.new_of-new.ensures c.value_of.ensures c.value_of-2.ensures c.if-is_value.ensures in
+    let is = tested c.args.attr.now c.args.words.now a (new_view c.new_of-new.result) (nodes_view c.value_of-value.result.now) true c.new_of-new.ensures c.value_of-value.ensures c.if-is_value.ensures in
     ap (λ (b : Bool). if b then a else with_value (new_value (new_of c.args.attr.now c.args.words.now (Some a))) a) is
 
 pub returns-then-is_value-clause-done : goal.returns-then-is_value-clause-done
 returns-then-is_value-clause-done c =
     let a = seg_view c.args.arg.now in
-    let is = tested c.args.attr.now c.args.words.now a (new_view c.new_of-new.result) (nodes_view c.value_of.result.now) (nodes_view c.value_of-2.result.now) true c.new_of-new.ensures c.value_of.ensures c.value_of-2.ensures c.if-is_value.ensures in
+    let is = tested c.args.attr.now c.args.words.now a (new_view c.new_of-new.result) (nodes_view c.value_of-value.result.now) true c.new_of-new.ensures c.value_of-value.ensures c.if-is_value.ensures in
     c.quiet.ensures ∙ ap (λ (b : Bool). done None (not b)) is
 
 pub returns-clause-done : goal.returns-clause-done
 returns-clause-done c =
     let a = seg_view c.args.arg.now in
-    let is = tested c.args.attr.now c.args.words.now a (new_view c.new_of-new.result) (nodes_view c.value_of.result.now) (nodes_view c.value_of-2.result.now) false c.new_of-new.ensures c.value_of.ensures c.value_of-2.ensures c.if-is_value.ensures in
+    let is = tested c.args.attr.now c.args.words.now a (new_view c.new_of-new.result) (nodes_view c.value_of-value.result.now) false c.new_of-new.ensures c.value_of-value.ensures c.if-is_value.ensures in
     c.quiet-2.ensures ∙ ap (λ (b : Bool). done None (not b)) is
 
 -- another value is set
 pub returns-in_err-reserve-clause-unchanged : goal.returns-in_err-reserve-clause-unchanged
 returns-in_err-reserve-clause-unchanged c h =
-    let is = tested c.args.attr.now c.args.words.now (seg_view c.args.arg.now) (new_view c.new_of-new.result) (nodes_view c.value_of.result.now) (nodes_view c.value_of-2.result.now) false c.new_of-new.ensures c.value_of.ensures c.value_of-2.ensures c.if-is_value.ensures in
+    let is = tested c.args.attr.now c.args.words.now (seg_view c.args.arg.now) (new_view c.new_of-new.result) (nodes_view c.value_of-value.result.now) false c.new_of-new.ensures c.value_of-value.ensures c.if-is_value.ensures in
     absurd (true≢false (ap not is ∙ h))
 
 pub returns-in_err-value-clause-unchanged : goal.returns-in_err-value-clause-unchanged
 returns-in_err-value-clause-unchanged c h =
-    let is = tested c.args.attr.now c.args.words.now (seg_view c.args.arg.now) (new_view c.new_of-new.result) (nodes_view c.value_of.result.now) (nodes_view c.value_of-2.result.now) false c.new_of-new.ensures c.value_of.ensures c.value_of-2.ensures c.if-is_value.ensures in
+    let is = tested c.args.attr.now c.args.words.now (seg_view c.args.arg.now) (new_view c.new_of-new.result) (nodes_view c.value_of-value.result.now) false c.new_of-new.ensures c.value_of-value.ensures c.if-is_value.ensures in
     absurd (true≢false (ap not is ∙ h))
