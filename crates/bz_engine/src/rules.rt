@@ -74,10 +74,8 @@ impl<'a> Language for Rules<'a> {
         log: &mut Log,
     ) -> Result<Facts, AllocError> {
         let mut done = apply_lazy(self.alloc, command, self.home, slot)?;
-        let facts = facts_of(&done);
         // Where there is a note, the slot is as the command found it.
-        tell_done(self.alloc, self.home, slot, &mut done, log)?;
-        Ok(facts)
+        tell_done(self.alloc, self.home, slot, &mut done, log)
     }
 }
 
@@ -101,19 +99,23 @@ fn is_failure(note: &Option<Note>) -> bool
     }
 }
 
-/// Puts what an execution told after the log: what it printed, then its note on the rule in the slot.
+/// Puts what an execution told after the log: what it printed, then its note on the rule in the slot. Answers whether
+/// it changed something and whether it failed.
 fn tell_done(
     alloc: Global,
     home: &Package,
     slot: &Option<LazyStmt<'_>>,
     done: &mut Done,
     log: &mut Log,
-) -> Result<(), AllocError>
-    ensures { OnOk result (log.new ≡ log.old ++ done_told (shown_slot home.now (lazy_slot slot.now)) done.old) }
+) -> Result<Facts, AllocError>
+    ensures told { OnOk result (log.new ≡ log.old ++ done_told (shown_slot home.now (lazy_slot slot.now)) done.old) }
+    ensures changed { IfOk result (λ facts. facts.changed ≡ done.old.changed) }
+    ensures failed { IfOk result (λ facts. facts.failed ≡ fails done.old.note) }
 {
+    let facts = facts_of(done);
     tell_line(done.line.take(), log)?;
     tell_note(alloc, home, slot, &done.note, log)?;
-    Ok(())
+    Ok(facts)
 }
 
 fn tell_line(line: Option<Text>, log: &mut Log) -> Result<(), AllocError>

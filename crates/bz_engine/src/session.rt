@@ -186,10 +186,19 @@ impl Session {
         ensures memory { (end : _) → self.stage ≡ Ended end → OnErr result (result ≡ Err RunFault.OutOfMemory) }
         ensures stopped { ((end : _) → self.stage ≢ Ended end) → result ≡ Err RunFault.Stopped }
     {
+        self.take_report()
+    }
+
+    /// What the run tells, once it has ended; then the session is of no use.
+    fn take_report(&mut self) -> Result<Report, RunFault>
+        ensures report { (end : _) → self.old.stage ≡ Ended end
+            → IfOk result (λ report. told_by report ≡ told_at self.old end) }
+        ensures memory { (end : _) → self.old.stage ≡ Ended end → OnErr result (result ≡ Err RunFault.OutOfMemory) }
+        ensures stopped { ((end : _) → self.old.stage ≢ Ended end) → result ≡ Err RunFault.Stopped }
+    {
         let Stage::Ended(end) = self.stage else {
             return Err(RunFault::Stopped);
         };
-        // What is kept is then of no use.
         self.stage = Stage::Stopped;
         self.report_at(end)
     }

@@ -6,7 +6,7 @@ use Rattle.bz_engine.specs.declared.session.Stage.TheVariants.{Ended, Stopped}
 use Rattle.bz_engine.specs.SessionValue.{SessionValue, told_at}
 use Rattle.bz_engine.specs.contracts.session.Session.{the_view}
 use Rattle.bz_engine.proofs.Runs.{where_ok}
-use Rattle.bz_engine.proofs.session.Session.finish.Goals as goal
+use Rattle.bz_engine.proofs.session.Session.take_report.Goals as goal
 
 -- what is told is the same at each stage
 staged : (v : SessionValue) (stage : Stage) (end : End) → (let after : SessionValue = record v { stage = stage } in told_at after end) ≡ told_at v end
@@ -20,5 +20,5 @@ ended_so e f h = cc
 pub returns-clause-report : goal.returns-clause-report
 returns-clause-report c end is =
     let same : c.in-Ended.end ≡ end = ended_so c.in-Ended.end end (sym c.in-Ended.is ∙ ap (λ v. v.stage) c.self.view_is ∙ is) in
-    where_ok c.report_at.result (λ report told. told ∙ staged (the_view c.self.inside) Stopped c.in-Ended.end ∙ ap (λ v. told_at v c.in-Ended.end) c.self.view_is ∙ ap (told_at c.args.self) same)
+    where_ok c.report_at.result (λ report told. told ∙ staged (the_view c.self.inside) Stopped c.in-Ended.end ∙ ap (λ v. told_at v c.in-Ended.end) c.self.view_is ∙ ap (told_at c.args.self.now) same)
     c.report_at.ensures.told
