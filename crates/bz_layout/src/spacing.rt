@@ -45,7 +45,7 @@ pub(crate) fn hugs(kind: GroupKind) -> bool
 
 // A text of one byte is told by its length and that byte.
 #[inline(always)]
-fn is_byte(text: &str, byte: u8) -> bool
+pub(crate) fn is_byte(text: &str, byte: u8) -> bool
     ensures { MatchBool result (text.now ≡ byte ∷ []) (text.now ≢ byte ∷ []) }
 {
     match text.as_bytes() {
