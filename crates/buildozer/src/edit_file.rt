@@ -11,7 +11,7 @@ use bz_folder::{Draft, Folder, Opened, Trouble, replace_file};
 use std::alloc::Global;
 
 /// Why a file was not edited.
-#[derive(Clone, Copy, Debug, PartialEq, Eq)]
+#[derive(Clone, Copy)]
 pub enum FileFault {
     Run(RunFault),
     /// The new file could not be made, written, flushed or put in the old one's place.

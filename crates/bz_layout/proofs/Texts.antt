@@ -1,6 +1,7 @@
 -- The text of parts is that of their statement, or of their nodes.
-use Rattle.std.proofs.Common.{◌≡◌, codes, ℕ, suc, ◌+◌, ◌<◌, List, [], ◌∷◌, ◌++◌, Bor, length, get_or, drop, drop-cons, add-one, map, Option, Some, None, refl, ap, sym, ◌∙◌, append_assoc, append-nil, inl, inr}
+use Rattle.std.proofs.Common.{◌≡◌, codes, ℕ, suc, ◌+◌, ◌<◌, ◌≤◌, List, [], ◌∷◌, ◌++◌, Bor, length, get_or, drop, drop-cons, add-one, map, true, false, Option, Some, None, refl, ap, sym, ◌∙◌, append_assoc, append-nil, inl, inr}
 use Rattle.std.proofs.lemmas.Bool.{cases_Bool}
+use Rattle.std.proofs.lemmas.List.{drop_all}
 use Rattle.bz_tree.specs.Tree.{Item, leaf, group, Items, no_items, item, Statement, items_of}
 use Rattle.bz_tree.specs.Rows.{RowPart, above, beside_part, items_parts, parts_of, part_view}
 use Rattle.bz_tree.specs.declared.row.Part.{Part}
@@ -106,6 +107,16 @@ piece_before pieces i j d h next =
     ap (λ (k : ℕ). scan_onto (map part_view (get_or pieces i d).now) (scan (joined (drop k pieces)))) (sym next)
     ∙ sym (scan_append (map part_view (get_or pieces i d).now) (joined (drop (i + 1) pieces)))
     ∙ ap scan (piece_split pieces i d h)
+
+-- what was written is the text of the row: the comments above it, and of all but a comment a line
+pub comment_row : (before now : List ℕ) (ps : List RowPart) (class : Class) → is_comment class ≡ true → now ≡ before ++ bytes_of (comment_lines (leading ps)) → now ≡ row_text before ps class
+comment_row before now ps class is text = rw is text
+
+pub line_row : (before text now : List ℕ) (pieces : List (Bor (List Part))) (k : ℕ) (class : Class) (ms : List Mark) (first last : Laid) → is_comment class ≡ false → text ≡ before ++ bytes_of (comment_lines (leading (joined pieces))) → ms ≡ (scan (joined pieces)).marks → first ≡ start text ms None → length pieces ≤ k → run (joined (drop k pieces)) last ≡ run (joined pieces) first → now ≡ last.text ++ codes "\n" → now ≡ row_text before (joined pieces) class
+line_row before text now pieces k class ms first last is leads marks begun h laid put =
+    let all : last ≡ run (joined pieces) first = rw (drop_all k pieces h) at laid in
+    let started = begun ∙ ap (λ (t : List ℕ). start t ms None) leads ∙ ap (λ (m : List Mark). start (before ++ bytes_of (comment_lines (leading (joined pieces)))) m None) marks in
+    rw is (put ∙ ap (λ (l : Laid). l.text ++ codes "\n") (all ∙ ap (run (joined pieces)) started))
 
 pub one_piece : (piece : Bor (List Part)) → joined (piece ∷ []) ≡ map part_view piece.now
 one_piece piece = append-nil (map part_view piece.now)

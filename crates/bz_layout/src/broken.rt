@@ -7,7 +7,7 @@ ghost use Rattle.bz_layout.specs.private.RowLayout.{breaks_with};
 use bz_tree::GroupKind;
 
 /// Whether groups may be broken over lines. Definitions alone name it: a walk that has no marks breaks none.
-#[derive(Clone, Copy, Debug, PartialEq, Eq)]
+#[derive(Clone, Copy)]
 pub enum Style {
     /// All on one line, comments left out.
     Flat,

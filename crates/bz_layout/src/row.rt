@@ -6,7 +6,7 @@ ghost use Rattle.bz_tree.specs.View.{view};
 ghost use Rattle.bz_tree.specs.Rows.{IsRowOf, part_view, parts_of};
 ghost use Rattle.bz_layout.specs.Pieces.{bytes_of, comment_lines};
 ghost use Rattle.bz_layout.specs.Joined.{joined};
-ghost use Rattle.bz_layout.specs.Layout.{layout_text};
+ghost use Rattle.bz_layout.specs.Layout.{is_comment, layout_text};
 ghost use Rattle.bz_layout.specs.private.Kept.{IsBegunBy};
 ghost use Rattle.bz_layout.specs.private.RowLayout.{leading, row_text};
 
@@ -37,6 +37,13 @@ fn put_leading(pieces: &[&[Part<'_>]], out: &mut Vec<u8>) -> Result<(), AllocErr
     Ok(())
 }
 
+#[inline(always)]
+fn is_comment(class: Class) -> bool
+    ensures { result ≡ is_comment class }
+{
+    matches!(class, Class::Comment)
+}
+
 // After a refusal some of the text may stand in `out`.
 fn put_text(
     alloc: Global,
@@ -48,7 +55,7 @@ fn put_text(
     ensures begun { IsBegunBy out.old.items out.new.items }
 {
     put_leading(pieces, out)?;
-    if matches!(class, Class::Comment) {
+    if is_comment(class) {
         return Ok(());
     }
     let marks = marks_of(alloc, pieces)?;

@@ -8,7 +8,7 @@ use bz_token::Kind;
 use bz_tree::GroupKind;
 
 /// What the nodes so far leave to the next one.
-#[derive(Clone, Copy, Debug, PartialEq, Eq)]
+#[derive(Clone, Copy)]
 pub enum Edge {
     /// No node stands before it.
     Start,
@@ -23,7 +23,7 @@ pub enum Edge {
 }
 
 /// What stands before a token or comment.
-#[derive(Clone, Copy, Debug, PartialEq, Eq)]
+#[derive(Clone, Copy)]
 pub enum Gap {
     Closed,
     Space,
@@ -45,7 +45,7 @@ pub(crate) fn hugs(kind: GroupKind) -> bool
 
 // A text of one byte is told by its length and that byte.
 #[inline(always)]
-fn is_byte(text: &str, byte: u8) -> bool
+pub(crate) fn is_byte(text: &str, byte: u8) -> bool
     ensures { MatchBool result (text.now ≡ byte ∷ []) (text.now ≢ byte ∷ []) }
 {
     match text.as_bytes() {

@@ -11,7 +11,7 @@ ghost use Rattle.bz_layout.specs.private.RowLayout.{due, gap_for, top, first_gap
 use crate::append::NewLine;
 use crate::marks::Mark;
 use crate::respell::put_written;
-use crate::spacing::{Edge, Gap, hugs, token_closes_up, token_edge};
+use crate::spacing::{Edge, Gap, hugs, is_byte, token_closes_up, token_edge};
 use crate::write::{closing, opening, put};
 use bz_token::Kind;
 use bz_tree::{GroupKind, Part};
@@ -70,7 +70,7 @@ fn is_equals(part: &Part<'_>) -> bool
     ensures { IsTrue result → part_view part.now ≡ a_token Operator (codes "=") }
 {
     match *part {
-        Part::Token(Kind::Operator, text) => matches!(text.as_bytes(), [b'=']),
+        Part::Token(Kind::Operator, text) => is_byte(text, b'='),
         _ => false,
     }
 }

@@ -1,10 +1,30 @@
-use Rattle.std.proofs.Common.{◌+◌, [], drop, ap, ◌∙◌, arith}
-use Rattle.std.proofs.lemmas.Grind.{common_steps}
+use Rattle.std.proofs.Common.{◌+◌, [], drop, refl, ap, sym, ◌∙◌, Result, Ok, Err, OnOk}
 use Rattle.bz_layout.specs.Joined.{joined}
 use Rattle.bz_layout.specs.private.RowLayout.{laid, run}
 use Rattle.bz_layout.proofs.Kept.{begun_further}
-use Rattle.bz_layout.proofs.Texts.{next_piece}
+use Rattle.bz_layout.proofs.Texts.{next_piece, comment_row, line_row}
 use Rattle.bz_layout.proofs.row.put_text.Goals as goal
+
+pub returns-in_err-put_leading-clause-begun : goal.returns-in_err-put_leading-clause-begun
+returns-in_err-put_leading-clause-begun c = c.put_leading.ensures.begun
+
+pub returns-then-is_comment-clause-text : goal.returns-then-is_comment-clause-text
+returns-then-is_comment-clause-text c = comment_row _ _ _ c.args.class (sym c.is_comment.ensures ∙ c.if-is_comment.true) c.in_ok-put_leading.ensures.text
+
+pub returns-then-is_comment-clause-begun : goal.returns-then-is_comment-clause-begun
+returns-then-is_comment-clause-begun c = c.put_leading.ensures.begun
+
+pub returns-in_err-marks-clause-begun : goal.returns-in_err-marks-clause-begun
+returns-in_err-marks-clause-begun c = c.put_leading.ensures.begun
+
+pub returns-in_err-walk-clause-begun : goal.returns-in_err-walk-clause-begun
+returns-in_err-walk-clause-begun c = c.put_leading.ensures.begun
+
+pub loop-piece-init : goal.loop-piece-init
+loop-piece-init c = record { laid = refl; begun = c.put_leading.ensures.begun }
+
+pub returns-in_err-run-clause-begun : goal.returns-in_err-run-clause-begun
+returns-in_err-run-clause-begun c = begun_further _ _ _ c.loop-piece.invariant.begun c.run.ensures.begun
 
 pub loop-piece-preserved : goal.loop-piece-preserved
 loop-piece-preserved c = record {
@@ -15,5 +35,16 @@ loop-piece-preserved c = record {
   begun = begun_further _ _ _ c.loop-piece.invariant.begun c.in_ok-run.ensures.begun;
 }
 
+on_ok : {T E P Q : Type 0} (r : Result T E) → (P → Q) → OnOk r P → OnOk r Q
+on_ok (Ok x) f h = f h
+on_ok (Err e) f h = tt
+
 pub returns-clause-text : goal.returns-clause-text
-returns-clause-text c = grind (arith, common_steps, c.in_ok-walk.ensures c.put_leading.new.out.items)
+returns-clause-text c =
+    on_ok c.put.result
+    (line_row _ _ _ c.args.pieces.now c.loop-piece.piece-index c.args.class _ _ (laid c.loop-piece.walk c.loop-piece.out.items) (sym c.is_comment.ensures ∙ c.if-is_comment.false) c.in_ok-put_leading.ensures.text c.in_ok-marks.ensures
+    (c.in_ok-walk.ensures c.put_leading.new.out.items) c.loop-piece-test.false c.loop-piece.invariant.laid)
+    c.put.ensures.put
+
+pub returns-clause-begun : goal.returns-clause-begun
+returns-clause-begun c = begun_further _ _ _ c.loop-piece.invariant.begun c.put.ensures.begun
