@@ -86,10 +86,7 @@ pub fn name_of<'n>(nodes: &'n [Node<'_>]) -> Option<&'n str>
 pub fn is_named(arg: &Seg<'_>, name: &str) -> bool
     ensures { result ≡ spec.is_named name.now (seg_view arg.now) }
 {
-    match name_of(&arg.nodes) {
-        None => false,
-        Some(other) => name == other,
-    }
+    name_of(&arg.nodes).is_some_and(|other| other == name)
 }
 
 /// Where the first argument of a name stands.
@@ -142,10 +139,7 @@ fn text_of<'n>(node: &'n Node<'_>) -> Option<&'n str>
 pub fn is_string(nodes: &[Node<'_>], value: &str) -> bool
     ensures { result ≡ spec.is_text value.now (spec.string_value (nodes_view nodes.now)) }
 {
-    match only_text(nodes) {
-        None => false,
-        Some(text) => has_value(text.as_bytes(), value.as_bytes()),
-    }
+    only_text(nodes).is_some_and(|text| has_value(text.as_bytes(), value.as_bytes()))
 }
 
 /// The text of the string token that the first argument `name` of a rule is.
