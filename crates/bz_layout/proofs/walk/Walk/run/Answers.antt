@@ -33,9 +33,9 @@ loop-i-preserved-then-is_equals g c = record {
   within = omega arith;
   laid =
       next_two c.args.parts.now c.loop-i.i (Part.Token Identifier (record { ref_ptr = (0, 0); now = [] })) (Part.Token Identifier (record { ref_ptr = (0, 0); now = [] })) c.in-Token-Identifier-default.name.now
-          (laid c.loop-i.self (g.T.Append.bytes c.loop-i.out)) (laid c.put_name.new.self (g.T.Append.bytes c.put_name.new.out)) c.loop-i-test.true c.if-i-parts.true
-          (a_name _ c.in-Token-Identifier-default.field-0 c.in-Token-Identifier-default.name c.in-Token-Identifier-default.is (rw c.in-Token-Identifier-default.is at c.in-Token-Identifier-default.field-0-is))
-          (c.is_equals.ensures c.if-is_equals.true) c.in_ok-put_name-in-Token-Identifier-default.ensures.laid
+      (laid c.loop-i.self (g.T.Append.bytes c.loop-i.out)) (laid c.put_name.new.self (g.T.Append.bytes c.put_name.new.out)) c.loop-i-test.true c.if-i-parts.true
+      (a_name _ c.in-Token-Identifier-default.field-0 c.in-Token-Identifier-default.name c.in-Token-Identifier-default.is (rw c.in-Token-Identifier-default.is at c.in-Token-Identifier-default.field-0-is))
+      (c.is_equals.ensures c.if-is_equals.true) c.in_ok-put_name-in-Token-Identifier-default.ensures.laid
       ∙ c.loop-i.invariant.laid;
   begun = begun_further _ _ _ c.loop-i.invariant.begun c.put_name.ensures.begun;
 }
