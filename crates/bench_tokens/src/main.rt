@@ -1,6 +1,7 @@
 //! Counts the tokens of standard input: what the tokenizer costs on a large file (docs/BENCHMARKS.md).
 #![tactic(auto)]
 
+use bumpalo::Bump;
 use bz_token::{Token, check_utf8, tokens};
 use std::alloc::Global;
 use std::io::{self, Read};
@@ -18,10 +19,11 @@ fn counts(alloc: Global, bytes: &[u8]) -> io::Result<String> {
     let Ok(text) = check_utf8(bytes) else {
         return Ok(format!(in alloc; "not UTF-8")?);
     };
-    match tokens(alloc, text, 1, MAX_DEPTH) {
+    let bump = Bump::new(alloc);
+    match tokens(&bump, text, 1, MAX_DEPTH) {
         Ok(found) => {
             let all = found.len();
-            let fresh = fresh_tokens(&found);
+            let fresh = fresh_tokens(found);
             Ok(format!(in alloc; "{all} tokens, {fresh} at the beginning of a line")?)
         }
         Err(fault) => Ok(format!(in alloc; "{fault:?}")?),

@@ -37,7 +37,7 @@ impl<'a> Head<'a> {
         let Class::Rule = row.class else {
             return None;
         };
-        let (kind, name) = kind_and_name(after_comments(&row.parts))?;
+        let (kind, name) = kind_and_name(after_comments(row.parts))?;
         Some(Head {
             kind,
             name,

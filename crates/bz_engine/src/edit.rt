@@ -23,6 +23,7 @@ use crate::report::SyntaxFault;
 use crate::row::is_passed_by;
 use crate::rule_passes::RulePasses;
 use crate::rules::Rules;
+use bumpalo::Bump;
 use bz_layout::{blank_between, put_row};
 use bz_passes::kept::Kept;
 use bz_passes::language::Facts;
@@ -35,6 +36,8 @@ use std::alloc::{AllocError, Global};
 #[derive(Clone, Copy)]
 pub(crate) struct Script<'a> {
     pub(crate) alloc: Global,
+    /// Where the lists stand that are made of a chunk.
+    pub(crate) bump: &'a Bump,
     pub(crate) home: &'a Package,
     pub(crate) passes: &'a RulePasses,
     /// A failure does not end the run.

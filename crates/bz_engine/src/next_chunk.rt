@@ -54,14 +54,14 @@ pub(crate) fn edit_first(
         }));
     }
     let line = progress.line;
-    let Some(chunk) = first_chunk(script.alloc, text_ahead, line, script.max_depth)? else {
+    let Some(chunk) = first_chunk(script.bump, text_ahead, line, script.max_depth)? else {
         return Ok(None);
     };
     let len = chunk.text.len();
     if len as u64 > max_statement {
         return Ok(None);
     }
-    let edited = edit_tokens(script, chunk.text, &chunk.tokens, progress, text)?;
+    let edited = edit_tokens(script, chunk.text, chunk.tokens, progress, text)?;
     Ok(Some(NextChunk { len, edited }))
 }
 
@@ -90,7 +90,7 @@ fn edit_tokens<'a>(
         → IsEdited script.entry.home.now script.entry.passes.now script.entry.keep_going script.entry.max_depth cs
         statements chunk.now progress.old progress.new text.old.items text.new.items edited) }
 {
-    match read_row(script.alloc, tokens)? {
+    match read_row(script.bump, tokens)? {
         Some(row) => edit_row(script, chunk.as_bytes(), row, progress, text),
         None => edit_parsed(script, chunk, tokens, progress, text),
     }
@@ -141,11 +141,11 @@ pub(crate) fn edit_bytes(
         Err(valid) => return Ok(Edited::Faulty(not_utf8(line, &chunk[..valid]))),
     };
     // The list of a long chunk's tokens takes more memory than its row, so it is made only where there is no row.
-    if let Some(row) = row_of_text(script.alloc, whole, line, script.max_depth)? {
+    if let Some(row) = row_of_text(script.bump, whole, line, script.max_depth)? {
         return edit_row(script, chunk, row, progress, text);
     }
-    match tokens(script.alloc, whole, line, script.max_depth) {
-        Ok(tokens) => edit_parsed(script, whole, &tokens, progress, text),
+    match tokens(script.bump, whole, line, script.max_depth) {
+        Ok(tokens) => edit_parsed(script, whole, tokens, progress, text),
         Err(LexFault::OutOfMemory) => Err(AllocError),
         Err(fault) => Ok(Edited::Faulty(SyntaxFault::Parse(ParseFault::Lex(fault)))),
     }

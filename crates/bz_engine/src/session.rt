@@ -22,6 +22,7 @@ use crate::rule_passes::RulePasses;
 use crate::rules::Rules;
 use crate::run_fault::RunFault;
 use crate::telling::{report_of_all, report_of_fault, report_of_one};
+use bumpalo::Bump;
 use bz_command::Pass;
 use bz_devices::ahead::{Ahead, ChunkFault, next_chunk};
 use bz_devices::device::{Failed, Sink, Source};
@@ -64,6 +65,8 @@ pub struct Session {
     failure: Option<Text>,
     /// The text of one chunk; used again for each.
     text: Vec<u8>,
+    /// The lists that are made of one chunk.
+    bump: Bump,
 }
 
 impl Model for Session {
@@ -107,6 +110,7 @@ impl Session {
             stage: Stage::Going,
             failure: None,
             text: Vec::new(alloc),
+            bump: Bump::new(alloc),
         })
     }
 
@@ -355,9 +359,14 @@ impl Session {
         ensures none { IfOk result (λ found. IfNone found
             ((self.new.progress ≡ self.old.progress) × (text.new.items ≡ text.old.items))) }
     {
+        // The lists of the last chunk are given up.
+        if self.bump.reset().is_err() {
+            return Err(AllocError);
+        }
         let max_statement = self.options.max_statement;
         let script = Script {
             alloc: self.alloc,
+            bump: &self.bump,
             home: &self.home,
             passes: &self.passes,
             keep_going: self.options.keep_going,
@@ -382,6 +391,7 @@ impl Session {
     {
         let script = Script {
             alloc: self.alloc,
+            bump: &self.bump,
             home: &self.home,
             passes: &self.passes,
             keep_going: self.options.keep_going,

@@ -18,7 +18,7 @@ use Rattle.bz_rule.specs.private.NamedRows.{IsNamedRow}
 
 pub statement_of_row : (s : Statement) (row : Row) → IsRowOf s row → row_statement (row_value row) ≡ s
 statement_of_row s row is =
-    statement_of_parts s (map part_view row.parts.items) (content_of (map part_view row.parts.items)) (last_beside (map part_view row.parts.items)) row.class row.start row.end is.parts refl refl
+    statement_of_parts s (map part_view row.parts.now) (content_of (map part_view row.parts.now)) (last_beside (map part_view row.parts.now)) row.class row.start row.end is.parts refl refl
     ∙ (λ i. record { before = s.before; nodes = s.nodes; suffix = s.suffix; class = is.class i; start = is.start i; end = is.end i })
 
 pub named_row : (s : Statement) (row : Row) (head : Head) → s.class ≡ class_of s.nodes → IsRowOf s row → IsHeadOf head s → IsNamedRow row head

@@ -14,7 +14,7 @@ pub record RowValue : Type 0 where
   pub end : ℕ
 
 abbrev pub row_value : Row → RowValue
-row_value row = record { parts = map part_view row.parts.items; class = row.class; start = row.start; end = row.end }
+row_value row = record { parts = map part_view row.parts.now; class = row.class; start = row.start; end = row.end }
 
 abbrev pub row_statement : RowValue → Statement
 row_statement row = record {

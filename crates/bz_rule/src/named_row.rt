@@ -105,7 +105,7 @@ impl<'a> NamedRow<'a> {
         ensures { IfOk result (λ stmt. view stmt ≡ row_statement self.entry) }
     {
         let row = self.row;
-        stmt_of_parts(alloc, &row.parts, row.class, row.start, row.end)
+        stmt_of_parts(alloc, row.parts, row.class, row.start, row.end)
     }
 
     /// Appends the canonical text of the rule, with its last newline. `Err`: memory was refused, and `out` is as it was.
@@ -120,7 +120,7 @@ impl<'a> NamedRow<'a> {
         ensures parts { map part_view result.now ≡ parts_of (row_statement self.now) }
         ensures named { HasName (row_statement self.now) }
     {
-        &self.row.parts
+        self.row.parts
     }
 
     // What is true of each.

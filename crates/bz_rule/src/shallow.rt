@@ -53,12 +53,12 @@ impl<'a> ShallowStmt<'a> {
         ensures { IfOk result (λ read. (s : Statement) → s.class ≡ class_of s.nodes → IsRowOf s row.now → shallow_view read ≡ s) }
     {
         if let Class::Rule = row.class {
-            let hollow = hollow_of(alloc, &row.parts)?;
+            let hollow = hollow_of(alloc, row.parts)?;
             if hollow.sound {
                 return of_hollow(alloc, row, hollow);
             }
         }
-        let stmt = stmt_of_parts(alloc, &row.parts, row.class, row.start, row.end)?;
+        let stmt = stmt_of_parts(alloc, row.parts, row.class, row.start, row.end)?;
         Ok(ShallowStmt::new(alloc, stmt))
     }
 
@@ -115,7 +115,7 @@ fn of_hollow<'a>(
     row: &'a Row<'a>,
     hollow: Hollow<'a>,
 ) -> Result<ShallowStmt<'a>, AllocError>
-    requires walk { walk hollow ≡ run (map part_view row.now.parts.items) start }
+    requires walk { walk hollow ≡ run (map part_view row.now.parts.now) start }
     requires sound { hollow.sound ≡ true }
     requires class { row.now.class ≡ RuleClass }
     requires some { (s : Statement) × ((s.class ≡ class_of s.nodes) × IsRowOf s row.now) }

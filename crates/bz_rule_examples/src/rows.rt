@@ -2,6 +2,7 @@
 
 use crate::table::{check_rows, plain};
 use crate::trees::{class_name, kind_name};
+use bumpalo::Bump;
 use bz_token::{LexFault, tokens};
 use bz_tree::{Part, Row, read_row};
 use std::alloc::{AllocError, Global};
@@ -147,7 +148,7 @@ fn put_part(part: Part<'_>, out: &mut String) -> Result<(), AllocError> {
 }
 
 fn put_parts(row: &Row<'_>, out: &mut String) -> Result<(), AllocError> {
-    for part in &row.parts {
+    for part in row.parts {
         put_part(*part, out)?;
     }
     Ok(())
@@ -162,12 +163,12 @@ fn shown_row(alloc: Global, row: &Row<'_>) -> Result<String, AllocError> {
 }
 
 /// The row of a short chunk. None: it has none, or no tokens.
-fn row_of<'a>(alloc: Global, text: &'a str) -> Result<Option<Row<'a>>, AllocError> {
+fn row_of<'a>(bump: &'a Bump, text: &'a str) -> Result<Option<Row<'a>>, AllocError> {
     if text.len() > 1000 {
         return Err(AllocError);
     }
-    match tokens(alloc, text, 1, 100) {
-        Ok(tokens) => read_row(alloc, &tokens),
+    match tokens(bump, text, 1, 100) {
+        Ok(tokens) => read_row(bump, tokens),
         Err(LexFault::OutOfMemory) => Err(AllocError),
         Err(_) => Ok(None),
     }
@@ -175,14 +176,16 @@ fn row_of<'a>(alloc: Global, text: &'a str) -> Result<Option<Row<'a>>, AllocErro
 
 /// The row of a chunk as text.
 fn shown(alloc: Global, text: &str) -> Result<String, Fail> {
-    let row = row_of(alloc, text)?.ok_or("no row")?;
+    let bump = Bump::new(alloc);
+    let row = row_of(&bump, text)?.ok_or("no row")?;
     let shown = shown_row(alloc, &row)?;
     Ok(shown)
 }
 
 fn has_row(alloc: Global, text: &str) -> Result<bool, AllocError> {
     let text = plain(alloc, text)?;
-    Ok(row_of(alloc, text.as_str())?.is_some())
+    let bump = Bump::new(alloc);
+    Ok(row_of(&bump, text.as_str())?.is_some())
 }
 
 #[test]

@@ -4,6 +4,7 @@ ghost use Rattle.std.specs.Prelude.{IsTrue};
 ghost use Rattle.bz_token.specs.Cuts.{is_physical_line};
 
 use crate::table::{check_lines, check_rows};
+use bumpalo::Bump;
 use bz_token::{Cut, Cutter, LexFault, Next, Token, check_utf8, first_chunk, tokens};
 use std::alloc::{AllocError, Global};
 use std::test::Fail;
@@ -127,8 +128,9 @@ fn shown(alloc: Global, text: &str) -> Result<String, Fail> {
     if text.len() > 1000 {
         return Err("a long text".into());
     }
-    let shown = match tokens(alloc, text, 1, 100) {
-        Ok(found) => shown_tokens(alloc, &found)?,
+    let bump = Bump::new(alloc);
+    let shown = match tokens(&bump, text, 1, 100) {
+        Ok(found) => shown_tokens(alloc, found)?,
         Err(fault) => format!(in alloc; "{fault:?}\n")?,
     };
     Ok(shown)
@@ -142,13 +144,13 @@ fn tokens_of_texts(rt: HostRuntime) -> Result<(), Fail> {
 
 #[test]
 fn faults_and_utf8(rt: HostRuntime) -> Result<(), Fail> {
-    let alloc = rt.alloc();
+    let bump = Bump::new(rt.alloc());
     for (text, max_depth, fault) in [
         (")", 0, LexFault::BadBracket { line: 1, col: 1 }),
         ("((", 1, LexFault::TooDeep { line: 1, col: 2 }),
         ("(", 0, LexFault::TooDeep { line: 1, col: 1 }),
     ] {
-        assert_eq!(rt; tokens(alloc, text, 1, max_depth).err(), Some(fault));
+        assert_eq!(rt; tokens(&bump, text, 1, max_depth).err(), Some(fault));
     }
     assert_eq!(rt; check_utf8(&[97, 255]), Err(1));
     assert_eq!(rt; check_utf8(b"\xc3\xa9"), Ok("é"));
@@ -240,7 +242,8 @@ fn first_of(alloc: Global, text: &str) -> Result<Option<(usize, usize)>, AllocEr
     if text.len() > 1000 {
         return Ok(None);
     }
-    let found = first_chunk(alloc, text, 1, 100)?;
+    let bump = Bump::new(alloc);
+    let found = first_chunk(&bump, text, 1, 100)?;
     Ok(found.map(|chunk| (chunk.text.len(), chunk.tokens.len())))
 }
 

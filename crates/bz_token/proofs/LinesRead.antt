@@ -219,8 +219,8 @@ shown first depth bytes lexer spot start a h =
       ends = statement_chunk first depth (bytes_of ps) (map placed lexer.tokens.items) (lines_of a.done []) (line_of whole []) lined are a.comments last;
     }
 
-pub first_chunk_is : (first depth : ℕ) (bytes rest text : List ℕ) (chunk : FirstChunk) → Front bytes rest text → chunk.rest.now ≡ rest → chunk.text.now ≡ take (length bytes - length rest) bytes → Shown first depth text (map placed chunk.tokens.items) → IsFirstChunk first depth bytes chunk
-first_chunk_is first depth bytes rest text chunk f after cut s =
+pub first_chunk_is : (first depth : ℕ) (bytes rest text : List ℕ) (chunk : FirstChunk) (tokens : List Token) → Front bytes rest text → chunk.rest.now ≡ rest → chunk.text.now ≡ take (length bytes - length rest) bytes → chunk.tokens.now ≡ tokens → Shown first depth text (map placed tokens) → IsFirstChunk first depth bytes chunk
+first_chunk_is first depth bytes rest text chunk tokens f after cut same s =
     let is : text ≡ chunk.text.now = sym (cut ∙ front_text bytes rest text f) in
     let split = split_front bytes rest text f in
     record {
@@ -228,7 +228,7 @@ first_chunk_is first depth bytes rest text chunk f after cut s =
       within = omega (arith, ap length is, ap length split, length-append text rest);
       front = front_again bytes rest text f is;
       rest = after ∙ sym (ap (λ k. drop k bytes) (ap length (sym is)) ∙ ap (drop (length text)) split ∙ after_length text rest);
-      tokens = subst (λ x. AreTokensOf first depth x (map placed chunk.tokens.items)) is s.are_tokens;
+      tokens = rw same (subst (λ x. AreTokensOf first depth x (map placed tokens)) is s.are_tokens);
       ends = subst IsChunk is s.ends;
     }
   where

@@ -11,5 +11,5 @@ pub record IsFirstChunk (first depth : ℕ) (bytes : List ℕ) (chunk : FirstChu
   pub within : length chunk.text.now ≤ length bytes
   pub front : chunk.text.now ≡ take (length chunk.text.now) bytes
   pub rest : chunk.rest.now ≡ drop (length chunk.text.now) bytes
-  pub tokens : AreTokensOf first depth chunk.text.now (map placed chunk.tokens.items)
+  pub tokens : AreTokensOf first depth chunk.text.now (map placed chunk.tokens.now)
   pub ends : IsChunk chunk.text.now

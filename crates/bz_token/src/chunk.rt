@@ -10,13 +10,15 @@ use crate::cutter::block::opener_at;
 use crate::fault::LexFault;
 use crate::lexer::{Lexer, Spot};
 use crate::token::{Kind, Token};
-use std::alloc::{AllocError, Global};
+use bumpalo::Bump;
+use bumpalo::collections::into_bump_slice;
+use std::alloc::AllocError;
 
-/// A chunk and its tokens.
-#[derive(Drop)]
+/// A chunk and its tokens, whose list stands in an arena.
+#[derive(Clone, Copy)]
 pub struct FirstChunk<'a> {
     pub text: &'a str,
-    pub tokens: Vec<Token<'a>>,
+    pub tokens: &'a [Token<'a>],
     /// What follows the chunk.
     pub rest: &'a str,
 }
@@ -79,7 +81,7 @@ const FIRST_CAPACITY: usize = 128;
 /// text's first line has this number, and at most so many brackets may be open at once. None: the text does not show
 /// it, the chunk has a lexical fault, or it may begin a block. `Err`: memory was refused.
 pub fn first_chunk<'a>(
-    alloc: Global,
+    bump: &'a Bump,
     text: &'a str,
     first_line: u64,
     max_depth: u8,
@@ -87,7 +89,7 @@ pub fn first_chunk<'a>(
     requires { first_line + count_by (λ b. b == 10) text.now < 2 ^ 64 }
     ensures chunk { IfOk result (λ o. IfSome o (IsFirstChunk first_line max_depth text.now)) }
 {
-    let mut lexer = Lexer::new(alloc, FIRST_CAPACITY)?;
+    let mut lexer = Lexer::new(bump, FIRST_CAPACITY)?;
     let mut spot = Spot::start(text, first_line);
     // The first token of the line that is being read.
     let mut line_start = 0;
@@ -106,7 +108,7 @@ pub fn first_chunk<'a>(
             LineEnd::Ends => {
                 return Ok(Some(FirstChunk {
                     text: text.split_at(text.len() - spot.rest.len()).0,
-                    tokens: lexer.tokens,
+                    tokens: into_bump_slice(lexer.tokens),
                     rest: spot.rest,
                 }));
             }

@@ -18,7 +18,9 @@ use crate::fault::LexFault;
 use crate::gap::{Gap, Place, advance, after_gap, blanks, newline};
 use crate::scan_token::{Bad, Step, scan_bracket, step_at};
 use crate::token::{Kind, Token};
-use std::alloc::{AllocError, Global};
+use bumpalo::Bump;
+use bumpalo::collections::into_bump_slice;
+use std::alloc::AllocError;
 
 /// The place after a token.
 #[inline(always)]
@@ -124,19 +126,19 @@ impl<'a> Spot<'a> {
 
 /// The tokens that were read, and the brackets that are open after them.
 #[derive(Drop)]
-pub struct Lexer<'a> {
-    pub tokens: Vec<Token<'a>>,
+pub struct Lexer<'b, 'a> {
+    pub tokens: Vec<Token<'a>, &'b Bump>,
     pub brackets: Brackets,
 }
 
-impl<'a> Lexer<'a> {
+impl<'b, 'a> Lexer<'b, 'a> {
     /// Nothing is read yet.
     #[inline(always)]
-    pub fn new(alloc: Global, capacity: usize) -> Result<Lexer<'a>, AllocError>
+    pub fn new(bump: &'b Bump, capacity: usize) -> Result<Lexer<'b, 'a>, AllocError>
         ensures { IfOk result (λ lexer. (lexer.tokens.items ≡ []) × (opened lexer.brackets ≡ [])) }
     {
         Ok(Lexer {
-            tokens: Vec::with_capacity(alloc, capacity)?,
+            tokens: Vec::with_capacity(bump, capacity)?,
             brackets: Brackets::new(),
         })
     }
@@ -267,36 +269,38 @@ fn first_capacity(len: usize) -> usize {
 }
 
 // What is told at the end of a text: the innermost bracket that is open, if one is.
-fn closed(tokens: Vec<Token<'_>>) -> Result<Vec<Token<'_>>, LexFault>
-    ensures tokens { IfOk result
-        (λ v. (v.items ≡ tokens.entry.items) × (open_tokens [] (map placed tokens.entry.items) ≡ [])) }
-    ensures fault { IfErr result (IsLeftOpen (map placed tokens.entry.items)) }
+fn closed<'b, 'a>(tokens: &'b [Token<'a>]) -> Result<&'b [Token<'a>], LexFault>
+    ensures tokens { IfOk result (λ v. (v.now ≡ tokens.now) × (open_tokens [] (map placed tokens.now) ≡ [])) }
+    ensures fault { IfErr result (IsLeftOpen (map placed tokens.now)) }
 {
-    match innermost(&tokens) {
+    match innermost(tokens) {
         None => Ok(tokens),
         Some(Place { line, col }) => Err(LexFault::OpenBracket { line, col }),
     }
 }
 
 /// The tokens of a text, whose first line has this number, with at most so many brackets open at once; else the first
-/// fault from left to right. Tokens are those of the Starlark specification, and comments.
-pub fn tokens<'a>(
-    alloc: Global,
+/// fault from left to right. Tokens are those of the Starlark specification, and comments. Their list stands in the
+/// arena.
+pub fn tokens<'b, 'a>(
+    bump: &'b Bump,
     text: &'a str,
     first_line: u64,
     max_depth: u8,
-) -> Result<Vec<Token<'a>>, LexFault>
+) -> Result<&'b [Token<'a>], LexFault>
     requires { first_line + count_by (λ b. b == 10) text.now < 2 ^ 64 }
-    ensures tokens { IfOk result (λ v. AreTokensOf first_line max_depth text.now (map placed v.items)) }
+    ensures tokens { IfOk result (λ v. AreTokensOf first_line max_depth text.now (map placed v.now)) }
     ensures fault { IfErr result (IsFault first_line max_depth text.now) }
 {
-    let mut lexer = Lexer::new(alloc, first_capacity(text.len()))?;
+    let mut lexer = Lexer::new(bump, first_capacity(text.len()))?;
     let mut spot = Spot::start(text, first_line);
     while !spot.rest.is_empty() {
         spot = lexer.read_line(spot, max_depth, usize::MAX)?.0;
     }
-    if lexer.brackets.is_inside() {
-        return closed(lexer.tokens);
+    let is_inside = lexer.brackets.is_inside();
+    let tokens = into_bump_slice(lexer.tokens);
+    if is_inside {
+        return closed(tokens);
     }
-    Ok(lexer.tokens)
+    Ok(tokens)
 }

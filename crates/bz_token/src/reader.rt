@@ -8,32 +8,33 @@ ghost use Rattle.bz_token.specs.Batches.{HasGiven, batch, left};
 use crate::fault::LexFault;
 use crate::lexer::{Lexer, Spot};
 use crate::token::Token;
-use std::alloc::{AllocError, Global};
+use bumpalo::Bump;
+use std::alloc::AllocError;
 
 // So many tokens are a batch, or fewer.
 const MOST: usize = 256;
 
 /// Reads the tokens of a text in batches, so that the list of all of them is never there.
 #[derive(Drop)]
-pub struct TokenReader<'a> {
-    lexer: Lexer<'a>,
+pub struct TokenReader<'b, 'a> {
+    lexer: Lexer<'b, 'a>,
     spot: Spot<'a>,
     max_depth: u8,
 }
 
-impl<'a> TokenReader<'a> {
+impl<'b, 'a> TokenReader<'b, 'a> {
     /// Before the first batch. The text's first line has this number, and at most so many brackets may be open at once.
     pub fn new(
-        alloc: Global,
+        bump: &'b Bump,
         text: &'a str,
         first_line: u64,
         max_depth: u8,
-    ) -> Result<TokenReader<'a>, AllocError>
+    ) -> Result<TokenReader<'b, 'a>, AllocError>
         requires { first_line + count_by (λ b. b == 10) text.now < 2 ^ 64 }
         ensures { IfOk result (HasGiven first_line max_depth text.now []) }
     {
         Ok(TokenReader {
-            lexer: Lexer::new(alloc, MOST)?,
+            lexer: Lexer::new(bump, MOST)?,
             spot: Spot::start(text, first_line),
             max_depth,
         })

@@ -19,6 +19,7 @@ use crate::grammar::is_statement;
 use crate::kept::kept_text;
 use crate::span::{end_line, end_of, first_seen, first_token, last_seen, start_of};
 use crate::stmt::{Class, Leaf, Node, Seg, Stmt};
+use bumpalo::Bump;
 use bz_token::{Kind, LexFault, Token, tokens};
 use std::alloc::{AllocError, Global};
 use std::borrow::CowStr;
@@ -211,8 +212,9 @@ pub fn parse<'a>(
     ensures blank { IfOk result (λ o. IfNone o (IsBlank first_line max_depth text.now)) }
     ensures fault { IfErr result (IsFaultIn first_line max_depth text.now) }
 {
-    match tokens(alloc, text, first_line, max_depth) {
-        Ok(tokens) => parse_tokens(alloc, text, first_line, &tokens),
+    let bump = Bump::new(alloc);
+    match tokens(&bump, text, first_line, max_depth) {
+        Ok(tokens) => parse_tokens(alloc, text, first_line, tokens),
         Err(LexFault::OutOfMemory) => Err(ParseFault::OutOfMemory),
         Err(fault) => Err(ParseFault::Lex(fault)),
     }

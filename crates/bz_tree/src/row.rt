@@ -19,10 +19,10 @@ pub enum Part<'a> {
     Beside(&'a str),
 }
 
-/// A statement as its parts. Each text is a slice of the chunk that it was read from.
-#[derive(Drop)]
+/// A statement as its parts, whose list stands in an arena. Each text is a slice of the chunk that it was read from.
+#[derive(Clone, Copy)]
 pub struct Row<'a> {
-    pub parts: Vec<Part<'a>>,
+    pub parts: &'a [Part<'a>],
     pub class: Class,
     /// The line of its first token, comments not counted unless the class is Comment.
     pub start: u64,

@@ -26,26 +26,28 @@ use crate::span::{counted_end_of, first_seen, first_token, newlines, start_of};
 use crate::spot::{Around, Here, Spot, shown_kind};
 use crate::stage::may_end;
 use crate::stmt::GroupKind;
+use bumpalo::Bump;
+use bumpalo::collections::into_bump_slice;
 use bz_token::{Kind, Token};
-use std::alloc::{AllocError, Global};
+use std::alloc::AllocError;
 
 // The parts so far, the bracket that is open here, and those around it.
 #[derive(Drop)]
 pub(crate) struct RowWalk<'a> {
-    pub(crate) parts: Vec<Part<'a>>,
-    pub(crate) outer: Vec<Around>,
+    pub(crate) parts: Vec<Part<'a>, &'a Bump>,
+    pub(crate) outer: Vec<Around, &'a Bump>,
     pub(crate) top: Spot<'a>,
 }
 
 // False: the statement is left to its tree. So it is in all that follow.
 impl<'a> RowWalk<'a> {
     /// Before the first token, with room for so many parts.
-    pub(crate) fn new(alloc: Global, room: usize) -> Result<RowWalk<'a>, AllocError>
+    pub(crate) fn new(bump: &'a Bump, room: usize) -> Result<RowWalk<'a>, AllocError>
         ensures { IfOk result (λ walk. row_state walk ≡ row_start) }
     {
         Ok(RowWalk {
-            parts: Vec::with_capacity(alloc, room)?,
-            outer: Vec::new(alloc),
+            parts: Vec::with_capacity(bump, room)?,
+            outer: Vec::new(bump),
             top: Spot::new(None),
         })
     }
@@ -280,7 +282,8 @@ impl<'a> RowWalk<'a> {
         if top.kind.is_some() || !outer.is_empty() {
             return None;
         }
-        let class = top.class(&parts)?;
+        let parts = into_bump_slice(parts);
+        let class = top.class(parts)?;
         Some(Row {
             parts,
             class,
@@ -323,7 +326,7 @@ pub(crate) fn is_upright(first: Option<Token<'_>>) -> bool
 /// statement has these tokens, or it is one of those that `parse_tokens` alone reads: a block, a comprehension, an
 /// index, more after what would be a rule, a comment in the middle of a segment or before its comma. `Err`: memory was
 /// refused.
-pub fn read_row<'a>(alloc: Global, tokens: &[Token<'a>]) -> Result<Option<Row<'a>>, AllocError>
+pub fn read_row<'a>(bump: &'a Bump, tokens: &[Token<'a>]) -> Result<Option<Row<'a>>, AllocError>
     ensures row { IfOk result (λ o. IfSome o (λ row. (first depth : ℕ) (text : List ℕ)
         → AreTokensOf first depth text (map placed tokens.now)
         → (s : Statement) × IsStatementIn first depth text s × IsRowOf s row)) }
@@ -334,7 +337,7 @@ pub fn read_row<'a>(alloc: Global, tokens: &[Token<'a>]) -> Result<Option<Row<'a
     let Some(end) = counted_end_of(tokens) else {
         return Ok(None);
     };
-    let mut walk = RowWalk::new(alloc, tokens.len().saturating_add(tokens.len() / 4))?;
+    let mut walk = RowWalk::new(bump, tokens.len().saturating_add(tokens.len() / 4))?;
     if !walk.add_tokens(tokens)? {
         return Ok(None);
     }

@@ -8,14 +8,15 @@ ghost use Rattle.bz_tree.specs.Rows.{IsRowOf};
 use crate::row::Row;
 use crate::rows::{RowWalk, is_upright};
 use crate::span::{end_line, first_token, last_token};
+use bumpalo::Bump;
 use bz_token::TokenReader;
-use std::alloc::{AllocError, Global};
+use std::alloc::AllocError;
 
 /// The row that `read_row` gives for the tokens of a chunk, whose list is never there: it would take more memory than
 /// the row. The chunk's first line has this number, and at most so many brackets may be open at once. None: the chunk
 /// has a fault or comments alone, or `read_row` has no row of it. `Err`: memory was refused.
 pub fn row_of_text<'a>(
-    alloc: Global,
+    bump: &'a Bump,
     text: &'a str,
     first_line: u64,
     max_depth: u8,
@@ -24,9 +25,9 @@ pub fn row_of_text<'a>(
     ensures row { IfOk result (λ o. IfSome o
         (λ row. (s : Statement) × IsStatementIn first_line max_depth text.now s × IsRowOf s row)) }
 {
-    let mut reader = TokenReader::new(alloc, text, first_line, max_depth)?;
+    let mut reader = TokenReader::new(bump, text, first_line, max_depth)?;
     // Most texts have fewer parts. Doubled twice, it is room for a list of elements of one byte.
-    let mut walk = RowWalk::new(alloc, text.len() / 4 + 8)?;
+    let mut walk = RowWalk::new(bump, text.len() / 4 + 8)?;
     let mut first = None;
     let mut last = None;
     while !reader.is_at_end() {

@@ -41,4 +41,4 @@ returns-in-Ends c =
     let a = c.in-Ok.ensures.line c.args.first_line c.args.text.now c.loop-spot.line_start i (search (rules, tests)) in
     let told = ap (λ ts. line_end (map placed ts)) (sym c.tokens_from.ensures) ∙ sym c.line_end.ensures ∙ c.in-Ends.is in
     let f = front _ _ _ _ _ _ a in
-    record { chunk = first_chunk_is _ _ _ _ _ _ f refl c.split_at.ensures.front (shown _ _ _ _ _ _ a told) }
+    record { chunk = first_chunk_is _ _ _ _ _ _ _ f refl c.split_at.ensures.front c.into_bump_slice.ensures (shown _ _ _ _ _ _ a told) }

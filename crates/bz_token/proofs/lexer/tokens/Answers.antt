@@ -1,9 +1,10 @@
-use Rattle.std.proofs.Common.{rules, ◌≡◌, map, sym, ap, subst, []}
+use Rattle.std.proofs.Common.{rules, ◌≡◌, ◌∙◌, map, sym, ap, subst, []}
 use Rattle.bz_token.specs.Places.{placed}
 use Rattle.bz_token.specs.Reading.{AreTokensOf}
 use Rattle.bz_token.specs.Faults.{IsFault}
 use Rattle.bz_token.specs.declared.fault.LexFault.TheVariants.{OutOfMemory}
-use Rattle.bz_token.specs.private.Scans.{opened}
+use Rattle.bz_token.specs.Brackets.{open_tokens}
+use Rattle.bz_token.specs.private.Scans.{opened, IsLeftOpen}
 use Rattle.bz_token.proofs.Steps.{end_gap}
 use Rattle.bz_token.proofs.Progress.{read_fresh, after_gap, if_ok, if_err, passed_on, all_read, none_opened, outside, left_open, empty_from_test, some_from_test}
 use Rattle.bz_token.proofs.lexer.tokens.Goals as goal
@@ -24,14 +25,15 @@ pub returns-then-is_inside-clause-tokens : goal.returns-then-is_inside-clause-to
 returns-then-is_inside-clause-tokens c =
     let done : c.loop-spot.spot.rest.now ≡ [] = empty_from_test c.loop-spot.spot.rest.now (sym c.loop-spot-test.ensures) in
     let b = after_gap _ _ _ _ _ _ _ _ _ c.loop-spot.invariant (end_gap _ _ done) in
+    let same = c.into_bump_slice-tokens.ensures in
     if_ok _ _ c.closed.result
-    (λ v h. subst (λ ts. AreTokensOf c.args.first_line c.args.max_depth c.args.text.now (map placed ts)) (sym h.0) (all_read _ _ _ _ _ _ _ _ _ _ b done (none_opened _ _ _ _ _ _ _ _ _ _ b h.1))) c.closed.ensures.tokens
+    (λ v h. subst (λ ts. AreTokensOf c.args.first_line c.args.max_depth c.args.text.now (map placed ts)) (sym (h.0 ∙ same)) (all_read _ _ _ _ _ _ _ _ _ _ b done (none_opened _ _ _ _ _ _ _ _ _ _ b (ap (λ ts. open_tokens [] (map placed ts)) (sym same) ∙ h.1)))) c.closed.ensures.tokens
 
 pub returns-clause-tokens : goal.returns-clause-tokens
 returns-clause-tokens c =
     let done : c.loop-spot.spot.rest.now ≡ [] = empty_from_test c.loop-spot.spot.rest.now (sym c.loop-spot-test.ensures) in
     let b = after_gap _ _ _ _ _ _ _ _ _ c.loop-spot.invariant (end_gap _ _ done) in
-    all_read _ _ _ _ _ _ _ _ _ _ b done (outside (opened c.loop-spot.lexer.brackets) (search rules))
+    subst (λ ts. AreTokensOf c.args.first_line c.args.max_depth c.args.text.now (map placed ts)) (sym c.into_bump_slice-tokens.ensures) (all_read _ _ _ _ _ _ _ _ _ _ b done (outside (opened c.loop-spot.lexer.brackets) (search rules)))
 
 pub read_line-requires-clause-some : goal.read_line-requires-clause-some
 read_line-requires-clause-some c = some_from_test c.loop-spot.spot.rest.now (sym c.loop-spot-test.ensures)
@@ -43,7 +45,7 @@ pub returns-then-is_inside-clause-fault : goal.returns-then-is_inside-clause-fau
 returns-then-is_inside-clause-fault c =
     let done : c.loop-spot.spot.rest.now ≡ [] = empty_from_test c.loop-spot.spot.rest.now (sym c.loop-spot-test.ensures) in
     let b = after_gap _ _ _ _ _ _ _ _ _ c.loop-spot.invariant (end_gap _ _ done) in
-    if_err _ _ c.closed.result (λ fault left. left_open _ _ _ _ _ _ _ _ _ _ fault b done left) c.closed.ensures.fault
+    if_err _ _ c.closed.result (λ fault left. left_open _ _ _ _ _ _ _ _ _ _ fault b done (subst (λ ts. IsLeftOpen (map placed ts) fault) c.into_bump_slice-tokens.ensures left)) c.closed.ensures.fault
 
 pub returns-in_err-lexer-clause-fault : goal.returns-in_err-lexer-clause-fault
 returns-in_err-lexer-clause-fault c = passed_on c.from_residual.result OutOfMemory (IsFault c.args.first_line c.args.max_depth c.args.text.now) c.from_residual.ensures.1 tt

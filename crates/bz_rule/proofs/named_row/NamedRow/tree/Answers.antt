@@ -7,6 +7,6 @@ use Rattle.bz_rule.proofs.named_row.NamedRow.tree.Goals as goal
 pub returns : goal.returns
 returns c =
     IfOk-weaker c.stmt_of_parts.result _ _
-    (λ stmt h. h (row_statement (row_value c.self.inside.row.now)) (ap (map part_view) c.deref.ensures.value ∙ c.self.invariant.is.parts)
+    (λ stmt h. h (row_statement (row_value c.self.inside.row.now)) c.self.invariant.is.parts
     ∙ ap row_statement c.self.view_is)
     c.stmt_of_parts.ensures
