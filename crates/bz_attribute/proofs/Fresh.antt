@@ -3,7 +3,8 @@ use Rattle.std.proofs.Common.{◌≡◌, ℕ, ◌+◌, ◌<◌, List, [], ◌∷
 use Rattle.std.proofs.lemmas.List.{drop_more, take_more, map-append}
 use Rattle.bz_tree.specs.Tree.{Segment}
 use Rattle.bz_command.specs.Labels.{Package}
-use Rattle.bz_attribute.specs.Effects.{is_fresh, fresh, string}
+use Rattle.bz_attribute.specs.Effects.{string}
+use Rattle.bz_attribute.specs.Add.{is_fresh, fresh}
 
 pub fresh_step : (home : Package) (lists : List (List Segment)) (values : List (List ℕ)) (i : ℕ) (w d : List ℕ) (new added : List Segment) → i < length values → w ≡ get_or values i d
     → added ≡ new ++ map string (if is_fresh home lists (take i values) w then w ∷ [] else [])

@@ -17,7 +17,7 @@ use Rattle.bz_command.specs.Labels.{Package}
 use Rattle.bz_attribute.specs.declared.done.Note.{Note}
 use Rattle.bz_attribute.specs.declared.done.Note.TheVariants.{NoAttribute, NoValue, NotAList}
 use Rattle.bz_attribute.specs.private.Places.{IsAbsent, IsFirst}
-use Rattle.bz_attribute.specs.Commenting.{is_blank, trimmed, comment_element, comment_line, comment_note, comment_value, edit_element, edit_element_from, with_comment}
+use Rattle.bz_attribute.specs.Comment.{is_blank, trimmed, comment_element, comment_line, comment_note, comment_value, edit_element, edit_element_from, with_comment}
 use Rattle.bz_attribute_commands.specs.private.CommentPlaces.{IsFirstOf, IsNowhere, IsPartWith, ends_blank, no_value_note}
 use Rattle.bz_attribute.proofs.First.{has_one, has_none, put_first, edit_first_none}
 use Rattle.bz_attribute.proofs.Groups.{view_of_seg}

@@ -13,7 +13,7 @@ use Rattle.bz_attribute.specs.Rules.{first_named, string_in, value}
 use Rattle.bz_attribute.specs.Texts.{home_text}
 use Rattle.bz_attribute.specs.Heads.{IsHeadOf}
 use Rattle.bz_attribute.specs.declared.head.Head.{Head}
-use Rattle.bz_attribute_commands.specs.Printing.{field_text, shown_field, missing, printed_of, prints, fields_of, spaced, value_text, string_or}
+use Rattle.bz_attribute_commands.specs.Print.{field_text, shown_field, missing, printed_of, prints, fields_of, spaced, value_text, string_or}
 use Rattle.bz_attribute_commands.specs.private.HeadFields.{is_told, head_word, head_words}
 use Rattle.bz_attribute_commands.specs.private.PrintSteps.{line_with}
 

@@ -5,7 +5,7 @@ use Rattle.std.specs.List.{slice_split}
 use Rattle.bz_tree.specs.declared.stmt.GroupKind.TheVariants.{RuleCall}
 use Rattle.bz_tree.specs.Tree.{Item, group, segs_of}
 use Rattle.bz_attribute.specs.Rules.{Rule, rule_of, kind_text}
-use Rattle.bz_attribute.specs.Setting.{joined_by_dots, ident_item, dot_item, kind_items, kind_after}
+use Rattle.bz_attribute.specs.Set.{joined_by_dots, ident_item, dot_item, kind_items, kind_after}
 use Rattle.bz_command.proofs.Cuts.{some_part}
 use Rattle.bz_attribute.proofs.RuleNodes.{rule_nodes}
 

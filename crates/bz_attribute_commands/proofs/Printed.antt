@@ -6,7 +6,7 @@ use Rattle.bz_command.specs.Labels.{Package}
 use Rattle.bz_command.specs.declared.command.Field.{Field}
 use Rattle.bz_attribute.specs.Rules.{Rule}
 use Rattle.bz_attribute.specs.Effects.{first_note}
-use Rattle.bz_attribute_commands.specs.Printing.{spaced, missing, field_text, field_name}
+use Rattle.bz_attribute_commands.specs.Print.{spaced, missing, field_text, field_name}
 use Rattle.bz_attribute_commands.specs.private.PrintSteps.{spaced_from}
 use Rattle.bz_attribute.specs.declared.done.Note.{Note}
 use Rattle.bz_attribute.specs.declared.done.Note.TheVariants.{Missing}

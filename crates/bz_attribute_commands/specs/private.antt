@@ -1,4 +1,4 @@
 pub mod CommentPlaces
 pub mod HeadFields
 pub mod PrintSteps
-pub mod SettingViews
+pub mod SetViews

@@ -8,7 +8,7 @@ ghost use Rattle.bz_attribute.specs.Rules.{elements};
 ghost use Rattle.bz_attribute.specs.Effects.{done, edit_first, holds_rule, is_absent};
 ghost use Rattle.bz_attribute_commands.specs.private.CommentPlaces.{IsFirstOf, IsNowhere, IsPartWith};
 ghost use Rattle.bz_attribute_commands.specs.private.CommentPlaces as place;
-ghost use Rattle.bz_attribute.specs.Commenting as spec;
+ghost use Rattle.bz_attribute.specs.Comment as spec;
 
 use bz_attribute::done::{Done, Note};
 use bz_attribute::equals::equals;

@@ -9,7 +9,7 @@ ghost use Rattle.bz_attribute.specs.Rules.{string_value};
 ghost use Rattle.bz_attribute.specs.Effects.{holds_rule};
 ghost use Rattle.bz_attribute_commands.specs.private.PrintSteps.{attribute_in, element_word, label_in, line_with, missing_as, name_and_kind};
 ghost use Rattle.bz_attribute.specs.declared.done.Note.TheVariants.{Missing};
-ghost use Rattle.bz_attribute_commands.specs.Printing as spec;
+ghost use Rattle.bz_attribute_commands.specs.Print as spec;
 
 use crate::value::one_list;
 use bz_attribute::done::{Done, Note};

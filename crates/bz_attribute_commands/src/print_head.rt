@@ -3,7 +3,7 @@
 ghost use Rattle.std.specs.Prelude.{◌≡◌, [], ◌∷◌, IfOk, IfSome, IsTrue, Some, string_bytes};
 ghost use Rattle.bz_tree.specs.Tree.{Statement};
 ghost use Rattle.bz_attribute.specs.Heads.{IsHeadOf};
-ghost use Rattle.bz_attribute_commands.specs.Printing.{fields_of, prints};
+ghost use Rattle.bz_attribute_commands.specs.Print.{fields_of, prints};
 ghost use Rattle.bz_attribute_commands.specs.private.HeadFields.{HasTold, head_word, head_words};
 
 use crate::print::{push_number, push_word};

@@ -2,7 +2,8 @@
 
 ghost use Rattle.std.specs.Prelude.{◌≡◌, IfOk, OnOk, OnErr, true};
 ghost use Rattle.bz_tree.specs.View.{segs_view};
-ghost use Rattle.bz_attribute.specs.Effects as spec;
+ghost use Rattle.bz_attribute.specs.Rename as spec;
+ghost use Rattle.bz_attribute.specs.Effects as effects;
 
 use bz_attribute::done::Done;
 use bz_attribute::make::token;
@@ -19,7 +20,7 @@ pub fn rename<'a>(
     args: &mut [Seg<'a>],
 ) -> Result<Done, AllocError>
     ensures args { OnOk result (segs_view args.new ≡ spec.rename old.now new.now (segs_view args.old)) }
-    ensures done { IfOk result (λ done. done ≡ spec.done (spec.rename_note old.now new.now (segs_view args.old)) true) }
+    ensures done { IfOk result (λ done. done ≡ effects.done (spec.rename_note old.now new.now (segs_view args.old)) true) }
     ensures err { OnErr result (segs_view args.new ≡ segs_view args.old) }
 {
     let Some(i) = find(args, old) else {

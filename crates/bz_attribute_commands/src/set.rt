@@ -5,8 +5,8 @@ ghost use Rattle.bz_tree.specs.View.{node_view, nodes_view, seg_view, segs_view}
 ghost use Rattle.bz_attribute.specs.Rules.{first_named};
 ghost use Rattle.bz_attribute.specs.Lists.{with_value};
 ghost use Rattle.bz_attribute.specs.Effects as effects;
-ghost use Rattle.bz_attribute_commands.specs.private.SettingViews.{new_view};
-ghost use Rattle.bz_attribute.specs.Setting as spec;
+ghost use Rattle.bz_attribute_commands.specs.private.SetViews.{new_view};
+ghost use Rattle.bz_attribute.specs.Set as spec;
 
 use crate::value::one_list;
 use bz_attribute::done::Done;

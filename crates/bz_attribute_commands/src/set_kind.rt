@@ -5,7 +5,7 @@ ghost use Rattle.bz_tree.specs.Tree.{leaf};
 ghost use Rattle.bz_tree.specs.View.{nodes_view, slot_view};
 ghost use Rattle.bz_attribute.specs.Rules.{rule_of};
 ghost use Rattle.bz_attribute.specs.Effects.{holds_rule};
-ghost use Rattle.bz_attribute.specs.Setting as spec;
+ghost use Rattle.bz_attribute.specs.Set as spec;
 
 use bz_attribute::done::Done;
 use bz_attribute::make::token;

@@ -2,8 +2,8 @@
 
 ghost use Rattle.std.specs.Prelude.{◌≡◌, IfNone, IfSome, false, true};
 ghost use Rattle.bz_tree.specs.View.{nodes_view, segs_view};
-ghost use Rattle.bz_attribute_commands.specs.Printing.{first_elements};
-ghost use Rattle.bz_attribute.specs.Setting.{is_one_list};
+ghost use Rattle.bz_attribute_commands.specs.Print.{first_elements};
+ghost use Rattle.bz_attribute.specs.Set.{is_one_list};
 
 use bz_attribute::lists::{elements_at, is_list};
 use bz_tree::{Node, Seg};

@@ -13,7 +13,8 @@ use Rattle.bz_attribute.specs.Lists.{edit_from, edit_parts, is_attribute, with_v
 use Rattle.bz_command.specs.Labels.{Package}
 use Rattle.bz_command.specs.declared.command.Attributes.{Attributes}
 use Rattle.bz_command.specs.declared.command.Attributes.TheVariants.{Every, Named}
-use Rattle.bz_attribute.specs.Effects.{filtered, filtered_everywhere, loses_all, remove, removes}
+use Rattle.bz_attribute.specs.Effects.{filtered, loses_all}
+use Rattle.bz_attribute.specs.Remove.{filtered_everywhere, remove, removes}
 use Rattle.bz_list_commands.specs.private.EditSteps.{edit_attribute, goes, is_lost}
 
 -- one on: y stands where its like stood

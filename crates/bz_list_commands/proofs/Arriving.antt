@@ -18,9 +18,9 @@ use Rattle.bz_attribute.specs.Lists.{with_value, parts, parts_from, is_part, is_
 use Rattle.bz_attribute.specs.Effects.{has, chooses_in, edit_first, filtered, unchosen, is_chosen, loses_all, argument, list_item}
 use Rattle.bz_attribute.specs.private.ChosenViews.{words_of}
 use Rattle.bz_attribute.specs.private.Places.{IsFirst, first_length, first_list}
-use Rattle.bz_attribute.specs.Moving.{arrivals, chosen_of, elements_of, is_among, joined, moved}
+use Rattle.bz_attribute.specs.Move.{arrivals, chosen_of, elements_of, is_among, joined, moved}
 use Rattle.bz_attribute.proofs.LabelSets.{or_false}
-use Rattle.bz_list_commands.specs.private.MovingSteps.{value_of, with_list}
+use Rattle.bz_list_commands.specs.private.MoveSteps.{value_of, with_list}
 use Rattle.bz_list_commands.proofs.Leaving.{swapped_front, swapped_rest}
 
 pub any-joined : (p : Segment → Bool) (lists : List (List Segment)) → list_any p (joined lists) ≡ list_any (list_any p) lists

@@ -17,8 +17,8 @@ use Rattle.bz_command.specs.Same.{completed}
 use Rattle.bz_attribute.specs.Rules.{string_value}
 use Rattle.bz_attribute.specs.Lists.{equals, same, same_value}
 use Rattle.bz_attribute.specs.private.ElementSets.{is_in}
-use Rattle.bz_attribute.specs.Moving.{is_among, joined}
-use Rattle.bz_list_commands.specs.private.MovingSteps.{flags, has_value}
+use Rattle.bz_attribute.specs.Move.{is_among, joined}
+use Rattle.bz_list_commands.specs.private.MoveSteps.{flags, has_value}
 use Rattle.bz_list_commands.proofs.Arriving.{Arrived, any-joined, arrived_more, arrived_not}
 use Rattle.bz_attribute.proofs.LabelSets.{or_false}
 use Rattle.bz_list_commands.proofs.Leaving.{swapped_front, swapped_rest}

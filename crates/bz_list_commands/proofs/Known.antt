@@ -16,10 +16,11 @@ use Rattle.bz_command.specs.declared.label_set.LabelSet.{LabelSet}
 use Rattle.bz_command.specs.LabelSetViews.{Gains, has}
 use Rattle.bz_attribute.specs.Lists.{same, same_value}
 use Rattle.bz_attribute.specs.Rules.{string_value}
-use Rattle.bz_attribute.specs.Effects.{is_chosen, is_fresh, is_nil, string}
+use Rattle.bz_attribute.specs.Effects.{is_chosen, is_nil, string}
+use Rattle.bz_attribute.specs.Add.{is_fresh}
 use Rattle.bz_attribute.specs.private.ElementSets.{is_in}
 use Rattle.bz_attribute.proofs.LabelSets.{or_false}
-use Rattle.bz_list_commands.specs.private.AddingSteps.{Knows}
+use Rattle.bz_list_commands.specs.private.AddSteps.{Knows}
 use Rattle.bz_list_commands.proofs.Arriving.{some_more}
 
 and_false : (a : Bool) → (a && false) ≡ false

@@ -8,7 +8,7 @@ use Rattle.bz_tree.specs.Tree.{Segment}
 use Rattle.bz_tree.specs.View.{seg_view, segs_view, node_view, nodes_view}
 use Rattle.bz_attribute.specs.Rules.{elements}
 use Rattle.bz_attribute.specs.Lists.{is_part, is_plus, parts_from}
-use Rattle.bz_attribute.specs.Moving.{joined}
+use Rattle.bz_attribute.specs.Move.{joined}
 
 pub filter-append : (p : Segment → Bool) (xs ys : List Segment) → filter p (xs ++ ys) ≡ filter p xs ++ filter p ys
 filter-append p [] ys = refl

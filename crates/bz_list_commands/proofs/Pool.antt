@@ -11,7 +11,7 @@ use Rattle.bz_command.specs.declared.command.Moved.TheVariants.{Values}
 use Rattle.bz_attribute.specs.Rules.{elements, is_text, string_value, value}
 use Rattle.bz_attribute.specs.Lists.{equals, is_attribute, is_joint, is_part, is_plus, parts, parts_from}
 use Rattle.bz_attribute.specs.Effects.{is_chosen}
-use Rattle.bz_attribute.specs.Moving.{joined}
+use Rattle.bz_attribute.specs.Move.{joined}
 use Rattle.bz_list_commands.specs.declared.replace.Change.{Change}
 use Rattle.bz_list_commands.specs.private.ReplaceSteps.{count, count_at, count_everywhere, count_from, count_in, goes, old_at, old_everywhere}
 use Rattle.bz_list_commands.proofs.Leaving.{filter-append}

@@ -10,7 +10,7 @@ use Rattle.bz_command.specs.Labels.{Package}
 use Rattle.bz_command.specs.declared.command.Attributes.TheVariants.{Every, Named}
 use Rattle.bz_attribute.specs.Rules.{first_named, is_named, is_text, name_of}
 use Rattle.bz_attribute.specs.Lists.{is_attribute}
-use Rattle.bz_attribute.specs.Replacing.{replace, replaced_in, replaces, replaces_first, replaces_in}
+use Rattle.bz_attribute.specs.Replace.{replace, replaced_in, replaces, replaces_first, replaces_in}
 use Rattle.bz_attribute.specs.private.Places.{IsFirst}
 use Rattle.bz_attribute.proofs.LabelSets.{or_false}
 

@@ -1,5 +1,5 @@
-pub mod AddingSteps
+pub mod AddSteps
 pub mod EditSteps
-pub mod MovingSteps
+pub mod MoveSteps
 pub mod ReplaceSteps
 pub mod TakingSteps

@@ -4,8 +4,9 @@ ghost use Rattle.std.specs.Prelude.{◌≡◌, ◌≤◌, ◌<◌, ◌+◌, ◌+
 ghost use Rattle.bz_tree.specs.View.{node_view, nodes_view, seg_view, segs_view};
 ghost use Rattle.bz_attribute.specs.Rules.{first_named};
 ghost use Rattle.bz_attribute.specs.Lists.{edit_list, parts};
-ghost use Rattle.bz_list_commands.specs.private.AddingSteps.{Knows, told};
-ghost use Rattle.bz_attribute.specs.Effects as spec;
+ghost use Rattle.bz_list_commands.specs.private.AddSteps.{Knows, told};
+ghost use Rattle.bz_attribute.specs.Add as spec;
+ghost use Rattle.bz_attribute.specs.Effects as effects;
 
 use bz_attribute::chosen::{Chosen, is_any_chosen};
 use bz_attribute::done::Done;
@@ -29,7 +30,7 @@ pub fn add(
     ensures args { OnOk result
         (segs_view args.new.items ≡ spec.add home.now attr.now values.now (segs_view args.old.items)) }
     ensures done { IfOk result
-        (λ done. done ≡ spec.done (spec.not_a_list attr.now (first_named attr.now (segs_view args.old.items)))
+        (λ done. done ≡ effects.done (effects.not_a_list attr.now (first_named attr.now (segs_view args.old.items)))
         (spec.adds home.now values.now (first_named attr.now (segs_view args.old.items)))) }
     ensures err { OnErr result (segs_view args.new.items ≡ segs_view args.old.items) }
 {

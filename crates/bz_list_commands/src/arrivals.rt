@@ -6,8 +6,8 @@ ghost use Rattle.bz_tree.specs.View.{nodes_view, seg_view, segs_view};
 ghost use Rattle.bz_attribute.specs.Rules as rules;
 ghost use Rattle.bz_attribute.specs.Lists.{equals, parts};
 ghost use Rattle.bz_command.specs.LabelSetViews.{Gains, has};
-ghost use Rattle.bz_attribute.specs.Moving as spec;
-ghost use Rattle.bz_list_commands.specs.private.MovingSteps.{flags, has_value};
+ghost use Rattle.bz_attribute.specs.Move as spec;
+ghost use Rattle.bz_list_commands.specs.private.MoveSteps.{flags, has_value};
 
 use bz_attribute::chosen::{Chosen, any_chosen, is_any_chosen};
 use bz_attribute::equals::string_of;

@@ -7,8 +7,8 @@ ghost use Rattle.bz_attribute.specs.Rules.{elements, first_named, is_named, valu
 ghost use Rattle.bz_attribute.specs.Lists.{edit_list, parts};
 ghost use Rattle.bz_attribute.specs.private.Places.{first_length, first_list};
 ghost use Rattle.bz_attribute.specs.Effects as effects;
-ghost use Rattle.bz_attribute.specs.Moving as spec;
-ghost use Rattle.bz_list_commands.specs.private.MovingSteps.{with_arrivals, with_list, with_more};
+ghost use Rattle.bz_attribute.specs.Move as spec;
+ghost use Rattle.bz_list_commands.specs.private.MoveSteps.{with_arrivals, with_list, with_more};
 ghost use Rattle.bz_list_commands.specs.private.TakingSteps.{moved, moves};
 
 use crate::arrivals::keep_arrivals;

@@ -2,7 +2,8 @@
 
 ghost use Rattle.std.specs.Prelude.{◌≡◌, [], None, map, IfOk, OnOk, OnErr};
 ghost use Rattle.bz_tree.specs.View.{seg_view, segs_view};
-ghost use Rattle.bz_attribute.specs.Effects as spec;
+ghost use Rattle.bz_attribute.specs.Remove as spec;
+ghost use Rattle.bz_attribute.specs.Effects as effects;
 ghost use Rattle.bz_attribute.specs.Rules.{first_named, is_named};
 ghost use Rattle.bz_attribute.specs.private.ChosenViews.{chosen_view};
 ghost use Rattle.bz_attribute.specs.private.Places.{IsFirst};
@@ -30,7 +31,7 @@ pub fn remove(
         ≡ spec.remove home.now attributes.now values.now (segs_view args.old.items)) }
     ensures done { IfOk result
         (λ done. done
-        ≡ spec.done None (spec.removes home.now attributes.now values.now (segs_view args.old.items))) }
+        ≡ effects.done None (spec.removes home.now attributes.now values.now (segs_view args.old.items))) }
     ensures err { OnErr result (segs_view args.new.items ≡ segs_view args.old.items) }
 {
     match (attributes, values) {
@@ -45,7 +46,7 @@ fn remove_whole(attributes: &Attributes, args: &mut Vec<Seg<'_>>) -> Done
     ensures args { (home : _) → segs_view args.new.items
         ≡ spec.remove home attributes.now [] (segs_view args.old.items) }
     ensures done { (home : _) → result
-        ≡ spec.done None (spec.removes home attributes.now [] (segs_view args.old.items)) }
+        ≡ effects.done None (spec.removes home attributes.now [] (segs_view args.old.items)) }
 {
     let before = args.len();
     args.retain(|arg| !goes(attributes, arg));
@@ -72,7 +73,7 @@ fn remove_values<'v>(
     ensures args { OnOk result
         (segs_view args.new.items ≡ spec.remove_values home.now attr.now values.now (segs_view args.old.items)) }
     ensures done { IfOk result
-        (λ done. done ≡ spec.done None (has_any home.now attr.now values.now (segs_view args.old.items))) }
+        (λ done. done ≡ effects.done None (has_any home.now attr.now values.now (segs_view args.old.items))) }
     ensures err { OnErr result (segs_view args.new.items ≡ segs_view args.old.items) }
 {
     let Some(i) = find(args, attr) else {
@@ -86,10 +87,10 @@ fn remove_values<'v>(
 fn drop_chosen(home: &Package, chosen: Chosen<'_, '_>, i: usize, args: &mut Vec<Seg<'_>>) -> Done
     requires { (attr : _) × IsFirst attr args.old.items i }
     ensures args { (attr : _) → IsFirst attr args.old.items i → segs_view args.new.items
-        ≡ spec.edit_first (is_named attr) (spec.filtered (spec.unchosen home.now (chosen_view chosen.entry)))
+        ≡ effects.edit_first (is_named attr) (effects.filtered (effects.unchosen home.now (chosen_view chosen.entry)))
         (segs_view args.old.items) }
     ensures done { (attr : _) → IsFirst attr args.old.items i → result
-        ≡ spec.done None (spec.chooses_in home.now (chosen_view chosen.entry)
+        ≡ effects.done None (effects.chooses_in home.now (chosen_view chosen.entry)
         (first_named attr (segs_view args.old.items))) }
 {
     let changed = is_any_chosen(home, chosen, value_of(&args[i]));
@@ -111,7 +112,7 @@ fn remove_everywhere<'v>(
     ensures args { OnOk result
         (segs_view args.new.items ≡ cleared home.now values.now (segs_view args.old.items)) }
     ensures done { IfOk result
-        (λ done. done ≡ spec.done None (any_has_any home.now values.now (segs_view args.old.items))) }
+        (λ done. done ≡ effects.done None (any_has_any home.now values.now (segs_view args.old.items))) }
     ensures err { OnErr result (segs_view args.new.items ≡ segs_view args.old.items) }
 {
     let words = word_set(alloc, home, values)?;
@@ -125,7 +126,7 @@ fn remove_everywhere<'v>(
 
 fn drop_everywhere(home: &Package, chosen: Chosen<'_, '_>, args: &mut [Seg<'_>])
     ensures { segs_view args.new
-        ≡ map (edit_attribute (spec.unchosen home.now (chosen_view chosen.entry))) (segs_view args.old) }
+        ≡ map (edit_attribute (effects.unchosen home.now (chosen_view chosen.entry))) (segs_view args.old) }
 {
     for i in 0..args.len() {
         if is_attribute(&args[i]) {

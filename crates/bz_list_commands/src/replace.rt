@@ -7,7 +7,7 @@ ghost use Rattle.bz_attribute.specs.Rules.{elements};
 ghost use Rattle.bz_attribute.specs.Lists.{edit_list, edit_parts};
 ghost use Rattle.bz_attribute.specs.Effects.{done};
 ghost use Rattle.bz_list_commands.specs.private.EditSteps.{edit_attribute};
-ghost use Rattle.bz_attribute.specs.Replacing as spec;
+ghost use Rattle.bz_attribute.specs.Replace as spec;
 ghost use Rattle.bz_list_commands.specs.private.ReplaceSteps.{AreStrings, HasStrings, Uses, count, count_at, count_everywhere, count_in, goes, old_everywhere, put, replaced_everywhere, replaces_anywhere};
 
 use crate::taking::{Choice, count_in};

@@ -5,8 +5,8 @@ ghost use Rattle.bz_tree.specs.View.{node_view, nodes_view, seg_view, segs_view}
 ghost use Rattle.bz_attribute.specs.Rules.{elements, first_named, is_named, value};
 ghost use Rattle.bz_attribute.specs.Lists.{edit_list, edit_parts, parts, with_value};
 ghost use Rattle.bz_attribute.specs.Effects.{edit_first, filtered};
-ghost use Rattle.bz_attribute.specs.Moving.{elements_of, joined};
-ghost use Rattle.bz_list_commands.specs.private.MovingSteps.{value_of};
+ghost use Rattle.bz_attribute.specs.Move.{elements_of, joined};
+ghost use Rattle.bz_list_commands.specs.private.MoveSteps.{value_of};
 ghost use Rattle.bz_list_commands.specs.private.TakingSteps.{HasRoom, Takes, leave, stay};
 
 use bz_attribute::chosen::{Chosen, is_chosen, loses_all};

@@ -5,7 +5,8 @@ use Rattle.bz_tree.specs.Tree.{Segment}
 use Rattle.bz_command.specs.Labels.{Package}
 use Rattle.bz_attribute.specs.Rules.{is_named, first_named, value}
 use Rattle.bz_attribute.specs.Lists.{edit_first_part, is_attribute, parts, same, with_value}
-use Rattle.bz_attribute.specs.Effects.{add, adds, argument, done, edit_first, has, is_nil, list_item, new_elements, no_parts, not_a_list, with_added, fresh, is_fresh}
+use Rattle.bz_attribute.specs.Effects.{argument, done, edit_first, has, is_nil, list_item, no_parts, not_a_list}
+use Rattle.bz_attribute.specs.Add.{add, adds, new_elements, with_added, fresh, is_fresh}
 use Rattle.bz_attribute.specs.declared.done.Note.TheVariants.{NotAList}
 use Rattle.bz_rule.proofs.PartLaws.{edit_head, first_part_stays, parts_first_edited}
 use Rattle.bz_rule.proofs.Arguments.{attribute_named, first_same, has_first, is_first_named, rest_same, same_bytes, value_back, value_put}

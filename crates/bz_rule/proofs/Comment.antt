@@ -10,7 +10,7 @@ use Rattle.bz_attribute.specs.Lists.{edit_list, equals, is_joint, is_part, is_pl
 use Rattle.bz_attribute.specs.declared.done.Note.{Note}
 use Rattle.bz_attribute.specs.declared.done.Note.TheVariants.{NoAttribute, NoValue}
 use Rattle.bz_attribute.specs.Effects.{done, edit_first, first_note, has, holds_rule, is_absent, not_a_list}
-use Rattle.bz_attribute.specs.Commenting.{comment_attribute, comment_element, comment_line, comment_note, comment_rule, comment_value, comments_above, edit_element, edit_element_from, is_missing, with_comment}
+use Rattle.bz_attribute.specs.Comment.{comment_attribute, comment_element, comment_line, comment_note, comment_rule, comment_value, comments_above, edit_element, edit_element_from, is_missing, with_comment}
 use Rattle.bz_attribute.proofs.Views.{segments_of}
 use Rattle.bz_command.specs.declared.command.Commented.{Commented}
 use Rattle.bz_command.specs.declared.command.Commented.TheVariants.{Rule as OfRule, Attribute, Value}

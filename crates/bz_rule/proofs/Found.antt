@@ -9,7 +9,8 @@ use Rattle.bz_command.specs.Same.{completed}
 use Rattle.bz_command.specs.declared.command.Moved.TheVariants.{Values}
 use Rattle.bz_attribute.specs.Rules.{is_named, is_text, first_named, value}
 use Rattle.bz_attribute.specs.Lists.{edit_first_part, is_attribute, parts, same, with_value}
-use Rattle.bz_attribute.specs.Effects.{add, chooses, chooses_in, fresh, has, is_chosen, is_fresh, new_elements, no_parts, not_a_list, string, with_added}
+use Rattle.bz_attribute.specs.Effects.{chooses, chooses_in, has, is_chosen, no_parts, not_a_list, string}
+use Rattle.bz_attribute.specs.Add.{add, fresh, is_fresh, new_elements, with_added}
 use Rattle.bz_attribute.specs.declared.done.Note.TheVariants.{NotAList}
 use Rattle.bz_attribute.proofs.Views.{segments_of}
 use Rattle.bz_rule.proofs.PartLaws.{edit_head}

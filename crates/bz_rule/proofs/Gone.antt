@@ -9,7 +9,8 @@ use Rattle.bz_command.specs.declared.command.Moved.{Moved}
 use Rattle.bz_command.specs.declared.command.Moved.TheVariants.{Values}
 use Rattle.bz_attribute.specs.Rules.{is_named, is_text, first_named, value}
 use Rattle.bz_attribute.specs.Lists.{edit_parts, is_attribute, parts, with_value}
-use Rattle.bz_attribute.specs.Effects.{chooses_anywhere, chooses_in, edit_first, filtered, has, is_chosen, loses_all, remove, remove_all, remove_attribute, unchosen}
+use Rattle.bz_attribute.specs.Effects.{chooses_in, edit_first, filtered, has, is_chosen, loses_all, unchosen}
+use Rattle.bz_attribute.specs.Remove.{chooses_anywhere, remove, remove_all, remove_attribute}
 use Rattle.bz_rule.proofs.Kept.{none_left_in}
 use Rattle.bz_rule.proofs.Arguments.{attribute_named, name_put}
 use Rattle.bz_rule.proofs.Remove.{everywhere_left, parts_put}

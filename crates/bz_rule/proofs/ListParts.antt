@@ -3,7 +3,7 @@ use Rattle.std.proofs.Common.{Bool, List, [], ap, arith, false, if◌then◌else
 use Rattle.std.proofs.lemmas.Bool.{and_parts, false≢true}
 use Rattle.std.specs.List.{AllByRecursion, list_all, list_any}
 use Rattle.bz_attribute.proofs.RuleNodes.{segs_back}
-use Rattle.bz_attribute.specs.Commenting.{edit_element, edit_element_from}
+use Rattle.bz_attribute.specs.Comment.{edit_element, edit_element_from}
 use Rattle.bz_attribute.specs.Effects.{edit_first, list_item}
 use Rattle.bz_attribute.specs.Lists.{edit_first_part, edit_from, edit_list, edit_one_from, edit_parts, ends, is_joint, is_list, is_part, is_plus, parts, parts_from}
 use Rattle.bz_attribute.specs.Rules.{elements}

@@ -10,7 +10,7 @@ use Rattle.bz_command.specs.declared.command.Action.TheVariants.{Move}
 use Rattle.bz_attribute.specs.Rules.{first_named, is_named, is_text as is_word, name_of, value, string_value}
 use Rattle.bz_attribute.specs.Lists.{edit_first_part, edit_parts, with_value, is_attribute, parts}
 use Rattle.bz_attribute.specs.Effects.{argument, chooses_in, edit_first, filtered, has, list_item, loses_all, unchosen, is_chosen}
-use Rattle.bz_attribute.specs.Moving.{arrivals, chosen_of, elements_of, move, move_note, moved, moves, put_in, is_among, joined}
+use Rattle.bz_attribute.specs.Move.{arrivals, chosen_of, elements_of, move, move_note, moved, moves, put_in, is_among, joined}
 use Rattle.bz_rule.proofs.Arguments.{attribute_named, is_first_named, name_put}
 use Rattle.bz_list_commands.proofs.Arriving.{text_of_one}
 use Rattle.bz_list_commands.proofs.Leaving.{filter-append}

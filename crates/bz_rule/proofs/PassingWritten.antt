@@ -1,7 +1,7 @@
 -- Texts that pass a test do so where arguments or elements are written or filtered.
 use Rattle.std.proofs.Common.{Bool, List, [], codes, false, map, not, refl, true, ℕ, ◌++◌, ◌==◌, ◌∷◌, ◌≡◌}
 use Rattle.std.specs.List.{AllByRecursion, slice_split}
-use Rattle.bz_attribute.specs.Commenting.{comment_line}
+use Rattle.bz_attribute.specs.Comment.{comment_line}
 use Rattle.bz_attribute.specs.Effects.{argument, edit_first, filtered, is_chosen, list_item, loses_all, string, unchosen}
 use Rattle.bz_attribute.specs.Lists.{edit_first_part, edit_parts, with_value}
 use Rattle.bz_attribute.specs.Rules.{is_named, value}

@@ -14,7 +14,7 @@ use Rattle.bz_attribute.specs.Rules.{Rule, rule_of, value}
 use Rattle.bz_attribute.specs.Effects.{with_args}
 use Rattle.bz_attribute.specs.Texts.{home_text}
 use Rattle.bz_attribute.specs.declared.done.Note.TheVariants.{Missing}
-use Rattle.bz_attribute_commands.specs.Printing.{field_name, field_text, fields_of, missing, printed, printed_of, prints, shown_field, spaced, value_text}
+use Rattle.bz_attribute_commands.specs.Print.{field_name, field_text, fields_of, missing, printed, printed_of, prints, shown_field, spaced, value_text}
 use Rattle.bz_rule.specs.Aside.{IsAside}
 use Rattle.bz_rule.proofs.Lawful.{Lawful}
 use Rattle.bz_rule.proofs.NamesKept.{KeepsEach, Leaves, first_kept, name_kept}

@@ -9,8 +9,8 @@ use Rattle.bz_command.proofs.Cuts.{some_part}
 use Rattle.bz_attribute.specs.Rules.{Rule, call_at, comma_of, dotted, elements, end_of, is_call, kind_text, rule_from, rule_of}
 use Rattle.bz_attribute.specs.declared.done.Done.{Done}
 use Rattle.bz_attribute.specs.Effects.{done_in, holds_rule, nodes_after, nodes_of, slot_done, with_args}
-use Rattle.bz_attribute.specs.Setting.{joined_by_dots, kind_after, kind_items, sets_kind, sets_kind_of, with_kind}
-use Rattle.bz_attribute.specs.Commenting.{comment_rule, comments_above}
+use Rattle.bz_attribute.specs.Set.{joined_by_dots, kind_after, kind_items, sets_kind, sets_kind_of, with_kind}
+use Rattle.bz_attribute.specs.Comment.{comment_rule, comments_above}
 use Rattle.bz_attribute.proofs.Calls.{rule_from_end}
 use Rattle.bz_attribute.proofs.RuleNodes.{rule_nodes}
 use Rattle.bz_attribute.proofs.Views.{segments_of}

@@ -13,7 +13,8 @@ use Rattle.bz_command.specs.declared.command.Moved.TheVariants.{Values}
 use Rattle.bz_command.specs.declared.command.Action.TheVariants.{Remove}
 use Rattle.bz_attribute.specs.Rules.{is_named, first_named, value}
 use Rattle.bz_attribute.specs.Lists.{edit_parts, is_attribute, parts, with_value}
-use Rattle.bz_attribute.specs.Effects.{chooses, chooses_anywhere, chooses_in, done, filtered, filtered_everywhere, goes_with_all, has, is_chosen, is_nil, loses_all, remove, remove_values, removes, unchosen}
+use Rattle.bz_attribute.specs.Effects.{chooses, chooses_in, done, filtered, has, is_chosen, is_nil, loses_all, unchosen}
+use Rattle.bz_attribute.specs.Remove.{chooses_anywhere, filtered_everywhere, goes_with_all, remove, remove_values, removes}
 use Rattle.bz_rule.specs.Aside.{IsAside}
 use Rattle.bz_rule.proofs.Kept.{all_stay, all_stay_in, none_left_in, none_passes, none_passes_in}
 use Rattle.bz_rule.proofs.PartLaws.{parts_edited, parts_stay}

@@ -3,7 +3,8 @@ use Rattle.std.proofs.Common.{◌≡◌, ℕ, List, [], ◌∷◌, true, false, 
 use Rattle.std.proofs.lemmas.Bool.{or_right, and_parts}
 use Rattle.bz_tree.specs.Tree.{Item, Segment, group, leaf}
 use Rattle.bz_attribute.specs.Rules.{ident_of, is_named, is_operator_item, is_text as is_word, name_of, value}
-use Rattle.bz_attribute.specs.Effects.{edit_first, has, rename, rename_note, rename_to, renamed}
+use Rattle.bz_attribute.specs.Effects.{edit_first, has}
+use Rattle.bz_attribute.specs.Rename.{rename, rename_note, rename_to, renamed}
 use Rattle.bz_attribute.specs.declared.done.Note.TheVariants.{AttributeExists, NoAttribute}
 use Rattle.bz_command.specs.declared.command.Action.TheVariants.{Rename}
 use Rattle.bz_command.specs.Labels.{Package}

@@ -11,7 +11,7 @@ use Rattle.bz_command.specs.declared.command.Action.TheVariants.{Replace}
 use Rattle.bz_attribute.specs.Rules.{is_named, is_text, first_named, string_value, value}
 use Rattle.bz_attribute.specs.Lists.{edit_parts, equals, is_attribute, parts, with_value, same_value}
 use Rattle.bz_attribute.specs.Effects.{done, edit_first, string_item}
-use Rattle.bz_attribute.specs.Replacing.{is_replaced, replaced, replaced_in, replace, replaces, replaces_first, replaces_in}
+use Rattle.bz_attribute.specs.Replace.{is_replaced, replaced, replaced_in, replace, replaces, replaces_first, replaces_in}
 use Rattle.bz_command.proofs.ReadBack.{quoted_value}
 use Rattle.bz_rule.specs.Aside.{IsAside}
 use Rattle.bz_rule.proofs.Arguments.{attribute_named, first_after, is_first_named, name_put, rest_same, same_bytes, value_back, value_put}

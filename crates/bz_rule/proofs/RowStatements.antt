@@ -12,7 +12,7 @@ use Rattle.bz_command.specs.declared.command.Field.{Field}
 use Rattle.bz_attribute.specs.Heads.{IsHeadOf}
 use Rattle.bz_attribute.specs.declared.head.Head.{Head}
 use Rattle.bz_attribute.specs.declared.done.Done.{Done}
-use Rattle.bz_attribute_commands.specs.Printing.{prints}
+use Rattle.bz_attribute_commands.specs.Print.{prints}
 use Rattle.bz_rule.specs.RowViews.{row_value, row_statement}
 use Rattle.bz_rule.specs.private.NamedRows.{IsNamedRow}
 

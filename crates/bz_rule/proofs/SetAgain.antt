@@ -7,7 +7,7 @@ use Rattle.bz_tree.specs.declared.stmt.GroupKind.TheVariants.{RuleCall}
 use Rattle.bz_tree.specs.Tree.{Item, group, Segment, Statement, segs_of}
 use Rattle.bz_attribute.specs.Rules.{Rule, rule_of, call_at, dotted, kind_text, is_named, is_text, first_named, value}
 use Rattle.bz_attribute.specs.Effects.{argument, edit_first, nodes_of, string}
-use Rattle.bz_attribute.specs.Setting.{New, NewStrings, is_list_attribute, is_number, is_constant, new_word, is_one_list, holds_list, new_of, new_value, is_value, set_in, set, sets, joined_by_dots, kind_items, kind_after, with_kind, sets_kind, sets_kind_of}
+use Rattle.bz_attribute.specs.Set.{New, NewStrings, is_list_attribute, is_number, is_constant, new_word, is_one_list, holds_list, new_of, new_value, is_value, set_in, set, sets, joined_by_dots, kind_items, kind_after, with_kind, sets_kind, sets_kind_of}
 use Rattle.bz_attribute.proofs.Calls.{rule_from_end}
 use Rattle.bz_command.proofs.Cuts.{some_part}
 use Rattle.bz_rule.proofs.Arguments.{attribute_named, first_after, is_first_named, name_put, same_bytes}

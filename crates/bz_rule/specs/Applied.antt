@@ -7,12 +7,15 @@ use Rattle.bz_command.specs.declared.command.Setting.TheVariants.{ToKind, ToValu
 use Rattle.bz_command.specs.declared.command.Commented.TheVariants.{Rule}
 use Rattle.bz_command.specs.declared.command.Action.TheVariants.{Add, Remove, Set, SetIfAbsent, Delete, Rename, Move, Replace, Comment, Print}
 use Rattle.bz_attribute.specs.Rules.{first_named}
-use Rattle.bz_attribute.specs.Effects.{has, done, add, adds, not_a_list, remove, removes, rename, rename_note, with_args, slot_done, holds_rule}
-use Rattle.bz_attribute.specs.Setting.{set, sets, set_if_absent, with_kind, sets_kind_of}
-use Rattle.bz_attribute.specs.Moving.{move, moves, move_note}
-use Rattle.bz_attribute.specs.Replacing.{replace, replaces}
-use Rattle.bz_attribute.specs.Commenting.{comment_rule, comment_args, comment_done}
-use Rattle.bz_attribute_commands.specs.Printing.{prints}
+use Rattle.bz_attribute.specs.Effects.{has, done, not_a_list, with_args, slot_done, holds_rule}
+use Rattle.bz_attribute.specs.Add.{add, adds}
+use Rattle.bz_attribute.specs.Remove.{remove, removes}
+use Rattle.bz_attribute.specs.Rename.{rename, rename_note}
+use Rattle.bz_attribute.specs.Set.{set, sets, set_if_absent, with_kind, sets_kind_of}
+use Rattle.bz_attribute.specs.Move.{move, moves, move_note}
+use Rattle.bz_attribute.specs.Replace.{replace, replaces}
+use Rattle.bz_attribute.specs.Comment.{comment_rule, comment_args, comment_done}
+use Rattle.bz_attribute_commands.specs.Print.{prints}
 use Rattle.bz_attribute.specs.declared.done.Done.{Done}
 
 -- the arguments after a command on them

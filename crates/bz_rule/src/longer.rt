@@ -11,7 +11,7 @@ ghost use Rattle.bz_attribute.specs.Rules.{rule_of};
 ghost use Rattle.bz_attribute.specs.Lists.{edit_list};
 ghost use Rattle.bz_attribute.specs.Effects.{nodes_after};
 ghost use Rattle.bz_attribute.specs.Texts.{shown_text};
-ghost use Rattle.bz_attribute_commands.specs.Printing.{prints};
+ghost use Rattle.bz_attribute_commands.specs.Print.{prints};
 ghost use Rattle.bz_layout.specs.Layout.{layout_text};
 ghost use Rattle.bz_rule.specs.Applied as applied;
 ghost use Rattle.bz_rule.specs.RowViews.{row_statement};

@@ -12,7 +12,7 @@ use Rattle.bz_attribute.specs.Effects.{edit_first, failed, no_parts}
 use Rattle.bz_attribute.specs.declared.done.Done.{Done}
 use Rattle.bz_attribute.specs.declared.done.Note.{Note}
 use Rattle.bz_attribute.specs.declared.done.Note.TheVariants.{NoValue, NotAList}
-use Rattle.bz_attribute.specs.Commenting.{edit_element, is_blank}
+use Rattle.bz_attribute.specs.Comment.{edit_element, is_blank}
 
 pub record IsFirstOf (p : Segment → Bool) (segs : List Seg) (i : ℕ) : Type 0 where
   pub within : i < length segs

@@ -7,7 +7,7 @@ use Rattle.bz_command.specs.declared.command.Field.{Field}
 use Rattle.bz_command.specs.declared.command.Field.TheVariants.{Label, Kind, StartLine, EndLine, ValueOf}
 use Rattle.bz_attribute.specs.Texts.{home_text}
 use Rattle.bz_attribute.specs.declared.head.Head.{Head}
-use Rattle.bz_attribute_commands.specs.Printing.{spaced, word_form}
+use Rattle.bz_attribute_commands.specs.Print.{spaced, word_form}
 
 -- of the attributes the name alone
 abbrev pub is_told : Field → Bool

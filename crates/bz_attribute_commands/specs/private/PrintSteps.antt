@@ -4,7 +4,7 @@ use Rattle.bz_tree.specs.Tree.{Segment}
 use Rattle.bz_command.specs.Labels.{Package}
 use Rattle.bz_attribute.specs.Rules.{Rule, first_named, kind_text, name_in, string_value, value}
 use Rattle.bz_attribute.specs.Texts.{home_text}
-use Rattle.bz_attribute_commands.specs.Printing.{shown_field, value_text, word_of}
+use Rattle.bz_attribute_commands.specs.Print.{shown_field, value_text, word_of}
 use Rattle.bz_attribute.specs.declared.done.Done.{Done}
 use Rattle.bz_attribute.specs.declared.done.Note.{Note}
 use Rattle.bz_attribute.specs.declared.done.Note.TheVariants.{Missing}

@@ -7,7 +7,8 @@ use Rattle.bz_command.specs.declared.command.Attributes.TheVariants.{Every, Name
 use Rattle.bz_command.specs.declared.command.Moved.TheVariants.{Values}
 use Rattle.bz_attribute.specs.Rules.{first_named, is_named, value}
 use Rattle.bz_attribute.specs.Lists.{is_attribute, with_value, edit_parts}
-use Rattle.bz_attribute.specs.Effects.{chooses_anywhere, chooses_in, filtered_everywhere, goes_with_all, loses_all, unchosen}
+use Rattle.bz_attribute.specs.Effects.{chooses_in, loses_all, unchosen}
+use Rattle.bz_attribute.specs.Remove.{chooses_anywhere, filtered_everywhere, goes_with_all}
 
 abbrev pub is_lost : (List Segment → List Segment) → Segment → Bool
 is_lost f a = is_attribute a && loses_all f (value a)

@@ -9,8 +9,8 @@ use Rattle.bz_command.specs.declared.command.Attributes.TheVariants.{Every}
 use Rattle.bz_command.specs.declared.command.Moved.TheVariants.{Values}
 use Rattle.bz_attribute.specs.Lists.{is_attribute, is_joint, is_part, is_plus, parts}
 use Rattle.bz_attribute.specs.Effects.{is_chosen, string}
-use Rattle.bz_attribute.specs.Moving.{joined}
-use Rattle.bz_attribute.specs.Replacing.{is_replaced, replace, replaced, replaces}
+use Rattle.bz_attribute.specs.Move.{joined}
+use Rattle.bz_attribute.specs.Replace.{is_replaced, replace, replaced, replaces}
 use Rattle.bz_list_commands.specs.declared.replace.Change.{Change}
 
 abbrev pub goes : Change → Segment → Bool

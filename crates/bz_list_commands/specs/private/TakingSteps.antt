@@ -7,8 +7,8 @@ use Rattle.bz_tree.specs.Tree.{Segment}
 use Rattle.bz_tree.specs.View.{segs_view}
 use Rattle.bz_attribute.specs.private.ChosenViews.{chosen_view}
 use Rattle.bz_attribute.specs.Effects.{is_chosen, unchosen}
-use Rattle.bz_attribute.specs.Moving.{moved_where}
-use Rattle.bz_attribute.specs.Moving as spec
+use Rattle.bz_attribute.specs.Move.{moved_where}
+use Rattle.bz_attribute.specs.Move as spec
 use Rattle.bz_list_commands.specs.declared.taking.Choice.{Choice}
 
 abbrev pub is_meant : Choice → Segment → Bool

@@ -7,12 +7,14 @@ ghost use Rattle.bz_rule.specs.Applied.{after, keeps_comments};
 ghost use Rattle.bz_command.specs.Commands.{Command};
 ghost use Rattle.bz_command.specs.declared.command.Attributes.{Attributes};
 ghost use Rattle.bz_command.specs.declared.command.Moved.{Moved};
+ghost use Rattle.bz_attribute.specs.Add as add;
 ghost use Rattle.bz_attribute.specs.Effects as effects;
+ghost use Rattle.bz_attribute.specs.Rename as rename;
 ghost use Rattle.bz_command.specs.Labels.{Package};
 ghost use Rattle.bz_attribute.specs.Lists.{is_attribute, parts};
 ghost use Rattle.bz_rule.specs.OwnComments.{no_comments, own_comments};
-ghost use Rattle.bz_attribute.specs.Replacing as replacing;
-ghost use Rattle.bz_attribute.specs.Setting as setting;
+ghost use Rattle.bz_attribute.specs.Replace as replace;
+ghost use Rattle.bz_attribute.specs.Set as set;
 ghost use Rattle.bz_attribute.specs.Rules.{value};
 
 /// The commands that `keeps_comments` names leave all comments of a statement, in their order.
@@ -25,18 +27,18 @@ pub fn comments_stay()
 #[tactic(auto, using(crate::proofs::Commands::own_comments_stay))]
 pub fn arguments_keep_comments()
     ensures add { (home : Package) (attr : List ℕ) (values : List (List ℕ)) (args : List Segment)
-        → map own_comments (effects.add home attr values args)
+        → map own_comments (add.add home attr values args)
         ≡ map own_comments args ++ (if effects.has attr args then [] else no_comments ∷ []) }
     ensures set { (attr : List ℕ) (values : List (List ℕ)) (args : List Segment)
-        → map own_comments (setting.set attr values args) ≡ map own_comments args
+        → map own_comments (set.set attr values args) ≡ map own_comments args
         ++ (if effects.has attr args then [] else no_comments ∷ []) }
     ensures set_if_absent { (attr : List ℕ) (values : List (List ℕ)) (args : List Segment)
-        → map own_comments (setting.set_if_absent attr values args)
+        → map own_comments (set.set_if_absent attr values args)
         ≡ map own_comments args ++ (if effects.has attr args then [] else no_comments ∷ []) }
     ensures rename { (old new : List ℕ) (args : List Segment)
-        → map own_comments (effects.rename old new args) ≡ map own_comments args }
+        → map own_comments (rename.rename old new args) ≡ map own_comments args }
     ensures replace { (home : Package) (attrs : Attributes) (old new : List ℕ) (args : List Segment)
-        → map own_comments (replacing.replace home attrs old new args) ≡ map own_comments args }
+        → map own_comments (replace.replace home attrs old new args) ≡ map own_comments args }
     ensures remove { (home : Package) (chosen : Moved) (a : Segment)
         → map own_comments (effects.filtered (effects.unchosen home chosen) a)
         ≡ (if effects.loses_all (effects.unchosen home chosen) (value a) then [] else own_comments a ∷ []) }
@@ -50,11 +52,11 @@ pub fn elements_keep_comments()
         → parts (value b) ≡ map (effects.unchosen home chosen) (parts (value a)) }
     ensures add { (home : Package) (values : List (List ℕ)) (a : Segment) (ss : List Segment)
         (lists : List (List Segment)) → is_attribute a ≡ true → parts (value a) ≡ ss ∷ lists
-        → parts (value (effects.with_added home values a)) ≡ (ss ++ effects.new_elements home (ss ∷ lists) values)
+        → parts (value (add.with_added home values a)) ≡ (ss ++ add.new_elements home (ss ∷ lists) values)
         ∷ lists }
     ensures replace { (home : Package) (old new : List ℕ) (a : Segment) → is_attribute a ≡ true
-        → parts (value (replacing.replaced_in home old new a))
-        ≡ map (map (replacing.replaced home old new)) (parts (value a)) }
+        → parts (value (replace.replaced_in home old new a))
+        ≡ map (map (replace.replaced home old new)) (parts (value a)) }
     ensures replaced { (home : Package) (old new : List ℕ) (s : Segment)
-        → own_comments (replacing.replaced home old new s) ≡ own_comments s }
+        → own_comments (replace.replaced home old new s) ≡ own_comments s }
 {}

@@ -8,7 +8,9 @@ ghost use Rattle.bz_command.specs.declared.command.Attributes.TheVariants.{Every
 ghost use Rattle.bz_command.specs.declared.command.Setting.TheVariants.{ToKind, ToValues};
 ghost use Rattle.bz_command.specs.declared.command.Moved.TheVariants.{Values};
 ghost use Rattle.bz_command.specs.declared.command.Action.TheVariants.{Add, Set};
+ghost use Rattle.bz_attribute.specs.Add as add;
 ghost use Rattle.bz_attribute.specs.Effects as effects;
+ghost use Rattle.bz_attribute.specs.Remove as remove;
 ghost use Rattle.bz_command.specs.Labels.{Package};
 ghost use Rattle.bz_attribute.specs.Lists.{is_attribute};
 ghost use Rattle.bz_attribute.specs.Rules.{first_named, is_named};
@@ -18,7 +20,7 @@ pub fn added_values_are_found()
     ensures { (home : Package) (attr : List ℕ) (values : List (List ℕ)) (args : List Segment)
         → effects.not_a_list attr (first_named attr args) ≡ None
         → list_all
-        (λ v. effects.chooses_in home (Values (v ∷ [])) (first_named attr (effects.add home attr values args))) values
+        (λ v. effects.chooses_in home (Values (v ∷ [])) (first_named attr (add.add home attr values args))) values
         ≡ true }
 {}
 
@@ -40,20 +42,20 @@ pub fn set_twice_changes_nothing()
 /// most; the values in all attributes. Where there are more of the name, the first is edited and all else stays.
 pub fn removed_is_gone()
     ensures attribute { (home : Package) (attr : List ℕ) (args : List Segment)
-        → effects.has attr (effects.remove home (Named attr) [] args) ≡ false }
+        → effects.has attr (remove.remove home (Named attr) [] args) ≡ false }
     ensures all { (home : Package) (args : List Segment)
-        → list_any effects.goes_with_all (effects.remove home Every [] args) ≡ false }
+        → list_any remove.goes_with_all (remove.remove home Every [] args) ≡ false }
     ensures values { (home : Package) (attr : List ℕ) (values : List (List ℕ)) (args : List Segment)
         → length (filter (is_named attr) args) ≤ 1
-        → effects.chooses_in home (Values values) (first_named attr (effects.remove home (Named attr) values args))
+        → effects.chooses_in home (Values values) (first_named attr (remove.remove home (Named attr) values args))
         ≡ false }
     ensures everywhere { (home : Package) (values : List (List ℕ)) (args : List Segment)
-        → effects.chooses_anywhere home (Values values) (effects.remove home Every values args) ≡ false }
+        → remove.chooses_anywhere home (Values values) (remove.remove home Every values args) ≡ false }
     ensures edited { (home : Package) (values : List (List ℕ)) (a : Segment) → is_attribute a ≡ true
         → list_any (effects.chooses home (Values values)) (effects.filtered (effects.unchosen home (Values values)) a)
         ≡ false }
     ensures rest { (home : Package) (attr : List ℕ) (values : List (List ℕ)) (front rest : List Segment) (a : Segment)
         → effects.has attr front ≡ false → is_named attr a ≡ true
-        → effects.remove_values home attr values (front ++ a ∷ rest)
+        → remove.remove_values home attr values (front ++ a ∷ rest)
         ≡ front ++ (effects.filtered (effects.unchosen home (Values values)) a ++ rest) }
 {}

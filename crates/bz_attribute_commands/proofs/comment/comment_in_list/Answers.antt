@@ -9,7 +9,7 @@ use Rattle.bz_tree.specs.View.{node_view, seg_view, segs_view, texts}
 use Rattle.bz_attribute.specs.Lists.{edit_list, equals}
 use Rattle.bz_attribute.specs.Effects.{done, edit_first}
 use Rattle.bz_attribute.specs.Rules.{elements}
-use Rattle.bz_attribute.specs.Commenting.{comment_line, with_comment}
+use Rattle.bz_attribute.specs.Comment.{comment_line, with_comment}
 use Rattle.bz_attribute.proofs.Groups.{edited_group, elements_group, view_of_seg}
 use Rattle.bz_attribute.proofs.Views.{segments_of, view_of_group}
 use Rattle.bz_attribute_commands.proofs.Written.{if_ok, then_err, then_ok}

@@ -6,7 +6,7 @@ use Rattle.bz_attribute.specs.Rules.{elements}
 use Rattle.bz_attribute.specs.Lists.{edit_list, equals}
 use Rattle.bz_attribute.specs.Effects.{done, edit_first}
 use Rattle.bz_attribute.specs.declared.done.Note.{Note}
-use Rattle.bz_attribute.specs.Commenting.{comment_line, with_comment}
+use Rattle.bz_attribute.specs.Comment.{comment_line, with_comment}
 use Rattle.bz_attribute_commands.proofs.CommentEdits.{absent_stays, absent_told, comment_done, comment_kept, comment_put, comment_stays, missing, part_read}
 use Rattle.bz_attribute_commands.proofs.Written.{if_ok, on_ok, then_err, then_ok}
 use Rattle.bz_attribute_commands.proofs.comment.comment_value.Goals as goal

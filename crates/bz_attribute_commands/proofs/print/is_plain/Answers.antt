@@ -2,7 +2,7 @@ use Rattle.std.proofs.Common.{rules, tests, ◌≡◌, ℕ, ◌<◌, List, [], �
 use Rattle.std.specs.List.{list_any}
 use Rattle.std.proofs.lemmas.Iterator.{YieldsList-from_slice}
 use Rattle.std.proofs.lemmas.Iterator.Search.{any_from_yields_List}
-use Rattle.bz_attribute_commands.specs.Printing.{is_plain, is_unplain}
+use Rattle.bz_attribute_commands.specs.Print.{is_plain, is_unplain}
 use Rattle.bz_attribute_commands.proofs.print.is_plain.Goals as goal
 
 not_empty : (word : List ℕ) → 0 < length word → not (list_any is_unplain word) ≡ is_plain word

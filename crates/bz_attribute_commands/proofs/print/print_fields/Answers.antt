@@ -2,7 +2,7 @@ use Rattle.std.proofs.Common.{rules, ℕ, List, ◌++◌, [], map, ap, ◌∙◌
 use Rattle.bz_tree.specs.View.{view}
 use Rattle.bz_attribute.specs.declared.done.Note.TheVariants.{Missing}
 use Rattle.bz_attribute.specs.RuleViews.{rule_view}
-use Rattle.bz_attribute_commands.specs.Printing.{field_text, shown_field}
+use Rattle.bz_attribute_commands.specs.Print.{field_text, shown_field}
 use Rattle.bz_attribute_commands.specs.private.PrintSteps.{spaced_from}
 use Rattle.bz_attribute_commands.proofs.Printed.{spaced_all, next_word, next_missing}
 use Rattle.bz_attribute_commands.proofs.print.print_fields.Goals as goal

@@ -4,7 +4,7 @@ use Rattle.bz_tree.specs.View.{view}
 use Rattle.bz_attribute.specs.RuleViews.{rule_view}
 use Rattle.bz_attribute.specs.declared.done.Note.TheVariants.{Missing}
 use Rattle.bz_attribute.specs.Effects.{first_note}
-use Rattle.bz_attribute_commands.specs.Printing.{line_of, missing, shown_field, field_text}
+use Rattle.bz_attribute_commands.specs.Print.{line_of, missing, shown_field, field_text}
 use Rattle.bz_attribute_commands.specs.private.PrintSteps.{spaced_from}
 use Rattle.bz_attribute_commands.proofs.print.print_fields.Given as goal
 

@@ -4,7 +4,7 @@ use Rattle.std.proofs.lemmas.Iterator.{YieldsList-from_slice}
 use Rattle.std.proofs.lemmas.Iterator.Search.{all_from_yields_List}
 use Rattle.std.proofs.lemmas.List.Folds.{list_all-map}
 use Rattle.bz_tree.specs.View.{seg_view, segs_view}
-use Rattle.bz_attribute_commands.specs.Printing.{has_string}
+use Rattle.bz_attribute_commands.specs.Print.{has_string}
 use Rattle.bz_attribute_commands.proofs.OneList.{words_in}
 use Rattle.bz_attribute_commands.proofs.print.words_in.Goals as goal
 

@@ -1,6 +1,6 @@
 use Rattle.std.proofs.Common.{◌∙◌, ap, List, ℕ, ◌++◌}
 use Rattle.std.specs.Prelude.{None}
-use Rattle.bz_attribute_commands.specs.Printing.{fields_of}
+use Rattle.bz_attribute_commands.specs.Print.{fields_of}
 use Rattle.bz_attribute_commands.specs.private.HeadFields.{head_words}
 use Rattle.bz_attribute_commands.specs.private.PrintSteps.{line_with}
 use Rattle.bz_attribute_commands.proofs.HeadPrinted.{head_prints}

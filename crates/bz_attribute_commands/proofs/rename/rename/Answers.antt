@@ -7,7 +7,8 @@ use Rattle.bz_tree.specs.Tree.{Item, leaf, Segment}
 use Rattle.bz_tree.specs.View.{node_view, nodes_view, seg_view, segs_view}
 use Rattle.bz_attribute.specs.Rules.{is_named}
 use Rattle.bz_attribute.specs.declared.done.Note.{Note}
-use Rattle.bz_attribute.specs.Effects.{done, edit_first, has, rename, rename_note, rename_to, renamed}
+use Rattle.bz_attribute.specs.Effects.{done, edit_first, has}
+use Rattle.bz_attribute.specs.Rename.{rename, rename_note, rename_to, renamed}
 use Rattle.bz_attribute.specs.private.Places.{IsAbsent, IsFirst}
 use Rattle.bz_attribute.proofs.Groups.{view_of_seg}
 use Rattle.bz_attribute_commands.proofs.Written.{nodes_written}

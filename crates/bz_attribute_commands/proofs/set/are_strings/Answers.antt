@@ -7,7 +7,7 @@ use Rattle.bz_attribute.proofs.Groups.{view_of_seg}
 use Rattle.std.proofs.lemmas.Iterator.Search.{all_from_yields_List}
 use Rattle.bz_tree.specs.declared.stmt.Seg.{Seg}
 use Rattle.bz_tree.specs.View.{seg_view, segs_view}
-use Rattle.bz_attribute.specs.Setting.{are_strings, is_string}
+use Rattle.bz_attribute.specs.Set.{are_strings, is_string}
 use Rattle.bz_attribute_commands.proofs.set.are_strings.Goals as goal
 
 one_each : (words : List (List ℕ)) (es : List Seg) → length words ≡ length es → list_all (λ p. is_string p.0 (seg_view p.1)) (zip words es) ≡ are_strings words (segs_view es)

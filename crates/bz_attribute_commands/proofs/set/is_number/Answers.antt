@@ -2,7 +2,7 @@ use Rattle.std.proofs.Common.{rules, tests, ◌≡◌}
 use Rattle.std.specs.List.{list_all}
 use Rattle.std.proofs.lemmas.Iterator.{YieldsList-from_slice}
 use Rattle.std.proofs.lemmas.Iterator.Search.{all_from_yields_List}
-use Rattle.bz_attribute.specs.Setting.{is_digit}
+use Rattle.bz_attribute.specs.Set.{is_digit}
 use Rattle.bz_attribute_commands.proofs.set.is_number.Goals as goal
 
 pub returns-then-first-ne48 : goal.returns-then-first-ne48

@@ -5,8 +5,8 @@ use Rattle.bz_tree.specs.View.{nodes_view, seg_view}
 use Rattle.bz_attribute.specs.Rules.{value}
 use Rattle.bz_attribute.specs.Lists.{with_value}
 use Rattle.bz_attribute.specs.Effects.{done}
-use Rattle.bz_attribute.specs.Setting.{New, holds_list, is_one_list, is_value, new_of, new_value}
-use Rattle.bz_attribute_commands.specs.private.SettingViews.{new_view}
+use Rattle.bz_attribute.specs.Set.{New, holds_list, is_one_list, is_value, new_of, new_value}
+use Rattle.bz_attribute_commands.specs.private.SetViews.{new_view}
 use Rattle.bz_attribute_commands.proofs.set.set_in.Goals as goal
 
 -- what was tested of the value that is there

@@ -8,7 +8,7 @@ use Rattle.bz_tree.specs.View.{node_view, nodes_view}
 use Rattle.std.proofs.lemmas.Bool.{true≢false}
 use Rattle.bz_attribute.specs.Rules.{Rule, rule_of, kind_text}
 use Rattle.bz_attribute.specs.RuleViews.{rule_view}
-use Rattle.bz_attribute.specs.Setting.{kind_items, sets_kind}
+use Rattle.bz_attribute.specs.Set.{kind_items, sets_kind}
 use Rattle.bz_attribute_commands.proofs.KindEdits.{kind_put}
 use Rattle.bz_attribute_commands.proofs.set_kind.in_nodes.Goals as goal
 use Rattle.bz_attribute_commands.proofs.set_kind.in_nodes.Goals.{in-Some-pop, in_default-pop}

@@ -2,7 +2,7 @@ use Rattle.std.proofs.Common.{◌≡◌, ◌==◌, ◌∷◌, [], ◌++◌, List
 use Rattle.std.specs.List.{slice_split}
 use Rattle.bz_tree.specs.Tree.{Item}
 use Rattle.bz_tree.specs.View.{nodes_view}
-use Rattle.bz_attribute.specs.Setting.{dot_item, kind_items}
+use Rattle.bz_attribute.specs.Set.{dot_item, kind_items}
 use Rattle.bz_attribute_commands.proofs.KindEdits.{kind_step}
 use Rattle.bz_attribute_commands.proofs.set_kind.kind_nodes.Goals as goal
 

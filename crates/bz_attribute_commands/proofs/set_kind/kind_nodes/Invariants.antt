@@ -1,7 +1,7 @@
 use Rattle.std.proofs.Common.{◌≡◌, ◌++◌, length}
 use Rattle.std.specs.Str.{IsUtf8}
 use Rattle.bz_tree.specs.View.{nodes_view}
-use Rattle.bz_attribute.specs.Setting.{kind_items}
+use Rattle.bz_attribute.specs.Set.{kind_items}
 use Rattle.bz_attribute_commands.proofs.set_kind.kind_nodes.Given as goal
 
 abbrev pub invariant-loop-name : goal.invariant-loop-name

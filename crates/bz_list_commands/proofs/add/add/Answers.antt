@@ -3,7 +3,8 @@ use Rattle.bz_tree.specs.declared.stmt.Seg.{Seg}
 use Rattle.bz_tree.specs.Tree.{Item, Segment}
 use Rattle.bz_tree.specs.View.{segs_view}
 use Rattle.bz_attribute.specs.Rules.{first_named, is_named}
-use Rattle.bz_attribute.specs.Effects.{adds, argument, done, edit_first, has, list_item, new_elements, not_a_list, with_added}
+use Rattle.bz_attribute.specs.Effects.{argument, done, edit_first, has, list_item, not_a_list}
+use Rattle.bz_attribute.specs.Add.{adds, new_elements, with_added}
 use Rattle.bz_list_commands.proofs.add.add.Goals as goal
 
 pub returns-clause-args : goal.returns-clause-args

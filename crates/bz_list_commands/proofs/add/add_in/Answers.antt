@@ -3,12 +3,13 @@ use Rattle.bz_tree.specs.declared.stmt.Node.{Node}
 use Rattle.bz_tree.specs.declared.stmt.Seg.{Seg}
 use Rattle.bz_tree.specs.Tree.{Item, Segment}
 use Rattle.bz_command.specs.Labels.{Package}
-use Rattle.bz_list_commands.specs.private.AddingSteps.{told}
+use Rattle.bz_list_commands.specs.private.AddSteps.{told}
 use Rattle.bz_tree.specs.View.{nodes_view, seg_view, segs_view}
 use Rattle.bz_attribute.specs.Rules.{value}
 use Rattle.bz_attribute.specs.Lists.{edit_first_part, parts, with_value}
 use Rattle.bz_attribute.specs.declared.done.Note.TheVariants.{NotAList}
-use Rattle.bz_attribute.specs.Effects.{adds, done, failed, is_nil, new_elements, no_parts, with_added}
+use Rattle.bz_attribute.specs.Effects.{done, failed, is_nil, no_parts}
+use Rattle.bz_attribute.specs.Add.{adds, new_elements, with_added}
 use Rattle.bz_list_commands.proofs.Known.{any_new}
 use Rattle.bz_list_commands.proofs.Replaced.{if_ok, on_err, on_ok}
 use Rattle.bz_list_commands.proofs.Written.{part_stays, part_written, value_read}

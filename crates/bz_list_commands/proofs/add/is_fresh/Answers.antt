@@ -5,10 +5,10 @@ use Rattle.std.proofs.lemmas.Iterator.Search.{any_from_yields_List}
 use Rattle.std.proofs.lemmas.List.{get_or_default}
 use Rattle.std.proofs.lemmas.Result.{IfOk-weaker, on_ok_weaker}
 use Rattle.bz_tree.specs.View.{nodes_view}
-use Rattle.bz_attribute.specs.Effects.{is_fresh}
+use Rattle.bz_attribute.specs.Add.{is_fresh}
 use Rattle.bz_attribute.specs.Lists.{parts, same}
 use Rattle.bz_list_commands.proofs.Known.{knows_fresh, knows_more}
-use Rattle.bz_list_commands.specs.private.AddingSteps.{Knows}
+use Rattle.bz_list_commands.specs.private.AddSteps.{Knows}
 use Rattle.bz_list_commands.proofs.add.is_fresh.Goals as goal
 
 pub returns-in-Some-clause-there : goal.returns-in-Some-clause-there

@@ -4,7 +4,8 @@ use Rattle.std.proofs.lemmas.List.{append-nil, drop_all, get_or_default}
 use Rattle.bz_tree.specs.declared.stmt.Seg.{Seg}
 use Rattle.bz_tree.specs.View.{nodes_view, segs_view}
 use Rattle.bz_attribute.specs.Lists.{parts}
-use Rattle.bz_attribute.specs.Effects.{fresh, string}
+use Rattle.bz_attribute.specs.Effects.{string}
+use Rattle.bz_attribute.specs.Add.{fresh}
 use Rattle.bz_attribute.proofs.Fresh.{fresh_step}
 use Rattle.bz_list_commands.proofs.Known.{fresh_pushed, known_passed}
 use Rattle.bz_list_commands.proofs.add.new_elements.Goals as goal

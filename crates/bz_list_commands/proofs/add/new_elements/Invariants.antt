@@ -2,8 +2,9 @@ use Rattle.std.proofs.Common.{◌≡◌, ◌++◌, take, drop, map}
 use Rattle.std.specs.Prelude.{IfSome}
 use Rattle.bz_tree.specs.View.{segs_view, nodes_view}
 use Rattle.bz_attribute.specs.Lists.{parts}
-use Rattle.bz_attribute.specs.Effects.{string, fresh, new_elements}
-use Rattle.bz_list_commands.specs.private.AddingSteps.{Knows}
+use Rattle.bz_attribute.specs.Effects.{string}
+use Rattle.bz_attribute.specs.Add.{fresh, new_elements}
+use Rattle.bz_list_commands.specs.private.AddSteps.{Knows}
 use Rattle.bz_list_commands.proofs.add.new_elements.Given as goal
 
 abbrev pub invariant-loop-i : goal.invariant-loop-i

@@ -4,7 +4,7 @@ use Rattle.bz_tree.specs.declared.stmt.Seg.{Seg}
 use Rattle.bz_tree.specs.View.{nodes_view, seg_view, segs_view}
 use Rattle.bz_attribute.specs.Lists.{parts}
 use Rattle.bz_attribute.specs.Rules.{string_value}
-use Rattle.bz_attribute.specs.Moving.{is_among, joined}
+use Rattle.bz_attribute.specs.Move.{is_among, joined}
 use Rattle.bz_list_commands.proofs.Arriving.{arrived_all, arrived_start}
 use Rattle.bz_list_commands.proofs.Flags.{came, stayed, tells_within, told_first, told_flag, turned}
 use Rattle.bz_list_commands.proofs.arrivals.arrivals_first.Goals as goal

@@ -1,7 +1,7 @@
 use Rattle.std.specs.Prelude.{IfSome}
 use Rattle.bz_tree.specs.View.{nodes_view}
 use Rattle.bz_attribute.specs.Lists.{parts}
-use Rattle.bz_attribute.specs.Moving.{joined}
+use Rattle.bz_attribute.specs.Move.{joined}
 use Rattle.bz_list_commands.proofs.Arriving.{Arrived}
 use Rattle.bz_list_commands.proofs.Flags.{Tells}
 use Rattle.bz_list_commands.proofs.arrivals.arrivals_first.Given as goal

@@ -3,7 +3,7 @@ use Rattle.bz_tree.specs.View.{nodes_view, seg_view, segs_view}
 use Rattle.bz_command.specs.Labels.{Package}
 use Rattle.bz_attribute.specs.Lists.{equals, parts}
 use Rattle.bz_command.specs.LabelSetViews.{has}
-use Rattle.bz_attribute.specs.Moving.{joined}
+use Rattle.bz_attribute.specs.Move.{joined}
 use Rattle.bz_list_commands.proofs.Flags.{flags_by, flags_step, in_joined, told}
 use Rattle.bz_list_commands.proofs.arrivals.arriving.Goals as goal
 

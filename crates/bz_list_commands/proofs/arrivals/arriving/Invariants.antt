@@ -2,8 +2,8 @@ use Rattle.std.proofs.Common.{◌≡◌, ◌++◌, drop}
 use Rattle.bz_tree.specs.View.{segs_view, nodes_view}
 use Rattle.bz_attribute.specs.Lists.{parts}
 use Rattle.bz_command.specs.LabelSetViews.{has}
-use Rattle.bz_attribute.specs.Moving.{joined}
-use Rattle.bz_list_commands.specs.private.MovingSteps.{flags}
+use Rattle.bz_attribute.specs.Move.{joined}
+use Rattle.bz_list_commands.specs.private.MoveSteps.{flags}
 use Rattle.bz_list_commands.proofs.Flags.{flags_by}
 use Rattle.bz_list_commands.proofs.arrivals.arriving.Given as goal
 

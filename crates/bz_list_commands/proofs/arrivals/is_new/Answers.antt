@@ -3,7 +3,7 @@ use Rattle.std.proofs.lemmas.Result.{on_ok_weaker}
 use Rattle.bz_command.specs.private.ByteSteps.{left}
 use Rattle.bz_attribute.specs.Lists.{same_value}
 use Rattle.bz_command.specs.LabelSetViews.{has}
-use Rattle.bz_list_commands.specs.private.MovingSteps.{has_value}
+use Rattle.bz_list_commands.specs.private.MoveSteps.{has_value}
 use Rattle.bz_attribute.proofs.LabelSets.{same_back}
 use Rattle.bz_list_commands.proofs.arrivals.is_new.Goals as goal
 

@@ -3,7 +3,7 @@ use Rattle.std.proofs.lemmas.List.{take-map, with_items_is}
 use Rattle.bz_tree.specs.declared.stmt.Seg.{Seg}
 use Rattle.bz_tree.specs.View.{seg_view, segs_view, nodes_view}
 use Rattle.bz_attribute.specs.Lists.{parts}
-use Rattle.bz_attribute.specs.Moving.{arrivals, joined}
+use Rattle.bz_attribute.specs.Move.{arrivals, joined}
 use Rattle.bz_list_commands.proofs.arrivals.keep_arrivals.Goals as goal
 
 pub returns-clause-items : goal.returns-clause-items

@@ -2,7 +2,7 @@ use Rattle.std.proofs.Common.{List, ap, ◌∙◌}
 use Rattle.bz_tree.specs.Tree.{Item}
 use Rattle.bz_tree.specs.View.{segs_view}
 use Rattle.bz_attribute.specs.Lists.{parts}
-use Rattle.bz_attribute.specs.Moving.{arrivals, joined}
+use Rattle.bz_attribute.specs.Move.{arrivals, joined}
 use Rattle.bz_list_commands.proofs.Arriving.{arrived_in}
 use Rattle.bz_list_commands.proofs.moving.arrive.Goals as goal
 

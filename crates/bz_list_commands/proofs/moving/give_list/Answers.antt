@@ -5,7 +5,7 @@ use Rattle.bz_tree.specs.Tree.{Segment}
 use Rattle.bz_tree.specs.View.{segs_view}
 use Rattle.bz_attribute.specs.Effects.{argument, has, list_item}
 use Rattle.bz_attribute.specs.private.Places.{IsAbsent, IsFirst}
-use Rattle.bz_list_commands.specs.private.MovingSteps.{with_list}
+use Rattle.bz_list_commands.specs.private.MoveSteps.{with_list}
 use Rattle.bz_list_commands.proofs.moving.give_list.Goals as goal
 
 given : (attr : List ℕ) (args : List Segment) (b : Bool) → has attr args ≡ b → (if b then args else args ++ argument attr (list_item [] ∷ []) ∷ []) ≡ with_list attr args

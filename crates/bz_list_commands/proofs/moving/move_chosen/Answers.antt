@@ -9,8 +9,8 @@ use Rattle.bz_attribute.specs.Lists.{parts}
 use Rattle.bz_attribute.specs.private.ChosenViews.{chosen_view}
 use Rattle.bz_attribute.specs.private.Places.{first_length, first_list}
 use Rattle.bz_attribute.specs.Effects.{done, edit_first, filtered, is_chosen, unchosen}
-use Rattle.bz_attribute.specs.Moving.{chosen_of, joined, moved, moves}
-use Rattle.bz_list_commands.specs.private.MovingSteps.{value_of}
+use Rattle.bz_attribute.specs.Move.{chosen_of, joined, moved, moves}
+use Rattle.bz_list_commands.specs.private.MoveSteps.{value_of}
 use Rattle.bz_list_commands.proofs.Arriving.{chosen_counted, elements_there, first_given, moved_by, room_given}
 use Rattle.bz_list_commands.proofs.moving.move_chosen.Goals as goal
 

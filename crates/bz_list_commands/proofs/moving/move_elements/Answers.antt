@@ -4,7 +4,7 @@ use Rattle.bz_tree.specs.View.{segs_view}
 use Rattle.bz_command.specs.declared.command.Moved.{Moved}
 use Rattle.bz_command.specs.declared.command.Moved.TheVariants.{All, Values}
 use Rattle.bz_attribute.specs.declared.done.Note.{Note}
-use Rattle.bz_attribute.specs.Moving.{move_note, moved_where}
+use Rattle.bz_attribute.specs.Move.{move_note, moved_where}
 use Rattle.bz_list_commands.proofs.Replaced.{where_ok}
 use Rattle.bz_list_commands.proofs.moving.move_elements.Goals as goal
 

@@ -4,7 +4,7 @@ use Rattle.bz_tree.specs.declared.stmt.Seg.{Seg, roll-Seg}
 use Rattle.bz_tree.specs.Tree.{Item, Segment}
 use Rattle.bz_tree.specs.View.{nodes_view, seg_view}
 use Rattle.bz_attribute.specs.Effects.{string, string_item}
-use Rattle.bz_attribute.specs.Replacing.{replaced}
+use Rattle.bz_attribute.specs.Replace.{replaced}
 use Rattle.bz_attribute.proofs.Groups.{view_of_seg}
 use Rattle.bz_list_commands.specs.declared.replace.Change.{Change}
 use Rattle.bz_list_commands.specs.private.ReplaceSteps.{AreStrings, HasStrings, Uses, goes}

@@ -2,7 +2,7 @@ use Rattle.std.proofs.Common.{ℕ, refl, sym, subst, ◌<◌, ◌≤◌, ◌+◌
 use Rattle.std.proofs.lemmas.List.{drop-set-lt}
 use Rattle.bz_tree.specs.declared.stmt.Seg.{Seg}
 use Rattle.bz_tree.specs.View.{segs_view}
-use Rattle.bz_attribute.specs.Replacing.{replaced}
+use Rattle.bz_attribute.specs.Replace.{replaced}
 use Rattle.bz_list_commands.specs.private.ReplaceSteps.{count, goes}
 use Rattle.bz_list_commands.proofs.ArgEdits.{all_edited, edit_step}
 use Rattle.bz_list_commands.proofs.Pool.{all_counted, count_here, first_fits, taken}

@@ -4,7 +4,7 @@ use Rattle.bz_command.specs.declared.command.Attributes.{Attributes}
 use Rattle.bz_command.specs.declared.command.Attributes.TheVariants.{Every, Named}
 use Rattle.bz_tree.specs.View.{segs_view}
 use Rattle.bz_attribute.specs.Effects.{done}
-use Rattle.bz_attribute.specs.Replacing.{replace, replaces}
+use Rattle.bz_attribute.specs.Replace.{replace, replaces}
 use Rattle.bz_list_commands.proofs.Replaced.{one_stays, replaced_one, replaces_one, where_err, where_ok}
 use Rattle.bz_list_commands.proofs.replace.replace.Goals as goal
 

@@ -1,7 +1,7 @@
 use Rattle.std.proofs.Common.{◌≡◌, ◌+◌, length, drop, filter, true}
 use Rattle.bz_tree.specs.View.{nodes_view}
 use Rattle.bz_attribute.specs.Lists.{parts_from}
-use Rattle.bz_attribute.specs.Moving.{joined}
+use Rattle.bz_attribute.specs.Move.{joined}
 use Rattle.bz_list_commands.specs.private.TakingSteps.{is_meant}
 use Rattle.bz_list_commands.proofs.taking.count_in.Given as goal
 

@@ -8,7 +8,7 @@ use Rattle.bz_tree.specs.View.{seg_view, segs_view}
 use Rattle.bz_attribute.specs.Rules.{first_named, value}
 use Rattle.bz_attribute.specs.Lists.{parts}
 use Rattle.bz_attribute.specs.Effects.{filtered}
-use Rattle.bz_attribute.specs.Moving.{elements_of, joined}
+use Rattle.bz_attribute.specs.Move.{elements_of, joined}
 use Rattle.bz_attribute.specs.private.Places.{IsAbsent}
 use Rattle.bz_list_commands.specs.declared.taking.Choice.{Choice}
 use Rattle.bz_list_commands.specs.private.TakingSteps.{HasRoom, Takes, leave, stay}

@@ -7,7 +7,7 @@ use Rattle.bz_tree.specs.Tree.{Segment}
 use Rattle.bz_tree.specs.View.{node_view, nodes_view, seg_view, segs_view}
 use Rattle.bz_attribute.specs.Rules.{elements}
 use Rattle.bz_attribute.specs.Lists.{edit_from, is_joint, parts_from}
-use Rattle.bz_attribute.specs.Moving.{joined}
+use Rattle.bz_attribute.specs.Move.{joined}
 use Rattle.bz_attribute.proofs.PartEdits.{edit_node_step, keep_node_step}
 use Rattle.bz_list_commands.proofs.ArgEdits.{all_nodes_edited}
 use Rattle.bz_list_commands.proofs.Leaving.{filter-append, joined_part, taken_step, passed_step, same_length}

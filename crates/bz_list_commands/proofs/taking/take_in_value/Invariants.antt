@@ -2,7 +2,7 @@ use Rattle.std.proofs.Common.{◌≡◌, ◌≤◌, ◌+◌, ◌++◌, length, t
 use Rattle.std.specs.Vec.{vec_len, vec_capacity}
 use Rattle.bz_tree.specs.View.{nodes_view, segs_view}
 use Rattle.bz_attribute.specs.Lists.{edit_from, parts_from}
-use Rattle.bz_attribute.specs.Moving.{joined}
+use Rattle.bz_attribute.specs.Move.{joined}
 use Rattle.bz_list_commands.specs.private.TakingSteps.{is_meant, stay}
 use Rattle.bz_list_commands.proofs.taking.take_in_value.Given as goal
 

@@ -1,5 +1,5 @@
 use Rattle.std.proofs.Common.{ap, get_or, sym, ◌∙◌}
-use Rattle.bz_list_commands.specs.private.MovingSteps.{value_of}
+use Rattle.bz_list_commands.specs.private.MoveSteps.{value_of}
 use Rattle.bz_list_commands.proofs.Written.{value_read}
 use Rattle.bz_list_commands.proofs.taking.value_at.Goals as goal
 

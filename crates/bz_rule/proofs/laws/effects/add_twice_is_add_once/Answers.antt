@@ -1,4 +1,4 @@
-use Rattle.bz_attribute.specs.Effects.{add}
+use Rattle.bz_attribute.specs.Add.{add}
 use Rattle.bz_rule.proofs.Found.{add_twice}
 use Rattle.bz_rule.proofs.Again.{slot_twice}
 use Rattle.bz_rule.proofs.laws.effects.add_twice_is_add_once.Goals as goal

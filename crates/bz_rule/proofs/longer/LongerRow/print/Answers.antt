@@ -1,7 +1,7 @@
 use Rattle.std.proofs.Common.{◌≡◌, arith, length, sym, subst, tests}
 use Rattle.std.specs.Prelude.{IfOk, Some, IfSome}
 use Rattle.bz_tree.specs.Tree.{Statement}
-use Rattle.bz_attribute_commands.specs.Printing.{prints}
+use Rattle.bz_attribute_commands.specs.Print.{prints}
 use Rattle.bz_rule.specs.RowViews.{row_statement}
 use Rattle.bz_rule.proofs.LongerRows.{none_more}
 use Rattle.bz_rule.proofs.longer.LongerRow.print.Goals as goal

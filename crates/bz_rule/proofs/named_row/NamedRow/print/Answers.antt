@@ -1,7 +1,7 @@
 use Rattle.std.proofs.Common.{◌≡◌, subst}
 use Rattle.std.specs.Prelude.{Some, IfSome}
 use Rattle.std.proofs.lemmas.Result.{IfOk-weaker}
-use Rattle.bz_attribute_commands.specs.Printing.{prints}
+use Rattle.bz_attribute_commands.specs.Print.{prints}
 use Rattle.bz_rule.specs.RowViews.{RowValue, row_value, row_statement}
 use Rattle.bz_rule.proofs.RowStatements.{told_of}
 use Rattle.bz_rule.proofs.named_row.NamedRow.print.Goals as goal

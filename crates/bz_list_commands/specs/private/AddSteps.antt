@@ -3,7 +3,8 @@ use Rattle.std.specs.Prelude.{◌≡◌, ℕ, List, take, ◌||◌, Some}
 use Rattle.std.specs.List.{list_any}
 use Rattle.bz_command.specs.Labels.{Package}
 use Rattle.bz_command.specs.declared.command.Moved.TheVariants.{Values}
-use Rattle.bz_attribute.specs.Effects.{adds, done, not_a_list}
+use Rattle.bz_attribute.specs.Effects.{done, not_a_list}
+use Rattle.bz_attribute.specs.Add.{adds}
 use Rattle.bz_attribute.specs.Lists.{same}
 use Rattle.bz_attribute.specs.declared.done.Done.{Done}
 use Rattle.bz_tree.specs.Tree.{Segment}

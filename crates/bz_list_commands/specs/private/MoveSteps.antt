@@ -5,7 +5,7 @@ use Rattle.bz_command.specs.Labels.{Package}
 use Rattle.bz_attribute.specs.Effects.{argument, edit_first, has, list_item}
 use Rattle.bz_attribute.specs.Lists.{edit_first_part, with_value}
 use Rattle.bz_attribute.specs.Rules.{first_named, is_named, string_value, value}
-use Rattle.bz_attribute.specs.Moving.{arrivals, elements_of, is_among}
+use Rattle.bz_attribute.specs.Move.{arrivals, elements_of, is_among}
 
 -- for each element whether it arrives, where `there` are the elements of the new list
 abbrev pub flags : Package → List Segment → List Segment → List Bool
