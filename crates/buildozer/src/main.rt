@@ -56,7 +56,7 @@ fn edit(rt: &HostRuntime, alloc: Global, flags: &Flags, script: Script) -> Resul
 /// Tells why the words ask for nothing.
 fn tell_usage(rt: &HostRuntime, fault: &StartFault, words: &[String]) {
     if help::is_wanted(fault, words) {
-        let _ = eprint!(rt; "{}{}{}", help::BEGINNING, bz_command::USAGE, help::END);
+        let _ = eprint!(rt; "{}{}{}", help::BEGINNING, bz_rule::USAGE, help::END);
         return;
     }
     let _ = eprintln!(rt; "buildozer: {fault}");

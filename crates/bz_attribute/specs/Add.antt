@@ -3,7 +3,7 @@ use Rattle.std.specs.Prelude.{ℕ, List, [], ◌∷◌, ◌++◌, Bool, true, �
 use Rattle.std.specs.List.{list_any}
 use Rattle.bz_tree.specs.Tree.{Segment}
 use Rattle.bz_command.specs.Labels.{Package}
-use Rattle.bz_command.specs.declared.command.Moved.TheVariants.{Values}
+use Rattle.bz_command.specs.declared.arguments.Moved.TheVariants.{Values}
 use Rattle.bz_attribute.specs.Rules.{is_named, value}
 use Rattle.bz_attribute.specs.Lists.{with_value, parts, edit_first_part, same}
 use Rattle.bz_attribute.specs.Effects.{has, edit_first, is_chosen, is_nil, string, list_item, argument, no_parts}

@@ -6,8 +6,8 @@ use Rattle.bz_tree.specs.declared.stmt.GroupKind.TheVariants.{RuleCall, List as 
 use Rattle.bz_tree.specs.Tree.{Item, leaf, group, Segment, Statement, segs_of}
 use Rattle.bz_command.specs.Labels.{Package}
 use Rattle.bz_command.specs.Values.{quoted}
-use Rattle.bz_command.specs.declared.command.Moved.{Moved}
-use Rattle.bz_command.specs.declared.command.Moved.TheVariants.{All, Values}
+use Rattle.bz_command.specs.declared.arguments.Moved.{Moved}
+use Rattle.bz_command.specs.declared.arguments.Moved.TheVariants.{All, Values}
 use Rattle.bz_attribute.specs.Rules.{Rule, rule_of, elements, is_named, value}
 use Rattle.bz_attribute.specs.Lists.{with_value, parts, edit_parts, is_list, equals_any}
 use Rattle.bz_attribute.specs.declared.done.Done.{Done}

@@ -3,7 +3,7 @@ use Rattle.std.specs.Prelude.{ℕ, List, [], ◌∷◌, ◌++◌, Bool, false, i
 use Rattle.std.specs.List.{list_any}
 use Rattle.bz_tree.specs.Tree.{Segment}
 use Rattle.bz_command.specs.Labels.{Package}
-use Rattle.bz_command.specs.declared.command.Moved.{Moved}
+use Rattle.bz_command.specs.declared.arguments.Moved.{Moved}
 use Rattle.bz_attribute.specs.Rules.{is_named, first_named, value, string_value}
 use Rattle.bz_attribute.specs.Lists.{with_value, parts, edit_first_part, equals}
 use Rattle.bz_attribute.specs.Effects.{has, edit_first, argument, list_item, filtered, unchosen, is_chosen, chooses_in, not_a_list, is_absent, first_note}

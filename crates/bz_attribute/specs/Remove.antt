@@ -3,10 +3,10 @@ use Rattle.std.specs.Prelude.{ℕ, List, [], ◌∷◌, Bool, ◌&&◌, not, if�
 use Rattle.std.specs.List.{list_any, flat_map}
 use Rattle.bz_tree.specs.Tree.{Segment}
 use Rattle.bz_command.specs.Labels.{Package}
-use Rattle.bz_command.specs.declared.command.Attributes.{Attributes}
-use Rattle.bz_command.specs.declared.command.Attributes.TheVariants.{Every, Named}
-use Rattle.bz_command.specs.declared.command.Moved.{Moved}
-use Rattle.bz_command.specs.declared.command.Moved.TheVariants.{Values}
+use Rattle.bz_command.specs.declared.arguments.Attributes.{Attributes}
+use Rattle.bz_command.specs.declared.arguments.Attributes.TheVariants.{Every, Named}
+use Rattle.bz_command.specs.declared.arguments.Moved.{Moved}
+use Rattle.bz_command.specs.declared.arguments.Moved.TheVariants.{Values}
 use Rattle.bz_attribute.specs.Rules.{is_named, first_named}
 use Rattle.bz_attribute.specs.Lists.{is_attribute}
 use Rattle.bz_attribute.specs.Effects.{has, edit_first, unchosen, chooses, filtered, chooses_in}

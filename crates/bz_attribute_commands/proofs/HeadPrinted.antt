@@ -7,8 +7,8 @@ use Rattle.std.proofs.lemmas.Bool.{and_parts}
 use Rattle.std.proofs.lemmas.Slice.Eq.{bytes_eq-Decides}
 use Rattle.bz_tree.specs.Tree.{Segment, Statement}
 use Rattle.bz_command.specs.Labels.{Package}
-use Rattle.bz_command.specs.declared.command.Field.{Field}
-use Rattle.bz_command.specs.declared.command.Field.TheVariants.{Label, Kind, StartLine, EndLine, ValueOf}
+use Rattle.bz_command.specs.declared.arguments.Field.{Field}
+use Rattle.bz_command.specs.declared.arguments.Field.TheVariants.{Label, Kind, StartLine, EndLine, ValueOf}
 use Rattle.bz_attribute.specs.Rules.{first_named, string_in, value}
 use Rattle.bz_attribute.specs.Texts.{home_text}
 use Rattle.bz_attribute.specs.Heads.{IsHeadOf}

@@ -3,7 +3,7 @@ use Rattle.std.proofs.Common.{◌≡◌, ℕ, suc, ◌+◌, ◌<◌, List, [], �
 use Rattle.std.specs.Option.{option_or}
 use Rattle.bz_tree.specs.Tree.{Statement}
 use Rattle.bz_command.specs.Labels.{Package}
-use Rattle.bz_command.specs.declared.command.Field.{Field}
+use Rattle.bz_command.specs.declared.arguments.Field.{Field}
 use Rattle.bz_attribute.specs.Rules.{Rule}
 use Rattle.bz_attribute.specs.Effects.{first_note}
 use Rattle.bz_attribute_commands.specs.Print.{spaced, missing, field_text, field_name}

@@ -7,8 +7,8 @@ use Rattle.bz_tree.specs.Tree.{Item, Segment, Statement}
 use Rattle.bz_layout.specs.Layout.{flat_text}
 use Rattle.bz_command.specs.Labels.{Package}
 use Rattle.bz_command.specs.Values.{quoted}
-use Rattle.bz_command.specs.declared.command.Field.{Field}
-use Rattle.bz_command.specs.declared.command.Field.TheVariants.{Label, Kind, StartLine, EndLine, ValueOf}
+use Rattle.bz_command.specs.declared.arguments.Field.{Field}
+use Rattle.bz_command.specs.declared.arguments.Field.TheVariants.{Label, Kind, StartLine, EndLine, ValueOf}
 use Rattle.bz_attribute.specs.Rules.{Rule, rule_of, kind_text, name_in, first_named, value, string_value, elements}
 use Rattle.bz_attribute.specs.Lists.{is_list}
 use Rattle.bz_attribute.specs.Texts.{home_text}

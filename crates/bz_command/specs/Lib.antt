@@ -1,4 +1,4 @@
-pub mod Commands
+pub mod Arguments
 pub mod LabelSetViews
 pub mod LabelViews
 pub mod Labels

@@ -1,4 +1,3 @@
 pub mod ByteSteps
-pub mod CommandSteps
 pub mod ValueSteps
 pub mod WordSteps

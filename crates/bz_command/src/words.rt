@@ -9,7 +9,7 @@ use crate::parts::cut;
 use std::alloc::{AllocError, Global};
 
 /// The words of a text: it is split at runs of spaces, and a space after a backslash is one of the word.
-pub(crate) fn read_words(alloc: Global, text: &str) -> Result<Vec<Text>, AllocError>
+pub fn read_words(alloc: Global, text: &str) -> Result<Vec<Text>, AllocError>
     ensures { IfOk result (λ words. words.items ≡ spec.words_of text.now) }
 {
     let mut words = Vec::new(alloc);
@@ -44,7 +44,7 @@ fn keep(words: &mut Vec<Text>, word: String) -> Result<(), AllocError>
 }
 
 /// Takes the first word off.
-pub(crate) fn take_word(words: &mut Vec<Text>) -> Option<Text>
+pub fn take_word(words: &mut Vec<Text>) -> Option<Text>
     ensures { MatchOption result ((words.old.items ≡ []) × (words.new.items ≡ []))
         (λ word. words.old.items ≡ word ∷ words.new.items) }
 {

@@ -2,10 +2,9 @@
 use Rattle.std.proofs.Common.{◌≡◌, List, ◌++◌, true, Option, None, Some, is_some, refl, sym, ap, ◌∙◌}
 use Rattle.bz_tree.specs.Tree.{Statement}
 use Rattle.bz_command.specs.Labels.{Package}
-use Rattle.bz_command.specs.Commands.{Command}
+use Rattle.bz_rule.specs.Commands.{Command, after, done_of}
 use Rattle.bz_attribute.specs.declared.done.Done.{Done}
 use Rattle.bz_attribute.specs.declared.done.Note.{Note}
-use Rattle.bz_rule.specs.Applied.{after, done_of}
 use Rattle.bz_rule.proofs.Commands.{noted_stays}
 use Rattle.bz_passes.specs.declared.entry.Entry.{Entry}
 use Rattle.bz_engine.specs.Meaning.{done_told, line_told, note_told, says, shown_slot}

@@ -2,7 +2,7 @@
 use Rattle.std.specs.Prelude.{◌≡◌, ℕ, Bool, true, false, List, [], ◌∷◌, None, Some, codes}
 use Rattle.std.proofs.Common.{refl, inl}
 use Rattle.bz_command.specs.Labels.{Package, Target, Name, All}
-use Rattle.bz_command.specs.declared.command.Action.TheVariants.{Delete}
+use Rattle.bz_rule.specs.declared.command.Action.TheVariants.{Delete}
 use Rattle.bz_attribute.specs.declared.done.Note.TheVariants.{Missing, NoAttribute, AttributeExists, NotAList, NoValue}
 use Rattle.bz_engine.specs.declared.report.End.TheVariants.{Whole}
 use Rattle.bz_engine.specs.declared.report.Report.{Report}

@@ -2,7 +2,7 @@
 use Rattle.std.specs.Prelude.{◌≢◌, ◌⊎◌, IsTrue, List, [], ◌∷◌, map}
 use Rattle.std.specs.List.{list_all}
 use Rattle.bz_command.specs.Labels.{Target}
-use Rattle.bz_command.specs.Commands.{Command, is_command}
+use Rattle.bz_rule.specs.Commands.{Command, is_command}
 use Rattle.bz_command.specs.Passes.{Meaning, Slot, Pass, Marked, marked, executed, slots_after_pass}
 
 abbrev pub CommandsChange : {S T C M : Type 0} → Meaning S T C M → List C → List (Marked S) → Type 0

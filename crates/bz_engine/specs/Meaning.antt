@@ -2,11 +2,10 @@
 use Rattle.std.specs.Prelude.{ℕ, Bool, false, List, [], ◌∷◌, ◌++◌, Option, None, Some}
 use Rattle.bz_tree.specs.Tree.{Statement}
 use Rattle.bz_command.specs.Labels.{Package, Target, must_mark}
-use Rattle.bz_command.specs.Commands.{Command}
+use Rattle.bz_rule.specs.Commands.{Command, after, done_of}
 use Rattle.bz_attribute.specs.Marks.{marks}
 use Rattle.bz_attribute.specs.Texts.{shown_text}
 use Rattle.bz_attribute.specs.Effects.{fails}
-use Rattle.bz_rule.specs.Applied.{after, done_of}
 use Rattle.bz_attribute.specs.declared.done.Done.{Done}
 use Rattle.bz_attribute.specs.declared.done.Note.{Note}
 use Rattle.bz_attribute.specs.declared.done.Note.TheVariants.{Missing}

@@ -6,7 +6,7 @@ use Rattle.bz_tree.specs.Tree.{Statement}
 use Rattle.bz_layout.specs.Layout.{layout_text}
 use Rattle.bz_layout.specs.Gaps.{gap_between}
 use Rattle.bz_command.specs.Labels.{Package, Target}
-use Rattle.bz_command.specs.Commands.{Command, is_print}
+use Rattle.bz_rule.specs.Commands.{Command, is_print}
 use Rattle.bz_passes.specs.Entries.{line_text, message_text, failure_text, first_of}
 use Rattle.bz_engine.specs.declared.report.SyntaxFault.{SyntaxFault}
 use Rattle.bz_engine.specs.declared.report.End.{End}

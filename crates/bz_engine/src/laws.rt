@@ -3,7 +3,7 @@
 ghost use Rattle.std.specs.Prelude.{◌≡◌, ◌↔◌, ℕ, List, [], Bool, Result, Option, true};
 ghost use Rattle.bz_tree.specs.Tree.{Statement};
 ghost use Rattle.bz_command.specs.Labels.{Package, Target};
-ghost use Rattle.bz_command.specs.Commands.{Command};
+ghost use Rattle.bz_rule.specs.Commands.{Command};
 ghost use Rattle.bz_command.specs.Passes.{Pass, Slot, some_execution};
 ghost use Rattle.bz_engine.specs.Changes.{AreCommands, Changes};
 ghost use Rattle.bz_engine.specs.File.{Gives, IsFile};

@@ -2,13 +2,13 @@
 
 ghost use Rattle.std.specs.Prelude.{◌≡◌, IfOk};
 ghost use Rattle.std.specs.List.{list_all};
-ghost use Rattle.bz_command.specs.Commands.{is_print};
+ghost use Rattle.bz_rule.specs.Commands.{is_print};
 ghost use Rattle.bz_engine.specs.Outcome as spec;
 ghost use Rattle.bz_engine.specs.private.Named.{all_named};
 
-use bz_command::{Action, Pass, Setting};
+use bz_command::{Pass, Setting};
 use bz_passes::passes::{Keyed, Passes};
-use bz_rule::{Command, Target};
+use bz_rule::{Action, Command, Target};
 use std::alloc::{AllocError, Global};
 use std::marker::Model;
 

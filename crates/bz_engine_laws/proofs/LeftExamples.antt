@@ -9,7 +9,7 @@ use Rattle.bz_tree.specs.declared.stmt.Class.{Class}
 use Rattle.bz_tree.specs.declared.stmt.Class.TheVariants.{Rule, Block}
 use Rattle.bz_tree.specs.declared.stmt.GroupKind.TheVariants.{RuleCall}
 use Rattle.bz_tree.specs.Tree.{Item, leaf, group, Statement, segs_of}
-use Rattle.bz_command.specs.declared.command.Action.TheVariants.{Add, Delete}
+use Rattle.bz_rule.specs.declared.command.Action.TheVariants.{Add, Delete}
 use Rattle.bz_command.specs.Labels.{Package, Name, All}
 use Rattle.bz_command.specs.Names.{is_identifier}
 use Rattle.bz_engine.specs.Changes.{AreCommands}

@@ -8,7 +8,7 @@ use Rattle.bz_layout_laws.specs.Spelled.{spelled_statement}
 use Rattle.bz_layout_laws.specs.Lineless.{lineless}
 use Rattle.bz_command.specs.Labels.{Package}
 use Rattle.bz_command.specs.Passes.{slots_after}
-use Rattle.bz_command.specs.Commands.{command_passes}
+use Rattle.bz_rule.specs.Commands.{command_passes}
 use Rattle.bz_engine.specs.File.{IsFile}
 use Rattle.bz_engine.specs.Meaning.{meaning}
 use Rattle.bz_engine.specs.Outcome.{Script, Told, IsOutcome, slots_of, left_in}

@@ -3,12 +3,12 @@
 ghost use Rattle.std.specs.Prelude.{◌≡◌, true};
 ghost use Rattle.std.specs.List.{list_all};
 ghost use Rattle.std.specs.Str.{is_utf8};
-ghost use Rattle.bz_command.specs.Commands.{is_command, command_passes};
+ghost use Rattle.bz_rule.specs.Commands.{is_command, command_passes};
 ghost use Rattle.bz_engine.specs.Changes.{AreCommands};
 ghost use Rattle.bz_engine_laws.specs.Written.{HaveUtf8Words};
 
-use bz_command::{Command, Pass, words_are_utf8};
-use bz_rule::Target;
+use bz_command::Pass;
+use bz_rule::{Command, Target, words_are_utf8};
 
 /// The commands of each script are ones that can be read, and their words, but for those of `print`, are UTF-8. The
 /// body looks at each command, since of that the prover knows it; it does nothing else.

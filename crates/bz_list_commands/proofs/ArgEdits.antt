@@ -11,8 +11,8 @@ use Rattle.bz_tree.specs.Tree.{Item, Segment}
 use Rattle.bz_attribute.specs.Rules.{value}
 use Rattle.bz_attribute.specs.Lists.{edit_from, edit_parts, is_attribute, with_value}
 use Rattle.bz_command.specs.Labels.{Package}
-use Rattle.bz_command.specs.declared.command.Attributes.{Attributes}
-use Rattle.bz_command.specs.declared.command.Attributes.TheVariants.{Every, Named}
+use Rattle.bz_command.specs.declared.arguments.Attributes.{Attributes}
+use Rattle.bz_command.specs.declared.arguments.Attributes.TheVariants.{Every, Named}
 use Rattle.bz_attribute.specs.Effects.{filtered, loses_all}
 use Rattle.bz_attribute.specs.Remove.{filtered_everywhere, remove, removes}
 use Rattle.bz_list_commands.specs.private.EditSteps.{edit_attribute, goes, is_lost}

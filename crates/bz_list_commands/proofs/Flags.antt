@@ -11,7 +11,7 @@ use Rattle.bz_token.proofs.Classes.{same_bytes}
 use Rattle.bz_tree.specs.declared.stmt.Seg.{Seg}
 use Rattle.bz_tree.specs.Tree.{Segment}
 use Rattle.bz_tree.specs.View.{seg_view, segs_view}
-use Rattle.bz_command.specs.declared.command.Moved.TheVariants.{All}
+use Rattle.bz_command.specs.declared.arguments.Moved.TheVariants.{All}
 use Rattle.bz_command.specs.Labels.{Package}
 use Rattle.bz_command.specs.Same.{completed}
 use Rattle.bz_attribute.specs.Rules.{string_value}

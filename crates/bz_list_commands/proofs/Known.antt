@@ -11,7 +11,7 @@ use Rattle.bz_tree.specs.Tree.{Segment}
 use Rattle.bz_tree.specs.View.{segs_view}
 use Rattle.bz_command.specs.Labels.{Package}
 use Rattle.bz_command.specs.Same.{completed}
-use Rattle.bz_command.specs.declared.command.Moved.TheVariants.{All, Values}
+use Rattle.bz_command.specs.declared.arguments.Moved.TheVariants.{All, Values}
 use Rattle.bz_command.specs.declared.label_set.LabelSet.{LabelSet}
 use Rattle.bz_command.specs.LabelSetViews.{Gains, has}
 use Rattle.bz_attribute.specs.Lists.{same, same_value}

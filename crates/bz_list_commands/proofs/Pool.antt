@@ -7,7 +7,7 @@ use Rattle.bz_tree.specs.declared.stmt.Node.{Node}
 use Rattle.bz_tree.specs.declared.stmt.Seg.{Seg}
 use Rattle.bz_tree.specs.Tree.{Item, Segment}
 use Rattle.bz_tree.specs.View.{node_view, nodes_view, seg_view, segs_view}
-use Rattle.bz_command.specs.declared.command.Moved.TheVariants.{Values}
+use Rattle.bz_command.specs.declared.arguments.Moved.TheVariants.{Values}
 use Rattle.bz_attribute.specs.Rules.{elements, is_text, string_value, value}
 use Rattle.bz_attribute.specs.Lists.{equals, is_attribute, is_joint, is_part, is_plus, parts, parts_from}
 use Rattle.bz_attribute.specs.Effects.{is_chosen}

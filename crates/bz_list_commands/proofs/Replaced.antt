@@ -7,7 +7,7 @@ use Rattle.bz_tree.specs.declared.stmt.Seg.{Seg}
 use Rattle.bz_tree.specs.Tree.{Segment}
 use Rattle.bz_tree.specs.View.{seg_view, segs_view}
 use Rattle.bz_command.specs.Labels.{Package}
-use Rattle.bz_command.specs.declared.command.Attributes.TheVariants.{Every, Named}
+use Rattle.bz_command.specs.declared.arguments.Attributes.TheVariants.{Every, Named}
 use Rattle.bz_attribute.specs.Rules.{first_named, is_named, is_text, name_of}
 use Rattle.bz_attribute.specs.Lists.{is_attribute}
 use Rattle.bz_attribute.specs.Replace.{replace, replaced_in, replaces, replaces_first, replaces_in}

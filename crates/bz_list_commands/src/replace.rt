@@ -2,7 +2,7 @@
 
 ghost use Rattle.std.specs.Prelude.{◌≡◌, ◌<◌, None, map, length, if◌then◌else◌, IfOk, OnOk, OnErr};
 ghost use Rattle.bz_tree.specs.View.{node_view, nodes_view, seg_view, segs_view};
-ghost use Rattle.bz_command.specs.declared.command.Attributes.TheVariants.{Every, Named};
+ghost use Rattle.bz_command.specs.declared.arguments.Attributes.TheVariants.{Every, Named};
 ghost use Rattle.bz_attribute.specs.Rules.{elements};
 ghost use Rattle.bz_attribute.specs.Lists.{edit_list, edit_parts};
 ghost use Rattle.bz_attribute.specs.Effects.{done};

@@ -10,7 +10,7 @@ use Rattle.bz_attribute.specs.Add.{add, adds, new_elements, with_added, fresh, i
 use Rattle.bz_attribute.specs.declared.done.Note.TheVariants.{NotAList}
 use Rattle.bz_rule.proofs.PartLaws.{edit_head, first_part_stays, parts_first_edited}
 use Rattle.bz_rule.proofs.Arguments.{attribute_named, first_same, has_first, is_first_named, rest_same, same_bytes, value_back, value_put}
-use Rattle.bz_command.specs.declared.command.Action.TheVariants.{Add}
+use Rattle.bz_rule.specs.declared.command.Action.TheVariants.{Add}
 use Rattle.bz_rule.proofs.Lawful.{Lawful, note_unchanged, on_arguments}
 use Rattle.bz_rule.proofs.NamesKept.{KeepsEach, Leaves, append_kept, edit_one_kept, first_kept, has_kept, put_kept, taken}
 use Rattle.bz_rule.proofs.Aside.{leaves_mentioned}

@@ -4,7 +4,7 @@ use Rattle.std.specs.Prelude.{bytes_eq}
 use Rattle.std.proofs.lemmas.Bool.{or_right}
 use Rattle.std.proofs.lemmas.Slice.Eq.{bytes_eq-Decides}
 use Rattle.bz_tree.specs.Tree.{Segment}
-use Rattle.bz_command.specs.Commands.{Command, mentions}
+use Rattle.bz_rule.specs.Commands.{Command, mentions}
 use Rattle.bz_attribute.specs.Rules.{is_text, name_of}
 use Rattle.bz_rule.specs.Aside.{IsAside}
 use Rattle.bz_rule.proofs.Arguments.{same_bytes}

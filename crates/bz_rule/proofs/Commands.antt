@@ -3,12 +3,11 @@ use Rattle.std.proofs.Common.{◌≡◌, ◌↔◌, ℕ, List, Bool, true, false
 use Rattle.std.specs.Prelude.{IfSome}
 use Rattle.bz_tree.specs.Tree.{Segment, Statement}
 use Rattle.bz_command.specs.Labels.{Package}
-use Rattle.bz_command.specs.Commands.{Command, is_command, command_passes}
-use Rattle.bz_command.specs.declared.command.Action.TheVariants.{Add, Remove, Set, SetIfAbsent, Delete, Rename, Move, Replace, Comment, Print}
+use Rattle.bz_rule.specs.Commands.{Command, is_command, command_passes, after, done_of, args_after, keeps_comments}
+use Rattle.bz_rule.specs.declared.command.Action.TheVariants.{Add, Remove, Set, SetIfAbsent, Delete, Rename, Move, Replace, Comment, Print}
 use Rattle.bz_attribute.specs.declared.done.Done.{Done}
 use Rattle.bz_attribute.specs.declared.done.Note.{Note}
 use Rattle.bz_attribute.specs.Effects.{fails, holds_rule, with_args}
-use Rattle.bz_rule.specs.Applied.{after, done_of, args_after, keeps_comments}
 use Rattle.bz_rule.specs.Aside.{IsAside}
 use Rattle.bz_rule.specs.private.LongerRows.{adds_to}
 use Rattle.bz_rule.proofs.Lawful.{Appends, Lawful, SlotFormed}

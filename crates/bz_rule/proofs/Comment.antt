@@ -12,9 +12,9 @@ use Rattle.bz_attribute.specs.declared.done.Note.TheVariants.{NoAttribute, NoVal
 use Rattle.bz_attribute.specs.Effects.{done, edit_first, first_note, has, holds_rule, is_absent, not_a_list}
 use Rattle.bz_attribute.specs.Comment.{comment_attribute, comment_element, comment_line, comment_note, comment_rule, comment_value, comments_above, edit_element, edit_element_from, is_missing, with_comment}
 use Rattle.bz_attribute.proofs.Views.{segments_of}
-use Rattle.bz_command.specs.declared.command.Commented.{Commented}
-use Rattle.bz_command.specs.declared.command.Commented.TheVariants.{Rule as OfRule, Attribute, Value}
-use Rattle.bz_command.specs.declared.command.Action.TheVariants.{Comment}
+use Rattle.bz_command.specs.declared.arguments.Commented.{Commented}
+use Rattle.bz_command.specs.declared.arguments.Commented.TheVariants.{Rule as OfRule, Attribute, Value}
+use Rattle.bz_rule.specs.declared.command.Action.TheVariants.{Comment}
 use Rattle.bz_rule.proofs.Arguments.{attribute_named, first_same, has_first, is_first_named, same_bytes, value_put}
 use Rattle.bz_rule.proofs.Lawful.{Lawful, done_changed, guarded_same, note_unchanged, on_arguments}
 use Rattle.bz_rule.proofs.NamesKept.{KeepsEach, Leaves, edit_one_kept, first_kept, has_kept, put_kept, taken}
@@ -22,7 +22,8 @@ use Rattle.bz_rule.proofs.Aside.{leaves_mentioned}
 use Rattle.bz_rule.proofs.Rebuilt.{comment_exchanged, holds_after}
 use Rattle.std.proofs.lemmas.List.Folds.{list_all-append}
 use Rattle.bz_attribute.proofs.RuleNodes.{rule_nodes}
-use Rattle.bz_command.specs.Commands.{breaks_line, is_command, is_commented}
+use Rattle.bz_command.specs.Arguments.{breaks_line, is_commented}
+use Rattle.bz_rule.specs.Commands.{is_command}
 use Rattle.bz_layout_laws.proofs.EachRead.{comments_join}
 use Rattle.bz_layout_laws.specs.EachText.{items_pass}
 use Rattle.bz_layout_laws.specs.Legible.{AreComments}

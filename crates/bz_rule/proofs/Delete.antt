@@ -2,10 +2,10 @@
 use Rattle.std.proofs.Common.{◌≡◌, List, true, false, Option, Some, None, is_some, if◌then◌else◌, map, option_map, refl, ap, ◌∙◌, suc}
 use Rattle.bz_tree.specs.Tree.{Segment, Statement}
 use Rattle.bz_command.specs.Labels.{Package}
-use Rattle.bz_command.specs.declared.command.Action.TheVariants.{Delete}
+use Rattle.bz_rule.specs.declared.command.Action.TheVariants.{Delete}
 use Rattle.bz_attribute.specs.Rules.{rule_of}
 use Rattle.bz_attribute.specs.Effects.{done, holds_rule, with_args}
-use Rattle.bz_rule.specs.Applied.{after}
+use Rattle.bz_rule.specs.Commands.{after}
 use Rattle.bz_rule.proofs.Lawful.{Lawful, SlotFormed}
 use Rattle.bz_rule.proofs.Rebuilt.{holds_after}
 use Rattle.bz_rule.proofs.PassingRules.{SlotPasses}

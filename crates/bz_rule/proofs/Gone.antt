@@ -4,9 +4,9 @@ use Rattle.std.specs.List.{list_any}
 use Rattle.std.proofs.lemmas.Bool.{and_right}
 use Rattle.bz_tree.specs.Tree.{Segment}
 use Rattle.bz_command.specs.Labels.{Package}
-use Rattle.bz_command.specs.declared.command.Attributes.TheVariants.{Every, Named}
-use Rattle.bz_command.specs.declared.command.Moved.{Moved}
-use Rattle.bz_command.specs.declared.command.Moved.TheVariants.{Values}
+use Rattle.bz_command.specs.declared.arguments.Attributes.TheVariants.{Every, Named}
+use Rattle.bz_command.specs.declared.arguments.Moved.{Moved}
+use Rattle.bz_command.specs.declared.arguments.Moved.TheVariants.{Values}
 use Rattle.bz_attribute.specs.Rules.{is_named, is_text, first_named, value}
 use Rattle.bz_attribute.specs.Lists.{edit_parts, is_attribute, parts, with_value}
 use Rattle.bz_attribute.specs.Effects.{chooses_in, edit_first, filtered, has, is_chosen, loses_all, unchosen}

@@ -5,12 +5,11 @@ use Rattle.std.proofs.lemmas.List.{append_cancel_left}
 use Rattle.bz_tree.specs.declared.stmt.GroupKind.TheVariants.{RuleCall}
 use Rattle.bz_tree.specs.Tree.{Item, group, Segment, Statement, segs_of, segments}
 use Rattle.bz_command.specs.Labels.{Package}
-use Rattle.bz_command.specs.Commands.{Command, is_command, command_passes}
+use Rattle.bz_rule.specs.Commands.{Command, is_command, command_passes, after, args_after, args_done, done_of, keeps_comments}
 use Rattle.bz_attribute.specs.Rules.{Rule, rule_of}
 use Rattle.bz_attribute.specs.declared.done.Done.{Done}
 use Rattle.bz_attribute.specs.declared.done.Note.{Note}
 use Rattle.bz_attribute.specs.Effects.{done, done_in, has, holds_rule, nodes_after, nodes_of, slot_done, with_args}
-use Rattle.bz_rule.specs.Applied.{after, args_after, args_done, done_of, keeps_comments}
 use Rattle.bz_rule.specs.Aside.{IsAside}
 use Rattle.bz_rule.specs.private.LongerRows.{adds_to}
 use Rattle.bz_attribute.proofs.Views.{segments_of}

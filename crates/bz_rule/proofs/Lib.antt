@@ -30,6 +30,8 @@ mod PassingTexts
 mod PassingWritten
 mod Print
 mod PutBack
+mod ReadFields
+mod ReadMove
 mod Rebuilt
 mod Remove
 mod Rename

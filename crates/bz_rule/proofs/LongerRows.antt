@@ -11,13 +11,12 @@ use Rattle.bz_tree.specs.declared.stmt.Seg.{Seg}
 use Rattle.bz_tree.specs.declared.row.Part.{Part}
 use Rattle.bz_tree.specs.Rows.{part_view, RowPart, opening, closing, segment_end, above, beside_part, item_parts, items_parts, segs_parts, parts_of}
 use Rattle.bz_command.specs.Labels.{Package, Target, Name, Pkg, All, Kind as KindOf, Line}
-use Rattle.bz_command.specs.Commands.{Command}
+use Rattle.bz_rule.specs.Commands.{Command, after, args_after, args_done, done_of}
 use Rattle.bz_attribute.specs.Marks.{marks, marks_if, marks_rule}
 use Rattle.bz_attribute.specs.Rules.{Rule, rule_of, name_of, ident_of, is_operator_item, is_text, is_named, first_named, name_in, string_in}
 use Rattle.bz_attribute.specs.Effects.{has, nodes_of, nodes_after, with_args, done_in}
 use Rattle.bz_attribute.specs.Texts.{shown_text, rule_text, home_text, name_or_kind}
 use Rattle.bz_attribute.proofs.RuleNodes.{rule_nodes}
-use Rattle.bz_rule.specs.Applied.{after, args_after, args_done, done_of}
 use Rattle.bz_rule.specs.LongerViews.{with_more}
 use Rattle.bz_rule.specs.private.Hollow.{is_end}
 use Rattle.bz_rule.specs.private.LongerRows.{HasName, Lacks, adds_to, is_word, besides, args_end, with_added}

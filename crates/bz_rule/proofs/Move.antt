@@ -4,9 +4,10 @@ use Rattle.std.proofs.lemmas.Bool.{and_parts, cases_Bool, not-true}
 use Rattle.std.proofs.lemmas.List.{append-nil, append_cancel_right}
 use Rattle.bz_tree.specs.Tree.{Item, Segment}
 use Rattle.bz_command.specs.Labels.{Package}
-use Rattle.bz_command.specs.Commands.{is_command, is_moved}
-use Rattle.bz_command.specs.declared.command.Moved.{Moved}
-use Rattle.bz_command.specs.declared.command.Action.TheVariants.{Move}
+use Rattle.bz_command.specs.Arguments.{is_moved}
+use Rattle.bz_rule.specs.Commands.{is_command}
+use Rattle.bz_command.specs.declared.arguments.Moved.{Moved}
+use Rattle.bz_rule.specs.declared.command.Action.TheVariants.{Move}
 use Rattle.bz_attribute.specs.Rules.{first_named, is_named, is_text as is_word, name_of, value, string_value}
 use Rattle.bz_attribute.specs.Lists.{edit_first_part, edit_parts, with_value, is_attribute, parts}
 use Rattle.bz_attribute.specs.Effects.{argument, chooses_in, edit_first, filtered, has, list_item, loses_all, unchosen, is_chosen}

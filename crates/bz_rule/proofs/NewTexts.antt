@@ -12,7 +12,7 @@ use Rattle.bz_token.specs.private.Closing.{closes}
 use Rattle.bz_token.proofs.StringUnits.{closes_units}
 use Rattle.bz_token.proofs.Classes.{same_bytes}
 use Rattle.bz_command.specs.Values.{written, quoted}
-use Rattle.bz_command.specs.Commands.{breaks_line}
+use Rattle.bz_command.specs.Arguments.{breaks_line}
 use Rattle.bz_attribute.specs.Set.{is_digit, is_constant, is_number as is_digits}
 use Rattle.bz_attribute.specs.Comment.{comment_line, is_blank as is_space, trimmed}
 

@@ -5,7 +5,7 @@ use Rattle.bz_attribute.specs.Comment.{comment_line}
 use Rattle.bz_attribute.specs.Effects.{argument, edit_first, filtered, is_chosen, list_item, loses_all, string, unchosen}
 use Rattle.bz_attribute.specs.Lists.{edit_first_part, edit_parts, with_value}
 use Rattle.bz_attribute.specs.Rules.{is_named, value}
-use Rattle.bz_command.specs.declared.command.Moved.{Moved}
+use Rattle.bz_command.specs.declared.arguments.Moved.{Moved}
 use Rattle.bz_command.specs.Labels.{Package}
 use Rattle.bz_command.specs.Values.{quoted}
 use Rattle.bz_rule.proofs.PassingParts.{KeepsPassing, edited_first_part_passes, edited_first_passes, edited_parts_pass}

@@ -6,10 +6,10 @@ use Rattle.std.proofs.lemmas.Bool.{or_right}
 use Rattle.std.proofs.lemmas.Slice.Eq.{bytes_eq-Decides}
 use Rattle.bz_tree.specs.Tree.{Item, Segment, Statement}
 use Rattle.bz_command.specs.Labels.{Package}
-use Rattle.bz_command.specs.declared.command.Field.{Field}
-use Rattle.bz_command.specs.declared.command.Field.TheVariants.{EndLine, Kind, Label, StartLine, ValueOf}
-use Rattle.bz_command.specs.declared.command.Action.TheVariants.{Print}
-use Rattle.bz_command.specs.Commands.{field_mentions}
+use Rattle.bz_command.specs.declared.arguments.Field.{Field}
+use Rattle.bz_command.specs.declared.arguments.Field.TheVariants.{EndLine, Kind, Label, StartLine, ValueOf}
+use Rattle.bz_rule.specs.declared.command.Action.TheVariants.{Print}
+use Rattle.bz_command.specs.Arguments.{field_mentions}
 use Rattle.bz_attribute.specs.Rules.{Rule, rule_of, value}
 use Rattle.bz_attribute.specs.Effects.{with_args}
 use Rattle.bz_attribute.specs.Texts.{home_text}

@@ -8,7 +8,7 @@ use Rattle.bz_tree.specs.Tree.{Item, Segment, Statement, items_of, segs_of}
 use Rattle.bz_tree.specs.Rows.{RowPart, part_view, above, beside_part, segment_end, item_parts, items_parts, segs_parts}
 use Rattle.bz_tree.specs.FromParts.{nodes_of_parts}
 use Rattle.bz_tree.specs.declared.row.Part.{Part}
-use Rattle.bz_command.specs.Commands.{Command, mentions}
+use Rattle.bz_rule.specs.Commands.{Command, mentions}
 use Rattle.bz_attribute.specs.declared.marks.RuleName.{RuleName}
 use Rattle.bz_attribute.specs.declared.marks.RuleName.TheVariants.{NoName, Plain, Other}
 use Rattle.bz_attribute.specs.Marks.{IsNamed}

@@ -6,7 +6,7 @@ use Rattle.bz_attribute.specs.Rules.{ident_of, is_named, is_operator_item, is_te
 use Rattle.bz_attribute.specs.Effects.{edit_first, has}
 use Rattle.bz_attribute.specs.Rename.{rename, rename_note, rename_to, renamed}
 use Rattle.bz_attribute.specs.declared.done.Note.TheVariants.{AttributeExists, NoAttribute}
-use Rattle.bz_command.specs.declared.command.Action.TheVariants.{Rename}
+use Rattle.bz_rule.specs.declared.command.Action.TheVariants.{Rename}
 use Rattle.bz_command.specs.Labels.{Package}
 use Rattle.bz_rule.proofs.Lawful.{Lawful, done_changed, guarded_same, note_unchanged, on_arguments}
 use Rattle.bz_rule.proofs.Arguments.{same_bytes}

@@ -5,9 +5,9 @@ use Rattle.std.proofs.lemmas.Bool.{cases_Bool, or_parts, and_parts}
 use Rattle.std.proofs.lemmas.Slice.Eq.{bytes_eq-Decides}
 use Rattle.bz_tree.specs.Tree.{Item, Segment, group, leaf}
 use Rattle.bz_command.specs.Labels.{Package}
-use Rattle.bz_command.specs.declared.command.Attributes.{Attributes}
-use Rattle.bz_command.specs.declared.command.Attributes.TheVariants.{Every, Named}
-use Rattle.bz_command.specs.declared.command.Action.TheVariants.{Replace}
+use Rattle.bz_command.specs.declared.arguments.Attributes.{Attributes}
+use Rattle.bz_command.specs.declared.arguments.Attributes.TheVariants.{Every, Named}
+use Rattle.bz_rule.specs.declared.command.Action.TheVariants.{Replace}
 use Rattle.bz_attribute.specs.Rules.{is_named, is_text, first_named, string_value, value}
 use Rattle.bz_attribute.specs.Lists.{edit_parts, equals, is_attribute, parts, with_value, same_value}
 use Rattle.bz_attribute.specs.Effects.{done, edit_first, string_item}

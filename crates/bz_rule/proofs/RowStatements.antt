@@ -8,7 +8,7 @@ use Rattle.bz_tree.specs.declared.row.Row.{Row}
 use Rattle.bz_tree.specs.private.PartSteps.{content_of, last_beside}
 use Rattle.bz_tree.proofs.FromParts.{statement_of_parts}
 use Rattle.bz_command.specs.Labels.{Package}
-use Rattle.bz_command.specs.declared.command.Field.{Field}
+use Rattle.bz_command.specs.declared.arguments.Field.{Field}
 use Rattle.bz_attribute.specs.Heads.{IsHeadOf}
 use Rattle.bz_attribute.specs.declared.head.Head.{Head}
 use Rattle.bz_attribute.specs.declared.done.Done.{Done}

@@ -14,9 +14,9 @@ use Rattle.bz_attribute.specs.Set.{New, NewString, NewNumber, NewConstant, NewSt
 use Rattle.bz_attribute.proofs.Views.{segments_of}
 use Rattle.bz_command.proofs.ReadBack.{quoted_value}
 use Rattle.bz_attribute.proofs.RuleNodes.{rule_nodes}
-use Rattle.bz_command.specs.declared.command.Setting.{Setting}
-use Rattle.bz_command.specs.declared.command.Setting.TheVariants.{ToKind, ToValues}
-use Rattle.bz_command.specs.declared.command.Action.TheVariants.{Set, SetIfAbsent}
+use Rattle.bz_command.specs.declared.arguments.Setting.{Setting}
+use Rattle.bz_command.specs.declared.arguments.Setting.TheVariants.{ToKind, ToValues}
+use Rattle.bz_rule.specs.declared.command.Action.TheVariants.{Set, SetIfAbsent}
 use Rattle.bz_command.specs.Labels.{Package}
 use Rattle.bz_attribute.specs.Lists.{with_value, is_attribute}
 use Rattle.bz_rule.proofs.Arguments.{attribute_named, first_same, has_first, is_first_named, rest_same, same_bytes, value_put}

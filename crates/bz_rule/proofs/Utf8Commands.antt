@@ -8,11 +8,10 @@ use Rattle.bz_tree.specs.Tree.{Statement}
 use Rattle.bz_layout_laws.specs.EachText.{HasUtf8}
 use Rattle.bz_layout_laws.proofs.Utf8Tokens.{cut_low}
 use Rattle.bz_layout_laws.proofs.Utf8Written.{low_utf8}
-use Rattle.bz_command.specs.Commands.{Command, command_passes}
+use Rattle.bz_rule.specs.Commands.{Command, command_passes, after}
 use Rattle.bz_command.specs.Labels.{Package}
 use Rattle.bz_command.specs.Values.{quoted, written}
 use Rattle.bz_attribute.specs.Comment.{comment_line, is_blank, trimmed}
-use Rattle.bz_rule.specs.Applied.{after}
 use Rattle.bz_rule.proofs.Commands.{commands_pass}
 use Rattle.bz_rule.proofs.PassingWritten.{PassesWritten}
 use Rattle.bz_rule.proofs.PassingTexts.{WordPasses}

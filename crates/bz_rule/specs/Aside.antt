@@ -1,7 +1,7 @@
 -- Changes of arguments that a command does not look at.
 use Rattle.std.specs.Prelude.{◌≡◌, ℕ, List, true, Some, None, codes}
 use Rattle.bz_tree.specs.Tree.{Segment}
-use Rattle.bz_command.specs.Commands.{Command, mentions}
+use Rattle.bz_rule.specs.Commands.{Command, mentions}
 use Rattle.bz_attribute.specs.Rules.{name_of, is_named}
 
 -- g leaves each argument its name, and all of an argument `name`.

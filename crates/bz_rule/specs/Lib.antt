@@ -1,5 +1,5 @@
-pub mod Applied
 pub mod Aside
+pub mod Commands
 pub mod LazyViews
 pub mod LongerViews
 pub mod OwnComments

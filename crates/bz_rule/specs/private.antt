@@ -1,3 +1,4 @@
+pub mod CommandSteps
 pub mod Hollow
 pub mod LongerRows
 pub mod NamedRows

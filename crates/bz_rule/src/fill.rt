@@ -1,7 +1,7 @@
 //! Values that stand apart, put back where they are asked for.
 
 ghost use Rattle.std.specs.Prelude.{◌≡◌, ◌++◌, IfOk, OnOk, map, filter, not, option_map};
-ghost use Rattle.bz_command.specs.Commands.{mentions};
+ghost use Rattle.bz_rule.specs.Commands.{mentions};
 ghost use Rattle.bz_tree.specs.FromParts.{nodes_of_parts};
 ghost use Rattle.bz_tree.specs.Rows.{part_view};
 ghost use Rattle.bz_tree.specs.View.{node_view, nodes_view, seg_view, segs_view, view};
@@ -11,9 +11,9 @@ ghost use Rattle.bz_attribute.specs.Effects.{nodes_after};
 ghost use Rattle.bz_rule.specs.Shallow.{filled};
 ghost use Rattle.bz_rule.specs.private.Hollow.{all_apart, parts_view, parts_for, found, is_mentioned, IsRead};
 
+use crate::command::Command;
 use crate::values::{Unread, Values};
 use bz_attribute::rule::{call_at, name_of, value_of};
-use bz_command::Command;
 use bz_tree::{Node, Part, Seg, Stmt, nodes_of_parts};
 use std::alloc::{AllocError, Global};
 

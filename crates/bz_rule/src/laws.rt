@@ -9,13 +9,12 @@ pub mod well_formed;
 
 ghost use Rattle.std.specs.Prelude.{◌≡◌, List, Option, map, option_map};
 ghost use Rattle.bz_tree.specs.Tree.{Segment, Statement};
-ghost use Rattle.bz_command.specs.Commands.{Command};
+ghost use Rattle.bz_rule.specs.Commands.{Command, after, done_of};
 ghost use Rattle.bz_command.specs.Labels.{Package, Target};
 ghost use Rattle.bz_attribute.specs.Effects.{with_args};
 ghost use Rattle.bz_attribute.specs.Marks.{marks};
 ghost use Rattle.bz_attribute.specs.Rules.{rule_of};
 ghost use Rattle.bz_attribute.specs.Texts.{shown_text};
-ghost use Rattle.bz_rule.specs.Applied.{after, done_of};
 ghost use Rattle.bz_rule.specs.Aside.{IsAside, KeepsNames};
 
 /// A command looks at no value but those of the arguments that it mentions and that of `name`: other arguments may be

@@ -9,17 +9,18 @@ ghost use Rattle.bz_command.specs.Labels.{Name};
 ghost use Rattle.bz_attribute.specs.Marks as marks;
 ghost use Rattle.bz_attribute.specs.Texts.{shown_text};
 ghost use Rattle.bz_layout.specs.Layout.{layout_text};
-ghost use Rattle.bz_rule.specs.Applied as applied;
+ghost use Rattle.bz_rule.specs.Commands as commands;
 ghost use Rattle.bz_rule.specs.LongerViews.{longer_view};
 ghost use Rattle.bz_rule.specs.ShallowViews.{shallow_view, shallow_slot};
 ghost use Rattle.bz_rule.specs.LazyViews.{lazy_view, lazy_slot};
 
+use crate::command::{Action, Command};
 use crate::longer::LongerRow;
 use crate::named_row::NamedRow;
 use crate::shallow::{ShallowStmt, apply_shallow};
 use bz_attribute::done::Done;
 use bz_attribute::marks::RuleName;
-use bz_command::{Action, Command, Package, Target};
+use bz_command::{Package, Target};
 use bz_tree::{Class, Row, Stmt};
 use std::alloc::{AllocError, Global};
 
@@ -121,8 +122,8 @@ pub fn apply_lazy(
     home: &Package,
     slot: &mut Option<LazyStmt<'_>>,
 ) -> Result<Done, AllocError>
-    ensures slot { OnOk result (lazy_slot slot.new ≡ applied.after command.now home.now (lazy_slot slot.old)) }
-    ensures done { IfOk result (λ done. done ≡ applied.done_of command.now home.now (lazy_slot slot.old)) }
+    ensures slot { OnOk result (lazy_slot slot.new ≡ commands.after command.now home.now (lazy_slot slot.old)) }
+    ensures done { IfOk result (λ done. done ≡ commands.done_of command.now home.now (lazy_slot slot.old)) }
 {
     match by_row(alloc, command, home, slot)? {
         Some(done) => Ok(done),
@@ -138,9 +139,9 @@ fn by_row(
     slot: &mut Option<LazyStmt<'_>>,
 ) -> Result<Option<Done>, AllocError>
     ensures slot { IfOk result (λ told. IfSome told (λ done.
-        lazy_slot slot.new ≡ applied.after command.now home.now (lazy_slot slot.old))) }
+        lazy_slot slot.new ≡ commands.after command.now home.now (lazy_slot slot.old))) }
     ensures done { IfOk result (λ told. IfSome told (λ done.
-        done ≡ applied.done_of command.now home.now (lazy_slot slot.old))) }
+        done ≡ commands.done_of command.now home.now (lazy_slot slot.old))) }
     ensures same { IfOk result (λ told. IfNone told (lazy_slot slot.new ≡ lazy_slot slot.old)) }
 {
     match slot {
@@ -157,9 +158,9 @@ fn on_row(
     row: &mut LongerRow<'_>,
 ) -> Result<Option<Done>, AllocError>
     ensures rule { IfOk result (λ told. IfSome told (λ done.
-        Some (longer_view row.new) ≡ applied.after command.now home.now (Some (longer_view row.old)))) }
+        Some (longer_view row.new) ≡ commands.after command.now home.now (Some (longer_view row.old)))) }
     ensures done { IfOk result (λ told. IfSome told (λ done.
-        done ≡ applied.done_of command.now home.now (Some (longer_view row.old)))) }
+        done ≡ commands.done_of command.now home.now (Some (longer_view row.old)))) }
     ensures same { IfOk result (λ told. IfNone told (longer_view row.new ≡ longer_view row.old)) }
 {
     match &command.action {
@@ -175,8 +176,8 @@ fn apply_read(
     home: &Package,
     slot: &mut Option<LazyStmt<'_>>,
 ) -> Result<Done, AllocError>
-    ensures slot { OnOk result (lazy_slot slot.new ≡ applied.after command.now home.now (lazy_slot slot.old)) }
-    ensures done { IfOk result (λ done. done ≡ applied.done_of command.now home.now (lazy_slot slot.old)) }
+    ensures slot { OnOk result (lazy_slot slot.new ≡ commands.after command.now home.now (lazy_slot slot.old)) }
+    ensures done { IfOk result (λ done. done ≡ commands.done_of command.now home.now (lazy_slot slot.old)) }
 {
     let mut read = read_slot(alloc, slot.take())?;
     let done = apply_shallow(alloc, command, home, &mut read);

@@ -13,20 +13,20 @@ ghost use Rattle.bz_attribute.specs.Effects.{nodes_after};
 ghost use Rattle.bz_attribute.specs.Texts.{shown_text};
 ghost use Rattle.bz_attribute_commands.specs.Print.{prints};
 ghost use Rattle.bz_layout.specs.Layout.{layout_text};
-ghost use Rattle.bz_rule.specs.Applied as applied;
+ghost use Rattle.bz_rule.specs.Commands as commands;
 ghost use Rattle.bz_rule.specs.RowViews.{row_statement};
 ghost use Rattle.bz_rule.specs.ShallowViews.{shallow_view};
 ghost use Rattle.bz_rule.specs.LongerViews.{longer_view, with_more};
 ghost use Rattle.bz_rule.specs.private.LongerRows.{HasName, Lacks, adds_to, is_word, besides, args_end, with_added};
 
+use crate::command::{Action, Command, in_args};
 use crate::hollow::is_end;
 use crate::named_row::NamedRow;
 use crate::shallow::ShallowStmt;
-use crate::slot::in_args;
 use bz_attribute::done::Done;
 use bz_attribute::marks::RuleName;
 use bz_attribute::rule::call_at;
-use bz_command::{Action, Command, Field, Package, Setting, Target};
+use bz_command::{Field, Package, Setting, Target};
 use bz_layout::put_pieces;
 use bz_token::Kind;
 use bz_tree::{Class, Node, Part, Seg, push_above, push_beside, push_nodes};
@@ -250,9 +250,9 @@ impl<'a> LongerRow<'a> {
         home: &Package,
     ) -> Result<Option<Done>, AllocError>
         ensures rule { IfOk result (λ told. IfSome told (λ done.
-            Some (longer_view self.new) ≡ applied.after command.now home.now (Some (longer_view self.old)))) }
+            Some (longer_view self.new) ≡ commands.after command.now home.now (Some (longer_view self.old)))) }
         ensures done { IfOk result (λ told. IfSome told (λ done.
-            done ≡ applied.done_of command.now home.now (Some (longer_view self.old)))) }
+            done ≡ commands.done_of command.now home.now (Some (longer_view self.old)))) }
         ensures same { IfOk result (λ told. IfNone told (longer_view self.new ≡ longer_view self.old)) }
         ensures err { OnErr result (longer_view self.new ≡ longer_view self.old) }
     {

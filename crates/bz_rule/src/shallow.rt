@@ -10,12 +10,13 @@ ghost use Rattle.bz_command.specs.Labels.{Name};
 ghost use Rattle.bz_attribute.specs.Marks as marks;
 ghost use Rattle.bz_attribute.specs.Texts.{shown_text};
 ghost use Rattle.bz_layout.specs.Layout.{layout_text};
-ghost use Rattle.bz_rule.specs.Applied as applied;
+ghost use Rattle.bz_rule.specs.Commands as commands;
 ghost use Rattle.bz_rule.specs.Shallow.{whole};
 ghost use Rattle.bz_rule.specs.ShallowViews.{shallow_view, shallow_slot};
 ghost use Rattle.bz_rule.specs.private.Hollow.{AreApart, all_apart, walk, run, start};
 ghost use Rattle.bz_tree.specs.declared.stmt.Class.TheVariants.{Rule as RuleClass};
 
+use crate::command::Command;
 use crate::fill::read_mentioned;
 use crate::hollow::{Hollow, hollow_of};
 use crate::slot::apply;
@@ -24,7 +25,7 @@ use crate::whole::whole_parts;
 use bz_attribute::done::Done;
 use bz_attribute::marks::{RuleName, matches, rule_name};
 use bz_attribute::texts::shown;
-use bz_command::{Command, Package, Target};
+use bz_command::{Package, Target};
 use bz_tree::{Class, Row, Stmt, stmt_of_parts};
 use std::alloc::{AllocError, Global};
 
@@ -135,8 +136,8 @@ pub fn apply_shallow(
     home: &Package,
     slot: &mut Option<ShallowStmt<'_>>,
 ) -> Result<Done, AllocError>
-    ensures slot { OnOk result (shallow_slot slot.new ≡ applied.after command.now home.now (shallow_slot slot.old)) }
-    ensures done { IfOk result (λ done. done ≡ applied.done_of command.now home.now (shallow_slot slot.old)) }
+    ensures slot { OnOk result (shallow_slot slot.new ≡ commands.after command.now home.now (shallow_slot slot.old)) }
+    ensures done { IfOk result (λ done. done ≡ commands.done_of command.now home.now (shallow_slot slot.old)) }
 {
     match slot.take() {
         None => apply(alloc, command, home, &mut None),
@@ -153,9 +154,9 @@ fn apply_to<'a>(
     slot: &mut Option<ShallowStmt<'a>>,
 ) -> Result<Done, AllocError>
     ensures slot { OnOk result
-        (shallow_slot slot.new ≡ applied.after command.now home.now (Some (shallow_view read.entry))) }
+        (shallow_slot slot.new ≡ commands.after command.now home.now (Some (shallow_view read.entry))) }
     ensures done { IfOk result
-        (λ done. done ≡ applied.done_of command.now home.now (Some (shallow_view read.entry))) }
+        (λ done. done ≡ commands.done_of command.now home.now (Some (shallow_view read.entry))) }
 {
     let ShallowStmt { mut stmt, values } = read;
     let values = read_mentioned(alloc, command, &mut stmt, values)?;

@@ -3,7 +3,7 @@ use Rattle.std.proofs.Common.{◌≡◌, ℕ, ◌<◌, suc, List, [], ◌∷◌,
 use Rattle.std.proofs.lemmas.List.{length-map}
 use Rattle.std.specs.List.{filter, filter_map}
 use Rattle.std.specs.Option.{is_some}
-use Rattle.bz_command.specs.Commands.{Command}
+use Rattle.bz_rule.specs.Commands.{Command}
 use Rattle.bz_script.specs.Groups.{Label, labels_of, command_in, is_command, commands_of, pass_for, steps_from, group_of}
 use Rattle.bz_script.specs.declared.usage.UsageFault.TheVariants as fault
 

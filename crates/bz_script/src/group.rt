@@ -7,9 +7,8 @@ ghost use Rattle.bz_script.specs.Results.{map_ok};
 ghost use Rattle.bz_script.specs.Groups as spec;
 
 use crate::usage::UsageFault;
-use bz_command::{
-    Command, CommandFault, LabelFault, Package, Pass, Target, read_command, read_label,
-};
+use bz_command::{LabelFault, Package, Pass, Target, read_label};
+use bz_rule::{Command, CommandFault, read_command};
 use std::alloc::{AllocError, Global};
 
 /// Passes in the order in which they are made, each with the package that it is for.

@@ -1,9 +1,9 @@
 //! The page that tells how the program is used.
 
 use crate::usage::{StartFault, UsageFault};
-use bz_command::LEFT_OUT;
+use bz_rule::LEFT_OUT;
 
-/// The page begins with this; the commands follow ([`USAGE`](bz_command::USAGE)), and then its end.
+/// The page begins with this; the commands follow ([`USAGE`](bz_rule::USAGE)), and then its end.
 pub const BEGINNING: &str = "\
 usage: buildozer [-k] [-stdout] [-quiet] COMMAND.. TARGET..
        buildozer [-k] [-stdout] [-quiet] -f FILE

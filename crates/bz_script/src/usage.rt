@@ -2,7 +2,8 @@
 
 ghost use Rattle.std.specs.Prelude.{◌≡◌};
 
-use bz_command::{CommandFault, LabelFault};
+use bz_command::LabelFault;
+use bz_rule::CommandFault;
 use std::alloc::{AllocError, AllocFailed};
 use std::fmt;
 use thiserror::Error;

@@ -3,8 +3,8 @@ use Rattle.std.specs.Prelude.{ℕ, List, [], ◌∷◌, Bool, ◌&&◌}
 use Rattle.std.specs.List.{list_any}
 use Rattle.bz_tree.specs.Tree.{Segment}
 use Rattle.bz_command.specs.Labels.{Package}
-use Rattle.bz_command.specs.declared.command.Moved.{Moved}
-use Rattle.bz_command.specs.declared.command.Moved.TheVariants.{Values}
+use Rattle.bz_command.specs.declared.arguments.Moved.{Moved}
+use Rattle.bz_command.specs.declared.arguments.Moved.TheVariants.{Values}
 use Rattle.bz_attribute.specs.Effects.{is_chosen}
 
 -- a chosen element is the same label as the text

@@ -3,8 +3,8 @@ use Rattle.std.specs.Prelude.{◌≡◌, ℕ, List, ◌++◌, Bool, true, map, c
 use Rattle.std.specs.List.{list_all}
 use Rattle.std.specs.Fmt.{decimal}
 use Rattle.bz_command.specs.Labels.{Package}
-use Rattle.bz_command.specs.declared.command.Field.{Field}
-use Rattle.bz_command.specs.declared.command.Field.TheVariants.{Label, Kind, StartLine, EndLine, ValueOf}
+use Rattle.bz_command.specs.declared.arguments.Field.{Field}
+use Rattle.bz_command.specs.declared.arguments.Field.TheVariants.{Label, Kind, StartLine, EndLine, ValueOf}
 use Rattle.bz_attribute.specs.Texts.{home_text}
 use Rattle.bz_attribute.specs.declared.head.Head.{Head}
 use Rattle.bz_attribute_commands.specs.Print.{spaced, word_form}

@@ -2,7 +2,7 @@
 use Rattle.std.specs.Prelude.{◌≡◌, ℕ, List, take, ◌||◌, Some}
 use Rattle.std.specs.List.{list_any}
 use Rattle.bz_command.specs.Labels.{Package}
-use Rattle.bz_command.specs.declared.command.Moved.TheVariants.{Values}
+use Rattle.bz_command.specs.declared.arguments.Moved.TheVariants.{Values}
 use Rattle.bz_attribute.specs.Effects.{done, not_a_list}
 use Rattle.bz_attribute.specs.Add.{adds}
 use Rattle.bz_attribute.specs.Lists.{same}

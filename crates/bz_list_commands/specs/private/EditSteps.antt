@@ -2,9 +2,9 @@
 use Rattle.std.specs.Prelude.{ℕ, List, Bool, ◌&&◌, if◌then◌else◌}
 use Rattle.bz_tree.specs.Tree.{Segment}
 use Rattle.bz_command.specs.Labels.{Package}
-use Rattle.bz_command.specs.declared.command.Attributes.{Attributes}
-use Rattle.bz_command.specs.declared.command.Attributes.TheVariants.{Every, Named}
-use Rattle.bz_command.specs.declared.command.Moved.TheVariants.{Values}
+use Rattle.bz_command.specs.declared.arguments.Attributes.{Attributes}
+use Rattle.bz_command.specs.declared.arguments.Attributes.TheVariants.{Every, Named}
+use Rattle.bz_command.specs.declared.arguments.Moved.TheVariants.{Values}
 use Rattle.bz_attribute.specs.Rules.{first_named, is_named, value}
 use Rattle.bz_attribute.specs.Lists.{is_attribute, with_value, edit_parts}
 use Rattle.bz_attribute.specs.Effects.{chooses_in, loses_all, unchosen}

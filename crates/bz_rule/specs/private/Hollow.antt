@@ -8,7 +8,7 @@ use Rattle.bz_tree.specs.Tree.{leaf, items_of, Segment, Statement}
 use Rattle.bz_tree.specs.Rows.{RowPart, a_token, opening, closing, segment_end, items_parts, part_view}
 use Rattle.bz_tree.specs.FromParts.{nodes_of_parts}
 use Rattle.bz_attribute.specs.Rules as rules
-use Rattle.bz_command.specs.Commands.{Command, mentions}
+use Rattle.bz_rule.specs.Commands.{Command, mentions}
 use Rattle.bz_rule.specs.Shallow.{Apart, value_for, is_empty, whole}
 use Rattle.bz_rule.specs.declared.values.Unread.{Unread}
 use Rattle.bz_rule.specs.declared.hollow.Place.{Place}

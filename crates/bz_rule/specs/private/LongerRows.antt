@@ -4,9 +4,9 @@ use Rattle.std.specs.List.{list_any}
 use Rattle.bz_token.specs.declared.token.Kind.TheVariants.{Identifier}
 use Rattle.bz_tree.specs.Tree.{Segment, Statement}
 use Rattle.bz_tree.specs.Rows.{RowPart, a_token, beside}
-use Rattle.bz_command.specs.Commands.{Command}
-use Rattle.bz_command.specs.declared.command.Setting.TheVariants.{ToValues}
-use Rattle.bz_command.specs.declared.command.Action.TheVariants.{Set, SetIfAbsent}
+use Rattle.bz_rule.specs.Commands.{Command}
+use Rattle.bz_command.specs.declared.arguments.Setting.TheVariants.{ToValues}
+use Rattle.bz_rule.specs.declared.command.Action.TheVariants.{Set, SetIfAbsent}
 use Rattle.bz_attribute.specs.Rules.{Rule, rule_of, first_named}
 use Rattle.bz_attribute.specs.Effects.{has}
 use Rattle.bz_rule.specs.private.Hollow.{is_end}

@@ -2,8 +2,7 @@
 
 ghost use Rattle.std.specs.Prelude.{◌≡◌, ◌↔◌, Option, true};
 ghost use Rattle.bz_tree.specs.Tree.{Statement};
-ghost use Rattle.bz_rule.specs.Applied.{after, done_of};
-ghost use Rattle.bz_command.specs.Commands.{is_command, Command};
+ghost use Rattle.bz_rule.specs.Commands.{after, done_of, is_command, Command};
 ghost use Rattle.bz_command.specs.Labels.{Package};
 
 /// A command as [`read_command`](crate::read_command) makes it tells that it changed something exactly where what

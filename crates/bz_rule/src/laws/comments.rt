@@ -3,10 +3,9 @@
 ghost use Rattle.std.specs.Prelude.{◌≡◌, ◌++◌, ◌∷◌, if◌then◌else◌, ℕ, List, [], Option, map, option_map, true};
 ghost use Rattle.bz_tree.specs.Comments.{comments_of};
 ghost use Rattle.bz_tree.specs.Tree.{Segment, Statement};
-ghost use Rattle.bz_rule.specs.Applied.{after, keeps_comments};
-ghost use Rattle.bz_command.specs.Commands.{Command};
-ghost use Rattle.bz_command.specs.declared.command.Attributes.{Attributes};
-ghost use Rattle.bz_command.specs.declared.command.Moved.{Moved};
+ghost use Rattle.bz_rule.specs.Commands.{after, keeps_comments, Command};
+ghost use Rattle.bz_command.specs.declared.arguments.Attributes.{Attributes};
+ghost use Rattle.bz_command.specs.declared.arguments.Moved.{Moved};
 ghost use Rattle.bz_attribute.specs.Add as add;
 ghost use Rattle.bz_attribute.specs.Effects as effects;
 ghost use Rattle.bz_attribute.specs.Rename as rename;

@@ -3,11 +3,11 @@
 ghost use Rattle.std.specs.Prelude.{◌≡◌, ◌≤◌, ◌++◌, ◌∷◌, ℕ, List, [], None, Option, filter, length, false, true};
 ghost use Rattle.std.specs.List.{list_all, list_any};
 ghost use Rattle.bz_tree.specs.Tree.{Segment, Statement};
-ghost use Rattle.bz_rule.specs.Applied.{after, done_of};
-ghost use Rattle.bz_command.specs.declared.command.Attributes.TheVariants.{Every, Named};
-ghost use Rattle.bz_command.specs.declared.command.Setting.TheVariants.{ToKind, ToValues};
-ghost use Rattle.bz_command.specs.declared.command.Moved.TheVariants.{Values};
-ghost use Rattle.bz_command.specs.declared.command.Action.TheVariants.{Add, Set};
+ghost use Rattle.bz_rule.specs.Commands.{after, done_of};
+ghost use Rattle.bz_command.specs.declared.arguments.Attributes.TheVariants.{Every, Named};
+ghost use Rattle.bz_command.specs.declared.arguments.Setting.TheVariants.{ToKind, ToValues};
+ghost use Rattle.bz_command.specs.declared.arguments.Moved.TheVariants.{Values};
+ghost use Rattle.bz_rule.specs.declared.command.Action.TheVariants.{Add, Set};
 ghost use Rattle.bz_attribute.specs.Add as add;
 ghost use Rattle.bz_attribute.specs.Effects as effects;
 ghost use Rattle.bz_attribute.specs.Remove as remove;

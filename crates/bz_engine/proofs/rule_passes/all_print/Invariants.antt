@@ -1,6 +1,6 @@
 use Rattle.std.proofs.Common.{◌≡◌, drop}
 use Rattle.std.specs.List.{list_all}
-use Rattle.bz_command.specs.Commands.{is_print}
+use Rattle.bz_rule.specs.Commands.{is_print}
 use Rattle.bz_engine.proofs.rule_passes.all_print.Given as goal
 
 -- the commands that are left decide

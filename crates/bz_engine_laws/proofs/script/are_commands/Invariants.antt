@@ -1,7 +1,7 @@
 use Rattle.std.proofs.Common.{◌≡◌, drop}
 use Rattle.std.specs.List.{list_all}
 use Rattle.std.specs.Str.{is_utf8}
-use Rattle.bz_command.specs.Commands.{is_command, command_passes}
+use Rattle.bz_rule.specs.Commands.{is_command, command_passes}
 use Rattle.bz_engine_laws.proofs.script.are_commands.Given as goal
 
 -- the commands that are left decide

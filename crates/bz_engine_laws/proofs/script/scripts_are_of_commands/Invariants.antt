@@ -1,7 +1,7 @@
 use Rattle.std.proofs.Common.{◌≡◌, drop}
 use Rattle.std.specs.List.{list_all}
 use Rattle.std.specs.Str.{is_utf8}
-use Rattle.bz_command.specs.Commands.{is_command, command_passes}
+use Rattle.bz_rule.specs.Commands.{is_command, command_passes}
 use Rattle.bz_engine_laws.proofs.script.scripts_are_of_commands.Given as goal
 
 -- the passes that are left decide

@@ -1,6 +1,6 @@
 use Rattle.std.proofs.Common.{ℕ, List, None, ap, ◌∙◌}
 use Rattle.bz_tree.specs.View.{segs_view}
-use Rattle.bz_command.specs.declared.command.Moved.TheVariants.{Values}
+use Rattle.bz_command.specs.declared.arguments.Moved.TheVariants.{Values}
 use Rattle.bz_attribute.specs.Rules.{first_named, is_named}
 use Rattle.bz_attribute.specs.Effects.{chooses_in, done, edit_first, filtered, unchosen}
 use Rattle.bz_list_commands.proofs.remove.remove_values.Goals as goal

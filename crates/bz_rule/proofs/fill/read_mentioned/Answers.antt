@@ -1,7 +1,7 @@
 use Rattle.std.proofs.Common.{◌≡◌, ◌∙◌, List, ap, sym, subst, map, filter, not}
 use Rattle.bz_tree.specs.Tree.{Item}
 use Rattle.bz_tree.specs.View.{view, nodes_view}
-use Rattle.bz_command.specs.Commands.{mentions}
+use Rattle.bz_rule.specs.Commands.{mentions}
 use Rattle.bz_attribute.specs.Rules.{rule_of}
 use Rattle.bz_attribute.specs.Effects.{nodes_after}
 use Rattle.bz_rule.specs.Shallow.{filled}

@@ -1,6 +1,6 @@
 use Rattle.std.proofs.Common.{◌≡◌, ◌≤◌, ◌<◌, ◌+◌, ◌++◌, ◌∷◌, [], ◌∙◌, ℕ, List, Bool, true, false, append_assoc, get_or, map, filter, not, length, drop, ap, sym, refl, rules}
 use Rattle.std.proofs.lemmas.List.{append-nil, drop_all, drop_more, map-append}
-use Rattle.bz_command.specs.Commands.{mentions}
+use Rattle.bz_rule.specs.Commands.{mentions}
 use Rattle.bz_rule.specs.declared.values.Unread.{Unread}
 use Rattle.bz_rule.specs.private.Hollow.{Parts, parts_view}
 use Rattle.bz_rule.proofs.fill.split_into.Goals as goal

@@ -1,5 +1,5 @@
 use Rattle.std.proofs.Common.{◌≡◌, ◌++◌, drop, map, filter, not}
-use Rattle.bz_command.specs.Commands.{mentions}
+use Rattle.bz_rule.specs.Commands.{mentions}
 use Rattle.bz_rule.specs.private.Hollow.{parts_view}
 use Rattle.bz_rule.proofs.fill.split_into.Given as goal
 

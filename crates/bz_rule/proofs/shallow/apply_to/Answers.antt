@@ -2,7 +2,7 @@ use Rattle.std.proofs.Common.{◌∙◌, Some, ap, sym, option_map}
 use Rattle.std.proofs.lemmas.Result.{IfOk-weaker, on_ok_weaker}
 use Rattle.bz_tree.specs.Tree.{Statement}
 use Rattle.bz_tree.specs.View.{view}
-use Rattle.bz_rule.specs.Applied.{after, done_of}
+use Rattle.bz_rule.specs.Commands.{after, done_of}
 use Rattle.bz_rule.specs.Shallow.{filled, whole}
 use Rattle.bz_rule.specs.private.Hollow.{all_apart}
 use Rattle.bz_rule.proofs.Commands.{after_aside, done_aside}

@@ -1,6 +1,6 @@
 use Rattle.std.proofs.Common.{refl}
 use Rattle.std.proofs.lemmas.Result.{on_ok_weaker}
-use Rattle.bz_rule.specs.Applied.{args_after}
+use Rattle.bz_rule.specs.Commands.{args_after}
 use Rattle.bz_attribute.proofs.Groups.{edited_group, elements_group}
 use Rattle.bz_rule.proofs.slot.in_call.Goals as goal
 

@@ -1,6 +1,6 @@
-use Rattle.bz_command.specs.declared.command.Setting.TheVariants.{ToValues}
-use Rattle.bz_command.specs.declared.command.Action.TheVariants.{Set}
-use Rattle.bz_rule.specs.Applied.{args_after, args_done}
+use Rattle.bz_command.specs.declared.arguments.Setting.TheVariants.{ToValues}
+use Rattle.bz_rule.specs.declared.command.Action.TheVariants.{Set}
+use Rattle.bz_rule.specs.Commands.{args_after, args_done}
 use Rattle.bz_rule.proofs.Again.{slot_again}
 use Rattle.bz_rule.proofs.SetAgain.{set_again, set_kind_again}
 use Rattle.bz_rule.proofs.laws.effects.set_twice_changes_nothing.Goals as goal

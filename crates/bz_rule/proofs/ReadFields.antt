@@ -3,7 +3,8 @@ use Rattle.std.proofs.Common.{◌≡◌, ℕ, List, [], ◌∷◌, true, refl, i
 use Rattle.std.specs.Prelude.{bytes_eq, codes}
 use Rattle.std.specs.List.{list_all}
 use Rattle.std.proofs.lemmas.Bool.{cases_Bool, and_parts}
-use Rattle.bz_command.specs.Commands.{is_field, is_named_field, field_of}
+use Rattle.bz_command.specs.Arguments.{is_field, is_named_field}
+use Rattle.bz_rule.specs.Commands.{field_of}
 
 named_field : (word : List ℕ) → is_field word ≡ true → is_named_field (field_of word) ≡ true
 named_field word h = elim (cases_Bool (bytes_eq word (codes "label"))) [

@@ -1,5 +1,5 @@
 use Rattle.std.proofs.Common.{sym}
-use Rattle.bz_rule.proofs.slot.carry_out.Goals as goal
+use Rattle.bz_rule.proofs.command.carry_out.Goals as goal
 
 pub returns-in-Delete-clause-slot : goal.returns-in-Delete-clause-slot
 returns-in-Delete-clause-slot c = rw (sym c.command.view_is, c.in-Delete.is) (c.delete.ensures.slot c.args.home.now)

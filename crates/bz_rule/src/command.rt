@@ -1,57 +1,29 @@
-//! Commands on one rule.
+//! The commands on one rule: what each is, which attributes it mentions, and which code carries it out.
 
-ghost use Rattle.std.specs.Prelude.{◌≡◌, true};
-ghost use Rattle.std.specs.List.{list_all, list_any};
+ghost use Rattle.std.specs.Prelude.{◌≡◌, IfOk, IsOk, OnOk, OnErr, IsTrue, false, true};
 ghost use Rattle.std.specs.Str.{is_utf8};
-ghost use Rattle.bz_command.specs.Commands as spec;
+ghost use Rattle.bz_tree.specs.View.{segs_view, slot_view};
+ghost use Rattle.bz_attribute.specs.Effects as effects;
+ghost use Rattle.bz_rule.specs.Commands as spec;
 
-use crate::list::{Seq, Text};
-use std::alloc::AllocError;
+use crate::slot::{delete, on_args};
+use bz_attribute::done::Done;
+use bz_attribute_commands::comment::{comment, comment_rule};
+use bz_attribute_commands::print::print;
+use bz_attribute_commands::rename::rename;
+use bz_attribute_commands::set::{set, set_if_absent};
+use bz_attribute_commands::set_kind::set_kind;
+use bz_command::{
+    Attributes, Commented, Field, Moved, Package, Seq, Setting, Text, each_word_is_utf8,
+    print_mentions, word_is_utf8,
+};
+use bz_list_commands::add::add;
+use bz_list_commands::moving::move_elements;
+use bz_list_commands::remove::remove;
+use bz_list_commands::replace::replace;
+use bz_tree::{Seg, Stmt};
+use std::alloc::{AllocError, Global};
 use std::marker::Model;
-
-/// The attributes that a command speaks of.
-#[derive(Drop)]
-pub enum Attributes {
-    /// All of them, written `*`.
-    Every,
-    Named(Text),
-}
-
-/// What `set` sets.
-#[derive(Drop)]
-pub enum Setting {
-    /// The kind of the rule.
-    ToKind(Text),
-    /// An attribute, to one or more values.
-    ToValues(Text, Seq<Text>),
-}
-
-/// The elements that `move` moves.
-#[derive(Drop)]
-pub enum Moved {
-    /// All of them, written `*`.
-    All,
-    Values(Seq<Text>),
-}
-
-/// What a comment stands before.
-#[derive(Drop)]
-pub enum Commented {
-    Rule,
-    Attribute(Text),
-    /// The element of an attribute that equals a value.
-    Value(Text, Text),
-}
-
-/// What `print` prints.
-#[derive(Drop)]
-pub enum Field {
-    Label,
-    Kind,
-    StartLine,
-    EndLine,
-    ValueOf(Text),
-}
 
 /// The ten commands.
 #[derive(Drop)]
@@ -130,7 +102,7 @@ impl Drop for Command {
 
 impl Model for Command {
     ghost use Rattle.std.specs.Prelude.{IsTrue};
-    ghost use Rattle.bz_command.specs.Commands as spec;
+    ghost use Rattle.bz_rule.specs.Commands as spec;
 
     ghost Value = { spec.Command };
 
@@ -213,117 +185,65 @@ impl Action {
     }
 }
 
-impl Attributes {
-    fn mention(&self, name: &str) -> bool
-        ensures { result ≡ spec.attributes_mention name.now self.now }
-    {
-        match self {
-            Attributes::Every => true,
-            Attributes::Named(attr) => attr.as_str() == name,
-        }
-    }
-
-    fn words_are_utf8(&self)
-        ensures { spec.attributes_pass is_utf8 self.now ≡ true }
-    {
-        match self {
-            Attributes::Every => {}
-            Attributes::Named(attr) => word_is_utf8(attr),
-        }
-    }
-}
-
-impl Setting {
-    fn mentions(&self, name: &str) -> bool
-        ensures { result ≡ spec.setting_mentions name.now self.now }
-    {
-        matches!(self, Setting::ToValues(attr, _) if attr.as_str() == name)
-    }
-
-    fn words_are_utf8(&self)
-        ensures { spec.setting_passes is_utf8 self.now ≡ true }
-    {
-        match self {
-            Setting::ToKind(kind) => word_is_utf8(kind),
-            Setting::ToValues(attr, values) => {
-                word_is_utf8(attr);
-                each_word_is_utf8(values);
-            }
-        }
-    }
-}
-
-impl Moved {
-    fn words_are_utf8(&self)
-        ensures { spec.moved_passes is_utf8 self.now ≡ true }
-    {
-        match self {
-            Moved::All => {}
-            Moved::Values(values) => each_word_is_utf8(values),
-        }
-    }
-}
-
-impl Commented {
-    fn mentions(&self, name: &str) -> bool
-        ensures { result ≡ spec.comment_mentions name.now self.now }
-    {
-        match self {
-            Commented::Rule => false,
-            Commented::Attribute(attr) | Commented::Value(attr, _) => attr.as_str() == name,
-        }
-    }
-
-    fn words_are_utf8(&self)
-        ensures { spec.commented_passes is_utf8 self.now ≡ true }
-    {
-        match self {
-            Commented::Rule => {}
-            Commented::Attribute(attr) => word_is_utf8(attr),
-            Commented::Value(attr, value) => {
-                word_is_utf8(attr);
-                word_is_utf8(value);
-            }
-        }
-    }
-}
-
-impl Field {
-    fn mentions(&self, name: &str) -> bool
-        ensures { result ≡ spec.field_mentions name.now self.now }
-    {
-        matches!(self, Field::ValueOf(attr) if attr.as_str() == name)
-    }
-}
-
-// Without fields the name is printed.
-fn print_mentions(fields: &[Field], name: &str) -> bool
-    ensures { result ≡ spec.print_mentions name.now fields.now }
+/// What a command makes of a slot, and tells.
+pub(crate) fn carry_out(
+    alloc: Global,
+    command: &Command,
+    home: &Package,
+    slot: &mut Option<Stmt<'_>>,
+) -> Result<Done, AllocError>
+    ensures command { IsTrue (spec.is_command command.now) }
+    ensures slot { OnOk result (slot_view slot.new ≡ spec.after command.now home.now (slot_view slot.old)) }
+    ensures done { IfOk result (λ done. done ≡ spec.done_of command.now home.now (slot_view slot.old)) }
+    ensures no_rule { effects.holds_rule (slot_view slot.old) ≡ false → IsOk result }
+    ensures err { OnErr result (slot_view slot.new ≡ slot_view slot.old) }
 {
-    match fields {
-        [] => name == "name",
-        [_, ..] => any_mentions(fields, name),
+    match &command.action {
+        Action::Delete => Ok(delete(slot)),
+        Action::Set(Setting::ToKind(kind)) => set_kind(alloc, kind.as_str(), slot),
+        Action::Comment(Commented::Rule, text) => comment_rule(alloc, text.as_str(), slot),
+        Action::Print(fields) => print(alloc, home, fields.as_slice(), slot),
+        _ => on_args(alloc, command, home, slot),
     }
 }
 
-fn any_mentions(fields: &[Field], name: &str) -> bool
-    ensures { result ≡ list_any (spec.field_mentions name.now) fields.now }
+/// What a command makes of arguments, and tells.
+pub(crate) fn in_args(
+    alloc: Global,
+    command: &Command,
+    home: &Package,
+    args: &mut Vec<Seg<'_>>,
+) -> Result<Done, AllocError>
+    ensures args { OnOk result
+        (segs_view args.new.items ≡ spec.args_after command.now home.now (segs_view args.old.items)) }
+    ensures done { IfOk result (λ done. done ≡ spec.args_done command.now home.now (segs_view args.old.items)) }
+    ensures err { OnErr result (segs_view args.new.items ≡ segs_view args.old.items) }
 {
-    fields.iter().any(|field| field.mentions(name))
-}
-
-fn each_word_is_utf8(words: &Seq<Text>)
-    ensures { list_all is_utf8 words.now ≡ true }
-{
-    for word in words.as_slice() {
-        word_is_utf8(word);
+    match &command.action {
+        Action::Add(attr, values) => add(alloc, home, attr.as_str(), values.as_slice(), args),
+        Action::Remove(attributes, values) => remove(
+            alloc,
+            home,
+            attributes,
+            values.as_slice(),
+            args,
+        ),
+        Action::Set(Setting::ToValues(attr, values)) => {
+            set(alloc, attr.as_str(), values.as_slice(), args)
+        }
+        Action::SetIfAbsent(attr, values) => {
+            set_if_absent(alloc, attr.as_str(), values.as_slice(), args)
+        }
+        Action::Rename(old, new) => rename(alloc, old.as_str(), new.as_str(), args),
+        Action::Move(old, new, moved) => {
+            move_elements(alloc, home, old.as_str(), new.as_str(), moved, args)
+        }
+        Action::Replace(attributes, old, new) => {
+            replace(alloc, home, attributes, old.as_str(), new.as_str(), args)
+        }
+        Action::Comment(commented, text) => comment(alloc, home, commented, text.as_str(), args),
+        _ => Ok(Done::quiet(false)),
     }
-}
-
-fn word_is_utf8(word: &Text)
-    ensures { is_utf8 word.now ≡ true }
-{
-    let _text = word.as_str();
 }
 
 /// Why words are no command.
@@ -344,7 +264,7 @@ pub enum CommandFault {
 
 impl From<AllocError> for CommandFault {
     ghost use Rattle.std.specs.Prelude.{◌≡◌};
-    ghost use Rattle.bz_command.specs.declared.command.CommandFault.TheVariants.{OutOfMemory};
+    ghost use Rattle.bz_rule.specs.declared.command.CommandFault.TheVariants.{OutOfMemory};
 
     ghost from_gives = { λ _ e. e ≡ OutOfMemory };
 

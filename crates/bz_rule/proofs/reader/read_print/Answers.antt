@@ -1,8 +1,8 @@
 use Rattle.std.proofs.Common.{rules, ◌≡◌, true}
 use Rattle.std.specs.List.{list_all}
-use Rattle.bz_command.specs.Commands.{is_field}
-use Rattle.bz_command.proofs.Fields.{named_fields}
-use Rattle.bz_command.proofs.reader.read_print.Goals as goal
+use Rattle.bz_command.specs.Arguments.{is_field}
+use Rattle.bz_rule.proofs.ReadFields.{named_fields}
+use Rattle.bz_rule.proofs.reader.read_print.Goals as goal
 
 pub invariant_of-result : goal.invariant_of-result
 invariant_of-result c =

@@ -2,13 +2,15 @@
 
 ghost use Rattle.std.specs.Prelude.{◌≡◌, ◌≢◌, ◌∷◌, [], Err, IfOk, IsTrue, MatchResult, Some, map};
 ghost use Rattle.std.specs.List.{list_all, list_any};
-ghost use Rattle.bz_command.specs.Commands as spec;
-ghost use Rattle.bz_command.specs.private.CommandSteps.{attribute_of, attributes_of, command_read, some_of, none_of};
+ghost use Rattle.bz_command.specs.Arguments as arguments;
+ghost use Rattle.bz_rule.specs.Commands as spec;
+ghost use Rattle.bz_rule.specs.private.CommandSteps.{attribute_of, attributes_of, command_read, some_of, none_of};
 
-use crate::command::{Action, Attributes, Command, CommandFault, Commented, Field, Moved, Setting};
-use crate::list::{Seq, Text};
-use crate::names::{is_identifier, is_kind};
-use crate::words::{read_words, take_word};
+use crate::command::{Action, Command, CommandFault};
+use bz_command::{
+    Attributes, Commented, Field, Moved, Seq, Setting, Text, is_identifier, is_kind, read_words,
+    take_word,
+};
 use std::alloc::{AllocError, Global};
 
 /// Reads a command (buildozer README, edit commands); `None` for a text whose first word is no command's name. Of
@@ -178,7 +180,7 @@ fn read_attribute_comment(
 }
 
 fn comment_before(place: Commented, text: Text) -> Result<Command, CommandFault>
-    requires { IsTrue (spec.is_commented place) }
+    requires { IsTrue (arguments.is_commented place) }
     ensures { result ≡ spec.comment_before place text }
 {
     if breaks_line(text.as_str()) {
@@ -189,7 +191,7 @@ fn comment_before(place: Commented, text: Text) -> Result<Command, CommandFault>
 }
 
 fn breaks_line(text: &str) -> bool
-    ensures { result ≡ list_any spec.breaks_line text.now }
+    ensures { result ≡ list_any arguments.breaks_line text.now }
 {
     text.as_bytes().iter().any(|b| *b == b'\n' || *b == b'\r')
 }
@@ -216,13 +218,13 @@ fn read_fields(alloc: Global, words: Vec<Text>) -> Result<Vec<Field>, AllocError
 }
 
 fn are_fields(words: &[Text]) -> bool
-    ensures { result ≡ list_all spec.is_field words.now }
+    ensures { result ≡ list_all arguments.is_field words.now }
 {
     words.iter().all(|word| is_field(word.as_str()))
 }
 
 fn is_field(word: &str) -> bool
-    ensures { result ≡ spec.is_field word.now }
+    ensures { result ≡ arguments.is_field word.now }
 {
     is_identifier(word) && !matches!(word, "rule" | "attrs" | "path")
 }

@@ -1,9 +1,9 @@
 use Rattle.std.proofs.Common.{rules, ◌≡◌, ◌∙◌, false, Ok, ap}
 use Rattle.std.specs.Prelude.{bytes_eq}
-use Rattle.bz_command.specs.declared.command.Moved.{Moved}
-use Rattle.bz_command.specs.declared.command.Action.TheVariants.{Move}
-use Rattle.bz_command.proofs.Moves.{moved, moves}
-use Rattle.bz_command.proofs.reader.read_move.Goals as goal
+use Rattle.bz_command.specs.declared.arguments.Moved.{Moved}
+use Rattle.bz_rule.specs.declared.command.Action.TheVariants.{Move}
+use Rattle.bz_rule.proofs.ReadMove.{moved, moves}
+use Rattle.bz_rule.proofs.reader.read_move.Goals as goal
 
 pub returns : goal.returns
 returns c =

@@ -1,22 +1,34 @@
--- The commands on a rule: how their words are read (buildozer README, edit commands; the refusals are this project's own rule), which attributes they mention, and a test of their words.
-use Rattle.std.specs.Prelude.{ℕ, ◌==◌, List, [], ◌∷◌, Bool, true, false, ◌&&◌, ◌||◌, not, if◌then◌else◌, Option, Some, None, Result, Ok, Err, map, length, codes, bytes_eq}
+-- The ten commands: how their words are read (buildozer README, edit commands; the refusals are this project's own rule), which attributes they mention, a test of their words; the statement after each, what it tells, and which leave all comments.
+use Rattle.std.specs.Prelude.{ℕ, ◌==◌, List, [], ◌∷◌, Bool, true, false, ◌&&◌, ◌||◌, not, if◌then◌else◌, Option, Some, None, Result, Ok, Err, map, length, codes, bytes_eq, option_map}
 use Rattle.std.specs.List.{list_all, list_any}
-use Rattle.bz_command.specs.declared.command.Attributes.{Attributes}
-use Rattle.bz_command.specs.declared.command.Attributes.TheVariants.{Every, Named}
-use Rattle.bz_command.specs.declared.command.Setting.{Setting}
-use Rattle.bz_command.specs.declared.command.Setting.TheVariants.{ToKind, ToValues}
-use Rattle.bz_command.specs.declared.command.Moved.{Moved}
-use Rattle.bz_command.specs.declared.command.Moved.TheVariants.{All, Values}
-use Rattle.bz_command.specs.declared.command.Commented.{Commented}
-use Rattle.bz_command.specs.declared.command.Commented.TheVariants.{Rule, Attribute, Value}
-use Rattle.bz_command.specs.declared.command.Field.{Field}
-use Rattle.bz_command.specs.declared.command.Field.TheVariants.{Label, Kind, StartLine, EndLine, ValueOf}
-use Rattle.bz_command.specs.declared.command.Action.{Action}
-use Rattle.bz_command.specs.declared.command.Action.TheVariants.{Add, Remove, Set, SetIfAbsent, Delete, Rename, Move, Replace, Comment, Print}
-use Rattle.bz_command.specs.declared.command.CommandFault.{CommandFault}
-use Rattle.bz_command.specs.declared.command.CommandFault.TheVariants.{WrongCount, BadAttribute, BadKind, CommentLine, SameAttribute}
+use Rattle.bz_command.specs.declared.arguments.Attributes.TheVariants.{Every, Named}
+use Rattle.bz_command.specs.declared.arguments.Setting.TheVariants.{ToKind, ToValues}
+use Rattle.bz_command.specs.declared.arguments.Moved.{Moved}
+use Rattle.bz_command.specs.declared.arguments.Moved.TheVariants.{All, Values}
+use Rattle.bz_command.specs.declared.arguments.Commented.{Commented}
+use Rattle.bz_command.specs.declared.arguments.Commented.TheVariants.{Rule, Attribute, Value}
+use Rattle.bz_command.specs.declared.arguments.Field.{Field}
+use Rattle.bz_command.specs.declared.arguments.Field.TheVariants.{Label, Kind, StartLine, EndLine, ValueOf}
+use Rattle.bz_rule.specs.declared.command.Action.{Action}
+use Rattle.bz_rule.specs.declared.command.Action.TheVariants.{Add, Remove, Set, SetIfAbsent, Delete, Rename, Move, Replace, Comment, Print}
+use Rattle.bz_rule.specs.declared.command.CommandFault.{CommandFault}
+use Rattle.bz_rule.specs.declared.command.CommandFault.TheVariants.{WrongCount, BadAttribute, BadKind, CommentLine, SameAttribute}
 use Rattle.bz_command.specs.Names.{is_identifier, is_kind}
 use Rattle.bz_command.specs.Words.{words_of}
+use Rattle.bz_tree.specs.Tree.{Segment, Statement}
+use Rattle.bz_command.specs.Labels.{Package}
+use Rattle.bz_attribute.specs.Rules.{first_named}
+use Rattle.bz_attribute.specs.Effects.{has, done, not_a_list, with_args, slot_done, holds_rule}
+use Rattle.bz_attribute.specs.Add.{add, adds}
+use Rattle.bz_attribute.specs.Remove.{remove, removes}
+use Rattle.bz_attribute.specs.Rename.{rename, rename_note}
+use Rattle.bz_attribute.specs.Set.{set, sets, set_if_absent, with_kind, sets_kind_of}
+use Rattle.bz_attribute.specs.Move.{move, moves, move_note}
+use Rattle.bz_attribute.specs.Replace.{replace, replaces}
+use Rattle.bz_attribute.specs.Comment.{comment_rule, comment_args, comment_done}
+use Rattle.bz_attribute_commands.specs.Print.{prints}
+use Rattle.bz_attribute.specs.declared.done.Done.{Done}
+use Rattle.bz_command.specs.Arguments.{breaks_line, is_field, are_attributes, is_setting, is_moved, is_commented, is_named_field, attributes_mention, setting_mentions, comment_mentions, print_mentions, attributes_pass, setting_passes, moved_passes, commented_passes}
 
 -- a command is the enum of the source
 abbrev pub Command : Type 0
@@ -87,10 +99,6 @@ abbrev pub replace_of : List (List ℕ) → Result Command CommandFault
 replace_of (attr ∷ old ∷ new ∷ []) = if is_star attr then Ok (Replace Every old new) else on_attribute attr (Replace (Named attr) old new)
 replace_of _ = Err WrongCount
 
--- a newline or a carriage return
-abbrev pub breaks_line : ℕ → Bool
-breaks_line b = b == 10 || b == 13
-
 -- a comment is one line
 abbrev pub comment_before : Commented → List ℕ → Result Command CommandFault
 comment_before place text = if list_any breaks_line text then Err CommentLine else Ok (Comment place text)
@@ -101,13 +109,6 @@ comment_of (text ∷ []) = comment_before Rule text
 comment_of (attr ∷ text ∷ []) = if is_identifier attr then comment_before (Attribute attr) text else Err BadAttribute
 comment_of (attr ∷ value ∷ text ∷ []) = if is_identifier attr then comment_before (Value attr value) text else Err BadAttribute
 comment_of _ = Err WrongCount
-
--- the fields that buildozer has and this program leaves out
-abbrev pub is_left_out : List ℕ → Bool
-is_left_out word = list_any (bytes_eq word) (codes "rule" ∷ codes "attrs" ∷ codes "path" ∷ [])
-
-abbrev pub is_field : List ℕ → Bool
-is_field word = is_identifier word && not (is_left_out word)
 
 abbrev pub field_of : List ℕ → Field
 field_of word =
@@ -146,28 +147,6 @@ words_command (name ∷ words) = named_command name words
 abbrev pub command_of : List ℕ → Result (Option Command) CommandFault
 command_of text = words_command (words_of text)
 
--- what a command that was read keeps
-abbrev pub are_attributes : Attributes → Bool
-are_attributes Every = true
-are_attributes (Named attr) = is_identifier attr
-
-abbrev pub is_setting : Setting → Bool
-is_setting (ToKind kind) = is_kind kind
-is_setting (ToValues attr values) = is_identifier attr && not (length values == 0)
-
-abbrev pub is_moved : Moved → Bool
-is_moved All = true
-is_moved (Values values) = not (length values == 0)
-
-abbrev pub is_commented : Commented → Bool
-is_commented Rule = true
-is_commented (Attribute attr) = is_identifier attr
-is_commented (Value attr value) = is_identifier attr
-
-abbrev pub is_named_field : Field → Bool
-is_named_field (ValueOf attr) = is_field attr
-is_named_field _ = true
-
 abbrev pub is_command : Command → Bool
 is_command (Add attr values) = is_identifier attr && not (length values == 0)
 is_command (Remove attrs values) = are_attributes attrs
@@ -184,29 +163,6 @@ abbrev pub is_print : Command → Bool
 is_print (Print fields) = true
 is_print _ = false
 
--- `*` mentions every name
-abbrev pub attributes_mention : List ℕ → Attributes → Bool
-attributes_mention name Every = true
-attributes_mention name (Named attr) = bytes_eq attr name
-
-abbrev pub setting_mentions : List ℕ → Setting → Bool
-setting_mentions name (ToKind kind) = false
-setting_mentions name (ToValues attr values) = bytes_eq attr name
-
-abbrev pub comment_mentions : List ℕ → Commented → Bool
-comment_mentions name Rule = false
-comment_mentions name (Attribute attr) = bytes_eq attr name
-comment_mentions name (Value attr value) = bytes_eq attr name
-
-abbrev pub field_mentions : List ℕ → Field → Bool
-field_mentions name (ValueOf attr) = bytes_eq attr name
-field_mentions name _ = false
-
--- without fields the name is printed
-abbrev pub print_mentions : List ℕ → List Field → Bool
-print_mentions name [] = bytes_eq name (codes "name")
-print_mentions name (field ∷ fields) = list_any (field_mentions name) (field ∷ fields)
-
 -- the attributes that a command mentions; it looks at no other argument's value, but for that of a rule's name, and changes none
 abbrev pub mentions : Command → List ℕ → Bool
 mentions (Add attr values) name = bytes_eq attr name
@@ -220,23 +176,6 @@ mentions (Replace attrs old new) name = attributes_mention name attrs
 mentions (Comment commented text) name = comment_mentions name commented
 mentions (Print fields) name = print_mentions name fields
 
-abbrev pub attributes_pass : (List ℕ → Bool) → Attributes → Bool
-attributes_pass test Every = true
-attributes_pass test (Named attr) = test attr
-
-abbrev pub setting_passes : (List ℕ → Bool) → Setting → Bool
-setting_passes test (ToKind kind) = test kind
-setting_passes test (ToValues attr values) = test attr && list_all test values
-
-abbrev pub moved_passes : (List ℕ → Bool) → Moved → Bool
-moved_passes test All = true
-moved_passes test (Values values) = list_all test values
-
-abbrev pub commented_passes : (List ℕ → Bool) → Commented → Bool
-commented_passes test Rule = true
-commented_passes test (Attribute attr) = test attr
-commented_passes test (Value attr value) = test attr && test value
-
 -- a test of each word that a command holds, but for those of `print`, which writes none into a file
 abbrev pub command_passes : (List ℕ → Bool) → Command → Bool
 command_passes test (Add attr values) = test attr && list_all test values
@@ -249,3 +188,53 @@ command_passes test (Move old new moved) = test old && test new && moved_passes 
 command_passes test (Replace attrs old new) = attributes_pass test attrs && test old && test new
 command_passes test (Comment place text) = commented_passes test place && test text
 command_passes test (Print fields) = true
+
+-- the arguments after a command on them
+abbrev pub args_after : Command → Package → List Segment → List Segment
+args_after (Add attr values) home args = add home attr values args
+args_after (Remove attrs values) home args = remove home attrs values args
+args_after (Set (ToValues attr values)) home args = set attr values args
+args_after (SetIfAbsent attr values) home args = set_if_absent attr values args
+args_after (Rename old new) home args = rename old new args
+args_after (Move old new chosen) home args = move home old new chosen args
+args_after (Replace attrs old new) home args = replace home attrs old new args
+args_after (Comment commented text) home args = comment_args commented home text args
+args_after _ home args = args
+
+-- what it tells of them
+abbrev pub args_done : Command → Package → List Segment → Done
+args_done (Add attr values) home args = done (not_a_list attr (first_named attr args)) (adds home values (first_named attr args))
+args_done (Remove attrs values) home args = done None (removes home attrs values args)
+args_done (Set (ToValues attr values)) home args = done None (sets attr values (first_named attr args))
+args_done (SetIfAbsent attr values) home args = done None (not (has attr args))
+args_done (Rename old new) home args = done (rename_note old new args) true
+args_done (Move old new chosen) home args = done (move_note old new args) (moves home old chosen args)
+args_done (Replace attrs old new) home args = done None (replaces home attrs old new args)
+args_done (Comment commented text) home args = comment_done commented home args
+args_done _ home args = done None false
+
+-- What stands in a slot after a command. What is no rule stays as it is.
+abbrev pub after : Command → Package → Option Statement → Option Statement
+after Delete home slot = if holds_rule slot then None else slot
+after (Set (ToKind kind)) home slot = option_map (with_kind kind) slot
+after (Comment Rule text) home slot = option_map (comment_rule text) slot
+after (Print fields) home slot = slot
+after command home slot = option_map (with_args (args_after command home)) slot
+
+-- What the command tells of it.
+abbrev pub done_of : Command → Package → Option Statement → Done
+done_of Delete home slot = done None (holds_rule slot)
+done_of (Set (ToKind kind)) home slot = sets_kind_of kind slot
+done_of (Comment Rule text) home slot = done None (holds_rule slot)
+done_of (Print fields) home slot = prints home fields slot
+done_of command home slot = slot_done (args_done command home) slot
+
+-- The commands that leave all comments of a statement.
+abbrev pub keeps_comments : Command → Bool
+keeps_comments (Add attr values) = true
+keeps_comments (Set (ToKind kind)) = true
+keeps_comments (SetIfAbsent attr values) = true
+keeps_comments (Rename old new) = true
+keeps_comments (Replace attrs old new) = true
+keeps_comments (Print fields) = true
+keeps_comments _ = false

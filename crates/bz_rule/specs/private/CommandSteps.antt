@@ -1,10 +1,10 @@
 -- For private clauses alone: what the words of a command give.
 use Rattle.std.specs.Prelude.{ℕ, List, [], ◌∷◌, if◌then◌else◌, Option, Some, None, Result, Ok, Err}
-use Rattle.bz_command.specs.declared.command.CommandFault.{CommandFault}
-use Rattle.bz_command.specs.declared.command.CommandFault.TheVariants.{WrongCount, BadAttribute}
-use Rattle.bz_command.specs.Commands.{Command, a_command, is_star}
-use Rattle.bz_command.specs.declared.command.Attributes.{Attributes}
-use Rattle.bz_command.specs.declared.command.Attributes.TheVariants.{Every, Named}
+use Rattle.bz_rule.specs.declared.command.CommandFault.{CommandFault}
+use Rattle.bz_rule.specs.declared.command.CommandFault.TheVariants.{WrongCount, BadAttribute}
+use Rattle.bz_rule.specs.Commands.{Command, a_command, is_star}
+use Rattle.bz_command.specs.declared.arguments.Attributes.{Attributes}
+use Rattle.bz_command.specs.declared.arguments.Attributes.TheVariants.{Every, Named}
 use Rattle.bz_command.specs.Names.{is_identifier}
 
 abbrev pub attribute_of : List ℕ → Result (List ℕ) CommandFault

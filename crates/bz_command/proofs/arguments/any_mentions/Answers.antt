@@ -1,8 +1,8 @@
 use Rattle.std.proofs.Common.{rules, tests}
 use Rattle.std.proofs.lemmas.Iterator.{YieldsList-from_slice}
 use Rattle.std.proofs.lemmas.Iterator.Search.{any_from_yields_List}
-use Rattle.bz_command.specs.Commands.{field_mentions}
-use Rattle.bz_command.proofs.command.any_mentions.Goals as goal
+use Rattle.bz_command.specs.Arguments.{field_mentions}
+use Rattle.bz_command.proofs.arguments.any_mentions.Goals as goal
 
 pub returns : goal.returns
 returns c =

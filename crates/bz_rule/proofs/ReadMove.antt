@@ -3,11 +3,12 @@ use Rattle.std.proofs.Common.{rules, ◌≡◌, ℕ, List, [], ◌∷◌, true, 
 use Rattle.std.specs.Prelude.{bytes_eq}
 use Rattle.std.proofs.lemmas.Bool.{cases_Bool}
 use Rattle.bz_command.specs.Names.{is_identifier}
-use Rattle.bz_command.specs.declared.command.CommandFault.TheVariants.{BadAttribute}
-use Rattle.bz_command.specs.Commands.{is_star, is_moved, is_command, moved_of, move_of}
-use Rattle.bz_command.specs.declared.command.Moved.{Moved}
-use Rattle.bz_command.specs.declared.command.Action.TheVariants.{Move}
-use Rattle.bz_command.specs.private.CommandSteps.{attribute_of, some_of}
+use Rattle.bz_rule.specs.declared.command.CommandFault.TheVariants.{BadAttribute}
+use Rattle.bz_command.specs.Arguments.{is_moved}
+use Rattle.bz_rule.specs.Commands.{is_star, is_command, moved_of, move_of}
+use Rattle.bz_command.specs.declared.arguments.Moved.{Moved}
+use Rattle.bz_rule.specs.declared.command.Action.TheVariants.{Move}
+use Rattle.bz_rule.specs.private.CommandSteps.{attribute_of, some_of}
 
 attribute_is : (word name : List ℕ) → Ok name ≡ attribute_of word → (is_identifier word ≡ true) × (name ≡ word)
 attribute_is word name h = elim (cases_Bool (is_identifier word)) [
