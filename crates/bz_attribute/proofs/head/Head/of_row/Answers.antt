@@ -1,6 +1,5 @@
-use Rattle.std.proofs.Common.{◌∙◌, List, ap, map, subst, sym}
-use Rattle.bz_tree.specs.Rows.{RowPart, part_view}
-use Rattle.bz_tree.specs.declared.row.Part.{Part}
+use Rattle.std.proofs.Common.{◌∙◌, List, ap, subst, sym}
+use Rattle.bz_tree.specs.Rows.{RowPart}
 use Rattle.bz_attribute.specs.private.HeadParts.{after_comments, IsHeadAt}
 use Rattle.bz_attribute.proofs.Headed.{headed}
 use Rattle.bz_attribute.proofs.head.Head.of_row.Goals as goal
@@ -11,7 +10,7 @@ returns c s class row =
     let name = c.in_ok-kind.name.now in
     let r = headed s kind name (sym class ∙ sym row.class ∙ c.in-Rule.is)
     (subst (λ (ps : List RowPart). IsHeadAt kind name ps)
-    (c.after_comments.ensures ∙ ap (λ (ps : List Part). after_comments (map part_view ps)) c.deref.ensures.value ∙ ap after_comments row.parts) c.in_ok-kind.ensures) in
+    (c.after_comments.ensures ∙ ap after_comments row.parts) c.in_ok-kind.ensures) in
     record {
       rule = r.rule;
       is = r.is;
