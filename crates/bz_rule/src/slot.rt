@@ -1,7 +1,7 @@
 //! A command applied to what a slot holds.
 
-ghost use Rattle.std.specs.Prelude.{◌≡◌, ◌↔◌, IfOk, IsOk, OnOk, OnErr, IsTrue, None, false, is_some, option_map, true};
-ghost use Rattle.bz_tree.specs.View.{node_view, nodes_view, segs_view, view, slot_view};
+ghost use Rattle.std.specs.Prelude.{◌≡◌, ◌↔◌, IfOk, IsOk, OnOk, OnErr, None, false, is_some, option_map, true};
+ghost use Rattle.bz_tree.specs.View.{node_view, nodes_view, view, slot_view};
 ghost use Rattle.bz_attribute.specs.Rules.{rule_of, elements};
 ghost use Rattle.bz_attribute.specs.Lists.{edit_list};
 ghost use Rattle.bz_rule.specs.declared.command.Action.TheVariants.{Delete};
