@@ -12,6 +12,20 @@ use bumpalo::Bump;
 use bz_token::TokenReader;
 use std::alloc::AllocError;
 
+// The commas of so many bytes tell how many parts a text has.
+const FRONT: usize = 4096;
+
+// Room for the parts of a text: most often two go with a comma, an element and the end of its segment, and a few with
+// what stands around. A list that grows in an arena leaves its old place unused there.
+fn first_room(text: &str) -> usize {
+    let commas = text.bytes().take(FRONT).filter(|b| *b == b',').count();
+    let fronts = text.len() / FRONT + 1;
+    commas
+        .saturating_add(32)
+        .saturating_mul(2)
+        .saturating_mul(fronts)
+}
+
 /// The row that `read_row` gives for the tokens of a chunk, whose list is never there: it would take more memory than
 /// the row. The chunk's first line has this number, and at most so many brackets may be open at once. None: the chunk
 /// has a fault or comments alone, or `read_row` has no row of it. `Err`: memory was refused.
@@ -26,8 +40,7 @@ pub fn row_of_text<'a>(
         (λ row. (s : Statement) × IsStatementIn first_line max_depth text.now s × IsRowOf s row)) }
 {
     let mut reader = TokenReader::new(bump, text, first_line, max_depth)?;
-    // Most texts have fewer parts. Doubled twice, it is room for a list of elements of one byte.
-    let mut walk = RowWalk::new(bump, text.len() / 4 + 8)?;
+    let mut walk = RowWalk::new(bump, first_room(text))?;
     let mut first = None;
     let mut last = None;
     while !reader.is_at_end() {
