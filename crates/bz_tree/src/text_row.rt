@@ -12,12 +12,15 @@ use bumpalo::Bump;
 use bz_token::TokenReader;
 use std::alloc::AllocError;
 
-// The commas of so many bytes tell how many parts a text has.
+// The commas of so many bytes tell how many parts a long text has.
 const FRONT: usize = 4096;
 
 // Room for the parts of a text: most often two go with a comma, an element and the end of its segment, and a few with
-// what stands around. A list that grows in an arena leaves its old place unused there.
+// what stands around. A long list that grows in an arena leaves much room unused there.
 fn first_room(text: &str) -> usize {
+    if text.len() < FRONT {
+        return text.len() / 4 + 8;
+    }
     let commas = text.bytes().take(FRONT).filter(|b| *b == b',').count();
     let fronts = text.len() / FRONT + 1;
     commas
