@@ -7,6 +7,9 @@ ghost use Rattle.bz_attribute.specs.Effects as spec;
 use bz_command::Text;
 use std::alloc::{AllocError, Global};
 
+/// What an execution of a command did. `Err`: memory was refused.
+pub type Executed = Result<Done, AllocError>;
+
 /// What an execution of a command did.
 #[derive(Drop)]
 pub struct Done {
@@ -53,21 +56,21 @@ impl Done {
     }
 
     /// The failure where the attribute is absent.
-    pub fn no_attribute(alloc: Global, attr: &str) -> Result<Done, AllocError>
+    pub fn no_attribute(alloc: Global, attr: &str) -> Executed
         ensures { IfOk result (λ done. done ≡ spec.failed (NoAttribute attr.now)) }
     {
         Ok(Done::failure(Note::NoAttribute(Text::from_str(alloc, attr)?)))
     }
 
     /// The failure where there is an attribute of the new name.
-    pub fn attribute_exists(alloc: Global, attr: &str) -> Result<Done, AllocError>
+    pub fn attribute_exists(alloc: Global, attr: &str) -> Executed
         ensures { IfOk result (λ done. done ≡ spec.failed (AttributeExists attr.now)) }
     {
         Ok(Done::failure(Note::AttributeExists(Text::from_str(alloc, attr)?)))
     }
 
     /// The failure where the attribute has no list part.
-    pub fn not_a_list(alloc: Global, attr: &str) -> Result<Done, AllocError>
+    pub fn not_a_list(alloc: Global, attr: &str) -> Executed
         ensures { IfOk result (λ done. done ≡ spec.failed (NotAList attr.now)) }
     {
         Ok(Done::failure(Note::NotAList(Text::from_str(alloc, attr)?)))

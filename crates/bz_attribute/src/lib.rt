@@ -1,14 +1,31 @@
 //! The view of a statement as a rule: its kind, its attributes, and the elements of their lists. Below the commands.
 #![tactic(auto)]
 
-pub mod chosen;
-pub mod done;
+mod chosen;
+mod done;
+mod env;
 pub mod equals;
-pub mod head;
-pub mod list_labels;
-pub mod lists;
-pub mod make;
-pub mod marks;
-pub mod rule;
-pub mod texts;
+mod head;
+mod list_labels;
+mod lists;
+mod make;
+mod marks;
+mod rule;
+mod texts;
 pub mod word_set;
+
+pub use chosen::{Chosen, any_chosen, drop_in, is_any_chosen, is_chosen, loses_all};
+pub use done::{Done, Executed, Note};
+pub use env::Env;
+pub use head::Head;
+pub use list_labels::labels_in;
+pub use lists::{are_joints, elements_at, first_part, is_attribute, is_list, is_part};
+pub use make::{
+    argument, list, literal, push_argument, push_string, segment, string, strings, token,
+};
+pub use marks::{RuleName, is_kind, matches, rule_name};
+pub use rule::{
+    Rule, call_at, find, first_named, ident_of, is_named, is_operator_item, is_string, name_of,
+    only_text, rule_of, value_of,
+};
+pub use texts::{label, push_home, push_kind, read_name, shown};

@@ -10,21 +10,18 @@ ghost use Rattle.bz_attribute_commands.specs.private.CommentPlaces.{IsFirstOf, I
 ghost use Rattle.bz_attribute_commands.specs.private.CommentPlaces as place;
 ghost use Rattle.bz_attribute.specs.Comment as spec;
 
-use bz_attribute::done::{Done, Note};
 use bz_attribute::equals::equals;
-use bz_attribute::lists::{are_joints, elements_at, first_part, is_part};
-use bz_attribute::rule::{call_at, find, is_operator_item};
+use bz_attribute::{
+    Done, Executed, Note, are_joints, call_at, elements_at, find, first_part, is_operator_item,
+    is_part,
+};
 use bz_command::{Commented, Package, Text};
 use bz_tree::{Node, Seg, Stmt};
-use std::alloc::{AllocError, Global};
+use std::alloc::Global;
 use std::borrow::CowStr;
 
 /// Adds a comment line above a rule. An `Err` leaves all as it was.
-pub fn comment_rule(
-    alloc: Global,
-    text: &str,
-    slot: &mut Option<Stmt<'_>>,
-) -> Result<Done, AllocError>
+pub fn comment_rule(alloc: Global, text: &str, slot: &mut Option<Stmt<'_>>) -> Executed
     ensures slot { OnOk result (slot_view slot.new ≡ option_map (spec.comment_rule text.now) (slot_view slot.old)) }
     ensures done { IfOk result (λ d. d ≡ done None (holds_rule (slot_view slot.old))) }
     ensures no_rule { holds_rule (slot_view slot.old) ≡ false → IsOk result }
@@ -44,7 +41,7 @@ pub fn comment(
     commented: &Commented,
     text: &str,
     args: &mut [Seg<'_>],
-) -> Result<Done, AllocError>
+) -> Executed
     ensures args { OnOk result
         (segs_view args.new ≡ spec.comment_args commented.now home.now text.now (segs_view args.old)) }
     ensures done { IfOk result (λ d. d ≡ spec.comment_done commented.now home.now (segs_view args.old)) }
@@ -60,12 +57,7 @@ pub fn comment(
 }
 
 // Adds a comment line above the first argument of a name. An `Err` leaves all as it was.
-fn comment_attribute(
-    alloc: Global,
-    attr: &str,
-    text: &str,
-    args: &mut [Seg<'_>],
-) -> Result<Done, AllocError>
+fn comment_attribute(alloc: Global, attr: &str, text: &str, args: &mut [Seg<'_>]) -> Executed
     ensures args { OnOk result (segs_view args.new ≡ spec.comment_attribute attr.now text.now (segs_view args.old)) }
     ensures done { IfOk result (λ d. d ≡ done (is_absent attr.now (segs_view args.old)) true) }
     ensures err { OnErr result (segs_view args.new ≡ segs_view args.old) }
@@ -84,7 +76,7 @@ fn comment_value(
     value: &str,
     text: &str,
     args: &mut [Seg<'_>],
-) -> Result<Done, AllocError>
+) -> Executed
     ensures args { OnOk result
         (segs_view args.new ≡ spec.comment_value home.now attr.now value.now text.now (segs_view args.old)) }
     ensures done { IfOk result
@@ -102,7 +94,7 @@ fn comment_value(
 }
 
 // The failure where no element of an attribute equals a value.
-fn no_value(alloc: Global, attr: &str, value: &str, nodes: &[Node<'_>]) -> Result<Done, AllocError>
+fn no_value(alloc: Global, attr: &str, value: &str, nodes: &[Node<'_>]) -> Executed
     ensures { IfOk result (λ d. d ≡ place.no_value attr.now value.now (parts (nodes_view nodes.now))) }
 {
     if first_part(nodes).is_none() {
@@ -149,7 +141,7 @@ fn comment_in_list(
     value: &str,
     text: &str,
     node: &mut Node<'_>,
-) -> Result<Done, AllocError>
+) -> Executed
     ensures ok { OnOk result (node_view node.new ≡ edit_list
         (edit_first (equals home.now value.now) (λ s. spec.with_comment (spec.comment_line text.now) s ∷ []))
         (node_view node.old)) }
@@ -168,7 +160,7 @@ fn comment_in_list(
 }
 
 // Adds the comment line of a text, and tells a change. An `Err` leaves the lines as they were.
-fn push_line(alloc: Global, text: &str, lines: &mut Vec<CowStr<'_>>) -> Result<Done, AllocError>
+fn push_line(alloc: Global, text: &str, lines: &mut Vec<CowStr<'_>>) -> Executed
     ensures ok { OnOk result (texts lines.new.items ≡ texts lines.old.items ++ spec.comment_line text.now ∷ []) }
     ensures done { IfOk result (λ d. d ≡ done None true) }
     ensures err { OnErr result (texts lines.new.items ≡ texts lines.old.items) }

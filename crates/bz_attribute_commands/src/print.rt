@@ -12,10 +12,11 @@ ghost use Rattle.bz_attribute.specs.declared.done.Note.TheVariants.{Missing};
 ghost use Rattle.bz_attribute_commands.specs.Print as spec;
 
 use crate::value::one_list;
-use bz_attribute::done::{Done, Note};
 use bz_attribute::equals::string_of;
-use bz_attribute::rule::{Rule, first_named, only_text, rule_of, value_of};
-use bz_attribute::texts::{push_home, push_kind, read_name};
+use bz_attribute::{
+    Done, Executed, Note, Rule, first_named, only_text, push_home, push_kind, read_name, rule_of,
+    value_of,
+};
 use bz_command::{Field, Package, Text, quote, read_value};
 use bz_layout::flat;
 use bz_tree::{GroupKind, Node, Seg, Stmt};
@@ -23,12 +24,7 @@ use std::alloc::{AllocError, Global};
 
 /// Prints fields of the rule that a slot holds; the note names the first that is missing. Where there is no rule
 /// nothing is printed, and it succeeds.
-pub fn print(
-    alloc: Global,
-    home: &Package,
-    fields: &[Field],
-    slot: &Option<Stmt<'_>>,
-) -> Result<Done, AllocError>
+pub fn print(alloc: Global, home: &Package, fields: &[Field], slot: &Option<Stmt<'_>>) -> Executed
     ensures done { IfOk result (λ done. done ≡ spec.prints home.now fields.now (slot_view slot.now)) }
     ensures no_rule { holds_rule (slot_view slot.now) ≡ false → IsOk result }
 {
@@ -43,7 +39,7 @@ pub fn print(
 }
 
 // What is printed where no field is named.
-fn print_name_and_kind(alloc: Global, rule: Rule<'_, '_>) -> Result<Done, AllocError>
+fn print_name_and_kind(alloc: Global, rule: Rule<'_, '_>) -> Executed
     ensures { IfOk result (λ done. done ≡ name_and_kind (rule_view rule.entry)) }
 {
     let mut line = String::new(alloc);
@@ -59,7 +55,7 @@ fn print_fields(
     fields: &[Field],
     stmt: &Stmt<'_>,
     rule: Rule<'_, '_>,
-) -> Result<Done, AllocError>
+) -> Executed
     ensures { IfOk result (λ done. done ≡ spec.printed home.now (view stmt.now) (rule_view rule.entry) fields.now) }
 {
     let mut line = String::new(alloc);
@@ -74,7 +70,7 @@ fn print_fields(
 }
 
 // The line, with the name of the field that is missing.
-fn printed(alloc: Global, line: String, missing: Option<&str>) -> Result<Done, AllocError>
+fn printed(alloc: Global, line: String, missing: Option<&str>) -> Executed
     ensures { IfOk result (λ done. done ≡ line_with (string_bytes line) (option_map (λ name. Missing name.now) missing.entry)) }
 {
     let note = match missing {

@@ -7,9 +7,7 @@ ghost use Rattle.bz_attribute_commands.specs.Print.{fields_of, prints};
 ghost use Rattle.bz_attribute_commands.specs.private.HeadFields.{HasTold, head_word, head_words};
 
 use crate::print::{push_number, push_word};
-use bz_attribute::done::Done;
-use bz_attribute::head::Head;
-use bz_attribute::texts::push_home;
+use bz_attribute::{Done, Head, push_home};
 use bz_command::{Field, Package, Text};
 use std::alloc::{AllocError, Global};
 

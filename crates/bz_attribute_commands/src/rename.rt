@@ -5,20 +5,13 @@ ghost use Rattle.bz_tree.specs.View.{segs_view};
 ghost use Rattle.bz_attribute.specs.Rename as spec;
 ghost use Rattle.bz_attribute.specs.Effects as effects;
 
-use bz_attribute::done::Done;
-use bz_attribute::make::token;
-use bz_attribute::rule::find;
+use bz_attribute::{Done, Executed, find, token};
 use bz_token::Kind;
 use bz_tree::Seg;
-use std::alloc::{AllocError, Global};
+use std::alloc::Global;
 
 /// Renames the first argument named `old`. An `Err` leaves all as it was.
-pub fn rename<'a>(
-    alloc: Global,
-    old: &str,
-    new: &str,
-    args: &mut [Seg<'a>],
-) -> Result<Done, AllocError>
+pub fn rename<'a>(alloc: Global, old: &str, new: &str, args: &mut [Seg<'a>]) -> Executed
     ensures args { OnOk result (segs_view args.new ≡ spec.rename old.now new.now (segs_view args.old)) }
     ensures done { IfOk result (λ done. done ≡ effects.done (spec.rename_note old.now new.now (segs_view args.old)) true) }
     ensures err { OnErr result (segs_view args.new ≡ segs_view args.old) }

@@ -9,9 +9,10 @@ ghost use Rattle.bz_attribute_commands.specs.private.SetViews.{new_view};
 ghost use Rattle.bz_attribute.specs.Set as spec;
 
 use crate::value::one_list;
-use bz_attribute::done::Done;
-use bz_attribute::make::{list, literal, push_argument, strings, token};
-use bz_attribute::rule::{find, ident_of, is_string, value_of};
+use bz_attribute::{
+    Done, Executed, find, ident_of, is_string, list, literal, push_argument, strings, token,
+    value_of,
+};
 use bz_command::Text;
 use bz_token::Kind;
 use bz_tree::{Node, Seg};
@@ -31,12 +32,7 @@ pub enum New<'w> {
 
 /// Sets the first argument of a name, or adds one. Where the value is there already it succeeds. An `Err` leaves all as
 /// it was.
-pub fn set(
-    alloc: Global,
-    attr: &str,
-    words: &[Text],
-    args: &mut Vec<Seg<'_>>,
-) -> Result<Done, AllocError>
+pub fn set(alloc: Global, attr: &str, words: &[Text], args: &mut Vec<Seg<'_>>) -> Executed
     ensures args { OnOk result (segs_view args.new.items ≡ spec.set attr.now words.now (segs_view args.old.items)) }
     ensures done { IfOk result
         (λ done. done
@@ -52,12 +48,7 @@ pub fn set(
 }
 
 /// Adds an argument where there is none of the name, and else succeeds. An `Err` leaves all as it was.
-pub fn set_if_absent(
-    alloc: Global,
-    attr: &str,
-    words: &[Text],
-    args: &mut Vec<Seg<'_>>,
-) -> Result<Done, AllocError>
+pub fn set_if_absent(alloc: Global, attr: &str, words: &[Text], args: &mut Vec<Seg<'_>>) -> Executed
     ensures args { OnOk result
         (segs_view args.new.items ≡ spec.set_if_absent attr.now words.now (segs_view args.old.items)) }
     ensures done { IfOk result
@@ -71,12 +62,7 @@ pub fn set_if_absent(
     add_argument(alloc, attr, words, args)
 }
 
-fn add_argument(
-    alloc: Global,
-    attr: &str,
-    words: &[Text],
-    args: &mut Vec<Seg<'_>>,
-) -> Result<Done, AllocError>
+fn add_argument(alloc: Global, attr: &str, words: &[Text], args: &mut Vec<Seg<'_>>) -> Executed
     ensures args { OnOk result
         (segs_view args.new.items ≡ segs_view args.old.items
         ++ effects.argument attr.now (spec.new_value (spec.new_of attr.now words.now None)) ∷ []) }
@@ -88,7 +74,7 @@ fn add_argument(
     Ok(Done::quiet(true))
 }
 
-fn set_in(alloc: Global, attr: &str, words: &[Text], arg: &mut Seg<'_>) -> Result<Done, AllocError>
+fn set_in(alloc: Global, attr: &str, words: &[Text], arg: &mut Seg<'_>) -> Executed
     ensures arg { OnOk result
         (seg_view arg.new ≡ spec.set_in (spec.new_of attr.now words.now (Some (seg_view arg.old))) (seg_view arg.old)) }
     ensures done { IfOk result

@@ -7,17 +7,14 @@ ghost use Rattle.bz_attribute.specs.Rules.{rule_of};
 ghost use Rattle.bz_attribute.specs.Effects.{holds_rule};
 ghost use Rattle.bz_attribute.specs.Set as spec;
 
-use bz_attribute::done::Done;
-use bz_attribute::make::token;
-use bz_attribute::marks::is_kind;
-use bz_attribute::rule::rule_of;
+use bz_attribute::{Done, Executed, is_kind, rule_of, token};
 use bz_command::cut;
 use bz_token::Kind;
 use bz_tree::{Node, Stmt};
 use std::alloc::{AllocError, Global};
 
 /// Sets the kind of a rule. Where nothing is to be changed it succeeds. An `Err` leaves the slot as it was.
-pub fn set_kind(alloc: Global, kind: &str, slot: &mut Option<Stmt<'_>>) -> Result<Done, AllocError>
+pub fn set_kind(alloc: Global, kind: &str, slot: &mut Option<Stmt<'_>>) -> Executed
     ensures slot { OnOk result (slot_view slot.new ≡ option_map (spec.with_kind kind.now) (slot_view slot.old)) }
     ensures done { IfOk result (λ done. done ≡ spec.sets_kind_of kind.now (slot_view slot.old)) }
     ensures no_rule { holds_rule (slot_view slot.old) ≡ false → IsOk result }
@@ -30,7 +27,7 @@ pub fn set_kind(alloc: Global, kind: &str, slot: &mut Option<Stmt<'_>>) -> Resul
     }
 }
 
-fn in_nodes(alloc: Global, kind: &str, nodes: &mut Vec<Node<'_>>) -> Result<Done, AllocError>
+fn in_nodes(alloc: Global, kind: &str, nodes: &mut Vec<Node<'_>>) -> Executed
     ensures nodes { OnOk result
         (nodes_view nodes.new.items
         ≡ spec.kind_after kind.now (nodes_view nodes.old.items) (rule_of (nodes_view nodes.old.items))) }

@@ -5,7 +5,7 @@ ghost use Rattle.bz_tree.specs.View.{nodes_view, segs_view};
 ghost use Rattle.bz_attribute_commands.specs.Print.{first_elements};
 ghost use Rattle.bz_attribute.specs.Set.{is_one_list};
 
-use bz_attribute::lists::{elements_at, is_list};
+use bz_attribute::{elements_at, is_list};
 use bz_tree::{Node, Seg};
 
 /// The elements of what is one list.

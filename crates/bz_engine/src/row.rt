@@ -11,7 +11,7 @@ ghost use Rattle.bz_engine.specs.private.Rows as spec;
 
 use crate::edit::Script;
 use crate::rules::Rules;
-use bz_attribute::head::Head;
+use bz_attribute::Head;
 use bz_passes::index::Key;
 use bz_passes::script::passes_by;
 use bz_tree::{Class, Row};

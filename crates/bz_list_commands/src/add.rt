@@ -8,13 +8,11 @@ ghost use Rattle.bz_list_commands.specs.private.AddSteps.{Knows, told};
 ghost use Rattle.bz_attribute.specs.Add as spec;
 ghost use Rattle.bz_attribute.specs.Effects as effects;
 
-use bz_attribute::chosen::{Chosen, is_any_chosen};
-use bz_attribute::done::Done;
-use bz_attribute::list_labels::labels_in;
-use bz_attribute::lists::first_part;
-use bz_attribute::make::{list, push_argument, push_string};
-use bz_attribute::rule::find;
 use bz_attribute::word_set::{FEW, is_label, word_set};
+use bz_attribute::{
+    Chosen, Done, Executed, find, first_part, is_any_chosen, labels_in, list, push_argument,
+    push_string,
+};
 use bz_command::{Bytes, LabelSet, Package, Text};
 use bz_tree::{Node, Seg};
 use std::alloc::{AllocError, Global};
@@ -26,7 +24,7 @@ pub fn add(
     attr: &str,
     values: &[Text],
     args: &mut Vec<Seg<'_>>,
-) -> Result<Done, AllocError>
+) -> Executed
     ensures args { OnOk result
         (segs_view args.new.items ≡ spec.add home.now attr.now values.now (segs_view args.old.items)) }
     ensures done { IfOk result
@@ -42,13 +40,7 @@ pub fn add(
     Ok(Done::quiet(true))
 }
 
-fn add_in(
-    alloc: Global,
-    home: &Package,
-    attr: &str,
-    values: &[Text],
-    arg: &mut Seg<'_>,
-) -> Result<Done, AllocError>
+fn add_in(alloc: Global, home: &Package, attr: &str, values: &[Text], arg: &mut Seg<'_>) -> Executed
     requires { 2 ≤ length arg.old.nodes.items }
     ensures arg { OnOk result (seg_view arg.new ≡ spec.with_added home.now values.now (seg_view arg.old)) }
     ensures done { IfOk result (λ done. done ≡ told home.now attr.now values.now (seg_view arg.old)) }

@@ -9,10 +9,9 @@ ghost use Rattle.bz_command.specs.LabelSetViews.{Gains, has};
 ghost use Rattle.bz_attribute.specs.Move as spec;
 ghost use Rattle.bz_list_commands.specs.private.MoveSteps.{flags, has_value};
 
-use bz_attribute::chosen::{Chosen, any_chosen, is_any_chosen};
 use bz_attribute::equals::string_of;
-use bz_attribute::list_labels::labels_in;
 use bz_attribute::word_set::FEW;
+use bz_attribute::{Chosen, any_chosen, is_any_chosen, labels_in};
 use bz_command::{LabelSet, Package};
 use bz_tree::{Node, Seg};
 use std::alloc::{AllocError, Global};

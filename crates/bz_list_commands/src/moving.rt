@@ -13,12 +13,10 @@ ghost use Rattle.bz_list_commands.specs.private.TakingSteps.{moved, moves};
 
 use crate::arrivals::keep_arrivals;
 use crate::taking::{Choice, count_in, take_from, value_at};
-use bz_attribute::chosen::Chosen;
-use bz_attribute::done::{Done, Note};
-use bz_attribute::lists::{elements_at, first_part};
-use bz_attribute::make::{list, push_argument};
-use bz_attribute::rule::find;
 use bz_attribute::word_set::word_set;
+use bz_attribute::{
+    Chosen, Done, Executed, Note, elements_at, find, first_part, list, push_argument,
+};
 use bz_command::{Moved, Package, Text};
 use bz_tree::{Node, Seg};
 use std::alloc::{AllocError, Global};
@@ -32,7 +30,7 @@ pub fn move_elements(
     new: &str,
     moved: &Moved,
     args: &mut Vec<Seg<'_>>,
-) -> Result<Done, AllocError>
+) -> Executed
     requires { bytes_eq old.now new.now ≡ false }
     ensures args { OnOk result
         (segs_view args.new.items
@@ -65,7 +63,7 @@ fn move_chosen(
     old: &str,
     new: &str,
     args: &mut Vec<Seg<'_>>,
-) -> Result<Done, AllocError>
+) -> Executed
     requires { bytes_eq old.now new.now ≡ false }
     ensures args { OnOk result
         (segs_view args.new.items ≡ moved choice.entry old.now new.now (segs_view args.old.items)) }

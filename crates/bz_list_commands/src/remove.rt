@@ -9,14 +9,14 @@ ghost use Rattle.bz_attribute.specs.private.ChosenViews.{chosen_view};
 ghost use Rattle.bz_attribute.specs.private.Places.{IsFirst};
 ghost use Rattle.bz_list_commands.specs.private.EditSteps.{any_has_any, cleared, edit_attribute, goes, has_any};
 
-use bz_attribute::chosen::{Chosen, drop_in, is_any_chosen, loses_all};
-use bz_attribute::done::Done;
-use bz_attribute::lists::is_attribute;
-use bz_attribute::rule::{find, is_named, value_of};
 use bz_attribute::word_set::word_set;
+use bz_attribute::{
+    Chosen, Done, Executed, drop_in, find, is_any_chosen, is_attribute, is_named, loses_all,
+    value_of,
+};
 use bz_command::{Attributes, Package, Text};
 use bz_tree::Seg;
-use std::alloc::{AllocError, Global};
+use std::alloc::Global;
 
 /// Drops attributes, or the elements of them that equal a value. An `Err` leaves all as it was.
 pub fn remove(
@@ -25,7 +25,7 @@ pub fn remove(
     attributes: &Attributes,
     values: &[Text],
     args: &mut Vec<Seg<'_>>,
-) -> Result<Done, AllocError>
+) -> Executed
     ensures args { OnOk result
         (segs_view args.new.items
         ≡ spec.remove home.now attributes.now values.now (segs_view args.old.items)) }
@@ -69,7 +69,7 @@ fn remove_values<'v>(
     attr: &str,
     values: &'v [Text],
     args: &mut Vec<Seg<'_>>,
-) -> Result<Done, AllocError>
+) -> Executed
     ensures args { OnOk result
         (segs_view args.new.items ≡ spec.remove_values home.now attr.now values.now (segs_view args.old.items)) }
     ensures done { IfOk result
@@ -108,7 +108,7 @@ fn remove_everywhere<'v>(
     home: &'v Package,
     values: &'v [Text],
     args: &mut Vec<Seg<'_>>,
-) -> Result<Done, AllocError>
+) -> Executed
     ensures args { OnOk result
         (segs_view args.new.items ≡ cleared home.now values.now (segs_view args.old.items)) }
     ensures done { IfOk result

@@ -11,12 +11,11 @@ ghost use Rattle.bz_attribute.specs.Replace as spec;
 ghost use Rattle.bz_list_commands.specs.private.ReplaceSteps.{AreStrings, HasStrings, Uses, count, count_at, count_everywhere, count_in, goes, old_everywhere, put, replaced_everywhere, replaces_anywhere};
 
 use crate::taking::{Choice, count_in};
-use bz_attribute::chosen::Chosen;
-use bz_attribute::done::Done;
 use bz_attribute::equals::equals;
-use bz_attribute::lists::{are_joints, is_attribute, is_part};
-use bz_attribute::make::string;
-use bz_attribute::rule::{find, is_operator_item, is_string, value_of};
+use bz_attribute::{
+    Chosen, Done, Executed, are_joints, find, is_attribute, is_operator_item, is_part, is_string,
+    string, value_of,
+};
 use bz_command::{Attributes, Package};
 use bz_tree::{Node, Seg};
 use std::alloc::{AllocError, Global};
@@ -37,7 +36,7 @@ pub fn replace(
     old: &str,
     new: &str,
     args: &mut [Seg<'_>],
-) -> Result<Done, AllocError>
+) -> Executed
     ensures args { OnOk result
         (segs_view args.new
         ≡ spec.replace home.now attributes.now old.now new.now (segs_view args.old)) }
@@ -56,11 +55,7 @@ pub fn replace(
     }
 }
 
-fn replace_everywhere(
-    alloc: Global,
-    change: Change<'_>,
-    args: &mut [Seg<'_>],
-) -> Result<Done, AllocError>
+fn replace_everywhere(alloc: Global, change: Change<'_>, args: &mut [Seg<'_>]) -> Executed
     ensures args { OnOk result (segs_view args.new ≡ replaced_everywhere change.entry (segs_view args.old)) }
     ensures done { IfOk result (λ d. d ≡ done None (replaces_anywhere change.entry (segs_view args.old))) }
     ensures err { OnErr result (segs_view args.new ≡ segs_view args.old) }

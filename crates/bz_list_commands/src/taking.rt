@@ -9,10 +9,9 @@ ghost use Rattle.bz_attribute.specs.Move.{elements_of, joined};
 ghost use Rattle.bz_list_commands.specs.private.MoveSteps.{value_of};
 ghost use Rattle.bz_list_commands.specs.private.TakingSteps.{HasRoom, Takes, leave, stay};
 
-use bz_attribute::chosen::{Chosen, is_chosen, loses_all};
-use bz_attribute::lists::{are_joints, elements_at, is_part};
-use bz_attribute::make::segment;
-use bz_attribute::rule::{find, is_operator_item};
+use bz_attribute::{
+    Chosen, are_joints, elements_at, find, is_chosen, is_operator_item, is_part, loses_all, segment,
+};
 use bz_command::Package;
 use bz_tree::{Node, Seg};
 use std::alloc::{AllocError, Global};

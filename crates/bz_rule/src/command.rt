@@ -7,7 +7,7 @@ ghost use Rattle.bz_attribute.specs.Effects as effects;
 ghost use Rattle.bz_rule.specs.Commands as spec;
 
 use crate::slot::{delete, on_args};
-use bz_attribute::done::Done;
+use bz_attribute::{Done, Executed};
 use bz_attribute_commands::comment::{comment, comment_rule};
 use bz_attribute_commands::print::print;
 use bz_attribute_commands::rename::rename;
@@ -191,7 +191,7 @@ pub(crate) fn carry_out(
     command: &Command,
     home: &Package,
     slot: &mut Option<Stmt<'_>>,
-) -> Result<Done, AllocError>
+) -> Executed
     ensures command { IsTrue (spec.is_command command.now) }
     ensures slot { OnOk result (slot_view slot.new ≡ spec.after command.now home.now (slot_view slot.old)) }
     ensures done { IfOk result (λ done. done ≡ spec.done_of command.now home.now (slot_view slot.old)) }
@@ -213,7 +213,7 @@ pub(crate) fn in_args(
     command: &Command,
     home: &Package,
     args: &mut Vec<Seg<'_>>,
-) -> Result<Done, AllocError>
+) -> Executed
     ensures args { OnOk result
         (segs_view args.new.items ≡ spec.args_after command.now home.now (segs_view args.old.items)) }
     ensures done { IfOk result (λ done. done ≡ spec.args_done command.now home.now (segs_view args.old.items)) }

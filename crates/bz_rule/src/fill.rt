@@ -13,7 +13,7 @@ ghost use Rattle.bz_rule.specs.private.Hollow.{all_apart, parts_view, parts_for,
 
 use crate::command::Command;
 use crate::values::{Unread, Values};
-use bz_attribute::rule::{call_at, name_of, value_of};
+use bz_attribute::{call_at, name_of, value_of};
 use bz_tree::{Node, Part, Seg, Stmt, nodes_of_parts};
 use std::alloc::{AllocError, Global};
 

@@ -18,8 +18,7 @@ use crate::command::{Action, Command};
 use crate::longer::LongerRow;
 use crate::named_row::NamedRow;
 use crate::shallow::{ShallowStmt, apply_shallow};
-use bz_attribute::done::Done;
-use bz_attribute::marks::RuleName;
+use bz_attribute::{Done, Executed, RuleName};
 use bz_command::{Package, Target};
 use bz_tree::{Class, Row, Stmt};
 use std::alloc::{AllocError, Global};
@@ -121,7 +120,7 @@ pub fn apply_lazy(
     command: &Command,
     home: &Package,
     slot: &mut Option<LazyStmt<'_>>,
-) -> Result<Done, AllocError>
+) -> Executed
     ensures slot { OnOk result (lazy_slot slot.new ≡ commands.after command.now home.now (lazy_slot slot.old)) }
     ensures done { IfOk result (λ done. done ≡ commands.done_of command.now home.now (lazy_slot slot.old)) }
 {
@@ -175,7 +174,7 @@ fn apply_read(
     command: &Command,
     home: &Package,
     slot: &mut Option<LazyStmt<'_>>,
-) -> Result<Done, AllocError>
+) -> Executed
     ensures slot { OnOk result (lazy_slot slot.new ≡ commands.after command.now home.now (lazy_slot slot.old)) }
     ensures done { IfOk result (λ done. done ≡ commands.done_of command.now home.now (lazy_slot slot.old)) }
 {

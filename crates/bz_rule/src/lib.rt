@@ -15,9 +15,7 @@ mod values;
 mod whole;
 mod woven;
 
-pub use bz_attribute::done::{Done, Note};
-pub use bz_attribute::marks::{RuleName, matches, rule_name};
-pub use bz_attribute::texts::{label, shown};
+pub use bz_attribute::{Done, Note, RuleName, label, matches, rule_name, shown};
 pub use bz_command::{LabelFault, Package, Target, Text, quote, read_label, same, value_is};
 pub use command::{Action, Command, CommandFault, LEFT_OUT, USAGE, words_are_utf8};
 pub use lazy::{LazyStmt, apply_lazy};

@@ -16,9 +16,7 @@ ghost use Rattle.bz_rule.specs.ShallowViews.{shallow_view};
 ghost use Rattle.bz_rule.specs.private.LongerRows.{HasName};
 
 use crate::shallow::ShallowStmt;
-use bz_attribute::done::Done;
-use bz_attribute::head::Head;
-use bz_attribute::marks::RuleName;
+use bz_attribute::{Done, Head, RuleName};
 use bz_attribute_commands::print_head::print_head;
 use bz_command::{Field, Package, Target};
 use bz_layout::put_row;

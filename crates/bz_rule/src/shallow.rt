@@ -22,9 +22,7 @@ use crate::hollow::{Hollow, hollow_of};
 use crate::slot::apply;
 use crate::values::Values;
 use crate::whole::whole_parts;
-use bz_attribute::done::Done;
-use bz_attribute::marks::{RuleName, matches, rule_name};
-use bz_attribute::texts::shown;
+use bz_attribute::{Executed, RuleName, matches, rule_name, shown};
 use bz_command::{Package, Target};
 use bz_tree::{Class, Row, Stmt, stmt_of_parts};
 use std::alloc::{AllocError, Global};
@@ -135,7 +133,7 @@ pub fn apply_shallow(
     command: &Command,
     home: &Package,
     slot: &mut Option<ShallowStmt<'_>>,
-) -> Result<Done, AllocError>
+) -> Executed
     ensures slot { OnOk result (shallow_slot slot.new ≡ commands.after command.now home.now (shallow_slot slot.old)) }
     ensures done { IfOk result (λ done. done ≡ commands.done_of command.now home.now (shallow_slot slot.old)) }
 {
@@ -152,7 +150,7 @@ fn apply_to<'a>(
     home: &Package,
     read: ShallowStmt<'a>,
     slot: &mut Option<ShallowStmt<'a>>,
-) -> Result<Done, AllocError>
+) -> Executed
     ensures slot { OnOk result
         (shallow_slot slot.new ≡ commands.after command.now home.now (Some (shallow_view read.entry))) }
     ensures done { IfOk result

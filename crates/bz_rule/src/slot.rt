@@ -9,11 +9,10 @@ ghost use Rattle.bz_attribute.specs.Effects as spec;
 ghost use Rattle.bz_rule.specs.Commands as commands;
 
 use crate::command::{Command, carry_out, in_args};
-use bz_attribute::done::Done;
-use bz_attribute::rule::call_at;
+use bz_attribute::{Done, Executed, call_at};
 use bz_command::Package;
 use bz_tree::{Node, Seg, Stmt};
-use std::alloc::{AllocError, Global};
+use std::alloc::Global;
 
 /// Applies a command to what a slot holds, in the package of its file. A slot that holds no rule stays as it is, and so
 /// does each statement where the answer has a note that is a failure. An `Err` leaves the slot as it was.
@@ -22,7 +21,7 @@ pub fn apply(
     command: &Command,
     home: &Package,
     slot: &mut Option<Stmt<'_>>,
-) -> Result<Done, AllocError>
+) -> Executed
     ensures slot { OnOk result (slot_view slot.new ≡ commands.after command.now home.now (slot_view slot.old)) }
     ensures done { IfOk result (λ done. done ≡ commands.done_of command.now home.now (slot_view slot.old)) }
     ensures changed { IfOk result (λ done. (done.changed ≡ true) ↔ (slot_view slot.new ≡ slot_view slot.old → ⊥)) }
@@ -58,7 +57,7 @@ pub(crate) fn on_args(
     command: &Command,
     home: &Package,
     slot: &mut Option<Stmt<'_>>,
-) -> Result<Done, AllocError>
+) -> Executed
     ensures slot { OnOk result
         (slot_view slot.new
         ≡ option_map (spec.with_args (commands.args_after command.now home.now)) (slot_view slot.old)) }
@@ -76,12 +75,7 @@ pub(crate) fn on_args(
     }
 }
 
-fn in_call(
-    alloc: Global,
-    command: &Command,
-    home: &Package,
-    call: &mut Node<'_>,
-) -> Result<Done, AllocError>
+fn in_call(alloc: Global, command: &Command, home: &Package, call: &mut Node<'_>) -> Executed
     ensures call { OnOk result
         (node_view call.new ≡ edit_list (commands.args_after command.now home.now) (node_view call.old)) }
     ensures done { IfOk result (λ done. done ≡ commands.args_done command.now home.now (elements (node_view call.old))) }

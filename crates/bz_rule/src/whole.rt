@@ -15,7 +15,7 @@ ghost use Rattle.bz_rule.specs.private.Woven.{Adds, Fits, all};
 use crate::fill::unread_value;
 use crate::values::{Unread, Values};
 use crate::woven::Woven;
-use bz_attribute::rule::rule_of;
+use bz_attribute::rule_of;
 use bz_tree::{Group, GroupKind, Node, Part, Seg, Stmt};
 use std::alloc::{AllocError, Global};
 
