@@ -1,3 +1,4 @@
 pub mod ByteSteps
+pub mod LabelSteps
 pub mod ValueSteps
 pub mod WordSteps

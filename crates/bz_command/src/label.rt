@@ -1,15 +1,15 @@
-//! A text as a label of a package, which is ordered by its bytes in full.
+//! A text as a label of a package, which is ordered by a key, and then by its bytes in full.
 
-ghost use Rattle.std.specs.Prelude.{◌≡◌, ℕ, List, Some, refl, IsTrue};
-ghost use Rattle.std.specs.Str.{bytes_eq};
-ghost use Rattle.std.specs.Cmp.{partial_equiv_from_equiv};
-ghost use Rattle.std.specs.Cmp.Lexicographic.{slice_cmp, nat_list_cmp_total, nat_list_eq_equiv, texts_po, texts_ties};
-ghost use Rattle.std.specs.Ordering.{nat_cmp};
+ghost use Rattle.std.specs.Prelude.{◌≡◌, Some, refl, IsTrue};
+ghost use Rattle.std.specs.List.{fold, flat_map, list_all};
+ghost use Rattle.std.specs.Cmp.{partial_equiv_from_equiv, eq_by_cmp_equiv, partial_order_from_total};
+ghost use Rattle.std.specs.Ordering.{eq_by_cmp};
 ghost use Rattle.bz_command.specs.private.ByteSteps.{left, is_good};
+ghost use Rattle.bz_command.specs.private.LabelSteps.{stirred, key_of, label_cmp, label_cmp_total};
 ghost use Rattle.bz_command.specs.Same as same;
 
-use crate::bytes::Bytes;
-use crate::completed::{Chain, completed, order};
+use crate::bytes::{Bytes, next};
+use crate::completed::{completed, order};
 use crate::package::Package;
 use std::cmp::Ordering;
 use std::marker::Model;
@@ -17,18 +17,21 @@ use std::marker::Model;
 /// Contracts see the label in full.
 #[derive(Drop)]
 pub(crate) struct Label<'a> {
-    chain: Chain<'a>,
+    key: u64,
+    texts: [Bytes<'a>; 4],
 }
 
 impl<'a> Model for Label<'a> {
-    ghost use Rattle.std.specs.Prelude.{ℕ, List, IsTrue};
-    ghost use Rattle.bz_command.specs.private.ByteSteps.{chain_bytes, is_good_chain};
+    ghost use Rattle.std.specs.Prelude.{◌≡◌, ℕ, List, IsTrue};
+    ghost use Rattle.std.specs.List.{flat_map, list_all};
+    ghost use Rattle.bz_command.specs.private.ByteSteps.{left, is_good};
+    ghost use Rattle.bz_command.specs.private.LabelSteps.{key_of};
 
     ghost Value = { List ℕ };
 
-    ghost view = { λ l. chain_bytes l.chain };
+    ghost view = { λ l. flat_map left l.texts };
 
-    ghost invariant = { λ l. IsTrue (is_good_chain l.chain) };
+    ghost invariant = { λ l. IsTrue (list_all is_good l.texts) × (l.key ≡ key_of (flat_map left l.texts)) };
 }
 
 impl<'a> Label<'a> {
@@ -36,29 +39,58 @@ impl<'a> Label<'a> {
         requires { IsTrue (is_good text) }
         ensures { result ≡ same.completed home.now (left text.entry) }
     {
-        let chain = completed(home, text);
-        Label { chain }
+        let texts = completed(home, text);
+        let key = key_of(&texts);
+        Label { key, texts }
     }
 }
 
-impl<'a> PartialEq for Label<'a> {
-    ghost eq = { bytes_eq };
+// What tells most labels apart.
+fn key_of(texts: &[Bytes<'_>]) -> u64
+    requires { IsTrue (list_all is_good texts.now) }
+    ensures { result ≡ key_of (flat_map left texts.now) }
+{
+    let mut key = 0;
+    for text in texts {
+        key = stirred(key, *text);
+    }
+    key
+}
 
-    ghost laws = { partial_equiv_from_equiv nat_list_eq_equiv };
+fn stirred(mut key: u64, mut text: Bytes<'_>) -> u64
+    requires { IsTrue (is_good text) }
+    ensures { result ≡ fold stirred key (left text.entry) }
+{
+    if let Bytes::Plain(slice) = text {
+        return slice
+            .iter()
+            .fold(key, |key, b| key.rotate_left(7) ^ u64::from(*b));
+    }
+    while let Some((b, rest)) = next(text) {
+        key = key.rotate_left(7) ^ u64::from(b);
+        text = rest;
+    }
+    key
+}
+
+impl<'a> PartialEq for Label<'a> {
+    ghost eq = { eq_by_cmp label_cmp };
+
+    ghost laws = { partial_equiv_from_equiv (eq_by_cmp_equiv label_cmp_total) };
 
     fn eq(&self, other: &Label<'a>) -> bool {
-        order(&self.chain, &other.chain).is_eq()
+        self.cmp(other).is_eq()
     }
 }
 
 impl<'a> Eq for Label<'a> {
-    ghost laws = { nat_list_eq_equiv };
+    ghost laws = { eq_by_cmp_equiv label_cmp_total };
 }
 
 impl<'a> PartialOrd for Label<'a> {
-    ghost partial_cmp = { λ a b. Some (slice_cmp nat_cmp a b) };
+    ghost partial_cmp = { λ a b. Some (label_cmp a b) };
 
-    ghost laws = { texts_po };
+    ghost laws = { partial_order_from_total label_cmp_total };
 
     fn partial_cmp(&self, other: &Label<'a>) -> Option<Ordering> {
         Some(self.cmp(other))
@@ -66,15 +98,18 @@ impl<'a> PartialOrd for Label<'a> {
 }
 
 impl<'a> Ord for Label<'a> {
-    ghost cmp = { slice_cmp nat_cmp };
+    ghost cmp = { label_cmp };
 
-    ghost total = { nat_list_cmp_total };
+    ghost total = { label_cmp_total };
 
     ghost matches_partial_cmp = { λ a b. refl };
 
-    ghost matches_eq = { texts_ties };
+    ghost matches_eq = { λ a b. refl };
 
     fn cmp(&self, other: &Label<'a>) -> Ordering {
-        order(&self.chain, &other.chain)
+        match self.key.cmp(&other.key) {
+            Ordering::Equal => order(&self.texts, &other.texts),
+            found => found,
+        }
     }
 }

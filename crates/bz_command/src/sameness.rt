@@ -5,7 +5,7 @@ ghost use Rattle.bz_command.specs.private.ByteSteps.{left, is_good};
 ghost use Rattle.bz_command.specs.Same as spec;
 
 use crate::bytes::Bytes;
-use crate::completed::{completed, order};
+use crate::label::Label;
 use crate::package::Package;
 
 /// Two texts are the same label in a package, its home: `x` and `:x` there are `//path:x`, and `//a/b` is `//a/b:b`.
@@ -21,5 +21,5 @@ pub fn same_label(home: &Package, a: Bytes<'_>, b: Bytes<'_>) -> bool
     requires b { IsTrue (is_good b) }
     ensures { result ≡ bytes_eq (spec.completed home.now (left a.entry)) (spec.completed home.now (left b.entry)) }
 {
-    order(&completed(home, a), &completed(home, b)).is_eq()
+    Label::new(home, a) == Label::new(home, b)
 }

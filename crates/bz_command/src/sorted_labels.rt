@@ -4,10 +4,9 @@ ghost use Rattle.std.specs.Prelude.{◌≡◌, ℕ, List, true, IsTrue, IfOk};
 ghost use Rattle.std.specs.List.{list_any};
 ghost use Rattle.std.specs.List.Sorted.{IsSorted};
 ghost use Rattle.std.specs.Str.{bytes_eq};
-ghost use Rattle.std.specs.Cmp.Lexicographic.{slice_cmp};
-ghost use Rattle.std.specs.Ordering.{nat_cmp};
 ghost use Rattle.std.proofs.Props.{props};
 ghost use Rattle.bz_command.specs.private.ByteSteps.{left, is_good};
+ghost use Rattle.bz_command.specs.private.LabelSteps.{label_cmp};
 ghost use Rattle.bz_command.specs.Same.{completed};
 ghost use Rattle.bz_command.specs.LabelSetViews.{holds};
 
@@ -22,7 +21,7 @@ use std::alloc::{AllocError, Global};
 pub struct SortedLabels<'a> {
     home: &'a Package,
     labels: Vec<Label<'a>>,
-    ghost sorted: { IsSorted (slice_cmp nat_cmp) labels.items } by { Prim.hlevel props },
+    ghost sorted: { IsSorted label_cmp labels.items } by { Prim.hlevel props },
 }
 
 impl<'a> SortedLabels<'a> {
@@ -62,7 +61,7 @@ impl<'a> SortedLabels<'a> {
 
 // Both at one lifetime, since labels are compared with their own kind alone.
 fn is_among<'a>(labels: &'a [Label<'a>], label: &'a Label<'a>) -> bool
-    requires { IsSorted (slice_cmp nat_cmp) labels.now }
+    requires { IsSorted label_cmp labels.now }
     ensures { result ≡ list_any (bytes_eq label.now) labels.now }
 {
     labels.binary_search(label).is_ok()

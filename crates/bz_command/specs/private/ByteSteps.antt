@@ -1,12 +1,9 @@
 -- For private clauses alone: the bytes of a text, or of a literal's value, that are left to read.
-use Rattle.std.specs.Prelude.{ℕ, nat_eq, ◌==◌, ◌≡◌, ◌<◌, ◌-◌, length, drop, get_or, bytes_eq, List, [], ◌∷◌, ◌++◌, Bool, false, not, codes, ◌&&◌, if◌then◌else◌, Option, Some, None, is_some}
-use Rattle.std.specs.List.{list_any, starts_with}
-use Rattle.bz_command.specs.Labels.{is_slash, is_colon, last_of, parts_of}
+use Rattle.std.specs.Prelude.{ℕ, ◌==◌, ◌≡◌, ◌<◌, ◌-◌, length, drop, get_or, bytes_eq, List, [], Bool, not, ◌&&◌, if◌then◌else◌, Option, Some, None, is_some}
 use Rattle.bz_command.specs.private.ValueSteps.{inner_value, taken}
 use Rattle.bz_command.specs.declared.bytes.Bytes.{Bytes}
 use Rattle.bz_command.specs.declared.bytes.Bytes.TheVariants.{Plain, Inner}
 use Rattle.bz_command.specs.declared.literal.Literal.{Literal}
-use Rattle.bz_command.specs.declared.completed.Chain.{Chain}
 
 abbrev pub or_nothing : Option (List ℕ) → List ℕ
 or_nothing None = []
@@ -47,27 +44,3 @@ left b = or_nothing (value_left b)
 
 abbrev pub is_good : Bytes → Bool
 is_good b = is_some (value_left b)
-
-abbrev pub chain_bytes : Chain → List ℕ
-chain_bytes c = c.front.now ++ (left c.path ++ (c.colon.now ++ left c.name))
-
--- all before the names is the same
-pub record IsBeside (a b : Chain) : Type 0 where
-  pub front : a.front.now ≡ b.front.now
-  pub path : left a.path ≡ left b.path
-  pub colon : a.colon.now ≡ b.colon.now
-
-abbrev pub is_good_chain : Chain → Bool
-is_good_chain c = is_good c.path && is_good c.name
-
--- the last part, where `last` stands after the last slash that was read
-abbrev pub last_from : List ℕ → List ℕ → List ℕ
-last_from bs last = if list_any is_slash bs then last_of (parts_of bs) else last
-
-abbrev pub begins : ℕ → List ℕ → Bool
-begins byte [] = false
-begins byte (b ∷ bs) = b == byte
-
--- a path without a colon
-abbrev pub is_bare_path : List ℕ → Bool
-is_bare_path text = starts_with nat_eq text (codes "//") && not (list_any is_colon text)

@@ -1,22 +1,21 @@
-use Rattle.std.proofs.Common.{ap, sym, ◌∙◌}
-use Rattle.std.proofs.lemmas.Bool.{eq-eqb, ne_eqb}
-use Rattle.bz_command.specs.private.ByteSteps.{left, last_from}
-use Rattle.bz_command.proofs.LastParts.{whole, past_slash, past_other}
+use Rattle.std.proofs.Common.{◌≡◌, None, ap, sym, ◌∙◌}
+use Rattle.std.specs.Prelude.{option_map}
+use Rattle.bz_command.specs.Labels.{last_of}
+use Rattle.bz_command.specs.private.ByteSteps.{left}
+use Rattle.bz_command.specs.private.LabelSteps.{rest_after}
+use Rattle.bz_command.proofs.LastParts.{shorter, one_part, more_parts}
 use Rattle.bz_command.proofs.completed.last_part.Goals as goal
 
-pub loop-b-init : goal.loop-b-init
-loop-b-init c = record { good = c.requires; last = c.requires; same = whole (left c.args.path) }
+pub loop-rest-smaller : goal.loop-rest-smaller
+loop-rest-smaller c = shorter 47 (left c.loop-rest.path) (left c.in-Some.rest) c.in-Some.ensures.rest
 
-pub loop-b-preserved-then-b-eq47 : goal.loop-b-preserved-then-b-eq47
-loop-b-preserved-then-b-eq47 c = record {
+pub loop-rest-preserved : goal.loop-rest-preserved
+loop-rest-preserved c = record {
   good = c.in-Some.ensures.good;
-  last = c.in-Some.ensures.good;
-  same = past_slash c.in-Some.b (left c.in-Some.after) (left c.loop-b.last) (eq-eqb _ _ c.if-b-eq47.true) ∙ ap (λ bs. last_from bs (left c.loop-b.last)) (sym c.in-Some.ensures.next) ∙ c.loop-b.invariant.same;
+  same = sym (more_parts (left c.loop-rest.path) (left c.in-Some.rest) c.in-Some.ensures.rest).1 ∙ c.loop-rest.invariant.same;
 }
 
-pub loop-b-preserved : goal.loop-b-preserved
-loop-b-preserved c = record {
-  good = c.in-Some.ensures.good;
-  last = c.loop-b.invariant.last;
-  same = past_other c.in-Some.b (left c.in-Some.after) (left c.loop-b.last) (ne_eqb _ _ c.if-b-eq47.false) ∙ ap (λ bs. last_from bs (left c.loop-b.last)) (sym c.in-Some.ensures.next) ∙ c.loop-b.invariant.same;
-}
+pub returns-clause-last : goal.returns-clause-last
+returns-clause-last c =
+    let none : None ≡ rest_after 47 (left c.loop-rest.path) = ap (option_map left) (sym c.in_default.is) ∙ c.after.ensures.rest in
+    sym (ap last_of (one_part (left c.loop-rest.path) none)) ∙ c.loop-rest.invariant.same

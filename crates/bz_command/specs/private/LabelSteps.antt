@@ -1,0 +1,40 @@
+-- For private clauses alone: texts in a row, and how labels are ordered.
+use Rattle.std.specs.Prelude.{ℕ, ◌==◌, bit_xor, List, [], ◌∷◌, ◌++◌, Bool, false, ◌&&◌, if◌then◌else◌, Option, Some, None}
+use Rattle.std.specs.declared.cmp.Ordering.{Ordering}
+use Rattle.std.specs.List.{flat_map, fold, list_all}
+use Rattle.std.specs.Int.{w64, rotate_left}
+use Rattle.std.specs.Ordering.{nat_cmp, on, then_cmp}
+use Rattle.std.specs.Cmp.{IsTotalOrder, nat_cmp_total, on_total, then_total}
+use Rattle.std.specs.Cmp.Lexicographic.{slice_cmp, nat_list_cmp_total}
+use Rattle.bz_command.specs.private.ByteSteps.{left, is_good}
+use Rattle.bz_command.specs.declared.completed.Row.{Row}
+
+-- what is left of texts in a row
+abbrev pub row_bytes : Row → List ℕ
+row_bytes row = left row.first ++ flat_map left row.rest.now
+
+abbrev pub is_good_row : Row → Bool
+is_good_row row = is_good row.first && list_all is_good row.rest.now
+
+abbrev pub begins : ℕ → List ℕ → Bool
+begins byte [] = false
+begins byte (b ∷ bs) = b == byte
+
+-- what stands after the first such byte
+abbrev pub rest_after : ℕ → List ℕ → Option (List ℕ)
+rest_after byte [] = None
+rest_after byte (b ∷ bs) = if b == byte then Some bs else rest_after byte bs
+
+-- a key with a byte more
+abbrev pub stirred : ℕ → ℕ → ℕ
+stirred key byte = bit_xor (rotate_left w64 key 7) byte
+
+unfoldable pub key_of : List ℕ → ℕ
+key_of bytes = fold stirred 0 bytes
+
+-- by the key, and then by the bytes
+abbrev pub label_cmp : List ℕ → List ℕ → Ordering
+label_cmp = then_cmp (on key_of nat_cmp) (slice_cmp nat_cmp)
+
+pub label_cmp_total : IsTotalOrder label_cmp
+label_cmp_total = then_total (on_total key_of nat_cmp_total) nat_list_cmp_total
