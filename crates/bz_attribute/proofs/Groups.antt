@@ -1,9 +1,10 @@
 -- A group whose segments are edited.
 use Rattle.std.specs.Cow.{cow_str_bytes}
 use Rattle.std.proofs.Common.{◌≡◌, List, option_map, refl, ◌∙◌, rules}
-use Rattle.bz_tree.specs.declared.stmt.Node.{Node, Group, the_lemmas}
+use Rattle.bz_tree.specs.declared.stmt.Node.{Node, Group, Token, the_lemmas}
 use Rattle.bz_tree.specs.declared.stmt.Node.TheOpen.{Group-F}
 use Rattle.bz_tree.specs.declared.stmt.Group.{Group as GroupValue, out-Group, roll-Group}
+use Rattle.bz_tree.specs.declared.stmt.Leaf.{Leaf}
 use Rattle.bz_tree.specs.declared.stmt.Seg.{Seg}
 use Rattle.bz_tree.specs.Tree.{group, Segment, segs_of}
 use Rattle.bz_tree.proofs.Views.{view-seg}
@@ -19,6 +20,10 @@ view-rolled r = search (rules, the_lemmas)
 pub edited_group : (f : List Segment → List Segment) (g : GroupValue) (r : Group-F Node GroupValue Seg) → r.kind ≡ (out-Group g).kind → r.one_comma ≡ (out-Group g).one_comma → r.end ≡ (out-Group g).end → segs_view r.segs.items ≡ f (segs_view (out-Group g).segs.items) → node_view (Group (roll-Group r)) ≡ edit_list f (node_view (Group g))
 edited_group f g r kinds commas endings segs =
     view-rolled r ∙ rw (view_of_group g, kinds, commas, endings, segs, segments_of (segs_view (out-Group g).segs.items)) refl
+
+-- what is no list
+pub leaf_stays : (f : List Segment → List Segment) (l : Leaf) → node_view (Token l) ≡ edit_list f (node_view (Token l))
+leaf_stays f l = search (rules, the_lemmas)
 
 pub elements_group : (g : GroupValue) → elements (node_view (Group g)) ≡ segs_view (out-Group g).segs.items
 elements_group g = rw (view_of_group g) (segments_of (segs_view (out-Group g).segs.items))
