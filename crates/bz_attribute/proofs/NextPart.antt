@@ -1,5 +1,5 @@
 -- A walk over the list parts of a value.
-use Rattle.std.proofs.Common.{◌≡◌, ℕ, zero, suc, ◌+◌, ◌<◌, ◌≤◌, List, ◌∷◌, ◌++◌, Bool, true, false, [], arith, length, get_or, set, take, drop, refl, ap, subst, sym, ◌∙◌, add-one, append_assoc}
+use Rattle.std.proofs.Common.{◌≡◌, ℕ, zero, suc, ◌+◌, ◌<◌, ◌≤◌, List, ◌∷◌, ◌++◌, Bool, true, false, [], arith, length, get_or, set, take, drop, refl, ap, subst, sym, ◌∙◌, add-one, append_assoc, ◌&&◌}
 use Rattle.std.specs.List.{list_all}
 use Rattle.std.proofs.lemmas.List.{append-nil, drop-map, drop-set-lt, drop_all, drop_more, get_or-map, length-map, map-set, set-get_or, take-append-drop, take_all, take_more, take_more_set}
 use Rattle.std.specs.Global.{Vec}
@@ -10,10 +10,10 @@ use Rattle.bz_tree.specs.declared.stmt.Seg.{Seg}
 use Rattle.bz_tree.specs.declared.stmt.Node.TheOpen.{Group-F}
 use Rattle.bz_tree.specs.Tree.{Item, Segment, leaf, group}
 use Rattle.bz_tree.specs.View.{node_view, nodes_view, segs_view}
-use Rattle.bz_attribute.specs.Lists.{edit_first_part, edit_from, edit_list, edit_one_from, is_joint, is_part, is_plus, parts, parts_from}
+use Rattle.bz_attribute.specs.Lists.{edit_first_part, edit_from, edit_list, edit_one_from, ends, is_joint, is_list, is_part, is_plus, parts, parts_from}
 use Rattle.bz_attribute.specs.Effects.{no_parts}
 use Rattle.bz_attribute.specs.Rules.{elements}
-use Rattle.bz_attribute.proofs.Groups.{edited_group, leaf_stays}
+use Rattle.bz_attribute.proofs.Groups.{edited_group, leaf_no_list}
 use Rattle.bz_attribute.specs.private.NextPart.{IsLastPart, IsNextPart, KeepsOthers, edit_rest, edited_from, rest}
 use Rattle.bz_attribute.specs.private.Places.{first_list}
 
@@ -197,9 +197,12 @@ part_put f value now at i d g segs next is put made =
     ap (λ (ns : List Node). edit_rest f (i + 1) (nodes_view ns)) put
     ∙ next.edit f (Group (roll-Group r)) d (edited_group f g r refl refl refl made ∙ ap (λ (n : Node). edit_list f (node_view n)) (sym is))
 
--- what is no group stays
-pub leaf_kept : (f : List Segment → List Segment) (value now : List Node) (at i : ℕ) (d : Node) (l : Leaf) → IsNextPart value at i → get_or value i d ≡ Token l → now ≡ set value i (get_or value i d)
-    → edit_rest f (i + 1) (nodes_view now) ≡ edit_rest f at (nodes_view value)
-leaf_kept f value now at i d l next is put =
-    ap (λ (ns : List Node). edit_rest f (i + 1) (nodes_view ns)) put
-    ∙ next.edit f (get_or value i d) d (ap node_view is ∙ leaf_stays f l ∙ ap (λ (n : Node). edit_list f (node_view n)) (sym is))
+-- it is a list
+list_part : (x : Item) (xs : List Item) → is_part true x xs ≡ true → is_list x ≡ true
+list_part x xs h = elim (is_list x) as (λ b. (b && ends xs) ≡ true → b ≡ true) [ true ↦ λ k. refl | false ↦ λ k. absurd cc ] h
+
+pub no_leaf : {P : Type 0} (value : List Node) (at i : ℕ) (d : Node) (l : Leaf) → IsNextPart value at i → get_or value i d ≡ Token l → P
+no_leaf value at i d l next is =
+    let list : is_list (node_view (Token l)) ≡ true = ap (λ (n : Node). is_list (node_view n)) (sym is) ∙ list_part (node_view (get_or value i d)) (drop (i + 1) (nodes_view value)) (next.part d) in
+    let clash : false ≡ true = sym (leaf_no_list l) ∙ list in
+    absurd cc
