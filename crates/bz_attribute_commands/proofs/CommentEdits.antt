@@ -1,26 +1,31 @@
 -- Steps to a comment: the line without the blanks at its end, and the element that it goes to.
-use Rattle.std.proofs.Common.{◌≡◌, ℕ, suc, ◌+◌, ◌-◌, ◌<◌, ◌≤◌, List, [], ◌∷◌, ◌++◌, Bool, true, false, ◌&&◌, if◌then◌else◌, length, get_or, set, take, drop, refl, ap, subst, sym, ◌∙◌, arith, add-one, is_some, Option, Some, None, IfSome, IfNone, nat_lt, inl, inr}
+use Rattle.std.proofs.Common.{◌≡◌, ℕ, suc, ◌+◌, ◌-◌, ◌<◌, ◌≤◌, List, [], ◌∷◌, ◌++◌, Bool, true, false, ◌&&◌, if◌then◌else◌, length, get_or, set, take, drop, refl, ap, subst, sym, ◌∙◌, arith, add-one, append_assoc, is_some, Option, Some, None, IfSome, IfNone, nat_lt, inl, inr}
 use Rattle.std.specs.Prelude.{position}
 use Rattle.std.specs.List.{list_all, list_any, position_or_len}
 use Rattle.std.proofs.lemmas.List.{drop_more, set_split, map-append, map-set, get_or-map, set-get_or, length-map, length-drop, drop-map, get_or-drop, get_or_default, take_more, take_all, take_rest}
 use Rattle.std.proofs.lemmas.Bool.{cases_Bool}
 use Rattle.std.proofs.lemmas.Bool.Decides.{nat_tests}
-use Rattle.bz_tree.specs.declared.stmt.Node.{Node}
+use Rattle.bz_tree.specs.declared.stmt.Node.{Node, Token, Group}
+use Rattle.bz_tree.specs.declared.stmt.Leaf.{Leaf}
+use Rattle.bz_tree.proofs.Views.{view-Token}
+use Rattle.bz_tree.specs.declared.stmt.Node.TheOpen.{Group-F}
+use Rattle.bz_tree.specs.declared.stmt.Group.{Group as GroupValue, out-Group, roll-Group}
 use Rattle.std.specs.Vec.{with_item}
 use Rattle.bz_tree.specs.declared.stmt.Seg.{Seg, roll-Seg}
 use Rattle.bz_tree.specs.Tree.{Item, Segment}
-use Rattle.bz_tree.specs.View.{node_view, nodes_view, seg_view, segs_view}
+use Rattle.bz_tree.specs.View.{node_view, nodes_view, seg_view, segs_view, texts}
 use Rattle.bz_attribute.specs.Rules.{elements, first_named, is_named, value}
-use Rattle.bz_attribute.specs.Lists.{edit_list, equals, is_part, is_joint, parts_from, parts}
+use Rattle.bz_attribute.specs.Lists.{edit_list, equals, is_part, is_joint, is_plus, parts_from, parts}
 use Rattle.bz_attribute.specs.Effects.{done, edit_first, failed, first_note, has, no_parts}
 use Rattle.bz_command.specs.Labels.{Package}
 use Rattle.bz_attribute.specs.declared.done.Note.{Note}
 use Rattle.bz_attribute.specs.declared.done.Note.TheVariants.{NoAttribute, NoValue, NotAList}
 use Rattle.bz_attribute.specs.private.Places.{IsAbsent, IsFirst}
 use Rattle.bz_attribute.specs.Comment.{is_blank, trimmed, comment_element, comment_line, comment_note, comment_value, edit_element, edit_element_from, with_comment}
-use Rattle.bz_attribute_commands.specs.private.CommentPlaces.{IsFirstOf, IsNowhere, IsPartWith, ends_blank, no_value_note}
-use Rattle.bz_attribute.proofs.First.{has_one, has_none, put_first, edit_first_none}
-use Rattle.bz_attribute.proofs.Groups.{view_of_seg}
+use Rattle.bz_attribute_commands.specs.private.CommentPlaces.{IsFirstIn, ends_blank, no_value_note}
+use Rattle.bz_attribute.proofs.First.{has_one, has_none, put_first}
+use Rattle.bz_attribute.proofs.Groups.{edited_group, elements_group, view_of_seg}
+use Rattle.bz_attribute.proofs.Views.{segments_of, view_of_group}
 use Rattle.bz_attribute.proofs.Mapped.{position_or_len-map}
 use Rattle.bz_attribute_commands.proofs.Written.{nodes_written}
 
@@ -64,33 +69,19 @@ trim_end (b ∷ bs) h =
     let split = last_split (b ∷ bs) (omega arith) in
     ap trimmed split ∙ trimmed_other (take (length (b ∷ bs) - 1) (b ∷ bs)) (get_or (b ∷ bs) (length (b ∷ bs) - 1) 0) h ∙ sym split
 
-pub is_first_of : (p : Segment → Bool) (segs : List Seg) (i : ℕ) → i ≡ position_or_len p (segs_view segs) → i < length segs → IsFirstOf p segs i
-is_first_of p segs i at h = record {
-  within = h;
-  there = has_one p (segs_view segs) (omega (arith, length-map segs seg_view));
-  put = λ f s d made. put_first p f segs i s d at h made;
-  same = λ s d kept. map-set seg_view segs i s ∙ ap (set (segs_view segs) i) (kept ∙ sym (get_or-map seg_view segs i d (seg_view d) h)) ∙ set-get_or (segs_view segs) i (seg_view d);
-}
-
-pub is_nowhere : (p : Segment → Bool) (segs : List Seg) → length segs ≤ position_or_len p (segs_view segs) → IsNowhere p segs
-is_nowhere p segs h =
-    let none : list_any p (segs_view segs) ≡ false = has_none p (segs_view segs) (omega (arith, length-map segs seg_view)) in
-    record { none = none; stay = λ f. edit_first_none p f (segs_view segs) none }
-
 -- where a search by position ends
-pub first_found : (p : Segment → Bool) (segs : List Seg) (r : Option ℕ) → r ≡ position (λ s. p (seg_view s)) segs → IfSome r (IsFirstOf p segs)
-first_found p segs r is =
+pub found_some : (p : Segment → Bool) (segs : List Seg) (r : Option ℕ) → r ≡ position (λ s. p (seg_view s)) segs → IfSome r (λ k. (k < length segs) × (k ≡ position_or_len p (segs_view segs)))
+found_some p segs r is =
     let at : position_or_len p (segs_view segs) ≡ position_or_len (λ s. p (seg_view s)) segs = position_or_len-map seg_view p segs in
-    rw is (elim (cases_Bool (nat_lt (position_or_len (λ s. p (seg_view s)) segs) (length segs))) [ inl h ↦ rw h (is_first_of p segs _ (sym at) (grind (arith, nat_tests))) | inr h ↦ rw h tt ])
+    rw is (elim (cases_Bool (nat_lt (position_or_len (λ s. p (seg_view s)) segs) (length segs))) [ inl h ↦ rw h (grind (arith, nat_tests), sym at) | inr h ↦ rw h tt ])
 
-pub none_found : (p : Segment → Bool) (segs : List Seg) (r : Option ℕ) → r ≡ position (λ s. p (seg_view s)) segs → IfNone r (IsNowhere p segs)
-none_found p segs r is =
+pub found_none : (p : Segment → Bool) (segs : List Seg) (r : Option ℕ) → r ≡ position (λ s. p (seg_view s)) segs → IfNone r (list_any p (segs_view segs) ≡ false)
+found_none p segs r is =
     let at : position_or_len p (segs_view segs) ≡ position_or_len (λ s. p (seg_view s)) segs = position_or_len-map seg_view p segs in
-    rw is (elim (cases_Bool (nat_lt (position_or_len (λ s. p (seg_view s)) segs) (length segs))) [ inl h ↦ rw h tt | inr h ↦ rw h (is_nowhere p segs (rw at (grind (arith, nat_tests)))) ])
-
-pub found_any : (p : Segment → Bool) (segs : List Seg) (r : Option ℕ) → IfSome r (IsFirstOf p segs) → IfNone r (IsNowhere p segs) → is_some r ≡ list_any p (segs_view segs)
-found_any p segs (Some i) found none = sym found.there
-found_any p segs None found none = sym none.none
+    rw is (elim (cases_Bool (nat_lt (position_or_len (λ s. p (seg_view s)) segs) (length segs))) [
+      | inl h ↦ rw h tt
+      | inr h ↦ rw h (let long : length segs ≤ position_or_len p (segs_view segs) = rw at (grind (arith, nat_tests)) in has_none p (segs_view segs) (omega (arith, length-map segs seg_view)))
+    ])
 
 -- another node of the value
 value_set : (ns : List Node) (k : ℕ) (m : Node) (new : List Item) → 2 ≤ length ns → nodes_view (set (drop 2 ns) k m) ≡ new → nodes_view (set ns (2 + k) m) ≡ take 2 (nodes_view ns) ++ new
@@ -108,36 +99,30 @@ no_note : (home : Package) (attr v : List ℕ) (args : List Segment) (a : Segmen
 no_note home attr v args a there first any = rw (there, first, some_parts (list_any (equals home v)) (parts (value a)) any, any) refl
 
 -- the attribute has such an element
-comment_told : (home : Package) (attr v : List ℕ) (args : List Seg) (i k : ℕ) (a : Seg) → IsFirst attr args i → IsPartWith (equals home v) (drop 2 (get_or args i a).nodes.items) k → comment_note home attr v (segs_view args) ≡ None
-comment_told home attr v args i k a first part =
+pub comment_told : (home : Package) (attr v : List ℕ) (args : List Seg) (i k e : ℕ) (a : Seg) → IsFirst attr args i → IsFirstIn (equals home v) (drop 2 (get_or args i a).nodes.items) k e → comment_note home attr v (segs_view args) ≡ None
+comment_told home attr v args i k e a first part =
     let s : Seg = get_or args i a in
     let any : list_any (list_any (equals home v)) (parts (value (seg_view s))) ≡ true =
     ap (λ (z : Segment). list_any (list_any (equals home v)) (parts (value z))) (view_of_seg s) ∙ ap (λ (zs : List Item). list_any (list_any (equals home v)) (parts zs)) (drop-map node_view 2 s.nodes.items) ∙ part.there in
     no_note home attr v (segs_view args) (seg_view s) first.there (first.first a) any
 
-pub comment_done : (home : Package) (attr v : List ℕ) (args : List Seg) (i k : ℕ) (a : Seg) (e : Node) → IsFirst attr args i → IsPartWith (equals home v) (drop 2 (get_or args i a).nodes.items) k
-    → done None (list_any (equals home v) (elements (node_view (get_or (get_or args i a).nodes.items (2 + k) e)))) ≡ done (comment_note home attr v (segs_view args)) true
-comment_done home attr v args i k a e first part =
-    ap (λ (z : Node). done None (list_any (equals home v) (elements (node_view z)))) (sym (get_or-drop 2 (get_or args i a).nodes.items k e)) ∙ ap (done None) (part.has e)
-    ∙ sym (ap (λ (n : Option Note). done n true) (comment_told home attr v args i k a first part))
-
-pub comment_put : (home : Package) (attr v text : List ℕ) (args : List Seg) (i k : ℕ) (a : Seg) (m e : Node) → IsFirst attr args i → IsPartWith (equals home v) (drop 2 (get_or args i a).nodes.items) k
-    → node_view m ≡ edit_list (edit_first (equals home v) (λ s. with_comment (comment_line text) s ∷ [])) (node_view (get_or (get_or args i a).nodes.items (2 + k) e))
+pub comment_put : (home : Package) (attr v text : List ℕ) (args : List Seg) (i k e : ℕ) (a : Seg) (m n : Node) → IsFirst attr args i → IsFirstIn (equals home v) (drop 2 (get_or args i a).nodes.items) k e
+    → node_view m ≡ edit_list (edit_first (equals home v) (λ s. with_comment (comment_line text) s ∷ [])) (node_view (get_or (get_or args i a).nodes.items (2 + k) n))
     → segs_view (set args i (roll-Seg (record { before = (get_or args i a).before; nodes = with_item (get_or args i a).nodes (2 + k) m; suffix = (get_or args i a).suffix }))) ≡ comment_value home attr v text (segs_view args)
-comment_put home attr v text args i k a m e first part edited =
+comment_put home attr v text args i k e a m n first part edited =
     let s : Seg = get_or args i a in
     let ns : List Node = s.nodes.items in
     let f : Segment → Segment = with_comment (comment_line text) in
-    let here : node_view m ≡ edit_list (edit_first (equals home v) (λ z. f z ∷ [])) (node_view (get_or (drop 2 ns) k e)) =
-    edited ∙ ap (λ (z : Node). edit_list (edit_first (equals home v) (λ z. f z ∷ [])) (node_view z)) (sym (get_or-drop 2 ns k e)) in
+    let here : node_view m ≡ edit_list (edit_first (equals home v) (λ z. f z ∷ [])) (node_view (get_or (drop 2 ns) k n)) =
+    edited ∙ ap (λ (z : Node). edit_list (edit_first (equals home v) (λ z. f z ∷ [])) (node_view z)) (sym (get_or-drop 2 ns k n)) in
     let written : nodes_view (set ns (2 + k) m) ≡ take 2 (nodes_view ns) ++ edit_element (equals home v) f (drop 2 (nodes_view ns)) =
-    value_set ns k m (edit_element (equals home v) f (drop 2 (nodes_view ns))) (first.nodes a) (part.put f m e here ∙ ap (edit_element (equals home v) f) (sym (drop-map node_view 2 ns))) in
+    value_set ns k m (edit_element (equals home v) f (drop 2 (nodes_view ns))) (first.nodes a) (part.put f m n here ∙ ap (edit_element (equals home v) f) (sym (drop-map node_view 2 ns))) in
     let made : comment_element home v text (seg_view s) ≡ seg_view (roll-Seg (record { before = s.before; nodes = with_item s.nodes (2 + k) m; suffix = s.suffix })) =
     ap (λ (zs : List Item). record (seg_view s) { nodes = take 2 zs ++ edit_element (equals home v) f (drop 2 zs) }) (ap (λ (z : Segment). z.nodes) (view_of_seg s))
     ∙ ap (λ (zs : List Item). record (seg_view s) { nodes = zs }) (sym written)
     ∙ sym (nodes_written s (2 + k) m) in
     first.put (λ z. comment_element home v text z ∷ []) (roll-Seg (record { before = s.before; nodes = with_item s.nodes (2 + k) m; suffix = s.suffix })) a (ap (λ (z : Segment). z ∷ []) made)
-    ∙ sym (ap (λ (n : Option Note). if is_some n then segs_view args else edit_first (is_named attr) (λ z. comment_element home v text z ∷ []) (segs_view args)) (comment_told home attr v args i k a first part))
+    ∙ sym (ap (λ (note : Option Note). if is_some note then segs_view args else edit_first (is_named attr) (λ z. comment_element home v text z ∷ []) (segs_view args)) (comment_told home attr v args i k e a first part))
 
 pub comment_kept : (attr : List ℕ) (args : List Seg) (i k : ℕ) (a : Seg) (m e : Node) → IsFirst attr args i → k < length (drop 2 (get_or args i a).nodes.items)
     → node_view m ≡ node_view (get_or (get_or args i a).nodes.items (2 + k) e)
@@ -151,9 +136,9 @@ comment_kept attr args i k a m e first within kept =
     (nodes_written s (2 + k) m ∙ ap (λ (zs : List Item). record (seg_view s) { nodes = zs }) (same ∙ sym (ap (λ (z : Segment). z.nodes) (view_of_seg s))))
 
 -- the part is one of the value that was read
-pub part_read : (p : Segment → Bool) (args : List Seg) (i k : ℕ) (x y : Seg) (v : List Node) → i < length args → v ≡ (get_or args i x).nodes.items → IsPartWith p (take (length v - 2) (drop 2 v)) k → IsPartWith p (drop 2 (get_or args i y).nodes.items) k
-part_read p args i k x y v h is found =
-    subst (λ (ns : List Node). IsPartWith p ns k) (take_rest v 2 ∙ ap (drop 2) (is ∙ ap (λ (z : Seg). z.nodes.items) (get_or_default args i x y h))) found
+pub part_read : (p : Segment → Bool) (args : List Seg) (i k e : ℕ) (x y : Seg) (v : List Node) → i < length args → v ≡ (get_or args i x).nodes.items → IsFirstIn p (take (length v - 2) (drop 2 v)) k e → IsFirstIn p (drop 2 (get_or args i y).nodes.items) k e
+part_read p args i k e x y v h is found =
+    subst (λ (ns : List Node). IsFirstIn p ns k e) (take_rest v 2 ∙ ap (drop 2) (is ∙ ap (λ (z : Seg). z.nodes.items) (get_or_default args i x y h))) found
 
 -- the nodes that were read are the value
 value_read : (args : List Seg) (i : ℕ) (x y : Seg) (v : List Node) → i < length args → v ≡ (get_or args i x).nodes.items → nodes_view (take (length v - 2) (drop 2 v)) ≡ value (seg_view (get_or args i y))
@@ -194,18 +179,21 @@ pub record NoneYet (p : Segment → Bool) (ns : List Node) (i : ℕ) (start : Bo
   pub one : (f : Segment → Segment) → nodes_view (take i ns) ++ edit_element_from p f start (nodes_view (drop i ns)) ≡ edit_element_from p f true (nodes_view ns)
   pub lists : list_any (list_any p) (parts_from start (nodes_view (drop i ns))) ≡ list_any (list_any p) (parts_from true (nodes_view ns))
 
-pub part_with : (p : Segment → Bool) (ns : List Node) (i : ℕ) (start : Bool) (n : Node) → list_all is_joint (nodes_view ns) ≡ true → i < length ns → NoneYet p ns i start → ((d : Node) → is_part start (node_view (get_or ns i d)) (nodes_view (drop (i + 1) ns)) ≡ true) → n ≡ get_or ns i n → list_any p (elements (node_view n)) ≡ true → IsPartWith p ns i
-part_with p ns i start n joints h before told at has =
+pub first_in : (p : Segment → Bool) (ns : List Node) (i k : ℕ) (start : Bool) (n : Node) (es : List Seg) → list_all is_joint (nodes_view ns) ≡ true → i < length ns → NoneYet p ns i start → ((d : Node) → is_part start (node_view (get_or ns i d)) (nodes_view (drop (i + 1) ns)) ≡ true) → n ≡ get_or ns i n
+    → segs_view es ≡ elements (node_view n) → k < length es → k ≡ position_or_len p (segs_view es) → IsFirstIn p ns i k
+first_in p ns i k start n es joints h before told at seen inside first =
     let rest : (d : Node) → nodes_view (drop i ns) ≡ node_view (get_or ns i d) ∷ nodes_view (drop (i + 1) ns) = λ d. ap nodes_view (drop_more ns i d h) in
-    let passes : (d : Node) → list_any p (elements (node_view (get_or ns i d))) ≡ true = λ d. ap (λ (z : Node). list_any p (elements (node_view z))) (get_or_default ns i d n h ∙ sym at) ∙ has in
+    let here : (d : Node) → elements (node_view (get_or ns i d)) ≡ segs_view es = λ d. ap (λ (z : Node). elements (node_view z)) (get_or_default ns i d n h ∙ sym at) ∙ sym seen in
+    let any : list_any p (segs_view es) ≡ true = has_one p (segs_view es) (omega (arith, length-map es seg_view)) in
+    let passes : (d : Node) → list_any p (elements (node_view (get_or ns i d))) ≡ true = λ d. ap (list_any p) (here d) ∙ any in
     record {
       within = h;
-      has = passes;
+      inside = λ d. omega (arith, ap length (here d), length-map es seg_view);
+      first = λ d. first ∙ ap (position_or_len p) (sym (here d));
       there =
           let whole : parts (nodes_view ns) ≡ parts_from true (nodes_view ns) = rw joints refl in
           let step : list_any (list_any p) (parts_from start (node_view (get_or ns i n) ∷ nodes_view (drop (i + 1) ns))) ≡ true = rw (told n, passes n) refl in
           ap (list_any (list_any p)) whole ∙ sym before.lists ∙ ap (λ (xs : List Item). list_any (list_any p) (parts_from start xs)) (rest n) ∙ step;
-      same = λ m d kept. map-set node_view ns i m ∙ ap (set (nodes_view ns) i) (kept ∙ sym (get_or-map node_view ns i d (node_view d) h)) ∙ set-get_or (nodes_view ns) i (node_view d);
       put = λ f m d edited.
           let step : edit_element_from p f start (node_view (get_or ns i d) ∷ nodes_view (drop (i + 1) ns)) ≡ edit_list (edit_first p (λ s. f s ∷ [])) (node_view (get_or ns i d)) ∷ nodes_view (drop (i + 1) ns) = rw (told d, passes d) refl in
           let whole : edit_element p f (nodes_view ns) ≡ edit_element_from p f true (nodes_view ns) = rw joints refl in
@@ -213,3 +201,69 @@ part_with p ns i start n joints h before told at has =
           let next : drop (suc i) ns ≡ drop (i + 1) ns = ap (λ (k : ℕ). drop k ns) (sym (add-one i)) in
           made ∙ ap (λ (zs : List Node). nodes_view (take i ns) ++ node_view m ∷ nodes_view zs) next ∙ ap (λ (z : Item). nodes_view (take i ns) ++ z ∷ nodes_view (drop (i + 1) ns)) edited ∙ ap (λ (zs : List Item). nodes_view (take i ns) ++ zs) (sym step ∙ ap (edit_element_from p f start) (sym (rest d))) ∙ before.one f ∙ sym whole;
     }
+
+no_list : (p : Segment → Bool) (part : Bool) (ss : List Segment) (lists : List (List Segment)) → (part && list_any p ss) ≡ false → list_any (list_any p) ((if part then ss ∷ [] else []) ++ lists) ≡ list_any (list_any p) lists
+no_list p true ss lists none = rw none refl
+no_list p false ss lists none = refl
+
+-- what stands at i is no list part, or one without such an element
+pub none_more : (p : Segment → Bool) (ns : List Node) (i : ℕ) (start next : Bool) (n d : Node) → i < length ns → NoneYet p ns i start
+    → (is_part start (node_view (get_or ns i d)) (nodes_view (drop (i + 1) ns)) && list_any p (elements (node_view (get_or ns i d)))) ≡ false → n ≡ get_or ns i n → next ≡ is_plus (node_view n) → NoneYet p ns (i + 1) next
+none_more p ns i start next n d h before none at after =
+    let x : Item = node_view (get_or ns i d) in
+    let xs : List Item = nodes_view (drop (i + 1) ns) in
+    let here : nodes_view (drop i ns) ≡ x ∷ xs = ap nodes_view (drop_more ns i d h) in
+    let plus : next ≡ is_plus x = after ∙ ap (λ (z : Node). is_plus (node_view z)) (at ∙ get_or_default ns i n d h) in
+    let front : nodes_view (take (i + 1) ns) ≡ nodes_view (take i ns) ++ x ∷ [] = ap nodes_view (take_more ns i d h) ∙ map-append node_view (take i ns) (get_or ns i d ∷ []) in
+    record {
+      one = λ f.
+          let step : edit_element_from p f start (x ∷ xs) ≡ x ∷ edit_element_from p f (is_plus x) xs = rw none refl in
+          (λ j. front j ++ edit_element_from p f (plus j) xs)
+          ∙ append_assoc (nodes_view (take i ns)) (x ∷ []) (edit_element_from p f (is_plus x) xs)
+          ∙ ap (λ (zs : List Item). nodes_view (take i ns) ++ zs) (sym step ∙ ap (edit_element_from p f start) (sym here))
+          ∙ before.one f;
+      lists =
+          ap (λ (b : Bool). list_any (list_any p) (parts_from b xs)) plus
+          ∙ sym (no_list p (is_part start x xs) (elements x) (parts_from (is_plus x) xs) none)
+          ∙ ap (λ (zs : List Item). list_any (list_any p) (parts_from start zs)) (sym here)
+          ∙ before.lists;
+    }
+
+-- the list that has the element
+pub list_read : (p : Segment → Bool) (ns : List Node) (k e : ℕ) (n : Node) (g : GroupValue) → IsFirstIn p (drop 2 ns) k e → n ≡ get_or ns (2 + k) n → n ≡ Group g → (e < length (out-Group g).segs.items) × (e ≡ position_or_len p (segs_view (out-Group g).segs.items))
+list_read p ns k e n g part at is =
+    let seen : elements (node_view (get_or (drop 2 ns) k n)) ≡ segs_view (out-Group g).segs.items = ap (λ (z : Node). elements (node_view z)) (get_or-drop 2 ns k n ∙ sym at ∙ is) ∙ elements_group g in
+    (omega (arith, part.inside n, ap length seen, length-map (out-Group g).segs.items seg_view), part.first n ∙ ap (position_or_len p) seen)
+
+-- a token has no elements
+pub token_read : (p : Segment → Bool) (ns : List Node) (k e : ℕ) (n : Node) (t : Leaf) → IsFirstIn p (drop 2 ns) k e → n ≡ get_or ns (2 + k) n → n ≡ Token t → ⊥
+token_read p ns k e n t part at is =
+    let seen : elements (node_view (get_or (drop 2 ns) k n)) ≡ [] = ap (λ (z : Node). elements (node_view z)) (get_or-drop 2 ns k n ∙ sym at ∙ is) ∙ ap elements (view-Token t) in
+    omega (arith, part.inside n, ap length seen)
+
+line_put : (line : List ℕ) (old new : Seg) → texts new.before.items ≡ texts old.before.items ++ line ∷ [] → new.nodes ≡ old.nodes → new.suffix ≡ old.suffix → with_comment line (seg_view old) ≡ seg_view new
+line_put line old new before nodes suffix = rw (view_of_seg new, view_of_seg old, before, nodes, suffix) refl
+
+line_kept : (old new : Seg) → texts new.before.items ≡ texts old.before.items → new.nodes ≡ old.nodes → new.suffix ≡ old.suffix → seg_view new ≡ seg_view old
+line_kept old new before nodes suffix = rw (view_of_seg new, view_of_seg old, before, nodes, suffix) refl
+
+kept_list : (g : GroupValue) → edit_list (λ ss. ss) (node_view (Group g)) ≡ node_view (Group g)
+kept_list g = rw (view_of_group g, segments_of (segs_view (out-Group g).segs.items)) refl
+
+-- a list with a line above an element, and with that element as it was
+pub list_put : (p : Segment → Bool) (line : List ℕ) (g : GroupValue) (r : Group-F Node GroupValue Seg) (e : ℕ) (old new : Seg) → e < length (out-Group g).segs.items → e ≡ position_or_len p (segs_view (out-Group g).segs.items) → old ≡ get_or (out-Group g).segs.items e old
+    → r.kind ≡ (out-Group g).kind → r.one_comma ≡ (out-Group g).one_comma → r.end ≡ (out-Group g).end → r.segs.items ≡ set (out-Group g).segs.items e new → new.nodes ≡ old.nodes → new.suffix ≡ old.suffix
+    → texts new.before.items ≡ texts old.before.items ++ line ∷ [] → node_view (Group (roll-Group r)) ≡ edit_list (edit_first p (λ s. with_comment line s ∷ [])) (node_view (Group g))
+list_put p line g r e old new h first at kinds commas endings segs nodes suffix is =
+    let put : Segment → List Segment = λ s. with_comment line s ∷ [] in
+    let made : put (seg_view (get_or (out-Group g).segs.items e old)) ≡ seg_view new ∷ [] = ap (λ (z : Seg). put (seg_view z)) (sym at) ∙ ap (λ (s : Segment). s ∷ []) (line_put line old new is nodes suffix) in
+    edited_group (edit_first p put) g r kinds commas endings (ap segs_view segs ∙ put_first p put (out-Group g).segs.items e new old first h made)
+
+pub list_kept : (g : GroupValue) (r : Group-F Node GroupValue Seg) (e : ℕ) (old new : Seg) → e < length (out-Group g).segs.items → old ≡ get_or (out-Group g).segs.items e old
+    → r.kind ≡ (out-Group g).kind → r.one_comma ≡ (out-Group g).one_comma → r.end ≡ (out-Group g).end → r.segs.items ≡ set (out-Group g).segs.items e new → new.nodes ≡ old.nodes → new.suffix ≡ old.suffix
+    → texts new.before.items ≡ texts old.before.items → node_view (Group (roll-Group r)) ≡ node_view (Group g)
+list_kept g r e old new h at kinds commas endings segs nodes suffix is =
+    let es : List Seg = (out-Group g).segs.items in
+    let same : segs_view (set es e new) ≡ segs_view es =
+    map-set seg_view es e new ∙ ap (set (segs_view es) e) (line_kept old new is nodes suffix ∙ ap seg_view at ∙ sym (get_or-map seg_view es e old (seg_view old) h)) ∙ set-get_or (segs_view es) e (seg_view old) in
+    edited_group (λ ss. ss) g r kinds commas endings (ap segs_view segs ∙ same) ∙ kept_list g

@@ -3,7 +3,10 @@ use Rattle.std.proofs.Common.{◌≡◌, ℕ, ◌-◌, ◌<◌, ◌==◌, List, 
 use Rattle.std.specs.Prelude.{bytes_eq}
 use Rattle.std.specs.List.{slice_split}
 use Rattle.bz_tree.specs.declared.stmt.GroupKind.TheVariants.{RuleCall}
+use Rattle.bz_tree.specs.declared.stmt.Node.{Node}
 use Rattle.bz_tree.specs.Tree.{Item, group, segs_of}
+use Rattle.bz_tree.specs.View.{node_view, nodes_view}
+use Rattle.std.proofs.lemmas.List.{map-append}
 use Rattle.bz_attribute.specs.Rules.{Rule, rule_of, kind_text}
 use Rattle.bz_attribute.specs.Set.{joined_by_dots, ident_item, dot_item, kind_items, kind_after}
 use Rattle.bz_command.proofs.Cuts.{some_part}
@@ -19,6 +22,10 @@ pub kind_step : (nodes : List Item) (left name rest : List ℕ) → slice_split 
 kind_step nodes left name rest h =
     let more : kind_items left ≡ ident_item name ∷ dot_item ∷ kind_items rest = ap joined_by_dots h ∙ joined_more name (slice_split (λ b. b == 46) rest) (some_part (λ b. b == 46) rest) in
     rw (more, append_assoc, append_assoc) refl
+
+-- one node more
+pub pushed : (old new : List Node) (n : Node) (x : Item) → new ≡ old ++ n ∷ [] → node_view n ≡ x → nodes_view new ≡ nodes_view old ++ x ∷ []
+pushed old new n x is seen = ap nodes_view is ∙ map-append node_view old (n ∷ []) ∙ ap (λ (z : Item). nodes_view old ++ z ∷ []) seen
 
 drop_front : (xs : List Item) (x : Item) → drop (length xs) (xs ++ x ∷ []) ≡ x ∷ []
 drop_front [] x = refl

@@ -1,6 +1,5 @@
 pub mod CommentEdits
 pub mod HeadPrinted
 pub mod KindEdits
-pub mod OneList
 pub mod Printed
 pub mod Written

@@ -6,14 +6,14 @@ ghost use Rattle.bz_tree.specs.View.{node_view, nodes_view, segs_view, slot_view
 ghost use Rattle.bz_attribute.specs.Lists.{edit_list, equals, parts};
 ghost use Rattle.bz_attribute.specs.Rules.{elements};
 ghost use Rattle.bz_attribute.specs.Effects.{done, edit_first, holds_rule, is_absent};
-ghost use Rattle.bz_attribute_commands.specs.private.CommentPlaces.{IsFirstOf, IsNowhere, IsPartWith};
+ghost use Rattle.bz_attribute_commands.specs.private.CommentPlaces.{IsFirstIn};
 ghost use Rattle.bz_attribute_commands.specs.private.CommentPlaces as place;
 ghost use Rattle.bz_attribute.specs.Comment as spec;
 
 use bz_attribute::equals::equals;
 use bz_attribute::{
-    Done, Executed, Note, are_joints, call_at, elements_at, find, first_part, is_operator_item,
-    is_part,
+    Done, Env, Executed, Note, are_joints, call_at, elements_at, find, first_part,
+    is_operator_item, is_part,
 };
 use bz_command::{Commented, Package, Text};
 use bz_tree::{Node, Seg, Stmt};
@@ -35,62 +35,49 @@ pub fn comment_rule(alloc: Global, text: &str, slot: &mut Option<Stmt<'_>>) -> E
 
 /// Adds a comment line above an argument or an element of one; for one above the rule it does nothing. An `Err` leaves
 /// all as it was.
-pub fn comment(
-    alloc: Global,
-    home: &Package,
-    commented: &Commented,
-    text: &str,
-    args: &mut [Seg<'_>],
-) -> Executed
+pub fn comment(env: Env<'_>, commented: &Commented, text: &str, args: &mut [Seg<'_>]) -> Executed
     ensures args { OnOk result
-        (segs_view args.new ≡ spec.comment_args commented.now home.now text.now (segs_view args.old)) }
-    ensures done { IfOk result (λ d. d ≡ spec.comment_done commented.now home.now (segs_view args.old)) }
+        (segs_view args.new ≡ spec.comment_args commented.now env.entry.home.now text.now (segs_view args.old)) }
+    ensures done { IfOk result (λ d. d ≡ spec.comment_done commented.now env.entry.home.now (segs_view args.old)) }
     ensures err { OnErr result (segs_view args.new ≡ segs_view args.old) }
 {
     match commented {
         Commented::Rule => Ok(Done::quiet(false)),
-        Commented::Attribute(attr) => comment_attribute(alloc, attr.as_str(), text, args),
+        Commented::Attribute(attr) => match find(args, attr.as_str()) {
+            None => Done::no_attribute(env.alloc, attr.as_str()),
+            Some(i) => push_line(env.alloc, text, &mut args[i].before),
+        },
         Commented::Value(attr, value) => {
-            comment_value(alloc, home, attr.as_str(), value.as_str(), text, args)
+            comment_value(env, attr.as_str(), value.as_str(), text, args)
         }
     }
 }
 
-// Adds a comment line above the first argument of a name. An `Err` leaves all as it was.
-fn comment_attribute(alloc: Global, attr: &str, text: &str, args: &mut [Seg<'_>]) -> Executed
-    ensures args { OnOk result (segs_view args.new ≡ spec.comment_attribute attr.now text.now (segs_view args.old)) }
-    ensures done { IfOk result (λ d. d ≡ done (is_absent attr.now (segs_view args.old)) true) }
-    ensures err { OnErr result (segs_view args.new ≡ segs_view args.old) }
-{
-    let Some(i) = find(args, attr) else {
-        return Done::no_attribute(alloc, attr);
-    };
-    push_line(alloc, text, &mut args[i].before)
-}
-
 // Adds a comment line above the first element of an attribute that equals a value. An `Err` leaves all as it was.
 fn comment_value(
-    alloc: Global,
-    home: &Package,
+    env: Env<'_>,
     attr: &str,
     value: &str,
     text: &str,
     args: &mut [Seg<'_>],
 ) -> Executed
     ensures args { OnOk result
-        (segs_view args.new ≡ spec.comment_value home.now attr.now value.now text.now (segs_view args.old)) }
+        (segs_view args.new ≡ spec.comment_value env.entry.home.now attr.now value.now text.now (segs_view args.old)) }
     ensures done { IfOk result
-        (λ d. d ≡ done (spec.comment_note home.now attr.now value.now (segs_view args.old)) true) }
+        (λ d. d ≡ done (spec.comment_note env.entry.home.now attr.now value.now (segs_view args.old)) true) }
     ensures err { OnErr result (segs_view args.new ≡ segs_view args.old) }
 {
     let Some(i) = find(args, attr) else {
-        return Done::no_attribute(alloc, attr);
+        return Done::no_attribute(env.alloc, attr);
     };
     let nodes = &args[i].nodes[2..];
-    let Some(part) = part_with(home, value, nodes) else {
-        return no_value(alloc, attr, value, nodes);
+    let Some((part, element)) = first_equal(env.home, value, nodes) else {
+        return no_value(env.alloc, attr, value, nodes);
     };
-    comment_in_list(alloc, home, value, text, &mut args[i].nodes[2 + part])
+    match &mut args[i].nodes[2 + part] {
+        Node::Token(_) => Ok(Done::quiet(false)),
+        Node::Group(list) => push_line(env.alloc, text, &mut list.segs[element].before),
+    }
 }
 
 // The failure where no element of an attribute equals a value.
@@ -105,9 +92,9 @@ fn no_value(alloc: Global, attr: &str, value: &str, nodes: &[Node<'_>]) -> Execu
     Ok(Done::failure(Note::NoValue { attr, value }))
 }
 
-// Where the first list part with an element that equals the value stands.
-fn part_with(home: &Package, value: &str, nodes: &[Node<'_>]) -> Option<usize>
-    ensures some { IfSome result (IsPartWith (equals home.now value.now) nodes.now) }
+// Where the first list part with an element that equals the value stands, and where in it the first such element.
+fn first_equal(home: &Package, value: &str, nodes: &[Node<'_>]) -> Option<(usize, usize)>
+    ensures some { IfSome result (λ at. IsFirstIn (equals home.now value.now) nodes.now at.0 at.1) }
     ensures none { IfNone result
         (list_any (list_any (equals home.now value.now)) (parts (nodes_view nodes.now)) ≡ false) }
 {
@@ -116,47 +103,18 @@ fn part_with(home: &Package, value: &str, nodes: &[Node<'_>]) -> Option<usize>
     }
     let mut start = true;
     for i in 0..nodes.len() {
-        if is_part(start, nodes, i) && find_equal(home, value, elements_at(&nodes[i])).is_some() {
-            return Some(i);
+        if is_part(start, nodes, i) {
+            let elements = elements_at(&nodes[i]);
+            if let Some(k) = elements
+                .iter()
+                .position(|element| equals(home, element, value))
+            {
+                return Some((i, k));
+            }
         }
         start = is_operator_item(&nodes[i], "+");
     }
     None
-}
-
-// Where the first element that equals the value stands.
-fn find_equal(home: &Package, value: &str, elements: &[Seg<'_>]) -> Option<usize>
-    ensures some { IfSome result (IsFirstOf (equals home.now value.now) elements.now) }
-    ensures none { IfNone result (IsNowhere (equals home.now value.now) elements.now) }
-{
-    elements
-        .iter()
-        .position(|element| equals(home, element, value))
-}
-
-// Adds a comment line above the first element of a list that equals a value.
-fn comment_in_list(
-    alloc: Global,
-    home: &Package,
-    value: &str,
-    text: &str,
-    node: &mut Node<'_>,
-) -> Executed
-    ensures ok { OnOk result (node_view node.new ≡ edit_list
-        (edit_first (equals home.now value.now) (λ s. spec.with_comment (spec.comment_line text.now) s ∷ []))
-        (node_view node.old)) }
-    ensures done { IfOk result
-        (λ d. d ≡ done None (list_any (equals home.now value.now) (elements (node_view node.old)))) }
-    ensures err { OnErr result (node_view node.new ≡ node_view node.old) }
-{
-    let Node::Group(group) = node else {
-        return Ok(Done::quiet(false));
-    };
-    let elements = group.segs.as_mut_slice();
-    let Some(i) = find_equal(home, value, elements) else {
-        return Ok(Done::quiet(false));
-    };
-    push_line(alloc, text, &mut elements[i].before)
 }
 
 // Adds the comment line of a text, and tells a change. An `Err` leaves the lines as they were.

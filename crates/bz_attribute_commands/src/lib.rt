@@ -7,4 +7,3 @@ pub mod print_head;
 pub mod rename;
 pub mod set;
 pub mod set_kind;
-mod value;

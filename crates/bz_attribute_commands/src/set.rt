@@ -8,10 +8,9 @@ ghost use Rattle.bz_attribute.specs.Effects as effects;
 ghost use Rattle.bz_attribute_commands.specs.private.SetViews.{new_view};
 ghost use Rattle.bz_attribute.specs.Set as spec;
 
-use crate::value::one_list;
 use bz_attribute::{
-    Done, Executed, find, ident_of, is_string, list, literal, push_argument, strings, token,
-    value_of,
+    Done, Executed, elements_at, find, ident_of, is_list, is_string, list, literal, push_argument,
+    strings, token, value_of,
 };
 use bz_command::Text;
 use bz_token::Kind;
@@ -41,10 +40,12 @@ pub fn set(alloc: Global, attr: &str, words: &[Text], args: &mut Vec<Seg<'_>>) -
         → IsOk result }
     ensures err { OnErr result (segs_view args.new.items ≡ segs_view args.old.items) }
 {
-    match find(args, attr) {
-        None => add_argument(alloc, attr, words, args),
-        Some(i) => set_in(alloc, attr, words, &mut args[i]),
-    }
+    let Some(i) = find(args, attr) else {
+        let value = new_node(alloc, new_of(attr, words, &[]))?;
+        push_argument(alloc, attr, value, args)?;
+        return Ok(Done::quiet(true));
+    };
+    set_in(alloc, attr, words, &mut args[i])
 }
 
 /// Adds an argument where there is none of the name, and else succeeds. An `Err` leaves all as it was.
@@ -56,22 +57,10 @@ pub fn set_if_absent(alloc: Global, attr: &str, words: &[Text], args: &mut Vec<S
     ensures unchanged { effects.has attr.now (segs_view args.old.items) ≡ true → IsOk result }
     ensures err { OnErr result (segs_view args.new.items ≡ segs_view args.old.items) }
 {
-    if find(args, attr).is_some() {
-        return Ok(Done::quiet(false));
+    match find(args, attr) {
+        None => set(alloc, attr, words, args),
+        Some(_) => Ok(Done::quiet(false)),
     }
-    add_argument(alloc, attr, words, args)
-}
-
-fn add_argument(alloc: Global, attr: &str, words: &[Text], args: &mut Vec<Seg<'_>>) -> Executed
-    ensures args { OnOk result
-        (segs_view args.new.items ≡ segs_view args.old.items
-        ++ effects.argument attr.now (spec.new_value (spec.new_of attr.now words.now None)) ∷ []) }
-    ensures done { IfOk result (λ done. done ≡ effects.done None true) }
-    ensures err { OnErr result (segs_view args.new.items ≡ segs_view args.old.items) }
-{
-    let value = new_node(alloc, new_of(attr, words, &[]))?;
-    push_argument(alloc, attr, value, args)?;
-    Ok(Done::quiet(true))
 }
 
 fn set_in(alloc: Global, attr: &str, words: &[Text], arg: &mut Seg<'_>) -> Executed
@@ -101,9 +90,15 @@ fn new_of<'w>(attr: &str, words: &'w [Text], was: &[Node<'_>]) -> New<'w>
 {
     match words {
         [word] if attr == "name" => New::String(word.as_str()),
-        [word] if !is_list_attribute(attr) && one_list(was).is_none() => new_word(word.as_str()),
+        [word] if !is_list_attribute(attr) && !is_one_list(was) => new_word(word.as_str()),
         _ => New::Strings(words),
     }
+}
+
+fn is_one_list(value: &[Node<'_>]) -> bool
+    ensures { result ≡ spec.is_one_list (nodes_view value.now) }
+{
+    matches!(value, [node] if is_list(node))
 }
 
 // The attributes that are lists in all rules.
@@ -169,38 +164,12 @@ fn new_node<'a>(alloc: Global, new: New<'_>) -> Result<Node<'a>, AllocError>
 fn is_value(new: New<'_>, value: &[Node<'_>]) -> bool
     ensures { result ≡ spec.is_value (new_view new.entry) (nodes_view value.now) }
 {
-    match new {
-        New::String(word) => is_string(value, word),
-        New::Number(digits) => is_only_int(digits, value),
-        New::Constant(name) => is_only_ident(name, value),
-        New::Strings(words) => is_list_of(words, value),
-    }
-}
-
-fn is_only_int(digits: &str, value: &[Node<'_>]) -> bool
-    ensures { result ≡ spec.is_only (spec.is_int digits.now) (nodes_view value.now) }
-{
-    match value {
-        [node] => is_int(digits, node),
+    match (new, value) {
+        (New::String(word), _) => is_string(value, word),
+        (New::Number(digits), [node]) => is_int(digits, node),
+        (New::Constant(name), [node]) => ident_of(node) == Some(name),
+        (New::Strings(words), [node]) => is_list(node) && are_strings(words, elements_at(node)),
         _ => false,
-    }
-}
-
-fn is_only_ident(name: &str, value: &[Node<'_>]) -> bool
-    ensures { result ≡ spec.is_only (spec.is_ident name.now) (nodes_view value.now) }
-{
-    match value {
-        [node] => ident_of(node) == Some(name),
-        _ => false,
-    }
-}
-
-fn is_list_of(words: &[Text], value: &[Node<'_>]) -> bool
-    ensures { result ≡ spec.is_value (spec.NewStrings words.now) (nodes_view value.now) }
-{
-    match one_list(value) {
-        None => false,
-        Some(elements) => are_strings(words, elements),
     }
 }
 

@@ -21,33 +21,19 @@ pub fn set_kind(alloc: Global, kind: &str, slot: &mut Option<Stmt<'_>>) -> Execu
     ensures unchanged { (spec.sets_kind_of kind.now (slot_view slot.old)).changed ≡ false → IsOk result }
     ensures err { OnErr result (slot_view slot.new ≡ slot_view slot.old) }
 {
-    match slot {
-        None => Ok(Done::quiet(false)),
-        Some(stmt) => in_nodes(alloc, kind, &mut stmt.nodes),
-    }
-}
-
-fn in_nodes(alloc: Global, kind: &str, nodes: &mut Vec<Node<'_>>) -> Executed
-    ensures nodes { OnOk result
-        (nodes_view nodes.new.items
-        ≡ spec.kind_after kind.now (nodes_view nodes.old.items) (rule_of (nodes_view nodes.old.items))) }
-    ensures done { IfOk result (λ done. done ≡ spec.sets_kind kind.now (rule_of (nodes_view nodes.old.items))) }
-    ensures no_rule { rule_of (nodes_view nodes.old.items) ≡ None → IsOk result }
-    ensures unchanged { (spec.sets_kind kind.now (rule_of (nodes_view nodes.old.items))).changed ≡ false → IsOk result }
-    ensures err { OnErr result (nodes_view nodes.new.items ≡ nodes_view nodes.old.items) }
-{
-    let Some(rule) = rule_of(nodes) else {
+    let Some(stmt) = slot else {
         return Ok(Done::quiet(false));
     };
-    if is_kind(rule.kind, kind) {
-        return Ok(Done::quiet(false));
+    match rule_of(&stmt.nodes) {
+        Some(rule) if !is_kind(rule.kind, kind) => {}
+        _ => return Ok(Done::quiet(false)),
     }
-    let mut kind = kind_nodes(alloc, kind)?;
-    kind.reserve(1)?;
-    if let Some(call) = nodes.pop() {
-        kind.push_reserved(call);
+    let mut nodes = kind_nodes(alloc, kind)?;
+    nodes.reserve(1)?;
+    if let Some(call) = stmt.nodes.pop() {
+        nodes.push_reserved(call);
     }
-    *nodes = kind;
+    stmt.nodes = nodes;
     Ok(Done::quiet(true))
 }
 
@@ -57,24 +43,10 @@ fn kind_nodes<'a>(alloc: Global, mut kind: &str) -> Result<Vec<Node<'a>>, AllocE
 {
     let mut nodes = Vec::new(alloc);
     while let Some((name, rest)) = cut(kind, '.') {
-        push_token(alloc, Kind::Identifier, name, &mut nodes)?;
-        push_token(alloc, Kind::Operator, ".", &mut nodes)?;
+        nodes.push(token(alloc, Kind::Identifier, name)?)?;
+        nodes.push(token(alloc, Kind::Operator, ".")?)?;
         kind = rest;
     }
-    push_token(alloc, Kind::Identifier, kind, &mut nodes)?;
+    nodes.push(token(alloc, Kind::Identifier, kind)?)?;
     Ok(nodes)
-}
-
-fn push_token(
-    alloc: Global,
-    kind: Kind,
-    text: &str,
-    nodes: &mut Vec<Node<'_>>,
-) -> Result<(), AllocError>
-    ensures { OnOk result (nodes_view nodes.new.items ≡ nodes_view nodes.old.items ++ leaf kind text.now ∷ []) }
-{
-    nodes.reserve(1)?;
-    let node = token(alloc, kind, text)?;
-    nodes.push_reserved(node);
-    Ok(())
 }

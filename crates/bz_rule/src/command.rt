@@ -7,7 +7,7 @@ ghost use Rattle.bz_attribute.specs.Effects as effects;
 ghost use Rattle.bz_rule.specs.Commands as spec;
 
 use crate::slot::{delete, on_args};
-use bz_attribute::{Done, Executed};
+use bz_attribute::{Done, Env, Executed};
 use bz_attribute_commands::comment::{comment, comment_rule};
 use bz_attribute_commands::print::print;
 use bz_attribute_commands::rename::rename;
@@ -202,7 +202,7 @@ pub(crate) fn carry_out(
         Action::Delete => Ok(delete(slot)),
         Action::Set(Setting::ToKind(kind)) => set_kind(alloc, kind.as_str(), slot),
         Action::Comment(Commented::Rule, text) => comment_rule(alloc, text.as_str(), slot),
-        Action::Print(fields) => print(alloc, home, fields.as_slice(), slot),
+        Action::Print(fields) => print(Env { alloc, home }, fields.as_slice(), slot),
         _ => on_args(alloc, command, home, slot),
     }
 }
@@ -241,7 +241,9 @@ pub(crate) fn in_args(
         Action::Replace(attributes, old, new) => {
             replace(alloc, home, attributes, old.as_str(), new.as_str(), args)
         }
-        Action::Comment(commented, text) => comment(alloc, home, commented, text.as_str(), args),
+        Action::Comment(commented, text) => {
+            comment(Env { alloc, home }, commented, text.as_str(), args)
+        }
         _ => Ok(Done::quiet(false)),
     }
 }

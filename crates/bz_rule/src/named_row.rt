@@ -16,7 +16,7 @@ ghost use Rattle.bz_rule.specs.ShallowViews.{shallow_view};
 ghost use Rattle.bz_rule.specs.private.LongerRows.{HasName};
 
 use crate::shallow::ShallowStmt;
-use bz_attribute::{Done, Head, RuleName};
+use bz_attribute::{Done, Env, Head, RuleName};
 use bz_attribute_commands::print_head::print_head;
 use bz_command::{Field, Package, Target};
 use bz_layout::put_row;
@@ -88,7 +88,7 @@ impl<'a> NamedRow<'a> {
     ) -> Result<Option<Done>, AllocError>
         ensures { IfOk result (λ told. IfSome told (λ done. done ≡ prints home.now fields.now (Some (row_statement self.now)))) }
     {
-        print_head(alloc, home, fields, self.head)
+        print_head(Env { alloc, home }, fields, self.head)
     }
 
     /// The rule as far as commands look at it.

@@ -9,7 +9,7 @@ use Rattle.bz_attribute_commands.proofs.print.print_fields.Goals as goal
 
 pub loop-field-init : goal.loop-field-init
 loop-field-init c =
-    let words = map (λ f. shown_field (field_text c.args.home.now (view c.args.stmt.now) (rule_view c.args.rule) f)) c.args.fields.now in
+    let words = map (λ f. shown_field (field_text c.args.env.home.now (view c.args.stmt.now) (rule_view c.args.rule) f)) c.args.fields.now in
     record {
       utf8 = search rules;
       line = ap (λ (z : List ℕ). z ++ spaced_from [] words) c.new-line.ensures.bytes ∙ spaced_all words;
@@ -24,7 +24,7 @@ loop-field-preserved c = record {
       c.in_ok-push_str.ensures.bytes c.in_ok-push_field.ensures.line
       ∙ c.loop-field.invariant.line;
   missing =
-      next_missing (λ name. Missing name.now) c.args.fields.now c.field-item.result c.loop-field.field-index _ _ _ c.args.home.now (view c.args.stmt.now) (rule_view c.args.rule)
+      next_missing (λ name. Missing name.now) c.args.fields.now c.field-item.result c.loop-field.field-index _ _ _ c.args.env.home.now (view c.args.stmt.now) (rule_view c.args.rule)
       c.loop-field-test.true c.field-item.is c.or-missing.ensures c.in_ok-push_field.ensures.missing
       ∙ c.loop-field.invariant.missing;
 }

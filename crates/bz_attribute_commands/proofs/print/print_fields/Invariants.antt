@@ -12,9 +12,9 @@ abbrev pub invariant-loop-field : goal.invariant-loop-field
 invariant-loop-field l = record {
   utf8 : IsUtf8 l.space;
   line :
-      string_bytes l.line ++ spaced_from l.space (map (λ f. shown_field (field_text l.home (view l.stmt) (rule_view l.rule) f)) (drop l.field-index l.fields))
-      ≡ line_of l.home (view l.stmt) (rule_view l.rule) l.fields;
+      string_bytes l.line ++ spaced_from l.space (map (λ f. shown_field (field_text l.env.home.now (view l.stmt) (rule_view l.rule) f)) (drop l.field-index l.fields))
+      ≡ line_of l.env.home.now (view l.stmt) (rule_view l.rule) l.fields;
   missing :
-      first_note (option_map (λ name. Missing name.now) l.missing) (missing l.home (view l.stmt) (rule_view l.rule) (drop l.field-index l.fields))
-      ≡ missing l.home (view l.stmt) (rule_view l.rule) l.fields;
+      first_note (option_map (λ name. Missing name.now) l.missing) (missing l.env.home.now (view l.stmt) (rule_view l.rule) (drop l.field-index l.fields))
+      ≡ missing l.env.home.now (view l.stmt) (rule_view l.rule) l.fields;
 }

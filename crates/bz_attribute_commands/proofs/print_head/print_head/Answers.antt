@@ -11,5 +11,5 @@ returns c s h =
     let fields = c.args.fields.now in
     let has = c.in_ok-push_told.ensures c.if-not-branch.false in
     ap (λ (line : List ℕ). line_with line None)
-    (c.from_string.ensures ∙ has.written ∙ ap (λ (text : List ℕ). text ++ head_words c.args.home.now c.args.head (fields_of fields)) c.in_ok-line.ensures.bytes)
-    ∙ head_prints c.args.home.now c.args.head s fields h has.told
+    (c.from_string.ensures ∙ has.written ∙ ap (λ (text : List ℕ). text ++ head_words c.args.env.home.now c.args.head (fields_of fields)) c.in_ok-line.ensures.bytes)
+    ∙ head_prints c.args.env.home.now c.args.head s fields h has.told

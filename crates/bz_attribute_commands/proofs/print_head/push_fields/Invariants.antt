@@ -10,6 +10,6 @@ invariant-loop-field l = record {
   utf8 : IsUtf8 l.space;
   told : list_all is_told l.fields ≡ list_all is_told (drop l.field-index l.fields);
   written :
-      string_bytes l.text ++ spaced_from l.space (map (head_word l.home l.head) (drop l.field-index l.fields))
-      ≡ string_bytes l.fn.text ++ head_words l.home l.head l.fields;
+      string_bytes l.text ++ spaced_from l.space (map (head_word l.env.home.now l.head) (drop l.field-index l.fields))
+      ≡ string_bytes l.fn.text ++ head_words l.env.home.now l.head l.fields;
 }

@@ -1,6 +1,6 @@
 use Rattle.bz_attribute.specs.Lists.{equals}
 use Rattle.bz_attribute_commands.proofs.CommentEdits.{NoneYet}
-use Rattle.bz_attribute_commands.proofs.comment.part_with.Given as goal
+use Rattle.bz_attribute_commands.proofs.comment.first_equal.Given as goal
 
 abbrev pub invariant-loop-i : goal.invariant-loop-i
 invariant-loop-i l = NoneYet (equals l.home l.value) l.nodes l.i l.start

@@ -1,0 +1,31 @@
+use Rattle.std.proofs.Common.{◌≡◌, rules, ◌∙◌, map, string_bytes, ap, sym, ◌++◌, ◌∷◌, [], List, ℕ}
+use Rattle.bz_tree.specs.declared.stmt.Node.{Node}
+use Rattle.bz_tree.specs.Tree.{Segment}
+use Rattle.bz_tree.specs.View.{nodes_view, seg_view, segs_view}
+use Rattle.bz_attribute.specs.Rules.{string_value}
+use Rattle.bz_attribute.proofs.Groups.{view_of_seg}
+use Rattle.bz_attribute_commands.specs.Print.{word_of}
+use Rattle.bz_attribute_commands.specs.private.PrintSteps.{element_word, spaced_from}
+use Rattle.bz_attribute_commands.proofs.Printed.{spaced_all, next_viewed}
+use Rattle.bz_attribute_commands.proofs.print.push_words.Goals as goal
+
+pub loop-element-init : goal.loop-element-init
+loop-element-init c =
+    let words = map element_word (segs_view c.args.list.now) in
+    let opened : string_bytes c.push.new.self ≡ string_bytes c.args.text.now ++ 91 ∷ [] = search rules in
+    record {
+      utf8 = search rules;
+      written = ap (λ (z : List ℕ). z ++ spaced_from [] words) opened ∙ ap (λ (z : List ℕ). (string_bytes c.args.text.now ++ 91 ∷ []) ++ z) (spaced_all words);
+    }
+
+pub loop-element-preserved : goal.loop-element-preserved
+loop-element-preserved c =
+    let word : word_of (string_value (nodes_view c.deref.result.now)) ≡ element_word (seg_view c.element-item.result) =
+    ap (λ (ns : List Node). word_of (string_value (nodes_view ns))) c.deref.ensures.value ∙ ap (λ (s : Segment). word_of (string_value s.nodes)) (sym (view_of_seg c.element-item.result)) in
+    record {
+      utf8 = search rules;
+      written =
+          next_viewed element_word seg_view c.args.list.now c.element-item.result c.loop-element.element-index _ _ _ c.loop-element.space.now c.loop-element-test.true c.element-item.is
+          c.in_ok-push_str.ensures.bytes (c.in_ok-push_string.ensures.word ∙ ap (λ (w : List ℕ). string_bytes c.push_str.new.self ++ w) word)
+          ∙ c.loop-element.invariant.written;
+    }
