@@ -12,7 +12,7 @@ mod make;
 mod marks;
 mod rule;
 mod texts;
-pub mod word_set;
+mod word_set;
 
 pub use chosen::{Chosen, any_chosen, drop_in, is_any_chosen, is_chosen, loses_all};
 pub use done::{Done, Executed, Note};
@@ -29,3 +29,4 @@ pub use rule::{
     only_text, rule_of, value_of,
 };
 pub use texts::{label, push_home, push_kind, read_name, shown};
+pub use word_set::WordSet;

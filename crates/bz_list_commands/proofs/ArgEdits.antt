@@ -1,20 +1,22 @@
 -- Arguments that are edited one by one.
-use Rattle.std.proofs.Common.{◌≡◌, ℕ, suc, ◌+◌, ◌<◌, ◌≤◌, List, [], ◌∷◌, ◌++◌, Bool, true, false, not, cond, ◌||◌, nat_lt, length, get_or, drop, take, set, map, filter, refl, ap, subst, sym, ◌∙◌, arith, inl, inr, if◌then◌else◌, append_assoc}
-use Rattle.std.specs.List.{list_any}
-use Rattle.std.proofs.lemmas.Bool.{cases_Bool}
+use Rattle.std.proofs.Common.{◌≡◌, ℕ, suc, ◌+◌, ◌<◌, ◌≤◌, List, [], ◌∷◌, ◌++◌, Bool, true, false, not, cond, ◌||◌, ◌==◌, nat_lt, length, get_or, drop, take, set, map, filter, refl, ap, subst, sym, ◌∙◌, arith, if◌then◌else◌, append_assoc}
+use Rattle.std.specs.List.{flat_map, list_any}
+use Rattle.std.specs.List.Retain.{RetainsInTurn}
+use Rattle.std.proofs.lemmas.Bool.{false≢true}
 use Rattle.std.proofs.lemmas.Bool.Decides.{nat_tests}
 use Rattle.std.proofs.lemmas.List.{append-nil, drop_all, drop_more, take_all, take_more_set, drop-set-lt, map-set, get_or_default, get_or-map, length-map, set-get_or}
 use Rattle.bz_tree.specs.declared.stmt.Seg.{Seg}
 use Rattle.bz_tree.specs.View.{seg_view, segs_view}
 use Rattle.bz_tree.specs.Tree.{Segment}
-use Rattle.bz_attribute.specs.Rules.{value}
+use Rattle.bz_attribute.specs.Rules.{first_named, is_named, value}
 use Rattle.bz_attribute.specs.Lists.{edit_parts, is_attribute, with_value}
 use Rattle.bz_command.specs.Labels.{Package}
 use Rattle.bz_command.specs.declared.arguments.Attributes.{Attributes}
 use Rattle.bz_command.specs.declared.arguments.Attributes.TheVariants.{Every, Named}
-use Rattle.bz_attribute.specs.Effects.{filtered, loses_all}
-use Rattle.bz_attribute.specs.Remove.{filtered_everywhere, remove, removes}
-use Rattle.bz_list_commands.specs.private.EditSteps.{edit_attribute, goes, is_lost}
+use Rattle.bz_command.specs.declared.arguments.Moved.TheVariants.{Values}
+use Rattle.bz_attribute.specs.Effects.{chooses_in, edit_first, filtered, unchosen}
+use Rattle.bz_attribute.specs.Remove.{chooses_anywhere, filtered_everywhere, remove, removes}
+use Rattle.bz_list_commands.specs.private.EditSteps.{edit_attribute, goes}
 
 -- one on: y stands where its like stood
 map_step : (e : Segment → Segment) (xs : List Segment) (i : ℕ) (y d : Segment) → i < length xs → y ≡ e (get_or xs i d) → take (i + 1) (set xs i y) ++ map e (drop (i + 1) (set xs i y)) ≡ take i xs ++ map e (drop i xs)
@@ -54,25 +56,19 @@ attribute_passed f ss i d b h told is =
     subst (λ (zs : List Seg). take (i + 1) (segs_view zs) ++ map (edit_attribute f) (drop (i + 1) (segs_view zs)) ≡ take i (segs_view ss) ++ map (edit_attribute f) (drop i (segs_view ss))) (set-get_or ss i d)
     (edit_step (edit_attribute f) ss i (get_or ss i d) d h stays)
 
--- first those go that lose all, then the others are edited
-kept_one : (f : List Segment → List Segment) (a : Segment) (rest : List Segment) → is_lost f a ≡ false → (if is_attribute a then filtered f a else a ∷ []) ++ rest ≡ edit_attribute f a ∷ rest
-kept_one f a rest h = elim (cases_Bool (is_attribute a)) [
-  | inl is ↦ let stays : loses_all f (value a) ≡ false = rw is at h in rw (is, stays) refl
-  | inr other ↦ rw other refl
-]
+kept_or_not : (b : Bool) (y : Seg) (zs : List Seg) → segs_view (cond b (y ∷ zs) zs) ≡ (if b then seg_view y ∷ [] else []) ++ segs_view zs
+kept_or_not true y zs = refl
+kept_or_not false y zs = refl
 
-lost_one : (f : List Segment → List Segment) (a : Segment) → is_lost f a ≡ true → (if is_attribute a then filtered f a else a ∷ []) ≡ []
-lost_one f a h = elim (cases_Bool (is_attribute a)) [
-  | inl is ↦ let goes : loses_all f (value a) ≡ true = rw is at h in rw (is, goes) refl
-  | inr other ↦ let clash : false ≡ true = rw other at h in cc
-]
-
-pub in_two_steps : (f : List Segment → List Segment) (args : List Segment) → map (edit_attribute f) (filter (λ a. not (is_lost f a)) args) ≡ filtered_everywhere f args
-in_two_steps f [] = refl
-in_two_steps f (a ∷ args) = elim (cases_Bool (is_lost f a)) [
-  | inl is ↦ rw (is, lost_one f a is) (in_two_steps f args)
-  | inr other ↦ rw (other, kept_one f a (filtered_everywhere f args) other) (ap (λ (xs : List Segment). edit_attribute f a ∷ xs) (in_two_steps f args))
-]
+-- each was edited or went in turn as f says, by what holds of each state
+pub left_in_turn : {S : Type 0} (R : S → Seg → Bool → S → Seg → Type 0) (Q : S → Type 0) (f : Segment → List Segment)
+    → ((s : S) (x : Seg) (b : Bool) (t : S) (y : Seg) → Q s → R s x b t y → Q t × ((if b then seg_view y ∷ [] else []) ≡ f (seg_view x)))
+    → (s : S) (xs ys : List Seg) → Q s → RetainsInTurn R s xs ys → segs_view ys ≡ flat_map f (segs_view xs)
+left_in_turn R Q f step s [] ys q h = ap segs_view h
+left_in_turn R Q f step s (x ∷ xs) ys q h =
+    let one = step s x h.0 h.1 h.2 q h.3 in
+    let later : segs_view h.4 ≡ flat_map f (segs_view xs) = left_in_turn R Q f step h.1 xs h.4 one.0 h.5 in
+    ap segs_view h.6 ∙ kept_or_not h.0 h.2 h.4 ∙ (λ j. one.1 j ++ later j)
 
 -- some go exactly where fewer are left
 no_longer : (p : Segment → Bool) (ss : List Segment) → length (filter (λ s. not (p s)) ss) ≤ length ss
@@ -93,11 +89,33 @@ fewer_left p (s ∷ ss) =
     elim (p s) as (λ b. nat_lt (length (cond (not b) (s ∷ filter (λ s. not (p s)) ss) (filter (λ s. not (p s)) ss))) (length (s ∷ ss)) ≡ (b || list_any p ss))
     [ true ↦ fewer (length (filter (λ s. not (p s)) ss)) (length ss) (no_longer p ss) | false ↦ both_more (length (filter (λ s. not (p s)) ss)) (length ss) ∙ fewer_left p ss ]
 
--- `remove` without values
-pub whole_removed : (home : Package) (attributes : Attributes) (args : List Segment) → filter (λ s. not (goes attributes s)) args ≡ remove home attributes [] args
-whole_removed home Every args = refl
-whole_removed home (Named attr) args = refl
+not_empty : (n : ℕ) → (suc n == 0) ≡ false
+not_empty n = grind (arith, nat_tests)
 
-pub removes_whole : (home : Package) (attributes : Attributes) (args : List Segment) → list_any (goes attributes) args ≡ removes home attributes [] args
-removes_whole home Every args = refl
-removes_whole home (Named attr) args = refl
+-- `remove` without values
+pub whole_removed : (home : Package) (attributes : Attributes) (values : List (List ℕ)) (args : List Segment) → (length values == 0) ≡ true → filter (λ s. not (goes attributes s)) args ≡ remove home attributes values args
+whole_removed home Every [] args h = refl
+whole_removed home (Named attr) [] args h = refl
+whole_removed home attributes (v ∷ values) args h = absurd (false≢true (sym (not_empty (length values)) ∙ h))
+
+pub removes_whole : (home : Package) (attributes : Attributes) (values : List (List ℕ)) (args : List Segment) → (length values == 0) ≡ true → list_any (goes attributes) args ≡ removes home attributes values args
+removes_whole home Every [] args h = refl
+removes_whole home (Named attr) [] args h = refl
+removes_whole home attributes (v ∷ values) args h = absurd (false≢true (sym (not_empty (length values)) ∙ h))
+
+-- with values
+pub removed_everywhere : (home : Package) (values : List (List ℕ)) (args : List Segment) → (length values == 0) ≡ false → filtered_everywhere (unchosen home (Values values)) args ≡ remove home Every values args
+removed_everywhere home [] args h = absurd cc
+removed_everywhere home (v ∷ values) args h = refl
+
+pub removes_anywhere : (home : Package) (values : List (List ℕ)) (args : List Segment) → (length values == 0) ≡ false → chooses_anywhere home (Values values) args ≡ removes home Every values args
+removes_anywhere home [] args h = absurd cc
+removes_anywhere home (v ∷ values) args h = refl
+
+pub removed_first : (home : Package) (attr : List ℕ) (values : List (List ℕ)) (args : List Segment) → (length values == 0) ≡ false → edit_first (is_named attr) (filtered (unchosen home (Values values))) args ≡ remove home (Named attr) values args
+removed_first home attr [] args h = absurd cc
+removed_first home attr (v ∷ values) args h = refl
+
+pub removes_first : (home : Package) (attr : List ℕ) (values : List (List ℕ)) (args : List Segment) → (length values == 0) ≡ false → chooses_in home (Values values) (first_named attr args) ≡ removes home (Named attr) values args
+removes_first home attr [] args h = absurd cc
+removes_first home attr (v ∷ values) args h = refl

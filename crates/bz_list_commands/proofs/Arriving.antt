@@ -4,7 +4,7 @@ use Rattle.std.specs.List.{SwappedAt, list_any, list_all}
 use Rattle.std.proofs.lemmas.Bool.{cases_Bool}
 use Rattle.std.proofs.lemmas.Bool.Decides.{nat_tests}
 use Rattle.std.proofs.lemmas.Slice.Eq.{bytes_eq-Decides}
-use Rattle.std.proofs.lemmas.List.{drop_more, drop_all, map-append, append-nil}
+use Rattle.std.proofs.lemmas.List.{drop_more, drop_all, map-append, append-nil, length-append}
 use Rattle.std.proofs.lemmas.List.Folds.{list_any-append}
 use Rattle.bz_token.proofs.Classes.{same_bytes}
 use Rattle.bz_tree.specs.declared.stmt.Seg.{Seg}
@@ -20,7 +20,7 @@ use Rattle.bz_attribute.specs.private.ChosenViews.{words_of}
 use Rattle.bz_attribute.specs.private.Places.{IsFirst, first_length, first_list}
 use Rattle.bz_attribute.specs.Move.{arrivals, chosen_of, elements_of, is_among, joined, moved}
 use Rattle.bz_attribute.proofs.LabelSets.{or_false}
-use Rattle.bz_list_commands.specs.private.MoveSteps.{value_of, with_list}
+use Rattle.bz_list_commands.specs.private.MoveSteps.{value_of, with_list, with_more}
 use Rattle.bz_list_commands.proofs.Leaving.{swapped_front, swapped_rest}
 
 pub any-joined : (p : Segment → Bool) (lists : List (List Segment)) → list_any p (joined lists) ≡ list_any (list_any p) lists
@@ -259,13 +259,16 @@ pub elements_there : (o : Option Segment) → joined (parts (value_of o)) ≡ el
 elements_there None = refl
 elements_there (Some a) = refl
 
--- those that arrive are put into the first argument of the name
-pub arrived_in : (home : Package) (attr : List ℕ) (args : List Seg) (i : ℕ) (d s : Seg) (es later : List Segment) → IsFirst attr args i
-    → later ≡ arrivals home (joined (parts (value_of (first_named attr (segs_view args))))) es
-    → seg_view s ≡ with_value (edit_first_part (λ there. there ++ later) (value (seg_view (get_or args i d)))) (seg_view (get_or args i d))
-    → segs_view (set args i s) ≡ edit_first (is_named attr) (λ a. with_value (edit_first_part (λ there. there ++ arrivals home (elements_of (first_named attr (segs_view args))) es) (value a)) a ∷ []) (segs_view args)
-arrived_in home attr args i d s es later first is made =
-    let came : later ≡ arrivals home (elements_of (first_named attr (segs_view args))) es = is ∙ ap (λ (ss : List Segment). arrivals home ss es) (elements_there (first_named attr (segs_view args))) in
-    let a : Segment = seg_view (get_or args i d) in
-    first.put (λ a. with_value (edit_first_part (λ there. there ++ arrivals home (elements_of (first_named attr (segs_view args))) es) (value a)) a ∷ []) s d
-    (sym (ap (λ (z : Segment). z ∷ []) (made ∙ ap (λ (ss : List Segment). with_value (edit_first_part (λ there. there ++ ss) (value a)) a) came)))
+-- later elements came to the first list part of the first argument of the name
+pub put_at : (attr : List ℕ) (args : List Seg) (i : ℕ) (d s : Seg) (later : List Segment) → IsFirst attr args i → seg_view s ≡ with_more later (seg_view (get_or args i d))
+    → segs_view (set args i s) ≡ edit_first (is_named attr) (λ a. with_more later a ∷ []) (segs_view args)
+put_at attr args i d s later first made = first.put (λ a. with_more later a ∷ []) s d (sym (ap (λ (z : Segment). z ∷ []) made))
+
+-- the first list has no more elements than all
+every_one : (ss : List Segment) → length (filter (λ s. true) ss) ≡ length ss
+every_one [] = refl
+every_one (s ∷ ss) = ap suc (every_one ss)
+
+pub first_among : (lists : List (List Segment)) → length (first_list lists) ≤ length (filter (λ s. true) (joined lists))
+first_among [] = omega arith
+first_among (ss ∷ lists) = omega (arith, every_one (ss ++ joined lists), length-append ss (joined lists))

@@ -52,6 +52,13 @@ one_word home words text among s = elim (cases_Bool (is_chosen home (Values (tex
 pub among_chosen : (home : Package) (words : List (List ℕ)) (lists : List (List Segment)) (text : List ℕ) → list_any (same home text) words ≡ true → is_in home (Values words) lists text ≡ is_in home All lists text
 among_chosen home words lists text among = λ j. list_any (list_any (λ (s : Segment). one_word home words text among s j)) lists
 
+-- the labels of the elements that are among the values
+pub known_first : (home : Package) (lists : List (List Segment)) (values words : List (List ℕ)) (set : LabelSet) → words ≡ values → set.home.now ≡ home → ((text : List ℕ) → has set text ≡ is_in home (Values words) lists text) → Knows home lists values 0 set
+known_first home lists values words set same of all = record {
+  of = of;
+  all = λ text. all text ∙ ap (λ (ws : List (List ℕ)). is_in home (Values ws) lists text) same ∙ sym (or_false (is_in home (Values values) lists text));
+}
+
 -- with the value at i
 pub knows_more : (home : Package) (lists : List (List Segment)) (values : List (List ℕ)) (i : ℕ) (word : List ℕ) (old new : LabelSet) → i < length values → word ≡ get_or values i []
     → Knows home lists values i old → Gains (λ text. same old.home.now text word) old new → new.home.now ≡ old.home.now → Knows home lists values (i + 1) new

@@ -46,7 +46,7 @@ first_is name (x ∷ args) a h =
     elim (is_named name x) as (λ b. is_named name x ≡ b → (if b then Some x else first_named name args) ≡ Some a → is_named name a ≡ true)
     [ true ↦ λ is k. let same : x ≡ a = cc in ap (is_named name) (sym same) ∙ is | false ↦ λ is k. first_is name args a k ] refl h
 
-first_attribute : (name : List ℕ) (args : List Segment) (a : Segment) → first_named name args ≡ Some a → is_attribute a ≡ true
+pub first_attribute : (name : List ℕ) (args : List Segment) (a : Segment) → first_named name args ≡ Some a → is_attribute a ≡ true
 first_attribute name args a h = has_name name (name_of a.nodes) (first_is name args a h)
 
 one_taken : (ss : List Seg) (i n : ℕ) (d : Seg) → i < length ss → n ≡ 1 → take n (drop i ss) ≡ get_or ss i d ∷ []

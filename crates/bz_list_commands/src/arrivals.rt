@@ -10,51 +10,36 @@ ghost use Rattle.bz_attribute.specs.Move as spec;
 ghost use Rattle.bz_list_commands.specs.private.MoveSteps.{flags, has_value};
 
 use bz_attribute::equals::string_of;
-use bz_attribute::word_set::FEW;
-use bz_attribute::{Chosen, any_chosen, is_any_chosen, labels_in};
+use bz_attribute::{Chosen, Env, any_chosen, is_any_chosen, labels_in};
 use bz_command::{LabelSet, Package};
 use bz_tree::{Node, Seg};
-use std::alloc::{AllocError, Global};
+use std::alloc::AllocError;
 
 /// Drops the strings that are in the list parts of a value, or stand earlier. It cannot fail: memory makes it faster
 /// alone.
-pub(crate) fn keep_arrivals(
-    alloc: Global,
-    home: &Package,
-    value: &[Node<'_>],
-    elements: &mut Vec<Seg<'_>>,
-)
+pub(crate) fn keep_arrivals(env: Env<'_>, value: &[Node<'_>], elements: &mut Vec<Seg<'_>>)
     ensures items { segs_view elements.new.items
-        ≡ spec.arrivals home.now (spec.joined (parts (nodes_view value.now))) (segs_view elements.old.items) }
+        ≡ spec.arrivals env.entry.home.now (spec.joined (parts (nodes_view value.now))) (segs_view elements.old.items) }
     ensures shorter { vec_len elements.new ≤ vec_len elements.old }
     ensures capacity { vec_capacity elements.new ≡ vec_capacity elements.old }
 {
-    let kept = arrivals_first(alloc, home, value, elements);
+    let kept = arrivals_first(env, value, elements);
     elements.truncate(kept);
 }
 
-// Brings them to the front and answers how many they are. Flags tell of many, where there is memory for these; else
-// each is compared with those that are there and with those that arrived before it.
-fn arrivals_first(
-    alloc: Global,
-    home: &Package,
-    value: &[Node<'_>],
-    elements: &mut [Seg<'_>],
-) -> usize
+// Brings them to the front and answers how many they are. Flags tell of each, where there is memory for these; else
+// it is compared with those that are there and with those that arrived before it.
+fn arrivals_first(env: Env<'_>, value: &[Node<'_>], elements: &mut [Seg<'_>]) -> usize
     ensures { take result (segs_view elements.new)
-        ≡ spec.arrivals home.now (spec.joined (parts (nodes_view value.now))) (segs_view elements.old) }
+        ≡ spec.arrivals env.entry.home.now (spec.joined (parts (nodes_view value.now))) (segs_view elements.old) }
 {
-    let told = if elements.len() <= FEW {
-        None
-    } else {
-        arriving(alloc, home, value, elements).ok()
-    };
+    let told = arriving(env, value, elements).ok();
     let mut kept = 0;
     for i in 0..elements.len() {
         let seen = &elements[..];
         let arrives = match &told {
             Some(flags) => flags[i],
-            None => !is_among(home, value, &seen[..kept], &seen[i]),
+            None => !is_among(env.home, value, &seen[..kept], &seen[i]),
         };
         if arrives {
             elements.swap(kept, i);
@@ -65,18 +50,13 @@ fn arrivals_first(
 }
 
 // Which of many elements arrive, each looked up in a set of the labels that are there or came before it.
-fn arriving(
-    alloc: Global,
-    home: &Package,
-    value: &[Node<'_>],
-    elements: &[Seg<'_>],
-) -> Result<Vec<bool>, AllocError>
+fn arriving(env: Env<'_>, value: &[Node<'_>], elements: &[Seg<'_>]) -> Result<Vec<bool>, AllocError>
     ensures { IfOk result
         (λ arrive. arrive.items
-        ≡ flags home.now (spec.joined (parts (nodes_view value.now))) (segs_view elements.now)) }
+        ≡ flags env.entry.home.now (spec.joined (parts (nodes_view value.now))) (segs_view elements.now)) }
 {
-    let mut there = labels_in(alloc, home, Chosen::All, value)?;
-    let mut arrive = Vec::with_capacity(alloc, elements.len())?;
+    let mut there = labels_in(env.alloc, env.home, Chosen::All, value)?;
+    let mut arrive = Vec::with_capacity(env.alloc, elements.len())?;
     for i in 0..elements.len() {
         arrive.push(is_new(&elements[i], &mut there)?)?;
     }

@@ -219,15 +219,10 @@ pub(crate) fn in_args(
     ensures done { IfOk result (λ done. done ≡ spec.args_done command.now home.now (segs_view args.old.items)) }
     ensures err { OnErr result (segs_view args.new.items ≡ segs_view args.old.items) }
 {
+    let env = Env { alloc, home };
     match &command.action {
-        Action::Add(attr, values) => add(alloc, home, attr.as_str(), values.as_slice(), args),
-        Action::Remove(attributes, values) => remove(
-            alloc,
-            home,
-            attributes,
-            values.as_slice(),
-            args,
-        ),
+        Action::Add(attr, values) => add(env, attr.as_str(), values.as_slice(), args),
+        Action::Remove(attributes, values) => remove(env, attributes, values.as_slice(), args),
         Action::Set(Setting::ToValues(attr, values)) => {
             set(alloc, attr.as_str(), values.as_slice(), args)
         }
@@ -236,7 +231,7 @@ pub(crate) fn in_args(
         }
         Action::Rename(old, new) => rename(alloc, old.as_str(), new.as_str(), args),
         Action::Move(old, new, moved) => {
-            move_elements(alloc, home, old.as_str(), new.as_str(), moved, args)
+            move_elements(env, old.as_str(), new.as_str(), moved, args)
         }
         Action::Replace(attributes, old, new) => {
             replace(alloc, home, attributes, old.as_str(), new.as_str(), args)

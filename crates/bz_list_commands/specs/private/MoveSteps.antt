@@ -2,10 +2,10 @@
 use Rattle.std.specs.Prelude.{ℕ, List, [], ◌∷◌, ◌++◌, Bool, true, false, if◌then◌else◌, Option, Some, None}
 use Rattle.bz_tree.specs.Tree.{Item, Segment}
 use Rattle.bz_command.specs.Labels.{Package}
-use Rattle.bz_attribute.specs.Effects.{argument, edit_first, has, list_item}
+use Rattle.bz_attribute.specs.Effects.{argument, has, list_item}
 use Rattle.bz_attribute.specs.Lists.{edit_first_part, with_value}
-use Rattle.bz_attribute.specs.Rules.{first_named, is_named, string_value, value}
-use Rattle.bz_attribute.specs.Move.{arrivals, elements_of, is_among}
+use Rattle.bz_attribute.specs.Rules.{string_value, value}
+use Rattle.bz_attribute.specs.Move.{is_among}
 
 -- for each element whether it arrives, where `there` are the elements of the new list
 abbrev pub flags : Package → List Segment → List Segment → List Bool
@@ -27,10 +27,6 @@ value_of (Some a) = value a
 -- an argument with these elements at the end of its first list part
 abbrev pub with_more : List Segment → Segment → Segment
 with_more ss a = with_value (edit_first_part (λ there. there ++ ss) (value a)) a
-
--- of these elements, those that are not there yet came to the first argument of a name
-abbrev pub with_arrivals : Package → List ℕ → List Segment → List Segment → List Segment
-with_arrivals home attr ss args = edit_first (is_named attr) (λ a. with_more (arrivals home (elements_of (first_named attr args)) ss) a ∷ []) args
 
 -- with an empty list, where there is no such attribute
 abbrev pub with_list : List ℕ → List Segment → List Segment

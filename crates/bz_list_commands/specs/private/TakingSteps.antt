@@ -1,5 +1,5 @@
 -- For private clauses alone: chosen elements that leave a list, and the one that they come to.
-use Rattle.std.specs.Prelude.{◌≡◌, ℕ, ◌≤◌, ◌+◌, ◌++◌, List, Bool, filter, length}
+use Rattle.std.specs.Prelude.{◌≡◌, ◌≤◌, ◌+◌, ◌++◌, List, Bool, filter, length}
 use Rattle.std.specs.Global.{Vec}
 use Rattle.std.specs.Vec.{vec_len, vec_capacity}
 use Rattle.bz_tree.specs.declared.stmt.Seg.{Seg}
@@ -7,8 +7,6 @@ use Rattle.bz_tree.specs.Tree.{Segment}
 use Rattle.bz_tree.specs.View.{segs_view}
 use Rattle.bz_attribute.specs.private.ChosenViews.{chosen_view}
 use Rattle.bz_attribute.specs.Effects.{is_chosen, unchosen}
-use Rattle.bz_attribute.specs.Move.{moved_where}
-use Rattle.bz_attribute.specs.Move as spec
 use Rattle.bz_list_commands.specs.declared.taking.Choice.{Choice}
 
 abbrev pub is_meant : Choice → Segment → Bool
@@ -21,13 +19,6 @@ leave c ss = filter (is_meant c) ss
 -- the others
 abbrev pub stay : Choice → List Segment → List Segment
 stay c ss = unchosen c.home.now (chosen_view c.chosen) ss
-
--- what `move` does with those that are chosen
-abbrev pub moved : Choice → List ℕ → List ℕ → List Segment → List Segment
-moved c old new args = moved_where c.home.now old new (chosen_view c.chosen) args
-
-abbrev pub moves : Choice → List ℕ → List Segment → Bool
-moves c old args = spec.moves c.home.now old (chosen_view c.chosen) args
 
 abbrev pub HasRoom : Choice → List Segment → Vec Seg → Type 0
 HasRoom c ss taken = vec_len taken + length (leave c ss) ≤ vec_capacity taken

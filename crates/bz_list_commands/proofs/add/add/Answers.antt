@@ -9,7 +9,7 @@ use Rattle.bz_list_commands.proofs.add.add.Goals as goal
 
 pub returns-clause-args : goal.returns-clause-args
 returns-clause-args c =
-    let home = c.args.home.now in
+    let home = c.args.env.home.now in
     let attr = c.args.attr.now in
     let values = c.args.values.now in
     let args = segs_view c.args.args.now.items in
@@ -22,4 +22,4 @@ pub returns-clause-done : goal.returns-clause-done
 returns-clause-done c =
     let attr = c.args.attr.now in
     let none : first_named attr (segs_view c.args.args.now.items) ≡ None = ap (λ (ss : List Seg). first_named attr (segs_view ss)) (sym c.deref.ensures.value) ∙ c.in_default.ensures.none.none in
-    c.quiet.ensures ∙ sym (ap (λ (a : Option Segment). done (not_a_list attr a) (adds c.args.home.now c.args.values.now a)) none)
+    c.quiet.ensures ∙ sym (ap (λ (a : Option Segment). done (not_a_list attr a) (adds c.args.env.home.now c.args.values.now a)) none)

@@ -30,10 +30,10 @@ returns-clause-arg c =
     let a = seg_view c.args.arg.now in
     let read = value_read c.args.arg.now c.deref.result.now c.deref.ensures.value in
     let some : no_parts (parts (value a)) ≡ false = ap (λ (ns : List Item). no_parts (parts ns)) (sym read) ∙ c.in-Some.ensures.some.some in
-    let new : segs_view c.in_ok-new.new.items ≡ new_elements c.args.home.now (parts (value a)) c.args.values.now = c.in_ok-new.ensures ∙ ap (λ (ns : List Item). new_elements c.args.home.now (parts ns) c.args.values.now) read in
+    let new : segs_view c.in_ok-new.new.items ≡ new_elements c.args.env.home.now (parts (value a)) c.args.values.now = c.in_ok-new.ensures ∙ ap (λ (ns : List Item). new_elements c.args.env.home.now (parts ns) c.args.values.now) read in
     part_written (λ ss. ss ++ segs_view c.in_ok-new.new.items) c.args.arg.now c.deref.result.now c.in-Some.part c.append_in.new.node c.index_mut.result.now c.deref.ensures.value c.in-Some.ensures.some c.index_mut.ensures.value c.in_ok-append_in.ensures.ok
     ∙ (λ j. with_value (edit_first_part (λ ss. ss ++ new j) (value a)) a)
-    ∙ sym (ap (λ (b : Bool). if b then a else with_value (edit_first_part (λ ss. ss ++ new_elements c.args.home.now (parts (value a)) c.args.values.now) (value a)) a) some)
+    ∙ sym (ap (λ (b : Bool). if b then a else with_value (edit_first_part (λ ss. ss ++ new_elements c.args.env.home.now (parts (value a)) c.args.values.now) (value a)) a) some)
 
 pub returns-clause-done : goal.returns-clause-done
 returns-clause-done c =
@@ -42,14 +42,14 @@ returns-clause-done c =
     let some : no_parts (parts (value a)) ≡ false = ap (λ (ns : List Item). no_parts (parts ns)) (sym read) ∙ c.in-Some.ensures.some.some in
     let count : c.len-changed.result ≡ length c.in_ok-new.new.items = c.len-changed.ensures ∙ c.in_ok-new.new.ok.0 in
     c.quiet.ensures
-    ∙ ap (done None) (ap (nat_lt 0) count ∙ any_new _ _ (c.in_ok-new.ensures ∙ ap (λ (ns : List Item). new_elements c.args.home.now (parts ns) c.args.values.now) read))
-    ∙ sym (ap (λ (b : Bool). done (if b then Some (NotAList c.args.attr.now) else None) (not (is_nil (new_elements c.args.home.now (parts (value a)) c.args.values.now)))) some)
+    ∙ ap (done None) (ap (nat_lt 0) count ∙ any_new _ _ (c.in_ok-new.ensures ∙ ap (λ (ns : List Item). new_elements c.args.env.home.now (parts ns) c.args.values.now) read))
+    ∙ sym (ap (λ (b : Bool). done (if b then Some (NotAList c.args.attr.now) else None) (not (is_nil (new_elements c.args.env.home.now (parts (value a)) c.args.values.now)))) some)
 
 pub returns-in_err-append_in-clause-err : goal.returns-in_err-append_in-clause-err
 returns-in_err-append_in-clause-err c = on_err c.from_residual-in_err-append_in.result (part_stays c.args.arg.now c.deref.result.now c.in-Some.part c.append_in.new.node c.index_mut.result.now c.deref.ensures.value c.in-Some.ensures.some c.index_mut.ensures.value c.in_err-append_in.ensures.err)
 
 pub returns-in_default-clause-arg : goal.returns-in_default-clause-arg
-returns-in_default-clause-arg c = on_ok c.not_a_list.result (none_added c.args.home.now c.args.values.now (seg_view c.args.arg.now) (no_list c.args.arg.now c.deref.result.now c.deref.ensures.value c.in_default.ensures.none))
+returns-in_default-clause-arg c = on_ok c.not_a_list.result (none_added c.args.env.home.now c.args.values.now (seg_view c.args.arg.now) (no_list c.args.arg.now c.deref.result.now c.deref.ensures.value c.in_default.ensures.none))
 
 pub returns-in_default-clause-done : goal.returns-in_default-clause-done
-returns-in_default-clause-done c = if_ok c.not_a_list.result _ _ (none_told c.args.home.now c.args.attr.now c.args.values.now (seg_view c.args.arg.now) (no_list c.args.arg.now c.deref.result.now c.deref.ensures.value c.in_default.ensures.none)) c.not_a_list.ensures
+returns-in_default-clause-done c = if_ok c.not_a_list.result _ _ (none_told c.args.env.home.now c.args.attr.now c.args.values.now (seg_view c.args.arg.now) (no_list c.args.arg.now c.deref.result.now c.deref.ensures.value c.in_default.ensures.none)) c.not_a_list.ensures

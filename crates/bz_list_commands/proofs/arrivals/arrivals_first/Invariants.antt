@@ -8,6 +8,6 @@ use Rattle.bz_list_commands.proofs.arrivals.arrivals_first.Given as goal
 
 abbrev pub invariant-loop-i : goal.invariant-loop-i
 invariant-loop-i l = record {
-  arrived : Arrived l.home (joined (parts (nodes_view l.value))) l.initial.elements l.elements l.kept l.i;
-  told : IfSome l.told (λ flags. Tells l.home (joined (parts (nodes_view l.value))) l.kept l.i l.elements flags.items);
+  arrived : Arrived l.env.home.now (joined (parts (nodes_view l.value))) l.initial.elements l.elements l.kept l.i;
+  told : IfSome l.told (λ flags. Tells l.env.home.now (joined (parts (nodes_view l.value))) l.kept l.i l.elements flags.items);
 }

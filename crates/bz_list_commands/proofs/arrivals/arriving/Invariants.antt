@@ -9,6 +9,6 @@ use Rattle.bz_list_commands.proofs.arrivals.arriving.Given as goal
 
 abbrev pub invariant-loop-i : goal.invariant-loop-i
 invariant-loop-i l = record {
-  home : l.there.home.now ≡ l.home;
-  made : l.arrive.items ++ flags_by l.home (has l.there) (segs_view (drop l.i l.fn.elements)) ≡ flags l.home (joined (parts (nodes_view l.fn.value))) (segs_view l.fn.elements);
+  home : l.there.home.now ≡ l.env.home.now;
+  made : l.arrive.items ++ flags_by l.env.home.now (has l.there) (segs_view (drop l.i l.fn.elements)) ≡ flags l.env.home.now (joined (parts (nodes_view l.fn.value))) (segs_view l.fn.elements);
 }

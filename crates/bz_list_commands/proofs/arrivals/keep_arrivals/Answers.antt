@@ -11,4 +11,4 @@ returns-clause-items c =
     ap segs_view c.truncate.ensures.items
     ∙ ap (λ (ss : List Seg). segs_view (take c.arrivals_first-kept.result ss)) (with_items_is c.args.elements.now c.arrivals_first-kept.new.elements (omega (arith, c.arrivals_first-kept.auto.elements, c.deref_mut.ensures.len)))
     ∙ sym (take-map seg_view _ _) ∙ c.arrivals_first-kept.ensures
-    ∙ ap (λ (ss : List Seg). arrivals c.args.home.now (joined (parts (nodes_view c.args.value.now))) (segs_view ss)) c.deref_mut.ensures.value
+    ∙ ap (λ (ss : List Seg). arrivals c.args.env.home.now (joined (parts (nodes_view c.args.value.now))) (segs_view ss)) c.deref_mut.ensures.value

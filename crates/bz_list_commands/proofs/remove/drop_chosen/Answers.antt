@@ -1,19 +1,32 @@
-use Rattle.std.proofs.Common.{◌≡◌, List, None, Some, ap, sym, ◌∙◌}
-use Rattle.std.specs.List.{list_any}
-use Rattle.bz_tree.specs.declared.stmt.Seg.{Seg}
-use Rattle.bz_tree.specs.Tree.{Item}
-use Rattle.bz_tree.specs.View.{seg_view, segs_view}
-use Rattle.bz_attribute.specs.Rules.{first_named}
-use Rattle.bz_attribute.specs.Lists.{parts}
-use Rattle.bz_attribute.specs.Effects.{chooses_in, done, is_chosen}
+use Rattle.std.proofs.Common.{◌≡◌, List, [], ◌∷◌, Bool, true, false, ap, sym, ◌∙◌, if◌then◌else◌}
+use Rattle.bz_tree.specs.Tree.{Segment}
+use Rattle.bz_tree.specs.View.{seg_view}
+use Rattle.bz_attribute.specs.Rules.{value}
+use Rattle.bz_attribute.specs.Lists.{edit_parts, is_attribute, with_value}
+use Rattle.bz_attribute.specs.Effects.{filtered, loses_all, unchosen}
 use Rattle.bz_attribute.specs.private.ChosenViews.{chosen_view}
+use Rattle.bz_list_commands.specs.private.EditSteps.{left}
+use Rattle.bz_list_commands.proofs.Written.{attribute_long}
 use Rattle.bz_list_commands.proofs.remove.drop_chosen.Goals as goal
 
-pub returns-clause-done : goal.returns-clause-done
-returns-clause-done c = λ attr first.
-    let home = c.args.home.now in
-    let chosen = chosen_view c.args.chosen in
-    let read : first_named attr (segs_view c.args.args.now.items) ≡ Some (seg_view c.index.result.now) =
-    first.first c.index.result.now ∙ ap (λ (s : Seg). Some (seg_view s)) (sym c.index.ensures) in
-    c.quiet.ensures
-    ∙ ap (done None) (c.is_any_chosen-changed.ensures ∙ ap (λ (ns : List Item). list_any (list_any (is_chosen home chosen)) (parts ns)) c.value_of.ensures ∙ sym (ap (chooses_in home chosen) read))
+-- what is left of an attribute
+of_attribute : (f : List Segment → List Segment) (a : Segment) (goes : Bool) → is_attribute a ≡ true → loses_all f (value a) ≡ goes → (if goes then [] else with_value (edit_parts f (value a)) a ∷ []) ≡ left f a
+of_attribute f a goes there is = sym (ap (λ (b : Bool). if b then filtered f a else a ∷ []) there ∙ ap (λ (b : Bool). if b then [] else with_value (edit_parts f (value a)) a ∷ []) is)
+
+pub drop_in-requires : goal.drop_in-requires
+drop_in-requires c = attribute_long c.args.arg.now _ c.is_attribute.ensures c.if-not-is_attribute.false
+
+pub returns-then-not-is_attribute : goal.returns-then-not-is_attribute
+returns-then-not-is_attribute c =
+    let f = unchosen c.args.home.now (chosen_view c.args.chosen) in
+    let a = seg_view c.args.arg.now in
+    sym (ap (λ (b : Bool). if b then filtered f a else a ∷ []) (sym c.is_attribute.ensures ∙ c.if-not-is_attribute.true))
+
+pub returns-then-loses_all : goal.returns-then-loses_all
+returns-then-loses_all c =
+    of_attribute (unchosen c.args.home.now (chosen_view c.args.chosen)) (seg_view c.args.arg.now) true (sym c.is_attribute.ensures ∙ c.if-not-is_attribute.false) (sym c.loses_all.ensures ∙ c.if-loses_all.true)
+
+pub returns : goal.returns
+returns c =
+    ap (λ (s : Segment). s ∷ []) c.drop_in.ensures
+    ∙ of_attribute (unchosen c.args.home.now (chosen_view c.args.chosen)) (seg_view c.args.arg.now) false (sym c.is_attribute.ensures ∙ c.if-not-is_attribute.false) (sym c.loses_all.ensures ∙ c.if-loses_all.false)

@@ -1,25 +1,30 @@
-use Rattle.std.proofs.Common.{◌<◌, length, ap, ◌∙◌, arith}
-use Rattle.std.proofs.lemmas.List.{get_or_default}
+use Rattle.std.proofs.Common.{◌≡◌, List, [], ◌∷◌, Bool, ◌&&◌, if◌then◌else◌, refl, ap, sym, ◌∙◌, rules, tests}
+use Rattle.std.proofs.lemmas.Iterator.{YieldsList-from_slice}
+use Rattle.std.proofs.lemmas.Iterator.Search.{any_from_yields_List}
 use Rattle.bz_tree.specs.declared.stmt.Seg.{Seg}
-use Rattle.bz_tree.specs.View.{seg_view}
+use Rattle.bz_tree.specs.Tree.{Segment}
+use Rattle.bz_tree.specs.View.{seg_view, segs_view}
+use Rattle.bz_attribute.specs.Effects.{chooses, unchosen}
 use Rattle.bz_attribute.specs.Lists.{is_attribute}
+use Rattle.bz_attribute.specs.Remove.{chooses_anywhere}
 use Rattle.bz_attribute.specs.private.ChosenViews.{chosen_view}
-use Rattle.bz_attribute.specs.Effects.{unchosen}
-use Rattle.bz_list_commands.proofs.ArgEdits.{attribute_edited, attribute_passed}
-use Rattle.bz_list_commands.proofs.Written.{attribute_long}
+use Rattle.bz_attribute.proofs.Mapped.{list_any-map}
+use Rattle.bz_list_commands.specs.private.EditSteps.{left}
+use Rattle.bz_list_commands.proofs.ArgEdits.{left_in_turn}
 use Rattle.bz_list_commands.proofs.remove.drop_everywhere.Goals as goal
-use Rattle.bz_list_commands.proofs.remove.drop_everywhere.Goals.{then-is_attribute, else-is_attribute}
 
-pub drop_in-requires : goal.drop_in-requires
-drop_in-requires c =
-    let h : c.loop-i.i < length c.loop-i.args = omega (arith, c.loop-i-test.true, c.loop-i.auto.args) in
-    attribute_long _ _ (c.is_attribute.ensures ∙ ap (λ (z : Seg). is_attribute (seg_view z)) (get_or_default c.loop-i.args c.loop-i.i _ c.index-args-i-then-is_attribute.result h)) c.if-is_attribute.true
+pub returns-clause-args : goal.returns-clause-args
+returns-clause-args c =
+    let f : List Segment → List Segment = unchosen c.args.home.now (chosen_view c.args.chosen) in
+    left_in_turn _ (λ s. unchosen s.0.now (chosen_view s.1.now) ≡ f) (left f)
+    (λ s x b t y q h. (
+      (λ j. unchosen (h.called.met.0.0 j).now (chosen_view (h.called.met.0.1 j).now)) ∙ q,
+      ap (λ (z : Seg). if b then seg_view z ∷ [] else []) (sym h.leaves) ∙ h.called.met.1 ∙ (λ j. left (q j) (seg_view (h.shows j))),
+    ))
+    _ _ _ refl c.retain_mut.ensures.filtered
 
-pub loop-i-preserved : goal.loop-i-preserved
-loop-i-preserved c =
-    let f = unchosen c.args.home.now (chosen_view c.args.chosen) in
-    let h : c.loop-i.i < length c.loop-i.args = omega (arith, c.loop-i-test.true, c.loop-i.auto.args) in
-    elim c.if-is_attribute.branch [
-      | then-is_attribute w ↦ rw w.args-is (attribute_edited f c.loop-i.args c.loop-i.i w.drop_in.new.arg c.index-args-i.result w.index-args-i-then-is_attribute.result _ h c.is_attribute.ensures w.if-is_attribute.true w.drop_in.ensures ∙ c.loop-i.invariant)
-      | else-is_attribute w ↦ rw w.args-is (attribute_passed f c.loop-i.args c.loop-i.i c.index-args-i.result _ h c.is_attribute.ensures w.if-is_attribute.false ∙ c.loop-i.invariant)
-    ]
+pub returns-clause-changed : goal.returns-clause-changed
+returns-clause-changed c =
+    let test : Segment → Bool = λ a. is_attribute a && chooses c.args.home.now (chosen_view c.args.chosen) a in
+    any_from_yields_List (λ arg. test (seg_view arg)) _ _ c.any-changed.result c.any-changed.ensures.ran (YieldsList-from_slice c.deref.result.now cc) (λ x b q k. search (rules, tests))
+    ∙ sym (list_any-map seg_view test c.deref.result.now) ∙ ap (λ (ss : List Seg). chooses_anywhere c.args.home.now (chosen_view c.args.chosen) (segs_view ss)) c.deref.ensures.value
