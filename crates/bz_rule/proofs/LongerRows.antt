@@ -9,17 +9,20 @@ use Rattle.bz_tree.specs.Tree.{Item, leaf, group, Segment, Statement, items_of, 
 use Rattle.bz_tree.specs.View.{seg_view, segs_view}
 use Rattle.bz_tree.specs.declared.stmt.Seg.{Seg}
 use Rattle.bz_tree.specs.declared.row.Part.{Part}
+use Rattle.bz_tree.specs.declared.row.Row.{Row}
 use Rattle.bz_tree.specs.Rows.{part_view, RowPart, opening, closing, segment_end, above, beside_part, item_parts, items_parts, segs_parts, parts_of}
 use Rattle.bz_command.specs.Labels.{Package, Target, Name, Pkg, All, Kind as KindOf, Line}
 use Rattle.bz_rule.specs.Commands.{Command, after, args_after, args_done, done_of}
+use Rattle.bz_attribute.specs.Heads.{IsHeadOf}
+use Rattle.bz_attribute.specs.declared.head.Head.{Head}
 use Rattle.bz_attribute.specs.Marks.{marks, marks_if, marks_rule}
 use Rattle.bz_attribute.specs.Rules.{Rule, rule_of, name_of, ident_of, is_operator_item, is_text, is_named, first_named, name_in, string_in}
 use Rattle.bz_attribute.specs.Effects.{has, nodes_of, nodes_after, with_args, done_in}
 use Rattle.bz_attribute.specs.Texts.{shown_text, rule_text, home_text, name_or_kind}
 use Rattle.bz_attribute.proofs.RuleNodes.{rule_nodes}
-use Rattle.bz_rule.specs.LongerViews.{with_more}
+use Rattle.bz_rule.specs.RowViews.{row_statement, row_value, with_more}
 use Rattle.bz_rule.specs.private.Hollow.{is_end}
-use Rattle.bz_rule.specs.private.LongerRows.{HasName, Lacks, adds_to, is_word, besides, args_end, with_added}
+use Rattle.bz_rule.specs.private.LongerRows.{IsNamedRow, HasName, Lacks, adds_to, is_word, besides, args_end, with_added}
 use Rattle.bz_rule.proofs.Commands.{appends}
 use Rattle.bz_rule.proofs.PutBack.{rule_parts}
 use Rattle.bz_rule.proofs.Rebuilt.{rule_after, rule_with, with_args_twice, with_args_same}
@@ -59,6 +62,29 @@ shown_more home s more h =
     ap (rule_text home) (rule_more s more h.rule h.is)
     ∙ ap (λ (n : Option (List ℕ)). home_text home ++ name_or_kind n h.rule.kind) (name_more h.rule more h.first h.named)
     ∙ sym (ap (rule_text home) h.is)
+
+pub has_name : (row : Row) (head : Head) → IsNamedRow row head → HasName (row_statement (row_value row))
+has_name row head h = record { rule = h.named.rule; is = h.named.is; first = h.named.first; named = h.named.named }
+
+-- what the head of a row tells of the longer rule
+pub marks_longer : (target : Target) (row : Row) (head : Head) (more : List Segment) (s : Statement) (b : Bool) → IsNamedRow row head → with_more more (row_statement (row_value row)) ≡ s
+    → ((z : Statement) → IsHeadOf head z → b ≡ marks target z) → b ≡ marks target s
+marks_longer target row head more s b h is told =
+    told (row_statement (row_value row)) h.named ∙ sym (marks_more target (row_statement (row_value row)) more (has_name row head h)) ∙ ap (marks target) is
+
+pub name_longer : (name : List ℕ) (row : Row) (head : Head) (more : List Segment) (s : Statement) → IsNamedRow row head → with_more more (row_statement (row_value row)) ≡ s
+    → marks (Name name) s ≡ bytes_eq name head.name.now
+name_longer name row head more s h is =
+    ap (marks (Name name)) (sym is)
+    ∙ marks_more (Name name) (row_statement (row_value row)) more (has_name row head h)
+    ∙ ap (marks_if (Name name) row.start) h.named.is
+    ∙ ap (λ (first : Option Segment). is_text name (string_in first)) h.named.named
+    ∙ ap (is_text name) h.named.name_is
+
+pub shown_longer : (home : Package) (row : Row) (head : Head) (more : List Segment) (s : Statement) (text : List ℕ) → IsNamedRow row head → with_more more (row_statement (row_value row)) ≡ s
+    → ((z : Statement) → IsHeadOf head z → text ≡ shown_text home z) → text ≡ shown_text home s
+shown_longer home row head more s text h is told =
+    told (row_statement (row_value row)) h.named ∙ sym (shown_more home (row_statement (row_value row)) more (has_name row head h)) ∙ ap (shown_text home) is
 
 pub no_more : (s : Statement) → with_more [] s ≡ s
 no_more s = with_args_same (adding []) append-nil s

@@ -91,26 +91,38 @@ named_alike test other NoName same h = λ n. sym (same n) ∙ h n
 named_alike test other (Plain text) same h = λ n. sym (same n) ∙ h n
 named_alike test other Other same h = h
 
-either : (b : Bool) (o : Option (List Item)) → o ≡ (if b then o else o)
+-- what is found of an argument
+pub value_found : (vs : List Parts) (name : List ℕ) → value_for (all_apart vs) name ≡ option_map (λ v. (apart v).nodes) (parts_for vs name)
+value_found [] name = refl
+value_found (v ∷ vs) name =
+    elim (bytes_eq v.name name) as (λ b. (if b then Some (apart v).nodes else value_for (all_apart vs) name) ≡ option_map (λ u. (apart u).nodes) (if b then Some v else parts_for vs name)) [ true ↦ refl | false ↦ value_found vs name ]
+
+either : (b : Bool) (o : Option Parts) → o ≡ (if b then o else o)
 either true o = refl
 either false o = refl
 
--- the values of which the name passes
-chosen : (p : List ℕ → Bool) (vs : List Parts) (name : List ℕ) → value_for (all_apart (filter (λ v. p v.name) vs)) name ≡ (if p name then value_for (all_apart vs) name else None)
-chosen p [] name = either (p name) None
-chosen p (v ∷ vs) name =
-    elim (bytes_eq v.name name) as (λ b. bytes_eq v.name name ≡ b → value_for (all_apart (filter (λ u. p u.name) (v ∷ vs))) name ≡ (if p name then (if b then Some (apart v).nodes else value_for (all_apart vs) name) else None)) [
+-- of those whose name passes the first of a name is the same, or none
+parts_chosen : (p : List ℕ → Bool) (vs : List Parts) (name : List ℕ) → parts_for (filter (λ v. p v.name) vs) name ≡ (if p name then parts_for vs name else None)
+parts_chosen p [] name = either (p name) None
+parts_chosen p (v ∷ vs) name =
+    elim (bytes_eq v.name name) as (λ b. bytes_eq v.name name ≡ b → parts_for (filter (λ u. p u.name) (v ∷ vs)) name ≡ (if p name then (if b then Some v else parts_for vs name) else None)) [
       | true ↦ λ e.
-          elim (p v.name) as (λ q. p v.name ≡ q → value_for (all_apart (if q then v ∷ filter (λ u. p u.name) vs else filter (λ u. p u.name) vs)) name ≡ (if p name then Some (apart v).nodes else None)) [
+          elim (p v.name) as (λ q. p v.name ≡ q → parts_for (if q then v ∷ filter (λ u. p u.name) vs else filter (λ u. p u.name) vs) name ≡ (if p name then Some v else None)) [
             | true ↦ λ k. let yes : p name ≡ true = ap p (sym (same_bytes v.name name e)) ∙ k in rw (e, yes) refl
-            | false ↦ λ k. let no : p name ≡ false = ap p (sym (same_bytes v.name name e)) ∙ k in rw (chosen p vs name, no) refl
+            | false ↦ λ k. let no : p name ≡ false = ap p (sym (same_bytes v.name name e)) ∙ k in rw (parts_chosen p vs name, no) refl
           ] refl
       | false ↦ λ e.
-          elim (p v.name) as (λ q. value_for (all_apart (if q then v ∷ filter (λ u. p u.name) vs else filter (λ u. p u.name) vs)) name ≡ (if p name then value_for (all_apart vs) name else None)) [
-            | true ↦ rw e (chosen p vs name)
-            | false ↦ chosen p vs name
+          elim (p v.name) as (λ q. parts_for (if q then v ∷ filter (λ u. p u.name) vs else filter (λ u. p u.name) vs) name ≡ (if p name then parts_for vs name else None)) [
+            | true ↦ rw e (parts_chosen p vs name)
+            | false ↦ parts_chosen p vs name
           ]
     ] refl
+
+chosen : (p : List ℕ → Bool) (vs : List Parts) (name : List ℕ) → value_for (all_apart (filter (λ v. p v.name) vs)) name ≡ (if p name then value_for (all_apart vs) name else None)
+chosen p vs name =
+    value_found (filter (λ v. p v.name) vs) name
+    ∙ ap (option_map (λ v. (apart v).nodes)) (parts_chosen p vs name)
+    ∙ elim (p name) as (λ b. option_map (λ v. (apart v).nodes) (if b then parts_for vs name else None) ≡ (if b then value_for (all_apart vs) name else None)) [ true ↦ sym (value_found vs name) | false ↦ refl ]
 
 filled_again : (us : List Apart) (b : List (List ℕ)) (xs : List Item) (s : Option (List ℕ)) (name : List ℕ) (nodes : Option (List Item)) → name_of xs ≡ Some name → value_for us name ≡ None → is_empty (drop 2 xs) ≡ true
     → filled us (with_nodes nodes (with_them b xs s)) ≡ with_nodes nodes (with_them b xs s)
@@ -182,12 +194,6 @@ none_mentioned command (v ∷ vs) h attr m =
 pub none_read : (command : Command) (vs : List Parts) (s : Statement) → AreApart vs → list_any (λ v. mentions command v.name) vs ≡ false → IsRead command vs s s vs
 none_read command vs s h none = record { same = refl; none = none_mentioned command vs none; are_apart = h }
 
--- what is found of an argument
-pub value_found : (vs : List Parts) (name : List ℕ) → value_for (all_apart vs) name ≡ option_map (λ v. (apart v).nodes) (parts_for vs name)
-value_found [] name = refl
-value_found (v ∷ vs) name =
-    elim (bytes_eq v.name name) as (λ b. (if b then Some (apart v).nodes else value_for (all_apart vs) name) ≡ option_map (λ u. (apart u).nodes) (if b then Some v else parts_for vs name)) [ true ↦ refl | false ↦ value_found vs name ]
-
 found_apart : (vs : List Parts) (name : List ℕ) (v : Parts) → AreApart vs → parts_for vs name ≡ Some v → IsApart v
 found_apart [] name v h is = absurd cc
 found_apart (u ∷ vs) name v h is =
@@ -209,6 +215,31 @@ none_found vs b xs s h =
 -- with no value to be put back an argument stays
 pub stays_unfilled : (vs : List Parts) (a : Segment) → found vs a ≡ None → filled (all_apart vs) a ≡ a
 stays_unfilled vs a h = none_found vs a.before a.nodes a.suffix h
+
+abbrev pub kept : (List ℕ → Bool) → Option Parts → Option Parts
+kept p None = None
+kept p (Some v) = if p v.name then Some v else None
+
+named_so : (vs : List Parts) (name : List ℕ) (v : Parts) → parts_for vs name ≡ Some v → v.name ≡ name
+named_so [] name v h = absurd cc
+named_so (u ∷ vs) name v h =
+    elim (bytes_eq u.name name) as (λ b. bytes_eq u.name name ≡ b → (if b then Some u else parts_for vs name) ≡ Some v → v.name ≡ name) [
+      | true ↦ λ e k. let same : u ≡ v = cc in sym (ap (λ (w : Parts). w.name) same) ∙ same_bytes u.name name e
+      | false ↦ λ e k. named_so vs name v k
+    ] refl h
+
+-- of those whose name passes the same is found, or none
+pub found_kept : (p : List ℕ → Bool) (vs : List Parts) (a : Segment) → found (filter (λ v. p v.name) vs) a ≡ kept p (found vs a)
+found_kept p vs a =
+    let named : (name : List ℕ) → parts_for (filter (λ v. p v.name) vs) name ≡ kept p (parts_for vs name) = λ name.
+    parts_chosen p vs name ∙ elim (parts_for vs name) as (λ o. parts_for vs name ≡ o → (if p name then o else None) ≡ kept p o) [
+      | None ↦ λ e. sym (either (p name) None)
+      | Some v ↦ λ e. ap (λ (n : List ℕ). if p n then Some v else None) (sym (named_so vs name v e))
+    ] refl in
+    elim (is_empty (value a)) as (λ b. (if b then parts_named (filter (λ v. p v.name) vs) (name_of a.nodes) else None) ≡ kept p (if b then parts_named vs (name_of a.nodes) else None)) [
+      | true ↦ elim (name_of a.nodes) as (λ o. parts_named (filter (λ v. p v.name) vs) o ≡ kept p (parts_named vs o)) [ None ↦ refl | Some name ↦ named name ]
+      | false ↦ refl
+    ]
 
 -- with one its nodes are more
 pub record IsFilled (vs : List Parts) (a : Segment) (v : Parts) : Type 0 where

@@ -1,10 +1,8 @@
 pub mod Aside
 pub mod Commands
 pub mod LazyViews
-pub mod LongerViews
 pub mod OwnComments
 pub mod RowViews
 pub mod Shallow
-pub mod ShallowViews
 pub mod WellFormedSegments
 pub mod private

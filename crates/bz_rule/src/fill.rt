@@ -1,33 +1,18 @@
 //! Values that stand apart, put back where they are asked for.
 
-ghost use Rattle.std.specs.Prelude.{◌≡◌, ◌++◌, IfOk, OnOk, map, filter, not, option_map};
-ghost use Rattle.bz_rule.specs.Commands.{mentions};
-ghost use Rattle.bz_tree.specs.FromParts.{nodes_of_parts};
-ghost use Rattle.bz_tree.specs.Rows.{part_view};
+ghost use Rattle.std.specs.Prelude.{◌≡◌, ◌++◌, OnOk, map, option_map};
 ghost use Rattle.bz_tree.specs.View.{node_view, nodes_view, seg_view, segs_view, view};
 ghost use Rattle.bz_attribute.specs.Rules.{rule_of};
 ghost use Rattle.bz_attribute.specs.Lists.{edit_list};
 ghost use Rattle.bz_attribute.specs.Effects.{nodes_after};
 ghost use Rattle.bz_rule.specs.Shallow.{filled};
-ghost use Rattle.bz_rule.specs.private.Hollow.{all_apart, parts_view, parts_for, found, is_mentioned, IsRead};
+ghost use Rattle.bz_rule.specs.private.Hollow.{all_apart, asked, parts_view, found, AreApart, IsRead};
 
 use crate::command::Command;
-use crate::values::{Unread, Values};
+use crate::hollow::Unread;
 use bz_attribute::{call_at, name_of, value_of};
-use bz_tree::{Node, Part, Seg, Stmt, nodes_of_parts};
+use bz_tree::{Node, Seg, Stmt, nodes_of_parts};
 use std::alloc::{AllocError, Global};
-
-// The first value of a name.
-fn value_named<'a>(unread: &[Unread<'a>], name: &str) -> Option<Unread<'a>>
-    ensures { option_map parts_view result ≡ parts_for (map parts_view unread.now) name.now }
-{
-    for value in unread {
-        if value.name == name {
-            return Some(*value);
-        }
-    }
-    None
-}
 
 /// The value of an argument that has none, if it stands apart.
 pub(crate) fn unread_value<'a>(arg: &Seg<'_>, unread: &[Unread<'a>]) -> Option<Unread<'a>>
@@ -36,147 +21,85 @@ pub(crate) fn unread_value<'a>(arg: &Seg<'_>, unread: &[Unread<'a>]) -> Option<U
     if !value_of(arg).is_empty() {
         return None;
     }
-    match name_of(&arg.nodes) {
-        None => None,
-        Some(name) => value_named(unread, name),
+    let name = name_of(&arg.nodes)?;
+    for value in unread {
+        if value.name == name {
+            return Some(*value);
+        }
     }
+    None
 }
 
-// The nodes of these parts come after those that are there.
-fn add_nodes<'a>(
+fn fill_arg<'a>(
     alloc: Global,
-    nodes: &mut Vec<Node<'a>>,
-    parts: &[Part<'a>],
+    command: &Command,
+    arg: &mut Seg<'a>,
+    unread: &[Unread<'a>],
 ) -> Result<(), AllocError>
-    ensures { OnOk result (nodes_view nodes.new.items
-        ≡ nodes_view nodes.old.items ++ nodes_of_parts (map part_view parts.now)) }
+    ensures { OnOk result (seg_view arg.new
+        ≡ filled (all_apart (asked command.now (map parts_view unread.now))) (seg_view arg.old)) }
 {
-    let mut more = nodes_of_parts(alloc, parts)?;
-    nodes.append(&mut more)?;
-    Ok(())
-}
-
-fn fill_arg<'a>(alloc: Global, arg: &mut Seg<'a>, unread: &[Unread<'a>]) -> Result<(), AllocError>
-    ensures { OnOk result
-        (seg_view arg.new ≡ filled (all_apart (map parts_view unread.now)) (seg_view arg.old)) }
-{
-    match unread_value(arg, unread) {
-        None => Ok(()),
-        Some(value) => add_nodes(alloc, &mut arg.nodes, value.parts),
+    let Some(value) = unread_value(arg, unread) else {
+        return Ok(());
+    };
+    if !command.mentions(value.name) {
+        return Ok(());
     }
+    let mut nodes = nodes_of_parts(alloc, value.parts)?;
+    arg.nodes.append(&mut nodes)?;
+    Ok(())
 }
 
 fn fill_args<'a>(
     alloc: Global,
+    command: &Command,
     args: &mut Vec<Seg<'a>>,
     unread: &[Unread<'a>],
 ) -> Result<(), AllocError>
     ensures { OnOk result (segs_view args.new.items
-        ≡ map (filled (all_apart (map parts_view unread.now))) (segs_view args.old.items)) }
+        ≡ map (filled (all_apart (asked command.now (map parts_view unread.now)))) (segs_view args.old.items)) }
 {
     for i in 0..args.len() {
-        fill_arg(alloc, &mut args[i], unread)?;
+        fill_arg(alloc, command, &mut args[i], unread)?;
     }
     Ok(())
 }
 
-fn fill_call<'a>(
-    alloc: Global,
-    call: &mut Node<'a>,
-    unread: &[Unread<'a>],
-) -> Result<(), AllocError>
-    ensures { OnOk result (node_view call.new
-        ≡ edit_list (map (filled (all_apart (map parts_view unread.now)))) (node_view call.old)) }
-{
-    match call {
-        Node::Token(_) => Ok(()),
-        Node::Group(group) => fill_args(alloc, &mut group.segs, unread),
-    }
-}
-
-// Each argument of a rule without a value gets the one that stands apart by its name.
+// Each argument of a rule that has no value and that the command mentions gets the one that stands apart by its name.
 fn fill_nodes<'a>(
     alloc: Global,
+    command: &Command,
     nodes: &mut Vec<Node<'a>>,
     unread: &[Unread<'a>],
 ) -> Result<(), AllocError>
     ensures { OnOk result (nodes_view nodes.new.items
-        ≡ nodes_after (map (filled (all_apart (map parts_view unread.now)))) (nodes_view nodes.old.items)
+        ≡ nodes_after (map (filled (all_apart (asked command.now (map parts_view unread.now))))) (nodes_view nodes.old.items)
         (rule_of (nodes_view nodes.old.items))) }
 {
-    match call_at(nodes) {
-        None => Ok(()),
-        Some(call) => fill_call(alloc, &mut nodes[call], unread),
+    let Some(call) = call_at(nodes) else {
+        return Ok(());
+    };
+    match &mut nodes[call] {
+        Node::Token(_) => Ok(()),
+        Node::Group(group) => fill_args(alloc, command, &mut group.segs, unread),
     }
 }
 
-/// Puts back the values of the arguments that a command mentions, and gives those that still stand apart.
+/// Puts back the values of the arguments that a command mentions.
 pub(crate) fn read_mentioned<'a>(
     alloc: Global,
     command: &Command,
     stmt: &mut Stmt<'a>,
-    values: Values<'a>,
-) -> Result<Values<'a>, AllocError>
-    ensures { IfOk result (λ left. IsRead command.now values.entry (view stmt.old) (view stmt.new) left) }
-{
-    let unread = values.as_slice();
-    if !is_mentioned(command, unread) {
-        return Ok(values);
-    }
-    let (mentioned, others) = split(alloc, command, unread)?;
-    fill_nodes(alloc, &mut stmt.nodes, &mentioned)?;
-    Ok(Values::new(others))
-}
-
-// Some value is of an argument that the command mentions.
-fn is_mentioned(command: &Command, unread: &[Unread<'_>]) -> bool
-    ensures { result ≡ is_mentioned command.now (map parts_view unread.now) }
-{
-    for value in unread {
-        if command.mentions(value.name) {
-            return true;
-        }
-    }
-    false
-}
-
-// The values of arguments that a command mentions, and the others.
-fn split<'a>(
-    alloc: Global,
-    command: &Command,
-    unread: &[Unread<'a>],
-) -> Result<(Vec<Unread<'a>>, Vec<Unread<'a>>), AllocError>
-    ensures mentioned { IfOk result (λ two. map parts_view two.0.items
-        ≡ filter (λ v. mentions command.now v.name) (map parts_view unread.now)) }
-    ensures others { IfOk result (λ two. map parts_view two.1.items
-        ≡ filter (λ v. not (mentions command.now v.name)) (map parts_view unread.now)) }
-{
-    let mut mentioned = Vec::new(alloc);
-    let mut others = Vec::with_capacity(alloc, unread.len())?;
-    split_into(command, unread, &mut mentioned, &mut others)?;
-    Ok((mentioned, others))
-}
-
-// Each value comes after those that the command mentions, or after the others.
-fn split_into<'a>(
-    command: &Command,
-    unread: &[Unread<'a>],
-    mentioned: &mut Vec<Unread<'a>>,
-    others: &mut Vec<Unread<'a>>,
+    unread: &mut Vec<Unread<'a>>,
 ) -> Result<(), AllocError>
-    ensures mentioned { OnOk result (map parts_view mentioned.new.items
-        ≡ map parts_view mentioned.old.items
-        ++ filter (λ v. mentions command.now v.name) (map parts_view unread.now)) }
-    ensures others { OnOk result (map parts_view others.new.items
-        ≡ map parts_view others.old.items
-        ++ filter (λ v. not (mentions command.now v.name)) (map parts_view unread.now)) }
+    requires { AreApart (map parts_view unread.old.items) }
+    ensures { OnOk result (IsRead command.now (map parts_view unread.old.items) (view stmt.old)
+        (view stmt.new) (map parts_view unread.new.items)) }
 {
-    for value in unread {
-        if command.mentions(value.name) {
-            mentioned.push(*value)?;
-        } else {
-            others.push(*value)?;
-        }
+    if !unread.iter().any(|value| command.mentions(value.name)) {
+        return Ok(());
     }
+    fill_nodes(alloc, command, &mut stmt.nodes, unread)?;
+    unread.retain(|value| !command.mentions(value.name));
     Ok(())
 }

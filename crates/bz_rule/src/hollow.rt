@@ -5,7 +5,6 @@ ghost use Rattle.std.specs.List.{list_any};
 ghost use Rattle.bz_tree.specs.Rows.{part_view};
 ghost use Rattle.bz_rule.specs.private.Hollow.{parts_view, option_parts, spot, walk, put, pass, sound_after, is_end, is_equals, is_of, lacks_value, has_long_value, may_go, after_name, begun, inside_next, in_argument, before, ended, goes_on, goes_in, next_depth, passed, equals, step_at, run, start};
 
-use crate::values::Unread;
 use bz_token::Kind;
 use bz_tree::{GroupKind, Part};
 use std::alloc::{AllocError, Global};
@@ -15,6 +14,13 @@ const MOST_APART: usize = 16;
 
 // Few rules have more parts without those.
 const MOST_KEPT: usize = 40;
+
+/// The value of an argument, as the parts that it was read from.
+#[derive(Clone, Copy)]
+pub(crate) struct Unread<'a> {
+    pub(crate) name: &'a str,
+    pub(crate) parts: &'a [Part<'a>],
+}
 
 /// Where the walk stands.
 #[derive(Clone, Copy)]
@@ -77,45 +83,14 @@ fn has_long_value(rest: &[Part<'_>]) -> bool
     }
 }
 
-#[inline(always)]
-fn inside_next<'a>(
-    left: Option<Unread<'a>>,
-    depth: usize,
-    part: Part<'a>,
-) -> Result<Place<'a>, AllocError>
-    ensures { IfOk result (λ place. spot place ≡ inside_next (option_parts left.entry) depth (part_view part.entry)) }
-{
-    match part {
-        Part::Open(_) => {
-            // No memory holds so many brackets.
-            let Some(inner) = depth.checked_add(1) else {
-                return Err(AllocError);
-            };
-            Ok(Place::Inside(left, inner))
-        }
-        Part::Close(_) => {
-            if depth == 0 {
-                return Ok(Place::Outside);
-            }
-            Ok(Place::Inside(left, depth - 1))
-        }
-        _ => Ok(Place::Inside(left, depth)),
-    }
-}
-
-// How many brackets are open after a part of a value, none where the part is not of the value.
+// How many brackets are open after a part of an argument, none where the part is not of the argument.
 #[inline(always)]
 fn next_depth(depth: usize, part: &Part<'_>) -> Result<Option<usize>, AllocError>
     ensures { IfOk result (λ next. next ≡ next_depth depth (part_view part.now)) }
 {
     match part {
-        Part::Open(_) => {
-            // No memory holds so many brackets.
-            let Some(inner) = depth.checked_add(1) else {
-                return Err(AllocError);
-            };
-            Ok(Some(inner))
-        }
+        // No memory holds so many brackets.
+        Part::Open(_) => Ok(Some(depth.checked_add(1).ok_or(AllocError)?)),
         Part::Close(_) => Ok(depth.checked_sub(1)),
         Part::End if depth == 0 => Ok(None),
         _ => Ok(Some(depth)),
@@ -137,29 +112,11 @@ fn pass_value(parts: &[Part<'_>]) -> Result<(usize, usize), AllocError>
     Ok((depth, parts.len()))
 }
 
-// Of the value that begins with the parts what stands before an end after which these are left.
-fn value_before<'a>(value: Unread<'a>, rest: &[Part<'_>]) -> Unread<'a>
-    ensures name { result.name.now ≡ value.entry.name.now }
-    ensures parts { map part_view result.parts.now ≡ before (map part_view value.entry.parts.now) (map part_view rest.now) }
-{
-    let Unread { name, parts } = value;
-    let len = parts.len().saturating_sub(rest.len()).saturating_sub(1);
-    Unread {
-        name,
-        parts: &parts[..len],
-    }
-}
-
 // A value of this name stands apart.
 fn has_value_of(unread: &[Unread<'_>], name: &str) -> bool
     ensures { result ≡ list_any (is_of name.now) (map parts_view unread.now) }
 {
-    for value in unread {
-        if value.name == name {
-            return true;
-        }
-    }
-    false
+    unread.iter().any(|value| value.name == name)
 }
 
 impl<'a> Hollow<'a> {
@@ -219,7 +176,7 @@ impl<'a> Hollow<'a> {
         }
     }
 
-    // A segment ends, and these parts are left.
+    // A segment ends, and these parts are left. A value that is taken apart began with the parts before the end.
     fn end(&mut self, left: Option<Unread<'a>>, rest: &'a [Part<'a>]) -> Result<(), AllocError>
         ensures { OnOk result
             (walk self.new ≡ ended (option_parts left.entry) (map part_view rest.now) (walk self.old)) }
@@ -227,7 +184,16 @@ impl<'a> Hollow<'a> {
         let Some(value) = left else {
             return self.put(Part::End, Place::Begin);
         };
-        self.unread.push(value_before(value, rest))?;
+        let len = value
+            .parts
+            .len()
+            .saturating_sub(rest.len())
+            .saturating_sub(1);
+        let parts = &value.parts[..len];
+        self.unread.push(Unread {
+            name: value.name,
+            parts,
+        })?;
         self.put(Part::End, Place::Begin)
     }
 
@@ -245,7 +211,10 @@ impl<'a> Hollow<'a> {
         if is_end(part) && depth == 0 {
             return self.end(left, rest);
         }
-        let place = inside_next(left, depth, part)?;
+        let place = match next_depth(depth, &part)? {
+            None => Place::Outside,
+            Some(next) => Place::Inside(left, next),
+        };
         match left {
             None => self.put(part, place),
             Some(_) => {

@@ -1,6 +1,6 @@
 //! A statement of which no more is read than commands look at.
 
-ghost use Rattle.std.specs.Prelude.{◌≡◌, ◌++◌, IfOk, IfSome, IfNone, OnOk, OnErr, Some, string_bytes, option_map};
+ghost use Rattle.std.specs.Prelude.{◌≡◌, ◌++◌, IfOk, OnOk, OnErr, string_bytes};
 ghost use Rattle.bz_tree.specs.Tree.{Statement};
 ghost use Rattle.bz_tree.specs.View.{view};
 ghost use Rattle.bz_tree.specs.Statement.{class_of};
@@ -10,15 +10,12 @@ ghost use Rattle.bz_attribute.specs.Marks as marks;
 ghost use Rattle.bz_attribute.specs.Texts.{shown_text};
 ghost use Rattle.bz_layout.specs.Layout.{layout_text};
 ghost use Rattle.bz_rule.specs.Commands as commands;
-ghost use Rattle.bz_rule.specs.LongerViews.{longer_view};
-ghost use Rattle.bz_rule.specs.ShallowViews.{shallow_view, shallow_slot};
 ghost use Rattle.bz_rule.specs.LazyViews.{lazy_view, lazy_slot};
 
-use crate::command::{Action, Command};
+use crate::command::Command;
 use crate::longer::LongerRow;
-use crate::named_row::NamedRow;
-use crate::shallow::{ShallowStmt, apply_shallow};
-use bz_attribute::{Done, Executed, RuleName};
+use crate::shallow::ShallowStmt;
+use bz_attribute::{Done, Executed, RuleName, matches, rule_name, shown};
 use bz_command::{Package, Target};
 use bz_tree::{Class, Row, Stmt};
 use std::alloc::{AllocError, Global};
@@ -44,8 +41,8 @@ impl<'a> LazyStmt<'a> {
         requires { (s : Statement) × ((s.class ≡ class_of s.nodes) × IsRowOf s row.now) }
         ensures { IfOk result (λ read. (s : Statement) → s.class ≡ class_of s.nodes → IsRowOf s row.now → lazy_view read ≡ s) }
     {
-        if let Some(named) = NamedRow::of_row(row) {
-            return Ok(LazyStmt::Row(LongerRow::new(alloc, named)));
+        if let Some(longer) = LongerRow::of_row(alloc, row) {
+            return Ok(LazyStmt::Row(longer));
         }
         let read = ShallowStmt::of_row(alloc, row)?;
         Ok(LazyStmt::Read(read))
@@ -55,8 +52,8 @@ impl<'a> LazyStmt<'a> {
         ensures { result ≡ (lazy_view self.now).class }
     {
         match self {
-            LazyStmt::Row(row) => row.class(),
-            LazyStmt::Read(stmt) => stmt.class(),
+            LazyStmt::Row(longer) => longer.row.class,
+            LazyStmt::Read(read) => read.stmt.class,
         }
     }
 
@@ -65,8 +62,8 @@ impl<'a> LazyStmt<'a> {
         ensures { result ≡ marks.marks target.now (lazy_view self.now) }
     {
         match self {
-            LazyStmt::Row(row) => row.is_marked_by(target),
-            LazyStmt::Read(stmt) => stmt.is_marked_by(target),
+            LazyStmt::Row(longer) => longer.head.is_marked_by(target),
+            LazyStmt::Read(read) => matches(target, &read.stmt),
         }
     }
 
@@ -75,8 +72,8 @@ impl<'a> LazyStmt<'a> {
         ensures { marks.IsNamed (λ name. marks.marks (Name name) (lazy_view self.now)) result }
     {
         match self {
-            LazyStmt::Row(row) => row.rule_name(),
-            LazyStmt::Read(stmt) => stmt.rule_name(),
+            LazyStmt::Row(longer) => RuleName::Plain(longer.head.name),
+            LazyStmt::Read(read) => rule_name(&read.stmt),
         }
     }
 
@@ -85,8 +82,8 @@ impl<'a> LazyStmt<'a> {
         ensures { IfOk result (λ text. string_bytes text ≡ shown_text home.now (lazy_view self.now)) }
     {
         match self {
-            LazyStmt::Row(row) => row.shown(alloc, home),
-            LazyStmt::Read(stmt) => stmt.shown(alloc, home),
+            LazyStmt::Row(longer) => longer.head.shown(alloc, home),
+            LazyStmt::Read(read) => shown(alloc, home, &read.stmt),
         }
     }
 
@@ -97,18 +94,18 @@ impl<'a> LazyStmt<'a> {
         ensures unchanged { OnErr result (out.new.items ≡ out.old.items) }
     {
         match self {
-            LazyStmt::Row(row) => row.put(alloc, out),
-            LazyStmt::Read(stmt) => stmt.put(alloc, out),
+            LazyStmt::Row(longer) => longer.put(alloc, out),
+            LazyStmt::Read(read) => read.put(alloc, out),
         }
     }
 
     // The statement, as far as commands look at it.
     fn read(self, alloc: Global) -> Result<ShallowStmt<'a>, AllocError>
-        ensures { IfOk result (λ read. shallow_view read ≡ lazy_view self.entry) }
+        ensures { IfOk result (λ read. read ≡ lazy_view self.entry) }
     {
         match self {
-            LazyStmt::Row(row) => row.read(alloc),
-            LazyStmt::Read(stmt) => Ok(stmt),
+            LazyStmt::Row(longer) => longer.read(alloc),
+            LazyStmt::Read(read) => Ok(read),
         }
     }
 }
@@ -124,74 +121,15 @@ pub fn apply_lazy(
     ensures slot { OnOk result (lazy_slot slot.new ≡ commands.after command.now home.now (lazy_slot slot.old)) }
     ensures done { IfOk result (λ done. done ≡ commands.done_of command.now home.now (lazy_slot slot.old)) }
 {
-    match by_row(alloc, command, home, slot)? {
-        Some(done) => Ok(done),
-        None => apply_read(alloc, command, home, slot),
+    if let Some(LazyStmt::Row(longer)) = slot {
+        if let Some(done) = longer.apply(alloc, command, home)? {
+            return Ok(done);
+        }
     }
-}
-
-// What a command does to a statement that is no more than a row. None: it may be another, and nothing was done.
-fn by_row(
-    alloc: Global,
-    command: &Command,
-    home: &Package,
-    slot: &mut Option<LazyStmt<'_>>,
-) -> Result<Option<Done>, AllocError>
-    ensures slot { IfOk result (λ told. IfSome told (λ done.
-        lazy_slot slot.new ≡ commands.after command.now home.now (lazy_slot slot.old))) }
-    ensures done { IfOk result (λ told. IfSome told (λ done.
-        done ≡ commands.done_of command.now home.now (lazy_slot slot.old))) }
-    ensures same { IfOk result (λ told. IfNone told (lazy_slot slot.new ≡ lazy_slot slot.old)) }
-{
-    match slot {
-        Some(LazyStmt::Row(row)) => on_row(alloc, command, home, row),
-        _ => Ok(None),
-    }
-}
-
-// A command that changes nothing looks at the head alone, or one adds arguments after those of the row.
-fn on_row(
-    alloc: Global,
-    command: &Command,
-    home: &Package,
-    row: &mut LongerRow<'_>,
-) -> Result<Option<Done>, AllocError>
-    ensures rule { IfOk result (λ told. IfSome told (λ done.
-        Some (longer_view row.new) ≡ commands.after command.now home.now (Some (longer_view row.old)))) }
-    ensures done { IfOk result (λ told. IfSome told (λ done.
-        done ≡ commands.done_of command.now home.now (Some (longer_view row.old)))) }
-    ensures same { IfOk result (λ told. IfNone told (longer_view row.new ≡ longer_view row.old)) }
-{
-    match &command.action {
-        Action::Print(fields) => row.print(alloc, home, fields.as_slice()),
-        _ => row.set(alloc, command, home),
-    }
-}
-
-// The same to a statement that is read.
-fn apply_read(
-    alloc: Global,
-    command: &Command,
-    home: &Package,
-    slot: &mut Option<LazyStmt<'_>>,
-) -> Executed
-    ensures slot { OnOk result (lazy_slot slot.new ≡ commands.after command.now home.now (lazy_slot slot.old)) }
-    ensures done { IfOk result (λ done. done ≡ commands.done_of command.now home.now (lazy_slot slot.old)) }
-{
-    let mut read = read_slot(alloc, slot.take())?;
-    let done = apply_shallow(alloc, command, home, &mut read);
-    *slot = read.map(LazyStmt::Read);
-    done
-}
-
-fn read_slot<'a>(
-    alloc: Global,
-    slot: Option<LazyStmt<'a>>,
-) -> Result<Option<ShallowStmt<'a>>, AllocError>
-    ensures { IfOk result (λ read. shallow_slot read ≡ lazy_slot slot.entry) }
-{
-    match slot {
-        None => Ok(None),
-        Some(stmt) => Ok(Some(stmt.read(alloc)?)),
-    }
+    let Some(stmt) = slot.take() else {
+        return Ok(Done::quiet(false));
+    };
+    let (left, done) = stmt.read(alloc)?.apply(alloc, command, home)?;
+    *slot = left.map(LazyStmt::Read);
+    Ok(done)
 }

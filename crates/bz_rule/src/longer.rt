@@ -1,43 +1,56 @@
-//! A rule's row, and arguments that come after its own: what `set` adds is written without a tree.
+//! A rule of which its row and its head are known, and no tree, and arguments that come after its own: what `set` adds
+//! is written without a tree.
 
-ghost use Rattle.std.specs.Prelude.{◌≡◌, ◌≤◌, ◌++◌, ◌∷◌, [], IfOk, IfSome, IfNone, OnOk, OnErr, Some, false, true, length, map, string_bytes};
+ghost use Rattle.std.specs.Prelude.{◌≡◌, ◌≤◌, ◌++◌, ◌∷◌, [], IfOk, IfSome, IfNone, OnOk, OnErr, Some, length, map};
 ghost use Rattle.std.specs.List.{list_any};
 ghost use Rattle.bz_tree.specs.Tree.{Statement, segs_of};
-ghost use Rattle.bz_tree.specs.View.{node_view, nodes_view, seg_view, segs_view};
-ghost use Rattle.bz_tree.specs.Rows.{part_view, parts_of, segs_parts};
-ghost use Rattle.bz_command.specs.Labels.{Name};
-ghost use Rattle.bz_attribute.specs.Marks as marks;
+ghost use Rattle.bz_tree.specs.Statement.{class_of};
+ghost use Rattle.bz_tree.specs.View.{nodes_view, seg_view, segs_view};
+ghost use Rattle.bz_tree.specs.Rows.{IsRowOf, part_view, parts_of, segs_parts};
 ghost use Rattle.bz_attribute.specs.Rules.{rule_of};
-ghost use Rattle.bz_attribute.specs.Lists.{edit_list};
 ghost use Rattle.bz_attribute.specs.Effects.{nodes_after};
-ghost use Rattle.bz_attribute.specs.Texts.{shown_text};
 ghost use Rattle.bz_attribute_commands.specs.Print.{prints};
 ghost use Rattle.bz_layout.specs.Layout.{layout_text};
 ghost use Rattle.bz_rule.specs.Commands as commands;
-ghost use Rattle.bz_rule.specs.RowViews.{row_statement};
-ghost use Rattle.bz_rule.specs.ShallowViews.{shallow_view};
-ghost use Rattle.bz_rule.specs.LongerViews.{longer_view, with_more};
-ghost use Rattle.bz_rule.specs.private.LongerRows.{HasName, Lacks, adds_to, is_word, besides, args_end, with_added};
+ghost use Rattle.bz_rule.specs.private.LongerRows.{adds_to, is_word, besides, args_end, with_added};
 
 use crate::command::{Action, Command, in_args};
 use crate::hollow::is_end;
-use crate::named_row::NamedRow;
 use crate::shallow::ShallowStmt;
-use bz_attribute::{Done, RuleName, call_at};
-use bz_command::{Field, Package, Setting, Target};
+use bz_attribute::{Done, Env, Head, call_at};
+use bz_attribute_commands::print_head::print_head;
+use bz_command::{Field, Package, Setting};
 use bz_layout::put_pieces;
 use bz_token::Kind;
-use bz_tree::{Class, Node, Part, Seg, push_above, push_beside, push_nodes};
+use bz_tree::{Node, Part, Row, Seg, push_above, push_beside, push_nodes, stmt_of_parts};
 use std::alloc::{AllocError, Global};
+use std::marker::Model;
 
 // Most new arguments have no more parts.
 const FIRST_PARTS: usize = 8;
 
-/// The row of a rule, and arguments that come after its own.
+/// The row of a rule, with its head, and arguments that come after its own.
 #[derive(Drop)]
 pub struct LongerRow<'a> {
-    pub(crate) row: NamedRow<'a>,
+    pub(crate) row: &'a Row<'a>,
+    pub(crate) head: Head<'a>,
     pub(crate) more: Vec<Seg<'a>>,
+}
+
+impl<'a> Model for LongerRow<'a> {
+    ghost use Rattle.std.specs.Coded.{codes, code_by};
+    ghost use Rattle.bz_tree.specs.Tree.{Statement};
+    ghost use Rattle.bz_tree.specs.View.{segs_view};
+    ghost use Rattle.bz_rule.specs.RowViews.{RowValue, row_of, row_statement, row_value, statement_back, with_more};
+    ghost use Rattle.bz_rule.specs.private.LongerRows.{IsNamedRow};
+
+    ghost Value = { Statement };
+
+    ghost coded = { code_by RowValue (Prim.hlevel codes) row_of row_statement statement_back };
+
+    ghost view = { λ l. with_more (segs_view l.more.items) (row_statement (row_value l.row.now)) };
+
+    ghost invariant = { λ l. IsNamedRow l.row.now l.head };
 }
 
 // An identifier of this text.
@@ -54,12 +67,7 @@ fn is_word(name: &str, part: &Part<'_>) -> bool
 fn has_word(name: &str, parts: &[Part<'_>]) -> bool
     ensures { result ≡ list_any (is_word name.now) (map part_view parts.now) }
 {
-    for part in parts {
-        if is_word(name, part) {
-            return true;
-        }
-    }
-    false
+    parts.iter().any(|part| is_word(name, part))
 }
 
 #[inline(always)]
@@ -92,8 +100,9 @@ fn added_attribute(command: &Command) -> Option<&str>
     ensures { IfSome result (λ attr. adds_to command.now ≡ Some attr.now) }
 {
     match &command.action {
-        Action::Set(Setting::ToValues(attr, _)) => Some(attr.as_str()),
-        Action::SetIfAbsent(attr, _) => Some(attr.as_str()),
+        Action::Set(Setting::ToValues(attr, _)) | Action::SetIfAbsent(attr, _) => {
+            Some(attr.as_str())
+        }
         _ => None,
     }
 }
@@ -119,33 +128,22 @@ fn push_args<'s>(args: &'s [Seg<'_>], parts: &mut Vec<Part<'s>>) -> Result<(), A
     Ok(())
 }
 
-// Appends the text of a rule of these parts, with more parts after those of its arguments.
+// Appends the text of a row, with more parts after those of its arguments.
 fn put_longer<'s>(
     alloc: Global,
-    parts: &'s [Part<'s>],
+    row: &'s Row<'s>,
     added: &'s [Part<'s>],
-    class: Class,
     out: &mut Vec<u8>,
 ) -> Result<(), AllocError>
     ensures appended { OnOk result
-        ((s : Statement) → with_added (map part_view added.now) (map part_view parts.now) ≡ parts_of s → class ≡ s.class
-        → out.new.items ≡ out.old.items ++ layout_text s) }
+        ((s : Statement) → with_added (map part_view added.now) (map part_view row.now.parts.now) ≡ parts_of s
+        → row.now.class ≡ s.class → out.new.items ≡ out.old.items ++ layout_text s) }
     ensures unchanged { OnErr result (out.new.items ≡ out.old.items) }
 {
-    let end = args_end(parts);
-    let front = &parts[..end];
-    let back = &parts[end..];
-    put_pieces(alloc, &[&*front, &*added, &*back], class, out)
-}
-
-fn append_in_call<'a>(call: &mut Node<'a>, more: &mut Vec<Seg<'a>>) -> Result<(), AllocError>
-    ensures { OnOk result (node_view call.new
-        ≡ edit_list (λ args. args ++ segs_view more.old.items) (node_view call.old)) }
-{
-    match call {
-        Node::Token(_) => Ok(()),
-        Node::Group(group) => group.segs.append(more),
-    }
+    let end = args_end(row.parts);
+    let front = &row.parts[..end];
+    let back = &row.parts[end..];
+    put_pieces(alloc, &[&*front, &*added, &*back], row.class, out)
 }
 
 // A rule gets more arguments after its own.
@@ -154,110 +152,65 @@ fn append_args<'a>(nodes: &mut Vec<Node<'a>>, more: &mut Vec<Seg<'a>>) -> Result
         ≡ nodes_after (λ args. args ++ segs_view more.old.items) (nodes_view nodes.old.items)
         (rule_of (nodes_view nodes.old.items))) }
 {
-    match call_at(nodes) {
-        None => Ok(()),
-        Some(call) => append_in_call(&mut nodes[call], more),
+    let Some(call) = call_at(nodes) else {
+        return Ok(());
+    };
+    match &mut nodes[call] {
+        Node::Token(_) => Ok(()),
+        Node::Group(group) => group.segs.append(more),
     }
-}
-
-// The rule of a row with more arguments, as a tree.
-fn longer_tree<'a>(
-    alloc: Global,
-    row: NamedRow<'a>,
-    more: &mut Vec<Seg<'a>>,
-) -> Result<ShallowStmt<'a>, AllocError>
-    ensures { IfOk result
-        (λ read. shallow_view read ≡ with_more (segs_view more.old.items) (row_statement row.entry)) }
-{
-    let mut stmt = row.tree(alloc)?;
-    append_args(&mut stmt.nodes, more)?;
-    Ok(ShallowStmt::new(alloc, stmt))
 }
 
 impl<'a> LongerRow<'a> {
-    /// The rule of a row.
-    pub fn new(alloc: Global, row: NamedRow<'a>) -> LongerRow<'a>
-        ensures { longer_view result ≡ row_statement row.entry }
+    /// The rule of a row, where its head stands in its first parts.
+    pub(crate) fn of_row(alloc: Global, row: &'a Row<'a>) -> Option<LongerRow<'a>>
+        requires { (s : Statement) × ((s.class ≡ class_of s.nodes) × IsRowOf s row.now) }
+        ensures { IfSome result (λ longer. (s : Statement) → IsRowOf s row.now → longer ≡ s) }
     {
-        LongerRow {
+        let head = Head::of_row(row)?;
+        Some(LongerRow {
             row,
+            head,
             more: Vec::new(alloc),
-        }
+        })
     }
 
-    pub fn class(&self) -> Class
-        ensures { result ≡ (longer_view self.now).class }
-    {
-        self.row.class()
-    }
-
-    /// Whether the target marks the rule.
-    pub fn is_marked_by(&self, target: &Target) -> bool
-        ensures { result ≡ marks.marks target.now (longer_view self.now) }
-    {
-        self.row.has_name();
-        self.row.is_marked_by(target)
-    }
-
-    /// The name of the rule.
-    pub fn rule_name(&self) -> RuleName<'_>
-        ensures { marks.IsNamed (λ name. marks.marks (Name name) (longer_view self.now)) result }
-    {
-        self.row.has_name();
-        self.row.rule_name()
-    }
-
-    /// The rule by its name. `Err`: memory was refused.
-    pub fn shown(&self, alloc: Global, home: &Package) -> Result<String, AllocError>
-        ensures { IfOk result (λ text. string_bytes text ≡ shown_text home.now (longer_view self.now)) }
-    {
-        self.row.has_name();
-        self.row.shown(alloc, home)
-    }
-
-    /// What is printed of the rule. None: it takes more than the head. `Err`: memory was refused.
-    pub fn print(
+    // What is printed of the rule. None: it takes more than the head.
+    fn print(
         &self,
         alloc: Global,
         home: &Package,
         fields: &[Field],
     ) -> Result<Option<Done>, AllocError>
-        ensures { IfOk result (λ told. IfSome told
-            (λ done. done ≡ prints home.now fields.now (Some (longer_view self.now)))) }
+        ensures { IfOk result (λ told. IfSome told (λ done. done ≡ prints home.now fields.now (Some self.now))) }
     {
         if !self.more.is_empty() {
             return Ok(None);
         }
-        self.row.print(alloc, home, fields)
+        print_head(Env { alloc, home }, fields, self.head)
     }
 
-    // None of the row's arguments has this name; or one may have it.
-    fn lacks(&self, name: &str) -> bool
-        ensures lacks { result ≡ true → Lacks name.now (row_statement self.now.row) }
-        ensures named { HasName (row_statement self.now.row) }
-    {
-        !has_word(name, self.row.parts())
-    }
-
-    /// Applies a command that adds an attribute which the row has not, or changes one that was added. None: it may be
-    /// another command, and the rule is as it was. `Err`: memory was refused, and the rule is as it was.
-    pub fn set(
+    /// Applies a command that looks at the head alone, or one that adds an attribute which the row has not, or changes
+    /// one that was added. None: it may be another command, and the rule is as it was.
+    pub(crate) fn apply(
         &mut self,
         alloc: Global,
         command: &Command,
         home: &Package,
     ) -> Result<Option<Done>, AllocError>
         ensures rule { IfOk result (λ told. IfSome told (λ done.
-            Some (longer_view self.new) ≡ commands.after command.now home.now (Some (longer_view self.old)))) }
+            Some self.new ≡ commands.after command.now home.now (Some self.old))) }
         ensures done { IfOk result (λ told. IfSome told (λ done.
-            done ≡ commands.done_of command.now home.now (Some (longer_view self.old)))) }
-        ensures same { IfOk result (λ told. IfNone told (longer_view self.new ≡ longer_view self.old)) }
-        ensures err { OnErr result (longer_view self.new ≡ longer_view self.old) }
+            done ≡ commands.done_of command.now home.now (Some self.old))) }
+        ensures same { IfOk result (λ told. IfNone told (self.new ≡ self.old)) }
     {
+        if let Action::Print(fields) = &command.action {
+            return self.print(alloc, home, fields.as_slice());
+        }
         let Some(name) = added_attribute(command) else {
             return Ok(None);
         };
-        if !self.lacks(name) {
+        if has_word(name, self.row.parts) {
             return Ok(None);
         }
         let done = in_args(alloc, command, home, &mut self.more)?;
@@ -265,23 +218,25 @@ impl<'a> LongerRow<'a> {
     }
 
     /// The rule as far as commands look at it. `Err`: memory was refused.
-    pub fn read(self, alloc: Global) -> Result<ShallowStmt<'a>, AllocError>
-        ensures { IfOk result (λ read. shallow_view read ≡ longer_view self.entry) }
+    pub(crate) fn read(self, alloc: Global) -> Result<ShallowStmt<'a>, AllocError>
+        ensures { IfOk result (λ read. read ≡ self.entry) }
     {
-        let LongerRow { row, mut more } = self;
+        let LongerRow { row, mut more, .. } = self;
         if more.is_empty() {
-            return row.read(alloc);
+            return ShallowStmt::of_row(alloc, row);
         }
-        longer_tree(alloc, row, &mut more)
+        let mut stmt = stmt_of_parts(alloc, row.parts, row.class, row.start, row.end)?;
+        append_args(&mut stmt.nodes, &mut more)?;
+        Ok(ShallowStmt::new(alloc, stmt))
     }
 
     /// Appends the canonical text of the rule, with its last newline. `Err`: memory was refused, and `out` is as it was.
-    pub fn put(&self, alloc: Global, out: &mut Vec<u8>) -> Result<(), AllocError>
-        ensures appended { OnOk result (out.new.items ≡ out.old.items ++ layout_text (longer_view self.now)) }
+    pub(crate) fn put(&self, alloc: Global, out: &mut Vec<u8>) -> Result<(), AllocError>
+        ensures appended { OnOk result (out.new.items ≡ out.old.items ++ layout_text self.now) }
         ensures unchanged { OnErr result (out.new.items ≡ out.old.items) }
     {
         let mut added = Vec::with_capacity(alloc, FIRST_PARTS)?;
         push_args(&self.more, &mut added)?;
-        put_longer(alloc, self.row.parts(), &added, self.row.class(), out)
+        put_longer(alloc, self.row, &added, out)
     }
 }

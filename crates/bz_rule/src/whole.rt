@@ -13,7 +13,7 @@ ghost use Rattle.bz_rule.specs.private.Hollow.{all_apart, parts_view, AreApart};
 ghost use Rattle.bz_rule.specs.private.Woven.{Adds, Fits, all};
 
 use crate::fill::unread_value;
-use crate::values::{Unread, Values};
+use crate::hollow::Unread;
 use crate::woven::Woven;
 use bz_attribute::rule_of;
 use bz_tree::{Group, GroupKind, Node, Part, Seg, Stmt};
@@ -75,11 +75,12 @@ fn push_call<'s>(
 
 fn push_whole_nodes<'s>(
     nodes: &'s [Node<'_>],
-    values: &'s Values<'_>,
+    unread: &'s [Unread<'_>],
     woven: &mut Woven<'s>,
 ) -> Result<(), AllocError>
+    requires { AreApart (map parts_view unread.now) }
     ensures { OnOk result (Adds
-        (items_parts (items_of (nodes_after (map (filled (all_apart values.now))) (nodes_view nodes.now)
+        (items_parts (items_of (nodes_after (map (filled (all_apart (map parts_view unread.now)))) (nodes_view nodes.now)
         (rule_of (nodes_view nodes.now))))) woven.old woven.new) }
 {
     match rule_of(nodes) {
@@ -89,7 +90,7 @@ fn push_whole_nodes<'s>(
         }
         Some(rule) => {
             woven.push_nodes(rule.kind)?;
-            push_call(rule.call, values.as_slice(), woven)
+            push_call(rule.call, unread, woven)
         }
     }
 }
@@ -98,14 +99,16 @@ fn push_whole_nodes<'s>(
 pub(crate) fn whole_parts<'s>(
     alloc: Global,
     stmt: &'s Stmt<'_>,
-    values: &'s Values<'_>,
+    unread: &'s [Unread<'_>],
 ) -> Result<Woven<'s>, AllocError>
+    requires { AreApart (map parts_view unread.now) }
     ensures fits { IfOk result (λ woven. Fits woven) }
-    ensures parts { IfOk result (λ woven. all woven ≡ parts_of (whole (all_apart values.now) (view stmt.now))) }
+    ensures parts { IfOk result (λ woven. all woven
+        ≡ parts_of (whole (all_apart (map parts_view unread.now)) (view stmt.now))) }
 {
-    let mut woven = Woven::new(alloc, values.as_slice().len())?;
+    let mut woven = Woven::new(alloc, unread.len())?;
     woven.push_above(&stmt.before)?;
-    push_whole_nodes(&stmt.nodes, values, &mut woven)?;
+    push_whole_nodes(&stmt.nodes, unread, &mut woven)?;
     woven.push_beside(&stmt.suffix)?;
     Ok(woven)
 }

@@ -1,5 +1,5 @@
 -- For private clauses: the walk over the parts of a rule that takes the values of its arguments apart.
-use Rattle.std.specs.Prelude.{◌≡◌, ℕ, suc, ◌+◌, ◌-◌, ◌==◌, List, [], ◌∷◌, ◌++◌, Bool, true, false, not, ◌&&◌, ◌||◌, if◌then◌else◌, nat_lt, Option, Some, None, map, option_map, take, length, codes, bytes_eq}
+use Rattle.std.specs.Prelude.{◌≡◌, ℕ, suc, ◌+◌, ◌-◌, ◌==◌, List, [], ◌∷◌, ◌++◌, Bool, true, false, not, ◌&&◌, ◌||◌, if◌then◌else◌, nat_lt, Option, Some, None, map, filter, option_map, take, length, codes, bytes_eq}
 use Rattle.std.specs.List.{list_any}
 use Rattle.bz_token.specs.declared.token.Kind.TheVariants.{Identifier}
 use Rattle.bz_tree.specs.declared.stmt.GroupKind.{GroupKind}
@@ -10,7 +10,7 @@ use Rattle.bz_tree.specs.FromParts.{nodes_of_parts}
 use Rattle.bz_attribute.specs.Rules as rules
 use Rattle.bz_rule.specs.Commands.{Command, mentions}
 use Rattle.bz_rule.specs.Shallow.{Apart, value_for, is_empty, whole}
-use Rattle.bz_rule.specs.declared.values.Unread.{Unread}
+use Rattle.bz_rule.specs.declared.hollow.Unread.{Unread}
 use Rattle.bz_rule.specs.declared.hollow.Place.{Place}
 use Rattle.bz_rule.specs.declared.hollow.Place.TheVariants.{Outside, Begin, Equals, Inside}
 use Rattle.bz_rule.specs.declared.hollow.Hollow.{Hollow}
@@ -52,9 +52,9 @@ parts_named vs (Some name) = parts_for vs name
 abbrev pub found : List Parts → Segment → Option Parts
 found vs a = if is_empty (rules.value a) then parts_named vs (rules.name_of a.nodes) else None
 
--- some value is of an argument that the command mentions
-abbrev pub is_mentioned : Command → List Parts → Bool
-is_mentioned command vs = list_any (λ v. mentions command v.name) vs
+-- those that a command mentions
+abbrev pub asked : Command → List Parts → List Parts
+asked command vs = filter (λ v. mentions command v.name) vs
 
 -- outside the call; before the first node of an argument; before the equals sign of one whose value is taken apart; after the first
 -- node of an argument, in so many brackets, whose value is taken apart or not

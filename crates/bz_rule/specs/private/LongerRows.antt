@@ -3,13 +3,24 @@ use Rattle.std.specs.Prelude.{◌≡◌, ℕ, ◌+◌, List, [], ◌∷◌, ◌+
 use Rattle.std.specs.List.{list_any}
 use Rattle.bz_token.specs.declared.token.Kind.TheVariants.{Identifier}
 use Rattle.bz_tree.specs.Tree.{Segment, Statement}
-use Rattle.bz_tree.specs.Rows.{RowPart, a_token, beside}
+use Rattle.bz_tree.specs.Statement.{class_of}
+use Rattle.bz_tree.specs.Rows.{IsRowOf, RowPart, a_token, beside}
+use Rattle.bz_tree.specs.declared.row.Row.{Row}
 use Rattle.bz_rule.specs.Commands.{Command}
 use Rattle.bz_command.specs.declared.arguments.Setting.TheVariants.{ToValues}
 use Rattle.bz_rule.specs.declared.command.Action.TheVariants.{Set, SetIfAbsent}
 use Rattle.bz_attribute.specs.Rules.{Rule, rule_of, first_named}
 use Rattle.bz_attribute.specs.Effects.{has}
+use Rattle.bz_attribute.specs.Heads.{IsHeadOf}
+use Rattle.bz_attribute.specs.declared.head.Head.{Head}
+use Rattle.bz_rule.specs.RowViews.{row_value, row_statement}
 use Rattle.bz_rule.specs.private.Hollow.{is_end}
+
+-- a row that has a head
+pub record IsNamedRow (row : Row) (head : Head) : Type 0 where
+  pub class : (row_statement (row_value row)).class ≡ class_of (row_statement (row_value row)).nodes
+  pub is : IsRowOf (row_statement (row_value row)) row
+  pub named : IsHeadOf head (row_statement (row_value row))
 
 -- a rule that has an argument `name`
 pub record HasName (s : Statement) : Type 0 where

@@ -8,7 +8,7 @@ use Rattle.bz_tree.specs.Rows.{RowPart, item_parts, items_parts}
 use Rattle.bz_attribute.specs.Rules as spec
 use Rattle.bz_attribute.specs.Effects.{nodes_after}
 use Rattle.bz_rule.specs.Shallow.{filled}
-use Rattle.bz_rule.specs.private.Hollow.{Parts, all_apart}
+use Rattle.bz_rule.specs.private.Hollow.{all_apart, parts_view}
 use Rattle.bz_rule.specs.private.Woven.{all}
 use Rattle.bz_rule.proofs.PutBack.{rule_parts}
 use Rattle.bz_rule.proofs.whole.push_whole_nodes.Goals as goal
@@ -16,17 +16,14 @@ use Rattle.bz_rule.proofs.whole.push_whole_nodes.Goals as goal
 pub returns-in_ok-push_nodes-in-Some : goal.returns-in_ok-push_nodes-in-Some
 returns-in_ok-push_nodes-in-Some c = on_ok_weaker c.push_call.result (λ called fits.
     let rule = c.in-Some.rule in
-    let f = map (filled (all_apart c.args.values.now)) in
+    let f = map (filled (all_apart (map parts_view c.args.unread.now))) in
     let old = all c.args.woven.now in
     let kind = nodes_view rule.kind.now in
-    let with_values : List Parts → Item =
-    λ vs. group RuleCall (segs_of (map (filled (all_apart vs)) (segs_view (out-Group rule.call.now).segs.items))) (out-Group rule.call.now).one_comma (texts (out-Group rule.call.now).end.items) in
-    let call = with_values c.args.values.now in
+    let call : Item = group RuleCall (segs_of (f (segs_view (out-Group rule.call.now).segs.items))) (out-Group rule.call.now).one_comma (texts (out-Group rule.call.now).end.items) in
     let w1 = c.in_ok-push_nodes-in-Some.ensures fits in
     let w2 = called w1.0 in (
       w2.0,
       w2.1
-          ∙ ap (λ (vs : List Parts). all c.push_nodes-in-Some.new.self ++ item_parts (with_values vs)) c.as_slice.ensures.values
           ∙ ap (λ (ps : List RowPart). ps ++ item_parts call) w1.1
           ∙ append_assoc old (items_parts (items_of kind)) (item_parts call)
           ∙ ap (λ (ps : List RowPart). old ++ ps) (sym (rule_parts kind call))

@@ -1,14 +1,19 @@
-use Rattle.std.proofs.Common.{◌≡◌, arith, length, sym, subst, tests}
-use Rattle.std.specs.Prelude.{IfOk, Some, IfSome}
+use Rattle.std.proofs.Common.{◌≡◌, ◌∙◌, arith, length, sym, subst, tests}
+use Rattle.std.specs.Prelude.{Some, IfSome}
+use Rattle.std.proofs.lemmas.Result.{IfOk-weaker}
 use Rattle.bz_tree.specs.Tree.{Statement}
 use Rattle.bz_attribute_commands.specs.Print.{prints}
-use Rattle.bz_rule.specs.RowViews.{row_statement}
+use Rattle.bz_rule.specs.RowViews.{row_statement, row_value}
 use Rattle.bz_rule.proofs.LongerRows.{none_more}
+use Rattle.bz_rule.proofs.RowStatements.{told_of}
 use Rattle.bz_rule.proofs.longer.LongerRow.print.Goals as goal
 
 pub returns : goal.returns
 returns c =
-    let row = c.args.self.now.row in
-    let more = c.args.self.now.more.items in
+    let s = row_statement (row_value c.self.inside.row.now) in
+    let more = c.self.inside.more.items in
     let none : length more ≡ 0 = grind (arith, tests, c.if-not-is_empty.false, c.is_empty.ensures) in
-    subst (λ (s : Statement). IfOk c.print.result (λ told. IfSome told (λ done. done ≡ prints c.args.home.now c.args.fields.now (Some s)))) (sym (none_more (row_statement row) more none)) c.print.ensures
+    IfOk-weaker c.print_head.result _ _
+    (λ told h. subst (λ (z : Statement). IfSome told (λ done. done ≡ prints c.args.home.now c.args.fields.now (Some z))) (sym (none_more s more none) ∙ c.self.view_is)
+    (told_of c.args.home.now c.args.fields.now c.self.inside.head s told c.self.invariant.named h))
+    c.print_head.ensures
