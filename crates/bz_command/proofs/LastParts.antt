@@ -1,12 +1,12 @@
 -- The label that a text is, by what stands after a byte of it.
-use Rattle.std.proofs.Common.{◌≡◌, ℕ, ◌<◌, List, [], ◌∷◌, ◌++◌, length, true, false, Bool, cond, refl, sym, ap, ◌∙◌, arith, inl, inr, Some, None, ne_eqb, rules, tests}
+use Rattle.std.proofs.Common.{◌≡◌, ℕ, ◌<◌, List, [], ◌∷◌, ◌++◌, length, true, false, Bool, cond, refl, sym, ap, ◌∙◌, arith, inl, inr, Some, None, ne_eqb}
 use Rattle.std.specs.Prelude.{◌==◌, ◌||◌, ◌&&◌, nat_eq, codes, Option, is_some, option_map, MatchOption}
 use Rattle.std.specs.List.{list_any, onto_first, starts_with}
 use Rattle.std.proofs.lemmas.Bool.{cases_Bool}
 use Rattle.bz_command.specs.Labels.{Package, last_of, parts_of, is_slash, is_colon}
 use Rattle.bz_command.specs.Same.{completed, in_package, with_name}
 use Rattle.bz_command.specs.private.ByteSteps.{left}
-use Rattle.bz_command.specs.private.LabelSteps.{begins, rest_after}
+use Rattle.bz_command.specs.private.LabelSteps.{rest_after}
 use Rattle.bz_command.specs.declared.bytes.Bytes.{Bytes}
 use Rattle.bz_command.proofs.Cuts.{last_cons, some_part}
 
@@ -97,11 +97,9 @@ bare : (home : Package) (bs : List ℕ) (x : ℕ) (xs : List ℕ) → list_any i
 bare home bs x xs none last = simp (none, last) refl
 
 -- a path, and its last part
-pub path : (home : Package) (bs name : List ℕ) (next : Option (ℕ × Bytes)) → list_any is_colon bs ≡ false → begins 47 bs ≡ true → name ≡ last_of (parts_of (47 ∷ bs)) → MatchOption next (name ≡ []) (λ p. name ≡ p.0 ∷ left p.1) → is_some next ≡ true → completed home (47 ∷ bs) ≡ 47 ∷ (bs ++ 58 ∷ name)
-path home [] name next none two last some has = cc
-path home (b ∷ bs) name None none two last some has = cc
-path home (b ∷ bs) name (Some p) none two last some has =
-    let is : b ≡ 47 = search (rules, tests) in
-    let no_colon : list_any is_colon bs ≡ false = rw is at none in
-    let part : last_of (parts_of (47 ∷ 47 ∷ bs)) ≡ p.0 ∷ left p.1 = ap (λ (z : ℕ). last_of (parts_of (47 ∷ z ∷ bs))) (sym is) ∙ sym last ∙ some in
-    rw (is, some) (bare home bs p.0 (left p.1) no_colon part)
+pub path : (home : Package) (rest bs name : List ℕ) (next : Option (ℕ × Bytes)) → list_any is_colon rest ≡ false → rest ≡ 47 ∷ bs → name ≡ last_of (parts_of (47 ∷ rest)) → MatchOption next (name ≡ []) (λ p. name ≡ p.0 ∷ left p.1) → is_some next ≡ true → completed home (47 ∷ rest) ≡ 47 ∷ (rest ++ 58 ∷ name)
+path home rest bs name None none two last some has = cc
+path home rest bs name (Some p) none two last some has =
+    let no_colon : list_any is_colon bs ≡ false = rw two at none in
+    let part : last_of (parts_of (47 ∷ 47 ∷ bs)) ≡ p.0 ∷ left p.1 = ap (λ (zs : List ℕ). last_of (parts_of (47 ∷ zs))) (sym two) ∙ sym last ∙ some in
+    rw (two, some) (bare home bs p.0 (left p.1) no_colon part)

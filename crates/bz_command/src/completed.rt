@@ -1,13 +1,13 @@
 //! A label of a package in full: texts in a row.
 
-ghost use Rattle.std.specs.Prelude.{◌≡◌, ◌==◌, ◌<◌, IsTrue, MatchOption, IfSome, None, Some, [], ◌∷◌, ◌++◌, length, option_map};
+ghost use Rattle.std.specs.Prelude.{◌≡◌, IsTrue, MatchOption, IfSome, [], ◌∷◌, ◌++◌, option_map};
 ghost use Rattle.std.specs.List.{flat_map, list_all};
 ghost use Rattle.std.specs.Ordering.{nat_cmp};
 ghost use Rattle.std.specs.Cmp.Lexicographic.{slice_cmp};
 ghost use Rattle.bz_command.specs.Labels.{last_of, parts_of};
 ghost use Rattle.bz_command.specs.Same as same;
 ghost use Rattle.bz_command.specs.private.ByteSteps.{left, is_good};
-ghost use Rattle.bz_command.specs.private.LabelSteps.{begins, rest_after, row_bytes, is_good_row};
+ghost use Rattle.bz_command.specs.private.LabelSteps.{rest_after, row_bytes, is_good_row};
 
 use crate::bytes::{Bytes, next};
 use crate::package::Package;
@@ -35,7 +35,7 @@ pub(crate) fn completed<'a>(home: &'a Package, text: Bytes<'a>) -> [Bytes<'a>; 4
         return in_package(home, colon, text);
     }
     let name = last_part(text);
-    if !starts_with(rest, b'/') || next(name).is_none() {
+    if !matches!(next(rest), Some((b'/', _))) || next(name).is_none() {
         return whole;
     }
     [text, colon, name, nothing]
@@ -56,13 +56,6 @@ fn in_package<'a>(home: &'a Package, colon: Bytes<'a>, name: Bytes<'a>) -> [Byte
         ],
         None => [Bytes::Plain(b""), Bytes::Plain(b""), colon, name],
     }
-}
-
-fn starts_with(text: Bytes<'_>, byte: u8) -> bool
-    requires { IsTrue (is_good text) }
-    ensures { result ≡ begins byte (left text.entry) }
-{
-    matches!(next(text), Some((b, _)) if b == byte)
 }
 
 // What stands after the last slash.

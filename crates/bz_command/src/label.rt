@@ -1,12 +1,12 @@
-//! A text as a label of a package, which is ordered by a key, and then by its bytes in full.
+//! A text as a label of a package, which is ordered by a key, and then by its bytes in full; and which texts are the same.
 
-ghost use Rattle.std.specs.Prelude.{◌≡◌, Some, refl, IsTrue};
+ghost use Rattle.std.specs.Prelude.{◌≡◌, ◌↔◌, Some, refl, IsTrue, bytes_eq};
 ghost use Rattle.std.specs.List.{fold, flat_map, list_all};
 ghost use Rattle.std.specs.Cmp.{partial_equiv_from_equiv, eq_by_cmp_equiv, partial_order_from_total};
 ghost use Rattle.std.specs.Ordering.{eq_by_cmp};
 ghost use Rattle.bz_command.specs.private.ByteSteps.{left, is_good};
 ghost use Rattle.bz_command.specs.private.LabelSteps.{stirred, key_of, label_cmp, label_cmp_total};
-ghost use Rattle.bz_command.specs.Same as same;
+ghost use Rattle.bz_command.specs.Same as spec;
 
 use crate::bytes::{Bytes, next};
 use crate::completed::{completed, order};
@@ -14,7 +14,7 @@ use crate::package::Package;
 use std::cmp::Ordering;
 use std::marker::Model;
 
-/// Contracts see the label in full.
+/// Contracts see the label in full. Its key is made of all its bytes, and tells most labels apart.
 #[derive(Drop)]
 pub(crate) struct Label<'a> {
     key: u64,
@@ -37,26 +37,18 @@ impl<'a> Model for Label<'a> {
 impl<'a> Label<'a> {
     pub(crate) fn new(home: &'a Package, text: Bytes<'a>) -> Label<'a>
         requires { IsTrue (is_good text) }
-        ensures { result ≡ same.completed home.now (left text.entry) }
+        ensures { result ≡ spec.completed home.now (left text.entry) }
     {
         let texts = completed(home, text);
-        let key = key_of(&texts);
+        let mut key = 0;
+        for text in &texts {
+            key = stirred(key, *text);
+        }
         Label { key, texts }
     }
 }
 
-// What tells most labels apart.
-fn key_of(texts: &[Bytes<'_>]) -> u64
-    requires { IsTrue (list_all is_good texts.now) }
-    ensures { result ≡ key_of (flat_map left texts.now) }
-{
-    let mut key = 0;
-    for text in texts {
-        key = stirred(key, *text);
-    }
-    key
-}
-
+// A key with the bytes of a text more.
 fn stirred(mut key: u64, mut text: Bytes<'_>) -> u64
     requires { IsTrue (is_good text) }
     ensures { result ≡ fold stirred key (left text.entry) }
@@ -112,4 +104,20 @@ impl<'a> Ord for Label<'a> {
             found => found,
         }
     }
+}
+
+/// Two texts are the same label in a package, its home: `x` and `:x` there are `//path:x`, and `//a/b` is `//a/b:b`.
+pub fn same(a: &str, b: &str, home: &Package) -> bool
+    ensures { IsTrue result ↔ spec.IsSame home.now a.now b.now }
+{
+    same_label(home, Bytes::Plain(a.as_bytes()), Bytes::Plain(b.as_bytes()))
+}
+
+/// The two are the same label: their full forms are compared.
+pub fn same_label(home: &Package, a: Bytes<'_>, b: Bytes<'_>) -> bool
+    requires a { IsTrue (is_good a) }
+    requires b { IsTrue (is_good b) }
+    ensures { result ≡ bytes_eq (spec.completed home.now (left a.entry)) (spec.completed home.now (left b.entry)) }
+{
+    Label::new(home, a) == Label::new(home, b)
 }

@@ -1,5 +1,5 @@
 -- For private clauses alone: texts in a row, and how labels are ordered.
-use Rattle.std.specs.Prelude.{ℕ, ◌==◌, bit_xor, List, [], ◌∷◌, ◌++◌, Bool, false, ◌&&◌, if◌then◌else◌, Option, Some, None}
+use Rattle.std.specs.Prelude.{ℕ, ◌==◌, bit_xor, List, [], ◌∷◌, ◌++◌, Bool, ◌&&◌, if◌then◌else◌, Option, Some, None}
 use Rattle.std.specs.declared.cmp.Ordering.{Ordering}
 use Rattle.std.specs.List.{flat_map, fold, list_all}
 use Rattle.std.specs.Int.{w64, rotate_left}
@@ -15,10 +15,6 @@ row_bytes row = left row.first ++ flat_map left row.rest.now
 
 abbrev pub is_good_row : Row → Bool
 is_good_row row = is_good row.first && list_all is_good row.rest.now
-
-abbrev pub begins : ℕ → List ℕ → Bool
-begins byte [] = false
-begins byte (b ∷ bs) = b == byte
 
 -- what stands after the first such byte
 abbrev pub rest_after : ℕ → List ℕ → Option (List ℕ)

@@ -4,11 +4,10 @@ use Rattle.std.specs.List.{list_any}
 use Rattle.std.specs.Prelude.{is_some}
 use Rattle.bz_command.specs.Labels.{is_colon, last_of, parts_of}
 use Rattle.bz_command.specs.Same.{completed, in_package}
-use Rattle.bz_command.specs.private.LabelSteps.{begins}
 use Rattle.bz_command.specs.private.ByteSteps.{left}
 use Rattle.bz_command.proofs.LastParts.{has_colon, alone, at_sign, coloned, path}
 use Rattle.bz_command.proofs.completed.completed.Goals as goal
-use Rattle.bz_command.proofs.completed.completed.Goals.{then-first-eq64-via-then-first-eq64, then-first-eq64-via-else-first-eq64+then-is_some}
+use Rattle.bz_command.proofs.completed.completed.Goals.{in-Some-eq47-default, in_default-matches, in_default-matches-2, then-first-eq64-via-then-first-eq64, then-first-eq64-via-else-first-eq64+then-is_some}
 
 pub returns-then-first-eq64-clause-bytes : goal.returns-then-first-eq64-clause-bytes
 returns-then-first-eq64-clause-bytes c =
@@ -41,9 +40,13 @@ returns-clause-bytes c =
     let none : list_any is_colon rest ≡ false = has_colon _ rest c.after.ensures.rest ∙ sym c.is_some.ensures ∙ c.if-is_some.false in
     let slash : c.in-Some.first ≡ 47 = omega (arith, c.if-first-ne47.false) in
     let is : text ≡ 47 ∷ rest = c.in-Some.ensures.next ∙ ap (λ (b : ℕ). b ∷ rest) slash in
-    let two : begins 47 rest ≡ true = sym c.starts_with.ensures ∙ c.if-not-starts_with.false in
+    let two : (bs : List ℕ) × (rest ≡ 47 ∷ bs) = elim c.match-matches.branch [
+      | in-Some-eq47-default w ↦ let after = left w.in-Some-eq47-default.field-0-1 in (after, w.in-Some-eq47-default.ensures.next ∙ ap (λ (b : ℕ). b ∷ after) w.in-Some-eq47-default.field-0-0-test)
+      | in_default-matches w ↦ let clash : true ≡ false = sym c.if-not-matches.false ∙ w.matches-is in cc
+      | in_default-matches-2 w ↦ let clash : true ≡ false = sym c.if-not-matches.false ∙ w.matches-is in cc
+    ] in
     let last : name ≡ last_of (parts_of (47 ∷ rest)) = c.last_part-name.ensures.last ∙ ap (λ (bs : List ℕ). last_of (parts_of bs)) is in
-    let some : is_some c.next-else-not-starts_with.result ≡ true = c.if-is_none.ensures in
+    let some : is_some c.next-else-not-matches.result ≡ true = c.if-is_none.ensures in
     (λ i. is i ++ 58 ∷ append-nil name i)
-    ∙ sym (path home rest name c.next-else-not-starts_with.result none two last c.next-else-not-starts_with.ensures.next some)
+    ∙ sym (path home rest two.0 name c.next-else-not-matches.result none two.1 last c.next-else-not-matches.ensures.next some)
     ∙ ap (completed home) (sym is)

@@ -1,0 +1,15 @@
+use Rattle.std.proofs.Common.{◌≡◌, List, length, ap, sym, ◌∙◌, rules}
+use Rattle.std.specs.List.{fold, flat_map}
+use Rattle.std.proofs.lemmas.List.{take_all}
+use Rattle.bz_command.specs.private.ByteSteps.{left}
+use Rattle.bz_command.specs.private.LabelSteps.{stirred, key_of}
+use Rattle.bz_command.specs.declared.bytes.Bytes.{Bytes}
+use Rattle.bz_command.proofs.label.Label.new.Goals as goal
+
+pub invariant_of-result : goal.invariant_of-result
+unfolding key_of
+invariant_of-result c =
+    let long : 4 ≡ length c.completed-texts.result = search rules in (
+      c.completed-texts.ensures.good,
+      c.loop-text.invariant ∙ ap (λ (texts : List Bytes). fold stirred 0 (flat_map left texts)) (take_all c.loop-text.text-index c.completed-texts.result (rw (sym long) c.loop-text-test.false)),
+    )
