@@ -1,8 +1,11 @@
 -- The words of a command, part by part.
 use Rattle.std.proofs.Common.{◌≡◌, ℕ, ◌<◌, ◌-◌, List, [], ◌∷◌, ◌++◌, length, take, drop, filter, true, false, refl, sym, ap, ◌∙◌, arith, inl, inr, append_assoc, length-append}
-use Rattle.std.proofs.lemmas.Bool.{cases_Bool}
+use Rattle.std.specs.List.{list_all}
+use Rattle.std.specs.Str.{IsUtf8, is_utf8}
+use Rattle.std.proofs.lemmas.Bool.{cases_Bool, and_parts}
 use Rattle.std.proofs.lemmas.List.{take_at, drop_at, take-append-drop}
 use Rattle.std.proofs.lemmas.Slice.Eq.{bytes_eq-Decides}
+use Rattle.std.proofs.lemmas.Str.{is_utf8-from_IsUtf8}
 use Rattle.bz_command.specs.Words.{goes_on, with_space, onto_word, is_word, mended}
 use Rattle.bz_command.specs.private.WordSteps.{kept}
 
@@ -58,3 +61,13 @@ pub step_apart : (words kept_words l : List (List ℕ)) (word whole fresh part :
 step_apart words kept_words l word whole fresh part some h e kept_ empty =
     rw (kept_, empty, fresh_word (mended l), mended_apart part l some h, e, append_assoc words (kept (word ++ part)) (filter is_word (mended l)))
     (ap (λ (us : List (List ℕ)). words ++ us) (sym (kept_first (word ++ part) (mended l))))
+
+-- where a word is kept that is UTF-8, all words stay so
+pub kept_utf8 : (words : List (List ℕ)) (word : List ℕ) → IsUtf8 word → list_all is_utf8 words ≡ true → list_all is_utf8 (words ++ kept word) ≡ true
+kept_utf8 [] word u h = elim (cases_Bool (is_word word)) [
+  | inl is ↦ rw (is, is_utf8-from_IsUtf8 word u) refl
+  | inr other ↦ rw other refl
+]
+kept_utf8 (first ∷ words) word u h =
+    let parts = and_parts (is_utf8 first) (list_all is_utf8 words) h in
+    rw (parts.0, kept_utf8 words word u parts.1) refl

@@ -1,8 +1,7 @@
 //! What commands on one rule take as their arguments.
 
-ghost use Rattle.std.specs.Prelude.{◌≡◌, true};
-ghost use Rattle.std.specs.List.{list_all, list_any};
-ghost use Rattle.std.specs.Str.{is_utf8};
+ghost use Rattle.std.specs.Prelude.{◌≡◌};
+ghost use Rattle.std.specs.List.{list_any};
 ghost use Rattle.bz_command.specs.Arguments as spec;
 
 use crate::list::{Seq, Text};
@@ -61,16 +60,6 @@ impl Attributes {
             Attributes::Named(attr) => attr.as_str() == name,
         }
     }
-
-    /// A law with a body: these words are UTF-8.
-    pub fn words_are_utf8(&self)
-        ensures { spec.attributes_pass is_utf8 self.now ≡ true }
-    {
-        match self {
-            Attributes::Every => {}
-            Attributes::Named(attr) => word_is_utf8(attr),
-        }
-    }
 }
 
 impl Setting {
@@ -79,31 +68,6 @@ impl Setting {
         ensures { result ≡ spec.setting_mentions name.now self.now }
     {
         matches!(self, Setting::ToValues(attr, _) if attr.as_str() == name)
-    }
-
-    /// A law with a body: these words are UTF-8.
-    pub fn words_are_utf8(&self)
-        ensures { spec.setting_passes is_utf8 self.now ≡ true }
-    {
-        match self {
-            Setting::ToKind(kind) => word_is_utf8(kind),
-            Setting::ToValues(attr, values) => {
-                word_is_utf8(attr);
-                each_word_is_utf8(values);
-            }
-        }
-    }
-}
-
-impl Moved {
-    /// A law with a body: these words are UTF-8.
-    pub fn words_are_utf8(&self)
-        ensures { spec.moved_passes is_utf8 self.now ≡ true }
-    {
-        match self {
-            Moved::All => {}
-            Moved::Values(values) => each_word_is_utf8(values),
-        }
     }
 }
 
@@ -115,20 +79,6 @@ impl Commented {
         match self {
             Commented::Rule => false,
             Commented::Attribute(attr) | Commented::Value(attr, _) => attr.as_str() == name,
-        }
-    }
-
-    /// A law with a body: these words are UTF-8.
-    pub fn words_are_utf8(&self)
-        ensures { spec.commented_passes is_utf8 self.now ≡ true }
-    {
-        match self {
-            Commented::Rule => {}
-            Commented::Attribute(attr) => word_is_utf8(attr),
-            Commented::Value(attr, value) => {
-                word_is_utf8(attr);
-                word_is_utf8(value);
-            }
         }
     }
 }
@@ -155,21 +105,4 @@ fn any_mentions(fields: &[Field], name: &str) -> bool
     ensures { result ≡ list_any (spec.field_mentions name.now) fields.now }
 {
     fields.iter().any(|field| field.mentions(name))
-}
-
-/// A law with a body: each word is UTF-8.
-pub fn each_word_is_utf8(words: &Seq<Text>)
-    ensures { list_all is_utf8 words.now ≡ true }
-{
-    for word in words.as_slice() {
-        word_is_utf8(word);
-    }
-}
-
-/// A law with a body: a word is UTF-8. It takes the word as a `&str`, since of that the prover knows it; it does nothing
-/// else.
-pub fn word_is_utf8(word: &Text)
-    ensures { is_utf8 word.now ≡ true }
-{
-    let _text = word.as_str();
 }

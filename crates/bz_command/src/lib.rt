@@ -24,16 +24,14 @@ mod target;
 mod value;
 mod words;
 
-pub use arguments::{
-    Attributes, Commented, Field, Moved, Setting, each_word_is_utf8, print_mentions, word_is_utf8,
-};
+pub use arguments::{Attributes, Commented, Field, Moved, Setting, print_mentions};
 pub use bytes::{Bytes, value_of};
 pub use decode::read_value;
 pub use label_set::LabelSet;
 pub use labels::{LabelFault, read_label};
 pub use list::{Seq, Text};
 pub use literal::Literal;
-pub use names::{is_identifier, is_kind};
+pub use names::is_kind;
 pub use package::Package;
 pub use parts::cut;
 pub use pass::Pass;
@@ -41,4 +39,4 @@ pub use sameness::{same, same_label};
 pub use sorted_labels::SortedLabels;
 pub use target::{Marked, Target};
 pub use value::{has_value, plain_text, quote, value_is};
-pub use words::{read_words, take_word};
+pub use words::read_words;

@@ -1,19 +1,13 @@
-//! Kinds, and words that are texts of the language.
+//! Kinds.
 
 ghost use Rattle.std.specs.Prelude.{◌≡◌};
 ghost use Rattle.bz_command.specs.Names as spec;
 
-/// The text is an identifier.
-#[tactic(auto, unfolding(crate::specs::Names::is_identifier))]
-pub fn is_identifier(text: &str) -> bool
-    ensures { result ≡ spec.is_identifier text.now }
-{
-    bz_token::is_identifier(text)
-}
+use bz_token::is_identifier;
 
 /// The text is identifiers joined by `.`, none of them a keyword.
 pub fn is_kind(text: &str) -> bool
     ensures { result ≡ spec.is_kind text.now }
 {
-    text.split('.').all(is_identifier)
+    text.split('.').all(|part| is_identifier(part))
 }

@@ -1,6 +1,8 @@
 //! The words of a command.
 
-ghost use Rattle.std.specs.Prelude.{◌≡◌, ◌==◌, ◌∷◌, ◌++◌, [], IfOk, OnOk, MatchOption, string_bytes};
+ghost use Rattle.std.specs.Prelude.{◌≡◌, ◌++◌, IfOk, OnOk, string_bytes, true};
+ghost use Rattle.std.specs.List.{list_all};
+ghost use Rattle.std.specs.Str.{is_utf8};
 ghost use Rattle.bz_command.specs.Words as spec;
 ghost use Rattle.bz_command.specs.private.WordSteps.{kept};
 
@@ -10,7 +12,8 @@ use std::alloc::{AllocError, Global};
 
 /// The words of a text: it is split at runs of spaces, and a space after a backslash is one of the word.
 pub fn read_words(alloc: Global, text: &str) -> Result<Vec<Text>, AllocError>
-    ensures { IfOk result (λ words. words.items ≡ spec.words_of text.now) }
+    ensures words { IfOk result (λ words. words.items ≡ spec.words_of text.now) }
+    ensures utf8 { IfOk result (λ words. list_all is_utf8 words.items ≡ true) }
 {
     let mut words = Vec::new(alloc);
     let mut word = String::new(alloc);
@@ -41,15 +44,4 @@ fn keep(words: &mut Vec<Text>, word: String) -> Result<(), AllocError>
         words.push(Text::from_string(word))?;
     }
     Ok(())
-}
-
-/// Takes the first word off.
-pub fn take_word(words: &mut Vec<Text>) -> Option<Text>
-    ensures { MatchOption result ((words.old.items ≡ []) × (words.new.items ≡ []))
-        (λ word. words.old.items ≡ word ∷ words.new.items) }
-{
-    if words.len() == 0 {
-        return None;
-    }
-    Some(words.remove(0))
 }
