@@ -8,7 +8,7 @@ ghost use Rattle.bz_engine.specs.Changes.{AreCommands};
 ghost use Rattle.bz_engine_laws.specs.Written.{HaveUtf8Words};
 
 use bz_command::Pass;
-use bz_rule::{Command, Target, words_are_utf8};
+use bz_rule::{Command, Target};
 
 /// The commands of each script are ones that can be read, and their words, but for those of `print`, are UTF-8. The
 /// body looks at each command, since of that the prover knows it; it does nothing else.
@@ -26,13 +26,6 @@ fn are_commands(commands: &[Command])
     ensures words { list_all (command_passes is_utf8) commands.now ≡ true }
 {
     for command in commands {
-        is_a_command(command);
-        words_are_utf8(command);
+        let _action = &command.action;
     }
-}
-
-fn is_a_command(command: &Command)
-    ensures { is_command command.now ≡ true }
-{
-    let _action = &command.action;
 }

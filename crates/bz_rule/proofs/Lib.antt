@@ -31,8 +31,7 @@ mod PassingTexts
 mod PassingWritten
 mod Print
 mod PutBack
-mod ReadFields
-mod ReadMove
+mod ReadCommands
 mod Rebuilt
 mod Remove
 mod Rename

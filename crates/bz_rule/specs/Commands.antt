@@ -1,6 +1,7 @@
 -- The ten commands: how their words are read (buildozer README, edit commands; the refusals are this project's own rule), which attributes they mention, a test of their words; the statement after each, what it tells, and which leave all comments.
-use Rattle.std.specs.Prelude.{ℕ, ◌==◌, List, [], ◌∷◌, Bool, true, false, ◌&&◌, ◌||◌, not, if◌then◌else◌, Option, Some, None, Result, Ok, Err, map, length, codes, bytes_eq, option_map}
+use Rattle.std.specs.Prelude.{◌≡◌, ℕ, ◌==◌, List, [], ◌∷◌, Bool, true, false, ◌&&◌, ◌||◌, not, if◌then◌else◌, Option, Some, None, Result, Ok, Err, map, length, codes, bytes_eq, option_map}
 use Rattle.std.specs.List.{list_all, list_any}
+use Rattle.std.specs.Str.{is_utf8}
 use Rattle.bz_command.specs.declared.arguments.Attributes.TheVariants.{Every, Named}
 use Rattle.bz_command.specs.declared.arguments.Setting.TheVariants.{ToKind, ToValues}
 use Rattle.bz_command.specs.declared.arguments.Moved.{Moved}
@@ -188,6 +189,11 @@ command_passes test (Move old new moved) = test old && test new && moved_passes 
 command_passes test (Replace attrs old new) = attributes_pass test attrs && test old && test new
 command_passes test (Comment place text) = commented_passes test place && test text
 command_passes test (Print fields) = true
+
+-- what holds of each command: it is one that can be read, and its words, but for those of `print`, are UTF-8
+pub record IsRead (c : Command) : Type 0 where
+  pub command : is_command c ≡ true
+  pub words : command_passes is_utf8 c ≡ true
 
 -- the arguments after a command on them
 abbrev pub args_after : Command → Package → List Segment → List Segment

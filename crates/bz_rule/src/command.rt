@@ -1,27 +1,21 @@
 //! The commands on one rule: what each is, which attributes it mentions, and which code carries it out.
 
-ghost use Rattle.std.specs.Prelude.{◌≡◌, IfOk, IsOk, OnOk, OnErr, IsTrue, false, true};
-ghost use Rattle.std.specs.Str.{is_utf8};
-ghost use Rattle.bz_tree.specs.View.{segs_view, slot_view};
-ghost use Rattle.bz_attribute.specs.Effects as effects;
+ghost use Rattle.std.specs.Prelude.{◌≡◌, IfOk, OnOk, OnErr};
+ghost use Rattle.bz_tree.specs.View.{segs_view};
 ghost use Rattle.bz_rule.specs.Commands as spec;
 
-use crate::slot::{delete, on_args};
 use bz_attribute::{Done, Env, Executed};
-use bz_attribute_commands::comment::{comment, comment_rule};
-use bz_attribute_commands::print::print;
+use bz_attribute_commands::comment::comment;
 use bz_attribute_commands::rename::rename;
 use bz_attribute_commands::set::{set, set_if_absent};
-use bz_attribute_commands::set_kind::set_kind;
 use bz_command::{
-    Attributes, Commented, Field, Moved, Package, Seq, Setting, Text, each_word_is_utf8,
-    print_mentions, word_is_utf8,
+    Attributes, Commented, Field, Moved, Package, Seq, Setting, Text, print_mentions,
 };
 use bz_list_commands::add::add;
 use bz_list_commands::moving::move_elements;
 use bz_list_commands::remove::remove;
 use bz_list_commands::replace::replace;
-use bz_tree::{Seg, Stmt};
+use bz_tree::Seg;
 use std::alloc::{AllocError, Global};
 use std::marker::Model;
 
@@ -101,14 +95,13 @@ impl Drop for Command {
 }
 
 impl Model for Command {
-    ghost use Rattle.std.specs.Prelude.{IsTrue};
     ghost use Rattle.bz_rule.specs.Commands as spec;
 
     ghost Value = { spec.Command };
 
     ghost view = { λ c. c.action };
 
-    ghost invariant = { λ c. IsTrue (spec.is_command c.action) };
+    ghost invariant = { λ c. spec.IsRead c.action };
 }
 
 impl Command {
@@ -137,73 +130,6 @@ impl Command {
             Action::Comment(commented, _) => commented.mentions(name),
             Action::Print(fields) => print_mentions(fields.as_slice(), name),
         }
-    }
-}
-
-/// The words of a command, but for those of `print`, are UTF-8. The body takes each as a `&str`, since of that the
-/// prover knows it; it does nothing else.
-pub fn words_are_utf8(command: &Command)
-    ensures { spec.command_passes is_utf8 command.now ≡ true }
-{
-    command.action.words_are_utf8();
-}
-
-impl Action {
-    fn words_are_utf8(&self)
-        ensures { spec.command_passes is_utf8 self.now ≡ true }
-    {
-        match self {
-            Action::Add(attr, values) | Action::SetIfAbsent(attr, values) => {
-                word_is_utf8(attr);
-                each_word_is_utf8(values);
-            }
-            Action::Remove(attributes, values) => {
-                attributes.words_are_utf8();
-                each_word_is_utf8(values);
-            }
-            Action::Set(setting) => setting.words_are_utf8(),
-            Action::Delete | Action::Print(_) => {}
-            Action::Rename(old, new) => {
-                word_is_utf8(old);
-                word_is_utf8(new);
-            }
-            Action::Move(old, new, moved) => {
-                word_is_utf8(old);
-                word_is_utf8(new);
-                moved.words_are_utf8();
-            }
-            Action::Replace(attributes, old, new) => {
-                attributes.words_are_utf8();
-                word_is_utf8(old);
-                word_is_utf8(new);
-            }
-            Action::Comment(commented, text) => {
-                commented.words_are_utf8();
-                word_is_utf8(text);
-            }
-        }
-    }
-}
-
-/// What a command makes of a slot, and tells.
-pub(crate) fn carry_out(
-    alloc: Global,
-    command: &Command,
-    home: &Package,
-    slot: &mut Option<Stmt<'_>>,
-) -> Executed
-    ensures command { IsTrue (spec.is_command command.now) }
-    ensures slot { OnOk result (slot_view slot.new ≡ spec.after command.now home.now (slot_view slot.old)) }
-    ensures done { IfOk result (λ done. done ≡ spec.done_of command.now home.now (slot_view slot.old)) }
-    ensures no_rule { effects.holds_rule (slot_view slot.old) ≡ false → IsOk result }
-    ensures err { OnErr result (slot_view slot.new ≡ slot_view slot.old) }
-{
-    match &command.action {
-        Action::Delete => Ok(delete(slot)),
-        Action::Set(Setting::ToKind(kind)) => set_kind(alloc, kind.as_str(), slot),
-        Action::Comment(Commented::Rule, text) => comment_rule(alloc, text.as_str(), slot),
-        Action::Print(fields) => print(Env { alloc, home }, fields.as_slice(), slot),
-        _ => on_args(alloc, command, home, slot),
     }
 }
 
@@ -236,9 +162,7 @@ pub(crate) fn in_args(
         Action::Replace(attributes, old, new) => {
             replace(alloc, home, attributes, old.as_str(), new.as_str(), args)
         }
-        Action::Comment(commented, text) => {
-            comment(Env { alloc, home }, commented, text.as_str(), args)
-        }
+        Action::Comment(commented, text) => comment(env, commented, text.as_str(), args),
         _ => Ok(Done::quiet(false)),
     }
 }

@@ -15,7 +15,7 @@ mod woven;
 
 pub use bz_attribute::{Done, Note, RuleName, label, matches, rule_name, shown};
 pub use bz_command::{LabelFault, Package, Target, Text, quote, read_label, same, value_is};
-pub use command::{Action, Command, CommandFault, LEFT_OUT, USAGE, words_are_utf8};
+pub use command::{Action, Command, CommandFault, LEFT_OUT, USAGE};
 pub use lazy::{LazyStmt, apply_lazy};
 pub use reader::read_command;
 pub use shallow::ShallowStmt;

@@ -1,17 +1,19 @@
 //! A command applied to what a slot holds.
 
-ghost use Rattle.std.specs.Prelude.{◌≡◌, ◌↔◌, IfOk, IsOk, OnOk, OnErr, None, false, is_some, option_map, true};
-ghost use Rattle.bz_tree.specs.View.{node_view, nodes_view, view, slot_view};
-ghost use Rattle.bz_attribute.specs.Rules.{rule_of, elements};
+ghost use Rattle.std.specs.Prelude.{◌≡◌, ◌↔◌, IfOk, IsOk, OnOk, OnErr, None, false, if◌then◌else◌, option_map, true};
+ghost use Rattle.bz_tree.specs.View.{node_view, slot_view};
+ghost use Rattle.bz_attribute.specs.Rules.{elements};
 ghost use Rattle.bz_attribute.specs.Lists.{edit_list};
-ghost use Rattle.bz_rule.specs.declared.command.Action.TheVariants.{Delete};
 ghost use Rattle.bz_attribute.specs.Effects as spec;
 ghost use Rattle.bz_rule.specs.Commands as commands;
 
-use crate::command::{Command, carry_out, in_args};
-use bz_attribute::{Done, Executed, call_at};
-use bz_command::Package;
-use bz_tree::{Node, Seg, Stmt};
+use crate::command::{Action, Command, in_args};
+use bz_attribute::{Done, Env, Executed, call_at};
+use bz_attribute_commands::comment::comment_rule;
+use bz_attribute_commands::print::print;
+use bz_attribute_commands::set_kind::set_kind;
+use bz_command::{Commented, Package, Setting};
+use bz_tree::{Node, Stmt};
 use std::alloc::Global;
 
 /// Applies a command to what a slot holds, in the package of its file. A slot that holds no rule stays as it is, and so
@@ -29,14 +31,20 @@ pub fn apply(
     ensures no_rule { spec.holds_rule (slot_view slot.old) ≡ false → IsOk result }
     ensures err { OnErr result (slot_view slot.new ≡ slot_view slot.old) }
 {
-    let done = carry_out(alloc, command, home, slot)?;
+    let done = match &command.action {
+        Action::Delete => delete(slot),
+        Action::Set(Setting::ToKind(kind)) => set_kind(alloc, kind.as_str(), slot)?,
+        Action::Comment(Commented::Rule, text) => comment_rule(alloc, text.as_str(), slot)?,
+        Action::Print(fields) => print(Env { alloc, home }, fields.as_slice(), slot)?,
+        _ => on_args(alloc, command, home, slot)?,
+    };
     Ok(done)
 }
 
 // Takes a rule out of its slot.
-pub(crate) fn delete(slot: &mut Option<Stmt<'_>>) -> Done
-    ensures slot { (home : _) → slot_view slot.new ≡ commands.after Delete home (slot_view slot.old) }
-    ensures done { (home : _) → result ≡ commands.done_of Delete home (slot_view slot.old) }
+fn delete(slot: &mut Option<Stmt<'_>>) -> Done
+    ensures slot { slot_view slot.new ≡ if spec.holds_rule (slot_view slot.old) then None else slot_view slot.old }
+    ensures done { result ≡ spec.done None (spec.holds_rule (slot_view slot.old)) }
 {
     if holds_rule(slot) {
         *slot = None;
@@ -52,7 +60,7 @@ fn holds_rule(slot: &Option<Stmt<'_>>) -> bool
 }
 
 // Edits the arguments of a rule in a slot, and nothing else.
-pub(crate) fn on_args(
+fn on_args(
     alloc: Global,
     command: &Command,
     home: &Package,

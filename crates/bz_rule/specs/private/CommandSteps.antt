@@ -1,10 +1,14 @@
 -- For private clauses alone: what the words of a command give.
-use Rattle.std.specs.Prelude.{ℕ, List, [], ◌∷◌, if◌then◌else◌, Option, Some, None, Result, Ok, Err}
+use Rattle.std.specs.Prelude.{ℕ, List, [], ◌∷◌, if◌then◌else◌, Result, Ok, Err}
 use Rattle.bz_rule.specs.declared.command.CommandFault.{CommandFault}
 use Rattle.bz_rule.specs.declared.command.CommandFault.TheVariants.{WrongCount, BadAttribute}
-use Rattle.bz_rule.specs.Commands.{Command, a_command, is_star}
+use Rattle.bz_rule.specs.Commands.{is_star, field_of}
 use Rattle.bz_command.specs.declared.arguments.Attributes.{Attributes}
 use Rattle.bz_command.specs.declared.arguments.Attributes.TheVariants.{Every, Named}
+use Rattle.bz_command.specs.declared.arguments.Commented.{Commented}
+use Rattle.bz_command.specs.declared.arguments.Commented.TheVariants.{Rule, Attribute, Value}
+use Rattle.bz_command.specs.declared.arguments.Field.{Field}
+use Rattle.bz_command.specs.Arguments.{is_field}
 use Rattle.bz_command.specs.Names.{is_identifier}
 
 abbrev pub attribute_of : List ℕ → Result (List ℕ) CommandFault
@@ -14,17 +18,12 @@ attribute_of word = if is_identifier word then Ok word else Err BadAttribute
 abbrev pub attributes_of : List ℕ → Result Attributes CommandFault
 attributes_of word = if is_star word then Ok Every else (if is_identifier word then Ok (Named word) else Err BadAttribute)
 
--- one or more words
-abbrev pub some_of : List (List ℕ) → Result (List (List ℕ)) CommandFault
-some_of [] = Err WrongCount
-some_of (word ∷ words) = Ok (word ∷ words)
+-- what a comment stands before
+abbrev pub place_of : List (List ℕ) → Result Commented CommandFault
+place_of [] = Ok Rule
+place_of (attr ∷ []) = if is_identifier attr then Ok (Attribute attr) else Err BadAttribute
+place_of (attr ∷ value ∷ []) = if is_identifier attr then Ok (Value attr value) else Err BadAttribute
+place_of _ = Err WrongCount
 
--- no words
-abbrev pub none_of : List (List ℕ) → Result (Unit {0}) CommandFault
-none_of [] = Ok tt
-none_of (word ∷ words) = Err WrongCount
-
--- what is read where a name may be no command's
-abbrev pub command_read : Option (Result Command CommandFault) → Result (Option Command) CommandFault
-command_read None = Ok None
-command_read (Some read) = a_command read
+abbrev pub a_field : List ℕ → Result Field CommandFault
+a_field word = if is_field word then Ok (field_of word) else Err BadAttribute
