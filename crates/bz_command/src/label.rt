@@ -119,5 +119,5 @@ pub fn same_label(home: &Package, a: Bytes<'_>, b: Bytes<'_>) -> bool
     requires b { IsTrue (is_good b) }
     ensures { result ≡ bytes_eq (spec.completed home.now (left a.entry)) (spec.completed home.now (left b.entry)) }
 {
-    Label::new(home, a) == Label::new(home, b)
+    order(&completed(home, a), &completed(home, b)).is_eq()
 }

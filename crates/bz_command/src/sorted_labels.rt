@@ -55,14 +55,8 @@ impl<'a> SortedLabels<'a> {
         requires { IsTrue (is_good text) }
         ensures { result ≡ holds self.now.home.now self.now.labels.items (left text.entry) }
     {
-        is_among(&self.labels, &Label::new(self.home, text))
+        self.labels
+            .binary_search(&Label::new(self.home, text))
+            .is_ok()
     }
-}
-
-// Both at one lifetime, since labels are compared with their own kind alone.
-fn is_among<'a>(labels: &'a [Label<'a>], label: &'a Label<'a>) -> bool
-    requires { IsSorted label_cmp labels.now }
-    ensures { result ≡ list_any (bytes_eq label.now) labels.now }
-{
-    labels.binary_search(label).is_ok()
 }
