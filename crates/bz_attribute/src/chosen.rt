@@ -67,7 +67,8 @@ fn drop_in_value(home: &Package, chosen: Chosen<'_, '_>, value: &mut [Node<'_>])
     let mut at = 0;
     while let Some(i) = next_part(value, at) {
         if let Node::Group(list) = &mut value[i] {
-            list.segs.retain(|element| !is_chosen(home, chosen, element));
+            list.segs
+                .retain(|element| !is_chosen(home, chosen, element));
         }
         at = i + 1;
     }

@@ -30,7 +30,9 @@ pub fn labels_in<'s>(
     let mut at = 0;
     while let Some(i) = next_part(value, at) {
         for element in elements_at(&value[i]) {
-            if is_chosen(home, chosen, element) && let Some(text) = string_of(element) {
+            if is_chosen(home, chosen, element)
+                && let Some(text) = string_of(element)
+            {
                 set.insert(text)?;
             }
         }

@@ -1,8 +1,8 @@
 -- Steps to a comment: the line without the blanks at its end, and the element that it goes to.
-use Rattle.std.proofs.Common.{◌≡◌, ℕ, suc, ◌+◌, ◌-◌, ◌<◌, ◌≤◌, List, [], ◌∷◌, ◌++◌, Bool, true, false, ◌&&◌, if◌then◌else◌, length, get_or, set, take, drop, refl, ap, subst, sym, ◌∙◌, arith, add-one, is_some, Option, Some, None, IfSome, IfNone, nat_lt, inl, inr}
+use Rattle.std.proofs.Common.{◌≡◌, ℕ, zero, suc, ◌||◌, append_assoc, ◌+◌, ◌-◌, ◌<◌, ◌≤◌, List, [], ◌∷◌, ◌++◌, Bool, true, false, ◌&&◌, if◌then◌else◌, length, get_or, set, take, drop, refl, ap, subst, sym, ◌∙◌, arith, add-one, is_some, Option, Some, None, IfSome, IfNone, nat_lt, inl, inr}
 use Rattle.std.specs.Prelude.{position}
 use Rattle.std.specs.List.{list_all, list_any, position_or_len}
-use Rattle.std.proofs.lemmas.List.{drop_more, set_split, map-append, map-set, get_or-map, set-get_or, length-map, length-drop, drop-map, get_or-drop, get_or_default, take_more, take_all, take_rest}
+use Rattle.std.proofs.lemmas.List.{drop_more, set_split, map-set, get_or-map, set-get_or, length-map, length-drop, drop-map, get_or-drop, get_or_default, take_more, take_all, take_rest}
 use Rattle.std.proofs.lemmas.Bool.{cases_Bool}
 use Rattle.std.proofs.lemmas.Bool.Decides.{nat_tests}
 use Rattle.bz_tree.specs.declared.stmt.Node.{Node}
@@ -11,7 +11,7 @@ use Rattle.bz_tree.specs.declared.stmt.Seg.{Seg, roll-Seg}
 use Rattle.bz_tree.specs.Tree.{Item, Segment}
 use Rattle.bz_tree.specs.View.{node_view, nodes_view, seg_view, segs_view}
 use Rattle.bz_attribute.specs.Rules.{elements, first_named, is_named, value}
-use Rattle.bz_attribute.specs.Lists.{edit_list, equals, is_part, is_joint, parts_from, parts}
+use Rattle.bz_attribute.specs.Lists.{edit_list, equals, is_joint, parts}
 use Rattle.bz_attribute.specs.Effects.{done, edit_first, failed, first_note, has, no_parts}
 use Rattle.bz_command.specs.Labels.{Package}
 use Rattle.bz_attribute.specs.declared.done.Note.{Note}
@@ -20,6 +20,8 @@ use Rattle.bz_attribute.specs.private.Places.{IsAbsent, IsFirst}
 use Rattle.bz_attribute.specs.Comment.{is_blank, trimmed, comment_element, comment_line, comment_note, comment_value, edit_element, edit_element_from, with_comment}
 use Rattle.bz_attribute_commands.specs.private.CommentPlaces.{IsFirstOf, IsNowhere, IsPartWith, ends_blank, no_value_note}
 use Rattle.bz_attribute.proofs.First.{has_one, has_none, put_first, edit_first_none}
+use Rattle.bz_attribute.specs.private.NextPart.{IsNextPart, KeepsOthers, edited_from, rest}
+use Rattle.bz_attribute.proofs.NextPart.{edited_more, no_plus}
 use Rattle.bz_attribute.proofs.Groups.{view_of_seg}
 use Rattle.bz_attribute.proofs.Mapped.{position_or_len-map}
 use Rattle.bz_attribute_commands.proofs.Written.{nodes_written}
@@ -189,27 +191,65 @@ missing home attr v args i x ns first is none =
     missing_note home attr v (segs_view args) (seg_view (get_or args i x)) first.there (first.first x) (sym (ap (λ (zs : List Item). list_any (list_any (equals home v)) (parts zs)) read) ∙ none)
     ∙ sym (ap (λ (zs : List Item). Some (no_value_note attr v (parts zs))) read)
 
--- no list part before i has an element that passes, and a piece begins at i where `start`
-pub record NoneYet (p : Segment → Bool) (ns : List Node) (i : ℕ) (start : Bool) : Type 0 where
-  pub one : (f : Segment → Segment) → nodes_view (take i ns) ++ edit_element_from p f start (nodes_view (drop i ns)) ≡ edit_element_from p f true (nodes_view ns)
-  pub lists : list_any (list_any p) (parts_from start (nodes_view (drop i ns))) ≡ list_any (list_any p) (parts_from true (nodes_view ns))
+-- no list part before `at` has an element that passes
+pub record NoneYet (p : Segment → Bool) (ns : List Node) (at : ℕ) : Type 0 where
+  pub joints : 0 < at → list_all is_joint (nodes_view ns) ≡ true
+  pub one : (f : Segment → Segment) → edited_from (edit_element_from p f) at (nodes_view ns) ≡ edit_element_from p f true (nodes_view ns)
+  pub lists : list_any (list_any p) (rest at (nodes_view ns)) ≡ list_any (list_any p) (parts (nodes_view ns))
 
-pub part_with : (p : Segment → Bool) (ns : List Node) (i : ℕ) (start : Bool) (n : Node) → list_all is_joint (nodes_view ns) ≡ true → i < length ns → NoneYet p ns i start → ((d : Node) → is_part start (node_view (get_or ns i d)) (nodes_view (drop (i + 1) ns)) ≡ true) → n ≡ get_or ns i n → list_any p (elements (node_view n)) ≡ true → IsPartWith p ns i
-part_with p ns i start n joints h before told at has =
-    let rest : (d : Node) → nodes_view (drop i ns) ≡ node_view (get_or ns i d) ∷ nodes_view (drop (i + 1) ns) = λ d. ap nodes_view (drop_more ns i d h) in
-    let passes : (d : Node) → list_any p (elements (node_view (get_or ns i d))) ≡ true = λ d. ap (λ (z : Node). list_any p (elements (node_view z))) (get_or_default ns i d n h ∙ sym at) ∙ has in
+keeps_others : (p : Segment → Bool) (f : Segment → Segment) → KeepsOthers (edit_element_from p f)
+keeps_others p f start x xs told = rw told refl
+
+either : {P : Type 0} (at : ℕ) → (at ≡ 0 → P) → (0 < at → P) → P
+either zero first later = first refl
+either (suc at) first later = later (omega arith)
+
+-- the next list part is x
+next_drop : (ns : List Node) (i : ℕ) (d : Node) → i < length ns → drop i (nodes_view ns) ≡ node_view (get_or ns i d) ∷ drop (i + 1) (nodes_view ns)
+next_drop ns i d h = drop_more (nodes_view ns) i (node_view d) (omega (arith, length-map ns node_view, h)) ∙ ap (λ (x : Item). x ∷ drop (i + 1) (nodes_view ns)) (get_or-map node_view ns i d (node_view d) h)
+
+pub part_without : (p : Segment → Bool) (ns : List Node) (at i : ℕ) (n : Node) → NoneYet p ns at → IsNextPart ns at i → n ≡ get_or ns i n → list_any p (elements (node_view n)) ≡ false → NoneYet p ns (i + 1)
+part_without p ns at i n before next is none =
+    let xs : List Item = nodes_view ns in
+    let x : Item = node_view (get_or ns i n) in
+    let has_none : list_any p (elements x) ≡ false = ap (λ (z : Node). list_any p (elements (node_view z))) (sym is) ∙ none in
     record {
-      within = h;
+      joints = λ later. either at next.joints before.joints;
+      one = λ f.
+          let e : Bool → List Item → List Item = edit_element_from p f in
+          let step : e true (x ∷ drop (i + 1) xs) ≡ x ∷ e false (drop (i + 1) xs) = rw (next.part n, has_none) (ap (λ (b : Bool). x ∷ e b (drop (i + 1) xs)) (no_plus true x (drop (i + 1) xs) (next.part n))) in
+          edited_more e i xs
+          ∙ ap (λ (ys : List Item). ys ++ e false (drop (i + 1) xs)) (take_more xs i (node_view n) (omega (arith, length-map ns node_view, next.within)) ∙ ap (λ (z : Item). take i xs ++ z ∷ []) (get_or-map node_view ns i n (node_view n) next.within))
+          ∙ append_assoc (take i xs) (x ∷ []) (e false (drop (i + 1) xs))
+          ∙ ap (λ (ys : List Item). take i xs ++ ys) (sym step ∙ ap (e true) (sym (next_drop ns i n next.within)))
+          ∙ sym (next.others e (keeps_others p f))
+          ∙ before.one f;
+      lists = sym (ap (list_any (list_any p)) (next.read n) ∙ ap (λ (b : Bool). b || list_any (list_any p) (rest (i + 1) xs)) has_none) ∙ before.lists;
+    }
+
+pub part_with : (p : Segment → Bool) (ns : List Node) (at i : ℕ) (n : Node) → NoneYet p ns at → IsNextPart ns at i → n ≡ get_or ns i n → list_any p (elements (node_view n)) ≡ true → IsPartWith p ns i
+part_with p ns at i n before next is has =
+    let xs : List Item = nodes_view ns in
+    let joints : list_all is_joint xs ≡ true = either at next.joints before.joints in
+    let passes : (d : Node) → list_any p (elements (node_view (get_or ns i d))) ≡ true = λ d. ap (λ (z : Node). list_any p (elements (node_view z))) (get_or_default ns i d n next.within ∙ sym is) ∙ has in
+    record {
+      within = next.within;
       has = passes;
-      there =
-          let whole : parts (nodes_view ns) ≡ parts_from true (nodes_view ns) = rw joints refl in
-          let step : list_any (list_any p) (parts_from start (node_view (get_or ns i n) ∷ nodes_view (drop (i + 1) ns))) ≡ true = rw (told n, passes n) refl in
-          ap (list_any (list_any p)) whole ∙ sym before.lists ∙ ap (λ (xs : List Item). list_any (list_any p) (parts_from start xs)) (rest n) ∙ step;
-      same = λ m d kept. map-set node_view ns i m ∙ ap (set (nodes_view ns) i) (kept ∙ sym (get_or-map node_view ns i d (node_view d) h)) ∙ set-get_or (nodes_view ns) i (node_view d);
+      there = sym before.lists ∙ ap (list_any (list_any p)) (next.read n) ∙ ap (λ (b : Bool). b || list_any (list_any p) (rest (i + 1) xs)) (passes n);
+      same = λ m d kept. map-set node_view ns i m ∙ ap (set xs i) (kept ∙ sym (get_or-map node_view ns i d (node_view d) next.within)) ∙ set-get_or xs i (node_view d);
       put = λ f m d edited.
-          let step : edit_element_from p f start (node_view (get_or ns i d) ∷ nodes_view (drop (i + 1) ns)) ≡ edit_list (edit_first p (λ s. f s ∷ [])) (node_view (get_or ns i d)) ∷ nodes_view (drop (i + 1) ns) = rw (told d, passes d) refl in
-          let whole : edit_element p f (nodes_view ns) ≡ edit_element_from p f true (nodes_view ns) = rw joints refl in
-          let made : nodes_view (set ns i m) ≡ nodes_view (take i ns) ++ node_view m ∷ nodes_view (drop (suc i) ns) = ap nodes_view (set_split ns i m h) ∙ map-append node_view (take i ns) (m ∷ drop (suc i) ns) in
-          let next : drop (suc i) ns ≡ drop (i + 1) ns = ap (λ (k : ℕ). drop k ns) (sym (add-one i)) in
-          made ∙ ap (λ (zs : List Node). nodes_view (take i ns) ++ node_view m ∷ nodes_view zs) next ∙ ap (λ (z : Item). nodes_view (take i ns) ++ z ∷ nodes_view (drop (i + 1) ns)) edited ∙ ap (λ (zs : List Item). nodes_view (take i ns) ++ zs) (sym step ∙ ap (edit_element_from p f start) (sym (rest d))) ∙ before.one f ∙ sym whole;
+          let e : Bool → List Item → List Item = edit_element_from p f in
+          let x : Item = node_view (get_or ns i d) in
+          let y : Item = edit_list (edit_first p (λ s. f s ∷ [])) x in
+          let long : i < length xs = omega (arith, length-map ns node_view, next.within) in
+          let step : e true (x ∷ drop (i + 1) xs) ≡ y ∷ drop (i + 1) xs = rw (next.part d, passes d) refl in
+          let whole : edit_element p f xs ≡ e true xs = rw joints refl in
+          map-set node_view ns i m
+          ∙ ap (set xs i) edited
+          ∙ set_split xs i y long
+          ∙ ap (λ (k : ℕ). take i xs ++ y ∷ drop k xs) (sym (add-one i))
+          ∙ ap (λ (ys : List Item). take i xs ++ ys) (sym step ∙ ap (e true) (sym (next_drop ns i d next.within)))
+          ∙ sym (next.others e (keeps_others p f))
+          ∙ before.one f
+          ∙ sym whole;
     }

@@ -11,10 +11,7 @@ ghost use Rattle.bz_attribute_commands.specs.private.CommentPlaces as place;
 ghost use Rattle.bz_attribute.specs.Comment as spec;
 
 use bz_attribute::equals::equals;
-use bz_attribute::{
-    Done, Executed, Note, are_joints, call_at, elements_at, find, first_part, is_operator_item,
-    is_part,
-};
+use bz_attribute::{Done, Executed, Note, call_at, elements_at, find, first_part, next_part};
 use bz_command::{Commented, Package, Text};
 use bz_tree::{Node, Seg, Stmt};
 use std::alloc::Global;
@@ -111,15 +108,12 @@ fn part_with(home: &Package, value: &str, nodes: &[Node<'_>]) -> Option<usize>
     ensures none { IfNone result
         (list_any (list_any (equals home.now value.now)) (parts (nodes_view nodes.now)) ≡ false) }
 {
-    if !are_joints(nodes) {
-        return None;
-    }
-    let mut start = true;
-    for i in 0..nodes.len() {
-        if is_part(start, nodes, i) && find_equal(home, value, elements_at(&nodes[i])).is_some() {
+    let mut at = 0;
+    while let Some(i) = next_part(nodes, at) {
+        if find_equal(home, value, elements_at(&nodes[i])).is_some() {
             return Some(i);
         }
-        start = is_operator_item(&nodes[i], "+");
+        at = i + 1;
     }
     None
 }

@@ -45,12 +45,13 @@ pub puts : (c : Change) (ss now : List Seg) (i : ℕ) (x d s : Seg) (b : Bool) (
 puts c ss now i x d s b held left all first total h at told is strings popped made edited counted =
     let here : goes c (seg_view (get_or ss i d)) ≡ true = ap (λ (z : Seg). goes c (seg_view z)) (get_or_default ss i d x h ∙ sym at) ∙ sym told ∙ is in
     let after : drop (i + 1) now ≡ drop (i + 1) ss = ap (drop (i + 1)) made ∙ drop-set-lt (i + 1) ss i _ (omega arith) in
-    let fewer : length held ≡ length left + 1 = ap length popped ∙ length-append left (s ∷ []) in
-    (ap (λ (zs : List Seg). take (i + 1) (segs_view zs) ++ put c (drop (i + 1) (segs_view zs))) made
-    ∙ edit_step (replaced c.home.now c.old.now c.new.now) ss i _ d h (replaced_at c (get_or ss i d) s held left here strings popped)
-    ∙ edited
-    , (last_string c.new.now left s (subst (AreStrings c.new.now) popped strings)).0
-    , omega (arith, counted, fewer, count_one (goes c) ss i x b h at told is, ap (λ (zs : List Seg). count c (segs_view zs)) after))
+    let fewer : length held ≡ length left + 1 = ap length popped ∙ length-append left (s ∷ []) in (
+      ap (λ (zs : List Seg). take (i + 1) (segs_view zs) ++ put c (drop (i + 1) (segs_view zs))) made
+          ∙ edit_step (replaced c.home.now c.old.now c.new.now) ss i _ d h (replaced_at c (get_or ss i d) s held left here strings popped)
+          ∙ edited,
+      (last_string c.new.now left s (subst (AreStrings c.new.now) popped strings)).0,
+      omega (arith, counted, fewer, count_one (goes c) ss i x b h at told is, ap (λ (zs : List Seg). count c (segs_view zs)) after),
+    )
 
 -- it stays
 pub keeps : (c : Change) (ss : List Seg) (i : ℕ) (x : Seg) (b : Bool) (all : List Segment) (held first total : ℕ) → i < length ss → x ≡ get_or ss i x → b ≡ goes c (seg_view x) → b ≡ false
@@ -59,9 +60,10 @@ pub keeps : (c : Change) (ss : List Seg) (i : ℕ) (x : Seg) (b : Bool) (all : L
 keeps c ss i x b all held first total h at told is edited counted =
     let f : Segment → Segment = replaced c.home.now c.old.now c.new.now in
     let here : goes c (seg_view (get_or ss i x)) ≡ false = ap (λ (z : Seg). goes c (seg_view z)) (sym at) ∙ sym told ∙ is in
-    let stays : seg_view (get_or ss i x) ≡ f (seg_view (get_or ss i x)) = sym (ap (λ (b : Bool). if b then record (seg_view (get_or ss i x)) { nodes = string_item c.new.now ∷ [] } else seg_view (get_or ss i x)) here) in
-    (sym (ap (λ (zs : List Seg). take (i + 1) (segs_view zs) ++ map f (drop (i + 1) (segs_view zs))) (set-get_or ss i x)) ∙ edit_step f ss i (get_or ss i x) x h stays ∙ edited
-    , omega (arith, counted, count_none (goes c) ss i x b h at told is))
+    let stays : seg_view (get_or ss i x) ≡ f (seg_view (get_or ss i x)) = sym (ap (λ (b : Bool). if b then record (seg_view (get_or ss i x)) { nodes = string_item c.new.now ∷ [] } else seg_view (get_or ss i x)) here) in (
+      sym (ap (λ (zs : List Seg). take (i + 1) (segs_view zs) ++ map f (drop (i + 1) (segs_view zs))) (set-get_or ss i x)) ∙ edit_step f ss i (get_or ss i x) x h stays ∙ edited,
+      omega (arith, counted, count_none (goes c) ss i x b h at told is),
+    )
 
 -- there is a string for it
 pub never_empty : {P : Type 0} (c : Change) (ss : List Seg) (i : ℕ) (x : Seg) (b : Bool) (n held first total : ℕ) → i < length ss → x ≡ get_or ss i x → b ≡ goes c (seg_view x) → b ≡ true

@@ -53,7 +53,7 @@ loop-element-preserved c =
                   step text
                   (ap (λ (s : LabelSet). has s text) w.set-is
                   ∙ ap (λ (b : Bool). (b && is_chosen home (Values (text ∷ [])) s) || has c.loop-element.set text) (sym w'.if-is_chosen.false ∙ c.is_chosen.ensures))
-              | else-is_chosen-via-then-is_chosen+in-None-1 w' ↦ 
+              | else-is_chosen-via-then-is_chosen+in-None-1 w' ↦
                   let is_none : w'.string_of.result ≡ None = search rules in
                   let none : string_value s.nodes ≡ None = subst (λ (o : Option Bytes). IfNone o (string_value s.nodes ≡ None)) is_none w'.string_of.ensures.none in
                   step text
