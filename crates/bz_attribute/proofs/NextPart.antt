@@ -100,7 +100,7 @@ begins_part : (start : Bool) (x : Item) (xs : List Item) → is_part start x xs 
 begins_part false x xs h = absurd cc
 begins_part true x xs h = refl
 
-no_plus : (start : Bool) (x : Item) (xs : List Item) → is_part start x xs ≡ true → is_plus x ≡ false
+pub no_plus : (start : Bool) (x : Item) (xs : List Item) → is_part start x xs ≡ true → is_plus x ≡ false
 no_plus false x xs h = absurd cc
 no_plus true (leaf kind text) xs h = absurd cc
 no_plus true (group kind segs one_comma end) xs h = refl
@@ -110,6 +110,9 @@ rest_more i xs = subst (λ (k : ℕ). rest k xs ≡ parts_from false (drop k xs)
 
 edit_rest_more : (f : List Segment → List Segment) (i : ℕ) (xs : List Item) → edit_rest f (i + 1) xs ≡ take (i + 1) xs ++ edit_from f false (drop (i + 1) xs)
 edit_rest_more f i xs = subst (λ (k : ℕ). edit_rest f k xs ≡ take k xs ++ edit_from f false (drop k xs)) (sym (add-one i)) refl
+
+pub edited_more : (e : Bool → List Item → List Item) (i : ℕ) (xs : List Item) → edited_from e (i + 1) xs ≡ take (i + 1) xs ++ e false (drop (i + 1) xs)
+edited_more e i xs = subst (λ (k : ℕ). edited_from e k xs ≡ take k xs ++ e false (drop k xs)) (sym (add-one i)) refl
 
 -- the list part x stands at i
 part_read : (xs : List Item) (at i : ℕ) (x : Item) → Walked xs at i true → drop i xs ≡ x ∷ drop (i + 1) xs → is_part true x (drop (i + 1) xs) ≡ true → rest at xs ≡ elements x ∷ rest (i + 1) xs
@@ -168,6 +171,7 @@ next_at ns at i w h part =
       stay = λ m. rest_more i (nodes_view (set ns i m)) ∙ ap (parts_from false) (ap (drop (i + 1)) (map-set node_view ns i m) ∙ drop-set-lt (i + 1) xs i (node_view m) (omega arith)) ∙ sym (rest_more i xs);
       part = part;
       others = w.others;
+      joints = w.joints;
       first = λ zero.
           let whole : parts xs ≡ rest at xs = ap (λ (k : ℕ). rest k xs) (sym zero) in
           record {

@@ -25,8 +25,8 @@ pub use make::{
 };
 pub use marks::{RuleName, is_kind, matches, rule_name};
 pub use rule::{
-    Rule, call_at, find, first_named, ident_of, is_named, is_operator_item, is_string, name_of,
-    only_text, rule_of, value_of,
+    Rule, call_at, find, first_named, ident_of, is_named, is_string, name_of, only_text, rule_of,
+    value_of,
 };
 pub use texts::{label, push_home, push_kind, read_name, shown};
 pub use word_set::WordSet;

@@ -1,10 +1,11 @@
 -- For private clauses alone: a walk over the list parts of a value, from one to the next.
 use Rattle.std.specs.Prelude.{◌≡◌, ℕ, zero, suc, ◌+◌, ◌<◌, ◌≤◌, List, [], ◌∷◌, ◌++◌, Bool, true, false, length, get_or, set, take, drop}
+use Rattle.std.specs.List.{list_all}
 use Rattle.bz_tree.specs.declared.stmt.Node.{Node}
 use Rattle.bz_tree.specs.Tree.{Item, Segment}
 use Rattle.bz_tree.specs.View.{node_view, nodes_view}
 use Rattle.bz_attribute.specs.Rules.{elements}
-use Rattle.bz_attribute.specs.Lists.{edit_from, edit_list, edit_parts, is_part, is_plus, parts, parts_from}
+use Rattle.bz_attribute.specs.Lists.{edit_from, edit_list, edit_parts, is_joint, is_part, is_plus, parts, parts_from}
 use Rattle.bz_attribute.specs.private.Places.{IsFirstPart}
 
 -- the elements of each list part from a place on: the first one, or what comes after a list part
@@ -35,6 +36,7 @@ pub record IsNextPart (value : List Node) (at i : ℕ) : Type 0 where
   pub stay : (m : Node) → rest (i + 1) (nodes_view (set value i m)) ≡ rest (i + 1) (nodes_view value)
   pub part : (d : Node) → is_part true (node_view (get_or value i d)) (drop (i + 1) (nodes_view value)) ≡ true
   pub others : (e : Bool → List Item → List Item) → KeepsOthers e → edited_from e at (nodes_view value) ≡ take i (nodes_view value) ++ e true (drop i (nodes_view value))
+  pub joints : at ≡ 0 → list_all is_joint (nodes_view value) ≡ true
   pub first : at ≡ 0 → IsFirstPart value i
 
 -- there is no list part from `at` on
