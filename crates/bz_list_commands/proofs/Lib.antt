@@ -4,7 +4,6 @@ pub mod FirstFiltered
 pub mod Flags
 pub mod Known
 pub mod Leaving
-pub mod Notes
 pub mod Pool
 pub mod Replaced
 pub mod Written
