@@ -8,14 +8,12 @@ use Rattle.std.proofs.lemmas.List.{append-nil, drop_all, drop_more, take_all, ta
 use Rattle.bz_tree.specs.declared.stmt.Seg.{Seg}
 use Rattle.bz_tree.specs.View.{seg_view, segs_view}
 use Rattle.bz_tree.specs.Tree.{Segment}
-use Rattle.bz_attribute.specs.Rules.{first_named, is_named, value}
+use Rattle.bz_attribute.specs.Rules.{value}
 use Rattle.bz_attribute.specs.Lists.{edit_parts, is_attribute, with_value}
 use Rattle.bz_command.specs.Labels.{Package}
 use Rattle.bz_command.specs.declared.arguments.Attributes.{Attributes}
 use Rattle.bz_command.specs.declared.arguments.Attributes.TheVariants.{Every, Named}
-use Rattle.bz_command.specs.declared.arguments.Moved.TheVariants.{Values}
-use Rattle.bz_attribute.specs.Effects.{chooses_in, edit_first, filtered, unchosen}
-use Rattle.bz_attribute.specs.Remove.{chooses_anywhere, filtered_everywhere, remove, removes}
+use Rattle.bz_attribute.specs.Remove.{remove, removes}
 use Rattle.bz_list_commands.specs.private.EditSteps.{edit_attribute, goes}
 
 -- one on: y stands where its like stood
@@ -102,20 +100,3 @@ pub removes_whole : (home : Package) (attributes : Attributes) (values : List (L
 removes_whole home Every [] args h = refl
 removes_whole home (Named attr) [] args h = refl
 removes_whole home attributes (v ∷ values) args h = absurd (false≢true (sym (not_empty (length values)) ∙ h))
-
--- with values
-pub removed_everywhere : (home : Package) (values : List (List ℕ)) (args : List Segment) → (length values == 0) ≡ false → filtered_everywhere (unchosen home (Values values)) args ≡ remove home Every values args
-removed_everywhere home [] args h = absurd cc
-removed_everywhere home (v ∷ values) args h = refl
-
-pub removes_anywhere : (home : Package) (values : List (List ℕ)) (args : List Segment) → (length values == 0) ≡ false → chooses_anywhere home (Values values) args ≡ removes home Every values args
-removes_anywhere home [] args h = absurd cc
-removes_anywhere home (v ∷ values) args h = refl
-
-pub removed_first : (home : Package) (attr : List ℕ) (values : List (List ℕ)) (args : List Segment) → (length values == 0) ≡ false → edit_first (is_named attr) (filtered (unchosen home (Values values))) args ≡ remove home (Named attr) values args
-removed_first home attr [] args h = absurd cc
-removed_first home attr (v ∷ values) args h = refl
-
-pub removes_first : (home : Package) (attr : List ℕ) (values : List (List ℕ)) (args : List Segment) → (length values == 0) ≡ false → chooses_in home (Values values) (first_named attr args) ≡ removes home (Named attr) values args
-removes_first home attr [] args h = absurd cc
-removes_first home attr (v ∷ values) args h = refl

@@ -4,7 +4,6 @@ pub mod FirstFiltered
 pub mod Flags
 pub mod Known
 pub mod Leaving
-pub mod Notes
 pub mod Replaced
 pub mod Strings
 pub mod Written

@@ -1,10 +1,7 @@
-use Rattle.bz_attribute.specs.Effects.{filtered, unchosen}
+use Rattle.bz_attribute.specs.Effects.{unchosen}
 use Rattle.bz_attribute.specs.private.ChosenViews.{chosen_view}
-use Rattle.bz_list_commands.proofs.FirstFiltered.{absent_stays, first_stays}
+use Rattle.bz_list_commands.proofs.FirstFiltered.{first_stays}
 use Rattle.bz_list_commands.proofs.remove.drop_in_first.Goals as goal
-
-pub returns-in_default-clause-args : goal.returns-in_default-clause-args
-returns-in_default-clause-args c = absent_stays c.args.attr.now (filtered (unchosen c.args.home.now (chosen_view c.args.chosen))) c.deref.result.now c.args.args.now.items c.in_default.ensures.none c.deref.ensures.value
 
 pub returns-else-not-drop_chosen-clause-args : goal.returns-else-not-drop_chosen-clause-args
 returns-else-not-drop_chosen-clause-args c =
