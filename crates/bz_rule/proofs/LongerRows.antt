@@ -1,5 +1,5 @@
 -- A rule with more arguments after its own.
-use Rattle.std.proofs.Common.{◌≡◌, ℕ, ◌+◌, ◌-◌, ◌≤◌, suc, length, zero, ◌<◌, get_or, List, [], ◌∷◌, ◌++◌, map, take, drop, Bool, true, false, not, ◌||◌, if◌then◌else◌, Option, Some, None, option_map, refl, sym, ◌∙◌, ap, subst, append_assoc, append-nil, arith, length-append}
+use Rattle.std.proofs.Common.{◌≡◌, ℕ, ◌+◌, ◌-◌, ◌≤◌, suc, length, zero, ◌<◌, get_or, List, [], ◌∷◌, ◌++◌, map, take, drop, Bool, true, false, ◌||◌, if◌then◌else◌, Option, Some, None, option_map, refl, sym, ◌∙◌, ap, subst, append_assoc, append-nil, arith, length-append}
 use Rattle.std.specs.Prelude.{codes, bytes_eq}
 use Rattle.std.specs.List.{list_any}
 use Rattle.std.proofs.Math.Seq.{drop-append_seam, take-append_seam}
@@ -305,10 +305,6 @@ pub none_more : (s : Statement) (more : List Seg) → length more ≡ 0 → with
 none_more s [] h = no_more s
 none_more s (a ∷ more) h = absurd (omega (arith, h))
 
-pub not_true : (b : Bool) → not b ≡ true → b ≡ false
-not_true true h = absurd cc
-not_true false h = refl
-
 pub views_more : (args more : List Seg) → segs_view (args ++ more) ≡ segs_view args ++ segs_view more
 views_more [] more = refl
 views_more (a ∷ args) more = ap (λ (ss : List Segment). seg_view a ∷ ss) (views_more args more)
@@ -339,10 +335,6 @@ last_end_at ps zero d some within is none = absurd (omega (arith, some))
 last_end_at ps (suc n) d some within is none =
     let same : suc n - 1 ≡ n = omega arith in
     last_end ps n d (omega (arith, within)) (subst (λ (k : ℕ). is_end (part_view (get_or ps k d)) ≡ true) same is) none
-
-pub not_false : (b : Bool) → not b ≡ false → b ≡ true
-not_false true h = refl
-not_false false h = absurd cc
 
 view_take : (n : ℕ) (ps : List Part) → map part_view (take n ps) ≡ take n (map part_view ps)
 view_take zero ps = refl

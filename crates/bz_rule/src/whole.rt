@@ -19,24 +19,7 @@ use bz_attribute::rule_of;
 use bz_tree::{Group, GroupKind, Node, Part, Seg, Stmt};
 use std::alloc::{AllocError, Global};
 
-// The nodes of an argument with its value.
-fn push_filled<'s>(
-    arg: &'s Seg<'_>,
-    unread: &'s [Unread<'_>],
-    woven: &mut Woven<'s>,
-) -> Result<(), AllocError>
-    requires { AreApart (map parts_view unread.now) }
-    ensures { OnOk result (Adds
-        (items_parts (items_of (filled (all_apart (map parts_view unread.now)) (seg_view arg.now)).nodes))
-        woven.old woven.new) }
-{
-    woven.push_nodes(&arg.nodes)?;
-    match unread_value(arg, unread) {
-        None => Ok(()),
-        Some(value) => woven.insert(value.parts),
-    }
-}
-
+// The parts of an argument with its value.
 fn push_arg<'s>(
     arg: &'s Seg<'_>,
     unread: &'s [Unread<'_>],
@@ -48,7 +31,10 @@ fn push_arg<'s>(
         woven.old woven.new) }
 {
     woven.push_above(&arg.before)?;
-    push_filled(arg, unread, woven)?;
+    woven.push_nodes(&arg.nodes)?;
+    if let Some(value) = unread_value(arg, unread) {
+        woven.insert(value.parts)?;
+    }
     woven.push(Part::End)?;
     woven.push_beside(&arg.suffix)
 }
@@ -73,28 +59,6 @@ fn push_call<'s>(
     Ok(())
 }
 
-fn push_whole_nodes<'s>(
-    nodes: &'s [Node<'_>],
-    unread: &'s [Unread<'_>],
-    woven: &mut Woven<'s>,
-) -> Result<(), AllocError>
-    requires { AreApart (map parts_view unread.now) }
-    ensures { OnOk result (Adds
-        (items_parts (items_of (nodes_after (map (filled (all_apart (map parts_view unread.now)))) (nodes_view nodes.now)
-        (rule_of (nodes_view nodes.now))))) woven.old woven.new) }
-{
-    match rule_of(nodes) {
-        None => {
-            woven.push_nodes(nodes)?;
-            Ok(())
-        }
-        Some(rule) => {
-            woven.push_nodes(rule.kind)?;
-            push_call(rule.call, unread, woven)
-        }
-    }
-}
-
 /// The parts of a statement whose arguments have the values that stand apart.
 pub(crate) fn whole_parts<'s>(
     alloc: Global,
@@ -108,7 +72,13 @@ pub(crate) fn whole_parts<'s>(
 {
     let mut woven = Woven::new(alloc, unread.len())?;
     woven.push_above(&stmt.before)?;
-    push_whole_nodes(&stmt.nodes, unread, &mut woven)?;
+    match rule_of(&stmt.nodes) {
+        None => woven.push_nodes(&stmt.nodes)?,
+        Some(rule) => {
+            woven.push_nodes(rule.kind)?;
+            push_call(rule.call, unread, &mut woven)?;
+        }
+    }
     woven.push_beside(&stmt.suffix)?;
     Ok(woven)
 }
