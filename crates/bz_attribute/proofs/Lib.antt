@@ -1,12 +1,11 @@
 pub mod CallEdits
 pub mod Calls
 pub mod First
-pub mod FirstPart
 pub mod Fresh
 pub mod Groups
 pub mod Headed
 pub mod LabelSets
 pub mod Mapped
-pub mod PartEdits
+pub mod NextPart
 pub mod RuleNodes
 pub mod Views

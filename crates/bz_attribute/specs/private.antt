@@ -1,4 +1,5 @@
 pub mod ChosenViews
 pub mod ElementSets
 pub mod HeadParts
+pub mod NextPart
 pub mod Places

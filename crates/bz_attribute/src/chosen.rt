@@ -4,13 +4,13 @@ ghost use Rattle.std.specs.Prelude.{◌≡◌, ◌≤◌, length};
 ghost use Rattle.std.specs.List.{list_any};
 ghost use Rattle.bz_tree.specs.View.{node_view, nodes_view, seg_view, segs_view};
 ghost use Rattle.bz_attribute.specs.Rules.{elements, value};
-ghost use Rattle.bz_attribute.specs.Lists.{edit_list, edit_parts, parts, with_value};
+ghost use Rattle.bz_attribute.specs.Lists.{edit_parts, parts, with_value};
 ghost use Rattle.bz_attribute.specs.private.ChosenViews.{chosen_view};
 ghost use Rattle.bz_attribute.specs.Effects as spec;
 
 use crate::equals::{equals, equals_other};
-use crate::lists::{are_joints, elements_at, is_list, is_part};
-use crate::rule::{is_operator_item, value_of};
+use crate::lists::{elements_at, is_list, next_part};
+use crate::rule::value_of;
 use crate::word_set::WordSet;
 use bz_command::Package;
 use bz_tree::{Node, Seg};
@@ -50,42 +50,26 @@ pub fn is_any_chosen(home: &Package, chosen: Chosen<'_, '_>, value: &[Node<'_>])
     ensures { result
         ≡ list_any (list_any (spec.is_chosen home.now (chosen_view chosen.entry))) (parts (nodes_view value.now)) }
 {
-    if !are_joints(value) {
-        return false;
-    }
-    let mut start = true;
-    for i in 0..value.len() {
-        if is_part(start, value, i) && any_chosen(home, chosen, elements_at(&value[i])) {
+    let mut at = 0;
+    while let Some(i) = next_part(value, at) {
+        if any_chosen(home, chosen, elements_at(&value[i])) {
             return true;
         }
-        start = is_operator_item(&value[i], "+");
+        at = i + 1;
     }
     false
-}
-
-// Drops the chosen elements.
-fn drop_in_list(home: &Package, chosen: Chosen<'_, '_>, node: &mut Node<'_>)
-    ensures { node_view node.new ≡ edit_list (spec.unchosen home.now (chosen_view chosen.entry)) (node_view node.old) }
-{
-    if let Node::Group(group) = node {
-        group.segs.retain(|seg| !is_chosen(home, chosen, seg));
-    }
 }
 
 fn drop_in_value(home: &Package, chosen: Chosen<'_, '_>, value: &mut [Node<'_>])
     ensures { nodes_view value.new
         ≡ edit_parts (spec.unchosen home.now (chosen_view chosen.entry)) (nodes_view value.old) }
 {
-    if !are_joints(value) {
-        return;
-    }
-    let mut start = true;
-    for i in 0..value.len() {
-        let next = is_operator_item(&value[i], "+");
-        if is_part(start, value, i) {
-            drop_in_list(home, chosen, &mut value[i]);
+    let mut at = 0;
+    while let Some(i) = next_part(value, at) {
+        if let Node::Group(list) = &mut value[i] {
+            list.segs.retain(|element| !is_chosen(home, chosen, element));
         }
-        start = next;
+        at = i + 1;
     }
 }
 

@@ -19,7 +19,7 @@ pub use done::{Done, Executed, Note};
 pub use env::Env;
 pub use head::Head;
 pub use list_labels::labels_in;
-pub use lists::{are_joints, elements_at, first_part, is_attribute, is_list, is_part};
+pub use lists::{elements_at, first_part, is_attribute, is_list, next_part};
 pub use make::{
     argument, list, literal, push_argument, push_string, segment, string, strings, token,
 };

@@ -9,8 +9,7 @@ ghost use Rattle.bz_attribute.specs.private.ElementSets.{is_among, is_in};
 
 use crate::chosen::{Chosen, is_chosen};
 use crate::equals::string_of;
-use crate::lists::{are_joints, elements_at, is_part};
-use crate::rule::is_operator_item;
+use crate::lists::{elements_at, next_part};
 use bz_command::{LabelSet, Package};
 use bz_tree::{Node, Seg};
 use std::alloc::{AllocError, Global};
@@ -28,37 +27,14 @@ pub fn labels_in<'s>(
         ≡ is_in home.now (chosen_view chosen.entry) (parts (nodes_view value.now)) text) }
 {
     let mut set = LabelSet::new(alloc, home);
-    if !are_joints(value) {
-        return Ok(set);
-    }
-    let mut start = true;
-    for i in 0..value.len() {
-        if is_part(start, value, i) {
-            insert_chosen(home, chosen, elements_at(&value[i]), &mut set)?;
+    let mut at = 0;
+    while let Some(i) = next_part(value, at) {
+        for element in elements_at(&value[i]) {
+            if is_chosen(home, chosen, element) && let Some(text) = string_of(element) {
+                set.insert(text)?;
+            }
         }
-        start = is_operator_item(&value[i], "+");
+        at = i + 1;
     }
     Ok(set)
-}
-
-fn insert_chosen<'s>(
-    home: &Package,
-    chosen: Chosen<'_, '_>,
-    elements: &'s [Seg<'_>],
-    set: &mut LabelSet<'s>,
-) -> Result<(), AllocError>
-    requires { set.old.home.now ≡ home.now }
-    ensures home { set.new.home.now ≡ set.old.home.now }
-    ensures ok { OnOk result
-        (Gains (is_among home.now (chosen_view chosen.entry) (segs_view elements.now)) set.old set.new) }
-{
-    for element in elements {
-        if !is_chosen(home, chosen, element) {
-            continue;
-        }
-        if let Some(value) = string_of(element) {
-            set.insert(value)?;
-        }
-    }
-    Ok(())
 }

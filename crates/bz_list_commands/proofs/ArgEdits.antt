@@ -5,11 +5,10 @@ use Rattle.std.proofs.lemmas.Bool.{cases_Bool}
 use Rattle.std.proofs.lemmas.Bool.Decides.{nat_tests}
 use Rattle.std.proofs.lemmas.List.{append-nil, drop_all, drop_more, take_all, take_more_set, drop-set-lt, map-set, get_or_default, get_or-map, length-map, set-get_or}
 use Rattle.bz_tree.specs.declared.stmt.Seg.{Seg}
-use Rattle.bz_tree.specs.declared.stmt.Node.{Node}
-use Rattle.bz_tree.specs.View.{node_view, nodes_view, seg_view, segs_view}
-use Rattle.bz_tree.specs.Tree.{Item, Segment}
+use Rattle.bz_tree.specs.View.{seg_view, segs_view}
+use Rattle.bz_tree.specs.Tree.{Segment}
 use Rattle.bz_attribute.specs.Rules.{value}
-use Rattle.bz_attribute.specs.Lists.{edit_from, edit_parts, is_attribute, with_value}
+use Rattle.bz_attribute.specs.Lists.{edit_parts, is_attribute, with_value}
 use Rattle.bz_command.specs.Labels.{Package}
 use Rattle.bz_command.specs.declared.arguments.Attributes.{Attributes}
 use Rattle.bz_command.specs.declared.arguments.Attributes.TheVariants.{Every, Named}
@@ -37,11 +36,6 @@ pub all_edited : (e : Segment → Segment) (ss : List Seg) (all : List Segment) 
 all_edited e ss all i end is =
     let long : length (segs_view ss) ≤ i = omega (arith, length-map ss seg_view) in
     sym (append-nil (segs_view ss)) ∙ sym ((λ j. take_all i (segs_view ss) long j ++ map e (drop_all i (segs_view ss) long j))) ∙ is
-
-pub all_nodes_edited : (f : List Segment → List Segment) (start : Bool) (ns : List Node) (all : List Item) (i : ℕ) → length ns ≤ i → take i (nodes_view ns) ++ edit_from f start (drop i (nodes_view ns)) ≡ all → nodes_view ns ≡ all
-all_nodes_edited f start ns all i end is =
-    let long : length (nodes_view ns) ≤ i = omega (arith, length-map ns node_view) in
-    sym (append-nil (nodes_view ns)) ∙ sym ((λ j. take_all i (nodes_view ns) long j ++ edit_from f start (drop_all i (nodes_view ns) long j))) ∙ is
 
 -- an attribute was edited, or stays where there is none
 pub attribute_edited : (f : List Segment → List Segment) (ss : List Seg) (i : ℕ) (s d e : Seg) (b : Bool) → i < length ss → b ≡ is_attribute (seg_view (get_or ss i d)) → b ≡ true

@@ -1,14 +1,14 @@
 -- Elements that are taken out of a list one by one, and the others brought to the front.
 use Rattle.std.proofs.Common.{◌≡◌, ℕ, zero, suc, ◌+◌, ◌<◌, ◌≤◌, List, [], ◌∷◌, ◌++◌, Bool, true, false, not, cond, length, get_or, set, take, drop, filter, refl, ap, sym, ◌∙◌, arith, append_assoc}
 use Rattle.std.specs.List.{SwappedAt, remove}
-use Rattle.std.proofs.lemmas.List.{drop_more, drop_all, take_more, take-set-le, drop-set-lt, map-append, append-nil, length-append, length-set, get_or_default}
+use Rattle.std.proofs.lemmas.List.{drop_more, drop_all, take_more, take-set-le, drop-set-lt, map-append, append-nil, length-append, length-set}
 use Rattle.bz_tree.specs.declared.stmt.Node.{Node}
 use Rattle.bz_tree.specs.declared.stmt.Seg.{Seg}
 use Rattle.bz_tree.specs.Tree.{Segment}
 use Rattle.bz_tree.specs.View.{seg_view, segs_view, node_view, nodes_view}
 use Rattle.bz_attribute.specs.Rules.{elements}
-use Rattle.bz_attribute.specs.Lists.{is_part, is_plus, parts_from}
 use Rattle.bz_attribute.specs.Move.{joined}
+use Rattle.bz_attribute.specs.private.NextPart.{IsNextPart, rest}
 
 pub filter-append : (p : Segment → Bool) (xs ys : List Segment) → filter p (xs ++ ys) ≡ filter p xs ++ filter p ys
 filter-append p [] ys = refl
@@ -22,6 +22,14 @@ passes_at p ss i d h is = ap (λ (zs : List Seg). filter p (segs_view zs)) (drop
 
 pub fails_at : (p : Segment → Bool) (ss : List Seg) (i : ℕ) (d : Seg) → i < length ss → p (seg_view (get_or ss i d)) ≡ false → filter p (segs_view (drop i ss)) ≡ filter p (segs_view (drop (i + 1) ss))
 fails_at p ss i d h is = ap (λ (zs : List Seg). filter p (segs_view zs)) (drop_more ss i d h) ∙ rw is refl
+
+pub count_one : (p : Segment → Bool) (ss : List Seg) (i : ℕ) (x : Seg) (b : Bool) → i < length ss → x ≡ get_or ss i x → b ≡ p (seg_view x) → b ≡ true
+    → length (filter p (segs_view (drop i ss))) ≡ 1 + length (filter p (segs_view (drop (i + 1) ss)))
+count_one p ss i x b h at told is = ap length (passes_at p ss i x h (ap (λ (z : Seg). p (seg_view z)) (sym at) ∙ sym told ∙ is)) ∙ omega arith
+
+pub count_none : (p : Segment → Bool) (ss : List Seg) (i : ℕ) (x : Seg) (b : Bool) → i < length ss → x ≡ get_or ss i x → b ≡ p (seg_view x) → b ≡ false
+    → length (filter p (segs_view (drop i ss))) ≡ length (filter p (segs_view (drop (i + 1) ss)))
+count_none p ss i x b h at told is = ap length (fails_at p ss i x h (ap (λ (z : Seg). p (seg_view z)) (sym at) ∙ sym told ∙ is))
 
 -- `now` began as `old` and `taken` as `before`. From i on `now` is as it was; of the first i those that pass were taken,
 -- and the others stand in the first k places.
@@ -90,40 +98,17 @@ pub parted_left : (p : Segment → Bool) (old before now taken : List Seg) (k i 
 parted_left p old before now taken k i h end =
     sym (append-nil (segs_view (take k now))) ∙ ap (λ (zs : List Seg). segs_view (take k now) ++ filter (λ s. not (p s)) (segs_view zs)) (sym (drop_all i now end)) ∙ h.left
 
--- a part stands at i, and none
-pub joined_part : (start : Bool) (ns : List Node) (i : ℕ) (d : Node) → i < length ns → is_part start (node_view (get_or ns i d)) (nodes_view (drop (i + 1) ns)) ≡ true
-    → joined (parts_from start (nodes_view (drop i ns))) ≡ elements (node_view (get_or ns i d)) ++ joined (parts_from (is_plus (node_view (get_or ns i d))) (nodes_view (drop (i + 1) ns)))
-joined_part start ns i d h is = ap (λ (zs : List Node). joined (parts_from start (nodes_view zs))) (drop_more ns i d h) ∙ rw is refl
+-- the next list part of a value
+pub passes_next : (p : Segment → Bool) (value : List Node) (at i : ℕ) (n : Node) (ss : List Segment) → IsNextPart value at i → ss ≡ elements (node_view (get_or value i n))
+    → filter p (joined (rest at (nodes_view value))) ≡ filter p ss ++ filter p (joined (rest (i + 1) (nodes_view value)))
+passes_next p value at i n ss next is =
+    ap (λ (lists : List (List Segment)). filter p (joined lists)) (next.read n)
+    ∙ ap (λ (zs : List Segment). filter p (zs ++ joined (rest (i + 1) (nodes_view value)))) (sym is)
+    ∙ filter-append p ss (joined (rest (i + 1) (nodes_view value)))
 
-pub joined_other : (start : Bool) (ns : List Node) (i : ℕ) (d : Node) → i < length ns → is_part start (node_view (get_or ns i d)) (nodes_view (drop (i + 1) ns)) ≡ false
-    → joined (parts_from start (nodes_view (drop i ns))) ≡ joined (parts_from (is_plus (node_view (get_or ns i d))) (nodes_view (drop (i + 1) ns)))
-joined_other start ns i d h is = ap (λ (zs : List Node). joined (parts_from start (nodes_view zs))) (drop_more ns i d h) ∙ rw is refl
-
--- the part at i gave what passes; the node there is now m
-pub taken_step : (p : Segment → Bool) (start next : Bool) (ns ms : List Node) (i : ℕ) (n m d e : Node) (taken more : List Seg) → i < length ns → ms ≡ set ns i m → next ≡ is_plus (node_view (get_or ns i n)) → is_part start (node_view (get_or ns i e)) (nodes_view (drop (i + 1) ns)) ≡ true
-    → segs_view more ≡ segs_view taken ++ filter p (elements (node_view (get_or ns i d)))
-    → segs_view more ++ filter p (joined (parts_from next (nodes_view (drop (i + 1) ms)))) ≡ segs_view taken ++ filter p (joined (parts_from start (nodes_view (drop i ns))))
-taken_step p start next ns ms i n m d e taken more h now after told took =
-    let e_is : get_or ns i e ≡ get_or ns i n = get_or_default ns i e n h in
-    let d_is : get_or ns i d ≡ get_or ns i n = get_or_default ns i d n h in
-    let part : is_part start (node_view (get_or ns i n)) (nodes_view (drop (i + 1) ns)) ≡ true = ap (λ (z : Node). is_part start (node_view z) (nodes_view (drop (i + 1) ns))) (sym e_is) ∙ told in
-    let following : drop (i + 1) ms ≡ drop (i + 1) ns = ap (drop (i + 1)) now ∙ drop-set-lt (i + 1) ns i m (omega arith) in
-    let rest : List Segment = joined (parts_from (is_plus (node_view (get_or ns i n))) (nodes_view (drop (i + 1) ns))) in
-    (λ j. took j ++ filter p (joined (parts_from (after j) (nodes_view (following j)))))
-    ∙ append_assoc (segs_view taken) (filter p (elements (node_view (get_or ns i d)))) (filter p rest)
-    ∙ ap (λ (z : Node). segs_view taken ++ (filter p (elements (node_view z)) ++ filter p rest)) d_is
-    ∙ ap (λ (zs : List Segment). segs_view taken ++ zs) (sym (filter-append p (elements (node_view (get_or ns i n))) rest))
-    ∙ ap (λ (zs : List Segment). segs_view taken ++ filter p zs) (sym (joined_part start ns i n h part))
-
--- what stands at i is no part
-pub passed_step : (p : Segment → Bool) (start next : Bool) (ns ms : List Node) (i : ℕ) (n e : Node) (taken more : List Seg) → i < length ns → ms ≡ ns → next ≡ is_plus (node_view (get_or ns i n)) → is_part start (node_view (get_or ns i e)) (nodes_view (drop (i + 1) ns)) ≡ false
-    → more ≡ taken
-    → segs_view more ++ filter p (joined (parts_from next (nodes_view (drop (i + 1) ms)))) ≡ segs_view taken ++ filter p (joined (parts_from start (nodes_view (drop i ns))))
-passed_step p start next ns ms i n e taken more h now after told same =
-    let e_is : get_or ns i e ≡ get_or ns i n = get_or_default ns i e n h in
-    let part : is_part start (node_view (get_or ns i n)) (nodes_view (drop (i + 1) ns)) ≡ false = ap (λ (z : Node). is_part start (node_view z) (nodes_view (drop (i + 1) ns))) (sym e_is) ∙ told in
-    (λ j. segs_view (same j) ++ filter p (joined (parts_from (after j) (nodes_view (drop (i + 1) (now j))))))
-    ∙ ap (λ (zs : List Segment). segs_view taken ++ filter p zs) (sym (joined_other start ns i n h part))
+pub count_next : (p : Segment → Bool) (value : List Node) (at i : ℕ) (n : Node) (ss : List Segment) → IsNextPart value at i → ss ≡ elements (node_view (get_or value i n))
+    → length (filter p (joined (rest at (nodes_view value)))) ≡ length (filter p ss) + length (filter p (joined (rest (i + 1) (nodes_view value))))
+count_next p value at i n ss next is = ap length (passes_next p value at i n ss next is) ∙ length-append (filter p ss) (filter p (joined (rest (i + 1) (nodes_view value))))
 
 -- as long as before
 pub same_length : (xs ys us vs : List Segment) → xs ++ ys ≡ us ++ vs → length xs + length ys ≡ length us + length vs

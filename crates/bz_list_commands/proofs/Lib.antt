@@ -4,6 +4,6 @@ pub mod FirstFiltered
 pub mod Flags
 pub mod Known
 pub mod Leaving
-pub mod Pool
 pub mod Replaced
+pub mod Strings
 pub mod Written

@@ -1,17 +1,15 @@
 //! Chosen elements that leave the list parts of an attribute, in order and as they stand.
 
-ghost use Rattle.std.specs.Prelude.{◌≡◌, ◌≤◌, length, take, IfOk};
-ghost use Rattle.bz_tree.specs.View.{node_view, nodes_view, seg_view, segs_view};
-ghost use Rattle.bz_attribute.specs.Rules.{elements, first_named, is_named, value};
-ghost use Rattle.bz_attribute.specs.Lists.{edit_list, edit_parts, parts, with_value};
+ghost use Rattle.std.specs.Prelude.{◌≡◌, length, take, IfOk};
+ghost use Rattle.bz_tree.specs.View.{nodes_view, segs_view};
+ghost use Rattle.bz_attribute.specs.Rules.{first_named, is_named};
+ghost use Rattle.bz_attribute.specs.Lists.{edit_parts, parts};
 ghost use Rattle.bz_attribute.specs.Effects.{edit_first, filtered};
 ghost use Rattle.bz_attribute.specs.Move.{elements_of, joined};
 ghost use Rattle.bz_list_commands.specs.private.MoveSteps.{value_of};
 ghost use Rattle.bz_list_commands.specs.private.TakingSteps.{HasRoom, Takes, leave, stay};
 
-use bz_attribute::{
-    Chosen, are_joints, elements_at, find, is_chosen, is_operator_item, is_part, loses_all, segment,
-};
+use bz_attribute::{Chosen, elements_at, find, is_chosen, loses_all, next_part, segment};
 use bz_command::Package;
 use bz_tree::{Node, Seg};
 use std::alloc::{AllocError, Global};
@@ -38,31 +36,17 @@ pub(crate) fn value_at<'n, 'a>(args: &'n [Seg<'a>], attr: &str) -> &'n [Node<'a>
 pub(crate) fn count_in(choice: Choice<'_, '_, '_>, value: &[Node<'_>]) -> Result<usize, AllocError>
     ensures { IfOk result (λ n. n ≡ length (leave choice.entry (joined (parts (nodes_view value.now))))) }
 {
-    if !are_joints(value) {
-        return Ok(0);
-    }
     let mut count: usize = 0;
-    let mut start = true;
-    for i in 0..value.len() {
-        if is_part(start, value, i) {
-            let more = count_elements(choice, elements_at(&value[i]));
-            count = count.checked_add(more).ok_or(AllocError)?;
+    let mut at = 0;
+    while let Some(i) = next_part(value, at) {
+        for element in elements_at(&value[i]) {
+            if is_chosen(choice.home, choice.chosen, element) {
+                count = count.checked_add(1).ok_or(AllocError)?;
+            }
         }
-        start = is_operator_item(&value[i], "+");
+        at = i + 1;
     }
     Ok(count)
-}
-
-fn count_elements(choice: Choice<'_, '_, '_>, elements: &[Seg<'_>]) -> usize
-    ensures { result ≡ length (leave choice.entry (segs_view elements.now)) }
-{
-    let mut count = 0;
-    for element in elements {
-        if is_chosen(choice.home, choice.chosen, element) {
-            count += 1;
-        }
-    }
-    count
 }
 
 /// Moves the chosen elements of the first argument of a name to the end of `taken`. The argument goes where none is
@@ -83,54 +67,30 @@ pub(crate) fn take_from<'a>(
         return;
     };
     let goes = loses_all(choice.home, choice.chosen, &args[i]);
-    take_in(choice, &mut args[i], taken);
+    take_in(choice, &mut args[i].nodes[2..], taken);
     if goes {
         let _ = args.remove(i);
     }
 }
 
-fn take_in<'a>(choice: Choice<'_, '_, '_>, arg: &mut Seg<'a>, taken: &mut Vec<Seg<'a>>)
-    requires value { 2 ≤ length arg.old.nodes.items }
-    requires room { HasRoom choice (joined (parts (value (seg_view arg.old)))) taken.old }
-    ensures left { seg_view arg.new
-        ≡ with_value (edit_parts (stay choice.entry) (value (seg_view arg.old))) (seg_view arg.old) }
-    ensures taken { Takes choice.entry (joined (parts (value (seg_view arg.old)))) taken.old taken.new }
-{
-    take_in_value(choice, &mut arg.nodes[2..], taken);
-}
-
-fn take_in_value<'a>(choice: Choice<'_, '_, '_>, value: &mut [Node<'a>], taken: &mut Vec<Seg<'a>>)
+fn take_in<'a>(choice: Choice<'_, '_, '_>, value: &mut [Node<'a>], taken: &mut Vec<Seg<'a>>)
     requires { HasRoom choice (joined (parts (nodes_view value.old))) taken.old }
     ensures left { nodes_view value.new ≡ edit_parts (stay choice.entry) (nodes_view value.old) }
     ensures taken { Takes choice.entry (joined (parts (nodes_view value.old))) taken.old taken.new }
 {
-    if !are_joints(value) {
-        return;
-    }
-    let mut start = true;
-    for i in 0..value.len() {
-        let next = is_operator_item(&value[i], "+");
-        if is_part(start, value, i) {
-            take_in_list(choice, &mut value[i], taken);
+    let mut at = 0;
+    while let Some(i) = next_part(value, at) {
+        if let Node::Group(list) = &mut value[i] {
+            let elements = &mut list.segs;
+            let kept = take_elements(choice, elements, taken);
+            elements.truncate(kept);
         }
-        start = next;
-    }
-}
-
-fn take_in_list<'a>(choice: Choice<'_, '_, '_>, node: &mut Node<'a>, taken: &mut Vec<Seg<'a>>)
-    requires { HasRoom choice (elements (node_view node.old)) taken.old }
-    ensures left { node_view node.new ≡ edit_list (stay choice.entry) (node_view node.old) }
-    ensures taken { Takes choice.entry (elements (node_view node.old)) taken.old taken.new }
-{
-    if let Node::Group(group) = node {
-        let elements = &mut group.segs;
-        let kept = part_elements(choice, elements, taken);
-        elements.truncate(kept);
+        at = i + 1;
     }
 }
 
 // Moves the chosen elements, brings the others to the front and answers how many they are.
-fn part_elements<'a>(
+fn take_elements<'a>(
     choice: Choice<'_, '_, '_>,
     elements: &mut [Seg<'a>],
     taken: &mut Vec<Seg<'a>>,

@@ -4,8 +4,8 @@ use Rattle.bz_tree.specs.declared.stmt.Seg.{Seg}
 use Rattle.bz_tree.specs.View.{seg_view, segs_view}
 use Rattle.bz_list_commands.proofs.Leaving.{fails_at, parted_keep, parted_left, parted_out, parted_take, passes_at, swapped_rest}
 use Rattle.bz_list_commands.specs.private.TakingSteps.{is_meant}
-use Rattle.bz_list_commands.proofs.taking.part_elements.Goals as goal
-use Rattle.bz_list_commands.proofs.taking.part_elements.Goals.{then-is_chosen, else-is_chosen}
+use Rattle.bz_list_commands.proofs.taking.take_elements.Goals as goal
+use Rattle.bz_list_commands.proofs.taking.take_elements.Goals.{then-is_chosen, else-is_chosen}
 
 pub returns-clause-left : goal.returns-clause-left
 returns-clause-left c = take-map seg_view _ _ ∙ parted_left _ _ _ _ _ _ _ c.loop-i.invariant.parted (omega (arith, c.loop-i-test.false, c.loop-i.auto.elements))

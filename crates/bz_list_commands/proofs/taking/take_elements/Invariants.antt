@@ -3,7 +3,7 @@ use Rattle.std.specs.Vec.{vec_len, vec_capacity}
 use Rattle.bz_tree.specs.View.{segs_view}
 use Rattle.bz_list_commands.proofs.Leaving.{Parted}
 use Rattle.bz_list_commands.specs.private.TakingSteps.{is_meant}
-use Rattle.bz_list_commands.proofs.taking.part_elements.Given as goal
+use Rattle.bz_list_commands.proofs.taking.take_elements.Given as goal
 
 abbrev pub invariant-loop-i : goal.invariant-loop-i
 invariant-loop-i l = record {
