@@ -1,9 +1,9 @@
 -- Steps to a comment: the line without the blanks at its end, and the element that it goes to.
-use Rattle.std.proofs.Common.{◌≡◌, ℕ, suc, ◌+◌, ◌-◌, ◌<◌, ◌≤◌, List, [], ◌∷◌, ◌++◌, Bool, true, false, ◌&&◌, if◌then◌else◌, length, get_or, set, take, drop, refl, ap, subst, sym, ◌∙◌, arith, add-one, append_assoc, is_some, Option, Some, None, IfSome, IfNone, nat_lt, inl, inr}
+use Rattle.std.proofs.Common.{◌≡◌, ℕ, zero, suc, ◌||◌, ◌+◌, ◌-◌, ◌<◌, ◌≤◌, List, [], ◌∷◌, ◌++◌, Bool, true, false, ◌&&◌, if◌then◌else◌, length, get_or, set, take, drop, refl, ap, subst, sym, ◌∙◌, arith, add-one, append_assoc, is_some, Option, Some, None, IfSome, IfNone, nat_lt, inl, inr}
 use Rattle.std.specs.Prelude.{position}
 use Rattle.std.specs.List.{list_all, list_any, position_or_len}
-use Rattle.std.proofs.lemmas.List.{drop_more, set_split, map-append, map-set, get_or-map, set-get_or, length-map, length-drop, drop-map, get_or-drop, get_or_default, take_more, take_all, take_rest}
-use Rattle.std.proofs.lemmas.Bool.{cases_Bool}
+use Rattle.std.proofs.lemmas.List.{drop_more, set_split, map-set, get_or-map, set-get_or, length-map, length-drop, drop-map, get_or-drop, get_or_default, take_more, take_all, take_rest}
+use Rattle.std.proofs.lemmas.Bool.{cases_Bool, true≢false}
 use Rattle.std.proofs.lemmas.Bool.Decides.{nat_tests}
 use Rattle.bz_tree.specs.declared.stmt.Node.{Node, Token, Group}
 use Rattle.bz_tree.specs.declared.stmt.Leaf.{Leaf}
@@ -12,15 +12,16 @@ use Rattle.bz_tree.specs.declared.stmt.Node.TheOpen.{Group-F}
 use Rattle.bz_tree.specs.declared.stmt.Group.{Group as GroupValue, out-Group, roll-Group}
 use Rattle.std.specs.Vec.{with_item}
 use Rattle.bz_tree.specs.declared.stmt.Seg.{Seg, roll-Seg}
-use Rattle.bz_tree.specs.Tree.{Item, Segment}
+use Rattle.bz_tree.specs.Tree.{Item, Segment, leaf, group}
 use Rattle.bz_tree.specs.View.{node_view, nodes_view, seg_view, segs_view, texts}
 use Rattle.bz_attribute.specs.Rules.{elements, first_named, is_named, value}
-use Rattle.bz_attribute.specs.Lists.{edit_list, equals, is_part, is_joint, is_plus, parts_from, parts}
+use Rattle.bz_attribute.specs.Lists.{edit_list, equals, is_part, is_joint, is_plus, parts}
 use Rattle.bz_attribute.specs.Effects.{done, edit_first, failed, first_note, has, no_parts}
 use Rattle.bz_command.specs.Labels.{Package}
 use Rattle.bz_attribute.specs.declared.done.Note.{Note}
 use Rattle.bz_attribute.specs.declared.done.Note.TheVariants.{NoAttribute, NoValue, NotAList}
-use Rattle.bz_attribute.specs.private.Places.{IsAbsent, IsFirst}
+use Rattle.bz_attribute.specs.private.NextPart.{IsNextPart, KeepsOthers, edited_from, rest}
+use Rattle.bz_attribute.specs.private.Places.{IsAbsent, IsFirst, IsFirstPart}
 use Rattle.bz_attribute.specs.Comment.{is_blank, trimmed, comment_element, comment_line, comment_note, comment_value, edit_element, edit_element_from, with_comment}
 use Rattle.bz_attribute_commands.specs.private.CommentPlaces.{IsFirstIn, ends_blank, no_value_note}
 use Rattle.bz_attribute.proofs.First.{has_one, has_none, put_first}
@@ -174,59 +175,79 @@ missing home attr v args i x ns first is none =
     missing_note home attr v (segs_view args) (seg_view (get_or args i x)) first.there (first.first x) (sym (ap (λ (zs : List Item). list_any (list_any (equals home v)) (parts zs)) read) ∙ none)
     ∙ sym (ap (λ (zs : List Item). Some (no_value_note attr v (parts zs))) read)
 
--- no list part before i has an element that passes, and a piece begins at i where `start`
-pub record NoneYet (p : Segment → Bool) (ns : List Node) (i : ℕ) (start : Bool) : Type 0 where
-  pub one : (f : Segment → Segment) → nodes_view (take i ns) ++ edit_element_from p f start (nodes_view (drop i ns)) ≡ edit_element_from p f true (nodes_view ns)
-  pub lists : list_any (list_any p) (parts_from start (nodes_view (drop i ns))) ≡ list_any (list_any p) (parts_from true (nodes_view ns))
+-- no list part before `at` has an element that passes
+pub record NoneYet (p : Segment → Bool) (ns : List Node) (at : ℕ) : Type 0 where
+  pub joints : 0 < at → list_all is_joint (nodes_view ns) ≡ true
+  pub one : (f : Segment → Segment) → edited_from (edit_element_from p f) at (nodes_view ns) ≡ edit_element_from p f true (nodes_view ns)
+  pub lists : list_any (list_any p) (rest at (nodes_view ns)) ≡ list_any (list_any p) (parts (nodes_view ns))
 
-pub first_in : (p : Segment → Bool) (ns : List Node) (i k : ℕ) (start : Bool) (n : Node) (es : List Seg) → list_all is_joint (nodes_view ns) ≡ true → i < length ns → NoneYet p ns i start → ((d : Node) → is_part start (node_view (get_or ns i d)) (nodes_view (drop (i + 1) ns)) ≡ true) → n ≡ get_or ns i n
-    → segs_view es ≡ elements (node_view n) → k < length es → k ≡ position_or_len p (segs_view es) → IsFirstIn p ns i k
-first_in p ns i k start n es joints h before told at seen inside first =
-    let rest : (d : Node) → nodes_view (drop i ns) ≡ node_view (get_or ns i d) ∷ nodes_view (drop (i + 1) ns) = λ d. ap nodes_view (drop_more ns i d h) in
-    let here : (d : Node) → elements (node_view (get_or ns i d)) ≡ segs_view es = λ d. ap (λ (z : Node). elements (node_view z)) (get_or_default ns i d n h ∙ sym at) ∙ sym seen in
+keeps_others : (p : Segment → Bool) (f : Segment → Segment) → KeepsOthers (edit_element_from p f)
+keeps_others p f start x xs told = rw told refl
+
+joined : (ns : List Node) (i : ℕ) → IsFirstPart ns i → list_all is_joint (nodes_view ns) ≡ true
+joined ns i first =
+    elim (cases_Bool (list_all is_joint (nodes_view ns))) [ inl h ↦ h | inr h ↦ (let none : no_parts (parts (nodes_view ns)) ≡ true = rw h refl in absurd (true≢false (sym none ∙ first.some))) ]
+
+joints_at : (p : Segment → Bool) (ns : List Node) (at i : ℕ) → NoneYet p ns at → IsNextPart ns at i → list_all is_joint (nodes_view ns) ≡ true
+joints_at p ns zero i before next = joined ns i (next.first refl)
+joints_at p ns (suc at) i before next = before.joints (omega arith)
+
+next_drop : (ns : List Node) (i : ℕ) (d : Node) → i < length ns → drop i (nodes_view ns) ≡ node_view (get_or ns i d) ∷ drop (i + 1) (nodes_view ns)
+next_drop ns i d h = drop_more (nodes_view ns) i (node_view d) (omega (arith, length-map ns node_view, h)) ∙ ap (λ (x : Item). x ∷ drop (i + 1) (nodes_view ns)) (get_or-map node_view ns i d (node_view d) h)
+
+-- a list is no operator
+no_plus : (x : Item) (xs : List Item) → is_part true x xs ≡ true → is_plus x ≡ false
+no_plus (leaf kind text) xs h = absurd cc
+no_plus (group kind segs one_comma end) xs h = refl
+
+edited_more : (e : Bool → List Item → List Item) (i : ℕ) (xs : List Item) → edited_from e (i + 1) xs ≡ take (i + 1) xs ++ e false (drop (i + 1) xs)
+edited_more e i xs = subst (λ (k : ℕ). edited_from e k xs ≡ take k xs ++ e false (drop k xs)) (sym (add-one i)) refl
+
+-- the next list part has no such element, or has one
+pub none_more : (p : Segment → Bool) (ns : List Node) (at i : ℕ) (n : Node) → NoneYet p ns at → IsNextPart ns at i → n ≡ get_or ns i n → list_any p (elements (node_view n)) ≡ false → NoneYet p ns (i + 1)
+none_more p ns at i n before next is none =
+    let xs : List Item = nodes_view ns in
+    let x : Item = node_view (get_or ns i n) in
+    let passes : list_any p (elements x) ≡ false = ap (λ (z : Node). list_any p (elements (node_view z))) (sym is) ∙ none in
+    record {
+      joints = λ later. joints_at p ns at i before next;
+      one = λ f.
+          let e : Bool → List Item → List Item = edit_element_from p f in
+          let step : e true (x ∷ drop (i + 1) xs) ≡ x ∷ e false (drop (i + 1) xs) = rw (next.part n, passes) (ap (λ (b : Bool). x ∷ e b (drop (i + 1) xs)) (no_plus x (drop (i + 1) xs) (next.part n))) in
+          edited_more e i xs
+          ∙ ap (λ (ys : List Item). ys ++ e false (drop (i + 1) xs)) (take_more xs i (node_view n) (omega (arith, length-map ns node_view, next.within)) ∙ ap (λ (z : Item). take i xs ++ z ∷ []) (get_or-map node_view ns i n (node_view n) next.within))
+          ∙ append_assoc (take i xs) (x ∷ []) (e false (drop (i + 1) xs))
+          ∙ ap (λ (ys : List Item). take i xs ++ ys) (sym step ∙ ap (e true) (sym (next_drop ns i n next.within)))
+          ∙ sym (next.others e (keeps_others p f))
+          ∙ before.one f;
+      lists = sym (ap (list_any (list_any p)) (next.read n) ∙ ap (λ (b : Bool). b || list_any (list_any p) (rest (i + 1) xs)) passes) ∙ before.lists;
+    }
+
+pub first_in : (p : Segment → Bool) (ns : List Node) (at i k : ℕ) (n : Node) (es : List Seg) → NoneYet p ns at → IsNextPart ns at i → n ≡ get_or ns i n → segs_view es ≡ elements (node_view n) → k < length es → k ≡ position_or_len p (segs_view es) → IsFirstIn p ns i k
+first_in p ns at i k n es before next is seen inside first =
+    let xs : List Item = nodes_view ns in
+    let here : (d : Node) → elements (node_view (get_or ns i d)) ≡ segs_view es = λ d. ap (λ (z : Node). elements (node_view z)) (get_or_default ns i d n next.within ∙ sym is) ∙ sym seen in
     let any : list_any p (segs_view es) ≡ true = has_one p (segs_view es) (omega (arith, length-map es seg_view)) in
     let passes : (d : Node) → list_any p (elements (node_view (get_or ns i d))) ≡ true = λ d. ap (list_any p) (here d) ∙ any in
     record {
-      within = h;
+      within = next.within;
       inside = λ d. omega (arith, ap length (here d), length-map es seg_view);
       first = λ d. first ∙ ap (position_or_len p) (sym (here d));
-      there =
-          let whole : parts (nodes_view ns) ≡ parts_from true (nodes_view ns) = rw joints refl in
-          let step : list_any (list_any p) (parts_from start (node_view (get_or ns i n) ∷ nodes_view (drop (i + 1) ns))) ≡ true = rw (told n, passes n) refl in
-          ap (list_any (list_any p)) whole ∙ sym before.lists ∙ ap (λ (xs : List Item). list_any (list_any p) (parts_from start xs)) (rest n) ∙ step;
+      there = sym before.lists ∙ ap (list_any (list_any p)) (next.read n) ∙ ap (λ (b : Bool). b || list_any (list_any p) (rest (i + 1) xs)) (passes n);
       put = λ f m d edited.
-          let step : edit_element_from p f start (node_view (get_or ns i d) ∷ nodes_view (drop (i + 1) ns)) ≡ edit_list (edit_first p (λ s. f s ∷ [])) (node_view (get_or ns i d)) ∷ nodes_view (drop (i + 1) ns) = rw (told d, passes d) refl in
-          let whole : edit_element p f (nodes_view ns) ≡ edit_element_from p f true (nodes_view ns) = rw joints refl in
-          let made : nodes_view (set ns i m) ≡ nodes_view (take i ns) ++ node_view m ∷ nodes_view (drop (suc i) ns) = ap nodes_view (set_split ns i m h) ∙ map-append node_view (take i ns) (m ∷ drop (suc i) ns) in
-          let next : drop (suc i) ns ≡ drop (i + 1) ns = ap (λ (k : ℕ). drop k ns) (sym (add-one i)) in
-          made ∙ ap (λ (zs : List Node). nodes_view (take i ns) ++ node_view m ∷ nodes_view zs) next ∙ ap (λ (z : Item). nodes_view (take i ns) ++ z ∷ nodes_view (drop (i + 1) ns)) edited ∙ ap (λ (zs : List Item). nodes_view (take i ns) ++ zs) (sym step ∙ ap (edit_element_from p f start) (sym (rest d))) ∙ before.one f ∙ sym whole;
-    }
-
-no_list : (p : Segment → Bool) (part : Bool) (ss : List Segment) (lists : List (List Segment)) → (part && list_any p ss) ≡ false → list_any (list_any p) ((if part then ss ∷ [] else []) ++ lists) ≡ list_any (list_any p) lists
-no_list p true ss lists none = rw none refl
-no_list p false ss lists none = refl
-
--- what stands at i is no list part, or one without such an element
-pub none_more : (p : Segment → Bool) (ns : List Node) (i : ℕ) (start next : Bool) (n d : Node) → i < length ns → NoneYet p ns i start
-    → (is_part start (node_view (get_or ns i d)) (nodes_view (drop (i + 1) ns)) && list_any p (elements (node_view (get_or ns i d)))) ≡ false → n ≡ get_or ns i n → next ≡ is_plus (node_view n) → NoneYet p ns (i + 1) next
-none_more p ns i start next n d h before none at after =
-    let x : Item = node_view (get_or ns i d) in
-    let xs : List Item = nodes_view (drop (i + 1) ns) in
-    let here : nodes_view (drop i ns) ≡ x ∷ xs = ap nodes_view (drop_more ns i d h) in
-    let plus : next ≡ is_plus x = after ∙ ap (λ (z : Node). is_plus (node_view z)) (at ∙ get_or_default ns i n d h) in
-    let front : nodes_view (take (i + 1) ns) ≡ nodes_view (take i ns) ++ x ∷ [] = ap nodes_view (take_more ns i d h) ∙ map-append node_view (take i ns) (get_or ns i d ∷ []) in
-    record {
-      one = λ f.
-          let step : edit_element_from p f start (x ∷ xs) ≡ x ∷ edit_element_from p f (is_plus x) xs = rw none refl in
-          (λ j. front j ++ edit_element_from p f (plus j) xs)
-          ∙ append_assoc (nodes_view (take i ns)) (x ∷ []) (edit_element_from p f (is_plus x) xs)
-          ∙ ap (λ (zs : List Item). nodes_view (take i ns) ++ zs) (sym step ∙ ap (edit_element_from p f start) (sym here))
-          ∙ before.one f;
-      lists =
-          ap (λ (b : Bool). list_any (list_any p) (parts_from b xs)) plus
-          ∙ sym (no_list p (is_part start x xs) (elements x) (parts_from (is_plus x) xs) none)
-          ∙ ap (λ (zs : List Item). list_any (list_any p) (parts_from start zs)) (sym here)
-          ∙ before.lists;
+          let e : Bool → List Item → List Item = edit_element_from p f in
+          let x : Item = node_view (get_or ns i d) in
+          let y : Item = edit_list (edit_first p (λ s. f s ∷ [])) x in
+          let step : e true (x ∷ drop (i + 1) xs) ≡ y ∷ drop (i + 1) xs = rw (next.part d, passes d) refl in
+          let whole : edit_element p f xs ≡ e true xs = rw (joints_at p ns at i before next) refl in
+          map-set node_view ns i m
+          ∙ ap (set xs i) edited
+          ∙ set_split xs i y (omega (arith, length-map ns node_view, next.within))
+          ∙ ap (λ (j : ℕ). take i xs ++ y ∷ drop j xs) (sym (add-one i))
+          ∙ ap (λ (ys : List Item). take i xs ++ ys) (sym step ∙ ap (e true) (sym (next_drop ns i d next.within)))
+          ∙ sym (next.others e (keeps_others p f))
+          ∙ before.one f
+          ∙ sym whole;
     }
 
 -- the list that has the element

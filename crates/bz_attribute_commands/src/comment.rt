@@ -11,10 +11,7 @@ ghost use Rattle.bz_attribute_commands.specs.private.CommentPlaces as place;
 ghost use Rattle.bz_attribute.specs.Comment as spec;
 
 use bz_attribute::equals::equals;
-use bz_attribute::{
-    Done, Env, Executed, Note, are_joints, call_at, elements_at, find, first_part,
-    is_operator_item, is_part,
-};
+use bz_attribute::{Done, Env, Executed, Note, call_at, elements_at, find, first_part, next_part};
 use bz_command::{Commented, Package, Text};
 use bz_tree::{Node, Seg, Stmt};
 use std::alloc::Global;
@@ -98,21 +95,16 @@ fn first_equal(home: &Package, value: &str, nodes: &[Node<'_>]) -> Option<(usize
     ensures none { IfNone result
         (list_any (list_any (equals home.now value.now)) (parts (nodes_view nodes.now)) ≡ false) }
 {
-    if !are_joints(nodes) {
-        return None;
-    }
-    let mut start = true;
-    for i in 0..nodes.len() {
-        if is_part(start, nodes, i) {
-            let elements = elements_at(&nodes[i]);
-            if let Some(k) = elements
-                .iter()
-                .position(|element| equals(home, element, value))
-            {
-                return Some((i, k));
-            }
+    let mut at = 0;
+    while let Some(i) = next_part(nodes, at) {
+        let elements = elements_at(&nodes[i]);
+        if let Some(k) = elements
+            .iter()
+            .position(|element| equals(home, element, value))
+        {
+            return Some((i, k));
         }
-        start = is_operator_item(&nodes[i], "+");
+        at = i + 1;
     }
     None
 }
