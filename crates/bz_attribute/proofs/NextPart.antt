@@ -24,24 +24,6 @@ pub record Walked (xs : List Item) (at i : ℕ) (start : Bool) : Type 0 where
   pub parts : parts_from start (drop i xs) ≡ rest at xs
   pub others : (e : Bool → List Item → List Item) → KeepsOthers e → edited_from e at xs ≡ take i xs ++ e start (drop i xs)
 
--- at the beginning, and after a part
-pub begins : (xs : List Item) → list_all is_joint xs ≡ true → Walked xs 0 0 true
-begins xs joints = record {
-  after = omega arith;
-  joints = λ first. joints;
-  parts = rw joints refl;
-  others = λ e keeps. refl;
-}
-
-pub goes_on : (xs : List Item) (at : ℕ) → 0 < at → Walked xs at at false
-goes_on xs zero h = absurd (omega arith)
-goes_on xs (suc at) h = record {
-  after = omega arith;
-  joints = λ first. absurd (omega (arith, first));
-  parts = refl;
-  others = λ e keeps. refl;
-}
-
 -- what stands at i is no list part
 passes : (xs : List Item) (at i : ℕ) (start : Bool) (d : Item) → Walked xs at i start → i < length xs → is_part start (get_or xs i d) (drop (i + 1) xs) ≡ false → Walked xs at (i + 1) (is_plus (get_or xs i d))
 passes xs at i start d w h told =
@@ -88,12 +70,6 @@ ended ns at i start w end =
       none = sym w.parts ∙ ap (parts_from start) (drop_all i xs long);
       same = λ f. all_edited f xs at i start w ∙ (λ j. take_all i xs long j ++ edit_from f start (drop_all i xs long j)) ∙ append-nil xs;
     }
-
-pub no_joints : (ns : List Node) → list_all is_joint (nodes_view ns) ≡ false → IsLastPart ns 0
-no_joints ns joints = record {
-  none = rw joints refl;
-  same = λ f. rw joints refl;
-}
 
 -- a piece begins with a list part, and it is no operator
 begins_part : (start : Bool) (x : Item) (xs : List Item) → is_part start x xs ≡ true → start ≡ true
