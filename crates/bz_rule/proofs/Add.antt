@@ -1,5 +1,5 @@
 -- What is owed of `add`: it changes something exactly where it says so, and leaves what is well formed so, texts that pass a test, and comments.
-use Rattle.std.proofs.Common.{◌≡◌, ℕ, List, [], ◌∷◌, ◌++◌, true, false, not, if◌then◌else◌, Some, None, is_some, map, refl, ap, sym, ◌∙◌, append-nil, Bool, length, suc, ◌==◌}
+use Rattle.std.proofs.Common.{◌≡◌, ℕ, List, [], ◌∷◌, ◌++◌, true, false, not, if◌then◌else◌, Some, None, is_some, map, refl, ap, sym, ◌∙◌, append-nil, Bool, length, suc, ◌==◌, rules, Ok}
 use Rattle.std.proofs.lemmas.List.{append_cancel_left}
 use Rattle.bz_tree.specs.Tree.{Segment}
 use Rattle.bz_command.specs.Labels.{Package}
@@ -29,6 +29,8 @@ use Rattle.bz_rule.specs.OwnComments.{no_comments, own_comments}
 use Rattle.bz_token.specs.Lexical.{is_text}
 use Rattle.bz_token.specs.declared.token.Kind.TheVariants.{Identifier}
 use Rattle.bz_tree.specs.Grammar.{IsArg}
+use Rattle.std.specs.Str.{is_utf8}
+use Rattle.bz_rule.specs.Commands.{Command, IsRead, add_of}
 
 pub parts_with : (home : Package) (values : List (List ℕ)) (a : Segment) → is_attribute a ≡ true → no_parts (parts (value a)) ≡ false
     → parts (value (with_added home values a)) ≡ edit_head (λ ss. ss ++ new_elements home (parts (value a)) values) (parts (value a))
@@ -176,3 +178,8 @@ add_lawful home attr values = on_arguments (Add attr values) home (λ slot. refl
   passes = λ q w h args k. let p = and_parts (q attr) (list_all q values) h in add_passes q w home attr values args p.0 (words_in q values p.1) k;
   comments = λ k args. add_leaves_all home attr values args;
 })
+
+-- What is read of words that are UTF-8 can be read, and its words are UTF-8.
+pub add_read : (words : List (List ℕ)) (c : Command) → Ok c ≡ add_of words → list_all is_utf8 words ≡ true → IsRead c
+add_read [] c h u = absurd (cc)
+add_read (attr ∷ values) c h u = search rules

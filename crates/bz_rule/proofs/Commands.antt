@@ -1,9 +1,9 @@
 -- Each command owes what `Lawful` says, and what follows of all of them.
-use Rattle.std.proofs.Common.{◌≡◌, ◌↔◌, ℕ, List, Bool, true, false, Option, Some, None, map, option_map, is_some, refl, ap, sym, ◌∙◌, subst, zero, suc, ◌≤◌, arith}
-use Rattle.std.specs.Prelude.{IfSome}
+use Rattle.std.proofs.Common.{◌≡◌, ◌↔◌, ℕ, List, Bool, true, false, Option, Some, None, map, option_map, is_some, refl, ap, sym, ◌∙◌, subst, zero, suc, ◌≤◌, arith, [], ◌∷◌, Result, Ok, Err, if◌then◌else◌}
+use Rattle.std.specs.Prelude.{IfSome, bytes_eq, codes}
 use Rattle.bz_tree.specs.Tree.{Segment, Statement}
 use Rattle.bz_command.specs.Labels.{Package}
-use Rattle.bz_rule.specs.Commands.{Command, is_command, command_passes, after, done_of, args_after, keeps_comments}
+use Rattle.bz_rule.specs.Commands.{Command, is_command, command_passes, after, done_of, args_after, keeps_comments, IsRead, a_command, named_command, add_of, comment_of, delete_of, move_of, print_of, remove_of, rename_of, replace_of, set_if_absent_of, set_of}
 use Rattle.bz_rule.specs.declared.command.Action.TheVariants.{Add, Remove, Set, SetIfAbsent, Delete, Rename, Move, Replace, Comment, Print}
 use Rattle.bz_attribute.specs.declared.done.Done.{Done}
 use Rattle.bz_attribute.specs.declared.done.Note.{Note}
@@ -11,15 +11,15 @@ use Rattle.bz_attribute.specs.Effects.{fails, holds_rule, with_args}
 use Rattle.bz_rule.specs.Aside.{IsAside}
 use Rattle.bz_rule.specs.private.LongerRows.{adds_to}
 use Rattle.bz_rule.proofs.Lawful.{Appends, Lawful, SlotFormed}
-use Rattle.bz_rule.proofs.Add.{add_lawful, add_keeps}
-use Rattle.bz_rule.proofs.Comment.{comment_lawful}
-use Rattle.bz_rule.proofs.Delete.{delete_lawful}
-use Rattle.bz_rule.proofs.Move.{move_lawful}
-use Rattle.bz_rule.proofs.Print.{print_lawful}
-use Rattle.bz_rule.proofs.Remove.{remove_lawful, left_keeps}
-use Rattle.bz_rule.proofs.Rename.{rename_lawful, rename_keeps}
-use Rattle.bz_rule.proofs.Replace.{replace_lawful, replace_keeps}
-use Rattle.bz_rule.proofs.Set.{set_if_absent_lawful, set_lawful, set_if_absent_keeps, set_keeps}
+use Rattle.bz_rule.proofs.Add.{add_lawful, add_keeps, add_read}
+use Rattle.bz_rule.proofs.Comment.{comment_lawful, comment_read}
+use Rattle.bz_rule.proofs.Delete.{delete_lawful, delete_read}
+use Rattle.bz_rule.proofs.Move.{move_lawful, move_read}
+use Rattle.bz_rule.proofs.Print.{print_lawful, print_read}
+use Rattle.bz_rule.proofs.Remove.{remove_lawful, left_keeps, remove_read}
+use Rattle.bz_rule.proofs.Rename.{rename_lawful, rename_keeps, rename_read}
+use Rattle.bz_rule.proofs.Replace.{replace_lawful, replace_keeps, replace_read}
+use Rattle.bz_rule.proofs.Set.{set_if_absent_lawful, set_lawful, set_if_absent_keeps, set_keeps, set_read, set_if_absent_read}
 use Rattle.bz_tree.specs.Grammar.{IsArg}
 use Rattle.bz_layout_laws.specs.EachText.{statement_passes}
 use Rattle.bz_layout_laws.specs.WellFormed.{IsWellFormed}
@@ -27,6 +27,9 @@ use Rattle.bz_rule.proofs.PassingRules.{SlotPasses}
 use Rattle.bz_rule.proofs.PassingWritten.{PassesWritten}
 use Rattle.bz_rule.proofs.Segments.{AreFormed}
 use Rattle.bz_tree.specs.Comments.{comments_of}
+use Rattle.std.specs.List.{list_all}
+use Rattle.std.specs.Str.{is_utf8}
+use Rattle.bz_rule.specs.declared.command.CommandFault.{CommandFault}
 
 lawful : (c : Command) (home : Package) → Lawful c home
 lawful (Add attr values) home = add_lawful home attr values
@@ -95,3 +98,23 @@ comments_after c home slot keeps = let law = lawful c home in law.comments keeps
 
 -- what arguments keep of their comments
 pub ruleset own_comments_stay = (add_keeps, left_keeps, rename_keeps, replace_keeps, set_if_absent_keeps, set_keeps)
+
+-- what is read of words that are UTF-8 can be read, and its words are UTF-8
+row : (test : Bool) (one : Result Command CommandFault) (others : Result (Option Command) CommandFault) (c : Command) → (Ok c ≡ one → IsRead c) → (Ok (Some c) ≡ others → IsRead c)
+    → Ok (Some c) ≡ (if test then a_command one else others) → IsRead c
+row true (Ok d) others c this rest h = this cc
+row true (Err fault) others c this rest h = absurd cc
+row false one others c this rest h = rest h
+
+pub named_read : (name : List ℕ) (words : List (List ℕ)) (c : Command) → Ok (Some c) ≡ named_command name words → list_all is_utf8 words ≡ true → IsRead c
+named_read name words c h u =
+    row (bytes_eq name (codes "add")) (add_of words) _ c (λ e. add_read words c e u)
+    (row (bytes_eq name (codes "remove")) (remove_of words) _ c (λ e. remove_read words c e u)
+    (row (bytes_eq name (codes "set")) (set_of words) _ c (λ e. set_read words c e u)
+    (row (bytes_eq name (codes "set_if_absent")) (set_if_absent_of words) _ c (λ e. set_if_absent_read words c e u)
+    (row (bytes_eq name (codes "delete")) (delete_of words) _ c (λ e. delete_read words c e u)
+    (row (bytes_eq name (codes "rename")) (rename_of words) _ c (λ e. rename_read words c e u)
+    (row (bytes_eq name (codes "move")) (move_of words) _ c (λ e. move_read words c e u)
+    (row (bytes_eq name (codes "replace")) (replace_of words) _ c (λ e. replace_read words c e u)
+    (row (bytes_eq name (codes "comment")) (comment_of words) _ c (λ e. comment_read words c e u)
+    (row (bytes_eq name (codes "print")) (print_of words) (Ok None) c (λ e. print_read words c e u) (λ e. absurd cc)))))))))) h

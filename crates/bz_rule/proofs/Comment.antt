@@ -1,5 +1,5 @@
 -- What is owed of `comment`: it changes what it stands before, a list of comment lines that gets longer, and leaves what is well formed so, and texts that pass a test.
-use Rattle.std.proofs.Common.{◌≡◌, ℕ, ◌+◌, List, [], ◌∷◌, ◌++◌, Bool, true, false, Option, None, Some, length, option_map, is_some, if◌then◌else◌, map, refl, ap, sym, ◌∙◌, arith, inl, inr, not, subst, suc, ◌&&◌}
+use Rattle.std.proofs.Common.{◌≡◌, ℕ, ◌+◌, List, [], ◌∷◌, ◌++◌, Bool, true, false, Option, None, Some, length, option_map, is_some, if◌then◌else◌, map, refl, ap, sym, ◌∙◌, arith, inl, inr, not, subst, suc, ◌&&◌, rules, Ok}
 use Rattle.std.specs.List.{list_any, list_all}
 use Rattle.std.proofs.lemmas.Bool.{cases_Bool, and_from, and_parts, not-true}
 use Rattle.std.proofs.lemmas.List.{length_push}
@@ -23,7 +23,7 @@ use Rattle.bz_rule.proofs.Rebuilt.{comment_exchanged, holds_after}
 use Rattle.std.proofs.lemmas.List.Folds.{list_all-append}
 use Rattle.bz_attribute.proofs.RuleNodes.{rule_nodes}
 use Rattle.bz_command.specs.Arguments.{breaks_line, is_commented}
-use Rattle.bz_rule.specs.Commands.{is_command}
+use Rattle.bz_rule.specs.Commands.{is_command, Command, IsRead, comment_of}
 use Rattle.bz_layout_laws.proofs.EachRead.{comments_join}
 use Rattle.bz_layout_laws.specs.EachText.{items_pass}
 use Rattle.bz_layout_laws.specs.Legible.{AreComments}
@@ -41,6 +41,7 @@ use Rattle.bz_rule.proofs.Segments.{AreFormed, IsFormed, either_way}
 use Rattle.bz_token.specs.Lexical.{is_comment}
 use Rattle.bz_tree.specs.Comments.{beside}
 use Rattle.bz_tree.specs.Grammar.{IsArg, IsTest}
+use Rattle.std.specs.Str.{is_utf8}
 
 push_longer : (xs : List (List ℕ)) (y : List ℕ) → xs ++ y ∷ [] ≡ xs → ⊥
 push_longer xs y h = let long : length xs + 1 ≡ length xs = sym (length_push xs y) ∙ ap length h in absurd (omega arith)
@@ -288,3 +289,11 @@ comment_lawful home (Value attr v) text = on_arguments (Comment (Value attr v) t
   passes = λ q w h args k. comment_value_passes q w home attr v text args (and_parts (q attr && q v) (q text) h).1 k;
   comments = λ k. absurd cc;
 })
+
+-- What is read of words that are UTF-8 can be read, and its words are UTF-8.
+pub comment_read : (words : List (List ℕ)) (c : Command) → Ok c ≡ comment_of words → list_all is_utf8 words ≡ true → IsRead c
+comment_read [] c h u = absurd (cc)
+comment_read (text ∷ []) c h u = search rules
+comment_read (attr ∷ text ∷ []) c h u = search rules
+comment_read (attr ∷ value ∷ text ∷ []) c h u = search rules
+comment_read (attr ∷ value ∷ text ∷ word ∷ words) c h u = absurd (cc)

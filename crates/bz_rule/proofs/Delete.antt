@@ -1,15 +1,17 @@
 -- What is owed of `delete`, which takes a rule out, and nothing else.
-use Rattle.std.proofs.Common.{◌≡◌, List, true, false, Option, Some, None, is_some, if◌then◌else◌, map, option_map, refl, ap, ◌∙◌, suc}
+use Rattle.std.proofs.Common.{◌≡◌, List, true, false, Option, Some, None, is_some, if◌then◌else◌, map, option_map, refl, ap, ◌∙◌, suc, ℕ, [], ◌∷◌, Ok}
 use Rattle.bz_tree.specs.Tree.{Segment, Statement}
 use Rattle.bz_command.specs.Labels.{Package}
 use Rattle.bz_rule.specs.declared.command.Action.TheVariants.{Delete}
 use Rattle.bz_attribute.specs.Rules.{rule_of}
 use Rattle.bz_attribute.specs.Effects.{done, holds_rule, with_args}
-use Rattle.bz_rule.specs.Commands.{after}
+use Rattle.bz_rule.specs.Commands.{after, Command, IsRead, delete_of}
 use Rattle.bz_rule.proofs.Lawful.{Lawful, SlotFormed}
 use Rattle.bz_rule.proofs.Rebuilt.{holds_after}
 use Rattle.bz_rule.proofs.PassingRules.{SlotPasses}
 use Rattle.bz_rule.proofs.Segments.{either_way}
+use Rattle.std.specs.List.{list_all}
+use Rattle.std.specs.Str.{is_utf8}
 
 deleted_differs : (slot : Option Statement) → holds_rule slot ≡ true → (if holds_rule slot then None else slot) ≡ slot → ⊥
 deleted_differs None h same = absurd cc
@@ -35,3 +37,8 @@ delete_lawful home = record {
   texts = λ q w s h k. either_way (SlotPasses q) (is_some (rule_of s.nodes)) tt k;
   comments = λ k. absurd cc;
 }
+
+-- What is read of words that are UTF-8 can be read, and its words are UTF-8.
+pub delete_read : (words : List (List ℕ)) (c : Command) → Ok c ≡ delete_of words → list_all is_utf8 words ≡ true → IsRead c
+delete_read [] c h u = let is : c ≡ Delete = cc in rw is (record { command = refl; words = refl })
+delete_read (word ∷ words) c h u = absurd (cc)

@@ -1,5 +1,5 @@
 -- What is owed of a command; of one on the arguments of a rule it follows from what it does to them.
-use Rattle.std.proofs.Common.{◌≡◌, ℕ, List, [], ◌∷◌, ◌++◌, Bool, true, false, Option, Some, None, map, option_map, is_some, if◌then◌else◌, refl, ap, sym, ◌∙◌, suc, subst}
+use Rattle.std.proofs.Common.{◌≡◌, ℕ, List, [], ◌∷◌, ◌++◌, Bool, true, false, Option, Some, None, map, option_map, is_some, if◌then◌else◌, refl, ap, sym, ◌∙◌, suc, subst, ◌||◌, Result, Ok, Err}
 use Rattle.std.specs.Prelude.{IfSome}
 use Rattle.std.proofs.lemmas.List.{append_cancel_left}
 use Rattle.bz_tree.specs.declared.stmt.GroupKind.TheVariants.{RuleCall}
@@ -24,6 +24,7 @@ use Rattle.bz_rule.proofs.RuleFormed.{rule_formed, rule_parts}
 use Rattle.bz_rule.proofs.Segments.{AreFormed}
 use Rattle.bz_tree.specs.Comments.{comments_of}
 use Rattle.bz_rule.proofs.AllComments.{in_all, slot_comments}
+use Rattle.bz_rule.specs.declared.command.CommandFault.{CommandFault}
 
 -- Of a command that adds an argument after all others: where none has this name, it does with more arguments what it does with these alone.
 pub record Appends (c : Command) (home : Package) (name : List ℕ) : Type 0 where
@@ -147,3 +148,16 @@ on_arguments c home is told law = record {
   texts = λ q w s h k. subst (SlotPasses q) (sym (is (Some s))) (with_nodes q s (nodes_after (args_after c home) s.nodes (rule_of s.nodes)) (args_nodes_pass q (args_after c home) (law.passes q w h) s.nodes) k);
   comments = λ keeps slot. ap (option_map comments_of) (is slot) ∙ slot_comments (args_after c home) (law.comments keeps) slot;
 }
+
+-- where a test gives no fault, it failed; where it gives no other, it held
+pub passed : (test : Bool) (fault : CommandFault) (read : Result Command CommandFault) (c : Command) → Ok c ≡ (if test then Err fault else read) → (test ≡ false) × (Ok c ≡ read)
+passed true fault read c h = absurd (cc)
+passed false fault read c h = (refl, h)
+
+pub held : (test : Bool) (fault : CommandFault) (d c : Command) → Ok c ≡ (if test then Ok d else Err fault) → (test ≡ true) × (c ≡ d)
+held true fault d c h = (refl, cc)
+held false fault d c h = absurd (cc)
+
+pub none_of_either : (a b : Bool) → a || b ≡ false → a ≡ false
+none_of_either true b h = h
+none_of_either false b h = refl

@@ -31,7 +31,6 @@ mod PassingTexts
 mod PassingWritten
 mod Print
 mod PutBack
-mod ReadCommands
 mod Rebuilt
 mod Remove
 mod Rename

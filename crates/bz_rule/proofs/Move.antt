@@ -1,11 +1,11 @@
 -- What is owed of `move`: it changes something exactly where an element is chosen, which afterwards does not stand in the arguments of the old name; it leaves what is well formed so, and texts that pass a test.
-use Rattle.std.proofs.Common.{◌≡◌, ℕ, List, [], ◌∷◌, ◌++◌, Bool, true, false, cond, filter, Option, Some, None, if◌then◌else◌, map, is_some, refl, ap, sym, ◌∙◌, inl, inr, bytes_eq, suc}
+use Rattle.std.proofs.Common.{◌≡◌, ℕ, List, [], ◌∷◌, ◌++◌, Bool, true, false, cond, filter, Option, Some, None, if◌then◌else◌, map, is_some, refl, ap, sym, ◌∙◌, inl, inr, bytes_eq, suc, rules, Ok}
 use Rattle.std.proofs.lemmas.Bool.{and_parts, cases_Bool, not-true}
 use Rattle.std.proofs.lemmas.List.{append-nil, append_cancel_right}
 use Rattle.bz_tree.specs.Tree.{Item, Segment}
 use Rattle.bz_command.specs.Labels.{Package}
 use Rattle.bz_command.specs.Arguments.{is_moved}
-use Rattle.bz_rule.specs.Commands.{is_command}
+use Rattle.bz_rule.specs.Commands.{is_command, Command, IsRead, move_of}
 use Rattle.bz_command.specs.declared.arguments.Moved.{Moved}
 use Rattle.bz_rule.specs.declared.command.Action.TheVariants.{Move}
 use Rattle.bz_attribute.specs.Rules.{first_named, is_named, is_text as is_word, name_of, value, string_value}
@@ -21,7 +21,7 @@ use Rattle.std.specs.Prelude.{not, ◌&&◌}
 use Rattle.bz_rule.proofs.Lawful.{Lawful, done_changed, guarded_same, note_unchanged, on_arguments}
 use Rattle.bz_rule.proofs.NamesKept.{KeepsEach, Leaves, append_kept, edit_kept, edit_one_kept, first_kept, has_kept, put_kept, taken}
 use Rattle.bz_rule.proofs.Aside.{leaves_both}
-use Rattle.std.specs.List.{AllByRecursion}
+use Rattle.std.specs.List.{AllByRecursion, list_all}
 use Rattle.bz_rule.proofs.ArgumentValues.{good_value, good_with}
 use Rattle.bz_rule.proofs.GoodArguments.{appended_good, argument_good, filtered_good, first_good}
 use Rattle.bz_rule.proofs.ListParts.{edited_first_part_good, list_value, parts_good}
@@ -32,6 +32,7 @@ use Rattle.bz_rule.proofs.Segments.{AreFormed, IsFormed, all_appended, all_filte
 use Rattle.bz_token.specs.Lexical.{is_text}
 use Rattle.bz_token.specs.declared.token.Kind.TheVariants.{Identifier}
 use Rattle.bz_tree.specs.Grammar.{IsArg, IsTest}
+use Rattle.std.specs.Str.{is_utf8}
 
 -- an argument of the new name has not the old one
 not_old : (old new : List ℕ) (name : Option (List ℕ)) → bytes_eq old new ≡ false → is_word new name ≡ true → is_word old name ≡ false
@@ -235,3 +236,10 @@ move_lawful home old new chosen = on_arguments (Move old new chosen) home (λ sl
   passes = λ q w h args k. move_passes q w home old new chosen args (and_parts (q old) (q new) (and_parts (q old && q new) _ h).0).1 k;
   comments = λ k. absurd cc;
 })
+
+-- What is read of words that are UTF-8 can be read, and its words are UTF-8.
+pub move_read : (words : List (List ℕ)) (c : Command) → Ok c ≡ move_of words → list_all is_utf8 words ≡ true → IsRead c
+move_read [] c h u = absurd (cc)
+move_read (old ∷ []) c h u = absurd (cc)
+move_read (old ∷ new ∷ []) c h u = absurd (cc)
+move_read (old ∷ new ∷ value ∷ values) c h u = search rules

@@ -1,25 +1,28 @@
 -- What is owed of `print`, which changes nothing.
-use Rattle.std.proofs.Common.{◌≡◌, ℕ, List, [], ◌∷◌, ◌++◌, true, false, ◌||◌, if◌then◌else◌, Option, Some, None, is_some, map, option_map, refl, ap, sym, ◌∙◌}
+use Rattle.std.proofs.Common.{◌≡◌, ℕ, List, [], ◌∷◌, ◌++◌, true, false, ◌||◌, if◌then◌else◌, Option, Some, None, is_some, map, option_map, refl, ap, sym, ◌∙◌, Ok, inl, inr}
 use Rattle.std.specs.Prelude.{bytes_eq, codes}
-use Rattle.std.specs.List.{list_any}
-use Rattle.std.proofs.lemmas.Bool.{or_right}
+use Rattle.std.specs.List.{list_any, list_all}
+use Rattle.std.proofs.lemmas.Bool.{or_right, cases_Bool, and_parts}
 use Rattle.std.proofs.lemmas.Slice.Eq.{bytes_eq-Decides}
 use Rattle.bz_tree.specs.Tree.{Item, Segment, Statement}
 use Rattle.bz_command.specs.Labels.{Package}
 use Rattle.bz_command.specs.declared.arguments.Field.{Field}
 use Rattle.bz_command.specs.declared.arguments.Field.TheVariants.{EndLine, Kind, Label, StartLine, ValueOf}
 use Rattle.bz_rule.specs.declared.command.Action.TheVariants.{Print}
-use Rattle.bz_command.specs.Arguments.{field_mentions}
+use Rattle.bz_command.specs.Arguments.{field_mentions, is_field, is_named_field}
 use Rattle.bz_attribute.specs.Rules.{Rule, rule_of, value}
 use Rattle.bz_attribute.specs.Effects.{with_args}
 use Rattle.bz_attribute.specs.Texts.{home_text}
 use Rattle.bz_attribute.specs.declared.done.Note.TheVariants.{Missing}
 use Rattle.bz_attribute_commands.specs.Print.{field_name, field_text, fields_of, missing, printed, printed_of, prints, shown_field, spaced, value_text}
 use Rattle.bz_rule.specs.Aside.{IsAside}
-use Rattle.bz_rule.proofs.Lawful.{Lawful}
+use Rattle.bz_rule.proofs.Lawful.{Lawful, held}
 use Rattle.bz_rule.proofs.NamesKept.{KeepsEach, Leaves, first_kept, name_kept}
 use Rattle.bz_rule.proofs.Rebuilt.{rule_after, rule_with}
 use Rattle.bz_rule.proofs.Aside.{leaves_mentioned}
+use Rattle.std.specs.Str.{is_utf8}
+use Rattle.bz_rule.specs.declared.command.CommandFault.TheVariants.{BadAttribute}
+use Rattle.bz_rule.specs.Commands.{Command, IsRead, field_of, print_of}
 
 print_quiet : (home : Package) (fields : List Field) (slot : Option Statement) → (prints home fields slot).changed ≡ false
 print_quiet home fields None = refl
@@ -103,3 +106,30 @@ print_lawful home fields = record {
   texts = λ q w s h k. k;
   comments = λ k slot. refl;
 }
+
+-- What is read of words that are UTF-8 can be read, and its words are UTF-8.
+named_field : (word : List ℕ) → is_field word ≡ true → is_named_field (field_of word) ≡ true
+named_field word h = elim (cases_Bool (bytes_eq word (codes "label"))) [
+  | inl is ↦ rw is refl
+  | inr label ↦ elim (cases_Bool (bytes_eq word (codes "kind"))) [
+    | inl is ↦ rw (label, is) refl
+    | inr kind ↦ elim (cases_Bool (bytes_eq word (codes "startline"))) [
+      | inl is ↦ rw (label, kind, is) refl
+      | inr start ↦ elim (cases_Bool (bytes_eq word (codes "endline"))) [
+        | inl is ↦ rw (label, kind, start, is) refl
+        | inr end ↦ rw (label, kind, start, end) h
+      ]
+    ]
+  ]
+]
+
+named_fields : (words : List (List ℕ)) → list_all is_field words ≡ true → list_all is_named_field (map field_of words) ≡ true
+named_fields [] h = refl
+named_fields (word ∷ words) h =
+    let parts = and_parts (is_field word) (list_all is_field words) h in
+    rw (named_field word parts.0) (named_fields words parts.1)
+
+pub print_read : (words : List (List ℕ)) (c : Command) → Ok c ≡ print_of words → list_all is_utf8 words ≡ true → IsRead c
+print_read words c h u =
+    let fields = held (list_all is_field words) BadAttribute (Print (map field_of words)) c h in
+    rw fields.1 (record { command = named_fields words fields.0; words = refl })

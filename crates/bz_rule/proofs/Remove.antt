@@ -1,6 +1,6 @@
 -- What is owed of `remove`: it changes something exactly where it says so, and leaves what is well formed so, texts that pass a test, and the comments of what stays.
-use Rattle.std.proofs.Common.{◌≡◌, ℕ, List, [], ◌∷◌, Bool, true, false, ◌&&◌, not, if◌then◌else◌, Option, Some, None, map, filter, refl, ap, sym, ◌∙◌, suc}
-use Rattle.std.specs.List.{list_any}
+use Rattle.std.proofs.Common.{◌≡◌, ℕ, List, [], ◌∷◌, Bool, true, false, ◌&&◌, not, if◌then◌else◌, Option, Some, None, map, filter, refl, ap, sym, ◌∙◌, suc, rules, Ok}
+use Rattle.std.specs.List.{list_any, list_all}
 use Rattle.std.proofs.lemmas.Bool.{or_parts, and_right}
 use Rattle.std.proofs.lemmas.List.Folds.{list_any-append}
 use Rattle.bz_tree.specs.declared.stmt.GroupKind.TheVariants.{Call, RuleCall, Load, Paren, List as ListKind, Index, Dict, ListComp, DictComp}
@@ -29,6 +29,8 @@ use Rattle.bz_rule.proofs.PassingWritten.{filtered_passes}
 use Rattle.bz_rule.proofs.Segments.{AreFormed, IsFormed, all_filtered, all_flattened, either_way}
 use Rattle.bz_rule.specs.OwnComments.{own_comments}
 use Rattle.bz_tree.specs.Grammar.{IsArg}
+use Rattle.std.specs.Str.{is_utf8}
+use Rattle.bz_rule.specs.Commands.{Command, IsRead, remove_of}
 
 empty_or_not : (ss : List Segment) → not (is_nil ss) && is_nil ss ≡ false
 empty_or_not [] = refl
@@ -197,3 +199,8 @@ remove_lawful home attrs values = on_arguments (Remove attrs values) home (λ sl
   passes = λ q w h args k. remove_passes q home attrs values args k;
   comments = λ k. absurd cc;
 })
+
+-- What is read of words that are UTF-8 can be read, and its words are UTF-8.
+pub remove_read : (words : List (List ℕ)) (c : Command) → Ok c ≡ remove_of words → list_all is_utf8 words ≡ true → IsRead c
+remove_read [] c h u = absurd (cc)
+remove_read (attr ∷ values) c h u = search rules

@@ -1,5 +1,5 @@
 -- What is owed of `rename`: it changes something exactly where it tells nothing, and leaves what is well formed so, texts that pass a test, and comments.
-use Rattle.std.proofs.Common.{◌≡◌, ℕ, List, [], ◌∷◌, true, false, ◌||◌, Some, None, map, is_some, refl, ap, ◌∙◌, if◌then◌else◌, codes, Bool, suc, ◌++◌}
+use Rattle.std.proofs.Common.{◌≡◌, ℕ, List, [], ◌∷◌, true, false, ◌||◌, Some, None, map, is_some, refl, ap, ◌∙◌, if◌then◌else◌, codes, Bool, suc, ◌++◌, rules, Ok}
 use Rattle.std.proofs.lemmas.Bool.{or_right, and_parts}
 use Rattle.bz_tree.specs.Tree.{Item, Segment, group, leaf}
 use Rattle.bz_attribute.specs.Rules.{ident_of, is_named, is_operator_item, is_text as is_word, name_of, value}
@@ -26,6 +26,9 @@ use Rattle.bz_token.specs.Lexical.{is_text}
 use Rattle.bz_token.specs.declared.token.Kind.TheVariants.{Identifier}
 use Rattle.bz_tree.specs.Comments.{beside}
 use Rattle.bz_tree.specs.Grammar.{IsArg}
+use Rattle.std.specs.List.{list_all}
+use Rattle.std.specs.Str.{is_utf8}
+use Rattle.bz_rule.specs.Commands.{Command, IsRead, rename_of}
 
 named_now : (old new : List ℕ) (xs : List Item) → is_word old (name_of xs) ≡ true → is_word new (name_of (renamed new xs)) ≡ true
 named_now old new [] h = absurd cc
@@ -119,3 +122,10 @@ rename_lawful home old new = on_arguments (Rename old new) home (λ slot. refl) 
   passes = λ q w h args k. rename_passes q old new args (and_parts (q old) (q new) h).1 k;
   comments = λ k args. rename_leaves_all old new args;
 })
+
+-- What is read of words that are UTF-8 can be read, and its words are UTF-8.
+pub rename_read : (words : List (List ℕ)) (c : Command) → Ok c ≡ rename_of words → list_all is_utf8 words ≡ true → IsRead c
+rename_read [] c h u = absurd (cc)
+rename_read (old ∷ []) c h u = absurd (cc)
+rename_read (old ∷ new ∷ []) c h u = search rules
+rename_read (old ∷ new ∷ word ∷ words) c h u = absurd (cc)

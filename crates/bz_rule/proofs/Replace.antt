@@ -1,6 +1,6 @@
 -- What is owed of `replace`: it changes something where an element equals `old` and is not exactly `new`, and afterwards there is none; it leaves what is well formed so, texts that pass a test, and comments.
-use Rattle.std.proofs.Common.{◌≡◌, ℕ, List, [], ◌∷◌, Bool, true, false, not, ◌&&◌, ◌||◌, Option, Some, None, option_map, map, if◌then◌else◌, refl, ap, sym, ◌∙◌, inl, inr, suc, ◌++◌}
-use Rattle.std.specs.List.{list_any}
+use Rattle.std.proofs.Common.{◌≡◌, ℕ, List, [], ◌∷◌, Bool, true, false, not, ◌&&◌, ◌||◌, Option, Some, None, option_map, map, if◌then◌else◌, refl, ap, sym, ◌∙◌, inl, inr, suc, ◌++◌, rules, Ok}
+use Rattle.std.specs.List.{list_any, list_all}
 use Rattle.std.proofs.lemmas.Bool.{cases_Bool, or_parts, and_parts}
 use Rattle.std.proofs.lemmas.Slice.Eq.{bytes_eq-Decides}
 use Rattle.bz_tree.specs.Tree.{Item, Segment, group, leaf}
@@ -31,6 +31,8 @@ use Rattle.bz_rule.proofs.Segments.{AreFormed, IsFormed, all_mapped, either_way}
 use Rattle.bz_rule.specs.OwnComments.{Comments, own_comments}
 use Rattle.bz_tree.specs.Comments.{beside}
 use Rattle.bz_tree.specs.Grammar.{IsArg, IsTest}
+use Rattle.std.specs.Str.{is_utf8}
+use Rattle.bz_rule.specs.Commands.{Command, IsRead, replace_of}
 
 -- an element that was replaced is exactly `new`
 settled : (home : Package) (old new : List ℕ) (s : Segment) → is_replaced home old new (replaced home old new s) ≡ false
@@ -247,3 +249,11 @@ replace_lawful home attrs old new = on_arguments (Replace attrs old new) home (�
   passes = λ q w h args k. replace_passes q w home attrs old new args (and_parts _ (q new) h).1 k;
   comments = λ k args. replace_leaves_all home attrs old new args;
 })
+
+-- What is read of words that are UTF-8 can be read, and its words are UTF-8.
+pub replace_read : (words : List (List ℕ)) (c : Command) → Ok c ≡ replace_of words → list_all is_utf8 words ≡ true → IsRead c
+replace_read [] c h u = absurd (cc)
+replace_read (attr ∷ []) c h u = absurd (cc)
+replace_read (attr ∷ old ∷ []) c h u = absurd (cc)
+replace_read (attr ∷ old ∷ new ∷ []) c h u = search rules
+replace_read (attr ∷ old ∷ new ∷ word ∷ words) c h u = absurd (cc)

@@ -1,8 +1,8 @@
 -- What is owed of `set`, `set_if_absent` and `set kind`: also that they leave what is well formed so, texts that pass a test, and comments.
-use Rattle.std.proofs.Common.{◌≡◌, ℕ, ◌==◌, List, [], ◌∷◌, ◌++◌, Bool, true, false, not, ◌||◌, Option, None, Some, option_map, is_some, length, map, if◌then◌else◌, refl, ap, sym, ◌∙◌, arith, length-append, append_assoc, append-nil, codes, suc}
+use Rattle.std.proofs.Common.{◌≡◌, ℕ, ◌==◌, List, [], ◌∷◌, ◌++◌, Bool, true, false, not, ◌||◌, Option, None, Some, option_map, is_some, length, map, if◌then◌else◌, refl, ap, sym, ◌∙◌, arith, length-append, append_assoc, append-nil, codes, suc, rules, ◌&&◌, Result, Ok, Err, inl, inr}
 use Rattle.std.specs.Prelude.{bytes_eq}
 use Rattle.std.specs.List.{slice_split, join_with_byte, list_any, AllByRecursion, list_all}
-use Rattle.std.proofs.lemmas.Bool.{not-true, not-false, and_parts}
+use Rattle.std.proofs.lemmas.Bool.{not-true, not-false, and_parts, cases_Bool}
 use Rattle.std.proofs.lemmas.Grind.{flat_map-append}
 use Rattle.std.proofs.lemmas.List.Splits.{join_with_byte-slice_split}
 use Rattle.std.proofs.lemmas.List.Folds.{list_any-append}
@@ -20,7 +20,7 @@ use Rattle.bz_rule.specs.declared.command.Action.TheVariants.{Set, SetIfAbsent}
 use Rattle.bz_command.specs.Labels.{Package}
 use Rattle.bz_attribute.specs.Lists.{with_value, is_attribute}
 use Rattle.bz_rule.proofs.Arguments.{attribute_named, first_same, has_first, is_first_named, rest_same, same_bytes, value_put}
-use Rattle.bz_rule.proofs.Lawful.{Lawful, on_arguments}
+use Rattle.bz_rule.proofs.Lawful.{Lawful, on_arguments, passed, held, none_of_either}
 use Rattle.bz_rule.proofs.NamesKept.{KeepsEach, Leaves, append_kept, edit_one_kept, first_kept, has_kept, put_kept, taken}
 use Rattle.bz_rule.proofs.Aside.{leaves_mentioned}
 use Rattle.bz_rule.proofs.Rebuilt.{kind_told, slot_kind_exchanged}
@@ -45,6 +45,10 @@ use Rattle.bz_token.specs.Lexical.{is_text}
 use Rattle.bz_token.specs.declared.token.Kind.TheVariants.{Identifier, Integer, Kept, Newline, Comment, Operator, String, Keyword}
 use Rattle.bz_tree.specs.Comments.{beside, comments_of}
 use Rattle.bz_tree.specs.Grammar.{IsArg, ident, no_suffix, number, operand, plain, primary, single}
+use Rattle.std.specs.Str.{is_utf8}
+use Rattle.bz_rule.specs.declared.command.CommandFault.{CommandFault}
+use Rattle.bz_rule.specs.declared.command.CommandFault.TheVariants.{WrongCount, BadAttribute}
+use Rattle.bz_rule.specs.Commands.{Command, IsRead, on_attribute, set_if_absent_of, set_kind_of, set_of, takes_one}
 
 -- what is written is what was meant
 
@@ -452,3 +456,23 @@ set_if_absent_lawful home attr words = on_arguments (SetIfAbsent attr words) hom
   passes = λ q w h args k. let p = and_parts (q attr) (list_all q words) h in set_if_absent_passes q w attr words args p.0 (words_in q words p.1) k;
   comments = λ k args. set_if_absent_leaves_all attr words args;
 })
+
+-- What is read of words that are UTF-8 can be read, and its words are UTF-8.
+set_kind_read : (words : List (List ℕ)) (c : Command) → Ok c ≡ set_kind_of words → list_all is_utf8 words ≡ true → IsRead c
+set_kind_read [] c h u = absurd (cc)
+set_kind_read (kind ∷ words) c h u = search rules
+
+pub set_read : (words : List (List ℕ)) (c : Command) → Ok c ≡ set_of words → list_all is_utf8 words ≡ true → IsRead c
+set_read [] c h u = absurd (cc)
+set_read (attr ∷ values) c h u =
+    let right = passed (length values == 0 || takes_one attr && not (length values == 1)) WrongCount (if bytes_eq attr (codes "kind") then set_kind_of values else on_attribute attr (Set (ToValues attr values))) c h in
+    elim (cases_Bool (bytes_eq attr (codes "kind"))) [
+      | inl kind ↦ set_kind_read values c (rw kind at right.1) (and_parts (is_utf8 attr) (list_all is_utf8 values) u).1
+      | inr other ↦
+          let named = held (is_identifier attr) BadAttribute (Set (ToValues attr values)) c (rw other at right.1) in
+          rw named.1 (record { command = rw (named.0, none_of_either (length values == 0) (takes_one attr && not (length values == 1)) right.0) refl; words = u })
+    ]
+
+pub set_if_absent_read : (words : List (List ℕ)) (c : Command) → Ok c ≡ set_if_absent_of words → list_all is_utf8 words ≡ true → IsRead c
+set_if_absent_read [] c h u = absurd (cc)
+set_if_absent_read (attr ∷ values) c h u = search rules

@@ -20,7 +20,18 @@ pub fn read_command(alloc: Global, text: &str) -> Result<Option<Command>, Comman
     let Ok(name) = next_word(&mut words) else {
         return Ok(None);
     };
-    let action = match name.as_str() {
+    let action = read_named(alloc, name.as_str(), words)?;
+    let Some(action) = action else {
+        return Ok(None);
+    };
+    Ok(Some(Command { action }))
+}
+
+// The command of a name; `None` for another name.
+fn read_named(alloc: Global, name: &str, words: Vec<Text>) -> Result<Option<Action>, CommandFault>
+    ensures { result ≢ Err CommandFault.OutOfMemory → result ≡ spec.named_command name.now words.items }
+{
+    let action = match name {
         "add" => read_add(words)?,
         "remove" => read_remove(words)?,
         "set" => read_set(words)?,
@@ -33,7 +44,7 @@ pub fn read_command(alloc: Global, text: &str) -> Result<Option<Command>, Comman
         "print" => read_print(alloc, words)?,
         _ => return Ok(None),
     };
-    Ok(Some(Command { action }))
+    Ok(Some(action))
 }
 
 fn read_add(mut words: Vec<Text>) -> Result<Action, CommandFault>
