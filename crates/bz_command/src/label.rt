@@ -18,20 +18,21 @@ use std::marker::Model;
 #[derive(Drop)]
 pub(crate) struct Label<'a> {
     key: u64,
-    texts: [Bytes<'a>; 4],
+    home: &'a Package,
+    text: Bytes<'a>,
 }
 
 impl<'a> Model for Label<'a> {
     ghost use Rattle.std.specs.Prelude.{◌≡◌, ℕ, List, IsTrue};
-    ghost use Rattle.std.specs.List.{flat_map, list_all};
+    ghost use Rattle.bz_command.specs.Same.{completed};
     ghost use Rattle.bz_command.specs.private.ByteSteps.{left, is_good};
     ghost use Rattle.bz_command.specs.private.LabelSteps.{key_of};
 
     ghost Value = { List ℕ };
 
-    ghost view = { λ l. flat_map left l.texts };
+    ghost view = { λ l. completed l.home.now (left l.text) };
 
-    ghost invariant = { λ l. IsTrue (list_all is_good l.texts) × (l.key ≡ key_of (flat_map left l.texts)) };
+    ghost invariant = { λ l. IsTrue (is_good l.text) × (l.key ≡ key_of (completed l.home.now (left l.text))) };
 }
 
 impl<'a> Label<'a> {
@@ -39,12 +40,19 @@ impl<'a> Label<'a> {
         requires { IsTrue (is_good text) }
         ensures { result ≡ spec.completed home.now (left text.entry) }
     {
-        let texts = completed(home, text);
         let mut key = 0;
-        for text in &texts {
+        for text in &completed(home, text) {
             key = stirred(key, *text);
         }
-        Label { key, texts }
+        Label { key, home, text }
+    }
+
+    // All its bytes, as texts in a row.
+    fn texts(&self) -> [Bytes<'a>; 4]
+        ensures bytes { flat_map left result ≡ self.now }
+        ensures good { IsTrue (list_all is_good result) }
+    {
+        completed(self.home, self.text)
     }
 }
 
@@ -100,7 +108,7 @@ impl<'a> Ord for Label<'a> {
 
     fn cmp(&self, other: &Label<'a>) -> Ordering {
         match self.key.cmp(&other.key) {
-            Ordering::Equal => order(&self.texts, &other.texts),
+            Ordering::Equal => order(&self.texts(), &other.texts()),
             found => found,
         }
     }

@@ -9,7 +9,7 @@ use Rattle.bz_command.proofs.label.Label.new.Goals as goal
 pub invariant_of-result : goal.invariant_of-result
 unfolding key_of
 invariant_of-result c =
-    let long : 4 ≡ length c.completed-texts.result = search rules in (
-      c.completed-texts.ensures.good,
-      c.loop-text.invariant ∙ ap (λ (texts : List Bytes). fold stirred 0 (flat_map left texts)) (take_all c.loop-text.text-index c.completed-texts.result (rw (sym long) c.loop-text-test.false)),
+    let long : 4 ≡ length c.completed.result = search rules in (
+      c.requires,
+      c.loop-text.invariant ∙ ap (λ (texts : List Bytes). fold stirred 0 (flat_map left texts)) (take_all c.loop-text.text-index c.completed.result (rw (sym long) c.loop-text-test.false)) ∙ ap (fold stirred 0) c.completed.ensures.bytes,
     )
