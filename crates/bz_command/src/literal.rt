@@ -79,7 +79,8 @@ fn plain_len(quote: u8, bytes: &[u8]) -> usize
 fn is_plain(quote: u8, b: u8) -> bool
     ensures { result ≡ is_plain quote b }
 {
-    quote != b && !matches!(b, b'\\' | b'\r' | b'\n')
+    // Letters are told by two comparisons.
+    quote != b && (b > b'\\' || !matches!(b, b'\\' | b'\r' | b'\n'))
 }
 
 /// The closing quotes are left, and nothing else.
