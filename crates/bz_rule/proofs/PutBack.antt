@@ -16,7 +16,7 @@ use Rattle.bz_attribute.specs.Rules.{name_of, is_named, is_text, value}
 use Rattle.bz_attribute.specs.Effects.{with_args}
 use Rattle.bz_rule.specs.Aside.{IsAside, KeepsNames}
 use Rattle.bz_rule.specs.Shallow.{Apart, value_for, value_named, with_nodes, is_empty, filled, whole}
-use Rattle.bz_rule.specs.private.Hollow.{Parts, apart, all_apart, IsApart, AreApart, MentionsNone, IsRead, parts_for, parts_named, found, before}
+use Rattle.bz_rule.specs.private.Hollow.{Parts, apart, all_apart, IsApart, AreApart, MentionsNone, PutsBack, parts_for, parts_named, found, before}
 use Rattle.bz_rule.proofs.Rebuilt.{with_args_twice, with_args_alike, with_args_same}
 
 same_bytes : (xs ys : List ℕ) → bytes_eq xs ys ≡ true → xs ≡ ys
@@ -167,7 +167,7 @@ apart_filter p (v ∷ vs) h = elim (p v) as (λ b. AreApart (if b then v ∷ fil
 
 -- some values are put back
 pub some_read : (command : Command) (vs : List Parts) (old : Statement) → AreApart vs
-    → IsRead command vs old (with_args (map (filled (all_apart (filter (λ v. mentions command v.name) vs)))) old) (filter (λ v. not (mentions command v.name)) vs)
+    → PutsBack command vs old (with_args (map (filled (all_apart (filter (λ v. mentions command v.name) vs)))) old) (filter (λ v. not (mentions command v.name)) vs)
 some_read command vs old h =
     let p : List ℕ → Bool = mentions command in
     record {
@@ -191,7 +191,7 @@ none_mentioned command (v ∷ vs) h attr m =
     ] refl
 
 -- none is asked for
-pub none_read : (command : Command) (vs : List Parts) (s : Statement) → AreApart vs → list_any (λ v. mentions command v.name) vs ≡ false → IsRead command vs s s vs
+pub none_read : (command : Command) (vs : List Parts) (s : Statement) → AreApart vs → list_any (λ v. mentions command v.name) vs ≡ false → PutsBack command vs s s vs
 none_read command vs s h none = record { same = refl; none = none_mentioned command vs none; are_apart = h }
 
 found_apart : (vs : List Parts) (name : List ℕ) (v : Parts) → AreApart vs → parts_for vs name ≡ Some v → IsApart v

@@ -6,7 +6,7 @@ ghost use Rattle.bz_attribute.specs.Rules.{rule_of};
 ghost use Rattle.bz_attribute.specs.Lists.{edit_list};
 ghost use Rattle.bz_attribute.specs.Effects.{nodes_after};
 ghost use Rattle.bz_rule.specs.Shallow.{filled};
-ghost use Rattle.bz_rule.specs.private.Hollow.{all_apart, asked, parts_view, found, AreApart, IsRead};
+ghost use Rattle.bz_rule.specs.private.Hollow.{all_apart, asked, parts_view, found, AreApart, PutsBack};
 
 use crate::command::Command;
 use crate::hollow::Unread;
@@ -93,7 +93,7 @@ pub(crate) fn read_mentioned<'a>(
     unread: &mut Vec<Unread<'a>>,
 ) -> Result<(), AllocError>
     requires { AreApart (map parts_view unread.old.items) }
-    ensures { OnOk result (IsRead command.now (map parts_view unread.old.items) (view stmt.old)
+    ensures { OnOk result (PutsBack command.now (map parts_view unread.old.items) (view stmt.old)
         (view stmt.new) (map parts_view unread.new.items)) }
 {
     if !unread.iter().any(|value| command.mentions(value.name)) {

@@ -203,7 +203,7 @@ abbrev pub MentionsNone : Command → List Parts → Type 0
 MentionsNone command vs = (attr : List ℕ) → mentions command attr ≡ true → value_for (all_apart vs) attr ≡ None
 
 -- the values that a command mentions are put back, and these are left
-pub record IsRead (command : Command) (vs : List Parts) (old new : Statement) (left : List Parts) : Type 0 where
+pub record PutsBack (command : Command) (vs : List Parts) (old new : Statement) (left : List Parts) : Type 0 where
   pub same : whole (all_apart left) new ≡ whole (all_apart vs) old
   pub none : MentionsNone command left
   pub are_apart : AreApart left

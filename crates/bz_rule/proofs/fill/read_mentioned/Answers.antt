@@ -7,7 +7,7 @@ use Rattle.bz_tree.specs.Tree.{Item}
 use Rattle.bz_tree.specs.View.{view}
 use Rattle.bz_attribute.proofs.Mapped.{filter-map, list_any-map}
 use Rattle.bz_rule.specs.Commands.{mentions}
-use Rattle.bz_rule.specs.private.Hollow.{parts_view, IsRead}
+use Rattle.bz_rule.specs.private.Hollow.{parts_view, PutsBack}
 use Rattle.bz_rule.specs.declared.hollow.Unread.{Unread}
 use Rattle.bz_rule.proofs.PutBack.{none_read, some_read}
 use Rattle.bz_rule.proofs.fill.read_mentioned.Goals as goal
@@ -29,7 +29,7 @@ returns c =
     let left : map parts_view c.retain.new.self.items ≡ filter (λ v. not (mentions command v.name)) (map parts_view unread) =
     rw (filter-map parts_view (λ v. not (mentions command v.name)) unread)
     (ap (map parts_view) (filter_same _ (λ u. not (mentions command (parts_view u).name)) _ (λ x b f' k. search rules) _ _ c.retain.ensures.filtered)) in
-    subst (IsRead command (map parts_view unread) (view c.args.stmt.now) _) (sym left)
-    (subst (λ (xs : List Item). IsRead command (map parts_view unread) (view c.args.stmt.now) (record (view c.args.stmt.now) { nodes = xs }) (filter (λ v. not (mentions command v.name)) (map parts_view unread)))
+    subst (PutsBack command (map parts_view unread) (view c.args.stmt.now) _) (sym left)
+    (subst (λ (xs : List Item). PutsBack command (map parts_view unread) (view c.args.stmt.now) (record (view c.args.stmt.now) { nodes = xs }) (filter (λ v. not (mentions command v.name)) (map parts_view unread)))
     (sym (rw c.deref-2.ensures.value at c.in_ok-fill_nodes.ensures))
     (some_read command (map parts_view unread) (view c.args.stmt.now) c.requires))

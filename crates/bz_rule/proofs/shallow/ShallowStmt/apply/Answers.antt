@@ -6,20 +6,20 @@ use Rattle.bz_command.specs.Labels.{Package}
 use Rattle.bz_attribute.specs.declared.done.Done.{Done}
 use Rattle.bz_rule.specs.Commands.{Command, after, done_of}
 use Rattle.bz_rule.specs.Shallow.{filled, whole}
-use Rattle.bz_rule.specs.private.Hollow.{Parts, IsRead, all_apart, parts_view}
+use Rattle.bz_rule.specs.private.Hollow.{Parts, PutsBack, all_apart, parts_view}
 use Rattle.bz_rule.proofs.Commands.{after_aside, done_aside}
 use Rattle.bz_rule.proofs.PutBack.{is_aside}
 use Rattle.bz_rule.proofs.shallow.ShallowStmt.apply.Goals as goal
 
 -- what is left of the statement, and what is told, are those of the whole
-whole_left : (command : Command) (home : Package) (whole_stmt old stmt : Statement) (vs left : List Parts) (slot : Option Statement) → IsRead command vs old stmt left → whole (all_apart vs) old ≡ whole_stmt
+whole_left : (command : Command) (home : Package) (whole_stmt old stmt : Statement) (vs left : List Parts) (slot : Option Statement) → PutsBack command vs old stmt left → whole (all_apart vs) old ≡ whole_stmt
     → slot ≡ after command home (Some stmt) → option_map (whole (all_apart left)) slot ≡ after command home (Some whole_stmt)
 whole_left command home whole_stmt old stmt vs left slot read is made =
     ap (option_map (whole (all_apart left))) made
     ∙ sym (after_aside command home (Some stmt) (filled (all_apart left)) (is_aside command left read.are_apart read.none))
     ∙ ap (λ (s : Statement). after command home (Some s)) (read.same ∙ is)
 
-whole_done : (command : Command) (home : Package) (whole_stmt old stmt : Statement) (vs left : List Parts) (done : Done) → IsRead command vs old stmt left → whole (all_apart vs) old ≡ whole_stmt
+whole_done : (command : Command) (home : Package) (whole_stmt old stmt : Statement) (vs left : List Parts) (done : Done) → PutsBack command vs old stmt left → whole (all_apart vs) old ≡ whole_stmt
     → done ≡ done_of command home (Some stmt) → done ≡ done_of command home (Some whole_stmt)
 whole_done command home whole_stmt old stmt vs left done read is told =
     told
