@@ -1,12 +1,13 @@
 -- A literal read unit by unit.
 use Rattle.std.proofs.Common.{◌≡◌, ℕ, suc, ◌+◌, ◌<◌, ◌==◌, ◌&&◌, ◌||◌, not, List, [], ◌∷◌, ◌++◌, length, take, drop, Bool, true, false, Option, Some, None, nat_eq, refl, sym, ap, ap₂, ◌∙◌, arith, inl, inr, append_assoc, eqb-true}
 use Rattle.std.specs.Prelude.{if◌then◌else◌, option_map, bytes_eq, codes}
-use Rattle.std.specs.List.{starts_with, prefix_len}
+use Rattle.std.specs.List.{starts_with, prefix_len, fold, list_all}
 use Rattle.std.proofs.lemmas.Bool.{cases_Bool, and_parts, or_parts, eq-eqb, ne_eqb, false_from_ne_true}
 use Rattle.std.proofs.lemmas.List.{take_all}
+use Rattle.std.proofs.Math.Bool.{and_assoc}
 use Rattle.std.proofs.lemmas.Slice.Eq.{bytes_eq-Decides}
 use Rattle.bz_command.specs.Values.{grouped_from, takes, units, joined, content, is_newline, unit_value, values_in, and_then, is_quote, prefix_of, inner_of, value_of}
-use Rattle.bz_command.specs.private.ValueSteps.{is_plain, first_len, is_value, inner_value, value_in, taken, opened_value}
+use Rattle.bz_command.specs.private.ValueSteps.{is_plain, plain_too, first_len, is_value, inner_value, value_in, taken, opened_value}
 
 -- nothing more joins a group
 apart : (g xs : List ℕ) → ((x : ℕ) → takes g x ≡ false) → grouped_from takes g xs ≡ g ∷ units xs
@@ -249,23 +250,16 @@ plain_first raw q b bs h =
     let no_newline : b == 10 ≡ false = off (b == 10) ends.1 in
     step raw (q ∷ []) (b ∷ bs) (omega arith) (rw no_quote refl) ∙ rw (one_alone b bs no_escape no_return, no_newline, no_escape, no_return) refl
 
-drop_one_more : (n b : ℕ) (bs : List ℕ) → drop (1 + n) (b ∷ bs) ≡ drop n bs
-drop_one_more n b bs = let e : 1 + n ≡ suc n = omega arith in rw e refl
-
-take_one_more : (n b : ℕ) (bs : List ℕ) → take (1 + n) (b ∷ bs) ≡ b ∷ take n bs
-take_one_more n b bs = let e : 1 + n ≡ suc n = omega arith in rw e refl
+pub plain_all : (q : ℕ) (plain : Bool) (bs : List ℕ) → fold (plain_too q) plain bs ≡ (plain && list_all (is_plain q) bs)
+plain_all q true [] = refl
+plain_all q false [] = refl
+plain_all q plain (b ∷ bs) = plain_all q (plain && is_plain q b) bs ∙ and_assoc plain (is_plain q b) (list_all (is_plain q) bs)
 
 -- bytes that stand for themselves up to the closing quote are the value
-pub plain_value : (raw : Bool) (q : ℕ) (rest : List ℕ) → drop (prefix_len (is_plain q) rest) rest ≡ q ∷ []
-    → inner_value raw (q ∷ []) rest ≡ Some (take (prefix_len (is_plain q) rest) rest)
-plain_value raw q [] h = absurd cc
-plain_value raw q (b ∷ bs) h = elim (cases_Bool (is_plain q b)) [
-  | inl is ↦
-      let n : ℕ = prefix_len (is_plain q) bs in
-      let more : drop n bs ≡ q ∷ [] = sym (drop_one_more n b bs) ∙ (rw is at h) in
-      plain_first raw q b bs is ∙ ap (and_then (Some b)) (plain_value raw q bs more) ∙ rw is (ap (λ (ys : List ℕ). Some ys) (sym (take_one_more n b bs)))
-  | inr other ↦
-      let here : b ∷ bs ≡ q ∷ [] = rw other at h in
-      let shut_ : starts_with nat_eq (q ∷ []) (q ∷ []) ≡ true = rw (eq-eqb q) refl in
-      rw other (ap (inner_value raw (q ∷ [])) here ∙ shut raw (q ∷ []) (q ∷ []) shut_ ∙ rw (eq-eqb q) refl)
-]
+pub plain_value : (raw : Bool) (q : ℕ) (value : List ℕ) → list_all (is_plain q) value ≡ true → inner_value raw (q ∷ []) (value ++ q ∷ []) ≡ Some value
+plain_value raw q [] h =
+    let shut_ : starts_with nat_eq (q ∷ []) (q ∷ []) ≡ true = rw (eq-eqb q) refl in
+    shut raw (q ∷ []) (q ∷ []) shut_ ∙ rw (eq-eqb q) refl
+plain_value raw q (b ∷ bs) h =
+    let both = and_parts (is_plain q b) (list_all (is_plain q) bs) h in
+    plain_first raw q b (bs ++ q ∷ []) both.0 ∙ ap (and_then (Some b)) (plain_value raw q bs both.1)

@@ -1,9 +1,9 @@
 //! A string literal, opened and read byte by byte: the one reader of its escapes.
 
-ghost use Rattle.std.specs.Prelude.{◌≡◌, ◌<◌, MatchOption, IfSome, Some, length, take, option_map};
-ghost use Rattle.std.specs.List.{prefix_len};
+ghost use Rattle.std.specs.Prelude.{◌≡◌, ◌<◌, MatchOption, IfSome, Some, length, take, option_map, true};
+ghost use Rattle.std.specs.List.{fold};
 ghost use Rattle.bz_command.specs.Values as spec;
-ghost use Rattle.bz_command.specs.private.ValueSteps.{is_plain, opened_value, taken};
+ghost use Rattle.bz_command.specs.private.ValueSteps.{is_plain, opened_value, plain_too, taken};
 ghost use Rattle.bz_command.specs.private.ByteSteps.{inner_of, opened, ended, is_closed, StandsIn, taken_of};
 
 /// What is left to read of a literal after its opening quotes.
@@ -65,22 +65,28 @@ pub(crate) fn plain_value(literal: Literal<'_>) -> Option<&[u8]>
     let [quote] = literal.quotes else {
         return None;
     };
-    let len = plain_len(*quote, literal.rest);
-    let (value, closing) = literal.rest.split_at(len);
-    (closing == literal.quotes).then_some(value)
+    let [value @ .., last] = literal.rest else {
+        return None;
+    };
+    if *last != *quote || !are_plain(*quote, value) {
+        return None;
+    }
+    Some(value)
 }
 
-fn plain_len(quote: u8, bytes: &[u8]) -> usize
-    ensures { result ≡ prefix_len (is_plain quote) bytes.now }
+// All are looked at, in place of up to the first that is not plain: so many are told at once.
+fn are_plain(quote: u8, bytes: &[u8]) -> bool
+    ensures { result ≡ fold (plain_too quote) true bytes.now }
 {
-    bytes.iter().take_while(|b| is_plain(quote, **b)).count()
+    bytes
+        .iter()
+        .fold(true, |plain, b| plain & is_plain(quote, *b))
 }
 
 fn is_plain(quote: u8, b: u8) -> bool
     ensures { result ≡ is_plain quote b }
 {
-    // Letters are told by two comparisons.
-    quote != b && (b > b'\\' || !matches!(b, b'\\' | b'\r' | b'\n'))
+    (quote != b) & (b != b'\\') & (b != b'\r') & (b != b'\n')
 }
 
 /// The closing quotes are left, and nothing else.

@@ -6,6 +6,10 @@ use Rattle.bz_command.specs.Values.{units, content, values_in, unit_value, is_ne
 abbrev pub is_plain : ℕ → ℕ → Bool
 is_plain quote b = not (quote == b) && (not (b == 92) && (not (b == 13) && not (b == 10)))
 
+-- one byte more, and all are such
+abbrev pub plain_too : ℕ → Bool → ℕ → Bool
+plain_too quote plain b = plain && is_plain quote b
+
 -- the length of the first unit
 abbrev pub first_len : List ℕ → ℕ
 first_len [] = 0
