@@ -31,6 +31,7 @@ pub fn edit_file<D: Folder>(
     ensures safe { SafeRun D.did (spec.MayBe asked (string_bytes opened.path)) draft.old.folder draft.new.folder }
     ensures edited { IfOk result (λ edited. spec.IsEdited asked edited.0 edited.1) }
 {
+    // The author owns the source, so no other run replaces the file before this one is done with it.
     let mut author = FileRun::new(alloc, opened.source, asked);
     let replaced = replace_file(draft, &opened.path, opened.mode, &mut author);
     match author.ended() {
