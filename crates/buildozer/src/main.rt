@@ -60,13 +60,6 @@ fn tell_usage(rt: &HostRuntime, fault: &StartFault, words: &[String]) {
         return;
     }
     let _ = eprintln!(rt; "buildozer: {fault}");
-    for word in words {
-        if let Some(command) = help::left_out(word) {
-            let _ = eprintln!(rt;
-                "buildozer: {command} is a command of Bazel's buildozer that this one does not have"
-            );
-        }
-    }
 }
 
 fn main(rt: HostRuntime) -> ExitCode {

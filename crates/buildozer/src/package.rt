@@ -13,6 +13,7 @@ use crate::run::Asked;
 use bz_engine::{RunFault, Sink, Source, is_query};
 use bz_folder::{CannotOpen, Draft, Folder, Opened, Purpose};
 use bz_script::flags::Flags;
+use bz_script::mistake::DASHED_PACKAGE;
 use bz_script::names::BuildFiles;
 use std::alloc::Global;
 
@@ -102,10 +103,7 @@ fn edit_found<D: Folder, S, O: Sink, E: Sink>(
 {
     match open_first(devices.draft.folder(), files, purpose_of(flags, &asked)) {
         Ok((opened, name)) => edit_opened(alloc, flags, asked, name, opened, devices),
-        Err(name) => {
-            devices.console.put_message(name, "cannot open");
-            FAILED
-        }
+        Err(name) => put_unopened(name, &mut devices.console),
     }
 }
 
@@ -116,6 +114,17 @@ fn purpose_of(flags: &Flags, asked: &Asked) -> Purpose {
     } else {
         Purpose::Replace
     }
+}
+
+/// Tells that a file cannot be opened. A flag that stands after the commands is read as a package.
+fn put_unopened<O: Sink, E: Sink>(name: &str, console: &mut Console<O, E>) -> u8
+    ensures { result ≡ 2 }
+{
+    console.put_message(name, "cannot open");
+    if name.starts_with('-') {
+        console.put_message(name, DASHED_PACKAGE);
+    }
+    FAILED
 }
 
 /// Opens the first of the files that is there, and gives its name. An `Err` names the one that was tried last.

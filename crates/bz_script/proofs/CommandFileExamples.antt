@@ -4,6 +4,7 @@ use Rattle.std.specs.Prelude.{codes}
 use Rattle.std.specs.Str.{is_utf8, chars}
 use lib.Utf8.{encode}
 use Rattle.bz_script.specs.CommandFiles.{is_skipped, fields_of, command_file_of}
+use Rattle.bz_script.specs.Refused.{refused}
 use Rattle.bz_script.specs.declared.usage.UsageFault.TheVariants as fault
 
 blank_line : is_skipped (codes " \t ") ≡ true
@@ -33,7 +34,7 @@ unfolding is_utf8 chars encode
 skipped_lines = refl
 
 -- skipped lines count
-third_line : command_file_of (codes "# a\r\n\n:a\n:b") ≡ Err (fault.NoCommand 3)
+third_line : command_file_of (codes "# a\r\n\n:a\n:b") ≡ Err (fault.NoCommand (refused 3 1 (codes ":a")))
 unfolding is_utf8 chars encode
 third_line = refl
 

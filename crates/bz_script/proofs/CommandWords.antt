@@ -4,7 +4,9 @@ use Rattle.std.proofs.lemmas.List.{length-map}
 use Rattle.std.specs.List.{filter, filter_map}
 use Rattle.std.specs.Option.{is_some}
 use Rattle.bz_rule.specs.Commands.{Command}
-use Rattle.bz_script.specs.Groups.{Label, labels_of, command_in, is_command, commands_of, pass_for, steps_from, group_of}
+use Rattle.bz_script.specs.Groups.{Label, labels_of, command_in, is_command, commands_of, pass_for, first_of, steps_from, group_of}
+use Rattle.bz_script.specs.Refused.{refused}
+use Rattle.bz_script.specs.declared.usage.Refused.{Refused}
 use Rattle.bz_script.specs.declared.usage.UsageFault.TheVariants as fault
 
 -- what is left out gives nothing
@@ -32,37 +34,41 @@ commands_counted : {A : Type 0} (seen : A → List ℕ) (kept : List A) (words :
     → map seen kept ≡ filter is_command words → length (commands_of words) ≡ length kept
 commands_counted seen kept words same = counted command_in words ∙ ap length (sym same) ∙ length-map kept seen
 
-steps_none : (line : ℕ) (commands : List Command) (labels : List Label) → length commands ≡ 0
-    → steps_from line commands (Ok labels) ≡ Err (fault.NoCommand line)
-steps_none line [] labels h = refl
-steps_none line (c ∷ cs) labels h = absurd (cc h)
+-- the first word of a group, as one that is told
+abbrev pub first_in : ℕ → List (List ℕ) → Refused
+first_in line words = refused line 1 (first_of words)
+
+steps_none : (first : Refused) (commands : List Command) (labels : List Label) → length commands ≡ 0
+    → steps_from first commands (Ok labels) ≡ Err (fault.NoCommand first)
+steps_none first [] labels h = refl
+steps_none first (c ∷ cs) labels h = absurd (cc h)
 
 -- a group without a command
 pub no_command : {A : Type 0} (seen : A → List ℕ) (line : ℕ) (kept : List A) (words : List (List ℕ)) (labels : List Label)
     → map seen kept ≡ filter is_command words → Ok labels ≡ labels_of line 1 words → length kept ≡ 0
-    → Err (fault.NoCommand line) ≡ group_of line words
+    → Err (fault.NoCommand (first_in line words)) ≡ group_of line words
 no_command seen line kept words labels same read none =
-    sym (ap (steps_from line (commands_of words)) (sym read) ∙ steps_none line (commands_of words) labels (commands_counted seen kept words same ∙ none))
+    sym (ap (steps_from (first_in line words) (commands_of words)) (sym read) ∙ steps_none (first_in line words) (commands_of words) labels (commands_counted seen kept words same ∙ none))
 
-steps_nowhere : (line : ℕ) (commands : List Command) (labels : List Label) → 0 < length commands → length labels ≡ 0
-    → steps_from line commands (Ok labels) ≡ Err (fault.NoTarget line)
-steps_nowhere line [] labels h k = absurd (omega arith)
-steps_nowhere line (c ∷ cs) [] h k = refl
-steps_nowhere line (c ∷ cs) (l ∷ ls) h k = absurd (omega arith)
+steps_nowhere : (first : Refused) (commands : List Command) (labels : List Label) → 0 < length commands → length labels ≡ 0
+    → steps_from first commands (Ok labels) ≡ Err (fault.NoTarget first.line)
+steps_nowhere first [] labels h k = absurd (omega arith)
+steps_nowhere first (c ∷ cs) [] h k = refl
+steps_nowhere first (c ∷ cs) (l ∷ ls) h k = absurd (omega arith)
 
 -- a group with commands, and without a target
 pub no_target : {A : Type 0} (seen : A → List ℕ) (line : ℕ) (kept : List A) (words : List (List ℕ)) (labels : List Label)
     → map seen kept ≡ filter is_command words → Ok labels ≡ labels_of line 1 words → 0 < length kept → length labels ≡ 0
     → Err (fault.NoTarget line) ≡ group_of line words
 no_target seen line kept words labels same read some none =
-    sym (ap (steps_from line (commands_of words)) (sym read)
-    ∙ steps_nowhere line (commands_of words) labels (subst (λ n. 0 < n) (sym (commands_counted seen kept words same)) some) none)
+    sym (ap (steps_from (first_in line words) (commands_of words)) (sym read)
+    ∙ steps_nowhere (first_in line words) (commands_of words) labels (subst (λ n. 0 < n) (sym (commands_counted seen kept words same)) some) none)
 
-steps_all : (line : ℕ) (commands : List Command) (labels : List Label) → 0 < length commands → 0 < length labels
-    → steps_from line commands (Ok labels) ≡ Ok (map (pass_for commands) labels)
-steps_all line [] labels h k = absurd (omega arith)
-steps_all line (c ∷ cs) [] h k = absurd (omega arith)
-steps_all line (c ∷ cs) (l ∷ ls) h k = refl
+steps_all : (first : Refused) (commands : List Command) (labels : List Label) → 0 < length commands → 0 < length labels
+    → steps_from first commands (Ok labels) ≡ Ok (map (pass_for commands) labels)
+steps_all first [] labels h k = absurd (omega arith)
+steps_all first (c ∷ cs) [] h k = absurd (omega arith)
+steps_all first (c ∷ cs) (l ∷ ls) h k = refl
 
 -- a group with both
 pub all_steps : {A : Type 0} (seen : A → List ℕ) (line : ℕ) (kept : List A) (words : List (List ℕ)) (labels : List Label)
@@ -70,5 +76,5 @@ pub all_steps : {A : Type 0} (seen : A → List ℕ) (line : ℕ) (kept : List A
     → Ok (map (pass_for (commands_of (map seen kept))) labels) ≡ group_of line words
 all_steps seen line kept words labels same read some target =
     ap (λ commands. Ok (map (pass_for commands) labels)) (ap commands_of same ∙ filtered command_in words)
-    ∙ sym (ap (steps_from line (commands_of words)) (sym read)
-    ∙ steps_all line (commands_of words) labels (subst (λ n. 0 < n) (sym (commands_counted seen kept words same)) some) target)
+    ∙ sym (ap (steps_from (first_in line words) (commands_of words)) (sym read)
+    ∙ steps_all (first_in line words) (commands_of words) labels (subst (λ n. 0 < n) (sym (commands_counted seen kept words same)) some) target)

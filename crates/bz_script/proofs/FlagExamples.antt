@@ -2,57 +2,64 @@
 use Rattle.std.proofs.Common.{◌≡◌, ℕ, List, [], ◌∷◌, Bool, true, false, Option, Some, None, Ok, Err, refl}
 use Rattle.std.specs.Prelude.{codes}
 use Rattle.bz_script.specs.Flags.{Read, flags_of, argument_of, flag_of, undashed, leading}
-use Rattle.bz_script.specs.declared.usage.UsageFault.TheVariants.{UnknownFlag, BadBoolean, NoValue, WordsWithFile}
+use Rattle.bz_script.specs.Refused.{refused}
+use Rattle.bz_script.specs.declared.usage.FlagFault.{FlagFault}
+use Rattle.bz_script.specs.declared.usage.FlagFault.TheVariants.{Unknown, BadBoolean, NoFile}
+use Rattle.bz_script.specs.declared.usage.UsageFault.TheVariants.{Flag, WordsWithFile}
 
 -- `-k`, `-stdout`, `-quiet` and the file, and the words that are left
 abbrev are : Bool → Bool → Bool → Option (List ℕ) → List (List ℕ) → Read
 are k stdout quiet file words = Ok (record { k = k; stdout = stdout; quiet = quiet; file = file }, words)
 
+-- the fault of a word of the command line
+abbrev bad : ℕ → List ℕ → FlagFault → Read
+bad number word why = Err (Flag (refused 0 number word) why)
+
 no_words : flags_of [] ≡ are false false false None []
 unfolding leading
 no_words = refl
 
-unknown : flags_of (codes "-x" ∷ []) ≡ Err (UnknownFlag 1)
+unknown : flags_of (codes "-x" ∷ []) ≡ bad 1 (codes "-x") Unknown
 unfolding leading argument_of flag_of undashed
 unknown = refl
 
-unknown_with_value : flags_of (codes "-k" ∷ codes "-x=1" ∷ []) ≡ Err (UnknownFlag 2)
+unknown_with_value : flags_of (codes "-k" ∷ codes "-x=1" ∷ []) ≡ bad 2 (codes "-x=1") Unknown
 unfolding leading argument_of flag_of undashed
 unknown_with_value = refl
 
-help : flags_of (codes "-help" ∷ []) ≡ Err (UnknownFlag 1)
+help : flags_of (codes "-help" ∷ []) ≡ bad 1 (codes "-help") Unknown
 unfolding leading argument_of flag_of undashed
 help = refl
 
-three_dashes : flags_of (codes "---k" ∷ []) ≡ Err (UnknownFlag 1)
+three_dashes : flags_of (codes "---k" ∷ []) ≡ bad 1 (codes "---k") Unknown
 unfolding leading argument_of flag_of undashed
 three_dashes = refl
 
-no_name : flags_of (codes "-=x" ∷ []) ≡ Err (UnknownFlag 1)
+no_name : flags_of (codes "-=x" ∷ []) ≡ bad 1 (codes "-=x") Unknown
 unfolding leading argument_of flag_of undashed
 no_name = refl
 
-no_name_after_two : flags_of (codes "--=x" ∷ []) ≡ Err (UnknownFlag 1)
+no_name_after_two : flags_of (codes "--=x" ∷ []) ≡ bad 1 (codes "--=x") Unknown
 unfolding leading argument_of flag_of undashed
 no_name_after_two = refl
 
-bad_boolean : flags_of (codes "-k=maybe" ∷ []) ≡ Err (BadBoolean 1)
+bad_boolean : flags_of (codes "-k=maybe" ∷ []) ≡ bad 1 (codes "-k=maybe") BadBoolean
 unfolding leading argument_of flag_of undashed
 bad_boolean = refl
 
-empty_boolean : flags_of (codes "-k=" ∷ []) ≡ Err (BadBoolean 1)
+empty_boolean : flags_of (codes "-k=" ∷ []) ≡ bad 1 (codes "-k=") BadBoolean
 unfolding leading argument_of flag_of undashed
 empty_boolean = refl
 
-no_value : flags_of (codes "-f" ∷ []) ≡ Err (NoValue 1)
+no_value : flags_of (codes "-f" ∷ []) ≡ bad 1 (codes "-f") NoFile
 unfolding leading argument_of flag_of undashed
 no_value = refl
 
-words_with_file : flags_of (codes "-f" ∷ codes "a" ∷ codes "b" ∷ []) ≡ Err WordsWithFile
+words_with_file : flags_of (codes "-f" ∷ codes "a" ∷ codes "b" ∷ codes "c" ∷ []) ≡ Err (WordsWithFile (refused 0 3 (codes "b")))
 unfolding leading argument_of flag_of undashed
 words_with_file = refl
 
-flag_fault_first : flags_of (codes "-f" ∷ codes "a" ∷ codes "-x" ∷ codes "b" ∷ []) ≡ Err (UnknownFlag 3)
+flag_fault_first : flags_of (codes "-f" ∷ codes "a" ∷ codes "-x" ∷ codes "b" ∷ []) ≡ bad 3 (codes "-x") Unknown
 unfolding leading argument_of flag_of undashed
 flag_fault_first = refl
 

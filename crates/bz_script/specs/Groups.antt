@@ -7,8 +7,10 @@ use Rattle.bz_rule.specs.Commands.{Command, command_of}
 use Rattle.bz_command.specs.Labels.{Package, Target, label_of}
 use Rattle.bz_rule.specs.declared.command.CommandFault.{CommandFault}
 use Rattle.bz_command.specs.declared.labels.LabelFault.{LabelFault}
+use Rattle.bz_script.specs.declared.usage.Refused.{Refused}
 use Rattle.bz_script.specs.declared.usage.UsageFault.{UsageFault}
 use Rattle.bz_script.specs.declared.usage.UsageFault.TheVariants as fault
+use Rattle.bz_script.specs.Refused.{refused}
 
 -- a label is a package and a target in it
 abbrev pub Label : Type 0
@@ -22,14 +24,14 @@ abbrev pub pass_for : List Command → Label → Step
 pass_for commands (home, target) = (home, record { target = target; commands = commands })
 
 -- A word is a command where its own first word is a command's name, and a label otherwise; here the label, if it is one.
-abbrev pub label_where : ℕ → ℕ → Result (Option Command) CommandFault → Result Label LabelFault → Result (Option Label) UsageFault
-label_where line number (Err why) label = Err (fault.Command line number why)
-label_where line number (Ok (Some command)) label = Ok None
-label_where line number (Ok None) (Err why) = Err (fault.Label line number why)
-label_where line number (Ok None) (Ok label) = Ok (Some label)
+abbrev pub label_where : Refused → Result (Option Command) CommandFault → Result Label LabelFault → Result (Option Label) UsageFault
+label_where place (Err why) label = Err (fault.Command place why)
+label_where place (Ok (Some command)) label = Ok None
+label_where place (Ok None) (Err why) = Err (fault.Label place why)
+label_where place (Ok None) (Ok label) = Ok (Some label)
 
 abbrev pub label_in : ℕ → ℕ → List ℕ → Result (Option Label) UsageFault
-label_in line number word = label_where line number (command_of word) (label_of word)
+label_in line number word = label_where (refused line number word) (command_of word) (label_of word)
 
 abbrev pub label_and : Result (Option Label) UsageFault → Result (List Label) UsageFault → Result (List Label) UsageFault
 label_and (Err why) labels = Err why
@@ -56,13 +58,19 @@ is_command word = is_some (command_in word)
 abbrev pub commands_of : List (List ℕ) → List Command
 commands_of words = filter_map command_in words
 
--- For each target in order one pass with all commands. Faults of words come first, then a missing command, then a missing target.
-abbrev pub steps_from : ℕ → List Command → Result (List Label) UsageFault → Result (List Step) UsageFault
-steps_from line commands (Err why) = Err why
-steps_from line [] (Ok labels) = Err (fault.NoCommand line)
-steps_from line (command ∷ commands) (Ok []) = Err (fault.NoTarget line)
-steps_from line (command ∷ commands) (Ok (label ∷ labels)) = Ok (map (pass_for (command ∷ commands)) (label ∷ labels))
+-- the first word, empty where there is none
+abbrev pub first_of : List (List ℕ) → List ℕ
+first_of [] = []
+first_of (word ∷ words) = word
+
+-- For each target in order one pass with all commands. Faults of words come first, then a missing command, told at the
+-- first word, then a missing target.
+abbrev pub steps_from : Refused → List Command → Result (List Label) UsageFault → Result (List Step) UsageFault
+steps_from first commands (Err why) = Err why
+steps_from first [] (Ok labels) = Err (fault.NoCommand first)
+steps_from first (command ∷ commands) (Ok []) = Err (fault.NoTarget first.line)
+steps_from first (command ∷ commands) (Ok (label ∷ labels)) = Ok (map (pass_for (command ∷ commands)) (label ∷ labels))
 
 -- the passes that the words of a line ask for
 abbrev pub group_of : ℕ → List (List ℕ) → Result (List Step) UsageFault
-group_of line words = steps_from line (commands_of words) (labels_of line 1 words)
+group_of line words = steps_from (refused line 1 (first_of words)) (commands_of words) (labels_of line 1 words)

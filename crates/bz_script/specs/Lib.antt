@@ -4,6 +4,7 @@ pub mod Groups
 pub mod Inputs
 pub mod Names
 pub mod Packages
+pub mod Refused
 pub mod Results
 pub mod Statuses
 pub mod private

@@ -3,11 +3,15 @@
 ghost use Rattle.std.specs.Prelude.{◌≡◌, ◌≢◌, ◌+◌, ◌∷◌, [], map, string_bytes, length, Err, None, IfOk, IfSome, MatchOption, option_map};
 ghost use Rattle.bz_script.specs.private.FlagViews.{argument_view};
 ghost use Rattle.bz_script.specs.Flags as spec;
+ghost use Rattle.bz_script.specs.Refused as place;
 ghost use Rattle.bz_script.specs.Results.{map_ok};
 
-use crate::usage::UsageFault;
+use crate::usage::{FlagFault, Refused, UsageFault};
 use bz_command::Text;
 use std::alloc::{AllocError, Global};
+
+/// The line that stands for the command line in faults.
+pub const COMMAND_LINE: u64 = 0;
 
 /// What the flags ask for.
 #[derive(Drop)]
@@ -60,8 +64,12 @@ pub fn read_flags(alloc: Global, words: &[String]) -> Result<(Flags, &[String]),
         ≡ spec.flags_of (map string_bytes words.now) }
 {
     let (flags, rest) = read_leading(alloc, words)?;
-    if flags.file.is_some() && !rest.is_empty() {
-        return Err(UsageFault::WordsWithFile);
+    if flags.file.is_some()
+        && let Some((word, after)) = split_word(rest)
+    {
+        let number = words.len().saturating_sub(after.len());
+        let refused = Refused::new(alloc, COMMAND_LINE, number as u64, word)?;
+        return Err(UsageFault::WordsWithFile { refused });
     }
     Ok((flags, rest))
 }
@@ -81,28 +89,39 @@ fn read_leading(alloc: Global, words: &[String]) -> Result<(Flags, &[String]), U
     let mut number = 0;
     while let Some((word, after)) = split_word(rest) {
         number += 1;
-        match read_argument(number, word)? {
-            Argument::NonFlag => return Ok((flags, rest)),
-            Argument::Terminator => return Ok((flags, after)),
-            Argument::SetSwitch(switch, on) => {
+        match read_argument(word) {
+            Ok(Argument::NonFlag) => return Ok((flags, rest)),
+            Ok(Argument::Terminator) => return Ok((flags, after)),
+            Ok(Argument::SetSwitch(switch, on)) => {
                 set_switch(&mut flags, switch, on);
                 rest = after;
             }
-            Argument::SetFile(path) => {
+            Ok(Argument::SetFile(path)) => {
                 flags.file = file_named(alloc, path)?;
                 rest = after;
             }
-            Argument::FileNext => {
+            Ok(Argument::FileNext) => {
                 let Some((path, after)) = split_word(after) else {
-                    return Err(UsageFault::NoValue { word: number });
+                    return Err(refused(alloc, number, word, FlagFault::NoFile));
                 };
                 flags.file = file_named(alloc, path)?;
                 number += 1;
                 rest = after;
             }
+            Err(fault) => return Err(refused(alloc, number, word, fault)),
         }
     }
     Ok((flags, rest))
+}
+
+/// The fault of a word of the command line.
+fn refused(alloc: Global, number: u64, word: &str, fault: FlagFault) -> UsageFault
+    ensures { result ≢ UsageFault.OutOfMemory → result ≡ UsageFault.Flag (place.refused 0 number word.now) fault }
+{
+    match Refused::new(alloc, COMMAND_LINE, number, word) {
+        Ok(refused) => UsageFault::Flag { refused, fault },
+        Err(_) => UsageFault::OutOfMemory,
+    }
 }
 
 /// The first word, and the words after it.
@@ -139,15 +158,15 @@ fn file_named(alloc: Global, path: &str) -> Result<Option<Text>, AllocError>
 
 /// Reads a word that stands where a flag may stand.
 #[tactic(auto, unfolding(crate::specs::Flags::argument_of))]
-fn read_argument(number: u64, word: &str) -> Result<Argument<'_>, UsageFault>
-    ensures { argument_view result ≡ spec.argument_of number word.now }
+fn read_argument(word: &str) -> Result<Argument<'_>, FlagFault>
+    ensures { argument_view result ≡ spec.argument_of word.now }
 {
     if word == "--" {
         return Ok(Argument::Terminator);
     }
     match undashed(word) {
         None => Ok(Argument::NonFlag),
-        Some(text) => read_flag(number, text),
+        Some(text) => read_flag(text),
     }
 }
 
@@ -167,17 +186,17 @@ fn undashed(word: &str) -> Option<&str>
 
 /// Reads a flag without its dashes.
 #[tactic(auto, unfolding(crate::specs::Flags::flag_of))]
-fn read_flag(number: u64, text: &str) -> Result<Argument<'_>, UsageFault>
-    ensures { argument_view result ≡ spec.flag_of number text.now }
+fn read_flag(text: &str) -> Result<Argument<'_>, FlagFault>
+    ensures { argument_view result ≡ spec.flag_of text.now }
 {
     let (name, value) = split_value(text);
     match read_name(name) {
-        Some(FlagName::Switch(switch)) => read_switch(number, switch, value),
+        Some(FlagName::Switch(switch)) => read_switch(switch, value),
         Some(FlagName::File) => Ok(match value {
             Some(path) => Argument::SetFile(path),
             None => Argument::FileNext,
         }),
-        None => Err(UsageFault::UnknownFlag { word: number }),
+        None => Err(FlagFault::Unknown),
     }
 }
 
@@ -205,19 +224,15 @@ fn read_name(name: &str) -> Option<FlagName>
 }
 
 /// A boolean flag without a value is true.
-fn read_switch(
-    number: u64,
-    switch: Switch,
-    value: Option<&str>,
-) -> Result<Argument<'static>, UsageFault>
-    ensures { argument_view result ≡ spec.switch_of number switch (option_map (λ value. value.now) value.entry) }
+fn read_switch(switch: Switch, value: Option<&str>) -> Result<Argument<'static>, FlagFault>
+    ensures { argument_view result ≡ spec.switch_of switch (option_map (λ value. value.now) value.entry) }
 {
     let Some(value) = value else {
         return Ok(Argument::SetSwitch(switch, true));
     };
     match read_bool(value) {
         Some(on) => Ok(Argument::SetSwitch(switch, on)),
-        None => Err(UsageFault::BadBoolean { word: number }),
+        None => Err(FlagFault::BadBoolean),
     }
 }
 

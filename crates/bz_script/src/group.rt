@@ -6,7 +6,7 @@ ghost use Rattle.std.specs.Option.{option_to_list};
 ghost use Rattle.bz_script.specs.Results.{map_ok};
 ghost use Rattle.bz_script.specs.Groups as spec;
 
-use crate::usage::UsageFault;
+use crate::usage::{Refused, UsageFault};
 use bz_command::{LabelFault, Package, Pass, Target, read_label};
 use bz_rule::{Command, CommandFault, read_command};
 use std::alloc::{AllocError, Global};
@@ -25,13 +25,24 @@ pub fn read_group(alloc: Global, line: u64, words: &[&str]) -> Result<Script, Us
     let labels = read_labels(alloc, line, words)?;
     let commands = command_words(alloc, words)?;
     if commands.is_empty() {
-        return Err(UsageFault::NoCommand { line });
+        let first = Refused::new(alloc, line, 1, first_of(words))?;
+        return Err(UsageFault::NoCommand { first });
     }
     if labels.is_empty() {
         return Err(UsageFault::NoTarget { line });
     }
     let script = passes_for(alloc, commands.as_slice(), labels)?;
     Ok(script)
+}
+
+/// The first word, which is empty where there is none.
+fn first_of<'a>(words: &[&'a str]) -> &'a str
+    ensures { result.now ≡ spec.first_of (map (λ word. word.now) words.now) }
+{
+    match words.split_first() {
+        Some((word, _)) => *word,
+        None => "",
+    }
 }
 
 /// Reads one word of a group: nothing of a command, or a label. `number` counts the words from 1.
@@ -48,21 +59,17 @@ fn read_word(
         Ok(None) => {}
         Err(CommandFault::OutOfMemory) => return Err(UsageFault::OutOfMemory),
         Err(fault) => {
-            return Err(UsageFault::Command {
-                line,
-                word: number,
-                fault,
-            });
+            let refused = Refused::new(alloc, line, number, word)?;
+            return Err(UsageFault::Command { refused, fault });
         }
     }
     match read_label(alloc, word) {
         Ok(label) => Ok(Some(label)),
         Err(LabelFault::OutOfMemory) => Err(UsageFault::OutOfMemory),
-        Err(fault) => Err(UsageFault::Label {
-            line,
-            word: number,
-            fault,
-        }),
+        Err(fault) => {
+            let refused = Refused::new(alloc, line, number, word)?;
+            Err(UsageFault::Label { refused, fault })
+        }
     }
 }
 

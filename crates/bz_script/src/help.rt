@@ -1,7 +1,6 @@
 //! The page that tells how the program is used.
 
-use crate::usage::{StartFault, UsageFault};
-use bz_rule::LEFT_OUT;
+use crate::usage::{FlagFault, StartFault, UsageFault};
 
 /// The page begins with this; the commands follow ([`USAGE`](bz_rule::USAGE)), and then its end.
 pub const BEGINNING: &str = "\
@@ -32,21 +31,17 @@ status: 0 something changed, 1 usage, 2 a failure, 3 nothing changed
 /// Whether the page is what the words are after: there are none, or one of them asks for help.
 pub fn is_wanted(fault: &StartFault, words: &[String]) -> bool {
     match fault {
-        StartFault::Usage(UsageFault::NoCommand { line: 0 }) => words.is_empty(),
-        StartFault::Usage(UsageFault::UnknownFlag { .. }) => words.iter().any(|word| asks(word)),
+        StartFault::Usage(UsageFault::NoCommand { .. }) => words.is_empty(),
+        StartFault::Usage(
+            UsageFault::Flag {
+                fault: FlagFault::Unknown,
+                ..
+            },
+        ) => words.iter().any(|word| asks(word)),
         _ => false,
     }
 }
 
 fn asks(word: &str) -> bool {
     matches!(word, "-h" | "-help" | "--help" | "--h")
-}
-
-/// The command of Bazel's own buildozer that a word begins with and this program does not have.
-pub fn left_out(word: &str) -> Option<&'static str> {
-    let name = match word.split_once(' ') {
-        Some((name, _)) => name,
-        None => word,
-    };
-    LEFT_OUT.iter().find(|command| **command == name).copied()
 }

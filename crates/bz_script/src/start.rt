@@ -3,9 +3,10 @@
 ghost use Rattle.std.specs.Prelude.{◌≡◌, map, string_bytes, IfOk};
 
 use crate::command_file::read_command_file;
-use crate::flags::{Flags, read_flags};
+use crate::flags::{COMMAND_LINE, Flags, read_flags};
 use crate::group::{Script, read_group};
 use crate::inputs::check_inputs;
+use crate::quoted::Quoted;
 use crate::usage::{StartFault, UsageFault};
 use std::alloc::{AllocError, Global};
 use std::fs::File;
@@ -14,9 +15,6 @@ use std::io::Read;
 
 /// The most bytes of a command file.
 const MAX_COMMANDS: u64 = 16_777_216;
-
-/// The line that stands for the command line in faults.
-const COMMAND_LINE: u64 = 0;
 
 /// What the words of the command line ask for.
 ///
@@ -48,29 +46,34 @@ fn script_of_words(alloc: Global, words: &[String]) -> Result<Script, UsageFault
 
 /// The bytes of a command file; `-` is standard input.
 fn command_bytes(rt: &HostRuntime, alloc: Global, path: &str) -> Result<Vec<u8>, StartFault> {
+    let name = Quoted::from_str(alloc, path).map_err(UsageFault::from)?;
     if path == "-" {
-        return read_bytes(alloc, rt.stdin());
+        return read_bytes(alloc, rt.stdin(), name);
     }
     match File::open(rt, path) {
-        Ok(file) => read_bytes(alloc, file),
-        Err(error) => Err(read_fault(error)),
+        Ok(file) => read_bytes(alloc, file, name),
+        Err(error) => Err(read_fault(error, name)),
     }
 }
 
-/// All bytes of a command file.
-fn read_bytes<R: Read + Drop>(alloc: Global, reader: R) -> Result<Vec<u8>, StartFault> {
+/// All bytes of a command file, whose name faults tell.
+fn read_bytes<R: Read + Drop>(
+    alloc: Global,
+    reader: R,
+    name: Quoted,
+) -> Result<Vec<u8>, StartFault> {
     let mut bytes = Vec::new(alloc);
     match reader.take(MAX_COMMANDS + 1).read_to_end(&mut bytes) {
-        Ok(n) if n as u64 > MAX_COMMANDS => Err(StartFault::LongCommands),
+        Ok(n) if n as u64 > MAX_COMMANDS => Err(StartFault::LongCommands(name)),
         Ok(_) => Ok(bytes),
-        Err(error) => Err(read_fault(error)),
+        Err(error) => Err(read_fault(error, name)),
     }
 }
 
-fn read_fault(error: io::Error) -> StartFault {
+fn read_fault(error: io::Error, name: Quoted) -> StartFault {
     match error.kind() {
         io::ErrorKind::OutOfMemory => StartFault::Usage(UsageFault::OutOfMemory),
-        _ => StartFault::UnreadCommands,
+        _ => StartFault::UnreadCommands(name),
     }
 }
 

@@ -1,70 +1,124 @@
-//! What can be wrong with the words of the command line, or with a command file.
+//! Why the words of the command line, or a command file, ask for nothing. The texts stand in `mistake`.
 
-ghost use Rattle.std.specs.Prelude.{◌≡◌};
+ghost use Rattle.std.specs.Prelude.{◌≡◌, IfOk};
+ghost use Rattle.bz_script.specs.Refused.{refused};
 
+use crate::mistake::Mistake;
+use crate::quoted::Quoted;
 use bz_command::LabelFault;
 use bz_rule::CommandFault;
-use std::alloc::{AllocError, AllocFailed};
+use std::alloc::{AllocError, AllocFailed, Global};
 use std::fmt;
 use thiserror::Error;
 
+/// A word that asks for nothing, and where it stands.
+#[derive(Debug, Drop)]
+pub struct Refused {
+    /// 0 for the command line, else the line of the command file from 1.
+    pub line: u64,
+    /// From 1: a flag, and the first word beside a command file, among all words of the command line; any other among
+    /// those of its group, which on the command line follow the flags.
+    pub number: u64,
+    pub word: Quoted,
+}
+
+impl Refused {
+    pub fn new(alloc: Global, line: u64, number: u64, word: &str) -> Result<Refused, AllocError>
+        ensures { IfOk result (λ it. it ≡ refused line number word.now) }
+    {
+        let word = Quoted::from_str(alloc, word)?;
+        Ok(Refused { line, number, word })
+    }
+}
+
+impl fmt::Display for Refused {
+    fn fmt<W: fmt::Write>(&self, f: &mut fmt::Formatter<W>) -> fmt::Result {
+        if self.line > 0 {
+            write!(f, "line {}, ", self.line)?;
+        }
+        write!(f, "word {}, {}", self.number, self.word)
+    }
+}
+
+/// Why a word is no flag.
+#[derive(Clone, Copy, Debug, PartialEq, Eq)]
+pub enum FlagFault {
+    /// There is no flag of this name.
+    Unknown,
+    /// The value of a flag is neither true nor false.
+    BadBoolean,
+    /// No word follows `-f`.
+    NoFile,
+}
+
 /// Why the words of the command line, or a command file, ask for nothing.
-///
-/// `line` is 0 for the command line, else the line of the command file from 1. `word` counts from 1: in the faults of
-/// flags the words of the command line, else the words of the group (on the command line those after the flags).
-#[derive(Clone, Copy, Debug, PartialEq, Eq, Error)]
+#[derive(Debug, Drop, Error)]
 pub enum UsageFault {
-    #[error("out of memory")]
+    #[error("{}", Mistake::OutOfMemory)]
     OutOfMemory,
-    #[error("word {word} is no flag: there are -k, -stdout, -quiet and -f FILE")]
-    UnknownFlag {
-        word: u64,
+    #[error("{refused}: {}", Mistake::of_flag(refused, *fault))]
+    Flag {
+        refused: Refused,
+        fault: FlagFault,
     },
-    #[error("word {word}: the value of this flag is true or false")]
-    BadBoolean {
-        word: u64,
-    },
-    #[error("word {word}: the flag -f wants a file of commands, or - for standard input")]
-    NoValue {
-        word: u64,
-    },
-    #[error("{}no command, such as 'add deps //b:c'", Place(*line))]
+    /// The first word is told; it is empty where there is none.
+    #[error("{}", NoCommand(first))]
     NoCommand {
-        line: u64,
+        first: Refused,
     },
-    #[error("{}no target, such as //pkg:name", Place(*line))]
+    #[error("{}{}", Line(*line), Mistake::of_no_target(*line))]
     NoTarget {
         line: u64,
     },
-    #[error("{}word {word} is a bad command: {}", Place(*line), command_reason(*fault))]
+    #[error("{refused}: {}", Mistake::of_command(refused, *fault))]
     Command {
-        line: u64,
-        word: u64,
+        refused: Refused,
         fault: CommandFault,
     },
-    #[error("{}word {word} is neither a command nor a label: {}", Place(*line), label_reason(*fault))]
+    #[error("{refused}: {}", Mistake::of_label(refused, *fault))]
     Label {
-        line: u64,
-        word: u64,
+        refused: Refused,
         fault: LabelFault,
     },
-    #[error("commands and targets stand in the file that -f names, or on the command line, not in both")]
-    WordsWithFile,
-    #[error("standard input is both the command file, by '-f -', and a package, by the label -:..")]
+    /// The first of the words is told.
+    #[error("{refused}: {}", Mistake::WordsWithFile)]
+    WordsWithFile {
+        refused: Refused,
+    },
+    #[error("{}", Mistake::TwoInputs)]
     TwoInputs,
-    #[error("the command file is not UTF-8")]
+    #[error("{}", Mistake::FileNotUtf8)]
     NotUtf8,
 }
 
 /// A line of a command file, before what is told of it; nothing for the command line.
 #[derive(Clone, Copy)]
-struct Place(u64);
+struct Line(u64);
 
-impl fmt::Display for Place {
+impl fmt::Display for Line {
     fn fmt<W: fmt::Write>(&self, f: &mut fmt::Formatter<W>) -> fmt::Result {
         match self.0 {
             0 => Ok(()),
             line => write!(f, "line {line}: "),
+        }
+    }
+}
+
+/// A group without a command: its first word is shown where it is nearly one.
+#[derive(Clone, Copy)]
+struct NoCommand<'a>(&'a Refused);
+
+impl<'a> fmt::Display for NoCommand<'a> {
+    fn fmt<W: fmt::Write>(&self, f: &mut fmt::Formatter<W>) -> fmt::Result {
+        let first = self.0;
+        match Mistake::of_name(first.word.as_str()) {
+            Some(mistake) => write!(f, "{first}: {mistake}"),
+            None => write!(
+                f,
+                "{}{}",
+                Line(first.line),
+                Mistake::of_no_command(first.line)
+            ),
         }
     }
 }
@@ -89,34 +143,15 @@ impl<T: Drop> From<AllocFailed<T>> for UsageFault {
     }
 }
 
-fn command_reason(fault: CommandFault) -> &'static str {
-    match fault {
-        CommandFault::OutOfMemory => "out of memory",
-        CommandFault::WrongCount => "too few or too many words",
-        CommandFault::BadAttribute => "an attribute's name is an identifier, and no keyword",
-        CommandFault::BadKind => "a kind is identifiers with dots between them",
-        CommandFault::CommentLine => "a comment is one line",
-        CommandFault::SameAttribute => "it moves an attribute to itself",
-    }
-}
-
-fn label_reason(fault: LabelFault) -> &'static str {
-    match fault {
-        LabelFault::OutOfMemory => "out of memory",
-        LabelFault::BadPackage => "what stands before the colon is no package",
-        LabelFault::BadTarget => "what stands after the colon is no target",
-    }
-}
-
 /// Why a run does not begin.
 #[derive(Debug, Drop, Error)]
 pub enum StartFault {
-    #[error("an argument is not UTF-8")]
+    #[error("{}", Mistake::WordNotUtf8)]
     NotUtf8,
-    #[error("the command file cannot be read")]
-    UnreadCommands,
-    #[error("the command file is longer than 16,777,216 bytes")]
-    LongCommands,
+    #[error("{}: {}", .0, Mistake::UnreadFile)]
+    UnreadCommands(Quoted),
+    #[error("{}: {}", .0, Mistake::LongFile)]
+    LongCommands(Quoted),
     #[error(transparent)]
     Usage(#[from] UsageFault),
 }

@@ -3,9 +3,9 @@ use Rattle.std.specs.Prelude.{Result, Ok, Err}
 use Rattle.bz_script.specs.Flags as spec
 use Rattle.bz_script.specs.declared.flags.Argument.{Argument}
 use Rattle.bz_script.specs.declared.flags.Argument.TheVariants.{NonFlag, Terminator, SetSwitch, SetFile, FileNext}
-use Rattle.bz_script.specs.declared.usage.UsageFault.{UsageFault}
+use Rattle.bz_script.specs.declared.usage.FlagFault.{FlagFault}
 
-abbrev pub argument_view : Result Argument UsageFault → spec.Argument
+abbrev pub argument_view : Result Argument FlagFault → spec.Argument
 argument_view (Err why) = spec.Bad why
 argument_view (Ok NonFlag) = spec.NonFlag
 argument_view (Ok Terminator) = spec.Terminator
