@@ -303,18 +303,19 @@ fn form_on(line: &'static str) -> Option<&'static str> {
     Some(form)
 }
 
-/// Whether two names are the same but for one letter that is missing, too many, wrong or swapped with the next.
+/// Whether two names are the same but for one letter that is missing, too many, swapped with the next, or, in a name of
+/// more than three letters, wrong: `get` is not nearly `set`.
 fn is_near(word: &[u8], name: &[u8]) -> bool {
     let front = word
         .iter()
         .zip(name.iter())
         .take_while(|pair| is_same(*pair.0, *pair.1))
         .count();
-    let (word, name) = (after(word, front), after(name, front));
-    are_same(after(word, 1), after(name, 1))
-        || are_same(word, after(name, 1))
-        || are_same(after(word, 1), name)
-        || are_swapped(word, name)
+    let (word_end, name_end) = (after(word, front), after(name, front));
+    are_same(word_end, after(name_end, 1))
+        || are_same(after(word_end, 1), name_end)
+        || are_swapped(word_end, name_end)
+        || name.len() > 3 && are_same(after(word_end, 1), after(name_end, 1))
 }
 
 /// Whether the first two letters stand the other way round, and the others are the same.
