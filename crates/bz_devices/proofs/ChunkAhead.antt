@@ -13,7 +13,7 @@ use Rattle.bz_token.specs.declared.cutter.Cut.{Cut}
 use Rattle.bz_token.specs.declared.cutter.Cut.TheVariants.{More, Block}
 use Rattle.bz_token.specs.declared.cutter.Next.TheVariants.{Goes, Ends, Short}
 use Rattle.bz_devices.specs.Device.{joined}
-use Rattle.bz_devices.specs.Ahead.{Ahead, IsReadOn, IsNextChunk, MayFollow, BeginsTooLong, IsTooLong, IsUncertain, IsUndecided}
+use Rattle.bz_devices.specs.Ahead.{Ahead, IsReadOn, IsNextChunk, MayFollow, BeginsTooLong, IsTooLong, IsUncertain, IsUndecided, IsFewAfter}
 use Rattle.bz_devices.specs.private.AheadSteps.{IsOpen, IsLineAt, GoesAfter, IsBegun, GoesOn, EndsAt, IsEnd}
 use Rattle.bz_devices.proofs.ChunkLines.{line_is_physical, tail_is}
 use Rattle.bz_devices.proofs.ReadOn.{front_stays, back_grows, follows_read, ended_on}
@@ -296,7 +296,7 @@ last_end cutter ahead e at goes =
     let none : drop e ahead.bytes ≡ [] = nil_from_length (drop e ahead.bytes) (omega (arith, end.0, length-drop e ahead.bytes)) in
     record {
       within = at.within;
-      left = at.few;
+      left = omega (arith, ap length none);
       ends = λ some rest may.
           let nothing : drop e ahead.bytes ++ rest ≡ [] = ap (λ l. l ++ rest) none ∙ may end.1 in
           ap (λ l. chunks (take e ahead.bytes ++ l)) nothing
@@ -305,6 +305,63 @@ last_end cutter ahead e at goes =
           ∙ ap (λ l. take e ahead.bytes ∷ chunks l) (sym nothing);
       none = λ zero. (nil_from_length ahead.bytes (sym end.0 ∙ zero), end.1);
     }
+
+-- where a chunk ends it is not longer
+ends_fit : (n : ℕ) (ahead : Ahead) → n ≤ length ahead.bytes → EndsAt ahead n → IsTooLong n ahead → ⊥
+ends_fit n ahead within ends long =
+    let bytes = ahead.bytes in
+    let here = long [] (λ _. refl) in
+    let first : take n bytes ≡ take here.seen bytes ++ here.more = heads (sym (ends [] (λ _. refl)) ∙ ap chunks (whole bytes [] n) ∙ here.chunks_are) in
+    let size : length (take n bytes) ≡ length (take here.seen bytes) + length here.more = ap length first ∙ length-append (take here.seen bytes) here.more in
+    omega (arith, size, within, here.within, here.over, length-take n bytes, length-take here.seen bytes)
+
+-- so that few bytes are left after it
+pub few_left : (n : ℕ) (ahead : Ahead) → n ≤ length ahead.bytes → EndsAt ahead n → IsFewAfter ahead → length (drop n ahead.bytes) ≤ 8192
+few_left n ahead within ends few = elim (cases_lt (n + 8192) (length ahead.bytes)) [
+  | inl more ↦ absurd (ends_fit n ahead within ends (few n more))
+  | inr fits ↦ omega (arith, length-drop n ahead.bytes)
+]
+
+pub few_bytes : (ahead : Ahead) → length ahead.bytes ≤ 8192 → IsFewAfter ahead
+few_bytes ahead few n more = absurd (omega (arith, few, more))
+
+-- what is sure to be too long stays so
+too_long_read : (max n : ℕ) (old new : Ahead) (pieces : List (List ℕ)) → IsReadOn max old new pieces → IsTooLong n old → IsTooLong n new
+too_long_read max n old new pieces read long rest may =
+    let here = long (joined pieces ++ rest) (follows_read max old new pieces rest read may) in
+    let same : old.bytes ++ (joined pieces ++ rest) ≡ new.bytes ++ rest = sym (append_assoc old.bytes (joined pieces) rest) ∙ ap (λ l. l ++ rest) (sym read.bytes) in
+    record {
+      seen = here.seen;
+      within = omega (arith, here.within, ap length read.bytes, length-append old.bytes (joined pieces));
+      over = here.over;
+      more = here.more;
+      others = here.others;
+      chunks_are = ap chunks (sym same) ∙ here.chunks_are ∙ ap (λ l. (l ++ here.more) ∷ here.others) (sym (front_stays max old new pieces here.seen read here.within));
+    }
+
+-- a read where all that is ahead belongs to the chunk
+pub few_read : (max e : ℕ) (old new : Ahead) (pieces : List (List ℕ)) → IsReadOn max old new pieces → length (joined pieces) ≤ 8192 → e ≤ length old.bytes → IsBegun old e → IsOpen (drop e old.bytes) → IsFewAfter new
+few_read max e old new pieces read few within begun is n more =
+    too_long_read max n old new pieces read (too_long_line n e old (omega (arith, more, few, ap length read.bytes, length-append old.bytes (joined pieces))) within begun is)
+
+-- and where the end of a block waits for what follows
+pub few_block : (max e : ℕ) (old new : Ahead) (pieces : List (List ℕ)) → IsReadOn max old new pieces → length (joined pieces) + (length old.bytes - e) ≤ 8192 → e ≤ length old.bytes → IsBlock (take e old.bytes) → IsFewAfter new
+few_block max e old new pieces read few within block n more =
+    too_long_read max n old new pieces read (too_long_block n e old (omega (arith, more, few, within, ap length read.bytes, length-append old.bytes (joined pieces))) within block)
+
+-- all that is ahead is a part of the chunk
+pub part_begun : (ahead : Ahead) → IsPart ahead.bytes → IsBegun ahead (length ahead.bytes)
+part_begun ahead part =
+    let bytes = ahead.bytes in
+    let all : take (length bytes) bytes ≡ bytes = grind (arith, common_steps) in
+    let none : drop (length bytes) bytes ≡ [] = grind (arith, common_steps) in
+    record {
+      last = λ some. subst (λ l. chunks l ≡ l ∷ []) (sym all) (part.last some);
+      longer = λ rest may some. subst (λ l. IsLonger l (drop (length bytes) bytes ++ rest)) (sym all) (subst (λ l. IsLonger bytes (l ++ rest)) (sym none) (part.longer rest (subst (λ l. 0 < length (l ++ rest)) none some)));
+    }
+
+pub none_after : (bytes : List ℕ) → IsOpen (drop (length bytes) bytes)
+none_after bytes rest = let none : drop (length bytes) bytes ≡ [] = grind (arith, common_steps) in rw none refl
 
 pub chunk_end : (ahead : Ahead) (n : ℕ) → 0 < n → n ≤ length ahead.bytes → length (drop n ahead.bytes) ≤ 8192 → EndsAt ahead n → IsEnd ahead n
 chunk_end ahead n some within left ends = record { within = within; left = left; ends = λ _. ends; none = λ zero. absurd (omega arith) }

@@ -15,17 +15,16 @@ passed_none bytes e rest =
     rw none refl
 
 -- a newline was found
-pub line_found : (ahead : Ahead) (seen : List ℕ) (e s n : ℕ) → seen ≡ ahead.bytes → e ≤ s → s ≤ length seen → length (drop s ahead.bytes) ≤ 8192
+pub line_found : (ahead : Ahead) (seen : List ℕ) (e s n : ℕ) → seen ≡ ahead.bytes → e ≤ s → s ≤ length seen
     → IsOpen (take (s - e) (drop e ahead.bytes)) → n ≤ length (take (length seen - s) (drop s seen)) → IsLine (take n (take (length seen - s) (drop s seen)))
     → IsLineAt ahead e (s + n)
-line_found ahead seen e s n same after within few passed fits line =
+line_found ahead seen e s n same after within passed fits line =
     let all : take (length seen - s) (drop s seen) ≡ drop s ahead.bytes = tail_is seen s ∙ ap (drop s) same in
     let some : n ≤ length (drop s ahead.bytes) = rw all at fits in
     let here : IsLine (take n (drop s ahead.bytes)) = subst (λ l. IsLine (take n l)) all line in
     record {
       after = omega arith;
       within = omega (arith, length-drop s ahead.bytes, ap length same);
-      few = omega (arith, length-drop s ahead.bytes, length-drop (s + n) ahead.bytes);
       line = inl (subst (λ l. IsLine l) (sym (slice_more ahead.bytes e s n after)) (line_then (take (s - e) (drop e ahead.bytes)) (take n (drop s ahead.bytes)) passed here));
     }
 
@@ -42,7 +41,6 @@ line_last ahead seen e same within ended is =
     record {
       after = within;
       within = omega arith;
-      few = omega (arith, length-drop (length seen) ahead.bytes);
       line = inr (len, record { ended = ended; rest_is_open = is });
     }
 
@@ -54,8 +52,3 @@ passed_all max old new seen pieces e same read within is =
     let fits : e ≤ length old.bytes = omega arith in
     let front : take (length seen - e) (drop e old.bytes ++ joined pieces) ≡ drop e old.bytes = grind (arith, common_steps) in
     subst (λ l. IsOpen l) (sym (ap (take (length seen - e)) (back_grows max old new pieces e read fits) ∙ front)) is
-
-pub few_new : (max : ℕ) (old new : Ahead) (seen : List ℕ) (pieces : List (List ℕ)) → seen ≡ old.bytes → IsReadOn max old new pieces → length (joined pieces) ≤ 8192
-    → length (drop (length seen) new.bytes) ≤ 8192
-few_new max old new seen pieces same read few =
-    omega (arith, length-drop (length seen) new.bytes, grows max old new pieces read, ap length same)

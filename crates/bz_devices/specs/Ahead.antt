@@ -47,6 +47,10 @@ pub record BeginsTooLong (max_statement : ℕ) (bytes rest : List ℕ) : Type 0 
 abbrev pub IsTooLong : ℕ → Ahead → Type 0
 IsTooLong max_statement ahead = (rest : List ℕ) → MayFollow ahead rest → BeginsTooLong max_statement ahead.bytes rest
 
+-- All bytes ahead but 8,192 at most belong to the next chunk: where more stand after the first n, it has more than n.
+abbrev pub IsFewAfter : Ahead → Type 0
+IsFewAfter ahead = (n : ℕ) → n + 8192 < length ahead.bytes → IsTooLong n ahead
+
 -- A chunk of the file begins on this line, and a front of it that stands in these bytes, with which the file begins, is longer than it may be.
 pub record HasTooLong (max_statement line : ℕ) (bytes file : List ℕ) : Type 0 where
   pub before : List (List ℕ)

@@ -2,9 +2,9 @@
 
 ghost use Rattle.std.specs.Prelude.{◌≡◌, ◌≢◌, ℕ, ◌+◌, ◌<◌, ◌≤◌, false, List, [], length, take, drop, IfOk, OnOk, OnErr, IfSome, IfNone, IsErrOf, IsTrue, IsUtf8};
 ghost use Rattle.bz_devices.specs.Device.{joined, Rises};
-ghost use Rattle.bz_token.specs.Cuts.{IsBlock};
+ghost use Rattle.bz_token.specs.Cuts.{IsBlock, IsPart};
 ghost use Rattle.bz_token.specs.CutterState.{IsAfter, IsAtBlock};
-ghost use Rattle.bz_devices.specs.Ahead.{IsReadOn, AreNeeded, IsNextChunk, IsTooLong, IsUncertain};
+ghost use Rattle.bz_devices.specs.Ahead.{IsReadOn, AreNeeded, IsNextChunk, IsTooLong, IsUncertain, IsFewAfter};
 ghost use Rattle.bz_devices.specs.private.AheadSteps.{IsOpen, IsLine, IsLineAt, IsBegun, GoesOn, EndsAt, IsEnd};
 
 use crate::device::Source;
@@ -191,6 +191,36 @@ fn drop_front(bytes: &mut Vec<u8>, n: usize)
     bytes.truncate(left);
 }
 
+/// Reads once, where all that is ahead is a part of the next chunk; answers whether it did. It does not after the end of
+/// the input, nor where the chunk is sure to be longer than `max_statement`.
+pub fn read_on<S: Source>(
+    ahead: &mut Ahead,
+    source: &mut S,
+    max_statement: u64,
+    max_reads: u64,
+) -> Result<bool, ChunkFault>
+    requires made { ahead.old.reads ≤ max_reads }
+    requires part { IsPart ahead.old.bytes }
+    requires few { length ahead.old.bytes ≤ 8192 }
+    requires bound { length ahead.old.bytes ≤ max_statement + 8192 }
+    ensures read { (pieces : List (List ℕ)) × S.gave source.old pieces source.new
+        × IsReadOn max_reads ahead.old ahead.new pieces × AreNeeded max_statement ahead.old.bytes pieces }
+    ensures bound { length ahead.new.bytes ≤ max_statement + 8192 }
+    ensures few { OnOk result (IsFewAfter ahead.new) }
+    ensures fitting { result ≢ Err ChunkFault.StatementTooLong }
+    ensures input_too_long { IsErrOf result ChunkFault.InputTooLong
+        → (ahead.new.reads ≡ max_reads) × (ahead.new.ended ≡ false)
+        × IsUncertain ahead.new × (IsTooLong max_statement ahead.new → ⊥) }
+    ensures failed { IsErrOf result ChunkFault.ReadFailed → Rises (S.failures source.old) (S.failures source.new) }
+    ensures steady { result ≢ Err ChunkFault.ReadFailed → S.failures source.new ≡ S.failures source.old }
+{
+    if ahead.is_ended() || ahead.bytes().len() as u64 > max_statement {
+        return Ok(false);
+    }
+    ahead.read(source, PIECE, max_reads)?;
+    Ok(true)
+}
+
 /// Where the first line ends, after its newline.
 fn line_end(bytes: &[u8]) -> Option<usize>
     ensures within { IfSome result (λ n. (0 < n) × (n ≤ length bytes.now)) }
@@ -214,13 +244,14 @@ fn read_line<S: Source>(
 ) -> Result<usize, ChunkFault>
     requires made { ahead.old.reads ≤ max_reads }
     requires within { from ≤ length ahead.old.bytes }
-    requires few { length (drop from ahead.old.bytes) ≤ 8192 }
+    requires few { IsFewAfter ahead.old }
     requires begun { IsBegun ahead.old from }
     requires bound { length ahead.old.bytes ≤ max_statement + 8192 }
     ensures read { (pieces : List (List ℕ)) × S.gave source.old pieces source.new
         × IsReadOn max_reads ahead.old ahead.new pieces × AreNeeded max_statement ahead.old.bytes pieces }
     ensures bound { length ahead.new.bytes ≤ max_statement + 8192 }
     ensures line { IfOk result (IsLineAt ahead.new from) }
+    ensures few { OnOk result (IsFewAfter ahead.new) }
     ensures statement_too_long { IsErrOf result ChunkFault.StatementTooLong → IsTooLong max_statement ahead.new }
     ensures input_too_long { IsErrOf result ChunkFault.InputTooLong
         → (ahead.new.reads ≡ max_reads) × (ahead.new.ended ≡ false)
@@ -258,12 +289,12 @@ fn ends_block<S: Source>(
     requires block { IsBlock (take end ahead.old.bytes) }
     requires made { ahead.old.reads ≤ max_reads }
     requires within { end ≤ length ahead.old.bytes }
-    requires few { length (drop end ahead.old.bytes) ≤ 8192 }
+    requires few { IsFewAfter ahead.old }
     requires bound { length ahead.old.bytes ≤ max_statement + 8192 }
     ensures read { (pieces : List (List ℕ)) × S.gave source.old pieces source.new
         × IsReadOn max_reads ahead.old ahead.new pieces × AreNeeded max_statement ahead.old.bytes pieces }
     ensures bound { length ahead.new.bytes ≤ max_statement + 8192 }
-    ensures left { OnOk result (length (drop end ahead.new.bytes) ≤ 8192) }
+    ensures few { OnOk result (IsFewAfter ahead.new) }
     ensures ends { IfOk result (λ is_end. IsTrue is_end → EndsAt ahead.new end) }
     ensures goes { IfOk result (λ is_end. is_end ≡ false → GoesOn cutter.new ahead.new end) }
     ensures statement_too_long { IsErrOf result ChunkFault.StatementTooLong → IsTooLong max_statement ahead.new }
@@ -302,11 +333,12 @@ fn ends_chunk<S: Source>(
     requires line { IsLineAt ahead.old from end }
     requires some { from < end }
     requires made { ahead.old.reads ≤ max_reads }
+    requires few { IsFewAfter ahead.old }
     requires bound { length ahead.old.bytes ≤ max_statement + 8192 }
     ensures read { (pieces : List (List ℕ)) × S.gave source.old pieces source.new
         × IsReadOn max_reads ahead.old ahead.new pieces × AreNeeded max_statement ahead.old.bytes pieces }
     ensures bound { length ahead.new.bytes ≤ max_statement + 8192 }
-    ensures left { OnOk result (length (drop end ahead.new.bytes) ≤ 8192) }
+    ensures few { OnOk result (IsFewAfter ahead.new) }
     ensures ends { IfOk result (λ is_end. IsTrue is_end → EndsAt ahead.new end) }
     ensures goes { IfOk result (λ is_end. is_end ≡ false → GoesOn cutter.new ahead.new end) }
     ensures statement_too_long { IsErrOf result ChunkFault.StatementTooLong → IsTooLong max_statement ahead.new }
@@ -331,7 +363,8 @@ fn chunk_end<S: Source>(
     max_reads: u64,
 ) -> Result<usize, ChunkFault>
     requires made { ahead.old.reads ≤ max_reads }
-    requires few { length ahead.old.bytes ≤ 8192 }
+    requires few { IsFewAfter ahead.old }
+    requires bound { length ahead.old.bytes ≤ max_statement + 8192 }
     ensures read { (pieces : List (List ℕ)) × S.gave source.old pieces source.new
         × IsReadOn max_reads ahead.old ahead.new pieces × AreNeeded max_statement ahead.old.bytes pieces }
     ensures bound { length ahead.new.bytes ≤ max_statement + 8192 }
@@ -377,7 +410,8 @@ pub fn next_chunk<S: Source>(
     max_reads: u64,
 ) -> Result<Option<usize>, ChunkFault>
     requires made { ahead.old.reads ≤ max_reads }
-    requires few { length ahead.old.bytes ≤ 8192 }
+    requires few { IsFewAfter ahead.old }
+    requires bound { length ahead.old.bytes ≤ max_statement + 8192 }
     ensures read { (pieces : List (List ℕ)) × S.gave source.old pieces source.new
         × IsReadOn max_reads ahead.old ahead.new pieces × AreNeeded max_statement ahead.old.bytes pieces }
     ensures bound { length ahead.new.bytes ≤ max_statement + 8192 }

@@ -11,7 +11,7 @@ use Rattle.bz_token.proofs.ChunkForms.{statement_chunk}
 use Rattle.bz_token.proofs.Ends.{line_token}
 use Rattle.bz_tree.specs.Chunk.{IsBlank}
 use Rattle.bz_command.specs.Labels.{Package}
-use Rattle.bz_devices.specs.Ahead.{Ahead}
+use Rattle.bz_devices.specs.Ahead.{Ahead, IsFewAfter}
 use Rattle.bz_engine.specs.File.{Gives}
 use Rattle.bz_engine.specs.Outcome.{Script}
 use Rattle.bz_engine.specs.Progress.{Progress}
@@ -50,7 +50,7 @@ taken_newline rest (b ∷ bytes) (suc n, within, is) = ap (take 1) is
 
 -- the script on an empty line: nothing but the line's number is another
 pub newline_edited : (home : Package) (passes : Script) (keep_going : Bool) (depth most : ℕ) (ahead : Ahead) (old new : Progress) (text : List ℕ) (rest : List ℕ) (front : List ℕ)
-    → length ahead.bytes ≤ 8192 → IsTakenOf front ahead.bytes → front ≡ 10 ∷ rest → 1 ≤ most → new ≡ record old { line = old.line + 1 }
+    → IsFewAfter ahead → IsTakenOf front ahead.bytes → front ≡ 10 ∷ rest → 1 ≤ most → new ≡ record old { line = old.line + 1 }
     → IsFirstEdited home passes keep_going depth most ahead old new text text (record { len = 1; edited = Done })
 newline_edited home passes keep_going depth most ahead old new text rest front few outer begins size is =
     let taken = subst (λ t. IsTakenOf t ahead.bytes) begins outer in

@@ -2,7 +2,9 @@
 use Rattle.std.proofs.Common.{◌≡◌, ℕ, ◌-◌, ◌<◌, ◌≤◌, List, ◌++◌, length, take, drop, sym, ◌∙◌, ap, subst, arith}
 use Rattle.std.proofs.lemmas.List.{take-take, length-take-le, length-drop}
 use Rattle.bz_token.specs.Cuts.{IsChunk, EndsBefore}
-use Rattle.bz_devices.specs.Ahead.{Ahead, IsNextChunk}
+use Rattle.bz_devices.specs.Ahead.{Ahead, IsNextChunk, IsFewAfter}
+use Rattle.bz_devices.specs.private.AheadSteps.{EndsAt}
+use Rattle.bz_devices.proofs.ChunkAhead.{few_left}
 
 -- a front of these bytes
 abbrev pub IsTakenOf : List ℕ → List ℕ → Type 0
@@ -30,17 +32,11 @@ pub chunk_is : (chunk text bytes : List ℕ) → IsTakenOf text bytes → length
 chunk_is chunk text bytes outer within inner =
     inner ∙ ap (take (length chunk)) (text_is text bytes outer) ∙ take-take (length chunk) (length text) bytes within
 
-pub first_is_next : (most : ℕ) (ahead : Ahead) (chunk text : List ℕ) → length ahead.bytes ≤ 8192 → IsTakenOf text ahead.bytes
+pub first_is_next : (most : ℕ) (ahead : Ahead) (chunk text : List ℕ) → IsFewAfter ahead → IsTakenOf text ahead.bytes
     → 0 < length chunk → length chunk ≤ length text → chunk ≡ take (length chunk) text → length chunk ≤ most → IsChunk chunk
     → IsNextChunk most ahead (length chunk)
 first_is_next most ahead chunk text few outer some within inner size ends =
     let n = length chunk in
-    let rest : length (drop n ahead.bytes) ≡ length ahead.bytes - n = length-drop n ahead.bytes in
-    record {
-      some = some;
-      within = chunk_within chunk text ahead.bytes outer within;
-      size = size;
-      left = omega (arith, few);
-      ends = λ more over. subst (λ bytes. EndsBefore bytes (drop n ahead.bytes ++ more)) (chunk_is chunk text ahead.bytes outer within inner)
-          (ends (drop n ahead.bytes ++ more));
-    }
+    let here = chunk_within chunk text ahead.bytes outer within in
+    let ends_at : EndsAt ahead n = λ more over. subst (λ bytes. EndsBefore bytes (drop n ahead.bytes ++ more)) (chunk_is chunk text ahead.bytes outer within inner) (ends (drop n ahead.bytes ++ more)) in
+    record { some = some; within = here; size = size; left = few_left n ahead here ends_at few; ends = ends_at }

@@ -4,12 +4,14 @@ use Rattle.std.specs.Prelude.{Option, Result, Ok, OnErr}
 use Rattle.std.proofs.lemmas.Bool.{false≢true}
 use Rattle.std.proofs.lemmas.List.{length-take-le}
 use Rattle.bz_devices.specs.Device.{joined}
-use Rattle.bz_devices.specs.Ahead.{Ahead, IsReadOn, IsNextChunk}
+use Rattle.bz_devices.specs.Ahead.{Ahead, IsReadOn, IsNextChunk, IsFewAfter}
+use Rattle.bz_devices.proofs.ChunkAhead.{few_bytes}
 use Rattle.bz_devices.proofs.ReadOn.{read_nothing}
 use Rattle.bz_passes.specs.Exchange.{Fits}
 use Rattle.bz_engine.specs.declared.session.Stage.{Stage}
 use Rattle.bz_engine.specs.declared.session.Stage.TheVariants.{Going, Ended, Stopped}
 use Rattle.bz_engine.specs.SessionValue.{SessionValue, IsReady, IsSession}
+use Rattle.bz_engine.specs.private.NextChunks.{CanTake}
 
 abbrev is_stopped : Stage → Bool
 is_stopped Going = false
@@ -58,29 +60,36 @@ session_at v w stage same kept ready fits = record {
 }
 
 -- each line has a byte
-lines_read : (v : SessionValue) (mid : Ahead) (max_reads : ℕ) (read : List (List ℕ)) → IsReady v → IsReadOn max_reads v.ahead mid read
+pub lines_read : (v : SessionValue) (mid : Ahead) (max_reads : ℕ) (read : List (List ℕ)) → v.progress.line + length v.ahead.bytes ≤ 1 + 8192 * v.ahead.reads → IsReadOn max_reads v.ahead mid read
     → v.progress.line + length mid.bytes ≤ 1 + 8192 * mid.reads
-lines_read v mid max_reads read ready on =
+lines_read v mid max_reads read lines on =
     let all : length mid.bytes ≡ length v.ahead.bytes + length (joined read) = ap length on.bytes ∙ length-append v.ahead.bytes (joined read) in
-    summed v.progress.line (length v.ahead.bytes) (length mid.bytes) (length (joined read)) v.ahead.reads mid.reads (length read) ready.lines all on.reads on.few
+    summed v.progress.line (length v.ahead.bytes) (length mid.bytes) (length (joined read)) v.ahead.reads mid.reads (length read) lines all on.reads on.few
   where
     summed : (line vb mb jr vr mr r : ℕ) → line + vb ≤ 1 + 8192 * vr → mb ≡ vb + jr → mr ≡ vr + r → jr ≤ 8192 * r → line + mb ≤ 1 + 8192 * mr
     summed line vb mb jr vr mr r a b c d = omega arith
 
-pub lines_fit : (v : SessionValue) (mid : Ahead) (n : ℕ) (read : List (List ℕ)) → IsReady v → IsReadOn v.options.max_reads v.ahead mid read
+pub lines_fit : (v : SessionValue) (mid : Ahead) (n : ℕ) (read : List (List ℕ)) → v.progress.line + length v.ahead.bytes ≤ 1 + 8192 * v.ahead.reads → IsReadOn v.options.max_reads v.ahead mid read
     → v.options.max_reads ≤ 2 ^ 50 → n ≤ length mid.bytes → v.progress.line + n < 2 ^ 64
-lines_fit v mid n read ready on limit within =
-    small v.progress.line (length mid.bytes) mid.reads v.options.max_reads n (lines_read v mid v.options.max_reads read ready on) on.within limit within
+lines_fit v mid n read lines on limit within =
+    small v.progress.line (length mid.bytes) mid.reads v.options.max_reads n (lines_read v mid v.options.max_reads read lines on) on.within limit within
   where
     small : (line mb mr m n : ℕ) → line + mb ≤ 1 + 8192 * mr → mr ≤ m → m ≤ 2 ^ 50 → n ≤ mb → line + n < 2 ^ 64
     small line mb mr m n a b c d = omega arith
 
 -- the lines ahead are counted
-pub lines_ahead : (v : SessionValue) → IsReady v → v.ahead.reads ≤ v.options.max_reads → v.options.max_reads ≤ 2 ^ 50 → v.progress.line + length v.ahead.bytes < 2 ^ 64
-lines_ahead v ready made limit = small v.progress.line (length v.ahead.bytes) v.ahead.reads v.options.max_reads ready.lines made limit
+pub lines_ahead : (v : SessionValue) → CanTake v → v.ahead.reads ≤ v.options.max_reads → v.options.max_reads ≤ 2 ^ 50 → v.progress.line + length v.ahead.bytes < 2 ^ 64
+lines_ahead v take made limit = small v.progress.line (length v.ahead.bytes) v.ahead.reads v.options.max_reads take.lines made limit
   where
     small : (line b r m : ℕ) → line + b ≤ 1 + 8192 * r → r ≤ m → m ≤ 2 ^ 50 → line + b < 2 ^ 64
     small line b r m x y z = omega arith
+
+-- more was read where all that is ahead is a part of the next chunk
+pub take_read : (v : SessionValue) (mid : Ahead) (max_reads : ℕ) (read : List (List ℕ)) → CanTake v → IsReadOn max_reads v.ahead mid read → IsFewAfter mid → CanTake (record v { ahead = mid })
+take_read v mid max_reads read take on few = record { fits = take.fits; few = few; lines = lines_read v mid max_reads read take.lines on }
+
+pub take_ready : (v : SessionValue) → IsReady v → CanTake v
+take_ready v ready = record { fits = ready.fits; few = few_bytes v.ahead ready.few; lines = ready.lines }
 
 -- nothing was read
 pub unread : (v w : SessionValue) (mid : Ahead) → v ≡ w → IsSession v → v.ahead ≡ mid → IsReadOn w.options.max_reads w.ahead mid []
@@ -103,7 +112,7 @@ ready_next v e f mid max_reads most n read ready on next at fits line taken =
       fits = subst (λ x. Fits e.progress.kept x.passes) at fits;
       few = next.left;
       lines = left_over v.progress.line e.progress.line (length mid.bytes) (length (take n mid.bytes)) (length (drop n mid.bytes)) n mid.reads
-          (lines_read v mid max_reads read ready on) line all (length-take-le n mid.bytes next.within);
+          (lines_read v mid max_reads read ready.lines on) line all (length-take-le n mid.bytes next.within);
     })
   where
     left_over : (line next mb tb db n mr : ℕ) → line + mb ≤ 1 + 8192 * mr → next ≤ line + n → mb ≡ tb + db → tb ≡ n → next + db ≤ 1 + 8192 * mr

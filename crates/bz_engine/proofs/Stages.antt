@@ -1,5 +1,5 @@
 -- Stages and answers that differ, and what a session keeps from one call to the next.
-use Rattle.std.proofs.Common.{◌≡◌, ℕ, ◌+◌, ◌≤◌, Bool, true, false, List, length, take, arith, sym, ◌∙◌, ap, subst}
+use Rattle.std.proofs.Common.{◌≡◌, ℕ, ◌+◌, ◌≤◌, Bool, true, false, List, ◌++◌, length, take, arith, sym, ◌∙◌, ap, subst}
 use Rattle.std.specs.Prelude.{Result, Err, OnOk, IfOk}
 use Rattle.std.proofs.lemmas.Bool.{false≢true}
 use Rattle.bz_devices.proofs.PassedOn.{err_is}
@@ -8,7 +8,8 @@ use Rattle.bz_engine.specs.declared.run_fault.RunFault.{RunFault}
 use Rattle.bz_engine.specs.declared.run_fault.RunFault.TheVariants as fault
 use Rattle.bz_engine.specs.declared.session.Stage.{Stage}
 use Rattle.bz_engine.specs.declared.session.Stage.TheVariants.{Going, Ended, Stopped}
-use Rattle.bz_devices.specs.Ahead.{Ahead, IsNextChunk}
+use Rattle.bz_devices.specs.Ahead.{Ahead, IsReadOn, IsNextChunk}
+use Rattle.bz_devices.proofs.ReadOn.{read_then}
 use Rattle.bz_tree.specs.Tree.{Statement}
 use Rattle.bz_engine.specs.Progress.{Progress, IsKeptOf}
 use Rattle.bz_engine.specs.declared.next_chunk.NextChunk.{NextChunk}
@@ -130,3 +131,25 @@ next_edited v i w mid before following next read is chunk lines edited =
     subst (λ a. IsFirstEdited v.home v.passes v.options.keep_going v.options.max_depth v.options.max_statement a v.progress w.progress before following next)
     (sym (ap (λ x. x.ahead) (is ∙ ap edits read)))
     (subst (λ x. IsFirstEdited x.home x.passes x.options.keep_going x.options.max_depth x.options.max_statement mid x.progress w.progress before following next) read first)
+
+-- more was read after these reads, and nothing else was done
+pub read_also : (v l w x : SessionValue) (mid : Ahead) (xs ys : List (List ℕ)) → (let after : SessionValue = record v { ahead = l.ahead } in l ≡ after)
+    → (let after : SessionValue = record l { progress = w.progress } in w ≡ after) → x ≡ w → IsReadOn v.options.max_reads v.ahead l.ahead xs → IsReadOn x.options.max_reads x.ahead mid ys
+    → IsReadOn v.options.max_reads v.ahead mid (xs ++ ys)
+read_also v l w x mid xs ys same is there first second =
+    let here : IsReadOn l.options.max_reads l.ahead mid ys = subst (λ y. IsReadOn y.options.max_reads y.ahead mid ys) (there ∙ is) second in
+    read_then v.options.max_reads v.ahead l.ahead mid xs ys first (subst (λ o. IsReadOn o.max_reads l.ahead mid ys) (ap (λ y. y.options) same) here)
+
+-- it has the same options
+pub options_on : (v l w x : SessionValue) → (let after : SessionValue = record v { ahead = l.ahead } in l ≡ after)
+    → (let after : SessionValue = record l { progress = w.progress } in w ≡ after) → x ≡ w → x.options ≡ v.options
+options_on v l w x same is there = ap (λ y. y.options) (there ∙ is) ∙ ap (λ y. y.options) same
+
+-- and is as before, but for what is ahead
+pub read_alone : (v l w x : SessionValue) (mid : Ahead) → (let after : SessionValue = record v { ahead = l.ahead } in l ≡ after)
+    → (let after : SessionValue = record l { progress = w.progress } in w ≡ after) → w.progress ≡ l.progress → x ≡ w
+    → (let read : SessionValue = record x { ahead = mid } in let after : SessionValue = record v { ahead = mid } in read ≡ after)
+read_alone v l w x mid same is progress there =
+    let reads : SessionValue → SessionValue = λ y. record y { ahead = mid } in
+    let at : Progress → SessionValue = λ p. record l { progress = p } in
+    ap reads (there ∙ is ∙ ap at progress ∙ same)

@@ -4,17 +4,18 @@ ghost use Rattle.std.specs.Prelude.{◌≡◌, ℕ, ◌+◌, ◌<◌, ◌≤◌,
 ghost use Rattle.bz_token.specs.Places.{placed};
 ghost use Rattle.bz_token.specs.Reading.{AreTokensOf};
 ghost use Rattle.bz_tree.specs.Tree.{Statement};
+ghost use Rattle.bz_devices.specs.Ahead.{IsFewAfter};
 ghost use Rattle.bz_passes.specs.Exchange.{Fits};
 ghost use Rattle.bz_engine.specs.Progress.{IsKeptOf};
 ghost use Rattle.bz_engine.specs.private.Edits.{IsEdited};
-ghost use Rattle.bz_engine.specs.private.NextChunks.{IsFirstEdited};
+ghost use Rattle.bz_engine.specs.private.NextChunks.{IsFirst};
 
 use crate::chunk::{not_utf8, read_chunk};
 use crate::edit::{Edited, Script, edit_chunk, edit_row};
 use crate::progress::Progress;
 use crate::report::SyntaxFault;
 use bz_devices::ahead::Ahead;
-use bz_token::{LexFault, Token, check_utf8, first_chunk, tokens};
+use bz_token::{Front, LexFault, Token, check_utf8, first_chunk, tokens};
 use bz_tree::{ParseFault, read_row, row_of_text};
 use std::alloc::AllocError;
 
@@ -26,43 +27,53 @@ pub(crate) struct NextChunk {
     pub(crate) edited: Edited,
 }
 
-/// The script on the first chunk of the text ahead, which is read by the tokens that were made to find its end. None,
-/// with nothing done: the text does not show where it ends, it has a fault, it is a block, or it is too long.
+/// What is done of the first chunk of the text ahead.
+#[derive(Drop)]
+pub(crate) enum First {
+    /// The script was run on it, and it is not yet taken.
+    Edited(NextChunk),
+    /// Nothing: all that is ahead is a part of it.
+    Short,
+    /// Nothing: it is to be found in another way.
+    Other,
+}
+
+/// The script on the first chunk of the text ahead, which is read by the tokens that were made to find its end. Nothing
+/// is done where the text does not show where it ends, where it has a fault, is a block, or is too long.
 pub(crate) fn edit_first(
     script: Script<'_>,
     ahead: &Ahead,
     max_statement: u64,
     progress: &mut Progress,
     text: &mut Vec<u8>,
-) -> Result<Option<NextChunk>, AllocError>
-    requires few { length ahead.now.bytes ≤ 8192 }
+) -> Result<First, AllocError>
+    requires few { IsFewAfter ahead.now }
     requires fits { Fits progress.old.kept script.passes.now }
     requires lines { progress.old.line + length ahead.now.bytes < 2 ^ 64 }
     ensures fits { OnOk result (Fits progress.new.kept script.entry.passes.now) }
-    ensures chunk { IfOk result (λ found. IfSome found (IsFirstEdited script.entry.home.now script.entry.passes.now
-        script.entry.keep_going script.entry.max_depth max_statement ahead.now progress.old progress.new
-        text.old.items text.new.items)) }
-    ensures none { IfOk result (λ found. IfNone found
-        ((progress.new ≡ progress.old) × (text.new.items ≡ text.old.items))) }
+    ensures first { IfOk result (IsFirst script.entry.home.now script.entry.passes.now script.entry.keep_going
+        script.entry.max_depth max_statement ahead.now progress.old progress.new text.old.items text.new.items) }
 {
     let text_ahead = ahead.text();
     if begins_blank(text_ahead) && 0 < max_statement {
         progress.line += 1;
-        return Ok(Some(NextChunk {
+        return Ok(First::Edited(NextChunk {
             len: 1,
             edited: Edited::Done,
         }));
     }
     let line = progress.line;
-    let Some(chunk) = first_chunk(script.bump, text_ahead, line, script.max_depth)? else {
-        return Ok(None);
+    let chunk = match first_chunk(script.bump, text_ahead, line, script.max_depth)? {
+        Front::Chunk(chunk) => chunk,
+        Front::Short if text_ahead.len() == ahead.bytes().len() => return Ok(First::Short),
+        _ => return Ok(First::Other),
     };
     let len = chunk.text.len();
     if len as u64 > max_statement {
-        return Ok(None);
+        return Ok(First::Other);
     }
     let edited = edit_tokens(script, chunk.text, chunk.tokens, progress, text)?;
-    Ok(Some(NextChunk { len, edited }))
+    Ok(First::Edited(NextChunk { len, edited }))
 }
 
 /// Whether the text begins with an empty line, which is a chunk.

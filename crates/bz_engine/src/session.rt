@@ -1,20 +1,21 @@
 //! A run, a chunk at a time.
 
 ghost use Rattle.std.specs.Prelude.{◌≡◌, ◌≢◌, ℕ, ◌+◌, ◌<◌, ◌≤◌, ◌^◌, ◌++◌, false, List, [], length, take, drop, IfOk, OnOk, OnErr, IfSome, IfNone, IsTrue};
+ghost use Rattle.bz_token.specs.Cuts.{IsPart};
 ghost use Rattle.bz_tree.specs.Tree.{Statement};
 ghost use Rattle.bz_devices.specs.Device.{joined, NoneEnds, Rises};
 ghost use Rattle.bz_passes.specs.Exchange.{Fits};
-ghost use Rattle.bz_devices.specs.Ahead.{IsReadOn, IsNextChunk, IsTooLong, IsUncertain};
+ghost use Rattle.bz_devices.specs.Ahead.{IsReadOn, IsNextChunk, IsTooLong, IsUncertain, IsFewAfter};
 ghost use Rattle.bz_engine.specs.Outcome.{told_by};
 ghost use Rattle.bz_engine.specs.Progress.{IsKeptOf};
 ghost use Rattle.bz_engine.specs.private.ChunkFaults.{fault_at};
 ghost use Rattle.bz_engine.specs.private.Edits.{IsEdited};
-ghost use Rattle.bz_engine.specs.private.NextChunks.{IsNextEdited};
+ghost use Rattle.bz_engine.specs.private.NextChunks.{IsNextEdited, IsFirstNext, CanTake};
 ghost use Rattle.bz_engine.specs.SessionValue.{at_start, IsSameRun, IsReady, IsLeftByFault, IsRefused, HasOneMore, HasDone, HasEnded, told_at};
 ghost use Rattle.bz_engine.specs.declared.session.Stage.TheVariants.{Going, Ended, Stopped};
 
 use crate::edit::{Edited, Script};
-use crate::next_chunk::{NextChunk, edit_bytes, edit_first};
+use crate::next_chunk::{First, NextChunk, edit_bytes, edit_first};
 use crate::options::Options;
 use crate::progress::Progress;
 use crate::report::{End, Report};
@@ -24,7 +25,7 @@ use crate::run_fault::RunFault;
 use crate::telling::{report_of_all, report_of_fault, report_of_one};
 use bumpalo::Bump;
 use bz_command::Pass;
-use bz_devices::ahead::{Ahead, ChunkFault, next_chunk};
+use bz_devices::ahead::{Ahead, ChunkFault, next_chunk, read_on};
 use bz_devices::device::{Failed, Sink, Source};
 use bz_devices::output::write_all;
 use bz_passes::kept::nothing_kept;
@@ -238,6 +239,7 @@ impl Session {
         sink: &mut W,
     ) -> Result<Stage, RunFault>
         requires stopped { self.old.stage ≡ Stopped }
+        requires made { self.old.ahead.reads ≤ self.old.options.max_reads }
         requires ready { IsReady self.old }
         ensures same { IsSameRun self.old self.new }
         ensures stage { self.new.stage ≡ self.old.stage }
@@ -309,13 +311,15 @@ impl Session {
     }
 
     /// The script on the next chunk; none where the input has ended. Most chunks end in the text ahead: then nothing
-    /// is read, and the walk that finds the end makes the tokens.
+    /// is read, and the walk that finds the end makes the tokens. Where the text ends before its chunk, more is read
+    /// once, and the walk begins again.
     fn edit_next<S: Source>(
         &mut self,
         source: &mut S,
         text: &mut Vec<u8>,
     ) -> Result<Option<NextChunk>, RunFault>
         requires stopped { self.old.stage ≡ Stopped }
+        requires made { self.old.ahead.reads ≤ self.old.options.max_reads }
         requires ready { IsReady self.old }
         ensures same { self.new ≡ record self.old { ahead = self.new.ahead; progress = self.new.progress } }
         ensures read { (pieces : List (List ℕ)) × S.gave source.old pieces source.new
@@ -336,9 +340,50 @@ impl Session {
         ensures steady { result ≢ Err RunFault.ReadFailed → S.failures source.new ≡ S.failures source.old }
         ensures runs { (result ≢ Err RunFault.Stopped) × (result ≢ Err RunFault.WriteFailed) }
     {
-        if let Some(next) = self.edit_first(text)? {
-            return Ok(Some(next));
+        let mut may_read = true;
+        loop {
+            match self.edit_first(text)? {
+                First::Edited(next) => return Ok(Some(next)),
+                First::Short if may_read => {
+                    let line = self.progress.line;
+                    if !read_more(&mut self.ahead, source, self.options, line)? {
+                        return self.edit_found(source, text);
+                    }
+                    may_read = false;
+                }
+                _ => return self.edit_found(source, text),
+            }
         }
+    }
+
+    /// The script on the next chunk, where it ends being found line by line; none where the input has ended.
+    fn edit_found<S: Source>(
+        &mut self,
+        source: &mut S,
+        text: &mut Vec<u8>,
+    ) -> Result<Option<NextChunk>, RunFault>
+        requires stopped { self.old.stage ≡ Stopped }
+        requires ready { CanTake self.old }
+        requires bound { length self.old.ahead.bytes ≤ self.old.options.max_statement + 8192 }
+        ensures same { self.new ≡ record self.old { ahead = self.new.ahead; progress = self.new.progress } }
+        ensures read { (pieces : List (List ℕ)) × S.gave source.old pieces source.new
+            × IsReadOn self.old.options.max_reads self.old.ahead self.new.ahead pieces }
+        ensures bound { length self.new.ahead.bytes ≤ self.old.options.max_statement + 8192 }
+        ensures fits { OnOk result (Fits self.new.progress.kept self.new.passes) }
+        ensures chunk { IfOk result (λ found. IfSome found
+            (IsNextEdited self.old self.new text.old.items text.new.items)) }
+        ensures none { IfOk result (λ found. IfNone found ((self.new.progress ≡ self.old.progress)
+            × (self.new.ahead.bytes ≡ []) × IsTrue self.new.ahead.ended)) }
+        ensures too_long { result ≡ Err RunFault.InputTooLong
+            → (self.new.ahead.reads ≡ self.old.options.max_reads) × (self.new.ahead.ended ≡ false) }
+        ensures uncertain { result ≡ Err RunFault.InputTooLong
+            → IsUncertain self.new.ahead × (IsTooLong self.old.options.max_statement self.new.ahead → ⊥) }
+        ensures statement_too_long { (line : ℕ) → result ≡ Err (RunFault.StatementTooLong line)
+            → (line ≡ self.old.progress.line) × IsTooLong self.old.options.max_statement self.new.ahead }
+        ensures failed { result ≡ Err RunFault.ReadFailed → Rises (S.failures source.old) (S.failures source.new) }
+        ensures steady { result ≢ Err RunFault.ReadFailed → S.failures source.new ≡ S.failures source.old }
+        ensures runs { (result ≢ Err RunFault.Stopped) × (result ≢ Err RunFault.WriteFailed) }
+    {
         let line = self.progress.line;
         let Some(len) = find_chunk(&mut self.ahead, source, self.options, line)? else {
             return Ok(None);
@@ -347,17 +392,14 @@ impl Session {
         Ok(Some(NextChunk { len, edited }))
     }
 
-    /// The script on the first chunk of the text ahead; none where it is to be found in another way.
-    fn edit_first(&mut self, text: &mut Vec<u8>) -> Result<Option<NextChunk>, AllocError>
+    /// The script on the first chunk of the text ahead.
+    fn edit_first(&mut self, text: &mut Vec<u8>) -> Result<First, AllocError>
         requires stopped { self.old.stage ≡ Stopped }
-        requires ready { IsReady self.old }
+        requires ready { CanTake self.old }
         ensures same { self.new ≡ record self.old { progress = self.new.progress } }
         ensures unread { IsReadOn self.old.options.max_reads self.old.ahead self.new.ahead [] }
         ensures fits { OnOk result (Fits self.new.progress.kept self.new.passes) }
-        ensures chunk { IfOk result (λ found. IfSome found
-            (IsNextEdited self.old self.new text.old.items text.new.items)) }
-        ensures none { IfOk result (λ found. IfNone found
-            ((self.new.progress ≡ self.old.progress) × (text.new.items ≡ text.old.items))) }
+        ensures first { IfOk result (IsFirstNext self.old self.new text.old.items text.new.items) }
     {
         // The lists of the last chunk are given up.
         if self.bump.reset().is_err() {
@@ -432,7 +474,8 @@ fn find_chunk<S: Source>(
     line: u64,
 ) -> Result<Option<usize>, RunFault>
     requires made { ahead.old.reads ≤ options.max_reads }
-    requires few { length ahead.old.bytes ≤ 8192 }
+    requires few { IsFewAfter ahead.old }
+    requires bound { length ahead.old.bytes ≤ options.max_statement + 8192 }
     ensures read { (pieces : List (List ℕ)) × S.gave source.old pieces source.new
         × IsReadOn options.max_reads ahead.old ahead.new pieces }
     ensures bound { length ahead.new.bytes ≤ options.max_statement + 8192 }
@@ -450,6 +493,35 @@ fn find_chunk<S: Source>(
 {
     match next_chunk(ahead, source, options.max_statement, options.max_reads) {
         Ok(found) => Ok(found),
+        Err(fault) => Err(fault_at(fault, line)),
+    }
+}
+
+/// Reads once, where all that is ahead is a part of the next chunk, which begins on this line; answers whether it did.
+fn read_more<S: Source>(
+    ahead: &mut Ahead,
+    source: &mut S,
+    options: Options,
+    line: u64,
+) -> Result<bool, RunFault>
+    requires made { ahead.old.reads ≤ options.max_reads }
+    requires part { IsPart ahead.old.bytes }
+    requires few { length ahead.old.bytes ≤ 8192 }
+    ensures read { (pieces : List (List ℕ)) × S.gave source.old pieces source.new
+        × IsReadOn options.max_reads ahead.old ahead.new pieces }
+    ensures bound { length ahead.new.bytes ≤ options.max_statement + 8192 }
+    ensures few { OnOk result (IsFewAfter ahead.new) }
+    ensures too_long { result ≡ Err RunFault.InputTooLong → (ahead.new.reads ≡ options.max_reads)
+        × (ahead.new.ended ≡ false) }
+    ensures uncertain { result ≡ Err RunFault.InputTooLong
+        → IsUncertain ahead.new × (IsTooLong options.max_statement ahead.new → ⊥) }
+    ensures fitting { (at : ℕ) → result ≢ Err (RunFault.StatementTooLong at) }
+    ensures failed { result ≡ Err RunFault.ReadFailed → Rises (S.failures source.old) (S.failures source.new) }
+    ensures steady { result ≢ Err RunFault.ReadFailed → S.failures source.new ≡ S.failures source.old }
+    ensures runs { (result ≢ Err RunFault.Stopped) × (result ≢ Err RunFault.WriteFailed) }
+{
+    match read_on(ahead, source, options.max_statement, options.max_reads) {
+        Ok(read) => Ok(read),
         Err(fault) => Err(fault_at(fault, line)),
     }
 }

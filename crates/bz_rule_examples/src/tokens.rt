@@ -5,7 +5,7 @@ ghost use Rattle.bz_token.specs.Cuts.{is_physical_line};
 
 use crate::table::{check_lines, check_rows};
 use bumpalo::Bump;
-use bz_token::{Cut, Cutter, LexFault, Next, Token, check_utf8, first_chunk, tokens};
+use bz_token::{Cut, Cutter, Front, LexFault, Next, Token, check_utf8, first_chunk, tokens};
 use std::alloc::{AllocError, Global};
 use std::test::Fail;
 
@@ -209,7 +209,7 @@ fn blocks_go_on(rt: HostRuntime) {
     assert_eq!(rt; after(b"def f('\n", " ", false), None);
 }
 
-/// Texts, and the length of the chunk that they begin with, and the number of its tokens.
+/// Texts, and the length of the chunk that they begin with, and the number of its tokens; or what else they begin with.
 const CHUNKS: &str = r##"x = 1␊y = 2␊ ! 6 4
 x # a␊y ! 6 3
 f(␊␊# a␊)␊y ! 10 5
@@ -220,31 +220,35 @@ iff␊ ! 4 2
  ␊␊ ! 2 1
 # a␊  # b␊␊x␊ ! 11 5
 # a␊f(␊)␊x␊ ! 9 6
-␄ ! none
-x = 1 ! none
-f(␊ ! none
-# a␊# b␊ ! none
-def f():␊  pass␊␊ ! none
-# a␊for x in y:␊ ! none
-if x:␊ ! none
-x = $␊␊ ! none
-)␊␊ ! none"##;
+␄ ! short
+x = 1 ! short
+f(␊ ! short
+# a␊# b␊ ! short
+# a␊f(␊  'b ! short
+f("""a ! short
+f("""a␊ ! other
+f('a␊ ! other
+def f ! short
+def f():␊  pass␊␊ ! other
+# a␊for x in y:␊ ! other
+if x:␊ ! other
+x = $␊␊ ! other
+)␊␊ ! other"##;
 
+/// What a text begins with: the length of a chunk and the number of its tokens, or a word.
 fn shown_chunk(alloc: Global, text: &str) -> Result<String, AllocError> {
-    match first_of(alloc, text)? {
-        Some((length, tokens)) => format!(in alloc; "{length} {tokens}"),
-        None => String::from_str(alloc, "none"),
-    }
-}
-
-/// The length of the chunk that a text begins with, and the number of its tokens.
-fn first_of(alloc: Global, text: &str) -> Result<Option<(usize, usize)>, AllocError> {
     if text.len() > 1000 {
-        return Ok(None);
+        return String::from_str(alloc, "none");
     }
     let bump = Bump::new(alloc);
-    let found = first_chunk(&bump, text, 1, 100)?;
-    Ok(found.map(|chunk| (chunk.text.len(), chunk.tokens.len())))
+    match first_chunk(&bump, text, 1, 100)? {
+        Front::Chunk(chunk) => {
+            let (length, tokens) = (chunk.text.len(), chunk.tokens.len());
+            format!(in alloc; "{length} {tokens}")
+        }
+        Front::Short => String::from_str(alloc, "short"),
+        Front::Other => String::from_str(alloc, "other"),
+    }
 }
 
 #[test]

@@ -18,14 +18,14 @@ use Rattle.bz_token.proofs.ChunkLaws.{chunks_kept}
 use Rattle.bz_token.specs.ChunkForms.{are_comments, ends_as, ends_chunk, are_of_block, are_more, is_rest, are_forms}
 use Rattle.bz_token.proofs.TokenLines.{lines_join}
 
-after_all_comments : (comments ls : List Line) → are_comments comments ≡ true → after_comments (comments ++ ls) ≡ after_comments ls
+pub after_all_comments : (comments ls : List Line) → are_comments comments ≡ true → after_comments (comments ++ ls) ≡ after_comments ls
 after_all_comments [] ls h = refl
 after_all_comments (c ∷ cs) ls h =
     let p = and_parts (is_comment_line c.kind) (are_comments cs) h in
     rw (p.0, after_comments) (after_all_comments cs ls p.1)
 
 -- in a chunk that has comments alone, the next line joins
-joins_comments : (done : List Line) (l : Line) (ls : List Line) → are_comments done ≡ true → grouped_from chunk_goes_on done (l ∷ ls) ≡ grouped_from chunk_goes_on (done ++ l ∷ []) ls
+pub joins_comments : (done : List Line) (l : Line) (ls : List Line) → are_comments done ≡ true → grouped_from chunk_goes_on done (l ∷ ls) ≡ grouped_from chunk_goes_on (done ++ l ∷ []) ls
 joins_comments done l ls h =
     grouped_joins chunk_goes_on done l ls (ap (λ d. is_followed (after_comments d) l.text) (sym (append-nil done)) ∙ ap (λ rest. is_followed rest l.text) (after_all_comments done [] h))
 

@@ -18,7 +18,7 @@ use Rattle.bz_token.proofs.CutMachine.{ended_restarts, run_depth, quiet_before, 
 use Rattle.bz_token.proofs.CutLaws.{chunk_step, chunk_goes, chunk_cut, chunks_are, same_takes}
 use Rattle.bz_token.proofs.CutHeads.{word_of_line, header}
 
-over : (bs rest : List ℕ) (s : Scan) (stage : Stage) (before part : List ℕ) → quiet_before s bs ≡ true → seen_chunks s stage before part (bs ++ rest) ≡ seen_chunks (run s bs) stage before (part ++ bs) rest
+pub over : (bs rest : List ℕ) (s : Scan) (stage : Stage) (before part : List ℕ) → quiet_before s bs ≡ true → seen_chunks s stage before part (bs ++ rest) ≡ seen_chunks (run s bs) stage before (part ++ bs) rest
 over [] rest s stage before part h = ap (λ t. seen_chunks s stage before t rest) (sym (append-nil part))
 over (b ∷ bs) rest s stage before part h =
     let parts = and_parts (not (is_ended s.inside)) (quiet_before (next s b) bs) h in

@@ -25,7 +25,7 @@ use Rattle.bz_token.proofs.CutLaws.{chunk_step, same_takes}
 use Rattle.bz_token.proofs.CutAfter.{begins, whole, follows_line, last_line, open_after_token, stage_is, ends_here, comments_after, block_after, fresh_after}
 
 -- the first line of a text and what is after it
-abbrev after_line : List ℕ → List ℕ
+abbrev pub after_line : List ℕ → List ℕ
 after_line [] = []
 after_line (b ∷ bs) = elim (b == 10) [ true ↦ bs | false ↦ after_line bs ]
 
@@ -35,7 +35,7 @@ first_newline b bs h = rw (h, first_line) refl
 pub first_other : (b : ℕ) (bs : List ℕ) → (b == 10) ≡ false → first_line (b ∷ bs) ≡ b ∷ first_line bs
 first_other b bs h = rw (h, first_line) refl
 
-line_split : (text : List ℕ) → first_line text ++ after_line text ≡ text
+pub line_split : (text : List ℕ) → first_line text ++ after_line text ≡ text
 line_split [] = refl
 line_split (b ∷ bs) = elim (cases_Bool (b == 10)) [
   | inl is ↦ rw (is, first_line, after_line) refl
@@ -83,7 +83,7 @@ longer_from c seen rest (x ∷ xs) after b some split first h long t =
     let r = longer_by c seen x xs after b h (subst (Takes c) (sym split) t) in
     record { some = some; more = r.0; others = r.1; chunks_are = ap (λ s. chunks (seen ++ s)) (sym split) ∙ r.2 ∙ ap (λ l. (seen ++ (l ++ r.0)) ∷ r.1) first }
 
-line_some : (rest : List ℕ) → 0 < length rest → 0 < length (first_line rest)
+pub line_some : (rest : List ℕ) → 0 < length rest → 0 < length (first_line rest)
 line_some [] h = h
 line_some (b ∷ bs) h = omega arith
 

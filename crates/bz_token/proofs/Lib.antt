@@ -58,4 +58,5 @@ pub mod FirstLines
 pub mod LineEnds
 pub mod LineFronts
 pub mod LinesRead
+pub mod OpenLines
 mod ChunkExamples

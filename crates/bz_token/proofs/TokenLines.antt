@@ -69,7 +69,7 @@ kind_snoc line p =
     (λ i. if list_all-append is_newline_piece line (p ∷ []) i then Blank else (if list_all-append is_comment_piece line (p ∷ []) i then CommentLine else Statement))
     ∙ kinds (list_all is_newline_piece line) (list_all is_comment_piece line) p.kind (newlines_commented line)
 
-some_open : (opened : List ℕ) → is_inside opened ≡ true → 0 < length opened
+pub some_open : (opened : List ℕ) → is_inside opened ≡ true → 0 < length opened
 some_open [] h = absurd (false≢true h)
 some_open (a ∷ opened) h = omega arith
 

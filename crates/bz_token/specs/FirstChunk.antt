@@ -1,9 +1,11 @@
--- The chunk that a text begins with, and its tokens.
-use Rattle.std.specs.Prelude.{◌≡◌, ℕ, ◌<◌, ◌≤◌, List, length, take, drop, map}
+-- What a text begins with: a chunk and its tokens, or a part of a chunk.
+use Rattle.std.specs.Prelude.{◌≡◌, ℕ, ◌<◌, ◌≤◌, List, length, take, drop, map, ⊤}
 use Rattle.bz_token.specs.declared.chunk.FirstChunk.{FirstChunk}
+use Rattle.bz_token.specs.declared.chunk.Front.{Front}
+use Rattle.bz_token.specs.declared.chunk.Front.TheVariants.{Chunk, Short, Other}
 use Rattle.bz_token.specs.Places.{placed}
 use Rattle.bz_token.specs.Reading.{AreTokensOf}
-use Rattle.bz_token.specs.Cuts.{IsChunk}
+use Rattle.bz_token.specs.Cuts.{IsChunk, IsPart}
 
 -- the text begins with this chunk, whatever follows it
 pub record IsFirstChunk (first depth : ℕ) (bytes : List ℕ) (chunk : FirstChunk) : Type 0 where
@@ -13,3 +15,9 @@ pub record IsFirstChunk (first depth : ℕ) (bytes : List ℕ) (chunk : FirstChu
   pub rest : chunk.rest.now ≡ drop (length chunk.text.now) bytes
   pub tokens : AreTokensOf first depth chunk.text.now (map placed chunk.tokens.now)
   pub ends : IsChunk chunk.text.now
+
+-- The text begins with a chunk; or the text is a part of a chunk, whatever follows it; or nothing is said of it.
+abbrev pub IsFront : ℕ → ℕ → List ℕ → Front → Type 0
+IsFront first depth bytes (Chunk chunk) = IsFirstChunk first depth bytes chunk
+IsFront first depth bytes Short = IsPart bytes
+IsFront first depth bytes Other = ⊤

@@ -1,9 +1,9 @@
 //! The chunk that a text begins with, and its tokens, in one walk.
 
-ghost use Rattle.std.specs.Prelude.{◌≡◌, ◌+◌, ◌<◌, ◌^◌, ◌==◌, count_by, map, IfOk, IfSome};
+ghost use Rattle.std.specs.Prelude.{◌≡◌, ◌+◌, ◌<◌, ◌^◌, ◌==◌, ℕ, count_by, map, IfOk, IsTrue, if◌then◌else◌};
 ghost use Rattle.std.specs.List.{list_all};
 ghost use Rattle.bz_token.specs.Places.{placed};
-ghost use Rattle.bz_token.specs.FirstChunk.{IsFirstChunk};
+ghost use Rattle.bz_token.specs.FirstChunk.{IsFront};
 ghost use Rattle.bz_token.specs.private.LineEnds.{is_newline_token, is_comment_token, begins_block, line_end};
 
 use crate::cutter::block::opener_at;
@@ -21,6 +21,17 @@ pub struct FirstChunk<'a> {
     pub tokens: &'a [Token<'a>],
     /// What follows the chunk.
     pub rest: &'a str,
+}
+
+/// What a text begins with.
+#[derive(Clone, Copy)]
+pub enum Front<'a> {
+    /// A chunk, whatever follows the text.
+    Chunk(FirstChunk<'a>),
+    /// A chunk that the text ends in: it goes on with what follows.
+    Short,
+    /// It is to be found in another way: a lexical fault stands there, or a block may begin.
+    Other,
 }
 
 // What a logical line says of its chunk.
@@ -77,17 +88,34 @@ fn line_end(line: &[Token<'_>]) -> LineEnd
 // Room for the tokens of most chunks.
 const FIRST_CAPACITY: usize = 128;
 
-/// The chunk that a text begins with, and its tokens, where the text shows that the chunk ends, whatever follows. The
-/// text's first line has this number, and at most so many brackets may be open at once. None: the text does not show
-/// it, the chunk has a lexical fault, or it may begin a block. `Err`: memory was refused.
+// Whether the fault is a string that nothing closes and that begins on this line.
+fn is_open_on(fault: LexFault, at: u64) -> bool
+    ensures { IsTrue result → (col : ℕ) × (fault ≡ LexFault.OpenText at col) }
+{
+    match fault {
+        LexFault::OpenText { line, .. } => line == at,
+        _ => false,
+    }
+}
+
+// What a text begins with that shows no chunk.
+fn short_if(is_short: bool) -> Front<'static>
+    ensures { result ≡ (if is_short then Front.Short else Front.Other) }
+{
+    if is_short { Front::Short } else { Front::Other }
+}
+
+/// The chunk that a text begins with, and its tokens, where the text shows that the chunk ends, whatever follows; or
+/// that the text ends before its chunk does. The text's first line has this number, and at most so many brackets may be
+/// open at once. `Err`: memory was refused.
 pub fn first_chunk<'a>(
     bump: &'a Bump,
     text: &'a str,
     first_line: u64,
     max_depth: u8,
-) -> Result<Option<FirstChunk<'a>>, AllocError>
+) -> Result<Front<'a>, AllocError>
     requires { first_line + count_by (λ b. b == 10) text.now < 2 ^ 64 }
-    ensures chunk { IfOk result (λ o. IfSome o (IsFirstChunk first_line max_depth text.now)) }
+    ensures front { IfOk result (IsFront first_line max_depth text.now) }
 {
     let mut lexer = Lexer::new(bump, FIRST_CAPACITY)?;
     let mut spot = Spot::start(text, first_line);
@@ -97,23 +125,23 @@ pub fn first_chunk<'a>(
         let (next, ends) = match lexer.read_line(spot, max_depth, usize::MAX) {
             Ok(passed) => passed,
             Err(LexFault::OutOfMemory) => return Err(AllocError),
-            Err(_) => return Ok(None),
+            Err(fault) => return Ok(short_if(is_open_on(fault, spot.end_line()))),
         };
         if !ends {
-            return Ok(None);
+            return Ok(short_if(next.rest.is_empty()));
         }
         spot = next;
         match line_end(lexer.tokens_from(line_start)) {
             LineEnd::Joins => line_start = lexer.tokens.len(),
             LineEnd::Ends => {
-                return Ok(Some(FirstChunk {
+                return Ok(Front::Chunk(FirstChunk {
                     text: text.split_at(text.len() - spot.rest.len()).0,
                     tokens: into_bump_slice(lexer.tokens),
                     rest: spot.rest,
                 }));
             }
-            LineEnd::Block => return Ok(None),
+            LineEnd::Block => return Ok(Front::Other),
         }
     }
-    Ok(None)
+    Ok(Front::Short)
 }

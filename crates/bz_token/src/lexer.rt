@@ -10,7 +10,7 @@ ghost use Rattle.bz_token.specs.Faults.{IsFault};
 ghost use Rattle.bz_token.specs.Lexical.{is_newline};
 ghost use Rattle.bz_token.specs.private.Scans.{opened, bad_fault, misfit_fault, IsLeftOpen};
 ghost use Rattle.bz_token.specs.private.Steps.{IsGapHere, IsTaken, IsRefused};
-ghost use Rattle.bz_token.specs.private.LinesRead.{IsInLine, IsAfterLine};
+ghost use Rattle.bz_token.specs.private.LinesRead.{IsInLine, IsAfterLine, IsOnLine, IsOpenInLine};
 ghost use Rattle.bz_token.specs.private.Progress.{HasRead, Grows, PlacesFit, IsReadTo, PassesWhite};
 
 use crate::brackets::{Brackets, Misfit, innermost, is_bracket_byte};
@@ -122,6 +122,14 @@ impl<'a> Spot<'a> {
             last_line: None,
         }
     }
+
+    /// The line on which the text ends.
+    pub fn end_line(self) -> u64
+        requires { (lexer : _) × IsReadTo lexer self }
+        ensures { result ≡ self.entry.place.line + count_by (λ b. b == 10) self.entry.rest.now }
+    {
+        advance(self.place, self.rest.as_bytes()).line
+    }
 }
 
 /// The tokens that were read, and the brackets that are open after them.
@@ -195,6 +203,7 @@ impl<'b, 'a> Lexer<'b, 'a> {
         ensures shorter { IfOk result (λ passed. length passed.0.rest.now < length spot.entry.rest.now) }
         ensures fault { (first : ℕ) (bytes : List ℕ) (given : List Placed)
             → HasRead first max_depth bytes given self.old spot.entry → IfErr result (IsFault first max_depth bytes) }
+        ensures open_text { IfErr result (IsOnLine spot.entry.place.line) }
     {
         let Spot {
             rest,
@@ -243,6 +252,12 @@ impl<'b, 'a> Lexer<'b, 'a> {
         ensures line { (first : ℕ) (bytes : List ℕ) (start : ℕ)
             → IsInLine first max_depth bytes self.old spot.entry start
             → IfOk result (λ passed. IsTrue passed.1 → IsAfterLine first max_depth bytes self.new passed.0 start) }
+        ensures in_line { (first : ℕ) (bytes : List ℕ) (start : ℕ)
+            → IsInLine first max_depth bytes self.old spot.entry start
+            → IfOk result (λ passed. passed.1 ≡ false → IsInLine first max_depth bytes self.new passed.0 start) }
+        ensures open_text { (first : ℕ) (bytes : List ℕ) (start : ℕ)
+            → IsInLine first max_depth bytes self.old spot.entry start
+            → IfErr result (IsOpenInLine first max_depth bytes start) }
         ensures shorter { IfOk result (λ passed. length passed.0.rest.now < length spot.entry.rest.now) }
         ensures fault { (first : ℕ) (bytes : List ℕ) (given : List Placed)
             → HasRead first max_depth bytes given self.old spot.entry → IfErr result (IsFault first max_depth bytes) }

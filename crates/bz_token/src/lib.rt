@@ -18,7 +18,7 @@ mod table;
 mod token;
 mod utf8;
 
-pub use chunk::{FirstChunk, first_chunk};
+pub use chunk::{FirstChunk, Front, first_chunk};
 pub use cutter::{Cut, Cutter, Next};
 pub use fault::LexFault;
 pub use identifier::is_identifier;

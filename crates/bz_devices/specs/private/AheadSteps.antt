@@ -33,7 +33,6 @@ pub record IsLastLine (ahead : Ahead) (n : ℕ) : Type 0 where
 pub record IsLineAt (ahead : Ahead) (n m : ℕ) : Type 0 where
   pub after : n ≤ m
   pub within : m ≤ length ahead.bytes
-  pub few : length (drop m ahead.bytes) ≤ 8192
   pub line : IsLine (take (m - n) (drop n ahead.bytes)) ⊎ (m ≡ length ahead.bytes) × IsLastLine ahead n
 
 -- something follows the first n bytes, or may follow them

@@ -1,13 +1,17 @@
 -- What the script on the next chunk answers, for private clauses.
-use Rattle.std.specs.Prelude.{ℕ, ◌+◌, ◌≤◌, Bool, List, take}
+use Rattle.std.specs.Prelude.{◌≡◌, ℕ, ◌+◌, ◌*◌, ◌≤◌, Bool, List, length, take}
+use Rattle.bz_token.specs.Cuts.{IsPart}
 use Rattle.bz_tree.specs.Tree.{Statement}
 use Rattle.bz_command.specs.Labels.{Package}
-use Rattle.bz_devices.specs.Ahead.{Ahead, IsNextChunk}
+use Rattle.bz_devices.specs.Ahead.{Ahead, IsNextChunk, IsFewAfter}
+use Rattle.bz_passes.specs.Exchange.{Fits}
 use Rattle.bz_engine.specs.Outcome.{Script}
 use Rattle.bz_engine.specs.Progress.{Progress, IsKeptOf}
 use Rattle.bz_engine.specs.SessionValue.{SessionValue}
 use Rattle.bz_engine.specs.private.Edits.{IsEdited}
 use Rattle.bz_engine.specs.declared.next_chunk.NextChunk.{NextChunk}
+use Rattle.bz_engine.specs.declared.next_chunk.First.{First}
+use Rattle.bz_engine.specs.declared.next_chunk.First.TheVariants.{Edited, Short, Other}
 
 -- The chunk stands ahead, it is not too long, and this is what the script made of it.
 pub record IsFirstEdited (home : Package) (passes : Script) (keep_going : Bool) (max_depth max_statement : ℕ) (ahead : Ahead)
@@ -17,7 +21,23 @@ pub record IsFirstEdited (home : Package) (passes : Script) (keep_going : Bool) 
   pub edited : (cs : List (List ℕ)) (statements : List Statement) → IsKeptOf home passes max_depth cs statements old
       → IsEdited home passes keep_going max_depth cs statements (take next.len ahead.bytes) old new text_before text_following next.edited
 
+-- The script was run on the first chunk ahead; or nothing was done, and all that is ahead is a part of it; or nothing was done.
+abbrev pub IsFirst : Package → Script → Bool → ℕ → ℕ → Ahead → Progress → Progress → List ℕ → List ℕ → First → Type 0
+IsFirst home passes keep_going max_depth max_statement ahead old new before after (Edited next) = IsFirstEdited home passes keep_going max_depth max_statement ahead old new before after next
+IsFirst home passes keep_going max_depth max_statement ahead old new before after Short = IsPart ahead.bytes × (new ≡ old) × (after ≡ before)
+IsFirst home passes keep_going max_depth max_statement ahead old new before after Other = (new ≡ old) × (after ≡ before)
+
 -- the same of a session
+abbrev pub IsFirstNext : SessionValue → SessionValue → List ℕ → List ℕ → First → Type 0
+IsFirstNext old new before after first = IsFirst old.home old.passes old.options.keep_going old.options.max_depth old.options.max_statement
+    new.ahead old.progress new.progress before after first
+
 abbrev pub IsNextEdited : SessionValue → SessionValue → List ℕ → List ℕ → NextChunk → Type 0
 IsNextEdited old new before after next = IsFirstEdited old.home old.passes old.options.keep_going old.options.max_depth old.options.max_statement
     new.ahead old.progress new.progress before after next
+
+-- A session that can take a chunk, though more is ahead than between two chunks.
+pub record CanTake (v : SessionValue) : Type 0 where
+  pub fits : Fits v.progress.kept v.passes
+  pub few : IsFewAfter v.ahead
+  pub lines : v.progress.line + length v.ahead.bytes ≤ 1 + 8192 * v.ahead.reads

@@ -1,6 +1,8 @@
 -- For private clauses: the lines of a chunk, as far as they were read.
 use Rattle.std.specs.Prelude.{◌≡◌, ℕ, List, [], ◌∷◌, ◌++◌, length, true, false}
 use Rattle.std.specs.List.{list_any}
+use Rattle.bz_token.specs.declared.fault.LexFault.{LexFault}
+use Rattle.bz_token.specs.declared.fault.LexFault.TheVariants.{OpenText}
 use Rattle.bz_token.specs.declared.lexer.Lexer.{Lexer}
 use Rattle.bz_token.specs.declared.lexer.Spot.{Spot}
 use Rattle.bz_token.specs.Brackets.{is_line}
@@ -34,3 +36,13 @@ pub record IsAfterLine (first depth : ℕ) (bytes : List ℕ) (lexer : Lexer) (s
   pub none : list_any is_newline_piece line ≡ false
   pub newline : is_line last.kind ≡ true
   pub start_is : start ≡ length done
+
+-- a string that nothing closes begins on this line
+abbrev pub IsOnLine : ℕ → LexFault → Type 0
+IsOnLine at fault = (line : ℕ) (col : ℕ) → fault ≡ OpenText line col → line ≡ at
+
+-- After comment lines and the front of a line stands a string that nothing closes.
+abbrev pub IsOpenInLine : ℕ → ℕ → List ℕ → ℕ → LexFault → Type 0
+IsOpenInLine first depth bytes start fault =
+    (line : ℕ) (col : ℕ) → fault ≡ OpenText line col
+    → (lexer : Lexer) × (spot : Spot) × IsInLine first depth bytes lexer spot start × (spot.place.line ≡ line)

@@ -1,10 +1,10 @@
-use Rattle.std.proofs.Common.{◌++◌, ◌∙◌, [], refl, subst, arith}
+use Rattle.std.proofs.Common.{◌≤◌, ◌++◌, ◌∙◌, [], length, refl, subst, arith}
 use Rattle.std.proofs.lemmas.Result.{err_from_is_err_and}
 use Rattle.bz_devices.specs.private.AheadSteps.{IsLineAt}
 use Rattle.bz_devices.specs.declared.ahead.ChunkFault.TheVariants.{InputTooLong, StatementTooLong}
 use Rattle.bz_devices.proofs.PassedOn.{passed_on}
 use Rattle.bz_devices.proofs.ReadOn.{read_nothing, read_then, needed_then, grows}
-use Rattle.bz_devices.proofs.ChunkAhead.{goes_first, goes_read, last_end, chunk_end}
+use Rattle.bz_devices.proofs.ChunkAhead.{goes_first, goes_read, last_end, chunk_end, few_left}
 use Rattle.bz_devices.proofs.ahead.chunk_end.Goals as goal
 
 pub loop-next-init : goal.loop-next-init
@@ -18,7 +18,7 @@ loop-next-init g c = (
     goes_on = goes_first c.new-cutter.result c.args.ahead.now c.new-cutter.ensures.part c.new-cutter.ensures.after c.new-cutter.ensures.awaits;
     within = omega arith;
     few = c.requires.few;
-    bound = omega (arith, c.requires.few);
+    bound = c.requires.bound;
   },
 )
 
@@ -118,8 +118,9 @@ returns-then-is_end-clause-end g c =
     let line = c.in_ok-next.ensures.line in
     let new = c.ends_chunk.new.ahead in
     let read = c.in_ok-is_end.ensures.read in
-    chunk_end new n (omega (arith, line.after, c.if-next-end.false)) (omega (arith, line.within, grows c.args.max_reads c.read_line.new.ahead new read.0 read.2))
-    c.in_ok-is_end.ensures.left (c.in_ok-is_end.ensures.ends c.if-is_end.true)
+    let within : n ≤ length new.bytes = omega (arith, line.within, grows c.args.max_reads c.read_line.new.ahead new read.0 read.2) in
+    let ends = c.in_ok-is_end.ensures.ends c.if-is_end.true in
+    chunk_end new n (omega (arith, line.after, c.if-next-end.false)) within (few_left n new within ends c.in_ok-is_end.ensures.few) ends
 
 pub loop-next-preserved : goal.loop-next-preserved
 loop-next-preserved g c =
@@ -139,7 +140,7 @@ loop-next-preserved g c =
         steady = c.in_ok-is_end.ensures.steady (λ e. cc) ∙ (c.in_ok-next.ensures.steady (λ e. cc) ∙ before.1.steady);
         goes_on = c.in_ok-is_end.ensures.goes c.if-is_end.false;
         within = omega (arith, c.in_ok-next.ensures.line.within, grows max c.read_line.new.ahead new read.0 read.2);
-        few = c.in_ok-is_end.ensures.left;
+        few = c.in_ok-is_end.ensures.few;
         bound = c.in_ok-is_end.ensures.bound;
       },
     )

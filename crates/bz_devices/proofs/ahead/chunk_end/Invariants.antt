@@ -1,5 +1,5 @@
 use Rattle.std.proofs.Common.{◌≡◌, ◌≤◌, ◌+◌, ◌-◌, ◌*◌, List, ℕ, length, drop}
-use Rattle.bz_devices.specs.Ahead.{IsReadOn, AreNeeded}
+use Rattle.bz_devices.specs.Ahead.{IsReadOn, AreNeeded, IsFewAfter}
 use Rattle.bz_devices.specs.private.AheadSteps.{GoesOn}
 use Rattle.bz_devices.proofs.ahead.chunk_end.Given as goal
 
@@ -12,7 +12,7 @@ invariant-loop-next g l = (pieces : List (List ℕ)) × record {
   steady : g.S.Source.failures l.source ≡ g.S.Source.failures l.initial.source;
   goes_on : GoesOn l.cutter l.ahead l.end;
   within : l.end ≤ length l.ahead.bytes;
-  few : length (drop l.end l.ahead.bytes) ≤ 8192;
+  few : IsFewAfter l.ahead;
   bound : length l.ahead.bytes ≤ l.max_statement + 8192;
 }
 

@@ -1,4 +1,4 @@
-use Rattle.std.proofs.Common.{false, ◌≡◌, ◌++◌, ◌∙◌, ◌-◌, [], length, take, drop, refl, sym, ap, subst, arith, length-drop}
+use Rattle.std.proofs.Common.{false, ◌≡◌, ◌<◌, ◌++◌, ◌∙◌, ◌-◌, [], length, take, drop, refl, sym, ap, subst, arith, length-drop}
 use Rattle.std.proofs.lemmas.Result.{err_from_is_err_and}
 use Rattle.bz_token.specs.Cuts.{IsBlock}
 use Rattle.bz_token.specs.CutterState.{IsAfter}
@@ -7,7 +7,7 @@ use Rattle.bz_devices.specs.declared.ahead.ChunkFault.TheVariants.{InputTooLong}
 use Rattle.bz_devices.proofs.PassedOn.{passed_on}
 use Rattle.bz_devices.proofs.ReadOn.{read_nothing, read_then, needed_one, needed_then, grows, front_stays}
 use Rattle.bz_devices.proofs.ChunkLines.{slice_is}
-use Rattle.bz_devices.proofs.ChunkAhead.{block_ends, block_goes, too_long_block, block_undecided, fitting_ahead}
+use Rattle.bz_devices.proofs.ChunkAhead.{block_ends, block_goes, too_long_block, block_undecided, fitting_ahead, few_block}
 use Rattle.bz_devices.proofs.ahead.ends_block.Goals as goal
 
 pub loop-ahead-init : goal.loop-ahead-init
@@ -74,6 +74,7 @@ loop-ahead-preserved g c =
     let seen = c.bytes.result.now in
     let short = c.in-Short.ensures.next (take e old.bytes) inv.after in
     let undecided = block_undecided c.args.max_statement e old (take (length seen - e) (drop e seen)) c.is_ended.result (slice_is seen old.bytes e c.bytes.ensures) c.if-end-max_statement.false short in
+    let here : length old.bytes - e < 5 = omega (arith, short.1, ap length (slice_is seen old.bytes e c.bytes.ensures), length-drop e old.bytes) in
     let needed = needed_one max c.args.max_statement old new read.0 read.2 (omega (arith, c.in_ok-read-in-Short.ensures.one)) undecided in (
       c.loop-ahead.invariant.0 ++ read.0,
       record {
@@ -85,8 +86,8 @@ loop-ahead-preserved g c =
         after = subst (λ l. IsAfter c.goes_on.new.self l) (sym front) (c.in-Short.ensures.after (take e old.bytes) inv.after);
         block = subst (λ l. IsBlock l) (sym front) inv.block;
         within = omega (arith, inv.within, grows max old new read.0 read.2);
-        few = omega (arith, inv.within, inv.few, read.3, length-drop e old.bytes, length-drop e new.bytes, grows max old new read.0 read.2, ap length c.bytes-in-Short.ensures);
-        bound = omega (arith, inv.within, read.3, grows max old new read.0 read.2, ap length c.bytes-in-Short.ensures, c.if-end-max_statement.false);
+        few = few_block max e old new read.0 read.2 (omega (arith, inv.within, read.3, here, ap length c.bytes-in-Short.ensures)) inv.within inv.block;
+        bound = omega (arith, inv.within, read.3, here, grows max old new read.0 read.2, ap length c.bytes-in-Short.ensures, c.if-end-max_statement.false);
       },
     )
 
@@ -125,3 +126,11 @@ returns-in_err-read-in-Short-clause-input_too_long g c is =
       subst (λ a. IsUncertain a) (sym same) undecided.uncertain,
       subst (λ a. IsTooLong c.args.max_statement a → ⊥) (sym same) (fitting_ahead c.args.max_statement ahead ended undecided),
     )
+
+pub overflow_sub-most-in-Short : goal.overflow_sub-most-in-Short
+overflow_sub-most-in-Short g c =
+    let ahead = c.loop-ahead.ahead in
+    let e = c.args.end in
+    let seen = c.bytes.result.now in
+    let short = c.in-Short.ensures.next (take e ahead.bytes) c.loop-ahead.invariant.1.after in
+    omega (arith, short.1, ap length (slice_is seen ahead.bytes e c.bytes.ensures), length-drop e ahead.bytes, ap length c.bytes-in-Short.ensures)

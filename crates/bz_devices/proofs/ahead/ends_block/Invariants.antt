@@ -1,7 +1,7 @@
 use Rattle.std.proofs.Common.{◌≡◌, ◌≤◌, ◌+◌, ◌-◌, List, ℕ, length, take, drop}
 use Rattle.bz_token.specs.Cuts.{IsBlock}
 use Rattle.bz_token.specs.CutterState.{IsAfter, IsAtBlock}
-use Rattle.bz_devices.specs.Ahead.{IsReadOn, AreNeeded}
+use Rattle.bz_devices.specs.Ahead.{IsReadOn, AreNeeded, IsFewAfter}
 use Rattle.bz_devices.proofs.ahead.ends_block.Given as goal
 
 -- the cutter waits after the block
@@ -15,7 +15,7 @@ invariant-loop-ahead g l = (pieces : List (List ℕ)) × record {
   after : IsAfter l.cutter (take l.end l.ahead.bytes);
   block : IsBlock (take l.end l.ahead.bytes);
   within : l.end ≤ length l.ahead.bytes;
-  few : length (drop l.end l.ahead.bytes) ≤ 8192;
+  few : IsFewAfter l.ahead;
   bound : length l.ahead.bytes ≤ l.max_statement + 8192;
 }
 

@@ -4,8 +4,8 @@ use Rattle.bz_devices.specs.declared.ahead.ChunkFault.TheVariants.{InputTooLong,
 use Rattle.bz_devices.proofs.PassedOn.{passed_on, not_passed_on}
 use Rattle.bz_devices.proofs.ReadOn.{read_nothing, read_then, needed_one, needed_then, rises_from, grows}
 use Rattle.bz_devices.specs.Ahead.{IsTooLong, IsUncertain}
-use Rattle.bz_devices.proofs.ChunkAhead.{too_long_line, line_undecided, begun_read, fitting_ahead}
-use Rattle.bz_devices.proofs.LineAhead.{passed_none, line_found, open_there, line_last, passed_all, few_new}
+use Rattle.bz_devices.proofs.ChunkAhead.{too_long_line, line_undecided, begun_read, fitting_ahead, few_read}
+use Rattle.bz_devices.proofs.LineAhead.{passed_none, line_found, open_there, line_last, passed_all}
 use Rattle.bz_devices.proofs.ahead.read_line.Goals as goal
 
 pub loop-n-init : goal.loop-n-init
@@ -29,7 +29,7 @@ pub returns-in-Some-clause-line : goal.returns-in-Some-clause-line
 returns-in-Some-clause-line g c =
     let inv = c.loop-n.invariant.1 in
     line_found c.loop-n.ahead c.bytes.result.now c.args.from c.loop-n.searched c.in-Some.n c.bytes.ensures inv.after
-    (omega (arith, inv.within, ap length c.bytes.ensures)) inv.few inv.passed c.in-Some.ensures.within.1 c.in-Some.ensures.line
+    (omega (arith, inv.within, ap length c.bytes.ensures)) inv.passed c.in-Some.ensures.within.1 c.in-Some.ensures.line
 
 pub returns-then-is_ended-clause-line : goal.returns-then-is_ended-clause-line
 returns-then-is_ended-clause-line g c =
@@ -69,7 +69,7 @@ loop-n-preserved g c =
         steady = c.in_ok-read.ensures.steady (λ e. cc) ∙ inv.steady;
         after = within;
         within = omega (arith, grows max old new read.0 read.2, ap length same);
-        few = few_new max old new seen read.0 same read.2 (omega (arith, read.3));
+        few = few_read max c.args.from old new read.0 read.2 (omega (arith, read.3)) fits inv.begun here;
         bound = omega (arith, grows max old new read.0 read.2, read.3, ap length same, c.if-searched-max_statement.false);
         passed = passed_all max old new seen read.0 c.args.from same read.2 within here;
       },

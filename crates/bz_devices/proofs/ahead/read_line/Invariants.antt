@@ -1,5 +1,5 @@
 use Rattle.std.proofs.Common.{◌≡◌, ◌≤◌, ◌+◌, ◌-◌, List, ℕ, length, take, drop}
-use Rattle.bz_devices.specs.Ahead.{IsReadOn, AreNeeded}
+use Rattle.bz_devices.specs.Ahead.{IsReadOn, AreNeeded, IsFewAfter}
 use Rattle.bz_devices.specs.private.AheadSteps.{IsOpen, IsBegun}
 use Rattle.bz_devices.proofs.ahead.read_line.Given as goal
 
@@ -13,7 +13,7 @@ invariant-loop-n g l = (pieces : List (List ℕ)) × record {
   steady : g.S.Source.failures l.source ≡ g.S.Source.failures l.initial.source;
   after : l.from ≤ l.searched;
   within : l.searched ≤ length l.ahead.bytes;
-  few : length (drop l.searched l.ahead.bytes) ≤ 8192;
+  few : IsFewAfter l.ahead;
   bound : length l.ahead.bytes ≤ l.max_statement + 8192;
   passed : IsOpen (take (l.searched - l.from) (drop l.from l.ahead.bytes));
 }

@@ -1,7 +1,9 @@
-use Rattle.std.proofs.Common.{rules, tests, ◌≡◌, ◌∙◌, sym, refl, ap, map, length}
+use Rattle.std.proofs.Common.{rules, tests, arith, ◌≡◌, ◌∙◌, [], sym, refl, ap, map, length}
 use Rattle.bz_token.specs.Places.{placed}
 use Rattle.bz_token.specs.private.LineEnds.{line_end}
 use Rattle.bz_token.proofs.LinesRead.{started, start_within, joined, front, front_within, front_boundary, shown, first_chunk_is}
+use Rattle.bz_token.proofs.Progress.{empty_from_test}
+use Rattle.bz_token.proofs.OpenLines.{text_part, last_line_left, none_left, short_front}
 use Rattle.bz_token.proofs.chunk.first_chunk.Goals as goal
 
 pub loop-spot-init : goal.loop-spot-init
@@ -41,4 +43,29 @@ returns-in-Ends c =
     let a = c.in-Ok.ensures.line c.args.first_line c.args.text.now c.loop-spot.line_start i (search (rules, tests)) in
     let told = ap (λ ts. line_end (map placed ts)) (sym c.tokens_from.ensures) ∙ sym c.line_end.ensures ∙ c.in-Ends.is in
     let f = front _ _ _ _ _ _ a in
-    record { chunk = first_chunk_is _ _ _ _ _ _ _ f refl c.split_at.ensures.front c.into_bump_slice.ensures (shown _ _ _ _ _ _ a told) }
+    record { front = first_chunk_is _ _ _ _ _ _ _ f refl c.split_at.ensures.front c.into_bump_slice.ensures (shown _ _ _ _ _ _ a told) }
+
+pub end_line-requires : goal.end_line-requires
+end_line-requires c = (c.loop-spot.lexer, (c.args.first_line, c.args.max_depth, c.args.text.now, [], c.loop-spot.invariant.read, search (rules, tests, arith)))
+
+pub returns-in-Err : goal.returns-in-Err
+returns-in-Err c =
+    let i = c.loop-spot.invariant in
+    record {
+      front = short_front _ _ _ c.is_open_on.result _ c.short_if.ensures (λ is.
+          let at = c.is_open_on.ensures is in
+          let found = c.in-Err.ensures.open_text c.args.first_line c.args.text.now c.loop-spot.line_start i c.end_line.result at.0 at.1 in
+          text_part _ _ _ found.0 found.1 _ found.2 (last_line_left _ _ _ c.loop-spot.lexer found.0 c.loop-spot.spot found.1 c.end_line.result i.read found.2.read c.end_line.ensures found.3));
+    }
+
+pub returns-then-not-ends : goal.returns-then-not-ends
+returns-then-not-ends c =
+    let i = c.loop-spot.invariant in
+    record {
+      front = short_front _ _ _ c.is_empty-then-not-ends.result _ c.short_if-then-not-ends.ensures (λ is.
+          text_part _ _ _ c.read_line.new.self c.in-Ok.passed.0 _ (c.in-Ok.ensures.in_line c.args.first_line c.args.text.now c.loop-spot.line_start i (search (rules, tests)))
+          (none_left _ (empty_from_test _ (sym c.is_empty-then-not-ends.ensures ∙ is))));
+    }
+
+pub returns : goal.returns
+returns c = record { front = text_part _ _ _ c.loop-spot.lexer c.loop-spot.spot _ c.loop-spot.invariant (none_left _ (empty_from_test c.loop-spot.spot.rest.now (search (rules, tests)))) }

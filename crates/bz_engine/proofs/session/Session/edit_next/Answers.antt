@@ -1,404 +1,122 @@
-use Rattle.std.proofs.Common.{◌≡◌, ◌≤◌, ◌<◌, ◌+◌, ◌^◌, length, refl, ◌∙◌, [], ap, sym, subst}
-use Rattle.std.specs.Prelude.{Err, IsTrue}
+use Rattle.std.proofs.Common.{◌≡◌, ◌≤◌, ◌+◌, ◌++◌, ◌∙◌, [], length, refl, sym, ap, subst, arith}
+use Rattle.std.proofs.lemmas.Bool.{false≢true}
 use Rattle.std.proofs.lemmas.Result.{err_from_is_err_and}
-use Rattle.bz_engine.specs.declared.run_fault.RunFault.TheVariants.{OutOfMemory, ReadFailed, WriteFailed, InputTooLong, StatementTooLong, Stopped}
-use Rattle.bz_devices.specs.Ahead.{IsTooLong, IsReadOn}
+use Rattle.bz_devices.specs.Ahead.{IsTooLong}
+use Rattle.bz_devices.proofs.PassedOn.{passed_on}
+use Rattle.bz_devices.proofs.ReadOn.{read_nothing, read_then}
+use Rattle.bz_devices.specs.Ahead.{IsReadOn}
 use Rattle.bz_engine.specs.contracts.session.Session.{the_view}
-use Rattle.bz_devices.proofs.PassedOn.{passed_on, not_passed_on}
-use Rattle.bz_engine.proofs.Advances.{on_err, some_of, none_of}
-use Rattle.bz_engine.proofs.Faults.{memory_alone}
-use Rattle.bz_engine.proofs.Kept.{lines_fit, session_ahead}
-use Rattle.bz_engine.proofs.Runs.{ok_is_no_err}
-use Rattle.bz_engine.proofs.Stages.{err_on_ok, err_if_ok, with_ahead, few_ahead, with_more, with_edit, next_edited}
-use Rattle.bz_engine.specs.Progress.{Progress}
-use Rattle.bz_engine.specs.declared.next_chunk.NextChunk.{NextChunk}
+use Rattle.bz_engine.specs.declared.run_fault.RunFault.TheVariants.{InputTooLong, ReadFailed}
 use Rattle.bz_engine.specs.SessionValue.{SessionValue}
-use Rattle.bz_engine.specs.private.NextChunks.{IsNextEdited}
-use Rattle.bz_passes.specs.Exchange.{Fits}
+use Rattle.bz_engine.specs.private.NextChunks.{IsFirstNext, CanTake}
+use Rattle.bz_engine.proofs.Kept.{take_read, take_ready}
+use Rattle.bz_engine.proofs.Runs.{ok_is_no_err}
+use Rattle.bz_engine.proofs.Stages.{read_also, options_on, read_alone}
 use Rattle.bz_engine.proofs.session.Session.edit_next.Goals as goal
 
-pub returns-in_err-next-clause-read : goal.returns-in_err-next-clause-read
-returns-in_err-next-clause-read g c = ([], g.met.S.Source.gave_nothing _, c.edit_first.ensures.unread)
+pub loop-next-init : goal.loop-next-init
+loop-next-init g c = (
+  [],
+  record {
+    gave = g.met.S.Source.gave_nothing _;
+    read = read_nothing c.args.self.now.options.max_reads c.args.self.now.ahead c.requires.made;
+    same = refl;
+    text = refl;
+    take = take_ready c.args.self.now c.requires.ready;
+    bound = omega (arith, c.requires.ready.few);
+    steady = refl;
+    few = λ e. c.requires.ready.few;
+  },
+)
 
-pub returns-in-Some-clause-read : goal.returns-in-Some-clause-read
-returns-in-Some-clause-read g c = ([], g.met.S.Source.gave_nothing _, c.edit_first.ensures.unread)
-
-pub returns-in_err-len-clause-uncertain : goal.returns-in_err-len-clause-uncertain
-returns-in_err-len-clause-uncertain g c told =
-    let fault = c.from_residual-in_err-len in
-    let p = err_from_is_err_and fault.result fault.ensures.1 in
-    let there = c.find_chunk.ensures.uncertain (c.in_err-len.was ∙ passed_on fault.result p.0 c.in_err-len.field-0.0 InputTooLong p.1 p.2 told) in
-    let same = ap the_view c.self-inside.view_is ∙ c.self.view_is ∙ c.edit_first.ensures.same in
-    (there.0, λ long. there.1 (subst (λ v. IsTooLong v.options.max_statement c.find_chunk.new.ahead) (sym same) long))
-
-pub returns-in_err-next-clause-too_long : goal.returns-in_err-next-clause-too_long
-returns-in_err-next-clause-too_long g c told =
-    let fault = c.from_residual in
-    let p = err_from_is_err_and fault.result fault.ensures.1 in
-    let only : fault.result ≡ Err OutOfMemory = p.1 ∙ ap Err p.2 in
-    memory_alone fault.result InputTooLong (on_err _ only) refl told
-
-pub returns-in_err-next-clause-uncertain : goal.returns-in_err-next-clause-uncertain
-returns-in_err-next-clause-uncertain g c told =
-    let fault = c.from_residual in
-    let p = err_from_is_err_and fault.result fault.ensures.1 in
-    let only : fault.result ≡ Err OutOfMemory = p.1 ∙ ap Err p.2 in
-    memory_alone fault.result InputTooLong (on_err _ only) refl told
-
-pub returns-in_err-next-clause-failed : goal.returns-in_err-next-clause-failed
-returns-in_err-next-clause-failed g c told =
-    let fault = c.from_residual in
-    let p = err_from_is_err_and fault.result fault.ensures.1 in
-    let only : fault.result ≡ Err OutOfMemory = p.1 ∙ ap Err p.2 in
-    memory_alone fault.result ReadFailed (on_err _ only) refl told
-
-pub returns-in_err-next-clause-statement_too_long : goal.returns-in_err-next-clause-statement_too_long
-returns-in_err-next-clause-statement_too_long g c line told =
-    let fault = c.from_residual in
-    let p = err_from_is_err_and fault.result fault.ensures.1 in
-    let only : fault.result ≡ Err OutOfMemory = p.1 ∙ ap Err p.2 in
-    memory_alone fault.result (StatementTooLong line) (on_err _ only) refl told
-
-pub returns-in_err-next-clause-runs : goal.returns-in_err-next-clause-runs
-returns-in_err-next-clause-runs g c =
-    let fault = c.from_residual in
-    let p = err_from_is_err_and fault.result fault.ensures.1 in
-    let only : fault.result ≡ Err OutOfMemory = p.1 ∙ ap Err p.2 in
-    (λ told. memory_alone fault.result Stopped (on_err _ only) refl told, λ told. memory_alone fault.result WriteFailed (on_err _ only) refl told)
-
-pub returns-in_err-next-clause-chunk : goal.returns-in_err-next-clause-chunk
-returns-in_err-next-clause-chunk g c =
-    let fault = c.from_residual in
-    let p = err_from_is_err_and fault.result fault.ensures.1 in
-    err_if_ok _ fault.result p.0 p.1
-
-pub returns-in_err-next-clause-none : goal.returns-in_err-next-clause-none
-returns-in_err-next-clause-none g c =
-    let fault = c.from_residual in
-    let p = err_from_is_err_and fault.result fault.ensures.1 in
-    err_if_ok _ fault.result p.0 p.1
-
-pub returns-in_err-next-clause-fits : goal.returns-in_err-next-clause-fits
-returns-in_err-next-clause-fits g c =
-    let fault = c.from_residual in
-    let p = err_from_is_err_and fault.result fault.ensures.1 in
-    err_on_ok _ fault.result p.0 p.1
-
-pub returns-in_err-edited-clause-too_long : goal.returns-in_err-edited-clause-too_long
-returns-in_err-edited-clause-too_long g c told =
-    let fault = c.from_residual-in_err-edited in
-    let p = err_from_is_err_and fault.result fault.ensures.1 in
-    let only : fault.result ≡ Err OutOfMemory = p.1 ∙ ap Err p.2 in
-    memory_alone fault.result InputTooLong (on_err _ only) refl told
-
-pub returns-in_err-edited-clause-uncertain : goal.returns-in_err-edited-clause-uncertain
-returns-in_err-edited-clause-uncertain g c told =
-    let fault = c.from_residual-in_err-edited in
-    let p = err_from_is_err_and fault.result fault.ensures.1 in
-    let only : fault.result ≡ Err OutOfMemory = p.1 ∙ ap Err p.2 in
-    memory_alone fault.result InputTooLong (on_err _ only) refl told
-
-pub returns-in_err-edited-clause-failed : goal.returns-in_err-edited-clause-failed
-returns-in_err-edited-clause-failed g c told =
-    let fault = c.from_residual-in_err-edited in
-    let p = err_from_is_err_and fault.result fault.ensures.1 in
-    let only : fault.result ≡ Err OutOfMemory = p.1 ∙ ap Err p.2 in
-    memory_alone fault.result ReadFailed (on_err _ only) refl told
-
-pub returns-in_err-edited-clause-statement_too_long : goal.returns-in_err-edited-clause-statement_too_long
-returns-in_err-edited-clause-statement_too_long g c line told =
-    let fault = c.from_residual-in_err-edited in
-    let p = err_from_is_err_and fault.result fault.ensures.1 in
-    let only : fault.result ≡ Err OutOfMemory = p.1 ∙ ap Err p.2 in
-    memory_alone fault.result (StatementTooLong line) (on_err _ only) refl told
-
-pub returns-in_err-edited-clause-runs : goal.returns-in_err-edited-clause-runs
-returns-in_err-edited-clause-runs g c =
-    let fault = c.from_residual-in_err-edited in
-    let p = err_from_is_err_and fault.result fault.ensures.1 in
-    let only : fault.result ≡ Err OutOfMemory = p.1 ∙ ap Err p.2 in
-    (λ told. memory_alone fault.result Stopped (on_err _ only) refl told, λ told. memory_alone fault.result WriteFailed (on_err _ only) refl told)
-
-pub returns-in_err-edited-clause-chunk : goal.returns-in_err-edited-clause-chunk
-returns-in_err-edited-clause-chunk g c =
-    let fault = c.from_residual-in_err-edited in
-    let p = err_from_is_err_and fault.result fault.ensures.1 in
-    err_if_ok _ fault.result p.0 p.1
-
-pub returns-in_err-edited-clause-none : goal.returns-in_err-edited-clause-none
-returns-in_err-edited-clause-none g c =
-    let fault = c.from_residual-in_err-edited in
-    let p = err_from_is_err_and fault.result fault.ensures.1 in
-    err_if_ok _ fault.result p.0 p.1
-
-pub returns-in_err-edited-clause-fits : goal.returns-in_err-edited-clause-fits
-returns-in_err-edited-clause-fits g c =
-    let fault = c.from_residual-in_err-edited in
-    let p = err_from_is_err_and fault.result fault.ensures.1 in
-    err_on_ok _ fault.result p.0 p.1
-
-pub returns-in_err-next-clause-steady : goal.returns-in_err-next-clause-steady
-returns-in_err-next-clause-steady g c other = refl
-
-pub returns-in-Some-clause-steady : goal.returns-in-Some-clause-steady
-returns-in-Some-clause-steady g c other = refl
-
-pub returns-in_err-edited-clause-steady : goal.returns-in_err-edited-clause-steady
-returns-in_err-edited-clause-steady g c other = c.find_chunk.ensures.steady (λ h. ok_is_no_err _ _ ReadFailed c.in_ok-len.was h)
-
-pub returns-in_default-2-clause-steady : goal.returns-in_default-2-clause-steady
-returns-in_default-2-clause-steady g c other = c.find_chunk.ensures.steady (λ h. ok_is_no_err _ _ ReadFailed c.in_ok-len.was h)
-
-pub returns-clause-steady : goal.returns-clause-steady
-returns-clause-steady g c other = c.find_chunk.ensures.steady (λ h. ok_is_no_err _ _ ReadFailed c.in_ok-len.was h)
-
-pub returns-in-Some-clause-too_long : goal.returns-in-Some-clause-too_long
-returns-in-Some-clause-too_long g c told = absurd (ok_is_no_err _ _ InputTooLong refl told)
-
-pub returns-in-Some-clause-uncertain : goal.returns-in-Some-clause-uncertain
-returns-in-Some-clause-uncertain g c told = absurd (ok_is_no_err _ _ InputTooLong refl told)
-
-pub returns-in-Some-clause-failed : goal.returns-in-Some-clause-failed
-returns-in-Some-clause-failed g c told = absurd (ok_is_no_err _ _ ReadFailed refl told)
-
-pub returns-in-Some-clause-statement_too_long : goal.returns-in-Some-clause-statement_too_long
-returns-in-Some-clause-statement_too_long g c line told = absurd (ok_is_no_err _ _ (StatementTooLong line) refl told)
-
-pub returns-in-Some-clause-runs : goal.returns-in-Some-clause-runs
-returns-in-Some-clause-runs g c = (λ told. ok_is_no_err _ _ _ refl told, λ told. ok_is_no_err _ _ _ refl told)
-
-pub returns-in_default-2-clause-too_long : goal.returns-in_default-2-clause-too_long
-returns-in_default-2-clause-too_long g c told = absurd (ok_is_no_err _ _ InputTooLong refl told)
-
-pub returns-in_default-2-clause-uncertain : goal.returns-in_default-2-clause-uncertain
-returns-in_default-2-clause-uncertain g c told = absurd (ok_is_no_err _ _ InputTooLong refl told)
-
-pub returns-in_default-2-clause-failed : goal.returns-in_default-2-clause-failed
-returns-in_default-2-clause-failed g c told = absurd (ok_is_no_err _ _ ReadFailed refl told)
-
-pub returns-in_default-2-clause-statement_too_long : goal.returns-in_default-2-clause-statement_too_long
-returns-in_default-2-clause-statement_too_long g c line told = absurd (ok_is_no_err _ _ (StatementTooLong line) refl told)
-
-pub returns-in_default-2-clause-runs : goal.returns-in_default-2-clause-runs
-returns-in_default-2-clause-runs g c = (λ told. ok_is_no_err _ _ _ refl told, λ told. ok_is_no_err _ _ _ refl told)
-
-pub returns-clause-too_long : goal.returns-clause-too_long
-returns-clause-too_long g c told = absurd (ok_is_no_err _ _ InputTooLong refl told)
-
-pub returns-clause-uncertain : goal.returns-clause-uncertain
-returns-clause-uncertain g c told = absurd (ok_is_no_err _ _ InputTooLong refl told)
-
-pub returns-clause-failed : goal.returns-clause-failed
-returns-clause-failed g c told = absurd (ok_is_no_err _ _ ReadFailed refl told)
-
-pub returns-clause-statement_too_long : goal.returns-clause-statement_too_long
-returns-clause-statement_too_long g c line told = absurd (ok_is_no_err _ _ (StatementTooLong line) refl told)
-
-pub returns-clause-runs : goal.returns-clause-runs
-returns-clause-runs g c = (λ told. ok_is_no_err _ _ _ refl told, λ told. ok_is_no_err _ _ _ refl told)
-
-pub returns-in-Some-clause-none : goal.returns-in-Some-clause-none
-returns-in-Some-clause-none g c = tt
-
-pub returns-clause-none : goal.returns-clause-none
-returns-clause-none g c = tt
-
-pub returns-in_default-2-clause-chunk : goal.returns-in_default-2-clause-chunk
-returns-in_default-2-clause-chunk g c = tt
-
-pub returns-in_err-len-clause-failed : goal.returns-in_err-len-clause-failed
-returns-in_err-len-clause-failed g c told =
-    let fault = c.from_residual-in_err-len in
-    let p = err_from_is_err_and fault.result fault.ensures.1 in
-    c.find_chunk.ensures.failed (c.in_err-len.was ∙ passed_on fault.result p.0 c.in_err-len.field-0.0 ReadFailed p.1 p.2 told)
-
-pub returns-in_err-len-clause-runs : goal.returns-in_err-len-clause-runs
-returns-in_err-len-clause-runs g c =
-    let fault = c.from_residual-in_err-len in
-    let p = err_from_is_err_and fault.result fault.ensures.1 in
-    (λ told. c.find_chunk.ensures.runs.0 (c.in_err-len.was ∙ passed_on fault.result p.0 c.in_err-len.field-0.0 Stopped p.1 p.2 told), λ told. c.find_chunk.ensures.runs.1 (c.in_err-len.was ∙ passed_on fault.result p.0 c.in_err-len.field-0.0 WriteFailed p.1 p.2 told))
-
-pub returns-in_err-len-clause-steady : goal.returns-in_err-len-clause-steady
-returns-in_err-len-clause-steady g c other =
-    let fault = c.from_residual-in_err-len in
-    let p = err_from_is_err_and fault.result fault.ensures.1 in
-    c.find_chunk.ensures.steady (λ h. not_passed_on fault.result p.0 c.in_err-len.field-0.0 ReadFailed p.1 p.2 other (sym c.in_err-len.was ∙ h))
-
-pub returns-in_err-len-clause-chunk : goal.returns-in_err-len-clause-chunk
-returns-in_err-len-clause-chunk g c =
-    let fault = c.from_residual-in_err-len in
-    let p = err_from_is_err_and fault.result fault.ensures.1 in
-    err_if_ok _ fault.result p.0 p.1
-
-pub returns-in_err-len-clause-none : goal.returns-in_err-len-clause-none
-returns-in_err-len-clause-none g c =
-    let fault = c.from_residual-in_err-len in
-    let p = err_from_is_err_and fault.result fault.ensures.1 in
-    err_if_ok _ fault.result p.0 p.1
-
-pub returns-in_err-len-clause-fits : goal.returns-in_err-len-clause-fits
-returns-in_err-len-clause-fits g c =
-    let fault = c.from_residual-in_err-len in
-    let p = err_from_is_err_and fault.result fault.ensures.1 in
-    err_on_ok _ fault.result p.0 p.1
-
-pub returns-in_err-next-clause-same : goal.returns-in_err-next-clause-same
-returns-in_err-next-clause-same g c = with_ahead c.args.self.now c.edit_first.new.self c.edit_first.ensures.same
-
-pub returns-in_err-next-clause-bound : goal.returns-in_err-next-clause-bound
-returns-in_err-next-clause-bound g c = few_ahead c.args.self.now c.edit_first.new.self c.edit_first.ensures.same c.requires.ready.few
-
-pub returns-in-Some-clause-same : goal.returns-in-Some-clause-same
-returns-in-Some-clause-same g c = with_ahead c.args.self.now c.edit_first.new.self c.edit_first.ensures.same
-
-pub returns-in-Some-clause-bound : goal.returns-in-Some-clause-bound
-returns-in-Some-clause-bound g c = few_ahead c.args.self.now c.edit_first.new.self c.edit_first.ensures.same c.requires.ready.few
-
-pub returns-in_err-len-clause-too_long : goal.returns-in_err-len-clause-too_long
-returns-in_err-len-clause-too_long g c told =
-    let same = ap the_view c.self-inside.view_is ∙ c.self.view_is ∙ c.edit_first.ensures.same in
-    let fault = c.from_residual-in_err-len in
-    let p = err_from_is_err_and fault.result fault.ensures.1 in
-    let full = c.find_chunk.ensures.too_long (c.in_err-len.was ∙ passed_on fault.result p.0 c.in_err-len.field-0.0 InputTooLong p.1 p.2 told) in
-    (full.0 ∙ ap (λ v. v.options.max_reads) same, full.1)
-
-pub returns-in_err-len-clause-statement_too_long : goal.returns-in_err-len-clause-statement_too_long
-returns-in_err-len-clause-statement_too_long g c line told =
-    let same = ap the_view c.self-inside.view_is ∙ c.self.view_is ∙ c.edit_first.ensures.same in
-    let none = none_of ((c.edit_first.new.self.progress ≡ c.args.self.now.progress) × (c.edit_first.new.text.items ≡ c.args.text.now.items)) _ c.in_ok-next.ensures.none c.in_default.is in
-    let fault = c.from_residual-in_err-len in
-    let p = err_from_is_err_and fault.result fault.ensures.1 in
-    let long = c.find_chunk.ensures.statement_too_long line (c.in_err-len.was ∙ passed_on fault.result p.0 c.in_err-len.field-0.0 (StatementTooLong line) p.1 p.2 told) in (
-      long.0 ∙ ap (λ v. v.progress.line) (ap the_view c.self-inside.view_is ∙ c.self.view_is) ∙ ap (λ p. p.line) none.0,
-      subst (λ v. IsTooLong v.options.max_statement c.find_chunk.new.ahead) same long.1,
+pub returns-in_err-read_more-in-Short-clause-read : goal.returns-in_err-read_more-in-Short-clause-read
+returns-in_err-read_more-in-Short-clause-read g c =
+    let inv = c.loop-next.invariant in
+    let read = c.read_more.ensures.read in (
+      inv.0 ++ read.0,
+      g.met.S.Source.gave_more _ _ _ _ _ inv.1.gave read.1,
+      read_also c.args.self.now c.loop-next.self c.edit_first.new.self _ c.read_more.new.ahead inv.0 read.0 inv.1.same c.edit_first.ensures.same (ap the_view c.self-inside.view_is ∙ c.self.view_is) inv.1.read read.2,
     )
 
-pub returns-in_err-len-clause-bound : goal.returns-in_err-len-clause-bound
-returns-in_err-len-clause-bound g c =
-    let same = ap the_view c.self-inside.view_is ∙ c.self.view_is ∙ c.edit_first.ensures.same in
-    subst (λ v. length c.find_chunk.new.ahead.bytes ≤ v.options.max_statement + 8192) same c.find_chunk.ensures.bound
+pub returns-in_err-read_more-in-Short-clause-uncertain : goal.returns-in_err-read_more-in-Short-clause-uncertain
+returns-in_err-read_more-in-Short-clause-uncertain g c told =
+    let fault = c.from_residual-in_err-read_more-in-Short in
+    let p = err_from_is_err_and fault.result fault.ensures.1 in
+    let there = c.read_more.ensures.uncertain (c.in_err-read_more-in-Short.was ∙ passed_on fault.result p.0 c.in_err-read_more-in-Short.field-0.0 InputTooLong p.1 p.2 told) in
+    let same = options_on c.args.self.now c.loop-next.self c.edit_first.new.self _ c.loop-next.invariant.1.same c.edit_first.ensures.same (ap the_view c.self-inside.view_is ∙ c.self.view_is) in
+    (there.0, λ long. there.1 (subst (λ o. IsTooLong o.max_statement c.read_more.new.ahead) (sym same) long))
 
-pub returns-in_err-len-clause-read : goal.returns-in_err-len-clause-read
-returns-in_err-len-clause-read g c =
-    let same = ap the_view c.self-inside.view_is ∙ c.self.view_is ∙ c.edit_first.ensures.same in
-    let read = c.find_chunk.ensures.read in
-    (read.0, read.1, subst (λ v. IsReadOn v.options.max_reads v.ahead c.find_chunk.new.ahead read.0) same read.2)
-
-pub returns-in_default-2-clause-bound : goal.returns-in_default-2-clause-bound
-returns-in_default-2-clause-bound g c =
-    let same = ap the_view c.self-inside.view_is ∙ c.self.view_is ∙ c.edit_first.ensures.same in
-    subst (λ v. length c.find_chunk.new.ahead.bytes ≤ v.options.max_statement + 8192) same c.find_chunk.ensures.bound
-
-pub returns-in_default-2-clause-read : goal.returns-in_default-2-clause-read
-returns-in_default-2-clause-read g c =
-    let same = ap the_view c.self-inside.view_is ∙ c.self.view_is ∙ c.edit_first.ensures.same in
-    let read = c.find_chunk.ensures.read in
-    (read.0, read.1, subst (λ v. IsReadOn v.options.max_reads v.ahead c.find_chunk.new.ahead read.0) same read.2)
-
-pub returns-in_err-edited-clause-bound : goal.returns-in_err-edited-clause-bound
-returns-in_err-edited-clause-bound g c =
-    let same = ap the_view c.self-inside.view_is ∙ c.self.view_is ∙ c.edit_first.ensures.same in
-    subst (λ a. length a.bytes ≤ c.args.self.now.options.max_statement + 8192) (sym (ap (λ v. v.ahead) c.edit.ensures.same))
-    (subst (λ v. length c.find_chunk.new.ahead.bytes ≤ v.options.max_statement + 8192) same c.find_chunk.ensures.bound)
-
-pub returns-in_err-edited-clause-read : goal.returns-in_err-edited-clause-read
-returns-in_err-edited-clause-read g c =
-    let same = ap the_view c.self-inside.view_is ∙ c.self.view_is ∙ c.edit_first.ensures.same in
-    let read = c.find_chunk.ensures.read in (
-      read.0,
-      read.1,
-      subst (λ a. IsReadOn c.args.self.now.options.max_reads c.args.self.now.ahead a read.0) (sym (ap (λ v. v.ahead) c.edit.ensures.same))
-          (subst (λ v. IsReadOn v.options.max_reads v.ahead c.find_chunk.new.ahead read.0) same read.2),
-    )
-
-pub returns-clause-bound : goal.returns-clause-bound
-returns-clause-bound g c =
-    let same = ap the_view c.self-inside.view_is ∙ c.self.view_is ∙ c.edit_first.ensures.same in
-    subst (λ a. length a.bytes ≤ c.args.self.now.options.max_statement + 8192) (sym (ap (λ v. v.ahead) c.edit.ensures.same))
-    (subst (λ v. length c.find_chunk.new.ahead.bytes ≤ v.options.max_statement + 8192) same c.find_chunk.ensures.bound)
-
-pub returns-clause-read : goal.returns-clause-read
-returns-clause-read g c =
-    let same = ap the_view c.self-inside.view_is ∙ c.self.view_is ∙ c.edit_first.ensures.same in
-    let read = c.find_chunk.ensures.read in (
-      read.0,
-      read.1,
-      subst (λ a. IsReadOn c.args.self.now.options.max_reads c.args.self.now.ahead a read.0) (sym (ap (λ v. v.ahead) c.edit.ensures.same))
-          (subst (λ v. IsReadOn v.options.max_reads v.ahead c.find_chunk.new.ahead read.0) same read.2),
-    )
-
-pub returns-clause-fits : goal.returns-clause-fits
-returns-clause-fits g c = c.in_ok-edited.ensures.fits
-
-pub returns-in-Some-clause-fits : goal.returns-in-Some-clause-fits
-returns-in-Some-clause-fits g c = c.in_ok-next.ensures.fits
-
-pub returns-in_default-2-clause-fits : goal.returns-in_default-2-clause-fits
-returns-in_default-2-clause-fits g c = subst (λ v. Fits v.progress.kept v.passes) (sym (ap the_view c.self-inside.view_is ∙ c.self.view_is)) c.in_ok-next.ensures.fits
-
-pub returns-in-Some-clause-chunk : goal.returns-in-Some-clause-chunk
-returns-in-Some-clause-chunk g c = some_of (IsNextEdited c.args.self.now c.edit_first.new.self c.args.text.now.items c.edit_first.new.text.items) _ _ c.in_ok-next.ensures.chunk c.in-Some.is
-
-pub returns-in_default-2-clause-none : goal.returns-in_default-2-clause-none
-returns-in_default-2-clause-none g c =
-    let none = none_of ((c.edit_first.new.self.progress ≡ c.args.self.now.progress) × (c.edit_first.new.text.items ≡ c.args.text.now.items)) _ c.in_ok-next.ensures.none c.in_default.is in
-    let over = none_of ((c.find_chunk.new.ahead.bytes ≡ []) × IsTrue c.find_chunk.new.ahead.ended) _ c.in_ok-len.ensures.none c.in_default-2.is in
-    (ap (λ v. v.progress) (ap the_view c.self-inside.view_is ∙ c.self.view_is) ∙ none.0, over.0, over.1)
-
-pub edit_first-requires-clause-ready : goal.edit_first-requires-clause-ready
-edit_first-requires-clause-ready g c = c.requires.ready
-
-pub edit_first-requires-clause-stopped : goal.edit_first-requires-clause-stopped
-edit_first-requires-clause-stopped g c = c.requires.stopped
-
-pub returns-in_err-len-clause-same : goal.returns-in_err-len-clause-same
-returns-in_err-len-clause-same g c = with_more c.args.self.now c.edit_first.new.self _ c.find_chunk.new.ahead (ap the_view c.self-inside.view_is ∙ c.self.view_is) c.edit_first.ensures.same
-
-pub returns-in_default-2-clause-same : goal.returns-in_default-2-clause-same
-returns-in_default-2-clause-same g c = with_more c.args.self.now c.edit_first.new.self _ c.find_chunk.new.ahead (ap the_view c.self-inside.view_is ∙ c.self.view_is) c.edit_first.ensures.same
-
-pub returns-in_err-edited-clause-same : goal.returns-in_err-edited-clause-same
-returns-in_err-edited-clause-same g c = with_edit c.args.self.now _ c.edit.new.self c.find_chunk.new.ahead _
-    (with_more c.args.self.now c.edit_first.new.self _ c.find_chunk.new.ahead (ap the_view c.self-inside.view_is ∙ c.self.view_is) c.edit_first.ensures.same)
-    c.edit.ensures.same
-
-pub returns-clause-same : goal.returns-clause-same
-returns-clause-same g c = with_edit c.args.self.now _ c.edit.new.self c.find_chunk.new.ahead _
-    (with_more c.args.self.now c.edit_first.new.self _ c.find_chunk.new.ahead (ap the_view c.self-inside.view_is ∙ c.self.view_is) c.edit_first.ensures.same)
-    c.edit.ensures.same
-
-pub edit-requires-clause-fits : goal.edit-requires-clause-fits
-edit-requires-clause-fits g c = subst (λ v. Fits v.progress.kept v.passes) (sym (ap the_view c.self-inside.view_is ∙ c.self.view_is)) c.in_ok-next.ensures.fits
-
-pub edit-requires-clause-stopped : goal.edit-requires-clause-stopped
-edit-requires-clause-stopped g c = ap (λ v. v.stage) (ap the_view c.self-inside.view_is ∙ c.self.view_is ∙ c.edit_first.ensures.same) ∙ c.requires.stopped
-
-pub edit-requires-clause-lines : goal.edit-requires-clause-lines
-edit-requires-clause-lines g c =
-    let there = ap the_view c.self-inside.view_is ∙ c.self.view_is in
-    let same = there ∙ c.edit_first.ensures.same in
-    let none = none_of ((c.edit_first.new.self.progress ≡ c.args.self.now.progress) × (c.edit_first.new.text.items ≡ c.args.text.now.items)) _ c.in_ok-next.ensures.none c.in_default.is in
-    let read = c.find_chunk.ensures.read in
-    let next = some_of _ _ c.in-Some-2.len c.in_ok-len.ensures.chunk c.in-Some-2.is in
-    let limit = subst (λ v. v.options.max_reads ≤ 2 ^ 50) (c.self.view_is ∙ c.edit_first.ensures.same) c.self.invariant.limit in
-    let small = lines_fit c.args.self.now c.find_chunk.new.ahead c.in-Some-2.len read.0 c.requires.ready (subst (λ v. IsReadOn v.options.max_reads v.ahead c.find_chunk.new.ahead read.0) same read.2) limit next.within in
-    subst (λ n. n + c.in-Some-2.len < 2 ^ 64) (sym (ap (λ v. v.progress.line) there ∙ ap (λ p. p.line) none.0)) small
-
-pub invariant_of-self : goal.invariant_of-self
-invariant_of-self g c =
-    let read = c.find_chunk.ensures.read in
-    session_ahead _ _ c.find_chunk.new.ahead read.0 (ap the_view c.self-inside.view_is) c.self.invariant (ap (λ v. v.stage) (c.self.view_is ∙ c.edit_first.ensures.same) ∙ c.requires.stopped) read.2
-
-pub returns-clause-chunk : goal.returns-clause-chunk
-returns-clause-chunk g c =
+pub returns-then-not-branch-clause-read : goal.returns-then-not-branch-clause-read
+returns-then-not-branch-clause-read g c =
+    let inv = c.loop-next.invariant in
     let v = c.args.self.now in
-    let mid = c.find_chunk.new.ahead in
+    let read = c.read_more.ensures.read in
+    let more = c.edit_found.ensures.read in
     let there = ap the_view c.self-inside.view_is ∙ c.self.view_is in
-    let none = none_of ((c.edit_first.new.self.progress ≡ c.args.self.now.progress) × (c.edit_first.new.text.items ≡ c.args.text.now.items)) _ c.in_ok-next.ensures.none c.in_default.is in
-    let with_progress : Progress → SessionValue = λ p. record v { ahead = mid; progress = p } in
-    let next = some_of _ _ c.in-Some-2.len c.in_ok-len.ensures.chunk c.in-Some-2.is in
-    let answer : NextChunk = record { len = c.in-Some-2.len; edited = c.in_ok-edited.edited } in
-    subst (λ before. IsNextEdited v c.edit.new.self before c.edit.new.text.items answer) none.1
-    (next_edited v _ c.edit.new.self mid c.edit_first.new.text.items c.edit.new.text.items answer
-    (with_more v c.edit_first.new.self _ mid there c.edit_first.ensures.same ∙ ap with_progress (ap (λ x. x.progress) there ∙ none.0))
-    c.edit.ensures.same next c.in_ok-edited.ensures.lines c.in_ok-edited.ensures.edited)
+    let same = options_on v c.loop-next.self c.edit_first.new.self _ inv.1.same c.edit_first.ensures.same there in (
+      (inv.0 ++ read.0) ++ more.0,
+      g.met.S.Source.gave_more _ _ _ _ _ (g.met.S.Source.gave_more _ _ _ _ _ inv.1.gave read.1) more.1,
+      read_then v.options.max_reads v.ahead c.read_more.new.ahead c.edit_found.new.self.ahead (inv.0 ++ read.0) more.0
+          (read_also v c.loop-next.self c.edit_first.new.self _ c.read_more.new.ahead inv.0 read.0 inv.1.same c.edit_first.ensures.same there inv.1.read read.2)
+          (subst (λ o. IsReadOn o.max_reads c.read_more.new.ahead c.edit_found.new.self.ahead more.0) same more.2),
+    )
+
+pub returns-then-not-branch-clause-uncertain : goal.returns-then-not-branch-clause-uncertain
+returns-then-not-branch-clause-uncertain g c told =
+    let there = c.edit_found.ensures.uncertain told in
+    let same = options_on c.args.self.now c.loop-next.self c.edit_first.new.self _ c.loop-next.invariant.1.same c.edit_first.ensures.same (ap the_view c.self-inside.view_is ∙ c.self.view_is) in
+    (there.0, λ long. there.1 (subst (λ o. IsTooLong o.max_statement c.edit_found.new.self.ahead) (sym same) long))
+
+pub returns-then-not-branch-clause-statement_too_long : goal.returns-then-not-branch-clause-statement_too_long
+returns-then-not-branch-clause-statement_too_long g c line told =
+    let inv = c.loop-next.invariant.1 in
+    let w = c.edit_first.new.self in
+    let there = ap the_view c.self-inside.view_is ∙ c.self.view_is in
+    let long = c.edit_found.ensures.statement_too_long line told in
+    let same = options_on c.args.self.now c.loop-next.self w _ inv.same c.edit_first.ensures.same there in
+    let short = subst (IsFirstNext c.loop-next.self w c.loop-next.text.items c.edit_first.new.text.items) c.in-Short.is c.in_ok-next.ensures.first in (
+      long.0 ∙ ap (λ x. x.progress.line) there ∙ ap (λ p. p.line) short.1 ∙ ap (λ x. x.progress.line) inv.same,
+      subst (λ o. IsTooLong o.max_statement c.edit_found.new.self.ahead) same long.1,
+    )
+
+pub loop-next-preserved : goal.loop-next-preserved
+loop-next-preserved g c =
+    let v = c.args.self.now in
+    let l = c.loop-next.self in
+    let w = c.edit_first.new.self in
+    let mid = c.read_more.new.ahead in
+    let inv = c.loop-next.invariant in
+    let read = c.read_more.ensures.read in
+    let there = ap the_view c.self-inside.view_is ∙ c.self.view_is in
+    let short = subst (IsFirstNext l w c.loop-next.text.items c.edit_first.new.text.items) c.in-Short.is c.in_ok-next.ensures.first in
+    let alone = read_alone v l w _ mid inv.1.same c.edit_first.ensures.same short.1 there in
+    let same = options_on v l w _ inv.1.same c.edit_first.ensures.same there in
+    let before : SessionValue = record v { ahead = l.ahead } in
+    let on : IsReadOn v.options.max_reads l.ahead mid read.0 = subst (λ o. IsReadOn o.max_reads l.ahead mid read.0) (ap (λ x. x.options) inv.1.same) (subst (λ x. IsReadOn x.options.max_reads x.ahead mid read.0) (there ∙ c.edit_first.ensures.same) read.2) in (
+      inv.0 ++ read.0,
+      record {
+        gave = g.met.S.Source.gave_more _ _ _ _ _ inv.1.gave read.1;
+        read = read_then v.options.max_reads v.ahead l.ahead mid inv.0 read.0 inv.1.read on;
+        same = alone;
+        text = short.2 ∙ inv.1.text;
+        take = subst CanTake (sym alone) (take_read before mid v.options.max_reads read.0 (subst CanTake inv.1.same inv.1.take) on c.in_ok-read_more-in-Short.ensures.few);
+        bound = subst (λ o. length mid.bytes ≤ o.max_statement + 8192) same c.read_more.ensures.bound;
+        steady = c.read_more.ensures.steady (λ h. ok_is_no_err _ _ ReadFailed c.in_ok-read_more-in-Short.was h) ∙ inv.1.steady;
+        few = λ e. absurd (false≢true e);
+      },
+    )
+
+pub returns-in_default-clause-read : goal.returns-in_default-clause-read
+returns-in_default-clause-read g c =
+    let inv = c.loop-next.invariant in
+    let more = c.edit_found-in_default.ensures.read in (
+      inv.0 ++ more.0,
+      g.met.S.Source.gave_more _ _ _ _ _ inv.1.gave more.1,
+      read_also c.args.self.now c.loop-next.self c.edit_first.new.self c.edit_first.new.self c.edit_found-in_default.new.self.ahead inv.0 more.0 inv.1.same c.edit_first.ensures.same refl inv.1.read more.2,
+    )
+
+pub returns-in_default-clause-uncertain : goal.returns-in_default-clause-uncertain
+returns-in_default-clause-uncertain g c told =
+    let there = c.edit_found-in_default.ensures.uncertain told in
+    let same = options_on c.args.self.now c.loop-next.self c.edit_first.new.self c.edit_first.new.self c.loop-next.invariant.1.same c.edit_first.ensures.same refl in
+    (there.0, λ long. there.1 (subst (λ o. IsTooLong o.max_statement c.edit_found-in_default.new.self.ahead) (sym same) long))

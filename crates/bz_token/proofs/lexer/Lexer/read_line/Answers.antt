@@ -1,5 +1,6 @@
-use Rattle.std.proofs.Common.{rules, tests, arith, [], None}
+use Rattle.std.proofs.Common.{rules, tests, arith, sym, [], None}
 use Rattle.bz_token.specs.Faults.{IsFault}
+use Rattle.bz_token.specs.private.LinesRead.{IsOpenInLine}
 use Rattle.bz_token.proofs.Progress.{passed_on}
 use Rattle.bz_token.proofs.LinesRead.{stays, line_read}
 use Rattle.bz_token.proofs.lexer.Lexer.read_line.Goals as goal
@@ -46,3 +47,14 @@ loop-self-preserved c =
 
 pub returns-then-len-most-clause-read : goal.returns-then-len-most-clause-read
 returns-then-len-most-clause-read c first bytes given before = (c.in_ok-next.ensures.read first bytes given (c.loop-self.invariant.read first bytes given before)).0
+
+pub returns-then-len-most-clause-in_line : goal.returns-then-len-most-clause-in_line
+returns-then-len-most-clause-in_line c first bytes start before told =
+    let i = c.loop-self.invariant.line first bytes start before in
+    let r = c.in_ok-next.ensures.read first bytes [] i.read in
+    stays first c.args.max_depth bytes c.loop-self.self c.step.new.self c.loop-self.spot c.in_ok-next.next start c.in_ok-next.kind i r.0 r.1 (λ e. search (rules, tests))
+
+pub returns-in_err-next-clause-open_text : goal.returns-in_err-next-clause-open_text
+returns-in_err-next-clause-open_text c first bytes start before =
+    passed_on c.from_residual.result c.in_err-next.field-0.0 (IsOpenInLine first c.args.max_depth bytes start) c.from_residual.ensures.1
+    (λ line col is. (c.loop-self.self, c.loop-self.spot, c.loop-self.invariant.line first bytes start before, sym (c.in_err-next.ensures.open_text line col is)))
