@@ -14,6 +14,7 @@ ghost use Rattle.bz_engine.specs.SessionValue.{at_start, IsSameRun, IsReady, IsL
 ghost use Rattle.bz_engine.specs.declared.session.Stage.TheVariants.{Going, Ended, Stopped};
 
 use crate::edit::{Edited, Script};
+use crate::looks::Looks;
 use crate::next_chunk::{NextChunk, edit_bytes, edit_first};
 use crate::options::Options;
 use crate::progress::Progress;
@@ -105,6 +106,7 @@ impl Session {
                 failed: false,
                 last: None,
                 line: 1,
+                looks: Looks::new(),
             },
             ahead: Ahead::new(alloc),
             stage: Stage::Going,
