@@ -3,8 +3,9 @@ use Rattle.std.proofs.Common.{◌≡◌, ℕ, Bool, false, List, [], ◌∷◌, 
 use Rattle.std.specs.Prelude.{None, Some, Ok, if◌then◌else◌}
 use Rattle.bz_token.specs.Places.{line_at}
 use Rattle.bz_tree.specs.Tree.{Statement}
+use Rattle.bz_tree.specs.declared.stmt.Class.{Class}
 use Rattle.bz_command.specs.Labels.{Package}
-use Rattle.bz_passes.specs.Exchange.{IsLeftBy, slot_after}
+use Rattle.bz_passes.specs.Exchange.{IsLeftBy, IsPassedBy, slot_after}
 use Rattle.bz_engine.specs.Meaning.{meaning, changes, fails_on}
 use Rattle.bz_engine.specs.File.{Gives}
 use Rattle.bz_engine.specs.Outcome.{Script, slots_of, is_query}
@@ -84,7 +85,27 @@ pub statement_done : (home : Package) (passes : Script) (keep_going : Bool) (dep
 statement_done home passes keep_going depth cs ss chunk s old mid new before after kept gives laid is =
     left_done home passes keep_going depth cs ss chunk s old mid new before after kept gives (record { left = laid.left; last = laid.last; line = laid.line; text = laid.text }) (λ h calm. laid.calm h) is
 
--- a statement that the script passes by
+-- a statement of this class that the script passes by
+pub stays_edited : (home : Package) (passes : Script) (keep_going : Bool) (depth : ℕ) (cs : List (List ℕ)) (ss : List Statement) (chunk : List ℕ) (s : Statement)
+    (class : Class) (old mid new : Progress) (before after : List ℕ) (edited : Edited)
+    → IsKeptOf home passes depth cs ss old → Gives depth old.line chunk (Ok (Some s)) → IsPassedBy (meaning home) (changes home) (fails_on home) passes (Some s)
+    → class ≡ s.class → mid ≡ record old { last = Some class }
+    → after ≡ before ++ (if is_query passes then [] else text_following old.last (Some s ∷ []))
+    → new ≡ record mid { line = line_at mid.line chunk } → edited ≡ Done
+    → IsEdited home passes keep_going depth cs ss chunk old new before after edited
+stays_edited home passes keep_going depth cs ss chunk s class old mid new before after edited kept gives passed of_class same text is done =
+    let stays : Some s ≡ slot_after (meaning home) passes (Some s) = sym passed.stays in
+    subst (IsEdited home passes keep_going depth cs ss chunk old new before after) (sym done)
+    (left_done home passes keep_going depth cs ss chunk s old mid new before after kept gives
+    (record {
+      left = λ slots left. subst (λ p. IsLeftBy (meaning home) (changes home) (fails_on home) passes (slots ++ Some s ∷ []) p.kept p.changed p.failed) (sym same) (passed.left slots old.kept old.changed old.failed left);
+      last = ap (λ p. p.last) same ∙ ap (λ c. Some c) of_class ∙ ap (λ slot. last_class old.last (slot ∷ [])) stays;
+      line = ap (λ p. p.line) same;
+      text = text ∙ ap (λ slot. before ++ (if is_query passes then [] else text_following old.last (slot ∷ []))) stays;
+    })
+    (λ h calm. ap (λ p. p.failed) same ∙ calm) is)
+
+-- the statement of a row that the script passes by
 pub passed_edited : (home : Package) (passes : Script) (keep_going : Bool) (depth : ℕ) (cs : List (List ℕ)) (ss : List Statement) (chunk : List ℕ) (row : Row)
     (old mid new : Progress) (before after : List ℕ) (edited : Edited)
     → IsKeptOf home passes depth cs ss old → IsUtf8 chunk × IsPassedRow home passes depth old.line chunk row
@@ -94,17 +115,8 @@ pub passed_edited : (home : Package) (passes : Script) (keep_going : Bool) (dept
     → IsEdited home passes keep_going depth cs ss chunk old new before after edited
 passed_edited home passes keep_going depth cs ss chunk row old mid new before after edited kept read same text is done =
     let at = read.1 in
-    let s = at.statement in
-    let stays : Some s ≡ slot_after (meaning home) passes (Some s) = sym at.passed.stays in
-    subst (IsEdited home passes keep_going depth cs ss chunk old new before after) (sym done)
-    (left_done home passes keep_going depth cs ss chunk s old mid new before after kept (read.0, at.read)
-    (record {
-      left = λ slots left. subst (λ p. IsLeftBy (meaning home) (changes home) (fails_on home) passes (slots ++ Some s ∷ []) p.kept p.changed p.failed) (sym same) (at.passed.left slots old.kept old.changed old.failed left);
-      last = ap (λ p. p.last) same ∙ ap (λ class. Some class) at.parts.class ∙ ap (λ slot. last_class old.last (slot ∷ [])) stays;
-      line = ap (λ p. p.line) same;
-      text = text s at.parts ∙ ap (λ slot. before ++ (if is_query passes then [] else text_following old.last (slot ∷ []))) stays;
-    })
-    (λ h calm. ap (λ p. p.failed) same ∙ calm) is)
+    stays_edited home passes keep_going depth cs ss chunk at.statement row.class old mid new before after edited kept (read.0, at.read) at.passed
+    at.parts.class same (text at.statement at.parts) is done
 
 -- what the script on a statement made of its chunk
 pub scripted_edited : (home : Package) (passes : Script) (keep_going : Bool) (depth : ℕ) (cs : List (List ℕ)) (ss : List Statement) (chunk : List ℕ) (s : Statement)

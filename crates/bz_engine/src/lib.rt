@@ -6,9 +6,11 @@
 //! the end, and the promises of a whole run.
 #![tactic(auto)]
 
+mod canonical;
 mod chunk;
 mod edit;
 pub mod laws;
+mod looks;
 mod message;
 mod next_chunk;
 mod options;

@@ -10,6 +10,7 @@ ghost use Rattle.bz_engine.specs.Progress.{IsKeptOf};
 ghost use Rattle.bz_engine.specs.private.Edits.{IsEdited};
 ghost use Rattle.bz_engine.specs.private.NextChunks.{IsFirst};
 
+use crate::canonical::edit_canonical;
 use crate::chunk::{not_utf8, read_chunk};
 use crate::edit::{Edited, Script, edit_chunk, edit_row};
 use crate::progress::Progress;
@@ -61,6 +62,9 @@ pub(crate) fn edit_first(
             len: 1,
             edited: Edited::Done,
         }));
+    }
+    if let Some(next) = edit_canonical(script, ahead, max_statement, progress, text)? {
+        return Ok(Some(next));
     }
     let line = progress.line;
     let chunk = match first_chunk(script.bump, text_ahead, line, script.max_depth)? {

@@ -4,6 +4,7 @@ ghost use Rattle.std.specs.Prelude.{◌≡◌, ◌+◌, ◌<◌, ◌^◌, length
 ghost use Rattle.bz_token.specs.Places.{line_at};
 
 use crate::chunk::newlines;
+use crate::looks::Looks;
 use bz_passes::kept::Kept;
 use bz_tree::Class;
 use std::marker::Model;
@@ -21,6 +22,8 @@ pub(crate) struct Progress {
     pub(crate) last: Option<Class>,
     /// The line on which the next chunk begins, from 1.
     pub(crate) line: u64,
+    /// When to see whether the next chunk stands as it would be written. Contracts do not see it.
+    pub(crate) looks: Looks,
 }
 
 impl Model for Progress {
@@ -39,5 +42,26 @@ impl Progress {
         ensures { self.new ≡ record self.old { line = line_at self.old.line chunk.now } }
     {
         self.line += newlines(chunk);
+    }
+
+    /// Whether to see if the next chunk stands as it would be written.
+    pub(crate) fn is_worth_a_look(&mut self) -> bool
+        ensures { self.new ≡ self.old }
+    {
+        self.looks.is_due()
+    }
+
+    /// A chunk did not stand so, or the script did not pass its statement by.
+    pub(crate) fn looked_in_vain(&mut self)
+        ensures { self.new ≡ self.old }
+    {
+        self.looks.fail();
+    }
+
+    /// A chunk stood so, and the script passed its statement by.
+    pub(crate) fn looked_well(&mut self)
+        ensures { self.new ≡ self.old }
+    {
+        self.looks.succeed();
     }
 }

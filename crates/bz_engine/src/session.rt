@@ -15,6 +15,7 @@ ghost use Rattle.bz_engine.specs.SessionValue.{at_start, IsSameRun, IsReady, IsL
 ghost use Rattle.bz_engine.specs.declared.session.Stage.TheVariants.{Going, Ended, Stopped};
 
 use crate::edit::{Edited, Script};
+use crate::looks::Looks;
 use crate::next_chunk::{First, NextChunk, edit_bytes, edit_first};
 use crate::options::Options;
 use crate::progress::Progress;
@@ -106,6 +107,7 @@ impl Session {
                 failed: false,
                 last: None,
                 line: 1,
+                looks: Looks::new(),
             },
             ahead: Ahead::new(alloc),
             stage: Stage::Going,

@@ -1,0 +1,6 @@
+pub mod Strings
+pub mod Operands
+pub mod GroupSegments
+pub mod RuleStatements
+pub mod Chained
+pub mod CanonicalChunks

@@ -1,0 +1,98 @@
+-- A text in double quotes without a quote, newline or backslash in it is a string.
+use Rattle.std.proofs.Common.{take, drop, take-append-drop, append_assoc, ◌≡◌, ℕ, ◌==◌, ◌&&◌, List, [], ◌∷◌, ◌++◌, Bool, true, false, not, refl, sym, ap, ◌∙◌, true≢false}
+use Rattle.std.specs.Prelude.{if◌then◌else◌, Option, Some}
+use Rattle.std.specs.List.{list_all, prefix_len}
+use Rattle.bz_token.proofs.Scanning.{all_front}
+use Rattle.bz_canonical.specs.private.Fronts.{IsTokenFront, IsQuotedFront, is_simple}
+use Rattle.std.specs.List.{flat_map}
+use Rattle.bz_command.specs.Values.{written, value_of}
+use Rattle.bz_command.proofs.ReadBack.{quoted_value}
+use Rattle.std.proofs.lemmas.Bool.{and_parts, not-true}
+use Rattle.bz_token.specs.declared.token.Kind.TheVariants.{String}
+use Rattle.bz_token.specs.declared.scan_string.Quotes.{Quotes}
+use Rattle.bz_token.specs.declared.scan_string.Opening.{Opening}
+use Rattle.bz_token.specs.declared.scan_string.Escape.TheVariants.{Unescaped, AfterBackslash}
+use Rattle.bz_token.specs.Lexical.{is_empty, is_string, opening, is_closed}
+use Rattle.bz_token.specs.private.Closing.{closes, starts_escape}
+use Rattle.bz_token.specs.private.Scans.{is_plain}
+use Rattle.bz_token.proofs.StringUnits.{closes_units}
+
+abbrev short : Quotes
+short = record { byte = 34; long = false }
+
+abbrev closed : Bool → Bool → Bool → List ℕ → Bool
+closed true newline backslash bs = is_empty bs
+closed false newline backslash bs = not newline && closes short 0 (if backslash then AfterBackslash else Unescaped) bs
+
+by_tests : (b : ℕ) (bs : List ℕ) → closes short 0 Unescaped (b ∷ bs) ≡ closed (b == 34) (b == 10) (b == 92) bs
+by_tests b bs = by (b == 34)
+  where
+    by : (t : Bool) → elim t [ true ↦ is_empty bs | false ↦ not (b == 10) && closes short 0 (starts_escape b) bs ] ≡ closed t (b == 10) (b == 92) bs
+    by true = refl
+    by false = refl
+
+plain_byte : (b : ℕ) → is_plain 34 b ≡ true → ((b == 34) ≡ false) × ((b == 10) ≡ false) × ((b == 92) ≡ false)
+plain_byte b h =
+    let p = and_parts (not (b == 34) && not (b == 10)) (not (b == 92)) h in
+    let q = and_parts (not (b == 34)) (not (b == 10)) p.0 in
+    (not-true _ q.0, not-true _ q.1, not-true _ p.1)
+
+plain_closes : (inner : List ℕ) → list_all (is_plain 34) inner ≡ true → closes short 0 Unescaped (inner ++ 34 ∷ []) ≡ true
+plain_closes [] plain = refl
+plain_closes (b ∷ bs) plain =
+    let p = and_parts (is_plain 34 b) (list_all (is_plain 34) bs) plain in
+    let none = plain_byte b p.0 in
+    by_tests b (bs ++ 34 ∷ []) ∙ by (b == 34) (b == 10) (b == 92) none.0 none.1 none.2 (plain_closes bs p.1)
+  where
+    by : (t u v : Bool) → t ≡ false → u ≡ false → v ≡ false → closes short 0 Unescaped (bs ++ 34 ∷ []) ≡ true → closed t u v (bs ++ 34 ∷ []) ≡ true
+    by false false false e f g rest = rest
+    by true u v e f g rest = absurd (true≢false e)
+    by false true v e f g rest = absurd (true≢false f)
+    by false false true e f g rest = absurd (true≢false g)
+
+opens : (inner : List ℕ) → list_all (is_plain 34) inner ≡ true → opening (34 ∷ (inner ++ 34 ∷ [])) ≡ Some (record { prefix = 0; quotes = short })
+opens [] plain = refl
+opens (c ∷ cs) plain = let none = (plain_byte c (and_parts (is_plain 34 c) (list_all (is_plain 34) cs) plain).0).0 in rw none refl
+
+pub plain_string : (inner : List ℕ) → list_all (is_plain 34) inner ≡ true → is_string (34 ∷ (inner ++ 34 ∷ [])) ≡ true
+plain_string inner plain =
+    ap (λ o. is_closed o (34 ∷ (inner ++ 34 ∷ []))) (opens inner plain) ∙ sym (closes_units short (inner ++ 34 ∷ []) refl) ∙ plain_closes inner plain
+
+pub string_front : (text inside rest : List ℕ) (n : ℕ) → text ≡ 34 ∷ inside → n ≡ prefix_len (is_plain 34) inside → drop n inside ≡ 34 ∷ rest → IsTokenFront String text rest
+string_front text inside rest n starts len ends = record {
+  token = 34 ∷ (take n inside ++ 34 ∷ []);
+  is = plain_string (take n inside) (ap (λ k. list_all (is_plain 34) (take k inside)) len ∙ all_front (is_plain 34) inside);
+  stays = refl;
+  front = starts ∙ ap (λ xs. 34 ∷ xs) (sym (take-append-drop n inside) ∙ ap (λ xs. take n inside ++ xs) ends ∙ sym (append_assoc (take n inside) (34 ∷ []) rest));
+}
+
+simple_byte : (b : ℕ) → is_simple b ≡ true → ((b == 34) ≡ false) × ((b == 92) ≡ false) × ((b == 10) ≡ false) × ((b == 13) ≡ false) × ((b == 9) ≡ false)
+simple_byte b h =
+    let p = and_parts _ (not (b == 9)) h in
+    let q = and_parts _ (not (b == 13)) p.0 in
+    let r = and_parts _ (not (b == 10)) q.0 in
+    let t = and_parts (not (b == 34)) (not (b == 92)) r.0 in
+    (not-true _ t.0, not-true _ t.1, not-true _ r.1, not-true _ q.1, not-true _ p.1)
+
+simple_plain : (bs : List ℕ) → list_all is_simple bs ≡ true → list_all (is_plain 34) bs ≡ true
+simple_plain [] h = refl
+simple_plain (b ∷ bs) h =
+    let p = and_parts (is_simple b) (list_all is_simple bs) h in
+    let none = simple_byte b p.0 in
+    rw (none.0, none.1, none.2, simple_plain bs p.1) refl
+
+simple_written : (bs : List ℕ) → list_all is_simple bs ≡ true → flat_map written bs ≡ bs
+simple_written [] h = refl
+simple_written (b ∷ bs) h =
+    let p = and_parts (is_simple b) (list_all is_simple bs) h in
+    let none = simple_byte b p.0 in
+    rw (none.0, none.1, none.2, none.3, none.4, simple_written bs p.1) refl
+
+pub quoted_front : (text inside rest : List ℕ) (n : ℕ) → text ≡ 34 ∷ inside → n ≡ prefix_len is_simple inside → drop n inside ≡ 34 ∷ rest → IsQuotedFront text (take n inside) rest
+quoted_front text inside rest n starts len ends =
+    let simple = ap (λ k. list_all is_simple (take k inside)) len ∙ all_front is_simple inside in
+    record {
+      front = starts ∙ ap (λ xs. 34 ∷ xs) (sym (take-append-drop n inside) ∙ ap (λ xs. take n inside ++ xs) ends ∙ sym (append_assoc (take n inside) (34 ∷ []) rest));
+      is = plain_string (take n inside) (simple_plain (take n inside) simple);
+      value = ap (λ xs. value_of (34 ∷ (xs ++ 34 ∷ []))) (sym (simple_written (take n inside) simple)) ∙ quoted_value (take n inside);
+    }

@@ -1,0 +1,78 @@
+-- A canonical chunk of a statement that the script passes by is the next chunk, and is done.
+use Rattle.std.proofs.Common.{◌≡◌, ℕ, Bool, true, ◌≤◌, ◌+◌, List, [], ◌∷◌, ◌++◌, length, take, refl, sym, ◌∙◌, ap, subst, arith, bytes_eq, rules, Bor}
+use Rattle.std.proofs.Math.Seq.{take-append_seam}
+use Rattle.std.proofs.lemmas.List.{length-append}
+use Rattle.std.proofs.lemmas.List.Sums.{count_by-le-length}
+use Rattle.std.proofs.lemmas.Slice.Eq.{bytes_eq-Decides}
+use Rattle.std.specs.Prelude.{Option, Some, if◌then◌else◌, ◌==◌}
+use Rattle.std.specs.Str.{IsUtf8}
+use Rattle.bz_token.specs.Places.{line_at}
+use Rattle.bz_tree.specs.declared.stmt.Class.{Class}
+use Rattle.bz_tree.specs.Statement.{class_of}
+use Rattle.bz_tree.specs.Tree.{Statement}
+use Rattle.bz_tree_laws.proofs.ChunkLaws.{chunk_class}
+use Rattle.bz_layout.specs.Layout.{layout_text}
+use Rattle.bz_command.specs.Labels.{Package, Name, Pkg, All, Kind as OfKind, Line}
+use Rattle.bz_attribute.specs.Rules.{is_text}
+use Rattle.bz_attribute.specs.Marks.{marks_if}
+use Rattle.bz_canonical.specs.Canonical.{HasName, IsNamed, IsCanonical}
+use Rattle.bz_devices.specs.Ahead.{Ahead}
+use Rattle.bz_passes.specs.declared.index.Key.TheVariants.{Name as Named}
+use Rattle.bz_passes.specs.Exchange.{IsPassedBy}
+use Rattle.bz_engine.specs.Meaning.{meaning, changes, fails_on}
+use Rattle.bz_engine.specs.Outcome.{Script, is_query}
+use Rattle.bz_engine.specs.Progress.{Progress, text_following}
+use Rattle.bz_engine.specs.declared.edit.Edited.TheVariants.{Done}
+use Rattle.bz_engine.specs.private.Edits.{IsEdited}
+use Rattle.bz_engine.specs.private.NextChunks.{IsFirstEdited}
+use Rattle.bz_engine.specs.private.Rows.{HasKey}
+use Rattle.bz_engine.proofs.ChunkEdits.{stays_edited}
+use Rattle.bz_engine.proofs.FirstChunks.{IsTakenOf, first_is_next, chunk_is}
+
+same_bytes : (xs ys : List ℕ) → bytes_eq xs ys ≡ true → xs ≡ ys
+same_bytes xs ys h = search (rules, bytes_eq-Decides)
+
+bytes_same : (xs : List ℕ) → bytes_eq xs xs ≡ true
+bytes_same xs = search (rules, bytes_eq-Decides)
+
+-- a rule of this name
+pub named_key : (s : Statement) (name : Bor (List ℕ)) → IsNamed name.now s → HasKey s (Named name)
+named_key s name h (Name asked) met =
+    let marked : bytes_eq asked name.now ≡ true = sym (ap (marks_if (Name asked) s.start) h.is ∙ ap (is_text asked) h.name_is) ∙ met in
+    let same : asked ≡ name.now = same_bytes asked name.now marked in
+    ap (bytes_eq name.now) same ∙ bytes_same name.now
+named_key s name h Pkg met = refl
+named_key s name h All met = refl
+named_key s name h (OfKind kind) met = refl
+named_key s name h (Line line) met = refl
+
+front_size : (chunk rest text : List ℕ) → text ≡ chunk ++ rest → length chunk ≤ length text
+front_size chunk rest text is = omega (arith, ap length is, length-append chunk rest)
+
+front_taken : (chunk rest text : List ℕ) → text ≡ chunk ++ rest → chunk ≡ take (length chunk) text
+front_taken chunk rest text is = sym (ap (take (length chunk)) is ∙ take-append_seam chunk rest)
+
+-- a chunk has no more newlines than bytes
+few_lines : (line : ℕ) (chunk : List ℕ) → line_at line chunk ≤ line + length chunk
+few_lines line chunk = omega (arith, count_by-le-length (λ b. b == 10) chunk)
+
+pub canonical_edited : (home : Package) (passes : Script) (keep_going : Bool) (depth most : ℕ) (ahead : Ahead) (class : Class) (name : Option (List ℕ)) (chunk text : List ℕ)
+    (old mid new : Progress) (before after : List ℕ)
+    → length ahead.bytes ≤ 8192 → IsTakenOf text ahead.bytes → IsUtf8 chunk → length chunk ≤ most → IsCanonical depth class name chunk text
+    → ((s : Statement) → s.class ≡ class_of s.nodes → HasName name s → IsPassedBy (meaning home) (changes home) (fails_on home) passes (Some s))
+    → mid ≡ record old { last = Some class }
+    → ((s : Statement) → s.class ≡ class → layout_text s ≡ chunk → after ≡ before ++ (if is_query passes then [] else text_following old.last (Some s ∷ [])))
+    → new ≡ record mid { line = line_at mid.line chunk }
+    → IsFirstEdited home passes keep_going depth most ahead old new before after (record { len = length chunk; edited = Done })
+canonical_edited home passes keep_going depth most ahead class name chunk text old mid new before after few outer utf8 size c passed same written is =
+    let within : length chunk ≤ length text = front_size chunk c.rest text c.front in
+    let front : chunk ≡ take (length chunk) text = front_taken chunk c.rest text c.front in
+    let read = c.read old.line in
+    record {
+      chunk = first_is_next most ahead chunk text few outer c.some within front size c.ends;
+      lines = subst (λ n. n ≤ old.line + length chunk) (sym (ap (λ (p : Progress). p.line) is ∙ ap (λ (p : Progress). line_at p.line chunk) same)) (few_lines old.line chunk);
+      edited = λ cs statements kept. subst (λ bytes. IsEdited home passes keep_going depth cs statements bytes old new before after Done) (chunk_is chunk text ahead.bytes outer within front)
+          (stays_edited home passes keep_going depth cs statements chunk read.statement class old mid new before after Done kept (utf8, read.read)
+          (passed read.statement (chunk_class old.line chunk read.read.tokens read.statement read.read.reads.chunk) read.named)
+          (sym read.class_is) same (written read.statement read.class_is read.written) is refl);
+    }

@@ -1,0 +1,125 @@
+//! Chunks that stand as they would be written, of statements that the script passes by: they are copied, and not read.
+
+ghost use Rattle.std.specs.Prelude.{◌≡◌, ◌+◌, ◌<◌, ◌≤◌, ◌^◌, ◌++◌, if◌then◌else◌, [], ◌∷◌, Some, length, option_map, IfOk, OnOk, IfSome, IfNone, IsTrue};
+ghost use Rattle.bz_tree.specs.Statement.{class_of};
+ghost use Rattle.bz_tree.specs.Tree.{Statement};
+ghost use Rattle.bz_layout.specs.Layout.{layout_text};
+ghost use Rattle.bz_canonical.specs.Canonical.{HasName, IsCanonical};
+ghost use Rattle.bz_passes.specs.Exchange.{Fits, IsPassedBy};
+ghost use Rattle.bz_engine.specs.Meaning.{meaning, changes, fails_on};
+ghost use Rattle.bz_engine.specs.Outcome.{is_query};
+ghost use Rattle.bz_engine.specs.Progress.{text_following};
+ghost use Rattle.bz_engine.specs.private.NextChunks.{IsFirstEdited};
+ghost use Rattle.bz_engine.specs.private.Rows.{HasKey};
+
+use crate::edit::{Edited, Script, put_gap};
+use crate::next_chunk::NextChunk;
+use crate::progress::Progress;
+use crate::rules::Rules;
+use bz_canonical::{CanonicalChunk, canonical};
+use bz_devices::ahead::Ahead;
+use bz_passes::index::Key;
+use bz_passes::script::passes_by;
+use std::alloc::AllocError;
+
+/// The script on the first chunk of the text ahead, where the chunk stands as it would be written and no pass marks its
+/// statement: it is copied. None, with nothing done: it is to be read.
+pub(crate) fn edit_canonical(
+    script: Script<'_>,
+    ahead: &Ahead,
+    max_statement: u64,
+    progress: &mut Progress,
+    text: &mut Vec<u8>,
+) -> Result<Option<NextChunk>, AllocError>
+    requires few { length ahead.now.bytes ≤ 8192 }
+    requires fits { Fits progress.old.kept script.passes.now }
+    requires lines { progress.old.line + length ahead.now.bytes < 2 ^ 64 }
+    ensures fits { OnOk result (Fits progress.new.kept script.entry.passes.now) }
+    ensures chunk { IfOk result (λ found. IfSome found (IsFirstEdited script.entry.home.now script.entry.passes.now
+        script.entry.keep_going script.entry.max_depth max_statement ahead.now progress.old progress.new
+        text.old.items text.new.items)) }
+    ensures none { IfOk result (λ found. IfNone found
+        ((progress.new ≡ progress.old) × (text.new.items ≡ text.old.items))) }
+{
+    // A pass that asks for no name may mark any statement.
+    if !script.passes.ask_for_names() || !progress.is_worth_a_look() {
+        return Ok(None);
+    }
+    let Some(found) = find_passed(script, ahead.text(), max_statement) else {
+        progress.looked_in_vain();
+        return Ok(None);
+    };
+    progress.looked_well();
+    put_canonical(script, found, progress, text)?;
+    progress.pass_lines(found.chunk.as_bytes());
+    Ok(Some(NextChunk {
+        len: found.chunk.len(),
+        edited: Edited::Done,
+    }))
+}
+
+/// The canonical chunk that the text begins with, where it is not too long and the script passes its statement by.
+fn find_passed<'a>(
+    script: Script<'_>,
+    text: &'a str,
+    max_statement: u64,
+) -> Option<CanonicalChunk<'a>>
+    ensures canonical { IfSome result (λ found. IsCanonical script.entry.max_depth found.class
+        (option_map (λ name. name.now) found.name) found.chunk.now text.now) }
+    ensures size { IfSome result (λ found. length found.chunk.now ≤ max_statement) }
+    ensures passed { IfSome result (λ found. (s : Statement) → s.class ≡ class_of s.nodes
+        → HasName (option_map (λ name. name.now) found.name) s
+        → IsPassedBy (meaning script.entry.home.now) (changes script.entry.home.now) (fails_on script.entry.home.now)
+        script.entry.passes.now (Some s)) }
+{
+    let found = canonical(text, script.max_depth)?;
+    if found.chunk.len() as u64 > max_statement || !is_name_passed_by(script, found.name) {
+        return None;
+    }
+    Some(found)
+}
+
+/// No pass of the script may mark a statement of this name.
+fn is_name_passed_by(script: Script<'_>, name: Option<&str>) -> bool
+    ensures { IsTrue result → (s : Statement) → s.class ≡ class_of s.nodes
+        → HasName (option_map (λ name. name.now) name.entry) s
+        → IsPassedBy (meaning script.entry.home.now) (changes script.entry.home.now) (fails_on script.entry.home.now)
+        script.entry.passes.now (Some s) }
+{
+    let rules = Rules {
+        alloc: script.alloc,
+        home: script.home,
+    };
+    passes_by(&rules, script.passes.indexed(), name_key(name))
+}
+
+/// The key of a rule of this name, or of what is no rule.
+fn name_key(name: Option<&str>) -> Key<'_>
+    ensures { (s : Statement) → s.class ≡ class_of s.nodes → HasName (option_map (λ name. name.now) name.entry) s
+        → HasKey s result }
+{
+    match name {
+        Some(name) => Key::Name(name),
+        None => Key::NoName,
+    }
+}
+
+/// Writes the chunk of a statement that the script passes by.
+fn put_canonical(
+    script: Script<'_>,
+    found: CanonicalChunk<'_>,
+    progress: &mut Progress,
+    text: &mut Vec<u8>,
+) -> Result<(), AllocError>
+    ensures last { OnOk result (progress.new ≡ record progress.old { last = Some found.entry.class }) }
+    ensures text { OnOk result ((s : Statement) → s.class ≡ found.entry.class → layout_text s ≡ found.entry.chunk.now
+        → text.new.items ≡ text.old.items
+        ++ (if is_query script.entry.passes.now then [] else text_following progress.old.last (Some s ∷ []))) }
+{
+    if !script.passes.is_query() {
+        put_gap(progress.last, found.class, text)?;
+        text.extend_from_slice(found.chunk.as_bytes())?;
+    }
+    progress.last = Some(found.class);
+    Ok(())
+}
