@@ -6,7 +6,6 @@ use Rattle.std.proofs.lemmas.List.{length-append}
 use Rattle.bz_token.specs.Chunks.{chunks}
 use Rattle.bz_token.specs.Cuts.{IsChunk}
 use Rattle.bz_tree.specs.declared.stmt.Class.{Class}
-use Rattle.bz_tree.specs.declared.stmt.Class.TheVariants.{Rule as RuleClass}
 use Rattle.bz_tree.specs.Tree.{Statement}
 use Rattle.bz_layout.specs.Layout.{is_comment, layout_text}
 use Rattle.bz_attribute.specs.Rules.{rule_of}
@@ -14,7 +13,7 @@ use Rattle.bz_layout_laws.specs.Lineless.{lineless}
 use Rattle.bz_layout_laws.proofs.WellFormed.{formed_again, formed_only, formed_legible, formed_no_block}
 use Rattle.bz_layout_laws.proofs.WholeChunk.{statement_chunked}
 use Rattle.bz_canonical.specs.Canonical.{HasName, IsCanonical, IsReadBack}
-use Rattle.bz_canonical.specs.private.Statements.{IsLaidOut, IsStatementFront}
+use Rattle.bz_canonical.specs.private.Statements.{IsStatementFront}
 
 chunk_some : (chunk : List ℕ) → IsChunk chunk → 0 < length chunk
 chunk_some [] ends = let none : [] ≡ [] ∷ chunks [] = ends [] in absurd cc

@@ -1,29 +1,27 @@
--- Operands by what was read of them.
-use Rattle.std.proofs.Common.{◌≡◌, ◌≤◌, ℕ, suc, ◌+◌, List, [], ◌∷◌, ◌++◌, Bool, true, false, ◌||◌, not, refl, sym, ap, ◌∙◌, arith, append_assoc, append-nil}
-use Rattle.std.specs.Prelude.{if◌then◌else◌, nat_le, Some, None}
+-- Operands and groups by what was read of them.
+use Rattle.std.proofs.Common.{◌≡◌, ℕ, ◌+◌, List, [], ◌∷◌, ◌++◌, Bool, true, false, ◌||◌, ◌&&◌, refl, sym, ap, ◌∙◌, arith, append_assoc}
+use Rattle.std.specs.Prelude.{if◌then◌else◌, nat_le}
+use Rattle.std.proofs.lemmas.Bool.{false≢true}
 use Rattle.bz_token.specs.declared.token.Kind.{Kind}
-use Rattle.bz_token.specs.declared.token.Kind.TheVariants.{Identifier, String, Operator}
+use Rattle.bz_token.specs.declared.token.Kind.TheVariants.{Identifier, Integer, String, Operator}
 use Rattle.bz_tree.specs.declared.stmt.GroupKind.{GroupKind}
-use Rattle.bz_tree.specs.declared.stmt.GroupKind.TheVariants.{List as ListKind}
-use Rattle.bz_tree.specs.declared.kinds.Shape.TheVariants.{Square}
+use Rattle.bz_tree.specs.declared.stmt.GroupKind.TheVariants.{List as ListKind, Dict}
+use Rattle.bz_tree.specs.declared.kinds.Shape.TheVariants.{Square, Curly}
 use Rattle.bz_tree.specs.declared.kinds.Preceding.TheVariants.{Other}
-use Rattle.bz_tree.specs.Grammar.{IsOperand, AreTests}
+use Rattle.bz_tree.specs.Grammar.{IsOperand, IsPrimary, AreSuffixes}
 use Rattle.bz_tree.specs.Kinds.{group_kind}
-use Rattle.bz_tree.specs.Tree.{Item, leaf, group, Segs, no_segs, seg}
+use Rattle.bz_tree.specs.Tree.{leaf, group, Segs}
 use Rattle.bz_layout.specs.declared.spacing.Gap.{Gap}
 use Rattle.bz_layout.specs.declared.spacing.Gap.TheVariants.{Line, Closed}
-use Rattle.bz_layout.specs.declared.spacing.Edge.TheVariants.{Start}
 use Rattle.bz_layout.specs.declared.broken.Style.TheVariants.{Broken}
-use Rattle.bz_layout.specs.Broken.{is_broken, segs_hold, items_hold, count}
-use Rattle.bz_layout.specs.Layout.{item_pieces, items_pieces, opening, closing, has_commas, breaks, broken_segs, flat_segs}
-use Rattle.bz_layout.specs.Pieces.{Piece, piece, gap_bytes, bytes_of, indent, comments, comma_if}
+use Rattle.bz_layout.specs.Broken.{is_broken, breaks_by_count, segs_hold, has_some, have_comments, count}
+use Rattle.bz_layout.specs.Layout.{opening, closing, has_commas, breaks, broken_segs, flat_segs}
+use Rattle.bz_layout.specs.Pieces.{Piece, piece, gap_bytes, bytes_of, indent, comments}
 use Rattle.bz_layout.specs.Respell.{respell}
-use Rattle.std.proofs.lemmas.Bool.{false≢true}
 use Rattle.bz_layout.proofs.Pieces.{bytes_append}
-use Rattle.bz_layout_laws.specs.Parsed.{have_for}
 use Rattle.bz_canonical.specs.private.Fronts.{IsTokenFront}
 use Rattle.bz_canonical.specs.private.Values.{IsValueFront}
-use Rattle.bz_canonical.specs.private.Segments.{AreSegmentsFront, IsSegmentFront}
+use Rattle.bz_canonical.specs.private.Segments.{AreFlatFront, AreNotesFront, AreSegmentsFront, IsGroupFront}
 
 pub token_front : (gap : Gap) (kind : Kind) (text rest : List ℕ) (f : IsTokenFront kind text rest) → gap_bytes gap ++ text ≡ bytes_of (piece gap kind (respell kind f.token) ∷ []) ++ rest
 token_front gap kind text rest f =
@@ -38,12 +36,14 @@ string_value text rest f level depth = record {
   is = record {
     texts = (f.is, refl);
     kinds = tt;
-    operand = IsOperand.text refl;
+    primary = IsPrimary.operand (IsOperand.text refl) AreSuffixes.no_suffix;
     no_comma = refl;
     no_for = refl;
     apart = refl;
     depth_fits = omega arith;
     stays = ap (leaf String) f.stays;
+    leaves = λ within left. refl;
+    after = refl;
   };
   front = λ gap. token_front gap String text rest f;
   breaks = refl;
@@ -55,112 +55,135 @@ name_value text rest f level depth = record {
   is = record {
     texts = (f.is, refl);
     kinds = tt;
-    operand = IsOperand.ident refl;
+    primary = IsPrimary.operand (IsOperand.ident refl) AreSuffixes.no_suffix;
     no_comma = refl;
     no_for = refl;
     apart = refl;
     depth_fits = omega arith;
     stays = refl;
+    leaves = λ within left. refl;
+    after = refl;
   };
   front = λ gap. token_front gap Identifier text rest f;
   breaks = refl;
 }
 
--- a broken group without comments
-pub group_front : (kind : GroupKind) (a z level depth : ℕ) (text inside after rest : List ℕ) (n : ℕ) (h : Bool) → opening kind ≡ a ∷ [] → closing kind ≡ z ∷ []
-    → ((n : ℕ) → has_commas kind false n ≡ true) → text ≡ a ∷ inside → (e : AreSegmentsFront kind (level + 1) depth inside after n h)
-    → is_broken kind e.segs [] (segs_hold e.segs) ≡ true → after ≡ 10 ∷ (indent level ++ z ∷ rest)
-    → (gap : Gap) → gap_bytes gap ++ text ≡ bytes_of (item_pieces Broken level gap (group kind e.segs false [])) ++ rest
-group_front kind a z level depth text inside after rest n h opens closes commas starts e broken ends gap =
-    let body : bytes_of (broken_segs Broken (level + 1) kind (has_commas kind false (count e.segs)) e.segs ++ (comments (level + 1) [] ++ piece (Line level) Operator (closing kind) ∷ []))
-        ≡ bytes_of (broken_segs Broken (level + 1) kind true e.segs) ++ (10 ∷ (indent level ++ z ∷ [])) =
-        bytes_append (broken_segs Broken (level + 1) kind (has_commas kind false (count e.segs)) e.segs) (piece (Line level) Operator (closing kind) ∷ [])
-        ∙ ap (λ c. bytes_of (broken_segs Broken (level + 1) kind c e.segs) ++ bytes_of (piece (Line level) Operator (closing kind) ∷ [])) (commas (count e.segs))
-        ∙ ap (λ (t : List ℕ). bytes_of (broken_segs Broken (level + 1) kind true e.segs) ++ (10 ∷ (indent level ++ (t ++ [])))) closes in
-    ap (λ (t : List ℕ). gap_bytes gap ++ t) (starts ∙ ap (λ (t : List ℕ). a ∷ t) (e.front ∙ ap (λ (t : List ℕ). bytes_of (broken_segs Broken (level + 1) kind true e.segs) ++ t) ends))
-    ∙ by (is_broken kind e.segs [] (segs_hold e.segs)) broken (opening kind) opens _ _ body
-  where
-    by : (b : Bool) → b ≡ true → (o : List ℕ) → o ≡ a ∷ [] → (A B : List Piece) → bytes_of A ≡ bytes_of (broken_segs Broken (level + 1) kind true e.segs) ++ (10 ∷ (indent level ++ z ∷ []))
-        → gap_bytes gap ++ (a ∷ (bytes_of (broken_segs Broken (level + 1) kind true e.segs) ++ (10 ∷ (indent level ++ z ∷ rest)))) ≡ (gap_bytes gap ++ (o ++ bytes_of (if breaks Broken b then A else B))) ++ rest
-    by b e1 o e2 A B body = rw (e1, e2, body) (simp append_assoc)
-
-pub list_value : (level depth : ℕ) (text inside after rest : List ℕ) (n : ℕ) (h : Bool) → text ≡ 91 ∷ inside → AreSegmentsFront ListKind (level + 1) depth inside after n h
-    → nat_le 2 n ≡ true → after ≡ 10 ∷ (indent level ++ 93 ∷ rest) → IsValueFront level (depth + 1) text rest true
-list_value level depth text inside after rest n h starts e two ends =
-    let broken : is_broken ListKind e.segs [] (segs_hold e.segs) ≡ true = rw (e.are.bare, e.count_is, two) refl in
-    record {
-      x = group ListKind e.segs false [];
-      is = record {
-        texts = (e.are.texts, refl);
-        kinds = (Square, ap (group_kind Square Other) (sym e.are.no_for), record { one = λ is. absurd_of is; comma = λ is. absurd_of is }, e.are.kinds);
-        operand = IsOperand.list e.are.grammar;
-        no_comma = refl;
-        no_for = refl;
-        apart = refl;
-        depth_fits = omega (arith, e.are.depth_fits);
-        stays = ap (λ s. group ListKind s false []) e.are.stays;
-      };
-      front = group_front ListKind 91 93 level depth text inside after rest n h refl refl (λ k. refl) starts e broken ends;
-      breaks = ap (λ b. b || segs_hold e.segs) broken;
-    }
-  where
-    absurd_of : {A : Type 0} → false ≡ true → A
-    absurd_of h = absurd (false≢true h)
-
--- a group of one segment in place
-pub flat_front : (kind : GroupKind) (a z level depth : ℕ) (text inside end rest : List ℕ) (h : Bool) → opening kind ≡ a ∷ [] → closing kind ≡ z ∷ []
-    → text ≡ a ∷ inside → (e : IsSegmentFront kind level depth inside end h) → end ≡ z ∷ rest
-    → is_broken kind (seg [] e.xs None no_segs) [] (segs_hold (seg [] e.xs None no_segs)) ≡ false
-    → (gap : Gap) → gap_bytes gap ++ text ≡ bytes_of (item_pieces Broken level gap (group kind (seg [] e.xs None no_segs) false [])) ++ rest
-flat_front kind a z level depth text inside end rest h opens closes starts e ends flat gap =
-    ap (λ (t : List ℕ). gap_bytes gap ++ t) (starts ∙ ap (λ (t : List ℕ). a ∷ t) (e.front Closed ∙ ap (λ (t : List ℕ). bytes_of (items_pieces Broken level (Some kind) Closed Start e.xs) ++ t) ends))
-    ∙ by (is_broken kind (seg [] e.xs None no_segs) [] (segs_hold (seg [] e.xs None no_segs))) flat (opening kind) opens (closing kind) closes _ (items_pieces Broken level (Some kind) Closed Start e.xs)
-  where
-    by : (b : Bool) → b ≡ false → (o : List ℕ) → o ≡ a ∷ [] → (c : List ℕ) → c ≡ z ∷ [] → (A B : List Piece)
-        → gap_bytes gap ++ (a ∷ (bytes_of B ++ (z ∷ rest))) ≡ (gap_bytes gap ++ (o ++ bytes_of (if breaks Broken b then A else ((B ++ []) ++ (piece Closed Operator c ∷ []))))) ++ rest
-    by b e1 o e2 c e3 A B = rw (e1, e2, e3, append-nil B, bytes_append B (piece Closed Operator (z ∷ []) ∷ [])) (simp append_assoc)
-
-pub flat_list_value : (level depth : ℕ) (inside end rest : List ℕ) (h : Bool) → IsSegmentFront ListKind level depth inside end h → end ≡ 93 ∷ rest
-    → IsValueFront level (depth + 1) (91 ∷ inside) rest h
-flat_list_value level depth inside end rest h e ends = record {
-  x = group ListKind (seg [] e.xs None no_segs) false [];
+pub number_value : (text rest : List ℕ) → IsTokenFront Integer text rest → (level depth : ℕ) → IsValueFront level depth text rest false
+number_value text rest f level depth = record {
+  x = leaf Integer f.token;
   is = record {
-    texts = ((refl, e.is.some, e.is.texts, refl, tt), refl);
-    kinds = (Square, ap (group_kind Square Other) (sym e.is.no_for), record { one = λ is. absurd_of is; comma = λ is. absurd_of is }, (e.is.kinds, tt));
-    operand = IsOperand.list (AreTests.one_test e.is.grammar AreTests.no_test);
-    no_comma = refl;
-    no_for = refl;
-    apart = refl;
-    depth_fits = omega (arith, e.is.depth_fits);
-    stays = ap (λ xs. group ListKind (seg [] xs None no_segs) false []) e.is.stays;
-  };
-  front = flat_front ListKind 91 93 level depth (91 ∷ inside) inside end rest h refl refl refl e ends refl;
-  breaks = or_false (items_hold e.xs) ∙ e.breaks;
-}
-  where
-    absurd_of : {A : Type 0} → false ≡ true → A
-    absurd_of h = absurd (false≢true h)
-
-    or_false : (b : Bool) → (b || false) ≡ b
-    or_false true = refl
-    or_false false = refl
-
-pub empty_list_value : (inside rest : List ℕ) → inside ≡ 93 ∷ rest → (level depth : ℕ) → IsValueFront level (depth + 1) (91 ∷ inside) rest false
-empty_list_value inside rest ends level depth = record {
-  x = group ListKind no_segs false [];
-  is = record {
-    texts = (tt, refl);
-    kinds = (Square, refl, record { one = λ is. absurd_of is; comma = λ is. absurd_of is }, tt);
-    operand = IsOperand.list AreTests.no_test;
+    texts = (f.is, refl);
+    kinds = tt;
+    primary = IsPrimary.number refl AreSuffixes.no_suffix refl;
     no_comma = refl;
     no_for = refl;
     apart = refl;
     depth_fits = omega arith;
-    stays = refl;
+    stays = ap (leaf Integer) f.stays;
+    leaves = λ within left. refl;
+    after = refl;
   };
-  front = λ gap. rw ends (simp append_assoc);
+  front = λ gap. token_front gap Integer text rest f;
   breaks = refl;
 }
+
+-- whether a group is broken, by what was counted
+pub broken_by : (kind : GroupKind) (segs : Segs) (end : List (List ℕ)) (n : ℕ) (h c e : Bool) → has_some end ≡ e → have_comments segs ≡ c → count segs ≡ n → segs_hold segs ≡ h
+    → is_broken kind segs end (segs_hold segs) ≡ (e || c || breaks_by_count kind n || (nat_le 2 n && h))
+broken_by kind segs end n h c e ends notes many holds = rw (ends, notes, many, holds) refl
+
+-- a group on lines
+abbrev pub broken_group : (kind : GroupKind) (level depth : ℕ) (inside middle below after rest : List ℕ) (z n : ℕ) (h c e : Bool) → closing kind ≡ z ∷ []
+    → ((n : ℕ) → has_commas kind false n ≡ true) → AreSegmentsFront kind (level + 1) depth inside middle n h c → AreNotesFront (level + 1) middle below e
+    → (e || c || breaks_by_count kind n || (nat_le 2 n && h)) ≡ true → below ≡ 10 ∷ (indent level ++ after) → after ≡ z ∷ rest
+    → IsGroupFront kind level depth (opening kind ++ inside) rest true
+broken_group kind level depth inside middle below after rest z n h c e closes commas s notes many line ends = record {
+  segs = s.segs;
+  are = s.are;
+  end = notes.notes;
+  end_is = notes.are;
+  front = λ gap. ap (λ (t : List ℕ). gap_bytes gap ++ (opening kind ++ t))
+      (s.front ∙ ap (λ (t : List ℕ). bytes_of (broken_segs Broken (level + 1) kind true s.segs) ++ t)
+      (notes.front ∙ ap (λ (t : List ℕ). bytes_of (comments (level + 1) notes.notes) ++ t) (line ∙ ap (λ (t : List ℕ). 10 ∷ (indent level ++ t)) ends)))
+      ∙ by gap (is_broken kind s.segs notes.notes (segs_hold s.segs)) broken (has_commas kind false (count s.segs)) (commas (count s.segs)) (closing kind) closes _;
+  breaks = ap (λ b. b || segs_hold s.segs) broken;
+}
   where
-    absurd_of : {A : Type 0} → false ≡ true → A
-    absurd_of h = absurd (false≢true h)
+    broken : is_broken kind s.segs notes.notes (segs_hold s.segs) ≡ true
+    broken = broken_by kind s.segs notes.notes n h c e notes.some_is s.notes s.count_is s.breaks ∙ many
+
+    body : (P Q : List Piece) (g : List ℕ) → g ++ (opening kind ++ (bytes_of P ++ (bytes_of Q ++ (10 ∷ (indent level ++ z ∷ rest)))))
+        ≡ (g ++ (opening kind ++ bytes_of (P ++ (Q ++ piece (Line level) Operator (z ∷ []) ∷ [])))) ++ rest
+    body P Q g = rw (bytes_append P (Q ++ piece (Line level) Operator (z ∷ []) ∷ []), bytes_append Q (piece (Line level) Operator (z ∷ []) ∷ [])) (simp append_assoc)
+
+    by : (gap : Gap) (b : Bool) → b ≡ true → (k : Bool) → k ≡ true → (o : List ℕ) → o ≡ z ∷ [] → (A : List Piece)
+        → gap_bytes gap ++ (opening kind ++ (bytes_of (broken_segs Broken (level + 1) kind true s.segs) ++ (bytes_of (comments (level + 1) notes.notes) ++ (10 ∷ (indent level ++ z ∷ rest)))))
+        ≡ (gap_bytes gap ++ (opening kind ++ bytes_of (if breaks Broken b then broken_segs Broken (level + 1) kind k s.segs ++ (comments (level + 1) notes.notes ++ piece (Line level) Operator o ∷ []) else A))) ++ rest
+    by gap b e1 k e2 o e3 A = rw (e1, e2, e3) (body (broken_segs Broken (level + 1) kind true s.segs) (comments (level + 1) notes.notes) (gap_bytes gap))
+
+-- a group in place
+pub flat_group : (kind : GroupKind) (level depth : ℕ) (inside end rest : List ℕ) (z n : ℕ) (h : Bool) → closing kind ≡ z ∷ []
+    → AreFlatFront kind true level depth inside end n h → (breaks_by_count kind n || (nat_le 2 n && h)) ≡ false → end ≡ z ∷ rest
+    → IsGroupFront kind level depth (opening kind ++ inside) rest h
+flat_group kind level depth inside end rest z n h closes s few ends = record {
+  segs = s.segs;
+  are = s.are;
+  end = [];
+  end_is = refl;
+  front = λ gap. ap (λ (t : List ℕ). gap_bytes gap ++ (opening kind ++ t)) (s.front ∙ ap (λ (t : List ℕ). bytes_of (flat_segs Broken level kind true s.segs) ++ t) ends)
+      ∙ by gap (is_broken kind s.segs [] (segs_hold s.segs)) flat (closing kind) closes _;
+  breaks = ap (λ b. b || segs_hold s.segs) flat ∙ s.breaks;
+}
+  where
+    flat : is_broken kind s.segs [] (segs_hold s.segs) ≡ false
+    flat = broken_by kind s.segs [] n h false false refl s.bare s.count_is s.breaks ∙ few
+
+    body : (P : List Piece) (g : List ℕ) → g ++ (opening kind ++ (bytes_of P ++ (z ∷ rest))) ≡ (g ++ (opening kind ++ bytes_of (P ++ (piece Closed Operator (z ∷ []) ∷ [])))) ++ rest
+    body P g = rw (bytes_append P (piece Closed Operator (z ∷ []) ∷ [])) (simp append_assoc)
+
+    by : (gap : Gap) (b : Bool) → b ≡ false → (o : List ℕ) → o ≡ z ∷ [] → (A : List Piece)
+        → gap_bytes gap ++ (opening kind ++ (bytes_of (flat_segs Broken level kind true s.segs) ++ (z ∷ rest)))
+        ≡ (gap_bytes gap ++ (opening kind ++ bytes_of (if breaks Broken b then A else flat_segs Broken level kind true s.segs ++ ([] ++ piece Closed Operator o ∷ [])))) ++ rest
+    by gap b e1 o e2 A = rw (e1, e2) (body (flat_segs Broken level kind true s.segs) (gap_bytes gap))
+
+absurd_of : {A : Type 0} → false ≡ true → A
+absurd_of h = absurd (false≢true h)
+
+-- a list or a dict as an operand
+pub list_value : (level depth : ℕ) (text rest : List ℕ) (h : Bool) → IsGroupFront ListKind level depth text rest h → IsValueFront level (depth + 1) text rest h
+list_value level depth text rest h g = record {
+  x = group ListKind g.segs false g.end;
+  is = record {
+    texts = (g.are.texts, g.end_is);
+    kinds = (Square, ap (group_kind Square Other) (sym g.are.no_for), record { one = λ is. absurd_of is; comma = λ is. absurd_of is }, g.are.kinds);
+    primary = IsPrimary.operand (IsOperand.list g.are.grammar) AreSuffixes.no_suffix;
+    no_comma = refl;
+    no_for = refl;
+    apart = refl;
+    depth_fits = omega (arith, g.are.depth_fits);
+    stays = ap (λ s. group ListKind s false g.end) g.are.stays;
+    leaves = λ within left. refl;
+    after = refl;
+  };
+  front = g.front;
+  breaks = g.breaks;
+}
+
+pub dict_value : (level depth : ℕ) (text rest : List ℕ) (h : Bool) → IsGroupFront Dict level depth text rest h → IsValueFront level (depth + 1) text rest h
+dict_value level depth text rest h g = record {
+  x = group Dict g.segs false g.end;
+  is = record {
+    texts = (g.are.texts, g.end_is);
+    kinds = (Curly, ap (group_kind Curly Other) (sym g.are.no_for), record { one = λ is. absurd_of is; comma = λ is. absurd_of is }, g.are.kinds);
+    primary = IsPrimary.operand (IsOperand.dict g.are.grammar) AreSuffixes.no_suffix;
+    no_comma = refl;
+    no_for = refl;
+    apart = refl;
+    depth_fits = omega (arith, g.are.depth_fits);
+    stays = ap (λ s. group Dict s false g.end) g.are.stays;
+    leaves = λ within left. refl;
+    after = refl;
+  };
+  front = g.front;
+  breaks = g.breaks;
+}

@@ -1,6 +1,6 @@
 -- A text in double quotes without a quote, newline or backslash in it is a string.
 use Rattle.std.proofs.Common.{take, drop, take-append-drop, append_assoc, ◌≡◌, ℕ, ◌==◌, ◌&&◌, List, [], ◌∷◌, ◌++◌, Bool, true, false, not, refl, sym, ap, ◌∙◌, true≢false}
-use Rattle.std.specs.Prelude.{if◌then◌else◌, Option, Some}
+use Rattle.std.specs.Prelude.{if◌then◌else◌, Some}
 use Rattle.std.specs.List.{list_all, prefix_len}
 use Rattle.bz_token.proofs.Scanning.{all_front}
 use Rattle.bz_canonical.specs.private.Fronts.{IsTokenFront, IsQuotedFront, is_simple}
@@ -10,7 +10,6 @@ use Rattle.bz_command.proofs.ReadBack.{quoted_value}
 use Rattle.std.proofs.lemmas.Bool.{and_parts, not-true}
 use Rattle.bz_token.specs.declared.token.Kind.TheVariants.{String}
 use Rattle.bz_token.specs.declared.scan_string.Quotes.{Quotes}
-use Rattle.bz_token.specs.declared.scan_string.Opening.{Opening}
 use Rattle.bz_token.specs.declared.scan_string.Escape.TheVariants.{Unescaped, AfterBackslash}
 use Rattle.bz_token.specs.Lexical.{is_empty, is_string, opening, is_closed}
 use Rattle.bz_token.specs.private.Closing.{closes, starts_escape}

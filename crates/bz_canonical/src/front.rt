@@ -1,6 +1,8 @@
 //! What stands at the front of a text: a byte, a word, a token, the beginning of a line.
 
-ghost use Rattle.std.specs.Prelude.{◌≡◌, ◌∷◌, ◌++◌, ◌≤◌, ◌&&◌, not, length, codes, IfSome};
+ghost use Rattle.bz_token.specs.declared.token.Kind.TheVariants.{Comment, Integer};
+ghost use Rattle.bz_token.specs.Lexical.{ends_blank, is_blank, is_comment};
+ghost use Rattle.std.specs.Prelude.{◌≡◌, ◌∷◌, ◌++◌, ◌≤◌, ◌&&◌, not, length, codes, IfSome, IsTrue, true, false, ◌==◌};
 ghost use Rattle.std.specs.Char.{is_ascii_digit};
 ghost use Rattle.std.specs.List.{prefix_len};
 ghost use Rattle.bz_token.specs.declared.token.Kind.TheVariants.{Identifier, String};
@@ -74,7 +76,7 @@ pub(crate) fn simple_string(text: &[u8]) -> Option<Quoted<'_>>
 
 /// What follows the name of the attribute `name` and its equals sign.
 pub(crate) fn after_name(text: &[u8]) -> Option<&[u8]>
-    ensures { IfSome result (λ rest. text.now ≡ codes "name" ++ (32 ∷ 61 ∷ 32 ∷ rest.now)) }
+    ensures { IfSome result (λ rest. text.now ≡ codes "name" ++ (codes " = " ++ rest.now)) }
 {
     match text {
         [b'n', b'a', b'm', b'e', b' ', b'=', b' ', rest @ ..] => Some(rest),
@@ -120,6 +122,76 @@ pub(crate) fn identifier(text: &[u8]) -> Option<&[u8]>
 }
 
 #[inline(always)]
+fn digits_len(bytes: &[u8]) -> usize
+    ensures len { result ≡ prefix_len is_ascii_digit bytes.now }
+    ensures within { result ≤ length bytes.now }
+{
+    bytes.iter().take_while(|b| b.is_ascii_digit()).count()
+}
+
+fn is_empty(bytes: &[u8]) -> bool
+    ensures { result ≡ is_empty bytes.now }
+{
+    match bytes {
+        [] => true,
+        _ => false,
+    }
+}
+
+/// What follows the number in decimal digits here.
+pub(crate) fn number(text: &[u8]) -> Option<&[u8]>
+    ensures { IfSome result (λ rest. IsTokenFront Integer text.now rest.now) }
+{
+    let (digits, rest) = text.split_at(digits_len(text));
+    if is_empty(digits) {
+        return None;
+    }
+    Some(rest)
+}
+
+fn line_len(bytes: &[u8]) -> usize
+    ensures len { result ≡ prefix_len (λ b. not (b == 10)) bytes.now }
+    ensures within { result ≤ length bytes.now }
+{
+    bytes.iter().take_while(|b| **b != b'\n').count()
+}
+
+fn is_blank(b: u8) -> bool
+    ensures { result ≡ is_blank b }
+{
+    b == b' ' || b == b'\t' || b == b'\r'
+}
+
+fn ends_blank(bytes: &[u8]) -> bool
+    ensures { result ≡ ends_blank bytes.now }
+{
+    match bytes {
+        [] => false,
+        _ => is_blank(bytes[bytes.len() - 1]),
+    }
+}
+
+fn begins_note(bytes: &[u8]) -> bool
+    ensures { result ≡ begins (λ b. b == 35) bytes.now }
+{
+    match bytes {
+        [] => false,
+        [b, ..] => *b == b'#',
+    }
+}
+
+/// What follows the comment here.
+pub(crate) fn comment(text: &[u8]) -> Option<&[u8]>
+    ensures { IfSome result (λ rest. IsTokenFront Comment text.now rest.now) }
+{
+    let (note, rest) = text.split_at(line_len(text));
+    if !begins_note(note) || ends_blank(note) {
+        return None;
+    }
+    Some(rest)
+}
+
+#[inline(always)]
 fn spaces(text: &[u8]) -> Option<&[u8]>
     ensures { IfSome result (λ rest. text.now ≡ 32 ∷ 32 ∷ 32 ∷ 32 ∷ rest.now) }
 {
@@ -129,10 +201,53 @@ fn spaces(text: &[u8]) -> Option<&[u8]>
     }
 }
 
+/// What follows a plus sign between spaces.
+#[inline(always)]
+pub(crate) fn after_plus(text: &[u8]) -> Option<&[u8]>
+    ensures { IfSome result (λ rest. text.now ≡ codes " + " ++ rest.now) }
+{
+    match text {
+        [b' ', b'+', b' ', rest @ ..] => Some(rest),
+        _ => None,
+    }
+}
+
+/// What follows two spaces.
+pub(crate) fn after_spaces(text: &[u8]) -> Option<&[u8]>
+    ensures { IfSome result (λ rest. text.now ≡ 32 ∷ 32 ∷ rest.now) }
+{
+    match text {
+        [b' ', b' ', rest @ ..] => Some(rest),
+        _ => None,
+    }
+}
+
+/// What follows a comma and a space.
+#[inline(always)]
+pub(crate) fn after_comma(text: &[u8]) -> Option<&[u8]>
+    ensures { IfSome result (λ rest. text.now ≡ codes ", " ++ rest.now) }
+{
+    match text {
+        [b',', b' ', rest @ ..] => Some(rest),
+        _ => None,
+    }
+}
+
+/// What follows a colon and a space.
+#[inline(always)]
+pub(crate) fn after_colon(text: &[u8]) -> Option<&[u8]>
+    ensures { IfSome result (λ rest. text.now ≡ codes ": " ++ rest.now) }
+{
+    match text {
+        [b':', b' ', rest @ ..] => Some(rest),
+        _ => None,
+    }
+}
+
 /// What follows an equals sign between spaces.
 #[inline(always)]
 pub(crate) fn after_equals(text: &[u8]) -> Option<&[u8]>
-    ensures { IfSome result (λ rest. text.now ≡ 32 ∷ 61 ∷ 32 ∷ rest.now) }
+    ensures { IfSome result (λ rest. text.now ≡ codes " = " ++ rest.now) }
 {
     match text {
         [b' ', b'=', b' ', rest @ ..] => Some(rest),

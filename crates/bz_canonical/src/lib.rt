@@ -6,7 +6,9 @@
 
 mod chunk;
 mod front;
+mod group;
 mod keyword;
+mod notes;
 mod plain;
 mod rule;
 mod segments;

@@ -5,7 +5,10 @@ ghost use Rattle.bz_tree.specs.declared.stmt.Class.TheVariants.{Rule};
 ghost use Rattle.bz_canonical.specs.private.Statements.{IsStatementFront};
 
 use crate::front::{after, after_name, identifier, line, simple_string};
-use crate::segments::arguments;
+use crate::notes::lines;
+use crate::segments::segments;
+use crate::value::either;
+use bz_tree::GroupKind;
 
 /// A rule's name, and what follows the rule.
 #[derive(Clone, Copy)]
@@ -22,14 +25,17 @@ pub(crate) fn named_rule(text: &[u8], max_depth: u8) -> Option<NamedRule<'_>>
     if max_depth == 0 {
         return None;
     }
-    let kind = identifier(text)?;
+    let start = lines(text);
+    let kind = identifier(start)?;
     let inside = after(kind, b'(')?;
     let first = line(inside, 1)?;
-    let start = after_name(first)?;
-    let name = simple_string(start)?;
+    let value = after_name(first)?;
+    let name = simple_string(value)?;
     let next = after(name.rest, b',')?;
-    let read = arguments(next, 1, max_depth - 1)?;
-    if !read.one {
+    let read = segments(GroupKind::RuleCall, next, 1, max_depth - 1)?;
+    let noted = either(read.noted, read.one);
+    let broken = either(read.ended, noted);
+    if !broken {
         return None;
     }
     let end = line(read.rest, 0)?;

@@ -1,82 +1,168 @@
-//! The segments of a broken group, each on lines of its own and with its comma.
+//! The segments of a group: elements, entries, arguments.
 
-ghost use Rattle.std.specs.Prelude.{◌≡◌, ◌+◌, ◌<◌, ◌||◌, ℕ, IfSome, nat_le};
-ghost use Rattle.bz_tree.specs.declared.stmt.GroupKind.TheVariants.{RuleCall, List as ListKind};
-ghost use Rattle.bz_canonical.specs.private.Segments.{AreSegmentsFront, IsSegmentFront};
+ghost use Rattle.std.specs.Prelude.{◌≡◌, ◌+◌, ◌<◌, ◌||◌, ◌∷◌, ◌++◌, ℕ, List, codes, IfSome, nat_le, true, false};
+ghost use Rattle.bz_token.specs.declared.token.Kind.TheVariants.{Identifier};
+ghost use Rattle.bz_tree.specs.Statement.{is_call};
+ghost use Rattle.bz_canonical.specs.private.Fronts.{IsTokenFront};
+ghost use Rattle.bz_canonical.specs.private.Segments.{AreFlatFront, AreNotesFront, AreSegmentsFront, IsSegmentFront};
+ghost use Rattle.bz_canonical.specs.private.Values.{IsValueFront};
 
-use crate::front::{after, after_equals, identifier, line};
-use crate::value::{Value, nodes};
+use crate::front::{after, after_colon, after_comma, after_equals, identifier, line};
+use crate::group::closing;
+use crate::notes::{beside, notes};
+use crate::value::{Value, either, leaf, nodes};
+use bz_tree::GroupKind;
 
+/// What follows segments.
 #[derive(Clone, Copy)]
-pub(crate) struct Segments<'t> {
+pub(crate) struct AfterSegments<'t> {
     pub(crate) rest: &'t [u8],
+    /// There is one at least.
     pub(crate) one: bool,
-    /// There are two or more.
+    /// There are two at least.
     pub(crate) two: bool,
-    /// One of them holds a broken group.
+    /// One of them holds a group on lines of its own.
     pub(crate) holds: bool,
+    /// A comment stands above one or beside one.
+    pub(crate) noted: bool,
+    /// Comments stand after the last.
+    pub(crate) ended: bool,
 }
 
-/// What follows the elements here.
+/// What follows the segments here, each on lines of its own and with its comma, and the comments after them.
 #[cycle(values)]
-pub(crate) fn elements(text: &[u8], level: u8, depth: u8) -> Option<Segments<'_>>
+pub(crate) fn segments(
+    kind: GroupKind,
+    text: &[u8],
+    level: u8,
+    depth: u8,
+) -> Option<AfterSegments<'_>>
     requires { level + depth < 255 }
-    ensures { IfSome result (λ read. (n : ℕ) × (read.one ≡ nat_le 1 n) × (read.two ≡ nat_le 2 n)
-        × AreSegmentsFront ListKind level depth text.now read.rest.now n read.holds) }
+    ensures { IfSome result (λ read. (n : ℕ) × (read.one ≡ nat_le 1 n) × (read.two ≡ nat_le 2 n) × (middle : List ℕ)
+        × AreSegmentsFront kind level depth text.now middle n read.holds read.noted
+        × AreNotesFront level middle read.rest.now read.ended) }
 {
     let mut rest = text;
     let mut one = false;
     let mut two = false;
     let mut holds = false;
+    let mut noted = false;
     for _ in 0..text.len() {
-        let Some(inner) = line(rest, level) else {
-            return Some(Segments { rest, one, two, holds });
+        let above = notes(rest, level);
+        let Some(inner) = line(above.rest, level) else {
+            return Some(AfterSegments {
+                rest: above.rest,
+                one,
+                two,
+                holds,
+                noted,
+                ended: above.some,
+            });
         };
-        let read = nodes(inner, level, depth)?;
-        rest = after(read.rest, b',')?;
+        let read = segment(kind, inner, level, depth)?;
+        let comma = after(read.rest, b',')?;
+        let side = beside(comma)?;
+        rest = side.rest;
         holds = either(holds, read.holds);
+        let about = either(above.some, side.some);
+        noted = either(noted, about);
         two = one;
         one = true;
     }
     None
 }
 
-/// What follows the argument here.
-fn argument(text: &[u8], level: u8, depth: u8) -> Option<Value<'_>>
-    requires { level + depth < 255 }
-    ensures { IfSome result (λ read. IsSegmentFront RuleCall level depth text.now read.rest.now read.holds) }
-{
-    let name = identifier(text)?;
-    let start = after_equals(name)?;
-    let read = nodes(start, level, depth)?;
-    Some(read)
-}
-
-fn either(a: bool, b: bool) -> bool
-    ensures { result ≡ (a || b) }
-{
-    a || b
-}
-
-/// What follows the arguments here.
-pub(crate) fn arguments(text: &[u8], level: u8, depth: u8) -> Option<Segments<'_>>
+/// What follows the segments here in place.
+#[cycle(values)]
+pub(crate) fn flat_segments(
+    kind: GroupKind,
+    text: &[u8],
+    level: u8,
+    depth: u8,
+) -> Option<AfterSegments<'_>>
     requires { level + depth < 255 }
     ensures { IfSome result (λ read. (n : ℕ) × (read.one ≡ nat_le 1 n) × (read.two ≡ nat_le 2 n)
-        × AreSegmentsFront RuleCall level depth text.now read.rest.now n read.holds) }
+        × AreFlatFront kind true level depth text.now read.rest.now n read.holds) }
 {
-    let mut rest = text;
-    let mut one = false;
+    if after(text, closing(kind)).is_some() {
+        return Some(in_place(text, false, false, false));
+    }
+    let first = segment(kind, text, level, depth)?;
+    let mut rest = first.rest;
     let mut two = false;
-    let mut holds = false;
+    let mut holds = first.holds;
     for _ in 0..text.len() {
-        let Some(inner) = line(rest, level) else {
-            return Some(Segments { rest, one, two, holds });
+        let Some(next) = after_comma(rest) else {
+            return Some(in_place(rest, true, two, holds));
         };
-        let read = argument(inner, level, depth)?;
-        rest = after(read.rest, b',')?;
+        let read = segment(kind, next, level, depth)?;
+        rest = read.rest;
         holds = either(holds, read.holds);
-        two = one;
-        one = true;
+        two = true;
     }
     None
+}
+
+fn in_place(rest: &[u8], one: bool, two: bool, holds: bool) -> AfterSegments<'_>
+    ensures rest { result.rest.now ≡ rest.now }
+    ensures counted { (result.one ≡ one) × (result.two ≡ two) × (result.holds ≡ holds) }
+{
+    AfterSegments {
+        rest,
+        one,
+        two,
+        holds,
+        noted: false,
+        ended: false,
+    }
+}
+
+/// What follows the segment here, of a group of this kind.
+#[cycle(values)]
+fn segment(kind: GroupKind, text: &[u8], level: u8, depth: u8) -> Option<Value<'_>>
+    requires { level + depth < 255 }
+    ensures { IfSome result (λ read. IsSegmentFront kind level depth text.now read.rest.now read.holds) }
+{
+    match kind {
+        GroupKind::List => {
+            let read = nodes(text, level, depth)?;
+            Some(read)
+        }
+        GroupKind::Dict => {
+            let colon = leaf(text)?;
+            let value = after_colon(colon)?;
+            let read = nodes(value, level, depth)?;
+            Some(read)
+        }
+        _ => {
+            if !is_call(kind) {
+                return None;
+            }
+            match after_keyword(text) {
+                Some(value) => {
+                    let read = nodes(value, level, depth)?;
+                    Some(read)
+                }
+                None => {
+                    let read = nodes(text, level, depth)?;
+                    Some(read)
+                }
+            }
+        }
+    }
+}
+
+fn is_call(kind: GroupKind) -> bool
+    ensures { result ≡ is_call kind }
+{
+    matches!(kind, GroupKind::Call | GroupKind::RuleCall)
+}
+
+/// What follows the name of an argument and its equals sign.
+fn after_keyword(text: &[u8]) -> Option<&[u8]>
+    ensures { IfSome result (λ rest. IsTokenFront Identifier text.now (codes " = " ++ rest.now)) }
+{
+    let equals = identifier(text)?;
+    let rest = after_equals(equals)?;
+    Some(rest)
 }

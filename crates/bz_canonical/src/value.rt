@@ -1,25 +1,38 @@
-//! An operand that stands as it is laid out.
+//! Values that stand as they would be written: operands, calls of names, and sums of them.
 
-ghost use Rattle.std.specs.Prelude.{◌+◌, ◌<◌, ◌∷◌, ℕ, IfSome, false, true};
+ghost use Rattle.std.specs.Prelude.{◌≡◌, ◌+◌, ◌<◌, ◌∷◌, ◌||◌, ℕ, IfSome, false};
+ghost use Rattle.bz_canonical.specs.private.Chains.{IsTermFront};
 ghost use Rattle.bz_canonical.specs.private.Values.{AreNodesFront, IsValueFront};
 
-use crate::front::{after, identifier, line, string};
-use crate::segments::elements;
+use crate::front::{after_plus, identifier, number, string};
+use crate::group::group;
+use bz_tree::GroupKind;
 
+/// What follows a value.
 #[derive(Clone, Copy)]
 pub(crate) struct Value<'t> {
     pub(crate) rest: &'t [u8],
-    /// It is a broken group, or holds one.
+    /// It is a group on lines of its own, or holds one.
     pub(crate) holds: bool,
 }
 
-/// What follows the string or name here.
+pub(crate) fn either(a: bool, b: bool) -> bool
+    ensures { result ≡ (a || b) }
+{
+    a || b
+}
+
+/// What follows the string, number or name here.
 pub(crate) fn leaf(text: &[u8]) -> Option<&[u8]>
     ensures { IfSome result (λ rest. (level depth : ℕ) → IsValueFront level depth text.now rest.now false) }
 {
     match text {
         [b'"', ..] => {
             let rest = string(text)?;
+            Some(rest)
+        }
+        [b'0'..=b'9', ..] => {
+            let rest = number(text)?;
             Some(rest)
         }
         _ => {
@@ -29,91 +42,43 @@ pub(crate) fn leaf(text: &[u8]) -> Option<&[u8]>
     }
 }
 
-/// What follows the empty list here, its first bracket left out.
-fn empty_list(inside: &[u8]) -> Option<&[u8]>
-    ensures { IfSome result (λ rest. (level depth : ℕ) → IsValueFront level (depth + 1) (91 ∷ inside.now) rest.now false) }
-{
-    let rest = after(inside, b']')?;
-    Some(rest)
-}
-
-/// What follows the list of one element here, its first bracket left out.
+/// What follows the group of this kind here, an operand.
 #[cycle(values)]
-fn flat_list(inside: &[u8], level: u8, depth: u8) -> Option<Value<'_>>
+fn list(text: &[u8], level: u8, depth: u8) -> Option<Value<'_>>
     requires { level + depth < 255 }
-    ensures { IfSome result (λ v. IsValueFront level (depth + 1) (91 ∷ inside.now) v.rest.now v.holds) }
+    ensures { IfSome result (λ v. IsTermFront level depth text.now v.rest.now v.holds) }
 {
-    let read = nodes(inside, level, depth)?;
-    let rest = after(read.rest, b']')?;
-    Some(Value { rest, holds: read.holds })
-}
-
-/// What follows the broken list here, its first bracket left out.
-#[cycle(values)]
-fn broken_list(inside: &[u8], level: u8, depth: u8) -> Option<&[u8]>
-    requires { level + depth + 1 < 255 }
-    ensures { IfSome result (λ rest. IsValueFront level (depth + 1) (91 ∷ inside.now) rest.now true) }
-{
-    let read = elements(inside, level + 1, depth)?;
-    if !read.two {
+    if depth == 0 {
         return None;
     }
-    let end = line(read.rest, level)?;
-    let rest = after(end, b']')?;
-    Some(rest)
+    let read = group(GroupKind::List, text, level, depth - 1)?;
+    Some(read)
 }
 
-/// What follows the list here, its first bracket left out.
 #[cycle(values)]
-fn list(inside: &[u8], level: u8, depth: u8) -> Option<Value<'_>>
-    requires { level + depth + 1 < 255 }
-    ensures { IfSome result (λ v. IsValueFront level (depth + 1) (91 ∷ inside.now) v.rest.now v.holds) }
-{
-    match inside {
-        [b']', ..] => {
-            let rest = empty_list(inside)?;
-            Some(Value { rest, holds: false })
-        }
-        [b'\n', ..] => {
-            let rest = broken_list(inside, level, depth)?;
-            Some(Value { rest, holds: true })
-        }
-        _ => flat_list(inside, level, depth),
-    }
-}
-
-/// What follows the operand here.
-#[cycle(values)]
-fn operand(text: &[u8], level: u8, depth: u8) -> Option<Value<'_>>
+fn dict(text: &[u8], level: u8, depth: u8) -> Option<Value<'_>>
     requires { level + depth < 255 }
-    ensures { IfSome result (λ v. IsValueFront level depth text.now v.rest.now v.holds) }
+    ensures { IfSome result (λ v. IsTermFront level depth text.now v.rest.now v.holds) }
 {
-    match text {
-        [b'[', inside @ ..] => {
-            if depth == 0 {
-                return None;
-            }
-            let read = list(inside, level, depth - 1)?;
-            Some(read)
-        }
-        _ => {
-            let rest = leaf(text)?;
-            Some(Value { rest, holds: false })
-        }
+    if depth == 0 {
+        return None;
     }
+    let read = group(GroupKind::Dict, text, level, depth - 1)?;
+    Some(read)
 }
 
-/// What follows the call of a name here, with one argument in place.
+/// What follows the call here, of a name that ends at this bracket.
 #[cycle(values)]
-fn flat_call(text: &[u8], level: u8, depth: u8) -> Option<Value<'_>>
+fn call(text: &[u8], level: u8, depth: u8) -> Option<Value<'_>>
     requires { level + depth < 255 }
-    ensures { IfSome result (λ v. AreNodesFront level (depth + 1) text.now v.rest.now v.holds) }
+    ensures { IfSome result (λ v. IsTermFront level depth text.now v.rest.now v.holds) }
 {
+    if depth == 0 {
+        return None;
+    }
     let bracket = identifier(text)?;
-    let inside = after(bracket, b'(')?;
-    let read = nodes(inside, level, depth)?;
-    let rest = after(read.rest, b')')?;
-    Some(Value { rest, holds: read.holds })
+    let read = group(GroupKind::Call, bracket, level, depth - 1)?;
+    Some(read)
 }
 
 /// Whether a call of a name begins here.
@@ -124,16 +89,41 @@ fn begins_call(text: &[u8]) -> bool {
     }
 }
 
+/// What follows the operand or call here.
+#[cycle(values)]
+fn term(text: &[u8], level: u8, depth: u8) -> Option<Value<'_>>
+    requires { level + depth < 255 }
+    ensures { IfSome result (λ v. IsTermFront level depth text.now v.rest.now v.holds) }
+{
+    match text {
+        [b'[', ..] => list(text, level, depth),
+        [b'{', ..] => dict(text, level, depth),
+        _ => {
+            if begins_call(text) {
+                return call(text, level, depth);
+            }
+            let rest = leaf(text)?;
+            Some(Value { rest, holds: false })
+        }
+    }
+}
+
 /// What follows the value here.
 #[cycle(values)]
 pub(crate) fn nodes(text: &[u8], level: u8, depth: u8) -> Option<Value<'_>>
     requires { level + depth < 255 }
     ensures { IfSome result (λ v. AreNodesFront level depth text.now v.rest.now v.holds) }
 {
-    if depth > 0 && begins_call(text) {
-        let read = flat_call(text, level, depth - 1)?;
-        return Some(read);
+    let first = term(text, level, depth)?;
+    let mut rest = first.rest;
+    let mut holds = first.holds;
+    for _ in 0..text.len() {
+        let Some(next) = after_plus(rest) else {
+            return Some(Value { rest, holds });
+        };
+        let read = term(next, level, depth)?;
+        rest = read.rest;
+        holds = either(holds, read.holds);
     }
-    let read = operand(text, level, depth)?;
-    Some(read)
+    None
 }

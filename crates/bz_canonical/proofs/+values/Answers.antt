@@ -1,39 +1,132 @@
-use Rattle.std.proofs.Common.{false, ◌+◌, ◌∙◌, ◌||◌, ◌∷◌, ◌++◌, refl, sym, subst, ap}
-use Rattle.bz_tree.specs.declared.stmt.GroupKind.TheVariants.{List as ListKind, Call}
-use Rattle.bz_layout.specs.Pieces.{indent}
-use Rattle.bz_canonical.specs.private.Segments.{Continues}
-use Rattle.bz_canonical.proofs.GroupSegments.{begin, more, value_nodes, call_nodes, finish, value_segment, first_of_more, second_of_more}
-use Rattle.bz_canonical.proofs.Operands.{list_value, flat_list_value}
+use Rattle.std.proofs.Common.{◌≡◌, true, false, ◌+◌, ◌-◌, arith, ◌∙◌, ◌||◌, ◌++◌, refl, sym, subst, ap}
+use Rattle.std.specs.Prelude.{codes}
+use Rattle.bz_canonical.specs.private.Chains.{IsTermFront}
+use Rattle.bz_canonical.specs.private.Segments.{Continues, ContinuesFlat, IsSegmentFront}
+use Rattle.bz_canonical.proofs.GroupSegments.{begin, more, finish, begin_flat, more_flat, finish_flat, none_flat, element_segment, positional_segment, keyword_segment, entry_segment, first_of_more, second_of_more, four_or, in_place_front}
+use Rattle.bz_canonical.proofs.Operands.{list_value, dict_value, broken_group, flat_group}
+use Rattle.bz_canonical.proofs.Chained.{Chains, begin_chain, more_chain, finish_chain, value_term, call_term}
 use Rattle.bz_canonical.proofs.+values.Goals as goal
 
-pub segments::elements-loop-init : goal.segments::elements-loop-init
-segments::elements-loop-init m c = (0, refl, refl, begin ListKind c.args.level c.args.depth c.args.text.now)
+pub segments::segments-loop-init : goal.segments::segments-loop-init
+segments::segments-loop-init m c = (0, refl, refl, begin c.args.kind c.args.level c.args.depth c.args.text.now)
 
-pub segments::elements-returns-in_default : goal.segments::elements-returns-in_default
-segments::elements-returns-in_default m c =
+pub value::nodes-loop-init : goal.value::nodes-loop-init
+value::nodes-loop-init m c = begin_chain c.args.level c.args.depth c.args.text.now c.in_ok-first.first.rest.now c.in_ok-first.first.holds c.in_ok-first.ensures
+
+pub value::nodes-returns-in_default : goal.value::nodes-returns-in_default
+value::nodes-returns-in_default m c = finish_chain c.args.level c.args.depth c.args.text.now c.loop.rest.now c.loop.holds c.loop.invariant
+
+pub value::nodes-loop-preserved : goal.value::nodes-loop-preserved
+value::nodes-loop-preserved m c =
+    subst (λ h. Chains c.args.level c.args.depth c.args.text.now c.in_ok-read.read.rest.now h) (sym c.either-holds.ensures)
+    (more_chain c.args.level c.args.depth c.args.text.now c.loop.rest.now c.in-Some.next.now c.in_ok-read.read.rest.now c.loop.holds c.in_ok-read.read.holds c.loop.invariant c.in-Some.ensures c.in_ok-read.ensures)
+
+pub segments::segments-loop-preserved : goal.segments::segments-loop-preserved
+segments::segments-loop-preserved m c =
     let i = c.loop.invariant in
-    (i.0, i.1, i.2, finish ListKind c.args.level c.args.depth c.args.text.now c.loop.rest.now i.0 c.loop.holds i.3)
+    let on = more c.args.kind c.args.level c.args.depth c.args.text.now c.loop.rest.now c.notes-above.result.rest.now c.in-Some.inner.now c.in_ok-read.read.rest.now c.in_ok-comma.comma.now c.in_ok-side.side.rest.now
+    i.0 c.loop.holds c.in_ok-read.read.holds c.loop.noted c.notes-above.result.some c.in_ok-side.side.some i.3 c.notes-above.ensures c.in-Some.ensures c.in_ok-read.ensures c.in_ok-comma.ensures c.in_ok-side.ensures in (
+      i.0 + 1,
+      first_of_more i.0,
+      i.1 ∙ second_of_more i.0,
+      subst (λ b. Continues c.args.kind c.args.level c.args.depth c.args.text.now c.in_ok-side.side.rest.now (i.0 + 1) b c.either-noted.result) (sym c.either-holds.ensures)
+          (subst (λ b. Continues c.args.kind c.args.level c.args.depth c.args.text.now c.in_ok-side.side.rest.now (i.0 + 1) (c.loop.holds || c.in_ok-read.read.holds) b)
+          (sym (c.either-noted.ensures ∙ ap (λ b. c.loop.noted || b) c.either-about.ensures)) on),
+    )
 
-pub segments::elements-loop-preserved : goal.segments::elements-loop-preserved
-segments::elements-loop-preserved m c =
+pub segments::segments-returns-in_default : goal.segments::segments-returns-in_default
+segments::segments-returns-in_default m c =
     let i = c.loop.invariant in
-    let on = more ListKind c.args.level c.args.depth c.args.text.now c.loop.rest.now c.in-Some.inner.now c.in_ok-read.read.rest.now c.in_ok-rest.rest.now i.0 c.loop.holds c.in_ok-read.read.holds i.3 c.in-Some.ensures (value_segment ListKind c.args.level c.args.depth c.in-Some.inner.now c.in_ok-read.read.rest.now c.in_ok-read.read.holds c.in_ok-read.ensures) c.in_ok-rest.ensures in
-    (i.0 + 1, first_of_more i.0, i.1 ∙ second_of_more i.0,
-        subst (λ h. Continues ListKind c.args.level c.args.depth c.args.text.now c.in_ok-rest.rest.now (i.0 + 1) h) (sym c.either-holds.ensures) on)
+    (i.0, i.1, i.2, c.loop.rest.now, finish c.args.kind c.args.level c.args.depth c.args.text.now c.loop.rest.now i.0 c.loop.holds c.loop.noted i.3, c.notes-above.ensures)
 
-pub value::broken_list-returns : goal.value::broken_list-returns
-value::broken_list-returns m c =
+pub segments::flat_segments-loop-init : goal.segments::flat_segments-loop-init
+segments::flat_segments-loop-init m c = (1, refl, refl, begin_flat c.args.kind c.args.level c.args.depth c.args.text.now c.in_ok-first.first.rest.now c.in_ok-first.first.holds c.in_ok-first.ensures)
+
+pub segments::flat_segments-loop-preserved : goal.segments::flat_segments-loop-preserved
+segments::flat_segments-loop-preserved m c =
+    let i = c.loop.invariant in
+    let on = more_flat c.args.kind true c.args.level c.args.depth c.args.text.now c.loop.rest.now c.in-Some.next.now c.in_ok-read.read.rest.now i.0 c.loop.holds c.in_ok-read.read.holds i.3 c.in-Some.ensures c.in_ok-read.ensures in (
+      i.0 + 1,
+      first_of_more i.0,
+      i.1 ∙ second_of_more i.0,
+      subst (λ b. ContinuesFlat c.args.kind true c.args.level c.args.depth c.args.text.now c.in_ok-read.read.rest.now (i.0 + 1) b) (sym c.either-holds.ensures) on,
+    )
+
+pub group::broken_group-returns : goal.group::broken_group-returns
+group::broken_group-returns m c =
     let read = c.in_ok-read.ensures in
-    list_value c.args.level c.args.depth (91 ∷ c.args.inside.now) c.args.inside.now c.in_ok-read.read.rest.now c.in_ok-rest.rest.now read.0 c.in_ok-read.read.holds
-    refl read.3 (sym read.2 ∙ c.if-not-read.false) (c.in_ok-end.ensures ∙ ap (λ xs. 10 ∷ (indent c.args.level ++ xs)) c.in_ok-rest.ensures)
+    let many = four_or c.in_ok-read.read.ended c.in_ok-read.read.noted _ _ ∙ sym (c.either-broken.ensures ∙ ap (λ b. c.in_ok-read.read.ended || b) (c.either-noted.ensures ∙ ap (λ b. c.in_ok-read.read.noted || b) (c.breaks-many.ensures read.0 read.1 read.2))) ∙ c.if-not-broken.false in
+    broken_group c.args.kind c.args.level c.args.depth c.args.inside.now read.3 c.in_ok-read.read.rest.now c.in_ok-end.end.now c.in_ok-rest.rest.now c.closing.result read.0 c.in_ok-read.read.holds c.in_ok-read.read.noted c.in_ok-read.read.ended
+    c.closing.ensures c.requires.commas read.4 read.5 many c.in_ok-end.ensures c.in_ok-rest.ensures
 
-pub value::flat_list-returns : goal.value::flat_list-returns
-value::flat_list-returns m c = flat_list_value c.args.level c.args.depth c.args.inside.now c.in_ok-read.read.rest.now c.in_ok-rest.rest.now c.in_ok-read.read.holds
-    (value_segment ListKind c.args.level c.args.depth c.args.inside.now c.in_ok-read.read.rest.now c.in_ok-read.read.holds c.in_ok-read.ensures) c.in_ok-rest.ensures
+pub group::flat_group-returns : goal.group::flat_group-returns
+group::flat_group-returns m c =
+    let read = c.in_ok-read.ensures in
+    flat_group c.args.kind c.args.level c.args.depth c.args.inside.now c.in_ok-read.read.rest.now c.in_ok-rest.rest.now c.closing.result read.0 c.in_ok-read.read.holds
+    c.closing.ensures read.3 (sym (c.breaks-broken.ensures read.0 read.1 read.2) ∙ c.if-broken.false) c.in_ok-rest.ensures
 
-pub value::flat_call-returns : goal.value::flat_call-returns
-value::flat_call-returns m c = call_nodes c.args.level c.args.depth c.args.text.now c.in_ok-bracket.bracket.now c.in_ok-inside.inside.now c.in_ok-read.read.rest.now c.in_ok-rest.rest.now c.in_ok-read.read.holds
-    c.in_ok-bracket.ensures c.in_ok-inside.ensures (value_segment Call c.args.level c.args.depth c.in_ok-inside.inside.now c.in_ok-read.read.rest.now c.in_ok-read.read.holds c.in_ok-read.ensures) c.in_ok-rest.ensures
+pub segments::flat_segments-returns-then-is_some : goal.segments::flat_segments-returns-then-is_some
+segments::flat_segments-returns-then-is_some m c =
+    let made = c.in_place.ensures in (
+      0,
+      made.counted.0,
+      made.counted.1,
+      in_place_front c.args.kind c.args.level c.args.depth c.args.text.now c.args.text.now c.in_place.result.rest.now 0 false c.in_place.result.holds made.rest made.counted.2
+          (none_flat c.args.kind c.args.level c.args.depth c.args.text.now),
+    )
 
-pub value::nodes-returns : goal.value::nodes-returns
-value::nodes-returns m c = value_nodes c.args.level c.args.depth c.args.text.now c.in_ok-read-2.read.rest.now c.in_ok-read-2.read.holds c.in_ok-read-2.ensures
+pub segments::flat_segments-returns-in_default : goal.segments::flat_segments-returns-in_default
+segments::flat_segments-returns-in_default m c =
+    let made = c.in_place-in_default.ensures in
+    let i = c.loop.invariant in (
+      i.0,
+      made.counted.0 ∙ i.1,
+      made.counted.1 ∙ i.2,
+      in_place_front c.args.kind c.args.level c.args.depth c.args.text.now c.loop.rest.now c.in_place-in_default.result.rest.now i.0 c.loop.holds c.in_place-in_default.result.holds made.rest made.counted.2
+          (finish_flat c.args.kind true c.args.level c.args.depth c.args.text.now c.loop.rest.now i.0 c.loop.holds i.3),
+    )
+
+pub segments::segment-returns-in_ok-read-in-List : goal.segments::segment-returns-in_ok-read-in-List
+segments::segment-returns-in_ok-read-in-List m c =
+    subst (λ k. IsSegmentFront k c.args.level c.args.depth c.args.text.now c.in_ok-read-in-List.read.rest.now c.in_ok-read-in-List.read.holds) (sym c.in-List.is)
+    (element_segment c.args.level c.args.depth c.args.text.now c.in_ok-read-in-List.read.rest.now c.in_ok-read-in-List.read.holds c.in_ok-read-in-List.ensures)
+
+pub segments::segment-returns-in_ok-read-in-Dict : goal.segments::segment-returns-in_ok-read-in-Dict
+segments::segment-returns-in_ok-read-in-Dict m c =
+    subst (λ k. IsSegmentFront k c.args.level c.args.depth c.args.text.now c.in_ok-read-in-Dict.read.rest.now c.in_ok-read-in-Dict.read.holds) (sym c.in-Dict.is)
+    (entry_segment c.args.level c.args.depth c.args.text.now c.in_ok-colon-in-Dict.colon.now c.in_ok-read-in-Dict.read.rest.now c.in_ok-value-in-Dict.value.now c.in_ok-read-in-Dict.read.holds
+    (c.in_ok-colon-in-Dict.ensures c.args.level c.args.depth) c.in_ok-value-in-Dict.ensures c.in_ok-read-in-Dict.ensures)
+
+pub segments::segment-returns-in_ok-read-in-Some : goal.segments::segment-returns-in_ok-read-in-Some
+segments::segment-returns-in_ok-read-in-Some m c =
+    keyword_segment c.args.kind c.args.level c.args.depth c.args.text.now (codes " = " ++ c.in-Some.value.now) c.in_ok-read-in-Some.read.rest.now c.in-Some.value.now c.in_ok-read-in-Some.read.holds
+    (sym c.is_call.ensures ∙ c.if-not-is_call.false) c.in-Some.ensures refl c.in_ok-read-in-Some.ensures
+
+pub segments::segment-returns-in_ok-read-in-None : goal.segments::segment-returns-in_ok-read-in-None
+segments::segment-returns-in_ok-read-in-None m c =
+    positional_segment c.args.kind c.args.level c.args.depth c.args.text.now c.in_ok-read-in-None.read.rest.now c.in_ok-read-in-None.read.holds
+    (sym c.is_call.ensures ∙ c.if-not-is_call.false) c.in_ok-read-in-None.ensures
+
+pub value::list-returns : goal.value::list-returns
+value::list-returns m c =
+    let deeper : c.args.depth - 1 + 1 ≡ c.args.depth = omega (arith, c.if-depth-eq0.false) in
+    subst (λ d. IsTermFront c.args.level d c.args.text.now c.in_ok-read.read.rest.now c.in_ok-read.read.holds) deeper
+    (value_term c.args.level (c.args.depth - 1 + 1) c.args.text.now c.in_ok-read.read.rest.now c.in_ok-read.read.holds
+    (list_value c.args.level (c.args.depth - 1) c.args.text.now c.in_ok-read.read.rest.now c.in_ok-read.read.holds c.in_ok-read.ensures))
+
+pub value::dict-returns : goal.value::dict-returns
+value::dict-returns m c =
+    let deeper : c.args.depth - 1 + 1 ≡ c.args.depth = omega (arith, c.if-depth-eq0.false) in
+    subst (λ d. IsTermFront c.args.level d c.args.text.now c.in_ok-read.read.rest.now c.in_ok-read.read.holds) deeper
+    (value_term c.args.level (c.args.depth - 1 + 1) c.args.text.now c.in_ok-read.read.rest.now c.in_ok-read.read.holds
+    (dict_value c.args.level (c.args.depth - 1) c.args.text.now c.in_ok-read.read.rest.now c.in_ok-read.read.holds c.in_ok-read.ensures))
+
+pub value::call-returns : goal.value::call-returns
+value::call-returns m c =
+    let deeper : c.args.depth - 1 + 1 ≡ c.args.depth = omega (arith, c.if-depth-eq0.false) in
+    subst (λ d. IsTermFront c.args.level d c.args.text.now c.in_ok-read.read.rest.now c.in_ok-read.read.holds) deeper
+    (call_term c.args.level (c.args.depth - 1) c.args.text.now c.in_ok-bracket.bracket.now c.in_ok-read.read.rest.now c.in_ok-read.read.holds c.in_ok-bracket.ensures c.in_ok-read.ensures)
+
+pub value::term-returns-in_ok-rest-in_default : goal.value::term-returns-in_ok-rest-in_default
+value::term-returns-in_ok-rest-in_default m c =
+    value_term c.args.level c.args.depth c.args.text.now c.in_ok-rest-in_default.rest.now false (c.in_ok-rest-in_default.ensures c.args.level c.args.depth)

@@ -2,7 +2,7 @@ use Rattle.std.proofs.Common.{◌++◌, ℕ, List, take, drop, ◌≡◌, ◌∙
 use Rattle.std.specs.List.{list_all, prefix_len}
 use Rattle.std.specs.Char.{is_ascii_digit}
 use Rattle.bz_token.specs.declared.token.Kind.TheVariants.{Identifier}
-use Rattle.bz_token.specs.Lexical.{is_text, is_keyword, is_word_byte, is_empty, begins}
+use Rattle.bz_token.specs.Lexical.{is_keyword, is_word_byte, is_empty, begins}
 use Rattle.bz_token.proofs.Scanning.{all_front}
 use Rattle.bz_canonical.specs.private.Fronts.{IsTokenFront}
 use Rattle.bz_canonical.proofs.front.identifier.Goals as goal

@@ -1,4 +1,4 @@
-use Rattle.std.proofs.Common.{◌≡◌, ◌+◌, ◌++◌, ◌∷◌, ℕ, suc, zero, List, ap, arith, ◌∙◌, sym, refl}
+use Rattle.std.proofs.Common.{◌≡◌, ◌+◌, ◌++◌, ◌∷◌, suc, ap, arith, ◌∙◌, refl}
 use Rattle.bz_layout.specs.Pieces.{indent}
 use Rattle.bz_canonical.proofs.front.indented.Goals as goal
 

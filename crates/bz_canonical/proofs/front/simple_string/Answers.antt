@@ -1,4 +1,4 @@
-use Rattle.std.proofs.Common.{◌∙◌, ◌≡◌, sym, subst, take}
+use Rattle.std.proofs.Common.{◌∙◌, sym, subst}
 use Rattle.bz_canonical.specs.private.Fronts.{IsQuotedFront}
 use Rattle.bz_canonical.proofs.Strings.{quoted_front}
 use Rattle.bz_canonical.proofs.front.simple_string.Goals as goal

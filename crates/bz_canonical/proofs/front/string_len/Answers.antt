@@ -1,4 +1,4 @@
-use Rattle.std.proofs.Common.{◌≤◌, length, arith}
+use Rattle.std.proofs.Common.{arith}
 use Rattle.std.proofs.lemmas.List.Sums.{prefix_len-le-length}
 use Rattle.bz_token.specs.private.Scans.{is_plain}
 use Rattle.bz_canonical.proofs.front.string_len.Goals as goal

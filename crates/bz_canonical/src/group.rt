@@ -1,0 +1,97 @@
+//! Groups that stand as they would be written.
+
+ghost use Rattle.std.specs.Prelude.{◌≡◌, ◌+◌, ◌<◌, ◌∷◌, ◌++◌, ◌||◌, ◌&&◌, ℕ, [], IfSome, nat_le, true, false};
+ghost use Rattle.bz_layout.specs.Broken.{breaks_by_count};
+ghost use Rattle.bz_layout.specs.Layout.{closing, has_commas, opening};
+ghost use Rattle.bz_canonical.specs.private.Segments.{IsGroupFront};
+
+use crate::front::{after, line};
+use crate::segments::{flat_segments, segments};
+use crate::value::{Value, either};
+use bz_tree::GroupKind;
+
+/// The bracket that opens a group of this kind.
+fn opening(kind: GroupKind) -> u8
+    ensures { opening kind ≡ result ∷ [] }
+{
+    match kind {
+        GroupKind::Call | GroupKind::RuleCall | GroupKind::Load | GroupKind::Paren => b'(',
+        GroupKind::List | GroupKind::Index | GroupKind::ListComp => b'[',
+        GroupKind::Dict | GroupKind::DictComp => b'{',
+    }
+}
+
+/// The bracket that closes it.
+pub(crate) fn closing(kind: GroupKind) -> u8
+    ensures { closing kind ≡ result ∷ [] }
+{
+    match kind {
+        GroupKind::Call | GroupKind::RuleCall | GroupKind::Load | GroupKind::Paren => b')',
+        GroupKind::List | GroupKind::Index | GroupKind::ListComp => b']',
+        GroupKind::Dict | GroupKind::DictComp => b'}',
+    }
+}
+
+/// Whether a group without comments stands on lines, by whether it has one segment, has two, and one of them holds a
+/// group on lines.
+fn breaks(kind: GroupKind, one: bool, two: bool, holds: bool) -> bool
+    ensures { (n : ℕ) → one ≡ nat_le 1 n → two ≡ nat_le 2 n
+        → result ≡ (breaks_by_count kind n || (nat_le 2 n && holds)) }
+{
+    match kind {
+        GroupKind::List | GroupKind::RuleCall => two,
+        GroupKind::Dict => one,
+        _ => two && holds,
+    }
+}
+
+/// What follows the group of this kind here.
+#[cycle(values)]
+pub(crate) fn group(kind: GroupKind, text: &[u8], level: u8, depth: u8) -> Option<Value<'_>>
+    requires commas { (n : ℕ) → has_commas kind false n ≡ true }
+    requires deep { level + depth + 1 < 255 }
+    ensures { IfSome result (λ v. IsGroupFront kind level depth text.now v.rest.now v.holds) }
+{
+    let inside = after(text, opening(kind))?;
+    match inside {
+        [b'\n', ..] => broken_group(kind, inside, level, depth),
+        _ => flat_group(kind, inside, level, depth),
+    }
+}
+
+/// What follows the group on lines here, its first bracket left out.
+#[cycle(values)]
+fn broken_group(kind: GroupKind, inside: &[u8], level: u8, depth: u8) -> Option<Value<'_>>
+    requires commas { (n : ℕ) → has_commas kind false n ≡ true }
+    requires deep { level + depth + 1 < 255 }
+    ensures { IfSome result (λ v. IsGroupFront kind level depth (opening kind ++ inside.now) v.rest.now v.holds) }
+{
+    let read = segments(kind, inside, level + 1, depth)?;
+    let many = breaks(kind, read.one, read.two, read.holds);
+    let noted = either(read.noted, many);
+    let broken = either(read.ended, noted);
+    if !broken {
+        return None;
+    }
+    let end = line(read.rest, level)?;
+    let rest = after(end, closing(kind))?;
+    Some(Value { rest, holds: true })
+}
+
+/// What follows the group in place here, its first bracket left out.
+#[cycle(values)]
+fn flat_group(kind: GroupKind, inside: &[u8], level: u8, depth: u8) -> Option<Value<'_>>
+    requires { level + depth < 255 }
+    ensures { IfSome result (λ v. IsGroupFront kind level depth (opening kind ++ inside.now) v.rest.now v.holds) }
+{
+    let read = flat_segments(kind, inside, level, depth)?;
+    let broken = breaks(kind, read.one, read.two, read.holds);
+    if broken {
+        return None;
+    }
+    let rest = after(read.rest, closing(kind))?;
+    Some(Value {
+        rest,
+        holds: read.holds,
+    })
+}

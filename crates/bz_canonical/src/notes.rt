@@ -1,0 +1,86 @@
+//! Comments.
+
+ghost use Rattle.std.specs.Prelude.{◌≡◌, ◌∷◌, ◌++◌, ℕ, List, IfSome};
+ghost use Rattle.bz_layout.specs.Pieces.{indent};
+ghost use Rattle.bz_token.specs.declared.token.Kind.TheVariants.{Comment};
+ghost use Rattle.bz_canonical.specs.private.Fronts.{IsTokenFront};
+ghost use Rattle.bz_canonical.specs.private.Segments.{AreLinesFront, AreNotesFront, IsBesideFront};
+
+use crate::front::{after, after_spaces, comment, line};
+
+/// What follows comments.
+#[derive(Clone, Copy)]
+pub(crate) struct AfterNotes<'t> {
+    pub(crate) rest: &'t [u8],
+    /// There is one at least.
+    pub(crate) some: bool,
+}
+
+/// What follows the comments here, each on a line of its own at this level.
+pub(crate) fn notes(text: &[u8], level: u8) -> AfterNotes<'_>
+    ensures { AreNotesFront level text.now result.rest.now result.some }
+{
+    let mut rest = text;
+    let mut some = false;
+    for _ in 0..text.len() {
+        let Some(next) = note(rest, level) else {
+            break;
+        };
+        rest = next;
+        some = true;
+    }
+    AfterNotes { rest, some }
+}
+
+/// What follows the comment on the next line.
+fn note(text: &[u8], level: u8) -> Option<&[u8]>
+    ensures { IfSome result (λ rest. (inner : List ℕ) × (text.now ≡ 10 ∷ (indent level ++ inner)) × IsTokenFront Comment inner rest.now) }
+{
+    // Most lines are none: where a comment would begin, one look shows it.
+    if text.get(1 + 4 * level as usize).copied() != Some(b'#') {
+        return None;
+    }
+    let inner = line(text, level)?;
+    let rest = comment(inner)?;
+    Some(rest)
+}
+
+/// What follows the comments above a statement.
+pub(crate) fn lines(text: &[u8]) -> &[u8]
+    ensures { AreLinesFront text.now result.now }
+{
+    let mut rest = text;
+    for _ in 0..text.len() {
+        let Some(next) = note_line(rest) else {
+            break;
+        };
+        rest = next;
+    }
+    rest
+}
+
+/// What follows the comment here and its newline.
+fn note_line(text: &[u8]) -> Option<&[u8]>
+    ensures { IfSome result (λ rest. IsTokenFront Comment text.now (10 ∷ rest.now)) }
+{
+    let end = comment(text)?;
+    let rest = after(end, b'\n')?;
+    Some(rest)
+}
+
+/// What follows the comment that stands beside a segment, or the segment, where there is none.
+pub(crate) fn beside(text: &[u8]) -> Option<AfterNotes<'_>>
+    ensures { IfSome result (λ read. IsBesideFront text.now read.rest.now read.some) }
+{
+    match text {
+        [b' ', ..] => {
+            let inner = after_spaces(text)?;
+            let rest = comment(inner)?;
+            Some(AfterNotes { rest, some: true })
+        }
+        _ => Some(AfterNotes {
+            rest: text,
+            some: false,
+        }),
+    }
+}
