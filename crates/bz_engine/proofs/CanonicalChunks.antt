@@ -16,7 +16,7 @@ use Rattle.bz_command.specs.Labels.{Package, Name, Pkg, All, Kind as OfKind, Lin
 use Rattle.bz_attribute.specs.Rules.{is_text}
 use Rattle.bz_attribute.specs.Marks.{marks_if}
 use Rattle.bz_canonical.specs.Canonical.{HasName, IsNamed, IsCanonical}
-use Rattle.bz_devices.specs.Ahead.{Ahead}
+use Rattle.bz_devices.specs.Ahead.{Ahead, IsFewAfter}
 use Rattle.bz_passes.specs.declared.index.Key.TheVariants.{Name as Named}
 use Rattle.bz_passes.specs.Exchange.{IsPassedBy}
 use Rattle.bz_engine.specs.Meaning.{meaning, changes, fails_on}
@@ -58,7 +58,7 @@ few_lines line chunk = omega (arith, count_by-le-length (λ b. b == 10) chunk)
 
 pub canonical_edited : (home : Package) (passes : Script) (keep_going : Bool) (depth most : ℕ) (ahead : Ahead) (class : Class) (name : Option (List ℕ)) (chunk text : List ℕ)
     (old mid new : Progress) (before after : List ℕ)
-    → length ahead.bytes ≤ 8192 → IsTakenOf text ahead.bytes → IsUtf8 chunk → length chunk ≤ most → IsCanonical depth class name chunk text
+    → IsFewAfter ahead → IsTakenOf text ahead.bytes → IsUtf8 chunk → length chunk ≤ most → IsCanonical depth class name chunk text
     → ((s : Statement) → s.class ≡ class_of s.nodes → HasName name s → IsPassedBy (meaning home) (changes home) (fails_on home) passes (Some s))
     → mid ≡ record old { last = Some class }
     → ((s : Statement) → s.class ≡ class → layout_text s ≡ chunk → after ≡ before ++ (if is_query passes then [] else text_following old.last (Some s ∷ [])))

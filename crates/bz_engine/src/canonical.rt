@@ -6,6 +6,7 @@ ghost use Rattle.bz_tree.specs.Tree.{Statement};
 ghost use Rattle.bz_layout.specs.Layout.{layout_text};
 ghost use Rattle.bz_canonical.specs.Canonical.{HasName, IsCanonical};
 ghost use Rattle.bz_passes.specs.Exchange.{Fits, IsPassedBy};
+ghost use Rattle.bz_devices.specs.Ahead.{IsFewAfter};
 ghost use Rattle.bz_engine.specs.Meaning.{meaning, changes, fails_on};
 ghost use Rattle.bz_engine.specs.Outcome.{is_query};
 ghost use Rattle.bz_engine.specs.Progress.{text_following};
@@ -31,7 +32,7 @@ pub(crate) fn edit_canonical(
     progress: &mut Progress,
     text: &mut Vec<u8>,
 ) -> Result<Option<NextChunk>, AllocError>
-    requires few { length ahead.now.bytes ≤ 8192 }
+    requires few { IsFewAfter ahead.now }
     requires fits { Fits progress.old.kept script.passes.now }
     requires lines { progress.old.line + length ahead.now.bytes < 2 ^ 64 }
     ensures fits { OnOk result (Fits progress.new.kept script.entry.passes.now) }

@@ -55,8 +55,7 @@ pub(crate) fn edit_first(
     ensures first { IfOk result (IsFirst script.entry.home.now script.entry.passes.now script.entry.keep_going
         script.entry.max_depth max_statement ahead.now progress.old progress.new text.old.items text.new.items) }
 {
-    let text_ahead = ahead.text();
-    if begins_blank(text_ahead) && 0 < max_statement {
+    if begins_blank(ahead.text()) && 0 < max_statement {
         progress.line += 1;
         return Ok(First::Edited(NextChunk {
             len: 1,
@@ -64,8 +63,27 @@ pub(crate) fn edit_first(
         }));
     }
     if let Some(next) = edit_canonical(script, ahead, max_statement, progress, text)? {
-        return Ok(Some(next));
+        return Ok(First::Edited(next));
     }
+    edit_front(script, ahead, max_statement, progress, text)
+}
+
+/// The same where the chunk is to be read.
+fn edit_front(
+    script: Script<'_>,
+    ahead: &Ahead,
+    max_statement: u64,
+    progress: &mut Progress,
+    text: &mut Vec<u8>,
+) -> Result<First, AllocError>
+    requires few { IsFewAfter ahead.now }
+    requires fits { Fits progress.old.kept script.passes.now }
+    requires lines { progress.old.line + length ahead.now.bytes < 2 ^ 64 }
+    ensures fits { OnOk result (Fits progress.new.kept script.entry.passes.now) }
+    ensures first { IfOk result (IsFirst script.entry.home.now script.entry.passes.now script.entry.keep_going
+        script.entry.max_depth max_statement ahead.now progress.old progress.new text.old.items text.new.items) }
+{
+    let text_ahead = ahead.text();
     let line = progress.line;
     let chunk = match first_chunk(script.bump, text_ahead, line, script.max_depth)? {
         Front::Chunk(chunk) => chunk,
