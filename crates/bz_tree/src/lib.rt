@@ -25,7 +25,7 @@ mod stage;
 mod stmt;
 mod text_row;
 
-pub use chunk::{parse, parse_tokens};
+pub use chunk::parse;
 pub use fault::ParseFault;
 pub use from_parts::{nodes_of_parts, stmt_of_parts};
 pub use parts::{push_above, push_beside, push_nodes, push_parts};
@@ -34,4 +34,3 @@ pub use role::Role;
 pub use row::{Part, Row};
 pub use rows::read_row;
 pub use stmt::{Class, Group, GroupKind, Leaf, Node, Seg, Stmt};
-pub use text_row::row_of_text;
