@@ -1,5 +1,5 @@
 -- What is kept of the chunks that are done, with one chunk more.
-use Rattle.std.proofs.Common.{◌≡◌, ℕ, Bool, false, List, [], ◌∷◌, ◌++◌, sym, ◌∙◌, ap, subst, append-nil}
+use Rattle.std.proofs.Common.{◌≡◌, ℕ, Bool, List, [], ◌∷◌, ◌++◌, sym, ◌∙◌, ap, subst, append-nil}
 use Rattle.std.specs.Prelude.{None, Some, Ok, if◌then◌else◌}
 use Rattle.bz_token.specs.Places.{line_at}
 use Rattle.bz_tree.specs.Tree.{Statement}
@@ -10,12 +10,9 @@ use Rattle.bz_engine.specs.File.{Gives}
 use Rattle.bz_engine.specs.Outcome.{Script, slots_of, is_query}
 use Rattle.bz_command.specs.Passes.{slots_after}
 use Rattle.bz_engine.specs.Progress.{Progress, IsKeptOf, last_class, text_following}
-use Rattle.bz_engine.specs.declared.edit.Edited.{Edited}
-use Rattle.bz_engine.specs.declared.edit.Edited.TheVariants.{Done}
 use Rattle.bz_engine.specs.declared.edit.Scripted.{Scripted}
 use Rattle.bz_engine.specs.declared.edit.Scripted.TheVariants as scripts
 use Rattle.bz_tree.specs.declared.row.Row.{Row}
-use Rattle.bz_command.specs.Passes.{Slot}
 use Rattle.bz_engine.specs.private.Edits.{IsDone, IsLaidOut, IsScripted, IsEdited, edited_of}
 use Rattle.bz_passes.proofs.ExchangeLaw.{map_more}
 use Rattle.bz_engine.proofs.Given.{give_blank, give_statement, line_following}
