@@ -18,7 +18,7 @@ use Rattle.bz_engine.specs.Progress.{Progress}
 use Rattle.bz_engine.specs.declared.edit.Edited.TheVariants.{Done}
 use Rattle.bz_engine.specs.private.Edits.{IsEdited}
 use Rattle.bz_engine.specs.private.NextChunks.{IsFirstEdited}
-use Rattle.bz_engine.proofs.ChunkEdits.{blank_edited}
+use Rattle.bz_engine.proofs.ChunkEdits.{blank_done}
 use Rattle.bz_engine.proofs.FirstChunks.{IsTakenOf, first_is_next}
 
 abbrev newline : List ℕ
@@ -59,5 +59,5 @@ newline_edited home passes keep_going depth most ahead old new text rest front f
       chunk = first_is_next most ahead newline (10 ∷ rest) few taken (omega arith) (omega arith) refl size newline_chunk;
       lines = omega (arith, ap (λ (p : Progress). p.line) is);
       edited = λ cs statements kept. subst (λ chunk. IsEdited home passes keep_going depth cs statements chunk old new text text Done) first
-          (blank_edited home passes keep_going depth cs statements newline old new text text Done kept (newline_gives old.line depth) is refl refl);
+          (blank_done home passes keep_going depth cs statements newline old new text kept (newline_gives old.line depth) is);
     }

@@ -72,7 +72,7 @@ canonical_edited home passes keep_going depth most ahead class name chunk text o
       chunk = first_is_next most ahead chunk text few outer c.some within front size c.ends;
       lines = subst (λ n. n ≤ old.line + length chunk) (sym (ap (λ (p : Progress). p.line) is ∙ ap (λ (p : Progress). line_at p.line chunk) same)) (few_lines old.line chunk);
       edited = λ cs statements kept. subst (λ bytes. IsEdited home passes keep_going depth cs statements bytes old new before after Done) (chunk_is chunk text ahead.bytes outer within front)
-          (stays_edited home passes keep_going depth cs statements chunk read.statement class old mid new before after Done kept (utf8, read.read)
+          (stays_edited home passes keep_going depth cs statements chunk read.statement class old mid new before after kept (utf8, read.read)
           (passed read.statement (chunk_class old.line chunk read.read.tokens read.statement read.read.reads.chunk) read.named)
-          (sym read.class_is) same (written read.statement read.class_is read.written) is refl);
+          (sym read.class_is) same (written read.statement read.class_is read.written) is);
     }

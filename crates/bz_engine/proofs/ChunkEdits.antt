@@ -1,5 +1,5 @@
 -- What is kept of the chunks that are done, with one chunk more.
-use Rattle.std.proofs.Common.{◌≡◌, ℕ, Bool, false, List, [], ◌∷◌, ◌++◌, sym, ◌∙◌, ap, subst, append-nil}
+use Rattle.std.proofs.Common.{◌≡◌, ℕ, Bool, List, [], ◌∷◌, ◌++◌, sym, ◌∙◌, ap, subst, append-nil}
 use Rattle.std.specs.Prelude.{None, Some, Ok, if◌then◌else◌}
 use Rattle.bz_token.specs.Places.{line_at}
 use Rattle.bz_tree.specs.Tree.{Statement}
@@ -11,15 +11,9 @@ use Rattle.bz_engine.specs.File.{Gives}
 use Rattle.bz_engine.specs.Outcome.{Script, slots_of, is_query}
 use Rattle.bz_command.specs.Passes.{slots_after}
 use Rattle.bz_engine.specs.Progress.{Progress, IsKeptOf, last_class, text_following}
-use Rattle.bz_engine.specs.declared.edit.Edited.{Edited}
 use Rattle.bz_engine.specs.declared.edit.Edited.TheVariants.{Done}
 use Rattle.bz_engine.specs.declared.edit.Scripted.{Scripted}
 use Rattle.bz_engine.specs.declared.edit.Scripted.TheVariants as scripts
-use Rattle.bz_engine.specs.private.Rows.{IsPassedRow}
-use Rattle.bz_tree.specs.Rows.{IsRowOf}
-use Rattle.bz_tree.specs.declared.row.Row.{Row}
-use Rattle.std.specs.Str.{IsUtf8}
-use Rattle.bz_command.specs.Passes.{Slot}
 use Rattle.bz_engine.specs.private.Edits.{IsDone, IsLaidOut, IsScripted, IsEdited, edited_of}
 use Rattle.bz_passes.proofs.ExchangeLaw.{map_more}
 use Rattle.bz_engine.proofs.Given.{give_blank, give_statement, line_following}
@@ -46,21 +40,14 @@ blank_done home passes keep_going depth cs ss chunk old new before kept gives is
   calm = λ h calm. ap (λ p. p.failed) is ∙ calm;
 }
 
--- a statement, as the script leaves it
-record IsLeft (home : Package) (passes : Script) (s : Statement) (old new : Progress) (before after : List ℕ) : Type 0 where
-  left : (slots : List (Slot Statement)) → IsLeftBy (meaning home) (changes home) (fails_on home) passes slots old.kept old.changed old.failed
-      → IsLeftBy (meaning home) (changes home) (fails_on home) passes (slots ++ Some s ∷ []) new.kept new.changed new.failed
-  last : new.last ≡ last_class old.last (slot_after (meaning home) passes (Some s) ∷ [])
-  line : new.line ≡ old.line
-  text : after ≡ before ++ (if is_query passes then [] else text_following old.last (slot_after (meaning home) passes (Some s) ∷ []))
-
-left_done : (home : Package) (passes : Script) (keep_going : Bool) (depth : ℕ) (cs : List (List ℕ)) (ss : List Statement) (chunk : List ℕ) (s : Statement)
+-- a statement, which the script left as `laid` says
+statement_done : (home : Package) (passes : Script) (keep_going : Bool) (depth : ℕ) (cs : List (List ℕ)) (ss : List Statement) (chunk : List ℕ) (s : Statement)
     (old mid new : Progress) (before after : List ℕ)
     → IsKeptOf home passes depth cs ss old → Gives depth old.line chunk (Ok (Some s))
-    → IsLeft home passes s old mid before after → (keep_going ≡ false → old.failed ≡ false → mid.failed ≡ false)
+    → IsLaidOut home passes keep_going s old mid before after
     → new ≡ record mid { line = line_at mid.line chunk }
     → IsDone home passes keep_going depth cs ss chunk old new before after
-left_done home passes keep_going depth cs ss chunk s old mid new before after kept gives laid calm is = record {
+statement_done home passes keep_going depth cs ss chunk s old mid new before after kept gives laid is = record {
   more = s ∷ [];
   kept = record {
     read = give_statement depth old.line cs ss chunk s kept.read kept.line gives;
@@ -72,51 +59,24 @@ left_done home passes keep_going depth cs ss chunk s old mid new before after ke
   shown = if is_query passes then [] else text_following old.last (slot_after (meaning home) passes (Some s) ∷ []);
   appended = laid.text;
   text = text_after_more home passes ss s old.last kept.last;
-  calm = λ h before_calm. ap (λ p. p.failed) is ∙ calm h before_calm;
+  calm = λ h before_calm. ap (λ p. p.failed) is ∙ laid.calm h before_calm;
 }
 
--- a statement, which the script left as `laid` says
-pub statement_done : (home : Package) (passes : Script) (keep_going : Bool) (depth : ℕ) (cs : List (List ℕ)) (ss : List Statement) (chunk : List ℕ) (s : Statement)
-    (old mid new : Progress) (before after : List ℕ)
-    → IsKeptOf home passes depth cs ss old → Gives depth old.line chunk (Ok (Some s))
-    → IsLaidOut home passes keep_going s old mid before after
-    → new ≡ record mid { line = line_at mid.line chunk }
-    → IsDone home passes keep_going depth cs ss chunk old new before after
-statement_done home passes keep_going depth cs ss chunk s old mid new before after kept gives laid is =
-    left_done home passes keep_going depth cs ss chunk s old mid new before after kept gives (record { left = laid.left; last = laid.last; line = laid.line; text = laid.text }) (λ h calm. laid.calm h) is
-
--- a statement of this class that the script passes by
-pub stays_edited : (home : Package) (passes : Script) (keep_going : Bool) (depth : ℕ) (cs : List (List ℕ)) (ss : List Statement) (chunk : List ℕ) (s : Statement)
-    (class : Class) (old mid new : Progress) (before after : List ℕ) (edited : Edited)
-    → IsKeptOf home passes depth cs ss old → Gives depth old.line chunk (Ok (Some s)) → IsPassedBy (meaning home) (changes home) (fails_on home) passes (Some s)
-    → class ≡ s.class → mid ≡ record old { last = Some class }
+-- a statement that the script passes by
+pub passed_by : (home : Package) (passes : Script) (keep_going : Bool) (class : Class) (s : Statement) (old new : Progress) (before after : List ℕ)
+    → IsPassedBy (meaning home) (changes home) (fails_on home) passes (Some s) → class ≡ s.class
+    → new ≡ record old { last = Some class }
     → after ≡ before ++ (if is_query passes then [] else text_following old.last (Some s ∷ []))
-    → new ≡ record mid { line = line_at mid.line chunk } → edited ≡ Done
-    → IsEdited home passes keep_going depth cs ss chunk old new before after edited
-stays_edited home passes keep_going depth cs ss chunk s class old mid new before after edited kept gives passed of_class same text is done =
+    → IsLaidOut home passes keep_going s old new before after
+passed_by home passes keep_going class s old new before after passed of_class same text =
     let stays : Some s ≡ slot_after (meaning home) passes (Some s) = sym passed.stays in
-    subst (IsEdited home passes keep_going depth cs ss chunk old new before after) (sym done)
-    (left_done home passes keep_going depth cs ss chunk s old mid new before after kept gives
-    (record {
+    record {
       left = λ slots left. subst (λ p. IsLeftBy (meaning home) (changes home) (fails_on home) passes (slots ++ Some s ∷ []) p.kept p.changed p.failed) (sym same) (passed.left slots old.kept old.changed old.failed left);
       last = ap (λ p. p.last) same ∙ ap (λ c. Some c) of_class ∙ ap (λ slot. last_class old.last (slot ∷ [])) stays;
       line = ap (λ p. p.line) same;
       text = text ∙ ap (λ slot. before ++ (if is_query passes then [] else text_following old.last (slot ∷ []))) stays;
-    })
-    (λ h calm. ap (λ p. p.failed) same ∙ calm) is)
-
--- the statement of a row that the script passes by
-pub passed_edited : (home : Package) (passes : Script) (keep_going : Bool) (depth : ℕ) (cs : List (List ℕ)) (ss : List Statement) (chunk : List ℕ) (row : Row)
-    (old mid new : Progress) (before after : List ℕ) (edited : Edited)
-    → IsKeptOf home passes depth cs ss old → IsUtf8 chunk × IsPassedRow home passes depth old.line chunk row
-    → mid ≡ record old { last = Some row.class }
-    → ((s : Statement) → IsRowOf s row → after ≡ before ++ (if is_query passes then [] else text_following old.last (Some s ∷ [])))
-    → new ≡ record mid { line = line_at mid.line chunk } → edited ≡ Done
-    → IsEdited home passes keep_going depth cs ss chunk old new before after edited
-passed_edited home passes keep_going depth cs ss chunk row old mid new before after edited kept read same text is done =
-    let at = read.1 in
-    stays_edited home passes keep_going depth cs ss chunk at.statement row.class old mid new before after edited kept (read.0, at.read) at.passed
-    at.parts.class same (text at.statement at.parts) is done
+      calm = λ ends calm. ap (λ p. p.failed) same ∙ calm;
+    }
 
 -- what the script on a statement made of its chunk
 pub scripted_edited : (home : Package) (passes : Script) (keep_going : Bool) (depth : ℕ) (cs : List (List ℕ)) (ss : List Statement) (chunk : List ℕ) (s : Statement)
@@ -137,15 +97,17 @@ scripted_edited home passes keep_going depth cs ss chunk s old mid new before af
   nothing = ended.nothing;
 }
 
-pub blank_edited : (home : Package) (passes : Script) (keep_going : Bool) (depth : ℕ) (cs : List (List ℕ)) (ss : List Statement) (chunk : List ℕ)
-    (old new : Progress) (before after : List ℕ) (edited : Edited)
-    → IsKeptOf home passes depth cs ss old → Gives depth old.line chunk (Ok None)
-    → new ≡ record old { line = line_at old.line chunk } → after ≡ before → edited ≡ Done
-    → IsEdited home passes keep_going depth cs ss chunk old new before after edited
-blank_edited home passes keep_going depth cs ss chunk old new before after edited kept gives is same done =
-    subst (IsEdited home passes keep_going depth cs ss chunk old new before after) (sym done)
-    (subst (λ b. IsDone home passes keep_going depth cs ss chunk old new before b) (sym same)
-    (blank_done home passes keep_going depth cs ss chunk old new before kept gives is))
+-- the chunk of a statement of this class that the script passes by
+pub stays_edited : (home : Package) (passes : Script) (keep_going : Bool) (depth : ℕ) (cs : List (List ℕ)) (ss : List Statement) (chunk : List ℕ) (s : Statement)
+    (class : Class) (old mid new : Progress) (before after : List ℕ)
+    → IsKeptOf home passes depth cs ss old → Gives depth old.line chunk (Ok (Some s)) → IsPassedBy (meaning home) (changes home) (fails_on home) passes (Some s)
+    → class ≡ s.class → mid ≡ record old { last = Some class }
+    → after ≡ before ++ (if is_query passes then [] else text_following old.last (Some s ∷ []))
+    → new ≡ record mid { line = line_at mid.line chunk }
+    → IsEdited home passes keep_going depth cs ss chunk old new before after Done
+stays_edited home passes keep_going depth cs ss chunk s class old mid new before after kept gives passed of_class same text is =
+    statement_done home passes keep_going depth cs ss chunk s old mid new before after kept gives
+    (passed_by home passes keep_going class s old mid before after passed of_class same text) is
 
 -- the line after the chunk
 abbrev pub line_passed : List ℕ → Progress → Progress

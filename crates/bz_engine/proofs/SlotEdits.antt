@@ -48,5 +48,5 @@ laid_out home passes keep_going s old new kept slot last before after ran kept_i
   line = line_is;
   text = text_is ∙ ap (λ l. before ++ (if is_query passes then [] else text_following l (slot ∷ []))) from
       ∙ ap (λ x. before ++ (if is_query passes then [] else text_following old.last (x ∷ []))) slot_is;
-  calm = calm;
+  calm = λ ends was. calm ends;
 }

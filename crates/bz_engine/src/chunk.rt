@@ -1,42 +1,9 @@
-//! The statement of a chunk.
+//! Lines and columns of a chunk's bytes.
 
-ghost use Rattle.std.specs.Prelude.{◌≡◌, ℕ, ◌+◌, ◌<◌, ◌≤◌, ◌^◌, ◌==◌, List, count_by, length, map, IfOk};
-ghost use Rattle.bz_token.specs.Places.{placed, line_at, column_at};
-ghost use Rattle.bz_token.specs.Reading.{AreTokensOf};
-ghost use Rattle.bz_engine.specs.private.ChunkRead.{IsReadAs};
+ghost use Rattle.std.specs.Prelude.{◌≡◌, ◌+◌, ◌<◌, ◌≤◌, ◌^◌, ◌==◌, count_by, length};
+ghost use Rattle.bz_token.specs.Places.{line_at, column_at};
 
-use crate::edit::Script;
 use crate::report::SyntaxFault;
-use bz_token::Token;
-use bz_tree::{ParseFault, Stmt, parse_tokens};
-use std::alloc::AllocError;
-
-/// What a chunk is read as that has no row.
-#[derive(Drop)]
-pub(crate) enum ChunkRead<'a> {
-    Blank,
-    Statement(Stmt<'a>),
-    Faulty(SyntaxFault),
-}
-
-/// Reads the chunk that has these tokens and no row.
-pub(crate) fn read_chunk<'a>(
-    script: Script<'_>,
-    chunk: &'a str,
-    first_line: u64,
-    tokens: &[Token<'a>],
-) -> Result<ChunkRead<'a>, AllocError>
-    requires lines { first_line + count_by (λ b. b == 10) chunk.now < 2 ^ 64 }
-    requires tokens { AreTokensOf first_line script.max_depth chunk.now (map placed tokens.now) }
-    ensures { IfOk result (IsReadAs script.entry.max_depth first_line chunk.now) }
-{
-    match parse_tokens(script.alloc, chunk, first_line, tokens) {
-        Ok(None) => Ok(ChunkRead::Blank),
-        Ok(Some(stmt)) => Ok(ChunkRead::Statement(stmt)),
-        Err(ParseFault::OutOfMemory) => Err(AllocError),
-        Err(fault) => Ok(ChunkRead::Faulty(SyntaxFault::Parse(fault))),
-    }
-}
 
 /// The fault after the bytes of a chunk that are UTF-8.
 pub(crate) fn not_utf8(first_line: u64, valid: &[u8]) -> SyntaxFault

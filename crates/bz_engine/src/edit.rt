@@ -14,10 +14,7 @@ ghost use Rattle.bz_passes.specs.Entries.{failure_text, first_of};
 ghost use Rattle.bz_engine.specs.Progress.{IsKeptOf, last_class, text_following};
 ghost use Rattle.bz_engine.specs.private.ChunkRead.{IsReadAs};
 ghost use Rattle.bz_engine.specs.private.Edits.{IsEdited, IsScripted, edited_of};
-ghost use Rattle.bz_engine.specs.private.Rows.{IsStatementRow};
-ghost use Rattle.std.specs.Str.{IsUtf8};
 
-use crate::chunk::ChunkRead;
 use crate::progress::Progress;
 use crate::report::SyntaxFault;
 use crate::row::is_passed_by;
@@ -29,7 +26,7 @@ use bz_passes::kept::Kept;
 use bz_passes::language::Facts;
 use bz_passes::script::run_script;
 use bz_rule::{LazyStmt, Package, ShallowStmt, Text};
-use bz_tree::{Class, Row};
+use bz_tree::{Class, ParseFault, Row};
 use std::alloc::{AllocError, Global};
 
 /// What a run is to do with each chunk.
@@ -78,8 +75,8 @@ fn edited_of(scripted: Scripted) -> Edited
 /// that of the chunks with this one. After a refusal neither the text nor what is kept is of use.
 pub(crate) fn edit_chunk<'a>(
     script: Script<'a>,
-    chunk: &[u8],
-    read: ChunkRead<'a>,
+    chunk: &str,
+    read: Result<Option<Row<'a>>, ParseFault>,
     progress: &mut Progress,
     text: &mut Vec<u8>,
 ) -> Result<Edited, AllocError>
@@ -93,49 +90,22 @@ pub(crate) fn edit_chunk<'a>(
         → IsEdited script.entry.home.now script.entry.passes.now script.entry.keep_going script.entry.max_depth cs
         statements chunk.now progress.old progress.new text.old.items text.new.items edited) }
 {
-    let edited = match read {
-        ChunkRead::Faulty(fault) => return Ok(Edited::Faulty(fault)),
-        ChunkRead::Blank => Edited::Done,
-        ChunkRead::Statement(stmt) => {
-            let stmt = LazyStmt::new(script.alloc, stmt);
-            edited_of(edit_statement(script, stmt, progress, text)?)
-        }
+    let found = match read {
+        Ok(found) => found,
+        Err(ParseFault::OutOfMemory) => return Err(AllocError),
+        Err(fault) => return Ok(Edited::Faulty(SyntaxFault::Parse(fault))),
     };
-    progress.pass_lines(chunk);
-    Ok(edited)
-}
-
-/// The same where the chunk's statement was read as a row.
-pub(crate) fn edit_row<'a>(
-    script: Script<'a>,
-    chunk: &[u8],
-    row: Row<'a>,
-    progress: &mut Progress,
-    text: &mut Vec<u8>,
-) -> Result<Edited, AllocError>
-    requires fits { Fits progress.old.kept script.passes.now }
-    requires lines { progress.old.line + length chunk.now < 2 ^ 64 }
-    requires utf8 { IsUtf8 chunk.now }
-    requires row { IsStatementRow progress.old.line script.max_depth chunk.now row }
-    ensures fits { OnOk result (Fits progress.new.kept script.entry.passes.now) }
-    ensures lines { OnOk result (progress.new.line ≤ progress.old.line + length chunk.now) }
-    ensures edited { IfOk result (λ edited. (cs : List (List ℕ)) (statements : List Statement)
-        → IsKeptOf script.entry.home.now script.entry.passes.now script.entry.max_depth cs statements progress.old
-        → IsEdited script.entry.home.now script.entry.passes.now script.entry.keep_going script.entry.max_depth cs
-        statements chunk.now progress.old progress.new text.old.items text.new.items edited) }
-{
-    let scripted = if is_passed_by(script, &row) {
-        put_passed(script, &row, progress, text)?;
-        Scripted::Done
-    } else {
-        edit_marked(script, &row, progress, text)?
+    let Some(row) = found else {
+        progress.pass_lines(chunk.as_bytes());
+        return Ok(Edited::Done);
     };
-    progress.pass_lines(chunk);
+    let scripted = edit_row(script, &row, progress, text)?;
+    progress.pass_lines(chunk.as_bytes());
     Ok(edited_of(scripted))
 }
 
-/// The script on the statement of a row, which a pass may mark.
-fn edit_marked<'a>(
+/// The script on the statement of a row.
+fn edit_row<'a>(
     script: Script<'a>,
     row: &'a Row<'a>,
     progress: &mut Progress,
@@ -148,12 +118,16 @@ fn edit_marked<'a>(
         → IsScripted script.entry.home.now script.entry.passes.now script.entry.keep_going s
         progress.old progress.new text.old.items text.new.items scripted) }
 {
-    let stmt = read_row(script, row)?;
-    edit_statement(script, stmt, progress, text)
+    if is_passed_by(script, row) {
+        put_passed(script, row, progress, text)?;
+        return Ok(Scripted::Done);
+    }
+    let mut slot = Some(lazy_stmt(script, row)?);
+    edit_slot(script, &mut slot, progress, text)
 }
 
 /// The statement of a row. A rule's row is kept where a command may be done by it alone.
-fn read_row<'a>(script: Script<'_>, row: &'a Row<'a>) -> Result<LazyStmt<'a>, AllocError>
+fn lazy_stmt<'a>(script: Script<'_>, row: &'a Row<'a>) -> Result<LazyStmt<'a>, AllocError>
     requires { (s : Statement) × ((s.class ≡ class_of s.nodes) × IsRowOf s row.now) }
     ensures { IfOk result (λ read. (s : Statement) → s.class ≡ class_of s.nodes → IsRowOf s row.now → lazy_view read ≡ s) }
 {
@@ -181,23 +155,6 @@ fn put_passed(
     }
     progress.last = Some(row.class);
     Ok(())
-}
-
-/// The script on one statement.
-fn edit_statement<'a>(
-    script: Script<'a>,
-    stmt: LazyStmt<'a>,
-    progress: &mut Progress,
-    text: &mut Vec<u8>,
-) -> Result<Scripted, AllocError>
-    requires { Fits progress.old.kept script.passes.now }
-    ensures fits { OnOk result (Fits progress.new.kept script.entry.passes.now) }
-    ensures scripted { IfOk result
-        (IsScripted script.entry.home.now script.entry.passes.now script.entry.keep_going (lazy_view stmt.entry)
-        progress.old progress.new text.old.items text.new.items) }
-{
-    let mut slot = Some(stmt);
-    edit_slot(script, &mut slot, progress, text)
 }
 
 /// The script on what is in a slot.

@@ -11,13 +11,12 @@ ghost use Rattle.bz_engine.specs.private.Edits.{IsEdited};
 ghost use Rattle.bz_engine.specs.private.NextChunks.{IsFirst};
 
 use crate::canonical::edit_canonical;
-use crate::chunk::{not_utf8, read_chunk};
-use crate::edit::{Edited, Script, edit_chunk, edit_row};
+use crate::chunk::not_utf8;
+use crate::edit::{Edited, Script, edit_chunk};
 use crate::progress::Progress;
-use crate::report::SyntaxFault;
 use bz_devices::ahead::Ahead;
-use bz_token::{Front, LexFault, Token, check_utf8, first_chunk, tokens};
-use bz_tree::{ParseFault, read_row, row_of_text};
+use bz_token::{Front, Token, check_utf8, first_chunk};
+use bz_tree::{read_statement, read_text};
 use std::alloc::AllocError;
 
 /// The next chunk, on which the script was run and which is not yet taken.
@@ -123,33 +122,8 @@ fn edit_tokens<'a>(
         → IsEdited script.entry.home.now script.entry.passes.now script.entry.keep_going script.entry.max_depth cs
         statements chunk.now progress.old progress.new text.old.items text.new.items edited) }
 {
-    match read_row(script.bump, tokens)? {
-        Some(row) => edit_row(script, chunk.as_bytes(), row, progress, text),
-        None => edit_parsed(script, chunk, tokens, progress, text),
-    }
-}
-
-/// The same where the tokens have no row.
-#[inline(never)]
-fn edit_parsed<'a>(
-    script: Script<'a>,
-    chunk: &'a str,
-    tokens: &[Token<'a>],
-    progress: &mut Progress,
-    text: &mut Vec<u8>,
-) -> Result<Edited, AllocError>
-    requires fits { Fits progress.old.kept script.passes.now }
-    requires lines { progress.old.line + length chunk.now < 2 ^ 64 }
-    requires tokens { AreTokensOf progress.old.line script.max_depth chunk.now (map placed tokens.now) }
-    ensures fits { OnOk result (Fits progress.new.kept script.entry.passes.now) }
-    ensures lines { OnOk result (progress.new.line ≤ progress.old.line + length chunk.now) }
-    ensures edited { IfOk result (λ edited. (cs : List (List ℕ)) (statements : List Statement)
-        → IsKeptOf script.entry.home.now script.entry.passes.now script.entry.max_depth cs statements progress.old
-        → IsEdited script.entry.home.now script.entry.passes.now script.entry.keep_going script.entry.max_depth cs
-        statements chunk.now progress.old progress.new text.old.items text.new.items edited) }
-{
-    let read = read_chunk(script, chunk, progress.line, tokens)?;
-    edit_chunk(script, chunk.as_bytes(), read, progress, text)
+    let read = read_statement(script.alloc, script.bump, chunk, progress.line, tokens);
+    edit_chunk(script, chunk, read, progress, text)
 }
 
 /// The script on the chunk of these bytes.
@@ -173,13 +147,6 @@ pub(crate) fn edit_bytes(
         Ok(whole) => whole,
         Err(valid) => return Ok(Edited::Faulty(not_utf8(line, &chunk[..valid]))),
     };
-    // The list of a long chunk's tokens takes more memory than its row, so it is made only where there is no row.
-    if let Some(row) = row_of_text(script.bump, whole, line, script.max_depth)? {
-        return edit_row(script, chunk, row, progress, text);
-    }
-    match tokens(script.bump, whole, line, script.max_depth) {
-        Ok(tokens) => edit_parsed(script, whole, tokens, progress, text),
-        Err(LexFault::OutOfMemory) => Err(AllocError),
-        Err(fault) => Ok(Edited::Faulty(SyntaxFault::Parse(ParseFault::Lex(fault)))),
-    }
+    let read = read_text(script.alloc, script.bump, whole, line, script.max_depth);
+    edit_chunk(script, whole, read, progress, text)
 }

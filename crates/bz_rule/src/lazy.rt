@@ -2,7 +2,6 @@
 
 ghost use Rattle.std.specs.Prelude.{◌≡◌, ◌++◌, IfOk, OnOk, OnErr, string_bytes};
 ghost use Rattle.bz_tree.specs.Tree.{Statement};
-ghost use Rattle.bz_tree.specs.View.{view};
 ghost use Rattle.bz_tree.specs.Statement.{class_of};
 ghost use Rattle.bz_tree.specs.Rows.{IsRowOf};
 ghost use Rattle.bz_command.specs.Labels.{Name};
@@ -17,7 +16,7 @@ use crate::longer::LongerRow;
 use crate::shallow::ShallowStmt;
 use bz_attribute::{Done, Executed, RuleName, matches, rule_name, shown};
 use bz_command::{Package, Target};
-use bz_tree::{Class, Row, Stmt};
+use bz_tree::{Class, Row};
 use std::alloc::{AllocError, Global};
 
 /// A statement.
@@ -29,13 +28,6 @@ pub enum LazyStmt<'a> {
 }
 
 impl<'a> LazyStmt<'a> {
-    /// A statement that is read.
-    pub fn new(alloc: Global, stmt: Stmt<'a>) -> LazyStmt<'a>
-        ensures { lazy_view result ≡ view stmt.entry }
-    {
-        LazyStmt::Read(ShallowStmt::new(alloc, stmt))
-    }
-
     /// The statement of a row.
     pub fn of_row(alloc: Global, row: &'a Row<'a>) -> Result<LazyStmt<'a>, AllocError>
         requires { (s : Statement) × ((s.class ≡ class_of s.nodes) × IsRowOf s row.now) }

@@ -1,10 +1,10 @@
-//! Rows: the parts of statements, and the statements that are left to their trees.
+//! Rows: the parts of statements, and the statements whose trees are read first.
 
 use crate::table::{check_rows, plain};
 use crate::trees::{class_name, kind_name};
 use bumpalo::Bump;
 use bz_token::{LexFault, tokens};
-use bz_tree::{Part, Row, read_row};
+use bz_tree::{ParseFault, Part, Row, read_row, read_statement, read_text};
 use std::alloc::{AllocError, Global};
 use std::test::Fail;
 
@@ -80,7 +80,64 @@ list 1 ; """
 """ ; >#a ) Other
 "##;
 
-/// Chunks without a row: with a fault, or left to their trees.
+/// Chunks of which `read_row` has no row, and what they are read as: the row that their tree gives, nothing, or a fault.
+const RARE: &str = r##"
+---
+␄
+->
+blank
+---
+ x
+->
+Indented { line: 1 }
+---
+x y
+->
+NotAStatement { line: 1 }
+---
+f ( a ] )
+->
+Lex(BadBracket { line: 1, col: 7 })
+---
+#a
+def f ( ) :
+  pass #b
+->
+^#a def f ( ) :
+  pass #b Block
+---
+[ x for x in y #a
+ ]
+->
+listcomp x for x in y ; >#a ) Other
+---
+x [ 1 : """
+""" ] #a
+->
+x index 1 : """
+""" ; ) >#a Other
+---
+f ( ) . x
+->
+f call ) . x Other
+---
+f ( x #a
+ + y )
+->
+f rule ^#a x + y ; ) Rule
+---
+f ( x #a
+ , y )
+->
+f rule x ; >#a y ; ) Rule
+---
+f ( ) #a
+#b
+->
+^#b f rule ) >#a Rule
+"##;
+
+/// Chunks of which `read_row` has no row.
 const TREES: &str = r##"
 ---
 ␄
@@ -182,6 +239,43 @@ fn shown(alloc: Global, text: &str) -> Result<String, Fail> {
     Ok(shown)
 }
 
+/// What a chunk is read as.
+fn shown_read(
+    alloc: Global,
+    read: Result<Option<Row<'_>>, ParseFault>,
+) -> Result<String, AllocError> {
+    match read {
+        Ok(None) => String::from_str(alloc, "blank\n"),
+        Ok(Some(row)) => shown_row(alloc, &row),
+        Err(fault) => format!(in alloc; "{fault:?}\n"),
+    }
+}
+
+/// What a short chunk is read as.
+fn shown_text(alloc: Global, text: &str) -> Result<String, Fail> {
+    if text.len() > 1000 {
+        return Err(AllocError)?;
+    }
+    let bump = Bump::new(alloc);
+    let read = read_text(alloc, &bump, text, 1, 100);
+    Ok(shown_read(alloc, read)?)
+}
+
+/// What a short chunk is read as by its tokens.
+fn shown_tokens(alloc: Global, text: &str) -> Result<String, Fail> {
+    if text.len() > 1000 {
+        return Err(AllocError)?;
+    }
+    let bump = Bump::new(alloc);
+    match tokens(&bump, text, 1, 100) {
+        Err(_) => shown_text(alloc, text),
+        Ok(tokens) => {
+            let read = read_statement(alloc, &bump, text, 1, tokens);
+            Ok(shown_read(alloc, read)?)
+        }
+    }
+}
+
 fn has_row(alloc: Global, text: &str) -> Result<bool, AllocError> {
     let text = plain(alloc, text)?;
     let bump = Bump::new(alloc);
@@ -192,6 +286,15 @@ fn has_row(alloc: Global, text: &str) -> Result<bool, AllocError> {
 fn rows_of_chunks(rt: HostRuntime) -> Result<(), Fail> {
     let alloc = rt.alloc();
     check_rows(&rt, alloc, ROWS, |text| shown(alloc, text))
+}
+
+#[test]
+fn statements_of_chunks(rt: HostRuntime) -> Result<(), Fail> {
+    let alloc = rt.alloc();
+    check_rows(&rt, alloc, ROWS, |text| shown_text(alloc, text))?;
+    check_rows(&rt, alloc, ROWS, |text| shown_tokens(alloc, text))?;
+    check_rows(&rt, alloc, RARE, |text| shown_text(alloc, text))?;
+    check_rows(&rt, alloc, RARE, |text| shown_tokens(alloc, text))
 }
 
 #[test]

@@ -166,7 +166,7 @@ fn indent_fault(alloc: Global, tokens: &[Token<'_>]) -> Result<Option<u64>, Allo
 
 /// The statement of a chunk that has these tokens, its first line having this number. None: the chunk is blank. Every
 /// text of the statement is borrowed from the chunk. The rules are those of `parse`.
-pub fn parse_tokens<'a>(
+pub(crate) fn parse_tokens<'a>(
     alloc: Global,
     text: &'a str,
     first_line: u64,

@@ -1,11 +1,11 @@
--- What reading a chunk that has no row answers, for private clauses.
-use Rattle.std.specs.Prelude.{ℕ, List, None, Some, Ok, Err}
-use Rattle.bz_tree.specs.View.{view}
-use Rattle.bz_engine.specs.File.{Gives}
-use Rattle.bz_engine.specs.declared.chunk.ChunkRead.{ChunkRead}
-use Rattle.bz_engine.specs.declared.chunk.ChunkRead.TheVariants.{Blank, Statement, Faulty}
+-- What reading a chunk answers, for private clauses.
+use Rattle.std.specs.Prelude.{ℕ, List, Option, None, Some, Result, Ok, Err}
+use Rattle.bz_tree.specs.declared.row.Row.{Row}
+use Rattle.bz_tree.specs.declared.fault.ParseFault.{ParseFault}
+use Rattle.bz_tree.specs.Chunk.{IsBlank, IsFaultIn}
+use Rattle.bz_engine.specs.private.Rows.{IsStatementRow}
 
-abbrev pub IsReadAs : ℕ → ℕ → List ℕ → ChunkRead → Type 0
-IsReadAs max_depth line chunk Blank = Gives max_depth line chunk (Ok None)
-IsReadAs max_depth line chunk (Statement stmt) = Gives max_depth line chunk (Ok (Some (view stmt)))
-IsReadAs max_depth line chunk (Faulty fault) = Gives max_depth line chunk (Err fault)
+abbrev pub IsReadAs : ℕ → ℕ → List ℕ → Result (Option Row) ParseFault → Type 0
+IsReadAs max_depth line chunk (Ok (Some row)) = IsStatementRow line max_depth chunk row
+IsReadAs max_depth line chunk (Ok None) = IsBlank line max_depth chunk
+IsReadAs max_depth line chunk (Err fault) = IsFaultIn line max_depth chunk fault

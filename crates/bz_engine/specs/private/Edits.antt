@@ -54,7 +54,7 @@ pub record IsLaidOut (home : Package) (passes : Script) (keep_going : Bool) (s :
   pub last : new.last ≡ last_class old.last (slot_after (meaning home) passes (Some s) ∷ [])
   pub line : new.line ≡ old.line
   pub text : after ≡ before ++ (if is_query passes then [] else text_following old.last (slot_after (meaning home) passes (Some s) ∷ []))
-  pub calm : keep_going ≡ false → new.failed ≡ false
+  pub calm : keep_going ≡ false → old.failed ≡ false → new.failed ≡ false
 
 -- or the run ends at it.
 pub record IsEnded (home : Package) (passes : Script) (keep_going : Bool) (s : Statement) (message : Option (List ℕ)) (old new : Progress) (before after : List ℕ) : Type 0 where

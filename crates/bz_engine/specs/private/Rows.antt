@@ -1,18 +1,15 @@
--- The row of a statement that the script passes by, and what is known of its name, for private clauses.
-use Rattle.std.specs.Prelude.{◌≡◌, ℕ, List, true, Some}
+-- The row of a chunk's statement, and what is known of its name, for private clauses.
+use Rattle.std.specs.Prelude.{◌≡◌, ℕ, List, true}
 use Rattle.bz_tree.specs.declared.row.Row.{Row}
 use Rattle.bz_tree.specs.Tree.{Statement}
 use Rattle.bz_tree.specs.Statement.{class_of}
 use Rattle.bz_tree.specs.Chunk.{IsStatementIn}
 use Rattle.bz_tree.specs.Rows.{IsRowOf}
-use Rattle.bz_command.specs.Labels.{Package, Target}
+use Rattle.bz_command.specs.Labels.{Target}
 use Rattle.bz_attribute.specs.Marks.{marks}
 use Rattle.bz_passes.specs.declared.index.Key.{Key}
 use Rattle.bz_passes.specs.private.Indexes.{may_mark}
 use Rattle.bz_passes.specs.Asked.{asked_by}
-use Rattle.bz_passes.specs.Exchange.{IsPassedBy}
-use Rattle.bz_engine.specs.Meaning.{meaning, changes, fails_on}
-use Rattle.bz_engine.specs.Outcome.{Script}
 
 -- a target that marks the statement may mark what has this key
 abbrev pub HasKey : Statement → Key → Type 0
@@ -24,10 +21,3 @@ pub record IsStatementRow (line max_depth : ℕ) (text : List ℕ) (row : Row) :
   pub read : IsStatementIn line max_depth text statement
   pub parts : IsRowOf statement row
   pub class : statement.class ≡ class_of statement.nodes
-
--- The script passes it by.
-pub record IsPassedRow (home : Package) (passes : Script) (max_depth line : ℕ) (text : List ℕ) (row : Row) : Type 0 where
-  pub statement : Statement
-  pub read : IsStatementIn line max_depth text statement
-  pub parts : IsRowOf statement row
-  pub passed : IsPassedBy (meaning home) (changes home) (fails_on home) passes (Some statement)

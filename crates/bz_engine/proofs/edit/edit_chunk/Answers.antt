@@ -1,31 +1,35 @@
 use Rattle.std.proofs.Common.{◌∙◌, ap, sym, subst}
-use Rattle.bz_tree.specs.View.{view}
+use Rattle.std.specs.Prelude.{Ok}
+use Rattle.bz_token.specs.Places.{line_at}
 use Rattle.bz_engine.specs.private.ChunkRead.{IsReadAs}
-use Rattle.bz_engine.specs.private.Edits.{IsEdited, IsScripted}
-use Rattle.bz_engine.proofs.ChunkEdits.{blank_edited, scripted_edited, line_passed}
+use Rattle.bz_engine.specs.private.Edits.{IsEdited}
+use Rattle.bz_engine.proofs.ChunkEdits.{blank_done, scripted_edited}
 use Rattle.bz_engine.proofs.edit.edit_chunk.Goals as goal
-use Rattle.bz_engine.proofs.edit.edit_chunk.Goals.{in-Blank, in-Statement+in_ok-edit_statement-in-Statement}
+
+pub returns-in_default-clause-edited : goal.returns-in_default-clause-edited
+returns-in_default-clause-edited c cs statements kept =
+    let old = c.args.progress.now in
+    blank_done c.args.script.home.now c.args.script.passes.now c.args.script.keep_going c.args.script.max_depth cs statements c.args.chunk.now old _ c.args.text.now.items
+    kept (
+      c.utf8.chunk,
+      subst (λ o. IsReadAs c.args.script.max_depth old.line c.args.chunk.now (Ok o)) c.in_default.is
+          (subst (IsReadAs c.args.script.max_depth old.line c.args.chunk.now) c.in-Ok.is c.requires.read),
+    )
+    (c.pass_lines.ensures ∙ ap (λ bytes. record old { line = line_at old.line bytes }) c.as_bytes.ensures.value)
 
 pub returns-clause-edited : goal.returns-clause-edited
 returns-clause-edited c cs statements kept =
-    let script = c.args.script in
+    let home = c.args.script.home.now in
+    let passes = c.args.script.passes.now in
+    let going = c.args.script.keep_going in
+    let depth = c.args.script.max_depth in
     let chunk = c.args.chunk.now in
     let old = c.args.progress.now in
+    let mid = c.edit_row.new.progress in
     let before = c.args.text.now.items in
-    let read : IsReadAs script.max_depth old.line chunk c.args.read = c.requires.read in
-    elim c.match-read.branch [
-      | in-Blank w ↦
-          blank_edited script.home.now script.passes.now script.keep_going script.max_depth cs statements chunk old _ before _ c.match-read.edited
-          kept (subst (IsReadAs script.max_depth old.line chunk) w.in-Blank.is read)
-          (c.pass_lines.ensures ∙ ap (line_passed chunk) w.progress-is)
-          (ap (λ t. t.items) w.text-is) w.edited-is
-      | in-Statement+in_ok-edit_statement-in-Statement w ↦
-          let s = view w.in-Statement.stmt in
-          let ok = w.in_ok-edit_statement-in-Statement in
-          subst (λ t. IsEdited script.home.now script.passes.now script.keep_going script.max_depth cs statements chunk old _ before t c.match-read.edited) (sym (ap (λ t. t.items) w.text-is))
-          (subst (IsEdited script.home.now script.passes.now script.keep_going script.max_depth cs statements chunk old _ before w.edit_statement.new.text.items) (sym (w.edited-is ∙ w.edited_of-edited.ensures))
-          (scripted_edited script.home.now script.passes.now script.keep_going script.max_depth cs statements chunk s old w.edit_statement.new.progress _ before w.edit_statement.new.text.items ok.field-0
-          kept (subst (IsReadAs script.max_depth old.line chunk) w.in-Statement.is read)
-          (subst (λ z. IsScripted script.home.now script.passes.now script.keep_going z old w.edit_statement.new.progress before w.edit_statement.new.text.items ok.field-0) w.new-stmt.ensures ok.ensures.scripted)
-          (c.pass_lines.ensures ∙ ap (line_passed chunk) w.progress-is)))
-    ]
+    let after = c.edit_row.new.text.items in
+    let row = subst (λ o. IsReadAs depth old.line chunk (Ok o)) c.in-Some.is (subst (IsReadAs depth old.line chunk) c.in-Ok.is c.requires.read) in
+    subst (IsEdited home passes going depth cs statements chunk old _ before after) (sym c.edited_of.ensures)
+    (scripted_edited home passes going depth cs statements chunk row.statement old mid _ before after c.in_ok-scripted.scripted
+    kept (c.utf8.chunk, row.read) (c.in_ok-scripted.ensures.scripted row.statement row.class row.parts)
+    (c.pass_lines-2.ensures ∙ ap (λ bytes. record mid { line = line_at mid.line bytes }) c.as_bytes-2.ensures.value))

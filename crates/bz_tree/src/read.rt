@@ -1,0 +1,137 @@
+//! The row of a chunk's statement, whatever it is. Where `read_row` has none of its tokens, its tree is read, and gives
+//! its parts.
+
+ghost use Rattle.std.specs.Prelude.{ℕ, ◌≡◌, ◌+◌, ◌<◌, ◌^◌, ◌==◌, IfOk, IfErr, IfSome, IfNone, count_by, map};
+ghost use Rattle.bz_token.specs.Places.{placed};
+ghost use Rattle.bz_token.specs.Reading.{AreTokensOf};
+ghost use Rattle.bz_tree.specs.Tree.{Statement};
+ghost use Rattle.bz_tree.specs.View.{view};
+ghost use Rattle.bz_tree.specs.Chunk.{IsStatementIn, IsBlank, IsFaultIn};
+ghost use Rattle.bz_tree.specs.Rows.{IsRowOf, part_view};
+
+use crate::chunk::parse_tokens;
+use crate::fault::ParseFault;
+use crate::parts::push_parts;
+use crate::row::{Part, Row};
+use crate::rows::read_row;
+use crate::stmt::Stmt;
+use crate::text_row::row_of_text;
+use bumpalo::Bump;
+use bumpalo::collections::into_bump_slice;
+use bz_token::{LexFault, Token, tokens};
+use std::alloc::{AllocError, Global};
+
+// The same part, its text in the arena.
+fn part_in<'a>(bump: &'a Bump, part: Part<'_>) -> Result<Part<'a>, AllocError>
+    ensures { IfOk result (λ copy. part_view copy ≡ part_view part.entry) }
+{
+    Ok(match part {
+        Part::Token(kind, text) => Part::Token(kind, bump.try_alloc_str(text)?),
+        Part::Open(kind) => Part::Open(kind),
+        Part::Close(one_comma) => Part::Close(one_comma),
+        Part::End => Part::End,
+        Part::Above(text) => Part::Above(bump.try_alloc_str(text)?),
+        Part::Beside(text) => Part::Beside(bump.try_alloc_str(text)?),
+    })
+}
+
+// The same parts in the arena.
+fn parts_in<'a>(bump: &'a Bump, parts: &[Part<'_>]) -> Result<&'a [Part<'a>], AllocError>
+    ensures { IfOk result (λ copies. map part_view copies.now ≡ map part_view parts.now) }
+{
+    let mut copies = Vec::with_capacity(bump, parts.len())?;
+    for part in parts {
+        copies.push(part_in(bump, *part)?)?;
+    }
+    Ok(into_bump_slice(copies))
+}
+
+// The row of a statement that has a tree.
+fn row_of_tree<'a>(alloc: Global, bump: &'a Bump, stmt: &Stmt<'_>) -> Result<Row<'a>, AllocError>
+    ensures { IfOk result (IsRowOf (view stmt.now)) }
+{
+    let mut parts = Vec::new(alloc);
+    push_parts(stmt, &mut parts)?;
+    Ok(Row {
+        parts: parts_in(bump, &parts)?,
+        class: stmt.class,
+        start: stmt.start,
+        end: stmt.end,
+    })
+}
+
+// The row of a statement whose tree is read.
+#[inline(never)]
+fn read_tree<'a>(
+    alloc: Global,
+    bump: &'a Bump,
+    text: &str,
+    first_line: u64,
+    tokens: &[Token<'_>],
+) -> Result<Option<Row<'a>>, ParseFault>
+    requires lines { first_line + count_by (λ b. b == 10) text.now < 2 ^ 64 }
+    requires tokens { (depth : ℕ) × AreTokensOf first_line depth text.now (map placed tokens.now) }
+    ensures statement { IfOk result (λ o. IfSome o (λ row. (depth : ℕ)
+        → AreTokensOf first_line depth text.now (map placed tokens.now)
+        → (s : Statement) × IsStatementIn first_line depth text.now s × IsRowOf s row)) }
+    ensures blank { IfOk result (λ o. IfNone o ((depth : ℕ)
+        → AreTokensOf first_line depth text.now (map placed tokens.now) → IsBlank first_line depth text.now)) }
+    ensures fault { IfErr result (λ fault. (depth : ℕ)
+        → AreTokensOf first_line depth text.now (map placed tokens.now) → IsFaultIn first_line depth text.now fault) }
+{
+    match parse_tokens(alloc, text, first_line, tokens)? {
+        None => Ok(None),
+        Some(stmt) => Ok(Some(row_of_tree(alloc, bump, &stmt)?)),
+    }
+}
+
+/// The row of the statement of a chunk that has these tokens, its first line having this number. None: the chunk is
+/// blank. The rules are those of `parse`.
+pub fn read_statement<'a>(
+    alloc: Global,
+    bump: &'a Bump,
+    text: &str,
+    first_line: u64,
+    tokens: &[Token<'a>],
+) -> Result<Option<Row<'a>>, ParseFault>
+    requires lines { first_line + count_by (λ b. b == 10) text.now < 2 ^ 64 }
+    requires tokens { (depth : ℕ) × AreTokensOf first_line depth text.now (map placed tokens.now) }
+    ensures statement { IfOk result (λ o. IfSome o (λ row. (depth : ℕ)
+        → AreTokensOf first_line depth text.now (map placed tokens.now)
+        → (s : Statement) × IsStatementIn first_line depth text.now s × IsRowOf s row)) }
+    ensures blank { IfOk result (λ o. IfNone o ((depth : ℕ)
+        → AreTokensOf first_line depth text.now (map placed tokens.now) → IsBlank first_line depth text.now)) }
+    ensures fault { IfErr result (λ fault. (depth : ℕ)
+        → AreTokensOf first_line depth text.now (map placed tokens.now) → IsFaultIn first_line depth text.now fault) }
+{
+    match read_row(bump, tokens)? {
+        Some(row) => Ok(Some(row)),
+        None => read_tree(alloc, bump, text, first_line, tokens),
+    }
+}
+
+/// The row of the statement of a chunk, whose first line has this number, with at most so many brackets open at once.
+/// None: the chunk is blank. The rules are those of `parse`. The list of a long chunk's tokens takes more memory than
+/// its row, so it is made only where `row_of_text` has no row.
+pub fn read_text<'a>(
+    alloc: Global,
+    bump: &'a Bump,
+    text: &'a str,
+    first_line: u64,
+    max_depth: u8,
+) -> Result<Option<Row<'a>>, ParseFault>
+    requires { first_line + count_by (λ b. b == 10) text.now < 2 ^ 64 }
+    ensures statement { IfOk result (λ o. IfSome o (λ row.
+        (s : Statement) × IsStatementIn first_line max_depth text.now s × IsRowOf s row)) }
+    ensures blank { IfOk result (λ o. IfNone o (IsBlank first_line max_depth text.now)) }
+    ensures fault { IfErr result (IsFaultIn first_line max_depth text.now) }
+{
+    if let Some(row) = row_of_text(bump, text, first_line, max_depth)? {
+        return Ok(Some(row));
+    }
+    match tokens(bump, text, first_line, max_depth) {
+        Ok(tokens) => read_tree(alloc, bump, text, first_line, tokens),
+        Err(LexFault::OutOfMemory) => Err(ParseFault::OutOfMemory),
+        Err(fault) => Err(ParseFault::Lex(fault)),
+    }
+}
