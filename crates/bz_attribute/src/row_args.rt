@@ -47,6 +47,9 @@ pub fn read_arguments<'a>(alloc: Global, parts: &[Part<'a>]) -> Result<Vec<Seg<'
     ensures { IfOk result (λ args. (ss : List Segment) → map part_view parts.now ≡ segs_parts (segs_of ss)
         → segs_view args.items ≡ ss) }
 {
+    if parts.is_empty() {
+        return Ok(Vec::new(alloc));
+    }
     let list = in_list(alloc, parts)?;
     let mut nodes = nodes_of_parts(alloc, &list)?;
     match nodes.pop() {
