@@ -1,5 +1,5 @@
 -- Arguments among others: their parts, the first of a name, and its edit.
-use Rattle.std.proofs.Common.{◌≡◌, ℕ, List, [], ◌∷◌, ◌++◌, Bool, true, false, ◌||◌, if◌then◌else◌, Option, Some, None, map, refl, ap, sym, ◌∙◌, append_assoc}
+use Rattle.std.proofs.Common.{◌≡◌, ℕ, List, [], ◌∷◌, ◌++◌, Bool, true, false, ◌||◌, if◌then◌else◌, Some, None, map, refl, ap, sym, ◌∙◌, append_assoc}
 use Rattle.std.specs.List.{list_any}
 use Rattle.bz_tree.specs.Tree.{Item, Segment, Statement, items_of, segs_of}
 use Rattle.bz_tree.specs.Rows.{RowPart, segment_end, above, beside_part, items_parts, segs_parts}

@@ -1,16 +1,9 @@
 -- The first argument of a name, found among the parts of a rule's arguments.
-use Rattle.std.proofs.Common.{◌≡◌, ℕ, zero, suc, ◌+◌, ◌-◌, ◌==◌, List, [], ◌∷◌, ◌++◌, Bool, true, false, ◌&&◌, if◌then◌else◌, Option, Some, None, length, map, option_map, refl, ap, sym, ◌∙◌, arith, append_assoc, length-append}
-use Rattle.std.specs.Prelude.{codes}
-use Rattle.std.proofs.lemmas.List.{length-map}
+use Rattle.std.proofs.Common.{◌≡◌, ℕ, suc, ◌+◌, ◌-◌, ◌==◌, List, [], ◌∷◌, ◌++◌, Bool, false, Option, Some, None, length, map, option_map, refl, ap, sym, ◌∙◌, arith, append_assoc, length-append}
 use Rattle.std.proofs.lemmas.Bool.{ne_eqb}
-use Rattle.bz_token.specs.declared.token.Kind.{Kind}
-use Rattle.bz_tree.specs.declared.stmt.GroupKind.{GroupKind}
-use Rattle.bz_tree.specs.Tree.{Item, leaf, group, Items, no_items, item, Segs, no_segs, seg, Segment, items_of, list_of, segs_of}
+use Rattle.bz_tree.specs.Tree.{Item, leaf, group, Items, no_items, item, Segs, no_segs, seg}
 use Rattle.bz_tree.specs.Rows.{RowPart, a_token, opening, closing, segment_end, above, beside, beside_part, item_parts, items_parts, segs_parts}
-use Rattle.bz_attribute.specs.Rules.{is_text, name_of, is_named, is_operator_item}
-use Rattle.bz_attribute.specs.Effects.{has}
-use Rattle.bz_attribute.specs.private.HeadParts as row
-use Rattle.bz_attribute.specs.Finder.{flat_name, depth_after, begins_after, find_from}
+use Rattle.bz_attribute.specs.Finder.{depth_after, begins_after, find_from}
 use Rattle.bz_attribute.proofs.FinderSteps.{passed_one}
 
 -- a walk over these parts finds nothing, and goes on so

@@ -1,8 +1,8 @@
 -- The place of an argument among the parts of its rule.
-use Rattle.std.proofs.Common.{◌≡◌, ℕ, ◌+◌, ◌-◌, List, [], ◌∷◌, ◌++◌, Bool, true, false, ◌||◌, if◌then◌else◌, Option, Some, None, length, map, take, drop, option_map, refl, ap, sym, ◌∙◌, subst, arith, append_assoc, append-nil, length-append}
+use Rattle.std.proofs.Common.{◌≡◌, ℕ, ◌+◌, ◌-◌, List, [], ◌∷◌, ◌++◌, true, false, Option, Some, None, length, map, take, drop, option_map, ap, sym, ◌∙◌, subst, arith, append_assoc, append-nil, length-append}
 use Rattle.std.specs.Prelude.{option_to_list}
 use Rattle.std.proofs.Math.Seq.{drop-append_seam, take-append_seam}
-use Rattle.bz_tree.specs.Tree.{Item, Segment, Statement, items_of, segs_of}
+use Rattle.bz_tree.specs.Tree.{Segment, Statement, items_of, segs_of}
 use Rattle.bz_tree.specs.Rows.{RowPart, segment_end, above, beside_part, items_parts, segs_parts, parts_of}
 use Rattle.bz_attribute.specs.Rules.{Rule, rule_of, is_named, first_named}
 use Rattle.bz_attribute.specs.Effects.{edit_first, has, with_args, nodes_after, nodes_of}
@@ -10,7 +10,7 @@ use Rattle.bz_attribute.specs.Finder.{find_from}
 use Rattle.bz_attribute.specs.RowPlaces.{alone, IsLocal, IsPlaceOf, IsRuleRow}
 use Rattle.bz_attribute.specs.private.Ends.{arguments_end, plain_len, segment_len}
 use Rattle.bz_attribute.proofs.RuleNodes.{rule_nodes}
-use Rattle.bz_attribute.proofs.EditedAt.{edited_at, first_at, none_first, segs_join, with_args_at}
+use Rattle.bz_attribute.proofs.EditedAt.{edited_at, first_at, none_first, segs_join}
 use Rattle.bz_attribute.proofs.EndsBack.{args_end, comments_at, end_alone, segment_long}
 use Rattle.bz_attribute.proofs.FoundArgs.{Answer, found, absent, answer, IsArgAt}
 use Rattle.bz_attribute.proofs.RuleParts.{after_args, before_args, head_passed, is_after, parts_cut}

@@ -1,16 +1,15 @@
 -- The parts of a rule: before its arguments, of these, and after them.
-use Rattle.std.proofs.Common.{◌≡◌, ℕ, suc, ◌+◌, List, [], ◌∷◌, ◌++◌, Bool, true, false, ◌&&◌, if◌then◌else◌, Option, Some, None, length, map, option_map, refl, ap, sym, ◌∙◌, arith, append_assoc, append-nil}
+use Rattle.std.proofs.Common.{◌≡◌, ℕ, ◌+◌, List, [], ◌∷◌, ◌++◌, Bool, true, false, ◌&&◌, if◌then◌else◌, Some, None, length, map, option_map, refl, ap, sym, ◌∙◌, append_assoc, append-nil}
 use Rattle.std.proofs.lemmas.Bool.{false≢true, and_parts}
 use Rattle.bz_token.specs.declared.token.Kind.TheVariants.{Identifier}
 use Rattle.bz_tree.specs.declared.stmt.GroupKind.TheVariants.{RuleCall}
-use Rattle.bz_tree.specs.Tree.{Item, leaf, group, Segment, Statement, items_of, segs_of}
+use Rattle.bz_tree.specs.Tree.{Item, leaf, group, Statement, items_of, segs_of}
 use Rattle.bz_tree.specs.Rows.{RowPart, a_token, opening, closing, above, beside_part, item_parts, items_parts, segs_parts, parts_of}
-use Rattle.bz_attribute.specs.Rules.{Rule, rule_of, rule_from, call_at, is_call, dotted, is_operator_item, elements, comma_of, end_of}
+use Rattle.bz_attribute.specs.Rules.{Rule, rule_of, rule_from, call_at, is_call, dotted, elements, comma_of, end_of}
 use Rattle.bz_attribute.specs.Effects.{nodes_of}
 use Rattle.bz_attribute.proofs.RuleNodes.{rule_nodes}
 use Rattle.bz_attribute.specs.Finder.{find_from}
 use Rattle.bz_attribute.proofs.Passed.{IsPassed, join, first, nothing, pass_above, alone}
-use Rattle.bz_attribute.proofs.FinderSteps.{passed_one}
 use Rattle.bz_attribute.proofs.FoundArgs.{IsAfter}
 
 abbrev pub before_args : Statement → Rule → List RowPart

@@ -1,7 +1,7 @@
 -- For private clauses alone: where a segment, the comments above it and the arguments of a rule end, by their parts.
 use Rattle.std.specs.Prelude.{ℕ, zero, suc, ◌+◌, List, [], ◌∷◌, drop, Bool, true, false, if◌then◌else◌}
 use Rattle.std.specs.List.{list_all, list_any}
-use Rattle.bz_tree.specs.Rows.{RowPart, a_token, opening, closing, segment_end, above, beside}
+use Rattle.bz_tree.specs.Rows.{RowPart, opening, closing, segment_end, above, beside}
 
 abbrev pub above_len : List RowPart → ℕ
 above_len (above text ∷ ps) = suc (above_len ps)

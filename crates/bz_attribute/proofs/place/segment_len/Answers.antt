@@ -1,4 +1,4 @@
-use Rattle.std.proofs.Common.{◌≡◌, ℕ, ◌+◌, drop, map, ap, ◌∙◌}
+use Rattle.std.proofs.Common.{ℕ, ◌+◌, drop, map, ap, ◌∙◌}
 use Rattle.bz_tree.specs.Rows.{part_view}
 use Rattle.bz_attribute.specs.private.Ends.{end_len}
 use Rattle.bz_attribute.proofs.Slices.{rest_seen}

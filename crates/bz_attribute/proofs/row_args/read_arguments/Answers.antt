@@ -1,9 +1,7 @@
-use Rattle.std.proofs.Common.{◌≡◌, List, [], ◌∷◌, ◌++◌, false, map, length, ap, sym, ◌∙◌, arith, tests}
+use Rattle.std.proofs.Common.{◌≡◌, List, [], ◌∷◌, map, length, ap, sym, ◌∙◌, arith, tests}
 use Rattle.bz_tree.specs.declared.row.Part.{Part}
-use Rattle.bz_tree.specs.declared.stmt.Node.{Node}
-use Rattle.bz_tree.specs.Tree.{Item, Segment, segs_of}
 use Rattle.bz_tree.specs.View.{node_view, nodes_view, segs_view}
-use Rattle.bz_tree.specs.Rows.{RowPart, part_view, segs_parts}
+use Rattle.bz_tree.specs.Rows.{part_view}
 use Rattle.bz_tree.specs.FromParts.{nodes_of_parts}
 use Rattle.bz_attribute.specs.Rules.{elements}
 use Rattle.bz_attribute.proofs.RowArgs.{last_node, list_of_args, listed, no_node, none_read}
