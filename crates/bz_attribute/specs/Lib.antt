@@ -1,6 +1,7 @@
 pub mod Add
 pub mod Comment
 pub mod Effects
+pub mod Finder
 pub mod Heads
 pub mod Lists
 pub mod Marks
@@ -9,6 +10,7 @@ pub mod Remove
 pub mod Rename
 pub mod Replace
 pub mod Rules
+pub mod RowPlaces
 pub mod RuleViews
 pub mod Set
 pub mod Texts

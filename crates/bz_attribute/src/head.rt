@@ -118,7 +118,7 @@ fn opens_rule(part: &Part<'_>) -> bool
     matches!(part, Part::Open(GroupKind::RuleCall))
 }
 
-fn ident_of<'a>(part: &Part<'a>) -> Option<&'a str>
+pub(crate) fn ident_of<'a>(part: &Part<'a>) -> Option<&'a str>
     ensures { option_map (λ text. text.now) result ≡ spec.ident_of (part_view part.now) }
 {
     match part {
@@ -136,7 +136,7 @@ fn is_name(part: &Part<'_>) -> bool
     }
 }
 
-fn is_equals(part: &Part<'_>) -> bool
+pub(crate) fn is_equals(part: &Part<'_>) -> bool
     ensures { result ≡ spec.is_operator_item (codes "=") (part_view part.now) }
 {
     match part {

@@ -5,11 +5,14 @@ mod chosen;
 mod done;
 mod env;
 pub mod equals;
+mod finder;
 mod head;
 mod list_labels;
 mod lists;
 mod make;
 mod marks;
+mod place;
+mod row_args;
 mod rule;
 mod texts;
 mod word_set;
@@ -17,6 +20,7 @@ mod word_set;
 pub use chosen::{Chosen, any_chosen, drop_in, is_any_chosen, is_chosen, loses_all};
 pub use done::{Done, Executed, Note};
 pub use env::Env;
+pub use finder::find_argument;
 pub use head::Head;
 pub use list_labels::labels_in;
 pub use lists::{elements_at, first_part, is_attribute, is_list, next_part};
@@ -24,6 +28,8 @@ pub use make::{
     argument, list, literal, push_argument, push_string, segment, string, strings, token,
 };
 pub use marks::{RuleName, is_kind, matches, rule_name};
+pub use place::{Place, place_of};
+pub use row_args::{read_arguments, splice};
 pub use rule::{
     Rule, call_at, find, first_named, ident_of, is_named, is_string, name_of, only_text, rule_of,
     value_of,

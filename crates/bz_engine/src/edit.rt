@@ -127,12 +127,12 @@ fn edit_row<'a>(
 }
 
 /// The statement of a row. A rule's row is kept where a command may be done by it alone.
-fn lazy_stmt<'a>(script: Script<'_>, row: &'a Row<'a>) -> Result<LazyStmt<'a>, AllocError>
+fn lazy_stmt<'a>(script: Script<'a>, row: &Row<'a>) -> Result<LazyStmt<'a>, AllocError>
     requires { (s : Statement) × ((s.class ≡ class_of s.nodes) × IsRowOf s row.now) }
     ensures { IfOk result (λ read. (s : Statement) → s.class ≡ class_of s.nodes → IsRowOf s row.now → lazy_view read ≡ s) }
 {
     if script.passes.has_command_by_row() {
-        return LazyStmt::of_row(script.alloc, row);
+        return LazyStmt::of_row(script.alloc, script.bump, row);
     }
     let read = ShallowStmt::of_row(script.alloc, row)?;
     Ok(LazyStmt::Read(read))

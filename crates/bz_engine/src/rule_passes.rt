@@ -6,7 +6,7 @@ ghost use Rattle.bz_rule.specs.Commands.{is_print};
 ghost use Rattle.bz_engine.specs.Outcome as spec;
 ghost use Rattle.bz_engine.specs.private.Named.{all_named};
 
-use bz_command::{Pass, Setting};
+use bz_command::{Attributes, Commented, Pass, Setting};
 use bz_passes::passes::{Keyed, Passes};
 use bz_rule::{Action, Command, Target};
 use std::alloc::{AllocError, Global};
@@ -102,8 +102,13 @@ fn has_command_by_row(passes: &[Pass<Target, Command>]) -> bool {
 
 fn is_by_row(command: &Command) -> bool {
     match &command.action {
-        Action::Print(_) | Action::SetIfAbsent(_, _) => true,
-        Action::Set(Setting::ToValues(_, _)) => true,
+        Action::Print(_)
+        | Action::Add(_, _)
+        | Action::Set(Setting::ToValues(_, _))
+        | Action::SetIfAbsent(_, _)
+        | Action::Remove(Attributes::Named(_), _)
+        | Action::Replace(Attributes::Named(_), _, _)
+        | Action::Comment(Commented::Attribute(_) | Commented::Value(_, _), _) => true,
         _ => false,
     }
 }

@@ -11,6 +11,7 @@ use Rattle.bz_attribute.specs.declared.done.Note.TheVariants.{NotAList}
 use Rattle.bz_rule.proofs.PartLaws.{edit_head, first_part_stays, parts_first_edited}
 use Rattle.bz_rule.proofs.Arguments.{attribute_named, first_same, has_first, is_first_named, rest_same, same_bytes, value_back, value_put}
 use Rattle.bz_rule.specs.declared.command.Action.TheVariants.{Add}
+use Rattle.bz_rule.proofs.Local.{add_local, looks_at_one}
 use Rattle.bz_rule.proofs.Lawful.{Lawful, note_unchanged, on_arguments}
 use Rattle.bz_rule.proofs.NamesKept.{KeepsEach, Leaves, append_kept, edit_one_kept, first_kept, has_kept, put_kept, taken}
 use Rattle.bz_rule.proofs.Aside.{leaves_mentioned}
@@ -173,7 +174,7 @@ add_lawful home attr values = on_arguments (Add attr values) home (λ slot. refl
   noted = λ args h. note_unchanged (not_a_list attr (first_named attr args)) (adds home values (first_named attr args)) h;
   aside = λ g aside args. add_aside g aside.names home attr values (leaves_mentioned aside attr (same_bytes attr)) args;
   told = λ g aside args. rw (first_kept g aside.names attr (leaves_mentioned aside attr (same_bytes attr)) args) refl;
-  appends = tt;
+  local = record { args = add_local home attr values; told = looks_at_one attr _ (λ o. done (not_a_list attr o) (adds home values o)) (λ args. refl); slot = λ s. refl; done = λ s. refl };
   formed = λ depth args h good. add_good depth home attr values args (and_parts (is_identifier attr) (not (length values == 0)) h).0 good;
   passes = λ q w h args k. let p = and_parts (q attr) (list_all q values) h in add_passes q w home attr values args p.0 (words_in q values p.1) k;
   comments = λ k args. add_leaves_all home attr values args;

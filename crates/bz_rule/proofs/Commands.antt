@@ -1,5 +1,5 @@
 -- Each command owes what `Lawful` says, and what follows of all of them.
-use Rattle.std.proofs.Common.{◌≡◌, ◌↔◌, ℕ, List, Bool, true, false, Option, Some, None, map, option_map, is_some, refl, ap, sym, ◌∙◌, subst, zero, suc, ◌≤◌, arith, [], ◌∷◌, Result, Ok, Err, if◌then◌else◌}
+use Rattle.std.proofs.Common.{◌≡◌, ◌↔◌, ℕ, List, Bool, true, false, Option, Some, None, map, option_map, is_some, refl, ap, sym, ◌∙◌, subst, zero, suc, ◌≤◌, arith, Result, Ok, Err, if◌then◌else◌}
 use Rattle.std.specs.Prelude.{IfSome, bytes_eq, codes}
 use Rattle.bz_tree.specs.Tree.{Segment, Statement}
 use Rattle.bz_command.specs.Labels.{Package}
@@ -9,8 +9,8 @@ use Rattle.bz_attribute.specs.declared.done.Done.{Done}
 use Rattle.bz_attribute.specs.declared.done.Note.{Note}
 use Rattle.bz_attribute.specs.Effects.{fails, holds_rule, with_args}
 use Rattle.bz_rule.specs.Aside.{IsAside}
-use Rattle.bz_rule.specs.private.LongerRows.{adds_to}
-use Rattle.bz_rule.proofs.Lawful.{Appends, Lawful, SlotFormed}
+use Rattle.bz_rule.specs.private.RowEdits.{one_attribute}
+use Rattle.bz_rule.proofs.Lawful.{Lawful, Local, SlotFormed}
 use Rattle.bz_rule.proofs.Add.{add_lawful, add_keeps, add_read}
 use Rattle.bz_rule.proofs.Comment.{comment_lawful, comment_read}
 use Rattle.bz_rule.proofs.Delete.{delete_lawful, delete_read}
@@ -31,7 +31,7 @@ use Rattle.std.specs.List.{list_all}
 use Rattle.std.specs.Str.{is_utf8}
 use Rattle.bz_rule.specs.declared.command.CommandFault.{CommandFault}
 
-lawful : (c : Command) (home : Package) → Lawful c home
+pub lawful : (c : Command) (home : Package) → Lawful c home
 lawful (Add attr values) home = add_lawful home attr values
 lawful (Remove attrs values) home = remove_lawful home attrs values
 lawful (Set setting) home = set_lawful home setting
@@ -50,8 +50,8 @@ after_aside c home slot g aside = let law = lawful c home in law.aside g aside s
 pub done_aside : (c : Command) (home : Package) (slot : Option Statement) (g : Segment → Segment) → IsAside c g → done_of c home (option_map (with_args (map g)) slot) ≡ done_of c home slot
 done_aside c home slot g aside = let law = lawful c home in law.told g aside slot
 
-pub appends : (c : Command) (home : Package) (name : List ℕ) → adds_to c ≡ Some name → Appends c home name
-appends c home name h = let law = lawful c home in subst (λ o. IfSome o (Appends c home)) h law.appends
+pub local : (c : Command) (home : Package) (name : List ℕ) → one_attribute c ≡ Some name → Local c home name
+local c home name h = let law = lawful c home in subst (λ o. IfSome o (Local c home)) h law.local
 
 -- where there is a note, or no rule, all stays
 pub noted_stays : (c : Command) (home : Package) (slot : Option Statement) → is_some (done_of c home slot).note ≡ true → after c home slot ≡ slot

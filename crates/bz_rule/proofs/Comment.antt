@@ -16,6 +16,7 @@ use Rattle.bz_command.specs.declared.arguments.Commented.{Commented}
 use Rattle.bz_command.specs.declared.arguments.Commented.TheVariants.{Rule as OfRule, Attribute, Value}
 use Rattle.bz_rule.specs.declared.command.Action.TheVariants.{Comment}
 use Rattle.bz_rule.proofs.Arguments.{attribute_named, first_same, has_first, is_first_named, same_bytes, value_put}
+use Rattle.bz_rule.proofs.Local.{comment_local, comment_value_local, looks_at_one, note_by_first, note_of}
 use Rattle.bz_rule.proofs.Lawful.{Lawful, done_changed, guarded_same, note_unchanged, on_arguments}
 use Rattle.bz_rule.proofs.NamesKept.{KeepsEach, Leaves, edit_one_kept, first_kept, has_kept, put_kept, taken}
 use Rattle.bz_rule.proofs.Aside.{leaves_mentioned}
@@ -261,7 +262,7 @@ comment_lawful home OfRule text = record {
   no_rule = λ slot h. h;
   aside = λ g aside slot. comment_exchanged text (map g) slot;
   told = λ g aside slot. ap (done None) (holds_after (map g) slot);
-  appends = tt;
+  local = tt;
   arguments = λ depth args h good. good;
   statement = λ depth s h w. comment_stays_formed (suc depth) text (one_line OfRule text h) s w;
   texts = λ q w s h k. comment_passes q w text s h k;
@@ -273,7 +274,7 @@ comment_lawful home (Attribute attr) text = on_arguments (Comment (Attribute att
   noted = λ args h. note_unchanged (is_absent attr args) true h;
   aside = λ g aside args. comment_attribute_aside g aside.names attr text (leaves_mentioned aside attr (same_bytes attr)) args;
   told = λ g aside args. rw (has_kept g aside.names attr args) refl;
-  appends = tt;
+  local = record { args = comment_local attr text; told = looks_at_one attr _ (λ o. done (if is_some o then None else Some (NoAttribute attr)) true) (λ args. ap (λ (b : Bool). done (if b then None else Some (NoAttribute attr)) true) (has_first attr args)); slot = λ s. refl; done = λ s. refl };
   formed = λ depth args h good. comment_attribute_formed (suc depth) attr text args (one_line (Attribute attr) text h) good;
   passes = λ q w h args k. comment_attribute_passes q w attr text args (and_parts (q attr) (q text) h).1 k;
   comments = λ k. absurd cc;
@@ -284,7 +285,7 @@ comment_lawful home (Value attr v) text = on_arguments (Comment (Value attr v) t
   noted = λ args h. note_unchanged (comment_note home attr v args) true h;
   aside = λ g aside args. comment_value_aside g aside.names home attr v text (leaves_mentioned aside attr (same_bytes attr)) args;
   told = λ g aside args. rw (note_comment g aside.names home attr v (leaves_mentioned aside attr (same_bytes attr)) args) refl;
-  appends = tt;
+  local = record { args = comment_value_local home attr v text; told = looks_at_one attr _ (λ o. done (note_of home attr v o) true) (λ args. ap (λ (n : Option Note). done n true) (note_by_first home attr v args)); slot = λ s. refl; done = λ s. refl };
   formed = λ depth args h good. comment_value_formed depth home attr v text args (one_line (Value attr v) text h) good;
   passes = λ q w h args k. comment_value_passes q w home attr v text args (and_parts (q attr && q v) (q text) h).1 k;
   comments = λ k. absurd cc;

@@ -1,5 +1,5 @@
 -- What is owed of a command; of one on the arguments of a rule it follows from what it does to them.
-use Rattle.std.proofs.Common.{◌≡◌, ℕ, List, [], ◌∷◌, ◌++◌, Bool, true, false, Option, Some, None, map, option_map, is_some, if◌then◌else◌, refl, ap, sym, ◌∙◌, suc, subst, ◌||◌, Result, Ok, Err}
+use Rattle.std.proofs.Common.{◌≡◌, ℕ, List, [], ◌∷◌, Bool, true, false, Option, Some, None, map, option_map, is_some, if◌then◌else◌, refl, ap, sym, ◌∙◌, suc, subst, ◌||◌, Result, Ok, Err}
 use Rattle.std.specs.Prelude.{IfSome}
 use Rattle.std.proofs.lemmas.List.{append_cancel_left}
 use Rattle.bz_tree.specs.declared.stmt.GroupKind.TheVariants.{RuleCall}
@@ -9,9 +9,10 @@ use Rattle.bz_rule.specs.Commands.{Command, is_command, command_passes, after, a
 use Rattle.bz_attribute.specs.Rules.{Rule, rule_of}
 use Rattle.bz_attribute.specs.declared.done.Done.{Done}
 use Rattle.bz_attribute.specs.declared.done.Note.{Note}
-use Rattle.bz_attribute.specs.Effects.{done, done_in, has, holds_rule, nodes_after, nodes_of, slot_done, with_args}
+use Rattle.bz_attribute.specs.Effects.{done, done_in, holds_rule, nodes_after, nodes_of, slot_done, with_args}
 use Rattle.bz_rule.specs.Aside.{IsAside}
-use Rattle.bz_rule.specs.private.LongerRows.{adds_to}
+use Rattle.bz_attribute.specs.RowPlaces.{IsLocal, LooksAt}
+use Rattle.bz_rule.specs.private.RowEdits.{one_attribute}
 use Rattle.bz_attribute.proofs.Views.{segments_of}
 use Rattle.bz_attribute.proofs.RuleNodes.{rule_nodes}
 use Rattle.bz_rule.proofs.Rebuilt.{slot_exchanged, told_alike}
@@ -26,10 +27,10 @@ use Rattle.bz_tree.specs.Comments.{comments_of}
 use Rattle.bz_rule.proofs.AllComments.{in_all, slot_comments}
 use Rattle.bz_rule.specs.declared.command.CommandFault.{CommandFault}
 
--- Of a command that adds an argument after all others: where none has this name, it does with more arguments what it does with these alone.
-pub record Appends (c : Command) (home : Package) (name : List ℕ) : Type 0 where
-  pub args : (args more : List Segment) → has name args ≡ false → args_after c home (args ++ more) ≡ args ++ args_after c home more
-  pub told : (args more : List Segment) → has name args ≡ false → args_done c home (args ++ more) ≡ args_done c home more
+-- Of a command that looks at the first argument of a name alone.
+pub record Local (c : Command) (home : Package) (name : List ℕ) : Type 0 where
+  pub args : IsLocal name (args_after c home)
+  pub told : LooksAt name (args_done c home)
   pub slot : (s : Statement) → after c home (Some s) ≡ Some (with_args (args_after c home) s)
   pub done : (s : Statement) → done_of c home (Some s) ≡ slot_done (args_done c home) (Some s)
 
@@ -48,7 +49,7 @@ pub record Lawful (c : Command) (home : Package) : Type 0 where
   pub no_rule : (slot : Option Statement) → holds_rule slot ≡ false → (done_of c home slot).changed ≡ false
   pub aside : (g : Segment → Segment) → IsAside c g → (slot : Option Statement) → after c home (option_map (with_args (map g)) slot) ≡ option_map (with_args (map g)) (after c home slot)
   pub told : (g : Segment → Segment) → IsAside c g → (slot : Option Statement) → done_of c home (option_map (with_args (map g)) slot) ≡ done_of c home slot
-  pub appends : IfSome (adds_to c) (Appends c home)
+  pub local : IfSome (one_attribute c) (Local c home)
   pub arguments : (depth : ℕ) (args : List Segment) → is_command c ≡ true → AreFormed IsArg (suc depth) args → AreFormed IsArg (suc depth) (args_after c home args)
   pub statement : (depth : ℕ) (s : Statement) → is_command c ≡ true → IsWellFormed (suc (suc depth)) s → SlotFormed (suc (suc depth)) (after c home (Some s))
   pub texts : (q : List ℕ → Bool) → PassesWritten q → (s : Statement) → command_passes q c ≡ true → StatementPasses q s → SlotPasses q (after c home (Some s))
@@ -61,7 +62,7 @@ pub record OnArguments (c : Command) (home : Package) : Type 0 where
   pub noted : (args : List Segment) → is_some (args_done c home args).note ≡ true → (args_done c home args).changed ≡ false
   pub aside : (g : Segment → Segment) → IsAside c g → (args : List Segment) → args_after c home (map g args) ≡ map g (args_after c home args)
   pub told : (g : Segment → Segment) → IsAside c g → (args : List Segment) → args_done c home (map g args) ≡ args_done c home args
-  pub appends : IfSome (adds_to c) (Appends c home)
+  pub local : IfSome (one_attribute c) (Local c home)
   pub formed : (depth : ℕ) (args : List Segment) → is_command c ≡ true → AreFormed IsArg (suc depth) args → AreFormed IsArg (suc depth) (args_after c home args)
   pub passes : (q : List ℕ → Bool) → PassesWritten q → command_passes q c ≡ true → KeepsPassing q (args_after c home)
   pub comments : keeps_comments c ≡ true → (args : List Segment) → in_all (args_after c home args) ≡ in_all args
@@ -142,7 +143,7 @@ on_arguments c home is told law = record {
   aside = λ g aside slot.
       is (option_map (with_args (map g)) slot) ∙ slot_exchanged (args_after c home) (map g) (law.aside g aside) slot ∙ ap (option_map (with_args (map g))) (sym (is slot));
   told = λ g aside slot. told (option_map (with_args (map g)) slot) ∙ told_alike (args_done c home) (map g) (law.told g aside) slot ∙ sym (told slot);
-  appends = law.appends;
+  local = law.local;
   arguments = law.formed;
   statement = λ depth s read w. subst (SlotFormed (suc (suc depth))) (sym (is (Some s))) (args_stay_formed (suc depth) (args_after c home) (λ args good. law.formed depth args read good) s w);
   texts = λ q w s h k. subst (SlotPasses q) (sym (is (Some s))) (with_nodes q s (nodes_after (args_after c home) s.nodes (rule_of s.nodes)) (args_nodes_pass q (args_after c home) (law.passes q w h) s.nodes) k);

@@ -19,7 +19,7 @@ mod KindFormed
 mod Lawful
 mod Likeness
 mod ListParts
-mod LongerRows
+mod Local
 mod Move
 mod NamesKept
 mod NewTexts
@@ -36,6 +36,8 @@ mod Remove
 mod Rename
 mod Replace
 mod RowStatements
+mod RowEdited
+mod RuleClass
 mod RuleFormed
 mod Segments
 mod Set

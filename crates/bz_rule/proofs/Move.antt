@@ -231,7 +231,7 @@ move_lawful home old new chosen = on_arguments (Move old new chosen) home (λ sl
   told = λ g aside args.
       let leaves = leaves_both aside old new (λ attr. refl) in
       rw (note_move g aside.names old new leaves.0 leaves.1 args, moves_kept g aside.names home old chosen leaves.0 args) refl;
-  appends = tt;
+  local = tt;
   formed = λ depth args h good. move_formed depth home old new chosen args (moved_to old new chosen h) good;
   passes = λ q w h args k. move_passes q w home old new chosen args (and_parts (q old) (q new) (and_parts (q old && q new) _ h).0).1 k;
   comments = λ k. absurd cc;

@@ -1,5 +1,5 @@
 -- What is owed of `remove`: it changes something exactly where it says so, and leaves what is well formed so, texts that pass a test, and the comments of what stays.
-use Rattle.std.proofs.Common.{◌≡◌, ℕ, List, [], ◌∷◌, Bool, true, false, ◌&&◌, not, if◌then◌else◌, Option, Some, None, map, filter, refl, ap, sym, ◌∙◌, suc, rules, Ok}
+use Rattle.std.proofs.Common.{IfSome, ◌≡◌, ℕ, List, [], ◌∷◌, Bool, true, false, ◌&&◌, not, if◌then◌else◌, Option, Some, None, map, filter, refl, ap, sym, ◌∙◌, suc, rules, Ok}
 use Rattle.std.specs.List.{list_any, list_all}
 use Rattle.std.proofs.lemmas.Bool.{or_parts, and_right}
 use Rattle.std.proofs.lemmas.List.Folds.{list_any-append}
@@ -19,7 +19,9 @@ use Rattle.bz_rule.specs.Aside.{IsAside}
 use Rattle.bz_rule.proofs.Kept.{all_stay, all_stay_in, none_left_in, none_passes, none_passes_in}
 use Rattle.bz_rule.proofs.PartLaws.{parts_edited, parts_stay}
 use Rattle.bz_rule.proofs.Arguments.{attribute_named, first_same, is_first_named, rest_same, same_bytes, value_back, value_put}
-use Rattle.bz_rule.proofs.Lawful.{Lawful, on_arguments}
+use Rattle.bz_rule.specs.private.RowEdits.{one_attribute}
+use Rattle.bz_rule.proofs.Local.{edit_local, looks_at_one}
+use Rattle.bz_rule.proofs.Lawful.{Local, Lawful, on_arguments}
 use Rattle.bz_rule.proofs.NamesKept.{Leaves, edit_kept, filter_kept, first_kept, has_kept, named_kept, put_kept}
 use Rattle.bz_rule.proofs.Aside.{all_aside, leaves_all, leaves_mentioned}
 use Rattle.bz_rule.proofs.GoodArguments.{filtered_good, first_good}
@@ -187,6 +189,17 @@ left_elements home chosen a b h is =
           ap (λ (z : Segment). parts (value z)) (sym same) ∙ ap parts (value_put (edit_parts (unchosen home chosen) (value a)) a h) ∙ parts_edited (unchosen home chosen) (value a)
     ] is
 
+-- with values, of one attribute
+remove_local : (home : Package) (attrs : Attributes) (values : List (List ℕ)) → IfSome (one_attribute (Remove attrs values)) (Local (Remove attrs values) home)
+remove_local home Every values = tt
+remove_local home (Named attr) [] = tt
+remove_local home (Named attr) (v ∷ values) = record {
+  args = edit_local attr (filtered (unchosen home (Values (v ∷ values))));
+  told = looks_at_one attr _ (λ o. done None (chooses_in home (Values (v ∷ values)) o)) (λ args. refl);
+  slot = λ s. refl;
+  done = λ s. refl;
+}
+
 pub remove_lawful : (home : Package) (attrs : Attributes) (values : List (List ℕ)) → Lawful (Remove attrs values) home
 remove_lawful home attrs values = on_arguments (Remove attrs values) home (λ slot. refl) (λ slot. refl) (record {
   stays = λ args h. remove_stays home attrs values args h;
@@ -194,7 +207,7 @@ remove_lawful home attrs values = on_arguments (Remove attrs values) home (λ sl
   noted = λ args h. absurd cc;
   aside = λ g aside args. remove_aside home attrs values g aside args;
   told = λ g aside args. ap (done None) (remove_told home attrs values g aside args);
-  appends = tt;
+  local = remove_local home attrs values;
   formed = λ depth args h good. remove_good depth home attrs values args good;
   passes = λ q w h args k. remove_passes q home attrs values args k;
   comments = λ k. absurd cc;

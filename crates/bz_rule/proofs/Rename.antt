@@ -117,7 +117,7 @@ rename_lawful home old new = on_arguments (Rename old new) home (λ slot. refl) 
   noted = λ args h. note_unchanged (rename_note old new args) true h;
   aside = λ g aside args. let leaves = leaves_both aside old new (λ attr. refl) in rename_aside g aside.names old new leaves.0 leaves.1 args;
   told = λ g aside args. rw (note_rename g aside.names old new args) refl;
-  appends = tt;
+  local = tt;
   formed = λ depth args h good. rename_formed (suc depth) old new args (and_parts (is_identifier old) (is_identifier new) h).1 good;
   passes = λ q w h args k. rename_passes q old new args (and_parts (q old) (q new) h).1 k;
   comments = λ k args. rename_leaves_all old new args;

@@ -1,5 +1,5 @@
 -- What is owed of `replace`: it changes something where an element equals `old` and is not exactly `new`, and afterwards there is none; it leaves what is well formed so, texts that pass a test, and comments.
-use Rattle.std.proofs.Common.{◌≡◌, ℕ, List, [], ◌∷◌, Bool, true, false, not, ◌&&◌, ◌||◌, Option, Some, None, option_map, map, if◌then◌else◌, refl, ap, sym, ◌∙◌, inl, inr, suc, ◌++◌, rules, Ok}
+use Rattle.std.proofs.Common.{IfSome, ◌≡◌, ℕ, List, [], ◌∷◌, Bool, true, false, not, ◌&&◌, ◌||◌, Option, Some, None, option_map, map, if◌then◌else◌, refl, ap, sym, ◌∙◌, inl, inr, suc, ◌++◌, rules, Ok}
 use Rattle.std.specs.List.{list_any, list_all}
 use Rattle.std.proofs.lemmas.Bool.{cases_Bool, or_parts, and_parts}
 use Rattle.std.proofs.lemmas.Slice.Eq.{bytes_eq-Decides}
@@ -15,7 +15,9 @@ use Rattle.bz_attribute.specs.Replace.{is_replaced, replaced, replaced_in, repla
 use Rattle.bz_command.proofs.ReadBack.{quoted_value}
 use Rattle.bz_rule.specs.Aside.{IsAside}
 use Rattle.bz_rule.proofs.Arguments.{attribute_named, first_after, is_first_named, name_put, rest_same, same_bytes, value_back, value_put}
-use Rattle.bz_rule.proofs.Lawful.{Lawful, on_arguments}
+use Rattle.bz_rule.specs.private.RowEdits.{one_attribute}
+use Rattle.bz_rule.proofs.Local.{edit_local, looks_at_one}
+use Rattle.bz_rule.proofs.Lawful.{Local, Lawful, on_arguments}
 use Rattle.bz_rule.proofs.PartLaws.{parts_edited, parts_stay}
 use Rattle.bz_rule.proofs.NamesKept.{edit_one_kept, first_kept, put_kept}
 use Rattle.bz_rule.proofs.Aside.{all_aside, leaves_all, leaves_mentioned}
@@ -237,6 +239,16 @@ replace_leaves_all home (Named attr) old new args = first_keeps attr (replaced_i
 replace_leaves_all home Every old new args = map_keeps (λ a. if is_attribute a then replaced_in home old new a else a) (λ a.
     either_way (λ (z : Segment). in_one z ≡ in_one a) (is_attribute a) (replaced_in_keeps home old new a) refl) args
 
+-- of one attribute
+replace_local : (home : Package) (attrs : Attributes) (old new : List ℕ) → IfSome (one_attribute (Replace attrs old new)) (Local (Replace attrs old new) home)
+replace_local home Every old new = tt
+replace_local home (Named attr) old new = record {
+  args = edit_local attr (λ a. replaced_in home old new a ∷ []);
+  told = looks_at_one attr _ (λ o. done None (replaces_first home old new o)) (λ args. refl);
+  slot = λ s. refl;
+  done = λ s. refl;
+}
+
 pub replace_lawful : (home : Package) (attrs : Attributes) (old new : List ℕ) → Lawful (Replace attrs old new) home
 replace_lawful home attrs old new = on_arguments (Replace attrs old new) home (λ slot. refl) (λ slot. refl) (record {
   stays = λ args h. replace_stays home attrs old new args h;
@@ -244,7 +256,7 @@ replace_lawful home attrs old new = on_arguments (Replace attrs old new) home (�
   noted = λ args h. absurd cc;
   aside = λ g aside args. replace_aside home attrs old new g aside args;
   told = λ g aside args. ap (done None) (replace_told home attrs old new g aside args);
-  appends = tt;
+  local = replace_local home attrs old new;
   formed = λ depth args h good. replace_good depth home attrs old new args good;
   passes = λ q w h args k. replace_passes q w home attrs old new args (and_parts _ (q new) h).1 k;
   comments = λ k args. replace_leaves_all home attrs old new args;

@@ -14,7 +14,7 @@ use Rattle.bz_attribute.specs.declared.head.Head.{Head}
 use Rattle.bz_attribute.specs.declared.done.Done.{Done}
 use Rattle.bz_attribute_commands.specs.Print.{prints}
 use Rattle.bz_rule.specs.RowViews.{row_value, row_statement}
-use Rattle.bz_rule.specs.private.LongerRows.{IsNamedRow}
+use Rattle.bz_rule.specs.private.RowEdits.{IsNamedRow}
 
 pub statement_of_row : (s : Statement) (row : Row) → IsRowOf s row → row_statement (row_value row) ≡ s
 statement_of_row s row is =

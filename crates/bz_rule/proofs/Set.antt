@@ -1,11 +1,10 @@
 -- What is owed of `set`, `set_if_absent` and `set kind`: also that they leave what is well formed so, texts that pass a test, and comments.
-use Rattle.std.proofs.Common.{◌≡◌, ℕ, ◌==◌, List, [], ◌∷◌, ◌++◌, Bool, true, false, not, ◌||◌, Option, None, Some, option_map, is_some, length, map, if◌then◌else◌, refl, ap, sym, ◌∙◌, arith, length-append, append_assoc, append-nil, codes, suc, rules, ◌&&◌, Result, Ok, Err, inl, inr}
+use Rattle.std.proofs.Common.{◌≡◌, ℕ, ◌==◌, List, [], ◌∷◌, ◌++◌, Bool, true, false, not, ◌||◌, Option, None, Some, option_map, is_some, length, map, if◌then◌else◌, refl, ap, sym, ◌∙◌, arith, length-append, append-nil, codes, suc, rules, ◌&&◌, Ok, inl, inr}
 use Rattle.std.specs.Prelude.{bytes_eq}
-use Rattle.std.specs.List.{slice_split, join_with_byte, list_any, AllByRecursion, list_all}
+use Rattle.std.specs.List.{slice_split, join_with_byte, AllByRecursion, list_all}
 use Rattle.std.proofs.lemmas.Bool.{not-true, not-false, and_parts, cases_Bool}
 use Rattle.std.proofs.lemmas.Grind.{flat_map-append}
 use Rattle.std.proofs.lemmas.List.Splits.{join_with_byte-slice_split}
-use Rattle.std.proofs.lemmas.List.Folds.{list_any-append}
 use Rattle.bz_tree.specs.declared.stmt.GroupKind.TheVariants.{RuleCall}
 use Rattle.bz_tree.specs.Tree.{Item, group, Segment, Statement, segs_of, leaf}
 use Rattle.bz_attribute.specs.Rules.{Rule, rule_of, written, kind_text, is_named, first_named, value, dotted, is_operator_item}
@@ -20,6 +19,7 @@ use Rattle.bz_rule.specs.declared.command.Action.TheVariants.{Set, SetIfAbsent}
 use Rattle.bz_command.specs.Labels.{Package}
 use Rattle.bz_attribute.specs.Lists.{with_value, is_attribute}
 use Rattle.bz_rule.proofs.Arguments.{attribute_named, first_same, has_first, is_first_named, rest_same, same_bytes, value_put}
+use Rattle.bz_rule.proofs.Local.{looks_at_one, set_if_absent_local, set_local}
 use Rattle.bz_rule.proofs.Lawful.{Lawful, on_arguments, passed, held, none_of_either}
 use Rattle.bz_rule.proofs.NamesKept.{KeepsEach, Leaves, append_kept, edit_one_kept, first_kept, has_kept, put_kept, taken}
 use Rattle.bz_rule.proofs.Aside.{leaves_mentioned}
@@ -46,7 +46,6 @@ use Rattle.bz_token.specs.declared.token.Kind.TheVariants.{Identifier, Integer, 
 use Rattle.bz_tree.specs.Comments.{beside, comments_of}
 use Rattle.bz_tree.specs.Grammar.{IsArg, ident, no_suffix, number, operand, plain, primary, single}
 use Rattle.std.specs.Str.{is_utf8}
-use Rattle.bz_rule.specs.declared.command.CommandFault.{CommandFault}
 use Rattle.bz_rule.specs.declared.command.CommandFault.TheVariants.{WrongCount, BadAttribute}
 use Rattle.bz_rule.specs.Commands.{Command, IsRead, on_attribute, set_if_absent_of, set_kind_of, set_of, takes_one}
 
@@ -146,34 +145,6 @@ set_aside g names attr values leaves args =
 
 set_if_absent_aside : (g : Segment → Segment) → KeepsEach g → (attr : List ℕ) (values : List (List ℕ)) → Leaves attr g → (args : List Segment) → set_if_absent attr values (map g args) ≡ map g (set_if_absent attr values args)
 set_if_absent_aside g names attr values leaves args = taken (map g) (has_kept g names attr args) refl (append_kept g attr leaves _ args)
-
--- after arguments of other names
-
-first_after : (name : List ℕ) (args more : List Segment) → has name args ≡ false → first_named name (args ++ more) ≡ first_named name more
-first_after name [] more h = refl
-first_after name (x ∷ args) more h =
-    elim (is_named name x) as (λ b. b || list_any (is_named name) args ≡ false → (if b then Some x else first_named name (args ++ more)) ≡ first_named name more)
-    [ true ↦ λ e. absurd cc | false ↦ λ e. first_after name args more e ] h
-
-has_after : (name : List ℕ) (args more : List Segment) → has name args ≡ false → has name (args ++ more) ≡ has name more
-has_after name args more h = list_any-append (is_named name) args more ∙ ap (λ (b : Bool). b || has name more) h
-
-edit_after : (name : List ℕ) (f : Segment → List Segment) (args more : List Segment) → has name args ≡ false
-    → edit_first (is_named name) f (args ++ more) ≡ args ++ edit_first (is_named name) f more
-edit_after name f [] more h = refl
-edit_after name f (x ∷ args) more h =
-    elim (is_named name x) as (λ b. b || list_any (is_named name) args ≡ false → (if b then f x ++ (args ++ more) else x ∷ edit_first (is_named name) f (args ++ more)) ≡ x ∷ (args ++ edit_first (is_named name) f more))
-    [ true ↦ λ e. absurd cc | false ↦ λ e. ap (λ (ss : List Segment). x ∷ ss) (edit_after name f args more e) ] h
-
-set_after : (attr : List ℕ) (words : List (List ℕ)) (args more : List Segment) → has attr args ≡ false → set attr words (args ++ more) ≡ args ++ set attr words more
-set_after attr words args more h =
-    let new : New = new_of attr words (first_named attr more) in
-    rw (first_after attr args more h)
-    (taken (λ ss. args ++ ss) (has_after attr args more h) (edit_after attr (λ a. set_in new a ∷ []) args more h) (append_assoc args more (argument attr (new_value new) ∷ [])))
-
-set_if_absent_after : (attr : List ℕ) (words : List (List ℕ)) (args more : List Segment) → has attr args ≡ false
-    → set_if_absent attr words (args ++ more) ≡ args ++ set_if_absent attr words more
-set_if_absent_after attr words args more h = taken (λ ss. args ++ ss) (has_after attr args more h) refl (append_assoc args more _)
 
 -- `set kind`
 
@@ -415,7 +386,7 @@ set_lawful home (ToKind kind) = record {
   no_rule = λ slot h. kind_no_rule kind slot h;
   aside = λ g aside slot. slot_kind_exchanged kind (map g) slot;
   told = λ g aside slot. kind_told kind (map g) slot;
-  appends = tt;
+  local = tt;
   arguments = λ depth args h good. good;
   statement = λ depth s h w. kind_stays_formed (suc depth) kind h s w;
   texts = λ q w s h k. with_nodes q s (kind_after kind s.nodes (rule_of s.nodes)) (kind_nodes_pass q w kind s.nodes h) k;
@@ -427,12 +398,7 @@ set_lawful home (ToValues attr words) = on_arguments (Set (ToValues attr words))
   noted = λ args h. absurd cc;
   aside = λ g aside args. set_aside g aside.names attr words (leaves_mentioned aside attr (same_bytes attr)) args;
   told = λ g aside args. rw (first_kept g aside.names attr (leaves_mentioned aside attr (same_bytes attr)) args) refl;
-  appends = record {
-    args = λ args more h. set_after attr words args more h;
-    told = λ args more h. ap (λ (o : Option Segment). done None (sets attr words o)) (first_after attr args more h);
-    slot = λ s. refl;
-    done = λ s. refl;
-  };
+  local = record { args = set_local attr words; told = looks_at_one attr _ (λ o. done None (sets attr words o)) (λ args. refl); slot = λ s. refl; done = λ s. refl };
   formed = λ depth args h good. set_formed depth attr words args (and_parts (is_identifier attr) (not (length words == 0)) h).0 good;
   passes = λ q w h args k. let p = and_parts (q attr) (list_all q words) h in set_passes q w attr words args p.0 (words_in q words p.1) k;
   comments = λ k. absurd cc;
@@ -446,12 +412,7 @@ set_if_absent_lawful home attr words = on_arguments (SetIfAbsent attr words) hom
   noted = λ args h. absurd cc;
   aside = λ g aside args. set_if_absent_aside g aside.names attr words (leaves_mentioned aside attr (same_bytes attr)) args;
   told = λ g aside args. rw (has_kept g aside.names attr args) refl;
-  appends = record {
-    args = λ args more h. set_if_absent_after attr words args more h;
-    told = λ args more h. ap (λ (b : Bool). done None (not b)) (has_after attr args more h);
-    slot = λ s. refl;
-    done = λ s. refl;
-  };
+  local = record { args = set_if_absent_local attr words; told = looks_at_one attr _ (λ o. done None (not (is_some o))) (λ args. ap (λ (b : Bool). done None (not b)) (has_first attr args)); slot = λ s. refl; done = λ s. refl };
   formed = λ depth args h good. set_if_absent_formed depth attr words args (and_parts (is_identifier attr) (not (length words == 0)) h).0 good;
   passes = λ q w h args k. let p = and_parts (q attr) (list_all q words) h in set_if_absent_passes q w attr words args p.0 (words_in q words p.1) k;
   comments = λ k args. set_if_absent_leaves_all attr words args;

@@ -5,7 +5,7 @@ use Rattle.bz_rule.specs.declared.lazy.LazyStmt.{LazyStmt}
 use Rattle.bz_rule.specs.declared.lazy.LazyStmt.TheVariants.{Row, Read}
 
 abbrev pub lazy_view : LazyStmt → Statement
-lazy_view (Row longer) = longer
+lazy_view (Row rule) = rule
 lazy_view (Read read) = read
 
 abbrev pub lazy_slot : Option LazyStmt → Option Statement

@@ -1,12 +1,11 @@
 -- The statement that a row is of.
-use Rattle.std.specs.Prelude.{◌≡◌, refl, ℕ, List, ◌++◌, map}
+use Rattle.std.specs.Prelude.{◌≡◌, refl, ℕ, List, map}
 use Rattle.bz_tree.specs.declared.stmt.Class.{Class}
-use Rattle.bz_tree.specs.Tree.{Segment, Statement}
+use Rattle.bz_tree.specs.Tree.{Statement}
 use Rattle.bz_tree.specs.Rows.{RowPart, part_view, parts_of}
 use Rattle.bz_tree.specs.declared.row.Row.{Row}
 use Rattle.bz_tree.specs.private.PartSteps.{content_of, last_beside}
 use Rattle.bz_tree.proofs.FromParts.{statement_of_parts}
-use Rattle.bz_attribute.specs.Effects.{with_args}
 
 -- the parts of a statement, its class and its lines
 pub record RowValue : Type 0 where
@@ -34,7 +33,3 @@ row_of s = record { parts = parts_of s; class = s.class; start = s.start; end = 
 -- so a statement is stored as its row
 pub statement_back : (s : Statement) → row_statement (row_of s) ≡ s
 statement_back s = statement_of_parts s (parts_of s) (content_of (parts_of s)) (last_beside (parts_of s)) s.class s.start s.end refl refl refl
-
--- a rule with more arguments after its own
-abbrev pub with_more : List Segment → Statement → Statement
-with_more more s = with_args (λ args. args ++ more) s

@@ -1,4 +1,4 @@
 pub mod CommandSteps
 pub mod Hollow
-pub mod LongerRows
+pub mod RowEdits
 pub mod Woven

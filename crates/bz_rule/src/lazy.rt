@@ -12,9 +12,10 @@ ghost use Rattle.bz_rule.specs.Commands as commands;
 ghost use Rattle.bz_rule.specs.LazyViews.{lazy_view, lazy_slot};
 
 use crate::command::Command;
-use crate::longer::LongerRow;
+use crate::rule_row::RuleRow;
 use crate::shallow::ShallowStmt;
-use bz_attribute::{Done, Executed, RuleName, matches, rule_name, shown};
+use bumpalo::Bump;
+use bz_attribute::{Done, Env, Executed, RuleName, matches, rule_name, shown};
 use bz_command::{Package, Target};
 use bz_tree::{Class, Row};
 use std::alloc::{AllocError, Global};
@@ -22,19 +23,19 @@ use std::alloc::{AllocError, Global};
 /// A statement.
 #[derive(Drop)]
 pub enum LazyStmt<'a> {
-    /// A rule of which no command has looked at more than the head, and which words its arguments have.
-    Row(LongerRow<'a>),
+    /// A rule of which no command has looked at more than the head and single attributes.
+    Row(RuleRow<'a>),
     Read(ShallowStmt<'a>),
 }
 
 impl<'a> LazyStmt<'a> {
-    /// The statement of a row.
-    pub fn of_row(alloc: Global, row: &'a Row<'a>) -> Result<LazyStmt<'a>, AllocError>
+    /// The statement of a row. What commands make of it stands in the arena.
+    pub fn of_row(alloc: Global, bump: &'a Bump, row: &Row<'a>) -> Result<LazyStmt<'a>, AllocError>
         requires { (s : Statement) × ((s.class ≡ class_of s.nodes) × IsRowOf s row.now) }
         ensures { IfOk result (λ read. (s : Statement) → s.class ≡ class_of s.nodes → IsRowOf s row.now → lazy_view read ≡ s) }
     {
-        if let Some(longer) = LongerRow::of_row(alloc, row) {
-            return Ok(LazyStmt::Row(longer));
+        if let Some(rule) = RuleRow::of_row(bump, row) {
+            return Ok(LazyStmt::Row(rule));
         }
         let read = ShallowStmt::of_row(alloc, row)?;
         Ok(LazyStmt::Read(read))
@@ -44,7 +45,7 @@ impl<'a> LazyStmt<'a> {
         ensures { result ≡ (lazy_view self.now).class }
     {
         match self {
-            LazyStmt::Row(longer) => longer.row.class,
+            LazyStmt::Row(rule) => rule.row.class,
             LazyStmt::Read(read) => read.stmt.class,
         }
     }
@@ -54,7 +55,7 @@ impl<'a> LazyStmt<'a> {
         ensures { result ≡ marks.marks target.now (lazy_view self.now) }
     {
         match self {
-            LazyStmt::Row(longer) => longer.head.is_marked_by(target),
+            LazyStmt::Row(rule) => rule.head.is_marked_by(target),
             LazyStmt::Read(read) => matches(target, &read.stmt),
         }
     }
@@ -64,7 +65,7 @@ impl<'a> LazyStmt<'a> {
         ensures { marks.IsNamed (λ name. marks.marks (Name name) (lazy_view self.now)) result }
     {
         match self {
-            LazyStmt::Row(longer) => RuleName::Plain(longer.head.name),
+            LazyStmt::Row(rule) => RuleName::Plain(rule.head.name),
             LazyStmt::Read(read) => rule_name(&read.stmt),
         }
     }
@@ -74,7 +75,7 @@ impl<'a> LazyStmt<'a> {
         ensures { IfOk result (λ text. string_bytes text ≡ shown_text home.now (lazy_view self.now)) }
     {
         match self {
-            LazyStmt::Row(longer) => longer.head.shown(alloc, home),
+            LazyStmt::Row(rule) => rule.head.shown(alloc, home),
             LazyStmt::Read(read) => shown(alloc, home, &read.stmt),
         }
     }
@@ -86,7 +87,7 @@ impl<'a> LazyStmt<'a> {
         ensures unchanged { OnErr result (out.new.items ≡ out.old.items) }
     {
         match self {
-            LazyStmt::Row(longer) => longer.put(alloc, out),
+            LazyStmt::Row(rule) => rule.put(alloc, out),
             LazyStmt::Read(read) => read.put(alloc, out),
         }
     }
@@ -96,7 +97,7 @@ impl<'a> LazyStmt<'a> {
         ensures { IfOk result (λ read. read ≡ lazy_view self.entry) }
     {
         match self {
-            LazyStmt::Row(longer) => longer.read(alloc),
+            LazyStmt::Row(rule) => rule.read(alloc),
             LazyStmt::Read(read) => Ok(read),
         }
     }
@@ -113,8 +114,8 @@ pub fn apply_lazy(
     ensures slot { OnOk result (lazy_slot slot.new ≡ commands.after command.now home.now (lazy_slot slot.old)) }
     ensures done { IfOk result (λ done. done ≡ commands.done_of command.now home.now (lazy_slot slot.old)) }
 {
-    if let Some(LazyStmt::Row(longer)) = slot {
-        if let Some(done) = longer.apply(alloc, command, home)? {
+    if let Some(LazyStmt::Row(rule)) = slot {
+        if let Some(done) = rule.apply(Env { alloc, home }, command)? {
             return Ok(done);
         }
     }

@@ -58,7 +58,7 @@ impl<'a> ShallowStmt<'a> {
     }
 
     /// The statement of a row.
-    pub fn of_row(alloc: Global, row: &'a Row<'a>) -> Result<ShallowStmt<'a>, AllocError>
+    pub fn of_row(alloc: Global, row: &Row<'a>) -> Result<ShallowStmt<'a>, AllocError>
         requires { (s : Statement) × ((s.class ≡ class_of s.nodes) × IsRowOf s row.now) }
         ensures { IfOk result (λ read. (s : Statement) → s.class ≡ class_of s.nodes → IsRowOf s row.now → read ≡ s) }
     {

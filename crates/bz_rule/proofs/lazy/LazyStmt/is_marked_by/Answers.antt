@@ -1,18 +1,15 @@
 use Rattle.std.proofs.Common.{◌∙◌, ap, map, sym}
-use Rattle.bz_tree.specs.View.{segs_view, view}
+use Rattle.bz_tree.specs.View.{view}
 use Rattle.bz_attribute.specs.Marks.{marks}
 use Rattle.bz_rule.specs.LazyViews.{lazy_view}
 use Rattle.bz_rule.specs.Shallow.{filled}
 use Rattle.bz_rule.specs.private.Hollow.{all_apart, parts_view}
 use Rattle.bz_rule.proofs.AsideTargets.{marks_kept}
-use Rattle.bz_rule.proofs.LongerRows.{marks_longer}
 use Rattle.bz_rule.proofs.PutBack.{keeps_names}
 use Rattle.bz_rule.proofs.lazy.LazyStmt.is_marked_by.Goals as goal
 
 pub returns-in-Row : goal.returns-in-Row
-returns-in-Row c =
-    marks_longer c.args.target.now c.longer.inside.row.now c.longer.inside.head (segs_view c.longer.inside.more.items) (lazy_view c.args.self.now) c.is_marked_by.result c.longer.invariant
-    (c.longer.view_is ∙ ap lazy_view (sym c.in-Row.is)) c.is_marked_by.ensures
+returns-in-Row c = c.is_marked_by.ensures _ c.rule.invariant.named ∙ ap (marks c.args.target.now) (c.rule.view_is ∙ ap lazy_view (sym c.in-Row.is))
 
 pub returns-in-Read : goal.returns-in-Read
 returns-in-Read c =

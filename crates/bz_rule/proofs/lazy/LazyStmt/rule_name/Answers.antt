@@ -1,19 +1,17 @@
 use Rattle.std.proofs.Common.{◌∙◌, ap, map, sym}
-use Rattle.bz_tree.specs.View.{segs_view, view}
+use Rattle.bz_tree.specs.View.{view}
 use Rattle.bz_command.specs.Labels.{Name}
 use Rattle.bz_attribute.specs.Marks.{marks}
 use Rattle.bz_rule.specs.LazyViews.{lazy_view}
 use Rattle.bz_rule.specs.Shallow.{filled}
 use Rattle.bz_rule.specs.private.Hollow.{all_apart, parts_view}
 use Rattle.bz_rule.proofs.AsideTargets.{marks_kept}
-use Rattle.bz_rule.proofs.LongerRows.{name_longer}
+use Rattle.bz_rule.proofs.RowEdited.{named_by_head}
 use Rattle.bz_rule.proofs.PutBack.{keeps_names, named_alike}
 use Rattle.bz_rule.proofs.lazy.LazyStmt.rule_name.Goals as goal
 
 pub returns-in-Row : goal.returns-in-Row
-returns-in-Row c = λ name.
-    name_longer name c.longer.inside.row.now c.longer.inside.head (segs_view c.longer.inside.more.items) (lazy_view c.args.self.now) c.longer.invariant
-    (c.longer.view_is ∙ ap lazy_view (sym c.in-Row.is))
+returns-in-Row c = λ name. ap (marks (Name name)) (sym (c.rule.view_is ∙ ap lazy_view (sym c.in-Row.is))) ∙ named_by_head name c.rule.inside.head _ c.rule.invariant.named
 
 pub returns-in-Read : goal.returns-in-Read
 returns-in-Read c =

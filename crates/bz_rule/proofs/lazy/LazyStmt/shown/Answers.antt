@@ -1,21 +1,16 @@
-use Rattle.std.proofs.Common.{◌∙◌, ap, map, string_bytes, sym}
+use Rattle.std.proofs.Common.{◌∙◌, ap, map, sym}
 use Rattle.std.proofs.lemmas.Result.{IfOk-weaker}
-use Rattle.bz_tree.specs.View.{segs_view, view}
+use Rattle.bz_tree.specs.View.{view}
 use Rattle.bz_attribute.specs.Texts.{shown_text}
 use Rattle.bz_rule.specs.LazyViews.{lazy_view}
 use Rattle.bz_rule.specs.Shallow.{filled}
 use Rattle.bz_rule.specs.private.Hollow.{all_apart, parts_view}
 use Rattle.bz_rule.proofs.AsideTargets.{shown_kept}
-use Rattle.bz_rule.proofs.LongerRows.{shown_longer}
 use Rattle.bz_rule.proofs.PutBack.{keeps_names}
 use Rattle.bz_rule.proofs.lazy.LazyStmt.shown.Goals as goal
 
 pub returns-in-Row : goal.returns-in-Row
-returns-in-Row c =
-    IfOk-weaker c.shown.result _ _
-    (λ text h. shown_longer c.args.home.now c.longer.inside.row.now c.longer.inside.head (segs_view c.longer.inside.more.items) (lazy_view c.args.self.now) (string_bytes text) c.longer.invariant
-    (c.longer.view_is ∙ ap lazy_view (sym c.in-Row.is)) h)
-    c.shown.ensures
+returns-in-Row c = IfOk-weaker c.shown.result _ _ (λ text h. h _ c.rule.invariant.named ∙ ap (shown_text c.args.home.now) (c.rule.view_is ∙ ap lazy_view (sym c.in-Row.is))) c.shown.ensures
 
 pub returns-in-Read : goal.returns-in-Read
 returns-in-Read c =

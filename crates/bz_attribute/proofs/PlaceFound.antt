@@ -1,0 +1,147 @@
+-- The place of an argument among the parts of its rule.
+use Rattle.std.proofs.Common.{◌≡◌, ℕ, ◌+◌, ◌-◌, List, [], ◌∷◌, ◌++◌, true, false, Option, Some, None, length, map, take, drop, option_map, ap, sym, ◌∙◌, subst, arith, append_assoc, append-nil, length-append}
+use Rattle.std.specs.Prelude.{option_to_list}
+use Rattle.std.proofs.Math.Seq.{drop-append_seam, take-append_seam}
+use Rattle.bz_tree.specs.Tree.{Segment, Statement, items_of, segs_of}
+use Rattle.bz_tree.specs.Rows.{RowPart, segment_end, above, beside_part, items_parts, segs_parts, parts_of}
+use Rattle.bz_attribute.specs.Rules.{Rule, rule_of, is_named, first_named}
+use Rattle.bz_attribute.specs.Effects.{edit_first, has, with_args, nodes_after, nodes_of}
+use Rattle.bz_attribute.specs.Finder.{find_from}
+use Rattle.bz_attribute.specs.RowPlaces.{alone, IsLocal, IsPlaceOf, IsRuleRow}
+use Rattle.bz_attribute.specs.private.Ends.{arguments_end, plain_len, segment_len}
+use Rattle.bz_attribute.proofs.RuleNodes.{rule_nodes}
+use Rattle.bz_attribute.proofs.EditedAt.{edited_at, first_at, none_first, segs_join}
+use Rattle.bz_attribute.proofs.EndsBack.{args_end, comments_at, end_alone, segment_long}
+use Rattle.bz_attribute.proofs.FoundArgs.{Answer, found, absent, answer, IsArgAt}
+use Rattle.bz_attribute.proofs.RuleParts.{after_args, before_args, head_passed, is_after, parts_cut}
+
+-- all parts: those before some arguments, these and those after them
+abbrev pre : Statement → Rule → List Segment → List RowPart
+pre s r front = before_args s r ++ segs_parts (segs_of front)
+
+abbrev post : Statement → Rule → List Segment → List RowPart
+post s r back = segs_parts (segs_of back) ++ after_args s r
+
+in_three : (s : Statement) (r : Rule) (front mid back : List Segment) → nodes_of r ≡ s.nodes → r.args ≡ front ++ (mid ++ back) → parts_of s ≡ pre s r front ++ (segs_parts (segs_of mid) ++ post s r back)
+in_three s r front mid back nodes are =
+    let moved : before_args s r ++ ((segs_parts (segs_of front) ++ (segs_parts (segs_of mid) ++ segs_parts (segs_of back))) ++ after_args s r) ≡ pre s r front ++ (segs_parts (segs_of mid) ++ post s r back) = simp append_assoc in
+    parts_cut s r nodes
+    ∙ ap (λ (ps : List RowPart). before_args s r ++ (ps ++ after_args s r))
+    (ap (λ (zs : List Segment). segs_parts (segs_of zs)) are ∙ segs_join front (mid ++ back) ∙ ap (λ (ps : List RowPart). segs_parts (segs_of front) ++ ps) (segs_join mid back))
+    ∙ moved
+
+-- what stands in place of some arguments of a rule is what the rule then has there
+record IsMiddle (name : List ℕ) (s : Statement) (r : Rule) (front mid back : List Segment) : Type 0 where
+  is : alone name r ≡ mid
+  are : r.args ≡ front ++ (mid ++ back)
+  edited : (f : List Segment → List Segment) → IsLocal name f → f r.args ≡ front ++ (f mid ++ back)
+
+middle : (name : List ℕ) (s : Statement) (r : Rule) (front mid back : List Segment) (from to : ℕ) → rule_of s.nodes ≡ Some r → IsMiddle name s r front mid back
+    → from ≡ length (pre s r front) → to ≡ length (pre s r front ++ segs_parts (segs_of mid)) → IsPlaceOf name s r (parts_of s) from to
+middle name s r front mid back from to is m from_is to_is =
+    let first : List RowPart = pre s r front in
+    let own : List RowPart = segs_parts (segs_of mid) in
+    let last : List RowPart = post s r back in
+    let all : parts_of s ≡ first ++ (own ++ last) = in_three s r front mid back (rule_nodes [] s.nodes r is) m.are in
+    let joined : first ++ (own ++ last) ≡ (first ++ own) ++ last = sym (append_assoc first own last) in
+    let size : to - from ≡ length own = omega (arith, from_is, to_is, length-append first own) in
+    let dropped : drop from (parts_of s) ≡ own ++ last = (λ i. drop (from_is i) (all i)) ∙ drop-append_seam first (own ++ last) in
+    record {
+      read = (λ i. take (size i) (dropped i)) ∙ take-append_seam own last ∙ sym (ap (λ (zs : List Segment). segs_parts (segs_of zs)) m.is);
+      put = λ f local.
+          let r2 : Rule = record r { args = f r.args } in
+          let nodes : nodes_of r2 ≡ (with_args f s).nodes = sym (ap (nodes_after f s.nodes) is) in
+          let taken : take from (parts_of s) ≡ first = (λ i. take (from_is i) (all i)) ∙ take-append_seam first (own ++ last) in
+          let left : drop to (parts_of s) ≡ last = (λ i. drop (to_is i) ((all ∙ joined) i)) ∙ drop-append_seam (first ++ own) last in
+          (λ i. taken i ++ (segs_parts (segs_of (f (m.is i))) ++ left i)) ∙ sym (in_three (with_args f s) r2 front (f mid) back nodes (m.edited f local));
+    }
+
+there : (name : List ℕ) (s : Statement) (r : Rule) (n : ℕ) → (at : IsArgAt name r.args n) → IsMiddle name s r at.front (at.arg ∷ []) at.back
+there name s r n at =
+    let first : first_named name r.args ≡ Some at.arg = ap (first_named name) at.are ∙ first_at name at.front at.arg at.back at.none at.is in
+    record {
+      is = ap option_to_list first;
+      are = at.are;
+      edited = λ f local.
+          let edit : List Segment → List Segment = edit_first (is_named name) (λ a. f (at.arg ∷ [])) in
+          local.there r.args at.arg first ∙ ap edit at.are ∙ edited_at (is_named name) (λ a. f (at.arg ∷ [])) at.front at.arg at.back at.none at.is;
+    }
+
+missing : (name : List ℕ) (s : Statement) (r : Rule) → has name r.args ≡ false → IsMiddle name s r r.args [] []
+missing name s r none = record {
+  is = ap option_to_list (none_first name r.args none);
+  are = sym (append-nil r.args);
+  edited = λ f local. local.absent r.args none ∙ ap (λ (zs : List Segment). r.args ++ zs) (sym (append-nil (f [])));
+}
+
+nodes_split : (s : Statement) (r : Rule) (front back : List Segment) (a : Segment)
+    → pre s r front ++ (segs_parts (segs_of (a ∷ [])) ++ post s r back) ≡ (pre s r front ++ map above a.before) ++ (items_parts (items_of a.nodes) ++ (segment_end ∷ (beside_part a.suffix ++ post s r back)))
+nodes_split s r front back a = simp append_assoc
+
+argument_long : (a : Segment) → length (segs_parts (segs_of (a ∷ []))) ≡ length (map above a.before) + (length (items_parts (items_of a.nodes)) + (1 + length (beside_part a.suffix)))
+argument_long a =
+    let nodes : List RowPart = items_parts (items_of a.nodes) in
+    omega (arith, length-append (map above a.before) (nodes ++ (segment_end ∷ (beside_part a.suffix ++ []))), length-append nodes (segment_end ∷ (beside_part a.suffix ++ [])), length-append (beside_part a.suffix) [])
+
+-- by what the finder told
+found_place : (name : List ℕ) (s : Statement) (r : Rule) (n at from to : ℕ) → rule_of s.nodes ≡ Some r → IsArgAt name r.args n → at ≡ length (before_args s r) + n
+    → from ≡ plain_len (take at (parts_of s)) → to ≡ at + segment_len (drop at (parts_of s)) → IsPlaceOf name s r (parts_of s) from to
+found_place name s r n at from to is arg at_is from_is to_is =
+    let a : Segment = arg.arg in
+    let first : List RowPart = pre s r arg.front in
+    let front : List RowPart = first ++ map above a.before in
+    let own : List RowPart = segs_parts (segs_of (a ∷ [])) in
+    let rest : List RowPart = items_parts (items_of a.nodes) ++ (segment_end ∷ (beside_part a.suffix ++ post s r arg.back)) in
+    let all : parts_of s ≡ front ++ rest = in_three s r arg.front (a ∷ []) arg.back (rule_nodes [] s.nodes r is) arg.are ∙ nodes_split s r arg.front arg.back a in
+    let begins : at ≡ length front = omega (arith, at_is, arg.at, length-append first (map above a.before), length-append (before_args s r) (segs_parts (segs_of arg.front))) in
+    let starts : from ≡ length first = from_is ∙ ap plain_len ((λ i. take (begins i) (all i)) ∙ take-append_seam front rest) ∙ comments_at s r arg.front a.before in
+    let long : segment_len (drop at (parts_of s)) ≡ length (items_parts (items_of a.nodes)) + (1 + length (beside_part a.suffix)) =
+    ap segment_len ((λ i. drop (begins i) (all i)) ∙ drop-append_seam front rest) ∙ segment_long a (post s r arg.back) (end_alone s r arg.back) in
+    middle name s r arg.front (a ∷ []) arg.back from to is (there name s r n arg) starts
+    (omega (arith, to_is, long, begins, argument_long a, length-append first (map above a.before), length-append first own))
+
+abbrev args_found : List ℕ → Statement → Rule → Option ℕ
+args_found name s r = find_from name 1 true (segs_parts (segs_of r.args) ++ after_args s r)
+
+told : (name : List ℕ) (s : Statement) (r : Rule) (ps : List RowPart) → IsRuleRow s r ps → find_from name 0 false ps ≡ option_map (λ (k : ℕ). length (before_args s r) + k) (args_found name s r)
+told name s r ps h = ap (find_from name 0 false) h.are ∙ head_passed name s r h.rule
+
+-- where the argument begins
+record IsFound (name : List ℕ) (s : Statement) (r : Rule) (at : ℕ) : Type 0 where
+  n : ℕ
+  is : at ≡ length (before_args s r) + n
+  arg : IsArgAt name r.args n
+
+placed : (name : List ℕ) (s : Statement) (r : Rule) (at : ℕ) (o : Option ℕ) → Answer name r.args o → option_map (λ (k : ℕ). length (before_args s r) + k) o ≡ Some at → IsFound name s r at
+placed name s r at o (found n on arg) h =
+    let same : length (before_args s r) + n ≡ at = let both : Some (length (before_args s r) + n) ≡ Some at = sym (ap (option_map (λ (k : ℕ). length (before_args s r) + k)) on) ∙ h in cc in
+    record { n = n; is = sym same; arg = arg }
+placed name s r at o (absent on none) h = let clash : None ≡ Some at = sym (ap (option_map (λ (k : ℕ). length (before_args s r) + k)) on) ∙ h in absurd cc
+
+nowhere : (name : List ℕ) (s : Statement) (r : Rule) (o : Option ℕ) → Answer name r.args o → option_map (λ (k : ℕ). length (before_args s r) + k) o ≡ None → has name r.args ≡ false
+nowhere name s r o (found n on arg) h = let clash : Some (length (before_args s r) + n) ≡ None = sym (ap (option_map (λ (k : ℕ). length (before_args s r) + k)) on) ∙ h in absurd cc
+nowhere name s r o (absent on none) h = none
+
+answered : (name : List ℕ) (s : Statement) (r : Rule) → Answer name r.args (args_found name s r)
+answered name s r = answer name r.args (after_args s r) (is_after s r)
+
+over : (name : List ℕ) (s : Statement) (r : Rule) (ps : List RowPart) (from to : ℕ) → IsRuleRow s r ps → IsPlaceOf name s r (parts_of s) from to → IsPlaceOf name s r ps from to
+over name s r ps from to h p = subst (λ (qs : List RowPart). IsPlaceOf name s r qs from to) (sym h.are) p
+
+pub place_there : (name : List ℕ) (s : Statement) (r : Rule) (ps : List RowPart) (at from to : ℕ) → IsRuleRow s r ps → find_from name 0 false ps ≡ Some at
+    → from ≡ plain_len (take at ps) → to ≡ at + segment_len (drop at ps) → IsPlaceOf name s r ps from to
+place_there name s r ps at from to h is from_is to_is =
+    let f = placed name s r at (args_found name s r) (answered name s r) (sym (told name s r ps h) ∙ is) in
+    over name s r ps from to h
+    (found_place name s r f.n at from to h.rule f.arg f.is (from_is ∙ ap (λ (qs : List RowPart). plain_len (take at qs)) h.are) (to_is ∙ ap (λ (qs : List RowPart). at + segment_len (drop at qs)) h.are))
+
+pub place_absent : (name : List ℕ) (s : Statement) (r : Rule) (ps : List RowPart) (end : ℕ) → IsRuleRow s r ps → find_from name 0 false ps ≡ None → end ≡ arguments_end ps → IsPlaceOf name s r ps end end
+place_absent name s r ps end h is end_is =
+    let none = nowhere name s r (args_found name s r) (answered name s r) (sym (told name s r ps h) ∙ is) in
+    let long : end ≡ length (pre s r r.args) = end_is ∙ ap arguments_end (h.are ∙ parts_cut s r (rule_nodes [] s.nodes r h.rule)) ∙ args_end s r r.args in
+    over name s r ps end end h
+    (middle name s r r.args [] [] end end h.rule (missing name s r none) long (long ∙ ap length (sym (append-nil (pre s r r.args)))))
+
+-- whether there is such an argument
+pub has_none : (name : List ℕ) (s : Statement) (r : Rule) (ps : List RowPart) → IsRuleRow s r ps → find_from name 0 false ps ≡ None → has name r.args ≡ false
+has_none name s r ps h is = nowhere name s r (args_found name s r) (answered name s r) (sym (told name s r ps h) ∙ is)

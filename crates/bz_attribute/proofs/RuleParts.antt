@@ -1,0 +1,71 @@
+-- The parts of a rule: before its arguments, of these, and after them.
+use Rattle.std.proofs.Common.{◌≡◌, ℕ, ◌+◌, List, [], ◌∷◌, ◌++◌, Bool, true, false, ◌&&◌, if◌then◌else◌, Some, None, length, map, option_map, refl, ap, sym, ◌∙◌, append_assoc, append-nil}
+use Rattle.std.proofs.lemmas.Bool.{false≢true, and_parts}
+use Rattle.bz_token.specs.declared.token.Kind.TheVariants.{Identifier}
+use Rattle.bz_tree.specs.declared.stmt.GroupKind.TheVariants.{RuleCall}
+use Rattle.bz_tree.specs.Tree.{Item, leaf, group, Statement, items_of, segs_of}
+use Rattle.bz_tree.specs.Rows.{RowPart, a_token, opening, closing, above, beside_part, item_parts, items_parts, segs_parts, parts_of}
+use Rattle.bz_attribute.specs.Rules.{Rule, rule_of, rule_from, call_at, is_call, dotted, elements, comma_of, end_of}
+use Rattle.bz_attribute.specs.Effects.{nodes_of}
+use Rattle.bz_attribute.proofs.RuleNodes.{rule_nodes}
+use Rattle.bz_attribute.specs.Finder.{find_from}
+use Rattle.bz_attribute.proofs.Passed.{IsPassed, join, first, nothing, pass_above, alone}
+use Rattle.bz_attribute.proofs.FoundArgs.{IsAfter}
+
+abbrev pub before_args : Statement → Rule → List RowPart
+before_args s r = map above s.before ++ (items_parts (items_of r.kind) ++ opening RuleCall ∷ [])
+
+abbrev pub after_args : Statement → Rule → List RowPart
+after_args s r = (map above r.end ++ closing r.one_comma ∷ []) ++ beside_part s.suffix
+
+with_last : (kind : List Item) (x : Item) → items_parts (items_of (kind ++ x ∷ [])) ≡ items_parts (items_of kind) ++ item_parts x
+with_last [] x = append-nil (item_parts x)
+with_last (y ∷ kind) x = ap (λ (ps : List RowPart). item_parts y ++ ps) (with_last kind x) ∙ sym (append_assoc (item_parts y) (items_parts (items_of kind)) (item_parts x))
+
+pub parts_cut : (s : Statement) (r : Rule) → nodes_of r ≡ s.nodes → parts_of s ≡ before_args s r ++ (segs_parts (segs_of r.args) ++ after_args s r)
+parts_cut s r are =
+    let args = segs_parts (segs_of r.args) in
+    let kind = items_parts (items_of r.kind) in
+    let end = map above r.end ++ closing r.one_comma ∷ [] in
+    let moved : map above s.before ++ ((kind ++ (opening RuleCall ∷ (args ++ end))) ++ beside_part s.suffix) ≡ before_args s r ++ (args ++ after_args s r) = simp append_assoc in
+    ap (λ (nodes : List Item). map above s.before ++ (items_parts (items_of nodes) ++ beside_part s.suffix)) (sym are)
+    ∙ ap (λ (ps : List RowPart). map above s.before ++ (ps ++ beside_part s.suffix)) (with_last r.kind (group RuleCall (segs_of r.args) r.one_comma r.end))
+    ∙ moved
+
+pub is_after : (s : Statement) (r : Rule) → IsAfter (after_args s r)
+is_after s r = record { end = r.end; one_comma = r.one_comma; suffix = s.suffix; are = append_assoc (map above r.end) (closing r.one_comma ∷ []) (beside_part s.suffix) }
+
+-- a kind is tokens
+call_dotted : (kind : List Item) (x : Item) (r : Rule) → call_at kind x ≡ Some r → dotted true r.kind ≡ true
+call_dotted kind x r h =
+    elim (is_call x && dotted true kind) as (λ b. (is_call x && dotted true kind) ≡ b → (if b then Some (record { kind = kind; args = elements x; one_comma = comma_of x; end = end_of x }) else None) ≡ Some r → dotted true r.kind ≡ true) [
+      | true ↦ λ e k.
+          let is : record { kind = kind; args = elements x; one_comma = comma_of x; end = end_of x } ≡ r = cc in
+          sym (ap (λ (z : Rule). dotted true z.kind) is) ∙ (and_parts (is_call x) (dotted true kind) e).1
+      | false ↦ λ e k. absurd cc
+    ] refl h
+
+rule_dotted : (kind nodes : List Item) (r : Rule) → rule_from kind nodes ≡ Some r → dotted true r.kind ≡ true
+rule_dotted kind [] r h = absurd cc
+rule_dotted kind (x ∷ []) r h = call_dotted kind x r h
+rule_dotted kind (x ∷ y ∷ xs) r h = rule_dotted (kind ++ x ∷ []) (y ∷ xs) r h
+
+kind_passed : (name : List ℕ) (b : Bool) (kind : List Item) (rest : List RowPart) → dotted b kind ≡ true → IsPassed name 0 false (items_parts (items_of kind)) 0 false rest
+kind_passed name b [] rest h = nothing _
+kind_passed name true (leaf Identifier text ∷ xs) rest h = first name 0 0 false (a_token Identifier text) (items_parts (items_of xs)) rest (kind_passed name false xs rest h)
+kind_passed name true (leaf _ text ∷ xs) rest h = absurd (false≢true h)
+kind_passed name true (group k segs one_comma end ∷ xs) rest h = absurd (false≢true h)
+kind_passed name false (leaf k text ∷ xs) rest h = first name 0 0 false (a_token k text) (items_parts (items_of xs)) rest (kind_passed name true xs rest (and_parts _ (dotted true xs) h).1)
+kind_passed name false (group k segs one_comma end ∷ xs) rest h = absurd (false≢true h)
+
+call_opens : (name : List ℕ) (rest : List RowPart) → IsPassed name 0 false (opening RuleCall ∷ []) 1 true rest
+call_opens name rest = alone name 0 (opening RuleCall) rest
+
+pub head_passed : (name : List ℕ) (s : Statement) (r : Rule) → rule_of s.nodes ≡ Some r
+    → find_from name 0 false (parts_of s) ≡ option_map (λ (k : ℕ). length (before_args s r) + k) (find_from name 1 true (segs_parts (segs_of r.args) ++ after_args s r))
+head_passed name s r is =
+    let rest : List RowPart = segs_parts (segs_of r.args) ++ after_args s r in
+    let kind : List RowPart = items_parts (items_of r.kind) in
+    ap (find_from name 0 false) (parts_cut s r (rule_nodes [] s.nodes r is))
+    ∙ join name 0 0 1 false false true (map above s.before) (kind ++ opening RuleCall ∷ []) rest (pass_above name 0 s.before ((kind ++ opening RuleCall ∷ []) ++ rest))
+    (join name 0 0 1 false false true kind (opening RuleCall ∷ []) rest (kind_passed name true r.kind ((opening RuleCall ∷ []) ++ rest) (rule_dotted [] s.nodes r is)) (call_opens name rest))

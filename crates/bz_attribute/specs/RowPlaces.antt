@@ -1,0 +1,30 @@
+-- Where the argument of a name stands among the parts of a rule, and what becomes of the rule where others are written there.
+use Rattle.std.specs.Prelude.{◌≡◌, ℕ, ◌-◌, List, [], ◌∷◌, ◌++◌, Some, false, take, drop, option_to_list}
+use Rattle.bz_tree.specs.Tree.{Segment, Statement, segs_of}
+use Rattle.bz_tree.specs.Rows.{RowPart, parts_of, segs_parts}
+use Rattle.bz_attribute.specs.Rules.{Rule, rule_of, first_named, is_named}
+use Rattle.bz_attribute.specs.Effects.{edit_first, has, with_args}
+
+-- the parts of a rule
+pub record IsRuleRow (s : Statement) (r : Rule) (ps : List RowPart) : Type 0 where
+  pub are : ps ≡ parts_of s
+  pub rule : rule_of s.nodes ≡ Some r
+
+-- An edit of arguments that looks at the first one of a name alone: others stay, and what is new where none has the name comes after all.
+pub record IsLocal (name : List ℕ) (f : List Segment → List Segment) : Type 0 where
+  pub absent : (args : List Segment) → has name args ≡ false → f args ≡ args ++ f []
+  pub there : (args : List Segment) (a : Segment) → first_named name args ≡ Some a → f args ≡ edit_first (is_named name) (λ x. f (a ∷ [])) args
+
+-- An answer on arguments that looks at the first one of a name alone.
+pub record LooksAt (name : List ℕ) {A : Type 0} (f : List Segment → A) : Type 0 where
+  pub absent : (args : List Segment) → has name args ≡ false → f args ≡ f []
+  pub there : (args : List Segment) (a : Segment) → first_named name args ≡ Some a → f args ≡ f (a ∷ [])
+
+-- the first argument of a name, and no other
+abbrev pub alone : List ℕ → Rule → List Segment
+alone name r = option_to_list (first_named name r.args)
+
+-- The first argument of a name stands there, or none has the name and new ones go there: what an edit makes of it alone, written in its place, makes what the edit makes of the rule.
+pub record IsPlaceOf (name : List ℕ) (s : Statement) (r : Rule) (ps : List RowPart) (from to : ℕ) : Type 0 where
+  pub read : take (to - from) (drop from ps) ≡ segs_parts (segs_of (alone name r))
+  pub put : (f : List Segment → List Segment) → IsLocal name f → take from ps ++ (segs_parts (segs_of (f (alone name r))) ++ drop to ps) ≡ parts_of (with_args f s)

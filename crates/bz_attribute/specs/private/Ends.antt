@@ -1,0 +1,53 @@
+-- For private clauses alone: where a segment, the comments above it and the arguments of a rule end, by their parts.
+use Rattle.std.specs.Prelude.{ℕ, zero, suc, ◌+◌, List, [], ◌∷◌, drop, Bool, true, false, if◌then◌else◌}
+use Rattle.std.specs.List.{list_all, list_any}
+use Rattle.bz_tree.specs.Rows.{RowPart, opening, closing, segment_end, above, beside}
+
+abbrev pub above_len : List RowPart → ℕ
+above_len (above text ∷ ps) = suc (above_len ps)
+above_len _ = 0
+
+-- how many parts there are before the end of a segment, with so many brackets open
+abbrev pub nodes_len : ℕ → List RowPart → ℕ
+nodes_len d [] = 0
+nodes_len zero (segment_end ∷ ps) = 0
+nodes_len (suc d) (segment_end ∷ ps) = suc (nodes_len (suc d) ps)
+nodes_len d (opening kind ∷ ps) = suc (nodes_len (suc d) ps)
+nodes_len zero (closing one_comma ∷ ps) = 0
+nodes_len (suc d) (closing one_comma ∷ ps) = suc (nodes_len d ps)
+nodes_len d (p ∷ ps) = suc (nodes_len d ps)
+
+-- the end of a segment and the comment beside it
+abbrev pub end_len : List RowPart → ℕ
+end_len (segment_end ∷ beside text ∷ ps) = 2
+end_len (p ∷ ps) = 1
+end_len [] = 0
+
+-- how many parts a segment has from its first node on
+abbrev pub segment_len : List RowPart → ℕ
+segment_len ps = nodes_len 0 ps + end_len (drop (nodes_len 0 ps) ps)
+
+abbrev pub is_above : RowPart → Bool
+is_above (above text) = true
+is_above _ = false
+
+-- how many parts stand before the comments with which they end
+abbrev pub plain_len : List RowPart → ℕ
+plain_len [] = 0
+plain_len (p ∷ ps) = if list_all is_above (p ∷ ps) then 0 else suc (plain_len ps)
+
+-- a segment ends, or a bracket opens
+abbrev pub is_stop : RowPart → Bool
+is_stop segment_end = true
+is_stop (opening kind) = true
+is_stop _ = false
+
+-- the comment beside a segment that has just ended
+abbrev pub besides : List RowPart → ℕ
+besides (beside text ∷ ps) = 1
+besides _ = 0
+
+-- how many parts there are up to the last stop and the comment beside it
+abbrev pub arguments_end : List RowPart → ℕ
+arguments_end [] = 0
+arguments_end (p ∷ ps) = if list_any is_stop ps then 1 + arguments_end ps else (if is_stop p then 1 + besides ps else 0)

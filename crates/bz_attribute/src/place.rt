@@ -1,0 +1,130 @@
+//! Where the argument of a name stands among the parts of a rule, and where a new one goes.
+
+ghost use Rattle.std.specs.Prelude.{◌≡◌, ◌≤◌, map, length};
+ghost use Rattle.bz_tree.specs.Tree.{Statement};
+ghost use Rattle.bz_tree.specs.Rows.{part_view};
+ghost use Rattle.bz_attribute.specs.Rules.{Rule};
+ghost use Rattle.bz_attribute.specs.RowPlaces.{IsPlaceOf, IsRuleRow};
+ghost use Rattle.bz_attribute.specs.private.Ends as spec;
+
+use crate::finder::find_argument;
+use bz_tree::Part;
+
+/// A range of the parts of a rule.
+#[derive(Clone, Copy)]
+pub struct Place {
+    pub from: usize,
+    /// After the last of them.
+    pub to: usize,
+}
+
+// How many parts stand before the end of the segment that they begin with.
+fn nodes_len(parts: &[Part<'_>]) -> usize
+    ensures len { result ≡ spec.nodes_len 0 (map part_view parts.now) }
+    ensures within { result ≤ length parts.now }
+{
+    let mut depth: usize = 0;
+    let mut count = 0;
+    while count < parts.len() {
+        match parts[count] {
+            Part::End if depth == 0 => return count,
+            Part::Close(_) if depth == 0 => return count,
+            Part::Open(_) => depth += 1,
+            Part::Close(_) => depth -= 1,
+            _ => {}
+        }
+        count += 1;
+    }
+    count
+}
+
+// The end of a segment, and the comment beside it.
+fn end_len(parts: &[Part<'_>]) -> usize
+    ensures len { result ≡ spec.end_len (map part_view parts.now) }
+    ensures within { result ≤ length parts.now }
+{
+    match parts {
+        [] => 0,
+        [Part::End, Part::Beside(_), ..] => 2,
+        _ => 1,
+    }
+}
+
+// How many parts the segment has that they begin with.
+fn segment_len(parts: &[Part<'_>]) -> usize
+    ensures len { result ≡ spec.segment_len (map part_view parts.now) }
+    ensures within { result ≤ length parts.now }
+{
+    let nodes = nodes_len(parts);
+    nodes + end_len(&parts[nodes..])
+}
+
+fn is_above(part: Part<'_>) -> bool
+    ensures { result ≡ spec.is_above (part_view part.entry) }
+{
+    matches!(part, Part::Above(_))
+}
+
+// How many parts stand before the comments with which they end.
+fn comments_begin(parts: &[Part<'_>]) -> usize
+    ensures begin { result ≡ spec.plain_len (map part_view parts.now) }
+    ensures within { result ≤ length parts.now }
+{
+    let mut at = parts.len();
+    while at > 0 && is_above(parts[at - 1]) {
+        at -= 1;
+    }
+    at
+}
+
+// A segment ends, or a bracket opens.
+#[inline(always)]
+fn is_stop(part: Part<'_>) -> bool
+    ensures { result ≡ spec.is_stop (part_view part.entry) }
+{
+    matches!(part, Part::End | Part::Open(_))
+}
+
+#[inline(always)]
+fn besides(parts: &[Part<'_>]) -> usize
+    ensures { result ≡ spec.besides (map part_view parts.now) }
+{
+    match parts {
+        [Part::Beside(_), ..] => 1,
+        _ => 0,
+    }
+}
+
+// How many parts of a rule there are up to the end of its last argument, with the comment beside that.
+fn arguments_end(parts: &[Part<'_>]) -> usize
+    ensures end { result ≡ spec.arguments_end (map part_view parts.now) }
+    ensures within { result ≤ length parts.now }
+{
+    let mut at = parts.len();
+    while at > 0 {
+        if is_stop(parts[at - 1]) {
+            return at + besides(&parts[at..]);
+        }
+        at -= 1;
+    }
+    0
+}
+
+/// Where the first argument of a name stands among the parts of a rule, with its comments. Where none has the name, it
+/// is an empty place after the last argument.
+pub fn place_of(parts: &[Part<'_>], name: &str) -> Place
+    ensures within { (result.from ≤ result.to) × (result.to ≤ length parts.now) }
+    ensures place { (s : Statement) (r : Rule) → IsRuleRow s r (map part_view parts.now)
+        → IsPlaceOf name.now s r (map part_view parts.now) result.from result.to }
+{
+    match find_argument(parts, name) {
+        Some(at) => Place {
+            from: comments_begin(&parts[..at]),
+            to: at + segment_len(&parts[at..]),
+        },
+        None => {
+            let end = arguments_end(parts);
+            Place { from: end, to: end }
+        }
+    }
+}

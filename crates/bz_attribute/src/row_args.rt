@@ -1,0 +1,178 @@
+//! Arguments of a rule, read from its parts and written into a list of parts.
+
+ghost use Rattle.std.specs.Prelude.{◌≡◌, ◌≤◌, ◌++◌, ◌∷◌, [], false, List, map, option_map, take, drop, length, IfOk, OnOk};
+ghost use Rattle.bz_tree.specs.Tree.{Segment, items_of, segs_of};
+ghost use Rattle.bz_tree.specs.View.{text_of, texts, node_view, nodes_view, group_view, segs_view};
+ghost use Rattle.bz_tree.specs.declared.stmt.GroupKind.TheVariants.{List as ListKind};
+ghost use Rattle.bz_attribute.specs.Rules.{elements};
+ghost use Rattle.bz_tree.specs.Rows.{above, beside_part, closing, opening, item_parts, items_parts, part_view, segs_parts};
+
+use crate::place::Place;
+use bumpalo::Bump;
+use bumpalo::collections::into_bump_slice;
+use bz_tree::{Group, GroupKind, Node, Part, Seg, nodes_of_parts};
+use std::alloc::{AllocError, Global};
+use std::borrow::CowStr;
+
+// Most commands add no more parts.
+const ROOM: usize = 16;
+
+// A list of parts in the arena of a chunk.
+type Parts<'a> = Vec<Part<'a>, &'a Bump>;
+
+// The segments of a node; of a token, none.
+fn segments_of<'a>(alloc: Global, node: Node<'a>) -> Vec<Seg<'a>>
+    ensures { segs_view result.items ≡ elements (node_view node.entry) }
+{
+    match node {
+        Node::Token(_) => Vec::new(alloc),
+        Node::Group(Group { segs, .. }) => segs,
+    }
+}
+
+// The parts within a list.
+fn in_list<'a>(alloc: Global, parts: &[Part<'a>]) -> Result<Vec<Part<'a>>, AllocError>
+    ensures { IfOk result (λ list. map part_view list.items
+        ≡ opening ListKind ∷ (map part_view parts.now ++ closing false ∷ [])) }
+{
+    let mut list = Vec::with_capacity(alloc, parts.len().saturating_add(2))?;
+    list.push(Part::Open(GroupKind::List))?;
+    list.extend_from_slice(parts)?;
+    list.push(Part::Close(false))?;
+    Ok(list)
+}
+
+/// The arguments whose parts these are. `Err`: memory was refused.
+pub fn read_arguments<'a>(alloc: Global, parts: &[Part<'a>]) -> Result<Vec<Seg<'a>>, AllocError>
+    ensures { IfOk result (λ args. (ss : List Segment) → map part_view parts.now ≡ segs_parts (segs_of ss)
+        → segs_view args.items ≡ ss) }
+{
+    if parts.is_empty() {
+        return Ok(Vec::new(alloc));
+    }
+    let list = in_list(alloc, parts)?;
+    let mut nodes = nodes_of_parts(alloc, &list)?;
+    match nodes.pop() {
+        Some(node) => Ok(segments_of(alloc, node)),
+        None => Ok(Vec::new(alloc)),
+    }
+}
+
+// The text itself where it is borrowed, a copy in the arena where it is owned.
+fn kept_text<'a>(bump: &'a Bump, text: &CowStr<'a>) -> Result<&'a str, AllocError>
+    ensures { IfOk result (λ kept. kept.now ≡ text_of text.now) }
+{
+    match text {
+        CowStr::Borrowed(slice) => Ok(*slice),
+        CowStr::Owned(string) => bump.try_alloc_str(string.as_str()),
+    }
+}
+
+fn push_above<'a>(
+    bump: &'a Bump,
+    comments: &[CowStr<'a>],
+    parts: &mut Parts<'a>,
+) -> Result<(), AllocError>
+    ensures { OnOk result (map part_view parts.new.items
+        ≡ map part_view parts.old.items ++ map above (texts comments.now)) }
+{
+    for comment in comments {
+        parts.push(Part::Above(kept_text(bump, comment)?))?;
+    }
+    Ok(())
+}
+
+fn push_beside<'a>(
+    bump: &'a Bump,
+    comment: &Option<CowStr<'a>>,
+    parts: &mut Parts<'a>,
+) -> Result<(), AllocError>
+    ensures { OnOk result
+        (map part_view parts.new.items ≡ map part_view parts.old.items ++ beside_part (option_map text_of comment.now)) }
+{
+    match comment {
+        None => Ok(()),
+        Some(text) => Ok(parts.push(Part::Beside(kept_text(bump, text)?))?),
+    }
+}
+
+#[cycle(parts)]
+fn push_node<'a>(bump: &'a Bump, node: &Node<'a>, parts: &mut Parts<'a>) -> Result<(), AllocError>
+    ensures { OnOk result
+        (map part_view parts.new.items ≡ map part_view parts.old.items ++ item_parts (node_view node.now)) }
+{
+    match node {
+        Node::Token(leaf) => Ok(parts.push(Part::Token(leaf.kind, kept_text(bump, &leaf.text)?))?),
+        Node::Group(group) => push_group(bump, group, parts),
+    }
+}
+
+#[cycle(parts)]
+fn push_group<'a>(
+    bump: &'a Bump,
+    group: &Group<'a>,
+    parts: &mut Parts<'a>,
+) -> Result<(), AllocError>
+    ensures { OnOk result
+        (map part_view parts.new.items ≡ map part_view parts.old.items ++ item_parts (group_view group.now)) }
+{
+    parts.push(Part::Open(group.kind))?;
+    push_arguments(bump, &group.segs, parts)?;
+    push_above(bump, &group.end, parts)?;
+    parts.push(Part::Close(group.one_comma))?;
+    Ok(())
+}
+
+#[cycle(parts)]
+fn push_nodes<'a>(
+    bump: &'a Bump,
+    nodes: &[Node<'a>],
+    parts: &mut Parts<'a>,
+) -> Result<(), AllocError>
+    ensures { OnOk result
+        (map part_view parts.new.items
+        ≡ map part_view parts.old.items ++ items_parts (items_of (nodes_view nodes.now))) }
+{
+    for node in nodes {
+        push_node(bump, node, parts)?;
+    }
+    Ok(())
+}
+
+// Appends the parts of arguments. Texts that they own are copied into the arena.
+#[cycle(parts)]
+fn push_arguments<'a>(
+    bump: &'a Bump,
+    args: &[Seg<'a>],
+    parts: &mut Parts<'a>,
+) -> Result<(), AllocError>
+    ensures { OnOk result
+        (map part_view parts.new.items
+        ≡ map part_view parts.old.items ++ segs_parts (segs_of (segs_view args.now))) }
+{
+    for arg in args {
+        push_above(bump, &arg.before, parts)?;
+        push_nodes(bump, &arg.nodes, parts)?;
+        parts.push(Part::End)?;
+        push_beside(bump, &arg.suffix, parts)?;
+    }
+    Ok(())
+}
+
+/// The parts of a rule with these arguments in a place of it, as a new list in the arena. `Err`: memory was refused.
+pub fn splice<'a>(
+    bump: &'a Bump,
+    parts: &[Part<'a>],
+    place: Place,
+    args: &[Seg<'a>],
+) -> Result<&'a [Part<'a>], AllocError>
+    requires { (place.from ≤ place.to) × (place.to ≤ length parts.now) }
+    ensures { IfOk result (λ new. map part_view new.now ≡ take place.from (map part_view parts.now)
+        ++ (segs_parts (segs_of (segs_view args.now)) ++ drop place.to (map part_view parts.now))) }
+{
+    let mut new = Vec::with_capacity(bump, parts.len().saturating_add(ROOM))?;
+    new.extend_from_slice(&parts[..place.from])?;
+    push_arguments(bump, args, &mut new)?;
+    new.extend_from_slice(&parts[place.to..])?;
+    Ok(into_bump_slice(new))
+}

@@ -1,0 +1,113 @@
+-- Edits that look at the first argument of a name alone.
+use Rattle.std.proofs.Common.{◌≡◌, ℕ, List, [], ◌∷◌, ◌++◌, Bool, true, false, if◌then◌else◌, Option, Some, None, is_some, refl, ap, sym, ◌∙◌, append-nil}
+use Rattle.std.specs.Prelude.{option_to_list}
+use Rattle.bz_tree.specs.Tree.{Segment}
+use Rattle.bz_command.specs.Labels.{Package}
+use Rattle.bz_attribute.specs.Rules.{Rule, first_named, is_named}
+use Rattle.bz_attribute.specs.Effects.{argument, edit_first, first_note, has, list_item, not_a_list}
+use Rattle.bz_attribute.specs.Add.{add, new_elements, with_added}
+use Rattle.bz_attribute.specs.Comment.{comment_attribute, comment_element, comment_line, comment_note, comment_value, is_missing, with_comment}
+use Rattle.bz_attribute.specs.RowPlaces.{alone, IsLocal, LooksAt}
+use Rattle.bz_attribute.specs.Set.{new_of, new_value, set, set_if_absent, set_in}
+use Rattle.bz_attribute.specs.declared.done.Note.{Note}
+use Rattle.bz_attribute.specs.declared.done.Note.TheVariants.{NoAttribute}
+use Rattle.bz_attribute.proofs.EditedAt.{none_first}
+use Rattle.bz_attribute.proofs.First.{edit_first_none}
+use Rattle.bz_rule.proofs.Arguments.{has_first, is_first_named, rest_same}
+
+-- the first of a name is the first of itself
+first_alone : (name : List ℕ) (args : List Segment) (a : Segment) → first_named name args ≡ Some a → first_named name (a ∷ []) ≡ Some a
+first_alone name args a h = ap (λ (b : Bool). if b then Some a else None) (is_first_named name args a h)
+
+is_there : (name : List ℕ) (args : List Segment) (a : Segment) → first_named name args ≡ Some a → has name args ≡ true
+is_there name args a h = has_first name args ∙ ap is_some h
+
+-- of the first of a name, edits that do the same to it are the same
+edit_same : (name : List ℕ) (f : Segment → List Segment) (ss : List Segment) (args : List Segment) (a : Segment) → first_named name args ≡ Some a → f a ≡ ss → edit_first (is_named name) f args ≡ edit_first (is_named name) (λ x. ss) args
+edit_same name f ss [] a h same = refl
+edit_same name f ss (x ∷ args) a h same =
+    elim (is_named name x) as (λ b. (if b then Some x else first_named name args) ≡ Some a → (if b then f x ++ args else x ∷ edit_first (is_named name) f args) ≡ (if b then ss ++ args else x ∷ edit_first (is_named name) (λ z. ss) args)) [
+      | true ↦ λ e. let is : x ≡ a = cc in ap (λ (zs : List Segment). zs ++ args) (ap f is ∙ same)
+      | false ↦ λ e. ap (λ (zs : List Segment). x ∷ zs) (edit_same name f ss args a e same)
+    ] h
+
+-- what it makes of the first, and what it adds where there is none
+pub edits_one : (name : List ℕ) (f : List Segment → List Segment) (new : List Segment) (edit : Segment → List Segment) → ((args : List Segment) → has name args ≡ false → f args ≡ args ++ new)
+    → ((args : List Segment) (a : Segment) → first_named name args ≡ Some a → f args ≡ edit_first (is_named name) (λ x. edit a) args) → IsLocal name f
+edits_one name f new edit none one = record {
+  absent = λ args h. none args h ∙ ap (λ (zs : List Segment). args ++ zs) (sym (none [] refl));
+  there = λ args a h.
+      let alone_is : f (a ∷ []) ≡ edit a = one (a ∷ []) a (first_alone name args a h) ∙ ap (λ (b : Bool). if b then edit a ++ [] else a ∷ []) (is_first_named name args a h) ∙ append-nil (edit a) in
+      one args a h ∙ ap (λ (zs : List Segment). edit_first (is_named name) (λ x. zs) args) (sym alone_is);
+}
+
+pub looks_at_one : {A : Type 0} (name : List ℕ) (f : List Segment → A) (g : Option Segment → A) → ((args : List Segment) → f args ≡ g (first_named name args)) → LooksAt name f
+looks_at_one name f g by = record {
+  absent = λ args h. by args ∙ ap g (none_first name args h) ∙ sym (by []);
+  there = λ args a h. by args ∙ ap g h ∙ sym (by (a ∷ []) ∙ ap g (first_alone name args a h));
+}
+
+-- what it tells of the first, it tells of all
+pub told_alone : {A : Type 0} (name : List ℕ) (f : List Segment → A) (r : Rule) → LooksAt name f → f (alone name r) ≡ f r.args
+told_alone name f r looks =
+    elim (first_named name r.args) as (λ o. first_named name r.args ≡ o → f (alone name r) ≡ f r.args) [
+      | None ↦ λ e. ap f (ap (λ (o : Option Segment). option_to_list o) e) ∙ sym (looks.absent r.args (has_first name r.args ∙ ap is_some e))
+      | Some a ↦ λ e. ap f (ap (λ (o : Option Segment). option_to_list o) e) ∙ sym (looks.there r.args a e)
+    ] refl
+
+kept_first : (name : List ℕ) (args : List Segment) (a : Segment) → first_named name args ≡ Some a → args ≡ edit_first (is_named name) (λ x. a ∷ []) args
+kept_first name args a h = sym (rest_same name (λ x. a ∷ []) args (λ b e. let same : a ≡ b = cc in ap (λ (z : Segment). z ∷ []) same))
+
+-- each command on one attribute
+pub add_local : (home : Package) (attr : List ℕ) (values : List (List ℕ)) → IsLocal attr (add home attr values)
+add_local home attr values =
+    edits_one attr (add home attr values) (argument attr (list_item (new_elements home [] values) ∷ []) ∷ []) (λ a. with_added home values a ∷ [])
+    (λ args h. rw h refl)
+    (λ args a h. ap (λ (b : Bool). if b then edit_first (is_named attr) (λ x. with_added home values x ∷ []) args else args ++ argument attr (list_item (new_elements home [] values) ∷ []) ∷ []) (is_there attr args a h)
+    ∙ edit_same attr (λ x. with_added home values x ∷ []) (with_added home values a ∷ []) args a h refl)
+
+pub edit_local : (attr : List ℕ) (edit : Segment → List Segment) → IsLocal attr (edit_first (is_named attr) edit)
+edit_local attr edit =
+    edits_one attr (edit_first (is_named attr) edit) [] edit
+    (λ args h. edit_first_none (is_named attr) edit args h ∙ sym (append-nil args))
+    (λ args a h. edit_same attr edit (edit a) args a h refl)
+
+pub set_local : (attr : List ℕ) (words : List (List ℕ)) → IsLocal attr (set attr words)
+set_local attr words =
+    let made : Option Segment → List Segment → List Segment = λ was args. edit_first (is_named attr) (λ a. set_in (new_of attr words was) a ∷ []) args in
+    let more : Option Segment → List Segment → List Segment = λ was args. args ++ argument attr (new_value (new_of attr words was)) ∷ [] in
+    edits_one attr (set attr words) (argument attr (new_value (new_of attr words None)) ∷ []) (λ a. set_in (new_of attr words (Some a)) a ∷ [])
+    (λ args h. ap (λ (b : Bool). if b then made (first_named attr args) args else more (first_named attr args) args) h ∙ ap (λ (o : Option Segment). more o args) (none_first attr args h))
+    (λ args a h. ap (λ (b : Bool). if b then made (first_named attr args) args else more (first_named attr args) args) (is_there attr args a h)
+    ∙ ap (λ (o : Option Segment). made o args) h
+    ∙ edit_same attr (λ x. set_in (new_of attr words (Some a)) x ∷ []) (set_in (new_of attr words (Some a)) a ∷ []) args a h refl)
+
+pub set_if_absent_local : (attr : List ℕ) (words : List (List ℕ)) → IsLocal attr (set_if_absent attr words)
+set_if_absent_local attr words =
+    edits_one attr (set_if_absent attr words) (argument attr (new_value (new_of attr words None)) ∷ []) (λ a. a ∷ [])
+    (λ args h. rw h refl)
+    (λ args a h. ap (λ (b : Bool). if b then args else args ++ argument attr (new_value (new_of attr words None)) ∷ []) (is_there attr args a h) ∙ kept_first attr args a h)
+
+pub comment_local : (attr text : List ℕ) → IsLocal attr (comment_attribute attr text)
+comment_local attr text =
+    let edit : Segment → List Segment = λ a. with_comment (comment_line text) a ∷ [] in
+    edits_one attr (comment_attribute attr text) [] edit
+    (λ args h. ap (λ (b : Bool). if b then edit_first (is_named attr) edit args else args) h ∙ sym (append-nil args))
+    (λ args a h. ap (λ (b : Bool). if b then edit_first (is_named attr) edit args else args) (is_there attr args a h) ∙ edit_same attr edit (edit a) args a h refl)
+
+-- the note of `comment ATTR VALUE`, by the argument
+abbrev pub note_of : Package → List ℕ → List ℕ → Option Segment → Option Note
+note_of home attr v o = first_note (if is_some o then None else Some (NoAttribute attr)) (first_note (not_a_list attr o) (is_missing home attr v o))
+
+pub note_by_first : (home : Package) (attr v : List ℕ) (args : List Segment) → comment_note home attr v args ≡ note_of home attr v (first_named attr args)
+note_by_first home attr v args = ap (λ (b : Bool). first_note (if b then None else Some (NoAttribute attr)) (first_note (not_a_list attr (first_named attr args)) (is_missing home attr v (first_named attr args)))) (has_first attr args)
+
+pub comment_value_local : (home : Package) (attr v text : List ℕ) → IsLocal attr (comment_value home attr v text)
+comment_value_local home attr v text =
+    let edit : Segment → List Segment = λ a. comment_element home v text a ∷ [] in
+    let made : Bool → List Segment → List Segment = λ b args. if b then args else edit_first (is_named attr) edit args in
+    edits_one attr (comment_value home attr v text) [] (λ a. if is_some (note_of home attr v (Some a)) then a ∷ [] else edit a)
+    (λ args h. ap (λ (n : Option Note). made (is_some n) args) (note_by_first home attr v args ∙ ap (note_of home attr v) (none_first attr args h)) ∙ sym (append-nil args))
+    (λ args a h. ap (λ (n : Option Note). made (is_some n) args) (note_by_first home attr v args ∙ ap (note_of home attr v) h)
+    ∙ elim (is_some (note_of home attr v (Some a))) as (λ b. made b args ≡ edit_first (is_named attr) (λ x. if b then a ∷ [] else edit a) args)
+    [ true ↦ kept_first attr args a h | false ↦ edit_same attr edit (edit a) args a h refl ])
