@@ -203,7 +203,7 @@ closing_word NewlineToken text s is = absurd cc
 closing_word CommentToken text s is = absurd cc
 closing_word Kept text s is = absurd cc
 
-words_append : (xs ys : List Placed) → words_among (xs ++ ys) ≡ words_among xs ++ words_among ys
+pub words_append : (xs ys : List Placed) → words_among (xs ++ ys) ≡ words_among xs ++ words_among ys
 words_append [] ys = refl
 words_append (t ∷ xs) ys =
     ap (λ words. word_of (mark_of t) t.kind t.text ++ words) (words_append xs ys) ∙ sym (append_assoc (word_of (mark_of t) t.kind t.text) (words_among xs) (words_among ys))
@@ -305,7 +305,7 @@ line_words Plain t ts e = ap (λ k. word_of k t.kind t.text ++ words_among ts) e
 line_words (Open s) t ts e = ap (λ k. word_of k t.kind t.text ++ words_among ts) e
 line_words (Close s) t ts e = ap (λ k. word_of k t.kind t.text ++ words_among ts) e
 
-lines_words : (ts : List Placed) → words_among (without_lines ts) ≡ words_among ts
+pub lines_words : (ts : List Placed) → words_among (without_lines ts) ≡ words_among ts
 lines_words [] = refl
 lines_words (t ∷ ts) = line_words (mark_of t) t (without_lines ts) refl ∙ ap (λ words. word_of (mark_of t) t.kind t.text ++ words) (lines_words ts)
 
