@@ -1,9 +1,10 @@
 //! What is done for one package.
 
-ghost use Rattle.std.specs.Prelude.{◌≡◌, ◌⊎◌, IfOk, string_bytes};
+ghost use Rattle.std.specs.Prelude.{◌≡◌, ◌⊎◌, [], IfOk, string_bytes, true};
 ghost use Rattle.bz_folder.specs.Sequence.{SafeRun};
-ghost use Rattle.buildozer.specs.Files.{IsFileOf, MayHold};
-ghost use Rattle.buildozer.specs.Handled.{IsStatusOf};
+ghost use Rattle.buildozer.specs.Files.{IsFileOf, MayHold, MayHoldNothing};
+ghost use Rattle.buildozer.specs.Handled.{IsFileStatus, IsStatusOf, IsStatusOver};
+ghost use Rattle.buildozer.specs.Program.{is_shown};
 ghost use Rattle.bz_script.specs.Names.{IsBuildPath};
 
 use crate::console::Console;
@@ -39,8 +40,14 @@ pub fn edit_package<D: Folder, S: Source, O: Sink, E: Sink>(
     asked: Asked,
     devices: &mut Devices<D, S, O, E>,
 ) -> u8
-    ensures safe { SafeRun D.did (MayHold D.leads asked) devices.old.draft.folder devices.new.draft.folder }
-    ensures status { IsStatusOf asked result }
+    ensures safe { SafeRun D.did (MayHold D.leads D.File.gave asked)
+        devices.old.draft.folder devices.new.draft.folder }
+    ensures status { IsStatusOf D.leads D.File.gave S.gave asked devices.old.input devices.new.input result }
+    // At status 3 no file was touched, but for a temporary one.
+    ensures idle { result ≡ 3 → SafeRun D.did MayHoldNothing devices.old.draft.folder devices.new.draft.folder }
+    // What is shown changes no folder.
+    ensures shown { is_shown flags.now.stdout asked.passes ≡ true
+        → D.did devices.old.draft.folder [] devices.new.draft.folder }
 {
     let status = edit_home(alloc, flags, asked, devices);
     match devices.console.flush() {
@@ -56,8 +63,14 @@ fn edit_home<D: Folder, S: Source, O: Sink, E: Sink>(
     asked: Asked,
     devices: &mut Devices<D, S, O, E>,
 ) -> u8
-    ensures safe { SafeRun D.did (MayHold D.leads asked) devices.old.draft.folder devices.new.draft.folder }
-    ensures status { IsStatusOf asked result }
+    ensures safe { SafeRun D.did (MayHold D.leads D.File.gave asked)
+        devices.old.draft.folder devices.new.draft.folder }
+    ensures status { IsStatusOf D.leads D.File.gave S.gave asked devices.old.input devices.new.input result }
+    // At status 3 no file was touched, but for a temporary one.
+    ensures idle { result ≡ 3 → SafeRun D.did MayHoldNothing devices.old.draft.folder devices.new.draft.folder }
+    // What is shown changes no folder.
+    ensures shown { is_shown flags.now.stdout asked.passes ≡ true
+        → D.did devices.old.draft.folder [] devices.new.draft.folder }
 {
     let Some(folder) = asked.home.path() else {
         return edit_shown(alloc, asked, "-", &mut devices.input, &mut devices.console);
@@ -79,7 +92,7 @@ fn edit_shown<S: Source, O: Sink, E: Sink>(
     source: &mut S,
     console: &mut Console<O, E>,
 ) -> u8
-    ensures { IsStatusOf asked result }
+    ensures { IsStatusOver S.gave asked source.old source.new result }
 {
     match edit_stream(alloc, asked, name, source, console) {
         Ok(status) => status,
@@ -97,8 +110,15 @@ fn edit_found<D: Folder, S, O: Sink, E: Sink>(
 ) -> u8
     requires first { IsBuildPath asked.home (string_bytes files.now.first) }
     requires second { IsBuildPath asked.home (string_bytes files.now.second) }
-    ensures safe { SafeRun D.did (MayHold D.leads asked) devices.old.draft.folder devices.new.draft.folder }
-    ensures status { IsStatusOf asked result }
+    ensures safe { SafeRun D.did (MayHold D.leads D.File.gave asked)
+        devices.old.draft.folder devices.new.draft.folder }
+    ensures input { devices.new.input ≡ devices.old.input }
+    ensures status { (result ≡ 2) ⊎ IsFileStatus D.leads D.File.gave asked result }
+    // At status 3 no file was touched, but for a temporary one.
+    ensures idle { result ≡ 3 → SafeRun D.did MayHoldNothing devices.old.draft.folder devices.new.draft.folder }
+    // What is shown changes no folder.
+    ensures shown { is_shown flags.now.stdout asked.passes ≡ true
+        → D.did devices.old.draft.folder [] devices.new.draft.folder }
 {
     match open_first(devices.draft.folder(), files) {
         Ok((opened, name)) => edit_opened(alloc, flags, asked, name, opened, devices),
@@ -114,8 +134,9 @@ fn open_first<'a, D: Folder>(
     folder: &D,
     files: &'a BuildFiles,
 ) -> Result<(Opened<D::File>, &'a str), &'a str>
-    ensures { IfOk result (λ found. D.leads (string_bytes files.now.first) (string_bytes found.0.path)
-        ⊎ D.leads (string_bytes files.now.second) (string_bytes found.0.path)) }
+    ensures { IfOk result (λ found.
+        D.leads (string_bytes files.now.first) (string_bytes found.0.path) found.0.source
+        ⊎ D.leads (string_bytes files.now.second) (string_bytes found.0.path) found.0.source) }
 {
     match folder.open(&files.first) {
         Ok(opened) => Ok((opened, files.first.as_str())),
@@ -136,9 +157,16 @@ fn edit_opened<D: Folder, S, O: Sink, E: Sink>(
     opened: Opened<D::File>,
     devices: &mut Devices<D, S, O, E>,
 ) -> u8
-    requires { IsFileOf D.leads asked.home (string_bytes opened.path) }
-    ensures safe { SafeRun D.did (MayHold D.leads asked) devices.old.draft.folder devices.new.draft.folder }
-    ensures status { IsStatusOf asked result }
+    requires { IsFileOf D.leads asked.home (string_bytes opened.path) opened.source }
+    ensures safe { SafeRun D.did (MayHold D.leads D.File.gave asked)
+        devices.old.draft.folder devices.new.draft.folder }
+    ensures input { devices.new.input ≡ devices.old.input }
+    ensures status { (result ≡ 2) ⊎ IsFileStatus D.leads D.File.gave asked result }
+    // At status 3 no file was touched, but for a temporary one.
+    ensures idle { result ≡ 3 → SafeRun D.did MayHoldNothing devices.old.draft.folder devices.new.draft.folder }
+    // What is shown changes no folder.
+    ensures shown { is_shown flags.now.stdout asked.passes ≡ true
+        → D.did devices.old.draft.folder [] devices.new.draft.folder }
 {
     if flags.stdout || is_query(asked.passes.as_slice()) {
         let mut source = opened.source;

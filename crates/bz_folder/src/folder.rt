@@ -34,12 +34,13 @@ pub trait Folder {
     // The first state made these calls, each with whether it succeeded, and became the second.
     ghost did: { Self → List Event → Self → Type 0 };
 
-    // What is opened at the first path may be the file at the second, to which a link leads.
-    ghost leads: { List ℕ → List ℕ → Type 0 };
+    // What is opened at the first path may be the file at the second, to which a link leads, and its
+    // bytes are read from this source.
+    ghost leads: { List ℕ → List ℕ → Self.File → Type 0 };
 
     /// Opens a file to read it. This changes no file.
     fn open(&self, path: &str) -> Result<Opened<Self::File>, CannotOpen>
-        ensures { IfOk result (λ opened. leads path.now (string_bytes opened.path)) };
+        ensures { IfOk result (λ opened. leads path.now (string_bytes opened.path) opened.source) };
 
     /// Makes an empty file, open to be written, where nothing is: a link at the path is not
     /// followed.
