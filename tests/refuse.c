@@ -1,16 +1,19 @@
 /* A library that is loaded before a program's own, and refuses one call: the one numbered REFUSE_NUMBER, from 1, of the
    function REFUSE_CALL. With REFUSE_LOG it writes there, at the program's end, "1" if a call was refused, else "0".
 
-   A refused call does nothing, and answers as the system would: no memory, a full disk, a fault of the device. A read that is
-   interrupted, and a read or write of one byte where more were wanted, are no faults.  */
+   A refused call does nothing, and answers as the system would: no memory, a full disk, a fault of the device. A write to a
+   file that is lost tells no fault. A read that is interrupted, and a read or write of one byte where more were wanted, are no
+   faults. Before a call of fchmod that stops the process stops itself, until it is told to go on.  */
 #define _GNU_SOURCE
 #include <dlfcn.h>
 #include <errno.h>
 #include <fcntl.h>
+#include <signal.h>
 #include <stdarg.h>
 #include <stdio.h>
 #include <stdlib.h>
 #include <string.h>
+#include <sys/file.h>
 #include <sys/stat.h>
 #include <sys/types.h>
 #include <unistd.h>
@@ -60,8 +63,14 @@ ssize_t read(int file, void *bytes, size_t size) {
     return NEXT(read)(file, bytes, size > 1 && is_refused("short read", 0) ? 1 : size);
 }
 
+static int is_regular(int file) {
+    struct stat there;
+    return fstat(file, &there) == 0 && S_ISREG(there.st_mode);
+}
+
 ssize_t write(int file, const void *bytes, size_t size) {
     if (is_refused("write", ENOSPC)) return -1;
+    if (is_regular(file) && is_refused("lost write", 0)) return (ssize_t)size;
     return NEXT(write)(file, bytes, size > 1 && is_refused("short write", 0) ? 1 : size);
 }
 
@@ -83,7 +92,12 @@ char *realpath(const char *restrict path, char *restrict answer) {
     return is_refused("realpath", EIO) ? NULL : NEXT(realpath)(path, answer);
 }
 
-int fchmod(int file, mode_t mode) { return is_refused("fchmod", EPERM) ? -1 : NEXT(fchmod)(file, mode); }
+int flock(int file, int how) { return is_refused("flock", ENOLCK) ? -1 : NEXT(flock)(file, how); }
+
+int fchmod(int file, mode_t mode) {
+    if (is_refused("stopped fchmod", 0)) raise(SIGSTOP);
+    return is_refused("fchmod", EPERM) ? -1 : NEXT(fchmod)(file, mode);
+}
 
 int rename(const char *from, const char *to) { return is_refused("rename", EXDEV) ? -1 : NEXT(rename)(from, to); }
 

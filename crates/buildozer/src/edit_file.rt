@@ -36,6 +36,7 @@ pub fn edit_file<D: Folder>(
     ensures idle { IfOk result (λ edited. edited.1 ≡ false
         → SafeRun D.did spec.MayHoldNothing draft.old.folder draft.new.folder) }
 {
+    // The author owns the source, so no other run replaces the file before this one is done with it.
     let mut author = FileRun::new(alloc, opened.source, asked);
     let replaced = replace_file(draft, &opened.path, opened.mode, &mut author);
     match author.ended() {

@@ -1,6 +1,6 @@
 //! What is done for one package.
 
-ghost use Rattle.std.specs.Prelude.{◌≡◌, ◌⊎◌, [], IfOk, string_bytes, true};
+ghost use Rattle.std.specs.Prelude.{◌≡◌, ◌⊎◌, [], IfOk, if◌then◌else◌, string_bytes, true};
 ghost use Rattle.bz_folder.specs.Sequence.{SafeRun};
 ghost use Rattle.buildozer.specs.Files.{IsFileOf, MayHold, MayHoldNothing};
 ghost use Rattle.buildozer.specs.Handled.{IsFileStatus, IsStatusOf, IsStatusOver};
@@ -12,7 +12,7 @@ use crate::edit_file::{FileFault, edit_file};
 use crate::edit_stream::edit_stream;
 use crate::run::Asked;
 use bz_engine::{RunFault, Sink, Source, is_query};
-use bz_folder::{CannotOpen, Draft, Folder, Opened};
+use bz_folder::{CannotOpen, Draft, Folder, Opened, Purpose};
 use bz_script::flags::Flags;
 use bz_script::names::BuildFiles;
 use std::alloc::Global;
@@ -120,7 +120,7 @@ fn edit_found<D: Folder, S, O: Sink, E: Sink>(
     ensures shown { is_shown flags.now.stdout asked.passes ≡ true
         → D.did devices.old.draft.folder [] devices.new.draft.folder }
 {
-    match open_first(devices.draft.folder(), files) {
+    match open_first(devices.draft.folder(), files, purpose_of(flags, &asked)) {
         Ok((opened, name)) => edit_opened(alloc, flags, asked, name, opened, devices),
         Err(name) => {
             devices.console.put_message(name, "cannot open");
@@ -129,19 +129,31 @@ fn edit_found<D: Folder, S, O: Sink, E: Sink>(
     }
 }
 
+/// What the package's file is opened for: it stays where the flags say so or the script only asks.
+fn purpose_of(flags: &Flags, asked: &Asked) -> Purpose
+    ensures { result ≡ (if is_shown flags.now.stdout asked.now.passes then Purpose.Read else Purpose.Replace) }
+{
+    if flags.stdout || is_query(asked.passes.as_slice()) {
+        Purpose::Read
+    } else {
+        Purpose::Replace
+    }
+}
+
 /// Opens the first of the files that is there, and gives its name. An `Err` names the one that was tried last.
 fn open_first<'a, D: Folder>(
     folder: &D,
     files: &'a BuildFiles,
+    purpose: Purpose,
 ) -> Result<(Opened<D::File>, &'a str), &'a str>
     ensures { IfOk result (λ found.
         D.leads (string_bytes files.now.first) (string_bytes found.0.path) found.0.source
         ⊎ D.leads (string_bytes files.now.second) (string_bytes found.0.path) found.0.source) }
 {
-    match folder.open(&files.first) {
+    match folder.open(&files.first, purpose) {
         Ok(opened) => Ok((opened, files.first.as_str())),
         Err(CannotOpen::Failed) => Err(files.first.as_str()),
-        Err(CannotOpen::Absent) => match folder.open(&files.second) {
+        Err(CannotOpen::Absent) => match folder.open(&files.second, purpose) {
             Ok(opened) => Ok((opened, files.second.as_str())),
             Err(_) => Err(files.second.as_str()),
         },
@@ -168,7 +180,7 @@ fn edit_opened<D: Folder, S, O: Sink, E: Sink>(
     ensures shown { is_shown flags.now.stdout asked.passes ≡ true
         → D.did devices.old.draft.folder [] devices.new.draft.folder }
 {
-    if flags.stdout || is_query(asked.passes.as_slice()) {
+    if purpose_of(flags, &asked) == Purpose::Read {
         let mut source = opened.source;
         return edit_shown(alloc, asked, name, &mut source, &mut devices.console);
     }

@@ -1,5 +1,5 @@
 -- The steps of a replacement.
-use Rattle.std.proofs.Common.{◌≡◌, ◌≢◌, ◌⊎◌, ℕ, false, List, [], ◌∷◌, ◌++◌, Result, Ok, Err, is_ok, OnOk, OnErr, IsErrAnd, refl, sym, ◌∙◌, ap, subst, inl, inr, append-nil}
+use Rattle.std.proofs.Common.{◌≡◌, ◌≢◌, ◌⊎◌, ℕ, false, List, [], ◌∷◌, ◌++◌, Result, Ok, Err, is_ok, OnOk, OnErr, IsErrAnd, refl, sym, ◌∙◌, ap, subst, inl, inr, ⊎_elim, append-nil}
 use Rattle.std.specs.Prelude.{⊤}
 use Rattle.bz_folder.specs.Files.{Files, Make, Write, Remove, Event, SameBut, HasBytes, After, Along, AnyFails}
 use Rattle.bz_folder.specs.Moments.{along_weaker, at_one, at_append, any_right}
@@ -53,6 +53,42 @@ makes path removed made = record { written = written made; whole = on_ok made; c
     cause : (made : Result ⊤ Failed) → OnErr made ((Unmade ≡ Broken) ⊎ AnyFails ((Remove path, is_ok removed) ∷ (Make path, is_ok made) ∷ []))
     cause (Ok x) = tt
     cause (Err x) = inr (inr (inl refl))
+
+-- where it could not be made, what lies there is removed, and it is made again
+pub makes_again : (path : List ℕ) (first removed made : Result ⊤ Failed)
+    → IsSent Unmade path [] made ((Make path, is_ok first) ∷ (Remove path, is_ok removed) ∷ (Make path, is_ok made) ∷ [])
+makes_again path first removed made = record { written = written; whole = then.whole; cause = cause made then.cause }
+  where
+    rest : List Event
+    rest = (Remove path, is_ok removed) ∷ (Make path, is_ok made) ∷ []
+
+    then : IsSent Unmade path [] made rest
+    then = makes path removed made
+
+    written : (sent : List ℕ) (start : Files) → sent ≡ []
+        → Along (SameBut path start) (λ now. OnOk made (HasBytes path (sent ++ []) now)) ((Make path, is_ok first) ∷ rest) start
+    written sent start e =
+        at_append path (λ m. ⊤) (λ now. OnOk made (HasBytes path (sent ++ []) now)) ((Make path, is_ok first) ∷ []) rest start
+        (at_one path (λ m. ⊤) (Make path) (is_ok first) start refl (λ m h. tt))
+        (λ m q. then.written sent m e)
+
+    cause : (made : Result ⊤ Failed) → OnErr made ((Unmade ≡ Broken) ⊎ AnyFails ((Remove path, is_ok removed) ∷ (Make path, is_ok made) ∷ []))
+        → OnErr made ((Unmade ≡ Broken) ⊎ AnyFails ((Make path, is_ok first) ∷ (Remove path, is_ok removed) ∷ (Make path, is_ok made) ∷ []))
+    cause (Ok x) h = tt
+    cause (Err x) h = ⊎_elim (λ b. inl b) (λ a. inr (inr a)) h
+
+-- what lies there could not be removed
+pub makes_nothing : (path : List ℕ) (first removed result : Result ⊤ Failed) (P : Failed → Type 0) → IsErrAnd result P → is_ok first ≡ false
+    → IsSent Unmade path [] result ((Make path, is_ok first) ∷ (Remove path, is_ok removed) ∷ [])
+makes_nothing path first removed (Ok x) P h fails = absurd h
+makes_nothing path first removed (Err x) P h fails = record {
+  written = λ sent start e.
+      at_append path (λ m. ⊤) (λ m. ⊤) ((Make path, is_ok first) ∷ []) ((Remove path, is_ok removed) ∷ []) start
+      (at_one path (λ m. ⊤) (Make path) (is_ok first) start refl (λ m h. tt))
+      (λ m q. at_one path (λ m. ⊤) (Remove path) (is_ok removed) m refl (λ n h. tt));
+  whole = tt;
+  cause = inr (inl fails);
+}
 
 -- bytes are written after those that are there
 pub sends : (stage : Stage) (path bytes : List ℕ) (es : List Event) (before after : Result ⊤ Failed) → (x : ⊤) → before ≡ Ok x

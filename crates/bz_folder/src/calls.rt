@@ -14,8 +14,13 @@ use bz_devices::device::Failed;
 fn make_empty<D: Folder>(folder: &mut D, path: &str) -> Result<(), Failed>
     ensures { (events : List Event) × D.did folder.old events folder.new × IsSent Unmade path.now [] result events }
 {
-    folder.remove(path)?;
-    folder.make(path)
+    match folder.make(path) {
+        Ok(()) => Ok(()),
+        Err(_) => {
+            folder.remove(path)?;
+            folder.make(path)
+        }
+    }
 }
 
 /// Makes the temporary file where it is not made.

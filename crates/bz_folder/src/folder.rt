@@ -14,6 +14,15 @@ pub enum CannotOpen {
     Failed,
 }
 
+/// What a file is opened for.
+#[derive(Clone, Copy, Debug, PartialEq, Eq)]
+pub enum Purpose {
+    /// It is read, and stays.
+    Read,
+    /// It is read, and may be replaced.
+    Replace,
+}
+
 /// A file that is open to be read, and what its replacement needs to know.
 #[derive(Drop)]
 pub struct Opened<F> {
@@ -38,8 +47,11 @@ pub trait Folder {
     // bytes are read from this source.
     ghost leads: { List ℕ → List ℕ → Self.File → Type 0 };
 
-    /// Opens a file to read it. This changes no file.
-    fn open(&self, path: &str) -> Result<Opened<Self::File>, CannotOpen>
+    /// Opens a regular file to read it. This changes no file.
+    ///
+    /// A file that may be replaced is opened by one run at a time: no other run replaces it before
+    /// its source is dropped, and another that opens it so waits until then.
+    fn open(&self, path: &str, purpose: Purpose) -> Result<Opened<Self::File>, CannotOpen>
         ensures { IfOk result (λ opened. leads path.now (string_bytes opened.path) opened.source) };
 
     /// Makes an empty file, open to be written, where nothing is: a link at the path is not

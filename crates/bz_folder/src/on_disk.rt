@@ -3,15 +3,16 @@
 ghost use Rattle.std.specs.Prelude.{◌≡◌, ⊤};
 ghost use Rattle.bz_folder.specs.Tally.{no_calls, Tallies, tallies_nothing, tallies_more};
 
-use crate::folder::{CannotOpen, Folder, Opened};
+use crate::folder::{CannotOpen, Folder, Opened, Purpose};
 use crate::tally::Tally;
 use bz_devices::device::Failed;
 use bz_devices::std_device::FromRead;
 use std::alloc::Global;
-use std::fs::{File, Files, OpenFile, OpenOptions, Permissions};
+use std::cell::Cell;
+use std::fs::{File, Files, Metadata, OpenOptions, Permissions};
 use std::io::{ErrorKind, Write};
 use std::marker::Model;
-use std::os::unix::fs::{OpenOptionsExt, PermissionsExt};
+use std::os::unix::fs::{MetadataExt, OpenOptionsExt, PermissionsExt};
 use std::{fs, io};
 
 /// The permission bits of a new temporary file: its owner's alone.
@@ -20,18 +21,40 @@ const PRIVATE: u32 = 0o600;
 /// The permission bits of a file's mode.
 const PERMISSION_BITS: u32 = 0o7777;
 
-/// The files of a system, and the file that was made last, while it is open.
+/// How often a file is opened at most, where each time another run replaced it before it was
+/// locked. On a file system whose inode numbers do not last this ends.
+const MOST_TRIES: u32 = 10_000;
+
+/// The file that was made last, while it is open.
+#[derive(Drop)]
+struct Made {
+    file: File,
+    /// How many bytes were written to it.
+    size: u64,
+}
+
+impl Made {
+    /// Writes all of the bytes at the end, and says whether that succeeded.
+    fn write_all(&mut self, bytes: &[u8]) -> bool {
+        self.size = self.size.saturating_add(bytes.len() as u64);
+        self.file.write_all(bytes).is_ok()
+    }
+}
+
+/// The files of a system, the file that was made last, and a look at the one that was opened last.
 ///
 /// Contracts see how many calls it made.
 #[derive(Drop)]
-pub struct OnDisk<R: Files> {
+pub struct OnDisk<R: Files<File = File>> {
     alloc: Global,
     files: R,
-    open: Option<R::File>,
+    made: Option<Made>,
+    /// The file that may be replaced, as it was before it was read.
+    seen: Cell<Option<Metadata>>,
     tally: Tally,
 }
 
-impl<R: Files> Model for OnDisk<R> {
+impl<R: Files<File = File>> Model for OnDisk<R> {
     ghost use Rattle.bz_folder.specs.declared.tally.Tally.{Tally};
 
     ghost Value = { Tally };
@@ -39,7 +62,7 @@ impl<R: Files> Model for OnDisk<R> {
     ghost view = { λ d. d.tally };
 }
 
-impl<R: Files + Drop> OnDisk<R> {
+impl<R: Files<File = File> + Drop> OnDisk<R> {
     /// The files that a handle of std reaches; no call was made.
     pub fn new(alloc: Global, files: R) -> OnDisk<R>
         ensures { result ≡ no_calls }
@@ -47,7 +70,8 @@ impl<R: Files + Drop> OnDisk<R> {
         OnDisk {
             alloc,
             files,
-            open: None,
+            made: None,
+            seen: Cell::new(None),
             tally: Tally {
                 makes: 0,
                 writes: 0,
@@ -61,30 +85,122 @@ impl<R: Files + Drop> OnDisk<R> {
     }
 }
 
-impl<R: Files> OnDisk<R> {
-    /// The path of the file itself, where a link stands at the end of the path.
-    fn resolved(&self, path: &str) -> io::Result<String> {
-        if fs::symlink_metadata(&self.files, path)?.is_symlink() {
-            return Ok(self.files.canonicalize(self.alloc, path)?.into_string());
+/// A folder is not read as a file, a pipe would be waited for, and a device is not to be replaced.
+fn require_regular(there: &Metadata) -> io::Result<()> {
+    if there.is_file() {
+        return Ok(());
+    }
+    Err(io::Error::from(ErrorKind::InvalidInput))
+}
+
+/// Whether two looks were at one file.
+fn is_same_file(one: &Metadata, other: &Metadata) -> bool {
+    one.dev() == other.dev() && one.ino() == other.ino()
+}
+
+/// Whether two looks were at one file, and neither its text nor its permission bits changed between
+/// them.
+fn is_unchanged(before: &Metadata, now: &Metadata) -> bool {
+    is_same_file(before, now)
+        && before.len() == now.len()
+        && before.ctime() == now.ctime()
+        && before.ctime_nsec() == now.ctime_nsec()
+}
+
+impl<R: Files<File = File>> OnDisk<R> {
+    /// Opens a file that stays.
+    fn open_to_read(&self, path: &str) -> io::Result<Opened<FromRead<File>>> {
+        let there = fs::metadata(&self.files, path)?;
+        require_regular(&there)?;
+        Ok(Opened {
+            source: FromRead::new(File::open(&self.files, path)?),
+            mode: there.permissions().mode() & PERMISSION_BITS,
+            path: String::from_str(self.alloc, path)?,
+        })
+    }
+
+    /// Opens a file that may be replaced, when no other run holds it.
+    fn open_to_replace(&self, path: &str) -> io::Result<Opened<FromRead<File>>> {
+        for _ in 0..MOST_TRIES {
+            let path = self.resolved(path)?;
+            let file = self.locked(&path)?;
+            let own = file.metadata()?;
+            // The run that held the lock before may have put another file at the path; so its text
+            // is what is to be edited.
+            if is_same_file(&own, &fs::symlink_metadata(&self.files, &path)?) {
+                let mode = own.permissions().mode() & PERMISSION_BITS;
+                self.seen.set(Some(own));
+                return Ok(Opened {
+                    source: FromRead::new(file),
+                    mode,
+                    path,
+                });
+            }
         }
+        Err(io::Error::from(ErrorKind::InvalidInput))
+    }
+
+    /// The path of a regular file itself, where a link stands at the end of the path.
+    fn resolved(&self, path: &str) -> io::Result<String> {
+        let there = fs::symlink_metadata(&self.files, path)?;
+        if there.is_symlink() {
+            let file = self.files.canonicalize(self.alloc, path)?.into_string();
+            require_regular(&fs::symlink_metadata(&self.files, &file)?)?;
+            return Ok(file);
+        }
+        require_regular(&there)?;
         Ok(String::from_str(self.alloc, path)?)
     }
 
-    /// Opens a file to read it.
-    fn opened(&self, path: &str) -> io::Result<Opened<FromRead<R::File>>> {
+    /// The file, open and locked until it is closed. Where the file system has no locks it is open
+    /// alone: then only the looks before the rename keep runs apart.
+    fn locked(&self, path: &str) -> io::Result<File> {
         let file = File::open(&self.files, path)?;
-        let mode = file.metadata()?.permissions().mode() & PERMISSION_BITS;
-        let path = self.resolved(path)?;
-        Ok(Opened {
-            source: FromRead::new(file),
-            mode,
-            path,
-        })
+        if file.lock().is_ok() {
+            return Ok(file);
+        }
+        self.locked_to_write(path).or(Ok(file))
+    }
+
+    /// The file, open to be written too: some network file systems lock no other.
+    fn locked_to_write(&self, path: &str) -> io::Result<File> {
+        let file = OpenOptions::new()
+            .read(true)
+            .write(true)
+            .open(&self.files, path)?;
+        file.lock()?;
+        Ok(file)
+    }
+
+    /// Closes the file that was made last. Is it at the path, with all that was written? Without
+    /// locks another run may have removed it and made its own there; and some file systems tell
+    /// only after the close that a write failed.
+    fn is_whole_at(&self, made: Option<Made>, path: &str) -> bool {
+        let Some(made) = made else {
+            return false;
+        };
+        let Ok(own) = made.file.metadata() else {
+            return false;
+        };
+        drop(made.file);
+        match fs::symlink_metadata(&self.files, path) {
+            Ok(there) => is_same_file(&own, &there) && there.len() == made.size,
+            Err(_) => false,
+        }
+    }
+
+    /// Is the file at the path the one that was read, unchanged? What another program wrote or put
+    /// there meanwhile is not lost.
+    fn is_as_seen(&self, path: &str) -> bool {
+        match (self.seen.take(), fs::symlink_metadata(&self.files, path)) {
+            (Some(seen), Ok(there)) => is_unchanged(&seen, &there),
+            _ => false,
+        }
     }
 }
 
-impl<R: Files> Folder for OnDisk<R> {
-    type File = FromRead<R::File>;
+impl<R: Files<File = File>> Folder for OnDisk<R> {
+    type File = FromRead<File>;
 
     ghost did = { λ old events new. Tallies old new events };
 
@@ -95,8 +211,12 @@ impl<R: Files> Folder for OnDisk<R> {
 
     ghost did_more = { λ a b c es fs p q. tallies_more a b c es fs p q };
 
-    fn open(&self, path: &str) -> Result<Opened<FromRead<R::File>>, CannotOpen> {
-        match self.opened(path) {
+    fn open(&self, path: &str, purpose: Purpose) -> Result<Opened<FromRead<File>>, CannotOpen> {
+        let opened = match purpose {
+            Purpose::Read => self.open_to_read(path),
+            Purpose::Replace => self.open_to_replace(path),
+        };
+        match opened {
             Ok(opened) => Ok(opened),
             Err(error) => match error.kind() {
                 ErrorKind::NotFound | ErrorKind::NotADirectory => Err(CannotOpen::Absent),
@@ -113,7 +233,7 @@ impl<R: Files> Folder for OnDisk<R> {
             .open(&self.files, path);
         match made {
             Ok(file) => {
-                self.open = Some(file);
+                self.made = Some(Made { file, size: 0 });
                 self.tally.makes = self.tally.makes.saturating_add(1);
                 Ok(())
             }
@@ -125,8 +245,8 @@ impl<R: Files> Folder for OnDisk<R> {
     }
 
     fn write(&mut self, _path: &str, bytes: &[u8]) -> Result<(), Failed> {
-        let written = match &mut self.open {
-            Some(file) => file.write_all(bytes).is_ok(),
+        let written = match &mut self.made {
+            Some(made) => made.write_all(bytes),
             None => false,
         };
         if !written {
@@ -139,8 +259,11 @@ impl<R: Files> Folder for OnDisk<R> {
     }
 
     fn set_mode(&mut self, _path: &str, mode: u32) -> Result<(), Failed> {
-        let set = match &self.open {
-            Some(file) => file.set_permissions(Permissions::from_mode(mode)).is_ok(),
+        let set = match &self.made {
+            Some(made) => made
+                .file
+                .set_permissions(Permissions::from_mode(mode))
+                .is_ok(),
             None => false,
         };
         if !set {
@@ -152,8 +275,9 @@ impl<R: Files> Folder for OnDisk<R> {
     }
 
     fn rename(&mut self, from: &str, to: &str) -> Result<(), Failed> {
-        self.open = None;
-        if fs::rename(&self.files, from, to).is_err() {
+        let made = self.made.take();
+        let may_rename = self.is_whole_at(made, from) && self.is_as_seen(to);
+        if !may_rename || fs::rename(&self.files, from, to).is_err() {
             self.tally.failures = self.tally.failures.saturating_add(1);
             return Err(Failed);
         }
@@ -162,7 +286,7 @@ impl<R: Files> Folder for OnDisk<R> {
     }
 
     fn remove(&mut self, path: &str) -> Result<(), Failed> {
-        self.open = None;
+        self.made = None;
         if let Err(error) = fs::remove_file(&self.files, path) {
             if error.kind() != ErrorKind::NotFound {
                 self.tally.failures = self.tally.failures.saturating_add(1);

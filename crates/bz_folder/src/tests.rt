@@ -2,7 +2,7 @@
 
 use crate::author::Author;
 use crate::draft::Draft;
-use crate::folder::{CannotOpen, Folder, Opened};
+use crate::folder::{CannotOpen, Folder, Opened, Purpose};
 use crate::replace::replace_file;
 use crate::trouble::Trouble;
 use bz_devices::device::{Failed, Sink};
@@ -58,7 +58,7 @@ impl Folder for Notes {
 
     ghost did_more = { λ a b c es fs p q. tt };
 
-    fn open(&self, _path: &str) -> Result<Opened<FromRead<Empty>>, CannotOpen> {
+    fn open(&self, _path: &str, _purpose: Purpose) -> Result<Opened<FromRead<Empty>>, CannotOpen> {
         Err(CannotOpen::Absent)
     }
 
@@ -124,7 +124,7 @@ fn replaced(
 #[test]
 fn a_short_text(rt: HostRuntime) -> Result<(), Fail> {
     let cases = [
-        (Ok(true), Ok(true), *b"rmwsn   "),
+        (Ok(true), Ok(true), *b"mwsn    "),
         (Ok(false), Ok(false), *b"        "),
         (Err(Failed), Err(Trouble::Clean), *b"        "),
     ];
@@ -137,9 +137,9 @@ fn a_short_text(rt: HostRuntime) -> Result<(), Fail> {
 #[test]
 fn a_long_text(rt: HostRuntime) -> Result<(), Fail> {
     let cases = [
-        (Ok(true), Ok(true), *b"rmwwsn  "),
-        (Ok(false), Ok(false), *b"rmwr    "),
-        (Err(Failed), Err(Trouble::Clean), *b"rmwr    "),
+        (Ok(true), Ok(true), *b"mwwsn   "),
+        (Ok(false), Ok(false), *b"mwr     "),
+        (Err(Failed), Err(Trouble::Clean), *b"mwr     "),
     ];
     for (answer, want, calls) in cases {
         assert_eq!(rt; replaced(rt.alloc(), LONG, answer, 0)?, (want, calls));
@@ -150,12 +150,10 @@ fn a_long_text(rt: HostRuntime) -> Result<(), Fail> {
 #[test]
 fn each_call_fails(rt: HostRuntime) -> Result<(), Fail> {
     let cases = [
-        (1, *b"rr      "),
-        (2, *b"rmr     "),
-        (3, *b"rmwr    "),
-        (4, *b"rmwwr   "),
-        (5, *b"rmwwsr  "),
-        (6, *b"rmwwsnr "),
+        (2, *b"mwr     "),
+        (3, *b"mwwr    "),
+        (4, *b"mwwsr   "),
+        (5, *b"mwwsnr  "),
     ];
     for (fails, calls) in cases {
         assert_eq!(rt;
@@ -163,7 +161,10 @@ fn each_call_fails(rt: HostRuntime) -> Result<(), Fail> {
             (Err(Trouble::Clean), calls)
         );
     }
-    let left = replaced(rt.alloc(), LONG, Ok(false), 4)?;
-    assert_eq!(rt; left, (Err(Trouble::LeftBehind), *b"rmwr    "));
+    // What lay there is removed.
+    let again = replaced(rt.alloc(), LONG, Ok(true), 1)?;
+    assert_eq!(rt; again, (Ok(true), *b"mrmwwsn "));
+    let left = replaced(rt.alloc(), LONG, Ok(false), 3)?;
+    assert_eq!(rt; left, (Err(Trouble::LeftBehind), *b"mwr     "));
     Ok(())
 }

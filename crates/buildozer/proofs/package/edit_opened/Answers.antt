@@ -5,8 +5,8 @@ use Rattle.buildozer.proofs.Edited.{untouched, of_file}
 use Rattle.buildozer.proofs.package.edit_opened.Goals as goal
 use Rattle.buildozer.proofs.package.edit_opened.Goals.{then-replaced+then-not-flags, else-replaced}
 
-pub returns-then-flags : goal.returns-then-flags
-returns-then-flags g c = record { safe = untouched g.D.Folder.did (MayHold g.D.Folder.leads c.args.asked) g.met.D.Folder.did_nothing c.args.devices.now.draft.folder; status = c.edit_shown.ensures }
+pub returns-then-eq : goal.returns-then-eq
+returns-then-eq g c = record { safe = untouched g.D.Folder.did (MayHold g.D.Folder.leads c.args.asked) g.met.D.Folder.did_nothing c.args.devices.now.draft.folder; status = c.edit_shown.ensures }
 
 pub returns-after-replaced-clause-safe : goal.returns-after-replaced-clause-safe
 returns-after-replaced-clause-safe g c =
