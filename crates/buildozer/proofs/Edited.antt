@@ -13,7 +13,7 @@ use Rattle.buildozer.specs.declared.file_run.Ended.TheVariants.{Told, Failed, No
 use Rattle.buildozer.specs.Runs.{Asked, IsRun, IsKeptText, is_kept, is_whole}
 use Rattle.buildozer.specs.FileRuns.{GaveText, Gives}
 use Rattle.buildozer.specs.Files.{IsFileOf, MayBe, MayHold, MayHoldNothing, IsEdited}
-use Rattle.buildozer.specs.Handled.{IsStatusOver, IsFileStatus}
+use Rattle.buildozer.specs.Handled.{IsStatusOver, IsFileStatus, IsStatusAt}
 use Rattle.bz_engine.specs.Outcome.{status_of}
 use Rattle.bz_script.specs.Groups.{Step}
 use Rattle.bz_script.specs.Names.{IsBuildPath}
@@ -118,14 +118,16 @@ of_package did leads gave keep_going script task is_asked a b r =
     (λ file content may. record { task = task; is_asked = is_asked; may = may }) a b r
 
 -- a report of a run in which nothing changed is not kept
-three_unchanged : (failed changed : Bool) → (if failed then 2 else (if changed then 0 else 3)) ≡ 3 → changed ≡ false
+abbrev status_by : Bool → Bool → ℕ
+status_by failed changed = if failed then 2 else (if changed then 0 else 3)
+
+three_unchanged : (failed changed : Bool) → status_by failed changed ≡ 3 → changed ≡ false
 three_unchanged true changed is = absurd cc
 three_unchanged false true is = absurd cc
 three_unchanged false false is = refl
 
 unchanged_unkept : (whole changed rest : Bool) → changed ≡ false → (whole && (changed && rest)) ≡ false
-unchanged_unkept true true rest is = is
-unchanged_unkept true false rest is = refl
+unchanged_unkept true changed rest is = ap (λ b. b && rest) is
 unchanged_unkept false changed rest is = refl
 
 pub three_unkept : (keep_going : Bool) (report : Report) → status_of report ≡ 3 → is_kept keep_going report ≡ false
@@ -146,3 +148,13 @@ pub shown_status : {F : Type 0} (leads : List ℕ → List ℕ → F → Type 0)
     → (status : ℕ) → IsStatusOver gave asked source source_after status → (status ≡ 2) ⊎ IsFileStatus leads gave asked status
 shown_status leads gave asked file source source_after is_its status is =
     ⊎_elim (λ failed. inl failed.0) (λ ran. inr (record { file = file; source = source; source_after = source_after; is_its = is_its; ran = ran })) is
+
+-- a package that failed after its run
+pub failed_after : {F S : Type 0} (leads : List ℕ → List ℕ → F → Type 0) (gave : F → List (List ℕ) → F → Type 0) (input_gave : S → List (List ℕ) → S → Type 0) (home : Package) (asked : Asked)
+    (input input_after : S) (status : ℕ) → IsStatusAt leads gave input_gave home asked input input_after status → IsStatusAt leads gave input_gave home asked input input_after 2
+failed_after leads gave input_gave None asked input input_after status is = ⊎_elim (λ failed. inl (refl, failed.1, failed.2)) (λ ran. inl (refl, ran.read, ran.gave_is)) is
+failed_after leads gave input_gave (Some folder) asked input input_after status is = (is.0, inl refl)
+
+-- one of two values, as a function of the test
+abbrev pub if_reads : {P : Type 0} → P → P → Bool → P
+if_reads one other is = if is then one else other

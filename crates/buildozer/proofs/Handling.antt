@@ -22,7 +22,7 @@ joined false false status = refl
 
 -- two packages have status 3 together where none of them has 2 or 0
 three_of : (two_first two_then none_first none_then : Bool)
-    → (if two_first || (two_then || false) then 2 else (if none_first || (none_then || false) then 0 else 3)) ≡ 3
+    → status_from (two_first || (two_then || false)) (none_first || (none_then || false)) ≡ 3
     → (two_first ≡ false) × (two_then ≡ false) × (none_first ≡ false) × (none_then ≡ false)
 three_of true two_then none_first none_then is = absurd cc
 three_of false true none_first none_then is = absurd cc

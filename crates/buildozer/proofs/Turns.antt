@@ -45,3 +45,7 @@ test_next test front x following all is holds = all_next test front x following 
 -- the value of an `Ok`
 pub ok_is : {T F : Type 0} (x y : T) → (let r : Result T F = Ok x in r) ≡ Ok y → x ≡ y
 ok_is x y same = cc
+
+-- what holds of two values holds of those that they are
+pub at_end : {A B : Type 0} (P : A → B → Type 0) {a a2 : A} {b b2 : B} → a2 ≡ a → b2 ≡ b → P a b → P a2 b2
+at_end P {a} {a2} {b} {b2} p q holds = subst (λ x. P x b2) (sym p) (subst (P a) (sym q) holds)

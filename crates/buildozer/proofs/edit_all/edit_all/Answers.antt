@@ -6,7 +6,7 @@ use Rattle.buildozer.specs.Handled.{is_last, IsStatusOfAll}
 use Rattle.buildozer.specs.Program.{MayHold, is_shown}
 use Rattle.buildozer.proofs.Edited.{untouched, of_package}
 use Rattle.buildozer.proofs.Handling.{goes_on_after, handled_none, handled_more, handled_all, handled_last, three_both}
-use Rattle.buildozer.proofs.Turns.{turn, end, contains_next, test_next, ok_is}
+use Rattle.buildozer.proofs.Turns.{turn, end, contains_next, test_next, ok_is, at_end}
 use Rattle.buildozer.proofs.edit_all.edit_all.Goals as goal
 use Rattle.buildozer.proofs.edit_all.edit_all.Goals.{in-None, else-status-eq-FAILED-via-then-status-eq-FAILED+else-not-flags, else-status-eq-FAILED-via-else-status-eq-FAILED, in-Some+then-status-eq-FAILED+then-not-flags}
 
@@ -67,19 +67,17 @@ pub returns-clause-status : goal.returns-clause-status
 returns-clause-status g c =
     elim c.match-next.branch [
       | in-None w ↦
-          subst (λ d. IsStatusOfAll g.D.Folder.leads g.D.File.Source.gave g.S.Source.gave c.args.flags.now.k c.args.script.items c.args.devices.now.input d.input _) (sym w.devices-is)
-          (subst (IsStatusOfAll g.D.Folder.leads g.D.File.Source.gave g.S.Source.gave c.args.flags.now.k c.args.script.items c.args.devices.now.input c.loop-home.devices.input) (sym w.whole-is)
+          at_end (λ d n. IsStatusOfAll g.D.Folder.leads g.D.File.Source.gave g.S.Source.gave c.args.flags.now.k c.args.script.items c.args.devices.now.input d.input n) w.devices-is w.whole-is
           (handled_all g.D.Folder.leads g.D.File.Source.gave g.S.Source.gave c.args.flags.now.k c.args.script.items c.args.devices.now.input _ c.loop-home.devices.input c.loop-home.whole c.loop-home.invariant.handled
-          (end _ _ _ c.in_ok-packages.ensures c.loop-home.yielded _ _ _ c.into_iter-home-iterator.ensures.into_iter_gives.0 c.loop-home.yielded_by _ c.next.ensures.steps w.in-None.is)))
+          (end _ _ _ c.in_ok-packages.ensures c.loop-home.yielded _ _ _ c.into_iter-home-iterator.ensures.into_iter_gives.0 c.loop-home.yielded_by _ c.next.ensures.steps w.in-None.is))
       | in-Some+then-status-eq-FAILED+then-not-flags w ↦
-          subst (λ d. IsStatusOfAll g.D.Folder.leads g.D.File.Source.gave g.S.Source.gave c.args.flags.now.k c.args.script.items c.args.devices.now.input d.input _) (sym w.devices-is)
-          (subst (IsStatusOfAll g.D.Folder.leads g.D.File.Source.gave g.S.Source.gave c.args.flags.now.k c.args.script.items c.args.devices.now.input w.edit_package-status.new.devices.input) (sym w.whole-is)
+          at_end (λ d n. IsStatusOfAll g.D.Folder.leads g.D.File.Source.gave g.S.Source.gave c.args.flags.now.k c.args.script.items c.args.devices.now.input d.input n) w.devices-is w.whole-is
           (handled_last g.D.Folder.leads g.D.File.Source.gave g.S.Source.gave c.args.flags.now.k c.args.script.items c.args.devices.now.input _ _ _ c.loop-home.devices.input w.edit_package-status.new.devices.input
           c.loop-home.whole _ w.edit_package-status.result c.loop-home.invariant.handled
           (turn _ _ _ c.in_ok-packages.ensures c.loop-home.yielded _ _ _ c.into_iter-home-iterator.ensures.into_iter_gives.0 c.loop-home.yielded_by _ c.next.ensures.steps (w.in-Some.home, w.in-Some.passes) w.in-Some.is)
           w.edit_package-status.ensures.status
           (ap (λ k. is_last k w.edit_package-status.result) w.if-not-flags.true ∙ ap (is_last false) w.if-status-eq-FAILED.true)
-          w.whole_status-whole-in-loop-home.ensures))
+          w.whole_status-whole-in-loop-home.ensures)
     ]
 
 pub returns-clause-idle : goal.returns-clause-idle
