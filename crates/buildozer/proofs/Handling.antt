@@ -126,6 +126,7 @@ module _ {F S : Type 0} (leads : List ℕ → List ℕ → F → Type 0) (gave :
   pub three_both : (done : List Task) (asked : Asked) (input input_then : S) (whole next status : ℕ) → HandledTo done input whole → IsStatusOf leads gave input_gave asked input input_then status
       → next ≡ whole_status (whole ∷ status ∷ []) → next ≡ 3 → (whole ≡ 3) × (status ≡ 3)
   three_both done asked input input_then whole next status before is_status next_is three =
-      let parts = three_of (whole == 2) (status == 2) (whole == 0) (status == 0) (sym next_is ∙ three) in
-      (three_from (some_is 2 before.statuses) (some_is 0 before.statuses) whole before.whole_is parts.0 parts.2,
-      package_three asked.home asked input input_then status is_status parts.1 parts.3)
+      let parts = three_of (whole == 2) (status == 2) (whole == 0) (status == 0) (sym next_is ∙ three) in (
+        three_from (some_is 2 before.statuses) (some_is 0 before.statuses) whole before.whole_is parts.0 parts.2,
+        package_three asked.home asked input input_then status is_status parts.1 parts.3,
+      )

@@ -101,6 +101,6 @@ pub status_done : (home : Package) (passes : Script) (keep_going : Bool) (depth 
     → IsDoneWhole home passes depth file text statements → status_of report ≢ 2
 status_done home passes keep_going depth file text report statements run all =
     let is : IsOutcome home passes keep_going depth file text (told_of home passes statements None) =
-        inl (record { statements = statements; fault = None; read = all.read; calm = λ h. all.calm; text_is = all.text_is; told_is = refl }) in
+    inl (record { statements = statements; fault = None; read = all.read; calm = λ h. all.calm; text_is = all.text_is; told_is = refl }) in
     let same = (one_outcome home passes keep_going depth file text text (told_by report) (told_of home passes statements None) run is).1 in
     not_two report.failed report.changed (ap (λ (t : Told). t.failed) same ∙ ap (λ b. b || some_missing (meaning home) passes (slots_of statements)) all.calm ∙ all.found)

@@ -37,8 +37,8 @@ stays home [] s h = refl
 stays home (p ∷ ps) s h =
     let both = and_parts (not (marks p.target s)) (list_all (λ q. not (marks q.target s)) ps) h in
     let here : slot_after_pass (meaning home) p (Some s) ≡ Some s =
-        ap (λ b. (slot_after_commands (meaning home) p.commands (with_mark b (Some s))).slot) (not_true (marks p.target s) both.0)
-        ∙ ap (λ x. x.slot) (unmarked_commands home p.commands (Some s)) in
+    ap (λ b. (slot_after_commands (meaning home) p.commands (with_mark b (Some s))).slot) (not_true (marks p.target s) both.0)
+    ∙ ap (λ x. x.slot) (unmarked_commands home p.commands (Some s)) in
     ap (slot_after (meaning home) ps) here ∙ stays home ps s both.1
 
 -- what is left of slots and of more of them
@@ -96,7 +96,7 @@ pub written_of : (home : Package) (passes : Script) (keep_going : Bool) (depth :
     → (text ≡ text_of (left_by home passes front ++ s ∷ left_by home passes back)) × StandsIn (layout_text s) text
 written_of home passes keep_going depth file text told run front back s query are h =
     let is = edited_text home passes keep_going depth file text told run ∙ text_left_by home passes (edited run) query
-        ∙ ap (λ ss. text_of (left_by home passes ss)) are ∙ ap text_of (unmarked_stays home passes front back s h) in
+    ∙ ap (λ ss. text_of (left_by home passes ss)) are ∙ ap text_of (unmarked_stays home passes front back s h) in
     (is, subst (StandsIn (layout_text s)) (sym is) (text_stands (left_by home passes front) s (left_by home passes back)))
 
 -- a run that comes to its end edits all statements of a file without fault

@@ -227,18 +227,20 @@ mutual
       let start = opening_word opener.kind opener.text s well.0 ∙ ap (λ t. bracket_word t ∷ []) (sym (group_opening s b (has_for owns))) in
       let end = closing_word closer.kind closer.text s well.1 ∙ ap (λ t. bracket_word t ∷ []) (sym (group_closing s b (has_for owns))) in
       let all : words_among (opener ∷ elems_tokens inner ++ closer ∷ []) ≡ bracket_word (opening kind) ∷ words_among (elems_tokens inner) ++ bracket_word (closing kind) ∷ [] =
-          ap (λ words. words ++ words_among (elems_tokens inner ++ closer ∷ [])) start
-          ∙ ap (λ words. bracket_word (opening kind) ∷ words) (words_append (elems_tokens inner) (closer ∷ []))
-          ∙ ap (λ words. bracket_word (opening kind) ∷ words_among (elems_tokens inner) ++ (words ++ [])) end in
+      ap (λ words. words ++ words_among (elems_tokens inner ++ closer ∷ [])) start
+      ∙ ap (λ words. bracket_word (opening kind) ∷ words) (words_append (elems_tokens inner) (closer ∷ []))
+      ∙ ap (λ words. bracket_word (opening kind) ∷ words_among (elems_tokens inner) ++ (words ++ [])) end in
       (group_words kind owns within.1 ∙ ap (λ words. bracket_word (opening kind) ∷ words ++ bracket_word (closing kind) ∷ []) within.0 ∙ sym all, tt)
 
   elems_words : (xs : Elems) (b : Preceding) → AreWell b xs → (owns_words (elems_own b xs) ≡ words_among (elems_tokens xs)) × AreCommas (elems_own b xs)
   elems_words no_elems b well = (refl, tt)
   elems_words (elem x xs) b well =
       let here = elem_words x b well.0 in
-      let rest = elems_words xs (preceding b (elem_own b x)) well.1 in
-      (ap (λ words. words ++ owns_words (elems_own (preceding b (elem_own b x)) xs)) here.0
-      ∙ ap (λ words. words_among (elem_tokens x) ++ words) rest.0 ∙ sym (words_append (elem_tokens x) (elems_tokens xs)), (here.1, rest.1))
+      let rest = elems_words xs (preceding b (elem_own b x)) well.1 in (
+        ap (λ words. words ++ owns_words (elems_own (preceding b (elem_own b x)) xs)) here.0
+            ∙ ap (λ words. words_among (elem_tokens x) ++ words) rest.0 ∙ sym (words_append (elem_tokens x) (elems_tokens xs)),
+        (here.1, rest.1),
+      )
 
 -- outside brackets there is one cell
 one_cell : (last : Last) (os : List Own) → other_cells (entries_of last (own_items true os)) ≡ []

@@ -41,7 +41,7 @@ loop-home-preserved g c =
           c.whole_status-whole-in-loop-home.ensures;
       idle = λ three.
           let both = three_both g.D.Folder.leads g.D.File.Source.gave g.S.Source.gave c.args.flags.now.k c.args.script.items c.args.devices.now.input _ _ c.loop-home.devices.input c.edit_package-status.new.devices.input
-              c.loop-home.whole _ c.edit_package-status.result inv.handled c.edit_package-status.ensures.status c.whole_status-whole-in-loop-home.ensures three in
+          c.loop-home.whole _ c.edit_package-status.result inv.handled c.edit_package-status.ensures.status c.whole_status-whole-in-loop-home.ensures three in
           run_more g.D.Folder.did MayHoldNothing g.met.D.Folder.did_more c.args.devices.now.draft.folder c.loop-home.devices.draft.folder c.edit_package-status.new.devices.draft.folder
           (inv.idle both.0) (c.edit_package-status.ensures.idle both.1);
       shown = λ all.
@@ -88,7 +88,7 @@ returns-clause-idle g c three =
           subst (λ d. SafeRun g.D.Folder.did MayHoldNothing c.args.devices.now.draft.folder d.draft.folder) (sym w.devices-is) (c.loop-home.invariant.idle whole)
       | in-Some+then-status-eq-FAILED+then-not-flags w ↦
           let both = three_both g.D.Folder.leads g.D.File.Source.gave g.S.Source.gave c.args.flags.now.k c.args.script.items c.args.devices.now.input _ _ c.loop-home.devices.input w.edit_package-status.new.devices.input
-              c.loop-home.whole _ w.edit_package-status.result c.loop-home.invariant.handled w.edit_package-status.ensures.status w.whole_status-whole-in-loop-home.ensures (sym w.whole-is ∙ ok_is _ _ three) in
+          c.loop-home.whole _ w.edit_package-status.result c.loop-home.invariant.handled w.edit_package-status.ensures.status w.whole_status-whole-in-loop-home.ensures (sym w.whole-is ∙ ok_is _ _ three) in
           subst (λ d. SafeRun g.D.Folder.did MayHoldNothing c.args.devices.now.draft.folder d.draft.folder) (sym w.devices-is)
           (run_more g.D.Folder.did MayHoldNothing g.met.D.Folder.did_more c.args.devices.now.draft.folder c.loop-home.devices.draft.folder w.edit_package-status.new.devices.draft.folder
           (c.loop-home.invariant.idle both.0) (w.edit_package-status.ensures.idle both.1))

@@ -28,9 +28,12 @@ loop-taken-preserved g c =
 pub returns-in-End-clause-end : goal.returns-in-End-clause-end
 returns-in-End-clause-end g c was going =
     let inv = c.loop-taken.invariant in
-    let end = c.step.ensures.end (c.in_ok-step.was ∙ ap Ok c.in-End.is) (inv.goes going) in
-    (end.0, end.1, λ pieces cs text done.
-    come_to g.S.Source.gave g.W.Sink.took g.met.S.Source.gave_more g.met.W.Sink.took_more _ _ _ _ _ _ _ _ _ end.0 pieces cs text (inv.done pieces cs text done) end.2)
+    let end = c.step.ensures.end (c.in_ok-step.was ∙ ap Ok c.in-End.is) (inv.goes going) in (
+      end.0,
+      end.1,
+      λ pieces cs text done.
+          come_to g.S.Source.gave g.W.Sink.took g.met.S.Source.gave_more g.met.W.Sink.took_more _ _ _ _ _ _ _ _ _ end.0 pieces cs text (inv.done pieces cs text done) end.2,
+    )
 
 pub returns-clause-more : goal.returns-clause-more
 returns-clause-more g c was pieces cs text done =
