@@ -1,5 +1,5 @@
 -- The packages of a script are handled one after another, each with its status (buildozer README, "Error codes").
-use Rattle.std.specs.Prelude.{◌≡◌, ◌⊎◌, ℕ, ◌==◌, Bool, true, false, ◌&&◌, not, List, [], ◌∷◌, Option, None, Some}
+use Rattle.std.specs.Prelude.{◌≡◌, ◌⊎◌, ℕ, ◌==◌, Bool, true, false, ◌&&◌, not, List, [], ◌∷◌, None, Some}
 use Rattle.bz_engine.specs.Outcome.{status_of}
 use Rattle.bz_engine.specs.declared.report.Report.{Report}
 use Rattle.bz_command.specs.Labels.{Package}

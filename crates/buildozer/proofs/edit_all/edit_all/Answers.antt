@@ -1,4 +1,4 @@
-use Rattle.std.proofs.Common.{◌≡◌, Ok, false, [], sym, ◌∙◌, ap, subst}
+use Rattle.std.proofs.Common.{◌≡◌, false, [], sym, ◌∙◌, ap, subst}
 use Rattle.bz_folder.specs.Sequence.{SafeRun}
 use Rattle.bz_folder.specs.SequenceLaws.{run_more}
 use Rattle.buildozer.specs.Files.{MayHoldNothing}

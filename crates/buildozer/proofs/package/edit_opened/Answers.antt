@@ -1,4 +1,4 @@
-use Rattle.std.proofs.Common.{◌≡◌, false, refl, inl, inr, sym, ◌∙◌, ap, subst}
+use Rattle.std.proofs.Common.{◌≡◌, false, refl, inr, sym, ◌∙◌, ap, subst}
 use Rattle.std.proofs.lemmas.Bool.{false≢true}
 use Rattle.bz_folder.specs.declared.folder.Purpose.{Purpose}
 use Rattle.bz_folder.specs.declared.folder.Purpose.TheVariants.{Read, Replace}
