@@ -1,6 +1,8 @@
 -- A loop over the entries of a map, by value, each of them seen in another way.
-use Rattle.std.proofs.Common.{◌≡◌, List, [], ◌∷◌, ◌++◌, map, Option, None, Some, refl, sym, ◌∙◌, ap, subst, append-nil, Contains, arith}
+use Rattle.std.proofs.Common.{◌≡◌, Bool, true, List, [], ◌∷◌, ◌++◌, map, Option, None, Some, Result, Ok, refl, sym, ◌∙◌, ap, subst, append-nil, Contains, arith}
 use Rattle.std.specs.Iterator.{Yields}
+use Rattle.std.specs.List.{list_all}
+use Rattle.std.proofs.lemmas.Bool.{and_parts}
 use Rattle.std.specs.Map.Iter.{TakesFirst}
 use Rattle.std.proofs.lemmas.List.Elements.{Contains-append_right}
 use Rattle.std.proofs.lemmas.Map.Iter.{rest_more, rest_all}
@@ -31,3 +33,19 @@ contains_first x xs = (0, omega arith, refl)
 pub contains_next : {T : Type 0} (front : List T) (x : T) (following all : List T) → all ≡ front ++ x ∷ following → Contains all x
 contains_next front x following all is =
     subst (λ whole. Contains whole x) (sym is) (Contains-append_right front (x ∷ following) x (contains_first x following))
+
+-- what holds of each element of a list holds of one that stands after a front of it
+all_next : {T : Type 0} (test : T → Bool) (front : List T) (x : T) (following : List T) → list_all test (front ++ x ∷ following) ≡ true → test x ≡ true
+all_next test [] x following all = (and_parts (test x) (list_all test following) all).0
+all_next test (y ∷ front) x following all = all_next test front x following (and_parts (test y) (list_all test (front ++ x ∷ following)) all).1
+
+pub test_next : {T : Type 0} (test : T → Bool) (front : List T) (x : T) (following all : List T) → all ≡ front ++ x ∷ following → list_all test all ≡ true → test x ≡ true
+test_next test front x following all is holds = all_next test front x following (sym (ap (list_all test) is) ∙ holds)
+
+-- the value of an `Ok`
+pub ok_is : {T F : Type 0} (x y : T) → (let r : Result T F = Ok x in r) ≡ Ok y → x ≡ y
+ok_is x y same = cc
+
+-- what holds of two values holds of those that they are
+pub at_end : {A B : Type 0} (P : A → B → Type 0) {a a2 : A} {b b2 : B} → a2 ≡ a → b2 ≡ b → P a b → P a2 b2
+at_end P {a} {a2} {b} {b2} p q holds = subst (λ x. P x b2) (sym p) (subst (P a) (sym q) holds)

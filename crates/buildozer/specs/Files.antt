@@ -6,25 +6,33 @@ use Rattle.bz_command.specs.Labels.{Package}
 use Rattle.bz_script.specs.Names.{IsBuildPath}
 use Rattle.buildozer.specs.Runs.{Asked, IsRun, is_kept, IsKeptText}
 
--- what is opened at a path of a package's BUILD file may be this file
-pub record IsFileOf (leads : List ℕ → List ℕ → Type 0) (home : Package) (file : List ℕ) : Type 0 where
+-- what is opened at a path of a package's BUILD file may be this file, and it is read from this source
+pub record IsFileOf {F : Type 0} (leads : List ℕ → List ℕ → F → Type 0) (home : Package) (file : List ℕ) (source : F) : Type 0 where
   pub path : List ℕ
   pub is_its : IsBuildPath home path
-  pub leads_to : leads path file
+  pub leads_to : leads path file source
 
--- the package's file may hold the whole text of a run that is kept
-pub record MayHold (leads : List ℕ → List ℕ → Type 0) (asked : Asked) (file : List ℕ) (content : Content) : Type 0 where
-  pub is_its : IsFileOf leads asked.home file
-  pub kept : IsKeptText asked content.0
+-- the package's file may hold the whole text of a run that is kept, over what was read of that very file
+pub record MayHold {F : Type 0} (leads : List ℕ → List ℕ → F → Type 0) (gave : F → List (List ℕ) → F → Type 0) (asked : Asked)
+    (file : List ℕ) (content : Content) : Type 0 where
+  pub source : F
+  pub is_its : IsFileOf leads asked.home file source
+  pub kept : IsKeptText gave source asked content.0
 
--- one file alone may hold the whole text of a run that is kept
-pub record MayBe (asked : Asked) (edited file : List ℕ) (content : Content) : Type 0 where
+-- one file alone may hold the whole text of a run that is kept, over what was read of this source
+pub record MayBe {S : Type 0} (gave : S → List (List ℕ) → S → Type 0) (source : S) (asked : Asked) (edited file : List ℕ) (content : Content) : Type 0 where
   pub is_it : file ≡ edited
-  pub kept : IsKeptText asked content.0
+  pub kept : IsKeptText gave source asked content.0
 
--- the report is that of a run, and the file was replaced exactly where the run's text is kept
-pub record IsEdited (asked : Asked) (report : Report) (replaced : Bool) : Type 0 where
+-- no file may hold anything new
+abbrev pub MayHoldNothing : List ℕ → Content → Type 0
+MayHoldNothing file content = ⊥
+
+-- the report is that of a run over what was read of this source, and the file was replaced exactly where the run's text is kept
+pub record IsEdited {S : Type 0} (gave : S → List (List ℕ) → S → Type 0) (source : S) (asked : Asked) (report : Report) (replaced : Bool) : Type 0 where
   pub read : List (List ℕ)
+  pub source_after : S
+  pub gave_is : gave source read source_after
   pub text : List ℕ
   pub outcome : IsRun asked read text report
   pub replaced_is : replaced ≡ is_kept asked.keep_going report

@@ -1,40 +1,64 @@
 -- The packages of a script are handled one after another, each with its status (buildozer README, "Error codes").
-use Rattle.std.specs.Prelude.{◌≡◌, ◌⊎◌, ℕ, ◌==◌, Bool, true, false, ◌&&◌, not, List, [], ◌∷◌}
+use Rattle.std.specs.Prelude.{◌≡◌, ◌⊎◌, ℕ, ◌==◌, Bool, true, false, ◌&&◌, not, List, [], ◌∷◌, None, Some}
 use Rattle.bz_engine.specs.Outcome.{status_of}
 use Rattle.bz_engine.specs.declared.report.Report.{Report}
+use Rattle.bz_command.specs.Labels.{Package}
 use Rattle.bz_script.specs.Groups.{Step}
 use Rattle.bz_script.specs.Packages.{by_package}
+use Rattle.buildozer.specs.Files.{IsFileOf}
 use Rattle.buildozer.specs.Program.{Task, asked_for}
 use Rattle.buildozer.specs.Runs.{Asked, IsRun}
 use Rattle.bz_script.specs.Statuses.{whole_status}
 
--- the status is the one of a run of what is asked
-pub record IsRunStatus (asked : Asked) (status : ℕ) : Type 0 where
+-- the status is the one of a run of what is asked, over what reads of a source gave
+pub record IsRunStatus {S : Type 0} (gave : S → List (List ℕ) → S → Type 0) (asked : Asked) (source source_after : S) (status : ℕ) : Type 0 where
   pub read : List (List ℕ)
+  pub gave_is : gave source read source_after
   pub text : List ℕ
   pub report : Report
   pub outcome : IsRun asked read text report
   pub status_is : status ≡ status_of report
 
--- A package failed, which its run may tell or not, or it has the status of its run.
-abbrev pub IsStatusOf : Asked → ℕ → Type 0
-IsStatusOf asked status = (status ≡ 2) ⊎ IsRunStatus asked status
+-- A run failed, which it may tell or not, or it has its status. Either way reads of its source gave some pieces.
+abbrev pub IsStatusOver : {S : Type 0} → (S → List (List ℕ) → S → Type 0) → Asked → S → S → ℕ → Type 0
+IsStatusOver gave asked source source_after status =
+    ((status ≡ 2) × (read : List (List ℕ)) × gave source read source_after) ⊎ IsRunStatus gave asked source source_after status
+
+-- the status is the one of a run over what was read of the package's file, as it was opened
+pub record IsFileStatus {F : Type 0} (leads : List ℕ → List ℕ → F → Type 0) (gave : F → List (List ℕ) → F → Type 0) (asked : Asked) (status : ℕ) : Type 0 where
+  pub file : List ℕ
+  pub source : F
+  pub source_after : F
+  pub is_its : IsFileOf leads asked.home file source
+  pub ran : IsRunStatus gave asked source source_after status
+
+module _ {F S : Type 0} (leads : List ℕ → List ℕ → F → Type 0) (gave : F → List (List ℕ) → F → Type 0) (input_gave : S → List (List ℕ) → S → Type 0) where
+  -- standard input is read where it is the package, and stays where it is not
+  abbrev pub IsStatusAt : Package → Asked → S → S → ℕ → Type 0
+  IsStatusAt None asked input input_after status = IsStatusOver input_gave asked input input_after status
+  IsStatusAt (Some folder) asked input input_after status = (input_after ≡ input) × ((status ≡ 2) ⊎ IsFileStatus leads gave asked status)
+
+  -- A package failed, which its run may tell or not, or it has the status of its run.
+  abbrev pub IsStatusOf : Asked → S → S → ℕ → Type 0
+  IsStatusOf asked input input_after status = IsStatusAt asked.home asked input input_after status
 
 -- whether no package comes after one with this status
 abbrev pub is_last : Bool → ℕ → Bool
 is_last keep_going status = not keep_going && status == 2
 
--- Each package has its status, in order, up to the one that is the last.
-abbrev pub Handled : Bool → List Task → List ℕ → Type 0
-Handled keep_going [] statuses = statuses ≡ []
-Handled keep_going (task ∷ tasks) [] = ⊥
-Handled keep_going (task ∷ tasks) (status ∷ statuses) =
-    IsStatusOf (asked_for keep_going task) status
-    × (is_last keep_going status ≡ true → statuses ≡ [])
-    × (is_last keep_going status ≡ false → Handled keep_going tasks statuses)
+module _ {F S : Type 0} (leads : List ℕ → List ℕ → F → Type 0) (gave : F → List (List ℕ) → F → Type 0) (input_gave : S → List (List ℕ) → S → Type 0) where
+  -- Each package has its status, in order, up to the one that is the last. Standard input goes from each to the next.
+  abbrev pub Handled : Bool → List Task → S → List ℕ → S → Type 0
+  Handled keep_going [] input statuses input_after = (statuses ≡ []) × (input_after ≡ input)
+  Handled keep_going (task ∷ tasks) input [] input_after = ⊥
+  Handled keep_going (task ∷ tasks) input (status ∷ statuses) input_after =
+      (input_then : S) × IsStatusOf leads gave input_gave (asked_for keep_going task) input input_then status
+      × (is_last keep_going status ≡ true → (statuses ≡ []) × (input_after ≡ input_then))
+      × (is_last keep_going status ≡ false → Handled keep_going tasks input_then statuses input_after)
 
 -- the packages of a script were handled, and this is the status of the whole run
-pub record IsStatusOfAll (keep_going : Bool) (script : List Step) (whole : ℕ) : Type 0 where
+pub record IsStatusOfAll {F S : Type 0} (leads : List ℕ → List ℕ → F → Type 0) (gave : F → List (List ℕ) → F → Type 0) (input_gave : S → List (List ℕ) → S → Type 0)
+    (keep_going : Bool) (script : List Step) (input input_after : S) (whole : ℕ) : Type 0 where
   pub statuses : List ℕ
-  pub handled : Handled keep_going (by_package script) statuses
+  pub handled : Handled leads gave input_gave keep_going (by_package script) input statuses input_after
   pub whole_is : whole ≡ whole_status statuses

@@ -42,9 +42,11 @@ is_whole FirstFailure = false
 abbrev pub is_kept : Bool → Report → Bool
 is_kept keep_going report = is_whole report.end && (report.changed && (keep_going || not report.failed))
 
--- a text that a run wrote and that is kept
-pub record IsKeptText (asked : Asked) (text : List ℕ) : Type 0 where
+-- a text that is kept, and that a run wrote over what reads of this source gave
+pub record IsKeptText {S : Type 0} (gave : S → List (List ℕ) → S → Type 0) (source : S) (asked : Asked) (text : List ℕ) : Type 0 where
   pub read : List (List ℕ)
+  pub source_after : S
+  pub gave_is : gave source read source_after
   pub report : Report
   pub outcome : IsRun asked read text report
   pub kept : is_kept asked.keep_going report ≡ true

@@ -1,7 +1,8 @@
 //! What is done for all packages of a script.
 
-ghost use Rattle.std.specs.Prelude.{◌≡◌, IfOk, OnErr};
+ghost use Rattle.std.specs.Prelude.{◌≡◌, [], Ok, IfOk, OnErr, true};
 ghost use Rattle.bz_folder.specs.Sequence.{SafeRun};
+ghost use Rattle.buildozer.specs.Files.{MayHoldNothing};
 ghost use Rattle.buildozer.specs.Handled.{IsStatusOfAll};
 ghost use Rattle.buildozer.specs.Program as spec;
 
@@ -19,17 +20,25 @@ use std::alloc::{AllocError, Global};
 /// package comes after one that failed.
 ///
 /// At each moment each file has the bytes that it had, or, where it is the BUILD file of a package of the script, the
-/// whole text of a run for that package, with all its passes, that is kept. An `Err` has touched no package.
+/// whole text of a run for that package, with all its passes, that is kept: of a run over what was read of that very
+/// file. An `Err` has touched no package.
 pub fn edit_all<D: Folder, S: Source, O: Sink, E: Sink>(
     alloc: Global,
     flags: &Flags,
     script: Script,
     devices: &mut Devices<D, S, O, E>,
 ) -> Result<u8, AllocError>
-    ensures safe { SafeRun D.did (spec.MayHold D.leads flags.now.k script.items)
+    ensures safe { SafeRun D.did (spec.MayHold D.leads D.File.gave flags.now.k script.items)
         devices.old.draft.folder devices.new.draft.folder }
     // Each package that comes has a status, and without `-k` none comes after one that failed.
-    ensures status { IfOk result (IsStatusOfAll flags.now.k script.items) }
+    ensures status { IfOk result (IsStatusOfAll D.leads D.File.gave S.gave flags.now.k script.items
+        devices.old.input devices.new.input) }
+    // At status 3 no file was touched, but for a temporary one.
+    ensures idle { result ≡ Ok 3
+        → SafeRun D.did MayHoldNothing devices.old.draft.folder devices.new.draft.folder }
+    // With `-stdout`, and where all commands print, no call was made that changes a folder.
+    ensures shown { spec.are_shown flags.now.stdout script.items ≡ true
+        → D.did devices.old.draft.folder [] devices.new.draft.folder }
     ensures err { OnErr result (devices.new ≡ devices.old) }
 {
     let packages = by_package(alloc, script)?;

@@ -1,6 +1,6 @@
 //! A run that edits a file in place.
 
-ghost use Rattle.std.specs.Prelude.{◌≡◌, Ok, IfOk, string_bytes};
+ghost use Rattle.std.specs.Prelude.{◌≡◌, Ok, IfOk, false, string_bytes};
 ghost use Rattle.bz_folder.specs.Sequence.{SafeRun};
 ghost use Rattle.buildozer.specs.Files as spec;
 
@@ -21,15 +21,20 @@ pub enum FileFault {
 /// Edits a file: what the run writes replaces it where it is kept. Gives what the run tells, and whether the file was
 /// replaced.
 ///
-/// At each moment the file has its old bytes, or the whole text of the run if that is kept.
+/// At each moment the file has its old bytes, or the whole text of the run if that is kept: of a run over what was read
+/// of the file itself.
 pub fn edit_file<D: Folder>(
     alloc: Global,
     asked: Asked,
     opened: Opened<D::File>,
     draft: &mut Draft<D>,
 ) -> Result<(Report, bool), FileFault>
-    ensures safe { SafeRun D.did (spec.MayBe asked (string_bytes opened.path)) draft.old.folder draft.new.folder }
-    ensures edited { IfOk result (λ edited. spec.IsEdited asked edited.0 edited.1) }
+    ensures safe { SafeRun D.did (spec.MayBe D.File.gave opened.source asked (string_bytes opened.path))
+        draft.old.folder draft.new.folder }
+    ensures edited { IfOk result (λ edited. spec.IsEdited D.File.gave opened.source asked edited.0 edited.1) }
+    // Where the file was not replaced, no file was touched, but for a temporary one.
+    ensures idle { IfOk result (λ edited. edited.1 ≡ false
+        → SafeRun D.did spec.MayHoldNothing draft.old.folder draft.new.folder) }
 {
     // The author owns the source, so no other run replaces the file before this one is done with it.
     let mut author = FileRun::new(alloc, opened.source, asked);

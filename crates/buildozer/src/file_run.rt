@@ -30,7 +30,7 @@ pub struct FileRun<S> {
 impl<S> FileRun<S> {
     /// A run over this source, which has not begun.
     pub fn new(alloc: Global, source: S, asked: Asked) -> FileRun<S>
-        ensures { (result.asked ≡ Some asked) × (result.ended ≡ Ended.NotYet) }
+        ensures { (result.asked ≡ Some asked) × (result.ended ≡ Ended.NotYet) × (result.source ≡ source) }
     {
         FileRun {
             alloc,

@@ -1,9 +1,10 @@
 //! What is done for one package.
 
-ghost use Rattle.std.specs.Prelude.{◌≡◌, ◌⊎◌, IfOk, string_bytes};
+ghost use Rattle.std.specs.Prelude.{◌≡◌, ◌⊎◌, [], IfOk, if◌then◌else◌, string_bytes, true};
 ghost use Rattle.bz_folder.specs.Sequence.{SafeRun};
-ghost use Rattle.buildozer.specs.Files.{IsFileOf, MayHold};
-ghost use Rattle.buildozer.specs.Handled.{IsStatusOf};
+ghost use Rattle.buildozer.specs.Files.{IsFileOf, MayHold, MayHoldNothing};
+ghost use Rattle.buildozer.specs.Handled.{IsFileStatus, IsStatusOf, IsStatusOver};
+ghost use Rattle.buildozer.specs.Program.{is_shown};
 ghost use Rattle.bz_script.specs.Names.{IsBuildPath};
 
 use crate::console::Console;
@@ -40,8 +41,14 @@ pub fn edit_package<D: Folder, S: Source, O: Sink, E: Sink>(
     asked: Asked,
     devices: &mut Devices<D, S, O, E>,
 ) -> u8
-    ensures safe { SafeRun D.did (MayHold D.leads asked) devices.old.draft.folder devices.new.draft.folder }
-    ensures status { IsStatusOf asked result }
+    ensures safe { SafeRun D.did (MayHold D.leads D.File.gave asked)
+        devices.old.draft.folder devices.new.draft.folder }
+    ensures status { IsStatusOf D.leads D.File.gave S.gave asked devices.old.input devices.new.input result }
+    // At status 3 no file was touched, but for a temporary one.
+    ensures idle { result ≡ 3 → SafeRun D.did MayHoldNothing devices.old.draft.folder devices.new.draft.folder }
+    // What is shown changes no folder.
+    ensures shown { is_shown flags.now.stdout asked.passes ≡ true
+        → D.did devices.old.draft.folder [] devices.new.draft.folder }
 {
     let status = edit_home(alloc, flags, asked, devices);
     match devices.console.flush() {
@@ -57,8 +64,14 @@ fn edit_home<D: Folder, S: Source, O: Sink, E: Sink>(
     asked: Asked,
     devices: &mut Devices<D, S, O, E>,
 ) -> u8
-    ensures safe { SafeRun D.did (MayHold D.leads asked) devices.old.draft.folder devices.new.draft.folder }
-    ensures status { IsStatusOf asked result }
+    ensures safe { SafeRun D.did (MayHold D.leads D.File.gave asked)
+        devices.old.draft.folder devices.new.draft.folder }
+    ensures status { IsStatusOf D.leads D.File.gave S.gave asked devices.old.input devices.new.input result }
+    // At status 3 no file was touched, but for a temporary one.
+    ensures idle { result ≡ 3 → SafeRun D.did MayHoldNothing devices.old.draft.folder devices.new.draft.folder }
+    // What is shown changes no folder.
+    ensures shown { is_shown flags.now.stdout asked.passes ≡ true
+        → D.did devices.old.draft.folder [] devices.new.draft.folder }
 {
     let Some(folder) = asked.home.path() else {
         return edit_shown(alloc, asked, "-", &mut devices.input, &mut devices.console);
@@ -80,7 +93,7 @@ fn edit_shown<S: Source, O: Sink, E: Sink>(
     source: &mut S,
     console: &mut Console<O, E>,
 ) -> u8
-    ensures { IsStatusOf asked result }
+    ensures { IsStatusOver S.gave asked source.old source.new result }
 {
     match edit_stream(alloc, asked, name, source, console) {
         Ok(status) => status,
@@ -98,8 +111,15 @@ fn edit_found<D: Folder, S, O: Sink, E: Sink>(
 ) -> u8
     requires first { IsBuildPath asked.home (string_bytes files.now.first) }
     requires second { IsBuildPath asked.home (string_bytes files.now.second) }
-    ensures safe { SafeRun D.did (MayHold D.leads asked) devices.old.draft.folder devices.new.draft.folder }
-    ensures status { IsStatusOf asked result }
+    ensures safe { SafeRun D.did (MayHold D.leads D.File.gave asked)
+        devices.old.draft.folder devices.new.draft.folder }
+    ensures input { devices.new.input ≡ devices.old.input }
+    ensures status { (result ≡ 2) ⊎ IsFileStatus D.leads D.File.gave asked result }
+    // At status 3 no file was touched, but for a temporary one.
+    ensures idle { result ≡ 3 → SafeRun D.did MayHoldNothing devices.old.draft.folder devices.new.draft.folder }
+    // What is shown changes no folder.
+    ensures shown { is_shown flags.now.stdout asked.passes ≡ true
+        → D.did devices.old.draft.folder [] devices.new.draft.folder }
 {
     match open_first(devices.draft.folder(), files, purpose_of(flags, &asked)) {
         Ok((opened, name)) => edit_opened(alloc, flags, asked, name, opened, devices),
@@ -108,7 +128,9 @@ fn edit_found<D: Folder, S, O: Sink, E: Sink>(
 }
 
 /// What the package's file is opened for: it stays where the flags say so or the script only asks.
-fn purpose_of(flags: &Flags, asked: &Asked) -> Purpose {
+fn purpose_of(flags: &Flags, asked: &Asked) -> Purpose
+    ensures { result ≡ (if is_shown flags.now.stdout asked.now.passes then Purpose.Read else Purpose.Replace) }
+{
     if flags.stdout || is_query(asked.passes.as_slice()) {
         Purpose::Read
     } else {
@@ -133,8 +155,9 @@ fn open_first<'a, D: Folder>(
     files: &'a BuildFiles,
     purpose: Purpose,
 ) -> Result<(Opened<D::File>, &'a str), &'a str>
-    ensures { IfOk result (λ found. D.leads (string_bytes files.now.first) (string_bytes found.0.path)
-        ⊎ D.leads (string_bytes files.now.second) (string_bytes found.0.path)) }
+    ensures { IfOk result (λ found.
+        D.leads (string_bytes files.now.first) (string_bytes found.0.path) found.0.source
+        ⊎ D.leads (string_bytes files.now.second) (string_bytes found.0.path) found.0.source) }
 {
     match folder.open(&files.first, purpose) {
         Ok(opened) => Ok((opened, files.first.as_str())),
@@ -155,9 +178,16 @@ fn edit_opened<D: Folder, S, O: Sink, E: Sink>(
     opened: Opened<D::File>,
     devices: &mut Devices<D, S, O, E>,
 ) -> u8
-    requires { IsFileOf D.leads asked.home (string_bytes opened.path) }
-    ensures safe { SafeRun D.did (MayHold D.leads asked) devices.old.draft.folder devices.new.draft.folder }
-    ensures status { IsStatusOf asked result }
+    requires { IsFileOf D.leads asked.home (string_bytes opened.path) opened.source }
+    ensures safe { SafeRun D.did (MayHold D.leads D.File.gave asked)
+        devices.old.draft.folder devices.new.draft.folder }
+    ensures input { devices.new.input ≡ devices.old.input }
+    ensures status { (result ≡ 2) ⊎ IsFileStatus D.leads D.File.gave asked result }
+    // At status 3 no file was touched, but for a temporary one.
+    ensures idle { result ≡ 3 → SafeRun D.did MayHoldNothing devices.old.draft.folder devices.new.draft.folder }
+    // What is shown changes no folder.
+    ensures shown { is_shown flags.now.stdout asked.passes ≡ true
+        → D.did devices.old.draft.folder [] devices.new.draft.folder }
 {
     if purpose_of(flags, &asked) == Purpose::Read {
         let mut source = opened.source;

@@ -1,3 +1,6 @@
+mod Unmarked
+mod ScriptComments
+mod StatusLaw
 mod FileText
 mod SoundStatements
 mod SecondRun
@@ -9,3 +12,5 @@ mod WholeFileExamples
 mod ScriptSound
 mod RunText
 mod LeftExamples
+mod FileWords
+mod ManySteps

@@ -16,7 +16,7 @@ use Rattle.bz_engine_laws.proofs.SecondRun.{shown, same_again}
 use Rattle.bz_engine_laws.proofs.SoundStatements.{file_sound, front_sound}
 
 -- the text after a script is that of the statements that it left
-text_left_by : (home : Package) (passes : Script) (ss : List Statement) → is_query passes ≡ false → text_after home passes ss ≡ text_of (left_by home passes ss)
+pub text_left_by : (home : Package) (passes : Script) (ss : List Statement) → is_query passes ≡ false → text_after home passes ss ≡ text_of (left_by home passes ss)
 text_left_by home passes ss query =
     shown (is_query passes) (text_of (left_by home passes ss)) query
 
@@ -30,7 +30,7 @@ edited_sound home passes keep_going depth file text told (inr run) = before_soun
     before_sound [] more sound = tt
     before_sound (s ∷ ss) more sound = (sound.0, before_sound ss more sound.1)
 
-edited_text : (home : Package) (passes : Script) (keep_going : Bool) (depth : ℕ) (file text : List ℕ) (told : Told) (run : IsOutcome home passes keep_going depth file text told)
+pub edited_text : (home : Package) (passes : Script) (keep_going : Bool) (depth : ℕ) (file text : List ℕ) (told : Told) (run : IsOutcome home passes keep_going depth file text told)
     → text ≡ text_after home passes (edited run)
 edited_text home passes keep_going depth file text told (inl run) = run.text_is
 edited_text home passes keep_going depth file text told (inr run) = run.text_is

@@ -34,14 +34,14 @@ quiet_pass : {S T C M : Type 0} (m : Meaning S T C M) (p : Pass T C) (slots : Li
 quiet_pass {S} m p slots none no_same =
     quiet_commands m p.commands (map (marked m p.target) slots) none (λ same. no_same (ap (map (λ (x : Marked S). x.slot)) same ∙ unmarked m p.target slots))
 
-quiet_passes : {S T C M : Type 0} (m : Meaning S T C M) (ps : List (Pass T C)) (slots : List (Slot S)) → (Changes m ps slots → ⊥) → NotNot (slots_after m ps slots ≡ slots)
+pub quiet_passes : {S T C M : Type 0} (m : Meaning S T C M) (ps : List (Pass T C)) (slots : List (Slot S)) → (Changes m ps slots → ⊥) → NotNot (slots_after m ps slots ≡ slots)
 quiet_passes m [] slots none no_same = no_same refl
 quiet_passes m (p ∷ ps) slots none no_same =
     quiet_pass m p slots (λ here. none (inl here))
     (λ same. quiet_passes m ps (slots_after_pass m p slots) (λ later. none (inr later)) (λ rest. no_same (rest ∙ same)))
 
 -- bytes that cannot differ are the same
-same_bytes : (xs ys : List ℕ) → NotNot (xs ≡ ys) → xs ≡ ys
+pub same_bytes : (xs ys : List ℕ) → NotNot (xs ≡ ys) → xs ≡ ys
 same_bytes xs ys h = elim (cases_Bool (bytes_eq xs ys)) [
   | inl same ↦ (bytes_eq-Decides xs ys).0 same
   | inr other ↦ absurd (h (λ same. false≢true (sym other ∙ (bytes_eq-Decides xs ys).1 same)))
@@ -67,7 +67,7 @@ whole_again home passes keep_going depth ss text told sound commands query run q
     ∙ again.3
 
 -- a run that comes to its end does not end at a failure
-not_at_failure : (home : Package) (passes : Script) (keep_going : Bool) (depth : ℕ) (file text : List ℕ) (told : Told) → EndsAtFailure home passes keep_going depth file text told → (keep_going ≡ false → told.end ≡ Whole) → ⊥
+pub not_at_failure : (home : Package) (passes : Script) (keep_going : Bool) (depth : ℕ) (file text : List ℕ) (told : Told) → EndsAtFailure home passes keep_going depth file text told → (keep_going ≡ false → told.end ≡ Whole) → ⊥
 not_at_failure home passes keep_going depth file text told stop ends =
     let here : FirstFailure ≡ Whole = sym (ap (λ (t : Told). t.end) stop.told_is) ∙ ends stop.ends in
     cc

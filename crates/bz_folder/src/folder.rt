@@ -43,15 +43,16 @@ pub trait Folder {
     // The first state made these calls, each with whether it succeeded, and became the second.
     ghost did: { Self → List Event → Self → Type 0 };
 
-    // What is opened at the first path may be the file at the second, to which a link leads.
-    ghost leads: { List ℕ → List ℕ → Type 0 };
+    // What is opened at the first path may be the file at the second, to which a link leads, and its
+    // bytes are read from this source.
+    ghost leads: { List ℕ → List ℕ → Self.File → Type 0 };
 
     /// Opens a regular file to read it. This changes no file.
     ///
     /// A file that may be replaced is opened by one run at a time: no other run replaces it before
     /// its source is dropped, and another that opens it so waits until then.
     fn open(&self, path: &str, purpose: Purpose) -> Result<Opened<Self::File>, CannotOpen>
-        ensures { IfOk result (λ opened. leads path.now (string_bytes opened.path)) };
+        ensures { IfOk result (λ opened. leads path.now (string_bytes opened.path) opened.source) };
 
     /// Makes an empty file, open to be written, where nothing is: a link at the path is not
     /// followed.

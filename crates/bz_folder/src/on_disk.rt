@@ -205,7 +205,7 @@ impl<R: Files<File = File>> Folder for OnDisk<R> {
     ghost did = { λ old events new. Tallies old new events };
 
     // No clause of std tells where a link leads.
-    ghost leads = { λ path file. ⊤ };
+    ghost leads = { λ path file source. ⊤ };
 
     ghost did_nothing = { λ s. tallies_nothing s };
 

@@ -52,7 +52,7 @@ impl Folder for Notes {
 
     ghost did = { λ old events new. ⊤ };
 
-    ghost leads = { λ path file. ⊤ };
+    ghost leads = { λ path file source. ⊤ };
 
     ghost did_nothing = { λ s. tt };
 

@@ -7,4 +7,5 @@ pub mod ReadBack
 pub mod Nodes
 pub mod WrittenBack
 pub mod SomeAnswer
+pub mod WordsKept
 mod Examples

@@ -4,3 +4,4 @@
 pub mod comments;
 pub mod reading_back;
 pub mod statements;
+pub mod words;

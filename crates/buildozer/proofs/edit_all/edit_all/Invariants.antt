@@ -1,10 +1,17 @@
-use Rattle.std.proofs.Common.{map}
+use Rattle.std.proofs.Common.{◌≡◌, true, [], map}
 use Rattle.bz_folder.specs.Sequence.{SafeRun}
-use Rattle.buildozer.specs.Program.{MayHold}
+use Rattle.buildozer.specs.Files.{MayHoldNothing}
+use Rattle.buildozer.specs.Program.{MayHold, are_shown}
 use Rattle.buildozer.proofs.Handling.{HandledTo}
 use Rattle.buildozer.proofs.edit_all.edit_all.Given as goal
 
 abbrev pub invariant-loop-home : goal.invariant-loop-home
 invariant-loop-home g l =
-    SafeRun g.D.Folder.did (MayHold g.D.Folder.leads l.flags.k l.fn.script.items) l.initial.devices.draft.folder l.devices.draft.folder
-    × HandledTo l.flags.k l.fn.script.items (map (λ e. (e.0, e.1.items)) l.yielded) l.whole
+    let leads = g.D.Folder.leads in
+    let gave = g.D.File.Source.gave in
+    record {
+      safe : SafeRun g.D.Folder.did (MayHold leads gave l.flags.k l.fn.script.items) l.initial.devices.draft.folder l.devices.draft.folder;
+      handled : HandledTo leads gave g.S.Source.gave l.flags.k l.fn.script.items l.initial.devices.input (map (λ e. (e.0, e.1.items)) l.yielded) l.devices.input l.whole;
+      idle : l.whole ≡ 3 → SafeRun g.D.Folder.did MayHoldNothing l.initial.devices.draft.folder l.devices.draft.folder;
+      shown : are_shown l.flags.stdout l.fn.script.items ≡ true → g.D.Folder.did l.initial.devices.draft.folder [] l.devices.draft.folder;
+    }

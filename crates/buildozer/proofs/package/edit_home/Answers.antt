@@ -1,5 +1,6 @@
-use Rattle.std.proofs.Common.{◌≡◌, Some, inl, inr, refl, ◌∙◌, ap, subst, string_bytes}
-use Rattle.buildozer.specs.Files.{MayHold}
+use Rattle.std.proofs.Common.{◌≡◌, Some, None, inl, inr, refl, ◌∙◌, ap, subst, string_bytes}
+use Rattle.buildozer.specs.Files.{MayHoldNothing}
+use Rattle.buildozer.specs.Handled.{IsStatusAt}
 use Rattle.bz_script.specs.Names.{IsBuildPath}
 use Rattle.buildozer.specs.Runs.{Asked}
 use Rattle.buildozer.proofs.Edited.{untouched}
@@ -14,7 +15,27 @@ edit_found-requires g c =
     }
 
 pub returns-in_default : goal.returns-in_default
-returns-in_default g c = record { safe = untouched g.D.Folder.did (MayHold g.D.Folder.leads c.args.asked) g.met.D.Folder.did_nothing c.args.devices.now.draft.folder; status = c.edit_shown.ensures }
+returns-in_default g c =
+    let home : None ≡ c.args.asked.home = c.in_default.ensures.value ∙ ap (λ (a : Asked). a.home) c.asked.view_is in
+    record {
+      safe = untouched g.D.Folder.did _ g.met.D.Folder.did_nothing c.args.devices.now.draft.folder;
+      status = subst (λ h. IsStatusAt g.D.Folder.leads g.D.File.Source.gave g.S.Source.gave h c.args.asked c.args.devices.now.input c.edit_shown.new.source c.edit_shown.result) home c.edit_shown.ensures;
+      idle = λ three. untouched g.D.Folder.did MayHoldNothing g.met.D.Folder.did_nothing c.args.devices.now.draft.folder;
+      shown = λ is. g.met.D.Folder.did_nothing c.args.devices.now.draft.folder;
+    }
+
+pub returns-in-Ok-clause-status : goal.returns-in-Ok-clause-status
+returns-in-Ok-clause-status g c =
+    let home : Some c.in-Some.folder.now ≡ c.args.asked.home = c.in-Some.ensures.value ∙ ap (λ (a : Asked). a.home) c.asked.view_is in
+    subst (λ h. IsStatusAt g.D.Folder.leads g.D.File.Source.gave g.S.Source.gave h c.args.asked c.args.devices.now.input c.edit_found.new.devices.input c.edit_found.result) home
+    (c.edit_found.ensures.input, c.edit_found.ensures.status)
 
 pub returns-in-Err : goal.returns-in-Err
-returns-in-Err g c = record { safe = untouched g.D.Folder.did (MayHold g.D.Folder.leads c.args.asked) g.met.D.Folder.did_nothing c.args.devices.now.draft.folder; status = inl refl }
+returns-in-Err g c =
+    let home : Some c.in-Some.folder.now ≡ c.args.asked.home = c.in-Some.ensures.value ∙ ap (λ (a : Asked). a.home) c.asked.view_is in
+    record {
+      safe = untouched g.D.Folder.did _ g.met.D.Folder.did_nothing c.args.devices.now.draft.folder;
+      status = subst (λ h. IsStatusAt g.D.Folder.leads g.D.File.Source.gave g.S.Source.gave h c.args.asked c.args.devices.now.input c.args.devices.now.input 2) home (refl, inl refl);
+      idle = λ three. untouched g.D.Folder.did MayHoldNothing g.met.D.Folder.did_nothing c.args.devices.now.draft.folder;
+      shown = λ is. g.met.D.Folder.did_nothing c.args.devices.now.draft.folder;
+    }

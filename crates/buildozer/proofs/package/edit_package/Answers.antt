@@ -1,0 +1,6 @@
+use Rattle.buildozer.proofs.Edited.{failed_after}
+use Rattle.buildozer.proofs.package.edit_package.Goals as goal
+
+pub returns-in-Err-clause-status : goal.returns-in-Err-clause-status
+returns-in-Err-clause-status g c =
+    failed_after g.D.Folder.leads g.D.File.Source.gave g.S.Source.gave c.args.asked.home c.args.asked _ _ _ c.edit_home-status.ensures.status

@@ -1,0 +1,57 @@
+-- Steps one after another: what is done after each, together.
+use Rattle.std.proofs.Common.{◌≡◌, ℕ, ◌+◌, List, [], ◌∷◌, ◌++◌, ◌≤◌, length, refl, sym, ap, ◌∙◌, subst, append-nil, append_assoc, length-append}
+use Rattle.bz_engine.specs.SessionValue.{SessionValue, HasDone, HasOneMore, HasEnded}
+use Rattle.bz_engine.specs.declared.report.End.{End}
+use Rattle.bz_engine_laws.specs.Steps.{HasManyMore, HasComeTo}
+
+-- the same lists, said otherwise
+done_at : (v : SessionValue) (pieces pieces2 cs cs2 : List (List ℕ)) (text text2 : List ℕ) → pieces ≡ pieces2 → cs ≡ cs2 → text ≡ text2 → HasDone v pieces cs text → HasDone v pieces2 cs2 text2
+done_at v pieces pieces2 cs cs2 text text2 p q r done =
+    subst (λ x. HasDone v pieces2 cs2 x) r (subst (λ x. HasDone v pieces2 x text) q (subst (λ x. HasDone v x cs text) p done))
+
+module _ {S W : Type 0} (gave : S → List (List ℕ) → S → Type 0) (took : W → List ℕ → W → Type 0) where
+  pub many_none : ((s : S) → gave s [] s) → ((w : W) → took w [] w) → (s : S) (w : W) (v : SessionValue) (pieces cs : List (List ℕ)) (text : List ℕ) → HasDone v pieces cs text
+      → HasManyMore 0 (λ read. gave s read s) (λ shown. took w shown w) v pieces cs text
+  many_none gave_nothing took_nothing s w v pieces cs text done = record {
+    read = [];
+    chunks = [];
+    shown = [];
+    gave = gave_nothing s;
+    took = took_nothing w;
+    as_many = refl;
+    done = done_at v pieces (pieces ++ []) cs (cs ++ []) text (text ++ []) (sym (append-nil pieces)) (sym (append-nil cs)) (sym (append-nil text)) done;
+  }
+
+  module _ (gave_more : (a b c : S) (xs ys : List (List ℕ)) → gave a xs b → gave b ys c → gave a (xs ++ ys) c)
+      (took_more : (a b c : W) (xs ys : List ℕ) → took a xs b → took b ys c → took a (xs ++ ys) c) where
+    pub many_more : (s s1 s2 : S) (w w1 w2 : W) (count next : ℕ) (v1 v2 : SessionValue) (pieces cs : List (List ℕ)) (text : List ℕ) → next ≡ count + 1
+        → HasManyMore count (λ read. gave s read s1) (λ shown. took w shown w1) v1 pieces cs text
+        → ((pieces cs : List (List ℕ)) (text : List ℕ) → HasDone v1 pieces cs text → HasOneMore (λ read. gave s1 read s2) (λ shown. took w1 shown w2) v2 pieces cs text)
+        → HasManyMore next (λ read. gave s read s2) (λ shown. took w shown w2) v2 pieces cs text
+    many_more s s1 s2 w w1 w2 count next v1 v2 pieces cs text next_is before step =
+        let one = step (pieces ++ before.read) (cs ++ before.chunks) (text ++ before.shown) before.done in
+        record {
+          read = before.read ++ one.read;
+          chunks = before.chunks ++ one.chunk ∷ [];
+          shown = before.shown ++ one.shown;
+          gave = gave_more s s1 s2 before.read one.read before.gave one.gave;
+          took = took_more w w1 w2 before.shown one.shown before.took one.took;
+          as_many = length-append before.chunks (one.chunk ∷ []) ∙ ap (λ n. n + 1) before.as_many ∙ sym next_is;
+          done = done_at v2 _ _ _ _ _ _ (append_assoc pieces before.read one.read) (append_assoc cs before.chunks (one.chunk ∷ [])) (append_assoc text before.shown one.shown) one.done;
+        }
+
+    -- and then the end
+    pub come_to : (s s1 s2 : S) (w w1 w2 : W) (count : ℕ) (v1 v2 : SessionValue) (end : End) (pieces cs : List (List ℕ)) (text : List ℕ)
+        → HasManyMore count (λ read. gave s read s1) (λ shown. took w shown w1) v1 pieces cs text
+        → ((pieces cs : List (List ℕ)) (text : List ℕ) → HasDone v1 pieces cs text
+        → (read : List (List ℕ)) × gave s1 read s2 × took w1 [] w2 × (length (pieces ++ read) ≤ v2.options.max_reads) × HasEnded v2 end (pieces ++ read) text)
+        → HasComeTo end (λ read. gave s read s2) (λ shown. took w shown w2) v2 pieces text
+    come_to s s1 s2 w w1 w2 count v1 v2 end pieces cs text before step =
+        let last = step (pieces ++ before.read) (cs ++ before.chunks) (text ++ before.shown) before.done in
+        record {
+          read = before.read ++ last.0;
+          shown = before.shown;
+          gave = gave_more s s1 s2 before.read last.0 before.gave last.1;
+          took = subst (λ shown. took w shown w2) (append-nil before.shown) (took_more w w1 w2 before.shown [] before.took last.2);
+          ended = subst (λ ps. HasEnded v2 end ps (text ++ before.shown)) (append_assoc pieces before.read last.0) last.4;
+        }

@@ -1,0 +1,18 @@
+use Rattle.std.proofs.Common.{◌≡◌, ℕ, ◌≤◌, ◌-◌, List}
+use Rattle.bz_engine.specs.declared.session.Stage.TheVariants.{Going}
+use Rattle.bz_engine.specs.SessionValue.{HasDone, IsSameRun}
+use Rattle.bz_engine_laws.specs.Steps.{HasManyMore}
+use Rattle.bz_engine_laws.proofs.steps.take_steps.Given as goal
+
+-- so many chunks are done as steps were taken
+abbrev pub invariant-loop-taken : goal.invariant-loop-taken
+invariant-loop-taken g l = record {
+  within : l.taken ≤ l.count;
+  same : IsSameRun l.initial.session l.session;
+  goes : l.initial.session.stage ≡ Going → l.session.stage ≡ Going;
+  done : (pieces cs : List (List ℕ)) (text : List ℕ) → HasDone l.initial.session pieces cs text
+      → HasManyMore l.taken (λ read. g.S.Source.gave l.initial.source read l.source) (λ shown. g.W.Sink.took l.initial.sink shown l.sink) l.session pieces cs text;
+}
+
+abbrev pub decreases-loop-taken : goal.decreases-loop-taken
+decreases-loop-taken g l = l.count - l.taken
