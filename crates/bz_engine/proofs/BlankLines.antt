@@ -1,5 +1,5 @@
 -- An empty line is a chunk, and no statement stands in it.
-use Rattle.std.proofs.Common.{◌≡◌, ℕ, false, zero, suc, ◌+◌, ◌≤◌, Bool, List, [], ◌∷◌, length, take, refl, ap, subst, arith}
+use Rattle.std.proofs.Common.{◌≡◌, ℕ, false, zero, suc, ◌+◌, ◌≤◌, Bool, List, [], ◌∷◌, take, refl, ap, subst, arith}
 use Rattle.std.specs.Prelude.{None, Ok}
 use Rattle.std.specs.Str.{IsUtf8}
 use Rattle.bz_token.specs.Cuts.{IsChunk}

@@ -1,6 +1,6 @@
 -- The first chunk of the text ahead is the next chunk.
-use Rattle.std.proofs.Common.{◌≡◌, ℕ, ◌-◌, ◌<◌, ◌≤◌, List, ◌++◌, length, take, drop, sym, ◌∙◌, ap, subst, arith}
-use Rattle.std.proofs.lemmas.List.{take-take, length-take-le, length-drop}
+use Rattle.std.proofs.Common.{◌≡◌, ℕ, ◌<◌, ◌≤◌, List, ◌++◌, length, take, drop, sym, ◌∙◌, ap, subst, arith}
+use Rattle.std.proofs.lemmas.List.{take-take, length-take-le}
 use Rattle.bz_token.specs.Cuts.{IsChunk, EndsBefore}
 use Rattle.bz_devices.specs.Ahead.{Ahead, IsNextChunk, IsFewAfter}
 use Rattle.bz_devices.specs.private.AheadSteps.{EndsAt}

@@ -1,9 +1,6 @@
-use Rattle.std.proofs.Common.{ap, arith, subst, ◌+◌}
-use Rattle.bz_token.specs.FirstChunk.{IsFirstChunk, IsFront}
-use Rattle.bz_engine.specs.private.Edits.{IsEdited}
+use Rattle.std.proofs.Common.{ap, arith, ◌+◌}
 use Rattle.bz_engine.specs.Progress.{Progress}
 use Rattle.bz_engine.proofs.BlankLines.{newline_edited}
-use Rattle.bz_engine.proofs.FirstChunks.{first_is_next, chunk_is}
 use Rattle.bz_engine.proofs.next_chunk.edit_first.Goals as goal
 
 pub returns-then-max_statement-gt0-clause-first : goal.returns-then-max_statement-gt0-clause-first

@@ -9,11 +9,9 @@ use Rattle.bz_engine.proofs.Advances.{on_err, some_of, none_of}
 use Rattle.bz_engine.proofs.Faults.{memory_alone}
 use Rattle.bz_engine.proofs.Kept.{lines_fit, session_ahead}
 use Rattle.bz_engine.proofs.Runs.{ok_is_no_err}
-use Rattle.bz_engine.proofs.Stages.{err_on_ok, err_if_ok, with_ahead, few_ahead, with_more, with_edit, next_edited}
-use Rattle.bz_engine.specs.Progress.{Progress}
+use Rattle.bz_engine.proofs.Stages.{err_on_ok, err_if_ok, with_more, with_edit, next_edited}
 use Rattle.bz_engine.specs.declared.next_chunk.NextChunk.{NextChunk}
 use Rattle.bz_engine.specs.SessionValue.{SessionValue}
-use Rattle.bz_engine.specs.private.NextChunks.{IsNextEdited}
 use Rattle.bz_passes.specs.Exchange.{Fits}
 use Rattle.bz_engine.proofs.session.Session.edit_found.Goals as goal
 
