@@ -20,6 +20,10 @@ use bz_tree::Row;
 use std::alloc::{AllocError, Global};
 use std::marker::Model;
 
+/// How often a rule is written into a new row. The rows stay in the arena until the rule is done, so where more commands
+/// change it they edit its tree.
+const MOST_ROWS: u8 = 8;
+
 /// The row of a rule, with its head.
 #[derive(Drop)]
 pub struct RuleRow<'a> {
@@ -27,6 +31,8 @@ pub struct RuleRow<'a> {
     pub(crate) head: Head<'a>,
     // Where new rows stand.
     pub(crate) bump: &'a Bump,
+    // How many there are. Contracts do not see it.
+    rows: u8,
 }
 
 impl<'a> Model for RuleRow<'a> {
@@ -55,6 +61,7 @@ impl<'a> RuleRow<'a> {
             row: *row,
             head,
             bump,
+            rows: 0,
         })
     }
 
@@ -66,8 +73,9 @@ impl<'a> RuleRow<'a> {
         print_head(env, fields, self.head)
     }
 
-    // Takes other parts, where a head stands in them. False: it stands in none, and the rule is as it was.
-    fn take(&mut self, row: Row<'a>) -> bool
+    // Takes other parts, which may be new ones, where a head stands in them. False: it stands in none, and the rule is
+    // as it was.
+    fn take(&mut self, row: Row<'a>, is_new: bool) -> bool
         requires { (s : Statement) × ((s.class ≡ class_of s.nodes) × IsRowOf s row) }
         ensures taken { IsTrue result → (s : Statement) → IsRowOf s row.entry → self.new ≡ s }
         ensures same { IsFalse result → self.new ≡ self.old }
@@ -77,6 +85,7 @@ impl<'a> RuleRow<'a> {
         };
         self.row = row;
         self.head = head;
+        self.rows = self.rows.saturating_add(is_new as u8);
         true
     }
 
@@ -96,6 +105,9 @@ impl<'a> RuleRow<'a> {
         if let Action::Print(fields) = &command.action {
             return self.print(env, fields.as_slice());
         }
+        if self.rows >= MOST_ROWS {
+            return Ok(None);
+        }
         let Some(attr) = one_attribute(command) else {
             return Ok(None);
         };
@@ -112,7 +124,7 @@ impl<'a> RuleRow<'a> {
             start,
             end,
         };
-        if self.take(row) {
+        if self.take(row, done.changed) {
             return Ok(Some(done));
         }
         Ok(None)
