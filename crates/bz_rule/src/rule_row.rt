@@ -24,6 +24,9 @@ use std::marker::Model;
 /// change it they edit its tree.
 const MOST_ROWS: u8 = 8;
 
+/// How many parts a row has at most that is written anew: of a longer one the tree takes less memory.
+const MOST_PARTS: usize = 1_048_576;
+
 /// The row of a rule, with its head.
 #[derive(Drop)]
 pub struct RuleRow<'a> {
@@ -105,7 +108,7 @@ impl<'a> RuleRow<'a> {
         if let Action::Print(fields) = &command.action {
             return self.print(env, fields.as_slice());
         }
-        if self.rows >= MOST_ROWS {
+        if self.rows >= MOST_ROWS || self.row.parts.len() > MOST_PARTS {
             return Ok(None);
         }
         let Some(attr) = one_attribute(command) else {
