@@ -20,8 +20,8 @@ use Rattle.bz_attribute.specs.Rules.{first_named, ident_of, is_operator_item, is
 use Rattle.bz_canonical.specs.private.Fronts.{IsTokenFront, IsQuotedFront}
 use Rattle.bz_canonical.specs.private.Segments.{AreNotesFront, AreSegmentsFront, IsGroupFront}
 use Rattle.bz_canonical.specs.private.Statements.{HasArgumentName, IsRuleCallFront}
-use Rattle.bz_canonical.proofs.GroupSegments.{begin, more, no_beside, begin_notes, finish_notes, second_of_more, keyword_segment}
-use Rattle.bz_canonical.proofs.Operands.{broken_group, string_value}
+use Rattle.bz_canonical.proofs.GroupSegments.{begin, begin_flat, more, no_beside, begin_notes, finish_notes, no_segments, second_of_more, keyword_segment}
+use Rattle.bz_canonical.proofs.Operands.{broken_group, flat_group, string_value}
 use Rattle.bz_canonical.proofs.Chained.{value_nodes}
 use Rattle.bz_canonical.proofs.Taken.{taken}
 
@@ -56,6 +56,17 @@ named_front depth start last next middle below after rest name n h c e q comma s
           (many e c (nat_le 1 n) (nat_le 2 (0 + 1 + count s.segs)) (nat_le 2 (0 + 1 + count s.segs) && segs_hold s.segs) counted some)) closes bracketed;
       named = q.value;
     }
+
+-- the only argument is the name, in place
+pub only_named_front : (depth : ℕ) (text start last rest name : List ℕ) → text ≡ 40 ∷ (codes "name" ++ (codes " = " ++ start)) → IsQuotedFront start name last → last ≡ 41 ∷ rest → IsRuleCallFront depth (Some name) text rest
+only_named_front depth text start last rest name is q closes =
+    let first : List ℕ = codes "name" ++ (codes " = " ++ start) in
+    let string : IsTokenFront String start last = record { token = 34 ∷ (name ++ 34 ∷ []); is = q.is; stays = refl; front = q.front } in
+    let ident : IsTokenFront Identifier first (codes " = " ++ start) = record { token = codes "name"; is = name_text; stays = refl; front = refl } in
+    let arg = keyword_segment RuleCall 0 depth first (codes " = " ++ start) last start false refl ident refl (value_nodes 0 depth start last false (string_value start last string 0 depth)) in
+    let all = begin_flat RuleCall 0 depth first last false arg no_segs last (no_segments RuleCall depth) refl refl in
+    subst (λ t. IsRuleCallFront depth (Some name) t rest) (sym is)
+    (record { holds = false; group = flat_group RuleCall 0 depth first last rest 41 1 false refl all refl closes; named = q.value })
 
 -- no argument is a name
 

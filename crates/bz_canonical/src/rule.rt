@@ -17,7 +17,7 @@ pub(crate) struct RuleCall<'t> {
     pub(crate) rest: &'t [u8],
 }
 
-/// The call of a rule here, whose name is its first argument of two or more, or which has none.
+/// The call of a rule here, whose name is its first argument or which has none.
 pub(crate) fn rule_call(text: &[u8], depth: u8) -> Option<RuleCall<'_>>
     requires { depth < 253 }
     ensures { IfSome result (λ read. IsRuleCallFront depth (option_map (λ name. name.now) read.name)
@@ -32,10 +32,41 @@ pub(crate) fn rule_call(text: &[u8], depth: u8) -> Option<RuleCall<'_>>
             })
         }
         None => {
+            let read = short_call(text, depth)?;
+            Some(read)
+        }
+    }
+}
+
+/// The call of a rule here, whose name is its only argument, in place, or which has none.
+fn short_call(text: &[u8], depth: u8) -> Option<RuleCall<'_>>
+    requires { depth < 253 }
+    ensures { IfSome result (λ read. IsRuleCallFront depth (option_map (λ name. name.now) read.name)
+        text.now read.rest.now) }
+{
+    match after_only_name(text) {
+        Some(value) => {
+            let name = simple_string(value)?;
+            let rest = after(name.rest, b')')?;
+            Some(RuleCall {
+                name: Some(name.inner),
+                rest,
+            })
+        }
+        None => {
             let rest = unnamed_call(text, depth)?;
             Some(RuleCall { name: None, rest })
         }
     }
+}
+
+/// What follows the name of the first argument, in place, where that is `name`.
+fn after_only_name(text: &[u8]) -> Option<&[u8]>
+    ensures { IfSome result (λ value. text.now ≡ 40 ∷ (codes "name" ++ (codes " = " ++ value.now))) }
+{
+    let inside = after(text, b'(')?;
+    let value = after_name(inside)?;
+    Some(value)
 }
 
 /// What follows the name of the first argument, on a line of its own, where that is `name`.
