@@ -134,7 +134,7 @@ pub begin_after : (kind : GroupKind) (level depth : ℕ) (text : List ℕ) → C
 begin_after kind level depth text = λ tail last are bare is. record { segs = tail; are = are; front = is; count_is = omega arith; breaks = refl; bare = bare }
 
 -- one segment before others
-one_before : (kind : GroupKind) (level depth : ℕ) (inner end : List ℕ) (k : Bool) → (s : IsSegmentFront kind level depth inner end k) → (tail : Segs) → AreSegments kind depth tail → AreSegments kind depth (seg [] s.xs None tail)
+abbrev pub one_before : (kind : GroupKind) (level depth : ℕ) (inner end : List ℕ) (k : Bool) → (s : IsSegmentFront kind level depth inner end k) → (tail : Segs) → AreSegments kind depth tail → AreSegments kind depth (seg [] s.xs None tail)
 one_before kind level depth inner end k s tail are = record {
   texts = (refl, s.is.some, s.is.texts, refl, are.texts);
   kinds = (s.is.kinds, are.kinds);
@@ -144,7 +144,7 @@ one_before kind level depth inner end k s tail are = record {
   stays = ap (λ xs. seg [] xs None _) s.is.stays ∙ ap (λ ss. seg [] s.xs None ss) are.stays;
 }
 
-pub begin_flat : (kind : GroupKind) (level depth : ℕ) (text end : List ℕ) (k : Bool) → IsSegmentFront kind level depth text end k → ContinuesFlat kind true level depth text end 1 k
+abbrev pub begin_flat : (kind : GroupKind) (level depth : ℕ) (text end : List ℕ) (k : Bool) → IsSegmentFront kind level depth text end k → ContinuesFlat kind true level depth text end 1 k
 begin_flat kind level depth text end k s = λ tail last are bare is. record {
   segs = seg [] s.xs None tail;
   are = one_before kind level depth text end k s tail are;
@@ -251,7 +251,7 @@ one_beside text inner rest is f = record {
 
 -- what a segment is
 
-nodes_segment : (kind : GroupKind) (level depth : ℕ) (text rest : List ℕ) (h : Bool) → (v : AreNodesFront level depth text rest h) → IsOf kind (item v.x v.xs) → IsSegmentFront kind level depth text rest h
+abbrev pub nodes_segment : (kind : GroupKind) (level depth : ℕ) (text rest : List ℕ) (h : Bool) → (v : AreNodesFront level depth text rest h) → IsOf kind (item v.x v.xs) → IsSegmentFront kind level depth text rest h
 nodes_segment kind level depth text rest h v grammar = record {
   xs = item v.x v.xs;
   is = record {
@@ -307,16 +307,17 @@ equals_edge (Some Dict) = refl
 equals_edge (Some ListComp) = refl
 equals_edge (Some DictComp) = refl
 
--- an argument by its name
-abbrev pub keyword_segment : (kind : GroupKind) (level depth : ℕ) (text equals rest value : List ℕ) (h : Bool) → is_call kind ≡ true → IsTokenFront Identifier text equals
-    → equals ≡ codes " = " ++ value → AreNodesFront level depth value rest h → IsSegmentFront kind level depth text rest h
-keyword_segment kind level depth text equals rest value h call f eq v = record {
+-- a value by its name
+abbrev pub named_segment : (kind : GroupKind) (level depth : ℕ) (text equals rest value : List ℕ) (h : Bool) → (f : IsTokenFront Identifier text equals)
+    → equals ≡ codes " = " ++ value → (v : AreNodesFront level depth value rest h) → IsOf kind (item (leaf Identifier f.token) (item (leaf Operator (codes "=")) (item v.x v.xs)))
+    → IsSegmentFront kind level depth text rest h
+named_segment kind level depth text equals rest value h f eq v grammar = record {
   xs = item (leaf Identifier f.token) (item (leaf Operator (codes "=")) (item v.x v.xs));
   is = record {
     some = refl;
     texts = ((f.is, refl), ((equals_text, refl), v.are.texts));
     kinds = (λ e. e, tt, (λ e. e, tt, v.are.kinds));
-    grammar = argument_of kind call _ (IsArg.keyword refl refl v.are.test);
+    grammar = grammar;
     no_for = v.are.no_for;
     depth_fits = most _ _ depth (omega arith) (most _ _ depth (omega arith) v.are.depth_fits);
     stays = ap (λ xs. item (leaf Identifier f.token) (item (leaf Operator (codes "=")) xs)) v.are.stays;
@@ -338,6 +339,11 @@ keyword_segment kind level depth text equals rest value h call f eq v = record {
     front : (gap : Gap) → gap_bytes gap ++ text ≡ bytes_of (items_pieces Broken level (Some kind) gap Start (item (leaf Identifier f.token) (item (leaf Operator (codes "=")) (item v.x v.xs)))) ++ rest
     front gap = ap (λ (t : List ℕ). gap_bytes gap ++ t) (f.front ∙ ap (λ (t : List ℕ). f.token ++ t) (eq ∙ ap (λ (t : List ℕ). 32 ∷ 61 ∷ t) (value_is gap)))
         ∙ by gap (edge_after (Some kind) EdgeOperand (leaf Operator (codes "="))) (equals_edge (Some kind))
+
+-- an argument by its name
+abbrev pub keyword_segment : (kind : GroupKind) (level depth : ℕ) (text equals rest value : List ℕ) (h : Bool) → is_call kind ≡ true → IsTokenFront Identifier text equals
+    → equals ≡ codes " = " ++ value → AreNodesFront level depth value rest h → IsSegmentFront kind level depth text rest h
+keyword_segment kind level depth text equals rest value h call f eq v = named_segment kind level depth text equals rest value h f eq v (argument_of kind call _ (IsArg.keyword refl refl v.are.test))
 
 -- an entry of a dict
 pub entry_segment : (level depth : ℕ) (text colon rest value : List ℕ) (h : Bool) → IsValueFront level depth text colon false

@@ -1,7 +1,10 @@
 pub mod Strings
 pub mod Tokens
+pub mod Taken
 pub mod Operands
 pub mod GroupSegments
 pub mod Chained
-pub mod RuleStatements
+pub mod RuleCalls
+pub mod BareStatements
+pub mod StatementFronts
 pub mod CanonicalChunks

@@ -122,7 +122,7 @@ broken_group kind level depth inside middle below after rest z n h c e closes co
     by gap b e1 k e2 o e3 A = rw (e1, e2, e3) (body (broken_segs Broken (level + 1) kind true s.segs) (comments (level + 1) notes.notes) (gap_bytes gap))
 
 -- a group in place
-pub flat_group : (kind : GroupKind) (level depth : ℕ) (inside end rest : List ℕ) (z n : ℕ) (h : Bool) → closing kind ≡ z ∷ []
+abbrev pub flat_group : (kind : GroupKind) (level depth : ℕ) (inside end rest : List ℕ) (z n : ℕ) (h : Bool) → closing kind ≡ z ∷ []
     → AreFlatFront kind true level depth inside end n h → (breaks_by_count kind n || (nat_le 2 n && h)) ≡ false → end ≡ z ∷ rest
     → IsGroupFront kind level depth (opening kind ++ inside) rest h
 flat_group kind level depth inside end rest z n h closes s few ends = record {

@@ -3,7 +3,7 @@
 ghost use Rattle.std.specs.Prelude.{◌≡◌, ◌-◌, ◌≤◌, ◌<◌, length, option_map, take, IfSome};
 ghost use Rattle.bz_canonical.specs.Canonical.{IsCanonical};
 
-use crate::rule::named_rule;
+use crate::statement::statement;
 use bz_token::check_utf8;
 use bz_tree::Class;
 
@@ -11,9 +11,11 @@ use bz_tree::Class;
 #[derive(Clone, Copy)]
 pub struct CanonicalChunk<'t> {
     pub chunk: &'t str,
+    /// What is written of its statement: the chunk, but for the empty line after comment lines alone.
+    pub written: &'t str,
     /// The class of its statement.
     pub class: Class,
-    /// The name of a rule. None: it is no rule.
+    /// The name of a rule. None: it is no rule, or has no name.
     pub name: Option<&'t str>,
 }
 
@@ -23,21 +25,33 @@ const DEEPEST: u8 = 253;
 /// The chunk that the text begins with, where it stands as it would be written. None: it may be so or not.
 pub fn canonical(text: &str, max_depth: u8) -> Option<CanonicalChunk<'_>>
     ensures { IfSome result (λ found. IsCanonical max_depth found.class (option_map (λ name. name.now) found.name)
-        found.chunk.now text.now) }
+        found.chunk.now found.written.now text.now) }
 {
     if max_depth > DEEPEST {
         return None;
     }
-    let rule = named_rule(text.as_bytes(), max_depth)?;
-    let Ok(name) = check_utf8(rule.name) else {
-        return None;
-    };
-    let chunk = without(text, rule.rest.len())?;
-    Some(CanonicalChunk {
-        chunk,
-        class: Class::Rule,
-        name: Some(name),
-    })
+    let read = statement(text.as_bytes(), max_depth)?;
+    let chunk = without(text, read.rest.len())?;
+    let written = without(text, read.end.len())?;
+    match read.name {
+        None => Some(CanonicalChunk {
+            chunk,
+            written,
+            class: read.class,
+            name: None,
+        }),
+        Some(bytes) => {
+            let Ok(name) = check_utf8(bytes) else {
+                return None;
+            };
+            Some(CanonicalChunk {
+                chunk,
+                written,
+                class: read.class,
+                name: Some(name),
+            })
+        }
+    }
 }
 
 /// The text without so many of its last bytes, where it may be cut there.

@@ -2,7 +2,7 @@
 
 ghost use Rattle.bz_token.specs.declared.token.Kind.TheVariants.{Comment, Integer};
 ghost use Rattle.bz_token.specs.Lexical.{ends_blank, is_blank, is_comment};
-ghost use Rattle.std.specs.Prelude.{◌≡◌, ◌∷◌, ◌++◌, ◌≤◌, ◌&&◌, not, length, codes, IfSome, IsTrue, true, false, ◌==◌};
+ghost use Rattle.std.specs.Prelude.{◌≡◌, ◌∷◌, ◌++◌, ◌≤◌, ◌&&◌, not, length, codes, IfSome, IsTrue, true, false, ◌==◌, ℕ};
 ghost use Rattle.std.specs.Char.{is_ascii_digit};
 ghost use Rattle.std.specs.List.{prefix_len};
 ghost use Rattle.bz_token.specs.declared.token.Kind.TheVariants.{Identifier, String};
@@ -33,15 +33,45 @@ fn string_len(bytes: &[u8]) -> usize
     plain_len(b'"', bytes)
 }
 
-/// What follows the string in double quotes here, in which no backslash stands.
+/// What follows the string in double quotes here.
 #[inline(always)]
 pub(crate) fn string(text: &[u8]) -> Option<&[u8]>
     ensures { IfSome result (λ rest. IsTokenFront String text.now rest.now) }
 {
     let inside = after(text, b'"')?;
     let (_, end) = inside.split_at(string_len(inside));
-    let rest = after(end, b'"')?;
-    Some(rest)
+    match after(end, b'"') {
+        Some(rest) => Some(rest),
+        None => {
+            let rest = escaped_string(inside)?;
+            Some(rest)
+        }
+    }
+}
+
+/// What follows the string here, its first quote left out, in which a backslash stands.
+fn escaped_string(inside: &[u8]) -> Option<&[u8]>
+    ensures { IfSome result (λ rest. IsTokenFront String (34 ∷ inside.now) rest.now) }
+{
+    let mut rest = inside;
+    for _ in 0..inside.len() {
+        let (_, end) = rest.split_at(string_len(rest));
+        if let Some(last) = after(end, b'"') {
+            return Some(last);
+        }
+        rest = after_escape(end)?;
+    }
+    None
+}
+
+/// What follows a backslash and the byte that it escapes.
+fn after_escape(text: &[u8]) -> Option<&[u8]>
+    ensures { IfSome result (λ rest. (b : ℕ) × ((b == 13) ≡ false) × (text.now ≡ 92 ∷ b ∷ rest.now)) }
+{
+    match text {
+        [b'\\', b, rest @ ..] if *b != b'\r' => Some(rest),
+        _ => None,
+    }
 }
 
 /// A string and what follows it.

@@ -4,14 +4,18 @@
 //! `bz_layout` writes them. What it takes is read back as a statement, of which the chunk itself is written.
 #![tactic(auto)]
 
+mod assignment;
+mod bare;
 mod chunk;
 mod front;
 mod group;
 mod keyword;
+mod load;
 mod notes;
 mod plain;
 mod rule;
 mod segments;
+mod statement;
 mod value;
 
 pub use chunk::{CanonicalChunk, canonical};

@@ -1,48 +1,156 @@
-//! A rule that stands as it would be written.
+//! The call of a rule that stands as it would be written.
 
-ghost use Rattle.std.specs.Prelude.{◌<◌, IfSome, Some};
-ghost use Rattle.bz_tree.specs.declared.stmt.Class.TheVariants.{Rule};
-ghost use Rattle.bz_canonical.specs.private.Statements.{IsStatementFront};
+ghost use Rattle.std.specs.Prelude.{◌≡◌, ◌-◌, ◌<◌, ◌∷◌, ◌++◌, codes, length, option_map, take, IfSome, IfNone, IsFalse, Some, None, ℕ, []};
+ghost use Rattle.bz_layout.specs.Pieces.{indent};
+ghost use Rattle.bz_canonical.specs.private.Statements.{HasArgumentName, IsRuleCallFront};
 
-use crate::front::{after, after_name, identifier, line, simple_string};
-use crate::notes::lines;
+use crate::front::{after, after_name, line, simple_string};
+use crate::group::group;
 use crate::segments::segments;
 use crate::value::either;
 use bz_tree::GroupKind;
 
-/// A rule's name, and what follows the rule.
+/// The name that the call of a rule gives, and what follows the call.
 #[derive(Clone, Copy)]
-pub(crate) struct NamedRule<'t> {
-    pub(crate) name: &'t [u8],
+pub(crate) struct RuleCall<'t> {
+    pub(crate) name: Option<&'t [u8]>,
     pub(crate) rest: &'t [u8],
 }
 
-/// The rule that the text begins with, whose first argument of two or more is its name.
-pub(crate) fn named_rule(text: &[u8], max_depth: u8) -> Option<NamedRule<'_>>
-    requires { max_depth < 254 }
-    ensures { IfSome result (λ read. IsStatementFront max_depth Rule (Some read.name.now) text.now read.rest.now) }
+/// The call of a rule here, whose name is its first argument or which has none.
+pub(crate) fn rule_call(text: &[u8], depth: u8) -> Option<RuleCall<'_>>
+    requires { depth < 253 }
+    ensures { IfSome result (λ read. IsRuleCallFront depth (option_map (λ name. name.now) read.name)
+        text.now read.rest.now) }
 {
-    if max_depth == 0 {
-        return None;
+    match after_first_name(text) {
+        Some(value) => {
+            let read = named_call(value, depth)?;
+            Some(RuleCall {
+                name: Some(read.name),
+                rest: read.rest,
+            })
+        }
+        None => {
+            let read = short_call(text, depth)?;
+            Some(read)
+        }
     }
-    let start = lines(text);
-    let kind = identifier(start)?;
-    let inside = after(kind, b'(')?;
+}
+
+/// The call of a rule here, whose name is its only argument, in place, or which has none.
+fn short_call(text: &[u8], depth: u8) -> Option<RuleCall<'_>>
+    requires { depth < 253 }
+    ensures { IfSome result (λ read. IsRuleCallFront depth (option_map (λ name. name.now) read.name)
+        text.now read.rest.now) }
+{
+    match after_only_name(text) {
+        Some(value) => {
+            let name = simple_string(value)?;
+            let rest = after(name.rest, b')')?;
+            Some(RuleCall {
+                name: Some(name.inner),
+                rest,
+            })
+        }
+        None => {
+            let rest = unnamed_call(text, depth)?;
+            Some(RuleCall { name: None, rest })
+        }
+    }
+}
+
+/// What follows the name of the first argument, in place, where that is `name`.
+fn after_only_name(text: &[u8]) -> Option<&[u8]>
+    ensures { IfSome result (λ value. text.now ≡ 40 ∷ (codes "name" ++ (codes " = " ++ value.now))) }
+{
+    let inside = after(text, b'(')?;
+    let value = after_name(inside)?;
+    Some(value)
+}
+
+/// What follows the name of the first argument, on a line of its own, where that is `name`.
+#[inline(always)]
+fn after_first_name(text: &[u8]) -> Option<&[u8]>
+    ensures { IfSome result (λ value. text.now ≡ 40 ∷ 10 ∷ (indent 1 ++ (codes "name" ++ (codes " = " ++ value.now)))) }
+{
+    let inside = after(text, b'(')?;
     let first = line(inside, 1)?;
     let value = after_name(first)?;
+    Some(value)
+}
+
+/// A rule's name, and what follows the call.
+#[derive(Clone, Copy)]
+struct NamedCall<'t> {
+    name: &'t [u8],
+    rest: &'t [u8],
+}
+
+/// The call of a rule whose name is this value, the first argument of two or more.
+fn named_call(value: &[u8], depth: u8) -> Option<NamedCall<'_>>
+    requires { depth < 253 }
+    ensures { IfSome result (λ read. IsRuleCallFront depth (Some read.name.now)
+        (40 ∷ 10 ∷ (indent 1 ++ (codes "name" ++ (codes " = " ++ value.now)))) read.rest.now) }
+{
     let name = simple_string(value)?;
     let next = after(name.rest, b',')?;
-    let read = segments(GroupKind::RuleCall, next, 1, max_depth - 1)?;
+    let read = segments(GroupKind::RuleCall, next, 1, depth)?;
     let noted = either(read.noted, read.one);
     let broken = either(read.ended, noted);
     if !broken {
         return None;
     }
     let end = line(read.rest, 0)?;
-    let closed = after(end, b')')?;
-    let rest = after(closed, b'\n')?;
-    Some(NamedRule {
+    let rest = after(end, b')')?;
+    Some(NamedCall {
         name: name.inner,
         rest,
     })
+}
+
+/// What follows the call of a rule here, no argument of which is `name`.
+fn unnamed_call(text: &[u8], depth: u8) -> Option<&[u8]>
+    requires { depth < 253 }
+    ensures { IfSome result (λ rest. IsRuleCallFront depth None text.now rest.now) }
+{
+    let read = group(GroupKind::RuleCall, text, 0, depth)?;
+    let call = before(text, read.rest.len())?;
+    if has_argument_name(call) {
+        return None;
+    }
+    Some(read.rest)
+}
+
+/// The bytes without so many of the last.
+fn before(text: &[u8], left: usize) -> Option<&[u8]>
+    ensures { IfSome result (λ front. front.now ≡ take (length text.now - left) text.now) }
+{
+    let len = text.len().checked_sub(left)?;
+    let (front, _) = text.split_at_checked(len)?;
+    Some(front)
+}
+
+/// Whether an argument `name` may stand here: its name and equals sign do.
+fn has_argument_name(text: &[u8]) -> bool
+    ensures { IsFalse result → HasArgumentName text.now → ⊥ }
+{
+    let mut rest = text;
+    while let Some(next) = tail(rest) {
+        if rest.starts_with(b"name =") {
+            return true;
+        }
+        rest = next;
+    }
+    false
+}
+
+fn tail(text: &[u8]) -> Option<&[u8]>
+    ensures some { IfSome result (λ rest. (b : ℕ) × (text.now ≡ b ∷ rest.now)) }
+    ensures none { IfNone result (text.now ≡ []) }
+{
+    match text {
+        [_, rest @ ..] => Some(rest),
+        [] => None,
+    }
 }

@@ -1,10 +1,11 @@
 -- A canonical chunk of a statement that the script passes by is the next chunk, and is done.
 use Rattle.std.proofs.Common.{◌≡◌, ℕ, Bool, true, ◌≤◌, ◌+◌, List, [], ◌∷◌, ◌++◌, length, take, refl, sym, ◌∙◌, ap, subst, arith, bytes_eq, rules, Bor}
 use Rattle.std.proofs.Math.Seq.{take-append_seam}
+use Rattle.std.proofs.lemmas.Bool.{false≢true}
 use Rattle.std.proofs.lemmas.List.{length-append}
 use Rattle.std.proofs.lemmas.List.Sums.{count_by-le-length}
 use Rattle.std.proofs.lemmas.Slice.Eq.{bytes_eq-Decides}
-use Rattle.std.specs.Prelude.{Option, Some, if◌then◌else◌, ◌==◌}
+use Rattle.std.specs.Prelude.{Option, None, Some, if◌then◌else◌, ◌==◌}
 use Rattle.std.specs.Str.{IsUtf8}
 use Rattle.bz_token.specs.Places.{line_at}
 use Rattle.bz_tree.specs.declared.stmt.Class.{Class}
@@ -13,11 +14,11 @@ use Rattle.bz_tree.specs.Tree.{Statement}
 use Rattle.bz_tree_laws.proofs.ChunkLaws.{chunk_class}
 use Rattle.bz_layout.specs.Layout.{layout_text}
 use Rattle.bz_command.specs.Labels.{Package, Name, Pkg, All, Kind as OfKind, Line}
-use Rattle.bz_attribute.specs.Rules.{is_text}
+use Rattle.bz_attribute.specs.Rules.{Rule, is_text, rule_of}
 use Rattle.bz_attribute.specs.Marks.{marks_if}
-use Rattle.bz_canonical.specs.Canonical.{HasName, IsNamed, IsCanonical}
+use Rattle.bz_canonical.specs.Canonical.{HasName, IsCanonical, rule_name}
 use Rattle.bz_devices.specs.Ahead.{Ahead, IsFewAfter}
-use Rattle.bz_passes.specs.declared.index.Key.TheVariants.{Name as Named}
+use Rattle.bz_passes.specs.declared.index.Key.TheVariants.{Name as Named, NoName}
 use Rattle.bz_passes.specs.Exchange.{IsPassedBy}
 use Rattle.bz_engine.specs.Meaning.{meaning, changes, fails_on}
 use Rattle.bz_engine.specs.Outcome.{Script, is_query}
@@ -35,16 +36,28 @@ same_bytes xs ys h = search (rules, bytes_eq-Decides)
 bytes_same : (xs : List ℕ) → bytes_eq xs xs ≡ true
 bytes_same xs = search (rules, bytes_eq-Decides)
 
--- a rule of this name
-pub named_key : (s : Statement) (name : Bor (List ℕ)) → IsNamed name.now s → HasKey s (Named name)
+-- a target that asks for a name marks what has this name
+asked_is : (asked : List ℕ) (start : ℕ) (rule : Option Rule) → marks_if (Name asked) start rule ≡ true → is_text asked (rule_name rule) ≡ true
+asked_is asked start None met = met
+asked_is asked start (Some rule) met = met
+
+-- a statement of this name
+pub named_key : (s : Statement) (name : Bor (List ℕ)) → HasName (Some name.now) s → HasKey s (Named name)
 named_key s name h (Name asked) met =
-    let marked : bytes_eq asked name.now ≡ true = sym (ap (marks_if (Name asked) s.start) h.is ∙ ap (is_text asked) h.name_is) ∙ met in
-    let same : asked ≡ name.now = same_bytes asked name.now marked in
+    let same : asked ≡ name.now = same_bytes asked name.now (sym (ap (is_text asked) h) ∙ asked_is asked s.start (rule_of s.nodes) met) in
     ap (bytes_eq name.now) same ∙ bytes_same name.now
 named_key s name h Pkg met = refl
 named_key s name h All met = refl
 named_key s name h (OfKind kind) met = refl
 named_key s name h (Line line) met = refl
+
+-- a statement of no name
+pub nameless_key : (s : Statement) → HasName None s → HasKey s NoName
+nameless_key s h (Name asked) met = absurd (false≢true (sym (ap (is_text asked) h) ∙ asked_is asked s.start (rule_of s.nodes) met))
+nameless_key s h Pkg met = refl
+nameless_key s h All met = refl
+nameless_key s h (OfKind kind) met = refl
+nameless_key s h (Line line) met = refl
 
 front_size : (chunk rest text : List ℕ) → text ≡ chunk ++ rest → length chunk ≤ length text
 front_size chunk rest text is = omega (arith, ap length is, length-append chunk rest)
@@ -56,15 +69,15 @@ front_taken chunk rest text is = sym (ap (take (length chunk)) is ∙ take-appen
 few_lines : (line : ℕ) (chunk : List ℕ) → line_at line chunk ≤ line + length chunk
 few_lines line chunk = omega (arith, count_by-le-length (λ b. b == 10) chunk)
 
-pub canonical_edited : (home : Package) (passes : Script) (keep_going : Bool) (depth most : ℕ) (ahead : Ahead) (class : Class) (name : Option (List ℕ)) (chunk text : List ℕ)
+pub canonical_edited : (home : Package) (passes : Script) (keep_going : Bool) (depth most : ℕ) (ahead : Ahead) (class : Class) (name : Option (List ℕ)) (chunk written text : List ℕ)
     (old mid new : Progress) (before after : List ℕ)
-    → IsFewAfter ahead → IsTakenOf text ahead.bytes → IsUtf8 chunk → length chunk ≤ most → IsCanonical depth class name chunk text
+    → IsFewAfter ahead → IsTakenOf text ahead.bytes → IsUtf8 chunk → length chunk ≤ most → IsCanonical depth class name chunk written text
     → ((s : Statement) → s.class ≡ class_of s.nodes → HasName name s → IsPassedBy (meaning home) (changes home) (fails_on home) passes (Some s))
     → mid ≡ record old { last = Some class }
-    → ((s : Statement) → s.class ≡ class → layout_text s ≡ chunk → after ≡ before ++ (if is_query passes then [] else text_following old.last (Some s ∷ [])))
+    → ((s : Statement) → s.class ≡ class → layout_text s ≡ written → after ≡ before ++ (if is_query passes then [] else text_following old.last (Some s ∷ [])))
     → new ≡ record mid { line = line_at mid.line chunk }
     → IsFirstEdited home passes keep_going depth most ahead old new before after (record { len = length chunk; edited = Done })
-canonical_edited home passes keep_going depth most ahead class name chunk text old mid new before after few outer utf8 size c passed same written is =
+canonical_edited home passes keep_going depth most ahead class name chunk written text old mid new before after few outer utf8 size c passed same put is =
     let within : length chunk ≤ length text = front_size chunk c.rest text c.front in
     let front : chunk ≡ take (length chunk) text = front_taken chunk c.rest text c.front in
     let read = c.read old.line in
@@ -74,5 +87,5 @@ canonical_edited home passes keep_going depth most ahead class name chunk text o
       edited = λ cs statements kept. subst (λ bytes. IsEdited home passes keep_going depth cs statements bytes old new before after Done) (chunk_is chunk text ahead.bytes outer within front)
           (stays_edited home passes keep_going depth cs statements chunk read.statement class old mid new before after kept (utf8, read.read)
           (passed read.statement (chunk_class old.line chunk read.read.tokens read.statement read.read.reads.chunk) read.named)
-          (sym read.class_is) same (written read.statement read.class_is read.written) is);
+          (sym read.class_is) same (put read.statement read.class_is read.written) is);
     }

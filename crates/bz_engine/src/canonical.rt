@@ -66,7 +66,7 @@ fn find_passed<'a>(
     max_statement: u64,
 ) -> Option<CanonicalChunk<'a>>
     ensures canonical { IfSome result (λ found. IsCanonical script.entry.max_depth found.class
-        (option_map (λ name. name.now) found.name) found.chunk.now text.now) }
+        (option_map (λ name. name.now) found.name) found.chunk.now found.written.now text.now) }
     ensures size { IfSome result (λ found. length found.chunk.now ≤ max_statement) }
     ensures passed { IfSome result (λ found. (s : Statement) → s.class ≡ class_of s.nodes
         → HasName (option_map (λ name. name.now) found.name) s
@@ -94,7 +94,7 @@ fn is_name_passed_by(script: Script<'_>, name: Option<&str>) -> bool
     passes_by(&rules, script.passes.indexed(), name_key(name))
 }
 
-/// The key of a rule of this name, or of what is no rule.
+/// The key of a rule of this name, or of what has none.
 fn name_key(name: Option<&str>) -> Key<'_>
     ensures { (s : Statement) → s.class ≡ class_of s.nodes → HasName (option_map (λ name. name.now) name.entry) s
         → HasKey s result }
@@ -113,13 +113,13 @@ fn put_canonical(
     text: &mut Vec<u8>,
 ) -> Result<(), AllocError>
     ensures last { OnOk result (progress.new ≡ record progress.old { last = Some found.entry.class }) }
-    ensures text { OnOk result ((s : Statement) → s.class ≡ found.entry.class → layout_text s ≡ found.entry.chunk.now
+    ensures text { OnOk result ((s : Statement) → s.class ≡ found.entry.class → layout_text s ≡ found.entry.written.now
         → text.new.items ≡ text.old.items
         ++ (if is_query script.entry.passes.now then [] else text_following progress.old.last (Some s ∷ []))) }
 {
     if !script.passes.is_query() {
         put_gap(progress.last, found.class, text)?;
-        text.extend_from_slice(found.chunk.as_bytes())?;
+        text.extend_from_slice(found.written.as_bytes())?;
     }
     progress.last = Some(found.class);
     Ok(())

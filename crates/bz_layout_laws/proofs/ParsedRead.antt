@@ -34,7 +34,7 @@ plain_item : (b : Preceding) (x : Item) → HasKind b x → plain_call x ≡ x
 plain_item b (leaf kind text) h = refl
 plain_item b (group kind segs one_comma end) h = ap (λ k. group k segs one_comma end) (ap plain_kind h.1 ∙ plain_group h.0 b _ ∙ sym h.1)
 
-plain_same : (one : Bool) (b : Preceding) (xs : List Item) → HaveKinds one b (items_of xs) → plain_calls xs ≡ xs
+pub plain_same : (one : Bool) (b : Preceding) (xs : List Item) → HaveKinds one b (items_of xs) → plain_calls xs ≡ xs
 plain_same one b [] h = refl
 plain_same one b (x ∷ xs) h = λ i. plain_item b x h.1 i ∷ plain_same one (after_item x) xs h.2 i
 

@@ -11,7 +11,7 @@ use Rattle.bz_tree_laws.proofs.WrittenBack.{group_back}
 use Rattle.bz_layout_laws.specs.Legible.{are_some, AreLegibleSegs}
 use Rattle.bz_layout_laws.specs.Spelled.{spelled, spelled_items, spelled_segs}
 
-items_same : (xs : Items) → items_of (list_of xs) ≡ xs
+pub items_same : (xs : Items) → items_of (list_of xs) ≡ xs
 items_same no_items = refl
 items_same (item x xs) = ap (item x) (items_same xs)
 

@@ -1,21 +1,86 @@
 -- The statement at the front of a text that stands as it is laid out, for private clauses.
-use Rattle.std.specs.Prelude.{◌≡◌, ℕ, List, ◌++◌, Option}
+use Rattle.std.specs.Prelude.{◌≡◌, ◌≤◌, codes, ℕ, List, [], ◌∷◌, ◌++◌, Bool, true, false, if◌then◌else◌, map, Option, None}
+use Rattle.bz_token.specs.declared.token.Kind.TheVariants.{String}
+use Rattle.bz_tree.specs.declared.kinds.Preceding.TheVariants.{Other}
 use Rattle.bz_tree.specs.declared.stmt.Class.{Class}
-use Rattle.bz_tree.specs.Tree.{Statement}
-use Rattle.bz_layout.specs.Layout.{layout_text}
-use Rattle.bz_layout_laws.specs.Spelled.{spelled_statement}
+use Rattle.bz_tree.specs.declared.stmt.GroupKind.TheVariants.{RuleCall, Load}
+use Rattle.bz_tree.specs.Grammar.{IsStatement}
+use Rattle.bz_tree.specs.Statement.{class_of, is_rule, rule_call}
+use Rattle.bz_tree.specs.Tree.{Item, Statement, items_of, segments}
+use Rattle.bz_layout.specs.declared.broken.Style.TheVariants.{Broken}
+use Rattle.bz_layout.specs.declared.spacing.Edge.TheVariants.{Start}
+use Rattle.bz_layout.specs.declared.spacing.Gap.TheVariants.{Closed}
+use Rattle.bz_layout.specs.Layout.{is_comment, items_pieces, layout_text}
+use Rattle.bz_layout.specs.Pieces.{bytes_of}
+use Rattle.bz_layout_laws.specs.Legible.{are_some, items_depth}
+use Rattle.bz_layout_laws.specs.Parsed.{HaveKinds, plain_calls}
+use Rattle.bz_layout_laws.specs.Spelled.{spelled, spelled_statement}
+use Rattle.bz_layout_laws.specs.TextsOfKinds.{HaveTexts}
 use Rattle.bz_layout_laws.specs.WellFormed.{IsWellFormed}
-use Rattle.bz_canonical.specs.Canonical.{HasName}
+use Rattle.bz_attribute.specs.Rules.{name_in, rule_of}
+use Rattle.bz_canonical.specs.Canonical.{HasName, rule_name}
+use Rattle.bz_canonical.specs.private.Fronts.{IsTokenFront}
+use Rattle.bz_canonical.specs.private.Segments.{AreFlatFront, IsGroupFront}
+use Rattle.bz_canonical.specs.private.Values.{AreNodesFront}
 
--- The text begins with what is written of a well-formed statement of this class, in which no string is to be spelled anew.
-pub record IsLaidOut (depth : ℕ) (class : Class) (text rest : List ℕ) : Type 0 where
+-- the call of a rule of this name
+pub record IsRuleCallFront (depth : ℕ) (name : Option (List ℕ)) (text rest : List ℕ) : Type 0 where
+  pub holds : Bool
+  pub group : IsGroupFront RuleCall 0 depth text rest holds
+  pub named : name_in (segments group.segs) ≡ name
+
+-- an argument's name that is `name`, and its equals sign, stand somewhere in a text
+pub record HasArgumentName (text : List ℕ) : Type 0 where
+  pub before : List ℕ
+  pub after : List ℕ
+  pub is : text ≡ before ++ (codes "name =" ++ after)
+
+-- what stands in the bracket of a load, in place, and the closing bracket
+pub record IsLoadFront (inside rest : List ℕ) : Type 0 where
+  pub middle : List ℕ
+  pub end : List ℕ
+  pub many : ℕ
+  pub file : IsTokenFront String inside middle
+  pub names : AreFlatFront Load false 0 0 middle end many false
+  pub ends : end ≡ 41 ∷ rest
+
+abbrev pub assign_operator : Bool → List ℕ
+assign_operator adds = if adds then codes "+=" else codes "="
+
+-- the operator of an assignment and the value
+pub record IsAssignedFront (depth : ℕ) (text rest : List ℕ) : Type 0 where
+  pub adds : Bool
+  pub value : List ℕ
+  pub holds : Bool
+  pub front : text ≡ 32 ∷ (assign_operator adds ++ 32 ∷ value)
+  pub nodes : AreNodesFront 0 depth value rest holds
+
+-- what well-formed statements ask of the nodes of one, where no string is to be spelled anew
+pub record IsBareFront (depth : ℕ) (class : Class) (name : Option (List ℕ)) (text rest : List ℕ) : Type 0 where
+  pub nodes : List Item
+  pub some : are_some (items_of nodes) ≡ true
+  pub texts : HaveTexts (items_of nodes)
+  pub kinds : HaveKinds true Other (items_of (plain_calls nodes))
+  pub rule : nodes ≡ (if is_rule (plain_calls nodes) then rule_call (plain_calls nodes) else plain_calls nodes)
+  pub class_is : class ≡ class_of nodes
+  pub other : is_comment class ≡ false
+  pub grammar : IsStatement (items_of nodes)
+  pub depth_fits : items_depth (items_of nodes) ≤ depth
+  pub stays : map spelled nodes ≡ nodes
+  pub front : text ≡ bytes_of (items_pieces Broken 0 None Closed Start (items_of nodes)) ++ rest
+  pub named : rule_name (rule_of nodes) ≡ name
+
+-- comment lines alone are a chunk with the empty line after them
+abbrev pub empty_line : Class → List ℕ
+empty_line class = if is_comment class then codes "\n" else []
+
+-- The text begins with what is written of a well-formed statement of this class and name, in which no string is to be spelled
+-- anew. `end` follows that, `rest` its chunk.
+pub record IsStatementFront (depth : ℕ) (class : Class) (name : Option (List ℕ)) (text end rest : List ℕ) : Type 0 where
   pub s : Statement
   pub well : IsWellFormed depth s
   pub stays : spelled_statement s ≡ s
   pub class_is : s.class ≡ class
-  pub front : text ≡ layout_text s ++ rest
-
--- the same of a statement of this name
-pub record IsStatementFront (depth : ℕ) (class : Class) (name : Option (List ℕ)) (text rest : List ℕ) : Type 0 where
-  pub laid : IsLaidOut depth class text rest
-  pub named : HasName name laid.s
+  pub named : HasName name s
+  pub front : text ≡ layout_text s ++ end
+  pub ends : end ≡ empty_line class ++ rest

@@ -15,7 +15,7 @@ returns-clause-chunk c =
     let passes = c.args.script.passes.now in
     let before = c.args.text.now.items in
     canonical_edited c.args.script.home.now passes c.args.script.keep_going c.args.script.max_depth c.args.max_statement c.args.ahead.now
-    c.in-Some.found.class _ c.in-Some.found.chunk.now c.text.result.now c.args.progress.now c.put_canonical.new.progress c.pass_lines.new.self
+    c.in-Some.found.class _ c.in-Some.found.chunk.now c.in-Some.found.written.now c.text.result.now c.args.progress.now c.put_canonical.new.progress c.pass_lines.new.self
     before c.put_canonical.new.text.items
     c.requires.few c.text.ensures.front (subst IsUtf8 c.as_bytes.ensures.value c.as_bytes.ensures.utf8) found.size found.canonical found.passed
     (put.last ∙ ap (λ (p : Progress). record p { last = Some c.in-Some.found.class }) same)

@@ -1,0 +1,25 @@
+//! An assignment that stands as it would be written.
+
+ghost use Rattle.std.specs.Prelude.{◌≡◌, ◌<◌, ◌++◌, codes, IfSome};
+ghost use Rattle.bz_canonical.specs.private.Statements.{IsAssignedFront};
+
+use crate::front::after_equals;
+use crate::value::nodes;
+
+/// What follows the assignment to a name that ends here.
+pub(crate) fn assigned(text: &[u8], depth: u8) -> Option<&[u8]>
+    requires { depth < 255 }
+    ensures { IfSome result (λ rest. IsAssignedFront depth text.now rest.now) }
+{
+    match text {
+        [b' ', b'+', b'=', b' ', value @ ..] => {
+            let read = nodes(value, 0, depth)?;
+            Some(read.rest)
+        }
+        _ => {
+            let value = after_equals(text)?;
+            let read = nodes(value, 0, depth)?;
+            Some(read.rest)
+        }
+    }
+}

@@ -1,0 +1,76 @@
+//! A statement that stands as it would be written, without the comments above and beside it.
+
+ghost use Rattle.std.specs.Prelude.{◌≡◌, ◌<◌, ◌++◌, codes, option_map, IfSome};
+ghost use Rattle.bz_canonical.specs.private.Statements.{IsBareFront};
+
+use crate::assignment::assigned;
+use crate::front::{after, identifier};
+use crate::load::loaded;
+use crate::rule::rule_call;
+use bz_tree::Class;
+
+/// A statement without its comments, and what follows it.
+#[derive(Clone, Copy)]
+pub(crate) struct BareStatement<'t> {
+    pub(crate) class: Class,
+    /// The name of a rule. None: it is no rule, or has no name.
+    pub(crate) name: Option<&'t [u8]>,
+    pub(crate) rest: &'t [u8],
+}
+
+/// The load, rule or assignment here.
+pub(crate) fn bare_statement(text: &[u8], max_depth: u8) -> Option<BareStatement<'_>>
+    requires { max_depth < 254 }
+    ensures { IfSome result (λ read. IsBareFront max_depth read.class (option_map (λ name. name.now) read.name)
+        text.now read.rest.now) }
+{
+    if max_depth == 0 {
+        return None;
+    }
+    if let Some(inside) = after_load(text) {
+        let rest = loaded(inside)?;
+        return Some(BareStatement {
+            class: Class::Load,
+            name: None,
+            rest,
+        });
+    }
+    let end = identifier(text)?;
+    if let Some(member) = after(end, b'.') {
+        let bracket = identifier(member)?;
+        let read = rule_call(bracket, max_depth - 1)?;
+        return Some(BareStatement {
+            class: Class::Rule,
+            name: read.name,
+            rest: read.rest,
+        });
+    }
+    match end {
+        [b' ', ..] => {
+            let rest = assigned(end, max_depth)?;
+            Some(BareStatement {
+                class: Class::Assign,
+                name: None,
+                rest,
+            })
+        }
+        _ => {
+            let read = rule_call(end, max_depth - 1)?;
+            Some(BareStatement {
+                class: Class::Rule,
+                name: read.name,
+                rest: read.rest,
+            })
+        }
+    }
+}
+
+/// What follows the word of a load and its bracket.
+fn after_load(text: &[u8]) -> Option<&[u8]>
+    ensures { IfSome result (λ inside. text.now ≡ codes "load(" ++ inside.now) }
+{
+    match text {
+        [b'l', b'o', b'a', b'd', b'(', inside @ ..] => Some(inside),
+        _ => None,
+    }
+}

@@ -1,0 +1,40 @@
+//! A load statement that stands as it would be written.
+
+ghost use Rattle.std.specs.Prelude.{◌≡◌, ◌++◌, codes, IfSome, false};
+ghost use Rattle.bz_tree.specs.declared.stmt.GroupKind.TheVariants.{Load};
+ghost use Rattle.bz_canonical.specs.private.Segments.{IsSegmentFront};
+ghost use Rattle.bz_canonical.specs.private.Statements.{IsLoadFront};
+
+use crate::front::{after, after_comma, string};
+use crate::segments::after_keyword;
+
+/// What follows the names that are loaded here, in place, and their closing bracket.
+pub(crate) fn loaded(inside: &[u8]) -> Option<&[u8]>
+    ensures { IfSome result (λ rest. IsLoadFront inside.now rest.now) }
+{
+    let mut rest = string(inside)?;
+    for _ in 0..inside.len() {
+        let Some(next) = after_comma(rest) else {
+            break;
+        };
+        rest = loaded_name(next)?;
+    }
+    let end = after(rest, b')')?;
+    Some(end)
+}
+
+/// What follows the string here, or the name, equals sign and string.
+fn loaded_name(text: &[u8]) -> Option<&[u8]>
+    ensures { IfSome result (λ rest. IsSegmentFront Load 0 0 text.now rest.now false) }
+{
+    match after_keyword(text) {
+        Some(value) => {
+            let rest = string(value)?;
+            Some(rest)
+        }
+        None => {
+            let rest = string(text)?;
+            Some(rest)
+        }
+    }
+}

@@ -1,0 +1,50 @@
+//! A statement that stands as it would be written, with its comments.
+
+ghost use Rattle.std.specs.Prelude.{◌≡◌, ◌-◌, ◌<◌, length, option_map, take, IfSome};
+ghost use Rattle.bz_canonical.specs.private.Statements.{IsStatementFront};
+
+use crate::bare::bare_statement;
+use crate::front::after;
+use crate::notes::{beside, lines};
+use bz_tree::Class;
+
+/// A statement, and what follows it.
+#[derive(Clone, Copy)]
+pub(crate) struct ReadStatement<'t> {
+    pub(crate) class: Class,
+    /// The name of a rule. None: it is no rule, or has no name.
+    pub(crate) name: Option<&'t [u8]>,
+    /// What follows its text.
+    pub(crate) end: &'t [u8],
+    /// What follows its chunk: that of comment lines alone has the empty line after them.
+    pub(crate) rest: &'t [u8],
+}
+
+/// The statement that the text begins with.
+pub(crate) fn statement(text: &[u8], max_depth: u8) -> Option<ReadStatement<'_>>
+    requires { max_depth < 254 }
+    ensures { IfSome result (λ read. IsStatementFront max_depth read.class (option_map (λ name. name.now) read.name)
+        text.now read.end.now read.rest.now) }
+{
+    let start = lines(text);
+    if let Some(rest) = after(start, b'\n') {
+        if start.len() == text.len() {
+            return None;
+        }
+        return Some(ReadStatement {
+            class: Class::Comment,
+            name: None,
+            end: start,
+            rest,
+        });
+    }
+    let read = bare_statement(start, max_depth)?;
+    let side = beside(read.rest)?;
+    let rest = after(side.rest, b'\n')?;
+    Some(ReadStatement {
+        class: read.class,
+        name: read.name,
+        end: rest,
+        rest,
+    })
+}
