@@ -14,3 +14,4 @@ mod RunText
 mod LeftExamples
 mod FileWords
 mod ManySteps
+mod UnmentionedKept

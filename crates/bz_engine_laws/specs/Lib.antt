@@ -6,3 +6,4 @@ pub mod Untouched
 pub mod WholeFile
 pub mod Written
 pub mod Words
+pub mod Unmentioned

@@ -8,6 +8,7 @@ pub mod script;
 pub mod sound;
 pub mod status;
 pub mod steps;
+pub mod unmentioned;
 pub mod untouched;
 pub mod whole_file;
 pub mod words;

@@ -1,0 +1,3 @@
+mod ArgumentNames
+mod RuleArguments
+pub mod KeptArguments
