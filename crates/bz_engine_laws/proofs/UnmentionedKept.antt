@@ -9,26 +9,13 @@ use Rattle.bz_command.specs.Passes.{Slot, Marked, marked, executed}
 use Rattle.bz_passes.specs.Exchange.{slot_after_commands, slot_after_pass, slot_after}
 use Rattle.bz_rule.specs.Commands.{Command, after}
 use Rattle.bz_rule_laws.specs.Unmentioned.{arguments_of, is_delete, is_unmentioned}
-use Rattle.bz_rule_laws.proofs.KeptArguments.{deleted, nothing_left, unmentioned_stay}
+use Rattle.bz_rule_laws.proofs.KeptArguments.{deleted, narrower, nothing_left, unmentioned_stay}
 use Rattle.bz_engine.specs.Meaning.{meaning}
 use Rattle.bz_engine.specs.Outcome.{Script, Told, IsOutcome, is_query, left_in, slots_of, text_of}
 use Rattle.bz_engine_laws.specs.Unmentioned.{KeepsUnmentioned, has_delete, no_command_mentions}
 use Rattle.bz_engine_laws.specs.Written.{left_by, edited}
 use Rattle.bz_engine_laws.proofs.RunText.{edited_text, text_left_by}
 use Rattle.bz_engine_laws.proofs.Unmarked.{left_alone, left_of_both}
-
--- what a test keeps of what a wider one keeps
-within : {X : Type 0} (p q : X → Bool) → ((x : X) → q x ≡ true → p x ≡ true) → (xs : List X) → filter q (filter p xs) ≡ filter q xs
-within p q wider [] = refl
-within {X} p q wider (x ∷ xs) =
-    let rest = within p q wider xs in
-    elim (cases_Bool (p x)) [
-      | inl is ↦ rw is (ap (λ (ys : List X). cond (q x) (x ∷ ys) ys) rest)
-      | inr other ↦ elim (cases_Bool (q x)) [
-        | inl passes ↦ absurd (false≢true (sym other ∙ wider x passes))
-        | inr not ↦ rw (other, not) rest
-      ]
-    ]
 
 -- what is left of a statement, by a test of arguments
 abbrev Keeps : (Segment → Bool) → Bool → Statement → Slot Statement → Type 0
@@ -42,7 +29,7 @@ command_keeps q deletes home c wider delete s (Some t) kept =
     elim (after c home (Some t)) as (λ o. after c home (Some t) ≡ o → Keeps q deletes s o) [
       | None ↦ λ e. delete (deleted c home t e)
       | Some u ↦ λ e.
-          sym (within (is_unmentioned c) q wider (arguments_of u)) ∙ ap (filter q) (unmentioned_stay c home t u e) ∙ within (is_unmentioned c) q wider (arguments_of t) ∙ kept
+          sym (narrower (is_unmentioned c) q wider (arguments_of u)) ∙ ap (filter q) (unmentioned_stay c home t u e) ∙ narrower (is_unmentioned c) q wider (arguments_of t) ∙ kept
     ] refl
 
 commands_keep : (q : Segment → Bool) (deletes : Bool) (home : Package) (cs : List Command) → ((a : Segment) → q a ≡ true → list_all (λ c. is_unmentioned c a) cs ≡ true) → (list_any is_delete cs ≡ true → deletes ≡ true)

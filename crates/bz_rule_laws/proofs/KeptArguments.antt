@@ -1,8 +1,8 @@
 -- Each command leaves the arguments that it does not mention.
-use Rattle.std.proofs.Common.{◌≡◌, ℕ, List, [], ◌∷◌, ◌++◌, Bool, true, false, ◌||◌, ◌&&◌, not, if◌then◌else◌, cond, Option, Some, None, option_map, is_some, filter, map, refl, ap, sym, ◌∙◌, append-nil}
+use Rattle.std.proofs.Common.{◌≡◌, ℕ, List, [], ◌∷◌, ◌++◌, Bool, true, false, ◌||◌, ◌&&◌, not, if◌then◌else◌, cond, Option, Some, None, option_map, is_some, filter, map, refl, ap, sym, ◌∙◌, append-nil, inl, inr}
 use Rattle.std.specs.Prelude.{bytes_eq, codes}
 use Rattle.std.specs.List.{flat_map}
-use Rattle.std.proofs.lemmas.Bool.{or_right}
+use Rattle.std.proofs.lemmas.Bool.{cases_Bool, false≢true, or_right}
 use Rattle.std.proofs.lemmas.List.Elements.{filter-append}
 use Rattle.std.proofs.lemmas.Slice.Eq.{bytes_eq-Decides}
 use Rattle.bz_tree.specs.Tree.{Item, Segment, Statement}
@@ -32,6 +32,19 @@ use Rattle.bz_rule_laws.proofs.RuleArguments.{there, there_after}
 -- the edit leaves all that stay
 abbrev Leaves : Command → (List Segment → List Segment) → Type 0
 Leaves c f = (args : List Segment) → unmentioned c (f args) ≡ unmentioned c args
+
+-- a narrower test sees no more
+pub narrower : {X : Type 0} (p q : X → Bool) → ((x : X) → q x ≡ true → p x ≡ true) → (xs : List X) → filter q (filter p xs) ≡ filter q xs
+narrower p q wider [] = refl
+narrower {X} p q wider (x ∷ xs) =
+    let rest = narrower p q wider xs in
+    elim (cases_Bool (p x)) [
+      | inl is ↦ rw is (ap (λ (ys : List X). cond (q x) (x ∷ ys) ys) rest)
+      | inr other ↦ elim (cases_Bool (q x)) [
+        | inl passes ↦ absurd (false≢true (sym other ∙ wider x passes))
+        | inr misses ↦ rw (other, misses) rest
+      ]
+    ]
 
 -- an argument of a name that the command mentions
 named_goes : (c : Command) (attr : List ℕ) → may_change c attr ≡ true → (a : Segment) → is_named attr a ≡ true → is_unmentioned c a ≡ false

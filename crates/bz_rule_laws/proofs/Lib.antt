@@ -1,3 +1,6 @@
 mod ArgumentNames
-mod RuleArguments
+mod FirstNamed
 pub mod KeptArguments
+mod OthersLeave
+mod RuleArguments
+mod SecondTime

@@ -2,7 +2,7 @@
 use Rattle.std.proofs.Common.{◌≡◌, ℕ, ◌<◌, ◌==◌, List, [], ◌∷◌, ◌++◌, Bool, true, false, ◌&&◌, Option, Some, None, option_map, is_some, length, if◌then◌else◌, refl, ap, sym, ◌∙◌, arith}
 use Rattle.std.specs.Prelude.{bytes_eq}
 use Rattle.std.specs.List.{slice_split}
-use Rattle.std.proofs.lemmas.Bool.{and_parts}
+use Rattle.std.proofs.lemmas.Bool.{and_parts, false≢true}
 use Rattle.bz_tree.specs.declared.stmt.GroupKind.TheVariants.{RuleCall}
 use Rattle.bz_tree.specs.Tree.{Item, group, Segment, Statement, segs_of}
 use Rattle.bz_command.proofs.Cuts.{some_part}
@@ -17,6 +17,7 @@ use Rattle.bz_command.specs.declared.arguments.Commented.TheVariants.{Rule as Of
 use Rattle.bz_command.specs.declared.arguments.Setting.TheVariants.{ToKind, ToValues}
 use Rattle.bz_rule.specs.declared.command.Action.TheVariants.{Add, Remove, Set, SetIfAbsent, Delete, Rename, Move, Replace, Comment, Print}
 use Rattle.bz_rule.specs.Commands.{Command, after, args_after}
+use Rattle.bz_rule_laws.specs.Again.{is_steady, sets_a_kind}
 
 call_dotted : (kind : List Item) (x : Item) (r : Rule) → call_at kind x ≡ Some r → dotted true r.kind ≡ true
 call_dotted kind x r h =
@@ -53,8 +54,8 @@ joined_dotted (name ∷ other ∷ names) h = joined_dotted (other ∷ names) (om
 kind_dotted : (kind : List ℕ) → dotted true (kind_items kind) ≡ true
 kind_dotted kind = joined_dotted (slice_split (λ b. b == 46) kind) (some_part (λ b. b == 46) kind)
 
-kind_there : (kind : List ℕ) (s : Statement) → there (rule_of (with_kind kind s).nodes) ≡ there (rule_of s.nodes)
-kind_there kind s =
+kind_set : (kind : List ℕ) (s : Statement) → there (rule_of (with_kind kind s).nodes) ≡ there (rule_of s.nodes)
+kind_set kind s =
     elim (rule_of s.nodes) as (λ o. rule_of s.nodes ≡ o → there (rule_of (kind_after kind s.nodes o)) ≡ there o) [
       | None ↦ λ e. ap there e
       | Some r ↦ λ e.
@@ -82,7 +83,7 @@ there_after (Add attr values) home s t h = edited (args_after (Add attr values) 
 there_after (Remove attrs values) home s t h = edited (args_after (Remove attrs values) home) s t h
 there_after (Set (ToKind kind)) home s t h =
     let is : with_kind kind s ≡ t = cc in
-    ap (λ (z : Statement). there (rule_of z.nodes)) (sym is) ∙ kind_there kind s ∙ no_edit (there (rule_of s.nodes))
+    ap (λ (z : Statement). there (rule_of z.nodes)) (sym is) ∙ kind_set kind s ∙ no_edit (there (rule_of s.nodes))
 there_after (Set (ToValues attr values)) home s t h = edited (args_after (Set (ToValues attr values)) home) s t h
 there_after (SetIfAbsent attr values) home s t h = edited (args_after (SetIfAbsent attr values) home) s t h
 there_after Delete home s t h = left_alone s t (is_some (rule_of s.nodes)) h
@@ -95,3 +96,25 @@ there_after (Comment OfRule text) home s t h =
 there_after (Comment (Attribute attr) text) home s t h = edited (args_after (Comment (Attribute attr) text) home) s t h
 there_after (Comment (Value attr v) text) home s t h = edited (args_after (Comment (Value attr v) text) home) s t h
 there_after (Print fields) home s t h = same s t h
+
+-- the kind of a rule after a command on its arguments
+
+abbrev pub kind_there : Option Rule → Option (List ℕ)
+kind_there o = option_map (λ (r : Rule). kind_text r.kind) o
+
+edited_kind : (f : List Segment → List Segment) (s t : Statement) → Some (with_args f s) ≡ Some t → kind_there (rule_of t.nodes) ≡ kind_there (rule_of s.nodes)
+edited_kind f s t h =
+    let is : with_args f s ≡ t = cc in
+    ap (λ (z : Statement). kind_there (rule_of z.nodes)) (sym is)
+    ∙ elim (rule_of s.nodes) as (λ o. rule_of s.nodes ≡ o → kind_there (rule_of (nodes_after f s.nodes o)) ≡ kind_there o)
+    [ None ↦ λ e. ap kind_there e | Some r ↦ λ e. ap kind_there (nodes_read (record r { args = f r.args }) (rule_dotted [] s.nodes r e)) ] refl
+
+pub kind_kept : (c : Command) (home : Package) (s t : Statement) → is_steady c ≡ true → sets_a_kind c ≡ false → after c home (Some s) ≡ Some t → kind_there (rule_of t.nodes) ≡ kind_there (rule_of s.nodes)
+kind_kept (Add attr values) home s t steady other h = edited_kind (args_after (Add attr values) home) s t h
+kind_kept (Remove attrs values) home s t steady other h = edited_kind (args_after (Remove attrs values) home) s t h
+kind_kept (Set (ToKind kind)) home s t steady other h = absurd (false≢true (sym other))
+kind_kept (Set (ToValues attr values)) home s t steady other h = edited_kind (args_after (Set (ToValues attr values)) home) s t h
+kind_kept (SetIfAbsent attr values) home s t steady other h = edited_kind (args_after (SetIfAbsent attr values) home) s t h
+kind_kept (Replace attrs old new) home s t steady other h = edited_kind (args_after (Replace attrs old new) home) s t h
+kind_kept (Print fields) home s t steady other h = let is : s ≡ t = cc in ap (λ (z : Statement). kind_there (rule_of z.nodes)) (sym is)
+kind_kept _ home s t steady other h = absurd (false≢true steady)

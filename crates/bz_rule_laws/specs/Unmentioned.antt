@@ -3,7 +3,7 @@ use Rattle.std.specs.Prelude.{ℕ, List, [], Bool, true, false, not, Option, Non
 use Rattle.bz_tree.specs.Tree.{Segment, Statement}
 use Rattle.bz_command.specs.declared.arguments.Attributes.TheVariants.{Every}
 use Rattle.bz_attribute.specs.Rules.{Rule, name_of, rule_of}
-use Rattle.bz_rule.specs.declared.command.Action.TheVariants.{Delete, Remove}
+use Rattle.bz_rule.specs.declared.command.Action.TheVariants.{Delete, Print, Remove}
 use Rattle.bz_rule.specs.Commands.{Command, mentions}
 
 -- the arguments of a rule; what is no rule has none
@@ -14,9 +14,10 @@ arguments_in (Some r) = r.args
 abbrev pub arguments_of : Statement → List Segment
 arguments_of s = arguments_in (rule_of s.nodes)
 
--- The command may change arguments of this name: `remove *` those of all names but `name`, any other those that it mentions.
+-- The command may change arguments of this name: `remove *` those of all names but `name`, `print` none, any other those that it mentions.
 abbrev pub may_change : Command → List ℕ → Bool
 may_change (Remove Every []) name = not (bytes_eq (codes "name") name)
+may_change (Print fields) name = false
 may_change command name = mentions command name
 
 -- no command changes an argument without a name
