@@ -1,6 +1,8 @@
 mod ArgumentNames
+pub mod CommandsAgain
 mod FirstNamed
 pub mod KeptArguments
+pub mod MarksStay
 mod OthersLeave
 mod RuleArguments
 mod SecondTime

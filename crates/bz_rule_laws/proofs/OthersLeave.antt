@@ -39,12 +39,12 @@ named_stays d attr other a h =
     ] h
 
 -- the arguments of an attribute that a command does not mention
-named_left : (d : Command) (home : Package) (attr : List ℕ) → may_change d attr ≡ false → (args : List Segment) → filter (is_named attr) (args_after d home args) ≡ filter (is_named attr) args
+pub named_left : (d : Command) (home : Package) (attr : List ℕ) → may_change d attr ≡ false → (args : List Segment) → filter (is_named attr) (args_after d home args) ≡ filter (is_named attr) args
 named_left d home attr other args =
     let wider = named_stays d attr other in
     sym (narrower (is_unmentioned d) (is_named attr) wider (args_after d home args)) ∙ ap (filter (is_named attr)) (args_left d home args) ∙ narrower (is_unmentioned d) (is_named attr) wider args
 
-not_true : (b : Bool) → not b ≡ true → b ≡ false
+pub not_true : (b : Bool) → not b ≡ true → b ≡ false
 not_true true h = absurd (false≢true h)
 not_true false h = refl
 
@@ -83,7 +83,7 @@ others_left x (Replace (Named b) old new) home steady h args = one_other (Replac
 others_left x (Comment place text) home steady h args = absurd (false≢true steady)
 others_left x (Print fields) home steady h args = no_change x args
 
-same_first : (attr : List ℕ) (xs ys : List Segment) → filter (is_named attr) xs ≡ filter (is_named attr) ys → first_named attr xs ≡ first_named attr ys
+pub same_first : (attr : List ℕ) (xs ys : List Segment) → filter (is_named attr) xs ≡ filter (is_named attr) ys → first_named attr xs ≡ first_named attr ys
 same_first attr xs ys h = sym (first_of_named attr xs) ∙ ap (first_named attr) h ∙ first_of_named attr ys
 
 same_has : (attr : List ℕ) (xs ys : List Segment) → filter (is_named attr) xs ≡ filter (is_named attr) ys → has attr xs ≡ has attr ys

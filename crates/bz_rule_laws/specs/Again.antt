@@ -1,7 +1,8 @@
 -- Commands that find nothing to do a second time, and that leave each other's work (this project's own rule).
-use Rattle.std.specs.Prelude.{◌≡◌, ◌≤◌, ℕ, List, Bool, true, false, ◌&&◌, not, Option, None, Some, bytes_eq, filter, length}
+use Rattle.std.specs.Prelude.{◌≡◌, ◌≤◌, ℕ, List, [], ◌∷◌, Bool, true, false, ◌&&◌, not, Option, None, Some, bytes_eq, codes, filter, length}
+use Rattle.std.specs.List.{AllByRecursion, list_all}
 use Rattle.bz_tree.specs.Tree.{Segment, Statement}
-use Rattle.bz_command.specs.Labels.{Package}
+use Rattle.bz_command.specs.Labels.{Package, Target, Name, Pkg, All, Kind, Line}
 use Rattle.bz_command.specs.declared.arguments.Attributes.{Attributes}
 use Rattle.bz_command.specs.declared.arguments.Attributes.TheVariants.{Every, Named}
 use Rattle.bz_command.specs.declared.arguments.Setting.TheVariants.{ToKind, ToValues}
@@ -9,8 +10,8 @@ use Rattle.bz_attribute.specs.Effects.{fails}
 use Rattle.bz_attribute.specs.Rules.{is_named}
 use Rattle.bz_attribute.specs.declared.done.Done.{Done}
 use Rattle.bz_rule.specs.declared.command.Action.TheVariants.{Add, Remove, Set, SetIfAbsent, Replace, Print}
-use Rattle.bz_rule.specs.Commands.{Command, done_of}
-use Rattle.bz_rule_laws.specs.Unmentioned.{arguments_of}
+use Rattle.bz_rule.specs.Commands.{Command, after, done_of}
+use Rattle.bz_rule_laws.specs.Unmentioned.{arguments_of, may_change}
 
 -- a command that finds nothing to do once it was done
 abbrev pub is_steady : Command → Bool
@@ -60,3 +61,32 @@ HasOnce args attr = length (filter (is_named attr) args) ≤ 1
 abbrev pub IsOnce : Option Attributes → List Segment → Type 0
 IsOnce (Some (Named attr)) args = HasOnce args attr
 IsOnce _ args = Unit {0}
+
+-- what stands in a slot after commands one after another
+abbrev pub after_all : List Command → Package → Option Statement → Option Statement
+after_all [] home slot = slot
+after_all (c ∷ cs) home slot = after_all cs home (after c home slot)
+
+-- none of them fails
+abbrev pub AreCalm : List Command → Package → Option Statement → Type 0
+AreCalm [] home slot = Unit {0}
+AreCalm (c ∷ cs) home slot = (fails (done_of c home slot).note ≡ false) × AreCalm cs home (after c home slot)
+
+-- each is apart from those after it
+abbrev pub are_all_apart : List Command → Bool
+are_all_apart [] = true
+are_all_apart (c ∷ cs) = list_all (are_apart c) cs && are_all_apart cs
+
+abbrev pub AreOnce : List Command → Statement → Type 0
+AreOnce cs s = AllByRecursion (λ c. IsOnce (subject c) (arguments_of s)) cs
+
+abbrev pub AreSettled : List Command → Package → Statement → Type 0
+AreSettled cs home s = AllByRecursion (λ c. IsSettled c home (Some s)) cs
+
+-- a target of which it is known that it marks the same statements after the command
+abbrev pub looks_past : Target → Command → Bool
+looks_past (Name name) c = not (may_change c (codes "name"))
+looks_past Pkg c = not (sets_a_kind c)
+looks_past All c = true
+looks_past (Kind kind) c = not (sets_a_kind c)
+looks_past (Line line) c = false

@@ -1,11 +1,15 @@
 //! Laws on commands that come again: they find nothing to do.
 
-ghost use Rattle.std.specs.Prelude.{◌≡◌, Some, false, true};
+ghost use Rattle.std.specs.Prelude.{◌≡◌, List, Some, false, true};
+ghost use Rattle.std.specs.List.{list_all};
 ghost use Rattle.bz_tree.specs.Tree.{Statement};
 ghost use Rattle.bz_attribute.specs.Effects.{fails};
-ghost use Rattle.bz_command.specs.Labels.{Package};
+ghost use Rattle.bz_attribute.specs.Marks.{marks};
+ghost use Rattle.bz_command.specs.Labels.{Package, Target};
 ghost use Rattle.bz_rule.specs.Commands.{Command, after, done_of, is_command};
-ghost use Rattle.bz_rule_laws.specs.Again.{IsOnce, IsSettled, are_apart, is_steady, subject};
+ghost use Rattle.bz_rule_laws.specs.Again.{
+    AreCalm, AreOnce, AreSettled, IsOnce, IsSettled, after_all, are_all_apart, are_apart, is_steady, looks_past, subject
+};
 ghost use Rattle.bz_rule_laws.specs.Unmentioned.{arguments_of};
 
 use bz_rule::laws::comments::elements_keep_comments;
@@ -32,4 +36,22 @@ pub fn other_commands_leave_it_so()
     ensures once { (c d : Command) (home : Package) (s t : Statement) → is_steady d ≡ true → are_apart c d ≡ true
         → after d home (Some s) ≡ Some t → IsOnce (subject c) (arguments_of s)
         → IsOnce (subject c) (arguments_of t) }
+{}
+
+/// After steady commands of which each is apart from the others, and none of which failed, each finds nothing to do. So
+/// the same commands leave the statement as it is.
+pub fn the_same_commands_find_nothing()
+    ensures settled { (cs : List Command) (home : Package) (s : Statement) → list_all is_command cs ≡ true
+        → list_all is_steady cs ≡ true → are_all_apart cs ≡ true → AreOnce cs s → AreCalm cs home (Some s)
+        → (t : Statement) × (after_all cs home (Some s) ≡ Some t) × AreSettled cs home t }
+    ensures again { (cs : List Command) (home : Package) (t : Statement) → AreSettled cs home t
+        → after_all cs home (Some t) ≡ Some t }
+{
+    a_second_time_finds_nothing();
+}
+
+/// After a steady command that changes nothing a target looks at, the target marks the same.
+pub fn targets_look_past()
+    ensures { (target : Target) (c : Command) (home : Package) (s t : Statement) → is_steady c ≡ true
+        → looks_past target c ≡ true → after c home (Some s) ≡ Some t → marks target t ≡ marks target s }
 {}
