@@ -15,3 +15,4 @@ mod LeftExamples
 mod FileWords
 mod ManySteps
 mod UnmentionedKept
+mod ScriptAgain

@@ -7,3 +7,4 @@ pub mod WholeFile
 pub mod Written
 pub mod Words
 pub mod Unmentioned
+pub mod Repeatable

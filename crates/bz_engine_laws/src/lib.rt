@@ -4,6 +4,7 @@
 pub mod again;
 pub mod comments;
 pub mod reading;
+pub mod repeatable;
 pub mod script;
 pub mod sound;
 pub mod status;

@@ -49,7 +49,7 @@ apart_swapped c d h =
     and_from _ _ (others_swapped (subject c) (subject d) both.0) (kinds_swapped (sets_a_kind c) (sets_a_kind d) both.1)
 
 -- a steady command leaves a statement
-steady_leaves : (c : Command) (home : Package) (s : Statement) → is_steady c ≡ true → (t : Statement) × (after c home (Some s) ≡ Some t)
+pub steady_leaves : (c : Command) (home : Package) (s : Statement) → is_steady c ≡ true → (t : Statement) × (after c home (Some s) ≡ Some t)
 steady_leaves (Add attr values) home s steady = (_, refl)
 steady_leaves (Remove attrs values) home s steady = (_, refl)
 steady_leaves (Set (ToKind kind)) home s steady = (_, refl)
