@@ -6,3 +6,5 @@ pub mod MarksStay
 mod OthersLeave
 mod RuleArguments
 mod SecondTime
+pub mod SpelledDone
+mod SpelledNodes

@@ -13,27 +13,27 @@ use Rattle.bz_rule_laws.proofs.OthersLeave.{named_left, not_true, same_first}
 use Rattle.bz_rule_laws.proofs.RuleArguments.{kind_kept, kind_there, there, there_after}
 
 -- what a target looks at: a name among arguments, a kind, or that there is a rule
-abbrev by_name : List ℕ → Option (List Segment) → Bool
+abbrev pub by_name : List ℕ → Option (List Segment) → Bool
 by_name name None = false
 by_name name (Some args) = is_text name (name_in args)
 
-abbrev by_kind : List ℕ → Option (List ℕ) → Bool
+abbrev pub by_kind : List ℕ → Option (List ℕ) → Bool
 by_kind kind None = false
 by_kind kind (Some text) = bytes_eq text kind
 
-name_seen : (name : List ℕ) (start : ℕ) (o : Option Rule) → marks_if (Name name) start o ≡ by_name name (there o)
+pub name_seen : (name : List ℕ) (start : ℕ) (o : Option Rule) → marks_if (Name name) start o ≡ by_name name (there o)
 name_seen name start None = refl
 name_seen name start (Some r) = refl
 
-package_seen : (start : ℕ) (o : Option Rule) → marks_if Pkg start o ≡ by_kind (codes "package") (kind_there o)
+pub package_seen : (start : ℕ) (o : Option Rule) → marks_if Pkg start o ≡ by_kind (codes "package") (kind_there o)
 package_seen start None = refl
 package_seen start (Some r) = refl
 
-kind_seen : (kind : List ℕ) (start : ℕ) (o : Option Rule) → marks_if (OfKind kind) start o ≡ by_kind kind (kind_there o)
+pub kind_seen : (kind : List ℕ) (start : ℕ) (o : Option Rule) → marks_if (OfKind kind) start o ≡ by_kind kind (kind_there o)
 kind_seen kind start None = refl
 kind_seen kind start (Some r) = refl
 
-rule_seen : (start : ℕ) (o : Option Rule) → marks_if All start o ≡ is_some (there o)
+pub rule_seen : (start : ℕ) (o : Option Rule) → marks_if All start o ≡ is_some (there o)
 rule_seen start None = refl
 rule_seen start (Some r) = refl
 
@@ -42,7 +42,7 @@ name_stays name c home other None = refl
 name_stays name c home other (Some args) =
     ap (λ o. is_text name (string_in o)) (same_first (codes "name") (args_after c home args) args (named_left c home (codes "name") other args))
 
-rule_stays : (f : List Segment → List Segment) (o : Option (List Segment)) → is_some (option_map f o) ≡ is_some o
+pub rule_stays : (f : List Segment → List Segment) (o : Option (List Segment)) → is_some (option_map f o) ≡ is_some o
 rule_stays f None = refl
 rule_stays f (Some args) = refl
 

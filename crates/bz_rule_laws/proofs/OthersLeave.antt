@@ -22,7 +22,7 @@ use Rattle.bz_rule_laws.specs.Again.{HasOnce, IsOnce, IsQuiet, IsSettled, are_ap
 use Rattle.bz_rule_laws.specs.Unmentioned.{arguments_in, arguments_of, is_unmentioned, may_change, may_change_named, unmentioned}
 use Rattle.bz_rule_laws.proofs.FirstNamed.{first_of_named, has_first}
 use Rattle.bz_rule_laws.proofs.KeptArguments.{args_left, narrower}
-use Rattle.bz_rule_laws.proofs.RuleArguments.{there, there_after, kind_kept}
+use Rattle.bz_rule_laws.proofs.RuleArguments.{kind_kept, kind_there, there, there_after}
 use Rattle.bz_rule_laws.proofs.SecondTime.{print_quiet, told, told_there}
 
 -- Of two lists of arguments, those that some attributes are of: all, or those of a name.
@@ -120,13 +120,16 @@ on_args c d home s t tells steady steady_other other h =
     by (Some args) = looks c home (args_after d home args) args steady (others_left (subject c) d home steady_other other args)
 
 -- a kind that no other command sets
-abbrev kind_told : List ℕ → Option (List ℕ) → Done
+abbrev pub kind_told : List ℕ → Option (List ℕ) → Done
 kind_told kind None = done None false
 kind_told kind (Some text) = done None (not (bytes_eq text kind))
 
 kind_seen : (kind : List ℕ) (o : Option Rule) → sets_kind kind o ≡ kind_told kind (option_map (λ (r : Rule). kind_text r.kind) o)
 kind_seen kind None = refl
 kind_seen kind (Some r) = refl
+
+pub kind_told_of : (kind : List ℕ) (s : Statement) → sets_kind_of kind (Some s) ≡ kind_told kind (kind_there (rule_of s.nodes))
+kind_told_of kind s = kind_seen kind (rule_of s.nodes)
 
 kind_stays : (kind : List ℕ) (d : Command) (home : Package) (s t : Statement) → is_steady d ≡ true → sets_a_kind d ≡ false → after d home (Some s) ≡ Some t → sets_kind_of kind (Some t) ≡ sets_kind_of kind (Some s)
 kind_stays kind d home s t steady other h =

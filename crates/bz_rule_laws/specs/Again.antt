@@ -90,3 +90,7 @@ looks_past Pkg c = not (sets_a_kind c)
 looks_past All c = true
 looks_past (Kind kind) c = not (sets_a_kind c)
 looks_past (Line line) c = false
+
+abbrev pub is_line : Target → Bool
+is_line (Line line) = true
+is_line _ = false

@@ -1,14 +1,15 @@
 //! Laws on commands that come again: they find nothing to do.
 
-ghost use Rattle.std.specs.Prelude.{◌≡◌, List, Some, false, true};
+ghost use Rattle.std.specs.Prelude.{◌≡◌, List, Some, map, false, true};
 ghost use Rattle.std.specs.List.{list_all};
 ghost use Rattle.bz_tree.specs.Tree.{Statement};
+ghost use Rattle.bz_layout_laws.specs.Spelled.{spelled};
 ghost use Rattle.bz_attribute.specs.Effects.{fails};
 ghost use Rattle.bz_attribute.specs.Marks.{marks};
 ghost use Rattle.bz_command.specs.Labels.{Package, Target};
 ghost use Rattle.bz_rule.specs.Commands.{Command, after, done_of, is_command};
 ghost use Rattle.bz_rule_laws.specs.Again.{
-    AreCalm, AreOnce, AreSettled, IsOnce, IsSettled, after_all, are_all_apart, are_apart, is_steady, looks_past, subject
+    AreCalm, AreOnce, AreSettled, IsOnce, IsSettled, after_all, are_all_apart, are_apart, is_line, is_steady, looks_past, subject
 };
 ghost use Rattle.bz_rule_laws.specs.Unmentioned.{arguments_of};
 
@@ -54,4 +55,13 @@ pub fn the_same_commands_find_nothing()
 pub fn targets_look_past()
     ensures { (target : Target) (c : Command) (home : Package) (s t : Statement) → is_steady c ≡ true
         → looks_past target c ≡ true → after c home (Some s) ≡ Some t → marks target t ≡ marks target s }
+{}
+
+/// How strings are spelled, and on which lines a statement stands, does not count: a steady command finds nothing to do
+/// as before, and a target that is no line marks the same.
+pub fn spelling_does_not_count()
+    ensures settled { (c : Command) (home : Package) (s t : Statement) → is_steady c ≡ true
+        → t.nodes ≡ map spelled s.nodes → IsSettled c home (Some s) → IsSettled c home (Some t) }
+    ensures marks { (target : Target) (s t : Statement) → is_line target ≡ false → t.nodes ≡ map spelled s.nodes
+        → marks target t ≡ marks target s }
 {}
