@@ -16,3 +16,4 @@ mod FileWords
 mod ManySteps
 mod UnmentionedKept
 mod ScriptAgain
+mod RunAgain

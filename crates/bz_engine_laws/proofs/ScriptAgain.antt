@@ -41,7 +41,7 @@ abbrev pub commands_for : Statement → Script → List Command
 commands_for s [] = []
 commands_for s (p ∷ ps) = done_if (marks p.target s) p.commands ++ commands_for s ps
 
-all_for : (test : Command → Bool) (s : Statement) (ps : Script) → list_all (λ p. list_all test p.commands) ps ≡ true → list_all test (commands_for s ps) ≡ true
+pub all_for : (test : Command → Bool) (s : Statement) (ps : Script) → list_all (λ p. list_all test p.commands) ps ≡ true → list_all test (commands_for s ps) ≡ true
 all_for test s [] h = refl
 all_for test s (p ∷ ps) h =
     let a = and_parts (list_all test p.commands) (list_all (λ q. list_all test q.commands) ps) h in
@@ -139,7 +139,7 @@ one_marks c home s t steady h (p ∷ ps) past =
     let a = and_parts (looks_past p.target c) (list_all (λ (q : Pass Target Command). looks_past q.target c) ps) past in
     (marks_stay p.target c home s t steady a.0 h, one_marks c home s t steady h ps a.1)
 
-marks_joined : (ps : Script) (s t u : Statement) → AllByRecursion (λ (p : Pass Target Command). marks p.target u ≡ marks p.target t) ps → AllByRecursion (λ (p : Pass Target Command). marks p.target t ≡ marks p.target s) ps
+pub marks_joined : (ps : Script) (s t u : Statement) → AllByRecursion (λ (p : Pass Target Command). marks p.target u ≡ marks p.target t) ps → AllByRecursion (λ (p : Pass Target Command). marks p.target t ≡ marks p.target s) ps
     → AllByRecursion (λ (p : Pass Target Command). marks p.target u ≡ marks p.target s) ps
 marks_joined [] s t u h k = tt
 marks_joined (p ∷ ps) s t u h k = (h.0 ∙ k.0, marks_joined ps s t u h.1 k.1)
@@ -363,7 +363,7 @@ any_slots home target [] = refl
 any_slots home target (s ∷ ss) = ap (λ b. marks target s || b) (any_slots home target ss)
 
 -- statements of which each is marked as another
-abbrev AreAlike : Script → List Statement → List Statement → Type 0
+abbrev pub AreAlike : Script → List Statement → List Statement → Type 0
 AreAlike ps [] [] = Unit {0}
 AreAlike ps [] (s ∷ ss) = ⊥
 AreAlike ps (t ∷ ts) [] = ⊥
