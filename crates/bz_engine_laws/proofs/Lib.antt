@@ -17,3 +17,4 @@ mod ManySteps
 mod UnmentionedKept
 mod ScriptAgain
 mod RunAgain
+mod RepeatExamples

@@ -1,9 +1,9 @@
 -- A repeatable script, run again over what it wrote, changes nothing.
-use Rattle.std.proofs.Common.{◌≡◌, ◌≢◌, ◌≤◌, ℕ, List, [], ◌∷◌, ◌++◌, map, Bool, true, false, ◌||◌, ◌&&◌, refl, sym, ap, ◌∙◌, subst, inl, inr}
-use Rattle.std.specs.Prelude.{Option, None, Some, if◌then◌else◌}
+use Rattle.std.proofs.Common.{◌≡◌, ◌≢◌, ◌≤◌, ℕ, List, [], ◌∷◌, map, Bool, true, false, ◌||◌, refl, sym, ap, ◌∙◌, subst, inl}
+use Rattle.std.specs.Prelude.{None, if◌then◌else◌}
 use Rattle.std.specs.List.{AllByRecursion, list_all}
 use Rattle.std.proofs.lemmas.Bool.{and_from, and_parts, false≢true}
-use Rattle.bz_tree.specs.Tree.{Item, Statement}
+use Rattle.bz_tree.specs.Tree.{Statement}
 use Rattle.bz_layout_laws.specs.Spelled.{spelled, spelled_statement}
 use Rattle.bz_layout_laws.specs.Lineless.{lineless}
 use Rattle.bz_command.specs.Labels.{Package, Target, Name, Pkg, All, Kind as OfKind, Line}
@@ -15,10 +15,10 @@ use Rattle.bz_rule_laws.proofs.CommandsAgain.{FindsNothing as SecondTime}
 use Rattle.bz_rule_laws.proofs.SpelledDone.{marks_spelled, settled_spelled}
 use Rattle.bz_engine.specs.Changes.{AreCommands}
 use Rattle.bz_engine.specs.Meaning.{meaning}
-use Rattle.bz_engine.specs.Outcome.{Script, Told, IsOutcome, is_query, slots_of, some_change, some_failure, status_of, text_after, told_by, told_of}
+use Rattle.bz_engine.specs.Outcome.{Script, Told, IsOutcome, is_query, slots_of, some_failure, status_of, text_after, told_by, told_of}
 use Rattle.bz_engine.specs.declared.report.Report.{Report}
 use Rattle.bz_engine.proofs.OneOutcome.{one_outcome}
-use Rattle.bz_engine_laws.specs.Repeatable.{FindsNothing, HasNamesOnce, are_passes_apart, is_looked_past, is_repeatable}
+use Rattle.bz_engine_laws.specs.Repeatable.{HasNamesOnce, are_passes_apart, is_looked_past, is_repeatable}
 use Rattle.bz_engine_laws.specs.Written.{HaveUtf8Words, edited, left_by}
 use Rattle.bz_engine_laws.proofs.RunText.{reads_back, writes_again}
 use Rattle.bz_engine_laws.proofs.ScriptAgain.{AreAlike, IsAtRest, all_for, commands_for, finds_nothing, left_at_rest, marks_joined, same_commands}
@@ -113,6 +113,7 @@ twice law home passes keep_going going depth file text second report again comma
     inl (record { statements = back.found; fault = None; read = back.file; calm = λ h. nothing.calm; text_is = refl; told_is = refl }) in
     let one = (one_outcome home passes going depth text second (text_after home passes back.found) (told_by again) (told_of home passes back.found None) run2 is).1 in
     let quiet : again.changed ≡ false = ap (λ (t : Told). t.changed) one ∙ nothing.unchanged in
-    let fine : again.failed ≡ false = ap (λ (t : Told). t.failed) one ∙ ap (λ c. c || some_missing (meaning home) passes (slots_of back.found)) nothing.calm ∙ nothing.found ∙ present in
-    (three again.failed again.changed fine quiet,
-      writes_again home passes keep_going depth file text (told_by report) commands words query two run home passes going second (told_by again) commands query run2 (λ h. ap (λ (t : Told). t.end) one) quiet)
+    let fine : again.failed ≡ false = ap (λ (t : Told). t.failed) one ∙ ap (λ c. c || some_missing (meaning home) passes (slots_of back.found)) nothing.calm ∙ nothing.found ∙ present in (
+      three again.failed again.changed fine quiet,
+      writes_again home passes keep_going depth file text (told_by report) commands words query two run home passes going second (told_by again) commands query run2 (λ h. ap (λ (t : Told). t.end) one) quiet,
+    )

@@ -1,15 +1,14 @@
 -- A repeatable script finds nothing to do in what it left.
-use Rattle.std.proofs.Common.{◌≡◌, ℕ, List, [], ◌∷◌, ◌++◌, map, Bool, true, false, ◌||◌, ◌&&◌, refl, sym, ap, ◌∙◌, subst, inl, inr}
+use Rattle.std.proofs.Common.{◌≡◌, ℕ, List, [], ◌∷◌, ◌++◌, map, Bool, true, false, ◌||◌, ◌&&◌, refl, sym, ap, ◌∙◌, subst}
 use Rattle.std.specs.Prelude.{Option, None, Some, if◌then◌else◌, bytes_eq}
 use Rattle.std.specs.List.{AllByRecursion, list_all, list_any}
-use Rattle.std.proofs.lemmas.Bool.{and_from, and_parts, cases_Bool, false≢true, or_parts}
+use Rattle.std.proofs.lemmas.Bool.{and_from, and_parts, false≢true, or_parts}
 use Rattle.std.proofs.lemmas.Slice.Eq.{bytes_eq-Decides}
 use Rattle.bz_tree.specs.Tree.{Statement}
-use Rattle.bz_command.specs.Labels.{Package, Target, Name, Pkg, All, Kind as OfKind, Line}
-use Rattle.bz_command.specs.Passes.{Slot, Pass, Marked, with_mark, marked, executed, is_missing, some_missing, slots_after_pass}
+use Rattle.bz_command.specs.Labels.{Package, Target, Name}
+use Rattle.bz_command.specs.Passes.{Slot, Pass, with_mark, marked, executed, is_missing, some_missing, slots_after_pass}
 use Rattle.bz_passes.specs.Exchange.{slot_after_commands, slot_after_pass, slot_after, some_of_commands_alone, some_alone}
 use Rattle.bz_passes.proofs.ExchangeLaw.{pass_alone, some_alone_lem}
-use Rattle.bz_attribute.specs.Effects.{fails}
 use Rattle.bz_attribute.specs.Marks.{marks, marks_if}
 use Rattle.bz_attribute.specs.Rules.{Rule, is_text, name_in, rule_of}
 use Rattle.bz_command.specs.declared.arguments.Attributes.{Attributes}
@@ -22,7 +21,7 @@ use Rattle.bz_rule_laws.proofs.CommandsAgain.{FindsNothing as SecondTime, all_fi
 use Rattle.bz_rule_laws.proofs.MarksStay.{marks_stay}
 use Rattle.bz_engine.specs.Changes.{AreCommands}
 use Rattle.bz_engine.specs.Meaning.{changes, fails_on, marks_slot, meaning}
-use Rattle.bz_engine.specs.Outcome.{Script, left_in, slots_of, some_change, some_failure}
+use Rattle.bz_engine.specs.Outcome.{Script, left_in, slots_of, some_failure}
 use Rattle.bz_engine_laws.specs.Repeatable.{FindsNothing, HasNamesOnce, are_passes_apart, are_two_apart, each_apart, is_looked_past, is_repeatable, may_meet}
 use Rattle.bz_engine_laws.specs.Written.{left_by}
 use Rattle.bz_engine_laws.proofs.Unmarked.{left_alone, unmarked_commands}

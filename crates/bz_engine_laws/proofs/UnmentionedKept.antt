@@ -1,8 +1,8 @@
 -- A script leaves the arguments that no command of it mentions.
-use Rattle.std.proofs.Common.{◌≡◌, ℕ, List, [], ◌∷◌, ◌++◌, Bool, true, false, ◌||◌, ◌&&◌, filter, map, cond, refl, sym, ap, ◌∙◌, inl, inr}
+use Rattle.std.proofs.Common.{◌≡◌, ℕ, List, [], ◌∷◌, ◌++◌, Bool, true, false, filter, refl, sym, ap, ◌∙◌}
 use Rattle.std.specs.Prelude.{Option, None, Some, if◌then◌else◌}
 use Rattle.std.specs.List.{list_all, list_any}
-use Rattle.std.proofs.lemmas.Bool.{and_parts, cases_Bool, false≢true, or_left, or_right}
+use Rattle.std.proofs.lemmas.Bool.{and_parts, or_left, or_right}
 use Rattle.bz_tree.specs.Tree.{Segment, Statement}
 use Rattle.bz_command.specs.Labels.{Package}
 use Rattle.bz_command.specs.Passes.{Slot, Marked, marked, executed}
@@ -11,7 +11,7 @@ use Rattle.bz_rule.specs.Commands.{Command, after}
 use Rattle.bz_rule_laws.specs.Unmentioned.{arguments_of, is_delete, is_unmentioned}
 use Rattle.bz_rule_laws.proofs.KeptArguments.{deleted, narrower, nothing_left, unmentioned_stay}
 use Rattle.bz_engine.specs.Meaning.{meaning}
-use Rattle.bz_engine.specs.Outcome.{Script, Told, IsOutcome, is_query, left_in, slots_of, text_of}
+use Rattle.bz_engine.specs.Outcome.{Script, Told, IsOutcome, is_query, left_in, text_of}
 use Rattle.bz_engine_laws.specs.Unmentioned.{KeepsUnmentioned, has_delete, no_command_mentions}
 use Rattle.bz_engine_laws.specs.Written.{left_by, edited}
 use Rattle.bz_engine_laws.proofs.RunText.{edited_text, text_left_by}
@@ -73,7 +73,9 @@ statement_keeps home passes front back s = (slot_after (meaning home) passes (So
 pub text_keeps : (home : Package) (passes : Script) (keep_going : Bool) (depth : ℕ) (file text : List ℕ) (told : Told) (run : IsOutcome home passes keep_going depth file text told) (front back : List Statement) (s : Statement)
     → is_query passes ≡ false → edited run ≡ front ++ s ∷ back
     → (left : Option Statement) × KeepsUnmentioned passes s left × (text ≡ text_of (left_by home passes front ++ (left_in (left ∷ []) ++ left_by home passes back)))
-text_keeps home passes keep_going depth file text told run front back s query are =
-    (slot_after (meaning home) passes (Some s), keeps home passes s,
-      edited_text home passes keep_going depth file text told run ∙ text_left_by home passes (edited run) query
-      ∙ ap (λ ss. text_of (left_by home passes ss)) are ∙ ap text_of (one_left home passes front back s))
+text_keeps home passes keep_going depth file text told run front back s query are = (
+  slot_after (meaning home) passes (Some s),
+  keeps home passes s,
+  edited_text home passes keep_going depth file text told run ∙ text_left_by home passes (edited run) query
+      ∙ ap (λ ss. text_of (left_by home passes ss)) are ∙ ap text_of (one_left home passes front back s),
+)

@@ -1,5 +1,5 @@
 -- The arguments that no command of a script mentions, and what a script keeps of a statement.
-use Rattle.std.specs.Prelude.{◌≡◌, Bool, true, List, None, Some, filter}
+use Rattle.std.specs.Prelude.{◌≡◌, Bool, true, None, Some, filter}
 use Rattle.std.specs.List.{list_all, list_any}
 use Rattle.bz_tree.specs.Tree.{Segment, Statement}
 use Rattle.bz_command.specs.Passes.{Slot}

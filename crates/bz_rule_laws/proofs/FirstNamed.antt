@@ -1,5 +1,5 @@
 -- The first argument of a name.
-use Rattle.std.proofs.Common.{◌≡◌, ℕ, List, [], ◌∷◌, true, false, ◌||◌, if◌then◌else◌, cond, Option, Some, None, option_map, is_some, filter, refl, ap, sym, ◌∙◌}
+use Rattle.std.proofs.Common.{◌≡◌, ℕ, List, [], ◌∷◌, true, false, ◌||◌, if◌then◌else◌, cond, Some, option_map, is_some, filter, refl, ap, sym, ◌∙◌}
 use Rattle.bz_tree.specs.Tree.{Segment}
 use Rattle.bz_attribute.specs.Rules.{first_named, is_named}
 use Rattle.bz_attribute.specs.Effects.{edit_first, has}

@@ -1,17 +1,16 @@
 -- A steady command leaves what another one, on something else, has done.
-use Rattle.std.proofs.Common.{◌≡◌, ◌≤◌, ℕ, List, [], ◌∷◌, Bool, true, false, ◌&&◌, not, if◌then◌else◌, Option, Some, None, is_some, option_map, filter, cond, length, refl, ap, sym, ◌∙◌, subst, inl, inr, arith}
+use Rattle.std.proofs.Common.{◌≡◌, ◌≤◌, ℕ, List, [], ◌∷◌, Bool, true, false, ◌&&◌, not, Option, Some, None, is_some, option_map, filter, length, refl, ap, sym, ◌∙◌, subst, arith}
 use Rattle.std.specs.Prelude.{bytes_eq}
-use Rattle.std.specs.List.{list_any}
-use Rattle.std.proofs.lemmas.Bool.{and_parts, cases_Bool, false≢true}
+use Rattle.std.proofs.lemmas.Bool.{and_parts, false≢true}
 use Rattle.std.proofs.lemmas.Slice.Eq.{bytes_eq-Decides}
-use Rattle.bz_tree.specs.Tree.{Item, Segment, Statement}
+use Rattle.bz_tree.specs.Tree.{Segment, Statement}
 use Rattle.bz_command.specs.Labels.{Package}
 use Rattle.bz_command.specs.declared.arguments.Attributes.{Attributes}
 use Rattle.bz_command.specs.declared.arguments.Attributes.TheVariants.{Every, Named}
 use Rattle.bz_command.specs.declared.arguments.Moved.TheVariants.{Values}
 use Rattle.bz_command.specs.declared.arguments.Setting.TheVariants.{ToKind, ToValues}
 use Rattle.bz_attribute.specs.Rules.{Rule, first_named, is_named, is_text, kind_text, name_of, rule_of}
-use Rattle.bz_attribute.specs.Effects.{chooses_in, done, has, not_a_list, slot_done, with_args}
+use Rattle.bz_attribute.specs.Effects.{chooses_in, done, has, not_a_list, slot_done}
 use Rattle.bz_attribute.specs.Add.{adds}
 use Rattle.bz_attribute.specs.Replace.{replaces_first}
 use Rattle.bz_attribute.specs.Set.{sets, sets_kind, sets_kind_of}
@@ -19,7 +18,7 @@ use Rattle.bz_attribute.specs.declared.done.Done.{Done}
 use Rattle.bz_rule.specs.declared.command.Action.TheVariants.{Add, Remove, Set, SetIfAbsent, Delete, Rename, Move, Replace, Comment, Print}
 use Rattle.bz_rule.specs.Commands.{Command, after, args_after, args_done, done_of}
 use Rattle.bz_rule_laws.specs.Again.{HasOnce, IsOnce, IsQuiet, IsSettled, are_apart, are_others, is_steady, sets_a_kind, subject}
-use Rattle.bz_rule_laws.specs.Unmentioned.{arguments_in, arguments_of, is_unmentioned, may_change, may_change_named, unmentioned}
+use Rattle.bz_rule_laws.specs.Unmentioned.{arguments_in, arguments_of, is_unmentioned, may_change, may_change_named}
 use Rattle.bz_rule_laws.proofs.FirstNamed.{first_of_named, has_first}
 use Rattle.bz_rule_laws.proofs.KeptArguments.{args_left, narrower}
 use Rattle.bz_rule_laws.proofs.RuleArguments.{kind_kept, kind_there, there, there_after}

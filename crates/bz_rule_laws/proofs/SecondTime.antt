@@ -1,6 +1,5 @@
 -- A steady command finds nothing to do a second time.
-use Rattle.std.proofs.Common.{◌≡◌, ◌≤◌, ◌==◌, ℕ, List, [], ◌∷◌, ◌++◌, Bool, true, false, ◌||◌, ◌&&◌, not, if◌then◌else◌, Option, Some, None, option_map, is_some, filter, length, map, refl, ap, sym, ◌∙◌, subst}
-use Rattle.std.specs.Prelude.{bytes_eq, codes}
+use Rattle.std.proofs.Common.{◌≡◌, ◌≤◌, ◌==◌, ℕ, List, [], ◌∷◌, ◌++◌, Bool, true, false, ◌&&◌, not, if◌then◌else◌, Option, Some, None, option_map, is_some, filter, length, map, refl, ap, sym, ◌∙◌, subst}
 use Rattle.std.specs.List.{list_all, list_any}
 use Rattle.std.proofs.lemmas.Bool.{and_parts, and_right, false≢true, or_left, or_right}
 use Rattle.std.proofs.lemmas.List.Folds.{list_any-append}
@@ -13,8 +12,8 @@ use Rattle.bz_command.specs.declared.arguments.Moved.TheVariants.{Values}
 use Rattle.bz_command.specs.declared.arguments.Setting.TheVariants.{ToKind, ToValues}
 use Rattle.bz_command.proofs.ReadBack.{quoted_value}
 use Rattle.bz_attribute.specs.Rules.{Rule, first_named, is_named, is_text, rule_of, string_value, value}
-use Rattle.bz_attribute.specs.Lists.{equals, is_attribute, parts, same, with_value}
-use Rattle.bz_attribute.specs.Effects.{argument, chooses, chooses_in, done, done_in, edit_first, fails, has, is_chosen, is_nil, no_parts, not_a_list, slot_done, string, string_item}
+use Rattle.bz_attribute.specs.Lists.{equals, is_attribute, parts}
+use Rattle.bz_attribute.specs.Effects.{argument, chooses, chooses_in, done, done_in, fails, has, is_chosen, no_parts, not_a_list, slot_done, string, string_item}
 use Rattle.bz_attribute.specs.Add.{add, adds, fresh, new_elements}
 use Rattle.bz_attribute.specs.Remove.{chooses_anywhere, goes_with_all, remove, removes}
 use Rattle.bz_attribute.specs.Replace.{is_replaced, replace, replaced, replaced_in, replaces, replaces_first, replaces_in}
@@ -22,10 +21,10 @@ use Rattle.bz_attribute.specs.Set.{new_of, new_value, set_if_absent, sets, sets_
 use Rattle.bz_attribute.specs.declared.done.Done.{Done}
 use Rattle.bz_attribute.specs.declared.done.Note.TheVariants.{NotAList}
 use Rattle.bz_command.specs.Names.{is_identifier}
-use Rattle.bz_attribute_commands.specs.Print.{missing, field_text, field_name, fields_of, printed_of, prints}
+use Rattle.bz_attribute_commands.specs.Print.{missing, field_text, fields_of, printed_of, prints}
 use Rattle.bz_rule.specs.declared.command.Action.TheVariants.{Add, Remove, Set, SetIfAbsent, Delete, Rename, Move, Replace, Comment, Print}
 use Rattle.bz_rule.specs.Commands.{Command, after, args_after, args_done, done_of, is_command}
-use Rattle.bz_rule_laws.specs.Again.{HasOnce, IsOnce, IsQuiet, IsSettled, is_steady, subject}
+use Rattle.bz_rule_laws.specs.Again.{IsOnce, IsQuiet, IsSettled, is_steady, subject}
 use Rattle.bz_rule_laws.specs.Unmentioned.{arguments_in, arguments_of}
 use Rattle.bz_rule_laws.proofs.ArgumentNames.{attribute_named, either_way, name_with_value, same_bytes}
 use Rattle.bz_rule_laws.proofs.FirstNamed.{first_after, is_first_named}

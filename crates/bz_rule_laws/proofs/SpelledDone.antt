@@ -1,7 +1,7 @@
 -- What a steady command tells does not rest on how strings are spelled, and neither does what a target marks.
 use Rattle.std.proofs.Common.{◌≡◌, ℕ, List, [], ◌∷◌, ◌++◌, Bool, true, false, ◌||◌, ◌&&◌, not, if◌then◌else◌, Option, Some, None, option_map, is_some, map, codes, refl, ap, sym, ◌∙◌, subst}
 use Rattle.std.specs.Prelude.{bytes_eq}
-use Rattle.std.specs.List.{list_all, list_any}
+use Rattle.std.specs.List.{list_any}
 use Rattle.std.proofs.lemmas.Bool.{false≢true}
 use Rattle.bz_token.specs.declared.token.Kind.TheVariants.{Identifier, Integer}
 use Rattle.bz_tree.specs.Tree.{Item, leaf, group, Segment, Statement}
@@ -11,15 +11,14 @@ use Rattle.bz_command.specs.declared.arguments.Attributes.TheVariants.{Every, Na
 use Rattle.bz_command.specs.declared.arguments.Moved.{Moved}
 use Rattle.bz_command.specs.declared.arguments.Moved.TheVariants.{All, Values}
 use Rattle.bz_command.specs.declared.arguments.Setting.TheVariants.{ToKind, ToValues}
-use Rattle.bz_attribute.specs.Rules.{Rule, elements, first_named, is_named, is_text, rule_of, string_in, string_value, value}
-use Rattle.bz_attribute.specs.Lists.{equals, is_attribute, is_list, parts, same, same_value}
-use Rattle.bz_attribute.specs.Effects.{chooses, chooses_in, done, done_in, has, is_chosen, is_nil, no_parts, not_a_list, slot_done, string}
-use Rattle.bz_attribute.specs.Add.{adds, fresh, is_fresh, new_elements}
-use Rattle.bz_attribute.specs.Marks.{marks, marks_if}
-use Rattle.bz_attribute.specs.Remove.{chooses_anywhere, goes_with_all, removes}
-use Rattle.bz_attribute.specs.Replace.{is_replaced, replaces, replaces_first, replaces_in}
-use Rattle.bz_attribute.specs.Set.{New, NewConstant, NewNumber, NewString, NewStrings, are_strings, holds_list, is_ident, is_int, is_list_attribute, is_one_list, is_only, is_string, is_value, new_of, new_word, sets, sets_kind_of}
-use Rattle.bz_attribute.specs.declared.done.Done.{Done}
+use Rattle.bz_attribute.specs.Rules.{elements, first_named, is_text, rule_of, string_in, string_value, value}
+use Rattle.bz_attribute.specs.Lists.{is_attribute, is_list, parts, same_value}
+use Rattle.bz_attribute.specs.Effects.{chooses, chooses_in, done, is_chosen, no_parts, not_a_list, slot_done}
+use Rattle.bz_attribute.specs.Add.{adds, fresh}
+use Rattle.bz_attribute.specs.Marks.{marks}
+use Rattle.bz_attribute.specs.Remove.{goes_with_all}
+use Rattle.bz_attribute.specs.Replace.{is_replaced, replaces_first, replaces_in}
+use Rattle.bz_attribute.specs.Set.{New, NewConstant, NewNumber, NewString, NewStrings, are_strings, is_ident, is_int, is_list_attribute, is_one_list, is_only, is_value, new_of, new_word, sets}
 use Rattle.bz_rule.specs.declared.command.Action.TheVariants.{Add, Remove, Set, SetIfAbsent, Delete, Rename, Move, Replace, Comment, Print}
 use Rattle.bz_rule.specs.Commands.{Command, args_done, done_of}
 use Rattle.bz_rule_laws.specs.Again.{IsQuiet, IsSettled, is_line, is_steady}

@@ -1,6 +1,6 @@
 -- Strings that are spelled otherwise: the same rule, the same names and lists.
-use Rattle.std.proofs.Common.{◌≡◌, ℕ, List, [], ◌∷◌, ◌++◌, Bool, true, false, ◌||◌, ◌&&◌, if◌then◌else◌, Option, Some, None, option_map, is_some, drop, map, codes, refl, ap, sym, ◌∙◌}
-use Rattle.std.specs.List.{list_all, list_any}
+use Rattle.std.proofs.Common.{◌≡◌, ℕ, List, [], ◌∷◌, ◌++◌, Bool, true, false, ◌&&◌, if◌then◌else◌, Some, None, option_map, is_some, drop, map, codes, refl, ap, sym, ◌∙◌}
+use Rattle.std.specs.List.{list_all}
 use Rattle.std.proofs.lemmas.Bool.{and_parts, false≢true}
 use Rattle.std.proofs.lemmas.List.{map-append}
 use Rattle.bz_token.specs.declared.token.Kind.TheVariants.{Identifier, Keyword, Operator, String}
@@ -8,7 +8,7 @@ use Rattle.bz_tree.specs.declared.stmt.GroupKind.TheVariants.{RuleCall, List as 
 use Rattle.bz_tree.specs.Tree.{Item, leaf, group, Items, no_items, item, Segs, no_segs, seg, Segment, list_of, segments}
 use Rattle.bz_layout_laws.specs.Spelled.{spelled, spelled_items, spelled_segs}
 use Rattle.bz_layout_laws.proofs.SpelledValues.{respelled_value}
-use Rattle.bz_attribute.specs.Rules.{Rule, call_at, comma_of, dotted, elements, end_of, first_named, ident_of, is_call, is_named, is_operator_item, is_text, kind_text, name_of, only_text, rule_from, rule_of, string_value, text_of, value, value_in}
+use Rattle.bz_attribute.specs.Rules.{call_at, comma_of, dotted, elements, end_of, first_named, ident_of, is_call, is_named, is_operator_item, is_text, kind_text, name_of, rule_from, rule_of, string_value, text_of, value, value_in}
 use Rattle.bz_attribute.specs.Lists.{ends, is_attribute, is_joint, is_list, is_part, is_plus, parts, parts_from}
 use Rattle.bz_attribute.specs.Effects.{has}
 use Rattle.bz_rule_laws.proofs.RuleArguments.{kind_there, there}

@@ -4,7 +4,7 @@ use Rattle.std.specs.List.{AllByRecursion, list_all}
 use Rattle.bz_tree.specs.Tree.{Segment, Statement}
 use Rattle.bz_command.specs.Labels.{Package, Target, Name, Pkg, All, Kind, Line}
 use Rattle.bz_command.specs.declared.arguments.Attributes.{Attributes}
-use Rattle.bz_command.specs.declared.arguments.Attributes.TheVariants.{Every, Named}
+use Rattle.bz_command.specs.declared.arguments.Attributes.TheVariants.{Named}
 use Rattle.bz_command.specs.declared.arguments.Setting.TheVariants.{ToKind, ToValues}
 use Rattle.bz_attribute.specs.Effects.{fails}
 use Rattle.bz_attribute.specs.Rules.{is_named}

@@ -9,7 +9,18 @@ ghost use Rattle.bz_attribute.specs.Marks.{marks};
 ghost use Rattle.bz_command.specs.Labels.{Package, Target};
 ghost use Rattle.bz_rule.specs.Commands.{Command, after, done_of, is_command};
 ghost use Rattle.bz_rule_laws.specs.Again.{
-    AreCalm, AreOnce, AreSettled, IsOnce, IsSettled, after_all, are_all_apart, are_apart, is_line, is_steady, looks_past, subject
+  AreCalm,
+  AreOnce,
+  AreSettled,
+  IsOnce,
+  IsSettled,
+  after_all,
+  are_all_apart,
+  are_apart,
+  is_line,
+  is_steady,
+  looks_past,
+  subject,
 };
 ghost use Rattle.bz_rule_laws.specs.Unmentioned.{arguments_of};
 
