@@ -14,3 +14,7 @@ mod RunText
 mod LeftExamples
 mod FileWords
 mod ManySteps
+mod UnmentionedKept
+mod ScriptAgain
+mod RunAgain
+mod RepeatExamples

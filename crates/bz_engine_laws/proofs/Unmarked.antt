@@ -1,6 +1,6 @@
 -- A slot that no pass marks stays, and its text stands in the text of all.
 use Rattle.std.proofs.Common.{◌≡◌, ℕ, List, [], ◌∷◌, ◌++◌, map, Bool, true, false, not, refl, sym, ap, ◌∙◌, subst, append-nil, append_assoc, inl, inr}
-use Rattle.std.specs.Prelude.{Option, None, Some}
+use Rattle.std.specs.Prelude.{None, Some}
 use Rattle.std.specs.List.{list_all}
 use Rattle.std.proofs.lemmas.Bool.{and_parts}
 use Rattle.std.proofs.lemmas.List.{map-append}
@@ -24,7 +24,7 @@ use Rattle.bz_engine_laws.proofs.RunText.{edited_text, text_left_by}
 use Rattle.bz_engine_laws.proofs.SecondRun.{not_at_failure}
 
 -- commands leave what is not marked
-unmarked_commands : (home : Package) (cs : List Command) (slot : Slot Statement) → slot_after_commands (meaning home) cs (with_mark false slot) ≡ with_mark false slot
+pub unmarked_commands : (home : Package) (cs : List Command) (slot : Slot Statement) → slot_after_commands (meaning home) cs (with_mark false slot) ≡ with_mark false slot
 unmarked_commands home [] slot = refl
 unmarked_commands home (c ∷ cs) slot = unmarked_commands home cs slot
 

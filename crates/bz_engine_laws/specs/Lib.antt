@@ -6,3 +6,5 @@ pub mod Untouched
 pub mod WholeFile
 pub mod Written
 pub mod Words
+pub mod Unmentioned
+pub mod Repeatable

@@ -4,10 +4,12 @@
 pub mod again;
 pub mod comments;
 pub mod reading;
+pub mod repeatable;
 pub mod script;
 pub mod sound;
 pub mod status;
 pub mod steps;
+pub mod unmentioned;
 pub mod untouched;
 pub mod whole_file;
 pub mod words;

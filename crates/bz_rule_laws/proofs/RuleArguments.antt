@@ -1,0 +1,120 @@
+-- The arguments of a rule after an edit of them, and after another kind.
+use Rattle.std.proofs.Common.{◌≡◌, ℕ, ◌<◌, ◌==◌, List, [], ◌∷◌, ◌++◌, Bool, true, false, ◌&&◌, Option, Some, None, option_map, is_some, length, if◌then◌else◌, refl, ap, sym, ◌∙◌, arith}
+use Rattle.std.specs.Prelude.{bytes_eq}
+use Rattle.std.specs.List.{slice_split}
+use Rattle.std.proofs.lemmas.Bool.{and_parts, false≢true}
+use Rattle.bz_tree.specs.declared.stmt.GroupKind.TheVariants.{RuleCall}
+use Rattle.bz_tree.specs.Tree.{Item, group, Segment, Statement, segs_of}
+use Rattle.bz_command.proofs.Cuts.{some_part}
+use Rattle.bz_attribute.specs.Rules.{Rule, call_at, comma_of, dotted, elements, end_of, is_call, kind_text, rule_from, rule_of}
+use Rattle.bz_attribute.specs.Effects.{nodes_after, nodes_of, with_args}
+use Rattle.bz_attribute.specs.Set.{joined_by_dots, kind_after, kind_items, with_kind}
+use Rattle.bz_attribute.proofs.Calls.{rule_from_end}
+use Rattle.bz_attribute.proofs.Views.{segments_of}
+use Rattle.bz_attribute.specs.Comment.{comment_rule}
+use Rattle.bz_command.specs.Labels.{Package}
+use Rattle.bz_command.specs.declared.arguments.Commented.TheVariants.{Rule as OfRule, Attribute, Value}
+use Rattle.bz_command.specs.declared.arguments.Setting.TheVariants.{ToKind, ToValues}
+use Rattle.bz_rule.specs.declared.command.Action.TheVariants.{Add, Remove, Set, SetIfAbsent, Delete, Rename, Move, Replace, Comment, Print}
+use Rattle.bz_rule.specs.Commands.{Command, after, args_after}
+use Rattle.bz_rule_laws.specs.Again.{is_steady, sets_a_kind}
+
+call_dotted : (kind : List Item) (x : Item) (r : Rule) → call_at kind x ≡ Some r → dotted true r.kind ≡ true
+call_dotted kind x r h =
+    elim (is_call x && dotted true kind) as (λ b. is_call x && dotted true kind ≡ b → (if b then Some (record { kind = kind; args = elements x; one_comma = comma_of x; end = end_of x }) else None) ≡ Some r → dotted true r.kind ≡ true) [
+      | true ↦ λ e k.
+          let is : record { kind = kind; args = elements x; one_comma = comma_of x; end = end_of x } ≡ r = cc in
+          ap (λ (z : Rule). dotted true z.kind) (sym is) ∙ (and_parts (is_call x) (dotted true kind) e).1
+      | false ↦ λ e k. absurd cc
+    ] refl h
+
+rule_dotted : (kind nodes : List Item) (r : Rule) → rule_from kind nodes ≡ Some r → dotted true r.kind ≡ true
+rule_dotted kind [] r h = absurd cc
+rule_dotted kind (x ∷ []) r h = call_dotted kind x r h
+rule_dotted kind (x ∷ y ∷ xs) r h = rule_dotted (kind ++ x ∷ []) (y ∷ xs) r h
+
+-- the nodes of a rule are read as this rule
+nodes_read : (r : Rule) → dotted true r.kind ≡ true → rule_of (nodes_of r) ≡ Some r
+nodes_read r dots = rule_from_end [] r.kind (group RuleCall (segs_of r.args) r.one_comma r.end) ∙ rw (dots, segments_of r.args) refl
+
+-- the arguments of what may be a rule
+abbrev pub there : Option Rule → Option (List Segment)
+there o = option_map (λ (r : Rule). r.args) o
+
+edited_there : (f : List Segment → List Segment) (s : Statement) → there (rule_of (with_args f s).nodes) ≡ option_map f (there (rule_of s.nodes))
+edited_there f s =
+    elim (rule_of s.nodes) as (λ o. rule_of s.nodes ≡ o → there (rule_of (nodes_after f s.nodes o)) ≡ option_map f (there o))
+    [ None ↦ λ e. ap there e | Some r ↦ λ e. ap there (nodes_read (record r { args = f r.args }) (rule_dotted [] s.nodes r e)) ] refl
+
+joined_dotted : (names : List (List ℕ)) → 0 < length names → dotted true (joined_by_dots names) ≡ true
+joined_dotted [] h = absurd (omega arith)
+joined_dotted (name ∷ []) h = refl
+joined_dotted (name ∷ other ∷ names) h = joined_dotted (other ∷ names) (omega arith)
+
+kind_dotted : (kind : List ℕ) → dotted true (kind_items kind) ≡ true
+kind_dotted kind = joined_dotted (slice_split (λ b. b == 46) kind) (some_part (λ b. b == 46) kind)
+
+kind_set : (kind : List ℕ) (s : Statement) → there (rule_of (with_kind kind s).nodes) ≡ there (rule_of s.nodes)
+kind_set kind s =
+    elim (rule_of s.nodes) as (λ o. rule_of s.nodes ≡ o → there (rule_of (kind_after kind s.nodes o)) ≡ there o) [
+      | None ↦ λ e. ap there e
+      | Some r ↦ λ e.
+          elim (bytes_eq (kind_text r.kind) kind) as (λ b. there (rule_of (if b then s.nodes else nodes_of (record r { kind = kind_items kind }))) ≡ Some r.args)
+          [ true ↦ ap there e | false ↦ ap there (nodes_read (record r { kind = kind_items kind }) (kind_dotted kind)) ]
+    ] refl
+
+no_edit : (o : Option (List Segment)) → o ≡ option_map (λ args. args) o
+no_edit None = refl
+no_edit (Some args) = refl
+
+edited : (f : List Segment → List Segment) (s t : Statement) → Some (with_args f s) ≡ Some t → there (rule_of t.nodes) ≡ option_map f (there (rule_of s.nodes))
+edited f s t h = let is : with_args f s ≡ t = cc in ap (λ (z : Statement). there (rule_of z.nodes)) (sym is) ∙ edited_there f s
+
+same : (s t : Statement) → Some s ≡ Some t → there (rule_of t.nodes) ≡ option_map (λ args. args) (there (rule_of s.nodes))
+same s t h = let is : s ≡ t = cc in ap (λ (z : Statement). there (rule_of z.nodes)) (sym is) ∙ no_edit (there (rule_of s.nodes))
+
+left_alone : (s t : Statement) (b : Bool) → (if b then None else Some s) ≡ Some t → there (rule_of t.nodes) ≡ option_map (λ args. args) (there (rule_of s.nodes))
+left_alone s t true h = absurd cc
+left_alone s t false h = same s t h
+
+-- a command does to a statement what it does to its arguments
+pub there_after : (c : Command) (home : Package) (s t : Statement) → after c home (Some s) ≡ Some t → there (rule_of t.nodes) ≡ option_map (args_after c home) (there (rule_of s.nodes))
+there_after (Add attr values) home s t h = edited (args_after (Add attr values) home) s t h
+there_after (Remove attrs values) home s t h = edited (args_after (Remove attrs values) home) s t h
+there_after (Set (ToKind kind)) home s t h =
+    let is : with_kind kind s ≡ t = cc in
+    ap (λ (z : Statement). there (rule_of z.nodes)) (sym is) ∙ kind_set kind s ∙ no_edit (there (rule_of s.nodes))
+there_after (Set (ToValues attr values)) home s t h = edited (args_after (Set (ToValues attr values)) home) s t h
+there_after (SetIfAbsent attr values) home s t h = edited (args_after (SetIfAbsent attr values) home) s t h
+there_after Delete home s t h = left_alone s t (is_some (rule_of s.nodes)) h
+there_after (Rename old new) home s t h = edited (args_after (Rename old new) home) s t h
+there_after (Move old new chosen) home s t h = edited (args_after (Move old new chosen) home) s t h
+there_after (Replace attrs old new) home s t h = edited (args_after (Replace attrs old new) home) s t h
+there_after (Comment OfRule text) home s t h =
+    let is : comment_rule text s ≡ t = cc in
+    ap (λ (z : Statement). there (rule_of z.nodes)) (sym is) ∙ no_edit (there (rule_of s.nodes))
+there_after (Comment (Attribute attr) text) home s t h = edited (args_after (Comment (Attribute attr) text) home) s t h
+there_after (Comment (Value attr v) text) home s t h = edited (args_after (Comment (Value attr v) text) home) s t h
+there_after (Print fields) home s t h = same s t h
+
+-- the kind of a rule after a command on its arguments
+
+abbrev pub kind_there : Option Rule → Option (List ℕ)
+kind_there o = option_map (λ (r : Rule). kind_text r.kind) o
+
+edited_kind : (f : List Segment → List Segment) (s t : Statement) → Some (with_args f s) ≡ Some t → kind_there (rule_of t.nodes) ≡ kind_there (rule_of s.nodes)
+edited_kind f s t h =
+    let is : with_args f s ≡ t = cc in
+    ap (λ (z : Statement). kind_there (rule_of z.nodes)) (sym is)
+    ∙ elim (rule_of s.nodes) as (λ o. rule_of s.nodes ≡ o → kind_there (rule_of (nodes_after f s.nodes o)) ≡ kind_there o)
+    [ None ↦ λ e. ap kind_there e | Some r ↦ λ e. ap kind_there (nodes_read (record r { args = f r.args }) (rule_dotted [] s.nodes r e)) ] refl
+
+pub kind_kept : (c : Command) (home : Package) (s t : Statement) → is_steady c ≡ true → sets_a_kind c ≡ false → after c home (Some s) ≡ Some t → kind_there (rule_of t.nodes) ≡ kind_there (rule_of s.nodes)
+kind_kept (Add attr values) home s t steady other h = edited_kind (args_after (Add attr values) home) s t h
+kind_kept (Remove attrs values) home s t steady other h = edited_kind (args_after (Remove attrs values) home) s t h
+kind_kept (Set (ToKind kind)) home s t steady other h = absurd (false≢true (sym other))
+kind_kept (Set (ToValues attr values)) home s t steady other h = edited_kind (args_after (Set (ToValues attr values)) home) s t h
+kind_kept (SetIfAbsent attr values) home s t steady other h = edited_kind (args_after (SetIfAbsent attr values) home) s t h
+kind_kept (Replace attrs old new) home s t steady other h = edited_kind (args_after (Replace attrs old new) home) s t h
+kind_kept (Print fields) home s t steady other h = let is : s ≡ t = cc in ap (λ (z : Statement). kind_there (rule_of z.nodes)) (sym is)
+kind_kept _ home s t steady other h = absurd (false≢true steady)
