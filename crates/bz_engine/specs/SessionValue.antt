@@ -18,7 +18,7 @@ use Rattle.bz_passes.specs.Exchange.{no_slot, told, some_not_found, Fits}
 use Rattle.bz_engine.specs.Progress.{Progress, IsKeptOf}
 use Rattle.bz_engine.specs.Meaning.{meaning}
 use Rattle.bz_engine.specs.Messages.{fault_text}
-use Rattle.bz_engine.specs.Outcome.{Script, Told, IsOutcome, IsFrontOf, text_after}
+use Rattle.bz_engine.specs.Outcome.{Script, Run, run_with, Told, IsOutcome, IsFrontOf, text_after}
 use Rattle.bz_passes.specs.Entries.{line_text, message_text}
 
 -- The package, the passes and the options; what is kept of the chunks that are done; the bytes ahead, with the reads made and whether the end
@@ -43,6 +43,9 @@ at_start home passes options = record {
   failure = None;
 }
 
+abbrev pub run_in : SessionValue → Run
+run_in v = run_with v.home v.passes v.options
+
 -- it has the same package, passes and options
 pub record IsSameRun (old new : SessionValue) : Type 0 where
   pub home : new.home ≡ old.home
@@ -59,7 +62,7 @@ pub record HasDone (v : SessionValue) (pieces cs : List (List ℕ)) (text : List
   pub few : length v.ahead.bytes ≤ 8192
   pub first : (rest : List ℕ) → (IsTrue v.ahead.ended → rest ≡ []) → chunks (joined pieces ++ rest) ≡ cs ++ chunks (v.ahead.bytes ++ rest)
   pub statements : List Statement
-  pub kept : IsKeptOf v.home v.passes v.options.max_depth cs statements v.progress
+  pub kept : IsKeptOf (run_in v) cs statements v.progress
   pub text_is : text ≡ text_after v.home v.passes statements
   pub calm : v.options.keep_going ≡ false → v.progress.failed ≡ false
 
@@ -122,8 +125,7 @@ told_at v FirstFailure = told_alone (option_to_list v.failure) v.progress.change
 -- Reads gave these pieces and this text was written: with what the session tells at this end it is the outcome for every file that begins with the
 -- pieces, where the end was met for that file alone.
 abbrev pub HasEnded : SessionValue → End → List (List ℕ) → List ℕ → Type 0
-HasEnded v end pieces text =
-    ForEveryFile pieces (λ file. IsOutcome v.home v.passes v.options.keep_going v.options.max_depth file text (told_at v end))
+HasEnded v end pieces text = ForEveryFile pieces (λ file. IsOutcome (run_in v) file text (told_at v end))
 
 -- it can take a chunk
 pub record IsReady (v : SessionValue) : Type 0 where

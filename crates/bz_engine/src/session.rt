@@ -2,16 +2,14 @@
 
 ghost use Rattle.std.specs.Prelude.{◌≡◌, ◌≢◌, ℕ, ◌+◌, ◌<◌, ◌≤◌, ◌^◌, ◌++◌, false, List, [], length, take, drop, IfOk, OnOk, OnErr, IfSome, IfNone, IsTrue};
 ghost use Rattle.bz_token.specs.Cuts.{IsPart};
-ghost use Rattle.bz_tree.specs.Tree.{Statement};
 ghost use Rattle.bz_devices.specs.Device.{joined, NoneEnds, Rises};
 ghost use Rattle.bz_passes.specs.Exchange.{Fits};
 ghost use Rattle.bz_devices.specs.Ahead.{IsReadOn, IsNextChunk, IsTooLong, IsUncertain, IsFewAfter};
 ghost use Rattle.bz_engine.specs.Outcome.{told_by};
-ghost use Rattle.bz_engine.specs.Progress.{IsKeptOf};
 ghost use Rattle.bz_engine.specs.private.ChunkFaults.{fault_at};
-ghost use Rattle.bz_engine.specs.private.Edits.{IsEdited};
+ghost use Rattle.bz_engine.specs.private.Edits.{EditsChunk};
 ghost use Rattle.bz_engine.specs.private.NextChunks.{IsNextEdited, IsFirstNext, CanTake};
-ghost use Rattle.bz_engine.specs.SessionValue.{at_start, IsSameRun, IsReady, IsLeftByFault, IsRefused, HasOneMore, HasDone, HasEnded, told_at};
+ghost use Rattle.bz_engine.specs.SessionValue.{at_start, run_in, IsSameRun, IsReady, IsLeftByFault, IsRefused, HasOneMore, HasDone, HasEnded, told_at};
 ghost use Rattle.bz_engine.specs.declared.session.Stage.TheVariants.{Going, Ended, Stopped};
 
 use crate::edit::{Edited, Script};
@@ -28,6 +26,7 @@ use bumpalo::Bump;
 use bz_command::Pass;
 use bz_devices::ahead::{Ahead, ChunkFault, next_chunk, read_on};
 use bz_devices::device::{Failed, Sink, Source};
+use bz_devices::limits::Limits;
 use bz_devices::output::write_all;
 use bz_passes::kept::nothing_kept;
 use bz_rule::{Command, Package, Target, Text};
@@ -428,10 +427,8 @@ impl Session {
         ensures same { self.new ≡ record self.old { progress = self.new.progress } }
         ensures fits { OnOk result (Fits self.new.progress.kept self.new.passes) }
         ensures lines { OnOk result (self.new.progress.line ≤ self.old.progress.line + len) }
-        ensures edited { IfOk result (λ edited. (cs : List (List ℕ)) (statements : List Statement)
-            → IsKeptOf self.old.home self.old.passes self.old.options.max_depth cs statements self.old.progress
-            → IsEdited self.old.home self.old.passes self.old.options.keep_going self.old.options.max_depth cs statements
-            (take len self.old.ahead.bytes) self.old.progress self.new.progress text.old.items text.new.items edited) }
+        ensures edited { IfOk result (EditsChunk (run_in self.old) (take len self.old.ahead.bytes)
+            self.old.progress self.new.progress text.old.items text.new.items) }
     {
         let script = Script {
             alloc: self.alloc,
@@ -493,7 +490,11 @@ fn find_chunk<S: Source>(
     ensures steady { result ≢ Err RunFault.ReadFailed → S.failures source.new ≡ S.failures source.old }
     ensures runs { (result ≢ Err RunFault.Stopped) × (result ≢ Err RunFault.WriteFailed) }
 {
-    match next_chunk(ahead, source, options.max_statement, options.max_reads) {
+    let limits = Limits {
+        statement: options.max_statement,
+        reads: options.max_reads,
+    };
+    match next_chunk(ahead, source, limits) {
         Ok(found) => Ok(found),
         Err(fault) => Err(fault_at(fault, line)),
     }
@@ -522,7 +523,11 @@ fn read_more<S: Source>(
     ensures steady { result ≢ Err RunFault.ReadFailed → S.failures source.new ≡ S.failures source.old }
     ensures runs { (result ≢ Err RunFault.Stopped) × (result ≢ Err RunFault.WriteFailed) }
 {
-    match read_on(ahead, source, options.max_statement, options.max_reads) {
+    let limits = Limits {
+        statement: options.max_statement,
+        reads: options.max_reads,
+    };
+    match read_on(ahead, source, limits) {
         Ok(read) => Ok(read),
         Err(fault) => Err(fault_at(fault, line)),
     }

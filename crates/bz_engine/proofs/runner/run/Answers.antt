@@ -3,7 +3,7 @@ use Rattle.std.specs.Prelude.{IsErrAnd, Ok, Err}
 use Rattle.std.proofs.lemmas.Result.{err_from_is_err_and}
 use Rattle.bz_engine.specs.declared.run_fault.RunFault.{RunFault}
 use Rattle.bz_engine.specs.declared.run_fault.RunFault.TheVariants.{InputTooLong, StatementTooLong, Stopped, ReadFailed, WriteFailed}
-use Rattle.bz_engine.specs.Outcome.{told_by}
+use Rattle.bz_engine.specs.Outcome.{run_with, told_by}
 use Rattle.bz_engine.specs.SessionValue.{HasDone, told_at}
 use Rattle.bz_engine.proofs.Advances.{on_err}
 use Rattle.bz_devices.proofs.PassedOn.{not_passed_on}
@@ -111,15 +111,15 @@ returns-in-End-clause-devices g c =
 pub returns-in_err-session-clause-front : goal.returns-in_err-session-clause-front
 returns-in_err-session-clause-front g c =
     on_err _ (cut_is (λ pieces. g.S.Source.gave c.args.source.now pieces c.args.source.now) (λ text. g.W.Sink.took c.args.sink.now text c.args.sink.now)
-    c.args.home c.args.passes.items c.args.options [] [] (g.met.S.Source.gave_nothing _) (g.met.W.Sink.took_nothing _) (omega arith)
-    (nothing_begins c.args.home c.args.passes.items c.args.options))
+    (run_with c.args.home c.args.passes.items c.args.options) c.args.options.max_reads [] [] (g.met.S.Source.gave_nothing _) (g.met.W.Sink.took_nothing _) (omega arith)
+    (nothing_begins (run_with c.args.home c.args.passes.items c.args.options)))
 
 pub returns-in_err-step-clause-front : goal.returns-in_err-step-clause-front
 returns-in_err-step-clause-front g c =
     let inv = c.loop-session.invariant in
     let left = c.in_err-step.ensures.front inv.goes in
     on_err _ (cut_is (λ pieces. g.S.Source.gave c.args.source.now pieces c.step.new.source) (λ text. g.W.Sink.took c.args.sink.now text c.step.new.sink)
-    c.args.home c.args.passes.items c.args.options (inv.pieces ++ left.read) (inv.text ++ left.shown)
+    (run_with c.args.home c.args.passes.items c.args.options) c.args.options.max_reads (inv.pieces ++ left.read) (inv.text ++ left.shown)
     (g.met.S.Source.gave_more _ _ _ _ _ inv.gave left.gave) (g.met.W.Sink.took_more _ _ _ _ _ inv.took left.took)
     (fault_reads _ _ c.loop-session.session c.step.new.self c.args.options inv.pieces inv.cs inv.text inv.options inv.done left)
     (fault_begins _ _ c.loop-session.session c.step.new.self c.args.home c.args.passes.items c.args.options inv.pieces inv.cs inv.text
@@ -132,11 +132,11 @@ returns-in-End-clause-front g c =
     let end = c.step.ensures.end (c.in_ok-step.was ∙ ap Ok c.in-End.is) inv.goes in
     let over = end.2 inv.pieces inv.cs inv.text inv.done in
     on_err _ (cut_is (λ pieces. g.S.Source.gave c.args.source.now pieces c.step.new.source) (λ text. g.W.Sink.took c.args.sink.now text c.step.new.sink)
-    c.args.home c.args.passes.items c.args.options (inv.pieces ++ over.0) inv.text
+    (run_with c.args.home c.args.passes.items c.args.options) c.args.options.max_reads (inv.pieces ++ over.0) inv.text
     (g.met.S.Source.gave_more _ _ _ _ _ inv.gave over.1)
     (subst (λ t. g.W.Sink.took c.args.sink.now t c.step.new.sink) (append-nil inv.text) (g.met.W.Sink.took_more _ _ _ _ _ inv.took over.2))
     (subst (λ o. length (inv.pieces ++ over.0) ≤ o.max_reads) (same.options ∙ inv.options) over.3)
-    (ended_begins c.args.home c.args.passes.items c.args.options (inv.pieces ++ over.0) inv.text (told_at c.step.new.self end.0)
+    (ended_begins (run_with c.args.home c.args.passes.items c.args.options) (inv.pieces ++ over.0) inv.text (told_at c.step.new.self end.0)
     (outcome_is c.step.new.self c.args.home c.args.passes.items c.args.options end.0 (told_at c.step.new.self end.0) (inv.pieces ++ over.0) inv.text
     (same.home ∙ inv.home) (same.passes ∙ inv.passes) (same.options ∙ inv.options) refl over.4)))
 
