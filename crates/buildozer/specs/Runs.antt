@@ -1,7 +1,7 @@
 -- A run over the statements of one file, and when what it wrote is kept (buildozer README, "Error codes"; this project's own rule).
 use Rattle.std.specs.Prelude.{◌≡◌, ℕ, Bool, true, false, ◌&&◌, ◌||◌, not, List}
 use Rattle.bz_engine.specs.EveryFile.{ForEveryFile}
-use Rattle.bz_engine.specs.Outcome.{Script, Told, IsOutcome, IsFrontOf, told_by}
+use Rattle.bz_engine.specs.Outcome.{Script, Run, Told, IsOutcome, IsFrontOf, told_by}
 use Rattle.bz_engine.specs.declared.report.Report.{Report}
 use Rattle.bz_engine.specs.declared.report.End.{End}
 use Rattle.bz_engine.specs.declared.report.End.TheVariants.{Whole, Syntax, FirstFailure}
@@ -14,15 +14,17 @@ pub record Asked : Type 0 where
   -- whether a failure does not end the run
   pub keep_going : Bool
 
+abbrev pub run_of : Asked → Run
+run_of asked = record { home = asked.home; passes = asked.passes; keep_going = asked.keep_going; max_depth = 100 }
+
 -- For every file that begins with these reads (where their end was met, for that file), this text and this report are the outcome
 -- of the passes over its statements.
 abbrev pub IsRun : Asked → List (List ℕ) → List ℕ → Report → Type 0
-IsRun asked read text report = ForEveryFile read (λ file. IsOutcome asked.home asked.passes asked.keep_going 100 file text (told_by report))
+IsRun asked read text report = ForEveryFile read (λ file. IsOutcome (run_of asked) file text (told_by report))
 
 -- For every such file this text is a front of the text of each outcome.
 abbrev pub IsFront : Asked → List (List ℕ) → List ℕ → Type 0
-IsFront asked read text = ForEveryFile read (λ file. (whole : List ℕ) (told : Told)
-    → IsOutcome asked.home asked.passes asked.keep_going 100 file whole told → IsFrontOf text whole)
+IsFront asked read text = ForEveryFile read (λ file. (whole : List ℕ) (told : Told) → IsOutcome (run_of asked) file whole told → IsFrontOf text whole)
 
 -- a run read from a source and wrote to a sink, and ended with a report
 pub record Ran {S W : Type 0} (gave : S → List (List ℕ) → S → Type 0) (took : W → List ℕ → W → Type 0)

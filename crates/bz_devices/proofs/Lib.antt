@@ -6,3 +6,4 @@ pub mod ChunkAhead
 pub mod Pieces
 pub mod PassedOn
 pub mod TextAhead
+mod Searches

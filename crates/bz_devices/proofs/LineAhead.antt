@@ -6,7 +6,7 @@ use Rattle.bz_devices.specs.Device.{joined}
 use Rattle.bz_devices.specs.Ahead.{Ahead, IsReadOn}
 use Rattle.bz_devices.specs.private.AheadSteps.{IsOpen, IsLine, IsLineAt}
 use Rattle.bz_devices.proofs.ChunkLines.{open_then, line_then, slice_more, slice_all, tail_is}
-use Rattle.bz_devices.proofs.ReadOn.{back_grows, grows}
+use Rattle.bz_devices.proofs.ReadOn.{back_grows}
 
 -- nothing was searched
 pub passed_none : (bytes : List ℕ) (e : ℕ) → IsOpen (take (e - e) (drop e bytes))

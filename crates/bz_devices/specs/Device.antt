@@ -24,6 +24,10 @@ pub record Rises (old new : ℕ) : Type 0 where
   pub grows : old ≤ new
   pub rose : old < 2 ^ 64 - 1 → old < new
 
+-- A count of failures rises where this failed, and else stays.
+abbrev pub IsCounted : Type 0 → ℕ → ℕ → Type 0
+IsCounted Failed old new = (Failed → Rises old new) × ((Failed → ⊥) → new ≡ old)
+
 -- a count of bytes grew by n, or stands at its greatest value
 pub record Counts (old new n : ℕ) : Type 0 where
   pub grows : old ≤ new

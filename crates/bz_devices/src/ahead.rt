@@ -1,14 +1,16 @@
 //! The input's next chunk: where it ends, reading no further than is needed to know it.
 
-ghost use Rattle.std.specs.Prelude.{◌≡◌, ◌≢◌, ℕ, ◌+◌, ◌<◌, ◌≤◌, false, List, [], length, take, drop, IfOk, OnOk, OnErr, IfSome, IfNone, IsErrOf, IsTrue, IsUtf8};
+ghost use Rattle.std.specs.Prelude.{◌≡◌, ◌≢◌, ℕ, ◌+◌, ◌<◌, ◌≤◌, ◌⊎◌, true, false, List, [], length, take, drop, IfOk, OnOk, OnErr, IfSome, IfNone, IsErrOf, IsTrue, IsUtf8};
 ghost use Rattle.bz_devices.specs.Device.{joined, Rises};
 ghost use Rattle.bz_token.specs.Cuts.{IsBlock, IsPart};
 ghost use Rattle.bz_token.specs.CutterState.{IsAfter, IsAtBlock};
 ghost use Rattle.bz_devices.specs.Ahead.{IsReadOn, AreNeeded, IsNextChunk, IsTooLong, IsUncertain, IsFewAfter};
+ghost use Rattle.bz_devices.specs.Search.{Searches};
 ghost use Rattle.bz_devices.specs.private.AheadSteps.{IsOpen, IsLine, IsLineAt, IsBegun, GoesOn, EndsAt, IsEnd};
 
 use crate::device::Source;
 use crate::input::{PIECE, ReadFault, read_at_most};
+use crate::limits::Limits;
 use bz_token::{Cut, Cutter, Next, check_utf8};
 use memchr::memchr;
 use std::alloc::Global;
@@ -53,6 +55,7 @@ pub enum ChunkFault {
 }
 
 impl From<ReadFault> for ChunkFault {
+    ghost use Rattle.bz_devices.specs.Search.{Searches};
     ghost use Rattle.bz_devices.specs.private.AheadSteps.{chunk_fault};
 
     ghost from_gives = { λ fault e. e ≡ chunk_fault fault };
@@ -192,32 +195,26 @@ fn drop_front(bytes: &mut Vec<u8>, n: usize)
 }
 
 /// Reads once, where all that is ahead is a part of the next chunk; answers whether it did. It does not after the end of
-/// the input, nor where the chunk is sure to be longer than `max_statement`.
+/// the input, nor where the chunk is sure to be too long.
 pub fn read_on<S: Source>(
     ahead: &mut Ahead,
     source: &mut S,
-    max_statement: u64,
-    max_reads: u64,
+    limits: Limits,
 ) -> Result<bool, ChunkFault>
-    requires made { ahead.old.reads ≤ max_reads }
+    requires made { ahead.old.reads ≤ limits.reads }
     requires part { IsPart ahead.old.bytes }
     requires few { length ahead.old.bytes ≤ 8192 }
-    requires bound { length ahead.old.bytes ≤ max_statement + 8192 }
-    ensures read { (pieces : List (List ℕ)) × S.gave source.old pieces source.new
-        × IsReadOn max_reads ahead.old ahead.new pieces × AreNeeded max_statement ahead.old.bytes pieces }
-    ensures bound { length ahead.new.bytes ≤ max_statement + 8192 }
-    ensures few { OnOk result (IsFewAfter ahead.new) }
+    requires bound { length ahead.old.bytes ≤ limits.statement + 8192 }
+    ensures searches { Searches S.gave S.failures limits source.old source.new ahead.old ahead.new result }
     ensures fitting { result ≢ Err ChunkFault.StatementTooLong }
-    ensures input_too_long { IsErrOf result ChunkFault.InputTooLong
-        → (ahead.new.reads ≡ max_reads) × (ahead.new.ended ≡ false)
-        × IsUncertain ahead.new × (IsTooLong max_statement ahead.new → ⊥) }
-    ensures failed { IsErrOf result ChunkFault.ReadFailed → Rises (S.failures source.old) (S.failures source.new) }
-    ensures steady { result ≢ Err ChunkFault.ReadFailed → S.failures source.new ≡ S.failures source.old }
+    ensures one { result ≡ Ok true → ahead.new.reads ≡ ahead.old.reads + 1 }
+    ensures idle { result ≡ Ok false
+        → (ahead.new ≡ ahead.old) × (IsTrue ahead.old.ended ⊎ IsTooLong limits.statement ahead.old) }
 {
-    if ahead.is_ended() || ahead.bytes().len() as u64 > max_statement {
+    if ahead.is_ended() || ahead.bytes().len() as u64 > limits.statement {
         return Ok(false);
     }
-    ahead.read(source, PIECE, max_reads)?;
+    ahead.read(source, PIECE, limits.reads)?;
     Ok(true)
 }
 
@@ -239,25 +236,15 @@ fn read_line<S: Source>(
     ahead: &mut Ahead,
     source: &mut S,
     from: usize,
-    max_statement: u64,
-    max_reads: u64,
+    limits: Limits,
 ) -> Result<usize, ChunkFault>
-    requires made { ahead.old.reads ≤ max_reads }
+    requires made { ahead.old.reads ≤ limits.reads }
     requires within { from ≤ length ahead.old.bytes }
     requires few { IsFewAfter ahead.old }
     requires begun { IsBegun ahead.old from }
-    requires bound { length ahead.old.bytes ≤ max_statement + 8192 }
-    ensures read { (pieces : List (List ℕ)) × S.gave source.old pieces source.new
-        × IsReadOn max_reads ahead.old ahead.new pieces × AreNeeded max_statement ahead.old.bytes pieces }
-    ensures bound { length ahead.new.bytes ≤ max_statement + 8192 }
+    requires bound { length ahead.old.bytes ≤ limits.statement + 8192 }
+    ensures searches { Searches S.gave S.failures limits source.old source.new ahead.old ahead.new result }
     ensures line { IfOk result (IsLineAt ahead.new from) }
-    ensures few { OnOk result (IsFewAfter ahead.new) }
-    ensures statement_too_long { IsErrOf result ChunkFault.StatementTooLong → IsTooLong max_statement ahead.new }
-    ensures input_too_long { IsErrOf result ChunkFault.InputTooLong
-        → (ahead.new.reads ≡ max_reads) × (ahead.new.ended ≡ false)
-        × IsUncertain ahead.new × (IsTooLong max_statement ahead.new → ⊥) }
-    ensures failed { IsErrOf result ChunkFault.ReadFailed → Rises (S.failures source.old) (S.failures source.new) }
-    ensures steady { result ≢ Err ChunkFault.ReadFailed → S.failures source.new ≡ S.failures source.old }
 {
     let mut searched = from;
     loop {
@@ -268,10 +255,10 @@ fn read_line<S: Source>(
         if ahead.is_ended() {
             return Ok(searched);
         }
-        if searched as u64 > max_statement {
+        if searched as u64 > limits.statement {
             return Err(ChunkFault::StatementTooLong);
         }
-        ahead.read(source, PIECE, max_reads)?;
+        ahead.read(source, PIECE, limits.reads)?;
     }
 }
 
@@ -281,39 +268,29 @@ fn ends_block<S: Source>(
     ahead: &mut Ahead,
     source: &mut S,
     end: usize,
-    max_statement: u64,
-    max_reads: u64,
+    limits: Limits,
 ) -> Result<bool, ChunkFault>
     requires at_block { IsAtBlock cutter.old }
     requires after { IsAfter cutter.old (take end ahead.old.bytes) }
     requires block { IsBlock (take end ahead.old.bytes) }
-    requires made { ahead.old.reads ≤ max_reads }
+    requires made { ahead.old.reads ≤ limits.reads }
     requires within { end ≤ length ahead.old.bytes }
     requires few { IsFewAfter ahead.old }
-    requires bound { length ahead.old.bytes ≤ max_statement + 8192 }
-    ensures read { (pieces : List (List ℕ)) × S.gave source.old pieces source.new
-        × IsReadOn max_reads ahead.old ahead.new pieces × AreNeeded max_statement ahead.old.bytes pieces }
-    ensures bound { length ahead.new.bytes ≤ max_statement + 8192 }
-    ensures few { OnOk result (IsFewAfter ahead.new) }
+    requires bound { length ahead.old.bytes ≤ limits.statement + 8192 }
+    ensures searches { Searches S.gave S.failures limits source.old source.new ahead.old ahead.new result }
     ensures ends { IfOk result (λ is_end. IsTrue is_end → EndsAt ahead.new end) }
     ensures goes { IfOk result (λ is_end. is_end ≡ false → GoesOn cutter.new ahead.new end) }
-    ensures statement_too_long { IsErrOf result ChunkFault.StatementTooLong → IsTooLong max_statement ahead.new }
-    ensures input_too_long { IsErrOf result ChunkFault.InputTooLong
-        → (ahead.new.reads ≡ max_reads) × (ahead.new.ended ≡ false)
-        × IsUncertain ahead.new × (IsTooLong max_statement ahead.new → ⊥) }
-    ensures failed { IsErrOf result ChunkFault.ReadFailed → Rises (S.failures source.old) (S.failures source.new) }
-    ensures steady { result ≢ Err ChunkFault.ReadFailed → S.failures source.new ≡ S.failures source.old }
 {
     loop {
         match cutter.goes_on(&ahead.bytes()[end..], ahead.is_ended()) {
             Next::Ends => return Ok(true),
             Next::Goes => return Ok(false),
             Next::Short => {
-                if end as u64 > max_statement {
+                if end as u64 > limits.statement {
                     return Err(ChunkFault::StatementTooLong);
                 }
                 let most = PIECE - (ahead.bytes().len() - end);
-                ahead.read(source, most, max_reads)?;
+                ahead.read(source, most, limits.reads)?;
             }
         }
     }
@@ -326,32 +303,22 @@ fn ends_chunk<S: Source>(
     source: &mut S,
     from: usize,
     end: usize,
-    max_statement: u64,
-    max_reads: u64,
+    limits: Limits,
 ) -> Result<bool, ChunkFault>
     requires goes_on { GoesOn cutter.old ahead.old from }
     requires line { IsLineAt ahead.old from end }
     requires some { from < end }
-    requires made { ahead.old.reads ≤ max_reads }
+    requires made { ahead.old.reads ≤ limits.reads }
     requires few { IsFewAfter ahead.old }
-    requires bound { length ahead.old.bytes ≤ max_statement + 8192 }
-    ensures read { (pieces : List (List ℕ)) × S.gave source.old pieces source.new
-        × IsReadOn max_reads ahead.old ahead.new pieces × AreNeeded max_statement ahead.old.bytes pieces }
-    ensures bound { length ahead.new.bytes ≤ max_statement + 8192 }
-    ensures few { OnOk result (IsFewAfter ahead.new) }
+    requires bound { length ahead.old.bytes ≤ limits.statement + 8192 }
+    ensures searches { Searches S.gave S.failures limits source.old source.new ahead.old ahead.new result }
     ensures ends { IfOk result (λ is_end. IsTrue is_end → EndsAt ahead.new end) }
     ensures goes { IfOk result (λ is_end. is_end ≡ false → GoesOn cutter.new ahead.new end) }
-    ensures statement_too_long { IsErrOf result ChunkFault.StatementTooLong → IsTooLong max_statement ahead.new }
-    ensures input_too_long { IsErrOf result ChunkFault.InputTooLong
-        → (ahead.new.reads ≡ max_reads) × (ahead.new.ended ≡ false)
-        × IsUncertain ahead.new × (IsTooLong max_statement ahead.new → ⊥) }
-    ensures failed { IsErrOf result ChunkFault.ReadFailed → Rises (S.failures source.old) (S.failures source.new) }
-    ensures steady { result ≢ Err ChunkFault.ReadFailed → S.failures source.new ≡ S.failures source.old }
 {
     match cutter.line(&ahead.bytes()[from..end]) {
         Cut::Whole => Ok(true),
         Cut::More => Ok(false),
-        Cut::Block => ends_block(cutter, ahead, source, end, max_statement, max_reads),
+        Cut::Block => ends_block(cutter, ahead, source, end, limits),
     }
 }
 
@@ -359,39 +326,22 @@ fn ends_chunk<S: Source>(
 fn chunk_end<S: Source>(
     ahead: &mut Ahead,
     source: &mut S,
-    max_statement: u64,
-    max_reads: u64,
+    limits: Limits,
 ) -> Result<usize, ChunkFault>
-    requires made { ahead.old.reads ≤ max_reads }
+    requires made { ahead.old.reads ≤ limits.reads }
     requires few { IsFewAfter ahead.old }
-    requires bound { length ahead.old.bytes ≤ max_statement + 8192 }
-    ensures read { (pieces : List (List ℕ)) × S.gave source.old pieces source.new
-        × IsReadOn max_reads ahead.old ahead.new pieces × AreNeeded max_statement ahead.old.bytes pieces }
-    ensures bound { length ahead.new.bytes ≤ max_statement + 8192 }
+    requires bound { length ahead.old.bytes ≤ limits.statement + 8192 }
+    ensures searches { Searches S.gave S.failures limits source.old source.new ahead.old ahead.new result }
     ensures end { IfOk result (IsEnd ahead.new) }
-    ensures statement_too_long { IsErrOf result ChunkFault.StatementTooLong → IsTooLong max_statement ahead.new }
-    ensures input_too_long { IsErrOf result ChunkFault.InputTooLong
-        → (ahead.new.reads ≡ max_reads) × (ahead.new.ended ≡ false)
-        × IsUncertain ahead.new × (IsTooLong max_statement ahead.new → ⊥) }
-    ensures failed { IsErrOf result ChunkFault.ReadFailed → Rises (S.failures source.old) (S.failures source.new) }
-    ensures steady { result ≢ Err ChunkFault.ReadFailed → S.failures source.new ≡ S.failures source.old }
 {
     let mut cutter = Cutter::new();
     let mut end = 0;
     loop {
-        let next = read_line(ahead, source, end, max_statement, max_reads)?;
+        let next = read_line(ahead, source, end, limits)?;
         if next == end {
             return Ok(end);
         }
-        let is_end = ends_chunk(
-            &mut cutter,
-            ahead,
-            source,
-            end,
-            next,
-            max_statement,
-            max_reads,
-        )?;
+        let is_end = ends_chunk(&mut cutter, ahead, source, end, next, limits)?;
         if is_end {
             return Ok(next);
         }
@@ -402,33 +352,24 @@ fn chunk_end<S: Source>(
 /// How many bytes the next chunk of the input has; none where nothing is left of the input.
 ///
 /// It reads only where the bytes ahead leave the next chunk open: no front of them is a chunk whatever
-/// follows, and the chunk is not sure to be longer than `max_statement`.
+/// follows, and the chunk is not sure to be too long.
 pub fn next_chunk<S: Source>(
     ahead: &mut Ahead,
     source: &mut S,
-    max_statement: u64,
-    max_reads: u64,
+    limits: Limits,
 ) -> Result<Option<usize>, ChunkFault>
-    requires made { ahead.old.reads ≤ max_reads }
+    requires made { ahead.old.reads ≤ limits.reads }
     requires few { IsFewAfter ahead.old }
-    requires bound { length ahead.old.bytes ≤ max_statement + 8192 }
-    ensures read { (pieces : List (List ℕ)) × S.gave source.old pieces source.new
-        × IsReadOn max_reads ahead.old ahead.new pieces × AreNeeded max_statement ahead.old.bytes pieces }
-    ensures bound { length ahead.new.bytes ≤ max_statement + 8192 }
-    ensures chunk { IfOk result (λ found. IfSome found (IsNextChunk max_statement ahead.new)) }
+    requires bound { length ahead.old.bytes ≤ limits.statement + 8192 }
+    ensures searches { Searches S.gave S.failures limits source.old source.new ahead.old ahead.new result }
+    ensures chunk { IfOk result (λ found. IfSome found (IsNextChunk limits.statement ahead.new)) }
     ensures none { IfOk result (λ found. IfNone found ((ahead.new.bytes ≡ []) × IsTrue ahead.new.ended)) }
-    ensures statement_too_long { IsErrOf result ChunkFault.StatementTooLong → IsTooLong max_statement ahead.new }
-    ensures input_too_long { IsErrOf result ChunkFault.InputTooLong
-        → (ahead.new.reads ≡ max_reads) × (ahead.new.ended ≡ false)
-        × IsUncertain ahead.new × (IsTooLong max_statement ahead.new → ⊥) }
-    ensures failed { IsErrOf result ChunkFault.ReadFailed → Rises (S.failures source.old) (S.failures source.new) }
-    ensures steady { result ≢ Err ChunkFault.ReadFailed → S.failures source.new ≡ S.failures source.old }
 {
-    let end = chunk_end(ahead, source, max_statement, max_reads)?;
+    let end = chunk_end(ahead, source, limits)?;
     if end == 0 {
         return Ok(None);
     }
-    if end as u64 > max_statement {
+    if end as u64 > limits.statement {
         return Err(ChunkFault::StatementTooLong);
     }
     Ok(Some(end))

@@ -9,5 +9,6 @@ pub mod ahead;
 pub mod buffered;
 pub mod device;
 pub mod input;
+pub mod limits;
 pub mod output;
 pub mod std_device;

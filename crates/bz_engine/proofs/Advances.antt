@@ -3,7 +3,6 @@ use Rattle.std.proofs.Common.{◌≡◌, ℕ, ◌<◌, ◌≤◌, Bool, true, fa
 use Rattle.std.specs.Prelude.{IsTrue, Option, None, Some, Result, Ok, Err, IfSome, IfNone, OnErr}
 use Rattle.std.proofs.lemmas.Bool.{false≢true}
 use Rattle.std.proofs.lemmas.List.{length-take-le}
-use Rattle.bz_tree.specs.Tree.{Statement}
 use Rattle.bz_engine.specs.declared.run_fault.RunFault.{RunFault}
 use Rattle.bz_engine.specs.declared.session.Stage.{Stage}
 use Rattle.bz_engine.specs.declared.session.Step.{Step}
@@ -16,25 +15,24 @@ use Rattle.bz_engine.specs.declared.report.End.TheVariants.{Whole, Syntax, First
 use Rattle.bz_engine.specs.declared.edit.Edited.{Edited}
 use Rattle.bz_engine.specs.declared.edit.Edited.TheVariants.{Done, Faulty, Failed}
 use Rattle.bz_devices.specs.Ahead.{Ahead, IsReadOn, IsNextChunk}
-use Rattle.bz_engine.specs.Progress.{Progress, IsKeptOf}
-use Rattle.bz_engine.specs.private.Edits.{IsEdited}
-use Rattle.bz_engine.specs.SessionValue.{SessionValue, HasDone, IsCutShort, IsLeftByFault, HasEnded}
+use Rattle.bz_engine.specs.Progress.{Progress}
+use Rattle.bz_engine.specs.private.Edits.{EditsChunk}
+use Rattle.bz_engine.specs.SessionValue.{SessionValue, run_in, HasDone, IsCutShort, IsLeftByFault, HasEnded}
 use Rattle.bz_engine.proofs.Sessions.{went_on, ended_whole, ended_fault, ended_failure}
 
 -- what the script made of the chunk
-abbrev EditsChunk : SessionValue → Ahead → ℕ → Progress → List ℕ → List ℕ → Edited → Type 0
-EditsChunk v mid n after before following edited = (cs : List (List ℕ)) (ss : List Statement) → IsKeptOf v.home v.passes v.options.max_depth cs ss v.progress
-    → IsEdited v.home v.passes v.options.keep_going v.options.max_depth cs ss (take n mid.bytes) v.progress after before following edited
+abbrev EditsNext : SessionValue → Ahead → ℕ → Progress → List ℕ → List ℕ → Edited → Type 0
+EditsNext v mid n after before following edited = EditsChunk (run_in v) (take n mid.bytes) v.progress after before following edited
 
 edits_as : (v : SessionValue) (mid : Ahead) (n : ℕ) (after : Progress) (before following : List ℕ) (edited kind : Edited)
-    → EditsChunk v mid n after before following edited → before ≡ [] → edited ≡ kind → EditsChunk v mid n after [] following kind
+    → EditsNext v mid n after before following edited → before ≡ [] → edited ≡ kind → EditsNext v mid n after [] following kind
 edits_as v mid n after before following edited kind edits none is =
-    subst (EditsChunk v mid n after [] following) is (subst (λ b. EditsChunk v mid n after b following edited) none edits)
+    subst (EditsNext v mid n after [] following) is (subst (λ b. EditsNext v mid n after b following edited) none edits)
 
 pub chunk_done : (v e f : SessionValue) (mid : Ahead) (before following : List ℕ) (edited : Edited) (max_reads most n : ℕ) (pieces cs read : List (List ℕ)) (text : List ℕ)
     → HasDone v pieces cs text → IsReadOn max_reads v.ahead mid read → IsNextChunk most mid n → before ≡ []
     → (let after : SessionValue = record v { ahead = mid; progress = e.progress } in e ≡ after)
-    → EditsChunk v mid n e.progress before following edited → edited ≡ Done
+    → EditsNext v mid n e.progress before following edited → edited ≡ Done
     → (let taken : SessionValue = record e { ahead = record e.ahead { bytes = drop n e.ahead.bytes } } in f ≡ taken)
     → HasDone f (pieces ++ read) (cs ++ take n mid.bytes ∷ []) (text ++ following)
 chunk_done v e f mid before following edited max_reads most n pieces cs read text done on next none at edits is taken =
@@ -46,7 +44,7 @@ chunk_done v e f mid before following edited max_reads most n pieces cs read tex
 pub chunk_faulty : (v e : SessionValue) (mid : Ahead) (before following : List ℕ) (edited : Edited) (fault : SyntaxFault) (max_reads most n : ℕ) (pieces cs read : List (List ℕ)) (text : List ℕ)
     → HasDone v pieces cs text → IsReadOn max_reads v.ahead mid read → IsNextChunk most mid n → before ≡ []
     → (let after : SessionValue = record v { ahead = mid; progress = e.progress } in e ≡ after)
-    → EditsChunk v mid n e.progress before following edited → edited ≡ Faulty fault
+    → EditsNext v mid n e.progress before following edited → edited ≡ Faulty fault
     → HasEnded e (Syntax fault) (pieces ++ read) text
 chunk_faulty v e mid before following edited fault max_reads most n pieces cs read text done on next none at edits is =
     let faulty = edits_as v mid n e.progress before following edited (Faulty fault) edits none is cs done.statements done.kept in
@@ -57,7 +55,7 @@ chunk_faulty v e mid before following edited fault max_reads most n pieces cs re
 pub chunk_failed : (v e f : SessionValue) (mid : Ahead) (before following : List ℕ) (edited : Edited) (message : Option (List ℕ)) (max_reads most n : ℕ) (pieces cs read : List (List ℕ)) (text : List ℕ)
     → HasDone v pieces cs text → IsReadOn max_reads v.ahead mid read → IsNextChunk most mid n → before ≡ []
     → (let after : SessionValue = record v { ahead = mid; progress = e.progress } in e ≡ after)
-    → EditsChunk v mid n e.progress before following edited → edited ≡ Failed message
+    → EditsNext v mid n e.progress before following edited → edited ≡ Failed message
     → (let told : SessionValue = record e { failure = message } in f ≡ told)
     → HasEnded f FirstFailure (pieces ++ read) text
 chunk_failed v e f mid before following edited message max_reads most n pieces cs read text done on next none at edits is told =
@@ -70,7 +68,7 @@ chunk_failed v e f mid before following edited message max_reads most n pieces c
 write_cut : (v e : SessionValue) (mid : Ahead) (before following : List ℕ) (edited : Edited) (max_reads most n k : ℕ) (pieces cs read : List (List ℕ)) (text : List ℕ)
     → HasDone v pieces cs text → IsReadOn max_reads v.ahead mid read → IsNextChunk most mid n → before ≡ []
     → (let after : SessionValue = record v { ahead = mid; progress = e.progress } in e ≡ after)
-    → EditsChunk v mid n e.progress before following edited → edited ≡ Done
+    → EditsNext v mid n e.progress before following edited → edited ≡ Done
     → IsCutShort e (pieces ++ read) cs text (take k following)
 write_cut v e mid before following edited max_reads most n k pieces cs read text done on next none at edits is =
     let left = drop n e.ahead.bytes in
@@ -89,7 +87,7 @@ write_cut v e mid before following edited max_reads most n k pieces cs read text
 pub left_by_write : (Gave : List (List ℕ) → Type 0) (Took : List ℕ → Type 0) (v e w : SessionValue) (mid : Ahead) (before following : List ℕ) (edited : Edited) (most n k : ℕ) (read : List (List ℕ))
     → Gave read → Took (take k following) → IsReadOn v.options.max_reads v.ahead mid read → IsNextChunk most mid n → before ≡ []
     → (let after : SessionValue = record v { ahead = mid; progress = e.progress } in e ≡ after)
-    → EditsChunk v mid n e.progress before following edited → edited ≡ Done → w ≡ e
+    → EditsNext v mid n e.progress before following edited → edited ≡ Done → w ≡ e
     → IsLeftByFault Gave Took v w
 left_by_write Gave Took v e w mid before following edited most n k read gave took on next none at edits is same = record {
   read = read;

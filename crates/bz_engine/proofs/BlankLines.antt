@@ -1,5 +1,5 @@
 -- An empty line is a chunk, and no statement stands in it.
-use Rattle.std.proofs.Common.{◌≡◌, ℕ, false, zero, suc, ◌+◌, ◌≤◌, Bool, List, [], ◌∷◌, take, refl, ap, subst, arith}
+use Rattle.std.proofs.Common.{◌≡◌, ℕ, false, zero, suc, ◌+◌, ◌≤◌, List, [], ◌∷◌, take, refl, ap, subst, arith}
 use Rattle.std.specs.Prelude.{None, Ok}
 use Rattle.std.specs.Str.{IsUtf8}
 use Rattle.bz_token.specs.Cuts.{IsChunk}
@@ -10,10 +10,9 @@ use Rattle.bz_token.specs.declared.cutter.scan.LineKind.TheVariants.{Blank}
 use Rattle.bz_token.proofs.ChunkForms.{statement_chunk}
 use Rattle.bz_token.proofs.Ends.{line_token}
 use Rattle.bz_tree.specs.Chunk.{IsBlank}
-use Rattle.bz_command.specs.Labels.{Package}
 use Rattle.bz_devices.specs.Ahead.{Ahead, IsFewAfter}
 use Rattle.bz_engine.specs.File.{Gives}
-use Rattle.bz_engine.specs.Outcome.{Script}
+use Rattle.bz_engine.specs.Outcome.{Run}
 use Rattle.bz_engine.specs.Progress.{Progress}
 use Rattle.bz_engine.specs.declared.edit.Edited.TheVariants.{Done}
 use Rattle.bz_engine.specs.private.Edits.{IsEdited}
@@ -49,15 +48,15 @@ taken_newline rest [] (suc n, within, is) = absurd cc
 taken_newline rest (b ∷ bytes) (suc n, within, is) = ap (take 1) is
 
 -- the script on an empty line: nothing but the line's number is another
-pub newline_edited : (home : Package) (passes : Script) (keep_going : Bool) (depth most : ℕ) (ahead : Ahead) (old new : Progress) (text : List ℕ) (rest : List ℕ) (front : List ℕ)
+pub newline_edited : (run : Run) (most : ℕ) (ahead : Ahead) (old new : Progress) (text : List ℕ) (rest : List ℕ) (front : List ℕ)
     → IsFewAfter ahead → IsTakenOf front ahead.bytes → front ≡ 10 ∷ rest → 1 ≤ most → new ≡ record old { line = old.line + 1 }
-    → IsFirstEdited home passes keep_going depth most ahead old new text text (record { len = 1; edited = Done })
-newline_edited home passes keep_going depth most ahead old new text rest front few outer begins size is =
+    → IsFirstEdited run most ahead old new text text (record { len = 1; edited = Done })
+newline_edited run most ahead old new text rest front few outer begins size is =
     let taken = subst (λ t. IsTakenOf t ahead.bytes) begins outer in
     let first : newline ≡ take 1 ahead.bytes = taken_newline rest ahead.bytes taken in
     record {
       chunk = first_is_next most ahead newline (10 ∷ rest) few taken (omega arith) (omega arith) refl size newline_chunk;
       lines = omega (arith, ap (λ (p : Progress). p.line) is);
-      edited = λ cs statements kept. subst (λ chunk. IsEdited home passes keep_going depth cs statements chunk old new text text Done) first
-          (blank_done home passes keep_going depth cs statements newline old new text kept (newline_gives old.line depth) is);
+      edited = λ cs statements kept. subst (λ chunk. IsEdited run cs statements chunk old new text text Done) first
+          (blank_done run cs statements newline old new text kept (newline_gives old.line run.max_depth) is);
     }

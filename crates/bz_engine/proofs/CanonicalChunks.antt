@@ -1,5 +1,5 @@
 -- A canonical chunk of a statement that the script passes by is the next chunk, and is done.
-use Rattle.std.proofs.Common.{◌≡◌, ℕ, Bool, true, ◌≤◌, ◌+◌, List, [], ◌∷◌, ◌++◌, length, take, refl, sym, ◌∙◌, ap, subst, arith, bytes_eq, rules, Bor}
+use Rattle.std.proofs.Common.{◌≡◌, ℕ, true, ◌≤◌, ◌+◌, List, [], ◌∷◌, ◌++◌, length, take, refl, sym, ◌∙◌, ap, subst, arith, bytes_eq, rules, Bor}
 use Rattle.std.proofs.Math.Seq.{take-append_seam}
 use Rattle.std.proofs.lemmas.Bool.{false≢true}
 use Rattle.std.proofs.lemmas.List.{length-append}
@@ -13,7 +13,7 @@ use Rattle.bz_tree.specs.Statement.{class_of}
 use Rattle.bz_tree.specs.Tree.{Statement}
 use Rattle.bz_tree_laws.proofs.ChunkLaws.{chunk_class}
 use Rattle.bz_layout.specs.Layout.{layout_text}
-use Rattle.bz_command.specs.Labels.{Package, Name, Pkg, All, Kind as OfKind, Line}
+use Rattle.bz_command.specs.Labels.{Name, Pkg, All, Kind as OfKind, Line}
 use Rattle.bz_attribute.specs.Rules.{Rule, is_text, rule_of}
 use Rattle.bz_attribute.specs.Marks.{marks_if}
 use Rattle.bz_canonical.specs.Canonical.{HasName, IsCanonical, rule_name}
@@ -21,7 +21,7 @@ use Rattle.bz_devices.specs.Ahead.{Ahead, IsFewAfter}
 use Rattle.bz_passes.specs.declared.index.Key.TheVariants.{Name as Named, NoName}
 use Rattle.bz_passes.specs.Exchange.{IsPassedBy}
 use Rattle.bz_engine.specs.Meaning.{meaning, changes, fails_on}
-use Rattle.bz_engine.specs.Outcome.{Script, is_query}
+use Rattle.bz_engine.specs.Outcome.{Run, is_query}
 use Rattle.bz_engine.specs.Progress.{Progress, text_following}
 use Rattle.bz_engine.specs.declared.edit.Edited.TheVariants.{Done}
 use Rattle.bz_engine.specs.private.Edits.{IsEdited}
@@ -69,23 +69,23 @@ front_taken chunk rest text is = sym (ap (take (length chunk)) is ∙ take-appen
 few_lines : (line : ℕ) (chunk : List ℕ) → line_at line chunk ≤ line + length chunk
 few_lines line chunk = omega (arith, count_by-le-length (λ b. b == 10) chunk)
 
-pub canonical_edited : (home : Package) (passes : Script) (keep_going : Bool) (depth most : ℕ) (ahead : Ahead) (class : Class) (name : Option (List ℕ)) (chunk written text : List ℕ)
+pub canonical_edited : (run : Run) (most : ℕ) (ahead : Ahead) (class : Class) (name : Option (List ℕ)) (chunk written text : List ℕ)
     (old mid new : Progress) (before after : List ℕ)
-    → IsFewAfter ahead → IsTakenOf text ahead.bytes → IsUtf8 chunk → length chunk ≤ most → IsCanonical depth class name chunk written text
-    → ((s : Statement) → s.class ≡ class_of s.nodes → HasName name s → IsPassedBy (meaning home) (changes home) (fails_on home) passes (Some s))
+    → IsFewAfter ahead → IsTakenOf text ahead.bytes → IsUtf8 chunk → length chunk ≤ most → IsCanonical run.max_depth class name chunk written text
+    → ((s : Statement) → s.class ≡ class_of s.nodes → HasName name s → IsPassedBy (meaning run.home) (changes run.home) (fails_on run.home) run.passes (Some s))
     → mid ≡ record old { last = Some class }
-    → ((s : Statement) → s.class ≡ class → layout_text s ≡ written → after ≡ before ++ (if is_query passes then [] else text_following old.last (Some s ∷ [])))
+    → ((s : Statement) → s.class ≡ class → layout_text s ≡ written → after ≡ before ++ (if is_query run.passes then [] else text_following old.last (Some s ∷ [])))
     → new ≡ record mid { line = line_at mid.line chunk }
-    → IsFirstEdited home passes keep_going depth most ahead old new before after (record { len = length chunk; edited = Done })
-canonical_edited home passes keep_going depth most ahead class name chunk written text old mid new before after few outer utf8 size c passed same put is =
+    → IsFirstEdited run most ahead old new before after (record { len = length chunk; edited = Done })
+canonical_edited run most ahead class name chunk written text old mid new before after few outer utf8 size c passed same put is =
     let within : length chunk ≤ length text = front_size chunk c.rest text c.front in
     let front : chunk ≡ take (length chunk) text = front_taken chunk c.rest text c.front in
     let read = c.read old.line in
     record {
       chunk = first_is_next most ahead chunk text few outer c.some within front size c.ends;
       lines = subst (λ n. n ≤ old.line + length chunk) (sym (ap (λ (p : Progress). p.line) is ∙ ap (λ (p : Progress). line_at p.line chunk) same)) (few_lines old.line chunk);
-      edited = λ cs statements kept. subst (λ bytes. IsEdited home passes keep_going depth cs statements bytes old new before after Done) (chunk_is chunk text ahead.bytes outer within front)
-          (stays_edited home passes keep_going depth cs statements chunk read.statement class old mid new before after kept (utf8, read.read)
+      edited = λ cs statements kept. subst (λ bytes. IsEdited run cs statements bytes old new before after Done) (chunk_is chunk text ahead.bytes outer within front)
+          (stays_edited run cs statements chunk read.statement class old mid new before after kept (utf8, read.read)
           (passed read.statement (chunk_class old.line chunk read.read.tokens read.statement read.read.reads.chunk) read.named)
           (sym read.class_is) same (put read.statement read.class_is read.written) is);
     }

@@ -1,14 +1,13 @@
 -- What is kept of the chunks that are done, with one chunk more.
-use Rattle.std.proofs.Common.{◌≡◌, ℕ, Bool, List, [], ◌∷◌, ◌++◌, sym, ◌∙◌, ap, subst, append-nil}
+use Rattle.std.proofs.Common.{◌≡◌, ℕ, List, [], ◌∷◌, ◌++◌, sym, ◌∙◌, ap, subst, append-nil}
 use Rattle.std.specs.Prelude.{None, Some, Ok, if◌then◌else◌}
 use Rattle.bz_token.specs.Places.{line_at}
 use Rattle.bz_tree.specs.Tree.{Statement}
 use Rattle.bz_tree.specs.declared.stmt.Class.{Class}
-use Rattle.bz_command.specs.Labels.{Package}
 use Rattle.bz_passes.specs.Exchange.{IsLeftBy, IsPassedBy, slot_after}
 use Rattle.bz_engine.specs.Meaning.{meaning, changes, fails_on}
 use Rattle.bz_engine.specs.File.{Gives}
-use Rattle.bz_engine.specs.Outcome.{Script, slots_of, is_query}
+use Rattle.bz_engine.specs.Outcome.{Run, slots_of, is_query}
 use Rattle.bz_command.specs.Passes.{slots_after}
 use Rattle.bz_engine.specs.Progress.{Progress, IsKeptOf, last_class, text_following}
 use Rattle.bz_engine.specs.declared.edit.Edited.TheVariants.{Done}
@@ -20,74 +19,74 @@ use Rattle.bz_engine.proofs.Given.{give_blank, give_statement, line_following}
 use Rattle.bz_engine.proofs.MoreText.{text_after_more, last_after_more, text_after_none}
 
 -- a blank chunk
-pub blank_done : (home : Package) (passes : Script) (keep_going : Bool) (depth : ℕ) (cs : List (List ℕ)) (ss : List Statement) (chunk : List ℕ)
+pub blank_done : (run : Run) (cs : List (List ℕ)) (ss : List Statement) (chunk : List ℕ)
     (old new : Progress) (before : List ℕ)
-    → IsKeptOf home passes depth cs ss old → Gives depth old.line chunk (Ok None)
+    → IsKeptOf run cs ss old → Gives run.max_depth old.line chunk (Ok None)
     → new ≡ record old { line = line_at old.line chunk }
-    → IsDone home passes keep_going depth cs ss chunk old new before before
-blank_done home passes keep_going depth cs ss chunk old new before kept gives is = record {
+    → IsDone run cs ss chunk old new before before
+blank_done run cs ss chunk old new before kept gives is = record {
   more = [];
   kept = record {
-    read = give_blank depth old.line cs ss chunk kept.read kept.line gives;
+    read = give_blank run.max_depth old.line cs ss chunk kept.read kept.line gives;
     line = ap (λ p. p.line) is ∙ line_following old.line cs chunk kept.line;
-    left = subst (λ p. IsLeftBy (meaning home) (changes home) (fails_on home) passes (slots_of (ss ++ [])) p.kept p.changed p.failed) (sym is)
-        (subst (λ l. IsLeftBy (meaning home) (changes home) (fails_on home) passes (slots_of l) old.kept old.changed old.failed) (sym (append-nil ss)) kept.left);
-    last = ap (λ p. p.last) is ∙ kept.last ∙ ap (λ l. last_class None (slots_after (meaning home) passes (slots_of l))) (sym (append-nil ss));
+    left = subst (λ p. IsLeftBy (meaning run.home) (changes run.home) (fails_on run.home) run.passes (slots_of (ss ++ [])) p.kept p.changed p.failed) (sym is)
+        (subst (λ l. IsLeftBy (meaning run.home) (changes run.home) (fails_on run.home) run.passes (slots_of l) old.kept old.changed old.failed) (sym (append-nil ss)) kept.left);
+    last = ap (λ p. p.last) is ∙ kept.last ∙ ap (λ l. last_class None (slots_after (meaning run.home) run.passes (slots_of l))) (sym (append-nil ss));
   };
   shown = [];
   appended = sym (append-nil before);
-  text = text_after_none home passes ss;
+  text = text_after_none run.home run.passes ss;
   calm = λ h calm. ap (λ p. p.failed) is ∙ calm;
 }
 
 -- a statement, which the script left as `laid` says
-statement_done : (home : Package) (passes : Script) (keep_going : Bool) (depth : ℕ) (cs : List (List ℕ)) (ss : List Statement) (chunk : List ℕ) (s : Statement)
+statement_done : (run : Run) (cs : List (List ℕ)) (ss : List Statement) (chunk : List ℕ) (s : Statement)
     (old mid new : Progress) (before after : List ℕ)
-    → IsKeptOf home passes depth cs ss old → Gives depth old.line chunk (Ok (Some s))
-    → IsLaidOut home passes keep_going s old mid before after
+    → IsKeptOf run cs ss old → Gives run.max_depth old.line chunk (Ok (Some s))
+    → IsLaidOut run s old mid before after
     → new ≡ record mid { line = line_at mid.line chunk }
-    → IsDone home passes keep_going depth cs ss chunk old new before after
-statement_done home passes keep_going depth cs ss chunk s old mid new before after kept gives laid is = record {
+    → IsDone run cs ss chunk old new before after
+statement_done run cs ss chunk s old mid new before after kept gives laid is = record {
   more = s ∷ [];
   kept = record {
-    read = give_statement depth old.line cs ss chunk s kept.read kept.line gives;
+    read = give_statement run.max_depth old.line cs ss chunk s kept.read kept.line gives;
     line = ap (λ p. p.line) is ∙ ap (λ n. line_at n chunk) laid.line ∙ line_following old.line cs chunk kept.line;
-    left = subst (λ p. IsLeftBy (meaning home) (changes home) (fails_on home) passes (slots_of (ss ++ s ∷ [])) p.kept p.changed p.failed) (sym is)
-        (subst (λ l. IsLeftBy (meaning home) (changes home) (fails_on home) passes l mid.kept mid.changed mid.failed) (sym (map_more Some ss s)) (laid.left (slots_of ss) kept.left));
-    last = ap (λ p. p.last) is ∙ last_after_more home passes ss s old.last mid.last kept.last laid.last;
+    left = subst (λ p. IsLeftBy (meaning run.home) (changes run.home) (fails_on run.home) run.passes (slots_of (ss ++ s ∷ [])) p.kept p.changed p.failed) (sym is)
+        (subst (λ l. IsLeftBy (meaning run.home) (changes run.home) (fails_on run.home) run.passes l mid.kept mid.changed mid.failed) (sym (map_more Some ss s)) (laid.left (slots_of ss) kept.left));
+    last = ap (λ p. p.last) is ∙ last_after_more run.home run.passes ss s old.last mid.last kept.last laid.last;
   };
-  shown = if is_query passes then [] else text_following old.last (slot_after (meaning home) passes (Some s) ∷ []);
+  shown = if is_query run.passes then [] else text_following old.last (slot_after (meaning run.home) run.passes (Some s) ∷ []);
   appended = laid.text;
-  text = text_after_more home passes ss s old.last kept.last;
+  text = text_after_more run.home run.passes ss s old.last kept.last;
   calm = λ h before_calm. ap (λ p. p.failed) is ∙ laid.calm h before_calm;
 }
 
--- a statement that the script passes by
-pub passed_by : (home : Package) (passes : Script) (keep_going : Bool) (class : Class) (s : Statement) (old new : Progress) (before after : List ℕ)
-    → IsPassedBy (meaning home) (changes home) (fails_on home) passes (Some s) → class ≡ s.class
+-- a statement that the script run.passes by
+pub passed_by : (run : Run) (class : Class) (s : Statement) (old new : Progress) (before after : List ℕ)
+    → IsPassedBy (meaning run.home) (changes run.home) (fails_on run.home) run.passes (Some s) → class ≡ s.class
     → new ≡ record old { last = Some class }
-    → after ≡ before ++ (if is_query passes then [] else text_following old.last (Some s ∷ []))
-    → IsLaidOut home passes keep_going s old new before after
-passed_by home passes keep_going class s old new before after passed of_class same text =
-    let stays : Some s ≡ slot_after (meaning home) passes (Some s) = sym passed.stays in
+    → after ≡ before ++ (if is_query run.passes then [] else text_following old.last (Some s ∷ []))
+    → IsLaidOut run s old new before after
+passed_by run class s old new before after passed of_class same text =
+    let stays : Some s ≡ slot_after (meaning run.home) run.passes (Some s) = sym passed.stays in
     record {
-      left = λ slots left. subst (λ p. IsLeftBy (meaning home) (changes home) (fails_on home) passes (slots ++ Some s ∷ []) p.kept p.changed p.failed) (sym same) (passed.left slots old.kept old.changed old.failed left);
+      left = λ slots left. subst (λ p. IsLeftBy (meaning run.home) (changes run.home) (fails_on run.home) run.passes (slots ++ Some s ∷ []) p.kept p.changed p.failed) (sym same) (passed.left slots old.kept old.changed old.failed left);
       last = ap (λ p. p.last) same ∙ ap (λ c. Some c) of_class ∙ ap (λ slot. last_class old.last (slot ∷ [])) stays;
       line = ap (λ p. p.line) same;
-      text = text ∙ ap (λ slot. before ++ (if is_query passes then [] else text_following old.last (slot ∷ []))) stays;
+      text = text ∙ ap (λ slot. before ++ (if is_query run.passes then [] else text_following old.last (slot ∷ []))) stays;
       calm = λ ends calm. ap (λ p. p.failed) same ∙ calm;
     }
 
 -- what the script on a statement made of its chunk
-pub scripted_edited : (home : Package) (passes : Script) (keep_going : Bool) (depth : ℕ) (cs : List (List ℕ)) (ss : List Statement) (chunk : List ℕ) (s : Statement)
+pub scripted_edited : (run : Run) (cs : List (List ℕ)) (ss : List Statement) (chunk : List ℕ) (s : Statement)
     (old mid new : Progress) (before after : List ℕ) (scripted : Scripted)
-    → IsKeptOf home passes depth cs ss old → Gives depth old.line chunk (Ok (Some s))
-    → IsScripted home passes keep_going s old mid before after scripted
+    → IsKeptOf run cs ss old → Gives run.max_depth old.line chunk (Ok (Some s))
+    → IsScripted run s old mid before after scripted
     → new ≡ record mid { line = line_at mid.line chunk }
-    → IsEdited home passes keep_going depth cs ss chunk old new before after (edited_of scripted)
-scripted_edited home passes keep_going depth cs ss chunk s old mid new before after scripts.Done kept gives laid is =
-    statement_done home passes keep_going depth cs ss chunk s old mid new before after kept gives laid is
-scripted_edited home passes keep_going depth cs ss chunk s old mid new before after (scripts.Failed message) kept gives ended is = record {
+    → IsEdited run cs ss chunk old new before after (edited_of scripted)
+scripted_edited run cs ss chunk s old mid new before after scripts.Done kept gives laid is =
+    statement_done run cs ss chunk s old mid new before after kept gives laid is
+scripted_edited run cs ss chunk s old mid new before after (scripts.Failed message) kept gives ended is = record {
   ends = ended.ends;
   statement = s;
   read = gives;
@@ -97,17 +96,17 @@ scripted_edited home passes keep_going depth cs ss chunk s old mid new before af
   nothing = ended.nothing;
 }
 
--- the chunk of a statement of this class that the script passes by
-pub stays_edited : (home : Package) (passes : Script) (keep_going : Bool) (depth : ℕ) (cs : List (List ℕ)) (ss : List Statement) (chunk : List ℕ) (s : Statement)
+-- the chunk of a statement of this class that the script run.passes by
+pub stays_edited : (run : Run) (cs : List (List ℕ)) (ss : List Statement) (chunk : List ℕ) (s : Statement)
     (class : Class) (old mid new : Progress) (before after : List ℕ)
-    → IsKeptOf home passes depth cs ss old → Gives depth old.line chunk (Ok (Some s)) → IsPassedBy (meaning home) (changes home) (fails_on home) passes (Some s)
+    → IsKeptOf run cs ss old → Gives run.max_depth old.line chunk (Ok (Some s)) → IsPassedBy (meaning run.home) (changes run.home) (fails_on run.home) run.passes (Some s)
     → class ≡ s.class → mid ≡ record old { last = Some class }
-    → after ≡ before ++ (if is_query passes then [] else text_following old.last (Some s ∷ []))
+    → after ≡ before ++ (if is_query run.passes then [] else text_following old.last (Some s ∷ []))
     → new ≡ record mid { line = line_at mid.line chunk }
-    → IsEdited home passes keep_going depth cs ss chunk old new before after Done
-stays_edited home passes keep_going depth cs ss chunk s class old mid new before after kept gives passed of_class same text is =
-    statement_done home passes keep_going depth cs ss chunk s old mid new before after kept gives
-    (passed_by home passes keep_going class s old mid before after passed of_class same text) is
+    → IsEdited run cs ss chunk old new before after Done
+stays_edited run cs ss chunk s class old mid new before after kept gives passed of_class same text is =
+    statement_done run cs ss chunk s old mid new before after kept gives
+    (passed_by run class s old mid before after passed of_class same text) is
 
 -- the line after the chunk
 abbrev pub line_passed : List ℕ → Progress → Progress

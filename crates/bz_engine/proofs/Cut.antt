@@ -9,29 +9,29 @@ use Rattle.bz_engine.specs.declared.options.Options.{Options}
 use Rattle.bz_devices.specs.Device.{joined}
 use Rattle.bz_devices.specs.Ahead.{Ahead, IsReadOn, IsTooLong, HasTooLong}
 use Rattle.bz_engine.specs.EveryFile.{ForEveryFile}
-use Rattle.bz_engine.specs.Outcome.{Script, Told, IsOutcome, IsFrontOf}
-use Rattle.bz_engine.specs.SessionValue.{SessionValue, IsSameRun, HasDone, IsCutShort, IsLeftByFault}
+use Rattle.bz_engine.specs.Outcome.{Script, Run, run_with, Told, IsOutcome, IsFrontOf}
+use Rattle.bz_engine.specs.SessionValue.{SessionValue, run_in, IsSameRun, HasDone, IsCutShort, IsLeftByFault}
 use Rattle.bz_devices.proofs.MoreReads.{joined_more}
 use Rattle.bz_engine.proofs.OneOutcome.{front_of_outcome, one_outcome}
+use Rattle.bz_engine.proofs.Runs.{run_is}
 use Rattle.bz_engine.proofs.Sessions.{read_on, ended_on, reads_within}
 
 -- the text begins each outcome of each file that begins with the pieces
-abbrev pub BeginsAll : Package → Script → Options → List (List ℕ) → List ℕ → Type 0
-BeginsAll home passes options pieces text =
-    ForEveryFile pieces (λ file. (whole : List ℕ) (told : Told) → IsOutcome home passes options.keep_going options.max_depth file whole told → IsFrontOf text whole)
+abbrev pub BeginsAll : Run → List (List ℕ) → List ℕ → Type 0
+BeginsAll run pieces text = ForEveryFile pieces (λ file. (whole : List ℕ) (told : Told) → IsOutcome run file whole told → IsFrontOf text whole)
 
 front_of_front : (a b c : List ℕ) → IsFrontOf a b → IsFrontOf b c → IsFrontOf a c
 front_of_front a b c p q = (p.0 ++ q.0, q.1 ∙ ap (λ l. l ++ q.0) p.1 ∙ append_assoc a p.0 q.0)
 
 -- What was done of a file's first chunks begins its outcome.
 chunks_front : (v : SessionValue) (pieces cs others : List (List ℕ)) (text file whole : List ℕ) (told : Told) → HasDone v pieces cs text → chunks file ≡ cs ++ others
-    → IsOutcome v.home v.passes v.options.keep_going v.options.max_depth file whole told → IsFrontOf text whole
+    → IsOutcome (run_in v) file whole told → IsFrontOf text whole
 chunks_front v pieces cs others text file whole told done all outcome =
     subst (λ t. IsFrontOf t whole) (sym done.text_is)
-    (front_of_outcome v.home v.passes v.options.keep_going v.options.max_depth file done.statements whole told
+    (front_of_outcome (run_in v) file done.statements whole told
     (record { begins = record { front = cs; after = others; chunks_are = all; read = done.kept.read }; calm = λ h. sym done.kept.left.failed ∙ done.calm h }) outcome)
 
-done_begins : (v : SessionValue) (pieces cs : List (List ℕ)) (text : List ℕ) → HasDone v pieces cs text → BeginsAll v.home v.passes v.options pieces text
+done_begins : (v : SessionValue) (pieces cs : List (List ℕ)) (text : List ℕ) → HasDone v pieces cs text → BeginsAll (run_in v) pieces text
 done_begins v pieces cs text done = record {
   each = λ rest over whole told outcome.
       chunks_front v pieces cs (chunks (v.ahead.bytes ++ rest)) text (joined pieces ++ rest) whole told done (done.first rest (λ h. over (subst IsTrue done.ended h))) outcome;
@@ -39,43 +39,38 @@ done_begins v pieces cs text done = record {
 
 -- more was read
 read_begins : (v : SessionValue) (mid : Ahead) (max_reads : ℕ) (pieces cs read : List (List ℕ)) (text : List ℕ) → HasDone v pieces cs text → IsReadOn max_reads v.ahead mid read
-    → BeginsAll v.home v.passes v.options (pieces ++ read) text
+    → BeginsAll (run_in v) (pieces ++ read) text
 read_begins v mid max_reads pieces cs read text done on = record {
   each = λ rest over whole told outcome.
       chunks_front v pieces cs (chunks (mid.bytes ++ rest)) text (joined (pieces ++ read) ++ rest) whole told done
       (read_on v mid max_reads pieces cs read text done on rest (λ h. over (subst IsTrue (ended_on v mid max_reads pieces cs read text done on) h))) outcome;
 }
 
-begins_less : (home : Package) (passes : Script) (options : Options) (pieces : List (List ℕ)) (text more : List ℕ) → IsFrontOf text more → BeginsAll home passes options pieces more → BeginsAll home passes options pieces text
-begins_less home passes options pieces text more front all = record {
+begins_less : (run : Run) (pieces : List (List ℕ)) (text more : List ℕ) → IsFrontOf text more → BeginsAll run pieces more → BeginsAll run pieces text
+begins_less run pieces text more front all = record {
   each = λ rest over whole told outcome. front_of_front text more whole front (all.each rest over whole told outcome);
 }
-
-begins_as : (home home2 : Package) (passes passes2 : Script) (options options2 : Options) (pieces : List (List ℕ)) (text : List ℕ)
-    → home ≡ home2 → passes ≡ passes2 → options ≡ options2 → BeginsAll home passes options pieces text → BeginsAll home2 passes2 options2 pieces text
-begins_as home home2 passes passes2 options options2 pieces text h p o all =
-    subst (λ x. BeginsAll home2 passes2 x pieces text) o (subst (λ x. BeginsAll home2 x options pieces text) p (subst (λ x. BeginsAll x passes options pieces text) h all))
 
 joined_front : (text shown next : List ℕ) → IsFrontOf shown next → IsFrontOf (text ++ shown) (text ++ next)
 joined_front text shown next front = (front.0, ap (λ l. text ++ l) front.1 ∙ sym (append_assoc text shown front.0))
 
 -- what a step that answered a fault has left
 cut_begins : (v w : SessionValue) (pieces cs read : List (List ℕ)) (text shown : List ℕ) → HasDone v pieces cs text → IsReadOn v.options.max_reads v.ahead w.ahead read
-    → IsSameRun v w → IsCutShort w (pieces ++ read) cs text shown → BeginsAll v.home v.passes v.options (pieces ++ read) (text ++ shown)
+    → IsSameRun v w → IsCutShort w (pieces ++ read) cs text shown → BeginsAll (run_in v) (pieces ++ read) (text ++ shown)
 cut_begins v w pieces cs read text shown done on same (inl none) =
-    subst (λ t. BeginsAll v.home v.passes v.options (pieces ++ read) t) (sym (ap (λ l. text ++ l) none ∙ append-nil text))
+    subst (λ t. BeginsAll (run_in v) (pieces ++ read) t) (sym (ap (λ l. text ++ l) none ∙ append-nil text))
     (read_begins v w.ahead v.options.max_reads pieces cs read text done on)
 cut_begins v w pieces cs read text shown done on same (inr cut) =
     let taken : SessionValue = record w { ahead = record w.ahead { bytes = cut.1.left } } in
-    begins_as w.home v.home w.passes v.passes w.options v.options (pieces ++ read) (text ++ shown) same.home same.passes same.options
-    (begins_less w.home w.passes w.options (pieces ++ read) (text ++ shown) (text ++ cut.0) (joined_front text shown cut.0 cut.2)
+    subst (λ run. BeginsAll run (pieces ++ read) (text ++ shown)) (run_is w v.home v.passes v.options same.home same.passes same.options)
+    (begins_less (run_in w) (pieces ++ read) (text ++ shown) (text ++ cut.0) (joined_front text shown cut.0 cut.2)
     (done_begins taken (pieces ++ read) (cs ++ cut.1.chunk ∷ []) (text ++ cut.0) cut.1.done))
 
 pub fault_begins : (Gave : List (List ℕ) → Type 0) (Took : List ℕ → Type 0) (v w : SessionValue) (home : Package) (passes : Script) (options : Options) (pieces cs : List (List ℕ)) (text : List ℕ)
     → v.home ≡ home → v.passes ≡ passes → v.options ≡ options → HasDone v pieces cs text → IsSameRun v w → (left : IsLeftByFault Gave Took v w)
-    → BeginsAll home passes options (pieces ++ left.read) (text ++ left.shown)
+    → BeginsAll (run_with home passes options) (pieces ++ left.read) (text ++ left.shown)
 fault_begins Gave Took v w home passes options pieces cs text h p o done same left =
-    begins_as v.home home v.passes passes v.options options (pieces ++ left.read) (text ++ left.shown) h p o
+    subst (λ run. BeginsAll run (pieces ++ left.read) (text ++ left.shown)) (run_is v home passes options h p o)
     (cut_begins v w pieces cs left.read text left.shown done left.read_ahead same (left.front pieces cs text done))
 
 -- the reads that were made
@@ -85,17 +80,17 @@ fault_reads Gave Took v w options pieces cs text o done left =
     subst (λ x. length (pieces ++ left.read) ≤ x.max_reads) o (reads_within v w.ahead v.options.max_reads pieces cs left.read text done left.read_ahead)
 
 -- where the run had ended, all was written
-pub ended_begins : (home : Package) (passes : Script) (options : Options) (pieces : List (List ℕ)) (text : List ℕ) (told : Told)
-    → ForEveryFile pieces (λ file. IsOutcome home passes options.keep_going options.max_depth file text told) → BeginsAll home passes options pieces text
-ended_begins home passes options pieces text told ended = record {
+pub ended_begins : (run : Run) (pieces : List (List ℕ)) (text : List ℕ) (told : Told)
+    → ForEveryFile pieces (λ file. IsOutcome run file text told) → BeginsAll run pieces text
+ended_begins run pieces text told ended = record {
   each = λ rest over whole told2 outcome.
-      let same = one_outcome home passes options.keep_going options.max_depth (joined pieces ++ rest) whole text told2 told outcome (ended.each rest over) in
+      let same = one_outcome run (joined pieces ++ rest) whole text told2 told outcome (ended.each rest over) in
       ([], same.0 ∙ sym (append-nil text));
 }
 
 -- nothing was read or written
-pub nothing_begins : (home : Package) (passes : Script) (options : Options) → BeginsAll home passes options [] []
-nothing_begins home passes options = record { each = λ rest over whole told outcome. (whole, refl) }
+pub nothing_begins : (run : Run) → BeginsAll run [] []
+nothing_begins run = record { each = λ rest over whole told outcome. (whole, refl) }
 
 -- The chunk that is too long stands in the file after those that are done.
 pub too_long_in : (v w : SessionValue) (max_statement most line : ℕ) (pieces cs read : List (List ℕ)) (text : List ℕ) → HasDone v pieces cs text → IsReadOn v.options.max_reads v.ahead w.ahead read
@@ -119,7 +114,7 @@ too_long_in v w max_statement most line pieces cs read text done on same at long
 }
 
 -- all that is told where a fault stops a run
-pub cut_is : (Gave : List (List ℕ) → Type 0) (Took : List ℕ → Type 0) (home : Package) (passes : Script) (options : Options) (pieces : List (List ℕ)) (text : List ℕ)
-    → Gave pieces → Took text → length pieces ≤ options.max_reads → BeginsAll home passes options pieces text
-    → (ps : List (List ℕ)) × (t : List ℕ) × Gave ps × Took t × (length ps ≤ options.max_reads) × BeginsAll home passes options ps t
-cut_is Gave Took home passes options pieces text gave took few begins = (pieces, text, gave, took, few, begins)
+pub cut_is : (Gave : List (List ℕ) → Type 0) (Took : List ℕ → Type 0) (run : Run) (max_reads : ℕ) (pieces : List (List ℕ)) (text : List ℕ)
+    → Gave pieces → Took text → length pieces ≤ max_reads → BeginsAll run pieces text
+    → (ps : List (List ℕ)) × (t : List ℕ) × Gave ps × Took t × (length ps ≤ max_reads) × BeginsAll run ps t
+cut_is Gave Took run max_reads pieces text gave took few begins = (pieces, text, gave, took, few, begins)

@@ -13,7 +13,7 @@ use Rattle.bz_passes.specs.declared.entry.Entry.{Entry}
 use Rattle.bz_command.specs.Passes.{Slot}
 use Rattle.bz_passes.specs.Exchange.{Kept, IsLeftBy, log_alone, some_alone}
 use Rattle.bz_engine.specs.Meaning.{meaning, changes, fails_on, says, line_told, note_told, shown_slot}
-use Rattle.bz_engine.specs.Outcome.{Script}
+use Rattle.bz_engine.specs.Outcome.{Run}
 use Rattle.bz_passes.specs.Entries.{failure_text, first_of}
 use Rattle.bz_engine.specs.Progress.{Progress}
 use Rattle.bz_engine.specs.private.Edits.{IsEnded}
@@ -40,22 +40,22 @@ or_then true b f is h none = absurd (false≢true (sym none))
 or_then false b f is h none = sym is ∙ h
 
 -- the run ends at a statement
-pub ends_there : (home : Package) (passes : Script) (keep_going : Bool) (s : Statement) (message : Option (List ℕ)) (old new : Progress)
+pub ends_there : (run : Run) (s : Statement) (message : Option (List ℕ)) (old new : Progress)
     (kept : List (Kept Entry)) (changed failed : Bool) (text : List ℕ)
-    → keep_going ≡ false → failed ≡ true → failed ≡ (old.failed || some_alone (meaning home) (fails_on home) passes (Some s))
-    → ((slots : List (Slot Statement)) → IsLeftBy (meaning home) (changes home) (fails_on home) passes slots old.kept old.changed old.failed
-    → IsLeftBy (meaning home) (changes home) (fails_on home) passes (slots ++ Some s ∷ []) kept changed failed)
+    → run.keep_going ≡ false → failed ≡ true → failed ≡ (old.failed || some_alone (meaning run.home) (fails_on run.home) run.passes (Some s))
+    → ((slots : List (Slot Statement)) → IsLeftBy (meaning run.home) (changes run.home) (fails_on run.home) run.passes slots old.kept old.changed old.failed
+    → IsLeftBy (meaning run.home) (changes run.home) (fails_on run.home) run.passes (slots ++ Some s ∷ []) kept changed failed)
     → option_to_list message ≡ first_of (flat_map failure_text (log_alone kept))
     → new.changed ≡ old.changed → new.line ≡ old.line
-    → IsEnded home passes keep_going s message old new text text
-ends_there home passes keep_going s message old new kept changed failed text ends bad here left told same_changed same_line = record {
+    → IsEnded run s message old new text text
+ends_there run s message old new kept changed failed text ends bad here left told same_changed same_line = record {
   ends = ends;
-  fails = λ none. fails_alone home passes s ∙ or_then old.failed (some_alone (meaning home) (fails_on home) passes (Some s)) failed here bad none;
+  fails = λ none. fails_alone run.home run.passes s ∙ or_then old.failed (some_alone (meaning run.home) (fails_on run.home) run.passes (Some s)) failed here bad none;
   message_is = λ none slots before.
       told
       ∙ ap (λ k. first_of (flat_map failure_text (log_alone k))) (left slots before).kept
-      ∙ ap first_of (failures_alone (meaning home) failure_text (fails_on home) (quiet home) passes slots (Some s) (sym before.failed ∙ none))
-      ∙ ap (λ l. first_of (flat_map failure_text l)) (sym (said_alone (meaning home) passes (Some s)));
+      ∙ ap first_of (failures_alone (meaning run.home) failure_text (fails_on run.home) (quiet run.home) run.passes slots (Some s) (sym before.failed ∙ none))
+      ∙ ap (λ l. first_of (flat_map failure_text l)) (sym (said_alone (meaning run.home) run.passes (Some s)));
   changed = same_changed;
   line = same_line;
   nothing = refl;

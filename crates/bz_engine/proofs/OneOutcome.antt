@@ -13,7 +13,7 @@ use Rattle.bz_passes.specs.Exchange.{slot_after, some_alone}
 use Rattle.bz_engine.specs.Meaning.{meaning, fails_on}
 use Rattle.bz_engine.specs.File.{Follows, Give}
 use Rattle.bz_engine.specs.Progress.{last_class, text_following}
-use Rattle.bz_engine.specs.Outcome.{Script, slots_of, is_query, text_after, Told, some_failure, told_of, told_of_failure, fails_at, BeginsWith, IsWholeRun, EndsAtFailure, IsOutcome, IsFrontOf}
+use Rattle.bz_engine.specs.Outcome.{Script, Run, slots_of, is_query, text_after, Told, some_failure, told_of, told_of_failure, fails_at, BeginsWith, IsWholeRun, EndsAtFailure, IsOutcome, IsFrontOf}
 use Rattle.bz_passes.proofs.ExchangeLaw.{some_alone_lem}
 use Rattle.bz_engine.proofs.OneSlot.{fails_alone}
 use Rattle.bz_passes.proofs.Failures.{or_left, or_right}
@@ -121,9 +121,9 @@ text_front home passes xs (s ∷ more) =
     )
 
 -- The file begins with these statements, and where failures end the run none of them fails.
-pub record BeginsCalmly (home : Package) (passes : Script) (keep_going : Bool) (depth : ℕ) (file : List ℕ) (ss : List Statement) : Type 0 where
-  pub begins : BeginsWith depth file ss
-  pub calm : keep_going ≡ false → some_failure home passes ss ≡ false
+pub record BeginsCalmly (run : Run) (file : List ℕ) (ss : List Statement) : Type 0 where
+  pub begins : BeginsWith run.max_depth file ss
+  pub calm : run.keep_going ≡ false → some_failure run.home run.passes ss ≡ false
 
 -- the statements of a whole run begin with those that the file begins with
 whole_begins : (depth : ℕ) (file : List ℕ) (xs ss : List Statement) (fault : Option SyntaxFault) → BeginsWith depth file xs → Give depth 1 (chunks file) ss fault → (more : List Statement) × (ss ≡ xs ++ more)
@@ -147,35 +147,35 @@ front_of_more home passes xs ss more text is same =
     front_moved (text_after home passes xs) (text_after home passes (xs ++ more)) text (text_front home passes xs more) (is ∙ ap (text_after home passes) same)
 
 -- What was written of calm statements that a file begins with is a front of what is written of the file.
-pub front_of_outcome : (home : Package) (passes : Script) (keep_going : Bool) (depth : ℕ) (file : List ℕ) (xs : List Statement) (text : List ℕ) (told : Told)
-    → BeginsCalmly home passes keep_going depth file xs → IsOutcome home passes keep_going depth file text told → IsFrontOf (text_after home passes xs) text
-front_of_outcome home passes keep_going depth file xs text told first (inl w) =
-    let rest = whole_begins depth file xs w.statements w.fault first.begins w.read in
-    front_of_more home passes xs w.statements rest.0 text w.text_is rest.1
-front_of_outcome home passes keep_going depth file xs text told first (inr e) =
-    elim (either_begins depth file xs (e.before ++ e.statement ∷ []) first.begins e.read) [
+pub front_of_outcome : (run : Run) (file : List ℕ) (xs : List Statement) (text : List ℕ) (told : Told)
+    → BeginsCalmly run file xs → IsOutcome run file text told → IsFrontOf (text_after run.home run.passes xs) text
+front_of_outcome run file xs text told first (inl w) =
+    let rest = whole_begins run.max_depth file xs w.statements w.fault first.begins w.read in
+    front_of_more run.home run.passes xs w.statements rest.0 text w.text_is rest.1
+front_of_outcome run file xs text told first (inr e) =
+    elim (either_begins run.max_depth file xs (e.before ++ e.statement ∷ []) first.begins e.read) [
       | inl r ↦
           elim (last_or_before e.before xs r.0 e.statement r.1) [
-            | inl m ↦ front_of_more home passes xs e.before m.0 text e.text_is m.1
-            | inr all ↦ calm_at home passes xs e.before [] e.statement (first.calm e.ends) (all ∙ sym (append-nil (e.before ++ e.statement ∷ []))) e.fails
+            | inl m ↦ front_of_more run.home run.passes xs e.before m.0 text e.text_is m.1
+            | inr all ↦ calm_at run.home run.passes xs e.before [] e.statement (first.calm e.ends) (all ∙ sym (append-nil (e.before ++ e.statement ∷ []))) e.fails
           ]
-      | inr r ↦ calm_at home passes xs e.before r.0 e.statement (first.calm e.ends) r.1 e.fails
+      | inr r ↦ calm_at run.home run.passes xs e.before r.0 e.statement (first.calm e.ends) r.1 e.fails
     ]
 
 -- two outcomes
-one_whole : (home : Package) (passes : Script) (keep_going : Bool) (depth : ℕ) (file text text2 : List ℕ) (told told2 : Told)
-    → IsWholeRun home passes keep_going depth file text told → IsWholeRun home passes keep_going depth file text2 told2 → (text ≡ text2) × (told ≡ told2)
-one_whole home passes keep_going depth file text text2 told told2 p q =
-    let same = one_give depth 1 (chunks file) p.statements q.statements p.fault q.fault p.read q.read in (
-      p.text_is ∙ ap (text_after home passes) same.0 ∙ sym q.text_is,
-      p.told_is ∙ ap (λ ss. told_of home passes ss p.fault) same.0 ∙ ap (told_of home passes q.statements) same.1 ∙ sym q.told_is,
+one_whole : (run : Run) (file text text2 : List ℕ) (told told2 : Told)
+    → IsWholeRun run file text told → IsWholeRun run file text2 told2 → (text ≡ text2) × (told ≡ told2)
+one_whole run file text text2 told told2 p q =
+    let same = one_give run.max_depth 1 (chunks file) p.statements q.statements p.fault q.fault p.read q.read in (
+      p.text_is ∙ ap (text_after run.home run.passes) same.0 ∙ sym q.text_is,
+      p.told_is ∙ ap (λ ss. told_of run.home run.passes ss p.fault) same.0 ∙ ap (told_of run.home run.passes q.statements) same.1 ∙ sym q.told_is,
     )
 
-not_both : {X : Type 0} (home : Package) (passes : Script) (keep_going : Bool) (depth : ℕ) (file text text2 : List ℕ) (told told2 : Told)
-    → IsWholeRun home passes keep_going depth file text told → EndsAtFailure home passes keep_going depth file text2 told2 → X
-not_both home passes keep_going depth file text text2 told told2 w e =
-    let rest = whole_begins depth file (e.before ++ e.statement ∷ []) w.statements w.fault e.read w.read in
-    calm_at home passes w.statements e.before rest.0 e.statement (w.calm e.ends) rest.1 e.fails
+not_both : {X : Type 0} (run : Run) (file text text2 : List ℕ) (told told2 : Told)
+    → IsWholeRun run file text told → EndsAtFailure run file text2 told2 → X
+not_both run file text text2 told told2 w e =
+    let rest = whole_begins run.max_depth file (e.before ++ e.statement ∷ []) w.statements w.fault e.read w.read in
+    calm_at run.home run.passes w.statements e.before rest.0 e.statement (w.calm e.ends) rest.1 e.fails
 
 -- the first failure is one
 first_same : (home : Package) (passes : Script) (before before2 more : List Statement) (s s2 : Statement)
@@ -186,28 +186,28 @@ first_same home passes before before2 more s s2 calm fails is =
       | inr all ↦ same_last before before2 s s2 all
     ]
 
-first_failure : (home : Package) (passes : Script) (keep_going : Bool) (depth : ℕ) (file text text2 : List ℕ) (told told2 : Told)
-    → (p : EndsAtFailure home passes keep_going depth file text told) → (q : EndsAtFailure home passes keep_going depth file text2 told2)
+first_failure : (run : Run) (file text text2 : List ℕ) (told told2 : Told)
+    → (p : EndsAtFailure run file text told) → (q : EndsAtFailure run file text2 told2)
     → (p.before ≡ q.before) × (p.statement ≡ q.statement)
-first_failure home passes keep_going depth file text text2 told told2 p q =
-    elim (either_begins depth file (p.before ++ p.statement ∷ []) (q.before ++ q.statement ∷ []) p.read q.read) [
-      | inl r ↦ first_same home passes p.before q.before r.0 p.statement q.statement q.calm p.fails r.1
+first_failure run file text text2 told told2 p q =
+    elim (either_begins run.max_depth file (p.before ++ p.statement ∷ []) (q.before ++ q.statement ∷ []) p.read q.read) [
+      | inl r ↦ first_same run.home run.passes p.before q.before r.0 p.statement q.statement q.calm p.fails r.1
       | inr r ↦
-          let same = first_same home passes q.before p.before r.0 q.statement p.statement p.calm q.fails r.1 in
+          let same = first_same run.home run.passes q.before p.before r.0 q.statement p.statement p.calm q.fails r.1 in
           (sym same.0, sym same.1)
     ]
 
-one_failure : (home : Package) (passes : Script) (keep_going : Bool) (depth : ℕ) (file text text2 : List ℕ) (told told2 : Told)
-    → EndsAtFailure home passes keep_going depth file text told → EndsAtFailure home passes keep_going depth file text2 told2 → (text ≡ text2) × (told ≡ told2)
-one_failure home passes keep_going depth file text text2 told told2 p q =
-    let same = first_failure home passes keep_going depth file text text2 told told2 p q in (
-      p.text_is ∙ ap (text_after home passes) same.0 ∙ sym q.text_is,
-      p.told_is ∙ ap (λ ss. told_of_failure home passes ss p.statement) same.0 ∙ ap (told_of_failure home passes q.before) same.1 ∙ sym q.told_is,
+one_failure : (run : Run) (file text text2 : List ℕ) (told told2 : Told)
+    → EndsAtFailure run file text told → EndsAtFailure run file text2 told2 → (text ≡ text2) × (told ≡ told2)
+one_failure run file text text2 told told2 p q =
+    let same = first_failure run file text text2 told told2 p q in (
+      p.text_is ∙ ap (text_after run.home run.passes) same.0 ∙ sym q.text_is,
+      p.told_is ∙ ap (λ ss. told_of_failure run.home run.passes ss p.statement) same.0 ∙ ap (told_of_failure run.home run.passes q.before) same.1 ∙ sym q.told_is,
     )
 
-pub one_outcome : (home : Package) (passes : Script) (keep_going : Bool) (depth : ℕ) (file text text2 : List ℕ) (told told2 : Told)
-    → IsOutcome home passes keep_going depth file text told → IsOutcome home passes keep_going depth file text2 told2 → (text ≡ text2) × (told ≡ told2)
-one_outcome home passes keep_going depth file text text2 told told2 (inl p) (inl q) = one_whole home passes keep_going depth file text text2 told told2 p q
-one_outcome home passes keep_going depth file text text2 told told2 (inl p) (inr q) = not_both home passes keep_going depth file text text2 told told2 p q
-one_outcome home passes keep_going depth file text text2 told told2 (inr p) (inl q) = not_both home passes keep_going depth file text2 text told2 told q p
-one_outcome home passes keep_going depth file text text2 told told2 (inr p) (inr q) = one_failure home passes keep_going depth file text text2 told told2 p q
+pub one_outcome : (run : Run) (file text text2 : List ℕ) (told told2 : Told)
+    → IsOutcome run file text told → IsOutcome run file text2 told2 → (text ≡ text2) × (told ≡ told2)
+one_outcome run file text text2 told told2 (inl p) (inl q) = one_whole run file text text2 told told2 p q
+one_outcome run file text text2 told told2 (inl p) (inr q) = not_both run file text text2 told told2 p q
+one_outcome run file text text2 told told2 (inr p) (inl q) = not_both run file text2 text told2 told q p
+one_outcome run file text text2 told told2 (inr p) (inr q) = one_failure run file text text2 told told2 p q

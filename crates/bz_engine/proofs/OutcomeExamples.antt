@@ -7,7 +7,7 @@ use Rattle.bz_attribute.specs.declared.done.Note.TheVariants.{Missing, NoAttribu
 use Rattle.bz_engine.specs.declared.report.End.TheVariants.{Whole}
 use Rattle.bz_engine.specs.declared.report.Report.{Report}
 use Rattle.bz_engine.specs.Messages.{not_found_text, note_text}
-use Rattle.bz_engine.specs.Outcome.{Script, Told, IsOutcome, status_of}
+use Rattle.bz_engine.specs.Outcome.{Script, Run, Told, IsOutcome, status_of}
 
 abbrev home : Package
 home = Some (codes "p")
@@ -34,13 +34,16 @@ no_value = refl
 abbrev deleting : Target → Script
 deleting target = record { target = target; commands = Delete ∷ [] } ∷ []
 
+abbrev run_of : Script → Run
+run_of passes = record { home = home; passes = passes; keep_going = false; max_depth = 100 }
+
 abbrev told : List (List ℕ) → Bool → Told
 told messages failed = record { lines = []; messages = messages; changed = false; failed = failed; end = Whole }
 
-nothing_there : IsOutcome home (deleting (Name (codes "a"))) false 100 [] [] (told (codes "//p:a: no such rule" ∷ []) true)
+nothing_there : IsOutcome (run_of (deleting (Name (codes "a")))) [] [] (told (codes "//p:a: no such rule" ∷ []) true)
 nothing_there = inl (record { statements = []; fault = None; read = (refl, refl); calm = λ h. refl; text_is = refl; told_is = refl })
 
-all_of_nothing : IsOutcome home (deleting All) false 100 [] [] (told [] false)
+all_of_nothing : IsOutcome (run_of (deleting All)) [] [] (told [] false)
 all_of_nothing = inl (record { statements = []; fault = None; read = (refl, refl); calm = λ h. refl; text_is = refl; told_is = refl })
 
 abbrev report : Bool → Bool → Report

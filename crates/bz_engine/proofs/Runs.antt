@@ -10,9 +10,9 @@ use Rattle.bz_devices.specs.Device.{joined}
 use Rattle.bz_engine.specs.Meaning.{meaning, changes, fails_on}
 use Rattle.bz_engine.specs.declared.report.End.{End}
 use Rattle.bz_engine.specs.EveryFile.{ForEveryFile}
-use Rattle.bz_engine.specs.Outcome.{Script, Told, is_query, shown_text, IsOutcome}
+use Rattle.bz_engine.specs.Outcome.{Script, run_with, Told, is_query, shown_text, IsOutcome}
 use Rattle.bz_engine.specs.Progress.{last_class}
-use Rattle.bz_engine.specs.SessionValue.{SessionValue, HasDone, HasEnded, at_start, told_at}
+use Rattle.bz_engine.specs.SessionValue.{SessionValue, run_in, HasDone, HasEnded, at_start, told_at}
 use Rattle.bz_passes.proofs.ExchangeLaw.{slots_alone, nothing_left}
 use Rattle.bz_devices.proofs.MoreReads.{joined_more}
 
@@ -60,15 +60,17 @@ shorter v w max_reads pieces cs read chunk text more before after some few withi
         → 8193 * (m - wr) + wb < 8193 * (m - vr) + vb
     count jpr jp jr cc ccc ch vb wb vr wr p r m a b c d e f g h i = omega arith
 
+pub run_is : (v : SessionValue) (home : Package) (passes : Script) (options : Options) → v.home ≡ home → v.passes ≡ passes → v.options ≡ options
+    → run_in v ≡ run_with home passes options
+run_is v home passes options h p o = ap (λ x. run_with x v.passes v.options) h ∙ ap (λ x. run_with home x v.options) p ∙ ap (run_with home passes) o
+
 -- the session's answer is the outcome of the run that it was made for
 pub outcome_is : (v : SessionValue) (home : Package) (passes : Script) (options : Options) (end : End) (told : Told) (pieces : List (List ℕ)) (text : List ℕ)
     → v.home ≡ home → v.passes ≡ passes → v.options ≡ options → told ≡ told_at v end → HasEnded v end pieces text
-    → ForEveryFile pieces (λ file. IsOutcome home passes options.keep_going options.max_depth file text told)
+    → ForEveryFile pieces (λ file. IsOutcome (run_with home passes options) file text told)
 outcome_is v home passes options end told pieces text h p o is ended =
-    subst (λ x. ForEveryFile pieces (λ file. IsOutcome x passes options.keep_going options.max_depth file text told)) h
-    (subst (λ x. ForEveryFile pieces (λ file. IsOutcome v.home x options.keep_going options.max_depth file text told)) p
-    (subst (λ x. ForEveryFile pieces (λ file. IsOutcome v.home v.passes x.keep_going x.max_depth file text told)) o
-    (subst (λ x. ForEveryFile pieces (λ file. IsOutcome v.home v.passes v.options.keep_going v.options.max_depth file text x)) (sym is) ended)))
+    subst (λ run. ForEveryFile pieces (λ file. IsOutcome run file text told)) (run_is v home passes options h p o)
+    (subst (λ x. ForEveryFile pieces (λ file. IsOutcome (run_in v) file text x)) (sym is) ended)
 
 pub where_ok : {T E : Type 0} {P Q : T → Type 0} (r : Result T E) → ((x : T) → P x → Q x) → IfOk r P → IfOk r Q
 where_ok (Ok x) f h = f x h

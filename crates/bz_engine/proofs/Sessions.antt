@@ -3,7 +3,6 @@ use Rattle.std.proofs.Common.{◌≡◌, ℕ, ◌+◌, ◌≤◌, ◌^◌, Bool,
 use Rattle.std.specs.Prelude.{IsTrue, Option, None, Some, Err}
 use Rattle.bz_token.specs.Chunks.{chunks}
 use Rattle.bz_tree.specs.Tree.{Statement}
-use Rattle.bz_command.specs.Labels.{Package}
 use Rattle.bz_engine.specs.declared.report.SyntaxFault.{SyntaxFault}
 use Rattle.std.proofs.lemmas.Bool.{false≢true}
 use Rattle.bz_engine.specs.declared.session.Stage.{Stage}
@@ -15,11 +14,11 @@ use Rattle.bz_devices.specs.Ahead.{Ahead, IsReadOn, IsNextChunk}
 use Rattle.bz_engine.specs.Meaning.{meaning}
 use Rattle.bz_engine.specs.File.{Give, Gives}
 use Rattle.bz_engine.specs.Messages.{fault_text}
-use Rattle.bz_engine.specs.Outcome.{Script, slots_of, text_after, told_of_all, failures_at}
+use Rattle.bz_engine.specs.Outcome.{Run, slots_of, text_after, told_of_all, failures_at}
 use Rattle.bz_passes.specs.Entries.{first_of}
 use Rattle.bz_engine.specs.Progress.{Progress, IsKeptOf}
 use Rattle.bz_engine.specs.private.Edits.{IsDone, IsFailed}
-use Rattle.bz_engine.specs.SessionValue.{SessionValue, IsSession, HasDone, HasEnded, told_of_progress, told_alone}
+use Rattle.bz_engine.specs.SessionValue.{SessionValue, run_in, IsSession, HasDone, HasEnded, told_of_progress, told_alone}
 use Rattle.bz_passes.proofs.ExchangeLaw.{log_by_pass, missing_lem}
 use Rattle.bz_devices.proofs.MoreReads.{ends_more, open_more, bytes_more, chunks_more, chunk_taken, one_more}
 use Rattle.bz_engine.proofs.Given.{give_fault, give_statement}
@@ -54,7 +53,7 @@ read_within v w mid max_reads read same on bound =
 -- a chunk was done
 pub went_on : (v : SessionValue) (mid : Ahead) (progress : Progress) (max_reads most n : ℕ) (pieces cs read : List (List ℕ)) (text after : List ℕ)
     → (done : HasDone v pieces cs text) → IsReadOn max_reads v.ahead mid read → IsNextChunk most mid n
-    → (edited : IsDone v.home v.passes v.options.keep_going v.options.max_depth cs done.statements (take n mid.bytes) v.progress progress [] after)
+    → (edited : IsDone (run_in v) cs done.statements (take n mid.bytes) v.progress progress [] after)
     → HasDone (record v { ahead = record mid { bytes = drop n mid.bytes }; progress = progress }) (pieces ++ read) (cs ++ take n mid.bytes ∷ []) (text ++ after)
 went_on v mid progress max_reads most n pieces cs read text after done on next edited = record {
   bytes = bytes_more pieces read cs v.ahead.bytes mid.bytes (take n mid.bytes) (drop n mid.bytes) done.bytes on.bytes (sym (take-append-drop n mid.bytes));
@@ -72,10 +71,10 @@ went_on v mid progress max_reads most n pieces cs read text after done on next e
 }
 
 -- what is told at the end of the file
-told_whole : (home : Package) (passes : Script) (cs : List (List ℕ)) (depth : ℕ) (ss : List Statement) (p : Progress)
-    → IsKeptOf home passes depth cs ss p → told_of_progress home passes p ≡ told_of_all home passes ss
-told_whole home passes cs depth ss p kept =
-    rw (kept.left.kept, kept.left.changed, kept.left.failed, ← log_by_pass (meaning home) passes (slots_of ss), ← missing_lem (meaning home) passes (slots_of ss)) refl
+told_whole : (run : Run) (cs : List (List ℕ)) (ss : List Statement) (p : Progress)
+    → IsKeptOf run cs ss p → told_of_progress run.home run.passes p ≡ told_of_all run.home run.passes ss
+told_whole run cs ss p kept =
+    rw (kept.left.kept, kept.left.changed, kept.left.failed, ← log_by_pass (meaning run.home) run.passes (slots_of ss), ← missing_lem (meaning run.home) run.passes (slots_of ss)) refl
 
 -- the input has ended
 pub ended_whole : (v : SessionValue) (mid : Ahead) (max_reads : ℕ) (pieces cs read : List (List ℕ)) (text : List ℕ)
@@ -92,7 +91,7 @@ ended_whole v mid max_reads pieces cs read text done on nothing over = record {
         read = subst (λ l. Give v.options.max_depth 1 l done.statements None) (sym all) done.kept.read;
         calm = λ h. sym done.kept.left.failed ∙ done.calm h;
         text_is = done.text_is;
-        told_is = told_whole v.home v.passes cs v.options.max_depth done.statements v.progress done.kept;
+        told_is = told_whole (run_in v) cs done.statements v.progress done.kept;
       });
 }
 
@@ -120,7 +119,7 @@ ended_fault v mid fault max_reads most n pieces cs read text done on next gives 
 -- an execution fails on a chunk's statement, and failures end the run
 pub ended_failure : (v : SessionValue) (mid : Ahead) (progress : Progress) (message : Option (List ℕ)) (after : List ℕ) (max_reads most n : ℕ) (pieces cs read : List (List ℕ)) (text : List ℕ)
     → HasDone v pieces cs text → IsReadOn max_reads v.ahead mid read → IsNextChunk most mid n
-    → IsFailed v.home v.passes v.options.keep_going v.options.max_depth (take n mid.bytes) message v.progress progress [] after
+    → IsFailed (run_in v) (take n mid.bytes) message v.progress progress [] after
     → HasEnded (record v { ahead = mid; progress = progress; failure = message }) FirstFailure (pieces ++ read) text
 ended_failure v mid progress message after max_reads most n pieces cs read text done on next failed = record {
   each = λ rest last.

@@ -8,7 +8,7 @@ use Rattle.bz_command.specs.Passes.{Slot}
 use Rattle.bz_passes.specs.Exchange.{Kept, IsLeftBy, slot_after, some_alone}
 use Rattle.bz_passes.specs.declared.entry.Entry.{Entry}
 use Rattle.bz_engine.specs.Meaning.{meaning, changes, fails_on}
-use Rattle.bz_engine.specs.Outcome.{Script, is_query}
+use Rattle.bz_engine.specs.Outcome.{Script, Run, is_query}
 use Rattle.bz_engine.specs.Progress.{Progress, last_class, text_following}
 use Rattle.bz_engine.specs.private.Edits.{IsLaidOut}
 
@@ -34,19 +34,19 @@ has_run home passes read slot s old mid from kept changed failed same is at begi
     })))
 
 -- and what it left was laid out
-pub laid_out : (home : Package) (passes : Script) (keep_going : Bool) (s : Statement) (old new : Progress) (kept : List (Kept Entry))
+pub laid_out : (run : Run) (s : Statement) (old new : Progress) (kept : List (Kept Entry))
     (slot : Slot Statement) (last : Option Class) (before after : List ℕ)
-    → HasRun home passes (Some s) old kept new.changed new.failed → new.kept ≡ kept
-    → slot ≡ slot_after (meaning home) passes (Some s) → last ≡ old.last
+    → HasRun run.home run.passes (Some s) old kept new.changed new.failed → new.kept ≡ kept
+    → slot ≡ slot_after (meaning run.home) run.passes (Some s) → last ≡ old.last
     → new.last ≡ last_class last (slot ∷ []) → new.line ≡ old.line
-    → after ≡ before ++ (if is_query passes then [] else text_following last (slot ∷ []))
-    → (keep_going ≡ false → new.failed ≡ false)
-    → IsLaidOut home passes keep_going s old new before after
-laid_out home passes keep_going s old new kept slot last before after ran kept_is slot_is from last_is line_is text_is calm = record {
-  left = λ slots left. subst (λ k. IsLeftBy (meaning home) (changes home) (fails_on home) passes (slots ++ Some s ∷ []) k new.changed new.failed) (sym kept_is) (ran.left slots left);
+    → after ≡ before ++ (if is_query run.passes then [] else text_following last (slot ∷ []))
+    → (run.keep_going ≡ false → new.failed ≡ false)
+    → IsLaidOut run s old new before after
+laid_out run s old new kept slot last before after ran kept_is slot_is from last_is line_is text_is calm = record {
+  left = λ slots left. subst (λ k. IsLeftBy (meaning run.home) (changes run.home) (fails_on run.home) run.passes (slots ++ Some s ∷ []) k new.changed new.failed) (sym kept_is) (ran.left slots left);
   last = last_is ∙ ap (λ l. last_class l (slot ∷ [])) from ∙ ap (λ x. last_class old.last (x ∷ [])) slot_is;
   line = line_is;
-  text = text_is ∙ ap (λ l. before ++ (if is_query passes then [] else text_following l (slot ∷ []))) from
-      ∙ ap (λ x. before ++ (if is_query passes then [] else text_following old.last (x ∷ []))) slot_is;
+  text = text_is ∙ ap (λ l. before ++ (if is_query run.passes then [] else text_following l (slot ∷ []))) from
+      ∙ ap (λ x. before ++ (if is_query run.passes then [] else text_following old.last (x ∷ []))) slot_is;
   calm = λ ends was. calm ends;
 }

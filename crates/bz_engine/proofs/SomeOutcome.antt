@@ -10,14 +10,13 @@ use Rattle.bz_token.specs.Chunks.{chunks}
 use Rattle.bz_tree.specs.Tree.{Statement}
 use Rattle.bz_tree_laws.specs.Answers.{HasAnswer}
 use Rattle.bz_tree_laws.proofs.SomeAnswer.{some_answer}
-use Rattle.bz_command.specs.Labels.{Package}
 use Rattle.bz_command.specs.Passes.{Slot}
 use Rattle.bz_engine.specs.declared.report.SyntaxFault.{SyntaxFault}
 use Rattle.bz_engine.specs.declared.report.SyntaxFault.TheVariants.{Parse}
 use Rattle.bz_passes.specs.Exchange.{some_alone}
 use Rattle.bz_engine.specs.Meaning.{meaning, fails_on}
 use Rattle.bz_engine.specs.File.{not_utf8, Gives, Follows, Give}
-use Rattle.bz_engine.specs.Outcome.{Script, slots_of, text_after, Told, some_failure, told_of, told_of_failure, IsOutcome}
+use Rattle.bz_engine.specs.Outcome.{Run, slots_of, text_after, Told, some_failure, told_of, told_of_failure, IsOutcome}
 use Rattle.bz_passes.proofs.ExchangeLaw.{some_alone_lem}
 use Rattle.bz_engine.proofs.OneSlot.{fails_alone}
 
@@ -153,40 +152,40 @@ ends_at depth line (c ∷ cs) before more s fault p = at_answer (λ bs. ends_at 
         let rest = go bs more s fault (subst (λ l. Give depth (line_at line c) cs l fault) left q.2) in
         record { front = c ∷ rest.front; after = rest.after; are = ap (λ l. c ∷ l) rest.are; read = (Ok (Some t), g, (bs ++ s ∷ [], ap (λ u. u ∷ (bs ++ s ∷ [])) same, rest.read)) }
 
-pub some_outcome : (home : Package) (passes : Script) (keep_going : Bool) (depth : ℕ) (file : List ℕ) → (text : List ℕ) × (told : Told) × IsOutcome home passes keep_going depth file text told
-some_outcome home passes keep_going depth file = at_keep keep_going refl (some_failure home passes ss) refl
+pub some_outcome : (run : Run) (file : List ℕ) → (text : List ℕ) × (told : Told) × IsOutcome run file text told
+some_outcome run file = at_keep run.keep_going refl (some_failure run.home run.passes ss) refl
   where
     ss : List Statement
-    ss = (some_give depth 1 (chunks file)).0
+    ss = (some_give run.max_depth 1 (chunks file)).0
 
     fault : Option SyntaxFault
-    fault = (some_give depth 1 (chunks file)).1
+    fault = (some_give run.max_depth 1 (chunks file)).1
 
-    read : Give depth 1 (chunks file) ss fault
-    read = (some_give depth 1 (chunks file)).2
+    read : Give run.max_depth 1 (chunks file) ss fault
+    read = (some_give run.max_depth 1 (chunks file)).2
 
-    whole : (keep_going ≡ false → some_failure home passes ss ≡ false) → (text : List ℕ) × (told : Told) × IsOutcome home passes keep_going depth file text told
-    whole calm = (text_after home passes ss, told_of home passes ss fault, inl (record { statements = ss; fault = fault; read = read; calm = calm; text_is = refl; told_is = refl }))
+    whole : (run.keep_going ≡ false → some_failure run.home run.passes ss ≡ false) → (text : List ℕ) × (told : Told) × IsOutcome run file text told
+    whole calm = (text_after run.home run.passes ss, told_of run.home run.passes ss fault, inl (record { statements = ss; fault = fault; read = read; calm = calm; text_is = refl; told_is = refl }))
 
-    cut : keep_going ≡ false → some_failure home passes ss ≡ true → (text : List ℕ) × (told : Told) × IsOutcome home passes keep_going depth file text told
+    cut : run.keep_going ≡ false → some_failure run.home run.passes ss ≡ true → (text : List ℕ) × (told : Told) × IsOutcome run file text told
     cut ends fails =
-        let first = first_found (some_alone (meaning home) (fails_on home) passes) ss (sym (some_alone_lem (meaning home) (fails_on home) passes (slots_of ss)) ∙ fails) in
-        let at = ends_at depth 1 (chunks file) first.before first.more first.statement fault (subst (λ l. Give depth 1 (chunks file) l fault) first.are read) in (
-          text_after home passes first.before,
-          told_of_failure home passes first.before first.statement,
+        let first = first_found (some_alone (meaning run.home) (fails_on run.home) run.passes) ss (sym (some_alone_lem (meaning run.home) (fails_on run.home) run.passes (slots_of ss)) ∙ fails) in
+        let at = ends_at run.max_depth 1 (chunks file) first.before first.more first.statement fault (subst (λ l. Give run.max_depth 1 (chunks file) l fault) first.are read) in (
+          text_after run.home run.passes first.before,
+          told_of_failure run.home run.passes first.before first.statement,
           inr (record {
             ends = ends;
             before = first.before;
             statement = first.statement;
             read = record { front = at.front; after = at.after; chunks_are = at.are; read = at.read };
-            calm = some_alone_lem (meaning home) (fails_on home) passes (slots_of first.before) ∙ first.none;
-            fails = fails_alone home passes first.statement ∙ first.passes;
+            calm = some_alone_lem (meaning run.home) (fails_on run.home) run.passes (slots_of first.before) ∙ first.none;
+            fails = fails_alone run.home run.passes first.statement ∙ first.passes;
             text_is = refl;
             told_is = refl;
           }),
         )
 
-    at_keep : (k : Bool) → keep_going ≡ k → (f : Bool) → some_failure home passes ss ≡ f → (text : List ℕ) × (told : Told) × IsOutcome home passes keep_going depth file text told
+    at_keep : (k : Bool) → run.keep_going ≡ k → (f : Bool) → some_failure run.home run.passes ss ≡ f → (text : List ℕ) × (told : Told) × IsOutcome run file text told
     at_keep true goes f is = whole (λ ends. absurd (false≢true (sym ends ∙ goes)))
     at_keep false ends false calm = whole (λ e. calm)
     at_keep false ends true fails = cut ends fails

@@ -10,12 +10,11 @@ use Rattle.bz_engine.specs.declared.session.Stage.{Stage}
 use Rattle.bz_engine.specs.declared.session.Stage.TheVariants.{Going, Ended, Stopped}
 use Rattle.bz_devices.specs.Ahead.{Ahead, IsReadOn, IsNextChunk}
 use Rattle.bz_devices.proofs.ReadOn.{read_then}
-use Rattle.bz_tree.specs.Tree.{Statement}
-use Rattle.bz_engine.specs.Progress.{Progress, IsKeptOf}
+use Rattle.bz_engine.specs.Progress.{Progress}
 use Rattle.bz_engine.specs.declared.next_chunk.NextChunk.{NextChunk}
-use Rattle.bz_engine.specs.private.Edits.{IsEdited}
+use Rattle.bz_engine.specs.private.Edits.{EditsChunk}
 use Rattle.bz_engine.specs.private.NextChunks.{IsFirstEdited, IsNextEdited}
-use Rattle.bz_engine.specs.SessionValue.{SessionValue, IsSameRun}
+use Rattle.bz_engine.specs.SessionValue.{SessionValue, run_in, IsSameRun}
 
 abbrev is_going : Stage → Bool
 is_going Going = true
@@ -121,16 +120,15 @@ pub next_edited : (v i w : SessionValue) (mid : Ahead) (before following : List 
     → (let read : SessionValue = record v { ahead = mid } in i ≡ read)
     → (let after : SessionValue = record i { progress = w.progress } in w ≡ after)
     → IsNextChunk i.options.max_statement mid next.len → w.progress.line ≤ i.progress.line + next.len
-    → ((cs : List (List ℕ)) (ss : List Statement) → IsKeptOf i.home i.passes i.options.max_depth cs ss i.progress
-    → IsEdited i.home i.passes i.options.keep_going i.options.max_depth cs ss (take next.len mid.bytes) i.progress w.progress before following next.edited)
+    → EditsChunk (run_in i) (take next.len mid.bytes) i.progress w.progress before following next.edited
     → IsNextEdited v w before following next
 next_edited v i w mid before following next read is chunk lines edited =
     let edits : SessionValue → SessionValue = λ x. record x { progress = w.progress } in
-    let first : IsFirstEdited i.home i.passes i.options.keep_going i.options.max_depth i.options.max_statement mid i.progress w.progress before following next =
+    let first : IsFirstEdited (run_in i) i.options.max_statement mid i.progress w.progress before following next =
     record { chunk = chunk; lines = lines; edited = edited } in
-    subst (λ a. IsFirstEdited v.home v.passes v.options.keep_going v.options.max_depth v.options.max_statement a v.progress w.progress before following next)
+    subst (λ a. IsFirstEdited (run_in v) v.options.max_statement a v.progress w.progress before following next)
     (sym (ap (λ x. x.ahead) (is ∙ ap edits read)))
-    (subst (λ x. IsFirstEdited x.home x.passes x.options.keep_going x.options.max_depth x.options.max_statement mid x.progress w.progress before following next) read first)
+    (subst (λ x. IsFirstEdited (run_in x) x.options.max_statement mid x.progress w.progress before following next) read first)
 
 -- more was read after these reads, and nothing else was done
 pub read_also : (v l w x : SessionValue) (mid : Ahead) (xs ys : List (List ℕ)) → (let after : SessionValue = record v { ahead = l.ahead } in l ≡ after)

@@ -8,6 +8,7 @@ use Rattle.bz_layout.specs.Gaps.{gap_between}
 use Rattle.bz_command.specs.Labels.{Package, Target}
 use Rattle.bz_rule.specs.Commands.{Command, is_print}
 use Rattle.bz_passes.specs.Entries.{line_text, message_text, failure_text, first_of}
+use Rattle.bz_engine.specs.declared.options.Options.{Options}
 use Rattle.bz_engine.specs.declared.report.SyntaxFault.{SyntaxFault}
 use Rattle.bz_engine.specs.declared.report.End.{End}
 use Rattle.bz_engine.specs.declared.report.End.TheVariants.{Whole, Syntax, FirstFailure}
@@ -19,6 +20,16 @@ use Rattle.bz_engine.specs.File.{Give, IsFile}
 
 abbrev pub Script : Type 0
 Script = List (Pass Target Command)
+
+-- What a run is to do: the script in this package, whether it goes on after a failure, and how deep brackets may stand.
+pub record Run : Type 0 where
+  pub home : Package
+  pub passes : Script
+  pub keep_going : Bool
+  pub max_depth : ℕ
+
+abbrev pub run_with : Package → Script → Options → Run
+run_with home passes options = record { home = home; passes = passes; keep_going = options.keep_going; max_depth = options.max_depth }
 
 -- a script whose commands all print only asks
 abbrev pub is_query : Script → Bool
@@ -123,33 +134,32 @@ pub record BeginsWith (max_depth : ℕ) (file : List ℕ) (statements : List Sta
   pub read : Give max_depth 1 front statements None
 
 -- All executions take place, up to the first fault of the file: failures do not end the run, or there is none.
-pub record IsWholeRun (home : Package) (passes : Script) (keep_going : Bool) (max_depth : ℕ) (file text : List ℕ) (told : Told) : Type 0 where
+pub record IsWholeRun (run : Run) (file text : List ℕ) (told : Told) : Type 0 where
   pub statements : List Statement
   pub fault : Option SyntaxFault
-  pub read : IsFile max_depth file statements fault
-  pub calm : keep_going ≡ false → some_failure home passes statements ≡ false
-  pub text_is : text ≡ text_after home passes statements
-  pub told_is : told ≡ told_of home passes statements fault
+  pub read : IsFile run.max_depth file statements fault
+  pub calm : run.keep_going ≡ false → some_failure run.home run.passes statements ≡ false
+  pub text_is : text ≡ text_after run.home run.passes statements
+  pub told_is : told ≡ told_of run.home run.passes statements fault
 
 -- The run ends at the first statement on which an execution fails: what stands before it is edited and written.
-pub record EndsAtFailure (home : Package) (passes : Script) (keep_going : Bool) (max_depth : ℕ) (file text : List ℕ) (told : Told) : Type 0 where
-  pub ends : keep_going ≡ false
+pub record EndsAtFailure (run : Run) (file text : List ℕ) (told : Told) : Type 0 where
+  pub ends : run.keep_going ≡ false
   pub before : List Statement
   pub statement : Statement
-  pub read : BeginsWith max_depth file (before ++ statement ∷ [])
-  pub calm : some_failure home passes before ≡ false
-  pub fails : fails_at home passes statement ≡ true
-  pub text_is : text ≡ text_after home passes before
-  pub told_is : told ≡ told_of_failure home passes before statement
+  pub read : BeginsWith run.max_depth file (before ++ statement ∷ [])
+  pub calm : some_failure run.home run.passes before ≡ false
+  pub fails : fails_at run.home run.passes statement ≡ true
+  pub text_is : text ≡ text_after run.home run.passes before
+  pub told_is : told ≡ told_of_failure run.home run.passes before statement
 
 -- these bytes begin those
 abbrev pub IsFrontOf : List ℕ → List ℕ → Type 0
 IsFrontOf front whole = (more : List ℕ) × (whole ≡ front ++ more)
 
 -- The text that is written for a file, and what is told.
-abbrev pub IsOutcome : Package → Script → Bool → ℕ → List ℕ → List ℕ → Told → Type 0
-IsOutcome home passes keep_going max_depth file text told =
-    IsWholeRun home passes keep_going max_depth file text told ⊎ EndsAtFailure home passes keep_going max_depth file text told
+abbrev pub IsOutcome : Run → List ℕ → List ℕ → Told → Type 0
+IsOutcome run file text told = IsWholeRun run file text told ⊎ EndsAtFailure run file text told
 
 -- 2 if the run failed, else 0 if it changed something, else 3
 abbrev pub status_of : Report → ℕ

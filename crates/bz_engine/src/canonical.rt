@@ -10,6 +10,7 @@ ghost use Rattle.bz_devices.specs.Ahead.{IsFewAfter};
 ghost use Rattle.bz_engine.specs.Meaning.{meaning, changes, fails_on};
 ghost use Rattle.bz_engine.specs.Outcome.{is_query};
 ghost use Rattle.bz_engine.specs.Progress.{text_following};
+ghost use Rattle.bz_engine.specs.private.Edits.{run_of};
 ghost use Rattle.bz_engine.specs.private.NextChunks.{IsFirstEdited};
 ghost use Rattle.bz_engine.specs.private.Rows.{HasKey};
 
@@ -36,9 +37,8 @@ pub(crate) fn edit_canonical(
     requires fits { Fits progress.old.kept script.passes.now }
     requires lines { progress.old.line + length ahead.now.bytes < 2 ^ 64 }
     ensures fits { OnOk result (Fits progress.new.kept script.entry.passes.now) }
-    ensures chunk { IfOk result (λ found. IfSome found (IsFirstEdited script.entry.home.now script.entry.passes.now
-        script.entry.keep_going script.entry.max_depth max_statement ahead.now progress.old progress.new
-        text.old.items text.new.items)) }
+    ensures chunk { IfOk result (λ found. IfSome found (IsFirstEdited (run_of script.entry) max_statement ahead.now
+        progress.old progress.new text.old.items text.new.items)) }
     ensures none { IfOk result (λ found. IfNone found
         ((progress.new ≡ progress.old) × (text.new.items ≡ text.old.items))) }
 {

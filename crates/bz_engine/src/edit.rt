@@ -11,9 +11,9 @@ ghost use Rattle.bz_layout.specs.Layout.{layout_text};
 ghost use Rattle.bz_passes.specs.Exchange.{Fits, log_alone};
 ghost use Rattle.bz_engine.specs.Outcome.{is_query, gap_text};
 ghost use Rattle.bz_passes.specs.Entries.{failure_text, first_of};
-ghost use Rattle.bz_engine.specs.Progress.{IsKeptOf, last_class, text_following};
+ghost use Rattle.bz_engine.specs.Progress.{last_class, text_following};
 ghost use Rattle.bz_engine.specs.private.ChunkRead.{IsReadAs};
-ghost use Rattle.bz_engine.specs.private.Edits.{IsEdited, IsScripted, edited_of};
+ghost use Rattle.bz_engine.specs.private.Edits.{EditsChunk, IsScripted, edited_of, run_of};
 
 use crate::progress::Progress;
 use crate::report::SyntaxFault;
@@ -85,10 +85,8 @@ pub(crate) fn edit_chunk<'a>(
     requires read { IsReadAs script.max_depth progress.old.line chunk.now read }
     ensures fits { OnOk result (Fits progress.new.kept script.entry.passes.now) }
     ensures lines { OnOk result (progress.new.line ≤ progress.old.line + length chunk.now) }
-    ensures edited { IfOk result (λ edited. (cs : List (List ℕ)) (statements : List Statement)
-        → IsKeptOf script.entry.home.now script.entry.passes.now script.entry.max_depth cs statements progress.old
-        → IsEdited script.entry.home.now script.entry.passes.now script.entry.keep_going script.entry.max_depth cs
-        statements chunk.now progress.old progress.new text.old.items text.new.items edited) }
+    ensures edited { IfOk result (EditsChunk (run_of script.entry) chunk.now progress.old progress.new
+        text.old.items text.new.items) }
 {
     let found = match read {
         Ok(found) => found,
@@ -115,8 +113,7 @@ fn edit_row<'a>(
     requires row { (s : Statement) × ((s.class ≡ class_of s.nodes) × IsRowOf s row.now) }
     ensures fits { OnOk result (Fits progress.new.kept script.entry.passes.now) }
     ensures scripted { IfOk result (λ scripted. (s : Statement) → s.class ≡ class_of s.nodes → IsRowOf s row.now
-        → IsScripted script.entry.home.now script.entry.passes.now script.entry.keep_going s
-        progress.old progress.new text.old.items text.new.items scripted) }
+        → IsScripted (run_of script.entry) s progress.old progress.new text.old.items text.new.items scripted) }
 {
     if is_passed_by(script, row) {
         put_passed(script, row, progress, text)?;
@@ -167,8 +164,7 @@ fn edit_slot<'a>(
     requires { Fits progress.old.kept script.passes.now }
     ensures fits { OnOk result (Fits progress.new.kept script.entry.passes.now) }
     ensures scripted { IfOk result (λ scripted. (s : Statement) → lazy_slot slot.old ≡ Some s
-        → IsScripted script.entry.home.now script.entry.passes.now script.entry.keep_going s
-        progress.old progress.new text.old.items text.new.items scripted) }
+        → IsScripted (run_of script.entry) s progress.old progress.new text.old.items text.new.items scripted) }
 {
     let rules = Rules {
         alloc: script.alloc,

@@ -7,7 +7,7 @@ ghost use Rattle.bz_rule.specs.Commands.{Command};
 ghost use Rattle.bz_command.specs.Passes.{Pass, Slot, some_execution};
 ghost use Rattle.bz_engine.specs.Changes.{AreCommands, Changes};
 ghost use Rattle.bz_engine.specs.File.{Gives, IsFile};
-ghost use Rattle.bz_engine.specs.Outcome.{Script, Told, IsOutcome};
+ghost use Rattle.bz_engine.specs.Outcome.{Script, Run, Told, IsOutcome};
 ghost use Rattle.bz_engine.specs.SessionValue.{HasDone, at_start};
 ghost use Rattle.bz_engine.specs.declared.options.Options.{Options};
 ghost use Rattle.bz_engine.specs.declared.report.SyntaxFault.{SyntaxFault};
@@ -30,11 +30,9 @@ pub fn one_list_of_statements()
 
 /// A file has one outcome: one text is written for it, and one thing is told.
 pub fn one_outcome()
-    ensures some { (home : Package) (passes : Script) (keep_going : Bool) (max_depth : ℕ) (file : List ℕ)
-        → (text : List ℕ) × (told : Told) × IsOutcome home passes keep_going max_depth file text told }
-    ensures only { (home : Package) (passes : Script) (keep_going : Bool) (max_depth : ℕ) (file text text2 : List ℕ)
-        (told told2 : Told) → IsOutcome home passes keep_going max_depth file text told
-        → IsOutcome home passes keep_going max_depth file text2 told2 → (text ≡ text2) × (told ≡ told2) }
+    ensures some { (run : Run) (file : List ℕ) → (text : List ℕ) × (told : Told) × IsOutcome run file text told }
+    ensures only { (run : Run) (file text text2 : List ℕ) (told told2 : Told) → IsOutcome run file text told
+        → IsOutcome run file text2 told2 → (text ≡ text2) × (told ≡ told2) }
 {}
 
 /// A new session has done no chunk: nothing was read, and nothing was written. So `Session::step`, whose `More` leads from

@@ -3,11 +3,9 @@
 ghost use Rattle.std.specs.Prelude.{◌≡◌, ℕ, ◌+◌, ◌<◌, ◌≤◌, ◌^◌, ◌∷◌, List, length, map, IfOk, OnOk, IfSome, IfNone, IsTrue};
 ghost use Rattle.bz_token.specs.Places.{placed};
 ghost use Rattle.bz_token.specs.Reading.{AreTokensOf};
-ghost use Rattle.bz_tree.specs.Tree.{Statement};
 ghost use Rattle.bz_devices.specs.Ahead.{IsFewAfter};
 ghost use Rattle.bz_passes.specs.Exchange.{Fits};
-ghost use Rattle.bz_engine.specs.Progress.{IsKeptOf};
-ghost use Rattle.bz_engine.specs.private.Edits.{IsEdited};
+ghost use Rattle.bz_engine.specs.private.Edits.{EditsChunk, run_of};
 ghost use Rattle.bz_engine.specs.private.NextChunks.{IsFirst};
 
 use crate::canonical::edit_canonical;
@@ -51,8 +49,8 @@ pub(crate) fn edit_first(
     requires fits { Fits progress.old.kept script.passes.now }
     requires lines { progress.old.line + length ahead.now.bytes < 2 ^ 64 }
     ensures fits { OnOk result (Fits progress.new.kept script.entry.passes.now) }
-    ensures first { IfOk result (IsFirst script.entry.home.now script.entry.passes.now script.entry.keep_going
-        script.entry.max_depth max_statement ahead.now progress.old progress.new text.old.items text.new.items) }
+    ensures first { IfOk result (IsFirst (run_of script.entry) max_statement ahead.now progress.old progress.new
+        text.old.items text.new.items) }
 {
     if begins_blank(ahead.text()) && 0 < max_statement {
         progress.line += 1;
@@ -79,8 +77,8 @@ fn edit_front(
     requires fits { Fits progress.old.kept script.passes.now }
     requires lines { progress.old.line + length ahead.now.bytes < 2 ^ 64 }
     ensures fits { OnOk result (Fits progress.new.kept script.entry.passes.now) }
-    ensures first { IfOk result (IsFirst script.entry.home.now script.entry.passes.now script.entry.keep_going
-        script.entry.max_depth max_statement ahead.now progress.old progress.new text.old.items text.new.items) }
+    ensures first { IfOk result (IsFirst (run_of script.entry) max_statement ahead.now progress.old progress.new
+        text.old.items text.new.items) }
 {
     let text_ahead = ahead.text();
     let line = progress.line;
@@ -117,10 +115,8 @@ fn edit_tokens<'a>(
     requires tokens { AreTokensOf progress.old.line script.max_depth chunk.now (map placed tokens.now) }
     ensures fits { OnOk result (Fits progress.new.kept script.entry.passes.now) }
     ensures lines { OnOk result (progress.new.line ≤ progress.old.line + length chunk.now) }
-    ensures edited { IfOk result (λ edited. (cs : List (List ℕ)) (statements : List Statement)
-        → IsKeptOf script.entry.home.now script.entry.passes.now script.entry.max_depth cs statements progress.old
-        → IsEdited script.entry.home.now script.entry.passes.now script.entry.keep_going script.entry.max_depth cs
-        statements chunk.now progress.old progress.new text.old.items text.new.items edited) }
+    ensures edited { IfOk result (EditsChunk (run_of script.entry) chunk.now progress.old progress.new
+        text.old.items text.new.items) }
 {
     let read = read_statement(script.alloc, script.bump, chunk, progress.line, tokens);
     edit_chunk(script, chunk, read, progress, text)
@@ -137,10 +133,8 @@ pub(crate) fn edit_bytes(
     requires lines { progress.old.line + length chunk.now < 2 ^ 64 }
     ensures fits { OnOk result (Fits progress.new.kept script.entry.passes.now) }
     ensures lines { OnOk result (progress.new.line ≤ progress.old.line + length chunk.now) }
-    ensures edited { IfOk result (λ edited. (cs : List (List ℕ)) (statements : List Statement)
-        → IsKeptOf script.entry.home.now script.entry.passes.now script.entry.max_depth cs statements progress.old
-        → IsEdited script.entry.home.now script.entry.passes.now script.entry.keep_going script.entry.max_depth cs
-        statements chunk.now progress.old progress.new text.old.items text.new.items edited) }
+    ensures edited { IfOk result (EditsChunk (run_of script.entry) chunk.now progress.old progress.new
+        text.old.items text.new.items) }
 {
     let line = progress.line;
     let whole = match check_utf8(chunk) {

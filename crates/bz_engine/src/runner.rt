@@ -4,7 +4,7 @@ ghost use Rattle.std.specs.Prelude.{◌≡◌, ◌≢◌, ℕ, ◌≤◌, ◌^�
 ghost use Rattle.bz_devices.specs.Ahead.{HasTooLong};
 ghost use Rattle.bz_devices.specs.Device.{joined, ends, NoneEnds, Rises};
 ghost use Rattle.bz_engine.specs.EveryFile.{ForEveryFile};
-ghost use Rattle.bz_engine.specs.Outcome.{Told, IsOutcome, IsFrontOf, told_by};
+ghost use Rattle.bz_engine.specs.Outcome.{Told, run_with, IsOutcome, IsFrontOf, told_by};
 
 use crate::options::Options;
 use crate::report::Report;
@@ -33,12 +33,12 @@ pub fn run<S: Source, W: Sink>(
     ensures outcome { IfOk result (λ report. (pieces : List (List ℕ)) × (text : List ℕ)
         × S.gave source.old pieces source.new × W.took sink.old text sink.new × (length pieces ≤ options.max_reads)
         × ForEveryFile pieces
-        (λ file. IsOutcome home passes.items options.keep_going options.max_depth file text (told_by report))) }
+        (λ file. IsOutcome (run_with home passes.items options) file text (told_by report))) }
     // Before a fault a front of the text was written that is written for each such file.
     ensures front { OnErr result ((pieces : List (List ℕ)) × (text : List ℕ)
         × S.gave source.old pieces source.new × W.took sink.old text sink.new × (length pieces ≤ options.max_reads)
         × ForEveryFile pieces (λ file. (whole : List ℕ) (told : Told)
-        → IsOutcome home passes.items options.keep_going options.max_depth file whole told → IsFrontOf text whole)) }
+        → IsOutcome (run_with home passes.items options) file whole told → IsFrontOf text whole)) }
     // Whatever is answered, the devices gave and took what reads and writes gave and took.
     ensures devices { (pieces : List (List ℕ)) × (text : List ℕ)
         × S.gave source.old pieces source.new × W.took sink.old text sink.new }

@@ -2,16 +2,14 @@
 
 ghost use Rattle.std.specs.Prelude.{◌≡◌, ◌≢◌, ℕ, ◌+◌, ◌<◌, ◌≤◌, ◌^◌, ◌++◌, false, List, [], length, take, drop, IfOk, OnOk, OnErr, IfSome, IfNone, IsTrue};
 ghost use Rattle.bz_token.specs.Cuts.{IsPart};
-ghost use Rattle.bz_tree.specs.Tree.{Statement};
 ghost use Rattle.bz_devices.specs.Device.{joined, NoneEnds, Rises};
 ghost use Rattle.bz_passes.specs.Exchange.{Fits};
 ghost use Rattle.bz_devices.specs.Ahead.{IsReadOn, IsNextChunk, IsTooLong, IsUncertain, IsFewAfter};
 ghost use Rattle.bz_engine.specs.Outcome.{told_by};
-ghost use Rattle.bz_engine.specs.Progress.{IsKeptOf};
 ghost use Rattle.bz_engine.specs.private.ChunkFaults.{fault_at};
-ghost use Rattle.bz_engine.specs.private.Edits.{IsEdited};
+ghost use Rattle.bz_engine.specs.private.Edits.{EditsChunk};
 ghost use Rattle.bz_engine.specs.private.NextChunks.{IsNextEdited, IsFirstNext, CanTake};
-ghost use Rattle.bz_engine.specs.SessionValue.{at_start, IsSameRun, IsReady, IsLeftByFault, IsRefused, HasOneMore, HasDone, HasEnded, told_at};
+ghost use Rattle.bz_engine.specs.SessionValue.{at_start, run_in, IsSameRun, IsReady, IsRefused, AddsOne, EndsRun, Steps, told_at};
 ghost use Rattle.bz_engine.specs.declared.session.Stage.TheVariants.{Going, Ended, Stopped};
 
 use crate::edit::{Edited, Script};
@@ -28,6 +26,7 @@ use bumpalo::Bump;
 use bz_command::Pass;
 use bz_devices::ahead::{Ahead, ChunkFault, next_chunk, read_on};
 use bz_devices::device::{Failed, Sink, Source};
+use bz_devices::limits::Limits;
 use bz_devices::output::write_all;
 use bz_passes::kept::nothing_kept;
 use bz_rule::{Command, Package, Target, Text};
@@ -132,44 +131,17 @@ impl Session {
             → (result ≡ Ok Step.End) × (self.new ≡ self.old) × (source.new ≡ source.old) × (sink.new ≡ sink.old) }
         // After `More` one chunk is done: its text was written.
         ensures more { result ≡ Ok Step.More → (self.new.stage ≡ Going)
-            × ((pieces cs : List (List ℕ)) (text : List ℕ) → HasDone self.old pieces cs text
-            → HasOneMore (λ read. S.gave source.old read source.new) (λ shown. W.took sink.old shown sink.new)
-            self.new pieces cs text) }
+            × AddsOne S.gave W.took source.old source.new sink.old sink.new self.old self.new }
         // At the end nothing is written, and what the session tells is the outcome.
         ensures end { result ≡ Ok Step.End → self.old.stage ≡ Going → (end : _) × (self.new.stage ≡ Ended end)
-            × ((pieces cs : List (List ℕ)) (text : List ℕ) → HasDone self.old pieces cs text
-            → (read : List (List ℕ)) × S.gave source.old read source.new × W.took sink.old [] sink.new
-            × (length (pieces ++ read) ≤ self.new.options.max_reads) × HasEnded self.new end (pieces ++ read) text) }
-        // So many reads were made, none of them the end.
-        ensures too_long { result ≡ Err RunFault.InputTooLong → (pieces cs : List (List ℕ)) (text : List ℕ)
-            → HasDone self.old pieces cs text
-            → (read : List (List ℕ)) × S.gave source.old read source.new
-            × (length (pieces ++ read) ≡ self.new.options.max_reads) × NoneEnds (pieces ++ read) }
-        // Then no next chunk is certain, and none is sure to be too long.
-        ensures uncertain { result ≡ Err RunFault.InputTooLong
-            → IsUncertain self.new.ahead × (IsTooLong self.new.options.max_statement self.new.ahead → ⊥) }
-        // The next chunk, which begins on this line, has more bytes than it may.
-        ensures statement_too_long { (line : ℕ) → result ≡ Err (RunFault.StatementTooLong line)
-            → (line ≡ self.old.progress.line) × IsTooLong self.new.options.max_statement self.new.ahead }
+            × EndsRun S.gave W.took source.old source.new sink.old sink.new self.old self.new end }
         // A chunk that is taken fits. Where the next one is sure to be too long, that is told, or memory or a read failed.
         ensures refused { self.old.stage ≡ Going → result ≢ Ok Step.More
             → IsTooLong self.new.options.max_statement self.new.ahead → IsRefused result }
-        // Before a fault a front of what the next chunk adds was written, and only a failed write cuts it.
-        ensures front { OnErr result (self.old.stage ≡ Going → IsLeftByFault (λ read. S.gave source.old read source.new)
-            (λ shown. W.took sink.old shown sink.new) self.old self.new) }
-        ensures unwritten { OnErr result (result ≢ Err RunFault.WriteFailed → sink.new ≡ sink.old) }
-        ensures read_failed { result ≡ Err RunFault.ReadFailed → Rises (S.failures source.old) (S.failures source.new) }
-        ensures write_failed { result ≡ Err RunFault.WriteFailed → Rises (W.failures sink.old) (W.failures sink.new) }
-        ensures steady { (result ≢ Err RunFault.ReadFailed → S.failures source.new ≡ S.failures source.old)
-            × (result ≢ Err RunFault.WriteFailed → W.failures sink.new ≡ W.failures sink.old) }
-        // Whatever is answered, the devices gave and took what reads and writes gave and took.
-        ensures devices { (read : List (List ℕ)) × (shown : List ℕ)
-            × S.gave source.old read source.new × W.took sink.old shown sink.new }
-        // What stood ahead, and what was read then, is at most the longest chunk and one piece more.
-        ensures bound { self.old.stage ≡ Going → (read : List (List ℕ)) × S.gave source.old read source.new
-            × (length (self.old.ahead.bytes ++ joined read) ≤ self.old.options.max_statement + 8192) }
+        // What was read and written, and what a fault tells.
+        ensures steps { self.old.stage ≡ Going → Steps S.gave S.failures W.took W.failures source.old source.new
+            sink.old sink.new self.old self.new result }
         ensures stops { OnErr result (self.new.stage ≡ Stopped) }
-        ensures runs { self.old.stage ≡ Going → result ≢ Err RunFault.Stopped }
     {
         match self.stage {
             Stage::Stopped => return Err(RunFault::Stopped),
@@ -247,41 +219,14 @@ impl Session {
         ensures stage { self.new.stage ≡ self.old.stage }
         ensures ready { result ≡ Ok Going → IsReady self.new }
         ensures fits { OnOk result (Fits self.new.progress.kept self.new.passes) }
-        ensures more { result ≡ Ok Going → (pieces cs : List (List ℕ)) (text : List ℕ) → HasDone self.old pieces cs text
-            → HasOneMore (λ read. S.gave source.old read source.new) (λ shown. W.took sink.old shown sink.new)
-            self.new pieces cs text }
-        ensures end { (end : _) → result ≡ Ok (Ended end) → (pieces cs : List (List ℕ)) (text : List ℕ)
-            → HasDone self.old pieces cs text
-            → (read : List (List ℕ)) × S.gave source.old read source.new × W.took sink.old [] sink.new
-            × (length (pieces ++ read) ≤ self.new.options.max_reads) × HasEnded self.new end (pieces ++ read) text }
-        // So many reads were made, none of them the end.
-        ensures too_long { result ≡ Err RunFault.InputTooLong → (pieces cs : List (List ℕ)) (text : List ℕ)
-            → HasDone self.old pieces cs text
-            → (read : List (List ℕ)) × S.gave source.old read source.new
-            × (length (pieces ++ read) ≡ self.new.options.max_reads) × NoneEnds (pieces ++ read) }
-        // Then no next chunk is certain, and none is sure to be too long.
-        ensures uncertain { result ≡ Err RunFault.InputTooLong
-            → IsUncertain self.new.ahead × (IsTooLong self.new.options.max_statement self.new.ahead → ⊥) }
-        // The next chunk, which begins on this line, has more bytes than it may.
-        ensures statement_too_long { (line : ℕ) → result ≡ Err (RunFault.StatementTooLong line)
-            → (line ≡ self.old.progress.line) × IsTooLong self.new.options.max_statement self.new.ahead }
+        ensures more { result ≡ Ok Going → AddsOne S.gave W.took source.old source.new sink.old sink.new self.old self.new }
+        ensures end { (end : _) → result ≡ Ok (Ended end)
+            → EndsRun S.gave W.took source.old source.new sink.old sink.new self.old self.new end }
         // Where the next chunk is sure to be too long, that is told, or memory or a read failed.
         ensures refused { result ≢ Ok Going → IsTooLong self.new.options.max_statement self.new.ahead → IsRefused result }
-        // Before a fault a front of what the next chunk adds was written, and only a failed write cuts it.
-        ensures front { OnErr result (IsLeftByFault (λ read. S.gave source.old read source.new)
-            (λ shown. W.took sink.old shown sink.new) self.old self.new) }
-        ensures unwritten { OnErr result (result ≢ Err RunFault.WriteFailed → sink.new ≡ sink.old) }
-        ensures read_failed { result ≡ Err RunFault.ReadFailed → Rises (S.failures source.old) (S.failures source.new) }
-        ensures write_failed { result ≡ Err RunFault.WriteFailed → Rises (W.failures sink.old) (W.failures sink.new) }
-        ensures steady { (result ≢ Err RunFault.ReadFailed → S.failures source.new ≡ S.failures source.old)
-            × (result ≢ Err RunFault.WriteFailed → W.failures sink.new ≡ W.failures sink.old) }
-        // Whatever is answered, the devices gave and took what reads and writes gave and took.
-        ensures devices { (read : List (List ℕ)) × (shown : List ℕ)
-            × S.gave source.old read source.new × W.took sink.old shown sink.new }
-        // What stood ahead, and what was read then, is at most the longest chunk and one piece more.
-        ensures bound { (read : List (List ℕ)) × S.gave source.old read source.new
-            × (length (self.old.ahead.bytes ++ joined read) ≤ self.old.options.max_statement + 8192) }
-        ensures runs { result ≢ Err RunFault.Stopped × (result ≢ Ok Stopped) }
+        ensures steps { Steps S.gave S.failures W.took W.failures source.old source.new
+            sink.old sink.new self.old self.new result }
+        ensures goes { result ≢ Ok Stopped }
     {
         let mut text = self.take_text();
         let Some(NextChunk { len, edited }) = self.edit_next(source, &mut text)? else {
@@ -428,10 +373,8 @@ impl Session {
         ensures same { self.new ≡ record self.old { progress = self.new.progress } }
         ensures fits { OnOk result (Fits self.new.progress.kept self.new.passes) }
         ensures lines { OnOk result (self.new.progress.line ≤ self.old.progress.line + len) }
-        ensures edited { IfOk result (λ edited. (cs : List (List ℕ)) (statements : List Statement)
-            → IsKeptOf self.old.home self.old.passes self.old.options.max_depth cs statements self.old.progress
-            → IsEdited self.old.home self.old.passes self.old.options.keep_going self.old.options.max_depth cs statements
-            (take len self.old.ahead.bytes) self.old.progress self.new.progress text.old.items text.new.items edited) }
+        ensures edited { IfOk result (EditsChunk (run_in self.old) (take len self.old.ahead.bytes)
+            self.old.progress self.new.progress text.old.items text.new.items) }
     {
         let script = Script {
             alloc: self.alloc,
@@ -493,7 +436,11 @@ fn find_chunk<S: Source>(
     ensures steady { result ≢ Err RunFault.ReadFailed → S.failures source.new ≡ S.failures source.old }
     ensures runs { (result ≢ Err RunFault.Stopped) × (result ≢ Err RunFault.WriteFailed) }
 {
-    match next_chunk(ahead, source, options.max_statement, options.max_reads) {
+    let limits = Limits {
+        statement: options.max_statement,
+        reads: options.max_reads,
+    };
+    match next_chunk(ahead, source, limits) {
         Ok(found) => Ok(found),
         Err(fault) => Err(fault_at(fault, line)),
     }
@@ -522,7 +469,11 @@ fn read_more<S: Source>(
     ensures steady { result ≢ Err RunFault.ReadFailed → S.failures source.new ≡ S.failures source.old }
     ensures runs { (result ≢ Err RunFault.Stopped) × (result ≢ Err RunFault.WriteFailed) }
 {
-    match read_on(ahead, source, options.max_statement, options.max_reads) {
+    let limits = Limits {
+        statement: options.max_statement,
+        reads: options.max_reads,
+    };
+    match read_on(ahead, source, limits) {
         Ok(read) => Ok(read),
         Err(fault) => Err(fault_at(fault, line)),
     }

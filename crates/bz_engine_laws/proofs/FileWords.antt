@@ -1,7 +1,6 @@
 -- The words of a file are those of its statements, and its layout has the same.
-use Rattle.std.proofs.Common.{◌≡◌, ℕ, List, [], ◌∷◌, ◌++◌, map, Bool, true, false, refl, sym, ap, ◌∙◌, subst, append-nil}
+use Rattle.std.proofs.Common.{◌≡◌, ℕ, List, [], ◌∷◌, ◌++◌, map, Bool, true, false, refl, sym, ap, ◌∙◌, subst}
 use Rattle.std.specs.Prelude.{Option, None, Some, IsNone}
-use Rattle.std.specs.List.{flat_map, AllByRecursion}
 use Rattle.std.proofs.lemmas.List.{map-append}
 use Rattle.bz_token.specs.Chunks.{chunks}
 use Rattle.bz_token.specs.FreshStart.{tokens_on_lines}
@@ -15,7 +14,7 @@ use Rattle.bz_tree.specs.declared.kinds.Mark.TheVariants.{Open, Close, Comma, Co
 use Rattle.bz_tree.specs.declared.stmt.Class.TheVariants.{Block}
 use Rattle.bz_tree.specs.Brackets.{without_lines}
 use Rattle.bz_tree.specs.Chunk.{begins_block, IsOneOf}
-use Rattle.bz_tree.specs.Kinds.{kind_mark, operator_mark}
+use Rattle.bz_tree.specs.Kinds.{operator_mark}
 use Rattle.bz_tree.specs.Statement.{first_of, first_seen, first_token}
 use Rattle.bz_tree.specs.Tree.{Item, leaf, group, Items, no_items, item, Segs, no_segs, seg, Statement, items_of}
 use Rattle.bz_tree_laws.specs.Words.{Word, word_of, words_among, opening, closing, bracket_word, item_words, items_words, segs_words, words_of}

@@ -1,9 +1,9 @@
 -- A script of commands that keep comments keeps them all, and so does what is written of what it leaves.
-use Rattle.std.proofs.Common.{◌≡◌, ℕ, ◌≤◌, List, [], ◌∷◌, ◌++◌, map, Bool, true, false, refl, sym, ap, ◌∙◌}
+use Rattle.std.proofs.Common.{◌≡◌, ℕ, ◌≤◌, List, [], ◌∷◌, ◌++◌, map, Bool, true, false, refl, ap, ◌∙◌}
 use Rattle.std.specs.Prelude.{Option, None, Some, option_map, if◌then◌else◌}
 use Rattle.std.specs.List.{list_all}
 use Rattle.std.proofs.lemmas.Bool.{and_parts}
-use Rattle.bz_tree.specs.Comments.{Lists, beside, comments_of, item_owners, items_owners, segs_owners, owners_of, joined}
+use Rattle.bz_tree.specs.Comments.{beside, comments_of, item_owners, items_owners, segs_owners, joined}
 use Rattle.bz_tree.specs.Tree.{Item, leaf, group, Items, no_items, item, Segs, no_segs, seg, Statement, items_of}
 use Rattle.bz_layout_laws.specs.Spelled.{spelled, spelled_items, spelled_segs, spelled_statement}
 use Rattle.bz_layout_laws.specs.Lineless.{lineless}
@@ -16,11 +16,10 @@ use Rattle.bz_engine.specs.Changes.{AreCommands}
 use Rattle.bz_engine.specs.declared.report.SyntaxFault.{SyntaxFault}
 use Rattle.bz_engine.specs.File.{IsFile}
 use Rattle.bz_engine.specs.Meaning.{meaning}
-use Rattle.bz_engine.specs.Outcome.{Script, Told, IsOutcome, is_query, left_in, slots_of}
+use Rattle.bz_engine.specs.Outcome.{Run, Script, Told, IsOutcome, is_query, left_in, slots_of}
 use Rattle.bz_engine.proofs.OneOutcome.{one_give}
 use Rattle.bz_engine_laws.specs.Comments.{script_keeps_comments}
-use Rattle.bz_engine_laws.specs.Written.{HaveUtf8Words, left_by, edited, IsTextOf}
-use Rattle.bz_engine_laws.proofs.FileText.{left_all}
+use Rattle.bz_engine_laws.specs.Written.{HaveUtf8Words, left_by, edited}
 use Rattle.bz_engine_laws.proofs.RunText.{reads_back}
 use Rattle.bz_engine_laws.proofs.Unmarked.{left_alone}
 
@@ -98,10 +97,10 @@ same_comments (t ∷ found) (s ∷ ss) e =
     let tail : map lineless found ≡ map (λ u. lineless (spelled_statement u)) ss = cc in
     ap (λ c. c ∷ map comments_of found) (ap comments_of head ∙ spelled_comments s) ∙ ap (λ rest. comments_of s ∷ rest) (same_comments found ss tail)
 
-pub comments_written : (home : Package) (passes : Script) (keep_going : Bool) (depth : ℕ) (file text : List ℕ) (told : Told) → AreCommands passes → HaveUtf8Words passes → is_query passes ≡ false → 2 ≤ depth
-    → (run : IsOutcome home passes keep_going depth file text told) → script_keeps_comments passes ≡ true
-    → (found : List Statement) (fault : Option SyntaxFault) → IsFile depth text found fault → map comments_of found ≡ map comments_of (edited run)
-comments_written home passes keep_going depth file text told commands words query two run keep found fault read =
-    let back = reads_back home passes keep_going depth file text told commands words query two run in
-    let one = one_give depth 1 _ found back.found fault None read back.file in
-    ap (map comments_of) one.0 ∙ same_comments back.found (left_by home passes (edited run)) back.same ∙ comments_left home passes (edited run) keep
+pub comments_written : (run : Run) (file text : List ℕ) (told : Told) → AreCommands run.passes → HaveUtf8Words run.passes → is_query run.passes ≡ false → 2 ≤ run.max_depth
+    → (outcome : IsOutcome run file text told) → script_keeps_comments run.passes ≡ true
+    → (found : List Statement) (fault : Option SyntaxFault) → IsFile run.max_depth text found fault → map comments_of found ≡ map comments_of (edited outcome)
+comments_written run file text told commands words query two outcome keep found fault read =
+    let back = reads_back run file text told commands words query two outcome in
+    let one = one_give run.max_depth 1 _ found back.found fault None read back.file in
+    ap (map comments_of) one.0 ∙ same_comments back.found (left_by run.home run.passes (edited outcome)) back.same ∙ comments_left run.home run.passes (edited outcome) keep

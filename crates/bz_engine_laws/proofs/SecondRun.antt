@@ -10,7 +10,7 @@ use Rattle.bz_command.specs.Passes.{Slot, Meaning, Pass, Marked, marked, execute
 use Rattle.bz_engine.specs.Changes.{CommandsChange, PassChanges, Changes, AreCommands}
 use Rattle.bz_engine.specs.Meaning.{meaning}
 use Rattle.bz_engine.specs.declared.report.End.TheVariants.{Whole, FirstFailure}
-use Rattle.bz_engine.specs.Outcome.{Script, Told, IsOutcome, IsWholeRun, EndsAtFailure, is_query, left_in, slots_of, text_of, some_change, told_of}
+use Rattle.bz_engine.specs.Outcome.{Run, Script, Told, IsOutcome, IsWholeRun, EndsAtFailure, is_query, left_in, slots_of, text_of, some_change, told_of}
 use Rattle.bz_rule.proofs.Commands.{changed_tells}
 use Rattle.bz_engine.proofs.ChangesLaw.{changes_tell}
 use Rattle.bz_engine.proofs.OneOutcome.{one_give}
@@ -55,24 +55,24 @@ pub shown : (b : Bool) (text : List ℕ) → b ≡ false → (if b then [] else 
 shown true text h = absurd (false≢true (sym h))
 shown false text h = refl
 
-whole_again : (home : Package) (passes : Script) (keep_going : Bool) (depth : ℕ) (ss : List Statement) (text : List ℕ) (told : Told) → AllByRecursion (IsSound depth) ss → AreCommands passes → is_query passes ≡ false
-    → IsWholeRun home passes keep_going depth (text_of ss) text told → told.changed ≡ false → text ≡ text_of ss
-whole_again home passes keep_going depth ss text told sound commands query run quiet =
-    let again = text_again depth ss sound in
-    let same = (one_give depth 1 _ run.statements again.0 run.fault None run.read again.1).0 in
-    let unchanged : some_change home passes run.statements ≡ false = sym (told_change home passes run.statements run.fault) ∙ ap (λ (t : Told). t.changed) (sym run.told_is) ∙ quiet in
-    let none : Changes (meaning home) passes (slots_of run.statements) → ⊥ = λ change. false≢true (sym unchanged ∙ (changes_tell changed_tells home passes (slots_of run.statements) commands).1 change) in
-    run.text_is ∙ shown (is_query passes) (text_of (left_in (slots_after (meaning home) passes (slots_of run.statements)))) query
-    ∙ same_bytes _ _ (λ differ. quiet_passes (meaning home) passes (slots_of run.statements) none (λ stays. differ (ap (λ slots. text_of (left_in slots)) stays ∙ ap text_of (left_all run.statements ∙ same))))
+whole_again : (run : Run) (ss : List Statement) (text : List ℕ) (told : Told) → AllByRecursion (IsSound run.max_depth) ss → AreCommands run.passes → is_query run.passes ≡ false
+    → IsWholeRun run (text_of ss) text told → told.changed ≡ false → text ≡ text_of ss
+whole_again run ss text told sound commands query outcome quiet =
+    let again = text_again run.max_depth ss sound in
+    let same = (one_give run.max_depth 1 _ outcome.statements again.0 outcome.fault None outcome.read again.1).0 in
+    let unchanged : some_change run.home run.passes outcome.statements ≡ false = sym (told_change run.home run.passes outcome.statements outcome.fault) ∙ ap (λ (t : Told). t.changed) (sym outcome.told_is) ∙ quiet in
+    let none : Changes (meaning run.home) run.passes (slots_of outcome.statements) → ⊥ = λ change. false≢true (sym unchanged ∙ (changes_tell changed_tells run.home run.passes (slots_of outcome.statements) commands).1 change) in
+    outcome.text_is ∙ shown (is_query run.passes) (text_of (left_in (slots_after (meaning run.home) run.passes (slots_of outcome.statements)))) query
+    ∙ same_bytes _ _ (λ differ. quiet_passes (meaning run.home) run.passes (slots_of outcome.statements) none (λ stays. differ (ap (λ slots. text_of (left_in slots)) stays ∙ ap text_of (left_all outcome.statements ∙ same))))
     ∙ again.3
 
 -- a run that comes to its end does not end at a failure
-pub not_at_failure : (home : Package) (passes : Script) (keep_going : Bool) (depth : ℕ) (file text : List ℕ) (told : Told) → EndsAtFailure home passes keep_going depth file text told → (keep_going ≡ false → told.end ≡ Whole) → ⊥
-not_at_failure home passes keep_going depth file text told stop ends =
+pub not_at_failure : (run : Run) (file text : List ℕ) (told : Told) → EndsAtFailure run file text told → (run.keep_going ≡ false → told.end ≡ Whole) → ⊥
+not_at_failure run file text told stop ends =
     let here : FirstFailure ≡ Whole = sym (ap (λ (t : Told). t.end) stop.told_is) ∙ ends stop.ends in
     cc
 
-pub same_again : (home : Package) (passes : Script) (keep_going : Bool) (depth : ℕ) (ss : List Statement) (text : List ℕ) (told : Told) → AllByRecursion (IsSound depth) ss → AreCommands passes → is_query passes ≡ false
-    → IsOutcome home passes keep_going depth (text_of ss) text told → (keep_going ≡ false → told.end ≡ Whole) → told.changed ≡ false → text ≡ text_of ss
-same_again home passes keep_going depth ss text told sound commands query (inl run) ends quiet = whole_again home passes keep_going depth ss text told sound commands query run quiet
-same_again home passes keep_going depth ss text told sound commands query (inr stop) ends quiet = absurd (not_at_failure home passes keep_going depth (text_of ss) text told stop ends)
+pub same_again : (run : Run) (ss : List Statement) (text : List ℕ) (told : Told) → AllByRecursion (IsSound run.max_depth) ss → AreCommands run.passes → is_query run.passes ≡ false
+    → IsOutcome run (text_of ss) text told → (run.keep_going ≡ false → told.end ≡ Whole) → told.changed ≡ false → text ≡ text_of ss
+same_again run ss text told sound commands query (inl outcome) ends quiet = whole_again run ss text told sound commands query outcome quiet
+same_again run ss text told sound commands query (inr stop) ends quiet = absurd (not_at_failure run (text_of ss) text told stop ends)

@@ -1,17 +1,16 @@
 -- A report's status tells how the run of the file went.
-use Rattle.std.proofs.Common.{◌≡◌, ◌≢◌, inl, inr, ℕ, Bool, true, false, ◌||◌, List, [], map, refl, sym, ◌∙◌, ap, subst}
+use Rattle.std.proofs.Common.{◌≡◌, ◌≢◌, inl, inr, ℕ, Bool, true, false, ◌||◌, List, [], refl, sym, ◌∙◌, ap}
 use Rattle.std.specs.Prelude.{Option, None, Some, if◌then◌else◌}
 use Rattle.std.proofs.lemmas.Bool.{false≢true}
 use Rattle.bz_tree.specs.Tree.{Statement}
-use Rattle.bz_command.specs.Labels.{Package}
 use Rattle.bz_command.specs.Passes.{some_missing}
-use Rattle.bz_engine.specs.Changes.{Changes, AreCommands}
+use Rattle.bz_engine.specs.Changes.{AreCommands}
 use Rattle.bz_engine.specs.Meaning.{meaning}
 use Rattle.bz_engine.specs.declared.report.Report.{Report}
 use Rattle.bz_engine.specs.declared.report.SyntaxFault.{SyntaxFault}
 use Rattle.bz_engine.specs.declared.report.End.TheVariants.{Whole}
 use Rattle.bz_engine.specs.File.{IsFile}
-use Rattle.bz_engine.specs.Outcome.{Script, Told, IsOutcome, IsWholeRun, is_query, left_in, slots_of, text_of, text_after, some_change, some_failure, told_of, told_by, status_of}
+use Rattle.bz_engine.specs.Outcome.{Run, Told, IsOutcome, IsWholeRun, is_query, left_in, slots_of, text_of, some_change, some_failure, told_of, told_by, status_of}
 use Rattle.bz_rule.proofs.Commands.{changed_tells}
 use Rattle.bz_engine.proofs.ChangesLaw.{changes_tell}
 use Rattle.bz_engine.proofs.OneOutcome.{one_outcome}
@@ -41,55 +40,55 @@ by_three false true is = absurd cc
 by_three false false is = refl
 
 -- a run that did not fail is a whole one, over a file without fault
-record IsGood (home : Package) (passes : Script) (depth : ℕ) (file text : List ℕ) (report : Report) : Type 0 where
+record IsGood (run : Run) (file text : List ℕ) (report : Report) : Type 0 where
   end : report.end ≡ Whole
   statements : List Statement
-  done : IsDoneWhole home passes depth file text statements
-  changed : report.changed ≡ some_change home passes statements
+  done : IsDoneWhole run file text statements
+  changed : report.changed ≡ some_change run.home run.passes statements
 
-good_run : (home : Package) (passes : Script) (keep_going : Bool) (depth : ℕ) (file text : List ℕ) (report : Report) → IsWholeRun home passes keep_going depth file text (told_by report) → report.failed ≡ false
-    → IsGood home passes depth file text report
-good_run home passes keep_going depth file text report run calm = by run.fault run.read run.told_is
+good_run : (run : Run) (file text : List ℕ) (report : Report) → IsWholeRun run file text (told_by report) → report.failed ≡ false
+    → IsGood run file text report
+good_run run file text report outcome calm = by outcome.fault outcome.read outcome.told_is
   where
-    by : (fault : Option SyntaxFault) → IsFile depth file run.statements fault → told_by report ≡ told_of home passes run.statements fault → IsGood home passes depth file text report
+    by : (fault : Option SyntaxFault) → IsFile run.max_depth file outcome.statements fault → told_by report ≡ told_of run.home run.passes outcome.statements fault → IsGood run file text report
     by None read told_is =
-        let none = or_none (some_failure home passes run.statements) (some_missing (meaning home) passes (slots_of run.statements)) (sym (ap (λ (t : Told). t.failed) told_is) ∙ calm) in
+        let none = or_none (some_failure run.home run.passes outcome.statements) (some_missing (meaning run.home) run.passes (slots_of outcome.statements)) (sym (ap (λ (t : Told). t.failed) told_is) ∙ calm) in
         record {
           end = ap (λ (t : Told). t.end) told_is;
-          statements = run.statements;
-          done = record { read = read; calm = none.0; found = none.1; text_is = run.text_is };
+          statements = outcome.statements;
+          done = record { read = read; calm = none.0; found = none.1; text_is = outcome.text_is };
           changed = ap (λ (t : Told). t.changed) told_is;
         }
     by (Some fault) read told_is = absurd (false≢true (sym calm ∙ ap (λ (t : Told). t.failed) told_is))
 
-good : (home : Package) (passes : Script) (keep_going : Bool) (depth : ℕ) (file text : List ℕ) (report : Report) → IsOutcome home passes keep_going depth file text (told_by report) → report.failed ≡ false
-    → IsGood home passes depth file text report
-good home passes keep_going depth file text report (inl run) calm = good_run home passes keep_going depth file text report run calm
-good home passes keep_going depth file text report (inr stop) calm = absurd (false≢true (sym calm ∙ ap (λ (t : Told). t.failed) stop.told_is))
+good : (run : Run) (file text : List ℕ) (report : Report) → IsOutcome run file text (told_by report) → report.failed ≡ false
+    → IsGood run file text report
+good run file text report (inl outcome) calm = good_run run file text report outcome calm
+good run file text report (inr stop) calm = absurd (false≢true (sym calm ∙ ap (λ (t : Told). t.failed) stop.told_is))
 
-pub status_whole : (home : Package) (passes : Script) (keep_going : Bool) (depth : ℕ) (file text : List ℕ) (report : Report) → IsOutcome home passes keep_going depth file text (told_by report) → status_of report ≢ 2
-    → (report.end ≡ Whole) × (statements : List Statement) × IsDoneWhole home passes depth file text statements
-status_whole home passes keep_going depth file text report run other =
-    let g = good home passes keep_going depth file text report run (by_status report.failed report.changed (status_of report) refl other) in
+pub status_whole : (run : Run) (file text : List ℕ) (report : Report) → IsOutcome run file text (told_by report) → status_of report ≢ 2
+    → (report.end ≡ Whole) × (statements : List Statement) × IsDoneWhole run file text statements
+status_whole run file text report outcome other =
+    let g = good run file text report outcome (by_status report.failed report.changed (status_of report) refl other) in
     (g.end, g.statements, g.done)
 
-pub status_changed : (home : Package) (passes : Script) (keep_going : Bool) (depth : ℕ) (file text : List ℕ) (report : Report) → IsOutcome home passes keep_going depth file text (told_by report) → AreCommands passes
-    → status_of report ≡ 0 → (statements : List Statement) × IsDoneWhole home passes depth file text statements × SomeChange home passes statements
-status_changed home passes keep_going depth file text report run commands zero =
-    let g = good home passes keep_going depth file text report run (by_status report.failed report.changed 0 zero (λ h. absurd cc)) in
-    (g.statements, g.done, (changes_tell changed_tells home passes (slots_of g.statements) commands).0 (sym g.changed ∙ by_zero report.failed report.changed zero))
+pub status_changed : (run : Run) (file text : List ℕ) (report : Report) → IsOutcome run file text (told_by report) → AreCommands run.passes
+    → status_of report ≡ 0 → (statements : List Statement) × IsDoneWhole run file text statements × SomeChange run.home run.passes statements
+status_changed run file text report outcome commands zero =
+    let g = good run file text report outcome (by_status report.failed report.changed 0 zero (λ h. absurd cc)) in
+    (g.statements, g.done, (changes_tell changed_tells run.home run.passes (slots_of g.statements) commands).0 (sym g.changed ∙ by_zero report.failed report.changed zero))
 
 -- what is shown of statements that stay
 shown_same : (b : Bool) (one other : List ℕ) → one ≡ other → (if b then [] else one) ≡ (if b then [] else other)
 shown_same b one other e = ap (λ text. if b then [] else text) e
 
-pub status_unchanged : (home : Package) (passes : Script) (keep_going : Bool) (depth : ℕ) (file text : List ℕ) (report : Report) → IsOutcome home passes keep_going depth file text (told_by report) → AreCommands passes
-    → status_of report ≡ 3 → (statements : List Statement) × IsDoneWhole home passes depth file text statements × (SomeChange home passes statements → ⊥) × (text ≡ (if is_query passes then [] else text_of statements))
-status_unchanged home passes keep_going depth file text report run commands three =
-    let g = good home passes keep_going depth file text report run (by_status report.failed report.changed 3 three (λ h. absurd cc)) in
-    let none : SomeChange home passes g.statements → ⊥ = λ change. false≢true (sym (sym g.changed ∙ by_three report.failed report.changed three) ∙ (changes_tell changed_tells home passes (slots_of g.statements) commands).1 change) in
-    let stays = same_bytes _ _ (λ differ. quiet_passes (meaning home) passes (slots_of g.statements) none (λ same. differ (ap (λ slots. text_of (left_in slots)) same ∙ ap text_of (left_all g.statements)))) in
-    (g.statements, g.done, none, g.done.text_is ∙ shown_same (is_query passes) _ _ stays)
+pub status_unchanged : (run : Run) (file text : List ℕ) (report : Report) → IsOutcome run file text (told_by report) → AreCommands run.passes
+    → status_of report ≡ 3 → (statements : List Statement) × IsDoneWhole run file text statements × (SomeChange run.home run.passes statements → ⊥) × (text ≡ (if is_query run.passes then [] else text_of statements))
+status_unchanged run file text report outcome commands three =
+    let g = good run file text report outcome (by_status report.failed report.changed 3 three (λ h. absurd cc)) in
+    let none : SomeChange run.home run.passes g.statements → ⊥ = λ change. false≢true (sym (sym g.changed ∙ by_three report.failed report.changed three) ∙ (changes_tell changed_tells run.home run.passes (slots_of g.statements) commands).1 change) in
+    let stays = same_bytes _ _ (λ differ. quiet_passes (meaning run.home) run.passes (slots_of g.statements) none (λ same. differ (ap (λ slots. text_of (left_in slots)) same ∙ ap text_of (left_all g.statements)))) in
+    (g.statements, g.done, none, g.done.text_is ∙ shown_same (is_query run.passes) _ _ stays)
 
 -- where all was done the status is not 2
 not_two : (failed changed : Bool) → failed ≡ false → status_from failed changed ≡ 2 → ⊥
@@ -97,10 +96,10 @@ not_two true changed calm is = false≢true (sym calm)
 not_two false true calm is = cc
 not_two false false calm is = cc
 
-pub status_done : (home : Package) (passes : Script) (keep_going : Bool) (depth : ℕ) (file text : List ℕ) (report : Report) (statements : List Statement) → IsOutcome home passes keep_going depth file text (told_by report)
-    → IsDoneWhole home passes depth file text statements → status_of report ≢ 2
-status_done home passes keep_going depth file text report statements run all =
-    let is : IsOutcome home passes keep_going depth file text (told_of home passes statements None) =
+pub status_done : (run : Run) (file text : List ℕ) (report : Report) (statements : List Statement) → IsOutcome run file text (told_by report)
+    → IsDoneWhole run file text statements → status_of report ≢ 2
+status_done run file text report statements outcome all =
+    let is : IsOutcome run file text (told_of run.home run.passes statements None) =
     inl (record { statements = statements; fault = None; read = all.read; calm = λ h. all.calm; text_is = all.text_is; told_is = refl }) in
-    let same = (one_outcome home passes keep_going depth file text text (told_by report) (told_of home passes statements None) run is).1 in
-    not_two report.failed report.changed (ap (λ (t : Told). t.failed) same ∙ ap (λ b. b || some_missing (meaning home) passes (slots_of statements)) all.calm ∙ all.found)
+    let same = (one_outcome run file text text (told_by report) (told_of run.home run.passes statements None) outcome is).1 in
+    not_two report.failed report.changed (ap (λ (t : Told). t.failed) same ∙ ap (λ b. b || some_missing (meaning run.home) run.passes (slots_of statements)) all.calm ∙ all.found)

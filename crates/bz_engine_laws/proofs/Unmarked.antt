@@ -16,7 +16,7 @@ use Rattle.bz_passes.proofs.ExchangeLaw.{slots_alone}
 use Rattle.bz_engine.specs.declared.report.End.TheVariants.{Whole}
 use Rattle.bz_engine.specs.File.{IsFile}
 use Rattle.bz_engine.specs.Meaning.{meaning}
-use Rattle.bz_engine.specs.Outcome.{Script, Told, IsOutcome, is_query, left_in, slots_of, text_of, gap_text}
+use Rattle.bz_engine.specs.Outcome.{Run, Script, Told, IsOutcome, is_query, left_in, slots_of, text_of, gap_text}
 use Rattle.bz_engine.proofs.OneOutcome.{one_give}
 use Rattle.bz_engine_laws.specs.Untouched.{is_unmarked, StandsIn}
 use Rattle.bz_engine_laws.specs.Written.{left_by, edited}
@@ -91,24 +91,24 @@ text_stands [] s (t ∷ back) = record { before = []; after = gap_text (gap_betw
 text_stands (f ∷ []) s back = next_stands (layout_text s) f s back (text_stands [] s back)
 text_stands (f ∷ g ∷ front) s back = next_stands (layout_text s) f g (front ++ s ∷ back) (text_stands (g ∷ front) s back)
 
-pub written_of : (home : Package) (passes : Script) (keep_going : Bool) (depth : ℕ) (file text : List ℕ) (told : Told) (run : IsOutcome home passes keep_going depth file text told) (front back : List Statement) (s : Statement)
-    → is_query passes ≡ false → edited run ≡ front ++ s ∷ back → is_unmarked passes s ≡ true
-    → (text ≡ text_of (left_by home passes front ++ s ∷ left_by home passes back)) × StandsIn (layout_text s) text
-written_of home passes keep_going depth file text told run front back s query are h =
-    let is = edited_text home passes keep_going depth file text told run ∙ text_left_by home passes (edited run) query
-    ∙ ap (λ ss. text_of (left_by home passes ss)) are ∙ ap text_of (unmarked_stays home passes front back s h) in
-    (is, subst (StandsIn (layout_text s)) (sym is) (text_stands (left_by home passes front) s (left_by home passes back)))
+pub written_of : (run : Run) (file text : List ℕ) (told : Told) (outcome : IsOutcome run file text told) (front back : List Statement) (s : Statement)
+    → is_query run.passes ≡ false → edited outcome ≡ front ++ s ∷ back → is_unmarked run.passes s ≡ true
+    → (text ≡ text_of (left_by run.home run.passes front ++ s ∷ left_by run.home run.passes back)) × StandsIn (layout_text s) text
+written_of run file text told outcome front back s query are h =
+    let is = edited_text run file text told outcome ∙ text_left_by run.home run.passes (edited outcome) query
+    ∙ ap (λ ss. text_of (left_by run.home run.passes ss)) are ∙ ap text_of (unmarked_stays run.home run.passes front back s h) in
+    (is, subst (StandsIn (layout_text s)) (sym is) (text_stands (left_by run.home run.passes front) s (left_by run.home run.passes back)))
 
 -- a run that comes to its end edits all statements of a file without fault
-pub edited_all : (home : Package) (passes : Script) (keep_going : Bool) (depth : ℕ) (file text : List ℕ) (told : Told) (run : IsOutcome home passes keep_going depth file text told) (ss : List Statement)
-    → IsFile depth file ss None → (keep_going ≡ false → told.end ≡ Whole) → edited run ≡ ss
-edited_all home passes keep_going depth file text told (inl run) ss read ends = (one_give depth 1 _ run.statements ss run.fault None run.read read).0
-edited_all home passes keep_going depth file text told (inr stop) ss read ends = absurd (not_at_failure home passes keep_going depth file text told stop ends)
+pub edited_all : (run : Run) (file text : List ℕ) (told : Told) (outcome : IsOutcome run file text told) (ss : List Statement)
+    → IsFile run.max_depth file ss None → (run.keep_going ≡ false → told.end ≡ Whole) → edited outcome ≡ ss
+edited_all run file text told (inl outcome) ss read ends = (one_give run.max_depth 1 _ outcome.statements ss outcome.fault None outcome.read read).0
+edited_all run file text told (inr stop) ss read ends = absurd (not_at_failure run file text told stop ends)
 
-pub bytes_stay : (home : Package) (passes : Script) (keep_going : Bool) (depth : ℕ) (file text : List ℕ) (told : Told) (front back : List Statement) (s : Statement) → IsFile depth file (front ++ s ∷ back) None
-    → file ≡ text_of (front ++ s ∷ back) → IsOutcome home passes keep_going depth file text told → (keep_going ≡ false → told.end ≡ Whole) → is_query passes ≡ false → is_unmarked passes s ≡ true
-    → StandsIn (layout_text s) file × StandsIn (layout_text s) text × (text ≡ text_of (left_by home passes front ++ s ∷ left_by home passes back))
-bytes_stay home passes keep_going depth file text told front back s read laid run ends query h =
-    let are = edited_all home passes keep_going depth file text told run (front ++ s ∷ back) read ends in
-    let written = written_of home passes keep_going depth file text told run front back s query are h in
+pub bytes_stay : (run : Run) (file text : List ℕ) (told : Told) (front back : List Statement) (s : Statement) → IsFile run.max_depth file (front ++ s ∷ back) None
+    → file ≡ text_of (front ++ s ∷ back) → IsOutcome run file text told → (run.keep_going ≡ false → told.end ≡ Whole) → is_query run.passes ≡ false → is_unmarked run.passes s ≡ true
+    → StandsIn (layout_text s) file × StandsIn (layout_text s) text × (text ≡ text_of (left_by run.home run.passes front ++ s ∷ left_by run.home run.passes back))
+bytes_stay run file text told front back s read laid outcome ends query h =
+    let are = edited_all run file text told outcome (front ++ s ∷ back) read ends in
+    let written = written_of run file text told outcome front back s query are h in
     (subst (StandsIn (layout_text s)) (sym laid) (text_stands front s back), written.1, written.0)

@@ -6,14 +6,14 @@ ghost use Rattle.bz_tree.specs.Tree.{Statement};
 ghost use Rattle.bz_command.specs.Labels.{Package};
 ghost use Rattle.bz_engine.specs.declared.report.End.TheVariants.{Whole};
 ghost use Rattle.bz_engine.specs.Changes.{AreCommands};
-ghost use Rattle.bz_engine.specs.Outcome.{Script, Told, IsOutcome, is_query, slots_of, text_of};
+ghost use Rattle.bz_engine.specs.Outcome.{Run, Script, Told, IsOutcome, is_query, slots_of, text_of};
 ghost use Rattle.bz_engine_laws.specs.Sound.{IsSound};
 
 /// A run over the text of sound statements, whose script is no query and changes nothing, writes the same bytes. It
 /// keeps going, or does not end at a failure.
 pub fn a_run_that_changes_nothing_writes_the_same()
-    ensures { (home : Package) (passes : Script) (keep_going : Bool) (depth : ℕ) (ss : List Statement) (text : List ℕ)
-        (told : Told) → AllByRecursion (IsSound depth) ss → AreCommands passes → is_query passes ≡ false
-        → IsOutcome home passes keep_going depth (text_of ss) text told
-        → (keep_going ≡ false → told.end ≡ Whole) → told.changed ≡ false → text ≡ text_of ss }
+    ensures { (run : Run) (ss : List Statement) (text : List ℕ) (told : Told)
+        → AllByRecursion (IsSound run.max_depth) ss → AreCommands run.passes → is_query run.passes ≡ false
+        → IsOutcome run (text_of ss) text told
+        → (run.keep_going ≡ false → told.end ≡ Whole) → told.changed ≡ false → text ≡ text_of ss }
 {}

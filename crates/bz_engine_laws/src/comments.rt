@@ -7,7 +7,7 @@ ghost use Rattle.bz_command.specs.Labels.{Package};
 ghost use Rattle.bz_engine.specs.Changes.{AreCommands};
 ghost use Rattle.bz_engine.specs.declared.report.SyntaxFault.{SyntaxFault};
 ghost use Rattle.bz_engine.specs.File.{IsFile};
-ghost use Rattle.bz_engine.specs.Outcome.{Script, Told, IsOutcome, is_query};
+ghost use Rattle.bz_engine.specs.Outcome.{Run, Script, Told, IsOutcome, is_query};
 ghost use Rattle.bz_engine_laws.specs.Comments.{script_keeps_comments};
 ghost use Rattle.bz_engine_laws.specs.Written.{HaveUtf8Words, left_by, edited};
 
@@ -16,9 +16,9 @@ ghost use Rattle.bz_engine_laws.specs.Written.{HaveUtf8Words, left_by, edited};
 pub fn a_run_loses_no_comment()
     ensures left { (home : Package) (passes : Script) (ss : List Statement) → script_keeps_comments passes ≡ true
         → map comments_of (left_by home passes ss) ≡ map comments_of ss }
-    ensures written { (home : Package) (passes : Script) (keep_going : Bool) (depth : ℕ) (file text : List ℕ)
-        (told : Told) → AreCommands passes → HaveUtf8Words passes → is_query passes ≡ false → 2 ≤ depth
-        → (run : IsOutcome home passes keep_going depth file text told) → script_keeps_comments passes ≡ true
-        → (found : List Statement) (fault : Option SyntaxFault) → IsFile depth text found fault
-        → map comments_of found ≡ map comments_of (edited run) }
+    ensures written { (run : Run) (file text : List ℕ) (told : Told) → AreCommands run.passes
+        → HaveUtf8Words run.passes → is_query run.passes ≡ false → 2 ≤ run.max_depth
+        → (outcome : IsOutcome run file text told) → script_keeps_comments run.passes ≡ true
+        → (found : List Statement) (fault : Option SyntaxFault) → IsFile run.max_depth text found fault
+        → map comments_of found ≡ map comments_of (edited outcome) }
 {}

@@ -4,7 +4,7 @@ ghost use Rattle.std.specs.Prelude.{◌≡◌, ◌≢◌, ◌⊎◌, ℕ, List, 
 ghost use Rattle.bz_tree.specs.Tree.{Statement};
 ghost use Rattle.bz_command.specs.Labels.{Package};
 ghost use Rattle.bz_engine.specs.Changes.{AreCommands};
-ghost use Rattle.bz_engine.specs.Outcome.{Script, IsOutcome, is_query, status_of, text_of, told_by};
+ghost use Rattle.bz_engine.specs.Outcome.{Run, Script, IsOutcome, is_query, status_of, text_of, told_by};
 ghost use Rattle.bz_engine.specs.declared.report.Report.{Report};
 ghost use Rattle.bz_engine.specs.declared.report.End.TheVariants.{Whole};
 ghost use Rattle.bz_engine_laws.specs.Status.{IsDoneWhole, SomeChange};
@@ -13,23 +13,19 @@ ghost use Rattle.bz_engine_laws.specs.Status.{IsDoneWhole, SomeChange};
 /// some statement different from what it found. Status 3: none did, and what is written is the layout of the file as it
 /// is. Status 2 is told of nothing else.
 pub fn the_status_tells()
-    ensures whole { (home : Package) (passes : Script) (keep_going : Bool) (depth : ℕ) (file text : List ℕ)
-        (report : Report) → IsOutcome home passes keep_going depth file text (told_by report)
+    ensures whole { (run : Run) (file text : List ℕ) (report : Report) → IsOutcome run file text (told_by report)
         → status_of report ≢ 2 → (report.end ≡ Whole)
-        × (statements : List Statement) × IsDoneWhole home passes depth file text statements }
-    ensures changed { (home : Package) (passes : Script) (keep_going : Bool) (depth : ℕ) (file text : List ℕ)
-        (report : Report) → IsOutcome home passes keep_going depth file text (told_by report) → AreCommands passes
-        → status_of report ≡ 0
-        → (statements : List Statement) × IsDoneWhole home passes depth file text statements
-        × SomeChange home passes statements }
-    ensures unchanged { (home : Package) (passes : Script) (keep_going : Bool) (depth : ℕ) (file text : List ℕ)
-        (report : Report) → IsOutcome home passes keep_going depth file text (told_by report) → AreCommands passes
-        → status_of report ≡ 3
-        → (statements : List Statement) × IsDoneWhole home passes depth file text statements
-        × (SomeChange home passes statements → ⊥)
-        × (text ≡ (if is_query passes then [] else text_of statements)) }
-    ensures done { (home : Package) (passes : Script) (keep_going : Bool) (depth : ℕ) (file text : List ℕ)
-        (report : Report) (statements : List Statement)
-        → IsOutcome home passes keep_going depth file text (told_by report)
-        → IsDoneWhole home passes depth file text statements → status_of report ≢ 2 }
+        × (statements : List Statement) × IsDoneWhole run file text statements }
+    ensures changed { (run : Run) (file text : List ℕ) (report : Report) → IsOutcome run file text (told_by report)
+        → AreCommands run.passes → status_of report ≡ 0
+        → (statements : List Statement) × IsDoneWhole run file text statements
+        × SomeChange run.home run.passes statements }
+    ensures unchanged { (run : Run) (file text : List ℕ) (report : Report) → IsOutcome run file text (told_by report)
+        → AreCommands run.passes → status_of report ≡ 3
+        → (statements : List Statement) × IsDoneWhole run file text statements
+        × (SomeChange run.home run.passes statements → ⊥)
+        × (text ≡ (if is_query run.passes then [] else text_of statements)) }
+    ensures done { (run : Run) (file text : List ℕ) (report : Report) (statements : List Statement)
+        → IsOutcome run file text (told_by report)
+        → IsDoneWhole run file text statements → status_of report ≢ 2 }
 {}

@@ -6,7 +6,7 @@ ghost use Rattle.bz_layout.specs.Layout.{layout_text};
 ghost use Rattle.bz_command.specs.Labels.{Package};
 ghost use Rattle.bz_engine.specs.declared.report.End.TheVariants.{Whole};
 ghost use Rattle.bz_engine.specs.File.{IsFile};
-ghost use Rattle.bz_engine.specs.Outcome.{Script, Told, IsOutcome, is_query, text_of};
+ghost use Rattle.bz_engine.specs.Outcome.{Run, Script, Told, IsOutcome, is_query, text_of};
 ghost use Rattle.bz_engine_laws.specs.Untouched.{is_unmarked, StandsIn};
 ghost use Rattle.bz_engine_laws.specs.Written.{left_by, edited};
 
@@ -16,15 +16,15 @@ pub fn what_no_pass_marks_stays()
     ensures statement { (home : Package) (passes : Script) (front back : List Statement) (s : Statement)
         → is_unmarked passes s ≡ true
         → left_by home passes (front ++ s ∷ back) ≡ left_by home passes front ++ s ∷ left_by home passes back }
-    ensures text { (home : Package) (passes : Script) (keep_going : Bool) (depth : ℕ) (file text : List ℕ) (told : Told)
-        (run : IsOutcome home passes keep_going depth file text told) (front back : List Statement) (s : Statement)
-        → is_query passes ≡ false → edited run ≡ front ++ s ∷ back → is_unmarked passes s ≡ true
-        → (text ≡ text_of (left_by home passes front ++ s ∷ left_by home passes back))
+    ensures text { (run : Run) (file text : List ℕ) (told : Told) (outcome : IsOutcome run file text told)
+        (front back : List Statement) (s : Statement)
+        → is_query run.passes ≡ false → edited outcome ≡ front ++ s ∷ back → is_unmarked run.passes s ≡ true
+        → (text ≡ text_of (left_by run.home run.passes front ++ s ∷ left_by run.home run.passes back))
         × StandsIn (layout_text s) text }
-    ensures bytes { (home : Package) (passes : Script) (keep_going : Bool) (depth : ℕ) (file text : List ℕ) (told : Told)
-        (front back : List Statement) (s : Statement) → IsFile depth file (front ++ s ∷ back) None
-        → file ≡ text_of (front ++ s ∷ back) → IsOutcome home passes keep_going depth file text told
-        → (keep_going ≡ false → told.end ≡ Whole) → is_query passes ≡ false → is_unmarked passes s ≡ true
+    ensures bytes { (run : Run) (file text : List ℕ) (told : Told)
+        (front back : List Statement) (s : Statement) → IsFile run.max_depth file (front ++ s ∷ back) None
+        → file ≡ text_of (front ++ s ∷ back) → IsOutcome run file text told
+        → (run.keep_going ≡ false → told.end ≡ Whole) → is_query run.passes ≡ false → is_unmarked run.passes s ≡ true
         → StandsIn (layout_text s) file × StandsIn (layout_text s) text
-        × (text ≡ text_of (left_by home passes front ++ s ∷ left_by home passes back)) }
+        × (text ≡ text_of (left_by run.home run.passes front ++ s ∷ left_by run.home run.passes back)) }
 {}

@@ -4,7 +4,7 @@ ghost use Rattle.std.specs.Prelude.{◌≡◌, ◌≤◌, ℕ, List, Bool, false
 ghost use Rattle.bz_command.specs.Labels.{Package};
 ghost use Rattle.bz_engine.specs.declared.report.End.TheVariants.{Whole};
 ghost use Rattle.bz_engine.specs.Changes.{AreCommands};
-ghost use Rattle.bz_engine.specs.Outcome.{Script, Told, IsOutcome, is_query};
+ghost use Rattle.bz_engine.specs.Outcome.{Run, Script, Told, IsOutcome, is_query};
 ghost use Rattle.bz_engine_laws.specs.Written.{HaveUtf8Words, left_by, edited, IsTextOf};
 
 /// Whatever a run writes, if its script is no query: the text has no fault, and it is read as the statements that the
@@ -15,14 +15,15 @@ ghost use Rattle.bz_engine_laws.specs.Written.{HaveUtf8Words, left_by, edited, I
 /// What is asked of commands and their words, each script has:
 /// [`scripts_are_of_commands`](crate::script::scripts_are_of_commands).
 pub fn what_is_written_reads_back()
-    ensures read { (home : Package) (passes : Script) (keep_going : Bool) (depth : ℕ) (file text : List ℕ) (told : Told)
-        → AreCommands passes → HaveUtf8Words passes → is_query passes ≡ false → 2 ≤ depth
-        → (run : IsOutcome home passes keep_going depth file text told)
-        → IsTextOf depth (left_by home passes (edited run)) text }
-    ensures again { (home : Package) (passes : Script) (keep_going : Bool) (depth : ℕ) (file text : List ℕ)
-        (told : Told) → AreCommands passes → HaveUtf8Words passes → is_query passes ≡ false → 2 ≤ depth
-        → IsOutcome home passes keep_going depth file text told
+    ensures read { (run : Run) (file text : List ℕ) (told : Told)
+        → AreCommands run.passes → HaveUtf8Words run.passes → is_query run.passes ≡ false → 2 ≤ run.max_depth
+        → (outcome : IsOutcome run file text told)
+        → IsTextOf run.max_depth (left_by run.home run.passes (edited outcome)) text }
+    ensures again { (run : Run) (file text : List ℕ) (told : Told) → AreCommands run.passes
+        → HaveUtf8Words run.passes → is_query run.passes ≡ false → 2 ≤ run.max_depth
+        → IsOutcome run file text told
         → (there : Package) (others : Script) (going : Bool) (second : List ℕ) (told2 : Told)
-        → AreCommands others → is_query others ≡ false → IsOutcome there others going depth text second told2
+        → AreCommands others → is_query others ≡ false
+        → IsOutcome (record run { home = there; passes = others; keep_going = going }) text second told2
         → (going ≡ false → told2.end ≡ Whole) → told2.changed ≡ false → second ≡ text }
 {}

@@ -1,40 +1,34 @@
 -- What the script on the next chunk answers, for private clauses.
-use Rattle.std.specs.Prelude.{◌≡◌, ℕ, ◌+◌, ◌*◌, ◌≤◌, Bool, List, length, take}
+use Rattle.std.specs.Prelude.{◌≡◌, ℕ, ◌+◌, ◌*◌, ◌≤◌, List, length, take}
 use Rattle.bz_token.specs.Cuts.{IsPart}
-use Rattle.bz_tree.specs.Tree.{Statement}
-use Rattle.bz_command.specs.Labels.{Package}
 use Rattle.bz_devices.specs.Ahead.{Ahead, IsNextChunk, IsFewAfter}
 use Rattle.bz_passes.specs.Exchange.{Fits}
-use Rattle.bz_engine.specs.Outcome.{Script}
-use Rattle.bz_engine.specs.Progress.{Progress, IsKeptOf}
-use Rattle.bz_engine.specs.SessionValue.{SessionValue}
-use Rattle.bz_engine.specs.private.Edits.{IsEdited}
+use Rattle.bz_engine.specs.Outcome.{Run}
+use Rattle.bz_engine.specs.Progress.{Progress}
+use Rattle.bz_engine.specs.SessionValue.{SessionValue, run_in}
+use Rattle.bz_engine.specs.private.Edits.{EditsChunk}
 use Rattle.bz_engine.specs.declared.next_chunk.NextChunk.{NextChunk}
 use Rattle.bz_engine.specs.declared.next_chunk.First.{First}
 use Rattle.bz_engine.specs.declared.next_chunk.First.TheVariants.{Edited, Short, Other}
 
 -- The chunk stands ahead, it is not too long, and this is what the script made of it.
-pub record IsFirstEdited (home : Package) (passes : Script) (keep_going : Bool) (max_depth max_statement : ℕ) (ahead : Ahead)
-    (old new : Progress) (text_before text_following : List ℕ) (next : NextChunk) : Type 0 where
+pub record IsFirstEdited (run : Run) (max_statement : ℕ) (ahead : Ahead) (old new : Progress) (before after : List ℕ) (next : NextChunk) : Type 0 where
   pub chunk : IsNextChunk max_statement ahead next.len
   pub lines : new.line ≤ old.line + next.len
-  pub edited : (cs : List (List ℕ)) (statements : List Statement) → IsKeptOf home passes max_depth cs statements old
-      → IsEdited home passes keep_going max_depth cs statements (take next.len ahead.bytes) old new text_before text_following next.edited
+  pub edited : EditsChunk run (take next.len ahead.bytes) old new before after next.edited
 
 -- The script was run on the first chunk ahead; or nothing was done, and all that is ahead is a part of it; or nothing was done.
-abbrev pub IsFirst : Package → Script → Bool → ℕ → ℕ → Ahead → Progress → Progress → List ℕ → List ℕ → First → Type 0
-IsFirst home passes keep_going max_depth max_statement ahead old new before after (Edited next) = IsFirstEdited home passes keep_going max_depth max_statement ahead old new before after next
-IsFirst home passes keep_going max_depth max_statement ahead old new before after Short = IsPart ahead.bytes × (new ≡ old) × (after ≡ before)
-IsFirst home passes keep_going max_depth max_statement ahead old new before after Other = (new ≡ old) × (after ≡ before)
+abbrev pub IsFirst : Run → ℕ → Ahead → Progress → Progress → List ℕ → List ℕ → First → Type 0
+IsFirst run max_statement ahead old new before after (Edited next) = IsFirstEdited run max_statement ahead old new before after next
+IsFirst run max_statement ahead old new before after Short = IsPart ahead.bytes × (new ≡ old) × (after ≡ before)
+IsFirst run max_statement ahead old new before after Other = (new ≡ old) × (after ≡ before)
 
 -- the same of a session
 abbrev pub IsFirstNext : SessionValue → SessionValue → List ℕ → List ℕ → First → Type 0
-IsFirstNext old new before after first = IsFirst old.home old.passes old.options.keep_going old.options.max_depth old.options.max_statement
-    new.ahead old.progress new.progress before after first
+IsFirstNext old new before after first = IsFirst (run_in old) old.options.max_statement new.ahead old.progress new.progress before after first
 
 abbrev pub IsNextEdited : SessionValue → SessionValue → List ℕ → List ℕ → NextChunk → Type 0
-IsNextEdited old new before after next = IsFirstEdited old.home old.passes old.options.keep_going old.options.max_depth old.options.max_statement
-    new.ahead old.progress new.progress before after next
+IsNextEdited old new before after next = IsFirstEdited (run_in old) old.options.max_statement new.ahead old.progress new.progress before after next
 
 -- A session that can take a chunk, though more is ahead than between two chunks.
 pub record CanTake (v : SessionValue) : Type 0 where

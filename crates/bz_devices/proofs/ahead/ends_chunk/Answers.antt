@@ -3,7 +3,7 @@ use Rattle.bz_token.specs.Chunks.{chunks}
 use Rattle.bz_token.specs.Cuts.{IsPart, IsBlock, EndsBefore, ends_in_newline}
 use Rattle.bz_token.specs.CutterState.{IsAfter}
 use Rattle.bz_devices.proofs.ChunkLines.{front_line}
-use Rattle.bz_devices.proofs.ReadOn.{read_nothing}
+use Rattle.bz_devices.proofs.Searches.{searches_nothing}
 use Rattle.bz_devices.proofs.ChunkAhead.{line_physical, some_after, takes_line, more_goes, block_line}
 use Rattle.bz_devices.proofs.ahead.ends_chunk.Goals as goal
 
@@ -20,11 +20,11 @@ line-requires-clause-takes g c =
     takes_line c.args.cutter.now c.args.ahead.now e n (take (n - e) (drop e c.bytes.result.now)) (ap (λ l. take (n - e) (drop e l)) c.bytes.ensures)
     c.requires.some c.requires.line c.requires.goes_on
 
-pub returns-in-Whole-clause-read : goal.returns-in-Whole-clause-read
-returns-in-Whole-clause-read g c = ([], g.met.S.Source.gave_nothing _, read_nothing c.args.max_reads c.args.ahead.now c.requires.made, tt)
+pub returns-in-Whole-clause-searches : goal.returns-in-Whole-clause-searches
+returns-in-Whole-clause-searches g c = searches_nothing _ _ _ _ _ _ (g.met.S.Source.gave_nothing _) c.requires.made c.requires.few c.requires.bound
 
-pub returns-in-More-clause-read : goal.returns-in-More-clause-read
-returns-in-More-clause-read g c = ([], g.met.S.Source.gave_nothing _, read_nothing c.args.max_reads c.args.ahead.now c.requires.made, tt)
+pub returns-in-More-clause-searches : goal.returns-in-More-clause-searches
+returns-in-More-clause-searches g c = searches_nothing _ _ _ _ _ _ (g.met.S.Source.gave_nothing _) c.requires.made c.requires.few c.requires.bound
 
 pub returns-in-Whole-clause-ends : goal.returns-in-Whole-clause-ends
 returns-in-Whole-clause-ends g c _ rest may =

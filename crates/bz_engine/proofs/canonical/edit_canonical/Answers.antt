@@ -3,6 +3,7 @@ use Rattle.std.specs.Prelude.{Some, if◌then◌else◌}
 use Rattle.std.specs.Str.{IsUtf8}
 use Rattle.bz_engine.specs.Outcome.{is_query}
 use Rattle.bz_engine.specs.Progress.{Progress, text_following}
+use Rattle.bz_engine.specs.private.Edits.{run_of}
 use Rattle.bz_engine.proofs.ChunkEdits.{line_passed}
 use Rattle.bz_engine.proofs.CanonicalChunks.{canonical_edited}
 use Rattle.bz_engine.proofs.canonical.edit_canonical.Goals as goal
@@ -14,7 +15,7 @@ returns-clause-chunk c =
     let same = c.looked_well.ensures ∙ c.is_worth_a_look.ensures in
     let passes = c.args.script.passes.now in
     let before = c.args.text.now.items in
-    canonical_edited c.args.script.home.now passes c.args.script.keep_going c.args.script.max_depth c.args.max_statement c.args.ahead.now
+    canonical_edited (run_of c.args.script) c.args.max_statement c.args.ahead.now
     c.in-Some.found.class _ c.in-Some.found.chunk.now c.in-Some.found.written.now c.text.result.now c.args.progress.now c.put_canonical.new.progress c.pass_lines.new.self
     before c.put_canonical.new.text.items
     c.requires.few c.text.ensures.front (subst IsUtf8 c.as_bytes.ensures.value c.as_bytes.ensures.utf8) found.size found.canonical found.passed

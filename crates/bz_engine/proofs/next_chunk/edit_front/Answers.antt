@@ -1,6 +1,6 @@
 use Rattle.std.proofs.Common.{subst}
 use Rattle.bz_token.specs.FirstChunk.{IsFirstChunk, IsFront}
-use Rattle.bz_engine.specs.private.Edits.{IsEdited}
+use Rattle.bz_engine.specs.private.Edits.{EditsChunk, run_of}
 use Rattle.bz_engine.proofs.FirstChunks.{first_is_next, chunk_is}
 use Rattle.bz_engine.proofs.next_chunk.edit_front.Goals as goal
 
@@ -13,6 +13,6 @@ returns-clause-first c =
     record {
       chunk = first_is_next c.args.max_statement c.args.ahead.now chunk.text.now text c.requires.few front found.some found.within found.front c.if-len-max_statement.false found.ends;
       lines = c.in_ok-edited.ensures.lines;
-      edited = λ cs statements kept. subst (λ x. IsEdited c.args.script.home.now c.args.script.passes.now c.args.script.keep_going c.args.script.max_depth cs statements x c.args.progress.now c.edit_tokens.new.progress c.args.text.now.items c.edit_tokens.new.text.items c.in_ok-edited.edited)
-          (chunk_is chunk.text.now text c.args.ahead.now.bytes front found.within found.front) (c.in_ok-edited.ensures.edited cs statements kept);
+      edited = subst (λ x. EditsChunk (run_of c.args.script) x c.args.progress.now c.edit_tokens.new.progress c.args.text.now.items c.edit_tokens.new.text.items c.in_ok-edited.edited)
+          (chunk_is chunk.text.now text c.args.ahead.now.bytes front found.within found.front) c.in_ok-edited.ensures.edited;
     }

@@ -21,15 +21,6 @@ use Rattle.bz_engine.proofs.Stages.{going_not_stopped, ended_not_stopped, unwrit
 use Rattle.bz_engine.proofs.session.Session.advance.Goals as goal
 use Rattle.bz_engine.proofs.session.Session.advance.Goals.{in-Done+in_ok-write-in-Done, in-Faulty, in-Failed}
 
-pub returns-in_err-len-clause-too_long : goal.returns-in_err-len-clause-too_long
-returns-in_err-len-clause-too_long g c told pieces cs text before =
-    let done = subst (λ v. HasDone v pieces cs text) (sym c.take_text-text.ensures.same) before in
-    let read = c.edit_next.ensures.read in
-    let same : (let fault : RunFault = InputTooLong in fault) ≡ c.in_err-len.field-0.0 = subst (λ r. IsErrAnd r (λ e. e ≡ c.in_err-len.field-0.0)) told c.from_residual.ensures.1 in
-    let full = c.edit_next.ensures.too_long (c.in_err-len.was ∙ ap Err (sym same)) in
-    let all = too_long_there _ c.edit_next.new.self.ahead _ pieces cs read.0 text done read.2 full.0 full.1 in
-    (read.0, read.1, subst (λ v. length (pieces ++ read.0) ≡ v.options.max_reads) (sym c.edit_next.ensures.same) all.0, all.1)
-
 pub returns-clause-more : goal.returns-clause-more
 returns-clause-more g c going pieces cs text before =
     let done = subst (λ v. HasDone v pieces cs text) (sym c.take_text-text.ensures.same) before in
@@ -103,49 +94,6 @@ returns-in_default-clause-end g c end ended pieces cs text before =
       subst (λ x. HasEnded x end (pieces ++ read.0) text) (sym at) (whole_end v mid end _ pieces cs read.0 text done read.2 (none.1, none.2) ended),
     )
 
-pub returns-clause-devices : goal.returns-clause-devices
-returns-clause-devices g c =
-    let read = c.edit_next.ensures.read in
-    elim c.match-edited.branch [
-      | in-Done+in_ok-write-in-Done w ↦
-          let shown = w.write.ensures.devices in
-          (read.0, shown.0, read.1, subst (λ s. g.W.Sink.took c.args.sink.now shown.0 s) (sym w.sink-is) shown.1)
-      | in-Faulty w ↦ (read.0, [], read.1, subst (λ s. g.W.Sink.took c.args.sink.now [] s) (sym w.sink-is) (g.met.W.Sink.took_nothing _))
-      | in-Failed w ↦ (read.0, [], read.1, subst (λ s. g.W.Sink.took c.args.sink.now [] s) (sym w.sink-is) (g.met.W.Sink.took_nothing _))
-    ]
-
-pub returns-in_err-write-in-Done-clause-front : goal.returns-in_err-write-in-Done-clause-front
-returns-in_err-write-in-Done-clause-front g c =
-    let read = c.edit_next.ensures.read in
-    let next = some_of (IsNextEdited c.take_text-text.new.self c.edit_next.new.self c.take_text-text.result.items c.edit_next.new.text.items) _ _ c.in_ok-len.ensures.chunk c.in-Some.is in
-    let cut = c.in_err-write-in-Done.ensures.front in
-    let Gave : List (List ℕ) → Type 0 = λ r. g.S.Source.gave c.args.source.now r c.edit_next.new.source in
-    let Took : List ℕ → Type 0 = λ s. g.W.Sink.took c.args.sink.now s c.write.new.sink in
-    on_err _ (subst (λ v. IsLeftByFault Gave Took v c.write.new.self) c.take_text-text.ensures.same
-    (left_by_write Gave Took _ c.edit_next.new.self c.write.new.self c.edit_next.new.self.ahead _ c.edit_next.new.text.items c.in-Some.field-0.edited _ c.in-Some.field-0.len cut.0 read.0
-    read.1 (subst (λ t. g.W.Sink.took c.args.sink.now (take cut.0 t) c.write.new.sink) c.as_slice.ensures.value cut.2)
-    read.2 next.chunk c.take_text-text.ensures.empty c.edit_next.ensures.same next.edited c.in-Done.is c.in_err-write-in-Done.ensures.same))
-
-pub returns-in_err-len-clause-bound : goal.returns-in_err-len-clause-bound
-returns-in_err-len-clause-bound g c =
-    let read = c.edit_next.ensures.read in
-    (read.0, read.1, read_within _ _ c.edit_next.new.self.ahead _ read.0 c.take_text-text.ensures.same read.2 c.edit_next.ensures.bound)
-
-pub returns-in_default-clause-bound : goal.returns-in_default-clause-bound
-returns-in_default-clause-bound g c =
-    let read = c.edit_next.ensures.read in
-    (read.0, read.1, read_within _ _ c.edit_next.new.self.ahead _ read.0 c.take_text-text.ensures.same read.2 c.edit_next.ensures.bound)
-
-pub returns-in_err-write-in-Done-clause-bound : goal.returns-in_err-write-in-Done-clause-bound
-returns-in_err-write-in-Done-clause-bound g c =
-    let read = c.edit_next.ensures.read in
-    (read.0, read.1, read_within _ _ c.edit_next.new.self.ahead _ read.0 c.take_text-text.ensures.same read.2 c.edit_next.ensures.bound)
-
-pub returns-clause-bound : goal.returns-clause-bound
-returns-clause-bound g c =
-    let read = c.edit_next.ensures.read in
-    (read.0, read.1, read_within _ _ c.edit_next.new.self.ahead _ read.0 c.take_text-text.ensures.same read.2 c.edit_next.ensures.bound)
-
 pub returns-in_err-len-clause-refused : goal.returns-in_err-len-clause-refused
 returns-in_err-len-clause-refused g c other long =
     let fault = c.from_residual in
@@ -154,13 +102,6 @@ returns-in_err-len-clause-refused g c other long =
     let long_there = subst (λ v. IsTooLong v.options.max_statement c.edit_next.new.self.ahead) c.edit_next.ensures.same long in
     refused_as fault.result p.0 p.1 (λ h. c.edit_next.ensures.runs.0 (told Stopped h)) (λ h. c.edit_next.ensures.runs.1 (told WriteFailed h))
     (λ h. (c.edit_next.ensures.uncertain (told InputTooLong h)).1 long_there)
-
-pub returns-in_err-len-clause-uncertain : goal.returns-in_err-len-clause-uncertain
-returns-in_err-len-clause-uncertain g c told =
-    let fault = c.from_residual in
-    let p = err_from_is_err_and fault.result fault.ensures.1 in
-    let there = c.edit_next.ensures.uncertain (c.in_err-len.was ∙ passed_on fault.result p.0 c.in_err-len.field-0.0 InputTooLong p.1 p.2 told) in
-    (there.0, λ long. there.1 (subst (λ v. IsTooLong v.options.max_statement c.edit_next.new.self.ahead) c.edit_next.ensures.same long))
 
 pub returns-in_default-clause-refused : goal.returns-in_default-clause-refused
 returns-in_default-clause-refused g c other long =
@@ -221,29 +162,6 @@ returns-clause-ready g c going =
       | in-Failed w ↦ goes_not_on c.match-edited.stage FirstFailure going w.stage-is
     ]
 
-pub returns-in_err-len-clause-steady : goal.returns-in_err-len-clause-steady
-returns-in_err-len-clause-steady g c =
-    let fault = c.from_residual in
-    let p = err_from_is_err_and fault.result fault.ensures.1 in (
-      λ other. c.edit_next.ensures.steady (λ h. not_passed_on fault.result p.0 c.in_err-len.field-0.0 ReadFailed p.1 p.2 other (sym c.in_err-len.was ∙ h)),
-      λ _. refl,
-    )
-
-pub returns-clause-steady : goal.returns-clause-steady
-returns-clause-steady g c = (
-  λ _. c.edit_next.ensures.steady (λ h. ok_is_no_err _ _ ReadFailed c.in_ok-len.was h),
-  λ _. elim c.match-edited.branch [
-    | in-Done+in_ok-write-in-Done w ↦ ap g.W.Sink.failures w.sink-is ∙ w.in_ok-write-in-Done.ensures.steady
-    | in-Faulty w ↦ ap g.W.Sink.failures w.sink-is
-    | in-Failed w ↦ ap g.W.Sink.failures w.sink-is
-  ],
-)
-
-pub returns-in_err-len-clause-devices : goal.returns-in_err-len-clause-devices
-returns-in_err-len-clause-devices g c =
-    let read = c.edit_next.ensures.read in
-    (read.0, [], read.1, g.met.W.Sink.took_nothing _)
-
 pub returns-in_err-len-clause-end : goal.returns-in_err-len-clause-end
 returns-in_err-len-clause-end g c end ended =
     let fault = c.from_residual in
@@ -262,55 +180,11 @@ returns-in_err-len-clause-fits g c =
     let p = err_from_is_err_and fault.result fault.ensures.1 in
     err_on_ok _ fault.result p.0 p.1
 
-pub returns-in_err-len-clause-front : goal.returns-in_err-len-clause-front
-returns-in_err-len-clause-front g c =
-    let read = c.edit_next.ensures.read in
-    let Gave : List (List ℕ) → Type 0 = λ r. g.S.Source.gave c.args.source.now r c.edit_next.new.source in
-    let Took : List ℕ → Type 0 = λ s. g.W.Sink.took c.args.sink.now s c.args.sink.now in
-    on_err _ (subst (λ v. IsLeftByFault Gave Took v c.edit_next.new.self) c.take_text-text.ensures.same
-    (left_by_read Gave Took _ c.edit_next.new.self c.edit_next.new.self.ahead read.0 read.1 (g.met.W.Sink.took_nothing _) read.2 refl))
-
-pub returns-in_err-len-clause-read_failed : goal.returns-in_err-len-clause-read_failed
-returns-in_err-len-clause-read_failed g c told =
-    let fault = c.from_residual in
-    let p = err_from_is_err_and fault.result fault.ensures.1 in
-    c.edit_next.ensures.failed (c.in_err-len.was ∙ passed_on fault.result p.0 c.in_err-len.field-0.0 ReadFailed p.1 p.2 told)
-
-pub returns-in_err-len-clause-write_failed : goal.returns-in_err-len-clause-write_failed
-returns-in_err-len-clause-write_failed g c told =
-    let fault = c.from_residual in
-    let p = err_from_is_err_and fault.result fault.ensures.1 in
-    absurd (c.edit_next.ensures.runs.1 (c.in_err-len.was ∙ passed_on fault.result p.0 c.in_err-len.field-0.0 WriteFailed p.1 p.2 told))
-
-pub returns-in_err-len-clause-runs : goal.returns-in_err-len-clause-runs
-returns-in_err-len-clause-runs g c =
-    let fault = c.from_residual in
-    let p = err_from_is_err_and fault.result fault.ensures.1 in
-    (λ told. c.edit_next.ensures.runs.0 (c.in_err-len.was ∙ passed_on fault.result p.0 c.in_err-len.field-0.0 Stopped p.1 p.2 told), λ ok. ok_is_no_err fault.result _ p.0 ok p.1)
-
 pub returns-in_err-len-clause-same : goal.returns-in_err-len-clause-same
 returns-in_err-len-clause-same g c = same_run _ c.take_text-text.new.self c.edit_next.new.self c.edit_next.new.self.ahead c.edit_next.new.self.progress c.take_text-text.ensures.same c.edit_next.ensures.same
 
 pub returns-in_err-len-clause-stage : goal.returns-in_err-len-clause-stage
 returns-in_err-len-clause-stage g c = same_stage _ c.take_text-text.new.self c.edit_next.new.self c.edit_next.new.self.ahead c.edit_next.new.self.progress c.take_text-text.ensures.same c.edit_next.ensures.same
-
-pub returns-in_err-len-clause-statement_too_long : goal.returns-in_err-len-clause-statement_too_long
-returns-in_err-len-clause-statement_too_long g c line told =
-    let fault = c.from_residual in
-    let p = err_from_is_err_and fault.result fault.ensures.1 in
-    let there = c.edit_next.ensures.statement_too_long line (c.in_err-len.was ∙ passed_on fault.result p.0 c.in_err-len.field-0.0 (StatementTooLong line) p.1 p.2 told) in
-    (there.0 ∙ ap (λ v. v.progress.line) c.take_text-text.ensures.same, subst (λ v. IsTooLong v.options.max_statement c.edit_next.new.self.ahead) (sym c.edit_next.ensures.same) there.1)
-
-pub returns-in_err-len-clause-unwritten : goal.returns-in_err-len-clause-unwritten
-returns-in_err-len-clause-unwritten g c =
-    let same : c.from_residual.result ≢ Err WriteFailed → c.args.sink.now ≡ c.args.sink.now = λ other. refl in
-    on_err _ same
-
-pub returns-in_err-write-in-Done-clause-devices : goal.returns-in_err-write-in-Done-clause-devices
-returns-in_err-write-in-Done-clause-devices g c =
-    let read = c.edit_next.ensures.read in
-    let shown = c.write.ensures.devices in
-    (read.0, shown.0, read.1, shown.1)
 
 pub returns-in_err-write-in-Done-clause-end : goal.returns-in_err-write-in-Done-clause-end
 returns-in_err-write-in-Done-clause-end g c end ended =
@@ -330,139 +204,23 @@ returns-in_err-write-in-Done-clause-fits g c =
     let p = err_from_is_err_and fault.result fault.ensures.1 in
     err_on_ok _ fault.result p.0 p.1
 
-pub returns-in_err-write-in-Done-clause-read_failed : goal.returns-in_err-write-in-Done-clause-read_failed
-returns-in_err-write-in-Done-clause-read_failed g c told =
-    let fault = c.from_residual-in_err-write-in-Done in
-    let p = err_from_is_err_and fault.result fault.ensures.1 in
-    let is : fault.result ≡ Err WriteFailed = p.1 ∙ ap Err (p.2 ∙ err_is c.in_err-write-in-Done.field-0.0 WriteFailed c.in_err-write-in-Done.ensures.fault) in
-    unwritten_alone fault.result ReadFailed refl is told
-
-pub returns-in_err-write-in-Done-clause-too_long : goal.returns-in_err-write-in-Done-clause-too_long
-returns-in_err-write-in-Done-clause-too_long g c told =
-    let fault = c.from_residual-in_err-write-in-Done in
-    let p = err_from_is_err_and fault.result fault.ensures.1 in
-    let is : fault.result ≡ Err WriteFailed = p.1 ∙ ap Err (p.2 ∙ err_is c.in_err-write-in-Done.field-0.0 WriteFailed c.in_err-write-in-Done.ensures.fault) in
-    unwritten_alone fault.result InputTooLong refl is told
-
-pub returns-in_err-write-in-Done-clause-uncertain : goal.returns-in_err-write-in-Done-clause-uncertain
-returns-in_err-write-in-Done-clause-uncertain g c told =
-    let fault = c.from_residual-in_err-write-in-Done in
-    let p = err_from_is_err_and fault.result fault.ensures.1 in
-    let is : fault.result ≡ Err WriteFailed = p.1 ∙ ap Err (p.2 ∙ err_is c.in_err-write-in-Done.field-0.0 WriteFailed c.in_err-write-in-Done.ensures.fault) in
-    unwritten_alone fault.result InputTooLong refl is told
-
-pub returns-in_err-write-in-Done-clause-statement_too_long : goal.returns-in_err-write-in-Done-clause-statement_too_long
-returns-in_err-write-in-Done-clause-statement_too_long g c line told =
-    let fault = c.from_residual-in_err-write-in-Done in
-    let p = err_from_is_err_and fault.result fault.ensures.1 in
-    let is : fault.result ≡ Err WriteFailed = p.1 ∙ ap Err (p.2 ∙ err_is c.in_err-write-in-Done.field-0.0 WriteFailed c.in_err-write-in-Done.ensures.fault) in
-    unwritten_alone fault.result (StatementTooLong line) refl is told
-
-pub returns-in_err-write-in-Done-clause-runs : goal.returns-in_err-write-in-Done-clause-runs
-returns-in_err-write-in-Done-clause-runs g c =
-    let fault = c.from_residual-in_err-write-in-Done in
-    let p = err_from_is_err_and fault.result fault.ensures.1 in
-    let is : fault.result ≡ Err WriteFailed = p.1 ∙ ap Err (p.2 ∙ err_is c.in_err-write-in-Done.field-0.0 WriteFailed c.in_err-write-in-Done.ensures.fault) in
-    (λ told. unwritten_alone fault.result Stopped refl is told, λ ok. ok_is_no_err fault.result _ p.0 ok p.1)
-
 pub returns-in_err-write-in-Done-clause-same : goal.returns-in_err-write-in-Done-clause-same
 returns-in_err-write-in-Done-clause-same g c = same_run _ c.take_text-text.new.self c.write.new.self c.edit_next.new.self.ahead c.edit_next.new.self.progress c.take_text-text.ensures.same (c.in_err-write-in-Done.ensures.same ∙ c.edit_next.ensures.same)
 
 pub returns-in_err-write-in-Done-clause-stage : goal.returns-in_err-write-in-Done-clause-stage
 returns-in_err-write-in-Done-clause-stage g c = same_stage _ c.take_text-text.new.self c.write.new.self c.edit_next.new.self.ahead c.edit_next.new.self.progress c.take_text-text.ensures.same (c.in_err-write-in-Done.ensures.same ∙ c.edit_next.ensures.same)
 
-pub returns-in_err-write-in-Done-clause-steady : goal.returns-in_err-write-in-Done-clause-steady
-returns-in_err-write-in-Done-clause-steady g c =
-    let fault = c.from_residual-in_err-write-in-Done in
-    let p = err_from_is_err_and fault.result fault.ensures.1 in
-    let is : fault.result ≡ Err WriteFailed = p.1 ∙ ap Err (p.2 ∙ err_is c.in_err-write-in-Done.field-0.0 WriteFailed c.in_err-write-in-Done.ensures.fault) in
-    (λ _. c.edit_next.ensures.steady (λ h. ok_is_no_err _ _ ReadFailed c.in_ok-len.was h), λ other. absurd (other is))
-
-pub returns-in_err-write-in-Done-clause-unwritten : goal.returns-in_err-write-in-Done-clause-unwritten
-returns-in_err-write-in-Done-clause-unwritten g c =
-    let fault = c.from_residual-in_err-write-in-Done in
-    let p = err_from_is_err_and fault.result fault.ensures.1 in
-    let is : fault.result ≡ Err WriteFailed = p.1 ∙ ap Err (p.2 ∙ err_is c.in_err-write-in-Done.field-0.0 WriteFailed c.in_err-write-in-Done.ensures.fault) in
-    let same : fault.result ≢ Err WriteFailed → c.write.new.sink ≡ c.args.sink.now = λ other. absurd (other is) in
-    on_err _ same
-
-pub returns-in_err-write-in-Done-clause-write_failed : goal.returns-in_err-write-in-Done-clause-write_failed
-returns-in_err-write-in-Done-clause-write_failed g c told = c.in_err-write-in-Done.ensures.failed
-
-pub returns-in_default-clause-devices : goal.returns-in_default-clause-devices
-returns-in_default-clause-devices g c =
-    let read = c.edit_next.ensures.read in
-    (read.0, [], read.1, g.met.W.Sink.took_nothing _)
-
 pub returns-in_default-clause-fits : goal.returns-in_default-clause-fits
 returns-in_default-clause-fits g c = c.in_ok-len.ensures.fits
 
-pub returns-in_default-clause-front : goal.returns-in_default-clause-front
-returns-in_default-clause-front g c = tt
-
-pub returns-in_default-clause-unwritten : goal.returns-in_default-clause-unwritten
-returns-in_default-clause-unwritten g c = tt
-
-pub returns-clause-front : goal.returns-clause-front
-returns-clause-front g c = tt
-
-pub returns-clause-unwritten : goal.returns-clause-unwritten
-returns-clause-unwritten g c = tt
-
 pub returns-in_default-clause-more : goal.returns-in_default-clause-more
 returns-in_default-clause-more g c going = goes_not_on (Ended Whole) Whole going refl
-
-pub returns-in_default-clause-too_long : goal.returns-in_default-clause-too_long
-returns-in_default-clause-too_long g c told = absurd (ok_is_no_err _ _ InputTooLong refl told)
-
-pub returns-in_default-clause-uncertain : goal.returns-in_default-clause-uncertain
-returns-in_default-clause-uncertain g c told = absurd (ok_is_no_err _ _ InputTooLong refl told)
-
-pub returns-in_default-clause-read_failed : goal.returns-in_default-clause-read_failed
-returns-in_default-clause-read_failed g c told = absurd (ok_is_no_err _ _ ReadFailed refl told)
-
-pub returns-in_default-clause-write_failed : goal.returns-in_default-clause-write_failed
-returns-in_default-clause-write_failed g c told = absurd (ok_is_no_err _ _ WriteFailed refl told)
-
-pub returns-in_default-clause-statement_too_long : goal.returns-in_default-clause-statement_too_long
-returns-in_default-clause-statement_too_long g c line told = absurd (ok_is_no_err _ _ (StatementTooLong line) refl told)
-
-pub returns-clause-too_long : goal.returns-clause-too_long
-returns-clause-too_long g c told = absurd (ok_is_no_err _ _ InputTooLong refl told)
-
-pub returns-clause-uncertain : goal.returns-clause-uncertain
-returns-clause-uncertain g c told = absurd (ok_is_no_err _ _ InputTooLong refl told)
-
-pub returns-clause-read_failed : goal.returns-clause-read_failed
-returns-clause-read_failed g c told = absurd (ok_is_no_err _ _ ReadFailed refl told)
-
-pub returns-clause-write_failed : goal.returns-clause-write_failed
-returns-clause-write_failed g c told = absurd (ok_is_no_err _ _ WriteFailed refl told)
-
-pub returns-clause-statement_too_long : goal.returns-clause-statement_too_long
-returns-clause-statement_too_long g c line told = absurd (ok_is_no_err _ _ (StatementTooLong line) refl told)
-
-pub returns-in_default-clause-runs : goal.returns-in_default-clause-runs
-returns-in_default-clause-runs g c = (λ told. ok_is_no_err _ _ _ refl told, λ ok. ended_not_stopped (Ended Whole) Whole refl (ok_same _ _ _ refl ok))
 
 pub returns-in_default-clause-same : goal.returns-in_default-clause-same
 returns-in_default-clause-same g c = same_run _ c.take_text-text.new.self c.edit_next.new.self c.edit_next.new.self.ahead c.edit_next.new.self.progress c.take_text-text.ensures.same c.edit_next.ensures.same
 
 pub returns-in_default-clause-stage : goal.returns-in_default-clause-stage
 returns-in_default-clause-stage g c = same_stage _ c.take_text-text.new.self c.edit_next.new.self c.edit_next.new.self.ahead c.edit_next.new.self.progress c.take_text-text.ensures.same c.edit_next.ensures.same
-
-pub returns-in_default-clause-steady : goal.returns-in_default-clause-steady
-returns-in_default-clause-steady g c = (λ _. c.edit_next.ensures.steady (λ h. ok_is_no_err _ _ ReadFailed c.in_ok-len.was h), λ _. refl)
-
-pub returns-clause-runs : goal.returns-clause-runs
-returns-clause-runs g c = (
-  λ told. ok_is_no_err _ _ _ refl told,
-  λ ok. elim c.match-edited.branch [
-    | in-Done+in_ok-write-in-Done w ↦ going_not_stopped c.match-edited.stage w.stage-is (ok_same _ _ _ refl ok)
-    | in-Faulty w ↦ ended_not_stopped c.match-edited.stage _ w.stage-is (ok_same _ _ _ refl ok)
-    | in-Failed w ↦ ended_not_stopped c.match-edited.stage _ w.stage-is (ok_same _ _ _ refl ok)
-  ],
-)
 
 pub returns-clause-fits : goal.returns-clause-fits
 returns-clause-fits g c =
@@ -504,3 +262,135 @@ edit_next-requires-clause-stopped g c = ap (λ x. x.stage) c.take_text-text.ensu
 
 pub write-requires-clause-stopped : goal.write-requires-clause-stopped
 write-requires-clause-stopped g c = same_stage _ c.take_text-text.new.self c.edit_next.new.self c.edit_next.new.self.ahead c.edit_next.new.self.progress c.take_text-text.ensures.same c.edit_next.ensures.same ∙ c.requires.stopped
+
+pub returns-in_err-len-clause-goes : goal.returns-in_err-len-clause-goes
+returns-in_err-len-clause-goes g c =
+    let fault = c.from_residual in
+    let p = err_from_is_err_and fault.result fault.ensures.1 in
+    λ ok. ok_is_no_err fault.result _ p.0 ok p.1
+
+pub returns-in_err-len-clause-steps : goal.returns-in_err-len-clause-steps
+returns-in_err-len-clause-steps g c =
+    let fault = c.from_residual in
+    let p = err_from_is_err_and fault.result fault.ensures.1 in
+    let read = c.edit_next.ensures.read in
+    record {
+      too_long = λ told pieces cs text before. let done = subst (λ v. HasDone v pieces cs text) (sym c.take_text-text.ensures.same) before in
+          let same : (let fault : RunFault = InputTooLong in fault) ≡ c.in_err-len.field-0.0 = subst (λ r. IsErrAnd r (λ e. e ≡ c.in_err-len.field-0.0)) told c.from_residual.ensures.1 in
+          let full = c.edit_next.ensures.too_long (c.in_err-len.was ∙ ap Err (sym same)) in
+          let all = too_long_there _ c.edit_next.new.self.ahead _ pieces cs read.0 text done read.2 full.0 full.1 in
+          (read.0, read.1, subst (λ v. length (pieces ++ read.0) ≡ v.options.max_reads) (sym c.edit_next.ensures.same) all.0, all.1);
+      uncertain = λ told. let there = c.edit_next.ensures.uncertain (c.in_err-len.was ∙ passed_on fault.result p.0 c.in_err-len.field-0.0 InputTooLong p.1 p.2 told) in
+          (there.0, λ long. there.1 (subst (λ v. IsTooLong v.options.max_statement c.edit_next.new.self.ahead) c.edit_next.ensures.same long));
+      statement_too_long = λ line told. let there = c.edit_next.ensures.statement_too_long line (c.in_err-len.was ∙ passed_on fault.result p.0 c.in_err-len.field-0.0 (StatementTooLong line) p.1 p.2 told) in
+          (there.0 ∙ ap (λ v. v.progress.line) c.take_text-text.ensures.same, subst (λ v. IsTooLong v.options.max_statement c.edit_next.new.self.ahead) (sym c.edit_next.ensures.same) there.1);
+      front = let Gave : List (List ℕ) → Type 0 = λ r. g.S.Source.gave c.args.source.now r c.edit_next.new.source in
+          let Took : List ℕ → Type 0 = λ s. g.W.Sink.took c.args.sink.now s c.args.sink.now in
+          on_err _ (subst (λ v. IsLeftByFault Gave Took v c.edit_next.new.self) c.take_text-text.ensures.same
+          (left_by_read Gave Took _ c.edit_next.new.self c.edit_next.new.self.ahead read.0 read.1 (g.met.W.Sink.took_nothing _) read.2 refl));
+      unwritten = let same : c.from_residual.result ≢ Err WriteFailed → c.args.sink.now ≡ c.args.sink.now = λ other. refl in
+          on_err _ same;
+      read_failed = λ told. c.edit_next.ensures.failed (c.in_err-len.was ∙ passed_on fault.result p.0 c.in_err-len.field-0.0 ReadFailed p.1 p.2 told);
+      write_failed = λ told. absurd (c.edit_next.ensures.runs.1 (c.in_err-len.was ∙ passed_on fault.result p.0 c.in_err-len.field-0.0 WriteFailed p.1 p.2 told));
+      steady = (
+        λ other. c.edit_next.ensures.steady (λ h. not_passed_on fault.result p.0 c.in_err-len.field-0.0 ReadFailed p.1 p.2 other (sym c.in_err-len.was ∙ h)),
+        λ _. refl,
+      );
+      devices = (read.0, [], read.1, g.met.W.Sink.took_nothing _);
+      bound = (read.0, read.1, read_within _ _ c.edit_next.new.self.ahead _ read.0 c.take_text-text.ensures.same read.2 c.edit_next.ensures.bound);
+      runs = λ told. c.edit_next.ensures.runs.0 (c.in_err-len.was ∙ passed_on fault.result p.0 c.in_err-len.field-0.0 Stopped p.1 p.2 told);
+    }
+
+pub returns-in_err-write-in-Done-clause-goes : goal.returns-in_err-write-in-Done-clause-goes
+returns-in_err-write-in-Done-clause-goes g c =
+    let fault = c.from_residual-in_err-write-in-Done in
+    let p = err_from_is_err_and fault.result fault.ensures.1 in
+    λ ok. ok_is_no_err fault.result _ p.0 ok p.1
+
+pub returns-in_err-write-in-Done-clause-steps : goal.returns-in_err-write-in-Done-clause-steps
+returns-in_err-write-in-Done-clause-steps g c =
+    let fault = c.from_residual-in_err-write-in-Done in
+    let p = err_from_is_err_and fault.result fault.ensures.1 in
+    let is : fault.result ≡ Err WriteFailed = p.1 ∙ ap Err (p.2 ∙ err_is c.in_err-write-in-Done.field-0.0 WriteFailed c.in_err-write-in-Done.ensures.fault) in
+    let read = c.edit_next.ensures.read in
+    record {
+      too_long = λ told. unwritten_alone fault.result InputTooLong refl is told;
+      uncertain = λ told. unwritten_alone fault.result InputTooLong refl is told;
+      statement_too_long = λ line told. unwritten_alone fault.result (StatementTooLong line) refl is told;
+      front = let next = some_of (IsNextEdited c.take_text-text.new.self c.edit_next.new.self c.take_text-text.result.items c.edit_next.new.text.items) _ _ c.in_ok-len.ensures.chunk c.in-Some.is in
+          let cut = c.in_err-write-in-Done.ensures.front in
+          let Gave : List (List ℕ) → Type 0 = λ r. g.S.Source.gave c.args.source.now r c.edit_next.new.source in
+          let Took : List ℕ → Type 0 = λ s. g.W.Sink.took c.args.sink.now s c.write.new.sink in
+          on_err _ (subst (λ v. IsLeftByFault Gave Took v c.write.new.self) c.take_text-text.ensures.same
+          (left_by_write Gave Took _ c.edit_next.new.self c.write.new.self c.edit_next.new.self.ahead _ c.edit_next.new.text.items c.in-Some.field-0.edited _ c.in-Some.field-0.len cut.0 read.0
+          read.1 (subst (λ t. g.W.Sink.took c.args.sink.now (take cut.0 t) c.write.new.sink) c.as_slice.ensures.value cut.2)
+          read.2 next.chunk c.take_text-text.ensures.empty c.edit_next.ensures.same next.edited c.in-Done.is c.in_err-write-in-Done.ensures.same));
+      unwritten = let same : fault.result ≢ Err WriteFailed → c.write.new.sink ≡ c.args.sink.now = λ other. absurd (other is) in
+          on_err _ same;
+      read_failed = λ told. unwritten_alone fault.result ReadFailed refl is told;
+      write_failed = λ told. c.in_err-write-in-Done.ensures.failed;
+      steady = (λ _. c.edit_next.ensures.steady (λ h. ok_is_no_err _ _ ReadFailed c.in_ok-len.was h), λ other. absurd (other is));
+      devices = let shown = c.write.ensures.devices in
+          (read.0, shown.0, read.1, shown.1);
+      bound = (read.0, read.1, read_within _ _ c.edit_next.new.self.ahead _ read.0 c.take_text-text.ensures.same read.2 c.edit_next.ensures.bound);
+      runs = λ told. unwritten_alone fault.result Stopped refl is told;
+    }
+
+pub returns-in_default-clause-goes : goal.returns-in_default-clause-goes
+returns-in_default-clause-goes g c =
+    λ ok. ended_not_stopped (Ended Whole) Whole refl (ok_same _ _ _ refl ok)
+
+pub returns-in_default-clause-steps : goal.returns-in_default-clause-steps
+returns-in_default-clause-steps g c =
+    let read = c.edit_next.ensures.read in
+    record {
+      too_long = λ told. absurd (ok_is_no_err _ _ InputTooLong refl told);
+      uncertain = λ told. absurd (ok_is_no_err _ _ InputTooLong refl told);
+      statement_too_long = λ line told. absurd (ok_is_no_err _ _ (StatementTooLong line) refl told);
+      front = tt;
+      unwritten = tt;
+      read_failed = λ told. absurd (ok_is_no_err _ _ ReadFailed refl told);
+      write_failed = λ told. absurd (ok_is_no_err _ _ WriteFailed refl told);
+      steady = (λ _. c.edit_next.ensures.steady (λ h. ok_is_no_err _ _ ReadFailed c.in_ok-len.was h), λ _. refl);
+      devices = (read.0, [], read.1, g.met.W.Sink.took_nothing _);
+      bound = (read.0, read.1, read_within _ _ c.edit_next.new.self.ahead _ read.0 c.take_text-text.ensures.same read.2 c.edit_next.ensures.bound);
+      runs = λ told. ok_is_no_err _ _ _ refl told;
+    }
+
+pub returns-clause-goes : goal.returns-clause-goes
+returns-clause-goes g c =
+    λ ok. elim c.match-edited.branch [
+      | in-Done+in_ok-write-in-Done w ↦ going_not_stopped c.match-edited.stage w.stage-is (ok_same _ _ _ refl ok)
+      | in-Faulty w ↦ ended_not_stopped c.match-edited.stage _ w.stage-is (ok_same _ _ _ refl ok)
+      | in-Failed w ↦ ended_not_stopped c.match-edited.stage _ w.stage-is (ok_same _ _ _ refl ok)
+    ]
+
+pub returns-clause-steps : goal.returns-clause-steps
+returns-clause-steps g c =
+    let read = c.edit_next.ensures.read in
+    record {
+      too_long = λ told. absurd (ok_is_no_err _ _ InputTooLong refl told);
+      uncertain = λ told. absurd (ok_is_no_err _ _ InputTooLong refl told);
+      statement_too_long = λ line told. absurd (ok_is_no_err _ _ (StatementTooLong line) refl told);
+      front = tt;
+      unwritten = tt;
+      read_failed = λ told. absurd (ok_is_no_err _ _ ReadFailed refl told);
+      write_failed = λ told. absurd (ok_is_no_err _ _ WriteFailed refl told);
+      steady = (
+        λ _. c.edit_next.ensures.steady (λ h. ok_is_no_err _ _ ReadFailed c.in_ok-len.was h),
+        λ _. elim c.match-edited.branch [
+          | in-Done+in_ok-write-in-Done w ↦ ap g.W.Sink.failures w.sink-is ∙ w.in_ok-write-in-Done.ensures.steady
+          | in-Faulty w ↦ ap g.W.Sink.failures w.sink-is
+          | in-Failed w ↦ ap g.W.Sink.failures w.sink-is
+        ],
+      );
+      devices = elim c.match-edited.branch [
+        | in-Done+in_ok-write-in-Done w ↦
+            let shown = w.write.ensures.devices in
+            (read.0, shown.0, read.1, subst (λ s. g.W.Sink.took c.args.sink.now shown.0 s) (sym w.sink-is) shown.1)
+        | in-Faulty w ↦ (read.0, [], read.1, subst (λ s. g.W.Sink.took c.args.sink.now [] s) (sym w.sink-is) (g.met.W.Sink.took_nothing _))
+        | in-Failed w ↦ (read.0, [], read.1, subst (λ s. g.W.Sink.took c.args.sink.now [] s) (sym w.sink-is) (g.met.W.Sink.took_nothing _))
+      ];
+      bound = (read.0, read.1, read_within _ _ c.edit_next.new.self.ahead _ read.0 c.take_text-text.ensures.same read.2 c.edit_next.ensures.bound);
+      runs = λ told. ok_is_no_err _ _ _ refl told;
+    }

@@ -12,23 +12,9 @@ use Rattle.bz_engine.proofs.Faults.{refused_on, not_refused}
 use Rattle.bz_engine.proofs.Runs.{ok_is_no_err}
 use Rattle.bz_engine.proofs.Advances.{restaged, left_before, on_err, which_end, more_is_no_end, end_is_not_more, ok_same}
 use Rattle.bz_engine.proofs.Kept.{session_stopped, session_at, ready_with, ok_on_err}
-use Rattle.bz_engine.proofs.Stages.{going_not_ended, going_not_stopped, ended_not_stopped, stage_is, stopped_alone}
+use Rattle.bz_engine.proofs.Stages.{going_not_ended, going_not_stopped, ended_not_stopped, stage_is}
 use Rattle.bz_engine.proofs.session.Session.step.Goals as goal
 use Rattle.bz_engine.proofs.session.Session.step.Goals.{in-Going-stage, in_default}
-
-pub returns-in_err-self-inside-clause-too_long : goal.returns-in_err-self-inside-clause-too_long
-returns-in_err-self-inside-clause-too_long g c told pieces cs text before =
-    let done = restaged _ Stopped pieces cs text (subst (λ v. HasDone v pieces cs text) (sym c.self.view_is) before) in
-    let same : (let fault : RunFault = InputTooLong in fault) ≡ c.in_err-self-inside.field-0.0 = subst (λ r. IsErrAnd r (λ e. e ≡ c.in_err-self-inside.field-0.0)) told c.from_residual.ensures.1 in
-    c.advance.ensures.too_long (c.in_err-self-inside.was ∙ ap Err (sym same)) pieces cs text done
-
-pub returns-in_err-self-inside-clause-front : goal.returns-in_err-self-inside-clause-front
-returns-in_err-self-inside-clause-front g c =
-    let Gave : List (List ℕ) → Type 0 = λ read. g.S.Source.gave c.args.source.now read c.advance.new.source in
-    let Took : List ℕ → Type 0 = λ shown. g.W.Sink.took c.args.sink.now shown c.advance.new.sink in
-    let left : c.args.self.now.stage ≡ Going → IsLeftByFault Gave Took c.args.self.now c.advance.new.self =
-    λ going. subst (λ v. IsLeftByFault Gave Took v c.advance.new.self) c.self.view_is (left_before Gave Took _ c.advance.new.self Stopped c.in_err-self-inside.ensures.front) in
-    on_err _ left
 
 pub returns-clause-more : goal.returns-clause-more
 returns-clause-more g c told =
@@ -60,7 +46,7 @@ returns-clause-end g c told going =
     elim c.match-self-2.branch [
       | in-Going-stage w ↦ end_is_not_more c.match-self-2.result told w.result-is
       | in_default w ↦
-          let last = which_end c.in_ok-self-inside.field-0 w.in_default.not-Going (λ h. c.advance.ensures.runs.1 (c.in_ok-self-inside.was ∙ ap Ok h)) in (
+          let last = which_end c.in_ok-self-inside.field-0 w.in_default.not-Going (λ h. c.advance.ensures.goes (c.in_ok-self-inside.was ∙ ap Ok h)) in (
             last.0,
             last.1,
             λ pieces cs text before.
@@ -74,22 +60,6 @@ returns-clause-end g c told going =
                 ),
           )
     ]
-
-pub returns-in-Stopped-clause-devices : goal.returns-in-Stopped-clause-devices
-returns-in-Stopped-clause-devices g c = ([], [], g.met.S.Source.gave_nothing _, g.met.W.Sink.took_nothing _)
-
-pub returns-in-Ended-clause-devices : goal.returns-in-Ended-clause-devices
-returns-in-Ended-clause-devices g c = ([], [], g.met.S.Source.gave_nothing _, g.met.W.Sink.took_nothing _)
-
-pub returns-in_err-self-inside-clause-bound : goal.returns-in_err-self-inside-clause-bound
-returns-in_err-self-inside-clause-bound g c going =
-    let few = c.advance.ensures.bound in
-    (few.0, few.1, subst (λ v. length (v.ahead.bytes ++ joined few.0) ≤ v.options.max_statement + 8192) c.self.view_is few.2)
-
-pub returns-clause-bound : goal.returns-clause-bound
-returns-clause-bound g c going =
-    let few = c.advance.ensures.bound in
-    (few.0, few.1, subst (λ v. length (v.ahead.bytes ++ joined few.0) ≤ v.options.max_statement + 8192) c.self.view_is few.2)
 
 pub returns-in_err-self-inside-clause-refused : goal.returns-in_err-self-inside-clause-refused
 returns-in_err-self-inside-clause-refused g c going other long =
@@ -107,15 +77,6 @@ returns-clause-refused g c going other long =
           (subst (λ v. IsTooLong v.options.max_statement v.ahead) c.self-2.view_is long)))
     ]
 
-pub returns-in_err-self-inside-clause-steady : goal.returns-in_err-self-inside-clause-steady
-returns-in_err-self-inside-clause-steady g c =
-    let fault = c.from_residual in
-    let p = err_from_is_err_and fault.result fault.ensures.1 in
-    let was = c.in_err-self-inside.was in
-    let same = λ (e : RunFault) (other : fault.result ≢ Err e) (h : c.advance.result ≡ Err e).
-    not_passed_on fault.result p.0 c.in_err-self-inside.field-0.0 e p.1 p.2 other (sym was ∙ h) in
-    (λ other. c.advance.ensures.steady.0 (same ReadFailed other), λ other. c.advance.ensures.steady.1 (same WriteFailed other))
-
 pub invariant_of-self : goal.invariant_of-self
 invariant_of-self g c = session_stopped _ c.self.invariant
 
@@ -126,52 +87,6 @@ invariant_of-self-2 g c =
 
 pub advance-requires-clause-ready : goal.advance-requires-clause-ready
 advance-requires-clause-ready g c = ready_with _ Stopped c.self.inside.failure (c.self.invariant.ready c.in-Going.is)
-
-pub returns-clause-too_long : goal.returns-clause-too_long
-returns-clause-too_long g c told =
-    elim c.match-self-2.branch [
-      | in-Going-stage w ↦ absurd (ok_is_no_err c.match-self-2.result _ InputTooLong w.result-is told)
-      | in_default w ↦ absurd (ok_is_no_err c.match-self-2.result _ InputTooLong w.result-is told)
-    ]
-
-pub returns-clause-statement_too_long : goal.returns-clause-statement_too_long
-returns-clause-statement_too_long g c line told =
-    elim c.match-self-2.branch [
-      | in-Going-stage w ↦ absurd (ok_is_no_err c.match-self-2.result _ (StatementTooLong line) w.result-is told)
-      | in_default w ↦ absurd (ok_is_no_err c.match-self-2.result _ (StatementTooLong line) w.result-is told)
-    ]
-
-pub returns-clause-front : goal.returns-clause-front
-returns-clause-front g c =
-    elim c.match-self-2.branch [
-      | in-Going-stage w ↦ ok_on_err _ c.match-self-2.result _ w.result-is
-      | in_default w ↦ ok_on_err _ c.match-self-2.result _ w.result-is
-    ]
-
-pub returns-clause-unwritten : goal.returns-clause-unwritten
-returns-clause-unwritten g c =
-    elim c.match-self-2.branch [
-      | in-Going-stage w ↦ ok_on_err _ c.match-self-2.result _ w.result-is
-      | in_default w ↦ ok_on_err _ c.match-self-2.result _ w.result-is
-    ]
-
-pub returns-clause-read_failed : goal.returns-clause-read_failed
-returns-clause-read_failed g c told =
-    elim c.match-self-2.branch [
-      | in-Going-stage w ↦ absurd (ok_is_no_err c.match-self-2.result _ ReadFailed w.result-is told)
-      | in_default w ↦ absurd (ok_is_no_err c.match-self-2.result _ ReadFailed w.result-is told)
-    ]
-
-pub returns-clause-steady : goal.returns-clause-steady
-returns-clause-steady g c =
-    let was = c.in_ok-self-inside.was in
-    (λ _. c.advance.ensures.steady.0 (λ h. ok_is_no_err _ _ ReadFailed was h), λ _. c.advance.ensures.steady.1 (λ h. ok_is_no_err _ _ WriteFailed was h))
-
-pub returns-in-Stopped-clause-steady : goal.returns-in-Stopped-clause-steady
-returns-in-Stopped-clause-steady g c = (λ _. refl, λ _. refl)
-
-pub returns-in-Ended-clause-steady : goal.returns-in-Ended-clause-steady
-returns-in-Ended-clause-steady g c = (λ _. refl, λ _. refl)
 
 pub returns-in-Stopped-clause-same : goal.returns-in-Stopped-clause-same
 returns-in-Stopped-clause-same g c = record { home = refl; passes = refl; options = refl }
@@ -188,35 +103,8 @@ returns-in-Stopped-clause-more g c told = absurd (ok_is_no_err _ _ _ told refl)
 pub returns-in-Stopped-clause-end : goal.returns-in-Stopped-clause-end
 returns-in-Stopped-clause-end g c told before = absurd (ok_is_no_err _ _ _ told refl)
 
-pub returns-in-Stopped-clause-too_long : goal.returns-in-Stopped-clause-too_long
-returns-in-Stopped-clause-too_long g c told = stopped_alone _ InputTooLong refl refl told
-
-pub returns-in-Stopped-clause-uncertain : goal.returns-in-Stopped-clause-uncertain
-returns-in-Stopped-clause-uncertain g c told = stopped_alone _ InputTooLong refl refl told
-
-pub returns-in-Stopped-clause-statement_too_long : goal.returns-in-Stopped-clause-statement_too_long
-returns-in-Stopped-clause-statement_too_long g c line told = stopped_alone _ (StatementTooLong line) refl refl told
-
 pub returns-in-Stopped-clause-refused : goal.returns-in-Stopped-clause-refused
 returns-in-Stopped-clause-refused g c going = going_not_stopped _ going (stage_is _ _ _ c.self.view_is c.in-Stopped.is)
-
-pub returns-in-Stopped-clause-front : goal.returns-in-Stopped-clause-front
-returns-in-Stopped-clause-front g c going = going_not_stopped _ going (stage_is _ _ _ c.self.view_is c.in-Stopped.is)
-
-pub returns-in-Stopped-clause-bound : goal.returns-in-Stopped-clause-bound
-returns-in-Stopped-clause-bound g c going = going_not_stopped _ going (stage_is _ _ _ c.self.view_is c.in-Stopped.is)
-
-pub returns-in-Stopped-clause-runs : goal.returns-in-Stopped-clause-runs
-returns-in-Stopped-clause-runs g c going = going_not_stopped _ going (stage_is _ _ _ c.self.view_is c.in-Stopped.is)
-
-pub returns-in-Stopped-clause-unwritten : goal.returns-in-Stopped-clause-unwritten
-returns-in-Stopped-clause-unwritten g c other = refl
-
-pub returns-in-Stopped-clause-read_failed : goal.returns-in-Stopped-clause-read_failed
-returns-in-Stopped-clause-read_failed g c told = stopped_alone _ ReadFailed refl refl told
-
-pub returns-in-Stopped-clause-write_failed : goal.returns-in-Stopped-clause-write_failed
-returns-in-Stopped-clause-write_failed g c told = stopped_alone _ WriteFailed refl refl told
 
 pub returns-in-Stopped-clause-stops : goal.returns-in-Stopped-clause-stops
 returns-in-Stopped-clause-stops g c = stage_is _ _ _ c.self.view_is c.in-Stopped.is
@@ -236,41 +124,11 @@ returns-in-Ended-clause-more g c told = more_is_no_end _ told refl
 pub returns-in-Ended-clause-end : goal.returns-in-Ended-clause-end
 returns-in-Ended-clause-end g c told going = going_not_ended _ _ going (stage_is _ _ _ c.self.view_is c.in-Ended.is)
 
-pub returns-in-Ended-clause-too_long : goal.returns-in-Ended-clause-too_long
-returns-in-Ended-clause-too_long g c told = absurd (ok_is_no_err _ _ InputTooLong refl told)
-
-pub returns-in-Ended-clause-uncertain : goal.returns-in-Ended-clause-uncertain
-returns-in-Ended-clause-uncertain g c told = absurd (ok_is_no_err _ _ InputTooLong refl told)
-
-pub returns-in-Ended-clause-read_failed : goal.returns-in-Ended-clause-read_failed
-returns-in-Ended-clause-read_failed g c told = absurd (ok_is_no_err _ _ ReadFailed refl told)
-
-pub returns-in-Ended-clause-write_failed : goal.returns-in-Ended-clause-write_failed
-returns-in-Ended-clause-write_failed g c told = absurd (ok_is_no_err _ _ WriteFailed refl told)
-
-pub returns-in-Ended-clause-statement_too_long : goal.returns-in-Ended-clause-statement_too_long
-returns-in-Ended-clause-statement_too_long g c line told = absurd (ok_is_no_err _ _ (StatementTooLong line) refl told)
-
 pub returns-in-Ended-clause-refused : goal.returns-in-Ended-clause-refused
 returns-in-Ended-clause-refused g c going = going_not_ended _ _ going (stage_is _ _ _ c.self.view_is c.in-Ended.is)
 
-pub returns-in-Ended-clause-bound : goal.returns-in-Ended-clause-bound
-returns-in-Ended-clause-bound g c going = going_not_ended _ _ going (stage_is _ _ _ c.self.view_is c.in-Ended.is)
-
-pub returns-in-Ended-clause-runs : goal.returns-in-Ended-clause-runs
-returns-in-Ended-clause-runs g c going = going_not_ended _ _ going (stage_is _ _ _ c.self.view_is c.in-Ended.is)
-
-pub returns-in-Ended-clause-front : goal.returns-in-Ended-clause-front
-returns-in-Ended-clause-front g c = tt
-
-pub returns-in-Ended-clause-unwritten : goal.returns-in-Ended-clause-unwritten
-returns-in-Ended-clause-unwritten g c = tt
-
 pub returns-in-Ended-clause-stops : goal.returns-in-Ended-clause-stops
 returns-in-Ended-clause-stops g c = tt
-
-pub returns-in_err-self-inside-clause-devices : goal.returns-in_err-self-inside-clause-devices
-returns-in_err-self-inside-clause-devices g c = c.advance.ensures.devices
 
 pub returns-in_err-self-inside-clause-same : goal.returns-in_err-self-inside-clause-same
 returns-in_err-self-inside-clause-same g c =
@@ -299,49 +157,8 @@ returns-in_err-self-inside-clause-more g c told =
     let p = err_from_is_err_and fault.result fault.ensures.1 in
     absurd (ok_is_no_err fault.result _ p.0 told p.1)
 
-pub returns-in_err-self-inside-clause-read_failed : goal.returns-in_err-self-inside-clause-read_failed
-returns-in_err-self-inside-clause-read_failed g c told =
-    let fault = c.from_residual in
-    let p = err_from_is_err_and fault.result fault.ensures.1 in
-    c.advance.ensures.read_failed (c.in_err-self-inside.was ∙ passed_on fault.result p.0 c.in_err-self-inside.field-0.0 ReadFailed p.1 p.2 told)
-
-pub returns-in_err-self-inside-clause-write_failed : goal.returns-in_err-self-inside-clause-write_failed
-returns-in_err-self-inside-clause-write_failed g c told =
-    let fault = c.from_residual in
-    let p = err_from_is_err_and fault.result fault.ensures.1 in
-    c.advance.ensures.write_failed (c.in_err-self-inside.was ∙ passed_on fault.result p.0 c.in_err-self-inside.field-0.0 WriteFailed p.1 p.2 told)
-
-pub returns-in_err-self-inside-clause-runs : goal.returns-in_err-self-inside-clause-runs
-returns-in_err-self-inside-clause-runs g c going told =
-    let fault = c.from_residual in
-    let p = err_from_is_err_and fault.result fault.ensures.1 in
-    c.advance.ensures.runs.0 (c.in_err-self-inside.was ∙ passed_on fault.result p.0 c.in_err-self-inside.field-0.0 _ p.1 p.2 told)
-
-pub returns-in_err-self-inside-clause-uncertain : goal.returns-in_err-self-inside-clause-uncertain
-returns-in_err-self-inside-clause-uncertain g c told =
-    let fault = c.from_residual in
-    let p = err_from_is_err_and fault.result fault.ensures.1 in
-    c.advance.ensures.uncertain (c.in_err-self-inside.was ∙ passed_on fault.result p.0 c.in_err-self-inside.field-0.0 InputTooLong p.1 p.2 told)
-
-pub returns-in_err-self-inside-clause-statement_too_long : goal.returns-in_err-self-inside-clause-statement_too_long
-returns-in_err-self-inside-clause-statement_too_long g c line told =
-    let fault = c.from_residual in
-    let p = err_from_is_err_and fault.result fault.ensures.1 in
-    let there = c.advance.ensures.statement_too_long line (c.in_err-self-inside.was ∙ passed_on fault.result p.0 c.in_err-self-inside.field-0.0 (StatementTooLong line) p.1 p.2 told) in
-    (there.0 ∙ ap (λ v. v.progress.line) c.self.view_is, there.1)
-
 pub returns-in_err-self-inside-clause-stops : goal.returns-in_err-self-inside-clause-stops
 returns-in_err-self-inside-clause-stops g c = on_err _ c.advance.ensures.stage
-
-pub returns-in_err-self-inside-clause-unwritten : goal.returns-in_err-self-inside-clause-unwritten
-returns-in_err-self-inside-clause-unwritten g c =
-    let fault = c.from_residual in
-    let p = err_from_is_err_and fault.result fault.ensures.1 in
-    let kept : fault.result ≢ Err WriteFailed → c.advance.new.sink ≡ c.args.sink.now = λ other. c.in_err-self-inside.ensures.unwritten (not_passed_on fault.result p.0 c.in_err-self-inside.field-0.0 WriteFailed p.1 p.2 other) in
-    on_err _ kept
-
-pub returns-clause-devices : goal.returns-clause-devices
-returns-clause-devices g c = c.advance.ensures.devices
 
 pub returns-clause-same : goal.returns-clause-same
 returns-clause-same g c =
@@ -358,27 +175,6 @@ returns-clause-ended g c end before = going_not_ended _ end (stage_is _ _ _ c.se
 pub returns-clause-stopped : goal.returns-clause-stopped
 returns-clause-stopped g c before = going_not_stopped _ (stage_is _ _ _ c.self.view_is c.in-Going.is) before
 
-pub returns-clause-runs : goal.returns-clause-runs
-returns-clause-runs g c going told =
-    elim c.match-self-2.branch [
-      | in-Going-stage w ↦ ok_is_no_err c.match-self-2.result _ _ w.result-is told
-      | in_default w ↦ ok_is_no_err c.match-self-2.result _ _ w.result-is told
-    ]
-
-pub returns-clause-uncertain : goal.returns-clause-uncertain
-returns-clause-uncertain g c told =
-    elim c.match-self-2.branch [
-      | in-Going-stage w ↦ absurd (ok_is_no_err c.match-self-2.result _ InputTooLong w.result-is told)
-      | in_default w ↦ absurd (ok_is_no_err c.match-self-2.result _ InputTooLong w.result-is told)
-    ]
-
-pub returns-clause-write_failed : goal.returns-clause-write_failed
-returns-clause-write_failed g c told =
-    elim c.match-self-2.branch [
-      | in-Going-stage w ↦ absurd (ok_is_no_err c.match-self-2.result _ WriteFailed w.result-is told)
-      | in_default w ↦ absurd (ok_is_no_err c.match-self-2.result _ WriteFailed w.result-is told)
-    ]
-
 pub returns-clause-stops : goal.returns-clause-stops
 returns-clause-stops g c =
     elim c.match-self-2.branch [
@@ -388,3 +184,80 @@ returns-clause-stops g c =
 
 pub advance-requires-clause-stopped : goal.advance-requires-clause-stopped
 advance-requires-clause-stopped g c = refl
+
+pub returns-in_err-self-inside-clause-steps : goal.returns-in_err-self-inside-clause-steps
+returns-in_err-self-inside-clause-steps g c going =
+    let fault = c.from_residual in
+    let p = err_from_is_err_and fault.result fault.ensures.1 in
+    record {
+      too_long = λ told pieces cs text before. let done = restaged _ Stopped pieces cs text (subst (λ v. HasDone v pieces cs text) (sym c.self.view_is) before) in
+          let same : (let fault : RunFault = InputTooLong in fault) ≡ c.in_err-self-inside.field-0.0 = subst (λ r. IsErrAnd r (λ e. e ≡ c.in_err-self-inside.field-0.0)) told c.from_residual.ensures.1 in
+          c.advance.ensures.steps.too_long (c.in_err-self-inside.was ∙ ap Err (sym same)) pieces cs text done;
+      uncertain = λ told. c.advance.ensures.steps.uncertain (c.in_err-self-inside.was ∙ passed_on fault.result p.0 c.in_err-self-inside.field-0.0 InputTooLong p.1 p.2 told);
+      statement_too_long = λ line told. let there = c.advance.ensures.steps.statement_too_long line (c.in_err-self-inside.was ∙ passed_on fault.result p.0 c.in_err-self-inside.field-0.0 (StatementTooLong line) p.1 p.2 told) in
+          (there.0 ∙ ap (λ v. v.progress.line) c.self.view_is, there.1);
+      front = let Gave : List (List ℕ) → Type 0 = λ read. g.S.Source.gave c.args.source.now read c.advance.new.source in
+          let Took : List ℕ → Type 0 = λ shown. g.W.Sink.took c.args.sink.now shown c.advance.new.sink in
+          let left : c.args.self.now.stage ≡ Going → IsLeftByFault Gave Took c.args.self.now c.advance.new.self =
+          λ going. subst (λ v. IsLeftByFault Gave Took v c.advance.new.self) c.self.view_is (left_before Gave Took _ c.advance.new.self Stopped c.in_err-self-inside.ensures.steps.front) in
+          on_err _ (left going);
+      unwritten = let kept : fault.result ≢ Err WriteFailed → c.advance.new.sink ≡ c.args.sink.now = λ other. c.in_err-self-inside.ensures.steps.unwritten (not_passed_on fault.result p.0 c.in_err-self-inside.field-0.0 WriteFailed p.1 p.2 other) in
+          on_err _ kept;
+      read_failed = λ told. c.advance.ensures.steps.read_failed (c.in_err-self-inside.was ∙ passed_on fault.result p.0 c.in_err-self-inside.field-0.0 ReadFailed p.1 p.2 told);
+      write_failed = λ told. c.advance.ensures.steps.write_failed (c.in_err-self-inside.was ∙ passed_on fault.result p.0 c.in_err-self-inside.field-0.0 WriteFailed p.1 p.2 told);
+      steady = let was = c.in_err-self-inside.was in
+          let same = λ (e : RunFault) (other : fault.result ≢ Err e) (h : c.advance.result ≡ Err e).
+          not_passed_on fault.result p.0 c.in_err-self-inside.field-0.0 e p.1 p.2 other (sym was ∙ h) in
+          (λ other. c.advance.ensures.steps.steady.0 (same ReadFailed other), λ other. c.advance.ensures.steps.steady.1 (same WriteFailed other));
+      devices = c.advance.ensures.steps.devices;
+      bound = let few = c.advance.ensures.steps.bound in
+          (few.0, few.1, subst (λ v. length (v.ahead.bytes ++ joined few.0) ≤ v.options.max_statement + 8192) c.self.view_is few.2);
+      runs = λ told. c.advance.ensures.steps.runs (c.in_err-self-inside.was ∙ passed_on fault.result p.0 c.in_err-self-inside.field-0.0 _ p.1 p.2 told);
+    }
+
+pub returns-clause-steps : goal.returns-clause-steps
+returns-clause-steps g c going = record {
+  too_long = λ told. elim c.match-self-2.branch [
+    | in-Going-stage w ↦ absurd (ok_is_no_err c.match-self-2.result _ InputTooLong w.result-is told)
+    | in_default w ↦ absurd (ok_is_no_err c.match-self-2.result _ InputTooLong w.result-is told)
+  ];
+  uncertain = λ told. elim c.match-self-2.branch [
+    | in-Going-stage w ↦ absurd (ok_is_no_err c.match-self-2.result _ InputTooLong w.result-is told)
+    | in_default w ↦ absurd (ok_is_no_err c.match-self-2.result _ InputTooLong w.result-is told)
+  ];
+  statement_too_long = λ line told. elim c.match-self-2.branch [
+    | in-Going-stage w ↦ absurd (ok_is_no_err c.match-self-2.result _ (StatementTooLong line) w.result-is told)
+    | in_default w ↦ absurd (ok_is_no_err c.match-self-2.result _ (StatementTooLong line) w.result-is told)
+  ];
+  front = elim c.match-self-2.branch [
+    | in-Going-stage w ↦ ok_on_err _ c.match-self-2.result _ w.result-is
+    | in_default w ↦ ok_on_err _ c.match-self-2.result _ w.result-is
+  ];
+  unwritten = elim c.match-self-2.branch [
+    | in-Going-stage w ↦ ok_on_err _ c.match-self-2.result _ w.result-is
+    | in_default w ↦ ok_on_err _ c.match-self-2.result _ w.result-is
+  ];
+  read_failed = λ told. elim c.match-self-2.branch [
+    | in-Going-stage w ↦ absurd (ok_is_no_err c.match-self-2.result _ ReadFailed w.result-is told)
+    | in_default w ↦ absurd (ok_is_no_err c.match-self-2.result _ ReadFailed w.result-is told)
+  ];
+  write_failed = λ told. elim c.match-self-2.branch [
+    | in-Going-stage w ↦ absurd (ok_is_no_err c.match-self-2.result _ WriteFailed w.result-is told)
+    | in_default w ↦ absurd (ok_is_no_err c.match-self-2.result _ WriteFailed w.result-is told)
+  ];
+  steady = let was = c.in_ok-self-inside.was in
+      (λ _. c.advance.ensures.steps.steady.0 (λ h. ok_is_no_err _ _ ReadFailed was h), λ _. c.advance.ensures.steps.steady.1 (λ h. ok_is_no_err _ _ WriteFailed was h));
+  devices = c.advance.ensures.steps.devices;
+  bound = let few = c.advance.ensures.steps.bound in
+      (few.0, few.1, subst (λ v. length (v.ahead.bytes ++ joined few.0) ≤ v.options.max_statement + 8192) c.self.view_is few.2);
+  runs = λ told. elim c.match-self-2.branch [
+    | in-Going-stage w ↦ ok_is_no_err c.match-self-2.result _ _ w.result-is told
+    | in_default w ↦ ok_is_no_err c.match-self-2.result _ _ w.result-is told
+  ];
+}
+
+pub returns-in-Stopped-clause-steps : goal.returns-in-Stopped-clause-steps
+returns-in-Stopped-clause-steps g c going = going_not_stopped _ going (stage_is _ _ _ c.self.view_is c.in-Stopped.is)
+
+pub returns-in-Ended-clause-steps : goal.returns-in-Ended-clause-steps
+returns-in-Ended-clause-steps g c going = going_not_ended _ _ going (stage_is _ _ _ c.self.view_is c.in-Ended.is)
