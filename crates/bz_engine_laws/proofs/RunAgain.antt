@@ -15,7 +15,7 @@ use Rattle.bz_rule_laws.proofs.CommandsAgain.{FindsNothing as SecondTime}
 use Rattle.bz_rule_laws.proofs.SpelledDone.{marks_spelled, settled_spelled}
 use Rattle.bz_engine.specs.Changes.{AreCommands}
 use Rattle.bz_engine.specs.Meaning.{meaning}
-use Rattle.bz_engine.specs.Outcome.{Script, Told, IsOutcome, is_query, slots_of, some_failure, status_of, text_after, told_by, told_of}
+use Rattle.bz_engine.specs.Outcome.{Run, Script, Told, IsOutcome, is_query, slots_of, some_failure, status_of, text_after, told_by, told_of}
 use Rattle.bz_engine.specs.declared.report.Report.{Report}
 use Rattle.bz_engine.proofs.OneOutcome.{one_outcome}
 use Rattle.bz_engine_laws.specs.Repeatable.{HasNamesOnce, are_passes_apart, is_looked_past, is_repeatable}
@@ -94,26 +94,28 @@ status_from failed changed = if failed then 2 else (if changed then 0 else 3)
 three : (failed changed : Bool) → failed ≡ false → changed ≡ false → status_from failed changed ≡ 3
 three failed changed calm quiet = rw (calm, quiet) refl
 
-pub twice : SecondTime → (home : Package) (passes : Script) (keep_going going : Bool) (depth : ℕ) (file text second : List ℕ) (report again : Report) → AreCommands passes → HaveUtf8Words passes → is_query passes ≡ false → 2 ≤ depth
-    → is_repeatable passes ≡ true → (run : IsOutcome home passes keep_going depth file text (told_by report)) → status_of report ≢ 2 → AllByRecursion HasNamesOnce (edited run)
-    → IsOutcome home passes going depth text second (told_by again) → (status_of again ≡ 3) × (second ≡ text)
-twice law home passes keep_going going depth file text second report again commands words query two repeatable run good names run2 =
+pub twice : SecondTime → (run : Run) (going : Bool) (file text second : List ℕ) (report again : Report) → AreCommands run.passes → HaveUtf8Words run.passes → is_query run.passes ≡ false → 2 ≤ run.max_depth
+    → is_repeatable run.passes ≡ true → (outcome : IsOutcome run file text (told_by report)) → status_of report ≢ 2 → AllByRecursion HasNamesOnce (edited outcome)
+    → IsOutcome (record run { keep_going = going }) text second (told_by again) → (status_of again ≡ 3) × (second ≡ text)
+twice law run going file text second report again commands words query two repeatable outcome good names run2 =
+    let home = run.home in
+    let passes = run.passes in
     let a = and_parts (list_all (λ p. list_all is_steady p.commands) passes) _ repeatable in
     let b = and_parts (list_all (λ p. is_looked_past passes p.target) passes) (are_passes_apart passes) a.1 in
-    let whole = status_whole home passes keep_going depth file text report run good in
+    let whole = status_whole run file text report outcome good in
     let done = whole.2 in
-    let same : edited run ≡ whole.1 = edited_all home passes keep_going depth file text (told_by report) run whole.1 done.read (λ e. whole.0) in
-    let calm : some_failure home passes (edited run) ≡ false = ap (some_failure home passes) same ∙ done.calm in
-    let present : some_missing (meaning home) passes (slots_of (edited run)) ≡ false = ap (λ ss. some_missing (meaning home) passes (slots_of ss)) same ∙ done.found in
-    let left = left_at_rest law home passes (edited run) commands repeatable names calm in
-    let back = reads_back home passes keep_going depth file text (told_by report) commands words query two run in
-    let rests = all_back home passes back.found (left_by home passes (edited run)) (edited run) a.0 (no_lines passes passes query b.0) back.same left.0 left.1 in
-    let nothing = finds_nothing home passes back.found (edited run) repeatable rests.at_rest rests.alike in
-    let is : IsOutcome home passes going depth text (text_after home passes back.found) (told_of home passes back.found None) =
+    let same : edited outcome ≡ whole.1 = edited_all run file text (told_by report) outcome whole.1 done.read (λ e. whole.0) in
+    let calm : some_failure home passes (edited outcome) ≡ false = ap (some_failure home passes) same ∙ done.calm in
+    let present : some_missing (meaning home) passes (slots_of (edited outcome)) ≡ false = ap (λ ss. some_missing (meaning home) passes (slots_of ss)) same ∙ done.found in
+    let left = left_at_rest law home passes (edited outcome) commands repeatable names calm in
+    let back = reads_back run file text (told_by report) commands words query two outcome in
+    let rests = all_back home passes back.found (left_by home passes (edited outcome)) (edited outcome) a.0 (no_lines passes passes query b.0) back.same left.0 left.1 in
+    let nothing = finds_nothing home passes back.found (edited outcome) repeatable rests.at_rest rests.alike in
+    let is : IsOutcome (record run { keep_going = going }) text (text_after home passes back.found) (told_of home passes back.found None) =
     inl (record { statements = back.found; fault = None; read = back.file; calm = λ h. nothing.calm; text_is = refl; told_is = refl }) in
-    let one = (one_outcome home passes going depth text second (text_after home passes back.found) (told_by again) (told_of home passes back.found None) run2 is).1 in
+    let one = (one_outcome (record run { keep_going = going }) text second (text_after home passes back.found) (told_by again) (told_of home passes back.found None) run2 is).1 in
     let quiet : again.changed ≡ false = ap (λ (t : Told). t.changed) one ∙ nothing.unchanged in
     let fine : again.failed ≡ false = ap (λ (t : Told). t.failed) one ∙ ap (λ c. c || some_missing (meaning home) passes (slots_of back.found)) nothing.calm ∙ nothing.found ∙ present in (
       three again.failed again.changed fine quiet,
-      writes_again home passes keep_going depth file text (told_by report) commands words query two run home passes going second (told_by again) commands query run2 (λ h. ap (λ (t : Told). t.end) one) quiet,
+      writes_again run file text (told_by report) commands words query two outcome home passes going second (told_by again) commands query run2 (λ h. ap (λ (t : Told). t.end) one) quiet,
     )

@@ -11,7 +11,7 @@ use Rattle.bz_rule.specs.Commands.{Command, after}
 use Rattle.bz_rule_laws.specs.Unmentioned.{arguments_of, is_delete, is_unmentioned}
 use Rattle.bz_rule_laws.proofs.KeptArguments.{deleted, narrower, nothing_left, unmentioned_stay}
 use Rattle.bz_engine.specs.Meaning.{meaning}
-use Rattle.bz_engine.specs.Outcome.{Script, Told, IsOutcome, is_query, left_in, text_of}
+use Rattle.bz_engine.specs.Outcome.{Run, Script, Told, IsOutcome, is_query, left_in, text_of}
 use Rattle.bz_engine_laws.specs.Unmentioned.{KeepsUnmentioned, has_delete, no_command_mentions}
 use Rattle.bz_engine_laws.specs.Written.{left_by, edited}
 use Rattle.bz_engine_laws.proofs.RunText.{edited_text, text_left_by}
@@ -70,12 +70,12 @@ pub statement_keeps : (home : Package) (passes : Script) (front back : List Stat
     → (left : Option Statement) × KeepsUnmentioned passes s left × (left_by home passes (front ++ s ∷ back) ≡ left_by home passes front ++ (left_in (left ∷ []) ++ left_by home passes back))
 statement_keeps home passes front back s = (slot_after (meaning home) passes (Some s), keeps home passes s, one_left home passes front back s)
 
-pub text_keeps : (home : Package) (passes : Script) (keep_going : Bool) (depth : ℕ) (file text : List ℕ) (told : Told) (run : IsOutcome home passes keep_going depth file text told) (front back : List Statement) (s : Statement)
-    → is_query passes ≡ false → edited run ≡ front ++ s ∷ back
-    → (left : Option Statement) × KeepsUnmentioned passes s left × (text ≡ text_of (left_by home passes front ++ (left_in (left ∷ []) ++ left_by home passes back)))
-text_keeps home passes keep_going depth file text told run front back s query are = (
-  slot_after (meaning home) passes (Some s),
-  keeps home passes s,
-  edited_text home passes keep_going depth file text told run ∙ text_left_by home passes (edited run) query
-      ∙ ap (λ ss. text_of (left_by home passes ss)) are ∙ ap text_of (one_left home passes front back s),
+pub text_keeps : (run : Run) (file text : List ℕ) (told : Told) (outcome : IsOutcome run file text told) (front back : List Statement) (s : Statement)
+    → is_query run.passes ≡ false → edited outcome ≡ front ++ s ∷ back
+    → (left : Option Statement) × KeepsUnmentioned run.passes s left × (text ≡ text_of (left_by run.home run.passes front ++ (left_in (left ∷ []) ++ left_by run.home run.passes back)))
+text_keeps run file text told outcome front back s query are = (
+  slot_after (meaning run.home) run.passes (Some s),
+  keeps run.home run.passes s,
+  edited_text run file text told outcome ∙ text_left_by run.home run.passes (edited outcome) query
+      ∙ ap (λ ss. text_of (left_by run.home run.passes ss)) are ∙ ap text_of (one_left run.home run.passes front back s),
 )

@@ -5,7 +5,7 @@ ghost use Rattle.std.specs.List.{AllByRecursion};
 ghost use Rattle.bz_tree.specs.Tree.{Statement};
 ghost use Rattle.bz_command.specs.Labels.{Package};
 ghost use Rattle.bz_engine.specs.Changes.{AreCommands};
-ghost use Rattle.bz_engine.specs.Outcome.{Script, IsOutcome, is_query, some_failure, status_of, told_by};
+ghost use Rattle.bz_engine.specs.Outcome.{Run, Script, IsOutcome, is_query, some_failure, status_of, told_by};
 ghost use Rattle.bz_engine.specs.declared.report.Report.{Report};
 ghost use Rattle.bz_engine_laws.specs.Repeatable.{FindsNothing, HasNamesOnce, is_repeatable};
 ghost use Rattle.bz_engine_laws.specs.Written.{HaveUtf8Words, edited, left_by};
@@ -24,12 +24,12 @@ pub fn the_same_script_finds_nothing()
 /// A second run of a repeatable script, over the text that the first wrote with status 0 or 3, writes the same bytes and
 /// has status 3; whether the one or the other keeps going.
 pub fn the_same_script_twice()
-    ensures { (home : Package) (passes : Script) (keep_going going : Bool) (depth : ℕ) (file text second : List ℕ)
-        (report again : Report) → AreCommands passes → HaveUtf8Words passes → is_query passes ≡ false → 2 ≤ depth
-        → is_repeatable passes ≡ true
-        → (run : IsOutcome home passes keep_going depth file text (told_by report)) → status_of report ≢ 2
-        → AllByRecursion HasNamesOnce (edited run)
-        → IsOutcome home passes going depth text second (told_by again)
+    ensures { (run : Run) (going : Bool) (file text second : List ℕ) (report again : Report) → AreCommands run.passes
+        → HaveUtf8Words run.passes → is_query run.passes ≡ false → 2 ≤ run.max_depth
+        → is_repeatable run.passes ≡ true
+        → (outcome : IsOutcome run file text (told_by report)) → status_of report ≢ 2
+        → AllByRecursion HasNamesOnce (edited outcome)
+        → IsOutcome (record run { keep_going = going }) text second (told_by again)
         → (status_of again ≡ 3) × (second ≡ text) }
 {
     a_second_time_finds_nothing();

@@ -1,9 +1,9 @@
 //! Law on the arguments that no command of a script mentions: they stay.
 
-ghost use Rattle.std.specs.Prelude.{◌≡◌, ◌++◌, ◌∷◌, ℕ, List, [], Bool, Option, false};
+ghost use Rattle.std.specs.Prelude.{◌≡◌, ◌++◌, ◌∷◌, ℕ, List, [], Option, false};
 ghost use Rattle.bz_tree.specs.Tree.{Statement};
 ghost use Rattle.bz_command.specs.Labels.{Package};
-ghost use Rattle.bz_engine.specs.Outcome.{Script, Told, IsOutcome, is_query, left_in, text_of};
+ghost use Rattle.bz_engine.specs.Outcome.{Run, Script, Told, IsOutcome, is_query, left_in, text_of};
 ghost use Rattle.bz_engine_laws.specs.Unmentioned.{KeepsUnmentioned};
 ghost use Rattle.bz_engine_laws.specs.Written.{left_by, edited};
 
@@ -13,9 +13,9 @@ pub fn what_no_command_mentions_stays()
     ensures statement { (home : Package) (passes : Script) (front back : List Statement) (s : Statement)
         → (left : Option Statement) × KeepsUnmentioned passes s left × (left_by home passes (front ++ s ∷ back)
         ≡ left_by home passes front ++ (left_in (left ∷ []) ++ left_by home passes back)) }
-    ensures text { (home : Package) (passes : Script) (keep_going : Bool) (depth : ℕ) (file text : List ℕ) (told : Told)
-        (run : IsOutcome home passes keep_going depth file text told) (front back : List Statement) (s : Statement)
-        → is_query passes ≡ false → edited run ≡ front ++ s ∷ back
-        → (left : Option Statement) × KeepsUnmentioned passes s left × (text
-        ≡ text_of (left_by home passes front ++ (left_in (left ∷ []) ++ left_by home passes back))) }
+    ensures text { (run : Run) (file text : List ℕ) (told : Told) (outcome : IsOutcome run file text told)
+        (front back : List Statement) (s : Statement)
+        → is_query run.passes ≡ false → edited outcome ≡ front ++ s ∷ back
+        → (left : Option Statement) × KeepsUnmentioned run.passes s left × (text
+        ≡ text_of (left_by run.home run.passes front ++ (left_in (left ∷ []) ++ left_by run.home run.passes back))) }
 {}
