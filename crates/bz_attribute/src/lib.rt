@@ -28,8 +28,8 @@ pub use make::{
     argument, list, literal, push_argument, push_string, segment, string, strings, token,
 };
 pub use marks::{RuleName, is_kind, matches, rule_name};
-pub use place::{Place, place_of};
-pub use row_args::{read_arguments, splice};
+pub use place::{Place, all_arguments, place_of};
+pub use row_args::{Parts, push_stmt, read_arguments, splice};
 pub use rule::{
     Rule, call_at, find, first_named, ident_of, is_named, is_string, name_of, only_text, rule_of,
     value_of,

@@ -13,7 +13,6 @@ mod Delete
 mod Found
 mod Gone
 mod GoodArguments
-mod Hollowed
 mod Kept
 mod KindFormed
 mod Lawful
@@ -30,12 +29,10 @@ mod PassingRules
 mod PassingTexts
 mod PassingWritten
 mod Print
-mod PutBack
 mod Rebuilt
 mod Remove
 mod Rename
 mod Replace
-mod RowStatements
 mod RowEdited
 mod RuleClass
 mod RuleFormed
@@ -44,4 +41,3 @@ mod Set
 mod SetAgain
 mod Tests
 pub mod Utf8Commands
-mod WovenParts

@@ -1,43 +1,70 @@
--- What a command on one attribute makes of the row of a rule.
-use Rattle.std.proofs.Common.{◌≡◌, ℕ, List, false, Option, Some, map, ap, sym, ◌∙◌}
+-- What a command makes of the row of a rule.
+use Rattle.std.proofs.Common.{◌≡◌, ℕ, List, Bool, true, false, Option, Some, refl, ap, sym, ◌∙◌, if◌then◌else◌, rules}
 use Rattle.std.specs.Prelude.{bytes_eq}
-use Rattle.bz_tree.specs.Tree.{Segment, Statement}
-use Rattle.bz_tree.specs.Rows.{IsRowOf, RowPart, part_view, parts_of}
-use Rattle.bz_tree.specs.declared.row.Row.{Row}
-use Rattle.bz_command.specs.Labels.{Name, Package}
-use Rattle.bz_attribute.specs.Rules.{Rule, rule_of, is_text, string_in}
-use Rattle.bz_attribute.specs.Effects.{done_in, with_args}
-use Rattle.bz_attribute.specs.Heads.{IsHeadOf}
-use Rattle.bz_attribute.specs.Marks.{marks, marks_if}
-use Rattle.bz_attribute.specs.RowPlaces.{IsRuleRow}
-use Rattle.bz_attribute.specs.declared.done.Done.{Done}
-use Rattle.bz_attribute.specs.declared.head.Head.{Head}
-use Rattle.bz_rule.specs.Commands.{Command, args_after, args_done, done_of}
-use Rattle.bz_rule.specs.RowViews.{row_statement, row_value}
-use Rattle.bz_rule.specs.private.RowEdits.{IsNamedRow}
-use Rattle.bz_rule.proofs.Commands.{lawful}
+use Rattle.std.proofs.lemmas.Bool.{false≢true}
+use Rattle.bz_tree.specs.Tree.{Item, Segment, Statement, segs_of}
+use Rattle.bz_tree.specs.Rows.{RowPart, parts_of}
+use Rattle.bz_tree.specs.Statement.{class_of}
+use Rattle.bz_command.specs.Labels.{Package}
+use Rattle.bz_command.specs.declared.arguments.Commented.TheVariants.{Rule as Above, Attribute, Value}
+use Rattle.bz_command.specs.declared.arguments.Setting.TheVariants.{ToKind, ToValues}
+use Rattle.bz_attribute.specs.Rules.{Rule, rule_of, kind_text}
+use Rattle.bz_attribute.specs.Effects.{nodes_of, with_args}
+use Rattle.bz_attribute.specs.RowPlaces.{alone, IsPlaceOf, IsPlaceOfAll}
+use Rattle.bz_attribute.specs.Set.{kind_after, kind_items, with_kind}
+use Rattle.bz_rule.specs.Commands.{Command, after, args_after, args_done}
+use Rattle.bz_rule.specs.declared.command.Action.TheVariants.{Add, Comment, Delete, Move, Print, Remove, Rename, Replace, Set, SetIfAbsent}
+use Rattle.bz_rule.specs.private.RowEdits.{IsNextOf, IsPlaceFor, is_edit, rule_after}
 use Rattle.bz_rule.proofs.Lawful.{Local}
+use Rattle.bz_rule.proofs.Local.{told_alone}
+use Rattle.bz_rule.proofs.Rebuilt.{kind_dotted}
+use Rattle.bz_rule.proofs.RuleClass.{call_class, class_after, rule_class}
 
--- where it tells no change, the parts are those of before
-pub unchanged : (c : Command) (home : Package) (name : List ℕ) (s : Statement) (r : Rule) (ps : List RowPart) → Local c home name → IsRuleRow s r ps → (args_done c home r.args).changed ≡ false
-    → ps ≡ parts_of (with_args (args_after c home) s)
-unchanged c home name s r ps law h quiet =
-    let stays = (lawful c home).stays (Some s) (ap (λ (d : Done). d.changed) (law.done s ∙ ap (done_in (args_done c home)) h.rule) ∙ quiet) in
-    let same : with_args (args_after c home) s ≡ s = let both : Some (with_args (args_after c home) s) ≡ Some s = sym (law.slot s) ∙ stays in cc in
-    h.are ∙ sym (ap parts_of same)
+-- where the first argument of a name stands, or all
+pub place_alone : (c : Command) (home : Package) (name : List ℕ) (s : Statement) (r : Rule) (ps : List RowPart) (from to : ℕ) → Local c home name → IsPlaceOf name s r ps from to → IsPlaceFor c home s r ps from to
+place_alone c home name s r ps from to law place =
+    record { args = alone name r; read = place.read; put = place.put (args_after c home) law.args; told = told_alone name (args_done c home) r law.told }
 
--- the row of a rule that has a head
-pub rule_row : (row : Row) (head : Head) → (h : IsNamedRow row head) → IsRuleRow (row_statement (row_value row)) h.named.rule (map part_view row.parts.now)
-rule_row row head h = record { are = h.is.parts; rule = h.named.is }
+pub place_all : (c : Command) (home : Package) (s : Statement) (r : Rule) (ps : List RowPart) (from to : ℕ) → IsPlaceOfAll s r ps from to → IsPlaceFor c home s r ps from to
+place_all c home s r ps from to place = record { args = r.args; read = place.read; put = place.put (args_after c home); told = refl }
 
--- the new row is of the new statement
-pub new_row : (f : List Segment → List Segment) (s : Statement) (row new : Row) → IsRowOf s row → map part_view new.parts.now ≡ parts_of (with_args f s) → new.class ≡ row.class → new.start ≡ row.start → new.end ≡ row.end
-    → IsRowOf (with_args f s) new
-new_row f s row new is parts class start end = record { parts = parts; class = class ∙ is.class; start = start ∙ is.start; end = end ∙ is.end }
+-- what an edit leaves of a rule
+pub after_edit : (c : Command) (home : Package) (s : Statement) → is_edit c ≡ true → after c home (Some s) ≡ Some (rule_after c home s)
+after_edit (Add attr values) home s h = refl
+after_edit (Remove attrs values) home s h = refl
+after_edit (Set (ToKind kind)) home s h = refl
+after_edit (Set (ToValues attr values)) home s h = refl
+after_edit (SetIfAbsent attr values) home s h = refl
+after_edit Delete home s h = absurd (false≢true h)
+after_edit (Rename old new) home s h = refl
+after_edit (Move old new chosen) home s h = refl
+after_edit (Replace attrs old new) home s h = refl
+after_edit (Comment Above text) home s h = refl
+after_edit (Comment (Attribute attr) text) home s h = refl
+after_edit (Comment (Value attr value) text) home s h = refl
+after_edit (Print fields) home s h = absurd (false≢true h)
 
-pub rule_told : (c : Command) (home : Package) (name : List ℕ) (s : Statement) (r : Rule) → Local c home name → rule_of s.nodes ≡ Some r → args_done c home r.args ≡ done_of c home (Some s)
-rule_told c home name s r law is = sym (law.done s ∙ ap (done_in (args_done c home)) is)
+next_args : (f : List Segment → List Segment) (s : Statement) (r : Rule) (ps : List RowPart) → rule_of s.nodes ≡ Some r → s.class ≡ class_of s.nodes → ps ≡ parts_of (with_args f s) → IsNextOf s ps (with_args f s)
+next_args f s r ps is class parts = record { parts = parts; class = class_after f s r is class; same = refl; start = refl; end = refl }
 
-pub named_by_head : (name : List ℕ) (head : Head) (s : Statement) → IsHeadOf head s → marks (Name name) s ≡ bytes_eq name head.name.now
-named_by_head name head s h =
-    ap (marks_if (Name name) s.start) h.is ∙ ap (λ (first : Option Segment). is_text name (string_in first)) h.named ∙ ap (is_text name) h.name_is
+kind_class : (kind : List ℕ) (s : Statement) (r : Rule) → rule_of s.nodes ≡ Some r → s.class ≡ class_of s.nodes → s.class ≡ class_of (with_kind kind s).nodes
+kind_class kind s r is class =
+    let other = record r { kind = kind_items kind } in
+    let made : class_of (nodes_of other) ≡ class_of s.nodes = call_class (kind_items kind) (segs_of r.args) r.one_comma r.end (kind_dotted kind) ∙ sym (rule_class s.nodes r is) in
+    class ∙ sym (ap (λ (o : Option Rule). class_of (kind_after kind s.nodes o)) is
+    ∙ elim (bytes_eq (kind_text r.kind) kind) as (λ b. class_of (if b then s.nodes else nodes_of other) ≡ class_of s.nodes) [ true ↦ refl | false ↦ made ])
+
+pub next_of : (c : Command) (home : Package) (s : Statement) (r : Rule) (ps : List RowPart) → rule_of s.nodes ≡ Some r → s.class ≡ class_of s.nodes → ps ≡ parts_of (rule_after c home s) → IsNextOf s ps (rule_after c home s)
+next_of (Add attr values) home s r ps is class parts = next_args _ s r ps is class parts
+next_of (Remove attrs values) home s r ps is class parts = next_args _ s r ps is class parts
+next_of (Set (ToKind kind)) home s r ps is class parts = record { parts = parts; class = kind_class kind s r is class; same = refl; start = refl; end = refl }
+next_of (Set (ToValues attr values)) home s r ps is class parts = next_args _ s r ps is class parts
+next_of (SetIfAbsent attr values) home s r ps is class parts = next_args _ s r ps is class parts
+next_of Delete home s r ps is class parts = next_args _ s r ps is class parts
+next_of (Rename old new) home s r ps is class parts = next_args _ s r ps is class parts
+next_of (Move old new chosen) home s r ps is class parts = next_args _ s r ps is class parts
+next_of (Replace attrs old new) home s r ps is class parts = next_args _ s r ps is class parts
+next_of (Comment Above text) home s r ps is class parts = record { parts = parts; class = class; same = refl; start = refl; end = refl }
+next_of (Comment (Attribute attr) text) home s r ps is class parts = next_args _ s r ps is class parts
+next_of (Comment (Value attr value) text) home s r ps is class parts = next_args _ s r ps is class parts
+next_of (Print fields) home s r ps is class parts = next_args _ s r ps is class parts

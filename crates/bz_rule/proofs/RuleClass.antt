@@ -44,7 +44,7 @@ kind_rule false (x ∷ kind) segs one_comma end h =
     let two = and_parts (is_operator_item (codes ".") x) (dotted true kind) h in
     ap (λ (z : Item). is_rule_after (z ∷ (kind ++ group RuleCall segs one_comma end ∷ []))) (is_dot x two.0) ∙ kind_rule true kind segs one_comma end two.1
 
-call_class : (kind : List Item) (segs : Segs) (one_comma : Bool) (end : List (List ℕ)) → dotted true kind ≡ true → class_of (kind ++ group RuleCall segs one_comma end ∷ []) ≡ RuleClass
+pub call_class : (kind : List Item) (segs : Segs) (one_comma : Bool) (end : List (List ℕ)) → dotted true kind ≡ true → class_of (kind ++ group RuleCall segs one_comma end ∷ []) ≡ RuleClass
 call_class [] segs one_comma end h = absurd (false≢true h)
 call_class (leaf Identifier text ∷ kind) segs one_comma end h =
     let k : List Item = leaf Identifier text ∷ kind in
