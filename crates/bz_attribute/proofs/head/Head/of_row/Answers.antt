@@ -1,23 +1,29 @@
-use Rattle.std.proofs.Common.{◌∙◌, List, ap, subst, sym}
-use Rattle.bz_tree.specs.Rows.{RowPart}
-use Rattle.bz_attribute.specs.private.HeadParts.{after_comments, IsHeadAt}
-use Rattle.bz_attribute.proofs.Headed.{headed}
+use Rattle.std.proofs.Common.{◌≡◌, List, Bor, map, option_map, ap, sym, ◌∙◌}
+use Rattle.bz_tree.specs.declared.row.Part.{Part}
+use Rattle.bz_tree.specs.Rows.{RowPart, part_view, parts_of}
+use Rattle.bz_attribute.specs.private.HeadParts.{after_comments, after_tokens, in_call, token_texts}
+use Rattle.bz_attribute.proofs.Headed.{headed, no_head, other_class}
 use Rattle.bz_attribute.proofs.head.Head.of_row.Goals as goal
+
+pub returns-in_default : goal.returns-in_default
+returns-in_default c s class row = other_class s.nodes (λ is. c.in_default.not-Rule (row.class ∙ class ∙ is))
+
+pub returns-in_default-in_call : goal.returns-in_default-in_call
+returns-in_default-in_call c s class row =
+    no_head s (sym class ∙ sym row.class ∙ c.in-Rule.is)
+    (sym (c.in_call.ensures ∙ ap (λ (ps : List RowPart). in_call (after_tokens ps)) (c.after_comments-parts.ensures ∙ ap after_comments row.parts))
+    ∙ ap (option_map (λ (args : Bor (List Part)). map part_view args.now)) c.in_default-in_call.is)
 
 pub returns : goal.returns
 returns c s class row =
-    let kind = c.in_ok-kind.kind.now in
-    let name = c.in_ok-kind.name.now in
-    let r = headed s kind name (sym class ∙ sym row.class ∙ c.in-Rule.is)
-    (subst (λ (ps : List RowPart). IsHeadAt kind name ps)
-    (c.after_comments.ensures ∙ ap after_comments row.parts) c.in_ok-kind.ensures) in
+    let begun : map part_view c.after_comments-parts.result.now ≡ after_comments (parts_of s) = c.after_comments-parts.ensures ∙ ap after_comments row.parts in
+    let r = headed s (map part_view c.in-Some.args.now) (sym class ∙ sym row.class ∙ c.in-Rule.is)
+    (sym (c.in_call.ensures ∙ ap (λ (ps : List RowPart). in_call (after_tokens ps)) begun) ∙ ap (option_map (λ (args : Bor (List Part)). map part_view args.now)) c.in-Some.is) in
     record {
       rule = r.rule;
       is = r.is;
-      kind_is = r.kind_is;
-      first = r.first;
-      named = r.named;
-      name_is = r.name_is;
+      kind_is = sym (c.in_ok-kind.ensures ∙ ap token_texts begun ∙ r.kind_is);
+      name_is = c.in_ok-name.ensures ∙ c.name_text.ensures s r.rule (record { are = row.parts; rule = r.is }) r.args_are;
       start_is = sym row.start;
       end_is = sym row.end;
     }
