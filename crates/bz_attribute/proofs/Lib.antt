@@ -11,6 +11,7 @@ pub mod Headed
 pub mod LabelSets
 pub mod Lengths
 pub mod Mapped
+pub mod NameTexts
 pub mod NextPart
 pub mod Passed
 pub mod PlaceFound

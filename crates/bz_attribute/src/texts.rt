@@ -1,14 +1,13 @@
-//! How labels and rules are shown.
+//! How labels are shown, and the texts of a rule.
 
 ghost use Rattle.std.specs.Prelude.{◌≡◌, ◌++◌, IfOk, OnOk, option_map, string_bytes};
-ghost use Rattle.bz_tree.specs.View.{nodes_view, segs_view, view};
+ghost use Rattle.bz_tree.specs.View.{nodes_view, segs_view};
 ghost use Rattle.bz_attribute.specs.Rules.{kind_text, name_in};
-ghost use Rattle.bz_attribute.specs.RuleViews.{rule_view};
 ghost use Rattle.bz_attribute.specs.Texts as spec;
 
-use crate::rule::{Rule, name_text, rule_of};
+use crate::rule::name_text;
 use bz_command::{Marked, Package, Target, read_value};
-use bz_tree::{Node, Seg, Stmt};
+use bz_tree::{Node, Seg};
 use std::alloc::{AllocError, Global};
 
 /// A label, `//PATH:TARGET`; standard input is `-:TARGET`.
@@ -33,31 +32,6 @@ fn push_target(text: &mut String, target: &Target) -> Result<(), AllocError>
             text.push_str(kind.as_str())
         }
         Marked::Line(line) => write!(text, "%{line}"),
-    }
-}
-
-/// A rule of a package, by its name or by `%` and its kind; empty for a statement that is no rule.
-pub fn shown(alloc: Global, home: &Package, stmt: &Stmt<'_>) -> Result<String, AllocError>
-    ensures { IfOk result (λ text. string_bytes text ≡ spec.shown_text home.now (view stmt.now)) }
-{
-    let mut text = String::new(alloc);
-    if let Some(rule) = rule_of(&stmt.nodes) {
-        push_home(&mut text, home)?;
-        push_rule(alloc, &mut text, rule)?;
-    }
-    Ok(text)
-}
-
-fn push_rule(alloc: Global, text: &mut String, rule: Rule<'_, '_>) -> Result<(), AllocError>
-    ensures { OnOk result (string_bytes text.new ≡ string_bytes text.old
-        ++ spec.name_or_kind (name_in (rule_view rule.entry).args) (rule_view rule.entry).kind) }
-{
-    match read_name(alloc, &rule.call.segs)? {
-        Some(name) => text.push_str(name.as_str()),
-        None => {
-            text.push_str("%")?;
-            push_kind(text, rule.kind)
-        }
     }
 }
 

@@ -1,7 +1,7 @@
 use Rattle.std.proofs.Common.{◌≡◌, map, length}
 use Rattle.bz_tree.specs.Rows.{part_view}
 use Rattle.bz_attribute.specs.private.HeadParts as spec
-use Rattle.bz_attribute.proofs.head.after_comments.Given as goal
+use Rattle.bz_attribute.proofs.head_parts.after_comments.Given as goal
 
 -- the parts that are left decide
 abbrev pub invariant-loop-rest : goal.invariant-loop-rest
