@@ -34,6 +34,7 @@ mod Remove
 mod Rename
 mod Replace
 mod RowEdited
+mod RowStatements
 mod RuleClass
 mod RuleFormed
 mod Segments

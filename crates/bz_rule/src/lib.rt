@@ -7,9 +7,11 @@ mod reader;
 mod row_edit;
 mod row_parts;
 mod slot;
+mod statement_row;
 
-pub use bz_attribute::{Done, Note, RuleName, label, matches, rule_name, shown};
+pub use bz_attribute::{Done, Note, label};
 pub use bz_command::{LabelFault, Package, Target, Text, quote, read_label, same, value_is};
 pub use command::{Action, Command, CommandFault, LEFT_OUT, USAGE};
 pub use reader::read_command;
 pub use slot::apply;
+pub use statement_row::{StatementRow, execute};

@@ -75,9 +75,10 @@ fn edit_arguments<'a>(
     let place = place_for(command, parts);
     let mut args = read_arguments(env.alloc, &parts[place.from..place.to])?;
     let done = in_args(env.alloc, command, env.home, &mut args)?;
-    if done.changed {
-        splice(bump, parts, place, &args, new)?;
+    if !done.changed {
+        return Ok(done);
     }
+    splice(bump, parts, place, &args, new)?;
     Ok(done)
 }
 

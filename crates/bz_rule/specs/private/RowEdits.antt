@@ -1,6 +1,7 @@
 -- For private clauses: where the arguments stand that a command looks at, and a row with its head.
 use Rattle.std.specs.Prelude.{◌≡◌, ℕ, ◌-◌, List, ◌∷◌, ◌++◌, Bool, true, false, Option, Some, None, take, drop}
 use Rattle.bz_tree.specs.Statement.{class_of}
+use Rattle.bz_tree.specs.declared.stmt.Class.TheVariants.{Rule as RuleClass}
 use Rattle.bz_tree.specs.Tree.{Segment, Statement, segs_of}
 use Rattle.bz_tree.specs.Rows.{RowPart, parts_of, segs_parts}
 use Rattle.bz_command.specs.Labels.{Package}
@@ -11,13 +12,23 @@ use Rattle.bz_rule.specs.Commands.{Command, args_after, args_done}
 use Rattle.bz_rule.specs.declared.command.Action.TheVariants.{Add, Comment, Delete, Print, Remove, Replace, Set, SetIfAbsent}
 use Rattle.bz_attribute.specs.Comment.{comment_rule}
 use Rattle.bz_attribute.specs.Effects.{with_args}
+use Rattle.bz_attribute.specs.Heads.{HasHead}
 use Rattle.bz_attribute.specs.Rules.{Rule}
 use Rattle.bz_attribute.specs.Set.{with_kind}
+use Rattle.bz_attribute.specs.declared.head.Head.{Head}
+use Rattle.bz_rule.specs.RowViews.{RowValue, row_statement}
+
+-- a row is of its statement, and that has this head
+pub record HasItsHead (row : RowValue) (head : Option Head) : Type 0 where
+  pub class : row.class ≡ class_of (row_statement row).nodes
+  pub are : row.parts ≡ parts_of (row_statement row)
+  pub has : HasHead head (row_statement row)
 
 -- the parts and the class are of this statement, in whose place it comes
 pub record IsNextOf (old : Statement) (parts : List RowPart) (s : Statement) : Type 0 where
-  pub parts : parts ≡ parts_of s
+  pub are : parts ≡ parts_of s
   pub class : s.class ≡ class_of s.nodes
+  pub rule : class_of s.nodes ≡ RuleClass
   pub same : s.class ≡ old.class
   pub start : s.start ≡ old.start
   pub end : s.end ≡ old.end

@@ -5,11 +5,11 @@ use Rattle.bz_attribute.specs.private.HeadParts.{after_comments, after_tokens, i
 use Rattle.bz_attribute.proofs.Headed.{headed, no_head}
 use Rattle.bz_attribute.proofs.head.Head.of_parts.Goals as goal
 
-pub returns-in_call : goal.returns-in_call
-returns-in_call c s class are start end =
+pub returns-in_default : goal.returns-in_default
+returns-in_default c s class are start end =
     no_head s class
     (sym (c.in_call.ensures ∙ ap (λ (ps : List RowPart). in_call (after_tokens ps)) (c.after_comments-first.ensures ∙ ap after_comments are))
-    ∙ ap (option_map (λ (args : Bor (List Part)). map part_view args.now)) c.in-None.is)
+    ∙ ap (option_map (λ (args : Bor (List Part)). map part_view args.now)) c.in_default.is)
 
 pub returns : goal.returns
 returns c s class are start end =
