@@ -1,5 +1,5 @@
 pub mod CommentEdits
-pub mod HeadPrinted
 pub mod KindEdits
 pub mod Printed
+pub mod PrintedFields
 pub mod Written

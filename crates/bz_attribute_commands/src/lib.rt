@@ -3,7 +3,6 @@
 
 pub mod comment;
 pub mod print;
-pub mod print_head;
 pub mod rename;
 pub mod set;
 pub mod set_kind;
