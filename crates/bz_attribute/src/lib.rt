@@ -35,5 +35,5 @@ pub use rule::{
     Rule, call_at, find, first_named, ident_of, is_named, is_string, name_of, only_text, rule_of,
     value_of,
 };
-pub use texts::{label, push_home, push_kind, read_name};
+pub use texts::{label, push_home};
 pub use word_set::WordSet;

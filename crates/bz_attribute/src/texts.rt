@@ -1,13 +1,9 @@
-//! How labels are shown, and the texts of a rule.
+//! How labels are shown.
 
-ghost use Rattle.std.specs.Prelude.{◌≡◌, ◌++◌, IfOk, OnOk, option_map, string_bytes};
-ghost use Rattle.bz_tree.specs.View.{nodes_view, segs_view};
-ghost use Rattle.bz_attribute.specs.Rules.{kind_text, name_in};
+ghost use Rattle.std.specs.Prelude.{◌≡◌, ◌++◌, IfOk, OnOk, string_bytes};
 ghost use Rattle.bz_attribute.specs.Texts as spec;
 
-use crate::rule::name_text;
-use bz_command::{Marked, Package, Target, read_value};
-use bz_tree::{Node, Seg};
+use bz_command::{Marked, Package, Target};
 use std::alloc::{AllocError, Global};
 
 /// A label, `//PATH:TARGET`; standard input is `-:TARGET`.
@@ -47,26 +43,4 @@ pub fn push_home(text: &mut String, home: &Package) -> Result<(), AllocError>
             text.push_str(":")
         }
     }
-}
-
-/// The name of a rule.
-pub fn read_name(alloc: Global, args: &[Seg<'_>]) -> Result<Option<String>, AllocError>
-    ensures { IfOk result (λ name. option_map (λ text. string_bytes text) name ≡ name_in (segs_view args.now)) }
-{
-    match name_text(args) {
-        None => Ok(None),
-        Some(text) => read_value(alloc, text),
-    }
-}
-
-/// Writes a kind, without what stands between its identifiers and dots.
-pub fn push_kind(text: &mut String, kind: &[Node<'_>]) -> Result<(), AllocError>
-    ensures { OnOk result (string_bytes text.new ≡ string_bytes text.old ++ kind_text (nodes_view kind.now)) }
-{
-    for node in kind {
-        if let Node::Token(leaf) = node {
-            text.push_str(leaf.text.as_str())?;
-        }
-    }
-    Ok(())
 }

@@ -1,4 +1,5 @@
 pub mod CommentEdits
 pub mod KindEdits
 pub mod Printed
+pub mod PrintedFields
 pub mod Written
