@@ -45,7 +45,7 @@ call_dotted kind x r h =
       | false ↦ λ e k. absurd cc
     ] refl h
 
-rule_dotted : (kind nodes : List Item) (r : Rule) → rule_from kind nodes ≡ Some r → dotted true r.kind ≡ true
+pub rule_dotted : (kind nodes : List Item) (r : Rule) → rule_from kind nodes ≡ Some r → dotted true r.kind ≡ true
 rule_dotted kind [] r h = absurd cc
 rule_dotted kind (x ∷ []) r h = call_dotted kind x r h
 rule_dotted kind (x ∷ y ∷ xs) r h = rule_dotted (kind ++ x ∷ []) (y ∷ xs) r h

@@ -13,6 +13,7 @@ mod make;
 mod marks;
 mod place;
 mod row_args;
+mod row_kind;
 mod rule;
 mod texts;
 mod word_set;
@@ -30,6 +31,7 @@ pub use make::{
 pub use marks::{RuleName, is_kind, matches, rule_name};
 pub use place::{Place, place_of};
 pub use row_args::{read_arguments, splice};
+pub use row_kind::kind_place;
 pub use rule::{
     Rule, call_at, find, first_named, ident_of, is_named, is_string, name_of, only_text, rule_of,
     value_of,
