@@ -1,5 +1,7 @@
 pub mod CommentEdits
 pub mod HeadPrinted
 pub mod KindEdits
+pub mod KindWritten
+pub mod LineWritten
 pub mod Printed
 pub mod Written

@@ -2,6 +2,8 @@
 #![tactic(auto)]
 
 pub mod comment;
+pub mod kind;
+pub mod line;
 pub mod print;
 pub mod print_head;
 pub mod rename;
