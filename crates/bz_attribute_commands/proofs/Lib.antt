@@ -1,3 +1,4 @@
+pub mod ArgumentEdits
 pub mod CommentEdits
 pub mod HeadPrinted
 pub mod KindEdits

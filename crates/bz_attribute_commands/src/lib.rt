@@ -4,6 +4,7 @@
 pub mod comment;
 pub mod kind;
 pub mod line;
+pub mod name;
 pub mod print;
 pub mod print_head;
 pub mod rename;
