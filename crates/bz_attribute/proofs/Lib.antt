@@ -8,6 +8,7 @@ pub mod FoundArgs
 pub mod Fresh
 pub mod Groups
 pub mod Headed
+pub mod KindPlaced
 pub mod LabelSets
 pub mod Lengths
 pub mod Mapped

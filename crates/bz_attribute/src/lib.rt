@@ -14,6 +14,7 @@ mod make;
 mod marks;
 mod place;
 mod row_args;
+mod row_kind;
 mod rule;
 mod texts;
 mod word_set;
@@ -31,6 +32,7 @@ pub use make::{
 pub use marks::is_kind;
 pub use place::{Place, all_arguments, place_of};
 pub use row_args::{Parts, push_stmt, read_arguments, splice};
+pub use row_kind::kind_place;
 pub use rule::{
     Rule, call_at, find, first_named, ident_of, is_named, is_string, name_of, only_text, rule_of,
     value_of,

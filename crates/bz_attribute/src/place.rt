@@ -59,7 +59,7 @@ fn segment_len(parts: &[Part<'_>]) -> usize
     nodes + end_len(&parts[nodes..])
 }
 
-fn is_above(part: Part<'_>) -> bool
+pub(crate) fn is_above(part: Part<'_>) -> bool
     ensures { result ≡ spec.is_above (part_view part.entry) }
 {
     matches!(part, Part::Above(_))

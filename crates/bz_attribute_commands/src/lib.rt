@@ -2,6 +2,9 @@
 #![tactic(auto)]
 
 pub mod comment;
+pub mod kind;
+pub mod line;
+pub mod name;
 pub mod print;
 pub mod rename;
 pub mod set;

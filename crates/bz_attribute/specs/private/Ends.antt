@@ -1,7 +1,7 @@
 -- For private clauses alone: where a segment, the comments above it and the arguments of a rule end, by their parts.
 use Rattle.std.specs.Prelude.{ℕ, zero, suc, ◌+◌, List, [], ◌∷◌, drop, Bool, true, false, if◌then◌else◌}
 use Rattle.std.specs.List.{list_all, list_any}
-use Rattle.bz_tree.specs.Rows.{RowPart, opening, closing, segment_end, above, beside}
+use Rattle.bz_tree.specs.Rows.{RowPart, a_token, opening, closing, segment_end, above, beside}
 
 abbrev pub above_len : List RowPart → ℕ
 above_len (above text ∷ ps) = suc (above_len ps)
@@ -30,6 +30,10 @@ segment_len ps = nodes_len 0 ps + end_len (drop (nodes_len 0 ps) ps)
 abbrev pub is_above : RowPart → Bool
 is_above (above text) = true
 is_above _ = false
+
+abbrev pub is_token : RowPart → Bool
+is_token (a_token kind text) = true
+is_token _ = false
 
 -- how many parts stand before the comments with which they end
 abbrev pub plain_len : List RowPart → ℕ
