@@ -5,6 +5,7 @@ use Rattle.std.proofs.lemmas.Bool.{false≢true}
 use Rattle.bz_tree.specs.Tree.{Item, Segment, Statement, segs_of}
 use Rattle.bz_tree.specs.Rows.{RowPart, parts_of}
 use Rattle.bz_tree.specs.Statement.{class_of}
+use Rattle.bz_tree.specs.declared.stmt.Class.TheVariants.{Rule as RuleClass}
 use Rattle.bz_command.specs.Labels.{Package}
 use Rattle.bz_command.specs.declared.arguments.Commented.TheVariants.{Rule as Above, Attribute, Value}
 use Rattle.bz_command.specs.declared.arguments.Setting.TheVariants.{ToKind, ToValues}
@@ -15,7 +16,7 @@ use Rattle.bz_attribute.specs.RowPlaces.{alone, IsPlaceOf, IsPlaceOfAll}
 use Rattle.bz_attribute.specs.Set.{kind_after, kind_items, sets_kind, sets_kind_of, with_kind}
 use Rattle.bz_rule.specs.Commands.{Command, after, args_after, args_done, done_of}
 use Rattle.bz_rule.specs.declared.command.Action.TheVariants.{Add, Comment, Delete, Move, Print, Remove, Rename, Replace, Set, SetIfAbsent}
-use Rattle.bz_rule.specs.private.RowEdits.{IsNextOf, IsPlaceFor, is_edit, rule_after}
+use Rattle.bz_rule.specs.private.RowEdits.{IsNextOf, IsPlaceFor, edits_arguments, is_edit, rule_after}
 use Rattle.bz_command.specs.declared.arguments.Field.{Field}
 use Rattle.bz_attribute_commands.specs.Print.{printed_of, prints}
 use Rattle.bz_rule.proofs.Commands.{lawful}
@@ -48,34 +49,30 @@ after_edit (Comment (Attribute attr) text) home s h = refl
 after_edit (Comment (Value attr value) text) home s h = refl
 after_edit (Print fields) home s h = absurd (false≢true h)
 
-next_args : (f : List Segment → List Segment) (s : Statement) (r : Rule) (ps : List RowPart) → rule_of s.nodes ≡ Some r → s.class ≡ class_of s.nodes → ps ≡ parts_of (with_args f s) → IsNextOf s ps (with_args f s)
-next_args f s r ps is class parts =
-    let kept = class_after f s r is class in
-    record { are = parts; class = kept; rule = sym kept ∙ class ∙ rule_class s.nodes r is; same = refl; start = refl; end = refl }
+next_args : (f : List Segment → List Segment) (s : Statement) (r : Rule) (ps : List RowPart) → rule_of s.nodes ≡ Some r → ps ≡ parts_of (with_args f s) → IsNextOf s ps (with_args f s)
+next_args f s r ps is are = record { are = are; rule = class_after f s r is; same = refl; start = refl; end = refl }
 
-kind_class : (kind : List ℕ) (s : Statement) (r : Rule) → rule_of s.nodes ≡ Some r → s.class ≡ class_of s.nodes → s.class ≡ class_of (with_kind kind s).nodes
-kind_class kind s r is class =
-    let other = record r { kind = kind_items kind } in
-    let made : class_of (nodes_of other) ≡ class_of s.nodes = call_class (kind_items kind) (segs_of r.args) r.one_comma r.end (kind_dotted kind) ∙ sym (rule_class s.nodes r is) in
-    class ∙ sym (ap (λ (o : Option Rule). class_of (kind_after kind s.nodes o)) is
-    ∙ elim (bytes_eq (kind_text r.kind) kind) as (λ b. class_of (if b then s.nodes else nodes_of other) ≡ class_of s.nodes) [ true ↦ refl | false ↦ made ])
+kind_class : (kind : List ℕ) (s : Statement) (r : Rule) → rule_of s.nodes ≡ Some r → class_of (with_kind kind s).nodes ≡ RuleClass
+kind_class kind s r is =
+    let other : Rule = record r { kind = kind_items kind } in
+    let made : class_of (nodes_of other) ≡ RuleClass = call_class (kind_items kind) (segs_of r.args) r.one_comma r.end (kind_dotted kind) in
+    ap (λ (o : Option Rule). class_of (kind_after kind s.nodes o)) is
+    ∙ elim (bytes_eq (kind_text r.kind) kind) as (λ b. class_of (if b then s.nodes else nodes_of other) ≡ RuleClass) [ true ↦ rule_class s.nodes r is | false ↦ made ]
 
-pub next_of : (c : Command) (home : Package) (s : Statement) (r : Rule) (ps : List RowPart) → rule_of s.nodes ≡ Some r → s.class ≡ class_of s.nodes → ps ≡ parts_of (rule_after c home s) → IsNextOf s ps (rule_after c home s)
-next_of (Add attr values) home s r ps is class parts = next_args _ s r ps is class parts
-next_of (Remove attrs values) home s r ps is class parts = next_args _ s r ps is class parts
-next_of (Set (ToKind kind)) home s r ps is class parts =
-    let kept = kind_class kind s r is class in
-    record { are = parts; class = kept; rule = sym kept ∙ class ∙ rule_class s.nodes r is; same = refl; start = refl; end = refl }
-next_of (Set (ToValues attr values)) home s r ps is class parts = next_args _ s r ps is class parts
-next_of (SetIfAbsent attr values) home s r ps is class parts = next_args _ s r ps is class parts
-next_of Delete home s r ps is class parts = next_args _ s r ps is class parts
-next_of (Rename old new) home s r ps is class parts = next_args _ s r ps is class parts
-next_of (Move old new chosen) home s r ps is class parts = next_args _ s r ps is class parts
-next_of (Replace attrs old new) home s r ps is class parts = next_args _ s r ps is class parts
-next_of (Comment Above text) home s r ps is class parts = record { are = parts; class = class; rule = rule_class s.nodes r is; same = refl; start = refl; end = refl }
-next_of (Comment (Attribute attr) text) home s r ps is class parts = next_args _ s r ps is class parts
-next_of (Comment (Value attr value) text) home s r ps is class parts = next_args _ s r ps is class parts
-next_of (Print fields) home s r ps is class parts = next_args _ s r ps is class parts
+pub next_of : (c : Command) (home : Package) (s : Statement) (r : Rule) (ps : List RowPart) → rule_of s.nodes ≡ Some r → ps ≡ parts_of (rule_after c home s) → IsNextOf s ps (rule_after c home s)
+next_of (Add attr values) home s r ps is are = next_args _ s r ps is are
+next_of (Remove attrs values) home s r ps is are = next_args _ s r ps is are
+next_of (Set (ToKind kind)) home s r ps is are = record { are = are; rule = kind_class kind s r is; same = refl; start = refl; end = refl }
+next_of (Set (ToValues attr values)) home s r ps is are = next_args _ s r ps is are
+next_of (SetIfAbsent attr values) home s r ps is are = next_args _ s r ps is are
+next_of Delete home s r ps is are = next_args _ s r ps is are
+next_of (Rename old new) home s r ps is are = next_args _ s r ps is are
+next_of (Move old new chosen) home s r ps is are = next_args _ s r ps is are
+next_of (Replace attrs old new) home s r ps is are = next_args _ s r ps is are
+next_of (Comment Above text) home s r ps is are = record { are = are; rule = rule_class s.nodes r is; same = refl; start = refl; end = refl }
+next_of (Comment (Attribute attr) text) home s r ps is are = next_args _ s r ps is are
+next_of (Comment (Value attr value) text) home s r ps is are = next_args _ s r ps is are
+next_of (Print fields) home s r ps is are = next_args _ s r ps is are
 
 -- where it tells no change, the rule stays
 pub edit_stays : (c : Command) (home : Package) (s : Statement) → is_edit c ≡ true → (done_of c home (Some s)).changed ≡ false → Some s ≡ after c home (Some s)
@@ -90,7 +87,7 @@ told_kind : (kind : List ℕ) (slot : Option Statement) → holds_rule slot ≡ 
 told_kind kind None h = refl
 told_kind kind (Some s) h = elim (rule_of s.nodes) as (λ o. is_some o ≡ false → sets_kind kind o ≡ done None false) [ None ↦ λ k. refl | Some r ↦ λ k. absurd (false≢true (sym k)) ] h
 
-told_print : (home : Package) (fields : List Field) (slot : Option Statement) → holds_rule slot ≡ false → prints home fields slot ≡ done None false
+pub told_print : (home : Package) (fields : List Field) (slot : Option Statement) → holds_rule slot ≡ false → prints home fields slot ≡ done None false
 told_print home fields None h = refl
 told_print home fields (Some s) h = elim (rule_of s.nodes) as (λ o. is_some o ≡ false → printed_of home s fields o ≡ done None false) [ None ↦ λ k. refl | Some r ↦ λ k. absurd (false≢true (sym k)) ] h
 
@@ -113,6 +110,33 @@ pub some_rule : (o : Option Rule) → is_some o ≡ true → (r : Rule) × (o �
 some_rule None h = absurd (false≢true h)
 some_rule (Some r) h = (r, refl)
 
--- what it tells of a rule it tells of its arguments
-pub told_by_rule : (g : List Segment → Done) (s : Statement) (r : Rule) (d : Done) → rule_of s.nodes ≡ Some r → d ≡ g r.args → d ≡ slot_done g (Some s)
-told_by_rule g s r d is told = told ∙ sym (ap (done_in g) is)
+-- of a command on arguments
+pub args_rule : (c : Command) (home : Package) (s : Statement) → edits_arguments c ≡ true → rule_after c home s ≡ with_args (args_after c home) s
+args_rule (Add attr values) home s h = refl
+args_rule (Remove attrs values) home s h = refl
+args_rule (Set (ToKind kind)) home s h = absurd (false≢true h)
+args_rule (Set (ToValues attr values)) home s h = refl
+args_rule (SetIfAbsent attr values) home s h = refl
+args_rule Delete home s h = absurd (false≢true h)
+args_rule (Rename old new) home s h = refl
+args_rule (Move old new chosen) home s h = refl
+args_rule (Replace attrs old new) home s h = refl
+args_rule (Comment Above text) home s h = absurd (false≢true h)
+args_rule (Comment (Attribute attr) text) home s h = refl
+args_rule (Comment (Value attr value) text) home s h = refl
+args_rule (Print fields) home s h = absurd (false≢true h)
+
+pub args_told : (c : Command) (home : Package) (s : Statement) (r : Rule) → edits_arguments c ≡ true → rule_of s.nodes ≡ Some r → args_done c home r.args ≡ done_of c home (Some s)
+args_told (Add attr values) home s r h is = sym (ap (done_in (args_done (Add attr values) home)) is)
+args_told (Remove attrs values) home s r h is = sym (ap (done_in (args_done (Remove attrs values) home)) is)
+args_told (Set (ToKind kind)) home s r h is = absurd (false≢true h)
+args_told (Set (ToValues attr values)) home s r h is = sym (ap (done_in (args_done (Set (ToValues attr values)) home)) is)
+args_told (SetIfAbsent attr values) home s r h is = sym (ap (done_in (args_done (SetIfAbsent attr values) home)) is)
+args_told Delete home s r h is = absurd (false≢true h)
+args_told (Rename old new) home s r h is = sym (ap (done_in (args_done (Rename old new) home)) is)
+args_told (Move old new chosen) home s r h is = sym (ap (done_in (args_done (Move old new chosen) home)) is)
+args_told (Replace attrs old new) home s r h is = sym (ap (done_in (args_done (Replace attrs old new) home)) is)
+args_told (Comment Above text) home s r h is = absurd (false≢true h)
+args_told (Comment (Attribute attr) text) home s r h is = sym (ap (done_in (args_done (Comment (Attribute attr) text) home)) is)
+args_told (Comment (Value attr value) text) home s r h is = sym (ap (done_in (args_done (Comment (Value attr value) text) home)) is)
+args_told (Print fields) home s r h is = absurd (false≢true h)

@@ -1,7 +1,6 @@
 -- A row is of one statement, and what is known of that by its head.
 use Rattle.std.proofs.Common.{◌≡◌, ◌∙◌, ℕ, List, Bool, [], false, Option, None, Some, is_some, map, option_map, ap, refl, sym, subst}
 use Rattle.bz_tree.specs.Tree.{Item, Statement}
-use Rattle.bz_tree.specs.Statement.{class_of}
 use Rattle.bz_tree.specs.Rows.{RowPart, part_view, parts_of}
 use Rattle.bz_tree.specs.declared.row.Part.{Part}
 use Rattle.bz_tree.specs.declared.stmt.Class.{Class}
@@ -10,7 +9,7 @@ use Rattle.bz_tree.proofs.FromParts.{statement_of_parts}
 use Rattle.bz_command.specs.Labels.{Name, Package, Target}
 use Rattle.bz_attribute.specs.Heads.{HasHead, IsHeadOf}
 use Rattle.bz_attribute.specs.Marks.{marks, marks_if}
-use Rattle.bz_attribute.specs.Rules.{Rule, is_text, rule_of}
+use Rattle.bz_attribute.specs.Rules.{Rule, is_text, kind_text, rule_of}
 use Rattle.bz_attribute.specs.Texts.{rule_text, shown_text}
 use Rattle.bz_attribute.specs.declared.head.Head.{Head}
 use Rattle.bz_rule.specs.RowViews.{row_value, row_statement}
@@ -27,12 +26,11 @@ statement_of s parts class start end is =
     statement_of_parts s (map part_view parts) (content_of (map part_view parts)) (last_beside (map part_view parts)) class start end is.are refl refl
     ∙ (λ i. record { before = s.before; nodes = s.nodes; suffix = s.suffix; class = is.is i; start = is.begins i; end = is.ends i })
 
-pub has_head : (s : Statement) (parts : List Part) (class : Class) (start end : ℕ) (head : Option Head) → IsOf s parts class start end → s.class ≡ class_of s.nodes → HasHead head s
+pub has_head : (s : Statement) (parts : List Part) (class : Class) (start end : ℕ) (head : Option Head) → IsOf s parts class start end → HasHead head s
     → HasItsHead (row_value parts class start end) head
-has_head s parts class start end head is known has =
+has_head s parts class start end head is has =
     let same = sym (statement_of s parts class start end is) in
     record {
-      class = subst (λ (z : Statement). z.class ≡ class_of z.nodes) same known;
       are = is.are ∙ ap parts_of same;
       has = subst (HasHead head) same has;
     }
@@ -51,3 +49,8 @@ named_by name head s h = ap (marks_if (Name name) s.start) h.is ∙ ap (is_text 
 pub head_some : (o : Option Head) (s : Statement) → HasHead o s → is_some o ≡ is_some (rule_of s.nodes)
 head_some None s h = sym (ap is_some h)
 head_some (Some head) s h = sym (ap is_some h.is)
+
+pub kind_known : (head : Head) (s : Statement) (r : Rule) → IsHeadOf head s → rule_of s.nodes ≡ Some r → kind_text r.kind ≡ head.kind.now
+kind_known head s r h is =
+    let same : r ≡ h.rule = let both : Some r ≡ Some h.rule = sym is ∙ h.is in cc in
+    ap (λ (z : Rule). kind_text z.kind) same ∙ h.kind_is

@@ -57,7 +57,5 @@ pub rule_class : (nodes : List Item) (r : Rule) → rule_of nodes ≡ Some r →
 rule_class nodes r is = sym (ap class_of (rule_nodes [] nodes r is)) ∙ call_class r.kind (segs_of r.args) r.one_comma r.end (rule_dotted [] nodes r is)
 
 -- and stays so with other arguments
-pub class_after : (f : List Segment → List Segment) (s : Statement) (r : Rule) → rule_of s.nodes ≡ Some r → s.class ≡ class_of s.nodes → (with_args f s).class ≡ class_of (with_args f s).nodes
-class_after f s r is class =
-    class ∙ rule_class s.nodes r is
-    ∙ sym (ap class_of (ap (nodes_after f s.nodes) is) ∙ call_class r.kind (segs_of (f r.args)) r.one_comma r.end (rule_dotted [] s.nodes r is))
+pub class_after : (f : List Segment → List Segment) (s : Statement) (r : Rule) → rule_of s.nodes ≡ Some r → class_of (with_args f s).nodes ≡ RuleClass
+class_after f s r is = ap class_of (ap (nodes_after f s.nodes) is) ∙ call_class r.kind (segs_of (f r.args)) r.one_comma r.end (rule_dotted [] s.nodes r is)

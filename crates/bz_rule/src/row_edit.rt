@@ -1,29 +1,30 @@
 //! Commands on the arguments of a rule, by its parts: those that a command looks at are read, edited and written in their
 //! place.
 
-ghost use Rattle.std.specs.Prelude.{◌≡◌, ◌≤◌, IfOk, IfSome, IfNone, OnOk, None, Some, length, map, true};
+ghost use Rattle.std.specs.Prelude.{◌≡◌, ◌≤◌, IfOk, IfSome, Some, length, map, true};
 ghost use Rattle.bz_tree.specs.Tree.{Statement};
-ghost use Rattle.bz_tree.specs.View.{slot_view};
 ghost use Rattle.bz_tree.specs.Rows.{part_view, parts_of};
-ghost use Rattle.bz_attribute.specs.Comment.{comment_rule as comment_above};
-ghost use Rattle.bz_attribute.specs.Effects.{done as done_with, with_args};
-ghost use Rattle.bz_attribute.specs.Set.{sets_kind, with_kind};
 ghost use Rattle.bz_attribute.specs.RowPlaces.{IsRuleRow};
-ghost use Rattle.bz_attribute.specs.Rules.{Rule};
+ghost use Rattle.bz_attribute.specs.Rules.{Rule, kind_text};
 ghost use Rattle.bz_command.specs.Labels as labels;
 ghost use Rattle.bz_rule.specs.Commands as commands;
-ghost use Rattle.bz_rule.specs.private.RowEdits.{IsPlaceFor, is_edit, one_attribute, rule_after};
+ghost use Rattle.bz_rule.specs.private.RowEdits.{IsPlaceFor, edits_arguments, is_edit, one_attribute, rule_after};
 
 use crate::command::{Action, Command, in_args};
 use bumpalo::Bump;
-use bz_attribute::{
-    Env, Executed, Parts, Place, all_arguments, place_of, push_stmt, read_arguments, splice,
-};
-use bz_attribute_commands::comment::comment_rule;
-use bz_attribute_commands::set_kind::set_kind;
+use bz_attribute::{Env, Executed, Parts, Place, all_arguments, place_of, read_arguments, splice};
+use bz_attribute_commands::kind::set_kind;
+use bz_attribute_commands::line::{comment_attribute, comment_rule};
+use bz_attribute_commands::name::rename;
 use bz_command::{Attributes, Commented, Setting};
-use bz_tree::{Class, Part, Stmt, stmt_of_parts};
-use std::alloc::{AllocError, Global};
+use bz_tree::Part;
+
+/// The parts of a rule, beside the text of its kind.
+#[derive(Clone, Copy)]
+pub(crate) struct RuleParts<'p, 'a> {
+    pub(crate) kind: &'p str,
+    pub(crate) parts: &'p [Part<'a>],
+}
 
 /// The attribute of a command that looks at its first argument alone.
 fn one_attribute(command: &Command) -> Option<&str>
@@ -56,8 +57,8 @@ fn place_for(command: &Command, parts: &[Part<'_>]) -> Place
     }
 }
 
-/// Writes the parts that a command on arguments makes of those of a rule, where it changes something. `Err`: memory was
-/// refused, and the new list is of no use.
+// Writes the parts that a command on arguments makes of those of a rule, where it changes something. `Err`: memory was
+// refused, and the new list is of no use.
 fn edit_arguments<'a>(
     env: Env<'_>,
     bump: &'a Bump,
@@ -65,12 +66,12 @@ fn edit_arguments<'a>(
     parts: &[Part<'a>],
     new: &mut Parts<'a>,
 ) -> Executed
-    ensures parts { IfOk result (λ done. (s : Statement) (r : Rule) → IsRuleRow s r (map part_view parts.now)
-        → done.changed ≡ true
-        → map part_view new.new.items
-        ≡ parts_of (with_args (commands.args_after command.now env.entry.home.now) s)) }
+    requires { edits_arguments command.now ≡ true }
+    ensures parts { IfOk result (λ done. done.changed ≡ true
+        → (s : Statement) (r : Rule) → IsRuleRow s r (map part_view parts.now)
+        → map part_view new.new.items ≡ parts_of (rule_after command.now env.entry.home.now s)) }
     ensures done { IfOk result (λ done. (s : Statement) (r : Rule) → IsRuleRow s r (map part_view parts.now)
-        → done ≡ commands.args_done command.now env.entry.home.now r.args) }
+        → done ≡ commands.done_of command.now env.entry.home.now (Some s)) }
 {
     let place = place_for(command, parts);
     let mut args = read_arguments(env.alloc, &parts[place.from..place.to])?;
@@ -82,81 +83,35 @@ fn edit_arguments<'a>(
     Ok(done)
 }
 
-// Writes the parts of the statement in a slot.
-fn write_slot<'a>(
-    bump: &'a Bump,
-    slot: &Option<Stmt<'a>>,
-    new: &mut Parts<'a>,
-) -> Result<(), AllocError>
-    ensures { OnOk result ((s : Statement) → slot_view slot.now ≡ Some s → map part_view new.new.items ≡ parts_of s) }
-{
-    new.clear();
-    match slot {
-        None => Ok(()),
-        Some(stmt) => push_stmt(bump, stmt, new),
-    }
-}
-
-// Writes the parts of a rule of another kind.
-fn edit_kind<'a>(
-    alloc: Global,
-    bump: &'a Bump,
-    kind: &str,
-    parts: &[Part<'a>],
-    new: &mut Parts<'a>,
-) -> Executed
-    ensures parts { IfOk result (λ done. (s : Statement) (r : Rule) → IsRuleRow s r (map part_view parts.now)
-        → map part_view new.new.items ≡ parts_of (with_kind kind.now s)) }
-    ensures done { IfOk result (λ done. (s : Statement) (r : Rule) → IsRuleRow s r (map part_view parts.now)
-        → done ≡ sets_kind kind.now (Some r)) }
-{
-    let mut slot = Some(stmt_of_parts(alloc, parts, Class::Rule, 0, 0)?);
-    let done = set_kind(alloc, kind, &mut slot)?;
-    write_slot(bump, &slot, new)?;
-    Ok(done)
-}
-
-// Writes the parts of a rule with one comment line more above it.
-fn edit_comments<'a>(
-    alloc: Global,
-    bump: &'a Bump,
-    text: &str,
-    parts: &[Part<'a>],
-    new: &mut Parts<'a>,
-) -> Executed
-    ensures parts { IfOk result (λ done. (s : Statement) (r : Rule) → IsRuleRow s r (map part_view parts.now)
-        → map part_view new.new.items ≡ parts_of (comment_above text.now s)) }
-    ensures done { IfOk result (λ done. (s : Statement) (r : Rule) → IsRuleRow s r (map part_view parts.now)
-        → done ≡ done_with None true) }
-{
-    let mut slot = Some(stmt_of_parts(alloc, parts, Class::Rule, 0, 0)?);
-    let done = comment_rule(alloc, text, &mut slot)?;
-    write_slot(bump, &slot, new)?;
-    Ok(done)
-}
-
 /// Writes the parts that a command makes of those of a rule, where it changes something. `Err`: memory was refused, and
 /// the new list is of no use.
 pub(crate) fn edit_rule<'a>(
     env: Env<'_>,
     bump: &'a Bump,
     command: &Command,
-    parts: &[Part<'a>],
+    rule: RuleParts<'_, 'a>,
     new: &mut Parts<'a>,
 ) -> Executed
     requires { is_edit command.now ≡ true }
-    ensures parts { IfOk result (λ done. (s : Statement) (r : Rule) → IsRuleRow s r (map part_view parts.now)
-        → done.changed ≡ true
+    ensures parts { IfOk result (λ done. done.changed ≡ true
+        → (s : Statement) (r : Rule) → IsRuleRow s r (map part_view rule.entry.parts.now)
+        → kind_text r.kind ≡ rule.entry.kind.now
         → map part_view new.new.items ≡ parts_of (rule_after command.now env.entry.home.now s)) }
-    ensures done { IfOk result (λ done. (s : Statement) (r : Rule) → IsRuleRow s r (map part_view parts.now)
+    ensures done { IfOk result (λ done. (s : Statement) (r : Rule)
+        → IsRuleRow s r (map part_view rule.entry.parts.now) → kind_text r.kind ≡ rule.entry.kind.now
         → done ≡ commands.done_of command.now env.entry.home.now (Some s)) }
 {
+    let RuleParts { kind, parts } = rule;
     match &command.action {
-        Action::Set(Setting::ToKind(kind)) => {
-            edit_kind(env.alloc, bump, kind.as_str(), parts, new)
+        Action::Set(Setting::ToKind(new_kind)) => {
+            set_kind(bump, new_kind.as_str(), kind, parts, new)
         }
+        Action::Rename(old, to) => rename(env.alloc, bump, old.as_str(), to.as_str(), parts, new),
         Action::Comment(Commented::Rule, text) => {
-            edit_comments(env.alloc, bump, text.as_str(), parts, new)
+            comment_rule(env.alloc, bump, text.as_str(), parts, new)
+        }
+        Action::Comment(Commented::Attribute(attr), text) => {
+            comment_attribute(env.alloc, bump, attr.as_str(), text.as_str(), parts, new)
         }
         _ => edit_arguments(env, bump, command, parts, new),
     }

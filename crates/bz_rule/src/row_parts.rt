@@ -3,6 +3,7 @@
 ghost use Rattle.std.specs.Prelude.{◌≡◌};
 ghost use Rattle.bz_rule.specs.private.PartsOf.{parts_in};
 
+use bumpalo::Bump;
 use bz_attribute::Parts;
 use bz_tree::Part;
 
@@ -21,6 +22,14 @@ impl<'a> RowParts<'a> {
     {
         match self {
             RowParts::Read(parts) => parts,
+            RowParts::Written(parts) => parts,
+        }
+    }
+
+    /// A list for other parts: the one that these stand in, if there is one.
+    pub(crate) fn into_list(self, bump: &'a Bump) -> Parts<'a> {
+        match self {
+            RowParts::Read(_) => Vec::new(bump),
             RowParts::Written(parts) => parts,
         }
     }

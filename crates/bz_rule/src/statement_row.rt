@@ -3,27 +3,28 @@
 ghost use Rattle.std.specs.Prelude.{◌≡◌, ◌++◌, ℕ, List, IfOk, IsOk, OnOk, OnErr, Some, false, true, map, option_map, is_some, string_bytes};
 ghost use Rattle.bz_tree.specs.Tree.{Statement};
 ghost use Rattle.bz_tree.specs.Statement.{class_of};
-ghost use Rattle.bz_tree.specs.Rows.{IsRowOf, part_view};
+ghost use Rattle.bz_tree.specs.View.{view};
+ghost use Rattle.bz_tree.specs.Rows.{IsRowOf, part_view, parts_of};
 ghost use Rattle.bz_command.specs.Labels.{Name};
 ghost use Rattle.bz_attribute.specs.Effects as effects;
 ghost use Rattle.bz_attribute.specs.Heads.{HasHead};
 ghost use Rattle.bz_attribute.specs.Marks as marks;
-ghost use Rattle.bz_attribute.specs.Rules.{is_text, rule_of};
+ghost use Rattle.bz_attribute.specs.Rules.{Rule, is_text, kind_text, rule_of};
 ghost use Rattle.bz_attribute.specs.Texts.{shown_text};
 ghost use Rattle.bz_attribute_commands.specs.Print.{prints};
 ghost use Rattle.bz_layout.specs.Layout.{layout_text};
 ghost use Rattle.bz_rule.specs.Commands as commands;
-ghost use Rattle.bz_rule.specs.private.RowEdits.{IsNextOf, is_edit};
+ghost use Rattle.bz_rule.specs.private.RowEdits.{HasKindAndParts, IsNextOf, is_edit};
 
 use crate::command::{Action, Command};
-use crate::row_edit::edit_rule;
+use crate::row_edit::{RuleParts, edit_rule};
 use crate::row_parts::RowParts;
 use bumpalo::Bump;
-use bz_attribute::{Done, Env, Executed, Head, Parts};
+use bz_attribute::{Done, Env, Executed, Head, Parts, call_at, push_stmt};
 use bz_attribute_commands::print::print;
 use bz_command::{Field, Package, Target};
 use bz_layout::put_row;
-use bz_tree::{Class, Row, stmt_of_parts};
+use bz_tree::{Class, Part, Row, Stmt, stmt_of_parts};
 use std::alloc::{AllocError, Global};
 use std::marker::Model;
 use std::mem;
@@ -75,7 +76,7 @@ impl<'a> StatementRow<'a> {
 
     /// The statement of a row whose head is known.
     pub fn new(bump: &'a Bump, row: &Row<'a>, head: Option<Head<'a>>) -> StatementRow<'a>
-        requires { (s : Statement) × ((s.class ≡ class_of s.nodes) × (IsRowOf s row.now × HasHead head s)) }
+        requires { (s : Statement) × (IsRowOf s row.now × HasHead head s) }
         ensures { (s : Statement) → IsRowOf s row.now → result ≡ s }
     {
         StatementRow {
@@ -87,6 +88,28 @@ impl<'a> StatementRow<'a> {
             head,
             bump,
         }
+    }
+
+    /// The statement of a tree. Texts that it owns are copied into the arena.
+    pub fn of_stmt(
+        alloc: Global,
+        bump: &'a Bump,
+        stmt: &Stmt<'a>,
+    ) -> Result<StatementRow<'a>, AllocError>
+        ensures { IfOk result (λ row. row ≡ view stmt.now) }
+    {
+        let mut parts = Vec::new(bump);
+        push_stmt(bump, stmt, &mut parts)?;
+        let head = head_of(alloc, bump, stmt, &parts)?;
+        Ok(StatementRow {
+            parts: RowParts::Written(parts),
+            spare: Vec::new(bump),
+            class: stmt.class,
+            start: stmt.start,
+            end: stmt.end,
+            head,
+            bump,
+        })
     }
 
     pub fn class(&self) -> Class
@@ -147,13 +170,41 @@ impl<'a> StatementRow<'a> {
         put_row(alloc, &row, out)
     }
 
-    // What is printed of the rule.
+    /// Its tree. `Err`: memory was refused.
+    pub(crate) fn tree(&self, alloc: Global) -> Result<Stmt<'a>, AllocError>
+        ensures { IfOk result (λ stmt. view stmt ≡ self.now) }
+    {
+        let parts = self.parts.as_slice();
+        stmt_of_parts(alloc, parts, self.class, self.start, self.end)
+    }
+
+    // What is printed of it. Of what is no rule nothing is.
     fn print(&self, env: Env<'_>, fields: &[Field]) -> Executed
         ensures { IfOk result (λ done. done ≡ prints env.entry.home.now fields.now (Some self.now)) }
     {
-        let parts = self.parts.as_slice();
-        let stmt = stmt_of_parts(env.alloc, parts, self.class, self.start, self.end)?;
-        print(env, fields, &Some(stmt))
+        match self.head {
+            None => Ok(Done::quiet(false)),
+            Some(head) => print(env, fields, head, self.parts.as_slice()),
+        }
+    }
+
+    // The kind of the rule that it is.
+    fn kind(&self) -> &str
+        ensures { (r : Rule) → rule_of self.now.nodes ≡ Some r → kind_text r.kind ≡ result.now }
+    {
+        match &self.head {
+            None => "",
+            Some(head) => head.kind,
+        }
+    }
+
+    fn rule(&self) -> RuleParts<'_, 'a>
+        ensures { HasKindAndParts result self.now }
+    {
+        RuleParts {
+            kind: self.kind(),
+            parts: self.parts.as_slice(),
+        }
     }
 
     // Takes other parts, in whose list the next ones are written then. `Err`: memory was refused, and all is as it was.
@@ -165,9 +216,7 @@ impl<'a> StatementRow<'a> {
         let head = Head::of_parts(alloc, self.bump, &new, self.start, self.end)?;
         let old = mem::replace(&mut self.parts, RowParts::Written(new));
         self.head = head;
-        if let RowParts::Written(list) = old {
-            self.spare = list;
-        }
+        self.spare = old.into_list(self.bump);
         Ok(())
     }
 
@@ -180,7 +229,7 @@ impl<'a> StatementRow<'a> {
         ensures err { OnErr result (self.new ≡ self.old) }
     {
         let mut new = mem::replace(&mut self.spare, Vec::new(self.bump));
-        let done = edit_rule(env, self.bump, command, self.parts.as_slice(), &mut new)?;
+        let done = edit_rule(env, self.bump, command, self.rule(), &mut new)?;
         if !done.changed {
             self.spare = new;
             return Ok(done);
@@ -190,7 +239,24 @@ impl<'a> StatementRow<'a> {
     }
 }
 
+// The head of the rule that has a tree and these parts.
+fn head_of<'a>(
+    alloc: Global,
+    bump: &'a Bump,
+    stmt: &Stmt<'a>,
+    parts: &[Part<'a>],
+) -> Result<Option<Head<'a>>, AllocError>
+    requires { map part_view parts.now ≡ parts_of (view stmt.now) }
+    ensures { IfOk result (λ head. HasHead head (view stmt.now)) }
+{
+    match call_at(&stmt.nodes) {
+        None => Ok(None),
+        Some(_) => Head::of_parts(alloc, bump, parts, stmt.start, stmt.end),
+    }
+}
+
 /// Applies a command to what a slot holds, as `apply` does. An `Err` leaves the slot as it was.
+#[tactic(auto, using(crate::proofs::Commands::no_rule_stays, crate::proofs::RowEdited::told_of_none))]
 pub fn execute(env: Env<'_>, command: &Command, slot: &mut Option<StatementRow<'_>>) -> Executed
     ensures slot { OnOk result (slot.new ≡ commands.after command.now env.entry.home.now slot.old) }
     ensures done { IfOk result (λ done. done ≡ commands.done_of command.now env.entry.home.now slot.old) }

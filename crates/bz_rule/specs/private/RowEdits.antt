@@ -1,33 +1,38 @@
 -- For private clauses: where the arguments stand that a command looks at, and a row with its head.
-use Rattle.std.specs.Prelude.{◌≡◌, ℕ, ◌-◌, List, ◌∷◌, ◌++◌, Bool, true, false, Option, Some, None, take, drop}
+use Rattle.std.specs.Prelude.{◌≡◌, ℕ, ◌-◌, List, ◌∷◌, ◌++◌, Bool, true, false, Option, Some, None, map, take, drop}
 use Rattle.bz_tree.specs.Statement.{class_of}
 use Rattle.bz_tree.specs.declared.stmt.Class.TheVariants.{Rule as RuleClass}
 use Rattle.bz_tree.specs.Tree.{Segment, Statement, segs_of}
-use Rattle.bz_tree.specs.Rows.{RowPart, parts_of, segs_parts}
+use Rattle.bz_tree.specs.Rows.{RowPart, part_view, parts_of, segs_parts}
 use Rattle.bz_command.specs.Labels.{Package}
 use Rattle.bz_command.specs.declared.arguments.Attributes.TheVariants.{Named}
 use Rattle.bz_command.specs.declared.arguments.Commented.TheVariants.{Attribute, Rule as Above, Value}
 use Rattle.bz_command.specs.declared.arguments.Setting.TheVariants.{ToKind, ToValues}
 use Rattle.bz_rule.specs.Commands.{Command, args_after, args_done}
-use Rattle.bz_rule.specs.declared.command.Action.TheVariants.{Add, Comment, Delete, Print, Remove, Replace, Set, SetIfAbsent}
-use Rattle.bz_attribute.specs.Comment.{comment_rule}
+use Rattle.bz_rule.specs.declared.command.Action.TheVariants.{Add, Comment, Delete, Print, Remove, Rename, Replace, Set, SetIfAbsent}
+use Rattle.bz_attribute.specs.Comment.{comment_attribute, comment_rule}
 use Rattle.bz_attribute.specs.Effects.{with_args}
 use Rattle.bz_attribute.specs.Heads.{HasHead}
-use Rattle.bz_attribute.specs.Rules.{Rule}
+use Rattle.bz_attribute.specs.Rules.{Rule, rule_of, kind_text}
+use Rattle.bz_rule.specs.declared.row_edit.RuleParts.{RuleParts}
+use Rattle.bz_attribute.specs.Rename.{rename}
 use Rattle.bz_attribute.specs.Set.{with_kind}
 use Rattle.bz_attribute.specs.declared.head.Head.{Head}
 use Rattle.bz_rule.specs.RowViews.{RowValue, row_statement}
 
 -- a row is of its statement, and that has this head
 pub record HasItsHead (row : RowValue) (head : Option Head) : Type 0 where
-  pub class : row.class ≡ class_of (row_statement row).nodes
   pub are : row.parts ≡ parts_of (row_statement row)
   pub has : HasHead head (row_statement row)
 
--- the parts and the class are of this statement, in whose place it comes
+-- the parts of a rule, beside its kind
+pub record HasKindAndParts (rule : RuleParts) (s : Statement) : Type 0 where
+  pub are : map part_view rule.parts.now ≡ parts_of s
+  pub kind : (r : Rule) → rule_of s.nodes ≡ Some r → kind_text r.kind ≡ rule.kind.now
+
+-- the parts are of this rule, which comes in the place of another
 pub record IsNextOf (old : Statement) (parts : List RowPart) (s : Statement) : Type 0 where
   pub are : parts ≡ parts_of s
-  pub class : s.class ≡ class_of s.nodes
   pub rule : class_of s.nodes ≡ RuleClass
   pub same : s.class ≡ old.class
   pub start : s.start ≡ old.start
@@ -46,10 +51,18 @@ is_edit Delete = false
 is_edit (Print fields) = false
 is_edit _ = true
 
+-- by the arguments of the rule
+abbrev pub edits_arguments : Command → Bool
+edits_arguments (Set (ToKind kind)) = false
+edits_arguments (Comment Above text) = false
+edits_arguments c = is_edit c
+
 -- that rule
 abbrev pub rule_after : Command → Package → Statement → Statement
 rule_after (Set (ToKind kind)) home s = with_kind kind s
 rule_after (Comment Above text) home s = comment_rule text s
+rule_after (Comment (Attribute attr) text) home s = with_args (comment_attribute attr text) s
+rule_after (Rename old new) home s = with_args (rename old new) s
 rule_after c home s = with_args (args_after c home) s
 
 -- the attribute of a command that looks at its first argument alone, and adds one after all where there is none

@@ -15,4 +15,4 @@ returns-clause-scripted c =
     where_ok c.edit_slot.result (λ scripted runs s class row. runs s (ap Some (c.new.ensures s row))) c.edit_slot.ensures.scripted
 
 pub new-requires : goal.new-requires
-new-requires c = (c.requires.row.0, (c.requires.row.1.0, (c.requires.row.1.1, c.in_ok-head.ensures c.requires.row.0 c.requires.row.1.0 c.requires.row.1.1)))
+new-requires c = (c.requires.row.0, (c.requires.row.1.1, c.in_ok-head.ensures c.requires.row.0 c.requires.row.1.0 c.requires.row.1.1))
