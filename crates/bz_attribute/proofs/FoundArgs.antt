@@ -73,7 +73,7 @@ nodes_passed name (item (group kind segs one_comma end) xs) more h =
     ∙ pass_items name 0 (item (group kind segs one_comma end) xs) (segment_end ∷ more)
     ∙ ap (option_map (λ (k : ℕ). length (items_parts (item (group kind segs one_comma end) xs)) + k)) (at_end name more) ∙ sum (length (items_parts (item (group kind segs one_comma end) xs))) 1 (find_from name 1 true more)
 
-here : (name : List ℕ) (ps : List RowPart) → is_text name (flat_name ps) ≡ true → find_from name 1 true ps ≡ Some 0
+pub here : (name : List ℕ) (ps : List RowPart) → is_text name (flat_name ps) ≡ true → find_from name 1 true ps ≡ Some 0
 here name [] h = absurd cc
 here name (p ∷ ps) h = ap (λ (z : Bool). if z then Some 0 else option_map suc (find_from name (depth_after p 1) (begins_after p 1 true) ps)) h
 

@@ -1,19 +1,20 @@
--- The statement whose parts begin with a head is a rule that has it.
-use Rattle.std.proofs.Common.{◌≡◌, ℕ, Bool, true, false, ◌&&◌, List, [], ◌∷◌, ◌++◌, map, refl, sym, ◌∙◌, ap, subst, append_assoc, append-nil, Option, None, Some, if◌then◌else◌, bytes_eq, rules}
+-- The statement whose parts begin with a kind and the call of a rule is that rule, and no other statement is one.
+use Rattle.std.proofs.Common.{◌≡◌, ℕ, Bool, true, false, ◌&&◌, ◌||◌, List, [], ◌∷◌, ◌++◌, map, refl, sym, ◌∙◌, ap, append_assoc, Option, None, Some, if◌then◌else◌, bytes_eq, rules}
 use Rattle.std.specs.Prelude.{codes}
 use Rattle.std.proofs.lemmas.Bool.{false≢true, and_parts}
 use Rattle.std.proofs.lemmas.Slice.Eq.{bytes_eq-Decides}
-use Rattle.bz_token.specs.declared.token.Kind.{Kind}
-use Rattle.bz_token.specs.declared.token.Kind.TheVariants.{Identifier, String, Operator}
+use Rattle.bz_token.specs.declared.token.Kind.TheVariants.{Identifier, Operator}
+use Rattle.bz_tree.specs.declared.stmt.GroupKind.{GroupKind}
 use Rattle.bz_tree.specs.declared.stmt.GroupKind.TheVariants.{RuleCall}
 use Rattle.bz_tree.specs.declared.stmt.Class.TheVariants.{Rule as RuleClass, Block, Load as LoadClass, Assign, Other as OtherClass}
-use Rattle.bz_tree.specs.Tree.{Item, leaf, group, Items, no_items, item, Segs, no_segs, seg, Segment, Statement, items_of, list_of, segments}
-use Rattle.bz_tree.specs.Statement.{class_of, has_assign, is_rule, is_rule_after, is_nothing, is_kept, is_load_word, is_call as is_call_kind}
-use Rattle.bz_tree.specs.Rows.{RowPart, a_token, opening, closing, segment_end, above, beside_part, items_parts, segs_parts, parts_of}
-use Rattle.bz_command.specs.Values.{value_of}
-use Rattle.bz_attribute.specs.Rules.{Rule, rule_of, kind_text, first_named, string_value, value, is_text}
-use Rattle.bz_attribute.specs.private.HeadParts as row
-use Rattle.bz_attribute.specs.private.HeadParts.{after_comments, name_literal, IsHeadAt}
+use Rattle.bz_tree.specs.Tree.{Item, leaf, group, Segs, Statement, items_of, segments, segs_of}
+use Rattle.bz_tree.specs.Statement.{class_of, has_assign, is_assign_operator, is_rule, is_rule_after, is_nothing, is_kept, is_load_word, is_call as is_call_kind}
+use Rattle.bz_tree.specs.Rows.{RowPart, opening, closing, above, beside_part, item_parts, items_parts, segs_parts, parts_of}
+use Rattle.bz_attribute.specs.Rules.{Rule, rule_of, call_at, kind_text, dotted, is_call}
+use Rattle.bz_attribute.specs.private.HeadParts.{after_comments, after_tokens, token_texts, in_call, IsInCall}
+use Rattle.bz_attribute.proofs.Calls.{rule_from_end, no_call}
+use Rattle.bz_attribute.proofs.RuleNodes.{rule_nodes, segs_back}
+use Rattle.bz_attribute.proofs.RuleParts.{rule_dotted, with_last}
 
 pub class_called : (nodes : List Item) → class_of nodes ≡ RuleClass → is_rule nodes ≡ true
 class_called [] h = absurd cc
@@ -32,171 +33,164 @@ class_called (x ∷ xs) h =
 same_bytes : (xs ys : List ℕ) → bytes_eq xs ys ≡ true → xs ≡ ys
 same_bytes xs ys h = search (rules, bytes_eq-Decides)
 
-comments_passed : (texts : List (List ℕ)) (ps : List RowPart) → after_comments (map above texts ++ ps) ≡ after_comments ps
-comments_passed [] ps = refl
-comments_passed (text ∷ texts) ps = comments_passed texts ps
+-- A rule by its class: an identifier comes next, or with `false` a dot or the call
+abbrev goes_on : Bool → List Item → Bool
+goes_on true nodes = is_rule nodes
+goes_on false nodes = is_rule_after nodes
 
--- the nodes of a segment by its parts
-record BeginsWith (xs : Items) (after ps : List RowPart) (x : Item) : Type 0 where
-  rest : Items
-  are : xs ≡ item x rest
-  parts : items_parts rest ++ segment_end ∷ after ≡ ps
+no_assign : (b : Bool) (kind : List Item) (k : GroupKind) (segs : Segs) (one_comma : Bool) (end : List (List ℕ)) → dotted b kind ≡ true → has_assign (kind ++ group k segs one_comma end ∷ []) ≡ false
+no_assign b [] k segs one_comma end h = refl
+no_assign true (leaf Identifier text ∷ xs) k segs one_comma end h = no_assign false xs k segs one_comma end h
+no_assign true (leaf _ text ∷ xs) k segs one_comma end h = absurd (false≢true h)
+no_assign true (group l ss o e ∷ xs) k segs one_comma end h = absurd (false≢true h)
+no_assign false (leaf Operator text ∷ xs) k segs one_comma end h =
+    let two = and_parts (bytes_eq text (codes ".")) (dotted true xs) h in
+    ap (λ (t : List ℕ). is_assign_operator t || has_assign (xs ++ group k segs one_comma end ∷ [])) (same_bytes text (codes ".") two.0) ∙ no_assign true xs k segs one_comma end two.1
+no_assign false (leaf _ text ∷ xs) k segs one_comma end h = absurd (false≢true h)
+no_assign false (group l ss o e ∷ xs) k segs one_comma end h = absurd (false≢true h)
 
-one_more : (xs : Items) (after ps : List RowPart) (kind : Kind) (text : List ℕ) → items_parts xs ++ segment_end ∷ after ≡ a_token kind text ∷ ps
-    → BeginsWith xs after ps (leaf kind text)
-one_more no_items after ps kind text h = absurd cc
-one_more (item (leaf k t) xs) after ps kind text h =
-    let same_kind : k ≡ kind = cc in
-    let same_text : t ≡ text = cc in
-    let same_rest : items_parts xs ++ segment_end ∷ after ≡ ps = cc in
-    record { rest = xs; are = λ i. item (leaf (same_kind i) (same_text i)) xs; parts = same_rest }
-one_more (item (group k segs one_comma end) xs) after ps kind text h = absurd cc
+ruled : (b : Bool) (kind : List Item) (segs : Segs) (one_comma : Bool) (end : List (List ℕ)) → dotted b kind ≡ true → goes_on b (kind ++ group RuleCall segs one_comma end ∷ []) ≡ true
+ruled true [] segs one_comma end h = absurd (false≢true h)
+ruled false [] segs one_comma end h = refl
+ruled true (leaf Identifier text ∷ xs) segs one_comma end h = ruled false xs segs one_comma end h
+ruled true (leaf _ text ∷ xs) segs one_comma end h = absurd (false≢true h)
+ruled true (group l ss o e ∷ xs) segs one_comma end h = absurd (false≢true h)
+ruled false (leaf Operator text ∷ xs) segs one_comma end h =
+    let two = and_parts (bytes_eq text (codes ".")) (dotted true xs) h in
+    ap (λ (b : Bool). b && is_rule (xs ++ group RuleCall segs one_comma end ∷ [])) two.0 ∙ ruled true xs segs one_comma end two.1
+ruled false (leaf _ text ∷ xs) segs one_comma end h = absurd (false≢true h)
+ruled false (group l ss o e ∷ xs) segs one_comma end h = absurd (false≢true h)
 
-no_more : (xs : Items) (after ps : List RowPart) → items_parts xs ++ segment_end ∷ after ≡ segment_end ∷ ps → xs ≡ no_items
-no_more no_items after ps h = refl
-no_more (item (leaf k t) xs) after ps h = absurd cc
-no_more (item (group k segs one_comma end) xs) after ps h = absurd cc
+class_at : (kind : List Item) (segs : Segs) (one_comma : Bool) (end : List (List ℕ)) → dotted true kind ≡ true → class_of (kind ++ group RuleCall segs one_comma end ∷ []) ≡ RuleClass
+class_at [] segs one_comma end h = absurd (false≢true h)
+class_at (leaf Identifier text ∷ xs) segs one_comma end h =
+    λ i. if no_assign true (leaf Identifier text ∷ xs) RuleCall segs one_comma end h i then Assign else (if ruled true (leaf Identifier text ∷ xs) segs one_comma end h i then RuleClass else OtherClass)
+class_at (leaf _ text ∷ xs) segs one_comma end h = absurd (false≢true h)
+class_at (group l ss o e ∷ xs) segs one_comma end h = absurd (false≢true h)
 
-abbrev name_parts : List ℕ → List RowPart → List RowPart
-name_parts literal after = a_token Identifier (codes "name") ∷ a_token Operator (codes "=") ∷ a_token String literal ∷ segment_end ∷ after
+-- a rule has the class of one
+pub rule_class : (nodes : List Item) (r : Rule) → rule_of nodes ≡ Some r → class_of nodes ≡ RuleClass
+rule_class nodes r is = ap class_of (sym (rule_nodes [] nodes r is)) ∙ class_at r.kind (segs_of r.args) r.one_comma r.end (rule_dotted [] nodes r is)
 
-abbrev name_items : List ℕ → Items
-name_items literal = item (leaf Identifier (codes "name")) (item (leaf Operator (codes "=")) (item (leaf String literal) no_items))
-
-nodes_are : (xs : Items) (after rest : List RowPart) (literal : List ℕ) → items_parts xs ++ segment_end ∷ after ≡ name_parts literal rest → xs ≡ name_items literal
-nodes_are xs after rest literal h =
-    let a = one_more xs after _ Identifier (codes "name") h in
-    let b = one_more a.rest after _ Operator (codes "=") a.parts in
-    let c = one_more b.rest after _ String literal b.parts in
-    a.are ∙ ap (λ (ys : Items). item (leaf Identifier (codes "name")) ys) (b.are ∙ ap (λ (ys : Items). item (leaf Operator (codes "=")) ys) (c.are ∙ ap (λ (ys : Items). item (leaf String literal) ys) (no_more c.rest after rest c.parts)))
-
--- the first argument is the name
-record IsNamedFirst (segs : Segs) (literal : List ℕ) : Type 0 where
-  first : Segment
-  named : first_named (codes "name") (segments segs) ≡ Some first
-  value_is : string_value (value first) ≡ value_of literal
-
-first_is : (nodes : Items) (suffix : Option (List ℕ)) (ss : Segs) (literal : List ℕ) → nodes ≡ name_items literal → IsNamedFirst (seg [] nodes suffix ss) literal
-first_is nodes suffix ss literal h =
-    subst (λ (xs : Items). IsNamedFirst (seg [] xs suffix ss) literal) (sym h) (record {
-      first = record { before = []; nodes = list_of (name_items literal); suffix = suffix };
-      named = refl;
-      value_is = refl;
-    })
-
-named_first : (segs : Segs) (end : List (List ℕ)) (one_comma : Bool) (ps rest : List RowPart) (literal : List ℕ)
-    → segs_parts segs ++ ((map above end ++ closing one_comma ∷ []) ++ ps) ≡ name_parts literal rest → IsNamedFirst segs literal
-named_first no_segs [] one_comma ps rest literal h = absurd cc
-named_first no_segs (text ∷ end) one_comma ps rest literal h = absurd cc
-named_first (seg (text ∷ before) nodes suffix ss) end one_comma ps rest literal h = absurd cc
-named_first (seg [] nodes suffix ss) end one_comma ps rest literal h =
-    let tail : List RowPart = beside_part suffix ++ segs_parts ss in
-    let more : List RowPart = (map above end ++ closing one_comma ∷ []) ++ ps in
-    first_is nodes suffix ss literal (nodes_are nodes (tail ++ more) rest literal (sym (append_assoc (items_parts nodes) (segment_end ∷ tail) more) ∙ h))
+-- the tokens before the call, and the call
+record IsCalled (b : Bool) (nodes : List Item) : Type 0 where
+  kind : List Item
+  k : GroupKind
+  segs : Segs
+  one_comma : Bool
+  end : List (List ℕ)
+  are : nodes ≡ kind ++ group k segs one_comma end ∷ []
+  dots : dotted b kind ≡ true
 
 nothing_is : (xs : List Item) → is_nothing xs ≡ true → xs ≡ []
 nothing_is [] h = refl
 nothing_is (x ∷ xs) h = absurd (false≢true h)
 
--- the rule, its kind and its name
-pub record IsNamedRule (kind name : List ℕ) (s : Statement) : Type 0 where
+one_before : (b c : Bool) (x : Item) (xs : List Item) → ((kind : List Item) → dotted c kind ≡ true → dotted b (x ∷ kind) ≡ true) → IsCalled c xs → IsCalled b (x ∷ xs)
+one_before b c x xs goes h = record { kind = x ∷ h.kind; k = h.k; segs = h.segs; one_comma = h.one_comma; end = h.end; are = ap (λ (ys : List Item). x ∷ ys) h.are; dots = goes h.kind h.dots }
+
+called : (b : Bool) (nodes : List Item) → goes_on b nodes ≡ true → IsCalled b nodes
+called true [] h = absurd (false≢true h)
+called true (leaf Identifier text ∷ xs) h = one_before true false (leaf Identifier text) xs (λ kind dots. dots) (called false xs h)
+called true (leaf _ text ∷ xs) h = absurd (false≢true h)
+called true (group k segs one_comma end ∷ xs) h = absurd (false≢true h)
+called false [] h = absurd (false≢true h)
+called false (leaf Operator text ∷ xs) h =
+    let two = and_parts (bytes_eq text (codes ".")) (is_rule xs) h in
+    one_before false true (leaf Operator text) xs (λ kind dots. ap (λ (b : Bool). b && dotted true kind) two.0 ∙ dots) (called true xs two.1)
+called false (leaf _ text ∷ xs) h = absurd (false≢true h)
+called false (group k segs one_comma end ∷ xs) h =
+    let two = and_parts (is_call_kind k) (is_nothing xs) h in
+    record { kind = []; k = k; segs = segs; one_comma = one_comma; end = end; are = ap (λ (ys : List Item). group k segs one_comma end ∷ ys) (nothing_is xs two.1); dots = refl }
+
+-- a kind is tokens alone
+abbrev AreTokens : List Item → Type 0
+AreTokens [] = Unit {0}
+AreTokens (leaf kind text ∷ xs) = AreTokens xs
+AreTokens (group k segs one_comma end ∷ xs) = ⊥
+
+tokens : (b : Bool) (kind : List Item) → dotted b kind ≡ true → AreTokens kind
+tokens b [] h = tt
+tokens true (leaf Identifier text ∷ xs) h = tokens false xs h
+tokens true (leaf _ text ∷ xs) h = absurd (false≢true h)
+tokens true (group k segs one_comma end ∷ xs) h = absurd (false≢true h)
+tokens false (leaf kind text ∷ xs) h = tokens true xs (and_parts _ (dotted true xs) h).1
+tokens false (group k segs one_comma end ∷ xs) h = absurd (false≢true h)
+
+tokens_passed : (kind : List Item) (k : GroupKind) (rest : List RowPart) → AreTokens kind → after_tokens (items_parts (items_of kind) ++ opening k ∷ rest) ≡ opening k ∷ rest
+tokens_passed [] k rest h = refl
+tokens_passed (leaf kind text ∷ xs) k rest h = tokens_passed xs k rest h
+tokens_passed (group l segs one_comma end ∷ xs) k rest h = absurd h
+
+texts_joined : (kind : List Item) (k : GroupKind) (rest : List RowPart) → AreTokens kind → token_texts (items_parts (items_of kind) ++ opening k ∷ rest) ≡ kind_text kind
+texts_joined [] k rest h = refl
+texts_joined (leaf kind text ∷ xs) k rest h = ap (λ (ts : List ℕ). text ++ ts) (texts_joined xs k rest h)
+texts_joined (group l segs one_comma end ∷ xs) k rest h = absurd h
+
+comments_passed : (texts : List (List ℕ)) (ps : List RowPart) → after_comments (map above texts ++ ps) ≡ after_comments ps
+comments_passed [] ps = refl
+comments_passed (text ∷ texts) ps = comments_passed texts ps
+
+no_comments : (kind : List Item) (k : GroupKind) (rest : List RowPart) → after_comments (items_parts (items_of kind) ++ opening k ∷ rest) ≡ items_parts (items_of kind) ++ opening k ∷ rest
+no_comments [] k rest = refl
+no_comments (leaf kind text ∷ xs) k rest = refl
+no_comments (group l segs one_comma end ∷ xs) k rest = refl
+
+-- what stands after the bracket that opens
+abbrev inside : (s : Statement) → IsCalled true s.nodes → List RowPart
+inside s c = (segs_parts c.segs ++ (map above c.end ++ closing c.one_comma ∷ [])) ++ beside_part s.suffix
+
+begin : (s : Statement) (c : IsCalled true s.nodes) → after_comments (parts_of s) ≡ items_parts (items_of c.kind) ++ opening c.k ∷ inside s c
+begin s c =
+    let call : List RowPart = item_parts (group c.k c.segs c.one_comma c.end) in
+    comments_passed s.before (items_parts (items_of s.nodes) ++ beside_part s.suffix)
+    ∙ ap (λ (nodes : List Item). after_comments (items_parts (items_of nodes) ++ beside_part s.suffix)) c.are
+    ∙ ap (λ (ps : List RowPart). after_comments (ps ++ beside_part s.suffix)) (with_last c.kind (group c.k c.segs c.one_comma c.end))
+    ∙ ap after_comments (append_assoc (items_parts (items_of c.kind)) call (beside_part s.suffix))
+    ∙ no_comments c.kind c.k (inside s c)
+
+open_at : (s : Statement) (c : IsCalled true s.nodes) → in_call (after_tokens (after_comments (parts_of s))) ≡ in_call (opening c.k ∷ inside s c)
+open_at s c = ap (λ (ps : List RowPart). in_call (after_tokens ps)) (begin s c) ∙ ap in_call (tokens_passed c.kind c.k (inside s c) (tokens true c.kind c.dots))
+
+opened : (k : GroupKind) (rest qs : List RowPart) → in_call (opening k ∷ rest) ≡ Some qs → (k ≡ RuleCall) × (rest ≡ qs)
+opened RuleCall rest qs h = (refl, cc)
+opened _ rest qs h = absurd cc
+
+unopened : (k : GroupKind) (rest : List RowPart) (segs : Segs) (one_comma : Bool) (end : List (List ℕ)) → in_call (opening k ∷ rest) ≡ None → is_call (group k segs one_comma end) ≡ false
+unopened RuleCall rest segs one_comma end h = absurd cc
+unopened _ rest segs one_comma end h = refl
+
+-- the rule, its kind and its arguments
+pub record IsHeaded (s : Statement) (args : List RowPart) : Type 0 where
   pub rule : Rule
   pub is : rule_of s.nodes ≡ Some rule
-  pub kind_is : kind_text rule.kind ≡ kind
-  pub first : Segment
-  pub named : first_named (codes "name") rule.args ≡ Some first
-  pub name_is : string_value (value first) ≡ Some name
+  pub kind_is : token_texts (after_comments (parts_of s)) ≡ kind_text rule.kind
+  pub args_are : IsInCall s rule args
 
-abbrev head_parts : List ℕ → List ℕ → List RowPart → List RowPart
-head_parts kind literal after = a_token Identifier kind ∷ opening RuleCall ∷ name_parts literal after
-
--- what stands after the identifier
-called : (s : Statement) (text : List ℕ) (nodes : List Item) (ends : List RowPart) (kind literal name : List ℕ) (after : List RowPart)
-    → s.nodes ≡ leaf Identifier text ∷ nodes → is_rule_after nodes ≡ true → text ≡ kind
-    → items_parts (items_of nodes) ++ ends ≡ opening RuleCall ∷ name_parts literal after → value_of literal ≡ Some name → IsNamedRule kind name s
-called s text [] ends kind literal name after are is same h value_is = absurd (false≢true is)
-called s text (leaf k t ∷ nodes) ends kind literal name after are is same h value_is = absurd cc
-called s text (group k segs one_comma end ∷ nodes) ends kind literal name after are is same h value_is =
-    let two = and_parts (is_call_kind k) (is_nothing nodes) is in
-    let call : k ≡ RuleCall = cc in
-    let none : nodes ≡ [] = nothing_is nodes two.1 in
-    let parts : ((segs_parts segs ++ (map above end ++ closing one_comma ∷ [])) ++ items_parts (items_of nodes)) ++ ends ≡ name_parts literal after = cc in
-    let closed : List RowPart = map above end ++ closing one_comma ∷ [] in
-    let first = named_first segs end one_comma (items_parts (items_of nodes) ++ ends) after literal
-    (sym (append_assoc (segs_parts segs ++ closed) (items_parts (items_of nodes)) ends ∙ append_assoc (segs_parts segs) closed (items_parts (items_of nodes) ++ ends)) ∙ parts) in
+pub headed : (s : Statement) (args : List RowPart) → class_of s.nodes ≡ RuleClass → in_call (after_tokens (after_comments (parts_of s))) ≡ Some args → IsHeaded s args
+headed s args class h =
+    let c = called true s.nodes (class_called s.nodes class) in
+    let two = opened c.k (inside s c) args (sym (open_at s c) ∙ h) in
+    let closed : List RowPart = map above c.end ++ closing c.one_comma ∷ [] in
+    let rule : Rule = record { kind = c.kind; args = segments c.segs; one_comma = c.one_comma; end = c.end } in
     record {
-      rule = record { kind = leaf Identifier text ∷ []; args = segments segs; one_comma = one_comma; end = end };
-      is = ap rule_of (are ∙ (λ i. leaf Identifier text ∷ group (call i) segs one_comma end ∷ none i));
-      kind_is = append-nil text ∙ same;
-      first = first.first;
-      named = first.named;
-      name_is = first.value_is ∙ value_is;
+      rule = rule;
+      is = ap rule_of c.are ∙ rule_from_end [] c.kind (group c.k c.segs c.one_comma c.end) ∙ (λ i. call_at c.kind (group (two.0 i) c.segs c.one_comma c.end)) ∙ ap (λ (b : Bool). if b then Some rule else None) c.dots;
+      kind_is = ap token_texts (begin s c) ∙ texts_joined c.kind c.k (inside s c) (tokens true c.kind c.dots);
+      args_are = sym two.1 ∙ append_assoc (segs_parts c.segs) closed (beside_part s.suffix) ∙ ap (λ (ss : Segs). segs_parts ss ++ (closed ++ beside_part s.suffix)) (sym (segs_back c.segs));
     }
 
-begun : (s : Statement) (nodes : List Item) (ends : List RowPart) (kind literal name : List ℕ) (after : List RowPart)
-    → s.nodes ≡ nodes → is_rule nodes ≡ true
-    → after_comments (items_parts (items_of nodes) ++ ends) ≡ head_parts kind literal after → value_of literal ≡ Some name → IsNamedRule kind name s
-begun s [] ends kind literal name after are is h value_is = absurd (false≢true is)
-begun s (group k segs one_comma end ∷ nodes) ends kind literal name after are is h value_is = absurd (false≢true is)
-begun s (leaf Identifier text ∷ nodes) ends kind literal name after are is h value_is =
-    let same : text ≡ kind = cc in
-    let parts : items_parts (items_of nodes) ++ ends ≡ opening RuleCall ∷ name_parts literal after = cc in
-    called s text nodes ends kind literal name after are is same parts value_is
-begun s (leaf _ text ∷ nodes) ends kind literal name after are is h value_is = absurd (false≢true is)
+-- another call than that of a rule, or none
+pub no_head : (s : Statement) → class_of s.nodes ≡ RuleClass → in_call (after_tokens (after_comments (parts_of s))) ≡ None → rule_of s.nodes ≡ None
+no_head s class h =
+    let c = called true s.nodes (class_called s.nodes class) in
+    ap rule_of c.are ∙ rule_from_end [] c.kind (group c.k c.segs c.one_comma c.end)
+    ∙ no_call c.kind (group c.k c.segs c.one_comma c.end) (unopened c.k (inside s c) c.segs c.one_comma c.end (sym (open_at s c) ∙ h))
 
--- the parts that begin with a literal of the name
-record IsNameFirst (ps : List RowPart) (literal : List ℕ) : Type 0 where
-  after : List RowPart
-  are : ps ≡ name_parts literal after
+no_rule : (nodes : List Item) (o : Option Rule) → rule_of nodes ≡ o → (class_of nodes ≡ RuleClass → ⊥) → o ≡ None
+no_rule nodes None is other = refl
+no_rule nodes (Some r) is other = absurd (other (rule_class nodes r is))
 
-name_at : (p : RowPart) → is_text (codes "name") (row.ident_of p) ≡ true → p ≡ a_token Identifier (codes "name")
-name_at (a_token Identifier text) h = ap (a_token Identifier) (sym (same_bytes (codes "name") text h))
-name_at (a_token _ text) h = absurd (false≢true h)
-name_at _ h = absurd (false≢true h)
-
-operator_at : (p : RowPart) → row.is_operator_item (codes "=") p ≡ true → p ≡ a_token Operator (codes "=")
-operator_at (a_token Operator text) h = ap (a_token Operator) (same_bytes text (codes "=") h)
-operator_at (a_token _ text) h = absurd (false≢true h)
-operator_at _ h = absurd (false≢true h)
-
-end_at : (p : RowPart) → row.is_end p ≡ true → p ≡ segment_end
-end_at segment_end h = refl
-end_at _ h = absurd (false≢true h)
-
-literal_at : (p : RowPart) (literal : List ℕ) → row.text_of p ≡ Some literal → p ≡ a_token String literal
-literal_at (a_token String text) literal h = let is : text ≡ literal = cc in ap (a_token String) is
-literal_at (a_token _ text) literal h = absurd cc
-literal_at _ literal h = absurd cc
-
-ident_at : (p : RowPart) (text : List ℕ) → row.ident_of p ≡ Some text → p ≡ a_token Identifier text
-ident_at (a_token Identifier other) text h = let is : other ≡ text = cc in ap (a_token Identifier) is
-ident_at (a_token _ other) text h = absurd cc
-ident_at _ text h = absurd cc
-
-call_at : (p : RowPart) → row.opens_rule p ≡ true → p ≡ opening RuleCall
-call_at (opening RuleCall) h = refl
-call_at (opening _) h = absurd (false≢true h)
-call_at _ h = absurd (false≢true h)
-
-name_first : (ps : List RowPart) (literal : List ℕ) → name_literal ps ≡ Some literal → IsNameFirst ps literal
-name_first [] literal h = absurd cc
-name_first (n ∷ []) literal h = absurd cc
-name_first (n ∷ e ∷ []) literal h = absurd cc
-name_first (n ∷ e ∷ l ∷ []) literal h = absurd cc
-name_first (n ∷ e ∷ l ∷ z ∷ ps) literal h =
-    elim (is_text (codes "name") (row.ident_of n) && row.is_operator_item (codes "=") e && row.is_end z) as (λ b. (is_text (codes "name") (row.ident_of n) && row.is_operator_item (codes "=") e && row.is_end z) ≡ b
-    → (if b then row.text_of l else None) ≡ Some literal → IsNameFirst (n ∷ e ∷ l ∷ z ∷ ps) literal) [
-      | true ↦ λ all k.
-          let last = and_parts (is_text (codes "name") (row.ident_of n) && row.is_operator_item (codes "=") e) (row.is_end z) all in
-          let two = and_parts (is_text (codes "name") (row.ident_of n)) (row.is_operator_item (codes "=") e) last.0 in
-          record { after = ps; are = λ i. name_at n two.0 i ∷ operator_at e two.1 i ∷ literal_at l literal k i ∷ end_at z last.1 i ∷ ps }
-      | false ↦ λ all k. absurd cc
-    ] refl h
-
-pub headed : (s : Statement) (kind name : List ℕ) → class_of s.nodes ≡ RuleClass → IsHeadAt kind name (after_comments (parts_of s)) → IsNamedRule kind name s
-headed s kind name class head =
-    let first = name_first head.args head.literal head.literal_is in
-    let are : after_comments (parts_of s) ≡ head_parts kind head.literal first.after =
-    head.are ∙ (λ i. ident_at head.first kind head.kind_is i ∷ call_at head.call head.call_is i ∷ first.are i) in
-    begun s s.nodes (beside_part s.suffix) kind head.literal name first.after refl (class_called s.nodes class)
-    (sym (comments_passed s.before (items_parts (items_of s.nodes) ++ beside_part s.suffix)) ∙ are) head.name_is
+-- another class
+pub other_class : (nodes : List Item) → (class_of nodes ≡ RuleClass → ⊥) → rule_of nodes ≡ None
+other_class nodes other = no_rule nodes (rule_of nodes) refl other

@@ -8,9 +8,11 @@ pub mod FoundArgs
 pub mod Fresh
 pub mod Groups
 pub mod Headed
+pub mod KindPlaced
 pub mod LabelSets
 pub mod Lengths
 pub mod Mapped
+pub mod NameTexts
 pub mod NextPart
 pub mod Passed
 pub mod PlaceFound

@@ -1,19 +1,22 @@
 -- The place of an argument among the parts of its rule.
-use Rattle.std.proofs.Common.{◌≡◌, ℕ, ◌+◌, ◌-◌, List, [], ◌∷◌, ◌++◌, true, false, Option, Some, None, length, map, take, drop, option_map, ap, sym, ◌∙◌, subst, arith, append_assoc, append-nil, length-append}
+use Rattle.std.proofs.Common.{◌≡◌, ℕ, suc, ◌+◌, ◌-◌, ◌≤◌, Bool, List, [], ◌∷◌, ◌++◌, true, false, Option, Some, None, length, map, take, drop, option_map, refl, ap, sym, ◌∙◌, subst, arith, append_assoc, append-nil, length-append}
 use Rattle.std.specs.Prelude.{option_to_list}
-use Rattle.std.proofs.Math.Seq.{drop-append_seam, take-append_seam}
-use Rattle.bz_tree.specs.Tree.{Segment, Statement, items_of, segs_of}
-use Rattle.bz_tree.specs.Rows.{RowPart, segment_end, above, beside_part, items_parts, segs_parts, parts_of}
-use Rattle.bz_attribute.specs.Rules.{Rule, rule_of, is_named, first_named}
+use Rattle.std.proofs.Math.Seq.{drop-append-add, drop-append_seam, take-append_seam}
+use Rattle.std.proofs.lemmas.Bool.{false≢true, and_parts}
+use Rattle.bz_token.specs.declared.token.Kind.TheVariants.{Identifier}
+use Rattle.bz_tree.specs.declared.stmt.GroupKind.TheVariants.{RuleCall}
+use Rattle.bz_tree.specs.Tree.{Item, leaf, group, Segment, Statement, items_of, segs_of}
+use Rattle.bz_tree.specs.Rows.{RowPart, opening, segment_end, above, beside_part, items_parts, segs_parts, parts_of}
+use Rattle.bz_attribute.specs.Rules.{Rule, rule_of, is_named, first_named, dotted}
 use Rattle.bz_attribute.specs.Effects.{edit_first, has, with_args, nodes_after, nodes_of}
 use Rattle.bz_attribute.specs.Finder.{find_from}
-use Rattle.bz_attribute.specs.RowPlaces.{alone, IsLocal, IsPlaceOf, IsRuleRow}
-use Rattle.bz_attribute.specs.private.Ends.{arguments_end, plain_len, segment_len}
+use Rattle.bz_attribute.specs.RowPlaces.{alone, IsLocal, IsPlaceOf, IsPlaceOfAll, IsRuleRow}
+use Rattle.bz_attribute.specs.private.Ends.{arguments_begin, arguments_end, plain_len, segment_len}
 use Rattle.bz_attribute.proofs.RuleNodes.{rule_nodes}
 use Rattle.bz_attribute.proofs.EditedAt.{edited_at, first_at, none_first, segs_join}
 use Rattle.bz_attribute.proofs.EndsBack.{args_end, comments_at, end_alone, segment_long}
 use Rattle.bz_attribute.proofs.FoundArgs.{Answer, found, absent, answer, IsArgAt}
-use Rattle.bz_attribute.proofs.RuleParts.{after_args, before_args, head_passed, is_after, parts_cut}
+use Rattle.bz_attribute.proofs.RuleParts.{after_args, before_args, head_passed, is_after, parts_cut, rule_dotted}
 
 -- all parts: those before some arguments, these and those after them
 abbrev pre : Statement → Rule → List Segment → List RowPart
@@ -36,24 +39,38 @@ record IsMiddle (name : List ℕ) (s : Statement) (r : Rule) (front mid back : L
   are : r.args ≡ front ++ (mid ++ back)
   edited : (f : List Segment → List Segment) → IsLocal name f → f r.args ≡ front ++ (f mid ++ back)
 
-middle : (name : List ℕ) (s : Statement) (r : Rule) (front mid back : List Segment) (from to : ℕ) → rule_of s.nodes ≡ Some r → IsMiddle name s r front mid back
-    → from ≡ length (pre s r front) → to ≡ length (pre s r front ++ segs_parts (segs_of mid)) → IsPlaceOf name s r (parts_of s) from to
-middle name s r front mid back from to is m from_is to_is =
+-- where some arguments stand, and what is written there
+record IsWritten (s : Statement) (r : Rule) (front mid back : List Segment) (from to : ℕ) : Type 0 where
+  read : take (to - from) (drop from (parts_of s)) ≡ segs_parts (segs_of mid)
+  put : (f : List Segment → List Segment) → f r.args ≡ front ++ (f mid ++ back) → take from (parts_of s) ++ (segs_parts (segs_of (f mid)) ++ drop to (parts_of s)) ≡ parts_of (with_args f s)
+
+written : (s : Statement) (r : Rule) (front mid back : List Segment) (from to : ℕ) → rule_of s.nodes ≡ Some r → r.args ≡ front ++ (mid ++ back)
+    → from ≡ length (pre s r front) → to ≡ length (pre s r front ++ segs_parts (segs_of mid)) → IsWritten s r front mid back from to
+written s r front mid back from to is are from_is to_is =
     let first : List RowPart = pre s r front in
     let own : List RowPart = segs_parts (segs_of mid) in
     let last : List RowPart = post s r back in
-    let all : parts_of s ≡ first ++ (own ++ last) = in_three s r front mid back (rule_nodes [] s.nodes r is) m.are in
+    let all : parts_of s ≡ first ++ (own ++ last) = in_three s r front mid back (rule_nodes [] s.nodes r is) are in
     let joined : first ++ (own ++ last) ≡ (first ++ own) ++ last = sym (append_assoc first own last) in
     let size : to - from ≡ length own = omega (arith, from_is, to_is, length-append first own) in
     let dropped : drop from (parts_of s) ≡ own ++ last = (λ i. drop (from_is i) (all i)) ∙ drop-append_seam first (own ++ last) in
     record {
-      read = (λ i. take (size i) (dropped i)) ∙ take-append_seam own last ∙ sym (ap (λ (zs : List Segment). segs_parts (segs_of zs)) m.is);
-      put = λ f local.
+      read = (λ i. take (size i) (dropped i)) ∙ take-append_seam own last;
+      put = λ f edited.
           let r2 : Rule = record r { args = f r.args } in
           let nodes : nodes_of r2 ≡ (with_args f s).nodes = sym (ap (nodes_after f s.nodes) is) in
           let taken : take from (parts_of s) ≡ first = (λ i. take (from_is i) (all i)) ∙ take-append_seam first (own ++ last) in
           let left : drop to (parts_of s) ≡ last = (λ i. drop (to_is i) ((all ∙ joined) i)) ∙ drop-append_seam (first ++ own) last in
-          (λ i. taken i ++ (segs_parts (segs_of (f (m.is i))) ++ left i)) ∙ sym (in_three (with_args f s) r2 front (f mid) back nodes (m.edited f local));
+          (λ i. taken i ++ (segs_parts (segs_of (f mid)) ++ left i)) ∙ sym (in_three (with_args f s) r2 front (f mid) back nodes edited);
+    }
+
+middle : (name : List ℕ) (s : Statement) (r : Rule) (front mid back : List Segment) (from to : ℕ) → rule_of s.nodes ≡ Some r → IsMiddle name s r front mid back
+    → from ≡ length (pre s r front) → to ≡ length (pre s r front ++ segs_parts (segs_of mid)) → IsPlaceOf name s r (parts_of s) from to
+middle name s r front mid back from to is m from_is to_is =
+    let w = written s r front mid back from to is m.are from_is to_is in
+    record {
+      read = w.read ∙ sym (ap (λ (zs : List Segment). segs_parts (segs_of zs)) m.is);
+      put = λ f local. ap (λ (zs : List Segment). take from (parts_of s) ++ (segs_parts (segs_of (f zs)) ++ drop to (parts_of s))) m.is ∙ w.put f (m.edited f local);
     }
 
 there : (name : List ℕ) (s : Statement) (r : Rule) (n : ℕ) → (at : IsArgAt name r.args n) → IsMiddle name s r at.front (at.arg ∷ []) at.back
@@ -125,6 +142,52 @@ nowhere name s r o (absent on none) h = none
 answered : (name : List ℕ) (s : Statement) (r : Rule) → Answer name r.args (args_found name s r)
 answered name s r = answer name r.args (after_args s r) (is_after s r)
 
+-- an argument of this name, the first one, is that with whose nodes the parts begin
+pub record IsArgument (name : List ℕ) (r : Rule) (ps : List RowPart) : Type 0 where
+  pub arg : Segment
+  pub more : List RowPart
+  pub named : first_named name r.args ≡ Some arg
+  pub is : is_named name arg ≡ true
+  pub parts : ps ≡ items_parts (items_of arg.nodes) ++ segment_end ∷ more
+
+at_argument : (name : List ℕ) (s : Statement) (r : Rule) (n : ℕ) → IsArgAt name r.args n → IsArgument name r (drop n (segs_parts (segs_of r.args) ++ after_args s r))
+at_argument name s r n at =
+    let a : Segment = at.arg in
+    let first : List RowPart = segs_parts (segs_of at.front) ++ map above a.before in
+    let more : List RowPart = beside_part a.suffix ++ post s r at.back in
+    let rest : List RowPart = items_parts (items_of a.nodes) ++ (segment_end ∷ more) in
+    let moved : (segs_parts (segs_of at.front) ++ segs_parts (segs_of (a ∷ at.back))) ++ after_args s r ≡ first ++ rest = simp append_assoc in
+    let all : segs_parts (segs_of r.args) ++ after_args s r ≡ first ++ rest =
+    ap (λ (zs : List Segment). segs_parts (segs_of zs) ++ after_args s r) at.are ∙ ap (λ (ps : List RowPart). ps ++ after_args s r) (segs_join at.front (a ∷ at.back)) ∙ moved in
+    let begins : n ≡ length first = omega (arith, at.at, length-append (segs_parts (segs_of at.front)) (map above a.before)) in
+    record {
+      arg = a;
+      more = more;
+      named = ap (first_named name) at.are ∙ first_at name at.front a at.back at.none at.is;
+      is = at.is;
+      parts = (λ i. drop (begins i) (all i)) ∙ drop-append_seam first rest;
+    }
+
+answered_at : (name : List ℕ) (s : Statement) (r : Rule) (n : ℕ) (o : Option ℕ) → Answer name r.args o → o ≡ Some n → IsArgAt name r.args n
+answered_at name s r n o (found m on arg) h =
+    let same : m ≡ n = let both : Some m ≡ Some n = sym on ∙ h in cc in
+    subst (λ (k : ℕ). IsArgAt name r.args k) same arg
+answered_at name s r n o (absent on none) h = let clash : None ≡ Some n = sym on ∙ h in absurd cc
+
+-- by what the finder told
+pub argument_in : (name : List ℕ) (s : Statement) (r : Rule) (n : ℕ) → args_found name s r ≡ Some n → IsArgument name r (drop n (segs_parts (segs_of r.args) ++ after_args s r))
+argument_in name s r n h = at_argument name s r n (answered_at name s r n (args_found name s r) (answered name s r) h)
+
+pub argument_there : (name : List ℕ) (s : Statement) (r : Rule) (ps : List RowPart) (at : ℕ) → IsRuleRow s r ps → find_from name 0 false ps ≡ Some at → IsArgument name r (drop at ps)
+argument_there name s r ps at h is =
+    let f = placed name s r at (args_found name s r) (answered name s r) (sym (told name s r ps h) ∙ is) in
+    let all : ps ≡ before_args s r ++ (segs_parts (segs_of r.args) ++ after_args s r) = h.are ∙ parts_cut s r (rule_nodes [] s.nodes r h.rule) in
+    let dropped : drop at ps ≡ drop f.n (segs_parts (segs_of r.args) ++ after_args s r) = (λ i. drop (f.is i) (all i)) ∙ drop-append-add (before_args s r) (segs_parts (segs_of r.args) ++ after_args s r) f.n in
+    subst (λ (qs : List RowPart). IsArgument name r qs) (sym dropped) (at_argument name s r f.n f.arg)
+
+pub none_there : (name : List ℕ) (s : Statement) (r : Rule) (ps : List RowPart) → IsRuleRow s r ps → find_from name 0 false ps ≡ None → first_named name r.args ≡ None
+none_there name s r ps h is = none_first name r.args (nowhere name s r (args_found name s r) (answered name s r) (sym (told name s r ps h) ∙ is))
+
 over : (name : List ℕ) (s : Statement) (r : Rule) (ps : List RowPart) (from to : ℕ) → IsRuleRow s r ps → IsPlaceOf name s r (parts_of s) from to → IsPlaceOf name s r ps from to
 over name s r ps from to h p = subst (λ (qs : List RowPart). IsPlaceOf name s r qs from to) (sym h.are) p
 
@@ -145,3 +208,40 @@ place_absent name s r ps end h is end_is =
 -- whether there is such an argument
 pub has_none : (name : List ℕ) (s : Statement) (r : Rule) (ps : List RowPart) → IsRuleRow s r ps → find_from name 0 false ps ≡ None → has name r.args ≡ false
 has_none name s r ps h is = nowhere name s r (args_found name s r) (answered name s r) (sym (told name s r ps h) ∙ is)
+
+-- all arguments
+begin_kind : (b : Bool) (kind : List Item) (rest : List RowPart) → dotted b kind ≡ true → arguments_begin (items_parts (items_of kind) ++ opening RuleCall ∷ rest) ≡ length (items_parts (items_of kind)) + 1
+begin_kind b [] rest h = refl
+begin_kind true (leaf Identifier text ∷ xs) rest h = ap suc (begin_kind false xs rest h) ∙ omega arith
+begin_kind true (leaf _ text ∷ xs) rest h = absurd (false≢true h)
+begin_kind true (group k segs one_comma end ∷ xs) rest h = absurd (false≢true h)
+begin_kind false (leaf k text ∷ xs) rest h = ap suc (begin_kind true xs rest (and_parts _ (dotted true xs) h).1) ∙ omega arith
+begin_kind false (group k segs one_comma end ∷ xs) rest h = absurd (false≢true h)
+
+begin_above : (texts : List (List ℕ)) (ps : List RowPart) → arguments_begin (map above texts ++ ps) ≡ length (map above texts) + arguments_begin ps
+begin_above [] ps = omega arith
+begin_above (text ∷ texts) ps = omega (arith, begin_above texts ps)
+
+begins_at : (s : Statement) (r : Rule) (rest : List RowPart) → dotted true r.kind ≡ true → arguments_begin (before_args s r ++ rest) ≡ length (before_args s r)
+begins_at s r rest dots =
+    let kind : List RowPart = items_parts (items_of r.kind) in
+    let moved : before_args s r ++ rest ≡ map above s.before ++ (kind ++ opening RuleCall ∷ rest) = simp append_assoc in
+    ap arguments_begin moved ∙ begin_above s.before (kind ++ opening RuleCall ∷ rest)
+    ∙ omega (arith, begin_kind true r.kind rest dots, length-append (map above s.before) (kind ++ opening RuleCall ∷ []), length-append kind (opening RuleCall ∷ []))
+
+all_begin : (s : Statement) (r : Rule) (ps : List RowPart) → IsRuleRow s r ps → arguments_begin ps ≡ length (pre s r [])
+all_begin s r ps h =
+    ap arguments_begin (h.are ∙ parts_cut s r (rule_nodes [] s.nodes r h.rule)) ∙ begins_at s r _ (rule_dotted [] s.nodes r h.rule) ∙ ap length (sym (append-nil (before_args s r)))
+
+all_end : (s : Statement) (r : Rule) (ps : List RowPart) → IsRuleRow s r ps → arguments_end ps ≡ length (pre s r [] ++ segs_parts (segs_of r.args))
+all_end s r ps h =
+    ap arguments_end (h.are ∙ parts_cut s r (rule_nodes [] s.nodes r h.rule)) ∙ args_end s r r.args
+    ∙ ap (λ (qs : List RowPart). length (qs ++ segs_parts (segs_of r.args))) (sym (append-nil (before_args s r)))
+
+pub place_all : (s : Statement) (r : Rule) (ps : List RowPart) (from to : ℕ) → IsRuleRow s r ps → from ≡ arguments_begin ps → to ≡ arguments_end ps → IsPlaceOfAll s r ps from to
+place_all s r ps from to h from_is to_is =
+    let w = written s r [] r.args [] from to h.rule (sym (append-nil r.args)) (from_is ∙ all_begin s r ps h) (to_is ∙ all_end s r ps h) in
+    subst (λ (qs : List RowPart). IsPlaceOfAll s r qs from to) (sym h.are) (record { read = w.read; put = λ f. w.put f (sym (append-nil (f r.args))) })
+
+pub all_ordered : (s : Statement) (r : Rule) (ps : List RowPart) → IsRuleRow s r ps → arguments_begin ps ≤ arguments_end ps
+all_ordered s r ps h = omega (arith, all_begin s r ps h, all_end s r ps h, length-append (pre s r []) (segs_parts (segs_of r.args)))

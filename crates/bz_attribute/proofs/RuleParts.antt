@@ -18,7 +18,7 @@ before_args s r = map above s.before ++ (items_parts (items_of r.kind) ++ openin
 abbrev pub after_args : Statement → Rule → List RowPart
 after_args s r = (map above r.end ++ closing r.one_comma ∷ []) ++ beside_part s.suffix
 
-with_last : (kind : List Item) (x : Item) → items_parts (items_of (kind ++ x ∷ [])) ≡ items_parts (items_of kind) ++ item_parts x
+pub with_last : (kind : List Item) (x : Item) → items_parts (items_of (kind ++ x ∷ [])) ≡ items_parts (items_of kind) ++ item_parts x
 with_last [] x = append-nil (item_parts x)
 with_last (y ∷ kind) x = ap (λ (ps : List RowPart). item_parts y ++ ps) (with_last kind x) ∙ sym (append_assoc (item_parts y) (items_parts (items_of kind)) (item_parts x))
 
@@ -45,7 +45,7 @@ call_dotted kind x r h =
       | false ↦ λ e k. absurd cc
     ] refl h
 
-rule_dotted : (kind nodes : List Item) (r : Rule) → rule_from kind nodes ≡ Some r → dotted true r.kind ≡ true
+pub rule_dotted : (kind nodes : List Item) (r : Rule) → rule_from kind nodes ≡ Some r → dotted true r.kind ≡ true
 rule_dotted kind [] r h = absurd cc
 rule_dotted kind (x ∷ []) r h = call_dotted kind x r h
 rule_dotted kind (x ∷ y ∷ xs) r h = rule_dotted (kind ++ x ∷ []) (y ∷ xs) r h

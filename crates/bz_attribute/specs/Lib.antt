@@ -3,6 +3,7 @@ pub mod Comment
 pub mod Effects
 pub mod Finder
 pub mod Heads
+pub mod KindPlaces
 pub mod Lists
 pub mod Marks
 pub mod Move

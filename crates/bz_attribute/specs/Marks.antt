@@ -1,9 +1,7 @@
 -- Which statements a target marks (buildozer README, targets).
-use Rattle.std.specs.Prelude.{◌≡◌, ℕ, ◌==◌, List, Bool, true, false, Option, Some, None, codes, bytes_eq}
+use Rattle.std.specs.Prelude.{ℕ, ◌==◌, Bool, true, false, Option, Some, None, codes, bytes_eq}
 use Rattle.bz_tree.specs.Tree.{Statement}
 use Rattle.bz_command.specs.Labels.{Target, Name, Pkg, All, Kind, Line}
-use Rattle.bz_attribute.specs.declared.marks.RuleName.{RuleName}
-use Rattle.bz_attribute.specs.declared.marks.RuleName.TheVariants.{NoName, Plain, Other}
 use Rattle.bz_attribute.specs.Rules.{Rule, rule_of, kind_text, name_in, is_text}
 
 -- a rule that begins on a line
@@ -21,9 +19,3 @@ marks_if target start (Some r) = marks_rule target start r
 
 abbrev pub marks : Target → Statement → Bool
 marks target s = marks_if target s.start (rule_of s.nodes)
-
--- which names meet a test: none, this one alone, or it is not said
-abbrev pub IsNamed : (List ℕ → Bool) → RuleName → Type 0
-IsNamed test NoName = (name : List ℕ) → test name ≡ false
-IsNamed test (Plain text) = (name : List ℕ) → test name ≡ bytes_eq name text.now
-IsNamed test Other = Unit {0}

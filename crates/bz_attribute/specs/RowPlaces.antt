@@ -28,3 +28,8 @@ alone name r = option_to_list (first_named name r.args)
 pub record IsPlaceOf (name : List ℕ) (s : Statement) (r : Rule) (ps : List RowPart) (from to : ℕ) : Type 0 where
   pub read : take (to - from) (drop from ps) ≡ segs_parts (segs_of (alone name r))
   pub put : (f : List Segment → List Segment) → IsLocal name f → take from ps ++ (segs_parts (segs_of (f (alone name r))) ++ drop to ps) ≡ parts_of (with_args f s)
+
+-- All arguments stand there: what an edit makes of them, written in their place, makes what it makes of the rule.
+pub record IsPlaceOfAll (s : Statement) (r : Rule) (ps : List RowPart) (from to : ℕ) : Type 0 where
+  pub read : take (to - from) (drop from ps) ≡ segs_parts (segs_of r.args)
+  pub put : (f : List Segment → List Segment) → take from ps ++ (segs_parts (segs_of (f r.args)) ++ drop to ps) ≡ parts_of (with_args f s)

@@ -5,7 +5,7 @@ ghost use Rattle.bz_tree.specs.Rows.{part_view};
 ghost use Rattle.bz_attribute.specs.Rules.{is_text};
 ghost use Rattle.bz_attribute.specs.Finder as spec;
 
-use crate::head::{ident_of, is_equals};
+use crate::head_parts::{ident_of, is_equals};
 use bz_tree::Part;
 
 // The name of the argument that the parts begin with.

@@ -1,27 +1,28 @@
 //! The head of a rule, by its row: no tree is needed for it.
 
-ghost use Rattle.std.specs.Prelude.{◌≡◌, codes, map, option_map, IfOk, IfSome, string_bytes};
+ghost use Rattle.std.specs.Prelude.{◌≡◌, IfOk, map, string_bytes};
 ghost use Rattle.bz_tree.specs.Tree.{Statement};
 ghost use Rattle.bz_tree.specs.Statement.{class_of};
-ghost use Rattle.bz_tree.specs.Rows.{IsRowOf, part_view};
-ghost use Rattle.bz_attribute.specs.Heads.{IsHeadOf};
+ghost use Rattle.bz_tree.specs.Rows.{IsRowOf, part_view, parts_of};
+ghost use Rattle.bz_tree.specs.declared.stmt.Class.TheVariants.{Rule as RuleClass};
+ghost use Rattle.bz_attribute.specs.Heads.{HasHead, IsHeadOf};
 ghost use Rattle.bz_attribute.specs.Marks as marks;
 ghost use Rattle.bz_attribute.specs.Texts.{shown_text};
-ghost use Rattle.bz_attribute.specs.Rules.{is_text};
-ghost use Rattle.bz_attribute.specs.private.HeadParts as spec;
-ghost use Rattle.bz_attribute.specs.private.HeadParts.{IsHeadAt};
 
+use crate::head_parts::{after_comments, in_call, kind_of, name_text, value_in};
 use crate::texts::push_home;
-use bz_command::{Marked, Package, Target, plain_text};
-use bz_token::Kind;
-use bz_tree::{Class, GroupKind, Part, Row};
+use bumpalo::Bump;
+use bz_command::{Marked, Package, Target};
+use bz_tree::{Class, Part, Row};
 use std::alloc::{AllocError, Global};
 
 /// The head of a rule: what its kind, its name and its lines are.
 #[derive(Clone, Copy)]
 pub struct Head<'a> {
+    /// Its identifiers and dots, with nothing between them.
     pub kind: &'a str,
-    pub name: &'a str,
+    /// The value of its first attribute `name`, where that is one string with a value.
+    pub name: Option<&'a str>,
     /// The line of its first token.
     pub start: u64,
     /// The line on which its last token ends.
@@ -29,21 +30,45 @@ pub struct Head<'a> {
 }
 
 impl<'a> Head<'a> {
-    /// The head of the rule that a row is of, where its kind is one identifier and its first argument is `name = "name"`.
-    pub fn of_row(row: &Row<'a>) -> Option<Head<'a>>
-        ensures { IfSome result (λ head. (s : Statement) → s.class ≡ class_of s.nodes → IsRowOf s row.now
-            → IsHeadOf head s) }
+    /// The head of the rule that a row is of; none of what is no rule. A kind of one identifier and a name without
+    /// escapes are slices of the row. `Err`: memory was refused.
+    pub fn of_row(
+        alloc: Global,
+        bump: &'a Bump,
+        row: &Row<'a>,
+    ) -> Result<Option<Head<'a>>, AllocError>
+        ensures { IfOk result (λ found. (s : Statement) → s.class ≡ class_of s.nodes → IsRowOf s row.now
+            → HasHead found s) }
     {
-        let Class::Rule = row.class else {
-            return None;
+        match row.class {
+            Class::Rule => Head::of_parts(alloc, bump, row.parts, row.start, row.end),
+            _ => Ok(None),
+        }
+    }
+
+    /// The head of the rule of these parts, on these lines. `Err`: memory was refused.
+    pub fn of_parts(
+        alloc: Global,
+        bump: &'a Bump,
+        parts: &[Part<'a>],
+        start: u64,
+        end: u64,
+    ) -> Result<Option<Head<'a>>, AllocError>
+        ensures { IfOk result (λ found. (s : Statement) → class_of s.nodes ≡ RuleClass
+            → map part_view parts.now ≡ parts_of s → s.start ≡ start → s.end ≡ end → HasHead found s) }
+    {
+        let first = after_comments(parts);
+        let Some(args) = in_call(first) else {
+            return Ok(None);
         };
-        let (kind, name) = kind_and_name(after_comments(row.parts))?;
-        Some(Head {
+        let kind = kind_of(alloc, bump, first)?;
+        let name = value_in(alloc, bump, name_text(parts, args))?;
+        Ok(Some(Head {
             kind,
             name,
-            start: row.start,
-            end: row.end,
-        })
+            start,
+            end,
+        }))
     }
 
     /// The target marks the rule.
@@ -51,7 +76,7 @@ impl<'a> Head<'a> {
         ensures { (s : Statement) → IsHeadOf self.now s → result ≡ marks.marks target.now s }
     {
         match &target.marked {
-            Marked::Name(name) => name.as_str() == self.name,
+            Marked::Name(name) => matches!(self.name, Some(own) if own == name.as_str()),
             Marked::Pkg => self.kind == "package",
             Marked::All => true,
             Marked::Kind(kind) => self.kind == kind.as_str(),
@@ -59,104 +84,20 @@ impl<'a> Head<'a> {
         }
     }
 
-    /// The rule by its name.
+    /// The rule by its name, or by `%` and its kind.
     pub fn shown(&self, alloc: Global, home: &Package) -> Result<String, AllocError>
         ensures { IfOk result (λ text. (s : Statement) → IsHeadOf self.now s
             → string_bytes text ≡ shown_text home.now s) }
     {
         let mut text = String::new(alloc);
         push_home(&mut text, home)?;
-        text.push_str(self.name)?;
-        Ok(text)
-    }
-}
-
-/// The parts after the comments above them.
-fn after_comments<'p, 'a>(parts: &'p [Part<'a>]) -> &'p [Part<'a>]
-    ensures { map part_view result.now ≡ spec.after_comments (map part_view parts.now) }
-{
-    let mut rest = parts;
-    while let [Part::Above(_), after @ ..] = rest {
-        rest = after;
-    }
-    rest
-}
-
-// The kind and the name with which parts begin.
-fn kind_and_name<'a>(parts: &[Part<'a>]) -> Option<(&'a str, &'a str)>
-    ensures { IfSome result (λ two. IsHeadAt two.0.now two.1.now (map part_view parts.now)) }
-{
-    let [first, call, args @ ..] = parts else {
-        return None;
-    };
-    if !opens_rule(call) {
-        return None;
-    }
-    let kind = ident_of(first)?;
-    let name = plain_text(name_literal(args)?)?;
-    Some((kind, name))
-}
-
-/// The literal of a segment `name = literal` with which the parts begin.
-fn name_literal<'a>(parts: &[Part<'a>]) -> Option<&'a str>
-    ensures { option_map (λ text. text.now) result ≡ spec.name_literal (map part_view parts.now) }
-{
-    match parts {
-        [name, equals, literal, end, ..] => {
-            if is_name(name) && is_equals(equals) && is_end(end) {
-                return text_of(literal);
+        match self.name {
+            Some(name) => text.push_str(name)?,
+            None => {
+                text.push_str("%")?;
+                text.push_str(self.kind)?;
             }
-            None
         }
-        _ => None,
-    }
-}
-
-fn opens_rule(part: &Part<'_>) -> bool
-    ensures { result ≡ spec.opens_rule (part_view part.now) }
-{
-    matches!(part, Part::Open(GroupKind::RuleCall))
-}
-
-pub(crate) fn ident_of<'a>(part: &Part<'a>) -> Option<&'a str>
-    ensures { option_map (λ text. text.now) result ≡ spec.ident_of (part_view part.now) }
-{
-    match part {
-        Part::Token(Kind::Identifier, text) => Some(*text),
-        _ => None,
-    }
-}
-
-fn is_name(part: &Part<'_>) -> bool
-    ensures { result ≡ is_text (codes "name") (spec.ident_of (part_view part.now)) }
-{
-    match part {
-        Part::Token(Kind::Identifier, text) => *text == "name",
-        _ => false,
-    }
-}
-
-pub(crate) fn is_equals(part: &Part<'_>) -> bool
-    ensures { result ≡ spec.is_operator_item (codes "=") (part_view part.now) }
-{
-    match part {
-        Part::Token(Kind::Operator, text) => *text == "=",
-        _ => false,
-    }
-}
-
-fn is_end(part: &Part<'_>) -> bool
-    ensures { result ≡ spec.is_end (part_view part.now) }
-{
-    matches!(part, Part::End)
-}
-
-/// The text of a string token.
-fn text_of<'a>(part: &Part<'a>) -> Option<&'a str>
-    ensures { option_map (λ text. text.now) result ≡ spec.text_of (part_view part.now) }
-{
-    match part {
-        Part::Token(Kind::String, text) => Some(*text),
-        _ => None,
+        Ok(text)
     }
 }

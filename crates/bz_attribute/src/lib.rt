@@ -7,12 +7,14 @@ mod env;
 pub mod equals;
 mod finder;
 mod head;
+mod head_parts;
 mod list_labels;
 mod lists;
 mod make;
 mod marks;
 mod place;
 mod row_args;
+mod row_kind;
 mod rule;
 mod texts;
 mod word_set;
@@ -27,12 +29,13 @@ pub use lists::{elements_at, first_part, is_attribute, is_list, next_part};
 pub use make::{
     argument, list, literal, push_argument, push_string, segment, string, strings, token,
 };
-pub use marks::{RuleName, is_kind, matches, rule_name};
-pub use place::{Place, place_of};
-pub use row_args::{read_arguments, splice};
+pub use marks::is_kind;
+pub use place::{Place, all_arguments, place_of};
+pub use row_args::{Parts, push_stmt, read_arguments, splice};
+pub use row_kind::kind_place;
 pub use rule::{
     Rule, call_at, find, first_named, ident_of, is_named, is_string, name_of, only_text, rule_of,
     value_of,
 };
-pub use texts::{label, push_home, push_kind, read_name, shown};
+pub use texts::{label, push_home};
 pub use word_set::WordSet;

@@ -4,7 +4,7 @@ ghost use Rattle.std.specs.Prelude.{◌≡◌, ◌≤◌, map, length};
 ghost use Rattle.bz_tree.specs.Tree.{Statement};
 ghost use Rattle.bz_tree.specs.Rows.{part_view};
 ghost use Rattle.bz_attribute.specs.Rules.{Rule};
-ghost use Rattle.bz_attribute.specs.RowPlaces.{IsPlaceOf, IsRuleRow};
+ghost use Rattle.bz_attribute.specs.RowPlaces.{IsPlaceOf, IsPlaceOfAll, IsRuleRow};
 ghost use Rattle.bz_attribute.specs.private.Ends as spec;
 
 use crate::finder::find_argument;
@@ -59,7 +59,7 @@ fn segment_len(parts: &[Part<'_>]) -> usize
     nodes + end_len(&parts[nodes..])
 }
 
-fn is_above(part: Part<'_>) -> bool
+pub(crate) fn is_above(part: Part<'_>) -> bool
     ensures { result ≡ spec.is_above (part_view part.entry) }
 {
     matches!(part, Part::Above(_))
@@ -127,4 +127,31 @@ pub fn place_of(parts: &[Part<'_>], name: &str) -> Place
             Place { from: end, to: end }
         }
     }
+}
+
+// How many parts there are up to the first bracket that opens, with it.
+fn arguments_begin(parts: &[Part<'_>]) -> usize
+    ensures begin { result ≡ spec.arguments_begin (map part_view parts.now) }
+    ensures within { result ≤ length parts.now }
+{
+    for i in 0..parts.len() {
+        if let Part::Open(_) = parts[i] {
+            return i + 1;
+        }
+    }
+    parts.len()
+}
+
+/// Where all arguments of a rule stand among its parts.
+pub fn all_arguments(parts: &[Part<'_>]) -> Place
+    ensures within { (result.from ≤ result.to) × (result.to ≤ length parts.now) }
+    ensures place { (s : Statement) (r : Rule) → IsRuleRow s r (map part_view parts.now)
+        → IsPlaceOfAll s r (map part_view parts.now) result.from result.to }
+{
+    let from = arguments_begin(parts);
+    let to = arguments_end(parts);
+    if to < from {
+        return Place { from, to: from };
+    }
+    Place { from, to }
 }

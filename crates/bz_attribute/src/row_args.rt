@@ -2,23 +2,22 @@
 
 ghost use Rattle.std.specs.Prelude.{◌≡◌, ◌≤◌, ◌++◌, ◌∷◌, [], false, List, map, option_map, take, drop, length, IfOk, OnOk};
 ghost use Rattle.bz_tree.specs.Tree.{Segment, items_of, segs_of};
-ghost use Rattle.bz_tree.specs.View.{text_of, texts, node_view, nodes_view, group_view, segs_view};
+ghost use Rattle.bz_tree.specs.View.{text_of, texts, node_view, nodes_view, group_view, segs_view, view};
 ghost use Rattle.bz_tree.specs.declared.stmt.GroupKind.TheVariants.{List as ListKind};
 ghost use Rattle.bz_attribute.specs.Rules.{elements};
-ghost use Rattle.bz_tree.specs.Rows.{above, beside_part, closing, opening, item_parts, items_parts, part_view, segs_parts};
+ghost use Rattle.bz_tree.specs.Rows.{above, beside_part, closing, opening, item_parts, items_parts, part_view, parts_of, segs_parts};
 
 use crate::place::Place;
 use bumpalo::Bump;
-use bumpalo::collections::into_bump_slice;
-use bz_tree::{Group, GroupKind, Node, Part, Seg, nodes_of_parts};
+use bz_tree::{Group, GroupKind, Node, Part, Seg, Stmt, nodes_of_parts};
 use std::alloc::{AllocError, Global};
 use std::borrow::CowStr;
 
 // Most commands add no more parts.
 const ROOM: usize = 16;
 
-// A list of parts in the arena of a chunk.
-type Parts<'a> = Vec<Part<'a>, &'a Bump>;
+/// A list of parts in the arena of a chunk.
+pub type Parts<'a> = Vec<Part<'a>, &'a Bump>;
 
 // The segments of a node; of a token, none.
 fn segments_of<'a>(alloc: Global, node: Node<'a>) -> Vec<Seg<'a>>
@@ -159,20 +158,37 @@ fn push_arguments<'a>(
     Ok(())
 }
 
-/// The parts of a rule with these arguments in a place of it, as a new list in the arena. `Err`: memory was refused.
+/// Appends the parts of a statement. Texts that it owns are copied into the arena. `Err`: memory was refused, and some of
+/// them may have been appended.
+pub fn push_stmt<'a>(
+    bump: &'a Bump,
+    stmt: &Stmt<'a>,
+    parts: &mut Parts<'a>,
+) -> Result<(), AllocError>
+    ensures { OnOk result (map part_view parts.new.items ≡ map part_view parts.old.items ++ parts_of (view stmt.now)) }
+{
+    push_above(bump, &stmt.before, parts)?;
+    push_nodes(bump, &stmt.nodes, parts)?;
+    push_beside(bump, &stmt.suffix, parts)
+}
+
+/// Writes the parts of a rule with these arguments in a place of it, in place of what the list holds. `Err`: memory was
+/// refused, and the list is of no use.
 pub fn splice<'a>(
     bump: &'a Bump,
     parts: &[Part<'a>],
     place: Place,
     args: &[Seg<'a>],
-) -> Result<&'a [Part<'a>], AllocError>
+    new: &mut Parts<'a>,
+) -> Result<(), AllocError>
     requires { (place.from ≤ place.to) × (place.to ≤ length parts.now) }
-    ensures { IfOk result (λ new. map part_view new.now ≡ take place.from (map part_view parts.now)
+    ensures { OnOk result (map part_view new.new.items ≡ take place.from (map part_view parts.now)
         ++ (segs_parts (segs_of (segs_view args.now)) ++ drop place.to (map part_view parts.now))) }
 {
-    let mut new = Vec::with_capacity(bump, parts.len().saturating_add(ROOM))?;
+    new.clear();
+    new.reserve(parts.len().saturating_add(ROOM))?;
     new.extend_from_slice(&parts[..place.from])?;
-    push_arguments(bump, args, &mut new)?;
+    push_arguments(bump, args, new)?;
     new.extend_from_slice(&parts[place.to..])?;
-    Ok(into_bump_slice(new))
+    Ok(())
 }

@@ -141,10 +141,3 @@ pub fn is_string(nodes: &[Node<'_>], value: &str) -> bool
 {
     only_text(nodes).is_some_and(|text| has_value(text.as_bytes(), value.as_bytes()))
 }
-
-/// The text of the string token that the first argument `name` of a rule is.
-pub(crate) fn name_text<'n>(args: &'n [Seg<'_>]) -> Option<&'n str>
-    ensures { spec.value_in (option_map (λ text. text.now) result) ≡ spec.name_in (segs_view args.now) }
-{
-    only_text(value_of(first_named(args, "name")?))
-}

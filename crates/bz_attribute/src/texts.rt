@@ -1,14 +1,9 @@
-//! How labels and rules are shown.
+//! How labels are shown.
 
-ghost use Rattle.std.specs.Prelude.{◌≡◌, ◌++◌, IfOk, OnOk, option_map, string_bytes};
-ghost use Rattle.bz_tree.specs.View.{nodes_view, segs_view, view};
-ghost use Rattle.bz_attribute.specs.Rules.{kind_text, name_in};
-ghost use Rattle.bz_attribute.specs.RuleViews.{rule_view};
+ghost use Rattle.std.specs.Prelude.{◌≡◌, ◌++◌, IfOk, OnOk, string_bytes};
 ghost use Rattle.bz_attribute.specs.Texts as spec;
 
-use crate::rule::{Rule, name_text, rule_of};
-use bz_command::{Marked, Package, Target, read_value};
-use bz_tree::{Node, Seg, Stmt};
+use bz_command::{Marked, Package, Target};
 use std::alloc::{AllocError, Global};
 
 /// A label, `//PATH:TARGET`; standard input is `-:TARGET`.
@@ -36,31 +31,6 @@ fn push_target(text: &mut String, target: &Target) -> Result<(), AllocError>
     }
 }
 
-/// A rule of a package, by its name or by `%` and its kind; empty for a statement that is no rule.
-pub fn shown(alloc: Global, home: &Package, stmt: &Stmt<'_>) -> Result<String, AllocError>
-    ensures { IfOk result (λ text. string_bytes text ≡ spec.shown_text home.now (view stmt.now)) }
-{
-    let mut text = String::new(alloc);
-    if let Some(rule) = rule_of(&stmt.nodes) {
-        push_home(&mut text, home)?;
-        push_rule(alloc, &mut text, rule)?;
-    }
-    Ok(text)
-}
-
-fn push_rule(alloc: Global, text: &mut String, rule: Rule<'_, '_>) -> Result<(), AllocError>
-    ensures { OnOk result (string_bytes text.new ≡ string_bytes text.old
-        ++ spec.name_or_kind (name_in (rule_view rule.entry).args) (rule_view rule.entry).kind) }
-{
-    match read_name(alloc, &rule.call.segs)? {
-        Some(name) => text.push_str(name.as_str()),
-        None => {
-            text.push_str("%")?;
-            push_kind(text, rule.kind)
-        }
-    }
-}
-
 /// Writes a package and the colon after it.
 pub fn push_home(text: &mut String, home: &Package) -> Result<(), AllocError>
     ensures { OnOk result (string_bytes text.new ≡ string_bytes text.old ++ spec.home_text home.now) }
@@ -73,26 +43,4 @@ pub fn push_home(text: &mut String, home: &Package) -> Result<(), AllocError>
             text.push_str(":")
         }
     }
-}
-
-/// The name of a rule.
-pub fn read_name(alloc: Global, args: &[Seg<'_>]) -> Result<Option<String>, AllocError>
-    ensures { IfOk result (λ name. option_map (λ text. string_bytes text) name ≡ name_in (segs_view args.now)) }
-{
-    match name_text(args) {
-        None => Ok(None),
-        Some(text) => read_value(alloc, text),
-    }
-}
-
-/// Writes a kind, without what stands between its identifiers and dots.
-pub fn push_kind(text: &mut String, kind: &[Node<'_>]) -> Result<(), AllocError>
-    ensures { OnOk result (string_bytes text.new ≡ string_bytes text.old ++ kind_text (nodes_view kind.now)) }
-{
-    for node in kind {
-        if let Node::Token(leaf) = node {
-            text.push_str(leaf.text.as_str())?;
-        }
-    }
-    Ok(())
 }

@@ -1,4 +1,3 @@
 pub mod CommentPlaces
-pub mod HeadFields
 pub mod PrintSteps
 pub mod SetViews

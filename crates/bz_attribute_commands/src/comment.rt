@@ -14,7 +14,7 @@ use bz_attribute::equals::equals;
 use bz_attribute::{Done, Env, Executed, Note, call_at, elements_at, find, first_part, next_part};
 use bz_command::{Commented, Package, Text};
 use bz_tree::{Node, Seg, Stmt};
-use std::alloc::Global;
+use std::alloc::{AllocError, Global};
 use std::borrow::CowStr;
 
 /// Adds a comment line above a rule. An `Err` leaves all as it was.
@@ -109,15 +109,23 @@ fn first_equal(home: &Package, value: &str, nodes: &[Node<'_>]) -> Option<(usize
     None
 }
 
+/// The comment line of a text.
+pub(crate) fn comment_line(alloc: Global, text: &str) -> Result<String, AllocError>
+    ensures { IfOk result (λ line. string_bytes line ≡ spec.comment_line text.now) }
+{
+    let mut line = String::from_str(alloc, "# ")?;
+    line.push_str(text)?;
+    trim(&mut line);
+    Ok(line)
+}
+
 // Adds the comment line of a text, and tells a change. An `Err` leaves the lines as they were.
 fn push_line(alloc: Global, text: &str, lines: &mut Vec<CowStr<'_>>) -> Executed
     ensures ok { OnOk result (texts lines.new.items ≡ texts lines.old.items ++ spec.comment_line text.now ∷ []) }
     ensures done { IfOk result (λ d. d ≡ done None true) }
     ensures err { OnErr result (texts lines.new.items ≡ texts lines.old.items) }
 {
-    let mut line = String::from_str(alloc, "# ")?;
-    line.push_str(text)?;
-    trim(&mut line);
+    let line = comment_line(alloc, text)?;
     lines.push(CowStr::Owned(line))?;
     Ok(Done::quiet(true))
 }

@@ -2,8 +2,10 @@
 #![tactic(auto)]
 
 pub mod comment;
+pub mod kind;
+pub mod line;
+pub mod name;
 pub mod print;
-pub mod print_head;
 pub mod rename;
 pub mod set;
 pub mod set_kind;

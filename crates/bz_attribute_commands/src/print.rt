@@ -1,103 +1,173 @@
 //! `print`: a line with the texts of a rule's fields.
 
-ghost use Rattle.std.specs.Prelude.{◌≡◌, ◌++◌, ◌∷◌, [], codes, map, option_map, is_some, IfNone, IfOk, IfSome, IsOk, OnOk, string_bytes, false, true};
+ghost use Rattle.std.specs.Prelude.{◌≡◌, ◌++◌, ◌∷◌, [], map, option_map, is_some, IfOk, IfSome, OnOk, string_bytes, false, true, Some};
 ghost use Rattle.std.specs.Fmt.{decimal};
 ghost use Rattle.std.specs.List.{list_all};
-ghost use Rattle.bz_tree.specs.View.{nodes_view, seg_view, segs_view, slot_view, view};
-ghost use Rattle.bz_attribute.specs.RuleViews.{rule_view};
-ghost use Rattle.bz_attribute.specs.Rules.{string_value};
-ghost use Rattle.bz_attribute.specs.Effects.{holds_rule};
+ghost use Rattle.bz_tree.specs.Tree.{Statement};
+ghost use Rattle.bz_tree.specs.Rows.{part_view};
+ghost use Rattle.bz_tree.specs.View.{nodes_view, seg_view, segs_view};
+ghost use Rattle.bz_command.specs.declared.arguments.Field.TheVariants.{ValueOf};
+ghost use Rattle.bz_attribute.specs.Heads.{IsHeadOf};
+ghost use Rattle.bz_attribute.specs.RowPlaces.{IsRuleRow};
+ghost use Rattle.bz_attribute.specs.Rules.{Rule, string_value};
 ghost use Rattle.bz_attribute.specs.declared.done.Note.TheVariants.{Missing};
 ghost use Rattle.bz_attribute_commands.specs.Print as spec;
+ghost use Rattle.bz_attribute_commands.specs.private.PrintSteps.{HasPrinted, HasPrintedArgument};
 
 use bz_attribute::equals::string_of;
 use bz_attribute::{
-    Done, Env, Executed, Note, Rule, elements_at, first_named, is_list, only_text, push_home,
-    push_kind, read_name, rule_of, value_of,
+    Done, Env, Executed, Head, Note, elements_at, is_list, only_text, place_of, push_home,
+    read_arguments, value_of,
 };
 use bz_command::{Field, Text, quote, read_value};
 use bz_layout::flat;
-use bz_tree::{GroupKind, Node, Seg, Stmt};
+use bz_tree::{GroupKind, Node, Part, Seg};
 use std::alloc::{AllocError, Global};
 
-/// Prints fields of the rule that a slot holds; the note names the first that is missing. Where there is no rule
-/// nothing is printed, and it succeeds.
-pub fn print(env: Env<'_>, fields: &[Field], slot: &Option<Stmt<'_>>) -> Executed
-    ensures done { IfOk result (λ done. done ≡ spec.prints env.entry.home.now fields.now (slot_view slot.now)) }
-    ensures no_rule { holds_rule (slot_view slot.now) ≡ false → IsOk result }
+/// Prints fields of the rule of this head and these parts, or its name and its kind where none is named; the note names
+/// the first field that is missing.
+pub fn print(env: Env<'_>, fields: &[Field], head: Head<'_>, parts: &[Part<'_>]) -> Executed
+    ensures { IfOk result (λ done. (s : Statement) (r : Rule) → IsHeadOf head.entry s
+        → IsRuleRow s r (map part_view parts.now) → done ≡ spec.prints env.entry.home.now fields.now (Some s)) }
 {
-    let Some(stmt) = slot else {
-        return Ok(Done::quiet(false));
-    };
-    match (rule_of(&stmt.nodes), fields) {
-        (None, _) => Ok(Done::quiet(false)),
-        (Some(rule), []) => {
-            let name = Text::from_str(env.alloc, "name")?;
-            print_fields(env, &[Field::ValueOf(name), Field::Kind], stmt, rule)
-        }
-        (Some(rule), _) => print_fields(env, fields, stmt, rule),
+    // Most often the name is all that is printed.
+    let mut line = String::with_capacity(env.alloc, head.name.unwrap_or("").len())?;
+    let missing = push_all(env, &mut line, fields, head, parts)?;
+    Ok(Done {
+        changed: false,
+        line: Some(Text::from_string(line)),
+        note: missing_note(env.alloc, missing)?,
+    })
+}
+
+fn missing_note(alloc: Global, missing: Option<&str>) -> Result<Option<Note>, AllocError>
+    ensures { IfOk result (λ note. note ≡ option_map (λ name. Missing name.now) missing.entry) }
+{
+    match missing {
+        None => Ok(None),
+        Some(name) => Ok(Some(Note::Missing(Text::from_str(alloc, name)?))),
     }
 }
 
-fn print_fields(env: Env<'_>, fields: &[Field], stmt: &Stmt<'_>, rule: Rule<'_, '_>) -> Executed
-    ensures { IfOk result
-        (λ done. done ≡ spec.printed env.entry.home.now (view stmt.now) (rule_view rule.entry) fields.now) }
+// Writes fields, or the name and the kind where none is named. Tells the first that is missing.
+fn push_all<'f>(
+    env: Env<'_>,
+    text: &mut String,
+    fields: &'f [Field],
+    head: Head<'_>,
+    parts: &[Part<'_>],
+) -> Result<Option<&'f str>, AllocError>
+    ensures { IfOk result (λ missing. HasPrinted env.entry.home.now (spec.fields_of fields.now) head.entry
+        (map part_view parts.now) (string_bytes text.old) (string_bytes text.new)
+        (option_map (λ name. Missing name.now) missing)) }
 {
-    let mut line = String::new(env.alloc);
+    match fields {
+        [] => {
+            let missing = push_attribute(env, text, head, parts, "name")?;
+            text.push_str(" ")?;
+            text.push_str(head.kind)?;
+            Ok(missing)
+        }
+        _ => push_fields(env, text, fields, head, parts),
+    }
+}
+
+// Writes fields with a space between them. Tells the first that is missing.
+fn push_fields<'f>(
+    env: Env<'_>,
+    line: &mut String,
+    fields: &'f [Field],
+    head: Head<'_>,
+    parts: &[Part<'_>],
+) -> Result<Option<&'f str>, AllocError>
+    ensures { IfOk result (λ missing. HasPrinted env.entry.home.now fields.now head.entry
+        (map part_view parts.now) (string_bytes line.old) (string_bytes line.new)
+        (option_map (λ name. Missing name.now) missing)) }
+{
     let mut missing = None;
     let mut space = "";
     for field in fields {
         line.push_str(space)?;
-        missing = missing.or(push_field(env, &mut line, stmt, rule, field)?);
+        missing = missing.or(push_field(env, line, head, parts, field)?);
         space = " ";
     }
-    let note = match missing {
-        None => None,
-        Some(name) => Some(Note::Missing(Text::from_str(env.alloc, name)?)),
-    };
-    Ok(Done {
-        changed: false,
-        line: Some(Text::from_string(line)),
-        note,
-    })
+    Ok(missing)
 }
 
 // Writes a field. Tells its name where it is missing.
 fn push_field<'f>(
     env: Env<'_>,
     text: &mut String,
-    stmt: &Stmt<'_>,
-    rule: Rule<'_, '_>,
+    head: Head<'_>,
+    parts: &[Part<'_>],
     field: &'f Field,
 ) -> Result<Option<&'f str>, AllocError>
-    ensures line { OnOk result
-        (string_bytes text.new ≡ string_bytes text.old ++ spec.shown_field
-        (spec.field_text env.entry.home.now (view stmt.now) (rule_view rule.entry) field.now)) }
-    ensures missing { IfOk result
-        (λ missing. option_map (λ name. Missing name.now) missing
-        ≡ spec.missing env.entry.home.now (view stmt.now) (rule_view rule.entry) (field.now ∷ [])) }
+    ensures { IfOk result (λ missing. HasPrinted env.entry.home.now (field.now ∷ []) head.entry
+        (map part_view parts.now) (string_bytes text.old) (string_bytes text.new)
+        (option_map (λ name. Missing name.now) missing)) }
 {
     match field {
         Field::Label => {
-            let Some(name) = read_name(env.alloc, &rule.call.segs)? else {
+            let Some(name) = head.name else {
                 text.push_str("(missing)")?;
                 return Ok(Some("label"));
             };
             push_home(text, env.home)?;
-            text.push_str(name.as_str())?;
+            text.push_str(name)?;
         }
         Field::ValueOf(attr) => {
-            let Some(arg) = first_named(&rule.call.segs, attr.as_str()) else {
-                text.push_str("(missing)")?;
-                return Ok(Some(attr.as_str()));
-            };
-            push_value(env.alloc, text, value_of(arg))?;
+            return push_attribute(env, text, head, parts, attr.as_str());
         }
-        Field::Kind => push_kind(text, rule.kind)?,
-        Field::StartLine => write!(text, "{}", stmt.start)?,
-        Field::EndLine => write!(text, "{}", stmt.end)?,
+        Field::Kind => text.push_str(head.kind)?,
+        Field::StartLine => write!(text, "{}", head.start)?,
+        Field::EndLine => write!(text, "{}", head.end)?,
     }
     Ok(None)
+}
+
+// Writes the value of an attribute. Tells its name where there is no such attribute.
+fn push_attribute<'f>(
+    env: Env<'_>,
+    text: &mut String,
+    head: Head<'_>,
+    parts: &[Part<'_>],
+    attr: &'f str,
+) -> Result<Option<&'f str>, AllocError>
+    ensures { IfOk result (λ missing. HasPrinted env.entry.home.now (ValueOf attr.now ∷ []) head.entry
+        (map part_view parts.now) (string_bytes text.old) (string_bytes text.new)
+        (option_map (λ name. Missing name.now) missing)) }
+{
+    match head.name {
+        Some(name) if attr == "name" => {
+            push_word(env.alloc, text, name)?;
+            Ok(None)
+        }
+        _ => push_argument(env.alloc, text, parts, attr),
+    }
+}
+
+// Writes the value of the first argument of a name. Tells the name where no argument has it.
+fn push_argument<'f>(
+    alloc: Global,
+    text: &mut String,
+    parts: &[Part<'_>],
+    attr: &'f str,
+) -> Result<Option<&'f str>, AllocError>
+    ensures { IfOk result (λ missing. HasPrintedArgument attr.now (map part_view parts.now)
+        (string_bytes text.old) (string_bytes text.new) (option_map (λ name. Missing name.now) missing)) }
+{
+    let place = place_of(parts, attr);
+    let args = read_arguments(alloc, &parts[place.from..place.to])?;
+    match args.as_slice() {
+        [] => {
+            text.push_str("(missing)")?;
+            Ok(Some(attr))
+        }
+        [arg, ..] => {
+            push_value(alloc, text, value_of(arg))?;
+            Ok(None)
+        }
+    }
 }
 
 fn push_value(alloc: Global, text: &mut String, value: &[Node<'_>]) -> Result<(), AllocError>
@@ -153,7 +223,7 @@ fn push_words(alloc: Global, text: &mut String, list: &[Seg<'_>]) -> Result<(), 
 }
 
 // Writes a value as a word.
-pub(crate) fn push_word(alloc: Global, text: &mut String, word: &str) -> Result<(), AllocError>
+fn push_word(alloc: Global, text: &mut String, word: &str) -> Result<(), AllocError>
     ensures { OnOk result (string_bytes text.new ≡ string_bytes text.old ++ spec.word_form word.now) }
 {
     if is_plain(word.as_bytes()) {

@@ -5,7 +5,6 @@ ghost use Rattle.std.specs.List.{flat_map};
 ghost use Rattle.bz_tree.specs.Rows.{IsRowOf};
 ghost use Rattle.bz_tree.specs.Statement.{class_of};
 ghost use Rattle.bz_tree.specs.Tree.{Statement};
-ghost use Rattle.bz_rule.specs.LazyViews.{lazy_view, lazy_slot};
 ghost use Rattle.bz_layout.specs.Gaps.{blank_between as is_gap};
 ghost use Rattle.bz_layout.specs.Layout.{layout_text};
 ghost use Rattle.bz_passes.specs.Exchange.{Fits, log_alone};
@@ -21,11 +20,12 @@ use crate::row::is_passed_by;
 use crate::rule_passes::RulePasses;
 use crate::rules::Rules;
 use bumpalo::Bump;
+use bz_attribute::Head;
 use bz_layout::{blank_between, put_row};
 use bz_passes::kept::Kept;
 use bz_passes::language::Facts;
 use bz_passes::script::run_script;
-use bz_rule::{LazyStmt, Package, ShallowStmt, Text};
+use bz_rule::{Package, StatementRow, Text};
 use bz_tree::{Class, ParseFault, Row};
 use std::alloc::{AllocError, Global};
 
@@ -115,24 +115,13 @@ fn edit_row<'a>(
     ensures scripted { IfOk result (λ scripted. (s : Statement) → s.class ≡ class_of s.nodes → IsRowOf s row.now
         → IsScripted (run_of script.entry) s progress.old progress.new text.old.items text.new.items scripted) }
 {
-    if is_passed_by(script, row) {
+    let head = Head::of_row(script.alloc, script.bump, row)?;
+    if is_passed_by(script, head) {
         put_passed(script, row, progress, text)?;
         return Ok(Scripted::Done);
     }
-    let mut slot = Some(lazy_stmt(script, row)?);
+    let mut slot = Some(StatementRow::new(script.bump, row, head));
     edit_slot(script, &mut slot, progress, text)
-}
-
-/// The statement of a row. A rule's row is kept where a command may be done by it alone.
-fn lazy_stmt<'a>(script: Script<'a>, row: &Row<'a>) -> Result<LazyStmt<'a>, AllocError>
-    requires { (s : Statement) × ((s.class ≡ class_of s.nodes) × IsRowOf s row.now) }
-    ensures { IfOk result (λ read. (s : Statement) → s.class ≡ class_of s.nodes → IsRowOf s row.now → lazy_view read ≡ s) }
-{
-    if script.passes.has_command_by_row() {
-        return LazyStmt::of_row(script.alloc, script.bump, row);
-    }
-    let read = ShallowStmt::of_row(script.alloc, row)?;
-    Ok(LazyStmt::Read(read))
 }
 
 /// Lays out a statement that the script passes by.
@@ -157,13 +146,13 @@ fn put_passed(
 /// The script on what is in a slot.
 fn edit_slot<'a>(
     script: Script<'a>,
-    slot: &mut Option<LazyStmt<'a>>,
+    slot: &mut Option<StatementRow<'a>>,
     progress: &mut Progress,
     text: &mut Vec<u8>,
 ) -> Result<Scripted, AllocError>
     requires { Fits progress.old.kept script.passes.now }
     ensures fits { OnOk result (Fits progress.new.kept script.entry.passes.now) }
-    ensures scripted { IfOk result (λ scripted. (s : Statement) → lazy_slot slot.old ≡ Some s
+    ensures scripted { IfOk result (λ scripted. (s : Statement) → slot.old ≡ Some s
         → IsScripted (run_of script.entry) s progress.old progress.new text.old.items text.new.items scripted) }
 {
     let rules = Rules {
@@ -189,8 +178,8 @@ fn edit_slot<'a>(
 }
 
 /// The class of the last statement that is left, where this slot is the last.
-fn last_class(last: Option<Class>, slot: &Option<LazyStmt<'_>>) -> Option<Class>
-    ensures { result ≡ last_class last (lazy_slot slot.now ∷ []) }
+fn last_class(last: Option<Class>, slot: &Option<StatementRow<'_>>) -> Option<Class>
+    ensures { result ≡ last_class last (slot.now ∷ []) }
 {
     match slot {
         None => last,
@@ -202,11 +191,11 @@ fn last_class(last: Option<Class>, slot: &Option<LazyStmt<'_>>) -> Option<Class>
 fn put_slot(
     script: Script<'_>,
     last: Option<Class>,
-    slot: &Option<LazyStmt<'_>>,
+    slot: &Option<StatementRow<'_>>,
     text: &mut Vec<u8>,
 ) -> Result<(), AllocError>
     ensures { OnOk result (text.new.items ≡ text.old.items
-        ++ (if is_query script.entry.passes.now then [] else text_following last (lazy_slot slot.now ∷ []))) }
+        ++ (if is_query script.entry.passes.now then [] else text_following last (slot.now ∷ []))) }
 {
     let Some(stmt) = slot else {
         return Ok(());
@@ -221,11 +210,11 @@ fn put_slot(
 fn put_after(
     alloc: Global,
     last: Option<Class>,
-    stmt: &LazyStmt<'_>,
+    stmt: &StatementRow<'_>,
     text: &mut Vec<u8>,
 ) -> Result<(), AllocError>
     ensures { OnOk result (text.new.items ≡ text.old.items
-        ++ (gap_text (is_gap last (lazy_view stmt.now).class) ++ layout_text (lazy_view stmt.now))) }
+        ++ (gap_text (is_gap last stmt.now.class) ++ layout_text stmt.now)) }
 {
     put_gap(last, stmt.class(), text)?;
     stmt.put(alloc, text)

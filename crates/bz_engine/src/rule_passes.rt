@@ -6,9 +6,9 @@ ghost use Rattle.bz_rule.specs.Commands.{is_print};
 ghost use Rattle.bz_engine.specs.Outcome as spec;
 ghost use Rattle.bz_engine.specs.private.Named.{all_named};
 
-use bz_command::{Attributes, Commented, Pass, Setting};
+use bz_command::Pass;
 use bz_passes::passes::{Keyed, Passes};
-use bz_rule::{Action, Command, Target};
+use bz_rule::{Command, Target};
 use std::alloc::{AllocError, Global};
 use std::marker::Model;
 
@@ -19,8 +19,6 @@ pub(crate) struct RulePasses {
     query: bool,
     /// Each target asks for a name.
     named: bool,
-    /// A pass begins with a command that may be done without a tree.
-    by_row: bool,
 }
 
 impl Model for RulePasses {
@@ -45,13 +43,11 @@ impl RulePasses {
     {
         let query = is_query(passes.as_slice());
         let named = all_named(passes.as_slice());
-        let by_row = has_command_by_row(passes.as_slice());
         let passes = Passes::new(alloc, passes)?;
         Ok(RulePasses {
             passes,
             query,
             named,
-            by_row,
         })
     }
 
@@ -75,41 +71,11 @@ impl RulePasses {
         self.query
     }
 
-    /// Whether a pass begins with a command that may be done by a rule's row alone.
-    pub(crate) fn has_command_by_row(&self) -> bool {
-        self.by_row
-    }
-
     /// Whether each target asks for a name: then what has none is passed by.
     pub(crate) fn ask_for_names(&self) -> bool
         ensures { result ≡ all_named self.now }
     {
         self.named
-    }
-}
-
-// Whether a pass begins with a command that may be done by a rule's row alone.
-fn has_command_by_row(passes: &[Pass<Target, Command>]) -> bool {
-    for pass in passes {
-        if let [first, ..] = pass.commands.as_slice() {
-            if is_by_row(first) {
-                return true;
-            }
-        }
-    }
-    false
-}
-
-fn is_by_row(command: &Command) -> bool {
-    match &command.action {
-        Action::Print(_)
-        | Action::Add(_, _)
-        | Action::Set(Setting::ToValues(_, _))
-        | Action::SetIfAbsent(_, _)
-        | Action::Remove(Attributes::Named(_), _)
-        | Action::Replace(Attributes::Named(_), _, _)
-        | Action::Comment(Commented::Attribute(_) | Commented::Value(_, _), _) => true,
-        _ => false,
     }
 }
 

@@ -3,15 +3,15 @@
 ghost use Rattle.std.specs.Prelude.{◌≡◌, [], ◌∷◌, ◌++◌, Some, Option, IfOk, OnOk, string_bytes};
 ghost use Rattle.bz_tree.specs.Tree.{Statement};
 ghost use Rattle.bz_attribute.specs.Effects.{fails};
-ghost use Rattle.bz_rule.specs.LazyViews.{lazy_slot};
 ghost use Rattle.bz_engine.specs.Meaning.{line_told, note_told, done_told, shown_slot};
 
 use crate::message;
+use bz_attribute::Env;
 use bz_passes::entry::Entry;
 use bz_passes::index::Key;
 use bz_passes::language::{Facts, Language};
 use bz_passes::log::Log;
-use bz_rule::{Command, Done, LazyStmt, Note, Package, RuleName, Target, Text, apply_lazy};
+use bz_rule::{Command, Done, Note, Package, StatementRow, Target, Text, execute};
 use std::alloc::{AllocError, Global};
 
 /// Targets and commands on the rules of a package, whose statements borrow from the file.
@@ -22,7 +22,7 @@ pub(crate) struct Rules<'a> {
 }
 
 impl<'a> Language for Rules<'a> {
-    type Statement = LazyStmt<'a>;
+    type Statement = StatementRow<'a>;
 
     type Target = Target;
 
@@ -32,7 +32,7 @@ impl<'a> Language for Rules<'a> {
 
     ghost Seen = { Statement };
 
-    ghost seen = { lazy_slot };
+    ghost seen = { λ slot. slot };
 
     ghost meaning = { λ rules. meaning rules.home.now };
 
@@ -40,21 +40,20 @@ impl<'a> Language for Rules<'a> {
 
     ghost fails = { λ rules. fails_on rules.home.now };
 
-    fn marks(&self, target: &Target, slot: &Option<LazyStmt<'a>>) -> bool {
+    fn marks(&self, target: &Target, slot: &Option<StatementRow<'a>>) -> bool {
         match slot {
             None => false,
             Some(stmt) => stmt.is_marked_by(target),
         }
     }
 
-    fn key<'s>(&self, slot: &'s Option<LazyStmt<'a>>) -> Key<'s> {
+    fn key<'s>(&self, slot: &'s Option<StatementRow<'a>>) -> Key<'s> {
         let Some(stmt) = slot else {
             return Key::NoName;
         };
-        match stmt.rule_name() {
-            RuleName::NoName => Key::NoName,
-            RuleName::Plain(name) => Key::Name(name),
-            RuleName::Other => Key::Unknown,
+        match stmt.name() {
+            None => Key::NoName,
+            Some(name) => Key::Name(name),
         }
     }
 
@@ -70,10 +69,14 @@ impl<'a> Language for Rules<'a> {
     fn apply(
         &self,
         command: &Command,
-        slot: &mut Option<LazyStmt<'a>>,
+        slot: &mut Option<StatementRow<'a>>,
         log: &mut Log,
     ) -> Result<Facts, AllocError> {
-        let mut done = apply_lazy(self.alloc, command, self.home, slot)?;
+        let env = Env {
+            alloc: self.alloc,
+            home: self.home,
+        };
+        let mut done = execute(env, command, slot)?;
         // Where there is a note, the slot is as the command found it.
         tell_done(self.alloc, self.home, slot, &mut done, log)
     }
@@ -104,11 +107,11 @@ fn is_failure(note: &Option<Note>) -> bool
 fn tell_done(
     alloc: Global,
     home: &Package,
-    slot: &Option<LazyStmt<'_>>,
+    slot: &Option<StatementRow<'_>>,
     done: &mut Done,
     log: &mut Log,
 ) -> Result<Facts, AllocError>
-    ensures told { OnOk result (log.new ≡ log.old ++ done_told (shown_slot home.now (lazy_slot slot.now)) done.old) }
+    ensures told { OnOk result (log.new ≡ log.old ++ done_told (shown_slot home.now slot.now) done.old) }
     ensures changed { IfOk result (λ facts. facts.changed ≡ done.old.changed) }
     ensures failed { IfOk result (λ facts. facts.failed ≡ fails done.old.note) }
 {
@@ -130,11 +133,11 @@ fn tell_line(line: Option<Text>, log: &mut Log) -> Result<(), AllocError>
 fn tell_note(
     alloc: Global,
     home: &Package,
-    slot: &Option<LazyStmt<'_>>,
+    slot: &Option<StatementRow<'_>>,
     note: &Option<Note>,
     log: &mut Log,
 ) -> Result<(), AllocError>
-    ensures { OnOk result (log.new ≡ log.old ++ note_told (shown_slot home.now (lazy_slot slot.now)) note.now) }
+    ensures { OnOk result (log.new ≡ log.old ++ note_told (shown_slot home.now slot.now) note.now) }
 {
     if let Some(note) = note {
         log.push(entry_on(alloc, home, slot, note)?)?;
@@ -146,10 +149,10 @@ fn tell_note(
 fn entry_on(
     alloc: Global,
     home: &Package,
-    slot: &Option<LazyStmt<'_>>,
+    slot: &Option<StatementRow<'_>>,
     note: &Note,
 ) -> Result<Entry, AllocError>
-    ensures { IfOk result (λ entry. entry ∷ [] ≡ note_told (shown_slot home.now (lazy_slot slot.now)) (Some note.now)) }
+    ensures { IfOk result (λ entry. entry ∷ [] ≡ note_told (shown_slot home.now slot.now) (Some note.now)) }
 {
     let rule = shown_slot(alloc, home, slot)?;
     note_entry(alloc, rule.as_str(), note)
@@ -159,9 +162,9 @@ fn entry_on(
 fn shown_slot(
     alloc: Global,
     home: &Package,
-    slot: &Option<LazyStmt<'_>>,
+    slot: &Option<StatementRow<'_>>,
 ) -> Result<String, AllocError>
-    ensures { IfOk result (λ text. string_bytes text ≡ shown_slot home.now (lazy_slot slot.now)) }
+    ensures { IfOk result (λ text. string_bytes text ≡ shown_slot home.now slot.now) }
 {
     match slot {
         None => Ok(String::new(alloc)),

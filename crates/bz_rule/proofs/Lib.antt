@@ -13,7 +13,6 @@ mod Delete
 mod Found
 mod Gone
 mod GoodArguments
-mod Hollowed
 mod Kept
 mod KindFormed
 mod Lawful
@@ -30,13 +29,12 @@ mod PassingRules
 mod PassingTexts
 mod PassingWritten
 mod Print
-mod PutBack
 mod Rebuilt
 mod Remove
 mod Rename
 mod Replace
-mod RowStatements
 mod RowEdited
+mod RowStatements
 mod RuleClass
 mod RuleFormed
 mod Segments
@@ -44,4 +42,3 @@ mod Set
 mod SetAgain
 mod Tests
 pub mod Utf8Commands
-mod WovenParts

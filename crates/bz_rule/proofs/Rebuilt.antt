@@ -98,7 +98,7 @@ joined_dotted [] h = absurd (omega arith)
 joined_dotted (name ∷ []) h = refl
 joined_dotted (name ∷ other ∷ names) h = joined_dotted (other ∷ names) (omega arith)
 
-kind_dotted : (kind : List ℕ) → dotted true (kind_items kind) ≡ true
+pub kind_dotted : (kind : List ℕ) → dotted true (kind_items kind) ≡ true
 kind_dotted kind = joined_dotted (slice_split (λ b. b == 46) kind) (some_part (λ b. b == 46) kind)
 
 kind_nodes : (kind : List ℕ) (f : List Segment → List Segment) (nodes : List Item) (r : Rule) → rule_of nodes ≡ Some r

@@ -1,43 +1,142 @@
--- What a command on one attribute makes of the row of a rule.
-use Rattle.std.proofs.Common.{◌≡◌, ℕ, List, false, Option, Some, map, ap, sym, ◌∙◌}
+-- What a command makes of the row of a rule.
+use Rattle.std.proofs.Common.{◌≡◌, ℕ, List, Bool, true, false, Option, None, Some, is_some, refl, ap, sym, ◌∙◌, if◌then◌else◌, rules}
 use Rattle.std.specs.Prelude.{bytes_eq}
-use Rattle.bz_tree.specs.Tree.{Segment, Statement}
-use Rattle.bz_tree.specs.Rows.{IsRowOf, RowPart, part_view, parts_of}
-use Rattle.bz_tree.specs.declared.row.Row.{Row}
-use Rattle.bz_command.specs.Labels.{Name, Package}
-use Rattle.bz_attribute.specs.Rules.{Rule, rule_of, is_text, string_in}
-use Rattle.bz_attribute.specs.Effects.{done_in, with_args}
-use Rattle.bz_attribute.specs.Heads.{IsHeadOf}
-use Rattle.bz_attribute.specs.Marks.{marks, marks_if}
-use Rattle.bz_attribute.specs.RowPlaces.{IsRuleRow}
+use Rattle.std.proofs.lemmas.Bool.{false≢true}
+use Rattle.bz_tree.specs.Tree.{Item, Segment, Statement, segs_of}
+use Rattle.bz_tree.specs.Rows.{RowPart, parts_of}
+use Rattle.bz_tree.specs.Statement.{class_of}
+use Rattle.bz_tree.specs.declared.stmt.Class.TheVariants.{Rule as RuleClass}
+use Rattle.bz_command.specs.Labels.{Package}
+use Rattle.bz_command.specs.declared.arguments.Commented.TheVariants.{Rule as Above, Attribute, Value}
+use Rattle.bz_command.specs.declared.arguments.Setting.TheVariants.{ToKind, ToValues}
+use Rattle.bz_attribute.specs.Rules.{Rule, rule_of, kind_text}
+use Rattle.bz_attribute.specs.Effects.{done, done_in, holds_rule, nodes_of, slot_done, with_args}
 use Rattle.bz_attribute.specs.declared.done.Done.{Done}
-use Rattle.bz_attribute.specs.declared.head.Head.{Head}
-use Rattle.bz_rule.specs.Commands.{Command, args_after, args_done, done_of}
-use Rattle.bz_rule.specs.RowViews.{row_statement, row_value}
-use Rattle.bz_rule.specs.private.RowEdits.{IsNamedRow}
+use Rattle.bz_attribute.specs.RowPlaces.{alone, IsPlaceOf, IsPlaceOfAll}
+use Rattle.bz_attribute.specs.Set.{kind_after, kind_items, sets_kind, sets_kind_of, with_kind}
+use Rattle.bz_rule.specs.Commands.{Command, after, args_after, args_done, done_of}
+use Rattle.bz_rule.specs.declared.command.Action.TheVariants.{Add, Comment, Delete, Move, Print, Remove, Rename, Replace, Set, SetIfAbsent}
+use Rattle.bz_rule.specs.private.RowEdits.{IsNextOf, IsPlaceFor, edits_arguments, is_edit, rule_after}
+use Rattle.bz_command.specs.declared.arguments.Field.{Field}
+use Rattle.bz_attribute_commands.specs.Print.{printed_of, prints}
 use Rattle.bz_rule.proofs.Commands.{lawful}
-use Rattle.bz_rule.proofs.Lawful.{Local}
+use Rattle.bz_rule.proofs.Lawful.{Lawful, Local}
+use Rattle.bz_rule.proofs.Local.{told_alone}
+use Rattle.bz_rule.proofs.Rebuilt.{kind_dotted}
+use Rattle.bz_rule.proofs.RuleClass.{call_class, class_after, rule_class}
 
--- where it tells no change, the parts are those of before
-pub unchanged : (c : Command) (home : Package) (name : List ℕ) (s : Statement) (r : Rule) (ps : List RowPart) → Local c home name → IsRuleRow s r ps → (args_done c home r.args).changed ≡ false
-    → ps ≡ parts_of (with_args (args_after c home) s)
-unchanged c home name s r ps law h quiet =
-    let stays = (lawful c home).stays (Some s) (ap (λ (d : Done). d.changed) (law.done s ∙ ap (done_in (args_done c home)) h.rule) ∙ quiet) in
-    let same : with_args (args_after c home) s ≡ s = let both : Some (with_args (args_after c home) s) ≡ Some s = sym (law.slot s) ∙ stays in cc in
-    h.are ∙ sym (ap parts_of same)
+-- where the first argument of a name stands, or all
+pub place_alone : (c : Command) (home : Package) (name : List ℕ) (s : Statement) (r : Rule) (ps : List RowPart) (from to : ℕ) → Local c home name → IsPlaceOf name s r ps from to → IsPlaceFor c home s r ps from to
+place_alone c home name s r ps from to law place =
+    record { args = alone name r; read = place.read; put = place.put (args_after c home) law.args; told = told_alone name (args_done c home) r law.told }
 
--- the row of a rule that has a head
-pub rule_row : (row : Row) (head : Head) → (h : IsNamedRow row head) → IsRuleRow (row_statement (row_value row)) h.named.rule (map part_view row.parts.now)
-rule_row row head h = record { are = h.is.parts; rule = h.named.is }
+pub place_all : (c : Command) (home : Package) (s : Statement) (r : Rule) (ps : List RowPart) (from to : ℕ) → IsPlaceOfAll s r ps from to → IsPlaceFor c home s r ps from to
+place_all c home s r ps from to place = record { args = r.args; read = place.read; put = place.put (args_after c home); told = refl }
 
--- the new row is of the new statement
-pub new_row : (f : List Segment → List Segment) (s : Statement) (row new : Row) → IsRowOf s row → map part_view new.parts.now ≡ parts_of (with_args f s) → new.class ≡ row.class → new.start ≡ row.start → new.end ≡ row.end
-    → IsRowOf (with_args f s) new
-new_row f s row new is parts class start end = record { parts = parts; class = class ∙ is.class; start = start ∙ is.start; end = end ∙ is.end }
+-- what an edit leaves of a rule
+pub after_edit : (c : Command) (home : Package) (s : Statement) → is_edit c ≡ true → after c home (Some s) ≡ Some (rule_after c home s)
+after_edit (Add attr values) home s h = refl
+after_edit (Remove attrs values) home s h = refl
+after_edit (Set (ToKind kind)) home s h = refl
+after_edit (Set (ToValues attr values)) home s h = refl
+after_edit (SetIfAbsent attr values) home s h = refl
+after_edit Delete home s h = absurd (false≢true h)
+after_edit (Rename old new) home s h = refl
+after_edit (Move old new chosen) home s h = refl
+after_edit (Replace attrs old new) home s h = refl
+after_edit (Comment Above text) home s h = refl
+after_edit (Comment (Attribute attr) text) home s h = refl
+after_edit (Comment (Value attr value) text) home s h = refl
+after_edit (Print fields) home s h = absurd (false≢true h)
 
-pub rule_told : (c : Command) (home : Package) (name : List ℕ) (s : Statement) (r : Rule) → Local c home name → rule_of s.nodes ≡ Some r → args_done c home r.args ≡ done_of c home (Some s)
-rule_told c home name s r law is = sym (law.done s ∙ ap (done_in (args_done c home)) is)
+next_args : (f : List Segment → List Segment) (s : Statement) (r : Rule) (ps : List RowPart) → rule_of s.nodes ≡ Some r → ps ≡ parts_of (with_args f s) → IsNextOf s ps (with_args f s)
+next_args f s r ps is are = record { are = are; rule = class_after f s r is; same = refl; start = refl; end = refl }
 
-pub named_by_head : (name : List ℕ) (head : Head) (s : Statement) → IsHeadOf head s → marks (Name name) s ≡ bytes_eq name head.name.now
-named_by_head name head s h =
-    ap (marks_if (Name name) s.start) h.is ∙ ap (λ (first : Option Segment). is_text name (string_in first)) h.named ∙ ap (is_text name) h.name_is
+kind_class : (kind : List ℕ) (s : Statement) (r : Rule) → rule_of s.nodes ≡ Some r → class_of (with_kind kind s).nodes ≡ RuleClass
+kind_class kind s r is =
+    let other : Rule = record r { kind = kind_items kind } in
+    let made : class_of (nodes_of other) ≡ RuleClass = call_class (kind_items kind) (segs_of r.args) r.one_comma r.end (kind_dotted kind) in
+    ap (λ (o : Option Rule). class_of (kind_after kind s.nodes o)) is
+    ∙ elim (bytes_eq (kind_text r.kind) kind) as (λ b. class_of (if b then s.nodes else nodes_of other) ≡ RuleClass) [ true ↦ rule_class s.nodes r is | false ↦ made ]
+
+pub next_of : (c : Command) (home : Package) (s : Statement) (r : Rule) (ps : List RowPart) → rule_of s.nodes ≡ Some r → ps ≡ parts_of (rule_after c home s) → IsNextOf s ps (rule_after c home s)
+next_of (Add attr values) home s r ps is are = next_args _ s r ps is are
+next_of (Remove attrs values) home s r ps is are = next_args _ s r ps is are
+next_of (Set (ToKind kind)) home s r ps is are = record { are = are; rule = kind_class kind s r is; same = refl; start = refl; end = refl }
+next_of (Set (ToValues attr values)) home s r ps is are = next_args _ s r ps is are
+next_of (SetIfAbsent attr values) home s r ps is are = next_args _ s r ps is are
+next_of Delete home s r ps is are = next_args _ s r ps is are
+next_of (Rename old new) home s r ps is are = next_args _ s r ps is are
+next_of (Move old new chosen) home s r ps is are = next_args _ s r ps is are
+next_of (Replace attrs old new) home s r ps is are = next_args _ s r ps is are
+next_of (Comment Above text) home s r ps is are = record { are = are; rule = rule_class s.nodes r is; same = refl; start = refl; end = refl }
+next_of (Comment (Attribute attr) text) home s r ps is are = next_args _ s r ps is are
+next_of (Comment (Value attr value) text) home s r ps is are = next_args _ s r ps is are
+next_of (Print fields) home s r ps is are = next_args _ s r ps is are
+
+-- where it tells no change, the rule stays
+pub edit_stays : (c : Command) (home : Package) (s : Statement) → is_edit c ≡ true → (done_of c home (Some s)).changed ≡ false → Some s ≡ after c home (Some s)
+edit_stays c home s h quiet = sym ((lawful c home).stays (Some s) quiet)
+
+-- of what is no rule nothing is told
+told_args : (g : List Segment → Done) (slot : Option Statement) → holds_rule slot ≡ false → slot_done g slot ≡ done None false
+told_args g None h = refl
+told_args g (Some s) h = elim (rule_of s.nodes) as (λ o. is_some o ≡ false → done_in g o ≡ done None false) [ None ↦ λ k. refl | Some r ↦ λ k. absurd (false≢true (sym k)) ] h
+
+told_kind : (kind : List ℕ) (slot : Option Statement) → holds_rule slot ≡ false → sets_kind_of kind slot ≡ done None false
+told_kind kind None h = refl
+told_kind kind (Some s) h = elim (rule_of s.nodes) as (λ o. is_some o ≡ false → sets_kind kind o ≡ done None false) [ None ↦ λ k. refl | Some r ↦ λ k. absurd (false≢true (sym k)) ] h
+
+pub told_print : (home : Package) (fields : List Field) (slot : Option Statement) → holds_rule slot ≡ false → prints home fields slot ≡ done None false
+told_print home fields None h = refl
+told_print home fields (Some s) h = elim (rule_of s.nodes) as (λ o. is_some o ≡ false → printed_of home s fields o ≡ done None false) [ None ↦ λ k. refl | Some r ↦ λ k. absurd (false≢true (sym k)) ] h
+
+pub told_of_none : (c : Command) (home : Package) (slot : Option Statement) → holds_rule slot ≡ false → done_of c home slot ≡ done None false
+told_of_none (Add attr values) home slot h = told_args _ slot h
+told_of_none (Remove attrs values) home slot h = told_args _ slot h
+told_of_none (Set (ToKind kind)) home slot h = told_kind kind slot h
+told_of_none (Set (ToValues attr values)) home slot h = told_args _ slot h
+told_of_none (SetIfAbsent attr values) home slot h = told_args _ slot h
+told_of_none Delete home slot h = ap (done None) h
+told_of_none (Rename old new) home slot h = told_args _ slot h
+told_of_none (Move old new chosen) home slot h = told_args _ slot h
+told_of_none (Replace attrs old new) home slot h = told_args _ slot h
+told_of_none (Comment Above text) home slot h = ap (done None) h
+told_of_none (Comment (Attribute attr) text) home slot h = told_args _ slot h
+told_of_none (Comment (Value attr value) text) home slot h = told_args _ slot h
+told_of_none (Print fields) home slot h = told_print home fields slot h
+
+pub some_rule : (o : Option Rule) → is_some o ≡ true → (r : Rule) × (o ≡ Some r)
+some_rule None h = absurd (false≢true h)
+some_rule (Some r) h = (r, refl)
+
+-- of a command on arguments
+pub args_rule : (c : Command) (home : Package) (s : Statement) → edits_arguments c ≡ true → rule_after c home s ≡ with_args (args_after c home) s
+args_rule (Add attr values) home s h = refl
+args_rule (Remove attrs values) home s h = refl
+args_rule (Set (ToKind kind)) home s h = absurd (false≢true h)
+args_rule (Set (ToValues attr values)) home s h = refl
+args_rule (SetIfAbsent attr values) home s h = refl
+args_rule Delete home s h = absurd (false≢true h)
+args_rule (Rename old new) home s h = refl
+args_rule (Move old new chosen) home s h = refl
+args_rule (Replace attrs old new) home s h = refl
+args_rule (Comment Above text) home s h = absurd (false≢true h)
+args_rule (Comment (Attribute attr) text) home s h = refl
+args_rule (Comment (Value attr value) text) home s h = refl
+args_rule (Print fields) home s h = absurd (false≢true h)
+
+pub args_told : (c : Command) (home : Package) (s : Statement) (r : Rule) → edits_arguments c ≡ true → rule_of s.nodes ≡ Some r → args_done c home r.args ≡ done_of c home (Some s)
+args_told (Add attr values) home s r h is = sym (ap (done_in (args_done (Add attr values) home)) is)
+args_told (Remove attrs values) home s r h is = sym (ap (done_in (args_done (Remove attrs values) home)) is)
+args_told (Set (ToKind kind)) home s r h is = absurd (false≢true h)
+args_told (Set (ToValues attr values)) home s r h is = sym (ap (done_in (args_done (Set (ToValues attr values)) home)) is)
+args_told (SetIfAbsent attr values) home s r h is = sym (ap (done_in (args_done (SetIfAbsent attr values) home)) is)
+args_told Delete home s r h is = absurd (false≢true h)
+args_told (Rename old new) home s r h is = sym (ap (done_in (args_done (Rename old new) home)) is)
+args_told (Move old new chosen) home s r h is = sym (ap (done_in (args_done (Move old new chosen) home)) is)
+args_told (Replace attrs old new) home s r h is = sym (ap (done_in (args_done (Replace attrs old new) home)) is)
+args_told (Comment Above text) home s r h is = absurd (false≢true h)
+args_told (Comment (Attribute attr) text) home s r h is = sym (ap (done_in (args_done (Comment (Attribute attr) text) home)) is)
+args_told (Comment (Value attr value) text) home s r h is = sym (ap (done_in (args_done (Comment (Value attr value) text) home)) is)
+args_told (Print fields) home s r h is = absurd (false≢true h)

@@ -1,38 +1,56 @@
--- A row is of one statement.
-use Rattle.std.proofs.Common.{◌≡◌, ◌∙◌, List, map, refl, sym, subst}
-use Rattle.std.specs.Prelude.{Option, None, Some, IfSome}
-use Rattle.bz_tree.specs.Tree.{Statement}
-use Rattle.bz_tree.specs.Statement.{class_of}
-use Rattle.bz_tree.specs.Rows.{IsRowOf, part_view}
-use Rattle.bz_tree.specs.declared.row.Row.{Row}
+-- A row is of one statement, and what is known of that by its head.
+use Rattle.std.proofs.Common.{◌≡◌, ◌∙◌, ℕ, List, Bool, [], false, Option, None, Some, is_some, map, option_map, ap, refl, sym, subst}
+use Rattle.bz_tree.specs.Tree.{Item, Statement}
+use Rattle.bz_tree.specs.Rows.{RowPart, part_view, parts_of}
+use Rattle.bz_tree.specs.declared.row.Part.{Part}
+use Rattle.bz_tree.specs.declared.stmt.Class.{Class}
 use Rattle.bz_tree.specs.private.PartSteps.{content_of, last_beside}
 use Rattle.bz_tree.proofs.FromParts.{statement_of_parts}
-use Rattle.bz_command.specs.Labels.{Package}
-use Rattle.bz_command.specs.declared.arguments.Field.{Field}
-use Rattle.bz_attribute.specs.Heads.{IsHeadOf}
+use Rattle.bz_command.specs.Labels.{Name, Package, Target}
+use Rattle.bz_attribute.specs.Heads.{HasHead, IsHeadOf}
+use Rattle.bz_attribute.specs.Marks.{marks, marks_if}
+use Rattle.bz_attribute.specs.Rules.{Rule, is_text, kind_text, rule_of}
+use Rattle.bz_attribute.specs.Texts.{rule_text, shown_text}
 use Rattle.bz_attribute.specs.declared.head.Head.{Head}
-use Rattle.bz_attribute.specs.declared.done.Done.{Done}
-use Rattle.bz_attribute_commands.specs.Print.{prints}
 use Rattle.bz_rule.specs.RowViews.{row_value, row_statement}
-use Rattle.bz_rule.specs.private.RowEdits.{IsNamedRow}
+use Rattle.bz_rule.specs.private.RowEdits.{HasItsHead}
 
-pub statement_of_row : (s : Statement) (row : Row) → IsRowOf s row → row_statement (row_value row) ≡ s
-statement_of_row s row is =
-    statement_of_parts s (map part_view row.parts.now) (content_of (map part_view row.parts.now)) (last_beside (map part_view row.parts.now)) row.class row.start row.end is.parts refl refl
-    ∙ (λ i. record { before = s.before; nodes = s.nodes; suffix = s.suffix; class = is.class i; start = is.start i; end = is.end i })
+pub record IsOf (s : Statement) (parts : List Part) (class : Class) (start end : ℕ) : Type 0 where
+  pub are : map part_view parts ≡ parts_of s
+  pub is : class ≡ s.class
+  pub begins : start ≡ s.start
+  pub ends : end ≡ s.end
 
-pub named_row : (s : Statement) (row : Row) (head : Head) → s.class ≡ class_of s.nodes → IsRowOf s row → IsHeadOf head s → IsNamedRow row head
-named_row s row head class is named =
-    let same = sym (statement_of_row s row is) in
+pub statement_of : (s : Statement) (parts : List Part) (class : Class) (start end : ℕ) → IsOf s parts class start end → row_statement (row_value parts class start end) ≡ s
+statement_of s parts class start end is =
+    statement_of_parts s (map part_view parts) (content_of (map part_view parts)) (last_beside (map part_view parts)) class start end is.are refl refl
+    ∙ (λ i. record { before = s.before; nodes = s.nodes; suffix = s.suffix; class = is.is i; start = is.begins i; end = is.ends i })
+
+pub has_head : (s : Statement) (parts : List Part) (class : Class) (start end : ℕ) (head : Option Head) → IsOf s parts class start end → HasHead head s
+    → HasItsHead (row_value parts class start end) head
+has_head s parts class start end head is has =
+    let same = sym (statement_of s parts class start end is) in
     record {
-      class = subst (λ (z : Statement). z.class ≡ class_of z.nodes) same class;
-      is = subst (λ (z : Statement). IsRowOf z row) same is;
-      named = subst (λ (z : Statement). IsHeadOf head z) same named;
+      are = is.are ∙ ap parts_of same;
+      has = subst (HasHead head) same has;
     }
 
--- what is told of each rule of a head is told of one
-pub told_of : (home : Package) (fields : List Field) (head : Head) (s : Statement) (told : Option Done) → IsHeadOf head s
-    → IfSome told (λ done. (z : Statement) → IsHeadOf head z → done ≡ prints home fields (Some z))
-    → IfSome told (λ done. done ≡ prints home fields (Some s))
-told_of home fields head s None is h = _
-told_of home fields head s (Some done) is h = h s is
+-- of what is no rule
+pub unmarked : (target : Target) (s : Statement) → rule_of s.nodes ≡ None → false ≡ marks target s
+unmarked target s none = sym (ap (marks_if target s.start) none)
+
+pub not_shown : (home : Package) (s : Statement) → rule_of s.nodes ≡ None → [] ≡ shown_text home s
+not_shown home s none = sym (ap (rule_text home) none)
+
+-- the name of a rule
+pub named_by : (name : List ℕ) (head : Head) (s : Statement) → IsHeadOf head s → marks (Name name) s ≡ is_text name (option_map (λ text. text.now) head.name)
+named_by name head s h = ap (marks_if (Name name) s.start) h.is ∙ ap (is_text name) (sym h.name_is)
+
+pub head_some : (o : Option Head) (s : Statement) → HasHead o s → is_some o ≡ is_some (rule_of s.nodes)
+head_some None s h = sym (ap is_some h)
+head_some (Some head) s h = sym (ap is_some h.is)
+
+pub kind_known : (head : Head) (s : Statement) (r : Rule) → IsHeadOf head s → rule_of s.nodes ≡ Some r → kind_text r.kind ≡ head.kind.now
+kind_known head s r h is =
+    let same : r ≡ h.rule = let both : Some r ≡ Some h.rule = sym is ∙ h.is in cc in
+    ap (λ (z : Rule). kind_text z.kind) same ∙ h.kind_is

@@ -44,7 +44,7 @@ kind_rule false (x ∷ kind) segs one_comma end h =
     let two = and_parts (is_operator_item (codes ".") x) (dotted true kind) h in
     ap (λ (z : Item). is_rule_after (z ∷ (kind ++ group RuleCall segs one_comma end ∷ []))) (is_dot x two.0) ∙ kind_rule true kind segs one_comma end two.1
 
-call_class : (kind : List Item) (segs : Segs) (one_comma : Bool) (end : List (List ℕ)) → dotted true kind ≡ true → class_of (kind ++ group RuleCall segs one_comma end ∷ []) ≡ RuleClass
+pub call_class : (kind : List Item) (segs : Segs) (one_comma : Bool) (end : List (List ℕ)) → dotted true kind ≡ true → class_of (kind ++ group RuleCall segs one_comma end ∷ []) ≡ RuleClass
 call_class [] segs one_comma end h = absurd (false≢true h)
 call_class (leaf Identifier text ∷ kind) segs one_comma end h =
     let k : List Item = leaf Identifier text ∷ kind in
@@ -57,7 +57,5 @@ pub rule_class : (nodes : List Item) (r : Rule) → rule_of nodes ≡ Some r →
 rule_class nodes r is = sym (ap class_of (rule_nodes [] nodes r is)) ∙ call_class r.kind (segs_of r.args) r.one_comma r.end (rule_dotted [] nodes r is)
 
 -- and stays so with other arguments
-pub class_after : (f : List Segment → List Segment) (s : Statement) (r : Rule) → rule_of s.nodes ≡ Some r → s.class ≡ class_of s.nodes → (with_args f s).class ≡ class_of (with_args f s).nodes
-class_after f s r is class =
-    class ∙ rule_class s.nodes r is
-    ∙ sym (ap class_of (ap (nodes_after f s.nodes) is) ∙ call_class r.kind (segs_of (f r.args)) r.one_comma r.end (rule_dotted [] s.nodes r is))
+pub class_after : (f : List Segment → List Segment) (s : Statement) (r : Rule) → rule_of s.nodes ≡ Some r → class_of (with_args f s).nodes ≡ RuleClass
+class_after f s r is = ap class_of (ap (nodes_after f s.nodes) is) ∙ call_class r.kind (segs_of (f r.args)) r.one_comma r.end (rule_dotted [] s.nodes r is)

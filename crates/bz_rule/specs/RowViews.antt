@@ -3,7 +3,7 @@ use Rattle.std.specs.Prelude.{◌≡◌, refl, ℕ, List, map}
 use Rattle.bz_tree.specs.declared.stmt.Class.{Class}
 use Rattle.bz_tree.specs.Tree.{Statement}
 use Rattle.bz_tree.specs.Rows.{RowPart, part_view, parts_of}
-use Rattle.bz_tree.specs.declared.row.Row.{Row}
+use Rattle.bz_tree.specs.declared.row.Part.{Part}
 use Rattle.bz_tree.specs.private.PartSteps.{content_of, last_beside}
 use Rattle.bz_tree.proofs.FromParts.{statement_of_parts}
 
@@ -14,8 +14,8 @@ pub record RowValue : Type 0 where
   pub start : ℕ
   pub end : ℕ
 
-abbrev pub row_value : Row → RowValue
-row_value row = record { parts = map part_view row.parts.now; class = row.class; start = row.start; end = row.end }
+abbrev pub row_value : List Part → Class → ℕ → ℕ → RowValue
+row_value parts class start end = record { parts = map part_view parts; class = class; start = start; end = end }
 
 abbrev pub row_statement : RowValue → Statement
 row_statement row = record {

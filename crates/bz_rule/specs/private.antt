@@ -1,4 +1,3 @@
 pub mod CommandSteps
-pub mod Hollow
+pub mod PartsOf
 pub mod RowEdits
-pub mod Woven

@@ -1,4 +1,4 @@
-//! The commands on one rule: what each is, which attributes it mentions, and which code carries it out.
+//! The commands on one rule: what each is, and which code carries it out.
 
 ghost use Rattle.std.specs.Prelude.{◌≡◌, IfOk, OnOk, OnErr};
 ghost use Rattle.bz_tree.specs.View.{segs_view};
@@ -8,9 +8,7 @@ use bz_attribute::{Done, Env, Executed};
 use bz_attribute_commands::comment::comment;
 use bz_attribute_commands::rename::rename;
 use bz_attribute_commands::set::{set, set_if_absent};
-use bz_command::{
-    Attributes, Commented, Field, Moved, Package, Seq, Setting, Text, print_mentions,
-};
+use bz_command::{Attributes, Commented, Field, Moved, Package, Seq, Setting, Text};
 use bz_list_commands::add::add;
 use bz_list_commands::moving::move_elements;
 use bz_list_commands::remove::remove;
@@ -110,26 +108,6 @@ impl Command {
         ensures { result ≡ spec.is_print self.now }
     {
         matches!(self.action, Action::Print(_))
-    }
-
-    /// It mentions the attribute of this name, as `*` mentions each. It looks at no value of the others, but that of
-    /// `name`.
-    pub fn mentions(&self, name: &str) -> bool
-        ensures { result ≡ spec.mentions self.now name.now }
-    {
-        match &self.action {
-            Action::Add(attr, _) | Action::SetIfAbsent(attr, _) => attr.as_str() == name,
-            Action::Remove(attributes, _) | Action::Replace(attributes, _, _) => {
-                attributes.mention(name)
-            }
-            Action::Set(setting) => setting.mentions(name),
-            Action::Delete => false,
-            Action::Rename(old, new) | Action::Move(old, new, _) => {
-                old.as_str() == name || new.as_str() == name
-            }
-            Action::Comment(commented, _) => commented.mentions(name),
-            Action::Print(fields) => print_mentions(fields.as_slice(), name),
-        }
     }
 }
 

@@ -1,30 +1,33 @@
-//! Commands on one attribute, by the row of a rule: the argument is read, edited and written in its place.
+//! Commands on the arguments of a rule, by its parts: those that a command looks at are read, edited and written in their
+//! place.
 
-ghost use Rattle.std.specs.Prelude.{◌≡◌, IfOk, IfSome, Some, map};
+ghost use Rattle.std.specs.Prelude.{◌≡◌, ◌≤◌, IfOk, IfSome, Some, length, map, true};
 ghost use Rattle.bz_tree.specs.Tree.{Statement};
 ghost use Rattle.bz_tree.specs.Rows.{part_view, parts_of};
-ghost use Rattle.bz_attribute.specs.Effects.{with_args};
 ghost use Rattle.bz_attribute.specs.RowPlaces.{IsRuleRow};
-ghost use Rattle.bz_attribute.specs.Rules.{Rule};
+ghost use Rattle.bz_attribute.specs.Rules.{Rule, kind_text};
+ghost use Rattle.bz_command.specs.Labels as labels;
 ghost use Rattle.bz_rule.specs.Commands as commands;
-ghost use Rattle.bz_rule.specs.private.RowEdits.{one_attribute};
+ghost use Rattle.bz_rule.specs.private.RowEdits.{IsPlaceFor, edits_arguments, is_edit, one_attribute, rule_after};
 
 use crate::command::{Action, Command, in_args};
 use bumpalo::Bump;
-use bz_attribute::{Done, Env, place_of, read_arguments, splice};
+use bz_attribute::{Env, Executed, Parts, Place, all_arguments, place_of, read_arguments, splice};
+use bz_attribute_commands::kind::set_kind;
+use bz_attribute_commands::line::{comment_attribute, comment_rule};
+use bz_attribute_commands::name::rename;
 use bz_command::{Attributes, Commented, Setting};
 use bz_tree::Part;
-use std::alloc::AllocError;
 
-/// What a command left of the parts of a rule, and what it tells.
-#[derive(Drop)]
-pub(crate) struct Edited<'a> {
-    pub(crate) parts: &'a [Part<'a>],
-    pub(crate) done: Done,
+/// The parts of a rule, beside the text of its kind.
+#[derive(Clone, Copy)]
+pub(crate) struct RuleParts<'p, 'a> {
+    pub(crate) kind: &'p str,
+    pub(crate) parts: &'p [Part<'a>],
 }
 
 /// The attribute of a command that looks at its first argument alone.
-pub(crate) fn one_attribute(command: &Command) -> Option<&str>
+fn one_attribute(command: &Command) -> Option<&str>
     ensures { IfSome result (λ attr. one_attribute command.now ≡ Some attr.now) }
 {
     match &command.action {
@@ -42,27 +45,74 @@ pub(crate) fn one_attribute(command: &Command) -> Option<&str>
     }
 }
 
-/// Applies a command on one attribute to a rule that has these parts. `Err`: memory was refused.
-pub(crate) fn edit_attribute<'a>(
+// Where the arguments stand that a command looks at: the first of one attribute, or all.
+fn place_for(command: &Command, parts: &[Part<'_>]) -> Place
+    ensures within { (result.from ≤ result.to) × (result.to ≤ length parts.now) }
+    ensures place { (home : labels.Package) (s : Statement) (r : Rule) → IsRuleRow s r (map part_view parts.now)
+        → IsPlaceFor command.now home s r (map part_view parts.now) result.from result.to }
+{
+    match one_attribute(command) {
+        Some(attr) => place_of(parts, attr),
+        None => all_arguments(parts),
+    }
+}
+
+// Writes the parts that a command on arguments makes of those of a rule, where it changes something. `Err`: memory was
+// refused, and the new list is of no use.
+fn edit_arguments<'a>(
     env: Env<'_>,
     bump: &'a Bump,
     command: &Command,
-    attr: &str,
-    parts: &'a [Part<'a>],
-) -> Result<Edited<'a>, AllocError>
-    requires { one_attribute command.now ≡ Some attr.now }
-    ensures parts { IfOk result (λ edited. (s : Statement) (r : Rule) → IsRuleRow s r (map part_view parts.now)
-        → map part_view edited.parts.now
-        ≡ parts_of (with_args (commands.args_after command.now env.entry.home.now) s)) }
-    ensures done { IfOk result (λ edited. (s : Statement) (r : Rule) → IsRuleRow s r (map part_view parts.now)
-        → edited.done ≡ commands.args_done command.now env.entry.home.now r.args) }
+    parts: &[Part<'a>],
+    new: &mut Parts<'a>,
+) -> Executed
+    requires { edits_arguments command.now ≡ true }
+    ensures parts { IfOk result (λ done. done.changed ≡ true
+        → (s : Statement) (r : Rule) → IsRuleRow s r (map part_view parts.now)
+        → map part_view new.new.items ≡ parts_of (rule_after command.now env.entry.home.now s)) }
+    ensures done { IfOk result (λ done. (s : Statement) (r : Rule) → IsRuleRow s r (map part_view parts.now)
+        → done ≡ commands.done_of command.now env.entry.home.now (Some s)) }
 {
-    let place = place_of(parts, attr);
+    let place = place_for(command, parts);
     let mut args = read_arguments(env.alloc, &parts[place.from..place.to])?;
     let done = in_args(env.alloc, command, env.home, &mut args)?;
     if !done.changed {
-        return Ok(Edited { parts, done });
+        return Ok(done);
     }
-    let parts = splice(bump, parts, place, &args)?;
-    Ok(Edited { parts, done })
+    splice(bump, parts, place, &args, new)?;
+    Ok(done)
+}
+
+/// Writes the parts that a command makes of those of a rule, where it changes something. `Err`: memory was refused, and
+/// the new list is of no use.
+pub(crate) fn edit_rule<'a>(
+    env: Env<'_>,
+    bump: &'a Bump,
+    command: &Command,
+    rule: RuleParts<'_, 'a>,
+    new: &mut Parts<'a>,
+) -> Executed
+    requires { is_edit command.now ≡ true }
+    ensures parts { IfOk result (λ done. done.changed ≡ true
+        → (s : Statement) (r : Rule) → IsRuleRow s r (map part_view rule.entry.parts.now)
+        → kind_text r.kind ≡ rule.entry.kind.now
+        → map part_view new.new.items ≡ parts_of (rule_after command.now env.entry.home.now s)) }
+    ensures done { IfOk result (λ done. (s : Statement) (r : Rule)
+        → IsRuleRow s r (map part_view rule.entry.parts.now) → kind_text r.kind ≡ rule.entry.kind.now
+        → done ≡ commands.done_of command.now env.entry.home.now (Some s)) }
+{
+    let RuleParts { kind, parts } = rule;
+    match &command.action {
+        Action::Set(Setting::ToKind(new_kind)) => {
+            set_kind(bump, new_kind.as_str(), kind, parts, new)
+        }
+        Action::Rename(old, to) => rename(env.alloc, bump, old.as_str(), to.as_str(), parts, new),
+        Action::Comment(Commented::Rule, text) => {
+            comment_rule(env.alloc, bump, text.as_str(), parts, new)
+        }
+        Action::Comment(Commented::Attribute(attr), text) => {
+            comment_attribute(env.alloc, bump, attr.as_str(), text.as_str(), parts, new)
+        }
+        _ => edit_arguments(env, bump, command, parts, new),
+    }
 }

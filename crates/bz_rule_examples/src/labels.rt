@@ -1,7 +1,8 @@
 //! Labels, targets, the values of strings, and how rules are shown.
 
 use crate::table::{check_lines, plain, statement};
-use bz_rule::{Package, Target, label, matches, quote, read_label, same, shown, value_is};
+use bumpalo::Bump;
+use bz_rule::{Package, StatementRow, Target, label, quote, read_label, same, value_is};
 use bz_token::{Kind, Token};
 use std::alloc::{AllocError, Global};
 use std::collections::HashMap;
@@ -194,8 +195,10 @@ const MARKS: &str = r##"//p:%f f() ! marked
 //p:%3 # c␊# d␊x = 1 ! not"##;
 
 fn is_marked(alloc: Global, target: &Target, text: &str) -> Result<bool, Fail> {
+    let bump = Bump::new(alloc);
     let stmt = statement(alloc, text)?;
-    Ok(matches(target, &stmt))
+    let stmt = StatementRow::of_stmt(alloc, &bump, &stmt)?;
+    Ok(stmt.is_marked_by(target))
 }
 
 fn shown_mark(alloc: Global, asked: &str) -> Result<String, Fail> {
@@ -222,8 +225,10 @@ f(name = b'a') ! //p:%f
 f(name = '') ! //p:"##;
 
 fn shown_rule(alloc: Global, home: &Package, text: &str) -> Result<String, Fail> {
+    let bump = Bump::new(alloc);
     let stmt = statement(alloc, text)?;
-    let shown = shown(alloc, home, &stmt)?;
+    let stmt = StatementRow::of_stmt(alloc, &bump, &stmt)?;
+    let shown = stmt.shown(alloc, home)?;
     Ok(shown)
 }
 

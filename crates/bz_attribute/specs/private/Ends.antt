@@ -1,7 +1,7 @@
 -- For private clauses alone: where a segment, the comments above it and the arguments of a rule end, by their parts.
 use Rattle.std.specs.Prelude.{ℕ, zero, suc, ◌+◌, List, [], ◌∷◌, drop, Bool, true, false, if◌then◌else◌}
 use Rattle.std.specs.List.{list_all, list_any}
-use Rattle.bz_tree.specs.Rows.{RowPart, opening, closing, segment_end, above, beside}
+use Rattle.bz_tree.specs.Rows.{RowPart, a_token, opening, closing, segment_end, above, beside}
 
 abbrev pub above_len : List RowPart → ℕ
 above_len (above text ∷ ps) = suc (above_len ps)
@@ -31,6 +31,10 @@ abbrev pub is_above : RowPart → Bool
 is_above (above text) = true
 is_above _ = false
 
+abbrev pub is_token : RowPart → Bool
+is_token (a_token kind text) = true
+is_token _ = false
+
 -- how many parts stand before the comments with which they end
 abbrev pub plain_len : List RowPart → ℕ
 plain_len [] = 0
@@ -51,3 +55,9 @@ besides _ = 0
 abbrev pub arguments_end : List RowPart → ℕ
 arguments_end [] = 0
 arguments_end (p ∷ ps) = if list_any is_stop ps then 1 + arguments_end ps else (if is_stop p then 1 + besides ps else 0)
+
+-- how many parts there are up to the first bracket that opens, with it
+abbrev pub arguments_begin : List RowPart → ℕ
+arguments_begin [] = 0
+arguments_begin (opening kind ∷ ps) = 1
+arguments_begin (p ∷ ps) = suc (arguments_begin ps)

@@ -1,9 +1,9 @@
--- For private clauses: what the parts of a row begin with.
-use Rattle.std.specs.Prelude.{◌≡◌, ℕ, List, ◌∷◌, Bool, true, false, ◌&&◌, if◌then◌else◌, Option, None, Some, codes}
+-- For private clauses: the kind and the arguments of a rule, as they stand in its parts.
+use Rattle.std.specs.Prelude.{◌≡◌, ℕ, List, [], ◌∷◌, ◌++◌, map, Bool, true, false, ◌&&◌, if◌then◌else◌, Option, None, Some, codes}
 use Rattle.bz_tree.specs.declared.stmt.GroupKind.TheVariants.{RuleCall}
-use Rattle.bz_tree.specs.Tree.{leaf}
-use Rattle.bz_tree.specs.Rows.{RowPart, a_token, opening, segment_end, above}
-use Rattle.bz_command.specs.Values.{value_of}
+use Rattle.bz_tree.specs.Tree.{leaf, Statement, segs_of}
+use Rattle.bz_tree.specs.Rows.{RowPart, a_token, opening, closing, segment_end, above, beside_part, segs_parts}
+use Rattle.bz_attribute.specs.Rules.{Rule}
 use Rattle.bz_attribute.specs.Rules as rules
 
 -- the parts after the comments above them
@@ -11,9 +11,24 @@ abbrev pub after_comments : List RowPart → List RowPart
 after_comments (above text ∷ ps) = after_comments ps
 after_comments ps = ps
 
-abbrev pub opens_rule : RowPart → Bool
-opens_rule (opening RuleCall) = true
-opens_rule _ = false
+-- the parts after the tokens with which they begin
+abbrev pub after_tokens : List RowPart → List RowPart
+after_tokens (a_token kind text ∷ ps) = after_tokens ps
+after_tokens ps = ps
+
+-- the texts of the tokens with which they begin
+abbrev pub token_texts : List RowPart → List ℕ
+token_texts (a_token kind text ∷ ps) = text ++ token_texts ps
+token_texts ps = []
+
+-- the parts within the call of a rule that opens there
+abbrev pub in_call : List RowPart → Option (List RowPart)
+in_call (opening RuleCall ∷ ps) = Some ps
+in_call ps = None
+
+-- the parts of the arguments of a rule, and those after them
+abbrev pub IsInCall : Statement → Rule → List RowPart → Type 0
+IsInCall s r ps = ps ≡ segs_parts (segs_of r.args) ++ ((map above r.end ++ closing r.one_comma ∷ []) ++ beside_part s.suffix)
 
 abbrev pub ident_of : RowPart → Option (List ℕ)
 ident_of (a_token kind text) = rules.ident_of (leaf kind text)
@@ -36,15 +51,3 @@ abbrev pub name_literal : List RowPart → Option (List ℕ)
 name_literal (name ∷ equals ∷ literal ∷ end ∷ ps) =
     if rules.is_text (codes "name") (ident_of name) && is_operator_item (codes "=") equals && is_end end then text_of literal else None
 name_literal _ = None
-
--- a kind, and in its call `name = literal` as the first argument
-pub record IsHeadAt (kind name : List ℕ) (ps : List RowPart) : Type 0 where
-  pub first : RowPart
-  pub call : RowPart
-  pub args : List RowPart
-  pub are : ps ≡ first ∷ call ∷ args
-  pub kind_is : ident_of first ≡ Some kind
-  pub call_is : opens_rule call ≡ true
-  pub literal : List ℕ
-  pub literal_is : name_literal args ≡ Some literal
-  pub name_is : value_of literal ≡ Some name

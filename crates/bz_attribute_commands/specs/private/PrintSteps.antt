@@ -1,14 +1,31 @@
--- For private clauses alone: a line with its note, and words one after another.
-use Rattle.std.specs.Prelude.{ℕ, List, [], ◌∷◌, ◌++◌, false, Option, Some}
-use Rattle.bz_tree.specs.Tree.{Segment}
-use Rattle.bz_attribute.specs.Rules.{string_value}
-use Rattle.bz_attribute_commands.specs.Print.{word_of}
-use Rattle.bz_attribute.specs.declared.done.Done.{Done}
+-- For private clauses alone: what is printed of the rule of a head and parts, and words one after another.
+use Rattle.std.specs.Prelude.{◌≡◌, ℕ, List, [], ◌∷◌, ◌++◌, Option}
+use Rattle.bz_tree.specs.Tree.{Segment, Statement}
+use Rattle.bz_tree.specs.Rows.{RowPart}
+use Rattle.bz_command.specs.Labels.{Package}
+use Rattle.bz_command.specs.declared.arguments.Field.{Field}
+use Rattle.bz_command.specs.declared.arguments.Field.TheVariants.{ValueOf}
+use Rattle.bz_attribute.specs.declared.head.Head.{Head}
 use Rattle.bz_attribute.specs.declared.done.Note.{Note}
+use Rattle.bz_attribute.specs.Heads.{IsHeadOf}
+use Rattle.bz_attribute.specs.RowPlaces.{IsRuleRow}
+use Rattle.bz_attribute.specs.Rules.{Rule, string_value}
+use Rattle.bz_attribute_commands.specs.Print.{line_of, missing, word_of}
 
--- a line and a note
-abbrev pub line_with : List ℕ → Option Note → Done
-line_with line note = record { changed = false; line = Some line; note = note }
+-- a rule of this head and these parts
+pub record IsRuleOf (known : Head) (ps : List RowPart) (s : Statement) (r : Rule) : Type 0 where
+  pub head : IsHeadOf known s
+  pub row : IsRuleRow s r ps
+
+-- these fields of the rule come after what was there, with this note
+pub record HasPrinted (home : Package) (fields : List Field) (head : Head) (ps : List RowPart) (old new : List ℕ) (told : Option Note) : Type 0 where
+  pub line : (s : Statement) (r : Rule) → IsRuleOf head ps s r → new ≡ old ++ line_of home s r fields
+  pub note : (s : Statement) (r : Rule) → IsRuleOf head ps s r → told ≡ missing home s r fields
+
+-- the like of one attribute, for which the head is not needed
+pub record HasPrintedArgument (attr : List ℕ) (ps : List RowPart) (old new : List ℕ) (told : Option Note) : Type 0 where
+  pub line : (home : Package) (s : Statement) (r : Rule) → IsRuleRow s r ps → new ≡ old ++ line_of home s r (ValueOf attr ∷ [])
+  pub note : (home : Package) (s : Statement) (r : Rule) → IsRuleRow s r ps → told ≡ missing home s r (ValueOf attr ∷ [])
 
 abbrev pub element_word : Segment → List ℕ
 element_word s = word_of (string_value s.nodes)

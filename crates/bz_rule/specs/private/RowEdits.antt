@@ -1,22 +1,69 @@
--- For private clauses: the commands that are done by the row of a rule, and a row that has a head.
-use Rattle.std.specs.Prelude.{◌≡◌, ℕ, List, ◌∷◌, Option, Some, None}
+-- For private clauses: where the arguments stand that a command looks at, and a row with its head.
+use Rattle.std.specs.Prelude.{◌≡◌, ℕ, ◌-◌, List, ◌∷◌, ◌++◌, Bool, true, false, Option, Some, None, map, take, drop}
 use Rattle.bz_tree.specs.Statement.{class_of}
-use Rattle.bz_tree.specs.Rows.{IsRowOf}
-use Rattle.bz_tree.specs.declared.row.Row.{Row}
+use Rattle.bz_tree.specs.declared.stmt.Class.TheVariants.{Rule as RuleClass}
+use Rattle.bz_tree.specs.Tree.{Segment, Statement, segs_of}
+use Rattle.bz_tree.specs.Rows.{RowPart, part_view, parts_of, segs_parts}
+use Rattle.bz_command.specs.Labels.{Package}
 use Rattle.bz_command.specs.declared.arguments.Attributes.TheVariants.{Named}
-use Rattle.bz_command.specs.declared.arguments.Commented.TheVariants.{Attribute, Value}
-use Rattle.bz_command.specs.declared.arguments.Setting.TheVariants.{ToValues}
-use Rattle.bz_rule.specs.Commands.{Command}
-use Rattle.bz_rule.specs.declared.command.Action.TheVariants.{Add, Comment, Remove, Replace, Set, SetIfAbsent}
-use Rattle.bz_attribute.specs.Heads.{IsHeadOf}
+use Rattle.bz_command.specs.declared.arguments.Commented.TheVariants.{Attribute, Rule as Above, Value}
+use Rattle.bz_command.specs.declared.arguments.Setting.TheVariants.{ToKind, ToValues}
+use Rattle.bz_rule.specs.Commands.{Command, args_after, args_done}
+use Rattle.bz_rule.specs.declared.command.Action.TheVariants.{Add, Comment, Delete, Print, Remove, Rename, Replace, Set, SetIfAbsent}
+use Rattle.bz_attribute.specs.Comment.{comment_attribute, comment_rule}
+use Rattle.bz_attribute.specs.Effects.{with_args}
+use Rattle.bz_attribute.specs.Heads.{HasHead}
+use Rattle.bz_attribute.specs.Rules.{Rule, rule_of, kind_text}
+use Rattle.bz_rule.specs.declared.row_edit.RuleParts.{RuleParts}
+use Rattle.bz_attribute.specs.Rename.{rename}
+use Rattle.bz_attribute.specs.Set.{with_kind}
 use Rattle.bz_attribute.specs.declared.head.Head.{Head}
-use Rattle.bz_rule.specs.RowViews.{row_value, row_statement}
+use Rattle.bz_rule.specs.RowViews.{RowValue, row_statement}
 
--- a row that has a head
-pub record IsNamedRow (row : Row) (head : Head) : Type 0 where
-  pub class : (row_statement (row_value row)).class ≡ class_of (row_statement (row_value row)).nodes
-  pub is : IsRowOf (row_statement (row_value row)) row
-  pub named : IsHeadOf head (row_statement (row_value row))
+-- a row is of its statement, and that has this head
+pub record HasItsHead (row : RowValue) (head : Option Head) : Type 0 where
+  pub are : row.parts ≡ parts_of (row_statement row)
+  pub has : HasHead head (row_statement row)
+
+-- the parts of a rule, beside its kind
+pub record HasKindAndParts (rule : RuleParts) (s : Statement) : Type 0 where
+  pub are : map part_view rule.parts.now ≡ parts_of s
+  pub kind : (r : Rule) → rule_of s.nodes ≡ Some r → kind_text r.kind ≡ rule.kind.now
+
+-- the parts are of this rule, which comes in the place of another
+pub record IsNextOf (old : Statement) (parts : List RowPart) (s : Statement) : Type 0 where
+  pub are : parts ≡ parts_of s
+  pub rule : class_of s.nodes ≡ RuleClass
+  pub same : s.class ≡ old.class
+  pub start : s.start ≡ old.start
+  pub end : s.end ≡ old.end
+
+-- Some arguments stand there: the command does to the rule what it does to them alone, and tells the same.
+pub record IsPlaceFor (c : Command) (home : Package) (s : Statement) (r : Rule) (ps : List RowPart) (from to : ℕ) : Type 0 where
+  pub args : List Segment
+  pub read : take (to - from) (drop from ps) ≡ segs_parts (segs_of args)
+  pub put : take from ps ++ (segs_parts (segs_of (args_after c home args)) ++ drop to ps) ≡ parts_of (with_args (args_after c home) s)
+  pub told : args_done c home args ≡ args_done c home r.args
+
+-- a command that makes another rule of a rule
+abbrev pub is_edit : Command → Bool
+is_edit Delete = false
+is_edit (Print fields) = false
+is_edit _ = true
+
+-- by the arguments of the rule
+abbrev pub edits_arguments : Command → Bool
+edits_arguments (Set (ToKind kind)) = false
+edits_arguments (Comment Above text) = false
+edits_arguments c = is_edit c
+
+-- that rule
+abbrev pub rule_after : Command → Package → Statement → Statement
+rule_after (Set (ToKind kind)) home s = with_kind kind s
+rule_after (Comment Above text) home s = comment_rule text s
+rule_after (Comment (Attribute attr) text) home s = with_args (comment_attribute attr text) s
+rule_after (Rename old new) home s = with_args (rename old new) s
+rule_after c home s = with_args (args_after c home) s
 
 -- the attribute of a command that looks at its first argument alone, and adds one after all where there is none
 abbrev pub one_attribute : Command → Option (List ℕ)

@@ -9,8 +9,11 @@ pub returns-then-is_passed_by-clause-scripted : goal.returns-then-is_passed_by-c
 returns-then-is_passed_by-clause-scripted c s class row =
     passed_by (run_of c.args.script) c.args.row.now.class s c.args.progress.now c.put_passed.new.progress
     c.args.text.now.items c.put_passed.new.text.items
-    (c.is_passed_by.ensures c.if-is_passed_by.true s class row) row.class c.in_ok-put_passed.ensures.last (c.in_ok-put_passed.ensures.text s row)
+    (c.is_passed_by.ensures c.if-is_passed_by.true s (c.in_ok-head.ensures s class row)) row.class c.in_ok-put_passed.ensures.last (c.in_ok-put_passed.ensures.text s row)
 
 pub returns-clause-scripted : goal.returns-clause-scripted
 returns-clause-scripted c =
-    where_ok c.edit_slot.result (λ scripted runs s class row. runs s (ap Some (c.in_ok-lazy_stmt.ensures s class row))) c.edit_slot.ensures.scripted
+    where_ok c.edit_slot.result (λ scripted runs s class row. runs s (ap Some (c.new.ensures s row))) c.edit_slot.ensures.scripted
+
+pub new-requires : goal.new-requires
+new-requires c = (c.requires.row.0, (c.requires.row.1.1, c.in_ok-head.ensures c.requires.row.0 c.requires.row.1.0 c.requires.row.1.1))

@@ -3,7 +3,6 @@ use Rattle.std.specs.Prelude.{Some}
 use Rattle.std.specs.Vec.{with_items}
 use Rattle.std.proofs.lemmas.Bool.{false≢true}
 use Rattle.std.proofs.lemmas.List.{with_items_is}
-use Rattle.bz_rule.specs.LazyViews.{lazy_slot}
 use Rattle.bz_engine.specs.private.Edits.{run_of}
 use Rattle.bz_engine.proofs.Failing.{ends_there}
 use Rattle.bz_passes.specs.Exchange.{slot_after}
@@ -15,7 +14,7 @@ use Rattle.bz_engine.proofs.edit.edit_slot.Goals.{else-facts-via-then-facts+else
 pub returns-then-not-script-clause-scripted : goal.returns-then-not-script-clause-scripted
 returns-then-not-script-clause-scripted c s is =
     let new = c.run_script.new in
-    let ran = has_run c.args.script.home.now c.args.script.passes.now c.indexed-passes.result.now (lazy_slot c.args.slot.now) s c.args.progress.now _ c.as_mut_slice-kept.result.now
+    let ran = has_run c.args.script.home.now c.args.script.passes.now c.indexed-passes.result.now c.args.slot.now s c.args.progress.now _ c.as_mut_slice-kept.result.now
     new.kept new.facts.changed new.facts.failed c.indexed-passes.ensures is c.progress.view_is c.as_mut_slice-kept.ensures.value
     c.in_ok-run_script.ensures.failed c.in_ok-run_script.ensures.left in
     ends_there (run_of c.args.script) s c.in_ok-failure.failure c.args.progress.now _
@@ -28,21 +27,21 @@ returns-clause-scripted c s is =
     let home = c.args.script.home.now in
     let passes = c.args.script.passes.now in
     let new = c.run_script.new in
-    let ran = has_run home passes c.indexed-passes.result.now (lazy_slot c.args.slot.now) s c.args.progress.now _ c.as_mut_slice-kept.result.now
+    let ran = has_run home passes c.indexed-passes.result.now c.args.slot.now s c.args.progress.now _ c.as_mut_slice-kept.result.now
     new.kept new.facts.changed new.facts.failed c.indexed-passes.ensures is c.progress.view_is c.as_mut_slice-kept.ensures.value
     c.in_ok-run_script.ensures.failed c.in_ok-run_script.ensures.left in
-    let left : lazy_slot new.slot ≡ slot_after (meaning home) passes (Some s) =
-    c.in_ok-run_script.ensures.slot ∙ ap (λ r. slot_after (meaning home) r (lazy_slot c.args.slot.now)) c.indexed-passes.ensures ∙ ap (slot_after (meaning home) passes) is in
+    let left : new.slot ≡ slot_after (meaning home) passes (Some s) =
+    c.in_ok-run_script.ensures.slot ∙ ap (λ r. slot_after (meaning home) r c.args.slot.now) c.indexed-passes.ensures ∙ ap (slot_after (meaning home) passes) is in
     let whole : (with_items c.progress.inside.kept new.kept).items ≡ new.kept =
     with_items_is c.progress.inside.kept new.kept (c.run_script.auto.kept ∙ c.as_mut_slice-kept.ensures.len) in
     elim c.else-facts.branch [
       | else-facts-via-then-facts+else-not-script w ↦
-          laid_out (run_of c.args.script) s c.args.progress.now _ new.kept (lazy_slot new.slot) c.else-facts.progress-inside.last c.args.text.now.items _
+          laid_out (run_of c.args.script) s c.args.progress.now _ new.kept new.slot c.else-facts.progress-inside.last c.args.text.now.items _
           ran (ap (λ p. p.kept.items) w.progress-inside-is ∙ whole) left (ap (λ p. p.last) w.progress-inside-is ∙ ap (λ p. p.last) c.progress.view_is)
           c.last_class-progress-inside.ensures (ap (λ p. p.line) w.progress-inside-is ∙ ap (λ p. p.line) c.progress.view_is)
           c.in_ok-put_slot.ensures (λ ends. absurd (false≢true (sym ends ∙ w.if-not-script.false)))
       | else-facts-via-else-facts w ↦
-          laid_out (run_of c.args.script) s c.args.progress.now _ new.kept (lazy_slot new.slot) c.else-facts.progress-inside.last c.args.text.now.items _
+          laid_out (run_of c.args.script) s c.args.progress.now _ new.kept new.slot c.else-facts.progress-inside.last c.args.text.now.items _
           ran (ap (λ p. p.kept.items) w.progress-inside-is ∙ whole) left (ap (λ p. p.last) w.progress-inside-is ∙ ap (λ p. p.last) c.progress.view_is)
           c.last_class-progress-inside.ensures (ap (λ p. p.line) w.progress-inside-is ∙ ap (λ p. p.line) c.progress.view_is)
           c.in_ok-put_slot.ensures (λ ends. w.if-facts.false)

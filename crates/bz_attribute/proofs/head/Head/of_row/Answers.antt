@@ -1,23 +1,10 @@
-use Rattle.std.proofs.Common.{◌∙◌, List, ap, subst, sym}
-use Rattle.bz_tree.specs.Rows.{RowPart}
-use Rattle.bz_attribute.specs.private.HeadParts.{after_comments, IsHeadAt}
-use Rattle.bz_attribute.proofs.Headed.{headed}
+use Rattle.std.proofs.Common.{◌≡◌, sym, ◌∙◌}
+use Rattle.std.proofs.lemmas.Result.{IfOk-weaker}
+use Rattle.bz_attribute.proofs.Headed.{other_class}
 use Rattle.bz_attribute.proofs.head.Head.of_row.Goals as goal
 
-pub returns : goal.returns
-returns c s class row =
-    let kind = c.in_ok-kind.kind.now in
-    let name = c.in_ok-kind.name.now in
-    let r = headed s kind name (sym class ∙ sym row.class ∙ c.in-Rule.is)
-    (subst (λ (ps : List RowPart). IsHeadAt kind name ps)
-    (c.after_comments.ensures ∙ ap after_comments row.parts) c.in_ok-kind.ensures) in
-    record {
-      rule = r.rule;
-      is = r.is;
-      kind_is = r.kind_is;
-      first = r.first;
-      named = r.named;
-      name_is = r.name_is;
-      start_is = sym row.start;
-      end_is = sym row.end;
-    }
+pub returns-in_default : goal.returns-in_default
+returns-in_default c s class row = other_class s.nodes (λ is. c.in_default.not-Rule (row.class ∙ class ∙ is))
+
+pub returns-in-Rule : goal.returns-in-Rule
+returns-in-Rule c = IfOk-weaker c.of_parts.result _ _ (λ found h s class row. h s (sym class ∙ sym row.class ∙ c.in-Rule.is) row.parts (sym row.start) (sym row.end)) c.of_parts.ensures

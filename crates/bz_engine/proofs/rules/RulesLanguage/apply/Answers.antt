@@ -1,6 +1,5 @@
 use Rattle.std.proofs.Common.{◌∙◌, ◌++◌, ap}
 use Rattle.std.proofs.lemmas.Result.{IfOk-weaker, on_ok_weaker}
-use Rattle.bz_rule.specs.LazyViews.{lazy_slot}
 use Rattle.bz_attribute.specs.Effects.{fails}
 use Rattle.bz_engine.proofs.Noted.{says_found}
 use Rattle.bz_engine.proofs.rules.RulesLanguage.apply.Goals as goal
@@ -13,7 +12,7 @@ returns-clause-log c =
     let done = c.in_ok-done.ensures in
     on_ok_weaker c.tell_done.result
     (λ told. told
-    ∙ ap (λ says. c.args.log.now ++ says) (says_found c.args.command.now c.args.self.now.home.now (lazy_slot c.args.slot.now) (lazy_slot c.apply_lazy.new.slot) c.in_ok-done.done done.slot done.done))
+    ∙ ap (λ says. c.args.log.now ++ says) (says_found c.args.command.now c.args.self.now.home.now c.args.slot.now c.execute.new.slot c.in_ok-done.done done.slot done.done))
     c.tell_done.ensures.told
 
 pub returns-clause-changed : goal.returns-clause-changed

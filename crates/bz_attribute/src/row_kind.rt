@@ -1,0 +1,46 @@
+//! Where the kind of a rule stands among its parts.
+
+ghost use Rattle.std.specs.Prelude.{◌≡◌, ◌≤◌, map, length};
+ghost use Rattle.std.specs.List.{prefix_len};
+ghost use Rattle.bz_tree.specs.Tree.{Statement};
+ghost use Rattle.bz_tree.specs.Rows.{part_view};
+ghost use Rattle.bz_attribute.specs.KindPlaces.{IsKindPlace};
+ghost use Rattle.bz_attribute.specs.Rules.{Rule};
+ghost use Rattle.bz_attribute.specs.RowPlaces.{IsRuleRow};
+ghost use Rattle.bz_attribute.specs.private.Ends as spec;
+
+use crate::place::{Place, is_above};
+use bz_tree::Part;
+
+// How many comments the parts begin with.
+fn comments_len(parts: &[Part<'_>]) -> usize
+    ensures { result ≡ prefix_len (λ part. spec.is_above (part_view part)) parts.now }
+{
+    parts.iter().take_while(|part| is_above(**part)).count()
+}
+
+fn is_token(part: Part<'_>) -> bool
+    ensures { result ≡ spec.is_token (part_view part.entry) }
+{
+    matches!(part, Part::Token(_, _))
+}
+
+// How many tokens they begin with.
+fn tokens_len(parts: &[Part<'_>]) -> usize
+    ensures { result ≡ prefix_len (λ part. spec.is_token (part_view part)) parts.now }
+{
+    parts.iter().take_while(|part| is_token(**part)).count()
+}
+
+/// Where the tokens of the kind stand among the parts of a rule: after the comments above it.
+pub fn kind_place(parts: &[Part<'_>]) -> Place
+    ensures within { (result.from ≤ result.to) × (result.to ≤ length parts.now) }
+    ensures place { (s : Statement) (r : Rule) → IsRuleRow s r (map part_view parts.now)
+        → IsKindPlace s r (map part_view parts.now) result.from result.to }
+{
+    let from = comments_len(parts);
+    Place {
+        from,
+        to: from + tokens_len(&parts[from..]),
+    }
+}

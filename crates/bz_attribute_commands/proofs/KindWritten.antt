@@ -1,0 +1,41 @@
+-- The kind of a rule, set in its parts.
+use Rattle.std.proofs.Common.{◌≡◌, ℕ, ◌<◌, ◌==◌, List, [], ◌∷◌, ◌++◌, Bool, false, if◌then◌else◌, not, Some, None, length, map, take, drop, refl, ap, sym, ◌∙◌, arith, append_assoc}
+use Rattle.std.specs.Prelude.{bytes_eq, codes}
+use Rattle.std.specs.List.{slice_split}
+use Rattle.std.proofs.lemmas.List.{map-append}
+use Rattle.bz_token.specs.declared.token.Kind.TheVariants.{Identifier, Operator}
+use Rattle.bz_tree.specs.declared.row.Part.{Part}
+use Rattle.bz_tree.specs.Tree.{Item, Statement, items_of}
+use Rattle.bz_tree.specs.Rows.{RowPart, a_token, items_parts, part_view, parts_of}
+use Rattle.bz_command.proofs.Cuts.{some_part}
+use Rattle.bz_attribute.specs.Rules.{Rule, rule_of, kind_text}
+use Rattle.bz_attribute.specs.Set.{joined_by_dots, ident_item, dot_item, kind_items, kind_after, sets_kind_of, with_kind}
+use Rattle.bz_attribute.specs.Effects.{done, nodes_of}
+use Rattle.bz_attribute.specs.KindPlaces.{IsKindPlace}
+
+-- one part more
+pub one_more : (old new : List Part) (p : Part) → new ≡ old ++ p ∷ [] → map part_view new ≡ map part_view old ++ part_view p ∷ []
+one_more old new p is = ap (map part_view) is ∙ map-append part_view old (p ∷ [])
+
+joined_more : (name : List ℕ) (names : List (List ℕ)) → 0 < length names → joined_by_dots (name ∷ names) ≡ ident_item name ∷ dot_item ∷ joined_by_dots names
+joined_more name [] h = absurd (omega arith)
+joined_more name (other ∷ names) h = refl
+
+-- one name and the dot after it
+pub name_written : (ps : List RowPart) (left name rest : List ℕ) → slice_split (λ b. b == 46) left ≡ name ∷ slice_split (λ b. b == 46) rest
+    → ((ps ++ a_token Identifier name ∷ []) ++ a_token Operator (codes ".") ∷ []) ++ items_parts (items_of (kind_items rest)) ≡ ps ++ items_parts (items_of (kind_items left))
+name_written ps left name rest h =
+    let more : kind_items left ≡ ident_item name ∷ dot_item ∷ kind_items rest = ap joined_by_dots h ∙ joined_more name (slice_split (λ b. b == 46) rest) (some_part (λ b. b == 46) rest) in
+    rw (append_assoc, append_assoc) (sym (ap (λ (xs : List Item). ps ++ items_parts (items_of xs)) more))
+
+-- the statement with another kind
+pub kind_written : (kind old : List ℕ) (s : Statement) (r : Rule) (ps : List RowPart) (from to : ℕ) → IsKindPlace s r ps from to → rule_of s.nodes ≡ Some r → kind_text r.kind ≡ old → bytes_eq old kind ≡ false
+    → take from ps ++ (items_parts (items_of (kind_items kind)) ++ drop to ps) ≡ parts_of (with_kind kind s)
+kind_written kind old s r ps from to place is was differs =
+    let nodes : kind_after kind s.nodes (rule_of s.nodes) ≡ nodes_of (record r { kind = kind_items kind }) =
+    ap (kind_after kind s.nodes) is
+    ∙ ap (λ (b : Bool). if b then s.nodes else nodes_of (record r { kind = kind_items kind })) (ap (λ (text : List ℕ). bytes_eq text kind) was ∙ differs) in
+    place.kind (kind_items kind) ∙ sym (ap (λ (ns : List Item). parts_of (record s { nodes = ns })) nodes)
+
+pub kind_done : (kind old : List ℕ) (s : Statement) (r : Rule) (b : Bool) → rule_of s.nodes ≡ Some r → kind_text r.kind ≡ old → bytes_eq old kind ≡ b → done None (not b) ≡ sets_kind_of kind (Some s)
+kind_done kind old s r b is was told = rw (is, was, told) refl

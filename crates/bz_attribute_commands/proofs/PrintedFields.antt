@@ -1,0 +1,114 @@
+-- What is printed of the head and the parts of a rule is what is printed of it.
+use Rattle.std.proofs.Common.{◌≡◌, ℕ, List, [], ◌∷◌, ◌++◌, ◌<◌, ◌≤◌, true, false, Option, Some, None, Bor, option_map, is_some, length, refl, sym, ◌∙◌, ap, arith, append_assoc, if◌then◌else◌, bytes_eq, rules}
+use Rattle.std.specs.Prelude.{codes, option_to_list}
+use Rattle.std.proofs.lemmas.Slice.Eq.{bytes_eq-Decides}
+use Rattle.bz_tree.specs.Tree.{Segment, Statement}
+use Rattle.bz_tree.specs.Rows.{RowPart}
+use Rattle.bz_command.specs.Labels.{Package}
+use Rattle.bz_command.specs.declared.arguments.Field.{Field}
+use Rattle.bz_command.specs.declared.arguments.Field.TheVariants.{Label, ValueOf}
+use Rattle.bz_attribute.specs.Rules.{Rule, rule_of, kind_text, name_in, first_named, string_in, value}
+use Rattle.bz_attribute.specs.RowPlaces.{IsRuleRow}
+use Rattle.bz_attribute.specs.Texts.{home_text}
+use Rattle.bz_attribute.specs.Heads.{IsHeadOf}
+use Rattle.bz_attribute.specs.Effects.{first_note}
+use Rattle.bz_attribute.specs.declared.head.Head.{Head}
+use Rattle.bz_attribute.specs.declared.done.Done.{Done}
+use Rattle.bz_attribute.specs.declared.done.Note.{Note}
+use Rattle.bz_attribute.specs.declared.done.Note.TheVariants.{Missing}
+use Rattle.bz_attribute_commands.specs.Print.{field_text, field_name, shown_field, fields_of, line_of, printed_of, prints, value_text, string_or, word_form}
+use Rattle.bz_attribute_commands.specs.private.PrintSteps.{HasPrinted, HasPrintedArgument, IsRuleOf}
+
+same_bytes : (xs ys : List ℕ) → bytes_eq xs ys ≡ true → xs ≡ ys
+same_bytes xs ys h = search (rules, bytes_eq-Decides)
+
+same_rule : (o : Option Rule) (x y : Rule) → o ≡ Some x → o ≡ Some y → x ≡ y
+same_rule o x y one other = let both : Some x ≡ Some y = sym one ∙ other in cc
+
+pub name_told : (head : Head) (ps : List RowPart) (s : Statement) (r : Rule) → IsRuleOf head ps s r → option_map (λ (t : Bor (List ℕ)). t.now) head.name ≡ name_in r.args
+name_told head ps s r h = h.head.name_is ∙ ap (λ (z : Rule). name_in z.args) (same_rule (rule_of s.nodes) h.head.rule r h.head.is h.row.rule)
+
+pub kind_told : (head : Head) (ps : List RowPart) (s : Statement) (r : Rule) → IsRuleOf head ps s r → kind_text r.kind ≡ head.kind.now
+kind_told head ps s r h = ap (λ (z : Rule). kind_text z.kind) (same_rule (rule_of s.nodes) r h.head.rule h.row.rule h.head.is) ∙ h.head.kind_is
+
+abbrev pub note_of : Field → Option (List ℕ) → Option Note
+note_of field text = if is_some text then None else Some (Missing (field_name field))
+
+-- one field, whose text is the same for each such rule
+pub one_field : (home : Package) (field : Field) (head : Head) (ps : List RowPart) (old new : List ℕ) (text : Option (List ℕ))
+    → ((s : Statement) (r : Rule) → IsRuleOf head ps s r → field_text home s r field ≡ text) → new ≡ old ++ shown_field text
+    → HasPrinted home (field ∷ []) head ps old new (note_of field text)
+one_field home field head ps old new text told is = record {
+  line = λ s r h. is ∙ ap (λ (t : Option (List ℕ)). old ++ shown_field t) (sym (told s r h));
+  note = λ s r h. ap (note_of field) (sym (told s r h));
+}
+
+pub one_argument : (attr : List ℕ) (ps : List RowPart) (old new : List ℕ) (text : Option (List ℕ))
+    → ((s : Statement) (r : Rule) → IsRuleRow s r ps → option_map (λ (a : Segment). value_text (value a)) (first_named attr r.args) ≡ text) → new ≡ old ++ shown_field text
+    → HasPrintedArgument attr ps old new (note_of (ValueOf attr) text)
+one_argument attr ps old new text told is = record {
+  line = λ home s r h. is ∙ ap (λ (t : Option (List ℕ)). old ++ shown_field t) (sym (told s r h));
+  note = λ home s r h. ap (note_of (ValueOf attr)) (sym (told s r h));
+}
+
+pub with_head : (home : Package) (attr : List ℕ) (head : Head) (ps : List RowPart) (old new : List ℕ) (told : Option Note) → HasPrintedArgument attr ps old new told → HasPrinted home (ValueOf attr ∷ []) head ps old new told
+with_head home attr head ps old new told a = record { line = λ s r h. a.line home s r h.row; note = λ s r h. a.note home s r h.row }
+
+-- the label, where the name is this
+pub label_told : (home : Package) (head : Head) (ps : List RowPart) (name : Option (Bor (List ℕ))) → head.name ≡ name → (s : Statement) (r : Rule) → IsRuleOf head ps s r
+    → field_text home s r Label ≡ option_map (λ text. home_text home ++ text) (option_map (λ (t : Bor (List ℕ)). t.now) name)
+label_told home head ps name is s r h =
+    ap (option_map (λ text. home_text home ++ text)) (sym (name_told head ps s r h) ∙ ap (option_map (λ (t : Bor (List ℕ)). t.now)) is)
+
+name_value : (o : Option Segment) (v : List ℕ) → string_in o ≡ Some v → option_map (λ (a : Segment). value_text (value a)) o ≡ Some (word_form v)
+name_value None v h = absurd cc
+name_value (Some a) v h = ap (λ (t : Option (List ℕ)). Some (string_or (value a) t)) h
+
+-- the name as an attribute
+pub name_shown : (home : Package) (attr : List ℕ) (head : Head) (ps : List RowPart) (name : Bor (List ℕ)) → bytes_eq attr (codes "name") ≡ true → head.name ≡ Some name
+    → (s : Statement) (r : Rule) → IsRuleOf head ps s r → field_text home s r (ValueOf attr) ≡ Some (word_form name.now)
+name_shown home attr head ps name same is s r h =
+    ap (λ (n : List ℕ). option_map (λ (a : Segment). value_text (value a)) (first_named n r.args)) (same_bytes attr (codes "name") same)
+    ∙ name_value (first_named (codes "name") r.args) name.now (sym (name_told head ps s r h) ∙ ap (option_map (λ (t : Bor (List ℕ)). t.now)) is)
+
+-- the first argument of a name, read alone
+pub none_in : (o : Option Segment) → [] ≡ option_to_list o → o ≡ None
+none_in None h = refl
+none_in (Some a) h = absurd cc
+
+pub one_in : (o : Option Segment) (a : Segment) (more : List Segment) → a ∷ more ≡ option_to_list o → o ≡ Some a
+one_in None a more h = absurd cc
+one_in (Some b) a more h = let same : a ≡ b = cc in ap Some (sym same)
+
+-- the name and the kind
+pub name_and_kind : (home : Package) (head : Head) (ps : List RowPart) (old mid new : List ℕ) (told : Option Note) → HasPrinted home (ValueOf (codes "name") ∷ []) head ps old mid told
+    → new ≡ (mid ++ 32 ∷ []) ++ head.kind.now → HasPrinted home (fields_of []) head ps old new told
+name_and_kind home head ps old mid new told a is = record {
+  line = λ s r h.
+      let kind : head.kind.now ≡ kind_text r.kind = sym (kind_told head ps s r h) in
+      let name : List ℕ = line_of home s r (ValueOf (codes "name") ∷ []) in
+      let moved : ((old ++ name) ++ 32 ∷ []) ++ kind_text r.kind ≡ old ++ (name ++ 32 ∷ kind_text r.kind) = simp append_assoc in
+      is ∙ (λ i. (a.line s r h i ++ 32 ∷ []) ++ kind i) ∙ moved;
+  note = λ s r h. a.note s r h;
+}
+
+pub no_fields : (fields : List Field) → length fields < 1 → [] ≡ fields
+no_fields [] h = refl
+no_fields (field ∷ fields) h = absurd (omega (arith, h))
+
+pub some_fields : (fields : List Field) → 1 ≤ length fields → fields ≡ fields_of fields
+some_fields [] h = absurd (omega (arith, h))
+some_fields (field ∷ fields) h = refl
+
+pub no_more : (told : Option Note) → told ≡ first_note told None
+no_more None = refl
+no_more (Some note) = refl
+
+abbrev done_with : List ℕ → Option Note → Done
+done_with line note = record { changed = false; line = Some line; note = note }
+
+pub all_printed : (home : Package) (fields : List Field) (head : Head) (ps : List RowPart) (line : List ℕ) (note : Option Note) → HasPrinted home (fields_of fields) head ps [] line note
+    → (s : Statement) (r : Rule) → IsHeadOf head s → IsRuleRow s r ps → done_with line note ≡ prints home fields (Some s)
+all_printed home fields head ps line note a s r is row =
+    let h : IsRuleOf head ps s r = record { head = is; row = row } in
+    (λ i. done_with (a.line s r h i) (a.note s r h i)) ∙ sym (ap (printed_of home s fields) row.rule)

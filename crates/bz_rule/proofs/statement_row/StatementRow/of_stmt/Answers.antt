@@ -1,0 +1,23 @@
+use Rattle.std.proofs.Common.{◌≡◌, ◌∙◌, ◌++◌, List, ap, map, refl}
+use Rattle.bz_tree.specs.View.{view}
+use Rattle.bz_tree.specs.Rows.{part_view, parts_of}
+use Rattle.bz_tree.specs.declared.row.Part.{Part}
+use Rattle.bz_rule.proofs.RowStatements.{has_head, statement_of}
+use Rattle.bz_rule.proofs.statement_row.StatementRow.of_stmt.Goals as goal
+
+pub head_of-requires : goal.head_of-requires
+head_of-requires c =
+    let s = view c.args.stmt.now in
+    ap (map part_view) c.deref.ensures.value ∙ c.in_ok-push_stmt.ensures ∙ ap (λ (ps : List Part). map part_view ps ++ parts_of s) c.new-parts.ensures.items
+
+pub invariant_of-result : goal.invariant_of-result
+invariant_of-result c =
+    let s = view c.args.stmt.now in
+    let are : map part_view c.push_stmt.new.parts.items ≡ parts_of s = c.in_ok-push_stmt.ensures ∙ ap (λ (ps : List Part). map part_view ps ++ parts_of s) c.new-parts.ensures.items in
+    has_head s c.push_stmt.new.parts.items _ _ _ c.in_ok-head.head (record { are = are; is = refl; begins = refl; ends = refl }) c.in_ok-head.ensures
+
+pub returns : goal.returns
+returns c =
+    let s = view c.args.stmt.now in
+    let are : map part_view c.push_stmt.new.parts.items ≡ parts_of s = c.in_ok-push_stmt.ensures ∙ ap (λ (ps : List Part). map part_view ps ++ parts_of s) c.new-parts.ensures.items in
+    statement_of s c.push_stmt.new.parts.items _ _ _ (record { are = are; is = refl; begins = refl; ends = refl })

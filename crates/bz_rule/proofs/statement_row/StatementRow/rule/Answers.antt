@@ -1,0 +1,6 @@
+use Rattle.std.proofs.Common.{◌∙◌, ap, map}
+use Rattle.bz_tree.specs.Rows.{part_view, parts_of}
+use Rattle.bz_rule.proofs.statement_row.StatementRow.rule.Goals as goal
+
+pub returns : goal.returns
+returns c = record { are = ap (map part_view) c.as_slice.ensures ∙ c.self.invariant.are ∙ ap parts_of c.self.view_is; kind = c.kind.ensures }

@@ -1,7 +1,0 @@
-use Rattle.std.proofs.Common.{refl}
-use Rattle.std.proofs.lemmas.Result.{on_ok_weaker}
-use Rattle.bz_rule.proofs.WovenParts.{adds_own}
-use Rattle.bz_rule.proofs.woven.Woven.push_above.Goals as goal
-
-pub returns : goal.returns
-returns c = on_ok_weaker c.push_above.result (λ h. adds_own c.args.self.now (record { own = c.push_above.new.parts; inserts = c.args.self.now.inserts }) _ h refl) c.push_above.ensures

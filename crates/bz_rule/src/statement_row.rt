@@ -1,0 +1,280 @@
+//! A statement as its row, with the head of the rule that it is: commands write its parts anew.
+
+ghost use Rattle.std.specs.Prelude.{◌≡◌, ◌++◌, ℕ, List, IfOk, IsOk, OnOk, OnErr, Some, false, true, map, option_map, is_some, string_bytes};
+ghost use Rattle.bz_tree.specs.Tree.{Statement};
+ghost use Rattle.bz_tree.specs.Statement.{class_of};
+ghost use Rattle.bz_tree.specs.View.{view};
+ghost use Rattle.bz_tree.specs.Rows.{IsRowOf, part_view, parts_of};
+ghost use Rattle.bz_command.specs.Labels.{Name};
+ghost use Rattle.bz_attribute.specs.Effects as effects;
+ghost use Rattle.bz_attribute.specs.Heads.{HasHead};
+ghost use Rattle.bz_attribute.specs.Marks as marks;
+ghost use Rattle.bz_attribute.specs.Rules.{Rule, is_text, kind_text, rule_of};
+ghost use Rattle.bz_attribute.specs.Texts.{shown_text};
+ghost use Rattle.bz_attribute_commands.specs.Print.{prints};
+ghost use Rattle.bz_layout.specs.Layout.{layout_text};
+ghost use Rattle.bz_rule.specs.Commands as commands;
+ghost use Rattle.bz_rule.specs.private.RowEdits.{HasKindAndParts, IsNextOf, is_edit};
+
+use crate::command::{Action, Command};
+use crate::row_edit::{RuleParts, edit_rule};
+use crate::row_parts::RowParts;
+use bumpalo::Bump;
+use bz_attribute::{Done, Env, Executed, Head, Parts, call_at, push_stmt};
+use bz_attribute_commands::print::print;
+use bz_command::{Field, Package, Target};
+use bz_layout::put_row;
+use bz_tree::{Class, Part, Row, Stmt, stmt_of_parts};
+use std::alloc::{AllocError, Global};
+use std::marker::Model;
+use std::mem;
+
+/// A statement.
+#[derive(Drop)]
+pub struct StatementRow<'a> {
+    pub(crate) parts: RowParts<'a>,
+    // Where the next parts are written: what it holds does not count.
+    pub(crate) spare: Parts<'a>,
+    pub(crate) class: Class,
+    pub(crate) start: u64,
+    pub(crate) end: u64,
+    // None: it is no rule.
+    pub(crate) head: Option<Head<'a>>,
+    // Where its lists stand, and texts that commands make.
+    pub(crate) bump: &'a Bump,
+}
+
+impl<'a> Model for StatementRow<'a> {
+    ghost use Rattle.std.specs.Coded.{codes, code_by};
+    ghost use Rattle.bz_tree.specs.Tree.{Statement};
+    ghost use Rattle.bz_rule.specs.RowViews.{RowValue, row_of, row_statement, row_value, statement_back};
+    ghost use Rattle.bz_rule.specs.private.PartsOf.{parts_in};
+    ghost use Rattle.bz_rule.specs.private.RowEdits.{HasItsHead};
+
+    ghost Value = { Statement };
+
+    ghost coded = { code_by RowValue (Prim.hlevel codes) row_of row_statement statement_back };
+
+    ghost view = { λ l. row_statement (row_value (parts_in l.parts) l.class l.start l.end) };
+
+    ghost invariant = { λ l. HasItsHead (row_value (parts_in l.parts) l.class l.start l.end) l.head };
+}
+
+impl<'a> StatementRow<'a> {
+    /// The statement of a row. What commands make of it stands in the arena.
+    pub fn of_row(
+        alloc: Global,
+        bump: &'a Bump,
+        row: &Row<'a>,
+    ) -> Result<StatementRow<'a>, AllocError>
+        requires { (s : Statement) × ((s.class ≡ class_of s.nodes) × IsRowOf s row.now) }
+        ensures { IfOk result (λ stmt. (s : Statement) → IsRowOf s row.now → stmt ≡ s) }
+    {
+        let head = Head::of_row(alloc, bump, row)?;
+        Ok(StatementRow::new(bump, row, head))
+    }
+
+    /// The statement of a row whose head is known.
+    pub fn new(bump: &'a Bump, row: &Row<'a>, head: Option<Head<'a>>) -> StatementRow<'a>
+        requires { (s : Statement) × (IsRowOf s row.now × HasHead head s) }
+        ensures { (s : Statement) → IsRowOf s row.now → result ≡ s }
+    {
+        StatementRow {
+            parts: RowParts::Read(row.parts),
+            spare: Vec::new(bump),
+            class: row.class,
+            start: row.start,
+            end: row.end,
+            head,
+            bump,
+        }
+    }
+
+    /// The statement of a tree. Texts that it owns are copied into the arena.
+    pub fn of_stmt(
+        alloc: Global,
+        bump: &'a Bump,
+        stmt: &Stmt<'a>,
+    ) -> Result<StatementRow<'a>, AllocError>
+        ensures { IfOk result (λ row. row ≡ view stmt.now) }
+    {
+        let mut parts = Vec::new(bump);
+        push_stmt(bump, stmt, &mut parts)?;
+        let head = head_of(alloc, bump, stmt, &parts)?;
+        Ok(StatementRow {
+            parts: RowParts::Written(parts),
+            spare: Vec::new(bump),
+            class: stmt.class,
+            start: stmt.start,
+            end: stmt.end,
+            head,
+            bump,
+        })
+    }
+
+    pub fn class(&self) -> Class
+        ensures { result ≡ self.now.class }
+    {
+        self.class
+    }
+
+    fn is_rule(&self) -> bool
+        ensures { result ≡ is_some (rule_of self.now.nodes) }
+    {
+        self.head.is_some()
+    }
+
+    /// Whether the target marks the statement.
+    pub fn is_marked_by(&self, target: &Target) -> bool
+        ensures { result ≡ marks.marks target.now self.now }
+    {
+        match &self.head {
+            None => false,
+            Some(head) => head.is_marked_by(target),
+        }
+    }
+
+    /// The name of the rule that it is, if it has one.
+    pub fn name(&self) -> Option<&str>
+        ensures { (name : List ℕ) → marks.marks (Name name) self.now
+            ≡ is_text name (option_map (λ text. text.now) result) }
+    {
+        match &self.head {
+            None => None,
+            Some(head) => head.name,
+        }
+    }
+
+    /// The rule that it is, by its name or by `%` and its kind; empty for a statement that is no rule.
+    pub fn shown(&self, alloc: Global, home: &Package) -> Result<String, AllocError>
+        ensures { IfOk result (λ text. string_bytes text ≡ shown_text home.now self.now) }
+    {
+        match &self.head {
+            None => Ok(String::new(alloc)),
+            Some(head) => head.shown(alloc, home),
+        }
+    }
+
+    /// Appends the canonical text of the statement, with its last newline. `Err`: memory was refused, and `out` is as
+    /// it was.
+    pub fn put(&self, alloc: Global, out: &mut Vec<u8>) -> Result<(), AllocError>
+        ensures appended { OnOk result (out.new.items ≡ out.old.items ++ layout_text self.now) }
+        ensures unchanged { OnErr result (out.new.items ≡ out.old.items) }
+    {
+        let row = Row {
+            parts: self.parts.as_slice(),
+            class: self.class,
+            start: self.start,
+            end: self.end,
+        };
+        put_row(alloc, &row, out)
+    }
+
+    /// Its tree. `Err`: memory was refused.
+    pub(crate) fn tree(&self, alloc: Global) -> Result<Stmt<'a>, AllocError>
+        ensures { IfOk result (λ stmt. view stmt ≡ self.now) }
+    {
+        let parts = self.parts.as_slice();
+        stmt_of_parts(alloc, parts, self.class, self.start, self.end)
+    }
+
+    // What is printed of it. Of what is no rule nothing is.
+    fn print(&self, env: Env<'_>, fields: &[Field]) -> Executed
+        ensures { IfOk result (λ done. done ≡ prints env.entry.home.now fields.now (Some self.now)) }
+    {
+        match self.head {
+            None => Ok(Done::quiet(false)),
+            Some(head) => print(env, fields, head, self.parts.as_slice()),
+        }
+    }
+
+    // The kind of the rule that it is.
+    fn kind(&self) -> &str
+        ensures { (r : Rule) → rule_of self.now.nodes ≡ Some r → kind_text r.kind ≡ result.now }
+    {
+        match &self.head {
+            None => "",
+            Some(head) => head.kind,
+        }
+    }
+
+    fn rule(&self) -> RuleParts<'_, 'a>
+        ensures { HasKindAndParts result self.now }
+    {
+        RuleParts {
+            kind: self.kind(),
+            parts: self.parts.as_slice(),
+        }
+    }
+
+    // Takes other parts, in whose list the next ones are written then. `Err`: memory was refused, and all is as it was.
+    fn take(&mut self, alloc: Global, new: Parts<'a>) -> Result<(), AllocError>
+        requires { (s : Statement) × IsNextOf self.old (map part_view new.items) s }
+        ensures taken { OnOk result ((s : Statement) → IsNextOf self.old (map part_view new.entry.items) s → self.new ≡ s) }
+        ensures err { OnErr result (self.new ≡ self.old) }
+    {
+        let head = Head::of_parts(alloc, self.bump, &new, self.start, self.end)?;
+        let old = mem::replace(&mut self.parts, RowParts::Written(new));
+        self.head = head;
+        self.spare = old.into_list(self.bump);
+        Ok(())
+    }
+
+    // Applies a command that changes a rule.
+    fn edit(&mut self, env: Env<'_>, command: &Command) -> Executed
+        requires rule { is_some (rule_of self.old.nodes) ≡ true }
+        requires edits { is_edit command.now ≡ true }
+        ensures slot { OnOk result (Some self.new ≡ commands.after command.now env.entry.home.now (Some self.old)) }
+        ensures done { IfOk result (λ done. done ≡ commands.done_of command.now env.entry.home.now (Some self.old)) }
+        ensures err { OnErr result (self.new ≡ self.old) }
+    {
+        let mut new = mem::replace(&mut self.spare, Vec::new(self.bump));
+        let done = edit_rule(env, self.bump, command, self.rule(), &mut new)?;
+        if !done.changed {
+            self.spare = new;
+            return Ok(done);
+        }
+        self.take(env.alloc, new)?;
+        Ok(done)
+    }
+}
+
+// The head of the rule that has a tree and these parts.
+fn head_of<'a>(
+    alloc: Global,
+    bump: &'a Bump,
+    stmt: &Stmt<'a>,
+    parts: &[Part<'a>],
+) -> Result<Option<Head<'a>>, AllocError>
+    requires { map part_view parts.now ≡ parts_of (view stmt.now) }
+    ensures { IfOk result (λ head. HasHead head (view stmt.now)) }
+{
+    match call_at(&stmt.nodes) {
+        None => Ok(None),
+        Some(_) => Head::of_parts(alloc, bump, parts, stmt.start, stmt.end),
+    }
+}
+
+/// Applies a command to what a slot holds, as `apply` does. An `Err` leaves the slot as it was.
+#[tactic(auto, using(crate::proofs::Commands::no_rule_stays, crate::proofs::RowEdited::told_of_none))]
+pub fn execute(env: Env<'_>, command: &Command, slot: &mut Option<StatementRow<'_>>) -> Executed
+    ensures slot { OnOk result (slot.new ≡ commands.after command.now env.entry.home.now slot.old) }
+    ensures done { IfOk result (λ done. done ≡ commands.done_of command.now env.entry.home.now slot.old) }
+    ensures no_rule { effects.holds_rule slot.old ≡ false → IsOk result }
+    ensures err { OnErr result (slot.new ≡ slot.old) }
+{
+    let Some(stmt) = slot else {
+        return Ok(Done::quiet(false));
+    };
+    if !stmt.is_rule() {
+        return Ok(Done::quiet(false));
+    }
+    match &command.action {
+        Action::Delete => {
+            *slot = None;
+            Ok(Done::quiet(true))
+        }
+        Action::Print(fields) => stmt.print(env, fields.as_slice()),
+        _ => stmt.edit(env, command),
+    }
+}
