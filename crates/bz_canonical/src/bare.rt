@@ -19,6 +19,7 @@ pub(crate) struct BareStatement<'t> {
 }
 
 /// The load, rule or assignment here.
+#[inline(always)]
 pub(crate) fn bare_statement(text: &[u8], max_depth: u8) -> Option<BareStatement<'_>>
     requires { max_depth < 254 }
     ensures { IfSome result (λ read. IsBareFront max_depth read.class (option_map (λ name. name.now) read.name)
@@ -66,6 +67,7 @@ pub(crate) fn bare_statement(text: &[u8], max_depth: u8) -> Option<BareStatement
 }
 
 /// What follows the word of a load and its bracket.
+#[inline(always)]
 fn after_load(text: &[u8]) -> Option<&[u8]>
     ensures { IfSome result (λ inside. text.now ≡ codes "load(" ++ inside.now) }
 {

@@ -105,6 +105,7 @@ pub(crate) fn simple_string(text: &[u8]) -> Option<Quoted<'_>>
 }
 
 /// What follows the name of the attribute `name` and its equals sign.
+#[inline(always)]
 pub(crate) fn after_name(text: &[u8]) -> Option<&[u8]>
     ensures { IfSome result (λ rest. text.now ≡ codes "name" ++ (codes " = " ++ rest.now)) }
 {

@@ -18,6 +18,7 @@ pub(crate) struct RuleCall<'t> {
 }
 
 /// The call of a rule here, whose name is its first argument or which has none.
+#[inline(always)]
 pub(crate) fn rule_call(text: &[u8], depth: u8) -> Option<RuleCall<'_>>
     requires { depth < 253 }
     ensures { IfSome result (λ read. IsRuleCallFront depth (option_map (λ name. name.now) read.name)
@@ -88,6 +89,7 @@ struct NamedCall<'t> {
 }
 
 /// The call of a rule whose name is this value, the first argument of two or more.
+#[inline(always)]
 fn named_call(value: &[u8], depth: u8) -> Option<NamedCall<'_>>
     requires { depth < 253 }
     ensures { IfSome result (λ read. IsRuleCallFront depth (Some read.name.now)

@@ -159,6 +159,7 @@ fn is_call(kind: GroupKind) -> bool
 }
 
 /// What follows the name of an argument and its equals sign.
+#[inline(always)]
 pub(crate) fn after_keyword(text: &[u8]) -> Option<&[u8]>
     ensures { IfSome result (λ rest. IsTokenFront Identifier text.now (codes " = " ++ rest.now)) }
 {

@@ -21,6 +21,7 @@ pub(crate) struct ReadStatement<'t> {
 }
 
 /// The statement that the text begins with.
+#[inline(always)]
 pub(crate) fn statement(text: &[u8], max_depth: u8) -> Option<ReadStatement<'_>>
     requires { max_depth < 254 }
     ensures { IfSome result (λ read. IsStatementFront max_depth read.class (option_map (λ name. name.now) read.name)
