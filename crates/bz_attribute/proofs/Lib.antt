@@ -12,6 +12,7 @@ pub mod KindPlaced
 pub mod LabelSets
 pub mod Lengths
 pub mod Mapped
+pub mod NextArguments
 pub mod NextPart
 pub mod Passed
 pub mod PlaceFound

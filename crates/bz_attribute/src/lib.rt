@@ -11,6 +11,7 @@ mod list_labels;
 mod lists;
 mod make;
 mod marks;
+mod next_argument;
 mod place;
 mod row_args;
 mod row_kind;
@@ -29,6 +30,7 @@ pub use make::{
     argument, list, literal, push_argument, push_string, segment, string, strings, token,
 };
 pub use marks::{RuleName, is_kind, matches, rule_name};
+pub use next_argument::next_place;
 pub use place::{Place, place_of};
 pub use row_args::{read_arguments, splice};
 pub use row_kind::kind_place;
