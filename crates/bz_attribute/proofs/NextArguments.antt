@@ -1,13 +1,13 @@
 -- The next argument of a name among the last parts of a rule.
-use Rattle.std.proofs.Common.{◌≡◌, ℕ, ◌+◌, List, [], ◌∷◌, ◌++◌, false, Option, Some, None, length, map, take, drop, true, ap, sym, ◌∙◌, arith, append_assoc, length-append}
+use Rattle.std.proofs.Common.{◌≡◌, ℕ, zero, suc, ◌+◌, ◌<◌, List, [], ◌∷◌, ◌++◌, false, Option, Some, None, length, map, take, drop, true, ap, sym, ◌∙◌, arith, append_assoc, length-append}
 use Rattle.std.proofs.Math.Seq.{drop-append_seam, take-append_seam}
 use Rattle.bz_tree.specs.Tree.{Segment, Statement, items_of, segs_of}
-use Rattle.bz_tree.specs.Rows.{RowPart, segment_end, above, beside_part, items_parts, segs_parts}
+use Rattle.bz_tree.specs.Rows.{RowPart, a_token, opening, closing, segment_end, above, beside, beside_part, items_parts, segs_parts}
 use Rattle.bz_attribute.specs.Rules.{Rule}
 use Rattle.bz_attribute.specs.Effects.{has}
 use Rattle.bz_attribute.specs.Finder.{find_from}
 use Rattle.bz_attribute.specs.NextPlaces.{IsNextPlace, last_parts}
-use Rattle.bz_attribute.specs.private.Ends.{plain_len, segment_len}
+use Rattle.bz_attribute.specs.private.Ends.{end_len, nodes_len, plain_len, segment_len}
 use Rattle.bz_attribute.proofs.EditedAt.{segs_join}
 use Rattle.bz_attribute.proofs.EndsBack.{comments_after, end_alone, segment_long}
 use Rattle.bz_attribute.proofs.FoundArgs.{Answer, found, absent, answer, IsArgAt}
@@ -71,3 +71,26 @@ next_there name s r args ps at from to are is from_is to_is =
 pub none_next : (name : List ℕ) (s : Statement) (r : Rule) (args : List Segment) (ps : List RowPart) → ps ≡ last_parts s r args → find_from name 1 true ps ≡ None → has name args ≡ false
 none_next name s r args ps are is =
     nowhere name args (find_from name 1 true (segs_parts (segs_of args) ++ after_args s r)) (answer name args (after_args s r) (is_after s r)) (sym (ap (find_from name 1 true) are) ∙ is)
+
+-- a segment has a part
+some_end : (p : RowPart) (ps : List RowPart) → 0 < end_len (p ∷ ps)
+some_end segment_end [] = omega arith
+some_end segment_end (beside text ∷ ps) = omega arith
+some_end segment_end (a_token kind text ∷ ps) = omega arith
+some_end segment_end (opening kind ∷ ps) = omega arith
+some_end segment_end (closing one_comma ∷ ps) = omega arith
+some_end segment_end (segment_end ∷ ps) = omega arith
+some_end segment_end (above text ∷ ps) = omega arith
+some_end (a_token kind text) ps = omega arith
+some_end (opening kind) ps = omega arith
+some_end (closing one_comma) ps = omega arith
+some_end (above text) ps = omega arith
+some_end (beside text) ps = omega arith
+
+some_parts : (n : ℕ) (ps : List RowPart) → 0 < length ps → 0 < n + end_len (drop n ps)
+some_parts zero [] h = absurd (omega (arith, h))
+some_parts zero (p ∷ ps) h = omega (arith, some_end p ps)
+some_parts (suc n) ps h = omega arith
+
+pub some_segment : (ps : List RowPart) → 0 < length ps → 0 < segment_len ps
+some_segment ps h = some_parts (nodes_len 0 ps) ps h

@@ -15,6 +15,7 @@ use bz_tree::Part;
 /// or after the last one.
 pub fn next_place(parts: &[Part<'_>], name: &str) -> Option<Place>
     ensures within { IfSome result (λ place. (place.from ≤ place.to) × (place.to ≤ length parts.now)) }
+    ensures progress { IfSome result (λ place. 0 < place.to) }
     ensures some { IfSome result (λ place. (s : Statement) (r : Rule) (args : List Segment)
         → map part_view parts.now ≡ last_parts s r args → IsNextPlace name.now args place.from place.to) }
     ensures none { IfNone result ((s : Statement) (r : Rule) (args : List Segment)
