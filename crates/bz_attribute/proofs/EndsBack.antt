@@ -75,6 +75,13 @@ comments_at s r (a ∷ front) texts =
     let same : before_args s r ++ segs_parts (segs_of (a ∷ front)) ≡ (before_args s r ++ last.pre) ++ (segment_end ∷ beside_part last.suffix) = ap (λ (ps : List RowPart). before_args s r ++ ps) last.are ∙ joined in
     ap (λ (ps : List RowPart). plain_len (ps ++ map above texts)) same ∙ plain_after (before_args s r ++ last.pre) last.suffix texts ∙ sym (ap length same)
 
+-- the same of the arguments alone
+pub comments_after : (front : List Segment) (texts : List (List ℕ)) → plain_len (segs_parts (segs_of front) ++ map above texts) ≡ length (segs_parts (segs_of front))
+comments_after [] texts = plain_texts texts
+comments_after (a ∷ front) texts =
+    let last = last_argument a front in
+    ap (λ (ps : List RowPart). plain_len (ps ++ map above texts)) last.are ∙ plain_after last.pre last.suffix texts ∙ sym (ap length last.are)
+
 -- the end of an argument
 no_beside : (back : List RowPart) (suffix : Option (List ℕ)) → end_len (segment_end ∷ back) ≡ 1 → end_len (segment_end ∷ (beside_part suffix ++ back)) ≡ 1 + length (beside_part suffix)
 no_beside back None h = h ∙ omega arith

@@ -63,6 +63,10 @@ kind_at s r ps from to h from_is to_is =
     let ends : to ≡ length (comments ++ kind) = omega (arith, to_is, long, starts, length-append comments kind) in
     let taken : take from ps ≡ comments = (λ i. take (starts i) (all i)) ∙ take-append_seam comments (kind ++ call) in
     let left : drop to ps ≡ call = (λ i. drop (ends i) ((all ∙ joined) i)) ∙ drop-append_seam (comments ++ kind) call in
+    let args : List RowPart = segs_parts (segs_of r.args) ++ after_args s r in
+    let moved : comments ++ (kind ++ call) ≡ (comments ++ (kind ++ opening RuleCall ∷ [])) ++ args = simp append_assoc in
+    let after : to + 1 ≡ length (comments ++ (kind ++ opening RuleCall ∷ [])) =
+    omega (arith, ends, length-append comments kind, length-append comments (kind ++ opening RuleCall ∷ []), length-append kind (opening RuleCall ∷ [])) in
     record {
       kind = λ new.
           let r2 : Rule = record r { kind = new } in
@@ -71,4 +75,8 @@ kind_at s r ps from to h from_is to_is =
           let more : comments ++ above line ∷ (kind ++ call) ≡ map above (s.before ++ line ∷ []) ++ (kind ++ call) =
           sym (append_assoc comments (above line ∷ []) (kind ++ call)) ∙ ap (λ (qs : List RowPart). qs ++ (kind ++ call)) (sym (map-append above s.before (line ∷ []))) in
           (λ i. taken i ++ above line ∷ dropped i) ∙ more ∙ sym (in_three (record s { before = s.before ++ line ∷ [] }) r nodes);
+      call =
+          let opened : ps ≡ (comments ++ (kind ++ opening RuleCall ∷ [])) ++ args = all ∙ moved in
+          (λ i. take (after i) (opened i)) ∙ take-append_seam (comments ++ (kind ++ opening RuleCall ∷ [])) args;
+      before_call = omega (arith, ap length all, ends, length-append comments (kind ++ call), length-append kind call, length-append comments kind);
     }

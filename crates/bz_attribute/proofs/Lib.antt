@@ -13,6 +13,7 @@ pub mod LabelSets
 pub mod Lengths
 pub mod Mapped
 pub mod NameTexts
+pub mod NextArguments
 pub mod NextPart
 pub mod Passed
 pub mod PlaceFound

@@ -7,6 +7,7 @@ pub mod KindPlaces
 pub mod Lists
 pub mod Marks
 pub mod Move
+pub mod NextPlaces
 pub mod Remove
 pub mod Rename
 pub mod Replace

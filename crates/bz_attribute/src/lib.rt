@@ -12,6 +12,7 @@ mod list_labels;
 mod lists;
 mod make;
 mod marks;
+mod next_argument;
 mod place;
 mod row_args;
 mod row_kind;
@@ -30,6 +31,7 @@ pub use make::{
     argument, list, literal, push_argument, push_string, segment, string, strings, token,
 };
 pub use marks::is_kind;
+pub use next_argument::next_place;
 pub use place::{Place, all_arguments, place_of};
 pub use row_args::{Parts, push_stmt, read_arguments, splice};
 pub use row_kind::kind_place;

@@ -51,7 +51,7 @@ fn end_len(parts: &[Part<'_>]) -> usize
 }
 
 // How many parts the segment has that they begin with.
-fn segment_len(parts: &[Part<'_>]) -> usize
+pub(crate) fn segment_len(parts: &[Part<'_>]) -> usize
     ensures len { result ≡ spec.segment_len (map part_view parts.now) }
     ensures within { result ≤ length parts.now }
 {
@@ -66,7 +66,7 @@ pub(crate) fn is_above(part: Part<'_>) -> bool
 }
 
 // How many parts stand before the comments with which they end.
-fn comments_begin(parts: &[Part<'_>]) -> usize
+pub(crate) fn comments_begin(parts: &[Part<'_>]) -> usize
     ensures begin { result ≡ spec.plain_len (map part_view parts.now) }
     ensures within { result ≤ length parts.now }
 {

@@ -1,5 +1,6 @@
 pub mod ArgEdits
 pub mod Arriving
+pub mod AttributesGone
 pub mod FirstFiltered
 pub mod Flags
 pub mod Known

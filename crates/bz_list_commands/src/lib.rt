@@ -5,5 +5,6 @@ pub mod add;
 mod arrivals;
 pub mod moving;
 pub mod remove;
+pub mod remove_attribute;
 pub mod replace;
 mod taking;
