@@ -18,4 +18,5 @@ pub mod RowArgs
 pub mod RuleNodes
 pub mod RuleParts
 pub mod Slices
+pub mod StringLists
 pub mod Views

@@ -13,5 +13,6 @@ pub mod Rules
 pub mod RowPlaces
 pub mod RuleViews
 pub mod Set
+pub mod StringLists
 pub mod Texts
 pub mod private

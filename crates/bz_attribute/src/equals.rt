@@ -5,6 +5,7 @@ ghost use Rattle.bz_tree.specs.View.{seg_view};
 ghost use Rattle.bz_attribute.specs.Rules.{string_value};
 ghost use Rattle.bz_attribute.specs.private.ChosenViews.{words_of};
 ghost use Rattle.bz_attribute.specs.Lists as spec;
+ghost use Rattle.bz_command.specs.Values as values;
 ghost use Rattle.bz_command.specs.private.ByteSteps.{left, is_good};
 
 use crate::rule::only_text;
@@ -18,6 +19,16 @@ pub fn string_of<'n>(element: &'n Seg<'_>) -> Option<Bytes<'n>>
     ensures good { IfSome result (λ bytes. IsTrue (is_good bytes)) }
 {
     value_of(only_text(&element.nodes)?)
+}
+
+/// A string token of this text has a value that is the same label as the word.
+pub fn text_equals(home: &Package, text: &str, word: &str) -> bool
+    ensures { result ≡ spec.same_value home.now word.now (values.value_of text.now) }
+{
+    match value_of(text) {
+        None => false,
+        Some(value) => same_label(home, value, Bytes::Plain(word.as_bytes())),
+    }
 }
 
 /// The element is one string whose value is the same label as the word.

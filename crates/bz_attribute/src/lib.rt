@@ -14,6 +14,7 @@ mod marks;
 mod place;
 mod row_args;
 mod rule;
+mod string_list;
 mod texts;
 mod word_set;
 
@@ -34,5 +35,6 @@ pub use rule::{
     Rule, call_at, find, first_named, ident_of, is_named, is_string, name_of, only_text, rule_of,
     value_of,
 };
+pub use string_list::{StringElement, is_list_end, list_start, next_string};
 pub use texts::{label, push_home, push_kind, read_name, shown};
 pub use word_set::WordSet;

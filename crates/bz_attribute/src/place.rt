@@ -59,7 +59,7 @@ fn segment_len(parts: &[Part<'_>]) -> usize
     nodes + end_len(&parts[nodes..])
 }
 
-fn is_above(part: Part<'_>) -> bool
+pub(crate) fn is_above(part: Part<'_>) -> bool
     ensures { result ≡ spec.is_above (part_view part.entry) }
 {
     matches!(part, Part::Above(_))
@@ -86,7 +86,7 @@ fn is_stop(part: Part<'_>) -> bool
 }
 
 #[inline(always)]
-fn besides(parts: &[Part<'_>]) -> usize
+pub(crate) fn besides(parts: &[Part<'_>]) -> usize
     ensures { result ≡ spec.besides (map part_view parts.now) }
 {
     match parts {

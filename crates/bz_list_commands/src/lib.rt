@@ -2,6 +2,7 @@
 #![tactic(auto)]
 
 pub mod add;
+pub mod add_in_row;
 mod arrivals;
 pub mod moving;
 pub mod remove;
