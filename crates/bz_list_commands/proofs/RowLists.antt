@@ -1,25 +1,36 @@
 -- Commands on a list of strings among the parts of a rule.
-use Rattle.std.proofs.Common.{◌≡◌, ℕ, ◌+◌, List, [], ◌∷◌, ◌++◌, Bool, true, false, not, ◌||◌, if◌then◌else◌, Option, Some, None, length, map, take, drop, refl, ap, sym, ◌∙◌, arith, append_assoc, append-nil, take-add}
-use Rattle.std.specs.List.{list_any}
-use Rattle.std.proofs.Math.Seq.{take-append_seam}
+use Rattle.std.proofs.Common.{◌≡◌, ℕ, ◌+◌, ◌<◌, ◌≤◌, ◌-◌, get_or, List, [], ◌∷◌, ◌++◌, Bool, true, false, not, cond, ◌||◌, ◌&&◌, if◌then◌else◌, Option, Some, None, length, map, take, drop, refl, ap, sym, ◌∙◌, arith, append_assoc, append-nil, length-append, take-add, take-append-drop, length-take-le, drop-drop}
+use Rattle.std.proofs.lemmas.Grind.{flat_map-append}
+use Rattle.std.proofs.lemmas.Bool.{false≢true}
+use Rattle.std.proofs.lemmas.List.{length-map, map-append}
+use Rattle.std.proofs.lemmas.List.Concat.{flat_map_single}
+use Rattle.std.specs.List.{flat_map, list_any}
+use Rattle.std.proofs.Math.Seq.{drop-append_seam, take-append_seam}
 use Rattle.std.proofs.lemmas.List.Folds.{list_any-append}
-use Rattle.bz_tree.specs.Tree.{Item, Segment, Statement, segs_of}
-use Rattle.bz_tree.specs.Rows.{RowPart, parts_of, segs_parts}
+use Rattle.bz_tree.specs.Tree.{Item, Segment, Statement, segments, segs_of}
+use Rattle.bz_tree.specs.declared.row.Part.{Part}
+use Rattle.bz_tree.specs.Rows.{RowPart, a_token, above, beside_part, part_view, parts_of, segment_end, segs_parts}
+use Rattle.bz_token.specs.declared.token.Kind.TheVariants.{String}
+use Rattle.bz_command.specs.declared.arguments.Attributes.TheVariants.{Named}
+use Rattle.bz_command.specs.declared.arguments.Moved.TheVariants.{Values}
 use Rattle.bz_command.specs.Labels.{Package}
-use Rattle.bz_command.specs.Values.{value_of}
-use Rattle.bz_attribute.specs.Rules.{Rule, first_named, is_named, value}
+use Rattle.bz_command.specs.Values.{quoted, value_of}
+use Rattle.bz_attribute.specs.Rules.{Rule, first_named, is_named, is_text, value}
 use Rattle.bz_attribute.specs.RowPlaces.{IsRuleRow}
-use Rattle.bz_attribute.specs.Lists.{edit_first_part, equals, parts, same_value, with_value}
-use Rattle.bz_attribute.specs.Effects.{argument, done, edit_first, has, is_nil, list_item, not_a_list, no_parts, string, with_args}
+use Rattle.bz_attribute.specs.Lists.{edit_first_part, edit_parts, equals, parts, same_value, with_value}
+use Rattle.bz_attribute.specs.Effects.{argument, chooses_in, done, edit_first, filtered, has, is_chosen, is_nil, list_item, loses_all, not_a_list, no_parts, string, unchosen, with_args}
+use Rattle.bz_attribute.specs.Remove.{remove, removes}
+use Rattle.bz_attribute.specs.Replace.{is_replaced, replace, replaced, replaced_in, replaces, replaces_first}
 use Rattle.bz_attribute.specs.Add.{add, adds, is_fresh, new_elements, with_added}
 use Rattle.bz_attribute.specs.StringLists.{AreElements, IsElementAt, IsListEnd, IsListOf, IsListStart, list_of_elements, string_element}
 use Rattle.bz_attribute.specs.declared.done.Done.{Done}
 use Rattle.bz_attribute.specs.declared.done.Note.TheVariants.{NotAList}
 use Rattle.bz_attribute.proofs.EditedAt.{none_first, segs_join, with_args_at}
 use Rattle.bz_attribute.proofs.LabelSets.{or_false}
+use Rattle.bz_attribute.proofs.Slices.{rest_seen, slice_seen}
 use Rattle.bz_attribute.proofs.StringLists.{list_found, none_passed, one_passed}
 use Rattle.bz_attribute.proofs.Views.{segments_of}
-use Rattle.bz_list_commands.specs.private.RowSteps.{HasLooked, HasPassed}
+use Rattle.bz_list_commands.specs.private.RowSteps.{AreBetween, HasEdited, HasLooked, HasPassed, HasRemoved, HasRemovedAll, HasReplaced, HasReplacedAll, others}
 
 -- the elements of a list that is a value
 pub list_read : (ss : List Segment) (one_comma : Bool) (end : List (List ℕ)) → parts (list_of_elements ss one_comma end) ≡ ss ∷ []
@@ -98,3 +109,43 @@ told_added home name values s r ps from end ss list =
     let told : Option Segment → Done = λ o. done (not_a_list name o) (adds home values o) in
     let by : List (List Segment) → Done = λ lists. done (if no_parts lists then Some (NotAList name) else None) (not (is_nil (new_elements home lists values))) in
     sym (ap told list.first ∙ ap by (ap parts list.read ∙ list_read ss list.one_comma list.end))
+
+-- one value, by the walk over the list
+record IsList (name : List ℕ) (s : Statement) (r : Rule) (ps : List RowPart) (from end : ℕ) (ss : List Segment) : Type 0 where
+  elements : AreElements ps from end ss
+  list : IsListOf name s r ps from end ss
+
+looked_list : (home : Package) (name w : List ℕ) (s : Statement) (r : Rule) (ps : List RowPart) (from end : ℕ) (found : Bool) → IsRuleRow s r ps → IsListStart name ps from → (looked : HasLooked home w ps from end found) → IsList name s r ps from end looked.passed.elements
+looked_list home name w s r ps from end found h start looked = record {
+  elements = looked.passed.are;
+  list = list_found name s r ps from end looked.passed.elements h start looked.passed.are looked.ends;
+}
+
+nil_or_one : (v : List ℕ) (found : Bool) → is_nil (if found then [] else string v ∷ []) ≡ found
+nil_or_one v true = refl
+nil_or_one v false = refl
+
+pub told_one : (home : Package) (name w : List ℕ) (values : List (List ℕ)) (s : Statement) (r : Rule) (ps : List RowPart) (from end : ℕ) (found : Bool) → IsRuleRow s r ps → IsListStart name ps from → HasLooked home w ps from end found → values ≡ w ∷ []
+    → done None (not found) ≡ done (not_a_list name (first_named name r.args)) (adds home values (first_named name r.args))
+told_one home name w values s r ps from end found h start looked one =
+    let ss : List Segment = looked.passed.elements in
+    let new : is_nil (new_elements home (ss ∷ []) (w ∷ [])) ≡ found = ap is_nil (one_value home w ss found looked.passed.told) ∙ nil_or_one w found in
+    ap (λ (b : Bool). done None (not b)) (sym new)
+    ∙ told_added home name (w ∷ []) s r ps from end ss (looked_list home name w s r ps from end found h start looked).list
+    ∙ ap (λ (vs : List (List ℕ)). done (not_a_list name (first_named name r.args)) (adds home vs (first_named name r.args))) (sym one)
+
+pub added_one : (home : Package) (name w : List ℕ) (values : List (List ℕ)) (s : Statement) (r : Rule) (ps : List RowPart) (from end : ℕ) (found : Bool) → IsRuleRow s r ps → IsListStart name ps from → HasLooked home w ps from end found → values ≡ w ∷ [] → found ≡ false
+    → take end ps ++ (segs_parts (segs_of (string w ∷ [])) ++ drop end ps) ≡ parts_of (with_args (add home name values) s)
+added_one home name w values s r ps from end found h start looked one none =
+    let ss : List Segment = looked.passed.elements in
+    let made : string w ∷ [] ≡ new_elements home (ss ∷ []) (w ∷ []) = sym (one_value home w ss found looked.passed.told ∙ ap (λ (b : Bool). if b then [] else string w ∷ []) none) in
+    let there = looked_list home name w s r ps from end found h start looked in
+    ap (λ (new : List Segment). take end ps ++ (segs_parts (segs_of new) ++ drop end ps)) made
+    ∙ added home name (w ∷ []) s r ps from end ss h there.elements there.list
+    ∙ ap (λ (vs : List (List ℕ)). parts_of (with_args (add home name vs) s)) (sym one)
+
+-- a list of one
+pub one_alone : (values : List (List ℕ)) (v d : List ℕ) → 1 ≤ length values → length values < 2 → v ≡ get_or values 0 d → values ≡ v ∷ []
+one_alone [] v d few many is = absurd (omega arith)
+one_alone (w ∷ []) v d few many is = ap (λ (z : List ℕ). z ∷ []) (sym is)
+one_alone (w ∷ x ∷ values) v d few many is = absurd (omega arith)

@@ -1,10 +1,12 @@
 //! `add` over the parts of a rule, where the attribute is a list of strings: no tree is made.
 
-ghost use Rattle.std.specs.Prelude.{◌≡◌, ◌≤◌, ◌++◌, ◌∷◌, [], true, map, take, drop, length, IfOk, IfSome, OnOk};
+ghost use Rattle.std.specs.Prelude.{◌≡◌, ◌≤◌, ◌++◌, ◌∷◌, ◌||◌, [], true, map, take, drop, length, IfOk, IfSome, OnOk};
 ghost use Rattle.bz_tree.specs.Tree.{Statement, segs_of};
 ghost use Rattle.bz_tree.specs.Rows.{part_view, parts_of, segs_parts};
 ghost use Rattle.bz_attribute.specs.Rules.{Rule, first_named};
 ghost use Rattle.bz_attribute.specs.RowPlaces.{IsRuleRow};
+ghost use Rattle.bz_attribute.specs.Lists.{same_value};
+ghost use Rattle.bz_command.specs.Values.{value_of};
 ghost use Rattle.bz_attribute.specs.Add as spec;
 ghost use Rattle.bz_attribute.specs.Effects as effects;
 ghost use Rattle.bz_list_commands.specs.private.RowSteps.{HasLooked};
@@ -59,6 +61,13 @@ pub fn add_in_row<'a>(
     Ok(Some(Done::quiet(true)))
 }
 
+// An element equals the word: this one, or one before it.
+fn is_seen(home: &Package, text: &str, word: &str, found: bool) -> bool
+    ensures { result ≡ (found || same_value home.now word.now (value_of text.now)) }
+{
+    found || text_equals(home, text, word)
+}
+
 // None: not each element is one string.
 fn look_for(home: &Package, word: &str, parts: &[Part<'_>], from: usize) -> Option<Looked>
     requires { from ≤ length parts.now }
@@ -69,7 +78,7 @@ fn look_for(home: &Package, word: &str, parts: &[Part<'_>], from: usize) -> Opti
     let mut at = from;
     let mut found = false;
     while let Some(element) = next_string(parts, at) {
-        found = found || text_equals(home, element.text, word);
+        found = is_seen(home, element.text, word, found);
         at = element.to;
     }
     if !is_list_end(parts, at) {
