@@ -6,5 +6,7 @@ pub mod add_in_row;
 mod arrivals;
 pub mod moving;
 pub mod remove;
+pub mod remove_in_row;
 pub mod replace;
+pub mod replace_in_row;
 mod taking;

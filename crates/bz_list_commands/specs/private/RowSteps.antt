@@ -1,11 +1,12 @@
 -- For private clauses alone: what was seen of a list of strings among the parts of a rule.
-use Rattle.std.specs.Prelude.{◌≡◌, ℕ, ◌+◌, List, [], ◌∷◌, ◌++◌, Bool, not, if◌then◌else◌, length, take, drop}
+use Rattle.std.specs.Prelude.{◌≡◌, ℕ, ◌+◌, List, [], ◌∷◌, ◌++◌, Bool, not, if◌then◌else◌, Some, length, take, drop}
 use Rattle.std.specs.List.{flat_map, list_any}
-use Rattle.bz_tree.specs.Rows.{RowPart, segs_parts}
-use Rattle.bz_tree.specs.Tree.{Segment, segs_of}
+use Rattle.bz_tree.specs.Rows.{RowPart, parts_of, segs_parts}
+use Rattle.bz_tree.specs.Tree.{Segment, Statement, segs_of}
+use Rattle.bz_attribute.specs.Rules.{Rule, first_named, is_named}
 use Rattle.bz_command.specs.Labels.{Package}
 use Rattle.bz_attribute.specs.Lists.{equals}
-use Rattle.bz_attribute.specs.Effects.{is_nil}
+use Rattle.bz_attribute.specs.Effects.{edit_first, is_nil, with_args}
 use Rattle.bz_attribute.specs.Replace.{is_replaced, replaced}
 use Rattle.bz_attribute.specs.StringLists.{AreElements, IsListEnd}
 
@@ -58,3 +59,7 @@ pub record HasReplacedAll (home : Package) (old new : List ℕ) (ps : List RowPa
   pub end : ℕ
   pub replaced : HasReplaced home old new ps from end copied changed out
   pub ends : IsListEnd ps end
+
+-- the parts of a rule without the first argument of a name
+pub record IsGone (name : List ℕ) (s : Statement) (r : Rule) (ps : List RowPart) : Type 0 where
+  pub is : (edit : Segment → List Segment) (a : Segment) → first_named name r.args ≡ Some a → edit a ≡ [] → ps ≡ parts_of (with_args (edit_first (is_named name) edit) s)
