@@ -23,7 +23,7 @@ use Rattle.bz_attribute.specs.Effects.{argument, chooses_in, done, edit_first, f
 use Rattle.bz_attribute.specs.Remove.{remove, removes}
 use Rattle.bz_attribute.specs.Replace.{is_replaced, replace, replaced, replaced_in, replaces, replaces_first}
 use Rattle.bz_attribute.specs.Add.{add, adds, is_fresh, new_elements, with_added}
-use Rattle.bz_attribute.specs.StringLists.{AreElements, IsElementAt, IsListEnd, IsListOf, IsListStart, list_of_elements, string_element}
+use Rattle.bz_attribute.specs.StringLists.{AreElements, IsElementAt, IsListOf, IsListStart, list_of_elements, string_element}
 use Rattle.bz_attribute.specs.declared.done.Done.{Done}
 use Rattle.bz_attribute.specs.declared.done.Note.TheVariants.{NotAList}
 use Rattle.bz_attribute.proofs.EditedAt.{none_first, segs_join, with_args_at}

@@ -2,7 +2,7 @@ use Rattle.std.proofs.Common.{◌≡◌, ℕ, List, [], ◌∷◌, ◌++◌, tak
 use Rattle.std.proofs.lemmas.List.{map-append}
 use Rattle.bz_token.specs.declared.token.Kind.TheVariants.{String}
 use Rattle.bz_tree.specs.declared.row.Part.{Part}
-use Rattle.bz_tree.specs.Rows.{RowPart, a_token, part_view, segment_end}
+use Rattle.bz_tree.specs.Rows.{a_token, part_view, segment_end}
 use Rattle.bz_command.specs.Values.{quoted}
 use Rattle.bz_attribute.proofs.Slices.{three_written}
 use Rattle.bz_list_commands.proofs.add_in_row.put_with.Goals as goal

@@ -1,4 +1,4 @@
-use Rattle.std.proofs.Common.{◌≡◌, map, ap, sym, ◌∙◌, arith}
+use Rattle.std.proofs.Common.{map, ap, sym, ◌∙◌, arith}
 use Rattle.std.proofs.lemmas.List.{length-map}
 use Rattle.bz_tree.specs.Rows.{part_view}
 use Rattle.bz_list_commands.proofs.RowLists.{nothing_removed, one_goes, one_stays, waiting_copied}

@@ -1,7 +1,7 @@
-use Rattle.std.proofs.Common.{◌≡◌, ◌++◌, ◌-◌, List, [], take, drop, length, map, ap, ◌∙◌}
+use Rattle.std.proofs.Common.{◌≡◌, ◌++◌, ◌-◌, List, take, drop, length, map, ap, ◌∙◌}
 use Rattle.std.proofs.lemmas.List.{map-append}
 use Rattle.bz_tree.specs.declared.row.Part.{Part}
-use Rattle.bz_tree.specs.Rows.{RowPart, part_view}
+use Rattle.bz_tree.specs.Rows.{part_view}
 use Rattle.bz_attribute.proofs.Slices.{front_seen, rest_seen}
 use Rattle.bz_list_commands.proofs.RowLists.{argument_gone}
 use Rattle.bz_list_commands.proofs.remove_in_row.put_without.Goals as goal
