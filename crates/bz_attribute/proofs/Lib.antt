@@ -9,6 +9,7 @@ pub mod Fresh
 pub mod Groups
 pub mod Headed
 pub mod LabelSets
+pub mod LastBytes
 pub mod Lengths
 pub mod Mapped
 pub mod NextPart

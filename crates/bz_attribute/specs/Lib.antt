@@ -10,6 +10,7 @@ pub mod Remove
 pub mod Rename
 pub mod Replace
 pub mod Rules
+pub mod RowEdits
 pub mod RowPlaces
 pub mod RuleViews
 pub mod Set

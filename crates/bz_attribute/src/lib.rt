@@ -1,6 +1,7 @@
 //! The view of a statement as a rule: its kind, its attributes, and the elements of their lists. Below the commands.
 #![tactic(auto)]
 
+mod apart;
 mod chosen;
 mod done;
 mod env;

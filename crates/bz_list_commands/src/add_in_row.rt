@@ -4,7 +4,7 @@ ghost use Rattle.std.specs.Prelude.{◌≡◌, ◌≤◌, ◌++◌, ◌∷◌, �
 ghost use Rattle.bz_tree.specs.Tree.{Statement, segs_of};
 ghost use Rattle.bz_tree.specs.Rows.{part_view, parts_of, segs_parts};
 ghost use Rattle.bz_attribute.specs.Rules.{Rule, first_named};
-ghost use Rattle.bz_attribute.specs.RowPlaces.{IsRuleRow};
+ghost use Rattle.bz_attribute.specs.RowEdits.{IsRowEdit};
 ghost use Rattle.bz_attribute.specs.Lists.{same_value};
 ghost use Rattle.bz_command.specs.Values.{value_of};
 ghost use Rattle.bz_attribute.specs.Add as spec;
@@ -38,12 +38,10 @@ pub fn add_in_row<'a>(
     parts: &[Part<'a>],
     out: &mut Parts<'a>,
 ) -> Result<Option<Done>, AllocError>
-    ensures parts { IfOk result (λ told. IfSome told (λ done. (s : Statement) (r : Rule) → IsRuleRow s r (map part_view parts.now)
-        → done.changed ≡ true
-        → map part_view out.new.items ≡ parts_of (effects.with_args (spec.add env.entry.home.now attr.now values.now) s))) }
-    ensures done { IfOk result (λ told. IfSome told (λ done. (s : Statement) (r : Rule) → IsRuleRow s r (map part_view parts.now)
-        → done ≡ effects.done (effects.not_a_list attr.now (first_named attr.now r.args))
-        (spec.adds env.entry.home.now values.now (first_named attr.now r.args)))) }
+    ensures { IfOk result (λ told. IfSome told (IsRowEdit (spec.add env.entry.home.now attr.now values.now)
+        (λ args. effects.done (effects.not_a_list attr.now (first_named attr.now args))
+        (spec.adds env.entry.home.now values.now (first_named attr.now args)))
+        (map part_view parts.now) (map part_view out.new.items))) }
 {
     let [value] = values else {
         return Ok(None);

@@ -5,6 +5,7 @@ ghost use Rattle.bz_tree.specs.Tree.{Statement};
 ghost use Rattle.bz_tree.specs.Rows.{part_view, parts_of};
 ghost use Rattle.bz_command.specs.declared.arguments.Attributes.TheVariants.{Named};
 ghost use Rattle.bz_attribute.specs.Rules.{Rule};
+ghost use Rattle.bz_attribute.specs.RowEdits.{IsRowEdit};
 ghost use Rattle.bz_attribute.specs.RowPlaces.{IsRuleRow};
 ghost use Rattle.bz_attribute.specs.Remove as spec;
 ghost use Rattle.bz_attribute.specs.Effects as effects;
@@ -37,11 +38,10 @@ pub fn remove_in_row<'a>(
     parts: &[Part<'a>],
     out: &mut Parts<'a>,
 ) -> Result<Option<Done>, AllocError>
-    ensures parts { IfOk result (λ told. IfSome told (λ done. (s : Statement) (r : Rule) → IsRuleRow s r (map part_view parts.now)
-        → done.changed ≡ true → map part_view out.new.items
-        ≡ parts_of (effects.with_args (spec.remove env.entry.home.now (Named attr.now) values.now) s))) }
-    ensures done { IfOk result (λ told. IfSome told (λ done. (s : Statement) (r : Rule) → IsRuleRow s r (map part_view parts.now)
-        → done ≡ effects.done Nothing (spec.removes env.entry.home.now (Named attr.now) values.now r.args))) }
+    ensures { IfOk result (λ told. IfSome told
+        (IsRowEdit (spec.remove env.entry.home.now (Named attr.now) values.now)
+        (λ args. effects.done Nothing (spec.removes env.entry.home.now (Named attr.now) values.now args))
+        (map part_view parts.now) (map part_view out.new.items))) }
 {
     let [value] = values else {
         return Ok(None);

@@ -7,10 +7,11 @@ ghost use Rattle.bz_command.specs.Values.{quoted, value_of};
 ghost use Rattle.bz_command.specs.declared.arguments.Attributes.TheVariants.{Named};
 ghost use Rattle.bz_attribute.specs.Rules.{Rule, is_text};
 ghost use Rattle.bz_attribute.specs.Lists.{same_value};
-ghost use Rattle.bz_attribute.specs.RowPlaces.{IsRuleRow};
+ghost use Rattle.bz_attribute.specs.RowEdits.{IsRowEdit};
 ghost use Rattle.bz_attribute.specs.Replace as spec;
 ghost use Rattle.bz_attribute.specs.Effects as effects;
 ghost use Rattle.bz_list_commands.specs.private.RowSteps.{HasReplacedAll};
+ghost use Rattle.bz_list_commands.specs.private.ReplaceSteps.{replaced_named, replaces_named};
 
 use crate::replace::Change;
 use bumpalo::Bump;
@@ -40,11 +41,9 @@ pub fn replace_in_row<'a>(
     parts: &[Part<'a>],
     out: &mut Parts<'a>,
 ) -> Result<Option<Done>, AllocError>
-    ensures parts { IfOk result (λ told. IfSome told (λ done. (s : Statement) (r : Rule) → IsRuleRow s r (map part_view parts.now)
-        → done.changed ≡ true → map part_view out.new.items
-        ≡ parts_of (effects.with_args (spec.replace change.entry.home.now (Named attr.now) change.entry.old.now change.entry.new.now) s))) }
-    ensures done { IfOk result (λ told. IfSome told (λ done. (s : Statement) (r : Rule) → IsRuleRow s r (map part_view parts.now)
-        → done ≡ effects.done Nothing (spec.replaces change.entry.home.now (Named attr.now) change.entry.old.now change.entry.new.now r.args))) }
+    ensures { IfOk result (λ told. IfSome told
+        (IsRowEdit (replaced_named change.entry attr.now) (replaces_named change.entry attr.now)
+        (map part_view parts.now) (map part_view out.new.items))) }
 {
     let Some(from) = list_start(parts, attr) else {
         return Ok(None);
@@ -93,7 +92,8 @@ fn put_new<'a>(
     out: &mut Parts<'a>,
 ) -> Result<Option<Put>, AllocError>
     requires { from ≤ length parts.now }
-    ensures put { IfOk result (λ o. IfSome o (λ put. HasReplacedAll change.entry.home.now change.entry.old.now change.entry.new.now
+    ensures put { IfOk result (λ o. IfSome o (λ put. HasReplacedAll
+        change.entry.home.now change.entry.old.now change.entry.new.now
         (map part_view parts.now) from put.copied put.changed (map part_view out.new.items))) }
     ensures within { IfOk result (λ o. IfSome o (λ put. put.copied ≤ length parts.now)) }
 {
