@@ -1,9 +1,9 @@
 -- A label in full ends as its text does, where that ends with no slash.
-use Rattle.std.proofs.Common.{◌≡◌, ℕ, ◌+◌, ◌-◌, ◌<◌, ◌≤◌, List, [], ◌∷◌, ◌++◌, Bool, true, false, if◌then◌else◌, Option, Some, None, length, get_or, take, refl, ap, subst, sym, ◌∙◌, arith, inl, inr, append_assoc, take_all, bytes_eq}
+use Rattle.std.proofs.Common.{◌≡◌, ℕ, ◌-◌, ◌<◌, List, [], ◌∷◌, ◌++◌, Bool, true, false, if◌then◌else◌, Some, None, length, get_or, take, refl, ap, subst, sym, ◌∙◌, arith, inl, inr, append_assoc, take_all, bytes_eq}
 use Rattle.std.specs.Prelude.{codes}
 use Rattle.std.specs.List.{list_any, onto_first, starts_with}
 use Rattle.std.specs.Prelude.{nat_eq, not, ◌&&◌}
-use Rattle.std.proofs.lemmas.Bool.{cases_Bool, false≢true}
+use Rattle.std.proofs.lemmas.Bool.{cases_Bool}
 use Rattle.std.proofs.lemmas.List.{take_more}
 use Rattle.bz_token.proofs.Classes.{same_bytes}
 use Rattle.bz_command.specs.Labels.{Package, is_colon, is_slash, last_of, parts_of}
