@@ -10,6 +10,7 @@ pub mod Groups
 pub mod Headed
 pub mod KindPlaced
 pub mod LabelSets
+pub mod LastBytes
 pub mod Lengths
 pub mod Mapped
 pub mod NameTexts
@@ -21,4 +22,5 @@ pub mod RowArgs
 pub mod RuleNodes
 pub mod RuleParts
 pub mod Slices
+pub mod StringLists
 pub mod Views

@@ -19,13 +19,13 @@ use Rattle.bz_attribute.proofs.FoundArgs.{Answer, found, absent, answer, IsArgAt
 use Rattle.bz_attribute.proofs.RuleParts.{after_args, before_args, head_passed, is_after, parts_cut, rule_dotted}
 
 -- all parts: those before some arguments, these and those after them
-abbrev pre : Statement → Rule → List Segment → List RowPart
+abbrev pub pre : Statement → Rule → List Segment → List RowPart
 pre s r front = before_args s r ++ segs_parts (segs_of front)
 
-abbrev post : Statement → Rule → List Segment → List RowPart
+abbrev pub post : Statement → Rule → List Segment → List RowPart
 post s r back = segs_parts (segs_of back) ++ after_args s r
 
-in_three : (s : Statement) (r : Rule) (front mid back : List Segment) → nodes_of r ≡ s.nodes → r.args ≡ front ++ (mid ++ back) → parts_of s ≡ pre s r front ++ (segs_parts (segs_of mid) ++ post s r back)
+pub in_three : (s : Statement) (r : Rule) (front mid back : List Segment) → nodes_of r ≡ s.nodes → r.args ≡ front ++ (mid ++ back) → parts_of s ≡ pre s r front ++ (segs_parts (segs_of mid) ++ post s r back)
 in_three s r front mid back nodes are =
     let moved : before_args s r ++ ((segs_parts (segs_of front) ++ (segs_parts (segs_of mid) ++ segs_parts (segs_of back))) ++ after_args s r) ≡ pre s r front ++ (segs_parts (segs_of mid) ++ post s r back) = simp append_assoc in
     parts_cut s r nodes
@@ -91,7 +91,7 @@ missing name s r none = record {
   edited = λ f local. local.absent r.args none ∙ ap (λ (zs : List Segment). r.args ++ zs) (sym (append-nil (f [])));
 }
 
-nodes_split : (s : Statement) (r : Rule) (front back : List Segment) (a : Segment)
+pub nodes_split : (s : Statement) (r : Rule) (front back : List Segment) (a : Segment)
     → pre s r front ++ (segs_parts (segs_of (a ∷ [])) ++ post s r back) ≡ (pre s r front ++ map above a.before) ++ (items_parts (items_of a.nodes) ++ (segment_end ∷ (beside_part a.suffix ++ post s r back)))
 nodes_split s r front back a = simp append_assoc
 
@@ -117,19 +117,19 @@ found_place name s r n at from to is arg at_is from_is to_is =
     middle name s r arg.front (a ∷ []) arg.back from to is (there name s r n arg) starts
     (omega (arith, to_is, long, begins, argument_long a, length-append first (map above a.before), length-append first own))
 
-abbrev args_found : List ℕ → Statement → Rule → Option ℕ
+abbrev pub args_found : List ℕ → Statement → Rule → Option ℕ
 args_found name s r = find_from name 1 true (segs_parts (segs_of r.args) ++ after_args s r)
 
-told : (name : List ℕ) (s : Statement) (r : Rule) (ps : List RowPart) → IsRuleRow s r ps → find_from name 0 false ps ≡ option_map (λ (k : ℕ). length (before_args s r) + k) (args_found name s r)
+pub told : (name : List ℕ) (s : Statement) (r : Rule) (ps : List RowPart) → IsRuleRow s r ps → find_from name 0 false ps ≡ option_map (λ (k : ℕ). length (before_args s r) + k) (args_found name s r)
 told name s r ps h = ap (find_from name 0 false) h.are ∙ head_passed name s r h.rule
 
 -- where the argument begins
-record IsFound (name : List ℕ) (s : Statement) (r : Rule) (at : ℕ) : Type 0 where
-  n : ℕ
-  is : at ≡ length (before_args s r) + n
-  arg : IsArgAt name r.args n
+pub record IsFound (name : List ℕ) (s : Statement) (r : Rule) (at : ℕ) : Type 0 where
+  pub n : ℕ
+  pub is : at ≡ length (before_args s r) + n
+  pub arg : IsArgAt name r.args n
 
-placed : (name : List ℕ) (s : Statement) (r : Rule) (at : ℕ) (o : Option ℕ) → Answer name r.args o → option_map (λ (k : ℕ). length (before_args s r) + k) o ≡ Some at → IsFound name s r at
+pub placed : (name : List ℕ) (s : Statement) (r : Rule) (at : ℕ) (o : Option ℕ) → Answer name r.args o → option_map (λ (k : ℕ). length (before_args s r) + k) o ≡ Some at → IsFound name s r at
 placed name s r at o (found n on arg) h =
     let same : length (before_args s r) + n ≡ at = let both : Some (length (before_args s r) + n) ≡ Some at = sym (ap (option_map (λ (k : ℕ). length (before_args s r) + k)) on) ∙ h in cc in
     record { n = n; is = sym same; arg = arg }
@@ -139,7 +139,7 @@ nowhere : (name : List ℕ) (s : Statement) (r : Rule) (o : Option ℕ) → Answ
 nowhere name s r o (found n on arg) h = let clash : Some (length (before_args s r) + n) ≡ None = sym (ap (option_map (λ (k : ℕ). length (before_args s r) + k)) on) ∙ h in absurd cc
 nowhere name s r o (absent on none) h = none
 
-answered : (name : List ℕ) (s : Statement) (r : Rule) → Answer name r.args (args_found name s r)
+pub answered : (name : List ℕ) (s : Statement) (r : Rule) → Answer name r.args (args_found name s r)
 answered name s r = answer name r.args (after_args s r) (is_after s r)
 
 -- an argument of this name, the first one, is that with whose nodes the parts begin

@@ -12,8 +12,10 @@ pub mod Remove
 pub mod Rename
 pub mod Replace
 pub mod Rules
+pub mod RowEdits
 pub mod RowPlaces
 pub mod RuleViews
 pub mod Set
+pub mod StringLists
 pub mod Texts
 pub mod private

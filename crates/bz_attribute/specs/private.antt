@@ -4,3 +4,4 @@ pub mod Ends
 pub mod HeadParts
 pub mod NextPart
 pub mod Places
+pub mod StringParts

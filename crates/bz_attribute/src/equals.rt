@@ -5,8 +5,10 @@ ghost use Rattle.bz_tree.specs.View.{seg_view};
 ghost use Rattle.bz_attribute.specs.Rules.{string_value};
 ghost use Rattle.bz_attribute.specs.private.ChosenViews.{words_of};
 ghost use Rattle.bz_attribute.specs.Lists as spec;
+ghost use Rattle.bz_command.specs.Values as values;
 ghost use Rattle.bz_command.specs.private.ByteSteps.{left, is_good};
 
+use crate::apart::are_apart;
 use crate::rule::only_text;
 use bz_command::{Bytes, Package, same_label, value_of};
 use bz_tree::Seg;
@@ -18,6 +20,19 @@ pub fn string_of<'n>(element: &'n Seg<'_>) -> Option<Bytes<'n>>
     ensures good { IfSome result (λ bytes. IsTrue (is_good bytes)) }
 {
     value_of(only_text(&element.nodes)?)
+}
+
+/// A string token of this text has a value that is the same label as the word.
+pub fn text_equals(home: &Package, text: &str, word: &str) -> bool
+    ensures { result ≡ spec.same_value home.now word.now (values.value_of text.now) }
+{
+    let Some(value) = value_of(text) else {
+        return false;
+    };
+    if are_apart(value, word.as_bytes()) {
+        return false;
+    }
+    same_label(home, value, Bytes::Plain(word.as_bytes()))
 }
 
 /// The element is one string whose value is the same label as the word.

@@ -156,14 +156,14 @@ pub(crate) fn is_equals(part: &Part<'_>) -> bool
     }
 }
 
-fn is_end(part: &Part<'_>) -> bool
+pub(crate) fn is_end(part: &Part<'_>) -> bool
     ensures { result ≡ spec.is_end (part_view part.now) }
 {
     matches!(part, Part::End)
 }
 
 /// The text of a string token.
-fn text_of<'a>(part: &Part<'a>) -> Option<&'a str>
+pub(crate) fn text_of<'a>(part: &Part<'a>) -> Option<&'a str>
     ensures { option_map (λ text. text.now) result ≡ spec.text_of (part_view part.now) }
 {
     match part {

@@ -1,6 +1,7 @@
 //! The view of a statement as a rule: its kind, its attributes, and the elements of their lists. Below the commands.
 #![tactic(auto)]
 
+mod apart;
 mod chosen;
 mod done;
 mod env;
@@ -17,6 +18,7 @@ mod place;
 mod row_args;
 mod row_kind;
 mod rule;
+mod string_list;
 mod texts;
 mod word_set;
 
@@ -39,5 +41,6 @@ pub use rule::{
     Rule, call_at, find, first_named, ident_of, is_named, is_string, name_of, only_text, rule_of,
     value_of,
 };
+pub use string_list::{StringElement, is_list_end, list_start, next_string};
 pub use texts::{label, push_home};
 pub use word_set::WordSet;

@@ -6,5 +6,6 @@ pub mod Flags
 pub mod Known
 pub mod Leaving
 pub mod Replaced
+pub mod RowLists
 pub mod Strings
 pub mod Written

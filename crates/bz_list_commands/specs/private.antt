@@ -2,4 +2,5 @@ pub mod AddSteps
 pub mod EditSteps
 pub mod MoveSteps
 pub mod ReplaceSteps
+pub mod RowSteps
 pub mod TakingSteps

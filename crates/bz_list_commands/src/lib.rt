@@ -2,9 +2,12 @@
 #![tactic(auto)]
 
 pub mod add;
+pub mod add_in_row;
 mod arrivals;
 pub mod moving;
 pub mod remove;
 pub mod remove_attribute;
+pub mod remove_in_row;
 pub mod replace;
+pub mod replace_in_row;
 mod taking;

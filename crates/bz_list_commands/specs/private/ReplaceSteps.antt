@@ -1,14 +1,15 @@
 -- For private clauses alone: which elements a replacement changes, and how many new strings it takes.
-use Rattle.std.specs.Prelude.{◌≡◌, ℕ, ◌+◌, ◌≤◌, List, [], ◌∷◌, Bool, if◌then◌else◌, length, map, filter, replicate}
+use Rattle.std.specs.Prelude.{◌≡◌, ℕ, ◌+◌, ◌≤◌, List, [], ◌∷◌, Bool, if◌then◌else◌, length, map, filter, replicate, None}
 use Rattle.bz_tree.specs.declared.stmt.Seg.{Seg}
 use Rattle.bz_tree.specs.Tree.{Segment}
 use Rattle.bz_tree.specs.View.{segs_view}
 use Rattle.bz_attribute.specs.Rules.{value}
-use Rattle.bz_command.specs.declared.arguments.Attributes.TheVariants.{Every}
+use Rattle.bz_command.specs.declared.arguments.Attributes.TheVariants.{Every, Named}
 use Rattle.bz_attribute.specs.Lists.{is_attribute, parts}
-use Rattle.bz_attribute.specs.Effects.{string}
+use Rattle.bz_attribute.specs.Effects.{done, string}
 use Rattle.bz_attribute.specs.Move.{joined}
 use Rattle.bz_attribute.specs.Replace.{is_replaced, replace, replaced, replaces}
+use Rattle.bz_attribute.specs.declared.done.Done.{Done}
 use Rattle.bz_list_commands.specs.declared.replace.Change.{Change}
 
 abbrev pub goes : Change → Segment → Bool
@@ -23,6 +24,14 @@ replaced_everywhere c args = replace c.home.now Every c.old.now c.new.now args
 
 abbrev pub replaces_anywhere : Change → List Segment → Bool
 replaces_anywhere c args = replaces c.home.now Every c.old.now c.new.now args
+
+-- what `replace` does to the first one of a name
+abbrev pub replaced_named : Change → List ℕ → List Segment → List Segment
+replaced_named c name args = replace c.home.now (Named name) c.old.now c.new.now args
+
+-- and what it tells
+abbrev pub replaces_named : Change → List ℕ → List Segment → Done
+replaces_named c name args = done None (replaces c.home.now (Named name) c.old.now c.new.now args)
 
 -- how many elements are replaced
 abbrev pub count : Change → List Segment → ℕ
