@@ -1,5 +1,5 @@
 -- Stages and answers that differ, and what a session keeps from one call to the next.
-use Rattle.std.proofs.Common.{◌≡◌, ℕ, ◌+◌, ◌≤◌, Bool, true, false, List, ◌++◌, length, take, arith, sym, ◌∙◌, ap, subst}
+use Rattle.std.proofs.Common.{◌≡◌, ◌≢◌, refl, ℕ, ◌+◌, ◌≤◌, Bool, true, false, List, ◌++◌, length, take, arith, sym, ◌∙◌, ap, subst}
 use Rattle.std.specs.Prelude.{Result, Err, OnOk, IfOk}
 use Rattle.std.proofs.lemmas.Bool.{false≢true}
 use Rattle.bz_devices.proofs.PassedOn.{err_is}
@@ -12,8 +12,10 @@ use Rattle.bz_devices.specs.Ahead.{Ahead, IsReadOn, IsNextChunk}
 use Rattle.bz_devices.proofs.ReadOn.{read_then}
 use Rattle.bz_engine.specs.Progress.{Progress}
 use Rattle.bz_engine.specs.declared.next_chunk.NextChunk.{NextChunk}
+use Rattle.bz_engine.specs.declared.next_chunk.First.{First}
+use Rattle.bz_engine.specs.declared.next_chunk.First.TheVariants.{Edited, Short, Other}
 use Rattle.bz_engine.specs.private.Edits.{EditsChunk}
-use Rattle.bz_engine.specs.private.NextChunks.{IsFirstEdited, IsNextEdited}
+use Rattle.bz_engine.specs.private.NextChunks.{IsFirstEdited, IsNextEdited, IsFirstNext}
 use Rattle.bz_engine.specs.SessionValue.{SessionValue, run_in, IsSameRun}
 
 abbrev is_going : Stage → Bool
@@ -151,3 +153,10 @@ read_alone v l w x mid same is progress there =
     let reads : SessionValue → SessionValue = λ y. record y { ahead = mid } in
     let at : Progress → SessionValue = λ p. record l { progress = p } in
     ap reads (there ∙ is ∙ ap at progress ∙ same)
+
+-- nothing was done of the first chunk ahead
+pub passed_over : (old new : SessionValue) (before after : List ℕ) (first : First) → IsFirstNext old new before after first
+    → ((next : NextChunk) → first ≢ Edited next) → new.progress ≡ old.progress
+passed_over old new before after (Edited next) is other = absurd (other next refl)
+passed_over old new before after Short is other = is.1
+passed_over old new before after Other is other = is.0

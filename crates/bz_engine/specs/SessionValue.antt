@@ -12,7 +12,7 @@ use Rattle.bz_engine.specs.declared.run_fault.RunFault.TheVariants.{OutOfMemory,
 use Rattle.bz_engine.specs.declared.session.Stage.{Stage}
 use Rattle.bz_engine.specs.declared.session.Stage.TheVariants.{Going, Ended}
 use Rattle.bz_devices.specs.Device.{joined, ends, NoneEnds, Rises}
-use Rattle.bz_devices.specs.Ahead.{Ahead, IsReadOn, IsTooLong, IsUncertain}
+use Rattle.bz_devices.specs.Ahead.{Ahead, IsReadOn, AreNeeded, IsTooLong, IsUncertain}
 use Rattle.bz_engine.specs.EveryFile.{ForEveryFile}
 use Rattle.bz_passes.specs.Exchange.{no_slot, told, some_not_found, Fits}
 use Rattle.bz_engine.specs.Progress.{Progress, IsKeptOf}
@@ -98,9 +98,9 @@ pub record IsLeftByFault (Gave : List (List ℕ) → Type 0) (Took : List ℕ �
   pub read_ahead : IsReadOn old.options.max_reads old.ahead new.ahead read
   pub front : (pieces cs : List (List ℕ)) (text : List ℕ) → HasDone old pieces cs text → IsCutShort new (pieces ++ read) cs text shown
 
--- A next chunk that is sure to be too long is told as such, unless memory or a read failed.
+-- A next chunk that is sure to be too long is told as such, unless memory failed.
 abbrev pub IsRefused : {T : Type 0} → Result T RunFault → Type 0
-IsRefused result = (result ≡ Err OutOfMemory) ⊎ (result ≡ Err ReadFailed) ⊎ ((line : ℕ) × (result ≡ Err (StatementTooLong line)))
+IsRefused result = (result ≡ Err OutOfMemory) ⊎ ((line : ℕ) × (result ≡ Err (StatementTooLong line)))
 
 -- all that was kept
 abbrev pub told_of_progress : Package → Script → Progress → Told
@@ -158,8 +158,9 @@ pub record Steps {S W T : Type 0} (gave : S → List (List ℕ) → S → Type 0
       × (result ≢ Err WriteFailed → writes_failed sink_after ≡ writes_failed sink)
   -- Whatever is answered, the devices gave and took what reads and writes gave and took.
   pub devices : (read : List (List ℕ)) × (shown : List ℕ) × gave source read source_after × took sink shown sink_after
-  -- What stood ahead, and what was read then, is at most the longest chunk and one piece more.
-  pub bound : (read : List (List ℕ)) × gave source read source_after × (length (old.ahead.bytes ++ joined read) ≤ old.options.max_statement + 8192)
+  -- Each read was needed. What stood ahead, and what was read then, is at most the longest chunk and one piece more.
+  pub bound : (read : List (List ℕ)) × gave source read source_after × AreNeeded old.options.max_statement old.ahead.bytes read
+      × (length (old.ahead.bytes ++ joined read) ≤ old.options.max_statement + 8192)
   pub runs : result ≢ Err Stopped
 
 -- it can take a chunk

@@ -4,3 +4,4 @@ pub mod Edits
 pub mod Named
 pub mod Rows
 pub mod NextChunks
+pub mod Finds

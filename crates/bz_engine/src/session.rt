@@ -8,6 +8,7 @@ ghost use Rattle.bz_devices.specs.Ahead.{IsReadOn, IsNextChunk, IsTooLong, IsUnc
 ghost use Rattle.bz_engine.specs.Outcome.{told_by};
 ghost use Rattle.bz_engine.specs.private.ChunkFaults.{fault_at};
 ghost use Rattle.bz_engine.specs.private.Edits.{EditsChunk};
+ghost use Rattle.bz_engine.specs.private.Finds.{Finds};
 ghost use Rattle.bz_engine.specs.private.NextChunks.{IsNextEdited, IsFirstNext, CanTake};
 ghost use Rattle.bz_engine.specs.SessionValue.{at_start, run_in, IsSameRun, IsReady, IsRefused, AddsOne, EndsRun, Steps, told_at};
 ghost use Rattle.bz_engine.specs.declared.session.Stage.TheVariants.{Going, Ended, Stopped};
@@ -135,7 +136,7 @@ impl Session {
         // At the end nothing is written, and what the session tells is the outcome.
         ensures end { result ≡ Ok Step.End → self.old.stage ≡ Going → (end : _) × (self.new.stage ≡ Ended end)
             × EndsRun S.gave W.took source.old source.new sink.old sink.new self.old self.new end }
-        // A chunk that is taken fits. Where the next one is sure to be too long, that is told, or memory or a read failed.
+        // A chunk that is taken fits. Where the next one is sure to be too long, that is told, or memory failed.
         ensures refused { self.old.stage ≡ Going → result ≢ Ok Step.More
             → IsTooLong self.new.options.max_statement self.new.ahead → IsRefused result }
         // What was read and written, and what a fault tells.
@@ -222,7 +223,7 @@ impl Session {
         ensures more { result ≡ Ok Going → AddsOne S.gave W.took source.old source.new sink.old sink.new self.old self.new }
         ensures end { (end : _) → result ≡ Ok (Ended end)
             → EndsRun S.gave W.took source.old source.new sink.old sink.new self.old self.new end }
-        // Where the next chunk is sure to be too long, that is told, or memory or a read failed.
+        // Where the next chunk is sure to be too long, that is told, or memory failed.
         ensures refused { result ≢ Ok Going → IsTooLong self.new.options.max_statement self.new.ahead → IsRefused result }
         ensures steps { Steps S.gave S.failures W.took W.failures source.old source.new
             sink.old sink.new self.old self.new result }
@@ -269,23 +270,13 @@ impl Session {
         requires made { self.old.ahead.reads ≤ self.old.options.max_reads }
         requires ready { IsReady self.old }
         ensures same { self.new ≡ record self.old { ahead = self.new.ahead; progress = self.new.progress } }
-        ensures read { (pieces : List (List ℕ)) × S.gave source.old pieces source.new
-            × IsReadOn self.old.options.max_reads self.old.ahead self.new.ahead pieces }
-        ensures bound { length self.new.ahead.bytes ≤ self.old.options.max_statement + 8192 }
+        ensures finds { Finds S.gave S.failures self.old.options self.old.progress.line source.old source.new
+            self.old.ahead self.new.ahead result }
         ensures fits { OnOk result (Fits self.new.progress.kept self.new.passes) }
         ensures chunk { IfOk result (λ found. IfSome found
             (IsNextEdited self.old self.new text.old.items text.new.items)) }
         ensures none { IfOk result (λ found. IfNone found ((self.new.progress ≡ self.old.progress)
             × (self.new.ahead.bytes ≡ []) × IsTrue self.new.ahead.ended)) }
-        ensures too_long { result ≡ Err RunFault.InputTooLong
-            → (self.new.ahead.reads ≡ self.old.options.max_reads) × (self.new.ahead.ended ≡ false) }
-        ensures uncertain { result ≡ Err RunFault.InputTooLong
-            → IsUncertain self.new.ahead × (IsTooLong self.old.options.max_statement self.new.ahead → ⊥) }
-        ensures statement_too_long { (line : ℕ) → result ≡ Err (RunFault.StatementTooLong line)
-            → (line ≡ self.old.progress.line) × IsTooLong self.old.options.max_statement self.new.ahead }
-        ensures failed { result ≡ Err RunFault.ReadFailed → Rises (S.failures source.old) (S.failures source.new) }
-        ensures steady { result ≢ Err RunFault.ReadFailed → S.failures source.new ≡ S.failures source.old }
-        ensures runs { (result ≢ Err RunFault.Stopped) × (result ≢ Err RunFault.WriteFailed) }
     {
         let mut may_read = true;
         loop {
@@ -313,23 +304,13 @@ impl Session {
         requires ready { CanTake self.old }
         requires bound { length self.old.ahead.bytes ≤ self.old.options.max_statement + 8192 }
         ensures same { self.new ≡ record self.old { ahead = self.new.ahead; progress = self.new.progress } }
-        ensures read { (pieces : List (List ℕ)) × S.gave source.old pieces source.new
-            × IsReadOn self.old.options.max_reads self.old.ahead self.new.ahead pieces }
-        ensures bound { length self.new.ahead.bytes ≤ self.old.options.max_statement + 8192 }
+        ensures finds { Finds S.gave S.failures self.old.options self.old.progress.line source.old source.new
+            self.old.ahead self.new.ahead result }
         ensures fits { OnOk result (Fits self.new.progress.kept self.new.passes) }
         ensures chunk { IfOk result (λ found. IfSome found
             (IsNextEdited self.old self.new text.old.items text.new.items)) }
         ensures none { IfOk result (λ found. IfNone found ((self.new.progress ≡ self.old.progress)
             × (self.new.ahead.bytes ≡ []) × IsTrue self.new.ahead.ended)) }
-        ensures too_long { result ≡ Err RunFault.InputTooLong
-            → (self.new.ahead.reads ≡ self.old.options.max_reads) × (self.new.ahead.ended ≡ false) }
-        ensures uncertain { result ≡ Err RunFault.InputTooLong
-            → IsUncertain self.new.ahead × (IsTooLong self.old.options.max_statement self.new.ahead → ⊥) }
-        ensures statement_too_long { (line : ℕ) → result ≡ Err (RunFault.StatementTooLong line)
-            → (line ≡ self.old.progress.line) × IsTooLong self.old.options.max_statement self.new.ahead }
-        ensures failed { result ≡ Err RunFault.ReadFailed → Rises (S.failures source.old) (S.failures source.new) }
-        ensures steady { result ≢ Err RunFault.ReadFailed → S.failures source.new ≡ S.failures source.old }
-        ensures runs { (result ≢ Err RunFault.Stopped) × (result ≢ Err RunFault.WriteFailed) }
     {
         let line = self.progress.line;
         let Some(len) = find_chunk(&mut self.ahead, source, self.options, line)? else {
@@ -421,20 +402,9 @@ fn find_chunk<S: Source>(
     requires made { ahead.old.reads ≤ options.max_reads }
     requires few { IsFewAfter ahead.old }
     requires bound { length ahead.old.bytes ≤ options.max_statement + 8192 }
-    ensures read { (pieces : List (List ℕ)) × S.gave source.old pieces source.new
-        × IsReadOn options.max_reads ahead.old ahead.new pieces }
-    ensures bound { length ahead.new.bytes ≤ options.max_statement + 8192 }
+    ensures finds { Finds S.gave S.failures options line source.old source.new ahead.old ahead.new result }
     ensures chunk { IfOk result (λ found. IfSome found (IsNextChunk options.max_statement ahead.new)) }
     ensures none { IfOk result (λ found. IfNone found ((ahead.new.bytes ≡ []) × IsTrue ahead.new.ended)) }
-    ensures too_long { result ≡ Err RunFault.InputTooLong → (ahead.new.reads ≡ options.max_reads)
-        × (ahead.new.ended ≡ false) }
-    ensures uncertain { result ≡ Err RunFault.InputTooLong
-        → IsUncertain ahead.new × (IsTooLong options.max_statement ahead.new → ⊥) }
-    ensures statement_too_long { (at : ℕ) → result ≡ Err (RunFault.StatementTooLong at)
-        → (at ≡ line) × IsTooLong options.max_statement ahead.new }
-    ensures failed { result ≡ Err RunFault.ReadFailed → Rises (S.failures source.old) (S.failures source.new) }
-    ensures steady { result ≢ Err RunFault.ReadFailed → S.failures source.new ≡ S.failures source.old }
-    ensures runs { (result ≢ Err RunFault.Stopped) × (result ≢ Err RunFault.WriteFailed) }
 {
     let limits = Limits {
         statement: options.max_statement,
@@ -456,18 +426,9 @@ fn read_more<S: Source>(
     requires made { ahead.old.reads ≤ options.max_reads }
     requires part { IsPart ahead.old.bytes }
     requires few { length ahead.old.bytes ≤ 8192 }
-    ensures read { (pieces : List (List ℕ)) × S.gave source.old pieces source.new
-        × IsReadOn options.max_reads ahead.old ahead.new pieces }
-    ensures bound { length ahead.new.bytes ≤ options.max_statement + 8192 }
+    ensures finds { Finds S.gave S.failures options line source.old source.new ahead.old ahead.new result }
     ensures few { OnOk result (IsFewAfter ahead.new) }
-    ensures too_long { result ≡ Err RunFault.InputTooLong → (ahead.new.reads ≡ options.max_reads)
-        × (ahead.new.ended ≡ false) }
-    ensures uncertain { result ≡ Err RunFault.InputTooLong
-        → IsUncertain ahead.new × (IsTooLong options.max_statement ahead.new → ⊥) }
     ensures fitting { (at : ℕ) → result ≢ Err (RunFault.StatementTooLong at) }
-    ensures failed { result ≡ Err RunFault.ReadFailed → Rises (S.failures source.old) (S.failures source.new) }
-    ensures steady { result ≢ Err RunFault.ReadFailed → S.failures source.new ≡ S.failures source.old }
-    ensures runs { (result ≢ Err RunFault.Stopped) × (result ≢ Err RunFault.WriteFailed) }
 {
     let limits = Limits {
         statement: options.max_statement,

@@ -1,11 +1,12 @@
-use Rattle.std.proofs.Common.{◌∙◌, sym, ap, inl}
-use Rattle.std.specs.Prelude.{Err}
-use Rattle.bz_devices.proofs.PassedOn.{err_is}
-use Rattle.bz_devices.proofs.ChunkAhead.{fitting_ahead}
-use Rattle.bz_engine.proofs.Faults.{input_is}
+use Rattle.std.proofs.Common.{subst, sym, Err}
+use Rattle.bz_engine.specs.private.Finds.{Finds}
+use Rattle.bz_engine.proofs.Finds.{finds_as, finds_no}
 use Rattle.bz_engine.proofs.session.read_more.Goals as goal
 
-pub returns-in-Err-clause-uncertain : goal.returns-in-Err-clause-uncertain
-returns-in-Err-clause-uncertain g c told =
-    let there = c.in-Err.ensures.searches.open_ahead (inl (ap Err (input_is c.args.line c.in-Err.fault (sym c.fault_at.ensures ∙ err_is _ _ told)))) in
-    (there.undecided.uncertain, fitting_ahead c.args.options.max_statement c.read_on.new.ahead there.going there.undecided)
+pub returns-in-Ok-clause-finds : goal.returns-in-Ok-clause-finds
+returns-in-Ok-clause-finds g c = finds_as _ _ _ _ _ _ _ _ _ _ c.in-Ok.ensures.searches
+
+pub returns-in-Err-clause-finds : goal.returns-in-Err-clause-finds
+returns-in-Err-clause-finds g c =
+    subst (λ fault. Finds g.S.Source.gave g.S.Source.failures c.args.options c.args.line c.args.source.now c.read_on.new.source c.args.ahead.now c.read_on.new.ahead (Err fault))
+    (sym c.fault_at.ensures) (finds_no _ _ _ _ c.in-Err.fault _ _ _ _ c.in-Err.ensures.searches)

@@ -5,7 +5,7 @@ use Rattle.bz_engine.specs.declared.run_fault.RunFault.{RunFault}
 use Rattle.bz_engine.specs.declared.run_fault.RunFault.TheVariants.{InputTooLong, StatementTooLong, ReadFailed, Stopped, WriteFailed}
 use Rattle.bz_engine.specs.declared.report.End.TheVariants.{Whole, Syntax, FirstFailure}
 use Rattle.bz_engine.specs.declared.session.Stage.TheVariants.{Ended}
-use Rattle.bz_devices.specs.Ahead.{IsTooLong}
+use Rattle.bz_devices.specs.Ahead.{AreNeeded, IsTooLong}
 use Rattle.bz_engine.specs.Progress.{Progress}
 use Rattle.bz_engine.specs.private.NextChunks.{IsNextEdited}
 use Rattle.bz_engine.specs.SessionValue.{SessionValue, IsSameRun, IsReady, HasDone, IsLeftByFault, HasEnded}
@@ -24,7 +24,7 @@ use Rattle.bz_engine.proofs.session.Session.advance.Goals.{in-Done+in_ok-write-i
 pub returns-clause-more : goal.returns-clause-more
 returns-clause-more g c going pieces cs text before =
     let done = subst (λ v. HasDone v pieces cs text) (sym c.take_text-text.ensures.same) before in
-    let read = c.edit_next.ensures.read in
+    let read = c.edit_next.ensures.finds.read in
     let next = some_of (IsNextEdited c.take_text-text.new.self c.edit_next.new.self c.take_text-text.result.items c.edit_next.new.text.items) _ _ c.in_ok-len.ensures.chunk c.in-Some.is in
     elim c.match-edited.branch [
       | in-Done+in_ok-write-in-Done w ↦ record {
@@ -48,7 +48,7 @@ returns-clause-more g c going pieces cs text before =
 pub returns-clause-end : goal.returns-clause-end
 returns-clause-end g c end ended pieces cs text before =
     let done = subst (λ v. HasDone v pieces cs text) (sym c.take_text-text.ensures.same) before in
-    let read = c.edit_next.ensures.read in
+    let read = c.edit_next.ensures.finds.read in
     let next = some_of (IsNextEdited c.take_text-text.new.self c.edit_next.new.self c.take_text-text.result.items c.edit_next.new.text.items) _ _ c.in_ok-len.ensures.chunk c.in-Some.is in
     elim c.match-edited.branch [
       | in-Done+in_ok-write-in-Done w ↦ has_not_ended c.match-edited.stage end ended w.stage-is
@@ -81,7 +81,7 @@ returns-clause-end g c end ended pieces cs text before =
 pub returns-in_default-clause-end : goal.returns-in_default-clause-end
 returns-in_default-clause-end g c end ended pieces cs text before =
     let done = subst (λ v. HasDone v pieces cs text) (sym c.take_text-text.ensures.same) before in
-    let read = c.edit_next.ensures.read in
+    let read = c.edit_next.ensures.finds.read in
     let v = c.take_text-text.new.self in
     let mid = c.edit_next.new.self.ahead in
     let none = none_of ((c.edit_next.new.self.progress ≡ v.progress) × (mid.bytes ≡ []) × IsTrue mid.ended) _ c.in_ok-len.ensures.none c.in_default.is in
@@ -100,8 +100,8 @@ returns-in_err-len-clause-refused g c other long =
     let p = err_from_is_err_and fault.result fault.ensures.1 in
     let told = λ (e : RunFault) (h : fault.result ≡ Err e). c.in_err-len.was ∙ passed_on fault.result p.0 c.in_err-len.field-0.0 e p.1 p.2 h in
     let long_there = subst (λ v. IsTooLong v.options.max_statement c.edit_next.new.self.ahead) c.edit_next.ensures.same long in
-    refused_as fault.result p.0 p.1 (λ h. c.edit_next.ensures.runs.0 (told Stopped h)) (λ h. c.edit_next.ensures.runs.1 (told WriteFailed h))
-    (λ h. (c.edit_next.ensures.uncertain (told InputTooLong h)).1 long_there)
+    refused_as fault.result p.0 p.1 (λ h. c.edit_next.ensures.finds.runs.0 (told Stopped h)) (λ h. c.edit_next.ensures.finds.runs.1 (told WriteFailed h))
+    (λ h. (c.edit_next.ensures.finds.uncertain (told InputTooLong h)).1 long_there) (λ h. c.edit_next.ensures.finds.fitting (told ReadFailed h) long_there)
 
 pub returns-in_default-clause-refused : goal.returns-in_default-clause-refused
 returns-in_default-clause-refused g c other long =
@@ -152,7 +152,7 @@ returns-in_default-clause-ready g c going = goes_not_on (Ended Whole) Whole goin
 pub returns-clause-ready : goal.returns-clause-ready
 returns-clause-ready g c going =
     let before = subst IsReady (sym c.take_text-text.ensures.same) c.requires.ready in
-    let read = c.edit_next.ensures.read in
+    let read = c.edit_next.ensures.finds.read in
     let next = some_of (IsNextEdited c.take_text-text.new.self c.edit_next.new.self c.take_text-text.result.items c.edit_next.new.text.items) _ _ c.in_ok-len.ensures.chunk c.in-Some.is in
     elim c.match-edited.branch [
       | in-Done+in_ok-write-in-Done w ↦ subst IsReady (sym (c.self-2.view_is ∙ w.self-is))
@@ -273,16 +273,16 @@ pub returns-in_err-len-clause-steps : goal.returns-in_err-len-clause-steps
 returns-in_err-len-clause-steps g c =
     let fault = c.from_residual in
     let p = err_from_is_err_and fault.result fault.ensures.1 in
-    let read = c.edit_next.ensures.read in
+    let read = c.edit_next.ensures.finds.read in
     record {
       too_long = λ told pieces cs text before. let done = subst (λ v. HasDone v pieces cs text) (sym c.take_text-text.ensures.same) before in
           let same : (let fault : RunFault = InputTooLong in fault) ≡ c.in_err-len.field-0.0 = subst (λ r. IsErrAnd r (λ e. e ≡ c.in_err-len.field-0.0)) told c.from_residual.ensures.1 in
-          let full = c.edit_next.ensures.too_long (c.in_err-len.was ∙ ap Err (sym same)) in
+          let full = c.edit_next.ensures.finds.too_long (c.in_err-len.was ∙ ap Err (sym same)) in
           let all = too_long_there _ c.edit_next.new.self.ahead _ pieces cs read.0 text done read.2 full.0 full.1 in
           (read.0, read.1, subst (λ v. length (pieces ++ read.0) ≡ v.options.max_reads) (sym c.edit_next.ensures.same) all.0, all.1);
-      uncertain = λ told. let there = c.edit_next.ensures.uncertain (c.in_err-len.was ∙ passed_on fault.result p.0 c.in_err-len.field-0.0 InputTooLong p.1 p.2 told) in
+      uncertain = λ told. let there = c.edit_next.ensures.finds.uncertain (c.in_err-len.was ∙ passed_on fault.result p.0 c.in_err-len.field-0.0 InputTooLong p.1 p.2 told) in
           (there.0, λ long. there.1 (subst (λ v. IsTooLong v.options.max_statement c.edit_next.new.self.ahead) c.edit_next.ensures.same long));
-      statement_too_long = λ line told. let there = c.edit_next.ensures.statement_too_long line (c.in_err-len.was ∙ passed_on fault.result p.0 c.in_err-len.field-0.0 (StatementTooLong line) p.1 p.2 told) in
+      statement_too_long = λ line told. let there = c.edit_next.ensures.finds.statement_too_long line (c.in_err-len.was ∙ passed_on fault.result p.0 c.in_err-len.field-0.0 (StatementTooLong line) p.1 p.2 told) in
           (there.0 ∙ ap (λ v. v.progress.line) c.take_text-text.ensures.same, subst (λ v. IsTooLong v.options.max_statement c.edit_next.new.self.ahead) (sym c.edit_next.ensures.same) there.1);
       front = let Gave : List (List ℕ) → Type 0 = λ r. g.S.Source.gave c.args.source.now r c.edit_next.new.source in
           let Took : List ℕ → Type 0 = λ s. g.W.Sink.took c.args.sink.now s c.args.sink.now in
@@ -290,15 +290,15 @@ returns-in_err-len-clause-steps g c =
           (left_by_read Gave Took _ c.edit_next.new.self c.edit_next.new.self.ahead read.0 read.1 (g.met.W.Sink.took_nothing _) read.2 refl));
       unwritten = let same : c.from_residual.result ≢ Err WriteFailed → c.args.sink.now ≡ c.args.sink.now = λ other. refl in
           on_err _ same;
-      read_failed = λ told. c.edit_next.ensures.failed (c.in_err-len.was ∙ passed_on fault.result p.0 c.in_err-len.field-0.0 ReadFailed p.1 p.2 told);
-      write_failed = λ told. absurd (c.edit_next.ensures.runs.1 (c.in_err-len.was ∙ passed_on fault.result p.0 c.in_err-len.field-0.0 WriteFailed p.1 p.2 told));
+      read_failed = λ told. c.edit_next.ensures.finds.failed (c.in_err-len.was ∙ passed_on fault.result p.0 c.in_err-len.field-0.0 ReadFailed p.1 p.2 told);
+      write_failed = λ told. absurd (c.edit_next.ensures.finds.runs.1 (c.in_err-len.was ∙ passed_on fault.result p.0 c.in_err-len.field-0.0 WriteFailed p.1 p.2 told));
       steady = (
-        λ other. c.edit_next.ensures.steady (λ h. not_passed_on fault.result p.0 c.in_err-len.field-0.0 ReadFailed p.1 p.2 other (sym c.in_err-len.was ∙ h)),
+        λ other. c.edit_next.ensures.finds.steady (λ h. not_passed_on fault.result p.0 c.in_err-len.field-0.0 ReadFailed p.1 p.2 other (sym c.in_err-len.was ∙ h)),
         λ _. refl,
       );
       devices = (read.0, [], read.1, g.met.W.Sink.took_nothing _);
-      bound = (read.0, read.1, read_within _ _ c.edit_next.new.self.ahead _ read.0 c.take_text-text.ensures.same read.2 c.edit_next.ensures.bound);
-      runs = λ told. c.edit_next.ensures.runs.0 (c.in_err-len.was ∙ passed_on fault.result p.0 c.in_err-len.field-0.0 Stopped p.1 p.2 told);
+      bound = (read.0, read.1, subst (λ v. AreNeeded v.options.max_statement v.ahead.bytes read.0) c.take_text-text.ensures.same read.3, read_within _ _ c.edit_next.new.self.ahead _ read.0 c.take_text-text.ensures.same read.2 c.edit_next.ensures.finds.bound);
+      runs = λ told. c.edit_next.ensures.finds.runs.0 (c.in_err-len.was ∙ passed_on fault.result p.0 c.in_err-len.field-0.0 Stopped p.1 p.2 told);
     }
 
 pub returns-in_err-write-in-Done-clause-goes : goal.returns-in_err-write-in-Done-clause-goes
@@ -312,7 +312,7 @@ returns-in_err-write-in-Done-clause-steps g c =
     let fault = c.from_residual-in_err-write-in-Done in
     let p = err_from_is_err_and fault.result fault.ensures.1 in
     let is : fault.result ≡ Err WriteFailed = p.1 ∙ ap Err (p.2 ∙ err_is c.in_err-write-in-Done.field-0.0 WriteFailed c.in_err-write-in-Done.ensures.fault) in
-    let read = c.edit_next.ensures.read in
+    let read = c.edit_next.ensures.finds.read in
     record {
       too_long = λ told. unwritten_alone fault.result InputTooLong refl is told;
       uncertain = λ told. unwritten_alone fault.result InputTooLong refl is told;
@@ -329,10 +329,10 @@ returns-in_err-write-in-Done-clause-steps g c =
           on_err _ same;
       read_failed = λ told. unwritten_alone fault.result ReadFailed refl is told;
       write_failed = λ told. c.in_err-write-in-Done.ensures.failed;
-      steady = (λ _. c.edit_next.ensures.steady (λ h. ok_is_no_err _ _ ReadFailed c.in_ok-len.was h), λ other. absurd (other is));
+      steady = (λ _. c.edit_next.ensures.finds.steady (λ h. ok_is_no_err _ _ ReadFailed c.in_ok-len.was h), λ other. absurd (other is));
       devices = let shown = c.write.ensures.devices in
           (read.0, shown.0, read.1, shown.1);
-      bound = (read.0, read.1, read_within _ _ c.edit_next.new.self.ahead _ read.0 c.take_text-text.ensures.same read.2 c.edit_next.ensures.bound);
+      bound = (read.0, read.1, subst (λ v. AreNeeded v.options.max_statement v.ahead.bytes read.0) c.take_text-text.ensures.same read.3, read_within _ _ c.edit_next.new.self.ahead _ read.0 c.take_text-text.ensures.same read.2 c.edit_next.ensures.finds.bound);
       runs = λ told. unwritten_alone fault.result Stopped refl is told;
     }
 
@@ -342,7 +342,7 @@ returns-in_default-clause-goes g c =
 
 pub returns-in_default-clause-steps : goal.returns-in_default-clause-steps
 returns-in_default-clause-steps g c =
-    let read = c.edit_next.ensures.read in
+    let read = c.edit_next.ensures.finds.read in
     record {
       too_long = λ told. absurd (ok_is_no_err _ _ InputTooLong refl told);
       uncertain = λ told. absurd (ok_is_no_err _ _ InputTooLong refl told);
@@ -351,9 +351,9 @@ returns-in_default-clause-steps g c =
       unwritten = tt;
       read_failed = λ told. absurd (ok_is_no_err _ _ ReadFailed refl told);
       write_failed = λ told. absurd (ok_is_no_err _ _ WriteFailed refl told);
-      steady = (λ _. c.edit_next.ensures.steady (λ h. ok_is_no_err _ _ ReadFailed c.in_ok-len.was h), λ _. refl);
+      steady = (λ _. c.edit_next.ensures.finds.steady (λ h. ok_is_no_err _ _ ReadFailed c.in_ok-len.was h), λ _. refl);
       devices = (read.0, [], read.1, g.met.W.Sink.took_nothing _);
-      bound = (read.0, read.1, read_within _ _ c.edit_next.new.self.ahead _ read.0 c.take_text-text.ensures.same read.2 c.edit_next.ensures.bound);
+      bound = (read.0, read.1, subst (λ v. AreNeeded v.options.max_statement v.ahead.bytes read.0) c.take_text-text.ensures.same read.3, read_within _ _ c.edit_next.new.self.ahead _ read.0 c.take_text-text.ensures.same read.2 c.edit_next.ensures.finds.bound);
       runs = λ told. ok_is_no_err _ _ _ refl told;
     }
 
@@ -367,7 +367,7 @@ returns-clause-goes g c =
 
 pub returns-clause-steps : goal.returns-clause-steps
 returns-clause-steps g c =
-    let read = c.edit_next.ensures.read in
+    let read = c.edit_next.ensures.finds.read in
     record {
       too_long = λ told. absurd (ok_is_no_err _ _ InputTooLong refl told);
       uncertain = λ told. absurd (ok_is_no_err _ _ InputTooLong refl told);
@@ -377,7 +377,7 @@ returns-clause-steps g c =
       read_failed = λ told. absurd (ok_is_no_err _ _ ReadFailed refl told);
       write_failed = λ told. absurd (ok_is_no_err _ _ WriteFailed refl told);
       steady = (
-        λ _. c.edit_next.ensures.steady (λ h. ok_is_no_err _ _ ReadFailed c.in_ok-len.was h),
+        λ _. c.edit_next.ensures.finds.steady (λ h. ok_is_no_err _ _ ReadFailed c.in_ok-len.was h),
         λ _. elim c.match-edited.branch [
           | in-Done+in_ok-write-in-Done w ↦ ap g.W.Sink.failures w.sink-is ∙ w.in_ok-write-in-Done.ensures.steady
           | in-Faulty w ↦ ap g.W.Sink.failures w.sink-is
@@ -391,6 +391,6 @@ returns-clause-steps g c =
         | in-Faulty w ↦ (read.0, [], read.1, subst (λ s. g.W.Sink.took c.args.sink.now [] s) (sym w.sink-is) (g.met.W.Sink.took_nothing _))
         | in-Failed w ↦ (read.0, [], read.1, subst (λ s. g.W.Sink.took c.args.sink.now [] s) (sym w.sink-is) (g.met.W.Sink.took_nothing _))
       ];
-      bound = (read.0, read.1, read_within _ _ c.edit_next.new.self.ahead _ read.0 c.take_text-text.ensures.same read.2 c.edit_next.ensures.bound);
+      bound = (read.0, read.1, subst (λ v. AreNeeded v.options.max_statement v.ahead.bytes read.0) c.take_text-text.ensures.same read.3, read_within _ _ c.edit_next.new.self.ahead _ read.0 c.take_text-text.ensures.same read.2 c.edit_next.ensures.finds.bound);
       runs = λ told. ok_is_no_err _ _ _ refl told;
     }

@@ -1,83 +1,74 @@
-use Rattle.std.proofs.Common.{◌≤◌, ◌+◌, ◌++◌, ◌∙◌, [], length, refl, sym, ap, subst, arith}
+use Rattle.std.proofs.Common.{Bool, Some, ◌≡◌, ◌∙◌, refl, sym, ap, subst, arith, Ok, Err}
 use Rattle.std.proofs.lemmas.Bool.{false≢true}
 use Rattle.std.proofs.lemmas.Result.{err_from_is_err_and}
-use Rattle.bz_devices.specs.Ahead.{IsTooLong}
-use Rattle.bz_devices.proofs.PassedOn.{passed_on}
-use Rattle.bz_devices.proofs.ReadOn.{read_nothing, read_then}
-use Rattle.bz_devices.specs.Ahead.{IsReadOn}
 use Rattle.bz_engine.specs.contracts.session.Session.{the_view}
-use Rattle.bz_engine.specs.declared.run_fault.RunFault.TheVariants.{InputTooLong, ReadFailed}
-use Rattle.bz_engine.specs.SessionValue.{SessionValue}
+use Rattle.bz_engine.specs.private.Finds.{Finds}
 use Rattle.bz_engine.specs.private.NextChunks.{IsFirstNext, CanTake}
+use Rattle.bz_engine.specs.Progress.{Progress}
+use Rattle.bz_engine.specs.SessionValue.{SessionValue}
+use Rattle.bz_engine.proofs.Finds.{finds_nothing, finds_found, finds_then, finds_failed, finds_memory}
 use Rattle.bz_engine.proofs.Kept.{take_read, take_ready}
-use Rattle.bz_engine.proofs.Runs.{ok_is_no_err}
-use Rattle.bz_engine.proofs.Stages.{read_also, options_on, read_alone}
+use Rattle.bz_engine.proofs.Stages.{read_alone, passed_over}
 use Rattle.bz_engine.proofs.session.Session.edit_next.Goals as goal
+use Rattle.bz_engine.proofs.session.Session.edit_next.Goals.{in_default-via-in-Short+else-may_read, in_default-via-in_default}
 
 pub loop-next-init : goal.loop-next-init
-loop-next-init g c = (
-  [],
-  record {
-    gave = g.met.S.Source.gave_nothing _;
-    read = read_nothing c.args.self.now.options.max_reads c.args.self.now.ahead c.requires.made;
-    same = refl;
-    text = refl;
-    take = take_ready c.args.self.now c.requires.ready;
-    bound = omega (arith, c.requires.ready.few);
-    steady = refl;
-    few = λ e. c.requires.ready.few;
-  },
-)
+loop-next-init g c = record {
+  finds = finds_nothing _ _ _ _ _ _ _ (g.met.S.Source.gave_nothing _) c.requires.made (omega (arith, c.requires.ready.few));
+  same = refl;
+  text = refl;
+  take = take_ready c.args.self.now c.requires.ready;
+  few = λ e. c.requires.ready.few;
+}
 
-pub returns-in_err-read_more-in-Short-clause-read : goal.returns-in_err-read_more-in-Short-clause-read
-returns-in_err-read_more-in-Short-clause-read g c =
+pub returns-in_err-next-clause-finds : goal.returns-in_err-next-clause-finds
+returns-in_err-next-clause-finds g c =
+    let p = err_from_is_err_and c.from_residual.result c.from_residual.ensures.1 in
+    let v = c.args.self.now in
+    subst (λ a. Finds g.S.Source.gave g.S.Source.failures v.options v.progress.line c.args.source.now c.loop-next.source v.ahead a c.from_residual.result)
+    (sym (ap (λ x. x.ahead) c.edit_first.ensures.same))
+    (finds_memory _ _ _ _ _ _ _ _ _ _ (p.1 ∙ ap Err p.2) c.loop-next.invariant.finds)
+
+pub returns-in-Edited-clause-finds : goal.returns-in-Edited-clause-finds
+returns-in-Edited-clause-finds g c =
+    let v = c.args.self.now in
+    subst (λ a. Finds g.S.Source.gave g.S.Source.failures v.options v.progress.line c.args.source.now c.loop-next.source v.ahead a (Ok (Some c.in-Edited.next)))
+    (sym (ap (λ x. x.ahead) c.edit_first.ensures.same))
+    (finds_found _ _ _ _ _ _ _ _ _ _ c.loop-next.invariant.finds)
+
+pub returns-in_err-read_more-in-Short-clause-finds : goal.returns-in_err-read_more-in-Short-clause-finds
+returns-in_err-read_more-in-Short-clause-finds g c =
+    let v = c.args.self.now in
+    let l = c.loop-next.self in
+    let w = c.edit_first.new.self in
     let inv = c.loop-next.invariant in
-    let read = c.read_more.ensures.read in (
-      inv.0 ++ read.0,
-      g.met.S.Source.gave_more _ _ _ _ _ inv.1.gave read.1,
-      read_also c.args.self.now c.loop-next.self c.edit_first.new.self _ c.read_more.new.ahead inv.0 read.0 inv.1.same c.edit_first.ensures.same (ap the_view c.self-inside.view_is ∙ c.self.view_is) inv.1.read read.2,
-    )
-
-pub returns-in_err-read_more-in-Short-clause-uncertain : goal.returns-in_err-read_more-in-Short-clause-uncertain
-returns-in_err-read_more-in-Short-clause-uncertain g c told =
+    let there = ap the_view c.self-inside.view_is ∙ c.self.view_is in
+    let short = subst (IsFirstNext l w c.loop-next.text.items c.edit_first.new.text.items) c.in-Short.is c.in_ok-next.ensures.first in
+    let at : Progress → SessionValue = λ p. record l { progress = p } in
+    let is = there ∙ c.edit_first.ensures.same ∙ ap at short.1 ∙ inv.same in
     let fault = c.from_residual-in_err-read_more-in-Short in
     let p = err_from_is_err_and fault.result fault.ensures.1 in
-    let there = c.read_more.ensures.uncertain (c.in_err-read_more-in-Short.was ∙ passed_on fault.result p.0 c.in_err-read_more-in-Short.field-0.0 InputTooLong p.1 p.2 told) in
-    let same = options_on c.args.self.now c.loop-next.self c.edit_first.new.self _ c.loop-next.invariant.1.same c.edit_first.ensures.same (ap the_view c.self-inside.view_is ∙ c.self.view_is) in
-    (there.0, λ long. there.1 (subst (λ o. IsTooLong o.max_statement c.read_more.new.ahead) (sym same) long))
+    finds_then _ _ _ _ _ _ _ _ _ _ _ _ g.met.S.Source.gave_more inv.finds
+    (finds_failed _ _ _ _ _ p.0 c.in_err-read_more-in-Short.field-0.0 _ _ _ _ p.1 p.2
+    (subst (λ x. Finds {T = Bool} g.S.Source.gave g.S.Source.failures x.options x.progress.line c.loop-next.source c.read_more.new.source x.ahead c.read_more.new.ahead (Err c.in_err-read_more-in-Short.field-0.0))
+    is c.in_err-read_more-in-Short.ensures.finds))
 
-pub returns-then-not-branch-clause-read : goal.returns-then-not-branch-clause-read
-returns-then-not-branch-clause-read g c =
-    let inv = c.loop-next.invariant in
+pub returns-then-not-branch-clause-finds : goal.returns-then-not-branch-clause-finds
+returns-then-not-branch-clause-finds g c =
     let v = c.args.self.now in
-    let read = c.read_more.ensures.read in
-    let more = c.edit_found.ensures.read in
-    let there = ap the_view c.self-inside.view_is ∙ c.self.view_is in
-    let same = options_on v c.loop-next.self c.edit_first.new.self _ inv.1.same c.edit_first.ensures.same there in (
-      (inv.0 ++ read.0) ++ more.0,
-      g.met.S.Source.gave_more _ _ _ _ _ (g.met.S.Source.gave_more _ _ _ _ _ inv.1.gave read.1) more.1,
-      read_then v.options.max_reads v.ahead c.read_more.new.ahead c.edit_found.new.self.ahead (inv.0 ++ read.0) more.0
-          (read_also v c.loop-next.self c.edit_first.new.self _ c.read_more.new.ahead inv.0 read.0 inv.1.same c.edit_first.ensures.same there inv.1.read read.2)
-          (subst (λ o. IsReadOn o.max_reads c.read_more.new.ahead c.edit_found.new.self.ahead more.0) same more.2),
-    )
-
-pub returns-then-not-branch-clause-uncertain : goal.returns-then-not-branch-clause-uncertain
-returns-then-not-branch-clause-uncertain g c told =
-    let there = c.edit_found.ensures.uncertain told in
-    let same = options_on c.args.self.now c.loop-next.self c.edit_first.new.self _ c.loop-next.invariant.1.same c.edit_first.ensures.same (ap the_view c.self-inside.view_is ∙ c.self.view_is) in
-    (there.0, λ long. there.1 (subst (λ o. IsTooLong o.max_statement c.edit_found.new.self.ahead) (sym same) long))
-
-pub returns-then-not-branch-clause-statement_too_long : goal.returns-then-not-branch-clause-statement_too_long
-returns-then-not-branch-clause-statement_too_long g c line told =
-    let inv = c.loop-next.invariant.1 in
+    let l = c.loop-next.self in
     let w = c.edit_first.new.self in
+    let inv = c.loop-next.invariant in
     let there = ap the_view c.self-inside.view_is ∙ c.self.view_is in
-    let long = c.edit_found.ensures.statement_too_long line told in
-    let same = options_on c.args.self.now c.loop-next.self w _ inv.same c.edit_first.ensures.same there in
-    let short = subst (IsFirstNext c.loop-next.self w c.loop-next.text.items c.edit_first.new.text.items) c.in-Short.is c.in_ok-next.ensures.first in (
-      long.0 ∙ ap (λ x. x.progress.line) there ∙ ap (λ p. p.line) short.1 ∙ ap (λ x. x.progress.line) inv.same,
-      subst (λ o. IsTooLong o.max_statement c.edit_found.new.self.ahead) same long.1,
-    )
+    let short = subst (IsFirstNext l w c.loop-next.text.items c.edit_first.new.text.items) c.in-Short.is c.in_ok-next.ensures.first in
+    let at : Progress → SessionValue = λ p. record l { progress = p } in
+    let is = there ∙ c.edit_first.ensures.same ∙ ap at short.1 ∙ inv.same in
+    finds_then _ _ _ _ _ _ _ _ _ _ _ _ g.met.S.Source.gave_more inv.finds
+    (finds_then _ _ _ _ c.in_ok-read_more-in-Short.field-0 _ _ _ _ _ _ _ g.met.S.Source.gave_more
+    (subst (λ x. Finds g.S.Source.gave g.S.Source.failures x.options x.progress.line c.loop-next.source c.read_more.new.source x.ahead c.read_more.new.ahead (Ok c.in_ok-read_more-in-Short.field-0))
+    is c.in_ok-read_more-in-Short.ensures.finds)
+    (subst (λ x. Finds g.S.Source.gave g.S.Source.failures x.options x.progress.line c.read_more.new.source c.edit_found.new.source c.read_more.new.ahead c.edit_found.new.self.ahead c.edit_found.result)
+    is c.edit_found.ensures.finds))
 
 pub loop-next-preserved : goal.loop-next-preserved
 loop-next-preserved g c =
@@ -86,37 +77,34 @@ loop-next-preserved g c =
     let w = c.edit_first.new.self in
     let mid = c.read_more.new.ahead in
     let inv = c.loop-next.invariant in
-    let read = c.read_more.ensures.read in
     let there = ap the_view c.self-inside.view_is ∙ c.self.view_is in
     let short = subst (IsFirstNext l w c.loop-next.text.items c.edit_first.new.text.items) c.in-Short.is c.in_ok-next.ensures.first in
-    let alone = read_alone v l w _ mid inv.1.same c.edit_first.ensures.same short.1 there in
-    let same = options_on v l w _ inv.1.same c.edit_first.ensures.same there in
+    let at : Progress → SessionValue = λ p. record l { progress = p } in
+    let is = there ∙ c.edit_first.ensures.same ∙ ap at short.1 ∙ inv.same in
+    let alone = read_alone v l w _ mid inv.same c.edit_first.ensures.same short.1 there in
     let before : SessionValue = record v { ahead = l.ahead } in
-    let on : IsReadOn v.options.max_reads l.ahead mid read.0 = subst (λ o. IsReadOn o.max_reads l.ahead mid read.0) (ap (λ x. x.options) inv.1.same) (subst (λ x. IsReadOn x.options.max_reads x.ahead mid read.0) (there ∙ c.edit_first.ensures.same) read.2) in (
-      inv.0 ++ read.0,
-      record {
-        gave = g.met.S.Source.gave_more _ _ _ _ _ inv.1.gave read.1;
-        read = read_then v.options.max_reads v.ahead l.ahead mid inv.0 read.0 inv.1.read on;
-        same = alone;
-        text = short.2 ∙ inv.1.text;
-        take = subst CanTake (sym alone) (take_read before mid v.options.max_reads read.0 (subst CanTake inv.1.same inv.1.take) on c.in_ok-read_more-in-Short.ensures.few);
-        bound = subst (λ o. length mid.bytes ≤ o.max_statement + 8192) same c.read_more.ensures.bound;
-        steady = c.read_more.ensures.steady (λ h. ok_is_no_err _ _ ReadFailed c.in_ok-read_more-in-Short.was h) ∙ inv.1.steady;
-        few = λ e. absurd (false≢true e);
-      },
-    )
+    let found = subst (λ x. Finds g.S.Source.gave g.S.Source.failures x.options x.progress.line c.loop-next.source c.read_more.new.source x.ahead mid (Ok c.in_ok-read_more-in-Short.field-0))
+    is c.in_ok-read_more-in-Short.ensures.finds in
+    record {
+      finds = finds_found _ _ _ _ _ _ _ _ _ _ (finds_then _ _ _ _ _ _ _ _ _ _ _ _ g.met.S.Source.gave_more inv.finds found);
+      same = alone;
+      text = short.2 ∙ inv.text;
+      take = subst CanTake (sym alone) (take_read before mid v.options.max_reads found.read.0 (subst CanTake inv.same inv.take) found.read.2 c.in_ok-read_more-in-Short.ensures.few);
+      few = λ e. absurd (false≢true e);
+    }
 
-pub returns-in_default-clause-read : goal.returns-in_default-clause-read
-returns-in_default-clause-read g c =
+pub returns-in_default-clause-finds : goal.returns-in_default-clause-finds
+returns-in_default-clause-finds g c =
+    let l = c.loop-next.self in
+    let w = c.edit_first.new.self in
     let inv = c.loop-next.invariant in
-    let more = c.edit_found-in_default.ensures.read in (
-      inv.0 ++ more.0,
-      g.met.S.Source.gave_more _ _ _ _ _ inv.1.gave more.1,
-      read_also c.args.self.now c.loop-next.self c.edit_first.new.self c.edit_first.new.self c.edit_found-in_default.new.self.ahead inv.0 more.0 inv.1.same c.edit_first.ensures.same refl inv.1.read more.2,
-    )
-
-pub returns-in_default-clause-uncertain : goal.returns-in_default-clause-uncertain
-returns-in_default-clause-uncertain g c told =
-    let there = c.edit_found-in_default.ensures.uncertain told in
-    let same = options_on c.args.self.now c.loop-next.self c.edit_first.new.self c.edit_first.new.self c.loop-next.invariant.1.same c.edit_first.ensures.same refl in
-    (there.0, λ long. there.1 (subst (λ o. IsTooLong o.max_statement c.edit_found-in_default.new.self.ahead) (sym same) long))
+    let first = c.in_ok-next.ensures.first in
+    let same : w.progress ≡ l.progress = elim c.in_default.branch [
+      | in_default-via-in-Short+else-may_read b ↦ (subst (IsFirstNext l w c.loop-next.text.items c.edit_first.new.text.items) b.in-Short.is first).1
+      | in_default-via-in_default b ↦ passed_over l w _ _ c.in_ok-next.field-0 first b.in_default.not-Edited
+    ] in
+    let at : Progress → SessionValue = λ p. record l { progress = p } in
+    let is = c.edit_first.ensures.same ∙ ap at same ∙ inv.same in
+    finds_then _ _ _ _ _ _ _ _ _ _ _ _ g.met.S.Source.gave_more inv.finds
+    (subst (λ x. Finds g.S.Source.gave g.S.Source.failures x.options x.progress.line c.loop-next.source c.edit_found-in_default.new.source x.ahead c.edit_found-in_default.new.self.ahead c.edit_found-in_default.result)
+    is c.edit_found-in_default.ensures.finds)

@@ -5,7 +5,7 @@ use Rattle.bz_engine.specs.declared.run_fault.RunFault.{RunFault}
 use Rattle.bz_engine.specs.declared.run_fault.RunFault.TheVariants.{InputTooLong, StatementTooLong, ReadFailed, WriteFailed}
 use Rattle.bz_engine.specs.declared.session.Stage.TheVariants.{Going, Stopped}
 use Rattle.bz_devices.specs.Device.{joined}
-use Rattle.bz_devices.specs.Ahead.{IsTooLong}
+use Rattle.bz_devices.specs.Ahead.{AreNeeded, IsTooLong}
 use Rattle.bz_engine.specs.SessionValue.{HasDone, IsLeftByFault, HasEnded}
 use Rattle.bz_devices.proofs.PassedOn.{passed_on, not_passed_on}
 use Rattle.bz_engine.proofs.Faults.{refused_on, not_refused}
@@ -211,7 +211,7 @@ returns-in_err-self-inside-clause-steps g c going =
           (λ other. c.advance.ensures.steps.steady.0 (same ReadFailed other), λ other. c.advance.ensures.steps.steady.1 (same WriteFailed other));
       devices = c.advance.ensures.steps.devices;
       bound = let few = c.advance.ensures.steps.bound in
-          (few.0, few.1, subst (λ v. length (v.ahead.bytes ++ joined few.0) ≤ v.options.max_statement + 8192) c.self.view_is few.2);
+          (few.0, few.1, subst (λ v. AreNeeded v.options.max_statement v.ahead.bytes few.0) c.self.view_is few.2, subst (λ v. length (v.ahead.bytes ++ joined few.0) ≤ v.options.max_statement + 8192) c.self.view_is few.3);
       runs = λ told. c.advance.ensures.steps.runs (c.in_err-self-inside.was ∙ passed_on fault.result p.0 c.in_err-self-inside.field-0.0 _ p.1 p.2 told);
     }
 
@@ -249,7 +249,7 @@ returns-clause-steps g c going = record {
       (λ _. c.advance.ensures.steps.steady.0 (λ h. ok_is_no_err _ _ ReadFailed was h), λ _. c.advance.ensures.steps.steady.1 (λ h. ok_is_no_err _ _ WriteFailed was h));
   devices = c.advance.ensures.steps.devices;
   bound = let few = c.advance.ensures.steps.bound in
-      (few.0, few.1, subst (λ v. length (v.ahead.bytes ++ joined few.0) ≤ v.options.max_statement + 8192) c.self.view_is few.2);
+      (few.0, few.1, subst (λ v. AreNeeded v.options.max_statement v.ahead.bytes few.0) c.self.view_is few.2, subst (λ v. length (v.ahead.bytes ++ joined few.0) ≤ v.options.max_statement + 8192) c.self.view_is few.3);
   runs = λ told. elim c.match-self-2.branch [
     | in-Going-stage w ↦ ok_is_no_err c.match-self-2.result _ _ w.result-is told
     | in_default w ↦ ok_is_no_err c.match-self-2.result _ _ w.result-is told
