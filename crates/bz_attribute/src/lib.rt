@@ -12,7 +12,6 @@ mod head_parts;
 mod list_labels;
 mod lists;
 mod make;
-mod marks;
 mod next_argument;
 mod place;
 mod row_args;
@@ -32,7 +31,6 @@ pub use lists::{elements_at, first_part, is_attribute, is_list, next_part};
 pub use make::{
     argument, list, literal, push_argument, push_string, segment, string, strings, token,
 };
-pub use marks::is_kind;
 pub use next_argument::next_place;
 pub use place::{Place, all_arguments, place_of};
 pub use row_args::{Parts, push_stmt, read_arguments, splice};

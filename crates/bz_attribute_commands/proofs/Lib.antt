@@ -1,6 +1,5 @@
 pub mod ArgumentEdits
 pub mod CommentEdits
-pub mod KindEdits
 pub mod KindWritten
 pub mod LineWritten
 pub mod Printed

@@ -1,34 +1,21 @@
-//! `comment`: a line above a rule, an argument or an element.
+//! `comment`: a line above an argument or an element.
 
-ghost use Rattle.std.specs.Prelude.{◌≡◌, ◌++◌, ◌∷◌, [], false, string_bytes, option_map, IfOk, IfSome, IfNone, IsOk, OnOk, OnErr, None, true};
+ghost use Rattle.std.specs.Prelude.{◌≡◌, ◌++◌, ◌∷◌, [], false, string_bytes, IfOk, IfSome, IfNone, OnOk, OnErr, None, true};
 ghost use Rattle.std.specs.List.{list_any};
-ghost use Rattle.bz_tree.specs.View.{node_view, nodes_view, segs_view, slot_view, texts};
+ghost use Rattle.bz_tree.specs.View.{node_view, nodes_view, segs_view, texts};
 ghost use Rattle.bz_attribute.specs.Lists.{edit_list, equals, parts};
 ghost use Rattle.bz_attribute.specs.Rules.{elements};
-ghost use Rattle.bz_attribute.specs.Effects.{done, edit_first, holds_rule, is_absent};
+ghost use Rattle.bz_attribute.specs.Effects.{done, edit_first, is_absent};
 ghost use Rattle.bz_attribute_commands.specs.private.CommentPlaces.{IsFirstIn};
 ghost use Rattle.bz_attribute_commands.specs.private.CommentPlaces as place;
 ghost use Rattle.bz_attribute.specs.Comment as spec;
 
 use bz_attribute::equals::equals;
-use bz_attribute::{Done, Env, Executed, Note, call_at, elements_at, find, first_part, next_part};
+use bz_attribute::{Done, Env, Executed, Note, elements_at, find, first_part, next_part};
 use bz_command::{Commented, Package, Text};
-use bz_tree::{Node, Seg, Stmt};
+use bz_tree::{Node, Seg};
 use std::alloc::{AllocError, Global};
 use std::borrow::CowStr;
-
-/// Adds a comment line above a rule. An `Err` leaves all as it was.
-pub fn comment_rule(alloc: Global, text: &str, slot: &mut Option<Stmt<'_>>) -> Executed
-    ensures slot { OnOk result (slot_view slot.new ≡ option_map (spec.comment_rule text.now) (slot_view slot.old)) }
-    ensures done { IfOk result (λ d. d ≡ done None (holds_rule (slot_view slot.old))) }
-    ensures no_rule { holds_rule (slot_view slot.old) ≡ false → IsOk result }
-    ensures err { OnErr result (slot_view slot.new ≡ slot_view slot.old) }
-{
-    match slot {
-        Some(stmt) if call_at(&stmt.nodes).is_some() => push_line(alloc, text, &mut stmt.before),
-        _ => Ok(Done::quiet(false)),
-    }
-}
 
 /// Adds a comment line above an argument or an element of one; for one above the rule it does nothing. An `Err` leaves
 /// all as it was.

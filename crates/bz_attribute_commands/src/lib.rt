@@ -2,9 +2,7 @@
 #![tactic(auto)]
 
 pub mod comment;
-pub mod kind;
 pub mod line;
-pub mod name;
 pub mod print;
 pub mod rename;
 pub mod set;

@@ -17,7 +17,6 @@ use std::alloc::{AllocError, Global};
 /// Adds a comment line above the rule that has these parts. The parts that it then has go into `out`.
 pub fn comment_rule<'a>(
     alloc: Global,
-    bump: &'a Bump,
     text: &str,
     parts: &[Part<'a>],
     out: &mut Vec<Part<'a>, &'a Bump>,
@@ -27,6 +26,7 @@ pub fn comment_rule<'a>(
     ensures done { IfOk result (λ told. told ≡ done None true) }
 {
     let line = comment_line(alloc, text)?;
+    let bump = *out.allocator();
     let line = bump.try_alloc_str(line.as_str())?;
     write_line(line, kind_place(parts).from, parts, out)?;
     Ok(Done::quiet(true))
@@ -36,7 +36,6 @@ pub fn comment_rule<'a>(
 /// into `out`.
 pub fn comment_attribute<'a>(
     alloc: Global,
-    bump: &'a Bump,
     attr: &str,
     text: &str,
     parts: &[Part<'a>],
@@ -52,6 +51,7 @@ pub fn comment_attribute<'a>(
         return Done::no_attribute(alloc, attr);
     };
     let line = comment_line(alloc, text)?;
+    let bump = *out.allocator();
     let line = bump.try_alloc_str(line.as_str())?;
     write_line(line, at, parts, out)?;
     Ok(Done::quiet(true))

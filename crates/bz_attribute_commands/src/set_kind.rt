@@ -1,52 +1,56 @@
 //! `set kind`: other tokens before the call of a rule.
 
-ghost use Rattle.std.specs.Prelude.{◌≡◌, ◌-◌, ◌++◌, ◌∷◌, [], None, false, length, drop, option_map, IfOk, IsOk, OnOk, OnErr};
-ghost use Rattle.bz_tree.specs.Tree.{leaf};
-ghost use Rattle.bz_tree.specs.View.{nodes_view, slot_view};
-ghost use Rattle.bz_attribute.specs.Rules.{rule_of};
-ghost use Rattle.bz_attribute.specs.Effects.{holds_rule};
+ghost use Rattle.std.specs.Prelude.{◌≡◌, ◌++◌, IfOk, IsOk, OnOk, Some, bytes_eq, map, true};
+ghost use Rattle.bz_tree.specs.Tree.{Statement, items_of};
+ghost use Rattle.bz_tree.specs.Rows.{items_parts, part_view, parts_of};
+ghost use Rattle.bz_attribute.specs.RowPlaces.{IsRuleRow};
+ghost use Rattle.bz_attribute.specs.Rules.{Rule, kind_text};
 ghost use Rattle.bz_attribute.specs.Set as spec;
 
-use bz_attribute::{Done, Executed, is_kind, rule_of, token};
+use bumpalo::Bump;
+use bz_attribute::{Done, Executed, kind_place};
 use bz_command::cut;
 use bz_token::Kind;
-use bz_tree::{Node, Stmt};
-use std::alloc::{AllocError, Global};
+use bz_tree::Part;
+use std::alloc::AllocError;
 
-/// Sets the kind of a rule. Where nothing is to be changed it succeeds. An `Err` leaves the slot as it was.
-pub fn set_kind(alloc: Global, kind: &str, slot: &mut Option<Stmt<'_>>) -> Executed
-    ensures slot { OnOk result (slot_view slot.new ≡ option_map (spec.with_kind kind.now) (slot_view slot.old)) }
-    ensures done { IfOk result (λ done. done ≡ spec.sets_kind_of kind.now (slot_view slot.old)) }
-    ensures no_rule { holds_rule (slot_view slot.old) ≡ false → IsOk result }
-    ensures unchanged { (spec.sets_kind_of kind.now (slot_view slot.old)).changed ≡ false → IsOk result }
-    ensures err { OnErr result (slot_view slot.new ≡ slot_view slot.old) }
+/// Sets the kind of the rule that has these parts, where it has another one. The parts that it then has go into `out`.
+pub fn set_kind<'a>(
+    kind: &str,
+    old_kind: &str,
+    parts: &[Part<'a>],
+    out: &mut Vec<Part<'a>, &'a Bump>,
+) -> Executed
+    ensures parts { IfOk result (λ done. done.changed ≡ true
+        → (s : Statement) (r : Rule) → IsRuleRow s r (map part_view parts.now) → kind_text r.kind ≡ old_kind.now
+        → map part_view out.new.items ≡ parts_of (spec.with_kind kind.now s)) }
+    ensures done { IfOk result (λ done. (s : Statement) (r : Rule) → IsRuleRow s r (map part_view parts.now)
+        → kind_text r.kind ≡ old_kind.now → done ≡ spec.sets_kind_of kind.now (Some s)) }
+    ensures unchanged { bytes_eq old_kind.now kind.now ≡ true → IsOk result }
 {
-    let Some(stmt) = slot else {
+    if old_kind == kind {
         return Ok(Done::quiet(false));
-    };
-    match rule_of(&stmt.nodes) {
-        Some(rule) if !is_kind(rule.kind, kind) => {}
-        _ => return Ok(Done::quiet(false)),
     }
-    let mut nodes = kind_nodes(alloc, kind)?;
-    nodes.reserve(1)?;
-    if let Some(call) = stmt.nodes.pop() {
-        nodes.push_reserved(call);
-    }
-    stmt.nodes = nodes;
+    let bump = *out.allocator();
+    let kind = bump.try_alloc_str(kind)?;
+    let place = kind_place(parts);
+    out.clear();
+    out.extend_from_slice(&parts[..place.from])?;
+    push_kind(kind, out)?;
+    out.extend_from_slice(&parts[place.to..])?;
     Ok(Done::quiet(true))
 }
 
-// The tokens of a kind.
-fn kind_nodes<'a>(alloc: Global, mut kind: &str) -> Result<Vec<Node<'a>>, AllocError>
-    ensures { IfOk result (λ nodes. nodes_view nodes.items ≡ spec.kind_items kind.now) }
+// Appends the tokens of a kind.
+fn push_kind<'a>(mut kind: &'a str, out: &mut Vec<Part<'a>, &'a Bump>) -> Result<(), AllocError>
+    ensures { OnOk result (map part_view out.new.items
+        ≡ map part_view out.old.items ++ items_parts (items_of (spec.kind_items kind.now))) }
 {
-    let mut nodes = Vec::new(alloc);
     while let Some((name, rest)) = cut(kind, '.') {
-        nodes.push(token(alloc, Kind::Identifier, name)?)?;
-        nodes.push(token(alloc, Kind::Operator, ".")?)?;
+        out.push(Part::Token(Kind::Identifier, name))?;
+        out.push(Part::Token(Kind::Operator, "."))?;
         kind = rest;
     }
-    nodes.push(token(alloc, Kind::Identifier, kind)?)?;
-    Ok(nodes)
+    out.push(Part::Token(Kind::Identifier, kind))?;
+    Ok(())
 }

@@ -1,12 +1,12 @@
 //! The commands on one rule: what each is, and which code carries it out.
 
-ghost use Rattle.std.specs.Prelude.{◌≡◌, IfOk, OnOk, OnErr};
+ghost use Rattle.std.specs.Prelude.{◌≡◌, IfOk, OnOk, OnErr, true};
 ghost use Rattle.bz_tree.specs.View.{segs_view};
 ghost use Rattle.bz_rule.specs.Commands as spec;
+ghost use Rattle.bz_rule.specs.private.RowEdits.{edits_arguments};
 
 use bz_attribute::{Done, Env, Executed};
 use bz_attribute_commands::comment::comment;
-use bz_attribute_commands::rename::rename;
 use bz_attribute_commands::set::{set, set_if_absent};
 use bz_command::{Attributes, Commented, Field, Moved, Package, Seq, Setting, Text};
 use bz_list_commands::add::add;
@@ -118,6 +118,7 @@ pub(crate) fn in_args(
     home: &Package,
     args: &mut Vec<Seg<'_>>,
 ) -> Executed
+    requires { edits_arguments command.now ≡ true }
     ensures args { OnOk result
         (segs_view args.new.items ≡ spec.args_after command.now home.now (segs_view args.old.items)) }
     ensures done { IfOk result (λ done. done ≡ spec.args_done command.now home.now (segs_view args.old.items)) }
@@ -133,7 +134,6 @@ pub(crate) fn in_args(
         Action::SetIfAbsent(attr, values) => {
             set_if_absent(alloc, attr.as_str(), values.as_slice(), args)
         }
-        Action::Rename(old, new) => rename(alloc, old.as_str(), new.as_str(), args),
         Action::Move(old, new, moved) => {
             move_elements(env, old.as_str(), new.as_str(), moved, args)
         }

@@ -17,9 +17,9 @@ ghost use Rattle.bz_rule.specs.private.RowEdits.{IsPlaceFor, edits_arguments, is
 use crate::command::{Action, Command, in_args};
 use bumpalo::Bump;
 use bz_attribute::{Done, Env, Executed, Parts, Place, all_arguments, place_of, read_arguments, splice};
-use bz_attribute_commands::kind::set_kind;
 use bz_attribute_commands::line::{comment_attribute, comment_rule};
-use bz_attribute_commands::name::rename;
+use bz_attribute_commands::rename::rename;
+use bz_attribute_commands::set_kind::set_kind;
 use bz_command::{Attributes, Commented, Setting, Text};
 use bz_list_commands::add_in_row::add_in_row;
 use bz_list_commands::remove_attribute::remove_attribute;
@@ -205,14 +205,14 @@ pub(crate) fn edit_rule<'a>(
     let RuleParts { kind, parts } = rule;
     match &command.action {
         Action::Set(Setting::ToKind(new_kind)) => {
-            set_kind(bump, new_kind.as_str(), kind, parts, new)
+            set_kind(new_kind.as_str(), kind, parts, new)
         }
-        Action::Rename(old, to) => rename(env.alloc, bump, old.as_str(), to.as_str(), parts, new),
+        Action::Rename(old, to) => rename(env.alloc, old.as_str(), to.as_str(), parts, new),
         Action::Comment(Commented::Rule, text) => {
-            comment_rule(env.alloc, bump, text.as_str(), parts, new)
+            comment_rule(env.alloc, text.as_str(), parts, new)
         }
         Action::Comment(Commented::Attribute(attr), text) => {
-            comment_attribute(env.alloc, bump, attr.as_str(), text.as_str(), parts, new)
+            comment_attribute(env.alloc, attr.as_str(), text.as_str(), parts, new)
         }
         _ => edit_arguments(env, bump, command, parts, new),
     }

@@ -55,6 +55,7 @@ is_edit _ = true
 abbrev pub edits_arguments : Command → Bool
 edits_arguments (Set (ToKind kind)) = false
 edits_arguments (Comment Above text) = false
+edits_arguments (Rename old new) = false
 edits_arguments c = is_edit c
 
 -- that rule
