@@ -34,10 +34,12 @@ fn head_key<'a>(head: Option<Head<'a>>) -> Key<'a>
     ensures { (s : Statement) → HasHead head.entry s → spec.HasKey s result }
 {
     match head {
-        Some(Head {
-            name: Some(name),
-            ..
-        }) => Key::Name(name),
+        Some(
+            Head {
+                name: Some(name),
+                ..
+            },
+        ) => Key::Name(name),
         _ => Key::NoName,
     }
 }

@@ -16,7 +16,9 @@ ghost use Rattle.bz_rule.specs.private.RowEdits.{IsPlaceFor, edits_arguments, is
 
 use crate::command::{Action, Command, in_args};
 use bumpalo::Bump;
-use bz_attribute::{Done, Env, Executed, Parts, Place, all_arguments, place_of, read_arguments, splice};
+use bz_attribute::{
+    Done, Env, Executed, Parts, Place, all_arguments, place_of, read_arguments, splice,
+};
 use bz_attribute_commands::line::{comment_attribute, comment_rule};
 use bz_attribute_commands::rename::rename;
 use bz_attribute_commands::set_kind::set_kind;
@@ -204,9 +206,7 @@ pub(crate) fn edit_rule<'a>(
 {
     let RuleParts { kind, parts } = rule;
     match &command.action {
-        Action::Set(Setting::ToKind(new_kind)) => {
-            set_kind(new_kind.as_str(), kind, parts, new)
-        }
+        Action::Set(Setting::ToKind(new_kind)) => { set_kind(new_kind.as_str(), kind, parts, new) }
         Action::Rename(old, to) => rename(env.alloc, old.as_str(), to.as_str(), parts, new),
         Action::Comment(Commented::Rule, text) => {
             comment_rule(env.alloc, text.as_str(), parts, new)
