@@ -14,8 +14,8 @@ use Rattle.bz_token.specs.declared.cutter.scan.Quote.{Quote}
 use Rattle.bz_token.specs.declared.cutter.scan.Quote.TheVariants.{Single, Double}
 use Rattle.bz_token.specs.declared.cutter.scan.LineKind.{LineKind}
 use Rattle.bz_token.specs.declared.cutter.scan.LineKind.TheVariants.{Blank, Statement}
-use Rattle.bz_token.specs.declared.cutter.scan.Inside.{Inside}
-use Rattle.bz_token.specs.declared.cutter.scan.Inside.TheVariants.{Plain, Ended, Backslash, BackslashReturn, Comment, Opened, OpenedTwice, Short, ShortEscape, ShortEscapeReturn, Long, LongQuote, LongTwoQuotes, LongEscape}
+use Rattle.bz_token.specs.declared.cutter.scan.CutState.{CutState}
+use Rattle.bz_token.specs.declared.cutter.scan.CutState.TheVariants.{Plain, Ended, Backslash, BackslashReturn, Comment, Opened, OpenedTwice, Short, ShortEscape, ShortEscapeReturn, Long, LongQuote, LongTwoQuotes, LongEscape}
 use Rattle.bz_token.specs.declared.cutter.scan.Scan.{Scan}
 use Rattle.bz_token.specs.private.CutSteps.{is_ended, byte_of, at, outside, in_short, in_long, next_in, next, start, run, with_comment}
 use Rattle.bz_token.specs.Pieces.{is_quote}
@@ -36,15 +36,15 @@ use Rattle.bz_token.proofs.Unique.{blank_class, nothing_unknown}
 use Rattle.bz_token.specs.Reading.{is_white, is_gap, continues_gap, feeds_gap, Piece, IsReading, open_after, AreTokensOf}
 
 -- the cutter stands here, whatever line it is in
-pub record IsAt (s : Scan) (inside : Inside) (depth : ℕ) : Type 0 where
+pub record IsAt (s : Scan) (inside : CutState) (depth : ℕ) : Type 0 where
   pub inside_is : s.inside ≡ inside
   pub depth_is : s.depth ≡ depth
 
-pub stands : (inside : Inside) (depth : ℕ) (kind : LineKind) → IsAt (at inside depth kind) inside depth
+pub stands : (inside : CutState) (depth : ℕ) (kind : LineKind) → IsAt (at inside depth kind) inside depth
 stands inside depth kind = record { inside_is = refl; depth_is = refl }
 
 -- a step from where it stands
-pub step_from : (s : Scan) (inside : Inside) (depth : ℕ) (b : ℕ) → IsAt s inside depth → (kind : LineKind) × (next s b ≡ next_in inside depth kind b)
+pub step_from : (s : Scan) (inside : CutState) (depth : ℕ) (b : ℕ) → IsAt s inside depth → (kind : LineKind) × (next s b ≡ next_in inside depth kind b)
 step_from s inside depth b h = (s.kind, λ i. next_in (h.inside_is i) (h.depth_is i) s.kind b)
 
 -- letters, digits and underscores
@@ -80,7 +80,7 @@ words_run (x ∷ xs) s d h all =
     words_run xs (next s x) d (subst (λ t. IsAt t Plain d) (sym (moved.1 ∙ word_step d moved.0 x parts.0)) (stands Plain d Statement)) parts.1
 
 -- where a long string's scan stands
-abbrev pub long_state : Quote → ℕ → Escape → Inside
+abbrev pub long_state : Quote → ℕ → Escape → CutState
 long_state q row AfterBackslash = LongEscape q
 long_state q row AfterReturn = Long q
 long_state q zero Unescaped = Long q
@@ -103,7 +103,7 @@ pub quote_plain : (q : Quote) (x : ℕ) → (x == byte_of q) ≡ true → (x == 
 quote_plain q x hit = ap (λ y. y == 92) (eqb-true x (byte_of q) hit) ∙ no_backslash q
 
 -- where the next quote of a long string leads
-abbrev pub row_target : Quote → ℕ → Inside
+abbrev pub row_target : Quote → ℕ → CutState
 row_target q zero = LongQuote q
 row_target q (suc zero) = LongTwoQuotes q
 row_target q (suc (suc row)) = Plain
@@ -113,19 +113,19 @@ long_next q zero d k x = refl
 long_next q (suc zero) d k x = refl
 long_next q (suc (suc row)) d k x = refl
 
-pub in_long_quote : (t : Inside) (q : Quote) (d : ℕ) (k : LineKind) (x : ℕ) → (x == byte_of q) ≡ true → in_long t q d k x ≡ at t d k
+pub in_long_quote : (t : CutState) (q : Quote) (d : ℕ) (k : LineKind) (x : ℕ) → (x == byte_of q) ≡ true → in_long t q d k x ≡ at t d k
 in_long_quote t q d k x h = rw h refl
 
-pub in_long_escape : (t : Inside) (q : Quote) (d : ℕ) (k : LineKind) (x : ℕ) → (x == byte_of q) ≡ false → (x == 92) ≡ true → in_long t q d k x ≡ at (LongEscape q) d k
+pub in_long_escape : (t : CutState) (q : Quote) (d : ℕ) (k : LineKind) (x : ℕ) → (x == byte_of q) ≡ false → (x == 92) ≡ true → in_long t q d k x ≡ at (LongEscape q) d k
 in_long_escape t q d k x h e = rw (h, e) refl
 
-pub in_long_plain : (t : Inside) (q : Quote) (d : ℕ) (k : LineKind) (x : ℕ) → (x == byte_of q) ≡ false → (x == 92) ≡ false → in_long t q d k x ≡ at (Long q) d k
+pub in_long_plain : (t : CutState) (q : Quote) (d : ℕ) (k : LineKind) (x : ℕ) → (x == byte_of q) ≡ false → (x == 92) ≡ false → in_long t q d k x ≡ at (Long q) d k
 in_long_plain t q d k x h e = rw (h, e) refl
 
-pub moves : (s : Scan) (from to : Inside) (d x : ℕ) → IsAt s from d → ((k : LineKind) → next_in from d k x ≡ at to d k) → IsAt (next s x) to d
+pub moves : (s : Scan) (from to : CutState) (d x : ℕ) → IsAt s from d → ((k : LineKind) → next_in from d k x ≡ at to d k) → IsAt (next s x) to d
 moves s from to d x h step = let m = step_from s from d x h in subst (λ t. IsAt t to d) (sym (m.1 ∙ step m.0)) (stands to d m.0)
 
-empty_run : (xs : List ℕ) (s : Scan) (i : Inside) (d : ℕ) → is_empty xs ≡ true → IsAt s i d → IsAt (run s xs) i d
+empty_run : (xs : List ℕ) (s : Scan) (i : CutState) (d : ℕ) → is_empty xs ≡ true → IsAt s i d → IsAt (run s xs) i d
 empty_run [] s i d e h = h
 empty_run (x ∷ xs) s i d e h = absurd (false≢true e)
 
@@ -295,7 +295,7 @@ ready_first s d b bs (comments h blank) visible = elim (cases_Bool (is_newline b
   | inr other ↦ absurd (false≢true (sym visible ∙ (and_parts (is_blank b) (list_all is_blank (take (prefix_len (λ c. not (is_newline c)) bs) bs)) (rw (other, one-add) at blank)).0))
 ]
 
-pub not_ended : (s : Scan) (i : Inside) (d : ℕ) → IsAt s i d → is_ended i ≡ false → is_ended s.inside ≡ true → ⊥
+pub not_ended : (s : Scan) (i : CutState) (d : ℕ) → IsAt s i d → is_ended i ≡ false → is_ended s.inside ≡ true → ⊥
 not_ended s i d h none ended = false≢true (sym none ∙ ap is_ended (sym h.inside_is) ∙ ended)
 
 blank_step : (d : ℕ) (k : LineKind) (b : ℕ) → is_blank b ≡ true → outside d k b ≡ at Plain d k

@@ -10,7 +10,7 @@ use Rattle.bz_token.specs.declared.token.Kind.TheVariants.{String}
 use Rattle.bz_token.specs.declared.cutter.scan.Scan.{Scan}
 use Rattle.bz_token.specs.declared.cutter.scan.LineKind.{LineKind}
 use Rattle.bz_token.specs.declared.cutter.scan.LineKind.TheVariants.{Blank}
-use Rattle.bz_token.specs.declared.cutter.scan.Inside.TheVariants.{Plain}
+use Rattle.bz_token.specs.declared.cutter.scan.CutState.TheVariants.{Plain}
 use Rattle.bz_token.specs.private.CutSteps.{is_ended, outside, next, start, run}
 use Rattle.bz_token.specs.Cuts.{EndsBefore, ends_in_newline}
 use Rattle.bz_token.specs.Places.{Placed}

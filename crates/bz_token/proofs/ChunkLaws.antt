@@ -4,26 +4,26 @@ use Rattle.std.proofs.lemmas.Bool.{cases_Bool}
 use Rattle.std.specs.List.{concat}
 use Rattle.bz_token.specs.declared.cutter.scan.LineKind.TheVariants.{Blank}
 use Rattle.bz_token.specs.declared.cutter.scan.Scan.{Scan}
-use Rattle.bz_token.specs.declared.cutter.block.Stage.{Stage}
-use Rattle.bz_token.specs.declared.cutter.block.Stage.TheVariants.{Comments}
+use Rattle.bz_token.specs.declared.cutter.block.ChunkPhase.{ChunkPhase}
+use Rattle.bz_token.specs.declared.cutter.block.ChunkPhase.TheVariants.{Comments}
 use Rattle.bz_token.specs.Chunks.{chunks}
-use Rattle.bz_token.specs.private.Stages.{stage_after, takes}
+use Rattle.bz_token.specs.private.Phases.{phase_after, takes}
 use Rattle.bz_token.specs.Cuts.{ends_in_newline}
 use Rattle.bz_token.specs.private.CutSteps.{is_ended, line_here, seen_chunks, outside, next, start}
 use Rattle.bz_token.proofs.CutMachine.{ended_restarts}
 use Rattle.bz_token.proofs.CutLaws.{EndsRight, ends_right, first_word, same_takes, chunk_step, chunk_goes, chunk_cut, chunks_seen, chunks_are}
 
 -- the first chunk that the steps find
-record FirstCut (s : Scan) (stage : Stage) (before part bytes : List ℕ) : Type 0 where
+record FirstCut (s : Scan) (phase : ChunkPhase) (before part bytes : List ℕ) : Type 0 where
   front : List ℕ
   rest : List ℕ
   bytes_are : bytes ≡ front ++ rest
-  chunks_are : seen_chunks s stage before part bytes ≡ ((before ++ part) ++ front) ∷ chunks_seen rest
-  alone : seen_chunks s stage before part front ≡ ((before ++ part) ++ front) ∷ []
+  chunks_are : seen_chunks s phase before part bytes ≡ ((before ++ part) ++ front) ∷ chunks_seen rest
+  alone : seen_chunks s phase before part front ≡ ((before ++ part) ++ front) ∷ []
   ends : (rest ≡ []) ⊎ ((xs : List ℕ) × (part ++ front ≡ xs ++ 10 ∷ []))
 
-first_cut : (bytes : List ℕ) (s : Scan) (stage : Stage) (before part : List ℕ) → EndsRight s part → FirstCut s stage before part bytes
-first_cut [] s stage before part right = record {
+first_cut : (bytes : List ℕ) (s : Scan) (phase : ChunkPhase) (before part : List ℕ) → EndsRight s part → FirstCut s phase before part bytes
+first_cut [] s phase before part right = record {
   front = [];
   rest = [];
   bytes_are = refl;
@@ -31,31 +31,31 @@ first_cut [] s stage before part right = record {
   alone = ap (λ c. c ∷ []) (sym (append-nil (before ++ part)));
   ends = inl refl;
 }
-first_cut (b ∷ bs) s stage before part right = elim (cases_Bool (is_ended s.inside)) [
+first_cut (b ∷ bs) s phase before part right = elim (cases_Bool (is_ended s.inside)) [
   | inr inside ↦
-      let f = first_cut bs (next s b) stage before (part ++ b ∷ []) (ends_right s part b) in
+      let f = first_cut bs (next s b) phase before (part ++ b ∷ []) (ends_right s part b) in
       let whole : (before ++ (part ++ b ∷ [])) ++ f.front ≡ (before ++ part) ++ b ∷ f.front = simp append_assoc in
       record {
         front = b ∷ f.front;
         rest = f.rest;
         bytes_are = ap (λ t. b ∷ t) f.bytes_are;
-        chunks_are = chunk_step s stage before part b bs inside ∙ f.chunks_are ∙ ap (λ c. c ∷ chunks_seen f.rest) whole;
-        alone = chunk_step s stage before part b f.front inside ∙ f.alone ∙ ap (λ c. c ∷ []) whole;
+        chunks_are = chunk_step s phase before part b bs inside ∙ f.chunks_are ∙ ap (λ c. c ∷ chunks_seen f.rest) whole;
+        alone = chunk_step s phase before part b f.front inside ∙ f.alone ∙ ap (λ c. c ∷ []) whole;
         ends = elim f.ends [ inl none ↦ inl none | inr e ↦ inr (e.0, sym (append_assoc part (b ∷ []) f.front) ∙ e.1) ];
       }
-  | inl ended ↦ elim (cases_Bool (takes (stage_after stage (line_here s part)) (b ∷ bs))) [
+  | inl ended ↦ elim (cases_Bool (takes (phase_after phase (line_here s part)) (b ∷ bs))) [
     | inl goes ↦
-        let f = first_cut bs (next s b) (stage_after stage (line_here s part)) (before ++ part) (b ∷ []) (ends_right s [] b) in
+        let f = first_cut bs (next s b) (phase_after phase (line_here s part)) (before ++ part) (b ∷ []) (ends_right s [] b) in
         let whole : ((before ++ part) ++ b ∷ []) ++ f.front ≡ (before ++ part) ++ b ∷ f.front = append_assoc (before ++ part) (b ∷ []) f.front in
-        let here : takes (stage_after stage (line_here s part)) (b ∷ f.front) ≡ true =
-        same_takes (stage_after stage (line_here s part)) b f.front (f.front ++ f.rest) (first_word b f.front f.rest f.ends)
-        ∙ ap (λ t. takes (stage_after stage (line_here s part)) (b ∷ t)) (sym f.bytes_are) ∙ goes in
+        let here : takes (phase_after phase (line_here s part)) (b ∷ f.front) ≡ true =
+        same_takes (phase_after phase (line_here s part)) b f.front (f.front ++ f.rest) (first_word b f.front f.rest f.ends)
+        ∙ ap (λ t. takes (phase_after phase (line_here s part)) (b ∷ t)) (sym f.bytes_are) ∙ goes in
         record {
           front = b ∷ f.front;
           rest = f.rest;
           bytes_are = ap (λ t. b ∷ t) f.bytes_are;
-          chunks_are = chunk_goes s stage before part b bs ended goes ∙ f.chunks_are ∙ ap (λ c. c ∷ chunks_seen f.rest) whole;
-          alone = chunk_goes s stage before part b f.front ended here ∙ f.alone ∙ ap (λ c. c ∷ []) whole;
+          chunks_are = chunk_goes s phase before part b bs ended goes ∙ f.chunks_are ∙ ap (λ c. c ∷ chunks_seen f.rest) whole;
+          alone = chunk_goes s phase before part b f.front ended here ∙ f.alone ∙ ap (λ c. c ∷ []) whole;
           ends = elim f.ends [ inl none ↦ inl none | inr e ↦ inr (part ++ e.0, ap (λ t. part ++ t) e.1 ∙ sym (append_assoc part e.0 (10 ∷ []))) ];
         }
     | inr stops ↦
@@ -65,7 +65,7 @@ first_cut (b ∷ bs) s stage before part right = elim (cases_Bool (is_ended s.in
           rest = b ∷ bs;
           bytes_are = refl;
           chunks_are =
-              chunk_cut s stage before part b bs ended stops
+              chunk_cut s phase before part b bs ended stops
               ∙ (λ i. sym (append-nil (before ++ part)) i ∷ seen_chunks (ended_restarts s.inside s.depth s.kind b ended i) Comments [] (b ∷ []) bs);
           alone = ap (λ c. c ∷ []) (sym (append-nil (before ++ part)));
           ends = inr (r.0, append-nil part ∙ r.1);
@@ -102,13 +102,13 @@ first_chunk b bs =
     }
 
 -- nothing is lost
-kept : (bytes : List ℕ) (s : Scan) (stage : Stage) (before part : List ℕ) → concat (seen_chunks s stage before part bytes) ≡ (before ++ part) ++ bytes
-kept [] s stage before part = refl
-kept (b ∷ bs) s stage before part = elim (cases_Bool (is_ended s.inside)) [
-  | inr inside ↦ ap concat (chunk_step s stage before part b bs inside) ∙ kept bs (next s b) stage before (part ++ b ∷ []) ∙ simp append_assoc
-  | inl ended ↦ elim (cases_Bool (takes (stage_after stage (line_here s part)) (b ∷ bs))) [
-    | inl goes ↦ ap concat (chunk_goes s stage before part b bs ended goes) ∙ kept bs (next s b) (stage_after stage (line_here s part)) (before ++ part) (b ∷ []) ∙ append_assoc (before ++ part) (b ∷ []) bs
-    | inr stops ↦ ap concat (chunk_cut s stage before part b bs ended stops) ∙ ap (λ t. (before ++ part) ++ t) (kept bs (next s b) Comments [] (b ∷ []))
+kept : (bytes : List ℕ) (s : Scan) (phase : ChunkPhase) (before part : List ℕ) → concat (seen_chunks s phase before part bytes) ≡ (before ++ part) ++ bytes
+kept [] s phase before part = refl
+kept (b ∷ bs) s phase before part = elim (cases_Bool (is_ended s.inside)) [
+  | inr inside ↦ ap concat (chunk_step s phase before part b bs inside) ∙ kept bs (next s b) phase before (part ++ b ∷ []) ∙ simp append_assoc
+  | inl ended ↦ elim (cases_Bool (takes (phase_after phase (line_here s part)) (b ∷ bs))) [
+    | inl goes ↦ ap concat (chunk_goes s phase before part b bs ended goes) ∙ kept bs (next s b) (phase_after phase (line_here s part)) (before ++ part) (b ∷ []) ∙ append_assoc (before ++ part) (b ∷ []) bs
+    | inr stops ↦ ap concat (chunk_cut s phase before part b bs ended stops) ∙ ap (λ t. (before ++ part) ++ t) (kept bs (next s b) Comments [] (b ∷ []))
   ]
 ]
 

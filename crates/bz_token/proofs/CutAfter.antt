@@ -5,12 +5,12 @@ use Rattle.bz_token.specs.declared.cutter.scan.LineKind.{LineKind}
 use Rattle.bz_token.specs.declared.cutter.scan.LineKind.TheVariants.{Blank, CommentLine, Statement}
 use Rattle.bz_token.specs.declared.cutter.scan.Scan.{Scan}
 use Rattle.bz_token.specs.declared.cutter.block.Opener.{Opener}
-use Rattle.bz_token.specs.declared.cutter.block.Stage.{Stage}
-use Rattle.bz_token.specs.declared.cutter.block.Stage.TheVariants.{Comments, InBlock, Done}
+use Rattle.bz_token.specs.declared.cutter.block.ChunkPhase.{ChunkPhase}
+use Rattle.bz_token.specs.declared.cutter.block.ChunkPhase.TheVariants.{Comments, InBlock, Done}
 use Rattle.bz_token.specs.declared.cutter.Cutter.{Cutter}
 use Rattle.bz_token.specs.Blocks.{word_at, opener, opener_of, goes_on}
 use Rattle.bz_token.specs.Chunks.{chunks}
-use Rattle.bz_token.specs.private.Stages.{stage_after, stage_step, takes}
+use Rattle.bz_token.specs.private.Phases.{phase_after, phase_step, takes}
 use Rattle.bz_token.specs.Cuts.{is_physical_line, ends_in_newline, EndsBefore}
 use Rattle.bz_token.specs.private.CutSteps.{is_ended, is_broken, is_blank_kind, line_here, seen_chunks, outside, next, start, run, head_after, moved, fresh, between}
 use Rattle.bz_token.specs.CutterState.{Takes, IsAfter}
@@ -18,41 +18,41 @@ use Rattle.bz_token.proofs.CutMachine.{ended_restarts, run_depth, quiet_before, 
 use Rattle.bz_token.proofs.CutLaws.{chunk_step, chunk_goes, chunk_cut, chunks_are, same_takes}
 use Rattle.bz_token.proofs.CutHeads.{word_of_line, header}
 
-pub over : (bs rest : List ℕ) (s : Scan) (stage : Stage) (before part : List ℕ) → quiet_before s bs ≡ true → seen_chunks s stage before part (bs ++ rest) ≡ seen_chunks (run s bs) stage before (part ++ bs) rest
-over [] rest s stage before part h = ap (λ t. seen_chunks s stage before t rest) (sym (append-nil part))
-over (b ∷ bs) rest s stage before part h =
+pub over : (bs rest : List ℕ) (s : Scan) (phase : ChunkPhase) (before part : List ℕ) → quiet_before s bs ≡ true → seen_chunks s phase before part (bs ++ rest) ≡ seen_chunks (run s bs) phase before (part ++ bs) rest
+over [] rest s phase before part h = ap (λ t. seen_chunks s phase before t rest) (sym (append-nil part))
+over (b ∷ bs) rest s phase before part h =
     let parts = and_parts (not (is_ended s.inside)) (quiet_before (next s b) bs) h in
-    chunk_step s stage before part b (bs ++ rest) (not-true _ parts.0) ∙ over bs rest (next s b) stage before (part ++ b ∷ []) parts.1
-    ∙ ap (λ t. seen_chunks (run (next s b) bs) stage before t rest) (append_assoc part (b ∷ []) bs)
+    chunk_step s phase before part b (bs ++ rest) (not-true _ parts.0) ∙ over bs rest (next s b) phase before (part ++ b ∷ []) parts.1
+    ∙ ap (λ t. seen_chunks (run (next s b) bs) phase before t rest) (append_assoc part (b ∷ []) bs)
 
 -- the first chunk begins with what was seen
-pub begins : (bs : List ℕ) (s : Scan) (stage : Stage) (before part : List ℕ) → (more : List ℕ) × (cs : List (List ℕ)) × (seen_chunks s stage before part bs ≡ ((before ++ part) ++ more) ∷ cs)
-begins [] s stage before part = ([], [], ap (λ t. t ∷ []) (sym (append-nil (before ++ part))))
-begins (b ∷ bs) s stage before part = elim (cases_Bool (is_ended s.inside)) [
+pub begins : (bs : List ℕ) (s : Scan) (phase : ChunkPhase) (before part : List ℕ) → (more : List ℕ) × (cs : List (List ℕ)) × (seen_chunks s phase before part bs ≡ ((before ++ part) ++ more) ∷ cs)
+begins [] s phase before part = ([], [], ap (λ t. t ∷ []) (sym (append-nil (before ++ part))))
+begins (b ∷ bs) s phase before part = elim (cases_Bool (is_ended s.inside)) [
   | inr inside ↦
-      let r = begins bs (next s b) stage before (part ++ b ∷ []) in
-      (b ∷ r.0, r.1, chunk_step s stage before part b bs inside ∙ r.2 ∙ ap (λ t. t ∷ r.1) (simp append_assoc))
-  | inl ended ↦ elim (cases_Bool (takes (stage_after stage (line_here s part)) (b ∷ bs))) [
+      let r = begins bs (next s b) phase before (part ++ b ∷ []) in
+      (b ∷ r.0, r.1, chunk_step s phase before part b bs inside ∙ r.2 ∙ ap (λ t. t ∷ r.1) (simp append_assoc))
+  | inl ended ↦ elim (cases_Bool (takes (phase_after phase (line_here s part)) (b ∷ bs))) [
     | inl goes ↦
-        let r = begins bs (next s b) (stage_after stage (line_here s part)) (before ++ part) (b ∷ []) in
-        (b ∷ r.0, r.1, chunk_goes s stage before part b bs ended goes ∙ r.2 ∙ ap (λ t. t ∷ r.1) (append_assoc (before ++ part) (b ∷ []) r.0))
-    | inr stops ↦ ([], seen_chunks (next s b) Comments [] (b ∷ []) bs, chunk_cut s stage before part b bs ended stops ∙ ap (λ t. t ∷ seen_chunks (next s b) Comments [] (b ∷ []) bs) (sym (append-nil (before ++ part))))
+        let r = begins bs (next s b) (phase_after phase (line_here s part)) (before ++ part) (b ∷ []) in
+        (b ∷ r.0, r.1, chunk_goes s phase before part b bs ended goes ∙ r.2 ∙ ap (λ t. t ∷ r.1) (append_assoc (before ++ part) (b ∷ []) r.0))
+    | inr stops ↦ ([], seen_chunks (next s b) Comments [] (b ∷ []) bs, chunk_cut s phase before part b bs ended stops ∙ ap (λ t. t ∷ seen_chunks (next s b) Comments [] (b ∷ []) bs) (sym (append-nil (before ++ part))))
   ]
 ]
 
-takes_line : (stage : Stage) (b : ℕ) (bs rest : List ℕ) → ends_in_newline (b ∷ bs) ≡ true → takes stage ((b ∷ bs) ++ rest) ≡ takes stage (b ∷ bs)
-takes_line stage b bs rest h = same_takes stage b (bs ++ rest) bs (word_of_line (b ∷ bs) rest h)
+takes_line : (phase : ChunkPhase) (b : ℕ) (bs rest : List ℕ) → ends_in_newline (b ∷ bs) ≡ true → takes phase ((b ∷ bs) ++ rest) ≡ takes phase (b ∷ bs)
+takes_line phase b bs rest h = same_takes phase b (bs ++ rest) bs (word_of_line (b ∷ bs) rest h)
 
 pub takes_more : (c : Cutter) (b : ℕ) (bs rest : List ℕ) → ends_in_newline (b ∷ bs) ≡ true → Takes c (b ∷ bs) → Takes c ((b ∷ bs) ++ rest)
-takes_more c b bs rest h t e = takes_line c.stage b bs rest h ∙ t e
+takes_more c b bs rest h t e = takes_line c.phase b bs rest h ∙ t e
 
 -- the chunks after a physical line
-pub follows_line : (c : Cutter) (seen : List ℕ) (x : ℕ) (xs rest : List ℕ) (b : IsAfter c seen) → is_physical_line (x ∷ xs) ≡ true → Takes c ((x ∷ xs) ++ rest) → chunks ((seen ++ x ∷ xs) ++ rest) ≡ seen_chunks (run c.scan (x ∷ xs)) c.stage b.before (b.part ++ x ∷ xs) rest
+pub follows_line : (c : Cutter) (seen : List ℕ) (x : ℕ) (xs rest : List ℕ) (b : IsAfter c seen) → is_physical_line (x ∷ xs) ≡ true → Takes c ((x ∷ xs) ++ rest) → chunks ((seen ++ x ∷ xs) ++ rest) ≡ seen_chunks (run c.scan (x ∷ xs)) c.phase b.before (b.part ++ x ∷ xs) rest
 follows_line c seen x xs rest b h t =
     ap chunks (append_assoc seen (x ∷ xs) rest)
     ∙ b.follows x (xs ++ rest) t
-    ∙ over xs rest (next c.scan x) c.stage b.before (b.part ++ x ∷ []) (line_quiet x xs c.scan h)
-    ∙ ap (λ p. seen_chunks (run c.scan (x ∷ xs)) c.stage b.before p rest) (append_assoc b.part (x ∷ []) xs)
+    ∙ over xs rest (next c.scan x) c.phase b.before (b.part ++ x ∷ []) (line_quiet x xs c.scan h)
+    ∙ ap (λ p. seen_chunks (run c.scan (x ∷ xs)) c.phase b.before p rest) (append_assoc b.part (x ∷ []) xs)
 
 pub whole : (c : Cutter) (seen line : List ℕ) (b : IsAfter c seen) → b.before ++ (b.part ++ line) ≡ seen ++ line
 whole c seen line b = sym (append_assoc b.before b.part line) ∙ ap (λ t. t ++ line) (sym b.seen_is)
@@ -120,43 +120,43 @@ open_after_token c seen x xs b n h t inside = record {
   blank = λ e. now_blank c seen x xs b n h inside e;
   head = λ e more. now_head c seen x xs b n h e more;
   last = λ some. last_line c seen x xs b h t;
-  follows = λ y rest free. follows_line c seen x xs (y ∷ rest) b h (takes_more c x xs (y ∷ rest) n t) ∙ chunk_step (run c.scan (x ∷ xs)) c.stage b.before (b.part ++ x ∷ xs) y rest inside;
+  follows = λ y rest free. follows_line c seen x xs (y ∷ rest) b h (takes_more c x xs (y ∷ rest) n t) ∙ chunk_step (run c.scan (x ∷ xs)) c.phase b.before (b.part ++ x ∷ xs) y rest inside;
   ends = λ e. absurd (both_ways _ inside e);
 }
 
--- a logical line has ended: the stage that the definition finds is the one that the cutter finds
-blank_step : (stage : Stage) (k : LineKind) (v w : Option Opener) (broken : Bool) → is_blank_kind k ≡ true → stage_step stage k v broken ≡ stage_step stage k w broken
+-- a logical line has ended: the phase that the definition finds is the one that the cutter finds
+blank_step : (phase : ChunkPhase) (k : LineKind) (v w : Option Opener) (broken : Bool) → is_blank_kind k ≡ true → phase_step phase k v broken ≡ phase_step phase k w broken
 blank_step Comments Blank v w broken h = refl
 blank_step Comments CommentLine v w broken h = absurd (false≢true h)
 blank_step Comments Statement v w broken h = absurd (false≢true h)
 blank_step (InBlock word) k v w broken h = refl
 blank_step Done k v w broken h = refl
 
-pub stage_is : (c : Cutter) (seen : List ℕ) (x : ℕ) (xs : List ℕ) (b : IsAfter c seen) → ends_in_newline (x ∷ xs) ≡ true → is_physical_line (x ∷ xs) ≡ true → stage_after c.stage (line_here (run c.scan (x ∷ xs)) (b.part ++ x ∷ xs)) ≡ stage_step c.stage (run c.scan (x ∷ xs)).kind (head_after c (x ∷ xs)) (is_broken (run c.scan (x ∷ xs)).inside)
-stage_is c seen x xs b n h = elim (cases_Bool (is_blank_kind (run c.scan (x ∷ xs)).kind)) [
-  | inl e ↦ blank_step c.stage (run c.scan (x ∷ xs)).kind (opener (b.part ++ x ∷ xs)) (head_after c (x ∷ xs)) (is_broken (run c.scan (x ∷ xs)).inside) e
-  | inr e ↦ ap (λ w. stage_step c.stage (run c.scan (x ∷ xs)).kind w (is_broken (run c.scan (x ∷ xs)).inside)) (sym (ap opener (append-nil (b.part ++ x ∷ xs))) ∙ now_head c seen x xs b n h e [])
+pub phase_is : (c : Cutter) (seen : List ℕ) (x : ℕ) (xs : List ℕ) (b : IsAfter c seen) → ends_in_newline (x ∷ xs) ≡ true → is_physical_line (x ∷ xs) ≡ true → phase_after c.phase (line_here (run c.scan (x ∷ xs)) (b.part ++ x ∷ xs)) ≡ phase_step c.phase (run c.scan (x ∷ xs)).kind (head_after c (x ∷ xs)) (is_broken (run c.scan (x ∷ xs)).inside)
+phase_is c seen x xs b n h = elim (cases_Bool (is_blank_kind (run c.scan (x ∷ xs)).kind)) [
+  | inl e ↦ blank_step c.phase (run c.scan (x ∷ xs)).kind (opener (b.part ++ x ∷ xs)) (head_after c (x ∷ xs)) (is_broken (run c.scan (x ∷ xs)).inside) e
+  | inr e ↦ ap (λ w. phase_step c.phase (run c.scan (x ∷ xs)).kind w (is_broken (run c.scan (x ∷ xs)).inside)) (sym (ap opener (append-nil (b.part ++ x ∷ xs))) ∙ now_head c seen x xs b n h e [])
 ]
 
 -- the chunk ends after the line
-pub ends_here : (c : Cutter) (seen : List ℕ) (x : ℕ) (xs : List ℕ) (stage : Stage) → (b : IsAfter c seen) → ends_in_newline (x ∷ xs) ≡ true → is_physical_line (x ∷ xs) ≡ true → Takes c (x ∷ xs) → is_ended (run c.scan (x ∷ xs)).inside ≡ true → stage_after c.stage (line_here (run c.scan (x ∷ xs)) (b.part ++ x ∷ xs)) ≡ stage → (rest : List ℕ) → takes stage rest ≡ false → EndsBefore (seen ++ x ∷ xs) rest
-ends_here c seen x xs stage b n h t ended is [] stops = ap chunks (append-nil (seen ++ x ∷ xs)) ∙ last_line c seen x xs b h t
-ends_here c seen x xs stage b n h t ended is (y ∷ rest) stops =
+pub ends_here : (c : Cutter) (seen : List ℕ) (x : ℕ) (xs : List ℕ) (phase : ChunkPhase) → (b : IsAfter c seen) → ends_in_newline (x ∷ xs) ≡ true → is_physical_line (x ∷ xs) ≡ true → Takes c (x ∷ xs) → is_ended (run c.scan (x ∷ xs)).inside ≡ true → phase_after c.phase (line_here (run c.scan (x ∷ xs)) (b.part ++ x ∷ xs)) ≡ phase → (rest : List ℕ) → takes phase rest ≡ false → EndsBefore (seen ++ x ∷ xs) rest
+ends_here c seen x xs phase b n h t ended is [] stops = ap chunks (append-nil (seen ++ x ∷ xs)) ∙ last_line c seen x xs b h t
+ends_here c seen x xs phase b n h t ended is (y ∷ rest) stops =
     let s = run c.scan (x ∷ xs) in
     follows_line c seen x xs (y ∷ rest) b h (takes_more c x xs (y ∷ rest) n t)
-    ∙ chunk_cut s c.stage b.before (b.part ++ x ∷ xs) y rest ended (ap (λ g. takes g (y ∷ rest)) is ∙ stops)
+    ∙ chunk_cut s c.phase b.before (b.part ++ x ∷ xs) y rest ended (ap (λ g. takes g (y ∷ rest)) is ∙ stops)
     ∙ (λ i. whole c seen (x ∷ xs) b i ∷ seen_chunks (ended_restarts s.inside s.depth s.kind y ended i) Comments [] (y ∷ []) rest)
     ∙ ap (λ cs. (seen ++ x ∷ xs) ∷ cs) (sym (chunks_are (y ∷ rest)))
 
 -- or goes on
-goes_here : (c : Cutter) (seen : List ℕ) (x : ℕ) (xs : List ℕ) (stage : Stage) → (b : IsAfter c seen) → ends_in_newline (x ∷ xs) ≡ true → is_physical_line (x ∷ xs) ≡ true → Takes c (x ∷ xs) → is_ended (run c.scan (x ∷ xs)).inside ≡ true → stage_after c.stage (line_here (run c.scan (x ∷ xs)) (b.part ++ x ∷ xs)) ≡ stage → (y : ℕ) (rest : List ℕ) → takes stage (y ∷ rest) ≡ true → chunks ((seen ++ x ∷ xs) ++ y ∷ rest) ≡ seen_chunks (outside 0 Blank y) stage (seen ++ x ∷ xs) (y ∷ []) rest
-goes_here c seen x xs stage b n h t ended is y rest goes =
+goes_here : (c : Cutter) (seen : List ℕ) (x : ℕ) (xs : List ℕ) (phase : ChunkPhase) → (b : IsAfter c seen) → ends_in_newline (x ∷ xs) ≡ true → is_physical_line (x ∷ xs) ≡ true → Takes c (x ∷ xs) → is_ended (run c.scan (x ∷ xs)).inside ≡ true → phase_after c.phase (line_here (run c.scan (x ∷ xs)) (b.part ++ x ∷ xs)) ≡ phase → (y : ℕ) (rest : List ℕ) → takes phase (y ∷ rest) ≡ true → chunks ((seen ++ x ∷ xs) ++ y ∷ rest) ≡ seen_chunks (outside 0 Blank y) phase (seen ++ x ∷ xs) (y ∷ []) rest
+goes_here c seen x xs phase b n h t ended is y rest goes =
     let s = run c.scan (x ∷ xs) in
     follows_line c seen x xs (y ∷ rest) b h (takes_more c x xs (y ∷ rest) n t)
-    ∙ chunk_goes s c.stage b.before (b.part ++ x ∷ xs) y rest ended (ap (λ g. takes g (y ∷ rest)) is ∙ goes)
+    ∙ chunk_goes s c.phase b.before (b.part ++ x ∷ xs) y rest ended (ap (λ g. takes g (y ∷ rest)) is ∙ goes)
     ∙ (λ i. seen_chunks (ended_restarts s.inside s.depth s.kind y ended i) (is i) (whole c seen (x ∷ xs) b i) (y ∷ []) rest)
 
-pub comments_after : (c : Cutter) (seen : List ℕ) (x : ℕ) (xs : List ℕ) → (b : IsAfter c seen) → ends_in_newline (x ∷ xs) ≡ true → is_physical_line (x ∷ xs) ≡ true → Takes c (x ∷ xs) → is_ended (run c.scan (x ∷ xs)).inside ≡ true → stage_after c.stage (line_here (run c.scan (x ∷ xs)) (b.part ++ x ∷ xs)) ≡ Comments → IsAfter fresh (seen ++ x ∷ xs)
+pub comments_after : (c : Cutter) (seen : List ℕ) (x : ℕ) (xs : List ℕ) → (b : IsAfter c seen) → ends_in_newline (x ∷ xs) ≡ true → is_physical_line (x ∷ xs) ≡ true → Takes c (x ∷ xs) → is_ended (run c.scan (x ∷ xs)).inside ≡ true → phase_after c.phase (line_here (run c.scan (x ∷ xs)) (b.part ++ x ∷ xs)) ≡ Comments → IsAfter fresh (seen ++ x ∷ xs)
 comments_after c seen x xs b n h t ended is = record {
   before = seen ++ x ∷ xs;
   part = [];
@@ -174,7 +174,7 @@ some_goes : (word : Opener) (rest : List ℕ) → goes_on word rest ≡ true →
 some_goes word [] h = absurd (false≢true h)
 some_goes word (y ∷ rest) h = omega arith
 
-pub block_after : (c : Cutter) (seen : List ℕ) (x : ℕ) (xs : List ℕ) (word : Opener) → (b : IsAfter c seen) → ends_in_newline (x ∷ xs) ≡ true → is_physical_line (x ∷ xs) ≡ true → Takes c (x ∷ xs) → is_ended (run c.scan (x ∷ xs)).inside ≡ true → stage_after c.stage (line_here (run c.scan (x ∷ xs)) (b.part ++ x ∷ xs)) ≡ InBlock word → IsAfter (between word) (seen ++ x ∷ xs)
+pub block_after : (c : Cutter) (seen : List ℕ) (x : ℕ) (xs : List ℕ) (word : Opener) → (b : IsAfter c seen) → ends_in_newline (x ∷ xs) ≡ true → is_physical_line (x ∷ xs) ≡ true → Takes c (x ∷ xs) → is_ended (run c.scan (x ∷ xs)).inside ≡ true → phase_after c.phase (line_here (run c.scan (x ∷ xs)) (b.part ++ x ∷ xs)) ≡ InBlock word → IsAfter (between word) (seen ++ x ∷ xs)
 block_after c seen x xs word b n h t ended is = record {
   before = seen ++ x ∷ xs;
   part = [];

@@ -5,24 +5,24 @@ use Rattle.std.proofs.lemmas.List.Sums.{take_while-cons}
 use Rattle.bz_token.specs.declared.cutter.scan.Scan.{Scan}
 use Rattle.bz_token.specs.declared.cutter.block.Opener.{Opener}
 use Rattle.bz_token.specs.declared.cutter.block.Opener.TheVariants.{Def, For, If}
-use Rattle.bz_token.specs.declared.cutter.block.Stage.{Stage}
-use Rattle.bz_token.specs.declared.cutter.block.Stage.TheVariants.{Comments, InBlock, Done}
+use Rattle.bz_token.specs.declared.cutter.block.ChunkPhase.{ChunkPhase}
+use Rattle.bz_token.specs.declared.cutter.block.ChunkPhase.TheVariants.{Comments, InBlock, Done}
 use Rattle.bz_token.specs.declared.cutter.Cutter.{Cutter}
 use Rattle.bz_token.specs.declared.cutter.Cut.{Cut}
 use Rattle.bz_token.specs.declared.cutter.Cut.TheVariants.{More, Whole, Block}
 use Rattle.bz_token.specs.Lexical.{is_word_byte}
 use Rattle.bz_token.specs.Blocks.{word_at, goes_on}
 use Rattle.bz_token.specs.Chunks.{chunks}
-use Rattle.bz_token.specs.private.Stages.{stage_after, takes}
+use Rattle.bz_token.specs.private.Phases.{phase_after, takes}
 use Rattle.bz_token.specs.Cuts.{is_physical_line, ends_in_newline, first_line, EndsBefore, IsLonger, IsChunk, IsPart, IsBlock, IsCut, IsLast, IsNext, left, left_next}
-use Rattle.bz_token.specs.private.CutSteps.{is_ended, line_here, next, run, moved, stage_now, fresh, between, cut_at, cutter_at}
+use Rattle.bz_token.specs.private.CutSteps.{is_ended, line_here, next, run, moved, phase_now, fresh, between, cut_at, cutter_at}
 use Rattle.bz_token.specs.declared.cutter.Next.{Next}
 use Rattle.bz_token.specs.declared.cutter.Next.TheVariants.{Goes, Ends, Short}
 use Rattle.bz_token.specs.private.Decided.{DecidesAhead}
-use Rattle.bz_token.specs.CutterState.{is_block as is_block_stage, Takes, IsAfter, IsAtBlock, Awaits, AwaitsNext}
+use Rattle.bz_token.specs.CutterState.{is_block as is_block_phase, Takes, IsAfter, IsAtBlock, Awaits, AwaitsNext}
 use Rattle.bz_token.proofs.CutMachine.{next_inside}
 use Rattle.bz_token.proofs.CutLaws.{chunk_step, same_takes}
-use Rattle.bz_token.proofs.CutAfter.{begins, whole, follows_line, last_line, open_after_token, stage_is, ends_here, comments_after, block_after, fresh_after}
+use Rattle.bz_token.proofs.CutAfter.{begins, whole, follows_line, last_line, open_after_token, phase_is, ends_here, comments_after, block_after, fresh_after}
 
 -- the first line of a text and what is after it
 abbrev pub after_line : List ℕ → List ℕ
@@ -61,16 +61,16 @@ line_word (b ∷ bs) = elim (cases_Bool (b == 10)) [
 ]
 
 -- what a text says of the chunk its first line says too
-pub takes_first : (stage : Stage) (text : List ℕ) → takes stage (first_line text) ≡ takes stage text
-takes_first stage [] = refl
-takes_first stage (b ∷ bs) = elim (cases_Bool (b == 10)) [
-  | inl is ↦ ap (takes stage) (first_newline b bs is) ∙ same_takes stage b [] bs (ap word_at (sym (first_newline b bs is)) ∙ line_word (b ∷ bs))
-  | inr differs ↦ ap (takes stage) (first_other b bs differs) ∙ same_takes stage b (first_line bs) bs (ap word_at (sym (first_other b bs differs)) ∙ line_word (b ∷ bs))
+pub takes_first : (phase : ChunkPhase) (text : List ℕ) → takes phase (first_line text) ≡ takes phase text
+takes_first phase [] = refl
+takes_first phase (b ∷ bs) = elim (cases_Bool (b == 10)) [
+  | inl is ↦ ap (takes phase) (first_newline b bs is) ∙ same_takes phase b [] bs (ap word_at (sym (first_newline b bs is)) ∙ line_word (b ∷ bs))
+  | inr differs ↦ ap (takes phase) (first_other b bs differs) ∙ same_takes phase b (first_line bs) bs (ap word_at (sym (first_other b bs differs)) ∙ line_word (b ∷ bs))
 ]
 
 longer_by : (c : Cutter) (seen : List ℕ) (x : ℕ) (xs after : List ℕ) → IsAfter c seen → is_physical_line (x ∷ xs) ≡ true → Takes c ((x ∷ xs) ++ after) → (more : List ℕ) × (cs : List (List ℕ)) × (chunks (seen ++ ((x ∷ xs) ++ after)) ≡ (seen ++ ((x ∷ xs) ++ more)) ∷ cs)
 longer_by c seen x xs after b h t =
-    let r = begins after (run c.scan (x ∷ xs)) c.stage b.before (b.part ++ x ∷ xs) in (
+    let r = begins after (run c.scan (x ∷ xs)) c.phase b.before (b.part ++ x ∷ xs) in (
       r.0,
       r.1,
       ap chunks (sym (append_assoc seen (x ∷ xs) after)) ∙ follows_line c seen x xs after b h t ∙ r.2
@@ -164,14 +164,14 @@ word_colon (b ∷ bs) = take_while-cons is_word_byte b (bs ++ 58 ∷ []) ∙ ap 
 pub open_answers : (c : Cutter) (line : List ℕ) → is_physical_line line ≡ true → Takes c line → is_ended (run c.scan line).inside ≡ false → (seen : List ℕ) → IsAfter c seen → IsLonger (seen ++ line) (58 ∷ [])
 open_answers c [] h t inside seen b = rw append-nil (is_longer c seen (58 ∷ []) b (omega arith) (λ e. absurd (both_ways _ inside e)))
 open_answers c (x ∷ xs) h t inside seen b =
-    let goes : Takes c ((x ∷ xs) ++ 58 ∷ []) = λ e. same_takes c.stage x (xs ++ 58 ∷ []) xs (word_colon (x ∷ xs)) ∙ t e in
+    let goes : Takes c ((x ∷ xs) ++ 58 ∷ []) = λ e. same_takes c.phase x (xs ++ 58 ∷ []) xs (word_colon (x ∷ xs)) ∙ t e in
     record {
       some = omega arith;
       more = [];
       others = [];
       chunks_are =
           follows_line c seen x xs (58 ∷ []) b h goes
-          ∙ chunk_step (run c.scan (x ∷ xs)) c.stage b.before (b.part ++ x ∷ xs) 58 [] inside
+          ∙ chunk_step (run c.scan (x ∷ xs)) c.phase b.before (b.part ++ x ∷ xs) 58 [] inside
           ∙ ap (λ s. s ∷ []) (sym (append_assoc b.before (b.part ++ x ∷ xs) (58 ∷ [])) ∙ ap (λ s. s ++ 58 ∷ []) (whole c seen (x ∷ xs) b));
     }
 
@@ -191,10 +191,10 @@ some_goes word (y ∷ rest) h = omega arith
 block_of : (word : Opener) (seen : List ℕ) → IsAfter (between word) seen → IsBlock seen
 block_of word seen b = record { word = word; ends = b.ends refl; goes = λ rest g. is_longer (between word) seen rest b (some_goes word rest g) (λ e. g) }
 
-abbrev pub Ended : Stage → List ℕ → Type 0
-Ended stage bytes = IsCut (cut_at stage) bytes × IsAfter (cutter_at stage) (left (cut_at stage) bytes)
+abbrev pub Ended : ChunkPhase → List ℕ → Type 0
+Ended phase bytes = IsCut (cut_at phase) bytes × IsAfter (cutter_at phase) (left (cut_at phase) bytes)
 
-ended_at : (c : Cutter) (seen : List ℕ) (x : ℕ) (xs : List ℕ) (stage : Stage) → (b : IsAfter c seen) → ends_in_newline (x ∷ xs) ≡ true → is_physical_line (x ∷ xs) ≡ true → Takes c (x ∷ xs) → is_ended (run c.scan (x ∷ xs)).inside ≡ true → stage_after c.stage (line_here (run c.scan (x ∷ xs)) (b.part ++ x ∷ xs)) ≡ stage → Ended stage (seen ++ x ∷ xs)
+ended_at : (c : Cutter) (seen : List ℕ) (x : ℕ) (xs : List ℕ) (phase : ChunkPhase) → (b : IsAfter c seen) → ends_in_newline (x ∷ xs) ≡ true → is_physical_line (x ∷ xs) ≡ true → Takes c (x ∷ xs) → is_ended (run c.scan (x ∷ xs)).inside ≡ true → phase_after c.phase (line_here (run c.scan (x ∷ xs)) (b.part ++ x ∷ xs)) ≡ phase → Ended phase (seen ++ x ∷ xs)
 ended_at c seen x xs Comments b n h t ended is =
     let now = comments_after c seen x xs b n h t ended is in
     (part_of fresh (seen ++ x ∷ xs) now (λ text e. absurd (false≢true e)), now)
@@ -203,11 +203,11 @@ ended_at c seen x xs (InBlock word) b n h t ended is =
     (block_of word (seen ++ x ∷ xs) now, now)
 ended_at c seen x xs Done b n h t ended is = (λ rest. ends_here c seen x xs Done b n h t ended is rest refl, fresh_after)
 
-pub ended_line : (c : Cutter) (line : List ℕ) → is_physical_line line ≡ true → Takes c line → is_ended (run c.scan line).inside ≡ true → (seen : List ℕ) → IsAfter c seen → Ended (stage_now (moved c line)) (seen ++ line)
+pub ended_line : (c : Cutter) (line : List ℕ) → is_physical_line line ≡ true → Takes c line → is_ended (run c.scan line).inside ≡ true → (seen : List ℕ) → IsAfter c seen → Ended (phase_now (moved c line)) (seen ++ line)
 ended_line c [] h t ended seen b = absurd (both_ways _ (empty_open c seen b t) ended)
 ended_line c (x ∷ xs) h t ended seen b =
     let n = newline_ends x xs c.scan ended in
-    ended_at c seen x xs (stage_now (moved c (x ∷ xs))) b n h t ended (stage_is c seen x xs b n h)
+    ended_at c seen x xs (phase_now (moved c (x ∷ xs))) b n h t ended (phase_is c seen x xs b n h)
 
 pub answers_of : (cut : Cut) (bytes : List ℕ) → IsCut cut bytes → Answers cut bytes
 answers_of Whole bytes a = a
@@ -218,7 +218,7 @@ pub room : (c : Cutter) (seen : List ℕ) → IsAfter c seen → c.scan.depth �
 room c seen b = omega (arith, b.depth, ap length b.seen_is, length-append b.before b.part)
 
 -- what is ahead of a block
-pub next_is : (c : Cutter) (word : Opener) (next : Next) (at_end : Bool) (ahead : List ℕ) → c.stage ≡ InBlock word → is_ended c.scan.inside ≡ true → DecidesAhead (goes_on word) next at_end ahead → (seen : List ℕ) → IsAfter c seen → IsNext next at_end seen ahead
+pub next_is : (c : Cutter) (word : Opener) (next : Next) (at_end : Bool) (ahead : List ℕ) → c.phase ≡ InBlock word → is_ended c.scan.inside ≡ true → DecidesAhead (goes_on word) next at_end ahead → (seen : List ℕ) → IsAfter c seen → IsNext next at_end seen ahead
 next_is c word Goes at_end ahead is ended d seen b = λ rest last. is_longer c seen (ahead ++ rest) b (some_goes word (ahead ++ rest) (d rest last)) (λ e. ap (λ s. takes s (ahead ++ rest)) is ∙ d rest last)
 next_is c word Ends at_end ahead is ended d seen b = λ rest last. b.ends ended (ahead ++ rest) (ap (λ s. takes s (ahead ++ rest)) is ∙ d rest last)
 next_is c word Short at_end ahead is ended d seen b = (
@@ -228,8 +228,8 @@ next_is c word Short at_end ahead is ended d seen b = (
   (d.3.0, b.ends ended (ahead ++ d.3.0) (ap (λ s. takes s (ahead ++ d.3.0)) is ∙ d.3.1)),
 )
 
-pub awaits_line : (c : Cutter) (word : Opener) (next : Next) (at_end : Bool) (ahead : List ℕ) → c.stage ≡ InBlock word → IsAtBlock c → DecidesAhead (goes_on word) next at_end ahead → (next ≡ Ends → ⊥) → AwaitsNext next at_end ahead c
-awaits_line c word Goes at_end ahead is here d other = λ rest last e. takes_first c.stage (ahead ++ rest) ∙ ap (λ s. takes s (ahead ++ rest)) is ∙ d rest last
+pub awaits_line : (c : Cutter) (word : Opener) (next : Next) (at_end : Bool) (ahead : List ℕ) → c.phase ≡ InBlock word → IsAtBlock c → DecidesAhead (goes_on word) next at_end ahead → (next ≡ Ends → ⊥) → AwaitsNext next at_end ahead c
+awaits_line c word Goes at_end ahead is here d other = λ rest last e. takes_first c.phase (ahead ++ rest) ∙ ap (λ s. takes s (ahead ++ rest)) is ∙ d rest last
 awaits_line c word Ends at_end ahead is here d other = absurd (other refl)
 awaits_line c word Short at_end ahead is here d other = here
 
@@ -242,13 +242,13 @@ pub nothing_yet : IsPart []
 nothing_yet = part_of fresh [] fresh_after (λ text e. absurd (false≢true e))
 
 -- a chunk that is a block has its word
-pub no_word : (s : Stage) → is_block_stage s ≡ true → ((word : Opener) → s ≡ InBlock word → ⊥) → ⊥
+pub no_word : (s : ChunkPhase) → is_block_phase s ≡ true → ((word : Opener) → s ≡ InBlock word → ⊥) → ⊥
 no_word Comments h none = false≢true h
 no_word (InBlock word) h none = none word refl
 no_word Done h none = false≢true h
 
 -- what the cutter waits for after a logical line that has ended
-pub awaits_after : (s : Stage) → Awaits (cut_at s) (cutter_at s)
+pub awaits_after : (s : ChunkPhase) → Awaits (cut_at s) (cutter_at s)
 awaits_after Comments = λ line ended. absurd (false≢true ended)
 awaits_after (InBlock word) = record { in_block = refl; ended = refl }
 awaits_after Done = λ line ended. absurd (false≢true ended)

@@ -4,8 +4,8 @@ use Rattle.std.specs.Prelude.{if◌then◌else◌}
 use Rattle.bz_token.specs.declared.cutter.scan.LineKind.{LineKind}
 use Rattle.bz_token.specs.declared.cutter.scan.LineKind.TheVariants.{Blank, Statement}
 use Rattle.bz_token.specs.declared.cutter.scan.Quote.{Quote}
-use Rattle.bz_token.specs.declared.cutter.scan.Inside.{Inside}
-use Rattle.bz_token.specs.declared.cutter.scan.Inside.TheVariants.{Plain, Ended, BrokenOff, Backslash, BackslashReturn, Comment, Opened, OpenedTwice, Short, ShortEscape, ShortEscapeReturn, Long, LongQuote, LongTwoQuotes, LongEscape}
+use Rattle.bz_token.specs.declared.cutter.scan.CutState.{CutState}
+use Rattle.bz_token.specs.declared.cutter.scan.CutState.TheVariants.{Plain, Ended, BrokenOff, Backslash, BackslashReturn, Comment, Opened, OpenedTwice, Short, ShortEscape, ShortEscapeReturn, Long, LongQuote, LongTwoQuotes, LongEscape}
 use Rattle.bz_token.specs.declared.cutter.scan.Scan.{Scan}
 use Rattle.bz_token.specs.private.CutSteps.{byte_of, outside, in_short, in_long, next_in, next}
 
@@ -41,10 +41,10 @@ next_depth s b = by s.inside s.depth s.kind
     short : (q : Quote) (d : ℕ) (k : LineKind) → (in_short q d k b).depth ≤ d + 1
     short q d k = depth_of (b == byte_of q) _ _ (d + 1) (same d) (depth_of (b == 10) _ _ (d + 1) (same d) (depth_of (b == 92) _ _ (d + 1) (same d) (same d)))
 
-    long : (i : Inside) (q : Quote) (d : ℕ) (k : LineKind) → (in_long i q d k b).depth ≤ d + 1
+    long : (i : CutState) (q : Quote) (d : ℕ) (k : LineKind) → (in_long i q d k b).depth ≤ d + 1
     long i q d k = depth_of (b == byte_of q) _ _ (d + 1) (same d) (depth_of (b == 92) _ _ (d + 1) (same d) (same d))
 
-    by : (i : Inside) (d : ℕ) (k : LineKind) → (next_in i d k b).depth ≤ d + 1
+    by : (i : CutState) (d : ℕ) (k : LineKind) → (next_in i d k b).depth ≤ d + 1
     by Plain d k = outside_depth d k b
     by Ended d k = anew d
     by BrokenOff d k = anew d

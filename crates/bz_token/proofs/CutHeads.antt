@@ -3,7 +3,7 @@ use Rattle.std.proofs.Common.{◌≡◌, ℕ, ◌==◌, ◌||◌, ◌⊎◌, Lis
 use Rattle.std.proofs.lemmas.Bool.{and_parts, not-true, false≢true}
 use Rattle.std.proofs.lemmas.Bool.Decides.{nat_tests}
 use Rattle.bz_token.specs.declared.cutter.scan.LineKind.TheVariants.{Blank, Statement}
-use Rattle.bz_token.specs.declared.cutter.scan.Inside.TheVariants.{Plain, Backslash, BackslashReturn}
+use Rattle.bz_token.specs.declared.cutter.scan.CutState.TheVariants.{Plain, Backslash, BackslashReturn}
 use Rattle.bz_token.specs.Blocks.{is_white, continues, head_from, word_at, opener_of}
 use Rattle.bz_token.specs.Cuts.{is_physical_line, ends_in_newline}
 use Rattle.bz_token.specs.private.CutSteps.{is_ended, is_blank_kind, at, outside, next, start, run}

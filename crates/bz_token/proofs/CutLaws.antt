@@ -5,30 +5,30 @@ use Rattle.std.proofs.lemmas.List.Sums.{take_while-cons}
 use Rattle.bz_token.specs.declared.cutter.scan.LineKind.TheVariants.{Blank}
 use Rattle.bz_token.specs.declared.cutter.block.Opener.{Opener}
 use Rattle.bz_token.specs.declared.cutter.block.Opener.TheVariants.{Def, For, If}
-use Rattle.bz_token.specs.declared.cutter.block.Stage.{Stage}
-use Rattle.bz_token.specs.declared.cutter.block.Stage.TheVariants.{Comments, InBlock, Done}
+use Rattle.bz_token.specs.declared.cutter.block.ChunkPhase.{ChunkPhase}
+use Rattle.bz_token.specs.declared.cutter.block.ChunkPhase.TheVariants.{Comments, InBlock, Done}
 use Rattle.bz_token.specs.declared.cutter.scan.Scan.{Scan}
 use Rattle.bz_token.specs.Groups.{grouped, grouped_from}
 use Rattle.bz_token.specs.LogicalLines.{Line}
 use Rattle.bz_token.specs.Lexical.{is_word_byte}
 use Rattle.bz_token.specs.Blocks.{is_white, word_at, has_branch}
 use Rattle.bz_token.specs.Chunks.{chunk_goes_on, text_of, chunks}
-use Rattle.bz_token.specs.private.Stages.{stage_after, stage_from, takes}
+use Rattle.bz_token.specs.private.Phases.{phase_after, phase_from, takes}
 use Rattle.bz_token.specs.private.CutSteps.{is_ended, is_broken, line_at, line_here, seen_chunks, outside, next, start}
 use Rattle.bz_token.proofs.CutSeen.{seen_lines, final_kind}
 use Rattle.bz_token.proofs.CutStrings.{grouped_joins, grouped_apart, seen_step}
 use Rattle.bz_token.proofs.CutMachine.{next_inside}
 use Rattle.bz_token.proofs.CutLines.{lines_are}
-use Rattle.bz_token.proofs.Stages.{stage_takes}
+use Rattle.bz_token.proofs.Phases.{phase_takes}
 
-pub chunk_step : (s : Scan) (stage : Stage) (before part : List ℕ) (b : ℕ) (bs : List ℕ) → is_ended s.inside ≡ false → seen_chunks s stage before part (b ∷ bs) ≡ seen_chunks (next s b) stage before (part ++ b ∷ []) bs
-chunk_step s stage before part b bs h = rw (h, seen_chunks) refl
+pub chunk_step : (s : Scan) (phase : ChunkPhase) (before part : List ℕ) (b : ℕ) (bs : List ℕ) → is_ended s.inside ≡ false → seen_chunks s phase before part (b ∷ bs) ≡ seen_chunks (next s b) phase before (part ++ b ∷ []) bs
+chunk_step s phase before part b bs h = rw (h, seen_chunks) refl
 
-pub chunk_goes : (s : Scan) (stage : Stage) (before part : List ℕ) (b : ℕ) (bs : List ℕ) → is_ended s.inside ≡ true → takes (stage_after stage (line_here s part)) (b ∷ bs) ≡ true → seen_chunks s stage before part (b ∷ bs) ≡ seen_chunks (next s b) (stage_after stage (line_here s part)) (before ++ part) (b ∷ []) bs
-chunk_goes s stage before part b bs h g = rw (h, seen_chunks) (rw g refl)
+pub chunk_goes : (s : Scan) (phase : ChunkPhase) (before part : List ℕ) (b : ℕ) (bs : List ℕ) → is_ended s.inside ≡ true → takes (phase_after phase (line_here s part)) (b ∷ bs) ≡ true → seen_chunks s phase before part (b ∷ bs) ≡ seen_chunks (next s b) (phase_after phase (line_here s part)) (before ++ part) (b ∷ []) bs
+chunk_goes s phase before part b bs h g = rw (h, seen_chunks) (rw g refl)
 
-pub chunk_cut : (s : Scan) (stage : Stage) (before part : List ℕ) (b : ℕ) (bs : List ℕ) → is_ended s.inside ≡ true → takes (stage_after stage (line_here s part)) (b ∷ bs) ≡ false → seen_chunks s stage before part (b ∷ bs) ≡ (before ++ part) ∷ seen_chunks (next s b) Comments [] (b ∷ []) bs
-chunk_cut s stage before part b bs h g = rw (h, seen_chunks) (rw g refl)
+pub chunk_cut : (s : Scan) (phase : ChunkPhase) (before part : List ℕ) (b : ℕ) (bs : List ℕ) → is_ended s.inside ≡ true → takes (phase_after phase (line_here s part)) (b ∷ bs) ≡ false → seen_chunks s phase before part (b ∷ bs) ≡ (before ++ part) ∷ seen_chunks (next s b) Comments [] (b ∷ []) bs
+chunk_cut s phase before part b bs h g = rw (h, seen_chunks) (rw g refl)
 
 line_cut : (s : Scan) (seen : List ℕ) (b : ℕ) (bs : List ℕ) → is_ended s.inside ≡ true → seen_lines s seen (b ∷ bs) ≡ line_here s seen ∷ seen_lines (next s b) (b ∷ []) bs
 line_cut s seen b bs h = rw (h, seen_lines) refl
@@ -103,7 +103,7 @@ same_branch For xs ys e = refl
 same_branch If xs ys e = rw e refl
 
 -- what the next line begins with decides, and it is what the rest begins with
-pub same_takes : (stage : Stage) (b : ℕ) (xs ys : List ℕ) → word_at (b ∷ xs) ≡ word_at (b ∷ ys) → takes stage (b ∷ xs) ≡ takes stage (b ∷ ys)
+pub same_takes : (phase : ChunkPhase) (b : ℕ) (xs ys : List ℕ) → word_at (b ∷ xs) ≡ word_at (b ∷ ys) → takes phase (b ∷ xs) ≡ takes phase (b ∷ ys)
 same_takes Comments b xs ys e = refl
 same_takes Done b xs ys e = refl
 same_takes (InBlock word) b xs ys e = ap (λ t. is_white b || t) (same_branch word (b ∷ xs) (b ∷ ys) e)
@@ -119,39 +119,39 @@ abbrev grouped_with : List Line → List Line → List (List Line)
 grouped_with done [] = done ∷ []
 grouped_with done (l ∷ ls) = grouped_from chunk_goes_on (done ++ l ∷ []) ls
 
-joined : (done ls : List Line) (l : Line) (rest : List Line) → ls ≡ l ∷ rest → takes (stage_from Comments done) l.text ≡ true → grouped_from chunk_goes_on done ls ≡ grouped_with done ls
-joined done ls l rest e h = rw e (grouped_joins chunk_goes_on done l rest (sym (stage_takes done l.text) ∙ h))
+joined : (done ls : List Line) (l : Line) (rest : List Line) → ls ≡ l ∷ rest → takes (phase_from Comments done) l.text ≡ true → grouped_from chunk_goes_on done ls ≡ grouped_with done ls
+joined done ls l rest e h = rw e (grouped_joins chunk_goes_on done l rest (sym (phase_takes done l.text) ∙ h))
 
-is_apart : (done ls : List Line) (l : Line) (rest : List Line) → ls ≡ l ∷ rest → takes (stage_from Comments done) l.text ≡ false → grouped_from chunk_goes_on done ls ≡ done ∷ grouped_with [] ls
-is_apart done ls l rest e h = rw e (grouped_apart chunk_goes_on done l rest (sym (stage_takes done l.text) ∙ h))
+is_apart : (done ls : List Line) (l : Line) (rest : List Line) → ls ≡ l ∷ rest → takes (phase_from Comments done) l.text ≡ false → grouped_from chunk_goes_on done ls ≡ done ∷ grouped_with [] ls
+is_apart done ls l rest e h = rw e (grouped_apart chunk_goes_on done l rest (sym (phase_takes done l.text) ∙ h))
 
 text_snoc : (done : List Line) (l : Line) → text_of (done ++ l ∷ []) ≡ text_of done ++ l.text
 text_snoc [] l = append-nil l.text
 text_snoc (m ∷ ls) l = ap (λ t. m.text ++ t) (text_snoc ls l) ∙ sym (append_assoc m.text (text_of ls) l.text)
 
-stage_snoc : (done : List Line) (stage : Stage) (l : Line) → stage_from stage (done ++ l ∷ []) ≡ stage_after (stage_from stage done) l
-stage_snoc [] stage l = refl
-stage_snoc (m ∷ ls) stage l = stage_snoc ls (stage_after stage m) l
+phase_snoc : (done : List Line) (phase : ChunkPhase) (l : Line) → phase_from phase (done ++ l ∷ []) ≡ phase_after (phase_from phase done) l
+phase_snoc [] phase l = refl
+phase_snoc (m ∷ ls) phase l = phase_snoc ls (phase_after phase m) l
 
-pub chunks_from : (bytes : List ℕ) (s : Scan) (done : List Line) (part : List ℕ) → EndsRight s part → map text_of (grouped_with done (seen_lines s part bytes)) ≡ seen_chunks s (stage_from Comments done) (text_of done) part bytes
+pub chunks_from : (bytes : List ℕ) (s : Scan) (done : List Line) (part : List ℕ) → EndsRight s part → map text_of (grouped_with done (seen_lines s part bytes)) ≡ seen_chunks s (phase_from Comments done) (text_of done) part bytes
 chunks_from [] s done part right = ap (λ t. t ∷ []) (text_snoc done (line_at part (final_kind s.inside s.kind) (is_broken s.inside)))
 chunks_from (b ∷ bs) s done part right = elim (cases_Bool (is_ended s.inside)) [
   | inr inside ↦
-      rw (seen_step s part b bs inside, chunk_step s (stage_from Comments done) (text_of done) part b bs inside) (chunks_from bs (next s b) done (part ++ b ∷ []) (ends_right s part b))
+      rw (seen_step s part b bs inside, chunk_step s (phase_from Comments done) (text_of done) part b bs inside) (chunks_from bs (next s b) done (part ++ b ∷ []) (ends_right s part b))
   | inl ended ↦
       let line = line_here s part in
       let f = first_of_lines bs (next s b) (b ∷ []) (ends_right s [] b) in
-      let stage = stage_after (stage_from Comments done) line in
-      let here : takes (stage_from Comments (done ++ line ∷ [])) f.line.text ≡ takes stage (b ∷ bs) =
-      (λ i. takes (stage_snoc done Comments line i) (f.text_is i)) ∙ same_takes stage b f.more (f.more ++ f.rest) (first_word b f.more f.rest f.ends) ∙ ap (λ t. takes stage (b ∷ t)) (sym f.bytes_are) in
-      elim (cases_Bool (takes stage (b ∷ bs))) [
+      let phase = phase_after (phase_from Comments done) line in
+      let here : takes (phase_from Comments (done ++ line ∷ [])) f.line.text ≡ takes phase (b ∷ bs) =
+      (λ i. takes (phase_snoc done Comments line i) (f.text_is i)) ∙ same_takes phase b f.more (f.more ++ f.rest) (first_word b f.more f.rest f.ends) ∙ ap (λ t. takes phase (b ∷ t)) (sym f.bytes_are) in
+      elim (cases_Bool (takes phase (b ∷ bs))) [
         | inl goes ↦
-            rw (line_cut s part b bs ended, chunk_goes s (stage_from Comments done) (text_of done) part b bs ended goes) (
+            rw (line_cut s part b bs ended, chunk_goes s (phase_from Comments done) (text_of done) part b bs ended goes) (
             ap (map text_of) (joined (done ++ line ∷ []) (seen_lines (next s b) (b ∷ []) bs) f.line f.lines_after f.lines_are (here ∙ goes))
             ∙ chunks_from bs (next s b) (done ++ line ∷ []) (b ∷ []) (ends_right s [] b)
-            ∙ (λ i. seen_chunks (next s b) (stage_snoc done Comments line i) (text_snoc done line i) (b ∷ []) bs))
+            ∙ (λ i. seen_chunks (next s b) (phase_snoc done Comments line i) (text_snoc done line i) (b ∷ []) bs))
         | inr stops ↦
-            rw (line_cut s part b bs ended, chunk_cut s (stage_from Comments done) (text_of done) part b bs ended stops) (
+            rw (line_cut s part b bs ended, chunk_cut s (phase_from Comments done) (text_of done) part b bs ended stops) (
             ap (map text_of) (is_apart (done ++ line ∷ []) (seen_lines (next s b) (b ∷ []) bs) f.line f.lines_after f.lines_are (here ∙ stops))
             ∙ (λ i. text_snoc done line i ∷ chunks_from bs (next s b) [] (b ∷ []) (ends_right s [] b) i))
       ]

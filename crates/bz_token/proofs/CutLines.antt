@@ -5,8 +5,8 @@ use Rattle.std.proofs.lemmas.List.Folds.{list_all-append, concat-append}
 use Rattle.std.specs.List.{list_all, concat}
 use Rattle.bz_token.specs.declared.cutter.scan.LineKind.{LineKind}
 use Rattle.bz_token.specs.declared.cutter.scan.LineKind.TheVariants.{Blank, CommentLine, Statement}
-use Rattle.bz_token.specs.declared.cutter.scan.Inside.{Inside}
-use Rattle.bz_token.specs.declared.cutter.scan.Inside.TheVariants.{Plain, Ended, BrokenOff}
+use Rattle.bz_token.specs.declared.cutter.scan.CutState.{CutState}
+use Rattle.bz_token.specs.declared.cutter.scan.CutState.TheVariants.{Plain, Ended, BrokenOff}
 use Rattle.bz_token.specs.declared.cutter.scan.Scan.{Scan}
 use Rattle.bz_token.specs.Groups.{grouped, grouped_from}
 use Rattle.bz_token.specs.Munch.{IsLongest, AreMunched}
@@ -65,7 +65,7 @@ kind_snoc line p =
     rw (list_all-append is_gap line (p ∷ []), list_all-append commented line (p ∷ [])) (kinds (list_all is_gap line) (list_all commented line) (is_gap p) (is_comment p) (gaps_commented line))
 
 -- where the steps are after a part of a line
-abbrev pub inside_of : Bool → Bool → Inside
+abbrev pub inside_of : Bool → Bool → CutState
 inside_of broken ended = cond broken BrokenOff (cond ended Ended Plain)
 
 abbrev pub at_line : List (List ℕ) → Scan

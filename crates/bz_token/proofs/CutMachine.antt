@@ -6,13 +6,13 @@ use Rattle.std.proofs.lemmas.Bool.Decides.{nat_tests}
 use Rattle.bz_token.specs.declared.cutter.scan.LineKind.{LineKind}
 use Rattle.bz_token.specs.declared.cutter.scan.LineKind.TheVariants.{Blank, CommentLine, Statement}
 use Rattle.bz_token.specs.declared.cutter.scan.Quote.{Quote}
-use Rattle.bz_token.specs.declared.cutter.scan.Inside.{Inside}
-use Rattle.bz_token.specs.declared.cutter.scan.Inside.TheVariants.{Plain, Ended, BrokenOff, Backslash, BackslashReturn, Comment, Opened, OpenedTwice, Short, ShortEscape, ShortEscapeReturn, Long, LongQuote, LongTwoQuotes, LongEscape}
+use Rattle.bz_token.specs.declared.cutter.scan.CutState.{CutState}
+use Rattle.bz_token.specs.declared.cutter.scan.CutState.TheVariants.{Plain, Ended, BrokenOff, Backslash, BackslashReturn, Comment, Opened, OpenedTwice, Short, ShortEscape, ShortEscapeReturn, Long, LongQuote, LongTwoQuotes, LongEscape}
 use Rattle.bz_token.specs.declared.cutter.scan.Scan.{Scan}
 use Rattle.bz_token.specs.Cuts.{is_physical_line}
 use Rattle.bz_token.specs.private.CutSteps.{is_ended, is_blank_kind, byte_of, with_comment, at, outside, in_short, in_long, next_in, next, run}
 
-pub ended_restarts : (i : Inside) (d : ℕ) (k : LineKind) (b : ℕ) → is_ended i ≡ true → next_in i d k b ≡ outside 0 Blank b
+pub ended_restarts : (i : CutState) (d : ℕ) (k : LineKind) (b : ℕ) → is_ended i ≡ true → next_in i d k b ≡ outside 0 Blank b
 ended_restarts Ended d k b h = refl
 ended_restarts BrokenOff d k b h = refl
 ended_restarts Plain d k b h = absurd (false≢true h)
@@ -34,14 +34,14 @@ either : (P : Scan → Type 0) (test : Bool) (s t : Scan) → P s → P t → P 
 either P true s t p q = p
 either P false s t p q = q
 
-short_step : (P : Scan → Type 0) (d : ℕ) (k : LineKind) (b : ℕ) (q : Quote) → ((j : Inside) → P (at j d k)) → P (in_short q d k b)
+short_step : (P : Scan → Type 0) (d : ℕ) (k : LineKind) (b : ℕ) (q : Quote) → ((j : CutState) → P (at j d k)) → P (in_short q d k b)
 short_step P d k b q here = either P _ _ _ (here Plain) (either P _ _ _ (here BrokenOff) (either P _ _ _ (here (ShortEscape q)) (here (Short q))))
 
-long_step : (P : Scan → Type 0) (d : ℕ) (k : LineKind) (b : ℕ) (q : Quote) (quoted : Inside) → ((j : Inside) → P (at j d k)) → P (in_long quoted q d k b)
+long_step : (P : Scan → Type 0) (d : ℕ) (k : LineKind) (b : ℕ) (q : Quote) (quoted : CutState) → ((j : CutState) → P (at j d k)) → P (in_long quoted q d k b)
 long_step P d k b q quoted here = either P _ _ _ (here quoted) (either P _ _ _ (here (LongEscape q)) (here (Long q)))
 
 -- what holds wherever a string or a comment may lead, and outside them, holds after a step
-after_step : (P : Scan → Type 0) (d : ℕ) (k : LineKind) (b : ℕ) (i : Inside) → ((j : Inside) → P (at j d k)) → P (outside d k b) → P (outside d Statement b) → (is_ended i ≡ true → P (outside 0 Blank b)) → P (next_in i d k b)
+after_step : (P : Scan → Type 0) (d : ℕ) (k : LineKind) (b : ℕ) (i : CutState) → ((j : CutState) → P (at j d k)) → P (outside d k b) → P (outside d Statement b) → (is_ended i ≡ true → P (outside 0 Blank b)) → P (next_in i d k b)
 after_step P d k b Plain here out statement new = out
 after_step P d k b Ended here out statement new = new refl
 after_step P d k b BrokenOff here out statement new = new refl
@@ -62,7 +62,7 @@ after_step P d k b (LongEscape q) here out statement new = here (Long q)
 outside_depth : (d : ℕ) (k : LineKind) (b : ℕ) → (outside d k b).depth ≤ d + 1
 outside_depth d k b = grind (arith, nat_tests)
 
-pub next_depth : (i : Inside) (d : ℕ) (k : LineKind) (b : ℕ) → (next_in i d k b).depth ≤ d + 1
+pub next_depth : (i : CutState) (d : ℕ) (k : LineKind) (b : ℕ) → (next_in i d k b).depth ≤ d + 1
 next_depth i d k b = after_step (λ s. s.depth ≤ d + 1) d k b i (λ j. omega arith) (outside_depth d k b) (outside_depth d Statement b) (λ e. omega (arith, outside_depth 0 Blank b))
 
 -- a logical line ends with a newline
@@ -72,7 +72,7 @@ outside_open d k b h = grind (arith, nat_tests)
 abbrev Open : Scan → Type 0
 Open s = is_ended s.inside ≡ false
 
-pub next_inside : (i : Inside) (d : ℕ) (k : LineKind) (b : ℕ) → (b == 10) ≡ false → is_ended (next_in i d k b).inside ≡ false
+pub next_inside : (i : CutState) (d : ℕ) (k : LineKind) (b : ℕ) → (b == 10) ≡ false → is_ended (next_in i d k b).inside ≡ false
 next_inside Plain d k b h = outside_open d k b h
 next_inside Ended d k b h = outside_open 0 Blank b h
 next_inside BrokenOff d k b h = outside_open 0 Blank b h
@@ -119,7 +119,7 @@ is_kept Statement h = refl
 outside_kept : (d : ℕ) (k : LineKind) (b : ℕ) → is_blank_kind k ≡ false → is_blank_kind (outside d k b).kind ≡ false
 outside_kept d k b h = grind (arith, nat_tests, is_kept)
 
-pub kept_kind : (i : Inside) (d : ℕ) (k : LineKind) (b : ℕ) → is_ended i ≡ false → is_blank_kind k ≡ false → is_blank_kind (next_in i d k b).kind ≡ false
+pub kept_kind : (i : CutState) (d : ℕ) (k : LineKind) (b : ℕ) → is_ended i ≡ false → is_blank_kind k ≡ false → is_blank_kind (next_in i d k b).kind ≡ false
 kept_kind i d k b open_ h =
     after_step (λ s. is_blank_kind s.kind ≡ false) d k b i (λ j. h) (outside_kept d k b h) (outside_kept d Statement b refl) (λ e. absurd (false≢true (sym open_ ∙ e)))
 

@@ -8,7 +8,7 @@ use Rattle.bz_token.specs.declared.cutter.scan.LineKind.{LineKind}
 use Rattle.bz_token.specs.declared.cutter.scan.LineKind.TheVariants.{Statement}
 use Rattle.bz_token.specs.declared.cutter.scan.Quote.{Quote}
 use Rattle.bz_token.specs.declared.cutter.scan.Quote.TheVariants.{Single, Double}
-use Rattle.bz_token.specs.declared.cutter.scan.Inside.TheVariants.{Plain, Backslash, Comment, Opened, OpenedTwice, Long}
+use Rattle.bz_token.specs.declared.cutter.scan.CutState.TheVariants.{Plain, Backslash, Comment, Opened, OpenedTwice, Long}
 use Rattle.bz_token.specs.Groups.{grouped_from}
 use Rattle.bz_token.specs.Munch.{IsLongest}
 use Rattle.bz_token.specs.Pieces.{is_byte, escape_takes, units, but_last, is_quote, stops_short, three_in_a_row, is_one, is_comment, is_continued, is_short_string, is_long_string, is_broken_off, is_piece}

@@ -9,8 +9,8 @@ use Rattle.bz_token.specs.declared.cutter.scan.LineKind.{LineKind}
 use Rattle.bz_token.specs.declared.cutter.scan.LineKind.TheVariants.{Statement}
 use Rattle.bz_token.specs.declared.cutter.scan.Quote.{Quote}
 use Rattle.bz_token.specs.declared.cutter.scan.Quote.TheVariants.{Single, Double}
-use Rattle.bz_token.specs.declared.cutter.scan.Inside.{Inside}
-use Rattle.bz_token.specs.declared.cutter.scan.Inside.TheVariants.{Plain, Comment, Short}
+use Rattle.bz_token.specs.declared.cutter.scan.CutState.{CutState}
+use Rattle.bz_token.specs.declared.cutter.scan.CutState.TheVariants.{Plain, Comment, Short}
 use Rattle.bz_token.specs.declared.cutter.scan.Scan.{Scan}
 use Rattle.bz_token.specs.private.CutSteps.{is_quiet, byte_of, at, outside, in_short, next, run}
 use Rattle.bz_token.proofs.CutMachine.{run_append}
@@ -85,19 +85,19 @@ comment_same d k b h = past (b == 10) (at Comment d k) _ _ (not-true _ h) refl
 pub statement_run : (s : Scan) (bs : List ℕ) → s.inside ≡ Plain → s.kind ≡ Statement → run s (take (prefix_len is_quiet bs) bs) ≡ s
 statement_run s bs e f = by s.inside s.depth s.kind e f
   where
-    by : (i : Inside) (d : ℕ) (k : LineKind) → i ≡ Plain → k ≡ Statement → run (at i d k) (take (prefix_len is_quiet bs) bs) ≡ at i d k
+    by : (i : CutState) (d : ℕ) (k : LineKind) → i ≡ Plain → k ≡ Statement → run (at i d k) (take (prefix_len is_quiet bs) bs) ≡ at i d k
     by i d k e f = rw (e, f) (run_same (at Plain d Statement) is_quiet (quiet_same d) bs)
 
 pub short_run : (s : Scan) (q : Quote) (bs : List ℕ) → s.inside ≡ Short q → run s (take (prefix_len is_quiet bs) bs) ≡ s
 short_run s q bs e = by s.inside s.depth s.kind e
   where
-    by : (i : Inside) (d : ℕ) (k : LineKind) → i ≡ Short q → run (at i d k) (take (prefix_len is_quiet bs) bs) ≡ at i d k
+    by : (i : CutState) (d : ℕ) (k : LineKind) → i ≡ Short q → run (at i d k) (take (prefix_len is_quiet bs) bs) ≡ at i d k
     by i d k e = rw e (run_same (at (Short q) d k) is_quiet (short_same q d k) bs)
 
 pub comment_run : (s : Scan) (bs : List ℕ) → s.inside ≡ Comment → run s (take (prefix_len (λ b. not (is_newline b)) bs) bs) ≡ s
 comment_run s bs e = by s.inside s.depth s.kind e
   where
-    by : (i : Inside) (d : ℕ) (k : LineKind) → i ≡ Comment → run (at i d k) (take (prefix_len (λ b. not (is_newline b)) bs) bs) ≡ at i d k
+    by : (i : CutState) (d : ℕ) (k : LineKind) → i ≡ Comment → run (at i d k) (take (prefix_len (λ b. not (is_newline b)) bs) bs) ≡ at i d k
     by i d k e = rw e (run_same (at Comment d k) (λ b. not (is_newline b)) (comment_same d k) bs)
 
 -- some bytes that change nothing, and one byte more

@@ -4,15 +4,15 @@ use Rattle.std.proofs.lemmas.Bool.{cases_Bool, or_parts}
 use Rattle.std.specs.List.{list_any}
 use Rattle.bz_token.specs.declared.cutter.scan.LineKind.{LineKind}
 use Rattle.bz_token.specs.declared.cutter.scan.LineKind.TheVariants.{Statement}
-use Rattle.bz_token.specs.declared.cutter.scan.Inside.{Inside}
-use Rattle.bz_token.specs.declared.cutter.scan.Inside.TheVariants.{Plain, Ended, BrokenOff, Backslash, BackslashReturn, Comment}
+use Rattle.bz_token.specs.declared.cutter.scan.CutState.{CutState}
+use Rattle.bz_token.specs.declared.cutter.scan.CutState.TheVariants.{Plain, Ended, BrokenOff, Backslash, BackslashReturn, Comment}
 use Rattle.bz_token.specs.declared.cutter.scan.Scan.{Scan}
 use Rattle.bz_token.specs.Pieces.{is_byte, is_comment, is_broken_off}
 use Rattle.bz_token.specs.LogicalLines.{Line, is_gap, count}
 use Rattle.bz_token.specs.private.CutSteps.{is_ended, is_broken, line_at, at, with_comment, outside, next}
 
 -- a backslash that is still open continues no line at the end
-abbrev pub final_kind : Inside → LineKind → LineKind
+abbrev pub final_kind : CutState → LineKind → LineKind
 final_kind Backslash kind = Statement
 final_kind BackslashReturn kind = Statement
 final_kind _ kind = kind

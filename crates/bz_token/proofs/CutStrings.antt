@@ -7,8 +7,8 @@ use Rattle.std.specs.List.{list_any}
 use Rattle.bz_token.specs.declared.cutter.scan.LineKind.{LineKind}
 use Rattle.bz_token.specs.declared.cutter.scan.Quote.{Quote}
 use Rattle.bz_token.specs.declared.cutter.scan.Quote.TheVariants.{Single, Double}
-use Rattle.bz_token.specs.declared.cutter.scan.Inside.{Inside}
-use Rattle.bz_token.specs.declared.cutter.scan.Inside.TheVariants.{Plain, BrokenOff, Short, ShortEscape, ShortEscapeReturn, Long, LongQuote, LongTwoQuotes, LongEscape}
+use Rattle.bz_token.specs.declared.cutter.scan.CutState.{CutState}
+use Rattle.bz_token.specs.declared.cutter.scan.CutState.TheVariants.{Plain, BrokenOff, Short, ShortEscape, ShortEscapeReturn, Long, LongQuote, LongTwoQuotes, LongEscape}
 use Rattle.bz_token.specs.declared.cutter.scan.Scan.{Scan}
 use Rattle.bz_token.specs.Groups.{grouped_from}
 use Rattle.bz_token.specs.Pieces.{is_byte, escape_takes, but_last, stops_short, three_in_a_row}
@@ -40,7 +40,7 @@ takes_cases u b h = elim (or_cases (is_byte 92 u) (bytes_eq u (92 ∷ 13 ∷ [])
 ]
 
 -- after the units before the open one
-abbrev pub short_state : Quote → List ℕ → Inside
+abbrev pub short_state : Quote → List ℕ → CutState
 short_state quote u = cond (is_byte 92 u) (ShortEscape quote) (cond (bytes_eq u (92 ∷ 13 ∷ [])) (ShortEscapeReturn quote) (Short quote))
 
 short_open : (quote : Quote) (u : List ℕ) → is_ended (short_state quote u) ≡ false
@@ -144,7 +144,7 @@ short_run quote (b ∷ bs) u after d k seen open_ early closed = elim (cases_Boo
 ]
 
 -- after so many quotes in a row
-abbrev pub long_at : Quote → ℕ → Inside
+abbrev pub long_at : Quote → ℕ → CutState
 long_at quote zero = Long quote
 long_at quote (suc zero) = LongQuote quote
 long_at quote (suc (suc n)) = LongTwoQuotes quote
@@ -152,7 +152,7 @@ long_at quote (suc (suc n)) = LongTwoQuotes quote
 abbrev pub row : ℕ → ℕ → List ℕ → ℕ
 row q n u = cond (is_byte q u) (n + 1) 0
 
-abbrev pub long_state : Quote → ℕ → List ℕ → Inside
+abbrev pub long_state : Quote → ℕ → List ℕ → CutState
 long_state quote n u = cond (is_byte 92 u) (LongEscape quote) (long_at quote (row (byte_of quote) n u))
 
 -- the unit is the third quote

@@ -2,11 +2,11 @@
 use Rattle.std.proofs.Common.{◌≡◌, ℕ, ◌<◌, ◌≤◌, List, [], ◌∷◌, ◌++◌, length, true, false, refl, sym, ap, ap₂, subst, ◌∙◌, arith, inl, inr, length-append, append_assoc, append-nil}
 use Rattle.std.proofs.lemmas.Bool.{cases_Bool}
 use Rattle.bz_token.specs.declared.cutter.scan.Scan.{Scan}
-use Rattle.bz_token.specs.declared.cutter.block.Stage.{Stage}
-use Rattle.bz_token.specs.declared.cutter.block.Stage.TheVariants.{Comments}
+use Rattle.bz_token.specs.declared.cutter.block.ChunkPhase.{ChunkPhase}
+use Rattle.bz_token.specs.declared.cutter.block.ChunkPhase.TheVariants.{Comments}
 use Rattle.bz_token.specs.declared.cutter.scan.LineKind.TheVariants.{Blank}
 use Rattle.bz_token.specs.Chunks.{chunks}
-use Rattle.bz_token.specs.private.Stages.{takes, stage_after}
+use Rattle.bz_token.specs.private.Phases.{takes, phase_after}
 use Rattle.bz_token.specs.Cuts.{EndsBefore}
 use Rattle.bz_token.specs.private.CutSteps.{is_ended, outside, next, start, run, line_here, seen_chunks}
 use Rattle.std.specs.List.{concat}
@@ -18,16 +18,16 @@ use Rattle.bz_token.proofs.ChunkLaws.{first_chunk as file_first}
 use Rattle.bz_token.proofs.CutLaws.{chunks_are}
 use Rattle.bz_token.proofs.Agree.{lines_from}
 
-seen_on : (s : Scan) (stage : Stage) (before part : List ℕ) (b : ℕ) (bs : List ℕ) → is_ended s.inside ≡ false → seen_chunks s stage before part (b ∷ bs) ≡ seen_chunks (next s b) stage before (part ++ b ∷ []) bs
-seen_on s stage before part b bs h = rw (h, seen_chunks) refl
+seen_on : (s : Scan) (phase : ChunkPhase) (before part : List ℕ) (b : ℕ) (bs : List ℕ) → is_ended s.inside ≡ false → seen_chunks s phase before part (b ∷ bs) ≡ seen_chunks (next s b) phase before (part ++ b ∷ []) bs
+seen_on s phase before part b bs h = rw (h, seen_chunks) refl
 
-seen_takes : (s : Scan) (stage : Stage) (before part : List ℕ) (b : ℕ) (bs : List ℕ) → is_ended s.inside ≡ true → takes (stage_after stage (line_here s part)) (b ∷ bs) ≡ true
-    → seen_chunks s stage before part (b ∷ bs) ≡ seen_chunks (next s b) (stage_after stage (line_here s part)) (before ++ part) (b ∷ []) bs
-seen_takes s stage before part b bs h t = rw (h, t, seen_chunks) refl
+seen_takes : (s : Scan) (phase : ChunkPhase) (before part : List ℕ) (b : ℕ) (bs : List ℕ) → is_ended s.inside ≡ true → takes (phase_after phase (line_here s part)) (b ∷ bs) ≡ true
+    → seen_chunks s phase before part (b ∷ bs) ≡ seen_chunks (next s b) (phase_after phase (line_here s part)) (before ++ part) (b ∷ []) bs
+seen_takes s phase before part b bs h t = rw (h, t, seen_chunks) refl
 
-seen_cut : (s : Scan) (stage : Stage) (before part : List ℕ) (b : ℕ) (bs : List ℕ) → is_ended s.inside ≡ true → takes (stage_after stage (line_here s part)) (b ∷ bs) ≡ false
-    → seen_chunks s stage before part (b ∷ bs) ≡ (before ++ part) ∷ seen_chunks (next s b) Comments [] (b ∷ []) bs
-seen_cut s stage before part b bs h t = rw (h, t, seen_chunks) refl
+seen_cut : (s : Scan) (phase : ChunkPhase) (before part : List ℕ) (b : ℕ) (bs : List ℕ) → is_ended s.inside ≡ true → takes (phase_after phase (line_here s part)) (b ∷ bs) ≡ false
+    → seen_chunks s phase before part (b ∷ bs) ≡ (before ++ part) ∷ seen_chunks (next s b) Comments [] (b ∷ []) bs
+seen_cut s phase before part b bs h t = rw (h, t, seen_chunks) refl
 
 -- the first chunk is not shorter than what was seen
 record BeginsWith (seen : List ℕ) (cs : List (List ℕ)) : Type 0 where
@@ -36,17 +36,17 @@ record BeginsWith (seen : List ℕ) (cs : List (List ℕ)) : Type 0 where
   pub chunks_are : cs ≡ chunk ∷ others
   pub enough : length seen ≤ length chunk
 
-first_chunk : (bs : List ℕ) (s : Scan) (stage : Stage) (before part : List ℕ) → BeginsWith (before ++ part) (seen_chunks s stage before part bs)
-first_chunk [] s stage before part = record { chunk = before ++ part; others = []; chunks_are = refl; enough = omega arith }
-first_chunk (b ∷ bs) s stage before part = elim (cases_Bool (is_ended s.inside)) [
+first_chunk : (bs : List ℕ) (s : Scan) (phase : ChunkPhase) (before part : List ℕ) → BeginsWith (before ++ part) (seen_chunks s phase before part bs)
+first_chunk [] s phase before part = record { chunk = before ++ part; others = []; chunks_are = refl; enough = omega arith }
+first_chunk (b ∷ bs) s phase before part = elim (cases_Bool (is_ended s.inside)) [
   | inr inside ↦
-      let r = first_chunk bs (next s b) stage before (part ++ b ∷ []) in
-      record { chunk = r.chunk; others = r.others; chunks_are = seen_on s stage before part b bs inside ∙ r.chunks_are; enough = omega (arith, r.enough, length-append before part, length-append before (part ++ b ∷ []), length-append part (b ∷ [])) }
-  | inl ended ↦ elim (cases_Bool (takes (stage_after stage (line_here s part)) (b ∷ bs))) [
+      let r = first_chunk bs (next s b) phase before (part ++ b ∷ []) in
+      record { chunk = r.chunk; others = r.others; chunks_are = seen_on s phase before part b bs inside ∙ r.chunks_are; enough = omega (arith, r.enough, length-append before part, length-append before (part ++ b ∷ []), length-append part (b ∷ [])) }
+  | inl ended ↦ elim (cases_Bool (takes (phase_after phase (line_here s part)) (b ∷ bs))) [
     | inl on ↦
-        let r = first_chunk bs (next s b) (stage_after stage (line_here s part)) (before ++ part) (b ∷ []) in
-        record { chunk = r.chunk; others = r.others; chunks_are = seen_takes s stage before part b bs ended on ∙ r.chunks_are; enough = omega (arith, r.enough, length-append (before ++ part) (b ∷ [])) }
-    | inr off ↦ record { chunk = before ++ part; others = seen_chunks (next s b) Comments [] (b ∷ []) bs; chunks_are = seen_cut s stage before part b bs ended off; enough = omega arith }
+        let r = first_chunk bs (next s b) (phase_after phase (line_here s part)) (before ++ part) (b ∷ []) in
+        record { chunk = r.chunk; others = r.others; chunks_are = seen_takes s phase before part b bs ended on ∙ r.chunks_are; enough = omega (arith, r.enough, length-append (before ++ part) (b ∷ [])) }
+    | inr off ↦ record { chunk = before ++ part; others = seen_chunks (next s b) Comments [] (b ∷ []) bs; chunks_are = seen_cut s phase before part b bs ended off; enough = omega arith }
   ]
 ]
 
@@ -54,24 +54,24 @@ same_first : (c d : List ℕ) (cs ds : List (List ℕ)) → c ∷ cs ≡ d ∷ d
 same_first c d cs ds e = cc
 
 -- where the first chunk is these bytes, they end a logical line
-ends_there : (xs : List ℕ) (b : ℕ) (rest : List ℕ) (s : Scan) (stage : Stage) (before part : List ℕ) (cs : List (List ℕ)) → seen_chunks s stage before part (xs ++ b ∷ rest) ≡ ((before ++ part) ++ xs) ∷ cs → is_ended (run s xs).inside ≡ true
-ends_there [] b rest s stage before part cs e = elim (cases_Bool (is_ended s.inside)) [
+ends_there : (xs : List ℕ) (b : ℕ) (rest : List ℕ) (s : Scan) (phase : ChunkPhase) (before part : List ℕ) (cs : List (List ℕ)) → seen_chunks s phase before part (xs ++ b ∷ rest) ≡ ((before ++ part) ++ xs) ∷ cs → is_ended (run s xs).inside ≡ true
+ends_there [] b rest s phase before part cs e = elim (cases_Bool (is_ended s.inside)) [
   | inl ended ↦ ended
   | inr inside ↦
-      let r = first_chunk rest (next s b) stage before (part ++ b ∷ []) in
-      let same = same_first r.chunk ((before ++ part) ++ []) r.others cs (sym (seen_on s stage before part b rest inside ∙ r.chunks_are) ∙ e) in
+      let r = first_chunk rest (next s b) phase before (part ++ b ∷ []) in
+      let same = same_first r.chunk ((before ++ part) ++ []) r.others cs (sym (seen_on s phase before part b rest inside ∙ r.chunks_are) ∙ e) in
       absurd (omega (arith, r.enough, ap length same, length-append (before ++ part) [], length-append before part, length-append before (part ++ b ∷ []), length-append part (b ∷ [])))
 ]
-ends_there (x ∷ xs) b rest s stage before part cs e = elim (cases_Bool (is_ended s.inside)) [
+ends_there (x ∷ xs) b rest s phase before part cs e = elim (cases_Bool (is_ended s.inside)) [
   | inr inside ↦
       let same : (before ++ part) ++ x ∷ xs ≡ (before ++ (part ++ x ∷ [])) ++ xs = simp append_assoc in
-      ends_there xs b rest (next s x) stage before (part ++ x ∷ []) cs (sym (seen_on s stage before part x (xs ++ b ∷ rest) inside) ∙ e ∙ ap (λ c. c ∷ cs) same)
-  | inl ended ↦ elim (cases_Bool (takes (stage_after stage (line_here s part)) (x ∷ xs ++ b ∷ rest))) [
+      ends_there xs b rest (next s x) phase before (part ++ x ∷ []) cs (sym (seen_on s phase before part x (xs ++ b ∷ rest) inside) ∙ e ∙ ap (λ c. c ∷ cs) same)
+  | inl ended ↦ elim (cases_Bool (takes (phase_after phase (line_here s part)) (x ∷ xs ++ b ∷ rest))) [
     | inl on ↦
         let same : (before ++ part) ++ x ∷ xs ≡ ((before ++ part) ++ x ∷ []) ++ xs = simp append_assoc in
-        ends_there xs b rest (next s x) (stage_after stage (line_here s part)) (before ++ part) (x ∷ []) cs (sym (seen_takes s stage before part x (xs ++ b ∷ rest) ended on) ∙ e ∙ ap (λ c. c ∷ cs) same)
+        ends_there xs b rest (next s x) (phase_after phase (line_here s part)) (before ++ part) (x ∷ []) cs (sym (seen_takes s phase before part x (xs ++ b ∷ rest) ended on) ∙ e ∙ ap (λ c. c ∷ cs) same)
     | inr off ↦
-        let same = same_first (before ++ part) ((before ++ part) ++ x ∷ xs) (seen_chunks (next s x) Comments [] (x ∷ []) (xs ++ b ∷ rest)) cs (sym (seen_cut s stage before part x (xs ++ b ∷ rest) ended off) ∙ e) in
+        let same = same_first (before ++ part) ((before ++ part) ++ x ∷ xs) (seen_chunks (next s x) Comments [] (x ∷ []) (xs ++ b ∷ rest)) cs (sym (seen_cut s phase before part x (xs ++ b ∷ rest) ended off) ∙ e) in
         absurd (omega (arith, ap length same, length-append (before ++ part) (x ∷ xs)))
   ]
 ]

@@ -41,7 +41,7 @@ pub mod CutMachine
 pub mod CutDepth
 pub mod CutQuiet
 pub mod CutLines
-pub mod Stages
+pub mod Phases
 pub mod CutLaws
 pub mod CutHeads
 pub mod CutAfter
@@ -51,6 +51,7 @@ pub mod CutTests
 pub mod ChunkLaws
 pub mod Quiet
 pub mod Stands
+pub mod TokenLengths
 pub mod TokenLines
 pub mod ChunkForms
 pub mod BlockWords

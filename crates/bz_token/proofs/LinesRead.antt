@@ -10,7 +10,7 @@ use Rattle.bz_token.specs.declared.token.Token.{Token}
 use Rattle.bz_token.specs.declared.chunk.LineEnd.TheVariants.{Joins, Ends}
 use Rattle.bz_token.specs.declared.chunk.FirstChunk.{FirstChunk}
 use Rattle.bz_token.specs.declared.lexer.Lexer.{Lexer}
-use Rattle.bz_token.specs.declared.lexer.Spot.{Spot}
+use Rattle.bz_token.specs.declared.lexer.Cursor.{Cursor}
 use Rattle.bz_token.specs.Places.{Placed, placed}
 use Rattle.bz_token.specs.Brackets.{is_line}
 use Rattle.bz_token.specs.Reading.{Piece, IsReading, open_after, bytes_of, tokens_of, AreTokensOf}
@@ -33,20 +33,20 @@ use Rattle.bz_token.proofs.FirstLines.{lines_reading, closed_lines, split_readin
 use Rattle.bz_token.proofs.LineEnds.{tokens_after, map_drop, joins_comment, line_ends}
 
 -- before the first step
-pub started : (first depth : ℕ) (bytes : List ℕ) (lexer : Lexer) (spot : Spot) → lexer.tokens.items ≡ [] → opened lexer.brackets ≡ [] → spot.rest.now ≡ bytes → spot.place.line ≡ first → spot.place.col ≡ 1 → spot.last_line ≡ None → IsUtf8 bytes → IsInLine first depth bytes lexer spot 0
-started first depth bytes lexer spot no_tokens closed rest line col none utf8 =
-    let r = read_fresh first depth bytes (map placed lexer.tokens.items) (opened lexer.brackets) spot.last_line spot.rest.now spot.place.line spot.place.col (ap (map placed) no_tokens) closed none rest line col utf8 in
+pub started : (first depth : ℕ) (bytes : List ℕ) (lexer : Lexer) (cursor : Cursor) → lexer.tokens.items ≡ [] → opened lexer.brackets ≡ [] → cursor.rest.now ≡ bytes → cursor.place.line ≡ first → cursor.place.col ≡ 1 → cursor.last_line ≡ None → IsUtf8 bytes → IsInLine first depth bytes lexer cursor 0
+started first depth bytes lexer cursor no_tokens closed rest line col none utf8 =
+    let r = read_fresh first depth bytes (map placed lexer.tokens.items) (opened lexer.brackets) cursor.last_line cursor.rest.now cursor.place.line cursor.place.col (ap (map placed) no_tokens) closed none rest line col utf8 in
     record { read = r.0; done = []; line = []; pieces_are = r.1; ended = refl; comments = refl; none = refl; start_is = refl }
 
 no_newline : (ps : List Piece) (p : Piece) → list_any is_newline_piece ps ≡ false → is_line p.kind ≡ false → list_any is_newline_piece (ps ++ p ∷ []) ≡ false
 no_newline ps p none h = list_any-append is_newline_piece ps (p ∷ []) ∙ rw (none, h) refl
 
 -- after a gap, or a token within the line
-pub stays : (first depth : ℕ) (bytes : List ℕ) (before lexer : Lexer) (old spot : Spot) (start : ℕ) (kind : Option Kind) (i : IsInLine first depth bytes before old start) (r : HasRead first depth bytes [] lexer spot) → Grows kind i.read.pieces r.pieces r.gap → (kind ≡ Some Newline → ⊥)
-    → IsInLine first depth bytes lexer spot start
-stays first depth bytes before lexer old spot start None i r grows other =
+pub stays : (first depth : ℕ) (bytes : List ℕ) (before lexer : Lexer) (old cursor : Cursor) (start : ℕ) (kind : Option Kind) (i : IsInLine first depth bytes before old start) (r : HasRead first depth bytes [] lexer cursor) → Grows kind i.read.pieces r.pieces r.gap → (kind ≡ Some Newline → ⊥)
+    → IsInLine first depth bytes lexer cursor start
+stays first depth bytes before lexer old cursor start None i r grows other =
     record { read = r; done = i.done; line = i.line; pieces_are = grows ∙ i.pieces_are; ended = i.ended; comments = i.comments; none = i.none; start_is = i.start_is }
-stays first depth bytes before lexer old spot start (Some kind) i r grows other =
+stays first depth bytes before lexer old cursor start (Some kind) i r grows other =
     record {
       read = r;
       done = i.done;
@@ -75,11 +75,11 @@ stays first depth bytes before lexer old spot start (Some kind) i r grows other 
     ]
 
 -- after the newline of a line
-pub line_read : (first depth : ℕ) (bytes : List ℕ) (before lexer : Lexer) (old spot : Spot) (start : ℕ) (kind : Option Kind) (i : IsInLine first depth bytes before old start) (r : HasRead first depth bytes [] lexer spot) → Grows kind i.read.pieces r.pieces r.gap → kind ≡ Some Newline
-    → IsAfterLine first depth bytes lexer spot start
-line_read first depth bytes before lexer old spot start kind i r grows is = by (subst (λ k. Grows k i.read.pieces r.pieces r.gap) is grows)
+pub line_read : (first depth : ℕ) (bytes : List ℕ) (before lexer : Lexer) (old cursor : Cursor) (start : ℕ) (kind : Option Kind) (i : IsInLine first depth bytes before old start) (r : HasRead first depth bytes [] lexer cursor) → Grows kind i.read.pieces r.pieces r.gap → kind ≡ Some Newline
+    → IsAfterLine first depth bytes lexer cursor start
+line_read first depth bytes before lexer old cursor start kind i r grows is = by (subst (λ k. Grows k i.read.pieces r.pieces r.gap) is grows)
   where
-    by : Grows (Some Newline) i.read.pieces r.pieces r.gap → IsAfterLine first depth bytes lexer spot start
+    by : Grows (Some Newline) i.read.pieces r.pieces r.gap → IsAfterLine first depth bytes lexer cursor start
     by (p, pieces, kind, gap) = record {
       read = r;
       done = i.done;
@@ -103,16 +103,16 @@ count_of_map [] = refl
 count_of_map (t ∷ ts) = ap suc (count_of_map ts)
 
 -- as many tokens as pieces
-pub token_count : (first depth : ℕ) (bytes : List ℕ) (lexer : Lexer) (spot : Spot) (r : HasRead first depth bytes [] lexer spot) → length lexer.tokens.items ≡ length r.pieces
-token_count first depth bytes lexer spot r = sym (count_of_map lexer.tokens.items) ∙ ap length r.tokens_are ∙ pieces_count first [] [] r.pieces
+pub token_count : (first depth : ℕ) (bytes : List ℕ) (lexer : Lexer) (cursor : Cursor) (r : HasRead first depth bytes [] lexer cursor) → length lexer.tokens.items ≡ length r.pieces
+token_count first depth bytes lexer cursor r = sym (count_of_map lexer.tokens.items) ∙ ap length r.tokens_are ∙ pieces_count first [] [] r.pieces
 
-pub start_within : (first depth : ℕ) (bytes : List ℕ) (lexer : Lexer) (spot : Spot) (start : ℕ) → IsAfterLine first depth bytes lexer spot start → start ≤ length lexer.tokens.items
-start_within first depth bytes lexer spot start a =
-    omega (arith, token_count first depth bytes lexer spot a.read, ap length a.pieces_are, length-append a.done (a.line ++ a.last ∷ []), a.start_is)
+pub start_within : (first depth : ℕ) (bytes : List ℕ) (lexer : Lexer) (cursor : Cursor) (start : ℕ) → IsAfterLine first depth bytes lexer cursor start → start ≤ length lexer.tokens.items
+start_within first depth bytes lexer cursor start a =
+    omega (arith, token_count first depth bytes lexer cursor a.read, ap length a.pieces_are, length-append a.done (a.line ++ a.last ∷ []), a.start_is)
 
 -- the tokens of the line
-line_tokens : (first depth : ℕ) (bytes : List ℕ) (lexer : Lexer) (spot : Spot) (start : ℕ) (a : IsAfterLine first depth bytes lexer spot start) → (b ls : List ℕ) × (map placed (drop start lexer.tokens.items) ≡ tokens_of first b ls (a.line ++ a.last ∷ []))
-line_tokens first depth bytes lexer spot start a =
+line_tokens : (first depth : ℕ) (bytes : List ℕ) (lexer : Lexer) (cursor : Cursor) (start : ℕ) (a : IsAfterLine first depth bytes lexer cursor start) → (b ls : List ℕ) × (map placed (drop start lexer.tokens.items) ≡ tokens_of first b ls (a.line ++ a.last ∷ []))
+line_tokens first depth bytes lexer cursor start a =
     let t = tokens_after first [] [] a.done (a.line ++ a.last ∷ []) in
     (t.0, t.1, map_drop start lexer.tokens.items ∙ ap (drop start) (a.read.tokens_are ∙ ap (tokens_of first [] []) a.pieces_are) ∙ ap (λ n. drop n (tokens_of first [] [] (a.done ++ (a.line ++ a.last ∷ [])))) a.start_is ∙ t.2)
 
@@ -123,9 +123,9 @@ lines_with : (done line : List Piece) (last : Piece) → ends_in_line done ≡ t
 lines_with done line last ended none newline = lines_of_join done (line ++ last ∷ []) [] ended ∙ ap (λ ls. lines_of done [] ++ ls) (one_line line last none newline)
 
 -- after a line of comments
-pub joined : (first depth : ℕ) (bytes : List ℕ) (lexer : Lexer) (spot : Spot) (start : ℕ) → IsAfterLine first depth bytes lexer spot start → line_end (map placed (drop start lexer.tokens.items)) ≡ Joins → IsInLine first depth bytes lexer spot (length lexer.tokens.items)
-joined first depth bytes lexer spot start a h =
-    let t = line_tokens first depth bytes lexer spot start a in
+pub joined : (first depth : ℕ) (bytes : List ℕ) (lexer : Lexer) (cursor : Cursor) (start : ℕ) → IsAfterLine first depth bytes lexer cursor start → line_end (map placed (drop start lexer.tokens.items)) ≡ Joins → IsInLine first depth bytes lexer cursor (length lexer.tokens.items)
+joined first depth bytes lexer cursor start a h =
+    let t = line_tokens first depth bytes lexer cursor start a in
     let whole = a.line ++ a.last ∷ [] in
     let comment = joins_comment first t.0 t.1 whole (ap line_end (sym t.2) ∙ h) in
     record {
@@ -136,7 +136,7 @@ joined first depth bytes lexer spot start a h =
       ended = all_ended a.done a.line a.last a.newline;
       comments = ap are_comments (lines_with a.done a.line a.last a.ended a.none a.newline) ∙ comments_snoc (lines_of a.done []) (line_of whole []) a.comments (ap is_comment_line comment);
       none = refl;
-      start_is = token_count first depth bytes lexer spot a.read ∙ ap length a.pieces_are;
+      start_is = token_count first depth bytes lexer cursor a.read ∙ ap length a.pieces_are;
     }
 
 -- the text of the lines that were read, and what follows them
@@ -145,18 +145,18 @@ pub record Front (bytes rest : List ℕ) (text : List ℕ) : Type 0 where
   pub text_is : text ≡ inner ++ 10 ∷ []
   pub bytes_are : bytes ≡ inner ++ 10 ∷ rest
 
-pub front : (first depth : ℕ) (bytes : List ℕ) (lexer : Lexer) (spot : Spot) (start : ℕ) (a : IsAfterLine first depth bytes lexer spot start) → Front bytes spot.rest.now (bytes_of a.read.pieces)
-front first depth bytes lexer spot start a =
+pub front : (first depth : ℕ) (bytes : List ℕ) (lexer : Lexer) (cursor : Cursor) (start : ℕ) (a : IsAfterLine first depth bytes lexer cursor start) → Front bytes cursor.rest.now (bytes_of a.read.pieces)
+front first depth bytes lexer cursor start a =
     let before = a.done ++ a.line in
     let pieces : a.read.pieces ≡ before ++ a.last ∷ [] = a.pieces_are ∙ sym (append_assoc a.done a.line (a.last ∷ [])) in
-    let r = split_reading depth [] before (a.last ∷ []) (a.read.gap ++ spot.rest.now) bytes (subst (λ ps. IsReading depth [] ps (a.read.gap ++ spot.rest.now) bytes) pieces a.read.reading) in
+    let r = split_reading depth [] before (a.last ∷ []) (a.read.gap ++ cursor.rest.now) bytes (subst (λ ps. IsReading depth [] ps (a.read.gap ++ cursor.rest.now) bytes) pieces a.read.reading) in
     let newline : a.last.text ≡ 10 ∷ [] = line_text a.last.kind a.last.text a.newline r.2.1.token.whole in
     let text : bytes_of a.read.pieces ≡ (bytes_of before ++ a.last.gap) ++ 10 ∷ [] = ap bytes_of pieces ∙ bytes_of-push before a.last ∙ sym (append_assoc (bytes_of before) a.last.gap a.last.text) ∙ ap (λ x. (bytes_of before ++ a.last.gap) ++ x) newline in
     record {
       inner = bytes_of before ++ a.last.gap;
       text_is = text;
-      bytes_are = reading_bytes depth [] a.read.pieces (a.read.gap ++ spot.rest.now) bytes a.read.reading ∙ ap (λ g. bytes_of a.read.pieces ++ (g ++ spot.rest.now)) a.gap_is
-          ∙ ap (λ x. x ++ spot.rest.now) text ∙ append_assoc (bytes_of before ++ a.last.gap) (10 ∷ []) spot.rest.now;
+      bytes_are = reading_bytes depth [] a.read.pieces (a.read.gap ++ cursor.rest.now) bytes a.read.reading ∙ ap (λ g. bytes_of a.read.pieces ++ (g ++ cursor.rest.now)) a.gap_is
+          ∙ ap (λ x. x ++ cursor.rest.now) text ∙ append_assoc (bytes_of before ++ a.last.gap) (10 ∷ []) cursor.rest.now;
     }
 
 front_length : (xs ys : List ℕ) → take (length xs) (xs ++ ys) ≡ xs
@@ -198,18 +198,18 @@ pub record Shown (first depth : ℕ) (text : List ℕ) (tokens : List Placed) : 
   pub are_tokens : AreTokensOf first depth text tokens
   pub ends : IsChunk text
 
-pub shown : (first depth : ℕ) (bytes : List ℕ) (lexer : Lexer) (spot : Spot) (start : ℕ) (a : IsAfterLine first depth bytes lexer spot start) → line_end (map placed (drop start lexer.tokens.items)) ≡ Ends → Shown first depth (bytes_of a.read.pieces) (map placed lexer.tokens.items)
-shown first depth bytes lexer spot start a h =
+pub shown : (first depth : ℕ) (bytes : List ℕ) (lexer : Lexer) (cursor : Cursor) (start : ℕ) (a : IsAfterLine first depth bytes lexer cursor start) → line_end (map placed (drop start lexer.tokens.items)) ≡ Ends → Shown first depth (bytes_of a.read.pieces) (map placed lexer.tokens.items)
+shown first depth bytes lexer cursor start a h =
     let ps = a.read.pieces in
     let whole = a.line ++ a.last ∷ [] in
-    let rest = a.read.gap ++ spot.rest.now in
+    let rest = a.read.gap ++ cursor.rest.now in
     let ended : ends_in_line ps ≡ true = ap ends_in_line a.pieces_are ∙ all_ended a.done a.line a.last a.newline in
     let reading = lines_reading depth [] ps rest bytes a.read.reading ended in
     let closed = closed_lines depth [] ps rest bytes a.read.reading ended (λ e. refl) in
-    let f = front first depth bytes lexer spot start a in
+    let f = front first depth bytes lexer cursor start a in
     let parts = split_reading depth [] a.done whole [] (bytes_of ps) (subst (λ qs. IsReading depth [] qs [] (bytes_of ps)) a.pieces_are reading) in
     let outside : open_after [] a.done ≡ [] = closed_lines depth [] a.done parts.0 (bytes_of ps) parts.1 a.ended (λ e. refl) in
-    let t = line_tokens first depth bytes lexer spot start a in
+    let t = line_tokens first depth bytes lexer cursor start a in
     let last : ends_chunk (line_of whole []) ≡ true = line_ends first depth t.0 t.1 a.line a.last parts.0 (subst (λ o. IsReading depth o whole [] parts.0) outside parts.2) a.none a.newline (ap line_end (sym t.2) ∙ h) in
     let are : lines (bytes_of ps) ≡ lines_of a.done [] ++ line_of whole [] ∷ [] = lines_are_lines depth ps [] (bytes_of ps) reading refl ∙ ap (λ qs. lines_of qs []) a.pieces_are ∙ lines_with a.done a.line a.last a.ended a.none a.newline in
     let lined : AreLinesOf first depth (bytes_of ps) (map placed lexer.tokens.items) = (ps, reading, closed, ended, a.read.tokens_are) in

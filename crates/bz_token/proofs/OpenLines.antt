@@ -1,17 +1,17 @@
 -- A text that ends within a logical line, before which stand comment lines alone, is a part of its chunk.
-use Rattle.std.proofs.Common.{◌≡◌, ℕ, ◌+◌, ◌<◌, ◌||◌, List, [], ◌∷◌, ◌++◌, length, map, Bool, true, false, not, refl, sym, ap, subst, ◌∙◌, arith, inl, inr, append_assoc, append-nil, length-append}
+use Rattle.std.proofs.Common.{◌≡◌, ℕ, ◌+◌, ◌<◌, List, [], ◌∷◌, ◌++◌, length, map, Bool, true, false, not, refl, sym, ap, subst, ◌∙◌, arith, inl, inr, append_assoc, append-nil}
 use Rattle.std.specs.Prelude.{if◌then◌else◌}
 use Rattle.std.specs.List.{list_any}
 use Rattle.std.proofs.lemmas.Bool.{cases_Bool, and_parts, or_parts, false≢true}
 use Rattle.bz_token.specs.declared.cutter.scan.LineKind.{LineKind}
 use Rattle.bz_token.specs.declared.cutter.scan.LineKind.TheVariants.{Blank}
 use Rattle.bz_token.specs.declared.cutter.scan.Scan.{Scan}
-use Rattle.bz_token.specs.declared.cutter.block.Stage.{Stage}
-use Rattle.bz_token.specs.declared.cutter.block.Stage.TheVariants.{Comments}
+use Rattle.bz_token.specs.declared.cutter.block.ChunkPhase.{ChunkPhase}
+use Rattle.bz_token.specs.declared.cutter.block.ChunkPhase.TheVariants.{Comments}
 use Rattle.bz_token.specs.declared.chunk.Front.{Front}
 use Rattle.bz_token.specs.declared.chunk.Front.TheVariants.{Short, Other}
 use Rattle.bz_token.specs.declared.lexer.Lexer.{Lexer}
-use Rattle.bz_token.specs.declared.lexer.Spot.{Spot}
+use Rattle.bz_token.specs.declared.lexer.Cursor.{Cursor}
 use Rattle.bz_token.specs.Brackets.{is_inside, is_line, open_after_token}
 use Rattle.bz_token.specs.Groups.{grouped, grouped_from}
 use Rattle.bz_token.specs.Lexical.{is_empty}
@@ -22,7 +22,7 @@ use Rattle.bz_token.specs.ChunkForms.{are_comments}
 use Rattle.bz_token.specs.Cuts.{is_physical_line, first_line, IsLonger, IsPart}
 use Rattle.bz_token.specs.FirstChunk.{IsFront}
 use Rattle.bz_token.specs.FreshStart.{ends_in_line}
-use Rattle.bz_token.specs.TokenLines.{is_newline_piece, line_of, lines_from, lines_of}
+use Rattle.bz_token.specs.TokenLines.{is_newline_piece, lines_from, lines_of}
 use Rattle.bz_token.specs.private.CutSteps.{is_ended, seen_chunks, next, start, run, fresh}
 use Rattle.bz_token.specs.private.LinesRead.{IsInLine}
 use Rattle.bz_token.specs.private.Progress.{HasRead}
@@ -70,13 +70,13 @@ front_quiet depth ps gap rest bytes r none white clean =
     (quiet_append (bytes_of ps) (gap ++ rest) start t.1.quiet (quiet_append gap rest s g.quiet (plain_quiet rest (run s gap) clean)))
 
 -- such bytes stay in the chunk that they stand in
-chunk_quiet : (bs rest : List ℕ) (s : Scan) (stage : Stage) (before part : List ℕ) → is_ended s.inside ≡ false → is_quiet s bs ≡ true → seen_chunks s stage before part (bs ++ rest) ≡ seen_chunks (run s bs) stage before (part ++ bs) rest
-chunk_quiet [] rest s stage before part h q = ap (λ t. seen_chunks s stage before t rest) (sym (append-nil part))
-chunk_quiet (b ∷ bs) rest s stage before part h q =
+chunk_quiet : (bs rest : List ℕ) (s : Scan) (phase : ChunkPhase) (before part : List ℕ) → is_ended s.inside ≡ false → is_quiet s bs ≡ true → seen_chunks s phase before part (bs ++ rest) ≡ seen_chunks (run s bs) phase before (part ++ bs) rest
+chunk_quiet [] rest s phase before part h q = ap (λ t. seen_chunks s phase before t rest) (sym (append-nil part))
+chunk_quiet (b ∷ bs) rest s phase before part h q =
     let p = and_parts (not (is_ended (next s b).inside)) (is_quiet (next s b) bs) q in
-    chunk_step s stage before part b (bs ++ rest) h
-    ∙ chunk_quiet bs rest (next s b) stage before (part ++ b ∷ []) (not_true (is_ended (next s b).inside) p.0) p.1
-    ∙ ap (λ t. seen_chunks (run (next s b) bs) stage before t rest) (append_assoc part (b ∷ []) bs)
+    chunk_step s phase before part b (bs ++ rest) h
+    ∙ chunk_quiet bs rest (next s b) phase before (part ++ b ∷ []) (not_true (is_ended (next s b).inside) p.0) p.1
+    ∙ ap (λ t. seen_chunks (run (next s b) bs) phase before t rest) (append_assoc part (b ∷ []) bs)
 
 quiet_chunks : (b : ℕ) (bs rest : List ℕ) → is_quiet start (b ∷ bs) ≡ true → chunks ((b ∷ bs) ++ rest) ≡ seen_chunks (run start (b ∷ bs)) Comments [] (b ∷ bs) rest
 quiet_chunks b bs rest q =
@@ -235,25 +235,25 @@ comments_part depth ps text bytes r ended are part = record {
     alone (b ∷ bs) p some = chunks_after (bytes_of ps) (b ∷ bs) (b ∷ bs) [] (lines_of ps []) (join (b ∷ bs)) whole are (p.last (omega arith))
 
 -- what is left of the text holds no newline
-pub text_part : (first depth : ℕ) (bytes : List ℕ) (lexer : Lexer) (spot : Spot) (from : ℕ) → IsInLine first depth bytes lexer spot from → has_newline spot.rest.now ≡ false → IsPart bytes
-text_part first depth bytes lexer spot from i clean =
-    let rest = i.read.gap ++ spot.rest.now in
+pub text_part : (first depth : ℕ) (bytes : List ℕ) (lexer : Lexer) (cursor : Cursor) (from : ℕ) → IsInLine first depth bytes lexer cursor from → has_newline cursor.rest.now ≡ false → IsPart bytes
+text_part first depth bytes lexer cursor from i clean =
+    let rest = i.read.gap ++ cursor.rest.now in
     let parts = split_reading depth [] i.done i.line rest bytes (subst (λ ps. IsReading depth [] ps rest bytes) i.pieces_are i.read.reading) in
     let closed : open_after [] i.done ≡ [] = closed_lines depth [] i.done parts.0 bytes parts.1 i.ended (λ e. refl) in
     let line : IsReading depth [] i.line rest parts.0 = subst (λ o. IsReading depth o i.line rest parts.0) closed parts.2 in
     let opened : open_after [] i.read.pieces ≡ open_after [] i.line = ap (open_after []) i.pieces_are ∙ open_after-append [] i.done i.line ∙ ap (λ o. open_after o i.line) closed in
     let white : is_gap (is_inside (open_after [] i.line)) i.read.gap ≡ true = ap (λ o. is_gap (is_inside o) i.read.gap) (sym opened) ∙ ap (is_gap (is_inside (open_after [] i.read.pieces))) (sym (append-nil i.read.gap)) ∙ i.read.goes_on [] in
-    let part = quiet_part parts.0 (front_quiet depth i.line i.read.gap spot.rest.now parts.0 line i.none white clean) in
+    let part = quiet_part parts.0 (front_quiet depth i.line i.read.gap cursor.rest.now parts.0 line i.none white clean) in
     subst IsPart (sym (reading_bytes depth [] i.done parts.0 bytes parts.1)) (comments_part depth i.done parts.0 bytes parts.1 i.ended i.comments part)
 
--- where the text ends on the line of a spot, no newline is left after it
-pub last_line_left : (first depth : ℕ) (bytes : List ℕ) (before lexer : Lexer) (at spot : Spot) (end : ℕ) → HasRead first depth bytes [] before at → HasRead first depth bytes [] lexer spot → end ≡ at.place.line + newlines at.rest.now → spot.place.line ≡ end → has_newline spot.rest.now ≡ false
-last_line_left first depth bytes before lexer at spot end p q is same = elim (cases_Bool (has_newline spot.rest.now)) [
+-- where the text ends on the line of a cursor, no newline is left after it
+pub last_line_left : (first depth : ℕ) (bytes : List ℕ) (before lexer : Lexer) (at cursor : Cursor) (end : ℕ) → HasRead first depth bytes [] before at → HasRead first depth bytes [] lexer cursor → end ≡ at.place.line + newlines at.rest.now → cursor.place.line ≡ end → has_newline cursor.rest.now ≡ false
+last_line_left first depth bytes before lexer at cursor end p q is same = elim (cases_Bool (has_newline cursor.rest.now)) [
   | inr none ↦ none
   | inl some ↦
       let there = places_fit _ _ _ _ _ _ _ _ _ p in
       let here = places_fit _ _ _ _ _ _ _ _ _ q in
-      absurd (omega (arith, some_newlines spot.rest.now some, there.0, here.0, is, same))
+      absurd (omega (arith, some_newlines cursor.rest.now some, there.0, here.0, is, same))
 ]
 
 pub none_left : (rest : List ℕ) → rest ≡ [] → has_newline rest ≡ false

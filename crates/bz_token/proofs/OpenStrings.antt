@@ -8,7 +8,7 @@ use Rattle.bz_token.specs.declared.scan_string.Escape.TheVariants.{Unescaped, Af
 use Rattle.bz_token.specs.declared.scan_string.Opening.{Opening}
 use Rattle.bz_token.specs.declared.cutter.scan.Quote.{Quote}
 use Rattle.bz_token.specs.declared.cutter.scan.LineKind.{LineKind}
-use Rattle.bz_token.specs.declared.cutter.scan.Inside.TheVariants.{Opened, OpenedTwice, Short, ShortEscape, ShortEscapeReturn, Long, LongQuote, LongEscape}
+use Rattle.bz_token.specs.declared.cutter.scan.CutState.TheVariants.{Opened, OpenedTwice, Short, ShortEscape, ShortEscapeReturn, Long, LongQuote, LongEscape}
 use Rattle.bz_token.specs.declared.cutter.scan.Scan.{Scan}
 use Rattle.bz_token.specs.private.CutSteps.{is_ended, byte_of, at, outside, in_short, next_in, next, run}
 use Rattle.bz_token.specs.Lexical.{closing_row, are_two, is_empty, is_string, opening, opening_length}

@@ -8,8 +8,8 @@ use Rattle.bz_token.specs.declared.token.Kind.{Kind}
 use Rattle.bz_token.specs.declared.token.Kind.TheVariants.{Identifier, Keyword, Integer, String, Operator, Newline, Comment as CommentToken, Kept}
 use Rattle.bz_token.specs.declared.cutter.scan.LineKind.{LineKind}
 use Rattle.bz_token.specs.declared.cutter.scan.LineKind.TheVariants.{Statement}
-use Rattle.bz_token.specs.declared.cutter.scan.Inside.{Inside}
-use Rattle.bz_token.specs.declared.cutter.scan.Inside.TheVariants.{Plain, Ended, BrokenOff, Backslash, BackslashReturn, Comment, Opened, OpenedTwice, Short, ShortEscape, ShortEscapeReturn, Long, LongQuote, LongTwoQuotes, LongEscape}
+use Rattle.bz_token.specs.declared.cutter.scan.CutState.{CutState}
+use Rattle.bz_token.specs.declared.cutter.scan.CutState.TheVariants.{Plain, Ended, BrokenOff, Backslash, BackslashReturn, Comment, Opened, OpenedTwice, Short, ShortEscape, ShortEscapeReturn, Long, LongQuote, LongTwoQuotes, LongEscape}
 use Rattle.bz_token.specs.declared.cutter.scan.Scan.{Scan}
 use Rattle.bz_token.specs.Lexical.{is_word_byte, is_newline, is_name, is_keyword, is_string, is_text, opening}
 use Rattle.bz_token.specs.private.CutSteps.{is_ended, outside, next_in, next, run}
@@ -59,7 +59,7 @@ seen_quiet (x ∷ xs) after s seen h q =
     ∙ ap (λ y. seen_lines (run (next s x) xs) y after) (append_assoc seen (x ∷ []) xs)
 
 -- what begins a statement makes its line one
-pub statement_next : (i : Inside) (d b : ℕ) → is_ended i ≡ false → (next_in i d Statement b).kind ≡ Statement
+pub statement_next : (i : CutState) (d b : ℕ) → is_ended i ≡ false → (next_in i d Statement b).kind ≡ Statement
 statement_next Plain d b h = grind (arith, nat_tests)
 statement_next Ended d b h = absurd (false≢true (sym h))
 statement_next BrokenOff d b h = absurd (false≢true (sym h))

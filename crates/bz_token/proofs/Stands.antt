@@ -7,8 +7,8 @@ use Rattle.bz_token.specs.declared.token.Kind.{Kind}
 use Rattle.bz_token.specs.declared.token.Kind.TheVariants.{Identifier, Keyword, Integer, String, Operator, Newline, Comment as CommentToken, Kept}
 use Rattle.bz_token.specs.declared.cutter.scan.LineKind.{LineKind}
 use Rattle.bz_token.specs.declared.cutter.scan.LineKind.TheVariants.{Statement}
-use Rattle.bz_token.specs.declared.cutter.scan.Inside.{Inside}
-use Rattle.bz_token.specs.declared.cutter.scan.Inside.TheVariants.{Plain, Ended, BrokenOff, Backslash, BackslashReturn, Comment, Opened, OpenedTwice, Short, ShortEscape, ShortEscapeReturn, Long, LongQuote, LongTwoQuotes, LongEscape}
+use Rattle.bz_token.specs.declared.cutter.scan.CutState.{CutState}
+use Rattle.bz_token.specs.declared.cutter.scan.CutState.TheVariants.{Plain, Ended, BrokenOff, Backslash, BackslashReturn, Comment, Opened, OpenedTwice, Short, ShortEscape, ShortEscapeReturn, Long, LongQuote, LongTwoQuotes, LongEscape}
 use Rattle.bz_token.specs.declared.cutter.scan.Scan.{Scan}
 use Rattle.bz_token.specs.private.CutSteps.{is_ended, at, outside, next_in, next, run, with_comment}
 use Rattle.bz_token.specs.Lexical.{is_blank, is_newline, is_text, IsToken}
@@ -67,7 +67,7 @@ pub record After (s t : Scan) (d : ℕ) (k : LineKind) (after passed : List ℕ)
 step_after : (s : Scan) (d : ℕ) (k : LineKind) (b : ℕ) (bs after : List ℕ) → is_ended (next s b).inside ≡ false → After (next s b) (run (next s b) bs) d k after bs → After s (run s (b ∷ bs)) d k after (b ∷ bs)
 step_after s d k b bs after none more = record { stands = more.stands; quiet = both (not (is_ended (next s b).inside)) (is_quiet (next s b) bs) (not_false (is_ended (next s b).inside) none) more.quiet }
 
-ended_at : (s : Scan) (i : Inside) (d : ℕ) (k : LineKind) → s ≡ at i d k → is_ended i ≡ false → is_ended s.inside ≡ false
+ended_at : (s : Scan) (i : CutState) (d : ℕ) (k : LineKind) → s ≡ at i d k → is_ended i ≡ false → is_ended s.inside ≡ false
 ended_at s i d k h none = ap (λ t. is_ended t.inside) h ∙ none
 
 inner_newline : (d : ℕ) (k : LineKind) → 0 < d → outside d k 10 ≡ at Plain d k
@@ -185,7 +185,7 @@ ready_stands s d after (acts f) none k = plainly (λ b bs e.
     let m = f b bs e in
     m.1 ∙ outside_statement d m.0 b (sym (ap (λ t. t.kind) m.1) ∙ statement_step s b none k)) (ap (final_kind s.inside) k ∙ final s.inside)
   where
-    final : (i : Inside) → final_kind i Statement ≡ Statement
+    final : (i : CutState) → final_kind i Statement ≡ Statement
     final Plain = refl
     final Ended = refl
     final BrokenOff = refl

@@ -6,7 +6,7 @@ use Rattle.std.proofs.lemmas.List.{length-take-le}
 use Rattle.std.proofs.lemmas.List.Sums.{prefix_len-le-length}
 use Rattle.std.proofs.lemmas.Bool.{false≢true}
 use Rattle.std.proofs.lemmas.Bool.Decides.{nat_tests}
-use Rattle.bz_token.specs.declared.gap.Gap.{Gap}
+use Rattle.bz_token.specs.declared.gap.TokenGap.{TokenGap}
 use Rattle.bz_token.specs.Brackets.{is_opening_bracket, is_closing_bracket, is_inside, bracket_fits, open_after_byte}
 use Rattle.bz_token.specs.Lexical.{begins, is_blank}
 use Rattle.bz_token.specs.Reading.{is_gap, begins_gap}
@@ -15,8 +15,8 @@ use Rattle.bz_token.specs.private.Steps.{IsTaken, IsRefused, IsGapHere, IsStep, 
 use Rattle.bz_token.specs.declared.brackets.Misfit.{Misfit}
 use Rattle.bz_token.specs.declared.scan_token.Bad.{Bad}
 use Rattle.bz_token.specs.declared.scan_token.Scanned.{Scanned}
-use Rattle.bz_token.specs.declared.scan_token.Step.{Step}
-use Rattle.bz_token.specs.declared.scan_token.Step.TheVariants as step
+use Rattle.bz_token.specs.declared.scan_token.GapOrToken.{GapOrToken}
+use Rattle.bz_token.specs.declared.scan_token.GapOrToken.TheVariants as step
 use Rattle.bz_token.specs.private.Tables.{IsSolid}
 use Rattle.bz_token.proofs.Gaps.{blank_run, blank_ascii}
 use Rattle.bz_token.proofs.Scanning.{all_front}
@@ -26,7 +26,7 @@ blank_first : (bytes : List ℕ) → begins is_blank bytes ≡ true → 0 < pref
 blank_first [] h = absurd (false≢true h)
 blank_first (b ∷ bs) h = rw (h, one-add) (omega arith)
 
-pub blanks_here : (inside : Bool) (bytes : List ℕ) (gap : Gap) → begins is_blank bytes ≡ true → gap.len ≡ prefix_len is_blank bytes → gap.on_line ≡ prefix_len is_blank bytes → gap.has_newline ≡ false → IsGapHere inside bytes gap
+pub blanks_here : (inside : Bool) (bytes : List ℕ) (gap : TokenGap) → begins is_blank bytes ≡ true → gap.len ≡ prefix_len is_blank bytes → gap.on_line ≡ prefix_len is_blank bytes → gap.has_newline ≡ false → IsGapHere inside bytes gap
 blanks_here inside bytes gap first len on ends =
     let n = prefix_len is_blank bytes in
     let some = blank_first bytes first in
@@ -50,7 +50,7 @@ last_ascii bs (suc n) counted =
     let e : prefix_len is_blank bs - 1 ≡ n = omega (arith, counted) in
     subst (λ k. get_or bs k 0 < 128) e (blank_ascii bs some)
 
-pub newline_here : (bytes : List ℕ) (gap : Gap) → 0 < length bytes → get_or bytes 0 0 ≡ 10 → gap.on_line ≡ prefix_len is_blank (drop 1 bytes) → gap.len ≡ 1 + gap.on_line → gap.has_newline ≡ true → IsGapHere true bytes gap
+pub newline_here : (bytes : List ℕ) (gap : TokenGap) → 0 < length bytes → get_or bytes 0 0 ≡ 10 → gap.on_line ≡ prefix_len is_blank (drop 1 bytes) → gap.len ≡ 1 + gap.on_line → gap.has_newline ≡ true → IsGapHere true bytes gap
 newline_here [] gap some first on len ends = absurd (omega arith)
 newline_here (b ∷ bs) gap some first on len ends =
     let n = prefix_len is_blank bs in
@@ -77,7 +77,7 @@ three_gap : (inside : Bool) (ys : List ℕ) → is_gap inside (92 ∷ 13 ∷ 10 
 three_gap true ys = refl
 three_gap false ys = refl
 
-pub two_here : (inside : Bool) (bytes : List ℕ) (gap : Gap) → 2 ≤ length bytes → get_or bytes 0 0 ≡ 92 → get_or bytes 1 0 ≡ 10 → gap.len ≡ 2 → gap.on_line ≡ 0 → gap.has_newline ≡ true → IsGapHere inside bytes gap
+pub two_here : (inside : Bool) (bytes : List ℕ) (gap : TokenGap) → 2 ≤ length bytes → get_or bytes 0 0 ≡ 92 → get_or bytes 1 0 ≡ 10 → gap.len ≡ 2 → gap.on_line ≡ 0 → gap.has_newline ≡ true → IsGapHere inside bytes gap
 two_here inside [] gap some first second len on ends = absurd (omega arith)
 two_here inside (a ∷ []) gap some first second len on ends = absurd (omega arith)
 two_here inside (a ∷ b ∷ bs) gap some first second len on ends = record {
@@ -90,7 +90,7 @@ two_here inside (a ∷ b ∷ bs) gap some first second len on ends = record {
   column = λ c. rw (len, on, ends, first, second) refl;
 }
 
-pub three_here : (inside : Bool) (bytes : List ℕ) (gap : Gap) → 3 ≤ length bytes → get_or bytes 0 0 ≡ 92 → get_or bytes 1 0 ≡ 13 → get_or bytes 2 0 ≡ 10 → gap.len ≡ 3 → gap.on_line ≡ 0 → gap.has_newline ≡ true → IsGapHere inside bytes gap
+pub three_here : (inside : Bool) (bytes : List ℕ) (gap : TokenGap) → 3 ≤ length bytes → get_or bytes 0 0 ≡ 92 → get_or bytes 1 0 ≡ 13 → get_or bytes 2 0 ≡ 10 → gap.len ≡ 3 → gap.on_line ≡ 0 → gap.has_newline ≡ true → IsGapHere inside bytes gap
 three_here inside [] gap some first second third len on ends = absurd (omega arith)
 three_here inside (a ∷ []) gap some first second third len on ends = absurd (omega arith)
 three_here inside (a ∷ b ∷ []) gap some first second third len on ends = absurd (omega arith)
@@ -116,11 +116,11 @@ newline_gap inside [] outside some first = absurd (omega arith)
 newline_gap inside (b ∷ bs) outside some first = rw (outside, first) refl
 
 -- what a step is, of the text itself
-pub gap_of_step : (depth : ℕ) (opened after bytes rest : List ℕ) (s : Step) (gap : Gap) → bytes ≡ rest → s ≡ step.Gap gap → IsTaken depth opened after bytes s → IsGapHere (is_inside opened) rest gap × (after ≡ opened)
+pub gap_of_step : (depth : ℕ) (opened after bytes rest : List ℕ) (s : GapOrToken) (gap : TokenGap) → bytes ≡ rest → s ≡ step.Gap gap → IsTaken depth opened after bytes s → IsGapHere (is_inside opened) rest gap × (after ≡ opened)
 gap_of_step depth opened after bytes rest s gap same_bytes same is =
     subst (λ xs. IsGapHere (is_inside opened) xs gap × (after ≡ opened)) same_bytes (subst (IsTaken depth opened after bytes) same is)
 
-pub token_of_step : (depth : ℕ) (opened after bytes rest : List ℕ) (s : Step) (t : Scanned) → bytes ≡ rest → s ≡ step.Token t → IsTaken depth opened after bytes s → IsTaken depth opened after rest (step.Token t)
+pub token_of_step : (depth : ℕ) (opened after bytes rest : List ℕ) (s : GapOrToken) (t : Scanned) → bytes ≡ rest → s ≡ step.Token t → IsTaken depth opened after bytes s → IsTaken depth opened after rest (step.Token t)
 token_of_step depth opened after bytes rest s t same_bytes same is =
     subst (λ xs. IsTaken depth opened after xs (step.Token t)) same_bytes (subst (IsTaken depth opened after bytes) same is)
 
@@ -128,17 +128,17 @@ pub end_gap : (inside : Bool) (xs : List ℕ) → xs ≡ [] → begins_gap insid
 end_gap inside xs none = rw none refl
 
 -- a step over a token
-pub token_step : (inside : Bool) (bytes : List ℕ) (r : Result Step Bad) → begins_gap inside bytes ≡ false → IfOk r (IsTokenStep bytes) → IfOk r (IsStep inside bytes)
+pub token_step : (inside : Bool) (bytes : List ℕ) (r : Result GapOrToken Bad) → begins_gap inside bytes ≡ false → IfOk r (IsTokenStep bytes) → IfOk r (IsStep inside bytes)
 token_step inside bytes (Ok (step.Gap gap)) none is = absurd is
 token_step inside bytes (Ok (step.Token s)) none is = (none, is)
 token_step inside bytes (Err bad) none is = tt
 
-pub bad_step : (inside : Bool) (bytes : List ℕ) (r : Result Step Bad) → begins_gap inside bytes ≡ false → IfErr r (IsBadPlace bytes) → IfErr r (IsBadStep inside bytes)
+pub bad_step : (inside : Bool) (bytes : List ℕ) (r : Result GapOrToken Bad) → begins_gap inside bytes ≡ false → IfErr r (IsBadPlace bytes) → IfErr r (IsBadStep inside bytes)
 bad_step inside bytes (Ok step) none is = tt
 bad_step inside bytes (Err bad) none is = (none, is)
 
 -- a step that takes no bracket
-pub step_taken : (depth : ℕ) (opened bytes : List ℕ) (s : Step) → (is_opening_bracket (get_or bytes 0 0) || is_closing_bracket (get_or bytes 0 0)) ≡ false → IsStep (is_inside opened) bytes s → IsTaken depth opened opened bytes s
+pub step_taken : (depth : ℕ) (opened bytes : List ℕ) (s : GapOrToken) → (is_opening_bracket (get_or bytes 0 0) || is_closing_bracket (get_or bytes 0 0)) ≡ false → IsStep (is_inside opened) bytes s → IsTaken depth opened opened bytes s
 step_taken depth opened bytes (step.Gap gap) none is = (is, refl)
 step_taken depth opened bytes (step.Token s) none is =
     let parts = neither (is_opening_bracket (get_or bytes 0 0)) (is_closing_bracket (get_or bytes 0 0)) none in

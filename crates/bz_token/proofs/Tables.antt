@@ -11,8 +11,8 @@ use Rattle.bz_token.specs.Lexical.{begins, is_word_byte, is_blank, are_two, open
 use Rattle.bz_token.specs.Brackets.{is_opening_bracket, is_closing_bracket}
 use Rattle.bz_token.specs.private.CutSteps.{is_quiet}
 use Rattle.bz_token.specs.private.Tables.{is_prefix_letter, is_point, is_operator_start, is_single, class_of, is_quiet_class, IsMark, IsSolid}
-use Rattle.bz_token.specs.declared.table.Class.{Class}
-use Rattle.bz_token.specs.declared.table.Class.TheVariants.{Unknown, Space, Newline, Letter, Prefix, Digit, Quote, Hash, Backslash, Open, Close, Point, Operator}
+use Rattle.bz_token.specs.declared.table.ByteClass.{ByteClass}
+use Rattle.bz_token.specs.declared.table.ByteClass.TheVariants.{Unknown, Space, Newline, Letter, Prefix, Digit, Quote, Hash, Backslash, Open, Close, Point, Operator}
 use Rattle.bz_token.specs.declared.table.TheConstants.{CLASS, WORD}
 use Rattle.bz_token.proofs.Openings.{opens_plain}
 
@@ -36,7 +36,7 @@ quiet_read b h =
 pub word_read : (b : ℕ) → b < 256 → get_or WORD b false ≡ is_word_byte b
 word_read b h = ap (λ t. get_or t b false) words ∙ get_or-map-range_with_len is_word_byte 0 256 b b false h (omega arith)
 
-abbrev pub Fact : Class → ℕ → Type 0
+abbrev pub Fact : ByteClass → ℕ → Type 0
 Fact Letter b = (is_word_byte b ≡ true) × (is_ascii_digit b ≡ false) × (is_prefix_letter b ≡ false) × IsSolid b
 Fact Prefix b = (is_word_byte b ≡ true) × (is_ascii_digit b ≡ false) × IsSolid b
 Fact Digit b = (is_ascii_digit b ≡ true) × IsSolid b
@@ -108,11 +108,11 @@ fact_of b = elim (cases_Bool (is_word_byte b)) [
   ]
 ]
 
-pub fact_at : (b : ℕ) (c : Class) → class_of b ≡ c → Fact c b
+pub fact_at : (b : ℕ) (c : ByteClass) → class_of b ≡ c → Fact c b
 fact_at b c is = subst (λ x. Fact x b) is (fact_of b)
 
 -- a byte of three has the class that each of them has
-one_class : (b x y z : ℕ) (c : Class) → class_of x ≡ c → class_of y ≡ c → class_of z ≡ c → (b == x || b == y || b == z) ≡ true → class_of b ≡ c
+one_class : (b x y z : ℕ) (c : ByteClass) → class_of x ≡ c → class_of y ≡ c → class_of z ≡ c → (b == x || b == y || b == z) ≡ true → class_of b ≡ c
 one_class b x y z c first second third h = elim (or_cases (b == x || b == y) (b == z) h) [
   | inr is ↦ ap class_of (eqb-true b z is) ∙ third
   | inl two ↦ elim (or_cases (b == x) (b == y) two) [
@@ -121,13 +121,13 @@ one_class b x y z c first second third h = elim (or_cases (b == x || b == y) (b 
   ]
 ]
 
-pub opens_no_other : (b : ℕ) (c : Class) → class_of b ≡ c → (c ≡ Open → ⊥) → is_opening_bracket b ≡ false
+pub opens_no_other : (b : ℕ) (c : ByteClass) → class_of b ≡ c → (c ≡ Open → ⊥) → is_opening_bracket b ≡ false
 opens_no_other b c is other = elim (cases_Bool (is_opening_bracket b)) [
   | inl opens ↦ absurd (other (sym is ∙ one_class b 40 91 123 Open refl refl refl opens))
   | inr none ↦ none
 ]
 
-pub closes_no_other : (b : ℕ) (c : Class) → class_of b ≡ c → (c ≡ Close → ⊥) → is_closing_bracket b ≡ false
+pub closes_no_other : (b : ℕ) (c : ByteClass) → class_of b ≡ c → (c ≡ Close → ⊥) → is_closing_bracket b ≡ false
 closes_no_other b c is other = elim (cases_Bool (is_closing_bracket b)) [
   | inl closes ↦ absurd (other (sym is ∙ one_class b 41 93 125 Close refl refl refl closes))
   | inr none ↦ none
@@ -166,13 +166,13 @@ quote_opens (b ∷ bs) long some quote two =
     opens_plain b bs r l ∙ rw (quote, two) refl
 
 -- no gap begins with a byte of this class
-abbrev pub is_solid_class : Class → Bool
+abbrev pub is_solid_class : ByteClass → Bool
 is_solid_class Space = false
 is_solid_class Newline = false
 is_solid_class Backslash = false
 is_solid_class _ = true
 
-pub solid_at : (b : ℕ) (c : Class) → class_of b ≡ c → is_solid_class c ≡ true → IsSolid b
+pub solid_at : (b : ℕ) (c : ByteClass) → class_of b ≡ c → is_solid_class c ≡ true → IsSolid b
 solid_at b Space is solid = absurd (false≢true solid)
 solid_at b Newline is solid = absurd (false≢true solid)
 solid_at b Backslash is solid = absurd (false≢true solid)
@@ -188,7 +188,7 @@ solid_at b Operator is solid = let m = fact_at b Operator is in (m.0, m.1.2, m.1
 solid_at b Unknown is solid = let m = fact_at b Unknown is in (m.0, m.1.2, m.1.4)
 
 -- one of these classes
-pub single_at : (b : ℕ) (c : Class) → class_of b ≡ c → (c ≡ Open) ⊎ ((c ≡ Close) ⊎ (c ≡ Point)) → (is_single b ≡ true) × IsSolid b
+pub single_at : (b : ℕ) (c : ByteClass) → class_of b ≡ c → (c ≡ Open) ⊎ ((c ≡ Close) ⊎ (c ≡ Point)) → (is_single b ≡ true) × IsSolid b
 single_at b c is one = elim one [
   | inl e ↦ let f = fact_at b Open (is ∙ e) in let opens = f.0 in (rw opens refl, f.1)
   | inr one ↦ elim one [
@@ -204,7 +204,7 @@ single_at b c is one = elim one [
     or_right true y h = refl
     or_right false y h = h
 
-pub mark_at : (b : ℕ) (c : Class) → class_of b ≡ c → (c ≡ Operator) ⊎ (c ≡ Unknown) → IsMark b × IsSolid b
+pub mark_at : (b : ℕ) (c : ByteClass) → class_of b ≡ c → (c ≡ Operator) ⊎ (c ≡ Unknown) → IsMark b × IsSolid b
 mark_at b c is one = elim one [
   | inl e ↦ let m = fact_at b Operator (is ∙ e) in (m.1, (m.0, m.1.2, m.1.4))
   | inr e ↦ let m = fact_at b Unknown (is ∙ e) in (m.1, (m.0, m.1.2, m.1.4))

@@ -8,8 +8,8 @@ use Rattle.bz_token.specs.declared.token.Kind.{Kind}
 use Rattle.bz_token.specs.declared.token.Kind.TheVariants.{Identifier, Keyword, Integer, String, Operator, Newline, Comment as CommentToken, Kept}
 use Rattle.bz_token.specs.declared.cutter.scan.LineKind.{LineKind}
 use Rattle.bz_token.specs.declared.cutter.scan.LineKind.TheVariants.{Blank, CommentLine, Statement}
-use Rattle.bz_token.specs.declared.cutter.scan.Inside.{Inside}
-use Rattle.bz_token.specs.declared.cutter.scan.Inside.TheVariants.{Plain, Ended, BrokenOff, Backslash, BackslashReturn, Comment, Opened, OpenedTwice, Short, ShortEscape, ShortEscapeReturn, Long, LongQuote, LongTwoQuotes, LongEscape}
+use Rattle.bz_token.specs.declared.cutter.scan.CutState.{CutState}
+use Rattle.bz_token.specs.declared.cutter.scan.CutState.TheVariants.{Plain, Ended, BrokenOff, Backslash, BackslashReturn, Comment, Opened, OpenedTwice, Short, ShortEscape, ShortEscapeReturn, Long, LongQuote, LongTwoQuotes, LongEscape}
 use Rattle.bz_token.specs.declared.cutter.scan.Scan.{Scan}
 use Rattle.bz_token.specs.private.CutSteps.{is_ended, is_broken, line_at, at, next, start, run}
 use Rattle.bz_token.specs.Lexical.{is_empty, is_text}
@@ -73,7 +73,7 @@ pub some_open : (opened : List ℕ) → is_inside opened ≡ true → 0 < length
 some_open [] h = absurd (false≢true h)
 some_open (a ∷ opened) h = omega arith
 
-no_break : (i : Inside) → is_ended i ≡ false → is_broken i ≡ false
+no_break : (i : CutState) → is_ended i ≡ false → is_broken i ≡ false
 no_break Plain h = refl
 no_break Ended h = refl
 no_break BrokenOff h = absurd (false≢true (sym h))

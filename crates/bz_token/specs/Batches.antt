@@ -11,10 +11,10 @@ batch reader = map placed reader.lexer.tokens.items
 
 -- how much of the text is still to be read
 abbrev pub left : TokenReader → ℕ
-left reader = length reader.spot.rest.now
+left reader = length reader.cursor.rest.now
 
 -- These are the tokens of the text so far, the last batch with them.
 pub record HasGiven (first depth : ℕ) (text : List ℕ) (given : List Placed) (reader : TokenReader) : Type 0 where
-  pub read : Progress first depth text given (opened reader.lexer.brackets) reader.spot.last_line reader.spot.rest.now reader.spot.place.line reader.spot.place.col
+  pub read : Progress first depth text given (opened reader.lexer.brackets) reader.cursor.last_line reader.cursor.rest.now reader.cursor.place.line reader.cursor.place.col
   pub depth_is : reader.max_depth ≡ depth
   pub fit : PlacesFit first text

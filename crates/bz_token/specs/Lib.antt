@@ -4,6 +4,7 @@ pub mod Brackets
 pub mod Reading
 pub mod Faults
 pub mod Ends
+pub mod Lengths
 pub mod UpToFault
 pub mod FreshStart
 pub mod Groups

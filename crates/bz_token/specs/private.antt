@@ -2,7 +2,7 @@ pub mod Closing
 pub mod CutSteps
 pub mod Decided
 pub mod Scans
-pub mod Stages
+pub mod Phases
 pub mod Steps
 pub mod Tables
 pub mod Keywords

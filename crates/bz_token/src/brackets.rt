@@ -5,8 +5,8 @@ ghost use Rattle.bz_token.specs.Places.{Placed, placed};
 ghost use Rattle.bz_token.specs.declared.brackets.Bracket.TheVariants.{Opening, Closing, Neither};
 ghost use Rattle.bz_token.specs.Brackets.{is_opening_bracket, is_closing_bracket, is_pair, is_inside, is_bracket, bracket_fits, closes_innermost, open_after_byte, open_tokens};
 
-use crate::gap::Place;
-use crate::table::{Class, class_at};
+use crate::gap::Position;
+use crate::table::{ByteClass, class_at};
 use crate::token::Token;
 
 /// The open brackets, the innermost first, at the end of an array.
@@ -29,14 +29,14 @@ pub enum Misfit {
 pub fn is_opening_bracket(b: u8) -> bool
     ensures { result ≡ is_opening_bracket b }
 {
-    matches!(class_at(b), Class::Open)
+    matches!(class_at(b), ByteClass::Open)
 }
 
 #[inline(always)]
 pub fn is_closing_bracket(b: u8) -> bool
     ensures { result ≡ is_closing_bracket b }
 {
-    matches!(class_at(b), Class::Close)
+    matches!(class_at(b), ByteClass::Close)
 }
 
 #[inline(always)]
@@ -125,7 +125,7 @@ fn bracket_of(text: &[u8]) -> Bracket
 }
 
 /// The place of the innermost bracket that is open after some tokens, if one is.
-pub fn innermost(tokens: &[Token<'_>]) -> Option<Place>
+pub fn innermost(tokens: &[Token<'_>]) -> Option<Position>
     ensures found { IfSome result
         (λ p. (t : Placed) × (outer : List Placed) × (open_tokens [] (map placed tokens.now) ≡ t ∷ outer)
         × (p.line ≡ t.line) × (p.col ≡ t.col)) }
@@ -140,7 +140,7 @@ pub fn innermost(tokens: &[Token<'_>]) -> Option<Place>
             Bracket::Closing => closed += 1,
             Bracket::Opening if closed > 0 => closed -= 1,
             Bracket::Opening => {
-                return Some(Place {
+                return Some(Position {
                     line: token.line,
                     col: token.col,
                 });

@@ -8,13 +8,13 @@ ghost use Rattle.bz_token.specs.private.LineEnds.{is_newline_token, is_comment_t
 
 use crate::cutter::block::opener_at;
 use crate::fault::LexFault;
-use crate::lexer::{Lexer, Spot};
+use crate::lexer::{Cursor, Lexer};
 use crate::token::{Kind, Token};
 use bumpalo::Bump;
 use bumpalo::collections::into_bump_slice;
 use std::alloc::AllocError;
 
-/// A chunk and its tokens, whose list stands in an arena.
+/// The chunk that a text begins with, and its tokens, a list in the caller's arena.
 #[derive(Clone, Copy)]
 pub struct FirstChunk<'a> {
     pub text: &'a str,
@@ -28,9 +28,9 @@ pub struct FirstChunk<'a> {
 pub enum Front<'a> {
     /// A chunk, whatever follows the text.
     Chunk(FirstChunk<'a>),
-    /// A chunk that the text ends in: it goes on with what follows.
+    /// A part of a chunk: the text ends before its chunk does.
     Short,
-    /// It is to be found in another way: a lexical fault stands there, or a block may begin.
+    /// What only `Cutter` and `tokens` tell: the chunk has a lexical fault, or may begin a block.
     Other,
 }
 
@@ -105,9 +105,9 @@ fn short_if(is_short: bool) -> Front<'static>
     if is_short { Front::Short } else { Front::Other }
 }
 
-/// The chunk that a text begins with, and its tokens, where the text shows that the chunk ends, whatever follows; or
-/// that the text ends before its chunk does. The text's first line has this number, and at most so many brackets may be
-/// open at once. `Err`: memory was refused.
+/// Finds the chunk that the text begins with, and its tokens, where the chunk ends there whatever follows the text; or
+/// says that the text ends before its chunk does. `first_line` is the number of the text's first line. More than
+/// `max_depth` brackets open at once are a fault. `Err`: allocation failed.
 pub fn first_chunk<'a>(
     bump: &'a Bump,
     text: &'a str,
@@ -118,26 +118,26 @@ pub fn first_chunk<'a>(
     ensures front { IfOk result (IsFront first_line max_depth text.now) }
 {
     let mut lexer = Lexer::new(bump, FIRST_CAPACITY)?;
-    let mut spot = Spot::start(text, first_line);
+    let mut cursor = Cursor::start(text, first_line);
     // The first token of the line that is being read.
     let mut line_start = 0;
-    while !spot.rest.is_empty() {
-        let (next, ends) = match lexer.read_line(spot, max_depth, usize::MAX) {
+    while !cursor.rest.is_empty() {
+        let (next, ends) = match lexer.read_line(cursor, max_depth, usize::MAX) {
             Ok(passed) => passed,
             Err(LexFault::OutOfMemory) => return Err(AllocError),
-            Err(fault) => return Ok(short_if(is_open_on(fault, spot.end_line()))),
+            Err(fault) => return Ok(short_if(is_open_on(fault, cursor.end_line()))),
         };
         if !ends {
             return Ok(short_if(next.rest.is_empty()));
         }
-        spot = next;
+        cursor = next;
         match line_end(lexer.tokens_from(line_start)) {
             LineEnd::Joins => line_start = lexer.tokens.len(),
             LineEnd::Ends => {
                 return Ok(Front::Chunk(FirstChunk {
-                    text: text.split_at(text.len() - spot.rest.len()).0,
+                    text: text.split_at(text.len() - cursor.rest.len()).0,
                     tokens: into_bump_slice(lexer.tokens),
-                    rest: spot.rest,
+                    rest: cursor.rest,
                 }));
             }
             LineEnd::Block => return Ok(Front::Other),

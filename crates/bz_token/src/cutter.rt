@@ -4,15 +4,15 @@ pub mod block;
 mod scan;
 
 ghost use Rattle.std.specs.Prelude.{◌≡◌, ◌+◌, ◌<◌, ◌^◌, ◌++◌, ◌↔◌, [], List, ℕ, false, length, IsTrue};
-ghost use Rattle.bz_token.specs.private.CutSteps.{start, fresh, moved, stage_now, cut_at, cutter_at};
+ghost use Rattle.bz_token.specs.private.CutSteps.{start, fresh, moved, phase_now, cut_at, cutter_at};
 ghost use Rattle.bz_token.specs.CutterState.{IsAfter, IsAtBlock, Takes, Awaits, AwaitsNext};
 ghost use Rattle.bz_token.specs.Chunks.{chunks};
 ghost use Rattle.bz_token.specs.Cuts.{IsChunk, IsPart, IsBlock, IsCut, IsNext, left, left_next, IsLast, is_physical_line, ends_in_newline};
 
-use block::{Opener, Stage, block_goes_on, opener_at, stage_step};
-use scan::{Inside, LineKind, Scan, is_ended, read};
+use block::{ChunkPhase, Opener, block_goes_on, opener_at, phase_step};
+use scan::{CutState, LineKind, Scan, is_ended, read};
 
-/// What a line says of its chunk.
+/// What a physical line says of its chunk.
 #[derive(Clone, Copy, Debug, PartialEq, Eq)]
 pub enum Cut {
     /// The chunk goes on after the line, or the file ends there.
@@ -30,7 +30,7 @@ pub enum Next {
     Goes,
     /// The lines since the last chunk's end are a chunk.
     Ends,
-    /// More bytes are needed, at most 5 in all.
+    /// Undecided: more bytes are needed, at most 5 in all.
     Short,
 }
 
@@ -42,13 +42,13 @@ pub struct Cutter {
     // The logical line that is being read. It has ended only after a line of a block.
     scan: Scan,
     // The chunk, by the logical lines before this one.
-    stage: Stage,
+    phase: ChunkPhase,
     // The word of a block that this logical line begins with.
     opener: Option<Opener>,
 }
 
 impl Cutter {
-    /// A cutter at the beginning of a file.
+    /// Makes a cutter for a file, of which nothing is read yet.
     pub fn new() -> Self
         ensures part { IsPart [] }
         ensures after { IsAfter result [] }
@@ -57,8 +57,8 @@ impl Cutter {
         Cutter::fresh()
     }
 
-    /// Reads one physical line with its newline, or the last line without one, which answers `More`. After `Block` it
-    /// asks for an answer of `goes_on` first. At most 2^64 - 1 bytes stand between two ends of chunks.
+    /// Reads the next physical line with its newline, and says what it is for its chunk. The last line of a file may have
+    /// no newline, and answers `More`. After `Block`, `goes_on` is asked first. A chunk has less than 2^64 bytes.
     pub fn line(&mut self, line: &[u8]) -> Cut
         requires one_line { IsTrue (is_physical_line line.now) }
         requires room { (seen : List ℕ) × IsAfter self.old seen × (length seen + length line.now < 2 ^ 64) }
@@ -77,20 +77,20 @@ impl Cutter {
         if !is_ended(self.scan.inside) {
             return Cut::More;
         }
-        let stage = self.stage_now();
-        *self = Cutter::at(stage);
-        cut_at(stage)
+        let phase = self.phase_now();
+        *self = Cutter::at(phase);
+        cut_at(phase)
     }
 
-    /// Whether the block goes on, after an answer of `Block`: `ahead` is what follows, and `at_end` says that nothing
-    /// comes after it. After `Short` it is asked again with more bytes.
+    /// Whether the block goes on, after `line` answered `Block`. `ahead` is what follows, and `at_end` says that nothing
+    /// comes after that. After `Short` it is asked again with more bytes.
     pub fn goes_on(&mut self, ahead: &[u8], at_end: bool) -> Next
         requires at_block { IsAtBlock self.old }
         ensures next { (seen : List ℕ) → IsAfter self.old seen → IsNext result at_end seen ahead.now }
         ensures after { (seen : List ℕ) → IsAfter self.old seen → IsAfter self.new (left_next result seen) }
         ensures awaits { AwaitsNext result at_end ahead.now self.new }
     {
-        let Stage::InBlock(word) = self.stage else {
+        let ChunkPhase::InBlock(word) = self.phase else {
             // No chunk is a block here; the condition rules it out.
             return Next::Ends;
         };
@@ -109,23 +109,23 @@ impl Cutter {
     {
         Cutter {
             scan: Scan::start(),
-            stage: Stage::Comments,
+            phase: ChunkPhase::Comments,
             opener: None,
         }
     }
 
     // After a logical line that has ended.
-    fn at(stage: Stage) -> Cutter
-        ensures { result ≡ cutter_at stage }
+    fn at(phase: ChunkPhase) -> Cutter
+        ensures { result ≡ cutter_at phase }
     {
-        match stage {
-            Stage::Comments | Stage::Done => Cutter::fresh(),
-            Stage::InBlock(_) => Cutter {
+        match phase {
+            ChunkPhase::Comments | ChunkPhase::Done => Cutter::fresh(),
+            ChunkPhase::InBlock(_) => Cutter {
                 scan: Scan {
-                    inside: Inside::Ended,
+                    inside: CutState::Ended,
                     ..Scan::start()
                 },
-                stage,
+                phase,
                 opener: None,
             },
         }
@@ -143,21 +143,21 @@ impl Cutter {
     }
 
     // What the chunk is after the logical line, which has ended.
-    fn stage_now(&self) -> Stage
-        ensures { result ≡ stage_now self.now }
+    fn phase_now(&self) -> ChunkPhase
+        ensures { result ≡ phase_now self.now }
     {
-        let broken = matches!(self.scan.inside, Inside::BrokenOff);
-        stage_step(self.stage, self.scan.kind, self.opener, broken)
+        let broken = matches!(self.scan.inside, CutState::BrokenOff);
+        phase_step(self.phase, self.scan.kind, self.opener, broken)
     }
 }
 
 // What the end of a logical line says of its chunk.
-fn cut_at(stage: Stage) -> Cut
-    ensures { result ≡ cut_at stage }
+fn cut_at(phase: ChunkPhase) -> Cut
+    ensures { result ≡ cut_at phase }
 {
-    match stage {
-        Stage::Comments => Cut::More,
-        Stage::InBlock(_) => Cut::Block,
-        Stage::Done => Cut::Whole,
+    match phase {
+        ChunkPhase::Comments => Cut::More,
+        ChunkPhase::InBlock(_) => Cut::Block,
+        ChunkPhase::Done => Cut::Whole,
     }
 }

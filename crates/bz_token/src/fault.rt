@@ -4,8 +4,8 @@ ghost use Rattle.std.specs.Prelude.{◌≡◌};
 
 use std::alloc::{AllocError, AllocFailed};
 
-/// The first fault of a text from left to right, or want of memory. Lines count from the text's first line, columns
-/// in bytes from 1.
+/// Why a text has no tokens: its first fault from left to right, with the line and the column of its first byte, or that
+/// allocation failed. The caller gives the number of the text's first line; columns are in bytes, from 1.
 #[derive(Clone, Copy, Debug, PartialEq, Eq)]
 pub enum LexFault {
     OutOfMemory,

@@ -12,25 +12,25 @@ use std::simd::prelude::*;
 
 /// A place in a text: its line, and its column in bytes from 1.
 #[derive(Clone, Copy)]
-pub struct Place {
+pub struct Position {
     pub line: u64,
     pub col: u64,
 }
 
-impl Place {
+impl Position {
     /// The beginning of a line.
     #[inline(always)]
-    pub fn start(line: u64) -> Place
+    pub fn start(line: u64) -> Position
         ensures line { result.line ≡ line }
         ensures col { result.col ≡ 1 }
     {
-        Place { line, col: 1 }
+        Position { line, col: 1 }
     }
 }
 
 /// The place after some bytes.
 #[inline(always)]
-pub fn advance(place: Place, bytes: &[u8]) -> Place
+pub fn advance(place: Position, bytes: &[u8]) -> Position
     requires line_fits { place.line + count_by (λ b. b == 10) bytes.now < 2 ^ 64 }
     requires col_fits { place.col + length bytes.now < 2 ^ 64 }
     requires col_counts { 0 < place.col }
@@ -47,12 +47,12 @@ pub fn advance(place: Place, bytes: &[u8]) -> Place
             col += 1;
         }
     }
-    Place { line, col }
+    Position { line, col }
 }
 
 /// White space or a continued line, with at most one newline.
 #[derive(Clone, Copy)]
-pub struct Gap {
+pub struct TokenGap {
     pub len: usize,
     /// The bytes after the newline, or all where there is none.
     pub on_line: usize,
@@ -61,7 +61,7 @@ pub struct Gap {
 
 /// The place after a gap.
 #[inline(always)]
-pub fn after_gap(place: Place, gap: Gap) -> Place
+pub fn after_gap(place: Position, gap: TokenGap) -> Position
     requires line_fits { place.line + (if gap.has_newline then 1 else 0) < 2 ^ 64 }
     requires col_fits { place.col + gap.on_line < 2 ^ 64 }
     requires col_counts { 0 < place.col }
@@ -69,12 +69,12 @@ pub fn after_gap(place: Place, gap: Gap) -> Place
     ensures col { result.col ≡ (if gap.has_newline then 1 else place.col) + gap.on_line }
 {
     if gap.has_newline {
-        Place {
+        Position {
             line: place.line + 1,
             col: 1 + gap.on_line as u64,
         }
     } else {
-        Place {
+        Position {
             line: place.line,
             col: place.col + gap.on_line as u64,
         }
@@ -117,7 +117,7 @@ fn indent_len(bytes: &[u8]) -> usize
 
 /// The blanks here.
 #[inline(always)]
-pub fn blanks(bytes: &[u8]) -> Gap
+pub fn blanks(bytes: &[u8]) -> TokenGap
     requires { begins is_blank bytes.now ≡ true }
     ensures { (inside : Bool) → IsGapHere inside bytes.now result }
 {
@@ -125,7 +125,7 @@ pub fn blanks(bytes: &[u8]) -> Gap
         [b' ', b, ..] if !is_blank(*b) => 1,
         _ => blank_len(bytes),
     };
-    Gap {
+    TokenGap {
         len,
         on_line: len,
         has_newline: false,
@@ -134,13 +134,13 @@ pub fn blanks(bytes: &[u8]) -> Gap
 
 /// The newline here and the blanks after it, inside brackets.
 #[inline(always)]
-pub fn newline(bytes: &[u8]) -> Gap
+pub fn newline(bytes: &[u8]) -> TokenGap
     requires some { 0 < length bytes.now }
     requires newline { slice_index bytes.now 0 ≡ 10 }
     ensures { IsGapHere true bytes.now result }
 {
     let on_line = indent_len(&bytes[1..]);
-    Gap {
+    TokenGap {
         len: 1 + on_line,
         on_line,
         has_newline: true,
@@ -149,19 +149,19 @@ pub fn newline(bytes: &[u8]) -> Gap
 
 /// The continued line that begins with the backslash here, if one does.
 #[inline(always)]
-pub fn continued(bytes: &[u8]) -> Option<Gap>
+pub fn continued(bytes: &[u8]) -> Option<TokenGap>
     requires some { 0 < length bytes.now }
     requires backslash { slice_index bytes.now 0 ≡ 92 }
     ensures some { IfSome result (λ gap. (inside : Bool) → IsGapHere inside bytes.now gap) }
     ensures none { IfNone result ((inside : Bool) → begins_gap inside bytes.now ≡ false) }
 {
     match bytes {
-        [_, b'\n', ..] => Some(Gap {
+        [_, b'\n', ..] => Some(TokenGap {
             len: 2,
             on_line: 0,
             has_newline: true,
         }),
-        [_, b'\r', b'\n', ..] => Some(Gap {
+        [_, b'\r', b'\n', ..] => Some(TokenGap {
             len: 3,
             on_line: 0,
             has_newline: true,

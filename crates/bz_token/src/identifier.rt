@@ -1,6 +1,7 @@
 //! Identifiers.
 
-ghost use Rattle.std.specs.Prelude.{◌≡◌};
+ghost use Rattle.std.specs.Prelude.{◌≡◌, ◌&&◌, not};
+ghost use Rattle.std.specs.Char.{is_ascii_digit};
 ghost use Rattle.std.specs.List.{list_all};
 ghost use Rattle.bz_token.specs.declared.token.Kind.TheVariants.{Identifier};
 ghost use Rattle.bz_token.specs.Lexical as spec;
@@ -8,8 +9,8 @@ ghost use Rattle.bz_token.specs.Lexical as spec;
 use crate::scan::is_keyword;
 use crate::table::is_word_byte;
 
-/// The text is an identifier: ASCII letters, digits and underscores that begin with no digit, and no keyword (Starlark
-/// specification, "Lexical elements").
+/// Whether the whole text is an identifier: ASCII letters, digits and underscores, the first no digit, and no keyword
+/// (Starlark specification, "Lexical elements").
 pub fn is_identifier(text: &str) -> bool
     ensures { result ≡ spec.is_text Identifier text.now }
 {
@@ -19,9 +20,17 @@ pub fn is_identifier(text: &str) -> bool
 fn is_name(bytes: &[u8]) -> bool
     ensures { result ≡ spec.is_name bytes.now }
 {
-    match bytes.split_first() {
+    begins_name(bytes) && are_word_bytes(bytes)
+}
+
+/// Whether letters, digits and underscores are a name: there are some, and the first is no digit.
+#[inline(always)]
+pub fn begins_name(word: &[u8]) -> bool
+    ensures { result ≡ (not (spec.is_empty word.now) && not (spec.begins is_ascii_digit word.now)) }
+{
+    match word.split_first() {
         None => false,
-        Some((first, _)) => !first.is_ascii_digit() && are_word_bytes(bytes),
+        Some((first, _)) => !first.is_ascii_digit(),
     }
 }
 

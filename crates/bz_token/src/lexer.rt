@@ -15,8 +15,8 @@ ghost use Rattle.bz_token.specs.private.Progress.{HasRead, Grows, PlacesFit, IsR
 
 use crate::brackets::{Brackets, Misfit, innermost, is_bracket_byte};
 use crate::fault::LexFault;
-use crate::gap::{Gap, Place, advance, after_gap, blanks, newline};
-use crate::scan_token::{Bad, Step, scan_bracket, step_at};
+use crate::gap::{Position, TokenGap, advance, after_gap, blanks, newline};
+use crate::scan_token::{Bad, GapOrToken, scan_bracket, step_at};
 use crate::token::{Kind, Token};
 use bumpalo::Bump;
 use bumpalo::collections::into_bump_slice;
@@ -24,7 +24,7 @@ use std::alloc::AllocError;
 
 /// The place after a token.
 #[inline(always)]
-fn pass(place: Place, text: &[u8], has_newline: bool) -> Place
+fn pass(place: Position, text: &[u8], has_newline: bool) -> Position
     requires line_fits { place.line + count_by (λ b. b == 10) text.now < 2 ^ 64 }
     requires col_fits { place.col + length text.now < 2 ^ 64 }
     requires col_counts { 0 < place.col }
@@ -35,7 +35,7 @@ fn pass(place: Place, text: &[u8], has_newline: bool) -> Place
     if has_newline {
         return advance(place, text);
     }
-    Place {
+    Position {
         line: place.line,
         col: place.col + text.len() as u64,
     }
@@ -50,10 +50,10 @@ fn is_fresh(last_line: Option<u64>, line: u64) -> bool
 }
 
 // The fault of a place where no token stands.
-fn bad_fault(bad: Bad, place: Place) -> LexFault
+fn bad_fault(bad: Bad, place: Position) -> LexFault
     ensures { result ≡ bad_fault bad place.line place.col }
 {
-    let Place { line, col } = place;
+    let Position { line, col } = place;
     match bad {
         Bad::Character => LexFault::BadCharacter { line, col },
         Bad::Number => LexFault::BadNumber { line, col },
@@ -63,10 +63,10 @@ fn bad_fault(bad: Bad, place: Place) -> LexFault
 }
 
 // The fault of a bracket that does not fit.
-fn misfit_fault(misfit: Misfit, place: Place) -> LexFault
+fn misfit_fault(misfit: Misfit, place: Position) -> LexFault
     ensures { result ≡ misfit_fault misfit place.line place.col }
 {
-    let Place { line, col } = place;
+    let Position { line, col } = place;
     match misfit {
         Misfit::TooDeep => LexFault::TooDeep { line, col },
         Misfit::NoMatch => LexFault::BadBracket { line, col },
@@ -79,8 +79,8 @@ fn read_step(
     brackets: &mut Brackets,
     bytes: &[u8],
     max_depth: u8,
-    place: Place,
-) -> Result<Step, LexFault>
+    place: Position,
+) -> Result<GapOrToken, LexFault>
     requires { 0 < length bytes.now }
     ensures step { IfOk result (IsTaken max_depth (opened brackets.old) (opened brackets.new) bytes.now) }
     ensures fault { IfErr result (IsRefused max_depth (opened brackets.old) bytes.now place.line place.col) }
@@ -92,33 +92,33 @@ fn read_step(
         };
     }
     match brackets.take(bytes[0], max_depth) {
-        Ok(()) => Ok(Step::Token(scan_bracket(bytes))),
+        Ok(()) => Ok(GapOrToken::Token(scan_bracket(bytes))),
         Err(misfit) => Err(misfit_fault(misfit, place)),
     }
 }
 
 /// Where reading stands in a text.
 #[derive(Clone, Copy)]
-pub struct Spot<'a> {
+pub struct Cursor<'a> {
     /// What is still to be read.
     pub rest: &'a str,
-    place: Place,
+    place: Position,
     // The line on which the last token begins.
     last_line: Option<u64>,
 }
 
-impl<'a> Spot<'a> {
+impl<'a> Cursor<'a> {
     /// The beginning of a text.
     #[inline(always)]
-    pub fn start(text: &'a str, first_line: u64) -> Spot<'a>
+    pub fn start(text: &'a str, first_line: u64) -> Cursor<'a>
         ensures rest { result.rest.now ≡ text.now }
         ensures line { result.place.line ≡ first_line }
         ensures col { result.place.col ≡ 1 }
         ensures none { result.last_line ≡ None }
     {
-        Spot {
+        Cursor {
             rest: text,
-            place: Place::start(first_line),
+            place: Position::start(first_line),
             last_line: None,
         }
     }
@@ -160,62 +160,66 @@ impl<'b, 'a> Lexer<'b, 'a> {
         &self.tokens[start..]
     }
 
-    // The spot after this gap.
+    // The cursor after this gap.
     #[inline(always)]
-    fn pass_gap(&self, spot: Spot<'a>, gap: Gap) -> Spot<'a>
-        requires gap { IsGapHere (is_inside (opened self.now.brackets)) spot.rest.now gap }
-        requires read { IsReadTo self.now spot }
-        ensures read { PassesWhite self.now spot.entry result }
-        ensures shorter { length result.rest.now < length spot.entry.rest.now }
+    fn pass_gap(&self, cursor: Cursor<'a>, gap: TokenGap) -> Cursor<'a>
+        requires gap { IsGapHere (is_inside (opened self.now.brackets)) cursor.rest.now gap }
+        requires read { IsReadTo self.now cursor }
+        ensures read { PassesWhite self.now cursor.entry result }
+        ensures shorter { length result.rest.now < length cursor.entry.rest.now }
     {
-        Spot {
-            rest: spot.rest.split_at(gap.len).1,
-            place: after_gap(spot.place, gap),
-            last_line: spot.last_line,
+        Cursor {
+            rest: cursor.rest.split_at(gap.len).1,
+            place: after_gap(cursor.place, gap),
+            last_line: cursor.last_line,
         }
     }
 
-    // The spot after what most often stands between two tokens, if it is here.
+    // The cursor after what most often stands between two tokens, if it is here.
     #[inline(always)]
-    fn pass_white(&self, spot: Spot<'a>) -> Spot<'a>
-        requires { IsReadTo self.now spot }
-        ensures read { PassesWhite self.now spot.entry result }
-        ensures not_longer { length result.rest.now ≤ length spot.entry.rest.now }
+    fn pass_white(&self, cursor: Cursor<'a>) -> Cursor<'a>
+        requires { IsReadTo self.now cursor }
+        ensures read { PassesWhite self.now cursor.entry result }
+        ensures not_longer { length result.rest.now ≤ length cursor.entry.rest.now }
     {
-        let bytes = spot.rest.as_bytes();
+        let bytes = cursor.rest.as_bytes();
         match bytes {
-            [b' ', ..] => self.pass_gap(spot, blanks(bytes)),
-            [b'\n', ..] if self.brackets.is_inside() => self.pass_gap(spot, newline(bytes)),
-            _ => spot,
+            [b' ', ..] => self.pass_gap(cursor, blanks(bytes)),
+            [b'\n', ..] if self.brackets.is_inside() => self.pass_gap(cursor, newline(bytes)),
+            _ => cursor,
         }
     }
 
-    /// Reads what stands here, a gap or a token: the spot after it, and the token's kind.
+    /// Reads what stands here, a gap or a token: the cursor after it, and the token's kind.
     #[inline(always)]
-    fn step(&mut self, spot: Spot<'a>, max_depth: u8) -> Result<(Spot<'a>, Option<Kind>), LexFault>
-        requires some { 0 < length spot.rest.now }
+    fn step(
+        &mut self,
+        cursor: Cursor<'a>,
+        max_depth: u8,
+    ) -> Result<(Cursor<'a>, Option<Kind>), LexFault>
+        requires some { 0 < length cursor.rest.now }
         requires places { (first : ℕ) × (bytes : List ℕ) × (given : List Placed)
-            × HasRead first max_depth bytes given self.old spot × PlacesFit first bytes }
+            × HasRead first max_depth bytes given self.old cursor × PlacesFit first bytes }
         ensures read { (first : ℕ) (bytes : List ℕ) (given : List Placed)
-            (before : HasRead first max_depth bytes given self.old spot.entry)
+            (before : HasRead first max_depth bytes given self.old cursor.entry)
             → IfOk result (λ passed. (after : HasRead first max_depth bytes given self.new passed.0)
             × Grows passed.1 before.pieces after.pieces after.gap) }
-        ensures shorter { IfOk result (λ passed. length passed.0.rest.now < length spot.entry.rest.now) }
+        ensures shorter { IfOk result (λ passed. length passed.0.rest.now < length cursor.entry.rest.now) }
         ensures fault { (first : ℕ) (bytes : List ℕ) (given : List Placed)
-            → HasRead first max_depth bytes given self.old spot.entry → IfErr result (IsFault first max_depth bytes) }
-        ensures open_text { IfErr result (IsOnLine spot.entry.place.line) }
+            → HasRead first max_depth bytes given self.old cursor.entry → IfErr result (IsFault first max_depth bytes) }
+        ensures open_text { IfErr result (IsOnLine cursor.entry.place.line) }
     {
-        let Spot {
+        let Cursor {
             rest,
             place,
             last_line,
-        } = spot;
+        } = cursor;
         let bytes = rest.as_bytes();
         match read_step(&mut self.brackets, bytes, max_depth, place) {
             Err(fault) => Err(fault),
-            Ok(Step::Gap(gap)) => Ok((self.pass_gap(spot, gap), None)),
-            Ok(Step::Token(scanned)) => {
-                let Place { line, col } = place;
+            Ok(GapOrToken::Gap(gap)) => Ok((self.pass_gap(cursor, gap), None)),
+            Ok(GapOrToken::Token(scanned)) => {
+                let Position { line, col } = place;
                 let (token, following) = rest.split_at(scanned.len);
                 self.tokens.push(Token {
                     kind: scanned.kind,
@@ -224,56 +228,56 @@ impl<'b, 'a> Lexer<'b, 'a> {
                     col,
                     fresh: is_fresh(last_line, line),
                 })?;
-                let spot = Spot {
+                let cursor = Cursor {
                     rest: following,
                     place: pass(place, token.as_bytes(), scanned.has_newline),
                     last_line: Some(line),
                 };
-                Ok((spot, Some(scanned.kind)))
+                Ok((cursor, Some(scanned.kind)))
             }
         }
     }
 
     /// Reads to the end of the logical line here, or of the text where no newline token ends it, or until the list has
-    /// so many tokens: the spot there, and whether a newline token ends the line. The list may be of what was read
+    /// so many tokens: the cursor there, and whether a newline token ends the line. The list may be of what was read
     /// after tokens that were given away.
     pub fn read_line(
         &mut self,
-        spot: Spot<'a>,
+        cursor: Cursor<'a>,
         max_depth: u8,
         most: usize,
-    ) -> Result<(Spot<'a>, bool), LexFault>
-        requires some { 0 < length spot.rest.now }
+    ) -> Result<(Cursor<'a>, bool), LexFault>
+        requires some { 0 < length cursor.rest.now }
         requires places { (first : ℕ) × (bytes : List ℕ) × (given : List Placed)
-            × HasRead first max_depth bytes given self.old spot × PlacesFit first bytes }
+            × HasRead first max_depth bytes given self.old cursor × PlacesFit first bytes }
         ensures read { (first : ℕ) (bytes : List ℕ) (given : List Placed)
-            → HasRead first max_depth bytes given self.old spot.entry
+            → HasRead first max_depth bytes given self.old cursor.entry
             → IfOk result (λ passed. HasRead first max_depth bytes given self.new passed.0) }
         ensures line { (first : ℕ) (bytes : List ℕ) (start : ℕ)
-            → IsInLine first max_depth bytes self.old spot.entry start
+            → IsInLine first max_depth bytes self.old cursor.entry start
             → IfOk result (λ passed. IsTrue passed.1 → IsAfterLine first max_depth bytes self.new passed.0 start) }
         ensures in_line { (first : ℕ) (bytes : List ℕ) (start : ℕ)
-            → IsInLine first max_depth bytes self.old spot.entry start
+            → IsInLine first max_depth bytes self.old cursor.entry start
             → IfOk result (λ passed. passed.1 ≡ false → IsInLine first max_depth bytes self.new passed.0 start) }
         ensures open_text { (first : ℕ) (bytes : List ℕ) (start : ℕ)
-            → IsInLine first max_depth bytes self.old spot.entry start
+            → IsInLine first max_depth bytes self.old cursor.entry start
             → IfErr result (IsOpenInLine first max_depth bytes start) }
-        ensures shorter { IfOk result (λ passed. length passed.0.rest.now < length spot.entry.rest.now) }
+        ensures shorter { IfOk result (λ passed. length passed.0.rest.now < length cursor.entry.rest.now) }
         ensures fault { (first : ℕ) (bytes : List ℕ) (given : List Placed)
-            → HasRead first max_depth bytes given self.old spot.entry → IfErr result (IsFault first max_depth bytes) }
+            → HasRead first max_depth bytes given self.old cursor.entry → IfErr result (IsFault first max_depth bytes) }
     {
-        let mut spot = spot;
-        while !spot.rest.is_empty() {
-            let (next, kind) = self.step(spot, max_depth)?;
+        let mut cursor = cursor;
+        while !cursor.rest.is_empty() {
+            let (next, kind) = self.step(cursor, max_depth)?;
             if kind == Some(Kind::Newline) {
                 return Ok((next, true));
             }
             if self.tokens.len() >= most {
                 return Ok((next, false));
             }
-            spot = self.pass_white(next);
+            cursor = self.pass_white(next);
         }
-        Ok((spot, false))
+        Ok((cursor, false))
     }
 }
 
@@ -290,13 +294,13 @@ fn closed<'b, 'a>(tokens: &'b [Token<'a>]) -> Result<&'b [Token<'a>], LexFault>
 {
     match innermost(tokens) {
         None => Ok(tokens),
-        Some(Place { line, col }) => Err(LexFault::OpenBracket { line, col }),
+        Some(Position { line, col }) => Err(LexFault::OpenBracket { line, col }),
     }
 }
 
-/// The tokens of a text, whose first line has this number, with at most so many brackets open at once; else the first
-/// fault from left to right. Tokens are those of the Starlark specification, and comments. Their list stands in the
-/// arena.
+/// Reads a text as its tokens, those of the Starlark specification and comments; or finds its first fault from left to
+/// right. `first_line` is the number of the text's first line. More than `max_depth` brackets open at once are a fault.
+/// The list of tokens is in the arena.
 pub fn tokens<'b, 'a>(
     bump: &'b Bump,
     text: &'a str,
@@ -308,9 +312,9 @@ pub fn tokens<'b, 'a>(
     ensures fault { IfErr result (IsFault first_line max_depth text.now) }
 {
     let mut lexer = Lexer::new(bump, first_capacity(text.len()))?;
-    let mut spot = Spot::start(text, first_line);
-    while !spot.rest.is_empty() {
-        spot = lexer.read_line(spot, max_depth, usize::MAX)?.0;
+    let mut cursor = Cursor::start(text, first_line);
+    while !cursor.rest.is_empty() {
+        cursor = lexer.read_line(cursor, max_depth, usize::MAX)?.0;
     }
     let is_inside = lexer.brackets.is_inside();
     let tokens = into_bump_slice(lexer.tokens);

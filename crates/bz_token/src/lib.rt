@@ -1,4 +1,4 @@
-//! The lowest layer: the tokens of a BUILD file with their places.
+//! The lowest layer: the tokens of a BUILD file with their lines and columns, and where its chunks end.
 #![tactic(auto)]
 
 mod brackets;
@@ -8,6 +8,7 @@ mod fault;
 mod gap;
 mod identifier;
 pub mod laws;
+mod lengths;
 mod lexer;
 mod plain;
 mod reader;
@@ -22,6 +23,7 @@ pub use chunk::{FirstChunk, Front, first_chunk};
 pub use cutter::{Cut, Cutter, Next};
 pub use fault::LexFault;
 pub use identifier::is_identifier;
+pub use lengths::{comment_len, identifier_len, integer_len, string_len};
 pub use lexer::tokens;
 pub use reader::TokenReader;
 pub use token::{Kind, Token};

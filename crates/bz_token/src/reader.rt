@@ -6,7 +6,7 @@ ghost use Rattle.bz_token.specs.Reading.{AreTokensOf};
 ghost use Rattle.bz_token.specs.Batches.{HasGiven, batch, left};
 
 use crate::fault::LexFault;
-use crate::lexer::{Lexer, Spot};
+use crate::lexer::{Cursor, Lexer};
 use crate::token::Token;
 use bumpalo::Bump;
 use std::alloc::AllocError;
@@ -14,16 +14,17 @@ use std::alloc::AllocError;
 // So many tokens are a batch, or fewer.
 const MOST: usize = 256;
 
-/// Reads the tokens of a text in batches, so that the list of all of them is never there.
+/// Reads the tokens of a text in batches, so that the list of all of them never exists.
 #[derive(Drop)]
 pub struct TokenReader<'b, 'a> {
     lexer: Lexer<'b, 'a>,
-    spot: Spot<'a>,
+    cursor: Cursor<'a>,
     max_depth: u8,
 }
 
 impl<'b, 'a> TokenReader<'b, 'a> {
-    /// Before the first batch. The text's first line has this number, and at most so many brackets may be open at once.
+    /// Makes a reader of this text, before the first batch. `first_line` is the number of the text's first line. More
+    /// than `max_depth` brackets open at once are a fault.
     pub fn new(
         bump: &'b Bump,
         text: &'a str,
@@ -35,7 +36,7 @@ impl<'b, 'a> TokenReader<'b, 'a> {
     {
         Ok(TokenReader {
             lexer: Lexer::new(bump, MOST)?,
-            spot: Spot::start(text, first_line),
+            cursor: Cursor::start(text, first_line),
             max_depth,
         })
     }
@@ -51,10 +52,10 @@ impl<'b, 'a> TokenReader<'b, 'a> {
     pub fn is_at_end(&self) -> bool
         ensures { result ≡ (left self.now == 0) }
     {
-        self.spot.rest.is_empty()
+        self.cursor.rest.is_empty()
     }
 
-    /// Reads the next batch, in place of the last. False: the text has a lexical fault.
+    /// Reads the next batch, in place of the last. False: the text has a lexical fault. `Err`: allocation failed.
     pub fn read(&mut self) -> Result<bool, AllocError>
         requires some { 0 < left self.old }
         requires reader { (first : ℕ) × (depth : ℕ) × (text : List ℕ) × (given : List Placed)
@@ -65,9 +66,9 @@ impl<'b, 'a> TokenReader<'b, 'a> {
         ensures shorter { IfOk result (λ read. IsTrue read → left self.new < left self.old) }
     {
         self.lexer.tokens.clear();
-        match self.lexer.read_line(self.spot, self.max_depth, MOST) {
-            Ok((spot, _)) => {
-                self.spot = spot;
+        match self.lexer.read_line(self.cursor, self.max_depth, MOST) {
+            Ok((cursor, _)) => {
+                self.cursor = cursor;
                 Ok(true)
             }
             Err(LexFault::OutOfMemory) => Err(AllocError),
@@ -80,6 +81,6 @@ impl<'b, 'a> TokenReader<'b, 'a> {
         ensures { (first : ℕ) (depth : ℕ) (text : List ℕ) (given : List Placed)
             → HasGiven first depth text given self.now → IsTrue result → AreTokensOf first depth text given }
     {
-        self.spot.rest.is_empty() && !self.lexer.brackets.is_inside()
+        self.cursor.rest.is_empty() && !self.lexer.brackets.is_inside()
     }
 }

@@ -176,7 +176,7 @@ fn trimmed_len(line: &[u8]) -> usize
 
 /// The length of the comment here: the line's, without trailing white space.
 #[inline(always)]
-pub fn comment_len(bytes: &[u8]) -> usize
+pub fn line_comment_len(bytes: &[u8]) -> usize
     requires { begins (λ b. b == 35) bytes.now ≡ true }
     ensures in_range { (0 < result) × (result ≤ length bytes.now) }
     ensures in_line { result ≤ prefix_len (λ b. not (is_newline b)) bytes.now }

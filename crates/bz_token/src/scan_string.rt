@@ -34,7 +34,7 @@ pub struct Opening {
 
 /// What stands after a string's opening quotes, up to its closing ones.
 #[derive(Clone, Copy)]
-pub struct Inside {
+pub struct StringBody {
     pub len: usize,
     pub has_newline: bool,
 }
@@ -132,7 +132,7 @@ pub fn quoted_at(bytes: &[u8]) -> Opening
 
 /// What stands after these opening quotes, up to the closing ones, if there are any.
 #[inline(always)]
-pub fn inside_at(quotes: Quotes, bytes: &[u8]) -> Option<Inside>
+pub fn inside_at(quotes: Quotes, bytes: &[u8]) -> Option<StringBody>
     requires { is_quote quotes.byte ≡ true }
     ensures in_range { IfSome result (λ r. (0 < r.len) × (r.len ≤ length bytes.now)) }
     ensures closed { IfSome result (λ r. closes quotes 0 Unescaped (take r.len bytes.now) ≡ true) }
@@ -143,7 +143,7 @@ pub fn inside_at(quotes: Quotes, bytes: &[u8]) -> Option<Inside>
     if !quotes.long {
         let len = plain_len(quotes.byte, bytes);
         if len < bytes.len() && bytes[len] == quotes.byte {
-            return Some(Inside {
+            return Some(StringBody {
                 len: len + 1,
                 has_newline: false,
             });
@@ -153,7 +153,7 @@ pub fn inside_at(quotes: Quotes, bytes: &[u8]) -> Option<Inside>
 }
 
 // What stands after these opening quotes, byte by byte.
-fn inside_by_bytes(quotes: Quotes, bytes: &[u8]) -> Option<Inside>
+fn inside_by_bytes(quotes: Quotes, bytes: &[u8]) -> Option<StringBody>
     requires { is_quote quotes.byte ≡ true }
     ensures in_range { IfSome result (λ r. (0 < r.len) × (r.len ≤ length bytes.now)) }
     ensures closed { IfSome result (λ r. closes quotes 0 Unescaped (take r.len bytes.now) ≡ true) }
@@ -169,7 +169,7 @@ fn inside_by_bytes(quotes: Quotes, bytes: &[u8]) -> Option<Inside>
         } else if *b == quotes.byte {
             row += 1;
             if row == closing_row(quotes.long) {
-                return Some(Inside {
+                return Some(StringBody {
                     len: i + 1,
                     has_newline,
                 });

@@ -1,18 +1,20 @@
 //! The token at a place.
 
-ghost use Rattle.std.specs.Prelude.{◌≡◌, ◌<◌, ◌≤◌, ◌==◌, ◌||◌, ℕ, Bool, List, Some, None, true, false, length, slice_index, IfOk, IfErr};
+ghost use Rattle.std.specs.Prelude.{◌≡◌, ◌<◌, ◌≤◌, ◌==◌, ◌||◌, ℕ, Bool, List, Some, None, true, false, length, slice_index, IfOk, IfErr, IfSome, IfNone};
+ghost use Rattle.bz_token.specs.declared.token.Kind.TheVariants.{Comment, String};
 ghost use Rattle.std.specs.Char.{is_ascii_digit};
 ghost use Rattle.bz_token.specs.Lexical.{begins, opening, is_word_byte};
 ghost use Rattle.bz_token.specs.Brackets.{is_opening_bracket, is_closing_bracket};
+ghost use Rattle.bz_token.specs.Faults.{IsOpenText};
 ghost use Rattle.bz_token.specs.Reading.{begins_gap};
 ghost use Rattle.bz_token.specs.private.Scans.{IsScanned, IsBadPlace};
 ghost use Rattle.bz_token.specs.private.Steps.{IsStep, IsTokenStep, IsBadStep};
 ghost use Rattle.bz_token.specs.private.Tables.{is_single, IsMark};
 
-use crate::gap::{Gap, blanks, continued, newline};
-use crate::scan::{comment_len, is_keyword, is_number, operator_len, word_len};
+use crate::gap::{TokenGap, blanks, continued, newline};
+use crate::scan::{is_keyword, is_number, line_comment_len, operator_len, word_len};
 use crate::scan_string::{Opening, closing_row, inside_at, opening_at, quoted_at};
-use crate::table::{Class, class_at};
+use crate::table::{ByteClass, class_at};
 use crate::token::Kind;
 
 /// A token's kind and length.
@@ -35,8 +37,8 @@ pub enum Bad {
 
 /// What stands at a place.
 #[derive(Clone, Copy)]
-pub enum Step {
-    Gap(Gap),
+pub enum GapOrToken {
+    Gap(TokenGap),
     Token(Scanned),
 }
 
@@ -53,25 +55,38 @@ fn on_one_line(kind: Kind, len: usize) -> Scanned
     }
 }
 
+/// The string literal here, which these quotes open. None: nothing closes it.
 #[inline(always)]
-fn scan_string(opened: Opening, bytes: &[u8]) -> Result<Step, Bad>
+pub fn string_at(opened: Opening, bytes: &[u8]) -> Option<Scanned>
+    requires { opening bytes.now ≡ Some opened }
+    ensures string { IfSome result (λ string. IsScanned bytes.now string × (string.kind ≡ String)) }
+    ensures none { IfNone result (IsOpenText bytes.now) }
+{
+    let start = opened.prefix + closing_row(opened.quotes.long);
+    let Some(body) = inside_at(opened.quotes, &bytes[start..]) else {
+        return None;
+    };
+    Some(Scanned {
+        kind: Kind::String,
+        len: start + body.len,
+        has_newline: body.has_newline,
+    })
+}
+
+#[inline(always)]
+fn scan_string(opened: Opening, bytes: &[u8]) -> Result<GapOrToken, Bad>
     requires { opening bytes.now ≡ Some opened }
     ensures token { IfOk result (λ step. IsTokenStep bytes.now step) }
     ensures bad { IfErr result (λ bad. IsBadPlace bytes.now bad) }
 {
-    let start = opened.prefix + closing_row(opened.quotes.long);
-    let Some(inside) = inside_at(opened.quotes, &bytes[start..]) else {
-        return Err(Bad::OpenText);
-    };
-    Ok(Step::Token(Scanned {
-        kind: Kind::String,
-        len: start + inside.len,
-        has_newline: inside.has_newline,
-    }))
+    match string_at(opened, bytes) {
+        Some(string) => Ok(GapOrToken::Token(string)),
+        None => Err(Bad::OpenText),
+    }
 }
 
 #[inline(always)]
-fn scan_number(bytes: &[u8]) -> Result<Step, Bad>
+fn scan_number(bytes: &[u8]) -> Result<GapOrToken, Bad>
     requires digit { begins is_ascii_digit bytes.now ≡ true }
     ensures token { IfOk result (λ step. IsTokenStep bytes.now step) }
     ensures bad { IfErr result (λ bad. IsBadPlace bytes.now bad) }
@@ -80,7 +95,7 @@ fn scan_number(bytes: &[u8]) -> Result<Step, Bad>
     if !is_number(&bytes[..len]) {
         return Err(Bad::Number);
     }
-    Ok(Step::Token(on_one_line(Kind::Integer, len)))
+    Ok(GapOrToken::Token(on_one_line(Kind::Integer, len)))
 }
 
 #[inline(always)]
@@ -100,7 +115,7 @@ fn scan_name(bytes: &[u8]) -> Scanned
 
 // A word, or a string that its prefix begins.
 #[inline(always)]
-fn scan_prefixed(bytes: &[u8]) -> Result<Step, Bad>
+fn scan_prefixed(bytes: &[u8]) -> Result<GapOrToken, Bad>
     requires word { begins is_word_byte bytes.now ≡ true }
     requires no_digit { begins is_ascii_digit bytes.now ≡ false }
     ensures token { IfOk result (λ step. IsTokenStep bytes.now step) }
@@ -108,20 +123,22 @@ fn scan_prefixed(bytes: &[u8]) -> Result<Step, Bad>
 {
     match opening_at(bytes) {
         Some(opened) => scan_string(opened, bytes),
-        None => Ok(Step::Token(scan_name(bytes))),
+        None => Ok(GapOrToken::Token(scan_name(bytes))),
     }
 }
 
+/// The comment here.
 #[inline(always)]
-fn scan_comment(bytes: &[u8]) -> Scanned
+pub fn scan_comment(bytes: &[u8]) -> Scanned
     requires { begins (λ b. b == 35) bytes.now ≡ true }
-    ensures { IsScanned bytes.now result }
+    ensures comment { IsScanned bytes.now result }
+    ensures kind { result.kind ≡ Comment }
 {
-    on_one_line(Kind::Comment, comment_len(bytes))
+    on_one_line(Kind::Comment, line_comment_len(bytes))
 }
 
 #[inline(always)]
-fn scan_operator(bytes: &[u8]) -> Result<Step, Bad>
+fn scan_operator(bytes: &[u8]) -> Result<GapOrToken, Bad>
     requires some { 0 < length bytes.now }
     requires mark { IsMark (slice_index bytes.now 0) }
     ensures token { IfOk result (λ step. IsTokenStep bytes.now step) }
@@ -129,7 +146,7 @@ fn scan_operator(bytes: &[u8]) -> Result<Step, Bad>
 {
     match operator_len(bytes) {
         0 => Err(Bad::Character),
-        len => Ok(Step::Token(on_one_line(Kind::Operator, len))),
+        len => Ok(GapOrToken::Token(on_one_line(Kind::Operator, len))),
     }
 }
 
@@ -155,15 +172,15 @@ pub fn scan_bracket(bytes: &[u8]) -> Scanned
 
 // The newline here: a token, or white space inside brackets.
 #[inline(always)]
-fn line_end(inside: bool, bytes: &[u8]) -> Step
+fn line_end(inside: bool, bytes: &[u8]) -> GapOrToken
     requires some { 0 < length bytes.now }
     requires newline { slice_index bytes.now 0 ≡ 10 }
     ensures { IsStep inside bytes.now result }
 {
     if inside {
-        return Step::Gap(newline(bytes));
+        return GapOrToken::Gap(newline(bytes));
     }
-    Step::Token(Scanned {
+    GapOrToken::Token(Scanned {
         kind: Kind::Newline,
         len: 1,
         has_newline: true,
@@ -172,35 +189,37 @@ fn line_end(inside: bool, bytes: &[u8]) -> Step
 
 // The continued line here, if one begins with this backslash.
 #[inline(always)]
-fn line_goes_on(bytes: &[u8]) -> Result<Step, Bad>
+fn line_goes_on(bytes: &[u8]) -> Result<GapOrToken, Bad>
     requires some { 0 < length bytes.now }
     requires backslash { slice_index bytes.now 0 ≡ 92 }
     ensures step { IfOk result (λ step. (inside : Bool) → IsStep inside bytes.now step) }
     ensures bad { IfErr result (λ bad. (inside : Bool) → IsBadStep inside bytes.now bad) }
 {
     match continued(bytes) {
-        Some(gap) => Ok(Step::Gap(gap)),
+        Some(gap) => Ok(GapOrToken::Gap(gap)),
         None => Err(Bad::Backslash),
     }
 }
 
 /// What stands here, where brackets are open or not.
 #[inline(always)]
-pub fn step_at(inside: bool, bytes: &[u8]) -> Result<Step, Bad>
+pub fn step_at(inside: bool, bytes: &[u8]) -> Result<GapOrToken, Bad>
     requires { 0 < length bytes.now }
     ensures step { IfOk result (λ step. IsStep inside bytes.now step) }
     ensures bad { IfErr result (λ bad. IsBadStep inside bytes.now bad) }
 {
     match class_at(bytes[0]) {
-        Class::Space => Ok(Step::Gap(blanks(bytes))),
-        Class::Newline => Ok(line_end(inside, bytes)),
-        Class::Backslash => line_goes_on(bytes),
-        Class::Letter => Ok(Step::Token(scan_name(bytes))),
-        Class::Prefix => scan_prefixed(bytes),
-        Class::Digit => scan_number(bytes),
-        Class::Quote => scan_string(quoted_at(bytes), bytes),
-        Class::Hash => Ok(Step::Token(scan_comment(bytes))),
-        Class::Open | Class::Close | Class::Point => Ok(Step::Token(scan_single(bytes))),
-        Class::Operator | Class::Unknown => scan_operator(bytes),
+        ByteClass::Space => Ok(GapOrToken::Gap(blanks(bytes))),
+        ByteClass::Newline => Ok(line_end(inside, bytes)),
+        ByteClass::Backslash => line_goes_on(bytes),
+        ByteClass::Letter => Ok(GapOrToken::Token(scan_name(bytes))),
+        ByteClass::Prefix => scan_prefixed(bytes),
+        ByteClass::Digit => scan_number(bytes),
+        ByteClass::Quote => scan_string(quoted_at(bytes), bytes),
+        ByteClass::Hash => Ok(GapOrToken::Token(scan_comment(bytes))),
+        ByteClass::Open | ByteClass::Close | ByteClass::Point => Ok(GapOrToken::Token(scan_single(
+            bytes,
+        ))),
+        ByteClass::Operator | ByteClass::Unknown => scan_operator(bytes),
     }
 }

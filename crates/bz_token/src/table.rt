@@ -6,7 +6,7 @@ ghost use Rattle.bz_token.specs.private.Tables.{class_of, is_quiet_class};
 
 /// What begins with a byte.
 #[derive(Clone, Copy)]
-pub enum Class {
+pub enum ByteClass {
     Unknown,
     /// White space within a line.
     Space,
@@ -28,43 +28,75 @@ pub enum Class {
 }
 
 #[rattlefmt::skip]
-static CLASS: [Class; 256] = [
-    Class::Unknown, Class::Unknown, Class::Unknown, Class::Unknown, Class::Unknown, Class::Unknown, Class::Unknown, Class::Unknown,
-    Class::Unknown, Class::Space, Class::Newline, Class::Unknown, Class::Unknown, Class::Space, Class::Unknown, Class::Unknown,
-    Class::Unknown, Class::Unknown, Class::Unknown, Class::Unknown, Class::Unknown, Class::Unknown, Class::Unknown, Class::Unknown,
-    Class::Unknown, Class::Unknown, Class::Unknown, Class::Unknown, Class::Unknown, Class::Unknown, Class::Unknown, Class::Unknown,
-    Class::Space, Class::Operator, Class::Quote, Class::Hash, Class::Unknown, Class::Operator, Class::Operator, Class::Quote,
-    Class::Open, Class::Close, Class::Operator, Class::Operator, Class::Point, Class::Operator, Class::Point, Class::Operator,
-    Class::Digit, Class::Digit, Class::Digit, Class::Digit, Class::Digit, Class::Digit, Class::Digit, Class::Digit,
-    Class::Digit, Class::Digit, Class::Point, Class::Point, Class::Operator, Class::Operator, Class::Operator, Class::Unknown,
-    Class::Unknown, Class::Letter, Class::Letter, Class::Letter, Class::Letter, Class::Letter, Class::Letter, Class::Letter,
-    Class::Letter, Class::Letter, Class::Letter, Class::Letter, Class::Letter, Class::Letter, Class::Letter, Class::Letter,
-    Class::Letter, Class::Letter, Class::Letter, Class::Letter, Class::Letter, Class::Letter, Class::Letter, Class::Letter,
-    Class::Letter, Class::Letter, Class::Letter, Class::Open, Class::Backslash, Class::Close, Class::Operator, Class::Letter,
-    Class::Unknown, Class::Letter, Class::Prefix, Class::Letter, Class::Letter, Class::Letter, Class::Letter, Class::Letter,
-    Class::Letter, Class::Letter, Class::Letter, Class::Letter, Class::Letter, Class::Letter, Class::Letter, Class::Letter,
-    Class::Letter, Class::Letter, Class::Prefix, Class::Letter, Class::Letter, Class::Letter, Class::Letter, Class::Letter,
-    Class::Letter, Class::Letter, Class::Letter, Class::Open, Class::Operator, Class::Close, Class::Point, Class::Unknown,
-    Class::Unknown, Class::Unknown, Class::Unknown, Class::Unknown, Class::Unknown, Class::Unknown, Class::Unknown, Class::Unknown,
-    Class::Unknown, Class::Unknown, Class::Unknown, Class::Unknown, Class::Unknown, Class::Unknown, Class::Unknown, Class::Unknown,
-    Class::Unknown, Class::Unknown, Class::Unknown, Class::Unknown, Class::Unknown, Class::Unknown, Class::Unknown, Class::Unknown,
-    Class::Unknown, Class::Unknown, Class::Unknown, Class::Unknown, Class::Unknown, Class::Unknown, Class::Unknown, Class::Unknown,
-    Class::Unknown, Class::Unknown, Class::Unknown, Class::Unknown, Class::Unknown, Class::Unknown, Class::Unknown, Class::Unknown,
-    Class::Unknown, Class::Unknown, Class::Unknown, Class::Unknown, Class::Unknown, Class::Unknown, Class::Unknown, Class::Unknown,
-    Class::Unknown, Class::Unknown, Class::Unknown, Class::Unknown, Class::Unknown, Class::Unknown, Class::Unknown, Class::Unknown,
-    Class::Unknown, Class::Unknown, Class::Unknown, Class::Unknown, Class::Unknown, Class::Unknown, Class::Unknown, Class::Unknown,
-    Class::Unknown, Class::Unknown, Class::Unknown, Class::Unknown, Class::Unknown, Class::Unknown, Class::Unknown, Class::Unknown,
-    Class::Unknown, Class::Unknown, Class::Unknown, Class::Unknown, Class::Unknown, Class::Unknown, Class::Unknown, Class::Unknown,
-    Class::Unknown, Class::Unknown, Class::Unknown, Class::Unknown, Class::Unknown, Class::Unknown, Class::Unknown, Class::Unknown,
-    Class::Unknown, Class::Unknown, Class::Unknown, Class::Unknown, Class::Unknown, Class::Unknown, Class::Unknown, Class::Unknown,
-    Class::Unknown, Class::Unknown, Class::Unknown, Class::Unknown, Class::Unknown, Class::Unknown, Class::Unknown, Class::Unknown,
-    Class::Unknown, Class::Unknown, Class::Unknown, Class::Unknown, Class::Unknown, Class::Unknown, Class::Unknown, Class::Unknown,
-    Class::Unknown, Class::Unknown, Class::Unknown, Class::Unknown, Class::Unknown, Class::Unknown, Class::Unknown, Class::Unknown,
-    Class::Unknown, Class::Unknown, Class::Unknown, Class::Unknown, Class::Unknown, Class::Unknown, Class::Unknown, Class::Unknown,
+static CLASS: [ByteClass; 256] = [
+    ByteClass::Unknown, ByteClass::Unknown, ByteClass::Unknown, ByteClass::Unknown,
+    ByteClass::Unknown, ByteClass::Unknown, ByteClass::Unknown, ByteClass::Unknown,
+    ByteClass::Unknown, ByteClass::Space, ByteClass::Newline, ByteClass::Unknown,
+    ByteClass::Unknown, ByteClass::Space, ByteClass::Unknown, ByteClass::Unknown,
+    ByteClass::Unknown, ByteClass::Unknown, ByteClass::Unknown, ByteClass::Unknown,
+    ByteClass::Unknown, ByteClass::Unknown, ByteClass::Unknown, ByteClass::Unknown,
+    ByteClass::Unknown, ByteClass::Unknown, ByteClass::Unknown, ByteClass::Unknown,
+    ByteClass::Unknown, ByteClass::Unknown, ByteClass::Unknown, ByteClass::Unknown,
+    ByteClass::Space, ByteClass::Operator, ByteClass::Quote, ByteClass::Hash,
+    ByteClass::Unknown, ByteClass::Operator, ByteClass::Operator, ByteClass::Quote,
+    ByteClass::Open, ByteClass::Close, ByteClass::Operator, ByteClass::Operator,
+    ByteClass::Point, ByteClass::Operator, ByteClass::Point, ByteClass::Operator,
+    ByteClass::Digit, ByteClass::Digit, ByteClass::Digit, ByteClass::Digit,
+    ByteClass::Digit, ByteClass::Digit, ByteClass::Digit, ByteClass::Digit,
+    ByteClass::Digit, ByteClass::Digit, ByteClass::Point, ByteClass::Point,
+    ByteClass::Operator, ByteClass::Operator, ByteClass::Operator, ByteClass::Unknown,
+    ByteClass::Unknown, ByteClass::Letter, ByteClass::Letter, ByteClass::Letter,
+    ByteClass::Letter, ByteClass::Letter, ByteClass::Letter, ByteClass::Letter,
+    ByteClass::Letter, ByteClass::Letter, ByteClass::Letter, ByteClass::Letter,
+    ByteClass::Letter, ByteClass::Letter, ByteClass::Letter, ByteClass::Letter,
+    ByteClass::Letter, ByteClass::Letter, ByteClass::Letter, ByteClass::Letter,
+    ByteClass::Letter, ByteClass::Letter, ByteClass::Letter, ByteClass::Letter,
+    ByteClass::Letter, ByteClass::Letter, ByteClass::Letter, ByteClass::Open,
+    ByteClass::Backslash, ByteClass::Close, ByteClass::Operator, ByteClass::Letter,
+    ByteClass::Unknown, ByteClass::Letter, ByteClass::Prefix, ByteClass::Letter,
+    ByteClass::Letter, ByteClass::Letter, ByteClass::Letter, ByteClass::Letter,
+    ByteClass::Letter, ByteClass::Letter, ByteClass::Letter, ByteClass::Letter,
+    ByteClass::Letter, ByteClass::Letter, ByteClass::Letter, ByteClass::Letter,
+    ByteClass::Letter, ByteClass::Letter, ByteClass::Prefix, ByteClass::Letter,
+    ByteClass::Letter, ByteClass::Letter, ByteClass::Letter, ByteClass::Letter,
+    ByteClass::Letter, ByteClass::Letter, ByteClass::Letter, ByteClass::Open,
+    ByteClass::Operator, ByteClass::Close, ByteClass::Point, ByteClass::Unknown,
+    ByteClass::Unknown, ByteClass::Unknown, ByteClass::Unknown, ByteClass::Unknown,
+    ByteClass::Unknown, ByteClass::Unknown, ByteClass::Unknown, ByteClass::Unknown,
+    ByteClass::Unknown, ByteClass::Unknown, ByteClass::Unknown, ByteClass::Unknown,
+    ByteClass::Unknown, ByteClass::Unknown, ByteClass::Unknown, ByteClass::Unknown,
+    ByteClass::Unknown, ByteClass::Unknown, ByteClass::Unknown, ByteClass::Unknown,
+    ByteClass::Unknown, ByteClass::Unknown, ByteClass::Unknown, ByteClass::Unknown,
+    ByteClass::Unknown, ByteClass::Unknown, ByteClass::Unknown, ByteClass::Unknown,
+    ByteClass::Unknown, ByteClass::Unknown, ByteClass::Unknown, ByteClass::Unknown,
+    ByteClass::Unknown, ByteClass::Unknown, ByteClass::Unknown, ByteClass::Unknown,
+    ByteClass::Unknown, ByteClass::Unknown, ByteClass::Unknown, ByteClass::Unknown,
+    ByteClass::Unknown, ByteClass::Unknown, ByteClass::Unknown, ByteClass::Unknown,
+    ByteClass::Unknown, ByteClass::Unknown, ByteClass::Unknown, ByteClass::Unknown,
+    ByteClass::Unknown, ByteClass::Unknown, ByteClass::Unknown, ByteClass::Unknown,
+    ByteClass::Unknown, ByteClass::Unknown, ByteClass::Unknown, ByteClass::Unknown,
+    ByteClass::Unknown, ByteClass::Unknown, ByteClass::Unknown, ByteClass::Unknown,
+    ByteClass::Unknown, ByteClass::Unknown, ByteClass::Unknown, ByteClass::Unknown,
+    ByteClass::Unknown, ByteClass::Unknown, ByteClass::Unknown, ByteClass::Unknown,
+    ByteClass::Unknown, ByteClass::Unknown, ByteClass::Unknown, ByteClass::Unknown,
+    ByteClass::Unknown, ByteClass::Unknown, ByteClass::Unknown, ByteClass::Unknown,
+    ByteClass::Unknown, ByteClass::Unknown, ByteClass::Unknown, ByteClass::Unknown,
+    ByteClass::Unknown, ByteClass::Unknown, ByteClass::Unknown, ByteClass::Unknown,
+    ByteClass::Unknown, ByteClass::Unknown, ByteClass::Unknown, ByteClass::Unknown,
+    ByteClass::Unknown, ByteClass::Unknown, ByteClass::Unknown, ByteClass::Unknown,
+    ByteClass::Unknown, ByteClass::Unknown, ByteClass::Unknown, ByteClass::Unknown,
+    ByteClass::Unknown, ByteClass::Unknown, ByteClass::Unknown, ByteClass::Unknown,
+    ByteClass::Unknown, ByteClass::Unknown, ByteClass::Unknown, ByteClass::Unknown,
+    ByteClass::Unknown, ByteClass::Unknown, ByteClass::Unknown, ByteClass::Unknown,
+    ByteClass::Unknown, ByteClass::Unknown, ByteClass::Unknown, ByteClass::Unknown,
+    ByteClass::Unknown, ByteClass::Unknown, ByteClass::Unknown, ByteClass::Unknown,
+    ByteClass::Unknown, ByteClass::Unknown, ByteClass::Unknown, ByteClass::Unknown,
+    ByteClass::Unknown, ByteClass::Unknown, ByteClass::Unknown, ByteClass::Unknown,
+    ByteClass::Unknown, ByteClass::Unknown, ByteClass::Unknown, ByteClass::Unknown,
 ];
 
 #[inline(always)]
-pub fn class_at(b: u8) -> Class
+pub fn class_at(b: u8) -> ByteClass
     ensures { result ≡ class_of b }
 {
     CLASS[usize::from(b)]
@@ -73,12 +105,17 @@ pub fn class_at(b: u8) -> Class
 /// Whether what begins with such a byte changes nothing of a logical line: no string, no bracket, no comment, and neither
 /// a newline nor a continued line.
 #[inline(always)]
-pub fn is_quiet_class(class: Class) -> bool
+pub fn is_quiet_class(class: ByteClass) -> bool
     ensures { result ≡ is_quiet_class class }
 {
     !matches!(
         class,
-        Class::Newline | Class::Hash | Class::Backslash | Class::Quote | Class::Open | Class::Close
+        ByteClass::Newline
+            | ByteClass::Hash
+            | ByteClass::Backslash
+            | ByteClass::Quote
+            | ByteClass::Open
+            | ByteClass::Close
     )
 }
 

@@ -21,16 +21,16 @@ pub enum Kind {
     Kept,
 }
 
-/// A token of a text, with its place.
+/// A token of a text, with its line and column.
 #[derive(Clone, Copy, Debug, PartialEq, Eq)]
 pub struct Token<'a> {
-    /// The slice of the text that the token is.
+    /// The token's bytes, a slice of the text.
     pub text: &'a str,
-    /// The line of its first byte. Lines count from the text's first line.
+    /// The line of its first byte. The caller gives the number of the text's first line.
     pub line: u64,
     /// The column of its first byte, in bytes from 1.
     pub col: u64,
     pub kind: Kind,
-    /// No token begins before it on its line.
+    /// Whether it is the first token on its line.
     pub fresh: bool,
 }

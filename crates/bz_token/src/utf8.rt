@@ -3,7 +3,7 @@
 ghost use Rattle.std.specs.Prelude.{◌≡◌, IsUtf8, MatchResult};
 ghost use Rattle.std.specs.Str.{IsValidUpTo};
 
-/// The bytes as text, or the length of their longest front that is UTF-8.
+/// The bytes as text. `Err`: they are not UTF-8, but so many at the front are, and no more.
 pub fn check_utf8(bytes: &[u8]) -> Result<&str, usize>
     ensures { MatchResult result (λ s. (s.now ≡ bytes.now) × IsUtf8 bytes.now)
         (λ n. (IsUtf8 bytes.now → ⊥) × IsValidUpTo bytes.now n) }

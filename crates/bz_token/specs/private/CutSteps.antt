@@ -4,20 +4,20 @@ use Rattle.bz_token.specs.declared.cutter.scan.Quote.{Quote}
 use Rattle.bz_token.specs.declared.cutter.scan.Quote.TheVariants.{Single, Double}
 use Rattle.bz_token.specs.declared.cutter.scan.LineKind.{LineKind}
 use Rattle.bz_token.specs.declared.cutter.scan.LineKind.TheVariants.{Blank, CommentLine, Statement}
-use Rattle.bz_token.specs.declared.cutter.scan.Inside.{Inside}
-use Rattle.bz_token.specs.declared.cutter.scan.Inside.TheVariants.{Plain, Ended, BrokenOff, Backslash, BackslashReturn, Comment, Opened, OpenedTwice, Short, ShortEscape, ShortEscapeReturn, Long, LongQuote, LongTwoQuotes, LongEscape}
+use Rattle.bz_token.specs.declared.cutter.scan.CutState.{CutState}
+use Rattle.bz_token.specs.declared.cutter.scan.CutState.TheVariants.{Plain, Ended, BrokenOff, Backslash, BackslashReturn, Comment, Opened, OpenedTwice, Short, ShortEscape, ShortEscapeReturn, Long, LongQuote, LongTwoQuotes, LongEscape}
 use Rattle.bz_token.specs.declared.cutter.scan.Scan.{Scan}
 use Rattle.bz_token.specs.declared.cutter.Cutter.{Cutter}
 use Rattle.bz_token.specs.declared.cutter.block.Opener.{Opener}
-use Rattle.bz_token.specs.declared.cutter.block.Stage.{Stage}
-use Rattle.bz_token.specs.declared.cutter.block.Stage.TheVariants.{Comments, InBlock, Done}
+use Rattle.bz_token.specs.declared.cutter.block.ChunkPhase.{ChunkPhase}
+use Rattle.bz_token.specs.declared.cutter.block.ChunkPhase.TheVariants.{Comments, InBlock, Done}
 use Rattle.bz_token.specs.LogicalLines.{Line}
 use Rattle.bz_token.specs.declared.cutter.Cut.{Cut}
 use Rattle.bz_token.specs.declared.cutter.Cut.TheVariants.{Whole, More, Block}
 use Rattle.bz_token.specs.Blocks.{word_at, opener_of}
-use Rattle.bz_token.specs.private.Stages.{stage_step, stage_after, takes}
+use Rattle.bz_token.specs.private.Phases.{phase_step, phase_after, takes}
 
-abbrev pub is_ended : Inside → Bool
+abbrev pub is_ended : CutState → Bool
 is_ended Ended = true
 is_ended BrokenOff = true
 is_ended _ = false
@@ -31,7 +31,7 @@ with_comment Blank = CommentLine
 with_comment CommentLine = CommentLine
 with_comment Statement = Statement
 
-abbrev pub at : Inside → ℕ → LineKind → Scan
+abbrev pub at : CutState → ℕ → LineKind → Scan
 at inside depth kind = record { inside = inside; depth = depth; kind = kind }
 
 -- a byte outside strings and comments
@@ -54,13 +54,13 @@ in_short quote depth kind b =
     else (if b == 92 then at (ShortEscape quote) depth kind
     else at (Short quote) depth kind))
 
-abbrev pub in_long : Inside → Quote → ℕ → LineKind → ℕ → Scan
+abbrev pub in_long : CutState → Quote → ℕ → LineKind → ℕ → Scan
 in_long quoted quote depth kind b =
     if b == byte_of quote then at quoted depth kind
     else (if b == 92 then at (LongEscape quote) depth kind
     else at (Long quote) depth kind)
 
-abbrev pub next_in : Inside → ℕ → LineKind → ℕ → Scan
+abbrev pub next_in : CutState → ℕ → LineKind → ℕ → Scan
 next_in Plain depth kind b = outside depth kind b
 next_in Ended depth kind b = outside 0 Blank b
 next_in BrokenOff depth kind b = outside 0 Blank b
@@ -92,7 +92,7 @@ run s [] = s
 run s (b ∷ bs) = run (next s b) bs
 
 -- The chunks that the steps find, after the bytes of whole lines and a part of a line.
-abbrev pub is_broken : Inside → Bool
+abbrev pub is_broken : CutState → Bool
 is_broken BrokenOff = true
 is_broken _ = false
 
@@ -102,12 +102,12 @@ line_at text kind broken = record { text = text; kind = kind; broken = broken }
 abbrev pub line_here : Scan → List ℕ → Line
 line_here s part = line_at part s.kind (is_broken s.inside)
 
-abbrev pub seen_chunks : Scan → Stage → List ℕ → List ℕ → List ℕ → List (List ℕ)
-seen_chunks s stage before part [] = (before ++ part) ∷ []
-seen_chunks s stage before part (b ∷ bs) = elim (is_ended s.inside) [
-  | false ↦ seen_chunks (next s b) stage before (part ++ b ∷ []) bs
-  | true ↦ elim (takes (stage_after stage (line_here s part)) (b ∷ bs)) [
-    | true ↦ seen_chunks (next s b) (stage_after stage (line_here s part)) (before ++ part) (b ∷ []) bs
+abbrev pub seen_chunks : Scan → ChunkPhase → List ℕ → List ℕ → List ℕ → List (List ℕ)
+seen_chunks s phase before part [] = (before ++ part) ∷ []
+seen_chunks s phase before part (b ∷ bs) = elim (is_ended s.inside) [
+  | false ↦ seen_chunks (next s b) phase before (part ++ b ∷ []) bs
+  | true ↦ elim (takes (phase_after phase (line_here s part)) (b ∷ bs)) [
+    | true ↦ seen_chunks (next s b) (phase_after phase (line_here s part)) (before ++ part) (b ∷ []) bs
     | false ↦ (before ++ part) ∷ seen_chunks (next s b) Comments [] (b ∷ []) bs
   ]
 ]
@@ -123,26 +123,26 @@ head_after cutter line = cond (is_blank_kind cutter.scan.kind) (opener_of (word_
 
 -- the cutter after a physical line, before it is asked whether the logical line has ended
 abbrev pub moved : Cutter → List ℕ → Cutter
-moved cutter line = record { scan = run cutter.scan line; stage = cutter.stage; opener = head_after cutter line }
+moved cutter line = record { scan = run cutter.scan line; phase = cutter.phase; opener = head_after cutter line }
 
 -- what the chunk is after a logical line that has ended
-abbrev pub stage_now : Cutter → Stage
-stage_now cutter = stage_step cutter.stage cutter.scan.kind cutter.opener (is_broken cutter.scan.inside)
+abbrev pub phase_now : Cutter → ChunkPhase
+phase_now cutter = phase_step cutter.phase cutter.scan.kind cutter.opener (is_broken cutter.scan.inside)
 
 -- the cutter at the beginning of a line in no block, and after a line of a block
 abbrev pub fresh : Cutter
-fresh = record { scan = start; stage = Comments; opener = None }
+fresh = record { scan = start; phase = Comments; opener = None }
 
 abbrev pub between : Opener → Cutter
-between word = record { scan = at Ended 0 Blank; stage = InBlock word; opener = None }
+between word = record { scan = at Ended 0 Blank; phase = InBlock word; opener = None }
 
 -- the answer and the cutter after a logical line that has ended
-abbrev pub cut_at : Stage → Cut
+abbrev pub cut_at : ChunkPhase → Cut
 cut_at Comments = More
 cut_at (InBlock word) = Block
 cut_at Done = Whole
 
-abbrev pub cutter_at : Stage → Cutter
+abbrev pub cutter_at : ChunkPhase → Cutter
 cutter_at Comments = fresh
 cutter_at (InBlock word) = between word
 cutter_at Done = fresh

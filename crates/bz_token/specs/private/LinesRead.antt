@@ -4,7 +4,7 @@ use Rattle.std.specs.List.{list_any}
 use Rattle.bz_token.specs.declared.fault.LexFault.{LexFault}
 use Rattle.bz_token.specs.declared.fault.LexFault.TheVariants.{OpenText}
 use Rattle.bz_token.specs.declared.lexer.Lexer.{Lexer}
-use Rattle.bz_token.specs.declared.lexer.Spot.{Spot}
+use Rattle.bz_token.specs.declared.lexer.Cursor.{Cursor}
 use Rattle.bz_token.specs.Brackets.{is_line}
 use Rattle.bz_token.specs.Reading.{Piece}
 use Rattle.bz_token.specs.FreshStart.{ends_in_line}
@@ -13,8 +13,8 @@ use Rattle.bz_token.specs.ChunkForms.{are_comments}
 use Rattle.bz_token.specs.private.Progress.{HasRead}
 
 -- Comment lines were read, and the front of a line after them.
-pub record IsInLine (first depth : ℕ) (bytes : List ℕ) (lexer : Lexer) (spot : Spot) (start : ℕ) : Type 0 where
-  pub read : HasRead first depth bytes [] lexer spot
+pub record IsInLine (first depth : ℕ) (bytes : List ℕ) (lexer : Lexer) (cursor : Cursor) (start : ℕ) : Type 0 where
+  pub read : HasRead first depth bytes [] lexer cursor
   pub done : List Piece
   pub line : List Piece
   pub pieces_are : read.pieces ≡ done ++ line
@@ -24,8 +24,8 @@ pub record IsInLine (first depth : ℕ) (bytes : List ℕ) (lexer : Lexer) (spot
   pub start_is : start ≡ length done
 
 -- and a whole line
-pub record IsAfterLine (first depth : ℕ) (bytes : List ℕ) (lexer : Lexer) (spot : Spot) (start : ℕ) : Type 0 where
-  pub read : HasRead first depth bytes [] lexer spot
+pub record IsAfterLine (first depth : ℕ) (bytes : List ℕ) (lexer : Lexer) (cursor : Cursor) (start : ℕ) : Type 0 where
+  pub read : HasRead first depth bytes [] lexer cursor
   pub done : List Piece
   pub line : List Piece
   pub last : Piece
@@ -45,4 +45,4 @@ IsOnLine at fault = (line : ℕ) (col : ℕ) → fault ≡ OpenText line col →
 abbrev pub IsOpenInLine : ℕ → ℕ → List ℕ → ℕ → LexFault → Type 0
 IsOpenInLine first depth bytes start fault =
     (line : ℕ) (col : ℕ) → fault ≡ OpenText line col
-    → (lexer : Lexer) × (spot : Spot) × IsInLine first depth bytes lexer spot start × (spot.place.line ≡ line)
+    → (lexer : Lexer) × (cursor : Cursor) × IsInLine first depth bytes lexer cursor start × (cursor.place.line ≡ line)

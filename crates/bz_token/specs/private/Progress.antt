@@ -2,7 +2,7 @@
 use Rattle.std.specs.Prelude.{◌≡◌, ℕ, ◌+◌, ◌≤◌, ◌<◌, ◌^◌, ◌==◌, List, [], ◌∷◌, ◌++◌, length, count_by, map, IsUtf8, Option, Some, None}
 use Rattle.bz_token.specs.declared.token.Kind.{Kind}
 use Rattle.bz_token.specs.declared.lexer.Lexer.{Lexer}
-use Rattle.bz_token.specs.declared.lexer.Spot.{Spot}
+use Rattle.bz_token.specs.declared.lexer.Cursor.{Cursor}
 use Rattle.bz_token.specs.Places.{Placed, placed, line_at, column_at}
 use Rattle.bz_token.specs.Brackets.{is_inside}
 use Rattle.bz_token.specs.Reading.{is_gap, Piece, IsReading, open_after, bytes_of, tokens_of}
@@ -37,10 +37,10 @@ pub record Progress (first depth : ℕ) (bytes : List ℕ) (tokens : List Placed
   pub col_is : col ≡ column_at (bytes_of pieces ++ gap)
   pub utf8 : IsUtf8 rest
 
--- the text was read up to this spot: tokens that were given away, and then those of the list
-abbrev pub HasRead : ℕ → ℕ → List ℕ → List Placed → Lexer → Spot → Type 0
-HasRead first depth bytes given lexer spot =
-    Progress first depth bytes (given ++ map placed lexer.tokens.items) (opened lexer.brackets) spot.last_line spot.rest.now spot.place.line spot.place.col
+-- the text was read up to this cursor: tokens that were given away, and then those of the list
+abbrev pub HasRead : ℕ → ℕ → List ℕ → List Placed → Lexer → Cursor → Type 0
+HasRead first depth bytes given lexer cursor =
+    Progress first depth bytes (given ++ map placed lexer.tokens.items) (opened lexer.brackets) cursor.last_line cursor.rest.now cursor.place.line cursor.place.col
 
 -- the pieces after a step over a gap, or over a token of this kind
 abbrev pub Grows : Option Kind → List Piece → List Piece → List ℕ → Type 0
@@ -51,12 +51,12 @@ Grows (Some kind) before pieces gap = (p : Piece) × (pieces ≡ before ++ p ∷
 abbrev pub PlacesFit : ℕ → List ℕ → Type 0
 PlacesFit first bytes = (first + count_by (λ b. b == 10) bytes < 2 ^ 64) × (length bytes + 1 < 2 ^ 64)
 
--- some text was read up to this spot
-abbrev pub IsReadTo : Lexer → Spot → Type 0
-IsReadTo lexer spot = (first : ℕ) × (depth : ℕ) × (bytes : List ℕ) × (given : List Placed) × HasRead first depth bytes given lexer spot × PlacesFit first bytes
+-- some text was read up to this cursor
+abbrev pub IsReadTo : Lexer → Cursor → Type 0
+IsReadTo lexer cursor = (first : ℕ) × (depth : ℕ) × (bytes : List ℕ) × (given : List Placed) × HasRead first depth bytes given lexer cursor × PlacesFit first bytes
 
--- from one spot to the next there is at most white space
-abbrev pub PassesWhite : Lexer → Spot → Spot → Type 0
+-- from one cursor to the next there is at most white space
+abbrev pub PassesWhite : Lexer → Cursor → Cursor → Type 0
 PassesWhite lexer from to =
     (first : ℕ) (depth : ℕ) (bytes : List ℕ) (given : List Placed) (before : HasRead first depth bytes given lexer from)
     → (after : HasRead first depth bytes given lexer to) × Grows None before.pieces after.pieces after.gap

@@ -1,18 +1,18 @@
 -- For private clauses: what stands at a place, a token or the white space before it.
 use Rattle.std.specs.Prelude.{◌≡◌, ◌⊎◌, ◌≤◌, ◌<◌, ◌+◌, ◌-◌, ◌++◌, ◌==◌, ℕ, List, Bool, true, false, length, take, slice_index, count_by, if◌then◌else◌}
-use Rattle.bz_token.specs.declared.gap.Gap.{Gap}
+use Rattle.bz_token.specs.declared.gap.TokenGap.{TokenGap}
 use Rattle.bz_token.specs.declared.brackets.Misfit.{Misfit}
 use Rattle.bz_token.specs.declared.fault.LexFault.{LexFault}
 use Rattle.bz_token.specs.declared.scan_token.Bad.{Bad}
-use Rattle.bz_token.specs.declared.scan_token.Step.{Step}
-use Rattle.bz_token.specs.declared.scan_token.Step.TheVariants as step
+use Rattle.bz_token.specs.declared.scan_token.GapOrToken.{GapOrToken}
+use Rattle.bz_token.specs.declared.scan_token.GapOrToken.TheVariants as step
 use Rattle.bz_token.specs.Brackets.{is_inside, bracket_fits, open_after_byte}
 use Rattle.bz_token.specs.Places.{column_from}
 use Rattle.bz_token.specs.Reading.{is_gap, begins_gap}
 use Rattle.bz_token.specs.private.Scans.{IsScanned, IsBadPlace, bad_fault, IsMisfit, misfit_fault}
 
 -- These bytes are white space or a continued line, with at most one newline, and so many of them stand after it.
-pub record IsGapHere (inside : Bool) (bytes : List ℕ) (gap : Gap) : Type 0 where
+pub record IsGapHere (inside : Bool) (bytes : List ℕ) (gap : TokenGap) : Type 0 where
   pub some : 0 < gap.len
   pub within : gap.len ≤ length bytes
   pub on_line : gap.on_line ≤ gap.len
@@ -21,12 +21,12 @@ pub record IsGapHere (inside : Bool) (bytes : List ℕ) (gap : Gap) : Type 0 whe
   pub lines : count_by (λ b. b == 10) (take gap.len bytes) ≡ (if gap.has_newline then 1 else 0)
   pub column : (c : ℕ) → column_from c (take gap.len bytes) ≡ (if gap.has_newline then 1 else c) + gap.on_line
 
-abbrev pub IsStep : Bool → List ℕ → Step → Type 0
+abbrev pub IsStep : Bool → List ℕ → GapOrToken → Type 0
 IsStep inside bytes (step.Gap gap) = IsGapHere inside bytes gap
 IsStep inside bytes (step.Token s) = (begins_gap inside bytes ≡ false) × IsScanned bytes s
 
 -- the token here, where no gap is
-abbrev pub IsTokenStep : List ℕ → Step → Type 0
+abbrev pub IsTokenStep : List ℕ → GapOrToken → Type 0
 IsTokenStep bytes (step.Gap gap) = ⊥
 IsTokenStep bytes (step.Token s) = IsScanned bytes s
 
@@ -35,7 +35,7 @@ abbrev pub IsBadStep : Bool → List ℕ → Bad → Type 0
 IsBadStep inside bytes bad = (begins_gap inside bytes ≡ false) × IsBadPlace bytes bad
 
 -- what stands here, and the brackets that are open after its first byte, where it is a token
-abbrev pub IsTaken : ℕ → List ℕ → List ℕ → List ℕ → Step → Type 0
+abbrev pub IsTaken : ℕ → List ℕ → List ℕ → List ℕ → GapOrToken → Type 0
 IsTaken depth opened after bytes (step.Gap gap) = IsGapHere (is_inside opened) bytes gap × (after ≡ opened)
 IsTaken depth opened after bytes (step.Token s) =
     (begins_gap (is_inside opened) bytes ≡ false) × IsScanned bytes s × (bracket_fits depth opened (slice_index bytes 0) ≡ true)

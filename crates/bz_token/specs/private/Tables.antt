@@ -1,8 +1,8 @@
 -- For private clauses: what begins with a byte.
 use Rattle.std.specs.Prelude.{◌≡◌, ℕ, Bool, true, false, ◌||◌, ◌==◌, if◌then◌else◌}
 use Rattle.std.specs.Char.{is_ascii_digit}
-use Rattle.bz_token.specs.declared.table.Class.{Class}
-use Rattle.bz_token.specs.declared.table.Class.TheVariants.{Unknown, Space, Newline, Letter, Prefix, Digit, Quote, Hash, Backslash, Open, Close, Point, Operator}
+use Rattle.bz_token.specs.declared.table.ByteClass.{ByteClass}
+use Rattle.bz_token.specs.declared.table.ByteClass.TheVariants.{Unknown, Space, Newline, Letter, Prefix, Digit, Quote, Hash, Backslash, Open, Close, Point, Operator}
 use Rattle.bz_token.specs.Pieces.{is_quote}
 use Rattle.bz_token.specs.Lexical.{is_word_byte, is_blank}
 use Rattle.bz_token.specs.Brackets.{is_opening_bracket, is_closing_bracket}
@@ -20,7 +20,7 @@ abbrev pub is_operator_start : ℕ → Bool
 is_operator_start b =
     b == 43 || b == 45 || b == 42 || b == 47 || b == 37 || b == 38 || b == 124 || b == 94 || b == 60 || b == 62 || b == 61 || b == 33
 
-abbrev pub class_of : ℕ → Class
+abbrev pub class_of : ℕ → ByteClass
 class_of b =
     if is_word_byte b then (if is_ascii_digit b then Digit else (if is_prefix_letter b then Prefix else Letter))
     else (if is_blank b then Space
@@ -34,7 +34,7 @@ class_of b =
     else (if is_operator_start b then Operator else Unknown)))))))))
 
 -- neither a newline, a comment, a backslash, a string nor a bracket
-abbrev pub is_quiet_class : Class → Bool
+abbrev pub is_quiet_class : ByteClass → Bool
 is_quiet_class Newline = false
 is_quiet_class Hash = false
 is_quiet_class Backslash = false

@@ -4,7 +4,7 @@ ghost use Rattle.std.specs.Prelude.{◌≡◌, ◌<◌, ◌++◌, [], List, ℕ,
 ghost use Rattle.std.specs.List.{list_all};
 ghost use Rattle.bz_token.specs.Lexical.{is_word_byte};
 ghost use Rattle.bz_token.specs.Blocks.{is_white, word_at, opener_of, has_branch, goes_on};
-ghost use Rattle.bz_token.specs.private.Stages.{stage_of, stage_step};
+ghost use Rattle.bz_token.specs.private.Phases.{phase_of, phase_step};
 ghost use Rattle.bz_token.specs.private.Decided.{DecidesAhead, is_branch_front};
 
 use super::Next;
@@ -21,7 +21,7 @@ pub enum Opener {
 
 /// What a chunk is, as far as its logical lines were read.
 #[derive(Clone, Copy)]
-pub enum Stage {
+pub enum ChunkPhase {
     /// Comment lines alone.
     Comments,
     /// A block, with the word that begins it.
@@ -63,28 +63,33 @@ pub fn opener_at(text: &[u8]) -> Option<Opener>
     }
 }
 
-fn stage_of(word: Option<Opener>, broken: bool) -> Stage
-    ensures { result ≡ stage_of word broken }
+fn phase_of(word: Option<Opener>, broken: bool) -> ChunkPhase
+    ensures { result ≡ phase_of word broken }
 {
     match word {
-        Some(word) if !broken => Stage::InBlock(word),
-        _ => Stage::Done,
+        Some(word) if !broken => ChunkPhase::InBlock(word),
+        _ => ChunkPhase::Done,
     }
 }
 
 /// What the chunk is after one logical line more: its kind, the word of a block that it begins with, and whether its
 /// newline broke off a string.
-pub fn stage_step(stage: Stage, kind: LineKind, word: Option<Opener>, broken: bool) -> Stage
-    ensures { result ≡ stage_step stage kind word broken }
+pub fn phase_step(
+    phase: ChunkPhase,
+    kind: LineKind,
+    word: Option<Opener>,
+    broken: bool,
+) -> ChunkPhase
+    ensures { result ≡ phase_step phase kind word broken }
 {
-    match stage {
-        Stage::Comments => match kind {
-            LineKind::CommentLine => Stage::Comments,
-            LineKind::Blank => Stage::Done,
-            LineKind::Statement => stage_of(word, broken),
+    match phase {
+        ChunkPhase::Comments => match kind {
+            LineKind::CommentLine => ChunkPhase::Comments,
+            LineKind::Blank => ChunkPhase::Done,
+            LineKind::Statement => phase_of(word, broken),
         },
-        Stage::InBlock(_) if !broken => stage,
-        Stage::InBlock(_) | Stage::Done => Stage::Done,
+        ChunkPhase::InBlock(_) if !broken => phase,
+        ChunkPhase::InBlock(_) | ChunkPhase::Done => ChunkPhase::Done,
     }
 }
 

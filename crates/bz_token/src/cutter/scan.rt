@@ -27,7 +27,7 @@ pub enum Quote {
 
 /// What the next byte stands in.
 #[derive(Clone, Copy)]
-pub enum Inside {
+pub enum CutState {
     /// No string and no comment.
     Plain,
     /// Nothing: the newline that ends the line was read.
@@ -60,7 +60,7 @@ pub enum Inside {
 /// A logical line, as far as it was read.
 #[derive(Clone, Copy)]
 pub struct Scan {
-    pub inside: Inside,
+    pub inside: CutState,
     /// The brackets that are open. A closing one closes any.
     pub depth: u64,
     pub kind: LineKind,
@@ -72,14 +72,14 @@ impl Scan {
         ensures { result ≡ start }
     {
         Scan {
-            inside: Inside::Plain,
+            inside: CutState::Plain,
             depth: 0,
             kind: LineKind::Blank,
         }
     }
 
     #[inline(always)]
-    fn within(self, inside: Inside) -> Scan
+    fn within(self, inside: CutState) -> Scan
         ensures { result ≡ at inside self.depth self.kind }
     {
         Scan { inside, ..self }
@@ -126,17 +126,17 @@ fn outside(scan: Scan, b: u8) -> Scan
     requires { scan.depth + 1 < 2 ^ 64 }
     ensures { result ≡ outside scan.depth scan.kind b }
 {
-    let plain = scan.within(Inside::Plain);
+    let plain = scan.within(CutState::Plain);
     let statement = plain.of_kind(LineKind::Statement);
     match b {
-        b'\n' if scan.depth == 0 => plain.within(Inside::Ended),
+        b'\n' if scan.depth == 0 => plain.within(CutState::Ended),
         b'\n' | b' ' | b'\t' | b'\r' => plain,
         b'#' => plain
             .of_kind(with_comment(scan.kind))
-            .within(Inside::Comment),
-        b'\\' => plain.within(Inside::Backslash),
-        b'"' => statement.within(Inside::Opened(Quote::Double)),
-        b'\'' => statement.within(Inside::Opened(Quote::Single)),
+            .within(CutState::Comment),
+        b'\\' => plain.within(CutState::Backslash),
+        b'"' => statement.within(CutState::Opened(Quote::Double)),
+        b'\'' => statement.within(CutState::Opened(Quote::Single)),
         b'(' | b'[' | b'{' => statement.at_depth(scan.depth + 1),
         b')' | b']' | b'}' => statement.at_depth(scan.depth.saturating_sub(1)),
         _ => statement,
@@ -149,27 +149,27 @@ fn in_short(scan: Scan, quote: Quote, b: u8) -> Scan
     ensures { result ≡ in_short quote scan.depth scan.kind b }
 {
     if b == byte_of(quote) {
-        scan.within(Inside::Plain)
+        scan.within(CutState::Plain)
     } else if b == b'\n' {
-        scan.within(Inside::BrokenOff)
+        scan.within(CutState::BrokenOff)
     } else if b == b'\\' {
-        scan.within(Inside::ShortEscape(quote))
+        scan.within(CutState::ShortEscape(quote))
     } else {
-        scan.within(Inside::Short(quote))
+        scan.within(CutState::Short(quote))
     }
 }
 
 // A byte in a long string that no backslash stands before; a quote leads to `quoted`.
 #[inline(always)]
-fn in_long(scan: Scan, quote: Quote, quoted: Inside, b: u8) -> Scan
+fn in_long(scan: Scan, quote: Quote, quoted: CutState, b: u8) -> Scan
     ensures { result ≡ in_long quoted quote scan.depth scan.kind b }
 {
     if b == byte_of(quote) {
         scan.within(quoted)
     } else if b == b'\\' {
-        scan.within(Inside::LongEscape(quote))
+        scan.within(CutState::LongEscape(quote))
     } else {
-        scan.within(Inside::Long(quote))
+        scan.within(CutState::Long(quote))
     }
 }
 
@@ -179,48 +179,48 @@ fn advance(scan: Scan, b: u8) -> Scan
     ensures { result ≡ next scan b }
 {
     match scan.inside {
-        Inside::Plain => outside(scan, b),
-        Inside::Ended | Inside::BrokenOff => outside(Scan::start(), b),
-        Inside::Backslash => match b {
-            b'\n' => scan.within(Inside::Plain),
-            b'\r' => scan.within(Inside::BackslashReturn),
+        CutState::Plain => outside(scan, b),
+        CutState::Ended | CutState::BrokenOff => outside(Scan::start(), b),
+        CutState::Backslash => match b {
+            b'\n' => scan.within(CutState::Plain),
+            b'\r' => scan.within(CutState::BackslashReturn),
             _ => outside(scan.of_kind(LineKind::Statement), b),
         },
-        Inside::BackslashReturn => match b {
-            b'\n' => scan.within(Inside::Plain),
+        CutState::BackslashReturn => match b {
+            b'\n' => scan.within(CutState::Plain),
             _ => outside(scan.of_kind(LineKind::Statement), b),
         },
-        Inside::Comment => match b {
+        CutState::Comment => match b {
             b'\n' => outside(scan, b),
             _ => scan,
         },
-        Inside::Opened(quote) => {
+        CutState::Opened(quote) => {
             if b == byte_of(quote) {
-                scan.within(Inside::OpenedTwice(quote))
+                scan.within(CutState::OpenedTwice(quote))
             } else {
                 in_short(scan, quote, b)
             }
         }
-        Inside::OpenedTwice(quote) => {
+        CutState::OpenedTwice(quote) => {
             if b == byte_of(quote) {
-                scan.within(Inside::Long(quote))
+                scan.within(CutState::Long(quote))
             } else {
                 outside(scan, b)
             }
         }
-        Inside::Short(quote) => in_short(scan, quote, b),
-        Inside::ShortEscape(quote) => match b {
-            b'\r' => scan.within(Inside::ShortEscapeReturn(quote)),
-            _ => scan.within(Inside::Short(quote)),
+        CutState::Short(quote) => in_short(scan, quote, b),
+        CutState::ShortEscape(quote) => match b {
+            b'\r' => scan.within(CutState::ShortEscapeReturn(quote)),
+            _ => scan.within(CutState::Short(quote)),
         },
-        Inside::ShortEscapeReturn(quote) => match b {
-            b'\n' => scan.within(Inside::Short(quote)),
+        CutState::ShortEscapeReturn(quote) => match b {
+            b'\n' => scan.within(CutState::Short(quote)),
             _ => in_short(scan, quote, b),
         },
-        Inside::Long(quote) => in_long(scan, quote, Inside::LongQuote(quote), b),
-        Inside::LongQuote(quote) => in_long(scan, quote, Inside::LongTwoQuotes(quote), b),
-        Inside::LongTwoQuotes(quote) => in_long(scan, quote, Inside::Plain, b),
-        Inside::LongEscape(quote) => scan.within(Inside::Long(quote)),
+        CutState::Long(quote) => in_long(scan, quote, CutState::LongQuote(quote), b),
+        CutState::LongQuote(quote) => in_long(scan, quote, CutState::LongTwoQuotes(quote), b),
+        CutState::LongTwoQuotes(quote) => in_long(scan, quote, CutState::Plain, b),
+        CutState::LongEscape(quote) => scan.within(CutState::Long(quote)),
     }
 }
 
@@ -246,12 +246,12 @@ fn quiet_len(scan: Scan, bytes: &[u8]) -> usize
     ensures quiet { run scan (take result bytes.now) ≡ scan }
 {
     match scan.inside {
-        Inside::Plain => match scan.kind {
+        CutState::Plain => match scan.kind {
             LineKind::Statement => quiet_prefix(bytes),
             _ => 0,
         },
-        Inside::Short(_) => quiet_prefix(bytes),
-        Inside::Comment => line_len(bytes),
+        CutState::Short(_) => quiet_prefix(bytes),
+        CutState::Comment => line_len(bytes),
         _ => 0,
     }
 }
@@ -276,8 +276,8 @@ pub fn read(scan: Scan, bytes: &[u8]) -> Scan
 
 /// Whether the logical line has ended.
 #[inline(always)]
-pub fn is_ended(inside: Inside) -> bool
+pub fn is_ended(inside: CutState) -> bool
     ensures { result ≡ is_ended inside }
 {
-    matches!(inside, Inside::Ended | Inside::BrokenOff)
+    matches!(inside, CutState::Ended | CutState::BrokenOff)
 }

@@ -1,5 +1,5 @@
 use Rattle.std.proofs.Common.{◌∙◌, sym}
-use Rattle.bz_token.specs.declared.table.Class.TheVariants.{Close}
+use Rattle.bz_token.specs.declared.table.ByteClass.TheVariants.{Close}
 use Rattle.bz_token.proofs.Tables.{fact_at, closes_no_other}
 use Rattle.bz_token.proofs.brackets.is_closing_bracket.Goals as goal
 

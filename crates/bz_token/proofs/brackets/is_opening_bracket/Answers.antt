@@ -1,5 +1,5 @@
 use Rattle.std.proofs.Common.{◌∙◌, sym}
-use Rattle.bz_token.specs.declared.table.Class.TheVariants.{Open}
+use Rattle.bz_token.specs.declared.table.ByteClass.TheVariants.{Open}
 use Rattle.bz_token.proofs.Tables.{fact_at, opens_no_other}
 use Rattle.bz_token.proofs.brackets.is_opening_bracket.Goals as goal
 

@@ -6,66 +6,66 @@ use Rattle.bz_token.proofs.Progress.{empty_from_test}
 use Rattle.bz_token.proofs.OpenLines.{text_part, last_line_left, none_left, short_front}
 use Rattle.bz_token.proofs.chunk.first_chunk.Goals as goal
 
-pub loop-spot-init : goal.loop-spot-init
-loop-spot-init c =
+pub loop-cursor-init : goal.loop-cursor-init
+loop-cursor-init c =
     let e = c.in_ok-lexer.ensures in
-    let s = c.start-spot.ensures in
-    started c.args.first_line c.args.max_depth c.args.text.now c.in_ok-lexer.lexer c.start-spot.result e.0 e.1 s.rest s.line s.col s.none c.utf8.text
+    let s = c.start-cursor.ensures in
+    started c.args.first_line c.args.max_depth c.args.text.now c.in_ok-lexer.lexer c.start-cursor.result e.0 e.1 s.rest s.line s.col s.none c.utf8.text
 
 pub tokens_from-requires : goal.tokens_from-requires
 tokens_from-requires c =
-    let i = c.loop-spot.invariant in
-    start_within _ _ _ _ _ _ (c.in-Ok.ensures.line c.args.first_line c.args.text.now c.loop-spot.line_start i (search (rules, tests)))
+    let i = c.loop-cursor.invariant in
+    start_within _ _ _ _ _ _ (c.in-Ok.ensures.line c.args.first_line c.args.text.now c.loop-cursor.line_start i (search (rules, tests)))
 
-pub loop-spot-preserved : goal.loop-spot-preserved
-loop-spot-preserved c =
-    let i = c.loop-spot.invariant in
-    let a = c.in-Ok.ensures.line c.args.first_line c.args.text.now c.loop-spot.line_start i (search (rules, tests)) in
+pub loop-cursor-preserved : goal.loop-cursor-preserved
+loop-cursor-preserved c =
+    let i = c.loop-cursor.invariant in
+    let a = c.in-Ok.ensures.line c.args.first_line c.args.text.now c.loop-cursor.line_start i (search (rules, tests)) in
     let told = ap (λ ts. line_end (map placed ts)) (sym c.tokens_from.ensures) ∙ sym c.line_end.ensures ∙ c.in-Joins.is in
     let count : c.len-line_start.result ≡ length c.read_line.new.self.tokens.items = search (rules, tests) in
     rw count (joined _ _ _ _ _ _ a told)
 
 pub overflow_sub-text : goal.overflow_sub-text
 overflow_sub-text c =
-    let i = c.loop-spot.invariant in
-    let a = c.in-Ok.ensures.line c.args.first_line c.args.text.now c.loop-spot.line_start i (search (rules, tests)) in
+    let i = c.loop-cursor.invariant in
+    let a = c.in-Ok.ensures.line c.args.first_line c.args.text.now c.loop-cursor.line_start i (search (rules, tests)) in
     front_within _ _ _ (front _ _ _ _ _ _ a)
 
 pub split_at-requires : goal.split_at-requires
 split_at-requires c =
-    let i = c.loop-spot.invariant in
-    let a = c.in-Ok.ensures.line c.args.first_line c.args.text.now c.loop-spot.line_start i (search (rules, tests)) in
+    let i = c.loop-cursor.invariant in
+    let a = c.in-Ok.ensures.line c.args.first_line c.args.text.now c.loop-cursor.line_start i (search (rules, tests)) in
     front_boundary _ _ _ (front _ _ _ _ _ _ a) c.utf8.text
 
 pub returns-in-Ends : goal.returns-in-Ends
 returns-in-Ends c =
-    let i = c.loop-spot.invariant in
-    let a = c.in-Ok.ensures.line c.args.first_line c.args.text.now c.loop-spot.line_start i (search (rules, tests)) in
+    let i = c.loop-cursor.invariant in
+    let a = c.in-Ok.ensures.line c.args.first_line c.args.text.now c.loop-cursor.line_start i (search (rules, tests)) in
     let told = ap (λ ts. line_end (map placed ts)) (sym c.tokens_from.ensures) ∙ sym c.line_end.ensures ∙ c.in-Ends.is in
     let f = front _ _ _ _ _ _ a in
     record { front = first_chunk_is _ _ _ _ _ _ _ f refl c.split_at.ensures.front c.into_bump_slice.ensures (shown _ _ _ _ _ _ a told) }
 
 pub end_line-requires : goal.end_line-requires
-end_line-requires c = (c.loop-spot.lexer, (c.args.first_line, c.args.max_depth, c.args.text.now, [], c.loop-spot.invariant.read, search (rules, tests, arith)))
+end_line-requires c = (c.loop-cursor.lexer, (c.args.first_line, c.args.max_depth, c.args.text.now, [], c.loop-cursor.invariant.read, search (rules, tests, arith)))
 
 pub returns-in-Err : goal.returns-in-Err
 returns-in-Err c =
-    let i = c.loop-spot.invariant in
+    let i = c.loop-cursor.invariant in
     record {
       front = short_front _ _ _ c.is_open_on.result _ c.short_if.ensures (λ is.
           let at = c.is_open_on.ensures is in
-          let found = c.in-Err.ensures.open_text c.args.first_line c.args.text.now c.loop-spot.line_start i c.end_line.result at.0 at.1 in
-          text_part _ _ _ found.0 found.1 _ found.2 (last_line_left _ _ _ c.loop-spot.lexer found.0 c.loop-spot.spot found.1 c.end_line.result i.read found.2.read c.end_line.ensures found.3));
+          let found = c.in-Err.ensures.open_text c.args.first_line c.args.text.now c.loop-cursor.line_start i c.end_line.result at.0 at.1 in
+          text_part _ _ _ found.0 found.1 _ found.2 (last_line_left _ _ _ c.loop-cursor.lexer found.0 c.loop-cursor.cursor found.1 c.end_line.result i.read found.2.read c.end_line.ensures found.3));
     }
 
 pub returns-then-not-ends : goal.returns-then-not-ends
 returns-then-not-ends c =
-    let i = c.loop-spot.invariant in
+    let i = c.loop-cursor.invariant in
     record {
       front = short_front _ _ _ c.is_empty-then-not-ends.result _ c.short_if-then-not-ends.ensures (λ is.
-          text_part _ _ _ c.read_line.new.self c.in-Ok.passed.0 _ (c.in-Ok.ensures.in_line c.args.first_line c.args.text.now c.loop-spot.line_start i (search (rules, tests)))
+          text_part _ _ _ c.read_line.new.self c.in-Ok.passed.0 _ (c.in-Ok.ensures.in_line c.args.first_line c.args.text.now c.loop-cursor.line_start i (search (rules, tests)))
           (none_left _ (empty_from_test _ (sym c.is_empty-then-not-ends.ensures ∙ is))));
     }
 
 pub returns : goal.returns
-returns c = record { front = text_part _ _ _ c.loop-spot.lexer c.loop-spot.spot _ c.loop-spot.invariant (none_left _ (empty_from_test c.loop-spot.spot.rest.now (search (rules, tests)))) }
+returns c = record { front = text_part _ _ _ c.loop-cursor.lexer c.loop-cursor.cursor _ c.loop-cursor.invariant (none_left _ (empty_from_test c.loop-cursor.cursor.rest.now (search (rules, tests)))) }

@@ -1,7 +1,7 @@
 use Rattle.std.proofs.Common.{◌==◌, true, false, get_or, refl, sym, ◌∙◌}
 use Rattle.std.specs.Char.{is_ascii_digit}
 use Rattle.bz_token.specs.Lexical.{is_word_byte}
-use Rattle.bz_token.specs.declared.table.Class.TheVariants.{Newline, Letter, Prefix, Digit, Quote, Hash, Backslash}
+use Rattle.bz_token.specs.declared.table.ByteClass.TheVariants.{Newline, Letter, Prefix, Digit, Quote, Hash, Backslash}
 use Rattle.bz_token.proofs.Steps.{solid_gap, token_step, bad_step}
 use Rattle.bz_token.proofs.Tables.{fact_at, begins_so, letter_opens, solid_at, single_at, mark_at}
 use Rattle.bz_token.proofs.scan_token.step_at.Goals as goal
@@ -81,7 +81,7 @@ returns-in-Quote-clause-bad c =
     bad_step c.args.inside c.args.bytes.now c.scan_string.result (solid_gap c.args.inside c.args.bytes.now c.requires (solid_at (get_or c.args.bytes.now 0 0) Quote (sym c.class_at.ensures ∙ c.in-Quote.is) refl)) c.scan_string.ensures.bad
 
 pub returns-in-Hash-clause-step : goal.returns-in-Hash-clause-step
-returns-in-Hash-clause-step c = (solid_gap c.args.inside c.args.bytes.now c.requires (solid_at (get_or c.args.bytes.now 0 0) Hash (sym c.class_at.ensures ∙ c.in-Hash.is) refl), c.scan_comment.ensures)
+returns-in-Hash-clause-step c = (solid_gap c.args.inside c.args.bytes.now c.requires (solid_at (get_or c.args.bytes.now 0 0) Hash (sym c.class_at.ensures ∙ c.in-Hash.is) refl), c.scan_comment.ensures.comment)
 
 pub returns-in-Operator-clause-bad : goal.returns-in-Operator-clause-bad
 returns-in-Operator-clause-bad c =

@@ -15,7 +15,7 @@ returns-in_default-block_goes_on c = record {
 }
 
 pub returns-in_default : goal.returns-in_default
-returns-in_default c = absurd (no_word c.args.self.now.stage c.requires.at_block.in_block c.in_default.not-InBlock)
+returns-in_default c = absurd (no_word c.args.self.now.phase c.requires.at_block.in_block c.in_default.not-InBlock)
 
 pub returns-in-Ends-clause-next : goal.returns-in-Ends-clause-next
 returns-in-Ends-clause-next c =

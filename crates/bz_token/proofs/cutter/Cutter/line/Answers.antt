@@ -1,7 +1,7 @@
 use Rattle.std.proofs.Common.{◌≡◌, ◌∙◌, true, false, sym, ap}
 use Rattle.std.proofs.lemmas.Bool.{both_ways}
 use Rattle.bz_token.specs.declared.cutter.Cut.TheVariants.{More}
-use Rattle.bz_token.specs.private.CutSteps.{is_ended, run, moved, stage_now, cut_at, cutter_at}
+use Rattle.bz_token.specs.private.CutSteps.{is_ended, run, moved, phase_now, cut_at, cutter_at}
 use Rattle.bz_token.proofs.CutAnswers.{exactly_whole, exactly_block, open_cut, open_part, open_answers, open_last, ended_newline, ended_line, answers_of, awaits_after}
 use Rattle.bz_token.proofs.cutter.Cutter.line.Goals as goal
 
@@ -37,24 +37,24 @@ pub returns-clause-cut : goal.returns-clause-cut
 returns-clause-cut c n seen b =
     let ended : is_ended (run c.args.self.now.scan c.args.line.now).inside ≡ true =
     sym (ap (λ s. is_ended s.scan.inside) c.read_line.ensures) ∙ sym c.is_ended.ensures ∙ c.if-not-is_ended.false in
-    let is : c.cut_at.result ≡ cut_at (stage_now (moved c.args.self.now c.args.line.now)) =
-    c.cut_at.ensures ∙ ap cut_at (c.stage_now-stage.ensures ∙ ap stage_now c.read_line.ensures) in
+    let is : c.cut_at.result ≡ cut_at (phase_now (moved c.args.self.now c.args.line.now)) =
+    c.cut_at.ensures ∙ ap cut_at (c.phase_now-phase.ensures ∙ ap phase_now c.read_line.ensures) in
     rw is (ended_line c.args.self.now c.args.line.now c.requires.one_line c.requires.takes ended seen b).0
 
 pub returns-clause-whole : goal.returns-clause-whole
 returns-clause-whole c seen b =
     let ended : is_ended (run c.args.self.now.scan c.args.line.now).inside ≡ true =
     sym (ap (λ s. is_ended s.scan.inside) c.read_line.ensures) ∙ sym c.is_ended.ensures ∙ c.if-not-is_ended.false in
-    let is : c.cut_at.result ≡ cut_at (stage_now (moved c.args.self.now c.args.line.now)) =
-    c.cut_at.ensures ∙ ap cut_at (c.stage_now-stage.ensures ∙ ap stage_now c.read_line.ensures) in
+    let is : c.cut_at.result ≡ cut_at (phase_now (moved c.args.self.now c.args.line.now)) =
+    c.cut_at.ensures ∙ ap cut_at (c.phase_now-phase.ensures ∙ ap phase_now c.read_line.ensures) in
     rw is (exactly_whole _ _ (answers_of _ _ (ended_line c.args.self.now c.args.line.now c.requires.one_line c.requires.takes ended seen b).0))
 
 pub returns-clause-block : goal.returns-clause-block
 returns-clause-block c seen b =
     let ended : is_ended (run c.args.self.now.scan c.args.line.now).inside ≡ true =
     sym (ap (λ s. is_ended s.scan.inside) c.read_line.ensures) ∙ sym c.is_ended.ensures ∙ c.if-not-is_ended.false in
-    let is : c.cut_at.result ≡ cut_at (stage_now (moved c.args.self.now c.args.line.now)) =
-    c.cut_at.ensures ∙ ap cut_at (c.stage_now-stage.ensures ∙ ap stage_now c.read_line.ensures) in
+    let is : c.cut_at.result ≡ cut_at (phase_now (moved c.args.self.now c.args.line.now)) =
+    c.cut_at.ensures ∙ ap cut_at (c.phase_now-phase.ensures ∙ ap phase_now c.read_line.ensures) in
     rw is (exactly_block _ _ (answers_of _ _ (ended_line c.args.self.now c.args.line.now c.requires.one_line c.requires.takes ended seen b).0))
 
 pub returns-clause-last : goal.returns-clause-last
@@ -67,11 +67,11 @@ pub returns-clause-after : goal.returns-clause-after
 returns-clause-after c n seen b =
     let ended : is_ended (run c.args.self.now.scan c.args.line.now).inside ≡ true =
     sym (ap (λ s. is_ended s.scan.inside) c.read_line.ensures) ∙ sym c.is_ended.ensures ∙ c.if-not-is_ended.false in
-    let is : c.cut_at.result ≡ cut_at (stage_now (moved c.args.self.now c.args.line.now)) =
-    c.cut_at.ensures ∙ ap cut_at (c.stage_now-stage.ensures ∙ ap stage_now c.read_line.ensures) in
-    let now : c.at.result ≡ cutter_at (stage_now (moved c.args.self.now c.args.line.now)) =
-    c.at.ensures ∙ ap cutter_at (c.stage_now-stage.ensures ∙ ap stage_now c.read_line.ensures) in
+    let is : c.cut_at.result ≡ cut_at (phase_now (moved c.args.self.now c.args.line.now)) =
+    c.cut_at.ensures ∙ ap cut_at (c.phase_now-phase.ensures ∙ ap phase_now c.read_line.ensures) in
+    let now : c.at.result ≡ cutter_at (phase_now (moved c.args.self.now c.args.line.now)) =
+    c.at.ensures ∙ ap cutter_at (c.phase_now-phase.ensures ∙ ap phase_now c.read_line.ensures) in
     rw (is, now) (ended_line c.args.self.now c.args.line.now c.requires.one_line c.requires.takes ended seen b).1
 
 pub returns-clause-awaits : goal.returns-clause-awaits
-returns-clause-awaits c = rw (c.cut_at.ensures, c.at.ensures) (awaits_after c.stage_now-stage.result)
+returns-clause-awaits c = rw (c.cut_at.ensures, c.at.ensures) (awaits_after c.phase_now-phase.result)

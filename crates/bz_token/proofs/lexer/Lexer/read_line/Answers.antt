@@ -21,10 +21,10 @@ pub returns-then-eq-clause-line : goal.returns-then-eq-clause-line
 returns-then-eq-clause-line c first bytes start before told =
     let i = c.loop-self.invariant.line first bytes start before in
     let r = c.in_ok-next.ensures.read first bytes [] i.read in
-    line_read first c.args.max_depth bytes c.loop-self.self c.step.new.self c.loop-self.spot c.in_ok-next.next start c.in_ok-next.kind i r.0 r.1 (search (rules, tests))
+    line_read first c.args.max_depth bytes c.loop-self.self c.step.new.self c.loop-self.cursor c.in_ok-next.next start c.in_ok-next.kind i r.0 r.1 (search (rules, tests))
 
-pub pass_white-spot-requires : goal.pass_white-spot-requires
-pass_white-spot-requires c =
+pub pass_white-cursor-requires : goal.pass_white-cursor-requires
+pass_white-cursor-requires c =
     let p = c.requires.places in
     (p.0, c.args.max_depth, p.1, p.2, (c.in_ok-next.ensures.read p.0 p.1 p.2 (c.loop-self.invariant.read p.0 p.1 p.2 p.3)).0, p.4)
 
@@ -32,16 +32,16 @@ pub loop-self-preserved : goal.loop-self-preserved
 loop-self-preserved c =
     let i = c.loop-self.invariant in
     let passed = c.in_ok-next.ensures in
-    let white = c.pass_white-spot.ensures in
+    let white = c.pass_white-cursor.ensures in
     let depth = c.args.max_depth in
     record {
       read = λ first bytes given before. (white.read first depth bytes given (passed.read first bytes given (i.read first bytes given before)).0).0;
       line = λ first bytes start before.
           let here = i.line first bytes start before in
           let r = passed.read first bytes [] here.read in
-          let next = stays first depth bytes c.loop-self.self c.step.new.self c.loop-self.spot c.in_ok-next.next start c.in_ok-next.kind here r.0 r.1 (λ e. search (rules, tests)) in
+          let next = stays first depth bytes c.loop-self.self c.step.new.self c.loop-self.cursor c.in_ok-next.next start c.in_ok-next.kind here r.0 r.1 (λ e. search (rules, tests)) in
           let w = white.read first depth bytes [] next.read in
-          stays first depth bytes c.step.new.self c.step.new.self c.in_ok-next.next c.pass_white-spot.result start None next w.0 w.1 (λ e. search (rules, tests));
+          stays first depth bytes c.step.new.self c.step.new.self c.in_ok-next.next c.pass_white-cursor.result start None next w.0 w.1 (λ e. search (rules, tests));
       shorter = omega (arith, i.shorter, passed.shorter, white.not_longer);
     }
 
@@ -52,9 +52,9 @@ pub returns-then-len-most-clause-in_line : goal.returns-then-len-most-clause-in_
 returns-then-len-most-clause-in_line c first bytes start before told =
     let i = c.loop-self.invariant.line first bytes start before in
     let r = c.in_ok-next.ensures.read first bytes [] i.read in
-    stays first c.args.max_depth bytes c.loop-self.self c.step.new.self c.loop-self.spot c.in_ok-next.next start c.in_ok-next.kind i r.0 r.1 (λ e. search (rules, tests))
+    stays first c.args.max_depth bytes c.loop-self.self c.step.new.self c.loop-self.cursor c.in_ok-next.next start c.in_ok-next.kind i r.0 r.1 (λ e. search (rules, tests))
 
 pub returns-in_err-next-clause-open_text : goal.returns-in_err-next-clause-open_text
 returns-in_err-next-clause-open_text c first bytes start before =
     passed_on c.from_residual.result c.in_err-next.field-0.0 (IsOpenInLine first c.args.max_depth bytes start) c.from_residual.ensures.1
-    (λ line col is. (c.loop-self.self, c.loop-self.spot, c.loop-self.invariant.line first bytes start before, sym (c.in_err-next.ensures.open_text line col is)))
+    (λ line col is. (c.loop-self.self, c.loop-self.cursor, c.loop-self.invariant.line first bytes start before, sym (c.in_err-next.ensures.open_text line col is)))

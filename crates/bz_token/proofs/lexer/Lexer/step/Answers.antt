@@ -34,13 +34,13 @@ returns-in-Ok-Gap-clause-read c first bytes given before =
 pub pass-requires-clause-line_fits : goal.pass-requires-clause-line_fits
 pass-requires-clause-line_fits c =
     let fits = places_fit _ _ _ _ _ _ _ _ _ c.requires.places.3 in
-    let parts = newlines_split c.args.spot.rest.now c.as_bytes.result.now _ _ (c.as_bytes.ensures.value ∙ c.split_at.ensures.front) c.split_at.ensures.back in
+    let parts = newlines_split c.args.cursor.rest.now c.as_bytes.result.now _ _ (c.as_bytes.ensures.value ∙ c.split_at.ensures.front) c.split_at.ensures.back in
     omega (arith, fits.0, parts.0, c.requires.places.4.0)
 
 pub pass-requires-clause-col_fits : goal.pass-requires-clause-col_fits
 pass-requires-clause-col_fits c =
     let fits = places_fit _ _ _ _ _ _ _ _ _ c.requires.places.3 in
-    let parts = newlines_split c.args.spot.rest.now c.as_bytes.result.now _ _ (c.as_bytes.ensures.value ∙ c.split_at.ensures.front) c.split_at.ensures.back in
+    let parts = newlines_split c.args.cursor.rest.now c.as_bytes.result.now _ _ (c.as_bytes.ensures.value ∙ c.split_at.ensures.front) c.split_at.ensures.back in
     omega (arith, fits.1, parts.1, c.requires.places.4.1)
 
 pub pass-requires-clause-col_counts : goal.pass-requires-clause-col_counts
@@ -49,18 +49,18 @@ pass-requires-clause-col_counts c = (places_fit _ _ _ _ _ _ _ _ _ c.requires.pla
 pub returns-in_ok-push-in-Ok-Token-clause-read : goal.returns-in_ok-push-in-Ok-Token-clause-read
 returns-in_ok-push-in-Ok-Token-clause-read c first bytes given before =
     let found = token_of_step _ _ _ _ _ _ c.in-Ok-Token.scanned c.as_bytes-bytes.ensures.value c.in-Ok-Token.field-0-is c.in-Ok-Token.ensures.step in
-    let here = c.args.spot.rest.now in
+    let here = c.args.cursor.rest.now in
     let cut = c.split_at.ensures in
     let token = c.split_at.result.0.now in
     let following = c.split_at.result.1.now in
-    let split : c.args.spot.rest.now ≡ token ++ following = rw (cut.front, cut.back, take-append-drop) refl in
+    let split : c.args.cursor.rest.now ≡ token ++ following = rw (cut.front, cut.back, take-append-drop) refl in
     let whole = rw (← cut.front) at found.1.token.whole in
     let fitting = token_fits c.args.max_depth c.in-Ok-Token.scanned.kind (opened c.args.self.now.brackets) here token following c.in-Ok-Token.scanned.len found.1.some found.1.within cut.front split whole found.0 found.2 in
     let pushed = chosen _ _ _ _ c.push.ensures.items (ap is_ok c.in_ok-push-in-Ok-Token.was) in
     let utf8 = IsUtf8-drop here c.in-Ok-Token.scanned.len before.utf8 (found.1.boundary before.utf8) in
     rw (ap (λ ts. given ++ map placed ts) pushed ∙ (ap (λ ts. given ++ ts) (map_push c.args.self.now.tokens.items _) ∙ sym (append_assoc given (map placed c.args.self.now.tokens.items) _)))
-    (token_read first c.args.max_depth bytes _ (opened c.args.self.now.brackets) (opened c.read_step.new.brackets) c.args.spot.last_line here token following c.in-Ok-Token.scanned.kind
-    _ _ c.pass.result.line c.pass.result.col c.is_fresh.result before found.0 split (rw (← cut.front, ← cut.back) at found.1.token) fitting.0 (found.3 ∙ fitting.1) (c.is_fresh.ensures ∙ ap not (same_as c.args.spot.last_line c.args.spot.place.line)) (rw (← cut.back) at utf8)
+    (token_read first c.args.max_depth bytes _ (opened c.args.self.now.brackets) (opened c.read_step.new.brackets) c.args.cursor.last_line here token following c.in-Ok-Token.scanned.kind
+    _ _ c.pass.result.line c.pass.result.col c.is_fresh.result before found.0 split (rw (← cut.front, ← cut.back) at found.1.token) fitting.0 (found.3 ∙ fitting.1) (c.is_fresh.ensures ∙ ap not (same_as c.args.cursor.last_line c.args.cursor.place.line)) (rw (← cut.back) at utf8)
     (rw c.as_bytes.ensures.value at c.pass.ensures.line)
     (rw c.as_bytes.ensures.value at c.pass.ensures.col))
 
@@ -74,7 +74,7 @@ returns-in-Ok-Gap-clause-shorter c = c.pass_gap.ensures.shorter
 pub returns-in_ok-push-in-Ok-Token-clause-shorter : goal.returns-in_ok-push-in-Ok-Token-clause-shorter
 returns-in_ok-push-in-Ok-Token-clause-shorter c =
     let found = token_of_step _ _ _ _ _ _ c.in-Ok-Token.scanned c.as_bytes-bytes.ensures.value c.in-Ok-Token.field-0-is c.in-Ok-Token.ensures.step in
-    omega (arith, found.1.some, found.1.within, ap length c.split_at.ensures.back, length-drop c.in-Ok-Token.scanned.len c.args.spot.rest.now)
+    omega (arith, found.1.some, found.1.within, ap length c.split_at.ensures.back, length-drop c.in-Ok-Token.scanned.len c.args.cursor.rest.now)
 
 pub split_at-requires : goal.split_at-requires
 split_at-requires c =

@@ -3,7 +3,7 @@ use Rattle.std.proofs.lemmas.List.{length-take-le}
 use Rattle.bz_token.specs.Lexical.{is_newline}
 use Rattle.std.proofs.lemmas.List.Sums.{prefix_len-le-length}
 use Rattle.bz_token.proofs.Gaps.{comment_front}
-use Rattle.bz_token.proofs.scan.comment_len.Goals as goal
+use Rattle.bz_token.proofs.scan.line_comment_len.Goals as goal
 
 pub returns-clause-comment : goal.returns-clause-comment
 returns-clause-comment c =

@@ -1,6 +1,6 @@
 use Rattle.std.proofs.Common.{arith, ap, length}
 use Rattle.bz_token.proofs.Progress.{newlines, places_fit}
-use Rattle.bz_token.proofs.lexer.Spot.end_line.Goals as goal
+use Rattle.bz_token.proofs.lexer.Cursor.end_line.Goals as goal
 
 pub advance-requires-clause-line_fits : goal.advance-requires-clause-line_fits
 advance-requires-clause-line_fits c =
