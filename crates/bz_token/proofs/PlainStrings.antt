@@ -14,15 +14,15 @@ use Rattle.bz_token.specs.declared.scan_string.Escape.TheVariants.{Unescaped, Af
 pub quote_no_newline : (q : ℕ) → is_quote q ≡ true → (q == 10) ≡ false
 quote_no_newline q h = grind (arith, nat_tests)
 
-abbrev short : ℕ → Quotes
+abbrev pub short : ℕ → Quotes
 short q = record { byte = q; long = false }
 
 -- whether a short string closes, by what its next byte is: its quote, a newline, a backslash
-abbrev closed : Bool → Bool → Bool → ℕ → List ℕ → Bool
+abbrev pub closed : Bool → Bool → Bool → ℕ → List ℕ → Bool
 closed true newline backslash q bs = is_empty bs
 closed false newline backslash q bs = not newline && closes (short q) 0 (if backslash then AfterBackslash else Unescaped) bs
 
-by_tests : (q b : ℕ) (bs : List ℕ) → closes (short q) 0 Unescaped (b ∷ bs) ≡ closed (b == q) (b == 10) (b == 92) q bs
+pub by_tests : (q b : ℕ) (bs : List ℕ) → closes (short q) 0 Unescaped (b ∷ bs) ≡ closed (b == q) (b == 10) (b == 92) q bs
 by_tests q b bs = by (b == q)
   where
     by : (t : Bool) → elim t [ true ↦ is_empty bs | false ↦ not (b == 10) && closes (short q) 0 (starts_escape b) bs ] ≡ closed t (b == 10) (b == 92) q bs
@@ -30,7 +30,7 @@ by_tests q b bs = by (b == q)
     by false = refl
 
 -- a plain byte is passed
-passed : (q b : ℕ) (bs : List ℕ) → is_plain q b ≡ true → closes (short q) 0 Unescaped (b ∷ bs) ≡ closes (short q) 0 Unescaped bs
+pub passed : (q b : ℕ) (bs : List ℕ) → is_plain q b ≡ true → closes (short q) 0 Unescaped (b ∷ bs) ≡ closes (short q) 0 Unescaped bs
 passed q b bs h =
     let backslash = and_parts (not (b == q) && not (b == 10)) (not (b == 92)) h in
     let newline = and_parts (not (b == q)) (not (b == 10)) backslash.0 in

@@ -36,7 +36,7 @@ pub fn integer_len(bytes: &[u8]) -> usize
 
 /// The number of bytes of the string literal that the text begins with, with its prefix and quotes. 0: it begins with
 /// none, or with one that nothing closes.
-#[tactic(auto, using(crate::proofs::TokenLengths::unopened, crate::proofs::TokenLengths::unclosed, crate::proofs::TokenLengths::scanned_of))]
+#[tactic(auto, using(crate::proofs::TokenLengths::unopened, crate::proofs::TokenLengths::unclosed))]
 #[inline(always)]
 pub fn string_len(bytes: &[u8]) -> usize
     ensures string { 0 < result → IsTokenOf String bytes.now result }

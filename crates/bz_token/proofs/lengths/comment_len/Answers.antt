@@ -1,9 +1,6 @@
-use Rattle.std.proofs.Common.{subst, take, drop}
-use Rattle.bz_token.specs.Lexical.{IsToken}
+use Rattle.bz_token.specs.declared.token.Kind.TheVariants.{Comment}
+use Rattle.bz_token.proofs.TokenLengths.{scanned_of}
 use Rattle.bz_token.proofs.lengths.comment_len.Goals as goal
 
 pub returns-in-35-clause-comment : goal.returns-in-35-clause-comment
-returns-in-35-clause-comment c = λ some.
-    let found = c.scan_comment.ensures.comment in
-    let len = c.scan_comment.result.len in
-    (found.within, subst (λ kind. IsToken kind (take len c.args.bytes.now) (drop len c.args.bytes.now)) c.scan_comment.ensures.kind found.token)
+returns-in-35-clause-comment c = λ some. scanned_of Comment c.args.bytes.now c.scan_comment.result c.scan_comment.ensures.comment c.scan_comment.ensures.kind
