@@ -6,7 +6,8 @@ use Rattle.std.proofs.lemmas.Bool.{cases_Bool, and_parts, or_parts, eq-eqb, ne_e
 use Rattle.std.proofs.lemmas.List.{take_all}
 use Rattle.std.proofs.Math.Bool.{and_assoc}
 use Rattle.std.proofs.lemmas.Slice.Eq.{bytes_eq-Decides}
-use Rattle.bz_command.specs.Values.{grouped_from, takes, units, joined, content, is_newline, unit_value, values_in, and_then, is_quote, prefix_of, inner_of, value_of}
+use Rattle.bz_token.specs.Pieces.{is_quote}
+use Rattle.bz_command.specs.Values.{grouped_from, takes, units, joined, content, is_newline, unit_value, values_in, and_then, prefix_of, inner_of, value_of}
 use Rattle.bz_command.specs.private.ValueSteps.{is_plain, plain_too, first_len, is_value, inner_value, value_in, taken, opened_value}
 
 -- nothing more joins a group

@@ -4,6 +4,7 @@ use Rattle.std.specs.List.{before_first, starts_with, list_any, flat_map}
 use Rattle.bz_token.specs.declared.token.Kind.{Kind}
 use Rattle.bz_token.specs.declared.token.Kind.TheVariants.{String}
 use Rattle.bz_token.specs.declared.token.Token.{Token}
+use Rattle.bz_token.specs.Pieces.{is_quote}
 
 -- A list in groups: an element joins the group before it where the test holds of both.
 abbrev pub grouped_from : (List ℕ → ℕ → Bool) → List ℕ → List ℕ → List (List ℕ)
@@ -33,9 +34,6 @@ content quotes [] = None
 content quotes (u ∷ us) =
     if starts_with nat_eq (joined (u ∷ us)) quotes then (if bytes_eq (joined (u ∷ us)) quotes then Some [] else None)
     else (if length quotes == 1 && is_newline u then None else option_map (λ inner. u ∷ inner) (content quotes us))
-
-abbrev pub is_quote : ℕ → Bool
-is_quote b = b == 34 || b == 39
 
 -- the prefix of a literal stands before its first quote
 abbrev pub prefix_of : List ℕ → List ℕ

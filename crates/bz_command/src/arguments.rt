@@ -1,9 +1,5 @@
 //! What commands on one rule take as their arguments.
 
-ghost use Rattle.std.specs.Prelude.{◌≡◌};
-ghost use Rattle.std.specs.List.{list_any};
-ghost use Rattle.bz_command.specs.Arguments as spec;
-
 use crate::list::{Seq, Text};
 
 /// The attributes that a command speaks of.
@@ -48,61 +44,4 @@ pub enum Field {
     StartLine,
     EndLine,
     ValueOf(Text),
-}
-
-impl Attributes {
-    /// They mention the attribute of this name, as `*` mentions each.
-    pub fn mention(&self, name: &str) -> bool
-        ensures { result ≡ spec.attributes_mention name.now self.now }
-    {
-        match self {
-            Attributes::Every => true,
-            Attributes::Named(attr) => attr.as_str() == name,
-        }
-    }
-}
-
-impl Setting {
-    /// It mentions the attribute of this name.
-    pub fn mentions(&self, name: &str) -> bool
-        ensures { result ≡ spec.setting_mentions name.now self.now }
-    {
-        matches!(self, Setting::ToValues(attr, _) if attr.as_str() == name)
-    }
-}
-
-impl Commented {
-    /// It mentions the attribute of this name.
-    pub fn mentions(&self, name: &str) -> bool
-        ensures { result ≡ spec.comment_mentions name.now self.now }
-    {
-        match self {
-            Commented::Rule => false,
-            Commented::Attribute(attr) | Commented::Value(attr, _) => attr.as_str() == name,
-        }
-    }
-}
-
-impl Field {
-    fn mentions(&self, name: &str) -> bool
-        ensures { result ≡ spec.field_mentions name.now self.now }
-    {
-        matches!(self, Field::ValueOf(attr) if attr.as_str() == name)
-    }
-}
-
-/// The fields of `print` mention the attribute of this name; without fields the name is printed.
-pub fn print_mentions(fields: &[Field], name: &str) -> bool
-    ensures { result ≡ spec.print_mentions name.now fields.now }
-{
-    match fields {
-        [] => name == "name",
-        [_, ..] => any_mentions(fields, name),
-    }
-}
-
-fn any_mentions(fields: &[Field], name: &str) -> bool
-    ensures { result ≡ list_any (spec.field_mentions name.now) fields.now }
-{
-    fields.iter().any(|field| field.mentions(name))
 }

@@ -6,14 +6,14 @@ ghost use Rattle.bz_command.specs.private.ByteSteps.{left, is_good, inner_of};
 
 use crate::literal::{Literal, is_at_end, next_in, open, plain_value};
 
-/// What is left to read.
+/// Bytes that are still to be read: of a text as it is, or of the value of a string literal.
 #[derive(Clone, Copy)]
 pub enum Bytes<'a> {
     Plain(&'a [u8]),
     Inner(Literal<'a>),
 }
 
-/// The value of a literal's text, where it has one.
+/// The value of a text that is a string literal. None: it is none, or has no value.
 pub fn value_of(text: &str) -> Option<Bytes<'_>>
     ensures none { IfNone result (spec.value_of text.now ≡ None) }
     ensures some { IfSome result (λ bytes. spec.value_of text.now ≡ Some (left bytes)) }

@@ -1,4 +1,4 @@
-//! A label of a package in full: texts in a row.
+//! A label of a package in full: a chain of texts.
 
 ghost use Rattle.std.specs.Prelude.{◌≡◌, IsTrue, MatchOption, IfSome, [], ◌∷◌, ◌++◌, option_map};
 ghost use Rattle.std.specs.List.{flat_map, list_all};
@@ -7,7 +7,7 @@ ghost use Rattle.std.specs.Cmp.Lexicographic.{slice_cmp};
 ghost use Rattle.bz_command.specs.Labels.{last_of, parts_of};
 ghost use Rattle.bz_command.specs.Same as same;
 ghost use Rattle.bz_command.specs.private.ByteSteps.{left, is_good};
-ghost use Rattle.bz_command.specs.private.LabelSteps.{rest_after, row_bytes, is_good_row};
+ghost use Rattle.bz_command.specs.private.LabelSteps.{rest_after, chain_bytes, is_good_chain};
 
 use crate::bytes::{Bytes, next};
 use crate::package::Package;
@@ -94,22 +94,22 @@ fn after<'a>(mut text: Bytes<'a>, byte: u8) -> Option<Bytes<'a>>
     None
 }
 
-/// What is left of texts in a row.
+/// What is left of a chain of texts.
 #[derive(Clone, Copy)]
-struct Row<'a> {
+struct Chain<'a> {
     first: Bytes<'a>,
     rest: &'a [Bytes<'a>],
 }
 
-/// How the bytes of two rows of texts are ordered. What lies in one slice is compared as a slice.
+/// How the bytes of two chains of texts are ordered. What lies in one slice is compared as a slice.
 pub(crate) fn order<'a>(texts: &'a [Bytes<'a>], others: &'a [Bytes<'a>]) -> Ordering
     requires texts { IsTrue (list_all is_good texts.now) }
     requires others { IsTrue (list_all is_good others.now) }
     ensures { result ≡ slice_cmp nat_cmp (flat_map left texts.now) (flat_map left others.now) }
 {
     let first = Bytes::Plain(b"");
-    let mut a = Row { first, rest: texts };
-    let mut b = Row {
+    let mut a = Chain { first, rest: texts };
+    let mut b = Chain {
         first,
         rest: others,
     };
@@ -142,18 +142,18 @@ pub(crate) fn order<'a>(texts: &'a [Bytes<'a>], others: &'a [Bytes<'a>]) -> Orde
 }
 
 // The next byte, and what is left after it.
-fn next_in<'a>(row: Row<'a>) -> Option<(u8, Row<'a>)>
-    requires { IsTrue (is_good_row row) }
-    ensures next { MatchOption result (row_bytes row.entry ≡ []) (λ p. row_bytes row.entry ≡ p.0 ∷ row_bytes p.1) }
-    ensures good { IfSome result (λ p. IsTrue (is_good_row p.1)) }
+fn next_in<'a>(chain: Chain<'a>) -> Option<(u8, Chain<'a>)>
+    requires { IsTrue (is_good_chain chain) }
+    ensures next { MatchOption result (chain_bytes chain.entry ≡ []) (λ p. chain_bytes chain.entry ≡ p.0 ∷ chain_bytes p.1) }
+    ensures good { IfSome result (λ p. IsTrue (is_good_chain p.1)) }
 {
-    if let Some((b, first)) = next(row.first) {
-        return Some((b, Row { first, ..row }));
+    if let Some((b, first)) = next(chain.first) {
+        return Some((b, Chain { first, ..chain }));
     }
-    let [first, rest @ ..] = row.rest else {
+    let [first, rest @ ..] = chain.rest else {
         return None;
     };
-    next_in(Row {
+    next_in(Chain {
         first: *first,
         rest,
     })

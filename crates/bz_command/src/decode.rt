@@ -7,8 +7,8 @@ use crate::literal::{is_at_end, next_in, open};
 use crate::value::plain_text;
 use std::alloc::{AllocError, Global};
 
-/// The value of a text, where it is a string literal with a value. Bytes that stand for themselves are taken over in
-/// runs.
+/// The value of a text that is a string literal with a value. None: it is none, or has no value. Bytes that stand for
+/// themselves are copied in runs.
 pub fn read_value(alloc: Global, text: &str) -> Result<Option<String>, AllocError>
     ensures { IfOk result (λ value. option_map (λ text. string_bytes text) value ≡ spec.value_of text.now) }
 {

@@ -114,14 +114,14 @@ impl<'a> Ord for Label<'a> {
     }
 }
 
-/// Two texts are the same label in a package, its home: `x` and `:x` there are `//path:x`, and `//a/b` is `//a/b:b`.
+/// Whether two texts are the same label in a package, its home: `x` and `:x` there are `//path:x`, and `//a/b` is `//a/b:b`.
 pub fn same(a: &str, b: &str, home: &Package) -> bool
     ensures { IsTrue result ↔ spec.IsSame home.now a.now b.now }
 {
     same_label(home, Bytes::Plain(a.as_bytes()), Bytes::Plain(b.as_bytes()))
 }
 
-/// The two are the same label: their full forms are compared.
+/// Whether the two are the same label in a package: their full forms are compared.
 pub fn same_label(home: &Package, a: Bytes<'_>, b: Bytes<'_>) -> bool
     requires a { IsTrue (is_good a) }
     requires b { IsTrue (is_good b) }

@@ -20,7 +20,7 @@ pub struct LabelSet<'a> {
 }
 
 impl<'a> LabelSet<'a> {
-    /// The empty set. It takes no memory.
+    /// Makes an empty set of labels of this package, without an allocation.
     pub fn new(alloc: Global, home: &'a Package) -> LabelSet<'a>
         ensures home { result.home.now ≡ home.now }
         ensures empty { (text : List ℕ) → spec.has result text ≡ false }
@@ -29,7 +29,7 @@ impl<'a> LabelSet<'a> {
         LabelSet { home, labels }
     }
 
-    /// Adds a label, and says whether it is new. An `Err` leaves the set as it was.
+    /// Adds the label that a text is, and says whether it is new. An `Err` leaves the set as it was.
     pub fn insert(&mut self, text: Bytes<'a>) -> Result<bool, AllocError>
         requires { IsTrue (is_good text) }
         ensures new { IfOk result (λ new. new ≡ not (spec.has self.old (left text.entry))) }

@@ -7,7 +7,7 @@ ghost use Rattle.bz_command.specs.Labels as spec;
 
 use crate::list::Text;
 use crate::names::is_kind;
-use crate::package::{Package, Place};
+use crate::package::{Package, PackagePlace};
 use crate::parts::cut;
 use crate::target::{Marked, Target};
 use std::alloc::{AllocError, Global};
@@ -33,8 +33,9 @@ impl From<AllocError> for LabelFault {
     }
 }
 
-/// Reads a label (buildozer README, targets): `//PATH:TARGET`, `PATH:TARGET`, `:TARGET` in the root, `-:TARGET` for
-/// standard input, or a path alone, whose last part is then the name. A bad package is told before a bad target.
+/// Reads a label as a package and a target (buildozer README, targets): `//PATH:TARGET`, `PATH:TARGET`, `:TARGET` in the
+/// root, `-:TARGET` for standard input, or a path alone, whose last part is then the name. A bad package is reported
+/// before a bad target.
 pub fn read_label(alloc: Global, text: &str) -> Result<(Package, Target), LabelFault>
     ensures { result ≢ Err LabelFault.OutOfMemory → result ≡ spec.label_of text.now }
 {
@@ -80,14 +81,14 @@ fn read_package(alloc: Global, text: &str) -> Result<Package, LabelFault>
     ensures { result ≢ Err LabelFault.OutOfMemory → result ≡ spec.package_of text.now }
 {
     if text == "-" {
-        let place = Place::Standard;
+        let place = PackagePlace::Standard;
         return Ok(Package { place });
     }
     let path = text.strip_prefix("//").unwrap_or(text);
     if !is_path(path) {
         return Err(LabelFault::BadPackage);
     }
-    let place = Place::Path(Text::from_str(alloc, path)?);
+    let place = PackagePlace::Path(Text::from_str(alloc, path)?);
     Ok(Package { place })
 }
 

@@ -5,7 +5,7 @@ ghost use Rattle.bz_command.specs.Names as spec;
 
 use bz_token::is_identifier;
 
-/// The text is identifiers joined by `.`, none of them a keyword.
+/// Whether the text may be a rule's kind: identifiers joined by `.`.
 pub fn is_kind(text: &str) -> bool
     ensures { result ≡ spec.is_kind text.now }
 {

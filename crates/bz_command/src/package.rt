@@ -7,7 +7,7 @@ use crate::list::Text;
 use std::marker::Model;
 
 #[derive(PartialEq, Eq, Hash, Drop)]
-pub enum Place {
+pub enum PackagePlace {
     Standard,
     Path(Text),
 }
@@ -15,7 +15,7 @@ pub enum Place {
 /// A package: the path of a folder, or standard input and output. [`read_label`](crate::read_label) makes it.
 #[derive(PartialEq, Eq, Hash, Drop)]
 pub struct Package {
-    pub(crate) place: Place,
+    pub(crate) place: PackagePlace,
 }
 
 impl Model for Package {
@@ -41,8 +41,8 @@ impl Package {
         ensures good { spec.IsPackage self.now }
     {
         match &self.place {
-            Place::Standard => None,
-            Place::Path(path) => Some(path.as_str()),
+            PackagePlace::Standard => None,
+            PackagePlace::Path(path) => Some(path.as_str()),
         }
     }
 }

@@ -4,7 +4,7 @@ ghost use Rattle.std.specs.Prelude.{◌≡◌, ◌==◌, ◌<◌, length, MatchO
 ghost use Rattle.std.specs.List.{slice_split};
 ghost use Rattle.std.specs.Str.{IsUtf8};
 
-/// The first part and what follows the character after it; `None` where there is one part alone.
+/// Cuts a text at the first such character: what is before it, and what is after it. None: the character is not in it.
 pub fn cut(text: &str, at: char) -> Option<(&str, &str)>
     requires { at < 128 }
     ensures parts { MatchOption result (slice_split (λ b. b == at) text.now ≡ text.now ∷ [])

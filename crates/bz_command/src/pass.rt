@@ -2,7 +2,7 @@
 
 use std::marker::Model;
 
-/// One target, and the commands for the rules that it marks.
+/// A target, and the commands to be executed on the statements that it marks.
 #[derive(Drop)]
 pub struct Pass<T, C> {
     pub target: T,

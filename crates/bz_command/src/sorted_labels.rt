@@ -16,7 +16,7 @@ use crate::list::Text;
 use crate::package::Package;
 use std::alloc::{AllocError, Global};
 
-/// The labels that words are in one package.
+/// The labels that some words are in one package, sorted.
 #[derive(Drop)]
 pub struct SortedLabels<'a> {
     home: &'a Package,
@@ -25,7 +25,7 @@ pub struct SortedLabels<'a> {
 }
 
 impl<'a> SortedLabels<'a> {
-    /// The labels of all words. They take memory once.
+    /// Makes the labels of all words, in one allocation.
     pub fn new(
         alloc: Global,
         home: &'a Package,
@@ -43,14 +43,14 @@ impl<'a> SortedLabels<'a> {
         Ok(SortedLabels { home, labels })
     }
 
-    /// They are labels of this package.
+    /// Whether they are labels of this package.
     pub fn are_of(&self, home: &Package) -> bool
         ensures { result ≡ true → self.now.home.now ≡ home.now }
     {
         self.home == home
     }
 
-    /// One of them is the same as the text.
+    /// Whether one of them is the same label as the text.
     pub fn contains(&self, text: Bytes<'_>) -> bool
         requires { IsTrue (is_good text) }
         ensures { result ≡ holds self.now.home.now self.now.labels.items (left text.entry) }

@@ -35,7 +35,7 @@ impl Model for Target {
 }
 
 impl Target {
-    /// It is a failure if it marks nothing: so a name, the `package` calls and a line.
+    /// Whether it is a failure if it marks nothing: so for a name, the `package` calls and a line.
     pub fn must_mark(&self) -> bool
         ensures { result ≡ spec.must_mark self.now }
     {

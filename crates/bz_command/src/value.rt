@@ -10,7 +10,7 @@ use crate::literal::{Literal, is_at_end, next_in, open, plain_value};
 use bz_token::{Kind, Token};
 use std::alloc::{AllocError, Global};
 
-/// The token is a string literal with this value. A bytes literal, a raw string with a backslash and a string with an
+/// Whether the token is a string literal with this value. A bytes literal, a raw string with a backslash and a string with an
 /// escape other than `\a \b \f \n \r \t \v \\ \' \"` have no value.
 pub fn value_is(token: &Token<'_>, value: &str) -> bool
     ensures { IsTrue result ↔ (spec.token_value token.now ≡ Some value.now) }
@@ -18,7 +18,7 @@ pub fn value_is(token: &Token<'_>, value: &str) -> bool
     matches!(token.kind, Kind::String) && has_value(token.text.as_bytes(), value.as_bytes())
 }
 
-/// The string literal that is written for a value, in double quotes. Its value is the value again.
+/// The string literal, in double quotes, that has this value.
 pub fn quote(alloc: Global, value: &str) -> Result<String, AllocError>
     ensures { IfOk result (λ text. string_bytes text ≡ spec.quoted value.now) }
 {
@@ -43,8 +43,8 @@ fn push_written(text: &mut String, c: char) -> Result<(), AllocError>
     }
 }
 
-/// The value of a literal in which each byte stands for itself, between one quote and another: a slice of the text.
-/// None: it has no value, or is written in another way.
+/// The value of a string literal in which each byte stands for itself, between one quote and another: a slice of the
+/// text. None: the text is no such literal.
 pub fn plain_text(text: &str) -> Option<&str>
     ensures { IfSome result (λ value. spec.value_of text.now ≡ Some value.now) }
 {
@@ -54,7 +54,7 @@ pub fn plain_text(text: &str) -> Option<&str>
     text.get(start..start + value.len())
 }
 
-/// The text is a literal with this value.
+/// Whether the text is a string literal with this value.
 pub fn has_value(text: &[u8], value: &[u8]) -> bool
     ensures { result ≡ is_value value.now (spec.value_of text.now) }
 {

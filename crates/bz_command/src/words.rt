@@ -10,7 +10,7 @@ use crate::list::Text;
 use crate::parts::cut;
 use std::alloc::{AllocError, Global};
 
-/// The words of a text: it is split at runs of spaces, and a space after a backslash is one of the word.
+/// Splits a text into words at runs of spaces. A space after a backslash is a part of the word.
 pub fn read_words(alloc: Global, text: &str) -> Result<Vec<Text>, AllocError>
     ensures words { IfOk result (λ words. words.items ≡ spec.words_of text.now) }
     ensures utf8 { IfOk result (λ words. list_all is_utf8 words.items ≡ true) }

@@ -1,4 +1,4 @@
--- For private clauses alone: texts in a row, and how labels are ordered.
+-- For private clauses alone: chains of texts, and how labels are ordered.
 use Rattle.std.specs.Prelude.{ℕ, ◌==◌, bit_xor, List, [], ◌∷◌, ◌++◌, Bool, ◌&&◌, if◌then◌else◌, Option, Some, None}
 use Rattle.std.specs.declared.cmp.Ordering.{Ordering}
 use Rattle.std.specs.List.{flat_map, fold, list_all}
@@ -7,14 +7,14 @@ use Rattle.std.specs.Ordering.{nat_cmp, on, then_cmp}
 use Rattle.std.specs.Cmp.{IsTotalOrder, nat_cmp_total, on_total, then_total}
 use Rattle.std.specs.Cmp.Lexicographic.{slice_cmp, nat_list_cmp_total}
 use Rattle.bz_command.specs.private.ByteSteps.{left, is_good}
-use Rattle.bz_command.specs.declared.completed.Row.{Row}
+use Rattle.bz_command.specs.declared.completed.Chain.{Chain}
 
--- what is left of texts in a row
-abbrev pub row_bytes : Row → List ℕ
-row_bytes row = left row.first ++ flat_map left row.rest.now
+-- what is left of a chain of texts
+abbrev pub chain_bytes : Chain → List ℕ
+chain_bytes chain = left chain.first ++ flat_map left chain.rest.now
 
-abbrev pub is_good_row : Row → Bool
-is_good_row row = is_good row.first && list_all is_good row.rest.now
+abbrev pub is_good_chain : Chain → Bool
+is_good_chain chain = is_good chain.first && list_all is_good chain.rest.now
 
 -- what stands after the first such byte
 abbrev pub rest_after : ℕ → List ℕ → Option (List ℕ)

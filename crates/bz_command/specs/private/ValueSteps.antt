@@ -1,6 +1,7 @@
 -- For private clauses alone: a literal read unit by unit.
 use Rattle.std.specs.Prelude.{ℕ, ◌==◌, List, [], ◌∷◌, Bool, false, not, ◌&&◌, ◌||◌, if◌then◌else◌, Option, Some, None, bytes_eq, drop, take, option_map}
-use Rattle.bz_command.specs.Values.{units, content, values_in, unit_value, is_newline, inner_of, is_quote}
+use Rattle.bz_token.specs.Pieces.{is_quote}
+use Rattle.bz_command.specs.Values.{units, content, values_in, unit_value, is_newline, inner_of}
 
 -- a byte that stands for itself in a string of one quote
 abbrev pub is_plain : ℕ → ℕ → Bool

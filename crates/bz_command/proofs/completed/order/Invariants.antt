@@ -4,11 +4,11 @@ use Rattle.std.specs.Cmp.Lexicographic.{slice_cmp}
 use Rattle.std.specs.Ordering.{nat_cmp}
 use Rattle.std.specs.List.{flat_map}
 use Rattle.bz_command.specs.private.ByteSteps.{left}
-use Rattle.bz_command.specs.private.LabelSteps.{row_bytes, is_good_row}
+use Rattle.bz_command.specs.private.LabelSteps.{chain_bytes, is_good_chain}
 use Rattle.bz_command.proofs.completed.order.Given as goal
 
 abbrev pub invariant-loop-byte : goal.invariant-loop-byte
-invariant-loop-byte l = record { a : IsTrue (is_good_row l.a); b : IsTrue (is_good_row l.b); same : slice_cmp nat_cmp (row_bytes l.a) (row_bytes l.b) ≡ slice_cmp nat_cmp (flat_map left l.texts) (flat_map left l.others) }
+invariant-loop-byte l = record { a : IsTrue (is_good_chain l.a); b : IsTrue (is_good_chain l.b); same : slice_cmp nat_cmp (chain_bytes l.a) (chain_bytes l.b) ≡ slice_cmp nat_cmp (flat_map left l.texts) (flat_map left l.others) }
 
 abbrev pub decreases-loop-byte : goal.decreases-loop-byte
-decreases-loop-byte l = length (row_bytes l.a)
+decreases-loop-byte l = length (chain_bytes l.a)
