@@ -1,53 +1,31 @@
--- Numbers and comments by what was read of them.
-use Rattle.std.proofs.Common.{arith, ◌≤◌, ◌-◌, ◌≡◌, ◌∙◌, ◌==◌, ◌&&◌, ℕ, List, [], ◌∷◌, ◌++◌, Bool, true, false, not, take, drop, refl, sym, ap, take-append-drop}
-use Rattle.std.specs.List.{list_all, list_any, prefix_len}
-use Rattle.std.specs.Char.{is_ascii_digit}
-use Rattle.std.proofs.lemmas.Bool.{and_parts, not-true, false≢true}
-use Rattle.bz_token.specs.declared.token.Kind.TheVariants.{Integer, Comment}
-use Rattle.std.specs.Prelude.{length, slice_index}
-use Rattle.bz_token.specs.Lexical.{begins, ends_blank, is_blank, is_empty, is_newline, is_number}
-use Rattle.bz_token.proofs.Scanning.{all_front}
+-- Tokens at the front of a text, by their lengths.
+use Rattle.std.proofs.Common.{arith, ◌≡◌, ◌<◌, ◌∙◌, ℕ, zero, suc, List, ◌∷◌, ◌++◌, Bool, true, false, take, drop, refl, sym, ap, subst, take-append-drop}
+use Rattle.std.specs.Prelude.{if◌then◌else◌}
+use Rattle.std.specs.List.{prefix_len}
+use Rattle.bz_token.specs.declared.token.Kind.{Kind}
+use Rattle.bz_token.specs.declared.token.Kind.TheVariants.{String}
+use Rattle.bz_token.specs.Lexical.{is_word_byte, is_text}
+use Rattle.bz_token.specs.Lengths.{front_word, word_length}
+use Rattle.bz_layout.specs.Respell.{respell}
 use Rattle.bz_canonical.specs.private.Fronts.{IsTokenFront}
 
-all_digits : (digits : List ℕ) → is_empty digits ≡ false → list_all is_ascii_digit digits ≡ true → is_number digits ≡ true
-all_digits [] some all = absurd (false≢true (sym some))
-all_digits (b ∷ bs) some all = rw all refl
-
-pub number_front : (text digits rest : List ℕ) (n : ℕ) → n ≡ prefix_len is_ascii_digit text → digits ≡ take n text → rest ≡ drop n text → is_empty digits ≡ false → IsTokenFront Integer text rest
-number_front text digits rest n len front back some = record {
-  token = digits;
-  is = all_digits digits some (ap (list_all is_ascii_digit) front ∙ ap (λ k. list_all is_ascii_digit (take k text)) len ∙ all_front is_ascii_digit text);
-  stays = refl;
-  front = sym (take-append-drop n text) ∙ ap (λ (xs : List ℕ). xs ++ drop n text) (sym front) ∙ ap (λ (xs : List ℕ). digits ++ xs) (sym back);
+pub token_front : (kind : Kind) (text rest : List ℕ) (n : ℕ) → is_text kind (take n text) ≡ true → respell kind (take n text) ≡ take n text → rest ≡ drop n text → IsTokenFront kind text rest
+token_front kind text rest n is stays back = record {
+  token = take n text;
+  is = is;
+  stays = stays;
+  front = sym (take-append-drop n text) ∙ ap (λ (xs : List ℕ). take n text ++ xs) (sym back);
 }
 
--- a byte that ends no line
-abbrev pub stays_on_line : ℕ → Bool
-stays_on_line b = not (b == 10)
+-- the letters, digits and underscores at the front
+pub word_text : (kind : Kind) (text : List ℕ) (n : ℕ) → 0 < n → n ≡ word_length kind text → is_text kind (take n text) ≡ true
+word_text kind text n some len = by (is_text kind (front_word text)) refl len
+  where
+    by : (t : Bool) → is_text kind (front_word text) ≡ t → n ≡ (if t then prefix_len is_word_byte text else 0) → is_text kind (take n text) ≡ true
+    by true e is = ap (λ k. is_text kind (take k text)) is ∙ e
+    by false e is = absurd (omega (arith, some, is))
 
-no_newline : (xs : List ℕ) → list_all stays_on_line xs ≡ true → list_any is_newline xs ≡ false
-no_newline [] all = refl
-no_newline (x ∷ xs) all =
-    let p = and_parts (stays_on_line x) (list_all stays_on_line xs) all in
-    rw (not-true (x == 10) p.0) (no_newline xs p.1)
-
-is_note : (a b c : Bool) → a ≡ true → b ≡ false → c ≡ false → (a && not b && not c) ≡ true
-is_note a b c e f g = rw (e, f, g) refl
-
-pub comment_front : (text note rest : List ℕ) (n : ℕ) → n ≡ prefix_len stays_on_line text → note ≡ take n text → rest ≡ drop n text
-    → begins (λ b. b == 35) note ≡ true → ends_blank note ≡ false → IsTokenFront Comment text rest
-comment_front text note rest n len front back first last = record {
-  token = note;
-  is = is_note _ _ _ first (no_newline note (ap (list_all stays_on_line) front ∙ ap (λ k. list_all stays_on_line (take k text)) len ∙ all_front stays_on_line text)) last;
-  stays = refl;
-  front = sym (take-append-drop n text) ∙ ap (λ (xs : List ℕ). xs ++ drop n text) (sym front) ∙ ap (λ (xs : List ℕ). note ++ xs) (sym back);
-}
-
--- the last byte
-pub last_blank : (b : ℕ) (bs : List ℕ) → is_blank (slice_index (b ∷ bs) (length bs)) ≡ ends_blank (b ∷ bs)
-last_blank b [] = refl
-last_blank b (c ∷ cs) = last_blank c cs
-
-pub last_byte : (xs : List ℕ) → 1 ≤ length xs → is_blank (slice_index xs (length xs - 1)) ≡ ends_blank xs
-last_byte [] some = absurd (omega (arith, some))
-last_byte (b ∷ bs) some = let last : length (b ∷ bs) - 1 ≡ length bs = omega arith in ap (λ n. is_blank (slice_index (b ∷ bs) n)) last ∙ last_blank b bs
+-- a string in double quotes is written as it is
+pub quoted_stays : (text inside : List ℕ) (n : ℕ) → 0 < n → text ≡ 34 ∷ inside → respell String (take n text) ≡ take n text
+quoted_stays text inside zero some starts = absurd (omega (arith, some))
+quoted_stays text inside (suc n) some starts = subst (λ t. respell String (take (suc n) t) ≡ take (suc n) t) (sym starts) refl

@@ -1,7 +1,8 @@
-//! Whether a text begins with a chunk that stands as it would be written: then it need not be read.
+//! Whether a text begins with a chunk that is in canonical form: then it need not be read.
 //!
-//! `canonical` reads the image of the layout and not the language: names, strings and brackets in the one way in which
-//! `bz_layout` writes them. What it takes is read back as a statement, of which the chunk itself is written.
+//! `canonical` recognizes what `bz_layout` writes, and not the whole language: rules, loads on one line, assignments and
+//! comment lines, of values with the spaces, lines and double quotes of the layout. What it accepts is read back as a
+//! statement, of which the layout writes the same text.
 #![tactic(auto)]
 
 mod assignment;
@@ -9,10 +10,8 @@ mod bare;
 mod chunk;
 mod front;
 mod group;
-mod keyword;
 mod load;
 mod notes;
-mod plain;
 mod rule;
 mod segments;
 mod statement;

@@ -1,13 +1,13 @@
-//! What a run tells.
+//! What a run reports.
 
 use bz_command::Text;
 
-/// Something that a run tells, with its text.
+/// Something that a run reports, with its text.
 #[derive(Drop)]
 pub enum Entry {
-    /// What was printed.
+    /// A line that `print` prints.
     Line(Text),
-    /// A message that is no failure.
+    /// The message of a warning, which is no failure.
     Warning(Text),
     /// The message of a failure.
     Failure(Text),
@@ -15,7 +15,7 @@ pub enum Entry {
 
 /// What an entry is beside its text.
 #[derive(Clone, Copy)]
-pub(crate) enum Kind {
+pub(crate) enum EntryKind {
     Line,
     Warning,
     Failure,

@@ -26,7 +26,7 @@ pub struct Index {
 }
 
 impl Index {
-    /// The index of no passes. Takes no memory.
+    /// Makes the index of no passes, without an allocation.
     pub fn new(alloc: Global) -> Index
         ensures names { (name : List ℕ) → spec.named result name ≡ [] }
         ensures others { result.others.items ≡ [] }
@@ -37,7 +37,7 @@ impl Index {
         }
     }
 
-    /// Adds a pass that asks for this name, or for none.
+    /// Adds the next pass, which asks for this name, or for none.
     pub fn add(
         &mut self,
         alloc: Global,
@@ -56,7 +56,7 @@ impl Index {
         Ok(())
     }
 
-    /// The positions of a name.
+    /// The positions of the passes that ask for this name, in order.
     pub fn of_name(&self, name: &str) -> &[usize]
         ensures { result.now ≡ spec.named self.now name.now }
     {

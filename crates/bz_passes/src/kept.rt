@@ -12,7 +12,8 @@ use std::alloc::{AllocError, Global};
 use std::marker::Model;
 use std::mem;
 
-/// Of one pass: whether its target marked something so far, and what each of its commands told.
+/// What is kept of a pass until the end of the run: whether its target marked something so far, and what each of its
+/// commands reported.
 #[derive(Drop)]
 pub struct Kept {
     pub found: bool,
@@ -39,7 +40,7 @@ fn nothing_told<C>(alloc: Global, commands: &[C]) -> Result<Vec<Log>, AllocError
     Ok(logs)
 }
 
-/// Before the first slot: a place for each pass and each command, with nothing in it.
+/// What is kept before the first slot: for each pass and each of its commands, nothing.
 pub fn nothing_kept<T, C>(alloc: Global, passes: &[Pass<T, C>]) -> Result<Vec<Kept>, AllocError>
     ensures nothing { IfOk result (λ kept. kept.items ≡ map no_slot passes.now) }
     ensures fits { IfOk result (λ kept. Fits kept.items passes.now) }
@@ -109,8 +110,8 @@ fn tell_passes<L: Language>(
     Ok(())
 }
 
-/// The log of a whole run, from what was kept of it: by pass, in a pass by command, for a command
-/// by slot. The entries are moved out of `kept`.
+/// The log of a whole run, from what was kept of it: by pass, in a pass by command, of a command by slot. The entries
+/// are moved out of `kept`.
 pub fn tell<L: Language>(
     alloc: Global,
     language: &L,

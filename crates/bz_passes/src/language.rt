@@ -11,7 +11,7 @@ use crate::log::Log;
 use crate::passes::Keyed;
 use std::alloc::AllocError;
 
-/// Whether an execution changed its statement, and whether it failed.
+/// Whether an execution of a command changed its statement, and whether it failed.
 #[derive(Clone, Copy, Debug, PartialEq, Eq)]
 pub struct Facts {
     pub changed: bool,
@@ -51,15 +51,15 @@ pub trait Language {
         ensures { (target : Self.Target) → (meaning self.now).marks target (seen slot.now) ≡ true
             → may_mark result (Self.Target.asked target) ≡ true };
 
-    /// Whether it is told of a pass that its target marked nothing.
+    /// Whether it is to be reported of a pass that its target marked nothing.
     fn must_mark(&self, target: &Self::Target) -> bool
         ensures { result ≡ (meaning self.now).must_mark target.now };
 
-    /// What is told of such a pass.
+    /// What is reported of such a pass.
     fn not_found(&self, target: &Self::Target) -> Result<Entry, AllocError>
         ensures { IfOk result (λ entry. entry ≡ (meaning self.now).not_found target.now) };
 
-    /// One command on a slot. What it tells goes after the log.
+    /// Executes one command on a slot. What it reports is appended to the log.
     fn apply(
         &self,
         command: &Self::Command,

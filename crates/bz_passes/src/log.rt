@@ -5,21 +5,21 @@ ghost use Rattle.std.specs.List.{flat_map};
 ghost use Rattle.bz_passes.specs.Entries.{line_text, message_text, failure_text, first_of};
 ghost use Rattle.bz_passes.specs.private.Logs.{kind_of};
 
-use crate::entry::{Entry, Kind};
+use crate::entry::{Entry, EntryKind};
 use crate::texts::Texts;
 use std::alloc::{AllocError, Global};
 use std::marker::Model;
 
-/// Entries of a log, in the order in which they were told. An entry costs its text, the text's length and one byte.
+/// The entries that a run reports, in order. An entry costs its text, the text's length and one byte.
 #[derive(Drop)]
 pub struct Log {
-    parts: Parts,
+    parts: LogParts,
 }
 
 /// What each entry is in turn, and the texts of lines and of messages.
 #[derive(Drop)]
-struct Parts {
-    kinds: Vec<Kind>,
+struct LogParts {
+    kinds: Vec<EntryKind>,
     lines: Texts,
     messages: Texts,
 }
@@ -37,12 +37,12 @@ impl Model for Log {
 }
 
 impl Log {
-    /// A log without entries. Takes no memory.
+    /// Makes a log without entries, without an allocation.
     pub fn new(alloc: Global) -> Log
         ensures { result ≡ [] }
     {
         Log {
-            parts: Parts {
+            parts: LogParts {
                 kinds: Vec::new(alloc),
                 lines: Texts::new(alloc),
                 messages: Texts::new(alloc),
@@ -50,7 +50,7 @@ impl Log {
         }
     }
 
-    /// Puts an entry at the end.
+    /// Appends an entry.
     pub fn push(&mut self, entry: Entry) -> Result<(), AllocError>
         ensures { OnOk result (self.new ≡ self.old ++ entry ∷ []) }
     {
@@ -60,8 +60,8 @@ impl Log {
         Ok(())
     }
 
-    /// Moves the entries of another log to the end. To an empty log it takes no memory. Where memory is refused, the log
-    /// is left empty.
+    /// Moves the entries of another log to the end; to an empty log without an allocation. `Err`: allocation failed, and
+    /// the log is left empty.
     pub fn append(&mut self, other: Log) -> Result<(), AllocError>
         ensures { OnOk result (self.new ≡ self.old ++ other) }
     {
@@ -79,7 +79,7 @@ impl Log {
         }
     }
 
-    /// The text of the first failure.
+    /// The text of the first entry that is a failure.
     pub fn first_failure(&self) -> Option<&str>
         ensures { option_to_list (option_map (λ text. text.now) result)
             ≡ first_of (flat_map failure_text self.now) }
@@ -87,23 +87,23 @@ impl Log {
         let mut messages = self.parts.messages.iter();
         for kind in &self.parts.kinds {
             match kind {
-                Kind::Line => {}
-                Kind::Warning => {
+                EntryKind::Line => {}
+                EntryKind::Warning => {
                     let _warning = messages.next();
                 }
-                Kind::Failure => return messages.next(),
+                EntryKind::Failure => return messages.next(),
             }
         }
         None
     }
 
-    /// The lines and the messages, each in order. Takes no memory.
+    /// The texts of the lines and those of the messages, each in order, without an allocation.
     pub fn into_texts(self) -> (Texts, Texts)
         ensures lines { result.0 ≡ flat_map line_text self }
         ensures messages { result.1 ≡ flat_map message_text self }
     {
         let Log { parts } = self;
-        let Parts {
+        let LogParts {
             kinds: _kinds,
             lines,
             messages,
@@ -112,7 +112,7 @@ impl Log {
     }
 }
 
-impl Parts {
+impl LogParts {
     /// Puts the text of an entry after those of lines, or of messages.
     fn put_text(&mut self, entry: &Entry) -> Result<(), AllocError>
         ensures kinds { self.new.kinds ≡ self.old.kinds }
@@ -127,7 +127,7 @@ impl Parts {
     }
 
     /// Puts each part of another log after the same part of this one.
-    fn append(&mut self, other: Parts) -> Result<(), AllocError>
+    fn append(&mut self, other: LogParts) -> Result<(), AllocError>
         ensures kinds { OnOk result (self.new.kinds.items ≡ self.old.kinds.items ++ other.kinds.items) }
         ensures lines { OnOk result (self.new.lines ≡ self.old.lines ++ other.lines) }
         ensures messages { OnOk result (self.new.messages ≡ self.old.messages ++ other.messages) }
@@ -147,12 +147,12 @@ impl Parts {
     }
 }
 
-fn kind_of(entry: &Entry) -> Kind
+fn kind_of(entry: &Entry) -> EntryKind
     ensures { result ≡ kind_of entry.now }
 {
     match entry {
-        Entry::Line(_) => Kind::Line,
-        Entry::Warning(_) => Kind::Warning,
-        Entry::Failure(_) => Kind::Failure,
+        Entry::Line(_) => EntryKind::Line,
+        Entry::Warning(_) => EntryKind::Warning,
+        Entry::Failure(_) => EntryKind::Failure,
     }
 }

@@ -38,7 +38,7 @@ impl<T: Keyed, C> Model for Passes<T, C> {
 }
 
 impl<T: Keyed, C> Passes<T, C> {
-    /// The passes in this order.
+    /// Makes the index of these passes, which keep their order.
     pub fn new(alloc: Global, passes: Vec<Pass<T, C>>) -> Result<Passes<T, C>, AllocError>
     where
         T: Drop,
@@ -56,7 +56,7 @@ impl<T: Keyed, C> Passes<T, C> {
         self.passes.as_slice()
     }
 
-    /// The first pass from a position on that may mark what has this key.
+    /// The position, `from` or later, of the first pass that may mark what has this key.
     pub fn first_from(&self, key: Key<'_>, from: usize) -> Option<usize>
         ensures { spec.IsFirstFrom (λ pass. spec.may_mark key.entry (T.asked pass.target)) self.now from result }
     {

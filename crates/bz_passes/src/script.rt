@@ -165,9 +165,8 @@ fn run_passes<L: Language>(
     Ok(())
 }
 
-/// The whole script on one slot. Where what is kept and the facts are those of the slots before, they
-/// are then those of the slots with this one. After a refusal neither the slot nor what is kept is
-/// of use.
+/// Executes the whole script on one slot. If what is kept and the facts are those of the slots before, they are then
+/// those of the slots with this one. After an `Err` neither the slot nor what is kept is of use.
 pub fn run_script<L: Language>(
     language: &L,
     passes: &Passes<L::Target, L::Command>,
@@ -192,8 +191,8 @@ pub fn run_script<L: Language>(
     Ok(())
 }
 
-/// Whether no pass of the script may mark what has this key. A slot that has it is then passed by: `run_script` would
-/// leave it as it is, and what is kept is that of the slots with it.
+/// Whether no pass of the script may mark what has this key. A slot that has it can then be skipped: `run_script` would
+/// leave it, and what is kept, as they are.
 pub fn passes_by<L: Language>(
     language: &L,
     passes: &Passes<L::Target, L::Command>,

@@ -25,7 +25,7 @@ impl Model for Texts {
 }
 
 impl Texts {
-    /// No texts. Takes no memory.
+    /// Makes an empty list of texts, without an allocation.
     pub fn new(alloc: Global) -> Texts
         ensures { result ≡ [] }
     {
@@ -35,7 +35,7 @@ impl Texts {
         }
     }
 
-    /// How many texts there are.
+    /// The number of texts.
     pub fn len(&self) -> usize
         ensures { result ≡ length self.now }
     {
@@ -49,7 +49,7 @@ impl Texts {
         self.len() == 0
     }
 
-    /// Puts a text at the end. Where memory is refused, all stays as it is.
+    /// Appends a text. `Err`: allocation failed, and nothing changed.
     pub fn push(&mut self, text: &str) -> Result<(), AllocError>
         ensures pushed { OnOk result (self.new ≡ self.old ++ text.now ∷ []) }
         ensures stays { OnErr result (self.new ≡ self.old) }
@@ -60,8 +60,8 @@ impl Texts {
         Ok(())
     }
 
-    /// Moves the texts of another to the end. Where there are none yet, it takes no memory. Where memory is refused, all
-    /// stays as it is.
+    /// Moves the texts of another list to the end; to an empty list without an allocation. `Err`: allocation failed, and
+    /// nothing changed.
     pub fn append(&mut self, other: Texts) -> Result<(), AllocError>
         ensures appended { OnOk result (self.new ≡ self.old ++ other) }
         ensures stays { OnErr result (self.new ≡ self.old) }
@@ -84,7 +84,7 @@ impl Texts {
         self.lens.clear();
     }
 
-    /// The texts in order.
+    /// An iterator over the texts, in order.
     pub fn iter(&self) -> EachText<'_>
         ensures { result ≡ self.now }
     {
@@ -95,7 +95,7 @@ impl Texts {
     }
 }
 
-/// Texts that are still to come, in order.
+/// An iterator over texts: those that are still to come, in order.
 #[derive(Drop)]
 pub struct EachText<'a> {
     bytes: &'a [u8],
@@ -114,7 +114,7 @@ impl<'a> Model for EachText<'a> {
 }
 
 impl<'a> EachText<'a> {
-    /// The next text; none where all were given.
+    /// The next text. None: all were given.
     pub fn next(&mut self) -> Option<&'a str>
         ensures some { IfSome result (λ text. self.old ≡ text.now ∷ self.new) }
         ensures none { IfNone result ((self.old ≡ []) × (self.new ≡ [])) }

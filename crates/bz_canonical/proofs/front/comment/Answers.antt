@@ -1,8 +1,9 @@
-use Rattle.std.proofs.Common.{◌∙◌, sym}
-use Rattle.bz_canonical.proofs.Tokens.{comment_front}
+use Rattle.std.proofs.Common.{refl}
+use Rattle.bz_token.specs.declared.token.Kind.TheVariants.{Comment}
+use Rattle.bz_canonical.proofs.Tokens.{token_front}
 use Rattle.bz_canonical.proofs.front.comment.Goals as goal
 
 pub returns : goal.returns
 returns c =
-    comment_front c.args.text.now c.split_at.result.0.now c.split_at.result.1.now c.line_len.result c.line_len.ensures.len c.split_at.ensures.front c.split_at.ensures.back
-    (sym c.begins_note.ensures ∙ c.if-not-begins_note.false) (sym c.ends_blank.ensures ∙ c.if-ends_blank.false)
+    let found = c.comment_len.ensures.comment c.in_ok-rest.ensures.some in
+    token_front Comment c.args.text.now c.in_ok-rest.rest.now c.comment_len.result found.1.whole refl c.in_ok-rest.ensures.rest

@@ -1,7 +1,9 @@
-use Rattle.std.proofs.Common.{◌∙◌, sym}
-use Rattle.bz_canonical.proofs.Tokens.{number_front}
+use Rattle.std.proofs.Common.{refl}
+use Rattle.bz_token.specs.declared.token.Kind.TheVariants.{Integer}
+use Rattle.bz_canonical.proofs.Tokens.{token_front, word_text}
 use Rattle.bz_canonical.proofs.front.number.Goals as goal
 
 pub returns : goal.returns
 returns c =
-    number_front c.args.text.now c.split_at.result.0.now c.split_at.result.1.now c.digits_len.result c.digits_len.ensures.len c.split_at.ensures.front c.split_at.ensures.back (sym c.is_empty.ensures ∙ c.if-is_empty.false)
+    let n = c.integer_len.result in
+    token_front Integer c.args.text.now c.in_ok-rest.rest.now n (word_text Integer c.args.text.now n c.in_ok-rest.ensures.some c.integer_len.ensures) refl c.in_ok-rest.ensures.rest
