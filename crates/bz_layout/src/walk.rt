@@ -274,7 +274,6 @@ impl Walk {
         }
     }
 
-    // The parts may come in several slices, one run after another.
     pub(crate) fn run<T: NewLine>(
         &mut self,
         parts: &[Part<'_>],

@@ -12,26 +12,24 @@ use bumpalo::Bump;
 use bz_token::TokenReader;
 use std::alloc::AllocError;
 
-// The commas of so many bytes tell how many parts a long text has.
-const FRONT: usize = 4096;
+// A shorter text has room for as many parts as it can have, but for a few.
+const LONG: usize = 4096;
 
-// Room for the parts of a text: most often two go with a comma, an element and the end of its segment, and a few with
-// what stands around. A long list that grows in an arena leaves much room unused there.
+// Room for the parts of a text: two go with each comma of a list, an element and the end of its segment, and some with
+// what stands around. A list that grows in an arena leaves room unused there, so all commas are counted.
 fn first_room(text: &str) -> usize {
-    if text.len() < FRONT {
+    if text.len() < LONG {
         return text.len() / 4 + 8;
     }
-    let commas = text.bytes().take(FRONT).filter(|b| *b == b',').count();
-    let fronts = text.len() / FRONT + 1;
+    let commas = text.as_bytes().iter().filter(|b| **b == b',').count();
     commas
-        .saturating_add(32)
         .saturating_mul(2)
-        .saturating_mul(fronts)
+        .saturating_add(text.len() / 64 + 64)
 }
 
-/// The row that `read_row` gives for the tokens of a chunk, whose list is never there: it would take more memory than
-/// the row. The chunk's first line has this number, and at most so many brackets may be open at once. None: the chunk
-/// has a fault or comments alone, or `read_row` has no row of it. `Err`: memory was refused.
+/// Reads the row that `read_row` gives for the tokens of a chunk, whose list is never there: it would take more memory
+/// than the row. The chunk's first line has this number, and at most so many brackets may be open at once. None: the
+/// chunk has a fault or comments alone, or `read_row` has no row of it. `Err`: memory was refused.
 pub(crate) fn row_of_text<'a>(
     bump: &'a Bump,
     text: &'a str,
