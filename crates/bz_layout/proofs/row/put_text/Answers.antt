@@ -1,4 +1,4 @@
-use Rattle.std.proofs.Common.{[], map, sym, ◌∙◌, Result, Ok, Err, OnOk}
+use Rattle.std.proofs.Common.{map, sym, ◌∙◌, Result, Ok, Err, OnOk}
 use Rattle.bz_tree.specs.Rows.{part_view}
 use Rattle.bz_layout.specs.private.RowLayout.{laid}
 use Rattle.bz_layout.proofs.Kept.{begun_further}
