@@ -1,7 +1,7 @@
 //! One walk backwards over the parts of a statement, ahead of the writing: a mark for each bracket. Backwards a bracket's
 //! end comes first, so what decides on it is known where it opens.
 
-ghost use Rattle.std.specs.Prelude.{◌≡◌, IfOk, false, map, reverse};
+ghost use Rattle.std.specs.Prelude.{◌≡◌, IfOk, OnOk, map, reverse};
 ghost use Rattle.bz_tree.specs.Rows.{part_view};
 ghost use Rattle.bz_layout.specs.private.RowLayout.{closed, one_more, mark_of, opened_back, back, scan, scan_onto, scanned};
 
@@ -38,7 +38,7 @@ pub(crate) struct Inside {
 pub(crate) struct Marks {
     // The last is that of the first bracket.
     pub(crate) marks: Vec<Mark>,
-    // What stands in the brackets around.
+    pub(crate) here: Inside,
     pub(crate) outer: Vec<Inside>,
 }
 
@@ -74,54 +74,48 @@ fn mark_of(kind: GroupKind, inside: Inside) -> Mark
     }
 }
 
-// What stands in the bracket here is a value that each step takes and gives, and no field, so that it stays in a
-// register.
 impl Marks {
     // A bracket opens, with all that stands in it after it.
-    fn open(&mut self, kind: GroupKind, here: Inside) -> Result<Inside, AllocError>
-        ensures { IfOk result (λ below. scanned self.new below ≡ opened_back kind (scanned self.old here)) }
+    fn open(&mut self, kind: GroupKind) -> Result<(), AllocError>
+        ensures { OnOk result (scanned self.new ≡ opened_back kind (scanned self.old)) }
     {
-        let mark = mark_of(kind, here);
-        let holds = mark.broken || here.holds;
+        let mark = mark_of(kind, self.here);
+        let holds = mark.broken || self.here.holds;
         self.marks.push(mark)?;
-        let mut below = match self.outer.pop() {
+        self.here = match self.outer.pop() {
             Some(below) => below,
             None => Inside::closed(false),
         };
-        below.holds = holds || below.holds;
-        Ok(below)
+        self.here.holds = holds || self.here.holds;
+        Ok(())
     }
 
     #[inline(always)]
-    fn step(&mut self, part: &Part<'_>, here: Inside) -> Result<Inside, AllocError>
-        ensures { IfOk result (λ next. scanned self.new next ≡ back (part_view part.now) (scanned self.old here)) }
+    fn step(&mut self, part: &Part<'_>) -> Result<(), AllocError>
+        ensures { OnOk result (scanned self.new ≡ back (part_view part.now) (scanned self.old)) }
     {
-        let mut here = here;
         match *part {
             Part::Token(_, _) => {}
-            Part::Open(kind) => return self.open(kind, here),
+            Part::Open(kind) => self.open(kind)?,
             Part::Close(one_comma) => {
-                self.outer.push(here)?;
-                return Ok(Inside::closed(one_comma));
+                self.outer.push(self.here)?;
+                self.here = Inside::closed(one_comma);
             }
-            Part::End => here.segs = one_more(here.segs),
-            Part::Above(_) | Part::Beside(_) => here.comments = true,
+            Part::End => self.here.segs = one_more(self.here.segs),
+            Part::Above(_) | Part::Beside(_) => self.here.comments = true,
         }
-        Ok(here)
+        Ok(())
     }
 
-    // What stands at the top, where nothing follows the parts.
-    fn run_back(&mut self, parts: &[Part<'_>]) -> Result<Inside, AllocError>
-        ensures { IfOk result (λ here. scanned self.new here
-            ≡ scan_onto (map part_view parts.now) (scanned self.old (closed false))) }
+    fn run_back(&mut self, parts: &[Part<'_>]) -> Result<(), AllocError>
+        ensures { OnOk result (scanned self.new ≡ scan_onto (map part_view parts.now) (scanned self.old)) }
     {
-        let mut here = Inside::closed(false);
         let mut i = parts.len();
         while i > 0 {
             i -= 1;
-            here = self.step(&parts[i], here)?;
+            self.step(&parts[i])?;
         }
-        Ok(here)
+        Ok(())
     }
 }
 
@@ -131,6 +125,7 @@ pub(crate) fn marks_of(alloc: Global, parts: &[Part<'_>]) -> Result<Vec<Mark>, A
 {
     let mut walk = Marks {
         marks: Vec::with_capacity(alloc, FIRST_CAPACITY)?,
+        here: Inside::closed(false),
         outer: Vec::with_capacity(alloc, FIRST_DEPTH)?,
     };
     walk.run_back(parts)?;

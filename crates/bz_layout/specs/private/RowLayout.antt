@@ -81,8 +81,8 @@ scan_onto (p ∷ ps) s = back p (scan_onto ps s)
 abbrev pub scan : List RowPart → Scan
 scan ps = scan_onto ps (record { marks = []; here = closed false; outer = [] })
 
-abbrev pub scanned : Marks → Inside → Scan
-scanned m here = record { marks = reverse m.marks.items; here = here; outer = reverse m.outer.items }
+abbrev pub scanned : Marks → Scan
+scanned m = record { marks = reverse m.marks.items; here = m.here; outer = reverse m.outer.items }
 
 -- The walk forwards: what is written, the marks of the brackets to come, and the brackets that it is in, the innermost first.
 pub record Laid : Type 0 where
