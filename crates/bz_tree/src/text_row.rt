@@ -12,19 +12,21 @@ use bumpalo::Bump;
 use bz_token::TokenReader;
 use std::alloc::AllocError;
 
-// A shorter text has room for as many parts as it can have, but for a few.
-const LONG: usize = 4096;
+// The commas of so many bytes tell how many parts a long text has.
+const FRONT: usize = 4096;
 
-// Room for the parts of a text: two go with each comma of a list, an element and the end of its segment, and some with
-// what stands around. A list that grows in an arena leaves room unused there, so all commas are counted.
+// Room for the parts of a text: most often two go with a comma, an element and the end of its segment, and a few with
+// what stands around. A long list that grows in an arena leaves much room unused there.
 fn first_room(text: &str) -> usize {
-    if text.len() < LONG {
+    if text.len() < FRONT {
         return text.len() / 4 + 8;
     }
-    let commas = text.as_bytes().iter().filter(|b| **b == b',').count();
+    let commas = text.bytes().take(FRONT).filter(|b| *b == b',').count();
+    let fronts = text.len() / FRONT + 1;
     commas
+        .saturating_add(32)
         .saturating_mul(2)
-        .saturating_add(text.len() / 64 + 64)
+        .saturating_mul(fronts)
 }
 
 /// Reads the row that `read_row` gives for the tokens of a chunk, whose list is never there: it would take more memory
