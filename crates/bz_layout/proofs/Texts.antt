@@ -1,7 +1,6 @@
 -- The text of parts is that of their statement, or of their nodes.
-use Rattle.std.proofs.Common.{◌≡◌, codes, ℕ, suc, ◌+◌, ◌<◌, ◌≤◌, List, [], ◌∷◌, ◌++◌, Bor, length, get_or, drop, drop-cons, add-one, map, true, false, Option, Some, None, refl, ap, sym, ◌∙◌, append_assoc, append-nil, inl, inr}
+use Rattle.std.proofs.Common.{◌≡◌, codes, ℕ, suc, ◌+◌, ◌<◌, List, [], ◌∷◌, ◌++◌, Bor, length, get_or, drop, drop-cons, add-one, map, true, false, Option, Some, None, refl, ap, sym, ◌∙◌, append_assoc, append-nil, inl, inr}
 use Rattle.std.proofs.lemmas.Bool.{cases_Bool}
-use Rattle.std.proofs.lemmas.List.{drop_all}
 use Rattle.bz_tree.specs.Tree.{Item, leaf, group, Items, no_items, item, Statement, items_of}
 use Rattle.bz_tree.specs.Rows.{RowPart, above, beside_part, items_parts, parts_of, part_view}
 use Rattle.bz_tree.specs.declared.row.Part.{Part}
@@ -16,11 +15,10 @@ use Rattle.bz_layout.specs.declared.spacing.Gap.TheVariants.{Closed}
 use Rattle.bz_layout.specs.declared.broken.Style.TheVariants.{Flat, Broken}
 use Rattle.bz_layout.specs.Pieces.{Piece, piece, bytes_of, comment_lines, suffix_piece}
 use Rattle.bz_layout.specs.Layout.{items_pieces, statement_line, is_comment, layout_text, flat_text}
-use Rattle.bz_layout.specs.Joined.{joined}
-use Rattle.bz_layout.specs.private.RowLayout.{leading, Laid, Scan, line_text, row_text, run, scan, scan_onto, start, top}
+use Rattle.bz_layout.specs.private.RowLayout.{leading, Laid, Scan, line_text, row_text, run, scan, start, top}
 use Rattle.bz_layout.proofs.Pieces.{bytes_append}
-use Rattle.bz_layout.proofs.Scans.{items_marks, scan_above, scan_append, scan_items}
-use Rattle.bz_layout.proofs.Runs.{at, last_edge, run_append, run_items}
+use Rattle.bz_layout.proofs.Scans.{items_marks, scan_above, scan_items}
+use Rattle.bz_layout.proofs.Runs.{at, last_edge, run_items}
 
 -- the parts after the comments above the statement
 abbrev rest_of : Statement → List RowPart
@@ -76,14 +74,10 @@ parts_laid t s =
 pub is_layout : (t : List ℕ) (s : Statement) (ps : List RowPart) (class : Class) → ps ≡ parts_of s → class ≡ s.class → row_text t ps class ≡ t ++ layout_text s
 is_layout t s ps class parts is = rw (parts, is) (parts_laid t s)
 
--- one piece more, forwards and backwards
-pub piece_split : (pieces : List (Bor (List Part))) (i : ℕ) (d : Bor (List Part)) → i < length pieces → map part_view (get_or pieces i d).now ++ joined (drop (i + 1) pieces) ≡ joined (drop i pieces)
-piece_split pieces i d h = rw (drop-cons pieces i d, add-one) refl
-
 -- the comments that are still to be written: one less after a part above, none after any other
-pub comment_put : (before one two : List ℕ) (parts : List Part) (k : ℕ) (d : Part) (comment : Bor (List ℕ)) (rest : List RowPart) → k < length parts → get_or parts k d ≡ Part.Above comment → one ≡ before ++ comment.now → two ≡ one ++ codes "\n" → two ++ bytes_of (comment_lines (leading (map part_view (drop (k + 1) parts) ++ rest))) ≡ before ++ bytes_of (comment_lines (leading (map part_view (drop k parts) ++ rest)))
-comment_put before one two parts k d comment rest h is first second =
-    let later = bytes_of (comment_lines (leading (map part_view (drop (suc k) parts) ++ rest))) in
+pub comment_put : (before one two : List ℕ) (parts : List Part) (k : ℕ) (d : Part) (comment : Bor (List ℕ)) → k < length parts → get_or parts k d ≡ Part.Above comment → one ≡ before ++ comment.now → two ≡ one ++ codes "\n" → two ++ bytes_of (comment_lines (leading (map part_view (drop (k + 1) parts)))) ≡ before ++ bytes_of (comment_lines (leading (map part_view (drop k parts))))
+comment_put before one two parts k d comment h is first second =
+    let later = bytes_of (comment_lines (leading (map part_view (drop (suc k) parts)))) in
     rw (drop-cons parts k d, is, add-one k, second, first) (append_assoc (before ++ comment.now) (codes "\n") later ∙ append_assoc before comment.now (codes "\n" ++ later))
 
 leads_none : (p : Part) (rest : List RowPart) → ((comment : Bor (List ℕ)) → p ≡ Part.Above comment → ⊥) → leading (part_view p ∷ rest) ≡ []
@@ -94,32 +88,19 @@ leads_none Part.End rest other = refl
 leads_none (Part.Above comment) rest other = absurd (other comment refl)
 leads_none (Part.Beside text) rest other = refl
 
-pub comments_end : (out all : List ℕ) (parts : List Part) (k : ℕ) (d : Part) (rest : List RowPart) → k < length parts → ((comment : Bor (List ℕ)) → get_or parts k d ≡ Part.Above comment → ⊥) → out ++ bytes_of (comment_lines (leading (map part_view (drop k parts) ++ rest))) ≡ all → out ≡ all
-comments_end out all parts k d rest h other is =
-    let none : leading (map part_view (drop k parts) ++ rest) ≡ [] = rw (drop-cons parts k d) (leads_none (get_or parts k d) (map part_view (drop (suc k) parts) ++ rest) other) in
+pub comments_end : (out all : List ℕ) (parts : List Part) (k : ℕ) (d : Part) → k < length parts → ((comment : Bor (List ℕ)) → get_or parts k d ≡ Part.Above comment → ⊥) → out ++ bytes_of (comment_lines (leading (map part_view (drop k parts)))) ≡ all → out ≡ all
+comments_end out all parts k d h other is =
+    let none : leading (map part_view (drop k parts)) ≡ [] = rw (drop-cons parts k d) (leads_none (get_or parts k d) (map part_view (drop (suc k) parts)) other) in
     sym (append-nil out) ∙ rw none at is
-
-pub next_piece : (pieces : List (Bor (List Part))) (i : ℕ) (d : Bor (List Part)) (s : Laid) → i < length pieces → run (joined (drop (i + 1) pieces)) (run (map part_view (get_or pieces i d).now) s) ≡ run (joined (drop i pieces)) s
-next_piece pieces i d s h = sym (run_append (map part_view (get_or pieces i d).now) (joined (drop (i + 1) pieces)) s) ∙ ap (λ (ps : List RowPart). run ps s) (piece_split pieces i d h)
-
-pub piece_before : (pieces : List (Bor (List Part))) (i j : ℕ) (d : Bor (List Part)) → i < length pieces → i + 1 ≡ j → scan_onto (map part_view (get_or pieces i d).now) (scan (joined (drop j pieces))) ≡ scan (joined (drop i pieces))
-piece_before pieces i j d h next =
-    ap (λ (k : ℕ). scan_onto (map part_view (get_or pieces i d).now) (scan (joined (drop k pieces)))) (sym next)
-    ∙ sym (scan_append (map part_view (get_or pieces i d).now) (joined (drop (i + 1) pieces)))
-    ∙ ap scan (piece_split pieces i d h)
 
 -- what was written is the text of the row: the comments above it, and of all but a comment a line
 pub comment_row : (before now : List ℕ) (ps : List RowPart) (class : Class) → is_comment class ≡ true → now ≡ before ++ bytes_of (comment_lines (leading ps)) → now ≡ row_text before ps class
 comment_row before now ps class is text = rw is text
 
-pub line_row : (before text now : List ℕ) (pieces : List (Bor (List Part))) (k : ℕ) (class : Class) (ms : List Mark) (first last : Laid) → is_comment class ≡ false → text ≡ before ++ bytes_of (comment_lines (leading (joined pieces))) → ms ≡ (scan (joined pieces)).marks → first ≡ start text ms None → length pieces ≤ k → run (joined (drop k pieces)) last ≡ run (joined pieces) first → now ≡ last.text ++ codes "\n" → now ≡ row_text before (joined pieces) class
-line_row before text now pieces k class ms first last is leads marks begun h laid put =
-    let all : last ≡ run (joined pieces) first = rw (drop_all k pieces h) at laid in
-    let started = begun ∙ ap (λ (t : List ℕ). start t ms None) leads ∙ ap (λ (m : List Mark). start (before ++ bytes_of (comment_lines (leading (joined pieces)))) m None) marks in
-    rw is (put ∙ ap (λ (l : Laid). l.text ++ codes "\n") (all ∙ ap (run (joined pieces)) started))
-
-pub one_piece : (piece : Bor (List Part)) → joined (piece ∷ []) ≡ map part_view piece.now
-one_piece piece = append-nil (map part_view piece.now)
+pub line_row : (before text now : List ℕ) (ps : List RowPart) (class : Class) (ms : List Mark) (first last : Laid) → is_comment class ≡ false → text ≡ before ++ bytes_of (comment_lines (leading ps)) → ms ≡ (scan ps).marks → first ≡ start text ms None → last ≡ run ps first → now ≡ last.text ++ codes "\n" → now ≡ row_text before ps class
+line_row before text now ps class ms first last is leads marks begun laid put =
+    let started = begun ∙ ap (λ (t : List ℕ). start t ms None) leads ∙ ap (λ (m : List Mark). start (before ++ bytes_of (comment_lines (leading ps))) m None) marks in
+    rw is (put ∙ ap (λ (l : Laid). l.text ++ codes "\n") (laid ∙ ap (run ps) started))
 
 -- with no marks all brackets stand in place
 pub flat_laid : (within : Option GroupKind) (xs : List Item) → (run (items_parts (items_of xs)) (start [] [] within)).text ≡ flat_text within xs

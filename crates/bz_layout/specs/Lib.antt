@@ -3,7 +3,6 @@ pub mod Spacing
 pub mod Broken
 pub mod Pieces
 pub mod Lines
-pub mod Joined
 pub mod Layout
 pub mod Gaps
 pub mod private

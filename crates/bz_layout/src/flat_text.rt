@@ -8,8 +8,8 @@ use crate::walk::Walk;
 use bz_tree::{GroupKind, Node, push_nodes};
 use std::alloc::{AllocError, Global};
 
-/// The text of nodes on one line, without comments; strings are written as in a statement. `in_group` is the group that
-/// the nodes stand in, and decides what a colon and a star are. `Err`: memory was refused.
+/// Writes nodes on one line, without comments, and strings as in a statement. `in_group` is the group that the nodes
+/// stand in, and decides what a colon and a star are. `Err`: memory was refused.
 pub fn flat(
     alloc: Global,
     nodes: &[Node<'_>],

@@ -5,9 +5,9 @@ ghost use Rattle.bz_layout.specs.Gaps.{blank_between};
 
 use bz_tree::Class;
 
-/// Whether an empty line stands between a statement of class `after` and the statement before it; `before` is `None`
-/// for the first statement. One does, but none between two loads and none between two assignments (this project's own
-/// rule).
+/// Tells whether an empty line stands before a statement of class `after`. `before` is the class of the statement before
+/// it, or `None` for the first statement. An empty line stands between any two statements but two loads and two
+/// assignments, and none before the first (this project's own rule).
 pub fn blank_between(before: Option<Class>, after: Class) -> bool
     ensures gap { result ≡ blank_between before after }
 {

@@ -31,4 +31,4 @@ mod write;
 
 pub use flat_text::flat;
 pub use gaps::blank_between;
-pub use row::{put_pieces, put_row, put_stmt};
+pub use row::{put_row, put_stmt};

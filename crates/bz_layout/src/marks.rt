@@ -4,7 +4,6 @@
 ghost use Rattle.std.specs.Prelude.{◌≡◌, IfOk, OnOk, map, reverse};
 ghost use Rattle.bz_tree.specs.Rows.{part_view};
 ghost use Rattle.bz_layout.specs.private.RowLayout.{closed, one_more, mark_of, opened_back, back, scan, scan_onto, scanned};
-ghost use Rattle.bz_layout.specs.Joined.{joined};
 
 use crate::broken::breaks_with;
 use crate::walk::FIRST_DEPTH;
@@ -120,20 +119,16 @@ impl Marks {
     }
 }
 
-// The marks of all brackets in pieces, that of the first one last.
-pub(crate) fn marks_of(alloc: Global, pieces: &[&[Part<'_>]]) -> Result<Vec<Mark>, AllocError>
-    ensures { IfOk result (λ ms. reverse ms.items ≡ (scan (joined pieces.now)).marks) }
+// The marks of all brackets, that of the first one last.
+pub(crate) fn marks_of(alloc: Global, parts: &[Part<'_>]) -> Result<Vec<Mark>, AllocError>
+    ensures { IfOk result (λ ms. reverse ms.items ≡ (scan (map part_view parts.now)).marks) }
 {
     let mut walk = Marks {
         marks: Vec::with_capacity(alloc, FIRST_CAPACITY)?,
         here: Inside::closed(false),
         outer: Vec::with_capacity(alloc, FIRST_DEPTH)?,
     };
-    let mut i = pieces.len();
-    while i > 0 {
-        i -= 1;
-        walk.run_back(pieces[i])?;
-    }
+    walk.run_back(parts)?;
     let Marks { marks, .. } = walk;
     Ok(marks)
 }

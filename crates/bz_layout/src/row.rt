@@ -5,7 +5,6 @@ ghost use Rattle.bz_tree.specs.Tree.{Statement};
 ghost use Rattle.bz_tree.specs.View.{view};
 ghost use Rattle.bz_tree.specs.Rows.{IsRowOf, part_view, parts_of};
 ghost use Rattle.bz_layout.specs.Pieces.{bytes_of, comment_lines};
-ghost use Rattle.bz_layout.specs.Joined.{joined};
 ghost use Rattle.bz_layout.specs.Layout.{is_comment, layout_text};
 ghost use Rattle.bz_layout.specs.private.Kept.{IsBegunBy};
 ghost use Rattle.bz_layout.specs.private.RowLayout.{leading, row_text};
@@ -20,19 +19,17 @@ use std::alloc::{AllocError, Global};
 const FIRST_PARTS: usize = 40;
 
 // The comments above the statement, each with its newline.
-fn put_leading(pieces: &[&[Part<'_>]], out: &mut Vec<u8>) -> Result<(), AllocError>
+fn put_leading(parts: &[Part<'_>], out: &mut Vec<u8>) -> Result<(), AllocError>
     ensures text { OnOk result
-        (out.new.items ≡ out.old.items ++ bytes_of (comment_lines (leading (joined pieces.now)))) }
+        (out.new.items ≡ out.old.items ++ bytes_of (comment_lines (leading (map part_view parts.now)))) }
     ensures begun { IsBegunBy out.old.items out.new.items }
 {
-    for piece in pieces {
-        for part in *piece {
-            let Part::Above(comment) = part else {
-                return Ok(());
-            };
-            out.put(comment)?;
-            out.put("\n")?;
-        }
+    for part in parts {
+        let Part::Above(comment) = part else {
+            return Ok(());
+        };
+        out.put(comment)?;
+        out.put("\n")?;
     }
     Ok(())
 }
@@ -47,49 +44,25 @@ fn is_comment(class: Class) -> bool
 // After a refusal some of the text may stand in `out`.
 fn put_text(
     alloc: Global,
-    pieces: &[&[Part<'_>]],
+    parts: &[Part<'_>],
     class: Class,
     out: &mut Vec<u8>,
 ) -> Result<(), AllocError>
-    ensures text { OnOk result (out.new.items ≡ row_text out.old.items (joined pieces.now) class) }
+    ensures text { OnOk result (out.new.items ≡ row_text out.old.items (map part_view parts.now) class) }
     ensures begun { IsBegunBy out.old.items out.new.items }
 {
-    put_leading(pieces, out)?;
+    put_leading(parts, out)?;
     if is_comment(class) {
         return Ok(());
     }
-    let marks = marks_of(alloc, pieces)?;
+    let marks = marks_of(alloc, parts)?;
     let mut walk = Walk::new(alloc, marks, None)?;
-    for piece in pieces {
-        walk.run(piece, out)?;
-    }
+    walk.run(parts, out)?;
     out.put("\n")
 }
 
-/// Appends the canonical text of the statement whose parts stand in pieces, one piece after another, with its last
-/// newline. `Err`: memory was refused, and `out` is as it was.
+// After a refusal nothing of the text stands there.
 #[tactic(auto, using(crate::proofs::Texts::is_layout))]
-pub fn put_pieces(
-    alloc: Global,
-    pieces: &[&[Part<'_>]],
-    class: Class,
-    out: &mut Vec<u8>,
-) -> Result<(), AllocError>
-    ensures appended { OnOk result
-        ((s : Statement) → joined pieces.now ≡ parts_of s → class ≡ s.class
-        → out.new.items ≡ out.old.items ++ layout_text s) }
-    ensures unchanged { OnErr result (out.new.items ≡ out.old.items) }
-{
-    let len = out.len();
-    let put = put_text(alloc, pieces, class, out);
-    if put.is_err() {
-        out.truncate(len);
-    }
-    put
-}
-
-// All parts in one piece.
-#[tactic(auto, using(crate::proofs::Texts::one_piece))]
 fn put_parts(
     alloc: Global,
     parts: &[Part<'_>],
@@ -101,7 +74,12 @@ fn put_parts(
         → out.new.items ≡ out.old.items ++ layout_text s) }
     ensures unchanged { OnErr result (out.new.items ≡ out.old.items) }
 {
-    put_pieces(alloc, &[&*parts], class, out)
+    let len = out.len();
+    let put = put_text(alloc, parts, class, out);
+    if put.is_err() {
+        out.truncate(len);
+    }
+    put
 }
 
 /// Appends the canonical text of a statement, with its last newline (the layout is this project's own). `Err`: memory

@@ -1,8 +1,7 @@
 //! The walk forwards over the parts of a statement, which writes them.
 
-ghost use Rattle.std.specs.Prelude.{codes, ◌≡◌, ◌++◌, ℕ, List, IfOk, OnOk, IsTrue, map, reverse};
-ghost use Rattle.bz_token.specs.declared.token.Kind.TheVariants.{Identifier, Operator};
-ghost use Rattle.bz_tree.specs.Rows.{part_view, a_token};
+ghost use Rattle.std.specs.Prelude.{◌≡◌, ◌++◌, ℕ, List, IfOk, OnOk, map, reverse};
+ghost use Rattle.bz_tree.specs.Rows.{part_view};
 ghost use Rattle.bz_layout.specs.declared.spacing.Edge.TheVariants.{Start};
 ghost use Rattle.bz_layout.specs.private.Kept.{IsBegunBy};
 ghost use Rattle.bz_layout.specs.Pieces.{gap_bytes};
@@ -62,16 +61,6 @@ impl Frame {
         ensures { result ≡ has_beside self }
     {
         self.mark.broken || self.within.is_none()
-    }
-}
-
-#[inline(always)]
-fn is_equals(part: &Part<'_>) -> bool
-    ensures { IsTrue result → part_view part.now ≡ a_token Operator (codes "=") }
-{
-    match *part {
-        Part::Token(Kind::Operator, text) => is_byte(text, b'='),
-        _ => false,
     }
 }
 
@@ -159,7 +148,7 @@ impl Walk {
         self.put_token(kind, text, out)
     }
 
-    // The tokens that most statements are made of are told apart once.
+    // The tokens that most statements are made of are told apart once. The code for a text that is known is short.
     #[inline(always)]
     fn token<T: NewLine>(&mut self, kind: Kind, text: &str, out: &mut T) -> Result<(), AllocError>
         ensures laid { OnOk result
@@ -170,22 +159,10 @@ impl Walk {
             Kind::Identifier => self.put_token(Kind::Identifier, text, out),
             Kind::String => self.put_token(Kind::String, text, out),
             Kind::Integer => self.put_token(Kind::Integer, text, out),
+            Kind::Operator if is_byte(text, b'=') => self.put_token(Kind::Operator, "=", out),
+            Kind::Operator if is_byte(text, b':') => self.put_token(Kind::Operator, ":", out),
             _ => self.put_rarer(kind, text, out),
         }
-    }
-
-    // A name and the `=` after it, as most arguments begin.
-    #[inline(always)]
-    fn put_name<T: NewLine>(&mut self, name: &str, out: &mut T) -> Result<(), AllocError>
-        ensures laid { OnOk result (laid self.new (T.bytes out.new)
-            ≡ with_token Operator (codes "=") (with_token Identifier name.now (laid self.old (T.bytes out.old)))) }
-        ensures begun { IsBegunBy (T.bytes out.old) (T.bytes out.new) }
-    {
-        self.put_gap(false, out)?;
-        out.put(name)?;
-        out.put(" =")?;
-        self.left = Edge::Operator;
-        Ok(())
     }
 
     fn open<T: NewLine>(&mut self, kind: GroupKind, out: &mut T) -> Result<(), AllocError>
@@ -274,7 +251,6 @@ impl Walk {
         }
     }
 
-    // The parts may come in several slices, one run after another.
     pub(crate) fn run<T: NewLine>(
         &mut self,
         parts: &[Part<'_>],
@@ -284,17 +260,8 @@ impl Walk {
             (laid self.new (T.bytes out.new) ≡ run (map part_view parts.now) (laid self.old (T.bytes out.old))) }
         ensures begun { IsBegunBy (T.bytes out.old) (T.bytes out.new) }
     {
-        let mut i = 0;
-        while i < parts.len() {
-            let part = &parts[i];
-            i += 1;
-            match *part {
-                Part::Token(Kind::Identifier, name) if i < parts.len() && is_equals(&parts[i]) => {
-                    self.put_name(name, out)?;
-                    i += 1;
-                }
-                _ => self.step(part, out)?,
-            }
+        for part in parts {
+            self.step(part, out)?;
         }
         Ok(())
     }

@@ -1,13 +1,13 @@
 //! Blocks: statements that begin with `def`, `for` or `if`, kept as they were written.
 
-ghost use Rattle.std.specs.Prelude.{◌≡◌, ◌<◌, ◌^◌, IfOk, false, map, reverse};
+ghost use Rattle.std.specs.Prelude.{◌≡◌, ◌<◌, ◌^◌, IfOk, map, reverse};
 ghost use Rattle.std.specs.Bool.{then_some};
 ghost use Rattle.bz_token.specs.Places.{placed};
 ghost use Rattle.bz_tree.specs.View.{texts};
 ghost use Rattle.bz_tree.specs.Kinds.{mark_of};
 ghost use Rattle.bz_tree.specs.Blocks.{is_block_word, is_colon, popped, pushed, indented, block_indent, depth_after, has_colon, header_line, logical_lines, is_open_end, is_block, above};
 ghost use Rattle.bz_tree.specs.Statement.{last_token};
-ghost use Rattle.bz_tree.specs.private.BlockSteps.{lines_view, begun, next_counted, next_indent, indent_run, first_lines, ends_header, begins_header, colon_run};
+ghost use Rattle.bz_tree.specs.private.BlockSteps.{lines_view, begun, next_counted, next_indent, first_lines};
 ghost use Rattle.bz_tree.specs.Borrowed.{owned_in};
 
 use crate::kinds::{Mark, mark_of};
@@ -117,8 +117,9 @@ fn first_lines(alloc: Global) -> Result<Indents, AllocError>
     })
 }
 
-fn indent_walk(alloc: Global, tokens: &[Token<'_>]) -> Result<Option<u64>, AllocError>
-    ensures { IfOk result (λ o. o ≡ indent_run first_lines (map placed tokens.now)) }
+/// The line of the first logical line of a block that is indented wrongly.
+pub(crate) fn block_indent(alloc: Global, tokens: &[Token<'_>]) -> Result<Option<u64>, AllocError>
+    ensures { IfOk result (λ o. o ≡ block_indent (map placed tokens.now)) }
 {
     let mut lines = first_lines(alloc)?;
     for token in tokens {
@@ -127,13 +128,6 @@ fn indent_walk(alloc: Global, tokens: &[Token<'_>]) -> Result<Option<u64>, Alloc
         }
     }
     Ok(None)
-}
-
-/// The line of the first logical line of a block that is indented wrongly.
-pub(crate) fn block_indent(alloc: Global, tokens: &[Token<'_>]) -> Result<Option<u64>, AllocError>
-    ensures { IfOk result (λ o. o ≡ block_indent (map placed tokens.now)) }
-{
-    indent_walk(alloc, tokens)
 }
 
 fn depth_after(mark: Mark, depth: usize) -> usize
@@ -147,8 +141,9 @@ fn depth_after(mark: Mark, depth: usize) -> usize
     }
 }
 
-fn colon_walk(tokens: &[Token<'_>]) -> bool
-    ensures { result ≡ colon_run 0 false (map placed tokens.now) }
+// Whether `:` stands outside brackets in the header line.
+fn has_header_colon(tokens: &[Token<'_>]) -> bool
+    ensures { result ≡ has_colon 0 (header_line (logical_lines (map placed tokens.now))) }
 {
     let mut depth = 0;
     let mut inside = false;
@@ -168,28 +163,14 @@ fn colon_walk(tokens: &[Token<'_>]) -> bool
     false
 }
 
-// Whether `:` stands outside brackets in the header line.
-fn has_header_colon(tokens: &[Token<'_>]) -> bool
-    ensures { result ≡ has_colon 0 (header_line (logical_lines (map placed tokens.now))) }
-{
-    colon_walk(tokens)
-}
-
-// Whether the last line ends with `:`.
-fn is_open_end(tokens: &[Token<'_>]) -> bool
-    ensures { result ≡ is_open_end (last_token (map placed tokens.now)) }
-{
-    match last_token(tokens) {
-        Some(token) => is_colon(&token),
-        None => false,
-    }
-}
-
-/// Whether the tokens are those of a block.
+/// Whether the tokens are those of a block, whose last line does not end with `:`.
 pub(crate) fn is_block(tokens: &[Token<'_>]) -> bool
     ensures { result ≡ is_block (map placed tokens.now) }
 {
-    has_header_colon(tokens) && !is_open_end(tokens)
+    match last_token(tokens) {
+        Some(token) if is_colon(&token) => false,
+        _ => has_header_colon(tokens),
+    }
 }
 
 /// The comments above the first token.

@@ -197,9 +197,9 @@ pub(crate) fn parse_tokens<'a>(
     }
 }
 
-/// The statement of a chunk, whose first line has this number, with at most so many brackets open at once. None: the
-/// chunk is blank. Every text of the statement is borrowed from the chunk. The rules are those of the Starlark
-/// specification; blocks and the owners of comments are this project's own.
+/// Parses a chunk: gives the statement of its text. The chunk's first line has this number, and at most so many brackets
+/// may be open at once. None: the chunk is blank. Every text of the statement is borrowed from the chunk. The rules are
+/// those of the Starlark specification; blocks and the owners of comments are this project's own.
 pub fn parse<'a>(
     alloc: Global,
     text: &'a str,

@@ -5,15 +5,16 @@ ghost use Rattle.std.specs.Prelude.{◌≡◌};
 use bz_token::LexFault;
 use std::alloc::{AllocError, AllocFailed};
 
-/// Why a chunk has no statement, or want of memory. Lines count from the file's first line, 1.
+/// Says why a chunk has no statement, or that memory was refused. Lines count from the file's first line, 1.
 #[derive(Clone, Copy, Debug, PartialEq, Eq)]
 pub enum ParseFault {
+    /// Memory was refused.
     OutOfMemory,
-    /// Its first lexical fault, never want of memory.
+    /// The first lexical fault of the chunk, which is never that memory was refused.
     Lex(LexFault),
-    /// The line, of a logical line that does not begin on the column that it should.
+    /// The logical line that begins on this line stands on another column than it should.
     Indented { line: u64 },
-    /// The line of its first token. The tokens are those of no statement of the grammar.
+    /// The tokens are those of no statement of the grammar. The first of them is on this line.
     NotAStatement { line: u64 },
 }
 

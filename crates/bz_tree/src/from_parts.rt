@@ -208,7 +208,7 @@ fn read_parts<'a>(alloc: Global, parts: &[Part<'a>]) -> Result<Inside<'a>, Alloc
     Ok(here)
 }
 
-/// The nodes whose parts these are, each text a slice of the same chunk. `Err`: memory was refused.
+/// Builds the nodes whose parts these are. Each text is a slice of the same chunk. `Err`: memory was refused.
 pub fn nodes_of_parts<'a>(alloc: Global, parts: &[Part<'a>]) -> Result<Vec<Node<'a>>, AllocError>
     ensures { IfOk result (λ nodes. nodes_view nodes.items ≡ nodes_of_parts (map part_view parts.now)) }
 {
@@ -235,7 +235,7 @@ fn last_beside<'a>(parts: &[Part<'a>]) -> Option<CowStr<'a>>
     beside_text(last)
 }
 
-/// The statement whose parts these are, of this class and on these lines. `Err`: memory was refused.
+/// Builds the statement whose parts these are, of this class and on these lines. `Err`: memory was refused.
 pub fn stmt_of_parts<'a>(
     alloc: Global,
     parts: &[Part<'a>],

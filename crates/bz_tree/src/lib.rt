@@ -5,7 +5,6 @@ mod block;
 mod build;
 mod chunk;
 mod class;
-mod copy;
 mod fault;
 mod from_parts;
 mod grammar;

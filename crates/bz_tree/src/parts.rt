@@ -19,7 +19,7 @@ pub fn push_parts<'s>(stmt: &'s Stmt<'_>, parts: &mut Vec<Part<'s>>) -> Result<(
     push_beside(&stmt.suffix, parts)
 }
 
-/// Appends comments that stand above something. `Err`: memory was refused, and some of them may have been appended.
+/// Appends a part `Above` for each comment. `Err`: memory was refused, and some of them may have been appended.
 pub fn push_above<'s>(
     comments: &'s [CowStr<'_>],
     parts: &mut Vec<Part<'s>>,
@@ -33,7 +33,7 @@ pub fn push_above<'s>(
     Ok(())
 }
 
-/// Appends the comment that stands beside something, if there is one. `Err`: memory was refused.
+/// Appends a part `Beside` for the comment, if there is one. `Err`: memory was refused.
 pub fn push_beside<'s>(
     comment: &'s Option<CowStr<'_>>,
     parts: &mut Vec<Part<'s>>,
@@ -70,7 +70,7 @@ fn push_group<'s>(group: &'s Group<'_>, parts: &mut Vec<Part<'s>>) -> Result<(),
     Ok(())
 }
 
-/// Appends the parts of nodes. `Err`: memory was refused, and some of them may have been appended.
+/// Appends the parts of these nodes. `Err`: memory was refused, and some of them may have been appended.
 #[cycle(parts)]
 pub fn push_nodes<'s>(nodes: &'s [Node<'_>], parts: &mut Vec<Part<'s>>) -> Result<(), AllocError>
     ensures { OnOk result

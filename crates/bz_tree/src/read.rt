@@ -85,8 +85,8 @@ fn read_tree<'a>(
     }
 }
 
-/// The row of the statement of a chunk that has these tokens, its first line having this number. None: the chunk is
-/// blank. The rules are those of `parse`.
+/// Reads the row of the statement of a chunk from the chunk's tokens. The chunk's first line has this number. None: the
+/// chunk is blank. The rules are those of `parse`.
 pub fn read_statement<'a>(
     alloc: Global,
     bump: &'a Bump,
@@ -110,9 +110,9 @@ pub fn read_statement<'a>(
     }
 }
 
-/// The row of the statement of a chunk, whose first line has this number, with at most so many brackets open at once.
-/// None: the chunk is blank. The rules are those of `parse`. The list of a long chunk's tokens takes more memory than
-/// its row, so it is made only where `row_of_text` has no row.
+/// Reads the row of the statement of a chunk from its text. The chunk's first line has this number, and at most so many
+/// brackets may be open at once. None: the chunk is blank. The rules are those of `parse`. The list of a long chunk's
+/// tokens takes more memory than its row, so it is made only where `row_of_text` has no row.
 pub fn read_text<'a>(
     alloc: Global,
     bump: &'a Bump,

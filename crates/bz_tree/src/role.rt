@@ -7,7 +7,7 @@ ghost use Rattle.bz_tree.specs.Grammar.{word_role, operator_role, is_augmented, 
 use crate::stmt::Leaf;
 use bz_token::Kind;
 
-/// What a node is to the grammar.
+/// The role of a node in the grammar.
 #[derive(Clone, Copy)]
 pub enum Role {
     /// An identifier.

@@ -3,13 +3,14 @@
 use crate::stmt::{Class, GroupKind};
 use bz_token::Kind;
 
-/// A part of a statement.
+/// A part of a statement: a token, an end of a bracket or of a segment, or a comment.
 #[derive(Clone, Copy)]
 pub enum Part<'a> {
+    /// A token of this kind and text.
     Token(Kind, &'a str),
-    /// A bracket opens.
+    /// A bracket of this kind opens.
     Open(GroupKind),
-    /// It closes; whether it is `(x,)`.
+    /// The innermost open bracket closes. True: it is a tuple of one element, `(x,)`.
     Close(bool),
     /// A segment of a bracket ends.
     End,
@@ -19,7 +20,7 @@ pub enum Part<'a> {
     Beside(&'a str),
 }
 
-/// A statement as its parts, whose list stands in an arena. Each text is a slice of the chunk that it was read from.
+/// A statement as the list of its parts, in an arena. Each text is a slice of the chunk that it was read from.
 #[derive(Clone, Copy)]
 pub struct Row<'a> {
     pub parts: &'a [Part<'a>],

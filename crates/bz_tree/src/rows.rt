@@ -322,7 +322,7 @@ pub(crate) fn is_upright(first: Option<Token<'_>>) -> bool
     }
 }
 
-/// The row of the statement that these tokens of a chunk are. None: the chunk is blank or indented wrongly, no
+/// Reads the row of the statement that these tokens of a chunk are. None: the chunk is blank or indented wrongly, no
 /// statement has these tokens, or it is one of those that `parse_tokens` alone reads: a block, a comprehension, an
 /// index, more after what would be a rule, a comment in the middle of a segment or before its comma. `Err`: memory was
 /// refused.

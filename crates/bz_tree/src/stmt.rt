@@ -3,31 +3,35 @@
 use bz_token::Kind;
 use std::borrow::CowStr;
 
-/// What a bracket group is.
+/// The kind of a bracket group.
 #[derive(Clone, Copy, Debug, PartialEq, Eq)]
 pub enum GroupKind {
     /// The arguments of a call.
     Call,
     /// The arguments of the call that a rule is.
     RuleCall,
-    /// What stands after the keyword `load`.
+    /// The arguments of a `load` statement.
     Load,
+    /// Parentheses around an expression, or a tuple.
     Paren,
     List,
+    /// An index or a slice.
     Index,
     Dict,
+    /// A list comprehension.
     ListComp,
+    /// A dict comprehension.
     DictComp,
 }
 
-/// A token of a statement.
+/// A token of a statement: its kind and its text.
 #[derive(Debug, PartialEq, Eq, Drop)]
 pub struct Leaf<'a> {
     pub kind: Kind,
     pub text: CowStr<'a>,
 }
 
-/// A token, or a bracket with what stands in it.
+/// A node of a statement: a token, or a bracket with what stands in it.
 #[cycle(tree)]
 #[derive(Debug, PartialEq, Eq, Drop)]
 pub enum Node<'a> {
@@ -35,19 +39,19 @@ pub enum Node<'a> {
     Group(Group<'a>),
 }
 
-/// A bracket group: segments between its commas.
+/// A bracket with what stands in it: segments, with commas between them.
 #[cycle(tree)]
 #[derive(Debug, PartialEq, Eq, Drop)]
 pub struct Group<'a> {
     pub kind: GroupKind,
     pub segs: Vec<Seg<'a>>,
-    /// True exactly for `(x,)`.
+    /// It is a tuple of one element, `(x,)`.
     pub one_comma: bool,
     /// The comments after the last segment, each on a line of its own.
     pub end: Vec<CowStr<'a>>,
 }
 
-/// What stands between two commas of a group.
+/// A segment: what stands between two commas of a bracket.
 #[cycle(tree)]
 #[derive(Debug, PartialEq, Eq, Drop)]
 pub struct Seg<'a> {
@@ -58,13 +62,15 @@ pub struct Seg<'a> {
     pub suffix: Option<CowStr<'a>>,
 }
 
-/// What a statement is to the layout and to the commands.
+/// The class of a statement: the layout and the commands treat each class in its own way.
 #[derive(Clone, Copy, Debug, PartialEq, Eq)]
 pub enum Class {
     Load,
+    /// An assignment.
     Assign,
-    /// Identifiers joined by `.` and one call.
+    /// A rule: identifiers joined by `.`, and one call.
     Rule,
+    /// Any other expression.
     Other,
     /// Comment lines alone.
     Comment,
@@ -72,7 +78,7 @@ pub enum Class {
     Block,
 }
 
-/// A statement with the comments that belong to it.
+/// A statement: its nodes, and the comments that belong to it.
 #[derive(Debug, PartialEq, Eq, Drop)]
 pub struct Stmt<'a> {
     /// The comments above it.

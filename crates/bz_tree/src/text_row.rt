@@ -29,9 +29,9 @@ fn first_room(text: &str) -> usize {
         .saturating_mul(fronts)
 }
 
-/// The row that `read_row` gives for the tokens of a chunk, whose list is never there: it would take more memory than
-/// the row. The chunk's first line has this number, and at most so many brackets may be open at once. None: the chunk
-/// has a fault or comments alone, or `read_row` has no row of it. `Err`: memory was refused.
+/// Reads the row that `read_row` gives for the tokens of a chunk, whose list is never there: it would take more memory
+/// than the row. The chunk's first line has this number, and at most so many brackets may be open at once. None: the
+/// chunk has a fault or comments alone, or `read_row` has no row of it. `Err`: memory was refused.
 pub(crate) fn row_of_text<'a>(
     bump: &'a Bump,
     text: &'a str,

@@ -1,19 +1,12 @@
-use Rattle.std.proofs.Common.{◌≡◌, ◌+◌, ◌++◌, drop, map}
+use Rattle.std.proofs.Common.{◌≡◌, ◌++◌, drop, map}
 use Rattle.bz_tree.specs.Rows.{part_view}
-use Rattle.bz_layout.specs.Joined.{joined}
 use Rattle.bz_layout.specs.Pieces.{bytes_of, comment_lines}
 use Rattle.bz_layout.specs.private.Kept.{IsBegunBy}
 use Rattle.bz_layout.specs.private.RowLayout.{leading}
 use Rattle.bz_layout.proofs.row.put_leading.Given as goal
 
-abbrev pub invariant-loop-piece : goal.invariant-loop-piece
-invariant-loop-piece l = record {
-  text : l.out.items ++ bytes_of (comment_lines (leading (joined (drop l.piece-index l.pieces)))) ≡ l.fn.out.items ++ bytes_of (comment_lines (leading (joined l.pieces)));
-  begun : IsBegunBy l.fn.out.items l.out.items;
-}
-
 abbrev pub invariant-loop-part : goal.invariant-loop-part
 invariant-loop-part l = record {
-  text : l.out.items ++ bytes_of (comment_lines (leading (map part_view (drop l.part-index l.part-items) ++ joined (drop (l.piece-index + 1) l.pieces)))) ≡ l.fn.out.items ++ bytes_of (comment_lines (leading (joined l.pieces)));
+  text : l.out.items ++ bytes_of (comment_lines (leading (map part_view (drop l.part-index l.parts)))) ≡ l.fn.out.items ++ bytes_of (comment_lines (leading (map part_view l.parts)));
   begun : IsBegunBy l.fn.out.items l.out.items;
 }

@@ -1,8 +1,8 @@
-use Rattle.std.proofs.Common.{◌+◌, [], drop, refl, ap, sym, ◌∙◌, Result, Ok, Err, OnOk}
-use Rattle.bz_layout.specs.Joined.{joined}
-use Rattle.bz_layout.specs.private.RowLayout.{laid, run}
+use Rattle.std.proofs.Common.{map, sym, ◌∙◌, Result, Ok, Err, OnOk}
+use Rattle.bz_tree.specs.Rows.{part_view}
+use Rattle.bz_layout.specs.private.RowLayout.{laid}
 use Rattle.bz_layout.proofs.Kept.{begun_further}
-use Rattle.bz_layout.proofs.Texts.{next_piece, comment_row, line_row}
+use Rattle.bz_layout.proofs.Texts.{comment_row, line_row}
 use Rattle.bz_layout.proofs.row.put_text.Goals as goal
 
 pub returns-in_err-put_leading-clause-begun : goal.returns-in_err-put_leading-clause-begun
@@ -20,20 +20,8 @@ returns-in_err-marks-clause-begun c = c.put_leading.ensures.begun
 pub returns-in_err-walk-clause-begun : goal.returns-in_err-walk-clause-begun
 returns-in_err-walk-clause-begun c = c.put_leading.ensures.begun
 
-pub loop-piece-init : goal.loop-piece-init
-loop-piece-init c = record { laid = refl; begun = c.put_leading.ensures.begun }
-
 pub returns-in_err-run-clause-begun : goal.returns-in_err-run-clause-begun
-returns-in_err-run-clause-begun c = begun_further _ _ _ c.loop-piece.invariant.begun c.run.ensures.begun
-
-pub loop-piece-preserved : goal.loop-piece-preserved
-loop-piece-preserved c = record {
-  laid =
-      ap (run (joined (drop (c.loop-piece.piece-index + 1) c.args.pieces.now))) c.in_ok-run.ensures.laid
-      ∙ next_piece c.args.pieces.now c.loop-piece.piece-index (record { ref_ptr = (0, 0); now = [] }) (laid c.loop-piece.walk c.loop-piece.out.items) c.loop-piece-test.true
-      ∙ c.loop-piece.invariant.laid;
-  begun = begun_further _ _ _ c.loop-piece.invariant.begun c.in_ok-run.ensures.begun;
-}
+returns-in_err-run-clause-begun c = begun_further _ _ _ c.put_leading.ensures.begun c.run.ensures.begun
 
 on_ok : {T E P Q : Type 0} (r : Result T E) → (P → Q) → OnOk r P → OnOk r Q
 on_ok (Ok x) f h = f h
@@ -42,9 +30,9 @@ on_ok (Err e) f h = tt
 pub returns-clause-text : goal.returns-clause-text
 returns-clause-text c =
     on_ok c.put.result
-    (line_row _ _ _ c.args.pieces.now c.loop-piece.piece-index c.args.class _ _ (laid c.loop-piece.walk c.loop-piece.out.items) (sym c.is_comment.ensures ∙ c.if-is_comment.false) c.in_ok-put_leading.ensures.text c.in_ok-marks.ensures
-    (c.in_ok-walk.ensures c.put_leading.new.out.items) c.loop-piece-test.false c.loop-piece.invariant.laid)
+    (line_row _ _ _ (map part_view c.args.parts.now) c.args.class _ _ (laid c.run.new.self c.run.new.out.items) (sym c.is_comment.ensures ∙ c.if-is_comment.false) c.in_ok-put_leading.ensures.text c.in_ok-marks.ensures
+    (c.in_ok-walk.ensures c.put_leading.new.out.items) c.in_ok-run.ensures.laid)
     c.put.ensures.put
 
 pub returns-clause-begun : goal.returns-clause-begun
-returns-clause-begun c = begun_further _ _ _ c.loop-piece.invariant.begun c.put.ensures.begun
+returns-clause-begun c = begun_further _ _ _ (begun_further _ _ _ c.put_leading.ensures.begun c.in_ok-run.ensures.begun) c.put.ensures.begun
