@@ -6,7 +6,7 @@ use std::alloc::{AllocError, Global};
 use std::borrow::CowStr;
 use std::test::Fail;
 
-/// A chunk, and its statement or its fault. A statement is its class, and then the comments above it, its
+/// A chunk, and the copy of its statement or its fault. A statement is its class, and then the comments above it, its
 /// nodes and its suffix; so is each segment, between angles.
 const TREES: &str = r##"
 ---
@@ -409,14 +409,16 @@ fn put_tree(stmt: &Stmt<'_>, out: &mut String) -> Result<(), AllocError> {
     put_suffix(stmt.suffix.as_ref(), out)
 }
 
+/// The copy of a statement.
 fn shown_tree(alloc: Global, stmt: &Stmt<'_>) -> Result<String, AllocError> {
+    let copy = stmt.copy(alloc)?;
     let mut out = String::new(alloc);
-    put_tree(stmt, &mut out)?;
+    put_tree(&copy, &mut out)?;
     out.push('\n')?;
     Ok(out)
 }
 
-/// The statement of a chunk, or its fault.
+/// The copy of the statement of a chunk, or its fault.
 pub fn shown(alloc: Global, text: &str) -> Result<String, AllocError> {
     match read(alloc, text) {
         Ok(None) => String::from_str(alloc, "blank\n"),

@@ -9,6 +9,7 @@ pub mod Grammar
 pub mod Blocks
 pub mod Chunk
 pub mod Rows
+pub mod RowReads
 pub mod FromParts
 pub mod Comments
 pub mod private

@@ -1,5 +1,4 @@
-//! The row of a chunk's statement, whatever it is. Where `read_row` has none of its tokens, its tree is read, and gives
-//! its parts.
+//! The row of a chunk's statement: that of `read_row`, or else the parts of its tree.
 
 ghost use Rattle.std.specs.Prelude.{ℕ, ◌≡◌, ◌+◌, ◌<◌, ◌^◌, ◌==◌, IfOk, IfErr, IfSome, IfNone, count_by, map};
 ghost use Rattle.bz_token.specs.Places.{placed};
@@ -7,6 +6,7 @@ ghost use Rattle.bz_token.specs.Reading.{AreTokensOf};
 ghost use Rattle.bz_tree.specs.Tree.{Statement};
 ghost use Rattle.bz_tree.specs.View.{view};
 ghost use Rattle.bz_tree.specs.Chunk.{IsStatementIn, IsBlank, IsFaultIn};
+ghost use Rattle.bz_tree.specs.RowReads.{IsReadByTokens};
 ghost use Rattle.bz_tree.specs.Rows.{IsRowOf, part_view};
 
 use crate::chunk::parse_tokens;
@@ -71,13 +71,7 @@ fn read_tree<'a>(
 ) -> Result<Option<Row<'a>>, ParseFault>
     requires lines { first_line + count_by (λ b. b == 10) text.now < 2 ^ 64 }
     requires tokens { (depth : ℕ) × AreTokensOf first_line depth text.now (map placed tokens.now) }
-    ensures statement { IfOk result (λ o. IfSome o (λ row. (depth : ℕ)
-        → AreTokensOf first_line depth text.now (map placed tokens.now)
-        → (s : Statement) × IsStatementIn first_line depth text.now s × IsRowOf s row)) }
-    ensures blank { IfOk result (λ o. IfNone o ((depth : ℕ)
-        → AreTokensOf first_line depth text.now (map placed tokens.now) → IsBlank first_line depth text.now)) }
-    ensures fault { IfErr result (λ fault. (depth : ℕ)
-        → AreTokensOf first_line depth text.now (map placed tokens.now) → IsFaultIn first_line depth text.now fault) }
+    ensures { IsReadByTokens first_line text.now (map placed tokens.now) result }
 {
     match parse_tokens(alloc, text, first_line, tokens)? {
         None => Ok(None),
@@ -96,13 +90,7 @@ pub fn read_statement<'a>(
 ) -> Result<Option<Row<'a>>, ParseFault>
     requires lines { first_line + count_by (λ b. b == 10) text.now < 2 ^ 64 }
     requires tokens { (depth : ℕ) × AreTokensOf first_line depth text.now (map placed tokens.now) }
-    ensures statement { IfOk result (λ o. IfSome o (λ row. (depth : ℕ)
-        → AreTokensOf first_line depth text.now (map placed tokens.now)
-        → (s : Statement) × IsStatementIn first_line depth text.now s × IsRowOf s row)) }
-    ensures blank { IfOk result (λ o. IfNone o ((depth : ℕ)
-        → AreTokensOf first_line depth text.now (map placed tokens.now) → IsBlank first_line depth text.now)) }
-    ensures fault { IfErr result (λ fault. (depth : ℕ)
-        → AreTokensOf first_line depth text.now (map placed tokens.now) → IsFaultIn first_line depth text.now fault) }
+    ensures { IsReadByTokens first_line text.now (map placed tokens.now) result }
 {
     match read_row(bump, tokens)? {
         Some(row) => Ok(Some(row)),
