@@ -2,7 +2,7 @@
    function REFUSE_CALL. With REFUSE_LOG it writes there, at the program's end, "1" if a call was refused, else "0".
 
    A refused call does nothing, and answers as the system would: no memory, a full disk, a fault of the device. A write to a
-   file that is lost tells no fault. A read that is interrupted, and a read or write of one byte where more were wanted, are no
+   file that is lost tells no fault, nor does an unlink that keeps the file, as where another program puts it there again. A read that is interrupted, and a read or write of one byte where more were wanted, are no
    faults. Before a call of fchmod that stops the process stops itself, until it is told to go on.  */
 #define _GNU_SOURCE
 #include <dlfcn.h>
@@ -101,7 +101,10 @@ int fchmod(int file, mode_t mode) {
 
 int rename(const char *from, const char *to) { return is_refused("rename", EXDEV) ? -1 : NEXT(rename)(from, to); }
 
-int unlink(const char *path) { return is_refused("unlink", EPERM) ? -1 : NEXT(unlink)(path); }
+int unlink(const char *path) {
+    if (is_refused("kept unlink", 0)) return 0;
+    return is_refused("unlink", EPERM) ? -1 : NEXT(unlink)(path);
+}
 
 int close(int file) {
     if (!is_refused("close", EIO)) return NEXT(close)(file);
