@@ -2,8 +2,10 @@
    function REFUSE_CALL. With REFUSE_LOG it writes there, at the program's end, "1" if a call was refused, else "0".
 
    A refused call does nothing, and answers as the system would: no memory, a full disk, a fault of the device. A write to a
-   file that is lost tells no fault. A read that is interrupted, and a read or write of one byte where more were wanted, are no
-   faults. Before a call of fchmod that stops the process stops itself, until it is told to go on.  */
+   file that is lost tells no fault, nor does an unlink that keeps the file, as where another program puts it there again. A
+   read that is interrupted, and a read or write of one byte where more were wanted, are no faults. No file is to be renamed
+   before it is closed: a system may refuse that. Before a call of fchmod that stops the process stops itself, until it is
+   told to go on.  */
 #define _GNU_SOURCE
 #include <dlfcn.h>
 #include <errno.h>
@@ -99,9 +101,24 @@ int fchmod(int file, mode_t mode) {
     return is_refused("fchmod", EPERM) ? -1 : NEXT(fchmod)(file, mode);
 }
 
-int rename(const char *from, const char *to) { return is_refused("rename", EXDEV) ? -1 : NEXT(rename)(from, to); }
+/* Whether a file is open to be written. */
+static int is_one_written(void) {
+    for (int file = 3; file < 64; file++) {
+        int flags = fcntl(file, F_GETFL);
+        if (flags != -1 && (flags & O_ACCMODE) != O_RDONLY && is_regular(file)) return 1;
+    }
+    return 0;
+}
 
-int unlink(const char *path) { return is_refused("unlink", EPERM) ? -1 : NEXT(unlink)(path); }
+int rename(const char *from, const char *to) {
+    if (is_one_written() && is_refused("rename of an open file", EBUSY)) return -1;
+    return is_refused("rename", EXDEV) ? -1 : NEXT(rename)(from, to);
+}
+
+int unlink(const char *path) {
+    if (is_refused("kept unlink", 0)) return 0;
+    return is_refused("unlink", EPERM) ? -1 : NEXT(unlink)(path);
+}
 
 int close(int file) {
     if (!is_refused("close", EIO)) return NEXT(close)(file);

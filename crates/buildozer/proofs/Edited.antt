@@ -30,7 +30,7 @@ report_in (Told r) s = r
 report_in (Failed e) s = s
 report_in NotYet s = s
 
-module _ {S : Type 0} (gave : S → List (List ℕ) → S → Type 0) (before after : FileRun S) (asked : Asked) (is : before.asked ≡ Some asked) where
+module _ {S : Type 0} (gave : S → List (List ℕ) → S → Type 0) (failures : S → ℕ) (before after : FileRun S) (asked : Asked) (is : before.asked ≡ Some asked) where
   -- what was asked is what the run did
   same_asked : (text : List ℕ) (kept : Bool) (g : GaveText gave before.asked before.source text kept after.source after.ended) → g.was ≡ asked
   same_asked text kept g = ap (λ o. or_else o g.was) (sym g.asked_is ∙ is)
@@ -46,10 +46,10 @@ module _ {S : Type 0} (gave : S → List (List ℕ) → S → Type 0) (before af
   }
 
   pub safe_edit : (source : S) → before.source ≡ source → {D : Type 0} (did : D → List Event → D → Type 0) (a b : D) (file : List ℕ) (mode : ℕ) (result : Result Bool Trouble)
-      → Replacement did (λ old text answer new. Gives gave old.asked old.source text answer new.source new.ended) a b before after file mode result
+      → Replacement did (λ old text answer new. Gives gave failures old.asked old.source text answer new.source new.ended) a b before after file mode result
       → SafeRun did (MayBe gave source asked file) a b
   safe_edit source from did a b file mode result r =
-      run_one did (MayBe gave source asked file) (λ old text answer new. Gives gave old.asked old.source text answer new.source new.ended) a b before after file mode result r
+      run_one did (MayBe gave source asked file) (λ old text answer new. Gives gave failures old.asked old.source text answer new.source new.ended) a b before after file mode result r
       (λ text g. record { is_it = refl; kept = subst (λ s. IsKeptText gave s asked text) from (kept_text text g) })
 
   -- what the run told is a run's report, and what it answered is whether its text is kept
@@ -68,18 +68,18 @@ module _ {S : Type 0} (gave : S → List (List ℕ) → S → Type 0) (before af
 
   -- the same, as the file was replaced or not
   pub edited_as : (source : S) → before.source ≡ source → (result : Result Bool Trouble) (kept : Bool) (report : Report) → result ≡ Ok kept
-      → (result ≡ Ok true → (text : List ℕ) × Gives gave before.asked before.source text (Ok true) after.source after.ended)
-      → (result ≡ Ok false → (text : List ℕ) × Gives gave before.asked before.source text (Ok false) after.source after.ended)
+      → (result ≡ Ok true → (text : List ℕ) × Gives gave failures before.asked before.source text (Ok true) after.source after.ended)
+      → (result ≡ Ok false → (text : List ℕ) × Gives gave failures before.asked before.source text (Ok false) after.source after.ended)
       → after.ended ≡ Told report → IsEdited gave source asked report kept
   edited_as source from result true report e wanted unwanted ended = subst (λ s. IsEdited gave s asked report true) from (edited (wanted e).0 true report (wanted e).1 ended)
   edited_as source from result false report e wanted unwanted ended = subst (λ s. IsEdited gave s asked report false) from (edited (unwanted e).0 false report (unwanted e).1 ended)
 
   -- a run whose text is not kept touches no file
   pub safe_idle : {D : Type 0} (did : D → List Event → D → Type 0) (a b : D) (file : List ℕ) (mode : ℕ) (result : Result Bool Trouble)
-      → Replacement did (λ old text answer new. Gives gave old.asked old.source text answer new.source new.ended) a b before after file mode result
+      → Replacement did (λ old text answer new. Gives gave failures old.asked old.source text answer new.source new.ended) a b before after file mode result
       → (report : Report) → after.ended ≡ Told report → is_kept asked.keep_going report ≡ false → SafeRun did MayHoldNothing a b
   safe_idle did a b file mode result r report ended unkept =
-      run_one did MayHoldNothing (λ old text answer new. Gives gave old.asked old.source text answer new.source new.ended) a b before after file mode result r
+      run_one did MayHoldNothing (λ old text answer new. Gives gave failures old.asked old.source text answer new.source new.ended) a b before after file mode result r
       (λ text g. false≢true (sym unkept ∙ sym (edited text true report g ended).replaced_is))
 
 -- a folder of which no call was made
@@ -106,9 +106,9 @@ of_file did leads gave asked edited source is_its a b r =
 
 -- the file that was opened at one of two paths of a package's BUILD file
 pub file_of : {F : Type 0} (leads : List ℕ → List ℕ → F → Type 0) (home : Package) (first second file : List ℕ) (source : F) → IsBuildPath home first → IsBuildPath home second
-    → leads first file source ⊎ leads second file source → IsFileOf leads home file source
+    → {Absent : Type 0} → leads first file source ⊎ (Absent × leads second file source) → IsFileOf leads home file source
 file_of leads home first second file source is_first is_second found =
-    ⊎_elim (λ l. record { path = first; is_its = is_first; leads_to = l }) (λ l. record { path = second; is_its = is_second; leads_to = l }) found
+    ⊎_elim (λ l. record { path = first; is_its = is_first; leads_to = l }) (λ l. record { path = second; is_its = is_second; leads_to = l.1 }) found
 
 -- a package's run is a run of the program
 pub of_package : {D F : Type 0} (did : D → List Event → D → Type 0) (leads : List ℕ → List ℕ → F → Type 0) (gave : F → List (List ℕ) → F → Type 0) (keep_going : Bool) (script : List Step) (task : Task)

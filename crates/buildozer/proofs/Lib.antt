@@ -3,3 +3,4 @@ pub mod Fronts
 pub mod Handling
 pub mod Turns
 pub mod Written
+mod Faults

@@ -1,10 +1,11 @@
 -- What a run gives as the author of a file's new text.
-use Rattle.std.specs.Prelude.{◌≡◌, ℕ, Bool, List, Option, Some, Result, Ok, Err, ⊤}
+use Rattle.std.specs.Prelude.{◌≡◌, ◌⊎◌, ℕ, Bool, List, Option, Some, None, Result, Ok, Err}
 use Rattle.bz_devices.specs.declared.device.Failed.{Failed}
 use Rattle.bz_engine.specs.declared.report.Report.{Report}
 use Rattle.buildozer.specs.declared.file_run.Ended.{Ended}
-use Rattle.buildozer.specs.declared.file_run.Ended.TheVariants.{Told}
-use Rattle.buildozer.specs.Runs.{Asked, IsRun, is_kept}
+use Rattle.buildozer.specs.declared.file_run.Ended.TheVariants.{Told, Failed as EndedByFault}
+use Rattle.bz_engine.specs.declared.run_fault.RunFault.{RunFault}
+use Rattle.buildozer.specs.Runs.{Asked, IsRun, is_kept, IsFaultOver}
 
 -- the run that was asked for gave this text, told this report, and answered whether the text is kept
 pub record GaveText {S : Type 0} (gave : S → List (List ℕ) → S → Type 0) (asked : Option Asked) (source : S) (text : List ℕ) (kept : Bool)
@@ -18,8 +19,12 @@ pub record GaveText {S : Type 0} (gave : S → List (List ℕ) → S → Type 0)
   pub outcome : IsRun was read text report
   pub kept_is : kept ≡ is_kept was.keep_going report
 
--- of a run that failed nothing is said
-abbrev pub Gives : {S : Type 0} → (S → List (List ℕ) → S → Type 0) → Option Asked → S → List ℕ → Result Bool Failed → S
+-- nothing was asked for any more, or the run failed, and this is why
+abbrev pub GaveNone : {S : Type 0} → (S → List (List ℕ) → S → Type 0) → (S → ℕ) → Option Asked → S → S → Ended → Type 0
+GaveNone gave failures asked source source_after ended =
+    (asked ≡ None) ⊎ ((fault : RunFault) × (ended ≡ EndedByFault fault) × IsFaultOver gave failures source fault source_after)
+
+abbrev pub Gives : {S : Type 0} → (S → List (List ℕ) → S → Type 0) → (S → ℕ) → Option Asked → S → List ℕ → Result Bool Failed → S
     → Ended → Type 0
-Gives gave asked source text (Ok kept) source_after ended = GaveText gave asked source text kept source_after ended
-Gives gave asked source text (Err failed) source_after ended = ⊤
+Gives gave failures asked source text (Ok kept) source_after ended = GaveText gave asked source text kept source_after ended
+Gives gave failures asked source text (Err failed) source_after ended = GaveNone gave failures asked source source_after ended

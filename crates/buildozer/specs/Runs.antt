@@ -1,11 +1,25 @@
 -- A run over the statements of one file, and when what it wrote is kept (buildozer README, "Error codes"; this project's own rule).
-use Rattle.std.specs.Prelude.{◌≡◌, ℕ, Bool, true, false, ◌&&◌, ◌||◌, not, List}
+use Rattle.std.specs.Prelude.{◌≡◌, ℕ, Bool, true, false, ◌&&◌, ◌||◌, not, List, length, ⊤}
+use Rattle.bz_devices.specs.Ahead.{HasTooLong}
+use Rattle.bz_devices.specs.Device.{joined, NoneEnds, Rises}
 use Rattle.bz_engine.specs.EveryFile.{ForEveryFile}
 use Rattle.bz_engine.specs.Outcome.{Script, Run, Told, IsOutcome, IsFrontOf, told_by}
 use Rattle.bz_engine.specs.declared.report.Report.{Report}
 use Rattle.bz_engine.specs.declared.report.End.{End}
 use Rattle.bz_engine.specs.declared.report.End.TheVariants.{Whole, Syntax, FirstFailure}
+use Rattle.bz_engine.specs.declared.run_fault.RunFault.{RunFault}
+use Rattle.bz_engine.specs.declared.run_fault.RunFault.TheVariants.{OutOfMemory, ReadFailed, WriteFailed, InputTooLong, StatementTooLong, Stopped}
 use Rattle.bz_command.specs.Labels.{Package}
+
+-- the most bytes of a statement, the most reads of an input, and the most brackets in one another
+abbrev pub max_statement : ℕ
+max_statement = 16_777_216
+
+abbrev pub max_reads : ℕ
+max_reads = 4_294_967_296
+
+abbrev pub max_depth : ℕ
+max_depth = 100
 
 -- what is asked of a package
 pub record Asked : Type 0 where
@@ -15,7 +29,7 @@ pub record Asked : Type 0 where
   pub keep_going : Bool
 
 abbrev pub run_of : Asked → Run
-run_of asked = record { home = asked.home; passes = asked.passes; keep_going = asked.keep_going; max_depth = 100 }
+run_of asked = record { home = asked.home; passes = asked.passes; keep_going = asked.keep_going; max_depth = max_depth }
 
 -- For every file that begins with these reads (where their end was met, for that file), this text and this report are the outcome
 -- of the passes over its statements.
@@ -52,3 +66,15 @@ pub record IsKeptText {S : Type 0} (gave : S → List (List ℕ) → S → Type 
   pub report : Report
   pub outcome : IsRun asked read text report
   pub kept : is_kept asked.keep_going report ≡ true
+
+-- Why a run over this source has no report: a read failed, all permitted reads did not meet the end, or a statement is too long. Of
+-- memory and of writes nothing is said.
+abbrev pub IsFaultOver : {S : Type 0} → (S → List (List ℕ) → S → Type 0) → (S → ℕ) → S → RunFault → S → Type 0
+IsFaultOver gave failures source OutOfMemory source_after = ⊤
+IsFaultOver gave failures source ReadFailed source_after = Rises (failures source) (failures source_after)
+IsFaultOver gave failures source WriteFailed source_after = ⊤
+IsFaultOver gave failures source InputTooLong source_after =
+    (read : List (List ℕ)) × gave source read source_after × (length read ≡ max_reads) × NoneEnds read
+IsFaultOver gave failures source (StatementTooLong line) source_after =
+    (read : List (List ℕ)) × gave source read source_after × ForEveryFile read (HasTooLong max_statement line (joined read))
+IsFaultOver gave failures source Stopped source_after = ⊥

@@ -157,7 +157,8 @@ fn open_first<'a, D: Folder>(
 ) -> Result<(Opened<D::File>, &'a str), &'a str>
     ensures { IfOk result (λ found.
         D.leads (string_bytes files.now.first) (string_bytes found.0.path) found.0.source
-        ⊎ D.leads (string_bytes files.now.second) (string_bytes found.0.path) found.0.source) }
+        ⊎ (D.absent folder.now (string_bytes files.now.first)
+        × D.leads (string_bytes files.now.second) (string_bytes found.0.path) found.0.source)) }
 {
     match folder.open(&files.first, purpose) {
         Ok(opened) => Ok((opened, files.first.as_str())),

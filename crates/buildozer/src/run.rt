@@ -1,6 +1,7 @@
 //! A run over the statements of one file.
 
-ghost use Rattle.std.specs.Prelude.{◌≡◌, ℕ, List, IfOk, OnErr};
+ghost use Rattle.std.specs.Prelude.{◌≡◌, ℕ, List, IfOk, IfErr, OnErr, IsErrOf};
+ghost use Rattle.bz_devices.specs.Device.{Rises};
 ghost use Rattle.buildozer.specs.Runs as spec;
 
 use bz_engine::{End, Options, Pass, Report, RunFault, Sink, Source, run};
@@ -47,6 +48,9 @@ impl Asked {
         // Where it answers no report, a front of the text was written.
         ensures front { OnErr result ((read : List (List ℕ)) × (text : List ℕ)
             × S.gave source.old read source.new × W.took sink.old text sink.new × spec.IsFront self read text) }
+        // It answers none only for a reason, and the limits are these.
+        ensures fault { IfErr result (λ fault. spec.IsFaultOver S.gave S.failures source.old fault source.new) }
+        ensures write_failed { IsErrOf result RunFault.WriteFailed → Rises (W.failures sink.old) (W.failures sink.new) }
         ensures devices { (read : List (List ℕ)) × (text : List ℕ)
             × S.gave source.old read source.new × W.took sink.old text sink.new }
     {

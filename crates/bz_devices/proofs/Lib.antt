@@ -7,3 +7,4 @@ pub mod Pieces
 pub mod PassedOn
 pub mod TextAhead
 mod Searches
+mod Stops

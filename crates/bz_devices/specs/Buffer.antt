@@ -1,6 +1,7 @@
 -- A sink with a buffer before it: what it took, and what is kept back.
-use Rattle.std.specs.Prelude.{◌≡◌, ℕ, Bool, false, List, [], ◌++◌}
-use Rattle.std.proofs.Common.{sym, ◌∙◌, ap, append_assoc, append-nil}
+use Rattle.std.specs.Prelude.{◌≡◌, ℕ, Bool, true, false, List, [], ◌++◌}
+use Rattle.std.proofs.Common.{sym, ◌∙◌, ap, subst, append_assoc, append-nil}
+use Rattle.bz_devices.specs.Device.{Rises}
 
 pub record Buffer (W : Type 0) : Type 0 where
   pub sink : W
@@ -19,6 +20,21 @@ pub record HandedOn {W : Type 0} (took : W → List ℕ → W → Type 0) (old :
 -- These bytes were handed in. Where the sink has failed, nothing is said of what it took.
 abbrev pub Took : {W : Type 0} → (W → List ℕ → W → Type 0) → Buffer W → List ℕ → Buffer W → Type 0
 Took took old bytes new = new.failed ≡ false → HandedOn took old bytes new
+
+-- the sink took a front of what waited and of these bytes
+pub record FrontSent {W : Type 0} (took : W → List ℕ → W → Type 0) (old : Buffer W) (bytes : List ℕ) (new : Buffer W) : Type 0 where
+  pub sent : List ℕ
+  pub left : List ℕ
+  pub handed_on : took old.sink sent new.sink
+  pub same : old.waiting ++ bytes ≡ sent ++ left
+
+-- A sink that failed is left alone. It failed only by a write of its own, and then too what it took is a front of the bytes.
+pub record Stops {W : Type 0} (took : W → List ℕ → W → Type 0) (failures : W → ℕ) (old : Buffer W) (bytes : List ℕ) (new : Buffer W)
+    : Type 0 where
+  pub stays : old.failed ≡ true → (new.sink ≡ old.sink) × (new.failed ≡ true)
+  pub cause : old.failed ≡ false → new.failed ≡ true → Rises (failures old.sink) (failures new.sink)
+  pub steady : new.failed ≡ false → failures new.sink ≡ failures old.sink
+  pub front : old.failed ≡ false → FrontSent took old bytes new
 
 module _ {W : Type 0} (took : W → List ℕ → W → Type 0) where
   pub took_nothing_lem : ((s : W) → took s [] s) → (b : Buffer W) → Took took b [] b

@@ -1,6 +1,7 @@
 //! The input's next chunk: where it ends, reading no further than is needed to know it.
 
 ghost use Rattle.std.specs.Prelude.{◌≡◌, ◌≢◌, ℕ, ◌+◌, ◌<◌, ◌≤◌, ◌⊎◌, true, false, List, [], length, take, drop, IfOk, OnOk, OnErr, IfSome, IfNone, IsErrOf, IsTrue, IsUtf8};
+ghost use Rattle.std.specs.Str.{IsCharBoundary, IsValidUpTo};
 ghost use Rattle.bz_devices.specs.Device.{joined, Rises};
 ghost use Rattle.bz_token.specs.Cuts.{IsBlock, IsPart};
 ghost use Rattle.bz_token.specs.CutterState.{IsAfter, IsAtBlock};
@@ -164,6 +165,7 @@ impl Ahead {
 
 /// How many bytes of the text are left after its first `n`: none where it may not be cut there.
 fn text_left(text: &str, n: usize) -> usize
+    ensures left { IsCharBoundary text.now n → n + result ≡ length text.now }
     ensures within { 0 < result → n + result ≤ length text.now }
     ensures utf8 { IsUtf8 (take result (drop n text.now)) }
 {
@@ -176,6 +178,8 @@ fn text_left(text: &str, n: usize) -> usize
 
 /// The length of the longest front that is text.
 fn text_front(bytes: &[u8]) -> usize
+    ensures all { IsUtf8 bytes.now → result ≡ length bytes.now }
+    ensures longest { (IsUtf8 bytes.now → ⊥) → IsValidUpTo bytes.now result }
     ensures within { result ≤ length bytes.now }
     ensures utf8 { IsUtf8 (take result bytes.now) }
 {

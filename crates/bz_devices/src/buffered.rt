@@ -1,7 +1,8 @@
 //! A sink with a buffer before it.
 
-ghost use Rattle.std.specs.Prelude.{◌≡◌, [], false, true, IfOk, OnOk, OnErr};
-ghost use Rattle.bz_devices.specs.Buffer.{Took, took_nothing_lem, took_more_lem};
+ghost use Rattle.std.specs.Prelude.{◌≡◌, ℕ, [], take, false, true, IfOk, OnOk, OnErr};
+ghost use Rattle.bz_devices.specs.Device.{Rises};
+ghost use Rattle.bz_devices.specs.Buffer.{Took, Stops, took_nothing_lem, took_more_lem};
 
 use crate::device::{Failed, Sink};
 use crate::output::write_all;
@@ -50,6 +51,7 @@ impl<W: Sink> Buffered<W> {
     /// Takes all of the bytes, unless the sink fails.
     pub fn put(&mut self, bytes: &[u8])
         ensures took { Took W.took self.old bytes.now self.new }
+        ensures stops { Stops W.took W.failures self.old bytes.now self.new }
         ensures steady { self.new.failures ≡ self.old.failures }
     {
         self.make_room();
@@ -60,9 +62,26 @@ impl<W: Sink> Buffered<W> {
         self.hand_on(bytes);
     }
 
+    /// Takes all of the bytes, and tells whether the sink failed, now or earlier.
+    fn put_told(&mut self, bytes: &[u8]) -> Result<(), Failed>
+        ensures took { Took W.took self.old bytes.now self.new }
+        ensures ok { OnOk result (self.new.failed ≡ false) }
+        ensures err { OnErr result (self.new.failed ≡ true) }
+        ensures steady { OnOk result (self.new.failures ≡ self.old.failures) }
+        ensures counted { OnErr result (Rises self.old.failures self.new.failures) }
+    {
+        self.put(bytes);
+        if self.failed {
+            self.failures = self.failures.saturating_add(1);
+            return Err(Failed);
+        }
+        Ok(())
+    }
+
     /// Sees that the buffer is not full.
     fn make_room(&mut self)
         ensures took { Took W.took self.old [] self.new }
+        ensures stops { Stops W.took W.failures self.old [] self.new }
         ensures steady { self.new.failures ≡ self.old.failures }
     {
         if self.waiting.len() >= FULL {
@@ -73,6 +92,7 @@ impl<W: Sink> Buffered<W> {
     /// Keeps the bytes back, where there is memory for them.
     fn keep_back(&mut self, bytes: &[u8]) -> bool
         ensures took { result ≡ true → Took W.took self.old bytes.now self.new }
+        ensures stops { result ≡ true → Stops W.took W.failures self.old bytes.now self.new }
         ensures same { result ≡ false → self.new ≡ self.old }
         ensures steady { self.new.failures ≡ self.old.failures }
     {
@@ -82,8 +102,10 @@ impl<W: Sink> Buffered<W> {
     /// Hands all that is kept back to the sink. An `Err` says that the sink failed, now or earlier.
     pub fn flush(&mut self) -> Result<(), Failed>
         ensures took { Took W.took self.old [] self.new }
+        ensures stops { Stops W.took W.failures self.old [] self.new }
         ensures all { OnOk result ((self.new.waiting ≡ []) × (self.new.failed ≡ false)) }
         ensures err { OnErr result (self.new.failed ≡ true) }
+        ensures steady { self.new.failures ≡ self.old.failures }
     {
         self.spill();
         if self.failed { Err(Failed) } else { Ok(()) }
@@ -92,12 +114,11 @@ impl<W: Sink> Buffered<W> {
     /// Hands all that is kept back to the sink.
     fn spill(&mut self)
         ensures took { Took W.took self.old [] self.new }
+        ensures stops { Stops W.took W.failures self.old [] self.new }
         ensures all { self.new.waiting ≡ [] }
         ensures steady { self.new.failures ≡ self.old.failures }
     {
-        if !self.failed && write_all(&mut self.sink, self.waiting.as_slice()).is_err() {
-            self.failed = true;
-        }
+        self.failed = hand_over(&mut self.sink, self.failed, self.waiting.as_slice());
         self.waiting.clear();
     }
 
@@ -106,12 +127,22 @@ impl<W: Sink> Buffered<W> {
     fn hand_on(&mut self, bytes: &[u8])
         requires { self.old.waiting ≡ [] }
         ensures took { Took W.took self.old bytes.now self.new }
+        ensures stops { Stops W.took W.failures self.old bytes.now self.new }
         ensures steady { self.new.failures ≡ self.old.failures }
     {
-        if !self.failed && write_all(&mut self.sink, bytes).is_err() {
-            self.failed = true;
-        }
+        self.failed = hand_over(&mut self.sink, self.failed, bytes);
     }
+}
+
+/// Hands the bytes to a sink, unless it failed earlier, and answers whether it has failed now.
+fn hand_over<W: Sink>(sink: &mut W, failed: bool, bytes: &[u8]) -> bool
+    ensures all { result ≡ false → (failed ≡ false) × W.took sink.old bytes.now sink.new }
+    ensures stays { failed ≡ true → (sink.new ≡ sink.old) × (result ≡ true) }
+    ensures cause { failed ≡ false → result ≡ true → Rises (W.failures sink.old) (W.failures sink.new) }
+    ensures steady { result ≡ false → W.failures sink.new ≡ W.failures sink.old }
+    ensures front { failed ≡ false → result ≡ true → (n : ℕ) × W.took sink.old (take n bytes.now) sink.new }
+{
+    failed || write_all(sink, bytes).is_err()
 }
 
 impl<W: Sink> Sink for Buffered<W> {
@@ -125,11 +156,7 @@ impl<W: Sink> Sink for Buffered<W> {
     ghost took_more = { λ a b c xs ys p q. took_more_lem W.took W.took_more a b c xs ys p q };
 
     fn write(&mut self, bytes: &[u8]) -> Result<usize, Failed> {
-        self.put(bytes);
-        if self.failed {
-            self.failures = self.failures.saturating_add(1);
-            return Err(Failed);
-        }
+        self.put_told(bytes)?;
         Ok(bytes.len())
     }
 

@@ -129,7 +129,7 @@ fn stands_on_std(rt: HostRuntime) -> Result<(), Fail> {
 
     // A read that was interrupted is made again and is no failure.
     let mut shaken = FromRead::new(Shaken {
-        interruptions: 3,
+        interruptions: 100,
         ends: false,
     });
     let mut text: Vec<u8> = Vec::new(alloc);

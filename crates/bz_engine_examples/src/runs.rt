@@ -333,3 +333,27 @@ fn fronts_of_inputs(rt: HostRuntime) -> Result<(), Fail> {
     )?;
     check_fronts(&rt, alloc, "set a 1 ! -:*", bad)
 }
+
+// A run without passes asks for nothing: it writes no text, and tells the fault of a file alone.
+#[test]
+fn without_passes(rt: HostRuntime) -> Result<(), Fail> {
+    let alloc = rt.alloc();
+    let rows = [
+        ("x=1\n", "status 3\n"),
+        (
+            "x=1\ny=(\n",
+            "message: 2:3: bracket is not closed\nstatus 2\n",
+        ),
+    ];
+    for (input, wanted) in rows {
+        let mut feed = Feed::new(Input::Bytes(input.as_bytes()), Piece::Line, None);
+        let mut drip = Drip::new(alloc, 9000, None);
+        let (home, _) = read_script(alloc, "print name ! -:*")?;
+        let passes = Vec::new(alloc);
+        let report = run(alloc, home, passes, program(true), &mut feed, &mut drip)?;
+        assert!(rt; drip.taken.is_empty(), "{input}");
+        let told = told(alloc, &report)?;
+        assert_eq!(rt; told.as_str(), wanted, "{input}");
+    }
+    Ok(())
+}

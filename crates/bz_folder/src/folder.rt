@@ -1,6 +1,6 @@
 //! The calls that are made of a file system.
 
-ghost use Rattle.std.specs.Prelude.{◌≡◌, ℕ, List, [], ◌∷◌, ◌++◌, is_ok, IfOk, string_bytes};
+ghost use Rattle.std.specs.Prelude.{◌≡◌, ℕ, List, [], ◌∷◌, ◌++◌, is_ok, IfOk, Err, string_bytes};
 ghost use Rattle.bz_folder.specs.Files.{Event, Make, Write, SetMode, Rename, Remove};
 
 use bz_devices::device::{Failed, Source};
@@ -47,12 +47,16 @@ pub trait Folder {
     // bytes are read from this source.
     ghost leads: { List ℕ → List ℕ → Self.File → Type 0 };
 
+    // Nothing is at this path.
+    ghost absent: { Self → List ℕ → Type 0 };
+
     /// Opens a regular file to read it. This changes no file.
     ///
     /// A file that may be replaced is opened by one run at a time: no other run replaces it before
     /// its source is dropped, and another that opens it so waits until then.
     fn open(&self, path: &str, purpose: Purpose) -> Result<Opened<Self::File>, CannotOpen>
-        ensures { IfOk result (λ opened. leads path.now (string_bytes opened.path) opened.source) };
+        ensures leads { IfOk result (λ opened. leads path.now (string_bytes opened.path) opened.source) }
+        ensures absent { result ≡ Err CannotOpen.Absent → absent self.now path.now };
 
     /// Makes an empty file, open to be written, where nothing is: a link at the path is not
     /// followed.

@@ -204,8 +204,10 @@ impl<R: Files<File = File>> Folder for OnDisk<R> {
 
     ghost did = { λ old events new. Tallies old new events };
 
-    // No clause of std tells where a link leads.
+    // No clause of std tells where a link leads, nor what is at a path.
     ghost leads = { λ path file source. ⊤ };
+
+    ghost absent = { λ folder path. ⊤ };
 
     ghost did_nothing = { λ s. tallies_nothing s };
 

@@ -54,6 +54,8 @@ impl Folder for Notes {
 
     ghost leads = { λ path file source. ⊤ };
 
+    ghost absent = { λ folder path. ⊤ };
+
     ghost did_nothing = { λ s. tt };
 
     ghost did_more = { λ a b c es fs p q. tt };

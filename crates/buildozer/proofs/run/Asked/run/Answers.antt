@@ -2,6 +2,7 @@ use Rattle.std.proofs.Common.{ℕ, List, subst}
 use Rattle.std.specs.Prelude.{OnErr}
 use Rattle.buildozer.specs.Runs.{Asked, IsFront, Ran}
 use Rattle.bz_script.proofs.Loops.{if_ok}
+use Rattle.buildozer.proofs.Faults.{fault_over}
 use Rattle.buildozer.proofs.Fronts.{where_err}
 use Rattle.buildozer.proofs.run.Asked.run.Goals as goal
 
@@ -17,3 +18,8 @@ returns-clause-front g c =
     × g.S.Source.gave c.args.source.now read c.run.new.source × g.W.Sink.took c.args.sink.now text c.run.new.sink × IsFront asked read text in
     subst (λ asked. OnErr c.run.result (cut asked)) c.self.view_is
     (where_err (λ out. (out.0, out.1, out.2, out.3, out.5)) c.run.result c.run.ensures.front)
+
+pub returns-clause-fault : goal.returns-clause-fault
+returns-clause-fault g c =
+    let e = c.run.ensures in
+    fault_over g.S.Source.gave g.S.Source.failures c.args.source.now c.run.new.source c.run.result e.read_failed e.too_long e.statement_too_long e.going
