@@ -14,7 +14,7 @@ use Rattle.bz_engine.specs.declared.report.End.{End}
 use Rattle.bz_engine.specs.declared.report.End.TheVariants.{Whole, Syntax, FirstFailure}
 use Rattle.bz_engine.specs.declared.edit.Edited.{Edited}
 use Rattle.bz_engine.specs.declared.edit.Edited.TheVariants.{Done, Faulty, Failed}
-use Rattle.bz_devices.specs.Ahead.{Ahead, IsReadOn, IsNextChunk}
+use Rattle.bz_devices.specs.Ahead.{Ahead, IsReadOn, AreNeeded, IsNextChunk}
 use Rattle.bz_engine.specs.Progress.{Progress}
 use Rattle.bz_engine.specs.private.Edits.{EditsChunk}
 use Rattle.bz_engine.specs.SessionValue.{SessionValue, run_in, HasDone, IsCutShort, IsLeftByFault, HasEnded}
@@ -30,15 +30,15 @@ edits_as v mid n after before following edited kind edits none is =
     subst (EditsNext v mid n after [] following) is (subst (λ b. EditsNext v mid n after b following edited) none edits)
 
 pub chunk_done : (v e f : SessionValue) (mid : Ahead) (before following : List ℕ) (edited : Edited) (max_reads most n : ℕ) (pieces cs read : List (List ℕ)) (text : List ℕ)
-    → HasDone v pieces cs text → IsReadOn max_reads v.ahead mid read → IsNextChunk most mid n → before ≡ []
+    → HasDone v pieces cs text → IsReadOn max_reads v.ahead mid read → AreNeeded v.options.max_statement v.ahead.bytes read → IsNextChunk most mid n → before ≡ []
     → (let after : SessionValue = record v { ahead = mid; progress = e.progress } in e ≡ after)
     → EditsNext v mid n e.progress before following edited → edited ≡ Done
     → (let taken : SessionValue = record e { ahead = record e.ahead { bytes = drop n e.ahead.bytes } } in f ≡ taken)
     → HasDone f (pieces ++ read) (cs ++ take n mid.bytes ∷ []) (text ++ following)
-chunk_done v e f mid before following edited max_reads most n pieces cs read text done on next none at edits is taken =
+chunk_done v e f mid before following edited max_reads most n pieces cs read text done on needed next none at edits is taken =
     let takes : SessionValue → SessionValue = λ x. record x { ahead = record x.ahead { bytes = drop n x.ahead.bytes } } in
     subst (λ x. HasDone x (pieces ++ read) (cs ++ take n mid.bytes ∷ []) (text ++ following)) (sym (taken ∙ ap takes at))
-    (went_on v mid e.progress max_reads most n pieces cs read text following done on next
+    (went_on v mid e.progress max_reads most n pieces cs read text following done on needed next
     (edits_as v mid n e.progress before following edited Done edits none is cs done.statements done.kept))
 
 pub chunk_faulty : (v e : SessionValue) (mid : Ahead) (before following : List ℕ) (edited : Edited) (fault : SyntaxFault) (max_reads most n : ℕ) (pieces cs read : List (List ℕ)) (text : List ℕ)
@@ -66,11 +66,11 @@ chunk_failed v e f mid before following edited message max_reads most n pieces c
 
 -- a chunk was done, and its text was not written to its end
 write_cut : (v e : SessionValue) (mid : Ahead) (before following : List ℕ) (edited : Edited) (max_reads most n k : ℕ) (pieces cs read : List (List ℕ)) (text : List ℕ)
-    → HasDone v pieces cs text → IsReadOn max_reads v.ahead mid read → IsNextChunk most mid n → before ≡ []
+    → HasDone v pieces cs text → IsReadOn max_reads v.ahead mid read → AreNeeded v.options.max_statement v.ahead.bytes read → IsNextChunk most mid n → before ≡ []
     → (let after : SessionValue = record v { ahead = mid; progress = e.progress } in e ≡ after)
     → EditsNext v mid n e.progress before following edited → edited ≡ Done
     → IsCutShort e (pieces ++ read) cs text (take k following)
-write_cut v e mid before following edited max_reads most n k pieces cs read text done on next none at edits is =
+write_cut v e mid before following edited max_reads most n k pieces cs read text done on needed next none at edits is =
     let left = drop n e.ahead.bytes in
     let taken : SessionValue = record e { ahead = record e.ahead { bytes = left } } in
     inr (
@@ -79,35 +79,37 @@ write_cut v e mid before following edited max_reads most n k pieces cs read text
         chunk = take n mid.bytes;
         left = left;
         ahead_is = sym (take-append-drop n e.ahead.bytes) ∙ ap (λ x. take n x.ahead.bytes ++ left) at;
-        done = chunk_done v e taken mid before following edited max_reads most n pieces cs read text done on next none at edits is refl;
+        done = chunk_done v e taken mid before following edited max_reads most n pieces cs read text done on needed next none at edits is refl;
       },
       (drop k following, sym (take-append-drop k following)),
     )
 
 pub left_by_write : (Gave : List (List ℕ) → Type 0) (Took : List ℕ → Type 0) (v e w : SessionValue) (mid : Ahead) (before following : List ℕ) (edited : Edited) (most n k : ℕ) (read : List (List ℕ))
-    → Gave read → Took (take k following) → IsReadOn v.options.max_reads v.ahead mid read → IsNextChunk most mid n → before ≡ []
+    → Gave read → Took (take k following) → IsReadOn v.options.max_reads v.ahead mid read → AreNeeded v.options.max_statement v.ahead.bytes read → IsNextChunk most mid n → before ≡ []
     → (let after : SessionValue = record v { ahead = mid; progress = e.progress } in e ≡ after)
     → EditsNext v mid n e.progress before following edited → edited ≡ Done → w ≡ e
     → IsLeftByFault Gave Took v w
-left_by_write Gave Took v e w mid before following edited most n k read gave took on next none at edits is same = record {
+left_by_write Gave Took v e w mid before following edited most n k read gave took on needed next none at edits is same = record {
   read = read;
   shown = take k following;
   gave = gave;
   took = took;
   read_ahead = subst (λ x. IsReadOn v.options.max_reads v.ahead x.ahead read) (sym (same ∙ at)) on;
+  needed = needed;
   front = λ pieces cs text done. subst (λ x. IsCutShort x (pieces ++ read) cs text (take k following)) (sym same)
-      (write_cut v e mid before following edited v.options.max_reads most n k pieces cs read text done on next none at edits is);
+      (write_cut v e mid before following edited v.options.max_reads most n k pieces cs read text done on needed next none at edits is);
 }
 
 -- nothing was written
 pub left_by_read : (Gave : List (List ℕ) → Type 0) (Took : List ℕ → Type 0) (v w : SessionValue) (mid : Ahead) (read : List (List ℕ))
-    → Gave read → Took [] → IsReadOn v.options.max_reads v.ahead mid read → w.ahead ≡ mid → IsLeftByFault Gave Took v w
-left_by_read Gave Took v w mid read gave took on same = record {
+    → Gave read → Took [] → IsReadOn v.options.max_reads v.ahead mid read → AreNeeded v.options.max_statement v.ahead.bytes read → w.ahead ≡ mid → IsLeftByFault Gave Took v w
+left_by_read Gave Took v w mid read gave took on needed same = record {
   read = read;
   shown = [];
   gave = gave;
   took = took;
   read_ahead = subst (λ a. IsReadOn v.options.max_reads v.ahead a read) (sym same) on;
+  needed = needed;
   front = λ pieces cs text done. inl refl;
 }
 
@@ -169,6 +171,7 @@ restaged v stage pieces cs text done = record {
   reads = done.reads;
   ended = done.ended;
   none_ends = done.none_ends;
+  needed = done.needed;
   few = done.few;
   first = done.first;
   statements = done.statements;
@@ -185,6 +188,7 @@ left_before Gave Took v w stage left = record {
   gave = left.gave;
   took = left.took;
   read_ahead = left.read_ahead;
+  needed = left.needed;
   front = λ pieces cs text done. left.front pieces cs text (restaged v stage pieces cs text done);
 }
 

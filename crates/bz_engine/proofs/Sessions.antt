@@ -10,7 +10,7 @@ use Rattle.bz_engine.specs.declared.session.Stage.TheVariants.{Going, Ended, Sto
 use Rattle.bz_engine.specs.declared.report.End.{End}
 use Rattle.bz_engine.specs.declared.report.End.TheVariants.{Whole, Syntax, FirstFailure}
 use Rattle.bz_devices.specs.Device.{joined, ends, NoneEnds}
-use Rattle.bz_devices.specs.Ahead.{Ahead, IsReadOn, IsNextChunk}
+use Rattle.bz_devices.specs.Ahead.{Ahead, IsReadOn, AreNeeded, IsNextChunk}
 use Rattle.bz_engine.specs.Meaning.{meaning}
 use Rattle.bz_engine.specs.File.{Give, Gives}
 use Rattle.bz_engine.specs.Messages.{fault_text}
@@ -22,6 +22,8 @@ use Rattle.bz_engine.specs.SessionValue.{SessionValue, run_in, IsSession, HasDon
 use Rattle.bz_passes.proofs.ExchangeLaw.{log_by_pass, missing_lem}
 use Rattle.bz_devices.proofs.MoreReads.{ends_more, open_more, bytes_more, chunks_more, chunk_taken, one_more}
 use Rattle.bz_engine.proofs.Given.{give_fault, give_statement}
+use Rattle.bz_engine.proofs.NeededReads.{needed_on, reads_of}
+use Rattle.bz_engine.specs.NeededReads.{AreReads}
 
 -- the chunks of the file after more reads
 pub read_on : (v : SessionValue) (mid : Ahead) (max_reads : ℕ) (pieces cs read : List (List ℕ)) (text : List ℕ)
@@ -43,6 +45,13 @@ pub reads_within : (v : SessionValue) (mid : Ahead) (max_reads : ℕ) (pieces cs
     → HasDone v pieces cs text → IsReadOn max_reads v.ahead mid read → length (pieces ++ read) ≤ max_reads
 reads_within v mid max_reads pieces cs read text done on = subst (λ n. n ≤ max_reads) (reads_on v mid max_reads pieces cs read text done on) on.within
 
+-- the reads that were made
+pub reads_are : (v : SessionValue) (mid : Ahead) (pieces cs read : List (List ℕ)) (text : List ℕ)
+    → HasDone v pieces cs text → IsReadOn v.options.max_reads v.ahead mid read → AreNeeded v.options.max_statement v.ahead.bytes read
+    → AreReads v.home v.passes v.options (pieces ++ read)
+reads_are v mid pieces cs read text done on needed =
+    reads_of v (pieces ++ read) (reads_within v mid v.options.max_reads pieces cs read text done on) (needed_on v mid v.options.max_reads pieces cs read text done on needed)
+
 -- what stood ahead and what was read then
 pub read_within : (v w : SessionValue) (mid : Ahead) (max_reads : ℕ) (read : List (List ℕ)) → v ≡ w → IsReadOn max_reads v.ahead mid read
     → length mid.bytes ≤ v.options.max_statement + 8192 → length (w.ahead.bytes ++ joined read) ≤ w.options.max_statement + 8192
@@ -52,14 +61,15 @@ read_within v w mid max_reads read same on bound =
 
 -- a chunk was done
 pub went_on : (v : SessionValue) (mid : Ahead) (progress : Progress) (max_reads most n : ℕ) (pieces cs read : List (List ℕ)) (text after : List ℕ)
-    → (done : HasDone v pieces cs text) → IsReadOn max_reads v.ahead mid read → IsNextChunk most mid n
+    → (done : HasDone v pieces cs text) → IsReadOn max_reads v.ahead mid read → AreNeeded v.options.max_statement v.ahead.bytes read → IsNextChunk most mid n
     → (edited : IsDone (run_in v) cs done.statements (take n mid.bytes) v.progress progress [] after)
     → HasDone (record v { ahead = record mid { bytes = drop n mid.bytes }; progress = progress }) (pieces ++ read) (cs ++ take n mid.bytes ∷ []) (text ++ after)
-went_on v mid progress max_reads most n pieces cs read text after done on next edited = record {
+went_on v mid progress max_reads most n pieces cs read text after done on needed next edited = record {
   bytes = bytes_more pieces read cs v.ahead.bytes mid.bytes (take n mid.bytes) (drop n mid.bytes) done.bytes on.bytes (sym (take-append-drop n mid.bytes));
   reads = reads_on v mid max_reads pieces cs read text done on;
   ended = ended_on v mid max_reads pieces cs read text done on;
   none_ends = open_more v.ahead.ended mid.ended pieces read on.ended done.none_ends on.none_ends;
+  needed = needed_on v mid max_reads pieces cs read text done on needed;
   few = next.left;
   first = λ rest over.
       chunk_taken cs mid.bytes rest (joined (pieces ++ read) ++ rest) n (read_on v mid max_reads pieces cs read text done on rest over) (next.ends rest over)

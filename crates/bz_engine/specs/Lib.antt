@@ -6,4 +6,5 @@ pub mod File
 pub mod Meaning
 pub mod Messages
 pub mod Outcome
+pub mod NeededReads
 pub mod private

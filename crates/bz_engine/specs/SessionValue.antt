@@ -19,6 +19,7 @@ use Rattle.bz_engine.specs.Progress.{Progress, IsKeptOf}
 use Rattle.bz_engine.specs.Meaning.{meaning}
 use Rattle.bz_engine.specs.Messages.{fault_text}
 use Rattle.bz_engine.specs.Outcome.{Script, Run, run_with, Told, IsOutcome, IsFrontOf, text_after}
+use Rattle.bz_engine.specs.NeededReads.{AreNeededAfter, AreReads}
 use Rattle.bz_passes.specs.Entries.{line_text, message_text}
 
 -- The package, the passes and the options; what is kept of the chunks that are done; the bytes ahead, with the reads made and whether the end
@@ -52,13 +53,14 @@ pub record IsSameRun (old new : SessionValue) : Type 0 where
   pub passes : new.passes ≡ old.passes
   pub options : new.options ≡ old.options
 
--- Reads gave these pieces: the chunks that are done, whatever follows, and the bytes ahead. This text was written: that of the statements of these
--- chunks as the script left them.
+-- Reads gave these pieces, and each was needed: the chunks that are done, whatever follows, and the bytes ahead. This text was written: that of the
+-- statements of these chunks as the script left them.
 pub record HasDone (v : SessionValue) (pieces cs : List (List ℕ)) (text : List ℕ) : Type 0 where
   pub bytes : joined pieces ≡ concat cs ++ v.ahead.bytes
   pub reads : v.ahead.reads ≡ length pieces
   pub ended : v.ahead.ended ≡ ends pieces
   pub none_ends : v.ahead.ended ≡ false → NoneEnds pieces
+  pub needed : AreNeededAfter (run_in v) v.options.max_statement [] pieces
   pub few : length v.ahead.bytes ≤ 8192
   pub first : (rest : List ℕ) → (IsTrue v.ahead.ended → rest ≡ []) → chunks (joined pieces ++ rest) ≡ cs ++ chunks (v.ahead.bytes ++ rest)
   pub statements : List Statement
@@ -96,6 +98,7 @@ pub record IsLeftByFault (Gave : List (List ℕ) → Type 0) (Took : List ℕ �
   pub gave : Gave read
   pub took : Took shown
   pub read_ahead : IsReadOn old.options.max_reads old.ahead new.ahead read
+  pub needed : AreNeeded old.options.max_statement old.ahead.bytes read
   pub front : (pieces cs : List (List ℕ)) (text : List ℕ) → HasDone old pieces cs text → IsCutShort new (pieces ++ read) cs text shown
 
 -- A next chunk that is sure to be too long is told as such, unless memory failed.
@@ -136,7 +139,7 @@ AddsOne gave took source source_after sink sink_after old new = (pieces cs : Lis
 abbrev pub EndsRun : {S W : Type 0} → (S → List (List ℕ) → S → Type 0) → (W → List ℕ → W → Type 0) → S → S → W → W → SessionValue → SessionValue → End → Type 0
 EndsRun gave took source source_after sink sink_after old new end = (pieces cs : List (List ℕ)) (text : List ℕ) → HasDone old pieces cs text
     → (read : List (List ℕ)) × gave source read source_after × took sink [] sink_after
-    × (length (pieces ++ read) ≤ new.options.max_reads) × HasEnded new end (pieces ++ read) text
+    × AreReads new.home new.passes new.options (pieces ++ read) × HasEnded new end (pieces ++ read) text
 
 -- What a step of a session that goes on reads and writes, what is counted, and what its faults tell.
 pub record Steps {S W T : Type 0} (gave : S → List (List ℕ) → S → Type 0) (reads_failed : S → ℕ) (took : W → List ℕ → W → Type 0) (writes_failed : W → ℕ)

@@ -2,6 +2,7 @@
 use Rattle.std.proofs.Common.{◌≡◌, ℕ, ◌+◌, List, [], ◌∷◌, ◌++◌, ◌≤◌, length, refl, sym, ap, ◌∙◌, subst, append-nil, append_assoc, length-append}
 use Rattle.bz_engine.specs.SessionValue.{SessionValue, HasDone, HasOneMore, HasEnded}
 use Rattle.bz_engine.specs.declared.report.End.{End}
+use Rattle.bz_engine.specs.NeededReads.{AreReads}
 use Rattle.bz_engine_laws.specs.Steps.{HasManyMore, HasComeTo}
 
 -- the same lists, said otherwise
@@ -44,7 +45,7 @@ module _ {S W : Type 0} (gave : S → List (List ℕ) → S → Type 0) (took : 
     pub come_to : (s s1 s2 : S) (w w1 w2 : W) (count : ℕ) (v1 v2 : SessionValue) (end : End) (pieces cs : List (List ℕ)) (text : List ℕ)
         → HasManyMore count (λ read. gave s read s1) (λ shown. took w shown w1) v1 pieces cs text
         → ((pieces cs : List (List ℕ)) (text : List ℕ) → HasDone v1 pieces cs text
-        → (read : List (List ℕ)) × gave s1 read s2 × took w1 [] w2 × (length (pieces ++ read) ≤ v2.options.max_reads) × HasEnded v2 end (pieces ++ read) text)
+        → (read : List (List ℕ)) × gave s1 read s2 × took w1 [] w2 × AreReads v2.home v2.passes v2.options (pieces ++ read) × HasEnded v2 end (pieces ++ read) text)
         → HasComeTo end (λ read. gave s read s2) (λ shown. took w shown w2) v2 pieces text
     come_to s s1 s2 w w1 w2 count v1 v2 end pieces cs text before step =
         let last = step (pieces ++ before.read) (cs ++ before.chunks) (text ++ before.shown) before.done in

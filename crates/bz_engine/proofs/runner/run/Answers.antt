@@ -10,7 +10,8 @@ use Rattle.bz_devices.proofs.PassedOn.{passed_on, not_passed_on}
 use Rattle.bz_devices.proofs.ReadOn.{rises_from}
 use Rattle.bz_engine.proofs.Faults.{memory_alone}
 use Rattle.bz_engine.proofs.Cut.{cut_is, fault_begins, fault_reads, ended_begins, nothing_begins, too_long_in}
-use Rattle.bz_engine.proofs.Runs.{started, shorter, outcome_is, where_ok, ok_is_no_err}
+use Rattle.bz_engine.proofs.NeededReads.{no_reads}
+use Rattle.bz_engine.proofs.Runs.{started, shorter, outcome_is, reads_for, where_ok, ok_is_no_err}
 use Rattle.bz_engine.proofs.runner.run.Goals as goal
 
 pub loop-session-init : goal.loop-session-init
@@ -88,7 +89,7 @@ returns-in-End-clause-outcome g c =
       inv.text,
       g.met.S.Source.gave_more _ _ _ _ _ inv.gave over.1,
       subst (λ t. g.W.Sink.took c.args.sink.now t c.step.new.sink) (append-nil inv.text) (g.met.W.Sink.took_more _ _ _ _ _ inv.took over.2),
-      subst (λ o. length (inv.pieces ++ over.0) ≤ o.max_reads) (same.options ∙ inv.options) over.3,
+      reads_for c.step.new.self _ _ _ (inv.pieces ++ over.0) (same.home ∙ inv.home) (same.passes ∙ inv.passes) (same.options ∙ inv.options) over.3,
       outcome_is c.step.new.self c.args.home c.args.passes.items c.args.options end.0 (told_by report) (inv.pieces ++ over.0) inv.text
           (same.home ∙ inv.home) (same.passes ∙ inv.passes) (same.options ∙ inv.options) told over.4,
     ))
@@ -112,7 +113,7 @@ returns-in-End-clause-devices g c =
 pub returns-in_err-session-clause-front : goal.returns-in_err-session-clause-front
 returns-in_err-session-clause-front g c =
     on_err _ (cut_is (λ pieces. g.S.Source.gave c.args.source.now pieces c.args.source.now) (λ text. g.W.Sink.took c.args.sink.now text c.args.sink.now)
-    (run_with c.args.home c.args.passes.items c.args.options) c.args.options.max_reads [] [] (g.met.S.Source.gave_nothing _) (g.met.W.Sink.took_nothing _) (omega arith)
+    c.args.home c.args.passes.items c.args.options [] [] (g.met.S.Source.gave_nothing _) (g.met.W.Sink.took_nothing _) (no_reads _ _ _)
     (nothing_begins (run_with c.args.home c.args.passes.items c.args.options)))
 
 pub returns-in_err-step-clause-front : goal.returns-in_err-step-clause-front
@@ -120,9 +121,9 @@ returns-in_err-step-clause-front g c =
     let inv = c.loop-session.invariant in
     let left = (c.in_err-step.ensures.steps inv.goes).front in
     on_err _ (cut_is (λ pieces. g.S.Source.gave c.args.source.now pieces c.step.new.source) (λ text. g.W.Sink.took c.args.sink.now text c.step.new.sink)
-    (run_with c.args.home c.args.passes.items c.args.options) c.args.options.max_reads (inv.pieces ++ left.read) (inv.text ++ left.shown)
+    c.args.home c.args.passes.items c.args.options (inv.pieces ++ left.read) (inv.text ++ left.shown)
     (g.met.S.Source.gave_more _ _ _ _ _ inv.gave left.gave) (g.met.W.Sink.took_more _ _ _ _ _ inv.took left.took)
-    (fault_reads _ _ c.loop-session.session c.step.new.self c.args.options inv.pieces inv.cs inv.text inv.options inv.done left)
+    (fault_reads _ _ c.loop-session.session c.step.new.self c.args.home c.args.passes.items c.args.options inv.pieces inv.cs inv.text inv.home inv.passes inv.options inv.done left)
     (fault_begins _ _ c.loop-session.session c.step.new.self c.args.home c.args.passes.items c.args.options inv.pieces inv.cs inv.text
     inv.home inv.passes inv.options inv.done c.step.ensures.same left))
 
@@ -133,10 +134,10 @@ returns-in-End-clause-front g c =
     let end = c.step.ensures.end (c.in_ok-step.was ∙ ap Ok c.in-End.is) inv.goes in
     let over = end.2 inv.pieces inv.cs inv.text inv.done in
     on_err _ (cut_is (λ pieces. g.S.Source.gave c.args.source.now pieces c.step.new.source) (λ text. g.W.Sink.took c.args.sink.now text c.step.new.sink)
-    (run_with c.args.home c.args.passes.items c.args.options) c.args.options.max_reads (inv.pieces ++ over.0) inv.text
+    c.args.home c.args.passes.items c.args.options (inv.pieces ++ over.0) inv.text
     (g.met.S.Source.gave_more _ _ _ _ _ inv.gave over.1)
     (subst (λ t. g.W.Sink.took c.args.sink.now t c.step.new.sink) (append-nil inv.text) (g.met.W.Sink.took_more _ _ _ _ _ inv.took over.2))
-    (subst (λ o. length (inv.pieces ++ over.0) ≤ o.max_reads) (same.options ∙ inv.options) over.3)
+    (reads_for c.step.new.self _ _ _ (inv.pieces ++ over.0) (same.home ∙ inv.home) (same.passes ∙ inv.passes) (same.options ∙ inv.options) over.3)
     (ended_begins (run_with c.args.home c.args.passes.items c.args.options) (inv.pieces ++ over.0) inv.text (told_at c.step.new.self end.0)
     (outcome_is c.step.new.self c.args.home c.args.passes.items c.args.options end.0 (told_at c.step.new.self end.0) (inv.pieces ++ over.0) inv.text
     (same.home ∙ inv.home) (same.passes ∙ inv.passes) (same.options ∙ inv.options) refl over.4)))

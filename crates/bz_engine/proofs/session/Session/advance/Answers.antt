@@ -9,10 +9,11 @@ use Rattle.bz_devices.specs.Ahead.{AreNeeded, IsTooLong}
 use Rattle.bz_engine.specs.Progress.{Progress}
 use Rattle.bz_engine.specs.private.NextChunks.{IsNextEdited}
 use Rattle.bz_engine.specs.SessionValue.{SessionValue, IsSameRun, IsReady, HasDone, IsLeftByFault, HasEnded}
+use Rattle.bz_engine.specs.NeededReads.{AreReads}
 use Rattle.bz_devices.proofs.PassedOn.{err_is, passed_on, not_passed_on}
 use Rattle.bz_engine.proofs.Faults.{refused_as}
 use Rattle.bz_devices.proofs.ChunkAhead.{next_fits, nothing_fits}
-use Rattle.bz_engine.proofs.Sessions.{too_long_there, reads_within, read_within}
+use Rattle.bz_engine.proofs.Sessions.{too_long_there, reads_are, read_within}
 use Rattle.bz_engine.proofs.Advances.{chunk_done, chunk_faulty, chunk_failed, left_by_write, left_by_read, on_err, ok_same, goes_not_on, has_not_ended, same_end, some_of, none_of, take_some, take_few, whole_end}
 use Rattle.bz_engine.proofs.Kept.{ready_next, session_failed}
 use Rattle.bz_engine.proofs.Runs.{ok_is_no_err}
@@ -39,7 +40,7 @@ returns-clause-more g c going pieces cs text before =
         few = read.2.few;
         done = subst (λ v. HasDone v (pieces ++ read.0) (cs ++ take c.in-Some.field-0.len c.edit_next.new.self.ahead.bytes ∷ []) (text ++ c.edit_next.new.text.items)) (sym (c.self-2.view_is ∙ w.self-is))
             (chunk_done _ c.edit_next.new.self w.write.new.self c.edit_next.new.self.ahead _ c.edit_next.new.text.items c.in-Some.field-0.edited _ _ c.in-Some.field-0.len pieces cs read.0 text
-            done read.2 next.chunk c.take_text-text.ensures.empty c.edit_next.ensures.same next.edited w.in-Done.is w.in_ok-write-in-Done.ensures.taken);
+            done read.2 read.3 next.chunk c.take_text-text.ensures.empty c.edit_next.ensures.same next.edited w.in-Done.is w.in_ok-write-in-Done.ensures.taken);
       }
       | in-Faulty w ↦ goes_not_on c.match-edited.stage (Syntax w.in-Faulty.fault) going w.stage-is
       | in-Failed w ↦ goes_not_on c.match-edited.stage FirstFailure going w.stage-is
@@ -56,8 +57,8 @@ returns-clause-end g c end ended pieces cs text before =
         read.0,
         read.1,
         subst (λ s. g.W.Sink.took c.args.sink.now [] s) (sym w.sink-is) (g.met.W.Sink.took_nothing _),
-        subst (λ v. length (pieces ++ read.0) ≤ v.options.max_reads) (sym (c.self-2.view_is ∙ w.self-is ∙ c.edit_next.ensures.same))
-            (reads_within _ c.edit_next.new.self.ahead _ pieces cs read.0 text done read.2),
+        subst (λ v. AreReads v.home v.passes v.options (pieces ++ read.0)) (sym (c.self-2.view_is ∙ w.self-is ∙ c.edit_next.ensures.same))
+            (reads_are _ c.edit_next.new.self.ahead pieces cs read.0 text done read.2 read.3),
         subst (λ v. HasEnded v end (pieces ++ read.0) text) (sym (c.self-2.view_is ∙ w.self-is))
             (subst (λ e. HasEnded c.edit_next.new.self e (pieces ++ read.0) text) (same_end c.match-edited.stage end (Syntax w.in-Faulty.fault) ended w.stage-is)
             (chunk_faulty _ c.edit_next.new.self c.edit_next.new.self.ahead _ c.edit_next.new.text.items c.in-Some.field-0.edited w.in-Faulty.fault _ _ c.in-Some.field-0.len pieces cs read.0 text
@@ -69,8 +70,8 @@ returns-clause-end g c end ended pieces cs text before =
             read.0,
             read.1,
             subst (λ s. g.W.Sink.took c.args.sink.now [] s) (sym w.sink-is) (g.met.W.Sink.took_nothing _),
-            subst (λ v. length (pieces ++ read.0) ≤ v.options.max_reads) (sym (c.self-2.view_is ∙ failed ∙ ap fails c.edit_next.ensures.same))
-                (reads_within _ c.edit_next.new.self.ahead _ pieces cs read.0 text done read.2),
+            subst (λ v. AreReads v.home v.passes v.options (pieces ++ read.0)) (sym (c.self-2.view_is ∙ failed ∙ ap fails c.edit_next.ensures.same))
+                (reads_are _ c.edit_next.new.self.ahead pieces cs read.0 text done read.2 read.3),
             subst (λ v. HasEnded v end (pieces ++ read.0) text) (sym c.self-2.view_is)
                 (subst (λ e. HasEnded c.match-edited.self e (pieces ++ read.0) text) (same_end c.match-edited.stage end FirstFailure ended w.stage-is)
                 (chunk_failed _ c.edit_next.new.self c.match-edited.self c.edit_next.new.self.ahead _ c.edit_next.new.text.items c.in-Some.field-0.edited w.in-Failed.message _ _ c.in-Some.field-0.len pieces cs read.0 text
@@ -90,7 +91,7 @@ returns-in_default-clause-end g c end ended pieces cs text before =
       read.0,
       read.1,
       g.met.W.Sink.took_nothing _,
-      subst (λ x. length (pieces ++ read.0) ≤ x.options.max_reads) (sym at) (reads_within v mid _ pieces cs read.0 text done read.2),
+      subst (λ x. AreReads x.home x.passes x.options (pieces ++ read.0)) (sym at) (reads_are v mid pieces cs read.0 text done read.2 read.3),
       subst (λ x. HasEnded x end (pieces ++ read.0) text) (sym at) (whole_end v mid end _ pieces cs read.0 text done read.2 (none.1, none.2) ended),
     )
 
@@ -287,7 +288,7 @@ returns-in_err-len-clause-steps g c =
       front = let Gave : List (List ℕ) → Type 0 = λ r. g.S.Source.gave c.args.source.now r c.edit_next.new.source in
           let Took : List ℕ → Type 0 = λ s. g.W.Sink.took c.args.sink.now s c.args.sink.now in
           on_err _ (subst (λ v. IsLeftByFault Gave Took v c.edit_next.new.self) c.take_text-text.ensures.same
-          (left_by_read Gave Took _ c.edit_next.new.self c.edit_next.new.self.ahead read.0 read.1 (g.met.W.Sink.took_nothing _) read.2 refl));
+          (left_by_read Gave Took _ c.edit_next.new.self c.edit_next.new.self.ahead read.0 read.1 (g.met.W.Sink.took_nothing _) read.2 read.3 refl));
       unwritten = let same : c.from_residual.result ≢ Err WriteFailed → c.args.sink.now ≡ c.args.sink.now = λ other. refl in
           on_err _ same;
       read_failed = λ told. c.edit_next.ensures.finds.failed (c.in_err-len.was ∙ passed_on fault.result p.0 c.in_err-len.field-0.0 ReadFailed p.1 p.2 told);
@@ -324,7 +325,7 @@ returns-in_err-write-in-Done-clause-steps g c =
           on_err _ (subst (λ v. IsLeftByFault Gave Took v c.write.new.self) c.take_text-text.ensures.same
           (left_by_write Gave Took _ c.edit_next.new.self c.write.new.self c.edit_next.new.self.ahead _ c.edit_next.new.text.items c.in-Some.field-0.edited _ c.in-Some.field-0.len cut.0 read.0
           read.1 (subst (λ t. g.W.Sink.took c.args.sink.now (take cut.0 t) c.write.new.sink) c.as_slice.ensures.value cut.2)
-          read.2 next.chunk c.take_text-text.ensures.empty c.edit_next.ensures.same next.edited c.in-Done.is c.in_err-write-in-Done.ensures.same));
+          read.2 read.3 next.chunk c.take_text-text.ensures.empty c.edit_next.ensures.same next.edited c.in-Done.is c.in_err-write-in-Done.ensures.same));
       unwritten = let same : fault.result ≢ Err WriteFailed → c.write.new.sink ≡ c.args.sink.now = λ other. absurd (other is) in
           on_err _ same;
       read_failed = λ told. unwritten_alone fault.result ReadFailed refl is told;

@@ -6,6 +6,7 @@ use Rattle.bz_engine.specs.declared.run_fault.RunFault.TheVariants.{InputTooLong
 use Rattle.bz_engine.specs.declared.session.Stage.TheVariants.{Going, Stopped}
 use Rattle.bz_devices.specs.Device.{joined}
 use Rattle.bz_devices.specs.Ahead.{AreNeeded, IsTooLong}
+use Rattle.bz_engine.specs.NeededReads.{AreReads}
 use Rattle.bz_engine.specs.SessionValue.{HasDone, IsLeftByFault, HasEnded}
 use Rattle.bz_devices.proofs.PassedOn.{passed_on, not_passed_on}
 use Rattle.bz_engine.proofs.Faults.{refused_on, not_refused}
@@ -55,7 +56,7 @@ returns-clause-end g c told going =
                   over.0,
                   over.1,
                   over.2,
-                  subst (λ v. length (pieces ++ over.0) ≤ v.options.max_reads) (sym c.self-2.view_is) over.3,
+                  subst (λ v. AreReads v.home v.passes v.options (pieces ++ over.0)) (sym c.self-2.view_is) over.3,
                   subst (λ v. HasEnded v last.0 (pieces ++ over.0) text) (sym c.self-2.view_is) over.4,
                 ),
           )
