@@ -17,7 +17,8 @@ use Rattle.bz_engine.specs.declared.edit.Edited.TheVariants.{Done, Faulty, Faile
 use Rattle.bz_devices.specs.Ahead.{Ahead, IsReadOn, AreNeeded, IsNextChunk}
 use Rattle.bz_engine.specs.Progress.{Progress}
 use Rattle.bz_engine.specs.private.Edits.{EditsChunk}
-use Rattle.bz_engine.specs.SessionValue.{SessionValue, run_in, HasDone, IsCutShort, IsLeftByFault, HasEnded}
+use Rattle.bz_engine.specs.SessionSteps.{IsCutShort}
+use Rattle.bz_engine.specs.SessionValue.{SessionValue, run_in, HasDone, HasEnded}
 use Rattle.bz_engine.proofs.Sessions.{went_on, ended_whole, ended_fault, ended_failure}
 
 -- what the script made of the chunk
@@ -65,7 +66,7 @@ chunk_failed v e f mid before following edited message max_reads most n pieces c
     (edits_as v mid n e.progress before following edited (Failed message) edits none is cs done.statements done.kept))
 
 -- a chunk was done, and its text was not written to its end
-write_cut : (v e : SessionValue) (mid : Ahead) (before following : List ℕ) (edited : Edited) (max_reads most n k : ℕ) (pieces cs read : List (List ℕ)) (text : List ℕ)
+pub write_cut : (v e : SessionValue) (mid : Ahead) (before following : List ℕ) (edited : Edited) (max_reads most n k : ℕ) (pieces cs read : List (List ℕ)) (text : List ℕ)
     → HasDone v pieces cs text → IsReadOn max_reads v.ahead mid read → AreNeeded v.options.max_statement v.ahead.bytes read → IsNextChunk most mid n → before ≡ []
     → (let after : SessionValue = record v { ahead = mid; progress = e.progress } in e ≡ after)
     → EditsNext v mid n e.progress before following edited → edited ≡ Done
@@ -84,62 +85,9 @@ write_cut v e mid before following edited max_reads most n k pieces cs read text
       (drop k following, sym (take-append-drop k following)),
     )
 
-pub left_by_write : (Gave : List (List ℕ) → Type 0) (Took : List ℕ → Type 0) (v e w : SessionValue) (mid : Ahead) (before following : List ℕ) (edited : Edited) (most n k : ℕ) (read : List (List ℕ))
-    → Gave read → Took (take k following) → IsReadOn v.options.max_reads v.ahead mid read → AreNeeded v.options.max_statement v.ahead.bytes read → IsNextChunk most mid n → before ≡ []
-    → (let after : SessionValue = record v { ahead = mid; progress = e.progress } in e ≡ after)
-    → EditsNext v mid n e.progress before following edited → edited ≡ Done → w ≡ e
-    → IsLeftByFault Gave Took v w
-left_by_write Gave Took v e w mid before following edited most n k read gave took on needed next none at edits is same = record {
-  read = read;
-  shown = take k following;
-  gave = gave;
-  took = took;
-  read_ahead = subst (λ x. IsReadOn v.options.max_reads v.ahead x.ahead read) (sym (same ∙ at)) on;
-  needed = needed;
-  front = λ pieces cs text done. subst (λ x. IsCutShort x (pieces ++ read) cs text (take k following)) (sym same)
-      (write_cut v e mid before following edited v.options.max_reads most n k pieces cs read text done on needed next none at edits is);
-}
-
--- nothing was written
-pub left_by_read : (Gave : List (List ℕ) → Type 0) (Took : List ℕ → Type 0) (v w : SessionValue) (mid : Ahead) (read : List (List ℕ))
-    → Gave read → Took [] → IsReadOn v.options.max_reads v.ahead mid read → AreNeeded v.options.max_statement v.ahead.bytes read → w.ahead ≡ mid → IsLeftByFault Gave Took v w
-left_by_read Gave Took v w mid read gave took on needed same = record {
-  read = read;
-  shown = [];
-  gave = gave;
-  took = took;
-  read_ahead = subst (λ a. IsReadOn v.options.max_reads v.ahead a read) (sym same) on;
-  needed = needed;
-  front = λ pieces cs text done. inl refl;
-}
-
 pub on_err : {T E P : Type 0} (r : Result T E) → P → OnErr r P
 on_err (Ok x) h = tt
 on_err (Err e) h = h
-
--- which stage an answer tells
-abbrev stage_in : Result Stage RunFault → Stage
-stage_in (Ok stage) = stage
-stage_in (Err fault) = Stopped
-
-abbrev end_in : Stage → End
-end_in Going = Whole
-end_in (Ended end) = end
-end_in Stopped = Whole
-
-abbrev has_ended : Stage → Bool
-has_ended Going = false
-has_ended (Ended end) = true
-has_ended Stopped = false
-
-pub goes_not_on : {X : Type 0} (s : Stage) (end : End) → (let answer : Result Stage RunFault = Ok s in answer) ≡ Ok Going → s ≡ Ended end → X
-goes_not_on s end told is = absurd (false≢true (sym (ap has_ended (ap stage_in told)) ∙ ap has_ended is))
-
-pub has_not_ended : {X : Type 0} (s : Stage) (end : End) → (let answer : Result Stage RunFault = Ok s in answer) ≡ Ok (Ended end) → s ≡ Going → X
-has_not_ended s end told is = absurd (false≢true (sym (ap has_ended is) ∙ ap has_ended (ap stage_in told)))
-
-pub same_end : (s : Stage) (end e : End) → (let answer : Result Stage RunFault = Ok s in answer) ≡ Ok (Ended end) → s ≡ Ended e → e ≡ end
-same_end s end e told is = ap end_in (sym is ∙ ap stage_in told)
 
 pub some_of : {X : Type 0} (P : X → Type 0) (found : Option X) (x : X) → IfSome found P → found ≡ Some x → P x
 some_of P found x h is = subst (λ o. IfSome o P) is h
@@ -153,16 +101,6 @@ take_some n bytes some within = subst (λ l. 0 < l) (sym (length-take-le n bytes
 
 pub take_few : (n most : ℕ) (bytes : List ℕ) → n ≤ most → n ≤ length bytes → length (take n bytes) ≤ most
 take_few n most bytes size within = subst (λ l. l ≤ most) (sym (length-take-le n bytes within)) size
-
--- the input has ended
-pub whole_end : (v : SessionValue) (mid : Ahead) (end : End) (max_reads : ℕ) (pieces cs read : List (List ℕ)) (text : List ℕ)
-    → HasDone v pieces cs text → IsReadOn max_reads v.ahead mid read → (mid.bytes ≡ []) × IsTrue mid.ended
-    → (let answer : Result Stage RunFault = Ok (Ended Whole) in answer) ≡ Ok (Ended end)
-    → HasEnded (record v { ahead = mid }) end (pieces ++ read) text
-whole_end v mid end max_reads pieces cs read text done on over told =
-    let at_end : SessionValue = record v { ahead = mid } in
-    subst (λ e. HasEnded at_end e (pieces ++ read) text) (same_end (Ended Whole) end Whole told refl)
-    (ended_whole v mid max_reads pieces cs read text done on over.0 over.1)
 
 -- what was done does not depend on the stage
 pub restaged : (v : SessionValue) (stage : Stage) (pieces cs : List (List ℕ)) (text : List ℕ) → HasDone v pieces cs text → HasDone (record v { stage = stage }) pieces cs text
@@ -180,23 +118,6 @@ restaged v stage pieces cs text done = record {
   calm = done.calm;
 }
 
-pub left_before : (Gave : List (List ℕ) → Type 0) (Took : List ℕ → Type 0) (v w : SessionValue) (stage : Stage)
-    → IsLeftByFault Gave Took (record v { stage = stage }) w → IsLeftByFault Gave Took v w
-left_before Gave Took v w stage left = record {
-  read = left.read;
-  shown = left.shown;
-  gave = left.gave;
-  took = left.took;
-  read_ahead = left.read_ahead;
-  needed = left.needed;
-  front = λ pieces cs text done. left.front pieces cs text (restaged v stage pieces cs text done);
-}
-
-pub which_end : (s : Stage) → (s ≡ Going → ⊥) → (s ≡ Stopped → ⊥) → (e : End) × (s ≡ Ended e)
-which_end Going h k = absurd (h refl)
-which_end (Ended e) h k = (e, refl)
-which_end Stopped h k = absurd (k refl)
-
 -- which step an answer tells
 abbrev is_more : Result Step RunFault → Bool
 is_more (Ok More) = true
@@ -205,13 +126,3 @@ is_more (Err fault) = false
 
 pub more_is_no_end : {X : Type 0} (r : Result Step RunFault) → r ≡ Ok More → r ≡ Ok step.End → X
 more_is_no_end r more end = absurd (false≢true (sym (ap is_more end) ∙ ap is_more more))
-
-pub end_is_not_more : {X : Type 0} (r : Result Step RunFault) → r ≡ Ok step.End → r ≡ Ok More → X
-end_is_not_more r end more = absurd (false≢true (sym (ap is_more end) ∙ ap is_more more))
-
-ok_is : {T E : Type 0} (x y : T) → (let r : Result T E = Ok x in r) ≡ Ok y → x ≡ y
-ok_is x y h = cc
-
--- an answer has one value
-pub ok_same : {T E : Type 0} (r : Result T E) (x y : T) → r ≡ Ok x → r ≡ Ok y → x ≡ y
-ok_same r x y is told = ok_is x y (sym is ∙ told)

@@ -7,10 +7,12 @@ use Rattle.bz_token.specs.Chunks.{chunks}
 use Rattle.bz_command.specs.Labels.{Package}
 use Rattle.bz_engine.specs.declared.options.Options.{Options}
 use Rattle.bz_devices.specs.Device.{joined}
-use Rattle.bz_devices.specs.Ahead.{Ahead, IsReadOn, IsTooLong, HasTooLong}
+use Rattle.bz_devices.specs.Ahead.{Ahead, IsReadOn, AreNeeded, IsTooLong, HasTooLong}
 use Rattle.bz_engine.specs.EveryFile.{ForEveryFile}
 use Rattle.bz_engine.specs.Outcome.{Script, Run, run_with, Told, IsOutcome, IsFrontOf}
-use Rattle.bz_engine.specs.SessionValue.{SessionValue, run_in, IsSameRun, HasDone, IsCutShort, IsLeftByFault}
+use Rattle.bz_engine.specs.declared.run_fault.RunFault.{RunFault}
+use Rattle.bz_engine.specs.SessionValue.{SessionValue, run_in, IsSameRun, HasDone}
+use Rattle.bz_engine.specs.SessionSteps.{IsCutShort, IsLeftByFault}
 use Rattle.bz_devices.proofs.MoreReads.{joined_more}
 use Rattle.bz_engine.proofs.OneOutcome.{front_of_outcome, one_outcome}
 use Rattle.bz_engine.proofs.Runs.{run_is, reads_for}
@@ -67,18 +69,19 @@ cut_begins v w pieces cs read text shown done on same (inr cut) =
     (begins_less (run_in w) (pieces ++ read) (text ++ shown) (text ++ cut.0) (joined_front text shown cut.0 cut.2)
     (done_begins taken (pieces ++ read) (cs ++ cut.1.chunk ∷ []) (text ++ cut.0) cut.1.done))
 
-pub fault_begins : (Gave : List (List ℕ) → Type 0) (Took : List ℕ → Type 0) (v w : SessionValue) (home : Package) (passes : Script) (options : Options) (pieces cs : List (List ℕ)) (text : List ℕ)
-    → v.home ≡ home → v.passes ≡ passes → v.options ≡ options → HasDone v pieces cs text → IsSameRun v w → (left : IsLeftByFault Gave Took v w)
-    → BeginsAll (run_with home passes options) (pieces ++ left.read) (text ++ left.shown)
-fault_begins Gave Took v w home passes options pieces cs text h p o done same left =
-    subst (λ run. BeginsAll run (pieces ++ left.read) (text ++ left.shown)) (run_is v home passes options h p o)
-    (cut_begins v w pieces cs left.read text left.shown done left.read_ahead same (left.front pieces cs text done))
+pub fault_begins : (v w : SessionValue) (fault : RunFault) (home : Package) (passes : Script) (options : Options) (pieces cs read : List (List ℕ)) (text shown : List ℕ)
+    → v.home ≡ home → v.passes ≡ passes → v.options ≡ options → HasDone v pieces cs text → IsSameRun v w → IsLeftByFault v w read shown fault
+    → BeginsAll (run_with home passes options) (pieces ++ read) (text ++ shown)
+fault_begins v w fault home passes options pieces cs read text shown h p o done same left =
+    subst (λ run. BeginsAll run (pieces ++ read) (text ++ shown)) (run_is v home passes options h p o)
+    (cut_begins v w pieces cs read text shown done left.read_ahead same (left.front pieces cs text done))
 
 -- the reads that were made
-pub fault_reads : (Gave : List (List ℕ) → Type 0) (Took : List ℕ → Type 0) (v w : SessionValue) (home : Package) (passes : Script) (options : Options) (pieces cs : List (List ℕ)) (text : List ℕ)
-    → v.home ≡ home → v.passes ≡ passes → v.options ≡ options → HasDone v pieces cs text → (left : IsLeftByFault Gave Took v w) → AreReads home passes options (pieces ++ left.read)
-fault_reads Gave Took v w home passes options pieces cs text h p o done left =
-    reads_for v home passes options (pieces ++ left.read) h p o (reads_are v w.ahead pieces cs left.read text done left.read_ahead left.needed)
+pub fault_reads : (v w : SessionValue) (fault : RunFault) (home : Package) (passes : Script) (options : Options) (pieces cs read : List (List ℕ)) (text shown : List ℕ)
+    → v.home ≡ home → v.passes ≡ passes → v.options ≡ options → HasDone v pieces cs text → AreNeeded v.options.max_statement v.ahead.bytes read
+    → IsLeftByFault v w read shown fault → AreReads home passes options (pieces ++ read)
+fault_reads v w fault home passes options pieces cs read text shown h p o done needed left =
+    reads_for v home passes options (pieces ++ read) h p o (reads_are v w.ahead pieces cs read text done left.read_ahead needed)
 
 -- where the run had ended, all was written
 pub ended_begins : (run : Run) (pieces : List (List ℕ)) (text : List ℕ) (told : Told)

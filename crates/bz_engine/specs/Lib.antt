@@ -1,6 +1,7 @@
 pub mod Changes
 pub mod Progress
 pub mod SessionValue
+pub mod SessionSteps
 pub mod EveryFile
 pub mod File
 pub mod Meaning
