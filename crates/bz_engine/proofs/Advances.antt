@@ -46,11 +46,11 @@ pub chunk_faulty : (v e : SessionValue) (mid : Ahead) (before following : List �
     → HasDone v pieces cs text → IsReadOn max_reads v.ahead mid read → IsNextChunk most mid n → before ≡ []
     → (let after : SessionValue = record v { ahead = mid; progress = e.progress } in e ≡ after)
     → EditsNext v mid n e.progress before following edited → edited ≡ Faulty fault
-    → HasEnded e (Syntax fault) (pieces ++ read) text
+    → HasEnded e (Syntax fault) (pieces ++ read) cs text
 chunk_faulty v e mid before following edited fault max_reads most n pieces cs read text done on next none at edits is =
     let faulty = edits_as v mid n e.progress before following edited (Faulty fault) edits none is cs done.statements done.kept in
     let with_progress : Progress → SessionValue = λ p. record v { ahead = mid; progress = p } in
-    subst (λ x. HasEnded x (Syntax fault) (pieces ++ read) text) (sym (at ∙ ap with_progress faulty.same))
+    subst (λ x. HasEnded x (Syntax fault) (pieces ++ read) cs text) (sym (at ∙ ap with_progress faulty.same))
     (ended_fault v mid fault max_reads most n pieces cs read text done on next faulty.fault_is)
 
 pub chunk_failed : (v e f : SessionValue) (mid : Ahead) (before following : List ℕ) (edited : Edited) (message : Option (List ℕ)) (max_reads most n : ℕ) (pieces cs read : List (List ℕ)) (text : List ℕ)
@@ -58,10 +58,10 @@ pub chunk_failed : (v e f : SessionValue) (mid : Ahead) (before following : List
     → (let after : SessionValue = record v { ahead = mid; progress = e.progress } in e ≡ after)
     → EditsNext v mid n e.progress before following edited → edited ≡ Failed message
     → (let told : SessionValue = record e { failure = message } in f ≡ told)
-    → HasEnded f FirstFailure (pieces ++ read) text
+    → HasEnded f FirstFailure (pieces ++ read) cs text
 chunk_failed v e f mid before following edited message max_reads most n pieces cs read text done on next none at edits is told =
     let tells : SessionValue → SessionValue = λ x. record x { failure = message } in
-    subst (λ x. HasEnded x FirstFailure (pieces ++ read) text) (sym (told ∙ ap tells at))
+    subst (λ x. HasEnded x FirstFailure (pieces ++ read) cs text) (sym (told ∙ ap tells at))
     (ended_failure v mid e.progress message following max_reads most n pieces cs read text done on next
     (edits_as v mid n e.progress before following edited (Failed message) edits none is cs done.statements done.kept))
 

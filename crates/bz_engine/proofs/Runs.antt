@@ -72,12 +72,14 @@ reads_for v home passes options pieces h p o reads =
     subst (λ x. AreReads home passes x pieces) o (subst (λ x. AreReads home x v.options pieces) p (subst (λ x. AreReads x v.passes v.options pieces) h reads))
 
 -- the session's answer is the outcome of the run that it was made for
-pub outcome_is : (v : SessionValue) (home : Package) (passes : Script) (options : Options) (end : End) (told : Told) (pieces : List (List ℕ)) (text : List ℕ)
-    → v.home ≡ home → v.passes ≡ passes → v.options ≡ options → told ≡ told_at v end → HasEnded v end pieces text
+pub outcome_is : (v : SessionValue) (home : Package) (passes : Script) (options : Options) (end : End) (told : Told) (pieces cs : List (List ℕ)) (text : List ℕ)
+    → v.home ≡ home → v.passes ≡ passes → v.options ≡ options → told ≡ told_at v end → HasEnded v end pieces cs text
     → ForEveryFile pieces (λ file. IsOutcome (run_with home passes options) file text told)
-outcome_is v home passes options end told pieces text h p o is ended =
-    subst (λ run. ForEveryFile pieces (λ file. IsOutcome run file text told)) (run_is v home passes options h p o)
-    (subst (λ x. ForEveryFile pieces (λ file. IsOutcome (run_in v) file text x)) (sym is) ended)
+outcome_is v home passes options end told pieces cs text h p o is ended = record {
+  each = λ rest last.
+      subst (λ run. IsOutcome run (joined pieces ++ rest) text told) (run_is v home passes options h p o)
+      (subst (λ x. IsOutcome (run_in v) (joined pieces ++ rest) text x) (sym is) (ended.each rest last).0);
+}
 
 pub where_ok : {T E : Type 0} {P Q : T → Type 0} (r : Result T E) → ((x : T) → P x → Q x) → IfOk r P → IfOk r Q
 where_ok (Ok x) f h = f x h

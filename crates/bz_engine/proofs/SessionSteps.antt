@@ -36,10 +36,10 @@ IsAtChunk old v = let stopped : SessionValue = record old { stage = Stopped } in
 done_at : (old v : SessionValue) (pieces cs : List (List ℕ)) (text : List ℕ) → IsAtChunk old v → HasDone old pieces cs text → HasDone v pieces cs text
 done_at old v pieces cs text at done = subst (λ x. HasDone x pieces cs text) (sym at) (restaged old Stopped pieces cs text done)
 
-ended_in : (v : SessionValue) (stage : Stage) (end : End) (pieces : List (List ℕ)) (text : List ℕ) → HasEnded v end pieces text → HasEnded (record v { stage = stage }) end pieces text
-ended_in v stage Whole pieces text h = h
-ended_in v stage (Syntax fault) pieces text h = h
-ended_in v stage FirstFailure pieces text h = h
+ended_in : (v : SessionValue) (stage : Stage) (end : End) (pieces cs : List (List ℕ)) (text : List ℕ) → HasEnded v end pieces cs text → HasEnded (record v { stage = stage }) end pieces cs text
+ended_in v stage Whole pieces cs text h = h
+ended_in v stage (Syntax fault) pieces cs text h = h
+ended_in v stage FirstFailure pieces cs text h = h
 
 -- a chunk was done, written and taken
 pub adds_one : (old v e f new : SessionValue) (before following : List ℕ) (next : NextChunk) (read : List (List ℕ)) → IsAtChunk old v
@@ -70,7 +70,7 @@ ends_run : (old v f new : SessionValue) (end : End) (read : List (List ℕ)) →
     → IsReadOn v.options.max_reads v.ahead f.ahead read → AreNeeded v.options.max_statement v.ahead.bytes read → IsSameRun v f
     → (IsTooLong v.options.max_statement f.ahead → ⊥)
     → (let there : SessionValue = record f { stage = Ended end } in new ≡ there)
-    → ((pieces cs : List (List ℕ)) (text : List ℕ) → HasDone v pieces cs text → HasEnded f end (pieces ++ read) text)
+    → ((pieces cs : List (List ℕ)) (text : List ℕ) → HasDone v pieces cs text → HasEnded f end (pieces ++ read) cs text)
     → EndsRun old new read
 ends_run old v f new end read at on needed same fits there ended = record {
   end = end;
@@ -80,7 +80,7 @@ ends_run old v f new end read at on needed same fits there ended = record {
       let done = done_at old v pieces cs text at before in (
         reads_for v new.home new.passes new.options (pieces ++ read) (sym (ap (λ x. x.home) there ∙ same.home)) (sym (ap (λ x. x.passes) there ∙ same.passes))
             (sym (ap (λ x. x.options) there ∙ same.options)) (reads_are v f.ahead pieces cs read text done on needed),
-        subst (λ x. HasEnded x end (pieces ++ read) text) (sym there) (ended_in f (Ended end) end (pieces ++ read) text (ended pieces cs text done)),
+        subst (λ x. HasEnded x end (pieces ++ read) cs text) (sym there) (ended_in f (Ended end) end (pieces ++ read) cs text (ended pieces cs text done)),
       );
 }
 
@@ -97,7 +97,7 @@ pub ends_whole : (old v e new : SessionValue) (read : List (List ℕ)) → IsAtC
 ends_whole old v e new read at on needed none after there =
     let with_progress : Progress → SessionValue = λ p. record v { ahead = e.ahead; progress = p } in
     ends_run old v e new Whole read at on needed (same_after v e after) (nothing_fits v.options.max_statement e.ahead none.1) there
-    (λ pieces cs text done. subst (λ x. HasEnded x Whole (pieces ++ read) text) (sym (after ∙ ap with_progress none.0))
+    (λ pieces cs text done. subst (λ x. HasEnded x Whole (pieces ++ read) cs text) (sym (after ∙ ap with_progress none.0))
     (ended_whole v e.ahead v.options.max_reads pieces cs read text done on none.1 none.2))
 
 -- at a chunk with a fault

@@ -89,33 +89,33 @@ told_whole run cs ss p kept =
 -- the input has ended
 pub ended_whole : (v : SessionValue) (mid : Ahead) (max_reads : ℕ) (pieces cs read : List (List ℕ)) (text : List ℕ)
     → HasDone v pieces cs text → IsReadOn max_reads v.ahead mid read → mid.bytes ≡ [] → IsTrue mid.ended
-    → HasEnded (record v { ahead = mid }) Whole (pieces ++ read) text
+    → HasEnded (record v { ahead = mid }) Whole (pieces ++ read) cs text
 ended_whole v mid max_reads pieces cs read text done on nothing over = record {
   each = λ rest last.
       let none : rest ≡ [] = last (subst IsTrue (ended_on v mid max_reads pieces cs read text done on) over) in
       let all : chunks (joined (pieces ++ read) ++ rest) ≡ cs =
       read_on v mid max_reads pieces cs read text done on rest (λ h. none) ∙ ap (λ l. cs ++ chunks (l ++ rest)) nothing ∙ ap (λ l. cs ++ chunks l) none ∙ append-nil cs in
-      inl (record {
+      (inl (record {
         statements = done.statements;
         fault = None;
         read = subst (λ l. Give v.options.max_depth 1 l done.statements None) (sym all) done.kept.read;
         calm = λ h. sym done.kept.left.failed ∙ done.calm h;
         text_is = done.text_is;
         told_is = told_whole (run_in v) cs done.statements v.progress done.kept;
-      });
+      }), all);
 }
 
 -- a chunk has a fault
 pub ended_fault : (v : SessionValue) (mid : Ahead) (fault : SyntaxFault) (max_reads most n : ℕ) (pieces cs read : List (List ℕ)) (text : List ℕ)
     → HasDone v pieces cs text → IsReadOn max_reads v.ahead mid read → IsNextChunk most mid n
     → Gives v.options.max_depth v.progress.line (take n mid.bytes) (Err fault)
-    → HasEnded (record v { ahead = mid }) (Syntax fault) (pieces ++ read) text
+    → HasEnded (record v { ahead = mid }) (Syntax fault) (pieces ++ read) cs text
 ended_fault v mid fault max_reads most n pieces cs read text done on next gives = record {
   each = λ rest last.
       let over : IsTrue mid.ended → rest ≡ [] = λ h. last (subst IsTrue (ended_on v mid max_reads pieces cs read text done on) h) in
       let all : chunks (joined (pieces ++ read) ++ rest) ≡ cs ++ take n mid.bytes ∷ chunks (drop n mid.bytes ++ rest) =
       chunk_taken cs mid.bytes rest (joined (pieces ++ read) ++ rest) n (read_on v mid max_reads pieces cs read text done on rest over) (next.ends rest over) in
-      inl (record {
+      (inl (record {
         statements = done.statements;
         fault = Some fault;
         read = subst (λ l. Give v.options.max_depth 1 l done.statements (Some fault)) (sym all)
@@ -123,21 +123,21 @@ ended_fault v mid fault max_reads most n pieces cs read text done on next gives 
         calm = λ h. sym done.kept.left.failed ∙ done.calm h;
         text_is = done.text_is;
         told_is = ap (λ b. told_alone (fault_text fault ∷ []) b (Syntax fault)) done.kept.left.changed;
-      });
+      }), (take n mid.bytes, chunks (drop n mid.bytes ++ rest), all));
 }
 
 -- an execution fails on a chunk's statement, and failures end the run
 pub ended_failure : (v : SessionValue) (mid : Ahead) (progress : Progress) (message : Option (List ℕ)) (after : List ℕ) (max_reads most n : ℕ) (pieces cs read : List (List ℕ)) (text : List ℕ)
     → HasDone v pieces cs text → IsReadOn max_reads v.ahead mid read → IsNextChunk most mid n
     → IsFailed (run_in v) (take n mid.bytes) message v.progress progress [] after
-    → HasEnded (record v { ahead = mid; progress = progress; failure = message }) FirstFailure (pieces ++ read) text
+    → HasEnded (record v { ahead = mid; progress = progress; failure = message }) FirstFailure (pieces ++ read) cs text
 ended_failure v mid progress message after max_reads most n pieces cs read text done on next failed = record {
   each = λ rest last.
       let over : IsTrue mid.ended → rest ≡ [] = λ h. last (subst IsTrue (ended_on v mid max_reads pieces cs read text done on) h) in
       let all : chunks (joined (pieces ++ read) ++ rest) ≡ cs ++ take n mid.bytes ∷ chunks (drop n mid.bytes ++ rest) =
       chunk_taken cs mid.bytes rest (joined (pieces ++ read) ++ rest) n (read_on v mid max_reads pieces cs read text done on rest over) (next.ends rest over) in
       let calm : v.progress.failed ≡ false = done.calm failed.ends in
-      inr (record {
+      (inr (record {
         ends = failed.ends;
         before = done.statements;
         statement = failed.statement;
@@ -152,7 +152,7 @@ ended_failure v mid progress message after max_reads most n pieces cs read text 
         text_is = done.text_is;
         told_is = ap (λ l. told_alone l progress.changed FirstFailure) (failed.message_is calm)
             ∙ ap (λ b. told_alone (first_of (failures_at v.home v.passes failed.statement)) b FirstFailure) (failed.changed ∙ done.kept.left.changed);
-      });
+      }), (take n mid.bytes, chunks (drop n mid.bytes ++ rest), all));
 }
 
 -- a stopped session keeps to little

@@ -48,7 +48,7 @@ pub record EndsRun (old new : SessionValue) (read : List (List ℕ)) : Type 0 wh
   pub ended : new.stage ≡ stage.Ended end
   pub fits : IsTooLong new.options.max_statement new.ahead → ⊥
   pub outcome : (pieces cs : List (List ℕ)) (text : List ℕ) → HasDone old pieces cs text
-      → AreReads new.home new.passes new.options (pieces ++ read) × HasEnded new end (pieces ++ read) text
+      → AreReads new.home new.passes new.options (pieces ++ read) × HasEnded new end (pieces ++ read) cs text
 
 -- The next chunk, the first of the bytes ahead, is done but not taken: this text is what it adds.
 pub record IsNextText (v : SessionValue) (pieces cs : List (List ℕ)) (text next : List ℕ) : Type 0 where

@@ -88,10 +88,16 @@ told_at v Whole = told_of_progress v.home v.passes v.progress
 told_at v (Syntax fault) = told_alone (fault_text fault ∷ []) v.progress.changed (Syntax fault)
 told_at v FirstFailure = told_alone (option_to_list v.failure) v.progress.changed FirstFailure
 
--- Reads gave these pieces and this text was written: with what the session tells at this end it is the outcome for every file that begins with the
--- pieces, where the end was met for that file alone.
-abbrev pub HasEnded : SessionValue → End → List (List ℕ) → List ℕ → Type 0
-HasEnded v end pieces text = ForEveryFile pieces (λ file. IsOutcome (run_in v) file text (told_at v end))
+-- These are all chunks of the file; or where it did not end the run, those before the one that did.
+abbrev pub AreBefore : End → List (List ℕ) → List ℕ → Type 0
+AreBefore Whole cs file = chunks file ≡ cs
+AreBefore (Syntax fault) cs file = (chunk : List ℕ) × (others : List (List ℕ)) × (chunks file ≡ cs ++ chunk ∷ others)
+AreBefore FirstFailure cs file = (chunk : List ℕ) × (others : List (List ℕ)) × (chunks file ≡ cs ++ chunk ∷ others)
+
+-- Reads gave these pieces, these chunks were done and this text was written: with what the session tells at this end it is the outcome for every file
+-- that begins with the pieces, where the end was met for that file alone. No chunk was looked at but those and the one after them.
+abbrev pub HasEnded : SessionValue → End → List (List ℕ) → List (List ℕ) → List ℕ → Type 0
+HasEnded v end pieces cs text = ForEveryFile pieces (λ file. IsOutcome (run_in v) file text (told_at v end) × AreBefore end cs file)
 
 -- it can take a chunk
 pub record IsReady (v : SessionValue) : Type 0 where

@@ -268,7 +268,7 @@ impl Session {
     {
         let mut may_read = true;
         loop {
-            match self.edit_first(text)? {
+            match self.edit_ahead(text)? {
                 First::Edited(next) => return Ok(Some(next)),
                 First::Short if may_read => {
                     let line = self.progress.line;
@@ -309,7 +309,7 @@ impl Session {
     }
 
     /// The script on the first chunk of the text ahead.
-    fn edit_first(&mut self, text: &mut Vec<u8>) -> Result<First, AllocError>
+    fn edit_ahead(&mut self, text: &mut Vec<u8>) -> Result<First, AllocError>
         requires stopped { self.old.stage ≡ Stopped }
         requires ready { CanTake self.old }
         ensures same { self.new ≡ record self.old { progress = self.new.progress } }

@@ -53,13 +53,14 @@ module _ {S W : Type 0} (gave : S → List (List ℕ) → S → Type 0) (took : 
     pub come_to : (s s1 s2 : S) (w w1 w2 : W) (count : ℕ) (v1 v2 : SessionValue) (read pieces cs : List (List ℕ)) (text : List ℕ)
         → HasManyMore count (λ read. gave s read s1) (λ shown. took w shown w1) v1 pieces cs text
         → gave s1 read s2 → w2 ≡ w1 → (over : EndsRun v1 v2 read)
-        → HasComeTo over.end (λ read. gave s read s2) (λ shown. took w shown w2) v2 pieces text
+        → HasComeTo over.end (λ read. gave s read s2) (λ shown. took w shown w2) v2 pieces cs text
     come_to s s1 s2 w w1 w2 count v1 v2 read pieces cs text before given same over = record {
       read = before.read ++ read;
+      chunks = before.chunks;
       shown = before.shown;
       gave = gave_more s s1 s2 before.read read before.gave given;
       took = subst (λ x. took w before.shown x) (sym same) before.took;
-      ended = subst (λ ps. HasEnded v2 over.end ps (text ++ before.shown)) (append_assoc pieces before.read read)
+      ended = subst (λ ps. HasEnded v2 over.end ps (cs ++ before.chunks) (text ++ before.shown)) (append_assoc pieces before.read read)
           (over.outcome (pieces ++ before.read) (cs ++ before.chunks) (text ++ before.shown) before.done).1;
     }
 

@@ -99,7 +99,7 @@ returns-in-End-clause-outcome g c =
       g.met.S.Source.gave_more _ _ _ _ _ inv.gave step.gave,
       wrote,
       reads_for c.step.new.self _ _ _ (inv.pieces ++ step.read) (same.home ∙ inv.home) (same.passes ∙ inv.passes) (same.options ∙ inv.options) over.0,
-      outcome_is c.step.new.self c.args.home c.args.passes.items c.args.options end.end (told_by report) (inv.pieces ++ step.read) inv.text
+      outcome_is c.step.new.self c.args.home c.args.passes.items c.args.options end.end (told_by report) (inv.pieces ++ step.read) inv.cs inv.text
           (same.home ∙ inv.home) (same.passes ∙ inv.passes) (same.options ∙ inv.options) told over.1,
     ))
     (c.finish.ensures.report end.end end.ended)
@@ -152,7 +152,7 @@ returns-in-End-clause-front g c =
     wrote
     (reads_for c.step.new.self _ _ _ (inv.pieces ++ step.read) (same.home ∙ inv.home) (same.passes ∙ inv.passes) (same.options ∙ inv.options) over.0)
     (ended_begins (run_with c.args.home c.args.passes.items c.args.options) (inv.pieces ++ step.read) inv.text (told_at c.step.new.self end.end)
-    (outcome_is c.step.new.self c.args.home c.args.passes.items c.args.options end.end (told_at c.step.new.self end.end) (inv.pieces ++ step.read) inv.text
+    (outcome_is c.step.new.self c.args.home c.args.passes.items c.args.options end.end (told_at c.step.new.self end.end) (inv.pieces ++ step.read) inv.cs inv.text
     (same.home ∙ inv.home) (same.passes ∙ inv.passes) (same.options ∙ inv.options) refl over.1)))
 
 pub returns-in_err-step-clause-statement_too_long : goal.returns-in_err-step-clause-statement_too_long

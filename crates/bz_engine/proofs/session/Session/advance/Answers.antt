@@ -1,4 +1,4 @@
-use Rattle.std.proofs.Common.{◌≡◌, refl, ◌∙◌, ap, sym, subst, take, Err, [], List}
+use Rattle.std.proofs.Common.{◌≡◌, refl, ◌∙◌, ap, subst, take, []}
 use Rattle.std.specs.Prelude.{IsTrue}
 use Rattle.std.proofs.lemmas.Result.{err_from_is_err_and}
 use Rattle.bz_devices.proofs.PassedOn.{err_is}

@@ -42,4 +42,4 @@ pub returns-clause-steps : goal.returns-clause-steps
 returns-clause-steps g c going = c.advance.ensures.steps
 
 pub advance-requires : goal.advance-requires
-advance-requires g c = stage_is _ _ _ c.self.view_is c.in-Going.is
+advance-requires g c = record { going = stage_is _ _ _ c.self.view_is c.in-Going.is }
