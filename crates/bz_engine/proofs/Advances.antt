@@ -1,6 +1,6 @@
 -- A chunk that a session takes: it is done, it has a fault, or the run ends at its failure.
-use Rattle.std.proofs.Common.{◌≡◌, ℕ, ◌<◌, ◌≤◌, Bool, true, false, List, [], ◌∷◌, ◌++◌, length, take, drop, take-append-drop, refl, sym, ◌∙◌, ap, subst, inl, inr}
-use Rattle.std.specs.Prelude.{IsTrue, Option, None, Some, Result, Ok, Err, IfSome, IfNone, OnErr}
+use Rattle.std.proofs.Common.{◌≡◌, ℕ, ◌<◌, ◌≤◌, Bool, true, false, List, [], ◌∷◌, ◌++◌, length, take, drop, take-append-drop, refl, sym, ◌∙◌, ap, subst, inr}
+use Rattle.std.specs.Prelude.{Option, None, Some, Result, Ok, Err, IfSome, IfNone, OnErr}
 use Rattle.std.proofs.lemmas.Bool.{false≢true}
 use Rattle.std.proofs.lemmas.List.{length-take-le}
 use Rattle.bz_engine.specs.declared.run_fault.RunFault.{RunFault}
@@ -8,10 +8,8 @@ use Rattle.bz_engine.specs.declared.session.Stage.{Stage}
 use Rattle.bz_engine.specs.declared.session.Step.{Step}
 use Rattle.bz_engine.specs.declared.session.Step.TheVariants.{More}
 use Rattle.bz_engine.specs.declared.session.Step.TheVariants as step
-use Rattle.bz_engine.specs.declared.session.Stage.TheVariants.{Going, Ended, Stopped}
 use Rattle.bz_engine.specs.declared.report.SyntaxFault.{SyntaxFault}
-use Rattle.bz_engine.specs.declared.report.End.{End}
-use Rattle.bz_engine.specs.declared.report.End.TheVariants.{Whole, Syntax, FirstFailure}
+use Rattle.bz_engine.specs.declared.report.End.TheVariants.{Syntax, FirstFailure}
 use Rattle.bz_engine.specs.declared.edit.Edited.{Edited}
 use Rattle.bz_engine.specs.declared.edit.Edited.TheVariants.{Done, Faulty, Failed}
 use Rattle.bz_devices.specs.Ahead.{Ahead, IsReadOn, AreNeeded, IsNextChunk}
@@ -19,7 +17,7 @@ use Rattle.bz_engine.specs.Progress.{Progress}
 use Rattle.bz_engine.specs.private.Edits.{EditsChunk}
 use Rattle.bz_engine.specs.SessionSteps.{IsCutShort}
 use Rattle.bz_engine.specs.SessionValue.{SessionValue, run_in, HasDone, HasEnded}
-use Rattle.bz_engine.proofs.Sessions.{went_on, ended_whole, ended_fault, ended_failure}
+use Rattle.bz_engine.proofs.Sessions.{went_on, ended_fault, ended_failure}
 
 -- what the script made of the chunk
 abbrev EditsNext : SessionValue → Ahead → ℕ → Progress → List ℕ → List ℕ → Edited → Type 0

@@ -9,7 +9,7 @@ use Rattle.bz_devices.specs.Device.{joined, NoneEnds, NoneAfterEnd}
 use Rattle.bz_devices.specs.Ahead.{Ahead, IsReadOn, IsUndecided, AreNeeded}
 use Rattle.bz_devices.proofs.MoreReads.{joined_more, none_ends_more, file_more}
 use Rattle.bz_engine.specs.declared.options.Options.{Options}
-use Rattle.bz_engine.specs.Outcome.{Script, Run, run_with}
+use Rattle.bz_engine.specs.Outcome.{Script, Run}
 use Rattle.bz_engine.specs.NeededReads.{IsOneNeeded, AreNeededAfter, AreReads}
 use Rattle.bz_engine.specs.SessionValue.{SessionValue, run_in, HasDone}
 

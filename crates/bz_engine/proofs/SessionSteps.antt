@@ -1,12 +1,10 @@
 -- What a step did: it took a chunk, came to the end, or left a fault.
-use Rattle.std.proofs.Common.{◌≡◌, ◌≢◌, ℕ, ◌+◌, ◌*◌, ◌≤◌, Bool, true, false, List, [], ◌∷◌, ◌++◌, length, take, drop, take-append-drop, refl, sym, ◌∙◌, ap, subst, inl, inr}
-use Rattle.std.specs.Prelude.{IsTrue, Option, Some, None, Result, Ok, Err}
-use Rattle.std.proofs.lemmas.Bool.{false≢true}
-use Rattle.bz_devices.specs.Device.{joined, Rises, IsCounted}
-use Rattle.bz_devices.specs.Ahead.{Ahead, IsReadOn, AreNeeded, IsNextChunk, IsTooLong}
+use Rattle.std.proofs.Common.{◌≡◌, ◌≢◌, ℕ, ◌≤◌, List, [], ◌∷◌, ◌++◌, length, take, drop, refl, sym, ◌∙◌, ap, subst, inl}
+use Rattle.std.specs.Prelude.{IsTrue, Option, Result, Ok, Err}
+use Rattle.bz_devices.specs.Device.{Rises}
+use Rattle.bz_devices.specs.Ahead.{IsReadOn, AreNeeded, IsTooLong}
 use Rattle.bz_devices.proofs.ChunkAhead.{next_fits, nothing_fits}
 use Rattle.bz_devices.proofs.PassedOn.{err_is}
-use Rattle.bz_engine.specs.declared.edit.Edited.{Edited}
 use Rattle.bz_engine.specs.declared.edit.Edited.TheVariants.{Done, Faulty, Failed}
 use Rattle.bz_engine.specs.declared.next_chunk.NextChunk.{NextChunk}
 use Rattle.bz_engine.specs.declared.report.End.{End}
@@ -20,7 +18,6 @@ use Rattle.bz_engine.specs.declared.session.Stage.TheVariants.{Going, Ended, Sto
 use Rattle.bz_engine.specs.declared.session.Step.{Step}
 use Rattle.bz_engine.specs.declared.session.Step.TheVariants as step
 use Rattle.bz_engine.specs.Progress.{Progress}
-use Rattle.bz_engine.specs.NeededReads.{AreReads}
 use Rattle.bz_engine.specs.SessionValue.{SessionValue, IsSameRun, HasDone, HasEnded}
 use Rattle.bz_engine.specs.SessionSteps.{Reader, Writer, reader, writer, AddsOne, EndsRun, IsCutShort, Tells, IsLeftByFault, Did, Steps}
 use Rattle.bz_engine.specs.private.Finds.{Finds}

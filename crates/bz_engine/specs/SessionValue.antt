@@ -1,5 +1,5 @@
 -- What a contract sees of a session, and what its answers say of the file.
-use Rattle.std.specs.Prelude.{◌≡◌, ◌≢◌, ℕ, ◌+◌, ◌*◌, ◌^◌, ◌<◌, ◌≤◌, Bool, true, false, ◌||◌, ◌⊎◌, IsTrue, List, [], ◌∷◌, ◌++◌, length, map, Option, None, option_to_list, Result, Err, OnErr}
+use Rattle.std.specs.Prelude.{◌≡◌, ℕ, ◌+◌, ◌*◌, ◌^◌, ◌≤◌, Bool, true, false, ◌||◌, IsTrue, List, [], ◌∷◌, ◌++◌, length, map, Option, None, option_to_list}
 use Rattle.std.specs.List.{concat, flat_map}
 use Rattle.bz_token.specs.Chunks.{chunks}
 use Rattle.bz_tree.specs.Tree.{Statement}
@@ -7,19 +7,17 @@ use Rattle.bz_command.specs.Labels.{Package}
 use Rattle.bz_engine.specs.declared.options.Options.{Options}
 use Rattle.bz_engine.specs.declared.report.End.{End}
 use Rattle.bz_engine.specs.declared.report.End.TheVariants.{Whole, Syntax, FirstFailure}
-use Rattle.bz_engine.specs.declared.run_fault.RunFault.{RunFault}
-use Rattle.bz_engine.specs.declared.run_fault.RunFault.TheVariants.{OutOfMemory, ReadFailed, WriteFailed, InputTooLong, StatementTooLong, Stopped}
 use Rattle.bz_engine.specs.declared.session.Stage.{Stage}
 use Rattle.bz_engine.specs.declared.session.Stage.TheVariants.{Going, Ended}
-use Rattle.bz_devices.specs.Device.{joined, ends, NoneEnds, Rises}
-use Rattle.bz_devices.specs.Ahead.{Ahead, IsReadOn, AreNeeded, IsTooLong, IsUncertain}
+use Rattle.bz_devices.specs.Device.{joined, ends, NoneEnds}
+use Rattle.bz_devices.specs.Ahead.{Ahead}
 use Rattle.bz_engine.specs.EveryFile.{ForEveryFile}
 use Rattle.bz_passes.specs.Exchange.{no_slot, told, some_not_found, Fits}
 use Rattle.bz_engine.specs.Progress.{Progress, IsKeptOf}
 use Rattle.bz_engine.specs.Meaning.{meaning}
 use Rattle.bz_engine.specs.Messages.{fault_text}
-use Rattle.bz_engine.specs.Outcome.{Script, Run, run_with, Told, IsOutcome, IsFrontOf, text_after}
-use Rattle.bz_engine.specs.NeededReads.{AreNeededAfter, AreReads}
+use Rattle.bz_engine.specs.Outcome.{Script, Run, run_with, Told, IsOutcome, text_after}
+use Rattle.bz_engine.specs.NeededReads.{AreNeededAfter}
 use Rattle.bz_passes.specs.Entries.{line_text, message_text}
 
 -- The package, the passes and the options; what is kept of the chunks that are done; the bytes ahead, with the reads made and whether the end

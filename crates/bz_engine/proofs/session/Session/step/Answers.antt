@@ -1,4 +1,4 @@
-use Rattle.std.proofs.Common.{◌≡◌, refl}
+use Rattle.std.proofs.Common.{refl}
 use Rattle.bz_engine.proofs.Stages.{going_not_ended, going_not_stopped, ended_not_stopped, stage_is}
 use Rattle.bz_engine.proofs.session.Session.step.Goals as goal
 
