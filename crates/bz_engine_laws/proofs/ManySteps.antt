@@ -1,5 +1,5 @@
 -- Steps one after another: what is done after each, together.
-use Rattle.std.proofs.Common.{◌≡◌, ℕ, ◌+◌, List, [], ◌∷◌, ◌++◌, ◌≤◌, length, refl, sym, ap, ◌∙◌, subst, append-nil, append_assoc, length-append}
+use Rattle.std.proofs.Common.{◌≡◌, ℕ, ◌+◌, List, [], ◌∷◌, ◌++◌, refl, sym, ap, ◌∙◌, subst, append-nil, append_assoc, length-append}
 use Rattle.bz_engine.specs.SessionValue.{SessionValue, HasDone, HasEnded}
 use Rattle.bz_engine.specs.SessionSteps.{AddsOne, EndsRun}
 use Rattle.std.specs.Prelude.{Result, Ok, Err}
