@@ -4,14 +4,14 @@ use Rattle.std.specs.Prelude.{IsTrue, ◌||◌}
 use Rattle.std.proofs.lemmas.Bool.{false≢true}
 use Rattle.std.proofs.lemmas.List.{drop-append-le, take-append-le}
 use Rattle.std.proofs.lemmas.List.Concat.{flat_map-append}
-use Rattle.bz_devices.specs.Device.{joined, ends, NoneEnds, Rises}
+use Rattle.bz_devices.specs.Device.{joined, ends, NoneEnds, NoneAfterEnd, Rises}
 use Rattle.bz_devices.specs.DeviceLaws.{ends-append}
 use Rattle.bz_devices.specs.Ahead.{Ahead, IsReadOn, MayFollow, IsUndecided, AreNeeded}
 
 -- no read
 pub read_nothing : (max : ℕ) (ahead : Ahead) → ahead.reads ≤ max → IsReadOn max ahead ahead []
 read_nothing max ahead within =
-    record { bytes = sym (append-nil ahead.bytes); reads = omega arith; within = within; ended = or_false ahead.ended; stays = λ _. refl; none_ends = λ _. tt; few = omega arith }
+    record { bytes = sym (append-nil ahead.bytes); reads = omega arith; within = within; ended = or_false ahead.ended; stays = λ _. refl; none_ends = λ _. tt; none_after = tt; few = omega arith }
   where
     or_false : (b : Bool) → b ≡ (b || false)
     or_false true = refl
@@ -41,6 +41,7 @@ read_once max most old new items all piece start text_len reads n ended view mad
       ended = ap (λ k. k == 0) size ∙ met_end piece ∙ ap (λ b. b || ends (piece ∷ [])) (sym before);
       stays = λ h. absurd (false≢true (sym before ∙ h));
       none_ends = λ h. (some_bytes piece (ap (λ k. k == 0) (sym size) ∙ h), tt);
+      none_after = tt;
       few = omega (arith, whole, size, within, few);
     } in (
       subst (λ a. IsReadOn max a new (piece ∷ [])) view (subst (λ a. IsReadOn max (record { bytes = drop start items; reads = reads; ended = ended }) a (piece ∷ [])) (sym made) is),
@@ -58,6 +59,16 @@ read_once max most old new items all piece start text_len reads n ended view mad
 none_append : (xs ys : List (List ℕ)) → NoneEnds xs → NoneEnds ys → NoneEnds (xs ++ ys)
 none_append [] ys h k = k
 none_append (x ∷ xs) ys h k = (h.0, none_append xs ys h.1 k)
+
+after_append : (xs ys : List (List ℕ)) → NoneEnds xs → NoneAfterEnd ys → NoneAfterEnd (xs ++ ys)
+after_append [] ys h k = k
+after_append (x ∷ []) [] h k = tt
+after_append (x ∷ []) (y ∷ ys) h k = (h.0, k)
+after_append (x ∷ (z ∷ xs)) ys h k = (h.0, after_append (z ∷ xs) ys h.1 k)
+
+after_then : (b : Bool) (xs ys : List (List ℕ)) → NoneAfterEnd xs → NoneAfterEnd ys → (b ≡ false → NoneEnds xs) → (IsTrue b → ys ≡ []) → NoneAfterEnd (xs ++ ys)
+after_then true xs ys h k none stays = subst (λ l. NoneAfterEnd (xs ++ l)) (sym (stays refl)) (subst NoneAfterEnd (sym (append-nil xs)) h)
+after_then false xs ys h k none stays = after_append xs ys (none refl) k
 
 ended_then : (a b c : Bool) (xs ys : List (List ℕ)) → b ≡ (a || ends xs) → c ≡ (b || ends ys) → (IsTrue b → ys ≡ []) → c ≡ (a || ends (xs ++ ys))
 ended_then a b c xs [] first second stays = second ∙ or_false b ∙ first ∙ ap (λ l. a || ends l) (sym (append-nil xs))
@@ -97,6 +108,7 @@ read_then max a b c xs ys first second =
           cc;
       none_ends = λ h.
           none_append xs ys (first.none_ends (or_left b.ended (ends ys) c.ended second.ended h)) (second.none_ends h);
+      none_after = after_then b.ended xs ys first.none_after second.none_after first.none_ends second.stays;
       few = omega (arith, first.few, second.few, ap length all, length-append (joined xs) (joined ys), length-append xs ys);
     }
 

@@ -4,7 +4,7 @@ use Rattle.std.specs.List.{concat}
 use Rattle.bz_token.specs.Places.{line_at}
 use Rattle.bz_token.specs.Chunks.{chunks}
 use Rattle.bz_token.specs.Cuts.{EndsBefore}
-use Rattle.bz_devices.specs.Device.{joined, ends, NoneEnds}
+use Rattle.bz_devices.specs.Device.{joined, ends, NoneEnds, NoneAfterEnd}
 
 -- what was read and not yet taken, how many reads were made, and whether one met the end of the input
 pub record Ahead : Type 0 where
@@ -20,6 +20,7 @@ pub record IsReadOn (max_reads : ℕ) (old new : Ahead) (pieces : List (List ℕ
   pub ended : new.ended ≡ (old.ended || ends pieces)
   pub stays : IsTrue old.ended → pieces ≡ []
   pub none_ends : new.ended ≡ false → NoneEnds pieces
+  pub none_after : NoneAfterEnd pieces
   pub few : length (joined pieces) ≤ 8192 * length pieces
 
 -- what may follow the bytes ahead: nothing, where the end was met

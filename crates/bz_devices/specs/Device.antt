@@ -19,6 +19,12 @@ abbrev pub NoneEnds : List (List ℕ) → Type 0
 NoneEnds [] = ⊤
 NoneEnds (piece ∷ pieces) = (0 < length piece) × NoneEnds pieces
 
+-- none of these reads was made after one that met the end
+abbrev pub NoneAfterEnd : List (List ℕ) → Type 0
+NoneAfterEnd [] = ⊤
+NoneAfterEnd (piece ∷ []) = ⊤
+NoneAfterEnd (piece ∷ (next ∷ pieces)) = (0 < length piece) × NoneAfterEnd (next ∷ pieces)
+
 -- a count of failures rose, or stood at its greatest value
 pub record Rises (old new : ℕ) : Type 0 where
   pub grows : old ≤ new

@@ -1,6 +1,6 @@
 -- A chunk that a session takes: it is done, it has a fault, or the run ends at its failure.
-use Rattle.std.proofs.Common.{◌≡◌, ℕ, ◌<◌, ◌≤◌, Bool, true, false, List, [], ◌∷◌, ◌++◌, length, take, drop, take-append-drop, refl, sym, ◌∙◌, ap, subst, inl, inr}
-use Rattle.std.specs.Prelude.{IsTrue, Option, None, Some, Result, Ok, Err, IfSome, IfNone, OnErr}
+use Rattle.std.proofs.Common.{◌≡◌, ℕ, ◌<◌, ◌≤◌, Bool, true, false, List, [], ◌∷◌, ◌++◌, length, take, drop, take-append-drop, refl, sym, ◌∙◌, ap, subst, inr}
+use Rattle.std.specs.Prelude.{Option, None, Some, Result, Ok, Err, IfSome, IfNone, OnErr}
 use Rattle.std.proofs.lemmas.Bool.{false≢true}
 use Rattle.std.proofs.lemmas.List.{length-take-le}
 use Rattle.bz_engine.specs.declared.run_fault.RunFault.{RunFault}
@@ -8,17 +8,16 @@ use Rattle.bz_engine.specs.declared.session.Stage.{Stage}
 use Rattle.bz_engine.specs.declared.session.Step.{Step}
 use Rattle.bz_engine.specs.declared.session.Step.TheVariants.{More}
 use Rattle.bz_engine.specs.declared.session.Step.TheVariants as step
-use Rattle.bz_engine.specs.declared.session.Stage.TheVariants.{Going, Ended, Stopped}
 use Rattle.bz_engine.specs.declared.report.SyntaxFault.{SyntaxFault}
-use Rattle.bz_engine.specs.declared.report.End.{End}
-use Rattle.bz_engine.specs.declared.report.End.TheVariants.{Whole, Syntax, FirstFailure}
+use Rattle.bz_engine.specs.declared.report.End.TheVariants.{Syntax, FirstFailure}
 use Rattle.bz_engine.specs.declared.edit.Edited.{Edited}
 use Rattle.bz_engine.specs.declared.edit.Edited.TheVariants.{Done, Faulty, Failed}
-use Rattle.bz_devices.specs.Ahead.{Ahead, IsReadOn, IsNextChunk}
+use Rattle.bz_devices.specs.Ahead.{Ahead, IsReadOn, AreNeeded, IsNextChunk}
 use Rattle.bz_engine.specs.Progress.{Progress}
 use Rattle.bz_engine.specs.private.Edits.{EditsChunk}
-use Rattle.bz_engine.specs.SessionValue.{SessionValue, run_in, HasDone, IsCutShort, IsLeftByFault, HasEnded}
-use Rattle.bz_engine.proofs.Sessions.{went_on, ended_whole, ended_fault, ended_failure}
+use Rattle.bz_engine.specs.SessionSteps.{IsCutShort}
+use Rattle.bz_engine.specs.SessionValue.{SessionValue, run_in, HasDone, HasEnded}
+use Rattle.bz_engine.proofs.Sessions.{went_on, ended_fault, ended_failure}
 
 -- what the script made of the chunk
 abbrev EditsNext : SessionValue → Ahead → ℕ → Progress → List ℕ → List ℕ → Edited → Type 0
@@ -30,26 +29,26 @@ edits_as v mid n after before following edited kind edits none is =
     subst (EditsNext v mid n after [] following) is (subst (λ b. EditsNext v mid n after b following edited) none edits)
 
 pub chunk_done : (v e f : SessionValue) (mid : Ahead) (before following : List ℕ) (edited : Edited) (max_reads most n : ℕ) (pieces cs read : List (List ℕ)) (text : List ℕ)
-    → HasDone v pieces cs text → IsReadOn max_reads v.ahead mid read → IsNextChunk most mid n → before ≡ []
+    → HasDone v pieces cs text → IsReadOn max_reads v.ahead mid read → AreNeeded v.options.max_statement v.ahead.bytes read → IsNextChunk most mid n → before ≡ []
     → (let after : SessionValue = record v { ahead = mid; progress = e.progress } in e ≡ after)
     → EditsNext v mid n e.progress before following edited → edited ≡ Done
     → (let taken : SessionValue = record e { ahead = record e.ahead { bytes = drop n e.ahead.bytes } } in f ≡ taken)
     → HasDone f (pieces ++ read) (cs ++ take n mid.bytes ∷ []) (text ++ following)
-chunk_done v e f mid before following edited max_reads most n pieces cs read text done on next none at edits is taken =
+chunk_done v e f mid before following edited max_reads most n pieces cs read text done on needed next none at edits is taken =
     let takes : SessionValue → SessionValue = λ x. record x { ahead = record x.ahead { bytes = drop n x.ahead.bytes } } in
     subst (λ x. HasDone x (pieces ++ read) (cs ++ take n mid.bytes ∷ []) (text ++ following)) (sym (taken ∙ ap takes at))
-    (went_on v mid e.progress max_reads most n pieces cs read text following done on next
+    (went_on v mid e.progress max_reads most n pieces cs read text following done on needed next
     (edits_as v mid n e.progress before following edited Done edits none is cs done.statements done.kept))
 
 pub chunk_faulty : (v e : SessionValue) (mid : Ahead) (before following : List ℕ) (edited : Edited) (fault : SyntaxFault) (max_reads most n : ℕ) (pieces cs read : List (List ℕ)) (text : List ℕ)
     → HasDone v pieces cs text → IsReadOn max_reads v.ahead mid read → IsNextChunk most mid n → before ≡ []
     → (let after : SessionValue = record v { ahead = mid; progress = e.progress } in e ≡ after)
     → EditsNext v mid n e.progress before following edited → edited ≡ Faulty fault
-    → HasEnded e (Syntax fault) (pieces ++ read) text
+    → HasEnded e (Syntax fault) (pieces ++ read) cs text
 chunk_faulty v e mid before following edited fault max_reads most n pieces cs read text done on next none at edits is =
     let faulty = edits_as v mid n e.progress before following edited (Faulty fault) edits none is cs done.statements done.kept in
     let with_progress : Progress → SessionValue = λ p. record v { ahead = mid; progress = p } in
-    subst (λ x. HasEnded x (Syntax fault) (pieces ++ read) text) (sym (at ∙ ap with_progress faulty.same))
+    subst (λ x. HasEnded x (Syntax fault) (pieces ++ read) cs text) (sym (at ∙ ap with_progress faulty.same))
     (ended_fault v mid fault max_reads most n pieces cs read text done on next faulty.fault_is)
 
 pub chunk_failed : (v e f : SessionValue) (mid : Ahead) (before following : List ℕ) (edited : Edited) (message : Option (List ℕ)) (max_reads most n : ℕ) (pieces cs read : List (List ℕ)) (text : List ℕ)
@@ -57,20 +56,20 @@ pub chunk_failed : (v e f : SessionValue) (mid : Ahead) (before following : List
     → (let after : SessionValue = record v { ahead = mid; progress = e.progress } in e ≡ after)
     → EditsNext v mid n e.progress before following edited → edited ≡ Failed message
     → (let told : SessionValue = record e { failure = message } in f ≡ told)
-    → HasEnded f FirstFailure (pieces ++ read) text
+    → HasEnded f FirstFailure (pieces ++ read) cs text
 chunk_failed v e f mid before following edited message max_reads most n pieces cs read text done on next none at edits is told =
     let tells : SessionValue → SessionValue = λ x. record x { failure = message } in
-    subst (λ x. HasEnded x FirstFailure (pieces ++ read) text) (sym (told ∙ ap tells at))
+    subst (λ x. HasEnded x FirstFailure (pieces ++ read) cs text) (sym (told ∙ ap tells at))
     (ended_failure v mid e.progress message following max_reads most n pieces cs read text done on next
     (edits_as v mid n e.progress before following edited (Failed message) edits none is cs done.statements done.kept))
 
 -- a chunk was done, and its text was not written to its end
-write_cut : (v e : SessionValue) (mid : Ahead) (before following : List ℕ) (edited : Edited) (max_reads most n k : ℕ) (pieces cs read : List (List ℕ)) (text : List ℕ)
-    → HasDone v pieces cs text → IsReadOn max_reads v.ahead mid read → IsNextChunk most mid n → before ≡ []
+pub write_cut : (v e : SessionValue) (mid : Ahead) (before following : List ℕ) (edited : Edited) (max_reads most n k : ℕ) (pieces cs read : List (List ℕ)) (text : List ℕ)
+    → HasDone v pieces cs text → IsReadOn max_reads v.ahead mid read → AreNeeded v.options.max_statement v.ahead.bytes read → IsNextChunk most mid n → before ≡ []
     → (let after : SessionValue = record v { ahead = mid; progress = e.progress } in e ≡ after)
     → EditsNext v mid n e.progress before following edited → edited ≡ Done
     → IsCutShort e (pieces ++ read) cs text (take k following)
-write_cut v e mid before following edited max_reads most n k pieces cs read text done on next none at edits is =
+write_cut v e mid before following edited max_reads most n k pieces cs read text done on needed next none at edits is =
     let left = drop n e.ahead.bytes in
     let taken : SessionValue = record e { ahead = record e.ahead { bytes = left } } in
     inr (
@@ -79,65 +78,14 @@ write_cut v e mid before following edited max_reads most n k pieces cs read text
         chunk = take n mid.bytes;
         left = left;
         ahead_is = sym (take-append-drop n e.ahead.bytes) ∙ ap (λ x. take n x.ahead.bytes ++ left) at;
-        done = chunk_done v e taken mid before following edited max_reads most n pieces cs read text done on next none at edits is refl;
+        done = chunk_done v e taken mid before following edited max_reads most n pieces cs read text done on needed next none at edits is refl;
       },
       (drop k following, sym (take-append-drop k following)),
     )
 
-pub left_by_write : (Gave : List (List ℕ) → Type 0) (Took : List ℕ → Type 0) (v e w : SessionValue) (mid : Ahead) (before following : List ℕ) (edited : Edited) (most n k : ℕ) (read : List (List ℕ))
-    → Gave read → Took (take k following) → IsReadOn v.options.max_reads v.ahead mid read → IsNextChunk most mid n → before ≡ []
-    → (let after : SessionValue = record v { ahead = mid; progress = e.progress } in e ≡ after)
-    → EditsNext v mid n e.progress before following edited → edited ≡ Done → w ≡ e
-    → IsLeftByFault Gave Took v w
-left_by_write Gave Took v e w mid before following edited most n k read gave took on next none at edits is same = record {
-  read = read;
-  shown = take k following;
-  gave = gave;
-  took = took;
-  read_ahead = subst (λ x. IsReadOn v.options.max_reads v.ahead x.ahead read) (sym (same ∙ at)) on;
-  front = λ pieces cs text done. subst (λ x. IsCutShort x (pieces ++ read) cs text (take k following)) (sym same)
-      (write_cut v e mid before following edited v.options.max_reads most n k pieces cs read text done on next none at edits is);
-}
-
--- nothing was written
-pub left_by_read : (Gave : List (List ℕ) → Type 0) (Took : List ℕ → Type 0) (v w : SessionValue) (mid : Ahead) (read : List (List ℕ))
-    → Gave read → Took [] → IsReadOn v.options.max_reads v.ahead mid read → w.ahead ≡ mid → IsLeftByFault Gave Took v w
-left_by_read Gave Took v w mid read gave took on same = record {
-  read = read;
-  shown = [];
-  gave = gave;
-  took = took;
-  read_ahead = subst (λ a. IsReadOn v.options.max_reads v.ahead a read) (sym same) on;
-  front = λ pieces cs text done. inl refl;
-}
-
 pub on_err : {T E P : Type 0} (r : Result T E) → P → OnErr r P
 on_err (Ok x) h = tt
 on_err (Err e) h = h
-
--- which stage an answer tells
-abbrev stage_in : Result Stage RunFault → Stage
-stage_in (Ok stage) = stage
-stage_in (Err fault) = Stopped
-
-abbrev end_in : Stage → End
-end_in Going = Whole
-end_in (Ended end) = end
-end_in Stopped = Whole
-
-abbrev has_ended : Stage → Bool
-has_ended Going = false
-has_ended (Ended end) = true
-has_ended Stopped = false
-
-pub goes_not_on : {X : Type 0} (s : Stage) (end : End) → (let answer : Result Stage RunFault = Ok s in answer) ≡ Ok Going → s ≡ Ended end → X
-goes_not_on s end told is = absurd (false≢true (sym (ap has_ended (ap stage_in told)) ∙ ap has_ended is))
-
-pub has_not_ended : {X : Type 0} (s : Stage) (end : End) → (let answer : Result Stage RunFault = Ok s in answer) ≡ Ok (Ended end) → s ≡ Going → X
-has_not_ended s end told is = absurd (false≢true (sym (ap has_ended is) ∙ ap has_ended (ap stage_in told)))
-
-pub same_end : (s : Stage) (end e : End) → (let answer : Result Stage RunFault = Ok s in answer) ≡ Ok (Ended end) → s ≡ Ended e → e ≡ end
-same_end s end e told is = ap end_in (sym is ∙ ap stage_in told)
 
 pub some_of : {X : Type 0} (P : X → Type 0) (found : Option X) (x : X) → IfSome found P → found ≡ Some x → P x
 some_of P found x h is = subst (λ o. IfSome o P) is h
@@ -152,16 +100,6 @@ take_some n bytes some within = subst (λ l. 0 < l) (sym (length-take-le n bytes
 pub take_few : (n most : ℕ) (bytes : List ℕ) → n ≤ most → n ≤ length bytes → length (take n bytes) ≤ most
 take_few n most bytes size within = subst (λ l. l ≤ most) (sym (length-take-le n bytes within)) size
 
--- the input has ended
-pub whole_end : (v : SessionValue) (mid : Ahead) (end : End) (max_reads : ℕ) (pieces cs read : List (List ℕ)) (text : List ℕ)
-    → HasDone v pieces cs text → IsReadOn max_reads v.ahead mid read → (mid.bytes ≡ []) × IsTrue mid.ended
-    → (let answer : Result Stage RunFault = Ok (Ended Whole) in answer) ≡ Ok (Ended end)
-    → HasEnded (record v { ahead = mid }) end (pieces ++ read) text
-whole_end v mid end max_reads pieces cs read text done on over told =
-    let at_end : SessionValue = record v { ahead = mid } in
-    subst (λ e. HasEnded at_end e (pieces ++ read) text) (same_end (Ended Whole) end Whole told refl)
-    (ended_whole v mid max_reads pieces cs read text done on over.0 over.1)
-
 -- what was done does not depend on the stage
 pub restaged : (v : SessionValue) (stage : Stage) (pieces cs : List (List ℕ)) (text : List ℕ) → HasDone v pieces cs text → HasDone (record v { stage = stage }) pieces cs text
 restaged v stage pieces cs text done = record {
@@ -169,6 +107,7 @@ restaged v stage pieces cs text done = record {
   reads = done.reads;
   ended = done.ended;
   none_ends = done.none_ends;
+  needed = done.needed;
   few = done.few;
   first = done.first;
   statements = done.statements;
@@ -176,22 +115,6 @@ restaged v stage pieces cs text done = record {
   text_is = done.text_is;
   calm = done.calm;
 }
-
-pub left_before : (Gave : List (List ℕ) → Type 0) (Took : List ℕ → Type 0) (v w : SessionValue) (stage : Stage)
-    → IsLeftByFault Gave Took (record v { stage = stage }) w → IsLeftByFault Gave Took v w
-left_before Gave Took v w stage left = record {
-  read = left.read;
-  shown = left.shown;
-  gave = left.gave;
-  took = left.took;
-  read_ahead = left.read_ahead;
-  front = λ pieces cs text done. left.front pieces cs text (restaged v stage pieces cs text done);
-}
-
-pub which_end : (s : Stage) → (s ≡ Going → ⊥) → (s ≡ Stopped → ⊥) → (e : End) × (s ≡ Ended e)
-which_end Going h k = absurd (h refl)
-which_end (Ended e) h k = (e, refl)
-which_end Stopped h k = absurd (k refl)
 
 -- which step an answer tells
 abbrev is_more : Result Step RunFault → Bool
@@ -201,13 +124,3 @@ is_more (Err fault) = false
 
 pub more_is_no_end : {X : Type 0} (r : Result Step RunFault) → r ≡ Ok More → r ≡ Ok step.End → X
 more_is_no_end r more end = absurd (false≢true (sym (ap is_more end) ∙ ap is_more more))
-
-pub end_is_not_more : {X : Type 0} (r : Result Step RunFault) → r ≡ Ok step.End → r ≡ Ok More → X
-end_is_not_more r end more = absurd (false≢true (sym (ap is_more end) ∙ ap is_more more))
-
-ok_is : {T E : Type 0} (x y : T) → (let r : Result T E = Ok x in r) ≡ Ok y → x ≡ y
-ok_is x y h = cc
-
--- an answer has one value
-pub ok_same : {T E : Type 0} (r : Result T E) (x y : T) → r ≡ Ok x → r ≡ Ok y → x ≡ y
-ok_same r x y is told = ok_is x y (sym is ∙ told)

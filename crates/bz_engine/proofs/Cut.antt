@@ -1,5 +1,5 @@
 -- What a run has written where a fault stops it.
-use Rattle.std.proofs.Common.{◌≡◌, ℕ, ◌≤◌, ◌<◌, List, [], ◌∷◌, ◌++◌, length, take, drop, take-append-drop, refl, sym, ◌∙◌, ap, subst, append_assoc, append-nil, inl, inr}
+use Rattle.std.proofs.Common.{◌≡◌, ℕ, ◌<◌, List, [], ◌∷◌, ◌++◌, length, take, drop, take-append-drop, refl, sym, ◌∙◌, ap, subst, append_assoc, append-nil, inl, inr}
 use Rattle.std.specs.Prelude.{IsTrue}
 use Rattle.std.specs.List.{concat}
 use Rattle.std.proofs.lemmas.List.{length-take-le}
@@ -7,14 +7,17 @@ use Rattle.bz_token.specs.Chunks.{chunks}
 use Rattle.bz_command.specs.Labels.{Package}
 use Rattle.bz_engine.specs.declared.options.Options.{Options}
 use Rattle.bz_devices.specs.Device.{joined}
-use Rattle.bz_devices.specs.Ahead.{Ahead, IsReadOn, IsTooLong, HasTooLong}
+use Rattle.bz_devices.specs.Ahead.{Ahead, IsReadOn, AreNeeded, IsTooLong, HasTooLong}
 use Rattle.bz_engine.specs.EveryFile.{ForEveryFile}
 use Rattle.bz_engine.specs.Outcome.{Script, Run, run_with, Told, IsOutcome, IsFrontOf}
-use Rattle.bz_engine.specs.SessionValue.{SessionValue, run_in, IsSameRun, HasDone, IsCutShort, IsLeftByFault}
+use Rattle.bz_engine.specs.declared.run_fault.RunFault.{RunFault}
+use Rattle.bz_engine.specs.SessionValue.{SessionValue, run_in, IsSameRun, HasDone}
+use Rattle.bz_engine.specs.SessionSteps.{IsCutShort, IsLeftByFault}
 use Rattle.bz_devices.proofs.MoreReads.{joined_more}
 use Rattle.bz_engine.proofs.OneOutcome.{front_of_outcome, one_outcome}
-use Rattle.bz_engine.proofs.Runs.{run_is}
-use Rattle.bz_engine.proofs.Sessions.{read_on, ended_on, reads_within}
+use Rattle.bz_engine.proofs.Runs.{run_is, reads_for}
+use Rattle.bz_engine.specs.NeededReads.{AreReads}
+use Rattle.bz_engine.proofs.Sessions.{read_on, ended_on, reads_are}
 
 -- the text begins each outcome of each file that begins with the pieces
 abbrev pub BeginsAll : Run → List (List ℕ) → List ℕ → Type 0
@@ -66,18 +69,19 @@ cut_begins v w pieces cs read text shown done on same (inr cut) =
     (begins_less (run_in w) (pieces ++ read) (text ++ shown) (text ++ cut.0) (joined_front text shown cut.0 cut.2)
     (done_begins taken (pieces ++ read) (cs ++ cut.1.chunk ∷ []) (text ++ cut.0) cut.1.done))
 
-pub fault_begins : (Gave : List (List ℕ) → Type 0) (Took : List ℕ → Type 0) (v w : SessionValue) (home : Package) (passes : Script) (options : Options) (pieces cs : List (List ℕ)) (text : List ℕ)
-    → v.home ≡ home → v.passes ≡ passes → v.options ≡ options → HasDone v pieces cs text → IsSameRun v w → (left : IsLeftByFault Gave Took v w)
-    → BeginsAll (run_with home passes options) (pieces ++ left.read) (text ++ left.shown)
-fault_begins Gave Took v w home passes options pieces cs text h p o done same left =
-    subst (λ run. BeginsAll run (pieces ++ left.read) (text ++ left.shown)) (run_is v home passes options h p o)
-    (cut_begins v w pieces cs left.read text left.shown done left.read_ahead same (left.front pieces cs text done))
+pub fault_begins : (v w : SessionValue) (fault : RunFault) (home : Package) (passes : Script) (options : Options) (pieces cs read : List (List ℕ)) (text shown : List ℕ)
+    → v.home ≡ home → v.passes ≡ passes → v.options ≡ options → HasDone v pieces cs text → IsSameRun v w → IsLeftByFault v w read shown fault
+    → BeginsAll (run_with home passes options) (pieces ++ read) (text ++ shown)
+fault_begins v w fault home passes options pieces cs read text shown h p o done same left =
+    subst (λ run. BeginsAll run (pieces ++ read) (text ++ shown)) (run_is v home passes options h p o)
+    (cut_begins v w pieces cs read text shown done left.read_ahead same (left.front pieces cs text done))
 
 -- the reads that were made
-pub fault_reads : (Gave : List (List ℕ) → Type 0) (Took : List ℕ → Type 0) (v w : SessionValue) (options : Options) (pieces cs : List (List ℕ)) (text : List ℕ)
-    → v.options ≡ options → HasDone v pieces cs text → (left : IsLeftByFault Gave Took v w) → length (pieces ++ left.read) ≤ options.max_reads
-fault_reads Gave Took v w options pieces cs text o done left =
-    subst (λ x. length (pieces ++ left.read) ≤ x.max_reads) o (reads_within v w.ahead v.options.max_reads pieces cs left.read text done left.read_ahead)
+pub fault_reads : (v w : SessionValue) (fault : RunFault) (home : Package) (passes : Script) (options : Options) (pieces cs read : List (List ℕ)) (text shown : List ℕ)
+    → v.home ≡ home → v.passes ≡ passes → v.options ≡ options → HasDone v pieces cs text → AreNeeded v.options.max_statement v.ahead.bytes read
+    → IsLeftByFault v w read shown fault → AreReads home passes options (pieces ++ read)
+fault_reads v w fault home passes options pieces cs read text shown h p o done needed left =
+    reads_for v home passes options (pieces ++ read) h p o (reads_are v w.ahead pieces cs read text done left.read_ahead needed)
 
 -- where the run had ended, all was written
 pub ended_begins : (run : Run) (pieces : List (List ℕ)) (text : List ℕ) (told : Told)
@@ -114,7 +118,7 @@ too_long_in v w max_statement most line pieces cs read text done on same at long
 }
 
 -- all that is told where a fault stops a run
-pub cut_is : (Gave : List (List ℕ) → Type 0) (Took : List ℕ → Type 0) (run : Run) (max_reads : ℕ) (pieces : List (List ℕ)) (text : List ℕ)
-    → Gave pieces → Took text → length pieces ≤ max_reads → BeginsAll run pieces text
-    → (ps : List (List ℕ)) × (t : List ℕ) × Gave ps × Took t × (length ps ≤ max_reads) × BeginsAll run ps t
-cut_is Gave Took run max_reads pieces text gave took few begins = (pieces, text, gave, took, few, begins)
+pub cut_is : (Gave : List (List ℕ) → Type 0) (Took : List ℕ → Type 0) (home : Package) (passes : Script) (options : Options) (pieces : List (List ℕ)) (text : List ℕ)
+    → Gave pieces → Took text → AreReads home passes options pieces → BeginsAll (run_with home passes options) pieces text
+    → (ps : List (List ℕ)) × (t : List ℕ) × Gave ps × Took t × AreReads home passes options ps × BeginsAll (run_with home passes options) ps t
+cut_is Gave Took home passes options pieces text gave took reads begins = (pieces, text, gave, took, reads, begins)

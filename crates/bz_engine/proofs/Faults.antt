@@ -1,5 +1,5 @@
--- Faults with which a chunk that is too long is refused.
-use Rattle.std.proofs.Common.{◌≡◌, ◌≢◌, ℕ, Bool, true, false, refl, ◌∙◌, sym, ap, inl, inr}
+-- Faults that are no others.
+use Rattle.std.proofs.Common.{◌≡◌, ℕ, Bool, true, false, refl, ◌∙◌, sym, ap}
 use Rattle.std.specs.Prelude.{Result, Ok, Err, OnErr}
 use Rattle.std.proofs.lemmas.Bool.{false≢true}
 use Rattle.bz_devices.proofs.PassedOn.{err_is}
@@ -8,27 +8,7 @@ use Rattle.bz_engine.specs.declared.run_fault.RunFault.TheVariants.{OutOfMemory,
 use Rattle.bz_devices.specs.declared.ahead.ChunkFault.{ChunkFault}
 use Rattle.bz_devices.specs.declared.ahead.ChunkFault.TheVariants as chunk
 use Rattle.bz_engine.specs.private.ChunkFaults.{fault_at}
-use Rattle.bz_engine.specs.SessionValue.{IsRefused}
 use Rattle.bz_engine.proofs.Runs.{ok_is_no_err}
-
--- a fault that is no other than these refuses a chunk that is too long
-pub refused_as : {T : Type 0} (r : Result T RunFault) (e : RunFault) → r ≡ Err e → r ≢ Err Stopped → r ≢ Err WriteFailed → r ≢ Err InputTooLong → r ≢ Err ReadFailed → IsRefused r
-refused_as r OutOfMemory is stopped failed long read = inl is
-refused_as r ReadFailed is stopped failed long read = absurd (read is)
-refused_as r (StatementTooLong line) is stopped failed long read = inr (line, is)
-refused_as r WriteFailed is stopped failed long read = absurd (failed is)
-refused_as r InputTooLong is stopped failed long read = absurd (long is)
-refused_as r Stopped is stopped failed long read = absurd (stopped is)
-
--- and so does what it is passed on as
-pub refused_on : {A B : Type 0} (a : Result A RunFault) (b : Result B RunFault) (e f : RunFault) → a ≡ Err f → b ≡ Err e → e ≡ f → IsRefused a → IsRefused b
-refused_on a b e f was is same (inl h) = inl (is ∙ ap Err (same ∙ err_is f OutOfMemory (sym was ∙ h)))
-refused_on a b e f was is same (inr (line, h)) = inr (line, is ∙ ap Err (same ∙ err_is f (StatementTooLong line) (sym was ∙ h)))
-
--- a value is no fault
-pub not_refused : {A : Type 0} (a : Result A RunFault) (x : A) → a ≡ Ok x → IsRefused a → ⊥
-not_refused a x is (inl h) = ok_is_no_err a x OutOfMemory is h
-not_refused a x is (inr (line, h)) = ok_is_no_err a x (StatementTooLong line) is h
 
 abbrev is_memory : RunFault → Bool
 is_memory OutOfMemory = true

@@ -12,6 +12,7 @@ use Rattle.bz_engine.specs.declared.report.End.{End}
 use Rattle.bz_engine.specs.EveryFile.{ForEveryFile}
 use Rattle.bz_engine.specs.Outcome.{Script, run_with, Told, is_query, shown_text, IsOutcome}
 use Rattle.bz_engine.specs.Progress.{last_class}
+use Rattle.bz_engine.specs.NeededReads.{AreReads}
 use Rattle.bz_engine.specs.SessionValue.{SessionValue, run_in, HasDone, HasEnded, at_start, told_at}
 use Rattle.bz_passes.proofs.ExchangeLaw.{slots_alone, nothing_left}
 use Rattle.bz_devices.proofs.MoreReads.{joined_more}
@@ -27,6 +28,7 @@ started home passes options = record {
   reads = refl;
   ended = refl;
   none_ends = λ h. tt;
+  needed = tt;
   few = omega arith;
   first = λ rest over. refl;
   statements = [];
@@ -64,13 +66,20 @@ pub run_is : (v : SessionValue) (home : Package) (passes : Script) (options : Op
     → run_in v ≡ run_with home passes options
 run_is v home passes options h p o = ap (λ x. run_with x v.passes v.options) h ∙ ap (λ x. run_with home x v.options) p ∙ ap (run_with home passes) o
 
+pub reads_for : (v : SessionValue) (home : Package) (passes : Script) (options : Options) (pieces : List (List ℕ)) → v.home ≡ home → v.passes ≡ passes → v.options ≡ options
+    → AreReads v.home v.passes v.options pieces → AreReads home passes options pieces
+reads_for v home passes options pieces h p o reads =
+    subst (λ x. AreReads home passes x pieces) o (subst (λ x. AreReads home x v.options pieces) p (subst (λ x. AreReads x v.passes v.options pieces) h reads))
+
 -- the session's answer is the outcome of the run that it was made for
-pub outcome_is : (v : SessionValue) (home : Package) (passes : Script) (options : Options) (end : End) (told : Told) (pieces : List (List ℕ)) (text : List ℕ)
-    → v.home ≡ home → v.passes ≡ passes → v.options ≡ options → told ≡ told_at v end → HasEnded v end pieces text
+pub outcome_is : (v : SessionValue) (home : Package) (passes : Script) (options : Options) (end : End) (told : Told) (pieces cs : List (List ℕ)) (text : List ℕ)
+    → v.home ≡ home → v.passes ≡ passes → v.options ≡ options → told ≡ told_at v end → HasEnded v end pieces cs text
     → ForEveryFile pieces (λ file. IsOutcome (run_with home passes options) file text told)
-outcome_is v home passes options end told pieces text h p o is ended =
-    subst (λ run. ForEveryFile pieces (λ file. IsOutcome run file text told)) (run_is v home passes options h p o)
-    (subst (λ x. ForEveryFile pieces (λ file. IsOutcome (run_in v) file text x)) (sym is) ended)
+outcome_is v home passes options end told pieces cs text h p o is ended = record {
+  each = λ rest last.
+      subst (λ run. IsOutcome run (joined pieces ++ rest) text told) (run_is v home passes options h p o)
+      (subst (λ x. IsOutcome (run_in v) (joined pieces ++ rest) text x) (sym is) (ended.each rest last).0);
+}
 
 pub where_ok : {T E : Type 0} {P Q : T → Type 0} (r : Result T E) → ((x : T) → P x → Q x) → IfOk r P → IfOk r Q
 where_ok (Ok x) f h = f x h

@@ -10,7 +10,7 @@ use Rattle.bz_engine.specs.declared.session.Stage.TheVariants.{Going, Ended, Sto
 use Rattle.bz_engine.specs.declared.report.End.{End}
 use Rattle.bz_engine.specs.declared.report.End.TheVariants.{Whole, Syntax, FirstFailure}
 use Rattle.bz_devices.specs.Device.{joined, ends, NoneEnds}
-use Rattle.bz_devices.specs.Ahead.{Ahead, IsReadOn, IsNextChunk}
+use Rattle.bz_devices.specs.Ahead.{Ahead, IsReadOn, AreNeeded, IsNextChunk}
 use Rattle.bz_engine.specs.Meaning.{meaning}
 use Rattle.bz_engine.specs.File.{Give, Gives}
 use Rattle.bz_engine.specs.Messages.{fault_text}
@@ -22,6 +22,8 @@ use Rattle.bz_engine.specs.SessionValue.{SessionValue, run_in, IsSession, HasDon
 use Rattle.bz_passes.proofs.ExchangeLaw.{log_by_pass, missing_lem}
 use Rattle.bz_devices.proofs.MoreReads.{ends_more, open_more, bytes_more, chunks_more, chunk_taken, one_more}
 use Rattle.bz_engine.proofs.Given.{give_fault, give_statement}
+use Rattle.bz_engine.proofs.NeededReads.{needed_on, reads_of}
+use Rattle.bz_engine.specs.NeededReads.{AreReads}
 
 -- the chunks of the file after more reads
 pub read_on : (v : SessionValue) (mid : Ahead) (max_reads : ℕ) (pieces cs read : List (List ℕ)) (text : List ℕ)
@@ -43,6 +45,13 @@ pub reads_within : (v : SessionValue) (mid : Ahead) (max_reads : ℕ) (pieces cs
     → HasDone v pieces cs text → IsReadOn max_reads v.ahead mid read → length (pieces ++ read) ≤ max_reads
 reads_within v mid max_reads pieces cs read text done on = subst (λ n. n ≤ max_reads) (reads_on v mid max_reads pieces cs read text done on) on.within
 
+-- the reads that were made
+pub reads_are : (v : SessionValue) (mid : Ahead) (pieces cs read : List (List ℕ)) (text : List ℕ)
+    → HasDone v pieces cs text → IsReadOn v.options.max_reads v.ahead mid read → AreNeeded v.options.max_statement v.ahead.bytes read
+    → AreReads v.home v.passes v.options (pieces ++ read)
+reads_are v mid pieces cs read text done on needed =
+    reads_of v (pieces ++ read) (reads_within v mid v.options.max_reads pieces cs read text done on) (needed_on v mid v.options.max_reads pieces cs read text done on needed)
+
 -- what stood ahead and what was read then
 pub read_within : (v w : SessionValue) (mid : Ahead) (max_reads : ℕ) (read : List (List ℕ)) → v ≡ w → IsReadOn max_reads v.ahead mid read
     → length mid.bytes ≤ v.options.max_statement + 8192 → length (w.ahead.bytes ++ joined read) ≤ w.options.max_statement + 8192
@@ -52,14 +61,15 @@ read_within v w mid max_reads read same on bound =
 
 -- a chunk was done
 pub went_on : (v : SessionValue) (mid : Ahead) (progress : Progress) (max_reads most n : ℕ) (pieces cs read : List (List ℕ)) (text after : List ℕ)
-    → (done : HasDone v pieces cs text) → IsReadOn max_reads v.ahead mid read → IsNextChunk most mid n
+    → (done : HasDone v pieces cs text) → IsReadOn max_reads v.ahead mid read → AreNeeded v.options.max_statement v.ahead.bytes read → IsNextChunk most mid n
     → (edited : IsDone (run_in v) cs done.statements (take n mid.bytes) v.progress progress [] after)
     → HasDone (record v { ahead = record mid { bytes = drop n mid.bytes }; progress = progress }) (pieces ++ read) (cs ++ take n mid.bytes ∷ []) (text ++ after)
-went_on v mid progress max_reads most n pieces cs read text after done on next edited = record {
+went_on v mid progress max_reads most n pieces cs read text after done on needed next edited = record {
   bytes = bytes_more pieces read cs v.ahead.bytes mid.bytes (take n mid.bytes) (drop n mid.bytes) done.bytes on.bytes (sym (take-append-drop n mid.bytes));
   reads = reads_on v mid max_reads pieces cs read text done on;
   ended = ended_on v mid max_reads pieces cs read text done on;
   none_ends = open_more v.ahead.ended mid.ended pieces read on.ended done.none_ends on.none_ends;
+  needed = needed_on v mid max_reads pieces cs read text done on needed;
   few = next.left;
   first = λ rest over.
       chunk_taken cs mid.bytes rest (joined (pieces ++ read) ++ rest) n (read_on v mid max_reads pieces cs read text done on rest over) (next.ends rest over)
@@ -79,33 +89,33 @@ told_whole run cs ss p kept =
 -- the input has ended
 pub ended_whole : (v : SessionValue) (mid : Ahead) (max_reads : ℕ) (pieces cs read : List (List ℕ)) (text : List ℕ)
     → HasDone v pieces cs text → IsReadOn max_reads v.ahead mid read → mid.bytes ≡ [] → IsTrue mid.ended
-    → HasEnded (record v { ahead = mid }) Whole (pieces ++ read) text
+    → HasEnded (record v { ahead = mid }) Whole (pieces ++ read) cs text
 ended_whole v mid max_reads pieces cs read text done on nothing over = record {
   each = λ rest last.
       let none : rest ≡ [] = last (subst IsTrue (ended_on v mid max_reads pieces cs read text done on) over) in
       let all : chunks (joined (pieces ++ read) ++ rest) ≡ cs =
       read_on v mid max_reads pieces cs read text done on rest (λ h. none) ∙ ap (λ l. cs ++ chunks (l ++ rest)) nothing ∙ ap (λ l. cs ++ chunks l) none ∙ append-nil cs in
-      inl (record {
+      (inl (record {
         statements = done.statements;
         fault = None;
         read = subst (λ l. Give v.options.max_depth 1 l done.statements None) (sym all) done.kept.read;
         calm = λ h. sym done.kept.left.failed ∙ done.calm h;
         text_is = done.text_is;
         told_is = told_whole (run_in v) cs done.statements v.progress done.kept;
-      });
+      }), all);
 }
 
 -- a chunk has a fault
 pub ended_fault : (v : SessionValue) (mid : Ahead) (fault : SyntaxFault) (max_reads most n : ℕ) (pieces cs read : List (List ℕ)) (text : List ℕ)
     → HasDone v pieces cs text → IsReadOn max_reads v.ahead mid read → IsNextChunk most mid n
     → Gives v.options.max_depth v.progress.line (take n mid.bytes) (Err fault)
-    → HasEnded (record v { ahead = mid }) (Syntax fault) (pieces ++ read) text
+    → HasEnded (record v { ahead = mid }) (Syntax fault) (pieces ++ read) cs text
 ended_fault v mid fault max_reads most n pieces cs read text done on next gives = record {
   each = λ rest last.
       let over : IsTrue mid.ended → rest ≡ [] = λ h. last (subst IsTrue (ended_on v mid max_reads pieces cs read text done on) h) in
       let all : chunks (joined (pieces ++ read) ++ rest) ≡ cs ++ take n mid.bytes ∷ chunks (drop n mid.bytes ++ rest) =
       chunk_taken cs mid.bytes rest (joined (pieces ++ read) ++ rest) n (read_on v mid max_reads pieces cs read text done on rest over) (next.ends rest over) in
-      inl (record {
+      (inl (record {
         statements = done.statements;
         fault = Some fault;
         read = subst (λ l. Give v.options.max_depth 1 l done.statements (Some fault)) (sym all)
@@ -113,21 +123,21 @@ ended_fault v mid fault max_reads most n pieces cs read text done on next gives 
         calm = λ h. sym done.kept.left.failed ∙ done.calm h;
         text_is = done.text_is;
         told_is = ap (λ b. told_alone (fault_text fault ∷ []) b (Syntax fault)) done.kept.left.changed;
-      });
+      }), (take n mid.bytes, chunks (drop n mid.bytes ++ rest), all));
 }
 
 -- an execution fails on a chunk's statement, and failures end the run
 pub ended_failure : (v : SessionValue) (mid : Ahead) (progress : Progress) (message : Option (List ℕ)) (after : List ℕ) (max_reads most n : ℕ) (pieces cs read : List (List ℕ)) (text : List ℕ)
     → HasDone v pieces cs text → IsReadOn max_reads v.ahead mid read → IsNextChunk most mid n
     → IsFailed (run_in v) (take n mid.bytes) message v.progress progress [] after
-    → HasEnded (record v { ahead = mid; progress = progress; failure = message }) FirstFailure (pieces ++ read) text
+    → HasEnded (record v { ahead = mid; progress = progress; failure = message }) FirstFailure (pieces ++ read) cs text
 ended_failure v mid progress message after max_reads most n pieces cs read text done on next failed = record {
   each = λ rest last.
       let over : IsTrue mid.ended → rest ≡ [] = λ h. last (subst IsTrue (ended_on v mid max_reads pieces cs read text done on) h) in
       let all : chunks (joined (pieces ++ read) ++ rest) ≡ cs ++ take n mid.bytes ∷ chunks (drop n mid.bytes ++ rest) =
       chunk_taken cs mid.bytes rest (joined (pieces ++ read) ++ rest) n (read_on v mid max_reads pieces cs read text done on rest over) (next.ends rest over) in
       let calm : v.progress.failed ≡ false = done.calm failed.ends in
-      inr (record {
+      (inr (record {
         ends = failed.ends;
         before = done.statements;
         statement = failed.statement;
@@ -142,7 +152,7 @@ ended_failure v mid progress message after max_reads most n pieces cs read text 
         text_is = done.text_is;
         told_is = ap (λ l. told_alone l progress.changed FirstFailure) (failed.message_is calm)
             ∙ ap (λ b. told_alone (first_of (failures_at v.home v.passes failed.statement)) b FirstFailure) (failed.changed ∙ done.kept.left.changed);
-      });
+      }), (take n mid.bytes, chunks (drop n mid.bytes ++ rest), all));
 }
 
 -- a stopped session keeps to little

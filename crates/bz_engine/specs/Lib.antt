@@ -1,9 +1,11 @@
 pub mod Changes
 pub mod Progress
 pub mod SessionValue
+pub mod SessionSteps
 pub mod EveryFile
 pub mod File
 pub mod Meaning
 pub mod Messages
 pub mod Outcome
+pub mod NeededReads
 pub mod private

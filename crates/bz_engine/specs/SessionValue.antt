@@ -1,5 +1,5 @@
 -- What a contract sees of a session, and what its answers say of the file.
-use Rattle.std.specs.Prelude.{◌≡◌, ◌≢◌, ℕ, ◌+◌, ◌*◌, ◌^◌, ◌<◌, ◌≤◌, Bool, true, false, ◌||◌, ◌⊎◌, IsTrue, List, [], ◌∷◌, ◌++◌, length, map, Option, None, option_to_list, Result, Err, OnErr}
+use Rattle.std.specs.Prelude.{◌≡◌, ℕ, ◌+◌, ◌*◌, ◌^◌, ◌≤◌, Bool, true, false, ◌||◌, IsTrue, List, [], ◌∷◌, ◌++◌, length, map, Option, None, option_to_list}
 use Rattle.std.specs.List.{concat, flat_map}
 use Rattle.bz_token.specs.Chunks.{chunks}
 use Rattle.bz_tree.specs.Tree.{Statement}
@@ -7,18 +7,17 @@ use Rattle.bz_command.specs.Labels.{Package}
 use Rattle.bz_engine.specs.declared.options.Options.{Options}
 use Rattle.bz_engine.specs.declared.report.End.{End}
 use Rattle.bz_engine.specs.declared.report.End.TheVariants.{Whole, Syntax, FirstFailure}
-use Rattle.bz_engine.specs.declared.run_fault.RunFault.{RunFault}
-use Rattle.bz_engine.specs.declared.run_fault.RunFault.TheVariants.{OutOfMemory, ReadFailed, WriteFailed, InputTooLong, StatementTooLong, Stopped}
 use Rattle.bz_engine.specs.declared.session.Stage.{Stage}
 use Rattle.bz_engine.specs.declared.session.Stage.TheVariants.{Going, Ended}
-use Rattle.bz_devices.specs.Device.{joined, ends, NoneEnds, Rises}
-use Rattle.bz_devices.specs.Ahead.{Ahead, IsReadOn, AreNeeded, IsTooLong, IsUncertain}
+use Rattle.bz_devices.specs.Device.{joined, ends, NoneEnds}
+use Rattle.bz_devices.specs.Ahead.{Ahead}
 use Rattle.bz_engine.specs.EveryFile.{ForEveryFile}
 use Rattle.bz_passes.specs.Exchange.{no_slot, told, some_not_found, Fits}
 use Rattle.bz_engine.specs.Progress.{Progress, IsKeptOf}
 use Rattle.bz_engine.specs.Meaning.{meaning}
 use Rattle.bz_engine.specs.Messages.{fault_text}
-use Rattle.bz_engine.specs.Outcome.{Script, Run, run_with, Told, IsOutcome, IsFrontOf, text_after}
+use Rattle.bz_engine.specs.Outcome.{Script, Run, run_with, Told, IsOutcome, text_after}
+use Rattle.bz_engine.specs.NeededReads.{AreNeededAfter}
 use Rattle.bz_passes.specs.Entries.{line_text, message_text}
 
 -- The package, the passes and the options; what is kept of the chunks that are done; the bytes ahead, with the reads made and whether the end
@@ -52,55 +51,20 @@ pub record IsSameRun (old new : SessionValue) : Type 0 where
   pub passes : new.passes ≡ old.passes
   pub options : new.options ≡ old.options
 
--- Reads gave these pieces: the chunks that are done, whatever follows, and the bytes ahead. This text was written: that of the statements of these
--- chunks as the script left them.
+-- Reads gave these pieces, and each was needed: the chunks that are done, whatever follows, and the bytes ahead. This text was written: that of the
+-- statements of these chunks as the script left them.
 pub record HasDone (v : SessionValue) (pieces cs : List (List ℕ)) (text : List ℕ) : Type 0 where
   pub bytes : joined pieces ≡ concat cs ++ v.ahead.bytes
   pub reads : v.ahead.reads ≡ length pieces
   pub ended : v.ahead.ended ≡ ends pieces
   pub none_ends : v.ahead.ended ≡ false → NoneEnds pieces
+  pub needed : AreNeededAfter (run_in v) v.options.max_statement [] pieces
   pub few : length v.ahead.bytes ≤ 8192
   pub first : (rest : List ℕ) → (IsTrue v.ahead.ended → rest ≡ []) → chunks (joined pieces ++ rest) ≡ cs ++ chunks (v.ahead.bytes ++ rest)
   pub statements : List Statement
   pub kept : IsKeptOf (run_in v) cs statements v.progress
   pub text_is : text ≡ text_after v.home v.passes statements
   pub calm : v.options.keep_going ≡ false → v.progress.failed ≡ false
-
--- A step took one chunk, which may have so many bytes, and wrote its text.
-pub record HasOneMore (Gave : List (List ℕ) → Type 0) (Took : List ℕ → Type 0) (v : SessionValue) (pieces cs : List (List ℕ)) (text : List ℕ) : Type 0 where
-  pub read : List (List ℕ)
-  pub chunk : List ℕ
-  pub shown : List ℕ
-  pub gave : Gave read
-  pub took : Took shown
-  pub some : 0 < length chunk
-  pub size : length chunk ≤ v.options.max_statement
-  pub few : length (joined read) ≤ 8192 * length read
-  pub done : HasDone v (pieces ++ read) (cs ++ chunk ∷ []) (text ++ shown)
-
--- The next chunk, the first of the bytes ahead, is done but not taken: this text is what it adds.
-pub record IsNextText (v : SessionValue) (pieces cs : List (List ℕ)) (text next : List ℕ) : Type 0 where
-  pub chunk : List ℕ
-  pub left : List ℕ
-  pub ahead_is : v.ahead.bytes ≡ chunk ++ left
-  pub done : HasDone (record v { ahead = record v.ahead { bytes = left } }) pieces (cs ++ chunk ∷ []) (text ++ next)
-
--- nothing, or a front of what the next chunk adds
-abbrev pub IsCutShort : SessionValue → List (List ℕ) → List (List ℕ) → List ℕ → List ℕ → Type 0
-IsCutShort v pieces cs text shown = (shown ≡ []) ⊎ ((next : List ℕ) × IsNextText v pieces cs text next × IsFrontOf shown next)
-
--- What a fault leaves: what was read stands ahead, and what was written is a front of what the next chunk adds.
-pub record IsLeftByFault (Gave : List (List ℕ) → Type 0) (Took : List ℕ → Type 0) (old new : SessionValue) : Type 0 where
-  pub read : List (List ℕ)
-  pub shown : List ℕ
-  pub gave : Gave read
-  pub took : Took shown
-  pub read_ahead : IsReadOn old.options.max_reads old.ahead new.ahead read
-  pub front : (pieces cs : List (List ℕ)) (text : List ℕ) → HasDone old pieces cs text → IsCutShort new (pieces ++ read) cs text shown
-
--- A next chunk that is sure to be too long is told as such, unless memory failed.
-abbrev pub IsRefused : {T : Type 0} → Result T RunFault → Type 0
-IsRefused result = (result ≡ Err OutOfMemory) ⊎ ((line : ℕ) × (result ≡ Err (StatementTooLong line)))
 
 -- all that was kept
 abbrev pub told_of_progress : Package → Script → Progress → Told
@@ -122,46 +86,16 @@ told_at v Whole = told_of_progress v.home v.passes v.progress
 told_at v (Syntax fault) = told_alone (fault_text fault ∷ []) v.progress.changed (Syntax fault)
 told_at v FirstFailure = told_alone (option_to_list v.failure) v.progress.changed FirstFailure
 
--- Reads gave these pieces and this text was written: with what the session tells at this end it is the outcome for every file that begins with the
--- pieces, where the end was met for that file alone.
-abbrev pub HasEnded : SessionValue → End → List (List ℕ) → List ℕ → Type 0
-HasEnded v end pieces text = ForEveryFile pieces (λ file. IsOutcome (run_in v) file text (told_at v end))
+-- These are all chunks of the file; or where it did not end the run, those before the one that did.
+abbrev pub AreBefore : End → List (List ℕ) → List ℕ → Type 0
+AreBefore Whole cs file = chunks file ≡ cs
+AreBefore (Syntax fault) cs file = (chunk : List ℕ) × (others : List (List ℕ)) × (chunks file ≡ cs ++ chunk ∷ others)
+AreBefore FirstFailure cs file = (chunk : List ℕ) × (others : List (List ℕ)) × (chunks file ≡ cs ++ chunk ∷ others)
 
--- A step did one chunk more, whatever was done before.
-abbrev pub AddsOne : {S W : Type 0} → (S → List (List ℕ) → S → Type 0) → (W → List ℕ → W → Type 0) → S → S → W → W → SessionValue → SessionValue → Type 0
-AddsOne gave took source source_after sink sink_after old new = (pieces cs : List (List ℕ)) (text : List ℕ) → HasDone old pieces cs text
-    → HasOneMore (λ read. gave source read source_after) (λ shown. took sink shown sink_after) new pieces cs text
-
--- A step came to this end, and wrote nothing: what the session tells is the outcome.
-abbrev pub EndsRun : {S W : Type 0} → (S → List (List ℕ) → S → Type 0) → (W → List ℕ → W → Type 0) → S → S → W → W → SessionValue → SessionValue → End → Type 0
-EndsRun gave took source source_after sink sink_after old new end = (pieces cs : List (List ℕ)) (text : List ℕ) → HasDone old pieces cs text
-    → (read : List (List ℕ)) × gave source read source_after × took sink [] sink_after
-    × (length (pieces ++ read) ≤ new.options.max_reads) × HasEnded new end (pieces ++ read) text
-
--- What a step of a session that goes on reads and writes, what is counted, and what its faults tell.
-pub record Steps {S W T : Type 0} (gave : S → List (List ℕ) → S → Type 0) (reads_failed : S → ℕ) (took : W → List ℕ → W → Type 0) (writes_failed : W → ℕ)
-    (source source_after : S) (sink sink_after : W) (old new : SessionValue) (result : Result T RunFault) : Type 0 where
-  -- So many reads were made, none of them the end.
-  pub too_long : result ≡ Err InputTooLong → (pieces cs : List (List ℕ)) (text : List ℕ) → HasDone old pieces cs text
-      → (read : List (List ℕ)) × gave source read source_after × (length (pieces ++ read) ≡ new.options.max_reads) × NoneEnds (pieces ++ read)
-  -- Then no next chunk is certain, and none is sure to be too long.
-  pub uncertain : result ≡ Err InputTooLong → IsUncertain new.ahead × (IsTooLong new.options.max_statement new.ahead → ⊥)
-  -- The next chunk, which begins on this line, has more bytes than it may.
-  pub statement_too_long : (line : ℕ) → result ≡ Err (StatementTooLong line)
-      → (line ≡ old.progress.line) × IsTooLong new.options.max_statement new.ahead
-  -- Before a fault a front of what the next chunk adds was written, and only a failed write cuts it.
-  pub front : OnErr result (IsLeftByFault (λ read. gave source read source_after) (λ shown. took sink shown sink_after) old new)
-  pub unwritten : OnErr result (result ≢ Err WriteFailed → sink_after ≡ sink)
-  pub read_failed : result ≡ Err ReadFailed → Rises (reads_failed source) (reads_failed source_after)
-  pub write_failed : result ≡ Err WriteFailed → Rises (writes_failed sink) (writes_failed sink_after)
-  pub steady : (result ≢ Err ReadFailed → reads_failed source_after ≡ reads_failed source)
-      × (result ≢ Err WriteFailed → writes_failed sink_after ≡ writes_failed sink)
-  -- Whatever is answered, the devices gave and took what reads and writes gave and took.
-  pub devices : (read : List (List ℕ)) × (shown : List ℕ) × gave source read source_after × took sink shown sink_after
-  -- Each read was needed. What stood ahead, and what was read then, is at most the longest chunk and one piece more.
-  pub bound : (read : List (List ℕ)) × gave source read source_after × AreNeeded old.options.max_statement old.ahead.bytes read
-      × (length (old.ahead.bytes ++ joined read) ≤ old.options.max_statement + 8192)
-  pub runs : result ≢ Err Stopped
+-- Reads gave these pieces, these chunks were done and this text was written: with what the session tells at this end it is the outcome for every file
+-- that begins with the pieces, where the end was met for that file alone. No chunk was looked at but those and the one after them.
+abbrev pub HasEnded : SessionValue → End → List (List ℕ) → List (List ℕ) → List ℕ → Type 0
+HasEnded v end pieces cs text = ForEveryFile pieces (λ file. IsOutcome (run_in v) file text (told_at v end) × AreBefore end cs file)
 
 -- it can take a chunk
 pub record IsReady (v : SessionValue) : Type 0 where

@@ -4,6 +4,7 @@ ghost use Rattle.std.specs.Prelude.{◌≡◌, ◌≢◌, ℕ, ◌≤◌, ◌^�
 ghost use Rattle.bz_devices.specs.Ahead.{HasTooLong};
 ghost use Rattle.bz_devices.specs.Device.{joined, ends, NoneEnds, Rises};
 ghost use Rattle.bz_engine.specs.EveryFile.{ForEveryFile};
+ghost use Rattle.bz_engine.specs.NeededReads.{AreReads};
 ghost use Rattle.bz_engine.specs.Outcome.{Told, run_with, IsOutcome, IsFrontOf, told_by};
 
 use crate::options::Options;
@@ -29,14 +30,14 @@ pub fn run<S: Source, W: Sink>(
 ) -> Result<Report, RunFault>
     requires { options.max_reads ≤ 2 ^ 50 }
     // For every file that begins with what the source gave (once its end was met, for that file), the bytes that were
-    // appended and the report are the outcome of the passes over its statements.
+    // appended and the report are the outcome of the passes over its statements. Each read was needed.
     ensures outcome { IfOk result (λ report. (pieces : List (List ℕ)) × (text : List ℕ)
-        × S.gave source.old pieces source.new × W.took sink.old text sink.new × (length pieces ≤ options.max_reads)
+        × S.gave source.old pieces source.new × W.took sink.old text sink.new × AreReads home passes.items options pieces
         × ForEveryFile pieces
         (λ file. IsOutcome (run_with home passes.items options) file text (told_by report))) }
     // Before a fault a front of the text was written that is written for each such file.
     ensures front { OnErr result ((pieces : List (List ℕ)) × (text : List ℕ)
-        × S.gave source.old pieces source.new × W.took sink.old text sink.new × (length pieces ≤ options.max_reads)
+        × S.gave source.old pieces source.new × W.took sink.old text sink.new × AreReads home passes.items options pieces
         × ForEveryFile pieces (λ file. (whole : List ℕ) (told : Told)
         → IsOutcome (run_with home passes.items options) file whole told → IsFrontOf text whole)) }
     // Whatever is answered, the devices gave and took what reads and writes gave and took.

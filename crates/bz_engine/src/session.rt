@@ -10,7 +10,8 @@ ghost use Rattle.bz_engine.specs.private.ChunkFaults.{fault_at};
 ghost use Rattle.bz_engine.specs.private.Edits.{EditsChunk};
 ghost use Rattle.bz_engine.specs.private.Finds.{Finds};
 ghost use Rattle.bz_engine.specs.private.NextChunks.{IsNextEdited, IsFirstNext, CanTake};
-ghost use Rattle.bz_engine.specs.SessionValue.{at_start, run_in, IsSameRun, IsReady, IsRefused, AddsOne, EndsRun, Steps, told_at};
+ghost use Rattle.bz_engine.specs.SessionValue.{at_start, run_in, IsSameRun, IsReady, told_at};
+ghost use Rattle.bz_engine.specs.SessionSteps.{Steps, reader, writer};
 ghost use Rattle.bz_engine.specs.declared.session.Stage.TheVariants.{Going, Ended, Stopped};
 
 use crate::edit::{Edited, Script};
@@ -130,18 +131,9 @@ impl Session {
         // Nor once it has ended, and it stays as it is.
         ensures ended { (end : _) → self.old.stage ≡ Ended end
             → (result ≡ Ok Step.End) × (self.new ≡ self.old) × (source.new ≡ source.old) × (sink.new ≡ sink.old) }
-        // After `More` one chunk is done: its text was written.
-        ensures more { result ≡ Ok Step.More → (self.new.stage ≡ Going)
-            × AddsOne S.gave W.took source.old source.new sink.old sink.new self.old self.new }
-        // At the end nothing is written, and what the session tells is the outcome.
-        ensures end { result ≡ Ok Step.End → self.old.stage ≡ Going → (end : _) × (self.new.stage ≡ Ended end)
-            × EndsRun S.gave W.took source.old source.new sink.old sink.new self.old self.new end }
-        // A chunk that is taken fits. Where the next one is sure to be too long, that is told, or memory failed.
-        ensures refused { self.old.stage ≡ Going → result ≢ Ok Step.More
-            → IsTooLong self.new.options.max_statement self.new.ahead → IsRefused result }
-        // What was read and written, and what a fault tells.
-        ensures steps { self.old.stage ≡ Going → Steps S.gave S.failures W.took W.failures source.old source.new
-            sink.old sink.new self.old self.new result }
+        // Else it takes one chunk, comes to the end or answers a fault.
+        ensures steps { self.old.stage ≡ Going → Steps (reader S.gave S.failures source.old source.new)
+            (writer W.took W.failures sink.old sink.new) self.old self.new result }
         ensures stops { OnErr result (self.new.stage ≡ Stopped) }
     {
         match self.stage {
@@ -149,13 +141,7 @@ impl Session {
             Stage::Ended(_) => return Ok(Step::End),
             Stage::Going => {}
         }
-        // After a fault what is kept is of no use.
-        self.stage = Stage::Stopped;
-        self.stage = self.advance(source, sink)?;
-        match self.stage {
-            Stage::Going => Ok(Step::More),
-            _ => Ok(Step::End),
-        }
+        self.advance(source, sink)
     }
 
     /// What the run tells, once it has ended.
@@ -207,45 +193,47 @@ impl Session {
         Ok(report)
     }
 
-    /// Takes the next chunk, and answers whether the session goes on. What is kept is of no use after a fault.
+    /// Takes the next chunk, runs the script on it and writes what it leaves.
     fn advance<S: Source, W: Sink>(
         &mut self,
         source: &mut S,
         sink: &mut W,
-    ) -> Result<Stage, RunFault>
-        requires stopped { self.old.stage ≡ Stopped }
-        requires made { self.old.ahead.reads ≤ self.old.options.max_reads }
-        requires ready { IsReady self.old }
+    ) -> Result<Step, RunFault>
+        requires going { self.old.stage ≡ Going }
         ensures same { IsSameRun self.old self.new }
-        ensures stage { self.new.stage ≡ self.old.stage }
-        ensures ready { result ≡ Ok Going → IsReady self.new }
-        ensures fits { OnOk result (Fits self.new.progress.kept self.new.passes) }
-        ensures more { result ≡ Ok Going → AddsOne S.gave W.took source.old source.new sink.old sink.new self.old self.new }
-        ensures end { (end : _) → result ≡ Ok (Ended end)
-            → EndsRun S.gave W.took source.old source.new sink.old sink.new self.old self.new end }
-        // Where the next chunk is sure to be too long, that is told, or memory failed.
-        ensures refused { result ≢ Ok Going → IsTooLong self.new.options.max_statement self.new.ahead → IsRefused result }
-        ensures steps { Steps S.gave S.failures W.took W.failures source.old source.new
-            sink.old sink.new self.old self.new result }
-        ensures goes { result ≢ Ok Stopped }
+        ensures steps { Steps (reader S.gave S.failures source.old source.new)
+            (writer W.took W.failures sink.old sink.new) self.old self.new result }
+        ensures stops { OnErr result (self.new.stage ≡ Stopped) }
     {
+        // After a fault what is kept is of no use.
+        self.stage = Stage::Stopped;
         let mut text = self.take_text();
         let Some(NextChunk { len, edited }) = self.edit_next(source, &mut text)? else {
-            return Ok(Stage::Ended(End::Whole));
+            return Ok(self.end_at(End::Whole));
         };
-        let stage = match edited {
+        match edited {
             Edited::Done => {
                 self.write(len, text.as_slice(), sink)?;
-                Stage::Going
+                self.text = text;
+                self.stage = Stage::Going;
+                Ok(Step::More)
             }
-            Edited::Faulty(fault) => Stage::Ended(End::Syntax(fault)),
+            Edited::Faulty(fault) => Ok(self.end_at(End::Syntax(fault))),
             Edited::Failed(message) => {
                 self.failure = message;
-                Stage::Ended(End::FirstFailure)
+                Ok(self.end_at(End::FirstFailure))
             }
-        };
-        self.text = text;
-        Ok(stage)
+        }
+    }
+
+    /// The session has ended in this way.
+    fn end_at(&mut self, end: End) -> Step
+        requires { Fits self.old.progress.kept self.old.passes }
+        ensures ended { self.new ≡ record self.old { stage = Ended end } }
+        ensures end { result ≡ Step.End }
+    {
+        self.stage = Stage::Ended(end);
+        Step::End
     }
 
     /// The buffer for the text of a chunk, empty.
@@ -280,7 +268,7 @@ impl Session {
     {
         let mut may_read = true;
         loop {
-            match self.edit_first(text)? {
+            match self.edit_ahead(text)? {
                 First::Edited(next) => return Ok(Some(next)),
                 First::Short if may_read => {
                     let line = self.progress.line;
@@ -321,7 +309,7 @@ impl Session {
     }
 
     /// The script on the first chunk of the text ahead.
-    fn edit_first(&mut self, text: &mut Vec<u8>) -> Result<First, AllocError>
+    fn edit_ahead(&mut self, text: &mut Vec<u8>) -> Result<First, AllocError>
         requires stopped { self.old.stage ≡ Stopped }
         requires ready { CanTake self.old }
         ensures same { self.new ≡ record self.old { progress = self.new.progress } }

@@ -14,9 +14,10 @@ pub record HasManyMore (count : ℕ) (Gave : List (List ℕ) → Type 0) (Took :
   pub done : HasDone v (pieces ++ read) (cs ++ chunks) (text ++ shown)
 
 -- Steps came to this end of the run: what was written is its text, and what the session tells then is its outcome.
-pub record HasComeTo (end : End) (Gave : List (List ℕ) → Type 0) (Took : List ℕ → Type 0) (v : SessionValue) (pieces : List (List ℕ)) (text : List ℕ) : Type 0 where
+pub record HasComeTo (end : End) (Gave : List (List ℕ) → Type 0) (Took : List ℕ → Type 0) (v : SessionValue) (pieces cs : List (List ℕ)) (text : List ℕ) : Type 0 where
   pub read : List (List ℕ)
+  pub chunks : List (List ℕ)
   pub shown : List ℕ
   pub gave : Gave read
   pub took : Took shown
-  pub ended : HasEnded v end (pieces ++ read) (text ++ shown)
+  pub ended : HasEnded v end (pieces ++ read) (cs ++ chunks) (text ++ shown)

@@ -23,7 +23,7 @@ pub fn take_steps<S: Source, W: Sink>(
     ensures end { result ≡ Ok Step.End → session.old.stage ≡ Going → (end : _) × (session.new.stage ≡ Ended end)
         × ((pieces cs : List (List ℕ)) (text : List ℕ) → HasDone session.old pieces cs text
         → HasComeTo end (λ read. S.gave source.old read source.new) (λ shown. W.took sink.old shown sink.new)
-        session.new pieces text) }
+        session.new pieces cs text) }
 {
     let mut taken = 0;
     while taken < count {

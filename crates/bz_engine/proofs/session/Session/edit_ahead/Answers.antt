@@ -1,7 +1,7 @@
 use Rattle.std.proofs.Common.{sym, subst}
 use Rattle.bz_engine.specs.private.NextChunks.{CanTake}
 use Rattle.bz_engine.proofs.Kept.{lines_ahead}
-use Rattle.bz_engine.proofs.session.Session.edit_first.Goals as goal
+use Rattle.bz_engine.proofs.session.Session.edit_ahead.Goals as goal
 
 pub edit_first-requires-clause-lines : goal.edit_first-requires-clause-lines
 edit_first-requires-clause-lines c =

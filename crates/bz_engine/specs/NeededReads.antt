@@ -1,0 +1,36 @@
+-- The reads of a run: each was needed (this project's own rule).
+use Rattle.std.specs.Prelude.{◌≡◌, ℕ, ◌+◌, ◌≤◌, false, List, [], ◌∷◌, ◌++◌, length, None, ⊤}
+use Rattle.std.specs.List.{concat}
+use Rattle.bz_token.specs.Chunks.{chunks}
+use Rattle.bz_tree.specs.Tree.{Statement}
+use Rattle.bz_command.specs.Labels.{Package}
+use Rattle.bz_devices.specs.Device.{joined, NoneEnds}
+use Rattle.bz_devices.specs.Ahead.{IsUndecided}
+use Rattle.bz_engine.specs.declared.options.Options.{Options}
+use Rattle.bz_engine.specs.File.{Give}
+use Rattle.bz_engine.specs.Outcome.{Script, Run, run_with, some_failure}
+
+-- After these reads another was needed: none of them met the end, the chunks that they gave do not end the run, and the bytes that are left leave
+-- the next chunk open.
+pub record IsOneNeeded (run : Run) (max_statement : ℕ) (pieces : List (List ℕ)) : Type 0 where
+  pub going : NoneEnds pieces
+  pub front : List (List ℕ)
+  pub left : List ℕ
+  pub bytes_are : joined pieces ≡ concat front ++ left
+  pub chunks_are : (rest : List ℕ) → chunks (joined pieces ++ rest) ≡ front ++ chunks (left ++ rest)
+  pub statements : List Statement
+  pub read : Give run.max_depth 1 front statements None
+  pub calm : run.keep_going ≡ false → some_failure run.home run.passes statements ≡ false
+  pub undecided : IsUndecided max_statement left
+
+-- Each of these reads, which were made after those, was needed.
+abbrev pub AreNeededAfter : Run → ℕ → List (List ℕ) → List (List ℕ) → Type 0
+AreNeededAfter run max_statement before [] = ⊤
+AreNeededAfter run max_statement before (piece ∷ pieces) =
+    IsOneNeeded run max_statement before × AreNeededAfter run max_statement (before ++ piece ∷ []) pieces
+
+-- The reads of a run: no more than it may make, at most one more than there are bytes, and each was needed.
+pub record AreReads (home : Package) (passes : Script) (options : Options) (pieces : List (List ℕ)) : Type 0 where
+  pub within : length pieces ≤ options.max_reads
+  pub few : length pieces ≤ length (joined pieces) + 1
+  pub needed : AreNeededAfter (run_with home passes options) options.max_statement [] pieces
