@@ -1,6 +1,7 @@
-//! Chunks that stand as they would be written, of statements that the script passes by: they are copied, and not read.
+//! Chunks that stand as they would be written, of statements that the script leaves as they are: they are copied, and not
+//! read.
 
-ghost use Rattle.std.specs.Prelude.{◌≡◌, ◌+◌, ◌<◌, ◌≤◌, ◌^◌, ◌++◌, if◌then◌else◌, [], ◌∷◌, Some, length, option_map, IfOk, OnOk, IfSome, IfNone, IsTrue};
+ghost use Rattle.std.specs.Prelude.{◌≡◌, ◌+◌, ◌<◌, ◌≤◌, ◌^◌, ◌++◌, if◌then◌else◌, [], ◌∷◌, Some, length, option_map, IfOk, OnOk, IfSome, IfNone, IsFalse, IsTrue};
 ghost use Rattle.bz_tree.specs.Statement.{class_of};
 ghost use Rattle.bz_tree.specs.Tree.{Statement};
 ghost use Rattle.bz_layout.specs.Layout.{layout_text};
@@ -10,22 +11,27 @@ ghost use Rattle.bz_devices.specs.Ahead.{IsFewAfter};
 ghost use Rattle.bz_engine.specs.Meaning.{meaning, changes, fails_on};
 ghost use Rattle.bz_engine.specs.Outcome.{is_query};
 ghost use Rattle.bz_engine.specs.Progress.{text_following};
-ghost use Rattle.bz_engine.specs.private.Edits.{run_of};
+ghost use Rattle.bz_engine.specs.private.Edits.{IsLaidOut, run_of};
+ghost use Rattle.bz_engine.specs.private.Found.{IsFound, one_pass};
 ghost use Rattle.bz_engine.specs.private.NextChunks.{IsFirstEdited};
 ghost use Rattle.bz_engine.specs.private.Rows.{HasKey};
 
+use crate::answer::{answer_by_name, is_answerable, marks_name};
 use crate::edit::{Edited, Script, put_gap};
 use crate::next_chunk::NextChunk;
 use crate::progress::Progress;
+use crate::rule_passes::OnePass;
 use crate::rules::Rules;
+use bz_attribute::Env;
 use bz_canonical::{CanonicalChunk, canonical};
 use bz_devices::ahead::Ahead;
 use bz_passes::index::Key;
 use bz_passes::script::passes_by;
+use bz_tree::Class;
 use std::alloc::AllocError;
 
-/// The script on the first chunk of the text ahead, where the chunk stands as it would be written and no pass marks its
-/// statement: it is copied. None, with nothing done: it is to be read.
+/// The script on the first chunk of the text ahead, where the chunk stands as it would be written and what the script
+/// makes of its statement is known without it: it is copied. None, with nothing done: it is to be read.
 pub(crate) fn edit_canonical(
     script: Script<'_>,
     ahead: &Ahead,
@@ -42,16 +48,18 @@ pub(crate) fn edit_canonical(
     ensures none { IfOk result (λ found. IfNone found
         ((progress.new ≡ progress.old) × (text.new.items ≡ text.old.items))) }
 {
-    // A pass that asks for no name may mark any statement.
-    if !script.passes.ask_for_names() || !progress.is_worth_a_look() {
+    if !may_be_known(script) || !progress.is_worth_a_look() {
         return Ok(None);
     }
-    let Some(found) = find_passed(script, ahead.text(), max_statement) else {
+    let Some(found) = find_canonical(script, ahead.text(), max_statement) else {
         progress.looked_in_vain();
         return Ok(None);
     };
+    if !edit_found(script, found, progress, text)? {
+        progress.looked_in_vain();
+        return Ok(None);
+    }
     progress.looked_well();
-    put_canonical(script, found, progress, text)?;
     progress.pass_lines(found.chunk.as_bytes());
     Ok(Some(NextChunk {
         len: found.chunk.len(),
@@ -59,8 +67,19 @@ pub(crate) fn edit_canonical(
     }))
 }
 
-/// The canonical chunk that the text begins with, where it is not too long and the script passes its statement by.
-fn find_passed<'a>(
+/// Whether what the script makes of some statements may be known without them.
+fn may_be_known(script: Script<'_>) -> bool {
+    if script.passes.ask_for_names() {
+        return true;
+    }
+    match script.passes.only() {
+        None => false,
+        Some(only) => is_answerable(only.command),
+    }
+}
+
+/// The canonical chunk that the text begins with, where it is not too long.
+fn find_canonical<'a>(
     script: Script<'_>,
     text: &'a str,
     max_statement: u64,
@@ -68,16 +87,84 @@ fn find_passed<'a>(
     ensures canonical { IfSome result (λ found. IsCanonical script.entry.max_depth found.class
         (option_map (λ name. name.now) found.name) found.chunk.now found.written.now text.now) }
     ensures size { IfSome result (λ found. length found.chunk.now ≤ max_statement) }
-    ensures passed { IfSome result (λ found. (s : Statement) → s.class ≡ class_of s.nodes
-        → HasName (option_map (λ name. name.now) found.name) s
-        → IsPassedBy (meaning script.entry.home.now) (changes script.entry.home.now) (fails_on script.entry.home.now)
-        script.entry.passes.now (Some s)) }
 {
     let found = canonical(text, script.max_depth)?;
-    if found.chunk.len() as u64 > max_statement || !is_name_passed_by(script, found.name) {
+    if found.chunk.len() as u64 > max_statement {
         return None;
     }
     Some(found)
+}
+
+/// The script on the statement of such a chunk. False, with nothing done: the statement is to be seen.
+fn edit_found(
+    script: Script<'_>,
+    found: CanonicalChunk<'_>,
+    progress: &mut Progress,
+    text: &mut Vec<u8>,
+) -> Result<bool, AllocError>
+    requires fits { Fits progress.old.kept script.passes.now }
+    ensures fits { OnOk result (Fits progress.new.kept script.entry.passes.now) }
+    ensures line { OnOk result (progress.new.line ≡ progress.old.line) }
+    ensures done { IfOk result (λ done. IsTrue done → (s : Statement) → IsFound found.entry s
+        → IsLaidOut (run_of script.entry) s progress.old progress.new text.old.items text.new.items) }
+    ensures nothing { IfOk result (λ done. IsFalse done
+        → (progress.new ≡ progress.old) × (text.new.items ≡ text.old.items)) }
+{
+    if is_passed_by(script, found) {
+        put_canonical(script, found, progress, text)?;
+        return Ok(true);
+    }
+    match script.passes.only() {
+        None => Ok(false),
+        Some(only) => edit_by_name(script, only, found, progress, text),
+    }
+}
+
+/// The one command of the script on the statement, where what it tells is known by its name alone.
+fn edit_by_name(
+    script: Script<'_>,
+    only: OnePass<'_>,
+    found: CanonicalChunk<'_>,
+    progress: &mut Progress,
+    text: &mut Vec<u8>,
+) -> Result<bool, AllocError>
+    requires fits { Fits progress.old.kept script.passes.now }
+    requires only { script.passes.now ≡ one_pass only.target.now only.command.now }
+    ensures fits { OnOk result (Fits progress.new.kept script.entry.passes.now) }
+    ensures line { OnOk result (progress.new.line ≡ progress.old.line) }
+    ensures done { IfOk result (λ done. IsTrue done → (s : Statement) → IsFound found.entry s
+        → IsLaidOut (run_of script.entry) s progress.old progress.new text.old.items text.new.items) }
+    ensures nothing { IfOk result (λ done. IsFalse done
+        → (progress.new ≡ progress.old) × (text.new.items ≡ text.old.items)) }
+{
+    let Some(name) = found.name else {
+        return Ok(false);
+    };
+    if !marks_name(only.target, name) {
+        return Ok(false);
+    }
+    let env = Env {
+        alloc: script.alloc,
+        home: script.home,
+    };
+    let Some(told) = answer_by_name(env, only.command, name)? else {
+        return Ok(false);
+    };
+    progress.keep_line(told.line)?;
+    put_canonical(script, found, progress, text)?;
+    Ok(true)
+}
+
+/// No pass of the script may mark the statement.
+fn is_passed_by(script: Script<'_>, found: CanonicalChunk<'_>) -> bool
+    ensures { IsTrue result → (s : Statement) → IsFound found.entry s
+        → IsPassedBy (meaning script.entry.home.now) (changes script.entry.home.now) (fails_on script.entry.home.now)
+        script.entry.passes.now (Some s) }
+{
+    match found.class {
+        Class::Rule => script.passes.ask_for_names() && is_name_passed_by(script, found.name),
+        _ => true,
+    }
 }
 
 /// No pass of the script may mark a statement of this name.
