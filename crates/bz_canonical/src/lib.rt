@@ -18,4 +18,4 @@ mod segments;
 mod statement;
 mod value;
 
-pub use chunk::{CanonicalChunk, canonical};
+pub use chunk::{CanonicalChunk, Room, canonical};

@@ -13,7 +13,7 @@ use Rattle.bz_tree_laws.proofs.ChunkLaws.{chunk_class}
 use Rattle.bz_command.specs.Labels.{Name, Pkg, All, Kind as OfKind, Line}
 use Rattle.bz_attribute.specs.Rules.{Rule, is_text, rule_of}
 use Rattle.bz_attribute.specs.Marks.{marks_if}
-use Rattle.bz_canonical.specs.Canonical.{HasName, IsCanonical, rule_name}
+use Rattle.bz_canonical.specs.Canonical.{HasName, IsCanonical, between, rule_name}
 use Rattle.bz_canonical.specs.declared.chunk.CanonicalChunk.{CanonicalChunk}
 use Rattle.bz_devices.specs.Ahead.{Ahead, IsFewAfter}
 use Rattle.bz_passes.specs.declared.index.Key.TheVariants.{Name as Named, NoName}
@@ -69,7 +69,7 @@ few_lines line chunk = omega (arith, count_by-le-length (λ b. b == 10) chunk)
 
 pub canonical_edited : (run : Run) (most : ℕ) (ahead : Ahead) (found : CanonicalChunk) (text : List ℕ) (old mid new : Progress) (before after : List ℕ)
     → IsFewAfter ahead → IsTakenOf text ahead.bytes → IsUtf8 found.chunk.now → length found.chunk.now ≤ most
-    → IsCanonical run.max_depth found.class (option_map (λ name. name.now) found.name) found.chunk.now found.written.now text
+    → IsCanonical run.max_depth found.class (option_map (λ name. name.now) found.name) (option_map between found.room) found.chunk.now found.written.now text
     → ((s : Statement) → IsFound found s → IsLaidOut run s old mid before after)
     → new ≡ record mid { line = line_at mid.line found.chunk.now }
     → IsFirstEdited run most ahead old new before after (record { len = length found.chunk.now; edited = Done })
@@ -80,7 +80,7 @@ canonical_edited run most ahead found text old mid new before after few outer ut
     let read = c.read old.line in
     let s = read.statement in
     let done : IsLaidOut run s old mid before after =
-    laid s (record { class = chunk_class old.line chunk read.read.tokens s read.read.reads.chunk; class_is = read.class_is; named = read.named; written = read.written }) in
+    laid s (record { class = chunk_class old.line chunk read.read.tokens s read.read.reads.chunk; class_is = read.class_is; named = read.named; written = read.written; absent = read.absent; grows = read.grows }) in
     record {
       chunk = first_is_next most ahead chunk text few outer c.some within front size c.ends;
       lines = subst (λ n. n ≤ old.line + length chunk) (sym (ap (λ (p : Progress). p.line) is ∙ ap (λ n. line_at n chunk) done.line)) (few_lines old.line chunk);

@@ -23,7 +23,7 @@ use Rattle.bz_engine.specs.Meaning.{meaning, changes, done_told, fails_on, line_
 use Rattle.bz_engine.specs.Outcome.{Run, Script, is_query}
 use Rattle.bz_engine.specs.Progress.{Progress, last_class, text_following}
 use Rattle.bz_engine.specs.private.Edits.{IsLaidOut}
-use Rattle.bz_engine.specs.private.Found.{HasOneLog, one_pass, one_told}
+use Rattle.bz_engine.specs.private.Found.{HasOneLog, Makes, one_pass, one_told, told_line}
 
 -- a rule that has this name
 pub named_rule : (s : Statement) (name : List ℕ) → HasName (Some name) s → (r : Rule) × (rule_of s.nodes ≡ Some r) × (name_in r.args ≡ Some name)
@@ -124,3 +124,19 @@ stays_laid run target command line class s old mid new before after_it passes me
     (is ∙ ap (λ (p : Progress). record p { last = Some class }) kept
     ∙ (λ i. record { kept = kept_and old.kept (one_told line); changed = or_false old.changed i; failed = old.failed; last = Some (sym class_is i); line = old.line }))
     (text ∙ ap (λ (p : Progress). before ++ (if is_query run.passes then [] else text_following p.last (Some s ∷ []))) kept)
+
+or_true : (b : Bool) → true ≡ (b || true)
+or_true true = refl
+or_true false = refl
+
+-- The one command makes t of s.
+pub grown_laid : (run : Run) (target : Target) (command : Command) (class : Class) (s t : Statement) (old mid new : Progress) (before after_it : List ℕ)
+    → run.passes ≡ one_pass target command → marks target s ≡ true → Makes command run.home s t (told_line true None) → t.class ≡ class
+    → mid ≡ record old { kept = kept_and old.kept (one_told None) } → new ≡ record mid { last = Some class; changed = true }
+    → after_it ≡ before ++ (if is_query run.passes then [] else text_following mid.last (Some t ∷ []))
+    → IsLaidOut run s old new before after_it
+grown_laid run target command class s t old mid new before after_it passes met makes class_is kept is text =
+    only_laid run target command s t (told_line true None) old new before after_it passes met makes.after_is makes.done refl
+    (is ∙ ap (λ (p : Progress). record p { last = Some class; changed = true }) kept
+    ∙ (λ i. record { kept = kept_and old.kept (one_told None); changed = or_true old.changed i; failed = old.failed; last = Some (sym class_is i); line = old.line }))
+    (text ∙ ap (λ (p : Progress). before ++ (if is_query run.passes then [] else text_following p.last (Some t ∷ []))) kept)

@@ -1,11 +1,11 @@
 //! Chunks that stand as they would be written, of statements that the script leaves as they are: they are copied, and not
 //! read.
 
-ghost use Rattle.std.specs.Prelude.{◌≡◌, ◌+◌, ◌<◌, ◌≤◌, ◌^◌, ◌++◌, if◌then◌else◌, [], ◌∷◌, Some, length, option_map, IfOk, OnOk, IfSome, IfNone, IsFalse, IsTrue};
+ghost use Rattle.std.specs.Prelude.{◌≡◌, ◌+◌, ◌<◌, ◌≤◌, ◌^◌, ◌++◌, if◌then◌else◌, [], ◌∷◌, Some, true, length, option_map, IfOk, OnOk, IfSome, IfNone, IsFalse, IsTrue};
 ghost use Rattle.bz_tree.specs.Statement.{class_of};
 ghost use Rattle.bz_tree.specs.Tree.{Statement};
 ghost use Rattle.bz_layout.specs.Layout.{layout_text};
-ghost use Rattle.bz_canonical.specs.Canonical.{HasName, IsCanonical};
+ghost use Rattle.bz_canonical.specs.Canonical.{HasName, IsCanonical, between};
 ghost use Rattle.bz_passes.specs.Exchange.{Fits, IsPassedBy};
 ghost use Rattle.bz_devices.specs.Ahead.{IsFewAfter};
 ghost use Rattle.bz_engine.specs.Meaning.{meaning, changes, fails_on};
@@ -16,14 +16,15 @@ ghost use Rattle.bz_engine.specs.private.Found.{IsFound, one_pass};
 ghost use Rattle.bz_engine.specs.private.NextChunks.{IsFirstEdited};
 ghost use Rattle.bz_engine.specs.private.Rows.{HasKey};
 
-use crate::answer::{answer_by_name, is_answerable, marks_name};
+use crate::answer::{Answer, answer_by_text, is_answerable, marks_name};
 use crate::edit::{Edited, Script, put_gap};
 use crate::next_chunk::NextChunk;
 use crate::progress::Progress;
 use crate::rule_passes::OnePass;
 use crate::rules::Rules;
 use bz_attribute::Env;
-use bz_canonical::{CanonicalChunk, canonical};
+use bz_attribute_commands::argument::put_argument;
+use bz_canonical::{CanonicalChunk, Room, canonical};
 use bz_devices::ahead::Ahead;
 use bz_passes::index::Key;
 use bz_passes::script::passes_by;
@@ -85,7 +86,8 @@ fn find_canonical<'a>(
     max_statement: u64,
 ) -> Option<CanonicalChunk<'a>>
     ensures canonical { IfSome result (λ found. IsCanonical script.entry.max_depth found.class
-        (option_map (λ name. name.now) found.name) found.chunk.now found.written.now text.now) }
+        (option_map (λ name. name.now) found.name) (option_map between found.room)
+        found.chunk.now found.written.now text.now) }
     ensures size { IfSome result (λ found. length found.chunk.now ≤ max_statement) }
 {
     let found = canonical(text, script.max_depth)?;
@@ -116,12 +118,12 @@ fn edit_found(
     }
     match script.passes.only() {
         None => Ok(false),
-        Some(only) => edit_by_name(script, only, found, progress, text),
+        Some(only) => edit_by_text(script, only, found, progress, text),
     }
 }
 
-/// The one command of the script on the statement, where what it tells is known by its name alone.
-fn edit_by_name(
+/// The one command of the script on the statement, where what it makes of it is known by its name and its text.
+fn edit_by_text(
     script: Script<'_>,
     only: OnePass<'_>,
     found: CanonicalChunk<'_>,
@@ -147,12 +149,31 @@ fn edit_by_name(
         alloc: script.alloc,
         home: script.home,
     };
-    let Some(told) = answer_by_name(env, only.command, name)? else {
-        return Ok(false);
-    };
-    progress.keep_line(told.line)?;
-    put_canonical(script, found, progress, text)?;
-    Ok(true)
+    match answer_by_text(env, only.command, name, found.written)? {
+        None => Ok(false),
+        Some(Answer::Stays(line)) => {
+            progress.keep_line(line)?;
+            put_canonical(script, found, progress, text)?;
+            Ok(true)
+        }
+        Some(Answer::Grows(new)) => {
+            let mut lines = Vec::new(script.alloc);
+            if !put_argument(script.alloc, new.attr, new.values, &mut lines)? {
+                return Ok(false);
+            }
+            let Some(room) = found.room else {
+                return Ok(false);
+            };
+            progress.keep_line(None)?;
+            let grown = Grown {
+                class: found.class,
+                room,
+                lines: lines.as_slice(),
+            };
+            put_grown(script, grown, progress, text)?;
+            Ok(true)
+        }
+    }
 }
 
 /// No pass of the script may mark the statement.
@@ -209,5 +230,37 @@ fn put_canonical(
         text.extend_from_slice(found.written.as_bytes())?;
     }
     progress.last = Some(found.class);
+    Ok(())
+}
+
+/// A rule with the lines of one argument more.
+#[derive(Clone, Copy)]
+struct Grown<'t> {
+    class: Class,
+    room: Room<'t>,
+    lines: &'t [u8],
+}
+
+/// Writes the text of a rule that has one argument more.
+fn put_grown(
+    script: Script<'_>,
+    grown: Grown<'_>,
+    progress: &mut Progress,
+    text: &mut Vec<u8>,
+) -> Result<(), AllocError>
+    ensures last { OnOk result (progress.new ≡ record progress.old { last = Some grown.entry.class; changed = true }) }
+    ensures text { OnOk result ((s : Statement) → s.class ≡ grown.entry.class
+        → layout_text s ≡ grown.entry.room.before.now ++ (grown.entry.lines.now ++ grown.entry.room.after.now)
+        → text.new.items ≡ text.old.items
+        ++ (if is_query script.entry.passes.now then [] else text_following progress.old.last (Some s ∷ []))) }
+{
+    if !script.passes.is_query() {
+        put_gap(progress.last, grown.class, text)?;
+        text.extend_from_slice(grown.room.before.as_bytes())?;
+        text.extend_from_slice(grown.lines)?;
+        text.extend_from_slice(grown.room.after.as_bytes())?;
+    }
+    progress.last = Some(grown.class);
+    progress.changed = true;
     Ok(())
 }
