@@ -1,3 +1,4 @@
+pub mod ArgumentLines
 pub mod ArgumentEdits
 pub mod CommentEdits
 pub mod KindWritten

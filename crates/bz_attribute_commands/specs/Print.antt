@@ -101,6 +101,10 @@ missing home s r (field ∷ fields) = if is_some (field_text home s r field) the
 abbrev pub printed : Package → Statement → Rule → List Field → Done
 printed home s r fields = record { changed = false; line = Some (line_of home s r fields); note = missing home s r fields }
 
+-- what a line alone is
+abbrev pub printed_line : List ℕ → Done
+printed_line line = record { changed = false; line = Some line; note = None }
+
 abbrev pub printed_of : Package → Statement → List Field → Option Rule → Done
 printed_of home s fields None = done None false
 printed_of home s fields (Some r) = printed home s r (fields_of fields)

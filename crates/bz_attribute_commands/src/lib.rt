@@ -1,6 +1,7 @@
 //! The commands on attributes and rules: `set`, `set_if_absent`, `set kind`, `rename`, `comment` and `print`.
 #![tactic(auto)]
 
+pub mod argument;
 pub mod comment;
 pub mod line;
 pub mod print;

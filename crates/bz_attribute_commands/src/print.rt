@@ -1,6 +1,6 @@
 //! `print`: a line with the texts of a rule's fields.
 
-ghost use Rattle.std.specs.Prelude.{◌≡◌, ◌++◌, ◌∷◌, [], map, option_map, is_some, IfOk, IfSome, OnOk, string_bytes, false, true, Some};
+ghost use Rattle.std.specs.Prelude.{◌≡◌, ◌++◌, ◌∷◌, [], map, option_map, is_some, IfOk, IfSome, IsTrue, OnOk, string_bytes, false, true, Some};
 ghost use Rattle.std.specs.Fmt.{decimal};
 ghost use Rattle.std.specs.List.{list_all};
 ghost use Rattle.bz_tree.specs.Tree.{Statement};
@@ -9,10 +9,10 @@ ghost use Rattle.bz_tree.specs.View.{nodes_view, seg_view, segs_view};
 ghost use Rattle.bz_command.specs.declared.arguments.Field.TheVariants.{ValueOf};
 ghost use Rattle.bz_attribute.specs.Heads.{IsHeadOf};
 ghost use Rattle.bz_attribute.specs.RowPlaces.{IsRuleRow};
-ghost use Rattle.bz_attribute.specs.Rules.{Rule, string_value};
+ghost use Rattle.bz_attribute.specs.Rules.{Rule, name_in, rule_of, string_value};
 ghost use Rattle.bz_attribute.specs.declared.done.Note.TheVariants.{Missing};
 ghost use Rattle.bz_attribute_commands.specs.Print as spec;
-ghost use Rattle.bz_attribute_commands.specs.private.PrintSteps.{HasPrinted, HasPrintedArgument};
+ghost use Rattle.bz_attribute_commands.specs.private.PrintSteps.{HasPrinted, HasPrintedArgument, IsFieldOfName};
 
 use bz_attribute::equals::string_of;
 use bz_attribute::{
@@ -38,6 +38,46 @@ pub fn print(env: Env<'_>, fields: &[Field], head: Head<'_>, parts: &[Part<'_>])
         line: Some(Text::from_string(line)),
         note: missing_note(env.alloc, missing)?,
     })
+}
+
+/// The line that is printed of a rule of this name, where its name or its label is the one field. None: more is asked.
+pub fn print_name(env: Env<'_>, fields: &[Field], name: &str) -> Result<Option<Text>, AllocError>
+    ensures { IfOk result (λ line. IfSome line (λ text. (s : Statement) (r : Rule) → rule_of s.nodes ≡ Some r
+        → name_in r.args ≡ Some name.now
+        → spec.prints env.entry.home.now fields.now (Some s) ≡ spec.printed_line text)) }
+{
+    let [field] = fields else {
+        return Ok(None);
+    };
+    let mut line = String::with_capacity(env.alloc, name.len())?;
+    if !push_of_name(env, &mut line, field, name)? {
+        return Ok(None);
+    }
+    Ok(Some(Text::from_string(line)))
+}
+
+// Writes a field of a rule of this name. False: it is another than the name and the label.
+fn push_of_name(
+    env: Env<'_>,
+    text: &mut String,
+    field: &Field,
+    name: &str,
+) -> Result<bool, AllocError>
+    ensures { IfOk result (λ known. IsTrue known
+        → IsFieldOfName env.entry.home.now field.now name.now (string_bytes text.old) (string_bytes text.new)) }
+{
+    match field {
+        Field::Label => {
+            push_home(text, env.home)?;
+            text.push_str(name)?;
+            Ok(true)
+        }
+        Field::ValueOf(attr) if attr.as_str() == "name" => {
+            push_word(env.alloc, text, name)?;
+            Ok(true)
+        }
+        _ => Ok(false),
+    }
 }
 
 fn missing_note(alloc: Global, missing: Option<&str>) -> Result<Option<Note>, AllocError>

@@ -8,3 +8,4 @@ pub mod RuleCalls
 pub mod BareStatements
 pub mod StatementFronts
 pub mod CanonicalChunks
+pub mod Rooms

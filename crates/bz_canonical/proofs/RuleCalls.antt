@@ -1,6 +1,6 @@
 -- The call of a rule by what was read of it.
 use Rattle.std.proofs.Common.{◌≡◌, ℕ, ◌+◌, ◌-◌, List, [], ◌∷◌, ◌++◌, Bool, true, false, ◌||◌, ◌&&◌, refl, sym, ap, ◌∙◌, arith, append_assoc, subst, length, take, bytes_eq, nat_eq, rules}
-use Rattle.std.specs.Prelude.{codes, nat_le, Some, None, if◌then◌else◌}
+use Rattle.std.specs.Prelude.{codes, nat_le, Option, Some, None, IfSome, if◌then◌else◌}
 use Rattle.std.proofs.lemmas.Bool.{false≢true}
 use Rattle.std.specs.List.{starts_with}
 use Rattle.std.proofs.lemmas.Slice.Eq.{bytes_eq-Decides}
@@ -19,10 +19,12 @@ use Rattle.bz_layout.proofs.Pieces.{bytes_append}
 use Rattle.bz_attribute.specs.Rules.{first_named, ident_of, is_operator_item, is_text as is_text_of, name_of, string_in}
 use Rattle.bz_canonical.specs.private.Fronts.{IsTokenFront, IsQuotedFront}
 use Rattle.bz_canonical.specs.private.Segments.{AreNotesFront, AreSegmentsFront, IsGroupFront}
-use Rattle.bz_canonical.specs.private.Statements.{HasArgumentName, IsRuleCallFront}
+use Rattle.bz_canonical.specs.Canonical.{HasArgumentName}
+use Rattle.bz_canonical.specs.private.Statements.{IsRuleCallFront}
 use Rattle.bz_canonical.proofs.GroupSegments.{begin, begin_flat, more, no_beside, begin_notes, finish_notes, no_segments, second_of_more, keyword_segment}
 use Rattle.bz_canonical.proofs.Operands.{broken_group, flat_group, string_value}
 use Rattle.bz_canonical.proofs.Chained.{value_nodes}
+use Rattle.bz_canonical.proofs.Rooms.{rule_room}
 use Rattle.bz_canonical.proofs.Taken.{taken}
 
 name_text : is_text Identifier (codes "name") ≡ true
@@ -39,8 +41,8 @@ many false false false t x same some = absurd (false≢true some)
 -- the first argument is the name
 pub named_front : (depth : ℕ) (start last next middle below after rest name : List ℕ) (n : ℕ) (h c e : Bool) → IsQuotedFront start name last → last ≡ 44 ∷ next
     → AreSegmentsFront RuleCall 1 depth next middle n h c → AreNotesFront 1 middle below e → (e || (c || nat_le 1 n)) ≡ true
-    → below ≡ 10 ∷ after → after ≡ 41 ∷ rest → IsRuleCallFront depth (Some name) (40 ∷ 10 ∷ (indent 1 ++ (codes "name" ++ (codes " = " ++ start)))) rest
-named_front depth start last next middle below after rest name n h c e q comma s notes some closes bracketed =
+    → below ≡ 10 ∷ after → after ≡ 41 ∷ rest → (room : Option (List ℕ)) → IfSome room (λ inner. (e ≡ false) × (inner ≡ below)) → IsRuleCallFront depth (Some name) room (40 ∷ 10 ∷ (indent 1 ++ (codes "name" ++ (codes " = " ++ start)))) rest
+named_front depth start last next middle below after rest name n h c e q comma s notes some closes bracketed room bare =
     let first : List ℕ = codes "name" ++ (codes " = " ++ start) in
     let inside : List ℕ = 10 ∷ (indent 1 ++ first) in
     let string : IsTokenFront String start last = record { token = 34 ∷ (name ++ 34 ∷ []); is = q.is; stays = refl; front = q.front } in
@@ -55,64 +57,73 @@ named_front depth start last next middle below after rest name n h c e q comma s
           all notes (subst (λ b. (e || b || nat_le 2 (0 + 1 + count s.segs) || (nat_le 2 (0 + 1 + count s.segs) && segs_hold s.segs)) ≡ true) (sym s.notes)
           (many e c (nat_le 1 n) (nat_le 2 (0 + 1 + count s.segs)) (nat_le 2 (0 + 1 + count s.segs) && segs_hold s.segs) counted some)) closes bracketed;
       named = q.value;
+      grows = rule_room depth inside middle below after rest (0 + 1 + count s.segs) (false || false || segs_hold s.segs) (false || (false || false) || have_comments s.segs) e all notes (omega arith) closes bracketed room bare;
     }
 
 -- the only argument is the name, in place
-pub only_named_front : (depth : ℕ) (text start last rest name : List ℕ) → text ≡ 40 ∷ (codes "name" ++ (codes " = " ++ start)) → IsQuotedFront start name last → last ≡ 41 ∷ rest → IsRuleCallFront depth (Some name) text rest
+pub only_named_front : (depth : ℕ) (text start last rest name : List ℕ) → text ≡ 40 ∷ (codes "name" ++ (codes " = " ++ start)) → IsQuotedFront start name last → last ≡ 41 ∷ rest → IsRuleCallFront depth (Some name) None text rest
 only_named_front depth text start last rest name is q closes =
     let first : List ℕ = codes "name" ++ (codes " = " ++ start) in
     let string : IsTokenFront String start last = record { token = 34 ∷ (name ++ 34 ∷ []); is = q.is; stays = refl; front = q.front } in
     let ident : IsTokenFront Identifier first (codes " = " ++ start) = record { token = codes "name"; is = name_text; stays = refl; front = refl } in
     let arg = keyword_segment RuleCall 0 depth first (codes " = " ++ start) last start false refl ident refl (value_nodes 0 depth start last false (string_value start last string 0 depth)) in
     let all = begin_flat RuleCall 0 depth first last false arg no_segs last (no_segments RuleCall depth) refl refl in
-    subst (λ t. IsRuleCallFront depth (Some name) t rest) (sym is)
-    (record { holds = false; group = flat_group RuleCall 0 depth first last rest 41 1 false refl all refl closes; named = q.value })
+    subst (λ t. IsRuleCallFront depth (Some name) None t rest) (sym is)
+    (record { holds = false; group = flat_group RuleCall 0 depth first last rest 41 1 false refl all refl closes; named = q.value; grows = tt })
 
--- no argument is a name
+-- no argument has a name that does not stand in the text
 
 same_bytes : (xs ys : List ℕ) → bytes_eq xs ys ≡ true → xs ≡ ys
 same_bytes xs ys h = search (rules, bytes_eq-Decides)
 
-after_it : (xs ys : List ℕ) → HasArgumentName ys → HasArgumentName (xs ++ ys)
-after_it xs ys h = record { before = xs ++ h.before; after = h.after; is = ap (λ (t : List ℕ). xs ++ t) h.is ∙ sym (append_assoc xs h.before (codes "name =" ++ h.after)) }
+pub after_it : (attr xs ys : List ℕ) → HasArgumentName attr ys → HasArgumentName attr (xs ++ ys)
+after_it attr xs ys h = record { before = xs ++ h.before; after = h.after; is = ap (λ (t : List ℕ). xs ++ t) h.is ∙ sym (append_assoc xs h.before (attr ++ (codes " =" ++ h.after))) }
 
-ident_is : (x : Item) → is_text_of (codes "name") (ident_of x) ≡ true → x ≡ leaf Identifier (codes "name")
-ident_is (leaf Identifier text) is = ap (leaf Identifier) (sym (same_bytes (codes "name") text is))
-ident_is (leaf _ text) is = absurd (false≢true is)
-ident_is (group kind segs one_comma end) is = absurd (false≢true is)
+pub before_it : (attr xs ys : List ℕ) → HasArgumentName attr xs → HasArgumentName attr (xs ++ ys)
+before_it attr xs ys h = record {
+  before = h.before;
+  after = h.after ++ ys;
+  is = ap (λ (t : List ℕ). t ++ ys) h.is ∙ append_assoc h.before (attr ++ (codes " =" ++ h.after)) ys ∙ ap (λ (t : List ℕ). h.before ++ t) (append_assoc attr (codes " =" ++ h.after) ys);
+}
+
+ident_is : (attr : List ℕ) (x : Item) → is_text_of attr (ident_of x) ≡ true → x ≡ leaf Identifier attr
+ident_is attr (leaf Identifier text) is = ap (leaf Identifier) (sym (same_bytes attr text is))
+ident_is attr (leaf _ text) is = absurd (false≢true is)
+ident_is attr (group kind segs one_comma end) is = absurd (false≢true is)
 
 equals_is : (y : Item) → is_operator_item (codes "=") y ≡ true → y ≡ leaf Operator (codes "=")
 equals_is (leaf Operator text) is = ap (leaf Operator) (same_bytes text (codes "=") is)
 equals_is (leaf _ text) is = absurd (false≢true is)
 equals_is (group kind segs one_comma end) is = absurd (false≢true is)
 
-named_begins : (x y : Item) → is_text_of (codes "name") (if is_operator_item (codes "=") y then ident_of x else None) ≡ true → (x ≡ leaf Identifier (codes "name")) × (y ≡ leaf Operator (codes "="))
-named_begins x y is = by (is_operator_item (codes "=") y) refl is
+named_begins : (attr : List ℕ) (x y : Item) → is_text_of attr (if is_operator_item (codes "=") y then ident_of x else None) ≡ true → (x ≡ leaf Identifier attr) × (y ≡ leaf Operator (codes "="))
+named_begins attr x y is = by (is_operator_item (codes "=") y) refl is
   where
-    by : (b : Bool) → is_operator_item (codes "=") y ≡ b → is_text_of (codes "name") (if b then ident_of x else None) ≡ true → (x ≡ leaf Identifier (codes "name")) × (y ≡ leaf Operator (codes "="))
-    by true equals is = (ident_is x is, equals_is y equals)
+    by : (b : Bool) → is_operator_item (codes "=") y ≡ b → is_text_of attr (if b then ident_of x else None) ≡ true → (x ≡ leaf Identifier attr) × (y ≡ leaf Operator (codes "="))
+    by true equals is = (ident_is attr x is, equals_is y equals)
     by false equals is = absurd (false≢true is)
 
--- a segment that is an argument `name`
-named_says : (level : ℕ) (gap : Gap) (nodes : Items) (last : List ℕ) → is_text_of (codes "name") (name_of (list_of nodes)) ≡ true
-    → HasArgumentName (bytes_of (items_pieces Broken level (Some RuleCall) gap Start nodes) ++ last)
-named_says level gap no_items last is = absurd (false≢true is)
-named_says level gap (item x no_items) last is = absurd (false≢true is)
-named_says level gap (item x (item y ys)) last is =
-    let parts = named_begins x y is in
+-- a segment that is an argument of this name
+named_says : (attr : List ℕ) (level : ℕ) (gap : Gap) (nodes : Items) (last : List ℕ) → is_text_of attr (name_of (list_of nodes)) ≡ true
+    → HasArgumentName attr (bytes_of (items_pieces Broken level (Some RuleCall) gap Start nodes) ++ last)
+named_says attr level gap no_items last is = absurd (false≢true is)
+named_says attr level gap (item x no_items) last is = absurd (false≢true is)
+named_says attr level gap (item x (item y ys)) last is =
+    let parts = named_begins attr x y is in
+    let rest : List ℕ = bytes_of (items_pieces Broken level (Some RuleCall) gap EdgeOperator ys) in
     rw (parts.0, parts.1) (record {
       before = gap_bytes gap;
-      after = bytes_of (items_pieces Broken level (Some RuleCall) gap EdgeOperator ys) ++ last;
-      is = append_assoc (gap_bytes gap) (codes "name =" ++ bytes_of (items_pieces Broken level (Some RuleCall) gap EdgeOperator ys)) last;
+      after = rest ++ last;
+      is = append_assoc (gap_bytes gap) (attr ++ (codes " =" ++ rest)) last ∙ ap (λ (t : List ℕ). gap_bytes gap ++ t) (append_assoc attr (codes " =" ++ rest) last);
     })
 
--- of segments on lines none is `name` where that does not stand in their text
-none_on_lines : (level : ℕ) (segs : Segs) (last : List ℕ) → (HasArgumentName (bytes_of (broken_segs Broken level RuleCall true segs) ++ last) → ⊥) → first_named (codes "name") (segments segs) ≡ None
-none_on_lines level no_segs last none = refl
-none_on_lines level (seg before nodes beside ss) last none =
-    by (is_text_of (codes "name") (name_of (list_of nodes))) refl
-    (none_on_lines level ss last (λ h. none (subst HasArgumentName (behind (comments level before) (items_pieces Broken level (Some RuleCall) (Line level) Start nodes) (comma_if true) (suffix_piece beside) (broken_segs Broken level RuleCall true ss))
-    (after_it _ _ h))))
+-- of segments on lines none has a name that does not stand in their text
+none_on_lines : (attr : List ℕ) (level : ℕ) (segs : Segs) (last : List ℕ) → (HasArgumentName attr (bytes_of (broken_segs Broken level RuleCall true segs) ++ last) → ⊥) → first_named attr (segments segs) ≡ None
+none_on_lines attr level no_segs last none = refl
+none_on_lines attr level (seg before nodes beside ss) last none =
+    by (is_text_of attr (name_of (list_of nodes))) refl
+    (none_on_lines attr level ss last (λ h. none (subst (HasArgumentName attr) (behind (comments level before) (items_pieces Broken level (Some RuleCall) (Line level) Start nodes) (comma_if true) (suffix_piece beside) (broken_segs Broken level RuleCall true ss))
+    (after_it attr _ _ h))))
   where
     around : (C P K S Q : List Piece) → bytes_of C ++ (bytes_of P ++ (bytes_of (K ++ (S ++ Q)) ++ last)) ≡ bytes_of (C ++ (P ++ (K ++ (S ++ Q)))) ++ last
     around C P K S Q = rw (bytes_append C (P ++ (K ++ (S ++ Q))), bytes_append P (K ++ (S ++ Q))) (simp append_assoc)
@@ -120,51 +131,52 @@ none_on_lines level (seg before nodes beside ss) last none =
     behind : (C P K S Q : List Piece) → (bytes_of C ++ (bytes_of P ++ (bytes_of K ++ bytes_of S))) ++ (bytes_of Q ++ last) ≡ bytes_of (C ++ (P ++ (K ++ (S ++ Q)))) ++ last
     behind C P K S Q = rw (bytes_append C (P ++ (K ++ (S ++ Q))), bytes_append P (K ++ (S ++ Q)), bytes_append K (S ++ Q), bytes_append S Q) (simp append_assoc)
 
-    by : (b : Bool) → is_text_of (codes "name") (name_of (list_of nodes)) ≡ b → first_named (codes "name") (segments ss) ≡ None
-        → (if b then Some (record { before = before; nodes = list_of nodes; suffix = beside }) else first_named (codes "name") (segments ss)) ≡ None
+    by : (b : Bool) → is_text_of attr (name_of (list_of nodes)) ≡ b → first_named attr (segments ss) ≡ None
+        → (if b then Some (record { before = before; nodes = list_of nodes; suffix = beside }) else first_named attr (segments ss)) ≡ None
     by true is others =
-        absurd (none (subst HasArgumentName (around (comments level before) (items_pieces Broken level (Some RuleCall) (Line level) Start nodes) (comma_if true) (suffix_piece beside) (broken_segs Broken level RuleCall true ss))
-        (after_it (bytes_of (comments level before)) _ (named_says level (Line level) nodes _ is))))
+        absurd (none (subst (HasArgumentName attr) (around (comments level before) (items_pieces Broken level (Some RuleCall) (Line level) Start nodes) (comma_if true) (suffix_piece beside) (broken_segs Broken level RuleCall true ss))
+        (after_it attr (bytes_of (comments level before)) _ (named_says attr level (Line level) nodes _ is))))
     by false is others = others
 
 abbrev in_place : ℕ → Bool → Items → List Piece
 in_place level first nodes = if first then items_pieces Broken level (Some RuleCall) Closed Start nodes else piece Closed Operator (codes ",") ∷ items_pieces Broken level (Some RuleCall) Space Start nodes
 
 -- nor of segments in place
-none_in_place : (level : ℕ) (first : Bool) (segs : Segs) (last : List ℕ) → (HasArgumentName (bytes_of (flat_segs Broken level RuleCall first segs) ++ last) → ⊥) → first_named (codes "name") (segments segs) ≡ None
-none_in_place level first no_segs last none = refl
-none_in_place level first (seg before nodes beside ss) last none =
-    by (is_text_of (codes "name") (name_of (list_of nodes))) refl
-    (none_in_place level false ss last (λ h. none (subst HasArgumentName (around (in_place level first nodes) (flat_segs Broken level RuleCall false ss)) (after_it (bytes_of (in_place level first nodes)) _ h))))
+none_in_place : (attr : List ℕ) (level : ℕ) (first : Bool) (segs : Segs) (last : List ℕ) → (HasArgumentName attr (bytes_of (flat_segs Broken level RuleCall first segs) ++ last) → ⊥) → first_named attr (segments segs) ≡ None
+none_in_place attr level first no_segs last none = refl
+none_in_place attr level first (seg before nodes beside ss) last none =
+    by (is_text_of attr (name_of (list_of nodes))) refl
+    (none_in_place attr level false ss last (λ h. none (subst (HasArgumentName attr) (around (in_place level first nodes) (flat_segs Broken level RuleCall false ss)) (after_it attr (bytes_of (in_place level first nodes)) _ h))))
   where
     around : (P Q : List Piece) → bytes_of P ++ (bytes_of Q ++ last) ≡ bytes_of (P ++ Q) ++ last
     around P Q = rw (bytes_append P Q) (simp append_assoc)
 
-    says : (first : Bool) (last : List ℕ) → is_text_of (codes "name") (name_of (list_of nodes)) ≡ true → HasArgumentName (bytes_of (in_place level first nodes) ++ last)
-    says true last is = named_says level Closed nodes last is
-    says false last is = after_it (codes ",") _ (named_says level Space nodes last is)
+    says : (first : Bool) (last : List ℕ) → is_text_of attr (name_of (list_of nodes)) ≡ true → HasArgumentName attr (bytes_of (in_place level first nodes) ++ last)
+    says true last is = named_says attr level Closed nodes last is
+    says false last is = after_it attr (codes ",") _ (named_says attr level Space nodes last is)
 
-    by : (b : Bool) → is_text_of (codes "name") (name_of (list_of nodes)) ≡ b → first_named (codes "name") (segments ss) ≡ None
-        → (if b then Some (record { before = before; nodes = list_of nodes; suffix = beside }) else first_named (codes "name") (segments ss)) ≡ None
-    by true is others = absurd (none (subst HasArgumentName (around (in_place level first nodes) (flat_segs Broken level RuleCall false ss)) (says first _ is)))
+    by : (b : Bool) → is_text_of attr (name_of (list_of nodes)) ≡ b → first_named attr (segments ss) ≡ None
+        → (if b then Some (record { before = before; nodes = list_of nodes; suffix = beside }) else first_named attr (segments ss)) ≡ None
+    by true is others = absurd (none (subst (HasArgumentName attr) (around (in_place level first nodes) (flat_segs Broken level RuleCall false ss)) (says first _ is)))
     by false is others = others
 
-no_argument_name : (segs : Segs) (end : List (List ℕ)) → (HasArgumentName (bytes_of (item_pieces Broken 0 Closed (group RuleCall segs false end))) → ⊥) → first_named (codes "name") (segments segs) ≡ None
-no_argument_name segs end none = by (is_broken RuleCall segs end (segs_hold segs)) none
+pub no_argument_name : (attr : List ℕ) (segs : Segs) (end : List (List ℕ)) → (HasArgumentName attr (bytes_of (item_pieces Broken 0 Closed (group RuleCall segs false end))) → ⊥) → first_named attr (segments segs) ≡ None
+no_argument_name attr segs end none = by (is_broken RuleCall segs end (segs_hold segs)) none
   where
-    by : (b : Bool) → (HasArgumentName (40 ∷ bytes_of (if b then broken_segs Broken 1 RuleCall true segs ++ (comments 1 end ++ piece (Line 0) Operator (codes ")") ∷ []) else flat_segs Broken 0 RuleCall true segs ++ piece Closed Operator (codes ")") ∷ [])) → ⊥)
-        → first_named (codes "name") (segments segs) ≡ None
-    by true none = none_on_lines 1 segs (bytes_of (comments 1 end ++ piece (Line 0) Operator (codes ")") ∷ []))
-        (λ h. none (after_it (codes "(") _ (subst HasArgumentName (sym (bytes_append (broken_segs Broken 1 RuleCall true segs) (comments 1 end ++ piece (Line 0) Operator (codes ")") ∷ []))) h)))
-    by false none = none_in_place 0 true segs (bytes_of (piece Closed Operator (codes ")") ∷ []))
-        (λ h. none (after_it (codes "(") _ (subst HasArgumentName (sym (bytes_append (flat_segs Broken 0 RuleCall true segs) (piece Closed Operator (codes ")") ∷ []))) h)))
+    by : (b : Bool) → (HasArgumentName attr (40 ∷ bytes_of (if b then broken_segs Broken 1 RuleCall true segs ++ (comments 1 end ++ piece (Line 0) Operator (codes ")") ∷ []) else flat_segs Broken 0 RuleCall true segs ++ piece Closed Operator (codes ")") ∷ [])) → ⊥)
+        → first_named attr (segments segs) ≡ None
+    by true none = none_on_lines attr 1 segs (bytes_of (comments 1 end ++ piece (Line 0) Operator (codes ")") ∷ []))
+        (λ h. none (after_it attr (codes "(") _ (subst (HasArgumentName attr) (sym (bytes_append (broken_segs Broken 1 RuleCall true segs) (comments 1 end ++ piece (Line 0) Operator (codes ")") ∷ []))) h)))
+    by false none = none_in_place attr 0 true segs (bytes_of (piece Closed Operator (codes ")") ∷ []))
+        (λ h. none (after_it attr (codes "(") _ (subst (HasArgumentName attr) (sym (bytes_append (flat_segs Broken 0 RuleCall true segs) (piece Closed Operator (codes ")") ∷ []))) h)))
 
-pub unnamed_front : (depth : ℕ) (text call rest : List ℕ) (h : Bool) → IsGroupFront RuleCall 0 depth text rest h → call ≡ take (length text - length rest) text → (HasArgumentName call → ⊥)
-    → IsRuleCallFront depth None text rest
+pub unnamed_front : (depth : ℕ) (text call rest : List ℕ) (h : Bool) → IsGroupFront RuleCall 0 depth text rest h → call ≡ take (length text - length rest) text → (HasArgumentName (codes "name") call → ⊥)
+    → IsRuleCallFront depth None None text rest
 unnamed_front depth text call rest h g is none = record {
   holds = h;
   group = g;
-  named = ap string_in (no_argument_name g.segs g.end (λ has. none (subst HasArgumentName (sym (is ∙ taken text (bytes_of (item_pieces Broken 0 Closed (group RuleCall g.segs false g.end))) rest (g.front Closed))) has)));
+  named = ap string_in (no_argument_name (codes "name") g.segs g.end (λ has. none (subst (HasArgumentName (codes "name")) (sym (is ∙ taken text (bytes_of (item_pieces Broken 0 Closed (group RuleCall g.segs false g.end))) rest (g.front Closed))) has)));
+  grows = tt;
 }
 
 abbrev all_but_first : List ℕ → List ℕ
@@ -172,14 +184,14 @@ all_but_first [] = []
 all_but_first (b ∷ bs) = bs
 
 -- where a text does not begin with it, it stands in what follows the first byte
-pub stands_later : (text rest : List ℕ) (b : ℕ) → text ≡ b ∷ rest → starts_with nat_eq text (codes "name =") ≡ false → HasArgumentName text → HasArgumentName rest
+pub stands_later : (text rest : List ℕ) (b : ℕ) → text ≡ b ∷ rest → starts_with nat_eq text (codes "name =") ≡ false → HasArgumentName (codes "name") text → HasArgumentName (codes "name") rest
 stands_later text rest b is other has = by has.before (sym is ∙ has.is)
   where
-    by : (before : List ℕ) → b ∷ rest ≡ before ++ (codes "name =" ++ has.after) → HasArgumentName rest
+    by : (before : List ℕ) → b ∷ rest ≡ before ++ (codes "name =" ++ has.after) → HasArgumentName (codes "name") rest
     by [] at = absurd (false≢true (sym other ∙ ap (λ t. starts_with nat_eq t (codes "name =")) (is ∙ at)))
     by (x ∷ xs) at = record { before = xs; after = has.after; is = ap all_but_first at }
 
-pub never_in_nothing : (text : List ℕ) → text ≡ [] → HasArgumentName text → ⊥
+pub never_in_nothing : (text : List ℕ) → text ≡ [] → HasArgumentName (codes "name") text → ⊥
 never_in_nothing text is has = by has.before (sym has.is ∙ is)
   where
     by : (before : List ℕ) → before ++ (codes "name =" ++ has.after) ≡ [] → ⊥

@@ -15,6 +15,8 @@ pub(crate) struct BareStatement<'t> {
     pub(crate) class: Class,
     /// The name of a rule. None: it is no rule, or has no name.
     pub(crate) name: Option<&'t [u8]>,
+    /// What follows its last argument, where the lines of one more may stand before it.
+    pub(crate) room: Option<&'t [u8]>,
     pub(crate) rest: &'t [u8],
 }
 
@@ -23,7 +25,7 @@ pub(crate) struct BareStatement<'t> {
 pub(crate) fn bare_statement(text: &[u8], max_depth: u8) -> Option<BareStatement<'_>>
     requires { max_depth < 254 }
     ensures { IfSome result (λ read. IsBareFront max_depth read.class (option_map (λ name. name.now) read.name)
-        text.now read.rest.now) }
+        (option_map (λ room. room.now) read.room) text.now read.rest.now) }
 {
     if max_depth == 0 {
         return None;
@@ -33,6 +35,7 @@ pub(crate) fn bare_statement(text: &[u8], max_depth: u8) -> Option<BareStatement
         return Some(BareStatement {
             class: Class::Load,
             name: None,
+            room: None,
             rest,
         });
     }
@@ -43,6 +46,7 @@ pub(crate) fn bare_statement(text: &[u8], max_depth: u8) -> Option<BareStatement
         return Some(BareStatement {
             class: Class::Rule,
             name: read.name,
+            room: read.room,
             rest: read.rest,
         });
     }
@@ -52,6 +56,7 @@ pub(crate) fn bare_statement(text: &[u8], max_depth: u8) -> Option<BareStatement
             Some(BareStatement {
                 class: Class::Assign,
                 name: None,
+                room: None,
                 rest,
             })
         }
@@ -60,6 +65,7 @@ pub(crate) fn bare_statement(text: &[u8], max_depth: u8) -> Option<BareStatement
             Some(BareStatement {
                 class: Class::Rule,
                 name: read.name,
+                room: read.room,
                 rest: read.rest,
             })
         }

@@ -17,4 +17,4 @@ mod segments;
 mod statement;
 mod value;
 
-pub use chunk::{CanonicalChunk, canonical};
+pub use chunk::{CanonicalChunk, Room, canonical};

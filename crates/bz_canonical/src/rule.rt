@@ -1,8 +1,9 @@
 //! The call of a rule that stands as it would be written.
 
-ghost use Rattle.std.specs.Prelude.{◌≡◌, ◌-◌, ◌<◌, ◌∷◌, ◌++◌, codes, length, option_map, take, IfSome, IfNone, IsFalse, Some, None, ℕ, []};
+ghost use Rattle.std.specs.Prelude.{◌≡◌, ◌-◌, ◌<◌, ◌∷◌, ◌++◌, codes, length, option_map, take, IfSome, IfNone, IsFalse, Some, None, ℕ, [], false};
 ghost use Rattle.bz_layout.specs.Pieces.{indent};
-ghost use Rattle.bz_canonical.specs.private.Statements.{HasArgumentName, IsRuleCallFront};
+ghost use Rattle.bz_canonical.specs.Canonical.{HasArgumentName};
+ghost use Rattle.bz_canonical.specs.private.Statements.{IsRuleCallFront};
 
 use crate::front::{after, after_name, line, simple_string};
 use crate::group::group;
@@ -14,6 +15,8 @@ use bz_tree::GroupKind;
 #[derive(Clone, Copy)]
 pub(crate) struct RuleCall<'t> {
     pub(crate) name: Option<&'t [u8]>,
+    /// What follows its last argument, where the lines of one more may stand before it.
+    pub(crate) room: Option<&'t [u8]>,
     pub(crate) rest: &'t [u8],
 }
 
@@ -22,13 +25,14 @@ pub(crate) struct RuleCall<'t> {
 pub(crate) fn rule_call(text: &[u8], depth: u8) -> Option<RuleCall<'_>>
     requires { depth < 253 }
     ensures { IfSome result (λ read. IsRuleCallFront depth (option_map (λ name. name.now) read.name)
-        text.now read.rest.now) }
+        (option_map (λ room. room.now) read.room) text.now read.rest.now) }
 {
     match after_first_name(text) {
         Some(value) => {
             let read = named_call(value, depth)?;
             Some(RuleCall {
                 name: Some(read.name),
+                room: read.room,
                 rest: read.rest,
             })
         }
@@ -43,7 +47,7 @@ pub(crate) fn rule_call(text: &[u8], depth: u8) -> Option<RuleCall<'_>>
 fn short_call(text: &[u8], depth: u8) -> Option<RuleCall<'_>>
     requires { depth < 253 }
     ensures { IfSome result (λ read. IsRuleCallFront depth (option_map (λ name. name.now) read.name)
-        text.now read.rest.now) }
+        (option_map (λ room. room.now) read.room) text.now read.rest.now) }
 {
     match after_only_name(text) {
         Some(value) => {
@@ -51,12 +55,17 @@ fn short_call(text: &[u8], depth: u8) -> Option<RuleCall<'_>>
             let rest = after(name.rest, b')')?;
             Some(RuleCall {
                 name: Some(name.inner),
+                room: None,
                 rest,
             })
         }
         None => {
             let rest = unnamed_call(text, depth)?;
-            Some(RuleCall { name: None, rest })
+            Some(RuleCall {
+                name: None,
+                room: None,
+                rest,
+            })
         }
     }
 }
@@ -85,6 +94,8 @@ fn after_first_name(text: &[u8]) -> Option<&[u8]>
 #[derive(Clone, Copy)]
 struct NamedCall<'t> {
     name: &'t [u8],
+    /// What follows its last argument, where no comments stand there.
+    room: Option<&'t [u8]>,
     rest: &'t [u8],
 }
 
@@ -92,7 +103,7 @@ struct NamedCall<'t> {
 #[inline(always)]
 fn named_call(value: &[u8], depth: u8) -> Option<NamedCall<'_>>
     requires { depth < 253 }
-    ensures { IfSome result (λ read. IsRuleCallFront depth (Some read.name.now)
+    ensures { IfSome result (λ read. IsRuleCallFront depth (Some read.name.now) (option_map (λ room. room.now) read.room)
         (40 ∷ 10 ∷ (indent 1 ++ (codes "name" ++ (codes " = " ++ value.now)))) read.rest.now) }
 {
     let name = simple_string(value)?;
@@ -107,14 +118,25 @@ fn named_call(value: &[u8], depth: u8) -> Option<NamedCall<'_>>
     let rest = after(end, b')')?;
     Some(NamedCall {
         name: name.inner,
+        room: bare_end(read.rest, read.ended),
         rest,
     })
+}
+
+/// The end of arguments, where no comments stand after the last.
+fn bare_end(end: &[u8], noted: bool) -> Option<&[u8]>
+    ensures { IfSome (option_map (λ room. room.now) result) (λ room. (noted ≡ false) × (room ≡ end.now)) }
+{
+    if noted {
+        return None;
+    }
+    Some(end)
 }
 
 /// What follows the call of a rule here, no argument of which is `name`.
 fn unnamed_call(text: &[u8], depth: u8) -> Option<&[u8]>
     requires { depth < 253 }
-    ensures { IfSome result (λ rest. IsRuleCallFront depth None text.now rest.now) }
+    ensures { IfSome result (λ rest. IsRuleCallFront depth None None text.now rest.now) }
 {
     let read = group(GroupKind::RuleCall, text, 0, depth)?;
     let call = before(text, read.rest.len())?;
@@ -135,7 +157,7 @@ fn before(text: &[u8], left: usize) -> Option<&[u8]>
 
 /// Whether an argument `name` may stand here: its name and equals sign do.
 fn has_argument_name(text: &[u8]) -> bool
-    ensures { IsFalse result → HasArgumentName text.now → ⊥ }
+    ensures { IsFalse result → HasArgumentName (codes "name") text.now → ⊥ }
 {
     let mut rest = text;
     while let Some(next) = tail(rest) {

@@ -14,6 +14,8 @@ pub(crate) struct ReadStatement<'t> {
     pub(crate) class: Class,
     /// The name of a rule. None: it is no rule, or has no name.
     pub(crate) name: Option<&'t [u8]>,
+    /// What follows the last argument of a rule, where the lines of one more may stand before it.
+    pub(crate) room: Option<&'t [u8]>,
     /// What follows its text.
     pub(crate) end: &'t [u8],
     /// What follows its chunk: that of comment lines alone has the empty line after them.
@@ -25,7 +27,7 @@ pub(crate) struct ReadStatement<'t> {
 pub(crate) fn statement(text: &[u8], max_depth: u8) -> Option<ReadStatement<'_>>
     requires { max_depth < 254 }
     ensures { IfSome result (λ read. IsStatementFront max_depth read.class (option_map (λ name. name.now) read.name)
-        text.now read.end.now read.rest.now) }
+        (option_map (λ room. room.now) read.room) text.now read.end.now read.rest.now) }
 {
     let start = lines(text);
     if let Some(rest) = after(start, b'\n') {
@@ -35,6 +37,7 @@ pub(crate) fn statement(text: &[u8], max_depth: u8) -> Option<ReadStatement<'_>>
         return Some(ReadStatement {
             class: Class::Comment,
             name: None,
+            room: None,
             end: start,
             rest,
         });
@@ -45,6 +48,7 @@ pub(crate) fn statement(text: &[u8], max_depth: u8) -> Option<ReadStatement<'_>>
     Some(ReadStatement {
         class: read.class,
         name: read.name,
+        room: read.room,
         end: rest,
         rest,
     })

@@ -5,29 +5,27 @@ use Rattle.std.proofs.lemmas.Bool.{false≢true}
 use Rattle.std.proofs.lemmas.List.{length-append}
 use Rattle.std.proofs.lemmas.List.Sums.{count_by-le-length}
 use Rattle.std.proofs.lemmas.Slice.Eq.{bytes_eq-Decides}
-use Rattle.std.specs.Prelude.{Option, None, Some, if◌then◌else◌, ◌==◌}
+use Rattle.std.specs.Prelude.{Option, None, Some, option_map, ◌==◌}
 use Rattle.std.specs.Str.{IsUtf8}
 use Rattle.bz_token.specs.Places.{line_at}
-use Rattle.bz_tree.specs.declared.stmt.Class.{Class}
-use Rattle.bz_tree.specs.Statement.{class_of}
 use Rattle.bz_tree.specs.Tree.{Statement}
 use Rattle.bz_tree_laws.proofs.ChunkLaws.{chunk_class}
-use Rattle.bz_layout.specs.Layout.{layout_text}
 use Rattle.bz_command.specs.Labels.{Name, Pkg, All, Kind as OfKind, Line}
 use Rattle.bz_attribute.specs.Rules.{Rule, is_text, rule_of}
 use Rattle.bz_attribute.specs.Marks.{marks_if}
-use Rattle.bz_canonical.specs.Canonical.{HasName, IsCanonical, rule_name}
+use Rattle.bz_canonical.specs.Canonical.{HasName, IsCanonical, between, rule_name}
+use Rattle.bz_canonical.specs.declared.chunk.CanonicalChunk.{CanonicalChunk}
 use Rattle.bz_devices.specs.Ahead.{Ahead, IsFewAfter}
 use Rattle.bz_passes.specs.declared.index.Key.TheVariants.{Name as Named, NoName}
-use Rattle.bz_passes.specs.Exchange.{IsPassedBy}
-use Rattle.bz_engine.specs.Meaning.{meaning, changes, fails_on}
-use Rattle.bz_engine.specs.Outcome.{Run, is_query}
-use Rattle.bz_engine.specs.Progress.{Progress, text_following}
+use Rattle.bz_engine.specs.Outcome.{Run}
+use Rattle.bz_engine.specs.Progress.{Progress}
 use Rattle.bz_engine.specs.declared.edit.Edited.TheVariants.{Done}
-use Rattle.bz_engine.specs.private.Edits.{IsEdited}
+use Rattle.bz_engine.specs.declared.edit.Scripted.TheVariants.{Done as Laid}
+use Rattle.bz_engine.specs.private.Edits.{IsEdited, IsLaidOut}
+use Rattle.bz_engine.specs.private.Found.{IsFound}
 use Rattle.bz_engine.specs.private.NextChunks.{IsFirstEdited}
 use Rattle.bz_engine.specs.private.Rows.{HasKey}
-use Rattle.bz_engine.proofs.ChunkEdits.{stays_edited}
+use Rattle.bz_engine.proofs.ChunkEdits.{scripted_edited}
 use Rattle.bz_engine.proofs.FirstChunks.{IsTakenOf, first_is_next, chunk_is}
 
 same_bytes : (xs ys : List ℕ) → bytes_eq xs ys ≡ true → xs ≡ ys
@@ -69,23 +67,23 @@ front_taken chunk rest text is = sym (ap (take (length chunk)) is ∙ take-appen
 few_lines : (line : ℕ) (chunk : List ℕ) → line_at line chunk ≤ line + length chunk
 few_lines line chunk = omega (arith, count_by-le-length (λ b. b == 10) chunk)
 
-pub canonical_edited : (run : Run) (most : ℕ) (ahead : Ahead) (class : Class) (name : Option (List ℕ)) (chunk written text : List ℕ)
-    (old mid new : Progress) (before after : List ℕ)
-    → IsFewAfter ahead → IsTakenOf text ahead.bytes → IsUtf8 chunk → length chunk ≤ most → IsCanonical run.max_depth class name chunk written text
-    → ((s : Statement) → s.class ≡ class_of s.nodes → HasName name s → IsPassedBy (meaning run.home) (changes run.home) (fails_on run.home) run.passes (Some s))
-    → mid ≡ record old { last = Some class }
-    → ((s : Statement) → s.class ≡ class → layout_text s ≡ written → after ≡ before ++ (if is_query run.passes then [] else text_following old.last (Some s ∷ [])))
-    → new ≡ record mid { line = line_at mid.line chunk }
-    → IsFirstEdited run most ahead old new before after (record { len = length chunk; edited = Done })
-canonical_edited run most ahead class name chunk written text old mid new before after few outer utf8 size c passed same put is =
+pub canonical_edited : (run : Run) (most : ℕ) (ahead : Ahead) (found : CanonicalChunk) (text : List ℕ) (old mid new : Progress) (before after : List ℕ)
+    → IsFewAfter ahead → IsTakenOf text ahead.bytes → IsUtf8 found.chunk.now → length found.chunk.now ≤ most
+    → IsCanonical run.max_depth found.class (option_map (λ name. name.now) found.name) (option_map between found.room) found.chunk.now found.written.now text
+    → ((s : Statement) → IsFound found s → IsLaidOut run s old mid before after)
+    → new ≡ record mid { line = line_at mid.line found.chunk.now }
+    → IsFirstEdited run most ahead old new before after (record { len = length found.chunk.now; edited = Done })
+canonical_edited run most ahead found text old mid new before after few outer utf8 size c laid is =
+    let chunk : List ℕ = found.chunk.now in
     let within : length chunk ≤ length text = front_size chunk c.rest text c.front in
     let front : chunk ≡ take (length chunk) text = front_taken chunk c.rest text c.front in
     let read = c.read old.line in
+    let s = read.statement in
+    let done : IsLaidOut run s old mid before after =
+    laid s (record { class = chunk_class old.line chunk read.read.tokens s read.read.reads.chunk; class_is = read.class_is; named = read.named; written = read.written; absent = read.absent; grows = read.grows }) in
     record {
       chunk = first_is_next most ahead chunk text few outer c.some within front size c.ends;
-      lines = subst (λ n. n ≤ old.line + length chunk) (sym (ap (λ (p : Progress). p.line) is ∙ ap (λ (p : Progress). line_at p.line chunk) same)) (few_lines old.line chunk);
+      lines = subst (λ n. n ≤ old.line + length chunk) (sym (ap (λ (p : Progress). p.line) is ∙ ap (λ n. line_at n chunk) done.line)) (few_lines old.line chunk);
       edited = λ cs statements kept. subst (λ bytes. IsEdited run cs statements bytes old new before after Done) (chunk_is chunk text ahead.bytes outer within front)
-          (stays_edited run cs statements chunk read.statement class old mid new before after kept (utf8, read.read)
-          (passed read.statement (chunk_class old.line chunk read.read.tokens read.statement read.read.reads.chunk) read.named)
-          (sym read.class_is) same (put read.statement read.class_is read.written) is);
+          (scripted_edited run cs statements chunk s old mid new before after Laid kept (utf8, read.read) done is);
     }

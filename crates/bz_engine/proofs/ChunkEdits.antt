@@ -96,18 +96,6 @@ scripted_edited run cs ss chunk s old mid new before after (scripts.Failed messa
   nothing = ended.nothing;
 }
 
--- the chunk of a statement of this class that the script run.passes by
-pub stays_edited : (run : Run) (cs : List (List ℕ)) (ss : List Statement) (chunk : List ℕ) (s : Statement)
-    (class : Class) (old mid new : Progress) (before after : List ℕ)
-    → IsKeptOf run cs ss old → Gives run.max_depth old.line chunk (Ok (Some s)) → IsPassedBy (meaning run.home) (changes run.home) (fails_on run.home) run.passes (Some s)
-    → class ≡ s.class → mid ≡ record old { last = Some class }
-    → after ≡ before ++ (if is_query run.passes then [] else text_following old.last (Some s ∷ []))
-    → new ≡ record mid { line = line_at mid.line chunk }
-    → IsEdited run cs ss chunk old new before after Done
-stays_edited run cs ss chunk s class old mid new before after kept gives passed of_class same text is =
-    statement_done run cs ss chunk s old mid new before after kept gives
-    (passed_by run class s old mid before after passed of_class same text) is
-
 -- the line after the chunk
 abbrev pub line_passed : List ℕ → Progress → Progress
 line_passed chunk p = record p { line = line_at p.line chunk }

@@ -5,3 +5,4 @@ pub mod Named
 pub mod Rows
 pub mod NextChunks
 pub mod Finds
+pub mod Found

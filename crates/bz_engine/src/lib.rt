@@ -6,6 +6,7 @@
 //! the end, and the promises of a whole run.
 #![tactic(auto)]
 
+mod answer;
 mod canonical;
 mod chunk;
 mod edit;

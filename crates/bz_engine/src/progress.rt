@@ -1,12 +1,18 @@
 //! What a run keeps of the chunks that are done.
 
-ghost use Rattle.std.specs.Prelude.{◌≡◌, ◌+◌, ◌<◌, ◌^◌, length};
+ghost use Rattle.std.specs.Prelude.{◌≡◌, ◌+◌, ◌<◌, ◌^◌, ◌∷◌, [], length, OnOk, true};
 ghost use Rattle.bz_token.specs.Places.{line_at};
+ghost use Rattle.bz_passes.specs.Exchange.{kept_and, pass_and};
+ghost use Rattle.bz_engine.specs.Meaning.{line_told};
+ghost use Rattle.bz_engine.specs.private.Found.{HasOneLog, one_told};
 
 use crate::chunk::newlines;
 use crate::looks::Looks;
+use crate::rules::tell_line;
 use bz_passes::kept::Kept;
+use bz_rule::Text;
 use bz_tree::Class;
+use std::alloc::AllocError;
 use std::marker::Model;
 
 /// What a run keeps of the chunks that are done.
@@ -44,6 +50,15 @@ impl Progress {
         self.line += newlines(chunk);
     }
 
+    /// The one command of the script ran on one statement more, and this line was told of it.
+    pub(crate) fn keep_line(&mut self, line: Option<Text>) -> Result<(), AllocError>
+        requires { HasOneLog self.old.kept }
+        ensures { OnOk result
+            (self.new ≡ record self.old { kept = kept_and self.old.kept (one_told line) }) }
+    {
+        keep_line(&mut self.kept[0], line)
+    }
+
     /// Whether to see if the next chunk stands as it would be written.
     pub(crate) fn is_worth_a_look(&mut self) -> bool
         ensures { self.new ≡ self.old }
@@ -64,4 +79,13 @@ impl Progress {
     {
         self.looks.succeed();
     }
+}
+
+/// The one command of a pass ran on one statement more, which the pass marked, and this line was told of it.
+fn keep_line(kept: &mut Kept, line: Option<Text>) -> Result<(), AllocError>
+    requires { length kept.old.logs ≡ 1 }
+    ensures { OnOk result (kept.new ≡ pass_and kept.old (record { found = true; logs = line_told line ∷ [] })) }
+{
+    kept.found = true;
+    tell_line(line, &mut kept.logs[0])
 }

@@ -1,9 +1,10 @@
 //! The passes of a script over rules, with what is asked of them at each statement.
 
-ghost use Rattle.std.specs.Prelude.{◌≡◌, IfOk};
+ghost use Rattle.std.specs.Prelude.{◌≡◌, IfOk, IfSome};
 ghost use Rattle.std.specs.List.{list_all};
 ghost use Rattle.bz_rule.specs.Commands.{is_print};
 ghost use Rattle.bz_engine.specs.Outcome as spec;
+ghost use Rattle.bz_engine.specs.private.Found.{one_pass};
 ghost use Rattle.bz_engine.specs.private.Named.{all_named};
 
 use bz_command::Pass;
@@ -19,6 +20,13 @@ pub(crate) struct RulePasses {
     query: bool,
     /// Each target asks for a name.
     named: bool,
+}
+
+/// The one pass of a script, which has one command.
+#[derive(Clone, Copy)]
+pub(crate) struct OnePass<'p> {
+    pub(crate) target: &'p Target,
+    pub(crate) command: &'p Command,
 }
 
 impl Model for RulePasses {
@@ -69,6 +77,22 @@ impl RulePasses {
         ensures { result ≡ spec.is_query self.now }
     {
         self.query
+    }
+
+    /// Its pass, where it has one, and that one command.
+    pub(crate) fn only(&self) -> Option<OnePass<'_>>
+        ensures { IfSome result (λ only. self.now ≡ one_pass only.target.now only.command.now) }
+    {
+        let [pass] = self.as_slice() else {
+            return None;
+        };
+        let [command] = pass.commands.as_slice() else {
+            return None;
+        };
+        Some(OnePass {
+            target: &pass.target,
+            command,
+        })
     }
 
     /// Whether each target asks for a name: then what has none is passed by.

@@ -121,7 +121,7 @@ fn tell_done(
     Ok(facts)
 }
 
-fn tell_line(line: Option<Text>, log: &mut Log) -> Result<(), AllocError>
+pub(crate) fn tell_line(line: Option<Text>, log: &mut Log) -> Result<(), AllocError>
     ensures { OnOk result (log.new ≡ log.old ++ line_told line) }
 {
     if let Some(text) = line {

@@ -1,5 +1,5 @@
 -- For private clauses alone: what is printed of the rule of a head and parts, and words one after another.
-use Rattle.std.specs.Prelude.{◌≡◌, ℕ, List, [], ◌∷◌, ◌++◌, Option}
+use Rattle.std.specs.Prelude.{◌≡◌, ℕ, List, [], ◌∷◌, ◌++◌, Option, Some}
 use Rattle.bz_tree.specs.Tree.{Segment, Statement}
 use Rattle.bz_tree.specs.Rows.{RowPart}
 use Rattle.bz_command.specs.Labels.{Package}
@@ -9,8 +9,8 @@ use Rattle.bz_attribute.specs.declared.head.Head.{Head}
 use Rattle.bz_attribute.specs.declared.done.Note.{Note}
 use Rattle.bz_attribute.specs.Heads.{IsHeadOf}
 use Rattle.bz_attribute.specs.RowPlaces.{IsRuleRow}
-use Rattle.bz_attribute.specs.Rules.{Rule, string_value}
-use Rattle.bz_attribute_commands.specs.Print.{line_of, missing, word_of}
+use Rattle.bz_attribute.specs.Rules.{Rule, name_in, string_value}
+use Rattle.bz_attribute_commands.specs.Print.{field_text, line_of, missing, word_of}
 
 -- a rule of this head and these parts
 pub record IsRuleOf (known : Head) (ps : List RowPart) (s : Statement) (r : Rule) : Type 0 where
@@ -26,6 +26,12 @@ pub record HasPrinted (home : Package) (fields : List Field) (head : Head) (ps :
 pub record HasPrintedArgument (attr : List ℕ) (ps : List RowPart) (old new : List ℕ) (told : Option Note) : Type 0 where
   pub line : (home : Package) (s : Statement) (r : Rule) → IsRuleRow s r ps → new ≡ old ++ line_of home s r (ValueOf attr ∷ [])
   pub note : (home : Package) (s : Statement) (r : Rule) → IsRuleRow s r ps → told ≡ missing home s r (ValueOf attr ∷ [])
+
+-- this is written of each rule of this name
+pub record IsFieldOfName (home : Package) (field : Field) (name old new : List ℕ) : Type 0 where
+  pub text : List ℕ
+  pub is : (s : Statement) (r : Rule) → name_in r.args ≡ Some name → field_text home s r field ≡ Some text
+  pub line : new ≡ old ++ text
 
 abbrev pub element_word : Segment → List ℕ
 element_word s = word_of (string_value s.nodes)

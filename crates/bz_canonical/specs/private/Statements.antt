@@ -1,39 +1,54 @@
 -- The statement at the front of a text that stands as it is laid out, for private clauses.
-use Rattle.std.specs.Prelude.{◌≡◌, ◌≤◌, codes, ℕ, List, [], ◌∷◌, ◌++◌, Bool, true, false, if◌then◌else◌, map, Option, None}
+use Rattle.std.specs.Prelude.{◌≡◌, ◌≤◌, ◌-◌, codes, ℕ, drop, length, take, List, [], ◌∷◌, ◌++◌, Bool, true, false, if◌then◌else◌, map, Option, None, Some, IfSome}
 use Rattle.bz_token.specs.declared.token.Kind.TheVariants.{String}
 use Rattle.bz_tree.specs.declared.kinds.Preceding.TheVariants.{Other}
 use Rattle.bz_tree.specs.declared.stmt.Class.{Class}
 use Rattle.bz_tree.specs.declared.stmt.GroupKind.TheVariants.{RuleCall, Load}
 use Rattle.bz_tree.specs.Grammar.{IsStatement}
 use Rattle.bz_tree.specs.Statement.{class_of, is_rule, rule_call}
-use Rattle.bz_tree.specs.Tree.{Item, Statement, items_of, segments}
+use Rattle.bz_tree.specs.Tree.{Item, group, Segs, Segment, Statement, items_of, segments, segs_of}
 use Rattle.bz_layout.specs.declared.broken.Style.TheVariants.{Broken}
 use Rattle.bz_layout.specs.declared.spacing.Edge.TheVariants.{Start}
 use Rattle.bz_layout.specs.declared.spacing.Gap.TheVariants.{Closed}
-use Rattle.bz_layout.specs.Layout.{is_comment, items_pieces, layout_text}
+use Rattle.bz_layout.specs.Layout.{is_comment, item_pieces, items_pieces, layout_text}
 use Rattle.bz_layout.specs.Pieces.{bytes_of}
 use Rattle.bz_layout_laws.specs.Legible.{are_some, items_depth}
 use Rattle.bz_layout_laws.specs.Parsed.{HaveKinds, plain_calls}
 use Rattle.bz_layout_laws.specs.Spelled.{spelled, spelled_statement}
 use Rattle.bz_layout_laws.specs.TextsOfKinds.{HaveTexts}
 use Rattle.bz_layout_laws.specs.WellFormed.{IsWellFormed}
-use Rattle.bz_attribute.specs.Rules.{name_in, rule_of}
-use Rattle.bz_canonical.specs.Canonical.{HasName, rule_name}
+use Rattle.bz_attribute.specs.Rules.{first_named, name_in, rule_of}
+use Rattle.bz_canonical.specs.Canonical.{Between, HasArgumentName, HasName, HasRoom, argument_lines, nodes_with, rule_args, rule_name}
 use Rattle.bz_canonical.specs.private.Fronts.{IsTokenFront}
 use Rattle.bz_canonical.specs.private.Segments.{AreFlatFront, IsGroupFront}
 use Rattle.bz_canonical.specs.private.Values.{AreNodesFront}
 
--- the call of a rule of this name
-pub record IsRuleCallFront (depth : ℕ) (name : Option (List ℕ)) (text rest : List ℕ) : Type 0 where
+-- a group of arguments on lines with one more, after all others
+abbrev pub grown : Segs → List (List ℕ) → Segment → Item
+grown segs end arg = group RuleCall (segs_of (segments segs ++ arg ∷ [])) false end
+
+-- Before `inner` one argument more may stand in a group of arguments, and `rest` follows the group.
+pub record HasGroupRoom (segs : Segs) (end : List (List ℕ)) (text inner rest : List ℕ) : Type 0 where
+  pub before : List ℕ
+  pub after : List ℕ
+  pub front : text ≡ before ++ inner
+  pub ends : inner ≡ after ++ rest
+  pub takes : (arg : Segment) → bytes_of (item_pieces Broken 0 Closed (grown segs end arg)) ≡ before ++ (argument_lines arg ++ after)
+
+-- the same of the nodes of a statement
+pub record HasNodesRoom (nodes : List Item) (text inner rest : List ℕ) : Type 0 where
+  pub before : List ℕ
+  pub after : List ℕ
+  pub front : text ≡ before ++ inner
+  pub ends : inner ≡ after ++ rest
+  pub takes : (arg : Segment) → bytes_of (items_pieces Broken 0 None Closed Start (items_of (nodes_with arg nodes))) ≡ before ++ (argument_lines arg ++ after)
+
+-- the call of a rule of this name, where one argument more may stand before `room`
+pub record IsRuleCallFront (depth : ℕ) (name : Option (List ℕ)) (room : Option (List ℕ)) (text rest : List ℕ) : Type 0 where
   pub holds : Bool
   pub group : IsGroupFront RuleCall 0 depth text rest holds
   pub named : name_in (segments group.segs) ≡ name
-
--- an argument's name that is `name`, and its equals sign, stand somewhere in a text
-pub record HasArgumentName (text : List ℕ) : Type 0 where
-  pub before : List ℕ
-  pub after : List ℕ
-  pub is : text ≡ before ++ (codes "name =" ++ after)
+  pub grows : IfSome room (λ inner. HasGroupRoom group.segs group.end text inner rest)
 
 -- what stands in the bracket of a load, in place, and the closing bracket
 pub record IsLoadFront (inside rest : List ℕ) : Type 0 where
@@ -56,7 +71,7 @@ pub record IsAssignedFront (depth : ℕ) (text rest : List ℕ) : Type 0 where
   pub nodes : AreNodesFront 0 depth value rest holds
 
 -- what well-formed statements ask of the nodes of one, where no string is to be spelled anew
-pub record IsBareFront (depth : ℕ) (class : Class) (name : Option (List ℕ)) (text rest : List ℕ) : Type 0 where
+pub record IsBareFront (depth : ℕ) (class : Class) (name : Option (List ℕ)) (room : Option (List ℕ)) (text rest : List ℕ) : Type 0 where
   pub nodes : List Item
   pub some : are_some (items_of nodes) ≡ true
   pub texts : HaveTexts (items_of nodes)
@@ -69,14 +84,31 @@ pub record IsBareFront (depth : ℕ) (class : Class) (name : Option (List ℕ)) 
   pub stays : map spelled nodes ≡ nodes
   pub front : text ≡ bytes_of (items_pieces Broken 0 None Closed Start (items_of nodes)) ++ rest
   pub named : rule_name (rule_of nodes) ≡ name
+  pub absent : (attr : List ℕ) → (HasArgumentName attr (bytes_of (items_pieces Broken 0 None Closed Start (items_of nodes))) → ⊥)
+      → first_named attr (rule_args (rule_of nodes)) ≡ None
+  pub grows : IfSome room (λ inner. HasNodesRoom nodes text inner rest)
 
 -- comment lines alone are a chunk with the empty line after them
 abbrev pub empty_line : Class → List ℕ
 empty_line class = if is_comment class then codes "\n" else []
 
+-- Before `inner` one argument more may stand in the statement, whose text ends before `end`.
+pub record HasStatementRoom (s : Statement) (text inner end : List ℕ) : Type 0 where
+  pub room : Between
+  pub front : text ≡ room.before ++ inner
+  pub ends : inner ≡ room.after ++ end
+  pub takes : HasRoom s room
+
+-- The room in what is written of a text: the text before `inner`, and what is written after that.
+abbrev pub IsRoomIn : List ℕ → List ℕ → Option (List ℕ) → Option Between → Type 0
+IsRoomIn text written inner None = Unit {0}
+IsRoomIn text written None (Some room) = ⊥
+IsRoomIn text written (Some inner) (Some room) =
+    (room.before ≡ take (length text - length inner) text) × (room.after ≡ drop (length room.before) written)
+
 -- The text begins with what is written of a well-formed statement of this class and name, in which no string is to be spelled
 -- anew. `end` follows that, `rest` its chunk.
-pub record IsStatementFront (depth : ℕ) (class : Class) (name : Option (List ℕ)) (text end rest : List ℕ) : Type 0 where
+pub record IsStatementFront (depth : ℕ) (class : Class) (name : Option (List ℕ)) (room : Option (List ℕ)) (text end rest : List ℕ) : Type 0 where
   pub s : Statement
   pub well : IsWellFormed depth s
   pub stays : spelled_statement s ≡ s
@@ -84,3 +116,5 @@ pub record IsStatementFront (depth : ℕ) (class : Class) (name : Option (List �
   pub named : HasName name s
   pub front : text ≡ layout_text s ++ end
   pub ends : end ≡ empty_line class ++ rest
+  pub absent : (attr : List ℕ) → (HasArgumentName attr (layout_text s) → ⊥) → first_named attr (rule_args (rule_of s.nodes)) ≡ None
+  pub grows : IfSome room (λ inner. HasStatementRoom s text inner end)

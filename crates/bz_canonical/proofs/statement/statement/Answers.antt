@@ -7,5 +7,5 @@ returns-in-Some c = comments_front c.args.max_depth c.args.text.now c.lines-star
 
 pub returns : goal.returns
 returns c =
-    statement_front c.args.max_depth c.in_ok-read.read.class (option_map (λ name. name.now) c.in_ok-read.read.name) c.args.text.now c.lines-start.result.now c.in_ok-read.read.rest.now c.in_ok-side.side.rest.now c.in_ok-rest.rest.now c.in_ok-side.side.some
+    statement_front c.args.max_depth c.in_ok-read.read.class (option_map (λ name. name.now) c.in_ok-read.read.name) (option_map (λ room. room.now) c.in_ok-read.read.room) c.args.text.now c.lines-start.result.now c.in_ok-read.read.rest.now c.in_ok-side.side.rest.now c.in_ok-rest.rest.now c.in_ok-side.side.some
     c.lines-start.ensures c.in_ok-read.ensures c.in_ok-side.ensures c.in_ok-rest.ensures

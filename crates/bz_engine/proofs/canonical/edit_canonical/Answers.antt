@@ -1,9 +1,7 @@
-use Rattle.std.proofs.Common.{◌++◌, [], ◌∷◌, ◌∙◌, ap, subst}
-use Rattle.std.specs.Prelude.{Some, if◌then◌else◌}
+use Rattle.std.proofs.Common.{◌∙◌, ap, subst}
 use Rattle.std.specs.Str.{IsUtf8}
-use Rattle.bz_engine.specs.Outcome.{is_query}
-use Rattle.bz_engine.specs.Progress.{Progress, text_following}
-use Rattle.bz_engine.specs.private.Edits.{run_of}
+use Rattle.bz_engine.specs.Progress.{Progress}
+use Rattle.bz_engine.specs.private.Edits.{IsLaidOut, run_of}
 use Rattle.bz_engine.proofs.ChunkEdits.{line_passed}
 use Rattle.bz_engine.proofs.CanonicalChunks.{canonical_edited}
 use Rattle.bz_engine.proofs.canonical.edit_canonical.Goals as goal
@@ -11,14 +9,11 @@ use Rattle.bz_engine.proofs.canonical.edit_canonical.Goals as goal
 pub returns-clause-chunk : goal.returns-clause-chunk
 returns-clause-chunk c =
     let found = c.in-Some.ensures in
-    let put = c.in_ok-put_canonical.ensures in
-    let same = c.looked_well.ensures ∙ c.is_worth_a_look.ensures in
-    let passes = c.args.script.passes.now in
+    let run = run_of c.args.script in
     let before = c.args.text.now.items in
-    canonical_edited (run_of c.args.script) c.args.max_statement c.args.ahead.now
-    c.in-Some.found.class _ c.in-Some.found.chunk.now c.in-Some.found.written.now c.text.result.now c.args.progress.now c.put_canonical.new.progress c.pass_lines.new.self
-    before c.put_canonical.new.text.items
-    c.requires.few c.text.ensures.front (subst IsUtf8 c.as_bytes.ensures.value c.as_bytes.ensures.utf8) found.size found.canonical found.passed
-    (put.last ∙ ap (λ (p : Progress). record p { last = Some c.in-Some.found.class }) same)
-    (λ s is written. put.text s is written ∙ ap (λ (p : Progress). before ++ (if is_query passes then [] else text_following p.last (Some s ∷ []))) same)
-    (c.pass_lines.ensures ∙ ap (λ bytes. line_passed bytes c.put_canonical.new.progress) c.as_bytes.ensures.value)
+    let mid = c.edit_found.new.progress in
+    let after = c.edit_found.new.text.items in
+    canonical_edited run c.args.max_statement c.args.ahead.now c.in-Some.found c.text.result.now c.args.progress.now mid c.pass_lines.new.self before after
+    c.requires.few c.text.ensures.front (subst IsUtf8 c.as_bytes.ensures.value c.as_bytes.ensures.utf8) found.size found.canonical
+    (λ s is. subst (λ (p : Progress). IsLaidOut run s p mid before after) c.is_worth_a_look.ensures (c.in_ok-edit_found.ensures.done c.if-not-branch.false s is))
+    (c.pass_lines.ensures ∙ ap (λ bytes. line_passed bytes c.looked_well.new.self) c.as_bytes.ensures.value ∙ ap (line_passed c.in-Some.found.chunk.now) c.looked_well.ensures)

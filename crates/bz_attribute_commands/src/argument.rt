@@ -1,0 +1,66 @@
+//! The text of an argument that `set` adds.
+
+ghost use Rattle.std.specs.Prelude.{◌≡◌, ◌++◌, IfOk, IsFalse, IsTrue, OnOk};
+ghost use Rattle.bz_attribute.specs.Effects.{argument};
+ghost use Rattle.bz_attribute.specs.Set.{new_value};
+ghost use Rattle.bz_attribute_commands.specs.Argument.{argument_line, argument_lines, new_argument};
+ghost use Rattle.bz_attribute_commands.specs.private.SetViews.{new_view};
+
+use crate::set::{New, new_of};
+use bz_command::{Text, quote};
+use std::alloc::{AllocError, Global};
+
+/// Writes the argument that `set` adds, on a line of its own, where its value is one token or a list of one string. False,
+/// with nothing written: it is another.
+pub fn put_argument(
+    alloc: Global,
+    attr: &str,
+    words: &[Text],
+    out: &mut Vec<u8>,
+) -> Result<bool, AllocError>
+    ensures put { IfOk result (λ put. IsTrue put
+        → out.new.items ≡ out.old.items ++ argument_lines (new_argument attr.now words.now)) }
+    ensures nothing { IfOk result (λ put. IsFalse put → out.new.items ≡ out.old.items) }
+{
+    put_new(alloc, attr, new_of(attr, words, &[]), out)
+}
+
+fn put_new(alloc: Global, attr: &str, new: New<'_>, out: &mut Vec<u8>) -> Result<bool, AllocError>
+    ensures put { IfOk result (λ put. IsTrue put → out.new.items
+        ≡ out.old.items ++ argument_lines (argument attr.now (new_value (new_view new.entry)))) }
+    ensures nothing { IfOk result (λ put. IsFalse put → out.new.items ≡ out.old.items) }
+{
+    match new {
+        New::Number(digits) => put_line(attr, "", digits, "", out)?,
+        New::Constant(name) => put_line(attr, "", name, "", out)?,
+        New::String(word) => put_line(attr, "", quote(alloc, word)?.as_str(), "", out)?,
+        New::Strings(words) => {
+            let [word] = words else {
+                return Ok(false);
+            };
+            put_line(attr, "[", quote(alloc, word.as_str())?.as_str(), "]", out)?;
+        }
+    }
+    Ok(true)
+}
+
+/// Writes an argument on a line of its own, whose value is these texts one after another.
+fn put_line(
+    attr: &str,
+    left: &str,
+    value: &str,
+    right: &str,
+    out: &mut Vec<u8>,
+) -> Result<(), AllocError>
+    ensures { OnOk result
+        (out.new.items ≡ out.old.items ++ argument_line attr.now (left.now ++ (value.now ++ right.now))) }
+{
+    out.extend_from_slice(b"\n    ")?;
+    out.extend_from_slice(attr.as_bytes())?;
+    out.extend_from_slice(b" = ")?;
+    out.extend_from_slice(left.as_bytes())?;
+    out.extend_from_slice(value.as_bytes())?;
+    out.extend_from_slice(right.as_bytes())?;
+    out.extend_from_slice(b",")?;
+    Ok(())
+}

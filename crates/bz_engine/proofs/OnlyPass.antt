@@ -1,0 +1,142 @@
+-- The script of one pass with one command on a statement that it marks.
+use Rattle.std.proofs.Common.{◌≡◌, ℕ, Bool, true, false, ◌||◌, List, [], ◌∷◌, ◌++◌, length, refl, sym, ◌∙◌, ap, subst, append-nil}
+use Rattle.std.specs.Prelude.{Option, None, Some, if◌then◌else◌}
+use Rattle.std.proofs.lemmas.Bool.{false≢true}
+use Rattle.bz_tree.specs.declared.stmt.Class.{Class}
+use Rattle.bz_tree.specs.declared.stmt.Class.TheVariants.{Rule as RuleClass}
+use Rattle.bz_tree.specs.Statement.{class_of}
+use Rattle.bz_tree.specs.Tree.{Statement}
+use Rattle.bz_command.specs.Labels.{Package, Target}
+use Rattle.bz_command.specs.Passes.{Pass, Slot}
+use Rattle.bz_attribute.specs.declared.done.Done.{Done}
+use Rattle.bz_attribute.specs.Effects.{fails}
+use Rattle.bz_attribute.specs.Marks.{marks, marks_if}
+use Rattle.bz_attribute.specs.Rules.{Rule, name_in, rule_of}
+use Rattle.bz_attribute.proofs.Headed.{other_class}
+use Rattle.bz_canonical.specs.Canonical.{HasName, rule_name}
+use Rattle.bz_rule.specs.Commands.{Command, after, done_of}
+use Rattle.bz_passes.specs.Exchange.{Fits, IsLeftBy, IsPassedBy, Kept, kept_alone, kept_and, logs_and, slot_after, some_alone}
+use Rattle.bz_passes.specs.declared.entry.Entry.{Entry}
+use Rattle.bz_passes.proofs.ExchangeLaw.{left_more}
+use Rattle.bz_passes.proofs.PassedBy.{unmarked_passed}
+use Rattle.bz_engine.specs.Meaning.{meaning, changes, done_told, fails_on, line_told, note_told, says, shown_slot}
+use Rattle.bz_engine.specs.Outcome.{Run, Script, is_query}
+use Rattle.bz_engine.specs.Progress.{Progress, last_class, text_following}
+use Rattle.bz_engine.specs.private.Edits.{IsLaidOut}
+use Rattle.bz_engine.specs.private.Found.{HasOneLog, Makes, one_pass, one_told, told_line}
+
+-- a rule that has this name
+pub named_rule : (s : Statement) (name : List ℕ) → HasName (Some name) s → (r : Rule) × (rule_of s.nodes ≡ Some r) × (name_in r.args ≡ Some name)
+named_rule s name is = by (rule_of s.nodes) refl is
+  where
+    by : (o : Option Rule) → rule_of s.nodes ≡ o → rule_name o ≡ Some name → (r : Rule) × (rule_of s.nodes ≡ Some r) × (name_in r.args ≡ Some name)
+    by None at other = absurd cc
+    by (Some r) at named = (r, at, named)
+
+-- what is no rule is not marked
+pub no_rule_passed : (home : Package) (passes : Script) (s : Statement) → s.class ≡ class_of s.nodes → (s.class ≡ RuleClass → ⊥)
+    → IsPassedBy (meaning home) (changes home) (fails_on home) passes (Some s)
+no_rule_passed home passes s class other =
+    let none : rule_of s.nodes ≡ None = other_class s.nodes (λ is. other (class ∙ is)) in
+    unmarked_passed (meaning home) (changes home) (fails_on home) passes (Some s) (λ i d within. ap (marks_if _ s.start) none)
+
+-- a place for one log
+log_in : (k : Kept Entry) (logs : List (List Entry)) → k.logs ≡ logs → length logs ≡ 1 → HasOneLog (k ∷ [])
+log_in k [] at size = absurd cc
+log_in k (log ∷ []) at size = (k, log, refl, at)
+log_in k (log ∷ more ∷ logs) at size = absurd cc
+
+pub one_log : (kept : List (Kept Entry)) (passes : Script) (target : Target) (command : Command) → passes ≡ one_pass target command → Fits kept passes → HasOneLog kept
+one_log kept passes target command is fits = by kept (subst (Fits kept) is fits)
+  where
+    by : (kept : List (Kept Entry)) → Fits kept (one_pass target command) → HasOneLog kept
+    by [] other = absurd other
+    by (k ∷ []) size = log_in k k.logs refl size.0
+    by (k ∷ j ∷ ks) other = absurd other.1
+
+pub told_fits : (kept : List (Kept Entry)) (passes : Script) (target : Target) (command : Command) (line : Option (List ℕ)) → passes ≡ one_pass target command → Fits kept passes
+    → Fits (kept_and kept (one_told line)) passes
+told_fits kept passes target command line is fits =
+    let h : HasOneLog kept = one_log kept passes target command is fits in
+    subst (λ (ks : List (Kept Entry)). Fits (kept_and ks (one_told line)) passes) (sym h.2)
+    (subst (Fits (kept_and (h.0 ∷ []) (one_told line))) (sym is) (ap (λ (logs : List (List Entry)). length (logs_and logs (line_told line ∷ []))) h.3, tt))
+
+-- what the pass makes of a statement that it marks, and what is kept of it
+slot_of_one : (home : Package) (target : Target) (command : Command) (s : Statement) (t : Slot Statement) → marks target s ≡ true → after command home (Some s) ≡ t
+    → slot_after (meaning home) (one_pass target command) (Some s) ≡ t
+slot_of_one home target command s t met is = ap (λ b. if b then after command home (Some s) else Some s) met ∙ is
+
+abbrev kept_by : Bool → List Entry → List (Kept Entry)
+kept_by found log = record { found = found; logs = log ∷ [] } ∷ []
+
+kept_of_one : (home : Package) (target : Target) (command : Command) (s : Statement) (d : Done) → marks target s ≡ true → done_of command home (Some s) ≡ d → d.note ≡ None
+    → kept_alone (meaning home) (one_pass target command) (Some s) ≡ one_told d.line
+kept_of_one home target command s d met told quiet =
+    let said : says home command (Some s) ≡ line_told d.line =
+    ap (done_told (shown_slot home (Some s))) told ∙ ap (λ n. line_told d.line ++ note_told (shown_slot home (Some s)) n) quiet ∙ append-nil (line_told d.line) in
+    ap (λ b. kept_by b (if b then says home command (Some s) else [])) met ∙ ap (kept_by true) said
+
+or_nothing : (b : Bool) → ((b || false) || false) ≡ b
+or_nothing true = refl
+or_nothing false = refl
+
+some_of_one : (home : Package) (target : Target) (command : Command) (s : Statement) (test : Command → Slot Statement → Bool) (b : Bool) → marks target s ≡ true → test command (Some s) ≡ b
+    → some_alone (meaning home) test (one_pass target command) (Some s) ≡ b
+some_of_one home target command s test b met is = ap (λ b. ((if b then test command (Some s) else false) || false) || false) met ∙ or_nothing (test command (Some s)) ∙ is
+
+or_false : (b : Bool) → b ≡ (b || false)
+or_false true = refl
+or_false false = refl
+
+-- The one command makes t of s, tells this of it, and t is written.
+pub only_laid : (run : Run) (target : Target) (command : Command) (s t : Statement) (d : Done) (old new : Progress) (before after_it : List ℕ)
+    → run.passes ≡ one_pass target command → marks target s ≡ true → after command run.home (Some s) ≡ Some t → done_of command run.home (Some s) ≡ d → d.note ≡ None
+    → new ≡ record { kept = kept_and old.kept (one_told d.line); changed = old.changed || d.changed; failed = old.failed; last = Some t.class; line = old.line }
+    → after_it ≡ before ++ (if is_query run.passes then [] else text_following old.last (Some t ∷ []))
+    → IsLaidOut run s old new before after_it
+only_laid run target command s t d old new before after_it passes met made told quiet is text =
+    let home = run.home in
+    let slot : slot_after (meaning home) run.passes (Some s) ≡ Some t = ap (λ ps. slot_after (meaning home) ps (Some s)) passes ∙ slot_of_one home target command s (Some t) met made in
+    let kept : kept_alone (meaning home) run.passes (Some s) ≡ one_told d.line = ap (λ ps. kept_alone (meaning home) ps (Some s)) passes ∙ kept_of_one home target command s d met told quiet in
+    let changed : some_alone (meaning home) (changes home) run.passes (Some s) ≡ d.changed =
+    ap (λ ps. some_alone (meaning home) (changes home) ps (Some s)) passes ∙ some_of_one home target command s (changes home) d.changed met (ap (λ x. x.changed) told) in
+    let failed : some_alone (meaning home) (fails_on home) run.passes (Some s) ≡ false =
+    ap (λ ps. some_alone (meaning home) (fails_on home) ps (Some s)) passes ∙ some_of_one home target command s (fails_on home) false met (ap (λ x. fails x.note) told ∙ ap fails quiet) in
+    record {
+      left = λ slots left. left_more (meaning home) (changes home) (fails_on home) run.passes slots (Some s) old.kept new.kept old.changed new.changed old.failed new.failed
+          (ap (λ p. p.kept) is ∙ ap (kept_and old.kept) (sym kept)) (ap (λ p. p.changed) is ∙ ap (λ b. old.changed || b) (sym changed))
+          (ap (λ p. p.failed) is ∙ or_false old.failed ∙ ap (λ b. old.failed || b) (sym failed)) left;
+      last = ap (λ p. p.last) is ∙ ap (λ x. last_class old.last (x ∷ [])) (sym slot);
+      line = ap (λ p. p.line) is;
+      text = text ∙ ap (λ x. before ++ (if is_query run.passes then [] else text_following old.last (x ∷ []))) (sym slot);
+      calm = λ ends calm. ap (λ p. p.failed) is ∙ calm;
+    }
+
+-- The one command leaves s as it is, and tells this line of it.
+pub stays_laid : (run : Run) (target : Target) (command : Command) (line : Option (List ℕ)) (class : Class) (s : Statement) (old mid new : Progress) (before after_it : List ℕ)
+    → run.passes ≡ one_pass target command → marks target s ≡ true → after command run.home (Some s) ≡ Some s
+    → done_of command run.home (Some s) ≡ record { changed = false; line = line; note = None } → s.class ≡ class
+    → mid ≡ record old { kept = kept_and old.kept (one_told line) } → new ≡ record mid { last = Some class }
+    → after_it ≡ before ++ (if is_query run.passes then [] else text_following mid.last (Some s ∷ []))
+    → IsLaidOut run s old new before after_it
+stays_laid run target command line class s old mid new before after_it passes met made told class_is kept is text =
+    only_laid run target command s s (record { changed = false; line = line; note = None }) old new before after_it passes met made told refl
+    (is ∙ ap (λ (p : Progress). record p { last = Some class }) kept
+    ∙ (λ i. record { kept = kept_and old.kept (one_told line); changed = or_false old.changed i; failed = old.failed; last = Some (sym class_is i); line = old.line }))
+    (text ∙ ap (λ (p : Progress). before ++ (if is_query run.passes then [] else text_following p.last (Some s ∷ []))) kept)
+
+or_true : (b : Bool) → true ≡ (b || true)
+or_true true = refl
+or_true false = refl
+
+-- The one command makes t of s.
+pub grown_laid : (run : Run) (target : Target) (command : Command) (class : Class) (s t : Statement) (old mid new : Progress) (before after_it : List ℕ)
+    → run.passes ≡ one_pass target command → marks target s ≡ true → Makes command run.home s t (told_line true None) → t.class ≡ class
+    → mid ≡ record old { kept = kept_and old.kept (one_told None) } → new ≡ record mid { last = Some class; changed = true }
+    → after_it ≡ before ++ (if is_query run.passes then [] else text_following mid.last (Some t ∷ []))
+    → IsLaidOut run s old new before after_it
+grown_laid run target command class s t old mid new before after_it passes met makes class_is kept is text =
+    only_laid run target command s t (told_line true None) old new before after_it passes met makes.after_is makes.done refl
+    (is ∙ ap (λ (p : Progress). record p { last = Some class; changed = true }) kept
+    ∙ (λ i. record { kept = kept_and old.kept (one_told None); changed = or_true old.changed i; failed = old.failed; last = Some (sym class_is i); line = old.line }))
+    (text ∙ ap (λ (p : Progress). before ++ (if is_query run.passes then [] else text_following p.last (Some t ∷ []))) kept)
