@@ -64,12 +64,12 @@ needed_more v pieces cs more (piece ∷ (next ∷ read)) text done going none ne
     let there = sym (append_assoc pieces more (piece ∷ [])) in
     let bytes : (v.ahead.bytes ++ joined more) ++ piece ≡ v.ahead.bytes ++ joined (more ++ piece ∷ []) =
     append_assoc v.ahead.bytes (joined more) piece
-        ∙ ap (λ l. v.ahead.bytes ++ l) (sym (joined_more more (piece ∷ []) ∙ ap (λ l. joined more ++ l) (append-nil piece))) in (
+    ∙ ap (λ l. v.ahead.bytes ++ l) (sym (joined_more more (piece ∷ []) ∙ ap (λ l. joined more ++ l) (append-nil piece))) in (
       one_needed v pieces cs more text done going none needed.0,
       subst (λ l. AreNeededAfter (run_in v) v.options.max_statement l (next ∷ read)) there
-      (needed_more v pieces cs (more ++ piece ∷ []) (next ∷ read) text done going
-      (subst NoneEnds (append_assoc pieces more (piece ∷ [])) (none_ends_more (pieces ++ more) (piece ∷ []) none (after.0, tt)))
-      (subst (λ l. AreNeeded v.options.max_statement l (next ∷ read)) bytes needed.1) after.1),
+          (needed_more v pieces cs (more ++ piece ∷ []) (next ∷ read) text done going
+          (subst NoneEnds (append_assoc pieces more (piece ∷ [])) (none_ends_more (pieces ++ more) (piece ∷ []) none (after.0, tt)))
+          (subst (λ l. AreNeeded v.options.max_statement l (next ∷ read)) bytes needed.1) after.1),
     )
 
 going_before : (ended : Bool) (piece : List ℕ) (read : List (List ℕ)) → (IsTrue ended → piece ∷ read ≡ []) → ended ≡ false

@@ -94,15 +94,17 @@ ended_whole v mid max_reads pieces cs read text done on nothing over = record {
   each = λ rest last.
       let none : rest ≡ [] = last (subst IsTrue (ended_on v mid max_reads pieces cs read text done on) over) in
       let all : chunks (joined (pieces ++ read) ++ rest) ≡ cs =
-      read_on v mid max_reads pieces cs read text done on rest (λ h. none) ∙ ap (λ l. cs ++ chunks (l ++ rest)) nothing ∙ ap (λ l. cs ++ chunks l) none ∙ append-nil cs in
-      (inl (record {
-        statements = done.statements;
-        fault = None;
-        read = subst (λ l. Give v.options.max_depth 1 l done.statements None) (sym all) done.kept.read;
-        calm = λ h. sym done.kept.left.failed ∙ done.calm h;
-        text_is = done.text_is;
-        told_is = told_whole (run_in v) cs done.statements v.progress done.kept;
-      }), all);
+      read_on v mid max_reads pieces cs read text done on rest (λ h. none) ∙ ap (λ l. cs ++ chunks (l ++ rest)) nothing ∙ ap (λ l. cs ++ chunks l) none ∙ append-nil cs in (
+        inl (record {
+          statements = done.statements;
+          fault = None;
+          read = subst (λ l. Give v.options.max_depth 1 l done.statements None) (sym all) done.kept.read;
+          calm = λ h. sym done.kept.left.failed ∙ done.calm h;
+          text_is = done.text_is;
+          told_is = told_whole (run_in v) cs done.statements v.progress done.kept;
+        }),
+        all,
+      );
 }
 
 -- a chunk has a fault
@@ -114,16 +116,18 @@ ended_fault v mid fault max_reads most n pieces cs read text done on next gives 
   each = λ rest last.
       let over : IsTrue mid.ended → rest ≡ [] = λ h. last (subst IsTrue (ended_on v mid max_reads pieces cs read text done on) h) in
       let all : chunks (joined (pieces ++ read) ++ rest) ≡ cs ++ take n mid.bytes ∷ chunks (drop n mid.bytes ++ rest) =
-      chunk_taken cs mid.bytes rest (joined (pieces ++ read) ++ rest) n (read_on v mid max_reads pieces cs read text done on rest over) (next.ends rest over) in
-      (inl (record {
-        statements = done.statements;
-        fault = Some fault;
-        read = subst (λ l. Give v.options.max_depth 1 l done.statements (Some fault)) (sym all)
-            (give_fault v.options.max_depth v.progress.line cs done.statements (take n mid.bytes) (chunks (drop n mid.bytes ++ rest)) fault done.kept.read done.kept.line gives);
-        calm = λ h. sym done.kept.left.failed ∙ done.calm h;
-        text_is = done.text_is;
-        told_is = ap (λ b. told_alone (fault_text fault ∷ []) b (Syntax fault)) done.kept.left.changed;
-      }), (take n mid.bytes, chunks (drop n mid.bytes ++ rest), all));
+      chunk_taken cs mid.bytes rest (joined (pieces ++ read) ++ rest) n (read_on v mid max_reads pieces cs read text done on rest over) (next.ends rest over) in (
+        inl (record {
+          statements = done.statements;
+          fault = Some fault;
+          read = subst (λ l. Give v.options.max_depth 1 l done.statements (Some fault)) (sym all)
+              (give_fault v.options.max_depth v.progress.line cs done.statements (take n mid.bytes) (chunks (drop n mid.bytes ++ rest)) fault done.kept.read done.kept.line gives);
+          calm = λ h. sym done.kept.left.failed ∙ done.calm h;
+          text_is = done.text_is;
+          told_is = ap (λ b. told_alone (fault_text fault ∷ []) b (Syntax fault)) done.kept.left.changed;
+        }),
+        (take n mid.bytes, chunks (drop n mid.bytes ++ rest), all),
+      );
 }
 
 -- an execution fails on a chunk's statement, and failures end the run
@@ -136,23 +140,25 @@ ended_failure v mid progress message after max_reads most n pieces cs read text 
       let over : IsTrue mid.ended → rest ≡ [] = λ h. last (subst IsTrue (ended_on v mid max_reads pieces cs read text done on) h) in
       let all : chunks (joined (pieces ++ read) ++ rest) ≡ cs ++ take n mid.bytes ∷ chunks (drop n mid.bytes ++ rest) =
       chunk_taken cs mid.bytes rest (joined (pieces ++ read) ++ rest) n (read_on v mid max_reads pieces cs read text done on rest over) (next.ends rest over) in
-      let calm : v.progress.failed ≡ false = done.calm failed.ends in
-      (inr (record {
-        ends = failed.ends;
-        before = done.statements;
-        statement = failed.statement;
-        read = record {
-          front = cs ++ take n mid.bytes ∷ [];
-          after = chunks (drop n mid.bytes ++ rest);
-          chunks_are = all ∙ one_more cs (chunks (drop n mid.bytes ++ rest)) (take n mid.bytes);
-          read = give_statement v.options.max_depth v.progress.line cs done.statements (take n mid.bytes) failed.statement done.kept.read done.kept.line failed.read;
-        };
-        calm = sym done.kept.left.failed ∙ calm;
-        fails = failed.fails calm;
-        text_is = done.text_is;
-        told_is = ap (λ l. told_alone l progress.changed FirstFailure) (failed.message_is calm)
-            ∙ ap (λ b. told_alone (first_of (failures_at v.home v.passes failed.statement)) b FirstFailure) (failed.changed ∙ done.kept.left.changed);
-      }), (take n mid.bytes, chunks (drop n mid.bytes ++ rest), all));
+      let calm : v.progress.failed ≡ false = done.calm failed.ends in (
+        inr (record {
+          ends = failed.ends;
+          before = done.statements;
+          statement = failed.statement;
+          read = record {
+            front = cs ++ take n mid.bytes ∷ [];
+            after = chunks (drop n mid.bytes ++ rest);
+            chunks_are = all ∙ one_more cs (chunks (drop n mid.bytes ++ rest)) (take n mid.bytes);
+            read = give_statement v.options.max_depth v.progress.line cs done.statements (take n mid.bytes) failed.statement done.kept.read done.kept.line failed.read;
+          };
+          calm = sym done.kept.left.failed ∙ calm;
+          fails = failed.fails calm;
+          text_is = done.text_is;
+          told_is = ap (λ l. told_alone l progress.changed FirstFailure) (failed.message_is calm)
+              ∙ ap (λ b. told_alone (first_of (failures_at v.home v.passes failed.statement)) b FirstFailure) (failed.changed ∙ done.kept.left.changed);
+        }),
+        (take n mid.bytes, chunks (drop n mid.bytes ++ rest), all),
+      );
 }
 
 -- a stopped session keeps to little
