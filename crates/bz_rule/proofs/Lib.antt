@@ -13,6 +13,7 @@ mod Delete
 mod Found
 mod Gone
 mod GoodArguments
+mod HeadKept
 mod Kept
 mod KindFormed
 mod Lawful
@@ -40,5 +41,6 @@ mod RuleFormed
 mod Segments
 mod Set
 mod SetAgain
+mod Spliced
 mod Tests
 pub mod Utf8Commands

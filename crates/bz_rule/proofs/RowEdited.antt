@@ -16,7 +16,9 @@ use Rattle.bz_attribute.specs.RowPlaces.{alone, IsPlaceOf, IsPlaceOfAll}
 use Rattle.bz_attribute.specs.Set.{kind_after, kind_items, sets_kind, sets_kind_of, with_kind}
 use Rattle.bz_rule.specs.Commands.{Command, after, args_after, args_done, done_of}
 use Rattle.bz_rule.specs.declared.command.Action.TheVariants.{Add, Comment, Delete, Move, Print, Remove, Rename, Replace, Set, SetIfAbsent}
-use Rattle.bz_rule.specs.private.RowEdits.{IsNextOf, IsPlaceFor, edits_arguments, is_edit, rule_after}
+use Rattle.bz_attribute.specs.RowEdits.{IsRowEdit}
+use Rattle.bz_attribute.specs.declared.edit.Edit.{Edit}
+use Rattle.bz_rule.specs.private.RowEdits.{IsEditOf, IsNextOf, IsPlaceFor, edits_arguments, is_edit, rule_after}
 use Rattle.bz_command.specs.declared.arguments.Field.{Field}
 use Rattle.bz_attribute_commands.specs.Print.{printed_of, prints}
 use Rattle.bz_rule.proofs.Commands.{lawful}
@@ -140,3 +142,18 @@ args_told (Comment Above text) home s r h is = absurd (false≢true h)
 args_told (Comment (Attribute attr) text) home s r h is = sym (ap (done_in (args_done (Comment (Attribute attr) text) home)) is)
 args_told (Comment (Value attr value) text) home s r h is = sym (ap (done_in (args_done (Comment (Value attr value) text) home)) is)
 args_told (Print fields) home s r h is = absurd (false≢true h)
+
+-- an edit of arguments, of a command that is one
+pub of_arguments : (c : Command) (home : Package) (kind : List ℕ) (ps new : List RowPart) (e : Edit) → ((s : Statement) → rule_after c home s ≡ with_args (args_after c home) s)
+    → ((s : Statement) (r : Rule) → rule_of s.nodes ≡ Some r → args_done c home r.args ≡ done_of c home (Some s)) → IsRowEdit (args_after c home) (args_done c home) ps new e → IsEditOf c home kind ps new e
+of_arguments c home kind ps new e rule told edit = record {
+  within = edit.within;
+  parts = λ s r h was changed. edit.parts s r h changed ∙ ap parts_of (sym (rule s));
+  done = λ s r h was. edit.done s r h ∙ told s r h.rule;
+}
+
+pub arguments_edited : (c : Command) (home : Package) (kind : List ℕ) (ps new : List RowPart) (e : Edit) → edits_arguments c ≡ true → IsRowEdit (args_after c home) (args_done c home) ps new e → IsEditOf c home kind ps new e
+arguments_edited c home kind ps new e edits edit = of_arguments c home kind ps new e (λ s. args_rule c home s edits) (λ s r is. args_told c home s r edits is) edit
+
+pub renamed : (old to : List ℕ) (home : Package) (kind : List ℕ) (ps new : List RowPart) (e : Edit) → IsRowEdit (args_after (Rename old to) home) (args_done (Rename old to) home) ps new e → IsEditOf (Rename old to) home kind ps new e
+renamed old to home kind ps new e edit = of_arguments (Rename old to) home kind ps new e (λ s. refl) (λ s r is. sym (ap (done_in (args_done (Rename old to) home)) is)) edit

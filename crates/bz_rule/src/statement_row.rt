@@ -1,4 +1,4 @@
-//! A statement as its row, with the head of the rule that it is: commands write its parts anew.
+//! A statement as its row, with the head of the rule that it is: commands put other parts in places of it.
 
 ghost use Rattle.std.specs.Prelude.{◌≡◌, ◌++◌, ℕ, List, IfOk, IsOk, OnOk, OnErr, Some, false, true, map, option_map, is_some, string_bytes};
 ghost use Rattle.bz_tree.specs.Tree.{Statement};
@@ -14,13 +14,14 @@ ghost use Rattle.bz_attribute.specs.Texts.{shown_text};
 ghost use Rattle.bz_attribute_commands.specs.Print.{prints};
 ghost use Rattle.bz_layout.specs.Layout.{layout_text};
 ghost use Rattle.bz_rule.specs.Commands as commands;
-ghost use Rattle.bz_rule.specs.private.RowEdits.{HasKindAndParts, IsNextOf, is_edit};
+ghost use Rattle.bz_attribute.specs.RowEdits.{IsWithin, replaced_at};
+ghost use Rattle.bz_rule.specs.private.RowEdits.{HasKindAndParts, IsNextOf, KeepsHead, is_edit, rule_after};
 
 use crate::command::{Action, Command};
-use crate::row_edit::{RuleParts, edit_rule};
-use crate::row_parts::RowParts;
+use crate::row_edit::{RuleParts, edit_rule, keeps_head};
+use crate::row_parts::{RowParts, with_others};
 use bumpalo::Bump;
-use bz_attribute::{Done, Env, Executed, Head, Parts, call_at, push_stmt};
+use bz_attribute::{Done, Env, Executed, Head, Parts, Place, call_at, push_stmt};
 use bz_attribute_commands::print::print;
 use bz_command::{Field, Package, Target};
 use bz_layout::put_row;
@@ -33,7 +34,7 @@ use std::mem;
 #[derive(Drop)]
 pub struct StatementRow<'a> {
     pub(crate) parts: RowParts<'a>,
-    // Where the next parts are written: what it holds does not count.
+    // Where commands write new parts: what it holds does not count.
     pub(crate) spare: Parts<'a>,
     pub(crate) class: Class,
     pub(crate) start: u64,
@@ -207,17 +208,51 @@ impl<'a> StatementRow<'a> {
         }
     }
 
-    // Takes other parts, in whose list the next ones are written then. `Err`: memory was refused, and all is as it was.
+    // Takes other parts. `Err`: memory was refused, and all is as it was.
     fn take(&mut self, alloc: Global, new: Parts<'a>) -> Result<(), AllocError>
         requires { (s : Statement) × IsNextOf self.old (map part_view new.items) s }
         ensures taken { OnOk result ((s : Statement) → IsNextOf self.old (map part_view new.entry.items) s → self.new ≡ s) }
         ensures err { OnErr result (self.new ≡ self.old) }
     {
         let head = Head::of_parts(alloc, self.bump, &new, self.start, self.end)?;
-        let old = mem::replace(&mut self.parts, RowParts::Written(new));
+        self.parts = RowParts::Written(new);
         self.head = head;
-        self.spare = old.into_list(self.bump);
         Ok(())
+    }
+
+    // Puts others in a place of its parts, with which its head stays. `Err`: memory was refused, and all is as it was.
+    fn put_beside(&mut self, place: Place, new: &[Part<'a>]) -> Result<(), AllocError>
+        requires within { IsWithin place (parts_of self.old) }
+        requires next { (s : Statement) × (IsNextOf self.old (replaced_at place (map part_view new.now) (parts_of self.old)) s
+            × KeepsHead self.old s) }
+        ensures taken { OnOk result ((s : Statement)
+            → IsNextOf self.old (replaced_at place (map part_view new.now) (parts_of self.old)) s → self.new ≡ s) }
+        ensures err { OnErr result (self.new ≡ self.old) }
+    {
+        self.parts.put(self.bump, place, new)?;
+        Ok(())
+    }
+
+    // Puts what a command has written in its place. `Err`: memory was refused, and all is as it was.
+    fn change(
+        &mut self,
+        env: Env<'_>,
+        command: &Command,
+        place: Place,
+        new: &[Part<'a>],
+    ) -> Result<(), AllocError>
+        requires rule { is_some (rule_of self.old.nodes) ≡ true }
+        requires within { IsWithin place (parts_of self.old) }
+        requires next { replaced_at place (map part_view new.now) (parts_of self.old)
+            ≡ parts_of (rule_after command.now env.home.now self.old) }
+        ensures changed { OnOk result (self.new ≡ rule_after command.now env.entry.home.now self.old) }
+        ensures err { OnErr result (self.new ≡ self.old) }
+    {
+        if keeps_head(command) {
+            return self.put_beside(place, new);
+        }
+        let list = with_others(self.bump, self.parts.as_slice(), place, new)?;
+        self.take(env.alloc, list)
     }
 
     // Applies a command that changes a rule.
@@ -229,13 +264,14 @@ impl<'a> StatementRow<'a> {
         ensures err { OnErr result (self.new ≡ self.old) }
     {
         let mut new = mem::replace(&mut self.spare, Vec::new(self.bump));
-        let done = edit_rule(env, self.bump, command, self.rule(), &mut new)?;
-        if !done.changed {
+        let edit = edit_rule(env, self.bump, command, self.rule(), &mut new)?;
+        if !edit.done.changed {
             self.spare = new;
-            return Ok(done);
+            return Ok(edit.done);
         }
-        self.take(env.alloc, new)?;
-        Ok(done)
+        self.change(env, command, edit.place, &new)?;
+        self.spare = new;
+        Ok(edit.done)
     }
 }
 

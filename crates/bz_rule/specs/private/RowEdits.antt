@@ -8,14 +8,16 @@ use Rattle.bz_command.specs.Labels.{Package}
 use Rattle.bz_command.specs.declared.arguments.Attributes.TheVariants.{Named}
 use Rattle.bz_command.specs.declared.arguments.Commented.TheVariants.{Attribute, Rule as Above, Value}
 use Rattle.bz_command.specs.declared.arguments.Setting.TheVariants.{ToKind, ToValues}
-use Rattle.bz_rule.specs.Commands.{Command, args_after, args_done}
+use Rattle.bz_rule.specs.Commands.{Command, args_after, args_done, done_of}
 use Rattle.bz_rule.specs.declared.command.Action.TheVariants.{Add, Comment, Delete, Print, Remove, Rename, Replace, Set, SetIfAbsent}
-use Rattle.bz_attribute.specs.Comment.{comment_attribute, comment_rule}
+use Rattle.bz_attribute.specs.Comment.{comment_rule}
 use Rattle.bz_attribute.specs.Effects.{with_args}
 use Rattle.bz_attribute.specs.Heads.{HasHead}
+use Rattle.bz_attribute.specs.RowEdits.{IsWithin, replaced_at}
+use Rattle.bz_attribute.specs.RowPlaces.{IsRuleRow}
+use Rattle.bz_attribute.specs.declared.edit.Edit.{Edit}
 use Rattle.bz_attribute.specs.Rules.{Rule, rule_of, kind_text}
 use Rattle.bz_rule.specs.declared.row_edit.RuleParts.{RuleParts}
-use Rattle.bz_attribute.specs.Rename.{rename}
 use Rattle.bz_attribute.specs.Set.{with_kind}
 use Rattle.bz_attribute.specs.declared.head.Head.{Head}
 use Rattle.bz_rule.specs.RowViews.{RowValue, row_statement}
@@ -37,6 +39,10 @@ pub record IsNextOf (old : Statement) (parts : List RowPart) (s : Statement) : T
   pub same : s.class ≡ old.class
   pub start : s.start ≡ old.start
   pub end : s.end ≡ old.end
+
+-- the one has each head that the other has
+abbrev pub KeepsHead : Statement → Statement → Type 0
+KeepsHead s after = (head : Option Head) → HasHead head s → HasHead head after
 
 -- Some arguments stand there: the command does to the rule what it does to them alone, and tells the same.
 pub record IsPlaceFor (c : Command) (home : Package) (s : Statement) (r : Rule) (ps : List RowPart) (from to : ℕ) : Type 0 where
@@ -62,8 +68,6 @@ edits_arguments c = is_edit c
 abbrev pub rule_after : Command → Package → Statement → Statement
 rule_after (Set (ToKind kind)) home s = with_kind kind s
 rule_after (Comment Above text) home s = comment_rule text s
-rule_after (Comment (Attribute attr) text) home s = with_args (comment_attribute attr text) s
-rule_after (Rename old new) home s = with_args (rename old new) s
 rule_after c home s = with_args (args_after c home) s
 
 -- the attribute of a command that looks at its first argument alone, and adds one after all where there is none
@@ -76,3 +80,9 @@ one_attribute (Replace (Named attr) old new) = Some attr
 one_attribute (Comment (Attribute attr) text) = Some attr
 one_attribute (Comment (Value attr value) text) = Some attr
 one_attribute _ = None
+
+-- What a command makes of the parts of a rule of this kind: the new ones, in their place, make the rule after it.
+pub record IsEditOf (c : Command) (home : Package) (kind : List ℕ) (ps new : List RowPart) (e : Edit) : Type 0 where
+  pub within : IsWithin e.place ps
+  pub parts : (s : Statement) (r : Rule) → IsRuleRow s r ps → kind_text r.kind ≡ kind → e.done.changed ≡ true → replaced_at e.place new ps ≡ parts_of (rule_after c home s)
+  pub done : (s : Statement) (r : Rule) → IsRuleRow s r ps → kind_text r.kind ≡ kind → e.done ≡ done_of c home (Some s)
