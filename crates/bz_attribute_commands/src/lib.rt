@@ -3,6 +3,7 @@
 
 pub mod comment;
 pub mod line;
+pub mod new_argument;
 pub mod print;
 pub mod rename;
 pub mod set;

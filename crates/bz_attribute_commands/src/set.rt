@@ -84,7 +84,7 @@ fn set_in(alloc: Global, attr: &str, words: &[Text], arg: &mut Seg<'_>) -> Execu
 }
 
 // What the words stand for, where `was` is the value that is there, if any.
-fn new_of<'w>(attr: &str, words: &'w [Text], was: &[Node<'_>]) -> New<'w>
+pub(crate) fn new_of<'w>(attr: &str, words: &'w [Text], was: &[Node<'_>]) -> New<'w>
     ensures { (arg : _) → spec.holds_list arg ≡ spec.is_one_list (nodes_view was.now)
         → new_view result ≡ spec.new_of attr.now words.now arg }
 {
