@@ -22,6 +22,7 @@ mod ListParts
 mod Local
 mod Move
 mod NamesKept
+mod NewArgument
 mod NewTexts
 mod OwnComments
 mod PartLaws

@@ -18,5 +18,5 @@ returns-in_default c =
       | in_default-via-in-Comment+in_default w ↦ search rules
       | in_default-via-in_default w ↦ search rules
     ] in
-    IfOk-weaker c.edit_by_tree.result _ _
-    (λ e h. arguments_edited c.args.command.now c.args.env.home.now c.args.rule.kind.now (map part_view c.args.rule.parts.now) (map part_view c.edit_by_tree.new.new.items) e edits h) c.edit_by_tree.ensures
+    IfOk-weaker c.edit_arguments.result _ _
+    (λ e h. arguments_edited c.args.command.now c.args.env.home.now c.args.rule.kind.now (map part_view c.args.rule.parts.now) (map part_view c.edit_arguments.new.new.items) e edits h) c.edit_arguments.ensures
